@@ -1,0 +1,28 @@
+//! The types of the buffer cache, and in `specs/` the definitions that its contracts speak of.
+#![tactic(auto)]
+
+mod fault;
+mod grade;
+mod laws;
+mod limits;
+mod noted;
+mod number;
+mod place;
+mod settled;
+mod shape;
+mod span;
+
+pub use fault::{Fault, What};
+pub use grade::Grade;
+pub use laws::{
+    changes_stay_fit, crash_leaves_a_closed_set, depend_makes_no_cycle, heads_stay_lawful,
+    images_stay_folds, never_stuck, new_change_is_sound, opening_is_lawful, settled_once,
+    step_keeps_lawful,
+};
+pub use limits::{MAX_BLOCKS, MAX_FLIGHTS, MAX_HEADS, MAX_NAMES, MAX_NUMBER, MAX_SIZE, MAX_TICKET};
+pub use noted::{Items, Noted, Notes};
+pub use number::{BlockNo, PatchNo, Ticket};
+pub use place::Place;
+pub use settled::Settled;
+pub use shape::Shape;
+pub use span::Span;
