@@ -2,6 +2,7 @@
 #![tactic(auto)]
 
 mod fault;
+mod fold;
 mod grade;
 mod laws;
 mod limits;
@@ -13,11 +14,12 @@ mod shape;
 mod span;
 
 pub use fault::{Fault, What};
+pub use fold::{Write, fold_over, write_over};
 pub use grade::Grade;
 pub use laws::{
-    changes_stay_fit, crash_leaves_a_closed_set, depend_makes_no_cycle, heads_stay_lawful,
-    images_stay_folds, never_stuck, new_change_is_sound, opening_is_lawful, settled_once,
-    step_keeps_lawful,
+    changes_stay_fit, crash_leaves_a_closed_set, depend_makes_no_cycle, headline_holds,
+    heads_stay_lawful, images_stay_folds, never_stuck, new_change_is_sound, opening_is_lawful,
+    settled_once, step_keeps_lawful,
 };
 pub use limits::{MAX_BLOCKS, MAX_FLIGHTS, MAX_HEADS, MAX_NAMES, MAX_NUMBER, MAX_SIZE, MAX_TICKET};
 pub use noted::{Items, Noted, Notes};

@@ -1,0 +1,50 @@
+-- The headline: what holds whenever the cache's lock is free.
+use Rattle.std.specs.Prelude.{◌≡◌, ◌≢◌, ◌⊎◌, ℕ, Bool, true, List, [], Some, Contains, AllPairs, if◌then◌else◌}
+use Rattle.fst_types.specs.declared.place.Place.TheVariants as place
+use Rattle.fst_types.specs.Closure.{IsAcyclic}
+use Rattle.fst_types.specs.Patches.{Patch}
+use Rattle.fst_types.specs.Dependencies.{DirectlyOn, Needs, IsClosed, IsOnDisk}
+use Rattle.fst_types.specs.State.{Flight, State, committed, flight_of}
+use Rattle.fst_types.specs.Bytes.{changes_at, fold_of}
+use Rattle.fst_types.specs.Facts.{IsInFlightOn, IsLawful}
+use Rattle.fst_types.specs.Crash.{crash, IsLeft}
+use Rattle.fst_types.specs.Run.{Settles}
+
+-- each patch is in memory, in flight or on disk: a number has at most one head, and that one place
+abbrev pub OnePlaceEach : List Patch → Type 0
+OnePlaceEach heads = (p q : Patch) → Contains heads p → Contains heads q → p.number ≡ q.number → p ≡ q
+
+-- a patch on disk has all that it depends on there
+abbrev pub DiskHasAll : List Patch → Type 0
+DiskHasAll heads = (p : Patch) (q : ℕ) → Contains heads p → p.place ≡ place.Disk → Contains p.dependencies q → IsOnDisk heads q
+
+-- the patches of a write have what they need on disk or in that write
+abbrev pub WritesStandAlone : List Patch → Type 0
+WritesStandAlone heads = (b : ℕ) (p : Patch) → IsInFlightOn heads b p → (q : Patch) (c : ℕ) → Needs heads p.number q c → (q.place ≡ place.Disk) ⊎ IsInFlightOn heads b q
+
+-- a crash that finishes any of the writes in flight leaves a closed set
+abbrev pub CrashIsClosed : State → Type 0
+CrashIsClosed s = (finished : ℕ → Bool) → IsClosed s.heads (IsLeft s finished)
+
+-- and each block holds its base with exactly the patches that the crash leaves of it
+abbrev pub CrashIsFold : State → Type 0
+CrashIsFold s = (finished : ℕ → Bool)
+    → ((b : ℕ) → finished b ≡ true → (f : Flight) × (flight_of s b ≡ Some f))
+    → (b : ℕ) → crash s finished b ≡ fold_of s (committed s b) (if finished b then changes_at s place.Flight b else [])
+
+-- from here on no write completes twice
+abbrev pub CompletesOnce : State → Type 0
+CompletesOnce s = (later : State) (settled : List ℕ) → Settles s settled later → AllPairs (λ t u. t ≢ u) settled
+
+pub record Headline (s : State) : Type 0 where
+  pub one_place_each : OnePlaceEach s.heads
+  pub no_cycle : IsAcyclic (DirectlyOn s.heads)
+  pub disk_has_all : DiskHasAll s.heads
+  pub writes_stand_alone : WritesStandAlone s.heads
+  pub crash_is_closed : CrashIsClosed s
+  pub crash_is_fold : CrashIsFold s
+  pub completes_once : CompletesOnce s
+
+-- a lawful state has it
+abbrev pub HeadlineHolds : Type 0
+HeadlineHolds = (s : State) → IsLawful s → Headline s
