@@ -4,16 +4,16 @@ use Rattle.std.proofs.lemmas.List.Elements.{Contains-push_cases}
 use Rattle.fst_types.specs.declared.place.Place.{Place}
 use Rattle.fst_types.specs.declared.place.Place.TheVariants as place
 use Rattle.fst_types.specs.declared.grade.Grade.{Grade}
-use Rattle.fst_types.specs.Patches.{Kind, Empty, OpenGate, SealedGate, Patch, IsOn, IsLive, block_of_kind, at_of}
+use Rattle.fst_types.specs.Patches.{Empty, OpenGate, SealedGate, Patch, IsOn, IsLive, block_of_kind, at_of}
 use Rattle.fst_types.specs.Tests.{is_at, is_live, has_number}
 use Rattle.fst_types.specs.State.{State, BlockState, Flight, block_of, committed, flight_of, with_flight}
 use Rattle.fst_types.specs.Bytes.{content_of}
 use Rattle.fst_types.specs.Cascade.{IsCascadeOf}
 use Rattle.fst_types.specs.Gates.{IsOpenNumber}
 use Rattle.fst_types.specs.Writable.{IsWritable, IsWritableSet}
-use Rattle.fst_types.specs.Making.{fresh, MakesChange, MakesEmpty, MakesGate}
-use Rattle.fst_types.specs.Gating.{gains, sealed, Depends, Seals}
-use Rattle.fst_types.specs.Writing.{launched, landed, Issues, Lands}
+use Rattle.fst_types.specs.Making.{fresh, MakesChange}
+use Rattle.fst_types.specs.Gating.{gains, sealed}
+use Rattle.fst_types.specs.Writing.{launched, landed, Lands}
 use Rattle.fst_types.specs.Forgetting.{Forgets}
 use Rattle.fst_types.specs.Facts.{ChangesFit, HeadsAreLawful}
 use Rattle.fst_types.specs.Events.{Event, Reply}
