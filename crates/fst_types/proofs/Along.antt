@@ -30,7 +30,7 @@ use Rattle.fst_types.proofs.LandsInOrder.{overlaps_land_in_order}
 pub record Along (first s : State) (made : List ChangeMade) : Type 0 where
   pub law : IsLawful s
   pub ascends : Ascends (λ c. c.number) made
-  pub given : (c : ChangeMade) → In made c → c.number ≤ s.numbers
+  pub given : (c : ChangeMade) → In made c → (1 ≤ c.number) × (c.number ≤ s.numbers)
   pub kept : (c : ChangeMade) (p : Patch) → In made c → Contains s.heads p → p.number ≡ c.number → IsMadeAs s c p
   pub known : (p : Patch) (b : ℕ) → Contains s.heads p → IsOn p b → (c : ChangeMade) × In made c × (c.number ≡ p.number)
   pub fits : (c : ChangeMade) → In made c → Fits_in (length (committed first c.block)) c.write
@@ -191,7 +191,7 @@ module _ (Late : Patch → Type 0) (first old new : State) (made added : List Ch
   -- the head that a change made before has, and had
   made_back : (c : ChangeMade) (p : Patch) → In made c → Contains new.heads p → p.number ≡ c.number → (o : Patch) × Contains old.heads o × Goes Late o p × IsMadeAs old c o
   made_back c p i h e =
-      let few = A.given c i in
+      let few = (A.given c i).1 in
       elim (C.back p h) [
         | inl r ↦ (r.0, r.1, r.2, A.kept c r.0 i r.1 (sym r.2.number ∙ e))
         | inr n ↦ let k = n.after in absurd (omega (arith, k, e, few))
@@ -203,7 +203,7 @@ module _ (Late : Patch → Type 0) (first old new : State) (made added : List Ch
   made_kept : (c : ChangeMade) (p : Patch) → In made c → Contains new.heads p → p.number ≡ c.number → IsMadeAs new c p
   made_kept c p i h e =
       let r = made_back c p i h e in
-      let few = A.given c i in
+      let few = (A.given c i).1 in
       record {
         number = e;
         block = r.2.block ∙ r.3.block;
@@ -323,8 +323,8 @@ module _ (Late : Patch → Type 0) (first old new : State) (made added : List Ch
   pub along : ((b : ℕ) → committed new b ≡ fold (committed first b) (on_disk_of new b (made ++ added))) → Along first new (made ++ added)
   along folded = record {
     law = law;
-    ascends = ascends_append (λ c. c.number) made added A.ascends (few_ascend added C.few) (λ c d i j. let k = A.given c i in let l = (C.each d j).after in omega (arith, k, l));
-    given = λ c i. elim (in_append made added c i) [ inl k ↦ let g = A.given c k in let r = C.rises in omega (arith, g, r) | inr k ↦ (C.each c k).given ];
+    ascends = ascends_append (λ c. c.number) made added A.ascends (few_ascend added C.few) (λ c d i j. let k = (A.given c i).1 in let l = (C.each d j).after in omega (arith, k, l));
+    given = λ c i. elim (in_append made added c i) [ inl k ↦ let g = A.given c k in let r = C.rises in (g.0, omega (arith, g.1, r)) | inr k ↦ let a = (C.each c k).after in (omega (arith, a), (C.each c k).given) ];
     kept = λ c p i h e. elim (in_append made added c i) [ inl k ↦ made_kept c p k h e | inr k ↦ (added_kept c p k h e).0 ];
     known = λ p b h on.
         elim (C.back p h) [
@@ -337,7 +337,7 @@ module _ (Late : Patch → Type 0) (first old new : State) (made added : List Ch
           | inr l ↦ let a = C.each d l in absurd (memory_disk a.patch.place a.memory (disk a.patch a.head a.made.number))
           | inl l ↦ elim (in_append made added c i) [
             | inl k ↦ order_kept c d k l lt share disk
-            | inr k ↦ let g = A.given d l in let a = (C.each c k).after in absurd (omega (arith, lt, g, a))
+            | inr k ↦ let g = (A.given d l).1 in let a = (C.each c k).after in absurd (omega (arith, lt, g, a))
           ]
         ];
     folded = folded;

@@ -1,25 +1,29 @@
 -- Landing order does not matter: over a run from an opening, blocks are the opening bytes with the run's changes over them.
-use Rattle.std.proofs.Common.{◌≡◌, ℕ, ◌<◌, Bool, cond, List, [], ◌++◌, Contains, Some, refl, sym, ap, subst, ◌∙◌, inl, inr}
+use Rattle.std.proofs.Common.{◌≡◌, ℕ, ◌<◌, Bool, cond, not, List, [], ◌++◌, Contains, Some, refl, sym, ap, subst, ◌∙◌, inl, inr}
 use Rattle.std.specs.Prelude.{AllPairs}
 use Rattle.std.proofs.lemmas.Bool.{cases_eq}
 use Rattle.std.proofs.lemmas.List.{append-nil}
+use Rattle.fst_types.specs.declared.place.Place.{Place}
+use Rattle.fst_types.specs.declared.place.Place.TheVariants as place
 use Rattle.fst_types.specs.declared.fault.Fault.{Fault}
+use Rattle.fst_types.specs.Tests.{is_at}
+use Rattle.fst_types.specs.Looks.{place_of}
 use Rattle.fst_types.specs.Fold.{fold}
 use Rattle.fst_types.specs.State.{State, Flight, committed, flight_of}
 use Rattle.fst_types.specs.Dependencies.{IsOnDisk}
 use Rattle.fst_types.specs.Facts.{IsLawful}
 use Rattle.fst_types.specs.Events.{Event, MakeChange, MakeEmpty, MakeGate, Depend, Seal, Issue, Settle, Retry, Evict, Forget, Choose, Pick, Show, AskPlace, AskFlight, AskStalled, AskStat, Reply, Refused}
 use Rattle.fst_types.specs.Step.{Step, accepted, refused, Row, change, empty, gate, depend, seal, issue, land, stall, retry, evict, forget, choose, pick, show, ask_place, ask_flight, ask_stalled, ask_stat}
-use Rattle.fst_types.specs.Laws.{OverEachRun, RunKeepsLawful, RunsStayLawful, MadeInOrder, CommittedIsFold, ImageIsFold, CrashIsFold, RunLandsInOrder}
+use Rattle.fst_types.specs.Laws.{OverEachRun, RunKeepsLawful, RunsStayLawful, MadeInOrder, CommittedIsFold, ImageIsFold, CrashIsFold, RunLandsInOrder, PlacesTell}
 use Rattle.fst_types.specs.Opening.{opening}
 use Rattle.fst_types.specs.Crash.{crash}
 use Rattle.fst_types.proofs.Bounds.{step_keeps_lawful}
 use Rattle.fst_types.proofs.Opened.{opening_is_lawful}
-use Rattle.fst_types.specs.Run.{ChangeMade, ShareByte, Run, start, more, made_after, on_disk_of, on_disk_or_in_flight_of}
+use Rattle.fst_types.specs.Run.{ChangeMade, ShareByte, Run, start, more, made_after, is_live_number, is_number_in_memory, on_disk_of, on_disk_or_in_flight_of}
 use Rattle.fst_types.proofs.Finite.{In, In-from_Contains}
 use Rattle.fst_types.proofs.Ascends.{from_ascends}
 use Rattle.fst_types.proofs.Carries.{Never, IsFlying, Effect, quiet, landing, added_by, effect_row}
-use Rattle.fst_types.proofs.Numbers.{one_block}
+use Rattle.fst_types.proofs.Numbers.{place_told, one_block}
 use Rattle.fst_types.proofs.Along.{Along, along, crash_folded, image_folded, down_same, down_landed}
 
 along_effect : (first old new : State) (made added : List ChangeMade) → Effect added old new → IsLawful new → Along first old made → Along first new (made ++ added)
@@ -126,6 +130,11 @@ image_is_fold = over_each (λ first made s. (b : ℕ) (f : Flight) → flight_of
 pub crash_is_fold : CrashIsFold
 crash_is_fold =
     over_each (λ first made s. (finished : ℕ → Bool) (b : ℕ) → crash s finished b ≡ fold (committed first b) (cond (finished b) (on_disk_or_in_flight_of s b made) (on_disk_of s b made))) crash_folded
+
+pub places_tell : PlacesTell
+places_tell =
+    over_each (λ first made s. (c : ChangeMade) → Contains made c → (at : Place) × (place_of s.heads s.numbers c.number ≡ Some at) × (is_live_number s.heads c.number ≡ not (is_at at place.Disk)) × (is_number_in_memory s.heads c.number ≡ is_at at place.Memory))
+    (λ first s made A c i. let g = A.given c (In-from_Contains made c i) in place_told s.heads s.numbers c.number A.law.heads.one_place_each.rising g.0 g.1)
 
 pub run_lands_in_order : RunLandsInOrder
 run_lands_in_order =
