@@ -1,0 +1,142 @@
+-- Landing order does not matter: over a run from an opening, blocks are the opening bytes with the run's changes over them.
+use Rattle.std.proofs.Common.{◌≡◌, ℕ, ◌<◌, Bool, cond, not, List, [], ◌++◌, Contains, Some, refl, sym, ap, subst, ◌∙◌, inl, inr}
+use Rattle.std.specs.Prelude.{AllPairs}
+use Rattle.std.proofs.lemmas.Bool.{cases_eq}
+use Rattle.std.proofs.lemmas.List.{append-nil}
+use Rattle.fst_types.specs.declared.place.Place.{Place}
+use Rattle.fst_types.specs.declared.place.Place.TheVariants as place
+use Rattle.fst_types.specs.declared.fault.Fault.{Fault}
+use Rattle.fst_types.specs.Tests.{is_at}
+use Rattle.fst_types.specs.Looks.{place_of}
+use Rattle.fst_types.specs.Fold.{fold}
+use Rattle.fst_types.specs.State.{State, Flight, committed, flight_of}
+use Rattle.fst_types.specs.Dependencies.{IsOnDisk}
+use Rattle.fst_types.specs.Facts.{IsLawful}
+use Rattle.fst_types.specs.Events.{Event, MakeChange, MakeEmpty, MakeGate, Depend, Seal, Issue, Settle, Retry, Evict, Forget, Choose, Pick, Show, AskPlace, AskFlight, AskStalled, AskStat, Reply, Refused}
+use Rattle.fst_types.specs.Step.{Step, accepted, refused, Row, change, empty, gate, depend, seal, issue, land, stall, retry, evict, forget, choose, pick, show, ask_place, ask_flight, ask_stalled, ask_stat}
+use Rattle.fst_types.specs.Laws.{OverEachRun, RunKeepsLawful, RunsStayLawful, MadeInOrder, CommittedIsFold, ImageIsFold, CrashIsFold, RunLandsInOrder, PlacesTell}
+use Rattle.fst_types.specs.Opening.{opening}
+use Rattle.fst_types.specs.Crash.{crash}
+use Rattle.fst_types.proofs.Bounds.{step_keeps_lawful}
+use Rattle.fst_types.proofs.Opened.{opening_is_lawful}
+use Rattle.fst_types.specs.Run.{ChangeMade, ShareByte, Run, start, more, made_after, is_live_number, is_number_in_memory, on_disk_of, on_disk_or_in_flight_of}
+use Rattle.fst_types.proofs.Finite.{In, In-from_Contains}
+use Rattle.fst_types.proofs.Ascends.{from_ascends}
+use Rattle.fst_types.proofs.Carries.{Never, IsFlying, Effect, quiet, landing, added_by, effect_row}
+use Rattle.fst_types.proofs.Numbers.{place_told, one_block}
+use Rattle.fst_types.proofs.Along.{Along, along, crash_folded, image_folded, down_same, down_landed}
+
+along_effect : (first old new : State) (made added : List ChangeMade) → Effect added old new → IsLawful new → Along first old made → Along first new (made ++ added)
+along_effect first old new made added (quiet same C) law A =
+    along Never first old new made added C law A
+    (λ b. same b ∙ (A.folded b ∙ ap (fold (committed first b)) (sym (down_same Never first old new made added C law A b (λ c on o m late. late)))))
+along_effect first old new made added (landing b f flight image others C) law A =
+    along (IsFlying b) first old new made added C law A
+    (λ k. elim (cases_eq k b) [
+      | inl here ↦
+          subst (λ j. committed new j ≡ fold (committed first j) (on_disk_of new j (made ++ added))) (sym here)
+          (image
+          ∙ (image_folded first old made A b f flight
+          ∙ ap (fold (committed first b)) (sym (down_landed (IsFlying b) first old new made added C law A b (λ o on flying. (on, flying)) (λ o late. late.1)))))
+      | inr other ↦
+          others k other
+          ∙ (A.folded k
+          ∙ ap (fold (committed first k)) (sym (down_same (IsFlying b) first old new made added C law A k (λ c on o m late. other (sym on ∙ one_block o c.block b m.block late.0)))))
+    ])
+
+-- the changes made so far are those before and the one added
+made_row : (old new : State) (e : Event) (r : Reply) (made : List ChangeMade) → Row old e r new → made_after made e r ≡ made ++ added_by e r
+made_row old new e r made (change m) = refl
+made_row old new e r made (empty m) = sym (append-nil made)
+made_row old new e r made (gate m) = sym (append-nil made)
+made_row old new e r made (depend m) = sym (append-nil made)
+made_row old new e r made (seal m) = sym (append-nil made)
+made_row old new e r made (issue m) = sym (append-nil made)
+made_row old new e r made (land m) = sym (append-nil made)
+made_row old new e r made (stall m) = sym (append-nil made)
+made_row old new e r made (retry m) = sym (append-nil made)
+made_row old new e r made evict = sym (append-nil made)
+made_row old new e r made (forget m) = sym (append-nil made)
+made_row old new e r made (choose m) = sym (append-nil made)
+made_row old new e r made (pick m) = sym (append-nil made)
+made_row old new e r made show = sym (append-nil made)
+made_row old new e r made ask_place = sym (append-nil made)
+made_row old new e r made ask_flight = sym (append-nil made)
+made_row old new e r made (ask_stalled m) = sym (append-nil made)
+made_row old new e r made ask_stat = sym (append-nil made)
+
+none_made : (e : Event) (f : Fault) (made : List ChangeMade) → made_after made e (Refused f) ≡ made
+none_made (MakeChange share b at bytes after faulted) f made = refl
+none_made (MakeEmpty share after) f made = refl
+none_made (MakeGate share) f made = refl
+none_made (Depend g on) f made = refl
+none_made (Seal g) f made = refl
+none_made (Issue b) f made = refl
+none_made (Settle t b image written) f made = refl
+none_made (Retry b) f made = refl
+none_made (Evict b) f made = refl
+none_made Forget f made = refl
+none_made (Choose b) f made = refl
+none_made Pick f made = refl
+none_made (Show b faulted) f made = refl
+none_made (AskPlace n) f made = refl
+none_made (AskFlight b) f made = refl
+none_made AskStalled f made = refl
+none_made AskStat f made = refl
+
+along_step : (first old new : State) (e : Event) (r : Reply) (made : List ChangeMade) → Step old e r new → Along first old made → Along first new (made_after made e r)
+along_step first old new e r made (accepted n row) A =
+    subst (Along first new) (sym (made_row old new e r made row))
+    (along_effect first old new made (added_by e r) (effect_row old new e r row A.law.heads A.law.changes_fit) (step_keeps_lawful old new e r A.law (accepted n row)) A)
+along_step first old new e r made (refused {fault = f} refusal) A = subst (Along first old) (sym (none_made e f made)) A
+
+along_start : (first : State) → IsLawful first → first.heads ≡ [] → Along first first []
+along_start first law none = record {
+  law = law;
+  ascends = tt;
+  given = λ c i. absurd i;
+  kept = λ c p i. absurd i;
+  known = λ p b h. absurd (subst (λ hs. In hs p) none (In-from_Contains first.heads p h));
+  fits = λ c i. absurd i;
+  order = λ c d i. absurd i;
+  folded = λ b. refl;
+}
+
+along_run : (first s : State) (made : List ChangeMade) → IsLawful first → first.heads ≡ [] → Run first made s → Along first s made
+along_run first s made law none start = along_start first law none
+along_run first s made law none (more {made = before} {s = middle} {e = e} {r = r} run step) = along_step first middle s e r before step (along_run first middle before law none run)
+
+pub run_keeps_lawful : RunKeepsLawful
+run_keeps_lawful first s made law start = law
+run_keeps_lawful first s made law (more {made = before} {s = middle} {e = e} {r = r} run step) = step_keeps_lawful middle s e r (run_keeps_lawful first middle before law run) step
+
+-- what holds along each run holds over each run from an opening
+over_each : (P : State → List ChangeMade → State → Type 0) → ((first s : State) (made : List ChangeMade) → Along first s made → P first made s) → OverEachRun P
+over_each P holds size resident numbers tickets bytes sized few less made s run =
+    holds (opening size resident numbers tickets bytes) s made (along_run (opening size resident numbers tickets bytes) s made (opening_is_lawful size resident numbers tickets bytes sized few less) refl run)
+
+pub runs_stay_lawful : RunsStayLawful
+runs_stay_lawful = over_each (λ first made s. IsLawful s) (λ first s made A. A.law)
+
+pub made_in_order : MadeInOrder
+made_in_order = over_each (λ first made s. AllPairs (λ c d. c.number < d.number) made) (λ first s made A. from_ascends (λ c. c.number) made A.ascends)
+
+pub committed_is_fold : CommittedIsFold
+committed_is_fold = over_each (λ first made s. (b : ℕ) → committed s b ≡ fold (committed first b) (on_disk_of s b made)) (λ first s made A. A.folded)
+
+pub image_is_fold : ImageIsFold
+image_is_fold = over_each (λ first made s. (b : ℕ) (f : Flight) → flight_of s b ≡ Some f → f.image ≡ fold (committed first b) (on_disk_or_in_flight_of s b made)) image_folded
+
+pub crash_is_fold : CrashIsFold
+crash_is_fold =
+    over_each (λ first made s. (finished : ℕ → Bool) (b : ℕ) → crash s finished b ≡ fold (committed first b) (cond (finished b) (on_disk_or_in_flight_of s b made) (on_disk_of s b made))) crash_folded
+
+pub places_tell : PlacesTell
+places_tell =
+    over_each (λ first made s. (c : ChangeMade) → Contains made c → (at : Place) × (place_of s.heads s.numbers c.number ≡ Some at) × (is_live_number s.heads c.number ≡ not (is_at at place.Disk)) × (is_number_in_memory s.heads c.number ≡ is_at at place.Memory))
+    (λ first s made A c i. let g = A.given c (In-from_Contains made c i) in place_told s.heads s.numbers c.number A.law.heads.one_place_each.rising g.0 g.1)
+
+pub run_lands_in_order : RunLandsInOrder
+run_lands_in_order =
+    over_each (λ first made s. (c d : ChangeMade) → Contains made c → Contains made d → c.number < d.number → ShareByte c d → IsOnDisk s.heads d.number → IsOnDisk s.heads c.number)
+    (λ first s made A c d i j. A.order c d (In-from_Contains made c i) (In-from_Contains made d j))
