@@ -11,9 +11,9 @@ pub enum Arm {
     WriteFailsAfter,
 }
 
-// What the next write does.
+/// What the next write does, as contracts see it: no call takes or gives one.
 #[derive(Clone, Copy, PartialEq, Eq, Debug)]
-pub(crate) enum NextWrite {
+pub enum NextWrite {
     Works,
     FailsBefore,
     FailsAfter,

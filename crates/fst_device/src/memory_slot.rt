@@ -1,6 +1,6 @@
 //! A slot whose block is in memory, and whose next read or write can be told to fail.
 
-ghost use Rattle.std.specs.Prelude.{◌≡◌, ℕ, ◌+◌, ◌<◌, ◌^◌, false, length, is_ok, OnOk, OnErr, IsErr, IsTrue, IsErrOf, ◌⊎◌, ◌↔◌, vec_len};
+ghost use Rattle.std.specs.Prelude.{◌≡◌, ℕ, ◌+◌, ◌<◌, ◌^◌, false, length, is_ok, OnOk, OnErr, IsErr, IsTrue, IsOkUnless, ◌⊎◌, ◌↔◌, vec_len};
 ghost use Rattle.fst_device.specs.declared.arm.NextWrite.{NextWrite};
 ghost use Rattle.fst_device.specs.Armed.{armed};
 ghost use Rattle.fst_device.specs.MemoryCalls.{works, after_read, after_write};
@@ -117,7 +117,7 @@ impl BlockSlot for MemorySlot {
         ensures filled { OnOk result (into.new ≡ self.old.bytes) }
         ensures no_fault { OnOk result (self.new.faults ≡ self.old.faults) }
         ensures fault { OnErr result (self.new.faults ≡ self.old.faults + 1) }
-        ensures kind { IsErr result → IsErrOf result SlotFault.Read }
+        ensures kind { IsOkUnless result SlotFault.Read }
         ensures armed { IsErr result ↔ IsTrue self.old.read_fails }
         ensures slot { self.new ≡ after_read self.old }
     {
@@ -138,7 +138,7 @@ impl BlockSlot for MemorySlot {
         ensures old_or_new { (self.new.bytes ≡ self.old.bytes) ⊎ (self.new.bytes ≡ from.now) }
         ensures no_fault { OnOk result (self.new.faults ≡ self.old.faults) }
         ensures fault { OnErr result (self.new.faults ≡ self.old.faults + 1) }
-        ensures kind { IsErr result → IsErrOf result SlotFault.Write }
+        ensures kind { IsOkUnless result SlotFault.Write }
         ensures armed { is_ok result ≡ works self.old.next_write }
         ensures slot { self.new ≡ after_write self.old from.now }
     {

@@ -3,7 +3,7 @@
 //! Contracts see the bytes that a slot holds and how many of its calls have failed. That count rises by one exactly
 //! where a call fails, so a layer above cannot claim a failure that the device did not have, nor hide one.
 
-ghost use Rattle.std.specs.Prelude.{◌≡◌, ℕ, ◌+◌, List, Bool, length, is_ok, OnOk, OnErr, IsErr, IsErrOf, ◌⊎◌};
+ghost use Rattle.std.specs.Prelude.{◌≡◌, ℕ, ◌+◌, List, Bool, length, is_ok, ⊤, OnOk, OnErr, IsOkUnless, ◌⊎◌};
 
 use fst_types::{BlockNo, Notes};
 
@@ -32,7 +32,7 @@ pub trait BlockSlot: Drop {
     ghost size: { Self → ℕ };
 
     /// What one write of these bytes to the old slot may give: whether it worked, and the new slot.
-    ghost write_gives: { Self → List ℕ → Bool → Self → Type 0 };
+    ghost write_gives: { Self → List ℕ → Bool → Self → Type 0 } = { λ _ _ _ _. ⊤ };
 
     /// The number of the block.
     fn index(&self) -> BlockNo
@@ -51,7 +51,7 @@ pub trait BlockSlot: Drop {
         ensures filled { OnOk result (into.new ≡ held self.old) }
         ensures no_fault { OnOk result (faults self.new ≡ faults self.old) }
         ensures fault { OnErr result (faults self.new ≡ faults self.old + 1) }
-        ensures kind { IsErr result → IsErrOf result SlotFault.Read };
+        ensures kind { IsOkUnless result SlotFault.Read };
 
     /// Writes the whole block. After an Err, which is `Write`, the slot holds the old bytes or the new ones.
     fn write(&mut self, from: &[u8]) -> Result<(), SlotFault>
@@ -62,7 +62,7 @@ pub trait BlockSlot: Drop {
         ensures old_or_new { (held self.new ≡ held self.old) ⊎ (held self.new ≡ from.now) }
         ensures no_fault { OnOk result (faults self.new ≡ faults self.old) }
         ensures fault { OnErr result (faults self.new ≡ faults self.old + 1) }
-        ensures kind { IsErr result → IsErrOf result SlotFault.Write }
+        ensures kind { IsOkUnless result SlotFault.Write }
         ensures gives { write_gives self.old from.now (is_ok result) self.new };
 
     // What a slot holds has its size.
