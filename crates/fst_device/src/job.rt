@@ -94,20 +94,16 @@ impl<S: BlockSlot> Job<S> {
         ensures same_size { S.size self.new.slot ≡ S.size self.old.slot }
         ensures gives { S.write_gives self.old.slot self.old.image (is_ok result) self.new.slot }
     {
-        self.slot.write(&self.image)
+        self.slot.write(self.image.as_slice())
     }
 
     // The same job under another ticket.
     pub(crate) fn under(self, ticket: Ticket) -> Job<S>
         ensures { result ≡ record self { ticket = ticket.0 } }
     {
-        Job {
-            ticket,
-            block: self.block,
-            image: self.image,
-            slot: self.slot,
-            before: self.before,
-        }
+        let mut job = self;
+        job.ticket = ticket;
+        job
     }
 
     // The slot, which the job is done with.

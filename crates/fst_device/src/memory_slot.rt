@@ -83,6 +83,13 @@ impl MemorySlot {
     {
         &self.bytes
     }
+
+    // One more call has failed.
+    fn count_fault(&mut self)
+        ensures { self.new ≡ record self.old { faults = self.old.faults + 1 } }
+    {
+        self.faults = Noted::of::<Noted, OneFaultMore>(&self.faults);
+    }
 }
 
 impl BlockSlot for MemorySlot {
@@ -123,10 +130,10 @@ impl BlockSlot for MemorySlot {
     {
         if self.read_fails {
             self.read_fails = false;
-            self.faults = Noted::of::<Noted, OneFaultMore>(&self.faults);
+            self.count_fault();
             return Err(SlotFault::Read);
         }
-        into.copy_from_slice(&self.bytes);
+        into.copy_from_slice(self.bytes.as_slice());
         Ok(())
     }
 
@@ -148,7 +155,7 @@ impl BlockSlot for MemorySlot {
             self.bytes.copy_from_slice(from);
         }
         if next != NextWrite::Works {
-            self.faults = Noted::of::<Noted, OneFaultMore>(&self.faults);
+            self.count_fault();
             return Err(SlotFault::Write);
         }
         Ok(())
