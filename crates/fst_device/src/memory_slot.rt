@@ -1,0 +1,163 @@
+//! A slot whose block is in memory, and whose next read or write can be told to fail.
+
+ghost use Rattle.std.specs.Prelude.{◌≡◌, ℕ, ◌+◌, ◌<◌, ◌^◌, false, length, is_ok, OnOk, OnErr, IsErr, IsTrue, IsOkUnless, ◌⊎◌, ◌↔◌, vec_len};
+ghost use Rattle.fst_device.specs.declared.arm.NextWrite.{NextWrite};
+ghost use Rattle.fst_device.specs.Armed.{armed};
+ghost use Rattle.fst_device.specs.MemoryCalls.{works, after_read, after_write};
+
+use crate::arm::{Arm, NextWrite};
+use crate::slot::{BlockSlot, SlotFault};
+use fst_types::{BlockNo, Noted, Notes};
+use std::marker::Model;
+
+// Notes no number.
+struct NoFault;
+
+impl Notes<()> for NoFault {
+    ghost use Rattle.std.specs.Prelude.{[]};
+
+    ghost noted = { λ _. [] };
+}
+
+// Notes one number more.
+struct OneFaultMore;
+
+impl Notes<Noted> for OneFaultMore {
+    ghost use Rattle.std.specs.Prelude.{◌∷◌};
+
+    ghost noted = { λ n. 0 ∷ n.items };
+}
+
+/// A slot whose block is in memory. It never fails, but where it was armed to.
+#[derive(Drop)]
+pub struct MemorySlot {
+    index: BlockNo,
+    bytes: Vec<u8>,
+    read_fails: bool,
+    next_write: NextWrite,
+    // One number for each call that failed: only their count is meant.
+    faults: Noted,
+}
+
+impl Model for MemorySlot {
+    ghost use Rattle.std.specs.Prelude.{◌<◌, ◌^◌, length};
+    ghost use Rattle.fst_device.specs.MemoryView.{MemoryView};
+
+    ghost Value = { MemoryView };
+
+    ghost view = { λ s. record { index = s.index.0; bytes = s.bytes.items; faults = length s.faults.items; read_fails = s.read_fails; next_write = s.next_write } };
+
+    ghost invariant = { λ s. length s.bytes.items < 2 ^ 32 };
+}
+
+impl MemorySlot {
+    /// A slot that holds these bytes and is not armed. They number less than 2^32. It takes no memory, and keeps the
+    /// vector.
+    pub fn new(index: BlockNo, bytes: Vec<u8>) -> MemorySlot
+        requires { vec_len bytes < 2 ^ 32 }
+        ensures { result ≡ record { index = index.0; bytes = bytes.items; faults = 0; read_fails = false; next_write = NextWrite.Works } }
+    {
+        MemorySlot {
+            index,
+            bytes,
+            read_fails: false,
+            next_write: NextWrite::Works,
+            faults: Noted::of::<(), NoFault>(&()),
+        }
+    }
+
+    /// Makes the next read, or the next write, fail once. It takes no memory.
+    pub fn arm(&mut self, arm: Arm)
+        ensures { self.new ≡ armed arm self.old }
+    {
+        match arm {
+            Arm::ReadFails => self.read_fails = true,
+            Arm::WriteFailsBefore => self.next_write = NextWrite::FailsBefore,
+            Arm::WriteFailsAfter => self.next_write = NextWrite::FailsAfter,
+        }
+    }
+
+    /// The bytes that the slot holds.
+    pub fn bytes(&self) -> &[u8]
+        ensures { result.now ≡ self.now.bytes }
+    {
+        &self.bytes
+    }
+
+    // One more call has failed.
+    fn count_fault(&mut self)
+        ensures { self.new ≡ record self.old { faults = self.old.faults + 1 } }
+    {
+        self.faults = Noted::of::<Noted, OneFaultMore>(&self.faults);
+    }
+}
+
+impl BlockSlot for MemorySlot {
+    ghost use Rattle.std.specs.Prelude.{◌≡◌, ◌+◌, refl, length, true, false};
+    ghost use Rattle.fst_device.specs.MemoryCalls.{works, after_write};
+
+    ghost held = { λ slot. slot.bytes };
+
+    ghost faults = { λ slot. slot.faults };
+
+    ghost index = { λ slot. slot.index };
+
+    ghost size = { λ slot. length slot.bytes };
+
+    ghost write_gives = { λ old from worked new. (worked ≡ works old.next_write) × (new ≡ after_write old from) };
+
+    ghost held_fills = { λ slot. refl };
+
+    fn index(&self) -> BlockNo {
+        self.index
+    }
+
+    fn size(&self) -> u32 {
+        self.bytes.len() as u32
+    }
+
+    fn read(&mut self, into: &mut [u8]) -> Result<(), SlotFault>
+        requires { length into.old ≡ length self.old.bytes }
+        ensures same_index { self.new.index ≡ self.old.index }
+        ensures same_size { length self.new.bytes ≡ length self.old.bytes }
+        ensures same_bytes { self.new.bytes ≡ self.old.bytes }
+        ensures filled { OnOk result (into.new ≡ self.old.bytes) }
+        ensures no_fault { OnOk result (self.new.faults ≡ self.old.faults) }
+        ensures fault { OnErr result (self.new.faults ≡ self.old.faults + 1) }
+        ensures kind { IsOkUnless result SlotFault.Read }
+        ensures armed { IsErr result ↔ IsTrue self.old.read_fails }
+        ensures slot { self.new ≡ after_read self.old }
+    {
+        if self.read_fails {
+            self.read_fails = false;
+            self.count_fault();
+            return Err(SlotFault::Read);
+        }
+        into.copy_from_slice(self.bytes.as_slice());
+        Ok(())
+    }
+
+    fn write(&mut self, from: &[u8]) -> Result<(), SlotFault>
+        requires { length from.now ≡ length self.old.bytes }
+        ensures same_index { self.new.index ≡ self.old.index }
+        ensures same_size { length self.new.bytes ≡ length self.old.bytes }
+        ensures written { OnOk result (self.new.bytes ≡ from.now) }
+        ensures old_or_new { (self.new.bytes ≡ self.old.bytes) ⊎ (self.new.bytes ≡ from.now) }
+        ensures no_fault { OnOk result (self.new.faults ≡ self.old.faults) }
+        ensures fault { OnErr result (self.new.faults ≡ self.old.faults + 1) }
+        ensures kind { IsOkUnless result SlotFault.Write }
+        ensures armed { is_ok result ≡ works self.old.next_write }
+        ensures slot { self.new ≡ after_write self.old from.now }
+    {
+        let next = self.next_write;
+        self.next_write = NextWrite::Works;
+        if next != NextWrite::FailsBefore {
+            self.bytes.copy_from_slice(from);
+        }
+        if next != NextWrite::Works {
+            self.count_fault();
+            return Err(SlotFault::Write);
+        }
+        Ok(())
+    }
+}
