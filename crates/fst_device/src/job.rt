@@ -4,6 +4,7 @@
 //! held when the job was first made: until the write is known to have worked, the slot holds that or the image.
 
 ghost use Rattle.std.specs.Prelude.{◌≡◌, ℕ, ◌+◌, length, is_ok, OnOk, OnErr, ◌⊎◌, vec_len};
+ghost use Rattle.fst_device.specs.declared.arm.NextWrite.{NextWrite};
 ghost use Rattle.fst_device.specs.Armed.{armed};
 
 use crate::arm::Arm;
@@ -123,5 +124,12 @@ impl Job<MemorySlot> {
         ensures { self.new ≡ record self.old { slot = armed arm self.old.slot } }
     {
         self.slot.arm(arm);
+    }
+
+    /// Makes the next write of the slot that the job carries work.
+    pub fn disarm_write(&mut self)
+        ensures { self.new ≡ record self.old { slot = record self.old.slot { next_write = NextWrite.Works } } }
+    {
+        self.slot.disarm_write();
     }
 }

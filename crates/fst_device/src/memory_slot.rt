@@ -77,6 +77,13 @@ impl MemorySlot {
         }
     }
 
+    /// Makes the next write work, however it was armed. An armed read stays armed. It takes no memory.
+    pub fn disarm_write(&mut self)
+        ensures { self.new ≡ record self.old { next_write = NextWrite.Works } }
+    {
+        self.next_write = NextWrite::Works;
+    }
+
     /// The bytes that the slot holds.
     pub fn bytes(&self) -> &[u8]
         ensures { result.now ≡ self.now.bytes }
@@ -150,7 +157,7 @@ impl BlockSlot for MemorySlot {
         ensures slot { self.new ≡ after_write self.old from.now }
     {
         let next = self.next_write;
-        self.next_write = NextWrite::Works;
+        self.disarm_write();
         if next != NextWrite::FailsBefore {
             self.bytes.copy_from_slice(from);
         }

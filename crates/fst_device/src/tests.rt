@@ -56,6 +56,9 @@ fn the_newest_arm_counts_and_reads_are_armed_apart(rt: HostRuntime) -> Result<()
     assert_eq!(rt; slot.write(&[5]), Err(SlotFault::Write));
     assert_eq!(rt; slot.bytes(), [0].as_slice());
     assert_eq!(rt; slot.write(&[5]), Ok(()));
+    slot.arm(Arm::WriteFailsAfter);
+    slot.disarm_write();
+    assert_eq!(rt; slot.write(&[6]), Ok(()));
     assert_eq!(rt; slot.read(&mut [0]), Err(SlotFault::Read));
     assert_eq!(rt; slot.read(&mut [0]), Ok(()));
     Ok(())
