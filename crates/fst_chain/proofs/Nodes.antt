@@ -8,7 +8,8 @@ use types.Logic.{Logic, sem}
 use types.Kit.{‵, ◌⊛◌, ◌$◌, ◌∵◌, !, qed, move, use1, use2, split, fsplit, fjoin, done}
 use denote.RattleType.{RattleType}
 use denote.RawPtr.{Ptr}
-use Rattle.fst_chain.specs.Held.{node_owns, nodes_own, place_at, tail_at, without}
+use Rattle.fst_chain.specs.Held.{node_owns, nodes_own, place_at, tail_at}
+use Rattle.fst_chain.specs.Records.{without}
 
 pub less : (n i : ℕ) → suc i < suc n → i < n
 less n i lt = omega (arith, lt)

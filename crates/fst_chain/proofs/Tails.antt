@@ -3,9 +3,10 @@ use Rattle.std.proofs.Common.{◌≡◌, ℕ, zero, suc, ◌<◌, List, [], ◌�
 use Rattle.std.specs.Prelude.{MatchOption}
 use Rattle.std.proofs.Math.Seq.{map-set_same}
 use Rattle.fst_chain.specs.declared.heap.Place.{Place}
-use Rattle.fst_chain.specs.declared.chain.Node.{Node}
-use Rattle.fst_chain.specs.Held.{tail_at, without}
-use Rattle.fst_chain.specs.Records.{tail_of, tails_of, NextSet, PrevSet}
+use Rattle.fst_chain.specs.declared.node.Node.{Node}
+use Rattle.fst_chain.specs.Held.{tail_at}
+use Rattle.fst_chain.specs.Records.{without}
+use Rattle.fst_chain.specs.Chained.{tail_of, tails_of, NextSet, PrevSet}
 use Rattle.fst_chain.proofs.Removed.{map-without}
 
 module _ {X : Type 0} where

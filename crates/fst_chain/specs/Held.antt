@@ -13,12 +13,6 @@ use Rattle.fst_chain.specs.Blocks.{way_back}
 abbrev pub place_at : List Ptr → ℕ → Ptr
 place_at ps i = slice_index_or ps i null_ptr
 
--- the list but for its i-th item
-abbrev pub without : {X : Type 0} → List X → ℕ → List X
-without [] i = []
-without (x ∷ xs) zero = xs
-without (x ∷ xs) (suc i) = x ∷ without xs i
-
 -- where the bytes of the i-th node lie, and how many have room there
 abbrev pub tail_at : List (Ptr × ℕ) → ℕ → Ptr × ℕ
 tail_at ts i = slice_index_or ts i (null_ptr, 0)

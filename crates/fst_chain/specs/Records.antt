@@ -1,50 +1,19 @@
--- What a chain's nodes say to the outside, and when they are a chain.
-use Rattle.std.specs.Prelude.{◌≡◌, ℕ, zero, suc, [], ◌∷◌, slice_index_or, List, map, length, slice_set, Option, None}
+-- What callers see of a chain: a list of records, each with a payload of bytes.
+use Rattle.std.specs.Prelude.{◌≡◌, ℕ, zero, suc, List, [], ◌∷◌, map, length, slice_index_or}
 use mathlib.Core.Path.{refl, ap}
 use denote.RawPtr.{Ptr}
-use Rattle.std_alloc.specs.Vec.{vec_ptr, vec_capacity}
-use Rattle.fst_chain.specs.declared.heap.Place.{Place}
-use Rattle.fst_chain.specs.declared.chain.Node.{Node}
-use Rattle.fst_chain.specs.Linked.{first, last_or, nexts, prevs}
+
+-- the records and payloads of a chain. Its value also shows where its nodes lie, of which no public clause speaks
+abbrev pub chain_list : {X : Type 0} → List Ptr × List (X × List ℕ) → List (X × List ℕ)
+chain_list c = c.1
+
+-- the list but for its i-th item
+abbrev pub without : {X : Type 0} → List X → ℕ → List X
+without [] i = []
+without (x ∷ xs) zero = xs
+without (x ∷ xs) (suc i) = x ∷ without xs i
 
 module _ {X : Type 0} where
-  -- the record and the payload of a node
-  abbrev pub record_of : Node X → X × List ℕ
-  record_of n = (n.item, n.payload.items)
-
-  -- where the payload of each node lies, and how many bytes have room there
-  abbrev pub tail_of : Node X → Ptr × ℕ
-  tail_of n = (vec_ptr n.payload, vec_capacity n.payload)
-
-  abbrev pub tails_of : List (Node X) → List (Ptr × ℕ)
-  tails_of = map tail_of
-
-  abbrev pub records : List (Node X) → List (X × List ℕ)
-  records = map record_of
-
-  -- the nodes at these places are linked both ways, from head and from tail
-  pub record IsChain (head tail : Option Place) (len : ℕ) (places : List Ptr) (nodes : List (Node X)) : Type 0 where
-    pub count : len ≡ length nodes
-    pub placed : length places ≡ length nodes
-    pub from_head : head ≡ first places
-    pub from_tail : tail ≡ last_or None places
-    pub forward : map (λ n. n.next) nodes ≡ nexts places
-    pub backward : map (λ n. n.prev) nodes ≡ prevs None places
-
-  -- ys are the nodes xs, but that the `next` of the i-th is a
-  pub record NextSet (xs ys : List (Node X)) (i : ℕ) (a : Option Place) : Type 0 where
-    pub next : map (λ n. n.next) ys ≡ slice_set (map (λ n. n.next) xs) i a
-    pub prev : map (λ n. n.prev) ys ≡ map (λ n. n.prev) xs
-    pub same : records ys ≡ records xs
-    pub tails : tails_of ys ≡ tails_of xs
-
-  -- ys are the nodes xs, but that the `prev` of the i-th is a
-  pub record PrevSet (xs ys : List (Node X)) (i : ℕ) (a : Option Place) : Type 0 where
-    pub next : map (λ n. n.next) ys ≡ map (λ n. n.next) xs
-    pub prev : map (λ n. n.prev) ys ≡ slice_set (map (λ n. n.prev) xs) i a
-    pub same : records ys ≡ records xs
-    pub tails : tails_of ys ≡ tails_of xs
-
   -- the payload of the i-th record
   abbrev pub payload_at : List (X × List ℕ) → ℕ → List ℕ
   payload_at rs i = slice_index_or (map (λ r. r.1) rs) i []
@@ -65,7 +34,3 @@ module _ {X : Type 0} where
   length-set_item [] i w = refl
   length-set_item (r ∷ rs) zero w = refl
   length-set_item (r ∷ rs) (suc i) w = ap suc (length-set_item rs i w)
-
-  -- the records and payloads of a chain
-  abbrev pub chain_list : List Ptr × List (X × List ℕ) → List (X × List ℕ)
-  chain_list c = c.1

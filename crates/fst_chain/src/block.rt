@@ -1,39 +1,29 @@
-// A node's block: a header, and bytes behind it.
+// A block for one node: a header, and bytes behind it. It is empty: what fills it is a `Room`'s.
+//
+// It follows a raw pointer, since it asks the allocator for the block and gives it back.
 ghost use Rattle.std.specs.Prelude.{◌≡◌, ℕ, ◌^◌, ◌<◌, [], IfSome};
 ghost use Rattle.std.specs.Borrow.{sem};
 ghost use Rattle.core.specs.Allocator.{HasLayout, owned_block};
 ghost use Rattle.core.specs.Mem.{type_size};
 ghost use Rattle.std_alloc.specs.Vec.{vec_len, vec_capacity, vec_ptr};
 ghost use denote.RawPtr.{Ptr};
-ghost use Rattle.fst_chain.specs.Blocks.{node_type, room_owns};
+ghost use Rattle.fst_chain.specs.Blocks.{node_type};
 
+use crate::room::Room;
 use std::alloc::Allocator;
 use std::marker::{Model, PhantomData};
 use std_alloc::vec::{Lodged, lodge};
 
 /// A block with nothing in it, for a header and `len` bytes.
 pub(crate) struct Block<X, A: Allocator> {
-    ptr: *mut u8,
-    len: usize,
-    mark: PhantomData<*mut (X, A)>,
+    pub(crate) ptr: *mut u8,
+    pub(crate) len: usize,
+    pub(crate) mark: PhantomData<*mut (X, A)>,
     ghost alloc: { A },
 }
 
 impl<X, A: Allocator> Model for Block<X, A> {
     ghost also_owns = { λ b. owned_block (A.dealloc_token b.alloc) (node_type X.row b.len) b.ptr };
-}
-
-/// A block whose header's place is empty, and whose bytes lie at `tail`.
-pub(crate) struct Room<X, A: Allocator> {
-    pub(crate) ptr: *mut u8,
-    pub(crate) mark: PhantomData<*mut (X, A)>,
-    ghost alloc: { A },
-    ghost tail: { Ptr },
-    ghost len: { ℕ },
-}
-
-impl<X, A: Allocator> Model for Room<X, A> {
-    ghost also_owns = { λ r. room_owns (A.dealloc_token r.alloc) X.row r.ptr r.tail r.len };
 }
 
 impl<X, A: Allocator> Block<X, A> {
@@ -73,17 +63,5 @@ impl<X, A: Allocator> Block<X, A> {
             let bytes = lodge(ptr.add(offset), 0, len);
             (Room { ptr, mark }, bytes)
         }
-    }
-}
-
-impl<X, A: Allocator> Room<X, A> {
-    /// The block again, whose bytes are forgotten.
-    pub(crate) fn close(self, bytes: Vec<u8, Lodged>, len: usize) -> Block<X, A>
-        requires { (vec_ptr bytes ≡ self.tail) × (vec_capacity bytes ≡ self.len) × (len ≡ self.len) }
-        ensures { (result.alloc ≡ self.alloc) × (result.len ≡ self.len) }
-    {
-        let Room { ptr, mark } = self;
-        let _written = bytes.dislodge();
-        Block { ptr, len, mark }
     }
 }

@@ -1,51 +1,41 @@
 // A doubly linked list of records, each with a payload of bytes.
 ghost use Rattle.std.specs.Prelude.{◌≡◌, ℕ, ◌+◌, ◌^◌, ◌<◌, List, [], ◌∷◌, ◌++◌, length, drop, slice_index_or, is_ok, if◌then◌else◌, IfErr, OnErr, IfSome, MatchOption, Some, None, ◌-◌, ◌≤◌};
-ghost use Rattle.std_alloc.specs.Vec.{vec_len, vec_ptr, vec_capacity};
-ghost use Rattle.fst_chain.specs.Held.{place_at, without};
+ghost use Rattle.core.specs.Mem.{type_size};
 ghost use Rattle.fst_chain.specs.Linked.{nth, before};
-ghost use Rattle.fst_chain.specs.Records.{NextSet, PrevSet, record_of, payload_at, set_payload, set_item, chain_list};
+ghost use Rattle.fst_chain.specs.Chained.{record_of};
+ghost use Rattle.fst_chain.specs.Records.{without, payload_at, set_payload, chain_list};
 ghost use Rattle.std.specs.Borrow.{sem};
 
-use crate::block::{Block, Room};
 use crate::heap::{Heap, Place};
-use crate::size::{header_size, layout_of};
-use std::alloc::{AllocError, Global};
+use crate::links::{mend_next, mend_prev};
+use crate::node::{Node, release, room_for};
+use std::alloc::{AllocError, Allocator, Global};
 use std::marker::Model;
-use std_alloc::room::may_hold;
-use std_alloc::vec::Lodged;
-
-/// A node: its links, its record and its payload, which lies in the node's own block.
-pub(crate) struct Node<T> {
-    pub(crate) next: Option<Place>,
-    pub(crate) prev: Option<Place>,
-    pub(crate) item: T,
-    pub(crate) payload: Vec<u8, Lodged>,
-}
 
 /// A list of records, each with a payload. A clause names it by `chain_list`. Its value has the nodes' places too.
-pub struct Chain<T> {
+pub struct Chain<T, A: Allocator = Global> {
     head: Option<Place>,
     tail: Option<Place>,
     len: usize,
-    heap: Heap<Node<T>, Global>,
-    alloc: Global,
+    heap: Heap<Node<T>, A>,
+    alloc: A,
 }
 
-impl<T> Model for Chain<T> {
+impl<T, A: Allocator> Model for Chain<T, A> {
     ghost use Rattle.std.specs.Prelude.{◌≡◌, List, ℕ};
     ghost use denote.RawPtr.{Ptr};
 
     ghost Value = { List Ptr × List (T × List ℕ) };
 
-    ghost use Rattle.fst_chain.specs.Records.{records, IsChain, tails_of};
+    ghost use Rattle.fst_chain.specs.Chained.{records, IsChain, tails_of};
 
     ghost view = { λ a. (a.heap.places, records a.heap.items) };
 
     ghost invariant = { λ a. IsChain a.head a.tail a.len a.heap.places a.heap.items × (a.heap.alloc ≡ a.alloc) × (tails_of a.heap.items ≡ a.heap.tails) };
 }
 
-impl<T> Chain<T> {
-    pub fn new(alloc: Global) -> Chain<T>
+impl<T, A: Allocator> Chain<T, A> {
+    pub fn new(alloc: A) -> Chain<T, A>
         ensures { chain_list result ≡ [] }
     {
         Chain {
@@ -64,16 +54,15 @@ impl<T> Chain<T> {
     }
 }
 
-impl<T> Chain<T> {
+impl<T, A: Allocator> Chain<T, A> {
     /// Adds a record at the end. It comes back where there is no memory.
     pub fn push_back(&mut self, item: T, payload: &[u8]) -> Result<(), (T, AllocError)>
+        requires small { type_size T.row < 2 ^ 62 }
+        requires countable { length (chain_list self.old) + 1 < 2 ^ 64 }
         ensures list { chain_list self.new ≡ (if is_ok result then chain_list self.old ++ (item, payload.now) ∷ [] else chain_list self.old) }
         ensures refused { IfErr result (λ e. e.0 ≡ item) }
         ensures unchanged { OnErr result (self.new ≡ self.old) }
     {
-        if self.len == usize::MAX {
-            return Err((item, AllocError));
-        }
         match self.link(item, payload) {
             Ok(()) => Ok(()),
             Err(item) => Err((item, AllocError)),
@@ -95,7 +84,7 @@ impl<T> Chain<T> {
     }
 }
 
-impl<T: Drop> Drop for Chain<T> {
+impl<T: Drop, A: Allocator> Drop for Chain<T, A> {
     fn drop(mut self) {
         while self.len() > 0 {
             drop(self.pop_front());
@@ -105,7 +94,7 @@ impl<T: Drop> Drop for Chain<T> {
 }
 
 // The calls that hold places.
-impl<T> Chain<T> {
+impl<T, A: Allocator> Chain<T, A> {
     /// Where the first node lies.
     pub(crate) fn head(&self) -> Option<Place>
         ensures place { result ≡ nth self.now.0 0 }
@@ -173,15 +162,16 @@ impl<T> Chain<T> {
     }
 }
 
-impl<T> Chain<T> {
+impl<T, A: Allocator> Chain<T, A> {
     /// Links a new node in at the end. The record comes back where there is no memory.
     pub(crate) fn link(&mut self, item: T, payload: &[u8]) -> Result<(), T>
-        requires { length self.old.1 + 1 < 2 ^ 64 }
+        requires small { type_size T.row < 2 ^ 62 }
+        requires countable { length self.old.1 + 1 < 2 ^ 64 }
         ensures records { self.new.1 ≡ (if is_ok result then self.old.1 ++ (item, payload.now) ∷ [] else self.old.1) }
         ensures refused { IfErr result (λ x. x ≡ item) }
         ensures unchanged { OnErr result (self.new ≡ self.old) }
     {
-        let Some((room, payload)) = empty_node::<T>(&self.alloc, payload) else {
+        let Some((room, payload)) = room_for(&self.alloc, payload) else {
             return Err(item);
         };
         let node = Node {
@@ -227,95 +217,13 @@ impl<T> Chain<T> {
     }
 }
 
-// Room for a node, with the payload written behind it.
-fn empty_node<T>(alloc: &Global, payload: &[u8]) -> Option<(Room<Node<T>, Global>, Vec<u8, Lodged>)>
-    ensures room { IfSome result (λ r. (r.0.alloc ≡ alloc.now) × (vec_ptr r.1 ≡ r.0.tail) × (vec_capacity r.1 ≡ r.0.len)) }
-    ensures payload { IfSome result (λ r. r.1.items ≡ payload.now) }
-{
-    let len = payload.len();
-    if len > isize::MAX as usize || !may_hold::<Node<T>>(1) {
-        return None;
-    }
-    let (size, align) = layout_of::<Node<T>>(len);
-    let block = Block::new(alloc, len, size, align)?;
-    let (room, mut bytes) = block.open(header_size::<Node<T>>());
-    write(&mut bytes, payload);
-    Some((room, bytes))
-}
-
-// Fills the empty row in its place.
-fn write(bytes: &mut Vec<u8, Lodged>, payload: &[u8])
-    requires { (bytes.old.items ≡ []) × (vec_len bytes.old ≡ 0) × (length payload.now ≤ vec_capacity bytes.old) }
-    ensures items { bytes.new.items ≡ payload.now }
-    ensures in_place { (vec_ptr bytes.new ≡ vec_ptr bytes.old) × (vec_capacity bytes.new ≡ vec_capacity bytes.old) }
-{
-    let mut i = 0;
-    while i < payload.len() {
-        bytes.insert_reserved(i, payload[i]);
-        i += 1;
-    }
-}
-
-// Frees a node's block.
-fn release<T>(alloc: &Global, room: Room<Node<T>, Global>, payload: Vec<u8, Lodged>)
-    requires { (room.alloc ≡ alloc.now) × (vec_ptr payload ≡ room.tail) × (vec_capacity payload ≡ room.len) }
-{
-    let len = payload.capacity();
-    let (size, align) = layout_of::<Node<T>>(len);
-    room.close(payload, len).free(alloc, size, align);
-}
-
-// What came before the node that was the i-th leads to `next`.
-fn mend_next<T>(
-    heap: &mut Heap<Node<T>, Global>,
-    head: &mut Option<Place>,
-    prev: Option<Place>,
-    next: Option<Place>,
-    i: usize,
-)
-    requires { IfSome prev (λ l. (0 < i) × (i ≤ length heap.old.items) × (l.ptr ≡ place_at heap.old.places (i - 1))) }
-    ensures kept { (heap.new.alloc ≡ heap.old.alloc) × (heap.new.places ≡ heap.old.places) × (heap.new.tails ≡ heap.old.tails) }
-    ensures items { MatchOption prev (heap.new.items ≡ heap.old.items) (λ _. NextSet heap.old.items heap.new.items (i - 1) next) }
-    ensures head { MatchOption prev (head.new ≡ next) (λ _. head.new ≡ head.old) }
-{
-    match prev {
-        None => *head = next,
-        Some(before) => {
-            let before = heap.at_mut(before, i - 1);
-            before.next = next;
-        }
-    }
-}
-
-// What came after it leads back to `prev`.
-fn mend_prev<T>(
-    heap: &mut Heap<Node<T>, Global>,
-    tail: &mut Option<Place>,
-    next: Option<Place>,
-    prev: Option<Place>,
-    i: usize,
-)
-    requires { IfSome next (λ l. (i < length heap.old.items) × (l.ptr ≡ place_at heap.old.places i)) }
-    ensures kept { (heap.new.alloc ≡ heap.old.alloc) × (heap.new.places ≡ heap.old.places) × (heap.new.tails ≡ heap.old.tails) }
-    ensures items { MatchOption next (heap.new.items ≡ heap.old.items) (λ _. PrevSet heap.old.items heap.new.items i prev) }
-    ensures tail { MatchOption next (tail.new ≡ prev) (λ _. tail.new ≡ tail.old) }
-{
-    match next {
-        None => *tail = prev,
-        Some(after) => {
-            let after = heap.at_mut(after, i);
-            after.prev = prev;
-        }
-    }
-}
-
-impl<T> Chain<T> {
+impl<T, A: Allocator> Chain<T, A> {
     ghost use Rattle.fst_chain.specs.ChainLends.{lends_item};
 
     /// The record of the node at the place.
     pub(crate) fn item_mut(&mut self, at: Place, i: usize) -> &mut T
         requires { nth self.old.0 i ≡ Some at }
-        ensures* writes_back { sem 𝓛 (lends_item T.row self.entry i result) }
+        ensures* writes_back { sem 𝓛 (lends_item T.row A.row A.Allocator self.entry i result) }
         ensures value { result.now ≡ (slice_index_or self.old.1 i (result.now, [])).0 }
     {
         let node = self.heap.at_mut(at, i);

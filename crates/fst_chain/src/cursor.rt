@@ -1,27 +1,27 @@
 // A place in a chain, and the calls that move it.
 ghost use Rattle.std.specs.Prelude.{◌≡◌, ℕ, ◌+◌, ◌<◌, ◌≤◌, List, [], ◌∷◌, ◌++◌, length, slice_index_or, IsSome, IfSome, ◌↔◌, min, ◌-◌, take, drop, nat_eq, if◌then◌else◌};
 ghost use Rattle.std.specs.Borrow.{sem};
-ghost use Rattle.fst_chain.specs.Held.{without};
-ghost use Rattle.fst_chain.specs.Records.{payload_at, set_payload, chain_list};
+ghost use Rattle.fst_chain.specs.Records.{without, payload_at, set_payload, chain_list};
 ghost use Rattle.fst_chain.specs.Linked.{nth};
 
 use crate::chain::Chain;
 use crate::heap::Place;
+use std::alloc::{Allocator, Global};
 
 /// A place from 0 to the chain's length. At the length there is no current node.
 #[derive(Drop)]
-pub struct Cursor<'a, T> {
-    chain: &'a mut Chain<T>,
+pub struct Cursor<'a, T, A: Allocator = Global> {
+    chain: &'a mut Chain<T, A>,
     at: Option<Place>,
     index: usize,
     ghost stands: { (at ≡ nth chain.now.0 index) × (index ≤ length chain.now.1) × (length chain.now.0 ≡ length chain.now.1) },
 }
 
-impl<T> Chain<T> {
+impl<T, A: Allocator> Chain<T, A> {
     ghost use Rattle.fst_chain.specs.Cursors.{cursor_list, cursor_place, cursor_lender};
 
     /// Stands on the first node.
-    pub fn cursor_front(&mut self) -> Cursor<'_, T>
+    pub fn cursor_front(&mut self) -> Cursor<'_, T, A>
         ensures same_reference { cursor_lender result ≡ self.entry.ghost_name }
         ensures list { cursor_list result ≡ (chain_list self.old) }
         ensures place { cursor_place result ≡ 0 }
@@ -34,7 +34,7 @@ impl<T> Chain<T> {
     }
 
     /// Stands on the last node, or at 0 where there is none.
-    pub fn cursor_back(&mut self) -> Cursor<'_, T>
+    pub fn cursor_back(&mut self) -> Cursor<'_, T, A>
         ensures same_reference { cursor_lender result ≡ self.entry.ghost_name }
         ensures list { cursor_list result ≡ (chain_list self.old) }
         ensures place { cursor_place result ≡ length (chain_list self.old) - 1 }
@@ -47,7 +47,7 @@ impl<T> Chain<T> {
     }
 }
 
-impl<T> Cursor<'_, T> {
+impl<T, A: Allocator> Cursor<'_, T, A> {
     ghost use Rattle.fst_chain.specs.Cursors.{cursor_list, cursor_place, cursor_lender};
     ghost use Rattle.fst_chain.specs.CursorLends.{lends_current};
 
@@ -63,7 +63,7 @@ impl<T> Cursor<'_, T> {
 
     /// The current record, to be changed.
     pub fn current_mut(&mut self) -> Option<&mut T>
-        ensures* writes_back { sem 𝓛 (lends_current T.row self.entry result) }
+        ensures* writes_back { sem 𝓛 (lends_current T.row A.row A.Allocator self.entry result) }
         ensures variant { IsSome result ↔ (cursor_place self.old < length (cursor_list self.old)) }
         ensures value { IfSome result (λ x. x.now ≡ (slice_index_or (cursor_list self.old) (cursor_place self.old) (x.now, [])).0) }
     {
@@ -131,7 +131,7 @@ impl<T> Cursor<'_, T> {
     }
 }
 
-impl<T> Cursor<'_, T> {
+impl<T, A: Allocator> Cursor<'_, T, A> {
     ghost use Rattle.fst_chain.specs.Cursors.{cursor_list, cursor_place, cursor_lender};
 
     /// Takes the current node out, and stands on the one after it.

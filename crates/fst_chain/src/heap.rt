@@ -2,11 +2,12 @@
 ghost use Rattle.std.specs.Prelude.{◌≡◌, ℕ, ◌<◌, List, [], ◌∷◌, ◌++◌, length, slice_index_or};
 ghost use Rattle.std.specs.Borrow.{sem};
 ghost use denote.RawPtr.{Ptr};
-ghost use Rattle.fst_chain.specs.Held.{nodes_own, nodes_lent, place_at, tail_at, without};
+ghost use Rattle.fst_chain.specs.Held.{nodes_own, nodes_lent, place_at, tail_at};
+ghost use Rattle.fst_chain.specs.Records.{without};
 
-use crate::block::Room;
+use crate::room::Room;
 use std::alloc::Allocator;
-use std::marker::{Model, PhantomData};
+use std::marker::{Model, PhantomData, Send, Sync};
 
 /// Where a node lies. It owns nothing.
 #[derive(Clone, Copy)]
@@ -28,6 +29,16 @@ impl<X, A: Allocator> Model for Heap<X, A> {
 
     ghost also_shares = { λ h _ κ. nodes_lent X.row h.places h.items κ };
 }
+
+// A place may go to any thread: it owns nothing, and no call follows it but its heap's.
+unsafe impl Send for Place {}
+
+unsafe impl Sync for Place {}
+
+// A heap may go to another thread where its nodes and its allocator may. A `&` to it reaches no allocator.
+unsafe impl<X: Send, A: Allocator + Send> Send for Heap<X, A> {}
+
+unsafe impl<X: Sync, A: Allocator> Sync for Heap<X, A> {}
 
 impl<X, A: Allocator> Heap<X, A> {
     ghost use Rattle.fst_chain.specs.HeapLends.{lends_node};

@@ -44,7 +44,7 @@ use Rattle.fst_chain.proofs.Places.{stated}
 use Rattle.fst_chain.proofs.Blocks.{far, block_cut, lodge_room}
 use Rattle.fst_chain.proofs.Lodged.{byte_laws, Bytes, Bytes-laws, lodge_starts}
 use Rattle.fst_chain.specs.contracts.block.Block as B
-use Rattle.fst_chain.specs.contracts.block.Room as Rm
+use Rattle.fst_chain.specs.contracts.room.Room as Rm
 use Rattle.fst_chain.specs.contracts.block.Block.«open».{ended, clauses}
 use Rattle.fst_chain.specs.contracts.block.Block.«open».Key.{name as #self}
 use Rattle.fst_chain.proofs.block.Block.«open».Statement.{statement}

@@ -1,9 +1,9 @@
 use Rattle.std.proofs.Common.{◌≡◌, suc, ◌-◌, ◌<◌, [], ◌∷◌, ◌++◌, length, refl, sym, ap, ◌∙◌, arith, length-append, None}
 use Rattle.std.proofs.lemmas.List.{map-append}
 use Rattle.std.proofs.Math.Seq.{map-set_same}
-use Rattle.fst_chain.specs.declared.chain.Node.{Node}
-use Rattle.fst_chain.specs.Records.{record_of, tail_of, tails_of}
-use Rattle.fst_chain.proofs.Chained.{last_at, place_at-push, last_some, pushed_first, pushed_last}
+use Rattle.fst_chain.specs.declared.node.Node.{Node}
+use Rattle.fst_chain.specs.Chained.{record_of, tail_of, tails_of}
+use Rattle.fst_chain.proofs.Pushed.{last_at, place_at-push, last_some, pushed_first, pushed_last}
 use Rattle.fst_chain.proofs.Tails.{same_tails}
 use Rattle.fst_chain.proofs.chain.Chain.link.Goals.{in-None, in-Some-tail}
 use Rattle.fst_chain.proofs.chain.Chain.link.Goals as goal

@@ -1,9 +1,10 @@
 use Rattle.std.proofs.Common.{◌≡◌, ℕ, suc, ◌+◌, ◌-◌, ◌<◌, List, [], length, slice_index_or, Option, Some, sym, ap, ◌∙◌, arith}
 use denote.RawPtr.{Ptr}
 use Rattle.fst_chain.specs.declared.heap.Place.{Place}
-use Rattle.fst_chain.specs.declared.chain.Node.{Node}
-use Rattle.fst_chain.specs.Held.{without, tail_at}
-use Rattle.fst_chain.specs.Records.{IsChain, record_of}
+use Rattle.fst_chain.specs.declared.node.Node.{Node}
+use Rattle.fst_chain.specs.Held.{tail_at}
+use Rattle.fst_chain.specs.Records.{without}
+use Rattle.fst_chain.specs.Chained.{IsChain, record_of}
 use Rattle.fst_chain.specs.Linked.{nth}
 use Rattle.fst_chain.proofs.Tails.{tail_is, tails_without}
 use Rattle.fst_chain.proofs.Cursors.{item_is}

@@ -37,7 +37,7 @@ use Rattle.fst_chain.proofs.Values.{room_val, room_told}
 use Rattle.fst_chain.proofs.Nodes.{node_new}
 use Rattle.fst_chain.proofs.Places.{word, place_made, stated}
 use Rattle.fst_chain.specs.contracts.heap.Heap as C
-use Rattle.fst_chain.specs.contracts.block.Room as Rm
+use Rattle.fst_chain.specs.contracts.room.Room as Rm
 use Rattle.fst_chain.specs.contracts.heap.Heap.put.{ended, clauses}
 use Rattle.fst_chain.specs.contracts.heap.Heap.put.Key.{name as #self}
 use Rattle.fst_chain.proofs.heap.Heap.put.Statement.{statement}

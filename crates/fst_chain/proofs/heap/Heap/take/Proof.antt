@@ -32,13 +32,14 @@ use Rattle.std.proofs.VecSteps.Shapes.{after}
 use Rattle.std_alloc.proofs.RawLayout.{as_raw}
 use Rattle.std_collections.proofs.TreeMemory.Lodging.{tells, two_made}
 use Rattle.fst_chain.specs.Blocks.{way_back}
-use Rattle.fst_chain.specs.Held.{node_owns, nodes_own, place_at, tail_at, without}
+use Rattle.fst_chain.specs.Held.{node_owns, nodes_own, place_at, tail_at}
+use Rattle.fst_chain.specs.Records.{without}
 use Rattle.fst_chain.proofs.Values.{room_val, room_fields, room_made}
 use Rattle.fst_chain.proofs.Nodes.{item_in, item_in-is, Besides, node_out, node_gone}
 use Rattle.fst_chain.proofs.Places.{word, word-good, place_had, stated}
 use Rattle.fst_chain.specs.contracts.heap.Heap as C
 use Rattle.fst_chain.specs.contracts.heap.Place as Pl
-use Rattle.fst_chain.specs.contracts.block.Room as Rm
+use Rattle.fst_chain.specs.contracts.room.Room as Rm
 use Rattle.fst_chain.specs.contracts.heap.Heap.take.{ended, clauses}
 use Rattle.fst_chain.specs.contracts.heap.Heap.take.Key.{name as #self}
 use Rattle.fst_chain.proofs.heap.Heap.take.Statement.{statement}

@@ -1,9 +1,9 @@
 use Rattle.std.proofs.Common.{ap}
 use Rattle.std.proofs.lemmas.List.{map-set}
 use Rattle.std.proofs.Math.Seq.{map-set_same}
-use Rattle.fst_chain.specs.declared.chain.Node.{Node}
-use Rattle.fst_chain.specs.Records.{record_of, tail_of}
-use Rattle.fst_chain.proofs.chain.mend_prev.Goals as goal
+use Rattle.fst_chain.specs.declared.node.Node.{Node}
+use Rattle.fst_chain.specs.Chained.{record_of, tail_of}
+use Rattle.fst_chain.proofs.links.mend_prev.Goals as goal
 
 pub returns-in-Some-clause-items : goal.returns-in-Some-clause-items
 returns-in-Some-clause-items g c =

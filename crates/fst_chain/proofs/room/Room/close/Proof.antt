@@ -38,11 +38,11 @@ use Rattle.fst_chain.proofs.Values.{ptr_good, block_val, block_fields, block_mad
 use Rattle.fst_chain.proofs.Blocks.{room_lodged}
 use Rattle.fst_chain.proofs.Lodged.{byte_laws, Bytes, Bytes-laws}
 use Rattle.fst_chain.specs.contracts.block.Block as B
-use Rattle.fst_chain.specs.contracts.block.Room as Rm
-use Rattle.fst_chain.specs.contracts.block.Room.close.{ended, clauses}
-use Rattle.fst_chain.specs.contracts.block.Room.close.Key.{name as #self}
-use Rattle.fst_chain.proofs.block.Room.close.Statement.{statement}
-use Rattle.fst_chain.proofs.block.Room.close.Code as code
+use Rattle.fst_chain.specs.contracts.room.Room as Rm
+use Rattle.fst_chain.specs.contracts.room.Room.close.{ended, clauses}
+use Rattle.fst_chain.specs.contracts.room.Room.close.Key.{name as #self}
+use Rattle.fst_chain.proofs.room.Room.close.Statement.{statement}
+use Rattle.fst_chain.proofs.room.Room.close.Code as code
 
 pub close_spec : {M : Type 1} → statement M
 close_spec 𝓤 𝓛 𝓜 𝓡 wired X A L LA g d dd met md =
