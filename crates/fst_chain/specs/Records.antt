@@ -14,6 +14,10 @@ without (x ∷ xs) zero = xs
 without (x ∷ xs) (suc i) = x ∷ without xs i
 
 module _ {X : Type 0} where
+  -- the i-th record, or d where there is none
+  abbrev pub item_at : List (X × List ℕ) → ℕ → X → X
+  item_at rs i d = (slice_index_or rs i (d, [])).0
+
   -- the payload of the i-th record
   abbrev pub payload_at : List (X × List ℕ) → ℕ → List ℕ
   payload_at rs i = slice_index_or (map (λ r. r.1) rs) i []

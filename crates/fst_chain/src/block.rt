@@ -1,6 +1,6 @@
-// A block for one node: a header, and bytes behind it. It is empty: what fills it is a `Room`'s.
-//
-// It follows a raw pointer, since it asks the allocator for the block and gives it back.
+//! A block for one node, with a header and bytes behind it. It is empty, and a `Room` is what it becomes in use.
+//!
+//! It holds a raw pointer, since it asks the allocator for the block and gives it back.
 ghost use Rattle.std.specs.Prelude.{◌≡◌, ℕ, ◌^◌, ◌<◌, [], IfSome};
 ghost use Rattle.std.specs.Borrow.{sem};
 ghost use Rattle.core.specs.Allocator.{HasLayout, owned_block};
@@ -27,6 +27,7 @@ impl<X, A: Allocator> Model for Block<X, A> {
 }
 
 impl<X, A: Allocator> Block<X, A> {
+    /// Asks the allocator for the block, once. `None` where it refuses.
     pub(crate) fn new(alloc: &A, len: usize, size: usize, align: usize) -> Option<Block<X, A>>
         requires { HasLayout (node_type X.row len) size align }
         ensures { IfSome result (λ b. (b.alloc ≡ alloc.now) × (b.len ≡ len)) }
@@ -40,6 +41,7 @@ impl<X, A: Allocator> Block<X, A> {
         }
     }
 
+    /// Gives the block back.
     pub(crate) fn free(self, alloc: &A, size: usize, align: usize)
         requires { (self.alloc ≡ alloc.now) × HasLayout (node_type X.row self.len) size align }
     {

@@ -1,9 +1,12 @@
-// A doubly linked list of records, each with a payload of bytes.
+//! A doubly linked list of records, each with a payload of bytes.
+//!
+//! It keeps that its nodes are linked both ways, from the first to the last: a fact about the list of the nodes and the
+//! list of their places. It follows no pointer, and asks its heap for the node at a place.
 ghost use Rattle.std.specs.Prelude.{◌≡◌, ℕ, ◌+◌, ◌^◌, ◌<◌, List, [], ◌∷◌, ◌++◌, length, drop, slice_index_or, is_ok, if◌then◌else◌, IfErr, OnErr, IfSome, MatchOption, Some, None, ◌-◌, ◌≤◌};
 ghost use Rattle.core.specs.Mem.{type_size};
 ghost use Rattle.fst_chain.specs.Linked.{nth, before};
 ghost use Rattle.fst_chain.specs.Chained.{record_of};
-ghost use Rattle.fst_chain.specs.Records.{without, payload_at, set_payload, chain_list};
+ghost use Rattle.fst_chain.specs.Records.{without, item_at, payload_at, set_payload, chain_list};
 ghost use Rattle.std.specs.Borrow.{sem};
 
 use crate::heap::{Heap, Place};
@@ -12,7 +15,10 @@ use crate::node::{Node, release, room_for};
 use std::alloc::{AllocError, Allocator, Global};
 use std::marker::Model;
 
-/// A list of records, each with a payload. A clause names it by `chain_list`. Its value has the nodes' places too.
+/// A list of records, each with a payload of bytes whose number stays. Clauses speak of it as `chain_list`.
+///
+/// A record takes one block of its allocator: two links and a `Vec`'s head beside the record, and the payload behind.
+/// The allocator is kept, and each block is freed once: where its record is taken out, or where the chain is dropped.
 pub struct Chain<T, A: Allocator = Global> {
     head: Option<Place>,
     tail: Option<Place>,
@@ -35,6 +41,7 @@ impl<T, A: Allocator> Model for Chain<T, A> {
 }
 
 impl<T, A: Allocator> Chain<T, A> {
+    /// A chain with no record. It takes no memory, and keeps the allocator.
     pub fn new(alloc: A) -> Chain<T, A>
         ensures { chain_list result ≡ [] }
     {
@@ -47,6 +54,7 @@ impl<T, A: Allocator> Chain<T, A> {
         }
     }
 
+    /// The number of records. It takes no memory, and does not walk.
     pub fn len(&self) -> usize
         ensures { result ≡ length (chain_list self.now) }
     {
@@ -55,7 +63,10 @@ impl<T, A: Allocator> Chain<T, A> {
 }
 
 impl<T, A: Allocator> Chain<T, A> {
-    /// Adds a record at the end. It comes back where there is no memory.
+    /// Adds the record at the end, with a copy of the payload. It asks the allocator once, for the node's block.
+    ///
+    /// Where the allocator refuses, the record comes back and the chain is as it was. There is no other refusal: that a
+    /// record is no larger than any memory, and that the chain can count one more, is the caller's to show.
     pub fn push_back(&mut self, item: T, payload: &[u8]) -> Result<(), (T, AllocError)>
         requires small { type_size T.row < 2 ^ 62 }
         requires countable { length (chain_list self.old) + 1 < 2 ^ 64 }
@@ -69,7 +80,7 @@ impl<T, A: Allocator> Chain<T, A> {
         }
     }
 
-    /// Takes the first record out.
+    /// Takes the first record out, and frees its block. It takes no memory.
     pub fn pop_front(&mut self) -> Option<T>
         ensures rest { chain_list self.new ≡ drop 1 (chain_list self.old) }
         ensures first { MatchOption result (chain_list self.old ≡ []) (λ x. (payload : List ℕ) × (chain_list self.old ≡ (x, payload) ∷ chain_list self.new)) }
@@ -84,6 +95,7 @@ impl<T, A: Allocator> Chain<T, A> {
     }
 }
 
+// Frees each node once. A body that left one would not let go of the heap.
 impl<T: Drop, A: Allocator> Drop for Chain<T, A> {
     fn drop(mut self) {
         while self.len() > 0 {
@@ -93,7 +105,7 @@ impl<T: Drop, A: Allocator> Drop for Chain<T, A> {
     }
 }
 
-// The calls that hold places.
+// The calls of the cursor, which knows places.
 impl<T, A: Allocator> Chain<T, A> {
     /// Where the first node lies.
     pub(crate) fn head(&self) -> Option<Place>
@@ -135,7 +147,7 @@ impl<T, A: Allocator> Chain<T, A> {
         }
     }
 
-    /// Exchanges the bytes and the payload of the node at the place.
+    /// Exchanges the bytes and the payload of the node at the place, byte by byte, each where it lies.
     pub(crate) fn swap(&mut self, at: Place, i: usize, bytes: &mut [u8])
         requires place { nth self.old.0 i ≡ Some at }
         requires fits { length (payload_at self.old.1 i) ≡ length bytes.old }
@@ -147,7 +159,7 @@ impl<T, A: Allocator> Chain<T, A> {
         node.payload.swap_with_slice(bytes);
     }
 
-    /// Lets go of the links, which have no node left.
+    // Lets go of a chain that has no node left.
     fn close(self)
         requires { self.1 ≡ [] }
     {
@@ -163,8 +175,8 @@ impl<T, A: Allocator> Chain<T, A> {
 }
 
 impl<T, A: Allocator> Chain<T, A> {
-    /// Links a new node in at the end. The record comes back where there is no memory.
-    pub(crate) fn link(&mut self, item: T, payload: &[u8]) -> Result<(), T>
+    // Links a new node in at the end. The record comes back where there is no memory.
+    fn link(&mut self, item: T, payload: &[u8]) -> Result<(), T>
         requires small { type_size T.row < 2 ^ 62 }
         requires countable { length self.old.1 + 1 < 2 ^ 64 }
         ensures records { self.new.1 ≡ (if is_ok result then self.old.1 ++ (item, payload.now) ∷ [] else self.old.1) }
@@ -199,7 +211,7 @@ impl<T, A: Allocator> Chain<T, A> {
         ensures within { i < length self.old.1 }
         ensures places { self.new.0 ≡ without self.old.0 i }
         ensures records { self.new.1 ≡ without self.old.1 i }
-        ensures item { result.0 ≡ (slice_index_or self.old.1 i (result.0, [])).0 }
+        ensures item { result.0 ≡ item_at self.old.1 i result.0 }
         ensures next { result.1 ≡ nth self.old.0 (i + 1) }
     {
         let (node, room) = self.heap.take(at, i);
@@ -224,7 +236,7 @@ impl<T, A: Allocator> Chain<T, A> {
     pub(crate) fn item_mut(&mut self, at: Place, i: usize) -> &mut T
         requires { nth self.old.0 i ≡ Some at }
         ensures* writes_back { sem 𝓛 (lends_item T.row A.row A.Allocator self.entry i result) }
-        ensures value { result.now ≡ (slice_index_or self.old.1 i (result.now, [])).0 }
+        ensures value { result.now ≡ item_at self.old.1 i result.now }
     {
         let node = self.heap.at_mut(at, i);
         &mut node.item

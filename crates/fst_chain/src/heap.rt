@@ -1,4 +1,7 @@
-// Nodes in blocks of their own, reached by their places.
+//! Nodes in blocks of their own, reached by their places.
+//!
+//! It alone follows a pointer to a node. The nodes stand in a list that only contracts see, and a call names a node by its
+//! place and by its number in that list. Of links it knows nothing.
 ghost use Rattle.std.specs.Prelude.{◌≡◌, ℕ, ◌<◌, List, [], ◌∷◌, ◌++◌, length, slice_index_or};
 ghost use Rattle.std.specs.Borrow.{sem};
 ghost use denote.RawPtr.{Ptr};
@@ -9,13 +12,13 @@ use crate::room::Room;
 use std::alloc::Allocator;
 use std::marker::{Model, PhantomData, Send, Sync};
 
-/// Where a node lies. It owns nothing.
+/// Where a node lies. It owns nothing, and only its heap reads there.
 #[derive(Clone, Copy)]
 pub struct Place {
     ptr: *const u8,
 }
 
-/// The owner of the nodes. It takes no space.
+/// The owner of the nodes. It takes no space, and is no `Drop`, so a node that is left cannot be forgotten.
 pub struct Heap<X, A: Allocator> {
     mark: PhantomData<*mut (X, A)>,
     ghost alloc: { A },
@@ -30,7 +33,7 @@ impl<X, A: Allocator> Model for Heap<X, A> {
     ghost also_shares = { λ h _ κ. nodes_lent X.row h.places h.items κ };
 }
 
-// A place may go to any thread: it owns nothing, and no call follows it but its heap's.
+// A place may go to any thread, since it owns nothing.
 unsafe impl Send for Place {}
 
 unsafe impl Sync for Place {}
@@ -43,6 +46,7 @@ unsafe impl<X: Sync, A: Allocator> Sync for Heap<X, A> {}
 impl<X, A: Allocator> Heap<X, A> {
     ghost use Rattle.fst_chain.specs.HeapLends.{lends_node};
 
+    /// A heap with no node, whose nodes will be this allocator's.
     pub fn new(alloc: &A) -> Heap<X, A>
         ensures alloc { result.alloc ≡ alloc.now }
         ensures places { result.places ≡ [] }
@@ -60,6 +64,7 @@ impl<X, A: Allocator> Heap<X, A> {
         let Heap { mark: _ } = self;
     }
 
+    /// The i-th node, which lies at the place.
     pub fn at(&self, at: Place, i: usize) -> &X
         requires { (i < length self.now.items) × (i < length self.now.places) × (at.ptr ≡ place_at self.now.places i) }
         ensures { result.now ≡ slice_index_or self.now.items i result.now }
@@ -68,6 +73,7 @@ impl<X, A: Allocator> Heap<X, A> {
         unsafe { &*node }
     }
 
+    /// The i-th node, which lies at the place, to be changed.
     pub fn at_mut(&mut self, at: Place, i: usize) -> &mut X
         requires { (i < length self.old.items) × (at.ptr ≡ place_at self.old.places i) }
         ensures* writes_back { sem 𝓛 (lends_node X.row A.row A.Allocator self.entry i result) }
@@ -79,6 +85,7 @@ impl<X, A: Allocator> Heap<X, A> {
 }
 
 impl<X, A: Allocator> Heap<X, A> {
+    /// Writes a node into its room, and adds it at the end of the list.
     pub fn put(&mut self, room: Room<X, A>, node: X) -> Place
         requires { room.alloc ≡ self.old.alloc }
         ensures alloc { self.new.alloc ≡ self.old.alloc }
@@ -93,6 +100,7 @@ impl<X, A: Allocator> Heap<X, A> {
         Place { ptr }
     }
 
+    /// Takes the i-th node, which lies at the place, out of the list, and hands back its room.
     pub fn take(&mut self, at: Place, i: usize) -> (X, Room<X, A>)
         requires { (i < length self.old.items) × (at.ptr ≡ place_at self.old.places i) }
         ensures alloc { (self.new.alloc ≡ self.old.alloc) × (result.1.alloc ≡ self.old.alloc) }

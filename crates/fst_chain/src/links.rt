@@ -1,6 +1,6 @@
-// The links round a node that was taken out: its two neighbours, or an end of the chain, are told of one another.
-//
-// They stand apart from `Chain`, since its nodes are no chain while one neighbour still names the node that is gone.
+//! The links round a node that was taken out: its two neighbours, or an end of the chain, are told of one another.
+//!
+//! They stand apart from `Chain`, since its nodes are no chain while one neighbour still names the node that is gone.
 ghost use Rattle.std.specs.Prelude.{◌≡◌, ◌<◌, ◌≤◌, ◌-◌, length, IfSome, MatchOption};
 ghost use Rattle.fst_chain.specs.Held.{place_at};
 ghost use Rattle.fst_chain.specs.Chained.{NextSet, PrevSet};

@@ -1,6 +1,6 @@
-// A node: its links, its record and its payload. Its bytes lie in its own block, so a node takes one allocation.
-//
-// It holds no pointer of its own: a link is a `Place`, which owns nothing, and the payload is a `Vec` that lies in the block.
+//! A node: its links, its record and its payload. Its bytes lie in its own block, so a node takes one allocation.
+//!
+//! It holds no pointer of its own: a link is a `Place`, which owns nothing, and the payload is a `Vec` that lies in the block.
 ghost use Rattle.std.specs.Prelude.{◌≡◌, ℕ, ◌^◌, ◌<◌, ◌≤◌, [], length, IfSome};
 ghost use Rattle.core.specs.Mem.{type_size};
 ghost use Rattle.std_alloc.specs.Vec.{vec_len, vec_ptr, vec_capacity};
@@ -52,9 +52,7 @@ fn fill(bytes: &mut Vec<u8, Lodged>, payload: &[u8])
     ensures items { bytes.new.items ≡ payload.now }
     ensures in_place { (vec_ptr bytes.new ≡ vec_ptr bytes.old) × (vec_capacity bytes.new ≡ vec_capacity bytes.old) }
 {
-    let mut i = 0;
-    while i < payload.len() {
-        bytes.insert_reserved(i, payload[i]);
-        i += 1;
+    for byte in payload {
+        bytes.push_reserved(*byte);
     }
 }

@@ -1,6 +1,6 @@
-// A block in use: the header's place is empty, and the bytes behind it are held as a `Vec`.
-//
-// It follows a raw pointer, since the header's place and the bytes' are parts of one block.
+//! A block whose bytes are held as a `Vec` that lies there, and whose header's place is still or again empty.
+//!
+//! It holds a raw pointer, since the header's place and the bytes' are parts of one block.
 ghost use Rattle.std.specs.Prelude.{◌≡◌, ℕ};
 ghost use Rattle.std_alloc.specs.Vec.{vec_ptr, vec_capacity};
 ghost use denote.RawPtr.{Ptr};

@@ -1,9 +1,6 @@
-use Rattle.std.proofs.Common.{length, ◌-◌, ◌≡◌, ◌≤◌, take}
+use Rattle.std.proofs.Common.{◌≡◌, take}
 use Rattle.std_alloc.specs.Vec.{vec_len, vec_ptr, vec_capacity}
 use Rattle.fst_chain.proofs.node.fill.Given as goal
 
-abbrev pub invariant-loop-i : goal.invariant-loop-i
-invariant-loop-i l = (l.i ≤ length l.payload) × (l.payload ≡ l.fn.payload) × (vec_len l.bytes ≡ l.i) × (l.bytes.items ≡ take l.i l.payload) × (vec_ptr l.bytes ≡ vec_ptr l.fn.bytes) × (vec_capacity l.bytes ≡ vec_capacity l.fn.bytes)
-
-abbrev pub decreases-loop-i : goal.decreases-loop-i
-decreases-loop-i l = length l.payload - l.i
+abbrev pub invariant-loop-byte : goal.invariant-loop-byte
+invariant-loop-byte l = (vec_len l.bytes ≡ l.byte-index) × (l.bytes.items ≡ take l.byte-index l.payload) × (vec_ptr l.bytes ≡ vec_ptr l.fn.bytes) × (vec_capacity l.bytes ≡ vec_capacity l.fn.bytes)
