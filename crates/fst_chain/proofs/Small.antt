@@ -1,10 +1,10 @@
 -- A node of a small record is small.
-use Rattle.std.proofs.Common.{ℕ, suc, ◌+◌, ◌-◌, ◌%◌, ◌^◌, ◌<◌, ◌≤◌, sym, subst, arith}
+use Rattle.std.proofs.Common.{ℕ, ◌+◌, ◌-◌, ◌%◌, ◌^◌, ◌<◌, ◌≤◌, sym, subst, arith}
 use native.Mathlib.Nat.{mod-lt}
 use Prim.Native.Nat.{max}
 use mir.Syntax.{Ty, Width, w8, w16, w32, w64, w128}
 use mir.Val.{bytes}
-use prog.Memory.{align, up, pad}
+use prog.Memory.{align, up}
 use prog.Align.{align_pos, align-bytes, align_w}
 
 up_lt : (k e : ℕ) → 0 < k → up k e < e + k

@@ -1,5 +1,5 @@
 -- What a heap of nodes owns: each node lies in a block of its own.
-use Rattle.std.specs.Prelude.{ℕ, zero, suc, List, [], ◌∷◌, slice_index_or}
+use Rattle.std.specs.Prelude.{ℕ, List, [], ◌∷◌, slice_index_or}
 use mir.Syntax.{Ty}
 use base.Fml.{Lft, Fml, ftrue, ffalse, fsep}
 use denote.RattleType.{RattleType}

@@ -1,4 +1,4 @@
-use Rattle.std.proofs.Common.{rules, ◌<◌, ◌^◌, length, refl, ◌∙◌, arith}
+use Rattle.std.proofs.Common.{rules, ◌<◌, ◌^◌, length, ◌∙◌, arith}
 use prog.Capped.{capped_is}
 use Rattle.fst_chain.proofs.Small.{node_small}
 use Rattle.fst_chain.proofs.node.room_for.Goals as goal
