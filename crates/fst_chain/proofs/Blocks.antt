@@ -74,9 +74,6 @@ module _ (R : RattleType) (n : ℕ) {M : Type 1} {𝓤 : Ura M} (𝓛 : Logic �
       rewrite ! 0 (λ (k : ℕ). ‵ (froom header b k)) is_0 refl $ rewrite ! 1 (λ (k : ℕ). ‵ (froom (bytes_type n) b k)) is_1 refl $ frame ! $ frame ! $ drop ! $
       by ! rejoins
 
-  pub block_glue : ent 𝓤 (sep 𝓤 (sem 𝓛 Parts) (sem 𝓛 (fwand Parts (froom (node_type R n) b o)))) (H.room (node_type R n) b o)
-  block_glue = apply∗ 𝓤 (sem 𝓛 Parts) (H.room (node_type R n) b o)
-
 module _ {M : Type 1} {𝓤 : Ura M} (𝓛 : Logic 𝓤) (b o : ℕ) where
   open 𝓛 use {H}
 
