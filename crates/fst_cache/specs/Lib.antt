@@ -1,0 +1,4 @@
+pub mod Heads
+pub mod Seats
+pub mod Views
+pub mod Replies

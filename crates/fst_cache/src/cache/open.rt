@@ -1,0 +1,111 @@
+//! Opening a cache over its slots.
+
+ghost use Rattle.std.specs.Prelude.{◌≡◌, ◌⊎◌, ◌≤◌, ◌↔◌, IsTrue, IfOk, IfErr, MatchOption, Some, None, false, [], length, map, vec_len, vec_capacity};
+ghost use Rattle.fst_types.specs.declared.fault.Fault.{Fault};
+ghost use Rattle.fst_types.specs.Order.{IsMisplaced, IsMissized, open_order};
+ghost use Rattle.fst_types.specs.Refusals.{IsFirst, NoneHolds};
+ghost use Rattle.fst_types.specs.Opening.{opening};
+ghost use Rattle.fst_cache.specs.Seats.{seat_of, seats_of};
+
+use crate::cache::Cache;
+use crate::seat::Seat;
+use crate::share::Share;
+use fst_device::BlockSlot;
+use fst_types::{BlockNo, Fault, Shape};
+use std::alloc::Global;
+
+/// Whether each slot stands at its place.
+fn are_placed<S: BlockSlot>(slots: &[S]) -> bool
+    ensures { IsTrue result ↔ (IsMisplaced (map S.index slots.now) → ⊥) }
+{
+    for (at, slot) in slots.iter().enumerate() {
+        if slot.index().0 as usize != at {
+            return false;
+        }
+    }
+    true
+}
+
+/// Whether each slot has the size.
+fn are_sized<S: BlockSlot>(slots: &[S], size: u32) -> bool
+    ensures { IsTrue result ↔ (IsMissized size (map S.size slots.now) → ⊥) }
+{
+    for slot in slots {
+        if slot.size() != size {
+            return false;
+        }
+    }
+    true
+}
+
+/// Why no cache is opened over the slots.
+fn open_fault<S: BlockSlot>(shape: Shape, slots: &[S]) -> Option<Fault>
+    ensures { MatchOption result
+        (NoneHolds (open_order shape.blocks shape.size (map S.index slots.now) (map S.size slots.now)))
+        (λ fault. IsFirst (open_order shape.blocks shape.size (map S.index slots.now) (map S.size slots.now)) fault) }
+{
+    if slots.len() != shape.blocks as usize || !are_placed(slots) {
+        return Some(Fault::NoBlock);
+    }
+    if !are_sized(slots, shape.size) {
+        return Some(Fault::BadSpan);
+    }
+    None
+}
+
+/// The seats of these slots.
+fn seated<S: BlockSlot>(slots: Vec<S>, mut seats: Vec<Seat<S>>) -> Vec<Seat<S>>
+    requires empty { seats.items ≡ [] }
+    requires none { vec_len seats ≡ 0 }
+    requires room { vec_len slots ≤ vec_capacity seats }
+    ensures { result.items ≡ seats_of S.held S.index S.faults slots.items }
+{
+    for slot in slots {
+        let block = slot.index();
+        seats.push_reserved(Seat::new(block, slot));
+    }
+    seats
+}
+
+impl<S: BlockSlot> Cache<S> {
+    /// A cache of these slots, in which nothing was made. It reads no slot.
+    ///
+    /// The slots come back with `NoBlock` where they are not one for each block, each at its place, with `BadSpan`
+    /// where one has another size, and with `Memory` where a place for each could not be had.
+    pub fn open(alloc: Global, shape: Shape, slots: Vec<S>) -> Result<Cache<S>, (Vec<S>, Fault)>
+        requires { shape.resident ≡ shape.blocks }
+        ensures opened { IfOk result (λ cache. cache ≡ record {
+          state = opening shape.size shape.resident 0 0 (map S.held slots.items);
+          faults = map S.faults slots.items;
+          resident = map (λ slot. false) slots.items;
+          back = map (λ slot. None) slots.items;
+        }) }
+        ensures fits { IfOk result (λ cache. NoneHolds (open_order shape.blocks shape.size (map S.index slots.items) (map S.size slots.items))) }
+        ensures back { IfErr result (λ e. e.0.items ≡ slots.items) }
+        ensures refused { IfErr result (λ e.
+            IsFirst (open_order shape.blocks shape.size (map S.index slots.items) (map S.size slots.items)) e.1
+            ⊎ (NoneHolds (open_order shape.blocks shape.size (map S.index slots.items) (map S.size slots.items)) × (e.1 ≡ Fault.Memory))) }
+    {
+        if let Some(fault) = open_fault(shape, &slots) {
+            return Err((slots, fault));
+        }
+        let Ok(seats) = Vec::with_capacity(alloc, slots.len()) else {
+            return Err((slots, Fault::Memory));
+        };
+        Ok(Cache {
+            size: shape.size,
+            tickets: 0,
+            heads: Vec::new(alloc),
+            marks: Vec::new(alloc),
+            seats: seated(slots, seats),
+        })
+    }
+
+    /// A count of one thread's patches, from 0. It takes no memory.
+    pub fn share(&mut self) -> Share
+        ensures share { result ≡ 0 }
+        ensures same { self.new ≡ self.old }
+    {
+        Share::new()
+    }
+}
