@@ -17,7 +17,6 @@ pub mod Loading
 pub mod Making
 pub mod Opening
 pub mod Issued
-pub mod Flown
 pub mod Choosing
 pub mod Sending
 pub mod Slots

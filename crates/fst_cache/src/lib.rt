@@ -14,3 +14,6 @@ mod share;
 pub use cache::Cache;
 pub use flight::Flight;
 pub use share::Share;
+
+#[cfg(test)]
+mod tests;

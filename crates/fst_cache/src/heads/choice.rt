@@ -68,7 +68,7 @@ pub(crate) fn any_ready(heads: &[Head], block: BlockNo, marks: &[bool]) -> bool
     false
 }
 
-/// The writable set of the block, in order of number.
+/// The writable set of the block, in order of number. It takes memory for the list, and fails only where that is refused.
 pub(crate) fn chosen(
     alloc: Global,
     heads: &[Head],

@@ -30,7 +30,8 @@ fn is_needed(head: &Head, block: BlockNo, at: u32, len: u32, after: &[PatchNo]) 
     head.is_live() && (is_named(after, head.number()) || head.overlaps(block, at, len))
 }
 
-/// The numbers of the live patches that are named, and of the live changes that the new one overlaps.
+/// The numbers of the live patches that are named, and of the live changes that the new one overlaps, in rising order.
+/// It takes memory for the list, and fails only where that is refused.
 pub(crate) fn dependencies(
     alloc: Global,
     heads: &[Head],

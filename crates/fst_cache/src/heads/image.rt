@@ -23,7 +23,8 @@ fn write_each(heads: &[Head], bytes: &mut [u8], chosen: &[PatchNo])
     }
 }
 
-/// The base with the chosen changes over it, in order of number.
+/// The base with the chosen changes over it, in order of number. It takes memory for the bytes, and fails only where
+/// that is refused.
 pub(crate) fn image(
     alloc: Global,
     heads: &[Head],

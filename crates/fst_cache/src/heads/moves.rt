@@ -7,6 +7,7 @@ ghost use Rattle.fst_cache.specs.Heads.{AreChanges, AreGiven, numbers_of, patche
 use crate::head::Head;
 use fst_types::{BlockNo, PatchNo, Place};
 
+/// Over the slice, so that the loop is proved apart from the vector.
 fn launch_each(heads: &mut [Head], chosen: &[PatchNo])
     requires changes { AreChanges heads.old }
     requires given { AreGiven (length heads.old) (numbers_of chosen.now) }
@@ -26,7 +27,7 @@ fn land_each(heads: &mut [Head], block: BlockNo)
     }
 }
 
-/// The chosen changes go into flight.
+/// The chosen changes go into flight. It takes no memory.
 pub(crate) fn launch(heads: &mut Vec<Head>, chosen: &[PatchNo])
     requires changes { AreChanges heads.old.items }
     requires given { AreGiven (length heads.old.items) (numbers_of chosen.now) }
@@ -35,14 +36,14 @@ pub(crate) fn launch(heads: &mut Vec<Head>, chosen: &[PatchNo])
     launch_each(heads, chosen);
 }
 
-/// What was in flight of the block is on disk.
+/// What was in flight of the block is on disk. It takes no memory.
 pub(crate) fn land(heads: &mut Vec<Head>, block: BlockNo)
     ensures { heads.new.items ≡ map (landed_head block.0) heads.old.items }
 {
     land_each(heads, block);
 }
 
-/// The place of a patch, or none where its number was not given.
+/// The place of a patch, or none where its number was not given. It takes no memory.
 pub(crate) fn place(heads: &[Head], number: PatchNo) -> Option<Place>
     requires { AreChanges heads.now }
     ensures { result ≡ place_of (patches heads.now) (length heads.now) number.0 }
@@ -50,8 +51,6 @@ pub(crate) fn place(heads: &[Head], number: PatchNo) -> Option<Place>
     if number.0 == 0 {
         return None;
     }
-    match heads.get(number.0 as usize - 1) {
-        Some(head) => Some(head.place()),
-        None => None,
-    }
+    let head = heads.get(number.0 as usize - 1)?;
+    Some(head.place())
 }
