@@ -163,3 +163,27 @@ fn a_failed_read_is_told_once(rt: HostRuntime) -> Result<(), Fail> {
     }
     Ok(())
 }
+
+// The guide's example: data that comes after a journal waits until the journal is on disk.
+#[test]
+fn journal_before_data(rt: HostRuntime) -> Result<(), Fail> {
+    let mut cache = zeros(rt.alloc())?;
+    let mut share = cache.share();
+    let made = cache.patch(rt.alloc(), &mut share, BlockNo(0), 0, b"J", &[]);
+    let Ok((journal, _)) = made else {
+        return Err("the journal")?;
+    };
+    let made = cache.patch(rt.alloc(), &mut share, BlockNo(1), 0, b"D", &[journal]);
+    assert!(rt; made.is_ok());
+    match cache.issue(rt.alloc(), BlockNo(1)) {
+        Ok(_) => return Err("the data went first")?,
+        Err(fault) => assert_eq!(rt; fault, Fault::NothingReady),
+    }
+    let Ok(job) = cache.issue(rt.alloc(), BlockNo(0)) else {
+        return Err("issue")?;
+    };
+    assert!(rt; cache.settle(carry(job)).is_ok());
+    assert_eq!(rt; cache.place(journal), Some(Place::Disk));
+    assert!(rt; cache.issue(rt.alloc(), BlockNo(1)).is_ok());
+    Ok(())
+}
