@@ -14,6 +14,8 @@ use crate::change::Change;
 use fst_types::{Fault, Grade, Noted, PatchNo, Span};
 use std::alloc::Global;
 use std::process::Abort;
+use std::rt::Clock;
+use std::time::Instant;
 
 // Whether the number is among the chosen.
 fn is_named(chosen: &[PatchNo], no: PatchNo) -> bool
@@ -372,4 +374,73 @@ fn random_blocks_against_a_plain_fold(rt: HostRuntime) {
             base = fold;
         }
     }
+}
+
+// Makes the image so many times.
+fn make_images(rt: &impl Abort, block: &mut Block, chosen: &[PatchNo], times: u32)
+    requires { IsChoice block.old.patches chosen.now }
+    ensures { block.new ≡ block.old }
+{
+    for _ in 0..times {
+        let image = block.image(chosen).expect(rt, "memory");
+        drop(image);
+    }
+}
+
+// Folds the base with the chosen patches so many times.
+fn make_folds(
+    rt: &impl Abort,
+    alloc: Global,
+    base: &[u8],
+    changes: &[Change],
+    chosen: &[PatchNo],
+    times: u32,
+) {
+    for _ in 0..times {
+        let mut image = Vec::from_slice(alloc, base).expect(rt, "memory");
+        let mut met = 0;
+        for change in changes {
+            if met < chosen.len() && chosen[met] == change.no {
+                met += 1;
+                let at = change.span.at as usize;
+                if at + 32 <= image.len() {
+                    image[at..at + 32].copy_from_slice(&[(change.no.0 % 251) as u8; 32]);
+                }
+            }
+        }
+        drop(image);
+    }
+}
+
+// Prints what an image of a block of 4,096 bytes takes, beside a plain fold of the same patches: `count` soft ones of 32
+// bytes, of which every second is chosen. The chosen lie in one half of the block, the others in the other.
+fn measure(rt: &(impl Abort + Clock + Print), alloc: Global, count: u32) {
+    let mut twin = Twin::load(rt, alloc, 4096, 0);
+    let mut chosen = Vec::new(alloc);
+    for no in 1..=count {
+        let is_in = no % 2 == 0;
+        let spread = (no.wrapping_mul(2_654_435_769) >> 8) % 2016;
+        let at = if is_in { spread } else { spread + 2048 };
+        twin.apply(rt, no, at, &[(no % 251) as u8; 32], Grade::Soft);
+        if is_in {
+            let kept = chosen.push(PatchNo(no));
+            assert!(rt; kept.is_ok());
+        }
+    }
+    assert!(rt; is_choice(&twin.changes, &chosen));
+    let base = vec![in alloc; 0u8; 4096].expect(rt, "memory");
+    let start = Instant::now(rt).expect(rt, "clock");
+    make_images(rt, &mut twin.block, &chosen, 1000);
+    let images = start.elapsed(rt).expect(rt, "clock").as_micros();
+    let start = Instant::now(rt).expect(rt, "clock");
+    make_folds(rt, alloc, &base, &twin.changes, &chosen, 1000);
+    let folds = start.elapsed(rt).expect(rt, "clock").as_micros();
+    println!(rt; "{count} patches: an image {images} ns, a fold {folds} ns").expect(rt, "output");
+}
+
+#[test]
+fn image_beside_a_plain_fold(rt: HostRuntime) {
+    measure(&rt, rt.alloc(), 10);
+    measure(&rt, rt.alloc(), 100);
+    measure(&rt, rt.alloc(), 1000);
 }

@@ -1,4 +1,4 @@
-use Rattle.std.proofs.Common.{ℕ, ◌<◌, ◌≤◌, length, get_or, subst, arith, below_more, refl}
+use Rattle.std.proofs.Common.{◌≤◌, length, subst, arith, below_more, refl}
 use Rattle.std.proofs.lemmas.List.{get_or_default}
 use Rattle.fst_types.specs.declared.number.PatchNo.{PatchNo}
 use Rattle.fst_block.specs.Tested.{IsKnown}
