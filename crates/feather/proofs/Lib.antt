@@ -1,0 +1,13 @@
+pub mod CommandLemmas
+pub mod ReadLemmas
+pub mod SendingLemmas
+pub mod StreamLemmas
+pub mod RunLemmas
+pub mod SessionLemmas
+pub mod AnswerLemmas
+pub mod KeptLemmas
+pub mod TellLemmas
+pub mod JobLemmas
+pub mod LeftLemmas
+pub mod ZeroLemmas
+pub mod CrashTold

@@ -1,0 +1,32 @@
+-- What the program's words ask.
+use Rattle.std.specs.Prelude.{◌≡◌, ℕ, ◌<◌, ◌^◌, List, Option, Some, None, unwrap_or, codes}
+use Rattle.std.specs.Str.Parse.{IsNumeral, digits_value, without_leading_plus}
+use Rattle.clap.specs.Words.{Row, Text, one_of, subcommand_of}
+use Rattle.feather.specs.Program.{program}
+use Rattle.feather.specs.declared.arguments.Run.{Run}
+use Rattle.feather.specs.declared.arguments.Run.TheVariants.{Play}
+
+-- the text is a number of 32 bits
+abbrev pub IsNumber : Text → Type 0
+IsNumber t = IsNumeral 10 (without_leading_plus t) × (digits_value 10 (without_leading_plus t) < 2 ^ 32)
+
+-- the number of a text, if there is one
+abbrev pub IsRead : Option Text → Option ℕ → Type 0
+IsRead None r = r ≡ None
+IsRead (Some t) (Some n) = IsNumber t × (n ≡ digits_value 10 (without_leading_plus t))
+IsRead (Some t) None = IsNumber t → ⊥
+
+-- the option has this number, or the default where it is not given
+abbrev pub Has : Text → ℕ → List Row → ℕ → Type 0
+Has id default rows n = (o : Option ℕ) × IsRead (one_of id rows) o × (n ≡ unwrap_or o default)
+
+abbrev pub AsksIn : List Row → Run → Type 0
+AsksIn rows (Play blocks size) = Has (codes "blocks") 4 rows blocks × Has (codes "size") 4 rows size
+
+-- no subcommand is `play` with nothing said
+abbrev pub AsksAt : Option (Text × List Row) → Run → Type 0
+AsksAt None (Play blocks size) = (blocks ≡ 4) × (size ≡ 4)
+AsksAt (Some p) run = AsksIn p.1 run
+
+abbrev pub Asks : List Text → Run → Type 0
+Asks words run = AsksAt (subcommand_of program words) run

@@ -1,0 +1,16 @@
+pub mod Commands
+pub mod Parsing
+pub mod Program
+pub mod Arguments
+pub mod Stream
+pub mod Sending
+pub mod Pieces
+pub mod Replies
+pub mod Script
+pub mod Lines
+pub mod Answering
+pub mod Kept
+pub mod Zeros
+pub mod Session
+pub mod Play
+pub mod Law

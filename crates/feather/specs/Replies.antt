@@ -1,0 +1,60 @@
+-- The text of each reply, without the end of its line.
+use Rattle.std.specs.Prelude.{ℕ, List, [], ◌∷◌, ◌++◌, decimal, codes}
+use Rattle.std.specs.List.{flat_map}
+use Rattle.hex.specs.Hex.{encode_lower}
+use Rattle.fst_types.specs.declared.grade.Grade.{Grade}
+use Rattle.fst_types.specs.declared.grade.Grade.TheVariants as grade
+use Rattle.fst_types.specs.declared.fault.What.{What}
+use Rattle.fst_types.specs.declared.fault.What.TheVariants as what
+use Rattle.fst_types.specs.declared.fault.Fault.{Fault}
+use Rattle.fst_types.specs.declared.fault.Fault.TheVariants as fault
+use Rattle.fst_types.specs.FaultNumbers.{number_of}
+use Rattle.feather.specs.Pieces.{commas}
+
+abbrev pub what_name : What → List ℕ
+what_name what.Heads = codes "heads"
+what_name what.Numbers = codes "numbers"
+what_name what.Tickets = codes "tickets"
+what_name what.Flights = codes "flights"
+what_name what.Resident = codes "resident"
+
+-- the patch that is held, or the thing that is full
+abbrev pub refusal_detail : Fault → List ℕ
+refusal_detail (fault.HardHeld p) = codes " held " ++ decimal p.0
+refusal_detail (fault.Full what) = codes " " ++ what_name what
+refusal_detail _ = []
+
+abbrev pub refusal : Fault → List ℕ
+refusal f = codes "refused " ++ decimal (number_of f) ++ refusal_detail f
+
+abbrev pub grade_name : Grade → List ℕ
+grade_name grade.Hard = codes "hard"
+grade_name grade.Soft = codes "soft"
+
+abbrev pub patch_text : ℕ → Grade → List ℕ
+patch_text number grade = codes "patch " ++ decimal number ++ codes " " ++ grade_name grade
+
+abbrev pub chosen_text : ℕ → List ℕ → List ℕ
+chosen_text block [] = codes "chosen " ++ decimal block ++ codes " none"
+chosen_text block (p ∷ ps) = codes "chosen " ++ decimal block ++ codes " patches " ++ commas (p ∷ ps)
+
+abbrev pub flight_text : (ticket block : ℕ) (patches image : List ℕ) → List ℕ
+flight_text ticket block patches image =
+    codes "flight " ++ decimal ticket ++ codes " block " ++ decimal block ++ codes " patches " ++ commas patches ++ codes " image " ++ encode_lower image
+
+abbrev pub done_text : (ticket block : ℕ) → List ℕ
+done_text ticket block = codes "done " ++ decimal ticket ++ codes " block " ++ decimal block
+
+abbrev pub stalled_text : (ticket block : ℕ) → List ℕ
+stalled_text ticket block = codes "stalled " ++ decimal ticket ++ codes " block " ++ decimal block
+
+abbrev pub show_text : (block : ℕ) (bytes : List ℕ) → List ℕ
+show_text block bytes = codes "show " ++ decimal block ++ codes " " ++ encode_lower bytes
+
+-- the bytes of a block in a crash's reply
+abbrev pub crash_part : List ℕ → List ℕ
+crash_part bytes = 32 ∷ encode_lower bytes
+
+-- the bytes of each block, in order of blocks
+abbrev pub crash_text : List (List ℕ) → List ℕ
+crash_text blocks = codes "crash" ++ flat_map crash_part blocks

@@ -1,0 +1,9 @@
+//! A line as far as it was kept.
+
+/// The line so far: its bytes, or that it is too long, or that memory for it was refused.
+#[derive(Drop)]
+pub enum Line {
+    Kept(Vec<u8>),
+    Long,
+    Refused,
+}

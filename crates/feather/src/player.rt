@@ -1,0 +1,94 @@
+//! The player of a script: a cache over disks in memory, the jobs that it keeps until `done` names them, and the
+//! changes that were accepted, from which a crash's bytes are folded anew.
+
+mod crash;
+mod done;
+mod open;
+mod patch;
+mod show;
+mod write;
+
+ghost use Rattle.std.specs.Prelude.{◌≡◌, List, ℕ, ◌++◌, ◌∷◌, []};
+ghost use Rattle.feather.specs.Parsing.{command};
+ghost use Rattle.feather.specs.Answering.{Answered, Obeyed};
+
+use crate::accepted::Accepted;
+use crate::command::{Command, parse};
+use crate::line::Line;
+use crate::output::Stopped;
+use crate::reply::send_refusal;
+use fst_cache::{Cache, Share};
+use fst_device::{Job, MemorySlot};
+use fst_types::{Fault, Shape};
+use std::alloc::Global;
+use std::io::Write;
+use std::marker::Model;
+
+/// A player.
+#[derive(Drop)]
+pub struct Player {
+    shape: Shape,
+    cache: Cache<MemorySlot>,
+    share: Share,
+    jobs: Vec<Job<MemorySlot>>,
+    made: Vec<Accepted>,
+}
+
+impl Model for Player {
+    ghost use Rattle.feather.specs.Script.{PlayerState};
+    ghost use Rattle.feather.specs.Kept.{jobs_kept, changes_made, IsKept};
+
+    ghost Value = { PlayerState };
+
+    ghost view = { λ p. record { cache = p.cache.state; jobs = jobs_kept p.jobs.items; made = changes_made p.made.items } };
+
+    ghost invariant = { λ p. IsKept p.shape p.share p.cache.state p.jobs.items p.made.items };
+}
+
+impl Player {
+    fn obey<W: Write>(
+        &mut self,
+        alloc: Global,
+        writer: &mut W,
+        calls: &mut u64,
+        asked: Command,
+    ) -> Result<(), Stopped>
+        ensures { Obeyed self.old (command asked) (W.contents writer.old) (W.contents writer.new)
+            result self.new }
+    {
+        match asked {
+            Command::Patch {
+                block,
+                at,
+                data,
+                after,
+            } => self.patch(alloc, writer, calls, block, at, data, &after),
+            Command::Choose { block } => self.choose(alloc, writer, calls, block),
+            Command::Write { block } => self.write(alloc, writer, calls, block),
+            Command::Done { ticket, fail } => self.done(writer, calls, ticket, fail),
+            Command::Retry { block } => self.retry(writer, calls, block),
+            Command::Show { block } => self.show(alloc, writer, calls, block),
+            Command::Crash { finish } => self.crash(writer, calls, &finish),
+        }
+    }
+
+    /// Does what a line asks and sends the reply. A line that is refused changes nothing.
+    pub fn answer<W: Write>(
+        &mut self,
+        alloc: Global,
+        writer: &mut W,
+        calls: &mut u64,
+        line: &Line,
+    ) -> Result<(), Stopped>
+        ensures { Answered self.old line.now (W.contents writer.old) (W.contents writer.new) result self.new }
+    {
+        match line {
+            Line::Kept(bytes) => match parse(alloc, bytes.as_slice()) {
+                Ok(command) => self.obey(alloc, writer, calls, command),
+                Err(fault) => send_refusal(writer, calls, fault),
+            },
+            Line::Long => send_refusal(writer, calls, Fault::BadLine),
+            Line::Refused => send_refusal(writer, calls, Fault::Memory),
+        }
+    }
+}

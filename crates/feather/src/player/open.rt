@@ -1,0 +1,50 @@
+//! The start of a play: blocks of zero bytes.
+
+ghost use Rattle.std.specs.Prelude.{◌≡◌, ◌<◌, ◌^◌, MatchResult, IfOk, map, replicate};
+ghost use Rattle.std.specs.List.{range_with_len};
+ghost use Rattle.fst_types.specs.declared.fault.Fault.{Fault};
+ghost use Rattle.feather.specs.Script.{opened};
+ghost use Rattle.feather.specs.Zeros.{zero_slot};
+
+use crate::player::Player;
+use fst_cache::Cache;
+use fst_device::MemorySlot;
+use fst_types::{BlockNo, Fault, Shape};
+use std::alloc::{AllocError, Global};
+
+// A slot of zero bytes for each block.
+fn zero_slots(alloc: Global, blocks: u32, size: u32) -> Result<Vec<MemorySlot>, AllocError>
+    ensures { IfOk result (λ slots. slots.items ≡ map (zero_slot size) (range_with_len 0 blocks)) }
+{
+    let mut slots = Vec::new(alloc);
+    for block in 0..blocks {
+        let bytes = vec![in alloc; 0u8; size as usize]?;
+        slots.push(MemorySlot::new(BlockNo(block), bytes))?;
+    }
+    Ok(slots)
+}
+
+impl Player {
+    /// A player over zero blocks in memory, all of which the cache may hold at once, or `Memory`.
+    pub fn new(alloc: Global, shape: Shape) -> Result<Player, Fault>
+        requires { shape.resident ≡ shape.blocks }
+        ensures { MatchResult result (λ player. player ≡ opened shape) (λ fault. fault ≡ Fault.Memory) }
+    {
+        let Ok(slots) = zero_slots(alloc, shape.blocks, shape.size) else {
+            return Err(Fault::Memory);
+        };
+        match Cache::open(alloc, shape, slots) {
+            Ok(mut cache) => {
+                let share = cache.share();
+                Ok(Player {
+                    shape,
+                    cache,
+                    share,
+                    jobs: Vec::new(alloc),
+                    made: Vec::new(alloc),
+                })
+            }
+            Err((_, fault)) => Err(fault),
+        }
+    }
+}
