@@ -5,6 +5,7 @@ ghost use Rattle.std.specs.Prelude.{◌≡◌, Some};
 use crate::arguments::{Run, args};
 use crate::play::{PlayFault, play};
 use fst_types::Shape;
+use std::alloc::Global;
 use std::io;
 use std::io::{Read, Write};
 use std::process::Abort;
@@ -76,11 +77,11 @@ fn four_blocks(rt: &impl Abort) -> Shape
 }
 
 // Plays a script over four blocks of four bytes, and compares each reply.
-fn plays_to(rt: &HostRuntime, script: &[u8], replies: &[u8]) {
+fn plays_to(rt: &impl Abort, alloc: Global, script: &[u8], replies: &[u8]) {
     let mut reader = script;
-    let mut writer = Vec::new(rt.alloc());
+    let mut writer = Vec::new(alloc);
     let shape = four_blocks(rt);
-    assert!(rt; play(rt.alloc(), &mut reader, &mut writer, shape).is_ok());
+    assert!(rt; play(alloc, &mut reader, &mut writer, shape).is_ok());
     assert_eq!(rt; writer.as_slice(), replies);
 }
 
@@ -88,6 +89,7 @@ fn plays_to(rt: &HostRuntime, script: &[u8], replies: &[u8]) {
 fn thinnest_path(rt: HostRuntime) {
     plays_to(
         &rt,
+        rt.alloc(),
         b"{\"do\":\"patch\",\"block\":0,\"at\":0,\"data\":\"41\"}\n{\"do\":\"write\",\"block\":0}\n{\"do\":\"done\",\"ticket\":1}\n{\"do\":\"crash\",\"finish\":[]}\n",
         b"patch 1 soft\nflight 1 block 0 patches 1 image 41000000\ndone 1 block 0\ncrash 41000000 00000000 00000000 00000000\n",
     );
@@ -97,6 +99,7 @@ fn thinnest_path(rt: HostRuntime) {
 fn cycle_of_blocks(rt: HostRuntime) {
     plays_to(
         &rt,
+        rt.alloc(),
         b"{\"do\":\"patch\",\"block\":0,\"at\":0,\"data\":\"41\"}\n{\"do\":\"patch\",\"block\":1,\"at\":0,\"data\":\"42\",\"after\":[1]}\n{\"do\":\"patch\",\"block\":0,\"at\":1,\"data\":\"43\",\"after\":[2]}\n{\"do\":\"write\",\"block\":0}\n{\"do\":\"show\",\"block\":0}\n",
         b"patch 1 soft\npatch 2 soft\npatch 3 soft\nflight 1 block 0 patches 1 image 41000000\nshow 0 41430000\n",
     );
@@ -106,6 +109,7 @@ fn cycle_of_blocks(rt: HostRuntime) {
 fn spans_at_the_boundary(rt: HostRuntime) {
     plays_to(
         &rt,
+        rt.alloc(),
         b"{\"do\":\"patch\",\"block\":0,\"at\":3,\"data\":\"41\"}\n{\"do\":\"patch\",\"block\":0,\"at\":3,\"data\":\"4142\"}\n{\"do\":\"patch\",\"block\":0,\"at\":0,\"data\":\"\"}\n{\"do\":\"patch\",\"block\":0,\"at\":0,\"data\":\"51525354\"}\n{\"do\":\"write\",\"block\":0}\n",
         b"patch 1 soft\nrefused 4\nrefused 4\npatch 2 soft\nflight 1 block 0 patches 1,2 image 51525354\n",
     );
@@ -115,6 +119,7 @@ fn spans_at_the_boundary(rt: HostRuntime) {
 fn crash_sets(rt: HostRuntime) {
     plays_to(
         &rt,
+        rt.alloc(),
         b"{\"do\":\"patch\",\"block\":0,\"at\":0,\"data\":\"41\"}\n{\"do\":\"patch\",\"block\":1,\"at\":0,\"data\":\"42\"}\n{\"do\":\"write\",\"block\":0}\n{\"do\":\"write\",\"block\":1}\n{\"do\":\"crash\",\"finish\":[]}\n{\"do\":\"crash\",\"finish\":[0]}\n{\"do\":\"crash\",\"finish\":[0,1]}\n{\"do\":\"crash\",\"finish\":[2]}\n",
         b"patch 1 soft\npatch 2 soft\nflight 1 block 0 patches 1 image 41000000\nflight 2 block 1 patches 2 image 42000000\ncrash 00000000 00000000 00000000 00000000\ncrash 41000000 00000000 00000000 00000000\ncrash 41000000 42000000 00000000 00000000\nrefused 14\n",
     );
@@ -124,6 +129,7 @@ fn crash_sets(rt: HostRuntime) {
 fn failed_write_after_the_bytes(rt: HostRuntime) {
     plays_to(
         &rt,
+        rt.alloc(),
         b"{\"do\":\"patch\",\"block\":0,\"at\":0,\"data\":\"41\"}\n{\"do\":\"write\",\"block\":0}\n{\"do\":\"done\",\"ticket\":1,\"fail\":\"after\"}\n{\"do\":\"crash\",\"finish\":[]}\n{\"do\":\"crash\",\"finish\":[0]}\n{\"do\":\"write\",\"block\":0}\n{\"do\":\"retry\",\"block\":0}\n{\"do\":\"done\",\"ticket\":1}\n{\"do\":\"done\",\"ticket\":2}\n{\"do\":\"retry\",\"block\":0}\n",
         b"patch 1 soft\nflight 1 block 0 patches 1 image 41000000\nstalled 1 block 0\ncrash 00000000 00000000 00000000 00000000\ncrash 41000000 00000000 00000000 00000000\nrefused 9\nflight 2 block 0 patches 1 image 41000000\nrefused 14\ndone 2 block 0\nrefused 13\n",
     );
@@ -133,6 +139,7 @@ fn failed_write_after_the_bytes(rt: HostRuntime) {
 fn busy_block(rt: HostRuntime) {
     plays_to(
         &rt,
+        rt.alloc(),
         b"{\"do\":\"patch\",\"block\":0,\"at\":0,\"data\":\"41\"}\n{\"do\":\"write\",\"block\":0}\n{\"do\":\"write\",\"block\":0}\n{\"do\":\"patch\",\"block\":0,\"at\":0,\"data\":\"51\"}\n{\"do\":\"show\",\"block\":0}\n{\"do\":\"choose\",\"block\":0}\n{\"do\":\"done\",\"ticket\":1}\n{\"do\":\"write\",\"block\":0}\n",
         b"patch 1 soft\nflight 1 block 0 patches 1 image 41000000\nrefused 9\npatch 2 soft\nshow 0 51000000\nchosen 0 none\ndone 1 block 0\nflight 2 block 0 patches 2 image 51000000\n",
     );
@@ -143,6 +150,7 @@ fn busy_block(rt: HostRuntime) {
 fn hostile_lines(rt: HostRuntime) {
     plays_to(
         &rt,
+        rt.alloc(),
         b"{\"do\":\"pat\n{\"do\":\"fly\"}\n{\"do\":\"patch\",\"block\":0,\"at\":0,\"data\":\"4\"}\n{\"do\":\"patch\",\"block\":0,\"at\":0,\"data\":\"41\",\"after\":[1]}\n{\"do\":\"patch\",\"block\":4,\"at\":0,\"data\":\"41\"}\n{\"do\":\"patch\",\"block\":0,\"at\":0,\"data\":\"41\"}\n{\"do\":",
         b"refused 1\nrefused 2\nrefused 2\nrefused 5\nrefused 3\npatch 1 soft\nrefused 1\n",
     );
@@ -153,6 +161,7 @@ fn hostile_lines(rt: HostRuntime) {
 fn every_command(rt: HostRuntime) {
     plays_to(
         &rt,
+        rt.alloc(),
         b"{\"do\":\"patch\",\"block\":0,\"at\":0,\"data\":\"41\"}\n{\"do\":\"choose\",\"block\":0}\n{\"do\":\"write\",\"block\":0}\n{\"do\":\"done\",\"ticket\":1,\"fail\":\"before\"}\n{\"do\":\"retry\",\"block\":0}\n{\"do\":\"done\",\"ticket\":2,\"fail\":\"after\"}\n{\"do\":\"retry\",\"block\":0}\n{\"do\":\"done\",\"ticket\":3,\"fail\":\"read\"}\n{\"do\":\"show\",\"block\":0}\n{\"do\":\"crash\"}\n",
         b"patch 1 soft\nchosen 0 patches 1\nflight 1 block 0 patches 1 image 41000000\nstalled 1 block 0\nflight 2 block 0 patches 1 image 41000000\nstalled 2 block 0\nflight 3 block 0 patches 1 image 41000000\ndone 3 block 0\nshow 0 41000000\ncrash 41000000 00000000 00000000 00000000\n",
     );

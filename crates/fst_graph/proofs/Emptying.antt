@@ -1,0 +1,106 @@
+-- A new empty patch.
+use Rattle.std.proofs.Common.{◌≡◌, ◌≢◌, ◌⊎◌, ℕ, zero, suc, ◌+◌, ◌<◌, ◌≤◌, Bool, true, false, List, [], ◌∷◌, ◌++◌, map, length, Contains, Some, None, refl, sym, ap, subst, ◌∙◌, inl, inr, arith}
+use Rattle.std.proofs.lemmas.List.{length_push}
+use Rattle.std.proofs.lemmas.List.Elements.{Contains-push_cases, Contains-append_left, Contains-push}
+use Rattle.fst_types.specs.declared.place.Place.{Place}
+use Rattle.fst_types.specs.declared.place.Place.TheVariants as place
+use Rattle.fst_types.specs.Limits.{max_heads}
+use Rattle.fst_types.specs.Lists.{Lists}
+use Rattle.fst_types.specs.Patches.{Kind, Patch, IsOn, Empty, block_of_kind}
+use Rattle.fst_types.specs.Dependencies.{IsLiveNumber, IsOnDisk}
+use Rattle.fst_types.specs.Cascade.{Follows, RestsOnDisk, IsCascadeOf, unsettled}
+use Rattle.fst_types.specs.Facts.{HeadsAreLawful}
+use Rattle.fst_types.specs.Making.{fresh, MakesEmpty}
+use Rattle.fst_types.specs.State.{State}
+use Rattle.fst_types.specs.Step.{Row, empty}
+use Rattle.fst_types.specs.Events.{MakeEmpty}
+use Rattle.fst_types.proofs.Heads.{heads_row}
+use Rattle.fst_types.proofs.Cascades.{no_follower_on}
+use Rattle.fst_graph.specs.Known.{rest_place}
+use Rattle.fst_graph.specs.Keeps.{Keeps}
+use Rattle.fst_graph.proofs.Making.{around, ordered_added, keeps_added}
+
+pub map_push : {X Y : Type 0} (f : X → Y) (xs : List X) (y : X) → map f (xs ++ y ∷ []) ≡ map f xs ++ f y ∷ []
+map_push f [] y = refl
+map_push f (x ∷ xs) y = ap (λ zs. f x ∷ zs) (map_push f xs y)
+
+not_flight : (p : Place) → (p ≡ place.Flight → ⊥) → (p ≡ place.Memory) ⊎ (p ≡ place.Disk)
+not_flight place.Memory h = inl refl
+not_flight place.Flight h = absurd (h refl)
+not_flight place.Disk h = inr refl
+
+abbrev pub new_empty : ℕ → List ℕ → Patch
+new_empty numbers deps = record { number = numbers + 1; kind = Empty; place = rest_place deps; dependencies = deps }
+
+rest_cases : (deps : List ℕ) → (rest_place deps ≡ place.Memory) ⊎ (rest_place deps ≡ place.Disk)
+rest_cases [] = inr refl
+rest_cases (x ∷ xs) = inl refl
+
+rest_disk : (deps : List ℕ) → rest_place deps ≡ place.Disk → deps ≡ []
+rest_disk [] e = refl
+rest_disk (x ∷ xs) e = cc
+
+disk_rest : (deps : List ℕ) → ((q : ℕ) → Contains deps q → ⊥) → rest_place deps ≡ place.Disk
+disk_rest [] none = refl
+disk_rest (x ∷ xs) none = absurd (none x (0, omega arith, refl))
+
+module _ (heads : List Patch) (numbers blocks : ℕ) (order : List ℕ) (marks : List Bool) (K : Keeps heads numbers blocks order marks)
+    (after deps : List ℕ) (depends : Lists (λ n. IsLiveNumber heads n × Contains after n) deps) where
+  abbrev p : Patch
+  p = new_empty numbers deps
+
+  abbrev new : List Patch
+  new = heads ++ p ∷ []
+
+  newest : (x : Patch) → Contains new x → Contains heads x ⊎ (p ≡ x)
+  newest x h = Contains-push_cases heads p x h
+
+  named : (q : ℕ) → Contains deps q → q ≤ numbers
+  named q c = let l = (depends.only q c).0 in let k = (K.lawful.one_place_each.numbered l.patch l.head).1 in omega (arith, k, l.numbered)
+
+  disk_back : (q : ℕ) → IsOnDisk new q → IsOnDisk heads q
+  disk_back q d x h e = d x (Contains-append_left heads (p ∷ []) x h) e
+
+  disk_forth : (q : ℕ) → q ≤ numbers → IsOnDisk heads q → IsOnDisk new q
+  disk_forth q le d x h e = elim (newest x h) [ inl o ↦ d x o e | inr s ↦ let k = ap (λ y. y.number) s in absurd (omega (arith, k, e, le)) ]
+
+  follows_on_disk : (x : Patch) → Contains new x → Follows x.kind → x.place ≡ place.Disk → RestsOnDisk new x
+  follows_on_disk x h f d q c = elim (newest x h) [
+    | inl o ↦ disk_forth q (K.lawful.one_place_each.named x q o c) (K.lawful.on_disk_with_all.disk x o d q c)
+    | inr s ↦
+        let none = rest_disk deps (ap (λ y. y.place) s ∙ d) in
+        let there : Contains [] q = subst (λ ds. Contains ds q) (sym (ap (λ y. y.dependencies) s) ∙ none) c in absurd (omega (arith, there.1))
+  ]
+
+  on_disk_follows : (x : Patch) → Contains new x → Follows x.kind → RestsOnDisk new x → x.place ≡ place.Disk
+  on_disk_follows x h f rests = elim (newest x h) [
+    | inl o ↦ K.lawful.on_disk_with_all.follows x o f (λ q c. disk_back q (rests q c))
+    | inr s ↦ sym (ap (λ y. y.place) s) ∙ disk_rest deps (λ q c.
+        let l = (depends.only q c).0 in
+        l.live (disk_back q (rests q (subst (λ y. Contains y.dependencies q) s c)) l.patch l.head l.numbered))
+  ]
+
+  pub empty_cascade : IsCascadeOf (heads ++ fresh (numbers + 1) Empty deps ∷ []) new
+  empty_cascade = record {
+    same = map_push unsettled heads p ∙ sym (map_push unsettled heads (fresh (numbers + 1) Empty deps));
+    places = λ x h f. elim (newest x h) [
+      | inl o ↦ not_flight x.place (λ e. let c = K.lawful.on_disk_with_all.only_changes_fly x o e in no_follower_on x.kind c.0 c.1 f)
+      | inr s ↦ subst (λ y. (y.place ≡ place.Memory) ⊎ (y.place ≡ place.Disk)) s (rest_cases deps)
+    ];
+    settled = λ x h f. (follows_on_disk x h f, on_disk_follows x h f);
+  }
+
+  empty_lawful : HeadsAreLawful new (numbers + 1)
+  empty_lawful =
+      let old = around heads numbers in
+      let after_state : State = record old { numbers = numbers + 1; made = 1; heads = new } in
+      heads_row old after_state (MakeEmpty 0 after) _ (empty (record { next = refl; dependencies = deps; depends = depends; heads = new; cascade = empty_cascade; state = refl })) K.lawful
+
+  none_on : (b : ℕ) → IsOn p b → ⊥
+  none_on b on = cc
+
+  pub keeps_empty : length heads < max_heads → Keeps new (numbers + 1) blocks (order ++ (numbers + 1) ∷ []) (marks ++ false ∷ [])
+  keeps_empty few =
+      keeps_added heads numbers blocks order marks K p refl named new empty_lawful (ordered_added heads numbers blocks order marks K p refl named) (length_push heads p)
+      (λ x b h on. elim (newest x h) [ inl o ↦ K.inside x b o on | inr e ↦ absurd (none_on b (subst (λ y. IsOn y b) (sym e) on)) ])
+      few

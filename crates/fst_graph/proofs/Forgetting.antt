@@ -1,0 +1,152 @@
+-- What forgetting leaves of what the fields keep.
+use Rattle.std.proofs.Common.{◌≡◌, ◌⊎◌, ℕ, zero, suc, ◌+◌, ◌-◌, ◌<◌, ◌≤◌, ◌==◌, ◌&&◌, Bool, true, false, not, cond, List, [], ◌∷◌, length, map, take, filter, count_by, Contains, refl, sym, ap, subst, ◌∙◌, inl, inr, arith}
+use Rattle.std.specs.List.{list_any, items_where_true}
+use Rattle.std.specs.List.Retain.{IsFiltered, ReturnsInTurn}
+use Rattle.std.proofs.lemmas.Bool.{cases_Bool, eqb-true, eq-eqb, false≢true}
+use Rattle.std.proofs.lemmas.List.Sums.{length-filter}
+use Rattle.fst_types.specs.declared.place.Place.{Place}
+use Rattle.fst_types.specs.declared.place.Place.TheVariants as place
+use Rattle.fst_types.specs.Patches.{Patch, IsOn}
+use Rattle.fst_types.specs.Dependencies.{DirectlyOn, IsLiveNumber}
+use Rattle.fst_types.specs.Tests.{is_at, is_live}
+use Rattle.fst_types.proofs.Finite.{In, In-from_Contains, Contains-from_In}
+use Rattle.fst_types.proofs.Dropping.{filter_in, in_filter, heads_dropped}
+use Rattle.fst_graph.specs.declared.head.Head.{Head}
+use Rattle.fst_graph.specs.Heads.{patch_of, patches_of}
+use Rattle.fst_graph.specs.Tests.{is_live_place}
+use Rattle.fst_graph.specs.Ordered.{IsClosedBelow, IsOrdered, is_live_in}
+use Rattle.fst_graph.specs.Keeps.{Keeps}
+
+place_same : (p : Place) → is_live_place p ≡ not (is_at p place.Disk)
+place_same place.Memory = refl
+place_same place.Flight = refl
+place_same place.Disk = refl
+
+-- the live heads stand for the live patches
+pub live_heads : (heads : List Head) → patches_of (filter (λ h. is_live_place h.place) heads) ≡ filter is_live (patches_of heads)
+live_heads [] = refl
+live_heads (h ∷ hs) = elim (cases_Bool (is_live_place h.place)) [
+  | inl e ↦ let f = sym (place_same h.place) ∙ e in let r = live_heads hs in rw (e, f, r) refl
+  | inr e ↦ let f = sym (place_same h.place) ∙ e in let r = live_heads hs in rw (e, f, r) refl
+]
+
+live_place_of : (p : Place) → (p ≡ place.Disk → ⊥) → not (is_at p place.Disk) ≡ true
+live_place_of place.Memory n = refl
+live_place_of place.Flight n = refl
+live_place_of place.Disk n = absurd (n refl)
+
+not_disk : (p : Place) → not (is_at p place.Disk) ≡ true → p ≡ place.Disk → ⊥
+not_disk place.Memory e d = cc
+not_disk place.Flight e d = cc
+not_disk place.Disk e d = cc
+
+and_parts : (a b : Bool) → (a && b) ≡ true → (a ≡ true) × (b ≡ true)
+and_parts true b e = (refl, e)
+and_parts false b e = absurd (false≢true e)
+
+pub live_in : (heads : List Patch) (n : ℕ) → is_live_in heads n ≡ true → IsLiveNumber heads n
+live_in [] n e = absurd (false≢true e)
+live_in (p ∷ ps) n e = elim (cases_Bool (is_live p && (p.number == n))) [
+  | inl t ↦ let k = and_parts (is_live p) (p.number == n) t in record { patch = p; head = (0, omega arith, refl); numbered = eqb-true p.number n k.1; live = not_disk p.place k.0 }
+  | inr f ↦
+      let r = live_in ps n (rw f at e) in
+      record { patch = r.patch; head = Contains-from_In (p ∷ ps) r.patch (inr (In-from_Contains ps r.patch r.head)); numbered = r.numbered; live = r.live }
+]
+
+pub in_live : (heads : List Patch) (n : ℕ) → IsLiveNumber heads n → is_live_in heads n ≡ true
+in_live heads n l = go heads (In-from_Contains heads l.patch l.head)
+  where
+    yes_p : (is_live l.patch && (l.patch.number == n)) ≡ true
+    yes_p = rw (live_place_of l.patch.place l.live, eq-eqb l.patch.number n l.numbered) refl
+
+    go : (ps : List Patch) → In ps l.patch → is_live_in ps n ≡ true
+    go [] i = absurd i
+    go (p ∷ ps) (inl e) = rw (subst (λ q. (is_live q && (q.number == n)) ≡ true) (sym e) yes_p) refl
+    go (p ∷ ps) (inr i) = elim (cases_Bool (is_live p && (p.number == n))) [ inl t ↦ rw t refl | inr f ↦ rw f (go ps i) ]
+
+-- a test that says what another does
+pub same_test : (heads : List Patch) (n : ℕ) (b : Bool) → (b ≡ true → IsLiveNumber heads n) → (IsLiveNumber heads n → b ≡ true) → b ≡ is_live_in heads n
+same_test heads n true f g = sym (in_live heads n (f refl))
+same_test heads n false f g = elim (cases_Bool (is_live_in heads n)) [ inl t ↦ absurd (false≢true (g (live_in heads n t))) | inr e ↦ sym e ]
+
+take_filter : (t : ℕ → Bool) (xs : List ℕ) (i : ℕ) → (j : ℕ) × (take i (filter t xs) ≡ filter t (take j xs))
+take_filter t [] i = (0, nil i)
+  where
+    nil : (i : ℕ) → take {A = ℕ} i [] ≡ []
+    nil zero = refl
+    nil (suc i) = refl
+take_filter t (x ∷ xs) zero = (0, nothing (filter t (x ∷ xs)))
+  where
+    nothing : (ys : List ℕ) → take 0 ys ≡ []
+    nothing [] = refl
+    nothing (y ∷ ys) = refl
+take_filter t (x ∷ xs) (suc i) = elim (cases_Bool (t x)) [
+  | inl e ↦ let r = take_filter t xs i in (suc r.0, rw (e, r.1) refl)
+  | inr e ↦ let r = take_filter t xs (suc i) in (suc r.0, rw (e, r.1) refl)
+]
+
+kept_in : (t : ℕ → Bool) (xs : List ℕ) (x : ℕ) → In xs x → t x ≡ true → In (filter t xs) x
+kept_in t [] x h e = absurd h
+kept_in t (y ∷ ys) x (inl same) e = rw (subst (λ z. t z ≡ true) (sym same) e) (inl same)
+kept_in t (y ∷ ys) x (inr h) e = elim (cases_Bool (t y)) [ inl f ↦ rw f (inr (kept_in t ys x h e)) | inr f ↦ rw f (kept_in t ys x h e) ]
+
+was_in : (t : ℕ → Bool) (xs : List ℕ) (x : ℕ) → In (filter t xs) x → In xs x
+was_in t [] x h = absurd h
+was_in t (y ∷ ys) x h = elim (cases_Bool (t y)) [
+  | inl f ↦ elim (subst (λ zs. In zs x) (ap (λ k. cond k (y ∷ filter t ys) (filter t ys)) f) h) [ inl e ↦ inl e | inr r ↦ inr (was_in t ys x r) ]
+  | inr f ↦ inr (was_in t ys x (subst (λ zs. In zs x) (ap (λ k. cond k (y ∷ filter t ys) (filter t ys)) f) h))
+]
+
+split : (heads : List Patch) → length (filter is_live heads) + length (filter (λ p. is_at p.place place.Disk) heads) ≡ length heads
+split [] = refl
+split (p ∷ ps) = elim (cases_Bool (is_at p.place place.Disk)) [
+  | inl e ↦ let r = split ps in rw e (omega (arith, r))
+  | inr e ↦ let r = split ps in rw e (omega (arith, r))
+]
+
+pub counted : (heads : List Patch) → length (filter is_live heads) + count_by (λ p. is_at p.place place.Disk) heads ≡ length heads
+counted heads = let s = split heads in let c = length-filter (λ (p : Patch). is_at p.place place.Disk) heads in omega (arith, s, c)
+
+module _ (heads : List Patch) (numbers blocks : ℕ) (order : List ℕ) (marks : List Bool) (K : Keeps heads numbers blocks order marks) where
+  abbrev new : List Patch
+  new = filter is_live heads
+
+  was : (p : Patch) → Contains new p → Contains heads p × (is_live p ≡ true)
+  was p c = let r = filter_in is_live heads p (In-from_Contains new p c) in (Contains-from_In heads p r.0, r.1)
+
+  live_number : (p : Patch) → Contains new p → is_live_in heads p.number ≡ true
+  live_number p c = let w = was p c in in_live heads p.number (record { patch = p; head = w.0; numbered = refl; live = not_disk p.place w.1 })
+
+  closed : (i : ℕ) → IsClosedBelow new (take i (filter (is_live_in heads) order))
+  closed i n q c e h =
+      let k = take_filter (is_live_in heads) order i in
+      let there = In-from_Contains (filter (is_live_in heads) (take k.0 order)) n (subst (λ ns. Contains ns n) k.1 c) in
+      let before = Contains-from_In (take k.0 order) n (was_in (is_live_in heads) (take k.0 order) n there) in
+      let direct : DirectlyOn heads n q.number = record { patch = e.patch; head = (was e.patch e.head).0; numbered = e.numbered; named = e.named } in
+      let below = K.ordered.closed k.0 n q before direct (was q h).0 in
+      subst (λ ns. Contains ns q.number) (sym k.1)
+      (Contains-from_In (filter (is_live_in heads) (take k.0 order)) q.number (kept_in (is_live_in heads) (take k.0 order) q.number (In-from_Contains (take k.0 order) q.number below) (live_number q h)))
+
+  pub keeps_dropped : (marks' : List Bool) → length marks' ≡ length new → Keeps new numbers blocks (filter (is_live_in heads) order) marks'
+  keeps_dropped marks' long = record {
+    lawful = heads_dropped heads numbers K.lawful;
+    few = let c = counted heads in omega (arith, c, K.few);
+    inside = λ p b c on. K.inside p b (was p c).0 on;
+    ordered = record {
+      all = λ p c. Contains-from_In _ p.number (kept_in (is_live_in heads) order p.number (In-from_Contains order p.number (K.ordered.all p (was p c).0)) (live_number p c));
+      closed = closed;
+    };
+    given = λ n c. K.given n (Contains-from_In order n (was_in (is_live_in heads) order n (In-from_Contains _ n c)));
+    marked = long;
+  }
+
+-- what a `retain` keeps whose test does not change what it holds
+pub filter_from_test : {X F : Type 0} (R : F → X → Bool → F → Type 0) (test : X → Bool) (f : F) → ((x : X) (b : Bool) (g : F) → R f x b g → (b ≡ test x) × (g ≡ f)) → (xs ys : List X) → IsFiltered R f xs ys → ys ≡ filter test xs
+filter_from_test {X} {F} R test f says xs ys (bs, q, long, runs, same) = same ∙ go xs bs f refl long runs
+  where
+    go : (xs : List X) (bs : List Bool) (p : F) → p ≡ f → length bs ≡ length xs → ReturnsInTurn R p bs xs q → items_where_true bs xs ≡ filter test xs
+    go [] [] p e l r = refl
+    go [] (b ∷ bs) p e l r = absurd (omega (arith, l))
+    go (x ∷ xs) [] p e l r = absurd (omega (arith, l))
+    go (x ∷ xs) (true ∷ bs) p e l r = let k = says x true r.0 (subst (λ s. R s x true r.0) e r.1) in rw (← k.0) (ap (λ zs. x ∷ zs) (go xs bs r.0 k.1 (omega (arith, l)) r.2))
+    go (x ∷ xs) (false ∷ bs) p e l r = let k = says x false r.0 (subst (λ s. R s x false r.0) e r.1) in rw (← k.0) (go xs bs r.0 k.1 (omega (arith, l)) r.2)

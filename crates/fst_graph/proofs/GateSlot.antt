@@ -1,0 +1,58 @@
+-- What the head with a gate's number tells.
+use Rattle.std.proofs.Common.{◌≡◌, ◌⊎◌, ℕ, ◌<◌, List, length, get_or, Contains, refl, sym, ap, subst, ◌∙◌, inl, inr, arith}
+use Rattle.fst_types.specs.Patches.{Kind, Change, Empty, Patch, OpenGate, SealedGate}
+use Rattle.fst_types.specs.declared.grade.Grade.{Grade}
+use Rattle.fst_types.specs.Gates.{IsOpenNumber, IsSealedNumber, IsGateNumber}
+use Rattle.fst_graph.specs.declared.head.Head.{Head}
+use Rattle.fst_graph.specs.Heads.{IsRising, patch_of, patches_of}
+use Rattle.fst_graph.specs.Marks.{HasSlot, HasNone}
+use Rattle.fst_graph.proofs.Slots.{patch_at, patch_is, slot_in, patch_slot, none_slot}
+
+pub open_not_sealed : (k : Kind) → k ≡ OpenGate → k ≡ SealedGate → ⊥
+open_not_sealed k e f = cc
+
+no_open : (b at len : ℕ) (grade : Grade) (k : Kind) → k ≡ Change b at len grade → k ≡ OpenGate → ⊥
+no_open b at len grade k e f = cc
+
+no_seal : (b at len : ℕ) (grade : Grade) (k : Kind) → k ≡ Change b at len grade → k ≡ SealedGate → ⊥
+no_seal b at len grade k e f = cc
+
+empty_open : (k : Kind) → k ≡ Empty → k ≡ OpenGate → ⊥
+empty_open k e f = cc
+
+empty_seal : (k : Kind) → k ≡ Empty → k ≡ SealedGate → ⊥
+empty_seal k e f = cc
+
+module _ (heads : List Head) (rising : IsRising heads) (g s : ℕ) (d : Head) (slot : HasSlot heads g s) where
+  abbrev p : Patch
+  p = patch_of (get_or heads s d)
+
+  is_it : (x : Patch) → Contains (patches_of heads) x → x.number ≡ g → p ≡ x
+  is_it x c e = patch_is heads x s d rising c (subst (λ n. HasSlot heads n s) (sym e) slot)
+
+  pub open_number : p.kind ≡ OpenGate → IsOpenNumber (patches_of heads) g
+  open_number e = record { patch = p; head = patch_at heads s d slot.0; numbered = slot.1 d; is_open = e }
+
+  pub sealed_number : p.kind ≡ SealedGate → IsSealedNumber (patches_of heads) g
+  sealed_number e = record { patch = p; head = patch_at heads s d slot.0; numbered = slot.1 d; is_sealed = e }
+
+  pub open_kind : IsOpenNumber (patches_of heads) g → p.kind ≡ OpenGate
+  open_kind o = ap (λ x. x.kind) (is_it o.patch o.head o.numbered) ∙ o.is_open
+
+  pub sealed_kind : IsSealedNumber (patches_of heads) g → p.kind ≡ SealedGate
+  sealed_kind o = ap (λ x. x.kind) (is_it o.patch o.head o.numbered) ∙ o.is_sealed
+
+  pub other_gate : (p.kind ≡ OpenGate → ⊥) → (p.kind ≡ SealedGate → ⊥) → IsGateNumber (patches_of heads) g → ⊥
+  other_gate not_open not_sealed gate = elim gate [ inl o ↦ not_open (open_kind o) | inr o ↦ not_sealed (sealed_kind o) ]
+
+  pub change_no_gate : (b at len : ℕ) (grade : Grade) → p.kind ≡ Change b at len grade → IsGateNumber (patches_of heads) g → ⊥
+  change_no_gate b at len grade e = other_gate (no_open b at len grade p.kind e) (no_seal b at len grade p.kind e)
+
+  pub empty_no_gate : p.kind ≡ Empty → IsGateNumber (patches_of heads) g → ⊥
+  empty_no_gate e = other_gate (empty_open p.kind e) (empty_seal p.kind e)
+
+pub no_gate : (heads : List Head) (g : ℕ) → HasNone heads g → IsGateNumber (patches_of heads) g → ⊥
+no_gate heads g none gate = elim gate [
+  | inl o ↦ let t = slot_in heads o.patch o.head in none_slot heads g t.0 none (subst (λ n. HasSlot heads n t.0) o.numbered (patch_slot heads o.patch t.0 t.1 t.2))
+  | inr o ↦ let t = slot_in heads o.patch o.head in none_slot heads g t.0 none (subst (λ n. HasSlot heads n t.0) o.numbered (patch_slot heads o.patch t.0 t.1 t.2))
+]

@@ -1,0 +1,16 @@
+pub mod Slots
+pub mod Walk
+pub mod Rows
+pub mod Making
+pub mod PlaceOf
+pub mod Emptying
+pub mod Obstacles
+pub mod Choosing
+pub mod Mapping
+pub mod Settled
+pub mod Kept
+pub mod GateSlot
+pub mod Touching
+pub mod Forgetting
+pub mod Nearest
+pub mod Picked

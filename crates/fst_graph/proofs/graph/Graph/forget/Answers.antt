@@ -1,0 +1,35 @@
+use Rattle.std.proofs.Common.{◌≡◌, ◌∙◌, ◌+◌, ◌-◌, ◌≤◌, filter, count_by, length, sym, ap, subst, refl, arith}
+use Rattle.std.proofs.lemmas.List.{length-map, length-take}
+use Rattle.fst_types.specs.declared.place.Place.TheVariants as place
+use Rattle.fst_types.specs.Tests.{is_at, is_live}
+use Rattle.fst_graph.specs.Heads.{patch_of, patches_of}
+use Rattle.fst_graph.specs.Ordered.{is_live_in}
+use Rattle.fst_graph.proofs.Slots.{rising_heads}
+use Rattle.fst_graph.proofs.Forgetting.{counted, keeps_dropped}
+use Rattle.fst_graph.proofs.graph.Graph.forget.Goals as goal
+
+pub keep_live_numbers-requires : goal.keep_live_numbers-requires
+keep_live_numbers-requires c = rw c.deref.ensures.value (rising_heads c.self.inside.heads.items c.self.invariant.lawful.one_place_each.rising)
+
+pub overflow_sub-result : goal.overflow_sub-result
+overflow_sub-result c =
+    let all = counted (patches_of c.self.inside.heads.items) in
+    let live = ap length c.keep_live.ensures in
+    omega (arith, all, live, length-map c.self.inside.heads.items patch_of, length-map c.keep_live.new.heads.items patch_of, c.len-2.ensures, c.len-before.ensures, c.keep_live.new.heads.ok.0, c.self.inside.heads.ok.0)
+
+pub invariant_of-self : goal.invariant_of-self
+invariant_of-self c =
+    let all = counted (patches_of c.self.inside.heads.items) in
+    let live = ap length c.keep_live.ensures in
+    let long : length c.truncate.new.self.items ≡ length (filter is_live (patches_of c.self.inside.heads.items)) =
+    rw c.truncate.ensures.items (omega (arith, all, live, length-take c.len.result c.self.inside.marks.items, length-map c.keep_live.new.heads.items patch_of, c.len.ensures, c.keep_live.new.heads.ok.0, c.self.invariant.marked)) in
+    rw (c.keep_live.ensures, c.keep_live_numbers.ensures, c.deref.ensures.value)
+    (keeps_dropped (patches_of c.self.inside.heads.items) c.self.inside.numbers c.self.inside.blocks c.self.inside.order.items c.self.inside.marks.items c.self.invariant c.truncate.new.self.items long)
+
+pub returns : goal.returns
+returns c =
+    let all = counted (patches_of c.self.inside.heads.items) in
+    let live = ap length c.keep_live.ensures in
+    let count : c.len-before.result - c.len-2.result ≡ count_by (λ p. is_at p.place place.Disk) (patches_of c.self.inside.heads.items) =
+    omega (arith, all, live, length-map c.self.inside.heads.items patch_of, length-map c.keep_live.new.heads.items patch_of, c.len-2.ensures, c.len-before.ensures, c.keep_live.new.heads.ok.0, c.self.inside.heads.ok.0) in
+    rw (← c.self.view_is) (record { counted = count; heads = c.keep_live.ensures; numbers = refl; blocks = refl })

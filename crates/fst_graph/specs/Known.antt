@@ -1,0 +1,109 @@
+-- What a graph knows, and what its calls make of it.
+use Rattle.std.specs.Prelude.{◌≡◌, ◌≢◌, ◌≤◌, ◌<◌, ◌⊎◌, ◌+◌, ℕ, List, [], ◌∷◌, ◌++◌, map, filter, count_by, length, Contains}
+use Rattle.fst_types.specs.declared.number.PatchNo.{PatchNo}
+use Rattle.fst_types.specs.declared.fault.Fault.{Fault}
+use Rattle.fst_types.specs.declared.fault.Fault.TheVariants as fault
+use Rattle.fst_types.specs.declared.place.Place.{Place}
+use Rattle.fst_types.specs.declared.place.Place.TheVariants as place
+use Rattle.fst_types.specs.Lists.{Lists}
+use Rattle.fst_types.specs.Patches.{Change, Empty, OpenGate, Patch, IsOn}
+use Rattle.fst_types.specs.Dependencies.{IsBlocked, IsLiveNumber}
+use Rattle.fst_types.specs.declared.grade.Grade.{Grade}
+use Rattle.fst_types.specs.Overlaps.{IsOverlapped}
+use Rattle.fst_types.specs.Grades.{IsGraded}
+use Rattle.fst_types.specs.Cascade.{IsCascadeOf}
+use Rattle.fst_types.specs.Tests.{is_at, is_live}
+use Rattle.fst_types.specs.Making.{fresh}
+use Rattle.fst_types.specs.Refusals.{Rule, IsFirst, NoneHolds}
+use Rattle.fst_types.specs.Order.{room_order, make_order, seal_order}
+use Rattle.fst_types.specs.Gates.{IsOpenNumber}
+use Rattle.fst_types.specs.Gating.{sealed}
+use Rattle.fst_types.specs.Writing.{launched, landed}
+use Rattle.fst_types.specs.Writable.{IsInMemoryOn, IsWritable, IsWritableSet}
+
+-- the patches that are not forgotten, the greatest number given, and how many blocks there are
+pub record Known : Type 0 where
+  pub heads : List Patch
+  pub numbers : ℕ
+  pub blocks : ℕ
+
+-- the numbers of a list of names
+abbrev pub numbers_of : List PatchNo → List ℕ
+numbers_of names = map (λ n. n.0) names
+
+-- the first rule that holds decides, and where none does memory was refused
+abbrev pub Refuses : List Rule → Fault → Type 0
+Refuses rules f = IsFirst rules f ⊎ (NoneHolds rules × (f ≡ fault.Memory))
+
+-- where a new empty patch with these dependencies is, all of them being live
+abbrev pub rest_place : List ℕ → Place
+rest_place [] = place.Disk
+rest_place (n ∷ ns) = place.Memory
+
+-- a new gate, open and without dependencies
+pub record AddsGate (old : Known) (number : ℕ) (new : Known) : Type 0 where
+  pub clear : NoneHolds (room_order old.heads old.numbers)
+  pub next : number ≡ old.numbers + 1
+  pub heads : new.heads ≡ old.heads ++ fresh number OpenGate [] ∷ []
+  pub numbers : new.numbers ≡ number
+  pub blocks : new.blocks ≡ old.blocks
+
+-- a new empty patch: it depends on the live named patches, and is on disk where there are none
+pub record AddsEmpty (old : Known) (after : List ℕ) (number : ℕ) (new : Known) : Type 0 where
+  pub clear : NoneHolds (make_order old.heads old.numbers after)
+  pub next : number ≡ old.numbers + 1
+  pub dependencies : List ℕ
+  pub depends : Lists (λ n. IsLiveNumber old.heads n × Contains after n) dependencies
+  pub cascade : IsCascadeOf (old.heads ++ fresh number Empty dependencies ∷ []) new.heads
+  pub numbers : new.numbers ≡ number
+  pub blocks : new.blocks ≡ old.blocks
+
+-- an open gate is sealed, and what now rests on disk follows
+pub record SealsGate (old : Known) (gate : ℕ) (new : Known) : Type 0 where
+  pub clear : NoneHolds (seal_order old.heads old.numbers gate)
+  pub is_open : IsOpenNumber old.heads gate
+  pub cascade : IsCascadeOf (map (sealed gate) old.heads) new.heads
+  pub numbers : new.numbers ≡ old.numbers
+  pub blocks : new.blocks ≡ old.blocks
+
+-- the chosen are in flight
+pub record Launches (old : Known) (chosen : List ℕ) (new : Known) : Type 0 where
+  pub heads : new.heads ≡ map (launched chosen) old.heads
+  pub numbers : new.numbers ≡ old.numbers
+  pub blocks : new.blocks ≡ old.blocks
+
+-- what was in flight of the block is on disk, and what now rests on disk follows
+pub record LandsBlock (old : Known) (b : ℕ) (new : Known) : Type 0 where
+  pub cascade : IsCascadeOf (map (landed b) old.heads) new.heads
+  pub numbers : new.numbers ≡ old.numbers
+  pub blocks : new.blocks ≡ old.blocks
+
+-- the chosen are the writable set of a writable block
+pub record MayLaunch (old : Known) (chosen : List ℕ) : Type 0 where
+  pub block : ℕ
+  pub writable : IsWritable old.heads block
+  pub choice : IsWritableSet old.heads block chosen
+
+-- a new change of block b: it depends on the live named patches and the live changes that it overlaps
+pub record AddsChange (old : Known) (b at len : ℕ) (after : List ℕ) (number : ℕ) (grade : Grade) (new : Known) : Type 0 where
+  pub clear : NoneHolds (make_order old.heads old.numbers after)
+  pub next : number ≡ old.numbers + 1
+  pub dependencies : List ℕ
+  pub depends : Lists (λ n. (IsLiveNumber old.heads n × Contains after n) ⊎ IsOverlapped old.heads (fresh number (Change b at len grade) dependencies) n) dependencies
+  pub graded : IsGraded old.heads new.heads b number grade
+  pub heads : new.heads ≡ old.heads ++ fresh number (Change b at len grade) dependencies ∷ []
+  pub numbers : new.numbers ≡ number
+  pub blocks : new.blocks ≡ old.blocks
+
+-- the patches on disk are forgotten; the answer is how many
+pub record Forgets (old : Known) (dropped : ℕ) (new : Known) : Type 0 where
+  pub counted : dropped ≡ count_by (λ p. is_at p.place place.Disk) old.heads
+  pub heads : new.heads ≡ filter is_live old.heads
+  pub numbers : new.numbers ≡ old.numbers
+  pub blocks : new.blocks ≡ old.blocks
+
+-- if nothing is in flight, each change in memory waits for an open gate
+abbrev pub IsStuckByGates : List Patch → Type 0
+IsStuckByGates heads =
+    ((p : Patch) → Contains heads p → p.place ≢ place.Flight)
+    → (p : Patch) (b : ℕ) → IsInMemoryOn heads b p → IsBlocked heads p.number

@@ -1,0 +1,9 @@
+pub mod Heads
+pub mod Tests
+pub mod Marks
+pub mod Ordered
+pub mod Known
+pub mod Keeps
+pub mod Rows
+pub mod Settling
+pub mod Picking

@@ -1,0 +1,35 @@
+-- Rising rows of numbers.
+use Rattle.std.specs.Prelude.{◌≡◌, ◌⊎◌, ◌==◌, ◌&&◌, ◌+◌, nat_lt, ℕ, Bool, true, false, List, Contains}
+use Rattle.fst_types.specs.declared.place.Place.{Place}
+use Rattle.fst_types.specs.Patches.{Kind, Change, Empty, OpenGate, SealedGate, Patch}
+use Rattle.fst_types.specs.Dependencies.{IsLiveNumber}
+use Rattle.fst_graph.specs.Tests.{is_live_place}
+use Rattle.std.specs.List.Sorted.{IsStrictlyIncreasing}
+
+-- the number is in the row besides, which still rises
+pub record Gains (old : List ℕ) (number : ℕ) (new : List ℕ) : Type 0 where
+  pub rising : IsStrictlyIncreasing new
+  pub only : (n : ℕ) → Contains new n → Contains old n ⊎ (n ≡ number)
+  pub kept : (n : ℕ) → Contains old n → Contains new n
+  pub gained : Contains new number
+
+abbrev pub kind_touches : ℕ → ℕ → ℕ → Kind → Place → Bool
+kind_touches b at len (Change on own_at own_len grade) p = is_live_place p && (on == b) && nat_lt own_at (at + len) && nat_lt at (own_at + own_len)
+kind_touches b at len Empty p = false
+kind_touches b at len OpenGate p = false
+kind_touches b at len SealedGate p = false
+
+-- p is a change of b that is not on disk and shares a byte with len bytes from at on
+abbrev pub touches : ℕ → ℕ → ℕ → Patch → Bool
+touches b at len p = kind_touches b at len p.kind p.place
+
+-- n is the number of such a change
+pub record IsTouched (heads : List Patch) (b at len n : ℕ) : Type 0 where
+  pub patch : Patch
+  pub head : Contains heads patch
+  pub numbered : patch.number ≡ n
+  pub shares : touches b at len patch ≡ true
+
+-- a new change of those bytes depends on n
+abbrev pub IsDependency : List Patch → List ℕ → ℕ → ℕ → ℕ → ℕ → Type 0
+IsDependency heads names b at len n = (IsLiveNumber heads n × Contains names n) ⊎ IsTouched heads b at len n

@@ -1,0 +1,22 @@
+//! What is kept of a patch that is not forgotten.
+
+use fst_types::{Grade, Place, Span};
+use smallvec::SmallVec;
+
+/// What a patch is. A change names its block, the bytes that it writes and its grade.
+#[derive(Clone, Copy, Debug, PartialEq, Eq)]
+pub enum Kind {
+    Change(u32, Span, Grade),
+    Empty,
+    OpenGate,
+    SealedGate,
+}
+
+/// A patch that is not forgotten, with the numbers that it directly depends on.
+#[derive(Drop)]
+pub struct Head {
+    pub number: u32,
+    pub kind: Kind,
+    pub place: Place,
+    pub dependencies: SmallVec<u32, 4>,
+}

@@ -1,0 +1,122 @@
+//! Rows of numbers, and the names that a call is given.
+
+ghost use Rattle.std.specs.Prelude.{◌≡◌, ◌+◌, ◌↔◌, IsTrue, IfOk, OnOk, Contains};
+ghost use Rattle.std.specs.List.Sorted.{IsStrictlyIncreasing};
+ghost use Rattle.fst_types.specs.Dependencies.{IsLiveNumber};
+ghost use Rattle.fst_types.specs.Gates.{IsGiven};
+ghost use Rattle.fst_types.specs.Lists.{Lists};
+ghost use Rattle.fst_types.specs.Order.{NamesUnknown};
+ghost use Rattle.fst_graph.specs.Heads.{IsRising, patch_of, patches_of};
+ghost use Rattle.fst_graph.specs.Known.{numbers_of};
+ghost use Rattle.fst_graph.specs.Rows.{Gains, touches, IsDependency};
+
+use crate::head::{Head, Kind};
+use crate::marks::slot_of;
+use crate::test::is_live;
+use fst_types::{PatchNo, Span};
+use smallvec::SmallVec;
+use std::alloc::{AllocError, Global};
+
+/// Numbers in rising order, four of them without an allocation.
+pub type Row = SmallVec<u32, 4>;
+
+/// Whether the number was given.
+pub fn is_given(numbers: u32, number: u32) -> bool
+    ensures { IsTrue result ↔ IsGiven numbers number }
+{
+    0 < number && number <= numbers
+}
+
+/// Whether one of the names was never given.
+pub fn names_unknown(numbers: u32, names: &[PatchNo]) -> bool
+    ensures { IsTrue result ↔ NamesUnknown numbers (numbers_of names.now) }
+{
+    for name in names {
+        if !is_given(numbers, name.0) {
+            return true;
+        }
+    }
+    false
+}
+
+/// Whether the number is that of a patch that is not on disk.
+pub fn is_live_number(heads: &[Head], number: u32) -> bool
+    requires { IsRising heads.now }
+    ensures { IsTrue result ↔ IsLiveNumber (patches_of heads.now) number }
+{
+    match slot_of(heads, number) {
+        Some(slot) => is_live(heads[slot].place),
+        None => false,
+    }
+}
+
+/// Puts the number into the row, unless it is there.
+pub fn put(row: &mut Row, number: u32) -> Result<(), AllocError>
+    requires { IsStrictlyIncreasing row.old.items }
+    ensures { OnOk result (Gains row.old.items number row.new.items) }
+{
+    match row.as_slice().binary_search(&number) {
+        Ok(_) => {}
+        Err(at) => row.insert(at, number)?,
+    }
+    Ok(())
+}
+
+/// The row of the names that are not on disk.
+pub fn live_named(alloc: Global, heads: &[Head], names: &[PatchNo]) -> Result<Row, AllocError>
+    requires { IsRising heads.now }
+    ensures { IfOk result (λ row. Lists (λ n. IsLiveNumber (patches_of heads.now) n × Contains (numbers_of names.now) n) row.items) }
+{
+    let mut row = SmallVec::new(alloc);
+    for name in names {
+        if is_live_number(heads, name.0) {
+            put(&mut row, name.0)?;
+        }
+    }
+    Ok(row)
+}
+
+// The byte after the span.
+fn end_of(span: Span) -> u64
+    ensures { result ≡ span.at + span.len }
+{
+    let at = span.at;
+    let len = span.len;
+    u64::from(at) + u64::from(len)
+}
+
+/// Whether the patch is a change of the block that is not on disk and shares a byte with the span.
+fn touches(head: &Head, block: u32, span: Span) -> bool
+    ensures { result ≡ touches block span.at span.len (patch_of head.now) }
+{
+    match head.kind {
+        Kind::Change(on, own, _) => {
+            is_live(head.place)
+                && on == block
+                && u64::from(own.at) < end_of(span)
+                && u64::from(span.at) < end_of(own)
+        }
+        Kind::Empty | Kind::OpenGate | Kind::SealedGate => false,
+    }
+}
+
+/// What a new change of the span depends on: the names that are not on disk, and the changes not on disk that share a
+/// byte with it.
+pub fn dependencies_of(
+    alloc: Global,
+    heads: &[Head],
+    block: u32,
+    span: Span,
+    names: &[PatchNo],
+) -> Result<Row, AllocError>
+    requires { IsRising heads.now }
+    ensures { IfOk result (λ row. Lists (IsDependency (patches_of heads.now) (numbers_of names.now) block span.at span.len) row.items) }
+{
+    let mut row = live_named(alloc, heads, names)?;
+    for head in heads {
+        if touches(head, block, span) {
+            put(&mut row, head.number)?;
+        }
+    }
+    Ok(row)
+}
