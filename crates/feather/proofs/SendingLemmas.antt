@@ -38,7 +38,7 @@ TakesPart-then a b c xs ys p q = (xs ++ q.0, q.1, append_assoc xs q.0 q.1 ∙ ap
 pub TakesPart-longer : (a b : Option (List ℕ)) (xs ys : List ℕ) → TakesPart a b xs → TakesPart a b (xs ++ ys)
 TakesPart-longer a b xs ys p = (p.0, p.1 ++ ys, sym (append_assoc p.0 p.1 ys) ∙ ap (λ l. l ++ ys) p.2, p.3)
 
--- the exit of a `?`
+-- the exit of the question mark
 pub Sends-err : {T E : Type 0} (Q : E → Type 0) (a b : Option (List ℕ)) (r : Result T E) (bytes : List ℕ) → IsErrAnd r Q → TakesPart a b bytes → Sends a b r bytes
 Sends-err Q a b (Ok x) bytes e p = absurd e
 Sends-err Q a b (Err x) bytes e p = p

@@ -128,7 +128,7 @@ Finishes-line s t a b (Err e) some f = λ origin given sent at.
           (subst (λ (x : List (List ℕ)). IsScriptRun origin ((parted given).ended ++ x) (sent ++ (told.0 ++ 10 ∷ [])) t.player) (sym (last_line-some _ (some _ at.held))) run),
     )
 
--- the exit of a `?`
+-- the exit of the question mark
 pub Feeds-err : {T E : Type 0} (Q : E → Type 0) (s t : Session) (p : List ℕ) (a b : Option (List ℕ)) (r : Result T E) → IsErrAnd r Q → Stops s p a b → Feeds s p a b r t
 Feeds-err Q s t p a b (Ok u) e h = absurd e
 Feeds-err Q s t p a b (Err x) e h = h

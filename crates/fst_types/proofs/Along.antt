@@ -28,7 +28,7 @@ use Rattle.fst_types.proofs.LandsInOrder.{overlaps_land_in_order}
 
 -- what holds along a run from `first`
 pub record Along (first s : State) (made : List ChangeMade) : Type 0 where
-  pub law : IsLawful s
+  pub lawful : IsLawful s
   pub ascends : Ascends (λ c. c.number) made
   pub given : (c : ChangeMade) → In made c → (1 ≤ c.number) × (c.number ≤ s.numbers)
   pub kept : (c : ChangeMade) (p : Patch) → In made c → Contains s.heads p → p.number ≡ c.number → IsMadeAs s c p
@@ -133,7 +133,7 @@ module _ (first s : State) (made : List ChangeMade) (A : Along first s made) whe
     flown_writes =
         same_items (λ c. c.number) (λ p. p.number) (λ c. c.write) (write_of s) (filter is_flown made) (changes_at s place.Flight b)
         (ascends_filter (λ c. c.number) is_flown made A.ascends)
-        (ascends_filter (λ p. p.number) (is_change_at place.Flight b) s.heads (ascends_from (λ p. p.number) s.heads A.law.heads.one_place_each.rising))
+        (ascends_filter (λ p. p.number) (is_change_at place.Flight b) s.heads (ascends_from (λ p. p.number) s.heads A.lawful.heads.one_place_each.rising))
         into back
         (λ c p i j e. let m = A.kept c p (filter_in is_flown made c i).0 (Contains-from_In s.heads p (filter_in (is_change_at place.Flight b) s.heads p j).0) (sym e) in rw (m.at, m.bytes) refl)
       where
@@ -167,7 +167,7 @@ module _ (first s : State) (made : List ChangeMade) (A : Along first s made) whe
             no_memory : (p : Patch) (c : ChangeMade) → Contains s.heads p → p.place ≡ place.Flight → c.number ≡ p.number → is_number_in_memory s.heads c.number ≡ false
             no_memory p c h flight e =
                 elim (memory_cases s.heads c.number) [
-                  | inl m ↦ absurd (memory_flight m.0.place m.3 (ap (λ x. x.place) (same_number s.heads m.0 p A.law.heads.one_place_each.rising m.1 h (m.2 ∙ e)) ∙ flight))
+                  | inl m ↦ absurd (memory_flight m.0.place m.3 (ap (λ x. x.place) (same_number s.heads m.0 p A.lawful.heads.one_place_each.rising m.1 h (m.2 ∙ e)) ∙ flight))
                   | inr m ↦ m.1
                 ]
 
@@ -184,10 +184,10 @@ module _ (first s : State) (made : List ChangeMade) (A : Along first s made) whe
         ∙ ap (fold (fold (committed first b) (on_disk_of s b made))) (ap (map (λ c. c.write)) (filter_within is_late (is_out s b) is_flown made (λ c i. refl)) ∙ flown_writes))
 
     pub image_folded : (f : Flight) → flight_of s b ≡ Some f → f.image ≡ fold (committed first b) (on_disk_or_in_flight_of s b made)
-    image_folded f e = A.law.images b f e ∙ (ap (λ base. fold base (map (write_of s) (changes_at s place.Flight b))) (A.folded b) ∙ sym out_in_parts)
+    image_folded f e = A.lawful.images b f e ∙ (ap (λ base. fold base (map (write_of s) (changes_at s place.Flight b))) (A.folded b) ∙ sym out_in_parts)
 
 -- one step on
-module _ (Late : Patch → Type 0) (first old new : State) (made added : List ChangeMade) (C : Carries Late added old new) (law : IsLawful new) (A : Along first old made) where
+module _ (Late : Patch → Type 0) (first old new : State) (made added : List ChangeMade) (C : Carries Late added old new) (lawful : IsLawful new) (A : Along first old made) where
   -- the head that a change made before has, and had
   made_back : (c : ChangeMade) (p : Patch) → In made c → Contains new.heads p → p.number ≡ c.number → (o : Patch) × Contains old.heads o × Goes Late o p × IsMadeAs old c o
   made_back c p i h e =
@@ -215,7 +215,7 @@ module _ (Late : Patch → Type 0) (first old new : State) (made added : List Ch
   added_kept : (c : ChangeMade) (p : Patch) → In added c → Contains new.heads p → p.number ≡ c.number → IsMadeAs new c p × (p.place ≡ place.Memory)
   added_kept c p i h e =
       let a = C.each c i in
-      let same = same_number new.heads a.patch p law.heads.one_place_each.rising a.head h (a.made.number ∙ sym e) in
+      let same = same_number new.heads a.patch p lawful.heads.one_place_each.rising a.head h (a.made.number ∙ sym e) in
       (subst (IsMadeAs new c) same a.made, ap (λ x. x.place) (sym same) ∙ a.memory)
 
   -- what was on disk is
@@ -233,8 +233,8 @@ module _ (Late : Patch → Type 0) (first old new : State) (made added : List Ch
   -- changes made that overlap are heads that do
   heads_overlap : (c d : ChangeMade) (p q : Patch) → ShareByte c d → Contains new.heads p → Contains new.heads q → IsMadeAs new c p → IsMadeAs new d q → Overlaps p q
   heads_overlap c d p q share hp hq mp mq =
-      let wp = law.changes_fit.whole p c.block hp mp.block in
-      let wq = law.changes_fit.whole q d.block hq mq.block in
+      let wp = lawful.changes_fit.whole p c.block hp mp.block in
+      let wq = lawful.changes_fit.whole q d.block hq mq.block in
       let lp = ap length mp.bytes in
       let lq = ap length mq.bytes in
       record {
@@ -251,7 +251,7 @@ module _ (Late : Patch → Type 0) (first old new : State) (made added : List Ch
         | inr gone ↦ disk_forth c i (A.order c d i j lt share (disk_back d j gone))
         | inl q ↦
             λ p h e.
-            (overlaps_land_in_order new p q.0 law h q.1 (omega (arith, lt, e, q.2)) (heads_overlap c d p q.0 share h q.1 (made_kept c p i h e) (made_kept d q.0 j q.1 q.2))).0 (disk q.0 q.1 q.2)
+            (overlaps_land_in_order new p q.0 lawful h q.1 (omega (arith, lt, e, q.2)) (heads_overlap c d p q.0 share h q.1 (made_kept c p i h e) (made_kept d q.0 j q.1 q.2))).0 (disk q.0 q.1 q.2)
       ]
 
   -- a change added has a live head
@@ -322,7 +322,7 @@ module _ (Late : Patch → Type 0) (first old new : State) (made added : List Ch
   -- the equation on, from one for each block
   pub along : ((b : ℕ) → committed new b ≡ fold (committed first b) (on_disk_of new b (made ++ added))) → Along first new (made ++ added)
   along folded = record {
-    law = law;
+    lawful = lawful;
     ascends = ascends_append (λ c. c.number) made added A.ascends (few_ascend added C.few) (λ c d i j. let k = (A.given c i).1 in let l = (C.each d j).after in omega (arith, k, l));
     given = λ c i. elim (in_append made added c i) [ inl k ↦ let g = A.given c k in let r = C.rises in (g.0, omega (arith, g.1, r)) | inr k ↦ let a = (C.each c k).after in (omega (arith, a), (C.each c k).given) ];
     kept = λ c p i h e. elim (in_append made added c i) [ inl k ↦ made_kept c p k h e | inr k ↦ (added_kept c p k h e).0 ];
@@ -358,9 +358,9 @@ module _ (Late : Patch → Type 0) (first old new : State) (made added : List Ch
       added_fits : (c : ChangeMade) → In added c → Fits_in (length (committed first c.block)) c.write
       added_fits c i =
           let a = C.each c i in
-          let inside = law.changes_fit.inside a.patch c.block a.head a.made.block in
-          let whole = law.changes_fit.whole a.patch c.block a.head a.made.block in
-          let sized = law.changes_fit.sized c.block inside.0 in
+          let inside = lawful.changes_fit.inside a.patch c.block a.head a.made.block in
+          let whole = lawful.changes_fit.whole a.patch c.block a.head a.made.block in
+          let sized = lawful.changes_fit.sized c.block inside.0 in
           let bytes = ap length a.made.bytes in
           let at = a.made.at in
           let l = long c.block in
@@ -385,7 +385,7 @@ out_at_home first s made A b home =
           | inr m ↦ elim (live_cases s.heads c.number) [
             | inr d ↦ m.1 ∙ sym d.1
             | inl r ↦
-                let w = A.law.flights_have_changes.kept b r.0 (record { head = r.1; change = subst (IsOn r.0) on_b (A.kept c r.0 i r.1 r.2).block; flight = in_flight r.0.place r.3 (m.0 r.0 r.1 r.2) }) in
+                let w = A.lawful.flights_have_changes.kept b r.0 (record { head = r.1; change = subst (IsOn r.0) on_b (A.kept c r.0 i r.1 r.2).block; flight = in_flight r.0.place r.3 (m.0 r.0 r.1 r.2) }) in
                 absurd (none_flies w.0 w.1)
           ]
         ]

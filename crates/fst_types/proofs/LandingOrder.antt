@@ -27,21 +27,21 @@ use Rattle.fst_types.proofs.Numbers.{place_told, one_block}
 use Rattle.fst_types.proofs.Along.{Along, along, crash_folded, image_folded, down_same, down_landed}
 
 along_effect : (first old new : State) (made added : List ChangeMade) → Effect added old new → IsLawful new → Along first old made → Along first new (made ++ added)
-along_effect first old new made added (quiet same C) law A =
-    along Never first old new made added C law A
-    (λ b. same b ∙ (A.folded b ∙ ap (fold (committed first b)) (sym (down_same Never first old new made added C law A b (λ c on o m late. late)))))
-along_effect first old new made added (landing b f flight image others C) law A =
-    along (IsFlying b) first old new made added C law A
+along_effect first old new made added (quiet same C) lawful A =
+    along Never first old new made added C lawful A
+    (λ b. same b ∙ (A.folded b ∙ ap (fold (committed first b)) (sym (down_same Never first old new made added C lawful A b (λ c on o m late. late)))))
+along_effect first old new made added (landing b f flight image others C) lawful A =
+    along (IsFlying b) first old new made added C lawful A
     (λ k. elim (cases_eq k b) [
       | inl here ↦
           subst (λ j. committed new j ≡ fold (committed first j) (on_disk_of new j (made ++ added))) (sym here)
           (image
           ∙ (image_folded first old made A b f flight
-          ∙ ap (fold (committed first b)) (sym (down_landed (IsFlying b) first old new made added C law A b (λ o on flying. (on, flying)) (λ o late. late.1)))))
+          ∙ ap (fold (committed first b)) (sym (down_landed (IsFlying b) first old new made added C lawful A b (λ o on flying. (on, flying)) (λ o late. late.1)))))
       | inr other ↦
           others k other
           ∙ (A.folded k
-          ∙ ap (fold (committed first k)) (sym (down_same (IsFlying b) first old new made added C law A k (λ c on o m late. other (sym on ∙ one_block o c.block b m.block late.0)))))
+          ∙ ap (fold (committed first k)) (sym (down_same (IsFlying b) first old new made added C lawful A k (λ c on o m late. other (sym on ∙ one_block o c.block b m.block late.0)))))
     ])
 
 -- the changes made so far are those before and the one added
@@ -87,12 +87,12 @@ none_made AskStat f made = refl
 along_step : (first old new : State) (e : Event) (r : Reply) (made : List ChangeMade) → Step old e r new → Along first old made → Along first new (made_after made e r)
 along_step first old new e r made (accepted n row) A =
     subst (Along first new) (sym (made_row old new e r made row))
-    (along_effect first old new made (added_by e r) (effect_row old new e r row A.law.heads A.law.changes_fit) (step_keeps_lawful old new e r A.law (accepted n row)) A)
+    (along_effect first old new made (added_by e r) (effect_row old new e r row A.lawful.heads A.lawful.changes_fit) (step_keeps_lawful old new e r A.lawful (accepted n row)) A)
 along_step first old new e r made (refused {fault = f} refusal) A = subst (Along first old) (sym (none_made e f made)) A
 
 along_start : (first : State) → IsLawful first → first.heads ≡ [] → Along first first []
-along_start first law none = record {
-  law = law;
+along_start first lawful none = record {
+  lawful = lawful;
   ascends = tt;
   given = λ c i. absurd i;
   kept = λ c p i. absurd i;
@@ -103,12 +103,12 @@ along_start first law none = record {
 }
 
 along_run : (first s : State) (made : List ChangeMade) → IsLawful first → first.heads ≡ [] → Run first made s → Along first s made
-along_run first s made law none start = along_start first law none
-along_run first s made law none (more {made = before} {s = middle} {e = e} {r = r} run step) = along_step first middle s e r before step (along_run first middle before law none run)
+along_run first s made lawful none start = along_start first lawful none
+along_run first s made lawful none (more {made = before} {s = middle} {e = e} {r = r} run step) = along_step first middle s e r before step (along_run first middle before lawful none run)
 
 pub run_keeps_lawful : RunKeepsLawful
-run_keeps_lawful first s made law start = law
-run_keeps_lawful first s made law (more {made = before} {s = middle} {e = e} {r = r} run step) = step_keeps_lawful middle s e r (run_keeps_lawful first middle before law run) step
+run_keeps_lawful first s made lawful start = lawful
+run_keeps_lawful first s made lawful (more {made = before} {s = middle} {e = e} {r = r} run step) = step_keeps_lawful middle s e r (run_keeps_lawful first middle before lawful run) step
 
 -- what holds along each run holds over each run from an opening
 over_each : (P : State → List ChangeMade → State → Type 0) → ((first s : State) (made : List ChangeMade) → Along first s made → P first made s) → OverEachRun P
@@ -116,7 +116,7 @@ over_each P holds size resident numbers tickets bytes sized few less made s run 
     holds (opening size resident numbers tickets bytes) s made (along_run (opening size resident numbers tickets bytes) s made (opening_is_lawful size resident numbers tickets bytes sized few less) refl run)
 
 pub runs_stay_lawful : RunsStayLawful
-runs_stay_lawful = over_each (λ first made s. IsLawful s) (λ first s made A. A.law)
+runs_stay_lawful = over_each (λ first made s. IsLawful s) (λ first s made A. A.lawful)
 
 pub made_in_order : MadeInOrder
 made_in_order = over_each (λ first made s. AllPairs (λ c d. c.number < d.number) made) (λ first s made A. from_ascends (λ c. c.number) made A.ascends)
@@ -134,7 +134,7 @@ crash_is_fold =
 pub places_tell : PlacesTell
 places_tell =
     over_each (λ first made s. (c : ChangeMade) → Contains made c → (at : Place) × (place_of s.heads s.numbers c.number ≡ Some at) × (is_live_number s.heads c.number ≡ not (is_at at place.Disk)) × (is_number_in_memory s.heads c.number ≡ is_at at place.Memory))
-    (λ first s made A c i. let g = A.given c (In-from_Contains made c i) in place_told s.heads s.numbers c.number A.law.heads.one_place_each.rising g.0 g.1)
+    (λ first s made A c i. let g = A.given c (In-from_Contains made c i) in place_told s.heads s.numbers c.number A.lawful.heads.one_place_each.rising g.0 g.1)
 
 pub run_lands_in_order : RunLandsInOrder
 run_lands_in_order =
