@@ -14,8 +14,8 @@ use Rattle.fst_types.specs.State.{State, BlockState, Flight, block_of, flight_of
 use Rattle.fst_types.specs.Flights.{IsOut, IsStalled}
 use Rattle.fst_types.specs.Writing.{Issues, Lands, Stalls, Retries}
 use Rattle.fst_types.specs.Making.{MakesChange}
-use Rattle.fst_types.specs.Events.{Event, MakeChange, Issue, Settle, Retry, Choose, Show, Reply, MadeChange, Job, Landed, Stalled, Chosen, Shown, Refused}
-use Rattle.fst_types.specs.Step.{Step, accepted, refused, change, issue, land, stall, retry, choose, show}
+use Rattle.fst_types.specs.Events.{Event, MakeChange, MakeEmpty, MakeGate, Depend, Seal, Issue, Settle, Retry, Evict, Forget, Choose, Show, Reply, MadeChange, Made, Accepted as Agreed, Job, Landed, Stalled, Forgot, Chosen, Shown, Refused}
+use Rattle.fst_types.specs.Step.{Step, accepted, refused, change, empty, gate, depend, seal, issue, land, stall, retry, evict, forget, choose, show}
 use Rattle.fst_types.proofs.Moves.{flight_put, flight_in, has_block}
 use Rattle.fst_device.specs.JobView.{JobView}
 use Rattle.fst_device.specs.MemoryView.{MemoryView}
@@ -218,3 +218,46 @@ change_kept shape share old new jobs made a after faulted number grade K (accept
   where
     fits : (x y : ℕ) → (y < x → ⊥) → x ≤ y
     fits x y never = elim (cases_lt y x) [ inl lt ↦ absurd (never lt) | inr le ↦ le ]
+
+-- what is kept stays so where the blocks do
+kept_blocks : (shape : Shape) (share count : ℕ) (old new : State) (jobs : List (JobView MemoryView)) (made : List Accepted)
+    → IsKept shape share old jobs made → count ≡ new.made → new.size ≡ old.size → new.blocks ≡ old.blocks → IsKept shape count new jobs made
+kept_blocks shape share count old new jobs made K counted size blocks = record {
+  counted = counted;
+  blocks = K.blocks ∙ sym (ap (λ (x : List BlockState). length x) blocks);
+  size = K.size ∙ sym size;
+  out = λ i j lt. ap (λ (x : List BlockState). flight_in x (get_or jobs i j).block) blocks ∙ K.out i j lt;
+  apart = K.apart;
+  inside = subst (λ (n : ℕ). All (IsInside n) made) (sym size) K.inside;
+}
+
+-- one empty patch more, or one gate
+pub empty_kept : (shape : Shape) (share : ℕ) (old new : State) (jobs : List (JobView MemoryView)) (made : List Accepted) (after : List ℕ) (number : ℕ)
+    → IsKept shape share old jobs made → Step old (MakeEmpty share after) (Made number) new → IsKept shape (share + 1) new jobs made
+empty_kept shape share old new jobs made after number K (accepted n (empty m)) =
+    kept_blocks shape share (share + 1) old new jobs made K (ap (λ x. x + 1) K.counted ∙ sym (ap (λ s. s.made) m.state)) (ap (λ s. s.size) m.state) (ap (λ s. s.blocks) m.state)
+
+pub gate_kept : (shape : Shape) (share : ℕ) (old new : State) (jobs : List (JobView MemoryView)) (made : List Accepted) (number : ℕ)
+    → IsKept shape share old jobs made → Step old (MakeGate share) (Made number) new → IsKept shape (share + 1) new jobs made
+gate_kept shape share old new jobs made number K (accepted n (gate m)) =
+    kept_blocks shape share (share + 1) old new jobs made K (ap (λ x. x + 1) K.counted ∙ sym (ap (λ s. s.made) m.state)) (ap (λ s. s.size) m.state) (ap (λ s. s.blocks) m.state)
+
+-- a call that makes nothing and leaves the blocks
+pub depend_kept : (shape : Shape) (share : ℕ) (old new : State) (jobs : List (JobView MemoryView)) (made : List Accepted) (g : ℕ) (on : List ℕ)
+    → IsKept shape share old jobs made → Step old (Depend g on) Agreed new → IsKept shape share new jobs made
+depend_kept shape share old new jobs made g on K (accepted n (depend m)) =
+    kept_blocks shape share share old new jobs made K (K.counted ∙ sym (ap (λ s. s.made) m.state)) (ap (λ s. s.size) m.state) (ap (λ s. s.blocks) m.state)
+
+pub seal_kept : (shape : Shape) (share : ℕ) (old new : State) (jobs : List (JobView MemoryView)) (made : List Accepted) (g : ℕ)
+    → IsKept shape share old jobs made → Step old (Seal g) Agreed new → IsKept shape share new jobs made
+seal_kept shape share old new jobs made g K (accepted n (seal m)) =
+    kept_blocks shape share share old new jobs made K (K.counted ∙ sym (ap (λ s. s.made) m.state)) (ap (λ s. s.size) m.state) (ap (λ s. s.blocks) m.state)
+
+pub evict_kept : (shape : Shape) (share : ℕ) (old new : State) (jobs : List (JobView MemoryView)) (made : List Accepted) (b : ℕ)
+    → IsKept shape share old jobs made → Step old (Evict b) Agreed new → IsKept shape share new jobs made
+evict_kept shape share old new jobs made b K (accepted n evict) = K
+
+pub forget_kept : (shape : Shape) (share : ℕ) (old new : State) (jobs : List (JobView MemoryView)) (made : List Accepted) (dropped : ℕ)
+    → IsKept shape share old jobs made → Step old Forget (Forgot dropped) new → IsKept shape share new jobs made
+forget_kept shape share old new jobs made dropped K (accepted n (forget m)) =
+    kept_blocks shape share share old new jobs made K (K.counted ∙ sym (ap (λ s. s.made) m.state)) (ap (λ s. s.size) m.state) (ap (λ s. s.blocks) m.state)

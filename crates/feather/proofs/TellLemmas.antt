@@ -6,16 +6,17 @@ use Rattle.fst_types.specs.declared.fault.Fault.TheVariants as fault
 use Rattle.fst_types.specs.declared.settled.Settled.{Settled}
 use Rattle.fst_types.specs.declared.settled.Settled.TheVariants as settled
 use Rattle.fst_types.specs.State.{State}
-use Rattle.fst_types.specs.Events.{Event, Settle, Reply, Landed, Stalled}
-use Rattle.fst_types.specs.Step.{Step}
+use Rattle.fst_types.specs.Events.{Stat, Event, Settle, AskPlace, AskStat, Reply, Landed, Stalled, PlaceIs, StatIs}
+use Rattle.fst_types.specs.Looks.{place_of, stat_of}
+use Rattle.fst_types.specs.Step.{Step, accepted, ask_place, ask_stat}
 use Rattle.fst_cache.specs.Replies.{settled_reply}
 use Rattle.fst_device.specs.JobView.{JobView}
 use Rattle.fst_device.specs.MemoryView.{MemoryView}
-use Rattle.feather.specs.declared.command.Failure.{Failure}
+use Rattle.feather.specs.declared.failure.Failure.{Failure}
 use Rattle.feather.specs.declared.accepted.Accepted.{Accepted}
-use Rattle.feather.specs.Commands.{Command, done}
+use Rattle.feather.specs.Commands.{Command, done, place, stat}
 use Rattle.feather.specs.Sending.{Sends}
-use Rattle.feather.specs.Replies.{refusal}
+use Rattle.feather.specs.Replies.{refusal, place_text, stat_text}
 use Rattle.feather.specs.Script.{PlayerState, JobKept, Obeys, call_of, text_of, after_call, job_of, without, is_made, called, stranger}
 use Rattle.feather.specs.Kept.{job_kept, jobs_kept, change_made, changes_made, settled_text}
 use Rattle.feather.specs.Answering.{Obeyed}
@@ -25,6 +26,17 @@ pub Obeyed-called : {T E : Type 0} (p q : PlayerState) (c : Command) (faulted : 
     → call_of p faulted c ≡ Some e → Step p.cache e r s → q ≡ after_call p e r s → Sends a b told (text_of s e r ++ 10 ∷ []) → Obeyed p c a b told q
 Obeyed-called p q c faulted e r s a b told call step same sent =
     (text_of s e r, inr (subst (λ (x : PlayerState). Obeys p c (text_of s e r) x) (sym same) (called faulted call step)), sent)
+
+-- the place of a patch was asked, and the counts were
+pub Obeyed-place : {T E : Type 0} (p : PlayerState) (number : ℕ) (a b : Option (List ℕ)) (told : Result T E)
+    → Sends a b told (place_text number (place_of p.cache.heads p.cache.numbers number) ++ 10 ∷ []) → Obeyed p (place number) a b told p
+Obeyed-place p number a b told sent =
+    Obeyed-called p p (place number) false (AskPlace number) (PlaceIs (place_of p.cache.heads p.cache.numbers number)) p.cache a b told refl (accepted tt ask_place) refl sent
+
+pub Obeyed-stat : {T E : Type 0} (p : PlayerState) (counts : Stat) (a b : Option (List ℕ)) (told : Result T E)
+    → counts ≡ stat_of p.cache → Sends a b told (stat_text counts ++ 10 ∷ []) → Obeyed p stat a b told p
+Obeyed-stat p counts a b told same sent =
+    Obeyed-called p p stat false AskStat (StatIs (stat_of p.cache)) p.cache a b told refl (accepted tt ask_stat) refl (subst (λ (x : Stat). Sends a b told (stat_text x ++ 10 ∷ [])) same sent)
 
 -- no job of the ticket is kept
 pub Obeyed-stranger : {T E : Type 0} (p : PlayerState) (ticket : ℕ) (fail : Option Failure) (a b : Option (List ℕ)) (told : Result T E)

@@ -21,11 +21,11 @@ abbrev pub Has : Text → ℕ → List Row → ℕ → Type 0
 Has id default rows n = (o : Option ℕ) × IsRead (one_of id rows) o × (n ≡ unwrap_or o default)
 
 abbrev pub AsksIn : List Row → Run → Type 0
-AsksIn rows (Play blocks size) = Has (codes "blocks") 4 rows blocks × Has (codes "size") 4 rows size
+AsksIn rows (Play blocks size resident) = Has (codes "blocks") 4 rows blocks × Has (codes "size") 4 rows size × IsRead (one_of (codes "resident") rows) resident
 
 -- no subcommand is `play` with nothing said
 abbrev pub AsksAt : Option (Text × List Row) → Run → Type 0
-AsksAt None (Play blocks size) = (blocks ≡ 4) × (size ≡ 4)
+AsksAt None (Play blocks size resident) = (blocks ≡ 4) × (size ≡ 4) × (resident ≡ None)
 AsksAt (Some p) run = AsksIn p.1 run
 
 abbrev pub Asks : List Text → Run → Type 0

@@ -1,23 +1,30 @@
--- What a script line asks, with JSON as `serde_json` reads it and hex as `hex` reads it.
-use Rattle.std.specs.Prelude.{ℕ, ◌^◌, ◌-◌, ◌&&◌, if◌then◌else◌, Bool, true, false, List, [], ◌∷◌, Option, Some, None, option_and_then, option_map, Result, Ok, Err, nat_lt, nat_le, length, codes}
-use Rattle.std.specs.List.{list_any}
+-- What a script line asks, with JSON as `serde_json` reads it.
+use Rattle.std.specs.Prelude.{ℕ, if◌then◌else◌, List, [], ◌∷◌, Option, Some, None, option_and_then, option_map, Result, Ok, Err, nat_lt, length, codes}
 use Rattle.std.specs.Str.{is_utf8, bytes_eq}
-use Rattle.serde_json.specs.Data.{Data, null, boolean, number, string, array, object, Items, no_items, item, Members, no_members, member}
-use Rattle.serde_json.specs.Find.{get, as_number, as_str, as_array, as_object, as_u64}
+use Rattle.serde_json.specs.Data.{Data, null, boolean, number, string, array, object}
+use Rattle.serde_json.specs.Find.{get, as_str}
 use Rattle.serde_json.specs.Read.{read}
-use Rattle.hex.specs.Hex.{decode_of}
 use Rattle.fst_types.specs.declared.fault.Fault.{Fault}
 use Rattle.fst_types.specs.declared.fault.Fault.TheVariants as fault
-use Rattle.feather.specs.declared.command.Failure.{Failure}
-use Rattle.feather.specs.declared.command.Failure.TheVariants as failures
+use Rattle.feather.specs.declared.failure.Failure.{Failure}
+use Rattle.feather.specs.Members.{has_only, number_at, long_at, bytes_at, numbers_at, numbers_if_any, failure_if_any}
 
 pub data Command : Type 0 where
   patch : (block at : ℕ) (bytes after : List ℕ) → Command
+  empty : (after : List ℕ) → Command
+  gate : Command
+  depend : (number : ℕ) (on : List ℕ) → Command
+  seal : (number : ℕ) → Command
   choose : (block : ℕ) → Command
+  pick : Command
   write : (block : ℕ) → Command
   done : (ticket : ℕ) (fail : Option Failure) → Command
   retry : (block : ℕ) → Command
+  evict : (block : ℕ) → Command
   show : (block : ℕ) → Command
+  place : (number : ℕ) → Command
+  forget : Command
+  stat : Command
   crash : (finish : List ℕ) → Command
 
 -- the greatest length of a line, without its end
@@ -27,75 +34,6 @@ max_line = 65536
 -- the value of a line's bytes, if they are text
 abbrev pub value_of : List ℕ → Option Data
 value_of line = if is_utf8 line then read line else None
-
-abbrev pub is_one_of : List (List ℕ) → List ℕ → Bool
-is_one_of names key = list_any (bytes_eq key) names
-
--- no member but these
-abbrev pub only : List (List ℕ) → Members → Bool
-only names no_members = true
-only names (member key d ms) = is_one_of names key && only names ms
-
-abbrev pub has_only : List (List ℕ) → Data → Bool
-has_only names d = option_and_is (only names) (as_object d)
-  where
-    option_and_is : (Members → Bool) → Option Members → Bool
-    option_and_is p None = false
-    option_and_is p (Some ms) = p ms
-
-abbrev pub up_to : ℕ → ℕ → Option ℕ
-up_to most n = if nat_le n most then Some n else None
-
--- a number of 64 bits, and one of 32
-abbrev pub long_in : Data → Option ℕ
-long_in d = option_and_then as_u64 (as_number d)
-
-abbrev pub number_in : Data → Option ℕ
-number_in d = option_and_then (up_to (2 ^ 32 - 1)) (long_in d)
-
-abbrev pub numbers_of : Items → Option (List ℕ)
-numbers_of no_items = Some []
-numbers_of (item d ds) = option_and_then (λ n. option_map (λ ns. n ∷ ns) (numbers_of ds)) (number_in d)
-
-abbrev pub numbers_in : Data → Option (List ℕ)
-numbers_in d = option_and_then numbers_of (as_array d)
-
-abbrev pub if_ok : {A E : Type 0} → Result A E → Option A
-if_ok (Ok x) = Some x
-if_ok (Err e) = None
-
-abbrev pub bytes_in : Data → Option (List ℕ)
-bytes_in d = option_and_then (λ text. if_ok (decode_of text)) (as_str d)
-
-abbrev pub failure_named : List ℕ → Option Failure
-failure_named name =
-    if bytes_eq name (codes "before") then Some failures.Before
-    else if bytes_eq name (codes "after") then Some failures.After
-    else if bytes_eq name (codes "read") then Some failures.Read
-    else None
-
-abbrev pub failure_in : Data → Option Failure
-failure_in d = option_and_then (λ name. failure_named name) (as_str d)
-
--- a member that has to be there
-abbrev pub number_at : List ℕ → Data → Option ℕ
-number_at name d = option_and_then number_in (get name d)
-
-abbrev pub long_at : List ℕ → Data → Option ℕ
-long_at name d = option_and_then long_in (get name d)
-
-abbrev pub bytes_at : List ℕ → Data → Option (List ℕ)
-bytes_at name d = option_and_then bytes_in (get name d)
-
--- a list that may be left out, which is then empty
-abbrev pub numbers_if_any : Option Data → Option (List ℕ)
-numbers_if_any None = Some []
-numbers_if_any (Some d) = numbers_in d
-
--- a failure that may be left out
-abbrev pub failure_if_any : Option Data → Option (Option Failure)
-failure_if_any None = Some None
-failure_if_any (Some d) = option_map Some (failure_in d)
 
 -- each command: its members and no other, read one after another
 abbrev pub patch_in : Data → Option Command
@@ -111,9 +49,14 @@ patch_in d =
     (number_at (codes "block") d)
     else None
 
--- the block of a command that has no other member
-abbrev pub only_block_in : Data → Option ℕ
-only_block_in d = if has_only (codes "do" ∷ codes "block" ∷ []) d then number_at (codes "block") d else None
+abbrev pub empty_in : Data → Option Command
+empty_in d = if has_only (codes "do" ∷ codes "after" ∷ []) d then option_map empty (numbers_if_any (get (codes "after") d)) else None
+
+abbrev pub depend_in : Data → Option Command
+depend_in d =
+    if has_only (codes "do" ∷ codes "gate" ∷ codes "on" ∷ []) d then
+    option_and_then (λ number. option_map (depend number) (numbers_at (codes "on") d)) (number_at (codes "gate") d)
+    else None
 
 abbrev pub done_in : Data → Option Command
 done_in d =
@@ -124,16 +67,39 @@ done_in d =
 abbrev pub crash_in : Data → Option Command
 crash_in d = if has_only (codes "do" ∷ codes "finish" ∷ []) d then option_map crash (numbers_if_any (get (codes "finish") d)) else None
 
+-- the number of a command that has no other member
+abbrev pub only_number_in : List ℕ → Data → Option ℕ
+only_number_in name d = if has_only (codes "do" ∷ name ∷ []) d then number_at name d else None
+
+-- a command that has no member
+abbrev pub alone_in : Command → Data → Option Command
+alone_in command d = if has_only (codes "do" ∷ []) d then Some command else None
+
+-- the commands on blocks
+abbrev pub block_command_named : List ℕ → Data → Option Command
+block_command_named name d =
+    if bytes_eq name (codes "choose") then option_map choose (only_number_in (codes "block") d)
+    else if bytes_eq name (codes "pick") then alone_in pick d
+    else if bytes_eq name (codes "write") then option_map write (only_number_in (codes "block") d)
+    else if bytes_eq name (codes "done") then done_in d
+    else if bytes_eq name (codes "retry") then option_map retry (only_number_in (codes "block") d)
+    else if bytes_eq name (codes "evict") then option_map evict (only_number_in (codes "block") d)
+    else if bytes_eq name (codes "show") then option_map show (only_number_in (codes "block") d)
+    else if bytes_eq name (codes "crash") then crash_in d
+    else None
+
+-- the commands on patches, and those
 abbrev pub command_named : List ℕ → Data → Option Command
 command_named name d =
     if bytes_eq name (codes "patch") then patch_in d
-    else if bytes_eq name (codes "choose") then option_map choose (only_block_in d)
-    else if bytes_eq name (codes "write") then option_map write (only_block_in d)
-    else if bytes_eq name (codes "done") then done_in d
-    else if bytes_eq name (codes "retry") then option_map retry (only_block_in d)
-    else if bytes_eq name (codes "show") then option_map show (only_block_in d)
-    else if bytes_eq name (codes "crash") then crash_in d
-    else None
+    else if bytes_eq name (codes "empty") then empty_in d
+    else if bytes_eq name (codes "gate") then alone_in gate d
+    else if bytes_eq name (codes "depend") then depend_in d
+    else if bytes_eq name (codes "seal") then option_map seal (only_number_in (codes "gate") d)
+    else if bytes_eq name (codes "place") then option_map place (only_number_in (codes "patch") d)
+    else if bytes_eq name (codes "forget") then alone_in forget d
+    else if bytes_eq name (codes "stat") then alone_in stat d
+    else block_command_named name d
 
 abbrev pub command_in : Data → Option Command
 command_in d = option_and_then (λ name. command_named name d) (option_and_then as_str (get (codes "do") d))

@@ -1,3 +1,4 @@
+pub mod Members
 pub mod Commands
 pub mod Parsing
 pub mod Program

@@ -4,7 +4,7 @@ use Rattle.fst_types.specs.declared.number.BlockNo.{BlockNo}
 use Rattle.fst_types.specs.declared.number.PatchNo.{PatchNo}
 use Rattle.fst_types.specs.declared.fault.Fault.{Fault}
 use Rattle.fst_types.specs.declared.fault.Fault.TheVariants as fault
-use Rattle.feather.specs.Commands.{Command, patch, choose, write, done, retry, show, crash}
+use Rattle.feather.specs.Commands.{Command, patch, empty, gate, depend, seal, choose, pick, write, done, retry, evict, show, place, forget, stat, crash}
 use Rattle.feather.specs.declared.command.Command.{Command as Parsed}
 use Rattle.feather.specs.declared.command.Command.TheVariants as parsed
 
@@ -16,11 +16,20 @@ patch_numbers patches = map (λ p. p.0) patches
 
 abbrev pub command : Parsed → Command
 command (parsed.Patch block at bytes after) = patch block.0 at bytes.items (patch_numbers after.items)
+command (parsed.Empty after) = empty (patch_numbers after.items)
+command parsed.Gate = gate
+command (parsed.Depend number on) = depend number.0 (patch_numbers on.items)
+command (parsed.Seal number) = seal number.0
 command (parsed.Choose block) = choose block.0
+command parsed.Pick = pick
 command (parsed.Write block) = write block.0
 command (parsed.Done ticket fail) = done ticket.0 fail
 command (parsed.Retry block) = retry block.0
+command (parsed.Evict block) = evict block.0
 command (parsed.Show block) = show block.0
+command (parsed.Place number) = place number.0
+command parsed.Forget = forget
+command parsed.Stat = stat
 command (parsed.Crash finish) = crash (block_numbers finish.items)
 
 -- memory was refused, or what was asked for is not there

@@ -12,7 +12,9 @@ abbrev pub default_rule : Text → Text → Rule
 default_rule name default = record (number_rule name) { defaults = default ∷ [] }
 
 abbrev pub play_app : App
-play_app = with_rule (with_rule (new_app (codes "play")) (default_rule (codes "blocks") (codes "4"))) (default_rule (codes "size") (codes "4"))
+play_app =
+    with_rule (with_rule (with_rule (new_app (codes "play")) (default_rule (codes "blocks") (codes "4"))) (default_rule (codes "size") (codes "4")))
+    (number_rule (codes "resident"))
 
 abbrev pub program : App
 program = with_subcommand (new_app (codes "feather")) play_app.top

@@ -2,7 +2,7 @@
 use Rattle.std.specs.Prelude.{◌≡◌, ◌==◌, ◌&&◌, ◌⊎◌, ℕ, Bool, true, false, List, [], ◌∷◌, ◌++◌, Option, Some, None, Result, Ok, Err, map, filter, find, length, is_some, nat_le, option_map, replicate, if◌then◌else◌}
 use Rattle.std.specs.List.{range_with_len}
 use Rattle.fst_types.specs.declared.place.Place.{Place}
-use Rattle.fst_types.specs.declared.place.Place.TheVariants as place
+use Rattle.fst_types.specs.declared.place.Place.TheVariants as at_place
 use Rattle.fst_types.specs.declared.fault.Fault.{Fault}
 use Rattle.fst_types.specs.declared.fault.Fault.TheVariants as fault
 use Rattle.fst_types.specs.declared.shape.Shape.{Shape}
@@ -12,13 +12,13 @@ use Rattle.fst_types.specs.State.{State, flight_of}
 use Rattle.fst_types.specs.Opening.{opening}
 use Rattle.fst_types.specs.Bytes.{changes_at}
 use Rattle.fst_types.specs.Looks.{place_of}
-use Rattle.fst_types.specs.Events.{Event, MakeChange, Issue, Settle, Retry, Choose, Show, Reply, MadeChange, Job, Landed, Stalled, Chosen, Shown, Refused}
+use Rattle.fst_types.specs.Events.{Event, MakeChange, MakeEmpty, MakeGate, Depend, Seal, Issue, Settle, Retry, Evict, Forget, Choose, Pick, Show, AskPlace, AskStat, Reply, MadeChange, Made, Accepted, Job, Landed, Stalled, Forgot, Chosen, Block, Shown, PlaceIs, StatIs, Refused}
 use Rattle.fst_types.specs.Step.{Step}
 use Rattle.fst_types.specs.Run.{ChangeMade, made_after}
-use Rattle.feather.specs.declared.command.Failure.{Failure}
-use Rattle.feather.specs.declared.command.Failure.TheVariants as failures
-use Rattle.feather.specs.Commands.{Command, patch, choose, write, done, retry, show, crash, command_of}
-use Rattle.feather.specs.Replies.{refusal, patch_text, chosen_text, flight_text, done_text, stalled_text, show_text, crash_text}
+use Rattle.feather.specs.declared.failure.Failure.{Failure}
+use Rattle.feather.specs.declared.failure.Failure.TheVariants as failures
+use Rattle.feather.specs.Commands.{Command, patch, empty, gate, depend, seal, choose, pick, write, done, retry, evict, show, place, forget, stat, crash, command_of}
+use Rattle.feather.specs.Replies.{refusal, patch_text, empty_text, gate_text, depend_text, seal_text, chosen_text, pick_text, flight_text, done_text, stalled_text, evict_text, show_text, place_text, forget_text, stat_text, crash_text}
 
 -- a job that the player keeps: a write that is out
 pub record JobKept : Type 0 where
@@ -55,26 +55,44 @@ is_made (Some failures.Read) = true
 -- the call of the cache that a command makes, if it makes one; `faulted` says whether the slot's count of faults rose in it
 abbrev pub call_of : PlayerState → Bool → Command → Option Event
 call_of p faulted (patch block at bytes after) = Some (MakeChange p.cache.made block at bytes after faulted)
+call_of p faulted (empty after) = Some (MakeEmpty p.cache.made after)
+call_of p faulted gate = Some (MakeGate p.cache.made)
+call_of p faulted (depend number on) = Some (Depend number on)
+call_of p faulted (seal number) = Some (Seal number)
 call_of p faulted (choose block) = Some (Choose block)
+call_of p faulted pick = Some Pick
 call_of p faulted (write block) = Some (Issue block)
 call_of p faulted (done ticket fail) = option_map (λ job. Settle ticket job.block job.image (is_made fail)) (job_of p.jobs ticket)
 call_of p faulted (retry block) = Some (Retry block)
+call_of p faulted (evict block) = Some (Evict block)
 call_of p faulted (show block) = Some (Show block faulted)
+call_of p faulted (place number) = Some (AskPlace number)
+call_of p faulted forget = Some Forget
+call_of p faulted stat = Some AskStat
 call_of p faulted (crash finish) = None
 
 -- the numbers in flight of a block
 abbrev pub in_flight : State → ℕ → List ℕ
-in_flight s block = map (λ p. p.number) (changes_at s place.Flight block)
+in_flight s block = map (λ p. p.number) (changes_at s at_place.Flight block)
 
 -- the text of what a call answered, s being the state after it
 abbrev pub text_of : State → Event → Reply → List ℕ
 text_of s e (Refused f) = refusal f
 text_of s e (MadeChange number grade) = patch_text number grade
+text_of s (MakeEmpty share after) (Made number) = empty_text number
+text_of s (MakeGate share) (Made number) = gate_text number
+text_of s (Depend number on) Accepted = depend_text number
+text_of s (Seal number) Accepted = seal_text number
 text_of s (Choose block) (Chosen patches) = chosen_text block patches
+text_of s Pick (Block picked) = pick_text picked
 text_of s e (Job ticket block image) = flight_text ticket block (in_flight s block) image
 text_of s (Settle ticket block image written) Landed = done_text ticket block
 text_of s (Settle ticket block image written) Stalled = stalled_text ticket block
+text_of s (Evict block) Accepted = evict_text block
 text_of s (Show block faulted) (Shown bytes) = show_text block bytes
+text_of s (AskPlace number) (PlaceIs found) = place_text number found
+text_of s Forget (Forgot patches) = forget_text patches
+text_of s AskStat (StatIs told) = stat_text told
 text_of s _ _ = []
 
 -- the jobs kept after a call: the one that it gave is added, and the one that it took is gone
@@ -103,8 +121,8 @@ first_finish_fault s (block ∷ blocks) = or_else (finish_fault s block) (first_
 
 -- a crash leaves what is on disk, and what is in flight where its write was finished
 abbrev pub is_left_at : Bool → Option Place → Bool
-is_left_at finished (Some place.Disk) = true
-is_left_at finished (Some place.Flight) = finished
+is_left_at finished (Some at_place.Disk) = true
+is_left_at finished (Some at_place.Flight) = finished
 is_left_at finished _ = false
 
 -- a crash leaves this change, the writes of these blocks being finished

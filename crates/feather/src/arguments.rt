@@ -1,6 +1,6 @@
 //! The program's command line.
 
-ghost use Rattle.std.specs.Prelude.{◌≡◌, None, false, map, codes, IfOk, IfErr, true, [], ◌∷◌};
+ghost use Rattle.std.specs.Prelude.{◌≡◌, None, Some, false, map, codes, IfOk, IfErr, true, [], ◌∷◌};
 ghost use Rattle.clap.specs.Words.{rule_of, app_of, rows_of, found_of, one_of, takes, kind_of, subcommand_of};
 ghost use Rattle.clap.specs.declared.builder.command.Command.TheViews.{out-Command as fields_of};
 ghost use Rattle.feather.specs.Program.{number_rule, default_rule, play_app, program};
@@ -13,8 +13,12 @@ use std::alloc::{AllocError, Global};
 /// What the program is asked to do.
 #[derive(Debug, Drop)]
 pub enum Run {
-    /// To play a script over so many blocks of so many bytes.
-    Play { blocks: u32, size: u32 },
+    /// To play a script over so many blocks of so many bytes, of which so many may be in memory at once.
+    Play {
+        blocks: u32,
+        size: u32,
+        resident: Option<u32>,
+    },
 }
 
 fn number_option<'a>(alloc: Global, name: &'a str) -> Arg<'a>
@@ -39,7 +43,8 @@ fn play_command<'a>(alloc: Global) -> Result<Command<'a>, AllocError>
 {
     Command::new(alloc, "play")
         .arg(default_option(alloc, "blocks", "4"))?
-        .arg(default_option(alloc, "size", "4"))
+        .arg(default_option(alloc, "size", "4"))?
+        .arg(number_option(alloc, "resident"))
 }
 
 fn program_command<'a>(alloc: Global) -> Result<Command<'a>, AllocError>
@@ -66,6 +71,7 @@ fn play_in(matches: &ArgMatches<'_>) -> Run
     Run::Play {
         blocks: read_or(matches, "blocks", 4),
         size: read_or(matches, "size", 4),
+        resident: read(matches, "resident"),
     }
 }
 
@@ -83,7 +89,11 @@ pub fn args<'a>(alloc: Global, words: &'a [&'a str]) -> Result<Run, Error>
     };
     match matches.subcommand() {
         Some((_, inner)) => Ok(play_in(inner)),
-        None => Ok(Run::Play { blocks: 4, size: 4 }),
+        None => Ok(Run::Play {
+            blocks: 4,
+            size: 4,
+            resident: None,
+        }),
     }
 }
 
@@ -93,8 +103,14 @@ pub fn play_is_default()
     ensures none { subcommand_of program (codes "feather" ∷ []) ≡ None }
 {}
 
-/// One number given: the other has its default.
+/// One number given: the others have their defaults.
 pub fn three_blocks()
     ensures taken { takes program (codes "feather" ∷ codes "play" ∷ codes "--blocks" ∷ codes "3" ∷ []) ≡ true }
-    ensures asked { Asks (codes "feather" ∷ codes "play" ∷ codes "--blocks" ∷ codes "3" ∷ []) (Run.Play 3 4) }
+    ensures asked { Asks (codes "feather" ∷ codes "play" ∷ codes "--blocks" ∷ codes "3" ∷ []) (Run.Play 3 4 None) }
+{}
+
+/// How many blocks may be in memory, beside the defaults.
+pub fn one_resident_block()
+    ensures taken { takes program (codes "feather" ∷ codes "play" ∷ codes "--resident" ∷ codes "1" ∷ []) ≡ true }
+    ensures asked { Asks (codes "feather" ∷ codes "play" ∷ codes "--resident" ∷ codes "1" ∷ []) (Run.Play 4 4 (Some 1)) }
 {}

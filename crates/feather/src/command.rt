@@ -1,28 +1,22 @@
 //! What a script line asks: one JSON object with a member `do` and the members that its command has.
 
-ghost use Rattle.std.specs.Prelude.{◌≡◌, map, codes, Option, option_map, Some};
+ghost use Rattle.std.specs.Prelude.{◌≡◌, codes, Option, option_map, Some};
 ghost use Rattle.serde_json.specs.Find.{as_object};
-ghost use Rattle.serde_json.specs.View.{view, items_view, members_view};
-ghost use Rattle.feather.specs.Commands.{command_of};
-ghost use Rattle.feather.specs.Parsing.{command, block_numbers, patch_numbers, Gives, Parses};
+ghost use Rattle.serde_json.specs.View.{view, members_view};
+ghost use Rattle.feather.specs.Commands.{patch_in, empty_in, depend_in, done_in, crash_in, only_number_in, alone_in, block_command_named, command_named, command_in, command_of};
+ghost use Rattle.feather.specs.Parsing.{command, Gives, Parses};
 
+use crate::failure::Failure;
+use crate::members::{
+    blocks_if_any, bytes_at, failure_if_any, has_only, long_at, number_at, patches_at,
+    patches_if_any,
+};
 use fst_types::{BlockNo, Fault, PatchNo, Ticket};
 use serde_json::{Map, Value};
 use std::alloc::Global;
 
 /// The greatest length of a line, without its end.
 pub const MAX_LINE: usize = 65_536;
-
-/// How a write is to fail, or the read after it.
-#[derive(Clone, Copy, PartialEq, Eq, Debug)]
-pub enum Failure {
-    /// The write fails and the old bytes stay.
-    Before,
-    /// The write fails and the image stands.
-    After,
-    /// The write succeeds, and the slot's next read fails once.
-    Read,
-}
 
 /// What a line asks.
 #[derive(Drop)]
@@ -33,9 +27,21 @@ pub enum Command {
         data: Vec<u8>,
         after: Vec<PatchNo>,
     },
+    Empty {
+        after: Vec<PatchNo>,
+    },
+    Gate,
+    Depend {
+        gate: PatchNo,
+        on: Vec<PatchNo>,
+    },
+    Seal {
+        gate: PatchNo,
+    },
     Choose {
         block: BlockNo,
     },
+    Pick,
     Write {
         block: BlockNo,
     },
@@ -46,166 +52,20 @@ pub enum Command {
     Retry {
         block: BlockNo,
     },
+    Evict {
+        block: BlockNo,
+    },
     Show {
         block: BlockNo,
     },
+    Place {
+        patch: PatchNo,
+    },
+    Forget,
+    Stat,
     Crash {
         finish: Vec<BlockNo>,
     },
-}
-
-ghost use Rattle.feather.specs.Commands.{is_one_of, only, has_only, number_in, long_in, numbers_of, numbers_in, bytes_in, failure_in, number_at, long_at, bytes_at, numbers_if_any, failure_if_any, patch_in, only_block_in, done_in, crash_in, command_in};
-
-fn is_one_of(names: &[&str], key: &str) -> bool
-    ensures { result ≡ is_one_of (map (λ n. n.now) names.now) key.now }
-{
-    for name in names {
-        if key == *name {
-            return true;
-        }
-    }
-    false
-}
-
-// Whether an object has no member but these.
-fn has_only(names: &[&str], members: &Map<String, Value>) -> bool
-    ensures { result ≡ only (map (λ n. n.now) names.now) (members_view members.now.entries) }
-{
-    for (key, _) in members {
-        if !is_one_of(names, key.as_str()) {
-            return false;
-        }
-    }
-    true
-}
-
-fn number(value: &Value) -> Result<u32, Fault>
-    ensures { Gives (λ n. n) result (number_in (view value.now)) }
-{
-    match value.as_u64() {
-        Some(n) if n <= 4_294_967_295 => Ok(n as u32),
-        _ => Err(Fault::BadField),
-    }
-}
-
-fn number_at(value: &Value, name: &str) -> Result<u32, Fault>
-    ensures { Gives (λ n. n) result (number_at name.now (view value.now)) }
-{
-    match value.get(name) {
-        Some(found) => number(found),
-        None => Err(Fault::BadField),
-    }
-}
-
-fn block_at(value: &Value) -> Result<BlockNo, Fault>
-    ensures { Gives (λ b. b.0) result (number_at (codes "block") (view value.now)) }
-{
-    Ok(BlockNo(number_at(value, "block")?))
-}
-
-fn ticket_at(value: &Value) -> Result<Ticket, Fault>
-    ensures { Gives (λ t. t.0) result (long_at (codes "ticket") (view value.now)) }
-{
-    match value.get("ticket").and_then(Value::as_u64) {
-        Some(n) => Ok(Ticket(n)),
-        None => Err(Fault::BadField),
-    }
-}
-
-fn bytes(alloc: Global, value: &Value) -> Result<Vec<u8>, Fault>
-    ensures { Gives (λ v. v.items) result (bytes_in (view value.now)) }
-{
-    let Some(text) = value.as_str() else {
-        return Err(Fault::BadField);
-    };
-    match hex::decode(alloc, text) {
-        Ok(bytes) => Ok(bytes),
-        Err(hex::FromHexError::OutOfMemory) => Err(Fault::Memory),
-        Err(_) => Err(Fault::BadField),
-    }
-}
-
-fn data_at(alloc: Global, value: &Value) -> Result<Vec<u8>, Fault>
-    ensures { Gives (λ v. v.items) result (bytes_at (codes "data") (view value.now)) }
-{
-    match value.get("data") {
-        Some(found) => bytes(alloc, found),
-        None => Err(Fault::BadField),
-    }
-}
-
-fn patches(alloc: Global, values: &[Value]) -> Result<Vec<PatchNo>, Fault>
-    ensures { Gives (λ v. patch_numbers v.items) result (numbers_of (items_view values.now)) }
-{
-    let mut patches = Vec::new(alloc);
-    for value in values {
-        let n = number(value)?;
-        if patches.push(PatchNo(n)).is_err() {
-            return Err(Fault::Memory);
-        }
-    }
-    Ok(patches)
-}
-
-fn blocks(alloc: Global, values: &[Value]) -> Result<Vec<BlockNo>, Fault>
-    ensures { Gives (λ v. block_numbers v.items) result (numbers_of (items_view values.now)) }
-{
-    let mut blocks = Vec::new(alloc);
-    for value in values {
-        let n = number(value)?;
-        if blocks.push(BlockNo(n)).is_err() {
-            return Err(Fault::Memory);
-        }
-    }
-    Ok(blocks)
-}
-
-// The patches of a list that may be left out.
-fn patches_if_any(alloc: Global, value: Option<&Value>) -> Result<Vec<PatchNo>, Fault>
-    ensures { Gives (λ v. patch_numbers v.items) result
-        (numbers_if_any (option_map (λ v. view v.now) value.entry)) }
-{
-    let Some(value) = value else {
-        return Ok(Vec::new(alloc));
-    };
-    match value.as_array() {
-        Some(values) => patches(alloc, values.as_slice()),
-        None => Err(Fault::BadField),
-    }
-}
-
-// The blocks of a list that may be left out.
-fn blocks_if_any(alloc: Global, value: Option<&Value>) -> Result<Vec<BlockNo>, Fault>
-    ensures { Gives (λ v. block_numbers v.items) result
-        (numbers_if_any (option_map (λ v. view v.now) value.entry)) }
-{
-    let Some(value) = value else {
-        return Ok(Vec::new(alloc));
-    };
-    match value.as_array() {
-        Some(values) => blocks(alloc, values.as_slice()),
-        None => Err(Fault::BadField),
-    }
-}
-
-fn read_failure(value: &Value) -> Result<Failure, Fault>
-    ensures { Gives (λ f. f) result (failure_in (view value.now)) }
-{
-    match value.as_str() {
-        Some("before") => Ok(Failure::Before),
-        Some("after") => Ok(Failure::After),
-        Some("read") => Ok(Failure::Read),
-        _ => Err(Fault::BadField),
-    }
-}
-
-fn failure_if_any(value: Option<&Value>) -> Result<Option<Failure>, Fault>
-    ensures { Gives (λ f. f) result (failure_if_any (option_map (λ v. view v.now) value.entry)) }
-{
-    match value {
-        Some(value) => Ok(Some(read_failure(value)?)),
-        None => Ok(None),
-    }
 }
 
 fn patch(alloc: Global, value: &Value, members: &Map<String, Value>) -> Result<Command, Fault>
@@ -215,9 +75,9 @@ fn patch(alloc: Global, value: &Value, members: &Map<String, Value>) -> Result<C
     if !has_only(&["do", "block", "at", "data", "after"], members) {
         return Err(Fault::BadField);
     }
-    let block = block_at(value)?;
+    let block = BlockNo(number_at(value, "block")?);
     let at = number_at(value, "at")?;
-    let data = data_at(alloc, value)?;
+    let data = bytes_at(alloc, value, "data")?;
     let after = patches_if_any(alloc, value.get("after"))?;
     Ok(Command::Patch {
         block,
@@ -227,15 +87,27 @@ fn patch(alloc: Global, value: &Value, members: &Map<String, Value>) -> Result<C
     })
 }
 
-// The block of a command that has no other member.
-fn only_block(value: &Value, members: &Map<String, Value>) -> Result<BlockNo, Fault>
+fn empty(alloc: Global, value: &Value, members: &Map<String, Value>) -> Result<Command, Fault>
     requires { as_object (view value.now) ≡ Some (members_view members.now.entries) }
-    ensures { Gives (λ b. b.0) result (only_block_in (view value.now)) }
+    ensures { Gives command result (empty_in (view value.now)) }
 {
-    if !has_only(&["do", "block"], members) {
+    if !has_only(&["do", "after"], members) {
         return Err(Fault::BadField);
     }
-    block_at(value)
+    let after = patches_if_any(alloc, value.get("after"))?;
+    Ok(Command::Empty { after })
+}
+
+fn depend(alloc: Global, value: &Value, members: &Map<String, Value>) -> Result<Command, Fault>
+    requires { as_object (view value.now) ≡ Some (members_view members.now.entries) }
+    ensures { Gives command result (depend_in (view value.now)) }
+{
+    if !has_only(&["do", "gate", "on"], members) {
+        return Err(Fault::BadField);
+    }
+    let gate = PatchNo(number_at(value, "gate")?);
+    let on = patches_at(alloc, value, "on")?;
+    Ok(Command::Depend { gate, on })
 }
 
 fn done(value: &Value, members: &Map<String, Value>) -> Result<Command, Fault>
@@ -245,7 +117,7 @@ fn done(value: &Value, members: &Map<String, Value>) -> Result<Command, Fault>
     if !has_only(&["do", "ticket", "fail"], members) {
         return Err(Fault::BadField);
     }
-    let ticket = ticket_at(value)?;
+    let ticket = Ticket(long_at(value, "ticket")?);
     let fail = failure_if_any(value.get("fail"))?;
     Ok(Command::Done { ticket, fail })
 }
@@ -261,27 +133,111 @@ fn crash(alloc: Global, value: &Value, members: &Map<String, Value>) -> Result<C
     Ok(Command::Crash { finish })
 }
 
+// The number of a command that has no other member.
+fn only_number(value: &Value, members: &Map<String, Value>, name: &str) -> Result<u32, Fault>
+    requires { as_object (view value.now) ≡ Some (members_view members.now.entries) }
+    ensures { Gives (λ n. n) result (only_number_in name.now (view value.now)) }
+{
+    if !has_only(&["do", name], members) {
+        return Err(Fault::BadField);
+    }
+    number_at(value, name)
+}
+
+// The block of a command that has no other member.
+fn only_block(value: &Value, members: &Map<String, Value>) -> Result<BlockNo, Fault>
+    requires { as_object (view value.now) ≡ Some (members_view members.now.entries) }
+    ensures { Gives (λ b. b.0) result (only_number_in (codes "block") (view value.now)) }
+{
+    Ok(BlockNo(only_number(value, members, "block")?))
+}
+
+// The patch of a command that has no other member.
+fn only_patch(value: &Value, members: &Map<String, Value>, name: &str) -> Result<PatchNo, Fault>
+    requires { as_object (view value.now) ≡ Some (members_view members.now.entries) }
+    ensures { Gives (λ p. p.0) result (only_number_in name.now (view value.now)) }
+{
+    Ok(PatchNo(only_number(value, members, name)?))
+}
+
+// A command that has no member.
+fn alone(asked: Command, value: &Value, members: &Map<String, Value>) -> Result<Command, Fault>
+    requires { as_object (view value.now) ≡ Some (members_view members.now.entries) }
+    ensures { Gives command result (alone_in (command asked) (view value.now)) }
+{
+    if !has_only(&["do"], members) {
+        return Err(Fault::BadField);
+    }
+    Ok(asked)
+}
+
+// A command on blocks.
+fn block_command_named(
+    alloc: Global,
+    name: &str,
+    value: &Value,
+    members: &Map<String, Value>,
+) -> Result<Command, Fault>
+    requires { as_object (view value.now) ≡ Some (members_view members.now.entries) }
+    ensures { Gives command result (block_command_named name.now (view value.now)) }
+{
+    match name {
+        "choose" => Ok(Command::Choose {
+            block: only_block(value, members)?,
+        }),
+        "pick" => alone(Command::Pick, value, members),
+        "write" => Ok(Command::Write {
+            block: only_block(value, members)?,
+        }),
+        "done" => done(value, members),
+        "retry" => Ok(Command::Retry {
+            block: only_block(value, members)?,
+        }),
+        "evict" => Ok(Command::Evict {
+            block: only_block(value, members)?,
+        }),
+        "show" => Ok(Command::Show {
+            block: only_block(value, members)?,
+        }),
+        "crash" => crash(alloc, value, members),
+        _ => Err(Fault::BadField),
+    }
+}
+
+// A command on patches, or one on blocks.
+fn command_named(
+    alloc: Global,
+    name: &str,
+    value: &Value,
+    members: &Map<String, Value>,
+) -> Result<Command, Fault>
+    requires { as_object (view value.now) ≡ Some (members_view members.now.entries) }
+    ensures { Gives command result (command_named name.now (view value.now)) }
+{
+    match name {
+        "patch" => patch(alloc, value, members),
+        "empty" => empty(alloc, value, members),
+        "gate" => alone(Command::Gate, value, members),
+        "depend" => depend(alloc, value, members),
+        "seal" => Ok(Command::Seal {
+            gate: only_patch(value, members, "gate")?,
+        }),
+        "place" => Ok(Command::Place {
+            patch: only_patch(value, members, "patch")?,
+        }),
+        "forget" => alone(Command::Forget, value, members),
+        "stat" => alone(Command::Stat, value, members),
+        _ => block_command_named(alloc, name, value, members),
+    }
+}
+
 fn command_in(alloc: Global, value: &Value, members: &Map<String, Value>) -> Result<Command, Fault>
     requires { as_object (view value.now) ≡ Some (members_view members.now.entries) }
     ensures { Gives command result (command_in (view value.now)) }
 {
     match value.get("do").and_then(Value::as_str) {
-        Some("patch") => patch(alloc, value, members),
-        Some("choose") => Ok(Command::Choose {
-            block: only_block(value, members)?,
-        }),
-        Some("write") => Ok(Command::Write {
-            block: only_block(value, members)?,
-        }),
-        Some("done") => done(value, members),
-        Some("retry") => Ok(Command::Retry {
-            block: only_block(value, members)?,
-        }),
-        Some("show") => Ok(Command::Show {
-            block: only_block(value, members)?,
-        }),
-        Some("crash") => crash(alloc, value, members),
-        _ => Err(Fault::BadField),
+        Some(name) => command_named(alloc, name, value, members),
+        None => Err(Fault::BadField),
     }
 }
 

@@ -7,8 +7,10 @@
 mod accepted;
 mod arguments;
 mod command;
+mod failure;
 mod laws;
 mod line;
+mod members;
 mod output;
 mod play;
 mod player;
@@ -34,8 +36,9 @@ fn stopped(rt: &HostRuntime) -> u8 {
     STOPPED
 }
 
-fn plays(rt: &HostRuntime, blocks: u32, size: u32) -> u8 {
-    let Ok(shape) = Shape::new(blocks, size, blocks) else {
+// As many blocks as there are may be in memory at once, unless it is said how many.
+fn plays(rt: &HostRuntime, blocks: u32, size: u32, resident: Option<u32>) -> u8 {
+    let Ok(shape) = Shape::new(blocks, size, resident.unwrap_or(blocks)) else {
         let _ = eprintln!(rt; "feather: refused 2");
         return REFUSED;
     };
@@ -73,7 +76,13 @@ fn run(rt: &HostRuntime) -> u8 {
         return stopped(rt);
     };
     match args(rt.alloc(), texts.as_slice()) {
-        Ok(Run::Play { blocks, size }) => plays(rt, blocks, size),
+        Ok(
+            Run::Play {
+                blocks,
+                size,
+                resident,
+            },
+        ) => plays(rt, blocks, size, resident),
         Err(error) => refused(rt, &error),
     }
 }

@@ -22,8 +22,7 @@ pub enum PlayFault {
     Start(Fault),
 }
 
-/// Plays all that the reader gives to the writer, over zero blocks, all of which may be in memory at once: one reply a
-/// line, and nothing else. A line is at most 65,536 bytes long; the reader and the writer are called at most
+/// Plays all that the reader gives to the writer, over zero blocks: one reply a line, and nothing else. A line is at most 65,536 bytes long; the reader and the writer are called at most
 /// 18,446,744,073,709,551,615 times each. Memory is taken for the player, for the line that is read, and for what it
 /// asks; a line for which memory is refused is answered so, and the play goes on.
 pub fn play<R: Read, W: Write>(
@@ -32,7 +31,6 @@ pub fn play<R: Read, W: Write>(
     writer: &mut W,
     shape: Shape,
 ) -> Result<(), PlayFault>
-    requires { shape.resident ≡ shape.blocks }
     ensures played { (given : List ℕ) × (sent : List ℕ)
         × Consumes (R.remaining reader.old) (R.remaining reader.new) given
         × Appends (W.contents writer.old) (W.contents writer.new) sent

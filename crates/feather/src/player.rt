@@ -1,11 +1,13 @@
 //! The player of a script: a cache over disks in memory, the jobs that it keeps until `done` names them, and the
 //! changes that were accepted, from which a crash's bytes are folded anew.
 
+mod buffer;
 mod crash;
 mod done;
+mod gate;
+mod heads;
 mod open;
 mod patch;
-mod show;
 mod write;
 
 ghost use Rattle.std.specs.Prelude.{◌≡◌, List, ℕ, ◌++◌, ◌∷◌, []};
@@ -48,7 +50,6 @@ impl Model for Player {
 impl Player {
     fn obey<W: Write>(
         &mut self,
-        alloc: Global,
         writer: &mut W,
         calls: &mut u64,
         asked: Command,
@@ -62,12 +63,21 @@ impl Player {
                 at,
                 data,
                 after,
-            } => self.patch(alloc, writer, calls, block, at, data, &after),
-            Command::Choose { block } => self.choose(alloc, writer, calls, block),
-            Command::Write { block } => self.write(alloc, writer, calls, block),
+            } => self.patch(writer, calls, block, at, data, &after),
+            Command::Empty { after } => self.empty(writer, calls, &after),
+            Command::Gate => self.gate(writer, calls),
+            Command::Depend { gate, on } => self.depend(writer, calls, gate, &on),
+            Command::Seal { gate } => self.seal(writer, calls, gate),
+            Command::Choose { block } => self.choose(writer, calls, block),
+            Command::Pick => self.pick(writer, calls),
+            Command::Write { block } => self.write(writer, calls, block),
             Command::Done { ticket, fail } => self.done(writer, calls, ticket, fail),
             Command::Retry { block } => self.retry(writer, calls, block),
-            Command::Show { block } => self.show(alloc, writer, calls, block),
+            Command::Evict { block } => self.evict(writer, calls, block),
+            Command::Show { block } => self.show(writer, calls, block),
+            Command::Place { patch } => self.place(writer, calls, patch),
+            Command::Forget => self.forget(writer, calls),
+            Command::Stat => self.stat(writer, calls),
             Command::Crash { finish } => self.crash(writer, calls, &finish),
         }
     }
@@ -84,7 +94,7 @@ impl Player {
     {
         match line {
             Line::Kept(bytes) => match parse(alloc, bytes.as_slice()) {
-                Ok(command) => self.obey(alloc, writer, calls, command),
+                Ok(command) => self.obey(writer, calls, command),
                 Err(fault) => send_refusal(writer, calls, fault),
             },
             Line::Long => send_refusal(writer, calls, Fault::BadLine),

@@ -1,12 +1,14 @@
 //! The replies, each with the end of its line.
 
-ghost use Rattle.std.specs.Prelude.{◌≡◌, ◌++◌, ◌∷◌, [], codes, decimal};
+ghost use Rattle.std.specs.Prelude.{◌≡◌, ◌++◌, ◌∷◌, [], option_map, codes, decimal};
+ghost use Rattle.fst_cache.specs.Replies.{stat_view};
 ghost use Rattle.feather.specs.Sending.{Sends};
 ghost use Rattle.feather.specs.Parsing.{patch_numbers};
-ghost use Rattle.feather.specs.Replies.{refusal, patch_text, chosen_text, flight_text, done_text, stalled_text, show_text, crash_part};
+ghost use Rattle.feather.specs.Replies.{refusal, patch_text, chosen_text, pick_text, flight_text, done_text, stalled_text, show_text, place_name, place_text, stat_text, crash_part};
 
 use crate::output::{Piece, Stopped, send_all};
-use fst_types::{BlockNo, Fault, Grade, PatchNo, Ticket, What};
+use fst_cache::Stat;
+use fst_types::{BlockNo, Fault, Grade, PatchNo, Place, Ticket, What};
 use std::io::Write;
 
 fn what_name<'a>(what: What) -> &'a str
@@ -76,6 +78,28 @@ pub fn send_refusal<W: Write>(writer: &mut W, calls: &mut u64, fault: Fault) -> 
     }
 }
 
+/// A reply that is a word and a number, as `gate N`.
+pub fn send_numbered<W: Write>(
+    writer: &mut W,
+    calls: &mut u64,
+    word: &str,
+    number: u32,
+) -> Result<(), Stopped>
+    ensures { Sends (W.contents writer.old) (W.contents writer.new) result
+        (word.now ++ codes " " ++ decimal number ++ 10 ∷ []) }
+{
+    send_all(
+        writer,
+        calls,
+        &[
+            Piece::Text(word),
+            Piece::Text(" "),
+            Piece::Number(u64::from(number)),
+            Piece::Text("\n"),
+        ],
+    )
+}
+
 /// `patch N hard` or `patch N soft`.
 pub fn send_patch<W: Write>(
     writer: &mut W,
@@ -140,6 +164,21 @@ pub fn send_chosen<W: Write>(
                 Piece::Text("\n"),
             ],
         )
+    }
+}
+
+/// `pick B`, or `pick none`.
+pub fn send_pick<W: Write>(
+    writer: &mut W,
+    calls: &mut u64,
+    block: Option<BlockNo>,
+) -> Result<(), Stopped>
+    ensures { Sends (W.contents writer.old) (W.contents writer.new) result
+        (pick_text (option_map (λ b. b.0) block) ++ 10 ∷ []) }
+{
+    match block {
+        Some(block) => send_numbered(writer, calls, "pick", block.0),
+        None => send_all(writer, calls, &[Piece::Text("pick none\n")]),
     }
 }
 
@@ -236,6 +275,77 @@ pub fn send_show<W: Write>(
             Piece::Number(u64::from(block.0)),
             Piece::Text(" "),
             Piece::Hex(bytes),
+            Piece::Text("\n"),
+        ],
+    )
+}
+
+fn place_name<'a>(place: Place) -> &'a str
+    ensures { result.now ≡ place_name place }
+{
+    match place {
+        Place::Memory => "memory",
+        Place::Flight => "flight",
+        Place::Disk => "disk",
+    }
+}
+
+// `place N` and the name of the place.
+fn send_placed<W: Write>(
+    writer: &mut W,
+    calls: &mut u64,
+    patch: PatchNo,
+    name: &str,
+) -> Result<(), Stopped>
+    ensures { Sends (W.contents writer.old) (W.contents writer.new) result
+        (codes "place " ++ decimal patch.0 ++ codes " " ++ name.now ++ 10 ∷ []) }
+{
+    send_all(
+        writer,
+        calls,
+        &[
+            Piece::Text("place "),
+            Piece::Number(u64::from(patch.0)),
+            Piece::Text(" "),
+            Piece::Text(name),
+            Piece::Text("\n"),
+        ],
+    )
+}
+
+/// `place N memory`, `place N flight` or `place N disk`; a number that was not given is refused.
+pub fn send_place<W: Write>(
+    writer: &mut W,
+    calls: &mut u64,
+    patch: PatchNo,
+    place: Option<Place>,
+) -> Result<(), Stopped>
+    ensures { Sends (W.contents writer.old) (W.contents writer.new) result
+        (place_text patch.0 place ++ 10 ∷ []) }
+{
+    match place {
+        Some(place) => send_placed(writer, calls, patch, place_name(place)),
+        None => send_refusal(writer, calls, Fault::NoPatch),
+    }
+}
+
+/// `stat made A live B undo C flights D`.
+pub fn send_stat<W: Write>(writer: &mut W, calls: &mut u64, stat: Stat) -> Result<(), Stopped>
+    ensures { Sends (W.contents writer.old) (W.contents writer.new) result
+        (stat_text (stat_view stat) ++ 10 ∷ []) }
+{
+    send_all(
+        writer,
+        calls,
+        &[
+            Piece::Text("stat made "),
+            Piece::Number(stat.made),
+            Piece::Text(" live "),
+            Piece::Number(u64::from(stat.live)),
+            Piece::Text(" undo "),
+            Piece::Number(stat.undo),
+            Piece::Text(" flights "),
+            Piece::Number(u64::from(stat.flights)),
             Piece::Text("\n"),
         ],
     )

@@ -1,41 +1,78 @@
--- What a cache shows that was opened over these slots.
-use Rattle.std.proofs.Common.{◌≡◌, ◌≢◌, ◌≤◌, ℕ, Bool, false, List, [], Option, None, length, map, is_some, refl, sym, ap, ◌∙◌, inl, inr, arith}
+-- What the type of a cache keeps, and what it shows, where it was opened over these slots.
+use Rattle.std.proofs.Common.{◌≡◌, ◌≢◌, ◌≤◌, ℕ, zero, suc, Bool, true, false, List, [], ◌∷◌, Option, Some, None, IsSome, is_some, length, map, count_by, get_or, slice_get, refl, sym, ap, subst, ◌∙◌, inl, inr, arith}
 use Rattle.std.proofs.lemmas.List.{length-map}
+use Rattle.std.proofs.lemmas.List.Elements.{All-map}
+use Rattle.std.proofs.lemmas.Option.{slice_get_within, get_or_from_slice_get}
 use Rattle.fst_types.specs.Opening.{opening}
-use Rattle.fst_types.specs.State.{State}
+use Rattle.fst_types.specs.State.{State, BlockState}
+use Rattle.fst_types.specs.Limits.{max_number, max_ticket}
 use Rattle.fst_types.specs.Order.{open_order}
 use Rattle.fst_types.specs.Refusals.{NoneHolds}
-use Rattle.fst_cache.specs.Views.{Back, CacheView}
-use Rattle.fst_cache.specs.Seats.{SeatView, IsKept, seat_of, seats_of, state_of, view_of}
-use Rattle.fst_cache.proofs.Changes.{map-twice}
-use Rattle.fst_cache.proofs.Opening.{state_opened, kept_opened}
+use Rattle.fst_types.specs.Facts.{IsLawful}
+use Rattle.fst_types.proofs.Opened.{opening_is_lawful}
+use Rattle.fst_graph.specs.Known.{Known}
+use Rattle.fst_cache.specs.Seats.{SeatView, seat_of, seats_of, blocks}
+use Rattle.fst_cache.specs.Kept.{IsKeptSeat, IsKept, state_of, view_of}
+use Rattle.fst_cache.proofs.OpenPlaced.{map-twice, placed_each, sized_each, found}
 
 agree : (m n : ℕ) → ((m ≢ n) → ⊥) → m ≡ n
 agree m n h = grind (arith, h)
 
-module _ {X : Type 0} (held : X → List ℕ) (index size_of faults : X → ℕ) (fills : (x : X) → length (held x) ≡ size_of x) (slots : List X) (blocks size : ℕ)
-    (many : blocks ≤ 4096) (small : size ≤ 4096) (free : NoneHolds (open_order blocks size (map index slots) (map size_of slots))) where
-  pub one_each : length slots ≡ blocks
-  one_each = sym (length-map slots index) ∙ agree (length (map index slots)) blocks (λ other. free.0 (inl other))
+none_loaded : {X : Type 0} (held : X → List ℕ) (index faults : X → ℕ) (slots : List X) → count_by (λ (s : SeatView). is_some s.loaded) (seats_of held index faults slots) ≡ 0
+none_loaded held index faults [] = refl
+none_loaded held index faults (x ∷ xs) = none_loaded held index faults xs
 
-  few : length slots ≤ 4096
-  few = omega (arith, one_each, many)
+abbrev pub new_graph : (numbers blocks : ℕ) → Known
+new_graph numbers blocks = record { heads = []; numbers = numbers; blocks = blocks; prepared = None }
 
-  pub opened_kept : IsKept size 0 [] (seats_of held index faults slots)
-  opened_kept = kept_opened held index size_of faults fills slots size few small (λ m. free.0 (inr m)) free.1.0
+module _ {X : Type 0} (held : X → List ℕ) (index size_of faults : X → ℕ) (fills : (x : X) → length (held x) ≡ size_of x) (slots : List X) (many size resident numbers tickets : ℕ)
+    (few : many ≤ 4096) (small : size ≤ 4096) (given : numbers ≤ max_number) (sent : tickets ≤ max_ticket)
+    (free : NoneHolds (open_order many size (map index slots) (map size_of slots))) where
+  abbrev seat_at : X → SeatView
+  seat_at x = seat_of (held x) (index x) (faults x)
 
-  abbrev view_with : State → List ℕ → List Bool → List (Option Back) → CacheView
-  view_with state faults resident back = record { state = state; faults = faults; resident = resident; back = back }
+  abbrev pub first : State
+  first = state_of size resident tickets 0 (new_graph numbers many) [] (seats_of held index faults slots)
 
-  pub opened_view : (resident : ℕ) → resident ≡ blocks
-      → view_of size 0 [] (seats_of held index faults slots)
-      ≡ record { state = opening size resident 0 0 (map held slots); faults = map faults slots; resident = map (λ slot. false) slots; back = map (λ slot. None) slots }
-  opened_view resident all =
-      let seat : X → SeatView = λ x. seat_of (held x) (index x) (faults x) in
-      let state : state_of size 0 [] (seats_of held index faults slots) ≡ opening size resident 0 0 (map held slots) =
-      state_opened held index size_of faults fills slots size few small (λ m. free.0 (inr m)) free.1.0
-      ∙ ap (λ (n : ℕ). opening size n 0 0 (map held slots)) (one_each ∙ sym all) in
-      let faults_are : map (λ (s : SeatView). s.faults) (seats_of held index faults slots) ≡ map faults slots = map-twice (λ (s : SeatView). s.faults) seat slots in
-      let resident_are = map-twice (λ (s : SeatView). is_some s.bytes) seat slots in
-      let back_are = map-twice (λ (s : SeatView). s.back) seat slots in
-      rw (state, faults_are, resident_are, back_are) refl
+  one_each : length slots ≡ many
+  one_each = sym (length-map slots index) ∙ agree (length (map index slots)) many (λ other. free.0 (inl other))
+
+  pub state_opened : first ≡ opening size resident numbers tickets (map held slots)
+  state_opened =
+      let e : blocks (seats_of held index faults slots) ≡ map open_block (map held slots) =
+      map-twice (λ (s : SeatView). s.block) seat_at slots ∙ sym (map-twice open_block held slots) in
+      rw e refl
+    where
+      open_block : List ℕ → BlockState
+      open_block b = record { committed = b; flight = None }
+
+  lawful : IsLawful first
+  lawful =
+      subst IsLawful (sym state_opened)
+      (opening_is_lawful size resident numbers tickets (map held slots) (All-map (λ (b : List ℕ). length b ≡ size) held slots (λ k d lt. fills (get_or slots k d) ∙ sized_each size_of size slots free.1.0 k d lt)) given sent)
+
+  pub opened_kept : IsKept first (new_graph numbers many) (seats_of held index faults slots)
+  opened_kept = record {
+    lawful = lawful;
+    few = rw (length-map, one_each) few;
+    small = small;
+    graph_blocks = rw (length-map, one_each) refl;
+    loaded = rw (none_loaded held index faults slots) (omega arith);
+    seat = λ b seat e.
+        let r = found seat_at slots b seat e in
+        let lt = slice_get_within slots b r.0 r.1 in
+        subst (IsKeptSeat first b) r.2 (record {
+          place = ap index (sym (get_or_from_slice_get slots b r.0 r.0 r.1)) ∙ placed_each index slots (λ m. free.0 (inr m)) b r.0 lt;
+          loaded = λ l h. cc;
+          dirty = λ d. cc;
+          patches = λ f h. cc;
+        });
+  }
+
+  pub opened_view : view_of first (seats_of held index faults slots)
+      ≡ record { state = opening size resident numbers tickets (map held slots); faults = map faults slots; resident = map (λ slot. false) slots; back = map (λ slot. None) slots }
+  opened_view =
+      let faults_are : map (λ (s : SeatView). s.faults) (seats_of held index faults slots) ≡ map faults slots = map-twice (λ (s : SeatView). s.faults) seat_at slots in
+      let resident_are = map-twice (λ (s : SeatView). is_some s.loaded) seat_at slots in
+      let back_are = map-twice (λ (s : SeatView). s.back) seat_at slots in
+      rw (state_opened, faults_are, resident_are, back_are) refl

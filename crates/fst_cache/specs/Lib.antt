@@ -1,4 +1,7 @@
-pub mod Heads
-pub mod Seats
+pub mod Names
 pub mod Views
 pub mod Replies
+pub mod Seats
+pub mod Kept
+pub mod Residing
+pub mod Making

@@ -1,24 +1,14 @@
--- What the cache keeps of each block, and the state that it makes.
-use Rattle.std.specs.Prelude.{◌≡◌, ◌≤◌, ◌+◌, ◌⊎◌, ℕ, Contains, Bool, true, List, [], Option, Some, None, IsSome, is_some, map, length, slice_get}
-use Rattle.fst_types.specs.declared.place.Place.TheVariants as at_place
-use Rattle.fst_types.specs.declared.grade.Grade.TheVariants as grade
-use Rattle.fst_types.specs.Lists.{Lists}
-use Rattle.fst_types.specs.Patches.{Change}
-use Rattle.fst_types.specs.Dependencies.{IsLiveNumber}
-use Rattle.fst_types.specs.Overlaps.{IsOverlapped}
-use Rattle.fst_types.specs.Making.{fresh}
-use Rattle.fst_types.specs.State.{Flight, BlockState, State}
-use Rattle.fst_types.specs.Bytes.{bytes_of, changes_at}
-use Rattle.fst_types.specs.Counts.{IsDirty}
-use Rattle.fst_types.specs.Facts.{IsLawful}
-use Rattle.fst_cache.specs.Heads.{HeadView, patches, contents, AreChanges}
-use Rattle.fst_cache.specs.Views.{Back, CacheView}
+-- What the cache keeps of each block.
+use Rattle.std.specs.Prelude.{◌≡◌, ℕ, Bool, true, false, List, [], ◌∷◌, Option, Some, None, map}
+use Rattle.fst_types.specs.State.{Flight, BlockState}
+use Rattle.fst_block.specs.BlockView.{BlockPatch, BlockView}
+use Rattle.fst_cache.specs.Views.{Back}
 
--- one block: what is committed and in flight, its number, its bytes where they are in memory, the patches in flight, its slot's faults, and what came back of a write that failed
+-- one block: what is committed and in flight, its number, its bytes and patches where they are in memory, the patches in flight, its slot's faults, and what came back of a write that failed
 pub record SeatView : Type 0 where
   pub block : BlockState
   pub place : ℕ
-  pub bytes : Option (List ℕ)
+  pub loaded : Option BlockView
   pub patches : List ℕ
   pub faults : ℕ
   pub back : Option Back
@@ -31,7 +21,7 @@ back_view before held = record { before = before; held = held }
 
 -- a block whose slot is at home and was not read
 abbrev pub seat_of : List ℕ → ℕ → ℕ → SeatView
-seat_of held place faults = record { block = record { committed = held; flight = None }; place = place; bytes = None; patches = []; faults = faults; back = None }
+seat_of held place faults = record { block = record { committed = held; flight = None }; place = place; loaded = None; patches = []; faults = faults; back = None }
 
 -- the blocks of these slots, by what each holds, its index and its faults
 abbrev pub seats_of : {Slot : Type 0} (held : Slot → List ℕ) (index faults : Slot → ℕ) → List Slot → List SeatView
@@ -40,44 +30,18 @@ seats_of held index faults slots = map (λ slot. seat_of (held slot) (index slot
 abbrev pub blocks : List SeatView → List BlockState
 blocks seats = map (λ s. s.block) seats
 
--- the state of a cache with these changes and these blocks
-abbrev pub state_of : (size tickets : ℕ) → List HeadView → List SeatView → State
-state_of size tickets heads seats = record {
-  size = size;
-  resident = length seats;
-  numbers = length heads;
-  tickets = tickets;
-  made = length heads;
-  heads = patches heads;
-  contents = contents heads;
-  blocks = blocks seats;
-}
+abbrev pub has_patches : List BlockPatch → Bool
+has_patches [] = false
+has_patches (p ∷ ps) = true
 
-abbrev pub view_of : (size tickets : ℕ) → List HeadView → List SeatView → CacheView
-view_of size tickets heads seats = record {
-  state = state_of size tickets heads seats;
-  faults = map (λ s. s.faults) seats;
-  resident = map (λ s. is_some s.bytes) seats;
-  back = map (λ s. s.back) seats;
-}
+abbrev pub is_changed : Option BlockView → Bool
+is_changed None = false
+is_changed (Some l) = has_patches l.patches
 
--- the seat of block b agrees with the state
-pub record IsKeptSeat (s : State) (b : ℕ) (seat : SeatView) : Type 0 where
-  pub place : seat.place ≡ b
-  pub bytes : (bytes : List ℕ) → seat.bytes ≡ Some bytes → bytes ≡ bytes_of s b
-  pub loaded : IsDirty s b → IsSome seat.bytes
-  pub patches : (f : Flight) → seat.block.flight ≡ Some f → seat.patches ≡ map (λ p. p.number) (changes_at s at_place.Flight b)
+abbrev pub is_dirty_with : Option Flight → Option BlockView → Bool
+is_dirty_with None loaded = is_changed loaded
+is_dirty_with (Some f) loaded = true
 
--- what the cache's type keeps
-pub record IsKept (size tickets : ℕ) (heads : List HeadView) (seats : List SeatView) : Type 0 where
-  pub lawful : IsLawful (state_of size tickets heads seats)
-  pub few : length seats ≤ 4096
-  pub small : size ≤ 4096
-  pub changes : AreChanges heads
-  pub seat : (b : ℕ) (seat : SeatView) → slice_get seats b ≡ Some seat → IsKeptSeat (state_of size tickets heads seats) b seat
-
--- the head is that of a new change of these bytes, which names these patches
-pub record IsNewHead (s : State) (b at : ℕ) (put named : List ℕ) (head : HeadView) : Type 0 where
-  pub bytes : head.bytes ≡ put
-  pub patch : head.patch ≡ fresh (s.numbers + 1) (Change b at (length put) grade.Soft) head.patch.dependencies
-  pub depends : Lists (λ n. (IsLiveNumber s.heads n × Contains named n) ⊎ IsOverlapped s.heads head.patch n) head.patch.dependencies
+-- whether the block has a change in memory or in flight
+abbrev pub is_dirty_seat : SeatView → Bool
+is_dirty_seat seat = is_dirty_with seat.block.flight seat.loaded

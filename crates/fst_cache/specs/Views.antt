@@ -1,5 +1,5 @@
 -- What a cache is to its callers.
-use Rattle.std.specs.Prelude.{ℕ, Bool, List, Option}
+use Rattle.std.specs.Prelude.{◌≡◌, ℕ, Bool, List, Option}
 use Rattle.fst_types.specs.State.{State}
 
 -- of a write that failed: what the slot held when the write was first sent out, and what it holds now
@@ -13,3 +13,9 @@ pub record CacheView : Type 0 where
   pub faults : List ℕ
   pub resident : List Bool
   pub back : List (Option Back)
+
+-- what stands beside the state is as it was
+pub record IsSameBeside (old new : CacheView) : Type 0 where
+  pub faults : new.faults ≡ old.faults
+  pub resident : new.resident ≡ old.resident
+  pub back : new.back ≡ old.back

@@ -1,40 +1,45 @@
-//! The cache: one seat for each block, and the changes that were made.
+//! The cache: a graph of the patches, and a seat for each block.
 //!
-//! A change stays here when it is on disk, so number n stands at index n - 1. What a block's bytes are, which changes
-//! may be written and what a new one depends on is told from the changes by walking them.
+//! The graph has the patches' dependencies and says what may be written; a seat has a block's slot, bytes and flight.
+//! The cache keeps neither bytes nor dependencies of its own: it asks both, and keeps them in step.
 //!
-//! All that every call needs and keeps is in the type's invariant: the state is lawful, a block in memory has the
-//! bytes that the state says, and a block with a change that is not on disk is in memory.
+//! All that every call needs and keeps is in the type's invariant: the state is lawful, a block in memory is as the state
+//! says, a block with a change that is not on disk is in memory, and no more blocks are in memory than may be.
 
+mod gates;
 mod look;
+mod making;
 mod open;
-mod patch;
+mod residence;
 mod write;
 
-use crate::head::Head;
+use crate::contents::Contents;
 use crate::seat::Seat;
 use fst_device::BlockSlot;
+use fst_graph::Graph;
+use std::alloc::Global;
 use std::marker::Model;
 
-/// A cache of the blocks of a device, whose changes wait for one another.
+/// A cache of the blocks of a device, whose patches wait for one another.
 #[derive(Drop)]
 pub struct Cache<S: BlockSlot> {
+    alloc: Global,
     size: u32,
+    resident: u32,
     tickets: u64,
-    heads: Vec<Head>,
-    // One for each head, for choosing: it was made by `patch`, so that choosing takes no memory.
-    marks: Vec<bool>,
+    made: u64,
+    graph: Graph,
+    contents: Contents,
     seats: Vec<Seat<S>>,
 }
 
 impl<S: BlockSlot> Model for Cache<S> {
-    ghost use Rattle.std.specs.Prelude.{◌≡◌, length};
     ghost use Rattle.fst_cache.specs.Views.{CacheView};
-    ghost use Rattle.fst_cache.specs.Seats.{IsKept, view_of};
+    ghost use Rattle.fst_cache.specs.Kept.{IsKept, state_of, view_of};
 
     ghost Value = { CacheView };
 
-    ghost view = { λ a. view_of a.size a.tickets a.heads.items a.seats.items };
+    ghost view = { λ a. view_of (state_of a.size a.resident a.tickets a.made a.graph a.contents.items a.seats.items) a.seats.items };
 
-    ghost invariant = { λ a. IsKept a.size a.tickets a.heads.items a.seats.items × (length a.marks.items ≡ length a.heads.items) };
+    ghost invariant = { λ a. IsKept (state_of a.size a.resident a.tickets a.made a.graph a.contents.items a.seats.items) a.graph a.seats.items };
 }

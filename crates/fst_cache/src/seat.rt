@@ -1,28 +1,24 @@
-//! One block: its slot where it is at home, its bytes where they are in memory, its flight where a write of it is out.
+//! One block: its slot where it is at home, its bytes and its patches where they are in memory, its flight where a
+//! write of it is out.
 //!
 //! What is committed is noted for contracts alone. All that the cache says of slots and completions is said here once.
 
-ghost use Rattle.std.specs.Prelude.{◌≡◌, ◌⊎◌, ◌<◌, ◌≤◌, ◌+◌, List, [], Some, None, OnOk, OnErr, IsErr, IsErrOf, IsTrue, IsSome, IfSome, true, false, is_some, ◌↔◌, length};
+ghost use Rattle.std.specs.Prelude.{◌≡◌, ◌⊎◌, ◌<◌, ◌≤◌, ◌+◌, ◌++◌, ◌∷◌, List, [], All, Some, None, OnOk, OnErr, IfOk, IfErr, IsErr, IsErrOf, IsTrue, IsSome, IfSome, true, false, is_some, count_by, ◌↔◌, length};
 ghost use Rattle.std.specs.Option.{option_map, option_map_or};
 ghost use Rattle.fst_types.specs.declared.fault.Fault.{Fault};
-ghost use Rattle.fst_types.specs.Fold.{written};
-ghost use Rattle.fst_cache.specs.Heads.{numbers_of};
-ghost use Rattle.fst_cache.specs.Seats.{seat_of, flight_view, back_view};
+ghost use Rattle.fst_block.specs.BlockView.{fold_of, soft_lengths};
+ghost use Rattle.fst_block.specs.Choices.{IsChoice, chosen_of, others_of};
+ghost use Rattle.fst_cache.specs.Names.{numbers_of};
+ghost use Rattle.fst_cache.specs.Seats.{seat_of, flight_view, back_view, is_dirty_seat};
 ghost use Rattle.fst_cache.specs.Replies.{settled_reply, seen_flight};
 ghost use Rattle.fst_types.specs.Events.{Landed, Stalled};
 
 use crate::flight::Flight;
+use fst_block::Block;
 use fst_device::{BlockSlot, Done, Held, Job, Outcome};
-use fst_types::{BlockNo, Fault, Noted, PatchNo, Settled, Ticket};
+use fst_types::{BlockNo, Fault, Grade, Noted, PatchNo, Settled, Span, Ticket};
 use std::alloc::Global;
 use std::marker::Model;
-
-/// A block in memory: what is committed of it, and the bytes with the changes over it that are not on disk.
-#[derive(Drop)]
-struct Loaded {
-    base: Vec<u8>,
-    bytes: Vec<u8>,
-}
 
 /// A write that is out. Where it failed, the completion waits here for the retry.
 #[derive(Drop)]
@@ -39,14 +35,14 @@ pub(crate) struct Seat<S: BlockSlot> {
     block: BlockNo,
     slot: Option<S>,
     committed: Noted,
-    loaded: Option<Loaded>,
+    loaded: Option<Block>,
     out: Option<Out<S>>,
 }
 
 impl<S: BlockSlot> Model for Seat<S> {
     ghost use Rattle.std.specs.Prelude.{◌≡◌, [], None, IfSome, IsSome, IsNone, is_some, length, vec_len};
     ghost use Rattle.std.specs.Option.{option_map, option_map_or};
-    ghost use Rattle.fst_cache.specs.Heads.{numbers_of};
+    ghost use Rattle.fst_cache.specs.Names.{numbers_of};
     ghost use Rattle.fst_cache.specs.Seats.{SeatView, flight_view, back_view};
 
     ghost Value = { SeatView };
@@ -54,7 +50,7 @@ impl<S: BlockSlot> Model for Seat<S> {
     ghost view = { λ a. record {
       block = record { committed = a.committed.items; flight = option_map (λ f. flight_view f.ticket.0 f.image.items (is_some f.stalled)) a.out };
       place = a.block.0;
-      bytes = option_map (λ l. l.bytes.items) a.loaded;
+      loaded = a.loaded;
       patches = option_map_or (λ f. numbers_of f.patches.items) a.out [];
       faults = option_map_or S.faults a.slot 0;
       back = option_map_or (λ f. option_map (λ d. back_view d.before (S.held d.slot)) f.stalled) a.out None;
@@ -62,19 +58,10 @@ impl<S: BlockSlot> Model for Seat<S> {
 
     ghost invariant = { λ a.
         IfSome a.slot (λ s. (S.held s ≡ a.committed.items) × (S.index s ≡ a.block.0) × (S.size s ≡ length a.committed.items))
-        × IfSome a.loaded (λ l. (l.base.items ≡ a.committed.items) × (vec_len l.bytes ≡ length a.committed.items))
+        × IfSome a.loaded (λ l. length l.base ≡ length a.committed.items)
         × (IsNone a.out → IsSome a.slot)
         × (IsSome a.out → IsNone a.slot)
         × IfSome a.out (λ f. (vec_len f.image ≡ length a.committed.items) × IfSome f.stalled (λ d. (d.image ≡ f.image.items) × (d.block ≡ a.block.0))) };
-}
-
-/// Puts the bytes at their place.
-fn overwrite(whole: &mut Vec<u8>, at: u32, bytes: &[u8])
-    requires { at + length bytes.now ≤ length whole.old.items }
-    ensures { whole.new.items ≡ written whole.old.items (record { at = at; bytes = bytes.now }) }
-{
-    let from = at as usize;
-    whole[from..from + bytes.len()].copy_from_slice(bytes);
 }
 
 impl<S: BlockSlot> Seat<S> {
@@ -137,13 +124,43 @@ impl<S: BlockSlot> Seat<S> {
         out.stalled.is_none() && out.ticket == done.ticket() && out.image.as_slice() == done.image()
     }
 
-    /// Reads the block from its slot, where it is not in memory. Its two copies are made before anything changes.
+    /// Whether the block is in memory.
+    pub(crate) fn is_loaded(&self) -> bool
+        ensures { result ≡ is_some self.now.loaded }
+    {
+        self.loaded.is_some()
+    }
+
+    /// Whether the block has a change in memory or in flight.
+    pub(crate) fn is_dirty(&self) -> bool
+        ensures { result ≡ is_dirty_seat self.now }
+    {
+        if self.out.is_some() {
+            return true;
+        }
+        match &self.loaded {
+            None => false,
+            Some(block) => !block.is_clean(),
+        }
+    }
+
+    /// How many undo bytes the block keeps.
+    pub(crate) fn undo_bytes(&self) -> u64
+        ensures { result ≡ option_map_or (λ l. soft_lengths l.patches) self.now.loaded 0 }
+    {
+        match &self.loaded {
+            None => 0,
+            Some(block) => block.undo_bytes(),
+        }
+    }
+
+    /// Reads the block from its slot, where it is not in memory.
     pub(crate) fn load(&mut self, alloc: Global) -> Result<(), Fault>
-        requires { self.old.bytes ≡ None → self.old.block.flight ≡ None }
-        ensures same { self.new ≡ record self.old { bytes = self.new.bytes; faults = self.new.faults } }
-        ensures bytes { (self.new.bytes ≡ self.old.bytes) ⊎ ((self.old.bytes ≡ None) × (self.new.bytes ≡ Some self.old.block.committed)) }
-        ensures there { OnOk result (IsSome self.new.bytes) }
-        ensures away { IsErr result → self.old.bytes ≡ None }
+        requires { self.old.loaded ≡ None → self.old.block.flight ≡ None }
+        ensures same { self.new ≡ record self.old { loaded = self.new.loaded; faults = self.new.faults } }
+        ensures loaded { (self.new.loaded ≡ self.old.loaded) ⊎ ((self.old.loaded ≡ None) × (self.new.loaded ≡ Some (record { base = self.old.block.committed; patches = [] }))) }
+        ensures there { OnOk result (IsSome self.new.loaded) }
+        ensures away { IsErr result → (self.old.loaded ≡ None) × (self.new.loaded ≡ None) }
         ensures device { IsErrOf result Fault.Device → self.old.faults < self.new.faults }
         ensures kinds { IsErr result → IsErrOf result Fault.Device ⊎ IsErrOf result Fault.Memory }
     {
@@ -151,54 +168,72 @@ impl<S: BlockSlot> Seat<S> {
             return Ok(());
         }
         if let Some(slot) = &mut self.slot {
-            let Ok(mut base) = vec![in alloc; 0u8; slot.size() as usize] else {
+            let Ok(mut bytes) = vec![in alloc; 0u8; slot.size() as usize] else {
                 return Err(Fault::Memory);
             };
-            if slot.read(&mut base).is_err() {
+            if slot.read(&mut bytes).is_err() {
                 return Err(Fault::Device);
             }
-            let Ok(bytes) = Vec::from_slice(alloc, &base) else {
-                return Err(Fault::Memory);
-            };
-            self.loaded = Some(Loaded { base, bytes });
+            self.loaded = Some(Block::load(alloc, bytes));
         }
         Ok(())
     }
 
+    /// Gives up the block's bytes and patches in memory.
+    pub(crate) fn unload(&mut self)
+        ensures { self.new ≡ record self.old { loaded = None } }
+    {
+        self.loaded = None;
+    }
+
     /// The block's bytes.
     pub(crate) fn bytes(&self) -> &[u8]
-        requires { IsSome self.now.bytes }
-        ensures { self.now.bytes ≡ Some result.now }
+        requires { IsSome self.now.loaded }
+        ensures { IfSome self.now.loaded (λ l. result.now ≡ fold_of l.base l.patches) }
     {
-        let Some(loaded) = &self.loaded else {
+        let Some(block) = &self.loaded else {
             unreachable!()
         };
-        &loaded.bytes
+        block.bytes()
     }
 
-    /// What is committed of the block.
-    pub(crate) fn base(&self) -> &[u8]
-        requires { IsSome self.now.bytes }
-        ensures { result.now ≡ self.now.block.committed }
+    /// Puts the bytes at the span, as the block's newest patch.
+    pub(crate) fn apply(
+        &mut self,
+        no: PatchNo,
+        span: Span,
+        bytes: &[u8],
+        grade: Grade,
+    ) -> Result<(), Fault>
+        requires loaded { IsSome self.old.loaded }
+        requires inside { span.at + span.len ≤ length self.old.block.committed }
+        requires same_length { length bytes.now ≡ span.len }
+        requires newest { IfSome self.old.loaded (λ l. All (λ p. p.number < no.0) l.patches) }
+        ensures applied { OnOk result (IfSome self.old.loaded (λ l. self.new ≡ record self.old {
+          loaded = Some (record l { patches = l.patches ++ record { number = no.0; span = span; grade = grade; bytes = bytes.now } ∷ [] });
+        })) }
+        ensures unchanged { OnErr result (self.new ≡ self.old) }
+        ensures only_memory { IfErr result (λ fault. fault ≡ Fault.Memory) }
     {
-        let Some(loaded) = &self.loaded else {
+        let Some(block) = &mut self.loaded else {
             unreachable!()
         };
-        &loaded.base
+        block.apply(no, span, bytes, grade)
     }
 
-    /// Writes over the block's bytes.
-    pub(crate) fn write(&mut self, at: u32, bytes: &[u8])
-        requires loaded { IsSome self.old.bytes }
-        requires fits { at + length bytes.now ≤ length self.old.block.committed }
-        ensures { IfSome self.old.bytes (λ old. self.new ≡ record self.old { bytes = Some (written old (record { at = at; bytes = bytes.now })) }) }
+    /// What a write of the chosen patches puts on the block.
+    pub(crate) fn image(&mut self, chosen: &[PatchNo]) -> Result<Vec<u8>, Fault>
+        requires loaded { IsSome self.old.loaded }
+        requires choice { IfSome self.old.loaded (λ l. IsChoice l.patches chosen.now) }
+        ensures image { IfSome self.old.loaded (λ l. IfOk result (λ image. image.items ≡ fold_of l.base (chosen_of chosen.now l.patches))) }
+        ensures same_length { IfOk result (λ image. length image.items ≡ length self.old.block.committed) }
+        ensures unchanged { self.new ≡ self.old }
+        ensures only_memory { IfErr result (λ fault. fault ≡ Fault.Memory) }
     {
-        let Some(Loaded { base, bytes: whole }) = self.loaded.take() else {
+        let Some(block) = &mut self.loaded else {
             unreachable!()
         };
-        let mut whole = whole;
-        overwrite(&mut whole, at, bytes);
-        self.loaded = Some(Loaded { base, bytes: whole });
+        block.image(chosen)
     }
 
     /// Begins a write of the image, of which `kept` is a copy. The job's slot still holds what is committed.
@@ -210,6 +245,9 @@ impl<S: BlockSlot> Seat<S> {
         kept: Vec<u8>,
     ) -> Job<S>
         requires home { self.old.block.flight ≡ None }
+        requires loaded { IsSome self.old.loaded }
+        requires choice { IfSome self.old.loaded (λ l. IsChoice l.patches patches.items) }
+        requires folded { IfSome self.old.loaded (λ l. image.items ≡ fold_of l.base (chosen_of patches.items l.patches)) }
         requires size { length image.items ≡ length self.old.block.committed }
         requires kept { kept.items ≡ image.items }
         ensures ticket { result.ticket ≡ ticket.0 }
@@ -217,11 +255,19 @@ impl<S: BlockSlot> Seat<S> {
         ensures image { result.image ≡ image.items }
         ensures before { result.before ≡ self.old.block.committed }
         ensures held { S.held result.slot ≡ self.old.block.committed }
-        ensures seat { self.new ≡ record self.old { block = record self.old.block { flight = Some (flight_view ticket.0 image.items false) }; patches = numbers_of patches.items; faults = 0 } }
+        ensures seat { IfSome self.old.loaded (λ l. self.new ≡ record self.old {
+          block = record self.old.block { flight = Some (flight_view ticket.0 image.items false) };
+          loaded = Some (record { base = fold_of l.base (chosen_of patches.items l.patches); patches = others_of patches.items l.patches });
+          patches = numbers_of patches.items;
+          faults = 0;
+        }) }
     {
         let Some(slot) = self.slot.take() else {
             unreachable!()
         };
+        if let Some(block) = &mut self.loaded {
+            block.launch(&patches);
+        }
         self.out = Some(Out {
             ticket,
             patches,
@@ -270,12 +316,10 @@ impl<S: BlockSlot> Seat<S> {
             unreachable!()
         };
         drop(patches);
+        drop(image);
         let slot = done.into_slot();
         self.committed = Noted::of::<S, Held>(&slot);
         self.slot = Some(slot);
-        if let Some(loaded) = &mut self.loaded {
-            loaded.base = image;
-        }
     }
 
     /// The write failed: its completion waits for a retry.
@@ -319,4 +363,11 @@ impl<S: BlockSlot> Seat<S> {
         });
         done.again(ticket)
     }
+}
+
+/// How many blocks have a write that is out or stalled.
+pub(crate) fn busy<S: BlockSlot>(seats: &[Seat<S>]) -> usize
+    ensures { result ≡ count_by (λ seat. is_some seat.block.flight) seats.now }
+{
+    seats.iter().filter(|seat| seat.is_busy()).count()
 }

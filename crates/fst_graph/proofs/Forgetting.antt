@@ -69,7 +69,7 @@ pub same_test : (heads : List Patch) (n : ℕ) (b : Bool) → (b ≡ true → Is
 same_test heads n true f g = sym (in_live heads n (f refl))
 same_test heads n false f g = elim (cases_Bool (is_live_in heads n)) [ inl t ↦ absurd (false≢true (g (live_in heads n t))) | inr e ↦ sym e ]
 
-take_filter : (t : ℕ → Bool) (xs : List ℕ) (i : ℕ) → (j : ℕ) × (take i (filter t xs) ≡ filter t (take j xs))
+pub take_filter : (t : ℕ → Bool) (xs : List ℕ) (i : ℕ) → (j : ℕ) × (take i (filter t xs) ≡ filter t (take j xs))
 take_filter t [] i = (0, nil i)
   where
     nil : (i : ℕ) → take {A = ℕ} i [] ≡ []

@@ -14,3 +14,12 @@ pub mod Touching
 pub mod Forgetting
 pub mod Nearest
 pub mod Picked
+pub mod Missing
+pub mod Marked
+pub mod Gaining
+pub mod GateAbove
+pub mod Gained
+pub mod Leading
+pub mod Graded
+pub mod Readied
+pub mod NearRow

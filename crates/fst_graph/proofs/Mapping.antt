@@ -8,7 +8,7 @@ use Rattle.fst_graph.specs.Heads.{patch_of, patches_of}
 use Rattle.fst_graph.proofs.Slots.{any_default}
 
 -- what a slice of a whole vector leaves there
-pub take_front : (n : ℕ) (xs ys : List Head) → length xs ≡ n → take n (xs ++ ys) ≡ xs
+pub take_front : {X : Type 0} (n : ℕ) (xs ys : List X) → length xs ≡ n → take n (xs ++ ys) ≡ xs
 take_front n [] ys e = rw (← e) refl
 take_front zero (x ∷ xs) ys e = absurd (omega (arith, e))
 take_front (suc n) (x ∷ xs) ys e = ap (λ zs. x ∷ zs) (take_front n xs ys (omega (arith, e)))

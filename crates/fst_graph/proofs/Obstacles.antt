@@ -40,14 +40,14 @@ an_obstacle b n Empty p e = absurd (false≢true e)
 an_obstacle b n OpenGate p e = inl refl
 an_obstacle b n SealedGate p e = absurd (false≢true e)
 
-hard_from : (k : Kind) → is_hard_kind k ≡ true → grade_of_kind k ≡ Some grade.Hard
+pub hard_from : (k : Kind) → is_hard_kind k ≡ true → grade_of_kind k ≡ Some grade.Hard
 hard_from (Change on at len grade.Hard) e = refl
 hard_from (Change on at len grade.Soft) e = absurd (false≢true e)
 hard_from Empty e = absurd (false≢true e)
 hard_from OpenGate e = absurd (false≢true e)
 hard_from SealedGate e = absurd (false≢true e)
 
-hard_to : (k : Kind) → grade_of_kind k ≡ Some grade.Hard → is_hard_kind k ≡ true
+pub hard_to : (k : Kind) → grade_of_kind k ≡ Some grade.Hard → is_hard_kind k ≡ true
 hard_to (Change on at len grade.Hard) e = refl
 hard_to (Change on at len grade.Soft) e = cc
 hard_to Empty e = cc

@@ -125,12 +125,12 @@ rising_heads heads rising i j d lt in_range =
     let b = get_or-map patch_of heads j d (patch_of d) in_range in
     subst (λ x. x.number < (get_or heads j d).number) a (subst (λ y. (get_or (patches_of heads) i (patch_of d)).number < y.number) b r)
 
-live_place : (p : Place) → is_live_place p ≡ true → p ≡ place.Disk → ⊥
+pub live_place : (p : Place) → is_live_place p ≡ true → p ≡ place.Disk → ⊥
 live_place place.Memory e d = cc
 live_place place.Flight e d = cc
 live_place place.Disk e d = cc
 
-place_live : (p : Place) → (p ≡ place.Disk → ⊥) → is_live_place p ≡ true
+pub place_live : (p : Place) → (p ≡ place.Disk → ⊥) → is_live_place p ≡ true
 place_live place.Memory n = refl
 place_live place.Flight n = refl
 place_live place.Disk n = absurd (n refl)

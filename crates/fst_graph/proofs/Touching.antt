@@ -13,7 +13,7 @@ use Rattle.fst_types.specs.Lists.{Lists}
 use Rattle.fst_types.specs.Patches.{Kind, Change, Empty, OpenGate, SealedGate, Patch, IsOn, IsHard, IsLive, block_of_kind, at_of, len_of}
 use Rattle.fst_types.specs.Dependencies.{IsLiveNumber}
 use Rattle.fst_types.specs.Overlaps.{Overlaps, IsOverlapped}
-use Rattle.fst_types.specs.Grades.{IsGradedHard}
+use Rattle.fst_types.specs.Grades.{IsGradedHard, FollowsRule}
 use Rattle.fst_types.specs.Facts.{HeadsAreLawful}
 use Rattle.fst_types.specs.Making.{fresh}
 use Rattle.fst_types.proofs.NewChange.{IsWithin, hard_kept}
@@ -22,7 +22,9 @@ use Rattle.fst_graph.specs.declared.head.Head.{Head}
 use Rattle.fst_graph.specs.Heads.{IsRising, patch_of, patches_of}
 use Rattle.fst_graph.specs.Rows.{Gains, kind_touches, touches, IsTouched, IsDependency}
 use Rattle.fst_graph.specs.Tests.{is_live_place}
+use Rattle.fst_graph.specs.Grading.{MayBeHard}
 use Rattle.fst_graph.specs.Keeps.{Keeps}
+use Rattle.fst_graph.proofs.Graded.{graded_rule}
 use Rattle.fst_graph.proofs.Slots.{any_default, some_element, slot_in, patch_at}
 use Rattle.fst_graph.proofs.Making.{ordered_added, keeps_added}
 
@@ -162,6 +164,10 @@ module _ (heads : List Patch) (numbers blocks : ℕ) (order : List ℕ) (marks :
         depends.each x.number (inr (overlaps_touched heads b at len (numbers + 1) grade deps x.number (record { patch = x; head = h; numbered = refl; live = live; overlaps = v }))));
     hard_never_hold = hard_kept heads numbers within new_change refl named b refl K.lawful.hard_never_hold graded;
   }
+
+  -- the grade by the row is the grade of the new change
+  pub graded_change : FollowsRule grade (MayBeHard heads b deps) → FollowsRule grade (IsGradedHard heads (heads ++ new_change ∷ []) b (numbers + 1))
+  graded_change follows = graded_rule heads numbers within b at len grade deps named follows
 
   pub keeps_change : b < blocks → length heads < max_heads → (IsHard new_change → IsGradedHard heads (heads ++ new_change ∷ []) b (numbers + 1)) → Keeps (heads ++ new_change ∷ []) (numbers + 1) blocks (order ++ (numbers + 1) ∷ []) (marks ++ false ∷ [])
   keeps_change inside few graded =

@@ -1,5 +1,5 @@
 -- What a graph knows, and what its calls make of it.
-use Rattle.std.specs.Prelude.{◌≡◌, ◌≢◌, ◌≤◌, ◌<◌, ◌⊎◌, ◌+◌, ℕ, List, [], ◌∷◌, ◌++◌, map, filter, count_by, length, Contains}
+use Rattle.std.specs.Prelude.{◌≡◌, ◌≢◌, ◌≤◌, ◌<◌, ◌⊎◌, ◌+◌, ℕ, List, [], ◌∷◌, ◌++◌, Option, Some, None, map, filter, count_by, length, Contains}
 use Rattle.fst_types.specs.declared.number.PatchNo.{PatchNo}
 use Rattle.fst_types.specs.declared.fault.Fault.{Fault}
 use Rattle.fst_types.specs.declared.fault.Fault.TheVariants as fault
@@ -7,7 +7,7 @@ use Rattle.fst_types.specs.declared.place.Place.{Place}
 use Rattle.fst_types.specs.declared.place.Place.TheVariants as place
 use Rattle.fst_types.specs.Lists.{Lists}
 use Rattle.fst_types.specs.Patches.{Change, Empty, OpenGate, Patch, IsOn}
-use Rattle.fst_types.specs.Dependencies.{IsBlocked, IsLiveNumber}
+use Rattle.fst_types.specs.Dependencies.{DirectlyOn, IsBlocked, IsLiveNumber}
 use Rattle.fst_types.specs.declared.grade.Grade.{Grade}
 use Rattle.fst_types.specs.Overlaps.{IsOverlapped}
 use Rattle.fst_types.specs.Grades.{IsGraded}
@@ -15,17 +15,36 @@ use Rattle.fst_types.specs.Cascade.{IsCascadeOf}
 use Rattle.fst_types.specs.Tests.{is_at, is_live}
 use Rattle.fst_types.specs.Making.{fresh}
 use Rattle.fst_types.specs.Refusals.{Rule, IsFirst, NoneHolds}
-use Rattle.fst_types.specs.Order.{room_order, make_order, seal_order}
+use Rattle.fst_types.specs.Order.{room_order, make_order, seal_order, depend_order}
 use Rattle.fst_types.specs.Gates.{IsOpenNumber}
-use Rattle.fst_types.specs.Gating.{sealed}
+use Rattle.fst_types.specs.Gating.{sealed, gains}
 use Rattle.fst_types.specs.Writing.{launched, landed}
 use Rattle.fst_types.specs.Writable.{IsInMemoryOn, IsWritable, IsWritableSet}
 
--- the patches that are not forgotten, the greatest number given, and how many blocks there are
+-- a change that there is room for: its block, its bytes and the names given, and the number and the grade that it will have
+pub record Prepared : Type 0 where
+  pub block : ℕ
+  pub at : ℕ
+  pub len : ℕ
+  pub after : List ℕ
+  pub number : ℕ
+  pub grade : Grade
+
+-- the patches that are not forgotten, the greatest number given, how many blocks there are, and what is prepared
 pub record Known : Type 0 where
   pub heads : List Patch
   pub numbers : ℕ
   pub blocks : ℕ
+  pub prepared : Option Prepared
+
+-- the same with nothing prepared
+abbrev pub unprepared : Known → Known
+unprepared known = record known { prepared = None }
+
+-- what is prepared for these arguments, to have that number and grade
+abbrev pub prepared_for : (b at len : ℕ) (after : List ℕ) (number : ℕ) (grade : Grade) → Prepared
+prepared_for b at len after number grade =
+    record { block = b; at = at; len = len; after = after; number = number; grade = grade }
 
 -- the numbers of a list of names
 abbrev pub numbers_of : List PatchNo → List ℕ
@@ -47,6 +66,7 @@ pub record AddsGate (old : Known) (number : ℕ) (new : Known) : Type 0 where
   pub heads : new.heads ≡ old.heads ++ fresh number OpenGate [] ∷ []
   pub numbers : new.numbers ≡ number
   pub blocks : new.blocks ≡ old.blocks
+  pub prepared : new.prepared ≡ None
 
 -- a new empty patch: it depends on the live named patches, and is on disk where there are none
 pub record AddsEmpty (old : Known) (after : List ℕ) (number : ℕ) (new : Known) : Type 0 where
@@ -57,6 +77,7 @@ pub record AddsEmpty (old : Known) (after : List ℕ) (number : ℕ) (new : Know
   pub cascade : IsCascadeOf (old.heads ++ fresh number Empty dependencies ∷ []) new.heads
   pub numbers : new.numbers ≡ number
   pub blocks : new.blocks ≡ old.blocks
+  pub prepared : new.prepared ≡ None
 
 -- an open gate is sealed, and what now rests on disk follows
 pub record SealsGate (old : Known) (gate : ℕ) (new : Known) : Type 0 where
@@ -65,18 +86,32 @@ pub record SealsGate (old : Known) (gate : ℕ) (new : Known) : Type 0 where
   pub cascade : IsCascadeOf (map (sealed gate) old.heads) new.heads
   pub numbers : new.numbers ≡ old.numbers
   pub blocks : new.blocks ≡ old.blocks
+  pub prepared : new.prepared ≡ None
+
+-- an open gate gains the live named patches that it does not have yet; none of the named is the gate or depends on it
+pub record DependsGate (old : Known) (g : ℕ) (on : List ℕ) (new : Known) : Type 0 where
+  pub clear : NoneHolds (depend_order old.heads old.numbers g on)
+  pub is_open : IsOpenNumber old.heads g
+  pub names : List ℕ
+  pub live : Lists (λ n. IsLiveNumber old.heads n × Contains on n × (DirectlyOn old.heads g n → ⊥)) names
+  pub heads : new.heads ≡ map (gains g names) old.heads
+  pub numbers : new.numbers ≡ old.numbers
+  pub blocks : new.blocks ≡ old.blocks
+  pub prepared : new.prepared ≡ None
 
 -- the chosen are in flight
 pub record Launches (old : Known) (chosen : List ℕ) (new : Known) : Type 0 where
   pub heads : new.heads ≡ map (launched chosen) old.heads
   pub numbers : new.numbers ≡ old.numbers
   pub blocks : new.blocks ≡ old.blocks
+  pub prepared : new.prepared ≡ None
 
 -- what was in flight of the block is on disk, and what now rests on disk follows
 pub record LandsBlock (old : Known) (b : ℕ) (new : Known) : Type 0 where
   pub cascade : IsCascadeOf (map (landed b) old.heads) new.heads
   pub numbers : new.numbers ≡ old.numbers
   pub blocks : new.blocks ≡ old.blocks
+  pub prepared : new.prepared ≡ None
 
 -- the chosen are the writable set of a writable block
 pub record MayLaunch (old : Known) (chosen : List ℕ) : Type 0 where
@@ -84,7 +119,7 @@ pub record MayLaunch (old : Known) (chosen : List ℕ) : Type 0 where
   pub writable : IsWritable old.heads block
   pub choice : IsWritableSet old.heads block chosen
 
--- a new change of block b: it depends on the live named patches and the live changes that it overlaps
+-- a new change of block b: it depends on the live named patches and the live changes that it overlaps, and is hard exactly if it may be
 pub record AddsChange (old : Known) (b at len : ℕ) (after : List ℕ) (number : ℕ) (grade : Grade) (new : Known) : Type 0 where
   pub clear : NoneHolds (make_order old.heads old.numbers after)
   pub next : number ≡ old.numbers + 1
@@ -94,6 +129,11 @@ pub record AddsChange (old : Known) (b at len : ℕ) (after : List ℕ) (number 
   pub heads : new.heads ≡ old.heads ++ fresh number (Change b at len grade) dependencies ∷ []
   pub numbers : new.numbers ≡ number
   pub blocks : new.blocks ≡ old.blocks
+  pub prepared : new.prepared ≡ None
+
+-- a new change with these arguments would have that number and grade
+abbrev pub Foresees : (old : Known) (b at len : ℕ) (after : List ℕ) (number : ℕ) (grade : Grade) → Type 0
+Foresees old b at len after number grade = (new : Known) × AddsChange old b at len after number grade new
 
 -- the patches on disk are forgotten; the answer is how many
 pub record Forgets (old : Known) (dropped : ℕ) (new : Known) : Type 0 where
@@ -101,6 +141,7 @@ pub record Forgets (old : Known) (dropped : ℕ) (new : Known) : Type 0 where
   pub heads : new.heads ≡ filter is_live old.heads
   pub numbers : new.numbers ≡ old.numbers
   pub blocks : new.blocks ≡ old.blocks
+  pub prepared : new.prepared ≡ None
 
 -- if nothing is in flight, each change in memory waits for an open gate
 abbrev pub IsStuckByGates : List Patch → Type 0

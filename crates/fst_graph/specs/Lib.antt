@@ -7,3 +7,6 @@ pub mod Keeps
 pub mod Rows
 pub mod Settling
 pub mod Picking
+pub mod Reaching
+pub mod Grading
+pub mod Ready

@@ -1,5 +1,5 @@
 -- Marks on heads.
-use Rattle.std.specs.Prelude.{◌≡◌, ◌≢◌, ◌<◌, ◌⊎◌, ℕ, Bool, true, false, List, length, All, Contains, slice_index_or}
+use Rattle.std.specs.Prelude.{◌≡◌, ◌≢◌, ◌<◌, ◌⊎◌, ◌==◌, ◌&&◌, ◌||◌, ℕ, Bool, true, false, List, [], ◌∷◌, length, All, Contains, slice_index_or}
 use Rattle.fst_types.specs.Patches.{Patch}
 use Rattle.fst_types.specs.Dependencies.{DirectlyOn, DependsOn}
 use Rattle.fst_graph.specs.declared.head.Head.{Head}
@@ -48,3 +48,13 @@ pub record PassesAt (t : Test) (patches : List Patch) (n : ℕ) : Type 0 where
 -- n has P, or depends on a number with P
 abbrev pub IsAbove : List Patch → (ℕ → Type 0) → ℕ → Type 0
 IsAbove patches P n = P n ⊎ ((q : ℕ) × DependsOn patches n q × P q)
+
+-- n is the gate, or depends on it
+abbrev pub ReachesGate : List Patch → ℕ → ℕ → Type 0
+ReachesGate patches gate n = (n ≡ gate) ⊎ DependsOn patches n gate
+
+-- whether a marked head has number n
+abbrev pub mark_of : List Head → List Bool → ℕ → Bool
+mark_of [] marks n = false
+mark_of (h ∷ hs) [] n = false
+mark_of (h ∷ hs) (m ∷ ms) n = ((h.number == n) && m) || mark_of hs ms n

@@ -2,7 +2,7 @@
 use Rattle.std.specs.Prelude.{◌≡◌, ◌⊎◌, ◌==◌, ◌&&◌, ◌+◌, nat_lt, ℕ, Bool, true, false, List, Contains}
 use Rattle.fst_types.specs.declared.place.Place.{Place}
 use Rattle.fst_types.specs.Patches.{Kind, Change, Empty, OpenGate, SealedGate, Patch}
-use Rattle.fst_types.specs.Dependencies.{IsLiveNumber}
+use Rattle.fst_types.specs.Dependencies.{DirectlyOn, IsLiveNumber}
 use Rattle.fst_graph.specs.Tests.{is_live_place}
 use Rattle.std.specs.List.Sorted.{IsStrictlyIncreasing}
 
@@ -33,3 +33,7 @@ pub record IsTouched (heads : List Patch) (b at len n : ℕ) : Type 0 where
 -- a new change of those bytes depends on n
 abbrev pub IsDependency : List Patch → List ℕ → ℕ → ℕ → ℕ → ℕ → Type 0
 IsDependency heads names b at len n = (IsLiveNumber heads n × Contains names n) ⊎ IsTouched heads b at len n
+
+-- n is the number of a live patch, and no direct dependency of the gate
+abbrev pub IsMissing : List Patch → ℕ → ℕ → Type 0
+IsMissing heads gate n = IsLiveNumber heads n × (DirectlyOn heads gate n → ⊥)

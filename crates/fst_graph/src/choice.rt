@@ -47,7 +47,8 @@ pub fn writable_set(
     Ok(numbers)
 }
 
-fn is_hard(kind: Kind) -> bool
+/// Whether it is a hard change.
+pub fn is_hard(kind: Kind) -> bool
     ensures { result ≡ is_hard_kind (kind_of kind) }
 {
     match kind {

@@ -1,50 +1,63 @@
 //! The patches that are not forgotten. Each question is answered by a walk over them.
 
-ghost use Rattle.std.specs.Prelude.{◌≡◌, ◌<◌, ◌≤◌, ◌++◌, ◌∷◌, [], IfOk, IfErr, OnErr, IfSome, IfNone, OnOk, option_map, MatchResult, vec_len, vec_capacity};
+ghost use Rattle.std.specs.Prelude.{◌≡◌, ◌<◌, ◌≤◌, ◌++◌, ◌∷◌, [], IfOk, IfErr, OnErr, IfSome, IfNone, OnOk, option_map, MatchResult, vec_len, vec_capacity, ℕ, ◌↔◌, IsTrue, IsSome, count_by};
 ghost use Rattle.fst_types.specs.Patches.{Patch};
 ghost use Rattle.fst_types.specs.Looks.{place_of, IsPick};
-ghost use Rattle.fst_types.specs.Order.{room_order, make_order, seal_order};
+ghost use Rattle.fst_types.specs.Order.{room_order, make_order, seal_order, depend_order};
 ghost use Rattle.fst_types.specs.Refusals.{IsFirst, NoneHolds};
 ghost use Rattle.fst_types.specs.Writable.{IsWritableSet, HasReady, IsHeld, IsLeastHeld};
-ghost use Rattle.fst_graph.specs.Known.{Known, numbers_of, rest_place, Refuses, AddsGate, AddsEmpty, AddsChange, SealsGate, Launches, IsStuckByGates, LandsBlock, MayLaunch, Forgets};
+ghost use Rattle.fst_types.specs.Tests.{is_live};
+ghost use Rattle.fst_types.specs.declared.grade.Grade.{Grade};
+ghost use Rattle.fst_graph.specs.Known.{Known, unprepared, prepared_for, Foresees, numbers_of, rest_place, Refuses, AddsGate, AddsEmpty, AddsChange, SealsGate, DependsGate, Launches, IsStuckByGates, LandsBlock, MayLaunch, Forgets};
 
 use crate::choice::{least_held, writable_set};
-use crate::gates::gate_slot;
+use crate::gates::{depend_fault, gate_slot};
+use crate::growth::{gain, marked_last, missing_names};
 use crate::head::{Head, Kind};
 use crate::marks::{ask, slot_of};
 use crate::pick::least_writable;
-use crate::places::{cascade, keep_live, keep_live_numbers, land_all, launch_all, seal_all};
-use crate::row::{dependencies_of, is_given, live_named, names_unknown};
-use crate::test::Test;
-use fst_types::{
-    BlockNo, Fault, Grade, MAX_HEADS, MAX_NAMES, MAX_NUMBER, PatchNo, Place, Shape, Span, What,
+use crate::places::{
+    cascade, keep_live, keep_live_numbers, land_all, launch_all, live_count, seal_all,
 };
+use crate::prepared::{Prepared, prepare};
+use crate::refusals::{make_fault, room_fault};
+use crate::row::{is_given, live_named};
+use crate::test::Test;
+use fst_types::{BlockNo, Fault, Grade, PatchNo, Place, Shape, Span};
 use smallvec::SmallVec;
 use std::alloc::{AllocError, Global};
 use std::marker::Model;
 
 /// The heads, which are the patches not forgotten, in order of number. `order` names each after those that it depends
-/// on, and `marks` has a place for each.
+/// on, and `marks` has a place for each. Where a change is prepared, each of the three has a free place for it.
+/// `reached` has a place for each block, for the walk that finds a grade.
 #[derive(Drop)]
 pub struct Graph {
     alloc: Global,
     heads: Vec<Head>,
     order: Vec<u32>,
     marks: Vec<bool>,
+    reached: Vec<bool>,
     numbers: u32,
     blocks: u32,
+    prepared: Option<Prepared>,
 }
 
 impl Model for Graph {
     ghost use Rattle.fst_graph.specs.Heads.{patches_of};
+    ghost use Rattle.std.specs.Prelude.{◌≡◌, option_map, IfSome, length, vec_len, vec_capacity};
     ghost use Rattle.fst_graph.specs.Known.{Known};
     ghost use Rattle.fst_graph.specs.Keeps.{Keeps};
+    ghost use Rattle.fst_graph.specs.Ready.{prepared_of, IsReady, HasPlaces};
 
     ghost Value = { Known };
 
-    ghost view = { λ g. record { heads = patches_of g.heads.items; numbers = g.numbers; blocks = g.blocks } };
+    ghost view = { λ g. record { heads = patches_of g.heads.items; numbers = g.numbers; blocks = g.blocks; prepared = option_map (prepared_of g.numbers) g.prepared } };
 
-    ghost invariant = { λ g. Keeps (patches_of g.heads.items) g.numbers g.blocks g.order.items g.marks.items };
+    ghost invariant = { λ g. Keeps (patches_of g.heads.items) g.numbers g.blocks g.order.items g.marks.items
+        × IfSome g.prepared (IsReady (patches_of g.heads.items) g.numbers g.blocks)
+        × IfSome g.prepared (λ _. HasPlaces (vec_len g.heads) (vec_capacity g.heads) (vec_len g.order) (vec_capacity g.order) (vec_len g.marks) (vec_capacity g.marks))
+        × (length g.reached.items ≡ g.blocks) };
 }
 
 // Room for one more head.
@@ -76,18 +89,31 @@ fn resting_place(row: &[u32]) -> Place
 }
 
 impl Graph {
-    /// No patch, the numbers up to the given one counting as on disk and forgotten.
+    /// No patch, the numbers up to the given one counting as on disk and forgotten. It takes a byte for each block, and is
+    /// refused as `Memory`.
     pub fn new(alloc: Global, shape: Shape, numbers: u32) -> Result<Graph, Fault>
-        ensures { MatchResult result (λ g. g ≡ record { heads = []; numbers = numbers; blocks = shape.blocks }) (λ f. f ≡ Fault.Memory) }
+        ensures { MatchResult result (λ g. g ≡ record { heads = []; numbers = numbers; blocks = shape.blocks; prepared = None }) (λ f. f ≡ Fault.Memory) }
     {
+        let Ok(reached) = vec![in alloc; false; shape.blocks as usize] else {
+            return Err(Fault::Memory);
+        };
         Ok(Graph {
             alloc,
             heads: Vec::new(alloc),
             order: Vec::new(alloc),
             marks: Vec::new(alloc),
+            reached,
             numbers,
             blocks: shape.blocks,
+            prepared: None,
         })
+    }
+
+    /// How many patches are not on disk. It takes no memory.
+    pub fn live(&self) -> u32
+        ensures { result ≡ count_by is_live self.now.heads }
+    {
+        live_count(&self.heads) as u32
     }
 
     /// Where a patch is: none for a number that was not given, the disk for one that was forgotten. It takes no memory.
@@ -103,29 +129,16 @@ impl Graph {
         }
     }
 
-    // Why no patch can be made now.
-    fn room_fault(&self) -> Option<Fault>
-        ensures first { IfSome result (λ f. IsFirst (room_order self.now.heads self.now.numbers) f) }
-        ensures clear { IfNone result (NoneHolds (room_order self.now.heads self.now.numbers)) }
-    {
-        if self.heads.len() >= MAX_HEADS {
-            return Some(Fault::Full(What::Heads));
-        }
-        if self.numbers == MAX_NUMBER {
-            return Some(Fault::Full(What::Numbers));
-        }
-        None
-    }
-
     /// A new gate, open, without dependencies. It is refused as `Full(Heads)` where 65,535 patches are not forgotten, as
     /// `Full(Numbers)` where the last number was given, and as `Memory`.
     pub fn add_gate(&mut self) -> Result<PatchNo, Fault>
         ensures ok { IfOk result (λ no. AddsGate self.old no.0 self.new) }
         ensures refused { IfErr result (Refuses (room_order self.old.heads self.old.numbers)) }
-        ensures same { OnErr result (self.new ≡ self.old) }
+        ensures same { OnErr result (self.new ≡ unprepared self.old) }
         ensures blocks { self.new.blocks ≡ self.old.blocks }
     {
-        if let Some(fault) = self.room_fault() {
+        self.prepared = None;
+        if let Some(fault) = room_fault(&self.heads, self.numbers) {
             return Err(fault);
         }
         if reserve_one(&mut self.heads, &mut self.order, &mut self.marks).is_err() {
@@ -144,30 +157,17 @@ impl Graph {
         Ok(PatchNo(number))
     }
 
-    // Why no patch that names these can be made now.
-    fn make_fault(&self, after: &[PatchNo]) -> Option<Fault>
-        ensures first { IfSome result (λ f. IsFirst (make_order self.now.heads self.now.numbers (numbers_of after.now)) f) }
-        ensures clear { IfNone result (NoneHolds (make_order self.now.heads self.now.numbers (numbers_of after.now))) }
-    {
-        if after.len() > MAX_NAMES {
-            return Some(Fault::BadField);
-        }
-        if names_unknown(self.numbers, after) {
-            return Some(Fault::NoPatch);
-        }
-        self.room_fault()
-    }
-
     /// A new empty patch, which depends on the named patches that are not on disk. It is on disk at once where none is.
     /// It is refused as `BadField` where more than 64 are named, as `NoPatch` where one was never given, as `Full(Heads)`
     /// and `Full(Numbers)`, and as `Memory`.
     pub fn add_empty(&mut self, after: &[PatchNo]) -> Result<PatchNo, Fault>
         ensures ok { IfOk result (λ no. AddsEmpty self.old (numbers_of after.now) no.0 self.new) }
         ensures refused { IfErr result (Refuses (make_order self.old.heads self.old.numbers (numbers_of after.now))) }
-        ensures same { OnErr result (self.new ≡ self.old) }
+        ensures same { OnErr result (self.new ≡ unprepared self.old) }
         ensures blocks { self.new.blocks ≡ self.old.blocks }
     {
-        if let Some(fault) = self.make_fault(after) {
+        self.prepared = None;
+        if let Some(fault) = make_fault(&self.heads, self.numbers, after) {
             return Err(fault);
         }
         let Ok(dependencies) = live_named(self.alloc, &self.heads, after) else {
@@ -194,8 +194,9 @@ impl Graph {
     pub fn chosen(&mut self, block: BlockNo) -> Result<Vec<PatchNo>, Fault>
         ensures ok { IfOk result (λ numbers. IsWritableSet self.old.heads block.0 (numbers_of numbers.items)) }
         ensures refused { IfErr result (λ f. HasReady self.old.heads block.0 × (f ≡ Fault.Memory)) }
-        ensures same { self.new ≡ self.old }
+        ensures same { self.new ≡ unprepared self.old }
     {
+        self.prepared = None;
         ask(
             &self.heads,
             &self.order,
@@ -210,14 +211,49 @@ impl Graph {
     pub fn seal(&mut self, gate: PatchNo) -> Result<(), Fault>
         ensures ok { OnOk result (SealsGate self.old gate.0 self.new) }
         ensures refused { IfErr result (IsFirst (seal_order self.old.heads self.old.numbers gate.0)) }
-        ensures same { OnErr result (self.new ≡ self.old) }
+        ensures same { OnErr result (self.new ≡ unprepared self.old) }
         ensures blocks { self.new.blocks ≡ self.old.blocks }
     {
+        self.prepared = None;
         if let Err(fault) = gate_slot(&self.heads, self.numbers, gate.0) {
             return Err(fault);
         }
         seal_all(&mut self.heads, gate.0);
         cascade(&mut self.heads, &self.order, &mut self.marks);
+        Ok(())
+    }
+
+    /// The open gate gains the named patches that are not on disk and that it does not have yet. It is refused as
+    /// `NoPatch` where the gate's number was not given, as `NotGate` where it is no gate's or forgotten, as `Sealed`, as
+    /// `BadField` where more than 64 are named, as `NoPatch` where one was never given, as `Cycle` exactly where one is
+    /// the gate or depends on it, and as `Memory`.
+    pub fn depend(&mut self, gate: PatchNo, on: &[PatchNo]) -> Result<(), Fault>
+        ensures ok { OnOk result (DependsGate self.old gate.0 (numbers_of on.now) self.new) }
+        ensures refused { IfErr result (Refuses (depend_order self.old.heads self.old.numbers gate.0 (numbers_of on.now))) }
+        ensures same { OnErr result (self.new ≡ unprepared self.old) }
+        ensures blocks { self.new.blocks ≡ self.old.blocks }
+    {
+        self.prepared = None;
+        if let Some(fault) = depend_fault(
+            &self.heads,
+            &self.order,
+            &mut self.marks,
+            self.numbers,
+            gate.0,
+            on,
+        ) {
+            return Err(fault);
+        }
+        let Ok(names) = missing_names(self.alloc, &self.heads, gate.0, on) else {
+            return Err(Fault::Memory);
+        };
+        let Ok(order) = marked_last(self.alloc, &self.heads, &self.marks, &self.order) else {
+            return Err(Fault::Memory);
+        };
+        let Ok(()) = gain(&mut self.heads, gate.0, names.as_slice()) else {
+            return Err(Fault::Memory);
+        };
+        self.order = order;
         Ok(())
     }
 
@@ -227,6 +263,7 @@ impl Graph {
         ensures launched { Launches self.old (numbers_of chosen.now) self.new }
         ensures blocks { self.new.blocks ≡ self.old.blocks }
     {
+        self.prepared = None;
         launch_all(&mut self.heads, chosen);
     }
 
@@ -235,12 +272,88 @@ impl Graph {
         ensures landed { LandsBlock self.old block.0 self.new }
         ensures blocks { self.new.blocks ≡ self.old.blocks }
     {
+        self.prepared = None;
         land_all(&mut self.heads, block.0);
         cascade(&mut self.heads, &self.order, &mut self.marks);
     }
 
+    /// Makes room for a new change, and answers the number and the grade that `add_data` with these arguments will answer.
+    /// It is refused as `add_data` is. For the grade it walks a few times over the patches that are not forgotten, and once
+    /// more for each round of blocks that lead to this one. What is prepared is gone after any other call that may change
+    /// the graph, and after a refused `room`.
+    pub fn room(
+        &mut self,
+        block: BlockNo,
+        span: Span,
+        after: &[PatchNo],
+    ) -> Result<(PatchNo, Grade), Fault>
+        requires { block.0 < self.old.blocks }
+        ensures ok { IfOk result (λ made. Foresees (unprepared self.old) block.0 span.at span.len (numbers_of after.now) made.0.0 made.1) }
+        ensures prepared { IfOk result (λ made. self.new ≡ record self.old { prepared = Some (prepared_for block.0 span.at span.len (numbers_of after.now) made.0.0 made.1) }) }
+        ensures refused { IfErr result (Refuses (make_order self.old.heads self.old.numbers (numbers_of after.now))) }
+        ensures same { OnErr result (self.new ≡ unprepared self.old) }
+        ensures blocks { self.new.blocks ≡ self.old.blocks }
+    {
+        self.prepared = None;
+        if let Some(fault) = make_fault(&self.heads, self.numbers, after) {
+            return Err(fault);
+        }
+        let Ok(prepared) = prepare(
+            self.alloc,
+            &self.heads,
+            &self.order,
+            &mut self.marks,
+            &mut self.reached,
+            block.0,
+            span,
+            after,
+        ) else {
+            return Err(Fault::Memory);
+        };
+        if reserve_one(&mut self.heads, &mut self.order, &mut self.marks).is_err() {
+            return Err(Fault::Memory);
+        }
+        let grade = prepared.grade;
+        self.prepared = Some(prepared);
+        Ok((PatchNo(self.numbers + 1), grade))
+    }
+
+    // Whether a change with these arguments is prepared.
+    fn is_prepared(&self, block: BlockNo, span: Span, after: &[PatchNo]) -> bool
+        ensures { IsTrue result ↔ ((number : ℕ) × (grade : Grade) × (self.now.prepared ≡ Some (prepared_for block.0 span.at span.len (numbers_of after.now) number grade))) }
+    {
+        match &self.prepared {
+            Some(prepared) => prepared.is_for(block.0, span, after),
+            None => false,
+        }
+    }
+
+    // Puts down the change that is prepared.
+    fn add_prepared(&mut self) -> (PatchNo, Grade)
+        requires { IsSome self.old.prepared }
+        ensures added { IfSome self.old.prepared (λ p. AddsChange (unprepared self.old) p.block p.at p.len p.after result.0.0 result.1 self.new) }
+        ensures foreseen { IfSome self.old.prepared (λ p. (result.0.0 ≡ p.number) × (result.1 ≡ p.grade)) }
+    {
+        let Some(prepared) = self.prepared.take() else {
+            unreachable!();
+        };
+        let number = self.numbers + 1;
+        let grade = prepared.grade;
+        self.heads.push_reserved(Head {
+            number,
+            kind: Kind::Change(prepared.block, prepared.span, grade),
+            place: Place::Memory,
+            dependencies: prepared.dependencies,
+        });
+        self.order.push_reserved(number);
+        self.marks.push_reserved(false);
+        self.numbers = number;
+        (PatchNo(number), grade)
+    }
+
     /// A new change of the block, which depends on the named patches that are not on disk and on the changes not on disk
-    /// with which it shares a byte. It is refused as `add_empty` is.
+    /// with which it shares a byte. It is refused as `add_empty` is. Where `room` has prepared it for these arguments, it
+    /// answers what `room` did, and takes no memory.
     pub fn add_data(
         &mut self,
         block: BlockNo,
@@ -248,38 +361,24 @@ impl Graph {
         after: &[PatchNo],
     ) -> Result<(PatchNo, Grade), Fault>
         requires { block.0 < self.old.blocks }
-        ensures ok { IfOk result (λ made. AddsChange self.old block.0 span.at span.len (numbers_of after.now) made.0.0 made.1 self.new) }
+        ensures ok { IfOk result (λ made. AddsChange (unprepared self.old) block.0 span.at span.len (numbers_of after.now) made.0.0 made.1 self.new) }
+        ensures prepared { (number : ℕ) (grade : Grade) → self.old.prepared ≡ Some (prepared_for block.0 span.at span.len (numbers_of after.now) number grade) → MatchResult result (λ made. (made.0.0 ≡ number) × (made.1 ≡ grade)) (λ f. ⊥) }
         ensures refused { IfErr result (Refuses (make_order self.old.heads self.old.numbers (numbers_of after.now))) }
-        ensures same { OnErr result (self.new ≡ self.old) }
+        ensures same { OnErr result (self.new ≡ unprepared self.old) }
         ensures blocks { self.new.blocks ≡ self.old.blocks }
     {
-        if let Some(fault) = self.make_fault(after) {
-            return Err(fault);
+        if self.is_prepared(block, span, after) {
+            return Ok(self.add_prepared());
         }
-        let Ok(dependencies) = dependencies_of(self.alloc, &self.heads, block.0, span, after) else {
-            return Err(Fault::Memory);
-        };
-        if reserve_one(&mut self.heads, &mut self.order, &mut self.marks).is_err() {
-            return Err(Fault::Memory);
-        }
-        let number = self.numbers + 1;
-        let grade = Grade::Soft;
-        self.heads.push_reserved(Head {
-            number,
-            kind: Kind::Change(block.0, span, grade),
-            place: Place::Memory,
-            dependencies,
-        });
-        self.order.push_reserved(number);
-        self.marks.push_reserved(false);
-        self.numbers = number;
-        Ok((PatchNo(number), grade))
+        self.room(block, span, after)?;
+        Ok(self.add_prepared())
     }
 
     /// Forgets the patches on disk, and answers how many they were. It takes no memory.
     pub fn forget(&mut self) -> u32
         ensures { Forgets self.old result self.new }
     {
+        self.prepared = None;
         let before = self.heads.len();
         keep_live_numbers(&mut self.order, &self.heads);
         keep_live(&mut self.heads);
@@ -291,8 +390,9 @@ impl Graph {
     pub fn hard_held(&mut self, block: BlockNo) -> Option<PatchNo>
         ensures none { IfNone result ((p : Patch) → IsHeld self.old.heads block.0 p → ⊥) }
         ensures least { IfSome result (λ no. IsLeastHeld self.old.heads block.0 no.0) }
-        ensures same { self.new ≡ self.old }
+        ensures same { self.new ≡ unprepared self.old }
     {
+        self.prepared = None;
         ask(
             &self.heads,
             &self.order,
@@ -308,8 +408,9 @@ impl Graph {
     pub fn pick(&mut self) -> Option<BlockNo>
         ensures least { IsPick self.old.heads (option_map (λ b. b.0) result) }
         ensures never_stuck { IfNone result (IsStuckByGates self.old.heads) }
-        ensures same { self.new ≡ self.old }
+        ensures same { self.new ≡ unprepared self.old }
     {
+        self.prepared = None;
         least_writable(&self.heads, &self.order, &mut self.marks, self.blocks)
     }
 }
@@ -334,6 +435,14 @@ mod tests {
         Ok(no)
     }
 
+    fn grade(graph: &mut Graph, block: u32, at: u32, after: &[PatchNo]) -> Result<Grade, Fault>
+        requires { block < graph.old.blocks }
+        ensures { graph.new.blocks ≡ graph.old.blocks }
+    {
+        let (_, grade) = graph.add_data(BlockNo(block), Span { at, len: 1 }, after)?;
+        Ok(grade)
+    }
+
     // Puts the least writable block in flight.
     fn launch_next(graph: &mut Graph) -> Result<Option<BlockNo>, Fault>
         ensures { graph.new.blocks ≡ graph.old.blocks }
@@ -346,16 +455,109 @@ mod tests {
         Ok(Some(block))
     }
 
+    const FIRST: PatchNo = PatchNo(1);
+
+    const SECOND: PatchNo = PatchNo(2);
+
+    const THIRD: PatchNo = PatchNo(3);
+
+    const FOURTH: PatchNo = PatchNo(4);
+
     #[test]
     fn cycle_of_blocks(rt: HostRuntime) -> Result<(), Fail> {
         let mut graph = opened(rt.alloc())?;
-        let first = patch(&mut graph, 0, 0, &[])?;
-        let second = patch(&mut graph, 1, 0, &[first])?;
-        patch(&mut graph, 0, 1, &[second])?;
+        let first = grade(&mut graph, 0, 0, &[])?;
+        let second = grade(&mut graph, 1, 0, &[FIRST])?;
+        let third = grade(&mut graph, 0, 1, &[SECOND])?;
+        assert_eq!(rt;
+            [first, second, third],
+            [Grade::Hard, Grade::Hard, Grade::Soft]
+        );
+        let held = [graph.hard_held(BlockNo(0)), graph.hard_held(BlockNo(1))];
+        assert_eq!(rt; held, [None, Some(SECOND)]);
         assert_eq!(rt; graph.pick(), Some(BlockNo(0)));
         let chosen = graph.chosen(BlockNo(0))?;
-        assert_eq!(rt; chosen.as_slice(), [PatchNo(1)].as_slice());
+        assert_eq!(rt; chosen.as_slice(), [FIRST].as_slice());
+        Ok(())
+    }
+
+    // Two blocks with a hard change each, and then one each that needs the other's first: the grades of these.
+    fn crossed(graph: &mut Graph) -> Result<[Grade; 4], Fault>
+        requires { graph.old.blocks ≡ 4 }
+        ensures { graph.new.blocks ≡ graph.old.blocks }
+    {
+        let first = grade(graph, 0, 0, &[])?;
+        let second = grade(graph, 1, 0, &[])?;
+        let third = grade(graph, 0, 1, &[SECOND])?;
+        let fourth = grade(graph, 1, 1, &[FIRST])?;
+        Ok([first, second, third, fourth])
+    }
+
+    #[test]
+    fn crosswise_hold(rt: HostRuntime) -> Result<(), Fail> {
+        let mut graph = opened(rt.alloc())?;
+        let grades = crossed(&mut graph)?;
+        assert_eq!(rt;
+            grades,
+            [Grade::Hard, Grade::Hard, Grade::Hard, Grade::Soft]
+        );
+        let held = [graph.hard_held(BlockNo(0)), graph.hard_held(BlockNo(1))];
+        assert_eq!(rt; held, [Some(THIRD), None]);
+        assert_eq!(rt; graph.pick(), Some(BlockNo(1)));
+        Ok(())
+    }
+
+    #[test]
+    fn crosswise_hold_ends(rt: HostRuntime) -> Result<(), Fail> {
+        let mut graph = opened(rt.alloc())?;
+        crossed(&mut graph)?;
+        assert_eq!(rt; launch_next(&mut graph)?, Some(BlockNo(1)));
+        graph.land(BlockNo(1));
         assert_eq!(rt; graph.hard_held(BlockNo(0)), None);
+        let chosen = graph.chosen(BlockNo(0))?;
+        assert_eq!(rt; chosen.as_slice(), [FIRST, THIRD].as_slice());
+        Ok(())
+    }
+
+    // Three blocks with a change each, and edges from the third to the second and from the second to the first.
+    fn chained(graph: &mut Graph) -> Result<(), Fault>
+        requires { graph.old.blocks ≡ 4 }
+        ensures { graph.new.blocks ≡ graph.old.blocks }
+    {
+        grade(graph, 0, 0, &[])?;
+        grade(graph, 1, 0, &[])?;
+        grade(graph, 2, 0, &[])?;
+        grade(graph, 1, 1, &[FIRST])?;
+        grade(graph, 2, 1, &[SECOND])?;
+        Ok(())
+    }
+
+    // Two edges lead from block 2 to block 0, and none to block 3.
+    #[test]
+    fn path_of_blocks(rt: HostRuntime) -> Result<(), Fail> {
+        let mut graph = opened(rt.alloc())?;
+        chained(&mut graph)?;
+        let back = grade(&mut graph, 0, 1, &[THIRD])?;
+        let away = grade(&mut graph, 3, 0, &[THIRD])?;
+        assert_eq!(rt; [back, away], [Grade::Soft, Grade::Hard]);
+        Ok(())
+    }
+
+    // The third is soft, since it waited for a gate: it makes no edge, and yet what needs it returns to block 0.
+    #[test]
+    fn soft_change_between(rt: HostRuntime) -> Result<(), Fail> {
+        let mut graph = opened(rt.alloc())?;
+        let gate = graph.add_gate()?;
+        grade(&mut graph, 0, 0, &[])?;
+        let between = grade(&mut graph, 1, 0, &[gate, SECOND])?;
+        graph.seal(gate)?;
+        grade(&mut graph, 1, 1, &[])?;
+        let beside = grade(&mut graph, 0, 1, &[FOURTH])?;
+        let around = grade(&mut graph, 0, 2, &[THIRD])?;
+        assert_eq!(rt;
+            [between, beside, around],
+            [Grade::Soft, Grade::Hard, Grade::Soft]
+        );
         Ok(())
     }
 
@@ -370,6 +572,32 @@ mod tests {
         assert_eq!(rt; graph.place(gate), Some(Place::Disk));
         let chosen = graph.chosen(BlockNo(0))?;
         assert_eq!(rt; chosen.as_slice(), [PatchNo(2)].as_slice());
+        Ok(())
+    }
+
+    #[test]
+    fn cycles_and_repeats(rt: HostRuntime) -> Result<(), Fail> {
+        let mut graph = opened(rt.alloc())?;
+        let gate = graph.add_gate()?;
+        let above = patch(&mut graph, 0, 0, &[gate])?;
+        let far = patch(&mut graph, 1, 0, &[above])?;
+        assert_eq!(rt; graph.depend(gate, &[above]), Err(Fault::Cycle));
+        assert_eq!(rt; graph.depend(gate, &[far]), Err(Fault::Cycle));
+        assert_eq!(rt; graph.depend(gate, &[gate]), Err(Fault::Cycle));
+        assert_eq!(rt; graph.depend(above, &[gate]), Err(Fault::NotGate));
+        assert_eq!(rt; graph.depend(PatchNo(9), &[gate]), Err(Fault::NoPatch));
+        assert_eq!(rt; graph.depend(gate, &[PatchNo(9)]), Err(Fault::NoPatch));
+        assert_eq!(rt; graph.depend(gate, &[gate; 65]), Err(Fault::BadField));
+        let below = patch(&mut graph, 2, 0, &[])?;
+        assert_eq!(rt; graph.depend(gate, &[below; 64]), Ok(()));
+        assert_eq!(rt; graph.depend(gate, &[below]), Ok(()));
+        graph.seal(gate)?;
+        assert_eq!(rt; graph.depend(gate, &[]), Err(Fault::Sealed));
+        assert_eq!(rt; graph.place(gate), Some(Place::Memory));
+        assert_eq!(rt; launch_next(&mut graph)?, Some(BlockNo(2)));
+        graph.land(BlockNo(2));
+        assert_eq!(rt; graph.place(gate), Some(Place::Disk));
+        assert_eq!(rt; launch_next(&mut graph)?, Some(BlockNo(0)));
         Ok(())
     }
 
@@ -401,6 +629,54 @@ mod tests {
         assert_eq!(rt; graph.place(first), Some(Place::Disk));
         assert_eq!(rt; graph.place(PatchNo(2)), None);
         assert_eq!(rt; graph.seal(first), Err(Fault::NotGate));
+        Ok(())
+    }
+
+    #[test]
+    fn room_answers_what_add_data_will(rt: HostRuntime) -> Result<(), Fail> {
+        let mut graph = opened(rt.alloc())?;
+        let first = patch(&mut graph, 0, 0, &[])?;
+        let span = Span { at: 0, len: 2 };
+        let foreseen = graph.room(BlockNo(0), span, &[first])?;
+        assert_eq!(rt; foreseen.0, PatchNo(2));
+        assert_eq!(rt; graph.place(PatchNo(2)), None);
+        assert_eq!(rt; graph.add_data(BlockNo(0), span, &[first])?, foreseen);
+        assert_eq!(rt; graph.place(PatchNo(2)), Some(Place::Memory));
+        Ok(())
+    }
+
+    #[test]
+    fn room_and_another_call(rt: HostRuntime) -> Result<(), Fail> {
+        let mut graph = opened(rt.alloc())?;
+        let first = patch(&mut graph, 0, 0, &[])?;
+        let span = Span { at: 0, len: 2 };
+        let foreseen = graph.room(BlockNo(1), span, &[first])?;
+        assert_eq!(rt; graph.pick(), Some(BlockNo(0)));
+        assert_eq!(rt; graph.add_data(BlockNo(1), span, &[first])?, foreseen);
+        let other = graph.room(BlockNo(2), span, &[first])?;
+        assert_eq!(rt;
+            graph.room(BlockNo(2), span, &[PatchNo(9)]),
+            Err(Fault::NoPatch)
+        );
+        assert_eq!(rt; graph.add_data(BlockNo(2), span, &[first])?, other);
+        let third = graph.room(BlockNo(3), span, &[first])?;
+        assert_eq!(rt; patch(&mut graph, 3, 0, &[])?, third.0);
+        assert_eq!(rt; graph.add_data(BlockNo(3), span, &[first])?.0, PatchNo(5));
+        Ok(())
+    }
+
+    #[test]
+    fn live_patches(rt: HostRuntime) -> Result<(), Fail> {
+        let mut graph = opened(rt.alloc())?;
+        assert_eq!(rt; graph.live(), 0);
+        let first = patch(&mut graph, 0, 0, &[])?;
+        graph.add_empty(&[first])?;
+        graph.add_empty(&[])?;
+        assert_eq!(rt; graph.live(), 2);
+        assert_eq!(rt; launch_next(&mut graph)?, Some(BlockNo(0)));
+        assert_eq!(rt; graph.live(), 2);
+        graph.land(BlockNo(0));
+        assert_eq!(rt; graph.live(), 0);
         Ok(())
     }
 

@@ -3,12 +3,18 @@
 
 mod choice;
 mod gates;
+mod grade;
 mod graph;
+mod growth;
 mod head;
 mod marks;
 mod pick;
 mod places;
+mod prepared;
+mod reach;
+mod refusals;
 mod row;
+mod shortcuts;
 mod test;
 
 pub use graph::Graph;

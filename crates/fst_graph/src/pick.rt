@@ -17,8 +17,8 @@ use crate::marks::ask;
 use crate::test::Test;
 use fst_types::{BlockNo, Place};
 
-// The block of a change in memory.
-fn memory_block(head: &Head) -> Option<u32>
+/// The block of a change in memory.
+pub fn memory_block(head: &Head) -> Option<u32>
     ensures { result ≡ memory_block (patch_of head.now) }
 {
     match head.place {

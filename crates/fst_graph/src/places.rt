@@ -1,6 +1,6 @@
 //! How patches go from place to place.
 
-ghost use Rattle.std.specs.Prelude.{◌≡◌, length, vec_len, map, filter};
+ghost use Rattle.std.specs.Prelude.{◌≡◌, length, vec_len, map, filter, count_by};
 ghost use Rattle.fst_types.specs.Tests.{is_at, is_on, is_change_at, is_among, is_live};
 ghost use Rattle.std.specs.List.Sorted.{IsStrictlyIncreasing};
 ghost use Rattle.fst_types.specs.Cascade.{IsCascadeOf};
@@ -179,4 +179,17 @@ pub fn keep_live_numbers(order: &mut Vec<u32>, heads: &[Head])
     ensures { order.new.items ≡ filter (is_live_in (patches_of heads.now)) order.old.items }
 {
     order.retain(|number| is_kept(heads, *number));
+}
+
+/// How many patches are not on disk.
+pub fn live_count(heads: &[Head]) -> usize
+    ensures { result ≡ count_by is_live (patches_of heads.now) }
+{
+    let mut count = 0;
+    for head in heads {
+        if is_live(head.place) {
+            count += 1;
+        }
+    }
+    count
 }

@@ -1,5 +1,5 @@
 -- Which changes are hard.
-use Rattle.std.specs.Prelude.{◌≢◌, ℕ, Bool, true, false, List}
+use Rattle.std.specs.Prelude.{◌≢◌, ℕ, List}
 use Rattle.fst_types.specs.declared.grade.Grade.{Grade}
 use Rattle.fst_types.specs.declared.grade.Grade.TheVariants as grade
 use Rattle.fst_types.specs.Closure.{Closure}
@@ -39,16 +39,10 @@ pub record IsGradedHard (before after : List Patch) (b p : ℕ) : Type 0 where
   pub open_ended : (q : Patch) (c : ℕ) → Needs after p q c → IsLive q → c ≢ b → Reaches before c b → ⊥
 
 -- a new change is hard exactly if it may be
-abbrev pub FollowsRule : Bool → Grade → Type 0 → Type 0
-FollowsRule true grade.Hard MayBeHard = MayBeHard
-FollowsRule true grade.Soft MayBeHard = MayBeHard → ⊥
-FollowsRule false grade.Hard MayBeHard = ⊥
-FollowsRule false grade.Soft MayBeHard = Unit {0}
-
--- whether the rule is in force; if not, every change is soft
-abbrev pub hard_patches : Bool
-hard_patches = false
+abbrev pub FollowsRule : Grade → Type 0 → Type 0
+FollowsRule grade.Hard MayBeHard = MayBeHard
+FollowsRule grade.Soft MayBeHard = MayBeHard → ⊥
 
 -- the grade of a new change p on b, the heads being `before` without it and `after` with it
 abbrev pub IsGraded : List Patch → List Patch → ℕ → ℕ → Grade → Type 0
-IsGraded before after b p grade = FollowsRule hard_patches grade (IsGradedHard before after b p)
+IsGraded before after b p grade = FollowsRule grade (IsGradedHard before after b p)

@@ -7,7 +7,7 @@ ghost use Rattle.feather.specs.Kept.{jobs_kept, settled_text, IsJobAt};
 ghost use Rattle.feather.specs.Sending.{Sends};
 ghost use Rattle.feather.specs.Answering.{Obeyed};
 
-use crate::command::Failure;
+use crate::failure::Failure;
 use crate::output::Stopped;
 use crate::player::Player;
 use crate::reply::{send_done, send_refusal, send_stalled};

@@ -25,9 +25,8 @@ fn zero_slots(alloc: Global, blocks: u32, size: u32) -> Result<Vec<MemorySlot>, 
 }
 
 impl Player {
-    /// A player over zero blocks in memory, all of which the cache may hold at once, or `Memory`.
+    /// A player over zero blocks in memory, or `Memory`.
     pub fn new(alloc: Global, shape: Shape) -> Result<Player, Fault>
-        requires { shape.resident ≡ shape.blocks }
         ensures { MatchResult result (λ player. player ≡ opened shape) (λ fault. fault ≡ Fault.Memory) }
     {
         let Ok(slots) = zero_slots(alloc, shape.blocks, shape.size) else {

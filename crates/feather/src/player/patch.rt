@@ -1,4 +1,4 @@
-//! Changes.
+//! New patches: changes and empty patches.
 
 ghost use Rattle.std.specs.Prelude.{◌≡◌};
 ghost use Rattle.feather.specs.Commands as script;
@@ -8,16 +8,14 @@ ghost use Rattle.feather.specs.Answering.{Obeyed};
 use crate::accepted::Accepted;
 use crate::output::Stopped;
 use crate::player::Player;
-use crate::reply::{send_patch, send_refusal};
+use crate::reply::{send_numbered, send_patch, send_refusal};
 use fst_types::{BlockNo, Fault, PatchNo};
-use std::alloc::Global;
 use std::io::Write;
 
 impl Player {
     // Makes a change, and keeps it where it is accepted.
     pub(super) fn patch<W: Write>(
         &mut self,
-        alloc: Global,
         writer: &mut W,
         calls: &mut u64,
         block: BlockNo,
@@ -31,10 +29,7 @@ impl Player {
         if self.made.try_reserve(1).is_err() {
             return send_refusal(writer, calls, Fault::Memory);
         }
-        match self
-            .cache
-            .patch(alloc, &mut self.share, block, at, &bytes, after)
-        {
+        match self.cache.patch(&mut self.share, block, at, &bytes, after) {
             Ok((number, grade)) => {
                 self.made.push_reserved(Accepted {
                     number,
@@ -44,6 +39,22 @@ impl Player {
                 });
                 send_patch(writer, calls, number, grade)
             }
+            Err(fault) => send_refusal(writer, calls, fault),
+        }
+    }
+
+    // Makes an empty patch.
+    pub(super) fn empty<W: Write>(
+        &mut self,
+        writer: &mut W,
+        calls: &mut u64,
+        after: &[PatchNo],
+    ) -> Result<(), Stopped>
+        ensures { Obeyed self.old (script.empty (patch_numbers after.now))
+            (W.contents writer.old) (W.contents writer.new) result self.new }
+    {
+        match self.cache.empty(&mut self.share, after) {
+            Ok(number) => send_numbered(writer, calls, "empty", number.0),
             Err(fault) => send_refusal(writer, calls, fault),
         }
     }

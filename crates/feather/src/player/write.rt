@@ -10,11 +10,10 @@ ghost use Rattle.feather.specs.Answering.{Obeyed};
 
 use crate::output::Stopped;
 use crate::player::Player;
-use crate::reply::{send_chosen, send_flight, send_refusal};
+use crate::reply::{send_chosen, send_flight, send_pick, send_refusal};
 use fst_cache::Cache;
 use fst_device::{Job, MemorySlot};
 use fst_types::{BlockNo, Fault};
-use std::alloc::Global;
 use std::io::Write;
 
 // Tells of a job that was given just now.
@@ -45,7 +44,6 @@ impl Player {
     // Tells what may be written of a block now.
     pub(super) fn choose<W: Write>(
         &mut self,
-        alloc: Global,
         writer: &mut W,
         calls: &mut u64,
         block: BlockNo,
@@ -53,16 +51,24 @@ impl Player {
         ensures { Obeyed self.old (script.choose block.0) (W.contents writer.old)
             (W.contents writer.new) result self.new }
     {
-        match self.cache.choose(alloc, block) {
+        match self.cache.choose(block) {
             Ok(patches) => send_chosen(writer, calls, block, &patches),
             Err(fault) => send_refusal(writer, calls, fault),
         }
     }
 
+    // Tells which block may be written now.
+    pub(super) fn pick<W: Write>(&mut self, writer: &mut W, calls: &mut u64) -> Result<(), Stopped>
+        ensures { Obeyed self.old script.pick (W.contents writer.old) (W.contents writer.new)
+            result self.new }
+    {
+        let block = self.cache.pick();
+        send_pick(writer, calls, block)
+    }
+
     // Sends a block out, and keeps its job.
     pub(super) fn write<W: Write>(
         &mut self,
-        alloc: Global,
         writer: &mut W,
         calls: &mut u64,
         block: BlockNo,
@@ -73,7 +79,7 @@ impl Player {
         if self.jobs.try_reserve(1).is_err() {
             return send_refusal(writer, calls, Fault::Memory);
         }
-        match self.cache.issue(alloc, block) {
+        match self.cache.issue(block) {
             Ok(job) => {
                 let told = send_job(writer, calls, &self.cache, &job);
                 self.jobs.push_reserved(job);

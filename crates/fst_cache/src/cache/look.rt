@@ -1,26 +1,39 @@
 //! What a cache tells of itself, and the bytes of a block.
 
-ghost use Rattle.std.specs.Prelude.{◌≡◌, ◌⊎◌, ◌<◌, ◌≤◌, ◌↔◌, IsTrue, IsSome, IsErr, IsErrOf, OnOk, MatchOption, MatchResult, Some, None, true, false, length, is_some, get_or, slice_index, slice_set};
-ghost use Rattle.std.specs.Option.{option_map};
-ghost use Rattle.fst_types.specs.declared.fault.Fault.{Fault};
+ghost use Rattle.std.specs.Prelude.{◌≡◌, ◌^◌, sum_by, ◌⊎◌, ◌<◌, ◌≤◌, ◌↔◌, IsTrue, IsSome, IsErr, IsErrOf, OnOk, MatchOption, MatchResult, Some, None, true, false, length, is_some, get_or, slice_index, slice_set};
+ghost use Rattle.std.specs.Option.{option_map, option_map_or};
+ghost use Rattle.fst_block.specs.BlockView.{soft_lengths};
 ghost use Rattle.fst_types.specs.Bytes.{bytes_of};
 ghost use Rattle.fst_types.specs.Facts.{IsLawful};
 ghost use Rattle.fst_types.specs.Counts.{is_dirty};
 ghost use Rattle.fst_types.specs.Headline.{Headline};
 ghost use Rattle.fst_types.specs.Residence.{IsResidence, faults_rose};
-ghost use Rattle.fst_types.specs.Looks.{IsStalledPick, place_of, seen};
+ghost use Rattle.fst_types.specs.Looks.{IsStalledPick, place_of, seen, stat_of};
 ghost use Rattle.fst_types.specs.Events.{Show, Shown, Refused};
 ghost use Rattle.fst_types.specs.Order.{order};
 ghost use Rattle.fst_types.specs.Refusals.{IsFirst, NoneHolds};
 ghost use Rattle.fst_types.specs.Step.{Step};
-ghost use Rattle.fst_cache.specs.Replies.{seen_flight};
+ghost use Rattle.fst_cache.specs.Replies.{seen_flight, stat_view};
 
 use crate::cache::Cache;
 use crate::flight::Flight;
-use crate::heads;
+use crate::residence::load;
+use crate::seat::{Seat, busy};
+use crate::stat::Stat;
 use fst_device::BlockSlot;
-use fst_types::{BlockNo, Fault, PatchNo, Place, headline_holds};
-use std::alloc::Global;
+use fst_types::{BlockNo, Fault, PatchNo, Place, What, headline_holds};
+
+/// How many undo bytes all blocks keep together.
+fn undo_bytes<S: BlockSlot>(seats: &[Seat<S>]) -> u64
+    requires { sum_by (λ seat. option_map_or (λ l. soft_lengths l.patches) seat.loaded 0) seats.now < 2 ^ 64 }
+    ensures { result ≡ sum_by (λ seat. option_map_or (λ l. soft_lengths l.patches) seat.loaded 0) seats.now }
+{
+    let mut sum = 0;
+    for seat in seats {
+        sum += seat.undo_bytes();
+    }
+    sum
+}
 
 impl<S: BlockSlot> Cache<S> {
     ghost use Rattle.fst_cache.specs.contracts.cache.Cache.{the_row};
@@ -36,7 +49,7 @@ impl<S: BlockSlot> Cache<S> {
         ensures faults { length self.now.faults ≡ length self.now.state.blocks }
         ensures back { length self.now.back ≡ length self.now.state.blocks }
     {
-        let _ = &self.heads;
+        let _ = &self.seats;
         headline_holds();
     }
 
@@ -67,22 +80,20 @@ impl<S: BlockSlot> Cache<S> {
     pub fn place(&self, no: PatchNo) -> Option<Place>
         ensures { result ≡ place_of self.now.state.heads self.now.state.numbers no.0 }
     {
-        heads::place(&self.heads, no)
+        self.graph.place(no)
     }
 
-    /// Reads a block from its slot, where it is not in memory.
-    pub(super) fn load(&mut self, alloc: Global, block: BlockNo) -> Result<(), Fault>
-        requires { block.0 < length self.old.state.blocks }
-        ensures state { self.new.state ≡ self.old.state }
-        ensures resident { OnOk result (get_or self.new.resident block.0 false ≡ true) }
-        ensures faults { self.new.faults ≡ slice_set self.old.faults block.0 (slice_index self.new.faults block.0) }
-        ensures back { self.new.back ≡ self.old.back }
-        ensures clean { IsErr result → is_dirty self.old.state.heads block.0 ≡ false }
-        ensures device { IsErrOf result Fault.Device → faults_rose self.old.faults self.new.faults block.0 ≡ true }
-        ensures kinds { IsErr result → IsErrOf result Fault.Device ⊎ IsErrOf result Fault.Memory }
+    /// Counts: how many patches were made, how many of them are not on disk, how many bytes the soft ones in memory have,
+    /// and how many blocks are in flight. It takes no memory.
+    pub fn stat(&self) -> Stat
+        ensures { stat_view result ≡ stat_of self.now.state }
     {
-        let seat = &mut self.seats[block.0 as usize];
-        seat.load(alloc)
+        Stat {
+            made: self.made,
+            live: self.graph.live(),
+            undo: undo_bytes(&self.seats),
+            flights: busy(&self.seats) as u32,
+        }
     }
 
     /// The bytes of a block that is in memory.
@@ -102,14 +113,18 @@ impl<S: BlockSlot> Cache<S> {
         if block.0 as usize >= self.seats.len() {
             return Some(Fault::NoBlock);
         }
+        if !self.has_room(block) {
+            return Some(Fault::Full(What::Resident));
+        }
         None
     }
 
-    /// The bytes of a block, as its changes leave them. Where the block is not in memory it is read from its slot, and
-    /// kept in two copies.
+    /// The bytes of a block, as its changes leave them. Where the block is not in memory it is read from its slot.
     ///
-    /// `NoBlock` where there is none; then `Device` where the read failed, or `Memory`. The state stays as it was.
-    pub fn show(&mut self, alloc: Global, block: BlockNo) -> Result<&[u8], Fault>
+    /// Refused, in this order, as `NoBlock`, `Full(Resident)` where the block is not dirty and dirty blocks take all
+    /// places in memory, then `Device` where the read failed, or `Memory`, for the block's bytes. The state stays as it
+    /// was; the block may have come into memory, and a clean one may have left.
+    pub fn show(&mut self, block: BlockNo) -> Result<&[u8], Fault>
         ensures* after { sem 𝓛 (Rests (the_row S.row S.BlockSlot) self.entry (λ new.
             (new.state ≡ self.old.state)
             × (new.back ≡ self.old.back)
@@ -121,9 +136,7 @@ impl<S: BlockSlot> Cache<S> {
         if let Some(fault) = self.show_fault(block) {
             return Err(fault);
         }
-        match self.load(alloc, block) {
-            Ok(()) => Ok(self.bytes(block)),
-            Err(fault) => Err(fault),
-        }
+        load(&mut self.seats, self.alloc, self.resident, block)?;
+        Ok(self.bytes(block))
     }
 }

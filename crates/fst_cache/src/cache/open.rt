@@ -8,9 +8,11 @@ ghost use Rattle.fst_types.specs.Opening.{opening};
 ghost use Rattle.fst_cache.specs.Seats.{seat_of, seats_of};
 
 use crate::cache::Cache;
+use crate::contents::Contents;
 use crate::seat::Seat;
 use crate::share::Share;
 use fst_device::BlockSlot;
+use fst_graph::Graph;
 use fst_types::{BlockNo, Fault, Shape};
 use std::alloc::Global;
 
@@ -68,14 +70,37 @@ fn seated<S: BlockSlot>(slots: Vec<S>, mut seats: Vec<Seat<S>>) -> Vec<Seat<S>>
 }
 
 impl<S: BlockSlot> Cache<S> {
-    /// A cache of these slots, in which nothing was made. It reads no slot.
+    /// A cache of these slots, in which nothing was made. It reads no slot, and keeps `alloc` for what it takes later.
     ///
     /// The slots come back with `NoBlock` where they are not one for each block, each at its place, with `BadSpan`
     /// where one has another size, and with `Memory` where a place for each could not be had.
     pub fn open(alloc: Global, shape: Shape, slots: Vec<S>) -> Result<Cache<S>, (Vec<S>, Fault)>
-        requires { shape.resident ≡ shape.blocks }
         ensures opened { IfOk result (λ cache. cache ≡ record {
           state = opening shape.size shape.resident 0 0 (map S.held slots.items);
+          faults = map S.faults slots.items;
+          resident = map (λ slot. false) slots.items;
+          back = map (λ slot. None) slots.items;
+        }) }
+        ensures fits { IfOk result (λ cache. NoneHolds (open_order shape.blocks shape.size (map S.index slots.items) (map S.size slots.items))) }
+        ensures back { IfErr result (λ e. e.0.items ≡ slots.items) }
+        ensures refused { IfErr result (λ e.
+            IsFirst (open_order shape.blocks shape.size (map S.index slots.items) (map S.size slots.items)) e.1
+            ⊎ (NoneHolds (open_order shape.blocks shape.size (map S.index slots.items) (map S.size slots.items)) × (e.1 ≡ Fault.Memory))) }
+    {
+        Cache::open_at(alloc, shape, slots, 0, 0)
+    }
+
+    /// The same, the numbers and the tickets up to the given ones counting as used: patches with those numbers are on
+    /// disk and forgotten.
+    pub fn open_at(
+        alloc: Global,
+        shape: Shape,
+        slots: Vec<S>,
+        numbers: u32,
+        tickets: u64,
+    ) -> Result<Cache<S>, (Vec<S>, Fault)>
+        ensures opened { IfOk result (λ cache. cache ≡ record {
+          state = opening shape.size shape.resident numbers tickets (map S.held slots.items);
           faults = map S.faults slots.items;
           resident = map (λ slot. false) slots.items;
           back = map (λ slot. None) slots.items;
@@ -89,14 +114,20 @@ impl<S: BlockSlot> Cache<S> {
         if let Some(fault) = open_fault(shape, &slots) {
             return Err((slots, fault));
         }
+        let Ok(graph) = Graph::new(alloc, shape, numbers) else {
+            return Err((slots, Fault::Memory));
+        };
         let Ok(seats) = Vec::with_capacity(alloc, slots.len()) else {
             return Err((slots, Fault::Memory));
         };
         Ok(Cache {
+            alloc,
             size: shape.size,
-            tickets: 0,
-            heads: Vec::new(alloc),
-            marks: Vec::new(alloc),
+            resident: shape.resident,
+            tickets,
+            made: 0,
+            graph,
+            contents: Contents::none(),
             seats: seated(slots, seats),
         })
     }

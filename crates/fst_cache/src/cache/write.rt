@@ -1,62 +1,41 @@
 //! Writing blocks back: what may be written, sending it out, and what came of it.
 
-ghost use Rattle.std.specs.Prelude.{◌≡◌, ◌⊎◌, ◌<◌, ◌≤◌, ◌+◌, ◌↔◌, ℕ, [], IsTrue, true, IsErr, IfOk, OnOk, OnErr, IsNone, MatchOption, MatchResult, Some, None, length, slice_set, slice_index_or, count_by, is_some, if◌then◌else◌};
+ghost use Rattle.std.specs.Prelude.{◌≡◌, ◌⊎◌, ◌<◌, ◌≤◌, ◌+◌, ◌↔◌, ℕ, [], IsTrue, true, IsErr, IfOk, IfErr, IfNone, OnOk, OnErr, IsNone, option_map, MatchOption, MatchResult, Some, None, length, slice_set, slice_index_or, count_by, is_some, if◌then◌else◌};
 ghost use Rattle.fst_types.specs.declared.fault.Fault.{Fault};
 ghost use Rattle.fst_types.specs.Limits.{max_ticket};
 ghost use Rattle.fst_types.specs.State.{committed, flight_of};
 ghost use Rattle.fst_types.specs.Bytes.{image_of};
 ghost use Rattle.fst_types.specs.Flights.{IsOut, IsStalled};
-ghost use Rattle.fst_types.specs.Writable.{HasReady, IsWritableSet};
-ghost use Rattle.fst_types.specs.Events.{Choose, Chosen, Issue, Settle, Retry, Refused};
-ghost use Rattle.fst_types.specs.Order.{order};
+ghost use Rattle.fst_types.specs.Writable.{IsWritableSet};
+ghost use Rattle.fst_types.specs.Events.{Choose, Chosen, Pick, Block, Issue, Settle, Retry, Refused};
+ghost use Rattle.fst_types.specs.Order.{order, IsRefusal};
 ghost use Rattle.fst_types.specs.Refusals.{IsFirst, NoneHolds};
 ghost use Rattle.fst_types.specs.Step.{Step};
-ghost use Rattle.fst_cache.specs.Heads.{numbers_of};
+ghost use Rattle.fst_cache.specs.Names.{numbers_of};
 ghost use Rattle.fst_cache.specs.Seats.{back_view};
-ghost use Rattle.fst_cache.specs.Replies.{job_reply, settled_reply};
+ghost use Rattle.fst_cache.specs.Replies.{job_reply, settled_reply, IsStuckByGates};
 
 use crate::cache::Cache;
-use crate::heads;
-use crate::seat::Seat;
+use crate::seat::busy;
 use fst_device::{BlockSlot, Done, Job};
 use fst_types::{BlockNo, Fault, MAX_FLIGHTS, PatchNo, Settled, Ticket, What};
-use std::alloc::Global;
 
-/// How many blocks have a write that is out or stalled.
-fn busy<S: BlockSlot>(seats: &[Seat<S>]) -> usize
-    ensures { result ≡ count_by (λ seat. is_some seat.block.flight) seats.now }
+/// Whether nothing may be written, where want of memory says that something may.
+fn is_none(chosen: &Result<Vec<PatchNo>, Fault>) -> bool
+    ensures { IsTrue result ↔ IfOk chosen.now (λ numbers. numbers.items ≡ []) × OnErr chosen.now ⊥ }
 {
-    seats.iter().filter(|seat| seat.is_busy()).count()
+    match chosen {
+        Ok(numbers) => numbers.is_empty(),
+        Err(_) => false,
+    }
 }
 
 impl<S: BlockSlot> Cache<S> {
-    /// Whether any change of the block may be written now. It takes no memory.
-    fn is_ready(&mut self, block: BlockNo) -> bool
-        ensures same { self.new ≡ self.old }
-        ensures ready { IsTrue result ↔ HasReady self.old.state.heads block.0 }
-    {
-        heads::mark(&self.heads, block, &mut self.marks);
-        heads::any_ready(&self.heads, block, &self.marks)
-    }
-
-    /// The changes of the block that may be written now.
-    fn writable(&mut self, alloc: Global, block: BlockNo) -> Result<Vec<PatchNo>, Fault>
-        ensures same { self.new ≡ self.old }
-        ensures chosen { IfOk result (λ chosen. IsWritableSet self.old.state.heads block.0 (numbers_of chosen.items)) }
-        ensures kinds { OnErr result (result ≡ Err Fault.Memory) }
-    {
-        heads::mark(&self.heads, block, &mut self.marks);
-        match heads::chosen(alloc, &self.heads, block, &self.marks) {
-            Ok(chosen) => Ok(chosen),
-            Err(_) => Err(Fault::Memory),
-        }
-    }
-
-    /// The changes of a block that may be written now, in rising order: those in memory all of whose needs are on disk
-    /// or in memory on the block. Nothing changes.
+    /// The changes of a block that may be written now, in rising order: those in memory that depend on no open gate and
+    /// all of whose needs are on disk or in memory on the block. Nothing changes.
     ///
     /// `NoBlock` where there is none, and `Memory`, for the answer, where there are any.
-    pub fn choose(&mut self, alloc: Global, block: BlockNo) -> Result<Vec<PatchNo>, Fault>
+    pub fn choose(&mut self, block: BlockNo) -> Result<Vec<PatchNo>, Fault>
         ensures step { MatchResult result
             (λ chosen. Step self.old.state (Choose block.0) (Chosen (numbers_of chosen.items)) self.new.state)
             (λ fault. Step self.old.state (Choose block.0) (Refused fault) self.new.state) }
@@ -65,51 +44,46 @@ impl<S: BlockSlot> Cache<S> {
         if block.0 as usize >= self.seats.len() {
             return Err(Fault::NoBlock);
         }
-        if !self.is_ready(block) {
-            return Ok(Vec::new(alloc));
-        }
-        self.writable(alloc, block)
+        self.graph.chosen(block)
     }
 
-    /// Why a block cannot be sent out now.
-    fn issue_fault(&mut self, block: BlockNo) -> Option<Fault>
+    /// The least block that may be written now, or none. Where no block is in flight either, each change in memory then
+    /// waits for an open gate. Limits are not looked at: `issue` may still be refused as full. It takes no memory.
+    pub fn pick(&mut self) -> Option<BlockNo>
+        ensures step { Step self.old.state Pick (Block (option_map (λ block. block.0) result)) self.new.state }
+        ensures never_stuck { IfNone result (IsStuckByGates self.old.state) }
         ensures same { self.new ≡ self.old }
-        ensures fault { MatchOption result
-            (NoneHolds (order self.old.state (Issue block.0)))
-            (λ fault. IsFirst (order self.old.state (Issue block.0)) fault) }
-        ensures ready { IsNone result → HasReady self.old.state.heads block.0 }
+    {
+        self.graph.pick()
+    }
+
+    /// The changes of a block that a write of it takes now, or why it cannot be sent out.
+    fn choice(&mut self, block: BlockNo) -> Result<Vec<PatchNo>, Fault>
+        ensures same { self.new ≡ self.old }
+        ensures clear { OnOk result (NoneHolds (order self.old.state (Issue block.0))) }
+        ensures chosen { IfOk result (λ chosen. IsWritableSet self.old.state.heads block.0 (numbers_of chosen.items)) }
+        ensures refused { IfErr result (λ fault. IsRefusal self.old.state (Issue block.0) fault) }
     {
         if block.0 as usize >= self.seats.len() {
-            return Some(Fault::NoBlock);
+            return Err(Fault::NoBlock);
         }
         if self.seats[block.0 as usize].is_busy() {
-            return Some(Fault::Busy);
+            return Err(Fault::Busy);
         }
-        if !self.is_ready(block) {
-            return Some(Fault::NothingReady);
+        let chosen = self.graph.chosen(block);
+        if is_none(&chosen) {
+            return Err(Fault::NothingReady);
+        }
+        if let Some(held) = self.graph.hard_held(block) {
+            return Err(Fault::HardHeld(held));
         }
         if busy(&self.seats) >= MAX_FLIGHTS {
-            return Some(Fault::Full(What::Flights));
+            return Err(Fault::Full(What::Flights));
         }
         if self.tickets == u64::MAX {
-            return Some(Fault::Full(What::Tickets));
+            return Err(Fault::Full(What::Tickets));
         }
-        None
-    }
-
-    /// What a write of the chosen changes puts on the block.
-    fn image(&self, alloc: Global, block: BlockNo, chosen: &[PatchNo]) -> Result<Vec<u8>, Fault>
-        requires within { block.0 < length self.now.state.blocks }
-        requires ready { HasReady self.now.state.heads block.0 }
-        requires chosen { IsWritableSet self.now.state.heads block.0 (numbers_of chosen.now) }
-        ensures image { IfOk result (λ image. image.items ≡ image_of self.now.state block.0 (numbers_of chosen.now)) }
-        ensures kinds { OnErr result (result ≡ Err Fault.Memory) }
-    {
-        let base = self.seats[block.0 as usize].base();
-        match heads::image(alloc, &self.heads, base, chosen) {
-            Ok(image) => Ok(image),
-            Err(_) => Err(Fault::Memory),
-        }
+        chosen
     }
 
     /// Sends the image of the chosen changes out, of which `kept` is a copy.
@@ -120,8 +94,7 @@ impl<S: BlockSlot> Cache<S> {
         image: Vec<u8>,
         kept: Vec<u8>,
     ) -> Job<S>
-        requires free { NoneHolds (order self.old.state (Issue block.0)) }
-        requires ready { HasReady self.old.state.heads block.0 }
+        requires clear { NoneHolds (order self.old.state (Issue block.0)) }
         requires chosen { IsWritableSet self.old.state.heads block.0 (numbers_of chosen.items) }
         requires image { image.items ≡ image_of self.old.state block.0 (numbers_of chosen.items) }
         requires kept { kept.items ≡ image.items }
@@ -132,20 +105,33 @@ impl<S: BlockSlot> Cache<S> {
         ensures resident { self.new.resident ≡ self.old.resident }
         ensures back { self.new.back ≡ self.old.back }
     {
-        heads::launch(&mut self.heads, &chosen);
+        self.graph.launch(&chosen);
         self.tickets += 1;
         let ticket = Ticket(self.tickets);
         let seat = &mut self.seats[block.0 as usize];
         seat.launch(ticket, chosen, image, kept)
     }
 
+    /// What a write of the chosen changes puts on the block.
+    fn image(&mut self, block: BlockNo, chosen: &[PatchNo]) -> Result<Vec<u8>, Fault>
+        requires clear { NoneHolds (order self.old.state (Issue block.0)) }
+        requires chosen { IsWritableSet self.old.state.heads block.0 (numbers_of chosen.now) }
+        ensures same { self.new ≡ self.old }
+        ensures image { IfOk result (λ image. image.items ≡ image_of self.old.state block.0 (numbers_of chosen.now)) }
+        ensures only_memory { IfErr result (λ fault. fault ≡ Fault.Memory) }
+    {
+        let seat = &mut self.seats[block.0 as usize];
+        seat.image(chosen)
+    }
+
     /// Sends the changes of a block that may be written now out, under the next ticket. The job has the block's slot,
     /// and the image that is to be written: what is committed with those changes over it. The cache keeps a copy.
     ///
     /// Refused, in this order, as `NoBlock`, `Busy` where a write of the block is out or stalled, `NothingReady`,
-    /// `Full(Flights)` at 64 blocks in flight, `Full(Tickets)`, or `Memory`, for the list of the changes and for the
-    /// image and its copy. A refusal changes nothing.
-    pub fn issue(&mut self, alloc: Global, block: BlockNo) -> Result<Job<S>, Fault>
+    /// `HardHeld` with the least hard change of the block that may not be written now, `Full(Flights)` at 64 blocks in
+    /// flight, `Full(Tickets)`, or `Memory`, for the list of the changes and for the image and its copy. A refusal
+    /// changes nothing.
+    pub fn issue(&mut self, block: BlockNo) -> Result<Job<S>, Fault>
         ensures step { MatchResult result
             (λ job. Step self.old.state (Issue block.0) (job_reply job.ticket job.block job.image) self.new.state)
             (λ fault. Step self.old.state (Issue block.0) (Refused fault) self.new.state) }
@@ -153,16 +139,9 @@ impl<S: BlockSlot> Cache<S> {
         ensures apart { OnOk result ((self.new.faults ≡ slice_set self.old.faults block.0 0) × (self.new.resident ≡ self.old.resident) × (self.new.back ≡ self.old.back)) }
         ensures refused { OnErr result (self.new ≡ self.old) }
     {
-        if let Some(fault) = self.issue_fault(block) {
-            return Err(fault);
-        }
-        let Ok(chosen) = self.writable(alloc, block) else {
-            return Err(Fault::Memory);
-        };
-        let Ok(image) = self.image(alloc, block, &chosen) else {
-            return Err(Fault::Memory);
-        };
-        let Ok(kept) = Vec::from_slice(alloc, &image) else {
+        let chosen = self.choice(block)?;
+        let image = self.image(block, &chosen)?;
+        let Ok(kept) = Vec::from_slice(self.alloc, &image) else {
             return Err(Fault::Memory);
         };
         Ok(self.send(block, chosen, image, kept))
@@ -200,7 +179,7 @@ impl<S: BlockSlot> Cache<S> {
         let seat = &mut self.seats[block.0 as usize];
         match seat.settle(done) {
             Settled::Landed => {
-                heads::land(&mut self.heads, block);
+                self.graph.land(block);
                 Ok(Settled::Landed)
             }
             Settled::Stalled => Ok(Settled::Stalled),

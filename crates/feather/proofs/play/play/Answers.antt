@@ -1,5 +1,5 @@
-use Rattle.std.proofs.Common.{◌++◌}
-use Rattle.std.proofs.KnownBytes.{Appends-trans, Consumes-trans}
+use Rattle.std.proofs.Common.{[], ◌++◌, ◌∙◌, refl}
+use Rattle.std.proofs.KnownBytes.{Appends-nil, Appends-trans, Consumes-kept, Consumes-nil, Consumes-trans}
 use Rattle.feather.specs.Script.{opened}
 use Rattle.feather.proofs.SessionLemmas.{Consumes-none, stopped_plays, unfinished_plays}
 use Rattle.feather.proofs.play.play.Goals as goal
@@ -28,3 +28,11 @@ stream-preserved g c =
     let at = c.stream.invariant in
     let led = c.in-Ok-feed.ensures (opened c.args.shape) at.0 at.1 at.4 in
     (_, at.1 ++ led.0, Consumes-trans _ _ _ at.0 _ at.2 c.in-Ok-read.ensures.bytes.0, Appends-trans _ _ _ at.1 led.0 at.3 led.1, led.2)
+
+pub stream-init : goal.stream-init
+stream-init g c = ([], [], Consumes-nil _, Appends-nil _, record { run = (refl, c.new-session.ensures.player ∙ c.in-Ok.ensures); held = c.new-session.ensures.line })
+
+pub returns-in_default-clause-played : goal.returns-in_default-clause-played
+returns-in_default-clause-played g c =
+    let at = c.stream.invariant in
+    (at.0, at.1, Consumes-kept _ _ _ at.0 at.2 c.in_default.ensures.bytes, at.3, (c.stream.session.player, at.4.run))

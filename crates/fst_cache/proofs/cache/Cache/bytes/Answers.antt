@@ -1,7 +1,10 @@
-use Rattle.std.proofs.Common.{◌≡◌, Some, slice_get, length, arith, sym, ◌∙◌}
+use Rattle.std.proofs.Common.{◌≡◌, Some, is_some, false, refl, sym, ◌∙◌, slice_get}
 use Rattle.std.proofs.lemmas.Option.{slice_get_read}
 use Rattle.std.proofs.lemmas.List.{length-map}
-use Rattle.fst_cache.proofs.Kept.{own}
+use Rattle.fst_cache.specs.Kept.{state_of}
+use Rattle.fst_cache.specs.Seats.{SeatView}
+use Rattle.fst_cache.proofs.Kept.{listed}
+use Rattle.fst_cache.proofs.ResideSeats.{bytes_there}
 use Rattle.fst_cache.proofs.cache.Cache.bytes.Goals as goal
 
 pub returns : goal.returns
@@ -9,4 +12,5 @@ returns g c =
     let i = c.self.inside in
     let seated : slice_get i.seats.items c.args.block.0 ≡ Some c.index-seat.result.now =
     slice_get_read i.seats.items _ _ _ i.seats.ok.0 (rw (← c.self.view_is, length-map, ← i.seats.ok.0) at c.requires.within) c.index-seat.ensures in
-    rw (← c.self.view_is) ((own i.size i.tickets i.heads.items i.seats.items c.self.invariant.0 _ _ seated).bytes _ c.bytes.ensures)
+    let there = sym (listed i.seats.items c.args.block.0 _ seated (λ (t : SeatView). is_some t.loaded) false) ∙ (rw (← c.self.view_is) at c.requires.resident) in
+    rw (← c.self.view_is) (bytes_there (state_of i.size i.resident i.tickets i.made i.graph i.contents.items i.seats.items) i.graph i.seats.items c.self.invariant refl _ _ seated c.bytes.result.now there c.bytes.ensures)

@@ -1,19 +1,9 @@
-use Rattle.std.proofs.Common.{arith, ◌≡◌, ◌∙◌, ℕ, length, sym}
-use Rattle.std.proofs.lemmas.List.{length-map}
-use Rattle.fst_cache.proofs.Loading.{residence}
+use Rattle.std.proofs.Common.{refl}
+use Rattle.fst_cache.specs.Kept.{state_of}
+use Rattle.fst_cache.proofs.ResideLooking.{residence}
 use Rattle.fst_cache.proofs.cache.Cache.headline.Goals as goal
 
-pub returns-clause-lawful : goal.returns-clause-lawful
-returns-clause-lawful g c = rw (← c.self.view_is) c.self.invariant.0.lawful
-
-pub returns-clause-headline : goal.returns-clause-headline
-returns-clause-headline g c = rw (← c.self.view_is) (c.headline_holds.ensures _ c.self.invariant.0.lawful)
-
 pub returns-clause-residence : goal.returns-clause-residence
-returns-clause-residence g c = let i = c.self.inside in rw (← c.self.view_is) (residence i.size i.tickets i.heads.items i.seats.items c.self.invariant.0)
-
-pub returns-clause-faults : goal.returns-clause-faults
-returns-clause-faults g c = rw (← c.self.view_is) (length-map c.self.inside.seats.items _ ∙ sym (length-map c.self.inside.seats.items _))
-
-pub returns-clause-back : goal.returns-clause-back
-returns-clause-back g c = rw (← c.self.view_is) (length-map c.self.inside.seats.items _ ∙ sym (length-map c.self.inside.seats.items _))
+returns-clause-residence g c =
+    let i = c.self.inside in
+    rw (← c.self.view_is) (residence (state_of i.size i.resident i.tickets i.made i.graph i.contents.items i.seats.items) i.graph i.seats.items c.self.invariant refl)

@@ -1,36 +1,24 @@
-use Rattle.std.proofs.Common.{arith, ◌≡◌, ◌<◌, ◌∙◌, length, Some, slice_get}
-use Rattle.std.proofs.lemmas.Option.{slice_get_read}
-use Rattle.std.proofs.lemmas.List.{length-map}
-use Rattle.fst_types.specs.Writable.{HasReady, IsWritableSet}
-use Rattle.fst_cache.specs.Heads.{patches, numbers_of}
-use Rattle.fst_cache.proofs.Issued.{given_choice}
-use Rattle.fst_cache.proofs.Sending.{loaded, heads_lie, image_made}
+use Rattle.std.proofs.Common.{refl}
+use Rattle.fst_cache.specs.Kept.{state_of}
+use Rattle.fst_cache.proofs.SendBytes.{may_send, loaded_is, chosen_here, image_is}
 use Rattle.fst_cache.proofs.cache.Cache.image.Goals as goal
 
-pub base-base-requires : goal.base-base-requires
-base-base-requires g c =
+pub image-requires-clause-loaded : goal.image-requires-clause-loaded
+image-requires-clause-loaded g c =
     let i = c.self.inside in
-    let lt : c.args.block.0 < length i.seats.items = rw (← c.self.view_is, length-map) at c.requires.within in
-    let seated : slice_get i.seats.items c.args.block.0 ≡ Some c.index.result.now = slice_get_read i.seats.items _ _ _ i.seats.ok.0 (omega (arith, lt, i.seats.ok.0)) c.index.ensures in
-    let ready : HasReady (patches i.heads.items) c.args.block.0 = rw (← c.self.view_is) at c.requires.ready in
-    loaded i.size i.tickets i.heads.items i.seats.items c.self.invariant.0 _ _ seated ready
+    let S = may_send i.size i.resident i.tickets i.made i.graph i.contents.items i.seats.items c.args.self.now c.self.view_is c.self.invariant c.args.block.0 c.index_mut-seat.result.now c.args.chosen.now c.requires.clear c.requires.chosen c.index_mut-seat.ensures.value in
+    rw (loaded_is (state_of i.size i.resident i.tickets i.made i.graph i.contents.items i.seats.items) i.graph i.seats.items c.args.block.0 c.index_mut-seat.result.now c.args.chosen.now S) refl
 
-pub image-requires-clause-inside : goal.image-requires-clause-inside
-image-requires-clause-inside g c =
+pub image-requires-clause-choice : goal.image-requires-clause-choice
+image-requires-clause-choice g c =
     let i = c.self.inside in
-    let lt : c.args.block.0 < length i.seats.items = rw (← c.self.view_is, length-map) at c.requires.within in
-    let seated : slice_get i.seats.items c.args.block.0 ≡ Some c.index.result.now = slice_get_read i.seats.items _ _ _ i.seats.ok.0 (omega (arith, lt, i.seats.ok.0)) c.index.ensures in
-    rw (c.deref.ensures.value, c.base-base.ensures) (heads_lie i.size i.tickets i.heads.items i.seats.items c.self.invariant.0 _ _ seated)
+    let S = may_send i.size i.resident i.tickets i.made i.graph i.contents.items i.seats.items c.args.self.now c.self.view_is c.self.invariant c.args.block.0 c.index_mut-seat.result.now c.args.chosen.now c.requires.clear c.requires.chosen c.index_mut-seat.ensures.value in
+    chosen_here (state_of i.size i.resident i.tickets i.made i.graph i.contents.items i.seats.items) i.graph i.seats.items c.args.block.0 c.index_mut-seat.result.now c.args.chosen.now S
 
-pub image-requires-clause-given : goal.image-requires-clause-given
-image-requires-clause-given g c =
+pub returns-clause-image : goal.returns-clause-image
+returns-clause-image g c =
     let i = c.self.inside in
-    let set : IsWritableSet (patches i.heads.items) c.args.block.0 (numbers_of c.args.chosen.now) = rw (← c.self.view_is) at c.requires.chosen in
-    rw c.deref.ensures.value (given_choice i.heads.items c.self.invariant.0.changes _ _ set)
-
-pub returns-in-Ok-clause-image : goal.returns-in-Ok-clause-image
-returns-in-Ok-clause-image g c =
-    let i = c.self.inside in
-    let lt : c.args.block.0 < length i.seats.items = rw (← c.self.view_is, length-map) at c.requires.within in
-    let seated : slice_get i.seats.items c.args.block.0 ≡ Some c.index.result.now = slice_get_read i.seats.items _ _ _ i.seats.ok.0 (omega (arith, lt, i.seats.ok.0)) c.index.ensures in
-    rw (← c.self.view_is) ((rw (c.deref.ensures.value, c.base-base.ensures) at c.in-Ok.ensures) ∙ image_made i.size i.tickets i.heads.items i.seats.items c.self.invariant.0 _ _ seated (numbers_of c.args.chosen.now))
+    let S = may_send i.size i.resident i.tickets i.made i.graph i.contents.items i.seats.items c.args.self.now c.self.view_is c.self.invariant c.args.block.0 c.index_mut-seat.result.now c.args.chosen.now c.requires.clear c.requires.chosen c.index_mut-seat.ensures.value in
+    let loaded = loaded_is (state_of i.size i.resident i.tickets i.made i.graph i.contents.items i.seats.items) i.graph i.seats.items c.args.block.0 c.index_mut-seat.result.now c.args.chosen.now S in
+    let image = image_is (state_of i.size i.resident i.tickets i.made i.graph i.contents.items i.seats.items) i.graph i.seats.items c.args.block.0 c.index_mut-seat.result.now c.args.chosen.now S in
+    rw (← c.self.view_is, ← image) (rw loaded at c.image.ensures.image)

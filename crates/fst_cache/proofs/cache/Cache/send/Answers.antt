@@ -1,118 +1,100 @@
-use Rattle.std.proofs.Common.{arith, ◌≡◌, ◌∙◌, ◌+◌, ◌≤◌, ℕ, ◌<◌, Some, None, length, slice_get, is_some, refl, sym, ap}
-use Rattle.std.proofs.lemmas.Option.{slice_get_read}
-use Rattle.std.proofs.lemmas.List.{length-map, map-set}
-use Rattle.fst_types.specs.State.{BlockState, committed}
+use Rattle.std.proofs.Common.{◌≡◌, ◌∙◌, is_some, refl, ap, length}
+use Rattle.std.proofs.lemmas.List.{map-set}
 use Rattle.fst_types.specs.Bytes.{image_of}
-use Rattle.fst_types.specs.Writable.{HasReady, IsWritableSet}
+use Rattle.fst_types.specs.Writable.{IsWritableSet}
 use Rattle.fst_types.specs.Events.{Issue}
 use Rattle.fst_types.specs.Order.{order}
 use Rattle.fst_types.specs.Refusals.{NoneHolds}
-use Rattle.fst_cache.specs.Heads.{numbers_of, patches}
-use Rattle.fst_cache.specs.Seats.{SeatView, state_of}
-use Rattle.fst_cache.proofs.Issued.{given_choice}
-use Rattle.fst_cache.proofs.Kept.{own, block_is, same_listed}
-use Rattle.fst_cache.proofs.Looking.{flight_is}
-use Rattle.fst_cache.proofs.Sent.{not_some, image_sized, step_sent, kept_sent}
+use Rattle.fst_cache.specs.Names.{numbers_of}
+use Rattle.fst_graph.specs.Known.{Launches}
+use Rattle.fst_cache.specs.Seats.{SeatView}
+use Rattle.fst_cache.specs.Kept.{state_of}
+use Rattle.fst_cache.proofs.Kept.{same_listed}
+use Rattle.fst_cache.proofs.SendSet.{writable}
+use Rattle.fst_cache.proofs.SendBytes.{may_send, loaded_is, idle, chosen_here, folded_here, image_sized}
+use Rattle.fst_cache.proofs.SendState.{seat_is, sent_loaded, step_sent, kept_sent, state_sent}
 use Rattle.fst_cache.proofs.cache.Cache.send.Goals as goal
 
-pub launch-requires-clause-given : goal.launch-requires-clause-given
-launch-requires-clause-given g c =
+pub launch-requires : goal.launch-requires
+launch-requires g c =
     let i = c.self.inside in
-    let choice : IsWritableSet (patches i.heads.items) c.args.block.0 (numbers_of c.args.chosen.items) = rw (← c.self.view_is) at c.requires.chosen in
-    rw c.deref.ensures.value (given_choice i.heads.items c.self.invariant.0.changes c.args.block.0 (numbers_of c.args.chosen.items) choice)
+    let clear : NoneHolds (order (state_of i.size i.resident i.tickets i.made i.graph i.contents.items i.seats.items) (Issue c.args.block.0)) = rw (← c.self.view_is) at c.requires.clear in
+    let choice : IsWritableSet i.graph.heads c.args.block.0 (numbers_of c.args.chosen.items) = rw (← c.self.view_is) at c.requires.chosen in
+    rw c.deref.ensures.value (record { block = c.args.block.0; writable = writable (state_of i.size i.resident i.tickets i.made i.graph i.contents.items i.seats.items) c.self.invariant.lawful c.args.block.0 c.args.chosen.items choice clear; choice = choice })
 
 pub launch-requires-2-clause-home : goal.launch-requires-2-clause-home
 launch-requires-2-clause-home g c =
     let i = c.self.inside in
-    let choice : IsWritableSet (patches i.heads.items) c.args.block.0 (numbers_of c.args.chosen.items) = rw (← c.self.view_is) at c.requires.chosen in
-    let free : NoneHolds (order (state_of i.size i.tickets i.heads.items i.seats.items) (Issue c.args.block.0)) = rw (← c.self.view_is) at c.requires.free in
-    let past : length i.seats.items ≤ c.args.block.0 → ⊥ = rw length-map at free.0 in
-    let seated : slice_get i.seats.items c.args.block.0 ≡ Some c.index_mut-seat.result.now = slice_get_read i.seats.items _ _ _ i.seats.ok.0 (omega (arith, i.seats.ok.0, past)) c.index_mut-seat.ensures.value in
-    let home : c.index_mut-seat.result.now.block.flight ≡ None = not_some c.index_mut-seat.result.now.block.flight (rw (flight_is i.size i.tickets i.heads.items i.seats.items c.self.invariant.0 _ _ seated) at free.1.0) in
-    home
+    let S = may_send i.size i.resident i.tickets i.made i.graph i.contents.items i.seats.items c.args.self.now c.self.view_is c.self.invariant c.args.block.0 c.index_mut-seat.result.now c.args.chosen.items c.requires.clear c.requires.chosen c.index_mut-seat.ensures.value in
+    idle (state_of i.size i.resident i.tickets i.made i.graph i.contents.items i.seats.items) i.graph i.seats.items c.args.block.0 c.index_mut-seat.result.now c.args.chosen.items S
+
+pub launch-requires-2-clause-loaded : goal.launch-requires-2-clause-loaded
+launch-requires-2-clause-loaded g c =
+    let i = c.self.inside in
+    let S = may_send i.size i.resident i.tickets i.made i.graph i.contents.items i.seats.items c.args.self.now c.self.view_is c.self.invariant c.args.block.0 c.index_mut-seat.result.now c.args.chosen.items c.requires.clear c.requires.chosen c.index_mut-seat.ensures.value in
+    rw (loaded_is (state_of i.size i.resident i.tickets i.made i.graph i.contents.items i.seats.items) i.graph i.seats.items c.args.block.0 c.index_mut-seat.result.now c.args.chosen.items S) refl
+
+pub launch-requires-2-clause-choice : goal.launch-requires-2-clause-choice
+launch-requires-2-clause-choice g c =
+    let i = c.self.inside in
+    let S = may_send i.size i.resident i.tickets i.made i.graph i.contents.items i.seats.items c.args.self.now c.self.view_is c.self.invariant c.args.block.0 c.index_mut-seat.result.now c.args.chosen.items c.requires.clear c.requires.chosen c.index_mut-seat.ensures.value in
+    chosen_here (state_of i.size i.resident i.tickets i.made i.graph i.contents.items i.seats.items) i.graph i.seats.items c.args.block.0 c.index_mut-seat.result.now c.args.chosen.items S
 
 pub launch-requires-2-clause-size : goal.launch-requires-2-clause-size
 launch-requires-2-clause-size g c =
     let i = c.self.inside in
-    let choice : IsWritableSet (patches i.heads.items) c.args.block.0 (numbers_of c.args.chosen.items) = rw (← c.self.view_is) at c.requires.chosen in
-    let free : NoneHolds (order (state_of i.size i.tickets i.heads.items i.seats.items) (Issue c.args.block.0)) = rw (← c.self.view_is) at c.requires.free in
-    let past : length i.seats.items ≤ c.args.block.0 → ⊥ = rw length-map at free.0 in
-    let seated : slice_get i.seats.items c.args.block.0 ≡ Some c.index_mut-seat.result.now = slice_get_read i.seats.items _ _ _ i.seats.ok.0 (omega (arith, i.seats.ok.0, past)) c.index_mut-seat.ensures.value in
-    let home : c.index_mut-seat.result.now.block.flight ≡ None = not_some c.index_mut-seat.result.now.block.flight (rw (flight_is i.size i.tickets i.heads.items i.seats.items c.self.invariant.0 _ _ seated) at free.1.0) in
-    let ready : HasReady (patches i.heads.items) c.args.block.0 = rw (← c.self.view_is) at c.requires.ready in
-    let image : c.args.image.items ≡ image_of (state_of i.size i.tickets i.heads.items i.seats.items) c.args.block.0 (numbers_of c.args.chosen.items) = rw (← c.self.view_is) at c.requires.image in
-    ap length image ∙ (image_sized i.size i.tickets i.heads.items i.seats.items c.self.invariant.0 c.args.block.0 (numbers_of c.args.chosen.items) choice (rw length-map (omega (arith, past))) ∙ ap (λ (v : BlockState). length v.committed) (block_is i.size i.tickets i.heads.items i.seats.items c.self.invariant.0 _ _ seated))
+    let S = may_send i.size i.resident i.tickets i.made i.graph i.contents.items i.seats.items c.args.self.now c.self.view_is c.self.invariant c.args.block.0 c.index_mut-seat.result.now c.args.chosen.items c.requires.clear c.requires.chosen c.index_mut-seat.ensures.value in
+    let image : c.args.image.items ≡ image_of (state_of i.size i.resident i.tickets i.made i.graph i.contents.items i.seats.items) c.args.block.0 (numbers_of c.args.chosen.items) = rw (← c.self.view_is) at c.requires.image in
+    ap length image ∙ image_sized (state_of i.size i.resident i.tickets i.made i.graph i.contents.items i.seats.items) i.graph i.seats.items c.args.block.0 c.index_mut-seat.result.now c.args.chosen.items S
+
+pub launch-requires-2-clause-folded : goal.launch-requires-2-clause-folded
+launch-requires-2-clause-folded g c =
+    let i = c.self.inside in
+    let S = may_send i.size i.resident i.tickets i.made i.graph i.contents.items i.seats.items c.args.self.now c.self.view_is c.self.invariant c.args.block.0 c.index_mut-seat.result.now c.args.chosen.items c.requires.clear c.requires.chosen c.index_mut-seat.ensures.value in
+    let image : c.args.image.items ≡ image_of (state_of i.size i.resident i.tickets i.made i.graph i.contents.items i.seats.items) c.args.block.0 (numbers_of c.args.chosen.items) = rw (← c.self.view_is) at c.requires.image in
+    folded_here (state_of i.size i.resident i.tickets i.made i.graph i.contents.items i.seats.items) i.graph i.seats.items c.args.block.0 c.index_mut-seat.result.now c.args.chosen.items S c.args.image.items image
 
 pub invariant_of-self : goal.invariant_of-self
 invariant_of-self g c =
     let i = c.self.inside in
-    let choice : IsWritableSet (patches i.heads.items) c.args.block.0 (numbers_of c.args.chosen.items) = rw (← c.self.view_is) at c.requires.chosen in
-    let free : NoneHolds (order (state_of i.size i.tickets i.heads.items i.seats.items) (Issue c.args.block.0)) = rw (← c.self.view_is) at c.requires.free in
-    let past : length i.seats.items ≤ c.args.block.0 → ⊥ = rw length-map at free.0 in
-    let seated : slice_get i.seats.items c.args.block.0 ≡ Some c.index_mut-seat.result.now = slice_get_read i.seats.items _ _ _ i.seats.ok.0 (omega (arith, i.seats.ok.0, past)) c.index_mut-seat.ensures.value in
-    let home : c.index_mut-seat.result.now.block.flight ≡ None = not_some c.index_mut-seat.result.now.block.flight (rw (flight_is i.size i.tickets i.heads.items i.seats.items c.self.invariant.0 _ _ seated) at free.1.0) in
-    let ready : HasReady (patches i.heads.items) c.args.block.0 = rw (← c.self.view_is) at c.requires.ready in
-    let image : c.args.image.items ≡ image_of (state_of i.size i.tickets i.heads.items i.seats.items) c.args.block.0 (numbers_of c.args.chosen.items) = rw (← c.self.view_is) at c.requires.image in
-    rw (c.launch.ensures, c.deref.ensures.value, c.launch-2.ensures.seat) (kept_sent i.size i.tickets i.heads.items i.seats.items c.self.invariant.0 _ _ seated home ready (numbers_of c.args.chosen.items) choice c.args.image.items image free, rw length-map c.self.invariant.1)
+    let S = may_send i.size i.resident i.tickets i.made i.graph i.contents.items i.seats.items c.args.self.now c.self.view_is c.self.invariant c.args.block.0 c.index_mut-seat.result.now c.args.chosen.items c.requires.clear c.requires.chosen c.index_mut-seat.ensures.value in
+    let image : c.args.image.items ≡ image_of (state_of i.size i.resident i.tickets i.made i.graph i.contents.items i.seats.items) c.args.block.0 (numbers_of c.args.chosen.items) = rw (← c.self.view_is) at c.requires.image in
+    let seat = seat_is (state_of i.size i.resident i.tickets i.made i.graph i.contents.items i.seats.items) i.graph i.seats.items c.args.block.0 c.index_mut-seat.result.now c.args.chosen.items S c.args.image.items image c.launch-2.new.self c.launch-2.ensures.seat in
+    let launched : Launches i.graph (numbers_of c.args.chosen.items) c.launch.new.self = rw c.deref.ensures.value at c.launch.ensures.launched in
+    let state = state_sent i.size i.resident i.tickets i.made i.graph i.contents.items i.seats.items c.args.block.0 c.index_mut-seat.result.now c.args.chosen.items S c.args.image.items image c.launch.new.self launched in
+    rw (seat, state) (kept_sent (state_of i.size i.resident i.tickets i.made i.graph i.contents.items i.seats.items) i.graph i.seats.items c.args.block.0 c.index_mut-seat.result.now c.args.chosen.items S c.args.image.items image c.launch.new.self c.launch.ensures.blocks)
 
 pub returns-clause-step : goal.returns-clause-step
 returns-clause-step g c =
     let i = c.self.inside in
-    let choice : IsWritableSet (patches i.heads.items) c.args.block.0 (numbers_of c.args.chosen.items) = rw (← c.self.view_is) at c.requires.chosen in
-    let free : NoneHolds (order (state_of i.size i.tickets i.heads.items i.seats.items) (Issue c.args.block.0)) = rw (← c.self.view_is) at c.requires.free in
-    let past : length i.seats.items ≤ c.args.block.0 → ⊥ = rw length-map at free.0 in
-    let seated : slice_get i.seats.items c.args.block.0 ≡ Some c.index_mut-seat.result.now = slice_get_read i.seats.items _ _ _ i.seats.ok.0 (omega (arith, i.seats.ok.0, past)) c.index_mut-seat.ensures.value in
-    let home : c.index_mut-seat.result.now.block.flight ≡ None = not_some c.index_mut-seat.result.now.block.flight (rw (flight_is i.size i.tickets i.heads.items i.seats.items c.self.invariant.0 _ _ seated) at free.1.0) in
-    let ready : HasReady (patches i.heads.items) c.args.block.0 = rw (← c.self.view_is) at c.requires.ready in
-    let image : c.args.image.items ≡ image_of (state_of i.size i.tickets i.heads.items i.seats.items) c.args.block.0 (numbers_of c.args.chosen.items) = rw (← c.self.view_is) at c.requires.image in
-    rw (← c.self.view_is, c.launch.ensures, c.deref.ensures.value, c.launch-2.ensures.ticket, c.launch-2.ensures.block, (own i.size i.tickets i.heads.items i.seats.items c.self.invariant.0 _ _ seated).place, c.launch-2.ensures.image, c.launch-2.ensures.seat) (step_sent i.size i.tickets i.heads.items i.seats.items c.self.invariant.0 _ _ seated home ready (numbers_of c.args.chosen.items) choice c.args.image.items image free)
-
-pub returns-clause-held : goal.returns-clause-held
-returns-clause-held g c =
-    let i = c.self.inside in
-    let choice : IsWritableSet (patches i.heads.items) c.args.block.0 (numbers_of c.args.chosen.items) = rw (← c.self.view_is) at c.requires.chosen in
-    let free : NoneHolds (order (state_of i.size i.tickets i.heads.items i.seats.items) (Issue c.args.block.0)) = rw (← c.self.view_is) at c.requires.free in
-    let past : length i.seats.items ≤ c.args.block.0 → ⊥ = rw length-map at free.0 in
-    let seated : slice_get i.seats.items c.args.block.0 ≡ Some c.index_mut-seat.result.now = slice_get_read i.seats.items _ _ _ i.seats.ok.0 (omega (arith, i.seats.ok.0, past)) c.index_mut-seat.ensures.value in
-    let home : c.index_mut-seat.result.now.block.flight ≡ None = not_some c.index_mut-seat.result.now.block.flight (rw (flight_is i.size i.tickets i.heads.items i.seats.items c.self.invariant.0 _ _ seated) at free.1.0) in
-    rw (← c.self.view_is) (c.launch-2.ensures.held ∙ ap (λ (v : BlockState). v.committed) (sym (block_is i.size i.tickets i.heads.items i.seats.items c.self.invariant.0 _ _ seated)))
-
-pub returns-clause-before : goal.returns-clause-before
-returns-clause-before g c =
-    let i = c.self.inside in
-    let choice : IsWritableSet (patches i.heads.items) c.args.block.0 (numbers_of c.args.chosen.items) = rw (← c.self.view_is) at c.requires.chosen in
-    let free : NoneHolds (order (state_of i.size i.tickets i.heads.items i.seats.items) (Issue c.args.block.0)) = rw (← c.self.view_is) at c.requires.free in
-    let past : length i.seats.items ≤ c.args.block.0 → ⊥ = rw length-map at free.0 in
-    let seated : slice_get i.seats.items c.args.block.0 ≡ Some c.index_mut-seat.result.now = slice_get_read i.seats.items _ _ _ i.seats.ok.0 (omega (arith, i.seats.ok.0, past)) c.index_mut-seat.ensures.value in
-    let home : c.index_mut-seat.result.now.block.flight ≡ None = not_some c.index_mut-seat.result.now.block.flight (rw (flight_is i.size i.tickets i.heads.items i.seats.items c.self.invariant.0 _ _ seated) at free.1.0) in
-    rw (← c.self.view_is) (c.launch-2.ensures.before ∙ ap (λ (v : BlockState). v.committed) (sym (block_is i.size i.tickets i.heads.items i.seats.items c.self.invariant.0 _ _ seated)))
+    let S = may_send i.size i.resident i.tickets i.made i.graph i.contents.items i.seats.items c.args.self.now c.self.view_is c.self.invariant c.args.block.0 c.index_mut-seat.result.now c.args.chosen.items c.requires.clear c.requires.chosen c.index_mut-seat.ensures.value in
+    let image : c.args.image.items ≡ image_of (state_of i.size i.resident i.tickets i.made i.graph i.contents.items i.seats.items) c.args.block.0 (numbers_of c.args.chosen.items) = rw (← c.self.view_is) at c.requires.image in
+    let seat = seat_is (state_of i.size i.resident i.tickets i.made i.graph i.contents.items i.seats.items) i.graph i.seats.items c.args.block.0 c.index_mut-seat.result.now c.args.chosen.items S c.args.image.items image c.launch-2.new.self c.launch-2.ensures.seat in
+    let launched : Launches i.graph (numbers_of c.args.chosen.items) c.launch.new.self = rw c.deref.ensures.value at c.launch.ensures.launched in
+    let state = state_sent i.size i.resident i.tickets i.made i.graph i.contents.items i.seats.items c.args.block.0 c.index_mut-seat.result.now c.args.chosen.items S c.args.image.items image c.launch.new.self launched in
+    rw (← c.self.view_is, c.launch-2.ensures.ticket, c.launch-2.ensures.block, (c.self.invariant.seat c.args.block.0 c.index_mut-seat.result.now S.at_b).place, c.launch-2.ensures.image, seat, state)
+    (step_sent (state_of i.size i.resident i.tickets i.made i.graph i.contents.items i.seats.items) i.graph i.seats.items c.args.block.0 c.index_mut-seat.result.now c.args.chosen.items S c.args.image.items image)
 
 pub returns-clause-faults : goal.returns-clause-faults
 returns-clause-faults g c =
     let i = c.self.inside in
-    let choice : IsWritableSet (patches i.heads.items) c.args.block.0 (numbers_of c.args.chosen.items) = rw (← c.self.view_is) at c.requires.chosen in
-    let free : NoneHolds (order (state_of i.size i.tickets i.heads.items i.seats.items) (Issue c.args.block.0)) = rw (← c.self.view_is) at c.requires.free in
-    let past : length i.seats.items ≤ c.args.block.0 → ⊥ = rw length-map at free.0 in
-    let seated : slice_get i.seats.items c.args.block.0 ≡ Some c.index_mut-seat.result.now = slice_get_read i.seats.items _ _ _ i.seats.ok.0 (omega (arith, i.seats.ok.0, past)) c.index_mut-seat.ensures.value in
-    let home : c.index_mut-seat.result.now.block.flight ≡ None = not_some c.index_mut-seat.result.now.block.flight (rw (flight_is i.size i.tickets i.heads.items i.seats.items c.self.invariant.0 _ _ seated) at free.1.0) in
-    rw (← c.self.view_is, c.launch-2.ensures.seat) (map-set (λ (s : SeatView). s.faults) i.seats.items c.args.block.0 _)
+    let S = may_send i.size i.resident i.tickets i.made i.graph i.contents.items i.seats.items c.args.self.now c.self.view_is c.self.invariant c.args.block.0 c.index_mut-seat.result.now c.args.chosen.items c.requires.clear c.requires.chosen c.index_mut-seat.ensures.value in
+    let image : c.args.image.items ≡ image_of (state_of i.size i.resident i.tickets i.made i.graph i.contents.items i.seats.items) c.args.block.0 (numbers_of c.args.chosen.items) = rw (← c.self.view_is) at c.requires.image in
+    let seat = seat_is (state_of i.size i.resident i.tickets i.made i.graph i.contents.items i.seats.items) i.graph i.seats.items c.args.block.0 c.index_mut-seat.result.now c.args.chosen.items S c.args.image.items image c.launch-2.new.self c.launch-2.ensures.seat in
+    rw (← c.self.view_is, seat) (map-set (λ (x : SeatView). x.faults) i.seats.items c.args.block.0 _)
 
 pub returns-clause-resident : goal.returns-clause-resident
 returns-clause-resident g c =
     let i = c.self.inside in
-    let choice : IsWritableSet (patches i.heads.items) c.args.block.0 (numbers_of c.args.chosen.items) = rw (← c.self.view_is) at c.requires.chosen in
-    let free : NoneHolds (order (state_of i.size i.tickets i.heads.items i.seats.items) (Issue c.args.block.0)) = rw (← c.self.view_is) at c.requires.free in
-    let past : length i.seats.items ≤ c.args.block.0 → ⊥ = rw length-map at free.0 in
-    let seated : slice_get i.seats.items c.args.block.0 ≡ Some c.index_mut-seat.result.now = slice_get_read i.seats.items _ _ _ i.seats.ok.0 (omega (arith, i.seats.ok.0, past)) c.index_mut-seat.ensures.value in
-    let home : c.index_mut-seat.result.now.block.flight ≡ None = not_some c.index_mut-seat.result.now.block.flight (rw (flight_is i.size i.tickets i.heads.items i.seats.items c.self.invariant.0 _ _ seated) at free.1.0) in
-    rw (← c.self.view_is, c.launch-2.ensures.seat) (same_listed i.size i.tickets i.heads.items i.seats.items c.self.invariant.0 _ _ seated (λ (s : SeatView). is_some s.bytes) _ refl)
+    let S = may_send i.size i.resident i.tickets i.made i.graph i.contents.items i.seats.items c.args.self.now c.self.view_is c.self.invariant c.args.block.0 c.index_mut-seat.result.now c.args.chosen.items c.requires.clear c.requires.chosen c.index_mut-seat.ensures.value in
+    let image : c.args.image.items ≡ image_of (state_of i.size i.resident i.tickets i.made i.graph i.contents.items i.seats.items) c.args.block.0 (numbers_of c.args.chosen.items) = rw (← c.self.view_is) at c.requires.image in
+    let seat = seat_is (state_of i.size i.resident i.tickets i.made i.graph i.contents.items i.seats.items) i.graph i.seats.items c.args.block.0 c.index_mut-seat.result.now c.args.chosen.items S c.args.image.items image c.launch-2.new.self c.launch-2.ensures.seat in
+    rw (← c.self.view_is, seat) (same_listed i.seats.items c.args.block.0 c.index_mut-seat.result.now S.at_b (λ (x : SeatView). is_some x.loaded) _ (sent_loaded (state_of i.size i.resident i.tickets i.made i.graph i.contents.items i.seats.items) i.graph i.seats.items c.args.block.0 c.index_mut-seat.result.now c.args.chosen.items S c.args.image.items image))
 
 pub returns-clause-back : goal.returns-clause-back
 returns-clause-back g c =
     let i = c.self.inside in
-    let choice : IsWritableSet (patches i.heads.items) c.args.block.0 (numbers_of c.args.chosen.items) = rw (← c.self.view_is) at c.requires.chosen in
-    let free : NoneHolds (order (state_of i.size i.tickets i.heads.items i.seats.items) (Issue c.args.block.0)) = rw (← c.self.view_is) at c.requires.free in
-    let past : length i.seats.items ≤ c.args.block.0 → ⊥ = rw length-map at free.0 in
-    let seated : slice_get i.seats.items c.args.block.0 ≡ Some c.index_mut-seat.result.now = slice_get_read i.seats.items _ _ _ i.seats.ok.0 (omega (arith, i.seats.ok.0, past)) c.index_mut-seat.ensures.value in
-    let home : c.index_mut-seat.result.now.block.flight ≡ None = not_some c.index_mut-seat.result.now.block.flight (rw (flight_is i.size i.tickets i.heads.items i.seats.items c.self.invariant.0 _ _ seated) at free.1.0) in
-    rw (← c.self.view_is) (same_listed i.size i.tickets i.heads.items i.seats.items c.self.invariant.0 _ _ seated (λ (s : SeatView). s.back) _ (ap (λ (s : SeatView). s.back) c.launch-2.ensures.seat))
+    let S = may_send i.size i.resident i.tickets i.made i.graph i.contents.items i.seats.items c.args.self.now c.self.view_is c.self.invariant c.args.block.0 c.index_mut-seat.result.now c.args.chosen.items c.requires.clear c.requires.chosen c.index_mut-seat.ensures.value in
+    let image : c.args.image.items ≡ image_of (state_of i.size i.resident i.tickets i.made i.graph i.contents.items i.seats.items) c.args.block.0 (numbers_of c.args.chosen.items) = rw (← c.self.view_is) at c.requires.image in
+    let seat = seat_is (state_of i.size i.resident i.tickets i.made i.graph i.contents.items i.seats.items) i.graph i.seats.items c.args.block.0 c.index_mut-seat.result.now c.args.chosen.items S c.args.image.items image c.launch-2.new.self c.launch-2.ensures.seat in
+    rw (← c.self.view_is, seat) (same_listed i.seats.items c.args.block.0 c.index_mut-seat.result.now S.at_b (λ (x : SeatView). x.back) _ refl)

@@ -1,7 +1,7 @@
-use Rattle.std.proofs.Common.{ℕ, ◌≡◌, ◌<◌, Some, false, slice_get}
+use Rattle.std.proofs.Common.{ℕ, ◌≡◌, ◌<◌, Some, true, false, slice_get}
 use Rattle.std.specs.Option.{option_map_or}
 use Rattle.fst_cache.specs.Seats.{SeatView}
 use Rattle.fst_cache.proofs.cache.Cache.stalled.Given as goal
 
 abbrev pub invariant-loop-at : goal.invariant-loop-at
-invariant-loop-at g l = (k : ℕ) (s : SeatView) → k < l.at → slice_get l.seat-items k ≡ Some s → option_map_or (λ f. f.stalled) s.block.flight false ≡ false
+invariant-loop-at g l = (k : ℕ) (t : SeatView) → k < l.at → slice_get l.seat-items k ≡ Some t → option_map_or (λ f. f.stalled) t.block.flight false ≡ true → ⊥

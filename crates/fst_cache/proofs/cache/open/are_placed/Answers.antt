@@ -1,5 +1,5 @@
 use Rattle.std.proofs.Common.{refl, arith}
-use Rattle.fst_cache.proofs.Opening.{not_misplaced}
+use Rattle.fst_cache.proofs.OpenPlaced.{not_misplaced}
 use Rattle.fst_cache.proofs.cache.open.are_placed.Goals as goal
 
 pub returns : goal.returns

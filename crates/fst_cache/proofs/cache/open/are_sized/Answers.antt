@@ -1,5 +1,5 @@
 use Rattle.std.proofs.Common.{refl, arith}
-use Rattle.fst_cache.proofs.Opening.{not_missized}
+use Rattle.fst_cache.proofs.OpenPlaced.{not_missized}
 use Rattle.fst_cache.proofs.cache.open.are_sized.Goals as goal
 
 pub returns : goal.returns

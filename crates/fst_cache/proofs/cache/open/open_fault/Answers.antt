@@ -1,7 +1,7 @@
 use Rattle.std.proofs.Common.{◌≡◌, ◌∙◌, length, map, refl, sym, inl, inr}
 use Rattle.std.proofs.lemmas.List.{length-map}
 use Rattle.std.proofs.lemmas.Bool.{false≢true}
-use Rattle.fst_cache.proofs.Slots.{misplaced, missized}
+use Rattle.fst_cache.proofs.OpenSlots.{misplaced, missized}
 use Rattle.fst_cache.proofs.cache.open.open_fault.Goals as goal
 use Rattle.fst_cache.proofs.cache.open.open_fault.Goals.{then-slots-shape-via-then-slots-shape, then-slots-shape-via-else-slots-shape+then-not-are_placed}
 

@@ -9,7 +9,7 @@ use Rattle.fst_graph.proofs.Forgetting.{counted, keeps_dropped}
 use Rattle.fst_graph.proofs.graph.Graph.forget.Goals as goal
 
 pub keep_live_numbers-requires : goal.keep_live_numbers-requires
-keep_live_numbers-requires c = rw c.deref.ensures.value (rising_heads c.self.inside.heads.items c.self.invariant.lawful.one_place_each.rising)
+keep_live_numbers-requires c = rw c.deref.ensures.value (rising_heads c.self.inside.heads.items c.self.invariant.0.lawful.one_place_each.rising)
 
 pub overflow_sub-result : goal.overflow_sub-result
 overflow_sub-result c =
@@ -22,9 +22,9 @@ invariant_of-self c =
     let all = counted (patches_of c.self.inside.heads.items) in
     let live = ap length c.keep_live.ensures in
     let long : length c.truncate.new.self.items ≡ length (filter is_live (patches_of c.self.inside.heads.items)) =
-    rw c.truncate.ensures.items (omega (arith, all, live, length-take c.len.result c.self.inside.marks.items, length-map c.keep_live.new.heads.items patch_of, c.len.ensures, c.keep_live.new.heads.ok.0, c.self.invariant.marked)) in
+    rw c.truncate.ensures.items (omega (arith, all, live, length-take c.len.result c.self.inside.marks.items, length-map c.keep_live.new.heads.items patch_of, c.len.ensures, c.keep_live.new.heads.ok.0, c.self.invariant.0.marked)) in
     rw (c.keep_live.ensures, c.keep_live_numbers.ensures, c.deref.ensures.value)
-    (keeps_dropped (patches_of c.self.inside.heads.items) c.self.inside.numbers c.self.inside.blocks c.self.inside.order.items c.self.inside.marks.items c.self.invariant c.truncate.new.self.items long)
+    (keeps_dropped (patches_of c.self.inside.heads.items) c.self.inside.numbers c.self.inside.blocks c.self.inside.order.items c.self.inside.marks.items c.self.invariant.0 c.truncate.new.self.items long, tt, tt, c.self.invariant.3)
 
 pub returns : goal.returns
 returns c =
@@ -32,4 +32,4 @@ returns c =
     let live = ap length c.keep_live.ensures in
     let count : c.len-before.result - c.len-2.result ≡ count_by (λ p. is_at p.place place.Disk) (patches_of c.self.inside.heads.items) =
     omega (arith, all, live, length-map c.self.inside.heads.items patch_of, length-map c.keep_live.new.heads.items patch_of, c.len-2.ensures, c.len-before.ensures, c.keep_live.new.heads.ok.0, c.self.inside.heads.ok.0) in
-    rw (← c.self.view_is) (record { counted = count; heads = c.keep_live.ensures; numbers = refl; blocks = refl })
+    rw (← c.self.view_is) (record { counted = count; heads = c.keep_live.ensures; numbers = refl; blocks = refl; prepared = refl })

@@ -11,12 +11,12 @@ cascade-requires-clause-may c =
     let old = patches_of c.self.inside.heads.items in
     let n = c.self.inside.numbers in
     let b = c.args.block.0 in
-    let H = c.self.invariant.lawful in
+    let H = c.self.invariant.0.lawful in
     rw c.deref.ensures.value
-    (may_cascade c.land_all.new.heads.items old n c.self.inside.blocks c.self.inside.order.items c.self.inside.marks.items (map (landed b) old) c.self.invariant c.land_all.ensures (alike_land old n b H) (gates_land old n b H) (landed_land old n b H))
+    (may_cascade c.land_all.new.heads.items old n c.self.inside.blocks c.self.inside.order.items c.self.inside.marks.items (map (landed b) old) c.self.invariant.0 c.land_all.ensures (alike_land old n b H) (gates_land old n b H) (landed_land old n b H))
 
 pub invariant_of-self : goal.invariant_of-self
 invariant_of-self c =
     let old = patches_of c.self.inside.heads.items in
     let cascade = subst (λ ps. IsCascadeOf ps (patches_of c.cascade.new.heads.items)) c.land_all.ensures c.cascade.ensures.settled in
-    keeps_landed old (patches_of c.cascade.new.heads.items) c.self.inside.numbers c.self.inside.blocks c.args.block.0 c.self.inside.order.items c.self.inside.marks.items c.cascade.new.marks.items c.self.invariant cascade (omega (arith, c.cascade.ensures.long, c.cascade.new.marks.ok.0, c.self.inside.marks.ok.0))
+    (keeps_landed old (patches_of c.cascade.new.heads.items) c.self.inside.numbers c.self.inside.blocks c.args.block.0 c.self.inside.order.items c.self.inside.marks.items c.cascade.new.marks.items c.self.invariant.0 cascade (omega (arith, c.cascade.ensures.long, c.cascade.new.marks.ok.0, c.self.inside.marks.ok.0)), tt, tt, c.self.invariant.3)

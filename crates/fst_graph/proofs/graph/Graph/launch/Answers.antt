@@ -9,4 +9,5 @@ invariant_of-self c =
     let b = c.requires.block in
     let writable = subst (λ (v : Known). IsWritable v.heads b) (sym c.self.view_is) c.requires.writable in
     let choice = subst (λ (v : Known). IsWritableSet v.heads b (numbers_of c.args.chosen.now)) (sym c.self.view_is) c.requires.choice in
-    rw c.launch_all.ensures (keeps_launched _ c.self.inside.numbers c.self.inside.blocks b (numbers_of c.args.chosen.now) c.self.inside.order.items c.self.inside.marks.items c.self.invariant writable choice)
+    rw c.launch_all.ensures
+    (keeps_launched _ c.self.inside.numbers c.self.inside.blocks b (numbers_of c.args.chosen.now) c.self.inside.order.items c.self.inside.marks.items c.self.invariant.0 writable choice, tt, tt, c.self.invariant.3)

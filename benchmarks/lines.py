@@ -1,0 +1,132 @@
+#!/usr/bin/env python3
+"""Microseconds a line and peak memory of `feather play` over made-up scripts, at n, 2n and 4n lines.
+
+    benchmarks/lines.py [PROGRAM]
+
+PROGRAM is the program as `rt build` or `./feather` leaves it; without it `./feather` is used, which builds it once.
+The last column is the exponent of growth of the time between n and 4n lines: 1 where a line costs the same however long
+the script is.
+"""
+
+import json
+import math
+import os
+import subprocess
+import sys
+import tempfile
+import time
+
+ROOT = os.path.dirname(os.path.dirname(os.path.abspath(__file__)))
+
+
+def patch(block, at, data, after=()):
+    return {"do": "patch", "block": block, "at": at, "data": data, "after": list(after)}
+
+
+def chain(lines):
+    """Each patch comes after the one before it, on one block."""
+    for i in range(lines):
+        yield patch(0, i % 4096, "41", [i] if i else [])
+
+
+def wide_chain(lines):
+    """Each patch comes after the one before it, over 64 blocks in turn."""
+    for i in range(lines):
+        yield patch(i % 64, i // 64 % 4096, "41", [i] if i else [])
+
+
+def fan(lines):
+    """Each patch waits for one open gate, over 64 blocks in turn."""
+    yield {"do": "gate"}
+    for i in range(lines - 1):
+        yield patch(i % 64, i // 64 % 4096, "41", [1])
+
+
+def churn(lines):
+    """A patch a time over 4,096 blocks, each after the one before it; the oldest of 64 is written and done."""
+    waiting, last, ticket, made = [], None, 0, 0
+    count = 0
+    while count < lines:
+        block = made * 37 % 4096
+        made += 1
+        yield patch(block, made % 4096, "41", [last] if last else [])
+        last = made
+        waiting.append(block)
+        count += 1
+        if len(waiting) == 64 and count + 3 <= lines:
+            ticket += 1
+            yield {"do": "write", "block": waiting.pop(0)}
+            yield {"do": "done", "ticket": ticket}
+            count += 2
+            if ticket % 256 == 0:
+                yield {"do": "forget"}
+                count += 1
+
+
+def overlaps(lines):
+    """Patches of 64 bytes over one block, each of which overlaps one in 32 of those before it."""
+    for i in range(lines):
+        yield patch(0, i * 61 % 4033, "41" * 64)
+
+
+def short(lines):
+    """Lines that ask for nothing but the least writable block."""
+    for _ in range(lines):
+        yield {"do": "pick"}
+
+
+WORKLOADS = [
+    (chain, 15000),
+    (wide_chain, 15000),
+    (fan, 15000),
+    (churn, 15000),
+    (overlaps, 5000),
+    (short, 15000),
+]
+
+
+def play(program, script):
+    """Seconds and peak kilobytes of one run, and its last reply."""
+    with open(script, "rb") as given, tempfile.TemporaryFile() as replies:
+        start = time.monotonic()
+        child = subprocess.Popen(
+            [program, "play", "--blocks", "4096", "--size", "4096"], stdin=given, stdout=replies
+        )
+        _, status, used = os.wait4(child.pid, 0)
+        seconds = time.monotonic() - start
+        child.returncode = os.waitstatus_to_exitcode(status)
+        if child.returncode != 0:
+            sys.exit(f"{script}: the program ended with status {child.returncode}")
+        replies.seek(0)
+        answered = replies.read().splitlines()
+    refused = sum(reply.startswith(b"refused") for reply in answered)
+    return seconds, used.ru_maxrss, len(answered), refused
+
+
+def main():
+    program = sys.argv[1] if len(sys.argv) > 1 else os.path.join(ROOT, "feather")
+    print(f"{'workload':<12} {'lines':>7} {'us/line':>9} {'peak MB':>8} {'refused':>8} {'exponent':>9}")
+    for workload, base in WORKLOADS:
+        first = None
+        for times in (1, 2, 4):
+            lines = base * times
+            with tempfile.NamedTemporaryFile("w", suffix=".jsonl", delete=False) as script:
+                for line in workload(lines):
+                    script.write(json.dumps(line, separators=(",", ":")) + "\n")
+            try:
+                seconds, peak, answered, refused = play(program, script.name)
+            finally:
+                os.unlink(script.name)
+            first = first or (lines, seconds)
+            exponent = ""
+            if times == 4:
+                exponent = f"{math.log(seconds / first[1]) / math.log(lines / first[0]):.2f}"
+            print(
+                f"{workload.__name__:<12} {answered:>7} {seconds / lines * 1e6:>9.1f} {peak / 1024:>8.0f}"
+                f" {refused:>8} {exponent:>9}",
+                flush=True,
+            )
+
+
+if __name__ == "__main__":
+    main()

@@ -1,0 +1,113 @@
+//! Lines that are refused before any call, and lines at their limits.
+
+use crate::tests::{plays_rows, plays_to};
+use std::test::Fail;
+
+// Lines that are no command, or name what is not there.
+#[test]
+fn hostile_table(rt: HostRuntime) -> Result<(), Fail> {
+    plays_rows(
+        &rt,
+        rt.alloc(),
+        4,
+        &[
+            ("", "refused 1"),
+            ("[]", "refused 1"),
+            ("{}", "refused 2"),
+            (r#"{"do":"pick","block":0}"#, "refused 2"),
+            (r#"{"do":"place","patch":0}"#, "refused 5"),
+            (r#"{"do":"place","patch":4294967295}"#, "refused 5"),
+            (r#"{"do":"place","patch":4294967296}"#, "refused 2"),
+            (r#"{"do":"place","patch":-1}"#, "refused 2"),
+            (
+                r#"{"do":"patch","block":0,"at":4294967295,"data":"41"}"#,
+                "refused 4",
+            ),
+            (
+                r#"{"do":"patch","block":0,"at":0,"data":"zz"}"#,
+                "refused 2",
+            ),
+            (
+                r#"{"do":"done","ticket":18446744073709551615}"#,
+                "refused 14",
+            ),
+        ],
+    )
+}
+
+// Members that are missing, not given for the line, or of the wrong kind; their order does not matter.
+#[test]
+fn members_of_the_lines(rt: HostRuntime) -> Result<(), Fail> {
+    plays_rows(
+        &rt,
+        rt.alloc(),
+        4,
+        &[
+            (r#"{"do":"gate","after":[]}"#, "refused 2"),
+            (r#"{"do":"empty","after":1}"#, "refused 2"),
+            (r#"{"do":"empty","after":[1.5]}"#, "refused 2"),
+            (r#"{"do":"depend","gate":1}"#, "refused 2"),
+            (r#"{"do":"depend","on":[]}"#, "refused 2"),
+            (r#"{"do":"seal"}"#, "refused 2"),
+            (r#"{"do":"seal","patch":1}"#, "refused 2"),
+            (r#"{"do":"evict","block":"0"}"#, "refused 2"),
+            (r#"{"do":"forget","block":0}"#, "refused 2"),
+            (r#"{"do":"stat","gate":null}"#, "refused 2"),
+            (r#"{"do":"place","patch":true}"#, "refused 2"),
+            (r#"{"on":[],"gate":1,"do":"depend"}"#, "refused 5"),
+        ],
+    )
+}
+
+// The last line has no end.
+#[test]
+fn hostile_lines(rt: HostRuntime) {
+    plays_to(
+        &rt,
+        rt.alloc(),
+        4,
+        br#"{"do":"pat
+{"do":"fly"}
+{"do":"patch","block":0,"at":0,"data":"4"}
+{"do":"patch","block":0,"at":0,"data":"41","after":[1]}
+{"do":"patch","block":4,"at":0,"data":"41"}
+{"do":"patch","block":0,"at":0,"data":"41"}
+{"do":"#,
+        b"refused 1\nrefused 2\nrefused 2\nrefused 5\nrefused 3\npatch 1 hard\nrefused 1\n",
+    );
+}
+
+// Two bytes that are no text, and white space that JSON allows.
+#[test]
+fn bytes_round_a_line(rt: HostRuntime) {
+    plays_to(
+        &rt,
+        rt.alloc(),
+        4,
+        b"\xff\xfe\n \t{\"do\":\"gate\"} \r\n",
+        b"refused 1\ngate 1\n",
+    );
+}
+
+// A line of the greatest length is read as JSON, with white space after its object; of a longer one nothing is kept.
+#[test]
+fn long_lines(rt: HostRuntime) -> Result<(), Fail> {
+    let line = br#"{"do":"pick"}"#;
+    let mut script = Vec::new(rt.alloc());
+    for length in [65_536usize, 65_537] {
+        script.extend_from_slice(line)?;
+        for _ in line.len()..length {
+            script.push(b' ')?;
+        }
+        script.push(b'\n')?;
+    }
+    script.extend_from_slice(line)?;
+    plays_to(
+        &rt,
+        rt.alloc(),
+        4,
+        &script,
+        b"pick none\nrefused 1\npick none\n",
+    );
+    Ok(())
+}

@@ -1,0 +1,163 @@
+//! Streams in pieces, and streams that fail.
+
+ghost use Rattle.std.specs.Prelude.{◌≡◌, Some};
+
+use crate::play::{PlayFault, play};
+use crate::tests::rows::CYCLE_OF_BLOCKS;
+use crate::tests::{plays_to, shape_of};
+use std::io;
+use std::io::{Read, Write};
+use std::test::Fail;
+
+const SCRIPT: &[u8] =
+    b"{\"do\":\"pat\n{\"do\":\"fly\"}\n{\"do\":\"patch\",\"block\":0,\"at\":0,\"data\":\"4\"}\n\n{\"do\":";
+
+const REPLIES: &[u8] = b"refused 1\nrefused 2\nrefused 2\nrefused 1\nrefused 1\n";
+
+// Gives a byte at a time, and at the end an error, if it fails.
+#[derive(Drop)]
+struct Single<'a> {
+    rest: &'a [u8],
+    fails: bool,
+}
+
+impl Read for Single<'_> {
+    ghost remaining = { λ s. Some s.rest.now };
+
+    fn read(&mut self, buf: &mut [u8]) -> io::Result<usize> {
+        let Some((first, rest)) = self.rest.split_first() else {
+            if self.fails {
+                return Err(io::Error::from(io::ErrorKind::Other));
+            }
+            return Ok(0);
+        };
+        if buf.is_empty() {
+            return Ok(0);
+        }
+        buf[0] = *first;
+        self.rest = rest;
+        Ok(1)
+    }
+}
+
+// Takes a byte at a time, as long as there is room.
+#[derive(Drop)]
+struct Narrow {
+    held: Vec<u8>,
+    room: usize,
+}
+
+impl Write for Narrow {
+    ghost contents = { λ w. Some w.held.items };
+
+    fn write(&mut self, buf: &[u8]) -> io::Result<usize> {
+        let Some(first) = buf.first() else {
+            return Ok(0);
+        };
+        if self.room == 0 {
+            return Err(io::Error::from(io::ErrorKind::Other));
+        }
+        self.held.push(*first)?;
+        self.room -= 1;
+        Ok(1)
+    }
+
+    fn flush(&mut self) -> io::Result<()> {
+        Ok(())
+    }
+}
+
+#[test]
+fn no_input(rt: HostRuntime) -> Result<(), Fail> {
+    let mut reader: &[u8] = b"";
+    let mut writer = Vec::new(rt.alloc());
+    let shape = shape_of(&rt, 4);
+    assert!(rt; play(rt.alloc(), &mut reader, &mut writer, shape).is_ok());
+    assert!(rt; writer.is_empty());
+    Ok(())
+}
+
+#[test]
+fn one_piece_or_many(rt: HostRuntime) -> Result<(), Fail> {
+    let shape = shape_of(&rt, 4);
+    let mut whole = SCRIPT;
+    let mut writer = Vec::new(rt.alloc());
+    assert!(rt; play(rt.alloc(), &mut whole, &mut writer, shape).is_ok());
+    assert_eq!(rt; writer.as_slice(), REPLIES);
+    let mut single = Single {
+        rest: SCRIPT,
+        fails: false,
+    };
+    let mut narrow = Narrow {
+        held: Vec::new(rt.alloc()),
+        room: REPLIES.len(),
+    };
+    assert!(rt; play(rt.alloc(), &mut single, &mut narrow, shape).is_ok());
+    let Narrow { held, room: _ } = narrow;
+    assert_eq!(rt; held.as_slice(), REPLIES);
+    Ok(())
+}
+
+#[test]
+fn failing_reader(rt: HostRuntime) -> Result<(), Fail> {
+    let mut reader = Single {
+        rest: SCRIPT,
+        fails: true,
+    };
+    let mut writer = Vec::new(rt.alloc());
+    let shape = shape_of(&rt, 4);
+    assert!(rt;
+        matches!(
+            play(rt.alloc(), &mut reader, &mut writer, shape),
+            Err(PlayFault::Read)
+        )
+    );
+    assert_eq!(rt; writer.as_slice(), &REPLIES[..40]);
+    Ok(())
+}
+
+#[test]
+fn failing_writer(rt: HostRuntime) -> Result<(), Fail> {
+    let shape = shape_of(&rt, 4);
+    for room in 0..REPLIES.len() {
+        let mut reader = Single {
+            rest: SCRIPT,
+            fails: false,
+        };
+        let mut writer = Narrow {
+            held: Vec::new(rt.alloc()),
+            room,
+        };
+        assert!(rt;
+            matches!(
+                play(rt.alloc(), &mut reader, &mut writer, shape),
+                Err(PlayFault::Write)
+            )
+        );
+        let Narrow { held, room: _ } = writer;
+        assert_eq!(rt; held.as_slice(), &REPLIES[..room]);
+    }
+    Ok(())
+}
+
+// A script cut at each byte: its whole lines are answered as they were, and a part of a line is no JSON.
+#[test]
+fn cut_at_each_byte(rt: HostRuntime) -> Result<(), Fail> {
+    let mut script = Vec::new(rt.alloc());
+    let mut replies = Vec::new(rt.alloc());
+    for (line, reply) in CYCLE_OF_BLOCKS {
+        for end in 1..line.len() {
+            let mut part = script.clone()?;
+            part.extend_from_slice(&line.as_bytes()[..end])?;
+            let mut told = replies.clone()?;
+            told.extend_from_slice(b"refused 1\n")?;
+            plays_to(&rt, rt.alloc(), 4, &part, &told);
+        }
+        script.extend_from_slice(line.as_bytes())?;
+        replies.extend_from_slice(reply.as_bytes())?;
+        replies.push(b'\n')?;
+        plays_to(&rt, rt.alloc(), 4, &script, &replies);
+        script.push(b'\n')?;
+    }
+    Ok(())
+}

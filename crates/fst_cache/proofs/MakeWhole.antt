@@ -1,0 +1,134 @@
+-- Making a change from end to end: room in the graph, the block in memory, its patch, the change in the graph.
+use Rattle.std.proofs.Common.{◌≡◌, ◌+◌, ℕ, Bool, true, List, [], ◌∷◌, ◌++◌, map, Option, refl, sym, ap, subst, ◌∙◌, inl, inr, length, slice_set, take}
+use Rattle.std.specs.Prelude.{slice_index, IsErrOf, Err, Ok, Result, IfOk, MatchResult, ◌⊎◌}
+use Rattle.fst_types.specs.declared.number.PatchNo.{PatchNo}
+use Rattle.fst_types.specs.declared.fault.Fault.{Fault}
+use Rattle.fst_types.specs.declared.fault.Fault.TheVariants as fault
+use Rattle.fst_types.specs.declared.grade.Grade.{Grade}
+use Rattle.fst_types.specs.State.{State}
+use Rattle.fst_types.specs.Residence.{faults_rose}
+use Rattle.fst_types.specs.Events.{MakeChange, MadeChange, Refused}
+use Rattle.fst_types.specs.Order.{make_order, IsLoadFault}
+use Rattle.fst_types.specs.Refusals.{NoneHolds}
+use Rattle.fst_types.specs.Step.{Step, refused}
+use Rattle.fst_block.specs.BlockView.{BlockPatch}
+use Rattle.fst_graph.specs.Known.{Known, unprepared, Prepared, AddsChange}
+use Rattle.fst_cache.specs.Seats.{SeatView}
+use Rattle.fst_cache.specs.Kept.{IsKept, state_of, span_of}
+use Rattle.fst_cache.specs.Making.{MayHold, MayLoad, Puts}
+use Rattle.fst_cache.proofs.Kept.{same_listed}
+use Rattle.fst_cache.proofs.ResideLoading.{Loaded}
+use Rattle.fst_cache.proofs.MakeRefused.{refused_by_load}
+use Rattle.fst_cache.proofs.MakeReady.{loaded, same_state, kept_ready}
+use Rattle.fst_cache.proofs.MakeStep.{after_it, step_change, kept_change}
+
+module _ (size resident tickets made : ℕ) (graph graph' : Known) (prepared : Option Prepared) (same : graph' ≡ record graph { prepared = prepared })
+    (contents : List (ℕ × List ℕ)) (seats seats' : List SeatView) (K : IsKept (state_of size resident tickets made graph contents seats) graph seats) (share b at : ℕ) (bytes names : List ℕ) where
+  abbrev before : State
+  before = state_of size resident tickets made graph contents seats
+
+  abbrev ready : State
+  ready = state_of size resident tickets made graph' contents seats'
+
+  -- where the block could not be read, or its patch could not be put, the state is as it was
+  pub step_refused : MayLoad resident seats b seats' → MayHold before share b at bytes → NoneHolds (make_order graph.heads graph.numbers names) → (faulted : Bool) (fault : Fault) → IsLoadFault faulted fault
+      → Step before (MakeChange share b at bytes names faulted) (Refused fault) ready
+  step_refused load may none faulted fault free =
+      subst (λ (s : State). Step before (MakeChange share b at bytes names faulted) (Refused fault) s) (sym (same_state size resident tickets made graph graph' prepared same contents seats seats' K b load))
+      (refused (refused_by_load before share b at bytes names faulted may fault none free))
+
+  module _ (number : ℕ) (grade : Grade) (may : MayHold before share b at bytes) (puts : Puts resident seats b (record { number = number; span = span_of at (length bytes); grade = grade; bytes = bytes }) seats')
+      (graph'' : Known) (adds : AddsChange graph' b at (length bytes) names number grade graph'') where
+    abbrev read : List SeatView
+    read = puts.read
+
+    same_read : state_of size resident tickets made graph' contents read ≡ before
+    same_read = same_state size resident tickets made graph graph' prepared same contents seats read K b puts.load
+
+    kept_read : IsKept (state_of size resident tickets made graph' contents read) graph' read
+    kept_read = kept_ready size resident tickets made graph graph' prepared same contents seats read K b puts.load
+
+    may_read : MayHold (state_of size resident tickets made graph' contents read) share b at bytes
+    may_read = subst (λ (s : State). MayHold s share b at bytes) (sym same_read) may
+
+    abbrev pub made_state : State
+    made_state = state_of size resident tickets (made + 1) graph'' (contents ++ (number, bytes) ∷ []) seats'
+
+    pub step_made : (faulted : Bool) → Step before (MakeChange share b at bytes names faulted) (MadeChange number grade) made_state
+    step_made faulted =
+        subst (λ (xs : List SeatView). Step before (MakeChange share b at bytes names faulted) (MadeChange number grade) (state_of size resident tickets (made + 1) graph'' (contents ++ (number, bytes) ∷ []) xs)) (sym puts.seats)
+        (subst (λ (s : State). Step s (MakeChange share b at bytes names faulted) (MadeChange number grade) (after_it size resident tickets made graph' graph'' contents read kept_read b puts.seat puts.at puts.view puts.there share at number bytes names grade may_read adds)) same_read
+        (step_change size resident tickets made graph' graph'' contents read kept_read b puts.seat puts.at puts.view puts.there share at number bytes names grade may_read adds faulted))
+
+    pub kept_made : IsKept made_state graph'' seats'
+    kept_made =
+        subst (λ (xs : List SeatView). IsKept (state_of size resident tickets (made + 1) graph'' (contents ++ (number, bytes) ∷ []) xs) graph'' xs) (sym puts.seats)
+        (kept_change size resident tickets made graph' graph'' contents read kept_read b puts.seat puts.at puts.view puts.there share at number bytes names grade may_read adds)
+
+    -- of the counts of faults one alone may have risen, and what came back is as it was
+    pub faults_made : map (λ (t : SeatView). t.faults) seats' ≡ slice_set (map (λ (t : SeatView). t.faults) seats) b (slice_index (map (λ (t : SeatView). t.faults) seats') b)
+    faults_made =
+        let L : Loaded before graph seats b read = loaded size resident tickets made graph graph' prepared same contents seats read K b puts.load in
+        let still : map (λ (t : SeatView). t.faults) seats' ≡ map (λ (t : SeatView). t.faults) read = put_listed (λ (t : SeatView). t.faults) (λ t o. refl) in
+        still ∙ (L.faults ∙ ap (λ (xs : List ℕ). slice_set (map (λ (t : SeatView). t.faults) seats) b (slice_index xs b)) (sym still))
+      where
+        put_listed : {Y : Type 0} (f : SeatView → Y) → ((t : SeatView) (o : _) → f (record t { loaded = o }) ≡ f t) → map f seats' ≡ map f read
+        put_listed f each = ap (map f) puts.seats ∙ same_listed read b puts.seat puts.at f _ (each puts.seat _)
+
+    pub back_made : map (λ (t : SeatView). t.back) seats' ≡ map (λ (t : SeatView). t.back) seats
+    back_made =
+        let L : Loaded before graph seats b read = loaded size resident tickets made graph graph' prepared same contents seats read K b puts.load in
+        ap (map (λ (t : SeatView). t.back)) puts.seats ∙ (same_listed read b puts.seat puts.at (λ (t : SeatView). t.back) _ refl ∙ L.back)
+
+-- the front of a list as long as it
+pub taken : {X : Type 0} (n : ℕ) (xs ys : List X) → n ≡ length xs → take n (xs ++ ys) ≡ xs
+taken n xs ys e = ap (λ k. take k (xs ++ ys)) e ∙ whole xs ys
+  where
+    whole : {X : Type 0} (xs ys : List X) → take (length xs) (xs ++ ys) ≡ xs
+    whole [] ys = refl
+    whole (x ∷ xs) ys = ap (λ (r : List _). x ∷ r) (whole xs ys)
+
+same_fault : (r : Result (Unit {0}) Fault) (x y : Fault) → r ≡ Err x → r ≡ Err y → x ≡ y
+same_fault r x y a b = cc
+
+-- why a load was refused
+pub load_fault : (r : Result (Unit {0}) Fault) (f : Fault) (faulted : Bool) → r ≡ Err f → (IsErrOf r fault.Device ⊎ IsErrOf r fault.Memory) → (IsErrOf r fault.Device → faulted ≡ true) → IsLoadFault faulted f
+load_fault r f faulted is (inl device) rose = inr (same_fault r f fault.Device is device, rose device)
+load_fault r f faulted is (inr memory) rose = inl (same_fault r f fault.Memory is memory)
+
+-- what a call did with the slice of a list is done with the list
+module _ (resident : ℕ) (old slice new : List SeatView) (b n : ℕ) (rest : List SeatView) (of : slice ≡ old) (long : n ≡ length new) where
+  abbrev now : List SeatView
+  now = take n (new ++ rest)
+
+  pub load_here : MayLoad resident slice b new → MayLoad resident old b now
+  load_here load = subst (λ (xs : List SeatView). MayLoad resident old b xs) (sym (taken n new rest long)) (subst (λ (xs : List SeatView). MayLoad resident xs b new) of load)
+
+  pub puts_here : (patch : BlockPatch) → Puts resident slice b patch new → Puts resident old b patch now
+  puts_here patch puts = subst (λ (xs : List SeatView). Puts resident old b patch xs) (sym (taken n new rest long)) (subst (λ (xs : List SeatView). Puts resident xs b patch new) of puts)
+
+  pub rose_here : faults_rose (map (λ (t : SeatView). t.faults) slice) (map (λ (t : SeatView). t.faults) new) b ≡ true → faults_rose (map (λ (t : SeatView). t.faults) old) (map (λ (t : SeatView). t.faults) now) b ≡ true
+  rose_here rose =
+      subst (λ (xs : List SeatView). faults_rose (map (λ (t : SeatView). t.faults) old) (map (λ (t : SeatView). t.faults) xs) b ≡ true) (sym (taken n new rest long))
+      (subst (λ (xs : List SeatView). faults_rose (map (λ (t : SeatView). t.faults) xs) (map (λ (t : SeatView). t.faults) new) b ≡ true) of rose)
+
+-- what is prepared does not matter to what a change adds
+of_unprepared : (old : Known) (b at len : ℕ) (names : List ℕ) (number : ℕ) (grade : Grade) (new : Known) → AddsChange (unprepared old) b at len names number grade new → AddsChange old b at len names number grade new
+of_unprepared old b at len names number grade new a = record {
+  clear = a.clear;
+  next = a.next;
+  dependencies = a.dependencies;
+  depends = a.depends;
+  graded = a.graded;
+  heads = a.heads;
+  numbers = a.numbers;
+  blocks = a.blocks;
+  prepared = a.prepared;
+}
+
+-- the graph makes what it prepared
+pub adds_prepared : (old : Known) (b at len : ℕ) (names : List ℕ) (number : ℕ) (grade : Grade) (new : Known) (r : Result (PatchNo × Grade) Fault)
+    → MatchResult r (λ made. (made.0.0 ≡ number) × (made.1 ≡ grade)) (λ f. ⊥) → IfOk r (λ made. AddsChange (unprepared old) b at len names made.0.0 made.1 new) → AddsChange old b at len names number grade new
+adds_prepared old b at len names number grade new (Ok made) same adds =
+    subst (λ (x : ℕ). AddsChange old b at len names x grade new) same.0 (subst (λ (x : Grade). AddsChange old b at len names made.0.0 x new) same.1 (of_unprepared old b at len names made.0.0 made.1 new adds))
+adds_prepared old b at len names number grade new (Err f) same adds = absurd same

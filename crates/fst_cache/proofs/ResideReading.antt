@@ -1,0 +1,107 @@
+-- A place that is made among the seats, and a seat that is read into it.
+use Rattle.std.proofs.Common.{◌≡◌, ◌⊎◌, ◌<◌, ◌≤◌, ℕ, true, false, List, [], map, Option, Some, None, is_some, refl, sym, ap, ◌∙◌, inl, inr, length, get_or, slice_get, slice_set, length-set, count_by}
+use Rattle.std.proofs.lemmas.Bool.{cases_Bool, false≢true, lt-ltb}
+use Rattle.std.proofs.lemmas.Option.{get_or_from_slice_get, slice_get-get_or, slice_get_within, same_Some}
+use Rattle.std.proofs.lemmas.List.{get_or-set_same}
+use Rattle.fst_types.specs.State.{Flight}
+use Rattle.fst_types.specs.Residence.{faults_rose}
+use Rattle.fst_block.specs.BlockView.{BlockView}
+use Rattle.fst_cache.specs.Seats.{SeatView, is_dirty_with, is_dirty_seat}
+use Rattle.fst_cache.specs.Residing.{count_loaded, IsCleanLoaded, IsLeastClean, MakesPlace, Loads, IsLoadedAt, IsAtRestWhereAway}
+use Rattle.fst_cache.proofs.Kept.{get-set, listed, listed_new, same_listed}
+use Rattle.fst_cache.proofs.ResideCounts.{count_le}
+
+-- where no clean block is in memory, all that are there are dirty
+pub none_clean : (seats : List SeatView) → ((d : ℕ) (other : SeatView) → slice_get seats d ≡ Some other → IsCleanLoaded other → ⊥) → count_loaded seats ≤ count_by is_dirty_seat seats
+none_clean seats none =
+    count_le (λ t. is_some t.loaded) is_dirty_seat seats (λ k x at_k there.
+    elim (cases_Bool (is_dirty_seat x)) [
+      | inl dirty ↦ dirty
+      | inr still ↦ absurd (none k x at_k (record { there = there; clean = still }))
+    ])
+
+-- where none is free, the first clean block gives up its own
+pub leaves_by : (resident : ℕ) (seats : List SeatView) (c : ℕ) (seat read new : SeatView) → resident ≤ count_loaded seats → IsLeastClean seats c seat
+    → new ≡ record (get_or seats c read) { loaded = None } → MakesPlace resident seats (slice_set seats c new)
+leaves_by resident seats c seat read new full least is =
+    inr (full, (c, seat, least, ap (slice_set seats c) (is ∙ ap (λ (t : SeatView). record t { loaded = None }) (get_or_from_slice_get seats c seat read least.at))))
+
+-- what is not dirty has no flight
+still_home : (seat : SeatView) → is_dirty_seat seat ≡ false → seat.block.flight ≡ None
+still_home seat still = by_flight seat.block.flight seat.loaded still
+  where
+    by_flight : (o : Option Flight) (l : Option BlockView) → is_dirty_with o l ≡ false → o ≡ None
+    by_flight None l e = refl
+    by_flight (Some f) l e = absurd (false≢true (sym e))
+
+none_of : (o : Option BlockView) → is_some o ≡ false → o ≡ None
+none_of None e = refl
+none_of (Some l) e = absurd (false≢true (sym e))
+
+-- what a place that is made leaves of each seat: it stays, or gives up its block, which had no flight
+module _ (resident : ℕ) (old placed : List SeatView) (b : ℕ) (seat : SeatView) (at_b : slice_get placed b ≡ Some seat) where
+  pub stays_or_leaves : MakesPlace resident old placed → (slice_get old b ≡ Some seat) ⊎ ((seat.loaded ≡ None) × (seat.block.flight ≡ None))
+  stays_or_leaves (inl h) = inl (ap (λ xs. slice_get xs b) (sym h.1) ∙ at_b)
+  stays_or_leaves (inr h) =
+      let left = record h.1.1 { loaded = None } in
+      let here : slice_get (slice_set old h.1.0 left) b ≡ Some seat = ap (λ xs. slice_get xs b) (sym h.1.3) ∙ at_b in
+      elim (get-set old h.1.0 b left seat here) [
+        | inl it ↦ inr (ap (λ (t : SeatView). t.loaded) (sym it.1), ap (λ (t : SeatView). t.block.flight) (sym it.1) ∙ still_home h.1.1 h.1.2.block.clean)
+        | inr other ↦ inl other.1
+      ]
+
+  pub rest_placed : MakesPlace resident old placed → IsAtRestWhereAway old → seat.loaded ≡ None → seat.block.flight ≡ None
+  rest_placed made rest away = elim (stays_or_leaves made) [ inl stays ↦ rest b seat stays away | inr leaves ↦ leaves.1 ]
+
+  pub away_placed : MakesPlace resident old placed → (was : SeatView) → slice_get old b ≡ Some was → is_some was.loaded ≡ false → seat.loaded ≡ None
+  away_placed made was at_old away = elim (stays_or_leaves made) [
+    | inl stays ↦ none_of seat.loaded (ap (λ (t : SeatView). is_some t.loaded) (same_Some seat was (sym stays ∙ at_old)) ∙ away)
+    | inr leaves ↦ leaves.0
+  ]
+
+pub faults_placed : (resident : ℕ) (old placed : List SeatView) → MakesPlace resident old placed → map (λ (t : SeatView). t.faults) placed ≡ map (λ (t : SeatView). t.faults) old
+faults_placed resident old placed (inl h) = ap (map (λ (t : SeatView). t.faults)) h.1
+faults_placed resident old placed (inr h) =
+    ap (map (λ (t : SeatView). t.faults)) h.1.3 ∙ same_listed old h.1.0 h.1.1 h.1.2.at (λ (t : SeatView). t.faults) (record h.1.1 { loaded = None }) refl
+
+pub length_placed : (resident : ℕ) (old placed : List SeatView) → MakesPlace resident old placed → length placed ≡ length old
+length_placed resident old placed (inl h) = ap length h.1
+length_placed resident old placed (inr h) = ap length h.1.3 ∙ length-set old h.1.0 (record h.1.1 { loaded = None })
+
+pub seat_read : (xs : List SeatView) (b : ℕ) (d : SeatView) → b < length xs → slice_get xs b ≡ Some (get_or xs b d)
+seat_read xs b d lt = slice_get-get_or xs b d lt
+
+-- a seat is read into the place
+module _ (resident : ℕ) (old placed : List SeatView) (made : MakesPlace resident old placed) (b : ℕ) (was : SeatView) (at_old : slice_get old b ≡ Some was) (away : is_some was.loaded ≡ false)
+    (seat : SeatView) (at_b : slice_get placed b ≡ Some seat) (new : SeatView) where
+  pub loads_by : new ≡ record seat { loaded = new.loaded; faults = new.faults }
+      → (new.loaded ≡ seat.loaded) ⊎ ((seat.loaded ≡ None) × (new.loaded ≡ Some (record { base = seat.block.committed; patches = [] })))
+      → Loads resident old b (slice_set placed b new)
+  loads_by same either = record {
+    placed = placed;
+    place = made;
+    seat = seat;
+    at = at_b;
+    away = none;
+    loaded = new.loaded;
+    faults = new.faults;
+    read = elim either [ inl as_was ↦ inl (as_was ∙ none) | inr is_read ↦ inr is_read.1 ];
+    seats = ap (slice_set placed b) same;
+  }
+    where
+      none : seat.loaded ≡ None
+      none = away_placed resident old placed b seat at_b made was at_old away
+
+  -- it is in memory
+  pub there_by : is_some new.loaded ≡ true → IsLoadedAt (slice_set placed b new) b
+  there_by there = record {
+    seat = new;
+    at = slice_get-get_or (slice_set placed b new) b new (rw length-set (slice_get_within placed b seat at_b)) ∙ ap Some (get_or-set_same placed b new new (slice_get_within placed b seat at_b));
+    there = there;
+  }
+
+  -- its slot's faults rose
+  pub rose_by : seat.faults < new.faults → faults_rose (map (λ (t : SeatView). t.faults) old) (map (λ (t : SeatView). t.faults) (slice_set placed b new)) b ≡ true
+  rose_by more =
+      rw (← faults_placed resident old placed made, listed placed b seat at_b (λ (t : SeatView). t.faults) 0, listed_new placed b seat at_b (λ (t : SeatView). t.faults) 0 new)
+      (lt-ltb seat.faults new.faults more)

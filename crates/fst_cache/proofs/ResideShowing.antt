@@ -1,0 +1,39 @@
+-- Why a block that has room is not shown: its load was refused.
+use Rattle.std.proofs.Common.{◌≡◌, ◌⊎◌, ℕ, Bool, true, false, List, map, refl, sym, ◌∙◌, subst, inl, inr, Result, Err, IsErr}
+use Rattle.std.specs.Prelude.{IsErrOf}
+use Rattle.std.proofs.lemmas.Bool.{both_ways}
+use Rattle.fst_types.specs.declared.fault.Fault.{Fault}
+use Rattle.fst_types.specs.declared.fault.Fault.TheVariants as fault
+use Rattle.fst_types.specs.State.{State}
+use Rattle.fst_types.specs.Counts.{is_dirty}
+use Rattle.fst_types.specs.Residence.{faults_rose}
+use Rattle.fst_types.specs.Events.{Show, Refused}
+use Rattle.fst_types.specs.Order.{order, IsLoadFault}
+use Rattle.fst_types.specs.Refusals.{NoneHolds}
+use Rattle.fst_types.specs.Step.{Step, refused}
+use Rattle.fst_graph.specs.Known.{Known}
+use Rattle.fst_cache.specs.Seats.{SeatView, blocks}
+use Rattle.fst_cache.specs.Residing.{Loads}
+use Rattle.fst_cache.specs.Kept.{IsKept}
+use Rattle.fst_cache.proofs.ResideLoading.{loads_clean}
+
+same_fault : {T : Type 0} {f g : Fault} → ◌≡◌ {A = Result T Fault} (Err f) (Err g) → f ≡ g
+same_fault e = cc
+
+-- a load is refused for want of memory, or by the device, whose faults rose
+pub load_fault : {T : Type 0} (r : Result T Fault) (f : Fault) (rose : Bool) → r ≡ Err f → (IsErr r → IsErrOf r fault.Device ⊎ IsErrOf r fault.Memory) → (IsErrOf r fault.Device → rose ≡ true) → IsLoadFault rose f
+load_fault r f rose is kinds device =
+    elim (kinds (subst IsErr (sym is) refl)) [
+      | inl by_device ↦ inr (same_fault (sym is ∙ by_device), device by_device)
+      | inr memory ↦ inl (same_fault (sym is ∙ memory))
+    ]
+
+abbrev faults_of : List SeatView → List ℕ
+faults_of seats = map (λ (t : SeatView). t.faults) seats
+
+pub step_not_loaded : (s : State) (graph : Known) (seats : List SeatView) → IsKept s graph seats → s.blocks ≡ blocks seats → (b : ℕ) (new : List SeatView) (f : Fault)
+    → NoneHolds (order s (Show b false)) → Loads s.resident seats b new → IsLoadFault (faults_rose (map (λ (t : SeatView). t.faults) seats) (map (λ (t : SeatView). t.faults) new) b) f
+    → Step s (Show b (faults_rose (map (λ (t : SeatView). t.faults) seats) (map (λ (t : SeatView). t.faults) new) b)) (Refused f) s
+step_not_loaded s graph seats K same b new f clear L load =
+    refused {event = Show b (faults_rose (faults_of seats) (faults_of new) b)} {fault = f}
+    (inr (clear, ((λ d. both_ways (is_dirty s.heads b) (loads_clean s graph seats K same b new L) d), load)))

@@ -1,0 +1,122 @@
+-- The image of a write: what is committed, with the chosen changes of the block over it.
+use Rattle.std.specs.Prelude.{◌&&◌, not}
+use Rattle.std.proofs.Common.{◌≡◌, ◌≤◌, ℕ, Bool, true, false, List, [], ◌∷◌, map, Option, Some, IsSome, None, refl, sym, ap, subst, ◌∙◌, arith, length, get_or, slice_get, IfSome}
+use Rattle.std.proofs.lemmas.List.{length-map}
+use Rattle.std.proofs.lemmas.List.Folds.{list_any_at}
+use Rattle.std.proofs.lemmas.Option.{slice_get_read}
+use Rattle.fst_types.specs.declared.number.PatchNo.{PatchNo}
+use Rattle.fst_types.specs.declared.place.Place.{Place}
+use Rattle.fst_types.specs.declared.place.Place.TheVariants as place
+use Rattle.fst_types.specs.Patches.{Patch}
+use Rattle.fst_types.specs.Tests.{is_at, is_live, is_on, is_among}
+use Rattle.fst_types.specs.Fold.{Write, fold}
+use Rattle.fst_types.specs.State.{State, BlockState, Flight, block_of, committed}
+use Rattle.fst_types.specs.Bytes.{write_of, base_under, image_of, patches_of}
+use Rattle.fst_types.specs.Counts.{IsDirty}
+use Rattle.fst_types.specs.Facts.{IsLawful}
+use Rattle.fst_types.specs.Writable.{IsInMemoryOn, IsWritableSet}
+use Rattle.fst_types.specs.Events.{Issue}
+use Rattle.fst_types.specs.Order.{order}
+use Rattle.fst_types.specs.Refusals.{NoneHolds}
+use Rattle.fst_types.proofs.Finite.{Contains-from_In}
+use Rattle.fst_types.proofs.Fits.{fold_length, all_fit}
+use Rattle.fst_types.proofs.Landing.{at_change}
+use Rattle.fst_types.proofs.Numbers.{both}
+use Rattle.fst_block.specs.BlockView.{BlockView, fold_of, write_of as block_write}
+use Rattle.fst_block.specs.Choices.{IsChoice, chosen_of}
+use Rattle.fst_graph.specs.Known.{Known}
+use Rattle.fst_cache.specs.Names.{numbers_of}
+use Rattle.fst_cache.specs.Views.{CacheView}
+use Rattle.fst_cache.specs.Seats.{SeatView, blocks}
+use Rattle.fst_cache.specs.Kept.{IsKept, state_of, view_of, block_patch, block_patches, block_view}
+use Rattle.fst_cache.proofs.Kept.{block_here}
+use Rattle.fst_cache.proofs.SendSet.{early_in_set, chosen_part, at_home, there, ready, is_choice}
+
+-- the block's writes are those of its changes
+same_writes : (s : State) (ps : List Patch) → map block_write (map (block_patch s.contents) ps) ≡ map (write_of s) ps
+same_writes s [] = refl
+same_writes s (p ∷ ps) = ap (λ (ws : List Write). write_of s p ∷ ws) (same_writes s ps)
+
+-- a change in memory makes its block dirty
+dirty_with : (s : State) (b : ℕ) (p : Patch) → IsInMemoryOn s.heads b p → IsDirty s b
+dirty_with s b p m =
+    let k = both (is_at p.place place.Memory) (is_on b p.kind) (at_change place.Memory b p m.change m.memory) in
+    list_any_at (λ q. is_live q && is_on b q.kind) s.heads m.head.0 p m.head.1 (subst (λ (q : Patch). (is_live q && is_on b q.kind) ≡ true) (sym m.head.2) (live p.place (is_on b p.kind) m.memory k.1))
+  where
+    live : (q : Place) (x : Bool) → q ≡ place.Memory → x ≡ true → (not (is_at q place.Disk) && x) ≡ true
+    live place.Memory x e f = f
+    live place.Flight x e f = cc
+    live place.Disk x e f = cc
+
+-- a write of the chosen may go out of the block with this seat
+pub record MaySend (s : State) (graph : Known) (seats : List SeatView) (b : ℕ) (seat : SeatView) (names : List PatchNo) : Type 0 where
+  pub kept : IsKept s graph seats
+  pub at_b : slice_get seats b ≡ Some seat
+  pub same : s.blocks ≡ blocks seats
+  pub choice : IsWritableSet s.heads b (numbers_of names)
+  pub clear : NoneHolds (order s (Issue b))
+
+pub may_send : (size resident tickets made : ℕ) (graph : Known) (contents : List (ℕ × List ℕ)) (seats : List SeatView) (now : CacheView)
+    → view_of (state_of size resident tickets made graph contents seats) seats ≡ now → IsKept (state_of size resident tickets made graph contents seats) graph seats
+    → (b : ℕ) (seat : SeatView) (names : List PatchNo) → NoneHolds (order now.state (Issue b)) → IsWritableSet now.state.heads b (numbers_of names) → seat ≡ get_or seats b seat
+    → MaySend (state_of size resident tickets made graph contents seats) graph seats b seat names
+may_send size resident tickets made graph contents seats now view K b seat names clear choice value =
+    let s = state_of size resident tickets made graph contents seats in
+    let free : NoneHolds (order s (Issue b)) = rw (← view) at clear in
+    let past : length seats ≤ b → ⊥ = rw length-map at free.0 in
+    record {
+      kept = K;
+      at_b = slice_get_read seats (length seats) b seat refl (omega (arith, past)) value;
+      same = refl;
+      choice = rw (← view) at choice;
+      clear = free;
+    }
+
+module _ (s : State) (graph : Known) (seats : List SeatView) (b : ℕ) (seat : SeatView) (names : List PatchNo) (S : MaySend s graph seats b seat names) where
+  abbrev law : IsLawful s
+  law = S.kept.lawful
+
+  -- a block with a change that may be written is in memory, as the state says
+  pub loaded_is : seat.loaded ≡ Some (block_view s b)
+  loaded_is =
+      let r = ready s law b names S.choice S.clear in
+      let k = S.kept.seat b seat S.at_b in
+      of_some seat.loaded (k.dirty (dirty_with s b r.0 r.1.in_memory)) k.loaded
+    where
+      of_some : (o : Option BlockView) → IsSome o → ((l : BlockView) → o ≡ Some l → l ≡ block_view s b) → o ≡ Some (block_view s b)
+      of_some None some is = absurd (wrong some)
+        where
+          wrong : false ≡ true → ⊥
+          wrong e = cc
+      of_some (Some l) some is = ap Some (is l refl)
+
+  pub block_is : block_of s b ≡ seat.block
+  block_is = rw S.same (block_here seats b seat S.at_b)
+
+  pub idle : seat.block.flight ≡ None
+  idle = ap (λ (v : BlockState). v.flight) (sym block_is) ∙ at_home s law b names S.choice S.clear
+
+  pub chosen_here : IfSome seat.loaded (λ l. IsChoice l.patches names)
+  chosen_here = rw loaded_is (is_choice s law b names S.choice S.clear)
+
+  -- the image is what the block makes of the chosen
+  pub image_is : fold_of (block_view s b).base (chosen_of names (block_patches s b)) ≡ image_of s b (numbers_of names)
+  image_is =
+      ap (λ (f : Option Flight). fold_of (base_under (committed s b) f) (chosen_of names (block_patches s b))) (at_home s law b names S.choice S.clear)
+      ∙ (ap (fold_of (committed s b)) (chosen_part s law b names S.choice) ∙ ap (fold (committed s b)) (same_writes s (patches_of s (numbers_of names))))
+
+  pub folded_here : (image : List ℕ) → image ≡ image_of s b (numbers_of names) → IfSome seat.loaded (λ l. image ≡ fold_of l.base (chosen_of names l.patches))
+  folded_here image e = rw loaded_is (e ∙ sym image_is)
+
+  -- and has the block's size
+  pub image_sized : length (image_of s b (numbers_of names)) ≡ length seat.block.committed
+  image_sized =
+      let sized = law.changes_fit.sized b (there s law b names S.choice S.clear) in
+      fold_length (committed s b) (map (write_of s) (patches_of s (numbers_of names)))
+      (all_fit (length (committed s b)) (λ p. is_among (numbers_of names) p.number) (write_of s) s.heads (λ p h e.
+      let head = Contains-from_In s.heads p h in
+      let on = (early_in_set s law b names S.choice p head e).in_memory.change in
+      let i = law.changes_fit.inside p b head on in
+      let w = law.changes_fit.whole p b head on in
+      omega (arith, i.2, w, sized)))
+      ∙ ap (λ (v : BlockState). length v.committed) block_is

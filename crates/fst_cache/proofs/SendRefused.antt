@@ -1,0 +1,135 @@
+-- What `choose`, `pick` and `issue` answer before anything goes out.
+use Rattle.std.proofs.Common.{◌≡◌, ◌+◌, ◌<◌, ◌≤◌, ℕ, Bool, false, List, [], ◌∷◌, map, length, Option, Some, None, IsSome, is_some, cond, refl, sym, ap, subst, ◌∙◌, inl, inr, arith, slice_get, MatchResult, IfOk, IfErr, OnOk, OnErr, Result, Ok, Err}
+use Rattle.std.proofs.lemmas.List.{length-map}
+use Rattle.std.specs.List.{count_by, fold}
+use Rattle.fst_types.specs.declared.number.PatchNo.{PatchNo}
+use Rattle.fst_types.specs.declared.fault.Fault.{Fault}
+use Rattle.fst_types.specs.declared.fault.Fault.TheVariants as fault
+use Rattle.fst_types.specs.declared.fault.What.TheVariants as what
+use Rattle.fst_types.specs.Patches.{Patch}
+use Rattle.fst_types.specs.Writable.{HasReady, IsHeld, IsLeastHeld, IsWritableSet}
+use Rattle.fst_types.specs.State.{State, Flight, BlockState, flight_of}
+use Rattle.fst_types.specs.Counts.{flights}
+use Rattle.fst_types.specs.Limits.{max_flights, max_ticket}
+use Rattle.fst_types.specs.Facts.{IsLawful}
+use Rattle.fst_types.specs.Events.{Choose, Chosen, Issue, Refused}
+use Rattle.fst_types.specs.Order.{order, IsRefusal}
+use Rattle.fst_types.specs.Refusals.{NoneHolds}
+use Rattle.fst_types.specs.Step.{Step, accepted, refused, choose}
+use Rattle.fst_types.proofs.Finite.{In, In-from_Contains}
+use Rattle.fst_graph.specs.Known.{Known, unprepared, IsStuckByGates as GraphIsStuckByGates}
+use Rattle.fst_cache.specs.Seats.{SeatView, blocks}
+use Rattle.fst_cache.specs.Kept.{IsKept, state_of}
+use Rattle.fst_cache.specs.Replies.{IsStuckByGates}
+use Rattle.fst_cache.proofs.Kept.{block_here, within}
+
+-- the graph has nothing prepared any more: the rest is as it was
+module _ (size resident tickets made : ℕ) (graph graph' : Known) (contents : List (ℕ × List ℕ)) (seats : List SeatView) (same : graph' ≡ unprepared graph) where
+  pub kept_still : IsKept (state_of size resident tickets made graph contents seats) graph seats → IsKept (state_of size resident tickets made graph' contents seats) graph' seats
+  kept_still K = rw same (record { lawful = K.lawful; few = K.few; small = K.small; graph_blocks = K.graph_blocks; loaded = K.loaded; seat = K.seat })
+
+-- what may be written, or no memory for it
+pub step_choose : {V : Type 0} (names : V → List ℕ) (s : State) (b : ℕ) (r : Result V Fault) → (length s.blocks ≤ b → ⊥)
+    → IfOk r (λ v. IsWritableSet s.heads b (names v)) → IfErr r (λ f. HasReady s.heads b × (f ≡ fault.Memory))
+    → MatchResult r (λ v. Step s (Choose b) (Chosen (names v)) s) (λ f. Step s (Choose b) (Refused f) s)
+step_choose names s b (Ok v) there ok err = accepted (there, tt) (choose ok)
+step_choose names s b (Err f) there ok err = refused (inr ((there, tt), err))
+
+-- where no block has a flight nothing is in flight
+pub never_stuck : (s : State) → IsLawful s → GraphIsStuckByGates s.heads → IsStuckByGates s
+never_stuck s law stuck home = stuck (λ p h flies.
+    let on = law.heads.on_disk_with_all.only_changes_fly p h flies in
+    let k = law.flights_have_changes.kept on.0 p (record { head = h; change = on.1; flight = flies }) in
+    none_some k.0 (sym (home on.0) ∙ k.1))
+  where
+    none_some : (f : Flight) → None ≡ Some f → ⊥
+    none_some f e = cc
+
+-- a choice that is not known to be empty
+module _ {V : Type 0} (items : V → List PatchNo) (heads : List Patch) (b : ℕ) where
+  abbrev numbers : V → List ℕ
+  numbers v = map (λ (n : PatchNo). n.0) (items v)
+
+  some_of : (ns : List PatchNo) → (ns ≡ [] → ⊥) → IsWritableSet heads b (map (λ (n : PatchNo). n.0) ns) → HasReady heads b
+  some_of [] more set = absurd (more refl)
+  some_of (n ∷ ns) more set = let r = set.only n.0 (0, omega arith, refl) in (r.0, r.2)
+
+  pub has_ready : (r : Result V Fault) → IfOk r (λ v. IsWritableSet heads b (numbers v)) → IfErr r (λ f. HasReady heads b × (f ≡ fault.Memory))
+      → (IfOk r (λ v. items v ≡ []) × OnErr r ⊥ → ⊥) → HasReady heads b
+  has_ready (Ok v) ok err more = some_of (items v) (λ e. more (e, tt)) ok
+  has_ready (Err f) ok err more = err.0
+
+  pub none_ready : (r : Result V Fault) → IfOk r (λ v. IsWritableSet heads b (numbers v)) → IfOk r (λ v. items v ≡ []) × OnErr r ⊥ → HasReady heads b → ⊥
+  none_ready (Ok v) ok none ready =
+      subst (λ (ns : List PatchNo). In (map (λ (n : PatchNo). n.0) ns) ready.0.number) none.0 (In-from_Contains (numbers v) ready.0.number (ok.each ready.0.number (ready.0, refl, ready.1)))
+  none_ready (Err f) ok none ready = none.1
+
+-- a count of mapped items
+count_mapped : {X Y : Type 0} (h : X → Y) (p : Y → Bool) (n : ℕ) (xs : List X) → fold (λ a y. a + cond (p y) 1 0) n (map h xs) ≡ fold (λ a x. a + cond (p (h x)) 1 0) n xs
+count_mapped h p n [] = refl
+count_mapped h p n (x ∷ xs) = count_mapped h p (n + cond (p (h x)) 1 0) xs
+
+-- the flights, told from the seats
+pub flights_of_seats : (seats : List SeatView) → count_by (λ b. is_some b.flight) (blocks seats) ≡ count_by (λ (s : SeatView). is_some s.block.flight) seats
+flights_of_seats seats = count_mapped (λ (s : SeatView). s.block) (λ b. is_some b.flight) 0 seats
+
+pub not_there : (seats : List SeatView) (b : ℕ) (seat : SeatView) → slice_get seats b ≡ Some seat → length (blocks seats) ≤ b → ⊥
+not_there seats b seat at_b past = let lt = within seats b seat at_b in let few : length seats ≤ b = rw length-map at past in omega (arith, few, lt)
+
+-- a block with this seat that is not busy
+pub not_busy : (s : State) (seats : List SeatView) (b : ℕ) (seat : SeatView) → s.blocks ≡ blocks seats → slice_get seats b ≡ Some seat → is_some seat.block.flight ≡ false → IsSome (flight_of s b) → ⊥
+not_busy s seats b seat same at_b idle busy = home (flight_of s b) seat.block.flight (rw same (ap (λ (v : BlockState). v.flight) (block_here seats b seat at_b))) idle busy
+  where
+    home : (o p : Option Flight) → o ≡ p → is_some p ≡ false → IsSome o → ⊥
+    home o p e f h = cc
+
+-- no memory for what may be written
+pub refused_memory : {V : Type 0} (s : State) (b : ℕ) (r : Result V Fault) → NoneHolds (order s (Issue b)) → IfErr r (λ f. HasReady s.heads b × (f ≡ fault.Memory)) → IfErr r (λ f. IsRefusal s (Issue b) f)
+refused_memory s b (Ok v) clear err = err
+refused_memory s b (Err f) clear err = inr (clear, err.1)
+
+pub on_ok : {V E : Type 0} (r : Result V E) (P : Type 0) → P → OnOk r P
+on_ok (Ok v) P p = p
+on_ok (Err e) P p = tt
+
+-- why a write of a block that is not busy cannot go out
+module _ (size resident tickets made : ℕ) (graph : Known) (contents : List (ℕ × List ℕ)) (seats : List SeatView) (b : ℕ) (seat : SeatView)
+    (at_b : slice_get seats b ≡ Some seat) (idle : is_some seat.block.flight ≡ false) where
+  abbrev s : State
+  s = state_of size resident tickets made graph contents seats
+
+  busy : IsSome (flight_of s b) → ⊥
+  busy = not_busy s seats b seat refl at_b idle
+
+  pub nothing_ready : (HasReady graph.heads b → ⊥) → IsRefusal s (Issue b) fault.NothingReady
+  nothing_ready none = inl (inr (not_there seats b seat at_b, inr (busy, inl (none, refl))))
+
+  -- the graph was asked once before, and has nothing prepared any more
+  module _ (ready : HasReady graph.heads b) (asked : Known) (same : asked ≡ unprepared graph) where
+    pub hard_held : (n : PatchNo) → IsLeastHeld asked.heads b n.0 → IsRefusal s (Issue b) (fault.HardHeld n)
+    hard_held n least =
+        let l : IsLeastHeld graph.heads b n.0 = rw same at least in
+        inl (inr (not_there seats b seat at_b, inr (busy, inr ((λ none. none ready), inl ((l.patch, l.held), (n, refl, l))))))
+
+    module _ (none_held : (p : Patch) → IsHeld asked.heads b p → ⊥) where
+      free : (p : Patch) → IsHeld graph.heads b p → ⊥
+      free = rw same at none_held
+
+      flights_are : flights s ≡ count_by (λ (x : SeatView). is_some x.block.flight) seats
+      flights_are = flights_of_seats seats
+
+      pub full_flights : max_flights ≤ count_by (λ (x : SeatView). is_some x.block.flight) seats → IsRefusal s (Issue b) (fault.Full what.Flights)
+      full_flights many =
+          let count = flights_are in
+          inl (inr (not_there seats b seat at_b, inr (busy, inr ((λ none. none ready), inr ((λ h. free h.0 h.1), inl (omega (arith, many, count), refl))))))
+
+      module _ (few : count_by (λ (x : SeatView). is_some x.block.flight) seats < max_flights) where
+        not_full : max_flights ≤ flights s → ⊥
+        not_full m = let count = flights_are in omega (arith, m, few, count)
+
+        pub full_tickets : max_ticket ≤ tickets → IsRefusal s (Issue b) (fault.Full what.Tickets)
+        full_tickets out =
+            inl (inr (not_there seats b seat at_b, inr (busy, inr ((λ none. none ready), inr ((λ h. free h.0 h.1), inr (not_full, inl (out, refl)))))))
+
+        pub all_clear : tickets < max_ticket → NoneHolds (order s (Issue b))
+        all_clear left = (not_there seats b seat at_b, (busy, ((λ none. none ready), ((λ h. free h.0 h.1), (not_full, ((λ out. omega (arith, out, left)), tt))))))

@@ -1,0 +1,31 @@
+use Rattle.std.proofs.Common.{ap, ◌∙◌}
+use Rattle.std.proofs.lemmas.Result.{on_err_weaker}
+use Rattle.fst_types.specs.Events.{Depend}
+use Rattle.fst_types.specs.State.{State}
+use Rattle.fst_cache.specs.Names.{numbers_of}
+use Rattle.fst_cache.specs.Kept.{view_of}
+use Rattle.fst_cache.proofs.SameRefused.{state_unprepared, kept_unprepared, step_unprepared, on_either, match_either}
+use Rattle.fst_cache.proofs.SameGating.{kept_depend, step_depend}
+use Rattle.fst_cache.proofs.cache.Cache.depend.Goals as goal
+
+pub invariant_of-self : goal.invariant_of-self
+invariant_of-self g c =
+    let i = c.self.inside in
+    on_either c.depend.result c.depend.ensures.ok c.depend.ensures.same
+    (kept_depend i.size i.resident i.tickets i.made i.graph c.depend.new.self i.contents.items i.seats.items c.self.invariant c.args.gate.0 (numbers_of c.args.on.now))
+    (λ same. kept_unprepared i.size i.resident i.tickets i.made i.graph c.depend.new.self i.contents.items i.seats.items same c.self.invariant)
+
+pub returns-clause-step : goal.returns-clause-step
+returns-clause-step g c =
+    let i = c.self.inside in
+    rw (← c.self.view_is)
+    (match_either c.depend.result c.depend.ensures.ok c.depend.ensures.same c.depend.ensures.refused
+    (step_depend i.size i.resident i.tickets i.made i.graph c.depend.new.self i.contents.items i.seats.items c.self.invariant c.args.gate.0 (numbers_of c.args.on.now))
+    (λ fault same why. step_unprepared i.size i.resident i.tickets i.made i.graph c.depend.new.self i.contents.items i.seats.items same (Depend c.args.gate.0 (numbers_of c.args.on.now)) fault why))
+
+pub returns-clause-refused : goal.returns-clause-refused
+returns-clause-refused g c =
+    let i = c.self.inside in
+    on_err_weaker c.depend.result
+    (λ same. ap (λ (s : State). view_of s i.seats.items) (state_unprepared i.size i.resident i.tickets i.made i.graph c.depend.new.self i.contents.items i.seats.items same) ∙ c.self.view_is)
+    c.depend.ensures.same

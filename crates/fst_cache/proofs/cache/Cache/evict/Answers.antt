@@ -1,0 +1,45 @@
+use Rattle.std.proofs.Common.{◌≡◌, ◌<◌, Some, None, refl, ◌∙◌, slice_get, length, inl}
+use Rattle.std.proofs.lemmas.Bool.{false_from_ne_true}
+use Rattle.std.proofs.lemmas.Option.{slice_get_read}
+use Rattle.std.proofs.lemmas.List.{length-map}
+use Rattle.fst_types.specs.Events.{Evict}
+use Rattle.fst_types.specs.Order.{order}
+use Rattle.fst_types.specs.Refusals.{NoneHolds}
+use Rattle.fst_types.specs.Step.{accepted, refused, evict}
+use Rattle.fst_cache.specs.Seats.{SeatView}
+use Rattle.fst_cache.specs.Kept.{state_of}
+use Rattle.fst_cache.proofs.Kept.{same_listed}
+use Rattle.fst_cache.proofs.ResideSeats.{dirty_is}
+use Rattle.fst_cache.proofs.ResideLoading.{unloaded, view_unloaded, within_of}
+use Rattle.fst_cache.proofs.cache.Cache.evict.Goals as goal
+
+pub returns-in-Some-clause-step : goal.returns-in-Some-clause-step
+returns-in-Some-clause-step g c = refused (inl c.in-Some.ensures)
+
+pub invariant_of-self : goal.invariant_of-self
+invariant_of-self g c =
+    let i = c.self.inside in
+    let s = state_of i.size i.resident i.tickets i.made i.graph i.contents.items i.seats.items in
+    let clear : NoneHolds (order c.args.self.now.state (Evict c.args.block.0)) = c.in_default.ensures in
+    let lt : c.args.block.0 < length i.seats.items = within_of (length i.seats.items) c.args.block.0 (rw (← c.self.view_is, length-map) at clear.0) in
+    let seated : slice_get i.seats.items c.args.block.0 ≡ Some c.index_mut.result.now = slice_get_read i.seats.items _ _ _ refl lt c.index_mut.ensures.value in
+    let clean = dirty_is s i.graph i.seats.items c.self.invariant refl _ _ seated ∙ false_from_ne_true _ (rw (← c.self.view_is) at clear.1.0) in
+    rw (c.unload.ensures, same_listed i.seats.items c.args.block.0 _ seated (λ (t : SeatView). t.block) (record c.index_mut.result.now { loaded = None }) refl)
+    (unloaded s i.graph i.seats.items c.self.invariant refl _ _ seated clean)
+
+pub returns-clause-step : goal.returns-clause-step
+returns-clause-step g c =
+    let i = c.self.inside in
+    let clear : NoneHolds (order c.args.self.now.state (Evict c.args.block.0)) = c.in_default.ensures in
+    let lt : c.args.block.0 < length i.seats.items = within_of (length i.seats.items) c.args.block.0 (rw (← c.self.view_is, length-map) at clear.0) in
+    let seated : slice_get i.seats.items c.args.block.0 ≡ Some c.index_mut.result.now = slice_get_read i.seats.items _ _ _ refl lt c.index_mut.ensures.value in
+    rw (← c.self.view_is, c.unload.ensures, same_listed i.seats.items c.args.block.0 _ seated (λ (t : SeatView). t.block) (record c.index_mut.result.now { loaded = None }) refl)
+    (accepted (rw (← c.self.view_is) at clear) evict)
+
+pub returns-clause-evicted : goal.returns-clause-evicted
+returns-clause-evicted g c =
+    let i = c.self.inside in
+    let clear : NoneHolds (order c.args.self.now.state (Evict c.args.block.0)) = c.in_default.ensures in
+    let lt : c.args.block.0 < length i.seats.items = within_of (length i.seats.items) c.args.block.0 (rw (← c.self.view_is, length-map) at clear.0) in
+    let seated : slice_get i.seats.items c.args.block.0 ≡ Some c.index_mut.result.now = slice_get_read i.seats.items _ _ _ refl lt c.index_mut.ensures.value in
+    rw (← c.self.view_is) (view_unloaded i.size i.resident i.tickets i.made i.graph i.contents.items i.seats.items c.args.block.0 c.index_mut.result.now seated c.unload.new.self c.unload.ensures)

@@ -1,0 +1,36 @@
+use Rattle.std.proofs.Common.{◌≤◌, inl, refl, arith}
+use Rattle.std.proofs.lemmas.Result.{err_from_is_err_and}
+use Rattle.fst_types.specs.Limits.{max_share}
+use Rattle.fst_types.specs.Events.{MakeGate}
+use Rattle.fst_types.specs.Order.{room_order}
+use Rattle.fst_types.specs.Step.{refused}
+use Rattle.fst_cache.proofs.SameRefused.{refuses_past, kept_unprepared, step_unprepared}
+use Rattle.fst_cache.proofs.SameMaking.{kept_gate, step_gate}
+use Rattle.fst_cache.proofs.cache.Cache.gate.Goals as goal
+
+pub returns-then-made-eq18446744073709551615-clause-step :
+    goal.returns-then-made-eq18446744073709551615-clause-step
+returns-then-made-eq18446744073709551615-clause-step g c = refused (inl (inl (omega arith, refl)))
+
+pub invariant_of-self : goal.invariant_of-self
+invariant_of-self g c =
+    let i = c.self.inside in
+    kept_unprepared i.size i.resident i.tickets i.made i.graph c.add_gate.new.self i.contents.items i.seats.items c.in_err-no.ensures.same c.self.invariant
+
+pub returns-in_err-no-clause-step : goal.returns-in_err-no-clause-step
+returns-in_err-no-clause-step g c =
+    let i = c.self.inside in
+    let p = err_from_is_err_and c.from_residual.result c.from_residual.ensures.1 in
+    let free : max_share ≤ c.args.share.now → ⊥ = λ h. omega arith in
+    rw (p.1, ← c.self.view_is) (step_unprepared i.size i.resident i.tickets i.made i.graph c.add_gate.new.self i.contents.items i.seats.items c.in_err-no.ensures.same
+    (MakeGate c.args.share.now) p.0 (rw p.2 (refuses_past _ _ _ (room_order i.graph.heads i.graph.numbers) free c.in_err-no.ensures.refused)))
+
+pub invariant_of-self-2 : goal.invariant_of-self-2
+invariant_of-self-2 g c =
+    let i = c.self.inside in
+    kept_gate i.size i.resident i.tickets i.made i.graph c.add_gate.new.self i.contents.items i.seats.items c.self.invariant c.args.share.now _ (λ h. omega arith) c.in_ok-no.ensures.ok
+
+pub returns-clause-step : goal.returns-clause-step
+returns-clause-step g c =
+    let i = c.self.inside in
+    rw (← c.self.view_is) (step_gate i.size i.resident i.tickets i.made i.graph c.add_gate.new.self i.contents.items i.seats.items c.self.invariant c.args.share.now _ (λ h. omega arith) c.in_ok-no.ensures.ok)

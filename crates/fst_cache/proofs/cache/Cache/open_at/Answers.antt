@@ -1,0 +1,43 @@
+use Rattle.std.proofs.Common.{◌≡◌, ◌≤◌, map, arith, inl, inr, refl, ap, subst, sym}
+use Rattle.fst_types.specs.Limits.{max_number, max_ticket}
+use Rattle.fst_types.specs.Order.{open_order}
+use Rattle.fst_types.specs.Refusals.{IsFirst, NoneHolds}
+use Rattle.fst_cache.specs.Seats.{SeatView, seats_of}
+use Rattle.fst_cache.specs.Kept.{IsKept, state_of, view_of}
+use Rattle.fst_cache.proofs.Opened.{opened_kept, opened_view}
+use Rattle.fst_cache.proofs.cache.Cache.open_at.Goals as goal
+
+pub returns-in-Some-clause-refused : goal.returns-in-Some-clause-refused
+returns-in-Some-clause-refused g c =
+    let first : IsFirst (open_order c.args.shape.blocks c.args.shape.size (map g.S.BlockSlot.index c.args.slots.items) (map g.S.BlockSlot.size c.args.slots.items)) c.in-Some.fault =
+    rw c.deref.ensures.value at c.in-Some.ensures in
+    inl first
+
+pub returns-in_default-with_capacity-clause-refused : goal.returns-in_default-with_capacity-clause-refused
+returns-in_default-with_capacity-clause-refused g c =
+    let free : NoneHolds (open_order c.args.shape.blocks c.args.shape.size (map g.S.BlockSlot.index c.args.slots.items) (map g.S.BlockSlot.size c.args.slots.items)) =
+    rw c.deref.ensures.value at c.in_default.ensures in
+    inr (free, refl)
+
+pub invariant_of-result : goal.invariant_of-result
+invariant_of-result g c =
+    let free : NoneHolds (open_order c.args.shape.blocks c.args.shape.size (map g.S.BlockSlot.index c.args.slots.items) (map g.S.BlockSlot.size c.args.slots.items)) =
+    rw c.deref.ensures.value at c.in_default.ensures in
+    let given : c.args.numbers ≤ max_number = omega (arith, c.ranges.numbers.fits) in
+    let sent : c.args.tickets ≤ max_ticket = omega (arith, c.ranges.tickets.fits) in
+    rw (c.in-Ok.ensures, c.none.ensures, c.seated.ensures)
+    (opened_kept g.S.BlockSlot.held g.S.BlockSlot.index g.S.BlockSlot.size g.S.BlockSlot.faults g.met.S.BlockSlot.held_fills c.args.slots.items c.args.shape.blocks c.args.shape.size c.args.shape.resident c.args.numbers c.args.tickets
+    c.args.shape.within.few_blocks c.args.shape.within.few_bytes given sent free)
+
+pub returns-clause-opened : goal.returns-clause-opened
+returns-clause-opened g c =
+    let free : NoneHolds (open_order c.args.shape.blocks c.args.shape.size (map g.S.BlockSlot.index c.args.slots.items) (map g.S.BlockSlot.size c.args.slots.items)) =
+    rw c.deref.ensures.value at c.in_default.ensures in
+    let given : c.args.numbers ≤ max_number = omega (arith, c.ranges.numbers.fits) in
+    let sent : c.args.tickets ≤ max_ticket = omega (arith, c.ranges.tickets.fits) in
+    rw (c.in-Ok.ensures, c.none.ensures, c.seated.ensures)
+    (opened_view g.S.BlockSlot.held g.S.BlockSlot.index g.S.BlockSlot.size g.S.BlockSlot.faults g.met.S.BlockSlot.held_fills c.args.slots.items c.args.shape.blocks c.args.shape.size c.args.shape.resident c.args.numbers c.args.tickets
+    c.args.shape.within.few_blocks c.args.shape.within.few_bytes given sent free)
+
+pub returns-clause-fits : goal.returns-clause-fits
+returns-clause-fits g c = rw c.deref.ensures.value at c.in_default.ensures

@@ -1,0 +1,30 @@
+use Rattle.std.proofs.lemmas.Result.{on_ok_weaker, err_from_is_err_and}
+use Rattle.fst_cache.proofs.MakePut.{on_refusal, memory_kind, inside_of, newest_of, puts_of, same_load, read_at}
+use Rattle.fst_cache.proofs.cache.making.put.Goals as goal
+
+pub returns-in_err-load-clause-kinds : goal.returns-in_err-load-clause-kinds
+returns-in_err-load-clause-kinds g c = let p = err_from_is_err_and c.from_residual.result c.from_residual.ensures.1 in rw (p.1, p.2) c.in_err-load.ensures.kinds
+
+pub apply-requires-clause-loaded : goal.apply-requires-clause-loaded
+apply-requires-clause-loaded g c = (read_at c.load.new.seats c.args.block.0 c.index-seats-block.result c.in_ok-load.ensures.there).1
+
+pub apply-requires-clause-inside : goal.apply-requires-clause-inside
+apply-requires-clause-inside g c =
+    inside_of c.args.resident c.args.seats.now c.load.new.seats c.args.block.0 _ (read_at c.load.new.seats c.args.block.0 c.index-seats-block.result c.in_ok-load.ensures.there).0 _ c.load.ensures.seats c.requires.inside
+
+pub apply-requires-clause-newest : goal.apply-requires-clause-newest
+apply-requires-clause-newest g c =
+    newest_of c.args.resident c.args.seats.now c.load.new.seats c.args.block.0 _ (read_at c.load.new.seats c.args.block.0 c.index-seats-block.result c.in_ok-load.ensures.there).0 _ c.load.ensures.seats c.requires.newest
+
+pub returns-clause-put : goal.returns-clause-put
+returns-clause-put g c =
+    let r = read_at c.load.new.seats c.args.block.0 c.index-seats-block.result c.in_ok-load.ensures.there in
+    on_ok_weaker c.apply.result (puts_of c.args.resident c.args.seats.now c.load.new.seats c.args.block.0 _ r.0 _ c.apply.new.self c.load.ensures.seats r.1) c.apply.ensures.applied
+
+pub returns-clause-refused : goal.returns-clause-refused
+returns-clause-refused g c =
+    let r = read_at c.load.new.seats c.args.block.0 c.index-seats-block.result c.in_ok-load.ensures.there in
+    λ err. same_load c.args.resident c.args.seats.now c.load.new.seats c.args.block.0 _ r.0 c.apply.new.self c.load.ensures.seats (on_refusal c.apply.result err c.apply.ensures.unchanged)
+
+pub returns-clause-kinds : goal.returns-clause-kinds
+returns-clause-kinds g c = memory_kind c.apply.result c.apply.ensures.only_memory

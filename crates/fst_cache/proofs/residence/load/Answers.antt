@@ -1,0 +1,43 @@
+use Rattle.std.proofs.Common.{◌<◌, ◌∙◌, length, sym, inr, arith}
+use Rattle.std.proofs.lemmas.Result.{on_ok_weaker}
+use Rattle.fst_cache.proofs.ResideReading.{rest_placed, length_placed, seat_read, loads_by, there_by, rose_by}
+use Rattle.fst_cache.proofs.residence.load.Goals as goal
+
+pub load-requires : goal.load-requires
+load-requires g c =
+    let placed = c.make_place.new.seats in
+    let lt : c.args.block.0 < length placed = omega (arith, length_placed _ _ _ c.make_place.ensures, c.requires.within) in
+    let at_b = seat_read placed c.args.block.0 c.index-seats-block-2.result lt in
+    rest_placed c.args.resident c.args.seats.now placed c.args.block.0 _ at_b c.make_place.ensures c.requires.rest
+
+pub returns-clause-seats : goal.returns-clause-seats
+returns-clause-seats g c =
+    let placed = c.make_place.new.seats in
+    let was = seat_read c.args.seats.now c.args.block.0 c.index-seats-block.result c.requires.within in
+    let lt : c.args.block.0 < length placed = omega (arith, length_placed _ _ _ c.make_place.ensures, c.requires.within) in
+    let at_b = seat_read placed c.args.block.0 c.index-seats-block-2.result lt in
+    inr (loads_by c.args.resident c.args.seats.now placed c.make_place.ensures c.args.block.0 _ was (sym c.is_loaded.ensures ∙ c.if-is_loaded.false) _ at_b c.load.new.self c.load.ensures.same c.load.ensures.loaded)
+
+pub returns-clause-there : goal.returns-clause-there
+returns-clause-there g c =
+    let placed = c.make_place.new.seats in
+    let was = seat_read c.args.seats.now c.args.block.0 c.index-seats-block.result c.requires.within in
+    let lt : c.args.block.0 < length placed = omega (arith, length_placed _ _ _ c.make_place.ensures, c.requires.within) in
+    let at_b = seat_read placed c.args.block.0 c.index-seats-block-2.result lt in
+    on_ok_weaker c.load.result (there_by c.args.resident c.args.seats.now placed c.make_place.ensures c.args.block.0 _ was (sym c.is_loaded.ensures ∙ c.if-is_loaded.false) _ at_b c.load.new.self) c.load.ensures.there
+
+pub returns-clause-away : goal.returns-clause-away
+returns-clause-away g c =
+    let placed = c.make_place.new.seats in
+    let was = seat_read c.args.seats.now c.args.block.0 c.index-seats-block.result c.requires.within in
+    let lt : c.args.block.0 < length placed = omega (arith, length_placed _ _ _ c.make_place.ensures, c.requires.within) in
+    let at_b = seat_read placed c.args.block.0 c.index-seats-block-2.result lt in
+    λ _. loads_by c.args.resident c.args.seats.now placed c.make_place.ensures c.args.block.0 _ was (sym c.is_loaded.ensures ∙ c.if-is_loaded.false) _ at_b c.load.new.self c.load.ensures.same c.load.ensures.loaded
+
+pub returns-clause-device : goal.returns-clause-device
+returns-clause-device g c =
+    let placed = c.make_place.new.seats in
+    let was = seat_read c.args.seats.now c.args.block.0 c.index-seats-block.result c.requires.within in
+    let lt : c.args.block.0 < length placed = omega (arith, length_placed _ _ _ c.make_place.ensures, c.requires.within) in
+    let at_b = seat_read placed c.args.block.0 c.index-seats-block-2.result lt in
+    λ device. rose_by c.args.resident c.args.seats.now placed c.make_place.ensures c.args.block.0 _ was (sym c.is_loaded.ensures ∙ c.if-is_loaded.false) _ at_b c.load.new.self (c.load.ensures.device device)

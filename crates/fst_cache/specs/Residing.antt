@@ -1,0 +1,51 @@
+-- Which blocks are in memory.
+use Rattle.std.specs.Prelude.{◌≡◌, ◌<◌, ◌≤◌, ◌⊎◌, ℕ, false, List, [], Option, Some, None, IsSome, is_some, slice_get, slice_set, count_by}
+use Rattle.fst_block.specs.BlockView.{BlockView}
+use Rattle.fst_cache.specs.Seats.{SeatView, is_dirty_seat}
+
+-- how many blocks are in memory
+abbrev pub count_loaded : List SeatView → ℕ
+count_loaded seats = count_by (λ seat. is_some seat.loaded) seats
+
+-- the block is in memory and has no change that is not on disk
+pub record IsCleanLoaded (seat : SeatView) : Type 0 where
+  pub there : IsSome seat.loaded
+  pub clean : is_dirty_seat seat ≡ false
+
+-- the seat of block c is the first such
+pub record IsLeastClean (seats : List SeatView) (c : ℕ) (seat : SeatView) : Type 0 where
+  pub at : slice_get seats c ≡ Some seat
+  pub block : IsCleanLoaded seat
+  pub least : (d : ℕ) (other : SeatView) → slice_get seats d ≡ Some other → IsCleanLoaded other → c ≤ d
+
+-- a place is free, or the first clean block in memory gives up its own
+abbrev pub MakesPlace : ℕ → List SeatView → List SeatView → Type 0
+MakesPlace resident old new =
+    ((count_loaded old < resident) × (new ≡ old))
+    ⊎ ((resident ≤ count_loaded old) × ((c : ℕ) × (seat : SeatView) × IsLeastClean old c seat × (new ≡ slice_set old c (record seat { loaded = None }))))
+
+-- a block that was not in memory is not, or is as it is committed
+abbrev pub IsReadOf : SeatView → Option BlockView → Type 0
+IsReadOf seat loaded = (loaded ≡ None) ⊎ (loaded ≡ Some (record { base = seat.block.committed; patches = [] }))
+
+-- a place is made for block b, which is not in memory, and its slot is read
+pub record Loads (resident : ℕ) (old : List SeatView) (b : ℕ) (new : List SeatView) : Type 0 where
+  pub placed : List SeatView
+  pub place : MakesPlace resident old placed
+  pub seat : SeatView
+  pub at : slice_get placed b ≡ Some seat
+  pub away : seat.loaded ≡ None
+  pub loaded : Option BlockView
+  pub faults : ℕ
+  pub read : IsReadOf seat loaded
+  pub seats : new ≡ slice_set placed b (record seat { loaded = loaded; faults = faults })
+
+-- the seat of block b, and that it is in memory
+pub record IsLoadedAt (seats : List SeatView) (b : ℕ) : Type 0 where
+  pub seat : SeatView
+  pub at : slice_get seats b ≡ Some seat
+  pub there : IsSome seat.loaded
+
+-- a block that is not in memory has no flight
+abbrev pub IsAtRestWhereAway : List SeatView → Type 0
+IsAtRestWhereAway seats = (b : ℕ) (seat : SeatView) → slice_get seats b ≡ Some seat → seat.loaded ≡ None → seat.block.flight ≡ None

@@ -1,0 +1,79 @@
+//! Which blocks are in memory: at most as many as the shape says, and those with a change that is not on disk always.
+//! A block that comes into memory takes a free place, or that of the first block that has no such change.
+
+ghost use Rattle.std.specs.Prelude.{◌≡◌, ◌⊎◌, ◌<◌, ◌≤◌, ℕ, true, None, Some, IfSome, IsErr, IsErrOf, OnOk, MatchOption, length, count_by, map, slice_get};
+ghost use Rattle.fst_types.specs.declared.fault.Fault.{Fault};
+ghost use Rattle.fst_types.specs.Residence.{faults_rose};
+ghost use Rattle.fst_cache.specs.Seats.{SeatView, is_dirty_seat};
+ghost use Rattle.fst_cache.specs.Residing.{count_loaded, IsCleanLoaded, IsLeastClean, MakesPlace, Loads, IsLoadedAt, IsAtRestWhereAway};
+
+use crate::seat::Seat;
+use fst_device::BlockSlot;
+use fst_types::{BlockNo, Fault};
+use std::alloc::Global;
+
+/// How many blocks have a change in memory or in flight.
+pub(crate) fn dirty<S: BlockSlot>(seats: &[Seat<S>]) -> usize
+    ensures { result ≡ count_by is_dirty_seat seats.now }
+{
+    seats.iter().filter(|seat| seat.is_dirty()).count()
+}
+
+/// How many blocks are in memory.
+fn loaded<S: BlockSlot>(seats: &[Seat<S>]) -> usize
+    ensures { result ≡ count_loaded seats.now }
+{
+    seats.iter().filter(|seat| seat.is_loaded()).count()
+}
+
+/// The first block that is in memory and not dirty.
+fn least_clean<S: BlockSlot>(seats: &[Seat<S>]) -> Option<usize>
+    ensures within { IfSome result (λ c. c < length seats.now) }
+    ensures least { MatchOption result
+        ((d : ℕ) (other : SeatView) → slice_get seats.now d ≡ Some other → IsCleanLoaded other → ⊥)
+        (λ c. (seat : SeatView) × IsLeastClean seats.now c seat) }
+{
+    for (at, seat) in seats.iter().enumerate() {
+        if seat.is_loaded() && !seat.is_dirty() {
+            return Some(at);
+        }
+    }
+    None
+}
+
+/// Makes a place in memory for one more block, where some are not dirty.
+fn make_place<S: BlockSlot>(seats: &mut [Seat<S>], resident: u32)
+    requires { count_by is_dirty_seat seats.old < resident }
+    ensures { MakesPlace resident seats.old seats.new }
+{
+    if loaded(seats) < resident as usize {
+        return;
+    }
+    let Some(at) = least_clean(seats) else {
+        unreachable!()
+    };
+    seats[at].unload();
+}
+
+/// Reads a block from its slot, where it is not in memory.
+pub(crate) fn load<S: BlockSlot>(
+    seats: &mut [Seat<S>],
+    alloc: Global,
+    resident: u32,
+    block: BlockNo,
+) -> Result<(), Fault>
+    requires within { block.0 < length seats.old }
+    requires rest { IsAtRestWhereAway seats.old }
+    requires room { (seat : SeatView) → slice_get seats.old block.0 ≡ Some seat → seat.loaded ≡ None → count_by is_dirty_seat seats.old < resident }
+    ensures seats { (IsLoadedAt seats.old block.0 × (seats.new ≡ seats.old)) ⊎ Loads resident seats.old block.0 seats.new }
+    ensures there { OnOk result (IsLoadedAt seats.new block.0) }
+    ensures away { IsErr result → Loads resident seats.old block.0 seats.new }
+    ensures device { IsErrOf result Fault.Device → faults_rose (map (λ seat. seat.faults) seats.old) (map (λ seat. seat.faults) seats.new) block.0 ≡ true }
+    ensures kinds { IsErr result → IsErrOf result Fault.Device ⊎ IsErrOf result Fault.Memory }
+{
+    if seats[block.0 as usize].is_loaded() {
+        return Ok(());
+    }
+    make_place(seats, resident);
+    seats[block.0 as usize].load(alloc)
+}

@@ -1,0 +1,17 @@
+use Rattle.fst_types.specs.Facts.{HardNeverHold}
+use Rattle.fst_graph.specs.Heads.{patches_of}
+use Rattle.fst_graph.proofs.NearRow.{names_under, rests_may}
+use Rattle.fst_graph.proofs.grade.grade_of.Goals as goal
+use Rattle.fst_graph.proofs.grade.grade_of.Goals.{then-names_open_gate-via-then-names_open_gate, then-names_open_gate-via-else-names_open_gate+then-comes_back}
+
+pub returns-then-rests_on_hard : goal.returns-then-rests_on_hard
+returns-then-rests_on_hard c =
+    let heads = c.args.heads.now in
+    let hard : HardNeverHold (patches_of heads) = record { free = c.requires.hard.free; straight = c.requires.hard.straight; acyclic = c.requires.hard.acyclic } in
+    rests_may heads c.requires.rising c.args.block c.args.row.now hard (c.rests_on_hard.ensures.0 c.if-rests_on_hard.true)
+
+pub returns-then-names_open_gate : goal.returns-then-names_open_gate
+returns-then-names_open_gate c may = elim c.then-names_open_gate.branch [
+  | then-names_open_gate-via-then-names_open_gate w ↦ may.free (names_under (patches_of c.args.heads.now) c.args.row.now (c.names_open_gate.ensures.0 w.if-names_open_gate.true))
+  | then-names_open_gate-via-else-names_open_gate+then-comes_back w ↦ may.straight (w.comes_back.ensures w.if-comes_back.true)
+]

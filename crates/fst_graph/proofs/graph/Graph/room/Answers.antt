@@ -1,0 +1,89 @@
+use Rattle.std.proofs.Common.{◌≡◌, ◌+◌, ◌++◌, ◌∷◌, [], ◌<◌, ◌∙◌, rules, length, true, None, inl, ap, sym, subst, refl}
+use Rattle.fst_types.specs.Grades.{FollowsRule}
+use Rattle.fst_types.specs.Refusals.{NoneHolds}
+use Rattle.fst_types.specs.Order.{make_order}
+use Rattle.fst_types.specs.Lists.{Lists}
+use Rattle.fst_types.specs.Making.{fresh}
+use Rattle.fst_types.specs.Patches.{Change}
+use Rattle.fst_graph.specs.Grading.{MayBeHard}
+use Rattle.fst_graph.specs.Heads.{patches_of}
+use Rattle.fst_graph.specs.Known.{Known, numbers_of}
+use Rattle.fst_graph.specs.Rows.{IsDependency}
+use Rattle.fst_graph.proofs.Readied.{keeps_marks, as_long}
+use Rattle.fst_graph.proofs.Slots.{rising_heads}
+use Rattle.fst_graph.proofs.Touching.{depends_exactly, graded_change}
+use Rattle.fst_graph.proofs.graph.Graph.room.Goals as goal
+
+pub returns-in-Some-clause-refused : goal.returns-in-Some-clause-refused
+returns-in-Some-clause-refused c = rw (← c.self.view_is, ← c.deref.ensures.value) (inl c.in-Some.ensures.first)
+
+pub prepare-requires-clause-rising : goal.prepare-requires-clause-rising
+prepare-requires-clause-rising c = rw c.deref-2.ensures.value (rising_heads c.self.inside.heads.items c.self.invariant.0.lawful.one_place_each.rising)
+
+pub returns-clause-ok : goal.returns-clause-ok
+returns-clause-ok c =
+    let old = patches_of c.self.inside.heads.items in
+    let n = c.self.inside.numbers in
+    let blocks = c.self.inside.blocks in
+    let p = c.in-Ok.prepared in
+    let b = c.args.block.0 in
+    let at = c.args.span.at in
+    let len = c.args.span.len in
+    let names = numbers_of c.args.after.now in
+    let row = p.dependencies.items in
+    let clear = subst (λ hs. NoneHolds (make_order (patches_of hs) n names)) c.deref.ensures.value c.in_default.ensures.clear in
+    let depends = subst (λ hs. Lists (IsDependency (patches_of hs) names b at len) row) c.deref-2.ensures.value c.in-Ok.ensures.depends in
+    let follows = subst (λ hs. FollowsRule p.grade (MayBeHard (patches_of hs) b row)) c.deref-2.ensures.value c.in-Ok.ensures.graded in
+    rw (← c.self.view_is) (
+      record { heads = old ++ fresh (n + 1) (Change b at len p.grade) row ∷ []; numbers = n + 1; blocks = blocks; prepared = None },
+      record {
+        clear = clear;
+        next = refl;
+        dependencies = row;
+        depends = depends_exactly old names b at len (n + 1) p.grade row row depends;
+        graded = graded_change old n blocks c.self.inside.order.items c.self.inside.marks.items c.self.invariant.0 b at len names p.grade row depends follows;
+        heads = refl;
+        numbers = refl;
+        blocks = refl;
+        prepared = refl;
+      },
+    )
+
+pub prepare-requires-clause-hard : goal.prepare-requires-clause-hard
+prepare-requires-clause-hard c = rw c.deref-2.ensures.value c.self.invariant.0.lawful.hard_never_hold
+
+pub prepare-requires-clause-inside : goal.prepare-requires-clause-inside
+prepare-requires-clause-inside c =
+    let blocks : length c.deref_mut-2.result.now ≡ c.self.inside.blocks = ap length c.deref_mut-2.ensures.value ∙ c.self.invariant.3 in
+    rw (blocks, c.deref-2.ensures.value) c.self.invariant.0.inside
+
+pub invariant_of-self-then-is_err : goal.invariant_of-self-then-is_err
+invariant_of-self-then-is_err c =
+    let marks = as_long c.self.inside.marks.items c.prepare.new.marks c.self.inside.marks.len c.self.inside.marks.ok.0 (c.prepare.auto.marks ∙ ap length c.deref_mut.ensures.value) in
+    let reached = as_long c.self.inside.reached.items c.prepare.new.reached c.self.inside.reached.len c.self.inside.reached.ok.0 (c.prepare.auto.reached ∙ ap length c.deref_mut-2.ensures.value) in
+    rw (c.reserve_one.ensures.heads, c.reserve_one.ensures.order, c.reserve_one.ensures.marks)
+    (keeps_marks _ c.self.inside.numbers c.self.inside.blocks c.self.inside.order.items c.self.inside.marks.items _ c.self.invariant.0 marks, tt, tt, reached ∙ c.self.invariant.3)
+
+pub invariant_of-self-2 : goal.invariant_of-self-2
+invariant_of-self-2 c =
+    let old = patches_of c.self.inside.heads.items in
+    let n = c.self.inside.numbers in
+    let blocks = c.self.inside.blocks in
+    let p = c.in-Ok.prepared in
+    let made = c.in-Ok.ensures in
+    let names = numbers_of p.names.items in
+    let row = p.dependencies.items in
+    let marks = as_long c.self.inside.marks.items c.prepare.new.marks c.self.inside.marks.len c.self.inside.marks.ok.0 (c.prepare.auto.marks ∙ ap length c.deref_mut.ensures.value) in
+    let reached = as_long c.self.inside.reached.items c.prepare.new.reached c.self.inside.reached.len c.self.inside.reached.ok.0 (c.prepare.auto.reached ∙ ap length c.deref_mut-2.ensures.value) in
+    let clear : NoneHolds (make_order old n names) = rw made.names (subst (λ hs. NoneHolds (make_order (patches_of hs) n (numbers_of c.args.after.now))) c.deref.ensures.value c.in_default.ensures.clear) in
+    let inside : p.block < blocks = rw made.block (subst (λ (v : Known). c.args.block.0 < v.blocks) (sym c.self.view_is) c.requires) in
+    let depends : Lists (IsDependency old names p.block p.span.at p.span.len) row =
+    rw (made.names, made.block, made.span) (subst (λ hs. Lists (IsDependency (patches_of hs) (numbers_of c.args.after.now) c.args.block.0 c.args.span.at c.args.span.len) row) c.deref-2.ensures.value made.depends) in
+    let follows : FollowsRule p.grade (MayBeHard old p.block row) = rw made.block (subst (λ hs. FollowsRule p.grade (MayBeHard (patches_of hs) c.args.block.0 row)) c.deref-2.ensures.value made.graded) in
+    let graded = graded_change old n blocks c.self.inside.order.items c.self.inside.marks.items c.self.invariant.0 p.block p.span.at p.span.len names p.grade row depends follows in
+    rw (c.reserve_one.ensures.heads, c.reserve_one.ensures.order, c.reserve_one.ensures.marks) (
+      keeps_marks _ n blocks c.self.inside.order.items c.self.inside.marks.items _ c.self.invariant.0 marks,
+      record { clear = clear; inside = inside; depends = depends; graded = graded },
+      record { heads_free = search rules; order_free = search rules; marks_free = search rules },
+      reached ∙ c.self.invariant.3,
+    )

@@ -1,0 +1,92 @@
+//! What an open gate gains. None of it is the gate or depends on it, so that an order with the gate and all that depend
+//! on it last, which else stays as it was, still names each patch after those that it depends on.
+
+ghost use Rattle.std.specs.Prelude.{◌≡◌, ◌↔◌, ◌++◌, length, map, filter, not, IsTrue, IfOk, OnOk, OnErr, Contains};
+ghost use Rattle.fst_types.specs.Dependencies.{DirectlyOn, IsLiveNumber};
+ghost use Rattle.fst_types.specs.Gating.{gains};
+ghost use Rattle.fst_types.specs.Lists.{Lists};
+ghost use Rattle.fst_graph.specs.Heads.{IsRising, patches_of};
+ghost use Rattle.fst_graph.specs.Known.{numbers_of};
+ghost use Rattle.fst_graph.specs.Marks.{mark_of};
+ghost use Rattle.fst_graph.specs.Rows.{IsMissing};
+
+use crate::head::Head;
+use crate::marks::{is_marked, slot_of};
+use crate::row::{Row, is_live_number, put};
+use fst_types::PatchNo;
+use smallvec::SmallVec;
+use std::alloc::{AllocError, Global};
+
+// Whether the one patch has the other as a direct dependency.
+fn is_direct(heads: &[Head], from: u32, to: u32) -> bool
+    requires { IsRising heads.now }
+    ensures { IsTrue result ↔ DirectlyOn (patches_of heads.now) from to }
+{
+    match slot_of(heads, from) {
+        Some(slot) => heads[slot].dependencies.as_slice().contains(&to),
+        None => false,
+    }
+}
+
+// Whether the number is that of a patch that is not on disk, and that the gate does not have.
+fn is_missing(heads: &[Head], gate: u32, number: u32) -> bool
+    requires { IsRising heads.now }
+    ensures { IsTrue result ↔ IsMissing (patches_of heads.now) gate number }
+{
+    is_live_number(heads, number) && !is_direct(heads, gate, number)
+}
+
+/// The row of the names that are not on disk and that the gate does not have.
+pub fn missing_names(
+    alloc: Global,
+    heads: &[Head],
+    gate: u32,
+    names: &[PatchNo],
+) -> Result<Row, AllocError>
+    requires { IsRising heads.now }
+    ensures { IfOk result (λ row. Lists (λ n. IsLiveNumber (patches_of heads.now) n × Contains (numbers_of names.now) n × (DirectlyOn (patches_of heads.now) gate n → ⊥)) row.items) }
+{
+    let mut row = SmallVec::new(alloc);
+    for name in names {
+        if is_missing(heads, gate, name.0) {
+            put(&mut row, name.0)?;
+        }
+    }
+    Ok(row)
+}
+
+/// The order with what is marked last.
+pub fn marked_last(
+    alloc: Global,
+    heads: &[Head],
+    marks: &[bool],
+    order: &[u32],
+) -> Result<Vec<u32>, AllocError>
+    requires rising { IsRising heads.now }
+    requires long { length marks.now ≡ length heads.now }
+    ensures { IfOk result (λ moved. moved.items ≡ filter (λ n. not (mark_of heads.now marks.now n)) order.now ++ filter (mark_of heads.now marks.now) order.now) }
+{
+    let mut moved = Vec::with_capacity(alloc, order.len())?;
+    let mut last = Vec::new(alloc);
+    for number in order {
+        if is_marked(heads, marks, *number) {
+            last.push(*number)?;
+        } else {
+            moved.push(*number)?;
+        }
+    }
+    moved.extend_from_slice(&last)?;
+    Ok(moved)
+}
+
+/// The gate has the names besides. Where there is no memory it does not.
+pub fn gain(heads: &mut Vec<Head>, gate: u32, names: &[u32]) -> Result<(), AllocError>
+    requires { IsRising heads.old.items }
+    ensures ok { OnOk result (patches_of heads.new.items ≡ map (gains gate names.now) (patches_of heads.old.items)) }
+    ensures same { OnErr result (patches_of heads.new.items ≡ patches_of heads.old.items) }
+{
+    match slot_of(heads, gate) {
+        Some(slot) => heads[slot].dependencies.extend_from_slice(names),
+        None => Ok(()),
+    }
+}

@@ -1,0 +1,84 @@
+//! The change that `room` made room for. It is kept whole, so that `add_data` with the same arguments only puts it
+//! down, which takes no memory and is not refused.
+
+ghost use Rattle.std.specs.Prelude.{◌≡◌, ◌↔◌, ◌<◌, IsTrue, IfOk, true, length};
+ghost use Rattle.fst_types.specs.Closure.{IsAcyclic};
+ghost use Rattle.fst_types.specs.Dependencies.{DirectlyOn};
+ghost use Rattle.fst_types.specs.Facts.{HardNeverHold};
+ghost use Rattle.fst_types.specs.Grades.{FollowsRule};
+ghost use Rattle.fst_types.specs.Lists.{Lists};
+ghost use Rattle.fst_graph.specs.Grading.{MayBeHard};
+ghost use Rattle.fst_graph.specs.Heads.{IsRising, patches_of};
+ghost use Rattle.fst_graph.specs.Keeps.{IsInside};
+ghost use Rattle.fst_graph.specs.Known.{numbers_of};
+ghost use Rattle.fst_graph.specs.Ordered.{IsOrdered};
+ghost use Rattle.fst_graph.specs.Rows.{IsDependency};
+
+use crate::grade::grade_of;
+use crate::head::Head;
+use crate::row::{Row, dependencies_of};
+use fst_types::{Grade, PatchNo, Span};
+use std::alloc::{AllocError, Global};
+
+/// A change that is not made yet: its arguments, and what it will depend on and be graded.
+#[derive(Drop)]
+pub struct Prepared {
+    pub block: u32,
+    pub span: Span,
+    pub names: Vec<PatchNo>,
+    pub dependencies: Row,
+    pub grade: Grade,
+}
+
+impl Prepared {
+    /// Whether it has these arguments.
+    pub fn is_for(&self, block: u32, span: Span, names: &[PatchNo]) -> bool
+        ensures { IsTrue result ↔ ((self.now.block ≡ block) × (self.now.span ≡ span) × (self.now.names.items ≡ names.now)) }
+    {
+        self.block == block && self.span == span && self.names.as_slice() == names
+    }
+}
+
+fn copy_of(alloc: Global, names: &[PatchNo]) -> Result<Vec<PatchNo>, AllocError>
+    ensures { IfOk result (λ copy. copy.items ≡ names.now) }
+{
+    let mut copy = Vec::new(alloc);
+    copy.extend_from_slice(names)?;
+    Ok(copy)
+}
+
+/// The change of the span that these names and the heads make. What was marked and reached before does not matter.
+pub fn prepare(
+    alloc: Global,
+    heads: &[Head],
+    order: &[u32],
+    marks: &mut [bool],
+    reached: &mut [bool],
+    block: u32,
+    span: Span,
+    names: &[PatchNo],
+) -> Result<Prepared, AllocError>
+    requires rising { IsRising heads.now }
+    requires long { length marks.old ≡ length heads.now }
+    requires acyclic { IsAcyclic (DirectlyOn (patches_of heads.now)) }
+    requires hard { HardNeverHold (patches_of heads.now) }
+    requires ordered { IsOrdered (patches_of heads.now) order.now }
+    requires inside { IsInside (patches_of heads.now) (length reached.old) }
+    requires block { block < length reached.old }
+    ensures block { IfOk result (λ p. p.block ≡ block) }
+    ensures span { IfOk result (λ p. p.span ≡ span) }
+    ensures names { IfOk result (λ p. p.names.items ≡ names.now) }
+    ensures depends { IfOk result (λ p. Lists (IsDependency (patches_of heads.now) (numbers_of names.now) block span.at span.len) p.dependencies.items) }
+    ensures graded { IfOk result (λ p. FollowsRule p.grade (MayBeHard (patches_of heads.now) block p.dependencies.items)) }
+{
+    let dependencies = dependencies_of(alloc, heads, block, span, names)?;
+    let names = copy_of(alloc, names)?;
+    let grade = grade_of(heads, order, marks, reached, block, dependencies.as_slice());
+    Ok(Prepared {
+        block,
+        span,
+        names,
+        dependencies,
+        grade,
+    })
+}

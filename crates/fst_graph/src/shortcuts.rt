@@ -1,0 +1,127 @@
+//! What tells the grade of a new change at once, from the patches near its row. A walk over all patches decides only
+//! where none of this does: a change behind a gate, a chain on one block and a chain over a few blocks need none.
+
+ghost use Rattle.std.specs.Prelude.{◌≡◌, ◌↔◌, ◌&&◌, ℕ, IsTrue, IfSome, Contains};
+ghost use Rattle.fst_types.specs.Dependencies.{DirectlyOn};
+ghost use Rattle.fst_types.specs.declared.place.Place.TheVariants as place;
+ghost use Rattle.fst_types.specs.Gates.{IsOpenNumber};
+ghost use Rattle.fst_types.specs.Tests.{is_change_at};
+ghost use Rattle.fst_graph.specs.Heads.{IsRising, kind_of, patch_of, patches_of};
+ghost use Rattle.fst_graph.specs.Marks.{PassesAt};
+ghost use Rattle.fst_graph.specs.Tests.{is_hard_kind};
+ghost use Rattle.fst_graph.specs.Grading.{HasUnder, IsReturning, IsHardNumber, RestsOnHard};
+
+use crate::choice::is_hard;
+use crate::head::Head;
+use crate::marks::slot_of;
+use crate::places::is_change_at;
+use crate::test::{Test, passes};
+use fst_types::Place;
+
+// How far a chain is followed. A chain over all blocks comes back within as many steps as there are blocks.
+const MOST_STEPS: u32 = 4_096;
+
+// Whether the patch with the number passes.
+fn passes_at(heads: &[Head], test: Test, number: u32) -> bool
+    requires { IsRising heads.now }
+    ensures { IsTrue result ↔ PassesAt test (patches_of heads.now) number }
+{
+    match slot_of(heads, number) {
+        Some(slot) => passes(test, &heads[slot]),
+        None => false,
+    }
+}
+
+// Whether one of the row passes.
+fn names_passing(heads: &[Head], test: Test, row: &[u32]) -> bool
+    requires { IsRising heads.now }
+    ensures { IsTrue result ↔ ((n : ℕ) × Contains row.now n × PassesAt test (patches_of heads.now) n) }
+{
+    for number in row {
+        if passes_at(heads, test, *number) {
+            return true;
+        }
+    }
+    false
+}
+
+/// Whether one of the row is an open gate. A change with that row is soft.
+pub fn names_open_gate(heads: &[Head], row: &[u32]) -> bool
+    requires { IsRising heads.now }
+    ensures { IsTrue result ↔ ((n : ℕ) × Contains row.now n × IsOpenNumber (patches_of heads.now) n) }
+{
+    names_passing(heads, Test::Open, row)
+}
+
+// Whether the patch is a hard change of the block in memory.
+fn is_hard_in(head: &Head, block: u32) -> bool
+    ensures { result ≡ (is_change_at place.Memory block (patch_of head.now) && is_hard_kind (kind_of head.now.kind)) }
+{
+    is_change_at(head, Place::Memory, block) && is_hard(head.kind)
+}
+
+// Whether the number is that of such a change.
+fn is_hard_number(heads: &[Head], block: u32, number: u32) -> bool
+    requires { IsRising heads.now }
+    ensures { IsTrue result ↔ IsHardNumber (patches_of heads.now) block number }
+{
+    match slot_of(heads, number) {
+        Some(slot) => is_hard_in(&heads[slot], block),
+        None => false,
+    }
+}
+
+/// Whether each of the row is a hard change of the block in memory. A change of the block with that row waits for no
+/// more than they do, so it is hard.
+pub fn rests_on_hard(heads: &[Head], block: u32, row: &[u32]) -> bool
+    requires { IsRising heads.now }
+    ensures { IsTrue result ↔ RestsOnHard (patches_of heads.now) block row.now }
+{
+    for number in row {
+        if !is_hard_number(heads, block, *number) {
+            return false;
+        }
+    }
+    true
+}
+
+// The last of the row.
+fn newest(row: &[u32]) -> Option<u32>
+    ensures { IfSome result (Contains row.now) }
+{
+    match row {
+        [.., last] => Some(*last),
+        [] => None,
+    }
+}
+
+// The newest direct dependency of the patch with the number.
+fn newest_below(heads: &[Head], number: u32) -> Option<u32>
+    requires { IsRising heads.now }
+    ensures { IfSome result (DirectlyOn (patches_of heads.now) number) }
+{
+    let slot = slot_of(heads, number)?;
+    newest(heads[slot].dependencies.as_slice())
+}
+
+/// Whether the newest of the row, the newest that it depends on, and so on, come over a change of another block back to
+/// one of the block, neither being on disk. A change of the block with that row is soft. Where they do not, another
+/// path may.
+pub fn comes_back(heads: &[Head], block: u32, row: &[u32]) -> bool
+    requires { IsRising heads.now }
+    ensures { IsTrue result → HasUnder (patches_of heads.now) row.now (IsReturning (patches_of heads.now) block) }
+{
+    let mut next = newest(row);
+    let mut away = false;
+    for _ in 0..MOST_STEPS {
+        let Some(number) = next else {
+            return false;
+        };
+        if away && passes_at(heads, Test::LiveOn(block), number) {
+            return true;
+        }
+        away = away || passes_at(heads, Test::LiveOff(block), number);
+        next = newest_below(heads, number);
+    }
+    false
+}
