@@ -18,3 +18,6 @@ mod shortcuts;
 mod test;
 
 pub use graph::Graph;
+
+#[cfg(test)]
+mod tests;

@@ -1,0 +1,538 @@
+//! A plain twin of the graph, written from the definitions: it answers each question from all of its patches anew.
+
+use fst_types::{
+    BlockNo, Fault, Grade, MAX_HEADS, MAX_NAMES, MAX_NUMBER, PatchNo, Place, Span, What,
+};
+use std::alloc::{AllocError, Global};
+
+#[derive(Clone, Copy, Debug, PartialEq, Eq)]
+enum Kind {
+    Change(BlockNo, Span, Grade),
+    Empty,
+    OpenGate,
+    SealedGate,
+}
+
+#[derive(Drop)]
+struct Patch {
+    no: PatchNo,
+    kind: Kind,
+    place: Place,
+    dependencies: Vec<PatchNo>,
+}
+
+impl Patch {
+    fn is_change(&self) -> bool {
+        matches!(self.kind, Kind::Change(_, _, _))
+    }
+
+    fn is_on(&self, block: BlockNo) -> bool {
+        match self.kind {
+            Kind::Change(on, _, _) => on == block,
+            _ => false,
+        }
+    }
+
+    fn is_hard(&self) -> bool {
+        match self.kind {
+            Kind::Change(_, _, grade) => grade == Grade::Hard,
+            _ => false,
+        }
+    }
+
+    fn is_live(&self) -> bool {
+        self.place != Place::Disk
+    }
+
+    fn is_in_memory_on(&self, block: BlockNo) -> bool {
+        self.is_on(block) && self.place == Place::Memory
+    }
+
+    fn shares_byte(&self, block: BlockNo, span: Span) -> bool {
+        match self.kind {
+            Kind::Change(on, own, _) => on == block
+                && is_before_end(own, span)
+                && is_before_end(span, own),
+            _ => false,
+        }
+    }
+}
+
+// Whether the first span starts before the end of the second.
+fn is_before_end(first: Span, second: Span) -> bool {
+    u64::from(first.at) < u64::from(second.at) + u64::from(second.len)
+}
+
+/// The patches that are not forgotten, in order of number.
+#[derive(Drop)]
+pub struct Twin {
+    alloc: Global,
+    patches: Vec<Patch>,
+    numbers: u32,
+    blocks: u32,
+}
+
+impl Twin {
+    pub fn new(alloc: Global, blocks: u32) -> Twin {
+        Twin {
+            alloc,
+            patches: Vec::new(alloc),
+            numbers: 0,
+            blocks,
+        }
+    }
+
+    /// The greatest number given.
+    pub fn numbers(&self) -> u32 {
+        self.numbers
+    }
+
+    fn is_given(&self, no: PatchNo) -> bool {
+        no.0 >= 1 && no.0 <= self.numbers
+    }
+
+    fn head(&self, no: PatchNo) -> Option<&Patch> {
+        self.patches.iter().find(|patch| patch.no == no)
+    }
+
+    /// Where a patch is.
+    pub fn place(&self, no: PatchNo) -> Option<Place> {
+        if !self.is_given(no) {
+            return None;
+        }
+        match self.head(no) {
+            Some(patch) => Some(patch.place),
+            None => Some(Place::Disk),
+        }
+    }
+
+    /// How many patches are not on disk.
+    pub fn live(&self) -> usize {
+        self.patches.iter().filter(|patch| patch.is_live()).count()
+    }
+
+    // Puts the direct dependencies of a patch to those that were found.
+    fn take_direct(&self, no: PatchNo, found: &mut Vec<PatchNo>) -> Result<(), AllocError> {
+        let Some(patch) = self.head(no) else {
+            return Ok(());
+        };
+        for name in &patch.dependencies {
+            if !found.contains(name) {
+                found.push(*name)?;
+            }
+        }
+        Ok(())
+    }
+
+    // All that a patch depends on: its direct dependencies, then theirs, and so on.
+    fn under(&self, no: PatchNo) -> Result<Vec<PatchNo>, AllocError> {
+        let mut found = Vec::new(self.alloc);
+        self.take_direct(no, &mut found)?;
+        for at in 0..self.numbers as usize {
+            let Some(next) = found.get(at).copied() else {
+                break;
+            };
+            self.take_direct(next, &mut found)?;
+        }
+        Ok(found)
+    }
+
+    // Whether an open gate is among these.
+    fn has_open_gate(&self, under: &[PatchNo]) -> bool {
+        self.patches.iter().any(|gate| gate.kind == Kind::OpenGate && under.contains(&gate.no))
+    }
+
+    // Whether each change among these is on disk, or in memory on the block.
+    fn needs_nothing_else(&self, under: &[PatchNo], block: BlockNo) -> bool {
+        self.patches.iter().all(|need| {
+            !need.is_change()
+                || !under.contains(&need.no)
+                || need.place == Place::Disk
+                || need.is_in_memory_on(block)
+        })
+    }
+
+    fn is_in_writable_set(&self, patch: &Patch, block: BlockNo) -> Result<bool, AllocError> {
+        if !patch.is_in_memory_on(block) {
+            return Ok(false);
+        }
+        let under = self.under(patch.no)?;
+        Ok(!self.has_open_gate(&under) && self.needs_nothing_else(&under, block))
+    }
+
+    /// The writable set of a block.
+    pub fn chosen(&self, block: BlockNo) -> Result<Vec<PatchNo>, AllocError> {
+        let mut chosen = Vec::new(self.alloc);
+        for patch in &self.patches {
+            if self.is_in_writable_set(patch, block)? {
+                chosen.push(patch.no)?;
+            }
+        }
+        Ok(chosen)
+    }
+
+    /// The least hard patch of a block in memory that is not in its writable set.
+    pub fn hard_held(&self, block: BlockNo) -> Result<Option<PatchNo>, AllocError> {
+        for patch in &self.patches {
+            if patch.is_in_memory_on(block)
+                && patch.is_hard()
+                && !self.is_in_writable_set(patch, block)?
+            {
+                return Ok(Some(patch.no));
+            }
+        }
+        Ok(None)
+    }
+
+    fn is_flying(&self, block: BlockNo) -> bool {
+        self.patches
+            .iter()
+            .any(|patch| patch.is_on(block) && patch.place == Place::Flight)
+    }
+
+    fn is_writable(&self, block: BlockNo) -> Result<bool, AllocError> {
+        if self.is_flying(block) {
+            return Ok(false);
+        }
+        let chosen = self.chosen(block)?;
+        let held = self.hard_held(block)?;
+        Ok(!chosen.is_empty() && held.is_none())
+    }
+
+    /// The least writable block.
+    pub fn pick(&self) -> Result<Option<BlockNo>, AllocError> {
+        for block in 0..self.blocks {
+            if self.is_writable(BlockNo(block))? {
+                return Ok(Some(BlockNo(block)));
+            }
+        }
+        Ok(None)
+    }
+
+    // Whether a patch depends on a change of the block that is not on disk.
+    fn has_live_need(&self, no: PatchNo, block: BlockNo) -> Result<bool, AllocError> {
+        let under = self.under(no)?;
+        Ok(
+            self.patches.iter().any(|need| need.is_on(block)
+                && need.is_live()
+                && under.contains(&need.no)),
+        )
+    }
+
+    // Whether the block graph has an edge: some hard patch of the one block in memory has a live need on the other.
+    fn has_edge(&self, from: BlockNo, to: BlockNo) -> Result<bool, AllocError> {
+        if from == to {
+            return Ok(false);
+        }
+        for hard in &self.patches {
+            if hard.is_in_memory_on(from) && hard.is_hard() && self.has_live_need(hard.no, to)? {
+                return Ok(true);
+            }
+        }
+        Ok(false)
+    }
+
+    // Puts the blocks with an edge to the block to those that were found.
+    fn take_edges(&self, to: BlockNo, found: &mut Vec<BlockNo>) -> Result<(), AllocError> {
+        for block in 0..self.blocks {
+            let from = BlockNo(block);
+            if !found.contains(&from) && self.has_edge(from, to)? {
+                found.push(from)?;
+            }
+        }
+        Ok(())
+    }
+
+    // The blocks from which edges lead to the block.
+    fn leading(&self, block: BlockNo) -> Result<Vec<BlockNo>, AllocError> {
+        let mut found = Vec::new(self.alloc);
+        self.take_edges(block, &mut found)?;
+        for at in 0..self.blocks as usize {
+            let Some(next) = found.get(at).copied() else {
+                break;
+            };
+            self.take_edges(next, &mut found)?;
+        }
+        Ok(found)
+    }
+
+    // Whether a patch has a live need off the block, which has a live need on it.
+    fn returns(&self, no: PatchNo, block: BlockNo) -> Result<bool, AllocError> {
+        let under = self.under(no)?;
+        for away in &self.patches {
+            if away.is_change()
+                && !away.is_on(block)
+                && away.is_live()
+                && under.contains(&away.no)
+                && self.has_live_need(away.no, block)?
+            {
+                return Ok(true);
+            }
+        }
+        Ok(false)
+    }
+
+    // Whether one of these blocks, other than the patch's own, holds a live need of it.
+    fn needs_one_of(
+        &self,
+        no: PatchNo,
+        block: BlockNo,
+        blocks: &[BlockNo],
+    ) -> Result<bool, AllocError> {
+        for other in blocks {
+            if *other != block && self.has_live_need(no, *other)? {
+                return Ok(true);
+            }
+        }
+        Ok(false)
+    }
+
+    // The grade of a new patch. `leading` are the blocks from which edges led to its own before it came.
+    fn grade_of(
+        &self,
+        no: PatchNo,
+        block: BlockNo,
+        leading: &[BlockNo],
+    ) -> Result<Grade, AllocError> {
+        let under = self.under(no)?;
+        if self.has_open_gate(&under)
+            || self.returns(no, block)?
+            || self.needs_one_of(no, block, leading)?
+        {
+            return Ok(Grade::Soft);
+        }
+        Ok(Grade::Hard)
+    }
+
+    /// Why no patch can be made now.
+    pub fn room_fault(&self) -> Option<Fault> {
+        if self.patches.len() >= MAX_HEADS {
+            return Some(Fault::Full(What::Heads));
+        }
+        if self.numbers == MAX_NUMBER {
+            return Some(Fault::Full(What::Numbers));
+        }
+        None
+    }
+
+    // Why these cannot be named.
+    fn names_fault(&self, names: &[PatchNo]) -> Option<Fault> {
+        if names.len() > MAX_NAMES {
+            return Some(Fault::BadField);
+        }
+        if names.iter().any(|no| !self.is_given(*no)) {
+            return Some(Fault::NoPatch);
+        }
+        None
+    }
+
+    /// Why no patch that names these can be made now.
+    pub fn make_fault(&self, names: &[PatchNo]) -> Option<Fault> {
+        match self.names_fault(names) {
+            Some(fault) => Some(fault),
+            None => self.room_fault(),
+        }
+    }
+
+    // A new patch in memory.
+    fn push(&mut self, kind: Kind, dependencies: Vec<PatchNo>) -> Result<PatchNo, AllocError> {
+        self.numbers = self.numbers.saturating_add(1);
+        let no = PatchNo(self.numbers);
+        self.patches.push(Patch {
+            no,
+            kind,
+            place: Place::Memory,
+            dependencies,
+        })?;
+        Ok(no)
+    }
+
+    /// A new gate.
+    pub fn add_gate(&mut self) -> Result<PatchNo, AllocError> {
+        self.push(Kind::OpenGate, Vec::new(self.alloc))
+    }
+
+    // The named patches that are not on disk.
+    fn live_named(&self, names: &[PatchNo]) -> Result<Vec<PatchNo>, AllocError> {
+        let mut found = Vec::new(self.alloc);
+        for patch in &self.patches {
+            if patch.is_live() && names.contains(&patch.no) {
+                found.push(patch.no)?;
+            }
+        }
+        Ok(found)
+    }
+
+    /// A new empty patch.
+    pub fn add_empty(&mut self, names: &[PatchNo]) -> Result<PatchNo, AllocError> {
+        let dependencies = self.live_named(names)?;
+        let no = self.push(Kind::Empty, dependencies)?;
+        self.cascade();
+        Ok(no)
+    }
+
+    // The named patches that are not on disk, and the changes not on disk that share a byte.
+    fn dependencies(
+        &self,
+        block: BlockNo,
+        span: Span,
+        names: &[PatchNo],
+    ) -> Result<Vec<PatchNo>, AllocError> {
+        let mut found = Vec::new(self.alloc);
+        for patch in &self.patches {
+            if patch.is_live() && (names.contains(&patch.no) || patch.shares_byte(block, span)) {
+                found.push(patch.no)?;
+            }
+        }
+        Ok(found)
+    }
+
+    fn set_kind(&mut self, no: PatchNo, kind: Kind) {
+        for patch in &mut self.patches {
+            if patch.no == no {
+                patch.kind = kind;
+            }
+        }
+    }
+
+    /// A new change.
+    pub fn add_data(
+        &mut self,
+        block: BlockNo,
+        span: Span,
+        names: &[PatchNo],
+    ) -> Result<(PatchNo, Grade), AllocError> {
+        let leading = self.leading(block)?;
+        let dependencies = self.dependencies(block, span, names)?;
+        let no = self.push(Kind::Change(block, span, Grade::Soft), dependencies)?;
+        let grade = self.grade_of(no, block, &leading)?;
+        self.set_kind(no, Kind::Change(block, span, grade));
+        Ok((no, grade))
+    }
+
+    /// Why this is no open gate.
+    pub fn gate_fault(&self, gate: PatchNo) -> Option<Fault> {
+        if !self.is_given(gate) {
+            return Some(Fault::NoPatch);
+        }
+        let Some(patch) = self.head(gate) else {
+            return Some(Fault::NotGate);
+        };
+        match patch.kind {
+            Kind::OpenGate => None,
+            Kind::SealedGate => Some(Fault::Sealed),
+            _ => Some(Fault::NotGate),
+        }
+    }
+
+    // Whether one of these is the gate, or depends on it.
+    fn closes_cycle(&self, gate: PatchNo, names: &[PatchNo]) -> Result<bool, AllocError> {
+        for name in names {
+            let under = self.under(*name)?;
+            if *name == gate || under.contains(&gate) {
+                return Ok(true);
+            }
+        }
+        Ok(false)
+    }
+
+    /// Why the gate cannot gain these.
+    pub fn depend_fault(
+        &self,
+        gate: PatchNo,
+        names: &[PatchNo],
+    ) -> Result<Option<Fault>, AllocError> {
+        if let Some(fault) = self.gate_fault(gate) {
+            return Ok(Some(fault));
+        }
+        if let Some(fault) = self.names_fault(names) {
+            return Ok(Some(fault));
+        }
+        if self.closes_cycle(gate, names)? {
+            return Ok(Some(Fault::Cycle));
+        }
+        Ok(None)
+    }
+
+    /// An open gate gains what is named and live.
+    pub fn depend(&mut self, gate: PatchNo, names: &[PatchNo]) -> Result<(), AllocError> {
+        let gained = self.live_named(names)?;
+        for patch in &mut self.patches {
+            if patch.no == gate {
+                gain(&mut patch.dependencies, &gained)?;
+            }
+        }
+        Ok(())
+    }
+
+    /// Seals an open gate.
+    pub fn seal(&mut self, gate: PatchNo) {
+        self.set_kind(gate, Kind::SealedGate);
+        self.cascade();
+    }
+
+    /// Puts the chosen in flight.
+    pub fn launch(&mut self, chosen: &[PatchNo]) {
+        for patch in &mut self.patches {
+            if chosen.contains(&patch.no) {
+                patch.place = Place::Flight;
+            }
+        }
+    }
+
+    /// Puts on disk what is in flight of the block.
+    pub fn land(&mut self, block: BlockNo) {
+        for patch in &mut self.patches {
+            if patch.is_on(block) && patch.place == Place::Flight {
+                patch.place = Place::Disk;
+            }
+        }
+        self.cascade();
+    }
+
+    // Whether this is an empty patch or a sealed gate in memory, and all its direct dependencies are on disk.
+    fn may_rest(&self, patch: &Patch) -> bool {
+        (patch.kind == Kind::Empty || patch.kind == Kind::SealedGate)
+            && patch.is_live()
+            && patch
+                .dependencies
+                .iter()
+                .all(|no| self.place(*no) == Some(Place::Disk))
+    }
+
+    fn next_to_rest(&self) -> Option<PatchNo> {
+        let patch = self.patches.iter().find(|patch| self.may_rest(patch))?;
+        Some(patch.no)
+    }
+
+    // Puts empty patches and sealed gates on disk, one after the other, until none may rest.
+    fn cascade(&mut self) {
+        for _ in 0..self.patches.len() {
+            let Some(no) = self.next_to_rest() else {
+                break;
+            };
+            for patch in &mut self.patches {
+                if patch.no == no {
+                    patch.place = Place::Disk;
+                }
+            }
+        }
+    }
+
+    /// Forgets the patches on disk, and answers how many they were.
+    pub fn forget(&mut self) -> usize {
+        let before = self.patches.len();
+        self.patches.retain(|patch| patch.is_live());
+        before.saturating_sub(self.patches.len())
+    }
+}
+
+// Puts to the row what it does not have yet.
+fn gain(row: &mut Vec<PatchNo>, gained: &[PatchNo]) -> Result<(), AllocError> {
+    for no in gained {
+        if !row.contains(no) {
+            row.push(*no)?;
+        }
+    }
+    Ok(())
+}
