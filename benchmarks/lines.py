@@ -1,5 +1,5 @@
 #!/usr/bin/env python3
-"""Microseconds a line and peak memory of `feather play` over made-up scripts, at n, 2n and 4n lines.
+"""Processor microseconds a line and peak memory of `feather play` over made-up scripts, at n, 2n and 4n lines.
 
     benchmarks/lines.py [PROGRAM]
 
@@ -14,7 +14,6 @@ import os
 import subprocess
 import sys
 import tempfile
-import time
 
 ROOT = os.path.dirname(os.path.dirname(os.path.abspath(__file__)))
 
@@ -86,21 +85,23 @@ WORKLOADS = [
 
 
 def play(program, script):
-    """Seconds and peak kilobytes of one run, and its last reply."""
+    """Processor seconds and peak kilobytes of one run, how many replies it wrote, and how many of them are refusals."""
     with open(script, "rb") as given, tempfile.TemporaryFile() as replies:
-        start = time.monotonic()
         child = subprocess.Popen(
             [program, "play", "--blocks", "4096", "--size", "4096"], stdin=given, stdout=replies
         )
         _, status, used = os.wait4(child.pid, 0)
-        seconds = time.monotonic() - start
+        seconds = used.ru_utime + used.ru_stime
         child.returncode = os.waitstatus_to_exitcode(status)
         if child.returncode != 0:
             sys.exit(f"{script}: the program ended with status {child.returncode}")
+        # (a reply at a time: what this script holds counts in the child's peak)
         replies.seek(0)
-        answered = replies.read().splitlines()
-    refused = sum(reply.startswith(b"refused") for reply in answered)
-    return seconds, used.ru_maxrss, len(answered), refused
+        answered = refused = 0
+        for reply in replies:
+            answered += 1
+            refused += reply.startswith(b"refused")
+    return seconds, used.ru_maxrss, answered, refused
 
 
 def main():
