@@ -6,7 +6,6 @@ pub mod MakeRefused
 pub mod MakeStep
 pub mod MakeWhole
 pub mod OpenPlaced
-pub mod OpenSlots
 pub mod Opened
 pub mod ResideCounts
 pub mod ResideDirty

@@ -1,25 +1,22 @@
 -- What `choose`, `pick` and `issue` answer before anything goes out.
-use Rattle.std.proofs.Common.{◌≡◌, ◌+◌, ◌<◌, ◌≤◌, ℕ, Bool, false, List, [], ◌∷◌, map, length, Option, Some, None, IsSome, is_some, cond, refl, sym, ap, subst, ◌∙◌, inl, inr, arith, slice_get, MatchResult, IfOk, IfErr, OnOk, OnErr, Result, Ok, Err}
+use Rattle.std.proofs.Common.{◌≡◌, ◌≤◌, ℕ, false, List, [], ◌∷◌, map, length, Option, Some, None, IsSome, is_some, refl, sym, ap, subst, ◌∙◌, inl, inr, arith, slice_get, MatchResult, IfOk, IfErr, OnOk, OnErr, Result, Ok, Err}
 use Rattle.std.proofs.lemmas.List.{length-map}
-use Rattle.std.specs.List.{count_by, fold}
 use Rattle.fst_types.specs.declared.number.PatchNo.{PatchNo}
 use Rattle.fst_types.specs.declared.fault.Fault.{Fault}
 use Rattle.fst_types.specs.declared.fault.Fault.TheVariants as fault
-use Rattle.fst_types.specs.declared.fault.What.TheVariants as what
 use Rattle.fst_types.specs.Patches.{Patch}
-use Rattle.fst_types.specs.Writable.{HasReady, IsHeld, IsLeastHeld, IsWritableSet}
+use Rattle.fst_types.specs.Writable.{HasReady, IsWritableSet}
 use Rattle.fst_types.specs.State.{State, Flight, BlockState, flight_of}
-use Rattle.fst_types.specs.Counts.{flights}
-use Rattle.fst_types.specs.Limits.{max_flights, max_ticket}
 use Rattle.fst_types.specs.Facts.{IsLawful}
 use Rattle.fst_types.specs.Events.{Choose, Chosen, Issue, Refused}
 use Rattle.fst_types.specs.Order.{order, IsRefusal}
-use Rattle.fst_types.specs.Refusals.{NoneHolds}
+use Rattle.fst_types.specs.Refusals.{IsFirst, NoneHolds}
 use Rattle.fst_types.specs.Step.{Step, accepted, refused, choose}
 use Rattle.fst_types.proofs.Finite.{In, In-from_Contains}
 use Rattle.fst_graph.specs.Known.{Known, unprepared, IsStuckByGates as GraphIsStuckByGates}
 use Rattle.fst_cache.specs.Seats.{SeatView, blocks}
 use Rattle.fst_cache.specs.Kept.{IsKept, state_of}
+use Rattle.fst_cache.specs.Sending.{sending_order}
 use Rattle.fst_cache.specs.Replies.{IsStuckByGates}
 use Rattle.fst_cache.proofs.Kept.{block_here, within}
 
@@ -64,15 +61,6 @@ module _ {V : Type 0} (items : V → List PatchNo) (heads : List Patch) (b : ℕ
       subst (λ (ns : List PatchNo). In (map (λ (n : PatchNo). n.0) ns) ready.0.number) none.0 (In-from_Contains (numbers v) ready.0.number (ok.each ready.0.number (ready.0, refl, ready.1)))
   none_ready (Err f) ok none ready = none.1
 
--- a count of mapped items
-count_mapped : {X Y : Type 0} (h : X → Y) (p : Y → Bool) (n : ℕ) (xs : List X) → fold (λ a y. a + cond (p y) 1 0) n (map h xs) ≡ fold (λ a x. a + cond (p (h x)) 1 0) n xs
-count_mapped h p n [] = refl
-count_mapped h p n (x ∷ xs) = count_mapped h p (n + cond (p (h x)) 1 0) xs
-
--- the flights, told from the seats
-pub flights_of_seats : (seats : List SeatView) → count_by (λ b. is_some b.flight) (blocks seats) ≡ count_by (λ (s : SeatView). is_some s.block.flight) seats
-flights_of_seats seats = count_mapped (λ (s : SeatView). s.block) (λ b. is_some b.flight) 0 seats
-
 pub not_there : (seats : List SeatView) (b : ℕ) (seat : SeatView) → slice_get seats b ≡ Some seat → length (blocks seats) ≤ b → ⊥
 not_there seats b seat at_b past = let lt = within seats b seat at_b in let few : length seats ≤ b = rw length-map at past in omega (arith, few, lt)
 
@@ -104,32 +92,14 @@ module _ (size resident tickets made : ℕ) (graph : Known) (contents : List (�
   pub nothing_ready : (HasReady graph.heads b → ⊥) → IsRefusal s (Issue b) fault.NothingReady
   nothing_ready none = inl (inr (not_there seats b seat at_b, inr (busy, inl (none, refl))))
 
-  -- the graph was asked once before, and has nothing prepared any more
-  module _ (ready : HasReady graph.heads b) (asked : Known) (same : asked ≡ unprepared graph) where
-    pub hard_held : (n : PatchNo) → IsLeastHeld asked.heads b n.0 → IsRefusal s (Issue b) (fault.HardHeld n)
-    hard_held n least =
-        let l : IsLeastHeld graph.heads b n.0 = rw same at least in
-        inl (inr (not_there seats b seat at_b, inr (busy, inr ((λ none. none ready), inl ((l.patch, l.held), (n, refl, l))))))
+  -- the graph was asked twice, and has nothing prepared any more
+  module _ (ready : HasReady graph.heads b) (asked again : Known) (same : asked ≡ unprepared graph) (same_again : again ≡ unprepared asked) where
+    pub sending_refused : (f : Fault) → IsFirst (sending_order (state_of size resident tickets made again contents seats) b) f → IsRefusal s (Issue b) f
+    sending_refused f first =
+        let decides : IsFirst (sending_order s b) f = rw (same_again, same) at first in
+        inl (inr (not_there seats b seat at_b, inr (busy, inr ((λ none. none ready), decides))))
 
-    module _ (none_held : (p : Patch) → IsHeld asked.heads b p → ⊥) where
-      free : (p : Patch) → IsHeld graph.heads b p → ⊥
-      free = rw same at none_held
-
-      flights_are : flights s ≡ count_by (λ (x : SeatView). is_some x.block.flight) seats
-      flights_are = flights_of_seats seats
-
-      pub full_flights : max_flights ≤ count_by (λ (x : SeatView). is_some x.block.flight) seats → IsRefusal s (Issue b) (fault.Full what.Flights)
-      full_flights many =
-          let count = flights_are in
-          inl (inr (not_there seats b seat at_b, inr (busy, inr ((λ none. none ready), inr ((λ h. free h.0 h.1), inl (omega (arith, many, count), refl))))))
-
-      module _ (few : count_by (λ (x : SeatView). is_some x.block.flight) seats < max_flights) where
-        not_full : max_flights ≤ flights s → ⊥
-        not_full m = let count = flights_are in omega (arith, m, few, count)
-
-        pub full_tickets : max_ticket ≤ tickets → IsRefusal s (Issue b) (fault.Full what.Tickets)
-        full_tickets out =
-            inl (inr (not_there seats b seat at_b, inr (busy, inr ((λ none. none ready), inr ((λ h. free h.0 h.1), inr (not_full, inl (out, refl)))))))
-
-        pub all_clear : tickets < max_ticket → NoneHolds (order s (Issue b))
-        all_clear left = (not_there seats b seat at_b, (busy, ((λ none. none ready), ((λ h. free h.0 h.1), (not_full, ((λ out. omega (arith, out, left)), tt))))))
+    pub sending_clear : NoneHolds (sending_order (state_of size resident tickets made again contents seats) b) → NoneHolds (order s (Issue b))
+    sending_clear clear =
+        let free : NoneHolds (sending_order s b) = rw (same_again, same) at clear in
+        (not_there seats b seat at_b, (busy, ((λ none. none ready), free)))

@@ -5,3 +5,4 @@ pub mod Seats
 pub mod Kept
 pub mod Residing
 pub mod Making
+pub mod Sending

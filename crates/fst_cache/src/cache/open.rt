@@ -1,6 +1,6 @@
 //! Opening a cache over its slots.
 
-ghost use Rattle.std.specs.Prelude.{◌≡◌, ◌⊎◌, ◌≤◌, ◌↔◌, IsTrue, IfOk, IfErr, MatchOption, Some, None, false, [], length, map, vec_len, vec_capacity};
+ghost use Rattle.std.specs.Prelude.{◌≡◌, ◌≢◌, ◌⊎◌, ◌≤◌, ◌↔◌, IsTrue, IfOk, IfErr, MatchOption, Some, None, false, [], length, map, vec_len, vec_capacity};
 ghost use Rattle.fst_types.specs.declared.fault.Fault.{Fault};
 ghost use Rattle.fst_types.specs.Order.{IsMisplaced, IsMissized, open_order};
 ghost use Rattle.fst_types.specs.Refusals.{IsFirst, NoneHolds};
@@ -16,28 +16,31 @@ use fst_graph::Graph;
 use fst_types::{BlockNo, Fault, Shape};
 use std::alloc::Global;
 
-/// Whether each slot stands at its place.
-fn are_placed<S: BlockSlot>(slots: &[S]) -> bool
-    ensures { IsTrue result ↔ (IsMisplaced (map S.index slots.now) → ⊥) }
+/// Whether the slots are not one for each block, or one does not stand at its place.
+fn is_misplaced<S: BlockSlot>(slots: &[S], blocks: u32) -> bool
+    ensures { IsTrue result ↔ ((length (map S.index slots.now) ≢ blocks) ⊎ IsMisplaced (map S.index slots.now)) }
 {
+    if slots.len() != blocks as usize {
+        return true;
+    }
     for (at, slot) in slots.iter().enumerate() {
         if slot.index().0 as usize != at {
-            return false;
+            return true;
         }
     }
-    true
+    false
 }
 
-/// Whether each slot has the size.
-fn are_sized<S: BlockSlot>(slots: &[S], size: u32) -> bool
-    ensures { IsTrue result ↔ (IsMissized size (map S.size slots.now) → ⊥) }
+/// Whether a slot has another size.
+fn is_missized<S: BlockSlot>(slots: &[S], size: u32) -> bool
+    ensures { IsTrue result ↔ IsMissized size (map S.size slots.now) }
 {
     for slot in slots {
         if slot.size() != size {
-            return false;
+            return true;
         }
     }
-    true
+    false
 }
 
 /// Why no cache is opened over the slots.
@@ -46,10 +49,10 @@ fn open_fault<S: BlockSlot>(shape: Shape, slots: &[S]) -> Option<Fault>
         (NoneHolds (open_order shape.blocks shape.size (map S.index slots.now) (map S.size slots.now)))
         (λ fault. IsFirst (open_order shape.blocks shape.size (map S.index slots.now) (map S.size slots.now)) fault) }
 {
-    if slots.len() != shape.blocks as usize || !are_placed(slots) {
+    if is_misplaced(slots, shape.blocks) {
         return Some(Fault::NoBlock);
     }
-    if !are_sized(slots, shape.size) {
+    if is_missized(slots, shape.size) {
         return Some(Fault::BadSpan);
     }
     None

@@ -1,18 +1,21 @@
 //! Writing blocks back: what may be written, sending it out, and what came of it.
 
-ghost use Rattle.std.specs.Prelude.{◌≡◌, ◌⊎◌, ◌<◌, ◌≤◌, ◌+◌, ◌↔◌, ℕ, [], IsTrue, true, IsErr, IfOk, IfErr, IfNone, OnOk, OnErr, IsNone, option_map, MatchOption, MatchResult, Some, None, length, slice_set, slice_index_or, count_by, is_some, if◌then◌else◌};
+ghost use Rattle.std.specs.Prelude.{◌≡◌, ◌⊎◌, ◌<◌, ◌≤◌, ◌+◌, ◌↔◌, ℕ, [], IsTrue, true, IsErr, IfOk, IfErr, IfSome, IfNone, OnOk, OnErr, IsNone, option_map, MatchOption, MatchResult, Some, None, length, slice_set, slice_index_or, count_by, is_some, if◌then◌else◌};
 ghost use Rattle.fst_types.specs.declared.fault.Fault.{Fault};
 ghost use Rattle.fst_types.specs.Limits.{max_ticket};
 ghost use Rattle.fst_types.specs.State.{committed, flight_of};
 ghost use Rattle.fst_types.specs.Bytes.{image_of};
 ghost use Rattle.fst_types.specs.Flights.{IsOut, IsStalled};
-ghost use Rattle.fst_types.specs.Writable.{IsWritableSet};
+ghost use Rattle.fst_types.specs.Patches.{Patch};
+ghost use Rattle.fst_types.specs.Counts.{flights};
+ghost use Rattle.fst_types.specs.Writable.{IsWritableSet, IsHeld, IsLeastHeld};
 ghost use Rattle.fst_types.specs.Events.{Choose, Chosen, Pick, Block, Issue, Settle, Retry, Refused};
 ghost use Rattle.fst_types.specs.Order.{order, IsRefusal};
 ghost use Rattle.fst_types.specs.Refusals.{IsFirst, NoneHolds};
 ghost use Rattle.fst_types.specs.Step.{Step};
 ghost use Rattle.fst_cache.specs.Names.{numbers_of};
 ghost use Rattle.fst_cache.specs.Seats.{back_view};
+ghost use Rattle.fst_cache.specs.Sending.{sending_order};
 ghost use Rattle.fst_cache.specs.Replies.{job_reply, settled_reply, IsStuckByGates};
 
 use crate::cache::Cache;
@@ -57,6 +60,33 @@ impl<S: BlockSlot> Cache<S> {
         self.graph.pick()
     }
 
+    /// How many blocks have a write that is out or stalled.
+    fn flights(&self) -> usize
+        ensures { result ≡ flights self.now.state }
+    {
+        busy(&self.seats)
+    }
+
+    /// Why a block with something to write cannot be sent out, `held` being its least hard change that may not be written.
+    fn sending_fault(&self, block: BlockNo, held: Option<PatchNo>) -> Option<Fault>
+        requires none { IsNone held → (p : Patch) → IsHeld self.now.state.heads block.0 p → ⊥ }
+        requires least { IfSome held (λ no. IsLeastHeld self.now.state.heads block.0 no.0) }
+        ensures { MatchOption result
+            (NoneHolds (sending_order self.now.state block.0))
+            (λ fault. IsFirst (sending_order self.now.state block.0) fault) }
+    {
+        if let Some(held) = held {
+            return Some(Fault::HardHeld(held));
+        }
+        if self.flights() >= MAX_FLIGHTS {
+            return Some(Fault::Full(What::Flights));
+        }
+        if self.tickets == u64::MAX {
+            return Some(Fault::Full(What::Tickets));
+        }
+        None
+    }
+
     /// The changes of a block that a write of it takes now, or why it cannot be sent out.
     fn choice(&mut self, block: BlockNo) -> Result<Vec<PatchNo>, Fault>
         ensures same { self.new ≡ self.old }
@@ -74,14 +104,9 @@ impl<S: BlockSlot> Cache<S> {
         if is_none(&chosen) {
             return Err(Fault::NothingReady);
         }
-        if let Some(held) = self.graph.hard_held(block) {
-            return Err(Fault::HardHeld(held));
-        }
-        if busy(&self.seats) >= MAX_FLIGHTS {
-            return Err(Fault::Full(What::Flights));
-        }
-        if self.tickets == u64::MAX {
-            return Err(Fault::Full(What::Tickets));
+        let held = self.graph.hard_held(block);
+        if let Some(fault) = self.sending_fault(block, held) {
+            return Err(fault);
         }
         chosen
     }
