@@ -1,12 +1,11 @@
 -- The job of a ticket, found from the front.
-use Rattle.std.proofs.Common.{◌≡◌, ℕ, ◌+◌, ◌<◌, ◌≤◌, Bool, true, false, cond, List, [], ◌∷◌, ◌++◌, length, map, take, drop, get_or, Some, None, refl, sym, ap, ◌∙◌, append_assoc, add-one, arith}
+use Rattle.std.proofs.Common.{◌≡◌, ℕ, ◌+◌, ◌<◌, ◌≤◌, true, false, cond, List, [], ◌∷◌, ◌++◌, length, take, drop, get_or, Some, None, refl, sym, ap, ◌∙◌, append_assoc, add-one}
 use Rattle.std.specs.Prelude.{◌==◌, if◌then◌else◌}
-use Rattle.std.specs.List.{remove}
 use Rattle.std.proofs.lemmas.List.{drop_more, take_more, map-append, drop_all, get_or_default}
 use Rattle.std.proofs.lemmas.Bool.{eqb-true}
 use Rattle.fst_device.specs.JobView.{JobView}
 use Rattle.fst_device.specs.MemoryView.{MemoryView}
-use Rattle.feather.specs.Script.{JobKept, job_of, without}
+use Rattle.feather.specs.Script.{job_of, without}
 use Rattle.feather.specs.Kept.{job_kept, jobs_kept, IsJobAt}
 
 -- none of the first i jobs is of the ticket

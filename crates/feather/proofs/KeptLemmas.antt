@@ -1,5 +1,5 @@
 -- What calls of the cache leave of what the player keeps.
-use Rattle.std.proofs.Common.{◌≡◌, ◌≢◌, ℕ, ◌+◌, ◌<◌, ◌≤◌, ◌⊎◌, Bool, true, false, List, [], ◌∷◌, ◌++◌, length, map, get_or, set, Option, Some, None, refl, sym, ap, subst, ◌∙◌, inl, inr, arith, length-set}
+use Rattle.std.proofs.Common.{◌≡◌, ◌≢◌, ℕ, ◌+◌, ◌<◌, ◌≤◌, Bool, true, false, List, [], ◌∷◌, ◌++◌, length, get_or, set, Option, Some, None, refl, sym, ap, subst, ◌∙◌, inl, inr, arith, length-set}
 use Rattle.std.specs.Prelude.{All, AllPairs}
 use Rattle.std.specs.List.{remove}
 use Rattle.std.proofs.lemmas.Bool.{cases_lt}
@@ -11,12 +11,10 @@ use Rattle.fst_types.specs.declared.shape.Shape.{Shape}
 use Rattle.fst_types.specs.declared.grade.Grade.{Grade}
 use Rattle.fst_types.specs.declared.fault.Fault.{Fault}
 use Rattle.fst_types.specs.State.{State, BlockState, Flight, block_of, flight_of}
-use Rattle.fst_types.specs.Flights.{IsOut, IsStalled}
-use Rattle.fst_types.specs.Writing.{Issues, Lands, Stalls, Retries}
-use Rattle.fst_types.specs.Making.{MakesChange}
-use Rattle.fst_types.specs.Events.{Event, MakeChange, MakeEmpty, MakeGate, Depend, Seal, Issue, Settle, Retry, Evict, Forget, Choose, Show, Reply, MadeChange, Made, Accepted as Agreed, Job, Landed, Stalled, Forgot, Chosen, Shown, Refused}
-use Rattle.fst_types.specs.Step.{Step, accepted, refused, change, empty, gate, depend, seal, issue, land, stall, retry, evict, forget, choose, show}
-use Rattle.fst_types.proofs.Moves.{flight_put, flight_in, has_block}
+use Rattle.fst_types.specs.Flights.{IsOut}
+use Rattle.fst_types.specs.Events.{Event, MakeChange, MakeEmpty, MakeGate, Depend, Seal, Issue, Settle, Retry, Evict, Forget, Reply, MadeChange, Made, Accepted as Agreed, Job, Forgot, Refused}
+use Rattle.fst_types.specs.Step.{Step, accepted, refused, change, empty, gate, depend, seal, issue, land, stall, retry, evict, forget}
+use Rattle.fst_types.proofs.Moves.{flight_put, flight_in}
 use Rattle.fst_device.specs.JobView.{JobView}
 use Rattle.fst_device.specs.MemoryView.{MemoryView}
 use Rattle.feather.specs.declared.accepted.Accepted.{Accepted}

@@ -1,7 +1,7 @@
 -- What a crash leaves, folded change by change and told block by block.
-use Rattle.std.proofs.Common.{◌≡◌, ℕ, ◌+◌, ◌<◌, ◌≤◌, Bool, true, false, cond, List, [], ◌∷◌, ◌++◌, length, map, take, drop, get_or, Option, Some, None, Result, refl, sym, ap, subst, ◌∙◌, inl, inr, arith, zero-add, append-nil}
-use Rattle.std.specs.Prelude.{◌==◌, ◌&&◌, filter, codes, replicate}
-use Rattle.std.specs.List.{flat_map, range_with_len}
+use Rattle.std.proofs.Common.{◌≡◌, ℕ, ◌+◌, ◌<◌, ◌≤◌, true, false, cond, List, [], ◌∷◌, ◌++◌, length, map, take, drop, get_or, Option, Some, None, Result, sym, ap, subst, ◌∙◌, inl, inr, arith, zero-add, append-nil}
+use Rattle.std.specs.Prelude.{◌==◌, ◌&&◌, filter, replicate}
+use Rattle.std.specs.List.{flat_map}
 use Rattle.std.specs.Io.KnownBytes.{Appends}
 use Rattle.std.proofs.KnownBytes.{Appends-trans}
 use Rattle.std.proofs.lemmas.Bool.Decides.{eqb_tells}
@@ -12,7 +12,7 @@ use Rattle.fst_types.specs.declared.fault.Fault.{Fault}
 use Rattle.fst_types.specs.State.{State}
 use Rattle.fst_types.specs.Tests.{is_among}
 use Rattle.fst_types.specs.Looks.{place_of}
-use Rattle.fst_types.specs.Fold.{Write, written, fold}
+use Rattle.fst_types.specs.Fold.{written, fold}
 use Rattle.fst_types.specs.Run.{ChangeMade}
 use Rattle.feather.specs.declared.accepted.Accepted.{Accepted}
 use Rattle.feather.specs.Commands.{crash}
@@ -21,7 +21,7 @@ use Rattle.feather.specs.Replies.{refusal, crash_part, crash_text}
 use Rattle.feather.specs.Script.{PlayerState, first_finish_fault, is_left_at, is_left, left_of, left_of_each, crashed, not_crashed}
 use Rattle.feather.specs.Kept.{change_made, changes_made}
 use Rattle.feather.specs.Answering.{Obeyed}
-use Rattle.feather.proofs.SendingLemmas.{Sends-then, TakesPart-longer, TakesPart-then, TakesPart-part}
+use Rattle.feather.proofs.SendingLemmas.{TakesPart-part}
 
 -- bytes with those of the changes left over them
 abbrev pub over : State → List ℕ → ℕ → List ℕ → List Accepted → List ℕ

@@ -12,14 +12,21 @@ use fst_device::MemorySlot;
 use fst_types::{BlockNo, Fault, Shape};
 use std::alloc::{AllocError, Global};
 
+// A block's slot of zero bytes.
+fn zero_slot(alloc: Global, block: u32, size: u32) -> Result<MemorySlot, AllocError>
+    ensures { IfOk result (λ slot. slot ≡ zero_slot size block) }
+{
+    let bytes = vec![in alloc; 0u8; size as usize]?;
+    Ok(MemorySlot::new(BlockNo(block), bytes))
+}
+
 // A slot of zero bytes for each block.
 fn zero_slots(alloc: Global, blocks: u32, size: u32) -> Result<Vec<MemorySlot>, AllocError>
     ensures { IfOk result (λ slots. slots.items ≡ map (zero_slot size) (range_with_len 0 blocks)) }
 {
     let mut slots = Vec::new(alloc);
     for block in 0..blocks {
-        let bytes = vec![in alloc; 0u8; size as usize]?;
-        slots.push(MemorySlot::new(BlockNo(block), bytes))?;
+        slots.push(zero_slot(alloc, block, size)?)?;
     }
     Ok(slots)
 }

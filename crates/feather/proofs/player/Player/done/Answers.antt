@@ -1,7 +1,5 @@
 use Rattle.std.proofs.Common.{◌≡◌, ◌∙◌, Some, refl, sym, ap}
-use Rattle.feather.specs.Kept.{IsJobAt, job_kept}
-use Rattle.feather.specs.Script.{is_made}
-use Rattle.fst_types.specs.Events.{Settle}
+use Rattle.feather.specs.Kept.{job_kept}
 use Rattle.feather.proofs.KeptLemmas.{kept_out, settle_kept, settle_refused}
 use Rattle.feather.proofs.TellLemmas.{Obeyed-stranger, Obeyed-settled}
 use Rattle.feather.proofs.player.Player.done.Goals as goal
