@@ -1,18 +1,18 @@
 -- A new empty patch.
-use Rattle.std.proofs.Common.{◌≡◌, ◌≢◌, ◌⊎◌, ℕ, zero, suc, ◌+◌, ◌<◌, ◌≤◌, Bool, true, false, List, [], ◌∷◌, ◌++◌, map, length, Contains, Some, None, refl, sym, ap, subst, ◌∙◌, inl, inr, arith}
+use Rattle.std.proofs.Common.{◌≡◌, ◌⊎◌, ℕ, ◌+◌, ◌<◌, ◌≤◌, Bool, false, List, [], ◌∷◌, ◌++◌, map, length, Contains, refl, sym, ap, subst, ◌∙◌, inl, inr, arith}
 use Rattle.std.proofs.lemmas.List.{length_push}
-use Rattle.std.proofs.lemmas.List.Elements.{Contains-push_cases, Contains-append_left, Contains-push}
+use Rattle.std.proofs.lemmas.List.Elements.{Contains-push_cases, Contains-append_left}
 use Rattle.fst_types.specs.declared.place.Place.{Place}
 use Rattle.fst_types.specs.declared.place.Place.TheVariants as place
 use Rattle.fst_types.specs.Limits.{max_heads}
 use Rattle.fst_types.specs.Lists.{Lists}
-use Rattle.fst_types.specs.Patches.{Kind, Patch, IsOn, Empty, block_of_kind}
+use Rattle.fst_types.specs.Patches.{Patch, IsOn, Empty}
 use Rattle.fst_types.specs.Dependencies.{IsLiveNumber, IsOnDisk}
 use Rattle.fst_types.specs.Cascade.{Follows, RestsOnDisk, IsCascadeOf, unsettled}
 use Rattle.fst_types.specs.Facts.{HeadsAreLawful}
-use Rattle.fst_types.specs.Making.{fresh, MakesEmpty}
+use Rattle.fst_types.specs.Making.{fresh}
 use Rattle.fst_types.specs.State.{State}
-use Rattle.fst_types.specs.Step.{Row, empty}
+use Rattle.fst_types.specs.Step.{empty}
 use Rattle.fst_types.specs.Events.{MakeEmpty}
 use Rattle.fst_types.proofs.Heads.{heads_row}
 use Rattle.fst_types.proofs.Cascades.{no_follower_on}

@@ -1,46 +1,46 @@
 -- What forgetting leaves of what the fields keep.
-use Rattle.std.proofs.Common.{◌≡◌, ◌⊎◌, ℕ, zero, suc, ◌+◌, ◌-◌, ◌<◌, ◌≤◌, ◌==◌, ◌&&◌, Bool, true, false, not, cond, List, [], ◌∷◌, length, map, take, filter, count_by, Contains, refl, sym, ap, subst, ◌∙◌, inl, inr, arith}
-use Rattle.std.specs.List.{list_any, items_where_true}
+use Rattle.std.proofs.Common.{◌≡◌, ℕ, zero, suc, ◌+◌, ◌==◌, ◌&&◌, Bool, true, false, not, cond, List, [], ◌∷◌, length, take, filter, count_by, Contains, refl, sym, ap, subst, ◌∙◌, inl, inr, arith}
+use Rattle.std.specs.List.{items_where_true}
 use Rattle.std.specs.List.Retain.{IsFiltered, ReturnsInTurn}
 use Rattle.std.proofs.lemmas.Bool.{cases_Bool, eqb-true, eq-eqb, false≢true}
 use Rattle.std.proofs.lemmas.List.Sums.{length-filter}
 use Rattle.fst_types.specs.declared.place.Place.{Place}
 use Rattle.fst_types.specs.declared.place.Place.TheVariants as place
-use Rattle.fst_types.specs.Patches.{Patch, IsOn}
+use Rattle.fst_types.specs.Patches.{Patch}
 use Rattle.fst_types.specs.Dependencies.{DirectlyOn, IsLiveNumber}
 use Rattle.fst_types.specs.Tests.{is_at, is_live}
 use Rattle.fst_types.proofs.Finite.{In, In-from_Contains, Contains-from_In}
-use Rattle.fst_types.proofs.Dropping.{filter_in, in_filter, heads_dropped}
+use Rattle.fst_types.proofs.Dropping.{filter_in, heads_dropped}
 use Rattle.fst_graph.specs.declared.head.Head.{Head}
-use Rattle.fst_graph.specs.Heads.{patch_of, patches_of}
 use Rattle.fst_graph.specs.Tests.{is_live_place}
-use Rattle.fst_graph.specs.Ordered.{IsClosedBelow, IsOrdered, is_live_in}
+use Rattle.fst_graph.specs.Ordered.{IsClosedBelow, is_live_in}
 use Rattle.fst_graph.specs.Keeps.{Keeps}
+use Rattle.fst_graph.specs.Nodes.{nodes_of}
 
 place_same : (p : Place) → is_live_place p ≡ not (is_at p place.Disk)
 place_same place.Memory = refl
 place_same place.Flight = refl
 place_same place.Disk = refl
 
--- the live heads stand for the live patches
-pub live_heads : (heads : List Head) → patches_of (filter (λ h. is_live_place h.place) heads) ≡ filter is_live (patches_of heads)
+-- the live heads stand for the live nodes
+pub live_heads : (heads : List Head) → nodes_of (filter (λ h. is_live_place h.place) heads) ≡ filter (λ x. is_live x.patch) (nodes_of heads)
 live_heads [] = refl
 live_heads (h ∷ hs) = elim (cases_Bool (is_live_place h.place)) [
   | inl e ↦ let f = sym (place_same h.place) ∙ e in let r = live_heads hs in rw (e, f, r) refl
   | inr e ↦ let f = sym (place_same h.place) ∙ e in let r = live_heads hs in rw (e, f, r) refl
 ]
 
-live_place_of : (p : Place) → (p ≡ place.Disk → ⊥) → not (is_at p place.Disk) ≡ true
+pub live_place_of : (p : Place) → (p ≡ place.Disk → ⊥) → not (is_at p place.Disk) ≡ true
 live_place_of place.Memory n = refl
 live_place_of place.Flight n = refl
 live_place_of place.Disk n = absurd (n refl)
 
-not_disk : (p : Place) → not (is_at p place.Disk) ≡ true → p ≡ place.Disk → ⊥
+pub not_disk : (p : Place) → not (is_at p place.Disk) ≡ true → p ≡ place.Disk → ⊥
 not_disk place.Memory e d = cc
 not_disk place.Flight e d = cc
 not_disk place.Disk e d = cc
 
-and_parts : (a b : Bool) → (a && b) ≡ true → (a ≡ true) × (b ≡ true)
+pub and_parts : (a b : Bool) → (a && b) ≡ true → (a ≡ true) × (b ≡ true)
 and_parts true b e = (refl, e)
 and_parts false b e = absurd (false≢true e)
 

@@ -1,5 +1,5 @@
 -- What the head with a gate's number tells.
-use Rattle.std.proofs.Common.{◌≡◌, ◌⊎◌, ℕ, ◌<◌, List, length, get_or, Contains, refl, sym, ap, subst, ◌∙◌, inl, inr, arith}
+use Rattle.std.proofs.Common.{◌≡◌, ℕ, List, get_or, Contains, sym, ap, subst, ◌∙◌, inl, inr}
 use Rattle.fst_types.specs.Patches.{Kind, Change, Empty, Patch, OpenGate, SealedGate}
 use Rattle.fst_types.specs.declared.grade.Grade.{Grade}
 use Rattle.fst_types.specs.Gates.{IsOpenNumber, IsSealedNumber, IsGateNumber}

@@ -1,17 +1,16 @@
 -- What a new patch leaves of what the fields keep.
-use Rattle.std.proofs.Common.{◌≡◌, ◌≢◌, ◌⊎◌, ℕ, zero, suc, ◌+◌, ◌<◌, ◌≤◌, Bool, true, false, List, [], ◌∷◌, ◌++◌, map, length, take, get_or, Contains, Some, None, refl, sym, ap, subst, ◌∙◌, inl, inr, arith, lit≤}
+use Rattle.std.proofs.Common.{◌≡◌, ◌⊎◌, ℕ, zero, suc, ◌+◌, ◌<◌, ◌≤◌, Bool, false, List, [], ◌∷◌, ◌++◌, length, take, Contains, refl, sym, ap, subst, ◌∙◌, inl, inr, arith, lit≤}
 use Rattle.std.proofs.lemmas.List.{length_push}
 use Rattle.std.proofs.lemmas.Bool.{cases_lt}
 use Rattle.std.proofs.lemmas.List.Elements.{Contains-push_cases, Contains-append_left, Contains-push}
-use Rattle.fst_types.specs.declared.place.Place.TheVariants as place
 use Rattle.fst_types.specs.Limits.{max_heads, max_number}
 use Rattle.fst_types.specs.Patches.{Patch, IsOn, OpenGate}
 use Rattle.fst_types.specs.Dependencies.{DirectlyOn}
 use Rattle.fst_types.specs.Facts.{HeadsAreLawful}
-use Rattle.fst_types.specs.Making.{fresh, MakesGate, MakesEmpty}
+use Rattle.fst_types.specs.Making.{fresh}
 use Rattle.fst_types.specs.State.{State}
-use Rattle.fst_types.specs.Step.{Row, gate}
-use Rattle.fst_types.specs.Events.{Event, MakeGate}
+use Rattle.fst_types.specs.Step.{gate}
+use Rattle.fst_types.specs.Events.{MakeGate}
 use Rattle.fst_types.proofs.Heads.{heads_row}
 use Rattle.fst_types.proofs.Finite.{In-from_Contains, Contains-from_In}
 use Rattle.fst_types.proofs.Opened.{opening_is_lawful}

@@ -1,24 +1,23 @@
 -- What is near a row, and the grade that it tells.
-use Rattle.std.proofs.Common.{◌≡◌, ◌≢◌, ◌↔◌, ◌⊎◌, ◌&&◌, IsTrue, ℕ, ◌+◌, ◌<◌, ◌≤◌, Bool, true, false, List, length, get_or, Contains, Some, None, Option, IfSome, refl, sym, ap, subst, ◌∙◌, inl, inr, arith}
+use Rattle.std.proofs.Common.{◌≡◌, ◌⊎◌, ◌&&◌, ℕ, Bool, true, false, List, get_or, Contains, Some, None, Option, IfSome, refl, sym, ap, subst, ◌∙◌, inl, inr}
 use Rattle.std.proofs.lemmas.Bool.{false≢true}
 use Rattle.fst_types.specs.declared.place.Place.TheVariants as place
 use Rattle.fst_types.specs.declared.grade.Grade.TheVariants as grade
 use Rattle.fst_types.specs.Closure.{one, join}
-use Rattle.fst_types.specs.Patches.{Kind, OpenGate, Patch, IsOn, IsHard, grade_of_kind}
+use Rattle.fst_types.specs.Patches.{Kind, OpenGate, Patch, IsOn, grade_of_kind}
 use Rattle.fst_types.specs.Dependencies.{DirectlyOn, DependsOn}
 use Rattle.fst_types.specs.Facts.{HardNeverHold}
 use Rattle.fst_types.specs.Gates.{IsOpenNumber}
 use Rattle.fst_types.specs.Tests.{is_change_at}
-use Rattle.fst_types.specs.Writable.{IsInMemoryOn}
 use Rattle.fst_types.proofs.Landing.{change_at, at_change}
 use Rattle.fst_graph.specs.declared.test.Test.{Test}
 use Rattle.fst_graph.specs.declared.test.Test.TheVariants as test
 use Rattle.fst_graph.specs.declared.head.Head.{Head}
 use Rattle.fst_graph.specs.Heads.{IsRising, patch_of, patches_of}
-use Rattle.fst_graph.specs.Marks.{HasSlot, HasNone, IsAbove, PassesAt}
+use Rattle.fst_graph.specs.Marks.{HasSlot, HasNone, PassesAt}
 use Rattle.fst_graph.specs.Tests.{passes, is_hard_kind}
 use Rattle.fst_graph.specs.Reaching.{IsHardIn}
-use Rattle.fst_graph.specs.Grading.{HasUnder, IsReturning, IsLeading, MayBeHard, IsHardNumber, RestsOnHard}
+use Rattle.fst_graph.specs.Grading.{HasUnder, IsReturning, MayBeHard, IsHardNumber, RestsOnHard}
 use Rattle.fst_graph.proofs.Slots.{direct_at, patch_at, patch_is, patch_slot, slot_in, none_slot}
 use Rattle.fst_graph.proofs.Leading.{one_block, same_patch}
 use Rattle.fst_graph.proofs.Obstacles.{hard_from, hard_to}

@@ -1,15 +1,15 @@
 -- The least block with a change in memory, of those from a first on.
-use Rattle.std.proofs.Common.{◌≡◌, ◌⊎◌, ℕ, ◌+◌, ◌<◌, ◌≤◌, cond, Bool, true, false, List, length, get_or, Contains, Option, Some, None, MatchOption, refl, sym, ap, subst, ◌∙◌, inl, inr, arith}
-use Rattle.std.proofs.lemmas.Bool.{cases_lt, cases_Bool}
+use Rattle.std.proofs.Common.{◌≡◌, ◌⊎◌, ℕ, ◌+◌, ◌<◌, ◌≤◌, cond, Bool, true, false, List, length, get_or, Option, Some, None, MatchOption, refl, sym, ap, subst, ◌∙◌, inl, inr, arith}
+use Rattle.std.proofs.lemmas.Bool.{cases_lt}
 use Rattle.std.proofs.lemmas.Bool.Decides.{nat_tests}
 use Rattle.std.specs.Prelude.{nat_lt}
 use Rattle.fst_types.specs.declared.place.Place.{Place}
 use Rattle.fst_types.specs.declared.place.Place.TheVariants as place
-use Rattle.fst_types.specs.Patches.{Patch, IsOn}
+use Rattle.fst_types.specs.Patches.{Patch}
 use Rattle.fst_types.specs.Writable.{IsInMemoryOn}
 use Rattle.fst_graph.specs.declared.head.Head.{Head}
 use Rattle.fst_graph.specs.Heads.{patch_of, patches_of}
-use Rattle.fst_graph.specs.Picking.{block_at, memory_block, lesser, lesser_from, IsNextBlock}
+use Rattle.fst_graph.specs.Picking.{block_at, memory_block, lesser, IsNextBlock}
 use Rattle.fst_graph.proofs.Slots.{any_default, patch_at, slot_in, some_element}
 
 memory_on : (a : Place) (o : Option ℕ) (b : ℕ) → block_at a o ≡ Some b → (o ≡ Some b) × (a ≡ place.Memory)

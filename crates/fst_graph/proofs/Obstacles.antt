@@ -1,20 +1,19 @@
 -- What keeps a change out of the writable set.
-use Rattle.std.proofs.Common.{◌≡◌, ◌≢◌, ◌⊎◌, ℕ, zero, suc, ◌+◌, ◌<◌, ◌≤◌, ◌&&◌, Bool, true, false, not, eqb, List, [], ◌∷◌, ◌++◌, length, get_or, Contains, Some, refl, sym, ap, subst, ◌∙◌, inl, inr, arith}
+use Rattle.std.proofs.Common.{◌≡◌, ◌⊎◌, ℕ, ◌<◌, ◌≤◌, ◌&&◌, Bool, true, false, not, eqb, List, length, get_or, Contains, Some, refl, sym, ap, subst, ◌∙◌, inl, inr, arith}
 use Rattle.std.proofs.lemmas.Bool.{cases_Bool, cases_lt, eqb-true, eqb-false, false≢true, not-true, not-false}
 use Rattle.fst_types.specs.declared.place.Place.{Place}
 use Rattle.fst_types.specs.declared.place.Place.TheVariants as place
-use Rattle.fst_types.specs.Patches.{Kind, Change, Empty, OpenGate, SealedGate, Patch, IsRising as Rising, IsOn, IsHard, block_of_kind, grade_of_kind}
-use Rattle.fst_types.specs.Dependencies.{DependsOn, Needs, IsBlocked}
+use Rattle.fst_types.specs.Patches.{Kind, Change, Empty, OpenGate, SealedGate, Patch, IsOn, IsHard, block_of_kind, grade_of_kind}
+use Rattle.fst_types.specs.Dependencies.{DependsOn}
 use Rattle.fst_types.specs.Tests.{is_change_at}
 use Rattle.fst_types.specs.Writable.{IsInMemoryOn, InWritableSet, HasReady, IsHeld, IsLeastHeld, IsWritable, IsLeastWritable}
 use Rattle.fst_types.specs.declared.grade.Grade.TheVariants as grade
 use Rattle.fst_types.proofs.Landing.{change_at, at_change}
-use Rattle.fst_graph.specs.declared.test.Test.{Test}
 use Rattle.fst_graph.specs.declared.test.Test.TheVariants as test
 use Rattle.fst_graph.specs.declared.head.Head.{Head}
 use Rattle.fst_graph.specs.Heads.{IsRising, patch_of, patches_of}
 use Rattle.fst_graph.specs.Tests.{kind_passes, passes, is_hard_kind}
-use Rattle.fst_graph.specs.Marks.{HasSlot, Has, Shows, IsAbove, PassesAt}
+use Rattle.fst_graph.specs.Marks.{HasSlot, Shows, IsAbove, PassesAt}
 use Rattle.fst_graph.proofs.Slots.{slot_in, some_element, patch_at, slot_here, patch_is, has_at}
 
 gate_passes_it : (b n : ℕ) (k : Kind) (p : Place) → k ≡ OpenGate → kind_passes (test.Obstacle b) n k p ≡ true

@@ -1,5 +1,5 @@
 -- The least writable block, found by asking for each block with a change in memory.
-use Rattle.std.proofs.Common.{◌≡◌, ℕ, ◌+◌, ◌<◌, ◌≤◌, List, Option, Some, None, IfNone, option_map, subst, inl, inr, arith}
+use Rattle.std.proofs.Common.{◌≡◌, ℕ, ◌+◌, ◌<◌, List, Option, Some, None, IfNone, option_map, subst, inl, inr, arith}
 use Rattle.std.proofs.lemmas.Bool.{cases_lt}
 use Rattle.fst_types.specs.declared.number.BlockNo.{BlockNo}
 use Rattle.fst_types.specs.Closure.{IsAcyclic}

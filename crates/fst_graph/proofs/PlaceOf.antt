@@ -1,6 +1,5 @@
 -- The place of a number.
-use Rattle.std.proofs.Common.{◌≡◌, ℕ, ◌≤◌, ◌==◌, ◌&&◌, nat_le, Bool, true, List, Contains, Some, None, find, Option, IfNone, refl, sym, ap, subst, ◌∙◌, inl, inr, arith, if◌then◌else◌, cond}
-use Rattle.fst_types.specs.declared.place.Place.{Place}
+use Rattle.std.proofs.Common.{◌≡◌, ℕ, ◌==◌, ◌&&◌, nat_le, true, List, Contains, Some, None, find, Option, IfNone, refl, subst, inl, inr, arith}
 use Rattle.fst_types.specs.declared.place.Place.TheVariants as place
 use Rattle.fst_types.specs.Patches.{Patch, IsRising}
 use Rattle.fst_types.specs.Gates.{IsGiven}

@@ -1,5 +1,5 @@
 -- Rising rows, and names as calls give them.
-use Rattle.std.proofs.Common.{◌≡◌, ◌≢◌, ◌⊎◌, ℕ, zero, suc, ◌+◌, ◌-◌, ◌<◌, ◌≤◌, Bool, true, false, List, [], ◌∷◌, ◌++◌, length, get_or, Contains, Result, Ok, Err, refl, sym, ap, subst, ◌∙◌, inl, inr, arith}
+use Rattle.std.proofs.Common.{◌≡◌, ℕ, zero, suc, ◌+◌, ◌-◌, ◌<◌, ◌≤◌, true, false, List, [], ◌∷◌, length, get_or, Contains, Result, Ok, Err, refl, sym, ap, subst, inl, inr, arith}
 use Rattle.std.specs.List.{insert}
 use Rattle.std.specs.List.Sorted.{IsStrictlyIncreasing, IsSearchInRange, IsBinarySearchResult, IsNonDecreasingBy}
 use Rattle.std.specs.Ordering.{nat_cmp, ordering_index}
@@ -17,7 +17,6 @@ use Rattle.fst_types.specs.Lists.{Lists}
 use Rattle.fst_types.specs.Gates.{IsGiven}
 use Rattle.fst_types.specs.Order.{NamesUnknown}
 use Rattle.fst_types.proofs.Finite.{In, In-get_or, In-from_Contains, Contains-from_In, In-map}
-use Rattle.fst_types.proofs.GateGains.{In-unmap}
 use Rattle.fst_graph.specs.Known.{numbers_of}
 use Rattle.fst_graph.specs.Rows.{Gains}
 

@@ -1,6 +1,6 @@
 -- What a new change depends on.
-use Rattle.std.proofs.Common.{◌≡◌, ◌≢◌, ◌⊎◌, ℕ, zero, suc, ◌+◌, ◌<◌, ◌≤◌, ◌==◌, ◌&&◌, nat_lt, Bool, true, false, List, [], ◌∷◌, ◌++◌, length, get_or, Contains, Some, refl, sym, ap, subst, ◌∙◌, inl, inr, arith}
-use Rattle.std.proofs.lemmas.Bool.{cases_Bool, cases_lt, eqb-true, eq-eqb, false≢true}
+use Rattle.std.proofs.Common.{◌≡◌, ◌⊎◌, ℕ, ◌+◌, ◌<◌, ◌≤◌, ◌==◌, ◌&&◌, nat_lt, Bool, true, false, not, List, [], ◌∷◌, ◌++◌, length, Contains, Some, refl, sym, ap, subst, ◌∙◌, inl, inr, arith}
+use Rattle.std.proofs.lemmas.Bool.{cases_Bool, eqb-true, eq-eqb, false≢true}
 use Rattle.std.proofs.lemmas.Bool.Decides.{nat_tests}
 use Rattle.std.proofs.lemmas.List.{length_push}
 use Rattle.std.proofs.lemmas.List.Elements.{Contains-push_cases}
@@ -10,22 +10,22 @@ use Rattle.fst_types.specs.declared.place.Place.TheVariants as place
 use Rattle.fst_types.specs.declared.grade.Grade.{Grade}
 use Rattle.fst_types.specs.Limits.{max_heads}
 use Rattle.fst_types.specs.Lists.{Lists}
-use Rattle.fst_types.specs.Patches.{Kind, Change, Empty, OpenGate, SealedGate, Patch, IsOn, IsHard, IsLive, block_of_kind, at_of, len_of}
+use Rattle.fst_types.specs.Patches.{Kind, Change, Empty, OpenGate, SealedGate, Patch, IsOn, IsHard, block_of_kind, at_of, len_of}
 use Rattle.fst_types.specs.Dependencies.{IsLiveNumber}
-use Rattle.fst_types.specs.Overlaps.{Overlaps, IsOverlapped}
+use Rattle.fst_types.specs.Overlaps.{IsOverlapped}
 use Rattle.fst_types.specs.Grades.{IsGradedHard, FollowsRule}
 use Rattle.fst_types.specs.Facts.{HeadsAreLawful}
 use Rattle.fst_types.specs.Making.{fresh}
+use Rattle.fst_types.specs.Tests.{is_at, is_on}
+use Rattle.fst_types.proofs.Finite.{In, In-from_Contains, Contains-from_In}
 use Rattle.fst_types.proofs.NewChange.{IsWithin, hard_kept}
 use Rattle.fst_types.proofs.Adding.{one_place_added, acyclic_added, on_disk_with_all_added, alone_added, overlaps_added}
-use Rattle.fst_graph.specs.declared.head.Head.{Head}
-use Rattle.fst_graph.specs.Heads.{IsRising, patch_of, patches_of}
-use Rattle.fst_graph.specs.Rows.{Gains, kind_touches, touches, IsTouched, IsDependency}
+use Rattle.fst_graph.specs.Lists.{Entry, entry, is_live_on, entries_on}
+use Rattle.fst_graph.specs.Rows.{Gains, kind_touches, touches, shares, IsTouched, IsDependency}
 use Rattle.fst_graph.specs.Tests.{is_live_place}
 use Rattle.fst_graph.specs.Grading.{MayBeHard}
 use Rattle.fst_graph.specs.Keeps.{Keeps}
 use Rattle.fst_graph.proofs.Graded.{graded_rule}
-use Rattle.fst_graph.proofs.Slots.{any_default, some_element, slot_in, patch_at}
 use Rattle.fst_graph.proofs.Making.{ordered_added, keeps_added}
 
 live_from : (p : Place) → is_live_place p ≡ true → p ≡ place.Disk → ⊥
@@ -48,7 +48,7 @@ parts false b c d e = absurd (false≢true e)
 whole : (a b c d : Bool) → a ≡ true → b ≡ true → c ≡ true → d ≡ true → (a && b && c && d) ≡ true
 whole a b c d e f g h = rw (e, f, g, h) refl
 
-touch_parts : (b at len : ℕ) (k : Kind) (p : Place) → kind_touches b at len k p ≡ true → (p ≡ place.Disk → ⊥) × (block_of_kind k ≡ Some b) × (at_of k < at + len) × (at < at_of k + len_of k)
+pub touch_parts : (b at len : ℕ) (k : Kind) (p : Place) → kind_touches b at len k p ≡ true → (p ≡ place.Disk → ⊥) × (block_of_kind k ≡ Some b) × (at_of k < at + len) × (at < at_of k + len_of k)
 touch_parts b at len (Change on own_at own_len grade) p e =
     let k = parts (is_live_place p) (on == b) (nat_lt own_at (at + len)) (nat_lt at (own_at + own_len)) e in
     (live_from p k.0, ap Some (eqb-true on b k.1), grind (arith, nat_tests, k.2), grind (arith, nat_tests, k.3))
@@ -88,57 +88,100 @@ depends_exactly heads names b at len number grade deps row l = record {
   each = λ n d. l.each n (elim d [ inl k ↦ inl k | inr o ↦ inr (overlaps_touched heads b at len number grade deps n o) ]);
 }
 
--- the row with what is touched among the first i heads besides
-pub record Touches (heads : List Head) (b at len i : ℕ) (old row : List ℕ) : Type 0 where
+-- a change that is touched is listed by its block, and its entry shares a byte
+touch_entry : (b at len : ℕ) (k : Kind) (p : Place) → kind_touches b at len k p ≡ true → ((not (is_at p place.Disk) && is_on b k) ≡ true) × (shares at len (at_of k) (len_of k) ≡ true)
+touch_entry b at len (Change on own_at own_len grade) place.Memory e = let k = parts true (on == b) (nat_lt own_at (at + len)) (nat_lt at (own_at + own_len)) e in (k.1, rw (k.2, k.3) refl)
+touch_entry b at len (Change on own_at own_len grade) place.Flight e = let k = parts true (on == b) (nat_lt own_at (at + len)) (nat_lt at (own_at + own_len)) e in (k.1, rw (k.2, k.3) refl)
+touch_entry b at len (Change on own_at own_len grade) place.Disk e = absurd (false≢true e)
+touch_entry b at len Empty p e = absurd (false≢true e)
+touch_entry b at len OpenGate p e = absurd (false≢true e)
+touch_entry b at len SealedGate p e = absurd (false≢true e)
+
+and_false : (a : Bool) → (a && false) ≡ true → ⊥
+and_false true e = false≢true e
+and_false false e = false≢true e
+
+entry_touch : (b at len : ℕ) (k : Kind) (p : Place) → (not (is_at p place.Disk) && is_on b k) ≡ true → shares at len (at_of k) (len_of k) ≡ true → kind_touches b at len k p ≡ true
+entry_touch b at len (Change on own_at own_len grade) place.Memory e s = rw e s
+entry_touch b at len (Change on own_at own_len grade) place.Flight e s = rw e s
+entry_touch b at len (Change on own_at own_len grade) place.Disk e s = absurd (false≢true e)
+entry_touch b at len Empty p e s = absurd (and_false (not (is_at p place.Disk)) e)
+entry_touch b at len OpenGate p e s = absurd (and_false (not (is_at p place.Disk)) e)
+entry_touch b at len SealedGate p e s = absurd (and_false (not (is_at p place.Disk)) e)
+
+-- the list of a block has its live changes, and no others
+in_entries : (b : ℕ) (ps : List Patch) (p : Patch) → In ps p → is_live_on b p ≡ true → In (entries_on b ps) (entry p)
+in_entries b [] p i live = absurd i
+in_entries b (q ∷ qs) p (inl e) live = rw (subst (λ x. is_live_on b x ≡ true) (sym e) live) (inl (ap entry e))
+in_entries b (q ∷ qs) p (inr i) live = elim (cases_Bool (is_live_on b q)) [ inl f ↦ rw f (inr (in_entries b qs p i live)) | inr f ↦ rw f (in_entries b qs p i live) ]
+
+record IsEntry (b : ℕ) (ps : List Patch) (e : Entry) : Type 0 where
+  patch : Patch
+  head : In ps patch
+  live : is_live_on b patch ≡ true
+  same : entry patch ≡ e
+
+entries_in : (b : ℕ) (ps : List Patch) (e : Entry) → In (entries_on b ps) e → IsEntry b ps e
+entries_in b [] e i = absurd i
+entries_in b (q ∷ qs) e i = elim (cases_Bool (is_live_on b q)) [
+  | inl f ↦ elim (rw f at i) [ inl same ↦ record { patch = q; head = inl refl; live = f; same = same } | inr j ↦ let r = entries_in b qs e j in record { patch = r.patch; head = inr r.head; live = r.live; same = r.same } ]
+  | inr f ↦ let r = entries_in b qs e (rw f at i) in record { patch = r.patch; head = inr r.head; live = r.live; same = r.same }
+]
+
+-- the row with what is touched besides, where the entries of rest are still to come
+pub record Touches (heads : List Patch) (rest : List Entry) (b at len : ℕ) (old row : List ℕ) : Type 0 where
   pub rising : IsStrictlyIncreasing row
-  pub only : (n : ℕ) → Contains row n → Contains old n ⊎ IsTouched (patches_of heads) b at len n
+  pub only : (n : ℕ) → Contains row n → Contains old n ⊎ IsTouched heads b at len n
   pub kept : (n : ℕ) → Contains old n → Contains row n
-  pub each : (k : ℕ) (d : Head) → k < i → k < length heads → touches b at len (patch_of (get_or heads k d)) ≡ true → Contains row (get_or heads k d).number
+  pub live : (e : Entry) → In rest e → In (entries_on b heads) e
+  pub each : (p : Patch) → Contains heads p → touches b at len p ≡ true → In rest (entry p) ⊎ Contains row p.number
 
-pub touches_none : (heads : List Head) (b at len : ℕ) (row : List ℕ) → IsStrictlyIncreasing row → Touches heads b at len 0 row row
-touches_none heads b at len row rising = record { rising = rising; only = λ n c. inl c; kept = λ n c. c; each = λ k d lt. absurd (omega (arith, lt)) }
+pub touches_none : (heads : List Patch) (list : List Entry) (b at len : ℕ) (row : List ℕ) → list ≡ entries_on b heads → IsStrictlyIncreasing row → Touches heads list b at len row row
+touches_none heads list b at len row listed rising = record {
+  rising = rising;
+  only = λ n c. inl c;
+  kept = λ n c. c;
+  live = λ e i. subst (λ es. In es e) listed i;
+  each = λ p c t. inl (subst (λ es. In es (entry p)) (sym listed) (in_entries b heads p (In-from_Contains heads p c) (touch_entry b at len p.kind p.place t).0));
+}
 
-module _ (heads : List Head) (b at len i : ℕ) (old row : List ℕ) (e : Head) (lt : i < length heads) (x : Touches heads b at len i old row) where
-  here : (k : ℕ) (d : Head) → (k < i → ⊥) → k < i + 1 → get_or heads i e ≡ get_or heads k d
-  here k d past up = let same : i ≡ k = omega (arith, up, past) in any_default heads i e d lt ∙ ap (λ j. get_or heads j d) same
+module _ (heads : List Patch) (rest : List Entry) (b at len : ℕ) (old row : List ℕ) (e : Entry) (left : List Entry) (next : rest ≡ e ∷ left) (x : Touches heads rest b at len old row) where
+  touched_here : shares at len e.at e.len ≡ true → IsTouched heads b at len e.number
+  touched_here s =
+      let l = entries_in b heads e (x.live e (subst (λ es. In es e) (sym next) (inl refl))) in
+      record {
+        patch = l.patch;
+        head = Contains-from_In heads l.patch l.head;
+        numbered = ap (λ f. f.number) l.same;
+        shares = entry_touch b at len l.patch.kind l.patch.place l.live (subst (λ f. shares at len f.at f.len ≡ true) (sym l.same) s);
+      }
 
-  pub touches_more : (new : List ℕ) → touches b at len (patch_of (get_or heads i e)) ≡ true → Gains row (get_or heads i e).number new → Touches heads b at len (i + 1) old new
-  touches_more new t g = record {
+  pub touches_more : (new : List ℕ) → shares at len e.at e.len ≡ true → Gains row e.number new → Touches heads left b at len old new
+  touches_more new s g = record {
     rising = g.rising;
-    only = λ n c. elim (g.only n c) [
-      | inl o ↦ x.only n o
-      | inr same ↦ inr (record { patch = patch_of (get_or heads i e); head = patch_at heads i e lt; numbered = sym same; shares = t })
-    ];
+    only = λ n c. elim (g.only n c) [ inl o ↦ x.only n o | inr same ↦ inr (subst (IsTouched heads b at len) (sym same) (touched_here s)) ];
     kept = λ n c. g.kept n (x.kept n c);
-    each = λ k d up inside q. elim (cases_lt k i) [
-      | inl o ↦ g.kept _ (x.each k d o inside q)
-      | inr past ↦ subst (Contains new) (ap (λ (h : Head). h.number) (here k d (λ h. omega (arith, h, past)) up)) g.gained
+    live = λ f i. x.live f (subst (λ es. In es f) (sym next) (inr i));
+    each = λ p c t. elim (x.each p c t) [
+      | inl i ↦ elim (subst (λ es. In es (entry p)) next i) [ inl same ↦ inr (subst (Contains new) (ap (λ f. f.number) same) g.gained) | inr j ↦ inl j ]
+      | inr o ↦ inr (g.kept p.number o)
     ];
   }
 
-  pub touches_skip : touches b at len (patch_of (get_or heads i e)) ≡ false → Touches heads b at len (i + 1) old row
+  pub touches_skip : shares at len e.at e.len ≡ false → Touches heads left b at len old row
   touches_skip none = record {
     rising = x.rising;
     only = x.only;
     kept = x.kept;
-    each = λ k d up inside q. elim (cases_lt k i) [
-      | inl o ↦ x.each k d o inside q
-      | inr past ↦ absurd (false≢true (sym none ∙ subst (λ h. touches b at len (patch_of h) ≡ true) (sym (here k d (λ h. omega (arith, h, past)) up)) q))
+    live = λ f i. x.live f (subst (λ es. In es f) (sym next) (inr i));
+    each = λ p c t. elim (x.each p c t) [
+      | inl i ↦ elim (subst (λ es. In es (entry p)) next i) [
+        | inl same ↦ absurd (false≢true (sym none ∙ (ap (λ f. shares at len f.at f.len) same ∙ (touch_entry b at len p.kind p.place t).1)))
+        | inr j ↦ inl j
+      ]
+      | inr o ↦ inr o
     ];
   }
-
-pub touches_all : (heads : List Head) (names : List ℕ) (b at len i : ℕ) (old row : List ℕ) → length heads ≤ i → Lists (λ n. IsLiveNumber (patches_of heads) n × Contains names n) old → Touches heads b at len i old row → Lists (IsDependency (patches_of heads) names b at len) row
-touches_all heads names b at len i old row past l x = record {
-  rising = x.rising;
-  only = λ n c. elim (x.only n c) [ inl o ↦ inl (l.only n o) | inr t ↦ inr t ];
-  each = λ n d. elim d [
-    | inl k ↦ x.kept n (l.each n k)
-    | inr t ↦
-        let s = slot_in heads t.patch t.head in
-        let d = some_element heads s.0 s.1 in
-        subst (Contains row) (ap (λ p. p.number) (s.2 d) ∙ t.numbered) (x.each s.0 d (omega (arith, s.1, past)) s.1 (subst (λ p. touches b at len p ≡ true) (sym (s.2 d)) t.shares))
-  ];
-}
 
 module _ (heads : List Patch) (numbers blocks : ℕ) (order : List ℕ) (marks : List Bool) (K : Keeps heads numbers blocks order marks)
     (b at len : ℕ) (names : List ℕ) (grade : Grade) (deps : List ℕ) (depends : Lists (IsDependency heads names b at len) deps) where

@@ -1,18 +1,17 @@
 -- How marks spread.
-use Rattle.std.proofs.Common.{◌≡◌, ◌≢◌, ◌⊎◌, ℕ, zero, suc, ◌+◌, ◌<◌, ◌≤◌, Bool, true, false, List, [], ◌∷◌, ◌++◌, length, take, get_or, set, Contains, refl, sym, ap, subst, ◌∙◌, inl, inr, arith, get_or-set_same, get_or-set_other}
+use Rattle.std.proofs.Common.{◌≡◌, ◌⊎◌, ℕ, ◌+◌, ◌<◌, Bool, true, false, List, [], ◌∷◌, ◌++◌, length, take, get_or, set, Contains, refl, sym, ap, subst, ◌∙◌, inl, inr, arith, get_or-set_same, get_or-set_other}
 use Rattle.std.proofs.lemmas.Bool.{cases_eq}
 use Rattle.std.proofs.lemmas.List.{take_more}
-use Rattle.std.proofs.lemmas.List.Elements.{Contains-push_cases, Contains-append_left, Contains-push}
+use Rattle.std.proofs.lemmas.List.Elements.{Contains-push_cases}
 use Rattle.fst_types.specs.Closure.{one, join, IsAcyclic}
-use Rattle.fst_types.specs.Patches.{Patch}
 use Rattle.fst_types.specs.Dependencies.{DirectlyOn, DependsOn}
 use Rattle.fst_graph.specs.declared.head.Head.{Head}
 use Rattle.fst_graph.specs.declared.test.Test.{Test}
-use Rattle.fst_graph.specs.Heads.{IsRising, patch_of, patches_of}
+use Rattle.fst_graph.specs.Heads.{patch_of, patches_of}
 use Rattle.fst_graph.specs.Tests.{passes}
-use Rattle.fst_graph.specs.Marks.{HasSlot, HasNone, Has, SpreadsOne, Spreads, Shows, IsAbove, PassesAt}
-use Rattle.fst_graph.specs.Ordered.{IsClosedBelow, IsOrdered}
-use Rattle.fst_graph.proofs.Slots.{slot_number, slot_unique, direct_slot, has_none, none_slot, has_patch, some_element, patch_at, slot_in, patch_slot}
+use Rattle.fst_graph.specs.Marks.{HasSlot, Has, SpreadsOne, Spreads, Shows, IsAbove, PassesAt}
+use Rattle.fst_graph.specs.Ordered.{IsOrdered}
+use Rattle.fst_graph.proofs.Slots.{slot_number, has_patch, some_element, patch_at, slot_in, patch_slot}
 
 module _ (heads : List Head) (n : ℕ) (marks : List Bool) where
   pub one_marked : (s : ℕ) → length marks ≡ length heads → HasSlot heads n s → (q : ℕ) → DirectlyOn (patches_of heads) n q → Has heads marks q → SpreadsOne heads n marks (set marks s true)

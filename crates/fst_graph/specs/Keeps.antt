@@ -1,9 +1,11 @@
 -- What a graph's fields keep.
-use Rattle.std.specs.Prelude.{◌≡◌, ◌≤◌, ◌<◌, ℕ, Bool, List, length, Contains}
+use Rattle.std.specs.Prelude.{◌≡◌, ◌≤◌, ◌<◌, ℕ, Bool, List, [], length, Contains}
 use Rattle.fst_types.specs.Limits.{max_heads}
 use Rattle.fst_types.specs.Patches.{Patch, IsOn}
 use Rattle.fst_types.specs.Facts.{HeadsAreLawful}
 use Rattle.fst_graph.specs.Ordered.{IsOrdered}
+use Rattle.fst_graph.specs.Nodes.{Node, patches_in, AreLinked, AreGiven, AreCounted}
+use Rattle.fst_graph.specs.Lists.{Entry, AreListed}
 
 -- each change lies in one of the blocks
 abbrev pub IsInside : List Patch → ℕ → Type 0
@@ -16,3 +18,12 @@ pub record Keeps (heads : List Patch) (numbers blocks : ℕ) (order : List ℕ) 
   pub ordered : IsOrdered heads order
   pub given : (n : ℕ) → Contains order n → n ≤ numbers
   pub marked : length marks ≡ length heads
+
+-- what stands beside the patches tells of them, and nothing waits in the queue, which has a place for each
+pub record Tallies (nodes : List Node) (numbers blocks : ℕ) (lists : List (List Entry)) (queue : List ℕ) (queue_capacity : ℕ) : Type 0 where
+  pub linked : AreLinked nodes
+  pub given : AreGiven nodes numbers
+  pub counted : AreCounted nodes
+  pub listed : AreListed (patches_in nodes) blocks lists
+  pub idle : queue ≡ []
+  pub room : length nodes ≤ queue_capacity

@@ -5,8 +5,10 @@ pub mod Ordered
 pub mod Known
 pub mod Keeps
 pub mod Rows
-pub mod Settling
 pub mod Picking
 pub mod Reaching
 pub mod Grading
 pub mod Ready
+pub mod Nodes
+pub mod Lists
+pub mod Cascading

@@ -1,5 +1,5 @@
 -- An order in which each patch comes after those that it depends on.
-use Rattle.std.specs.Prelude.{◌≡◌, ◌==◌, ◌&&◌, ℕ, Bool, List, take, Contains}
+use Rattle.std.specs.Prelude.{◌==◌, ◌&&◌, ℕ, Bool, List, take, Contains}
 use Rattle.std.specs.List.{list_any}
 use Rattle.fst_types.specs.Patches.{Patch}
 use Rattle.fst_types.specs.Dependencies.{DirectlyOn}

@@ -19,6 +19,10 @@ kind_touches b at len Empty p = false
 kind_touches b at len OpenGate p = false
 kind_touches b at len SealedGate p = false
 
+-- len bytes from at on share a byte with own_len bytes from own_at on
+abbrev pub shares : (at len own_at own_len : ℕ) → Bool
+shares at len own_at own_len = nat_lt own_at (at + len) && nat_lt at (own_at + own_len)
+
 -- p is a change of b that is not on disk and shares a byte with len bytes from at on
 abbrev pub touches : ℕ → ℕ → ℕ → Patch → Bool
 touches b at len p = kind_touches b at len p.kind p.place

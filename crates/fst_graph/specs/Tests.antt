@@ -21,7 +21,6 @@ is_away block on place.Disk = false
 abbrev pub change_passes : Test → ℕ → ℕ → Place → Bool
 change_passes (test.Numbered number) n block at = n == number
 change_passes test.Open n block at = false
-change_passes test.Pending n block at = is_live_place at
 change_passes (test.Obstacle on) n block at = is_away block on at
 change_passes (test.LiveOn on) n block at = is_live_place at && (block == on)
 change_passes (test.LiveOff on) n block at = is_live_place at && not (block == on)
@@ -29,7 +28,6 @@ change_passes (test.LiveOff on) n block at = is_live_place at && not (block == o
 abbrev pub gate_passes : Test → ℕ → Bool
 gate_passes (test.Numbered number) n = n == number
 gate_passes test.Open n = true
-gate_passes test.Pending n = true
 gate_passes (test.Obstacle on) n = true
 gate_passes (test.LiveOn on) n = false
 gate_passes (test.LiveOff on) n = false

@@ -10,15 +10,16 @@ ghost use Rattle.fst_types.specs.Tests.{is_live};
 ghost use Rattle.fst_types.specs.declared.grade.Grade.{Grade};
 ghost use Rattle.fst_graph.specs.Known.{Known, unprepared, prepared_for, Foresees, numbers_of, rest_place, Refuses, AddsGate, AddsEmpty, AddsChange, SealsGate, DependsGate, Launches, IsStuckByGates, LandsBlock, MayLaunch, Forgets};
 
+use crate::cascade::{cascade, seal_slot};
 use crate::choice::{least_held, writable_set};
 use crate::gates::{depend_fault, gate_slot};
 use crate::growth::{gain, marked_last, missing_names};
 use crate::head::{Head, Kind};
+use crate::links::{link, reserve_above};
+use crate::lists::{Listed, empty_lists, land_block};
 use crate::marks::{ask, slot_of};
 use crate::pick::least_writable;
-use crate::places::{
-    cascade, keep_live, keep_live_numbers, land_all, launch_all, live_count, seal_all,
-};
+use crate::places::{keep_live, keep_live_numbers, launch_all, live_count};
 use crate::prepared::{Prepared, prepare};
 use crate::refusals::{make_fault, room_fault};
 use crate::row::{is_given, live_named};
@@ -30,7 +31,8 @@ use std::marker::Model;
 
 /// The heads, which are the patches not forgotten, in order of number. `order` names each after those that it depends
 /// on, and `marks` has a place for each. Where a change is prepared, each of the three has a free place for it.
-/// `reached` has a place for each block, for the walk that finds a grade.
+/// `reached` has a place for each block, for the walk that finds a grade. `lists` has for each block its changes that are
+/// not on disk, and `queue` a place for each head, for those on disk that are not counted down at their dependants yet.
 #[derive(Drop)]
 pub struct Graph {
     alloc: Global,
@@ -38,6 +40,8 @@ pub struct Graph {
     order: Vec<u32>,
     marks: Vec<bool>,
     reached: Vec<bool>,
+    lists: Vec<Vec<Listed>>,
+    queue: Vec<u32>,
     numbers: u32,
     blocks: u32,
     prepared: Option<Prepared>,
@@ -45,9 +49,11 @@ pub struct Graph {
 
 impl Model for Graph {
     ghost use Rattle.fst_graph.specs.Heads.{patches_of};
-    ghost use Rattle.std.specs.Prelude.{◌≡◌, option_map, IfSome, length, vec_len, vec_capacity};
+    ghost use Rattle.std.specs.Prelude.{◌≡◌, option_map, IfSome, length, map, vec_len, vec_capacity};
+    ghost use Rattle.fst_graph.specs.Lists.{entries_of, HasRoomInList};
+    ghost use Rattle.fst_graph.specs.Nodes.{nodes_of, HasRoomAbove};
     ghost use Rattle.fst_graph.specs.Known.{Known};
-    ghost use Rattle.fst_graph.specs.Keeps.{Keeps};
+    ghost use Rattle.fst_graph.specs.Keeps.{Keeps, Tallies};
     ghost use Rattle.fst_graph.specs.Ready.{prepared_of, IsReady, HasPlaces};
 
     ghost Value = { Known };
@@ -56,8 +62,11 @@ impl Model for Graph {
 
     ghost invariant = { λ g. Keeps (patches_of g.heads.items) g.numbers g.blocks g.order.items g.marks.items
         × IfSome g.prepared (IsReady (patches_of g.heads.items) g.numbers g.blocks)
-        × IfSome g.prepared (λ _. HasPlaces (vec_len g.heads) (vec_capacity g.heads) (vec_len g.order) (vec_capacity g.order) (vec_len g.marks) (vec_capacity g.marks))
-        × (length g.reached.items ≡ g.blocks) };
+        × IfSome g.prepared (λ _. HasPlaces (vec_len g.heads) (vec_capacity g.heads) (vec_len g.order) (vec_capacity g.order) (vec_len g.marks) (vec_capacity g.marks) (vec_capacity g.queue))
+        × (length g.reached.items ≡ g.blocks)
+        × Tallies (nodes_of g.heads.items) g.numbers g.blocks (map (λ l. entries_of l.items) g.lists.items) g.queue.items (vec_capacity g.queue)
+        × IfSome g.prepared (λ p. HasRoomAbove g.heads.items p.dependencies.items)
+        × IfSome g.prepared (λ p. HasRoomInList (map (λ l. vec_len l) g.lists.items) (map (λ l. vec_capacity l) g.lists.items) p.block) };
 }
 
 // Room for one more head.
@@ -65,6 +74,7 @@ fn reserve_one(
     heads: &mut Vec<Head>,
     order: &mut Vec<u32>,
     marks: &mut Vec<bool>,
+    queue: &mut Vec<u32>,
 ) -> Result<(), AllocError>
     ensures heads { heads.new.items ≡ heads.old.items }
     ensures order { order.new.items ≡ order.old.items }
@@ -72,10 +82,14 @@ fn reserve_one(
     ensures room_heads { OnOk result (vec_len heads.new < vec_capacity heads.new) }
     ensures room_order { OnOk result (vec_len order.new < vec_capacity order.new) }
     ensures room_marks { OnOk result (vec_len marks.new < vec_capacity marks.new) }
+    ensures queue { queue.new.items ≡ queue.old.items }
+    ensures room_queue { OnOk result (vec_len heads.new < vec_capacity queue.new) }
+    ensures wide { vec_capacity queue.old ≤ vec_capacity queue.new }
 {
     heads.reserve(1)?;
     order.reserve(1)?;
-    marks.reserve(1)
+    marks.reserve(1)?;
+    queue.reserve(heads.len() + 1)
 }
 
 // Where a new empty patch is: on disk where it depends on nothing live.
@@ -89,12 +103,15 @@ fn resting_place(row: &[u32]) -> Place
 }
 
 impl Graph {
-    /// No patch, the numbers up to the given one counting as on disk and forgotten. It takes a byte for each block, and is
-    /// refused as `Memory`.
+    /// No patch, the numbers up to the given one counting as on disk and forgotten. It takes a byte and a list for each
+    /// block, and is refused as `Memory`.
     pub fn new(alloc: Global, shape: Shape, numbers: u32) -> Result<Graph, Fault>
         ensures { MatchResult result (λ g. g ≡ record { heads = []; numbers = numbers; blocks = shape.blocks; prepared = None }) (λ f. f ≡ Fault.Memory) }
     {
         let Ok(reached) = vec![in alloc; false; shape.blocks as usize] else {
+            return Err(Fault::Memory);
+        };
+        let Ok(lists) = empty_lists(alloc, shape.blocks) else {
             return Err(Fault::Memory);
         };
         Ok(Graph {
@@ -103,6 +120,8 @@ impl Graph {
             order: Vec::new(alloc),
             marks: Vec::new(alloc),
             reached,
+            lists,
+            queue: Vec::new(alloc),
             numbers,
             blocks: shape.blocks,
             prepared: None,
@@ -141,7 +160,14 @@ impl Graph {
         if let Some(fault) = room_fault(&self.heads, self.numbers) {
             return Err(fault);
         }
-        if reserve_one(&mut self.heads, &mut self.order, &mut self.marks).is_err() {
+        if reserve_one(
+            &mut self.heads,
+            &mut self.order,
+            &mut self.marks,
+            &mut self.queue,
+        )
+        .is_err()
+        {
             return Err(Fault::Memory);
         }
         let number = self.numbers + 1;
@@ -150,6 +176,8 @@ impl Graph {
             kind: Kind::OpenGate,
             place: Place::Memory,
             dependencies: SmallVec::new(self.alloc),
+            count: 0,
+            dependants: SmallVec::new(self.alloc),
         });
         self.order.push_reserved(number);
         self.marks.push_reserved(false);
@@ -173,16 +201,29 @@ impl Graph {
         let Ok(dependencies) = live_named(self.alloc, &self.heads, after) else {
             return Err(Fault::Memory);
         };
-        if reserve_one(&mut self.heads, &mut self.order, &mut self.marks).is_err() {
+        if reserve_one(
+            &mut self.heads,
+            &mut self.order,
+            &mut self.marks,
+            &mut self.queue,
+        )
+        .is_err()
+        {
+            return Err(Fault::Memory);
+        }
+        if reserve_above(&mut self.heads, dependencies.as_slice()).is_err() {
             return Err(Fault::Memory);
         }
         let number = self.numbers + 1;
         let place = resting_place(dependencies.as_slice());
+        link(&mut self.heads, dependencies.as_slice(), number);
         self.heads.push_reserved(Head {
             number,
             kind: Kind::Empty,
             place,
+            count: dependencies.len(),
             dependencies,
+            dependants: SmallVec::new(self.alloc),
         });
         self.order.push_reserved(number);
         self.marks.push_reserved(false);
@@ -215,11 +256,12 @@ impl Graph {
         ensures blocks { self.new.blocks ≡ self.old.blocks }
     {
         self.prepared = None;
-        if let Err(fault) = gate_slot(&self.heads, self.numbers, gate.0) {
-            return Err(fault);
-        }
-        seal_all(&mut self.heads, gate.0);
-        cascade(&mut self.heads, &self.order, &mut self.marks);
+        let slot = match gate_slot(&self.heads, self.numbers, gate.0) {
+            Ok(slot) => slot,
+            Err(fault) => return Err(fault),
+        };
+        seal_slot(&mut self.heads, &mut self.queue, gate.0, slot);
+        cascade(&mut self.heads, &mut self.queue);
         Ok(())
     }
 
@@ -250,9 +292,13 @@ impl Graph {
         let Ok(order) = marked_last(self.alloc, &self.heads, &self.marks, &self.order) else {
             return Err(Fault::Memory);
         };
+        let Ok(()) = reserve_above(&mut self.heads, names.as_slice()) else {
+            return Err(Fault::Memory);
+        };
         let Ok(()) = gain(&mut self.heads, gate.0, names.as_slice()) else {
             return Err(Fault::Memory);
         };
+        link(&mut self.heads, names.as_slice(), gate.0);
         self.order = order;
         Ok(())
     }
@@ -273,8 +319,8 @@ impl Graph {
         ensures blocks { self.new.blocks ≡ self.old.blocks }
     {
         self.prepared = None;
-        land_all(&mut self.heads, block.0);
-        cascade(&mut self.heads, &self.order, &mut self.marks);
+        land_block(&mut self.heads, &mut self.lists, &mut self.queue, block.0);
+        cascade(&mut self.heads, &mut self.queue);
     }
 
     /// Makes room for a new change, and answers the number and the grade that `add_data` with these arguments will answer.
@@ -301,6 +347,7 @@ impl Graph {
         let Ok(prepared) = prepare(
             self.alloc,
             &self.heads,
+            &self.lists[block.0 as usize],
             &self.order,
             &mut self.marks,
             &mut self.reached,
@@ -310,7 +357,20 @@ impl Graph {
         ) else {
             return Err(Fault::Memory);
         };
-        if reserve_one(&mut self.heads, &mut self.order, &mut self.marks).is_err() {
+        if reserve_one(
+            &mut self.heads,
+            &mut self.order,
+            &mut self.marks,
+            &mut self.queue,
+        )
+        .is_err()
+        {
+            return Err(Fault::Memory);
+        }
+        if reserve_above(&mut self.heads, prepared.dependencies.as_slice()).is_err() {
+            return Err(Fault::Memory);
+        }
+        if self.lists[block.0 as usize].reserve(1).is_err() {
             return Err(Fault::Memory);
         }
         let grade = prepared.grade;
@@ -339,12 +399,17 @@ impl Graph {
         };
         let number = self.numbers + 1;
         let grade = prepared.grade;
+        let span = prepared.span;
+        link(&mut self.heads, prepared.dependencies.as_slice(), number);
         self.heads.push_reserved(Head {
             number,
-            kind: Kind::Change(prepared.block, prepared.span, grade),
+            kind: Kind::Change(prepared.block, span, grade),
             place: Place::Memory,
+            count: prepared.dependencies.len(),
             dependencies: prepared.dependencies,
+            dependants: SmallVec::new(self.alloc),
         });
+        self.lists[prepared.block as usize].push_reserved(Listed { number, span });
         self.order.push_reserved(number);
         self.marks.push_reserved(false);
         self.numbers = number;

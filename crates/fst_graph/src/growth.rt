@@ -1,13 +1,13 @@
 //! What an open gate gains. None of it is the gate or depends on it, so that an order with the gate and all that depend
 //! on it last, which else stays as it was, still names each patch after those that it depends on.
 
-ghost use Rattle.std.specs.Prelude.{◌≡◌, ◌↔◌, ◌++◌, length, map, filter, not, IsTrue, IfOk, OnOk, OnErr, Contains};
+ghost use Rattle.std.specs.Prelude.{◌≡◌, ◌↔◌, ◌++◌, ◌≤◌, length, map, filter, not, IsTrue, IfOk, OnOk, OnErr, Contains};
 ghost use Rattle.fst_types.specs.Dependencies.{DirectlyOn, IsLiveNumber};
-ghost use Rattle.fst_types.specs.Gating.{gains};
 ghost use Rattle.fst_types.specs.Lists.{Lists};
 ghost use Rattle.fst_graph.specs.Heads.{IsRising, patches_of};
 ghost use Rattle.fst_graph.specs.Known.{numbers_of};
 ghost use Rattle.fst_graph.specs.Marks.{mark_of};
+ghost use Rattle.fst_graph.specs.Nodes.{Node, nodes_of, at_number, gains_names, HasRoomAbove};
 ghost use Rattle.fst_graph.specs.Rows.{IsMissing};
 
 use crate::head::Head;
@@ -79,14 +79,19 @@ pub fn marked_last(
     Ok(moved)
 }
 
-/// The gate has the names besides. Where there is no memory it does not.
+/// The gate has the names besides, which are counted. Where there is no memory it does not.
 pub fn gain(heads: &mut Vec<Head>, gate: u32, names: &[u32]) -> Result<(), AllocError>
-    requires { IsRising heads.old.items }
-    ensures ok { OnOk result (patches_of heads.new.items ≡ map (gains gate names.now) (patches_of heads.old.items)) }
-    ensures same { OnErr result (patches_of heads.new.items ≡ patches_of heads.old.items) }
+    requires rising { IsRising heads.old.items }
+    requires counted { (x : Node) → Contains (nodes_of heads.old.items) x → x.count ≤ length x.patch.dependencies }
+    ensures ok { OnOk result (nodes_of heads.new.items ≡ map (at_number gate (gains_names names.now)) (nodes_of heads.old.items)) }
+    ensures same { OnErr result (nodes_of heads.new.items ≡ nodes_of heads.old.items) }
+    ensures room { OnOk result (HasRoomAbove heads.old.items names.now → HasRoomAbove heads.new.items names.now) }
 {
-    match slot_of(heads, gate) {
-        Some(slot) => heads[slot].dependencies.extend_from_slice(names),
-        None => Ok(()),
+    if let Some(slot) = slot_of(heads, gate) {
+        let head = &mut heads[slot];
+        let before = head.dependencies.len();
+        head.dependencies.extend_from_slice(names)?;
+        head.count += head.dependencies.len() - before;
     }
+    Ok(())
 }

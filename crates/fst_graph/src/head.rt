@@ -12,11 +12,14 @@ pub enum Kind {
     SealedGate,
 }
 
-/// A patch that is not forgotten, with the numbers that it directly depends on.
+/// A patch that is not forgotten, with the numbers that it directly depends on, how many of those are not on disk, and
+/// the numbers of the patches that directly depend on it.
 #[derive(Drop)]
 pub struct Head {
     pub number: u32,
     pub kind: Kind,
     pub place: Place,
     pub dependencies: SmallVec<u32, 4>,
+    pub count: usize,
+    pub dependants: SmallVec<u32, 4>,
 }

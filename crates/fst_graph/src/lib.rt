@@ -1,12 +1,15 @@
 //! Which patches depend on which, and what may be written: the patches without their bytes.
 #![tactic(auto)]
 
+mod cascade;
 mod choice;
 mod gates;
 mod grade;
 mod graph;
 mod growth;
 mod head;
+mod links;
+mod lists;
 mod marks;
 mod pick;
 mod places;

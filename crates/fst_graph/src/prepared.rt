@@ -11,11 +11,13 @@ ghost use Rattle.fst_graph.specs.Grading.{MayBeHard};
 ghost use Rattle.fst_graph.specs.Heads.{IsRising, patches_of};
 ghost use Rattle.fst_graph.specs.Keeps.{IsInside};
 ghost use Rattle.fst_graph.specs.Known.{numbers_of};
+ghost use Rattle.fst_graph.specs.Lists.{entries_of, entries_on};
 ghost use Rattle.fst_graph.specs.Ordered.{IsOrdered};
 ghost use Rattle.fst_graph.specs.Rows.{IsDependency};
 
 use crate::grade::grade_of;
 use crate::head::Head;
+use crate::lists::Listed;
 use crate::row::{Row, dependencies_of};
 use fst_types::{Grade, PatchNo, Span};
 use std::alloc::{AllocError, Global};
@@ -51,6 +53,7 @@ fn copy_of(alloc: Global, names: &[PatchNo]) -> Result<Vec<PatchNo>, AllocError>
 pub fn prepare(
     alloc: Global,
     heads: &[Head],
+    list: &[Listed],
     order: &[u32],
     marks: &mut [bool],
     reached: &mut [bool],
@@ -65,13 +68,14 @@ pub fn prepare(
     requires ordered { IsOrdered (patches_of heads.now) order.now }
     requires inside { IsInside (patches_of heads.now) (length reached.old) }
     requires block { block < length reached.old }
+    requires listed { entries_of list.now ≡ entries_on block (patches_of heads.now) }
     ensures block { IfOk result (λ p. p.block ≡ block) }
     ensures span { IfOk result (λ p. p.span ≡ span) }
     ensures names { IfOk result (λ p. p.names.items ≡ names.now) }
     ensures depends { IfOk result (λ p. Lists (IsDependency (patches_of heads.now) (numbers_of names.now) block span.at span.len) p.dependencies.items) }
     ensures graded { IfOk result (λ p. FollowsRule p.grade (MayBeHard (patches_of heads.now) block p.dependencies.items)) }
 {
-    let dependencies = dependencies_of(alloc, heads, block, span, names)?;
+    let dependencies = dependencies_of(alloc, heads, list, block, span, names)?;
     let names = copy_of(alloc, names)?;
     let grade = grade_of(heads, order, marks, reached, block, dependencies.as_slice());
     Ok(Prepared {

@@ -8,9 +8,11 @@ ghost use Rattle.fst_types.specs.Lists.{Lists};
 ghost use Rattle.fst_types.specs.Order.{NamesUnknown};
 ghost use Rattle.fst_graph.specs.Heads.{IsRising, patch_of, patches_of};
 ghost use Rattle.fst_graph.specs.Known.{numbers_of};
-ghost use Rattle.fst_graph.specs.Rows.{Gains, touches, IsDependency};
+ghost use Rattle.fst_graph.specs.Lists.{entries_of, entries_on};
+ghost use Rattle.fst_graph.specs.Rows.{Gains, shares, IsDependency};
 
-use crate::head::{Head, Kind};
+use crate::head::Head;
+use crate::lists::Listed;
 use crate::marks::slot_of;
 use crate::test::is_live;
 use fst_types::{PatchNo, Span};
@@ -85,37 +87,31 @@ fn end_of(span: Span) -> u64
     u64::from(at) + u64::from(len)
 }
 
-/// Whether the patch is a change of the block that is not on disk and shares a byte with the span.
-fn touches(head: &Head, block: u32, span: Span) -> bool
-    ensures { result ≡ touches block span.at span.len (patch_of head.now) }
+// Whether the two share a byte.
+fn shares(own: Span, span: Span) -> bool
+    ensures { result ≡ shares span.at span.len own.at own.len }
 {
-    match head.kind {
-        Kind::Change(on, own, _) => {
-            is_live(head.place)
-                && on == block
-                && u64::from(own.at) < end_of(span)
-                && u64::from(span.at) < end_of(own)
-        }
-        Kind::Empty | Kind::OpenGate | Kind::SealedGate => false,
-    }
+    u64::from(own.at) < end_of(span) && u64::from(span.at) < end_of(own)
 }
 
 /// What a new change of the span depends on: the names that are not on disk, and the changes not on disk that share a
-/// byte with it.
+/// byte with it. The list has the changes of the block that are not on disk.
 pub fn dependencies_of(
     alloc: Global,
     heads: &[Head],
+    list: &[Listed],
     block: u32,
     span: Span,
     names: &[PatchNo],
 ) -> Result<Row, AllocError>
-    requires { IsRising heads.now }
+    requires rising { IsRising heads.now }
+    requires listed { entries_of list.now ≡ entries_on block (patches_of heads.now) }
     ensures { IfOk result (λ row. Lists (IsDependency (patches_of heads.now) (numbers_of names.now) block span.at span.len) row.items) }
 {
     let mut row = live_named(alloc, heads, names)?;
-    for head in heads {
-        if touches(head, block, span) {
-            put(&mut row, head.number)?;
+    for listed in list {
+        if shares(listed.span, span) {
+            put(&mut row, listed.number)?;
         }
     }
     Ok(row)

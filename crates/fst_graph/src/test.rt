@@ -14,8 +14,6 @@ pub enum Test {
     Numbered(u32),
     /// It is an open gate.
     Open,
-    /// It is an open gate, or a change that is not on disk.
-    Pending,
     /// It is an open gate, or a change that is not on disk and not in memory on the block.
     Obstacle(u32),
     /// It is a change of the block that is not on disk.
@@ -32,7 +30,6 @@ pub fn passes(test: Test, head: &Head) -> bool
         Kind::Change(block, _, _) => match test {
             Test::Numbered(number) => head.number == number,
             Test::Open => false,
-            Test::Pending => is_live(head.place),
             Test::Obstacle(on) => match head.place {
                 Place::Memory => block != on,
                 Place::Flight => true,
@@ -43,14 +40,12 @@ pub fn passes(test: Test, head: &Head) -> bool
         },
         Kind::OpenGate => match test {
             Test::Numbered(number) => head.number == number,
-            Test::Open | Test::Pending | Test::Obstacle(_) => true,
+            Test::Open | Test::Obstacle(_) => true,
             Test::LiveOn(_) | Test::LiveOff(_) => false,
         },
         Kind::Empty | Kind::SealedGate => match test {
             Test::Numbered(number) => head.number == number,
-            Test::Open | Test::Pending | Test::Obstacle(_) | Test::LiveOn(_) | Test::LiveOff(_) => {
-                false
-            }
+            Test::Open | Test::Obstacle(_) | Test::LiveOn(_) | Test::LiveOff(_) => false,
         },
     }
 }

@@ -3,8 +3,12 @@
 ghost use Rattle.std.specs.Prelude.{◌≡◌, ◌<◌, ◌≤◌};
 
 use crate::graph::Graph;
+use crate::tests::same::{
+    same_answer, same_block, same_change, same_count, same_held, same_number, same_patches,
+    same_place,
+};
 use crate::tests::twin::Twin;
-use fst_types::{BlockNo, Fault, PatchNo, Shape, Span};
+use fst_types::{BlockNo, Fault, Grade, PatchNo, Shape, Span};
 use std::alloc::{AllocError, Global};
 use std::process::Abort;
 use std::test::Fail;
@@ -49,6 +53,27 @@ impl Dice {
     }
 }
 
+// What the graph answers to a change, which `room` may have foreseen.
+fn answer_to(
+    rt: &impl Abort,
+    graph: &mut Graph,
+    block: BlockNo,
+    span: Span,
+    names: &[PatchNo],
+    is_foreseen: bool,
+) -> Result<(PatchNo, Grade), Fault>
+    requires { block.0 < graph.old.blocks }
+    ensures { graph.new.blocks ≡ graph.old.blocks }
+{
+    if !is_foreseen {
+        return graph.add_data(block, span, names);
+    }
+    let foreseen = graph.room(block, span, names);
+    let made = graph.add_data(block, span, names);
+    same_change(rt, foreseen, made);
+    made
+}
+
 /// A graph and its twin.
 #[derive(Drop)]
 struct Pair {
@@ -80,38 +105,22 @@ impl Pair {
         let len = 1 + dice.roll(4 - at);
         let span = Span { at, len };
         let names = dice.names(self.alloc, self.twin.numbers())?;
-        let foreseen = if dice.roll(2) == 0 {
-            Some(self.graph.room(block, span, &names))
-        } else {
-            None
-        };
-        let made = self.graph.add_data(block, span, &names);
-        if let Some(foreseen) = foreseen {
-            assert_eq!(rt; foreseen, made);
-        }
-        match self.twin.make_fault(&names) {
-            Some(fault) => assert_eq!(rt; made, Err(fault)),
-            None => assert_eq!(rt; made, Ok(self.twin.add_data(block, span, &names)?)),
-        }
+        let is_foreseen = dice.roll(2) == 0;
+        let made = answer_to(rt, &mut self.graph, block, span, &names, is_foreseen);
+        same_change(rt, made, self.twin.try_data(block, span, &names)?);
         Ok(())
     }
 
     fn empty(&mut self, rt: &impl Abort, dice: &mut Dice) -> Result<(), Fail> {
         let names = dice.names(self.alloc, self.twin.numbers())?;
         let made = self.graph.add_empty(&names);
-        match self.twin.make_fault(&names) {
-            Some(fault) => assert_eq!(rt; made, Err(fault)),
-            None => assert_eq!(rt; made, Ok(self.twin.add_empty(&names)?)),
-        }
+        same_number(rt, made, self.twin.try_empty(&names)?);
         Ok(())
     }
 
     fn gate(&mut self, rt: &impl Abort) -> Result<(), Fail> {
         let made = self.graph.add_gate();
-        match self.twin.room_fault() {
-            Some(fault) => assert_eq!(rt; made, Err(fault)),
-            None => assert_eq!(rt; made, Ok(self.twin.add_gate()?)),
-        }
+        same_number(rt, made, self.twin.try_gate()?);
         Ok(())
     }
 
@@ -119,25 +128,13 @@ impl Pair {
         let gate = dice.name(self.twin.numbers());
         let names = dice.names(self.alloc, self.twin.numbers())?;
         let answer = self.graph.depend(gate, &names);
-        match self.twin.depend_fault(gate, &names)? {
-            Some(fault) => assert_eq!(rt; answer, Err(fault)),
-            None => {
-                assert_eq!(rt; answer, Ok(()));
-                self.twin.depend(gate, &names)?;
-            }
-        }
+        same_answer(rt, answer, self.twin.try_depend(gate, &names)?);
         Ok(())
     }
 
     fn seal(&mut self, rt: &impl Abort, gate: PatchNo) {
         let answer = self.graph.seal(gate);
-        match self.twin.gate_fault(gate) {
-            Some(fault) => assert_eq!(rt; answer, Err(fault)),
-            None => {
-                assert_eq!(rt; answer, Ok(()));
-                self.twin.seal(gate);
-            }
-        }
+        same_answer(rt, answer, self.twin.try_seal(gate));
     }
 
     // Puts the least writable block in flight, and answers which it is.
@@ -158,7 +155,7 @@ impl Pair {
 
     fn forget(&mut self, rt: &impl Abort) {
         let dropped = self.graph.forget();
-        assert_eq!(rt; dropped as usize, self.twin.forget());
+        same_count(rt, dropped as usize, self.twin.forget());
     }
 
     // One random call.
@@ -184,59 +181,88 @@ impl Pair {
     fn compare_places(&self, rt: &impl Abort) {
         for number in 0..=self.twin.numbers().saturating_add(1) {
             let no = PatchNo(number);
-            assert_eq!(rt; self.graph.place(no), self.twin.place(no));
+            same_place(rt, no, self.graph.place(no), self.twin.place(no));
         }
-        assert_eq!(rt; self.graph.live() as usize, self.twin.live());
+        same_count(rt, self.graph.live() as usize, self.twin.live());
     }
 
-    fn compare_choice(&mut self, rt: &impl Abort, block: BlockNo) -> Result<(), Fail> {
+    fn compare_chosen(&mut self, rt: &impl Abort, block: BlockNo) -> Result<(), Fail> {
         let chosen = self.graph.chosen(block)?;
-        let expected = self.twin.chosen(block)?;
-        assert_eq!(rt; chosen.as_slice(), expected.as_slice());
-        assert_eq!(rt; self.graph.hard_held(block), self.twin.hard_held(block)?);
+        same_patches(rt, block, &chosen, &self.twin.chosen(block)?);
+        Ok(())
+    }
+
+    fn compare_held(&mut self, rt: &impl Abort, block: BlockNo) -> Result<(), Fail> {
+        let held = self.graph.hard_held(block);
+        same_held(rt, block, held, self.twin.hard_held(block)?);
+        Ok(())
+    }
+
+    fn compare_pick(&mut self, rt: &impl Abort) -> Result<(), Fail> {
+        let picked = self.graph.pick();
+        same_block(rt, picked, self.twin.pick()?);
         Ok(())
     }
 
     fn compare(&mut self, rt: &impl Abort) -> Result<(), Fail> {
         self.compare_places(rt);
         for block in 0..self.blocks {
-            self.compare_choice(rt, BlockNo(block))?;
+            self.compare_chosen(rt, BlockNo(block))?;
+            self.compare_held(rt, BlockNo(block))?;
         }
-        assert_eq!(rt; self.graph.pick(), self.twin.pick()?);
-        Ok(())
+        self.compare_pick(rt)
     }
 
-    // With every gate sealed, and block after block written, nothing is left that is not on disk.
-    fn finish(&mut self, rt: &impl Abort) -> Result<(), Fail> {
+    fn seal_all(&mut self, rt: &impl Abort) {
         for number in 1..=self.twin.numbers() {
             self.seal(rt, PatchNo(number));
         }
+    }
+
+    fn land_all(&mut self) {
         for block in 0..self.blocks {
             self.land(BlockNo(block));
         }
-        self.compare(rt)?;
+    }
+
+    // Writes block after block, once for each number that was given.
+    fn write_all(&mut self) -> Result<(), Fault> {
         for _ in 0..=self.twin.numbers() {
             if let Some(block) = self.launch()? {
                 self.land(block);
             }
         }
-        self.compare_places(rt);
-        assert_eq!(rt; self.graph.live(), 0);
         Ok(())
     }
+
+    // With every gate sealed, and block after block written, nothing is left that is not on disk.
+    fn finish(&mut self, rt: &impl Abort) -> Result<(), Fail> {
+        self.seal_all(rt);
+        self.land_all();
+        self.compare(rt)?;
+        self.write_all()?;
+        self.compare_places(rt);
+        same_count(rt, self.graph.live() as usize, 0);
+        Ok(())
+    }
+}
+
+// A graph of three or four blocks beside its twin, over random calls.
+fn play(rt: &impl Abort, alloc: Global, dice: &mut Dice) -> Result<(), Fail> {
+    let blocks = 3 + dice.roll(2);
+    let mut pair = Pair::new(alloc, blocks)?;
+    for _ in 0..40 {
+        pair.step(rt, dice)?;
+        pair.compare(rt)?;
+    }
+    pair.finish(rt)
 }
 
 #[test]
 fn random_graphs(rt: HostRuntime) -> Result<(), Fail> {
     let mut dice = Dice { state: 1 };
     for _ in 0..200 {
-        let blocks = 3 + dice.roll(2);
-        let mut pair = Pair::new(rt.alloc(), blocks)?;
-        for _ in 0..40 {
-            pair.step(&rt, &mut dice)?;
-            pair.compare(&rt)?;
-        }
-        pair.finish(&rt)?;
+        play(&rt, rt.alloc(), &mut dice)?;
     }
     Ok(())
 }

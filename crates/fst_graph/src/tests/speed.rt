@@ -9,7 +9,17 @@ use std::rt::Clock;
 use std::test::Fail;
 use std::time::Instant;
 
-/// A graph over 64 blocks.
+/// How many patches a graph gets, one count after the other.
+const COUNTS: [u32; 3] = [1_000, 10_000, 60_000];
+
+/// A count is left out where the one before took more milliseconds to make or to write, so that the tests end in time
+/// even where that grows with the square.
+const MOST: u128 = 200;
+
+/// How many blocks are written at most. To find each, `pick` looks at those before it.
+const WRITES: u32 = 8;
+
+/// A graph over 64 blocks. It knows no size of a block, so that each change can have a byte of its own.
 #[derive(Drop)]
 struct Wide {
     graph: Graph,
@@ -38,7 +48,7 @@ impl Wide {
     {
         let mut last = self.add(0, 0, &[])?;
         for turn in 1..count {
-            last = self.add((turn % blocks) % 64, turn % 64, &[last])?;
+            last = self.add((turn % blocks) % 64, turn / blocks, &[last])?;
         }
         Ok(())
     }
@@ -82,38 +92,68 @@ fn build(wide: &mut Wide, form: Form, count: u32) -> Result<(), Fault> {
     }
 }
 
-// Prints what it takes to make so many patches, to ask once what is writable, to write up to 64 blocks, and to forget.
-fn measure(rt: &(impl Clock + Print), alloc: Global, form: Form, count: u32) -> Result<(), Fail> {
-    let mut wide = Wide::new(alloc)?;
+// The milliseconds in which the patches are made.
+fn time_of_making(rt: &impl Clock, wide: &mut Wide, form: Form, count: u32) -> Result<u128, Fail> {
     let start = Instant::now(rt)?;
-    build(&mut wide, form, count)?;
-    let made = start.elapsed(rt)?.as_millis();
+    build(wide, form, count)?;
+    Ok(start.elapsed(rt)?.as_millis())
+}
+
+// The microseconds in which it is told once what is writable.
+fn time_of_picking(rt: &impl Clock, wide: &mut Wide) -> Result<u128, Fail> {
     let start = Instant::now(rt)?;
     let _ = wide.graph.pick();
-    let picked = start.elapsed(rt)?.as_micros();
+    Ok(start.elapsed(rt)?.as_micros())
+}
+
+// The milliseconds in which a few blocks are written.
+fn time_of_writing(rt: &impl Clock, wide: &mut Wide) -> Result<u128, Fail> {
     let start = Instant::now(rt)?;
-    wide.write(64)?;
-    let written = start.elapsed(rt)?.as_millis();
+    wide.write(WRITES)?;
+    Ok(start.elapsed(rt)?.as_millis())
+}
+
+// How many are forgotten, and in how many microseconds.
+fn time_of_forgetting(rt: &impl Clock, wide: &mut Wide) -> Result<(u32, u128), Fail> {
     let start = Instant::now(rt)?;
     let dropped = wide.graph.forget();
-    let forgot = start.elapsed(rt)?.as_micros();
+    Ok((dropped, start.elapsed(rt)?.as_micros()))
+}
+
+// Prints what so many patches take, and answers whether it was long.
+fn measure(rt: &(impl Clock + Print), alloc: Global, form: Form, count: u32) -> Result<bool, Fail> {
+    let mut wide = Wide::new(alloc)?;
+    let made = time_of_making(rt, &mut wide, form, count)?;
+    let picked = time_of_picking(rt, &mut wide)?;
+    let written = time_of_writing(rt, &mut wide)?;
+    let (dropped, forgot) = time_of_forgetting(rt, &mut wide)?;
     println!(rt;
         "{form:?} of {count}: made in {made} ms, a pick {picked} us, written in {written} ms, {dropped} forgotten in {forgot} us"
     )?;
+    Ok(made > MOST || written > MOST)
+}
+
+// Count after count, until one takes long.
+fn measure_all(rt: &(impl Clock + Print), alloc: Global, form: Form) -> Result<(), Fail> {
+    for count in COUNTS {
+        if measure(rt, alloc, form, count)? {
+            break;
+        }
+    }
     Ok(())
 }
 
 #[test]
 fn chain_on_one_block(rt: HostRuntime) -> Result<(), Fail> {
-    measure(&rt, rt.alloc(), Form::Chain, 1_000)
+    measure_all(&rt, rt.alloc(), Form::Chain)
 }
 
 #[test]
 fn chain_over_blocks(rt: HostRuntime) -> Result<(), Fail> {
-    measure(&rt, rt.alloc(), Form::WideChain, 1_000)
+    measure_all(&rt, rt.alloc(), Form::WideChain)
 }
 
 #[test]
 fn fan_behind_a_gate(rt: HostRuntime) -> Result<(), Fail> {
-    measure(&rt, rt.alloc(), Form::Fan, 1_000)
+    measure_all(&rt, rt.alloc(), Form::Fan)
 }

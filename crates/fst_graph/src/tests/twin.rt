@@ -304,8 +304,8 @@ impl Twin {
         Ok(Grade::Hard)
     }
 
-    /// Why no patch can be made now.
-    pub fn room_fault(&self) -> Option<Fault> {
+    // Why no patch can be made now.
+    fn room_fault(&self) -> Option<Fault> {
         if self.patches.len() >= MAX_HEADS {
             return Some(Fault::Full(What::Heads));
         }
@@ -326,8 +326,8 @@ impl Twin {
         None
     }
 
-    /// Why no patch that names these can be made now.
-    pub fn make_fault(&self, names: &[PatchNo]) -> Option<Fault> {
+    // Why no patch that names these can be made now.
+    fn make_fault(&self, names: &[PatchNo]) -> Option<Fault> {
         match self.names_fault(names) {
             Some(fault) => Some(fault),
             None => self.room_fault(),
@@ -347,8 +347,17 @@ impl Twin {
         Ok(no)
     }
 
-    /// A new gate.
-    pub fn add_gate(&mut self) -> Result<PatchNo, AllocError> {
+    /// A new gate, or why there is none.
+    pub fn try_gate(&mut self) -> Result<Result<PatchNo, Fault>, AllocError> {
+        if let Some(fault) = self.room_fault() {
+            return Ok(Err(fault));
+        }
+        let no = self.add_gate()?;
+        Ok(Ok(no))
+    }
+
+    // A new gate.
+    fn add_gate(&mut self) -> Result<PatchNo, AllocError> {
         self.push(Kind::OpenGate, Vec::new(self.alloc))
     }
 
@@ -363,8 +372,17 @@ impl Twin {
         Ok(found)
     }
 
-    /// A new empty patch.
-    pub fn add_empty(&mut self, names: &[PatchNo]) -> Result<PatchNo, AllocError> {
+    /// A new empty patch, or why there is none.
+    pub fn try_empty(&mut self, names: &[PatchNo]) -> Result<Result<PatchNo, Fault>, AllocError> {
+        if let Some(fault) = self.make_fault(names) {
+            return Ok(Err(fault));
+        }
+        let no = self.add_empty(names)?;
+        Ok(Ok(no))
+    }
+
+    // A new empty patch.
+    fn add_empty(&mut self, names: &[PatchNo]) -> Result<PatchNo, AllocError> {
         let dependencies = self.live_named(names)?;
         let no = self.push(Kind::Empty, dependencies)?;
         self.cascade();
@@ -395,8 +413,22 @@ impl Twin {
         }
     }
 
-    /// A new change.
-    pub fn add_data(
+    /// A new change, or why there is none.
+    pub fn try_data(
+        &mut self,
+        block: BlockNo,
+        span: Span,
+        names: &[PatchNo],
+    ) -> Result<Result<(PatchNo, Grade), Fault>, AllocError> {
+        if let Some(fault) = self.make_fault(names) {
+            return Ok(Err(fault));
+        }
+        let made = self.add_data(block, span, names)?;
+        Ok(Ok(made))
+    }
+
+    // A new change.
+    fn add_data(
         &mut self,
         block: BlockNo,
         span: Span,
@@ -410,8 +442,8 @@ impl Twin {
         Ok((no, grade))
     }
 
-    /// Why this is no open gate.
-    pub fn gate_fault(&self, gate: PatchNo) -> Option<Fault> {
+    // Why this is no open gate.
+    fn gate_fault(&self, gate: PatchNo) -> Option<Fault> {
         if !self.is_given(gate) {
             return Some(Fault::NoPatch);
         }
@@ -436,12 +468,8 @@ impl Twin {
         Ok(false)
     }
 
-    /// Why the gate cannot gain these.
-    pub fn depend_fault(
-        &self,
-        gate: PatchNo,
-        names: &[PatchNo],
-    ) -> Result<Option<Fault>, AllocError> {
+    // Why the gate cannot gain these.
+    fn depend_fault(&self, gate: PatchNo, names: &[PatchNo]) -> Result<Option<Fault>, AllocError> {
         if let Some(fault) = self.gate_fault(gate) {
             return Ok(Some(fault));
         }
@@ -454,8 +482,21 @@ impl Twin {
         Ok(None)
     }
 
-    /// An open gate gains what is named and live.
-    pub fn depend(&mut self, gate: PatchNo, names: &[PatchNo]) -> Result<(), AllocError> {
+    /// An open gate gains what is named and live, or is refused.
+    pub fn try_depend(
+        &mut self,
+        gate: PatchNo,
+        names: &[PatchNo],
+    ) -> Result<Result<(), Fault>, AllocError> {
+        if let Some(fault) = self.depend_fault(gate, names)? {
+            return Ok(Err(fault));
+        }
+        self.depend(gate, names)?;
+        Ok(Ok(()))
+    }
+
+    // An open gate gains what is named and live.
+    fn depend(&mut self, gate: PatchNo, names: &[PatchNo]) -> Result<(), AllocError> {
         let gained = self.live_named(names)?;
         for patch in &mut self.patches {
             if patch.no == gate {
@@ -465,8 +506,17 @@ impl Twin {
         Ok(())
     }
 
-    /// Seals an open gate.
-    pub fn seal(&mut self, gate: PatchNo) {
+    /// Seals an open gate, or is refused.
+    pub fn try_seal(&mut self, gate: PatchNo) -> Result<(), Fault> {
+        if let Some(fault) = self.gate_fault(gate) {
+            return Err(fault);
+        }
+        self.seal(gate);
+        Ok(())
+    }
+
+    // Seals an open gate.
+    fn seal(&mut self, gate: PatchNo) {
         self.set_kind(gate, Kind::SealedGate);
         self.cascade();
     }

@@ -1,4 +1,4 @@
-use Rattle.std.proofs.Common.{◌≡◌, ◌∙◌, not, inl, inr, ap, sym}
+use Rattle.std.proofs.Common.{◌∙◌, not, inl, inr, ap, sym}
 use Rattle.std.proofs.lemmas.Bool.{cases_Bool, false≢true}
 use Rattle.fst_graph.specs.declared.test.Test.TheVariants as test
 use Rattle.fst_graph.specs.Heads.{patches_of}

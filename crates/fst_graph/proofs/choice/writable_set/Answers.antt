@@ -1,7 +1,7 @@
 use Rattle.std.proofs.Common.{◌≡◌, ◌∙◌, ◌+◌, ◌&&◌, ◌++◌, ◌∷◌, [], subst, not, false, get_or, ap, sym, refl, arith}
 use Rattle.fst_types.specs.declared.place.Place.TheVariants as place
 use Rattle.fst_types.specs.Tests.{is_change_at}
-use Rattle.fst_types.specs.Writable.{InWritableSet, HasReady}
+use Rattle.fst_types.specs.Writable.{InWritableSet}
 use Rattle.fst_graph.specs.declared.test.Test.TheVariants as test
 use Rattle.fst_graph.specs.declared.head.Head.{Head}
 use Rattle.fst_graph.specs.Heads.{patch_of, patches_of}

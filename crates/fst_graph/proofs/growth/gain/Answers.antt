@@ -1,17 +1,26 @@
-use Rattle.std.proofs.Common.{◌∙◌, ℕ, List, ◌++◌, ap, subst}
-use Rattle.std.proofs.lemmas.Result.{on_ok_weaker}
-use Rattle.fst_types.specs.Patches.{Patch}
-use Rattle.fst_graph.specs.declared.head.Head.{Head}
-use Rattle.fst_graph.specs.Heads.{kind_of}
+use Rattle.std.proofs.Common.{◌∙◌, ◌≤◌, length, arith, ap, subst, length-append}
 use Rattle.fst_graph.specs.Marks.{HasSlot, HasNone}
-use Rattle.fst_graph.proofs.Gaining.{gain_none, gain_slot}
+use Rattle.fst_graph.specs.Nodes.{node_of, gains_names}
+use Rattle.fst_graph.proofs.AtNumber.{at_slot, at_none}
+use Rattle.fst_graph.proofs.Counting.{node_in, gained_node}
 use Rattle.fst_graph.proofs.growth.gain.Goals as goal
 
-pub returns-in-Some-clause-ok : goal.returns-in-Some-clause-ok
-returns-in-Some-clause-ok c =
+pub overflow_add-head : goal.overflow_add-head
+overflow_add-head c =
+    let head = c.index_mut-head.result.now in
     let slot = subst (λ hs. HasSlot hs c.args.gate c.in-Some.slot) c.deref.ensures.value c.in-Some.ensures.found in
-    let with : Head → List ℕ → Patch = λ h names. record { number = h.number; kind = kind_of h.kind; place = h.place; dependencies = names } in
-    on_ok_weaker c.extend_from_slice.result (λ e. gain_slot c.args.heads.now.items c.args.gate c.in-Some.slot c.args.names.now _ c.index_mut.result.now c.requires slot (ap (λ ns. with c.index_mut.result.now ns) e ∙ ap (λ h. with h (h.dependencies.items ++ c.args.names.now)) c.index_mut.ensures.value)) c.extend_from_slice.ensures.ok
+    let counted : head.count ≤ length head.dependencies.items = c.requires.counted (node_of head) (node_in c.args.heads.now.items c.in-Some.slot head slot.0 c.index_mut-head.ensures.value) in
+    let row = c.in_ok-extend_from_slice.ensures.ok in
+    omega (arith, counted, ap length row, length-append head.dependencies.items c.args.names.now, c.len.type_inv)
 
-pub returns-in-None-clause-ok : goal.returns-in-None-clause-ok
-returns-in-None-clause-ok c = gain_none c.args.heads.now.items c.args.gate c.args.names.now (subst (λ hs. HasNone hs c.args.gate) c.deref.ensures.value c.in-None.ensures.none)
+pub returns-in_ok-extend_from_slice-clause-ok : goal.returns-in_ok-extend_from_slice-clause-ok
+returns-in_ok-extend_from_slice-clause-ok c =
+    let head = c.index_mut-head.result.now in
+    let slot = subst (λ hs. HasSlot hs c.args.gate c.in-Some.slot) c.deref.ensures.value c.in-Some.ensures.found in
+    at_slot c.args.heads.now.items c.args.gate c.in-Some.slot (gains_names c.args.names.now) _ head c.requires.rising slot
+    (gained_node head c.extend_from_slice.new.self c.args.names.now c.len.result c.len-before.result c.in_ok-extend_from_slice.ensures.ok c.len.ensures.value c.len-before.ensures.value
+    ∙ ap (λ h. gains_names c.args.names.now (node_of h)) c.index_mut-head.ensures.value)
+
+pub returns-in_default-clause-ok : goal.returns-in_default-clause-ok
+returns-in_default-clause-ok c =
+    at_none c.args.heads.now.items c.args.gate (gains_names c.args.names.now) (subst (λ hs. HasNone hs c.args.gate) c.deref.ensures.value c.in_default.ensures.none)

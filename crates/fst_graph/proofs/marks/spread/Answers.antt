@@ -1,4 +1,4 @@
-use Rattle.std.proofs.Common.{subst, take, get_or}
+use Rattle.std.proofs.Common.{subst}
 use Rattle.std.proofs.lemmas.List.{take_all}
 use Rattle.fst_graph.proofs.Walk.{Spreading, spreading_none, spreading_more, spreading_all}
 use Rattle.fst_graph.proofs.marks.spread.Goals as goal

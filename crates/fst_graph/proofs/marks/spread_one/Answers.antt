@@ -1,6 +1,5 @@
 use Rattle.std.proofs.Common.{◌≡◌, ◌∙◌, subst, sym, Contains, true}
 use Rattle.std.proofs.lemmas.Bool.{false≢true}
-use Rattle.fst_types.specs.Dependencies.{DirectlyOn}
 use Rattle.fst_graph.proofs.Slots.{direct_at, named_at, direct_slot, none_slot}
 use Rattle.fst_graph.proofs.Walk.{one_marked, one_same}
 use Rattle.fst_graph.proofs.marks.spread_one.Goals as goal

@@ -1,4 +1,4 @@
-use Rattle.std.proofs.Common.{ℕ, ◌-◌, ◌<◌, ◌≤◌, ◌≡◌, length}
+use Rattle.std.proofs.Common.{ℕ, ◌-◌, ◌<◌, ◌≤◌}
 use Rattle.fst_types.specs.Writable.{IsWritable}
 use Rattle.fst_graph.specs.Heads.{patches_of}
 use Rattle.fst_graph.proofs.pick.least_writable.Given as goal

@@ -1,4 +1,4 @@
-use Rattle.std.proofs.Common.{◌≡◌, ◌<◌, ◌∙◌, arith, sym, length}
+use Rattle.std.proofs.Common.{◌<◌, ◌∙◌, arith, sym, length}
 use Rattle.fst_graph.proofs.PlaceOf.{none_then}
 use Rattle.std.proofs.lemmas.List.{length-map}
 use Rattle.std.proofs.lemmas.Bool.{false≢true}

@@ -1,5 +1,4 @@
-use Rattle.std.proofs.Common.{◌∙◌, ap, sym, subst}
-use Rattle.fst_graph.specs.Tests.{is_live_place}
+use Rattle.std.proofs.Common.{◌∙◌, sym}
 use Rattle.fst_graph.proofs.Slots.{live_at, not_live_none}
 use Rattle.fst_graph.proofs.row.is_live_number.Goals as goal
 

@@ -1,8 +1,8 @@
-use Rattle.std.proofs.Common.{◌∙◌, refl, sym, arith}
+use Rattle.std.proofs.Common.{◌∙◌, sym}
 use Rattle.std.proofs.lemmas.Bool.{false≢true}
 use Rattle.fst_types.specs.Dependencies.{IsLiveNumber}
 use Rattle.fst_graph.specs.Heads.{patches_of}
-use Rattle.fst_graph.proofs.Rows.{gathers_none, gathers_more, gathers_skip, gathers_all}
+use Rattle.fst_graph.proofs.Rows.{gathers_more, gathers_skip, gathers_all}
 use Rattle.fst_graph.proofs.row.live_named.Goals as goal
 use Rattle.fst_graph.proofs.row.live_named.Goals.{then-is_live_number+in_ok-put, else-is_live_number}
 

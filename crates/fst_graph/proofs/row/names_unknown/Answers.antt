@@ -1,4 +1,4 @@
-use Rattle.std.proofs.Common.{◌∙◌, refl, sym, arith}
+use Rattle.std.proofs.Common.{◌∙◌, refl, sym}
 use Rattle.std.proofs.lemmas.Bool.{false≢true}
 use Rattle.fst_graph.proofs.Rows.{name_in, none_unknown}
 use Rattle.fst_graph.proofs.row.names_unknown.Goals as goal

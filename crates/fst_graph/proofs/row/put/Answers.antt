@@ -1,7 +1,7 @@
-use Rattle.std.proofs.Common.{subst, refl, sym, Ok, Err}
+use Rattle.std.proofs.Common.{subst, refl, Err}
 use Rattle.std.specs.List.Sorted.{IsBinarySearchResult}
 use Rattle.std.specs.Ordering.{nat_cmp}
-use Rattle.fst_graph.proofs.Rows.{gains_found, gains_new}
+use Rattle.fst_graph.proofs.Rows.{gains_new}
 use Rattle.fst_graph.proofs.row.put.Goals as goal
 
 pub returns-in_ok-insert-in-Err : goal.returns-in_ok-insert-in-Err

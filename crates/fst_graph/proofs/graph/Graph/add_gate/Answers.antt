@@ -1,15 +1,52 @@
-use Rattle.std.proofs.Common.{◌<◌, arith, subst, length}
+use Rattle.std.proofs.Common.{◌<◌, ◌++◌, ◌∷◌, [], ◌+◌, rules, refl, ap, map, arith, subst, length}
+use Rattle.std.proofs.lemmas.List.{length-map}
 use Rattle.fst_types.specs.Limits.{max_heads}
+use Rattle.fst_types.specs.Making.{fresh}
+use Rattle.fst_types.specs.Patches.{OpenGate}
 use Rattle.fst_types.specs.Refusals.{NoneHolds}
 use Rattle.fst_types.specs.Order.{room_order}
 use Rattle.fst_graph.specs.Heads.{patches_of}
+use Rattle.fst_graph.specs.Keeps.{Tallies}
+use Rattle.fst_graph.specs.Lists.{entries_of}
+use Rattle.fst_graph.specs.Nodes.{node_of, nodes_of}
 use Rattle.fst_graph.proofs.Making.{keeps_gate}
 use Rattle.fst_graph.proofs.Emptying.{map_push}
+use Rattle.fst_graph.proofs.Linked.{with_gate, tallies_made}
+use Rattle.fst_graph.proofs.Listed.{listed_made}
+use Rattle.fst_graph.proofs.Seen.{one_each, tallies_wider}
 use Rattle.fst_graph.proofs.graph.Graph.add_gate.Goals as goal
 
 pub invariant_of-self-2 : goal.invariant_of-self-2
 invariant_of-self-2 c =
-    let clear = subst (λ hs. NoneHolds (room_order (patches_of hs) c.self.inside.numbers)) c.deref.ensures.value c.in_default.ensures.clear in
-    let few : length (patches_of c.self.inside.heads.items) < max_heads = let full = clear.0 in omega (arith, full) in
-    rw (c.push_reserved.ensures.items, c.reserve_one.ensures.heads, map_push, c.push_reserved-2.ensures.items, c.reserve_one.ensures.order, c.push_reserved-3.ensures.items, c.reserve_one.ensures.marks, c.new.ensures.items)
-    (keeps_gate _ c.self.inside.numbers c.self.inside.blocks c.self.inside.order.items c.self.inside.marks.items c.self.invariant.0 few, tt, tt, c.self.invariant.3)
+    let heads = c.self.inside.heads.items in
+    let nodes = nodes_of heads in
+    let n = c.self.inside.numbers in
+    let p = fresh (n + 1) OpenGate [] in
+    let clear = subst (λ hs. NoneHolds (room_order (patches_of hs) n)) c.deref.ensures.value c.in_default.ensures.clear in
+    let few : length (patches_of heads) < max_heads = let full = clear.0 in omega (arith, full) in
+    let free : c.reserve_one.new.heads.len < c.reserve_one.new.queue.cap = search rules in
+    let room : length nodes < c.reserve_one.new.queue.cap = let same = ap length c.reserve_one.ensures.heads in omega (arith, free, same, c.reserve_one.new.heads.ok.0, length-map heads node_of) in
+    let T = c.self.invariant.4 in
+    let made = tallies_made nodes n c.self.inside.blocks _ _ _ _ c.reserve_one.new.queue.cap p (one_each heads n c.self.invariant.0.lawful.one_place_each) T refl (λ i lt. absurd (omega (arith, lt))) (λ m h. absurd (omega (arith, h.1))) (listed_made nodes c.self.inside.blocks _ p T.listed (λ b. refl)) room in (
+      rw (c.push_reserved.ensures.items, c.reserve_one.ensures.heads, map_push, c.push_reserved-2.ensures.items, c.reserve_one.ensures.order, c.push_reserved-3.ensures.items, c.reserve_one.ensures.marks, c.new.ensures.items)
+          (keeps_gate _ n c.self.inside.blocks c.self.inside.order.items c.self.inside.marks.items c.self.invariant.0 few),
+      tt,
+      tt,
+      c.self.invariant.3,
+      rw (c.push_reserved.ensures.items, c.reserve_one.ensures.heads, map_push, c.new.ensures.items, c.new-2.ensures.items, c.reserve_one.ensures.queue)
+          (subst (λ ns. Tallies (ns ++ record { patch = p; count = 0; dependants = [] } ∷ []) (n + 1) c.self.inside.blocks (map (λ l. entries_of l.items) c.self.inside.lists.items) c.self.inside.queue.items c.reserve_one.new.queue.cap) (with_gate nodes (n + 1)) made),
+      tt,
+      tt,
+    )
+
+pub invariant_of-self-then-is_err : goal.invariant_of-self-then-is_err
+invariant_of-self-then-is_err c =
+    let K = c.self.invariant.0 in (
+      rw (c.reserve_one.ensures.heads, c.reserve_one.ensures.order, c.reserve_one.ensures.marks) K,
+      tt,
+      tt,
+      c.self.invariant.3,
+      rw c.reserve_one.ensures.heads (tallies_wider _ c.self.inside.numbers c.self.inside.blocks _ _ _ _ _ c.self.invariant.4 c.reserve_one.ensures.queue c.reserve_one.ensures.wide),
+      tt,
+      tt,
+    )

@@ -1,22 +1,89 @@
-use Rattle.std.proofs.Common.{◌≡◌, map, sym, subst, length, arith}
-use Rattle.fst_types.specs.Writing.{landed}
+use Rattle.std.proofs.Common.{◌≡◌, ◌∙◌, map, sym, ap, subst, length, arith, refl}
+use Rattle.std.proofs.lemmas.List.{length-map}
 use Rattle.fst_types.specs.Cascade.{IsCascadeOf}
+use Rattle.fst_types.specs.Writing.{landed}
+use Rattle.fst_graph.specs.Cascading.{Falls, lands}
 use Rattle.fst_graph.specs.Heads.{patches_of}
-use Rattle.fst_graph.specs.Known.{Known}
-use Rattle.fst_graph.proofs.Kept.{may_cascade, alike_land, gates_land, landed_land, keeps_landed}
+use Rattle.fst_graph.specs.Keeps.{IsInside}
+use Rattle.fst_graph.specs.Lists.{entries_of, AreListed}
+use Rattle.fst_graph.specs.Nodes.{node_of, nodes_of, patches_in}
+use Rattle.fst_graph.proofs.AtNumber.{patches_in_nodes}
+use Rattle.fst_graph.proofs.Fallen.{linked_landed, tallies_landed}
+use Rattle.fst_graph.proofs.Kept.{keeps_landed}
+use Rattle.fst_graph.proofs.Seen.{seen, lawful_nodes}
+use Rattle.fst_graph.proofs.Shelves.{shelved}
+use Rattle.fst_graph.proofs.Slots.{rising_heads}
+use Rattle.fst_graph.proofs.Starts.{starts_landed, patches_landed}
 use Rattle.fst_graph.proofs.graph.Graph.land.Goals as goal
 
-pub cascade-requires-clause-may : goal.cascade-requires-clause-may
-cascade-requires-clause-may c =
-    let old = patches_of c.self.inside.heads.items in
+pub land_block-requires-clause-rising : goal.land_block-requires-clause-rising
+land_block-requires-clause-rising c = rising_heads c.self.inside.heads.items c.self.invariant.0.lawful.one_place_each.rising
+
+pub land_block-requires-clause-inside : goal.land_block-requires-clause-inside
+land_block-requires-clause-inside c =
+    let long : c.self.inside.blocks ≡ length c.self.inside.lists.items = sym c.self.invariant.4.listed.long ∙ length-map c.self.inside.lists.items (λ l. entries_of l.items) in
+    subst (IsInside (patches_of c.self.inside.heads.items)) long c.self.invariant.0.inside
+
+pub land_block-requires-clause-listed : goal.land_block-requires-clause-listed
+land_block-requires-clause-listed c =
+    let lists = c.self.inside.lists.items in
+    let long : c.self.inside.blocks ≡ length lists = sym c.self.invariant.4.listed.long ∙ length-map lists (λ l. entries_of l.items) in
+    subst (λ ps. AreListed ps (length lists) (shelved lists)) (patches_in_nodes c.self.inside.heads.items) (subst (λ n. AreListed (patches_in (nodes_of c.self.inside.heads.items)) n (shelved lists)) long c.self.invariant.4.listed)
+
+pub land_block-requires-clause-idle : goal.land_block-requires-clause-idle
+land_block-requires-clause-idle c = c.self.invariant.4.idle
+
+pub land_block-requires-clause-room : goal.land_block-requires-clause-room
+land_block-requires-clause-room c = omega (arith, c.self.invariant.4.room, length-map c.self.inside.heads.items node_of)
+
+pub cascade-requires-clause-start : goal.cascade-requires-clause-start
+cascade-requires-clause-start c =
+    let heads = c.self.inside.heads.items in
     let n = c.self.inside.numbers in
-    let b = c.args.block.0 in
-    let H = c.self.invariant.0.lawful in
-    rw c.deref.ensures.value
-    (may_cascade c.land_all.new.heads.items old n c.self.inside.blocks c.self.inside.order.items c.self.inside.marks.items (map (landed b) old) c.self.invariant.0 c.land_all.ensures (alike_land old n b H) (gates_land old n b H) (landed_land old n b H))
+    rw (c.land_block.ensures.nodes, c.land_block.ensures.queued, ← patches_in_nodes heads)
+    (starts_landed (nodes_of heads) n c.self.inside.blocks _ _ _ c.args.block.0 (lawful_nodes heads n c.self.invariant.0.lawful) c.self.invariant.4)
+
+pub cascade-requires-clause-linked : goal.cascade-requires-clause-linked
+cascade-requires-clause-linked c = rw c.land_block.ensures.nodes (linked_landed (nodes_of c.self.inside.heads.items) c.args.block.0 c.self.invariant.4.linked)
+
+pub cascade-requires-clause-room : goal.cascade-requires-clause-room
+cascade-requires-clause-room c =
+    let same = ap length c.land_block.ensures.nodes in
+    omega (arith, same, length-map c.land_block.new.heads.items node_of, length-map (nodes_of c.self.inside.heads.items) (lands c.args.block.0), c.self.invariant.4.room, c.land_block.ensures.capacity)
 
 pub invariant_of-self : goal.invariant_of-self
 invariant_of-self c =
-    let old = patches_of c.self.inside.heads.items in
-    let cascade = subst (λ ps. IsCascadeOf ps (patches_of c.cascade.new.heads.items)) c.land_all.ensures c.cascade.ensures.settled in
-    (keeps_landed old (patches_of c.cascade.new.heads.items) c.self.inside.numbers c.self.inside.blocks c.args.block.0 c.self.inside.order.items c.self.inside.marks.items c.cascade.new.marks.items c.self.invariant.0 cascade (omega (arith, c.cascade.ensures.long, c.cascade.new.marks.ok.0, c.self.inside.marks.ok.0)), tt, tt, c.self.invariant.3)
+    let heads = c.self.inside.heads.items in
+    let nodes = nodes_of heads in
+    let old = patches_of heads in
+    let mid = c.land_block.new.heads.items in
+    let new = c.cascade.new.heads.items in
+    let n = c.self.inside.numbers in
+    let blocks = c.self.inside.blocks in
+    let b = c.args.block.0 in
+    let lists = c.self.inside.lists.items in
+    let T = c.self.invariant.4 in
+    let long : length lists ≡ blocks = sym (length-map lists (λ l. entries_of l.items)) ∙ T.listed.long in
+    let was : patches_of mid ≡ map (landed b) old = seen mid _ c.land_block.ensures.nodes ∙ (patches_landed nodes b ∙ ap (map (landed b)) (patches_in_nodes heads)) in
+    let cascade = subst (λ ps. IsCascadeOf ps (patches_of new)) was c.cascade.ensures.settled in
+    let falls : Falls (map (lands b) nodes) (nodes_of new) = subst (λ ns. Falls ns (nodes_of new)) c.land_block.ensures.nodes c.cascade.ensures.falls in
+    let listed : AreListed (patches_in (map (lands b) nodes)) blocks (shelved c.land_block.new.lists.items) =
+    subst (λ k. AreListed (patches_in (map (lands b) nodes)) k (shelved c.land_block.new.lists.items)) long
+    (subst (λ ps. AreListed ps (length lists) (shelved c.land_block.new.lists.items)) (seen mid _ c.land_block.ensures.nodes) c.land_block.ensures.listed) in (
+      keeps_landed old (patches_of new) n blocks b c.self.inside.order.items c.self.inside.marks.items c.self.inside.marks.items c.self.invariant.0 cascade refl,
+      tt,
+      tt,
+      c.self.invariant.3,
+      rw (c.cascade.ensures.empty, c.cascade.ensures.capacity, c.land_block.ensures.capacity)
+          (tallies_landed nodes (nodes_of new) n blocks b _ _ _ _ T listed falls c.cascade.ensures.counted),
+      tt,
+      tt,
+    )
+
+pub returns-clause-landed : goal.returns-clause-landed
+returns-clause-landed c =
+    let heads = c.self.inside.heads.items in
+    let b = c.args.block.0 in
+    let mid = c.land_block.new.heads.items in
+    let was = seen mid _ c.land_block.ensures.nodes ∙ (patches_landed (nodes_of heads) b ∙ ap (map (landed b)) (patches_in_nodes heads)) in
+    rw (← c.self.view_is) (record { cascade = subst (λ ps. IsCascadeOf ps (patches_of c.cascade.new.heads.items)) was c.cascade.ensures.settled; numbers = refl; blocks = refl; prepared = refl })

@@ -1,8 +1,7 @@
-use Rattle.std.proofs.Common.{◌≡◌, ◌∙◌, arith, sym, ap, subst, refl}
-use Rattle.fst_graph.specs.Heads.{IsRising, patch_of}
+use Rattle.std.proofs.Common.{subst}
 use Rattle.fst_graph.specs.Marks.{HasSlot, HasNone}
 use Rattle.fst_graph.proofs.Slots.{rising_heads, patch_at, none_slot, slot_in, patch_slot}
-use Rattle.fst_graph.proofs.PlaceOf.{place_found, place_lost, place_none}
+use Rattle.fst_graph.proofs.PlaceOf.{place_found, place_lost}
 use Rattle.fst_graph.proofs.graph.Graph.place.Goals as goal
 
 pub slot_of-requires : goal.slot_of-requires

@@ -1,4 +1,4 @@
-use Rattle.std.proofs.Common.{◌≡◌, ◌+◌, ◌++◌, ◌∷◌, [], ◌<◌, ◌∙◌, rules, length, true, None, inl, ap, sym, subst, refl}
+use Rattle.std.proofs.Common.{◌≡◌, ◌+◌, ◌++◌, ◌∷◌, [], ◌<◌, ◌≤◌, ◌∙◌, rules, arith, length, None, inl, ap, sym, subst, refl}
 use Rattle.fst_types.specs.Grades.{FollowsRule}
 use Rattle.fst_types.specs.Refusals.{NoneHolds}
 use Rattle.fst_types.specs.Order.{make_order}
@@ -9,7 +9,13 @@ use Rattle.fst_graph.specs.Grading.{MayBeHard}
 use Rattle.fst_graph.specs.Heads.{patches_of}
 use Rattle.fst_graph.specs.Known.{Known, numbers_of}
 use Rattle.fst_graph.specs.Rows.{IsDependency}
+use Rattle.std.proofs.lemmas.List.{length-map, get_or-map}
+use Rattle.fst_graph.specs.Lists.{entries_of}
+use Rattle.fst_graph.specs.Nodes.{nodes_of, HasRoomAbove}
+use Rattle.fst_graph.proofs.AtNumber.{patches_in_nodes}
 use Rattle.fst_graph.proofs.Readied.{keeps_marks, as_long}
+use Rattle.fst_graph.proofs.Seen.{same_patches, tallies_wider}
+use Rattle.fst_graph.proofs.Shelves.{shelved_same, room_in_list}
 use Rattle.fst_graph.proofs.Slots.{rising_heads}
 use Rattle.fst_graph.proofs.Touching.{depends_exactly, graded_change}
 use Rattle.fst_graph.proofs.graph.Graph.room.Goals as goal
@@ -52,6 +58,21 @@ returns-clause-ok c =
 pub prepare-requires-clause-hard : goal.prepare-requires-clause-hard
 prepare-requires-clause-hard c = rw c.deref-2.ensures.value c.self.invariant.0.lawful.hard_never_hold
 
+pub index-requires : goal.index-requires
+index-requires c =
+    let inside = subst (λ (v : Known). c.args.block.0 < v.blocks) (sym c.self.view_is) c.requires in
+    omega (arith, inside, c.self.invariant.4.listed.long, length-map c.self.inside.lists.items (λ l. entries_of l.items), c.self.inside.lists.ok.0)
+
+pub prepare-requires-clause-listed : goal.prepare-requires-clause-listed
+prepare-requires-clause-listed c =
+    let lists = c.self.inside.lists.items in
+    let b = c.args.block.0 in
+    let inside = subst (λ (v : Known). b < v.blocks) (sym c.self.view_is) c.requires in
+    let T = c.self.invariant.4 in
+    let lt : b < length lists = omega (arith, inside, T.listed.long, length-map lists (λ l. entries_of l.items)) in
+    rw (c.deref-3.ensures.value, c.index.ensures, c.deref-2.ensures.value, ← patches_in_nodes c.self.inside.heads.items)
+    (sym (get_or-map _ lists b _ [] lt) ∙ T.listed.each b [] inside)
+
 pub prepare-requires-clause-inside : goal.prepare-requires-clause-inside
 prepare-requires-clause-inside c =
     let blocks : length c.deref_mut-2.result.now ≡ c.self.inside.blocks = ap length c.deref_mut-2.ensures.value ∙ c.self.invariant.3 in
@@ -60,13 +81,56 @@ prepare-requires-clause-inside c =
 pub invariant_of-self-then-is_err : goal.invariant_of-self-then-is_err
 invariant_of-self-then-is_err c =
     let marks = as_long c.self.inside.marks.items c.prepare.new.marks c.self.inside.marks.len c.self.inside.marks.ok.0 (c.prepare.auto.marks ∙ ap length c.deref_mut.ensures.value) in
-    let reached = as_long c.self.inside.reached.items c.prepare.new.reached c.self.inside.reached.len c.self.inside.reached.ok.0 (c.prepare.auto.reached ∙ ap length c.deref_mut-2.ensures.value) in
-    rw (c.reserve_one.ensures.heads, c.reserve_one.ensures.order, c.reserve_one.ensures.marks)
-    (keeps_marks _ c.self.inside.numbers c.self.inside.blocks c.self.inside.order.items c.self.inside.marks.items _ c.self.invariant.0 marks, tt, tt, reached ∙ c.self.invariant.3)
+    let reached = as_long c.self.inside.reached.items c.prepare.new.reached c.self.inside.reached.len c.self.inside.reached.ok.0 (c.prepare.auto.reached ∙ ap length c.deref_mut-2.ensures.value) in (
+      rw (c.reserve_one.ensures.heads, c.reserve_one.ensures.order, c.reserve_one.ensures.marks)
+          (keeps_marks _ c.self.inside.numbers c.self.inside.blocks c.self.inside.order.items c.self.inside.marks.items _ c.self.invariant.0 marks),
+      tt,
+      tt,
+      reached ∙ c.self.invariant.3,
+      rw c.reserve_one.ensures.heads (tallies_wider _ c.self.inside.numbers c.self.inside.blocks _ _ _ _ _ c.self.invariant.4 c.reserve_one.ensures.queue c.reserve_one.ensures.wide),
+      tt,
+      tt,
+    )
+
+pub invariant_of-self-then-is_err-2 : goal.invariant_of-self-then-is_err-2
+invariant_of-self-then-is_err-2 c =
+    let heads = c.self.inside.heads.items in
+    let still : nodes_of c.reserve_above.new.heads.items ≡ nodes_of heads = c.reserve_above.ensures.nodes ∙ ap nodes_of c.reserve_one.ensures.heads in
+    let marks = as_long c.self.inside.marks.items c.prepare.new.marks c.self.inside.marks.len c.self.inside.marks.ok.0 (c.prepare.auto.marks ∙ ap length c.deref_mut.ensures.value) in
+    let reached = as_long c.self.inside.reached.items c.prepare.new.reached c.self.inside.reached.len c.self.inside.reached.ok.0 (c.prepare.auto.reached ∙ ap length c.deref_mut-2.ensures.value) in (
+      rw (same_patches c.reserve_above.new.heads.items heads still, c.reserve_one.ensures.order, c.reserve_one.ensures.marks)
+          (keeps_marks _ c.self.inside.numbers c.self.inside.blocks c.self.inside.order.items c.self.inside.marks.items _ c.self.invariant.0 marks),
+      tt,
+      tt,
+      reached ∙ c.self.invariant.3,
+      rw still (tallies_wider _ c.self.inside.numbers c.self.inside.blocks _ _ _ _ _ c.self.invariant.4 c.reserve_one.ensures.queue c.reserve_one.ensures.wide),
+      tt,
+      tt,
+    )
+
+pub invariant_of-self-then-is_err-3 : goal.invariant_of-self-then-is_err-3
+invariant_of-self-then-is_err-3 c =
+    let heads = c.self.inside.heads.items in
+    let still : nodes_of c.reserve_above.new.heads.items ≡ nodes_of heads = c.reserve_above.ensures.nodes ∙ ap nodes_of c.reserve_one.ensures.heads in
+    let marks = as_long c.self.inside.marks.items c.prepare.new.marks c.self.inside.marks.len c.self.inside.marks.ok.0 (c.prepare.auto.marks ∙ ap length c.deref_mut.ensures.value) in
+    let reached = as_long c.self.inside.reached.items c.prepare.new.reached c.self.inside.reached.len c.self.inside.reached.ok.0 (c.prepare.auto.reached ∙ ap length c.deref_mut-2.ensures.value) in (
+      rw (same_patches c.reserve_above.new.heads.items heads still, c.reserve_one.ensures.order, c.reserve_one.ensures.marks)
+          (keeps_marks _ c.self.inside.numbers c.self.inside.blocks c.self.inside.order.items c.self.inside.marks.items _ c.self.invariant.0 marks),
+      tt,
+      tt,
+      reached ∙ c.self.invariant.3,
+      rw (still, shelved_same c.self.inside.lists.items c.args.block.0 c.index_mut.result.now c.reserve.new.self c.index_mut.ensures.value c.reserve.ensures.items)
+          (tallies_wider _ c.self.inside.numbers c.self.inside.blocks _ _ _ _ _ c.self.invariant.4 c.reserve_one.ensures.queue c.reserve_one.ensures.wide),
+      tt,
+      tt,
+    )
 
 pub invariant_of-self-2 : goal.invariant_of-self-2
 invariant_of-self-2 c =
-    let old = patches_of c.self.inside.heads.items in
+    let heads = c.self.inside.heads.items in
+    let old = patches_of heads in
+    let still : nodes_of c.reserve_above.new.heads.items ≡ nodes_of heads = c.reserve_above.ensures.nodes ∙ ap nodes_of c.reserve_one.ensures.heads in
+    let patches = same_patches c.reserve_above.new.heads.items heads still in
     let n = c.self.inside.numbers in
     let blocks = c.self.inside.blocks in
     let p = c.in-Ok.prepared in
@@ -81,9 +145,39 @@ invariant_of-self-2 c =
     rw (made.names, made.block, made.span) (subst (λ hs. Lists (IsDependency (patches_of hs) (numbers_of c.args.after.now) c.args.block.0 c.args.span.at c.args.span.len) row) c.deref-2.ensures.value made.depends) in
     let follows : FollowsRule p.grade (MayBeHard old p.block row) = rw made.block (subst (λ hs. FollowsRule p.grade (MayBeHard (patches_of hs) c.args.block.0 row)) c.deref-2.ensures.value made.graded) in
     let graded = graded_change old n blocks c.self.inside.order.items c.self.inside.marks.items c.self.invariant.0 p.block p.span.at p.span.len names p.grade row depends follows in
-    rw (c.reserve_one.ensures.heads, c.reserve_one.ensures.order, c.reserve_one.ensures.marks) (
-      keeps_marks _ n blocks c.self.inside.order.items c.self.inside.marks.items _ c.self.invariant.0 marks,
-      record { clear = clear; inside = inside; depends = depends; graded = graded },
-      record { heads_free = search rules; order_free = search rules; marks_free = search rules },
+    let above : HasRoomAbove c.reserve_above.new.heads.items c.as_slice.result.now = search rules in
+    let free : c.reserve.new.self.len + 1 ≤ c.reserve.new.self.cap = search rules in
+    let lists : length c.self.inside.lists.items ≡ blocks = sym (length-map c.self.inside.lists.items (λ l. entries_of l.items)) ∙ c.self.invariant.4.listed.long in (
+      rw (patches, c.reserve_one.ensures.order, c.reserve_one.ensures.marks) (keeps_marks _ n blocks c.self.inside.order.items c.self.inside.marks.items _ c.self.invariant.0 marks),
+      rw patches (record { clear = clear; inside = inside; depends = depends; graded = graded }),
+      rw (c.reserve_above.ensures.len, c.reserve_above.ensures.capacity) (record { heads_free = search rules; order_free = search rules; marks_free = search rules; queue_free = search rules }),
       reached ∙ c.self.invariant.3,
+      rw (still, shelved_same c.self.inside.lists.items c.args.block.0 c.index_mut.result.now c.reserve.new.self c.index_mut.ensures.value c.reserve.ensures.items)
+          (tallies_wider _ n blocks _ _ _ _ _ c.self.invariant.4 c.reserve_one.ensures.queue c.reserve_one.ensures.wide),
+      rw (← c.as_slice.ensures) above,
+      rw made.block (room_in_list c.self.inside.lists.items c.args.block.0 c.reserve.new.self (let i = inside in omega (arith, i, lists, ap (λ x. x) made.block)) (omega (arith, free))),
     )
+
+pub reserve_above-requires : goal.reserve_above-requires
+reserve_above-requires c = rw c.reserve_one.ensures.heads (rising_heads c.self.inside.heads.items c.self.invariant.0.lawful.one_place_each.rising)
+
+pub returns-then-is_err-2-clause-same : goal.returns-then-is_err-2-clause-same
+returns-then-is_err-2-clause-same c =
+    let heads = c.self.inside.heads.items in
+    let still : nodes_of c.reserve_above.new.heads.items ≡ nodes_of heads = c.reserve_above.ensures.nodes ∙ ap nodes_of c.reserve_one.ensures.heads in
+    rw (← c.self.view_is)
+    (ap (λ ps. record { heads = ps; numbers = c.self.inside.numbers; blocks = c.self.inside.blocks; prepared = None }) (same_patches c.reserve_above.new.heads.items heads still))
+
+pub returns-then-is_err-3-clause-same : goal.returns-then-is_err-3-clause-same
+returns-then-is_err-3-clause-same c =
+    let heads = c.self.inside.heads.items in
+    let still : nodes_of c.reserve_above.new.heads.items ≡ nodes_of heads = c.reserve_above.ensures.nodes ∙ ap nodes_of c.reserve_one.ensures.heads in
+    rw (← c.self.view_is)
+    (ap (λ ps. record { heads = ps; numbers = c.self.inside.numbers; blocks = c.self.inside.blocks; prepared = None }) (same_patches c.reserve_above.new.heads.items heads still))
+
+pub returns-clause-prepared : goal.returns-clause-prepared
+returns-clause-prepared c =
+    let heads = c.self.inside.heads.items in
+    let still : nodes_of c.reserve_above.new.heads.items ≡ nodes_of heads = c.reserve_above.ensures.nodes ∙ ap nodes_of c.reserve_one.ensures.heads in
+    let made = c.in-Ok.ensures in
+    rw (← c.self.view_is, same_patches c.reserve_above.new.heads.items heads still, made.block, made.span, made.names) refl

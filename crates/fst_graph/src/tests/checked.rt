@@ -1,0 +1,189 @@
+//! A graph over four blocks of four bytes, each call of which is compared with the answer that the test names. The
+//! contracts here say nothing of the graph but its count of blocks, so that a long test carries no facts from call to
+//! call.
+
+ghost use Rattle.std.specs.Prelude.{◌≡◌, ◌<◌};
+
+use crate::graph::Graph;
+use crate::tests::same::{
+    same_answer, same_block, same_change, same_count, same_held, same_number, same_patches,
+    same_place,
+};
+use fst_types::{BlockNo, Fault, Grade, PatchNo, Place, Shape, Span};
+use std::alloc::Global;
+use std::process::Abort;
+
+/// A graph over four blocks.
+#[derive(Drop)]
+pub struct Checked {
+    graph: Graph,
+    ghost four: { graph.blocks ≡ 4 },
+}
+
+impl Checked {
+    /// No patch, the numbers up to the given one counting as on disk and forgotten.
+    pub fn new(rt: &impl Abort, alloc: Global, numbers: u32) -> Checked {
+        Checked::made(alloc, numbers).expect(rt, "there is memory")
+    }
+
+    fn made(alloc: Global, numbers: u32) -> Result<Checked, Fault> {
+        let shape = Shape::new(4, 4, 4)?;
+        let graph = Graph::new(alloc, shape, numbers)?;
+        Ok(Checked { graph })
+    }
+
+    /// A new gate.
+    pub fn gate(&mut self, rt: &impl Abort, expected: Result<PatchNo, Fault>) {
+        same_number(rt, self.graph.add_gate(), expected);
+    }
+
+    /// A new empty patch.
+    pub fn empty(&mut self, rt: &impl Abort, after: &[PatchNo], expected: Result<PatchNo, Fault>) {
+        same_number(rt, self.graph.add_empty(after), expected);
+    }
+
+    /// A change of some bytes.
+    pub fn change(
+        &mut self,
+        rt: &impl Abort,
+        block: u32,
+        span: Span,
+        after: &[PatchNo],
+        expected: Result<(PatchNo, Grade), Fault>,
+    )
+        requires { block < 4 }
+    {
+        same_change(
+            rt,
+            self.graph.add_data(BlockNo(block), span, after),
+            expected,
+        );
+    }
+
+    /// A change of one byte.
+    pub fn byte(
+        &mut self,
+        rt: &impl Abort,
+        block: u32,
+        at: u32,
+        after: &[PatchNo],
+        expected: Result<(PatchNo, Grade), Fault>,
+    )
+        requires { block < 4 }
+    {
+        self.change(rt, block, Span { at, len: 1 }, after, expected);
+    }
+
+    /// What `room` foresees.
+    pub fn room(
+        &mut self,
+        rt: &impl Abort,
+        block: u32,
+        span: Span,
+        after: &[PatchNo],
+        expected: Result<(PatchNo, Grade), Fault>,
+    )
+        requires { block < 4 }
+    {
+        same_change(rt, self.graph.room(BlockNo(block), span, after), expected);
+    }
+
+    /// Seals a gate.
+    pub fn seal(&mut self, rt: &impl Abort, gate: PatchNo, expected: Result<(), Fault>) {
+        same_answer(rt, self.graph.seal(gate), expected);
+    }
+
+    /// A gate gains names.
+    pub fn depend(
+        &mut self,
+        rt: &impl Abort,
+        gate: PatchNo,
+        on: &[PatchNo],
+        expected: Result<(), Fault>,
+    ) {
+        same_answer(rt, self.graph.depend(gate, on), expected);
+    }
+
+    /// Where a patch is.
+    pub fn place(&self, rt: &impl Abort, no: PatchNo, expected: Option<Place>) {
+        same_place(rt, no, self.graph.place(no), expected);
+    }
+
+    /// Where some patches are, all at one place.
+    pub fn places(&self, rt: &impl Abort, patches: &[PatchNo], expected: Place) {
+        for no in patches {
+            self.place(rt, *no, Some(expected));
+        }
+    }
+
+    /// How many patches are not on disk.
+    pub fn live(&self, rt: &impl Abort, expected: usize) {
+        same_count(rt, self.graph.live() as usize, expected);
+    }
+
+    /// Forgets so many patches.
+    pub fn forget(&mut self, rt: &impl Abort, expected: usize) {
+        same_count(rt, self.graph.forget() as usize, expected);
+    }
+
+    /// The least writable block.
+    pub fn pick(&mut self, rt: &impl Abort, expected: Option<BlockNo>) {
+        same_block(rt, self.graph.pick(), expected);
+    }
+
+    /// The block's writable set.
+    pub fn chosen(&mut self, rt: &impl Abort, block: u32, expected: &[PatchNo]) {
+        let chosen = self
+            .graph
+            .chosen(BlockNo(block))
+            .expect(rt, "there is memory");
+        same_patches(rt, BlockNo(block), &chosen, expected);
+    }
+
+    /// The block's writable set, and the least hard patch that it holds.
+    pub fn choice(
+        &mut self,
+        rt: &impl Abort,
+        block: u32,
+        expected: &[PatchNo],
+        held: Option<PatchNo>,
+    ) {
+        self.chosen(rt, block, expected);
+        same_held(
+            rt,
+            BlockNo(block),
+            self.graph.hard_held(BlockNo(block)),
+            held,
+        );
+    }
+
+    // Puts the least writable block in flight, and answers which it is.
+    fn launch_next(&mut self) -> Result<Option<BlockNo>, Fault> {
+        let Some(block) = self.graph.pick() else {
+            return Ok(None);
+        };
+        let chosen = self.graph.chosen(block)?;
+        self.graph.launch(&chosen);
+        Ok(Some(block))
+    }
+
+    /// Puts the least writable block in flight, which is this one.
+    pub fn launch(&mut self, rt: &impl Abort, expected: u32) {
+        let launched = self.launch_next().expect(rt, "there is memory");
+        same_block(rt, launched, Some(BlockNo(expected)));
+    }
+
+    /// Lands what is in flight of the block.
+    pub fn land(&mut self, block: u32) {
+        self.graph.land(BlockNo(block));
+    }
+
+    /// Puts the least writable block in flight, which is this one with these patches, and lands it.
+    pub fn write(&mut self, rt: &impl Abort, block: u32, patches: &[PatchNo]) {
+        self.chosen(rt, block, patches);
+        self.launch(rt, block);
+        self.places(rt, patches, Place::Flight);
+        self.land(block);
+        self.places(rt, patches, Place::Disk);
+    }
+}
