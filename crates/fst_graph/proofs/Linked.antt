@@ -1,27 +1,26 @@
 -- What stands beside the patches where one is made or gains names.
-use Rattle.std.proofs.Common.{◌≡◌, ◌≢◌, ◌⊎◌, ◌==◌, ℕ, suc, ◌+◌, ◌<◌, ◌≤◌, ◌&&◌, ◌||◌, Bool, true, false, cond, if◌then◌else◌, List, [], ◌∷◌, ◌++◌, length, map, count_by, AllPairs, Contains, refl, sym, ap, subst, ◌∙◌, inl, inr, arith}
+use Rattle.std.proofs.Common.{◌≡◌, ◌≢◌, ◌⊎◌, ◌==◌, ℕ, zero, suc, ◌+◌, ◌<◌, ◌≤◌, Bool, true, false, cond, if◌then◌else◌, List, [], ◌∷◌, ◌++◌, map, get_or, AllPairs, Contains, refl, sym, ap, subst, ◌∙◌, inl, inr, arith}
 use Rattle.std.specs.List.Sorted.{IsStrictlyIncreasing}
 use Rattle.std.proofs.lemmas.Bool.{cases_eq, eq-eqb, ne_eqb}
-use Rattle.std.proofs.lemmas.List.{length-map, length_push, map-append}
-use Rattle.std.proofs.lemmas.List.Elements.{Contains-push_cases}
+use Rattle.std.proofs.lemmas.List.{map-append}
+use Rattle.std.proofs.lemmas.List.Elements.{Contains-push_cases, Contains-append_cases, Contains-get_or}
 use Rattle.std.proofs.lemmas.List.Kept.{AllPairs-from_increasing}
+use Rattle.std.proofs.lemmas.List.Quantifiers.{all_pairs_push}
 use Rattle.std.proofs.lemmas.List.Sums.{sum_by-cons, sum_by-append}
 use Rattle.fst_types.specs.Patches.{Patch}
 use Rattle.fst_types.specs.Dependencies.{DirectlyOn, IsLiveNumber}
 use Rattle.fst_types.specs.Facts.{HasOnePlaceEach}
 use Rattle.fst_types.specs.Gates.{IsOpenNumber}
 use Rattle.fst_types.specs.Gating.{gains}
-use Rattle.fst_types.specs.Lists.{Lists}
-use Rattle.fst_types.specs.Tests.{is_live, is_among}
-use Rattle.fst_types.proofs.Finite.{In, Contains-from_In}
-use Rattle.fst_graph.specs.Keeps.{Tallies}
-use Rattle.fst_graph.specs.Lists.{Entry, entries_on, AreListed}
-use Rattle.fst_graph.specs.Nodes.{Node, patches_in, times, at_number, linked_to, gains_names, AreLinked, AreGiven, AreCounted}
-use Rattle.fst_graph.specs.Ordered.{is_live_in}
+use Rattle.fst_types.specs.Tests.{is_among}
+use Rattle.fst_types.proofs.Finite.{In, In-from_Contains, Contains-from_In}
+use Rattle.fst_types.proofs.Issuing.{among_in}
+use Rattle.fst_graph.specs.declared.pending.Sums.{Sums}
+use Rattle.fst_graph.specs.Nodes.{Node, patches_in, times, at_number, linked_to, gains_names, AreLinked, AreGiven, AreDistinct}
+use Rattle.fst_graph.proofs.Added.{with_node, new_node, with_names}
 use Rattle.fst_graph.proofs.AtNumber.{at_other, at_same}
-use Rattle.fst_graph.proofs.Forgetting.{in_live}
 use Rattle.fst_graph.proofs.Linking.{linked_patch, link_none, map_twice}
-use Rattle.fst_graph.proofs.Placed.{StandsFor, unmapped, patch_in, count_same, live_in_mapped, entries_mapped}
+use Rattle.fst_graph.proofs.Placed.{StandsFor, unmapped, patch_in, node_of_patch}
 
 pub with_gate : (nodes : List Node) (n : ℕ) → map (linked_to [] n) nodes ≡ nodes
 with_gate nodes n = link_none nodes n
@@ -44,6 +43,12 @@ times_absent_in (x ∷ xs) m none = rw (times_cons x xs m, ne_eqb x m (none x (i
 
 pub times_absent : (xs : List ℕ) (m : ℕ) → ((x : ℕ) → Contains xs x → x ≢ m) → times xs m ≡ 0
 times_absent xs m none = times_absent_in xs m (λ x h. none x (Contains-from_In xs x h))
+
+-- what stands in a row stands there at least once
+times_there : (xs : List ℕ) (m : ℕ) → In xs m → 1 ≤ times xs m
+times_there [] m h = absurd h
+times_there (x ∷ xs) m (inl e) = rw (times_cons x xs m, eq-eqb x m e) (omega arith)
+times_there (x ∷ xs) m (inr h) = let r = times_there xs m h in rw (times_cons x xs m) (omega (arith, r))
 
 times_in : (xs : List ℕ) → AllPairs (λ x y. x < y) xs → (m : ℕ) → times xs m ≡ cond (is_among xs m) 1 0
 times_in [] pairs m = refl
@@ -80,9 +85,28 @@ given_either : (b : Bool) (n m : ℕ) (x : Node) → Contains (if b then record 
 given_either true n m x c = Contains-push_cases x.dependants n m c
 given_either false n m x c = inl c
 
-count_either : (b : Bool) (n : ℕ) (x : Node) → (if b then record x { dependants = x.dependants ++ n ∷ [] } else x).count ≡ x.count
-count_either true n x = refl
-count_either false n x = refl
+apart_either : (b : Bool) (n : ℕ) (x : Node) → AllPairs (λ k m. k ≢ m) x.dependants → (b ≡ true → (m : ℕ) → Contains x.dependants m → m ≢ n)
+    → AllPairs (λ k m. k ≢ m) (if b then record x { dependants = x.dependants ++ n ∷ [] } else x).dependants
+apart_either true n x once new = all_pairs_push (λ k m. k ≢ m) x.dependants n once (λ k d lt. new refl (get_or x.dependants k d) (Contains-get_or x.dependants k d lt))
+apart_either false n x once new = once
+
+-- no number stands twice in a row that rises
+pub rising_distinct : (row : List ℕ) → IsStrictlyIncreasing row → AllPairs (λ k m. k ≢ m) row
+rising_distinct row once i j d lt inside same = let r = AllPairs-from_increasing row once i j d lt inside in omega (arith, r, same)
+
+-- nor in two rows that share none
+pairs_append : (xs ys : List ℕ) → AllPairs (λ k m. k ≢ m) xs → AllPairs (λ k m. k ≢ m) ys → ((x : ℕ) → Contains xs x → Contains ys x → ⊥) → AllPairs (λ k m. k ≢ m) (xs ++ ys)
+pairs_append [] ys a b apart i j d lt inside = b i j d lt inside
+pairs_append (x ∷ xs) ys a b apart zero zero d lt inside = absurd (omega (arith, lt))
+pairs_append (x ∷ xs) ys a b apart zero (suc j) d lt inside =
+    elim (Contains-append_cases xs ys (get_or (xs ++ ys) j d) (Contains-get_or (xs ++ ys) j d (omega (arith, inside)))) [
+      | inl c ↦ λ e. a 0 (suc c.0) (get_or (xs ++ ys) j d) (omega arith) (omega (arith, c.1)) (e ∙ sym c.2)
+      | inr c ↦ λ e. apart x (0, omega arith, refl) (subst (Contains ys) (sym e) c)
+    ]
+pairs_append (x ∷ xs) ys a b apart (suc i) zero d lt inside = absurd (omega (arith, lt))
+pairs_append (x ∷ xs) ys a b apart (suc i) (suc j) d lt inside =
+    pairs_append xs ys (λ k m e l h. a (suc k) (suc m) e (omega (arith, l)) (omega (arith, h))) b
+    (λ y c. apart y (Contains-from_In (x ∷ xs) y (inr (In-from_Contains xs y c)))) i j d (omega (arith, lt)) (omega (arith, inside))
 
 -- the number stands among the dependants as often as before, and as often as the row has the node
 pub linked_times : (row : List ℕ) (n : ℕ) (x : Node) → IsStrictlyIncreasing row → times (linked_to row n x).dependants n ≡ times x.dependants n + times row x.patch.number
@@ -94,49 +118,17 @@ linked_other row n m x ne = other_either (is_among row x.patch.number) n m x ne
 pub linked_given : (row : List ℕ) (n m : ℕ) (x : Node) → Contains (linked_to row n x).dependants m → Contains x.dependants m ⊎ (n ≡ m)
 linked_given row n m x c = given_either (is_among row x.patch.number) n m x c
 
-pub linked_count : (row : List ℕ) (n : ℕ) (x : Node) → (linked_to row n x).count ≡ x.count
-linked_count row n x = count_either (is_among row x.patch.number) n x
-
--- counts of numbers that are all live, or as live as before
-
-count_all_in : (f : ℕ → Bool) (xs : List ℕ) → ((x : ℕ) → In xs x → f x ≡ true) → count_by f xs ≡ length xs
-count_all_in f [] all = refl
-count_all_in f (x ∷ xs) all =
-    let first = all x (inl refl) in
-    let rest = count_all_in f xs (λ y h. all y (inr h)) in
-    rw (sum_by-cons (λ y. cond (f y) 1 0) x xs, first) (omega (arith, rest))
-
-count_within : (f g : ℕ → Bool) (xs : List ℕ) → ((x : ℕ) → In xs x → f x ≡ g x) → count_by f xs ≡ count_by g xs
-count_within f g [] same = refl
-count_within f g (x ∷ xs) same =
-    let first = same x (inl refl) in
-    let rest = count_within f g xs (λ y h. same y (inr h)) in
-    rw (sum_by-cons (λ y. cond (f y) 1 0) x xs, sum_by-cons (λ y. cond (g y) 1 0) x xs, first, rest) refl
-
-no_other : (b : Bool) (m n : ℕ) → m ≢ n → ((b && (m == n)) || false) ≡ false
-no_other true m n ne = rw (ne_eqb m n ne) refl
-no_other false m n ne = refl
-
--- a patch with another number makes none live
-live_push : (ps : List Patch) (p : Patch) (n : ℕ) → p.number ≢ n → is_live_in (ps ++ p ∷ []) n ≡ is_live_in ps n
-live_push [] p n ne = no_other (is_live p) p.number n ne
-live_push (q ∷ qs) p n ne = rw (live_push qs p n ne) refl
+-- no number stands twice among the direct dependencies or the dependants of the node
+abbrev pub Apart : Node → Type 0
+Apart x = AllPairs (λ m n. m ≢ n) x.patch.dependencies × AllPairs (λ m n. m ≢ n) x.dependants
 
 -- each dependant of a node is a direct dependency of its own
 abbrev pub Tied : Node → Node → Type 0
 Tied x y = times y.dependants x.patch.number ≡ times x.patch.dependencies y.patch.number
 
--- the nodes with a new one, which is a dependant of those that it depends on
-abbrev pub with_node : List Node → Patch → List Node
-with_node nodes p = map (linked_to p.dependencies p.number) nodes ++ record { patch = p; count = length p.dependencies; dependants = [] } ∷ []
-
--- the node of a new patch
-abbrev pub new_node : Patch → Node
-new_node p = record { patch = p; count = length p.dependencies; dependants = [] }
-
 pub patches_made : (nodes : List Node) (p : Patch) → patches_in (with_node nodes p) ≡ patches_in nodes ++ p ∷ []
 patches_made nodes p =
-    map-append (λ x. x.patch) (map (linked_to p.dependencies p.number) nodes) (new_node p ∷ []) ∙ ap (λ ps. ps ++ p ∷ []) (patches_linked nodes p.dependencies p.number)
+    map-append (λ x. x.patch) (map (linked_to p.dependencies p.number) nodes) (new_node nodes p ∷ []) ∙ ap (λ ps. ps ++ p ∷ []) (patches_linked nodes p.dependencies p.number)
 
 module _ (nodes : List Node) (numbers : ℕ) (p : Patch) (H : HasOnePlaceEach (patches_in nodes) numbers)
     (next : p.number ≡ numbers + 1) (rising : IsStrictlyIncreasing p.dependencies) (live : (n : ℕ) → Contains p.dependencies n → IsLiveNumber (patches_in nodes) n) where
@@ -144,8 +136,8 @@ module _ (nodes : List Node) (numbers : ℕ) (p : Patch) (H : HasOnePlaceEach (p
   link = linked_to p.dependencies p.number
 
   -- a node is an old one, linked, or the new one
-  each : (y : Node) → Contains (with_node nodes p) y → ((x : Node) × Contains nodes x × (link x ≡ y)) ⊎ (new_node p ≡ y)
-  each y c = elim (Contains-push_cases (map link nodes) (new_node p) y c) [ inl o ↦ inl (unmapped link nodes y o) | inr e ↦ inr e ]
+  pub made_was : (y : Node) → Contains (with_node nodes p) y → ((x : Node) × Contains nodes x × (link x ≡ y)) ⊎ (new_node nodes p ≡ y)
+  made_was y c = elim (Contains-push_cases (map link nodes) (new_node nodes p) y c) [ inl o ↦ inl (unmapped link nodes y o) | inr e ↦ inr e ]
 
   small : (x : Node) → Contains nodes x → x.patch.number ≤ numbers
   small x c = (H.numbered x.patch (patch_in nodes x c)).1
@@ -163,39 +155,39 @@ module _ (nodes : List Node) (numbers : ℕ) (p : Patch) (H : HasOnePlaceEach (p
       ∙ (linked_other p.dependencies p.number x.patch.number y (λ e. omega (arith, lt, e, next))
       ∙ (t ∙ sym (ap (λ q. times (link x).patch.dependencies q.number) py ∙ ap (λ q. times q.dependencies y.patch.number) px)))
 
-  new_old : (y : Node) → Contains nodes y → AreGiven nodes numbers → Tied (new_node p) (link y)
+  new_old : (y : Node) → Contains nodes y → AreGiven nodes numbers → Tied (new_node nodes p) (link y)
   new_old y cy given =
       let py = linked_patch p.dependencies p.number y in
       let none = times_absent y.dependants p.number (λ n c e. let g = given y n cy c in omega (arith, g, e, next)) in
       linked_times p.dependencies p.number y rising ∙ (ap (λ k. k + times p.dependencies y.patch.number) none ∙ (omega arith ∙ sym (ap (λ q. times p.dependencies q.number) py)))
 
-  old_new : (x : Node) → Contains nodes x → Tied (link x) (new_node p)
+  old_new : (x : Node) → Contains nodes x → Tied (link x) (new_node nodes p)
   old_new x cx =
       let px = linked_patch p.dependencies p.number x in
       sym (ap (λ q. times q.dependencies p.number) px
       ∙ times_absent x.patch.dependencies p.number (λ n c e. let k = H.named x.patch n (patch_in nodes x cx) c in omega (arith, k, e, next)))
 
-  new_new : Tied (new_node p) (new_node p)
+  new_new : Tied (new_node nodes p) (new_node nodes p)
   new_new = sym (times_absent p.dependencies p.number (λ n c e. let k = named_small n c in omega (arith, k, e, next)))
 
   pub made_linked : AreLinked nodes → AreGiven nodes numbers → AreLinked (with_node nodes p)
   made_linked linked given a b ca cb =
-      elim (each a ca) [
+      elim (made_was a ca) [
         | inl x ↦
-            elim (each b cb) [
+            elim (made_was b cb) [
               | inl y ↦ subst (λ z. Tied z b) x.2 (subst (Tied (link x.0)) y.2 (old_old x.0 y.0 x.1 y.1 (linked x.0 y.0 x.1 y.1)))
               | inr e ↦ subst (λ z. Tied z b) x.2 (subst (Tied (link x.0)) e (old_new x.0 x.1))
             ]
         | inr d ↦
-            elim (each b cb) [
-              | inl y ↦ subst (λ z. Tied z b) d (subst (Tied (new_node p)) y.2 (new_old y.0 y.1 given))
-              | inr e ↦ subst (λ z. Tied z b) d (subst (Tied (new_node p)) e new_new)
+            elim (made_was b cb) [
+              | inl y ↦ subst (λ z. Tied z b) d (subst (Tied (new_node nodes p)) y.2 (new_old y.0 y.1 given))
+              | inr e ↦ subst (λ z. Tied z b) d (subst (Tied (new_node nodes p)) e new_new)
             ]
       ]
 
   pub made_given : AreGiven nodes numbers → AreGiven (with_node nodes p) (numbers + 1)
   made_given given a n ca c =
-      elim (each a ca) [
+      elim (made_was a ca) [
         | inl x ↦
             elim (linked_given p.dependencies p.number n x.0 (subst (λ z. Contains z.dependants n) (sym x.2) c)) [
               | inl o ↦ let g = given x.0 n x.1 o in omega (arith, g)
@@ -204,93 +196,76 @@ module _ (nodes : List Node) (numbers : ℕ) (p : Patch) (H : HasOnePlaceEach (p
         | inr d ↦ let none : Contains [] n = subst (λ z. Contains z.dependants n) (sym d) c in absurd (omega (arith, none.1))
       ]
 
-  abbrev IsCounted : Node → Type 0
-  IsCounted x = x.count ≡ count_by (is_live_in (patches_in nodes ++ p ∷ [])) x.patch.dependencies
+  old_apart : (x : Node) → Contains nodes x → AreGiven nodes numbers → Apart x → Apart (link x)
+  old_apart x cx given apart =
+      let px = linked_patch p.dependencies p.number x in (
+        subst (λ ns. AllPairs (λ m n. m ≢ n) ns) (sym (ap (λ q. q.dependencies) px)) apart.0,
+        apart_either (is_among p.dependencies x.patch.number) p.number x apart.1 (λ t m c e. let g = given x m cx c in omega (arith, g, e, next)),
+      )
 
-  old_counted : (x : Node) → Contains nodes x → AreCounted nodes → IsCounted (link x)
-  old_counted x cx counted =
-      let px = linked_patch p.dependencies p.number x in
-      let same = count_within (is_live_in (patches_in nodes ++ p ∷ [])) (is_live_in (patches_in nodes)) x.patch.dependencies (λ n h.
-      let k = H.named x.patch n (patch_in nodes x cx) (Contains-from_In x.patch.dependencies n h) in live_push (patches_in nodes) p n (λ e. omega (arith, k, e, next))) in
-      linked_count p.dependencies p.number x ∙ (counted x cx ∙ (sym same ∙ sym (ap (λ q. count_by (is_live_in (patches_in nodes ++ p ∷ [])) q.dependencies) px)))
+  pub made_distinct : AreGiven nodes numbers → AreDistinct nodes → AreDistinct (with_node nodes p)
+  made_distinct given distinct a ca =
+      elim (made_was a ca) [
+        | inl x ↦ subst Apart x.2 (old_apart x.0 x.1 given (distinct x.0 x.1))
+        | inr d ↦ subst Apart d (rising_distinct p.dependencies rising, λ i j e lt inside. absurd (omega (arith, lt, inside)))
+      ]
 
-  new_counted : IsCounted (new_node p)
-  new_counted =
-      sym (count_all_in (is_live_in (patches_in nodes ++ p ∷ [])) p.dependencies (λ n h.
-      let c = Contains-from_In p.dependencies n h in
-      let k = named_small n c in
-      live_push (patches_in nodes) p n (λ e. omega (arith, k, e, next)) ∙ in_live (patches_in nodes) n (live n c)))
+gained_either : (b : Bool) (names : List ℕ) (sums : Sums) (x : Node) → (if b then gains_names names sums x else x).patch ≡ (if b then record x.patch { dependencies = x.patch.dependencies ++ names } else x.patch)
+gained_either true names sums x = refl
+gained_either false names sums x = refl
 
-  pub made_counted : AreCounted nodes → AreCounted (with_node nodes p)
-  made_counted counted a ca =
-      rw (patches_made nodes p)
-      (elim (each a ca) [ inl x ↦ subst IsCounted x.2 (old_counted x.0 x.1 counted) | inr d ↦ subst IsCounted d new_counted ])
-
-pub tallies_made : (nodes : List Node) (numbers blocks : ℕ) (lists lists' : List (List Entry)) (queue : List ℕ) (cap cap' : ℕ) (p : Patch)
-    → HasOnePlaceEach (patches_in nodes) numbers → Tallies nodes numbers blocks lists queue cap
-    → p.number ≡ numbers + 1 → IsStrictlyIncreasing p.dependencies → ((n : ℕ) → Contains p.dependencies n → IsLiveNumber (patches_in nodes) n)
-    → AreListed (patches_in (with_node nodes p)) blocks lists' → length nodes < cap'
-    → Tallies (with_node nodes p) (numbers + 1) blocks lists' queue cap'
-tallies_made nodes numbers blocks lists lists' queue cap cap' p H T next rising live listed room = record {
-  linked = made_linked nodes numbers p H next rising live T.linked T.given;
-  given = made_given nodes numbers p H next rising live T.given;
-  counted = made_counted nodes numbers p H next rising live T.counted;
-  listed = listed;
-  idle = T.idle;
-  room = omega (arith, room, length_push (map (linked_to p.dependencies p.number) nodes) (new_node p), length-map nodes (linked_to p.dependencies p.number));
-}
-
--- the nodes where gate g gains names
-abbrev pub with_names : List Node → ℕ → List ℕ → List Node
-with_names nodes g names = map (linked_to names g) (map (at_number g (gains_names names)) nodes)
-
-gained_either : (b : Bool) (names : List ℕ) (x : Node) → (if b then gains_names names x else x).patch ≡ (if b then record x.patch { dependencies = x.patch.dependencies ++ names } else x.patch)
-gained_either true names x = refl
-gained_either false names x = refl
-
-dependants_either : (b : Bool) (names : List ℕ) (x : Node) → (if b then gains_names names x else x).dependants ≡ x.dependants
-dependants_either true names x = refl
-dependants_either false names x = refl
+dependants_either : (b : Bool) (names : List ℕ) (sums : Sums) (x : Node) → (if b then gains_names names sums x else x).dependants ≡ x.dependants
+dependants_either true names sums x = refl
+dependants_either false names sums x = refl
 
 stands_either : (b : Bool) (names : List ℕ) (p : Patch) → StandsFor p (if b then record p { dependencies = p.dependencies ++ names } else p)
 stands_either true names p = record { live = refl; number = refl; kind = refl }
 stands_either false names p = record { live = refl; number = refl; kind = refl }
 
 -- a patch that gains names keeps all but its direct dependencies
-gain_stands : (g : ℕ) (names : List ℕ) (p : Patch) → StandsFor p (gains g names p)
+pub gain_stands : (g : ℕ) (names : List ℕ) (p : Patch) → StandsFor p (gains g names p)
 gain_stands g names p = stands_either (p.number == g) names p
 
-module _ (g : ℕ) (names : List ℕ) where
+module _ (g : ℕ) (names : List ℕ) (sums : Sums) where
   abbrev gained : Node → Node
-  gained x = at_number g (gains_names names) x
+  gained x = at_number g (gains_names names sums) x
 
-  abbrev both : Node → Node
+  abbrev pub both : Node → Node
   both x = linked_to names g (gained x)
 
   both_patch : (x : Node) → (both x).patch ≡ gains g names x.patch
-  both_patch x = linked_patch names g (gained x) ∙ gained_either (x.patch.number == g) names x
+  both_patch x = linked_patch names g (gained x) ∙ gained_either (x.patch.number == g) names sums x
 
-  both_nodes : (nodes : List Node) → with_names nodes g names ≡ map both nodes
+  pub both_nodes : (nodes : List Node) → with_names nodes g names sums ≡ map both nodes
   both_nodes nodes = map_twice (linked_to names g) gained both (λ x. refl) nodes
 
-  pub patches_named : (nodes : List Node) → patches_in (with_names nodes g names) ≡ map (gains g names) (patches_in nodes)
+  pub patches_named : (nodes : List Node) → patches_in (with_names nodes g names sums) ≡ map (gains g names) (patches_in nodes)
   patches_named [] = refl
   patches_named (x ∷ xs) = let first = both_patch x in let rest = patches_named xs in cc
 
-  both_number : (x : Node) → (both x).patch.number ≡ x.patch.number
+  pub both_number : (x : Node) → (both x).patch.number ≡ x.patch.number
   both_number x = ap (λ q. q.number) (both_patch x) ∙ (gain_stands g names x.patch).number
+
+  gained_number : (x : Node) → (gained x).patch.number ≡ x.patch.number
+  gained_number x = ap (λ q. q.number) (gained_either (x.patch.number == g) names sums x) ∙ (gain_stands g names x.patch).number
+
+  -- the direct dependencies of the gate, and of another
+  row_same : (x : Node) → x.patch.number ≡ g → (both x).patch.dependencies ≡ x.patch.dependencies ++ names
+  row_same x same = ap (λ q. q.dependencies) (linked_patch names g (gained x)) ∙ ap (λ z. z.patch.dependencies) (at_same g (gains_names names sums) x same)
+
+  row_other : (x : Node) → x.patch.number ≢ g → (both x).patch.dependencies ≡ x.patch.dependencies
+  row_other x other = ap (λ q. q.dependencies) (linked_patch names g (gained x)) ∙ ap (λ z. z.patch.dependencies) (at_other g (gains_names names sums) x other)
 
   -- what the gate has besides is what it was linked to
   both_tied : (x y : Node) → IsStrictlyIncreasing names → Tied x y → Tied (both x) (both y)
   both_tied x y once t =
       let nx = both_number x in
       let ny = both_number y in
-      let dy = dependants_either (y.patch.number == g) names y in
-      let gy : (gained y).patch.number ≡ y.patch.number = ap (λ q. q.number) (gained_either (y.patch.number == g) names y) ∙ (gain_stands g names y.patch).number in
+      let dy = dependants_either (y.patch.number == g) names sums y in
+      let gy = gained_number y in
       let named = ap (times (both x).patch.dependencies) ny in
       ap (times (both y).dependants) nx ∙ (elim (cases_eq x.patch.number g) [
         | inl same ↦
-            let row : (both x).patch.dependencies ≡ x.patch.dependencies ++ names = ap (λ q. q.dependencies) (linked_patch names g (gained x)) ∙ ap (λ z. z.patch.dependencies) (at_same g (gains_names names) x same) in
             ap (times (both y).dependants) same
             ∙ (linked_times names g (gained y) once
             ∙ (ap (λ ns. times ns g + times names (gained y).patch.number) dy
@@ -298,63 +273,61 @@ module _ (g : ℕ) (names : List ℕ) where
             ∙ (ap (λ k. times y.dependants k + times names y.patch.number) (sym same)
             ∙ (ap (λ k. k + times names y.patch.number) t
             ∙ (sym (times_append x.patch.dependencies names y.patch.number)
-            ∙ sym (ap (λ ns. times ns y.patch.number) row)))))))
+            ∙ sym (ap (λ ns. times ns y.patch.number) (row_same x same))))))))
         | inr other ↦
-            let row : (both x).patch.dependencies ≡ x.patch.dependencies = ap (λ q. q.dependencies) (linked_patch names g (gained x)) ∙ ap (λ z. z.patch.dependencies) (at_other g (gains_names names) x other) in
-            linked_other names g x.patch.number (gained y) other ∙ (ap (λ ns. times ns x.patch.number) dy ∙ (t ∙ sym (ap (λ ns. times ns y.patch.number) row)))
+            linked_other names g x.patch.number (gained y) other ∙ (ap (λ ns. times ns x.patch.number) dy ∙ (t ∙ sym (ap (λ ns. times ns y.patch.number) (row_other x other))))
       ] ∙ sym named)
 
   both_given : (x : Node) (n : ℕ) → Contains (both x).dependants n → Contains x.dependants n ⊎ (g ≡ n)
   both_given x n c =
-      elim (linked_given names g n (gained x) c) [ inl o ↦ inl (subst (λ ns. Contains ns n) (dependants_either (x.patch.number == g) names x) o) | inr e ↦ inr e ]
+      elim (linked_given names g n (gained x) c) [ inl o ↦ inl (subst (λ ns. Contains ns n) (dependants_either (x.patch.number == g) names sums x) o) | inr e ↦ inr e ]
 
-  -- the names are live, and so are counted
-  both_counted : (f : ℕ → Bool) (x : Node) → ((n : ℕ) → Contains names n → f n ≡ true) → x.count ≡ count_by f x.patch.dependencies → (both x).count ≡ count_by f (both x).patch.dependencies
-  both_counted f x live counted =
-      linked_count names g (gained x) ∙ (elim (cases_eq x.patch.number g) [
-        | inl same ↦
-            let row : (both x).patch.dependencies ≡ x.patch.dependencies ++ names = ap (λ q. q.dependencies) (linked_patch names g (gained x)) ∙ ap (λ z. z.patch.dependencies) (at_same g (gains_names names) x same) in
-            ap (λ z. z.count) (at_same g (gains_names names) x same)
-            ∙ (ap (λ k. k + length names) counted
-            ∙ (ap (λ k. count_by f x.patch.dependencies + k) (sym (count_all_in f names (λ n h. live n (Contains-from_In names n h))))
-            ∙ (sym (sum_by-append (λ y. cond (f y) 1 0) x.patch.dependencies names) ∙ ap (count_by f) (sym row))))
-        | inr other ↦
-            let row : (both x).patch.dependencies ≡ x.patch.dependencies = ap (λ q. q.dependencies) (linked_patch names g (gained x)) ∙ ap (λ z. z.patch.dependencies) (at_other g (gains_names names) x other) in
-            ap (λ z. z.count) (at_other g (gains_names names) x other) ∙ (counted ∙ ap (count_by f) (sym row))
-      ])
+  module _ (nodes : List Node) where
+    pub named_was : (y : Node) → Contains (with_names nodes g names sums) y → (x : Node) × Contains nodes x × (both x ≡ y)
+    named_was y c = unmapped both nodes y (subst (λ xs. Contains xs y) (both_nodes nodes) c)
 
-pub tallies_depends : (nodes : List Node) (numbers blocks : ℕ) (lists : List (List Entry)) (queue : List ℕ) (cap g : ℕ) (on names : List ℕ)
-    → HasOnePlaceEach (patches_in nodes) numbers → Tallies nodes numbers blocks lists queue cap
-    → IsOpenNumber (patches_in nodes) g
-    → Lists (λ n. IsLiveNumber (patches_in nodes) n × Contains on n × (DirectlyOn (patches_in nodes) g n → ⊥)) names
-    → Tallies (with_names nodes g names) numbers blocks lists queue cap
-tallies_depends nodes numbers blocks lists queue cap g on names H T gate live =
-    let was = λ (y : Node) (c : Contains (with_names nodes g names) y). unmapped (both g names) nodes y (subst (λ xs. Contains xs y) (both_nodes g names nodes) c) in
-    let patches = patches_named g names nodes in
-    let small = (H.numbered gate.patch gate.head).1 in
-    let gate_number = gate.numbered in
-    let same_live : (n : ℕ) → is_live_in (patches_in (with_names nodes g names)) n ≡ is_live_in (patches_in nodes) n =
-    λ n. ap (λ ps. is_live_in ps n) patches ∙ live_in_mapped (gains g names) (patches_in nodes) n (λ p h. gain_stands g names p) in
-    record {
-      linked = λ a b ca cb.
-          let x = was a ca in
-          let y = was b cb in
-          subst (λ z. Tied z b) x.2 (subst (Tied (both g names x.0)) y.2 (both_tied g names x.0 y.0 live.rising (T.linked x.0 y.0 x.1 y.1)));
-      given = λ a n ca c.
-          let x = was a ca in
-          elim (both_given g names x.0 n (subst (λ z. Contains z.dependants n) (sym x.2) c)) [
-            | inl o ↦ T.given x.0 n x.1 o
-            | inr e ↦ omega (arith, e, small, gate_number)
-          ];
-      counted = λ a ca.
-          let x = was a ca in
-          let counted = both_counted g names (is_live_in (patches_in nodes)) x.0 (λ n c. in_live (patches_in nodes) n (live.only n c).0) (T.counted x.0 x.1) in
-          subst (λ z. z.count ≡ count_by (is_live_in (patches_in nodes)) z.patch.dependencies) x.2 counted
-          ∙ sym (count_same (is_live_in (patches_in (with_names nodes g names))) (is_live_in (patches_in nodes)) a.patch.dependencies same_live);
-      listed = record {
-        long = T.listed.long;
-        each = λ b d lt. T.listed.each b d lt ∙ sym (ap (λ ps. entries_on b ps) patches ∙ entries_mapped (gains g names) b (patches_in nodes) (λ p h. gain_stands g names p));
-      };
-      idle = T.idle;
-      room = subst (λ k. k ≤ cap) (sym (ap length (both_nodes g names nodes) ∙ length-map nodes (both g names))) T.room;
-    }
+    pub named_linked : IsStrictlyIncreasing names → AreLinked nodes → AreLinked (with_names nodes g names sums)
+    named_linked once linked a b ca cb =
+        let x = named_was a ca in
+        let y = named_was b cb in
+        subst (λ z. Tied z b) x.2 (subst (Tied (both x.0)) y.2 (both_tied x.0 y.0 once (linked x.0 y.0 x.1 y.1)))
+
+    pub named_given : (numbers : ℕ) → g ≤ numbers → AreGiven nodes numbers → AreGiven (with_names nodes g names sums) numbers
+    named_given numbers small given a n ca c =
+        let x = named_was a ca in
+        elim (both_given x.0 n (subst (λ z. Contains z.dependants n) (sym x.2) c)) [
+          | inl o ↦ given x.0 n x.1 o
+          | inr e ↦ omega (arith, e, small)
+        ]
+
+    module _ (gate : IsOpenNumber (patches_in nodes) g) (once : IsStrictlyIncreasing names) (linked : AreLinked nodes)
+        (new : (n : ℕ) → Contains names n → DirectlyOn (patches_in nodes) g n → ⊥) where
+      -- a name is not linked to the gate yet
+      unlinked : (x : Node) → Contains nodes x → Contains names x.patch.number → (m : ℕ) → Contains x.dependants m → m ≢ g
+      unlinked x cx named m c same =
+          let z = node_of_patch nodes gate.patch gate.head in
+          let number : z.0.patch.number ≡ g = ap (λ q. q.number) z.2 ∙ gate.numbered in
+          let none = times_absent z.0.patch.dependencies x.patch.number (λ n cn e.
+          new x.patch.number named (record { patch = z.0.patch; head = patch_in nodes z.0 z.1; numbered = number; named = subst (Contains z.0.patch.dependencies) e cn })) in
+          let tie = linked z.0 x z.1 cx in
+          let some = times_there x.dependants z.0.patch.number (In-from_Contains x.dependants z.0.patch.number (subst (Contains x.dependants) (same ∙ sym number) c)) in
+          omega (arith, none, tie, some)
+
+      both_apart : (x : Node) → Contains nodes x → Apart x → Apart (both x)
+      both_apart x cx apart =
+          let dx = dependants_either (x.patch.number == g) names sums x in (
+            elim (cases_eq x.patch.number g) [
+              | inl same ↦
+                  subst (λ ns. AllPairs (λ m n. m ≢ n) ns) (sym (row_same x same))
+                  (pairs_append x.patch.dependencies names apart.0 (rising_distinct names once) (λ n c named.
+                  new n named (record { patch = x.patch; head = patch_in nodes x cx; numbered = same; named = c })))
+              | inr other ↦ subst (λ ns. AllPairs (λ m n. m ≢ n) ns) (sym (row_other x other)) apart.0
+            ],
+            apart_either (is_among names (gained x).patch.number) g (gained x) (subst (λ ns. AllPairs (λ m n. m ≢ n) ns) (sym dx) apart.1)
+                (λ t m c.
+                let named = subst (Contains names) (gained_number x) (Contains-from_In names (gained x).patch.number (among_in names (gained x).patch.number t)) in
+                unlinked x cx named m (subst (λ ns. Contains ns m) dx c)),
+          )
+
+      pub named_distinct : AreDistinct nodes → AreDistinct (with_names nodes g names sums)
+      named_distinct distinct a ca = let x = named_was a ca in subst Apart x.2 (both_apart x.0 x.1 (distinct x.0 x.1))

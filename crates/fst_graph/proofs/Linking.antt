@@ -125,15 +125,15 @@ or_true : (b : Bool) → (b || true) ≡ true
 or_true true = refl
 or_true false = refl
 
-among_push_other : (row : List ℕ) (r m : ℕ) → r ≢ m → is_among (row ++ r ∷ []) m ≡ is_among row m
+pub among_push_other : (row : List ℕ) (r m : ℕ) → r ≢ m → is_among (row ++ r ∷ []) m ≡ is_among row m
 among_push_other [] r m ne = rw (ne_eqb r m ne) refl
 among_push_other (y ∷ ys) r m ne = rw (among_push_other ys r m ne) refl
 
-among_push_same : (row : List ℕ) (r : ℕ) → is_among (row ++ r ∷ []) r ≡ true
+pub among_push_same : (row : List ℕ) (r : ℕ) → is_among (row ++ r ∷ []) r ≡ true
 among_push_same [] r = rw (eq-eqb r r refl) refl
 among_push_same (y ∷ ys) r = rw (among_push_same ys r) (or_true _)
 
-none_among : (xs : List ℕ) (m : ℕ) → ((x : ℕ) → In xs x → x ≢ m) → is_among xs m ≡ false
+pub none_among : (xs : List ℕ) (m : ℕ) → ((x : ℕ) → In xs x → x ≢ m) → is_among xs m ≡ false
 none_among [] m none = refl
 none_among (x ∷ xs) m none = rw (ne_eqb x m (none x (inl refl)), none_among xs m (λ y h. none y (inr h))) refl
 

@@ -13,7 +13,8 @@ use Rattle.fst_graph.specs.Nodes.{Node, patches_in}
 use Rattle.fst_types.specs.Dependencies.{IsLiveNumber}
 use Rattle.fst_graph.specs.Rows.{IsDependency}
 use Rattle.fst_graph.proofs.Touching.{touch_parts}
-use Rattle.fst_graph.proofs.Linked.{with_node, patches_made}
+use Rattle.fst_graph.proofs.Added.{with_node}
+use Rattle.fst_graph.proofs.Linked.{patches_made}
 
 -- the list of a block with one patch more
 entries_more : (b : ℕ) (ps : List Patch) (p : Patch) → entries_on b (ps ++ p ∷ []) ≡ entries_on b ps ++ cond (is_live_on b p) (entry p ∷ []) []

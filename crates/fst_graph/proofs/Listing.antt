@@ -13,7 +13,7 @@ use Rattle.fst_types.specs.Writing.{landed}
 use Rattle.fst_types.proofs.Finite.{In, In-from_Contains, Contains-from_In, In-map}
 use Rattle.fst_types.proofs.Crash.{same_number}
 use Rattle.fst_graph.specs.declared.head.Head.{Head}
-use Rattle.fst_graph.specs.Cascading.{lands}
+use Rattle.fst_graph.specs.Spreading.{lands}
 use Rattle.fst_graph.specs.Heads.{IsRising, patch_of, patches_of}
 use Rattle.fst_graph.specs.declared.lists.Listed.{Listed}
 use Rattle.fst_graph.specs.Ordered.{is_live_in}
@@ -22,7 +22,7 @@ use Rattle.fst_graph.specs.Marks.{HasSlot, HasNone}
 use Rattle.fst_graph.specs.Nodes.{Node, node_of, nodes_of, patches_in, at_number}
 use Rattle.fst_graph.proofs.Slots.{any_default, some_element}
 use Rattle.fst_graph.proofs.Forgetting.{same_test, and_parts, not_disk, live_place_of}
-use Rattle.fst_graph.proofs.Starts.{patches_landed}
+use Rattle.fst_graph.proofs.Starting.{patches_landed}
 use Rattle.fst_graph.proofs.Linking.{rising_as}
 use Rattle.fst_graph.proofs.AtNumber.{patches_in_nodes, at_other, at_same, at_none, at_slot}
 

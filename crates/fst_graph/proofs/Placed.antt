@@ -1,23 +1,18 @@
 -- What stands beside the patches where some are launched or forgotten.
-use Rattle.std.proofs.Common.{◌≡◌, ℕ, ◌+◌, Bool, true, false, cond, List, [], ◌∷◌, map, filter, count_by, Contains, refl, sym, ap, subst, ◌∙◌, inl, inr, arith}
+use Rattle.std.proofs.Common.{◌≡◌, ◌≢◌, ℕ, Bool, true, false, cond, List, [], ◌∷◌, map, filter, AllPairs, Contains, refl, sym, ap, subst, ◌∙◌, inl, inr}
 use Rattle.std.proofs.lemmas.Bool.{cases_Bool}
-use Rattle.std.proofs.lemmas.List.{length-map}
-use Rattle.std.proofs.lemmas.List.Sums.{length-filter, count_by-le-length, sum_by-cons}
-use Rattle.fst_types.specs.declared.place.Place.TheVariants as place
 use Rattle.fst_types.specs.Patches.{Patch}
 use Rattle.fst_types.specs.Dependencies.{IsLiveNumber}
 use Rattle.fst_types.specs.Facts.{HasOnePlaceEach}
 use Rattle.fst_types.specs.Tests.{is_live, is_on, is_among}
 use Rattle.fst_types.specs.Writing.{launched}
 use Rattle.fst_types.proofs.Crash.{same_number}
-use Rattle.fst_types.proofs.Dropping.{filter_in}
 use Rattle.fst_types.proofs.Finite.{In, In-from_Contains, Contains-from_In}
 use Rattle.fst_types.proofs.GateGains.{In-unmap}
 use Rattle.fst_types.proofs.Issuing.{among_in}
-use Rattle.fst_graph.specs.Cascading.{launches}
-use Rattle.fst_graph.specs.Keeps.{Tallies}
-use Rattle.fst_graph.specs.Lists.{Entry, entry, entries_on, is_live_on}
-use Rattle.fst_graph.specs.Nodes.{Node, patches_in, times, AreLinked, AreGiven}
+use Rattle.fst_graph.specs.Spreading.{launches}
+use Rattle.fst_graph.specs.Lists.{entry, entries_on, is_live_on}
+use Rattle.fst_graph.specs.Nodes.{Node, patches_in, times, AreLinked, AreGiven, AreDistinct}
 use Rattle.fst_graph.specs.Ordered.{is_live_in}
 use Rattle.fst_graph.proofs.Forgetting.{live_place_of}
 
@@ -41,19 +36,18 @@ linked_kept old new kept L p q cp cq =
 pub given_kept : (old new : List Node) (numbers : ℕ) → KeepLinks old new → AreGiven old numbers → AreGiven new numbers
 given_kept old new numbers kept G y n c d = let k = kept y c in G k.0 n k.1 (subst (λ ns. Contains ns n) k.2.dependants d)
 
+pub distinct_kept : (old new : List Node) → KeepLinks old new → AreDistinct old → AreDistinct new
+distinct_kept old new kept D y c =
+    let k = kept y c in
+    let d = D k.0 k.1 in
+    (subst (λ ns. AllPairs (λ m n. m ≢ n) ns) (sym k.2.dependencies) d.0, subst (λ ns. AllPairs (λ m n. m ≢ n) ns) (sym k.2.dependants) d.1)
+
 -- a node of a mapped list, and what it was
 pub unmapped : {X Y : Type 0} (f : X → Y) (xs : List X) (y : Y) → Contains (map f xs) y → (x : X) × Contains xs x × (f x ≡ y)
 unmapped f xs y c = let r = In-unmap f xs y (In-from_Contains (map f xs) y c) in (r.0, Contains-from_In xs r.0 r.1, r.2)
 
 pub links_mapped : (f : Node → Node) (nodes : List Node) → ((x : Node) → SameLinks x (f x)) → KeepLinks nodes (map f nodes)
 links_mapped f nodes same y c = let r = unmapped f nodes y c in (r.0, r.1, subst (SameLinks r.0) r.2 (same r.0))
-
--- tests that say the same count the same
-pub count_same : (f g : ℕ → Bool) (ns : List ℕ) → ((n : ℕ) → f n ≡ g n) → count_by f ns ≡ count_by g ns
-count_same f g [] same = refl
-count_same f g (n ∷ ns) same =
-    sum_by-cons (λ m. cond (f m) 1 0) n ns
-    ∙ (ap (λ k. cond (f n) 1 0 + k) (count_same f g ns same) ∙ (ap (λ t. cond t 1 0 + count_by g ns) (same n) ∙ sym (sum_by-cons (λ m. cond (g m) 1 0) n ns)))
 
 -- q is live exactly where p is, and has its number and its kind
 pub record StandsFor (p q : Patch) : Type 0 where
@@ -115,7 +109,7 @@ patches_launched (x ∷ xs) chosen = let r = patches_launched xs chosen in rw r 
 module _ (nodes : List Node) (numbers : ℕ) (chosen : List ℕ) (H : HasOnePlaceEach (patches_in nodes) numbers)
     (live : (n : ℕ) → Contains chosen n → IsLiveNumber (patches_in nodes) n) where
   -- what is launched was live, since its number is that of a live patch
-  launched_stands : (p : Patch) → In (patches_in nodes) p → StandsFor p (launched chosen p)
+  pub launched_stands : (p : Patch) → In (patches_in nodes) p → StandsFor p (launched chosen p)
   launched_stands p h = record {
     live = live_if (is_among chosen p.number) p _ (λ e.
         let l = live p.number (Contains-from_In chosen p.number (among_in chosen p.number e)) in
@@ -125,36 +119,12 @@ module _ (nodes : List Node) (numbers : ℕ) (chosen : List ℕ) (H : HasOnePlac
     kind = kind_if (is_among chosen p.number) p _ refl;
   }
 
-launched_links : (chosen : List ℕ) (x : Node) → SameLinks x (launches chosen x)
+pub launched_links : (chosen : List ℕ) (x : Node) → SameLinks x (launches chosen x)
 launched_links chosen x = record {
   number = number_if (is_among chosen x.patch.number) x.patch _ refl;
   dependencies = dependencies_if (is_among chosen x.patch.number) x.patch _ refl;
   dependants = refl;
 }
-
-pub tallies_launched : (nodes : List Node) (numbers blocks : ℕ) (lists : List (List Entry)) (queue : List ℕ) (cap : ℕ) (chosen : List ℕ)
-    → HasOnePlaceEach (patches_in nodes) numbers → Tallies nodes numbers blocks lists queue cap
-    → ((n : ℕ) → Contains chosen n → IsLiveNumber (patches_in nodes) n)
-    → Tallies (map (launches chosen) nodes) numbers blocks lists queue cap
-tallies_launched nodes numbers blocks lists queue cap chosen H T live =
-    let stands = launched_stands nodes numbers chosen H live in
-    let links = links_mapped (launches chosen) nodes (launched_links chosen) in
-    record {
-      linked = linked_kept nodes _ links T.linked;
-      given = given_kept nodes _ numbers links T.given;
-      counted = λ y c.
-          let r = unmapped (launches chosen) nodes y c in
-          let ds = dependencies_if (is_among chosen r.0.patch.number) r.0.patch (record r.0.patch { place = place.Flight }) refl in
-          let alike = count_same (is_live_in (map (launched chosen) (patches_in nodes))) (is_live_in (patches_in nodes)) r.0.patch.dependencies (λ n. live_in_mapped (launched chosen) (patches_in nodes) n stands) in
-          subst (λ z. z.count ≡ count_by (is_live_in (patches_in (map (launches chosen) nodes))) z.patch.dependencies) r.2
-          (rw (patches_launched nodes chosen, ds) (T.counted r.0 r.1 ∙ sym alike));
-      listed = record {
-        long = T.listed.long;
-        each = λ b d lt. T.listed.each b d lt ∙ sym (ap (entries_on b) (patches_launched nodes chosen) ∙ entries_mapped (launched chosen) b (patches_in nodes) stands);
-      };
-      idle = T.idle;
-      room = let l = length-map nodes (launches chosen) in omega (arith, l, T.room);
-    }
 
 pub patches_dropped : (nodes : List Node) → patches_in (filter (λ x. is_live x.patch) nodes) ≡ filter is_live (patches_in nodes)
 patches_dropped [] = refl
@@ -164,40 +134,16 @@ patches_dropped (x ∷ xs) = elim (cases_Bool (is_live x.patch)) [
 ]
 
 -- what is on disk is not the one live patch of a number
-live_in_dropped : (ps : List Patch) (n : ℕ) → is_live_in (filter is_live ps) n ≡ is_live_in ps n
+pub live_in_dropped : (ps : List Patch) (n : ℕ) → is_live_in (filter is_live ps) n ≡ is_live_in ps n
 live_in_dropped [] n = refl
 live_in_dropped (p ∷ ps) n = elim (cases_Bool (is_live p)) [
   | inl e ↦ let r = live_in_dropped ps n in rw (e, e, r) refl
   | inr e ↦ let r = live_in_dropped ps n in rw (e, r) refl
 ]
 
-entries_dropped : (b : ℕ) (ps : List Patch) → entries_on b (filter is_live ps) ≡ entries_on b ps
+pub entries_dropped : (b : ℕ) (ps : List Patch) → entries_on b (filter is_live ps) ≡ entries_on b ps
 entries_dropped b [] = refl
 entries_dropped b (p ∷ ps) = let r = entries_dropped b ps in elim (cases_Bool (is_live p)) [
   | inl e ↦ elim (cases_Bool (is_on b p.kind)) [ inl f ↦ rw (e, e, f, r) refl | inr f ↦ rw (e, e, f, r) refl ]
   | inr e ↦ rw (e, r) refl
 ]
-
-pub tallies_dropped : (nodes : List Node) (numbers blocks : ℕ) (lists : List (List Entry)) (queue : List ℕ) (cap : ℕ)
-    → Tallies nodes numbers blocks lists queue cap
-    → Tallies (filter (λ x. is_live x.patch) nodes) numbers blocks lists queue cap
-tallies_dropped nodes numbers blocks lists queue cap T =
-    let was = λ (x : Node) (c : Contains (filter (λ (x : Node). is_live x.patch) nodes) x).
-    Contains-from_In nodes x (filter_in (λ (x : Node). is_live x.patch) nodes x (In-from_Contains _ x c)).0 in
-    let links : KeepLinks nodes (filter (λ x. is_live x.patch) nodes) = λ x c. (x, was x c, record { number = refl; dependencies = refl; dependants = refl }) in
-    record {
-      linked = linked_kept nodes _ links T.linked;
-      given = given_kept nodes _ numbers links T.given;
-      counted = λ x c.
-          let alike = count_same (is_live_in (filter is_live (patches_in nodes))) (is_live_in (patches_in nodes)) x.patch.dependencies (live_in_dropped (patches_in nodes)) in
-          rw (patches_dropped nodes) (T.counted x (was x c) ∙ sym alike);
-      listed = record {
-        long = T.listed.long;
-        each = λ b d lt. T.listed.each b d lt ∙ sym (ap (entries_on b) (patches_dropped nodes) ∙ entries_dropped b (patches_in nodes));
-      };
-      idle = T.idle;
-      room =
-          let l = length-filter (λ (x : Node). is_live x.patch) nodes in
-          let few = count_by-le-length (λ (x : Node). is_live x.patch) nodes in
-          omega (arith, l, few, T.room);
-    }

@@ -3,6 +3,8 @@ use Rattle.std.proofs.Common.{◌≡◌, ◌≤◌, ◌∙◌, ℕ, List, map, s
 use Rattle.std.proofs.lemmas.Bool.{cases_Bool}
 use Rattle.fst_types.specs.Facts.{HasOnePlaceEach, HeadsAreLawful}
 use Rattle.fst_graph.specs.declared.head.Head.{Head}
+use Rattle.fst_graph.specs.declared.pending.Sums.{Sums}
+use Rattle.fst_graph.specs.declared.standing.Standing.{Standing}
 use Rattle.fst_graph.specs.Heads.{patches_of}
 use Rattle.fst_graph.specs.Keeps.{Tallies}
 use Rattle.fst_graph.specs.Lists.{Entry}
@@ -27,14 +29,24 @@ pub lawful_nodes : (heads : List Head) (numbers : ℕ) → HeadsAreLawful (patch
 lawful_nodes heads numbers H = subst (λ ps. HeadsAreLawful ps numbers) (sym (patches_in_nodes heads)) H
 
 -- a queue with more room
-pub tallies_wider : (nodes : List Node) (numbers blocks : ℕ) (lists : List (List Entry)) (queue wider : List ℕ) (cap cap' : ℕ)
-    → Tallies nodes numbers blocks lists queue cap → wider ≡ queue → cap ≤ cap' → Tallies nodes numbers blocks lists wider cap'
-tallies_wider nodes numbers blocks lists queue wider cap cap' T same le =
-    record { linked = T.linked; given = T.given; counted = T.counted; listed = T.listed; idle = same ∙ T.idle; room = omega (arith, T.room, le) }
+pub tallies_wider : (nodes : List Node) (numbers blocks : ℕ) (lists : List (List Entry)) (standings : List Standing) (queue wider : List ℕ) (cap cap' : ℕ)
+    → Tallies nodes numbers blocks lists standings queue cap → wider ≡ queue → cap ≤ cap' → Tallies nodes numbers blocks lists standings wider cap'
+tallies_wider nodes numbers blocks lists standings queue wider cap cap' T same le = record {
+  linked = T.linked;
+  given = T.given;
+  distinct = T.distinct;
+  settled = T.settled;
+  counted = T.counted;
+  listed = T.listed;
+  standing = T.standing;
+  marked = T.marked;
+  idle = same ∙ T.idle;
+  room = omega (arith, T.room, le);
+}
 
-pub gained_number : (g : ℕ) (names : List ℕ) (x : Node) → (at_number g (gains_names names) x).patch.number ≡ x.patch.number
-gained_number g names x =
+pub gained_number : (g : ℕ) (names : List ℕ) (sums : Sums) (x : Node) → (at_number g (gains_names names sums) x).patch.number ≡ x.patch.number
+gained_number g names sums x =
     elim (cases_Bool (eqb x.patch.number g)) [
-      | inl here ↦ ap (λ t. (cond t (gains_names names x) x).patch.number) here
-      | inr away ↦ ap (λ t. (cond t (gains_names names x) x).patch.number) away
+      | inl here ↦ ap (λ t. (cond t (gains_names names sums x) x).patch.number) here
+      | inr away ↦ ap (λ t. (cond t (gains_names names sums x) x).patch.number) away
     ]

@@ -4,8 +4,10 @@ use Rattle.fst_types.specs.Limits.{max_heads}
 use Rattle.fst_types.specs.Patches.{Patch, IsOn}
 use Rattle.fst_types.specs.Facts.{HeadsAreLawful}
 use Rattle.fst_graph.specs.Ordered.{IsOrdered}
-use Rattle.fst_graph.specs.Nodes.{Node, patches_in, AreLinked, AreGiven, AreCounted}
+use Rattle.fst_graph.specs.Nodes.{Node, patches_in, AreLinked, AreGiven, AreDistinct, AreSettled, AreCounted}
+use Rattle.fst_graph.specs.declared.standing.Standing.{Standing}
 use Rattle.fst_graph.specs.Lists.{Entry, AreListed}
+use Rattle.fst_graph.specs.Standings.{AllStand, AreMarked}
 
 -- each change lies in one of the blocks
 abbrev pub IsInside : List Patch → ℕ → Type 0
@@ -20,10 +22,14 @@ pub record Keeps (heads : List Patch) (numbers blocks : ℕ) (order : List ℕ) 
   pub marked : length marks ≡ length heads
 
 -- what stands beside the patches tells of them, and nothing waits in the queue, which has a place for each
-pub record Tallies (nodes : List Node) (numbers blocks : ℕ) (lists : List (List Entry)) (queue : List ℕ) (queue_capacity : ℕ) : Type 0 where
+pub record Tallies (nodes : List Node) (numbers blocks : ℕ) (lists : List (List Entry)) (standings : List Standing) (queue : List ℕ) (queue_capacity : ℕ) : Type 0 where
   pub linked : AreLinked nodes
   pub given : AreGiven nodes numbers
+  pub distinct : AreDistinct nodes
+  pub settled : AreSettled nodes blocks
   pub counted : AreCounted nodes
   pub listed : AreListed (patches_in nodes) blocks lists
+  pub standing : AllStand nodes blocks standings
+  pub marked : AreMarked (patches_in nodes) blocks standings
   pub idle : queue ≡ []
   pub room : length nodes ≤ queue_capacity

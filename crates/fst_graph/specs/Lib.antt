@@ -9,6 +9,9 @@ pub mod Picking
 pub mod Reaching
 pub mod Grading
 pub mod Ready
+pub mod Pendings
 pub mod Nodes
 pub mod Lists
-pub mod Cascading
+pub mod Standings
+pub mod Spreading
+pub mod Cascaded

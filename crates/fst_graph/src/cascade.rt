@@ -1,15 +1,21 @@
-//! What goes to disk is counted down at its dependants. An empty patch or a sealed gate that has none of its direct
-//! dependencies left follows, and is counted down in turn. The queue has those that are still to be counted down.
+//! Where something else is pending of a patch, its dependants are told: what a seal or a landing sets free is found so,
+//! and an empty patch or a sealed gate that has nothing pending any more goes to disk. The queue has those of which
+//! other is pending than their dependants know. What is pending of a patch only sinks, at most twice in its life.
 
-ghost use Rattle.std.specs.Prelude.{◌≡◌, ◌<◌, ◌≤◌, ◌+◌, ◌++◌, ℕ, [], true, length, map, Contains, vec_len, vec_capacity, slice_index_or};
+ghost use Rattle.std.specs.Prelude.{◌≡◌, ◌≢◌, ◌<◌, ◌≤◌, ◌+◌, ◌++◌, ◌∷◌, ◌==◌, ℕ, [], true, length, map, Contains, AllPairs, vec_len, vec_capacity, slice_index_or};
 ghost use Rattle.fst_types.specs.Cascade.{IsCascadeOf};
-ghost use Rattle.fst_graph.specs.Cascading.{follows, goes, counted_down, gone_at, seals, rests_at, Cascading, Falls, live_nodes};
+ghost use Rattle.fst_graph.specs.declared.pending.Pending.TheVariants as pending;
 ghost use Rattle.fst_graph.specs.Heads.{IsRising, kind_of, patches_of};
 ghost use Rattle.fst_graph.specs.Marks.{HasSlot};
-ghost use Rattle.fst_graph.specs.Nodes.{Node, node_of, nodes_of, at_number, AreLinked, AreCounted};
+ghost use Rattle.fst_graph.specs.Nodes.{Node, node_of, nodes_of, at_number, AreLinked, AreDistinct, AreSettled};
+ghost use Rattle.fst_graph.specs.Pendings.{Fits};
+ghost use Rattle.fst_graph.specs.Spreading.{follows, rested, is_told, now, hears, wakes, heard, woken, CanHear, settles, seals, wakes_sealed, Spreading, IsSpreadOf};
+ghost use Rattle.fst_graph.specs.Standings.{AllStand};
 
 use crate::head::{Head, Kind};
 use crate::marks::slot_of;
+use crate::pending::{Pending, is_pending, over_block};
+use crate::standing::{Standing, settle_slot};
 use fst_types::Place;
 
 // Whether it is on disk as soon as all that it depends on is.
@@ -22,85 +28,126 @@ fn follows(kind: Kind) -> bool
     }
 }
 
-// One of its direct dependencies is on disk. Whether it goes there too.
-fn count_down(head: &mut Head) -> bool
-    requires { 1 ≤ head.old.count }
-    ensures node { node_of head.new ≡ counted_down (node_of head.old) }
-    ensures went { result ≡ goes (node_of head.old) }
+/// What is pending of the patch, by its sums.
+pub fn pending_now(head: &Head) -> Pending
+    requires { Fits head.now.sums }
+    ensures { result ≡ now (node_of head.now) }
 {
-    head.count -= 1;
-    let gone = head.count == 0 && follows(head.kind);
-    if gone {
-        head.place = Place::Disk;
+    match head.kind {
+        Kind::Change(block, _, _) => match head.place {
+            Place::Disk => Pending::Nothing,
+            Place::Memory | Place::Flight => over_block(block, head.sums.joined()),
+        },
+        Kind::OpenGate => Pending::More,
+        Kind::Empty | Kind::SealedGate => head.sums.joined(),
     }
-    gone
 }
 
-// Counts down at the head with this number, which waits in the queue where it goes to disk.
-fn count_at(heads: &mut Vec<Head>, queue: &mut Vec<u32>, number: u32)
+// Whether that is what its dependants know.
+fn is_told(head: &Head) -> bool
+    requires { Fits head.now.sums }
+    ensures { result ≡ is_told (node_of head.now) }
+{
+    is_pending(pending_now(head), head.pending)
+}
+
+// An empty patch or a sealed gate is on disk where all of its direct dependencies are.
+fn rest(head: &mut Head)
+    ensures { node_of head.new ≡ rested (node_of head.old) }
+{
+    if follows(head.kind) && head.sums.count == 0 {
+        head.place = Place::Disk;
+    }
+}
+
+// One of its direct dependencies has something else pending. Whether its own dependants have to be told of it.
+fn hear(head: &mut Head, old: Pending, new: Pending) -> bool
+    requires hears { CanHear old (node_of head.old) }
+    requires live { old ≢ pending.Nothing }
+    ensures node { node_of head.new ≡ hears old new (node_of head.old) }
+    ensures woke { result ≡ wakes old new (node_of head.old) }
+    ensures fits { Fits head.new.sums }
+{
+    let told = is_told(head);
+    head.sums.change(old, new);
+    rest(head);
+    told && !is_told(head)
+}
+
+// The head with this number hears, and waits in the queue where it wakes.
+fn hear_at(heads: &mut Vec<Head>, queue: &mut Vec<u32>, number: u32, old: Pending, new: Pending)
     requires rising { IsRising heads.old.items }
-    requires counted { (x : Node) → Contains (nodes_of heads.old.items) x → x.patch.number ≡ number → 1 ≤ x.count }
-    requires room { (x : Node) → Contains (nodes_of heads.old.items) x → x.patch.number ≡ number → goes x ≡ true → vec_len queue.old < vec_capacity queue.old }
-    ensures nodes { nodes_of heads.new.items ≡ map (at_number number counted_down) (nodes_of heads.old.items) }
-    ensures queued { queue.new.items ≡ queue.old.items ++ gone_at number (nodes_of heads.old.items) }
+    requires hears { (x : Node) → Contains (nodes_of heads.old.items) x → x.patch.number ≡ number → CanHear old x }
+    requires live { old ≢ pending.Nothing }
+    requires room { (x : Node) → Contains (nodes_of heads.old.items) x → x.patch.number ≡ number → wakes old new x ≡ true → vec_len queue.old < vec_capacity queue.old }
+    ensures nodes { nodes_of heads.new.items ≡ map (at_number number (hears old new)) (nodes_of heads.old.items) }
+    ensures queued { queue.new.items ≡ queue.old.items ++ woken (number ∷ []) old new (nodes_of heads.old.items) }
     ensures capacity { vec_capacity queue.new ≡ vec_capacity queue.old }
 {
     if let Some(slot) = slot_of(heads, number) {
-        if count_down(&mut heads[slot]) {
+        if hear(&mut heads[slot], old, new) {
             queue.push_reserved(number);
         }
     }
 }
 
-// Counts down at all that directly depend on the head in the slot.
-fn count_above(heads: &mut Vec<Head>, queue: &mut Vec<u32>, slot: usize)
+// All that directly depend on the head in the slot hear.
+fn tell(heads: &mut Vec<Head>, queue: &mut Vec<u32>, slot: usize, old: Pending, new: Pending)
+    requires rising { IsRising heads.old.items }
     requires slot { slot < vec_len heads.old }
-    requires start { (d : Node) → Cascading (nodes_of heads.old.items) queue.old.items (slice_index_or (nodes_of heads.old.items) slot d).dependants }
-    requires room { length heads.old.items ≤ vec_capacity queue.old }
-    ensures left { Cascading (nodes_of heads.new.items) queue.new.items [] }
-    ensures falls { Falls (nodes_of heads.old.items) (nodes_of heads.new.items) }
-    ensures fewer { length queue.new.items + live_nodes (nodes_of heads.new.items) ≤ length queue.old.items + live_nodes (nodes_of heads.old.items) }
+    requires once { (d : Node) → AllPairs (λ m n. m ≢ n) (slice_index_or (nodes_of heads.old.items) slot d).dependants }
+    requires hears { (x d : Node) → Contains (nodes_of heads.old.items) x → Contains (slice_index_or (nodes_of heads.old.items) slot d).dependants x.patch.number → CanHear old x }
+    requires live { old ≢ pending.Nothing }
+    requires room { (d : Node) → length queue.old.items + length (woken (slice_index_or (nodes_of heads.old.items) slot d).dependants old new (nodes_of heads.old.items)) ≤ vec_capacity queue.old }
+    ensures nodes { (d : Node) → nodes_of heads.new.items ≡ map (heard (slice_index_or (nodes_of heads.old.items) slot d).dependants old new) (nodes_of heads.old.items) }
+    ensures queued { (d : Node) → queue.new.items ≡ queue.old.items ++ woken (slice_index_or (nodes_of heads.old.items) slot d).dependants old new (nodes_of heads.old.items) }
     ensures capacity { vec_capacity queue.new ≡ vec_capacity queue.old }
 {
     let mut at = 0;
     while at < heads[slot].dependants.len() {
         let number = heads[slot].dependants.as_slice()[at];
-        count_at(heads, queue, number);
+        hear_at(heads, queue, number, old, new);
         at += 1;
     }
 }
 
-/// Puts each empty patch and sealed gate where the cascade has it. The queue has what went to disk before.
-pub fn cascade(heads: &mut Vec<Head>, queue: &mut Vec<u32>)
-    requires start { Cascading (nodes_of heads.old.items) queue.old.items [] }
+/// Tells of all that waits in the queue, and of what wakes by that.
+pub fn cascade(heads: &mut Vec<Head>, queue: &mut Vec<u32>, standings: &mut Vec<Standing>)
+    requires start { Spreading (nodes_of heads.old.items) (vec_len standings.old) queue.old.items }
     requires linked { AreLinked (nodes_of heads.old.items) }
+    requires distinct { AreDistinct (nodes_of heads.old.items) }
+    requires standing { AllStand (nodes_of heads.old.items) (vec_len standings.old) standings.old.items }
+    requires narrow { vec_len standings.old ≤ 4294967295 }
     requires room { length heads.old.items ≤ vec_capacity queue.old }
-    ensures settled { IsCascadeOf (patches_of heads.old.items) (patches_of heads.new.items) }
-    ensures falls { Falls (nodes_of heads.old.items) (nodes_of heads.new.items) }
-    ensures counted { AreCounted (nodes_of heads.new.items) }
+    ensures settled { AreSettled (nodes_of heads.new.items) (vec_len standings.old) }
+    ensures placed { IsCascadeOf (patches_of heads.old.items) (patches_of heads.new.items) }
+    ensures spread { IsSpreadOf (nodes_of heads.old.items) (nodes_of heads.new.items) }
+    ensures standing { AllStand (nodes_of heads.new.items) (vec_len standings.old) standings.new.items }
     ensures empty { queue.new.items ≡ [] }
     ensures capacity { vec_capacity queue.new ≡ vec_capacity queue.old }
 {
     while let Some(number) = queue.pop() {
         if let Some(slot) = slot_of(heads, number) {
-            count_above(heads, queue, slot);
+            let (old, new) = settle_slot(heads, standings, slot);
+            tell(heads, queue, slot, old, new);
         }
     }
 }
 
-/// Seals the gate in the slot. It waits in the queue where it goes to disk.
+/// Seals the gate in the slot. It waits in the queue where its dependants have to be told.
 pub fn seal_slot(heads: &mut Vec<Head>, queue: &mut Vec<u32>, gate: u32, slot: usize)
     requires rising { IsRising heads.old.items }
     requires slot { HasSlot heads.old.items gate slot }
+    requires fits { (x : Node) → Contains (nodes_of heads.old.items) x → Fits x.sums }
     requires room { vec_len queue.old < vec_capacity queue.old }
     ensures nodes { nodes_of heads.new.items ≡ map (at_number gate seals) (nodes_of heads.old.items) }
-    ensures queued { queue.new.items ≡ queue.old.items ++ rests_at gate (nodes_of heads.old.items) }
+    ensures queued { queue.new.items ≡ queue.old.items ++ wakes_sealed gate (nodes_of heads.old.items) }
     ensures capacity { vec_capacity queue.new ≡ vec_capacity queue.old }
 {
     let head = &mut heads[slot];
     head.kind = Kind::SealedGate;
-    if head.count == 0 {
-        head.place = Place::Disk;
+    rest(head);
+    if !is_told(head) {
         queue.push_reserved(gate);
     }
 }

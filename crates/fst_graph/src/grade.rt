@@ -5,19 +5,22 @@
 ghost use Rattle.std.specs.Prelude.{◌≡◌, ◌↔◌, ◌<◌, true, IsTrue, length};
 ghost use Rattle.fst_types.specs.Closure.{IsAcyclic};
 ghost use Rattle.fst_types.specs.Dependencies.{DirectlyOn};
-ghost use Rattle.fst_types.specs.Facts.{HardNeverHold};
+ghost use Rattle.fst_types.specs.Facts.{IsOnDiskWithAll, HardNeverHold};
 ghost use Rattle.fst_types.specs.Gates.{IsOpenNumber};
 ghost use Rattle.fst_types.specs.Grades.{FollowsRule};
 ghost use Rattle.fst_graph.specs.Heads.{IsRising, patches_of};
 ghost use Rattle.fst_graph.specs.Keeps.{IsInside};
 ghost use Rattle.fst_graph.specs.Marks.{PassesAt};
+ghost use Rattle.fst_graph.specs.Nodes.{nodes_of, AreSettled};
 ghost use Rattle.fst_graph.specs.Ordered.{IsOrdered};
+ghost use Rattle.fst_graph.specs.Standings.{AllStand};
 ghost use Rattle.fst_graph.specs.Grading.{HasUnder, IsReturning, IsLeading, MayBeHard, KeepsMarks};
 
 use crate::head::Head;
 use crate::marks::{ask, names_marked, spread};
 use crate::reach::{ask_reached, reach};
-use crate::shortcuts::{comes_back, names_open_gate, rests_on_hard};
+use crate::shortcuts::{comes_back, names_open_gate, rests_on_hard, waits_for_quiet_block};
+use crate::standing::Standing;
 use crate::test::{Test, passes};
 use fst_types::Grade;
 
@@ -87,6 +90,7 @@ fn leads_to(
 /// matter.
 pub fn grade_of(
     heads: &[Head],
+    standings: &[Standing],
     order: &[u32],
     marks: &mut [bool],
     reached: &mut [bool],
@@ -100,9 +104,12 @@ pub fn grade_of(
     requires ordered { IsOrdered (patches_of heads.now) order.now }
     requires inside { IsInside (patches_of heads.now) (length reached.old) }
     requires block { block < length reached.old }
+    requires disk { IsOnDiskWithAll (patches_of heads.now) }
+    requires settled { AreSettled (nodes_of heads.now) (length standings.now) }
+    requires standing { AllStand (nodes_of heads.now) (length standings.now) standings.now }
     ensures { FollowsRule result (MayBeHard (patches_of heads.now) block row.now) }
 {
-    if rests_on_hard(heads, block, row) {
+    if rests_on_hard(heads, block, row) || waits_for_quiet_block(heads, standings, block, row) {
         return Grade::Hard;
     }
     if names_open_gate(heads, row) || comes_back(heads, block, row) {

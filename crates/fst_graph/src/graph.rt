@@ -7,23 +7,27 @@ ghost use Rattle.fst_types.specs.Order.{room_order, make_order, seal_order, depe
 ghost use Rattle.fst_types.specs.Refusals.{IsFirst, NoneHolds};
 ghost use Rattle.fst_types.specs.Writable.{IsWritableSet, HasReady, IsHeld, IsLeastHeld};
 ghost use Rattle.fst_types.specs.Tests.{is_live};
+ghost use Rattle.fst_types.specs.Cascade.{IsCascadeOf};
 ghost use Rattle.fst_types.specs.declared.grade.Grade.{Grade};
 ghost use Rattle.fst_graph.specs.Known.{Known, unprepared, prepared_for, Foresees, numbers_of, rest_place, Refuses, AddsGate, AddsEmpty, AddsChange, SealsGate, DependsGate, Launches, IsStuckByGates, LandsBlock, MayLaunch, Forgets};
 
 use crate::cascade::{cascade, seal_slot};
-use crate::choice::{least_held, writable_set};
+use crate::choice::{first_held, least_held, ready_set, writable_set};
 use crate::gates::{depend_fault, gate_slot};
 use crate::growth::{gain, marked_last, missing_names};
 use crate::head::{Head, Kind};
 use crate::links::{link, reserve_above};
 use crate::lists::{Listed, empty_lists, land_block};
 use crate::marks::{ask, slot_of};
+use crate::pending::{Pending, is_pending, no_sums, over_block};
 use crate::pick::least_writable;
-use crate::places::{keep_live, keep_live_numbers, launch_all, live_count};
+use crate::places::{block_of, keep_live, keep_live_numbers, launch_all, live_count};
 use crate::prepared::{Prepared, prepare};
 use crate::refusals::{make_fault, room_fault};
-use crate::row::{is_given, live_named};
+use crate::row::{is_given, live_named, row_sums};
+use crate::standing::{Standing, empty_standings, is_resting, land_at, least_marked};
 use crate::test::Test;
+use crate::walked::are_placed;
 use fst_types::{BlockNo, Fault, Grade, PatchNo, Place, Shape, Span};
 use smallvec::SmallVec;
 use std::alloc::{AllocError, Global};
@@ -32,7 +36,8 @@ use std::marker::Model;
 /// The heads, which are the patches not forgotten, in order of number. `order` names each after those that it depends
 /// on, and `marks` has a place for each. Where a change is prepared, each of the three has a free place for it.
 /// `reached` has a place for each block, for the walk that finds a grade. `lists` has for each block its changes that are
-/// not on disk, and `queue` a place for each head, for those on disk that are not counted down at their dependants yet.
+/// not on disk, and `standings` has the mark of each. `queue` has a place for each head, for those of which their
+/// dependants are to be told.
 #[derive(Drop)]
 pub struct Graph {
     alloc: Global,
@@ -41,6 +46,7 @@ pub struct Graph {
     marks: Vec<bool>,
     reached: Vec<bool>,
     lists: Vec<Vec<Listed>>,
+    standings: Vec<Standing>,
     queue: Vec<u32>,
     numbers: u32,
     blocks: u32,
@@ -64,7 +70,7 @@ impl Model for Graph {
         × IfSome g.prepared (IsReady (patches_of g.heads.items) g.numbers g.blocks)
         × IfSome g.prepared (λ _. HasPlaces (vec_len g.heads) (vec_capacity g.heads) (vec_len g.order) (vec_capacity g.order) (vec_len g.marks) (vec_capacity g.marks) (vec_capacity g.queue))
         × (length g.reached.items ≡ g.blocks)
-        × Tallies (nodes_of g.heads.items) g.numbers g.blocks (map (λ l. entries_of l.items) g.lists.items) g.queue.items (vec_capacity g.queue)
+        × Tallies (nodes_of g.heads.items) g.numbers g.blocks (map (λ l. entries_of l.items) g.lists.items) g.standings.items g.queue.items (vec_capacity g.queue)
         × IfSome g.prepared (λ p. HasRoomAbove g.heads.items p.dependencies.items)
         × IfSome g.prepared (λ p. HasRoomInList (map (λ l. vec_len l) g.lists.items) (map (λ l. vec_capacity l) g.lists.items) p.block) };
 }
@@ -114,6 +120,9 @@ impl Graph {
         let Ok(lists) = empty_lists(alloc, shape.blocks) else {
             return Err(Fault::Memory);
         };
+        let Ok(standings) = empty_standings(alloc, shape.blocks) else {
+            return Err(Fault::Memory);
+        };
         Ok(Graph {
             alloc,
             heads: Vec::new(alloc),
@@ -121,6 +130,7 @@ impl Graph {
             marks: Vec::new(alloc),
             reached,
             lists,
+            standings,
             queue: Vec::new(alloc),
             numbers,
             blocks: shape.blocks,
@@ -176,7 +186,8 @@ impl Graph {
             kind: Kind::OpenGate,
             place: Place::Memory,
             dependencies: SmallVec::new(self.alloc),
-            count: 0,
+            sums: no_sums(),
+            pending: Pending::More,
             dependants: SmallVec::new(self.alloc),
         });
         self.order.push_reserved(number);
@@ -216,13 +227,15 @@ impl Graph {
         }
         let number = self.numbers + 1;
         let place = resting_place(dependencies.as_slice());
+        let sums = row_sums(&self.heads, dependencies.as_slice());
         link(&mut self.heads, dependencies.as_slice(), number);
         self.heads.push_reserved(Head {
             number,
             kind: Kind::Empty,
             place,
-            count: dependencies.len(),
             dependencies,
+            sums,
+            pending: sums.joined(),
             dependants: SmallVec::new(self.alloc),
         });
         self.order.push_reserved(number);
@@ -233,6 +246,20 @@ impl Graph {
 
     /// The writable set of the block, in order of number. `Memory` is answered only where it is not empty.
     pub fn chosen(&mut self, block: BlockNo) -> Result<Vec<PatchNo>, Fault>
+        ensures ok { IfOk result (λ numbers. IsWritableSet self.old.heads block.0 (numbers_of numbers.items)) }
+        ensures refused { IfErr result (λ f. HasReady self.old.heads block.0 × (f ≡ Fault.Memory)) }
+        ensures same { self.new ≡ unprepared self.old }
+    {
+        self.prepared = None;
+        if is_resting(&self.standings, block.0) {
+            let list = &self.lists[block.0 as usize];
+            return ready_set(self.alloc, &self.heads, list, block.0);
+        }
+        self.chosen_by_walk(block)
+    }
+
+    // The same by one walk over the patches, which also serves a block with something in flight.
+    pub(crate) fn chosen_by_walk(&mut self, block: BlockNo) -> Result<Vec<PatchNo>, Fault>
         ensures ok { IfOk result (λ numbers. IsWritableSet self.old.heads block.0 (numbers_of numbers.items)) }
         ensures refused { IfErr result (λ f. HasReady self.old.heads block.0 × (f ≡ Fault.Memory)) }
         ensures same { self.new ≡ unprepared self.old }
@@ -261,7 +288,7 @@ impl Graph {
             Err(fault) => return Err(fault),
         };
         seal_slot(&mut self.heads, &mut self.queue, gate.0, slot);
-        cascade(&mut self.heads, &mut self.queue);
+        cascade(&mut self.heads, &mut self.queue, &mut self.standings);
         Ok(())
     }
 
@@ -295,7 +322,8 @@ impl Graph {
         let Ok(()) = reserve_above(&mut self.heads, names.as_slice()) else {
             return Err(Fault::Memory);
         };
-        let Ok(()) = gain(&mut self.heads, gate.0, names.as_slice()) else {
+        let sums = row_sums(&self.heads, names.as_slice());
+        let Ok(()) = gain(&mut self.heads, gate.0, names.as_slice(), sums) else {
             return Err(Fault::Memory);
         };
         link(&mut self.heads, names.as_slice(), gate.0);
@@ -310,7 +338,14 @@ impl Graph {
         ensures blocks { self.new.blocks ≡ self.old.blocks }
     {
         self.prepared = None;
+        let Some(first) = chosen.first() else {
+            return;
+        };
+        let Some(block) = block_of(&self.heads, first.0) else {
+            return;
+        };
         launch_all(&mut self.heads, chosen);
+        self.standings[block as usize].launch();
     }
 
     /// Puts on disk what is in flight of the block, and what now rests there. It takes no memory.
@@ -320,7 +355,8 @@ impl Graph {
     {
         self.prepared = None;
         land_block(&mut self.heads, &mut self.lists, &mut self.queue, block.0);
-        cascade(&mut self.heads, &mut self.queue);
+        land_at(&mut self.standings, block.0);
+        cascade(&mut self.heads, &mut self.queue, &mut self.standings);
     }
 
     /// Makes room for a new change, and answers the number and the grade that `add_data` with these arguments will answer.
@@ -348,6 +384,7 @@ impl Graph {
             self.alloc,
             &self.heads,
             &self.lists[block.0 as usize],
+            &self.standings,
             &self.order,
             &mut self.marks,
             &mut self.reached,
@@ -400,16 +437,22 @@ impl Graph {
         let number = self.numbers + 1;
         let grade = prepared.grade;
         let span = prepared.span;
+        let block = prepared.block;
+        let kind = Kind::Change(block, span, grade);
+        let sums = row_sums(&self.heads, prepared.dependencies.as_slice());
+        let pending = over_block(block, sums.joined());
         link(&mut self.heads, prepared.dependencies.as_slice(), number);
         self.heads.push_reserved(Head {
             number,
-            kind: Kind::Change(prepared.block, span, grade),
+            kind,
             place: Place::Memory,
-            count: prepared.dependencies.len(),
             dependencies: prepared.dependencies,
+            sums,
+            pending,
             dependants: SmallVec::new(self.alloc),
         });
-        self.lists[prepared.block as usize].push_reserved(Listed { number, span });
+        self.lists[block as usize].push_reserved(Listed { number, span });
+        self.standings[block as usize].enter(kind, is_pending(pending, Pending::Block(block)));
         self.order.push_reserved(number);
         self.marks.push_reserved(false);
         self.numbers = number;
@@ -458,6 +501,19 @@ impl Graph {
         ensures same { self.new ≡ unprepared self.old }
     {
         self.prepared = None;
+        if is_resting(&self.standings, block.0) {
+            return first_held(&self.heads, &self.lists[block.0 as usize], block.0);
+        }
+        self.hard_held_by_walk(block)
+    }
+
+    // The same by one walk over the patches, which also serves a block with something in flight.
+    pub(crate) fn hard_held_by_walk(&mut self, block: BlockNo) -> Option<PatchNo>
+        ensures none { IfNone result ((p : Patch) → IsHeld self.old.heads block.0 p → ⊥) }
+        ensures least { IfSome result (λ no. IsLeastHeld self.old.heads block.0 no.0) }
+        ensures same { self.new ≡ unprepared self.old }
+    {
+        self.prepared = None;
         ask(
             &self.heads,
             &self.order,
@@ -468,14 +524,30 @@ impl Graph {
     }
 
     /// The least writable block, or none where no block is writable. Where nothing is in flight either, each change in
-    /// memory then waits for an open gate. It takes no memory. For each block with a change in memory, up to the one that
-    /// it answers, it walks a few times over the patches that are not forgotten.
+    /// memory then waits for an open gate. It takes no memory, and looks at one mark a block.
     pub fn pick(&mut self) -> Option<BlockNo>
         ensures least { IsPick self.old.heads (option_map (λ b. b.0) result) }
         ensures never_stuck { IfNone result (IsStuckByGates self.old.heads) }
         ensures same { self.new ≡ unprepared self.old }
     {
         self.prepared = None;
+        least_marked(&self.standings)
+    }
+
+    // The same by a walk over the patches for each block, for tests.
+    pub(crate) fn pick_by_walk(&mut self) -> Option<BlockNo>
+        ensures least { IsPick self.old.heads (option_map (λ b. b.0) result) }
+        ensures never_stuck { IfNone result (IsStuckByGates self.old.heads) }
+        ensures same { self.new ≡ unprepared self.old }
+    {
+        self.prepared = None;
         least_writable(&self.heads, &self.order, &mut self.marks, self.blocks)
+    }
+
+    // Whether each empty patch and sealed gate is where the cascade has it, which always holds: for tests.
+    pub(crate) fn has_cascaded(&self) -> bool
+        ensures { IsTrue result ↔ IsCascadeOf self.now.heads self.now.heads }
+    {
+        are_placed(&self.heads)
     }
 }

@@ -8,10 +8,12 @@ ghost use Rattle.fst_graph.specs.Heads.{IsRising, patches_of};
 ghost use Rattle.fst_graph.specs.Known.{numbers_of};
 ghost use Rattle.fst_graph.specs.Marks.{mark_of};
 ghost use Rattle.fst_graph.specs.Nodes.{Node, nodes_of, at_number, gains_names, HasRoomAbove};
+ghost use Rattle.fst_graph.specs.Pendings.{Fits};
 ghost use Rattle.fst_graph.specs.Rows.{IsMissing};
 
 use crate::head::Head;
 use crate::marks::{is_marked, slot_of};
+use crate::pending::Sums;
 use crate::row::{Row, is_live_number, put};
 use fst_types::PatchNo;
 use smallvec::SmallVec;
@@ -79,19 +81,22 @@ pub fn marked_last(
     Ok(moved)
 }
 
-/// The gate has the names besides, which are counted. Where there is no memory it does not.
-pub fn gain(heads: &mut Vec<Head>, gate: u32, names: &[u32]) -> Result<(), AllocError>
+/// The gate has the names besides, which add up to the sums. Where there is no memory it does not.
+pub fn gain(heads: &mut Vec<Head>, gate: u32, names: &[u32], sums: Sums) -> Result<(), AllocError>
     requires rising { IsRising heads.old.items }
-    requires counted { (x : Node) → Contains (nodes_of heads.old.items) x → x.count ≤ length x.patch.dependencies }
-    ensures ok { OnOk result (nodes_of heads.new.items ≡ map (at_number gate (gains_names names.now)) (nodes_of heads.old.items)) }
+    requires counted { (x : Node) → Contains (nodes_of heads.old.items) x → (x.sums.count ≤ length x.patch.dependencies) × Fits x.sums }
+    requires names { sums.count ≤ length names.now }
+    requires fits { Fits sums }
+    ensures ok { OnOk result (nodes_of heads.new.items ≡ map (at_number gate (gains_names names.now sums)) (nodes_of heads.old.items)) }
     ensures same { OnErr result (nodes_of heads.new.items ≡ nodes_of heads.old.items) }
     ensures room { OnOk result (HasRoomAbove heads.old.items names.now → HasRoomAbove heads.new.items names.now) }
 {
     if let Some(slot) = slot_of(heads, gate) {
         let head = &mut heads[slot];
-        let before = head.dependencies.len();
         head.dependencies.extend_from_slice(names)?;
-        head.count += head.dependencies.len() - before;
+        // The row is as long as both counts together, so that their sum fits.
+        prove!(sums.count <= head.dependencies.len() - head.sums.count);
+        head.sums = head.sums.with(sums);
     }
     Ok(())
 }

@@ -1,5 +1,6 @@
 //! What is kept of a patch that is not forgotten.
 
+use crate::pending::{Pending, Sums};
 use fst_types::{Grade, Place, Span};
 use smallvec::SmallVec;
 
@@ -12,14 +13,15 @@ pub enum Kind {
     SealedGate,
 }
 
-/// A patch that is not forgotten, with the numbers that it directly depends on, how many of those are not on disk, and
-/// the numbers of the patches that directly depend on it.
+/// A patch that is not forgotten, with the numbers that it directly depends on and how those add up, what is pending of
+/// it as its dependants know it, and the numbers of the patches that directly depend on it.
 #[derive(Drop)]
 pub struct Head {
     pub number: u32,
     pub kind: Kind,
     pub place: Place,
     pub dependencies: SmallVec<u32, 4>,
-    pub count: usize,
+    pub sums: Sums,
+    pub pending: Pending,
     pub dependants: SmallVec<u32, 4>,
 }

@@ -11,6 +11,7 @@ mod head;
 mod links;
 mod lists;
 mod marks;
+mod pending;
 mod pick;
 mod places;
 mod prepared;
@@ -18,7 +19,9 @@ mod reach;
 mod refusals;
 mod row;
 mod shortcuts;
+mod standing;
 mod test;
+mod walked;
 
 pub use graph::Graph;
 

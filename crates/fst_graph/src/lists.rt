@@ -1,7 +1,7 @@
 //! Each block lists its changes that are not on disk, so that a call that asks for those of one block looks at no others.
 
 ghost use Rattle.std.specs.Prelude.{◌≡◌, ◌≤◌, ◌++◌, ◌<◌, [], length, map, filter, IfOk, vec_len, vec_capacity};
-ghost use Rattle.fst_graph.specs.Cascading.{lands};
+ghost use Rattle.fst_graph.specs.Spreading.{lands};
 ghost use Rattle.fst_graph.specs.Heads.{IsRising, patches_of};
 ghost use Rattle.fst_graph.specs.Keeps.{IsInside};
 ghost use Rattle.fst_graph.specs.Lists.{entries_of, entries_on, flying_on, AreListed};

@@ -1,15 +1,16 @@
 //! How patches go from place to place.
 
-ghost use Rattle.std.specs.Prelude.{◌≡◌, map, filter, count_by};
-ghost use Rattle.fst_types.specs.Tests.{is_at, is_on, is_change_at, is_among, is_live};
-ghost use Rattle.std.specs.List.Sorted.{IsStrictlyIncreasing};
+ghost use Rattle.std.specs.Prelude.{◌≡◌, ◌∷◌, [], map, filter, count_by, Contains};
+ghost use Rattle.fst_types.specs.Patches.{Patch, block_of_kind};
+ghost use Rattle.fst_types.specs.Tests.{is_at, is_on, is_change_at, is_live};
 ghost use Rattle.fst_graph.specs.Ordered.{is_live_in};
 ghost use Rattle.fst_graph.specs.Known.{numbers_of};
 ghost use Rattle.fst_graph.specs.Heads.{IsRising, kind_of, patch_of, patches_of};
-ghost use Rattle.fst_graph.specs.Cascading.{launches};
+ghost use Rattle.fst_graph.specs.Spreading.{launches};
 ghost use Rattle.fst_graph.specs.Nodes.{node_of, nodes_of};
 
 use crate::head::{Head, Kind};
+use crate::marks::slot_of;
 use crate::row::is_live_number;
 use crate::test::is_live;
 use fst_types::{PatchNo, Place};
@@ -49,33 +50,35 @@ pub fn is_change_at(head: &Head, at: Place, block: u32) -> bool
     is_at(head.place, at) && is_on(head.kind, block)
 }
 
-// Whether the number is one of those, which rise.
-fn is_chosen(chosen: &[PatchNo], number: u32) -> bool
-    requires { IsStrictlyIncreasing (numbers_of chosen.now) }
-    ensures { result ≡ is_among (numbers_of chosen.now) number }
+// The patch with the number is in flight.
+fn launch_at(heads: &mut Vec<Head>, number: u32)
+    requires { IsRising heads.old.items }
+    ensures { nodes_of heads.new.items ≡ map (launches (number ∷ [])) (nodes_of heads.old.items) }
 {
-    match chosen.binary_search_by_key(&number, |no| no.0) {
-        Ok(_) => true,
-        Err(_) => false,
-    }
-}
-
-fn launch_one(head: &mut Head, chosen: &[PatchNo])
-    requires { IsStrictlyIncreasing (numbers_of chosen.now) }
-    ensures { node_of head.new ≡ launches (numbers_of chosen.now) (node_of head.old) }
-{
-    if is_chosen(chosen, head.number) {
-        head.place = Place::Flight;
+    if let Some(slot) = slot_of(heads, number) {
+        heads[slot].place = Place::Flight;
     }
 }
 
 /// The chosen are in flight.
 pub fn launch_all(heads: &mut Vec<Head>, chosen: &[PatchNo])
-    requires { IsStrictlyIncreasing (numbers_of chosen.now) }
+    requires { IsRising heads.old.items }
     ensures { nodes_of heads.new.items ≡ map (launches (numbers_of chosen.now)) (nodes_of heads.old.items) }
 {
-    for head in heads.iter_mut() {
-        launch_one(head, chosen);
+    for no in chosen {
+        launch_at(heads, no.0);
+    }
+}
+
+/// The block of the patch with the number, if it is a change.
+pub fn block_of(heads: &[Head], number: u32) -> Option<u32>
+    requires { IsRising heads.now }
+    ensures { (p : Patch) → Contains (patches_of heads.now) p → p.number ≡ number → result ≡ block_of_kind p.kind }
+{
+    let slot = slot_of(heads, number)?;
+    match heads[slot].kind {
+        Kind::Change(block, _, _) => Some(block),
+        Kind::Empty | Kind::OpenGate | Kind::SealedGate => None,
     }
 }
 

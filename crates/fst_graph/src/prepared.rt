@@ -4,7 +4,7 @@
 ghost use Rattle.std.specs.Prelude.{◌≡◌, ◌↔◌, ◌<◌, IsTrue, IfOk, true, length};
 ghost use Rattle.fst_types.specs.Closure.{IsAcyclic};
 ghost use Rattle.fst_types.specs.Dependencies.{DirectlyOn};
-ghost use Rattle.fst_types.specs.Facts.{HardNeverHold};
+ghost use Rattle.fst_types.specs.Facts.{IsOnDiskWithAll, HardNeverHold};
 ghost use Rattle.fst_types.specs.Grades.{FollowsRule};
 ghost use Rattle.fst_types.specs.Lists.{Lists};
 ghost use Rattle.fst_graph.specs.Grading.{MayBeHard};
@@ -12,13 +12,16 @@ ghost use Rattle.fst_graph.specs.Heads.{IsRising, patches_of};
 ghost use Rattle.fst_graph.specs.Keeps.{IsInside};
 ghost use Rattle.fst_graph.specs.Known.{numbers_of};
 ghost use Rattle.fst_graph.specs.Lists.{entries_of, entries_on};
+ghost use Rattle.fst_graph.specs.Nodes.{nodes_of, AreSettled};
 ghost use Rattle.fst_graph.specs.Ordered.{IsOrdered};
 ghost use Rattle.fst_graph.specs.Rows.{IsDependency};
+ghost use Rattle.fst_graph.specs.Standings.{AllStand};
 
 use crate::grade::grade_of;
 use crate::head::Head;
 use crate::lists::Listed;
 use crate::row::{Row, dependencies_of};
+use crate::standing::Standing;
 use fst_types::{Grade, PatchNo, Span};
 use std::alloc::{AllocError, Global};
 
@@ -54,6 +57,7 @@ pub fn prepare(
     alloc: Global,
     heads: &[Head],
     list: &[Listed],
+    standings: &[Standing],
     order: &[u32],
     marks: &mut [bool],
     reached: &mut [bool],
@@ -68,6 +72,9 @@ pub fn prepare(
     requires ordered { IsOrdered (patches_of heads.now) order.now }
     requires inside { IsInside (patches_of heads.now) (length reached.old) }
     requires block { block < length reached.old }
+    requires disk { IsOnDiskWithAll (patches_of heads.now) }
+    requires settled { AreSettled (nodes_of heads.now) (length standings.now) }
+    requires standing { AllStand (nodes_of heads.now) (length standings.now) standings.now }
     requires listed { entries_of list.now ≡ entries_on block (patches_of heads.now) }
     ensures block { IfOk result (λ p. p.block ≡ block) }
     ensures span { IfOk result (λ p. p.span ≡ span) }
@@ -77,7 +84,15 @@ pub fn prepare(
 {
     let dependencies = dependencies_of(alloc, heads, list, block, span, names)?;
     let names = copy_of(alloc, names)?;
-    let grade = grade_of(heads, order, marks, reached, block, dependencies.as_slice());
+    let grade = grade_of(
+        heads,
+        standings,
+        order,
+        marks,
+        reached,
+        block,
+        dependencies.as_slice(),
+    );
     Ok(Prepared {
         block,
         span,

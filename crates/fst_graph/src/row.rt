@@ -1,6 +1,6 @@
 //! Rows of numbers, and the names that a call is given.
 
-ghost use Rattle.std.specs.Prelude.{◌≡◌, ◌+◌, ◌↔◌, IsTrue, IfOk, OnOk, Contains};
+ghost use Rattle.std.specs.Prelude.{◌≡◌, ◌≤◌, ◌+◌, ◌↔◌, length, IsTrue, IfOk, OnOk, Contains};
 ghost use Rattle.std.specs.List.Sorted.{IsStrictlyIncreasing};
 ghost use Rattle.fst_types.specs.Dependencies.{IsLiveNumber};
 ghost use Rattle.fst_types.specs.Gates.{IsGiven};
@@ -9,11 +9,14 @@ ghost use Rattle.fst_types.specs.Order.{NamesUnknown};
 ghost use Rattle.fst_graph.specs.Heads.{IsRising, patch_of, patches_of};
 ghost use Rattle.fst_graph.specs.Known.{numbers_of};
 ghost use Rattle.fst_graph.specs.Lists.{entries_of, entries_on};
+ghost use Rattle.fst_graph.specs.Nodes.{nodes_of, pending_in};
+ghost use Rattle.fst_graph.specs.Pendings.{Fits, sums_of};
 ghost use Rattle.fst_graph.specs.Rows.{Gains, shares, IsDependency};
 
 use crate::head::Head;
 use crate::lists::Listed;
 use crate::marks::slot_of;
+use crate::pending::{Pending, Sums, no_sums};
 use crate::test::is_live;
 use fst_types::{PatchNo, Span};
 use smallvec::SmallVec;
@@ -115,4 +118,29 @@ pub fn dependencies_of(
         }
     }
     Ok(row)
+}
+
+/// What is pending of the patch with the number, as its dependants know it.
+fn pending_at(heads: &[Head], number: u32) -> Pending
+    requires { IsRising heads.now }
+    ensures { result ≡ pending_in (nodes_of heads.now) number }
+{
+    match slot_of(heads, number) {
+        Some(slot) => heads[slot].pending,
+        None => Pending::Nothing,
+    }
+}
+
+/// What the row adds up to.
+pub fn row_sums(heads: &[Head], row: &[u32]) -> Sums
+    requires { IsRising heads.now }
+    ensures sums { result ≡ sums_of (pending_in (nodes_of heads.now)) row.now }
+    ensures fits { Fits result }
+    ensures few { result.count ≤ length row.now }
+{
+    let mut sums = no_sums();
+    for number in row {
+        sums.add(pending_at(heads, *number));
+    }
+    sums
 }

@@ -1,20 +1,27 @@
 //! What tells the grade of a new change at once, from the patches near its row. A walk over all patches decides only
-//! where none of this does: a change behind a gate, a chain on one block and a chain over a few blocks need none.
+//! where none of this does: a change behind a gate, a chain on one block, a chain over a few blocks and a change over a
+//! block that holds nothing back need none.
 
-ghost use Rattle.std.specs.Prelude.{◌≡◌, ◌↔◌, ◌&&◌, ℕ, IsTrue, IfSome, Contains};
+ghost use Rattle.std.specs.Prelude.{◌≡◌, ◌↔◌, ◌&&◌, ℕ, IsTrue, IfSome, Contains, length};
 ghost use Rattle.fst_types.specs.Dependencies.{DirectlyOn};
+ghost use Rattle.fst_types.specs.Facts.{IsOnDiskWithAll};
 ghost use Rattle.fst_types.specs.declared.place.Place.TheVariants as place;
 ghost use Rattle.fst_types.specs.Gates.{IsOpenNumber};
 ghost use Rattle.fst_types.specs.Tests.{is_change_at};
 ghost use Rattle.fst_graph.specs.Heads.{IsRising, kind_of, patch_of, patches_of};
 ghost use Rattle.fst_graph.specs.Marks.{PassesAt};
 ghost use Rattle.fst_graph.specs.Tests.{is_hard_kind};
-ghost use Rattle.fst_graph.specs.Grading.{HasUnder, IsReturning, IsHardNumber, RestsOnHard};
+ghost use Rattle.fst_graph.specs.Grading.{HasUnder, IsReturning, IsHardNumber, RestsOnHard, MayBeHard};
+ghost use Rattle.fst_graph.specs.Nodes.{nodes_of, AreSettled};
+ghost use Rattle.fst_graph.specs.Standings.{AllStand};
 
 use crate::choice::is_hard;
 use crate::head::Head;
 use crate::marks::slot_of;
+use crate::pending::Pending;
 use crate::places::is_change_at;
+use crate::row::row_sums;
+use crate::standing::Standing;
 use crate::test::{Test, passes};
 use fst_types::Place;
 
@@ -83,6 +90,27 @@ pub fn rests_on_hard(heads: &[Head], block: u32, row: &[u32]) -> bool
         }
     }
     true
+}
+
+/// Whether all that is pending of the row is of one block, which is the block or holds no hard change back, so that no
+/// edge leads away from it. A change of the block with that row is hard.
+pub fn waits_for_quiet_block(
+    heads: &[Head],
+    standings: &[Standing],
+    block: u32,
+    row: &[u32],
+) -> bool
+    requires rising { IsRising heads.now }
+    requires disk { IsOnDiskWithAll (patches_of heads.now) }
+    requires settled { AreSettled (nodes_of heads.now) (length standings.now) }
+    requires standing { AllStand (nodes_of heads.now) (length standings.now) standings.now }
+    ensures { IsTrue result → MayBeHard (patches_of heads.now) block row.now }
+{
+    match row_sums(heads, row).joined() {
+        Pending::Nothing => true,
+        Pending::Block(other) => other == block || standings[other as usize].held == 0,
+        Pending::More => false,
+    }
 }
 
 // The last of the row.

@@ -1,4 +1,5 @@
-//! Random graphs beside their plain twins: after each call every answer is compared.
+//! Random graphs beside their plain twins: after each call every answer is compared, with the twin's and with the graph's
+//! own by a walk over all patches.
 
 ghost use Rattle.std.specs.Prelude.{◌≡◌, ◌<◌, ◌≤◌};
 
@@ -189,23 +190,34 @@ impl Pair {
     fn compare_chosen(&mut self, rt: &impl Abort, block: BlockNo) -> Result<(), Fail> {
         let chosen = self.graph.chosen(block)?;
         same_patches(rt, block, &chosen, &self.twin.chosen(block)?);
+        same_patches(rt, block, &chosen, &self.graph.chosen_by_walk(block)?);
         Ok(())
     }
 
     fn compare_held(&mut self, rt: &impl Abort, block: BlockNo) -> Result<(), Fail> {
         let held = self.graph.hard_held(block);
         same_held(rt, block, held, self.twin.hard_held(block)?);
+        same_held(rt, block, held, self.graph.hard_held_by_walk(block));
         Ok(())
     }
 
     fn compare_pick(&mut self, rt: &impl Abort) -> Result<(), Fail> {
         let picked = self.graph.pick();
         same_block(rt, picked, self.twin.pick()?);
+        same_block(rt, picked, self.graph.pick_by_walk());
         Ok(())
+    }
+
+    fn compare_cascade(&self, rt: &impl Abort) {
+        assert!(rt;
+            self.graph.has_cascaded(),
+            "an empty patch or a sealed gate is not where the cascade has it"
+        );
     }
 
     fn compare(&mut self, rt: &impl Abort) -> Result<(), Fail> {
         self.compare_places(rt);
+        self.compare_cascade(rt);
         for block in 0..self.blocks {
             self.compare_chosen(rt, BlockNo(block))?;
             self.compare_held(rt, BlockNo(block))?;

@@ -1,4 +1,5 @@
-//! What large graphs take: seconds for a chain of changes on one block, a chain over 64 blocks, and a fan behind a gate.
+//! What large graphs take: seconds for a chain of changes on one block, a chain over 64 blocks, a fan behind a gate, and
+//! pairs of which one change waits for one of another block.
 
 ghost use Rattle.std.specs.Prelude.{◌≡◌, ◌<◌};
 
@@ -62,6 +63,15 @@ impl Wide {
         self.graph.seal(gate)
     }
 
+    // Changes of one block, each with a change of another after it.
+    fn pairs(&mut self, count: u32) -> Result<(), Fault> {
+        for turn in 0..count / 2 {
+            let low = self.add(0, turn, &[])?;
+            let _ = self.add(1, turn, &[low])?;
+        }
+        Ok(())
+    }
+
     // Writes block after block until nothing is left, at most so many times.
     fn write(&mut self, times: u32) -> Result<(), Fault> {
         for _ in 0..times {
@@ -82,6 +92,7 @@ enum Form {
     Chain,
     WideChain,
     Fan,
+    Pairs,
 }
 
 fn build(wide: &mut Wide, form: Form, count: u32) -> Result<(), Fault> {
@@ -89,6 +100,7 @@ fn build(wide: &mut Wide, form: Form, count: u32) -> Result<(), Fault> {
         Form::Chain => wide.chain(count, 1),
         Form::WideChain => wide.chain(count, 64),
         Form::Fan => wide.fan(count),
+        Form::Pairs => wide.pairs(count),
     }
 }
 
@@ -156,4 +168,9 @@ fn chain_over_blocks(rt: HostRuntime) -> Result<(), Fail> {
 #[test]
 fn fan_behind_a_gate(rt: HostRuntime) -> Result<(), Fail> {
     measure_all(&rt, rt.alloc(), Form::Fan)
+}
+
+#[test]
+fn pairs_over_two_blocks(rt: HostRuntime) -> Result<(), Fail> {
+    measure_all(&rt, rt.alloc(), Form::Pairs)
 }

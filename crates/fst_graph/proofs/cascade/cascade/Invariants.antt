@@ -1,16 +1,18 @@
-use Rattle.std.proofs.Common.{◌≡◌, ◌≤◌, ◌+◌, [], length, vec_capacity}
-use Rattle.fst_graph.specs.Cascading.{Cascading, Falls, live_nodes}
-use Rattle.fst_graph.specs.Nodes.{nodes_of, AreLinked}
+use Rattle.std.proofs.Common.{◌≡◌, vec_len, vec_capacity}
+use Rattle.fst_graph.specs.Nodes.{nodes_of, AreLinked, AreDistinct}
+use Rattle.fst_graph.specs.Spreading.{Spreading, IsSpreadOf, heights}
+use Rattle.fst_graph.specs.Standings.{AllStand}
 use Rattle.fst_graph.proofs.cascade.cascade.Given as goal
 
 abbrev pub invariant-loop-number : goal.invariant-loop-number
 invariant-loop-number l = record {
-  cascading : Cascading (nodes_of l.heads.items) l.queue.items [];
+  spreading : Spreading (nodes_of l.heads.items) (vec_len l.fn.standings) l.queue.items;
   linked : AreLinked (nodes_of l.heads.items);
-  falls : Falls (nodes_of l.fn.heads.items) (nodes_of l.heads.items);
-  room : length l.heads.items ≤ vec_capacity l.queue;
+  distinct : AreDistinct (nodes_of l.heads.items);
+  standing : AllStand (nodes_of l.heads.items) (vec_len l.fn.standings) l.standings.items;
+  spread : IsSpreadOf (nodes_of l.fn.heads.items) (nodes_of l.heads.items);
   capacity : vec_capacity l.queue ≡ vec_capacity l.fn.queue;
 }
 
 abbrev pub decreases-loop-number : goal.decreases-loop-number
-decreases-loop-number l = length l.queue.items + live_nodes (nodes_of l.heads.items)
+decreases-loop-number l = heights (nodes_of l.heads.items)

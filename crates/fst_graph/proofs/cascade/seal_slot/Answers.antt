@@ -1,32 +1,34 @@
-use Rattle.std.proofs.Common.{◌∙◌, ◌==◌, sym, ap}
-use Rattle.std.proofs.lemmas.Bool.{eq-eqb, ne_eqb}
+use Rattle.std.proofs.Common.{◌∙◌, not, sym, ap, subst}
 use Rattle.fst_graph.proofs.AtNumber.{at_slot}
-use Rattle.fst_graph.proofs.Counting.{stays_slot, waits_slot, sealed_rests, sealed_waits}
-use Rattle.fst_graph.specs.Cascading.{seals}
-use Rattle.fst_graph.specs.Nodes.{node_of}
+use Rattle.fst_graph.proofs.Slotted.{rested_sums, stays_slot, waits_slot, node_in}
+use Rattle.fst_graph.specs.declared.head.Kind.TheVariants as kinds
+use Rattle.fst_graph.specs.Nodes.{Node, node_of}
+use Rattle.fst_graph.specs.Pendings.{Fits}
+use Rattle.fst_graph.specs.Spreading.{is_told, seals}
 use Rattle.fst_graph.proofs.cascade.seal_slot.Goals as goal
 
-pub returns-then-head-eq0-clause-nodes : goal.returns-then-head-eq0-clause-nodes
-returns-then-head-eq0-clause-nodes c =
+pub is_told-requires : goal.is_told-requires
+is_told-requires c =
     let head = c.index_mut-head.result.now in
-    at_slot c.args.heads.now.items c.args.gate c.args.slot seals _ head c.requires.rising c.requires.slot
-    (sealed_rests head c.if-head-eq0.true ∙ ap (λ h. seals (node_of h)) c.index_mut-head.ensures.value)
+    subst Fits (sym (ap (λ (x : Node). x.sums) c.rest.ensures ∙ rested_sums (node_of (record head { kind = kinds.SealedGate })))) (c.requires.fits (node_of head) (node_in c.args.heads.now.items c.args.slot head c.requires.slot.0 c.index_mut-head.ensures.value))
 
-pub returns-then-head-eq0-clause-queued : goal.returns-then-head-eq0-clause-queued
-returns-then-head-eq0-clause-queued c =
-    let head = c.index_mut-head.result.now in
+pub returns-then-not-is_told-clause-nodes : goal.returns-then-not-is_told-clause-nodes
+returns-then-not-is_told-clause-nodes c =
+    at_slot c.args.heads.now.items c.args.gate c.args.slot seals _ c.index_mut-head.result.now c.requires.rising c.requires.slot
+    (c.rest.ensures ∙ ap (λ h. seals (node_of h)) c.index_mut-head.ensures.value)
+
+pub returns-then-not-is_told-clause-queued : goal.returns-then-not-is_told-clause-queued
+returns-then-not-is_told-clause-queued c =
     c.push_reserved.ensures.items
-    ∙ waits_slot c.args.heads.now.items c.args.gate c.args.slot (λ x. x.count == 0) head c.args.queue.now.items c.requires.rising c.requires.slot
-    (sym (ap (λ h. h.count == 0) c.index_mut-head.ensures.value) ∙ eq-eqb head.count 0 c.if-head-eq0.true)
+    ∙ waits_slot c.args.heads.now.items c.args.gate c.args.slot (λ x. not (is_told (seals x))) c.index_mut-head.result.now c.args.queue.now.items c.requires.rising c.requires.slot
+    (sym (ap (λ h. not (is_told (seals (node_of h)))) c.index_mut-head.ensures.value) ∙ (ap (λ x. not (is_told x)) (sym c.rest.ensures) ∙ (ap not (sym c.is_told.ensures) ∙ ap not c.if-not-is_told.true)))
 
-pub returns-else-head-eq0-clause-nodes : goal.returns-else-head-eq0-clause-nodes
-returns-else-head-eq0-clause-nodes c =
-    let head = c.index_mut-head.result.now in
-    at_slot c.args.heads.now.items c.args.gate c.args.slot seals _ head c.requires.rising c.requires.slot
-    (sealed_waits head c.if-head-eq0.false ∙ ap (λ h. seals (node_of h)) c.index_mut-head.ensures.value)
+pub returns-else-not-is_told-clause-nodes : goal.returns-else-not-is_told-clause-nodes
+returns-else-not-is_told-clause-nodes c =
+    at_slot c.args.heads.now.items c.args.gate c.args.slot seals _ c.index_mut-head.result.now c.requires.rising c.requires.slot
+    (c.rest.ensures ∙ ap (λ h. seals (node_of h)) c.index_mut-head.ensures.value)
 
-pub returns-else-head-eq0-clause-queued : goal.returns-else-head-eq0-clause-queued
-returns-else-head-eq0-clause-queued c =
-    let head = c.index_mut-head.result.now in
-    stays_slot c.args.heads.now.items c.args.gate c.args.slot (λ x. x.count == 0) head c.args.queue.now.items c.requires.rising c.requires.slot
-    (sym (ap (λ h. h.count == 0) c.index_mut-head.ensures.value) ∙ ne_eqb head.count 0 c.if-head-eq0.false)
+pub returns-else-not-is_told-clause-queued : goal.returns-else-not-is_told-clause-queued
+returns-else-not-is_told-clause-queued c =
+    stays_slot c.args.heads.now.items c.args.gate c.args.slot (λ x. not (is_told (seals x))) c.index_mut-head.result.now c.args.queue.now.items c.requires.rising c.requires.slot
+    (sym (ap (λ h. not (is_told (seals (node_of h)))) c.index_mut-head.ensures.value) ∙ (ap (λ x. not (is_told x)) (sym c.rest.ensures) ∙ (ap not (sym c.is_told.ensures) ∙ ap not c.if-not-is_told.false)))

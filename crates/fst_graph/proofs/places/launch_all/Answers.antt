@@ -1,13 +1,26 @@
-use Rattle.std.proofs.Common.{◌≡◌, map, sym, subst, arith}
-use Rattle.fst_graph.specs.Cascading.{launches}
+use Rattle.std.proofs.Common.{◌∙◌, ◌∷◌, [], map, take, get_or, sym, ap}
+use Rattle.std.proofs.lemmas.List.{take_more}
+use Rattle.fst_types.specs.declared.number.PatchNo.{PatchNo}
 use Rattle.fst_graph.specs.Known.{numbers_of}
 use Rattle.fst_graph.specs.Nodes.{nodes_of}
-use Rattle.fst_graph.proofs.Mapping.{take_front, mapped_all}
+use Rattle.fst_graph.specs.Spreading.{launches}
+use Rattle.fst_graph.proofs.Emptying.{map_push}
+use Rattle.fst_graph.proofs.Launching.{launched_start, launched_more, rising_launched}
 use Rattle.fst_graph.proofs.places.launch_all.Goals as goal
 
-pub returns : goal.returns
-returns c =
-    let same = take_front c.args.heads.now.len c.loop-head.head-items _ (omega (arith, c.loop-head.invariant.long, c.deref_mut-head-items.ensures.len)) in
-    subst (λ hs. nodes_of hs ≡ map (launches (numbers_of c.args.chosen.now)) (nodes_of c.args.heads.now.items)) (sym same)
-    (rw (← c.deref_mut-head-items.ensures.value)
-    (mapped_all (launches (numbers_of c.args.chosen.now)) c.loop-head.head-index c.deref_mut-head-items.result.now c.loop-head.head-items (omega (arith, c.loop-head-test.false, c.loop-head.invariant.long)) c.loop-head.invariant))
+pub loop-no-init : goal.loop-no-init
+loop-no-init c = launched_start (nodes_of c.args.heads.now.items)
+
+pub launch_at-requires : goal.launch_at-requires
+launch_at-requires c = rising_launched c.loop-no.heads.items c.args.heads.now.items (numbers_of (take c.loop-no.no-index c.args.chosen.now)) c.loop-no.invariant c.requires
+
+pub loop-no-preserved : goal.loop-no-preserved
+loop-no-preserved c =
+    let chosen = c.args.chosen.now in
+    let i = c.loop-no.no-index in
+    let none : PatchNo = record { 0 = 0 } in
+    let more = ap numbers_of (take_more chosen i none c.loop-no-test.true) ∙ map_push (λ (n : PatchNo). n.0) (take i chosen) (get_or chosen i none) in
+    c.launch_at.ensures
+    ∙ (ap (λ xs. map (launches ((get_or chosen i none).0 ∷ [])) xs) c.loop-no.invariant
+    ∙ (launched_more (nodes_of c.args.heads.now.items) (numbers_of (take i chosen)) (get_or chosen i none).0
+    ∙ ap (λ ns. map (launches ns) (nodes_of c.args.heads.now.items)) (sym more)))

@@ -1,7 +1,8 @@
-use Rattle.fst_graph.specs.Cascading.{launches}
+use Rattle.std.proofs.Common.{◌≡◌, map, take}
 use Rattle.fst_graph.specs.Known.{numbers_of}
-use Rattle.fst_graph.proofs.Mapping.{Mapped}
+use Rattle.fst_graph.specs.Nodes.{nodes_of}
+use Rattle.fst_graph.specs.Spreading.{launches}
 use Rattle.fst_graph.proofs.places.launch_all.Given as goal
 
-abbrev pub invariant-loop-head : goal.invariant-loop-head
-invariant-loop-head l = Mapped (launches (numbers_of l.chosen)) l.head-index l.initial.head-items l.head-items
+abbrev pub invariant-loop-no : goal.invariant-loop-no
+invariant-loop-no l = nodes_of l.heads.items ≡ map (launches (numbers_of (take l.no-index l.chosen))) (nodes_of l.initial.heads.items)

@@ -8,14 +8,18 @@ use Rattle.fst_types.specs.Patches.{Empty, Patch}
 use Rattle.fst_types.specs.Dependencies.{IsLiveNumber}
 use Rattle.fst_graph.specs.Heads.{patches_of}
 use Rattle.fst_graph.specs.Known.{rest_place, numbers_of}
-use Rattle.fst_graph.specs.Nodes.{node_of, nodes_of, patches_in, HasRoomAbove}
+use Rattle.fst_graph.specs.Nodes.{node_of, nodes_of, patches_in, pending_in, HasRoomAbove}
+use Rattle.fst_graph.specs.Pendings.{joined, joined_sums, sums_of}
 use Rattle.fst_graph.proofs.AtNumber.{patches_in_nodes}
 use Rattle.fst_graph.proofs.Slots.{rising_heads}
 use Rattle.fst_graph.proofs.Emptying.{map_push, keeps_empty, empty_cascade}
-use Rattle.fst_graph.proofs.Linked.{tallies_made}
 use Rattle.fst_graph.proofs.Linking.{rising_same}
 use Rattle.fst_graph.proofs.Listed.{listed_made, listed_empty}
-use Rattle.fst_graph.proofs.Seen.{same_patches, linked_patches, one_each, tallies_wider}
+use Rattle.fst_graph.proofs.Seen.{same_patches, linked_patches, lawful_nodes, tallies_wider}
+use Rattle.fst_graph.proofs.Borne.{lawful_with}
+use Rattle.fst_graph.proofs.Stands.{stand_made}
+use Rattle.fst_graph.proofs.Sums.{joined_exact}
+use Rattle.fst_graph.proofs.Tallied.{tallies_made}
 use Rattle.fst_graph.proofs.graph.Graph.add_empty.Goals as goal
 
 pub live_named-requires : goal.live_named-requires
@@ -38,13 +42,25 @@ invariant_of-self-2 c =
     let T = c.self.invariant.4 in
     let p : Patch = record { number = n + 1; kind = Empty; place = rest_place row; dependencies = row } in
     let live : (m : _) → Contains row m → IsLiveNumber (patches_in nodes) m = λ m h. subst (λ ps. IsLiveNumber ps m) (sym (patches_in_nodes heads)) (depends.only m h).0 in
-    let made = tallies_made nodes n c.self.inside.blocks _ _ _ _ c.reserve_one.new.queue.cap p (one_each heads n c.self.invariant.0.lawful.one_place_each) T refl depends.rising live (listed_made nodes c.self.inside.blocks _ p T.listed (listed_empty p refl)) room in (
-      rw (c.push_reserved.ensures.items, map_push, patches, c.push_reserved-2.ensures.items, c.reserve_one.ensures.order, c.push_reserved-3.ensures.items, c.reserve_one.ensures.marks, place)
-          (keeps_empty _ n c.self.inside.blocks c.self.inside.order.items c.self.inside.marks.items c.self.invariant.0 (numbers_of c.args.after.now) row depends few),
+    let K = c.self.invariant.0 in
+    let H = lawful_nodes heads n K.lawful in
+    let kept = keeps_empty _ n c.self.inside.blocks c.self.inside.order.items c.self.inside.marks.items K (numbers_of c.args.after.now) row depends few in
+    let made = tallies_made nodes n c.self.inside.blocks _ _ _ _ _ _ c.reserve_one.new.queue.cap p H (lawful_with heads p (n + 1) kept.lawful) T refl depends.rising live
+    (λ b on. absurd (cc))
+    (listed_made nodes c.self.inside.blocks _ p T.listed (listed_empty p refl))
+    (stand_made nodes c.self.inside.blocks c.self.inside.standings.items p (λ b. refl) T.standing)
+    room in
+    let told = pending_in nodes in
+    let sums : c.row_sums-sums.result ≡ sums_of told row =
+    c.row_sums-sums.ensures.sums
+    ∙ (ap (λ hs. sums_of (pending_in (nodes_of hs)) c.as_slice-3.result.now) c.deref-3.ensures.value
+    ∙ (ap (λ ns. sums_of (pending_in ns) c.as_slice-3.result.now) still ∙ ap (sums_of told) c.as_slice-3.ensures)) in
+    let below : c.joined.result ≡ joined told row = c.joined.ensures ∙ (ap joined_sums sums ∙ joined_exact told row) in (
+      rw (c.push_reserved.ensures.items, map_push, patches, c.push_reserved-2.ensures.items, c.reserve_one.ensures.order, c.push_reserved-3.ensures.items, c.reserve_one.ensures.marks, place) kept,
       tt,
       tt,
       c.self.invariant.3,
-      rw (c.push_reserved.ensures.items, map_push, c.link.ensures.nodes, still, c.as_slice-3.ensures, c.len.ensures.value, place, c.new.ensures.items, c.reserve_one.ensures.queue) made,
+      rw (c.push_reserved.ensures.items, map_push, c.link.ensures.nodes, still, c.as_slice-4.ensures, below, sums, place, c.new.ensures.items, c.reserve_one.ensures.queue) made,
       tt,
       tt,
     )
@@ -79,7 +95,7 @@ invariant_of-self-then-is_err c =
       tt,
       tt,
       c.self.invariant.3,
-      rw c.reserve_one.ensures.heads (tallies_wider _ c.self.inside.numbers c.self.inside.blocks _ _ _ _ _ c.self.invariant.4 c.reserve_one.ensures.queue c.reserve_one.ensures.wide),
+      rw c.reserve_one.ensures.heads (tallies_wider _ c.self.inside.numbers c.self.inside.blocks _ _ _ _ _ _ c.self.invariant.4 c.reserve_one.ensures.queue c.reserve_one.ensures.wide),
       tt,
       tt,
     )
@@ -93,7 +109,7 @@ invariant_of-self-then-is_err-2 c =
       tt,
       tt,
       c.self.invariant.3,
-      rw still (tallies_wider _ c.self.inside.numbers c.self.inside.blocks _ _ _ _ _ c.self.invariant.4 c.reserve_one.ensures.queue c.reserve_one.ensures.wide),
+      rw still (tallies_wider _ c.self.inside.numbers c.self.inside.blocks _ _ _ _ _ _ c.self.invariant.4 c.reserve_one.ensures.queue c.reserve_one.ensures.wide),
       tt,
       tt,
     )
@@ -108,6 +124,12 @@ returns-then-is_err-2-clause-same c =
     rw (← c.self.view_is)
     (ap (λ ps. record { heads = ps; numbers = c.self.inside.numbers; blocks = c.self.inside.blocks; prepared = None }) (same_patches c.reserve_above.new.heads.items heads still))
 
+pub row_sums-sums-requires : goal.row_sums-sums-requires
+row_sums-sums-requires c =
+    let heads = c.self.inside.heads.items in
+    rw c.deref-3.ensures.value
+    (rising_same c.reserve_above.new.heads.items heads (c.reserve_above.ensures.nodes ∙ ap nodes_of c.reserve_one.ensures.heads) (rising_heads heads c.self.invariant.0.lawful.one_place_each.rising))
+
 pub link-requires-clause-rising : goal.link-requires-clause-rising
 link-requires-clause-rising c =
     let heads = c.self.inside.heads.items in
@@ -116,4 +138,4 @@ link-requires-clause-rising c =
 pub link-requires-clause-room : goal.link-requires-clause-room
 link-requires-clause-room c =
     let above : HasRoomAbove c.reserve_above.new.heads.items c.as_slice.result.now = search rules in
-    subst (HasRoomAbove c.reserve_above.new.heads.items) (c.as_slice.ensures ∙ sym c.as_slice-3.ensures) above
+    subst (HasRoomAbove c.reserve_above.new.heads.items) (c.as_slice.ensures ∙ sym c.as_slice-4.ensures) above

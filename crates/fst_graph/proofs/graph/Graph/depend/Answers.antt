@@ -1,5 +1,6 @@
-use Rattle.std.proofs.Common.{◌≡◌, ◌∙◌, Contains, length, map, drop, refl, sym, ap, subst, inl, inr, arith, None}
+use Rattle.std.proofs.Common.{◌≡◌, ◌≤◌, ◌∙◌, ℕ, List, Contains, length, map, drop, refl, sym, ap, subst, inl, inr, arith, None}
 use Rattle.fst_types.specs.Dependencies.{DirectlyOn, IsLiveNumber}
+use Rattle.fst_types.specs.Facts.{HeadsAreLawful}
 use Rattle.fst_types.specs.Gates.{IsOpenNumber}
 use Rattle.fst_types.specs.Gating.{gains}
 use Rattle.fst_types.specs.Lists.{Lists}
@@ -8,13 +9,18 @@ use Rattle.fst_types.specs.Refusals.{NoneHolds}
 use Rattle.fst_graph.specs.Heads.{patches_of}
 use Rattle.fst_graph.specs.Known.{numbers_of}
 use Rattle.fst_graph.specs.Marks.{Shows, ReachesGate}
-use Rattle.fst_graph.specs.Nodes.{nodes_of, patches_in, at_number, gains_names, linked_to, HasRoomAbove}
+use Rattle.fst_graph.specs.Nodes.{Node, nodes_of, at_number, gains_names, linked_to, pending_in, AreSettled, HasRoomAbove}
+use Rattle.fst_graph.specs.declared.pending.Pending.TheVariants as pending
+use Rattle.fst_graph.specs.declared.pending.Sums.{Sums}
+use Rattle.fst_graph.specs.Pendings.{Fits, sums_of, max_block}
 use Rattle.fst_graph.proofs.AtNumber.{patches_in_nodes}
-use Rattle.fst_graph.proofs.Linked.{with_names, patches_named, tallies_depends}
-use Rattle.fst_graph.specs.Ordered.{is_live_in}
+use Rattle.fst_graph.proofs.Added.{with_names}
+use Rattle.fst_graph.proofs.Linked.{patches_named}
+use Rattle.fst_graph.proofs.PendingIn.{found}
+use Rattle.fst_graph.proofs.Sums.{sums_fit, sums_few}
+use Rattle.fst_graph.proofs.Tallied.{tallies_depends}
 use Rattle.fst_graph.proofs.Linking.{rising_as, rising_same}
-use Rattle.fst_graph.proofs.Seen.{seen, same_patches, one_each, gained_number}
-use Rattle.std.proofs.lemmas.List.Sums.{count_by-le-length}
+use Rattle.fst_graph.proofs.Seen.{seen, same_patches, lawful_nodes, gained_number}
 use Rattle.fst_graph.proofs.Slots.{rising_heads}
 use Rattle.fst_graph.proofs.Mapping.{take_front}
 use Rattle.fst_graph.proofs.Gained.{keeps_depends, keeps_marks}
@@ -61,14 +67,32 @@ invariant_of-self-in_default-reserve_above c =
 pub returns-in_default-reserve_above-clause-refused : goal.returns-in_default-reserve_above-clause-refused
 returns-in_default-reserve_above-clause-refused c = rw (← c.self.view_is, ← c.deref.ensures.value) (inr (c.in_default.ensures.clear, refl))
 
+-- blocks are numbers of 32 bits
+narrow : (nodes : List Node) (blocks : ℕ) → blocks ≤ max_block → AreSettled nodes blocks → (n b : ℕ) → pending_in nodes n ≡ pending.Block b → b ≤ max_block
+narrow nodes blocks small S n b e =
+    elim (found nodes n) [
+      | inl f ↦ let inside = S.inside f.node b f.head (sym f.told ∙ e) in omega (arith, inside, small)
+      | inr none ↦ let same : pending.Nothing ≡ pending.Block b = sym none ∙ e in absurd (cc)
+    ]
+
+-- no count is more than the row is long
+few : (nodes : List Node) (blocks : ℕ) → blocks ≤ max_block → AreSettled nodes blocks → (x : Node) → Contains nodes x → (x.sums.count ≤ length x.patch.dependencies) × Fits x.sums
+few nodes blocks small S x c = (
+  subst (λ s. s.count ≤ length x.patch.dependencies) (sym (S.summed x c)) (sums_few (pending_in nodes) x.patch.dependencies),
+  subst Fits (sym (S.summed x c)) (sums_fit (pending_in nodes) x.patch.dependencies (narrow nodes blocks small S)),
+)
+
+pub row_sums-sums-requires : goal.row_sums-sums-requires
+row_sums-sums-requires c = rw c.deref-7.ensures.value (rising_same _ _ c.reserve_above.ensures.nodes (rising_heads c.self.inside.heads.items c.self.invariant.0.lawful.one_place_each.rising))
+
 pub gain-requires-clause-rising : goal.gain-requires-clause-rising
 gain-requires-clause-rising c = rising_same _ _ c.reserve_above.ensures.nodes (rising_heads c.self.inside.heads.items c.self.invariant.0.lawful.one_place_each.rising)
 
--- no count is more than the row is long
 pub gain-requires-clause-counted : goal.gain-requires-clause-counted
-gain-requires-clause-counted c = λ x h.
-    let counted = c.self.invariant.4.counted x (subst (λ ns. Contains ns x) c.reserve_above.ensures.nodes h) in
-    omega (arith, counted, count_by-le-length (is_live_in (patches_in (nodes_of c.self.inside.heads.items))) x.patch.dependencies)
+gain-requires-clause-counted c = rw c.reserve_above.ensures.nodes (few (nodes_of c.self.inside.heads.items) c.self.inside.blocks (omega (arith, c.self.ranges)) c.self.invariant.4.settled)
+
+pub gain-requires-clause-names : goal.gain-requires-clause-names
+gain-requires-clause-names c = subst (λ row. c.row_sums-sums.result.count ≤ length row) (c.as_slice-2.ensures ∙ sym c.as_slice-3.ensures) c.row_sums-sums.ensures.few
 
 pub invariant_of-self-in_default-gain : goal.invariant_of-self-in_default-gain
 invariant_of-self-in_default-gain c =
@@ -93,25 +117,48 @@ returns-in_default-gain-clause-refused c = rw (← c.self.view_is, ← c.deref.e
 
 pub link-requires-clause-rising : goal.link-requires-clause-rising
 link-requires-clause-rising c =
-    rising_as (at_number c.args.gate.0 (gains_names c.as_slice-2.result.now)) (gained_number c.args.gate.0 c.as_slice-2.result.now) _ _ c.in-Ok-gain.ensures.ok
+    rising_as (at_number c.args.gate.0 (gains_names c.as_slice-3.result.now c.row_sums-sums.result)) (gained_number c.args.gate.0 c.as_slice-3.result.now c.row_sums-sums.result) _ _ c.in-Ok-gain.ensures.ok
     (rising_same _ _ c.reserve_above.ensures.nodes (rising_heads c.self.inside.heads.items c.self.invariant.0.lawful.one_place_each.rising))
 
 pub link-requires-clause-once : goal.link-requires-clause-once
-link-requires-clause-once c = rw c.as_slice-3.ensures c.in-Ok.ensures.rising
+link-requires-clause-once c = rw c.as_slice-4.ensures c.in-Ok.ensures.rising
 
 pub link-requires-clause-room : goal.link-requires-clause-room
 link-requires-clause-room c =
-    let above = subst (HasRoomAbove c.reserve_above.new.heads.items) (c.as_slice.ensures ∙ sym c.as_slice-2.ensures) c.in-Ok-reserve_above.ensures.room in
-    subst (HasRoomAbove c.gain.new.heads.items) (c.as_slice-2.ensures ∙ sym c.as_slice-3.ensures) (c.in-Ok-gain.ensures.room above)
+    let above = subst (HasRoomAbove c.reserve_above.new.heads.items) (c.as_slice.ensures ∙ sym c.as_slice-3.ensures) c.in-Ok-reserve_above.ensures.room in
+    subst (HasRoomAbove c.gain.new.heads.items) (c.as_slice-3.ensures ∙ sym c.as_slice-4.ensures) (c.in-Ok-gain.ensures.room above)
+
+-- what the names add up to
+abbrev added : (c : goal.Joined-names-4) → Sums
+added c = sums_of (pending_in (nodes_of c.self.inside.heads.items)) c.in-Ok.names.items
+
+adds_up : (c : goal.Joined-names-4) → c.row_sums-sums.result ≡ added c
+adds_up c =
+    let there : nodes_of c.deref-7.result.now ≡ nodes_of c.self.inside.heads.items = ap nodes_of c.deref-7.ensures.value ∙ c.reserve_above.ensures.nodes in
+    c.row_sums-sums.ensures.sums
+    ∙ (ap (λ ns. sums_of (pending_in ns) c.as_slice-2.result.now) there ∙ ap (sums_of (pending_in (nodes_of c.self.inside.heads.items))) c.as_slice-2.ensures)
 
 -- the nodes where the gate has the names
-abbrev named : (c : goal.Joined-names-4) → nodes_of c.link.new.heads.items ≡ with_names (nodes_of c.self.inside.heads.items) c.args.gate.0 c.in-Ok.names.items
+named : (c : goal.Joined-names-4) → nodes_of c.link.new.heads.items ≡ with_names (nodes_of c.self.inside.heads.items) c.args.gate.0 c.in-Ok.names.items (added c)
 named c =
-    let nodes = nodes_of c.self.inside.heads.items in
     let g = c.args.gate.0 in
+    let names = c.in-Ok.names.items in
+    let s = c.row_sums-sums.result in
     c.link.ensures.nodes
-    ∙ (ap (λ row. map (linked_to row g) (nodes_of c.gain.new.heads.items)) c.as_slice-3.ensures
-    ∙ ap (map (linked_to c.in-Ok.names.items g)) (c.in-Ok-gain.ensures.ok ∙ (ap (λ row. map (at_number g (gains_names row)) (nodes_of c.reserve_above.new.heads.items)) c.as_slice-2.ensures ∙ ap (map (at_number g (gains_names c.in-Ok.names.items))) c.reserve_above.ensures.nodes)))
+    ∙ (ap (λ row. map (linked_to row g) (nodes_of c.gain.new.heads.items)) c.as_slice-4.ensures
+    ∙ ap (map (linked_to names g))
+    (c.in-Ok-gain.ensures.ok
+    ∙ (ap (λ row. map (at_number g (gains_names row s)) (nodes_of c.reserve_above.new.heads.items)) c.as_slice-3.ensures
+    ∙ (ap (map (at_number g (gains_names names s))) c.reserve_above.ensures.nodes
+    ∙ ap (λ t. map (at_number g (gains_names names t)) (nodes_of c.self.inside.heads.items)) (adds_up c)))))
+
+-- the patches where the gate has the names
+new_patches : (c : goal.Joined-names-4) → patches_of c.link.new.heads.items ≡ map (gains c.args.gate.0 c.in-Ok.names.items) (patches_of c.self.inside.heads.items)
+new_patches c =
+    let g = c.args.gate.0 in
+    let names = c.in-Ok.names.items in
+    let heads = c.self.inside.heads.items in
+    seen c.link.new.heads.items _ (named c) ∙ (patches_named g names (added c) (nodes_of heads) ∙ ap (map (gains g names)) (patches_in_nodes heads))
 
 pub invariant_of-self-2 : goal.invariant_of-self-2
 invariant_of-self-2 c =
@@ -129,15 +176,15 @@ invariant_of-self-2 c =
     let shown = subst (λ hs. Shows hs new (ReachesGate (patches_of hs) g)) c.deref.ensures.value c.in_default.ensures.shown in
     let shown_last = subst (λ ms. Shows heads ms (ReachesGate (patches_of heads) g)) (sym (c.deref-5.ensures.value ∙ front)) shown in
     let T = c.self.invariant.4 in
-    let new_patches : patches_of c.link.new.heads.items ≡ map (gains g c.in-Ok.names.items) (patches_of heads) = seen c.link.new.heads.items _ (named c) ∙ (patches_named g c.in-Ok.names.items (nodes_of heads) ∙ ap (map (gains g c.in-Ok.names.items)) (patches_in_nodes heads)) in
     let back = sym (patches_in_nodes heads) in
-    let live_there = subst (λ ps. Lists (λ n. IsLiveNumber ps n × Contains on n × (DirectlyOn ps g n → ⊥)) c.in-Ok.names.items) back live in (
-      rw (new_patches, c.in-Ok-marked_last.ensures, c.deref-4.ensures.value, c.deref-6.ensures.value)
-          (keeps_depends heads numbers c.self.inside.blocks g c.self.inside.order.items c.in-Ok.names.items on marks.items c.deref-5.result.now _ c.self.invariant.0 gate none live shown_last (ap length front ∙ same)),
+    let live_there = subst (λ ps. Lists (λ n. IsLiveNumber ps n × Contains on n × (DirectlyOn ps g n → ⊥)) c.in-Ok.names.items) back live in
+    let keeps = keeps_depends heads numbers c.self.inside.blocks g c.self.inside.order.items c.in-Ok.names.items on marks.items c.deref-5.result.now _ c.self.invariant.0 gate none live shown_last (ap length front ∙ same) in
+    let lawful = subst (λ ps. HeadsAreLawful ps numbers) (sym (new_patches c) ∙ seen c.link.new.heads.items _ (named c)) keeps.lawful in (
+      rw (new_patches c, c.in-Ok-marked_last.ensures, c.deref-4.ensures.value, c.deref-6.ensures.value) keeps,
       tt,
       tt,
       c.self.invariant.3,
-      rw (named c) (tallies_depends (nodes_of heads) numbers c.self.inside.blocks _ _ _ g on c.in-Ok.names.items (one_each heads numbers c.self.invariant.0.lawful.one_place_each) T (subst (λ ps. IsOpenNumber ps g) back gate) live_there),
+      rw (named c) (tallies_depends (nodes_of heads) numbers c.self.inside.blocks _ _ _ _ g on c.in-Ok.names.items (lawful_nodes heads numbers c.self.invariant.0.lawful) lawful T (subst (λ ps. IsOpenNumber ps g) back gate) live_there),
       tt,
       tt,
     )
@@ -153,7 +200,7 @@ returns-clause-ok c =
       is_open = subst (λ hs. IsOpenNumber (patches_of hs) g) c.deref.ensures.value c.in_default.ensures.is_open;
       names = c.in-Ok.names.items;
       live = subst (λ hs. Lists (λ n. IsLiveNumber (patches_of hs) n × Contains on n × (DirectlyOn (patches_of hs) g n → ⊥)) c.in-Ok.names.items) c.deref-3.ensures.value c.in-Ok.ensures;
-      heads = seen c.link.new.heads.items _ (named c) ∙ (patches_named g c.in-Ok.names.items (nodes_of heads) ∙ ap (map (gains g c.in-Ok.names.items)) (patches_in_nodes heads));
+      heads = new_patches c;
       numbers = refl;
       blocks = refl;
       prepared = refl;

@@ -2,18 +2,20 @@ use Rattle.std.proofs.Common.{◌≡◌, ◌∙◌, map, sym, ap, subst, length,
 use Rattle.std.proofs.lemmas.List.{length-map}
 use Rattle.fst_types.specs.Cascade.{IsCascadeOf}
 use Rattle.fst_types.specs.Writing.{landed}
-use Rattle.fst_graph.specs.Cascading.{Falls, lands}
+use Rattle.fst_graph.specs.Spreading.{IsSpreadOf, lands}
 use Rattle.fst_graph.specs.Heads.{patches_of}
 use Rattle.fst_graph.specs.Keeps.{IsInside}
 use Rattle.fst_graph.specs.Lists.{entries_of, AreListed}
-use Rattle.fst_graph.specs.Nodes.{node_of, nodes_of, patches_in}
+use Rattle.fst_graph.specs.Nodes.{node_of, nodes_of, patches_in, AreSettled}
+use Rattle.fst_graph.specs.Standings.{AllStand}
 use Rattle.fst_graph.proofs.AtNumber.{patches_in_nodes}
-use Rattle.fst_graph.proofs.Fallen.{linked_landed, tallies_landed}
+use Rattle.fst_graph.proofs.Borne.{inside_nodes, stand_land}
 use Rattle.fst_graph.proofs.Kept.{keeps_landed}
 use Rattle.fst_graph.proofs.Seen.{seen, lawful_nodes}
 use Rattle.fst_graph.proofs.Shelves.{shelved}
 use Rattle.fst_graph.proofs.Slots.{rising_heads}
-use Rattle.fst_graph.proofs.Starts.{starts_landed, patches_landed}
+use Rattle.fst_graph.proofs.Starting.{starts_landed, patches_landed, linked_landed, distinct_landed}
+use Rattle.fst_graph.proofs.Tallied.{tallies_landed}
 use Rattle.fst_graph.proofs.graph.Graph.land.Goals as goal
 
 pub land_block-requires-clause-rising : goal.land_block-requires-clause-rising
@@ -40,8 +42,25 @@ pub cascade-requires-clause-start : goal.cascade-requires-clause-start
 cascade-requires-clause-start c =
     let heads = c.self.inside.heads.items in
     let n = c.self.inside.numbers in
-    rw (c.land_block.ensures.nodes, c.land_block.ensures.queued, ← patches_in_nodes heads)
-    (starts_landed (nodes_of heads) n c.self.inside.blocks _ _ _ c.args.block.0 (lawful_nodes heads n c.self.invariant.0.lawful) c.self.invariant.4)
+    let blocks = c.self.inside.blocks in
+    let K = c.self.invariant.0 in
+    let T = c.self.invariant.4 in
+    let long : c.self.inside.standings.len ≡ blocks = omega (arith, T.standing.long, c.self.inside.standings.ok.0) in
+    rw (c.land_block.ensures.nodes, c.land_block.ensures.queued, ← patches_in_nodes heads, c.land_at.ensures.len, long)
+    (starts_landed (nodes_of heads) n blocks c.args.block.0 (lawful_nodes heads n K.lawful) (inside_nodes heads blocks K.inside) T.settled)
+
+pub cascade-requires-clause-distinct : goal.cascade-requires-clause-distinct
+cascade-requires-clause-distinct c = rw c.land_block.ensures.nodes (distinct_landed (nodes_of c.self.inside.heads.items) c.args.block.0 c.self.invariant.4.distinct)
+
+pub cascade-requires-clause-standing : goal.cascade-requires-clause-standing
+cascade-requires-clause-standing c =
+    let heads = c.self.inside.heads.items in
+    let blocks = c.self.inside.blocks in
+    let T = c.self.invariant.4 in
+    let long : c.self.inside.standings.len ≡ blocks = omega (arith, T.standing.long, c.self.inside.standings.ok.0) in
+    rw (c.land_block.ensures.nodes, c.land_at.ensures.len, long)
+    (stand_land (nodes_of heads) blocks c.args.block.0 c.self.inside.standings.items c.land_at.new.standings.items (inside_nodes heads blocks c.self.invariant.0.inside) T.standing
+    (λ d lt. c.land_at.ensures.inside d (omega (arith, lt, long))) (λ le. c.land_at.ensures.outside (omega (arith, le, long))))
 
 pub cascade-requires-clause-linked : goal.cascade-requires-clause-linked
 cascade-requires-clause-linked c = rw c.land_block.ensures.nodes (linked_landed (nodes_of c.self.inside.heads.items) c.args.block.0 c.self.invariant.4.linked)
@@ -65,17 +84,21 @@ invariant_of-self c =
     let T = c.self.invariant.4 in
     let long : length lists ≡ blocks = sym (length-map lists (λ l. entries_of l.items)) ∙ T.listed.long in
     let was : patches_of mid ≡ map (landed b) old = seen mid _ c.land_block.ensures.nodes ∙ (patches_landed nodes b ∙ ap (map (landed b)) (patches_in_nodes heads)) in
-    let cascade = subst (λ ps. IsCascadeOf ps (patches_of new)) was c.cascade.ensures.settled in
-    let falls : Falls (map (lands b) nodes) (nodes_of new) = subst (λ ns. Falls ns (nodes_of new)) c.land_block.ensures.nodes c.cascade.ensures.falls in
+    let cascade = subst (λ ps. IsCascadeOf ps (patches_of new)) was c.cascade.ensures.placed in
+    let wide : c.self.inside.standings.len ≡ blocks = omega (arith, T.standing.long, c.self.inside.standings.ok.0) in
+    let spread : IsSpreadOf (map (lands b) nodes) (nodes_of new) = subst (λ ns. IsSpreadOf ns (nodes_of new)) c.land_block.ensures.nodes c.cascade.ensures.spread in
+    let settled = subst (AreSettled (nodes_of new)) (c.land_at.ensures.len ∙ wide) c.cascade.ensures.settled in
+    let standing = subst (λ k. AllStand (nodes_of new) k c.cascade.new.standings.items) (c.land_at.ensures.len ∙ wide) c.cascade.ensures.standing in
+    let kept = keeps_landed old (patches_of new) n blocks b c.self.inside.order.items c.self.inside.marks.items c.self.inside.marks.items c.self.invariant.0 cascade refl in
     let listed : AreListed (patches_in (map (lands b) nodes)) blocks (shelved c.land_block.new.lists.items) =
     subst (λ k. AreListed (patches_in (map (lands b) nodes)) k (shelved c.land_block.new.lists.items)) long
     (subst (λ ps. AreListed ps (length lists) (shelved c.land_block.new.lists.items)) (seen mid _ c.land_block.ensures.nodes) c.land_block.ensures.listed) in (
-      keeps_landed old (patches_of new) n blocks b c.self.inside.order.items c.self.inside.marks.items c.self.inside.marks.items c.self.invariant.0 cascade refl,
+      kept,
       tt,
       tt,
       c.self.invariant.3,
       rw (c.cascade.ensures.empty, c.cascade.ensures.capacity, c.land_block.ensures.capacity)
-          (tallies_landed nodes (nodes_of new) n blocks b _ _ _ _ T listed falls c.cascade.ensures.counted),
+          (tallies_landed nodes (nodes_of new) n blocks b _ _ _ _ _ _ (lawful_nodes new n kept.lawful) T listed spread settled standing),
       tt,
       tt,
     )
@@ -86,4 +109,4 @@ returns-clause-landed c =
     let b = c.args.block.0 in
     let mid = c.land_block.new.heads.items in
     let was = seen mid _ c.land_block.ensures.nodes ∙ (patches_landed (nodes_of heads) b ∙ ap (map (landed b)) (patches_in_nodes heads)) in
-    rw (← c.self.view_is) (record { cascade = subst (λ ps. IsCascadeOf ps (patches_of c.cascade.new.heads.items)) was c.cascade.ensures.settled; numbers = refl; blocks = refl; prepared = refl })
+    rw (← c.self.view_is) (record { cascade = subst (λ ps. IsCascadeOf ps (patches_of c.cascade.new.heads.items)) was c.cascade.ensures.placed; numbers = refl; blocks = refl; prepared = refl })

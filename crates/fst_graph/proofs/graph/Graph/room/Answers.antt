@@ -11,8 +11,10 @@ use Rattle.fst_graph.specs.Known.{Known, numbers_of}
 use Rattle.fst_graph.specs.Rows.{IsDependency}
 use Rattle.std.proofs.lemmas.List.{length-map, get_or-map}
 use Rattle.fst_graph.specs.Lists.{entries_of}
-use Rattle.fst_graph.specs.Nodes.{nodes_of, HasRoomAbove}
+use Rattle.fst_graph.specs.Nodes.{nodes_of, AreSettled, HasRoomAbove}
+use Rattle.fst_graph.specs.Standings.{AllStand}
 use Rattle.fst_graph.proofs.AtNumber.{patches_in_nodes}
+use Rattle.fst_graph.proofs.Borne.{ok_of}
 use Rattle.fst_graph.proofs.Readied.{keeps_marks, as_long}
 use Rattle.fst_graph.proofs.Seen.{same_patches, tallies_wider}
 use Rattle.fst_graph.proofs.Shelves.{shelved_same, room_in_list}
@@ -87,7 +89,7 @@ invariant_of-self-then-is_err c =
       tt,
       tt,
       reached ∙ c.self.invariant.3,
-      rw c.reserve_one.ensures.heads (tallies_wider _ c.self.inside.numbers c.self.inside.blocks _ _ _ _ _ c.self.invariant.4 c.reserve_one.ensures.queue c.reserve_one.ensures.wide),
+      rw c.reserve_one.ensures.heads (tallies_wider _ c.self.inside.numbers c.self.inside.blocks _ _ _ _ _ _ c.self.invariant.4 c.reserve_one.ensures.queue c.reserve_one.ensures.wide),
       tt,
       tt,
     )
@@ -103,7 +105,7 @@ invariant_of-self-then-is_err-2 c =
       tt,
       tt,
       reached ∙ c.self.invariant.3,
-      rw still (tallies_wider _ c.self.inside.numbers c.self.inside.blocks _ _ _ _ _ c.self.invariant.4 c.reserve_one.ensures.queue c.reserve_one.ensures.wide),
+      rw still (tallies_wider _ c.self.inside.numbers c.self.inside.blocks _ _ _ _ _ _ c.self.invariant.4 c.reserve_one.ensures.queue c.reserve_one.ensures.wide),
       tt,
       tt,
     )
@@ -120,7 +122,7 @@ invariant_of-self-then-is_err-3 c =
       tt,
       reached ∙ c.self.invariant.3,
       rw (still, shelved_same c.self.inside.lists.items c.args.block.0 c.index_mut.result.now c.reserve.new.self c.index_mut.ensures.value c.reserve.ensures.items)
-          (tallies_wider _ c.self.inside.numbers c.self.inside.blocks _ _ _ _ _ c.self.invariant.4 c.reserve_one.ensures.queue c.reserve_one.ensures.wide),
+          (tallies_wider _ c.self.inside.numbers c.self.inside.blocks _ _ _ _ _ _ c.self.invariant.4 c.reserve_one.ensures.queue c.reserve_one.ensures.wide),
       tt,
       tt,
     )
@@ -145,7 +147,7 @@ invariant_of-self-2 c =
     rw (made.names, made.block, made.span) (subst (λ hs. Lists (IsDependency (patches_of hs) (numbers_of c.args.after.now) c.args.block.0 c.args.span.at c.args.span.len) row) c.deref-2.ensures.value made.depends) in
     let follows : FollowsRule p.grade (MayBeHard old p.block row) = rw made.block (subst (λ hs. FollowsRule p.grade (MayBeHard (patches_of hs) c.args.block.0 row)) c.deref-2.ensures.value made.graded) in
     let graded = graded_change old n blocks c.self.inside.order.items c.self.inside.marks.items c.self.invariant.0 p.block p.span.at p.span.len names p.grade row depends follows in
-    let above : HasRoomAbove c.reserve_above.new.heads.items c.as_slice.result.now = search rules in
+    let above : HasRoomAbove c.reserve_above.new.heads.items c.as_slice.result.now = ok_of c.reserve_above.result _ c.reserve_above.ensures.room (sym c.is_err-2.ensures.value ∙ c.if-is_err-2.false) in
     let free : c.reserve.new.self.len + 1 ≤ c.reserve.new.self.cap = search rules in
     let lists : length c.self.inside.lists.items ≡ blocks = sym (length-map c.self.inside.lists.items (λ l. entries_of l.items)) ∙ c.self.invariant.4.listed.long in (
       rw (patches, c.reserve_one.ensures.order, c.reserve_one.ensures.marks) (keeps_marks _ n blocks c.self.inside.order.items c.self.inside.marks.items _ c.self.invariant.0 marks),
@@ -153,7 +155,7 @@ invariant_of-self-2 c =
       rw (c.reserve_above.ensures.len, c.reserve_above.ensures.capacity) (record { heads_free = search rules; order_free = search rules; marks_free = search rules; queue_free = search rules }),
       reached ∙ c.self.invariant.3,
       rw (still, shelved_same c.self.inside.lists.items c.args.block.0 c.index_mut.result.now c.reserve.new.self c.index_mut.ensures.value c.reserve.ensures.items)
-          (tallies_wider _ n blocks _ _ _ _ _ c.self.invariant.4 c.reserve_one.ensures.queue c.reserve_one.ensures.wide),
+          (tallies_wider _ n blocks _ _ _ _ _ _ c.self.invariant.4 c.reserve_one.ensures.queue c.reserve_one.ensures.wide),
       rw (← c.as_slice.ensures) above,
       rw made.block (room_in_list c.self.inside.lists.items c.args.block.0 c.reserve.new.self (let i = inside in omega (arith, i, lists, ap (λ x. x) made.block)) (omega (arith, free))),
     )
@@ -181,3 +183,17 @@ returns-clause-prepared c =
     let still : nodes_of c.reserve_above.new.heads.items ≡ nodes_of heads = c.reserve_above.ensures.nodes ∙ ap nodes_of c.reserve_one.ensures.heads in
     let made = c.in-Ok.ensures in
     rw (← c.self.view_is, same_patches c.reserve_above.new.heads.items heads still, made.block, made.span, made.names) refl
+
+pub prepare-requires-clause-disk : goal.prepare-requires-clause-disk
+prepare-requires-clause-disk c = rw c.deref-2.ensures.value c.self.invariant.0.lawful.on_disk_with_all
+
+pub prepare-requires-clause-settled : goal.prepare-requires-clause-settled
+prepare-requires-clause-settled c =
+    let T = c.self.invariant.4 in
+    rw (c.deref-4.ensures.value, c.deref-2.ensures.value) (subst (AreSettled (nodes_of c.self.inside.heads.items)) (sym T.standing.long) T.settled)
+
+pub prepare-requires-clause-standing : goal.prepare-requires-clause-standing
+prepare-requires-clause-standing c =
+    let T = c.self.invariant.4 in
+    let standings = c.self.inside.standings.items in
+    rw (c.deref-4.ensures.value, c.deref-2.ensures.value) (subst (λ n. AllStand (nodes_of c.self.inside.heads.items) n standings) (sym T.standing.long) T.standing)

@@ -1,0 +1,55 @@
+-- What holds of the patches of heads, said of the patches of their nodes.
+use Rattle.std.proofs.Common.{◌≡◌, ◌<◌, ◌≤◌, ◌∙◌, ℕ, false, List, [], ◌∷◌, ◌++◌, Result, Ok, Err, OnOk, is_err, map, set, get_or, Contains, sym, subst, inl, inr, arith}
+use Rattle.std.proofs.lemmas.Bool.{cases_lt}
+use Rattle.fst_types.specs.Facts.{HeadsAreLawful}
+use Rattle.fst_types.specs.Gates.{IsOpenNumber}
+use Rattle.fst_types.specs.Patches.{Patch}
+use Rattle.fst_graph.specs.declared.head.Head.{Head}
+use Rattle.fst_graph.specs.declared.standing.Standing.{Standing}
+use Rattle.fst_graph.specs.Heads.{patches_of}
+use Rattle.fst_graph.specs.Keeps.{IsInside}
+use Rattle.fst_graph.specs.declared.pending.Pending.TheVariants as pending
+use Rattle.fst_graph.specs.Nodes.{Node, nodes_of, patches_in, pending_in, AreSettled}
+use Rattle.fst_graph.specs.Pendings.{Fits, max_block}
+use Rattle.fst_graph.specs.Spreading.{lands}
+use Rattle.fst_graph.specs.Standings.{AllStand}
+use Rattle.fst_graph.proofs.AtNumber.{patches_in_nodes}
+use Rattle.fst_graph.proofs.Pended.{pending_found}
+use Rattle.fst_graph.proofs.Stands.{stand_landed, stand_landed_outside}
+use Rattle.fst_graph.proofs.Sums.{sums_fit}
+
+-- the patches with a new one
+pub lawful_with : (heads : List Head) (p : Patch) (numbers : ℕ) → HeadsAreLawful (patches_of heads ++ p ∷ []) numbers → HeadsAreLawful (patches_in (nodes_of heads) ++ p ∷ []) numbers
+lawful_with heads p numbers H = subst (λ ps. HeadsAreLawful (ps ++ p ∷ []) numbers) (sym (patches_in_nodes heads)) H
+
+pub inside_nodes : (heads : List Head) (blocks : ℕ) → IsInside (patches_of heads) blocks → IsInside (patches_in (nodes_of heads)) blocks
+inside_nodes heads blocks inside = subst (λ ps. IsInside ps blocks) (sym (patches_in_nodes heads)) inside
+
+pub open_nodes : (heads : List Head) (g : ℕ) → IsOpenNumber (patches_of heads) g → IsOpenNumber (patches_in (nodes_of heads)) g
+open_nodes heads g gate = subst (λ ps. IsOpenNumber ps g) (sym (patches_in_nodes heads)) gate
+
+-- the sums of patches at rest fit
+pub settled_fits : (nodes : List Node) (blocks : ℕ) → blocks ≤ max_block → AreSettled nodes blocks → (x : Node) → Contains nodes x → Fits x.sums
+settled_fits nodes blocks narrow S x c =
+    subst Fits (sym (S.summed x c))
+    (sums_fit (pending_in nodes) x.patch.dependencies (λ n b e. elim (pending_found nodes n) [
+      | inl f ↦ let lt = S.inside f.0 b f.1 (sym f.3 ∙ e) in omega (arith, lt, narrow)
+      | inr none ↦ let off : pending.Nothing ≡ pending.Block b = sym none ∙ e in absurd (cc)
+    ]))
+
+-- a call that did not fail
+pub ok_of : {A E : Type 0} (r : Result A E) (P : Type 0) → OnOk r P → is_err r ≡ false → P
+ok_of (Ok a) P p e = p
+ok_of (Err x) P p e = absurd (cc)
+
+-- nothing of a block is in flight any more, if it is one
+pub stand_land : (nodes : List Node) (blocks b : ℕ) (old new : List Standing) → IsInside (patches_in nodes) blocks → AllStand nodes blocks old
+    → ((d : Standing) → b < blocks → new ≡ set old b (record { ready = (get_or old b d).ready; held = (get_or old b d).held; flying = 0 }))
+    → (blocks ≤ b → new ≡ old)
+    → AllStand (map (lands b) nodes) blocks new
+stand_land nodes blocks b old new inside S within outside = elim (cases_lt b blocks) [
+  | inl lt ↦
+      let d : Standing = record { ready = 0; held = 0; flying = 0 } in
+      subst (AllStand (map (lands b) nodes) blocks) (sym (within d lt)) (stand_landed nodes blocks b old d lt S)
+  | inr past ↦ subst (AllStand (map (lands b) nodes) blocks) (sym (outside past)) (stand_landed_outside nodes blocks b old inside past S)
+]

@@ -1,0 +1,331 @@
+-- What is pending of each patch after a call that tells none of its dependants of anything.
+use Rattle.std.proofs.Common.{◌≡◌, ◌≢◌, ◌↔◌, ◌==◌, ℕ, suc, ◌+◌, ◌<◌, ◌≤◌, Bool, true, false, not, if◌then◌else◌, List, [], ◌∷◌, ◌++◌, map, filter, AllPairs, Contains, refl, sym, ap, subst, ◌∙◌, inl, inr, arith}
+use Rattle.std.specs.List.Sorted.{IsStrictlyIncreasing}
+use Rattle.std.proofs.lemmas.Bool.{cases_Bool, cases_eq, eq-eqb, ne_eqb}
+use Rattle.std.proofs.lemmas.List.Elements.{Contains-append_left, Contains-push}
+use Rattle.fst_types.specs.declared.place.Place.{Place}
+use Rattle.fst_types.specs.declared.place.Place.TheVariants as place
+use Rattle.fst_types.specs.Cascade.{Follows}
+use Rattle.fst_types.specs.Dependencies.{IsLiveNumber}
+use Rattle.fst_types.specs.Facts.{HeadsAreLawful}
+use Rattle.fst_types.specs.Gates.{IsOpenNumber}
+use Rattle.fst_types.specs.Patches.{Kind, Change, Empty, OpenGate, SealedGate, Patch, IsOn, block_of_kind}
+use Rattle.fst_types.specs.Tests.{is_at, is_live, is_among, is_change_at}
+use Rattle.fst_types.proofs.Crash.{same_number}
+use Rattle.fst_types.proofs.Dropping.{filter_in}
+use Rattle.fst_types.proofs.Finite.{In, In-from_Contains, Contains-from_In}
+use Rattle.fst_types.proofs.GateGains.{In-unmap}
+use Rattle.fst_types.proofs.Issuing.{among_in}
+use Rattle.fst_types.proofs.Landing.{change_at}
+use Rattle.fst_graph.specs.declared.pending.Pending.{Pending}
+use Rattle.fst_graph.specs.declared.pending.Pending.TheVariants as pending
+use Rattle.fst_graph.specs.declared.pending.Sums.{Sums}
+use Rattle.fst_graph.specs.Nodes.{Node, patches_in, pending_in, at_number, linked_to, gains_names, AreSettled}
+use Rattle.fst_graph.specs.Pendings.{joined, of_change, of_kind, over_block, sums_of, together}
+use Rattle.fst_graph.specs.Spreading.{launches}
+use Rattle.fst_graph.specs.Standings.{is_ready_on, ready_on}
+use Rattle.fst_graph.proofs.Added.{with_node, new_node, with_names}
+use Rattle.fst_graph.proofs.AtNumber.{at_same, at_other}
+use Rattle.fst_graph.proofs.Forgetting.{and_parts}
+use Rattle.fst_graph.proofs.Linked.{made_was, both, both_nodes, both_number, named_was}
+use Rattle.fst_graph.proofs.Linking.{linked_patch}
+use Rattle.fst_graph.proofs.Placed.{number_if, patch_in, node_of_patch, unmapped}
+use Rattle.fst_graph.proofs.Sums.{joined_all_nothing, joined_nothing, joined_same, joined_some, sums_append, sums_same}
+
+-- what is pending of a number
+
+pub pending_mapped : (f : Node → Node) (nodes : List Node) → ((x : Node) → (f x).patch.number ≡ x.patch.number) → ((x : Node) → (f x).pending ≡ x.pending) → (n : ℕ) → pending_in (map f nodes) n ≡ pending_in nodes n
+pending_mapped f [] number stays n = refl
+pending_mapped f (x ∷ xs) number stays n = let r = pending_mapped f xs number stays n in rw (number x, stays x, r) refl
+
+pub pending_push : (nodes : List Node) (y : Node) (n : ℕ) → y.patch.number ≢ n → pending_in (nodes ++ y ∷ []) n ≡ pending_in nodes n
+pending_push [] y n ne = rw (ne_eqb y.patch.number n ne) refl
+pending_push (x ∷ xs) y n ne = rw (pending_push xs y n ne) refl
+
+pending_none : (nodes : List Node) (n : ℕ) → ((x : Node) → In nodes x → x.patch.number ≢ n) → pending_in nodes n ≡ pending.Nothing
+pending_none [] n none = refl
+pending_none (x ∷ xs) n none = rw (ne_eqb x.patch.number n (none x (inl refl))) (pending_none xs n (λ y h. none y (inr h)))
+
+-- the numbers behind the first are above it
+above_first : (x : Node) (xs : List Node) → AllPairs (λ p q. p.number < q.number) (patches_in (x ∷ xs)) → (y : Node) → In xs y → x.patch.number < y.patch.number
+above_first x xs rising y h =
+    let c = patch_in xs y (Contains-from_In xs y h) in
+    let r = rising 0 (suc c.0) y.patch (omega arith) (omega (arith, c.1)) in
+    subst (λ (p : Patch). x.patch.number < p.number) c.2 r
+
+behind : (x : Node) (xs : List Node) → AllPairs (λ p q. p.number < q.number) (patches_in (x ∷ xs)) → AllPairs (λ p q. p.number < q.number) (patches_in xs)
+behind x xs rising i j d lt inside = rising (suc i) (suc j) d (omega (arith, lt)) (omega (arith, inside))
+
+-- the one patch with the number has it
+pub pending_at : (nodes : List Node) (x : Node) → AllPairs (λ p q. p.number < q.number) (patches_in nodes) → Contains nodes x → pending_in nodes x.patch.number ≡ x.pending
+pending_at nodes x rising c = go nodes rising (In-from_Contains nodes x c)
+  where
+    go : (ys : List Node) → AllPairs (λ p q. p.number < q.number) (patches_in ys) → In ys x → pending_in ys x.patch.number ≡ x.pending
+    go [] r h = absurd h
+    go (y ∷ ys) r (inl e) = rw (eq-eqb y.patch.number x.patch.number (ap (λ z. z.patch.number) e)) (ap (λ z. z.pending) e)
+    go (y ∷ ys) r (inr h) = let lt = above_first y ys r x h in rw (ne_eqb y.patch.number x.patch.number (λ e. omega (arith, lt, e))) (go ys (behind y ys r) h)
+
+-- what was forgotten had nothing pending
+pub pending_dropped : (nodes : List Node) → AllPairs (λ p q. p.number < q.number) (patches_in nodes) → ((x : Node) → In nodes x → is_live x.patch ≡ false → x.pending ≡ pending.Nothing)
+    → (n : ℕ) → pending_in (filter (λ x. is_live x.patch) nodes) n ≡ pending_in nodes n
+pending_dropped [] rising none n = refl
+pending_dropped (x ∷ xs) rising none n =
+    let r = pending_dropped xs (behind x xs rising) (λ y h. none y (inr h)) n in
+    elim (cases_Bool (is_live x.patch)) [
+      | inl e ↦ rw (e, r) refl
+      | inr e ↦
+          elim (cases_eq x.patch.number n) [
+            | inl same ↦
+                rw (e, r, eq-eqb x.patch.number n same)
+                (pending_none xs n (λ y h same_y. let lt = above_first x xs rising y h in omega (arith, lt, same, same_y)) ∙ sym (none x (inl refl) e))
+            | inr other ↦ rw (e, r, ne_eqb x.patch.number n other) refl
+          ]
+    ]
+
+-- one patch is settled, where the others have that pending
+pub record SettledAt (told : ℕ → Pending) (blocks : ℕ) (x : Node) : Type 0 where
+  pub summed : x.sums ≡ sums_of told x.patch.dependencies
+  pub settled : x.pending ≡ of_kind x.patch.kind x.patch.place (joined told x.patch.dependencies)
+  pub placed : (x.pending ≡ pending.Nothing) ↔ (x.patch.place ≡ place.Disk)
+  pub inside : (b : ℕ) → x.pending ≡ pending.Block b → b < blocks
+
+pub settled_in : (nodes : List Node) (blocks : ℕ) → AreSettled nodes blocks → (x : Node) → Contains nodes x → SettledAt (pending_in nodes) blocks x
+settled_in nodes blocks S x c = record { summed = S.summed x c; settled = S.settled x c; placed = S.placed x c; inside = λ b. S.inside x b c }
+
+pub settled_all : (nodes : List Node) (blocks : ℕ) → ((x : Node) → Contains nodes x → SettledAt (pending_in nodes) blocks x) → AreSettled nodes blocks
+settled_all nodes blocks each = record {
+  summed = λ x c. (each x c).summed;
+  settled = λ x c. (each x c).settled;
+  placed = λ x c. (each x c).placed;
+  inside = λ x b c. (each x c).inside b;
+}
+
+-- where its direct dependencies have the same pending
+pub settled_told : (told other : ℕ → Pending) (blocks : ℕ) (x : Node) → ((n : ℕ) → Contains x.patch.dependencies n → other n ≡ told n) → SettledAt told blocks x → SettledAt other blocks x
+settled_told told other blocks x same s = record {
+  summed = s.summed ∙ sym (sums_same told other x.patch.dependencies same);
+  settled = s.settled ∙ ap (λ j. of_kind x.patch.kind x.patch.place j) (sym (joined_same told other x.patch.dependencies same));
+  placed = s.placed;
+  inside = s.inside;
+}
+
+linked_either : (told : ℕ → Pending) (blocks : ℕ) (b : Bool) (n : ℕ) (x : Node) → SettledAt told blocks x → SettledAt told blocks (if b then record x { dependants = x.dependants ++ n ∷ [] } else x)
+linked_either told blocks true n x s = record { summed = s.summed; settled = s.settled; placed = s.placed; inside = s.inside }
+linked_either told blocks false n x s = s
+
+-- dependants do not matter
+pub settled_linked : (told : ℕ → Pending) (blocks : ℕ) (row : List ℕ) (n : ℕ) (x : Node) → SettledAt told blocks x → SettledAt told blocks (linked_to row n x)
+settled_linked told blocks row n x s = linked_either told blocks (is_among row x.patch.number) n x s
+
+pending_either : (b : Bool) (n : ℕ) (x : Node) → (if b then record x { dependants = x.dependants ++ n ∷ [] } else x).pending ≡ x.pending
+pending_either true n x = refl
+pending_either false n x = refl
+
+pub pending_linked : (nodes : List Node) (row : List ℕ) (n m : ℕ) → pending_in (map (linked_to row n) nodes) m ≡ pending_in nodes m
+pending_linked nodes row n m =
+    pending_mapped (linked_to row n) nodes (λ x. ap (λ p. p.number) (linked_patch row n x)) (λ x. pending_either (is_among row x.patch.number) n x) m
+
+-- a new patch
+
+over_same : (c b : ℕ) (below : Pending) → over_block c below ≡ pending.Block b → c ≡ b
+over_same c b pending.Nothing e = cc
+over_same c b (pending.Block o) e = elim (cases_Bool (o == c)) [
+  | inl t ↦ let f : pending.Block c ≡ pending.Block b = rw t at e in cc
+  | inr t ↦ let f : pending.More ≡ pending.Block b = rw t at e in cc
+]
+over_same c b pending.More e = cc
+
+over_some : (c : ℕ) (below : Pending) → over_block c below ≢ pending.Nothing
+over_some c pending.Nothing e = cc
+over_some c (pending.Block o) e = elim (cases_Bool (o == c)) [
+  | inl t ↦ let f : pending.Block c ≡ pending.Nothing = rw t at e in cc
+  | inr t ↦ let f : pending.More ≡ pending.Nothing = rw t at e in cc
+]
+over_some c pending.More e = cc
+
+module _ (nodes : List Node) (numbers blocks : ℕ) (p : Patch) (H : HeadsAreLawful (patches_in nodes) numbers) (H' : HeadsAreLawful (patches_in nodes ++ p ∷ []) (numbers + 1))
+    (S : AreSettled nodes blocks) (next : p.number ≡ numbers + 1) (rising : IsStrictlyIncreasing p.dependencies)
+    (live : (n : ℕ) → Contains p.dependencies n → IsLiveNumber (patches_in nodes) n) (on : (b : ℕ) → IsOn p b → b < blocks) where
+  -- the new patch is a dependency of none
+  same_told : (n : ℕ) → n ≤ numbers → pending_in (with_node nodes p) n ≡ pending_in nodes n
+  same_told n le = pending_push (map (linked_to p.dependencies p.number) nodes) (new_node nodes p) n (λ e. omega (arith, le, e, next)) ∙ pending_linked nodes p.dependencies p.number n
+
+  -- what is pending of a direct dependency is that of a live patch
+  live_node : (n : ℕ) → Contains p.dependencies n → (x : Node) × Contains nodes x × (x.patch.place ≢ place.Disk) × (pending_in nodes n ≡ x.pending)
+  live_node n c =
+      let l = live n c in
+      let x = node_of_patch nodes l.patch l.head in
+      (x.0, x.1, λ d. l.live (sym (ap (λ q. q.place) x.2) ∙ d), ap (pending_in nodes) (sym (ap (λ q. q.number) x.2 ∙ l.numbered)) ∙ pending_at nodes x.0 H.one_place_each.rising x.1)
+
+  named_small : (n : ℕ) → Contains p.dependencies n → n ≤ numbers
+  named_small n c = let l = live n c in let k = (H.one_place_each.numbered l.patch l.head).1 in let e = l.numbered in omega (arith, k, e)
+
+  abbrev below : Pending
+  below = joined (pending_in nodes) p.dependencies
+
+  -- nothing is pending of the row only where it is empty
+  none_named : below ≡ pending.Nothing → (n : ℕ) → Contains p.dependencies n → ⊥
+  none_named e n c =
+      let x = live_node n c in
+      x.2 ((S.placed x.0 x.1).0 (sym x.3 ∙ joined_nothing (pending_in nodes) p.dependencies e n c))
+
+  below_inside : (b : ℕ) → below ≡ pending.Block b → b < blocks
+  below_inside b e =
+      let n = joined_some (pending_in nodes) p.dependencies b e in
+      let x = live_node n.0 n.1 in
+      S.inside x.0 b x.1 (sym x.3 ∙ n.2)
+
+  new_head : Contains (patches_in nodes ++ p ∷ []) p
+  new_head = Contains-push (patches_in nodes) p
+
+  -- an empty patch or a sealed gate rests exactly where nothing is pending of its row
+  follower_placed : Follows p.kind → (below ≡ pending.Nothing) ↔ (p.place ≡ place.Disk)
+  follower_placed f = (
+    λ e. H'.on_disk_with_all.follows p new_head f (λ q c. absurd (none_named e q c)),
+    λ d. joined_all_nothing (pending_in nodes) p.dependencies (λ n c.
+        let l = live n c in
+        absurd (l.live (H'.on_disk_with_all.disk p new_head d n c l.patch (Contains-append_left (patches_in nodes) (p ∷ []) l.patch l.head) l.numbered))),
+  )
+
+  change_placed : (b : ℕ) (q : Place) → (of_change b q below ≡ pending.Nothing) ↔ (q ≡ place.Disk)
+  change_placed b place.Memory = (λ e. absurd (over_some b below e), λ d. cc)
+  change_placed b place.Flight = (λ e. absurd (over_some b below e), λ d. cc)
+  change_placed b place.Disk = (λ e. refl, λ d. refl)
+
+  kind_placed : (k : Kind) → p.kind ≡ k → (of_kind k p.place below ≡ pending.Nothing) ↔ (p.place ≡ place.Disk)
+  kind_placed (Change b at len grade) e = change_placed b p.place
+  kind_placed Empty e = follower_placed (subst Follows (sym e) tt)
+  kind_placed OpenGate e = let memory = H'.on_disk_with_all.open_gates p new_head e in (λ none. cc, λ d. cc)
+  kind_placed SealedGate e = follower_placed (subst Follows (sym e) tt)
+
+  change_inside : (c b : ℕ) (q : Place) → c < blocks → of_change c q below ≡ pending.Block b → b < blocks
+  change_inside c b place.Memory lt e = subst (λ k. k < blocks) (over_same c b below e) lt
+  change_inside c b place.Flight lt e = subst (λ k. k < blocks) (over_same c b below e) lt
+  change_inside c b place.Disk lt e = cc
+
+  kind_inside : (k : Kind) (b : ℕ) → p.kind ≡ k → of_kind k p.place below ≡ pending.Block b → b < blocks
+  kind_inside (Change c at len grade) b e same = change_inside c b p.place (on c (ap block_of_kind e)) same
+  kind_inside Empty b e same = below_inside b same
+  kind_inside OpenGate b e same = cc
+  kind_inside SealedGate b e same = below_inside b same
+
+  new_settled : SettledAt (pending_in nodes) blocks (new_node nodes p)
+  new_settled = record { summed = refl; settled = refl; placed = kind_placed p.kind refl; inside = λ b. kind_inside p.kind b refl }
+
+  old_told : (x : Node) → Contains nodes x → (n : ℕ) → Contains (linked_to p.dependencies p.number x).patch.dependencies n → pending_in (with_node nodes p) n ≡ pending_in nodes n
+  old_told x c n named =
+      same_told n (H.one_place_each.named x.patch n (patch_in nodes x c) (subst (λ (q : Patch). Contains q.dependencies n) (linked_patch p.dependencies p.number x) named))
+
+  pub made_settled : AreSettled (with_node nodes p) blocks
+  made_settled =
+      settled_all (with_node nodes p) blocks (λ a ca.
+      elim (made_was nodes numbers p H.one_place_each next rising live a ca) [
+        | inl x ↦
+            subst (SettledAt (pending_in (with_node nodes p)) blocks) x.2
+            (settled_told (pending_in nodes) (pending_in (with_node nodes p)) blocks (linked_to p.dependencies p.number x.0) (old_told x.0 x.1)
+            (settled_linked (pending_in nodes) blocks p.dependencies p.number x.0 (settled_in nodes blocks S x.0 x.1)))
+        | inr d ↦
+            subst (SettledAt (pending_in (with_node nodes p)) blocks) d
+            (settled_told (pending_in nodes) (pending_in (with_node nodes p)) blocks (new_node nodes p) (λ n c. same_told n (named_small n c)) new_settled)
+      ])
+
+-- an open gate that gains names
+
+-- what is pending of it stays
+gate_settled : (told : ℕ → Pending) (blocks : ℕ) (names : List ℕ) (x : Node) → x.patch.kind ≡ OpenGate → SettledAt told blocks x → SettledAt told blocks (gains_names names (sums_of told names) x)
+gate_settled told blocks names x gate s = record {
+  summed = ap (λ t. together t (sums_of told names)) s.summed ∙ sym (sums_append told x.patch.dependencies names);
+  settled = s.settled ∙ (ap (λ k. of_kind k x.patch.place (joined told x.patch.dependencies)) gate ∙ sym (ap (λ k. of_kind k x.patch.place (joined told (x.patch.dependencies ++ names))) gate));
+  placed = s.placed;
+  inside = s.inside;
+}
+
+gained_pending : (b : Bool) (names : List ℕ) (sums : Sums) (x : Node) → (if b then gains_names names sums x else x).pending ≡ x.pending
+gained_pending true names sums x = refl
+gained_pending false names sums x = refl
+
+module _ (nodes : List Node) (numbers blocks g : ℕ) (names : List ℕ) (H : HeadsAreLawful (patches_in nodes) numbers) (S : AreSettled nodes blocks) (gate : IsOpenNumber (patches_in nodes) g) where
+  abbrev sums : Sums
+  sums = sums_of (pending_in nodes) names
+
+  names_told : (n : ℕ) → pending_in (with_names nodes g names sums) n ≡ pending_in nodes n
+  names_told n =
+      ap (λ xs. pending_in xs n) (both_nodes g names sums nodes)
+      ∙ pending_mapped (both g names sums) nodes (both_number g names sums) (λ x. pending_either (is_among names (at_number g (gains_names names sums) x).patch.number) g (at_number g (gains_names names sums) x) ∙ gained_pending (x.patch.number == g) names sums x) n
+
+  gained_settled : (x : Node) → Contains nodes x → SettledAt (pending_in nodes) blocks (at_number g (gains_names names sums) x)
+  gained_settled x c =
+      let s = settled_in nodes blocks S x c in
+      elim (cases_eq x.patch.number g) [
+        | inl e ↦
+            let same = same_number (patches_in nodes) x.patch gate.patch H.one_place_each.rising (patch_in nodes x c) gate.head (e ∙ sym gate.numbered) in
+            subst (SettledAt (pending_in nodes) blocks) (sym (at_same g (gains_names names sums) x e)) (gate_settled (pending_in nodes) blocks names x (ap (λ q. q.kind) same ∙ gate.is_open) s)
+        | inr ne ↦ subst (SettledAt (pending_in nodes) blocks) (sym (at_other g (gains_names names sums) x ne)) s
+      ]
+
+  pub depends_settled : AreSettled (with_names nodes g names sums) blocks
+  depends_settled =
+      settled_all (with_names nodes g names sums) blocks (λ a ca.
+      let x = named_was g names sums nodes a ca in
+      settled_told (pending_in nodes) (pending_in (with_names nodes g names sums)) blocks a (λ n c. names_told n)
+      (subst (SettledAt (pending_in nodes) blocks) x.2 (settled_linked (pending_in nodes) blocks names g (at_number g (gains_names names sums) x.0) (gained_settled x.0 x.1))))
+
+-- changes that are launched
+
+-- in flight as much is pending as in memory
+flight_same : (k : Kind) (q : Pending) → of_kind k place.Memory q ≡ of_kind k place.Flight q
+flight_same (Change b at len grade) q = refl
+flight_same Empty q = refl
+flight_same OpenGate q = refl
+flight_same SealedGate q = refl
+
+flight_settled : (told : ℕ → Pending) (blocks : ℕ) (x : Node) → x.patch.place ≡ place.Memory → SettledAt told blocks x → SettledAt told blocks (record x { patch = record x.patch { place = place.Flight } })
+flight_settled told blocks x memory s = record {
+  summed = s.summed;
+  settled = s.settled ∙ (ap (λ q. of_kind x.patch.kind q (joined told x.patch.dependencies)) memory ∙ flight_same x.patch.kind (joined told x.patch.dependencies));
+  placed = (λ e. let d = s.placed.0 e in cc, λ d. cc);
+  inside = s.inside;
+}
+
+launched_either : (told : ℕ → Pending) (blocks : ℕ) (t : Bool) (x : Node) → (t ≡ true → x.patch.place ≡ place.Memory) → SettledAt told blocks x
+    → SettledAt told blocks (record x { patch = if t then record x.patch { place = place.Flight } else x.patch })
+launched_either told blocks true x memory s = flight_settled told blocks x (memory refl) s
+launched_either told blocks false x memory s = record { summed = s.summed; settled = s.settled; placed = s.placed; inside = s.inside }
+
+-- what is ready is in memory
+pub ready_memory : (b : ℕ) (nodes : List Node) (n : ℕ) → Contains (ready_on b nodes) n → (x : Node) × Contains nodes x × (x.patch.number ≡ n) × (x.patch.place ≡ place.Memory)
+ready_memory b nodes n c =
+    let r = In-unmap (λ (x : Node). x.patch.number) (filter (is_ready_on b) nodes) n (In-from_Contains _ n c) in
+    let k = filter_in (is_ready_on b) nodes r.0 r.1 in
+    (r.0, Contains-from_In nodes r.0 k.0, r.2, (change_at place.Memory b r.0.patch (and_parts (is_change_at place.Memory b r.0.patch) _ k.1).0).1)
+
+pub launched_settled : (nodes : List Node) (numbers blocks b : ℕ) → HeadsAreLawful (patches_in nodes) numbers → AreSettled nodes blocks → AreSettled (map (launches (ready_on b nodes)) nodes) blocks
+launched_settled nodes numbers blocks b H S =
+    let f = launches (ready_on b nodes) in
+    settled_all (map f nodes) blocks (λ a ca.
+    let x = unmapped f nodes a ca in
+    settled_told (pending_in nodes) (pending_in (map f nodes)) blocks a
+    (λ n c. pending_mapped f nodes (λ y. number_if (is_among (ready_on b nodes) y.patch.number) y.patch _ refl) (λ y. refl) n)
+    (subst (SettledAt (pending_in nodes) blocks) x.2
+    (launched_either (pending_in nodes) blocks (is_among (ready_on b nodes) x.0.patch.number) x.0
+    (λ t.
+    let y = ready_memory b nodes x.0.patch.number (Contains-from_In _ x.0.patch.number (among_in (ready_on b nodes) x.0.patch.number t)) in
+    let same = same_number (patches_in nodes) y.0.patch x.0.patch H.one_place_each.rising (patch_in nodes y.0 y.1) (patch_in nodes x.0 x.1) y.2 in
+    ap (λ q. q.place) (sym same) ∙ y.3)
+    (settled_in nodes blocks S x.0 x.1))))
+
+-- patches that are forgotten
+
+on_disk : (p : Place) → not (is_at p place.Disk) ≡ false → p ≡ place.Disk
+on_disk place.Memory e = cc
+on_disk place.Flight e = cc
+on_disk place.Disk e = refl
+
+pub dropped_settled : (nodes : List Node) (numbers blocks : ℕ) → HeadsAreLawful (patches_in nodes) numbers → AreSettled nodes blocks → AreSettled (filter (λ x. is_live x.patch) nodes) blocks
+dropped_settled nodes numbers blocks H S =
+    let new = filter (λ (x : Node). is_live x.patch) nodes in
+    settled_all new blocks (λ a ca.
+    let was = filter_in (λ (x : Node). is_live x.patch) nodes a (In-from_Contains new a ca) in
+    settled_told (pending_in nodes) (pending_in new) blocks a
+    (λ n c. pending_dropped nodes H.one_place_each.rising (λ x h dead. (S.placed x (Contains-from_In nodes x h)).1 (on_disk x.patch.place dead)) n)
+    (settled_in nodes blocks S a (Contains-from_In nodes a was.0)))
