@@ -1,4 +1,5 @@
-//! The patches that are not forgotten. Each question is answered by a walk over them.
+//! The patches that are not forgotten. What stands beside them tells what may be written, so that most calls look at the
+//! patches that they touch, and at those that depend on these.
 
 ghost use Rattle.std.specs.Prelude.{◌≡◌, ◌<◌, ◌≤◌, ◌++◌, ◌∷◌, [], IfOk, IfErr, OnErr, IfSome, IfNone, OnOk, option_map, MatchResult, vec_len, vec_capacity, ℕ, ◌↔◌, IsTrue, IsSome, count_by};
 ghost use Rattle.fst_types.specs.Patches.{Patch};
@@ -360,9 +361,9 @@ impl Graph {
     }
 
     /// Makes room for a new change, and answers the number and the grade that `add_data` with these arguments will answer.
-    /// It is refused as `add_data` is. For the grade it walks a few times over the patches that are not forgotten, and once
-    /// more for each round of blocks that lead to this one. What is prepared is gone after any other call that may change
-    /// the graph, and after a refused `room`.
+    /// It is refused as `add_data` is. Where the patches near the change do not tell the grade, it walks a few times over
+    /// the patches that are not forgotten, and once more for each round of blocks that lead to this one. What is prepared
+    /// is gone after any other call that may change the graph, and after a refused `room`.
     pub fn room(
         &mut self,
         block: BlockNo,

@@ -1,4 +1,4 @@
-//! Which block may be written next.
+//! Which block may be written next, by walks over all patches: slow, for tests, which compare it with the marks.
 
 ghost use Rattle.std.specs.Prelude.{◌≡◌, ◌<◌, ℕ, length, MatchOption, option_map};
 ghost use Rattle.fst_types.specs.Closure.{IsAcyclic};
