@@ -15,4 +15,3 @@ pub mod Lists
 pub mod Standings
 pub mod Spreading
 pub mod Cascaded
-pub mod Descending

@@ -3,7 +3,6 @@
 
 mod cascade;
 mod choice;
-mod descent;
 mod gates;
 mod grade;
 mod graph;
