@@ -72,7 +72,7 @@ on_from b n Empty p e = absurd (false≢true e)
 on_from b n OpenGate p e = absurd (false≢true e)
 on_from b n SealedGate p e = absurd (false≢true e)
 
-on_to : (b n : ℕ) (k : Kind) (p : Place) → (p ≡ place.Disk → ⊥) → block_of_kind k ≡ Some b → kind_passes (test.LiveOn b) n k p ≡ true
+pub on_to : (b n : ℕ) (k : Kind) (p : Place) → (p ≡ place.Disk → ⊥) → block_of_kind k ≡ Some b → kind_passes (test.LiveOn b) n k p ≡ true
 on_to b n (Change on at len grade) p live e = rw (place_live p live, eq-eqb on b (some_injective on b e)) refl
 on_to b n Empty p live e = cc
 on_to b n OpenGate p live e = cc
@@ -84,7 +84,7 @@ off_from b n Empty p e = absurd (false≢true e)
 off_from b n OpenGate p e = absurd (false≢true e)
 off_from b n SealedGate p e = absurd (false≢true e)
 
-off_to : (b n c : ℕ) (k : Kind) (p : Place) → (p ≡ place.Disk → ⊥) → block_of_kind k ≡ Some c → c ≢ b → kind_passes (test.LiveOff b) n k p ≡ true
+pub off_to : (b n c : ℕ) (k : Kind) (p : Place) → (p ≡ place.Disk → ⊥) → block_of_kind k ≡ Some c → c ≢ b → kind_passes (test.LiveOff b) n k p ≡ true
 off_to b n c (Change on at len grade) p live e other = rw (place_live p live, ne_eqb on b (λ s. other (sym (some_injective on c e) ∙ s))) refl
 off_to b n c Empty p live e other = cc
 off_to b n c OpenGate p live e other = cc

@@ -61,3 +61,9 @@ pub mod Borne
 pub mod Launches
 pub mod Slotted
 pub mod Popping
+pub mod Visiting
+pub mod Descended
+pub mod Crossing
+pub mod Holding
+pub mod Away
+pub mod Beneath

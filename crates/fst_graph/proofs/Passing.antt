@@ -27,7 +27,7 @@ passes_at t nodes n = list_any (λ x. (x.patch.number == n) && t x) nodes
 abbrev pub passing : (Node → Bool) → List Head → List Listed → List ℕ
 passing t heads list = filter (passes_at t (nodes_of heads)) (map (λ e. e.number) (entries_of list))
 
-memory_live : (p : Place) (t : Bool) → (is_at p place.Memory && t) ≡ true → (not (is_at p place.Disk) && t) ≡ true
+pub memory_live : (p : Place) (t : Bool) → (is_at p place.Memory && t) ≡ true → (not (is_at p place.Disk) && t) ≡ true
 memory_live place.Memory t e = e
 memory_live place.Flight t e = absurd (false≢true e)
 memory_live place.Disk t e = absurd (false≢true e)

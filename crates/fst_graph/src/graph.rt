@@ -1,7 +1,7 @@
 //! The patches that are not forgotten. What stands beside them tells what may be written, so that most calls look at the
 //! patches that they touch, and at those that depend on these.
 
-ghost use Rattle.std.specs.Prelude.{◌≡◌, ◌<◌, ◌≤◌, ◌++◌, ◌∷◌, [], IfOk, IfErr, OnErr, IfSome, IfNone, OnOk, option_map, MatchResult, vec_len, vec_capacity, ℕ, ◌↔◌, IsTrue, IsSome, count_by};
+ghost use Rattle.std.specs.Prelude.{◌≡◌, ◌+◌, ◌<◌, ◌≤◌, ◌++◌, ◌∷◌, [], IfOk, IfErr, OnErr, IfSome, IfNone, OnOk, option_map, MatchResult, vec_len, vec_capacity, ℕ, ◌↔◌, IsTrue, IsSome, count_by};
 ghost use Rattle.fst_types.specs.Patches.{Patch};
 ghost use Rattle.fst_types.specs.Looks.{place_of, IsPick};
 ghost use Rattle.fst_types.specs.Order.{room_order, make_order, seal_order, depend_order};
@@ -25,10 +25,10 @@ use crate::pick::least_writable;
 use crate::places::{block_of, keep_live, keep_live_numbers, launch_all, live_count};
 use crate::prepared::{Prepared, prepare};
 use crate::refusals::{make_fault, room_fault};
-use crate::row::{is_given, live_named, row_sums};
+use crate::row::{dependencies_of, is_given, live_named, row_sums};
 use crate::standing::{Standing, empty_standings, is_resting, land_at, least_marked};
 use crate::test::Test;
-use crate::walked::are_placed;
+use crate::walked::{are_placed, grade_by_walk};
 use fst_types::{BlockNo, Fault, Grade, PatchNo, Place, Shape, Span};
 use smallvec::SmallVec;
 use std::alloc::{AllocError, Global};
@@ -361,9 +361,9 @@ impl Graph {
     }
 
     /// Makes room for a new change, and answers the number and the grade that `add_data` with these arguments will answer.
-    /// It is refused as `add_data` is. Where the patches near the change do not tell the grade, it walks a few times over
-    /// the patches that are not forgotten, and once more for each round of blocks that lead to this one. What is prepared
-    /// is gone after any other call that may change the graph, and after a refused `room`.
+    /// It is refused as `add_data` is. Where the patches near the change do not tell the grade, it looks at what the
+    /// change depends on and at what may hold that back, at each patch once. What is prepared is gone after any other call
+    /// that may change the graph, and after a refused `room`.
     pub fn room(
         &mut self,
         block: BlockNo,
@@ -384,11 +384,11 @@ impl Graph {
         let Ok(prepared) = prepare(
             self.alloc,
             &self.heads,
-            &self.lists[block.0 as usize],
+            &self.lists,
             &self.standings,
-            &self.order,
             &mut self.marks,
             &mut self.reached,
+            &mut self.queue,
             block.0,
             span,
             after,
@@ -414,6 +414,35 @@ impl Graph {
         let grade = prepared.grade;
         self.prepared = Some(prepared);
         Ok((PatchNo(self.numbers + 1), grade))
+    }
+
+    // The grade of such a change by walks over the patches, for tests.
+    pub(crate) fn grade_by_walk(
+        &mut self,
+        block: BlockNo,
+        span: Span,
+        after: &[PatchNo],
+    ) -> Result<Grade, Fault>
+        requires { block.0 < self.old.blocks }
+        ensures ok { IfOk result (λ grade. Foresees (unprepared self.old) block.0 span.at span.len (numbers_of after.now) (self.old.numbers + 1) grade) }
+        ensures same { self.new ≡ unprepared self.old }
+    {
+        self.prepared = None;
+        if let Some(fault) = make_fault(&self.heads, self.numbers, after) {
+            return Err(fault);
+        }
+        let list = &self.lists[block.0 as usize];
+        let Ok(row) = dependencies_of(self.alloc, &self.heads, list, block.0, span, after) else {
+            return Err(Fault::Memory);
+        };
+        Ok(grade_by_walk(
+            &self.heads,
+            &self.order,
+            &mut self.marks,
+            &mut self.reached,
+            block.0,
+            row.as_slice(),
+        ))
     }
 
     // Whether a change with these arguments is prepared.

@@ -3,6 +3,7 @@
 
 mod cascade;
 mod choice;
+mod descent;
 mod gates;
 mod grade;
 mod graph;

@@ -1,9 +1,7 @@
 //! The change that `room` made room for. It is kept whole, so that `add_data` with the same arguments only puts it
 //! down, which takes no memory and is not refused.
 
-ghost use Rattle.std.specs.Prelude.{◌≡◌, ◌↔◌, ◌<◌, IsTrue, IfOk, true, length};
-ghost use Rattle.fst_types.specs.Closure.{IsAcyclic};
-ghost use Rattle.fst_types.specs.Dependencies.{DirectlyOn};
+ghost use Rattle.std.specs.Prelude.{◌≡◌, ◌↔◌, ◌<◌, ◌≤◌, [], IsTrue, IfOk, true, length, map, vec_capacity};
 ghost use Rattle.fst_types.specs.Facts.{IsOnDiskWithAll, HardNeverHold};
 ghost use Rattle.fst_types.specs.Grades.{FollowsRule};
 ghost use Rattle.fst_types.specs.Lists.{Lists};
@@ -11,9 +9,8 @@ ghost use Rattle.fst_graph.specs.Grading.{MayBeHard};
 ghost use Rattle.fst_graph.specs.Heads.{IsRising, patches_of};
 ghost use Rattle.fst_graph.specs.Keeps.{IsInside};
 ghost use Rattle.fst_graph.specs.Known.{numbers_of};
-ghost use Rattle.fst_graph.specs.Lists.{entries_of, entries_on};
+ghost use Rattle.fst_graph.specs.Lists.{entries_of, AreListed};
 ghost use Rattle.fst_graph.specs.Nodes.{nodes_of, AreSettled};
-ghost use Rattle.fst_graph.specs.Ordered.{IsOrdered};
 ghost use Rattle.fst_graph.specs.Rows.{IsDependency};
 ghost use Rattle.fst_graph.specs.Standings.{AllStand};
 
@@ -56,40 +53,44 @@ fn copy_of(alloc: Global, names: &[PatchNo]) -> Result<Vec<PatchNo>, AllocError>
 pub fn prepare(
     alloc: Global,
     heads: &[Head],
-    list: &[Listed],
+    lists: &[Vec<Listed>],
     standings: &[Standing],
-    order: &[u32],
     marks: &mut [bool],
     reached: &mut [bool],
+    queue: &mut Vec<u32>,
     block: u32,
     span: Span,
     names: &[PatchNo],
 ) -> Result<Prepared, AllocError>
     requires rising { IsRising heads.now }
     requires long { length marks.old ≡ length heads.now }
-    requires acyclic { IsAcyclic (DirectlyOn (patches_of heads.now)) }
+    requires room { length heads.now ≤ vec_capacity queue.old }
+    requires idle { queue.old.items ≡ [] }
     requires hard { HardNeverHold (patches_of heads.now) }
-    requires ordered { IsOrdered (patches_of heads.now) order.now }
     requires inside { IsInside (patches_of heads.now) (length reached.old) }
     requires block { block < length reached.old }
     requires disk { IsOnDiskWithAll (patches_of heads.now) }
     requires settled { AreSettled (nodes_of heads.now) (length standings.now) }
     requires standing { AllStand (nodes_of heads.now) (length standings.now) standings.now }
-    requires listed { entries_of list.now ≡ entries_on block (patches_of heads.now) }
+    requires listed { AreListed (patches_of heads.now) (length reached.old) (map (λ l. entries_of l.items) lists.now) }
     ensures block { IfOk result (λ p. p.block ≡ block) }
     ensures span { IfOk result (λ p. p.span ≡ span) }
     ensures names { IfOk result (λ p. p.names.items ≡ names.now) }
     ensures depends { IfOk result (λ p. Lists (IsDependency (patches_of heads.now) (numbers_of names.now) block span.at span.len) p.dependencies.items) }
     ensures graded { IfOk result (λ p. FollowsRule p.grade (MayBeHard (patches_of heads.now) block p.dependencies.items)) }
+    ensures idle { queue.new.items ≡ queue.old.items }
+    ensures capacity { vec_capacity queue.new ≡ vec_capacity queue.old }
 {
+    let list = &lists[block as usize];
     let dependencies = dependencies_of(alloc, heads, list, block, span, names)?;
     let names = copy_of(alloc, names)?;
     let grade = grade_of(
         heads,
+        lists,
         standings,
-        order,
         marks,
         reached,
+        queue,
         block,
         dependencies.as_slice(),
     );

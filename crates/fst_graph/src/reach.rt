@@ -1,6 +1,7 @@
 //! The blocks from which the block graph leads to a block. An edge goes from a block to another where a hard change of
 //! the one in memory depends on a change of the other that is not on disk. The walk goes against the edges: from the
-//! changes of the blocks found so far to the hard changes that depend on them, until no block is new.
+//! changes of the blocks found so far to the hard changes that depend on them, until no block is new. The grade by walks
+//! asks for them.
 
 ghost use Rattle.std.specs.Prelude.{◌≡◌, ◌<◌, ℕ, true, length, MatchOption, MatchBool};
 ghost use Rattle.fst_types.specs.Closure.{IsAcyclic};
@@ -99,7 +100,7 @@ fn widen(heads: &[Head], order: &[u32], marks: &mut [bool], reached: &mut [bool]
 }
 
 // Only the block is reached.
-fn show_only(reached: &mut [bool], block: u32)
+pub fn show_only(reached: &mut [bool], block: u32)
     requires { block < length reached.old }
     ensures { ShowsBlocks reached.new (λ c. c ≡ block) }
 {

@@ -29,7 +29,7 @@ use fst_types::Place;
 const MOST_STEPS: u32 = 4_096;
 
 // Whether the patch with the number passes.
-fn passes_at(heads: &[Head], test: Test, number: u32) -> bool
+pub fn passes_at(heads: &[Head], test: Test, number: u32) -> bool
     requires { IsRising heads.now }
     ensures { IsTrue result ↔ PassesAt test (patches_of heads.now) number }
 {
@@ -40,7 +40,7 @@ fn passes_at(heads: &[Head], test: Test, number: u32) -> bool
 }
 
 // Whether one of the row passes.
-fn names_passing(heads: &[Head], test: Test, row: &[u32]) -> bool
+pub fn names_passing(heads: &[Head], test: Test, row: &[u32]) -> bool
     requires { IsRising heads.now }
     ensures { IsTrue result ↔ ((n : ℕ) × Contains row.now n × PassesAt test (patches_of heads.now) n) }
 {
@@ -68,7 +68,7 @@ fn is_hard_in(head: &Head, block: u32) -> bool
 }
 
 // Whether the number is that of such a change.
-fn is_hard_number(heads: &[Head], block: u32, number: u32) -> bool
+pub fn is_hard_number(heads: &[Head], block: u32, number: u32) -> bool
     requires { IsRising heads.now }
     ensures { IsTrue result ↔ IsHardNumber (patches_of heads.now) block number }
 {

@@ -5,8 +5,8 @@ ghost use Rattle.std.specs.Prelude.{◌≡◌, ◌<◌, ◌≤◌};
 
 use crate::graph::Graph;
 use crate::tests::same::{
-    same_answer, same_block, same_change, same_count, same_held, same_number, same_patches,
-    same_place,
+    same_answer, same_block, same_change, same_count, same_grade, same_held, same_number,
+    same_patches, same_place,
 };
 use crate::tests::twin::Twin;
 use fst_types::{BlockNo, Fault, Grade, PatchNo, Shape, Span};
@@ -107,8 +107,10 @@ impl Pair {
         let span = Span { at, len };
         let names = dice.names(self.alloc, self.twin.numbers())?;
         let is_foreseen = dice.roll(2) == 0;
+        let walked = self.graph.grade_by_walk(block, span, &names);
         let made = answer_to(rt, &mut self.graph, block, span, &names, is_foreseen);
         same_change(rt, made, self.twin.try_data(block, span, &names)?);
+        same_grade(rt, made, walked);
         Ok(())
     }
 

@@ -1,5 +1,5 @@
-//! What large graphs take: seconds for a chain of changes on one block, a chain over 64 blocks, a fan behind a gate, and
-//! pairs of which one change waits for one of another block.
+//! What large graphs take: seconds for a chain of changes on one block, a chain over 64 blocks, a fan behind a gate, pairs
+//! of which one change waits for one of another block, and two in which blocks hold one another back: a ring and a ladder.
 
 ghost use Rattle.std.specs.Prelude.{◌≡◌, ◌<◌};
 
@@ -72,6 +72,33 @@ impl Wide {
         Ok(())
     }
 
+    // Changes of all blocks in turn, each after the newest of the next block.
+    fn ring(&mut self, count: u32) -> Result<(), Fault> {
+        for turn in 0..count {
+            let block = turn % 64;
+            if turn < 63 {
+                self.add(block, turn / 64, &[])?;
+            } else {
+                self.add(block, turn / 64, &[PatchNo(turn - 62)])?;
+            }
+        }
+        Ok(())
+    }
+
+    // On each block in turn a change that waits for none, and one that waits for such a change of the block before.
+    fn ladder(&mut self, count: u32) -> Result<(), Fault> {
+        let mut low = self.add(0, 0, &[])?;
+        for turn in 1..count / 2 {
+            let block = turn % 64;
+            let next = self.add(block, turn * 2, &[])?;
+            if block != 0 {
+                self.add(block, turn * 2 + 1, &[low])?;
+            }
+            low = next;
+        }
+        Ok(())
+    }
+
     // Writes block after block until nothing is left, at most so many times.
     fn write(&mut self, times: u32) -> Result<(), Fault> {
         for _ in 0..times {
@@ -93,6 +120,8 @@ enum Form {
     WideChain,
     Fan,
     Pairs,
+    Ring,
+    Ladder,
 }
 
 fn build(wide: &mut Wide, form: Form, count: u32) -> Result<(), Fault> {
@@ -101,6 +130,8 @@ fn build(wide: &mut Wide, form: Form, count: u32) -> Result<(), Fault> {
         Form::WideChain => wide.chain(count, 64),
         Form::Fan => wide.fan(count),
         Form::Pairs => wide.pairs(count),
+        Form::Ring => wide.ring(count),
+        Form::Ladder => wide.ladder(count),
     }
 }
 
@@ -173,4 +204,14 @@ fn fan_behind_a_gate(rt: HostRuntime) -> Result<(), Fail> {
 #[test]
 fn pairs_over_two_blocks(rt: HostRuntime) -> Result<(), Fail> {
     measure_all(&rt, rt.alloc(), Form::Pairs)
+}
+
+#[test]
+fn ring_of_blocks(rt: HostRuntime) -> Result<(), Fail> {
+    measure_all(&rt, rt.alloc(), Form::Ring)
+}
+
+#[test]
+fn ladder_of_blocks(rt: HostRuntime) -> Result<(), Fail> {
+    measure_all(&rt, rt.alloc(), Form::Ladder)
 }

@@ -1,4 +1,4 @@
-use Rattle.std.proofs.Common.{◌≡◌, ◌+◌, ◌++◌, ◌∷◌, [], ◌<◌, ◌≤◌, ◌∙◌, rules, arith, length, None, inl, ap, sym, subst, refl}
+use Rattle.std.proofs.Common.{◌≡◌, ◌+◌, ◌++◌, ◌∷◌, [], ◌<◌, ◌≤◌, ◌∙◌, rules, arith, length, vec_capacity, None, inl, ap, sym, subst, refl}
 use Rattle.fst_types.specs.Grades.{FollowsRule}
 use Rattle.fst_types.specs.Refusals.{NoneHolds}
 use Rattle.fst_types.specs.Order.{make_order}
@@ -9,7 +9,7 @@ use Rattle.fst_graph.specs.Grading.{MayBeHard}
 use Rattle.fst_graph.specs.Heads.{patches_of}
 use Rattle.fst_graph.specs.Known.{Known, numbers_of}
 use Rattle.fst_graph.specs.Rows.{IsDependency}
-use Rattle.std.proofs.lemmas.List.{length-map, get_or-map}
+use Rattle.std.proofs.lemmas.List.{length-map}
 use Rattle.fst_graph.specs.Lists.{entries_of}
 use Rattle.fst_graph.specs.Nodes.{nodes_of, AreSettled, HasRoomAbove}
 use Rattle.fst_graph.specs.Standings.{AllStand}
@@ -60,20 +60,10 @@ returns-clause-ok c =
 pub prepare-requires-clause-hard : goal.prepare-requires-clause-hard
 prepare-requires-clause-hard c = rw c.deref-2.ensures.value c.self.invariant.0.lawful.hard_never_hold
 
-pub index-requires : goal.index-requires
-index-requires c =
-    let inside = subst (λ (v : Known). c.args.block.0 < v.blocks) (sym c.self.view_is) c.requires in
-    omega (arith, inside, c.self.invariant.4.listed.long, length-map c.self.inside.lists.items (λ l. entries_of l.items), c.self.inside.lists.ok.0)
-
 pub prepare-requires-clause-listed : goal.prepare-requires-clause-listed
 prepare-requires-clause-listed c =
-    let lists = c.self.inside.lists.items in
-    let b = c.args.block.0 in
-    let inside = subst (λ (v : Known). b < v.blocks) (sym c.self.view_is) c.requires in
-    let T = c.self.invariant.4 in
-    let lt : b < length lists = omega (arith, inside, T.listed.long, length-map lists (λ l. entries_of l.items)) in
-    rw (c.deref-3.ensures.value, c.index.ensures, c.deref-2.ensures.value, ← patches_in_nodes c.self.inside.heads.items)
-    (sym (get_or-map _ lists b _ [] lt) ∙ T.listed.each b [] inside)
+    let blocks : length c.deref_mut-2.result.now ≡ c.self.inside.blocks = ap length c.deref_mut-2.ensures.value ∙ c.self.invariant.3 in
+    rw (c.deref-3.ensures.value, blocks, c.deref-2.ensures.value, ← patches_in_nodes c.self.inside.heads.items) c.self.invariant.4.listed
 
 pub prepare-requires-clause-inside : goal.prepare-requires-clause-inside
 prepare-requires-clause-inside c =
@@ -89,7 +79,7 @@ invariant_of-self-then-is_err c =
       tt,
       tt,
       reached ∙ c.self.invariant.3,
-      rw c.reserve_one.ensures.heads (tallies_wider _ c.self.inside.numbers c.self.inside.blocks _ _ _ _ _ _ c.self.invariant.4 c.reserve_one.ensures.queue c.reserve_one.ensures.wide),
+      rw c.reserve_one.ensures.heads (tallies_wider _ c.self.inside.numbers c.self.inside.blocks _ _ _ _ _ _ c.self.invariant.4 (c.reserve_one.ensures.queue ∙ c.prepare.ensures.idle) (subst (λ n. n ≤ vec_capacity c.reserve_one.new.queue) c.prepare.ensures.capacity c.reserve_one.ensures.wide)),
       tt,
       tt,
     )
@@ -105,7 +95,7 @@ invariant_of-self-then-is_err-2 c =
       tt,
       tt,
       reached ∙ c.self.invariant.3,
-      rw still (tallies_wider _ c.self.inside.numbers c.self.inside.blocks _ _ _ _ _ _ c.self.invariant.4 c.reserve_one.ensures.queue c.reserve_one.ensures.wide),
+      rw still (tallies_wider _ c.self.inside.numbers c.self.inside.blocks _ _ _ _ _ _ c.self.invariant.4 (c.reserve_one.ensures.queue ∙ c.prepare.ensures.idle) (subst (λ n. n ≤ vec_capacity c.reserve_one.new.queue) c.prepare.ensures.capacity c.reserve_one.ensures.wide)),
       tt,
       tt,
     )
@@ -122,7 +112,7 @@ invariant_of-self-then-is_err-3 c =
       tt,
       reached ∙ c.self.invariant.3,
       rw (still, shelved_same c.self.inside.lists.items c.args.block.0 c.index_mut.result.now c.reserve.new.self c.index_mut.ensures.value c.reserve.ensures.items)
-          (tallies_wider _ c.self.inside.numbers c.self.inside.blocks _ _ _ _ _ _ c.self.invariant.4 c.reserve_one.ensures.queue c.reserve_one.ensures.wide),
+          (tallies_wider _ c.self.inside.numbers c.self.inside.blocks _ _ _ _ _ _ c.self.invariant.4 (c.reserve_one.ensures.queue ∙ c.prepare.ensures.idle) (subst (λ n. n ≤ vec_capacity c.reserve_one.new.queue) c.prepare.ensures.capacity c.reserve_one.ensures.wide)),
       tt,
       tt,
     )
@@ -155,7 +145,7 @@ invariant_of-self-2 c =
       rw (c.reserve_above.ensures.len, c.reserve_above.ensures.capacity) (record { heads_free = search rules; order_free = search rules; marks_free = search rules; queue_free = search rules }),
       reached ∙ c.self.invariant.3,
       rw (still, shelved_same c.self.inside.lists.items c.args.block.0 c.index_mut.result.now c.reserve.new.self c.index_mut.ensures.value c.reserve.ensures.items)
-          (tallies_wider _ n blocks _ _ _ _ _ _ c.self.invariant.4 c.reserve_one.ensures.queue c.reserve_one.ensures.wide),
+          (tallies_wider _ n blocks _ _ _ _ _ _ c.self.invariant.4 (c.reserve_one.ensures.queue ∙ c.prepare.ensures.idle) (subst (λ n. n ≤ vec_capacity c.reserve_one.new.queue) c.prepare.ensures.capacity c.reserve_one.ensures.wide)),
       rw (← c.as_slice.ensures) above,
       rw made.block (room_in_list c.self.inside.lists.items c.args.block.0 c.reserve.new.self (let i = inside in omega (arith, i, lists, ap (λ x. x) made.block)) (omega (arith, free))),
     )

@@ -3,7 +3,7 @@ use Rattle.fst_graph.specs.Heads.{patches_of}
 use Rattle.fst_graph.specs.Grading.{IsLeading}
 use Rattle.fst_graph.specs.Reaching.{ShowsBlocks, LeadsTo, IsOnReached}
 use Rattle.fst_graph.proofs.Graded.{named_under, above_same, reached_leads, leads_reached}
-use Rattle.fst_graph.proofs.grade.leads_to.Goals as goal
+use Rattle.fst_graph.proofs.walked.leads_to.Goals as goal
 
 pub returns : goal.returns
 returns c =

@@ -2,7 +2,7 @@ use Rattle.fst_graph.specs.Heads.{patches_of}
 use Rattle.fst_graph.specs.Grading.{IsReturning}
 use Rattle.fst_graph.proofs.Walk.{spreads_shows}
 use Rattle.fst_graph.proofs.Graded.{named_under, returning_shown}
-use Rattle.fst_graph.proofs.grade.returns_to.Goals as goal
+use Rattle.fst_graph.proofs.walked.returns_to.Goals as goal
 
 pub returns : goal.returns
 returns c =

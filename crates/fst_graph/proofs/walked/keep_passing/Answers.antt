@@ -4,8 +4,8 @@ use Rattle.fst_graph.specs.declared.head.Head.{Head}
 use Rattle.fst_graph.specs.Heads.{patch_of}
 use Rattle.fst_graph.specs.Tests.{passes}
 use Rattle.fst_graph.proofs.Graded.{keeping_none, keeping_drop, keeping_skip, keeping_all}
-use Rattle.fst_graph.proofs.grade.keep_passing.Goals as goal
-use Rattle.fst_graph.proofs.grade.keep_passing.Goals.{then-not-passes, else-not-passes}
+use Rattle.fst_graph.proofs.walked.keep_passing.Goals as goal
+use Rattle.fst_graph.proofs.walked.keep_passing.Goals.{then-not-passes, else-not-passes}
 
 pub loop-slot-init : goal.loop-slot-init
 loop-slot-init c = keeping_none c.args.heads.now c.args.test c.args.marks.now

@@ -3,7 +3,7 @@ use Rattle.fst_graph.specs.declared.test.Test.TheVariants as test
 use Rattle.fst_graph.specs.Heads.{patches_of}
 use Rattle.fst_graph.specs.Marks.{PassesAt}
 use Rattle.fst_graph.proofs.Graded.{named_under, above_same, passes_open, open_passes}
-use Rattle.fst_graph.proofs.grade.waits_for_gate.Goals as goal
+use Rattle.fst_graph.proofs.walked.waits_for_gate.Goals as goal
 
 pub returns : goal.returns
 returns c =
