@@ -10,7 +10,7 @@ use Rattle.fst_graph.specs.Tests.{is_hard_kind}
 use Rattle.fst_graph.specs.Marks.{Shows, IsAbove, PassesAt}
 use Rattle.fst_graph.proofs.Slots.{any_default}
 use Rattle.fst_graph.proofs.Obstacles.{held_in, held_out, least_first, none_held}
-use Rattle.fst_graph.proofs.choice.least_held.Goals as goal
+use Rattle.fst_graph.proofs.pick.least_held.Goals as goal
 
 pub loop-slot-preserved : goal.loop-slot-preserved
 loop-slot-preserved c k e up =

@@ -7,7 +7,7 @@ use Rattle.fst_graph.specs.declared.head.Head.{Head}
 use Rattle.fst_graph.specs.Heads.{patch_of}
 use Rattle.fst_graph.proofs.Slots.{any_default, patch_at}
 use Rattle.fst_graph.proofs.Obstacles.{none_at}
-use Rattle.fst_graph.proofs.choice.is_flying.Goals as goal
+use Rattle.fst_graph.proofs.pick.is_flying.Goals as goal
 
 pub loop-head-preserved : goal.loop-head-preserved
 loop-head-preserved c k e up inside =

@@ -9,7 +9,7 @@ use Rattle.fst_graph.specs.Heads.{patch_of, patches_of}
 use Rattle.fst_graph.specs.Marks.{Shows, IsAbove, PassesAt}
 use Rattle.fst_graph.proofs.Slots.{any_default}
 use Rattle.fst_graph.proofs.Obstacles.{ready_in, ready_out, none_ready}
-use Rattle.fst_graph.proofs.choice.has_ready.Goals as goal
+use Rattle.fst_graph.proofs.pick.has_ready.Goals as goal
 
 pub loop-slot-preserved : goal.loop-slot-preserved
 loop-slot-preserved c k e up inside =

@@ -10,8 +10,8 @@ use Rattle.fst_graph.specs.Marks.{Shows, IsAbove, PassesAt}
 use Rattle.fst_graph.proofs.Choosing.{Choosing, choosing_more, choosing_skip, choosing_all}
 use Rattle.fst_graph.proofs.Emptying.{map_push}
 use Rattle.fst_graph.proofs.Obstacles.{ready_in, ready_out}
-use Rattle.fst_graph.proofs.choice.writable_set.Goals as goal
-use Rattle.fst_graph.proofs.choice.writable_set.Goals.{then-is_ready+in-Ok, else-is_ready}
+use Rattle.fst_graph.proofs.pick.writable_set.Goals as goal
+use Rattle.fst_graph.proofs.pick.writable_set.Goals.{then-is_ready+in-Ok, else-is_ready}
 
 pub loop-slot-preserved : goal.loop-slot-preserved
 loop-slot-preserved c =

@@ -4,7 +4,7 @@ use Rattle.fst_graph.specs.declared.test.Test.TheVariants as test
 use Rattle.fst_graph.specs.Heads.{patches_of}
 use Rattle.fst_graph.specs.Marks.{Shows, IsAbove, PassesAt}
 use Rattle.fst_graph.proofs.Obstacles.{writable_yes}
-use Rattle.fst_graph.proofs.choice.is_writable.Goals as goal
+use Rattle.fst_graph.proofs.pick.is_writable.Goals as goal
 
 pub returns-then-ready : goal.returns-then-ready
 returns-then-ready c =
