@@ -1,0 +1,15 @@
+pub mod Deskwork
+pub mod Risings
+pub mod LanesSettled
+pub mod Quiet
+pub mod LanesSent
+pub mod DeskOut
+pub mod Outs
+pub mod Lanes
+pub mod RingLaws
+pub mod RingFlights
+pub mod RingSlots
+pub mod Sending
+pub mod Calls
+pub mod Taking
+pub mod Closing

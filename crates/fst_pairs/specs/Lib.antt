@@ -1,0 +1,10 @@
+pub mod Tickets
+pub mod WorkerView
+pub mod Carried
+pub mod Stepping
+pub mod Ends
+pub mod LaneView
+pub mod Collecting
+pub mod DeskView
+pub mod Desking
+pub mod Rings
