@@ -16,4 +16,3 @@ pub mod Standings
 pub mod Spreading
 pub mod Cascaded
 pub mod Descending
-pub mod Ascending

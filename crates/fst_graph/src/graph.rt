@@ -12,9 +12,8 @@ ghost use Rattle.fst_types.specs.Cascade.{IsCascadeOf};
 ghost use Rattle.fst_types.specs.declared.grade.Grade.{Grade};
 ghost use Rattle.fst_graph.specs.Known.{Known, unprepared, prepared_for, Foresees, numbers_of, rest_place, Refuses, AddsGate, AddsEmpty, AddsChange, SealsGate, DependsGate, Launches, IsStuckByGates, LandsBlock, MayLaunch, Forgets};
 
-use crate::ascent::mark_flight;
 use crate::cascade::{cascade, seal_slot};
-use crate::choice::{first_held, ready_set};
+use crate::choice::{first_held, least_held, ready_set, writable_set};
 use crate::gates::{depend_fault, gate_slot};
 use crate::growth::{gain, marked_last, missing_names};
 use crate::head::{Head, Kind};
@@ -22,12 +21,12 @@ use crate::links::{link, reserve_above};
 use crate::lists::{Listed, empty_lists, land_block};
 use crate::marks::{ask, slot_of};
 use crate::pending::{Pending, is_pending, no_sums, over_block};
-use crate::pick::{least_held, least_writable, writable_set};
+use crate::pick::least_writable;
 use crate::places::{block_of, keep_live, keep_live_numbers, launch_all, live_count};
 use crate::prepared::{Prepared, prepare};
 use crate::refusals::{make_fault, room_fault};
 use crate::row::{dependencies_of, is_given, live_named, row_sums};
-use crate::standing::{Standing, empty_standings, land_at, least_marked};
+use crate::standing::{Standing, empty_standings, is_resting, land_at, least_marked};
 use crate::test::Test;
 use crate::walked::{are_placed, grade_by_walk};
 use fst_types::{BlockNo, Fault, Grade, PatchNo, Place, Shape, Span};
@@ -253,21 +252,14 @@ impl Graph {
         ensures same { self.new ≡ unprepared self.old }
     {
         self.prepared = None;
-        let Some(list) = self.lists.get(block.0 as usize) else {
-            return Ok(Vec::new(self.alloc));
-        };
-        let flying = mark_flight(
-            &self.heads,
-            list,
-            &self.standings,
-            &mut self.marks,
-            &mut self.queue,
-            block.0,
-        );
-        ready_set(self.alloc, &self.heads, list, &self.marks, flying, block.0)
+        if is_resting(&self.standings, block.0) {
+            let list = &self.lists[block.0 as usize];
+            return ready_set(self.alloc, &self.heads, list, block.0);
+        }
+        self.chosen_by_walk(block)
     }
 
-    // The same by a walk over the patches, for tests.
+    // The same by one walk over the patches, which also serves a block with something in flight.
     pub(crate) fn chosen_by_walk(&mut self, block: BlockNo) -> Result<Vec<PatchNo>, Fault>
         ensures ok { IfOk result (λ numbers. IsWritableSet self.old.heads block.0 (numbers_of numbers.items)) }
         ensures refused { IfErr result (λ f. HasReady self.old.heads block.0 × (f ≡ Fault.Memory)) }
@@ -539,21 +531,13 @@ impl Graph {
         ensures same { self.new ≡ unprepared self.old }
     {
         self.prepared = None;
-        let Some(list) = self.lists.get(block.0 as usize) else {
-            return None;
-        };
-        let flying = mark_flight(
-            &self.heads,
-            list,
-            &self.standings,
-            &mut self.marks,
-            &mut self.queue,
-            block.0,
-        );
-        first_held(&self.heads, list, &self.marks, flying, block.0)
+        if is_resting(&self.standings, block.0) {
+            return first_held(&self.heads, &self.lists[block.0 as usize], block.0);
+        }
+        self.hard_held_by_walk(block)
     }
 
-    // The same by a walk over the patches, for tests.
+    // The same by one walk over the patches, which also serves a block with something in flight.
     pub(crate) fn hard_held_by_walk(&mut self, block: BlockNo) -> Option<PatchNo>
         ensures none { IfNone result ((p : Patch) → IsHeld self.old.heads block.0 p → ⊥) }
         ensures least { IfSome result (λ no. IsLeastHeld self.old.heads block.0 no.0) }

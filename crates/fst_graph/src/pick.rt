@@ -1,126 +1,21 @@
-//! What may be written of a block, and which block next, by walks over all patches: slow, for tests, which compare it with
-//! what the lists and the marks tell.
+//! Which block may be written next, by walks over all patches: slow, for tests, which compare it with the marks.
 
-ghost use Rattle.std.specs.Prelude.{◌≡◌, ◌<◌, ◌↔◌, ◌&&◌, not, ℕ, length, Contains, IsTrue, IfOk, IfErr, IfSome, IfNone, MatchOption, option_map};
-ghost use Rattle.fst_types.specs.declared.place.Place.TheVariants as place;
+ghost use Rattle.std.specs.Prelude.{◌≡◌, ◌<◌, ℕ, length, MatchOption, option_map};
 ghost use Rattle.fst_types.specs.Closure.{IsAcyclic};
 ghost use Rattle.fst_types.specs.Dependencies.{DirectlyOn};
 ghost use Rattle.fst_types.specs.Looks.{IsPick};
-ghost use Rattle.fst_types.specs.Patches.{Patch, IsOn};
-ghost use Rattle.fst_types.specs.Tests.{is_change_at};
-ghost use Rattle.fst_types.specs.Writable.{HasReady, IsHeld, IsInMemoryOn, IsLeastHeld, IsWritable, IsWritableSet};
-ghost use Rattle.fst_graph.specs.declared.test.Test.TheVariants as test;
-ghost use Rattle.fst_graph.specs.Heads.{IsRising, kind_of, patch_of, patches_of};
+ghost use Rattle.fst_types.specs.Patches.{Patch};
+ghost use Rattle.fst_types.specs.Writable.{IsInMemoryOn};
+ghost use Rattle.fst_graph.specs.Heads.{IsRising, patch_of, patches_of};
 ghost use Rattle.fst_graph.specs.Keeps.{IsInside};
-ghost use Rattle.fst_graph.specs.Known.{numbers_of};
-ghost use Rattle.fst_graph.specs.Marks.{IsAbove, PassesAt, Shows};
 ghost use Rattle.fst_graph.specs.Ordered.{IsOrdered};
 ghost use Rattle.fst_graph.specs.Picking.{memory_block, lesser, IsNextBlock};
-ghost use Rattle.fst_graph.specs.Tests.{is_hard_kind};
 
-use crate::choice::is_hard;
+use crate::choice::is_writable;
 use crate::head::{Head, Kind};
 use crate::marks::ask;
-use crate::places::is_change_at;
 use crate::test::Test;
-use fst_types::{BlockNo, Fault, PatchNo, Place};
-use std::alloc::Global;
-
-// Whether the patch is a change of the block in memory, and nothing keeps it there.
-fn is_ready(head: &Head, marked: bool, block: u32) -> bool
-    ensures { result ≡ (is_change_at place.Memory block (patch_of head.now) && not marked) }
-{
-    is_change_at(head, Place::Memory, block) && !marked
-}
-
-/// The writable set of the block. What an obstacle keeps out of it is marked.
-pub fn writable_set(
-    alloc: Global,
-    heads: &[Head],
-    marks: &[bool],
-    block: u32,
-) -> Result<Vec<PatchNo>, Fault>
-    requires rising { IsRising heads.now }
-    requires long { length marks.now ≡ length heads.now }
-    requires shown { Shows heads.now marks.now (IsAbove (patches_of heads.now) (PassesAt (test.Obstacle block) (patches_of heads.now))) }
-    ensures ok { IfOk result (λ numbers. IsWritableSet (patches_of heads.now) block (numbers_of numbers.items)) }
-    ensures refused { IfErr result (λ f. HasReady (patches_of heads.now) block × (f ≡ Fault.Memory)) }
-{
-    let mut numbers = Vec::new(alloc);
-    for (slot, head) in heads.iter().enumerate() {
-        if is_ready(head, marks[slot], block) {
-            let Ok(()) = numbers.push(PatchNo(head.number)) else {
-                return Err(Fault::Memory);
-            };
-        }
-    }
-    Ok(numbers)
-}
-
-// Whether the patch is a hard change of the block in memory that something keeps there.
-fn is_held(head: &Head, marked: bool, block: u32) -> bool
-    ensures { result ≡ (is_change_at place.Memory block (patch_of head.now) && is_hard_kind (kind_of head.now.kind) && marked) }
-{
-    is_change_at(head, Place::Memory, block) && is_hard(head.kind) && marked
-}
-
-/// The least hard patch of the block in memory outside its writable set.
-pub fn least_held(heads: &[Head], marks: &[bool], block: u32) -> Option<PatchNo>
-    requires rising { IsRising heads.now }
-    requires long { length marks.now ≡ length heads.now }
-    requires shown { Shows heads.now marks.now (IsAbove (patches_of heads.now) (PassesAt (test.Obstacle block) (patches_of heads.now))) }
-    ensures none { IfNone result ((p : Patch) → IsHeld (patches_of heads.now) block p → ⊥) }
-    ensures least { IfSome result (λ no. IsLeastHeld (patches_of heads.now) block no.0) }
-{
-    for (slot, head) in heads.iter().enumerate() {
-        if is_held(head, marks[slot], block) {
-            return Some(PatchNo(head.number));
-        }
-    }
-    None
-}
-
-// Whether something of the block is in flight.
-fn is_flying(heads: &[Head], block: u32) -> bool
-    ensures { IsTrue result ↔ ((p : Patch) × Contains (patches_of heads.now) p × IsOn p block × (p.place ≡ place.Flight)) }
-{
-    for head in heads {
-        if is_change_at(head, Place::Flight, block) {
-            return true;
-        }
-    }
-    false
-}
-
-// Whether the writable set of the block has a patch.
-fn has_ready(heads: &[Head], marks: &[bool], block: u32) -> bool
-    requires rising { IsRising heads.now }
-    requires long { length marks.now ≡ length heads.now }
-    requires shown { Shows heads.now marks.now (IsAbove (patches_of heads.now) (PassesAt (test.Obstacle block) (patches_of heads.now))) }
-    ensures { IsTrue result ↔ HasReady (patches_of heads.now) block }
-{
-    for (slot, head) in heads.iter().enumerate() {
-        if is_ready(head, marks[slot], block) {
-            return true;
-        }
-    }
-    false
-}
-
-// Whether the block may be written. What an obstacle keeps out of its writable set is marked.
-fn is_writable(heads: &[Head], marks: &[bool], block: u32) -> bool
-    requires rising { IsRising heads.now }
-    requires long { length marks.now ≡ length heads.now }
-    requires shown { Shows heads.now marks.now (IsAbove (patches_of heads.now) (PassesAt (test.Obstacle block) (patches_of heads.now))) }
-    ensures { IsTrue result ↔ IsWritable (patches_of heads.now) block }
-{
-    let flying = is_flying(heads, block);
-    let ready = has_ready(heads, marks, block);
-    match least_held(heads, marks, block) {
-        Some(_) => false,
-        None => ready && !flying,
-    }
-}
+use fst_types::{BlockNo, Place};
 
 /// The block of a change in memory.
 pub fn memory_block(head: &Head) -> Option<u32>
