@@ -10,13 +10,14 @@ use Rattle.fst_types.specs.Tests.{is_among, is_at}
 use Rattle.fst_types.specs.Looks.{place_of}
 use Rattle.fst_types.specs.Fold.{Write, fold}
 use Rattle.fst_types.specs.Events.{Event, Reply}
-use Rattle.fst_types.specs.Step.{Step, accepted, refused, Row, change, empty, gate, depend, seal, issue, land, stall, retry, evict, forget, choose, pick, show, ask_place, ask_flight, ask_stalled, ask_stat}
-use Rattle.fst_types.specs.Run.{ChangeMade, Run, start, more, is_live_number, is_number_in_memory, on_disk_of, on_disk_or_in_flight_of}
+use Rattle.fst_types.specs.Step.{Step, accepted, refused, Row, change, empty, gate, depend, seal, issue, land, stall, lose, retry, evict, forget, choose, pick, show, ask_place, ask_flight, ask_stalled, ask_stat, group}
+use Rattle.fst_types.specs.Run.{ChangeMade, Run, start, more, made_after, is_live_number, is_number_in_memory, on_disk_of, on_disk_or_in_flight_of}
 use Rattle.fst_types.proofs.Finite.{In, Contains-from_In}
 use Rattle.fst_types.proofs.Opened.{opening_is_committed}
 use Rattle.fst_types.proofs.LandingOrder.{crash_is_fold, places_tell}
 use Rattle.feather.specs.Script.{opened, is_left_at, is_left}
 use Rattle.feather.specs.Law.{CrashIsTold}
+use Rattle.fst_types.proofs.Parts.{made_by, parts_row, grown_parts}
 use Rattle.feather.proofs.LeftLemmas.{same_test}
 
 row_size : (old new : State) (e : Event) (r : Reply) → Row old e r new → new.size ≡ old.size
@@ -28,6 +29,7 @@ row_size old new e r (seal m) = ap (λ s. s.size) m.state
 row_size old new e r (issue m) = ap (λ s. s.size) m.state
 row_size old new e r (land m) = ap (λ s. s.size) m.state
 row_size old new e r (stall m) = ap (λ s. s.size) m.state
+row_size old new e r (lose m) = ap (λ s. s.size) m.state
 row_size old new e r (retry m) = ap (λ s. s.size) m.state
 row_size old new e r evict = refl
 row_size old new e r (forget m) = ap (λ s. s.size) m.state
@@ -38,6 +40,7 @@ row_size old new e r ask_place = refl
 row_size old new e r ask_flight = refl
 row_size old new e r (ask_stalled m) = refl
 row_size old new e r ask_stat = refl
+row_size old new e r (group m) = (grown_parts old (made_by e) (made_after [] e r) new (parts_row old e r new m)).size
 
 step_size : (old new : State) (e : Event) (r : Reply) → Step old e r new → new.size ≡ old.size
 step_size old new e r (accepted n row) = row_size old new e r row

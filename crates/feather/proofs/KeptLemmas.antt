@@ -10,11 +10,12 @@ use Rattle.std.proofs.lemmas.List.Quantifiers.{all_pairs_remove, all_pairs_push}
 use Rattle.fst_types.specs.declared.shape.Shape.{Shape}
 use Rattle.fst_types.specs.declared.grade.Grade.{Grade}
 use Rattle.fst_types.specs.declared.fault.Fault.{Fault}
+use Rattle.fst_types.specs.Limits.{max_tries}
 use Rattle.fst_types.specs.State.{State, BlockState, Flight, block_of, flight_of}
 use Rattle.fst_types.specs.Flights.{IsOut}
 use Rattle.fst_types.specs.Events.{Event, MakeChange, MakeEmpty, MakeGate, Depend, Seal, Issue, Settle, Retry, Evict, Forget, Reply, MadeChange, Made, Accepted as Agreed, Job, Forgot, Refused}
-use Rattle.fst_types.specs.Step.{Step, accepted, refused, change, empty, gate, depend, seal, issue, land, stall, retry, evict, forget}
-use Rattle.fst_types.proofs.Moves.{flight_put, flight_in}
+use Rattle.fst_types.specs.Step.{Step, accepted, refused, change, empty, gate, depend, seal, issue, land, stall, lose, retry, evict, forget, group}
+use Rattle.fst_types.proofs.Moves.{flight_out, same_some, flight_put, flight_in}
 use Rattle.fst_device.specs.JobView.{JobView}
 use Rattle.fst_device.specs.MemoryView.{MemoryView}
 use Rattle.feather.specs.declared.accepted.Accepted.{Accepted}
@@ -43,6 +44,10 @@ leaves_at old new b v size made bs = record {
   others = other_flight old new b v bs;
 }
 
+-- what is out stays so where the block's flight does
+still_out : (old new : State) (t b : ℕ) (image : List ℕ) → flight_of new b ≡ flight_of old b → IsOut old t b image → IsOut new t b image
+still_out old new t b image same out = record { failed = out.failed; few = out.few; flight = same ∙ out.flight }
+
 -- no job is of a block whose write is not out
 none_of : (s : State) (jobs : List (JobView MemoryView)) (b : ℕ) → All (λ j. IsOut s j.ticket j.block j.image) jobs
     → ((t : ℕ) (image : List ℕ) → IsOut s t b image → ⊥) → All (λ j. j.block ≢ b) jobs
@@ -55,7 +60,7 @@ kept_apart shape share old new jobs made b K L apart = record {
   counted = K.counted ∙ sym L.made;
   blocks = K.blocks ∙ sym L.blocks;
   size = K.size ∙ sym L.size;
-  out = λ i d lt. L.others (get_or jobs i d).block (apart i d lt) ∙ K.out i d lt;
+  out = λ i d lt. still_out old new _ _ _ (L.others (get_or jobs i d).block (apart i d lt)) (K.out i d lt);
   apart = K.apart;
   inside = subst (λ (n : ℕ). All (IsInside n) made) (sym L.size) K.inside;
 }
@@ -76,12 +81,9 @@ kept_more shape share s jobs made job K apart out = record {
 no_out_at_none : (o : Option Flight) (f : Flight) → o ≡ None → o ≡ Some f → ⊥
 no_out_at_none o f a b = cc
 
-no_out_at_stalled : (o : Option Flight) (t u : ℕ) (x y : List ℕ) → o ≡ Some (record { ticket = t; image = x; stalled = true }) → o ≡ Some (record { ticket = u; image = y; stalled = false }) → ⊥
-no_out_at_stalled o t u x y a b = differ (ap (λ f. f.stalled) (same_some o (record { ticket = t; image = x; stalled = true }) (record { ticket = u; image = y; stalled = false }) a b))
+no_out_at_stalled : (o : Option Flight) (f g : Flight) → f.stalled ≡ true → g.stalled ≡ false → o ≡ Some f → o ≡ Some g → ⊥
+no_out_at_stalled o f g yes_stalled out a b = differ (sym yes_stalled ∙ (ap (λ f. f.stalled) (same_some o f g a b) ∙ out))
   where
-    same_some : (o : Option Flight) (f g : Flight) → o ≡ Some f → o ≡ Some g → f ≡ g
-    same_some o f g a b = cc
-
     differ : true ≡ false → ⊥
     differ e = cc
 
@@ -94,26 +96,33 @@ record Given (old new : State) (b : ℕ) (job : JobView MemoryView) : Type 0 whe
 
 issue_given : (old new : State) (b t c : ℕ) (image : List ℕ) → Step old (Issue b) (Job t c image) new
     → (c ≡ b) × Leaves old new b × ((u : ℕ) (x : List ℕ) → IsOut old u b x → ⊥) × IsOut new t c image
+issue_given old new b t c image (accepted n (group m)) = elim m [ ]
 issue_given old new b t c image (accepted n (issue m)) =
-    let f : Flight = record { ticket = t; image = image; stalled = false } in
+    let f : Flight = flight_out t image 0 in
     let v : BlockState = record (block_of old b) { flight = Some f } in
     let bs = ap (λ s. s.blocks) m.state in (
       refl,
       leaves_at old new b v (ap (λ s. s.size) m.state) (ap (λ s. s.made) m.state) bs,
-      λ u x out. no_out_at_none (flight_of old b) (record { ticket = u; image = x; stalled = false }) m.home out,
-      same_flight old new b v bs (elim (cases_lt b (length old.blocks)) [ inl lt ↦ lt | inr past ↦ absurd (n.0 past) ]),
+      λ u x out. no_out_at_none (flight_of old b) (flight_out u x out.failed) m.home out.flight,
+      record { failed = 0; few = omega arith; flight = same_flight old new b v bs (elim (cases_lt b (length old.blocks)) [ inl lt ↦ lt | inr past ↦ absurd (n.0 past) ]) },
     )
 
 retry_given : (old new : State) (b t c : ℕ) (image : List ℕ) → Step old (Retry b) (Job t c image) new
     → (c ≡ b) × Leaves old new b × ((u : ℕ) (x : List ℕ) → IsOut old u b x → ⊥) × IsOut new t c image
+retry_given old new b t c image (accepted n (group m)) = elim m [ ]
 retry_given old new b t c image (accepted n (retry m)) =
-    let f : Flight = record { ticket = t; image = image; stalled = false } in
+    let last : Flight = record { ticket = m.last; image = image; stalled = true; failed = m.failed } in
+    let f : Flight = flight_out t image m.failed in
     let v : BlockState = record (block_of old b) { flight = Some f } in
     let bs = ap (λ s. s.blocks) m.state in (
       refl,
       leaves_at old new b v (ap (λ s. s.size) m.state) (ap (λ s. s.made) m.state) bs,
-      λ u x out. no_out_at_stalled (flight_of old b) m.last u image x m.same_image out,
-      same_flight old new b v bs (elim (cases_lt b (length old.blocks)) [ inl lt ↦ lt | inr past ↦ absurd (n.0 past) ]),
+      λ u x out. no_out_at_stalled (flight_of old b) last (flight_out u x out.failed) refl refl m.same_image out.flight,
+      record {
+        failed = m.failed;
+        few = elim (cases_lt m.failed max_tries) [ inl lt ↦ lt | inr many ↦ absurd (n.1.0 (record { flight = last; there = m.same_image; lost = many })) ];
+        flight = same_flight old new b v bs (elim (cases_lt b (length old.blocks)) [ inl lt ↦ lt | inr past ↦ absurd (n.0 past) ]);
+      },
     )
 
 kept_given : (shape : Shape) (share : ℕ) (old new : State) (jobs : List (JobView MemoryView)) (made : List Accepted) (b : ℕ) (job : JobView MemoryView)
@@ -140,16 +149,19 @@ retry_kept shape share old new jobs made b job K step = kept_given shape share o
 
 -- a settled write leaves the other blocks
 settle_leaves : (old new : State) (t b : ℕ) (image : List ℕ) (written : Bool) (r : Reply) → Step old (Settle t b image written) r new → IsOut old t b image → Leaves old new b
+settle_leaves old new t b image written r (accepted n (group m)) out = elim m [ ]
 settle_leaves old new t b image written r (accepted n (land m)) out =
     leaves_at old new b (record { committed = image; flight = None }) (ap (λ s. s.size) m.state) (ap (λ s. s.made) m.state) (ap (λ s. s.blocks) m.state)
 settle_leaves old new t b image written r (accepted n (stall m)) out =
-    leaves_at old new b (record (block_of old b) { flight = Some (record { ticket = t; image = image; stalled = true }) }) (ap (λ s. s.size) m.state) (ap (λ s. s.made) m.state) (ap (λ s. s.blocks) m.state)
+    leaves_at old new b (record (block_of old b) { flight = Some (record { ticket = t; image = image; stalled = true; failed = m.out.failed + 1 }) }) (ap (λ s. s.size) m.state) (ap (λ s. s.made) m.state) (ap (λ s. s.blocks) m.state)
+settle_leaves old new t b image written r (accepted n (lose m)) out =
+    leaves_at old new b (record (block_of old b) { flight = Some (flight_out t image max_tries) }) (ap (λ s. s.size) m.state) (ap (λ s. s.made) m.state) (ap (λ s. s.blocks) m.state)
 settle_leaves old new t b image written r (refused (inl first)) out = elim first [ inl holds ↦ absurd (holds.0 out) | inr none ↦ absurd none.1 ]
 settle_leaves old new t b image written r (refused (inr free)) out = absurd free.1
 
 -- a write that is out is not refused
 pub settle_refused : (old new : State) (t b : ℕ) (image : List ℕ) (written : Bool) (f : Fault) → Step old (Settle t b image written) (Refused f) new → IsOut old t b image → ⊥
-settle_refused old new t b image written f (accepted n row) out = elim row [ ]
+settle_refused old new t b image written f (accepted n (group m)) out = elim m [ ]
 settle_refused old new t b image written f (refused (inl first)) out = elim first [ inl holds ↦ absurd (holds.0 out) | inr none ↦ absurd none.1 ]
 settle_refused old new t b image written f (refused (inr free)) out = absurd free.1
 
@@ -198,20 +210,21 @@ settle_kept shape share old new jobs made i job written r K lt is step =
 
 -- a refusal changes nothing
 pub refused_same : (old new : State) (e : Event) (f : Fault) → Step old e (Refused f) new → new ≡ old
-refused_same old new e f (accepted n row) = elim row [ ]
+refused_same old new e f (accepted n (group m)) = elim m [ ]
 refused_same old new e f (refused x) = refl
 
 -- one change more
 pub change_kept : (shape : Shape) (share : ℕ) (old new : State) (jobs : List (JobView MemoryView)) (made : List Accepted) (a : Accepted) (after : List ℕ) (faulted : Bool) (number : ℕ) (grade : Grade)
     → IsKept shape share old jobs made → Step old (MakeChange share a.block.0 a.at a.bytes.items after faulted) (MadeChange number grade) new → IsKept shape (share + 1) new jobs (made ++ a ∷ [])
+change_kept shape share old new jobs made a after faulted number grade K (accepted n (group m)) = elim m [ ]
 change_kept shape share old new jobs made a after faulted number grade K (accepted n (change m)) = record {
   counted = ap (λ x. x + 1) K.counted ∙ sym (ap (λ s. s.made) m.state);
   blocks = K.blocks ∙ sym (ap (λ s. length s.blocks) m.state);
   size = K.size ∙ sym (ap (λ s. s.size) m.state);
-  out = λ i j lt. ap (λ s. flight_of s (get_or jobs i j).block) m.state ∙ K.out i j lt;
+  out = λ i j lt. still_out old new _ _ _ (ap (λ s. flight_of s (get_or jobs i j).block) m.state) (K.out i j lt);
   apart = K.apart;
   inside = subst (λ (s : ℕ). All (IsInside s) (made ++ a ∷ [])) (sym (ap (λ s. s.size) m.state))
-      (All-append (IsInside old.size) made (a ∷ []) K.inside (All-cons (IsInside old.size) a [] (fits (a.at + length a.bytes.items) old.size (λ p. n.1.1.0 (inr p))) (All-nil _)));
+      (All-append (IsInside old.size) made (a ∷ []) K.inside (All-cons (IsInside old.size) a [] (fits (a.at + length a.bytes.items) old.size (λ p. n.1.1.1.0 (inr p))) (All-nil _)));
 }
   where
     fits : (x y : ℕ) → (y < x → ⊥) → x ≤ y
@@ -224,7 +237,7 @@ kept_blocks shape share count old new jobs made K counted size blocks = record {
   counted = counted;
   blocks = K.blocks ∙ sym (ap (λ (x : List BlockState). length x) blocks);
   size = K.size ∙ sym size;
-  out = λ i j lt. ap (λ (x : List BlockState). flight_in x (get_or jobs i j).block) blocks ∙ K.out i j lt;
+  out = λ i j lt. still_out old new _ _ _ (ap (λ (x : List BlockState). flight_in x (get_or jobs i j).block) blocks) (K.out i j lt);
   apart = K.apart;
   inside = subst (λ (n : ℕ). All (IsInside n) made) (sym size) K.inside;
 }
@@ -232,30 +245,36 @@ kept_blocks shape share count old new jobs made K counted size blocks = record {
 -- one empty patch more, or one gate
 pub empty_kept : (shape : Shape) (share : ℕ) (old new : State) (jobs : List (JobView MemoryView)) (made : List Accepted) (after : List ℕ) (number : ℕ)
     → IsKept shape share old jobs made → Step old (MakeEmpty share after) (Made number) new → IsKept shape (share + 1) new jobs made
+empty_kept shape share old new jobs made after number K (accepted n (group m)) = elim m [ ]
 empty_kept shape share old new jobs made after number K (accepted n (empty m)) =
     kept_blocks shape share (share + 1) old new jobs made K (ap (λ x. x + 1) K.counted ∙ sym (ap (λ s. s.made) m.state)) (ap (λ s. s.size) m.state) (ap (λ s. s.blocks) m.state)
 
 pub gate_kept : (shape : Shape) (share : ℕ) (old new : State) (jobs : List (JobView MemoryView)) (made : List Accepted) (number : ℕ)
     → IsKept shape share old jobs made → Step old (MakeGate share) (Made number) new → IsKept shape (share + 1) new jobs made
+gate_kept shape share old new jobs made number K (accepted n (group m)) = elim m [ ]
 gate_kept shape share old new jobs made number K (accepted n (gate m)) =
     kept_blocks shape share (share + 1) old new jobs made K (ap (λ x. x + 1) K.counted ∙ sym (ap (λ s. s.made) m.state)) (ap (λ s. s.size) m.state) (ap (λ s. s.blocks) m.state)
 
 -- a call that makes nothing and leaves the blocks
 pub depend_kept : (shape : Shape) (share : ℕ) (old new : State) (jobs : List (JobView MemoryView)) (made : List Accepted) (g : ℕ) (on : List ℕ)
     → IsKept shape share old jobs made → Step old (Depend g on) Agreed new → IsKept shape share new jobs made
+depend_kept shape share old new jobs made g on K (accepted n (group m)) = elim m [ ]
 depend_kept shape share old new jobs made g on K (accepted n (depend m)) =
     kept_blocks shape share share old new jobs made K (K.counted ∙ sym (ap (λ s. s.made) m.state)) (ap (λ s. s.size) m.state) (ap (λ s. s.blocks) m.state)
 
 pub seal_kept : (shape : Shape) (share : ℕ) (old new : State) (jobs : List (JobView MemoryView)) (made : List Accepted) (g : ℕ)
     → IsKept shape share old jobs made → Step old (Seal g) Agreed new → IsKept shape share new jobs made
+seal_kept shape share old new jobs made g K (accepted n (group m)) = elim m [ ]
 seal_kept shape share old new jobs made g K (accepted n (seal m)) =
     kept_blocks shape share share old new jobs made K (K.counted ∙ sym (ap (λ s. s.made) m.state)) (ap (λ s. s.size) m.state) (ap (λ s. s.blocks) m.state)
 
 pub evict_kept : (shape : Shape) (share : ℕ) (old new : State) (jobs : List (JobView MemoryView)) (made : List Accepted) (b : ℕ)
     → IsKept shape share old jobs made → Step old (Evict b) Agreed new → IsKept shape share new jobs made
+evict_kept shape share old new jobs made b K (accepted n (group m)) = elim m [ ]
 evict_kept shape share old new jobs made b K (accepted n evict) = K
 
 pub forget_kept : (shape : Shape) (share : ℕ) (old new : State) (jobs : List (JobView MemoryView)) (made : List Accepted) (dropped : ℕ)
     → IsKept shape share old jobs made → Step old Forget (Forgot dropped) new → IsKept shape share new jobs made
+forget_kept shape share old new jobs made dropped K (accepted n (group m)) = elim m [ ]
 forget_kept shape share old new jobs made dropped K (accepted n (forget m)) =
     kept_blocks shape share share old new jobs made K (K.counted ∙ sym (ap (λ s. s.made) m.state)) (ap (λ s. s.size) m.state) (ap (λ s. s.blocks) m.state)

@@ -20,6 +20,7 @@ what_name what.Numbers = codes "numbers"
 what_name what.Tickets = codes "tickets"
 what_name what.Flights = codes "flights"
 what_name what.Resident = codes "resident"
+what_name what.Groups = codes "groups"
 
 -- the patch that is held, or the thing that is full
 abbrev pub refusal_detail : Fault → List ℕ
@@ -67,6 +68,9 @@ done_text ticket block = codes "done " ++ decimal ticket ++ codes " block " ++ d
 
 abbrev pub stalled_text : (ticket block : ℕ) → List ℕ
 stalled_text ticket block = codes "stalled " ++ decimal ticket ++ codes " block " ++ decimal block
+
+abbrev pub lost_text : (ticket block : ℕ) → List ℕ
+lost_text ticket block = codes "lost " ++ decimal ticket ++ codes " block " ++ decimal block
 
 abbrev pub evict_text : ℕ → List ℕ
 evict_text block = codes "evict " ++ decimal block

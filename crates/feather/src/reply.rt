@@ -4,7 +4,7 @@ ghost use Rattle.std.specs.Prelude.{◌≡◌, ◌++◌, ◌∷◌, [], option_m
 ghost use Rattle.fst_cache.specs.Replies.{stat_view};
 ghost use Rattle.feather.specs.Sending.{Sends};
 ghost use Rattle.feather.specs.Parsing.{patch_numbers};
-ghost use Rattle.feather.specs.Replies.{refusal, patch_text, chosen_text, pick_text, flight_text, done_text, stalled_text, show_text, place_name, place_text, stat_text, crash_part};
+ghost use Rattle.feather.specs.Replies.{refusal, patch_text, chosen_text, pick_text, flight_text, done_text, stalled_text, lost_text, show_text, place_name, place_text, stat_text, crash_part};
 
 use crate::output::{Piece, Stopped, send_all};
 use fst_cache::Stat;
@@ -20,6 +20,7 @@ fn what_name<'a>(what: What) -> &'a str
         What::Tickets => "tickets",
         What::Flights => "flights",
         What::Resident => "resident",
+        What::Groups => "groups",
     }
 }
 
@@ -249,6 +250,29 @@ pub fn send_stalled<W: Write>(
         calls,
         &[
             Piece::Text("stalled "),
+            Piece::Number(ticket.0),
+            Piece::Text(" block "),
+            Piece::Number(u64::from(block.0)),
+            Piece::Text("\n"),
+        ],
+    )
+}
+
+/// `lost T block B`.
+pub fn send_lost<W: Write>(
+    writer: &mut W,
+    calls: &mut u64,
+    ticket: Ticket,
+    block: BlockNo,
+) -> Result<(), Stopped>
+    ensures { Sends (W.contents writer.old) (W.contents writer.new) result
+        (lost_text ticket.0 block.0 ++ 10 ∷ []) }
+{
+    send_all(
+        writer,
+        calls,
+        &[
+            Piece::Text("lost "),
             Piece::Number(ticket.0),
             Piece::Text(" block "),
             Piece::Number(u64::from(block.0)),

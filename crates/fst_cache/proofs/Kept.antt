@@ -1,15 +1,15 @@
 -- What the cache's type keeps, as calls change one seat or the state under all of them.
-use Rattle.std.proofs.Common.{◌≡◌, ◌≢◌, ◌⊎◌, ◌<◌, ◌≤◌, ◌+◌, ℕ, zero, suc, Bool, true, false, cond, List, [], ◌∷◌, map, Option, Some, None, IsSome, is_some, refl, sym, ap, subst, ◌∙◌, inl, inr, arith, length, get_or, slice_get, slice_set, length-set, get_or-set_other, count_by}
+use Rattle.std.proofs.Common.{◌≡◌, ◌≢◌, ◌⊎◌, ◌<◌, ℕ, zero, suc, Bool, cond, List, [], ◌∷◌, map, Some, None, is_some, sym, ap, subst, ◌∙◌, inl, inr, arith, length, get_or, slice_get, slice_set, length-set, count_by}
 use Rattle.std.proofs.lemmas.List.{map-set, set-get_or, length-map, get_or-map, get_or-set_same}
 use Rattle.std.proofs.lemmas.List.Sums.{sum_by-set}
-use Rattle.std.proofs.lemmas.Option.{slice_get-map, get_or_from_slice_get, slice_get_within}
-use Rattle.fst_types.specs.State.{State, Flight, BlockState, block_of, committed, flight_of}
+use Rattle.std.proofs.lemmas.Option.{get_or_from_slice_get, slice_get_within}
+use Rattle.fst_types.specs.State.{State, BlockState, committed, flight_of}
 use Rattle.fst_types.specs.Bytes.{base_under}
 use Rattle.fst_types.specs.Facts.{IsLawful}
-use Rattle.fst_block.specs.BlockView.{BlockPatch, BlockView}
+use Rattle.fst_block.specs.BlockView.{BlockPatch}
 use Rattle.fst_graph.specs.Known.{Known}
 use Rattle.fst_cache.specs.Seats.{SeatView, blocks}
-use Rattle.fst_cache.specs.Kept.{IsKeptSeat, IsKept, IsSameAt, state_of, block_view, block_patches}
+use Rattle.fst_cache.specs.Kept.{IsKeptSeat, IsKept, IsSameAt, block_view, block_patches}
 
 -- what stands at j after y was put at i
 pub get-set : {X : Type 0} (xs : List X) (i j : ℕ) (y z : X) → slice_get (slice_set xs i y) j ≡ Some z → ((j ≡ i) × (y ≡ z)) ⊎ ((j ≢ i) × (slice_get xs j ≡ Some z))

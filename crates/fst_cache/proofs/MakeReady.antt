@@ -7,7 +7,7 @@ use Rattle.std.proofs.lemmas.Option.{slice_get_within}
 use Rattle.fst_types.specs.declared.place.Place.TheVariants as place
 use Rattle.fst_types.specs.Patches.{Patch}
 use Rattle.fst_types.specs.Tests.{is_change_at}
-use Rattle.fst_types.specs.State.{State, BlockState, committed}
+use Rattle.fst_types.specs.State.{State, BlockState}
 use Rattle.fst_types.proofs.Finite.{In, Contains-from_In}
 use Rattle.fst_block.specs.BlockView.{BlockPatch, BlockView}
 use Rattle.fst_graph.specs.Known.{Known, Prepared}

@@ -8,7 +8,7 @@ use Rattle.fst_types.specs.Patches.{Patch}
 use Rattle.fst_types.specs.Tests.{is_change_at}
 use Rattle.fst_types.specs.Fold.{fold}
 use Rattle.fst_types.specs.State.{State, Flight, BlockState, block_of, committed, flight_of}
-use Rattle.fst_types.specs.Bytes.{write_of, changes_at, base_under, bytes_of}
+use Rattle.fst_types.specs.Bytes.{changes_at, base_under, bytes_of}
 use Rattle.fst_types.specs.Counts.{is_dirty, dirty_blocks, count_below}
 use Rattle.fst_types.specs.Residence.{HasNoRoom}
 use Rattle.fst_types.proofs.Finite.{Contains-from_In}

@@ -1,5 +1,5 @@
 -- What `choose`, `pick` and `issue` answer before anything goes out.
-use Rattle.std.proofs.Common.{◌≡◌, ◌≤◌, ℕ, false, List, [], ◌∷◌, map, length, Option, Some, None, IsSome, is_some, refl, sym, ap, subst, ◌∙◌, inl, inr, arith, slice_get, MatchResult, IfOk, IfErr, OnOk, OnErr, Result, Ok, Err}
+use Rattle.std.proofs.Common.{◌≡◌, ◌≤◌, ℕ, false, List, [], ◌∷◌, map, length, Option, Some, None, IsSome, is_some, refl, ap, subst, inl, inr, arith, slice_get, MatchResult, IfNone, IfOk, IfErr, OnOk, OnErr, option_map, Result, Ok, Err}
 use Rattle.std.proofs.lemmas.List.{length-map}
 use Rattle.fst_types.specs.declared.number.PatchNo.{PatchNo}
 use Rattle.fst_types.specs.declared.fault.Fault.{Fault}
@@ -13,11 +13,13 @@ use Rattle.fst_types.specs.Order.{order, IsRefusal}
 use Rattle.fst_types.specs.Refusals.{IsFirst, NoneHolds}
 use Rattle.fst_types.specs.Step.{Step, accepted, refused, choose}
 use Rattle.fst_types.proofs.Finite.{In, In-from_Contains}
-use Rattle.fst_graph.specs.Known.{Known, unprepared, IsStuckByGates as GraphIsStuckByGates}
+use Rattle.fst_types.specs.Looks.{IsPick}
+use Rattle.fst_types.proofs.Stuck.{never_stuck_state}
+use Rattle.fst_graph.specs.Known.{Known, unprepared}
 use Rattle.fst_cache.specs.Seats.{SeatView, blocks}
 use Rattle.fst_cache.specs.Kept.{IsKept, state_of}
 use Rattle.fst_cache.specs.Sending.{sending_order}
-use Rattle.fst_cache.specs.Replies.{IsStuckByGates}
+use Rattle.fst_cache.specs.Replies.{IsStuck}
 use Rattle.fst_cache.proofs.Kept.{block_here, within}
 
 -- the graph has nothing prepared any more: the rest is as it was
@@ -32,15 +34,10 @@ pub step_choose : {V : Type 0} (names : V → List ℕ) (s : State) (b : ℕ) (r
 step_choose names s b (Ok v) there ok err = accepted (there, tt) (choose ok)
 step_choose names s b (Err f) there ok err = refused (inr ((there, tt), err))
 
--- where no block has a flight nothing is in flight
-pub never_stuck : (s : State) → IsLawful s → GraphIsStuckByGates s.heads → IsStuckByGates s
-never_stuck s law stuck home = stuck (λ p h flies.
-    let on = law.heads.on_disk_with_all.only_changes_fly p h flies in
-    let k = law.flights_have_changes.kept on.0 p (record { head = h; change = on.1; flight = flies }) in
-    none_some k.0 (sym (home on.0) ∙ k.1))
-  where
-    none_some : (f : Flight) → None ≡ Some f → ⊥
-    none_some f e = cc
+-- where there is no pick, each change in memory is held up
+pub never_stuck : {X : Type 0} (number : X → ℕ) (s : State) (r : Option X) → IsLawful s → IsPick s.heads (option_map number r) → IfNone r (IsStuck s)
+never_stuck number s None law none = never_stuck_state s law none
+never_stuck number s (Some b) law least = tt
 
 -- a choice that is not known to be empty
 module _ {V : Type 0} (items : V → List PatchNo) (heads : List Patch) (b : ℕ) where

@@ -25,7 +25,7 @@ use Rattle.fst_block.specs.BlockView.{BlockView, fold_of}
 use Rattle.fst_block.specs.Choices.{chosen_of, others_of}
 use Rattle.fst_graph.specs.Known.{Known, Launches}
 use Rattle.fst_cache.specs.Names.{numbers_of}
-use Rattle.fst_cache.specs.Seats.{SeatView, blocks, flight_view}
+use Rattle.fst_cache.specs.Seats.{SeatView, flight_view}
 use Rattle.fst_cache.specs.Kept.{IsKept, IsKeptSeat, IsSameAt, state_of, block_patch, block_patches, block_view, in_flight}
 use Rattle.fst_cache.proofs.Kept.{one_moved}
 use Rattle.fst_cache.proofs.SameCascade.{filter_mapped, IsStill, still_self, same_moved}
@@ -73,7 +73,7 @@ module _ (s : State) (graph : Known) (seats : List SeatView) (b : ℕ) (seat : S
   law = S.kept.lawful
 
   abbrev flight : Flight
-  flight = flight_view (s.tickets + 1) image false
+  flight = flight_view (s.tickets + 1) image false 0
 
   abbrev pub after : State
   after = record s { tickets = s.tickets + 1; heads = map (launched (numbers_of names)) s.heads; blocks = with_flight s b (Some flight) }

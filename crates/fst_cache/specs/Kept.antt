@@ -1,5 +1,5 @@
 -- What the cache's type keeps.
-use Rattle.std.specs.Prelude.{◌≡◌, ◌≤◌, ℕ, true, false, List, Option, Some, None, IsSome, is_some, map, length, count_by, slice_get}
+use Rattle.std.specs.Prelude.{◌≡◌, ◌≤◌, ℕ, true, List, [], Some, IsSome, is_some, map, length, count_by, slice_get}
 use Rattle.fst_types.specs.declared.place.Place.TheVariants as place
 use Rattle.fst_types.specs.declared.span.Span.{Span}
 use Rattle.fst_types.specs.declared.grade.Grade.{Grade}
@@ -49,6 +49,7 @@ state_of size resident tickets made graph contents seats = record {
   heads = graph.heads;
   contents = contents;
   blocks = blocks seats;
+  groups = [];
 }
 
 -- what stands beside the state

@@ -1,5 +1,7 @@
 -- What the cache keeps of each block.
-use Rattle.std.specs.Prelude.{◌≡◌, ℕ, Bool, true, false, List, [], ◌∷◌, Option, Some, None, map}
+use Rattle.std.specs.Prelude.{◌&&◌, nat_lt, ℕ, Bool, true, false, List, [], ◌∷◌, Option, Some, None, map}
+use Rattle.std.specs.Option.{option_map_or}
+use Rattle.fst_types.specs.Limits.{max_tries}
 use Rattle.fst_types.specs.State.{Flight, BlockState}
 use Rattle.fst_block.specs.BlockView.{BlockPatch, BlockView}
 use Rattle.fst_cache.specs.Views.{Back}
@@ -13,8 +15,13 @@ pub record SeatView : Type 0 where
   pub faults : ℕ
   pub back : Option Back
 
-abbrev pub flight_view : ℕ → List ℕ → Bool → Flight
-flight_view ticket image stalled = record { ticket = ticket; image = image; stalled = stalled }
+-- a flight that is out, or whose completion came back, `failed` of its tries having failed
+abbrev pub flight_view : ℕ → List ℕ → (back : Bool) → (failed : ℕ) → Flight
+flight_view ticket image back failed = record { ticket = ticket; image = image; stalled = back && nat_lt failed max_tries; failed = failed }
+
+-- how many tries of a flight have failed
+abbrev pub tries_of : Option Flight → ℕ
+tries_of flight = option_map_or (λ (f : Flight). f.failed) flight 0
 
 abbrev pub back_view : List ℕ → List ℕ → Back
 back_view before held = record { before = before; held = held }

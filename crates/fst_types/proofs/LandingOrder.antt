@@ -12,8 +12,8 @@ use Rattle.fst_types.specs.Fold.{fold}
 use Rattle.fst_types.specs.State.{State, Flight, committed, flight_of}
 use Rattle.fst_types.specs.Dependencies.{IsOnDisk}
 use Rattle.fst_types.specs.Facts.{IsLawful}
-use Rattle.fst_types.specs.Events.{Event, MakeChange, MakeEmpty, MakeGate, Depend, Seal, Issue, Settle, Retry, Evict, Forget, Choose, Pick, Show, AskPlace, AskFlight, AskStalled, AskStat, Reply, Refused}
-use Rattle.fst_types.specs.Step.{Step, accepted, refused, Row, change, empty, gate, depend, seal, issue, land, stall, retry, evict, forget, choose, pick, show, ask_place, ask_flight, ask_stalled, ask_stat}
+use Rattle.fst_types.specs.Events.{Event, MakeChange, MakeEmpty, MakeGate, Depend, Seal, Issue, Settle, Retry, Evict, Forget, Choose, Pick, Show, AskPlace, AskFlight, AskStalled, AskStat, GroupNew, GroupAfter, GroupPatch, GroupClose, Reply, Refused}
+use Rattle.fst_types.specs.Step.{Step, accepted, refused, GroupRow, group_new, group_after, group_patch, group_close, Row, change, empty, gate, depend, seal, issue, land, stall, lose, retry, evict, forget, choose, pick, show, ask_place, ask_flight, ask_stalled, ask_stat, group}
 use Rattle.fst_types.specs.Laws.{OverEachRun, RunKeepsLawful, RunsStayLawful, MadeInOrder, CommittedIsFold, ImageIsFold, CrashIsFold, RunLandsInOrder, PlacesTell}
 use Rattle.fst_types.specs.Opening.{opening}
 use Rattle.fst_types.specs.Crash.{crash}
@@ -54,6 +54,7 @@ made_row old new e r made (seal m) = sym (append-nil made)
 made_row old new e r made (issue m) = sym (append-nil made)
 made_row old new e r made (land m) = sym (append-nil made)
 made_row old new e r made (stall m) = sym (append-nil made)
+made_row old new e r made (lose m) = sym (append-nil made)
 made_row old new e r made (retry m) = sym (append-nil made)
 made_row old new e r made evict = sym (append-nil made)
 made_row old new e r made (forget m) = sym (append-nil made)
@@ -64,6 +65,13 @@ made_row old new e r made ask_place = sym (append-nil made)
 made_row old new e r made ask_flight = sym (append-nil made)
 made_row old new e r made (ask_stalled m) = sym (append-nil made)
 made_row old new e r made ask_stat = sym (append-nil made)
+made_row old new e r made (group m) = same e r m
+  where
+    same : (e : Event) (r : Reply) → GroupRow old e r new → made_after made e r ≡ made ++ added_by e r
+    same e r (group_new m) = sym (append-nil made)
+    same e r (group_after m) = sym (append-nil made)
+    same e r (group_patch m) = refl
+    same e r (group_close m) = sym (append-nil made)
 
 none_made : (e : Event) (f : Fault) (made : List ChangeMade) → made_after made e (Refused f) ≡ made
 none_made (MakeChange share b at bytes after faulted) f made = refl
@@ -83,11 +91,15 @@ none_made (AskPlace n) f made = refl
 none_made (AskFlight b) f made = refl
 none_made AskStalled f made = refl
 none_made AskStat f made = refl
+none_made (GroupNew share) f made = refl
+none_made (GroupAfter n m) f made = refl
+none_made (GroupPatch share n b at bytes faulted) f made = refl
+none_made (GroupClose n) f made = refl
 
 along_step : (first old new : State) (e : Event) (r : Reply) (made : List ChangeMade) → Step old e r new → Along first old made → Along first new (made_after made e r)
 along_step first old new e r made (accepted n row) A =
     subst (Along first new) (sym (made_row old new e r made row))
-    (along_effect first old new made (added_by e r) (effect_row old new e r row A.lawful.heads A.lawful.changes_fit) (step_keeps_lawful old new e r A.lawful (accepted n row)) A)
+    (along_effect first old new made (added_by e r) (effect_row old new e r n row A.lawful.heads A.lawful.changes_fit) (step_keeps_lawful old new e r A.lawful (accepted n row)) A)
 along_step first old new e r made (refused {fault = f} refusal) A = subst (Along first old) (sym (none_made e f made)) A
 
 along_start : (first : State) → IsLawful first → first.heads ≡ [] → Along first first []

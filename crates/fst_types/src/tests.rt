@@ -16,6 +16,8 @@ fn numbers_of_faults(rt: HostRuntime) {
     assert_eq!(rt; Fault::BadLine.number(), 1);
     assert_eq!(rt; Fault::Full(What::Tickets).number(), 16);
     assert_eq!(rt; Fault::Memory.number(), 17);
+    assert_eq!(rt; Fault::GroupBegun.number(), 18);
+    assert_eq!(rt; Fault::Lost.number(), 19);
 }
 
 #[test]

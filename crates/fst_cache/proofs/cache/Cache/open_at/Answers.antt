@@ -1,9 +1,7 @@
-use Rattle.std.proofs.Common.{◌≡◌, ◌≤◌, map, arith, inl, inr, refl, ap, subst, sym}
+use Rattle.std.proofs.Common.{◌≤◌, map, arith, inl, inr, refl}
 use Rattle.fst_types.specs.Limits.{max_number, max_ticket}
 use Rattle.fst_types.specs.Order.{open_order}
 use Rattle.fst_types.specs.Refusals.{IsFirst, NoneHolds}
-use Rattle.fst_cache.specs.Seats.{SeatView, seats_of}
-use Rattle.fst_cache.specs.Kept.{IsKept, state_of, view_of}
 use Rattle.fst_cache.proofs.Opened.{opened_kept, opened_view}
 use Rattle.fst_cache.proofs.cache.Cache.open_at.Goals as goal
 

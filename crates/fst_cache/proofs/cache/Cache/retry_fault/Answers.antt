@@ -1,29 +1,44 @@
-use Rattle.std.proofs.Common.{arith, ◌≡◌, ◌∙◌, ◌<◌, true, Some, None, length, slice_get, refl, sym, inl, inr}
+use Rattle.std.proofs.Common.{arith, ◌≡◌, ◌∙◌, ◌<◌, true, false, Some, None, length, slice_get, refl, sym, inl, inr}
 use Rattle.std.proofs.lemmas.Option.{slice_get_read}
 use Rattle.std.proofs.lemmas.List.{length-map}
-use Rattle.fst_types.specs.Flights.{IsStalled}
+use Rattle.fst_types.specs.Flights.{IsStalled, IsLost}
 use Rattle.fst_cache.specs.Seats.{SeatView}
 use Rattle.fst_cache.specs.Kept.{state_of}
 use Rattle.fst_cache.proofs.Kept.{listed}
-use Rattle.fst_cache.proofs.SettleFound.{stalled_at}
+use Rattle.fst_cache.proofs.SettleFound.{stalled_at, lost_at, not_lost_at}
 use Rattle.fst_cache.proofs.cache.Cache.retry_fault.Goals.{After-is_stalled}
 use Rattle.fst_cache.proofs.cache.Cache.retry_fault.Goals as goal
 
 -- the seat that was read is the block's
-seated : (g : _) (c : After-is_stalled g) → slice_get c.self.inside.seats.items c.args.block.0 ≡ Some c.index.result.now
-seated g c = let i = c.self.inside in slice_get_read i.seats.items _ _ _ i.seats.ok.0 (omega arith) c.index.ensures
+seated : (g : _) (c : After-is_stalled g) → slice_get c.self.inside.seats.items c.args.block.0 ≡ Some c.index-seat.result.now
+seated g c = let i = c.self.inside in slice_get_read i.seats.items _ _ _ i.seats.ok.0 (omega arith) c.index-seat.ensures
 
 stalled : (g : _) (c : After-is_stalled g) → c.is_stalled.result ≡ true → IsStalled (state_of c.self.inside.size c.self.inside.resident c.self.inside.tickets c.self.inside.made c.self.inside.graph c.self.inside.contents.items c.self.inside.seats.items) c.args.block.0
 stalled g c e =
     let i = c.self.inside in
     stalled_at i.size i.resident i.tickets i.made i.graph i.contents.items i.seats.items _ _ (seated g c) (sym c.is_stalled.ensures.flight ∙ e)
 
+-- and it is lost or not
+kept : (g : _) (c : After-is_stalled g) → c.is_lost.result ≡ false → IsLost (state_of c.self.inside.size c.self.inside.resident c.self.inside.tickets c.self.inside.made c.self.inside.graph c.self.inside.contents.items c.self.inside.seats.items) c.args.block.0 → ⊥
+kept g c e =
+    let i = c.self.inside in
+    not_lost_at i.size i.resident i.tickets i.made i.graph i.contents.items i.seats.items _ _ (seated g c) (sym c.is_lost.ensures ∙ e)
+
+pub returns-then-is_lost-clause-fault : goal.returns-then-is_lost-clause-fault
+returns-then-is_lost-clause-fault g c =
+    let i = c.self.inside in
+    let lt : c.args.block.0 < length i.seats.items = omega (arith, i.seats.ok.0) in
+    let seated : slice_get i.seats.items c.args.block.0 ≡ Some c.index-seat.result.now = slice_get_read i.seats.items _ _ _ i.seats.ok.0 (omega arith) c.index-seat.ensures in
+    let lost = lost_at i.size i.resident i.tickets i.made i.graph i.contents.items i.seats.items _ _ seated (sym c.is_lost.ensures ∙ c.if-is_lost.true) in
+    rw (← c.self.view_is, length-map) (inr ((λ h. omega arith), inl (lost, refl)))
+
 pub returns-then-self-clause-fault : goal.returns-then-self-clause-fault
 returns-then-self-clause-fault g c =
     let i = c.self.inside in
     let lt : c.args.block.0 < length i.seats.items = omega (arith, i.seats.ok.0) in
     let st = stalled g (goal.at.returns-then-self-clause-fault g c).After-is_stalled c.if-not-is_stalled.false in
-    rw (← c.self.view_is, length-map) (inr ((λ h. omega arith), inr ((λ h. h st), inl (omega arith, refl))))
+    let no = kept g (goal.at.returns-then-self-clause-fault g c).After-is_stalled c.if-is_lost.false in
+    rw (← c.self.view_is, length-map) (inr ((λ h. omega arith), inr (no, inr ((λ h. h st), inl (omega arith, refl)))))
 
 pub returns-clause-fault : goal.returns-clause-fault
 returns-clause-fault g c =
@@ -31,7 +46,8 @@ returns-clause-fault g c =
     let lt : c.args.block.0 < length i.seats.items = omega (arith, i.seats.ok.0) in
     let st = stalled g (goal.at.returns-clause-fault g c).After-is_stalled c.if-not-is_stalled.false in
     let few : i.tickets < 18446744073709551615 = let top = c.self.invariant.lawful.limits.tickets in grind (arith, c.if-self.false, top) in
-    rw (← c.self.view_is, length-map) ((λ h. omega arith), ((λ h. h st), ((λ h. omega arith), tt)))
+    let no = kept g (goal.at.returns-clause-fault g c).After-is_stalled c.if-is_lost.false in
+    rw (← c.self.view_is, length-map) ((λ h. omega arith), (no, ((λ h. h st), ((λ h. omega arith), tt))))
 
 pub returns-clause-stalled : goal.returns-clause-stalled
 returns-clause-stalled g c =
@@ -41,4 +57,4 @@ returns-clause-stalled g c =
 pub returns-clause-back : goal.returns-clause-back
 returns-clause-back g c =
     let at_b = seated g (goal.at.returns-clause-back g c).After-is_stalled in
-    rw (← c.self.view_is) (λ none. rw (listed c.self.inside.seats.items _ _ at_b (λ (s : SeatView). s.back) None) (sym c.is_stalled.ensures.back ∙ c.if-not-is_stalled.false))
+    rw (← c.self.view_is) (λ none. rw (listed c.self.inside.seats.items _ _ at_b (λ (s : SeatView). s.back) None) (c.is_stalled.ensures.back c.if-not-is_stalled.false))

@@ -1,4 +1,4 @@
-use Rattle.std.proofs.Common.{◌≡◌, map, ℕ, ◌++◌, ◌+◌, ◌≤◌, vec_len, vec_capacity}
+use Rattle.std.proofs.Common.{◌≡◌, ◌++◌, ◌+◌, ◌≤◌, vec_len, vec_capacity}
 use Rattle.fst_cache.specs.Seats.{seats_of}
 use Rattle.fst_cache.proofs.cache.open.seated.Given as goal
 

@@ -1,0 +1,32 @@
+use Rattle.std.proofs.Common.{arith, ◌≡◌, ◌∙◌, ◌<◌, ◌+◌, ◌⊎◌, ℕ, Some, length, slice_get, refl, sym, inl, inr}
+use Rattle.std.proofs.lemmas.Bool.{cases_lt, true≢false}
+use Rattle.std.proofs.lemmas.List.{length-map}
+use Rattle.std.proofs.lemmas.Option.{slice_get_read}
+use Rattle.fst_types.specs.State.{State}
+use Rattle.fst_types.specs.Counts.{dirty_blocks}
+use Rattle.fst_types.specs.Residence.{HasNoRoom}
+use Rattle.fst_cache.proofs.SettleFound.{lost_at, not_lost_at}
+use Rattle.fst_cache.proofs.cache.Cache.span_fault.Goals as goal
+
+-- either there is no room or there is
+room_of : (s : State) (b : ℕ) → ((HasNoRoom s b → ⊥) → ⊥) → HasNoRoom s b
+room_of s b h = record {
+  clean = λ d. h (λ r. r.clean d);
+  full = elim (cases_lt (dirty_blocks s) s.resident) [ inl lt ↦ absurd (h (λ r. let k = r.full in omega (arith, lt, k))) | inr le ↦ le ];
+}
+
+pub returns-then-is_lost : goal.returns-then-is_lost
+returns-then-is_lost g c after faulted =
+    let i = c.self.inside in
+    let seated : slice_get i.seats.items c.args.block.0 ≡ Some c.index.result.now = slice_get_read i.seats.items _ _ _ i.seats.ok.0 (omega arith) c.index.ensures in
+    let lost = lost_at i.size i.resident i.tickets i.made i.graph i.contents.items i.seats.items _ _ seated (sym c.is_lost.ensures ∙ c.if-is_lost.true) in
+    rw (← c.self.view_is, length-map) (inr ((λ h. omega arith), inr ((λ h. omega arith), inl (lost, refl))))
+
+pub returns-then-not-has_room : goal.returns-then-not-has_room
+returns-then-not-has_room g c after faulted =
+    let i = c.self.inside in
+    let seated : slice_get i.seats.items c.args.block.0 ≡ Some c.index.result.now = slice_get_read i.seats.items _ _ _ i.seats.ok.0 (omega arith) c.index.ensures in
+    let kept = not_lost_at i.size i.resident i.tickets i.made i.graph i.contents.items i.seats.items _ _ seated (sym c.is_lost.ensures ∙ c.if-is_lost.false) in
+    let no_room = room_of c.args.self.now.state c.args.block.0 (λ free. true≢false (sym (c.has_room.ensures.1 free) ∙ c.if-not-has_room.true)) in
+    let fits : (length c.args.bytes.now ≡ 0) ⊎ (i.size < c.args.at + length c.args.bytes.now) → ⊥ = λ h. elim h [ inl e ↦ grind (arith, e, c.is_empty.ensures, c.if-is_empty.false) | inr l ↦ omega (arith, l) ] in
+    rw (← c.self.view_is, length-map) (inr ((λ h. omega arith), inr ((λ h. omega arith), inr (kept, inr (fits, inl (rw (← c.self.view_is) at no_room, refl))))))
