@@ -2,6 +2,7 @@
 
 mod hostile;
 mod limits;
+mod refusals;
 mod rows;
 mod streams;
 
@@ -17,13 +18,17 @@ fn shape_of(rt: &impl Abort, resident: u32) -> Shape {
     Shape::new(4, 4, resident).expect(rt, "the shape is within its limits")
 }
 
-// Plays a script over four blocks of four bytes, of which so many may be in memory, and compares all the replies.
-fn plays_to(rt: &impl Abort, alloc: Global, resident: u32, script: &[u8], replies: &[u8]) {
+// Plays a script over blocks of this shape, and compares all the replies.
+fn plays_over(rt: &impl Abort, alloc: Global, shape: Shape, script: &[u8], replies: &[u8]) {
     let mut reader = script;
     let mut writer = Vec::new(alloc);
-    let shape = shape_of(rt, resident);
     assert!(rt; play(alloc, &mut reader, &mut writer, shape).is_ok());
     assert_eq!(rt; writer.as_slice(), replies);
+}
+
+// Plays a script over four blocks of four bytes, of which so many may be in memory, and compares all the replies.
+fn plays_to(rt: &impl Abort, alloc: Global, resident: u32, script: &[u8], replies: &[u8]) {
+    plays_over(rt, alloc, shape_of(rt, resident), script, replies);
 }
 
 // Plays lines, each with its reply.

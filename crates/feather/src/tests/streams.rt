@@ -5,6 +5,7 @@ ghost use Rattle.std.specs.Prelude.{◌≡◌, Some};
 use crate::play::{PlayFault, play};
 use crate::tests::rows::CYCLE_OF_BLOCKS;
 use crate::tests::{plays_to, shape_of};
+use std::alloc::Global;
 use std::io;
 use std::io::{Read, Write};
 use std::test::Fail;
@@ -13,6 +14,76 @@ const SCRIPT: &[u8] =
     b"{\"do\":\"pat\n{\"do\":\"fly\"}\n{\"do\":\"patch\",\"block\":0,\"at\":0,\"data\":\"4\"}\n\n{\"do\":";
 
 const REPLIES: &[u8] = b"refused 1\nrefused 2\nrefused 2\nrefused 1\nrefused 1\n";
+
+// Gives what it has but for the last bytes, then once an error, and then the rest, if anyone asks.
+#[derive(Drop)]
+struct FailsOnce<'a> {
+    rest: &'a [u8],
+    after: usize,
+    failed: bool,
+}
+
+impl Read for FailsOnce<'_> {
+    ghost remaining = { λ s. Some s.rest.now };
+
+    fn read(&mut self, buf: &mut [u8]) -> io::Result<usize> {
+        if self.after == 0 && !self.failed {
+            self.failed = true;
+            return Err(io::Error::from(io::ErrorKind::Other));
+        }
+        let Some((first, rest)) = self.rest.split_first() else {
+            return Ok(0);
+        };
+        if buf.is_empty() {
+            return Ok(0);
+        }
+        buf[0] = *first;
+        self.rest = rest;
+        self.after = self.after.saturating_sub(1);
+        Ok(1)
+    }
+}
+
+// How a writer without room answers.
+#[derive(Clone, Copy, PartialEq, Eq)]
+enum NoRoom {
+    // It takes nothing, and says that it took no byte.
+    TakesNothing,
+    // One error, and then it takes all.
+    FailsOnce,
+}
+
+// Takes a byte at a time, as long as there is room.
+#[derive(Drop)]
+struct Stopping {
+    held: Vec<u8>,
+    room: usize,
+    then: NoRoom,
+}
+
+impl Write for Stopping {
+    ghost contents = { λ w. Some w.held.items };
+
+    fn write(&mut self, buf: &[u8]) -> io::Result<usize> {
+        let Some(first) = buf.first() else {
+            return Ok(0);
+        };
+        if self.room == 0 {
+            if self.then == NoRoom::TakesNothing {
+                return Ok(0);
+            }
+            self.room = usize::MAX;
+            return Err(io::Error::from(io::ErrorKind::Other));
+        }
+        self.held.push(*first)?;
+        self.room -= 1;
+        Ok(1)
+    }
+
+    fn flush(&mut self) -> io::Result<()> {
+        Ok(())
+    }
+}
 
 // Gives a byte at a time, and at the end an error, if it fails.
 #[derive(Drop)]
@@ -158,6 +229,75 @@ fn cut_at_each_byte(rt: HostRuntime) -> Result<(), Fail> {
         replies.push(b'\n')?;
         plays_to(&rt, rt.alloc(), 4, &script, &replies);
         script.push(b'\n')?;
+    }
+    Ok(())
+}
+
+// What the script that makes a cycle of two blocks has, and its replies.
+fn cycle_of_blocks(alloc: Global) -> Result<(Vec<u8>, Vec<u8>), Fail> {
+    let mut script = Vec::new(alloc);
+    let mut replies = Vec::new(alloc);
+    for (line, reply) in CYCLE_OF_BLOCKS {
+        script.extend_from_slice(line.as_bytes())?;
+        script.push(b'\n')?;
+        replies.extend_from_slice(reply.as_bytes())?;
+        replies.push(b'\n')?;
+    }
+    Ok((script, replies))
+}
+
+// The replies to the lines that end within so many bytes of the script.
+fn replies_within<'a>(script: &[u8], replies: &'a [u8], bytes: usize) -> &'a [u8] {
+    let mut lines = 0;
+    for byte in script.iter().take(bytes) {
+        if *byte == b'\n' {
+            lines += 1;
+        }
+    }
+    let mut end = 0;
+    while lines > 0 && end < replies.len() {
+        if replies[end] == b'\n' {
+            lines -= 1;
+        }
+        end += 1;
+    }
+    &replies[..end]
+}
+
+// After one error of the reader nothing more is read, and the lines whose end was read have their replies.
+#[test]
+fn reader_that_fails_once(rt: HostRuntime) -> Result<(), Fail> {
+    let (script, replies) = cycle_of_blocks(rt.alloc())?;
+    for after in 0..script.len() {
+        let mut reader = FailsOnce {
+            rest: &script,
+            after,
+            failed: false,
+        };
+        let mut writer = Vec::new(rt.alloc());
+        let played = play(rt.alloc(), &mut reader, &mut writer, shape_of(&rt, 4));
+        assert!(rt; matches!(played, Err(PlayFault::Read)));
+        assert_eq!(rt; writer.as_slice(), replies_within(&script, &replies, after));
+    }
+    Ok(())
+}
+
+// After one error of the writer, or a write of no byte, nothing more is written.
+#[test]
+fn writer_that_stops_once(rt: HostRuntime) -> Result<(), Fail> {
+    let (script, replies) = cycle_of_blocks(rt.alloc())?;
+    for then in [NoRoom::TakesNothing, NoRoom::FailsOnce] {
+        for room in 0..replies.len() {
+            let mut reader = script.as_slice();
+            let mut writer = Stopping {
+                held: Vec::new(rt.alloc()),
+                room,
+                then,
+            };
+            let played = play(rt.alloc(), &mut reader, &mut writer, shape_of(&rt, 4));
+            assert!(rt; matches!(played, Err(PlayFault::Write)));
+            assert_eq!(rt; writer.held.as_slice(), &replies[..room]);
+        }
     }
     Ok(())
 }

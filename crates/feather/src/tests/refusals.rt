@@ -1,0 +1,142 @@
+//! Each refusal of each line that a script can meet, in the order of the lines.
+
+use crate::tests::{plays_over, plays_rows};
+use fst_types::Shape;
+use std::test::Fail;
+
+// A block that is not there, in each line that names one. A line whose block is not there is refused so before all else.
+#[test]
+fn no_such_block(rt: HostRuntime) -> Result<(), Fail> {
+    plays_rows(
+        &rt,
+        rt.alloc(),
+        4,
+        &[
+            (
+                r#"{"do":"patch","block":4,"at":9,"data":"","after":[7]}"#,
+                "refused 3",
+            ),
+            (r#"{"do":"choose","block":4}"#, "refused 3"),
+            (r#"{"do":"write","block":4}"#, "refused 3"),
+            (r#"{"do":"retry","block":4}"#, "refused 3"),
+            (r#"{"do":"evict","block":4}"#, "refused 3"),
+            (r#"{"do":"show","block":4}"#, "refused 3"),
+            (r#"{"do":"crash","finish":[4]}"#, "refused 3"),
+            (r#"{"do":"crash","finish":[4294967295]}"#, "refused 3"),
+        ],
+    )
+}
+
+// A patch that was never made, in each line that names one.
+#[test]
+fn no_such_patch(rt: HostRuntime) -> Result<(), Fail> {
+    plays_rows(
+        &rt,
+        rt.alloc(),
+        4,
+        &[
+            (
+                r#"{"do":"patch","block":0,"at":0,"data":"41","after":[1]}"#,
+                "refused 5",
+            ),
+            (r#"{"do":"empty","after":[0]}"#, "refused 5"),
+            (r#"{"do":"depend","gate":1,"on":[]}"#, "refused 5"),
+            (r#"{"do":"seal","gate":1}"#, "refused 5"),
+            (r#"{"do":"place","patch":1}"#, "refused 5"),
+            (r#"{"do":"gate"}"#, "gate 1"),
+            (r#"{"do":"depend","gate":1,"on":[2]}"#, "refused 5"),
+            (r#"{"do":"stat"}"#, "stat made 1 live 1 undo 0 flights 0"),
+        ],
+    )
+}
+
+// A number that is no gate's, and one that is forgotten; both say so before the gate's being sealed.
+#[test]
+fn no_gate(rt: HostRuntime) -> Result<(), Fail> {
+    plays_rows(
+        &rt,
+        rt.alloc(),
+        4,
+        &[
+            (r#"{"do":"empty"}"#, "empty 1"),
+            (
+                r#"{"do":"patch","block":0,"at":0,"data":"41"}"#,
+                "patch 2 hard",
+            ),
+            (r#"{"do":"gate"}"#, "gate 3"),
+            (r#"{"do":"seal","gate":3}"#, "seal 3"),
+            (r#"{"do":"seal","gate":1}"#, "refused 6"),
+            (r#"{"do":"seal","gate":2}"#, "refused 6"),
+            (r#"{"do":"depend","gate":1,"on":[9]}"#, "refused 6"),
+            (r#"{"do":"depend","gate":3,"on":[9]}"#, "refused 7"),
+            (r#"{"do":"forget"}"#, "forget 2"),
+            (r#"{"do":"seal","gate":3}"#, "refused 6"),
+            (r#"{"do":"depend","gate":3,"on":[2]}"#, "refused 6"),
+        ],
+    )
+}
+
+// Of a block: nothing is ready, a write is out, it has not failed, it has a change that is not on disk.
+#[test]
+fn state_of_a_block(rt: HostRuntime) -> Result<(), Fail> {
+    plays_rows(
+        &rt,
+        rt.alloc(),
+        4,
+        &[
+            (r#"{"do":"write","block":0}"#, "refused 10"),
+            (r#"{"do":"retry","block":0}"#, "refused 13"),
+            (
+                r#"{"do":"patch","block":0,"at":0,"data":"41"}"#,
+                "patch 1 hard",
+            ),
+            (r#"{"do":"evict","block":0}"#, "refused 12"),
+            (r#"{"do":"retry","block":0}"#, "refused 13"),
+            (
+                r#"{"do":"write","block":0}"#,
+                "flight 1 block 0 patches 1 image 41000000",
+            ),
+            (r#"{"do":"write","block":0}"#, "refused 9"),
+            (r#"{"do":"retry","block":0}"#, "refused 13"),
+            (r#"{"do":"evict","block":0}"#, "refused 12"),
+            (r#"{"do":"done","ticket":0}"#, "refused 14"),
+            (r#"{"do":"done","ticket":2}"#, "refused 14"),
+            (r#"{"do":"crash","finish":[0,1]}"#, "refused 14"),
+            (r#"{"do":"crash","finish":[1,4]}"#, "refused 14"),
+            (r#"{"do":"crash","finish":[4,1]}"#, "refused 3"),
+        ],
+    )
+}
+
+// 64 writes are out, and the block of another may be written.
+#[test]
+fn all_flights(rt: HostRuntime) -> Result<(), Fail> {
+    let alloc = rt.alloc();
+    let mut script = Vec::new(alloc);
+    let mut replies = Vec::new(alloc);
+    for block in 0..65u32 {
+        let number = block + 1;
+        script.extend_from_slice(format!(in alloc;
+            "{{\"do\":\"patch\",\"block\":{block},\"at\":0,\"data\":\"41\"}}\n"
+        )?.as_bytes())?;
+        replies.extend_from_slice(format!(in alloc; "patch {number} hard\n")?.as_bytes())?;
+    }
+    for block in 0..64u32 {
+        let number = block + 1;
+        script.extend_from_slice(format!(in alloc;
+            "{{\"do\":\"write\",\"block\":{block}}}\n"
+        )?.as_bytes())?;
+        replies.extend_from_slice(format!(in alloc;
+            "flight {number} block {block} patches {number} image 41\n"
+        )?.as_bytes())?;
+    }
+    script.extend_from_slice(
+        b"{\"do\":\"pick\"}\n{\"do\":\"write\",\"block\":64}\n{\"do\":\"done\",\"ticket\":1}\n{\"do\":\"write\",\"block\":64}\n",
+    )?;
+    replies.extend_from_slice(
+        b"pick 64\nrefused 16 flights\ndone 1 block 0\nflight 65 block 64 patches 65 image 41\n",
+    )?;
+    let shape = Shape::new(65, 1, 65).expect(&rt, "the shape is within its limits");
+    plays_over(&rt, alloc, shape, &script, &replies);
+    Ok(())
+}
