@@ -21,7 +21,7 @@ pub use laws::{
     faults_have_their_own_numbers, groups_stand_in_order, headline_holds, heads_stay_lawful,
     images_stay_folds, landing_order_does_not_matter, lost_for_good, never_stuck,
     new_change_is_sound, opening_is_lawful, overlaps_land_in_order, runs_stay_lawful, settled_once,
-    step_keeps_lawful,
+    step_keeps_lawful, steps_are_fixed,
 };
 pub use limits::{
     MAX_BLOCKS, MAX_FLIGHTS, MAX_GROUPS, MAX_HEADS, MAX_NAMES, MAX_NUMBER, MAX_SIZE, MAX_TICKET,
