@@ -22,7 +22,8 @@ use Rattle.fst_types.proofs.Opened.{opening_is_lawful}
 use Rattle.fst_types.specs.Run.{ChangeMade, ShareByte, Run, start, more, made_after, is_live_number, is_number_in_memory, on_disk_of, on_disk_or_in_flight_of}
 use Rattle.fst_types.proofs.Finite.{In, In-from_Contains}
 use Rattle.fst_types.proofs.Ascends.{from_ascends}
-use Rattle.fst_types.proofs.Carries.{Never, IsFlying, Effect, quiet, landing, added_by, effect_row}
+use Rattle.fst_types.proofs.Carries.{Never, IsFlying}
+use Rattle.fst_types.proofs.Effects.{Effect, quiet, landing, added_by, effect_row}
 use Rattle.fst_types.proofs.Numbers.{place_told, one_block}
 use Rattle.fst_types.proofs.Along.{Along, along, crash_folded, image_folded, down_same, down_landed}
 

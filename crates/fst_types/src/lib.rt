@@ -17,7 +17,7 @@ pub use fault::{Fault, What};
 pub use fold::{Write, fold_over, write_over};
 pub use grade::Grade;
 pub use laws::{
-    changes_stay_fit, crash_leaves_a_closed_set, depend_makes_no_cycle, disk_is_for_good,
+    changes_go_one_way, changes_stay_fit, crash_leaves_a_closed_set, depend_makes_no_cycle,
     faults_have_their_own_numbers, groups_stand_in_order, headline_holds, heads_stay_lawful,
     images_stay_folds, landing_order_does_not_matter, lost_for_good, never_stuck,
     new_change_is_sound, opening_is_lawful, overlaps_land_in_order, runs_stay_lawful, settled_once,
