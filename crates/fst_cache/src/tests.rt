@@ -287,6 +287,7 @@ fn gates_and_empty_patches(rt: HostRuntime) -> Result<(), Fail> {
         flights: 0,
     };
     assert_eq!(rt; cache.stat(), counted);
+    assert_eq!(rt; cache.blocks(), 2);
     assert_eq!(rt; cache.forget(), 0);
     Ok(())
 }
