@@ -1,22 +1,25 @@
 -- What is told of a crash is what a crash leaves.
-use Rattle.std.proofs.Common.{◌≡◌, ℕ, Bool, true, false, cond, not, List, [], ◌∷◌, map, length, Some, refl, sym, ap, ◌∙◌, inl, inr, arith}
+use Rattle.std.proofs.Common.{◌≡◌, ◌<◌, ℕ, Bool, true, false, cond, not, List, [], ◌∷◌, map, length, Some, refl, sym, ap, ◌∙◌, inl, inr, arith}
 use Rattle.std.specs.Prelude.{◌==◌, ◌&&◌, filter, replicate, if◌then◌else◌}
 use Rattle.std.proofs.lemmas.List.{length-replicate, get_or-replicate}
 use Rattle.std.proofs.lemmas.List.Elements.{All-replicate}
 use Rattle.fst_types.specs.declared.place.Place.{Place}
 use Rattle.fst_types.specs.declared.place.Place.TheVariants as place
+use Rattle.fst_types.specs.declared.shape.Shape.{Shape}
 use Rattle.fst_types.specs.State.{State, committed}
 use Rattle.fst_types.specs.Tests.{is_among, is_at}
+use Rattle.fst_types.specs.Crash.{crash}
 use Rattle.fst_types.specs.Looks.{place_of}
 use Rattle.fst_types.specs.Fold.{Write, fold}
 use Rattle.fst_types.specs.Events.{Event, Reply}
 use Rattle.fst_types.specs.Step.{Step, accepted, refused, Row, change, empty, gate, depend, seal, issue, land, stall, lose, retry, evict, forget, choose, pick, show, ask_place, ask_flight, ask_stalled, ask_stat, group}
-use Rattle.fst_types.specs.Run.{ChangeMade, Run, start, more, made_after, is_live_number, is_number_in_memory, on_disk_of, on_disk_or_in_flight_of}
+use Rattle.fst_types.specs.Run.{ChangeMade, Call, Run, start, more, changes_in, made_after, is_live_number, is_number_in_memory, on_disk_of, on_disk_or_in_flight_of}
 use Rattle.fst_types.proofs.Finite.{In, Contains-from_In}
 use Rattle.fst_types.proofs.Opened.{opening_is_committed}
 use Rattle.fst_types.proofs.LandingOrder.{crash_is_fold, places_tell}
-use Rattle.feather.specs.Script.{opened, is_left_at, is_left}
+use Rattle.feather.specs.Script.{JobKept, opened, is_left_at, is_left, left_of}
 use Rattle.feather.specs.Law.{CrashIsTold}
+use Rattle.feather.proofs.ScriptRuns.{script_is_run}
 use Rattle.fst_types.proofs.Parts.{made_by, parts_row, grown_parts}
 use Rattle.feather.proofs.LeftLemmas.{same_test}
 
@@ -46,9 +49,9 @@ step_size : (old new : State) (e : Event) (r : Reply) → Step old e r new → n
 step_size old new e r (accepted n row) = row_size old new e r row
 step_size old new e r (refused x) = refl
 
-run_size : (first s : State) (made : List ChangeMade) → Run first made s → s.size ≡ first.size
-run_size first s made start = refl
-run_size first s made (more {made = before} {s = middle} {e = e} {r = r} run step) = step_size middle s e r step ∙ run_size first middle before run
+run_size : (first s : State) (calls : List Call) → Run first calls s → s.size ≡ first.size
+run_size first s calls start = refl
+run_size first s calls (more {calls = before} {s = middle} {e = e} {r = r} run step) = step_size middle s e r step ∙ run_size first middle before run
 
 -- tests that agree on a list's elements
 filter_agree : (p q : ChangeMade → Bool) (xs : List ChangeMade) → ((c : ChangeMade) → In xs c → p c ≡ q c) → filter p xs ≡ filter q xs
@@ -79,17 +82,24 @@ left_writes s b made false told =
     ap (map (λ (c : ChangeMade). c.write)) (filter_agree (λ c. c.block == b && is_left_at false (place_of s.heads s.numbers c.number)) (λ c. c.block == b && not (is_live_number s.heads c.number)) made
     (λ c i. let t = told c i in ap (λ x. c.block == b && x) (ap (is_left_at false) t.1 ∙ left_unfinished t.0 ∙ ap not (sym t.2))))
 
-pub crash_is_told : CrashIsTold
-crash_is_told shape made s jobs run finish b lt =
+told_over : (shape : Shape) (calls : List Call) (s : State) (jobs : List JobKept) → Run (opened shape).cache calls s
+    → (finish : List ℕ) (b : ℕ) → b < shape.blocks → left_of (record { cache = s; jobs = jobs; made = changes_in calls }) finish b ≡ crash s (is_among finish) b
+told_over shape calls s jobs run finish b lt =
+    let made = changes_in calls in
     let zero : List ℕ = replicate shape.size 0 in
     let zeros = replicate shape.blocks zero in
     let sized = All-replicate (λ (x : List ℕ). length x ≡ shape.size) shape.blocks zero (length-replicate shape.size 0) in
-    let law = crash_is_fold shape.size shape.resident 0 0 zeros sized (omega arith) (omega arith) made s run (is_among finish) b in
-    let told = λ (c : ChangeMade) (i : In made c). places_tell shape.size shape.resident 0 0 zeros sized (omega arith) (omega arith) made s run c (Contains-from_In made c i) in
+    let law = crash_is_fold shape.size shape.resident 0 0 zeros sized (omega arith) (omega arith) calls s run (is_among finish) b in
+    let told = λ (c : ChangeMade) (i : In made c). places_tell shape.size shape.resident 0 0 zeros sized (omega arith) (omega arith) calls s run c (Contains-from_In made c i) in
     let base : committed (opened shape).cache b ≡ zero = opening_is_committed shape.size shape.resident 0 0 zeros b ∙ get_or-replicate shape.blocks b zero [] lt in
     let finished = is_among finish b in
     let left : List Write = if finished then on_disk_or_in_flight_of s b made else on_disk_of s b made in
     let same = filter_agree (λ c. c.block == b && is_left s finish c) (λ c. c.block == b && is_left_at finished (place_of s.heads s.numbers c.number)) made (λ c i. same_test s finish b c) in
-    ap (λ n. fold (replicate n 0) (map (λ (c : ChangeMade). c.write) (filter (λ c. c.block == b && is_left s finish c) made))) (run_size (opened shape).cache s made run)
+    ap (λ n. fold (replicate n 0) (map (λ (c : ChangeMade). c.write) (filter (λ c. c.block == b && is_left s finish c) made))) (run_size (opened shape).cache s calls run)
     ∙ ap (fold zero) (ap (map (λ (c : ChangeMade). c.write)) same ∙ left_writes s b made finished told)
     ∙ sym (law ∙ ap (λ x. fold x left) base)
+
+pub crash_is_told : CrashIsTold
+crash_is_told shape lines sent p h finish b lt =
+    let r = script_is_run shape lines sent p h in
+    ap (λ m. left_of (record p { made = m }) finish b) r.2 ∙ told_over shape r.0 p.cache p.jobs r.1 finish b lt

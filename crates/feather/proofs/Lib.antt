@@ -10,4 +10,5 @@ pub mod TellLemmas
 pub mod JobLemmas
 pub mod LeftLemmas
 pub mod ZeroLemmas
+pub mod ScriptRuns
 pub mod CrashTold

@@ -1,14 +1,19 @@
--- What is told of a crash, over runs of the cache.
+-- A script's run is a run of the cache, and what is told of a crash is what the crash leaves.
 use Rattle.std.specs.Prelude.{◌≡◌, ℕ, ◌<◌, List}
 use Rattle.fst_types.specs.declared.shape.Shape.{Shape}
-use Rattle.fst_types.specs.State.{State}
 use Rattle.fst_types.specs.Tests.{is_among}
 use Rattle.fst_types.specs.Crash.{crash}
-use Rattle.fst_types.specs.Run.{ChangeMade, Run}
-use Rattle.feather.specs.Script.{JobKept, opened, left_of}
+use Rattle.fst_types.specs.Run.{Call, Run, changes_in}
+use Rattle.feather.specs.Script.{PlayerState, opened, IsScriptRun, left_of}
 
--- where a player keeps the changes of its cache's run, it tells of each block what a crash leaves of it
+-- what a script's lines come to is a run of the cache from its opening, and the player keeps the changes that it made
+abbrev pub ScriptIsRun : Type 0
+ScriptIsRun =
+    (shape : Shape) (lines : List (List ℕ)) (sent : List ℕ) (p : PlayerState) → IsScriptRun (opened shape) lines sent p
+    → (calls : List Call) × Run (opened shape).cache calls p.cache × (p.made ≡ changes_in calls)
+
+-- so, whatever the lines were, what the player tells of each block after a crash is what the crash leaves of it
 abbrev pub CrashIsTold : Type 0
 CrashIsTold =
-    (shape : Shape) (made : List ChangeMade) (s : State) (jobs : List JobKept) → Run (opened shape).cache made s
-    → (finish : List ℕ) (b : ℕ) → b < shape.blocks → left_of (record { cache = s; jobs = jobs; made = made }) finish b ≡ crash s (is_among finish) b
+    (shape : Shape) (lines : List (List ℕ)) (sent : List ℕ) (p : PlayerState) → IsScriptRun (opened shape) lines sent p
+    → (finish : List ℕ) (b : ℕ) → b < shape.blocks → left_of p finish b ≡ crash p.cache (is_among finish) b

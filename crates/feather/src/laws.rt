@@ -1,9 +1,14 @@
-//! A law over the definitions: a function with an empty body, whose contract is the law.
+//! Laws over the definitions: functions with empty bodies, whose contracts are the laws.
 
-ghost use Rattle.feather.specs.Law.{CrashIsTold};
+ghost use Rattle.feather.specs.Law.{CrashIsTold, ScriptIsRun};
 
-/// What the reply to `crash` tells of a block is what a crash leaves of it, where the changes that the player keeps are
-/// those of its cache's run.
+/// What a script's lines come to is a run of the cache from its opening, and the changes that the player keeps are those
+/// that the run made.
+pub fn script_is_run()
+    ensures { ScriptIsRun }
+{}
+
+/// Whatever the lines before it were, what the reply to `crash` tells of a block is what the crash leaves of it.
 pub fn crash_is_told()
     ensures { CrashIsTold }
 {}

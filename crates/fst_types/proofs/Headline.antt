@@ -11,5 +11,5 @@ headline_lem s L = record {
   writes_stand_alone = L.heads.flights_stand_alone.needs;
   crash_is_closed = λ finished. closed_lem s finished L;
   crash_is_fold = λ finished. crash_lem s finished L;
-  completes_once = λ later settled run. settled_once s later settled L.tickets run;
+  completes_once = λ later calls run. settled_once s later calls L.tickets run;
 }

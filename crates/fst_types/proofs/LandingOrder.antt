@@ -1,8 +1,10 @@
 -- Landing order does not matter: over a run from an opening, blocks are the opening bytes with the run's changes over them.
-use Rattle.std.proofs.Common.{◌≡◌, ℕ, ◌<◌, Bool, cond, not, List, [], ◌++◌, Contains, Some, refl, sym, ap, subst, ◌∙◌, inl, inr}
+use Rattle.std.proofs.Common.{◌≡◌, ℕ, ◌<◌, Bool, cond, not, List, [], ◌∷◌, ◌++◌, Contains, Option, Some, None, refl, sym, ap, subst, ◌∙◌, inl, inr}
 use Rattle.std.specs.Prelude.{AllPairs}
 use Rattle.std.proofs.lemmas.Bool.{cases_eq}
+use Rattle.std.specs.List.{cons_option}
 use Rattle.std.proofs.lemmas.List.{append-nil}
+use Rattle.std.proofs.lemmas.List.Elements.{filter_map-append}
 use Rattle.fst_types.specs.declared.place.Place.{Place}
 use Rattle.fst_types.specs.declared.place.Place.TheVariants as place
 use Rattle.fst_types.specs.declared.fault.Fault.{Fault}
@@ -13,13 +15,13 @@ use Rattle.fst_types.specs.State.{State, Flight, committed, flight_of}
 use Rattle.fst_types.specs.Dependencies.{IsOnDisk}
 use Rattle.fst_types.specs.Facts.{IsLawful}
 use Rattle.fst_types.specs.Events.{Event, MakeChange, MakeEmpty, MakeGate, Depend, Seal, Issue, Settle, Retry, Evict, Forget, Choose, Pick, Show, AskPlace, AskFlight, AskStalled, AskStat, GroupNew, GroupAfter, GroupPatch, GroupClose, Reply, Refused}
-use Rattle.fst_types.specs.Step.{Step, accepted, refused, GroupRow, group_new, group_after, group_patch, group_close, Row, change, empty, gate, depend, seal, issue, land, stall, lose, retry, evict, forget, choose, pick, show, ask_place, ask_flight, ask_stalled, ask_stat, group}
+use Rattle.fst_types.specs.Step.{Step, accepted, refused}
 use Rattle.fst_types.specs.Laws.{OverEachRun, RunKeepsLawful, RunsStayLawful, MadeInOrder, CommittedIsFold, ImageIsFold, CrashIsFold, RunLandsInOrder, PlacesTell}
 use Rattle.fst_types.specs.Opening.{opening}
 use Rattle.fst_types.specs.Crash.{crash}
 use Rattle.fst_types.proofs.Bounds.{step_keeps_lawful}
 use Rattle.fst_types.proofs.Opened.{opening_is_lawful}
-use Rattle.fst_types.specs.Run.{ChangeMade, ShareByte, Run, start, more, made_after, is_live_number, is_number_in_memory, on_disk_of, on_disk_or_in_flight_of}
+use Rattle.fst_types.specs.Run.{ChangeMade, ShareByte, Call, Run, start, more, change_made, changes_in, with_change, made_after, is_live_number, is_number_in_memory, on_disk_of, on_disk_or_in_flight_of}
 use Rattle.fst_types.proofs.Finite.{In, In-from_Contains}
 use Rattle.fst_types.proofs.Ascends.{from_ascends}
 use Rattle.fst_types.proofs.Carries.{Never, IsFlying}
@@ -46,33 +48,20 @@ along_effect first old new made added (landing b f flight image others C) lawful
     ])
 
 -- the changes made so far are those before and the one added
-made_row : (old new : State) (e : Event) (r : Reply) (made : List ChangeMade) → Row old e r new → made_after made e r ≡ made ++ added_by e r
-made_row old new e r made (change m) = refl
-made_row old new e r made (empty m) = sym (append-nil made)
-made_row old new e r made (gate m) = sym (append-nil made)
-made_row old new e r made (depend m) = sym (append-nil made)
-made_row old new e r made (seal m) = sym (append-nil made)
-made_row old new e r made (issue m) = sym (append-nil made)
-made_row old new e r made (land m) = sym (append-nil made)
-made_row old new e r made (stall m) = sym (append-nil made)
-made_row old new e r made (lose m) = sym (append-nil made)
-made_row old new e r made (retry m) = sym (append-nil made)
-made_row old new e r made evict = sym (append-nil made)
-made_row old new e r made (forget m) = sym (append-nil made)
-made_row old new e r made (choose m) = sym (append-nil made)
-made_row old new e r made (pick m) = sym (append-nil made)
-made_row old new e r made show = sym (append-nil made)
-made_row old new e r made ask_place = sym (append-nil made)
-made_row old new e r made ask_flight = sym (append-nil made)
-made_row old new e r made (ask_stalled m) = sym (append-nil made)
-made_row old new e r made ask_stat = sym (append-nil made)
-made_row old new e r made (group m) = same e r m
+made_row : (e : Event) (r : Reply) (made : List ChangeMade) → made_after made e r ≡ made ++ added_by e r
+made_row e r made = one (change_made e r)
   where
-    same : (e : Event) (r : Reply) → GroupRow old e r new → made_after made e r ≡ made ++ added_by e r
-    same e r (group_new m) = sym (append-nil made)
-    same e r (group_after m) = sym (append-nil made)
-    same e r (group_patch m) = refl
-    same e r (group_close m) = sym (append-nil made)
+    one : (o : Option ChangeMade) → with_change made o ≡ made ++ with_change [] o
+    one None = sym (append-nil made)
+    one (Some c) = refl
+
+-- the changes of the calls, with one call more
+pub changes_more : (calls : List Call) (e : Event) (r : Reply) → changes_in (calls ++ record { event = e; reply = r } ∷ []) ≡ made_after (changes_in calls) e r
+changes_more calls e r = filter_map-append (λ c. change_made c.event c.reply) calls (record { event = e; reply = r } ∷ []) ∙ one (change_made e r)
+  where
+    one : (o : Option ChangeMade) → changes_in calls ++ cons_option o [] ≡ with_change (changes_in calls) o
+    one None = append-nil (changes_in calls)
+    one (Some c) = refl
 
 none_made : (e : Event) (f : Fault) (made : List ChangeMade) → made_after made e (Refused f) ≡ made
 none_made (MakeChange share b at bytes after faulted) f made = refl
@@ -99,7 +88,7 @@ none_made (GroupClose n) f made = refl
 
 along_step : (first old new : State) (e : Event) (r : Reply) (made : List ChangeMade) → Step old e r new → Along first old made → Along first new (made_after made e r)
 along_step first old new e r made (accepted n row) A =
-    subst (Along first new) (sym (made_row old new e r made row))
+    subst (Along first new) (sym (made_row e r made))
     (along_effect first old new made (added_by e r) (effect_row old new e r n row A.lawful.heads A.lawful.changes_fit) (step_keeps_lawful old new e r A.lawful (accepted n row)) A)
 along_step first old new e r made (refused {fault = f} refusal) A = subst (Along first old) (sym (none_made e f made)) A
 
@@ -115,18 +104,19 @@ along_start first lawful none = record {
   folded = λ b. refl;
 }
 
-along_run : (first s : State) (made : List ChangeMade) → IsLawful first → first.heads ≡ [] → Run first made s → Along first s made
-along_run first s made lawful none start = along_start first lawful none
-along_run first s made lawful none (more {made = before} {s = middle} {e = e} {r = r} run step) = along_step first middle s e r before step (along_run first middle before lawful none run)
+along_run : (first s : State) (calls : List Call) → IsLawful first → first.heads ≡ [] → Run first calls s → Along first s (changes_in calls)
+along_run first s calls lawful none start = along_start first lawful none
+along_run first s calls lawful none (more {calls = before} {s = middle} {e = e} {r = r} run step) =
+    subst (Along first s) (sym (changes_more before e r)) (along_step first middle s e r (changes_in before) step (along_run first middle before lawful none run))
 
 pub run_keeps_lawful : RunKeepsLawful
-run_keeps_lawful first s made lawful start = lawful
-run_keeps_lawful first s made lawful (more {made = before} {s = middle} {e = e} {r = r} run step) = step_keeps_lawful middle s e r (run_keeps_lawful first middle before lawful run) step
+run_keeps_lawful first s calls lawful start = lawful
+run_keeps_lawful first s calls lawful (more {calls = before} {s = middle} {e = e} {r = r} run step) = step_keeps_lawful middle s e r (run_keeps_lawful first middle before lawful run) step
 
 -- what holds along each run holds over each run from an opening
 over_each : (P : State → List ChangeMade → State → Type 0) → ((first s : State) (made : List ChangeMade) → Along first s made → P first made s) → OverEachRun P
-over_each P holds size resident numbers tickets bytes sized few less made s run =
-    holds (opening size resident numbers tickets bytes) s made (along_run (opening size resident numbers tickets bytes) s made (opening_is_lawful size resident numbers tickets bytes sized few less) refl run)
+over_each P holds size resident numbers tickets bytes sized few less calls s run =
+    holds (opening size resident numbers tickets bytes) s (changes_in calls) (along_run (opening size resident numbers tickets bytes) s calls (opening_is_lawful size resident numbers tickets bytes sized few less) refl run)
 
 pub runs_stay_lawful : RunsStayLawful
 runs_stay_lawful = over_each (λ first made s. IsLawful s) (λ first s made A. A.lawful)

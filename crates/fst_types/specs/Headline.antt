@@ -8,7 +8,7 @@ use Rattle.fst_types.specs.State.{Flight, State, committed, flight_of}
 use Rattle.fst_types.specs.Bytes.{changes_at, fold_of}
 use Rattle.fst_types.specs.Facts.{IsInFlightOn, IsLawful}
 use Rattle.fst_types.specs.Crash.{crash, IsLeft}
-use Rattle.fst_types.specs.Run.{Settles}
+use Rattle.fst_types.specs.Run.{Call, Run, settled_in}
 
 -- each patch is in memory, in flight or on disk: a number has at most one head, and that one place
 abbrev pub OnePlaceEach : List Patch → Type 0
@@ -34,7 +34,7 @@ CrashIsFold s = (finished : ℕ → Bool)
 
 -- from here on no write completes twice
 abbrev pub CompletesOnce : State → Type 0
-CompletesOnce s = (later : State) (settled : List ℕ) → Settles s settled later → AllPairs (λ t u. t ≢ u) settled
+CompletesOnce s = (later : State) (calls : List Call) → Run s calls later → AllPairs (λ t u. t ≢ u) (settled_in calls)
 
 pub record Headline (s : State) : Type 0 where
   pub one_place_each : OnePlaceEach s.heads
