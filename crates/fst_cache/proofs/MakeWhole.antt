@@ -1,11 +1,13 @@
 -- Making a change from end to end: room in the graph, the block in memory, its patch, the change in the graph.
-use Rattle.std.proofs.Common.{◌≡◌, ◌+◌, ℕ, Bool, true, List, [], ◌∷◌, ◌++◌, map, Option, refl, sym, ap, subst, ◌∙◌, inl, inr, length, slice_set, take}
-use Rattle.std.specs.Prelude.{slice_index, IsErrOf, Err, Ok, Result, IfOk, MatchResult, ◌⊎◌}
+use Rattle.std.proofs.Common.{◌≡◌, ◌+◌, ℕ, Bool, true, List, [], ◌∷◌, ◌++◌, map, Option, refl, sym, ap, subst, ◌∙◌, inl, inr, length, slice_set, take, arith}
+use Rattle.std.proofs.lemmas.Bool.{both_ways}
+use Rattle.std.specs.Prelude.{nat_lt, slice_index, IsErrOf, Err, Ok, Result, IfOk, MatchResult, ◌⊎◌}
 use Rattle.fst_types.specs.declared.number.PatchNo.{PatchNo}
 use Rattle.fst_types.specs.declared.fault.Fault.{Fault}
 use Rattle.fst_types.specs.declared.fault.Fault.TheVariants as fault
 use Rattle.fst_types.specs.declared.grade.Grade.{Grade}
 use Rattle.fst_types.specs.State.{State}
+use Rattle.fst_types.specs.Counts.{is_dirty, IsDirty}
 use Rattle.fst_types.specs.Residence.{faults_rose}
 use Rattle.fst_types.specs.Events.{MakeChange, MadeChange, Refused}
 use Rattle.fst_types.specs.Order.{make_order, IsLoadFault}
@@ -17,7 +19,7 @@ use Rattle.fst_cache.specs.Seats.{SeatView}
 use Rattle.fst_cache.specs.Kept.{IsKept, state_of, span_of}
 use Rattle.fst_cache.specs.Making.{MayHold, MayLoad, Puts}
 use Rattle.fst_cache.proofs.Kept.{same_listed}
-use Rattle.fst_cache.proofs.ResideLoading.{Loaded}
+use Rattle.fst_cache.proofs.ResideLoading.{Loaded, loads_clean}
 use Rattle.fst_cache.proofs.MakeRefused.{refused_by_load}
 use Rattle.fst_cache.proofs.MakeReady.{loaded, same_state, kept_ready}
 use Rattle.fst_cache.proofs.MakeStep.{after_it, step_change, kept_change}
@@ -30,12 +32,24 @@ module _ (size resident tickets made : ℕ) (graph graph' : Known) (prepared : O
   abbrev ready : State
   ready = state_of size resident tickets made graph' contents seats'
 
+  -- the slot's count of faults rose
+  abbrev has_risen : Bool
+  has_risen = faults_rose (map (λ (t : SeatView). t.faults) seats) (map (λ (t : SeatView). t.faults) seats') b
+
+  -- then the block was read, so it was not dirty
+  read_clean : MayLoad resident seats b seats' → has_risen ≡ true → IsDirty before b → ⊥
+  read_clean (inl here) up dirty = not_above (slice_index (map (λ (t : SeatView). t.faults) seats) b) (subst (λ (xs : List SeatView). faults_rose (map (λ (t : SeatView). t.faults) seats) (map (λ (t : SeatView). t.faults) xs) b ≡ true) here.1 up)
+    where
+      not_above : (n : ℕ) → nat_lt n n ≡ true → ⊥
+      not_above n up = grind (arith, up)
+  read_clean (inr L) up dirty = both_ways (is_dirty before.heads b) (loads_clean before graph seats K refl b seats' L) dirty
+
   -- where the block could not be read, or its patch could not be put, the state is as it was
-  pub step_refused : MayLoad resident seats b seats' → MayHold before share b at bytes → NoneHolds (make_order graph.heads graph.numbers names) → (faulted : Bool) (fault : Fault) → IsLoadFault faulted fault
-      → Step before (MakeChange share b at bytes names faulted) (Refused fault) ready
-  step_refused load may none faulted fault free =
-      subst (λ (s : State). Step before (MakeChange share b at bytes names faulted) (Refused fault) s) (sym (same_state size resident tickets made graph graph' prepared same contents seats seats' K b load))
-      (refused (refused_by_load before share b at bytes names faulted may fault none free))
+  pub step_refused : MayLoad resident seats b seats' → MayHold before share b at bytes → NoneHolds (make_order graph.heads graph.numbers names) → (fault : Fault) → IsLoadFault has_risen fault
+      → Step before (MakeChange share b at bytes names has_risen) (Refused fault) ready
+  step_refused load may none fault free =
+      subst (λ (s : State). Step before (MakeChange share b at bytes names has_risen) (Refused fault) s) (sym (same_state size resident tickets made graph graph' prepared same contents seats seats' K b load))
+      (refused (refused_by_load before share b at bytes names has_risen may fault none (elim free [ inl memory ↦ inl memory | inr device ↦ inr (read_clean load device.1, inr device) ])))
 
   module _ (number : ℕ) (grade : Grade) (may : MayHold before share b at bytes) (puts : Puts resident seats b (record { number = number; span = span_of at (length bytes); grade = grade; bytes = bytes }) seats')
       (graph'' : Known) (adds : AddsChange graph' b at (length bytes) names number grade graph'') where

@@ -72,7 +72,7 @@ returns-in-Err-put-clause-step g c =
     let long : i.seats.len ≡ length c.put.new.seats = omega (arith, i.seats.ok.0, c.put.auto.seats, c.deref_mut.ensures.len) in
     let load = load_here i.resident i.seats.items c.deref_mut.result.now c.put.new.seats c.args.block.0 i.seats.len (drop (length c.put.new.seats) i.seats.items) c.deref_mut.ensures.value long (c.in-Err-put.ensures.refused refl) in
     rw (← c.self.view_is)
-    (step_refused i.size i.resident i.tickets i.made i.graph c.room.new.self _ c.in-Ok.ensures.prepared i.contents.items i.seats.items _ c.self.invariant c.args.share.now c.args.block.0 c.args.at c.args.bytes.now (numbers_of c.args.after.now) load may c.in-Ok.ensures.ok.1.clear _ c.in-Err-put.fault
+    (step_refused i.size i.resident i.tickets i.made i.graph c.room.new.self _ c.in-Ok.ensures.prepared i.contents.items i.seats.items _ c.self.invariant c.args.share.now c.args.block.0 c.args.at c.args.bytes.now (numbers_of c.args.after.now) load may c.in-Ok.ensures.ok.1.clear c.in-Err-put.fault
     (load_fault _ c.in-Err-put.fault _ refl (c.in-Err-put.ensures.kinds refl)
     (λ d. rose_here i.resident i.seats.items c.deref_mut.result.now c.put.new.seats c.args.block.0 i.seats.len (drop (length c.put.new.seats) i.seats.items) c.deref_mut.ensures.value long (c.in-Err-put.ensures.device d))))
 
