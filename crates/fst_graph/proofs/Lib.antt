@@ -11,7 +11,6 @@ pub mod Kept
 pub mod GateSlot
 pub mod Touching
 pub mod Forgetting
-pub mod Nearest
 pub mod Picked
 pub mod Missing
 pub mod Marked
@@ -54,7 +53,6 @@ pub mod Settling
 pub mod Launching
 pub mod Passing
 pub mod Quiet
-pub mod Cascaded
 pub mod Tallied
 pub mod Resting
 pub mod Borne

@@ -14,5 +14,4 @@ pub mod Nodes
 pub mod Lists
 pub mod Standings
 pub mod Spreading
-pub mod Cascaded
 pub mod Descending

@@ -12,12 +12,11 @@ ghost use Rattle.fst_graph.specs.Heads.{IsRising, patches_of};
 ghost use Rattle.fst_graph.specs.Keeps.{IsInside};
 ghost use Rattle.fst_graph.specs.Lists.{entries_of, entries_on, AreListed};
 ghost use Rattle.fst_graph.specs.Marks.{HasSlot, PassesAt, Shows};
-ghost use Rattle.fst_graph.specs.Reaching.{IsReached};
+ghost use Rattle.fst_graph.specs.Reaching.{IsReached, ShowsBlocks};
 
 use crate::head::{Head, Kind};
 use crate::lists::Listed;
 use crate::marks::slot_of;
-use crate::reach::show_only;
 use crate::shortcuts::{is_hard_number, names_passing, passes_at};
 use crate::test::{Test, is_live};
 
@@ -162,6 +161,16 @@ fn cross_all(crossed: &mut [bool])
 {
     for shown in crossed.iter_mut() {
         *shown = true;
+    }
+}
+
+// Only the block is shown as crossed.
+fn show_only(reached: &mut [bool], block: u32)
+    requires { block < length reached.old }
+    ensures { ShowsBlocks reached.new (λ c. c ≡ block) }
+{
+    for (other, shown) in reached.iter_mut().enumerate() {
+        *shown = other == block as usize;
     }
 }
 

@@ -8,7 +8,6 @@ ghost use Rattle.fst_types.specs.Order.{room_order, make_order, seal_order, depe
 ghost use Rattle.fst_types.specs.Refusals.{IsFirst, NoneHolds};
 ghost use Rattle.fst_types.specs.Writable.{IsWritableSet, HasReady, IsHeld, IsLeastHeld};
 ghost use Rattle.fst_types.specs.Tests.{is_live};
-ghost use Rattle.fst_types.specs.Cascade.{IsCascadeOf};
 ghost use Rattle.fst_types.specs.declared.grade.Grade.{Grade};
 ghost use Rattle.fst_graph.specs.Known.{Known, unprepared, prepared_for, Foresees, numbers_of, rest_place, Refuses, AddsGate, AddsEmpty, AddsChange, SealsGate, DependsGate, Launches, IsStuckByGates, LandsBlock, MayLaunch, Forgets};
 
@@ -21,14 +20,12 @@ use crate::links::{link, reserve_above};
 use crate::lists::{Listed, empty_lists, land_block};
 use crate::marks::{ask, slot_of};
 use crate::pending::{Pending, is_pending, no_sums, over_block};
-use crate::pick::least_writable;
 use crate::places::{block_of, keep_live, keep_live_numbers, launch_all, live_count};
 use crate::prepared::{Prepared, prepare};
 use crate::refusals::{make_fault, room_fault};
-use crate::row::{dependencies_of, is_given, live_named, row_sums};
+use crate::row::{is_given, live_named, row_sums};
 use crate::standing::{Standing, empty_standings, is_resting, land_at, least_marked};
 use crate::test::Test;
-use crate::walked::{are_placed, grade_by_walk};
 use fst_types::{BlockNo, Fault, Grade, PatchNo, Place, Shape, Span};
 use smallvec::SmallVec;
 use std::alloc::{AllocError, Global};
@@ -416,35 +413,6 @@ impl Graph {
         Ok((PatchNo(self.numbers + 1), grade))
     }
 
-    // The grade of such a change by walks over the patches, for tests.
-    pub(crate) fn grade_by_walk(
-        &mut self,
-        block: BlockNo,
-        span: Span,
-        after: &[PatchNo],
-    ) -> Result<Grade, Fault>
-        requires { block.0 < self.old.blocks }
-        ensures ok { IfOk result (λ grade. Foresees (unprepared self.old) block.0 span.at span.len (numbers_of after.now) (self.old.numbers + 1) grade) }
-        ensures same { self.new ≡ unprepared self.old }
-    {
-        self.prepared = None;
-        if let Some(fault) = make_fault(&self.heads, self.numbers, after) {
-            return Err(fault);
-        }
-        let list = &self.lists[block.0 as usize];
-        let Ok(row) = dependencies_of(self.alloc, &self.heads, list, block.0, span, after) else {
-            return Err(Fault::Memory);
-        };
-        Ok(grade_by_walk(
-            &self.heads,
-            &self.order,
-            &mut self.marks,
-            &mut self.reached,
-            block.0,
-            row.as_slice(),
-        ))
-    }
-
     // Whether a change with these arguments is prepared.
     fn is_prepared(&self, block: BlockNo, span: Span, after: &[PatchNo]) -> bool
         ensures { IsTrue result ↔ ((number : ℕ) × (grade : Grade) × (self.now.prepared ≡ Some (prepared_for block.0 span.at span.len (numbers_of after.now) number grade))) }
@@ -564,20 +532,4 @@ impl Graph {
         least_marked(&self.standings)
     }
 
-    // The same by a walk over the patches for each block, for tests.
-    pub(crate) fn pick_by_walk(&mut self) -> Option<BlockNo>
-        ensures least { IsPick self.old.heads (option_map (λ b. b.0) result) }
-        ensures never_stuck { IfNone result (IsStuckByGates self.old.heads) }
-        ensures same { self.new ≡ unprepared self.old }
-    {
-        self.prepared = None;
-        least_writable(&self.heads, &self.order, &mut self.marks, self.blocks)
-    }
-
-    // Whether each empty patch and sealed gate is where the cascade has it, which always holds: for tests.
-    pub(crate) fn has_cascaded(&self) -> bool
-        ensures { IsTrue result ↔ IsCascadeOf self.now.heads self.now.heads }
-    {
-        are_placed(&self.heads)
-    }
 }

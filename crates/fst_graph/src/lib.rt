@@ -13,16 +13,13 @@ mod links;
 mod lists;
 mod marks;
 mod pending;
-mod pick;
 mod places;
 mod prepared;
-mod reach;
 mod refusals;
 mod row;
 mod shortcuts;
 mod standing;
 mod test;
-mod walked;
 
 pub use graph::Graph;
 

@@ -5,7 +5,7 @@ ghost use Rattle.std.specs.Prelude.{◌≡◌, ◌<◌, ◌≤◌};
 
 use crate::graph::Graph;
 use crate::tests::same::{
-    same_answer, same_block, same_change, same_count, same_grade, same_held, same_number,
+    same_answer, same_block, same_change, same_count, same_held, same_number,
     same_patches, same_place,
 };
 use crate::tests::twin::Twin;
@@ -107,10 +107,8 @@ impl Pair {
         let span = Span { at, len };
         let names = dice.names(self.alloc, self.twin.numbers())?;
         let is_foreseen = dice.roll(2) == 0;
-        let walked = self.graph.grade_by_walk(block, span, &names);
         let made = answer_to(rt, &mut self.graph, block, span, &names, is_foreseen);
         same_change(rt, made, self.twin.try_data(block, span, &names)?);
-        same_grade(rt, made, walked);
         Ok(())
     }
 
@@ -206,20 +204,11 @@ impl Pair {
     fn compare_pick(&mut self, rt: &impl Abort) -> Result<(), Fail> {
         let picked = self.graph.pick();
         same_block(rt, picked, self.twin.pick()?);
-        same_block(rt, picked, self.graph.pick_by_walk());
         Ok(())
-    }
-
-    fn compare_cascade(&self, rt: &impl Abort) {
-        assert!(rt;
-            self.graph.has_cascaded(),
-            "an empty patch or a sealed gate is not where the cascade has it"
-        );
     }
 
     fn compare(&mut self, rt: &impl Abort) -> Result<(), Fail> {
         self.compare_places(rt);
-        self.compare_cascade(rt);
         for block in 0..self.blocks {
             self.compare_chosen(rt, BlockNo(block))?;
             self.compare_held(rt, BlockNo(block))?;

@@ -22,19 +22,6 @@ pub fn same_change(
     assert_eq!(rt; made, expected);
 }
 
-/// The grade of a new change, and what a walk answered before.
-pub fn same_grade(
-    rt: &impl Abort,
-    made: Result<(PatchNo, Grade), Fault>,
-    walked: Result<Grade, Fault>,
-) {
-    let grade = match made {
-        Ok((_, grade)) => Ok(grade),
-        Err(fault) => Err(fault),
-    };
-    assert_eq!(rt; grade, walked);
-}
-
 /// What `seal` or `depend` answers.
 pub fn same_answer(rt: &impl Abort, answer: Result<(), Fault>, expected: Result<(), Fault>) {
     assert_eq!(rt; answer, expected);
