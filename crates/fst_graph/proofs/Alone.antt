@@ -1,9 +1,9 @@
--- A change that waits for its block alone, and nothing of the block in flight, is in the writable set of the block.
+-- A change that waits for its block alone, and for nothing in flight, is in the writable set of the block.
 use Rattle.std.proofs.Common.{◌≡◌, ◌⊎◌, ℕ, List, Contains, refl, sym, ap, subst, ◌∙◌, inl, inr}
 use Rattle.fst_types.specs.declared.place.Place.{Place}
 use Rattle.fst_types.specs.declared.place.Place.TheVariants as place
 use Rattle.fst_types.specs.Closure.{one, join}
-use Rattle.fst_types.specs.Dependencies.{DirectlyOn, DependsOn}
+use Rattle.fst_types.specs.Dependencies.{DirectlyOn, DependsOn, Needs}
 use Rattle.fst_types.specs.Facts.{HeadsAreLawful}
 use Rattle.fst_types.specs.Patches.{Patch, IsOn, IsOpenGate, block_of_kind}
 use Rattle.fst_types.specs.Writable.{IsInMemoryOn, InWritableSet}
@@ -34,26 +34,27 @@ module _ (nodes : List Node) (numbers blocks : ℕ) (H : HeadsAreLawful (patches
       let rising = H.one_place_each.rising in
       low_node nodes blocks rising H.on_disk_with_all S b q h (low_depends nodes blocks rising H.on_disk_with_all S b x.patch.number q.number d (inr (told_of nodes x rising c ∙ e)))
 
-  module _ (rest : (p : Patch) → Contains (patches_in nodes) p → IsOn p b → p.place ≡ place.Flight → ⊥) where
-    -- a change that waits for the block alone is on disk, or in memory on the block
-    low_place : (c : ℕ) (y : Node) → Contains nodes y → IsOn y.patch c → IsLow b y.pending → (y.patch.place ≡ place.Disk) ⊎ IsInMemoryOn (patches_in nodes) b y.patch
-    low_place c y h on (inl e) = inl ((S.placed y h).0 e)
-    low_place c y h on (inr e) =
-        let k = low_change b c y.patch.kind y.patch.place (joined told y.patch.dependencies) on (sym (S.settled y h) ∙ e) in
-        let own = subst (IsOn y.patch) k.0 on in
-        inr (record { head = patch_in nodes y h; change = own; memory = in_memory_else y.patch.place k.1 (rest y.patch (patch_in nodes y h) own) })
+  -- a change that waits for the block alone is on disk, or in memory on the block if it is not in flight
+  low_place : (c : ℕ) (y : Node) → Contains nodes y → IsOn y.patch c → (IsOn y.patch b → y.patch.place ≡ place.Flight → ⊥) → IsLow b y.pending → (y.patch.place ≡ place.Disk) ⊎ IsInMemoryOn (patches_in nodes) b y.patch
+  low_place c y h on rest (inl e) = inl ((S.placed y h).0 e)
+  low_place c y h on rest (inr e) =
+      let k = low_change b c y.patch.kind y.patch.place (joined told y.patch.dependencies) on (sym (S.settled y h) ∙ e) in
+      let own = subst (IsOn y.patch) k.0 on in
+      inr (record { head = patch_in nodes y h; change = own; memory = in_memory_else y.patch.place k.1 (rest own) })
 
-    pub waits_in : (x : Node) → Contains nodes x → IsInMemoryOn (patches_in nodes) b x.patch → x.pending ≡ pending.Block b → InWritableSet (patches_in nodes) b x.patch
-    waits_in x c m e = record {
-      in_memory = m;
-      free = λ k.
-          let y = below_node x c e k.gate k.head k.depends in
-          gate_high nodes blocks H.one_place_each.rising H.on_disk_with_all S b y.0 y.1 (ap (λ r. r.kind) y.2 ∙ k.is_open) y.3;
-      needs = λ q on n.
-          let y = below_node x c e q n.head n.depends in
-          subst (λ r. (r.place ≡ place.Disk) ⊎ IsInMemoryOn (patches_in nodes) b r) y.2
-          (low_place on y.0 y.1 (subst (λ r. IsOn r on) (sym y.2) n.change) y.3);
-    }
+  pub waits_in : (x : Node) → Contains nodes x → IsInMemoryOn (patches_in nodes) b x.patch → ((p : Patch) → Needs (patches_in nodes) x.patch.number p b → p.place ≡ place.Flight → ⊥)
+      → x.pending ≡ pending.Block b → InWritableSet (patches_in nodes) b x.patch
+  waits_in x c m rest e = record {
+    in_memory = m;
+    free = λ k.
+        let y = below_node x c e k.gate k.head k.depends in
+        gate_high nodes blocks H.one_place_each.rising H.on_disk_with_all S b y.0 y.1 (ap (λ r. r.kind) y.2 ∙ k.is_open) y.3;
+    needs = λ q on n.
+        let y = below_node x c e q n.head n.depends in
+        subst (λ r. (r.place ≡ place.Disk) ⊎ IsInMemoryOn (patches_in nodes) b r) y.2
+        (low_place on y.0 y.1 (subst (λ r. IsOn r on) (sym y.2) n.change)
+        (λ own flying. rest q (record { head = n.head; change = subst (λ r. IsOn r b) y.2 own; depends = n.depends }) (subst (λ r. r.place ≡ place.Flight) y.2 flying)) y.3);
+  }
 
   -- at or below the patch, and waits for something else than the block
   record IsHigh (p : Patch) (y : Node) : Type 0 where

@@ -14,7 +14,8 @@ use Rattle.fst_graph.specs.Keeps.{IsInside}
 use Rattle.fst_graph.specs.Nodes.{Node, patches_in, pending_in, AreSettled}
 use Rattle.fst_graph.specs.Pendings.{Sinks, sums_of}
 use Rattle.fst_graph.specs.Spreading.{Spreading, now, is_told}
-use Rattle.fst_graph.proofs.Pended.{told_from, now_at_rest, pending_mapped}
+use Rattle.fst_graph.proofs.Pended.{told_from, now_at_rest}
+use Rattle.fst_graph.proofs.Waiting.{pending_mapped}
 use Rattle.fst_graph.proofs.Placed.{SameLinks, unmapped, patch_in}
 use Rattle.fst_graph.proofs.Sums.{sums_same}
 
@@ -78,7 +79,7 @@ module _ (nodes : List Node) (blocks : ℕ) (f : Node → Node) (queue : List �
   summed S x c =
       B.sums x
       ∙ (S.summed x c
-      ∙ (sym (sums_same (pending_in nodes) (pending_in (map f nodes)) x.patch.dependencies (λ n named. pending_mapped f (λ z. (B.links z).number) B.pending nodes n))
+      ∙ (sym (sums_same (pending_in nodes) (pending_in (map f nodes)) x.patch.dependencies (λ n named. pending_mapped f nodes n (λ z. (B.links z).number) (λ z _. B.pending z)))
       ∙ ap (sums_of (pending_in (map f nodes))) (sym (B.links x).dependencies)))
 
   -- then it goes on

@@ -14,7 +14,7 @@ use Rattle.fst_graph.specs.Pendings.{Fits, max_block}
 use Rattle.fst_graph.specs.Spreading.{lands}
 use Rattle.fst_graph.specs.Standings.{AllStand}
 use Rattle.fst_graph.proofs.AtNumber.{patches_in_nodes}
-use Rattle.fst_graph.proofs.Pended.{pending_found}
+use Rattle.fst_graph.proofs.PendingIn.{found}
 use Rattle.fst_graph.proofs.Stands.{stand_landed, stand_landed_outside}
 use Rattle.fst_graph.proofs.Sums.{sums_fit}
 
@@ -32,8 +32,8 @@ open_nodes heads g gate = subst (λ ps. IsOpenNumber ps g) (sym (patches_in_node
 pub settled_fits : (nodes : List Node) (blocks : ℕ) → blocks ≤ max_block → AreSettled nodes blocks → (x : Node) → Contains nodes x → Fits x.sums
 settled_fits nodes blocks narrow S x c =
     subst Fits (sym (S.summed x c))
-    (sums_fit (pending_in nodes) x.patch.dependencies (λ n b e. elim (pending_found nodes n) [
-      | inl f ↦ let lt = S.inside f.0 b f.1 (sym f.3 ∙ e) in omega (arith, lt, narrow)
+    (sums_fit (pending_in nodes) x.patch.dependencies (λ n b e. elim (found nodes n) [
+      | inl f ↦ let lt = S.inside f.node b f.head (sym f.told ∙ e) in omega (arith, lt, narrow)
       | inr none ↦ let off : pending.Nothing ≡ pending.Block b = sym none ∙ e in absurd (cc)
     ]))
 

@@ -65,3 +65,6 @@ pub mod Crossing
 pub mod Holding
 pub mod Away
 pub mod Beneath
+pub mod Ascended
+pub mod Behind
+pub mod Flight

@@ -1,18 +1,15 @@
 -- What is pending of a change tells whether it is in the writable set of its block, and the counts of a block whether it is writable.
-use Rattle.std.proofs.Common.{◌≡◌, ◌<◌, ◌≤◌, ◌↔◌, ◌⊎◌, ◌==◌, ◌&&◌, ℕ, zero, suc, Bool, true, false, not, List, [], ◌∷◌, Some, None, length, get_or, count_by, Contains, refl, sym, ap, subst, ◌∙◌, inl, inr, arith}
-use Rattle.std.specs.List.Sorted.{IsStrictlyIncreasing}
+use Rattle.std.proofs.Common.{◌≡◌, ◌<◌, ◌↔◌, ◌⊎◌, ◌==◌, ◌&&◌, ℕ, Bool, true, false, not, List, Some, None, length, get_or, count_by, Contains, refl, sym, ap, subst, ◌∙◌, inl, inr, arith}
 use Rattle.std.proofs.lemmas.Bool.{cases_Bool, cases_lt, and_parts, and_from, not_from_true, not_from_false, not-true, false≢true, eqb-true, eqb-false, eq-eqb, ne_eqb}
 use Rattle.std.proofs.lemmas.List.Elements.{filter_agree}
 use Rattle.std.proofs.lemmas.List.Folds.{Any-from_list_any, list_any-from_Any}
-use Rattle.std.proofs.lemmas.List.Kept.{AllPairs-from_increasing}
 use Rattle.std.proofs.lemmas.List.Sums.{length-filter}
 use Rattle.fst_types.specs.declared.place.Place.TheVariants as place
 use Rattle.fst_types.specs.Facts.{HeadsAreLawful}
 use Rattle.fst_types.specs.Patches.{Patch, IsRising, IsOn, IsHard}
 use Rattle.fst_types.specs.Tests.{is_change_at, is_live}
-use Rattle.fst_types.specs.Writable.{IsInMemoryOn, InWritableSet, IsWritable, IsWritableSet, HasReady, IsHeld, IsLeastHeld}
+use Rattle.fst_types.specs.Writable.{IsInMemoryOn, InWritableSet, IsWritable, IsWritableSet, IsHeld}
 use Rattle.fst_types.specs.Looks.{IsPick}
-use Rattle.fst_types.proofs.Finite.{Contains-from_In}
 use Rattle.fst_types.proofs.Landing.{change_at, at_change}
 use Rattle.fst_graph.specs.declared.pending.Pending.TheVariants as pending
 use Rattle.fst_graph.specs.declared.standing.Standing.{Standing}
@@ -20,12 +17,12 @@ use Rattle.fst_graph.specs.Keeps.{IsInside}
 use Rattle.fst_graph.specs.Nodes.{Node, patches_in, pending_in, AreSettled, AreCounted}
 use Rattle.fst_graph.specs.Ordered.{is_live_in}
 use Rattle.fst_graph.specs.Pendings.{is_pending}
-use Rattle.fst_graph.specs.Standings.{AllStand, AreMarked, may_be_written, standing_of, is_ready_on, is_held_on, is_flying_on, ready_on, held_on}
+use Rattle.fst_graph.specs.Standings.{AllStand, AreMarked, may_be_written, standing_of, is_ready_on, is_held_on, is_flying_on, ready_on}
 use Rattle.fst_graph.specs.Tests.{is_hard_kind}
 use Rattle.fst_graph.proofs.Alone.{waits_in, waits_out}
 use Rattle.fst_graph.proofs.Forgetting.{live_place_of, not_disk}
 use Rattle.fst_graph.proofs.Low.{is_block, block_is, is_nothing}
-use Rattle.fst_graph.proofs.Numbered.{rising_numbers, number_in, number_of, number_some, none_counted, counted_none, counted_some}
+use Rattle.fst_graph.proofs.Numbered.{rising_numbers, number_in, number_of, none_counted, counted_none, counted_some}
 use Rattle.fst_graph.proofs.Obstacles.{hard_from, hard_to}
 use Rattle.fst_graph.proofs.PendingIn.{found, told_of}
 use Rattle.fst_graph.proofs.Placed.{patch_in, node_of_patch}
@@ -49,14 +46,6 @@ three false t u f = absurd (false≢true f)
 
 three_from : (s t u : Bool) → s ≡ true → t ≡ true → u ≡ true → (s && t && u) ≡ true
 three_from s t u e f g = rw (e, f, g) refl
-
--- the first of rising numbers is the least
-first_least : (n : ℕ) (ns : List ℕ) → IsStrictlyIncreasing (n ∷ ns) → (m : ℕ) → Contains (n ∷ ns) m → n ≤ m
-first_least n ns rising m c = go c.0 c.1 c.2
-  where
-    go : (k : ℕ) → k < length (n ∷ ns) → get_or (n ∷ ns) k m ≡ m → n ≤ m
-    go zero lt at = omega (arith, at)
-    go (suc k) lt at = let r = AllPairs-from_increasing (n ∷ ns) rising 0 (suc k) m (omega arith) lt in omega (arith, r, at)
 
 module _ (nodes : List Node) (blocks n : ℕ) (rising : IsRising (patches_in nodes)) (S : AreSettled nodes blocks) where
   -- something is pending of a live patch alone
@@ -92,7 +81,7 @@ module _ (nodes : List Node) (numbers blocks : ℕ) (H : HeadsAreLawful (patches
   -- where nothing of the block is in flight, a change of it in memory is in its writable set exactly if it waits for the block alone
   pub waits_alone : (b : ℕ) → ((p : Patch) → Contains (patches_in nodes) p → IsOn p b → p.place ≡ place.Flight → ⊥)
       → (x : Node) → Contains nodes x → IsInMemoryOn (patches_in nodes) b x.patch → (x.pending ≡ pending.Block b) ↔ InWritableSet (patches_in nodes) b x.patch
-  waits_alone b rest x c m = (waits_in nodes numbers blocks H S b rest x c m, waits_out nodes numbers blocks H S b x c)
+  waits_alone b rest x c m = (waits_in nodes numbers blocks H S b x c m (λ p n. rest p n.head n.change), waits_out nodes numbers blocks H S b x c)
 
   -- no change of the block is in flight
   abbrev Rests : ℕ → Type 0
@@ -103,7 +92,7 @@ module _ (nodes : List Node) (numbers blocks : ℕ) (H : HeadsAreLawful (patches
     ready_in x c e =
         let k = and_parts (is_change_at place.Memory b x.patch) (is_pending x.pending (pending.Block b)) e in
         let at = change_at place.Memory b x.patch k.0 in
-        waits_in nodes numbers blocks H S b rest x c (record { head = patch_in nodes x c; change = at.0; memory = at.1 }) (is_block b x.pending k.1)
+        waits_in nodes numbers blocks H S b x c (record { head = patch_in nodes x c; change = at.0; memory = at.1 }) (λ p n. rest p n.head n.change) (is_block b x.pending k.1)
 
     in_ready : (x : Node) → Contains nodes x → InWritableSet (patches_in nodes) b x.patch → is_ready_on b x ≡ true
     in_ready x c w =
@@ -123,18 +112,9 @@ module _ (nodes : List Node) (numbers blocks : ℕ) (H : HeadsAreLawful (patches
     -- a hard change in memory is ready or held
     ready_or_held : (x : Node) → Contains nodes x → IsInMemoryOn (patches_in nodes) b x.patch → IsHard x.patch → InWritableSet (patches_in nodes) b x.patch ⊎ (is_held_on b x ≡ true)
     ready_or_held x c m hard = elim (cases_Bool (is_pending x.pending (pending.Block b))) [
-      | inl own ↦ inl (waits_in nodes numbers blocks H S b rest x c m (is_block b x.pending own))
+      | inl own ↦ inl (waits_in nodes numbers blocks H S b x c m (λ p n. rest p n.head n.change) (is_block b x.pending own))
       | inr other ↦ inr (rw (at_change place.Memory b x.patch m.change m.memory, hard_to x.patch.kind hard, other) refl)
     ]
-
-    in_held : (x : Node) → Contains nodes x → IsHeld (patches_in nodes) b x.patch → is_held_on b x ≡ true
-    in_held x c h = elim (ready_or_held x c h.in_memory h.hard) [ inl w ↦ absurd (h.left_out w) | inr e ↦ e ]
-
-    -- the node of a patch that is held
-    node_held : (p : Patch) → IsHeld (patches_in nodes) b p → (x : Node) × Contains nodes x × (x.patch ≡ p) × (is_held_on b x ≡ true)
-    node_held p h =
-        let y = node_of_patch nodes p h.in_memory.head in
-        (y.0, y.1, y.2, in_held y.0 y.1 (subst (IsHeld (patches_in nodes) b) (sym y.2) h))
 
   -- nothing is in flight of a block that counts nothing in flight
   count_rests : (b : ℕ) → (standing_of nodes b).flying ≡ 0 → Rests b
@@ -154,29 +134,6 @@ module _ (nodes : List Node) (numbers blocks : ℕ) (H : HeadsAreLawful (patches
         subst (Contains (ready_on b nodes)) (ap (λ r. r.number) y.2 ∙ w.1)
         (number_of (is_ready_on b) nodes y.0 y.1 (in_ready b (rests standings b d A lt rest) y.0 y.1 (subst (InWritableSet (patches_in nodes) b) (sym y.2) w.2)));
   }
-
-  pub ready_some : (standings : List Standing) (b : ℕ) (d : Standing) → AllStand nodes blocks standings → b < blocks → (get_or standings b d).flying ≡ 0 → 0 < length (ready_on b nodes) → HasReady (patches_in nodes) b
-  ready_some standings b d A lt rest some = let x = number_some (is_ready_on b) nodes some in (x.0.patch, ready_in b (rests standings b d A lt rest) x.0 x.1 x.2)
-
-  pub held_none : (standings : List Standing) (b : ℕ) (d : Standing) → AllStand nodes blocks standings → b < blocks → (get_or standings b d).flying ≡ 0 → held_on b nodes ≡ [] → (p : Patch) → IsHeld (patches_in nodes) b p → ⊥
-  held_none standings b d A lt rest none p h =
-      let x = node_held b (rests standings b d A lt rest) p h in
-      let c = subst (λ ns. Contains ns x.0.patch.number) none (number_of (is_held_on b) nodes x.0 x.1 x.3) in
-      omega (arith, c.1)
-
-  pub held_first : (standings : List Standing) (b : ℕ) (d : Standing) → AllStand nodes blocks standings → b < blocks → (get_or standings b d).flying ≡ 0 → (n : ℕ) (ns : List ℕ) → held_on b nodes ≡ n ∷ ns → IsLeastHeld (patches_in nodes) b n
-  held_first standings b d A lt rest n ns e =
-      let free = rests standings b d A lt rest in
-      let x = number_in (is_held_on b) nodes n (subst (λ ms. Contains ms n) (sym e) (Contains-from_In (n ∷ ns) n (inl refl))) in
-      let rising = subst IsStrictlyIncreasing e (rising_numbers (is_held_on b) nodes H.one_place_each.rising) in
-      record {
-        patch = x.0.patch;
-        numbered = x.3;
-        held = held_in b free x.0 x.1 x.2;
-        least = λ p h.
-            let y = node_held b free p h in
-            subst (λ (q : Patch). n ≤ q.number) y.2 (first_least n ns rising y.0.patch.number (subst (λ ms. Contains ms y.0.patch.number) e (number_of (is_held_on b) nodes y.0 y.1 y.3)));
-      }
 
   marked_writable : (b : ℕ) → may_be_written (standing_of nodes b) ≡ true → IsWritable (patches_in nodes) b
   marked_writable b e =

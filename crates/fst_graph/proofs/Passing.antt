@@ -1,5 +1,5 @@
 -- The walk along the list of a block for those of its patches that pass a test.
-use Rattle.std.proofs.Common.{◌≡◌, ◌==◌, ◌&&◌, ℕ, ◌<◌, ◌+◌, Bool, true, false, not, List, [], ◌∷◌, map, filter, drop, length, get_or, refl, ap, ◌∙◌, inl, inr}
+use Rattle.std.proofs.Common.{◌≡◌, ◌==◌, ◌&&◌, ◌||◌, ℕ, ◌<◌, ◌+◌, Bool, true, false, not, List, [], ◌∷◌, map, filter, drop, length, get_or, refl, sym, ap, ◌∙◌, inl, inr}
 use Rattle.std.specs.List.{list_any}
 use Rattle.std.proofs.lemmas.Bool.{cases_Bool, false≢true}
 use Rattle.std.proofs.lemmas.List.{drop_more}
@@ -7,13 +7,16 @@ use Rattle.fst_types.proofs.Finite.{In, Contains-from_In}
 use Rattle.fst_types.specs.declared.place.Place.{Place}
 use Rattle.fst_types.specs.declared.place.Place.TheVariants as place
 use Rattle.fst_types.specs.Tests.{is_at, is_on, is_change_at}
+use Rattle.fst_graph.specs.declared.pending.Pending.TheVariants as pending
+use Rattle.fst_graph.specs.Ascending.{is_free_on, is_bound_on}
 use Rattle.fst_graph.specs.declared.head.Head.{Head}
 use Rattle.fst_graph.specs.declared.lists.Listed.{Listed}
-use Rattle.fst_graph.specs.Heads.{IsRising, patch_of, patches_of}
+use Rattle.fst_graph.specs.Heads.{IsRising, kind_of, patch_of, patches_of}
 use Rattle.fst_graph.specs.Lists.{entries_of, entries_on, is_live_on}
 use Rattle.fst_graph.specs.Marks.{HasSlot, HasNone}
 use Rattle.fst_graph.specs.Nodes.{Node, node_of, nodes_of}
-use Rattle.fst_graph.specs.Standings.{is_ready_on, is_held_on}
+use Rattle.fst_graph.specs.Pendings.{is_pending}
+use Rattle.fst_graph.specs.Standings.{is_ready_on}
 use Rattle.fst_graph.specs.Tests.{is_hard_kind}
 use Rattle.fst_graph.proofs.Forgetting.{and_parts}
 use Rattle.fst_graph.proofs.Listing.{any_none, any_slot, numbers_on}
@@ -78,10 +81,26 @@ module _ (t : Node → Bool) (heads : List Head) (list : List Listed) (i : ℕ) 
   pub passing_skip : (s : ℕ) (d : Head) → IsRising heads → HasSlot heads n s → t (node_of (get_or heads s d)) ≡ false → passing t heads (drop i list) ≡ passing t heads (drop (i + 1) list)
   passing_skip s d rising slot e = passing_no (any_slot heads n s t d rising slot ∙ e)
 
-pub ready_listed : (b : ℕ) (x : Node) → is_ready_on b x ≡ true → is_live_on b x.patch ≡ true
-ready_listed b x e = listed_memory b x (and_parts (is_change_at place.Memory b x.patch) _ e).0
+pub free_listed : (behind : ℕ → Bool) (b : ℕ) (x : Node) → is_free_on behind b x ≡ true → is_live_on b x.patch ≡ true
+free_listed behind b x e =
+    let ready = (and_parts (is_change_at place.Memory b x.patch && is_pending x.pending (pending.Block b)) _ e).0 in
+    listed_memory b x (and_parts (is_change_at place.Memory b x.patch) _ ready).0
 
-pub held_listed : (b : ℕ) (x : Node) → is_held_on b x ≡ true → is_live_on b x.patch ≡ true
-held_listed b x e =
+pub bound_listed : (behind : ℕ → Bool) (b : ℕ) (x : Node) → is_bound_on behind b x ≡ true → is_live_on b x.patch ≡ true
+bound_listed behind b x e =
     let hard = (and_parts (is_change_at place.Memory b x.patch && is_hard_kind x.patch.kind) _ e).0 in
     listed_memory b x (and_parts (is_change_at place.Memory b x.patch) (is_hard_kind x.patch.kind) hard).0
+
+-- the test of the code says whether the node of the head passes
+module _ (behind : ℕ → Bool) (b : ℕ) (h d : Head) (n : ℕ) (back r : Bool) (at : h ≡ d) (number : d.number ≡ n) (told : back ≡ behind n) where
+  pub free_at : r ≡ (is_ready_on b (node_of h) && not back) → is_free_on behind b (node_of d) ≡ r
+  free_at e = sym (e ∙ (ap (λ k. is_ready_on b (node_of h) && not k) (told ∙ ap behind (sym number)) ∙ ap (λ k. is_ready_on b (node_of k) && not (behind d.number)) at))
+
+  abbrev hard : Head → Bool
+  hard k = is_change_at place.Memory b (patch_of k) && is_hard_kind (kind_of k.kind)
+
+  abbrev more : Head → Bool
+  more k = not (is_pending k.pending (pending.Block b))
+
+  pub bound_at : r ≡ (hard h && (more h || back)) → is_bound_on behind b (node_of d) ≡ r
+  bound_at e = sym (e ∙ (ap (λ k. hard h && (more h || k)) (told ∙ ap behind (sym number)) ∙ ap (λ k. hard k && (more k || behind d.number)) at))

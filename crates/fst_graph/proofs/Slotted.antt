@@ -70,10 +70,6 @@ pub waits_slot : (heads : List Head) (n s : ℕ) (p : Node → Bool) (d : Head) 
     → queue ++ n ∷ [] ≡ queue ++ (if list_any (λ x. (x.patch.number == n) && p x) (nodes_of heads) then n ∷ [] else [])
 waits_slot heads n s p d queue rising slot e = rw (any_slot heads n s p d rising slot, e) refl
 
--- the node of the head in a slot
-pub node_in : (heads : List Head) (s : ℕ) (h : Head) → s < length heads → h ≡ get_or heads s h → Contains (nodes_of heads) (node_of h)
-node_in heads s h lt e = Contains-from_In (nodes_of heads) _ (In-map node_of heads (get_or heads s h) _ (slot_head heads s h lt) (ap node_of (sym e)))
-
 pub number_in : (heads : List Head) (n s : ℕ) (h : Head) → HasSlot heads n s → h ≡ get_or heads s h → h.number ≡ n
 number_in heads n s h slot e = ap (λ (x : Head). x.number) e ∙ slot.1 h
 

@@ -1,6 +1,6 @@
 -- How the counts of each block follow what becomes of patches.
-use Rattle.std.proofs.Common.{◌≡◌, ◌≢◌, ◌&&◌, ◌+◌, ◌<◌, ◌≤◌, ℕ, Bool, true, false, not, cond, List, [], ◌∷◌, length, map, filter, count_by, set, get_or, Contains, AllPairs, refl, sym, ap, subst, ◌∙◌, inl, inr, arith}
-use Rattle.std.proofs.lemmas.Bool.{cases_Bool, cases_eq, cases_order, and_parts, eq-eqb, ne_eqb, false≢true}
+use Rattle.std.proofs.Common.{◌≡◌, ◌≢◌, ◌&&◌, ◌+◌, ◌<◌, ◌≤◌, ℕ, Bool, true, false, not, cond, List, [], ◌∷◌, map, filter, count_by, set, get_or, AllPairs, refl, sym, ap, subst, ◌∙◌, inl, inr, arith}
+use Rattle.std.proofs.lemmas.Bool.{cases_Bool, cases_eq, and_parts, eq-eqb, ne_eqb, false≢true}
 use Rattle.std.proofs.lemmas.List.{length-map, get_or-map}
 use Rattle.fst_types.specs.declared.grade.Grade.{Grade}
 use Rattle.fst_types.specs.declared.place.Place.{Place}
@@ -27,7 +27,7 @@ use Rattle.fst_graph.specs.Tests.{is_hard_kind}
 use Rattle.fst_graph.proofs.Added.{with_node, new_node, with_names}
 use Rattle.fst_graph.proofs.AtNumber.{at_same, at_other}
 use Rattle.fst_graph.proofs.CountsAs.{CountsAs, counts, count_cons, count_append, count_map, count_nothing, count_none, count_kept, standing_same, stands_as, stand_map, stand_set, off_place, off_as, like_as, self_as, rested_as, on_one}
-use Rattle.fst_graph.proofs.Slots.{any_default}
+use Rattle.fst_graph.proofs.Waiting.{same_node}
 
 -- those that hear of another keep their places in the counts
 pub stand_heard : (nodes : List Node) (blocks : ℕ) (standings : List Standing) (row : List ℕ) (old new : Pending) → AllStand nodes blocks standings → AllStand (map (heard row old new) nodes) blocks standings
@@ -120,23 +120,6 @@ rising_in nodes rising i j d lt inside =
     let other = ap (λ (p : Patch). p.number) (get_or-map (λ (x : Node). x.patch) nodes j d d.patch inside) in
     omega (arith, r, one, other)
 
-apart : (nodes : List Node) → AllPairs (λ x y. x.patch.number < y.patch.number) nodes → (i j : ℕ) (p q : Node) → i < j → j < length nodes → get_or nodes i p ≡ p → get_or nodes j p ≡ q → p.patch.number ≡ q.patch.number → ⊥
-apart nodes rising i j p q lt inside at_i at_j same =
-    let r = rising i j p lt inside in
-    let one = ap (λ (z : Node). z.patch.number) at_i in
-    let other = ap (λ (z : Node). z.patch.number) at_j in
-    omega (arith, r, one, other, same)
-
-pub same_node : (nodes : List Node) → AllPairs (λ x y. x.patch.number < y.patch.number) nodes → (x y : Node) → Contains nodes x → Contains nodes y → x.patch.number ≡ y.patch.number → x ≡ y
-same_node nodes rising x y a b e =
-    elim (cases_order a.0 b.0) [
-      | inl same ↦ sym a.2 ∙ (any_default nodes a.0 x y a.1 ∙ (ap (λ k. get_or nodes k y) same ∙ b.2))
-      | inr o ↦ elim o [
-        | inl lt ↦ absurd (apart nodes rising a.0 b.0 x y lt b.1 a.2 (any_default nodes b.0 x y b.1 ∙ b.2) e)
-        | inr lt ↦ absurd (apart nodes rising b.0 a.0 y x lt a.1 b.2 (any_default nodes a.0 y x a.1 ∙ a.2) (sym e))
-      ]
-    ]
-
 -- where one block launches what is ready of it
 module _ (nodes : List Node) (rising : AllPairs (λ x y. x.patch.number < y.patch.number) nodes) (b : ℕ) where
   -- a number is one of those that are ready exactly if its node is
@@ -147,7 +130,7 @@ module _ (nodes : List Node) (rising : AllPairs (λ x y. x.patch.number < y.patc
       | inl m ↦
           let r = In-unmap (λ (y : Node). y.patch.number) (filter (is_ready_on b) nodes) x.patch.number (among_in (ready_on b nodes) x.patch.number m) in
           let k = filter_in (is_ready_on b) nodes r.0 r.1 in
-          let same = same_node nodes rising r.0 x (Contains-from_In nodes r.0 k.0) (Contains-from_In nodes x i) r.2 in
+          let same = same_node nodes r.0 x rising (Contains-from_In nodes r.0 k.0) (Contains-from_In nodes x i) r.2 in
           absurd (false≢true (sym e ∙ subst (λ z. is_ready_on b z ≡ true) same k.1))
       | inr n ↦ n ∙ sym e
     ]

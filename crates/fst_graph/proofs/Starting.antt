@@ -31,7 +31,9 @@ use Rattle.fst_graph.specs.Spreading.{Spreading, IsSpreadOf, unspread, now, is_t
 use Rattle.fst_graph.proofs.AtNumber.{at_same, at_other}
 use Rattle.fst_graph.proofs.Begins.{Begins, Sound, sound_at_rest, stays_told, begun}
 use Rattle.fst_graph.proofs.Forgetting.{and_parts}
-use Rattle.fst_graph.proofs.Pended.{now_row, told_now, pending_found, pending_at}
+use Rattle.fst_graph.proofs.Pended.{now_row, told_now}
+use Rattle.fst_graph.proofs.PendingIn.{found}
+use Rattle.fst_graph.proofs.Waiting.{pending_of}
 use Rattle.fst_graph.proofs.Placed.{SameLinks, links_mapped, linked_kept, given_kept, patch_in, node_of_patch, number_if, dependencies_if}
 use Rattle.fst_graph.proofs.Slots.{some_element}
 use Rattle.fst_graph.proofs.SpreadKept.{SameEntry, links_spread, distinct_kept, unsettled_spread, entries_more, entries_settled}
@@ -295,12 +297,12 @@ module _ (nodes : List Node) (blocks : ℕ) (S : Spreading nodes blocks []) wher
   nothing_disk : (n : ℕ) → pending_in nodes n ≡ pending.Nothing → IsOnDisk (patches_in nodes) n
   nothing_disk n none p h numbered =
       let x = node_of_patch nodes p h in
-      let here : pending_in nodes n ≡ x.0.pending = subst (λ m. pending_in nodes m ≡ x.0.pending) (ap (λ (q : Patch). q.number) x.2 ∙ numbered) (pending_at nodes x.0 S.rising x.1) in
+      let here : pending_in nodes n ≡ x.0.pending = subst (λ m. pending_in nodes m ≡ x.0.pending) (ap (λ (q : Patch). q.number) x.2 ∙ numbered) (pending_of nodes x.0 S.rising x.1) in
       sym (ap (λ (q : Patch). q.place) x.2) ∙ (S.placed x.0 x.1).0 (all_told x.0 x.1 ∙ (sym here ∙ none))
 
   disk_nothing : (n : ℕ) → IsOnDisk (patches_in nodes) n → pending_in nodes n ≡ pending.Nothing
-  disk_nothing n disk = elim (pending_found nodes n) [
-    | inl x ↦ x.3 ∙ (sym (all_told x.0 x.1) ∙ (S.placed x.0 x.1).1 (disk x.0.patch (patch_in nodes x.0 x.1) x.2))
+  disk_nothing n disk = elim (found nodes n) [
+    | inl f ↦ f.told ∙ (sym (all_told f.node f.head) ∙ (S.placed f.node f.head).1 (disk f.node.patch (patch_in nodes f.node f.head) f.numbered))
     | inr none ↦ none
   ]
 

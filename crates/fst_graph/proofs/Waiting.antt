@@ -16,6 +16,7 @@ use Rattle.fst_graph.specs.Pendings.{height}
 use Rattle.fst_graph.specs.Nodes.{Node, pending_in, times, at_number}
 use Rattle.fst_graph.specs.Spreading.{is_told, settles, hears, heard, wakes, woken, heights}
 use Rattle.fst_graph.proofs.AtNumber.{at_same, at_other}
+use Rattle.fst_graph.proofs.PendingIn.{found}
 use Rattle.fst_graph.proofs.Placed.{unmapped}
 use Rattle.fst_graph.proofs.Slots.{any_default}
 use Rattle.fst_graph.proofs.Turning.{turned, is_heard}
@@ -57,16 +58,9 @@ pending_at (y ∷ ys) x one h = elim (cases_eq y.patch.number x.patch.number) [
 pub pending_of : (nodes : List Node) (x : Node) → AllPairs (λ a b. a.patch.number < b.patch.number) nodes → Contains nodes x → pending_in nodes x.patch.number ≡ x.pending
 pending_of nodes x rising c = pending_at nodes x (λ y i e. same_node nodes y x rising (Contains-from_In nodes y i) c e) (In-from_Contains nodes x c)
 
-pending_some : (nodes : List Node) (n b : ℕ) → pending_in nodes n ≡ pending.Block b → (y : Node) × In nodes y × (y.pending ≡ pending.Block b)
-pending_some [] n b e = cc
-pending_some (y ∷ ys) n b e = elim (cases_eq y.patch.number n) [
-  | inl same ↦ (y, inl refl, rw (eq-eqb y.patch.number n same) at e)
-  | inr ne ↦ let r = pending_some ys n b (rw (ne_eqb y.patch.number n ne) at e) in (r.0, inr r.1, r.2)
-]
-
 -- where one block is pending at a number, it is pending of a node
 pub pending_node : (nodes : List Node) (n b : ℕ) → pending_in nodes n ≡ pending.Block b → (y : Node) × Contains nodes y × (y.pending ≡ pending.Block b)
-pending_node nodes n b e = let r = pending_some nodes n b e in (r.0, Contains-from_In nodes r.0 r.1, r.2)
+pending_node nodes n b e = elim (found nodes n) [ inl f ↦ (f.node, f.head, sym f.told ∙ e) | inr none ↦ absurd (let off = sym none ∙ e in cc) ]
 
 pub pending_mapped : (f : Node → Node) (nodes : List Node) (n : ℕ) → ((y : Node) → (f y).patch.number ≡ y.patch.number)
     → ((y : Node) → y.patch.number ≡ n → (f y).pending ≡ y.pending) → pending_in (map f nodes) n ≡ pending_in nodes n

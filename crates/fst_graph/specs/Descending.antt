@@ -21,9 +21,13 @@ pub record Crosses (patches : List Patch) (crossed : List Bool) (p q : ℕ) : Ty
 abbrev pub StepsTo : List Patch → List Bool → ℕ → ℕ → Type 0
 StepsTo patches crossed p q = (DirectlyOn patches p q × IsLiveNumber patches q) ⊎ Crosses patches crossed p q
 
--- n is one of those from which the walk starts, or steps lead from one of them to it
+-- n is one of those from which a walk with these steps starts, or steps lead from one of them to it
+abbrev pub IsLedFrom : (ℕ → ℕ → Type 0) → List ℕ → ℕ → Type 0
+IsLedFrom Steps start n = Contains start n ⊎ ((s : ℕ) × Contains start s × Closure Steps s n)
+
+-- the walk meets n
 abbrev pub IsMet : List Patch → List Bool → List ℕ → ℕ → Type 0
-IsMet patches crossed start n = Contains start n ⊎ ((s : ℕ) × Contains start s × Closure (StepsTo patches crossed) s n)
+IsMet patches crossed start n = IsLedFrom (StepsTo patches crossed) start n
 
 -- exactly the patches with a number in the queue are marked; each is not on disk, and is there once
 pub record Visited (heads : List Head) (marks : List Bool) (queue : List ℕ) : Type 0 where

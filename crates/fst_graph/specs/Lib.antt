@@ -15,3 +15,4 @@ pub mod Lists
 pub mod Standings
 pub mod Spreading
 pub mod Descending
+pub mod Ascending

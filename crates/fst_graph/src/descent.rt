@@ -20,8 +20,8 @@ use crate::marks::slot_of;
 use crate::shortcuts::{is_hard_number, names_passing, passes_at};
 use crate::test::{Test, is_live};
 
-// Visits the patch with the number, unless it is on disk or was visited before.
-fn visit(heads: &[Head], marks: &mut [bool], queue: &mut Vec<u32>, number: u32)
+/// Visits the patch with the number, unless it is on disk or was visited before.
+pub fn visit(heads: &[Head], marks: &mut [bool], queue: &mut Vec<u32>, number: u32)
     requires rising { IsRising heads.now }
     requires long { length marks.old ≡ length heads.now }
     requires room { length heads.now ≤ vec_capacity queue.old }
@@ -131,8 +131,8 @@ fn walk_down(
     }
 }
 
-// No patch is marked.
-fn clear(marks: &mut [bool])
+/// No patch is marked.
+pub fn clear(marks: &mut [bool])
     ensures { (slot : ℕ) → slice_index_or marks.new slot false ≡ false }
 {
     for mark in marks.iter_mut() {

@@ -11,8 +11,9 @@ ghost use Rattle.fst_types.specs.Tests.{is_live};
 ghost use Rattle.fst_types.specs.declared.grade.Grade.{Grade};
 ghost use Rattle.fst_graph.specs.Known.{Known, unprepared, prepared_for, Foresees, numbers_of, rest_place, Refuses, AddsGate, AddsEmpty, AddsChange, SealsGate, DependsGate, Launches, IsStuckByGates, LandsBlock, MayLaunch, Forgets};
 
+use crate::ascent::mark_flight;
 use crate::cascade::{cascade, seal_slot};
-use crate::choice::{first_held, least_held, ready_set, writable_set};
+use crate::choice::{first_held, ready_set};
 use crate::gates::{depend_fault, gate_slot};
 use crate::growth::{gain, marked_last, missing_names};
 use crate::head::{Head, Kind};
@@ -24,7 +25,7 @@ use crate::places::{block_of, keep_live, keep_live_numbers, launch_all, live_cou
 use crate::prepared::{Prepared, prepare};
 use crate::refusals::{make_fault, room_fault};
 use crate::row::{is_given, live_named, row_sums};
-use crate::standing::{Standing, empty_standings, is_resting, land_at, least_marked};
+use crate::standing::{Standing, empty_standings, land_at, least_marked};
 use crate::test::Test;
 use fst_types::{BlockNo, Fault, Grade, PatchNo, Place, Shape, Span};
 use smallvec::SmallVec;
@@ -249,27 +250,18 @@ impl Graph {
         ensures same { self.new ≡ unprepared self.old }
     {
         self.prepared = None;
-        if is_resting(&self.standings, block.0) {
-            let list = &self.lists[block.0 as usize];
-            return ready_set(self.alloc, &self.heads, list, block.0);
-        }
-        self.chosen_by_walk(block)
-    }
-
-    // The same by one walk over the patches, which also serves a block with something in flight.
-    pub(crate) fn chosen_by_walk(&mut self, block: BlockNo) -> Result<Vec<PatchNo>, Fault>
-        ensures ok { IfOk result (λ numbers. IsWritableSet self.old.heads block.0 (numbers_of numbers.items)) }
-        ensures refused { IfErr result (λ f. HasReady self.old.heads block.0 × (f ≡ Fault.Memory)) }
-        ensures same { self.new ≡ unprepared self.old }
-    {
-        self.prepared = None;
-        ask(
+        let Some(list) = self.lists.get(block.0 as usize) else {
+            return Ok(Vec::new(self.alloc));
+        };
+        let flying = mark_flight(
             &self.heads,
-            &self.order,
+            list,
+            &self.standings,
             &mut self.marks,
-            Test::Obstacle(block.0),
+            &mut self.queue,
+            block.0,
         );
-        writable_set(self.alloc, &self.heads, &self.marks, block.0)
+        ready_set(self.alloc, &self.heads, list, &self.marks, flying, block.0)
     }
 
     /// Seals an open gate, and puts on disk what now rests there. It is refused as `NoPatch` where the number was not
@@ -499,26 +491,18 @@ impl Graph {
         ensures same { self.new ≡ unprepared self.old }
     {
         self.prepared = None;
-        if is_resting(&self.standings, block.0) {
-            return first_held(&self.heads, &self.lists[block.0 as usize], block.0);
-        }
-        self.hard_held_by_walk(block)
-    }
-
-    // The same by one walk over the patches, which also serves a block with something in flight.
-    pub(crate) fn hard_held_by_walk(&mut self, block: BlockNo) -> Option<PatchNo>
-        ensures none { IfNone result ((p : Patch) → IsHeld self.old.heads block.0 p → ⊥) }
-        ensures least { IfSome result (λ no. IsLeastHeld self.old.heads block.0 no.0) }
-        ensures same { self.new ≡ unprepared self.old }
-    {
-        self.prepared = None;
-        ask(
+        let Some(list) = self.lists.get(block.0 as usize) else {
+            return None;
+        };
+        let flying = mark_flight(
             &self.heads,
-            &self.order,
+            list,
+            &self.standings,
             &mut self.marks,
-            Test::Obstacle(block.0),
+            &mut self.queue,
+            block.0,
         );
-        least_held(&self.heads, &self.marks, block.0)
+        first_held(&self.heads, list, &self.marks, flying, block.0)
     }
 
     /// The least writable block, or none where no block is writable. Where nothing is in flight either, each change in
@@ -531,5 +515,4 @@ impl Graph {
         self.prepared = None;
         least_marked(&self.standings)
     }
-
 }

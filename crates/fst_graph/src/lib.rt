@@ -1,6 +1,7 @@
 //! Which patches depend on which, and what may be written: the patches without their bytes.
 #![tactic(auto)]
 
+mod ascent;
 mod cascade;
 mod choice;
 mod descent;

@@ -121,7 +121,7 @@ pub fn dependencies_of(
 }
 
 /// What is pending of the patch with the number, as its dependants know it.
-fn pending_at(heads: &[Head], number: u32) -> Pending
+pub fn pending_at(heads: &[Head], number: u32) -> Pending
     requires { IsRising heads.now }
     ensures { result ≡ pending_in (nodes_of heads.now) number }
 {

@@ -42,6 +42,25 @@ fn cycle_of_blocks(rt: HostRuntime) {
     graph.write(&rt, 0, &[THIRD]);
 }
 
+// A change in flight, and behind it, by an empty patch, a change of the same block, and another behind that. One change
+// waits for neither. Past the last block there is nothing to write.
+#[test]
+fn behind_a_flight(rt: HostRuntime) {
+    let mut graph = Checked::new(&rt, rt.alloc(), 0);
+    graph.byte(&rt, 0, 0, &[], Ok((FIRST, HARD)));
+    graph.launch(&rt, 0);
+    graph.empty(&rt, &[FIRST], Ok(SECOND));
+    graph.byte(&rt, 0, 1, &[SECOND], Ok((THIRD, HARD)));
+    graph.byte(&rt, 0, 2, &[], Ok((FOURTH, HARD)));
+    graph.byte(&rt, 0, 3, &[THIRD], Ok((FIFTH, HARD)));
+    graph.choice(&rt, 0, &[FOURTH], Some(THIRD));
+    graph.choice(&rt, 4, &[], None);
+    graph.pick(&rt, None);
+    graph.land(0);
+    graph.choice(&rt, 0, &[THIRD, FOURTH, FIFTH], None);
+    graph.write(&rt, 0, &[THIRD, FOURTH, FIFTH]);
+}
+
 // Two blocks with a hard change each, and then one each that needs the other's first.
 #[test]
 fn crosswise_hold(rt: HostRuntime) {

@@ -5,8 +5,8 @@ ghost use Rattle.std.specs.Prelude.{◌≡◌, ◌<◌, ◌≤◌};
 
 use crate::graph::Graph;
 use crate::tests::same::{
-    same_answer, same_block, same_change, same_count, same_held, same_number,
-    same_patches, same_place,
+    same_answer, same_block, same_change, same_count, same_held, same_number, same_patches,
+    same_place,
 };
 use crate::tests::twin::Twin;
 use fst_types::{BlockNo, Fault, Grade, PatchNo, Shape, Span};
@@ -190,14 +190,12 @@ impl Pair {
     fn compare_chosen(&mut self, rt: &impl Abort, block: BlockNo) -> Result<(), Fail> {
         let chosen = self.graph.chosen(block)?;
         same_patches(rt, block, &chosen, &self.twin.chosen(block)?);
-        same_patches(rt, block, &chosen, &self.graph.chosen_by_walk(block)?);
         Ok(())
     }
 
     fn compare_held(&mut self, rt: &impl Abort, block: BlockNo) -> Result<(), Fail> {
         let held = self.graph.hard_held(block);
         same_held(rt, block, held, self.twin.hard_held(block)?);
-        same_held(rt, block, held, self.graph.hard_held_by_walk(block));
         Ok(())
     }
 

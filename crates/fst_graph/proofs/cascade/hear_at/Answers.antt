@@ -1,6 +1,7 @@
 use Rattle.std.proofs.Common.{◌∙◌, sym, ap, subst}
 use Rattle.fst_graph.proofs.AtNumber.{at_slot, at_none}
-use Rattle.fst_graph.proofs.Slotted.{waits_none, stays_slot, waits_slot, node_in, number_in}
+use Rattle.fst_graph.proofs.PendingAt.{node_in}
+use Rattle.fst_graph.proofs.Slotted.{waits_none, stays_slot, waits_slot, number_in}
 use Rattle.fst_graph.specs.Marks.{HasSlot, HasNone}
 use Rattle.fst_graph.specs.Nodes.{node_of}
 use Rattle.fst_graph.specs.Spreading.{hears, wakes}

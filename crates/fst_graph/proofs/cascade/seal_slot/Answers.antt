@@ -1,6 +1,7 @@
 use Rattle.std.proofs.Common.{◌∙◌, not, sym, ap, subst}
 use Rattle.fst_graph.proofs.AtNumber.{at_slot}
-use Rattle.fst_graph.proofs.Slotted.{rested_sums, stays_slot, waits_slot, node_in}
+use Rattle.fst_graph.proofs.PendingAt.{node_in}
+use Rattle.fst_graph.proofs.Slotted.{rested_sums, stays_slot, waits_slot}
 use Rattle.fst_graph.specs.declared.head.Kind.TheVariants as kinds
 use Rattle.fst_graph.specs.Nodes.{Node, node_of}
 use Rattle.fst_graph.specs.Pendings.{Fits}

@@ -1,9 +1,11 @@
-use Rattle.std.proofs.Common.{◌≡◌, ◌++◌, drop}
+use Rattle.std.proofs.Common.{◌≡◌, ◌++◌, ◌&&◌, drop}
+use Rattle.fst_graph.specs.Ascending.{is_free_on, free_on}
 use Rattle.fst_graph.specs.Known.{numbers_of}
+use Rattle.fst_graph.specs.Marks.{mark_of}
 use Rattle.fst_graph.specs.Nodes.{nodes_of}
-use Rattle.fst_graph.specs.Standings.{is_ready_on, ready_on}
 use Rattle.fst_graph.proofs.Passing.{passing}
 use Rattle.fst_graph.proofs.choice.ready_set.Given as goal
 
 abbrev pub invariant-loop-listed : goal.invariant-loop-listed
-invariant-loop-listed l = numbers_of l.numbers.items ++ passing (is_ready_on l.block) l.heads (drop l.listed-index l.list) ≡ ready_on l.block (nodes_of l.heads)
+invariant-loop-listed l =
+    numbers_of l.numbers.items ++ passing (is_free_on (λ n. l.flying && mark_of l.heads l.marks n) l.block) l.heads (drop l.listed-index l.list) ≡ free_on (λ n. l.flying && mark_of l.heads l.marks n) l.block (nodes_of l.heads)
