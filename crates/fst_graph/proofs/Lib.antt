@@ -52,6 +52,7 @@ pub mod Starting
 pub mod Settling
 pub mod Launching
 pub mod Passing
+pub mod Held
 pub mod Quiet
 pub mod Tallied
 pub mod Resting

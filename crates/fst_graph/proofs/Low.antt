@@ -18,7 +18,8 @@ low_decided b (pending.Block c) = elim (cases_eq c b) [
   | inl e ↦ inl (inr (ap pending.Block e))
   | inr ne ↦ inr (λ l. elim l [ inl e ↦ cc | inr e ↦ ne (cc) ])
 ]
-low_decided b pending.More = inr (λ l. elim l [ inl e ↦ cc | inr e ↦ cc ])
+low_decided b pending.Apart = inr (λ l. elim l [ inl e ↦ cc | inr e ↦ cc ])
+low_decided b pending.Held = inr (λ l. elim l [ inl e ↦ cc | inr e ↦ cc ])
 
 pub some_same : (b c : ℕ) → Some b ≡ Some c → b ≡ c
 some_same b c e = cc
@@ -26,10 +27,11 @@ some_same b c e = cc
 low_over : (b c : ℕ) (below : Pending) → over_block c below ≡ pending.Block b → IsLow b below
 low_over b c pending.Nothing e = inl refl
 low_over b c (pending.Block d) e = elim (cases_Bool (d == c)) [
-  | inl t ↦ inr (ap pending.Block (eqb-true d c t) ∙ (sym (cond-true (d == c) (pending.Block c) pending.More t) ∙ e))
-  | inr f ↦ absurd (let g = sym (cond-false (d == c) (pending.Block c) pending.More f) ∙ e in cc)
+  | inl t ↦ inr (ap pending.Block (eqb-true d c t) ∙ (sym (cond-true (d == c) (pending.Block c) pending.Apart t) ∙ e))
+  | inr f ↦ absurd (let g = sym (cond-false (d == c) (pending.Block c) pending.Apart f) ∙ e in cc)
 ]
-low_over b c pending.More e = absurd (cc)
+low_over b c pending.Apart e = absurd (cc)
+low_over b c pending.Held e = absurd (cc)
 
 -- where a patch waits for the block alone, so does all below it
 pub low_below : (b : ℕ) (k : Kind) (p : Place) (below : Pending) → of_kind k p below ≡ pending.Block b → IsLow b below
@@ -43,10 +45,11 @@ low_below b SealedGate p below e = inr e
 over_own : (b c : ℕ) (below : Pending) → over_block c below ≡ pending.Block b → c ≡ b
 over_own b c pending.Nothing e = cc
 over_own b c (pending.Block d) e = elim (cases_Bool (d == c)) [
-  | inl t ↦ let g = sym (cond-true (d == c) (pending.Block c) pending.More t) ∙ e in cc
-  | inr f ↦ absurd (let g = sym (cond-false (d == c) (pending.Block c) pending.More f) ∙ e in cc)
+  | inl t ↦ let g = sym (cond-true (d == c) (pending.Block c) pending.Apart t) ∙ e in cc
+  | inr f ↦ absurd (let g = sym (cond-false (d == c) (pending.Block c) pending.Apart f) ∙ e in cc)
 ]
-over_own b c pending.More e = absurd (cc)
+over_own b c pending.Apart e = absurd (cc)
+over_own b c pending.Held e = absurd (cc)
 
 -- a change that waits for one block alone is a change of it, and not on disk
 pub low_change : (b c : ℕ) (k : Kind) (p : Place) (below : Pending) → block_of_kind k ≡ Some c → of_kind k p below ≡ pending.Block b → (c ≡ b) × (p ≡ place.Disk → ⊥)
@@ -59,7 +62,7 @@ low_change b c SealedGate p below s e = absurd (cc)
 
 over_low : (b : ℕ) (below : Pending) → IsLow b below → over_block b below ≡ pending.Block b
 over_low b below (inl e) = ap (over_block b) e
-over_low b below (inr e) = ap (over_block b) e ∙ cond-true (b == b) (pending.Block b) pending.More (eq-eqb b b refl)
+over_low b below (inr e) = ap (over_block b) e ∙ cond-true (b == b) (pending.Block b) pending.Apart (eq-eqb b b refl)
 
 -- where all below a patch waits for the block alone, so does the patch, if it is no open gate and no change of another block
 pub low_above : (b : ℕ) (k : Kind) (p : Place) (below : Pending) → IsLow b below → (k ≡ OpenGate → ⊥) → ((c : ℕ) → block_of_kind k ≡ Some c → (p ≡ place.Disk) ⊎ (c ≡ b)) → IsLow b (of_kind k p below)
@@ -80,7 +83,8 @@ low_above b SealedGate p below low gate own = low
 pub is_block : (b : ℕ) (p : Pending) → is_pending p (pending.Block b) ≡ true → p ≡ pending.Block b
 is_block b pending.Nothing e = absurd (false≢true e)
 is_block b (pending.Block c) e = ap pending.Block (eqb-true c b e)
-is_block b pending.More e = absurd (false≢true e)
+is_block b pending.Apart e = absurd (false≢true e)
+is_block b pending.Held e = absurd (false≢true e)
 
 pub block_is : (b : ℕ) (p : Pending) → p ≡ pending.Block b → is_pending p (pending.Block b) ≡ true
 block_is b p e = ap (λ q. is_pending q (pending.Block b)) e ∙ eq-eqb b b refl
@@ -89,4 +93,5 @@ block_is b p e = ap (λ q. is_pending q (pending.Block b)) e ∙ eq-eqb b b refl
 pub is_nothing : (p : Pending) → is_pending p pending.Nothing ≡ true → p ≡ pending.Nothing
 is_nothing pending.Nothing e = refl
 is_nothing (pending.Block c) e = absurd (false≢true e)
-is_nothing pending.More e = absurd (false≢true e)
+is_nothing pending.Apart e = absurd (false≢true e)
+is_nothing pending.Held e = absurd (false≢true e)

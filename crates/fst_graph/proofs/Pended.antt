@@ -12,18 +12,26 @@ use Rattle.fst_graph.proofs.Sums.{joined_exact}
 pub same_pending : (p : Pending) → is_pending p p ≡ true
 same_pending pending.Nothing = refl
 same_pending (pending.Block b) = eq-eqb b b refl
-same_pending pending.More = refl
+same_pending pending.Apart = refl
+same_pending pending.Held = refl
 
 pub pending_same : (p q : Pending) → is_pending p q ≡ true → p ≡ q
 pending_same pending.Nothing pending.Nothing e = refl
 pending_same pending.Nothing (pending.Block c) e = cc
-pending_same pending.Nothing pending.More e = cc
+pending_same pending.Nothing pending.Apart e = cc
+pending_same pending.Nothing pending.Held e = cc
 pending_same (pending.Block b) pending.Nothing e = cc
 pending_same (pending.Block b) (pending.Block c) e = ap pending.Block (eqb-true b c e)
-pending_same (pending.Block b) pending.More e = cc
-pending_same pending.More pending.Nothing e = cc
-pending_same pending.More (pending.Block c) e = cc
-pending_same pending.More pending.More e = refl
+pending_same (pending.Block b) pending.Apart e = cc
+pending_same (pending.Block b) pending.Held e = cc
+pending_same pending.Apart pending.Nothing e = cc
+pending_same pending.Apart (pending.Block c) e = cc
+pending_same pending.Apart pending.Apart e = refl
+pending_same pending.Apart pending.Held e = cc
+pending_same pending.Held pending.Nothing e = cc
+pending_same pending.Held (pending.Block c) e = cc
+pending_same pending.Held pending.Apart e = cc
+pending_same pending.Held pending.Held e = refl
 
 pub told_from : (x : Node) → now x ≡ x.pending → is_told x ≡ true
 told_from x e = ap (λ p. is_pending p x.pending) e ∙ same_pending x.pending

@@ -1,7 +1,7 @@
 -- What becomes of the counts of each block where what is pending of one patch is settled.
-use Rattle.std.proofs.Common.{◌≡◌, ◌≢◌, ◌⊎◌, ℕ, ◌+◌, ◌<◌, ◌==◌, ◌&&◌, Bool, true, false, not, cond, List, length, count_by, set, get_or, Contains, refl, sym, ap, subst, ◌∙◌, inl, inr, arith}
+use Rattle.std.proofs.Common.{◌≡◌, ◌≢◌, ◌⊎◌, ℕ, ◌+◌, ◌<◌, ◌≤◌, ◌==◌, ◌&&◌, Bool, true, false, not, cond, List, length, count_by, set, get_or, Contains, refl, sym, ap, subst, ◌∙◌, inl, inr, arith}
 use Rattle.std.proofs.Math.ListN.{length-set}
-use Rattle.std.proofs.lemmas.Bool.{cases_Bool, eq-eqb, ne_eqb, false≢true}
+use Rattle.std.proofs.lemmas.Bool.{cases_Bool, cases_eq, eq-eqb, ne_eqb, false≢true}
 use Rattle.std.proofs.lemmas.List.{length-map, get_or-map, map-set}
 use Rattle.std.proofs.lemmas.List.Sums.{sum_by-set, get_or-le-sum_by, count_by-le-length}
 use Rattle.fst_types.specs.declared.grade.Grade.{Grade}
@@ -14,7 +14,7 @@ use Rattle.fst_graph.specs.declared.pending.Pending.{Pending}
 use Rattle.fst_graph.specs.declared.pending.Pending.TheVariants as pending
 use Rattle.fst_graph.specs.declared.standing.Standing.{Standing}
 use Rattle.fst_graph.specs.Nodes.{Node, node_of, nodes_of}
-use Rattle.fst_graph.specs.Pendings.{is_pending, over_block, of_kind, joined_sums, Sinks}
+use Rattle.fst_graph.specs.Pendings.{is_pending, over_block, of_kind, joined_sums, height, Sinks}
 use Rattle.fst_graph.specs.Spreading.{now, is_told, settles}
 use Rattle.fst_graph.specs.Standings.{AllStand, is_ready_on, is_held_on, is_flying_on, standing_of, released}
 use Rattle.fst_graph.specs.Tests.{is_hard_kind}
@@ -33,29 +33,32 @@ node_there heads s h lt e = (s, omega (arith, lt, length-map heads node_of), nod
 pending_self : (p : Pending) → is_pending p p ≡ true
 pending_self pending.Nothing = refl
 pending_self (pending.Block b) = eq-eqb b b refl
-pending_self pending.More = refl
+pending_self pending.Apart = refl
+pending_self pending.Held = refl
 
--- a change not on disk waits for its block alone, or for more
-pub over_cases : (b : ℕ) (below : Pending) → (over_block b below ≡ pending.Block b) ⊎ (over_block b below ≡ pending.More)
-over_cases b pending.Nothing = inl refl
-over_cases b (pending.Block c) = elim (cases_Bool (c == b)) [ inl e ↦ inl (rw e refl) | inr e ↦ inr (rw e refl) ]
-over_cases b pending.More = inr refl
+-- of a change that is not on disk something is pending
+over_high : (b : ℕ) (below : Pending) → 1 ≤ height (over_block b below)
+over_high b pending.Nothing = omega arith
+over_high b (pending.Block c) = elim (cases_Bool (c == b)) [ inl e ↦ rw e (omega arith) | inr e ↦ rw e (omega arith) ]
+over_high b pending.Apart = omega arith
+over_high b pending.Held = omega arith
 
--- where it sank it had more, and waits for its block alone from then on
-sunk : (b : ℕ) (old new : Pending) → Sinks old new → is_pending new old ≡ false → (new ≡ pending.Block b) ⊎ (new ≡ pending.More) → (old ≡ pending.More) × (new ≡ pending.Block b)
-sunk b old new (inl same) other cases = absurd (false≢true (sym other ∙ (ap (λ p. is_pending p old) same ∙ pending_self old)))
-sunk b old new (inr (inl more)) other (inl block) = (more, block)
-sunk b old new (inr (inl more)) other (inr again) = absurd (false≢true (sym other ∙ (ap (λ p. is_pending p old) again ∙ ap (is_pending pending.More) more)))
-sunk b old new (inr (inr gone)) other (inl block) = cc
-sunk b old new (inr (inr gone)) other (inr again) = cc
+high_apart : (p : Pending) (b : ℕ) → 2 ≤ height p → is_pending p (pending.Block b) ≡ false
+high_apart pending.Nothing b le = absurd (omega (arith, le))
+high_apart (pending.Block c) b le = absurd (omega (arith, le))
+high_apart pending.Apart b le = refl
+high_apart pending.Held b le = refl
 
-pub change_sinks : (x : Node) (b at len : ℕ) (grade : Grade) → x.patch.kind ≡ Change b at len grade → x.patch.place ≡ place.Memory → Sinks x.pending (now x) → is_told x ≡ false
-    → (x.pending ≡ pending.More) × (now x ≡ pending.Block b)
-change_sinks x b at len grade kind memory sinks untold =
+-- where the dependants of a change in memory know other than is pending of it, it waited for more than its block
+pub waited_for_more : (x : Node) (b at len : ℕ) (grade : Grade) → x.patch.kind ≡ Change b at len grade → x.patch.place ≡ place.Memory → Sinks x.pending (now x) → is_told x ≡ false
+    → is_pending x.pending (pending.Block b) ≡ false
+waited_for_more x b at len grade kind memory sinks untold =
     let own : now x ≡ over_block b (joined_sums x.sums) =
     ap (λ k. of_kind k x.patch.place (joined_sums x.sums)) kind ∙ ap (λ p. of_kind (Change b at len grade) p (joined_sums x.sums)) memory in
-    let cases : (now x ≡ pending.Block b) ⊎ (now x ≡ pending.More) = elim (over_cases b (joined_sums x.sums)) [ inl e ↦ inl (own ∙ e) | inr e ↦ inr (own ∙ e) ] in
-    sunk b x.pending (now x) sinks untold cases
+    high_apart x.pending b (elim sinks [
+      | inl same ↦ absurd (false≢true (sym untold ∙ (ap (λ p. is_pending p x.pending) same ∙ pending_self x.pending)))
+      | inr lower ↦ let some = over_high b (joined_sums x.sums) in let level = ap height own in omega (arith, lower, some, level)
+    ])
 
 module _ (nodes : List Node) (s : ℕ) (x : Node) (lt : s < length nodes) (e : get_or nodes s x ≡ x) where
   -- a count where the node is another
@@ -89,64 +92,74 @@ module _ (nodes : List Node) (s : ℕ) (x : Node) (lt : s < length nodes) (e : g
 
     -- it was held if it is hard, and is ready from then on
     not_ready : is_ready_on b x ≡ false
-    not_ready = ap (λ t. t && is_pending x.pending (pending.Block b)) here ∙ ap (λ p. is_pending p (pending.Block b)) (change_sinks x b at len grade kind memory sinks untold).0
+    not_ready = ap (λ t. t && is_pending x.pending (pending.Block b)) here ∙ waited_for_more x b at len grade kind memory sinks untold
 
     pub was_held : is_held_on b x ≡ is_hard_kind x.patch.kind
     was_held =
         ap (λ t. (t && is_hard_kind x.patch.kind) && not (is_pending x.pending (pending.Block b))) here
-        ∙ (ap (λ p. is_hard_kind x.patch.kind && not (is_pending p (pending.Block b))) (change_sinks x b at len grade kind memory sinks untold).0 ∙ and_on (is_hard_kind x.patch.kind))
+        ∙ (ap (λ t. is_hard_kind x.patch.kind && not t) (waited_for_more x b at len grade kind memory sinks untold) ∙ and_on (is_hard_kind x.patch.kind))
       where
         and_on : (t : Bool) → (t && true) ≡ t
         and_on true = refl
         and_on false = refl
 
-    block_again : is_pending (now x) (pending.Block b) ≡ true
-    block_again = ap (λ p. is_pending p (pending.Block b)) (change_sinks x b at len grade kind memory sinks untold).1 ∙ eq-eqb b b refl
+    off : (c : ℕ) → c ≢ b → is_on c x.patch.kind ≡ false
+    off c ne = ap (is_on c) kind ∙ ne_eqb b c (λ same. ne (sym same))
 
-    ready_then : is_ready_on b (settles x) ≡ true
-    ready_then = ap (λ t. t && is_pending (now x) (pending.Block b)) here ∙ block_again
+    -- where it waits for more than its block from then on too, no count changes
+    pub stand_waiting : (blocks : ℕ) (standings : List Standing) → is_pending (now x) (pending.Block b) ≡ false → AllStand nodes blocks standings → AllStand (set nodes s (settles x)) blocks standings
+    stand_waiting blocks standings more S = stand_kept blocks standings (settles x) (λ c. elim (cases_eq c b) [
+      | inl same ↦ subst (λ n. CountsAs n (settles x) x) (sym same) (record {
+        ready = rw (more, waited_for_more x b at len grade kind memory sinks untold) refl;
+        held = rw (more, waited_for_more x b at len grade kind memory sinks untold) refl;
+        flying = refl;
+      })
+      | inr ne ↦ off_as c (settles x) x (off c ne) (off c ne)
+    ]) S
 
-    held_no_more : is_held_on b (settles x) ≡ false
-    held_no_more = ap (λ t. (is_change_at place.Memory b x.patch && is_hard_kind x.patch.kind) && not t) block_again ∙ none (is_change_at place.Memory b x.patch && is_hard_kind x.patch.kind)
-      where
-        none : (t : Bool) → (t && false) ≡ false
-        none true = refl
-        none false = refl
+    -- where it waits for its block alone from then on, it is ready
+    module _ (block_again : is_pending (now x) (pending.Block b) ≡ true) where
+      ready_then : is_ready_on b (settles x) ≡ true
+      ready_then = ap (λ t. t && is_pending (now x) (pending.Block b)) here ∙ block_again
 
-    -- one more can be ready
-    pub ready_few : count_by (is_ready_on b) nodes < length nodes
-    ready_few =
-        let all = count_set (is_ready_on b) (settles x) in
-        let most = count_by-le-length (is_ready_on b) (set nodes s (settles x)) in
-        let before = ap one_if not_ready in
-        let after = ap one_if ready_then in
-        omega (arith, all, most, before, after, length-set nodes s (settles x))
+      held_no_more : is_held_on b (settles x) ≡ false
+      held_no_more = ap (λ t. (is_change_at place.Memory b x.patch && is_hard_kind x.patch.kind) && not t) block_again ∙ none (is_change_at place.Memory b x.patch && is_hard_kind x.patch.kind)
+        where
+          none : (t : Bool) → (t && false) ≡ false
+          none true = refl
+          none false = refl
 
-    pub stand_released : (blocks : ℕ) (standings : List Standing) (d : Standing) → b < blocks → AllStand nodes blocks standings
-        → AllStand (set nodes s (settles x)) blocks (set standings b (released (is_hard_kind x.patch.kind) (get_or standings b d)))
-    stand_released blocks standings d inside S = stand_set (set nodes s (settles x)) nodes blocks b standings _ inside S own (λ c within ne. standing_kept c (settles x) (off_as c (settles x) x (off c ne) (off c ne)))
-      where
-        off : (c : ℕ) → c ≢ b → is_on c x.patch.kind ≡ false
-        off c ne = ap (is_on c) kind ∙ ne_eqb b c (λ same. ne (sym same))
+      -- one more can be ready
+      pub ready_few : count_by (is_ready_on b) nodes < length nodes
+      ready_few =
+          let all = count_set (is_ready_on b) (settles x) in
+          let most = count_by-le-length (is_ready_on b) (set nodes s (settles x)) in
+          let before = ap one_if not_ready in
+          let after = ap one_if ready_then in
+          omega (arith, all, most, before, after, length-set nodes s (settles x))
 
-        ready_more : count_by (is_ready_on b) (set nodes s (settles x)) + 0 ≡ count_by (is_ready_on b) nodes + 1
-        ready_more =
-            let all = count_set (is_ready_on b) (settles x) in
-            let before = ap one_if not_ready in
-            let after = ap one_if ready_then in
-            omega (arith, all, before, after)
+      pub stand_released : (blocks : ℕ) (standings : List Standing) (d : Standing) → b < blocks → AllStand nodes blocks standings
+          → AllStand (set nodes s (settles x)) blocks (set standings b (released (is_hard_kind x.patch.kind) (get_or standings b d)))
+      stand_released blocks standings d inside S = stand_set (set nodes s (settles x)) nodes blocks b standings _ inside S own (λ c within ne. standing_kept c (settles x) (off_as c (settles x) x (off c ne) (off c ne)))
+        where
+          ready_more : count_by (is_ready_on b) (set nodes s (settles x)) + 0 ≡ count_by (is_ready_on b) nodes + 1
+          ready_more =
+              let all = count_set (is_ready_on b) (settles x) in
+              let before = ap one_if not_ready in
+              let after = ap one_if ready_then in
+              omega (arith, all, before, after)
 
-        held_less : count_by (is_held_on b) (set nodes s (settles x)) + cond (is_hard_kind x.patch.kind) 1 0 ≡ count_by (is_held_on b) nodes + 0
-        held_less =
-            let all = count_set (is_held_on b) (settles x) in
-            let before = ap one_if was_held in
-            let after = ap one_if held_no_more in
-            omega (arith, all, before, after)
+          held_less : count_by (is_held_on b) (set nodes s (settles x)) + cond (is_hard_kind x.patch.kind) 1 0 ≡ count_by (is_held_on b) nodes + 0
+          held_less =
+              let all = count_set (is_held_on b) (settles x) in
+              let before = ap one_if was_held in
+              let after = ap one_if held_no_more in
+              omega (arith, all, before, after)
 
-        own : released (is_hard_kind x.patch.kind) (get_or standings b d) ≡ standing_of (set nodes s (settles x)) b
-        own =
-            ap (released (is_hard_kind x.patch.kind)) (S.each b d inside)
-            ∙ released_as (is_hard_kind x.patch.kind) _ _ _ _ _ _ ready_more held_less (count_same (is_flying_on b) (settles x) refl)
+          own : released (is_hard_kind x.patch.kind) (get_or standings b d) ≡ standing_of (set nodes s (settles x)) b
+          own =
+              ap (released (is_hard_kind x.patch.kind)) (S.each b d inside)
+              ∙ released_as (is_hard_kind x.patch.kind) _ _ _ _ _ _ ready_more held_less (count_same (is_flying_on b) (settles x) refl)
 
 -- what is told of anything else changes no count
 pub settles_kept : (x : Node) (b : ℕ) → is_change_at place.Memory b x.patch ≡ false → CountsAs b (settles x) x
@@ -168,15 +181,22 @@ module _ (heads : List Head) (s : ℕ) (h : Head) (lt : s < length heads) (e : h
   stand_told y same off =
       subst (λ xs. AllStand xs blocks standings) (sym (nodes_settled heads s y h same)) (stand_kept (nodes_of heads) s (node_of h) long there blocks standings (settles (node_of h)) (λ b. settles_kept (node_of h) b (off b)) S)
 
+  -- of a change of b in memory that waits for more than its block from then on too
+  pub stand_held : (b at len : ℕ) (grade : Grade) → kind_of h.kind ≡ Change b at len grade → h.place ≡ place.Memory → Sinks h.pending (now (node_of h)) → is_told (node_of h) ≡ false
+      → (y : Head) → node_of y ≡ settles (node_of h) → is_pending (now (node_of h)) (pending.Block b) ≡ false → AllStand (nodes_of (set heads s y)) blocks standings
+  stand_held b at len grade kind memory sinks untold y same more =
+      subst (λ xs. AllStand xs blocks standings) (sym (nodes_settled heads s y h same))
+      (stand_waiting (nodes_of heads) s (node_of h) long there b at len grade kind memory sinks untold blocks standings more S)
+
   -- of a change of b in memory
   module _ (b at len : ℕ) (grade : Grade) (kind : kind_of h.kind ≡ Change b at len grade) (memory : h.place ≡ place.Memory)
       (sinks : Sinks h.pending (now (node_of h))) (untold : is_told (node_of h) ≡ false) (inside : b < blocks) (st : Standing) (own : st ≡ get_or standings b st) where
     counted : st ≡ standing_of (nodes_of heads) b
     counted = own ∙ S.each b st inside
 
-    pub few_ready : st.ready < length heads
-    few_ready =
-        let few = ready_few (nodes_of heads) s (node_of h) long there b at len grade kind memory sinks untold in
+    pub few_ready : is_pending (now (node_of h)) (pending.Block b) ≡ true → st.ready < length heads
+    few_ready again =
+        let few = ready_few (nodes_of heads) s (node_of h) long there b at len grade kind memory sinks untold again in
         let same = ap (λ (z : Standing). z.ready) counted in
         omega (arith, few, same, length-map heads node_of)
 
@@ -186,8 +206,8 @@ module _ (heads : List Head) (s : ℕ) (h : Head) (lt : s < length heads) (e : h
         let same = ap (λ (z : Standing). z.held) counted in
         omega (arith, held, same)
 
-    pub stand_freed : (y : Head) → node_of y ≡ settles (node_of h) → (after : Standing) → after ≡ released (is_hard_kind (kind_of h.kind)) st → AllStand (nodes_of (set heads s y)) blocks (set standings b after)
-    stand_freed y same after is =
-        let all = stand_released (nodes_of heads) s (node_of h) long there b at len grade kind memory sinks untold blocks standings st inside S in
+    pub stand_freed : is_pending (now (node_of h)) (pending.Block b) ≡ true → (y : Head) → node_of y ≡ settles (node_of h) → (after : Standing) → after ≡ released (is_hard_kind (kind_of h.kind)) st → AllStand (nodes_of (set heads s y)) blocks (set standings b after)
+    stand_freed again y same after is =
+        let all = stand_released (nodes_of heads) s (node_of h) long there b at len grade kind memory sinks untold again blocks standings st inside S in
         let value = is ∙ ap (released (is_hard_kind (kind_of h.kind))) own in
         subst (λ xs. AllStand xs blocks (set standings b after)) (sym (nodes_settled heads s y h same)) (subst (λ z. AllStand (set (nodes_of heads) s (settles (node_of h))) blocks (set standings b z)) (sym value) all)

@@ -131,17 +131,19 @@ over_same : (c b : ℕ) (below : Pending) → over_block c below ≡ pending.Blo
 over_same c b pending.Nothing e = cc
 over_same c b (pending.Block o) e = elim (cases_Bool (o == c)) [
   | inl t ↦ let f : pending.Block c ≡ pending.Block b = rw t at e in cc
-  | inr t ↦ let f : pending.More ≡ pending.Block b = rw t at e in cc
+  | inr t ↦ let f : pending.Apart ≡ pending.Block b = rw t at e in cc
 ]
-over_same c b pending.More e = cc
+over_same c b pending.Apart e = cc
+over_same c b pending.Held e = cc
 
 over_some : (c : ℕ) (below : Pending) → over_block c below ≢ pending.Nothing
 over_some c pending.Nothing e = cc
 over_some c (pending.Block o) e = elim (cases_Bool (o == c)) [
   | inl t ↦ let f : pending.Block c ≡ pending.Nothing = rw t at e in cc
-  | inr t ↦ let f : pending.More ≡ pending.Nothing = rw t at e in cc
+  | inr t ↦ let f : pending.Apart ≡ pending.Nothing = rw t at e in cc
 ]
-over_some c pending.More e = cc
+over_some c pending.Apart e = cc
+over_some c pending.Held e = cc
 
 module _ (nodes : List Node) (numbers blocks : ℕ) (p : Patch) (H : HeadsAreLawful (patches_in nodes) numbers) (H' : HeadsAreLawful (patches_in nodes ++ p ∷ []) (numbers + 1))
     (S : AreSettled nodes blocks) (next : p.number ≡ numbers + 1) (rising : IsStrictlyIncreasing p.dependencies)

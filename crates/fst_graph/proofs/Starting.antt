@@ -31,6 +31,7 @@ use Rattle.fst_graph.specs.Spreading.{Spreading, IsSpreadOf, unspread, now, is_t
 use Rattle.fst_graph.proofs.AtNumber.{at_same, at_other}
 use Rattle.fst_graph.proofs.Begins.{Begins, Sound, sound_at_rest, stays_told, begun}
 use Rattle.fst_graph.proofs.Forgetting.{and_parts}
+use Rattle.fst_graph.proofs.Joining.{held_sinks, sinks_to_nothing}
 use Rattle.fst_graph.proofs.Pended.{now_row, told_now}
 use Rattle.fst_graph.proofs.PendingIn.{found}
 use Rattle.fst_graph.proofs.Waiting.{pending_of}
@@ -57,12 +58,13 @@ none_left : (s : Sums) → s.count ≡ 0 → joined_sums s ≡ pending.Nothing
 none_left s e = rw (eq-eqb s.count 0 e) refl
 
 some_left : (s : Sums) → s.count ≢ 0 → joined_sums s ≢ pending.Nothing
-some_left s ne e = go (s.count == 0) _ _ (ne_eqb s.count 0 ne) e
+some_left s ne e = go (s.count == 0) _ _ _ (ne_eqb s.count 0 ne) e
   where
-    go : (t u : Bool) (b : ℕ) → t ≡ false → cond t pending.Nothing (cond u (pending.Block b) pending.More) ≡ pending.Nothing → ⊥
-    go true u b f e = cc
-    go false true b f e = cc
-    go false false b f e = cc
+    go : (t u v : Bool) (b : ℕ) → t ≡ false → cond t pending.Nothing (cond u (cond v (pending.Block b) pending.Apart) pending.Held) ≡ pending.Nothing → ⊥
+    go true u v b f e = cc
+    go false true true b f e = cc
+    go false true false b f e = cc
+    go false false v b f e = cc
 
 -- a sealed gate is on disk where its row has none that is not there
 sealed_cases : (x : Node) → ((x.sums.count ≡ 0) × (seals x ≡ record x { patch = record x.patch { kind = SealedGate; place = place.Disk } })) ⊎ ((x.sums.count ≢ 0) × (seals x ≡ record x { patch = record x.patch { kind = SealedGate } }))
@@ -111,19 +113,19 @@ module _ (nodes : List Node) (numbers blocks g : ℕ) (H : HeadsAreLawful (patch
     | inr ne ↦ inr (ne, at_other g seals x ne)
   ]
 
-  open_more : (x : Node) → Contains nodes x → x.patch.kind ≡ OpenGate → x.pending ≡ pending.More
-  open_more x c is_open = S.settled x c ∙ ap (λ k. of_kind k x.patch.place (joined (pending_in nodes) x.patch.dependencies)) is_open
+  open_held : (x : Node) → Contains nodes x → x.patch.kind ≡ OpenGate → x.pending ≡ pending.Held
+  open_held x c is_open = S.settled x c ∙ ap (λ k. of_kind k x.patch.place (joined (pending_in nodes) x.patch.dependencies)) is_open
 
   seals_sound : (x : Node) → Contains nodes x → x.patch.kind ≡ OpenGate → x.patch.place ≡ place.Memory → Sound (seals x) blocks
   seals_sound x c is_open memory = elim (sealed_cases x) [
     | inl e ↦ subst (λ y. Sound y blocks) (sym e.1) (record {
-      sinks = inr (inl (open_more x c is_open));
+      sinks = rw (open_held x c is_open) (held_sinks (now (record x { patch = record x.patch { kind = SealedGate; place = place.Disk } })));
       placed = (λ n. refl, λ d. none_left x.sums e.0);
       follow = λ f. inr refl;
       changes = λ b at len grade k. absurd (cc);
     })
     | inr e ↦ subst (λ y. Sound y blocks) (sym e.1) (record {
-      sinks = inr (inl (open_more x c is_open));
+      sinks = rw (open_held x c is_open) (held_sinks (now (record x { patch = record x.patch { kind = SealedGate } })));
       placed = (λ n. absurd (some_left x.sums e.0 n), λ d. absurd (cc));
       follow = λ f. inl memory;
       changes = λ b at len grade k. absurd (cc);
@@ -193,7 +195,8 @@ nothing_on_disk SealedGate b below on = cc
 not_nothing : (p : Pending) → p ≢ pending.Nothing → is_pending pending.Nothing p ≡ false
 not_nothing pending.Nothing ne = absurd (ne refl)
 not_nothing (pending.Block b) ne = refl
-not_nothing pending.More ne = refl
+not_nothing pending.Apart ne = refl
+not_nothing pending.Held ne = refl
 
 pub land_same : (b : ℕ) (x : Node) → SameBut x (lands b x)
 land_same b x = record {
@@ -239,7 +242,7 @@ module _ (nodes : List Node) (numbers blocks b : ℕ) (H : HeadsAreLawful (patch
         let flies = change_at place.Flight b x.patch m.0 in
         let nothing = nothing_on_disk x.patch.kind b (joined_sums x.sums) flies.0 in
         subst (λ y. Sound y blocks) (sym m.1) (record {
-          sinks = inr (inr nothing);
+          sinks = rw nothing (sinks_to_nothing x.pending);
           placed = (λ n. refl, λ d. nothing);
           follow = λ f. absurd (no_follower_on x.patch.kind b flies.0 f);
           changes = λ on at len grade k. inside x.patch on (patch_in nodes x c) (ap block_of_kind k);

@@ -9,7 +9,7 @@ use Rattle.fst_types.proofs.Finite.{In, In-from_Contains, Contains-from_In}
 use Rattle.fst_graph.specs.declared.pending.Pending.{Pending}
 use Rattle.fst_graph.specs.declared.pending.Pending.TheVariants as pending
 use Rattle.fst_graph.specs.declared.pending.Sums.{Sums}
-use Rattle.fst_graph.specs.Pendings.{join, joined, joined_sums, is_pending, of_kind, Sinks, Fits, HasIn, plus, minus, sums_of, together, max_block}
+use Rattle.fst_graph.specs.Pendings.{join, joined, joined_sums, is_even, is_pending, of_kind, Sinks, Fits, HasIn, plus, minus, sums_of, together, max_block}
 use Rattle.fst_graph.proofs.Squares.{gap_none}
 use Rattle.fst_graph.proofs.Joining.{Within, Even, Tells, tells_nothing, tells_plus, join_nothing, join_block, join_parts, join_from, join_sinks, sinks_of_kind, sinks_trans, fits_plus, few_plus, nothing_together, plus_together, plus_swap, minus_plus}
 
@@ -17,18 +17,17 @@ tells : (told : ℕ → Pending) (row : List ℕ) → Tells (sums_of told row) (
 tells told [] = tells_nothing
 tells told (n ∷ ns) = tells_plus (told n) (sums_of told ns) (joined told ns) (tells told ns)
 
--- the test by which joined_sums tells that all are of the mean block
-abbrev is_even : Sums → Bool
-is_even s = (s.more == 0) && (((s.total / s.count) * s.count == s.total) && ((s.total / s.count) * s.total == s.squares))
-
 joined_none : (s : Sums) → s.count ≡ 0 → joined_sums s ≡ pending.Nothing
 joined_none s e = rw (eq-eqb s.count 0 e) refl
 
-joined_even : (s : Sums) → s.count ≢ 0 → is_even s ≡ true → joined_sums s ≡ pending.Block (s.total / s.count)
-joined_even s ne e = rw (ne_eqb s.count 0 ne, e) refl
+joined_even : (s : Sums) → s.count ≢ 0 → s.held ≡ 0 → is_even s ≡ true → joined_sums s ≡ pending.Block (s.total / s.count)
+joined_even s ne free e = rw (ne_eqb s.count 0 ne, eq-eqb s.held 0 free, e) refl
 
-joined_uneven : (s : Sums) → s.count ≢ 0 → is_even s ≡ false → joined_sums s ≡ pending.More
-joined_uneven s ne e = rw (ne_eqb s.count 0 ne, e) refl
+joined_uneven : (s : Sums) → s.count ≢ 0 → s.held ≡ 0 → is_even s ≡ false → joined_sums s ≡ pending.Apart
+joined_uneven s ne free e = rw (ne_eqb s.count 0 ne, eq-eqb s.held 0 free, e) refl
+
+joined_held : (s : Sums) → s.count ≢ 0 → s.held ≢ 0 → joined_sums s ≡ pending.Held
+joined_held s ne some = rw (ne_eqb s.count 0 ne, ne_eqb s.held 0 some) refl
 
 -- the mean of patches of one block is that block
 mean_block : (s : Sums) (b : ℕ) → s.count ≢ 0 → Even s b → s.total / s.count ≡ b
@@ -37,14 +36,14 @@ mean_block s b ne even = ap (λ t. t / s.count) even.total ∙ mul-div_cancel b 
 even_test : (s : Sums) (b : ℕ) → s.count ≢ 0 → Even s b → is_even s ≡ true
 even_test s b ne even =
     rw (mean_block s b ne even)
-    (and_from (s.more == 0) _ (eq-eqb s.more 0 even.none_more) (and_from (b * s.count == s.total) _ (eq-eqb _ _ (sym even.total)) (eq-eqb _ _ (sym even.squares))))
+    (and_from (s.apart == 0) _ (eq-eqb s.apart 0 even.none_apart) (and_from (b * s.count == s.total) _ (eq-eqb _ _ (sym even.total)) (eq-eqb _ _ (sym even.squares))))
 
--- the test passes for no row of which more is pending
-uneven_test : (s : Sums) → Tells s pending.More → is_even s ≡ true → ⊥
+-- the test passes for no row of which changes of several blocks are pending
+uneven_test : (s : Sums) → Tells s pending.Apart → is_even s ≡ true → ⊥
 uneven_test s told e =
-    let one = and_parts (s.more == 0) _ e in
+    let one = and_parts (s.apart == 0) _ e in
     let two = and_parts ((s.total / s.count) * s.count == s.total) _ one.1 in
-    let off = told.off (s.total / s.count) (eqb-true _ _ one.0) in
+    let off = told.off (s.total / s.count) (told.free (λ f. cc)) (eqb-true _ _ one.0) in
     let none = gap_none s.count s.total s.squares (s.total / s.count) off.gap off.squares (eqb-true _ _ two.0) (eqb-true _ _ two.1) in
     elim (off.same none) [ inl f ↦ cc | inr f ↦ cc ]
 
@@ -53,16 +52,19 @@ exact s pending.Nothing told = joined_none s (told.nothing refl)
 exact s (pending.Block b) told =
     let some : s.count ≢ 0 = λ e. let n = told.none e in cc in
     let even = told.even b (inr refl) in
-    joined_even s some (even_test s b some even) ∙ ap (λ n. pending.Block n) (mean_block s b some even)
-exact s pending.More told =
-    joined_uneven s (λ e. let n = told.none e in cc) (false_from_ne_true (is_even s) (uneven_test s told))
+    joined_even s some even.none_held (even_test s b some even) ∙ ap (λ n. pending.Block n) (mean_block s b some even)
+exact s pending.Apart told =
+    joined_uneven s (λ e. let n = told.none e in cc) (told.free (λ f. cc)) (false_from_ne_true (is_even s) (uneven_test s told))
+exact s pending.Held told =
+    let some = told.held refl in
+    joined_held s (λ e. let n = told.none e in cc) (λ e. omega (arith, some, e))
 
 -- the sums tell exactly what is pending of the row
 pub joined_exact : (told : ℕ → Pending) (row : List ℕ) → joined_sums (sums_of told row) ≡ joined told row
 joined_exact told row = exact (sums_of told row) (joined told row) (tells told row)
 
 pub sums_fit : (told : ℕ → Pending) (row : List ℕ) → ((n b : ℕ) → told n ≡ pending.Block b → b ≤ max_block) → Fits (sums_of told row)
-sums_fit told [] narrow = record { more = omega arith; total = omega arith; squares = omega arith }
+sums_fit told [] narrow = record { held = omega arith; apart = omega arith; total = omega arith; squares = omega arith }
 sums_fit told (n ∷ ns) narrow = fits_plus (told n) (sums_of told ns) (narrow n) (sums_fit told ns narrow)
 
 pub sums_few : (told : ℕ → Pending) (row : List ℕ) → (sums_of told row).count ≤ length row
@@ -143,7 +145,8 @@ sums_moved told other row q once c same =
 count_plus : (p : Pending) (s : Sums) → (plus p s).count ≡ cond (not (is_pending p pending.Nothing)) 1 0 + s.count
 count_plus pending.Nothing s = omega arith
 count_plus (pending.Block b) s = omega arith
-count_plus pending.More s = omega arith
+count_plus pending.Apart s = omega arith
+count_plus pending.Held s = omega arith
 
 pub sums_count : (told : ℕ → Pending) (row : List ℕ) → (sums_of told row).count ≡ count_by (λ n. not (is_pending (told n) pending.Nothing)) row
 sums_count told [] = refl

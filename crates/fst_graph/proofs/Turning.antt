@@ -21,18 +21,26 @@ use Rattle.fst_graph.proofs.AtNumber.{at_same, at_other}
 pub same_pending : (p n : Pending) → is_pending p n ≡ true → p ≡ n
 same_pending pending.Nothing pending.Nothing e = refl
 same_pending pending.Nothing (pending.Block c) e = absurd (false≢true e)
-same_pending pending.Nothing pending.More e = absurd (false≢true e)
+same_pending pending.Nothing pending.Apart e = absurd (false≢true e)
+same_pending pending.Nothing pending.Held e = absurd (false≢true e)
 same_pending (pending.Block b) pending.Nothing e = absurd (false≢true e)
 same_pending (pending.Block b) (pending.Block c) e = ap (λ k. pending.Block k) (eqb-true b c e)
-same_pending (pending.Block b) pending.More e = absurd (false≢true e)
-same_pending pending.More pending.Nothing e = absurd (false≢true e)
-same_pending pending.More (pending.Block c) e = absurd (false≢true e)
-same_pending pending.More pending.More e = refl
+same_pending (pending.Block b) pending.Apart e = absurd (false≢true e)
+same_pending (pending.Block b) pending.Held e = absurd (false≢true e)
+same_pending pending.Apart pending.Nothing e = absurd (false≢true e)
+same_pending pending.Apart (pending.Block c) e = absurd (false≢true e)
+same_pending pending.Apart pending.Apart e = refl
+same_pending pending.Apart pending.Held e = absurd (false≢true e)
+same_pending pending.Held pending.Nothing e = absurd (false≢true e)
+same_pending pending.Held (pending.Block c) e = absurd (false≢true e)
+same_pending pending.Held pending.Apart e = absurd (false≢true e)
+same_pending pending.Held pending.Held e = refl
 
 pub is_itself : (p : Pending) → is_pending p p ≡ true
 is_itself pending.Nothing = refl
 is_itself (pending.Block b) = eq-eqb b b refl
-is_itself pending.More = refl
+is_itself pending.Apart = refl
+is_itself pending.Held = refl
 
 -- what is told is what is pending now
 pub untold : (x : Node) → is_told x ≡ false → now x ≢ x.pending
@@ -44,32 +52,25 @@ not_told x ne = false_from_ne_true (is_told x) (λ e. ne (same_pending (now x) x
 pub told_now : (x : Node) → now x ≡ x.pending → is_told x ≡ true
 told_now x e = subst (λ p. is_pending p x.pending ≡ true) (sym e) (is_itself x.pending)
 
+height_none : (p : Pending) → height p ≡ 0 → p ≡ pending.Nothing
+height_none pending.Nothing e = refl
+height_none (pending.Block b) e = absurd (omega (arith, e))
+height_none pending.Apart e = absurd (omega (arith, e))
+height_none pending.Held e = absurd (omega (arith, e))
+
 pub sinks_nothing : (p n : Pending) → Sinks p n → p ≡ pending.Nothing → n ≡ pending.Nothing
 sinks_nothing p n (inl same) e = same ∙ e
-sinks_nothing p n (inr (inl more)) e = cc
-sinks_nothing p n (inr (inr none)) e = none
-
--- what has sunk does not come back
-pub never_back : (p n m : Pending) → Sinks p n → n ≢ p → Sinks n m → m ≢ p
-never_back p n m (inl same) ne t e = ne same
-never_back p n m (inr (inl more)) ne (inl same) e = ne (sym same ∙ e)
-never_back p n m (inr (inl more)) ne (inr (inl high)) e = ne (high ∙ sym more)
-never_back p n m (inr (inl more)) ne (inr (inr none)) e = let f : pending.More ≡ pending.Nothing = sym more ∙ (sym e ∙ none) in cc
-never_back p n m (inr (inr none)) ne (inl same) e = ne (sym same ∙ e)
-never_back p n m (inr (inr none)) ne (inr (inl high)) e = let f : pending.Nothing ≡ pending.More = sym none ∙ high in cc
-never_back p n m (inr (inr none)) ne (inr (inr low)) e = ne (none ∙ (sym low ∙ e))
+sinks_nothing p n (inr lower) e = absurd (omega (arith, lower, ap height e))
 
 -- what sinks to something else is lower
 pub lower_sinks : (p n : Pending) → Sinks p n → n ≢ p → height n < height p
 lower_sinks p n (inl same) ne = absurd (ne same)
-lower_sinks pending.Nothing n (inr (inl more)) ne = cc
-lower_sinks (pending.Block b) n (inr (inl more)) ne = cc
-lower_sinks pending.More pending.Nothing (inr (inl more)) ne = omega arith
-lower_sinks pending.More (pending.Block c) (inr (inl more)) ne = omega arith
-lower_sinks pending.More pending.More (inr (inl more)) ne = absurd (ne refl)
-lower_sinks pending.Nothing n (inr (inr none)) ne = absurd (ne none)
-lower_sinks (pending.Block b) n (inr (inr none)) ne = rw none (omega arith)
-lower_sinks pending.More n (inr (inr none)) ne = rw none (omega arith)
+lower_sinks p n (inr lower) ne = lower
+
+-- what has sunk does not come back
+pub never_back : (p n m : Pending) → Sinks p n → n ≢ p → Sinks n m → m ≢ p
+never_back p n m s ne (inl same) e = ne (sym same ∙ e)
+never_back p n m s ne (inr lower) e = omega (arith, lower_sinks p n s ne, lower, ap height e)
 
 -- what is pending by a kind
 
@@ -85,28 +86,35 @@ is_follows Empty f = refl
 is_follows OpenGate f = absurd f
 is_follows SealedGate f = refl
 
-some_pending : (t : Bool) (b : ℕ) → cond t (pending.Block b) pending.More ≡ pending.Nothing → ⊥
+some_pending : (t : Bool) (b : ℕ) → cond t (pending.Block b) pending.Apart ≡ pending.Nothing → ⊥
 some_pending true b e = cc
 some_pending false b e = cc
 
 join_live : (b : ℕ) (p : Pending) → join (pending.Block b) p ≡ pending.Nothing → ⊥
 join_live b pending.Nothing e = cc
 join_live b (pending.Block c) e = some_pending (c == b) b e
-join_live b pending.More e = cc
+join_live b pending.Apart e = cc
+join_live b pending.Held e = cc
 
 join_one : (b c : ℕ) (p : Pending) → join (pending.Block b) p ≡ pending.Block c → b ≡ c
 join_one b c pending.Nothing e = cc
 join_one b c (pending.Block d) e = one (d == b) e
   where
-    one : (t : Bool) → cond t (pending.Block b) pending.More ≡ pending.Block c → b ≡ c
+    one : (t : Bool) → cond t (pending.Block b) pending.Apart ≡ pending.Block c → b ≡ c
     one true e = cc
     one false e = cc
-join_one b c pending.More e = cc
+join_one b c pending.Apart e = cc
+join_one b c pending.Held e = cc
+
+some_left : (t u : Bool) (b : ℕ) → cond t (cond u (pending.Block b) pending.Apart) pending.Held ≡ pending.Nothing → ⊥
+some_left true true b e = cc
+some_left true false b e = cc
+some_left false u b e = cc
 
 pub nothing_counted : (s : Sums) → joined_sums s ≡ pending.Nothing → s.count ≡ 0
 nothing_counted s e = elim (cases_Bool (s.count == 0)) [
   | inl none ↦ eqb-true s.count 0 none
-  | inr some ↦ absurd (some_pending _ _ (rw some at e))
+  | inr some ↦ absurd (some_left (s.held == 0) _ _ (rw some at e))
 ]
 
 pub counted_nothing : (s : Sums) → s.count ≡ 0 → joined_sums s ≡ pending.Nothing

@@ -38,7 +38,7 @@ pub fn pending_now(head: &Head) -> Pending
             Place::Disk => Pending::Nothing,
             Place::Memory | Place::Flight => over_block(block, head.sums.joined()),
         },
-        Kind::OpenGate => Pending::More,
+        Kind::OpenGate => Pending::Held,
         Kind::Empty | Kind::SealedGate => head.sums.joined(),
     }
 }

@@ -4,6 +4,8 @@
 //! walk down does.
 
 ghost use Rattle.std.specs.Prelude.{◌≡◌, ◌≤◌, ◌<◌, [], length, map, vec_capacity};
+ghost use Rattle.fst_types.specs.Closure.{IsAcyclic};
+ghost use Rattle.fst_types.specs.Dependencies.{DirectlyOn};
 ghost use Rattle.fst_types.specs.Facts.{IsOnDiskWithAll, HardNeverHold};
 ghost use Rattle.fst_types.specs.Grades.{FollowsRule};
 ghost use Rattle.fst_graph.specs.Grading.{MayBeHard};
@@ -16,7 +18,7 @@ ghost use Rattle.fst_graph.specs.Standings.{AllStand};
 use crate::descent::is_held_back;
 use crate::head::Head;
 use crate::lists::Listed;
-use crate::shortcuts::{comes_back, names_open_gate, rests_on_hard, waits_for_quiet_block};
+use crate::shortcuts::{comes_back, rests_on_hard, waits_for_gate, waits_for_quiet_block};
 use crate::standing::Standing;
 use fst_types::Grade;
 
@@ -41,6 +43,7 @@ pub fn grade_of(
     requires block { block < length reached.old }
     requires disk { IsOnDiskWithAll (patches_of heads.now) }
     requires hard { HardNeverHold (patches_of heads.now) }
+    requires acyclic { IsAcyclic (DirectlyOn (patches_of heads.now)) }
     requires settled { AreSettled (nodes_of heads.now) (length standings.now) }
     requires standing { AllStand (nodes_of heads.now) (length standings.now) standings.now }
     ensures graded { FollowsRule result (MayBeHard (patches_of heads.now) block row.now) }
@@ -50,7 +53,7 @@ pub fn grade_of(
     if rests_on_hard(heads, block, row) || waits_for_quiet_block(heads, standings, block, row) {
         return Grade::Hard;
     }
-    if names_open_gate(heads, row) || comes_back(heads, block, row) {
+    if waits_for_gate(heads, row) || comes_back(heads, block, row) {
         return Grade::Soft;
     }
     if is_held_back(heads, lists, marks, reached, queue, block, row) {

@@ -186,7 +186,7 @@ impl Graph {
             place: Place::Memory,
             dependencies: SmallVec::new(self.alloc),
             sums: no_sums(),
-            pending: Pending::More,
+            pending: Pending::Held,
             dependants: SmallVec::new(self.alloc),
         });
         self.order.push_reserved(number);

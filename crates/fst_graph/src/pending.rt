@@ -11,8 +11,10 @@ pub enum Pending {
     Nothing,
     /// Changes of this block, and empty patches and sealed gates over them.
     Block(u32),
-    /// An open gate, or changes of more than one block.
-    More,
+    /// Changes of more than one block, and empty patches and sealed gates over them.
+    Apart,
+    /// An open gate, and perhaps changes.
+    Held,
 }
 
 /// Whether the two are the same.
@@ -22,15 +24,19 @@ pub fn is_pending(pending: Pending, other: Pending) -> bool
     match pending {
         Pending::Nothing => match other {
             Pending::Nothing => true,
-            Pending::Block(_) | Pending::More => false,
+            Pending::Block(_) | Pending::Apart | Pending::Held => false,
         },
         Pending::Block(block) => match other {
             Pending::Block(second) => block == second,
-            Pending::Nothing | Pending::More => false,
+            Pending::Nothing | Pending::Apart | Pending::Held => false,
         },
-        Pending::More => match other {
-            Pending::More => true,
-            Pending::Nothing | Pending::Block(_) => false,
+        Pending::Apart => match other {
+            Pending::Apart => true,
+            Pending::Nothing | Pending::Block(_) | Pending::Held => false,
+        },
+        Pending::Held => match other {
+            Pending::Held => true,
+            Pending::Nothing | Pending::Block(_) | Pending::Apart => false,
         },
     }
 }
@@ -44,19 +50,21 @@ pub fn over_block(block: u32, below: Pending) -> Pending
         Pending::Block(other) => if other == block {
             Pending::Block(block)
         } else {
-            Pending::More
+            Pending::Apart
         },
-        Pending::More => Pending::More,
+        Pending::Apart => Pending::Apart,
+        Pending::Held => Pending::Held,
     }
 }
 
-/// How many patches of a row are not on disk, how many of these wait for more than one block, and the sums of the blocks
-/// of the others and of the squares of those blocks. The two sums tell whether all those blocks are the same, and follow
-/// where one patch of the row changes, without a look at the others.
+/// How many patches of a row are not on disk, how many of these wait for an open gate, and how many of the others for
+/// more than one block, and the sums of the blocks of the rest and of the squares of those blocks. The two sums tell
+/// whether all those blocks are the same, and follow where one patch of the row changes, without a look at the others.
 #[derive(Clone, Copy, Debug, PartialEq, Eq)]
 pub struct Sums {
     pub count: usize,
-    pub more: usize,
+    pub held: usize,
+    pub apart: usize,
     pub total: u128,
     pub squares: u128,
 }
@@ -67,7 +75,8 @@ pub fn no_sums() -> Sums
 {
     Sums {
         count: 0,
-        more: 0,
+        held: 0,
+        apart: 0,
         total: 0,
         squares: 0,
     }
@@ -89,9 +98,13 @@ impl Sums {
                 self.total += block;
                 self.squares += block * block;
             }
-            Pending::More => {
+            Pending::Apart => {
                 self.count += 1;
-                self.more += 1;
+                self.apart += 1;
+            }
+            Pending::Held => {
+                self.count += 1;
+                self.held += 1;
             }
         }
     }
@@ -110,9 +123,13 @@ impl Sums {
                 self.total -= block;
                 self.squares -= block * block;
             }
-            Pending::More => {
+            Pending::Apart => {
                 self.count -= 1;
-                self.more -= 1;
+                self.apart -= 1;
+            }
+            Pending::Held => {
+                self.count -= 1;
+                self.held -= 1;
             }
         }
     }
@@ -137,7 +154,8 @@ impl Sums {
     {
         Sums {
             count: self.count + other.count,
-            more: self.more + other.more,
+            held: self.held + other.held,
+            apart: self.apart + other.apart,
             total: self.total + other.total,
             squares: self.squares + other.squares,
         }
@@ -151,15 +169,18 @@ impl Sums {
         if self.count == 0 {
             return Pending::Nothing;
         }
-        if self.more > 0 {
-            return Pending::More;
+        if self.held > 0 {
+            return Pending::Held;
+        }
+        if self.apart > 0 {
+            return Pending::Apart;
         }
         let count = self.count as u128;
         let block = self.total / count;
         if block * count == self.total && block * self.total == self.squares {
             Pending::Block(block as u32)
         } else {
-            Pending::More
+            Pending::Apart
         }
     }
 }

@@ -2,6 +2,8 @@
 //! down, which takes no memory and is not refused.
 
 ghost use Rattle.std.specs.Prelude.{◌≡◌, ◌↔◌, ◌<◌, ◌≤◌, [], IsTrue, IfOk, true, length, map, vec_capacity};
+ghost use Rattle.fst_types.specs.Closure.{IsAcyclic};
+ghost use Rattle.fst_types.specs.Dependencies.{DirectlyOn};
 ghost use Rattle.fst_types.specs.Facts.{IsOnDiskWithAll, HardNeverHold};
 ghost use Rattle.fst_types.specs.Grades.{FollowsRule};
 ghost use Rattle.fst_types.specs.Lists.{Lists};
@@ -67,6 +69,7 @@ pub fn prepare(
     requires room { length heads.now ≤ vec_capacity queue.old }
     requires idle { queue.old.items ≡ [] }
     requires hard { HardNeverHold (patches_of heads.now) }
+    requires acyclic { IsAcyclic (DirectlyOn (patches_of heads.now)) }
     requires inside { IsInside (patches_of heads.now) (length reached.old) }
     requires block { block < length reached.old }
     requires disk { IsOnDiskWithAll (patches_of heads.now) }

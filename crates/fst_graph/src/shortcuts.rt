@@ -3,6 +3,7 @@
 //! block that holds nothing back need none.
 
 ghost use Rattle.std.specs.Prelude.{◌≡◌, ◌↔◌, ◌&&◌, ℕ, IsTrue, IfSome, Contains, length};
+ghost use Rattle.fst_types.specs.Closure.{IsAcyclic};
 ghost use Rattle.fst_types.specs.Dependencies.{DirectlyOn};
 ghost use Rattle.fst_types.specs.Facts.{IsOnDiskWithAll};
 ghost use Rattle.fst_types.specs.declared.place.Place.TheVariants as place;
@@ -18,7 +19,7 @@ ghost use Rattle.fst_graph.specs.Standings.{AllStand};
 use crate::choice::is_hard;
 use crate::head::Head;
 use crate::marks::slot_of;
-use crate::pending::Pending;
+use crate::pending::{Pending, is_pending};
 use crate::places::is_change_at;
 use crate::row::row_sums;
 use crate::standing::Standing;
@@ -52,12 +53,15 @@ pub fn names_passing(heads: &[Head], test: Test, row: &[u32]) -> bool
     false
 }
 
-/// Whether one of the row is an open gate. A change with that row is soft.
-pub fn names_open_gate(heads: &[Head], row: &[u32]) -> bool
-    requires { IsRising heads.now }
-    ensures { IsTrue result ↔ ((n : ℕ) × Contains row.now n × IsOpenNumber (patches_of heads.now) n) }
+/// Whether an open gate is in the row or below it. A change with that row is soft.
+pub fn waits_for_gate(heads: &[Head], row: &[u32]) -> bool
+    requires rising { IsRising heads.now }
+    requires acyclic { IsAcyclic (DirectlyOn (patches_of heads.now)) }
+    requires disk { IsOnDiskWithAll (patches_of heads.now) }
+    requires settled { (blocks : ℕ) × AreSettled (nodes_of heads.now) blocks }
+    ensures { IsTrue result ↔ HasUnder (patches_of heads.now) row.now (IsOpenNumber (patches_of heads.now)) }
 {
-    names_passing(heads, Test::Open, row)
+    is_pending(row_sums(heads, row).joined(), Pending::Held)
 }
 
 // Whether the patch is a hard change of the block in memory.
@@ -109,7 +113,7 @@ pub fn waits_for_quiet_block(
     match row_sums(heads, row).joined() {
         Pending::Nothing => true,
         Pending::Block(other) => other == block || standings[other as usize].held == 0,
-        Pending::More => false,
+        Pending::Apart | Pending::Held => false,
     }
 }
 

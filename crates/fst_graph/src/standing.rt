@@ -13,7 +13,7 @@ ghost use Rattle.fst_graph.specs.Tests.{is_hard_kind};
 use crate::cascade::pending_now;
 use crate::choice::is_hard;
 use crate::head::{Head, Kind};
-use crate::pending::Pending;
+use crate::pending::{Pending, is_pending};
 use fst_types::{BlockNo, Place};
 use std::alloc::{AllocError, Global};
 
@@ -136,7 +136,9 @@ pub fn settle_slot(
     let new = pending_now(head);
     if let Kind::Change(block, _, _) = head.kind {
         if let Place::Memory = head.place {
-            standings[block as usize].release(head.kind);
+            if is_pending(new, Pending::Block(block)) {
+                standings[block as usize].release(head.kind);
+            }
         }
     }
     head.pending = new;

@@ -1,4 +1,4 @@
-use Rattle.std.proofs.Common.{◌≡◌, ◌<◌, ◌∙◌, ◌&&◌, ℕ, Bool, List, length, set, get_or, vec_len, Vec, Global, false, refl, sym, ap, subst, arith}
+use Rattle.std.proofs.Common.{◌≡◌, ◌<◌, ◌∙◌, ◌&&◌, ℕ, Bool, List, length, set, get_or, vec_len, Vec, Global, true, false, refl, sym, ap, subst, arith}
 use Rattle.std.proofs.lemmas.Bool.{and_right}
 use Rattle.fst_types.specs.declared.grade.Grade.{Grade}
 use Rattle.fst_types.specs.declared.place.Place.{Place}
@@ -12,14 +12,16 @@ use Rattle.fst_graph.specs.declared.standing.Standing.{Standing}
 use Rattle.fst_graph.specs.Heads.{kind_of}
 use Rattle.fst_graph.specs.Marks.{HasSlot}
 use Rattle.fst_graph.specs.Nodes.{Node, node_of, nodes_of}
-use Rattle.fst_graph.specs.Pendings.{Fits, Sinks}
+use Rattle.fst_graph.specs.declared.pending.Pending.{Pending}
+use Rattle.fst_graph.specs.declared.pending.Pending.TheVariants as pending
+use Rattle.fst_graph.specs.Pendings.{Fits, Sinks, is_pending}
 use Rattle.fst_graph.specs.Spreading.{now, is_told, settles}
 use Rattle.fst_graph.specs.Standings.{AllStand}
 use Rattle.fst_graph.proofs.AtNumber.{at_slot}
-use Rattle.fst_graph.proofs.Releasing.{node_at, node_there, few_ready, some_held, stand_freed, stand_told}
+use Rattle.fst_graph.proofs.Releasing.{node_at, node_there, few_ready, some_held, stand_freed, stand_held, stand_told}
 use Rattle.fst_graph.proofs.Slots.{slot_here}
 use Rattle.fst_graph.proofs.standing.settle_slot.Goals as goal
-use Rattle.fst_graph.proofs.standing.settle_slot.Goals.{in-Change+in-Memory, in-Change+in_default-place, in_default}
+use Rattle.fst_graph.proofs.standing.settle_slot.Goals.{in-Change+in-Memory+then-is_pending, in-Change+in-Memory+else-is_pending, in-Change+in_default-place, in_default}
 
 pub pending_now-new-requires : goal.pending_now-new-requires
 pending_now-new-requires c =
@@ -51,6 +53,13 @@ off_change b kinds.Empty here not = and_right here false refl
 off_change b kinds.OpenGate here not = and_right here false refl
 off_change b kinds.SealedGate here not = and_right here false refl
 
+-- what the test says of the answer it says of what is pending now
+is_block_now : (h : Head) (p : Pending) (b : ℕ) → p ≡ now (node_of h) → is_pending p (pending.Block b) ≡ true → is_pending (now (node_of h)) (pending.Block b) ≡ true
+is_block_now h p b e yes_it = ap (λ q. is_pending q (pending.Block b)) (sym e) ∙ yes_it
+
+not_block_now : (h : Head) (p : Pending) (b : ℕ) → p ≡ now (node_of h) → is_pending p (pending.Block b) ≡ false → is_pending (now (node_of h)) (pending.Block b) ≡ false
+not_block_now h p b e no_it = ap (λ q. is_pending q (pending.Block b)) (sym e) ∙ no_it
+
 pub release-requires-clause-ready : goal.release-requires-clause-ready
 release-requires-clause-ready c =
     let heads = c.args.heads.now.items in
@@ -62,7 +71,8 @@ release-requires-clause-ready c =
     let inside = c.requires.inside (node_of h) c.in-Change.block c.in-Change.field-1.at c.in-Change.field-1.len c.in-Change.field-2 (node_there heads s h lt e) (ap kind_of c.in-Change.is) in
     let few = few_ready heads s h lt e (vec_len c.args.standings.now) c.args.standings.now.items c.requires.standing
     c.in-Change.block c.in-Change.field-1.at c.in-Change.field-1.len c.in-Change.field-2 (ap kind_of c.in-Change.is) c.in-Memory.is
-    (slot_sinks heads s h at c.requires.sinks) (slot_untold heads s h at c.requires.untold) inside c.index_mut.result.now c.index_mut.ensures.value in
+    (slot_sinks heads s h at c.requires.sinks) (slot_untold heads s h at c.requires.untold) inside c.index_mut.result.now c.index_mut.ensures.value
+    (is_block_now h c.pending_now-new.result c.in-Change.block c.pending_now-new.ensures (sym c.is_pending.ensures ∙ c.if-is_pending.true)) in
     omega (arith, few, c.args.heads.now.ok.0, c.args.heads.now.ok.1, c.args.heads.now.small)
 
 pub release-requires-clause-held : goal.release-requires-clause-held
@@ -103,13 +113,19 @@ returns-clause-standing c =
     let after : Head = record h { pending = c.pending_now-new.result } in
     let same : node_of after ≡ settles (node_of h) = ap (λ p. node_of (record h { pending = p })) c.pending_now-new.ensures in
     elim c.match-head.branch [
-      | in-Change+in-Memory w ↦
+      | in-Change+in-Memory+else-is_pending w ↦
+          subst (λ (v : Vec Standing Global). AllStand (nodes_of (set heads s after)) (vec_len c.args.standings.now) v.items) (sym w.standings-is)
+          (stand_held heads s h lt e (vec_len c.args.standings.now) c.args.standings.now.items c.requires.standing
+          w.in-Change.block w.in-Change.field-1.at w.in-Change.field-1.len w.in-Change.field-2 (ap kind_of w.in-Change.is) w.in-Memory.is
+          (slot_sinks heads s h at c.requires.sinks) (slot_untold heads s h at c.requires.untold)
+          after same (not_block_now h c.pending_now-new.result w.in-Change.block c.pending_now-new.ensures (sym w.is_pending.ensures ∙ w.if-is_pending.false)))
+      | in-Change+in-Memory+then-is_pending w ↦
           let inside = c.requires.inside (node_of h) w.in-Change.block w.in-Change.field-1.at w.in-Change.field-1.len w.in-Change.field-2 (node_there heads s h lt e) (ap kind_of w.in-Change.is) in
           subst (λ (v : Vec Standing Global). AllStand (nodes_of (set heads s after)) (vec_len c.args.standings.now) v.items) (sym w.standings-is)
           (stand_freed heads s h lt e (vec_len c.args.standings.now) c.args.standings.now.items c.requires.standing
           w.in-Change.block w.in-Change.field-1.at w.in-Change.field-1.len w.in-Change.field-2 (ap kind_of w.in-Change.is) w.in-Memory.is
           (slot_sinks heads s h at c.requires.sinks) (slot_untold heads s h at c.requires.untold) inside w.index_mut.result.now w.index_mut.ensures.value
-          after same w.release.new.self w.release.ensures)
+          (is_block_now h c.pending_now-new.result w.in-Change.block c.pending_now-new.ensures (sym w.is_pending.ensures ∙ w.if-is_pending.true)) after same w.release.new.self w.release.ensures)
       | in-Change+in_default-place w ↦
           subst (λ (v : Vec Standing Global). AllStand (nodes_of (set heads s after)) (vec_len c.args.standings.now) v.items) (sym w.standings-is)
           (stand_told heads s h lt e (vec_len c.args.standings.now) c.args.standings.now.items c.requires.standing after same (λ b. off_memory h.place (is_on b (kind_of h.kind)) w.in_default-place.not-Memory))

@@ -60,6 +60,9 @@ returns-clause-ok c =
 pub prepare-requires-clause-hard : goal.prepare-requires-clause-hard
 prepare-requires-clause-hard c = rw c.deref-2.ensures.value c.self.invariant.0.lawful.hard_never_hold
 
+pub prepare-requires-clause-acyclic : goal.prepare-requires-clause-acyclic
+prepare-requires-clause-acyclic c = rw c.deref-2.ensures.value c.self.invariant.0.lawful.no_cycle
+
 pub prepare-requires-clause-listed : goal.prepare-requires-clause-listed
 prepare-requires-clause-listed c =
     let blocks : length c.deref_mut-2.result.now ≡ c.self.inside.blocks = ap length c.deref_mut-2.ensures.value ∙ c.self.invariant.3 in
