@@ -1,5 +1,6 @@
 //! Whole scripts with each reply, hostile lines, limits, and streams in pieces or failing.
 
+mod examples;
 mod hostile;
 mod limits;
 mod refusals;
