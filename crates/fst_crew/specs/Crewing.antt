@@ -1,0 +1,27 @@
+-- A crew's plan, and what it prints.
+use Rattle.std.specs.Prelude.{◌≤◌, ◌+◌, ℕ, List, [], ◌∷◌, ◌++◌, codes, decimal}
+use Rattle.hex.specs.Hex.{encode_lower}
+
+-- 1 to 8 threads of each kind, and 1 to 1,000 rounds
+pub record IsCrew (files workers rounds : ℕ) : Type 0 where
+  pub some_files : 1 ≤ files
+  pub few_files : files ≤ 8
+  pub some_workers : 1 ≤ workers
+  pub few_workers : workers ≤ 8
+  pub some_rounds : 1 ≤ rounds
+  pub few_rounds : rounds ≤ 1000
+
+abbrev pub made_line : ℕ → List ℕ
+made_line n = codes "made " ++ decimal n ++ 10 ∷ []
+
+abbrev pub block_line : ℕ → List ℕ → List ℕ
+block_line b bytes = codes "block " ++ decimal b ++ codes " " ++ encode_lower bytes ++ 10 ∷ []
+
+-- a line for each block, the first of number b
+unfoldable pub block_lines : ℕ → List (List ℕ) → List ℕ
+block_lines b [] = []
+block_lines b (bytes ∷ more) = block_line b bytes ++ block_lines (b + 1) more
+
+-- how many changes were made, and what each block holds
+unfoldable pub told : ℕ → List (List ℕ) → List ℕ
+told made blocks = made_line made ++ block_lines 0 blocks

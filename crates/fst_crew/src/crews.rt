@@ -1,0 +1,81 @@
+//! A run of a crew, from its slots to what it prints.
+
+ghost use Rattle.std.specs.Prelude.{◌≡◌, ◌*◌, ◌⊎◌, ℕ, List, IfOk, IfErr, OnOk, length};
+ghost use Rattle.std.specs.Io.KnownBytes.{Appends};
+ghost use Rattle.fst_crew.specs.Crewing.{told};
+ghost use Rattle.fst_crew.specs.declared.fault.CrewFault.{CrewFault};
+
+mod drain;
+mod files;
+mod report;
+mod threads;
+
+use crate::crews::report::report;
+use crate::crews::threads::{Shop, in_scope};
+use crate::fault::CrewFault;
+use crate::plan::{CREW_BLOCKS, Crew};
+use fst_cache::Cache;
+use fst_device::BlockSlot;
+use fst_pairs::{Desk, Totals};
+use fst_types::Shape;
+use std::alloc::Global;
+use std::io::Write;
+use std::sync::Wait;
+use std::thread::Threads;
+
+// Runs all threads over one desk, and closes it.
+fn worked<S: BlockSlot + Send, R: Threads + Wait + Sync>(
+    rt: &R,
+    alloc: Global,
+    slots: Vec<S>,
+    plan: Crew,
+) -> Result<Totals<S>, CrewFault>
+    ensures { IfOk result (λ totals. totals.made ≡ plan.files * plan.rounds) }
+{
+    let Ok(shape) = Shape::new(CREW_BLOCKS, CREW_BLOCKS, CREW_BLOCKS) else {
+        unreachable!()
+    };
+    let cache = match Cache::open(alloc, shape, slots) {
+        Ok(cache) => cache,
+        Err((_, fault)) => return Err(CrewFault::Cache(fault)),
+    };
+    let (desk, workers) = match Desk::open(alloc, cache, plan.workers) {
+        Ok(ends) => ends,
+        Err((_, fault)) => return Err(CrewFault::Cache(fault)),
+    };
+    let shop = Shop::new(desk);
+    let ended = in_scope(rt, alloc, &shop, workers, plan);
+    let shares = ended?;
+    match shop.into_desk().close(shares) {
+        Ok(totals) => Ok(totals),
+        Err(refused) => Err(CrewFault::Cache(refused.fault)),
+    }
+}
+
+/// Runs file threads and workers over one desk and these slots, 8 of 8 bytes, until nothing is live. It then prints
+/// `made N`, how many changes were made, and a line `block B HEX` for each block.
+///
+/// File thread f, from 0, in round r, from 1, changes byte f of block (r - 1 + f) mod 8 to r mod 256, after its own last
+/// change. What is printed is made first and takes memory; a refusal prints nothing. It is refused as
+/// `Cache` where a call of the cache or the desk is refused or a stray comes, with the fault of the lowest file
+/// thread that stopped, else with the main thread's; as `Cache(Lost)` where a change is left for good since a block is
+/// lost; as `Cache(Memory)` where memory is refused; and as `Thread` where a thread cannot be made. `Write` is answered
+/// where the writer fails or takes nothing.
+pub fn crew<S: BlockSlot + Send, R: Threads + Wait + Sync, W: Write>(
+    rt: &R,
+    alloc: Global,
+    slots: Vec<S>,
+    plan: Crew,
+    writer: &mut W,
+) -> Result<(), CrewFault>
+    ensures made { OnOk result ((blocks : List (List ℕ)) × (length blocks ≡ 8)
+        × Appends (W.contents writer.old) (W.contents writer.new) (told (plan.files * plan.rounds) blocks)) }
+    ensures silent { IfErr result (λ fault. (fault ≡ CrewFault.Write) ⊎ (W.contents writer.new ≡ W.contents writer.old)) }
+{
+    let mut totals = worked(rt, alloc, slots, plan)?;
+    let text = report(alloc, totals.made, &mut totals.cache)?;
+    match writer.write_all(text.as_bytes()) {
+        Ok(()) => Ok(()),
+        Err(_) => Err(CrewFault::Write),
+    }
+}
