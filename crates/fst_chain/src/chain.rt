@@ -18,7 +18,8 @@ use std::marker::Model;
 /// A list of records, each with a payload of bytes whose number stays. Clauses speak of it as `chain_list`.
 ///
 /// A record takes one block of its allocator: two links and a `Vec`'s head beside the record, and the payload behind.
-/// The allocator is kept, and each block is freed once: where its record is taken out, or where the chain is dropped.
+/// The allocator is kept. A block goes back to it where its record is taken out, or where the chain is dropped: that it
+/// does so at most once is proved, and that it does so is tested.
 pub struct Chain<T, A: Allocator = Global> {
     head: Option<Place>,
     tail: Option<Place>,
@@ -95,7 +96,7 @@ impl<T, A: Allocator> Chain<T, A> {
     }
 }
 
-// Frees each node once. A body that left one would not let go of the heap.
+// Takes each node out, and so frees it. A body that left one in the heap could not let go of the heap.
 impl<T: Drop, A: Allocator> Drop for Chain<T, A> {
     fn drop(mut self) {
         while self.len() > 0 {
