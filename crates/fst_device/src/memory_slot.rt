@@ -1,6 +1,6 @@
 //! A slot whose block is in memory, and whose next read or write can be told to fail.
 
-ghost use Rattle.std.specs.Prelude.{◌≡◌, ℕ, ◌+◌, ◌<◌, ◌^◌, false, length, is_ok, OnOk, OnErr, IsErr, IsTrue, IsOkUnless, ◌⊎◌, ◌↔◌, vec_len};
+ghost use Rattle.std.specs.Prelude.{◌≡◌, ℕ, ◌+◌, ◌<◌, ◌^◌, false, length, is_ok, OnOk, OnErr, not, IsOkUnless, ◌⊎◌, ◌↔◌, vec_len};
 ghost use Rattle.fst_device.specs.declared.arm.NextWrite.{NextWrite};
 ghost use Rattle.fst_device.specs.Armed.{armed};
 ghost use Rattle.fst_device.specs.MemoryCalls.{works, after_read, after_write};
@@ -100,8 +100,8 @@ impl MemorySlot {
 }
 
 impl BlockSlot for MemorySlot {
-    ghost use Rattle.std.specs.Prelude.{◌≡◌, ◌+◌, refl, length, true, false};
-    ghost use Rattle.fst_device.specs.MemoryCalls.{works, after_write};
+    ghost use Rattle.std.specs.Prelude.{◌≡◌, ◌+◌, refl, length, true, false, not};
+    ghost use Rattle.fst_device.specs.MemoryCalls.{works, after_read, after_write};
 
     ghost held = { λ slot. slot.bytes };
 
@@ -110,6 +110,8 @@ impl BlockSlot for MemorySlot {
     ghost index = { λ slot. slot.index };
 
     ghost size = { λ slot. length slot.bytes };
+
+    ghost read_gives = { λ old worked new. (worked ≡ not old.read_fails) × (new ≡ after_read old) };
 
     ghost write_gives = { λ old from worked new. (worked ≡ works old.next_write) × (new ≡ after_write old from) };
 
@@ -132,7 +134,7 @@ impl BlockSlot for MemorySlot {
         ensures no_fault { OnOk result (self.new.faults ≡ self.old.faults) }
         ensures fault { OnErr result (self.new.faults ≡ self.old.faults + 1) }
         ensures kind { IsOkUnless result SlotFault.Read }
-        ensures armed { IsErr result ↔ IsTrue self.old.read_fails }
+        ensures armed { is_ok result ≡ not self.old.read_fails }
         ensures slot { self.new ≡ after_read self.old }
     {
         if self.read_fails {

@@ -17,7 +17,8 @@ pub enum SlotFault {
 /// The place of one block on a device. Its index and its size never change.
 ///
 /// A slot of another crate names what it `held`, how many `faults` it met, its `index` and its `size`, and shows that
-/// what it holds has that size. `write_gives` may say more of a write, such as which one fails.
+/// what it holds has that size. `read_gives` and `write_gives` may say more of a read and of a write, such as which one
+/// fails; so a caller's contract can also tell one call from two, and from none.
 pub trait BlockSlot: Drop {
     /// The bytes that the device holds.
     ghost held: { Self → List ℕ };
@@ -30,6 +31,9 @@ pub trait BlockSlot: Drop {
 
     /// How many bytes the block has.
     ghost size: { Self → ℕ };
+
+    /// What one read of the old slot may give, and what it costs: whether it worked, and the new slot.
+    ghost read_gives: { Self → Bool → Self → Type 0 } = { λ _ _ _. ⊤ };
 
     /// What one write of these bytes to the old slot may give: whether it worked, and the new slot.
     ghost write_gives: { Self → List ℕ → Bool → Self → Type 0 } = { λ _ _ _ _. ⊤ };
@@ -51,7 +55,8 @@ pub trait BlockSlot: Drop {
         ensures filled { OnOk result (into.new ≡ held self.old) }
         ensures no_fault { OnOk result (faults self.new ≡ faults self.old) }
         ensures fault { OnErr result (faults self.new ≡ faults self.old + 1) }
-        ensures kind { IsOkUnless result SlotFault.Read };
+        ensures kind { IsOkUnless result SlotFault.Read }
+        ensures gives { read_gives self.old (is_ok result) self.new };
 
     /// Writes the whole block. After an Err, which is `Write`, the slot holds the old bytes or the new ones.
     fn write(&mut self, from: &[u8]) -> Result<(), SlotFault>
