@@ -9,11 +9,11 @@ use Rattle.fst_types.specs.declared.shape.Shape.{Shape}
 use Rattle.fst_types.specs.State.{State, committed}
 use Rattle.fst_types.specs.Tests.{is_among, is_at}
 use Rattle.fst_types.specs.Crash.{crash}
-use Rattle.fst_types.specs.Looks.{place_of}
+use Rattle.fst_types.specs.Looks.{place_among, place_of}
 use Rattle.fst_types.specs.Fold.{Write, fold}
 use Rattle.fst_types.specs.Events.{Event, Reply}
 use Rattle.fst_types.specs.Step.{Step, accepted, refused, Row, change, empty, gate, depend, seal, issue, land, stall, lose, retry, evict, forget, choose, pick, show, ask_place, ask_flight, ask_stalled, ask_stat, group}
-use Rattle.fst_types.specs.Run.{ChangeMade, Call, Run, start, more, changes_in, made_after, is_live_number, is_number_in_memory, on_disk_of, on_disk_or_in_flight_of}
+use Rattle.fst_types.specs.Run.{ChangeMade, Call, Run, start, more, changes_in, made_after, on_disk_of, on_disk_or_in_flight_of}
 use Rattle.fst_types.proofs.Finite.{In, Contains-from_In}
 use Rattle.fst_types.proofs.Opened.{opening_is_committed}
 use Rattle.fst_types.proofs.LandingOrder.{crash_is_fold, places_tell}
@@ -63,24 +63,24 @@ left_finished place.Memory = refl
 left_finished place.Flight = refl
 left_finished place.Disk = refl
 
-left_unfinished : (at : Place) → is_left_at false (Some at) ≡ not (not (is_at at place.Disk))
+left_unfinished : (at : Place) → is_left_at false (Some at) ≡ is_at at place.Disk
 left_unfinished place.Memory = refl
 left_unfinished place.Flight = refl
 left_unfinished place.Disk = refl
 
--- the place of a change tells where it is
+-- the place of a change is told
 abbrev Told : State → ChangeMade → Type 0
-Told s c = (at : Place) × (place_of s.heads s.numbers c.number ≡ Some at) × (is_live_number s.heads c.number ≡ not (is_at at place.Disk)) × (is_number_in_memory s.heads c.number ≡ is_at at place.Memory)
+Told s c = place_of s.heads s.numbers c.number ≡ Some (place_among s.heads c.number)
 
 left_writes : (s : State) (b : ℕ) (made : List ChangeMade) (finished : Bool) → ((c : ChangeMade) → In made c → Told s c)
     → map (λ (c : ChangeMade). c.write) (filter (λ c. c.block == b && is_left_at finished (place_of s.heads s.numbers c.number)) made)
     ≡ (if finished then on_disk_or_in_flight_of s b made else on_disk_of s b made)
 left_writes s b made true told =
-    ap (map (λ (c : ChangeMade). c.write)) (filter_agree (λ c. c.block == b && is_left_at true (place_of s.heads s.numbers c.number)) (λ c. c.block == b && not (is_number_in_memory s.heads c.number)) made
-    (λ c i. let t = told c i in ap (λ x. c.block == b && x) (ap (is_left_at true) t.1 ∙ left_finished t.0 ∙ ap not (sym t.3))))
+    ap (map (λ (c : ChangeMade). c.write)) (filter_agree (λ c. c.block == b && is_left_at true (place_of s.heads s.numbers c.number)) (λ c. c.block == b && not (is_at (place_among s.heads c.number) place.Memory)) made
+    (λ c i. ap (λ x. c.block == b && x) (ap (is_left_at true) (told c i) ∙ left_finished (place_among s.heads c.number))))
 left_writes s b made false told =
-    ap (map (λ (c : ChangeMade). c.write)) (filter_agree (λ c. c.block == b && is_left_at false (place_of s.heads s.numbers c.number)) (λ c. c.block == b && not (is_live_number s.heads c.number)) made
-    (λ c i. let t = told c i in ap (λ x. c.block == b && x) (ap (is_left_at false) t.1 ∙ left_unfinished t.0 ∙ ap not (sym t.2))))
+    ap (map (λ (c : ChangeMade). c.write)) (filter_agree (λ c. c.block == b && is_left_at false (place_of s.heads s.numbers c.number)) (λ c. c.block == b && is_at (place_among s.heads c.number) place.Disk) made
+    (λ c i. ap (λ x. c.block == b && x) (ap (is_left_at false) (told c i) ∙ left_unfinished (place_among s.heads c.number))))
 
 told_over : (shape : Shape) (calls : List Call) (s : State) (jobs : List JobKept) → Run (opened shape).cache calls s
     → (finish : List ℕ) (b : ℕ) → b < shape.blocks → left_of (record { cache = s; jobs = jobs; made = changes_in calls }) finish b ≡ crash s (is_among finish) b

@@ -14,7 +14,7 @@ use Rattle.fst_types.specs.Dependencies.{IsOnDisk}
 use Rattle.fst_types.specs.Overlaps.{Overlaps}
 use Rattle.fst_types.specs.Facts.{IsLawful}
 use Rattle.fst_types.specs.Crash.{crash}
-use Rattle.fst_types.specs.Run.{ChangeMade, ShareByte, is_live_number, is_number_in_memory, on_disk_of, on_disk_or_in_flight_of}
+use Rattle.fst_types.specs.Run.{ChangeMade, ShareByte}
 use Rattle.fst_types.proofs.Finite.{In, In-from_Contains, Contains-from_In, In-append_left, In-append_right}
 use Rattle.fst_types.proofs.Crash.{same_number}
 use Rattle.fst_types.proofs.Landing.{change_at, at_change}
@@ -23,8 +23,22 @@ use Rattle.fst_types.proofs.Fits.{all_fit, fold_length}
 use Rattle.fst_types.proofs.Folds.{Fits_in, Apart, AllApart, AllFit, Sorts, fold_parts}
 use Rattle.fst_types.proofs.Ascends.{Ascends, ascends_from, ascends_filter, ascends_append, in_append, filter_same, filter_none, filter_within, same_items}
 use Rattle.fst_types.proofs.Carries.{IsMadeAs, Goes, Carries}
-use Rattle.fst_types.proofs.Numbers.{clash, both, in_flight, memory_disk, memory_flight, flight_disk, one_block, live_cases, memory_cases, head_cases, equal_test, true_not}
+use Rattle.fst_types.proofs.Numbers.{is_live_number, is_number_in_memory, clash, both, in_flight, memory_disk, memory_flight, flight_disk, one_block, live_cases, memory_cases, head_cases, equal_test, true_not}
 use Rattle.fst_types.proofs.LandsInOrder.{overlaps_land_in_order}
+
+-- a change of b that is on disk, or in flight or on disk
+abbrev pub is_down : State → ℕ → ChangeMade → Bool
+is_down s b c = c.block == b && not (is_live_number s.heads c.number)
+
+abbrev pub is_out : State → ℕ → ChangeMade → Bool
+is_out s b c = c.block == b && not (is_number_in_memory s.heads c.number)
+
+-- what they wrote
+abbrev pub down_of : State → ℕ → List ChangeMade → List Write
+down_of s b made = map (λ c. c.write) (filter (is_down s b) made)
+
+abbrev pub out_of : State → ℕ → List ChangeMade → List Write
+out_of s b made = map (λ c. c.write) (filter (is_out s b) made)
 
 -- what holds along a run from `first`
 pub record Along (first s : State) (made : List ChangeMade) : Type 0 where
@@ -35,14 +49,7 @@ pub record Along (first s : State) (made : List ChangeMade) : Type 0 where
   pub known : (p : Patch) (b : ℕ) → Contains s.heads p → IsOn p b → (c : ChangeMade) × In made c × (c.number ≡ p.number)
   pub fits : (c : ChangeMade) → In made c → Fits_in (length (committed first c.block)) c.write
   pub order : (c d : ChangeMade) → In made c → In made d → c.number < d.number → ShareByte c d → IsOnDisk s.heads d.number → IsOnDisk s.heads c.number
-  pub folded : (b : ℕ) → committed s b ≡ fold (committed first b) (on_disk_of s b made)
-
--- a change of b that is on disk, or in flight or on disk
-abbrev is_down : State → ℕ → ChangeMade → Bool
-is_down s b c = c.block == b && not (is_live_number s.heads c.number)
-
-abbrev is_out : State → ℕ → ChangeMade → Bool
-is_out s b c = c.block == b && not (is_number_in_memory s.heads c.number)
+  pub folded : (b : ℕ) → committed s b ≡ fold (committed first b) (down_of s b made)
 
 apart_all : {X : Type 0} (v : Write) (of : X → Write) (xs : List X) → ((x : X) → In xs x → Apart v (of x)) → AllApart v (map of xs)
 apart_all v of [] f = tt
@@ -175,15 +182,15 @@ module _ (first s : State) (made : List ChangeMade) (A : Along first s made) whe
             lives p c h flight e = elim (live_cases s.heads c.number) [ inl r ↦ r.4 | inr d ↦ absurd (flight_disk p.place flight (d.0 p h (sym e))) ]
 
     -- what is on disk or in flight, in order, is what is on disk and what is in flight over it
-    out_in_parts : fold (committed first b) (on_disk_or_in_flight_of s b made) ≡ fold (fold (committed first b) (on_disk_of s b made)) (map (write_of s) (changes_at s place.Flight b))
+    out_in_parts : fold (committed first b) (out_of s b made) ≡ fold (fold (committed first b) (down_of s b made)) (map (write_of s) (changes_at s place.Flight b))
     out_in_parts =
         fold_parts (λ c. c.write) is_late (committed first b) (filter (is_out s b) made)
         (part_fits b (is_out s b) (λ c e. eqb-true c.block b (both (c.block == b) (not (is_number_in_memory s.heads c.number)) e).0)) sorted
         ∙ (ap (λ cs. fold (fold (committed first b) (map (λ c. c.write) cs)) (map (λ c. c.write) (filter is_late (filter (is_out s b) made))))
         (filter_within (λ c. not (is_late c)) (is_out s b) (is_down s b) made (λ c i. out_and_down (c.block == b) (is_number_in_memory s.heads c.number) (is_late c) (memory_lives c.number)))
-        ∙ ap (fold (fold (committed first b) (on_disk_of s b made))) (ap (map (λ c. c.write)) (filter_within is_late (is_out s b) is_flown made (λ c i. refl)) ∙ flown_writes))
+        ∙ ap (fold (fold (committed first b) (down_of s b made))) (ap (map (λ c. c.write)) (filter_within is_late (is_out s b) is_flown made (λ c i. refl)) ∙ flown_writes))
 
-    pub image_folded : (f : Flight) → flight_of s b ≡ Some f → f.image ≡ fold (committed first b) (on_disk_or_in_flight_of s b made)
+    pub image_folded : (f : Flight) → flight_of s b ≡ Some f → f.image ≡ fold (committed first b) (out_of s b made)
     image_folded f e = A.lawful.images b f e ∙ (ap (λ base. fold base (map (write_of s) (changes_at s place.Flight b))) (A.folded b) ∙ sym out_in_parts)
 
 -- one step on
@@ -261,7 +268,7 @@ module _ (Late : Patch → Type 0) (first old new : State) (made added : List Ch
       elim (live_cases new.heads c.number) [ inl r ↦ r.4 | inr d ↦ absurd (memory_disk a.patch.place a.memory (d.0 a.patch a.head a.made.number)) ]
 
   -- so what is on disk of all changes is what is of those made before
-  down_before : (b : ℕ) → on_disk_of new b (made ++ added) ≡ map (λ c. c.write) (filter (is_down new b) made)
+  down_before : (b : ℕ) → down_of new b (made ++ added) ≡ map (λ c. c.write) (filter (is_down new b) made)
   down_before b =
       ap (map (λ c. c.write)) (filter-append (is_down new b) made added ∙ (ap (λ cs. filter (is_down new b) made ++ cs) (filter_none (is_down new b) added (λ c i. live_off (c.block == b) (is_live_number new.heads c.number) (added_live c i))) ∙ append-nil (filter (is_down new b) made)))
     where
@@ -286,14 +293,14 @@ module _ (Late : Patch → Type 0) (first old new : State) (made added : List Ch
       ]
 
   -- on a block of which nothing landed, the same is on disk
-  pub down_same : (b : ℕ) → ((c : ChangeMade) → c.block ≡ b → (o : Patch) → IsMadeAs old c o → Late o → ⊥) → on_disk_of new b (made ++ added) ≡ on_disk_of old b made
+  pub down_same : (b : ℕ) → ((c : ChangeMade) → c.block ≡ b → (o : Patch) → IsMadeAs old c o → Late o → ⊥) → down_of new b (made ++ added) ≡ down_of old b made
   down_same b not_late =
       down_before b
       ∙ ap (map (λ c. c.write)) (filter_same (is_down new b) (is_down old b) made
       (λ c i. on_block (c.block == b) (is_live_number new.heads c.number) (is_live_number old.heads c.number) (λ e. live_same c i (not_late c (eqb-true c.block b e)))))
 
   -- on a block of which all that was in flight landed, what was on disk or in flight is on disk
-  pub down_landed : (b : ℕ) → ((o : Patch) → IsOn o b → o.place ≡ place.Flight → Late o) → ((o : Patch) → Late o → o.place ≡ place.Flight) → on_disk_of new b (made ++ added) ≡ on_disk_or_in_flight_of old b made
+  pub down_landed : (b : ℕ) → ((o : Patch) → IsOn o b → o.place ≡ place.Flight → Late o) → ((o : Patch) → Late o → o.place ≡ place.Flight) → down_of new b (made ++ added) ≡ out_of old b made
   down_landed b lands flew =
       down_before b
       ∙ ap (map (λ c. c.write)) (filter_same (is_down new b) (is_out old b) made
@@ -320,7 +327,7 @@ module _ (Late : Patch → Type 0) (first old new : State) (made added : List Ch
           ]
 
   -- the equation on, from one for each block
-  pub along : ((b : ℕ) → committed new b ≡ fold (committed first b) (on_disk_of new b (made ++ added))) → Along first new (made ++ added)
+  pub along : ((b : ℕ) → committed new b ≡ fold (committed first b) (down_of new b (made ++ added))) → Along first new (made ++ added)
   along folded = record {
     lawful = lawful;
     ascends = ascends_append (λ c. c.number) made added A.ascends (few_ascend added C.few) (λ c d i j. let k = (A.given c i).1 in let l = (C.each d j).after in omega (arith, k, l));
@@ -367,7 +374,7 @@ module _ (Late : Patch → Type 0) (first old new : State) (made added : List Ch
           omega (arith, inside.2, whole, sized, bytes, at, l)
 
 -- where nothing of b is in flight, what is on disk or in flight is on disk
-out_at_home : (first s : State) (made : List ChangeMade) → Along first s made → (b : ℕ) → flight_of s b ≡ None → on_disk_or_in_flight_of s b made ≡ on_disk_of s b made
+out_at_home : (first s : State) (made : List ChangeMade) → Along first s made → (b : ℕ) → flight_of s b ≡ None → out_of s b made ≡ down_of s b made
 out_at_home first s made A b home =
     ap (map (λ c. c.write)) (filter_same (is_out s b) (is_down s b) made
     (λ c i. on_block (c.block == b) (is_number_in_memory s.heads c.number) (is_live_number s.heads c.number) (λ e. lives_in_memory c i (eqb-true c.block b e))))
@@ -395,7 +402,7 @@ flight_cases None = inl refl
 flight_cases (Some f) = inr (f, refl)
 
 pub crash_folded : (first s : State) (made : List ChangeMade) → Along first s made → (finished : ℕ → Bool) (b : ℕ)
-    → crash s finished b ≡ fold (committed first b) (cond (finished b) (on_disk_or_in_flight_of s b made) (on_disk_of s b made))
+    → crash s finished b ≡ fold (committed first b) (cond (finished b) (out_of s b made) (down_of s b made))
 crash_folded first s made A finished b =
     elim (cases_Bool (finished b)) [
       | inr not_in ↦ rw not_in (A.folded b)

@@ -33,6 +33,6 @@ headline_lem s L = record {
   writes_stand_alone = L.heads.flights_stand_alone.needs;
   writes_are_free = L.heads.flights_stand_alone.free;
   crash_is_closed = λ finished. closed_lem s finished L;
-  crash_is_fold = λ finished. crash_lem s finished L;
+  blocks_hold_base = λ finished. crash_lem s finished L;
   completes_once = λ later calls run. settled_once s later calls L.tickets run;
 }

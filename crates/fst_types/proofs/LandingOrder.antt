@@ -1,15 +1,14 @@
 -- Landing order does not matter: over a run from an opening, blocks are the opening bytes with the run's changes over them.
-use Rattle.std.proofs.Common.{◌≡◌, ℕ, ◌<◌, Bool, cond, not, List, [], ◌∷◌, ◌++◌, Contains, Option, Some, None, refl, sym, ap, subst, ◌∙◌, inl, inr}
-use Rattle.std.specs.Prelude.{AllPairs}
+use Rattle.std.proofs.Common.{◌≡◌, ℕ, ◌<◌, Bool, true, false, cond, not, map, List, [], ◌∷◌, ◌++◌, Contains, Option, Some, None, refl, sym, ap, subst, ◌∙◌, inl, inr}
+use Rattle.std.specs.Prelude.{◌==◌, ◌&&◌, AllPairs}
 use Rattle.std.proofs.lemmas.Bool.{cases_eq}
 use Rattle.std.specs.List.{cons_option}
 use Rattle.std.proofs.lemmas.List.{append-nil}
 use Rattle.std.proofs.lemmas.List.Elements.{filter_map-append}
-use Rattle.fst_types.specs.declared.place.Place.{Place}
 use Rattle.fst_types.specs.declared.place.Place.TheVariants as place
 use Rattle.fst_types.specs.declared.fault.Fault.{Fault}
 use Rattle.fst_types.specs.Tests.{is_at}
-use Rattle.fst_types.specs.Looks.{place_of}
+use Rattle.fst_types.specs.Looks.{place_among, place_of}
 use Rattle.fst_types.specs.Fold.{fold}
 use Rattle.fst_types.specs.State.{State, Flight, committed, flight_of}
 use Rattle.fst_types.specs.Dependencies.{IsOnDisk}
@@ -21,13 +20,13 @@ use Rattle.fst_types.specs.Opening.{opening}
 use Rattle.fst_types.specs.Crash.{crash}
 use Rattle.fst_types.proofs.Bounds.{step_keeps_lawful}
 use Rattle.fst_types.proofs.Opened.{opening_is_lawful}
-use Rattle.fst_types.specs.Run.{ChangeMade, ShareByte, Call, Run, start, more, change_made, changes_in, with_change, made_after, is_live_number, is_number_in_memory, on_disk_of, on_disk_or_in_flight_of}
+use Rattle.fst_types.specs.Run.{ChangeMade, ShareByte, Call, Run, start, more, change_made, changes_in, with_change, made_after, on_disk_of, on_disk_or_in_flight_of}
 use Rattle.fst_types.proofs.Finite.{In, In-from_Contains}
-use Rattle.fst_types.proofs.Ascends.{from_ascends}
+use Rattle.fst_types.proofs.Ascends.{from_ascends, filter_same}
 use Rattle.fst_types.proofs.Carries.{Never, IsFlying}
 use Rattle.fst_types.proofs.Effects.{Effect, quiet, landing, added_by, effect_row}
-use Rattle.fst_types.proofs.Numbers.{place_told, one_block}
-use Rattle.fst_types.proofs.Along.{Along, along, crash_folded, image_folded, down_same, down_landed}
+use Rattle.fst_types.proofs.Numbers.{given_told, among_told, one_block}
+use Rattle.fst_types.proofs.Along.{is_down, down_of, is_out, out_of, Along, along, crash_folded, image_folded, down_same, down_landed}
 
 along_effect : (first old new : State) (made added : List ChangeMade) → Effect added old new → IsLawful new → Along first old made → Along first new (made ++ added)
 along_effect first old new made added (quiet same C) lawful A =
@@ -37,7 +36,7 @@ along_effect first old new made added (landing b f flight image others C) lawful
     along (IsFlying b) first old new made added C lawful A
     (λ k. elim (cases_eq k b) [
       | inl here ↦
-          subst (λ j. committed new j ≡ fold (committed first j) (on_disk_of new j (made ++ added))) (sym here)
+          subst (λ j. committed new j ≡ fold (committed first j) (down_of new j (made ++ added))) (sym here)
           (image
           ∙ (image_folded first old made A b f flight
           ∙ ap (fold (committed first b)) (sym (down_landed (IsFlying b) first old new made added C lawful A b (λ o on flying. (on, flying)) (λ o late. late.1)))))
@@ -124,20 +123,38 @@ runs_stay_lawful = over_each (λ first made s. IsLawful s) (λ first s made A. A
 pub made_in_order : MadeInOrder
 made_in_order = over_each (λ first made s. AllPairs (λ c d. c.number < d.number) made) (λ first s made A. from_ascends (λ c. c.number) made A.ascends)
 
+not_not : (x : Bool) → not (not x) ≡ x
+not_not true = refl
+not_not false = refl
+
+-- the place of a change says whether it is on disk, and whether on disk or in flight
+down_told : (first s : State) (made : List ChangeMade) → Along first s made → (b : ℕ) → down_of s b made ≡ on_disk_of s b made
+down_told first s made A b =
+    ap (map (λ (c : ChangeMade). c.write)) (filter_same (is_down s b) (λ c. c.block == b && is_at (place_among s.heads c.number) place.Disk) made
+    (λ c i. ap (λ x. c.block == b && x) (ap not (among_told s.heads c.number A.lawful.heads.one_place_each.rising).0 ∙ not_not (is_at (place_among s.heads c.number) place.Disk))))
+
+out_told : (first s : State) (made : List ChangeMade) → Along first s made → (b : ℕ) → out_of s b made ≡ on_disk_or_in_flight_of s b made
+out_told first s made A b =
+    ap (map (λ (c : ChangeMade). c.write)) (filter_same (is_out s b) (λ c. c.block == b && not (is_at (place_among s.heads c.number) place.Memory)) made
+    (λ c i. ap (λ x. c.block == b && not x) (among_told s.heads c.number A.lawful.heads.one_place_each.rising).1))
+
 pub committed_is_fold : CommittedIsFold
-committed_is_fold = over_each (λ first made s. (b : ℕ) → committed s b ≡ fold (committed first b) (on_disk_of s b made)) (λ first s made A. A.folded)
+committed_is_fold = over_each (λ first made s. (b : ℕ) → committed s b ≡ fold (committed first b) (on_disk_of s b made)) (λ first s made A b. A.folded b ∙ ap (fold (committed first b)) (down_told first s made A b))
 
 pub image_is_fold : ImageIsFold
-image_is_fold = over_each (λ first made s. (b : ℕ) (f : Flight) → flight_of s b ≡ Some f → f.image ≡ fold (committed first b) (on_disk_or_in_flight_of s b made)) image_folded
+image_is_fold =
+    over_each (λ first made s. (b : ℕ) (f : Flight) → flight_of s b ≡ Some f → f.image ≡ fold (committed first b) (on_disk_or_in_flight_of s b made))
+    (λ first s made A b f flight. image_folded first s made A b f flight ∙ ap (fold (committed first b)) (out_told first s made A b))
 
 pub crash_is_fold : CrashIsFold
 crash_is_fold =
-    over_each (λ first made s. (finished : ℕ → Bool) (b : ℕ) → crash s finished b ≡ fold (committed first b) (cond (finished b) (on_disk_or_in_flight_of s b made) (on_disk_of s b made))) crash_folded
+    over_each (λ first made s. (finished : ℕ → Bool) (b : ℕ) → crash s finished b ≡ fold (committed first b) (cond (finished b) (on_disk_or_in_flight_of s b made) (on_disk_of s b made)))
+    (λ first s made A finished b. crash_folded first s made A finished b ∙ ap (fold (committed first b)) (ap (λ ws. cond (finished b) ws (down_of s b made)) (out_told first s made A b) ∙ ap (λ ws. cond (finished b) (on_disk_or_in_flight_of s b made) ws) (down_told first s made A b)))
 
 pub places_tell : PlacesTell
 places_tell =
-    over_each (λ first made s. (c : ChangeMade) → Contains made c → (at : Place) × (place_of s.heads s.numbers c.number ≡ Some at) × (is_live_number s.heads c.number ≡ not (is_at at place.Disk)) × (is_number_in_memory s.heads c.number ≡ is_at at place.Memory))
-    (λ first s made A c i. let g = A.given c (In-from_Contains made c i) in place_told s.heads s.numbers c.number A.lawful.heads.one_place_each.rising g.0 g.1)
+    over_each (λ first made s. (c : ChangeMade) → Contains made c → place_of s.heads s.numbers c.number ≡ Some (place_among s.heads c.number))
+    (λ first s made A c i. let g = A.given c (In-from_Contains made c i) in given_told s.heads s.numbers c.number g.0 g.1)
 
 pub run_lands_in_order : RunLandsInOrder
 run_lands_in_order =

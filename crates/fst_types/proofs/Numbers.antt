@@ -1,6 +1,6 @@
 -- Whether a number has a head, and where that stands.
 use Rattle.std.proofs.Common.{◌≡◌, ◌⊎◌, ℕ, ◌≤◌, Bool, true, false, not, List, [], ◌∷◌, Contains, Some, None, refl, sym, ap, subst, ◌∙◌, inl, inr, arith}
-use Rattle.fst_types.specs.Looks.{place_of}
+use Rattle.fst_types.specs.Looks.{place_among, place_of}
 use Rattle.fst_types.proofs.Crash.{same_number}
 use Rattle.std.specs.Prelude.{find, nat_le, ◌==◌, ◌&&◌}
 use Rattle.std.specs.List.{list_any}
@@ -10,7 +10,6 @@ use Rattle.fst_types.specs.declared.place.Place.TheVariants as place
 use Rattle.fst_types.specs.Patches.{Patch, IsRising, IsOn, IsLive}
 use Rattle.fst_types.specs.Tests.{is_at, is_live}
 use Rattle.fst_types.specs.Dependencies.{IsOnDisk}
-use Rattle.fst_types.specs.Run.{is_live_number, is_number_in_memory}
 use Rattle.fst_types.proofs.Finite.{In, In-from_Contains, Contains-from_In}
 
 pub clash : (x : Bool) → x ≡ true → x ≡ false → ⊥
@@ -19,6 +18,14 @@ clash x a b = cc
 pub both : (x y : Bool) → (x && y) ≡ true → (x ≡ true) × (y ≡ true)
 both true y e = (refl, e)
 both false y e = absurd (clash false e refl)
+
+-- number n has a live head
+abbrev pub is_live_number : List Patch → ℕ → Bool
+is_live_number heads n = list_any (λ p. p.number == n && is_live p) heads
+
+-- number n has a head in memory
+abbrev pub is_number_in_memory : List Patch → ℕ → Bool
+is_number_in_memory heads n = list_any (λ p. p.number == n && is_at p.place place.Memory) heads
 
 -- some head with this number passes the test, or none does
 number_cases : (u : Patch → Bool) (heads : List Patch) (n : ℕ) → ((p : Patch) × Contains heads p × (p.number ≡ n) × (u p ≡ true) × (list_any (λ q. q.number == n && u q) heads ≡ true))
@@ -124,18 +131,21 @@ find_cases heads n = elim (search heads) [ inl r ↦ inl (r.0, Contains-from_In 
           ]
         ]
 
-pub place_told : (heads : List Patch) (numbers n : ℕ) → IsRising heads → 1 ≤ n → n ≤ numbers
-    → (at : Place) × (place_of heads numbers n ≡ Some at) × (is_live_number heads n ≡ not (is_at at place.Disk)) × (is_number_in_memory heads n ≡ is_at at place.Memory)
-place_told heads numbers n rising low high =
-    let given = within low high in
-    elim (find_cases heads n) [
-      | inl r ↦ (r.0.place, rw (given, r.3) refl, live_of r.0 r.1 r.2, memory_of r.0 r.1 r.2)
-      | inr m ↦ (place.Disk, rw (given, m.1) refl, no_live m.0, no_memory m.0)
-    ]
+-- a number that was given is told its place
+pub given_told : (heads : List Patch) (numbers n : ℕ) → 1 ≤ n → n ≤ numbers → place_of heads numbers n ≡ Some (place_among heads n)
+given_told heads numbers n low high = rw (within low high) refl
   where
     within : 1 ≤ n → n ≤ numbers → (nat_le 1 n && nat_le n numbers) ≡ true
     within low high = grind (arith, low, high)
 
+-- its place says whether it has a live head, and whether in memory
+pub among_told : (heads : List Patch) (n : ℕ) → IsRising heads → (is_live_number heads n ≡ not (is_at (place_among heads n) place.Disk)) × (is_number_in_memory heads n ≡ is_at (place_among heads n) place.Memory)
+among_told heads n rising =
+    elim (find_cases heads n) [
+      | inl r ↦ rw r.3 (live_of r.0 r.1 r.2, memory_of r.0 r.1 r.2)
+      | inr m ↦ rw m.1 (no_live m.0, no_memory m.0)
+    ]
+  where
     lives : (x : Place) → (x ≡ place.Disk → ⊥) → not (is_at x place.Disk) ≡ true
     lives place.Memory live = refl
     lives place.Flight live = refl

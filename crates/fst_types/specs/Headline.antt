@@ -46,8 +46,8 @@ abbrev pub CrashIsClosed : State → Type 0
 CrashIsClosed s = (finished : ℕ → Bool) → IsClosed s.heads (IsLeft s finished)
 
 -- and each block holds its base with exactly the patches that the crash leaves of it
-abbrev pub CrashIsFold : State → Type 0
-CrashIsFold s = (finished : ℕ → Bool)
+abbrev pub BlocksHoldBase : State → Type 0
+BlocksHoldBase s = (finished : ℕ → Bool)
     → ((b : ℕ) → finished b ≡ true → (f : Flight) × (flight_of s b ≡ Some f))
     → (b : ℕ) → crash s finished b ≡ fold_of s (committed s b) (if finished b then changes_at s place.Flight b else [])
 
@@ -64,7 +64,7 @@ pub record Headline (s : State) : Type 0 where
   pub writes_stand_alone : WritesStandAlone s.heads
   pub writes_are_free : WritesAreFree s.heads
   pub crash_is_closed : CrashIsClosed s
-  pub crash_is_fold : CrashIsFold s
+  pub blocks_hold_base : BlocksHoldBase s
   pub completes_once : CompletesOnce s
 
 -- a lawful state has it
