@@ -72,7 +72,7 @@ byte_cases : (c d : ChangeMade) → c.block ≡ d.block → ShareByte c d ⊎ Ap
 byte_cases c d same =
     elim (cases_lt c.write.at (d.write.at + length d.write.bytes)) [
       | inl before ↦ elim (cases_lt d.write.at (c.write.at + length c.write.bytes)) [
-        | inl after ↦ inl (record { same_block = same; starts_before = before; ends_after = after })
+        | inl after ↦ inl (record { block = d.block; first = ap Some same; second = refl; starts_before = before; ends_after = after })
         | inr past ↦ inr (inl past)
       ]
       | inr past ↦ inr (inr past)
@@ -247,7 +247,7 @@ module _ (Late : Patch → Type 0) (first old new : State) (made added : List Ch
       record {
         block = c.block;
         first = mp.block;
-        second = mq.block ∙ ap Some (sym share.same_block);
+        second = mq.block ∙ (share.second ∙ sym share.first);
         starts_before = let k = share.starts_before in let a = mp.at in let b = mq.at in omega (arith, k, a, b, wq, lq);
         ends_after = let k = share.ends_after in let a = mp.at in let b = mq.at in omega (arith, k, a, b, wp, lp);
       }
