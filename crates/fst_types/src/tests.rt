@@ -1,6 +1,8 @@
 //! Each plain function once, on its happy path.
 
-use crate::{Fault, Items, Noted, Shape, What, Write, fold_over, write_over};
+use crate::{Fault, Items, Noted, PatchNo, Shape, What, Write, fold_over, write_over};
+use std::alloc::AllocError;
+use std::test::Fail;
 
 #[test]
 fn shape_within_its_limits(rt: HostRuntime) {
@@ -18,6 +20,41 @@ fn numbers_of_faults(rt: HostRuntime) {
     assert_eq!(rt; Fault::Memory.number(), 17);
     assert_eq!(rt; Fault::GroupBegun.number(), 18);
     assert_eq!(rt; Fault::Lost.number(), 19);
+}
+
+// A text says what is held or full, and what to do.
+#[test]
+fn texts_of_faults(rt: HostRuntime) -> Result<(), Fail> {
+    let held = format!(in rt.alloc(); "{}", Fault::HardHeld(PatchNo(3)))?;
+    assert_eq!(rt;
+        held.as_str(),
+        "hard patch 3 of the block has to wait; write what it comes after and settle that first"
+    );
+    let full = format!(in rt.alloc(); "{}", Fault::Full(What::Heads))?;
+    assert_eq!(rt;
+        full.as_str(),
+        "full: 65,535 patches are known; forget those on disk"
+    );
+    let cycle = format!(in rt.alloc(); "{}", Fault::Cycle)?;
+    assert_eq!(rt;
+        cycle.as_str(),
+        "a named patch is the gate or comes after it"
+    );
+    Ok(())
+}
+
+fn refused<E>(error: E) -> Result<(), Fault>
+where
+    Fault: From<E>,
+{
+    Err(error)?;
+    Ok(())
+}
+
+#[test]
+fn faults_of_what_is_refused(rt: HostRuntime) {
+    assert_eq!(rt; refused(AllocError), Err(Fault::Memory));
+    assert_eq!(rt; refused((7u32, Fault::Stranger)), Err(Fault::Stranger));
 }
 
 #[test]
