@@ -18,7 +18,7 @@ use Rattle.fst_types.proofs.Heads.{heads_row}
 use Rattle.fst_types.proofs.Cascades.{no_follower_on}
 use Rattle.fst_graph.specs.Known.{rest_place}
 use Rattle.fst_graph.specs.Keeps.{Keeps}
-use Rattle.fst_graph.proofs.Making.{around, ordered_added, keeps_added}
+use Rattle.fst_graph.proofs.Making.{around, keeps_added}
 
 pub map_push : {X Y : Type 0} (f : X → Y) (xs : List X) (y : X) → map f (xs ++ y ∷ []) ≡ map f xs ++ f y ∷ []
 map_push f [] y = refl
@@ -44,7 +44,7 @@ disk_rest : (deps : List ℕ) → ((q : ℕ) → Contains deps q → ⊥) → re
 disk_rest [] none = refl
 disk_rest (x ∷ xs) none = absurd (none x (0, omega arith, refl))
 
-module _ (heads : List Patch) (numbers blocks : ℕ) (order : List ℕ) (marks : List Bool) (K : Keeps heads numbers blocks order marks)
+module _ (heads : List Patch) (numbers blocks : ℕ) (marks : List Bool) (K : Keeps heads numbers blocks marks)
     (after deps : List ℕ) (depends : Lists (λ n. IsLiveNumber heads n × Contains after n) deps) where
   abbrev p : Patch
   p = new_empty numbers deps
@@ -99,8 +99,8 @@ module _ (heads : List Patch) (numbers blocks : ℕ) (order : List ℕ) (marks :
   none_on : (b : ℕ) → IsOn p b → ⊥
   none_on b on = cc
 
-  pub keeps_empty : length heads < max_heads → Keeps new (numbers + 1) blocks (order ++ (numbers + 1) ∷ []) (marks ++ false ∷ [])
+  pub keeps_empty : length heads < max_heads → Keeps new (numbers + 1) blocks (marks ++ false ∷ [])
   keeps_empty few =
-      keeps_added heads numbers blocks order marks K p refl named new empty_lawful (ordered_added heads numbers blocks order marks K p refl named) (length_push heads p)
+      keeps_added heads numbers blocks marks K new empty_lawful (length_push heads p)
       (λ x b h on. elim (newest x h) [ inl o ↦ K.inside x b o on | inr e ↦ absurd (none_on b (subst (λ y. IsOn y b) (sym e) on)) ])
       few

@@ -13,7 +13,7 @@ use Rattle.fst_types.proofs.Finite.{In, In-from_Contains, Contains-from_In}
 use Rattle.fst_types.proofs.Dropping.{filter_in, heads_dropped}
 use Rattle.fst_graph.specs.declared.head.Head.{Head}
 use Rattle.fst_graph.specs.Tests.{is_live_place}
-use Rattle.fst_graph.specs.Ordered.{IsClosedBelow, is_live_in}
+use Rattle.fst_graph.specs.Nodes.{is_live_in}
 use Rattle.fst_graph.specs.Keeps.{Keeps}
 use Rattle.fst_graph.specs.Nodes.{nodes_of}
 
@@ -69,34 +69,6 @@ pub same_test : (heads : List Patch) (n : ℕ) (b : Bool) → (b ≡ true → Is
 same_test heads n true f g = sym (in_live heads n (f refl))
 same_test heads n false f g = elim (cases_Bool (is_live_in heads n)) [ inl t ↦ absurd (false≢true (g (live_in heads n t))) | inr e ↦ sym e ]
 
-pub take_filter : (t : ℕ → Bool) (xs : List ℕ) (i : ℕ) → (j : ℕ) × (take i (filter t xs) ≡ filter t (take j xs))
-take_filter t [] i = (0, nil i)
-  where
-    nil : (i : ℕ) → take {A = ℕ} i [] ≡ []
-    nil zero = refl
-    nil (suc i) = refl
-take_filter t (x ∷ xs) zero = (0, nothing (filter t (x ∷ xs)))
-  where
-    nothing : (ys : List ℕ) → take 0 ys ≡ []
-    nothing [] = refl
-    nothing (y ∷ ys) = refl
-take_filter t (x ∷ xs) (suc i) = elim (cases_Bool (t x)) [
-  | inl e ↦ let r = take_filter t xs i in (suc r.0, rw (e, r.1) refl)
-  | inr e ↦ let r = take_filter t xs (suc i) in (suc r.0, rw (e, r.1) refl)
-]
-
-kept_in : (t : ℕ → Bool) (xs : List ℕ) (x : ℕ) → In xs x → t x ≡ true → In (filter t xs) x
-kept_in t [] x h e = absurd h
-kept_in t (y ∷ ys) x (inl same) e = rw (subst (λ z. t z ≡ true) (sym same) e) (inl same)
-kept_in t (y ∷ ys) x (inr h) e = elim (cases_Bool (t y)) [ inl f ↦ rw f (inr (kept_in t ys x h e)) | inr f ↦ rw f (kept_in t ys x h e) ]
-
-was_in : (t : ℕ → Bool) (xs : List ℕ) (x : ℕ) → In (filter t xs) x → In xs x
-was_in t [] x h = absurd h
-was_in t (y ∷ ys) x h = elim (cases_Bool (t y)) [
-  | inl f ↦ elim (subst (λ zs. In zs x) (ap (λ k. cond k (y ∷ filter t ys) (filter t ys)) f) h) [ inl e ↦ inl e | inr r ↦ inr (was_in t ys x r) ]
-  | inr f ↦ inr (was_in t ys x (subst (λ zs. In zs x) (ap (λ k. cond k (y ∷ filter t ys) (filter t ys)) f) h))
-]
-
 split : (heads : List Patch) → length (filter is_live heads) + length (filter (λ p. is_at p.place place.Disk) heads) ≡ length heads
 split [] = refl
 split (p ∷ ps) = elim (cases_Bool (is_at p.place place.Disk)) [
@@ -107,36 +79,18 @@ split (p ∷ ps) = elim (cases_Bool (is_at p.place place.Disk)) [
 pub counted : (heads : List Patch) → length (filter is_live heads) + count_by (λ p. is_at p.place place.Disk) heads ≡ length heads
 counted heads = let s = split heads in let c = length-filter (λ (p : Patch). is_at p.place place.Disk) heads in omega (arith, s, c)
 
-module _ (heads : List Patch) (numbers blocks : ℕ) (order : List ℕ) (marks : List Bool) (K : Keeps heads numbers blocks order marks) where
+module _ (heads : List Patch) (numbers blocks : ℕ) (marks : List Bool) (K : Keeps heads numbers blocks marks) where
   abbrev new : List Patch
   new = filter is_live heads
 
   was : (p : Patch) → Contains new p → Contains heads p × (is_live p ≡ true)
   was p c = let r = filter_in is_live heads p (In-from_Contains new p c) in (Contains-from_In heads p r.0, r.1)
 
-  live_number : (p : Patch) → Contains new p → is_live_in heads p.number ≡ true
-  live_number p c = let w = was p c in in_live heads p.number (record { patch = p; head = w.0; numbered = refl; live = not_disk p.place w.1 })
-
-  closed : (i : ℕ) → IsClosedBelow new (take i (filter (is_live_in heads) order))
-  closed i n q c e h =
-      let k = take_filter (is_live_in heads) order i in
-      let there = In-from_Contains (filter (is_live_in heads) (take k.0 order)) n (subst (λ ns. Contains ns n) k.1 c) in
-      let before = Contains-from_In (take k.0 order) n (was_in (is_live_in heads) (take k.0 order) n there) in
-      let direct : DirectlyOn heads n q.number = record { patch = e.patch; head = (was e.patch e.head).0; numbered = e.numbered; named = e.named } in
-      let below = K.ordered.closed k.0 n q before direct (was q h).0 in
-      subst (λ ns. Contains ns q.number) (sym k.1)
-      (Contains-from_In (filter (is_live_in heads) (take k.0 order)) q.number (kept_in (is_live_in heads) (take k.0 order) q.number (In-from_Contains (take k.0 order) q.number below) (live_number q h)))
-
-  pub keeps_dropped : (marks' : List Bool) → length marks' ≡ length new → Keeps new numbers blocks (filter (is_live_in heads) order) marks'
+  pub keeps_dropped : (marks' : List Bool) → length marks' ≡ length new → Keeps new numbers blocks marks'
   keeps_dropped marks' long = record {
     lawful = heads_dropped heads numbers K.lawful;
     few = let c = counted heads in omega (arith, c, K.few);
     inside = λ p b c on. K.inside p b (was p c).0 on;
-    ordered = record {
-      all = λ p c. Contains-from_In _ p.number (kept_in (is_live_in heads) order p.number (In-from_Contains order p.number (K.ordered.all p (was p c).0)) (live_number p c));
-      closed = closed;
-    };
-    given = λ n c. K.given n (Contains-from_In order n (was_in (is_live_in heads) order n (In-from_Contains _ n c)));
     marked = long;
   }
 

@@ -3,7 +3,7 @@ use Rattle.std.proofs.Common.{◌≡◌, ◌⊎◌, ℕ, List, [], ◌∷◌, Co
 use Rattle.fst_types.specs.declared.place.Place.{Place}
 use Rattle.fst_types.specs.declared.place.Place.TheVariants as place
 use Rattle.fst_types.specs.Closure.{IsAcyclic, one, join}
-use Rattle.fst_types.specs.Dependencies.{DirectlyOn, DependsOn}
+use Rattle.fst_types.specs.Dependencies.{DirectlyOn, DependsOn, IsLiveNumber}
 use Rattle.fst_types.specs.Facts.{IsOnDiskWithAll}
 use Rattle.fst_types.specs.Gates.{IsOpenNumber}
 use Rattle.fst_types.specs.Patches.{Kind, Change, Empty, OpenGate, SealedGate, IsRising, IsOpenGate}
@@ -16,6 +16,7 @@ use Rattle.fst_graph.specs.Heads.{IsRising as HeadsRise, patches_of}
 use Rattle.fst_graph.specs.Marks.{IsAbove}
 use Rattle.fst_graph.specs.Nodes.{Node, nodes_of, patches_in, pending_in, AreSettled}
 use Rattle.fst_graph.specs.Pendings.{join as together, joined, of_kind}
+use Rattle.fst_graph.specs.Searching.{AreHeldByGates}
 use Rattle.fst_graph.proofs.AtNumber.{patches_in_nodes}
 use Rattle.fst_graph.proofs.Joining.{join_held, held_join}
 use Rattle.fst_graph.proofs.Listing.{rising_patches}
@@ -113,6 +114,19 @@ module _ (nodes : List Node) (blocks : ℕ) (rising : IsRising (patches_in nodes
   depends_held : (p q : ℕ) → DependsOn (patches_in nodes) p q → told q ≡ pending.Held → told p ≡ pending.Held
   depends_held p q (one d) e = direct_held p q d e
   depends_held p q (join {q = r} c d) e = depends_held p r c (depends_held r q d e)
+
+  -- what waits for an open gate is not on disk
+  pub held_live : (n : ℕ) → told n ≡ pending.Held → IsLiveNumber (patches_in nodes) n
+  held_live n e = elim (found nodes n) [
+    | inl f ↦ record { patch = f.node.patch; head = patch_in nodes f.node f.head; numbered = f.numbered; live = λ d. let none = (S.placed f.node f.head).1 d in let told_it = f.told in cc }
+    | inr none ↦ absurd (cc)
+  ]
+
+  pub held_by_gates : AreHeldByGates (patches_in nodes) told
+  held_by_gates n = (
+    held_above n,
+    λ a. elim a [ inl here ↦ gate_held n here | inr below ↦ depends_held n below.0 below.1 (gate_held below.0 below.2) ],
+  )
 
   -- a row waits for an open gate exactly where one is under it
   pub held_under : (row : List ℕ) → joined told row ≡ pending.Held → HasUnder (patches_in nodes) row (IsOpenNumber (patches_in nodes))

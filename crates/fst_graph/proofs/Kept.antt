@@ -12,37 +12,25 @@ use Rattle.fst_types.proofs.Alike.{Alike, back_alike, direct_back, length_alike,
 use Rattle.fst_types.proofs.Landing.{alike_landed, heads_landed}
 use Rattle.fst_types.proofs.Sealing.{alike_sealed, heads_sealed}
 use Rattle.fst_types.proofs.Issuing.{alike_launched, heads_launched}
-use Rattle.fst_graph.specs.Ordered.{IsOrdered}
 use Rattle.fst_graph.specs.Keeps.{Keeps}
 
 module _ (old new : List Patch) (A : Alike old new) where
-  pub ordered_alike : (order : List ℕ) → IsOrdered old order → IsOrdered new order
-  ordered_alike order O = record {
-    all = λ p c. let o = back_alike old new A p c in subst (Contains order) (sym o.2.number) (O.all o.0 o.1);
-    closed = λ i n q c e h.
-        let o = back_alike old new A q h in
-        let direct = direct_back old new (back_alike old new A) n q.number e in
-        subst (Contains _) (sym o.2.number) (O.closed i n o.0 c (subst (DirectlyOn old n) o.2.number direct) o.1);
-  }
-
-  pub keeps_alike : (numbers blocks : ℕ) (order : List ℕ) (marks marks' : List Bool) → Keeps old numbers blocks order marks → HeadsAreLawful new numbers → length marks' ≡ length marks → Keeps new numbers blocks order marks'
-  keeps_alike numbers blocks order marks marks' K lawful long = record {
+  pub keeps_alike : (numbers blocks : ℕ) (marks marks' : List Bool) → Keeps old numbers blocks marks → HeadsAreLawful new numbers → length marks' ≡ length marks → Keeps new numbers blocks marks'
+  keeps_alike numbers blocks marks marks' K lawful long = record {
     lawful = lawful;
     few = let e = length_alike old new A in omega (arith, e, K.few);
     inside = λ p b c on. let o = back_alike old new A p c in K.inside o.0 b o.1 (on_back o.0 p o.2 b on);
-    ordered = ordered_alike order K.ordered;
-    given = K.given;
     marked = long ∙ (K.marked ∙ sym (length_alike old new A));
   }
 
-pub keeps_sealed : (old new : List Patch) (numbers blocks g : ℕ) (order : List ℕ) (marks marks' : List Bool) → Keeps old numbers blocks order marks → IsOpenNumber old g → IsCascadeOf (map (sealed g) old) new → length marks' ≡ length marks → Keeps new numbers blocks order marks'
-keeps_sealed old new numbers blocks g order marks marks' K gate cascade long =
-    keeps_alike old new (alike_sealed old new numbers g K.lawful gate cascade) numbers blocks order marks marks' K (heads_sealed old new numbers g K.lawful gate cascade) long
+pub keeps_sealed : (old new : List Patch) (numbers blocks g : ℕ) (marks marks' : List Bool) → Keeps old numbers blocks marks → IsOpenNumber old g → IsCascadeOf (map (sealed g) old) new → length marks' ≡ length marks → Keeps new numbers blocks marks'
+keeps_sealed old new numbers blocks g marks marks' K gate cascade long =
+    keeps_alike old new (alike_sealed old new numbers g K.lawful gate cascade) numbers blocks marks marks' K (heads_sealed old new numbers g K.lawful gate cascade) long
 
-pub keeps_landed : (old new : List Patch) (numbers blocks b : ℕ) (order : List ℕ) (marks marks' : List Bool) → Keeps old numbers blocks order marks → IsCascadeOf (map (landed b) old) new → length marks' ≡ length marks → Keeps new numbers blocks order marks'
-keeps_landed old new numbers blocks b order marks marks' K cascade long =
-    keeps_alike old new (alike_landed old new numbers b K.lawful cascade) numbers blocks order marks marks' K (heads_landed old new numbers b K.lawful cascade) long
+pub keeps_landed : (old new : List Patch) (numbers blocks b : ℕ) (marks marks' : List Bool) → Keeps old numbers blocks marks → IsCascadeOf (map (landed b) old) new → length marks' ≡ length marks → Keeps new numbers blocks marks'
+keeps_landed old new numbers blocks b marks marks' K cascade long =
+    keeps_alike old new (alike_landed old new numbers b K.lawful cascade) numbers blocks marks marks' K (heads_landed old new numbers b K.lawful cascade) long
 
-pub keeps_launched : (old : List Patch) (numbers blocks b : ℕ) (chosen : List ℕ) (order : List ℕ) (marks : List Bool) → Keeps old numbers blocks order marks → IsWritable old b → IsWritableSet old b chosen → Keeps (map (launched chosen) old) numbers blocks order marks
-keeps_launched old numbers blocks b chosen order marks K writable choice =
-    keeps_alike old (map (launched chosen) old) (alike_launched old numbers b chosen K.lawful writable choice) numbers blocks order marks marks K (heads_launched old numbers b chosen K.lawful writable choice) refl
+pub keeps_launched : (old : List Patch) (numbers blocks b : ℕ) (chosen : List ℕ) (marks : List Bool) → Keeps old numbers blocks marks → IsWritable old b → IsWritableSet old b chosen → Keeps (map (launched chosen) old) numbers blocks marks
+keeps_launched old numbers blocks b chosen marks K writable choice =
+    keeps_alike old (map (launched chosen) old) (alike_launched old numbers b chosen K.lawful writable choice) numbers blocks marks marks K (heads_launched old numbers b chosen K.lawful writable choice) refl

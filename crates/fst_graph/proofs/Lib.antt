@@ -1,5 +1,4 @@
 pub mod Slots
-pub mod Walk
 pub mod Rows
 pub mod Making
 pub mod PlaceOf
@@ -14,7 +13,6 @@ pub mod Forgetting
 pub mod Picked
 pub mod Missing
 pub mod Marked
-pub mod GateAbove
 pub mod Gained
 pub mod Leading
 pub mod Graded
@@ -36,6 +34,7 @@ pub mod Added
 pub mod PendingIn
 pub mod Low
 pub mod Below
+pub mod Searched
 pub mod Alone
 pub mod Numbered
 pub mod Marking

@@ -16,7 +16,7 @@ use Rattle.fst_graph.specs.declared.head.Head.{Head}
 use Rattle.fst_graph.specs.Spreading.{lands}
 use Rattle.fst_graph.specs.Heads.{IsRising, patch_of, patches_of}
 use Rattle.fst_graph.specs.declared.lists.Listed.{Listed}
-use Rattle.fst_graph.specs.Ordered.{is_live_in}
+use Rattle.fst_graph.specs.Nodes.{is_live_in}
 use Rattle.fst_graph.specs.Lists.{Entry, entry, entries_of, is_live_on, entries_on, flying_on, AreListed}
 use Rattle.fst_graph.specs.Marks.{HasSlot, HasNone}
 use Rattle.fst_graph.specs.Nodes.{Node, node_of, nodes_of, patches_in, at_number}

@@ -15,7 +15,7 @@ use Rattle.fst_graph.specs.declared.pending.Pending.TheVariants as pending
 use Rattle.fst_graph.specs.declared.standing.Standing.{Standing}
 use Rattle.fst_graph.specs.Keeps.{IsInside}
 use Rattle.fst_graph.specs.Nodes.{Node, patches_in, pending_in, AreSettled, AreCounted}
-use Rattle.fst_graph.specs.Ordered.{is_live_in}
+use Rattle.fst_graph.specs.Nodes.{is_live_in}
 use Rattle.fst_graph.specs.Pendings.{is_pending}
 use Rattle.fst_graph.specs.Standings.{AllStand, AreMarked, may_be_written, standing_of, is_ready_on, is_held_on, is_flying_on, ready_on}
 use Rattle.fst_graph.specs.Tests.{is_hard_kind}

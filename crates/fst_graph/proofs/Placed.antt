@@ -13,7 +13,7 @@ use Rattle.fst_types.proofs.Issuing.{among_in}
 use Rattle.fst_graph.specs.Spreading.{launches}
 use Rattle.fst_graph.specs.Lists.{entry, entries_on, is_live_on}
 use Rattle.fst_graph.specs.Nodes.{Node, patches_in, times, AreLinked, AreGiven, AreDistinct}
-use Rattle.fst_graph.specs.Ordered.{is_live_in}
+use Rattle.fst_graph.specs.Nodes.{is_live_in}
 use Rattle.fst_graph.proofs.Forgetting.{live_place_of}
 
 -- y has the number, the direct dependencies and the dependants of x

@@ -61,13 +61,11 @@ module _ (numbers : ℕ) (p : Stored) (b : ℕ) (span : Span) (after : List Patc
       (ap (λ q. q.block) same, same_span p.span span at len, same_names p.names.items after (ap (λ q. q.after) same))
 
 -- other marks of the same length keep as much
-pub keeps_marks : (heads : List Patch) (numbers blocks : ℕ) (order : List ℕ) (marks new : List Bool) → Keeps heads numbers blocks order marks → length new ≡ length marks → Keeps heads numbers blocks order new
-keeps_marks heads numbers blocks order marks new K long = record {
+pub keeps_marks : (heads : List Patch) (numbers blocks : ℕ) (marks new : List Bool) → Keeps heads numbers blocks marks → length new ≡ length marks → Keeps heads numbers blocks new
+keeps_marks heads numbers blocks marks new K long = record {
   lawful = K.lawful;
   few = K.few;
   inside = K.inside;
-  ordered = K.ordered;
-  given = K.given;
   marked = long ∙ K.marked;
 }
 

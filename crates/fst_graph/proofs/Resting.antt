@@ -40,8 +40,8 @@ shelves nodes blocks lists slice A e = ap length e ∙ (sym (length-map lists (�
 abbrev pub none_yet : Standing
 none_yet = record { ready = 0; held = 0; flying = 0 }
 
-module _ (heads : List Head) (numbers blocks : ℕ) (order : List ℕ) (marks : List _) (lists : List (List Entry)) (standings : List Standing) (queue : List ℕ) (cap b : ℕ)
-    (K : Keeps (patches_of heads) numbers blocks order marks) (T : Tallies (nodes_of heads) numbers blocks lists standings queue cap) (behind : ℕ → Bool)
+module _ (heads : List Head) (numbers blocks : ℕ) (marks : List _) (lists : List (List Entry)) (standings : List Standing) (queue : List ℕ) (cap b : ℕ)
+    (K : Keeps (patches_of heads) numbers blocks marks) (T : Tallies (nodes_of heads) numbers blocks lists standings queue cap) (behind : ℕ → Bool)
     (exact : (n : ℕ) → (behind n ≡ true) ↔ IsBehind (nodes_of heads) b n) where
   abbrev nodes : List Node
   nodes = nodes_of heads

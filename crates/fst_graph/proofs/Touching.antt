@@ -26,7 +26,7 @@ use Rattle.fst_graph.specs.Tests.{is_live_place}
 use Rattle.fst_graph.specs.Grading.{MayBeHard}
 use Rattle.fst_graph.specs.Keeps.{Keeps}
 use Rattle.fst_graph.proofs.Graded.{graded_rule}
-use Rattle.fst_graph.proofs.Making.{ordered_added, keeps_added}
+use Rattle.fst_graph.proofs.Making.{keeps_added}
 
 live_from : (p : Place) → is_live_place p ≡ true → p ≡ place.Disk → ⊥
 live_from place.Memory e d = cc
@@ -183,7 +183,7 @@ module _ (heads : List Patch) (rest : List Entry) (b at len : ℕ) (old row : Li
     ];
   }
 
-module _ (heads : List Patch) (numbers blocks : ℕ) (order : List ℕ) (marks : List Bool) (K : Keeps heads numbers blocks order marks)
+module _ (heads : List Patch) (numbers blocks : ℕ) (marks : List Bool) (K : Keeps heads numbers blocks marks)
     (b at len : ℕ) (names : List ℕ) (grade : Grade) (deps : List ℕ) (depends : Lists (IsDependency heads names b at len) deps) where
   abbrev new_change : Patch
   new_change = fresh (numbers + 1) (Change b at len grade) deps
@@ -212,8 +212,8 @@ module _ (heads : List Patch) (numbers blocks : ℕ) (order : List ℕ) (marks :
   pub graded_change : FollowsRule grade (MayBeHard heads b deps) → FollowsRule grade (IsGradedHard heads (heads ++ new_change ∷ []) b (numbers + 1))
   graded_change follows = graded_rule heads numbers within b at len grade deps named follows
 
-  pub keeps_change : b < blocks → length heads < max_heads → (IsHard new_change → IsGradedHard heads (heads ++ new_change ∷ []) b (numbers + 1)) → Keeps (heads ++ new_change ∷ []) (numbers + 1) blocks (order ++ (numbers + 1) ∷ []) (marks ++ false ∷ [])
+  pub keeps_change : b < blocks → length heads < max_heads → (IsHard new_change → IsGradedHard heads (heads ++ new_change ∷ []) b (numbers + 1)) → Keeps (heads ++ new_change ∷ []) (numbers + 1) blocks (marks ++ false ∷ [])
   keeps_change inside few graded =
-      keeps_added heads numbers blocks order marks K new_change refl named (heads ++ new_change ∷ []) (change_lawful graded) (ordered_added heads numbers blocks order marks K new_change refl named) (length_push heads new_change)
+      keeps_added heads numbers blocks marks K (heads ++ new_change ∷ []) (change_lawful graded) (length_push heads new_change)
       (λ x c h on. elim (Contains-push_cases heads new_change x h) [ inl o ↦ K.inside x c o on | inr e ↦ subst (λ m. m < blocks) (some_injective b c (subst (λ y. IsOn y c) (sym e) on)) inside ])
       few

@@ -3,7 +3,6 @@ use Rattle.std.specs.Prelude.{◌≡◌, ◌≤◌, ◌<◌, ℕ, Bool, List, []
 use Rattle.fst_types.specs.Limits.{max_heads}
 use Rattle.fst_types.specs.Patches.{Patch, IsOn}
 use Rattle.fst_types.specs.Facts.{HeadsAreLawful}
-use Rattle.fst_graph.specs.Ordered.{IsOrdered}
 use Rattle.fst_graph.specs.Nodes.{Node, patches_in, AreLinked, AreGiven, AreDistinct, AreSettled, AreCounted}
 use Rattle.fst_graph.specs.declared.standing.Standing.{Standing}
 use Rattle.fst_graph.specs.Lists.{Entry, AreListed}
@@ -13,12 +12,10 @@ use Rattle.fst_graph.specs.Standings.{AllStand, AreMarked}
 abbrev pub IsInside : List Patch → ℕ → Type 0
 IsInside heads blocks = (p : Patch) (b : ℕ) → Contains heads p → IsOn p b → b < blocks
 
-pub record Keeps (heads : List Patch) (numbers blocks : ℕ) (order : List ℕ) (marks : List Bool) : Type 0 where
+pub record Keeps (heads : List Patch) (numbers blocks : ℕ) (marks : List Bool) : Type 0 where
   pub lawful : HeadsAreLawful heads numbers
   pub few : length heads ≤ max_heads
   pub inside : IsInside heads blocks
-  pub ordered : IsOrdered heads order
-  pub given : (n : ℕ) → Contains order n → n ≤ numbers
   pub marked : length marks ≡ length heads
 
 -- what stands beside the patches tells of them, and nothing waits in the queue, which has a place for each

@@ -1,10 +1,10 @@
 pub mod Heads
 pub mod Tests
 pub mod Marks
-pub mod Ordered
 pub mod Known
 pub mod Keeps
 pub mod Rows
+pub mod Searching
 pub mod Picking
 pub mod Reaching
 pub mod Grading

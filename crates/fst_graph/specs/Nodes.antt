@@ -1,15 +1,15 @@
 -- Patches with what is kept beside them: how their direct dependencies add up, what is pending of them, and which patches directly depend on them.
-use Rattle.std.specs.Prelude.{◌≡◌, ◌≢◌, ◌≤◌, ◌<◌, ◌==◌, ◌++◌, ◌∷◌, [], ◌↔◌, ℕ, List, map, count_by, Contains, AllPairs, if◌then◌else◌}
+use Rattle.std.specs.Prelude.{◌≡◌, ◌≢◌, ◌≤◌, ◌<◌, ◌==◌, ◌&&◌, ◌++◌, ◌∷◌, [], ◌↔◌, ℕ, Bool, List, map, count_by, Contains, AllPairs, if◌then◌else◌}
+use Rattle.std.specs.List.{list_any}
 use Rattle.smallvec.specs.SmallVec.{HasRoomFor}
 use Rattle.fst_types.specs.declared.place.Place.TheVariants as place
 use Rattle.fst_types.specs.Patches.{Patch}
-use Rattle.fst_types.specs.Tests.{is_among}
+use Rattle.fst_types.specs.Tests.{is_among, is_live}
 use Rattle.fst_graph.specs.declared.head.Head.{Head}
 use Rattle.fst_graph.specs.declared.pending.Pending.{Pending}
 use Rattle.fst_graph.specs.declared.pending.Pending.TheVariants as pending
 use Rattle.fst_graph.specs.declared.pending.Sums.{Sums}
 use Rattle.fst_graph.specs.Heads.{patch_of}
-use Rattle.fst_graph.specs.Ordered.{is_live_in}
 use Rattle.fst_graph.specs.Pendings.{joined, of_kind, sums_of, together}
 
 pub record Node : Type 0 where
@@ -43,6 +43,10 @@ AreGiven nodes numbers = (x : Node) (n : ℕ) → Contains nodes x → Contains 
 -- no number stands twice among the direct dependencies or the dependants of a patch
 abbrev pub AreDistinct : List Node → Type 0
 AreDistinct nodes = (x : Node) → Contains nodes x → AllPairs (λ m n. m ≢ n) x.patch.dependencies × AllPairs (λ m n. m ≢ n) x.dependants
+
+-- n is the number of a live patch, as a test
+abbrev pub is_live_in : List Patch → ℕ → Bool
+is_live_in patches n = list_any (λ p. is_live p && (p.number == n)) patches
 
 -- each count is that of the direct dependencies that are not on disk
 abbrev pub AreCounted : List Node → Type 0

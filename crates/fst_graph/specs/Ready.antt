@@ -26,9 +26,8 @@ pub record IsReady (heads : List Patch) (numbers blocks : ℕ) (p : Stored) : Ty
   pub depends : Lists (IsDependency heads (numbers_of p.names.items) p.block p.span.at p.span.len) p.dependencies.items
   pub graded : IsGraded heads (heads ++ change_of numbers p ∷ []) p.block (numbers + 1) p.grade
 
--- each of the four rows has a free place for one more head
-pub record HasPlaces (heads heads_capacity order order_capacity marks marks_capacity queue_capacity : ℕ) : Type 0 where
+-- each of the three rows has a free place for one more head
+pub record HasPlaces (heads heads_capacity marks marks_capacity queue_capacity : ℕ) : Type 0 where
   pub heads_free : heads < heads_capacity
-  pub order_free : order < order_capacity
   pub marks_free : marks < marks_capacity
   pub queue_free : heads < queue_capacity

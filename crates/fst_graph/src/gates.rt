@@ -1,20 +1,21 @@
 //! Gates, as calls name them.
 
-ghost use Rattle.std.specs.Prelude.{◌≡◌, ◌↔◌, ℕ, length, IsTrue, Contains, IfOk, IfErr, IfSome, IfNone};
-ghost use Rattle.fst_types.specs.Closure.{IsAcyclic};
-ghost use Rattle.fst_types.specs.Dependencies.{DirectlyOn};
+ghost use Rattle.std.specs.Prelude.{◌≡◌, ◌≤◌, ℕ, [], length, vec_capacity, IfOk, IfErr, IfSome, IfNone};
+ghost use Rattle.fst_types.specs.Dependencies.{IsLiveNumber};
 ghost use Rattle.fst_types.specs.Order.{seal_order, depend_order};
 ghost use Rattle.fst_types.specs.Refusals.{IsFirst, NoneHolds};
 ghost use Rattle.fst_types.specs.Gates.{IsOpenNumber};
 ghost use Rattle.fst_graph.specs.Heads.{IsRising, patches_of};
 ghost use Rattle.fst_graph.specs.Known.{numbers_of};
-ghost use Rattle.fst_graph.specs.Marks.{HasSlot, Has, Shows, ReachesGate};
-ghost use Rattle.fst_graph.specs.Ordered.{IsOrdered};
+ghost use Rattle.fst_graph.specs.declared.pending.Pending.TheVariants as pending;
+ghost use Rattle.fst_graph.specs.Marks.{HasSlot};
+ghost use Rattle.fst_graph.specs.Nodes.{AreLinked, nodes_of, pending_in};
+ghost use Rattle.fst_graph.specs.Searching.{AreHeldByGates};
 
+use crate::cycle::closes_cycle;
 use crate::head::{Head, Kind};
-use crate::marks::{ask, is_marked, slot_of};
+use crate::marks::slot_of;
 use crate::row::{is_given, names_unknown};
-use crate::test::Test;
 use fst_types::{Fault, MAX_NAMES, PatchNo};
 
 /// The slot of an open gate, or why it is none: the number was not given, it is no gate's, or the gate is sealed.
@@ -39,61 +40,39 @@ pub fn gate_slot(heads: &[Head], numbers: u32, gate: u32) -> Result<usize, Fault
     }
 }
 
-// Whether one of the names is that of a marked head.
-fn any_marked(heads: &[Head], marks: &[bool], names: &[PatchNo]) -> bool
-    requires rising { IsRising heads.now }
-    requires long { length marks.now ≡ length heads.now }
-    ensures { IsTrue result ↔ ((n : ℕ) × Contains (numbers_of names.now) n × Has heads.now marks.now n) }
-{
-    for name in names {
-        if is_marked(heads, marks, name.0) {
-            return true;
-        }
-    }
-    false
-}
-
-// Marks the gate and all that depend on it.
-fn mark_above(heads: &[Head], order: &[u32], marks: &mut [bool], gate: u32)
-    requires rising { IsRising heads.now }
-    requires long { length marks.old ≡ length heads.now }
-    requires acyclic { IsAcyclic (DirectlyOn (patches_of heads.now)) }
-    requires ordered { IsOrdered (patches_of heads.now) order.now }
-    requires is_open { IsOpenNumber (patches_of heads.now) gate }
-    ensures { Shows heads.now marks.new (ReachesGate (patches_of heads.now) gate) }
-{
-    ask(heads, order, marks, Test::Numbered(gate));
-}
-
-/// Why the gate cannot gain these names. Where it can, the gate and all that depend on it are marked.
+/// Why the gate cannot gain these names. What was marked before does not matter.
 pub fn depend_fault(
     heads: &[Head],
-    order: &[u32],
     marks: &mut [bool],
+    queue: &mut Vec<u32>,
     numbers: u32,
     gate: u32,
     on: &[PatchNo],
 ) -> Option<Fault>
     requires rising { IsRising heads.now }
     requires long { length marks.old ≡ length heads.now }
-    requires acyclic { IsAcyclic (DirectlyOn (patches_of heads.now)) }
-    requires ordered { IsOrdered (patches_of heads.now) order.now }
+    requires room { length heads.now ≤ vec_capacity queue.old }
+    requires idle { queue.old.items ≡ [] }
+    requires linked { AreLinked (nodes_of heads.now) }
+    requires live { (n : ℕ) → pending_in (nodes_of heads.now) n ≡ pending.Held → IsLiveNumber (patches_of heads.now) n }
+    requires held { AreHeldByGates (patches_of heads.now) (pending_in (nodes_of heads.now)) }
     ensures first { IfSome result (IsFirst (depend_order (patches_of heads.now) numbers gate (numbers_of on.now))) }
     ensures clear { IfNone result (NoneHolds (depend_order (patches_of heads.now) numbers gate (numbers_of on.now))) }
     ensures is_open { IfNone result (IsOpenNumber (patches_of heads.now) gate) }
-    ensures shown { IfNone result (Shows heads.now marks.new (ReachesGate (patches_of heads.now) gate)) }
+    ensures idle { queue.new.items ≡ [] }
+    ensures capacity { vec_capacity queue.new ≡ vec_capacity queue.old }
 {
-    if let Err(fault) = gate_slot(heads, numbers, gate) {
-        return Some(fault);
-    }
+    let slot = match gate_slot(heads, numbers, gate) {
+        Ok(slot) => slot,
+        Err(fault) => return Some(fault),
+    };
     if on.len() > MAX_NAMES {
         return Some(Fault::BadField);
     }
     if names_unknown(numbers, on) {
         return Some(Fault::NoPatch);
     }
-    mark_above(heads, order, marks, gate);
-    if any_marked(heads, marks, on) {
+    if closes_cycle(heads, marks, queue, slot, gate, on) {
         return Some(Fault::Cycle);
     }
     None

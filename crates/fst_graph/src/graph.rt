@@ -15,33 +15,30 @@ use crate::ascent::mark_flight;
 use crate::cascade::{cascade, seal_slot};
 use crate::choice::{first_held, ready_set};
 use crate::gates::{depend_fault, gate_slot};
-use crate::growth::{gain, marked_last, missing_names};
+use crate::growth::{gain, missing_names};
 use crate::head::{Head, Kind};
 use crate::links::{link, reserve_above};
 use crate::lists::{Listed, empty_lists, land_block};
-use crate::marks::{ask, slot_of};
+use crate::marks::slot_of;
 use crate::pending::{Pending, is_pending, no_sums, over_block};
-use crate::places::{block_of, keep_live, keep_live_numbers, launch_all, live_count};
+use crate::places::{block_of, keep_live, launch_all, live_count};
 use crate::prepared::{Prepared, prepare};
 use crate::refusals::{make_fault, room_fault};
 use crate::row::{is_given, live_named, row_sums};
 use crate::standing::{Standing, empty_standings, land_at, least_marked};
-use crate::test::Test;
 use fst_types::{BlockNo, Fault, Grade, PatchNo, Place, Shape, Span};
 use smallvec::SmallVec;
 use std::alloc::{AllocError, Global};
 use std::marker::Model;
 
-/// The heads, which are the patches not forgotten, in order of number. `order` names each after those that it depends
-/// on, and `marks` has a place for each. Where a change is prepared, each of the three has a free place for it.
-/// `reached` has a place for each block, for the walk that finds a grade. `lists` has for each block its changes that are
+/// The heads, which are the patches not forgotten, in order of number. `marks` has a place for each. Where a change is
+/// prepared, each of the two has a free place for it. `reached` has a place for each block, for the walk that finds a grade. `lists` has for each block its changes that are
 /// not on disk, and `standings` has the mark of each. `queue` has a place for each head, for those of which their
 /// dependants are to be told.
 #[derive(Drop)]
 pub struct Graph {
     alloc: Global,
     heads: Vec<Head>,
-    order: Vec<u32>,
     marks: Vec<bool>,
     reached: Vec<bool>,
     lists: Vec<Vec<Listed>>,
@@ -65,9 +62,9 @@ impl Model for Graph {
 
     ghost view = { λ g. record { heads = patches_of g.heads.items; numbers = g.numbers; blocks = g.blocks; prepared = option_map (prepared_of g.numbers) g.prepared } };
 
-    ghost invariant = { λ g. Keeps (patches_of g.heads.items) g.numbers g.blocks g.order.items g.marks.items
+    ghost invariant = { λ g. Keeps (patches_of g.heads.items) g.numbers g.blocks g.marks.items
         × IfSome g.prepared (IsReady (patches_of g.heads.items) g.numbers g.blocks)
-        × IfSome g.prepared (λ _. HasPlaces (vec_len g.heads) (vec_capacity g.heads) (vec_len g.order) (vec_capacity g.order) (vec_len g.marks) (vec_capacity g.marks) (vec_capacity g.queue))
+        × IfSome g.prepared (λ _. HasPlaces (vec_len g.heads) (vec_capacity g.heads) (vec_len g.marks) (vec_capacity g.marks) (vec_capacity g.queue))
         × (length g.reached.items ≡ g.blocks)
         × Tallies (nodes_of g.heads.items) g.numbers g.blocks (map (λ l. entries_of l.items) g.lists.items) g.standings.items g.queue.items (vec_capacity g.queue)
         × IfSome g.prepared (λ p. HasRoomAbove g.heads.items p.dependencies.items)
@@ -77,22 +74,18 @@ impl Model for Graph {
 // Room for one more head.
 fn reserve_one(
     heads: &mut Vec<Head>,
-    order: &mut Vec<u32>,
     marks: &mut Vec<bool>,
     queue: &mut Vec<u32>,
 ) -> Result<(), AllocError>
     ensures heads { heads.new.items ≡ heads.old.items }
-    ensures order { order.new.items ≡ order.old.items }
     ensures marks { marks.new.items ≡ marks.old.items }
     ensures room_heads { OnOk result (vec_len heads.new < vec_capacity heads.new) }
-    ensures room_order { OnOk result (vec_len order.new < vec_capacity order.new) }
     ensures room_marks { OnOk result (vec_len marks.new < vec_capacity marks.new) }
     ensures queue { queue.new.items ≡ queue.old.items }
     ensures room_queue { OnOk result (vec_len heads.new < vec_capacity queue.new) }
     ensures wide { vec_capacity queue.old ≤ vec_capacity queue.new }
 {
     heads.reserve(1)?;
-    order.reserve(1)?;
     marks.reserve(1)?;
     queue.reserve(heads.len() + 1)
 }
@@ -125,7 +118,6 @@ impl Graph {
         Ok(Graph {
             alloc,
             heads: Vec::new(alloc),
-            order: Vec::new(alloc),
             marks: Vec::new(alloc),
             reached,
             lists,
@@ -169,14 +161,7 @@ impl Graph {
         if let Some(fault) = room_fault(&self.heads, self.numbers) {
             return Err(fault);
         }
-        if reserve_one(
-            &mut self.heads,
-            &mut self.order,
-            &mut self.marks,
-            &mut self.queue,
-        )
-        .is_err()
-        {
+        if reserve_one(&mut self.heads, &mut self.marks, &mut self.queue).is_err() {
             return Err(Fault::Memory);
         }
         let number = self.numbers + 1;
@@ -189,7 +174,6 @@ impl Graph {
             pending: Pending::Held,
             dependants: SmallVec::new(self.alloc),
         });
-        self.order.push_reserved(number);
         self.marks.push_reserved(false);
         self.numbers = number;
         Ok(PatchNo(number))
@@ -211,14 +195,7 @@ impl Graph {
         let Ok(dependencies) = live_named(self.alloc, &self.heads, after) else {
             return Err(Fault::Memory);
         };
-        if reserve_one(
-            &mut self.heads,
-            &mut self.order,
-            &mut self.marks,
-            &mut self.queue,
-        )
-        .is_err()
-        {
+        if reserve_one(&mut self.heads, &mut self.marks, &mut self.queue).is_err() {
             return Err(Fault::Memory);
         }
         if reserve_above(&mut self.heads, dependencies.as_slice()).is_err() {
@@ -237,7 +214,6 @@ impl Graph {
             pending: sums.joined(),
             dependants: SmallVec::new(self.alloc),
         });
-        self.order.push_reserved(number);
         self.marks.push_reserved(false);
         self.numbers = number;
         Ok(PatchNo(number))
@@ -295,8 +271,8 @@ impl Graph {
         self.prepared = None;
         if let Some(fault) = depend_fault(
             &self.heads,
-            &self.order,
             &mut self.marks,
+            &mut self.queue,
             self.numbers,
             gate.0,
             on,
@@ -304,9 +280,6 @@ impl Graph {
             return Err(fault);
         }
         let Ok(names) = missing_names(self.alloc, &self.heads, gate.0, on) else {
-            return Err(Fault::Memory);
-        };
-        let Ok(order) = marked_last(self.alloc, &self.heads, &self.marks, &self.order) else {
             return Err(Fault::Memory);
         };
         let Ok(()) = reserve_above(&mut self.heads, names.as_slice()) else {
@@ -317,7 +290,6 @@ impl Graph {
             return Err(Fault::Memory);
         };
         link(&mut self.heads, names.as_slice(), gate.0);
-        self.order = order;
         Ok(())
     }
 
@@ -384,14 +356,7 @@ impl Graph {
         ) else {
             return Err(Fault::Memory);
         };
-        if reserve_one(
-            &mut self.heads,
-            &mut self.order,
-            &mut self.marks,
-            &mut self.queue,
-        )
-        .is_err()
-        {
+        if reserve_one(&mut self.heads, &mut self.marks, &mut self.queue).is_err() {
             return Err(Fault::Memory);
         }
         if reserve_above(&mut self.heads, prepared.dependencies.as_slice()).is_err() {
@@ -443,7 +408,6 @@ impl Graph {
         });
         self.lists[block as usize].push_reserved(Listed { number, span });
         self.standings[block as usize].enter(kind, is_pending(pending, Pending::Block(block)));
-        self.order.push_reserved(number);
         self.marks.push_reserved(false);
         self.numbers = number;
         (PatchNo(number), grade)
@@ -478,7 +442,6 @@ impl Graph {
     {
         self.prepared = None;
         let before = self.heads.len();
-        keep_live_numbers(&mut self.order, &self.heads);
         keep_live(&mut self.heads);
         self.marks.truncate(self.heads.len());
         (before - self.heads.len()) as u32

@@ -1,18 +1,16 @@
-//! What an open gate gains. None of it is the gate or depends on it, so that an order with the gate and all that depend
-//! on it last, which else stays as it was, still names each patch after those that it depends on.
+//! What an open gate gains.
 
-ghost use Rattle.std.specs.Prelude.{◌≡◌, ◌↔◌, ◌++◌, ◌≤◌, length, map, filter, not, IsTrue, IfOk, OnOk, OnErr, Contains};
+ghost use Rattle.std.specs.Prelude.{◌≡◌, ◌↔◌, ◌≤◌, length, map, IsTrue, IfOk, OnOk, OnErr, Contains};
 ghost use Rattle.fst_types.specs.Dependencies.{DirectlyOn, IsLiveNumber};
 ghost use Rattle.fst_types.specs.Lists.{Lists};
 ghost use Rattle.fst_graph.specs.Heads.{IsRising, patches_of};
 ghost use Rattle.fst_graph.specs.Known.{numbers_of};
-ghost use Rattle.fst_graph.specs.Marks.{mark_of};
 ghost use Rattle.fst_graph.specs.Nodes.{Node, nodes_of, at_number, gains_names, HasRoomAbove};
 ghost use Rattle.fst_graph.specs.Pendings.{Fits};
 ghost use Rattle.fst_graph.specs.Rows.{IsMissing};
 
 use crate::head::Head;
-use crate::marks::{is_marked, slot_of};
+use crate::marks::slot_of;
 use crate::pending::Sums;
 use crate::row::{Row, is_live_number, put};
 use fst_types::PatchNo;
@@ -55,30 +53,6 @@ pub fn missing_names(
         }
     }
     Ok(row)
-}
-
-/// The order with what is marked last.
-pub fn marked_last(
-    alloc: Global,
-    heads: &[Head],
-    marks: &[bool],
-    order: &[u32],
-) -> Result<Vec<u32>, AllocError>
-    requires rising { IsRising heads.now }
-    requires long { length marks.now ≡ length heads.now }
-    ensures { IfOk result (λ moved. moved.items ≡ filter (λ n. not (mark_of heads.now marks.now n)) order.now ++ filter (mark_of heads.now marks.now) order.now) }
-{
-    let mut moved = Vec::with_capacity(alloc, order.len())?;
-    let mut last = Vec::new(alloc);
-    for number in order {
-        if is_marked(heads, marks, *number) {
-            last.push(*number)?;
-        } else {
-            moved.push(*number)?;
-        }
-    }
-    moved.extend_from_slice(&last)?;
-    Ok(moved)
 }
 
 /// The gate has the names besides, which add up to the sums. Where there is no memory it does not.

@@ -4,6 +4,7 @@
 mod ascent;
 mod cascade;
 mod choice;
+mod cycle;
 mod descent;
 mod gates;
 mod grade;

@@ -6,7 +6,7 @@ ghost use Rattle.fst_graph.specs.Heads.{IsRising, patches_of};
 ghost use Rattle.fst_graph.specs.Keeps.{IsInside};
 ghost use Rattle.fst_graph.specs.Lists.{entries_of, entries_on, flying_on, AreListed};
 ghost use Rattle.fst_graph.specs.Nodes.{nodes_of};
-ghost use Rattle.fst_graph.specs.Ordered.{is_live_in};
+ghost use Rattle.fst_graph.specs.Nodes.{is_live_in};
 
 use crate::head::Head;
 use crate::marks::slot_of;

@@ -3,7 +3,6 @@
 ghost use Rattle.std.specs.Prelude.{◌≡◌, ◌∷◌, [], map, filter, count_by, Contains};
 ghost use Rattle.fst_types.specs.Patches.{Patch, block_of_kind};
 ghost use Rattle.fst_types.specs.Tests.{is_at, is_on, is_change_at, is_live};
-ghost use Rattle.fst_graph.specs.Ordered.{is_live_in};
 ghost use Rattle.fst_graph.specs.Known.{numbers_of};
 ghost use Rattle.fst_graph.specs.Heads.{IsRising, kind_of, patch_of, patches_of};
 ghost use Rattle.fst_graph.specs.Spreading.{launches};
@@ -11,7 +10,6 @@ ghost use Rattle.fst_graph.specs.Nodes.{node_of, nodes_of};
 
 use crate::head::{Head, Kind};
 use crate::marks::slot_of;
-use crate::row::is_live_number;
 use crate::test::is_live;
 use fst_types::{PatchNo, Place};
 
@@ -87,22 +85,6 @@ pub fn keep_live(heads: &mut Vec<Head>)
     ensures { nodes_of heads.new.items ≡ filter (λ x. is_live x.patch) (nodes_of heads.old.items) }
 {
     heads.retain(|head| is_live(head.place));
-}
-
-// Whether the number is that of a live patch.
-fn is_kept(heads: &[Head], number: u32) -> bool
-    requires { IsRising heads.now }
-    ensures { result ≡ is_live_in (patches_of heads.now) number }
-{
-    is_live_number(heads, number)
-}
-
-/// Drops the numbers that are not those of live patches.
-pub fn keep_live_numbers(order: &mut Vec<u32>, heads: &[Head])
-    requires { IsRising heads.now }
-    ensures { order.new.items ≡ filter (is_live_in (patches_of heads.now)) order.old.items }
-{
-    order.retain(|number| is_kept(heads, *number));
 }
 
 /// How many patches are not on disk.

@@ -179,6 +179,22 @@ fn refusals_of_depend(rt: HostRuntime) {
     graph.depend(&rt, FIRST, &[], Ok(()));
 }
 
+// A cycle through a sealed gate and an empty patch. What no longer waits for the gate closes none.
+#[test]
+fn cycle_through_a_sealed_gate(rt: HostRuntime) {
+    let mut graph = Checked::new(&rt, rt.alloc(), 0);
+    graph.gate(&rt, Ok(FIRST));
+    graph.gate(&rt, Ok(SECOND));
+    graph.depend(&rt, SECOND, &[FIRST], Ok(()));
+    graph.seal(&rt, SECOND, Ok(()));
+    graph.empty(&rt, &[SECOND], Ok(THIRD));
+    graph.byte(&rt, 0, 0, &[THIRD], Ok((FOURTH, SOFT)));
+    graph.depend(&rt, FIRST, &[FOURTH], Err(Fault::Cycle));
+    graph.depend(&rt, FIRST, &[SECOND], Err(Fault::Cycle));
+    graph.byte(&rt, 1, 0, &[], Ok((PatchNo(5), HARD)));
+    graph.depend(&rt, FIRST, &[PatchNo(5)], Ok(()));
+}
+
 // A name that is given again counts once.
 #[test]
 fn repeated_names(rt: HostRuntime) {

@@ -1,7 +1,7 @@
 use Rattle.std.proofs.Common.{rules, ◌∙◌, ap}
 use Rattle.fst_graph.specs.Heads.{patches_of}
 use Rattle.fst_graph.specs.Lists.{entries_of}
-use Rattle.fst_graph.specs.Ordered.{is_live_in}
+use Rattle.fst_graph.specs.Nodes.{is_live_in}
 use Rattle.fst_graph.specs.declared.lists.Listed.{Listed}
 use Rattle.fst_graph.proofs.Forgetting.{filter_from_test, same_test}
 use Rattle.fst_graph.proofs.Listing.{entries_filter}

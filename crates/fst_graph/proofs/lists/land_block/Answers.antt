@@ -4,7 +4,7 @@ use Rattle.std.proofs.lemmas.Bool.{false≢true}
 use Rattle.fst_graph.specs.declared.lists.Listed.{Listed}
 use Rattle.fst_graph.specs.Heads.{IsRising, patches_of}
 use Rattle.fst_graph.specs.Lists.{Entry, entries_of, entries_on}
-use Rattle.fst_graph.specs.Ordered.{is_live_in}
+use Rattle.fst_graph.specs.Nodes.{is_live_in}
 use Rattle.fst_graph.proofs.Listing.{listed_at, listed_landed, rising_patches, rising_after, heads_landed, nothing_lands, nothing_flies, is_off}
 use Rattle.fst_graph.proofs.lists.land_block.Goals as goal
 

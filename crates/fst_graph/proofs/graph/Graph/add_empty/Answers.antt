@@ -44,7 +44,7 @@ invariant_of-self-2 c =
     let live : (m : _) → Contains row m → IsLiveNumber (patches_in nodes) m = λ m h. subst (λ ps. IsLiveNumber ps m) (sym (patches_in_nodes heads)) (depends.only m h).0 in
     let K = c.self.invariant.0 in
     let H = lawful_nodes heads n K.lawful in
-    let kept = keeps_empty _ n c.self.inside.blocks c.self.inside.order.items c.self.inside.marks.items K (numbers_of c.args.after.now) row depends few in
+    let kept = keeps_empty _ n c.self.inside.blocks c.self.inside.marks.items K (numbers_of c.args.after.now) row depends few in
     let made = tallies_made nodes n c.self.inside.blocks _ _ _ _ _ _ c.reserve_one.new.queue.cap p H (lawful_with heads p (n + 1) kept.lawful) T refl depends.rising live
     (λ b on. absurd (cc))
     (listed_made nodes c.self.inside.blocks _ p T.listed (listed_empty p refl))
@@ -56,7 +56,7 @@ invariant_of-self-2 c =
     ∙ (ap (λ hs. sums_of (pending_in (nodes_of hs)) c.as_slice-3.result.now) c.deref-3.ensures.value
     ∙ (ap (λ ns. sums_of (pending_in ns) c.as_slice-3.result.now) still ∙ ap (sums_of told) c.as_slice-3.ensures)) in
     let below : c.joined.result ≡ joined told row = c.joined.ensures ∙ (ap joined_sums sums ∙ joined_exact told row) in (
-      rw (c.push_reserved.ensures.items, map_push, patches, c.push_reserved-2.ensures.items, c.reserve_one.ensures.order, c.push_reserved-3.ensures.items, c.reserve_one.ensures.marks, place) kept,
+      rw (c.push_reserved.ensures.items, map_push, patches, c.push_reserved-2.ensures.items, c.reserve_one.ensures.marks, place) kept,
       tt,
       tt,
       c.self.invariant.3,
@@ -79,7 +79,7 @@ returns-clause-ok c =
       next = refl;
       dependencies = c.in-Ok.dependencies.items;
       depends = depends;
-      cascade = rw (c.push_reserved.ensures.items, map_push, patches, place) (empty_cascade _ c.self.inside.numbers c.self.inside.blocks c.self.inside.order.items c.self.inside.marks.items c.self.invariant.0 (numbers_of c.args.after.now) c.in-Ok.dependencies.items depends);
+      cascade = rw (c.push_reserved.ensures.items, map_push, patches, place) (empty_cascade _ c.self.inside.numbers c.self.inside.blocks c.self.inside.marks.items c.self.invariant.0 (numbers_of c.args.after.now) c.in-Ok.dependencies.items depends);
       numbers = refl;
       blocks = refl;
       prepared = refl;
@@ -91,7 +91,7 @@ returns-in-Some-clause-refused c = rw (← c.self.view_is, ← c.deref.ensures.v
 pub invariant_of-self-then-is_err : goal.invariant_of-self-then-is_err
 invariant_of-self-then-is_err c =
     let K = c.self.invariant.0 in (
-      rw (c.reserve_one.ensures.heads, c.reserve_one.ensures.order, c.reserve_one.ensures.marks) K,
+      rw (c.reserve_one.ensures.heads, c.reserve_one.ensures.marks) K,
       tt,
       tt,
       c.self.invariant.3,
@@ -105,7 +105,7 @@ invariant_of-self-then-is_err-2 c =
     let K = c.self.invariant.0 in
     let heads = c.self.inside.heads.items in
     let still : nodes_of c.reserve_above.new.heads.items ≡ nodes_of heads = c.reserve_above.ensures.nodes ∙ ap nodes_of c.reserve_one.ensures.heads in (
-      rw (same_patches c.reserve_above.new.heads.items heads still, c.reserve_one.ensures.order, c.reserve_one.ensures.marks) K,
+      rw (same_patches c.reserve_above.new.heads.items heads still, c.reserve_one.ensures.marks) K,
       tt,
       tt,
       c.self.invariant.3,

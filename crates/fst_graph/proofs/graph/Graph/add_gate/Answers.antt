@@ -40,8 +40,8 @@ invariant_of-self-2 c =
     (listed_made nodes blocks _ p T.listed (λ b. refl))
     standing
     room in (
-      rw (c.push_reserved.ensures.items, c.reserve_one.ensures.heads, map_push, c.push_reserved-2.ensures.items, c.reserve_one.ensures.order, c.push_reserved-3.ensures.items, c.reserve_one.ensures.marks, c.new.ensures.items)
-          (keeps_gate _ n blocks c.self.inside.order.items c.self.inside.marks.items c.self.invariant.0 few),
+      rw (c.push_reserved.ensures.items, c.reserve_one.ensures.heads, map_push, c.push_reserved-2.ensures.items, c.reserve_one.ensures.marks, c.new.ensures.items)
+          (keeps_gate _ n blocks c.self.inside.marks.items c.self.invariant.0 few),
       tt,
       tt,
       c.self.invariant.3,
@@ -54,7 +54,7 @@ invariant_of-self-2 c =
 pub invariant_of-self-then-is_err : goal.invariant_of-self-then-is_err
 invariant_of-self-then-is_err c =
     let K = c.self.invariant.0 in (
-      rw (c.reserve_one.ensures.heads, c.reserve_one.ensures.order, c.reserve_one.ensures.marks) K,
+      rw (c.reserve_one.ensures.heads, c.reserve_one.ensures.marks) K,
       tt,
       tt,
       c.self.invariant.3,

@@ -63,7 +63,7 @@ returns-clause-ok c =
     let behind : ℕ → Bool = λ n. c.mark_flight-flying.result && mark_of heads marks n in
     let exact : (n : ℕ) → (behind n ≡ true) ↔ IsBehind (nodes_of heads) b n = rw (← c.deref-2.ensures.value) c.mark_flight-flying.ensures.behind in
     rw (← c.self.view_is)
-    (chosen_ready heads s.numbers s.blocks s.order.items s.marks.items _ s.standings.items s.queue.items s.queue.cap b c.self.invariant.0 c.self.invariant.4 behind exact c.ready_set.result
+    (chosen_ready heads s.numbers s.blocks s.marks.items _ s.standings.items s.queue.items s.queue.cap b c.self.invariant.0 c.self.invariant.4 behind exact c.ready_set.result
     (rw (← c.deref-5.ensures.value, ← back) c.ready_set.ensures.ok))
 
 pub returns-clause-refused : goal.returns-clause-refused
@@ -76,5 +76,5 @@ returns-clause-refused c =
     let behind : ℕ → Bool = λ n. c.mark_flight-flying.result && mark_of heads marks n in
     let exact : (n : ℕ) → (behind n ≡ true) ↔ IsBehind (nodes_of heads) b n = rw (← c.deref-2.ensures.value) c.mark_flight-flying.ensures.behind in
     rw (← c.self.view_is)
-    (chosen_refused heads s.numbers s.blocks s.order.items s.marks.items _ s.standings.items s.queue.items s.queue.cap b c.self.invariant.0 c.self.invariant.4 behind exact c.ready_set.result
+    (chosen_refused heads s.numbers s.blocks s.marks.items _ s.standings.items s.queue.items s.queue.cap b c.self.invariant.0 c.self.invariant.4 behind exact c.ready_set.result
     (rw (← c.deref-5.ensures.value, ← back) c.ready_set.ensures.refused))

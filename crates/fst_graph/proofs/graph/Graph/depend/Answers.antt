@@ -8,19 +8,20 @@ use Rattle.fst_types.specs.Order.{depend_order}
 use Rattle.fst_types.specs.Refusals.{NoneHolds}
 use Rattle.fst_graph.specs.Heads.{patches_of}
 use Rattle.fst_graph.specs.Known.{numbers_of}
-use Rattle.fst_graph.specs.Marks.{Shows, ReachesGate}
 use Rattle.fst_graph.specs.Nodes.{Node, nodes_of, at_number, gains_names, linked_to, pending_in, AreSettled, HasRoomAbove}
 use Rattle.fst_graph.specs.declared.pending.Pending.TheVariants as pending
 use Rattle.fst_graph.specs.declared.pending.Sums.{Sums}
 use Rattle.fst_graph.specs.Pendings.{Fits, sums_of, max_block}
+use Rattle.fst_graph.specs.Searching.{AreHeldByGates}
 use Rattle.fst_graph.proofs.AtNumber.{patches_in_nodes}
 use Rattle.fst_graph.proofs.Added.{with_names}
 use Rattle.fst_graph.proofs.Linked.{patches_named}
+use Rattle.fst_graph.proofs.Held.{held_by_gates, held_live}
 use Rattle.fst_graph.proofs.PendingIn.{found}
 use Rattle.fst_graph.proofs.Sums.{sums_fit, sums_few}
 use Rattle.fst_graph.proofs.Tallied.{tallies_depends}
 use Rattle.fst_graph.proofs.Linking.{rising_as, rising_same}
-use Rattle.fst_graph.proofs.Seen.{seen, same_patches, lawful_nodes, gained_number}
+use Rattle.fst_graph.proofs.Seen.{seen, same_patches, lawful_nodes, gained_number, tallies_wider}
 use Rattle.fst_graph.proofs.Slots.{rising_heads}
 use Rattle.fst_graph.proofs.Mapping.{take_front}
 use Rattle.fst_graph.proofs.Gained.{keeps_depends, keeps_marks}
@@ -29,20 +30,31 @@ use Rattle.fst_graph.proofs.graph.Graph.depend.Goals as goal
 pub depend_fault-requires-clause-rising : goal.depend_fault-requires-clause-rising
 depend_fault-requires-clause-rising c = rw c.deref.ensures.value (rising_heads c.self.inside.heads.items c.self.invariant.0.lawful.one_place_each.rising)
 
+pub depend_fault-requires-clause-linked : goal.depend_fault-requires-clause-linked
+depend_fault-requires-clause-linked c = rw c.deref.ensures.value c.self.invariant.4.linked
+
+pub depend_fault-requires-clause-live : goal.depend_fault-requires-clause-live
+depend_fault-requires-clause-live c =
+    let heads = c.self.inside.heads.items in
+    let n = c.self.inside.numbers in
+    let H = lawful_nodes heads n c.self.invariant.0.lawful in
+    rw c.deref.ensures.value (λ m e. subst (λ ps. IsLiveNumber ps m) (patches_in_nodes heads) (held_live (nodes_of heads) c.self.inside.blocks H.one_place_each.rising H.no_cycle H.on_disk_with_all c.self.invariant.4.settled m e))
+
+pub depend_fault-requires-clause-held : goal.depend_fault-requires-clause-held
+depend_fault-requires-clause-held c =
+    let heads = c.self.inside.heads.items in
+    let n = c.self.inside.numbers in
+    let H = lawful_nodes heads n c.self.invariant.0.lawful in
+    rw c.deref.ensures.value (subst (λ ps. AreHeldByGates ps (pending_in (nodes_of heads))) (patches_in_nodes heads) (held_by_gates (nodes_of heads) c.self.inside.blocks H.one_place_each.rising H.no_cycle H.on_disk_with_all c.self.invariant.4.settled))
+
 pub returns-in-Some-clause-refused : goal.returns-in-Some-clause-refused
 returns-in-Some-clause-refused c = rw (← c.self.view_is, ← c.deref.ensures.value) (inl c.in-Some.ensures.first)
 
 pub missing_names-requires : goal.missing_names-requires
-missing_names-requires c = rw c.deref-3.ensures.value (rising_heads c.self.inside.heads.items c.self.invariant.0.lawful.one_place_each.rising)
+missing_names-requires c = rw c.deref-2.ensures.value (rising_heads c.self.inside.heads.items c.self.invariant.0.lawful.one_place_each.rising)
 
 pub returns-in_default-missing_names-clause-refused : goal.returns-in_default-missing_names-clause-refused
 returns-in_default-missing_names-clause-refused c = rw (← c.self.view_is, ← c.deref.ensures.value) (inr (c.in_default.ensures.clear, refl))
-
-pub marked_last-requires-clause-rising : goal.marked_last-requires-clause-rising
-marked_last-requires-clause-rising c = rw c.deref-4.ensures.value (rising_heads c.self.inside.heads.items c.self.invariant.0.lawful.one_place_each.rising)
-
-pub returns-in_default-marked_last-clause-refused : goal.returns-in_default-marked_last-clause-refused
-returns-in_default-marked_last-clause-refused c = rw (← c.self.view_is, ← c.deref.ensures.value) (inr (c.in_default.ensures.clear, refl))
 
 pub reserve_above-requires : goal.reserve_above-requires
 reserve_above-requires c = rising_heads c.self.inside.heads.items c.self.invariant.0.lawful.one_place_each.rising
@@ -55,11 +67,11 @@ invariant_of-self-in_default-reserve_above c =
     let same : length new ≡ length marks.items = c.depend_fault.auto.marks ∙ ap length c.deref_mut.ensures.value in
     let front = take_front marks.len new (drop (length new) marks.items) (omega (arith, same, marks.ok.0)) in (
       rw (same_patches c.reserve_above.new.heads.items heads c.reserve_above.ensures.nodes)
-          (keeps_marks (patches_of heads) c.self.inside.numbers c.self.inside.blocks c.self.inside.order.items marks.items _ c.self.invariant.0 (ap length front ∙ same)),
+          (keeps_marks (patches_of heads) c.self.inside.numbers c.self.inside.blocks marks.items _ c.self.invariant.0 (ap length front ∙ same)),
       tt,
       tt,
       c.self.invariant.3,
-      rw c.reserve_above.ensures.nodes c.self.invariant.4,
+      rw c.reserve_above.ensures.nodes (tallies_wider _ c.self.inside.numbers c.self.inside.blocks _ _ _ _ _ _ c.self.invariant.4 (c.depend_fault.ensures.idle ∙ sym c.self.invariant.4.idle) (omega (arith, c.depend_fault.ensures.capacity))),
       tt,
       tt,
     )
@@ -83,7 +95,7 @@ few nodes blocks small S x c = (
 )
 
 pub row_sums-sums-requires : goal.row_sums-sums-requires
-row_sums-sums-requires c = rw c.deref-7.ensures.value (rising_same _ _ c.reserve_above.ensures.nodes (rising_heads c.self.inside.heads.items c.self.invariant.0.lawful.one_place_each.rising))
+row_sums-sums-requires c = rw c.deref-3.ensures.value (rising_same _ _ c.reserve_above.ensures.nodes (rising_heads c.self.inside.heads.items c.self.invariant.0.lawful.one_place_each.rising))
 
 pub gain-requires-clause-rising : goal.gain-requires-clause-rising
 gain-requires-clause-rising c = rising_same _ _ c.reserve_above.ensures.nodes (rising_heads c.self.inside.heads.items c.self.invariant.0.lawful.one_place_each.rising)
@@ -103,11 +115,11 @@ invariant_of-self-in_default-gain c =
     let same : length new ≡ length marks.items = c.depend_fault.auto.marks ∙ ap length c.deref_mut.ensures.value in
     let front = take_front marks.len new (drop (length new) marks.items) (omega (arith, same, marks.ok.0)) in (
       rw (same_patches c.gain.new.heads.items heads still)
-          (keeps_marks (patches_of heads) c.self.inside.numbers c.self.inside.blocks c.self.inside.order.items marks.items _ c.self.invariant.0 (ap length front ∙ same)),
+          (keeps_marks (patches_of heads) c.self.inside.numbers c.self.inside.blocks marks.items _ c.self.invariant.0 (ap length front ∙ same)),
       tt,
       tt,
       c.self.invariant.3,
-      rw still c.self.invariant.4,
+      rw still (tallies_wider _ c.self.inside.numbers c.self.inside.blocks _ _ _ _ _ _ c.self.invariant.4 (c.depend_fault.ensures.idle ∙ sym c.self.invariant.4.idle) (omega (arith, c.depend_fault.ensures.capacity))),
       tt,
       tt,
     )
@@ -129,17 +141,17 @@ link-requires-clause-room c =
     subst (HasRoomAbove c.gain.new.heads.items) (c.as_slice-3.ensures ∙ sym c.as_slice-4.ensures) (c.in-Ok-gain.ensures.room above)
 
 -- what the names add up to
-abbrev added : (c : goal.Joined-names-4) → Sums
+abbrev added : (c : goal.Joined-names-3) → Sums
 added c = sums_of (pending_in (nodes_of c.self.inside.heads.items)) c.in-Ok.names.items
 
-adds_up : (c : goal.Joined-names-4) → c.row_sums-sums.result ≡ added c
+adds_up : (c : goal.Joined-names-3) → c.row_sums-sums.result ≡ added c
 adds_up c =
-    let there : nodes_of c.deref-7.result.now ≡ nodes_of c.self.inside.heads.items = ap nodes_of c.deref-7.ensures.value ∙ c.reserve_above.ensures.nodes in
+    let there : nodes_of c.deref-3.result.now ≡ nodes_of c.self.inside.heads.items = ap nodes_of c.deref-3.ensures.value ∙ c.reserve_above.ensures.nodes in
     c.row_sums-sums.ensures.sums
     ∙ (ap (λ ns. sums_of (pending_in ns) c.as_slice-2.result.now) there ∙ ap (sums_of (pending_in (nodes_of c.self.inside.heads.items))) c.as_slice-2.ensures)
 
 -- the nodes where the gate has the names
-named : (c : goal.Joined-names-4) → nodes_of c.link.new.heads.items ≡ with_names (nodes_of c.self.inside.heads.items) c.args.gate.0 c.in-Ok.names.items (added c)
+named : (c : goal.Joined-names-3) → nodes_of c.link.new.heads.items ≡ with_names (nodes_of c.self.inside.heads.items) c.args.gate.0 c.in-Ok.names.items (added c)
 named c =
     let g = c.args.gate.0 in
     let names = c.in-Ok.names.items in
@@ -153,7 +165,7 @@ named c =
     ∙ ap (λ t. map (at_number g (gains_names names t)) (nodes_of c.self.inside.heads.items)) (adds_up c)))))
 
 -- the patches where the gate has the names
-new_patches : (c : goal.Joined-names-4) → patches_of c.link.new.heads.items ≡ map (gains c.args.gate.0 c.in-Ok.names.items) (patches_of c.self.inside.heads.items)
+new_patches : (c : goal.Joined-names-3) → patches_of c.link.new.heads.items ≡ map (gains c.args.gate.0 c.in-Ok.names.items) (patches_of c.self.inside.heads.items)
 new_patches c =
     let g = c.args.gate.0 in
     let names = c.in-Ok.names.items in
@@ -172,19 +184,20 @@ invariant_of-self-2 c =
     let front = take_front marks.len new (drop (length new) marks.items) (omega (arith, same, marks.ok.0)) in
     let gate = subst (λ hs. IsOpenNumber (patches_of hs) g) c.deref.ensures.value c.in_default.ensures.is_open in
     let none = subst (λ hs. NoneHolds (depend_order (patches_of hs) numbers g on)) c.deref.ensures.value c.in_default.ensures.clear in
-    let live = subst (λ hs. Lists (λ n. IsLiveNumber (patches_of hs) n × Contains on n × (DirectlyOn (patches_of hs) g n → ⊥)) c.in-Ok.names.items) c.deref-3.ensures.value c.in-Ok.ensures in
-    let shown = subst (λ hs. Shows hs new (ReachesGate (patches_of hs) g)) c.deref.ensures.value c.in_default.ensures.shown in
-    let shown_last = subst (λ ms. Shows heads ms (ReachesGate (patches_of heads) g)) (sym (c.deref-5.ensures.value ∙ front)) shown in
+    let live = subst (λ hs. Lists (λ n. IsLiveNumber (patches_of hs) n × Contains on n × (DirectlyOn (patches_of hs) g n → ⊥)) c.in-Ok.names.items) c.deref-2.ensures.value c.in-Ok.ensures in
     let T = c.self.invariant.4 in
     let back = sym (patches_in_nodes heads) in
     let live_there = subst (λ ps. Lists (λ n. IsLiveNumber ps n × Contains on n × (DirectlyOn ps g n → ⊥)) c.in-Ok.names.items) back live in
-    let keeps = keeps_depends heads numbers c.self.inside.blocks g c.self.inside.order.items c.in-Ok.names.items on marks.items c.deref-5.result.now _ c.self.invariant.0 gate none live shown_last (ap length front ∙ same) in
+    let keeps = keeps_depends (patches_of heads) numbers c.self.inside.blocks g c.in-Ok.names.items on marks.items _ c.self.invariant.0 gate none live (ap length front ∙ same) in
     let lawful = subst (λ ps. HeadsAreLawful ps numbers) (sym (new_patches c) ∙ seen c.link.new.heads.items _ (named c)) keeps.lawful in (
-      rw (new_patches c, c.in-Ok-marked_last.ensures, c.deref-4.ensures.value, c.deref-6.ensures.value) keeps,
+      rw (new_patches c) keeps,
       tt,
       tt,
       c.self.invariant.3,
-      rw (named c) (tallies_depends (nodes_of heads) numbers c.self.inside.blocks _ _ _ _ g on c.in-Ok.names.items (lawful_nodes heads numbers c.self.invariant.0.lawful) lawful T (subst (λ ps. IsOpenNumber ps g) back gate) live_there),
+      rw (named c)
+          (tallies_wider _ numbers c.self.inside.blocks _ _ _ _ _ _
+          (tallies_depends (nodes_of heads) numbers c.self.inside.blocks _ _ _ _ g on c.in-Ok.names.items (lawful_nodes heads numbers c.self.invariant.0.lawful) lawful T (subst (λ ps. IsOpenNumber ps g) back gate) live_there)
+          (c.depend_fault.ensures.idle ∙ sym T.idle) (omega (arith, c.depend_fault.ensures.capacity))),
       tt,
       tt,
     )
@@ -199,7 +212,7 @@ returns-clause-ok c =
       clear = subst (λ hs. NoneHolds (depend_order (patches_of hs) c.self.inside.numbers g on)) c.deref.ensures.value c.in_default.ensures.clear;
       is_open = subst (λ hs. IsOpenNumber (patches_of hs) g) c.deref.ensures.value c.in_default.ensures.is_open;
       names = c.in-Ok.names.items;
-      live = subst (λ hs. Lists (λ n. IsLiveNumber (patches_of hs) n × Contains on n × (DirectlyOn (patches_of hs) g n → ⊥)) c.in-Ok.names.items) c.deref-3.ensures.value c.in-Ok.ensures;
+      live = subst (λ hs. Lists (λ n. IsLiveNumber (patches_of hs) n × Contains on n × (DirectlyOn (patches_of hs) g n → ⊥)) c.in-Ok.names.items) c.deref-2.ensures.value c.in-Ok.ensures;
       heads = new_patches c;
       numbers = refl;
       blocks = refl;

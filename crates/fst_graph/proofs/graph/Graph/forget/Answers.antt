@@ -9,12 +9,8 @@ use Rattle.fst_graph.proofs.AtNumber.{patches_in_nodes}
 use Rattle.fst_graph.proofs.Placed.{patches_dropped}
 use Rattle.fst_graph.proofs.Seen.{seen, lawful_nodes}
 use Rattle.fst_graph.proofs.Tallied.{tallies_dropped}
-use Rattle.fst_graph.proofs.Slots.{rising_heads}
 use Rattle.fst_graph.proofs.Forgetting.{counted, keeps_dropped}
 use Rattle.fst_graph.proofs.graph.Graph.forget.Goals as goal
-
-pub keep_live_numbers-requires : goal.keep_live_numbers-requires
-keep_live_numbers-requires c = rw c.deref.ensures.value (rising_heads c.self.inside.heads.items c.self.invariant.0.lawful.one_place_each.rising)
 
 pub overflow_sub-result : goal.overflow_sub-result
 overflow_sub-result c =
@@ -34,9 +30,9 @@ invariant_of-self c =
     rw c.truncate.ensures.items (omega (arith, all, live, length-take c.len.result c.self.inside.marks.items, length-map c.keep_live.new.heads.items patch_of, c.len.ensures, c.keep_live.new.heads.ok.0, c.self.invariant.0.marked)) in
     let heads = c.self.inside.heads.items in
     let n = c.self.inside.numbers in
-    let kept = keeps_dropped (patches_of heads) n c.self.inside.blocks c.self.inside.order.items c.self.inside.marks.items c.self.invariant.0 c.truncate.new.self.items long in
+    let kept = keeps_dropped (patches_of heads) n c.self.inside.blocks c.self.inside.marks.items c.self.invariant.0 c.truncate.new.self.items long in
     let lawful = subst (λ ps. HeadsAreLawful ps n) (sym (patches_dropped (nodes_of heads) ∙ ap (filter is_live) (patches_in_nodes heads))) kept.lawful in (
-      rw (left, c.keep_live_numbers.ensures, c.deref.ensures.value) kept,
+      rw left kept,
       tt,
       tt,
       c.self.invariant.3,

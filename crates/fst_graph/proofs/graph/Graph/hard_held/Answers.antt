@@ -63,7 +63,7 @@ returns-clause-none c =
     let behind : ℕ → Bool = λ n. c.mark_flight-flying.result && mark_of heads marks n in
     let exact : (n : ℕ) → (behind n ≡ true) ↔ IsBehind (nodes_of heads) b n = rw (← c.deref-2.ensures.value) c.mark_flight-flying.ensures.behind in
     rw (← c.self.view_is)
-    (none_held heads s.numbers s.blocks s.order.items s.marks.items _ s.standings.items s.queue.items s.queue.cap b c.self.invariant.0 c.self.invariant.4 behind exact c.first_held.result
+    (none_held heads s.numbers s.blocks s.marks.items _ s.standings.items s.queue.items s.queue.cap b c.self.invariant.0 c.self.invariant.4 behind exact c.first_held.result
     (rw (← c.deref-5.ensures.value, ← back) c.first_held.ensures.none))
 
 pub returns-clause-least : goal.returns-clause-least
@@ -76,5 +76,5 @@ returns-clause-least c =
     let behind : ℕ → Bool = λ n. c.mark_flight-flying.result && mark_of heads marks n in
     let exact : (n : ℕ) → (behind n ≡ true) ↔ IsBehind (nodes_of heads) b n = rw (← c.deref-2.ensures.value) c.mark_flight-flying.ensures.behind in
     rw (← c.self.view_is)
-    (least_held heads s.numbers s.blocks s.order.items s.marks.items _ s.standings.items s.queue.items s.queue.cap b c.self.invariant.0 c.self.invariant.4 behind exact c.first_held.result
+    (least_held heads s.numbers s.blocks s.marks.items _ s.standings.items s.queue.items s.queue.cap b c.self.invariant.0 c.self.invariant.4 behind exact c.first_held.result
     (rw (← c.deref-5.ensures.value, ← back) c.first_held.ensures.least))

@@ -89,7 +89,7 @@ invariant_of-self c =
     let spread : IsSpreadOf (map (lands b) nodes) (nodes_of new) = subst (λ ns. IsSpreadOf ns (nodes_of new)) c.land_block.ensures.nodes c.cascade.ensures.spread in
     let settled = subst (AreSettled (nodes_of new)) (c.land_at.ensures.len ∙ wide) c.cascade.ensures.settled in
     let standing = subst (λ k. AllStand (nodes_of new) k c.cascade.new.standings.items) (c.land_at.ensures.len ∙ wide) c.cascade.ensures.standing in
-    let kept = keeps_landed old (patches_of new) n blocks b c.self.inside.order.items c.self.inside.marks.items c.self.inside.marks.items c.self.invariant.0 cascade refl in
+    let kept = keeps_landed old (patches_of new) n blocks b c.self.inside.marks.items c.self.inside.marks.items c.self.invariant.0 cascade refl in
     let listed : AreListed (patches_in (map (lands b) nodes)) blocks (shelved c.land_block.new.lists.items) =
     subst (λ k. AreListed (patches_in (map (lands b) nodes)) k (shelved c.land_block.new.lists.items)) long
     (subst (λ ps. AreListed ps (length lists) (shelved c.land_block.new.lists.items)) (seen mid _ c.land_block.ensures.nodes) c.land_block.ensures.listed) in (

@@ -67,7 +67,7 @@ invariant_of-self-2 c =
     let here = block_found (patches_of heads) b c.in-Some-block_of.block chosen c.in-Some.first.now.0 choice named (λ p h e. c.in-Some-block_of.ensures p (subst (λ hs. Contains (patches_of hs) p) (sym c.deref.ensures.value) h) e) in
     let new : patches_of c.launch_all.new.heads.items ≡ map (launched chosen) (patches_of heads) =
     seen c.launch_all.new.heads.items _ c.launch_all.ensures ∙ (patches_launched (nodes_of heads) chosen ∙ ap (map (launched chosen)) same) in
-    let kept = keeps_launched _ n blocks b chosen c.self.inside.order.items c.self.inside.marks.items K writable choice in
+    let kept = keeps_launched _ n blocks b chosen c.self.inside.marks.items K writable choice in
     let lawful = subst (λ ps. HeadsAreLawful (map (launched chosen) ps) n) (sym same) kept.lawful in (
       rw new kept,
       tt,

@@ -49,7 +49,7 @@ returns-clause-ok c =
         next = refl;
         dependencies = row;
         depends = depends_exactly old names b at len (n + 1) p.grade row row depends;
-        graded = graded_change old n blocks c.self.inside.order.items c.self.inside.marks.items c.self.invariant.0 b at len names p.grade row depends follows;
+        graded = graded_change old n blocks c.self.inside.marks.items c.self.invariant.0 b at len names p.grade row depends follows;
         heads = refl;
         numbers = refl;
         blocks = refl;
@@ -77,8 +77,8 @@ pub invariant_of-self-then-is_err : goal.invariant_of-self-then-is_err
 invariant_of-self-then-is_err c =
     let marks = as_long c.self.inside.marks.items c.prepare.new.marks c.self.inside.marks.len c.self.inside.marks.ok.0 (c.prepare.auto.marks ∙ ap length c.deref_mut.ensures.value) in
     let reached = as_long c.self.inside.reached.items c.prepare.new.reached c.self.inside.reached.len c.self.inside.reached.ok.0 (c.prepare.auto.reached ∙ ap length c.deref_mut-2.ensures.value) in (
-      rw (c.reserve_one.ensures.heads, c.reserve_one.ensures.order, c.reserve_one.ensures.marks)
-          (keeps_marks _ c.self.inside.numbers c.self.inside.blocks c.self.inside.order.items c.self.inside.marks.items _ c.self.invariant.0 marks),
+      rw (c.reserve_one.ensures.heads, c.reserve_one.ensures.marks)
+          (keeps_marks _ c.self.inside.numbers c.self.inside.blocks c.self.inside.marks.items _ c.self.invariant.0 marks),
       tt,
       tt,
       reached ∙ c.self.invariant.3,
@@ -93,8 +93,8 @@ invariant_of-self-then-is_err-2 c =
     let still : nodes_of c.reserve_above.new.heads.items ≡ nodes_of heads = c.reserve_above.ensures.nodes ∙ ap nodes_of c.reserve_one.ensures.heads in
     let marks = as_long c.self.inside.marks.items c.prepare.new.marks c.self.inside.marks.len c.self.inside.marks.ok.0 (c.prepare.auto.marks ∙ ap length c.deref_mut.ensures.value) in
     let reached = as_long c.self.inside.reached.items c.prepare.new.reached c.self.inside.reached.len c.self.inside.reached.ok.0 (c.prepare.auto.reached ∙ ap length c.deref_mut-2.ensures.value) in (
-      rw (same_patches c.reserve_above.new.heads.items heads still, c.reserve_one.ensures.order, c.reserve_one.ensures.marks)
-          (keeps_marks _ c.self.inside.numbers c.self.inside.blocks c.self.inside.order.items c.self.inside.marks.items _ c.self.invariant.0 marks),
+      rw (same_patches c.reserve_above.new.heads.items heads still, c.reserve_one.ensures.marks)
+          (keeps_marks _ c.self.inside.numbers c.self.inside.blocks c.self.inside.marks.items _ c.self.invariant.0 marks),
       tt,
       tt,
       reached ∙ c.self.invariant.3,
@@ -109,8 +109,8 @@ invariant_of-self-then-is_err-3 c =
     let still : nodes_of c.reserve_above.new.heads.items ≡ nodes_of heads = c.reserve_above.ensures.nodes ∙ ap nodes_of c.reserve_one.ensures.heads in
     let marks = as_long c.self.inside.marks.items c.prepare.new.marks c.self.inside.marks.len c.self.inside.marks.ok.0 (c.prepare.auto.marks ∙ ap length c.deref_mut.ensures.value) in
     let reached = as_long c.self.inside.reached.items c.prepare.new.reached c.self.inside.reached.len c.self.inside.reached.ok.0 (c.prepare.auto.reached ∙ ap length c.deref_mut-2.ensures.value) in (
-      rw (same_patches c.reserve_above.new.heads.items heads still, c.reserve_one.ensures.order, c.reserve_one.ensures.marks)
-          (keeps_marks _ c.self.inside.numbers c.self.inside.blocks c.self.inside.order.items c.self.inside.marks.items _ c.self.invariant.0 marks),
+      rw (same_patches c.reserve_above.new.heads.items heads still, c.reserve_one.ensures.marks)
+          (keeps_marks _ c.self.inside.numbers c.self.inside.blocks c.self.inside.marks.items _ c.self.invariant.0 marks),
       tt,
       tt,
       reached ∙ c.self.invariant.3,
@@ -139,13 +139,13 @@ invariant_of-self-2 c =
     let depends : Lists (IsDependency old names p.block p.span.at p.span.len) row =
     rw (made.names, made.block, made.span) (subst (λ hs. Lists (IsDependency (patches_of hs) (numbers_of c.args.after.now) c.args.block.0 c.args.span.at c.args.span.len) row) c.deref-2.ensures.value made.depends) in
     let follows : FollowsRule p.grade (MayBeHard old p.block row) = rw made.block (subst (λ hs. FollowsRule p.grade (MayBeHard (patches_of hs) c.args.block.0 row)) c.deref-2.ensures.value made.graded) in
-    let graded = graded_change old n blocks c.self.inside.order.items c.self.inside.marks.items c.self.invariant.0 p.block p.span.at p.span.len names p.grade row depends follows in
+    let graded = graded_change old n blocks c.self.inside.marks.items c.self.invariant.0 p.block p.span.at p.span.len names p.grade row depends follows in
     let above : HasRoomAbove c.reserve_above.new.heads.items c.as_slice.result.now = ok_of c.reserve_above.result _ c.reserve_above.ensures.room (sym c.is_err-2.ensures.value ∙ c.if-is_err-2.false) in
     let free : c.reserve.new.self.len + 1 ≤ c.reserve.new.self.cap = search rules in
     let lists : length c.self.inside.lists.items ≡ blocks = sym (length-map c.self.inside.lists.items (λ l. entries_of l.items)) ∙ c.self.invariant.4.listed.long in (
-      rw (patches, c.reserve_one.ensures.order, c.reserve_one.ensures.marks) (keeps_marks _ n blocks c.self.inside.order.items c.self.inside.marks.items _ c.self.invariant.0 marks),
+      rw (patches, c.reserve_one.ensures.marks) (keeps_marks _ n blocks c.self.inside.marks.items _ c.self.invariant.0 marks),
       rw patches (record { clear = clear; inside = inside; depends = depends; graded = graded }),
-      rw (c.reserve_above.ensures.len, c.reserve_above.ensures.capacity) (record { heads_free = search rules; order_free = search rules; marks_free = search rules; queue_free = search rules }),
+      rw (c.reserve_above.ensures.len, c.reserve_above.ensures.capacity) (record { heads_free = search rules; marks_free = search rules; queue_free = search rules }),
       reached ∙ c.self.invariant.3,
       rw (still, shelved_same c.self.inside.lists.items c.args.block.0 c.index_mut.result.now c.reserve.new.self c.index_mut.ensures.value c.reserve.ensures.items)
           (tallies_wider _ n blocks _ _ _ _ _ _ c.self.invariant.4 (c.reserve_one.ensures.queue ∙ c.prepare.ensures.idle) (subst (λ n. n ≤ vec_capacity c.reserve_one.new.queue) c.prepare.ensures.capacity c.reserve_one.ensures.wide)),

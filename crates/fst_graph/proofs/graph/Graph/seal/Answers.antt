@@ -82,7 +82,7 @@ invariant_of-self-2 c =
     ap (map unsettled) (seen c.seal_slot.new.heads.items _ c.seal_slot.ensures.nodes) ∙ (unsettled_sealed nodes g ∙ ap (λ ps. map unsettled (map (sealed g) ps)) (patches_in_nodes heads)) in
     let cascade : IsCascadeOf (map (sealed g) old) (patches_of new) = record { same = placed.same ∙ was; places = placed.places; settled = placed.settled } in
     let spread : IsSpreadOf (map (at_number g seals) nodes) (nodes_of new) = subst (λ ns. IsSpreadOf ns (nodes_of new)) c.seal_slot.ensures.nodes c.cascade.ensures.spread in
-    let kept = keeps_sealed old (patches_of new) n blocks g c.self.inside.order.items c.self.inside.marks.items c.self.inside.marks.items K open_gate cascade refl in
+    let kept = keeps_sealed old (patches_of new) n blocks g c.self.inside.marks.items c.self.inside.marks.items K open_gate cascade refl in
     let settled = subst (AreSettled (nodes_of new)) long c.cascade.ensures.settled in
     let standing = subst (λ k. AllStand (nodes_of new) k c.cascade.new.standings.items) long c.cascade.ensures.standing in (
       kept,

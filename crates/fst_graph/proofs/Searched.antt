@@ -1,0 +1,60 @@
+-- What the search for a cycle finds.
+use Rattle.std.proofs.Common.{◌≡◌, ◌⊎◌, ◌↔◌, ◌<◌, ℕ, List, [], length, Contains, refl, sym, ap, subst, ◌∙◌, inl, inr, arith}
+use Rattle.fst_types.specs.Closure.{Closure, one, join}
+use Rattle.fst_types.specs.Dependencies.{DirectlyOn, DependsOn}
+use Rattle.fst_types.specs.Gates.{IsOpenNumber}
+use Rattle.fst_types.specs.Order.{NamesAbove}
+use Rattle.fst_types.specs.Patches.{Patch}
+use Rattle.fst_types.proofs.Finite.{In-from_Contains, last_step}
+use Rattle.fst_graph.specs.declared.pending.Pending.{Pending}
+use Rattle.fst_graph.specs.declared.pending.Pending.TheVariants as pending
+use Rattle.fst_graph.specs.Descending.{IsLedFrom, Visits}
+use Rattle.fst_graph.specs.Nodes.{Node, patches_in, times, AreLinked}
+use Rattle.fst_graph.specs.Searching.{AreHeldByGates, IsNextHeld}
+use Rattle.fst_graph.proofs.Placed.{node_of_patch}
+use Rattle.fst_graph.proofs.Visiting.{none_in}
+use Rattle.fst_graph.proofs.Waiting.{times_some}
+
+module _ (patches : List Patch) (told : ℕ → Pending) (held : AreHeldByGates patches told) (gate : ℕ) (is_open : IsOpenNumber patches gate) where
+  -- what depends on the gate waits for an open gate
+  above_held : (n : ℕ) → DependsOn patches n gate → told n ≡ pending.Held
+  above_held n d = (held n).1 (inr (gate, d, is_open))
+
+  -- each step of the search goes down
+  steps_down : (n m : ℕ) → Closure (IsNextHeld patches told) n m → DependsOn patches n m
+  steps_down n m (one s) = one s.0
+  steps_down n m (join {q = r} c d) = join (steps_down n r c) (steps_down r m d)
+
+  -- and all on a way down to the gate is met
+  goes_down : (n m : ℕ) → DependsOn patches n m → told m ≡ pending.Held → ((q : ℕ) → DependsOn patches q m → told q ≡ pending.Held) → Closure (IsNextHeld patches told) n m
+  goes_down n m (one d) e above = one (d, e)
+  goes_down n m (join {q = r} c d) e above = join (goes_down n r c (above r d) (λ q b. above q (join b d))) (goes_down r m d e above)
+
+  pub searched : (names start met : List ℕ) → Visits (λ n. Contains names n × (told n ≡ pending.Held)) [] start → ((n : ℕ) → Contains met n ↔ IsLedFrom (IsNextHeld patches told) start n)
+      → Contains met gate ↔ NamesAbove patches gate names
+  searched names start met starts led = (from, to)
+    where
+      begun : (n : ℕ) → Contains start n → Contains names n
+      begun n c = elim (starts.only n c) [ inl none ↦ absurd (none_in n none) | inr k ↦ k.0 ]
+
+      from : Contains met gate → NamesAbove patches gate names
+      from c = elim ((led gate).0 c) [
+        | inl first ↦ (gate, begun gate first, inl refl)
+        | inr r ↦ (r.0, begun r.0 r.1, inr (steps_down r.0 gate r.2))
+      ]
+
+      to : NamesAbove patches gate names → Contains met gate
+      to a = (led gate).1 (elim a.2 [
+        | inl e ↦ inl (subst (Contains start) e (starts.each a.0 (a.1, subst (λ n. told n ≡ pending.Held) (sym e) ((held gate).1 (inl is_open)))))
+        | inr d ↦ inr (a.0, starts.each a.0 (a.1, above_held a.0 d), goes_down a.0 gate d ((held gate).1 (inl is_open)) above_held)
+      ])
+
+-- where nothing directly depends on the gate, nothing depends on it
+pub none_above : (nodes : List Node) (x : Node) → Contains nodes x → AreLinked nodes → x.dependants ≡ [] → (n : ℕ) → DependsOn (patches_in nodes) n x.patch.number → ⊥
+none_above nodes x c linked none n d =
+    let s = last_step n x.patch.number d in
+    let y = node_of_patch nodes s.1.patch s.1.head in
+    let named = subst (λ (p : Patch). Contains p.dependencies x.patch.number) (sym y.2) s.1.named in
+    let some = subst (λ k. 0 < k) (sym (linked y.0 x y.1 c)) (times_some y.0.patch.dependencies x.patch.number (In-from_Contains y.0.patch.dependencies x.patch.number named)) in
+    let empty : times x.dependants y.0.patch.number ≡ 0 = ap (λ row. times row y.0.patch.number) none in
+    absurd (omega (arith, some, empty))

@@ -1,8 +1,0 @@
-use Rattle.std.proofs.Common.{◌≡◌, ◌<◌, ℕ, get_or, false}
-use Rattle.fst_graph.specs.declared.head.Head.{Head}
-use Rattle.fst_graph.specs.Heads.{patch_of}
-use Rattle.fst_graph.specs.Tests.{passes}
-use Rattle.fst_graph.proofs.marks.seed.Given as goal
-
-abbrev pub invariant-loop-slot : goal.invariant-loop-slot
-invariant-loop-slot l = (k : ℕ) (d : Head) → k < l.slot → get_or l.marks k false ≡ passes l.test (patch_of (get_or l.heads k d))

@@ -1,0 +1,16 @@
+-- The search for a cycle: down from names to an open gate, through what waits for an open gate.
+use Rattle.std.specs.Prelude.{◌≡◌, ◌↔◌, ℕ, List}
+use Rattle.fst_types.specs.Dependencies.{DirectlyOn}
+use Rattle.fst_types.specs.Gates.{IsOpenNumber}
+use Rattle.fst_types.specs.Patches.{Patch}
+use Rattle.fst_graph.specs.declared.pending.Pending.{Pending}
+use Rattle.fst_graph.specs.declared.pending.Pending.TheVariants as pending
+use Rattle.fst_graph.specs.Marks.{IsAbove}
+
+-- an open gate is pending of exactly the open gates and of what depends on one
+abbrev pub AreHeldByGates : List Patch → (ℕ → Pending) → Type 0
+AreHeldByGates patches told = (n : ℕ) → (told n ≡ pending.Held) ↔ IsAbove patches (IsOpenNumber patches) n
+
+-- a step of the search: to a direct dependency that waits for an open gate
+abbrev pub IsNextHeld : List Patch → (ℕ → Pending) → ℕ → ℕ → Type 0
+IsNextHeld patches told n m = DirectlyOn patches n m × (told m ≡ pending.Held)
