@@ -13,7 +13,7 @@ mod rising;
 mod totals;
 mod worker;
 
-pub use desk::{Desk, PLACES};
+pub use desk::{Desk, PLACES, Shared};
 pub use law::{
     no_stray, nothing_lost, one_crash_tells_all_slots, rings_in_order,
     slots_hold_what_a_crash_leaves,

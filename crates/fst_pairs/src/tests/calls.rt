@@ -1,0 +1,76 @@
+//! Every call of a desk once, with what it answers.
+
+use crate::Desk;
+use crate::tests::{only, submits, with_one, write_one};
+use fst_cache::{Share, Stat};
+use fst_device::MemorySlot;
+use fst_types::{BlockNo, Fault, Grade, PatchNo, Place, Ticket};
+use std::process::Abort;
+use std::test::Fail;
+
+// A gate, a change, an empty patch after the change, after which the gate is put before it is sealed.
+fn makes(rt: &impl Abort, desk: &mut Desk<MemorySlot>, share: &mut Share) {
+    assert!(rt; desk.gate(share) == Ok(PatchNo(1)));
+    let change = desk.patch(share, BlockNo(0), 0, b"A", &[]);
+    assert!(rt; change == Ok((PatchNo(2), Grade::Hard)));
+    assert!(rt; desk.empty(share, &[PatchNo(2)]) == Ok(PatchNo(3)));
+    assert!(rt; desk.depend(PatchNo(3), &[]) == Err(Fault::NotGate));
+    assert!(rt; desk.depend(PatchNo(1), &[PatchNo(3)]) == Ok(()));
+    assert!(rt; desk.seal(PatchNo(1)) == Ok(()));
+    assert!(rt; desk.seal(PatchNo(1)) == Err(Fault::Sealed));
+    assert_eq!(rt; share.made(), 3);
+}
+
+// What is told of them.
+fn looks(rt: &impl Abort, desk: &mut Desk<MemorySlot>) -> Result<(), Fail> {
+    assert!(rt; desk.place(PatchNo(1)) == Some(Place::Memory));
+    match desk.choose(BlockNo(0)) {
+        Ok(numbers) => assert!(rt; numbers.as_slice() == [PatchNo(2)].as_slice()),
+        Err(_) => return Err("choose")?,
+    }
+    assert_eq!(rt; desk.pick(), Some(BlockNo(0)));
+    assert_eq!(rt; desk.stalled(), None);
+    assert!(rt; desk.flight(BlockNo(0)).is_none());
+    assert!(rt; desk.evict(BlockNo(0)) == Err(Fault::Dirty));
+    assert!(rt; desk.evict(BlockNo(1)) == Ok(()));
+    match desk.show(BlockNo(0)) {
+        Ok(bytes) => assert!(rt; bytes == b"A\0\0\0".as_slice()),
+        Err(_) => return Err("show")?,
+    }
+    let counted = Stat {
+        made: 3,
+        live: 3,
+        undo: 0,
+        flights: 0,
+    };
+    assert_eq!(rt; desk.stat(), counted);
+    desk.headline();
+    desk.keeps_order();
+    Ok(())
+}
+
+#[test]
+fn each_call_answers(rt: HostRuntime) -> Result<(), Fail> {
+    let (mut desk, mut worker) = with_one(rt.alloc(), 2)?;
+    let mut share = desk.share();
+    makes(&rt, &mut desk, &mut share);
+    looks(&rt, &mut desk)?;
+    submits(&rt, &mut desk, Some(1));
+    match desk.flight(BlockNo(0)) {
+        Some(flight) => {
+            assert_eq!(rt; flight.ticket, Ticket(1));
+            assert!(rt; flight.image == b"A\0\0\0".as_slice());
+        }
+        None => return Err("flight")?,
+    }
+    assert!(rt; desk.resubmit(BlockNo(0)) == Err(Fault::NotStalled));
+    write_one(&rt, &mut desk, &mut worker, 1);
+    worker.keeps_order();
+    assert_eq!(rt; desk.forget(), 3);
+    submits(&rt, &mut desk, None);
+    match desk.close(only(rt.alloc(), share)?) {
+        Ok(totals) => assert_eq!(rt; totals.made, 3),
+        Err(_) => return Err("close")?,
+    }
+    Ok(())
+}
