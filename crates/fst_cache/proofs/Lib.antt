@@ -1,5 +1,6 @@
 pub mod Kept
 pub mod MakeChanged
+pub mod MakeCounted
 pub mod MakePut
 pub mod MakeReady
 pub mod MakeRefused

@@ -1,5 +1,6 @@
 -- A place that is made among the seats, and a seat that is read into it.
-use Rattle.std.proofs.Common.{◌≡◌, ◌⊎◌, ◌<◌, ◌≤◌, ℕ, true, false, List, [], map, Option, Some, None, is_some, refl, sym, ap, ◌∙◌, inl, inr, length, get_or, slice_get, slice_set, length-set, count_by}
+use Rattle.std.proofs.Common.{◌≡◌, ◌⊎◌, ◌<◌, ◌≤◌, ◌+◌, ℕ, true, false, List, [], map, Option, Some, None, is_some, refl, sym, ap, ◌∙◌, inl, inr, length, get_or, slice_get, slice_set, length-set, count_by}
+use Rattle.std.specs.Prelude.{slice_index}
 use Rattle.std.proofs.lemmas.Bool.{cases_Bool, false≢true, lt-ltb}
 use Rattle.std.proofs.lemmas.Option.{get_or_from_slice_get, slice_get-get_or, slice_get_within, same_Some}
 use Rattle.std.proofs.lemmas.List.{get_or-set_same}
@@ -7,8 +8,9 @@ use Rattle.fst_types.specs.State.{Flight}
 use Rattle.fst_types.specs.Residence.{faults_rose}
 use Rattle.fst_block.specs.BlockView.{BlockView}
 use Rattle.fst_cache.specs.Seats.{SeatView, is_dirty_with, is_dirty_seat}
+use Rattle.fst_cache.specs.Faults.{IsOneFaultMore}
 use Rattle.fst_cache.specs.Residing.{count_loaded, IsCleanLoaded, IsLeastClean, MakesPlace, Loads, IsLoadedAt, IsAtRestWhereAway}
-use Rattle.fst_cache.proofs.Kept.{get-set, listed, listed_new, same_listed}
+use Rattle.fst_cache.proofs.Kept.{get-set, listed, listed_new, listed_set, same_listed}
 use Rattle.fst_cache.proofs.ResideCounts.{count_le}
 
 -- where no clean block is in memory, all that are there are dirty
@@ -105,3 +107,16 @@ module _ (resident : ℕ) (old placed : List SeatView) (made : MakesPlace reside
   rose_by more =
       rw (← faults_placed resident old placed made, listed placed b seat at_b (λ (t : SeatView). t.faults) 0, listed_new placed b seat at_b (λ (t : SeatView). t.faults) 0 new)
       (lt-ltb seat.faults new.faults more)
+
+  -- its slot's count is as it was
+  pub quiet_by : new.faults ≡ seat.faults → map (λ (t : SeatView). t.faults) (slice_set placed b new) ≡ map (λ (t : SeatView). t.faults) old
+  quiet_by same = same_listed placed b seat at_b (λ (t : SeatView). t.faults) new same ∙ faults_placed resident old placed made
+
+  -- or is one more
+  pub counted_by : (new.faults ≡ seat.faults) ⊎ (new.faults ≡ seat.faults + 1) → IsOneFaultMore (map (λ (t : SeatView). t.faults) old) b (map (λ (t : SeatView). t.faults) (slice_set placed b new))
+  counted_by (inl same) = inl (quiet_by same)
+  counted_by (inr one) =
+      let risen = one ∙ ap (λ (n : ℕ). n + 1) (sym (listed placed b seat at_b (λ (t : SeatView). t.faults) 0)) in
+      inr (listed_set placed b seat at_b (λ (t : SeatView). t.faults) new
+      ∙ (ap (slice_set (map (λ (t : SeatView). t.faults) placed) b) risen
+      ∙ ap (λ (xs : List ℕ). slice_set xs b (slice_index xs b + 1)) (faults_placed resident old placed made)))

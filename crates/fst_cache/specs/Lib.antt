@@ -6,3 +6,4 @@ pub mod Kept
 pub mod Residing
 pub mod Making
 pub mod Sending
+pub mod Faults

@@ -5,6 +5,7 @@ ghost use Rattle.std.specs.Prelude.{◌≡◌, ◌⊎◌, ◌<◌, ◌≤◌, �
 ghost use Rattle.fst_types.specs.declared.fault.Fault.{Fault};
 ghost use Rattle.fst_types.specs.Residence.{faults_rose};
 ghost use Rattle.fst_cache.specs.Seats.{SeatView, is_dirty_seat};
+ghost use Rattle.fst_cache.specs.Faults.{IsOneFaultMore};
 ghost use Rattle.fst_cache.specs.Residing.{count_loaded, IsCleanLoaded, IsLeastClean, MakesPlace, Loads, IsLoadedAt, IsAtRestWhereAway};
 
 use crate::seat::Seat;
@@ -69,6 +70,8 @@ pub(crate) fn load<S: BlockSlot>(
     ensures there { OnOk result (IsLoadedAt seats.new block.0) }
     ensures away { IsErr result → Loads resident seats.old block.0 seats.new }
     ensures device { IsErrOf result Fault.Device → faults_rose (map (λ seat. seat.faults) seats.old) (map (λ seat. seat.faults) seats.new) block.0 ≡ true }
+    ensures one_fault { IsOneFaultMore (map (λ seat. seat.faults) seats.old) block.0 (map (λ seat. seat.faults) seats.new) }
+    ensures no_fault { (IsErrOf result Fault.Device → ⊥) → map (λ seat. seat.faults) seats.new ≡ map (λ seat. seat.faults) seats.old }
     ensures kinds { IsErr result → IsErrOf result Fault.Device ⊎ IsErrOf result Fault.Memory }
 {
     if seats[block.0 as usize].is_loaded() {

@@ -1,6 +1,6 @@
 use Rattle.std.proofs.Common.{◌<◌, ◌∙◌, length, sym, inr, arith}
 use Rattle.std.proofs.lemmas.Result.{on_ok_weaker}
-use Rattle.fst_cache.proofs.ResideReading.{rest_placed, length_placed, seat_read, loads_by, there_by, rose_by}
+use Rattle.fst_cache.proofs.ResideReading.{rest_placed, length_placed, seat_read, loads_by, there_by, rose_by, quiet_by, counted_by}
 use Rattle.fst_cache.proofs.residence.load.Goals as goal
 
 pub load-requires : goal.load-requires
@@ -41,3 +41,19 @@ returns-clause-device g c =
     let lt : c.args.block.0 < length placed = omega (arith, length_placed _ _ _ c.make_place.ensures, c.requires.within) in
     let at_b = seat_read placed c.args.block.0 c.index-seats-block-2.result lt in
     λ device. rose_by c.args.resident c.args.seats.now placed c.make_place.ensures c.args.block.0 _ was (sym c.is_loaded.ensures ∙ c.if-is_loaded.false) _ at_b c.load.new.self (c.load.ensures.device device)
+
+pub returns-clause-one_fault : goal.returns-clause-one_fault
+returns-clause-one_fault g c =
+    let placed = c.make_place.new.seats in
+    let was = seat_read c.args.seats.now c.args.block.0 c.index-seats-block.result c.requires.within in
+    let lt : c.args.block.0 < length placed = omega (arith, length_placed _ _ _ c.make_place.ensures, c.requires.within) in
+    let at_b = seat_read placed c.args.block.0 c.index-seats-block-2.result lt in
+    counted_by c.args.resident c.args.seats.now placed c.make_place.ensures c.args.block.0 _ was (sym c.is_loaded.ensures ∙ c.if-is_loaded.false) _ at_b c.load.new.self c.load.ensures.one_fault
+
+pub returns-clause-no_fault : goal.returns-clause-no_fault
+returns-clause-no_fault g c =
+    let placed = c.make_place.new.seats in
+    let was = seat_read c.args.seats.now c.args.block.0 c.index-seats-block.result c.requires.within in
+    let lt : c.args.block.0 < length placed = omega (arith, length_placed _ _ _ c.make_place.ensures, c.requires.within) in
+    let at_b = seat_read placed c.args.block.0 c.index-seats-block-2.result lt in
+    λ fine. quiet_by c.args.resident c.args.seats.now placed c.make_place.ensures c.args.block.0 _ was (sym c.is_loaded.ensures ∙ c.if-is_loaded.false) _ at_b c.load.new.self (c.load.ensures.no_fault fine)

@@ -10,6 +10,8 @@ use Rattle.fst_cache.proofs.MakeRefused.{refused_by_graph}
 use Rattle.fst_cache.proofs.MakeReady.{as_long, newest, kept_ready, loaded}
 use Rattle.fst_cache.proofs.MakeWhole.{step_refused, step_made, kept_made, faults_made, back_made, load_fault, load_here, puts_here, rose_here, adds_prepared}
 use Rattle.fst_cache.proofs.cache.Cache.patch.Goals as goal
+use Rattle.fst_cache.proofs.MakeCounted.{counted_here, quiet_here}
+use Rattle.fst_cache.proofs.ResideShowing.{told, not_failed}
 
 pub returns-in-Some-clause-step : goal.returns-in-Some-clause-step
 returns-in-Some-clause-step g c = refused (inl (c.in-Some.ensures (numbers_of c.args.after.now) true))
@@ -125,3 +127,27 @@ returns-clause-back g c =
     let puts = puts_here i.resident i.seats.items c.deref_mut.result.now c.put.new.seats c.args.block.0 i.seats.len (drop (length c.put.new.seats) i.seats.items) c.deref_mut.ensures.value long _ c.in_default-put.ensures.put in
     let adds = adds_prepared c.room.new.self c.args.block.0 c.args.at (length c.args.bytes.now) (numbers_of c.args.after.now) c.in-Ok.made.0.0 c.in-Ok.made.1 c.add_data.new.self c.add_data.result (c.add_data.ensures.prepared c.in-Ok.made.0.0 c.in-Ok.made.1 (ap (λ (k : Known). k.prepared) c.in-Ok.ensures.prepared)) c.add_data.ensures.ok in
     rw (← c.self.view_is) (back_made i.size i.resident i.tickets i.made i.graph c.room.new.self _ c.in-Ok.ensures.prepared i.contents.items i.seats.items _ c.self.invariant c.args.share.now c.args.block.0 c.args.at c.args.bytes.now (numbers_of c.args.after.now) c.in-Ok.made.0.0 c.in-Ok.made.1 may puts c.add_data.new.self adds)
+
+pub returns-in-Err-put-clause-one_fault : goal.returns-in-Err-put-clause-one_fault
+returns-in-Err-put-clause-one_fault g c =
+    let i = c.self.inside in
+    let long : i.seats.len ≡ length c.put.new.seats = omega (arith, i.seats.ok.0, c.put.auto.seats, c.deref_mut.ensures.len) in
+    rw (← c.self.view_is) (counted_here i.seats.items c.deref_mut.result.now c.put.new.seats c.args.block.0 i.seats.len (drop (length c.put.new.seats) i.seats.items) c.deref_mut.ensures.value long c.put.ensures.one_fault)
+
+pub returns-in-Err-put-clause-no_fault : goal.returns-in-Err-put-clause-no_fault
+returns-in-Err-put-clause-no_fault g c =
+    let i = c.self.inside in
+    let long : i.seats.len ≡ length c.put.new.seats = omega (arith, i.seats.ok.0, c.put.auto.seats, c.deref_mut.ensures.len) in
+    rw (← c.self.view_is) (λ fine. quiet_here i.seats.items c.deref_mut.result.now c.put.new.seats c.args.block.0 i.seats.len (drop (length c.put.new.seats) i.seats.items) c.deref_mut.ensures.value long (c.in-Err-put.ensures.no_fault (λ d. fine (told c.in-Err-put.fault c.in-Err-put.fault refl d))))
+
+pub returns-clause-one_fault : goal.returns-clause-one_fault
+returns-clause-one_fault g c =
+    let i = c.self.inside in
+    let long : i.seats.len ≡ length c.put.new.seats = omega (arith, i.seats.ok.0, c.put.auto.seats, c.deref_mut.ensures.len) in
+    rw (← c.self.view_is) (inl (quiet_here i.seats.items c.deref_mut.result.now c.put.new.seats c.args.block.0 i.seats.len (drop (length c.put.new.seats) i.seats.items) c.deref_mut.ensures.value long (c.in_default-put.ensures.no_fault (λ e. not_failed e))))
+
+pub returns-clause-no_fault : goal.returns-clause-no_fault
+returns-clause-no_fault g c =
+    let i = c.self.inside in
+    let long : i.seats.len ≡ length c.put.new.seats = omega (arith, i.seats.ok.0, c.put.auto.seats, c.deref_mut.ensures.len) in
+    rw (← c.self.view_is) (λ _. quiet_here i.seats.items c.deref_mut.result.now c.put.new.seats c.args.block.0 i.seats.len (drop (length c.put.new.seats) i.seats.items) c.deref_mut.ensures.value long (c.in_default-put.ensures.no_fault (λ e. not_failed e)))

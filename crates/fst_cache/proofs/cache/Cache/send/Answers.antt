@@ -1,4 +1,4 @@
-use Rattle.std.proofs.Common.{◌≡◌, ◌∙◌, is_some, refl, ap, length}
+use Rattle.std.proofs.Common.{◌≡◌, ◌∙◌, is_some, refl, sym, ap, length}
 use Rattle.std.proofs.lemmas.List.{map-set}
 use Rattle.fst_types.specs.Bytes.{image_of}
 use Rattle.fst_types.specs.Writable.{IsWritableSet}
@@ -9,7 +9,7 @@ use Rattle.fst_cache.specs.Names.{numbers_of}
 use Rattle.fst_graph.specs.Known.{Launches}
 use Rattle.fst_cache.specs.Seats.{SeatView}
 use Rattle.fst_cache.specs.Kept.{state_of}
-use Rattle.fst_cache.proofs.Kept.{same_listed}
+use Rattle.fst_cache.proofs.Kept.{same_listed, listed}
 use Rattle.fst_cache.proofs.SendSet.{writable}
 use Rattle.fst_cache.proofs.SendBytes.{may_send, loaded_is, idle, chosen_here, folded_here, image_sized}
 use Rattle.fst_cache.proofs.SendState.{seat_is, sent_loaded, step_sent, kept_sent, state_sent}
@@ -98,3 +98,9 @@ returns-clause-back g c =
     let image : c.args.image.items ≡ image_of (state_of i.size i.resident i.tickets i.made i.graph i.contents.items i.seats.items) c.args.block.0 (numbers_of c.args.chosen.items) = rw (← c.self.view_is) at c.requires.image in
     let seat = seat_is (state_of i.size i.resident i.tickets i.made i.graph i.contents.items i.seats.items) i.graph i.seats.items c.args.block.0 c.index_mut-seat.result.now c.args.chosen.items S c.args.image.items image c.launch-2.new.self c.launch-2.ensures.seat in
     rw (← c.self.view_is, seat) (same_listed i.seats.items c.args.block.0 c.index_mut-seat.result.now S.at_b (λ (x : SeatView). x.back) _ refl)
+
+pub returns-clause-slot_faults : goal.returns-clause-slot_faults
+returns-clause-slot_faults g c =
+    let i = c.self.inside in
+    let S = may_send i.size i.resident i.tickets i.made i.graph i.contents.items i.seats.items c.args.self.now c.self.view_is c.self.invariant c.args.block.0 c.index_mut-seat.result.now c.args.chosen.items c.requires.clear c.requires.chosen c.index_mut-seat.ensures.value in
+    rw (← c.self.view_is) (c.launch-2.ensures.faults ∙ sym (listed i.seats.items c.args.block.0 c.index_mut-seat.result.now S.at_b (λ (t : SeatView). t.faults) 0))

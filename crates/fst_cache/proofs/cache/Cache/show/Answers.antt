@@ -10,11 +10,11 @@ use Rattle.fst_cache.specs.Kept.{state_of}
 use Rattle.fst_cache.proofs.Kept.{listed}
 use Rattle.fst_cache.proofs.ResideSeats.{at_rest, room_for}
 use Rattle.fst_cache.proofs.ResideLoading.{load_keeps, written_back, within_of}
-use Rattle.fst_cache.proofs.ResideShowing.{load_fault, step_not_loaded}
+use Rattle.fst_cache.proofs.ResideShowing.{load_fault, step_not_loaded, told, not_failed}
 use Rattle.fst_cache.proofs.cache.Cache.show.Goals as goal
 
 pub returns-in-Some : goal.returns-in-Some
-returns-in-Some g c = ((refl, (λ _. tt), (refl, refl, sym (set-get_or c.args.self.now.faults c.args.block.0 0), refused (inl c.in-Some.ensures))), record { after = tt })
+returns-in-Some g c = ((refl, (λ _. tt), (refl, refl, sym (set-get_or c.args.self.now.faults c.args.block.0 0), refused (inl c.in-Some.ensures), inl refl, (λ _. refl))), record { after = tt })
 
 pub load-requires-clause-rest : goal.load-requires-clause-rest
 load-requires-clause-rest g c =
@@ -70,7 +70,8 @@ returns g c =
     let back = written_back i.seats.len c.load.new.seats i.seats.items (omega (arith, c.load.auto.seats, c.deref_mut.ensures.len)) in
     let L = load_keeps s i.graph i.seats.items c.self.invariant refl c.args.block.0 c.load.new.seats (rw c.deref_mut.ensures.value at c.load.ensures.seats) in
     let clear : NoneHolds (order c.args.self.now.state (Show c.args.block.0 false)) = c.in_default.ensures in
-    rw (c.bytes.ensures, ← c.self.view_is, back, L.blocks) ((refl, (λ _. tt), (refl, L.back, L.faults, accepted (rw (← c.self.view_is) at clear) show)), record { after = tt })
+    let quiet = rw c.deref_mut.ensures.value at (c.in_ok-load.ensures.no_fault (λ e. not_failed e)) in
+    rw (c.bytes.ensures, ← c.self.view_is, back, L.blocks) ((refl, (λ _. tt), (refl, L.back, L.faults, accepted (rw (← c.self.view_is) at clear) show, inl quiet, (λ _. quiet))), record { after = tt })
 
 pub returns-in_err-load : goal.returns-in_err-load
 returns-in_err-load g c =
@@ -82,13 +83,15 @@ returns-in_err-load g c =
     let p = err_from_is_err_and c.from_residual.result c.from_residual.ensures.1 in
     let loads = rw c.deref_mut.ensures.value at c.load.ensures.away in
     let rose = rw c.deref_mut.ensures.value at c.load.ensures.device in
+    let counted = rw c.deref_mut.ensures.value at c.load.ensures.one_fault in
+    let quiet = rw c.deref_mut.ensures.value at c.load.ensures.no_fault in
     let was : c.load.result ≡ Err c.in_err-load.field-0.0 = c.in_err-load.was in
     let refused_by = load_fault c.load.result c.in_err-load.field-0.0 _ was c.load.ensures.kinds rose in
     rw (p.1, ← c.self.view_is, back, L.blocks) (
       (
         refl,
         (λ _. tt),
-        (refl, L.back, L.faults, step_not_loaded s i.graph i.seats.items c.self.invariant refl c.args.block.0 c.load.new.seats p.0 (rw (← c.self.view_is) at clear) (loads (subst IsErr (sym was) refl)) (rw p.2 refused_by)),
+        (refl, L.back, L.faults, step_not_loaded s i.graph i.seats.items c.self.invariant refl c.args.block.0 c.load.new.seats p.0 (rw (← c.self.view_is) at clear) (loads (subst IsErr (sym was) refl)) (rw p.2 refused_by), counted, (λ fine. quiet (λ d. fine (told p.0 _ p.2 (sym was ∙ d))))),
       ),
       record { after = tt },
     )

@@ -1,5 +1,7 @@
+use Rattle.std.proofs.Common.{◌∙◌}
 use Rattle.std.proofs.lemmas.Result.{on_ok_weaker, err_from_is_err_and}
-use Rattle.fst_cache.proofs.MakePut.{on_refusal, memory_kind, inside_of, newest_of, puts_of, same_load, read_at}
+use Rattle.fst_cache.proofs.MakePut.{on_refusal, memory_kind, inside_of, newest_of, puts_of, same_load, read_at, same_counts, counts_after}
+use Rattle.fst_cache.proofs.ResideShowing.{not_failed}
 use Rattle.fst_cache.proofs.cache.making.put.Goals as goal
 
 pub returns-in_err-load-clause-kinds : goal.returns-in_err-load-clause-kinds
@@ -28,3 +30,18 @@ returns-clause-refused g c =
 
 pub returns-clause-kinds : goal.returns-clause-kinds
 returns-clause-kinds g c = memory_kind c.apply.result c.apply.ensures.only_memory
+
+pub returns-in_err-load-clause-no_fault : goal.returns-in_err-load-clause-no_fault
+returns-in_err-load-clause-no_fault g c = let p = err_from_is_err_and c.from_residual.result c.from_residual.ensures.1 in rw (p.1, p.2) c.in_err-load.ensures.no_fault
+
+pub returns-clause-one_fault : goal.returns-clause-one_fault
+returns-clause-one_fault g c =
+    let r = read_at c.load.new.seats c.args.block.0 c.index-seats-block.result c.in_ok-load.ensures.there in
+    let same = same_counts c.args.resident c.args.seats.now c.load.new.seats c.args.block.0 _ r.0 c.apply.result _ c.apply.new.self r.1 c.apply.ensures.applied c.apply.ensures.unchanged in
+    counts_after _ _ _ c.args.block.0 same c.load.ensures.one_fault
+
+pub returns-clause-no_fault : goal.returns-clause-no_fault
+returns-clause-no_fault g c =
+    let r = read_at c.load.new.seats c.args.block.0 c.index-seats-block.result c.in_ok-load.ensures.there in
+    let same = same_counts c.args.resident c.args.seats.now c.load.new.seats c.args.block.0 _ r.0 c.apply.result _ c.apply.new.self r.1 c.apply.ensures.applied c.apply.ensures.unchanged in
+    λ _. same ∙ c.in_ok-load.ensures.no_fault (λ e. not_failed e)
