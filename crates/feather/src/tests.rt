@@ -3,6 +3,7 @@
 mod examples;
 mod hostile;
 mod limits;
+mod pages;
 mod refusals;
 mod rows;
 mod streams;
