@@ -12,3 +12,5 @@ pub mod LeftLemmas
 pub mod ZeroLemmas
 pub mod ScriptRuns
 pub mod CrashTold
+pub mod ProgramLemmas
+pub mod StatusLemmas

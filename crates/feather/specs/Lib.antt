@@ -15,3 +15,4 @@ pub mod Zeros
 pub mod Session
 pub mod Play
 pub mod Law
+pub mod Status

@@ -16,5 +16,10 @@ play_app =
     with_rule (with_rule (with_rule (new_app (codes "play")) (default_rule (codes "blocks") (codes "4"))) (default_rule (codes "size") (codes "4")))
     (number_rule (codes "resident"))
 
+abbrev pub crew_app : App
+crew_app =
+    with_rule (with_rule (with_rule (new_app (codes "crew")) (default_rule (codes "files") (codes "2"))) (default_rule (codes "workers") (codes "2")))
+    (default_rule (codes "rounds") (codes "10"))
+
 abbrev pub program : App
-program = with_subcommand (new_app (codes "feather")) play_app.top
+program = with_subcommand (with_subcommand (new_app (codes "feather")) play_app.top) crew_app.top

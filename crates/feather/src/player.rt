@@ -22,6 +22,7 @@ use crate::reply::send_refusal;
 use fst_cache::{Cache, Share};
 use fst_device::{Job, MemorySlot};
 use fst_types::{Fault, Shape};
+pub use open::zero_slots;
 use std::alloc::Global;
 use std::io::Write;
 use std::marker::Model;

@@ -20,8 +20,8 @@ fn zero_slot(alloc: Global, block: u32, size: u32) -> Result<MemorySlot, AllocEr
     Ok(MemorySlot::new(BlockNo(block), bytes))
 }
 
-// A slot of zero bytes for each block.
-fn zero_slots(alloc: Global, blocks: u32, size: u32) -> Result<Vec<MemorySlot>, AllocError>
+/// A slot of zero bytes for each block.
+pub fn zero_slots(alloc: Global, blocks: u32, size: u32) -> Result<Vec<MemorySlot>, AllocError>
     ensures { IfOk result (λ slots. slots.items ≡ map (zero_slot size) (range_with_len 0 blocks)) }
 {
     let mut slots = Vec::new(alloc);

@@ -15,4 +15,4 @@ returns-clause-taken c = refl
 
 pub returns-clause-asked : goal.returns-clause-asked
 unfolding clap_on_literals
-returns-clause-asked c = ((Some 4, (four, refl), refl), (Some 4, (four, refl), refl), (one, refl))
+returns-clause-asked c = (refl, ((Some 4, (four, refl), refl), (Some 4, (four, refl), refl), (one, refl)))

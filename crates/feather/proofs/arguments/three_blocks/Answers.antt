@@ -15,4 +15,4 @@ returns-clause-taken c = refl
 
 pub returns-clause-asked : goal.returns-clause-asked
 unfolding clap_on_literals
-returns-clause-asked c = ((Some 3, (three, refl), refl), (Some 4, (four, refl), refl), refl)
+returns-clause-asked c = (refl, ((Some 3, (three, refl), refl), (Some 4, (four, refl), refl), refl))
