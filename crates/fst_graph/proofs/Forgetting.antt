@@ -1,5 +1,5 @@
 -- What forgetting leaves of what the fields keep.
-use Rattle.std.proofs.Common.{◌≡◌, ℕ, zero, suc, ◌+◌, ◌==◌, ◌&&◌, Bool, true, false, not, cond, List, [], ◌∷◌, length, take, filter, count_by, Contains, refl, sym, ap, subst, ◌∙◌, inl, inr, arith}
+use Rattle.std.proofs.Common.{◌≡◌, ℕ, ◌+◌, ◌==◌, ◌&&◌, Bool, true, false, not, List, [], ◌∷◌, length, filter, count_by, Contains, refl, sym, ap, subst, ◌∙◌, inl, inr, arith}
 use Rattle.std.specs.List.{items_where_true}
 use Rattle.std.specs.List.Retain.{IsFiltered, ReturnsInTurn}
 use Rattle.std.proofs.lemmas.Bool.{cases_Bool, eqb-true, eq-eqb, false≢true}
@@ -7,7 +7,7 @@ use Rattle.std.proofs.lemmas.List.Sums.{length-filter}
 use Rattle.fst_types.specs.declared.place.Place.{Place}
 use Rattle.fst_types.specs.declared.place.Place.TheVariants as place
 use Rattle.fst_types.specs.Patches.{Patch}
-use Rattle.fst_types.specs.Dependencies.{DirectlyOn, IsLiveNumber}
+use Rattle.fst_types.specs.Dependencies.{IsLiveNumber}
 use Rattle.fst_types.specs.Tests.{is_at, is_live}
 use Rattle.fst_types.proofs.Finite.{In, In-from_Contains, Contains-from_In}
 use Rattle.fst_types.proofs.Dropping.{filter_in, heads_dropped}

@@ -1,14 +1,13 @@
 -- What calls that change places leave of what the fields keep.
-use Rattle.std.proofs.Common.{◌≡◌, ℕ, Bool, List, length, map, Contains, refl, sym, subst, ◌∙◌, arith}
+use Rattle.std.proofs.Common.{◌≡◌, ℕ, Bool, List, length, map, refl, sym, ◌∙◌, arith}
 use Rattle.fst_types.specs.Patches.{Patch}
-use Rattle.fst_types.specs.Dependencies.{DirectlyOn}
 use Rattle.fst_types.specs.Facts.{HeadsAreLawful}
 use Rattle.fst_types.specs.Gates.{IsOpenNumber}
 use Rattle.fst_types.specs.Gating.{sealed}
 use Rattle.fst_types.specs.Writing.{landed, launched}
 use Rattle.fst_types.specs.Writable.{IsWritable, IsWritableSet}
 use Rattle.fst_types.specs.Cascade.{IsCascadeOf}
-use Rattle.fst_types.proofs.Alike.{Alike, back_alike, direct_back, length_alike, on_back}
+use Rattle.fst_types.proofs.Alike.{Alike, back_alike, length_alike, on_back}
 use Rattle.fst_types.proofs.Landing.{alike_landed, heads_landed}
 use Rattle.fst_types.proofs.Sealing.{alike_sealed, heads_sealed}
 use Rattle.fst_types.proofs.Issuing.{alike_launched, heads_launched}

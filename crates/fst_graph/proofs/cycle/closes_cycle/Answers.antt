@@ -4,7 +4,7 @@ use Rattle.fst_types.specs.Dependencies.{DependsOn}
 use Rattle.fst_graph.specs.declared.head.Head.{Head}
 use Rattle.fst_graph.specs.Heads.{patches_of}
 use Rattle.fst_graph.specs.Known.{numbers_of}
-use Rattle.fst_graph.specs.Nodes.{node_of, nodes_of, patches_in}
+use Rattle.fst_graph.specs.Nodes.{node_of, nodes_of}
 use Rattle.fst_graph.proofs.AtNumber.{patches_in_nodes}
 use Rattle.fst_graph.proofs.PendingAt.{node_in}
 use Rattle.fst_graph.proofs.Searched.{none_above}

@@ -1,4 +1,4 @@
-use Rattle.std.proofs.Common.{◌≡◌, ◌∙◌, ℕ, arith}
+use Rattle.std.proofs.Common.{arith}
 use Rattle.fst_types.specs.declared.number.PatchNo.{PatchNo}
 use Rattle.fst_graph.proofs.Rows.{name_of}
 use Rattle.fst_graph.proofs.cycle.is_named.Goals as goal

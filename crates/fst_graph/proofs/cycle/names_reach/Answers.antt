@@ -1,4 +1,4 @@
-use Rattle.std.proofs.Common.{◌≡◌, ◌∙◌, ℕ, [], Contains, sym, subst}
+use Rattle.std.proofs.Common.{◌≡◌, ℕ, Contains, subst}
 use Rattle.fst_types.specs.Gates.{IsOpenNumber}
 use Rattle.fst_graph.specs.declared.pending.Pending.{Pending}
 use Rattle.fst_graph.specs.declared.pending.Pending.TheVariants as pending
