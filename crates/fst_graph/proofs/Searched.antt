@@ -1,5 +1,5 @@
 -- What the search for a cycle finds.
-use Rattle.std.proofs.Common.{◌≡◌, ◌↔◌, ◌<◌, ℕ, List, [], Contains, refl, sym, ap, subst, inl, inr, arith}
+use Rattle.std.proofs.Common.{◌≡◌, ◌⊎◌, ◌↔◌, ◌<◌, ℕ, List, [], Contains, refl, sym, ap, subst, inl, inr, arith}
 use Rattle.fst_types.specs.Closure.{Closure, one, join}
 use Rattle.fst_types.specs.Dependencies.{DependsOn}
 use Rattle.fst_types.specs.Gates.{IsOpenNumber}
@@ -9,6 +9,7 @@ use Rattle.fst_types.proofs.Finite.{In-from_Contains, last_step}
 use Rattle.fst_graph.specs.declared.pending.Pending.{Pending}
 use Rattle.fst_graph.specs.declared.pending.Pending.TheVariants as pending
 use Rattle.fst_graph.specs.Descending.{IsLedFrom, Visits}
+use Rattle.fst_graph.specs.Marks.{IsAbove}
 use Rattle.fst_graph.specs.Nodes.{Node, patches_in, times, AreLinked}
 use Rattle.fst_graph.specs.Searching.{AreHeldByGates, IsNextHeld}
 use Rattle.fst_graph.proofs.Placed.{node_of_patch}
@@ -48,6 +49,11 @@ module _ (patches : List Patch) (told : ℕ → Pending) (held : AreHeldByGates 
         | inl e ↦ inl (subst (Contains start) e (starts.each a.0 (a.1, subst (λ n. told n ≡ pending.Held) (sym e) ((held gate).1 (inl is_open)))))
         | inr d ↦ inr (a.0, starts.each a.0 (a.1, above_held a.0 d), goes_down a.0 gate d ((held gate).1 (inl is_open)) above_held)
       ])
+
+-- a name that is the gate, or depends on it
+pub named_held : (patches : List Patch) (gate n : ℕ) → IsOpenNumber patches gate → (n ≡ gate) ⊎ DependsOn patches n gate → IsAbove patches (IsOpenNumber patches) n
+named_held patches gate n is_open (inl e) = inl (subst (IsOpenNumber patches) (sym e) is_open)
+named_held patches gate n is_open (inr d) = inr (gate, d, is_open)
 
 -- where nothing directly depends on the gate, nothing depends on it
 pub none_above : (nodes : List Node) (x : Node) → Contains nodes x → AreLinked nodes → x.dependants ≡ [] → (n : ℕ) → DependsOn (patches_in nodes) n x.patch.number → ⊥

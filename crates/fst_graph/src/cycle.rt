@@ -1,6 +1,6 @@
 //! The search for a cycle: whether an open gate, or what depends on it, is among the names that the gate is to depend on.
 //! All on a way down to an open gate waits for one, so that the search looks at nothing else, at each such patch once, and
-//! at none where nothing depends on the gate.
+//! is left out where nothing depends on the gate, or no name waits for an open gate.
 
 ghost use Rattle.std.specs.Prelude.{◌≡◌, ◌≤◌, ◌↔◌, ℕ, [], length, Contains, IsTrue, vec_capacity};
 ghost use Rattle.fst_types.specs.Dependencies.{IsLiveNumber};
@@ -127,6 +127,19 @@ fn is_named(names: &[PatchNo], gate: u32) -> bool
     false
 }
 
+// Whether one of the names waits for an open gate.
+fn names_held(heads: &[Head], names: &[PatchNo]) -> bool
+    requires { IsRising heads.now }
+    ensures { IsTrue result ↔ ((n : ℕ) × Contains (numbers_of names.now) n × (pending_in (nodes_of heads.now) n ≡ pending.Held)) }
+{
+    for name in names {
+        if is_pending(pending_at(heads, name.0), Pending::Held) {
+            return true;
+        }
+    }
+    false
+}
+
 /// Whether one of the names is the open gate in the slot or depends on it. What was marked before does not matter.
 pub fn closes_cycle(
     heads: &[Head],
@@ -151,6 +164,9 @@ pub fn closes_cycle(
 {
     if heads[slot].dependants.as_slice().is_empty() {
         return is_named(names, gate);
+    }
+    if !names_held(heads, names) {
+        return false;
     }
     names_reach(heads, marks, queue, gate, names)
 }
