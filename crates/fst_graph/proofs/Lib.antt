@@ -60,11 +60,11 @@ pub mod Launches
 pub mod Slotted
 pub mod Popping
 pub mod Visiting
-pub mod Descended
-pub mod Crossing
 pub mod Holding
 pub mod Away
-pub mod Beneath
 pub mod Ascended
 pub mod Behind
 pub mod Flight
+pub mod ComesBack
+pub mod WalkingBack
+pub mod CrossingBack

@@ -16,3 +16,4 @@ pub mod Standings
 pub mod Spreading
 pub mod Descending
 pub mod Ascending
+pub mod WayBack

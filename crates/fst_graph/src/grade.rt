@@ -1,7 +1,7 @@
 //! The grade of a new change. A block is written only with all its hard changes, so a change is hard only where nothing
 //! that it depends on can come to wait for its block: no open gate, no change of another block that needs one of its
 //! block, and no block from which the block graph leads to its block. What is near the change mostly tells it; else the
-//! walk down does.
+//! walk up from the changes of its block does.
 
 ghost use Rattle.std.specs.Prelude.{◌≡◌, ◌≤◌, ◌<◌, [], length, map, vec_capacity};
 ghost use Rattle.fst_types.specs.Closure.{IsAcyclic};
@@ -12,14 +12,14 @@ ghost use Rattle.fst_graph.specs.Grading.{MayBeHard};
 ghost use Rattle.fst_graph.specs.Heads.{IsRising, patches_of};
 ghost use Rattle.fst_graph.specs.Keeps.{IsInside};
 ghost use Rattle.fst_graph.specs.Lists.{entries_of, AreListed};
-ghost use Rattle.fst_graph.specs.Nodes.{nodes_of, AreSettled};
+ghost use Rattle.fst_graph.specs.Nodes.{nodes_of, AreLinked, AreSettled};
 ghost use Rattle.fst_graph.specs.Standings.{AllStand};
 
-use crate::descent::is_held_back;
 use crate::head::Head;
 use crate::lists::Listed;
 use crate::shortcuts::{comes_back, rests_on_hard, waits_for_gate, waits_for_quiet_block};
 use crate::standing::Standing;
+use crate::way_back::is_held_back;
 use fst_types::Grade;
 
 /// The grade of a new change of the block that directly depends on the row. What was marked and reached before does not
@@ -42,6 +42,7 @@ pub fn grade_of(
     requires inside { IsInside (patches_of heads.now) (length reached.old) }
     requires block { block < length reached.old }
     requires disk { IsOnDiskWithAll (patches_of heads.now) }
+    requires linked { AreLinked (nodes_of heads.now) }
     requires hard { HardNeverHold (patches_of heads.now) }
     requires acyclic { IsAcyclic (DirectlyOn (patches_of heads.now)) }
     requires settled { AreSettled (nodes_of heads.now) (length standings.now) }

@@ -22,6 +22,7 @@ mod row;
 mod shortcuts;
 mod standing;
 mod test;
+mod way_back;
 
 pub use graph::Graph;
 

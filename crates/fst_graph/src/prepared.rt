@@ -12,7 +12,7 @@ ghost use Rattle.fst_graph.specs.Heads.{IsRising, patches_of};
 ghost use Rattle.fst_graph.specs.Keeps.{IsInside};
 ghost use Rattle.fst_graph.specs.Known.{numbers_of};
 ghost use Rattle.fst_graph.specs.Lists.{entries_of, AreListed};
-ghost use Rattle.fst_graph.specs.Nodes.{nodes_of, AreSettled};
+ghost use Rattle.fst_graph.specs.Nodes.{nodes_of, AreLinked, AreSettled};
 ghost use Rattle.fst_graph.specs.Rows.{IsDependency};
 ghost use Rattle.fst_graph.specs.Standings.{AllStand};
 
@@ -68,6 +68,7 @@ pub fn prepare(
     requires long { length marks.old ≡ length heads.now }
     requires room { length heads.now ≤ vec_capacity queue.old }
     requires idle { queue.old.items ≡ [] }
+    requires linked { AreLinked (nodes_of heads.now) }
     requires hard { HardNeverHold (patches_of heads.now) }
     requires acyclic { IsAcyclic (DirectlyOn (patches_of heads.now)) }
     requires inside { IsInside (patches_of heads.now) (length reached.old) }

@@ -40,19 +40,6 @@ pub fn passes_at(heads: &[Head], test: Test, number: u32) -> bool
     }
 }
 
-// Whether one of the row passes.
-pub fn names_passing(heads: &[Head], test: Test, row: &[u32]) -> bool
-    requires { IsRising heads.now }
-    ensures { IsTrue result ↔ ((n : ℕ) × Contains row.now n × PassesAt test (patches_of heads.now) n) }
-{
-    for number in row {
-        if passes_at(heads, test, *number) {
-            return true;
-        }
-    }
-    false
-}
-
 /// Whether an open gate is in the row or below it. A change with that row is soft.
 pub fn waits_for_gate(heads: &[Head], row: &[u32]) -> bool
     requires rising { IsRising heads.now }
@@ -65,7 +52,7 @@ pub fn waits_for_gate(heads: &[Head], row: &[u32]) -> bool
 }
 
 // Whether the patch is a hard change of the block in memory.
-fn is_hard_in(head: &Head, block: u32) -> bool
+pub fn is_hard_in(head: &Head, block: u32) -> bool
     ensures { result ≡ (is_change_at place.Memory block (patch_of head.now) && is_hard_kind (kind_of head.now.kind)) }
 {
     is_change_at(head, Place::Memory, block) && is_hard(head.kind)

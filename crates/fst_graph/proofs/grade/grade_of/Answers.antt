@@ -1,3 +1,5 @@
+use Rattle.std.proofs.Common.{◌∙◌, sym}
+use Rattle.std.proofs.lemmas.Bool.{false≢true}
 use Rattle.fst_types.specs.Facts.{HardNeverHold}
 use Rattle.fst_graph.specs.Heads.{patches_of}
 use Rattle.fst_graph.proofs.NearRow.{rests_may}
@@ -18,3 +20,6 @@ returns-then-waits_for_gate-clause-graded c may = elim c.then-waits_for_gate.bra
   | then-waits_for_gate-via-then-waits_for_gate w ↦ may.free (c.waits_for_gate.ensures.0 w.if-waits_for_gate.true)
   | then-waits_for_gate-via-else-waits_for_gate+then-comes_back w ↦ may.straight (w.comes_back.ensures w.if-comes_back.true)
 ]
+
+pub is_held_back-requires-clause-free : goal.is_held_back-requires-clause-free
+is_held_back-requires-clause-free c u = false≢true (sym c.if-waits_for_gate.false ∙ c.waits_for_gate.ensures.1 u)

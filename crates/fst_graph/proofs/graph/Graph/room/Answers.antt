@@ -63,6 +63,9 @@ prepare-requires-clause-hard c = rw c.deref-2.ensures.value c.self.invariant.0.l
 pub prepare-requires-clause-acyclic : goal.prepare-requires-clause-acyclic
 prepare-requires-clause-acyclic c = rw c.deref-2.ensures.value c.self.invariant.0.lawful.no_cycle
 
+pub prepare-requires-clause-linked : goal.prepare-requires-clause-linked
+prepare-requires-clause-linked c = rw c.deref-2.ensures.value c.self.invariant.4.linked
+
 pub prepare-requires-clause-listed : goal.prepare-requires-clause-listed
 prepare-requires-clause-listed c =
     let blocks : length c.deref_mut-2.result.now ≡ c.self.inside.blocks = ap length c.deref_mut-2.ensures.value ∙ c.self.invariant.3 in

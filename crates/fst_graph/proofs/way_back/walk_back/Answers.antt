@@ -1,20 +1,18 @@
 use Rattle.std.proofs.Common.{◌≡◌, ◌<◌, ◌∙◌, length, get_or, Contains, sym, subst, arith}
 use Rattle.std.proofs.lemmas.List.Elements.{Contains-get_or}
 use Rattle.fst_types.specs.Dependencies.{DirectlyOn, IsLiveNumber}
-use Rattle.fst_graph.specs.Descending.{Crosses, ShowsBlockOf, Visits}
+use Rattle.fst_graph.specs.declared.head.Head.{Head}
+use Rattle.fst_graph.specs.Descending.{Visits}
 use Rattle.fst_graph.specs.Heads.{patches_of}
 use Rattle.fst_graph.specs.Marks.{HasNone, HasSlot}
-use Rattle.fst_graph.proofs.Descended.{walking_more, walking_all}
-use Rattle.fst_graph.proofs.Slots.{any_default, direct_at, named_at, not_live_none}
+use Rattle.fst_graph.specs.WayBack.{Crosses, ShowsBlockOf}
+use Rattle.fst_graph.proofs.CrossingBack.{above_from, above_to}
+use Rattle.fst_graph.proofs.PendingAt.{node_in}
+use Rattle.fst_graph.proofs.Slots.{any_default, not_live_none}
 use Rattle.fst_graph.proofs.Visiting.{visited_fits, visits_same}
-use Rattle.fst_graph.proofs.descent.walk_down.Goals as goal
-use Rattle.fst_graph.proofs.descent.walk_down.Goals.{in-Some, in_default}
-
-pub cross-requires-clause-live : goal.cross-requires-clause-live
-cross-requires-clause-live c =
-    let queue = c.loop-at.queue.items in
-    let lt : c.loop-at.at < length queue = omega (arith, c.loop-at-test.true, c.len.ensures, c.loop-at.queue.ok.0) in
-    subst (IsLiveNumber (patches_of c.args.heads.now)) (sym (c.index-number.ensures ∙ any_default queue c.loop-at.at _ 0 lt)) (c.loop-at.invariant.visited.live (get_or queue c.loop-at.at 0) (Contains-get_or queue c.loop-at.at 0 lt))
+use Rattle.fst_graph.proofs.WalkingBack.{walking_more, walking_all}
+use Rattle.fst_graph.proofs.way_back.walk_back.Goals as goal
+use Rattle.fst_graph.proofs.way_back.walk_back.Goals.{in-Some, in_default}
 
 pub loop-at-smaller : goal.loop-at-smaller
 loop-at-smaller c =
@@ -34,18 +32,22 @@ loop-at-preserved c =
     elim c.match-slot_of.branch [
       | in-Some w ↦
           let slot = subst (λ m. HasSlot heads m w.in-Some.slot) same w.in-Some.ensures.found in
+          let d : Head = w.index-heads-slot.result in
+          let x : Head = get_or heads w.in-Some.slot d in
           let mid = w.visit_row.new.queue.items in
           let new = w.cross.new.queue.items in
-          let direct : Visits (λ q. DirectlyOn patches n q × IsLiveNumber patches q) queue mid =
-          visits_same _ (λ q. DirectlyOn patches n q × IsLiveNumber patches q) queue mid
-          (λ q k. (direct_at heads n q w.in-Some.slot _ slot (subst (λ row. Contains row q) w.as_slice.ensures k.0), k.1))
-          (λ q k. (subst (λ row. Contains row q) (sym w.as_slice.ensures) (named_at heads n q w.in-Some.slot _ c.requires.rising slot k.0), k.1))
+          let here = node_in heads w.in-Some.slot x slot.0 (any_default heads w.in-Some.slot d x slot.0) in
+          let number : x.number ≡ n = slot.1 d in
+          let above : Visits (λ q. DirectlyOn patches q n × IsLiveNumber patches q) queue mid =
+          visits_same _ (λ q. DirectlyOn patches q n × IsLiveNumber patches q) queue mid
+          (λ q k. (subst (DirectlyOn patches q) number (above_from heads c.requires.linked x here q (subst (λ row. Contains row q) w.as_slice.ensures k.0) k.1), k.1))
+          (λ q k. (subst (λ row. Contains row q) (sym w.as_slice.ensures) (above_to heads c.requires.linked x here q (subst (DirectlyOn patches q) (sym number) k.0)), k.1))
           w.visit_row.ensures.visits in
           let across = subst (λ m. Visits (Crosses patches now m) mid new) same w.cross.ensures.visits in
           let shown = subst (λ m. ShowsBlockOf patches m now w.cross.new.crossed) same w.cross.ensures.crossed in
           rw (w.marks-is, w.crossed-is, w.queue-is) record {
             visited = w.cross.ensures.visited;
-            walking = walking_more patches c.args.crossed.now c.args.queue.now.items at now w.cross.new.crossed queue mid new lt c.loop-at.invariant.walking direct across shown;
+            walking = walking_more patches c.args.crossed.now c.args.queue.now.items at now w.cross.new.crossed queue mid new lt c.loop-at.invariant.walking above across shown;
             capacity = w.cross.ensures.capacity ∙ (w.visit_row.ensures.capacity ∙ c.loop-at.invariant.capacity);
           }
       | in_default w ↦ absurd (not_live_none heads n (subst (HasNone heads) same w.in_default.ensures.none) (c.loop-at.invariant.visited.live n (Contains-get_or queue at 0 lt)))

@@ -1,8 +1,8 @@
 use Rattle.std.proofs.Common.{◌≡◌, ◌-◌, length, vec_capacity}
 use Rattle.fst_graph.specs.Descending.{Visited}
 use Rattle.fst_graph.specs.Heads.{patches_of}
-use Rattle.fst_graph.proofs.Descended.{Walking}
-use Rattle.fst_graph.proofs.descent.walk_down.Given as goal
+use Rattle.fst_graph.proofs.WalkingBack.{Walking}
+use Rattle.fst_graph.proofs.way_back.walk_back.Given as goal
 
 abbrev pub invariant-loop-at : goal.invariant-loop-at
 invariant-loop-at l = record {
