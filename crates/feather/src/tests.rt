@@ -1,5 +1,6 @@
 //! Whole scripts with each reply, whole runs, hostile lines, limits, and streams in pieces or failing.
 
+mod devices;
 mod examples;
 mod hostile;
 mod limits;

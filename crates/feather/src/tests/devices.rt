@@ -1,0 +1,362 @@
+//! Devices that fail, and crashes at any time: each write of a script fails once, before the bytes change and after, and
+//! the disk at the end is the same; and after each line, whichever writes are finished, a crash leaves what a plain list
+//! of the changes says.
+
+use crate::play::play;
+use crate::tests::{plays_to, shape_of};
+use std::alloc::{AllocError, Global};
+use std::process::Abort;
+use std::test::Fail;
+
+// A change of one byte of the disk.
+#[derive(Clone, Copy)]
+struct Change {
+    number: u32,
+    byte_at: usize,
+    byte: u8,
+}
+
+// What a line does to the list.
+#[derive(Clone, Copy)]
+enum Does {
+    Nothing,
+    // This change is made, of this byte of the disk.
+    Makes(u32, usize, u8),
+    // A write of the block goes out with these changes.
+    Sends(u32, &'static [u32]),
+    // The write that is out works.
+    Lands,
+}
+
+// A script, each line with its reply and what it does, and which change needs which other one.
+struct Script {
+    rows: &'static [(&'static str, &'static str, Does)],
+    needs: &'static [(u32, u32)],
+}
+
+const CYCLE_OF_BLOCKS: Script = Script {
+    rows: &[
+        (
+            r#"{"do":"patch","block":0,"at":0,"data":"41"}"#,
+            "patch 1 hard",
+            Does::Makes(1, 0, 0x41),
+        ),
+        (
+            r#"{"do":"patch","block":1,"at":0,"data":"42","after":[1]}"#,
+            "patch 2 hard",
+            Does::Makes(2, 4, 0x42),
+        ),
+        (
+            r#"{"do":"patch","block":0,"at":1,"data":"43","after":[2]}"#,
+            "patch 3 soft",
+            Does::Makes(3, 1, 0x43),
+        ),
+        (
+            r#"{"do":"write","block":0}"#,
+            "flight 1 block 0 patches 1 image 41000000",
+            Does::Sends(0, &[1]),
+        ),
+        (
+            r#"{"do":"show","block":0}"#,
+            "show 0 41430000",
+            Does::Nothing,
+        ),
+        (
+            r#"{"do":"stat"}"#,
+            "stat made 3 live 3 undo 1 flights 1",
+            Does::Nothing,
+        ),
+        (r#"{"do":"done","ticket":1}"#, "done 1 block 0", Does::Lands),
+    ],
+    needs: &[(2, 1), (3, 2), (3, 1)],
+};
+
+const CROSSWISE_HOLD: Script = Script {
+    rows: &[
+        (
+            r#"{"do":"patch","block":0,"at":0,"data":"41"}"#,
+            "patch 1 hard",
+            Does::Makes(1, 0, 0x41),
+        ),
+        (
+            r#"{"do":"patch","block":1,"at":0,"data":"42"}"#,
+            "patch 2 hard",
+            Does::Makes(2, 4, 0x42),
+        ),
+        (
+            r#"{"do":"patch","block":0,"at":1,"data":"43","after":[2]}"#,
+            "patch 3 hard",
+            Does::Makes(3, 1, 0x43),
+        ),
+        (
+            r#"{"do":"patch","block":1,"at":1,"data":"44","after":[1]}"#,
+            "patch 4 soft",
+            Does::Makes(4, 5, 0x44),
+        ),
+        (
+            r#"{"do":"write","block":0}"#,
+            "refused 11 held 3",
+            Does::Nothing,
+        ),
+        (
+            r#"{"do":"write","block":1}"#,
+            "flight 1 block 1 patches 2 image 42000000",
+            Does::Sends(1, &[2]),
+        ),
+        (r#"{"do":"done","ticket":1}"#, "done 1 block 1", Does::Lands),
+        (
+            r#"{"do":"write","block":0}"#,
+            "flight 2 block 0 patches 1,3 image 41430000",
+            Does::Sends(0, &[1, 3]),
+        ),
+        (r#"{"do":"done","ticket":2}"#, "done 2 block 0", Does::Lands),
+    ],
+    needs: &[(3, 2), (4, 1)],
+};
+
+const LANDING_ORDER_AGAINST_NUMBER_ORDER: Script = Script {
+    rows: &[
+        (r#"{"do":"gate"}"#, "gate 1", Does::Nothing),
+        (
+            r#"{"do":"patch","block":0,"at":0,"data":"41","after":[1]}"#,
+            "patch 2 soft",
+            Does::Makes(2, 0, 0x41),
+        ),
+        (
+            r#"{"do":"patch","block":0,"at":1,"data":"42"}"#,
+            "patch 3 hard",
+            Does::Makes(3, 1, 0x42),
+        ),
+        (
+            r#"{"do":"write","block":0}"#,
+            "flight 1 block 0 patches 3 image 00420000",
+            Does::Sends(0, &[3]),
+        ),
+        (r#"{"do":"done","ticket":1}"#, "done 1 block 0", Does::Lands),
+        (r#"{"do":"seal","gate":1}"#, "seal 1", Does::Nothing),
+        (
+            r#"{"do":"write","block":0}"#,
+            "flight 2 block 0 patches 2 image 41420000",
+            Does::Sends(0, &[2]),
+        ),
+        (r#"{"do":"done","ticket":2}"#, "done 2 block 0", Does::Lands),
+    ],
+    needs: &[],
+};
+
+const CASCADE_THROUGH_AN_EMPTY_PATCH: Script = Script {
+    rows: &[
+        (
+            r#"{"do":"patch","block":0,"at":0,"data":"41"}"#,
+            "patch 1 hard",
+            Does::Makes(1, 0, 0x41),
+        ),
+        (
+            r#"{"do":"patch","block":1,"at":0,"data":"42"}"#,
+            "patch 2 hard",
+            Does::Makes(2, 4, 0x42),
+        ),
+        (r#"{"do":"empty","after":[1,2]}"#, "empty 3", Does::Nothing),
+        (
+            r#"{"do":"patch","block":2,"at":0,"data":"43","after":[3]}"#,
+            "patch 4 hard",
+            Does::Makes(4, 8, 0x43),
+        ),
+        (
+            r#"{"do":"write","block":0}"#,
+            "flight 1 block 0 patches 1 image 41000000",
+            Does::Sends(0, &[1]),
+        ),
+        (r#"{"do":"done","ticket":1}"#, "done 1 block 0", Does::Lands),
+        (
+            r#"{"do":"write","block":1}"#,
+            "flight 2 block 1 patches 2 image 42000000",
+            Does::Sends(1, &[2]),
+        ),
+        (r#"{"do":"done","ticket":2}"#, "done 2 block 1", Does::Lands),
+        (
+            r#"{"do":"write","block":2}"#,
+            "flight 3 block 2 patches 4 image 43000000",
+            Does::Sends(2, &[4]),
+        ),
+        (r#"{"do":"done","ticket":3}"#, "done 3 block 2", Does::Lands),
+    ],
+    needs: &[(4, 1), (4, 2)],
+};
+
+const SCRIPTS: [Script; 4] = [
+    CYCLE_OF_BLOCKS,
+    CROSSWISE_HOLD,
+    LANDING_ORDER_AGAINST_NUMBER_ORDER,
+    CASCADE_THROUGH_AN_EMPTY_PATCH,
+];
+
+// The changes in the order of their numbers, the write that is out, and what has landed.
+#[derive(Drop)]
+struct Plain {
+    made: Vec<Change>,
+    out: Option<(u32, &'static [u32])>,
+    landed: Vec<u32>,
+}
+
+impl Plain {
+    fn new(alloc: Global) -> Plain {
+        Plain {
+            made: Vec::new(alloc),
+            out: None,
+            landed: Vec::new(alloc),
+        }
+    }
+
+    fn take(&mut self, does: Does) -> Result<(), AllocError> {
+        match does {
+            Does::Nothing => {}
+            Does::Makes(number, byte_at, byte) => self.made.push(Change {
+                number,
+                byte_at,
+                byte,
+            })?,
+            Does::Sends(block, numbers) => self.out = Some((block, numbers)),
+            Does::Lands => {
+                if let Some((_, numbers)) = self.out.take() {
+                    self.landed.extend_from_slice(numbers)?;
+                }
+            }
+        }
+        Ok(())
+    }
+
+    // Whether a crash leaves the change, the write that is out being finished or not.
+    fn leaves(&self, finished: bool, number: u32) -> bool {
+        if self.landed.contains(&number) {
+            return true;
+        }
+        match self.out {
+            None => false,
+            Some((_, numbers)) => finished && numbers.contains(&number),
+        }
+    }
+
+    // Whether with each change that is left all that it needs is.
+    fn is_closed(&self, finished: bool, needs: &[(u32, u32)]) -> bool {
+        for (later, earlier) in needs {
+            if self.leaves(finished, *later) && !self.leaves(finished, *earlier) {
+                return false;
+            }
+        }
+        true
+    }
+
+    // The reply that tells the changes that are left, one over the other.
+    fn told(&self, alloc: Global, finished: bool) -> Result<Vec<u8>, AllocError> {
+        let mut disk = [0u8; 16];
+        for change in &self.made {
+            if self.leaves(finished, change.number) && change.byte_at < 16 {
+                disk[change.byte_at] = change.byte;
+            }
+        }
+        let mut reply = Vec::from_slice(alloc, b"crash")?;
+        for block in 0..4usize {
+            reply.push(b' ')?;
+            let bytes = &disk[4 * block..4 * block + 4];
+            reply.extend_from_slice(hex::encode(alloc, bytes)?.as_bytes())?;
+        }
+        reply.push(b'\n')?;
+        Ok(reply)
+    }
+}
+
+fn add_line(text: &mut Vec<u8>, line: &str) -> Result<(), AllocError> {
+    text.extend_from_slice(line.as_bytes())?;
+    text.push(b'\n')?;
+    Ok(())
+}
+
+// The script with a crash after each line for each set of writes that may be finished, and the replies.
+fn crashes(rt: &impl Abort, alloc: Global, script: &Script) -> Result<(), Fail> {
+    let mut lines = Vec::new(alloc);
+    let mut replies = Vec::new(alloc);
+    let mut plain = Plain::new(alloc);
+    for (line, reply, does) in script.rows {
+        add_line(&mut lines, line)?;
+        add_line(&mut replies, reply)?;
+        plain.take(*does)?;
+        assert!(rt; plain.is_closed(false, script.needs), "after {line}");
+        add_line(&mut lines, r#"{"do":"crash","finish":[]}"#)?;
+        replies.extend_from_slice(&plain.told(alloc, false)?)?;
+        if let Some((block, _)) = plain.out {
+            assert!(rt; plain.is_closed(true, script.needs), "after {line}");
+            let crash = format!(in alloc; "{{\"do\":\"crash\",\"finish\":[{block}]}}")?;
+            add_line(&mut lines, &crash)?;
+            replies.extend_from_slice(&plain.told(alloc, true)?)?;
+        }
+    }
+    plays_to(rt, alloc, 4, &lines, &replies);
+    Ok(())
+}
+
+#[test]
+fn every_crash_leaves_a_closed_set(rt: HostRuntime) -> Result<(), Fail> {
+    for script in &SCRIPTS {
+        crashes(&rt, rt.alloc(), script)?;
+    }
+    Ok(())
+}
+
+// Plays the script with its nth write failing once, and being tried again: each ticket from there on is one more. The disk
+// at the end is that of all the changes that landed.
+fn fails_once(
+    rt: &impl Abort,
+    alloc: Global,
+    script: &Script,
+    nth: u32,
+    how: &str,
+) -> Result<(), Fail> {
+    let mut lines = Vec::new(alloc);
+    let mut plain = Plain::new(alloc);
+    let mut ticket = 0u32;
+    let mut landed = 0u32;
+    for (line, _, does) in script.rows {
+        match (does, plain.out) {
+            (Does::Lands, Some((block, _))) => {
+                ticket = ticket.saturating_add(1);
+                if landed == nth {
+                    let done = format!(in alloc;
+                        "{{\"do\":\"done\",\"ticket\":{ticket},\"fail\":\"{how}\"}}"
+                    )?;
+                    add_line(&mut lines, &done)?;
+                    let retry = format!(in alloc; "{{\"do\":\"retry\",\"block\":{block}}}")?;
+                    add_line(&mut lines, &retry)?;
+                    ticket = ticket.saturating_add(1);
+                }
+                let done = format!(in alloc; "{{\"do\":\"done\",\"ticket\":{ticket}}}")?;
+                add_line(&mut lines, &done)?;
+                landed = landed.saturating_add(1);
+            }
+            _ => add_line(&mut lines, line)?,
+        }
+        plain.take(*does)?;
+    }
+    assert!(rt; nth < landed);
+    add_line(&mut lines, r#"{"do":"crash","finish":[]}"#)?;
+    let want = plain.told(alloc, false)?;
+    let mut reader = lines.as_slice();
+    let mut writer = Vec::new(alloc);
+    assert!(rt; play(alloc, &mut reader, &mut writer, shape_of(rt, 4)).is_ok());
+    assert!(rt;
+        writer.ends_with(&want),
+        "write {nth} fails {how} the bytes change"
+    );
+    Ok(())
+}
+
+#[test]
+fn each_write_fails_once_and_is_tried_again(rt: HostRuntime) -> Result<(), Fail> {
+    for (script, writes) in SCRIPTS.iter().zip([1, 2, 2, 3]) {
+        for nth in 0..writes {
+            fails_once(&rt, rt.alloc(), script, nth, "before")?;
+            fails_once(&rt, rt.alloc(), script, nth, "after")?;
+        }
+    }
+    Ok(())
+}
