@@ -1,6 +1,8 @@
 //! Each public call once, and what no clause says of failures and strangers.
 ghost use Rattle.std.specs.Prelude.{◌≡◌, IfOk, length};
 
+mod limits;
+
 use crate::{Cache, Share, Stat};
 use fst_device::{Arm, Done, Job, MemorySlot, carry};
 use fst_types::{BlockNo, Fault, Grade, PatchNo, Place, Settled, Shape, Ticket, What};
