@@ -15,35 +15,6 @@ const SCRIPT: &[u8] =
 
 const REPLIES: &[u8] = b"refused 1\nrefused 2\nrefused 2\nrefused 1\nrefused 1\n";
 
-// Gives what it has but for the last bytes, then once an error, and then the rest, if anyone asks.
-#[derive(Drop)]
-struct FailsOnce<'a> {
-    rest: &'a [u8],
-    after: usize,
-    failed: bool,
-}
-
-impl Read for FailsOnce<'_> {
-    ghost remaining = { λ s. Some s.rest.now };
-
-    fn read(&mut self, buf: &mut [u8]) -> io::Result<usize> {
-        if self.after == 0 && !self.failed {
-            self.failed = true;
-            return Err(io::Error::from(io::ErrorKind::Other));
-        }
-        let Some((first, rest)) = self.rest.split_first() else {
-            return Ok(0);
-        };
-        if buf.is_empty() {
-            return Ok(0);
-        }
-        buf[0] = *first;
-        self.rest = rest;
-        self.after = self.after.saturating_sub(1);
-        Ok(1)
-    }
-}
-
 // How a writer without room answers.
 #[derive(Clone, Copy, PartialEq, Eq)]
 enum NoRoom {
@@ -244,42 +215,6 @@ fn cycle_of_blocks(alloc: Global) -> Result<(Vec<u8>, Vec<u8>), Fail> {
         replies.push(b'\n')?;
     }
     Ok((script, replies))
-}
-
-// The replies to the lines that end within so many bytes of the script.
-fn replies_within<'a>(script: &[u8], replies: &'a [u8], bytes: usize) -> &'a [u8] {
-    let mut lines = 0;
-    for byte in script.iter().take(bytes) {
-        if *byte == b'\n' {
-            lines += 1;
-        }
-    }
-    let mut end = 0;
-    while lines > 0 && end < replies.len() {
-        if replies[end] == b'\n' {
-            lines -= 1;
-        }
-        end += 1;
-    }
-    &replies[..end]
-}
-
-// After one error of the reader nothing more is read, and the lines whose end was read have their replies.
-#[test]
-fn reader_that_fails_once(rt: HostRuntime) -> Result<(), Fail> {
-    let (script, replies) = cycle_of_blocks(rt.alloc())?;
-    for after in 0..script.len() {
-        let mut reader = FailsOnce {
-            rest: &script,
-            after,
-            failed: false,
-        };
-        let mut writer = Vec::new(rt.alloc());
-        let played = play(rt.alloc(), &mut reader, &mut writer, shape_of(&rt, 4));
-        assert!(rt; matches!(played, Err(PlayFault::Read)));
-        assert_eq!(rt; writer.as_slice(), replies_within(&script, &replies, after));
-    }
-    Ok(())
 }
 
 // After one error of the writer, or a write of no byte, nothing more is written.
