@@ -1,0 +1,3 @@
+pub mod Sharing
+pub mod Buckets
+pub mod Indexing

@@ -1,0 +1,4 @@
+pub mod Contents
+pub mod Listings
+pub mod Shelves
+pub mod Indexed
