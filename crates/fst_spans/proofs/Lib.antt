@@ -1,3 +1,0 @@
-pub mod Sharing
-pub mod Buckets
-pub mod Indexing

@@ -1,4 +1,0 @@
-pub mod Contents
-pub mod Listings
-pub mod Shelves
-pub mod Indexed
