@@ -45,7 +45,7 @@ leaves_at old new b v size made bs = record {
 }
 
 -- what is out stays so where the block's flight does
-still_out : (old new : State) (t b : ℕ) (image : List ℕ) → flight_of new b ≡ flight_of old b → IsOut old t b image → IsOut new t b image
+pub still_out : (old new : State) (t b : ℕ) (image : List ℕ) → flight_of new b ≡ flight_of old b → IsOut old t b image → IsOut new t b image
 still_out old new t b image same out = record { failed = out.failed; few = out.few; flight = same ∙ out.flight }
 
 -- no job is of a block whose write is not out
@@ -231,7 +231,7 @@ change_kept shape share old new jobs made a after faulted number grade K (accept
     fits x y never = elim (cases_lt y x) [ inl lt ↦ absurd (never lt) | inr le ↦ le ]
 
 -- what is kept stays so where the blocks do
-kept_blocks : (shape : Shape) (share count : ℕ) (old new : State) (jobs : List (JobView MemoryView)) (made : List Accepted)
+pub kept_blocks : (shape : Shape) (share count : ℕ) (old new : State) (jobs : List (JobView MemoryView)) (made : List Accepted)
     → IsKept shape share old jobs made → count ≡ new.made → new.size ≡ old.size → new.blocks ≡ old.blocks → IsKept shape count new jobs made
 kept_blocks shape share count old new jobs made K counted size blocks = record {
   counted = counted;

@@ -6,6 +6,7 @@ pub mod RunLemmas
 pub mod SessionLemmas
 pub mod AnswerLemmas
 pub mod KeptLemmas
+mod GroupLemmas
 pub mod TellLemmas
 pub mod JobLemmas
 pub mod LeftLemmas

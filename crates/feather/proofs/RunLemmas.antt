@@ -1,6 +1,10 @@
 -- Runs, one after another.
-use Rattle.std.proofs.Common.{ℕ, List, [], ◌∷◌, ◌++◌, refl, sym, ap, ◌∙◌, subst, append_assoc, inl}
-use Rattle.feather.specs.Script.{PlayerState, Answers, IsScriptRun}
+use Rattle.std.proofs.Common.{ℕ, List, [], ◌∷◌, ◌++◌, Result, length, refl, sym, ap, ◌∙◌, subst, append_assoc, inl, inr}
+use Rattle.std.proofs.lemmas.Bool.{cases_lt}
+use Rattle.fst_types.specs.declared.fault.Fault.{Fault}
+use Rattle.feather.specs.Script.{PlayerState, Replies, Answers, IsScriptRun}
+use Rattle.feather.specs.Commands.{Command, max_line}
+use Rattle.feather.proofs.CommandLemmas.{command_of-long}
 use Rattle.feather.specs.Replies.{refusal}
 use Rattle.fst_types.specs.declared.fault.Fault.TheVariants as fault
 
@@ -14,9 +18,18 @@ Run-append a b c (l ∷ ls) ms s t p q =
 pub Run-one : (old : PlayerState) (line reply : List ℕ) (new : PlayerState) → Answers old line reply new → IsScriptRun old (line ∷ []) (reply ++ 10 ∷ []) new
 Run-one old line reply new h = (reply, new, [], h, (refl, refl), refl)
 
--- a run can always go on, since memory may be refused
+-- to each line some reply may come: that it is too long, or that memory is refused
+some_reply : (old : PlayerState) (line : List ℕ) → (reply : List ℕ) × Answers old line reply old
+some_reply old line =
+    elim (cases_lt max_line (length line)) [
+      | inl long ↦ (refusal fault.BadLine, inl (long, subst (λ (x : Result Command Fault). Replies old x (refusal fault.BadLine) old) (sym (command_of-long line long)) (refl, refl)))
+      | inr short ↦ (refusal fault.Memory, inr (short, inl (refl, refl)))
+    ]
+
+-- a run can always go on
 pub Run-total : (old : PlayerState) (ls : List (List ℕ)) → (sent : List ℕ) × (new : PlayerState) × IsScriptRun old ls sent new
 Run-total old [] = ([], old, (refl, refl))
 Run-total old (l ∷ ls) =
     let rest = Run-total old ls in
-    (refusal fault.Memory ++ 10 ∷ rest.0, rest.1, (refusal fault.Memory, old, rest.0, inl (refl, refl), rest.2, refl))
+    let first = some_reply old l in
+    (first.0 ++ 10 ∷ rest.0, rest.1, (first.0, old, rest.0, first.1, rest.2, refl))

@@ -5,7 +5,7 @@ use Rattle.fst_types.specs.State.{State}
 use Rattle.fst_types.specs.Run.{Call, Run, start, more, changes_in, made_after}
 use Rattle.fst_types.proofs.LandingOrder.{changes_more}
 use Rattle.feather.specs.Commands.{Command, command_of}
-use Rattle.feather.specs.Script.{PlayerState, opened, Obeys, called, stranger, crashed, not_crashed, Replies, MayReply, IsScriptRun}
+use Rattle.feather.specs.Script.{PlayerState, opened, Obeys, called, stranger, crashed, not_crashed, Replies, MayReply, Answers, IsScriptRun}
 use Rattle.feather.specs.Law.{ScriptIsRun}
 
 -- the player's cache came from `first` by calls whose changes the player keeps
@@ -28,9 +28,12 @@ replies_on first old (Err f) reply new h came = same_on first old new h.1 came
 may_on : (first : State) (old : PlayerState) (asked : Result Command Fault) (reply : List ℕ) (new : PlayerState) → MayReply old asked reply new → Came first old → Came first new
 may_on first old asked reply new h came = elim h [ inl r ↦ same_on first old new r.1 came | inr r ↦ replies_on first old asked reply new r came ]
 
+answers_on : (first : State) (old : PlayerState) (line reply : List ℕ) (new : PlayerState) → Answers old line reply new → Came first old → Came first new
+answers_on first old line reply new h came = elim h [ inl r ↦ replies_on first old (command_of line) reply new r.1 came | inr r ↦ may_on first old (command_of line) reply new r.1 came ]
+
 script_on : (first : State) (old : PlayerState) (lines : List (List ℕ)) (sent : List ℕ) (new : PlayerState) → IsScriptRun old lines sent new → Came first old → Came first new
 script_on first old [] sent new h came = same_on first old new h.1 came
-script_on first old (l ∷ ls) sent new h came = script_on first h.1 ls h.2 new h.4 (may_on first old (command_of l) h.0 h.1 h.3 came)
+script_on first old (l ∷ ls) sent new h came = script_on first h.1 ls h.2 new h.4 (answers_on first old l h.0 h.1 h.3 came)
 
 pub script_is_run : ScriptIsRun
 script_is_run shape lines sent p h = script_on (opened shape).cache (opened shape) lines sent p h ([], start, refl)

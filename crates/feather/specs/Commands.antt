@@ -26,6 +26,10 @@ pub data Command : Type 0 where
   forget : Command
   stat : Command
   crash : (finish : List ℕ) → Command
+  group_new : Command
+  group_after : (group on : ℕ) → Command
+  group_patch : (group block at : ℕ) (bytes : List ℕ) → Command
+  group_close : (group : ℕ) → Command
 
 -- the greatest length of a line, without its end
 abbrev pub max_line : ℕ
@@ -75,7 +79,35 @@ only_number_in name d = if has_only (codes "do" ∷ name ∷ []) d then number_a
 abbrev pub alone_in : Command → Data → Option Command
 alone_in command d = if has_only (codes "do" ∷ []) d then Some command else None
 
--- the commands on blocks
+abbrev pub group_after_in : Data → Option Command
+group_after_in d =
+    if has_only (codes "do" ∷ codes "group" ∷ codes "on" ∷ []) d then
+    option_and_then (λ group. option_map (group_after group) (number_at (codes "on") d)) (number_at (codes "group") d)
+    else None
+
+abbrev pub group_patch_in : Data → Option Command
+group_patch_in d =
+    if has_only (codes "do" ∷ codes "group" ∷ codes "block" ∷ codes "at" ∷ codes "data" ∷ []) d then
+    option_and_then (λ group.
+    option_and_then (λ block.
+    option_and_then (λ at.
+    option_map (group_patch group block at)
+    (bytes_at (codes "data") d))
+    (number_at (codes "at") d))
+    (number_at (codes "block") d))
+    (number_at (codes "group") d)
+    else None
+
+-- the commands on groups
+abbrev pub group_command_named : List ℕ → Data → Option Command
+group_command_named name d =
+    if bytes_eq name (codes "group") then alone_in group_new d
+    else if bytes_eq name (codes "group_after") then group_after_in d
+    else if bytes_eq name (codes "group_patch") then group_patch_in d
+    else if bytes_eq name (codes "group_close") then option_map group_close (only_number_in (codes "group") d)
+    else None
+
+-- the commands on blocks, and those
 abbrev pub block_command_named : List ℕ → Data → Option Command
 block_command_named name d =
     if bytes_eq name (codes "choose") then option_map choose (only_number_in (codes "block") d)
@@ -86,7 +118,7 @@ block_command_named name d =
     else if bytes_eq name (codes "evict") then option_map evict (only_number_in (codes "block") d)
     else if bytes_eq name (codes "show") then option_map show (only_number_in (codes "block") d)
     else if bytes_eq name (codes "crash") then crash_in d
-    else None
+    else group_command_named name d
 
 -- the commands on patches, and those
 abbrev pub command_named : List ℕ → Data → Option Command

@@ -8,4 +8,4 @@ use Rattle.feather.specs.declared.line.Line.TheVariants.{Kept, Long, Refused}
 abbrev pub Holds : Line → List ℕ → Type 0
 Holds (Kept bytes) text = (bytes.items ≡ text) × (length text ≤ max_line)
 Holds Long text = max_line < length text
-Holds Refused text = 0 < length text
+Holds (Refused bytes) text = (bytes ≡ length text) × (0 < length text) × (length text ≤ max_line)

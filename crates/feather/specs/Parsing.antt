@@ -4,7 +4,7 @@ use Rattle.fst_types.specs.declared.number.BlockNo.{BlockNo}
 use Rattle.fst_types.specs.declared.number.PatchNo.{PatchNo}
 use Rattle.fst_types.specs.declared.fault.Fault.{Fault}
 use Rattle.fst_types.specs.declared.fault.Fault.TheVariants as fault
-use Rattle.feather.specs.Commands.{Command, patch, empty, gate, depend, seal, choose, pick, write, done, retry, evict, show, place, forget, stat, crash}
+use Rattle.feather.specs.Commands.{Command, patch, empty, gate, depend, seal, choose, pick, write, done, retry, evict, show, place, forget, stat, crash, group_new, group_after, group_patch, group_close}
 use Rattle.feather.specs.declared.command.Command.{Command as Parsed}
 use Rattle.feather.specs.declared.command.Command.TheVariants as parsed
 
@@ -31,6 +31,10 @@ command (parsed.Place number) = place number.0
 command parsed.Forget = forget
 command parsed.Stat = stat
 command (parsed.Crash finish) = crash (block_numbers finish.items)
+command parsed.GroupNew = group_new
+command (parsed.GroupAfter group on) = group_after group.0 on.0
+command (parsed.GroupPatch group block at bytes) = group_patch group.0 block.0 at bytes.items
+command (parsed.GroupClose group) = group_close group.0
 
 -- memory was refused, or what was asked for is not there
 abbrev pub Refuses : {Y : Type 0} → Fault → Option Y → Type 0

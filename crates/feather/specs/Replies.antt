@@ -50,6 +50,15 @@ depend_text number = codes "depend " ++ decimal number
 abbrev pub seal_text : ℕ → List ℕ
 seal_text number = codes "seal " ++ decimal number
 
+abbrev pub group_text : ℕ → List ℕ
+group_text number = codes "group " ++ decimal number
+
+abbrev pub group_after_text : ℕ → List ℕ
+group_after_text number = codes "group_after " ++ decimal number
+
+abbrev pub group_close_text : ℕ → List ℕ
+group_close_text number = codes "group_close " ++ decimal number
+
 abbrev pub chosen_text : ℕ → List ℕ → List ℕ
 chosen_text block [] = codes "chosen " ++ decimal block ++ codes " none"
 chosen_text block (p ∷ ps) = codes "chosen " ++ decimal block ++ codes " patches " ++ commas (p ∷ ps)

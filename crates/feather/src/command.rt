@@ -3,7 +3,7 @@
 ghost use Rattle.std.specs.Prelude.{◌≡◌, codes, Option, option_map, Some};
 ghost use Rattle.serde_json.specs.Find.{as_object};
 ghost use Rattle.serde_json.specs.View.{view, members_view};
-ghost use Rattle.feather.specs.Commands.{patch_in, empty_in, depend_in, done_in, crash_in, only_number_in, alone_in, block_command_named, command_named, command_in, command_of};
+ghost use Rattle.feather.specs.Commands.{patch_in, empty_in, depend_in, done_in, crash_in, only_number_in, alone_in, group_after_in, group_patch_in, group_command_named, block_command_named, command_named, command_in, command_of};
 ghost use Rattle.feather.specs.Parsing.{command, Gives, Parses};
 
 use crate::failure::Failure;
@@ -11,7 +11,7 @@ use crate::members::{
     blocks_if_any, bytes_at, failure_if_any, has_only, long_at, number_at, patches_at,
     patches_if_any,
 };
-use fst_types::{BlockNo, Fault, PatchNo, Ticket};
+use fst_types::{BlockNo, Fault, GroupNo, PatchNo, Ticket};
 use serde_json::{Map, Value};
 use std::alloc::Global;
 
@@ -65,6 +65,20 @@ pub enum Command {
     Stat,
     Crash {
         finish: Vec<BlockNo>,
+    },
+    GroupNew,
+    GroupAfter {
+        group: GroupNo,
+        on: GroupNo,
+    },
+    GroupPatch {
+        group: GroupNo,
+        block: BlockNo,
+        at: u32,
+        data: Vec<u8>,
+    },
+    GroupClose {
+        group: GroupNo,
     },
 }
 
@@ -133,6 +147,37 @@ fn crash(alloc: Global, value: &Value, members: &Map<String, Value>) -> Result<C
     Ok(Command::Crash { finish })
 }
 
+fn group_after(value: &Value, members: &Map<String, Value>) -> Result<Command, Fault>
+    requires { as_object (view value.now) ≡ Some (members_view members.now.entries) }
+    ensures { Gives command result (group_after_in (view value.now)) }
+{
+    if !has_only(&["do", "group", "on"], members) {
+        return Err(Fault::BadField);
+    }
+    let group = GroupNo(number_at(value, "group")?);
+    let on = GroupNo(number_at(value, "on")?);
+    Ok(Command::GroupAfter { group, on })
+}
+
+fn group_patch(alloc: Global, value: &Value, members: &Map<String, Value>) -> Result<Command, Fault>
+    requires { as_object (view value.now) ≡ Some (members_view members.now.entries) }
+    ensures { Gives command result (group_patch_in (view value.now)) }
+{
+    if !has_only(&["do", "group", "block", "at", "data"], members) {
+        return Err(Fault::BadField);
+    }
+    let group = GroupNo(number_at(value, "group")?);
+    let block = BlockNo(number_at(value, "block")?);
+    let at = number_at(value, "at")?;
+    let data = bytes_at(alloc, value, "data")?;
+    Ok(Command::GroupPatch {
+        group,
+        block,
+        at,
+        data,
+    })
+}
+
 // The number of a command that has no other member.
 fn only_number(value: &Value, members: &Map<String, Value>, name: &str) -> Result<u32, Fault>
     requires { as_object (view value.now) ≡ Some (members_view members.now.entries) }
@@ -171,7 +216,28 @@ fn alone(asked: Command, value: &Value, members: &Map<String, Value>) -> Result<
     Ok(asked)
 }
 
-// A command on blocks.
+// A command on groups.
+fn group_command_named(
+    alloc: Global,
+    name: &str,
+    value: &Value,
+    members: &Map<String, Value>,
+) -> Result<Command, Fault>
+    requires { as_object (view value.now) ≡ Some (members_view members.now.entries) }
+    ensures { Gives command result (group_command_named name.now (view value.now)) }
+{
+    match name {
+        "group" => alone(Command::GroupNew, value, members),
+        "group_after" => group_after(value, members),
+        "group_patch" => group_patch(alloc, value, members),
+        "group_close" => Ok(Command::GroupClose {
+            group: GroupNo(only_number(value, members, "group")?),
+        }),
+        _ => Err(Fault::BadField),
+    }
+}
+
+// A command on blocks, or one on groups.
 fn block_command_named(
     alloc: Global,
     name: &str,
@@ -200,7 +266,7 @@ fn block_command_named(
             block: only_block(value, members)?,
         }),
         "crash" => crash(alloc, value, members),
-        _ => Err(Fault::BadField),
+        _ => group_command_named(alloc, name, value, members),
     }
 }
 

@@ -5,5 +5,6 @@
 pub enum Line {
     Kept(Vec<u8>),
     Long,
-    Refused,
+    /// Memory was refused. It has so many bytes so far, and is not too long yet.
+    Refused(usize),
 }

@@ -22,8 +22,9 @@ pub enum PlayFault {
     Start(Fault),
 }
 
-/// Plays all that the reader gives to the writer, over zero blocks: one reply a line, and nothing else. A line is at most 65,536 bytes long; the reader and the writer are called at most
-/// 18,446,744,073,709,551,615 times each. Memory is taken for the player, for the line that is read, and for what it
+/// Plays all that the reader gives to the writer, over zero blocks: one reply a line, and nothing else. A line is at most
+/// 65,536 bytes long: one that is longer is refused as that, and takes no memory. The reader and the writer are called at
+/// most 18,446,744,073,709,551,615 times each. Memory is taken for the player, for the line that is read, and for what it
 /// asks; a line for which memory is refused is answered so, and the play goes on.
 pub fn play<R: Read, W: Write>(
     alloc: Global,

@@ -5,6 +5,7 @@ mod buffer;
 mod crash;
 mod done;
 mod gate;
+mod group;
 mod heads;
 mod open;
 mod patch;
@@ -80,6 +81,15 @@ impl Player {
             Command::Forget => self.forget(writer, calls),
             Command::Stat => self.stat(writer, calls),
             Command::Crash { finish } => self.crash(writer, calls, &finish),
+            Command::GroupNew => self.group_new(writer, calls),
+            Command::GroupAfter { group, on } => self.group_after(writer, calls, group, on),
+            Command::GroupPatch {
+                group,
+                block,
+                at,
+                data,
+            } => self.group_patch(writer, calls, group, block, at, data),
+            Command::GroupClose { group } => self.group_close(writer, calls, group),
         }
     }
 
@@ -99,7 +109,7 @@ impl Player {
                 Err(fault) => send_refusal(writer, calls, fault),
             },
             Line::Long => send_refusal(writer, calls, Fault::BadLine),
-            Line::Refused => send_refusal(writer, calls, Fault::Memory),
+            Line::Refused(_) => send_refusal(writer, calls, Fault::Memory),
         }
     }
 }

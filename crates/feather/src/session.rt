@@ -45,18 +45,27 @@ impl Session {
         self.player.answer(alloc, writer, calls, &line)
     }
 
-    // Keeps one more byte of the line, if it is not too long.
+    // Keeps one more byte of the line, if it is not too long and there is memory for it.
     fn keep(&mut self, byte: u8)
         ensures held { (text : List ℕ) → Holds self.old.line text
             → Holds self.new.line (text ++ byte ∷ []) }
         ensures kept { self.new.player ≡ self.old.player }
     {
-        if let Line::Kept(bytes) = &mut self.line {
-            if bytes.len() >= MAX_LINE {
-                self.line = Line::Long;
-            } else if bytes.push(byte).is_err() {
-                self.line = Line::Refused;
-            }
+        let so_far = match &self.line {
+            Line::Kept(bytes) => bytes.len(),
+            Line::Refused(bytes) => *bytes,
+            Line::Long => return,
+        };
+        if so_far >= MAX_LINE {
+            self.line = Line::Long;
+            return;
+        }
+        let is_kept = match &mut self.line {
+            Line::Kept(bytes) => bytes.push(byte).is_ok(),
+            Line::Refused(_) | Line::Long => false,
+        };
+        if !is_kept {
+            self.line = Line::Refused(so_far + 1);
         }
     }
 
@@ -101,7 +110,7 @@ impl Session {
     {
         match &self.line {
             Line::Kept(bytes) => !bytes.is_empty(),
-            Line::Long | Line::Refused => true,
+            Line::Long | Line::Refused(_) => true,
         }
     }
 

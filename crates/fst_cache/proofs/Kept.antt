@@ -25,6 +25,7 @@ moved s t j seat same k = record {
   place = k.place;
   loaded = λ l e. k.loaded l e ∙ sym (view_same s t j same);
   dirty = λ d. k.dirty (same.dirty d);
+  home = k.home;
   patches = λ f e. k.patches f e ∙ sym same.flying;
 }
   where

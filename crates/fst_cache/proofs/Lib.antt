@@ -1,4 +1,10 @@
+pub mod GroupJoining
+pub mod GroupMember
+pub mod GroupSame
+pub mod GroupStep
+pub mod GroupWhole
 pub mod Kept
+pub mod MakeBeside
 pub mod MakeChanged
 pub mod MakeCounted
 pub mod MakePut

@@ -1,5 +1,5 @@
 -- What a new change makes of the changes of each block.
-use Rattle.std.proofs.Common.{◌≡◌, ◌≢◌, ◌+◌, ℕ, Bool, true, false, List, [], ◌∷◌, ◌++◌, map, filter, length, refl, ap, inl, inr, arith}
+use Rattle.std.proofs.Common.{◌≡◌, ◌≢◌, ◌+◌, ℕ, Bool, true, false, List, [], ◌∷◌, ◌++◌, map, filter, Contains, length, Some, ◌≤◌, refl, sym, ap, ◌∙◌, inl, inr, arith}
 use Rattle.std.specs.Prelude.{◌==◌, ◌&&◌}
 use Rattle.std.specs.List.{list_any}
 use Rattle.std.proofs.lemmas.Bool.{cases_Bool}
@@ -14,8 +14,9 @@ use Rattle.fst_types.proofs.Finite.{In, Contains-from_In}
 use Rattle.fst_types.proofs.Writes.{filter_pushed}
 use Rattle.fst_types.proofs.Images.{content_more}
 use Rattle.fst_types.proofs.Fits.{content_end}
-use Rattle.fst_block.specs.BlockView.{BlockPatch}
-use Rattle.fst_cache.specs.Kept.{IsSameAt, block_patch, block_patches, in_flight, span_of}
+use Rattle.fst_block.specs.BlockView.{BlockPatch, BlockView}
+use Rattle.fst_cache.specs.Seats.{SeatView}
+use Rattle.fst_cache.specs.Kept.{IsKeptSeat, IsSameAt, block_patch, block_patches, block_view, in_flight, span_of}
 
 -- a patch that passes comes at the end
 filter_last : (t : Patch → Bool) (xs : List Patch) (p : Patch) → t p ≡ true → filter t (xs ++ p ∷ []) ≡ filter t xs ++ p ∷ []
@@ -48,8 +49,16 @@ differ b j h = grind (arith, h)
 same_block : (b : ℕ) → (b == b) ≡ true
 same_block b = grind arith
 
+-- patches and bytes stand under numbers that were given
+pub record IsNumbered (s : State) : Type 0 where
+  pub heads : (p : Patch) → Contains s.heads p → p.number ≤ s.numbers
+  pub contents : (e : ℕ × List ℕ) → Contains s.contents e → e.0 ≤ s.numbers
+
+pub numbered : (s : State) → IsLawful s → IsNumbered s
+numbered s law = record { heads = λ p h. (law.heads.one_place_each.numbered p h).1; contents = law.changes_fit.given }
+
 -- the changed block has one patch more, and every other is the same
-module _ (s t : State) (law : IsLawful s) (b at number : ℕ) (bytes dependencies : List ℕ) (grade : Grade) (next : number ≡ s.numbers + 1)
+module _ (s t : State) (given : IsNumbered s) (b at number : ℕ) (bytes dependencies : List ℕ) (grade : Grade) (next : number ≡ s.numbers + 1)
     (heads : t.heads ≡ s.heads ++ fresh number (Change b at (length bytes) grade) dependencies ∷ []) (contents : t.contents ≡ s.contents ++ (number, bytes) ∷ []) (blocks : t.blocks ≡ s.blocks) where
   abbrev p : Patch
   p = fresh number (Change b at (length bytes) grade) dependencies
@@ -59,14 +68,14 @@ module _ (s t : State) (law : IsLawful s) (b at number : ℕ) (bytes dependencie
 
   older : (x : Patch) → In s.heads x → block_patch (s.contents ++ (number, bytes) ∷ []) x ≡ block_patch s.contents x
   older x h =
-      let k = (law.heads.one_place_each.numbered x (Contains-from_In s.heads x h)).1 in
+      let k = given.heads x (Contains-from_In s.heads x h) in
       let other : number ≢ x.number = λ e. omega (arith, k, e, next) in
       ap (λ (bs : List ℕ). record (block_patch s.contents x) { bytes = bs }) (content_more s.contents number x.number bytes other)
 
   newest : block_patch (s.contents ++ (number, bytes) ∷ []) p ≡ put
   newest =
       ap (λ (bs : List ℕ). record put { bytes = bs })
-      (content_end s.contents number bytes (λ e h same. let k = law.changes_fit.given e (Contains-from_In s.contents e h) in omega (arith, k, same, next)))
+      (content_end s.contents number bytes (λ e h same. let k = given.contents e (Contains-from_In s.contents e h) in omega (arith, k, same, next)))
 
   pub patches_here : block_patches t b ≡ block_patches s b ++ put ∷ []
   patches_here =
@@ -91,3 +100,19 @@ module _ (s t : State) (law : IsLawful s) (b at number : ℕ) (bytes dependencie
     flying = flying_each j;
     dirty = λ e. any_last (λ q. is_live q && is_on j q.kind) s.heads p (differ b j other) (rw heads at e);
   }
+
+  -- the seat of the changed block, with the patch
+  pub seat_put : (seat : SeatView) → IsKeptSeat s b seat → (view : BlockView) → seat.loaded ≡ Some view → IsKeptSeat t b (record seat { loaded = Some (record view { patches = view.patches ++ put ∷ [] }) })
+  seat_put seat k view there = record {
+    place = k.place;
+    loaded = λ l e. some_same (sym e) ∙ view_is;
+    dirty = λ d. refl;
+    home = k.home;
+    patches = λ f e. k.patches f e ∙ sym (flying_each b);
+  }
+    where
+      some_same : {l m : BlockView} → Some l ≡ Some m → l ≡ m
+      some_same e = cc
+
+      view_is : record view { patches = view.patches ++ put ∷ [] } ≡ block_view t b
+      view_is = ap (λ (v : BlockView). record v { patches = v.patches ++ put ∷ [] }) (k.loaded view there) ∙ rw (patches_here, blocks) refl

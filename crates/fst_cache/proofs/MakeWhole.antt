@@ -33,11 +33,11 @@ module _ (size resident tickets made : ℕ) (graph graph' : Known) (prepared : O
   ready = state_of size resident tickets made graph' contents seats'
 
   -- the slot's count of faults rose
-  abbrev has_risen : Bool
+  abbrev pub has_risen : Bool
   has_risen = faults_rose (map (λ (t : SeatView). t.faults) seats) (map (λ (t : SeatView). t.faults) seats') b
 
   -- then the block was read, so it was not dirty
-  read_clean : MayLoad resident seats b seats' → has_risen ≡ true → IsDirty before b → ⊥
+  pub read_clean : MayLoad resident seats b seats' → has_risen ≡ true → IsDirty before b → ⊥
   read_clean (inl here) up dirty = not_above (slice_index (map (λ (t : SeatView). t.faults) seats) b) (subst (λ (xs : List SeatView). faults_rose (map (λ (t : SeatView). t.faults) seats) (map (λ (t : SeatView). t.faults) xs) b ≡ true) here.1 up)
     where
       not_above : (n : ℕ) → nat_lt n n ≡ true → ⊥
@@ -49,7 +49,7 @@ module _ (size resident tickets made : ℕ) (graph graph' : Known) (prepared : O
       → Step before (MakeChange share b at bytes names has_risen) (Refused fault) ready
   step_refused load may none fault free =
       subst (λ (s : State). Step before (MakeChange share b at bytes names has_risen) (Refused fault) s) (sym (same_state size resident tickets made graph graph' prepared same contents seats seats' K b load))
-      (refused (refused_by_load before share b at bytes names has_risen may fault none (elim free [ inl memory ↦ inl memory | inr device ↦ inr (read_clean load device.1, inr device) ])))
+      (refused (refused_by_load before share b at bytes may names has_risen fault none (elim free [ inl memory ↦ inl memory | inr device ↦ inr (read_clean load device.1, inr device) ])))
 
   module _ (number : ℕ) (grade : Grade) (may : MayHold before share b at bytes) (puts : Puts resident seats b (record { number = number; span = span_of at (length bytes); grade = grade; bytes = bytes }) seats')
       (graph'' : Known) (adds : AddsChange graph' b at (length bytes) names number grade graph'') where
@@ -78,21 +78,6 @@ module _ (size resident tickets made : ℕ) (graph graph' : Known) (prepared : O
     kept_made =
         subst (λ (xs : List SeatView). IsKept (state_of size resident tickets (made + 1) graph'' (contents ++ (number, bytes) ∷ []) xs) graph'' xs) (sym puts.seats)
         (kept_change size resident tickets made graph' graph'' contents read kept_read b puts.seat puts.at puts.view puts.there share at number bytes names grade may_read adds)
-
-    -- of the counts of faults one alone may have risen, and what came back is as it was
-    pub faults_made : map (λ (t : SeatView). t.faults) seats' ≡ slice_set (map (λ (t : SeatView). t.faults) seats) b (slice_index (map (λ (t : SeatView). t.faults) seats') b)
-    faults_made =
-        let L : Loaded before graph seats b read = loaded size resident tickets made graph graph' prepared same contents seats read K b puts.load in
-        let still : map (λ (t : SeatView). t.faults) seats' ≡ map (λ (t : SeatView). t.faults) read = put_listed (λ (t : SeatView). t.faults) (λ t o. refl) in
-        still ∙ (L.faults ∙ ap (λ (xs : List ℕ). slice_set (map (λ (t : SeatView). t.faults) seats) b (slice_index xs b)) (sym still))
-      where
-        put_listed : {Y : Type 0} (f : SeatView → Y) → ((t : SeatView) (o : _) → f (record t { loaded = o }) ≡ f t) → map f seats' ≡ map f read
-        put_listed f each = ap (map f) puts.seats ∙ same_listed read b puts.seat puts.at f _ (each puts.seat _)
-
-    pub back_made : map (λ (t : SeatView). t.back) seats' ≡ map (λ (t : SeatView). t.back) seats
-    back_made =
-        let L : Loaded before graph seats b read = loaded size resident tickets made graph graph' prepared same contents seats read K b puts.load in
-        ap (map (λ (t : SeatView). t.back)) puts.seats ∙ (same_listed read b puts.seat puts.at (λ (t : SeatView). t.back) _ refl ∙ L.back)
 
 -- the front of a list as long as it
 pub taken : {X : Type 0} (n : ℕ) (xs ys : List X) → n ≡ length xs → take n (xs ++ ys) ≡ xs
@@ -136,6 +121,7 @@ of_unprepared old b at len names number grade new a = record {
   graded = a.graded;
   heads = a.heads;
   numbers = a.numbers;
+  groups = a.groups;
   blocks = a.blocks;
   prepared = a.prepared;
 }

@@ -1,5 +1,5 @@
 -- What the type of a cache keeps, and what it shows, where it was opened over these slots.
-use Rattle.std.proofs.Common.{◌≡◌, ◌≢◌, ◌≤◌, ℕ, false, List, [], ◌∷◌, None, is_some, length, map, count_by, get_or, refl, sym, ap, subst, ◌∙◌, inl, inr, arith}
+use Rattle.std.proofs.Common.{◌≡◌, ◌≢◌, ◌≤◌, ℕ, false, List, [], ◌∷◌, None, is_some, length, map, count_by, get_or, Some, refl, sym, ap, subst, ◌∙◌, inl, inr, arith}
 use Rattle.std.proofs.lemmas.List.{length-map}
 use Rattle.std.proofs.lemmas.List.Elements.{All-map}
 use Rattle.std.proofs.lemmas.Option.{slice_get_within, get_or_from_slice_get}
@@ -23,7 +23,7 @@ none_loaded held index faults [] = refl
 none_loaded held index faults (x ∷ xs) = none_loaded held index faults xs
 
 abbrev pub new_graph : (numbers blocks : ℕ) → Known
-new_graph numbers blocks = record { heads = []; numbers = numbers; blocks = blocks; prepared = None }
+new_graph numbers blocks = record { heads = []; numbers = numbers; blocks = blocks; groups = []; prepared = None }
 
 module _ {X : Type 0} (held : X → List ℕ) (index size_of faults : X → ℕ) (fills : (x : X) → length (held x) ≡ size_of x) (slots : List X) (many size resident numbers tickets : ℕ)
     (few : many ≤ 4096) (small : size ≤ 4096) (given : numbers ≤ max_number) (sent : tickets ≤ max_ticket)
@@ -65,14 +65,16 @@ module _ {X : Type 0} (held : X → List ℕ) (index size_of faults : X → ℕ)
           place = ap index (sym (get_or_from_slice_get slots b r.0 r.0 r.1)) ∙ placed_each index slots (λ m. free.0 (inr m)) b r.0 lt;
           loaded = λ l h. cc;
           dirty = λ d. cc;
+          home = refl;
           patches = λ f h. cc;
         });
   }
 
   pub opened_view : view_of first (seats_of held index faults slots)
-      ≡ record { state = opening size resident numbers tickets (map held slots); faults = map faults slots; resident = map (λ slot. false) slots; back = map (λ slot. None) slots }
+      ≡ record { state = opening size resident numbers tickets (map held slots); homes = map (λ slot. Some (held slot)) slots; faults = map faults slots; resident = map (λ slot. false) slots; back = map (λ slot. None) slots }
   opened_view =
+      let homes_are = map-twice (λ (s : SeatView). s.home) seat_at slots in
       let faults_are : map (λ (s : SeatView). s.faults) (seats_of held index faults slots) ≡ map faults slots = map-twice (λ (s : SeatView). s.faults) seat_at slots in
       let resident_are = map-twice (λ (s : SeatView). is_some s.loaded) seat_at slots in
       let back_are = map-twice (λ (s : SeatView). s.back) seat_at slots in
-      rw (state_opened, faults_are, resident_are, back_are) refl
+      rw (state_opened, homes_are, faults_are, resident_are, back_are) refl

@@ -55,6 +55,7 @@ module _ (s : State) (graph : Known) (seats : List SeatView) (K : IsKept s graph
         place = (K.seat b seat at_b).place;
         loaded = λ l e. absurd (none e);
         dirty = λ d. absurd (false≢true (sym still ∙ (dirty_is s graph seats K same b seat at_b ∙ d)));
+        home = (K.seat b seat at_b).home;
         patches = (K.seat b seat at_b).patches;
       }
         where
@@ -96,6 +97,7 @@ module _ (s : State) (graph : Known) (seats : List SeatView) (K : IsKept s graph
               | inr is ↦ some_same (sym e ∙ is) ∙ sym (clean_view s graph seats K same b seat at_b still)
             ];
         dirty = λ d. absurd (false≢true (sym still ∙ d));
+        home = (K.seat b seat at_b).home;
         patches = (K.seat b seat at_b).patches;
       }
         where
@@ -110,12 +112,13 @@ record Placed (s : State) (graph : Known) (seats placed : List SeatView) : Type 
   kept : IsKept s graph placed
   blocks : blocks placed ≡ blocks seats
   faults : map (λ (t : SeatView). t.faults) placed ≡ map (λ (t : SeatView). t.faults) seats
+  homes : map (λ (t : SeatView). t.home) placed ≡ map (λ (t : SeatView). t.home) seats
   back : map (λ (t : SeatView). t.back) placed ≡ map (λ (t : SeatView). t.back) seats
   free : count_loaded placed < s.resident
 
 -- a place is made
 placed_by : (s : State) (graph : Known) (seats : List SeatView) → IsKept s graph seats → s.blocks ≡ blocks seats → (placed : List SeatView) → MakesPlace s.resident seats placed → Placed s graph seats placed
-placed_by s graph seats K same placed (inl h) = subst (Placed s graph seats) (sym h.1) (record { kept = K; blocks = refl; faults = refl; back = refl; free = h.0 })
+placed_by s graph seats K same placed (inl h) = subst (Placed s graph seats) (sym h.1) (record { kept = K; blocks = refl; faults = refl; homes = refl; back = refl; free = h.0 })
 placed_by s graph seats K same placed (inr h) =
     let c = h.1.0 in
     let seat = h.1.1 in
@@ -125,15 +128,17 @@ placed_by s graph seats K same placed (inr h) =
       kept = unloaded s graph seats K same c seat least.at least.block.clean;
       blocks = same_listed seats c seat least.at (λ (t : SeatView). t.block) (record seat { loaded = None }) refl;
       faults = same_listed seats c seat least.at (λ (t : SeatView). t.faults) (record seat { loaded = None }) refl;
+      homes = same_listed seats c seat least.at (λ (t : SeatView). t.home) (record seat { loaded = None }) refl;
       back = same_listed seats c seat least.at (λ (t : SeatView). t.back) (record seat { loaded = None }) refl;
       free = place_left s graph seats K same c seat least.at least.block.there;
     })
 
--- a load keeps what the type keeps, in the same state, and leaves the other slots' counts and what came back
+-- a load keeps what the type keeps, in the same state, and leaves what the slots hold, the other slots' counts and what came back
 pub record Loaded (s : State) (graph : Known) (seats : List SeatView) (b : ℕ) (new : List SeatView) : Type 0 where
   pub kept : IsKept s graph new
   pub blocks : blocks new ≡ blocks seats
   pub faults : map (λ (t : SeatView). t.faults) new ≡ slice_set (map (λ (t : SeatView). t.faults) seats) b (slice_index (map (λ (t : SeatView). t.faults) new) b)
+  pub homes : map (λ (t : SeatView). t.home) new ≡ map (λ (t : SeatView). t.home) seats
   pub back : map (λ (t : SeatView). t.back) new ≡ map (λ (t : SeatView). t.back) seats
 
 pub loads_keeps : (s : State) (graph : Known) (seats : List SeatView) → IsKept s graph seats → s.blocks ≡ blocks seats → (b : ℕ) (new : List SeatView) → Loads s.resident seats b new → Loaded s graph seats b new
@@ -147,6 +152,7 @@ loads_keeps s graph seats K same b new L =
       kept = filled s graph L.placed P.kept (same ∙ sym P.blocks) b L.seat L.at L.loaded L.faults L.away L.read P.free;
       blocks = same_listed L.placed b L.seat L.at (λ (t : SeatView). t.block) after refl ∙ P.blocks;
       faults = listed ∙ (ap (λ xs. slice_set xs b L.faults) P.faults ∙ ap (slice_set (map (λ (t : SeatView). t.faults) seats) b) (sym now));
+      homes = same_listed L.placed b L.seat L.at (λ (t : SeatView). t.home) after refl ∙ P.homes;
       back = same_listed L.placed b L.seat L.at (λ (t : SeatView). t.back) after refl ∙ P.back;
     })
 
@@ -159,6 +165,7 @@ load_keeps s graph seats K same b new (inl h) =
       kept = K;
       blocks = refl;
       faults = sym (set-get_or (map (λ (t : SeatView). t.faults) seats) b 0);
+      homes = refl;
       back = refl;
     })
 load_keeps s graph seats K same b new (inr h) = loads_keeps s graph seats K same b new h
@@ -171,6 +178,7 @@ pub view_unloaded : (size resident tickets made : ℕ) (graph : Known) (contents
 view_unloaded size resident tickets made graph contents seats b seat at_b new is =
     rw (
       same_listed seats b seat at_b (λ (t : SeatView). t.block) new (ap (λ (t : SeatView). t.block) is),
+      same_listed seats b seat at_b (λ (t : SeatView). t.home) new (ap (λ (t : SeatView). t.home) is),
       same_listed seats b seat at_b (λ (t : SeatView). t.faults) new (ap (λ (t : SeatView). t.faults) is),
       same_listed seats b seat at_b (λ (t : SeatView). t.back) new (ap (λ (t : SeatView). t.back) is),
       listed_set seats b seat at_b (λ (t : SeatView). is_some t.loaded) new,

@@ -82,7 +82,7 @@ module _ (size resident tickets made dropped : ℕ) (graph graph' : Known) (cont
   }
 
   pub step_forget : Step before Forget (Forgot dropped) after_it
-  step_forget = accepted tt (forget (record { counted = f.counted; state = rw (contents_are, f.heads, f.numbers) refl }))
+  step_forget = accepted tt (forget (record { counted = f.counted; state = rw (contents_are, f.heads, f.numbers, f.groups) refl }))
 
   pub kept_forget : IsKept after_it graph' seats
   kept_forget = all_moved before after_it graph graph' seats K (step_keeps_lawful before after_it Forget (Forgot dropped) K.lawful step_forget) refl refl f.blocks same_left

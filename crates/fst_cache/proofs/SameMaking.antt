@@ -5,7 +5,7 @@ use Rattle.fst_types.specs.Patches.{Empty, OpenGate}
 use Rattle.fst_types.specs.Cascade.{unsettled}
 use Rattle.fst_types.specs.State.{State}
 use Rattle.fst_types.specs.Events.{MakeEmpty, MakeGate, Made}
-use Rattle.fst_types.specs.Making.{fresh}
+use Rattle.fst_types.specs.Making.{fresh, MakesGate}
 use Rattle.fst_types.specs.Step.{Step, accepted, empty, gate}
 use Rattle.fst_types.proofs.Bounds.{step_keeps_lawful}
 use Rattle.fst_graph.specs.Known.{Known, AddsEmpty, AddsGate}
@@ -13,6 +13,10 @@ use Rattle.fst_cache.specs.Seats.{SeatView}
 use Rattle.fst_cache.specs.Kept.{IsKept, state_of}
 use Rattle.fst_cache.proofs.Kept.{all_moved}
 use Rattle.fst_cache.proofs.SameAdding.{same_added}
+
+pub gate_row : (size resident tickets made : ℕ) (graph graph' : Known) (contents : List (ℕ × List ℕ)) (seats : List SeatView) (number : ℕ) → AddsGate graph number graph'
+    → MakesGate (state_of size resident tickets made graph contents seats) number (state_of size resident tickets (made + 1) graph' contents seats)
+gate_row size resident tickets made graph graph' contents seats number a = record { next = a.next; state = rw (a.heads, a.numbers, a.groups) refl }
 
 module _ (size resident tickets made : ℕ) (graph graph' : Known) (contents : List (ℕ × List ℕ)) (seats : List SeatView) (K : IsKept (state_of size resident tickets made graph contents seats) graph seats)
     (share number : ℕ) (free : max_share ≤ share → ⊥) where
@@ -29,7 +33,7 @@ module _ (size resident tickets made : ℕ) (graph graph' : Known) (contents : L
     depends = a.depends;
     heads = graph'.heads;
     cascade = a.cascade;
-    state = ap (λ (n : ℕ). record after_it { numbers = n }) a.numbers;
+    state = rw (a.numbers, a.groups) refl;
   }))
 
   pub kept_empty : (names : List ℕ) → AddsEmpty graph names number graph' → IsKept after_it graph' seats
@@ -38,10 +42,7 @@ module _ (size resident tickets made : ℕ) (graph graph' : Known) (contents : L
       (λ j. same_added before after_it j (fresh number Empty a.dependencies) refl a.cascade.same refl refl)
 
   pub step_gate : AddsGate graph number graph' → Step before (MakeGate share) (Made number) after_it
-  step_gate a = accepted (free, a.clear) (gate (record {
-    next = a.next;
-    state = rw (a.heads, a.numbers) refl;
-  }))
+  step_gate a = accepted (free, a.clear) (gate (gate_row size resident tickets made graph graph' contents seats number a))
 
   pub kept_gate : AddsGate graph number graph' → IsKept after_it graph' seats
   kept_gate a =

@@ -26,6 +26,11 @@ module _ (size resident tickets made : ℕ) (graph graph' : Known) (contents : L
       → Step (state_of size resident tickets made graph contents seats) event (Refused fault) (state_of size resident tickets made graph' contents seats)
   step_unprepared event fault r = rw state_unprepared (refused r)
 
+-- two facts of the Ok end are one
+pub both_ok : {T E : Type 0} (P Q : Type 0) (r : Result T E) → OnOk r P → OnOk r Q → OnOk r (P × Q)
+both_ok P Q (Ok x) p q = (p, q)
+both_ok P Q (Err e) p q = tt
+
 -- what either end of a call gives, where each gives one fact
 pub on_either : {T E P Q A : Type 0} (r : Result T E) → OnOk r P → OnErr r Q → (P → A) → (Q → A) → A
 on_either (Ok x) p q f h = f p

@@ -164,6 +164,7 @@ module _ (s : State) (graph : Known) (seats : List SeatView) (b : ℕ) (seat : S
     block = record seat.block { flight = Some flight };
     loaded = Some (record { base = fold_of (block_view s b).base (chosen_of names (block_patches s b)); patches = others_of names (block_patches s b) });
     patches = numbers_of names;
+    home = None;
     faults = 0;
   }
 
@@ -172,6 +173,7 @@ module _ (s : State) (graph : Known) (seats : List SeatView) (b : ℕ) (seat : S
     block = record seat.block { flight = Some flight };
     loaded = Some (record { base = fold_of l.base (chosen_of names l.patches); patches = others_of names l.patches });
     patches = numbers_of names;
+    home = None;
     faults = 0;
   }) → new ≡ sent
   seat_is new e = rw (loaded_is s graph seats b seat names S) at e
@@ -195,6 +197,7 @@ module _ (s : State) (graph : Known) (seats : List SeatView) (b : ℕ) (seat : S
     place = (S.kept.seat b seat S.at_b).place;
     loaded = view_sent;
     dirty = λ d. refl;
+    home = refl;
     patches = λ f e. sym flying_chosen;
   }
 
@@ -211,4 +214,4 @@ pub state_sent : (size resident tickets made : ℕ) (graph : Known) (contents : 
     → let s = state_of size resident tickets made graph contents seats in
     state_of size resident (tickets + 1) made graph' contents (slice_set seats b (sent s graph seats b seat names S image folded)) ≡ after s graph seats b seat names S image folded
 state_sent size resident tickets made graph contents seats b seat names S image folded graph' L =
-    rw (L.heads, L.numbers, map-set, block_is (state_of size resident tickets made graph contents seats) graph seats b seat names S) refl
+    rw (L.heads, L.numbers, L.groups, map-set, block_is (state_of size resident tickets made graph contents seats) graph seats b seat names S) refl

@@ -1,5 +1,5 @@
 -- What the cache's type keeps.
-use Rattle.std.specs.Prelude.{◌≡◌, ◌≤◌, ℕ, true, List, [], Some, IsSome, is_some, map, length, count_by, slice_get}
+use Rattle.std.specs.Prelude.{◌≡◌, ◌≤◌, ℕ, true, List, Some, IsSome, is_some, map, length, count_by, slice_get}
 use Rattle.fst_types.specs.declared.place.Place.TheVariants as place
 use Rattle.fst_types.specs.declared.span.Span.{Span}
 use Rattle.fst_types.specs.declared.grade.Grade.{Grade}
@@ -11,7 +11,7 @@ use Rattle.fst_types.specs.Counts.{is_dirty, IsDirty}
 use Rattle.fst_types.specs.Facts.{IsLawful}
 use Rattle.fst_block.specs.BlockView.{BlockPatch, BlockView}
 use Rattle.fst_graph.specs.Known.{Known}
-use Rattle.fst_cache.specs.Views.{CacheView}
+use Rattle.fst_cache.specs.Views.{CacheView, home_of}
 use Rattle.fst_cache.specs.Seats.{SeatView, blocks}
 
 -- the grade of a change, and soft for other kinds
@@ -49,13 +49,14 @@ state_of size resident tickets made graph contents seats = record {
   heads = graph.heads;
   contents = contents;
   blocks = blocks seats;
-  groups = [];
+  groups = graph.groups;
 }
 
 -- what stands beside the state
 abbrev pub view_of : State → List SeatView → CacheView
 view_of s seats = record {
   state = s;
+  homes = map (λ seat. seat.home) seats;
   faults = map (λ seat. seat.faults) seats;
   resident = map (λ seat. is_some seat.loaded) seats;
   back = map (λ seat. seat.back) seats;
@@ -66,6 +67,7 @@ pub record IsKeptSeat (s : State) (b : ℕ) (seat : SeatView) : Type 0 where
   pub place : seat.place ≡ b
   pub loaded : (l : BlockView) → seat.loaded ≡ Some l → l ≡ block_view s b
   pub dirty : IsDirty s b → IsSome seat.loaded
+  pub home : seat.home ≡ home_of seat.block
   pub patches : (f : Flight) → seat.block.flight ≡ Some f → seat.patches ≡ in_flight s b
 
 -- each seat does, the state is lawful, and no more blocks are in memory than may be

@@ -6,12 +6,13 @@ use Rattle.fst_types.specs.State.{Flight, BlockState}
 use Rattle.fst_block.specs.BlockView.{BlockPatch, BlockView}
 use Rattle.fst_cache.specs.Views.{Back}
 
--- one block: what is committed and in flight, its number, its bytes and patches where they are in memory, the patches in flight, its slot's faults, and what came back of a write that failed
+-- one block: what is committed and in flight, its number, its bytes and patches where they are in memory, the patches in flight, what its slot holds where it is at home, its slot's faults, and what came back of a write that failed
 pub record SeatView : Type 0 where
   pub block : BlockState
   pub place : ℕ
   pub loaded : Option BlockView
   pub patches : List ℕ
+  pub home : Option (List ℕ)
   pub faults : ℕ
   pub back : Option Back
 
@@ -23,12 +24,12 @@ flight_view ticket image back failed = record { ticket = ticket; image = image; 
 abbrev pub tries_of : Option Flight → ℕ
 tries_of flight = option_map_or (λ (f : Flight). f.failed) flight 0
 
-abbrev pub back_view : List ℕ → List ℕ → Back
-back_view before held = record { before = before; held = held }
+abbrev pub back_view : List ℕ → List ℕ → ℕ → Back
+back_view before held faults = record { before = before; held = held; faults = faults }
 
 -- a block whose slot is at home and was not read
 abbrev pub seat_of : List ℕ → ℕ → ℕ → SeatView
-seat_of held place faults = record { block = record { committed = held; flight = None }; place = place; loaded = None; patches = []; faults = faults; back = None }
+seat_of held place faults = record { block = record { committed = held; flight = None }; place = place; loaded = None; patches = []; home = Some held; faults = faults; back = None }
 
 -- the blocks of these slots, by what each holds, its index and its faults
 abbrev pub seats_of : {Slot : Type 0} (held : Slot → List ℕ) (index faults : Slot → ℕ) → List Slot → List SeatView

@@ -1,21 +1,36 @@
 -- What a cache is to its callers.
-use Rattle.std.specs.Prelude.{◌≡◌, ℕ, Bool, List, Option}
-use Rattle.fst_types.specs.State.{State}
+use Rattle.std.specs.Prelude.{◌≡◌, ℕ, Bool, List, Option, Some, None, map}
+use Rattle.fst_types.specs.State.{Flight, BlockState, State}
 
--- of a write that failed: what the slot held when the write was first sent out, and what it holds now
+-- of a write that failed: what the slot held when the write was first sent out, what it holds now, and how many of its calls have failed
 pub record Back : Type 0 where
   pub before : List ℕ
   pub held : List ℕ
+  pub faults : ℕ
 
--- the state; each slot's count of faults, 0 while the slot is away; which blocks are in memory; and of each write that failed, what came back
+-- the state; what each slot at home holds; each slot's count of faults, 0 while the slot is away; which blocks are in memory; and of each write that failed, what came back
 pub record CacheView : Type 0 where
   pub state : State
+  pub homes : List (Option (List ℕ))
   pub faults : List ℕ
   pub resident : List Bool
   pub back : List (Option Back)
 
 -- what stands beside the state is as it was
 pub record IsSameBeside (old new : CacheView) : Type 0 where
+  pub homes : new.homes ≡ old.homes
   pub faults : new.faults ≡ old.faults
   pub resident : new.resident ≡ old.resident
   pub back : new.back ≡ old.back
+
+-- what the slot of a block holds, where it is at home: what is committed, and it is at home where nothing of the block is in flight
+abbrev pub home_of : BlockState → Option (List ℕ)
+home_of block = held_at block.flight
+  where
+    held_at : Option Flight → Option (List ℕ)
+    held_at None = Some block.committed
+    held_at (Some flight) = None
+
+-- each slot at home holds what is committed of its block
+abbrev pub SlotsHoldCommitted : CacheView → Type 0
+SlotsHoldCommitted cache = cache.homes ≡ map home_of cache.state.blocks

@@ -7,6 +7,7 @@
 //! says, a block with a change that is not on disk is in memory, and no more blocks are in memory than may be.
 
 mod gates;
+mod groups;
 mod look;
 mod making;
 mod open;

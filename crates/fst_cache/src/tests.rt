@@ -2,6 +2,7 @@
 ghost use Rattle.std.specs.Prelude.{◌≡◌, IfOk, length};
 
 mod limits;
+mod strangers;
 
 use crate::{Cache, Share, Stat};
 use fst_device::{Arm, Done, Job, MemorySlot, carry};

@@ -1,20 +1,25 @@
 //! A run of a crew, from its slots to what it prints.
 
-ghost use Rattle.std.specs.Prelude.{◌≡◌, ◌*◌, ◌⊎◌, ℕ, List, IfOk, IfErr, OnOk, length};
+ghost use Rattle.std.specs.Prelude.{◌≡◌, ◌*◌, ◌⊎◌, ℕ, List, IfOk, IfErr, OnOk, length, sum_by};
 ghost use Rattle.std.specs.Io.KnownBytes.{Appends};
 ghost use Rattle.fst_crew.specs.Crewing.{told};
+ghost use Rattle.fst_types.specs.declared.fault.Fault.{Fault};
+ghost use Rattle.fst_pairs.specs.Desking.{IsCloseRefused};
 ghost use Rattle.fst_crew.specs.declared.fault.CrewFault.{CrewFault};
 
 mod drain;
 mod files;
 mod report;
+pub(crate) mod stacks;
+pub(crate) mod taking;
 mod threads;
 
 use crate::crews::report::report;
+use crate::crews::stacks::{Stacks, USUAL};
 use crate::crews::threads::{Shop, in_scope};
 use crate::fault::CrewFault;
 use crate::plan::{CREW_BLOCKS, Crew};
-use fst_cache::Cache;
+use fst_cache::{Cache, Share};
 use fst_device::BlockSlot;
 use fst_pairs::{Desk, Totals};
 use fst_types::Shape;
@@ -23,12 +28,27 @@ use std::io::Write;
 use std::sync::Wait;
 use std::thread::Threads;
 
+/// Closes the desk, or tells why it cannot be closed.
+pub(crate) fn closed<S: BlockSlot>(
+    desk: Desk<S>,
+    shares: Vec<Share>,
+) -> Result<Totals<S>, CrewFault>
+    ensures made { IfOk result (λ totals. totals.made ≡ sum_by (λ share. share) shares.items) }
+    ensures refused { IfErr result (λ told. (fault : Fault) × (told ≡ CrewFault.Cache fault) × IsCloseRefused desk shares.items fault) }
+{
+    match desk.close(shares) {
+        Ok(totals) => Ok(totals),
+        Err(refused) => Err(CrewFault::Cache(refused.fault)),
+    }
+}
+
 // Runs all threads over one desk, and closes it.
 fn worked<S: BlockSlot + Send, R: Threads + Wait + Sync>(
     rt: &R,
     alloc: Global,
     slots: Vec<S>,
     plan: Crew,
+    stacks: Stacks<'_>,
 ) -> Result<Totals<S>, CrewFault>
     ensures { IfOk result (λ totals. totals.made ≡ plan.files * plan.rounds) }
 {
@@ -43,13 +63,10 @@ fn worked<S: BlockSlot + Send, R: Threads + Wait + Sync>(
         Ok(ends) => ends,
         Err((_, fault)) => return Err(CrewFault::Cache(fault)),
     };
-    let shop = Shop::new(desk);
+    let shop = Shop::new(desk, stacks);
     let ended = in_scope(rt, alloc, &shop, workers, plan);
     let shares = ended?;
-    match shop.into_desk().close(shares) {
-        Ok(totals) => Ok(totals),
-        Err(refused) => Err(CrewFault::Cache(refused.fault)),
-    }
+    closed(shop.into_desk(), shares)
 }
 
 /// Runs file threads and workers over one desk and these slots, 8 of 8 bytes, until nothing is live. It then prints
@@ -72,7 +89,23 @@ pub fn crew<S: BlockSlot + Send, R: Threads + Wait + Sync, W: Write>(
         × Appends (W.contents writer.old) (W.contents writer.new) (told (plan.files * plan.rounds) blocks)) }
     ensures silent { IfErr result (λ fault. (fault ≡ CrewFault.Write) ⊎ (W.contents writer.new ≡ W.contents writer.old)) }
 {
-    let mut totals = worked(rt, alloc, slots, plan)?;
+    crew_on(rt, alloc, slots, plan, USUAL, writer)
+}
+
+/// As `crew`, on these stacks.
+pub(crate) fn crew_on<S: BlockSlot + Send, R: Threads + Wait + Sync, W: Write>(
+    rt: &R,
+    alloc: Global,
+    slots: Vec<S>,
+    plan: Crew,
+    stacks: Stacks<'_>,
+    writer: &mut W,
+) -> Result<(), CrewFault>
+    ensures made { OnOk result ((blocks : List (List ℕ)) × (length blocks ≡ 8)
+        × Appends (W.contents writer.old) (W.contents writer.new) (told (plan.files * plan.rounds) blocks)) }
+    ensures silent { IfErr result (λ fault. (fault ≡ CrewFault.Write) ⊎ (W.contents writer.new ≡ W.contents writer.old)) }
+{
+    let mut totals = worked(rt, alloc, slots, plan, stacks)?;
     let text = report(alloc, totals.made, &mut totals.cache)?;
     match writer.write_all(text.as_bytes()) {
         Ok(()) => Ok(()),

@@ -6,7 +6,8 @@ use std::alloc::{AllocError, AllocFailed};
 /// What ended a crew.
 #[derive(Debug, Drop)]
 pub enum CrewFault {
-    /// The writer failed or took nothing.
+    /// The writer failed or took nothing. What the crew made is on disk then, and how much of the text the writer took is
+    /// not told.
     Write,
     /// A call of the cache or the desk was refused, a stray came, or memory was refused.
     Cache(Fault),

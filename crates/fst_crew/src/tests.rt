@@ -4,6 +4,7 @@ ghost use Rattle.fst_device.specs.declared.slot.SlotFault.{SlotFault};
 
 mod failing;
 mod meeting;
+mod stopped;
 
 use crate::plan::Crew;
 use crate::tests::failing::{Failing, Habit};

@@ -7,6 +7,7 @@
 
 mod arm;
 mod done;
+mod fault_count;
 mod job;
 mod memory_slot;
 mod outcome;
@@ -14,6 +15,7 @@ mod slot;
 
 pub use arm::Arm;
 pub use done::{Done, carry};
+pub use fault_count::FaultCount;
 pub use job::Job;
 pub use memory_slot::MemorySlot;
 pub use outcome::Outcome;

@@ -6,27 +6,10 @@ ghost use Rattle.fst_device.specs.Armed.{armed};
 ghost use Rattle.fst_device.specs.MemoryCalls.{works, after_read, after_write};
 
 use crate::arm::{Arm, NextWrite};
+use crate::fault_count::FaultCount;
 use crate::slot::{BlockSlot, SlotFault};
-use fst_types::{BlockNo, Noted, Notes};
+use fst_types::BlockNo;
 use std::marker::Model;
-
-// Notes no number.
-struct NoFault;
-
-impl Notes<()> for NoFault {
-    ghost use Rattle.std.specs.Prelude.{[]};
-
-    ghost noted = { λ _. [] };
-}
-
-// Notes one number more.
-struct OneFaultMore;
-
-impl Notes<Noted> for OneFaultMore {
-    ghost use Rattle.std.specs.Prelude.{◌∷◌};
-
-    ghost noted = { λ n. 0 ∷ n.items };
-}
 
 /// A slot whose block is in memory. It never fails, but where it was armed to.
 #[derive(Drop)]
@@ -35,8 +18,7 @@ pub struct MemorySlot {
     bytes: Vec<u8>,
     read_fails: bool,
     next_write: NextWrite,
-    // One number for each call that failed: only their count is meant.
-    faults: Noted,
+    faults: FaultCount,
 }
 
 impl Model for MemorySlot {
@@ -45,7 +27,7 @@ impl Model for MemorySlot {
 
     ghost Value = { MemoryView };
 
-    ghost view = { λ s. record { index = s.index.0; bytes = s.bytes.items; faults = length s.faults.items; read_fails = s.read_fails; next_write = s.next_write } };
+    ghost view = { λ s. record { index = s.index.0; bytes = s.bytes.items; faults = s.faults; read_fails = s.read_fails; next_write = s.next_write } };
 
     ghost invariant = { λ s. length s.bytes.items < 2 ^ 32 };
 }
@@ -62,7 +44,7 @@ impl MemorySlot {
             bytes,
             read_fails: false,
             next_write: NextWrite::Works,
-            faults: Noted::of::<(), NoFault>(&()),
+            faults: FaultCount::new(),
         }
     }
 
@@ -89,13 +71,6 @@ impl MemorySlot {
         ensures { result.now ≡ self.now.bytes }
     {
         &self.bytes
-    }
-
-    // One more call has failed.
-    fn count_fault(&mut self)
-        ensures { self.new ≡ record self.old { faults = self.old.faults + 1 } }
-    {
-        self.faults = Noted::of::<Noted, OneFaultMore>(&self.faults);
     }
 }
 
@@ -139,7 +114,7 @@ impl BlockSlot for MemorySlot {
     {
         if self.read_fails {
             self.read_fails = false;
-            self.count_fault();
+            self.faults.rise();
             return Err(SlotFault::Read);
         }
         into.copy_from_slice(self.bytes.as_slice());
@@ -164,7 +139,7 @@ impl BlockSlot for MemorySlot {
             self.bytes.copy_from_slice(from);
         }
         if next != NextWrite::Works {
-            self.count_fault();
+            self.faults.rise();
             return Err(SlotFault::Write);
         }
         Ok(())

@@ -2,7 +2,7 @@ ghost use Rattle.std.specs.Prelude.{◌≡◌, length};
 ghost use Rattle.fst_device.specs.Armed.{armed};
 ghost use Rattle.fst_device.specs.MemoryCalls.{works};
 
-use crate::{Arm, BlockSlot, Done, Job, MemorySlot, Outcome, SlotFault, carry};
+use crate::{Arm, BlockSlot, Done, FaultCount, Job, MemorySlot, Outcome, SlotFault, carry};
 use fst_types::{BlockNo, Ticket};
 use std::alloc::AllocError;
 use std::thread;
@@ -118,5 +118,66 @@ fn jobs_and_completions_cross_threads(rt: HostRuntime) -> Result<(), AllocError>
     let done = carry_elsewhere(&rt, Job::new(Ticket(1), BlockNo(0), image, slot));
     let outcome = done.as_ref().map(|done| done.outcome());
     assert_eq!(rt; outcome, Some(Outcome::Written));
+    Ok(())
+}
+
+// A slot that says no to every write, as a crate above would have one of its own.
+#[derive(Drop)]
+struct ReadOnly {
+    byte: u8,
+    faults: FaultCount,
+}
+
+impl BlockSlot for ReadOnly {
+    ghost use Rattle.std.specs.Prelude.{[], ◌∷◌, refl};
+
+    ghost held = { λ slot. slot.byte ∷ [] };
+
+    ghost faults = { λ slot. slot.faults };
+
+    ghost index = { λ _. 0 };
+
+    ghost size = { λ _. 1 };
+
+    ghost held_fills = { λ _. refl };
+
+    fn index(&self) -> BlockNo {
+        BlockNo(0)
+    }
+
+    fn size(&self) -> u32 {
+        1
+    }
+
+    fn read(&mut self, into: &mut [u8]) -> Result<(), SlotFault> {
+        into[0] = self.byte;
+        Ok(())
+    }
+
+    fn write(&mut self, _from: &[u8]) -> Result<(), SlotFault> {
+        self.faults.rise();
+        Err(SlotFault::Write)
+    }
+}
+
+#[test]
+fn a_slot_of_another_crate_counts_its_faults(rt: HostRuntime) -> Result<(), AllocError> {
+    let mut slot = ReadOnly {
+        byte: 7,
+        faults: FaultCount::new(),
+    };
+    let mut into = [0];
+    assert_eq!(rt;
+        write_and_read(&mut slot, &[8], &mut into),
+        Err(SlotFault::Write)
+    );
+    let done = carry(Job::new(
+        Ticket(1),
+        BlockNo(0),
+        Vec::from_elem(rt.alloc(), 8u8, 1)?,
+        slot,
+    ));
+    assert_eq!(rt; done.outcome(), Outcome::Failed);
+    assert_eq!(rt; done.slot().byte, 7);
     Ok(())
 }

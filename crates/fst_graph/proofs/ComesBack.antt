@@ -4,15 +4,14 @@ use Rattle.std.proofs.lemmas.Bool.{cases_eq}
 use Rattle.fst_types.specs.Closure.{Closure, one, join}
 use Rattle.fst_types.specs.Dependencies.{DependsOn, IsLiveNumber}
 use Rattle.fst_types.specs.Facts.{IsOnDiskWithAll}
-use Rattle.fst_types.specs.Gates.{IsOpenNumber}
 use Rattle.fst_types.specs.Grades.{HasEdge, Reaches}
 use Rattle.fst_types.specs.Patches.{Patch, IsRising, IsOn, IsLive}
 use Rattle.fst_types.proofs.Crash.{same_number}
 use Rattle.fst_graph.specs.declared.test.Test.TheVariants as test
-use Rattle.fst_graph.specs.Grading.{HasUnder, IsReturning, IsLeading, MayBeHard, IsHardNumber}
+use Rattle.fst_graph.specs.Grading.{HasUnder, IsReturning, IsLeading, LeadsNowhere, IsHardNumber}
 use Rattle.fst_graph.specs.Marks.{PassesAt}
 use Rattle.fst_graph.specs.Reaching.{ShowsBlocks}
-use Rattle.fst_graph.specs.WayBack.{StepsUp, Meets, IsLiveOver}
+use Rattle.fst_graph.specs.WayBack.{StepsUp, IsMet, Meets, IsLiveOver}
 use Rattle.fst_graph.proofs.Graded.{on_from, on_to, off_from, off_to}
 use Rattle.fst_graph.proofs.Holding.{live_up}
 use Rattle.fst_graph.proofs.Leading.{one_block}
@@ -105,7 +104,7 @@ module _ (heads : List Patch) (rising : IsRising heads) (b : ℕ) where
     over_under P n q named (inl e) has = (n, named, inl (subst P (sym e) has))
     over_under P n q named (inr d) has = (n, named, inr (q, d, has))
 
-    back_soft : (n : ℕ) → Contains row n → ComesBack n → MayBeHard heads b row → ⊥
+    back_soft : (n : ℕ) → Contains row n → ComesBack n → LeadsNowhere heads b row → ⊥
     back_soft n named x may =
         let r = x.is_root in
         let p = r.change in
@@ -140,7 +139,7 @@ module _ (heads : List Patch) (rising : IsRising heads) (b : ℕ) where
         ]
 
 module _ (heads : List Patch) (rising : IsRising heads) (disk : IsOnDiskWithAll heads) (b : ℕ) (row : List ℕ) (crossed : List Bool) (shown : ShowsBlocks crossed (λ c. c ≡ b)) (start met : List ℕ)
-    (starts : (n : ℕ) → Contains start n ↔ (IsLiveOver heads b n × PassesAt (test.LiveOff b) heads n)) (meets : Meets heads crossed start met) where
+    (starts : (n : ℕ) → Contains start n ↔ (IsLiveOver heads b n × PassesAt (test.LiveOff b) heads n)) (only : (n : ℕ) → Contains met n → IsMet heads crossed start n) where
   -- a change of another block is none of b
   start_back : (n : ℕ) → Contains start n → ComesBack heads rising b n
   start_back n c =
@@ -169,14 +168,16 @@ module _ (heads : List Patch) (rising : IsRising heads) (disk : IsOnDiskWithAll 
       }
 
   met_back : (n : ℕ) → Contains met n → ComesBack heads rising b n
-  met_back n c = elim (meets.only n c) [
+  met_back n c = elim (only n c) [
     | inl first ↦ start_back n first
     | inr r ↦ steps_back heads rising b crossed shown r.0 n r.2 (start_back r.0 r.1)
   ]
 
-  pub met_soft : ((n : ℕ) × Contains row n × Contains met n) → MayBeHard heads b row → ⊥
+  pub met_soft : ((n : ℕ) × Contains row n × Contains met n) → LeadsNowhere heads b row → ⊥
   met_soft has = back_soft heads rising b row has.0 has.1 (met_back has.0 has.2)
 
+module _ (heads : List Patch) (rising : IsRising heads) (disk : IsOnDiskWithAll heads) (b : ℕ) (row : List ℕ) (crossed : List Bool) (shown : ShowsBlocks crossed (λ c. c ≡ b)) (start met : List ℕ)
+    (starts : (n : ℕ) → Contains start n ↔ (IsLiveOver heads b n × PassesAt (test.LiveOff b) heads n)) (meets : Meets heads crossed start met) where
   -- what steps lead to from what is met is met, and so is what is live and depends on it
   met_on : (m n : ℕ) → Contains met m → StepsUp heads crossed m n → Contains met n
   met_on m n c s = meets.each n (elim (meets.only m c) [ inl first ↦ inr (m, first, one s) | inr r ↦ inr (r.0, r.1, join r.2 (one s)) ])
@@ -223,9 +224,8 @@ module _ (heads : List Patch) (rising : IsRising heads) (disk : IsOnDiskWithAll 
   under_met : (P : ℕ → Type 0) → ((n : ℕ) → P n → Contains met n × IsLiveNumber heads n) → HasUnder heads row P → (n : ℕ) × Contains row n × Contains met n
   under_met P all u = (u.0, u.1, elim u.2 [ inl has ↦ (all u.0 has).0 | inr low ↦ let k = all low.0 low.2 in met_up u.0 low.0 low.1 k.1 k.0 ])
 
-  pub none_hard : (HasUnder heads row (IsOpenNumber heads) → ⊥) → (((n : ℕ) × Contains row n × Contains met n) → ⊥) → MayBeHard heads b row
-  none_hard free none = record {
-    free = free;
+  pub none_hard : (((n : ℕ) × Contains row n × Contains met n) → ⊥) → LeadsNowhere heads b row
+  none_hard none = record {
     straight = λ u. none (under_met (IsReturning heads b) (λ n r.
         let x : PassesAt (test.LiveOn r.away_on) heads n = on_live heads rising b r.away_on n r.away r.head r.numbered r.change r.away_live in
         let y : PassesAt (test.LiveOn b) heads r.back.number = on_live heads rising b b r.back.number r.back r.back_needed.head refl r.back_needed.change r.back_live in

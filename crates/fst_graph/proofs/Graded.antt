@@ -1,5 +1,5 @@
 -- What the walks over a row show, and the grade that follows.
-use Rattle.std.proofs.Common.{◌≡◌, ◌≢◌, ◌↔◌, ◌&&◌, IsTrue, ℕ, ◌+◌, ◌<◌, ◌≤◌, eqb, Bool, true, false, List, [], ◌∷◌, ◌++◌, length, get_or, set, Contains, Some, refl, sym, ap, subst, ◌∙◌, inl, inr, arith, get_or-set_same, get_or-set_other}
+use Rattle.std.proofs.Common.{◌≡◌, ◌≢◌, ◌↔◌, ◌&&◌, IsTrue, ℕ, ◌+◌, ◌<◌, ◌≤◌, eqb, Bool, true, false, List, [], ◌∷◌, ◌++◌, length, get_or, set, Contains, Some, None, refl, sym, ap, subst, ◌∙◌, inl, inr, arith, get_or-set_same, get_or-set_other}
 use Rattle.std.proofs.lemmas.Bool.{cases_eq, cases_lt, eqb-true, eqb-false, eq-eqb, ne_eqb, false≢true, not-true}
 use Rattle.std.proofs.lemmas.List.Elements.{Contains-append_left, Contains-push, Contains-push_cases}
 use Rattle.fst_types.specs.declared.place.Place.{Place}
@@ -232,7 +232,7 @@ module _ (heads : List Patch) (numbers : ℕ) (within : IsWithin heads numbers) 
   old : (q : Patch) → Contains after q → DependsOn after (numbers + 1) q.number → Contains heads q
   old q h d = old_head heads numbers within new_change refl named q h (small q.number d)
 
-  depends_under : (P : ℕ → Type 0) (q : ℕ) → P q → DependsOn after (numbers + 1) q → HasUnder heads row P
+  pub depends_under : (P : ℕ → Type 0) (q : ℕ) → P q → DependsOn after (numbers + 1) q → HasUnder heads row P
   depends_under P q has d =
       let f = first_step (numbers + 1) q d in
       let c = direct_row f.0 f.1 in (
@@ -250,7 +250,7 @@ module _ (heads : List Patch) (numbers : ℕ) (within : IsWithin heads numbers) 
     | inr r ↦ (r.0, r.2, join (row_direct u.0 u.1) (still u.0 r.0 r.1))
   ]
 
-  may_graded : MayBeHard heads b row → IsGradedHard heads after b (numbers + 1)
+  may_graded : MayBeHard heads None b row → IsGradedHard heads after b (numbers + 1)
   may_graded m = record {
     free = λ k. m.free (depends_under (IsOpenNumber heads) k.gate.number (record { patch = k.gate; head = old k.gate k.head k.depends; numbered = refl; is_open = k.is_open }) k.depends);
     straight = λ r. m.straight (depends_under (IsReturning heads b) r.away.number (record {
@@ -277,7 +277,7 @@ module _ (heads : List Patch) (numbers : ℕ) (within : IsWithin heads numbers) 
     }) need.depends);
   }
 
-  graded_may : IsGradedHard heads after b (numbers + 1) → MayBeHard heads b row
+  graded_may : IsGradedHard heads after b (numbers + 1) → MayBeHard heads None b row
   graded_may k = record {
     free = λ u.
         let d = under_depends (IsOpenNumber heads) u in
@@ -302,9 +302,9 @@ module _ (heads : List Patch) (numbers : ℕ) (within : IsWithin heads numbers) 
   }
 
   -- so the grade by the row is the grade of the new change
-  pub graded_rule : FollowsRule g (MayBeHard heads b row) → FollowsRule g (IsGradedHard heads after b (numbers + 1))
+  pub graded_rule : FollowsRule g (MayBeHard heads None b row) → FollowsRule g (IsGradedHard heads after b (numbers + 1))
   graded_rule rule = by_grade g rule
     where
-      by_grade : (x : Grade) → FollowsRule x (MayBeHard heads b row) → FollowsRule x (IsGradedHard heads after b (numbers + 1))
+      by_grade : (x : Grade) → FollowsRule x (MayBeHard heads None b row) → FollowsRule x (IsGradedHard heads after b (numbers + 1))
       by_grade grade.Hard r = may_graded r
       by_grade grade.Soft r = λ k. r (graded_may k)

@@ -139,11 +139,19 @@ module _ (nodes : List Node) (blocks : ℕ) (rising : IsRising (patches_in nodes
   ])
 
 -- the same of heads
-module _ (heads : List Head) (blocks : ℕ) (rising : HeadsRise heads) (acyclic : IsAcyclic (DirectlyOn (patches_of heads))) (D : IsOnDiskWithAll (patches_of heads)) (S : AreSettled (nodes_of heads) blocks) (row : List ℕ) where
-  pub gate_under : joined (pending_in (nodes_of heads)) row ≡ pending.Held → HasUnder (patches_of heads) row (IsOpenNumber (patches_of heads))
-  gate_under e = rw (← patches_in_nodes heads)
+module _ (heads : List Head) (blocks : ℕ) (rising : HeadsRise heads) (acyclic : IsAcyclic (DirectlyOn (patches_of heads))) (D : IsOnDiskWithAll (patches_of heads)) (S : AreSettled (nodes_of heads) blocks) where
+  pub heads_live : (n : ℕ) → pending_in (nodes_of heads) n ≡ pending.Held → IsLiveNumber (patches_of heads) n
+  heads_live n e = rw (← patches_in_nodes heads)
+      (held_live (nodes_of heads) blocks (rw (patches_in_nodes heads) (rising_patches heads rising)) (rw (patches_in_nodes heads) acyclic) (rw (patches_in_nodes heads) D) S n e)
+
+  pub heads_held : AreHeldByGates (patches_of heads) (pending_in (nodes_of heads))
+  heads_held = rw (← patches_in_nodes heads)
+      (held_by_gates (nodes_of heads) blocks (rw (patches_in_nodes heads) (rising_patches heads rising)) (rw (patches_in_nodes heads) acyclic) (rw (patches_in_nodes heads) D) S)
+
+  pub gate_under : (row : List ℕ) → joined (pending_in (nodes_of heads)) row ≡ pending.Held → HasUnder (patches_of heads) row (IsOpenNumber (patches_of heads))
+  gate_under row e = rw (← patches_in_nodes heads)
       (held_under (nodes_of heads) blocks (rw (patches_in_nodes heads) (rising_patches heads rising)) (rw (patches_in_nodes heads) acyclic) (rw (patches_in_nodes heads) D) S row e)
 
-  pub under_gate : HasUnder (patches_of heads) row (IsOpenNumber (patches_of heads)) → joined (pending_in (nodes_of heads)) row ≡ pending.Held
-  under_gate u =
+  pub under_gate : (row : List ℕ) → HasUnder (patches_of heads) row (IsOpenNumber (patches_of heads)) → joined (pending_in (nodes_of heads)) row ≡ pending.Held
+  under_gate row u =
       under_held (nodes_of heads) blocks (rw (patches_in_nodes heads) (rising_patches heads rising)) (rw (patches_in_nodes heads) acyclic) (rw (patches_in_nodes heads) D) S row (rw (patches_in_nodes heads) u)

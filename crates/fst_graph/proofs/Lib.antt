@@ -1,4 +1,10 @@
 pub mod Slots
+pub mod Gathering
+pub mod Paired
+pub mod SealedIf
+pub mod PairTold
+pub mod GroupCalls
+pub mod Grouped
 pub mod Rows
 pub mod Making
 pub mod PlaceOf
@@ -68,3 +74,16 @@ pub mod Flight
 pub mod ComesBack
 pub mod WalkingBack
 pub mod CrossingBack
+pub mod Living
+pub mod Beside
+pub mod TakenAsSealed
+pub mod Overlapped
+pub mod Framed
+pub mod MemberRow
+pub mod MemberReady
+pub mod FewCounted
+pub mod TailGains
+pub mod HeldBelow
+pub mod Descended
+pub mod Crossing
+pub mod Beneath

@@ -62,7 +62,7 @@ nodes_set (h ∷ hs) zero y d lt e = ap (λ x. x ∷ nodes_of hs) e
 nodes_set (h ∷ hs) (suc s) y d lt e = ap (λ xs. node_of h ∷ xs) (nodes_set hs s y d (omega (arith, lt)) e)
 
 -- what is in the list after one head was set is that head, or stands in another slot
-set_cases : (heads : List Head) (s : ℕ) (y h : Head) → s < length heads → Contains (set heads s y) h → (y ≡ h) ⊎ ((j : ℕ) × (j < length heads) × (j ≢ s) × (get_or heads j h ≡ h))
+pub set_cases : (heads : List Head) (s : ℕ) (y h : Head) → s < length heads → Contains (set heads s y) h → (y ≡ h) ⊎ ((j : ℕ) × (j < length heads) × (j ≢ s) × (get_or heads j h ≡ h))
 set_cases heads s y h lt c =
     elim (cases_eq c.0 s) [
       | inl same ↦ inl (sym (get_or-set_same heads s y h lt) ∙ subst (λ k. get_or (set heads s y) k h ≡ h) same c.2)

@@ -17,7 +17,7 @@ use Rattle.fst_graph.specs.Heads.{IsRising, patch_of, patches_of}
 use Rattle.fst_graph.specs.Marks.{HasSlot, HasNone, PassesAt}
 use Rattle.fst_graph.specs.Tests.{passes, is_hard_kind}
 use Rattle.fst_graph.specs.Reaching.{IsHardIn}
-use Rattle.fst_graph.specs.Grading.{HasUnder, IsReturning, MayBeHard, IsHardNumber, RestsOnHard}
+use Rattle.fst_graph.specs.Grading.{HasUnder, IsReturning, IsOpenBut, MayBeHard, IsHardNumber, RestsOnHard}
 use Rattle.fst_graph.proofs.Slots.{direct_at, patch_at, patch_is, patch_slot, slot_in, none_slot}
 use Rattle.fst_graph.proofs.Leading.{one_block, same_patch}
 use Rattle.fst_graph.proofs.Obstacles.{hard_from, hard_to}
@@ -71,7 +71,7 @@ module _ (heads : List Head) (rising : IsRising heads) (b : ℕ) (row : List ℕ
   abbrev patches : List Patch
   patches = patches_of heads
 
-  pub rests_may : MayBeHard patches b row
+  pub rests_may : MayBeHard patches None b row
   rests_may = record {
     free = λ u. let h = rests u.0 u.1 in elim u.2 [
       | inl o ↦
@@ -120,6 +120,14 @@ module _ (heads : List Head) (rising : IsRising heads) (b : ℕ) (row : List ℕ
           })) l.reaches)
     ];
   }
+
+-- what may be hard may be so where a gate is taken as sealed
+pub may_but : (heads : List Patch) (but : Option ℕ) (b : ℕ) (row : List ℕ) → MayBeHard heads None b row → MayBeHard heads but b row
+may_but heads but b row may = record { free = λ u. may.free (u.0, u.1, elim u.2 [ inl o ↦ inl (is_open but u.0 o) | inr r ↦ inr (r.0, r.1, is_open but r.0 r.2) ]); straight = may.straight; open_ended = may.open_ended }
+  where
+    is_open : (o : Option ℕ) (n : ℕ) → IsOpenBut heads o n → IsOpenNumber heads n
+    is_open None n e = e
+    is_open (Some gate) n e = e.0
 
 -- an open gate in the row is under it
 pub names_under : (heads : List Patch) (row : List ℕ) → ((n : ℕ) × Contains row n × IsOpenNumber heads n) → HasUnder heads row (IsOpenNumber heads)

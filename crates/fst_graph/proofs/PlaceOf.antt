@@ -1,5 +1,5 @@
 -- The place of a number.
-use Rattle.std.proofs.Common.{◌≡◌, ℕ, ◌==◌, ◌&&◌, nat_le, true, List, Contains, Some, None, find, Option, IfNone, refl, subst, inl, inr, arith}
+use Rattle.std.proofs.Common.{◌≡◌, ℕ, ◌==◌, ◌&&◌, nat_le, true, List, Contains, Some, None, find, Option, IfNone, refl, subst, inl, inr, arith, IfSome}
 use Rattle.fst_types.specs.declared.place.Place.TheVariants as place
 use Rattle.fst_types.specs.Patches.{Patch, IsRising}
 use Rattle.fst_types.specs.Gates.{IsGiven}
@@ -27,3 +27,8 @@ place_none heads numbers n g = elim (cases_Bool (nat_le 1 n && nat_le n numbers)
 pub none_then : {X : Type 0} (r : Option X) {P Q : Type 0} → (P → Q) → IfNone r P → IfNone r Q
 none_then None f p = f p
 none_then (Some x) f p = tt
+
+-- and where it is some
+pub some_then : {X : Type 0} (r : Option X) {P Q : X → Type 0} → ((x : X) → P x → Q x) → IfSome r P → IfSome r Q
+some_then None f p = tt
+some_then (Some x) f p = f x p

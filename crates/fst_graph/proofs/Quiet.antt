@@ -1,5 +1,5 @@
 -- A change over changes of one block alone, from which no edge of the block graph leads away, may be hard.
-use Rattle.std.proofs.Common.{◌≡◌, ◌⊎◌, ◌<◌, ℕ, true, List, length, get_or, count_by, Contains, refl, sym, ap, subst, ◌∙◌, inl, inr}
+use Rattle.std.proofs.Common.{◌≡◌, ◌⊎◌, ◌<◌, ℕ, true, List, length, get_or, count_by, Contains, refl, sym, ap, subst, ◌∙◌, inl, inr, None}
 use Rattle.std.proofs.lemmas.Bool.{cases_Bool}
 use Rattle.fst_types.specs.declared.place.Place.TheVariants as place
 use Rattle.fst_types.specs.Closure.{one, join}
@@ -101,7 +101,7 @@ module _ (nodes : List Node) (blocks : ℕ) (rising : IsRising (patches_in nodes
           | inr none ↦ quiet_reaches none b (subst (λ d. Reaches patches d b) same l.reaches)
         ]
 
-    pub quiet_may : (b : ℕ) (row : List ℕ) → (c ≡ b) ⊎ (count_by (is_held_on c) nodes ≡ 0) → ((n : ℕ) → Contains row n → IsLow c (told n)) → MayBeHard patches b row
+    pub quiet_may : (b : ℕ) (row : List ℕ) → (c ≡ b) ⊎ (count_by (is_held_on c) nodes ≡ 0) → ((n : ℕ) → Contains row n → IsLow c (told n)) → MayBeHard patches None b row
     quiet_may b row quiet all = record {
       free = λ u. let q = low_under row (IsOpenNumber patches) all u in low_open q.0 q.1 q.2;
       straight = λ u. let q = low_under row (IsReturning patches b) all u in low_returning b q.0 q.1 q.2;
@@ -121,19 +121,19 @@ module _ (heads : List Head) (standings : List Standing) (rising : HeadsRise hea
   nodes_rest : IsOnDiskWithAll (patches_in (nodes_of heads))
   nodes_rest = rw (patches_in_nodes heads) D
 
-  pub nothing_may : joined (pending_in (nodes_of heads)) row ≡ pending.Nothing → MayBeHard (patches_of heads) b row
+  pub nothing_may : joined (pending_in (nodes_of heads)) row ≡ pending.Nothing → MayBeHard (patches_of heads) None b row
   nothing_may e = rw (← patches_in_nodes heads)
       (quiet_may (nodes_of heads) (length standings) nodes_rise nodes_rest S b b row (inl refl) (λ n h. inl (joined_nothing (pending_in (nodes_of heads)) row e n h)))
 
   pub block_inside : (c : ℕ) → joined (pending_in (nodes_of heads)) row ≡ pending.Block c → c < length standings
   block_inside c e = joined_inside (nodes_of heads) (length standings) nodes_rise nodes_rest S row c e
 
-  pub own_may : (c : ℕ) → joined (pending_in (nodes_of heads)) row ≡ pending.Block c → c ≡ b → MayBeHard (patches_of heads) b row
+  pub own_may : (c : ℕ) → joined (pending_in (nodes_of heads)) row ≡ pending.Block c → c ≡ b → MayBeHard (patches_of heads) None b row
   own_may c e own = rw (← patches_in_nodes heads)
       (quiet_may (nodes_of heads) (length standings) nodes_rise nodes_rest S c b row (inl own) (joined_block (pending_in (nodes_of heads)) row c e))
 
   pub quiet_block_may : (c : ℕ) (d : Standing) → AllStand (nodes_of heads) (length standings) standings → joined (pending_in (nodes_of heads)) row ≡ pending.Block c
-      → (get_or standings c d).held ≡ 0 → MayBeHard (patches_of heads) b row
+      → (get_or standings c d).held ≡ 0 → MayBeHard (patches_of heads) None b row
   quiet_block_may c d A e none =
       let held = sym (ap (λ s. s.held) (A.each c d (block_inside c e))) ∙ none in
       rw (← patches_in_nodes heads)

@@ -1,5 +1,5 @@
 -- What is prepared.
-use Rattle.std.proofs.Common.{◌≡◌, ℕ, ◌+◌, Bool, true, false, ◌&&◌, List, [], ◌∷◌, ◌++◌, length, take, drop, length-append, length-drop, arith, Some, refl, ap, ◌∙◌, eqb}
+use Rattle.std.proofs.Common.{◌≡◌, ℕ, ◌+◌, Bool, true, false, ◌&&◌, List, [], ◌∷◌, ◌++◌, length, take, drop, length-append, length-drop, arith, Option, Some, None, IfSome, option_map, is_some, subst, refl, sym, ap, ◌∙◌, eqb}
 use Rattle.std.specs.Bool.{Decides}
 use Rattle.std.proofs.lemmas.List.{length-take}
 use Rattle.std.proofs.lemmas.Bool.{false≢true}
@@ -11,9 +11,10 @@ use Rattle.fst_types.specs.declared.grade.Grade.TheVariants as grade
 use Rattle.fst_types.specs.Grades.{FollowsRule}
 use Rattle.fst_types.specs.Patches.{Patch}
 use Rattle.fst_graph.specs.Keeps.{Keeps}
+use Rattle.fst_graph.specs.declared.prepared.Gates.{Gates}
 use Rattle.fst_graph.specs.declared.prepared.Prepared.{Prepared as Stored}
-use Rattle.fst_graph.specs.Known.{prepared_for, numbers_of}
-use Rattle.fst_graph.specs.Ready.{prepared_of}
+use Rattle.fst_graph.specs.Known.{Prepared, prepared_for, member_for, numbers_of}
+use Rattle.fst_graph.specs.Ready.{prepared_of, IsReady, IsMemberReady, IsReadyFor, MayBePut}
 
 -- what is graded hard may be hard
 pub hard_may : (g : Grade) (P : Type 0) → FollowsRule g P → Some g ≡ Some grade.Hard → P
@@ -48,17 +49,27 @@ same_names (x ∷ xs) (y ∷ ys) e =
     let name : x ≡ y = ap (λ n. record { 0 = n }) first in
     let names = same_names xs ys rest in cc
 
+-- whether there are gates
+pub no_gates_left : (g : Option Gates) → is_some g ≡ false → g ≡ None
+no_gates_left None e = refl
+no_gates_left (Some x) e = absurd (false≢true (sym e))
+
+-- without a head there are no gates
+pub no_gates : (g : Option Gates) → option_map (λ x. x.head) g ≡ None → g ≡ None
+no_gates None e = refl
+no_gates (Some x) e = cc
+
 -- what is kept is seen as what is prepared for its arguments
 module _ (numbers : ℕ) (p : Stored) (b : ℕ) (span : Span) (after : List PatchNo) where
-  pub seen_for : (p.block ≡ b) × (p.span ≡ span) × (p.names.items ≡ after) → Some (prepared_of numbers p) ≡ Some (prepared_for b span.at span.len (numbers_of after) (numbers + 1) p.grade)
-  seen_for h = rw (← h.0, ← h.1, ← h.2) refl
+  pub seen_for : (p.block ≡ b) × (p.span ≡ span) × (p.names.items ≡ after) × (p.gates ≡ None) → Some (prepared_of numbers p) ≡ Some (prepared_for b span.at span.len (numbers_of after) (numbers + 1) p.grade)
+  seen_for h = rw (← h.0, ← h.1, ← h.2, h.3) refl
 
-  pub for_seen : (number : ℕ) (grade : Grade) → Some (prepared_of numbers p) ≡ Some (prepared_for b span.at span.len (numbers_of after) number grade) → (p.block ≡ b) × (p.span ≡ span) × (p.names.items ≡ after)
+  pub for_seen : (number : ℕ) (grade : Grade) → Some (prepared_of numbers p) ≡ Some (prepared_for b span.at span.len (numbers_of after) number grade) → (p.block ≡ b) × (p.span ≡ span) × (p.names.items ≡ after) × (p.gates ≡ None)
   for_seen number grade e =
       let same : prepared_of numbers p ≡ prepared_for b span.at span.len (numbers_of after) number grade = cc in
       let at : p.span.at ≡ span.at = ap (λ q. q.at) same in
       let len : p.span.len ≡ span.len = ap (λ q. q.len) same in
-      (ap (λ q. q.block) same, same_span p.span span at len, same_names p.names.items after (ap (λ q. q.after) same))
+      (ap (λ q. q.block) same, same_span p.span span at len, same_names p.names.items after (ap (λ q. q.after) same), no_gates p.gates (ap (λ q. q.group) same))
 
 -- other marks of the same length keep as much
 pub keeps_marks : (heads : List Patch) (numbers blocks : ℕ) (marks new : List Bool) → Keeps heads numbers blocks marks → length new ≡ length marks → Keeps heads numbers blocks new
@@ -72,3 +83,39 @@ keeps_marks heads numbers blocks marks new K long = record {
 -- what a slice of a row leaves there is as long
 pub as_long : (old new : List Bool) (n : ℕ) → n ≡ length old → length new ≡ length old → length (take n (new ++ drop (length new) old)) ≡ length old
 as_long old new n all same = omega (arith, all, same, length-take n (new ++ drop (length new) old), length-append new (drop (length new) old), length-drop (length new) old)
+
+-- what is prepared for no group is ready as it is
+pub ready_alone : (numbers : ℕ) (o : Option Stored) (p : Stored) (q : Prepared) (heads : List Patch) (n blocks : ℕ) → o ≡ Some p → option_map (prepared_of numbers) o ≡ Some q → q.group ≡ None → IfSome o (MayBePut heads n blocks) → IsReady heads n blocks p
+ready_alone numbers o p q heads n blocks kept seen alone ready =
+    let there : MayBePut heads n blocks p = subst (λ x. IfSome x (MayBePut heads n blocks)) kept ready in
+    let same : prepared_of numbers p ≡ q = some_same (prepared_of numbers p) q (sym (ap (option_map (prepared_of numbers)) kept) ∙ seen) in
+    subst (λ g. IsReadyFor g heads n blocks p) (no_gates p.gates (ap (λ x. x.group) same ∙ alone)) there
+  where
+    some_same : (x y : Prepared) → Some x ≡ Some y → x ≡ y
+    some_same x y e = cc
+
+-- what is kept is seen as what is prepared for a group
+module _ (numbers : ℕ) (p : Stored) (gates : Gates) (heads : List Patch) (n blocks : ℕ) (ready : IsMemberReady heads n blocks gates p) (kept : p.gates ≡ Some gates) (head b : ℕ) (span : Span) where
+  pub seen_member : (p.block ≡ b) × (p.span ≡ span) × (option_map (λ (g : Gates). g.head) p.gates ≡ Some head) → Some (prepared_of numbers p) ≡ Some (member_for head b span.at span.len (numbers + 1) p.grade)
+  seen_member h =
+      let own : gates.head ≡ head = some_head gates.head head (sym (ap (option_map (λ (g : Gates). g.head)) kept) ∙ h.2) in
+      rw (ready.names, own, ← h.0, ← h.1, h.2) refl
+    where
+      some_head : (x y : ℕ) → Some x ≡ Some y → x ≡ y
+      some_head x y e = cc
+
+pub member_seen : (numbers : ℕ) (p : Stored) (head b : ℕ) (span : Span) (number : ℕ) (grade : Grade) → Some (prepared_of numbers p) ≡ Some (member_for head b span.at span.len number grade) → (p.block ≡ b) × (p.span ≡ span) × (option_map (λ (g : Gates). g.head) p.gates ≡ Some head)
+member_seen numbers p head b span number grade e =
+    let same : prepared_of numbers p ≡ member_for head b span.at span.len number grade = cc in
+    (ap (λ q. q.block) same, same_span p.span span (ap (λ q. q.at) same) (ap (λ q. q.len) same), ap (λ q. q.group) same)
+
+-- of a group
+pub ready_member : (numbers : ℕ) (p : Stored) (head : ℕ) (heads : List Patch) (n blocks : ℕ) → option_map (λ (g : Gates). g.head) p.gates ≡ Some head → MayBePut heads n blocks p → (gates : Gates) × (p.gates ≡ Some gates) × IsMemberReady heads n blocks gates p
+ready_member numbers p head heads n blocks named ready = by_gates p.gates named ready
+  where
+    by_gates : (g : Option Gates) → option_map (λ (x : Gates). x.head) g ≡ Some head → IsReadyFor g heads n blocks p → (gates : Gates) × (g ≡ Some gates) × IsMemberReady heads n blocks gates p
+    by_gates None e r = absurd (cc)
+    by_gates (Some gates) e r = (gates, refl, r)
+
+pub member_put : (p : Stored) (gates : Gates) (heads : List Patch) (n blocks : ℕ) → p.gates ≡ Some gates → IsMemberReady heads n blocks gates p → MayBePut heads n blocks p
+member_put p gates heads n blocks kept ready = subst (λ g. IsReadyFor g heads n blocks p) (sym kept) ready

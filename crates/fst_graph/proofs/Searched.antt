@@ -1,16 +1,21 @@
 -- What the search for a cycle finds.
-use Rattle.std.proofs.Common.{◌≡◌, ◌⊎◌, ◌↔◌, ◌<◌, ℕ, List, [], Contains, refl, sym, ap, subst, inl, inr, arith}
+use Rattle.std.proofs.Common.{◌≡◌, ◌⊎◌, ◌↔◌, ◌<◌, ℕ, List, [], ◌∷◌, length, get_or, Contains, refl, sym, ap, subst, inl, inr, arith}
 use Rattle.fst_types.specs.Closure.{Closure, one, join}
 use Rattle.fst_types.specs.Dependencies.{DependsOn}
 use Rattle.fst_types.specs.Gates.{IsOpenNumber}
-use Rattle.fst_types.specs.Order.{NamesAbove}
 use Rattle.fst_types.specs.Patches.{Patch}
 use Rattle.fst_types.proofs.Finite.{In-from_Contains, last_step}
 use Rattle.fst_graph.specs.declared.pending.Pending.{Pending}
 use Rattle.fst_graph.specs.declared.pending.Pending.TheVariants as pending
 use Rattle.fst_graph.specs.Descending.{IsLedFrom, Visits}
 use Rattle.fst_graph.specs.Marks.{IsAbove}
-use Rattle.fst_graph.specs.Nodes.{Node, patches_in, times, AreLinked}
+use Rattle.fst_graph.specs.declared.head.Head.{Head}
+use Rattle.fst_graph.specs.Heads.{patches_of}
+use Rattle.fst_graph.specs.Marks.{HasSlot}
+use Rattle.fst_graph.specs.Nodes.{Node, node_of, nodes_of, patches_in, times, AreLinked}
+use Rattle.fst_graph.proofs.AtNumber.{patches_in_nodes}
+use Rattle.fst_graph.proofs.PendingAt.{node_in}
+use Rattle.fst_graph.proofs.Slots.{any_default}
 use Rattle.fst_graph.specs.Searching.{AreHeldByGates, IsNextHeld}
 use Rattle.fst_graph.proofs.Placed.{node_of_patch}
 use Rattle.fst_graph.proofs.Visiting.{none_in}
@@ -31,20 +36,24 @@ module _ (patches : List Patch) (told : ℕ → Pending) (held : AreHeldByGates 
   goes_down n m (one d) e above = one (d, e)
   goes_down n m (join {q = r} c d) e above = join (goes_down n r c (above r d) (λ q b. above q (join b d))) (goes_down r m d e above)
 
-  pub searched : (names start met : List ℕ) → Visits (λ n. Contains names n × (told n ≡ pending.Held)) [] start → ((n : ℕ) → Contains met n ↔ IsLedFrom (IsNextHeld patches told) start n)
-      → Contains met gate ↔ NamesAbove patches gate names
-  searched names start met starts led = (from, to)
+  -- one of those from which the search starts is the gate, or depends on it
+  abbrev StartsAbove : (ℕ → Type 0) → Type 0
+  StartsAbove Start = (n : ℕ) × Start n × ((n ≡ gate) ⊎ DependsOn patches n gate)
+
+  pub searched : (Start : ℕ → Type 0) (start met : List ℕ) → Visits (λ n. Start n × (told n ≡ pending.Held)) [] start → ((n : ℕ) → Contains met n ↔ IsLedFrom (IsNextHeld patches told) start n)
+      → Contains met gate ↔ StartsAbove Start
+  searched Start start met starts led = (from, to)
     where
-      begun : (n : ℕ) → Contains start n → Contains names n
+      begun : (n : ℕ) → Contains start n → Start n
       begun n c = elim (starts.only n c) [ inl none ↦ absurd (none_in n none) | inr k ↦ k.0 ]
 
-      from : Contains met gate → NamesAbove patches gate names
+      from : Contains met gate → StartsAbove Start
       from c = elim ((led gate).0 c) [
         | inl first ↦ (gate, begun gate first, inl refl)
         | inr r ↦ (r.0, begun r.0 r.1, inr (steps_down r.0 gate r.2))
       ]
 
-      to : NamesAbove patches gate names → Contains met gate
+      to : StartsAbove Start → Contains met gate
       to a = (led gate).1 (elim a.2 [
         | inl e ↦ inl (subst (Contains start) e (starts.each a.0 (a.1, subst (λ n. told n ≡ pending.Held) (sym e) ((held gate).1 (inl is_open)))))
         | inr d ↦ inr (a.0, starts.each a.0 (a.1, above_held a.0 d), goes_down a.0 gate d ((held gate).1 (inl is_open)) above_held)
@@ -64,3 +73,16 @@ none_above nodes x c linked none n d =
     let some = subst (λ k. 0 < k) (sym (linked y.0 x y.1 c)) (times_some y.0.patch.dependencies x.patch.number (In-from_Contains y.0.patch.dependencies x.patch.number named)) in
     let empty : times x.dependants y.0.patch.number ≡ 0 = ap (λ row. times row y.0.patch.number) none in
     absurd (omega (arith, some, empty))
+
+-- a list without elements
+no_elements : (xs : List ℕ) → length xs ≡ 0 → xs ≡ []
+no_elements [] e = refl
+no_elements (x ∷ xs) e = absurd (omega (arith, e))
+
+-- the same of heads
+pub none_depend : (heads : List Head) (gate s : ℕ) (d : Head) → AreLinked (nodes_of heads) → HasSlot heads gate s → length (get_or heads s d).dependants.items ≡ 0 → (n : ℕ) → DependsOn (patches_of heads) n gate → ⊥
+none_depend heads gate s d linked slot empty n on =
+    let x : Head = get_or heads s d in
+    let here = node_in heads s x slot.0 (any_default heads s d x slot.0) in
+    none_above (nodes_of heads) (node_of x) here linked (no_elements x.dependants.items empty) n
+    (subst (λ ps. DependsOn ps n x.number) (sym (patches_in_nodes heads)) (subst (DependsOn (patches_of heads) n) (sym (slot.1 d)) on))

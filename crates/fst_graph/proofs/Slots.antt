@@ -1,5 +1,5 @@
 -- Slots, numbers and marks.
-use Rattle.std.proofs.Common.{◌==◌, cond, find, AllPairs, ◌≡◌, ◌≢◌, ℕ, zero, suc, ◌<◌, Bool, true, false, List, [], ◌∷◌, length, get_or, Contains, Some, None, Result, Ok, Err, refl, sym, ap, subst, ◌∙◌, inl, inr, arith}
+use Rattle.std.proofs.Common.{◌==◌, cond, find, All, AllPairs, ◌≡◌, ◌≢◌, ℕ, zero, suc, ◌<◌, Bool, true, false, List, [], ◌∷◌, length, get_or, Contains, Some, None, Result, Ok, Err, refl, sym, ap, subst, ◌∙◌, inl, inr, arith}
 use Rattle.std.specs.List.Sorted.{IsSearchInRange, IsBinarySearchResult, IsNonDecreasingBy}
 use Rattle.std.specs.Ordering.{nat_cmp, ordering_index}
 use Rattle.std.proofs.lemmas.Cmp.{ranked}
@@ -28,22 +28,28 @@ pub some_element : {X : Type 0} (xs : List X) (k : ℕ) → k < length xs → X
 some_element [] k h = absurd (omega (arith, h))
 some_element (y ∷ ys) k h = y
 
-module _ (heads : List Head) (rising : IsRising heads) (n : ℕ) where
-  compared : (e : Head) → IsNonDecreasingBy (λ h. ordering_index (nat_cmp h.number n)) heads
-  compared e = IsNonDecreasingBy-from_default (λ h. ordering_index (nat_cmp h.number n)) heads e (λ i j le lt.
-      let below : (i < j) → (get_or heads i e).number < (get_or heads j e).number = λ h. rising i j e h lt in
-      let same : i ≡ j → (get_or heads i e).number ≡ (get_or heads j e).number = λ k. ap (λ m. (get_or heads m e).number) k in
+-- a search among keys that rise
+module _ {X : Type 0} (key : X → ℕ) (xs : List X) (rising : AllPairs (λ x y. key x < key y) xs) (n : ℕ) where
+  compared : (e : X) → IsNonDecreasingBy (λ h. ordering_index (nat_cmp (key h) n)) xs
+  compared e = IsNonDecreasingBy-from_default (λ h. ordering_index (nat_cmp (key h) n)) xs e (λ i j le lt.
+      let below : (i < j) → key (get_or xs i e) < key (get_or xs j e) = λ h. rising i j e h lt in
+      let same : i ≡ j → key (get_or xs i e) ≡ key (get_or xs j e) = λ k. ap (λ m. key (get_or xs m e)) k in
       grind (arith, nat_tests, below, same))
 
-  pub searched : (r : Result ℕ ℕ) → IsSearchInRange r (length heads) → IsBinarySearchResult (λ h. nat_cmp h.number n) heads r → record { found : (slot : ℕ) → r ≡ Ok slot → HasSlot heads n slot; none : (slot : ℕ) → r ≡ Err slot → HasNone heads n }
-  searched (Ok at) in_range equal = record { found = λ slot e. let same : at ≡ slot = cc in subst (HasSlot heads n) same (in_range, λ d. ranked _ n _ (sym (equal d))); none = λ slot e. cc }
-  searched (Err at) in_range parted = record {
+  pub searched_by : (r : Result ℕ ℕ) → IsSearchInRange r (length xs) → IsBinarySearchResult (λ h. nat_cmp (key h) n) xs r
+      → record { found : (slot : ℕ) → r ≡ Ok slot → (slot < length xs) × ((d : X) → key (get_or xs slot d) ≡ n); none : (slot : ℕ) → r ≡ Err slot → All (λ h. key h ≢ n) xs }
+  searched_by (Ok at) in_range equal = record { found = λ slot e. let same : at ≡ slot = cc in subst (λ k. (k < length xs) × ((d : X) → key (get_or xs k d) ≡ n)) same (in_range, λ d. ranked _ n _ (sym (equal d))); none = λ slot e. cc }
+  searched_by (Err at) in_range parted = record {
     found = λ slot e. cc;
     none = λ slot e k d lt same. elim (cases_lt k at) [
       | inl before ↦ let r = ranked _ n _ (sym ((parted (compared d)).0 k d (omega arith) before)) in omega (arith, r, same)
       | inr after ↦ let r = ranked _ n _ (sym ((parted (compared d)).1 k d after lt)) in omega (arith, r, same)
     ];
   }
+
+pub searched : (heads : List Head) (rising : IsRising heads) (n : ℕ) (r : Result ℕ ℕ) → IsSearchInRange r (length heads) → IsBinarySearchResult (λ h. nat_cmp h.number n) heads r
+    → record { found : (slot : ℕ) → r ≡ Ok slot → HasSlot heads n slot; none : (slot : ℕ) → r ≡ Err slot → HasNone heads n }
+searched heads rising n r in_range result = let s = searched_by (λ (h : Head). h.number) heads rising n r in_range result in record { found = s.found; none = s.none }
 
 pub slot_unique : (heads : List Head) (q s t : ℕ) → IsRising heads → HasSlot heads q s → HasSlot heads q t → s ≡ t
 slot_unique [] q s t rising a b = absurd (omega (arith, a.0))

@@ -1,5 +1,5 @@
 -- What a new change depends on.
-use Rattle.std.proofs.Common.{◌≡◌, ◌⊎◌, ℕ, ◌+◌, ◌<◌, ◌≤◌, ◌==◌, ◌&&◌, nat_lt, Bool, true, false, not, List, [], ◌∷◌, ◌++◌, length, Contains, Some, refl, sym, ap, subst, ◌∙◌, inl, inr, arith}
+use Rattle.std.proofs.Common.{◌≡◌, ◌⊎◌, ℕ, ◌+◌, ◌<◌, ◌≤◌, ◌==◌, ◌&&◌, nat_lt, Bool, true, false, not, List, [], ◌∷◌, ◌++◌, length, Contains, Some, refl, sym, ap, subst, ◌∙◌, inl, inr, arith, None}
 use Rattle.std.proofs.lemmas.Bool.{cases_Bool, eqb-true, eq-eqb, false≢true}
 use Rattle.std.proofs.lemmas.Bool.Decides.{nat_tests}
 use Rattle.std.proofs.lemmas.List.{length_push}
@@ -59,7 +59,7 @@ touch_parts b at len SealedGate p e = absurd (false≢true e)
 some_injective : (a b : ℕ) → Some a ≡ Some b → a ≡ b
 some_injective a b e = cc
 
-touch_whole : (b at len : ℕ) (k : Kind) (p : Place) → (p ≡ place.Disk → ⊥) → block_of_kind k ≡ Some b → at_of k < at + len → at < at_of k + len_of k → kind_touches b at len k p ≡ true
+pub touch_whole : (b at len : ℕ) (k : Kind) (p : Place) → (p ≡ place.Disk → ⊥) → block_of_kind k ≡ Some b → at_of k < at + len → at < at_of k + len_of k → kind_touches b at len k p ≡ true
 touch_whole b at len (Change on own_at own_len grade) p live on_b lo hi =
     whole (is_live_place p) (on == b) (nat_lt own_at (at + len)) (nat_lt at (own_at + own_len)) (live_to p live) (eq-eqb on b (some_injective on b on_b)) (grind (arith, nat_tests, lo)) (grind (arith, nat_tests, hi))
 touch_whole b at len Empty p live on_b lo hi = cc
@@ -89,7 +89,7 @@ depends_exactly heads names b at len number grade deps row l = record {
 }
 
 -- a change that is touched is listed by its block, and its entry shares a byte
-touch_entry : (b at len : ℕ) (k : Kind) (p : Place) → kind_touches b at len k p ≡ true → ((not (is_at p place.Disk) && is_on b k) ≡ true) × (shares at len (at_of k) (len_of k) ≡ true)
+pub touch_entry : (b at len : ℕ) (k : Kind) (p : Place) → kind_touches b at len k p ≡ true → ((not (is_at p place.Disk) && is_on b k) ≡ true) × (shares at len (at_of k) (len_of k) ≡ true)
 touch_entry b at len (Change on own_at own_len grade) place.Memory e = let k = parts true (on == b) (nat_lt own_at (at + len)) (nat_lt at (own_at + own_len)) e in (k.1, rw (k.2, k.3) refl)
 touch_entry b at len (Change on own_at own_len grade) place.Flight e = let k = parts true (on == b) (nat_lt own_at (at + len)) (nat_lt at (own_at + own_len)) e in (k.1, rw (k.2, k.3) refl)
 touch_entry b at len (Change on own_at own_len grade) place.Disk e = absurd (false≢true e)
@@ -101,7 +101,7 @@ and_false : (a : Bool) → (a && false) ≡ true → ⊥
 and_false true e = false≢true e
 and_false false e = false≢true e
 
-entry_touch : (b at len : ℕ) (k : Kind) (p : Place) → (not (is_at p place.Disk) && is_on b k) ≡ true → shares at len (at_of k) (len_of k) ≡ true → kind_touches b at len k p ≡ true
+pub entry_touch : (b at len : ℕ) (k : Kind) (p : Place) → (not (is_at p place.Disk) && is_on b k) ≡ true → shares at len (at_of k) (len_of k) ≡ true → kind_touches b at len k p ≡ true
 entry_touch b at len (Change on own_at own_len grade) place.Memory e s = rw e s
 entry_touch b at len (Change on own_at own_len grade) place.Flight e s = rw e s
 entry_touch b at len (Change on own_at own_len grade) place.Disk e s = absurd (false≢true e)
@@ -110,18 +110,18 @@ entry_touch b at len OpenGate p e s = absurd (and_false (not (is_at p place.Disk
 entry_touch b at len SealedGate p e s = absurd (and_false (not (is_at p place.Disk)) e)
 
 -- the list of a block has its live changes, and no others
-in_entries : (b : ℕ) (ps : List Patch) (p : Patch) → In ps p → is_live_on b p ≡ true → In (entries_on b ps) (entry p)
+pub in_entries : (b : ℕ) (ps : List Patch) (p : Patch) → In ps p → is_live_on b p ≡ true → In (entries_on b ps) (entry p)
 in_entries b [] p i live = absurd i
 in_entries b (q ∷ qs) p (inl e) live = rw (subst (λ x. is_live_on b x ≡ true) (sym e) live) (inl (ap entry e))
 in_entries b (q ∷ qs) p (inr i) live = elim (cases_Bool (is_live_on b q)) [ inl f ↦ rw f (inr (in_entries b qs p i live)) | inr f ↦ rw f (in_entries b qs p i live) ]
 
-record IsEntry (b : ℕ) (ps : List Patch) (e : Entry) : Type 0 where
-  patch : Patch
-  head : In ps patch
-  live : is_live_on b patch ≡ true
-  same : entry patch ≡ e
+pub record IsEntry (b : ℕ) (ps : List Patch) (e : Entry) : Type 0 where
+  pub patch : Patch
+  pub head : In ps patch
+  pub live : is_live_on b patch ≡ true
+  pub same : entry patch ≡ e
 
-entries_in : (b : ℕ) (ps : List Patch) (e : Entry) → In (entries_on b ps) e → IsEntry b ps e
+pub entries_in : (b : ℕ) (ps : List Patch) (e : Entry) → In (entries_on b ps) e → IsEntry b ps e
 entries_in b [] e i = absurd i
 entries_in b (q ∷ qs) e i = elim (cases_Bool (is_live_on b q)) [
   | inl f ↦ elim (rw f at i) [ inl same ↦ record { patch = q; head = inl refl; live = f; same = same } | inr j ↦ let r = entries_in b qs e j in record { patch = r.patch; head = inr r.head; live = r.live; same = r.same } ]
@@ -209,7 +209,7 @@ module _ (heads : List Patch) (numbers blocks : ℕ) (marks : List Bool) (K : Ke
   }
 
   -- the grade by the row is the grade of the new change
-  pub graded_change : FollowsRule grade (MayBeHard heads b deps) → FollowsRule grade (IsGradedHard heads (heads ++ new_change ∷ []) b (numbers + 1))
+  pub graded_change : FollowsRule grade (MayBeHard heads None b deps) → FollowsRule grade (IsGradedHard heads (heads ++ new_change ∷ []) b (numbers + 1))
   graded_change follows = graded_rule heads numbers within b at len grade deps named follows
 
   pub keeps_change : b < blocks → length heads < max_heads → (IsHard new_change → IsGradedHard heads (heads ++ new_change ∷ []) b (numbers + 1)) → Keeps (heads ++ new_change ∷ []) (numbers + 1) blocks (marks ++ false ∷ [])

@@ -1,5 +1,5 @@
 -- When a new change may be hard, said of what it depends on.
-use Rattle.std.specs.Prelude.{◌≡◌, ◌≢◌, ℕ, Bool, List, Contains}
+use Rattle.std.specs.Prelude.{◌≡◌, ◌≢◌, ℕ, Bool, List, Option, Some, None, Contains}
 use Rattle.fst_types.specs.Patches.{Patch, IsOn, IsLive}
 use Rattle.fst_types.specs.Dependencies.{Needs}
 use Rattle.fst_types.specs.Gates.{IsOpenNumber}
@@ -52,8 +52,18 @@ pub record IsHardNumber (heads : List Patch) (b n : ℕ) : Type 0 where
 abbrev pub RestsOnHard : List Patch → ℕ → List ℕ → Type 0
 RestsOnHard heads b row = (n : ℕ) → Contains row n → IsHardNumber heads b n
 
--- a new change of b that directly depends on the row may be hard
-pub record MayBeHard (heads : List Patch) (b : ℕ) (row : List ℕ) : Type 0 where
-  pub free : HasUnder heads row (IsOpenNumber heads) → ⊥
+-- no way leads from the row back to b: no change of another block at or below it has a need on b or is on a block that reaches b
+pub record LeadsNowhere (heads : List Patch) (b : ℕ) (row : List ℕ) : Type 0 where
+  pub straight : HasUnder heads row (IsReturning heads b) → ⊥
+  pub open_ended : HasUnder heads row (IsLeading heads b) → ⊥
+
+-- n is the number of an open gate, and not of the one that is taken as sealed, if there is one
+abbrev pub IsOpenBut : List Patch → Option ℕ → ℕ → Type 0
+IsOpenBut heads None n = IsOpenNumber heads n
+IsOpenBut heads (Some gate) n = IsOpenNumber heads n × (n ≢ gate)
+
+-- a new change of b that directly depends on the row may be hard, where that gate is taken as sealed
+pub record MayBeHard (heads : List Patch) (but : Option ℕ) (b : ℕ) (row : List ℕ) : Type 0 where
+  pub free : HasUnder heads row (IsOpenBut heads but) → ⊥
   pub straight : HasUnder heads row (IsReturning heads b) → ⊥
   pub open_ended : HasUnder heads row (IsLeading heads b) → ⊥

@@ -1,5 +1,5 @@
 -- What a graph knows, and what its calls make of it.
-use Rattle.std.specs.Prelude.{◌≡◌, ◌≢◌, ◌⊎◌, ◌+◌, ℕ, List, [], ◌∷◌, ◌++◌, Option, None, map, filter, count_by, Contains}
+use Rattle.std.specs.Prelude.{◌≡◌, ◌≢◌, ◌⊎◌, ◌+◌, ℕ, List, [], ◌∷◌, ◌++◌, Option, Some, None, map, filter, count_by, Contains}
 use Rattle.fst_types.specs.declared.number.PatchNo.{PatchNo}
 use Rattle.fst_types.specs.declared.fault.Fault.{Fault}
 use Rattle.fst_types.specs.declared.fault.Fault.TheVariants as fault
@@ -14,14 +14,15 @@ use Rattle.fst_types.specs.Grades.{IsGraded}
 use Rattle.fst_types.specs.Cascade.{IsCascadeOf}
 use Rattle.fst_types.specs.Tests.{is_at, is_live}
 use Rattle.fst_types.specs.Making.{fresh}
-use Rattle.fst_types.specs.Refusals.{Rule, IsFirst, NoneHolds}
+use Rattle.fst_types.specs.Refusals.{Rule, rule, IsFirst, NoneHolds}
 use Rattle.fst_types.specs.Order.{room_order, make_order, seal_order, depend_order}
 use Rattle.fst_types.specs.Gates.{IsOpenNumber}
+use Rattle.fst_types.specs.Groups.{Group, IsGroupGate}
 use Rattle.fst_types.specs.Gating.{sealed, gains}
 use Rattle.fst_types.specs.Writing.{launched, landed}
 use Rattle.fst_types.specs.Writable.{IsInMemoryOn, IsWritable, IsWritableSet}
 
--- a change that there is room for: its block, its bytes and the names given, and the number and the grade that it will have
+-- a change that there is room for: its block, its bytes and the names given, the number and the grade that it will have, and the group for which it is made, if there is one
 pub record Prepared : Type 0 where
   pub block : ℕ
   pub at : ℕ
@@ -29,22 +30,33 @@ pub record Prepared : Type 0 where
   pub after : List ℕ
   pub number : ℕ
   pub grade : Grade
+  pub group : Option ℕ
 
--- the patches that are not forgotten, the greatest number given, how many blocks there are, and what is prepared
+-- the patches that are not forgotten, the greatest number given, how many blocks there are, the groups, and what is prepared
 pub record Known : Type 0 where
   pub heads : List Patch
   pub numbers : ℕ
   pub blocks : ℕ
+  pub groups : List Group
   pub prepared : Option Prepared
 
 -- the same with nothing prepared
 abbrev pub unprepared : Known → Known
 unprepared known = record known { prepared = None }
 
+-- the same with these groups
+abbrev pub with_groups : Known → List Group → Known
+with_groups known groups = record known { groups = groups }
+
 -- what is prepared for these arguments, to have that number and grade
 abbrev pub prepared_for : (b at len : ℕ) (after : List ℕ) (number : ℕ) (grade : Grade) → Prepared
 prepared_for b at len after number grade =
-    record { block = b; at = at; len = len; after = after; number = number; grade = grade }
+    record { block = b; at = at; len = len; after = after; number = number; grade = grade; group = None }
+
+-- what is prepared for group n and these arguments
+abbrev pub member_for : (n b at len number : ℕ) (grade : Grade) → Prepared
+member_for n b at len number grade =
+    record { block = b; at = at; len = len; after = n ∷ []; number = number; grade = grade; group = Some n }
 
 -- the numbers of a list of names
 abbrev pub numbers_of : List PatchNo → List ℕ
@@ -53,6 +65,10 @@ numbers_of names = map (λ n. n.0) names
 -- the first rule that holds decides, and where none does memory was refused
 abbrev pub Refuses : List Rule → Fault → Type 0
 Refuses rules f = IsFirst rules f ⊎ (NoneHolds rules × (f ≡ fault.Memory))
+
+-- the gates of groups, whose numbers are given, are none to the calls of gates
+abbrev pub outside_groups : List Group → ℕ → List Rule → List Rule
+outside_groups groups gate rules = rule fault.NotGate (IsGroupGate groups gate) ∷ rules
 
 -- where a new empty patch with these dependencies is, all of them being live
 abbrev pub rest_place : List ℕ → Place
@@ -66,6 +82,7 @@ pub record AddsGate (old : Known) (number : ℕ) (new : Known) : Type 0 where
   pub heads : new.heads ≡ old.heads ++ fresh number OpenGate [] ∷ []
   pub numbers : new.numbers ≡ number
   pub blocks : new.blocks ≡ old.blocks
+  pub groups : new.groups ≡ old.groups
   pub prepared : new.prepared ≡ None
 
 -- a new empty patch: it depends on the live named patches, and is on disk where there are none
@@ -77,6 +94,7 @@ pub record AddsEmpty (old : Known) (after : List ℕ) (number : ℕ) (new : Know
   pub cascade : IsCascadeOf (old.heads ++ fresh number Empty dependencies ∷ []) new.heads
   pub numbers : new.numbers ≡ number
   pub blocks : new.blocks ≡ old.blocks
+  pub groups : new.groups ≡ old.groups
   pub prepared : new.prepared ≡ None
 
 -- an open gate is sealed, and what now rests on disk follows
@@ -86,6 +104,7 @@ pub record SealsGate (old : Known) (gate : ℕ) (new : Known) : Type 0 where
   pub cascade : IsCascadeOf (map (sealed gate) old.heads) new.heads
   pub numbers : new.numbers ≡ old.numbers
   pub blocks : new.blocks ≡ old.blocks
+  pub groups : new.groups ≡ old.groups
   pub prepared : new.prepared ≡ None
 
 -- an open gate gains the live named patches that it does not have yet; none of the named is the gate or depends on it
@@ -97,6 +116,7 @@ pub record DependsGate (old : Known) (g : ℕ) (on : List ℕ) (new : Known) : T
   pub heads : new.heads ≡ map (gains g names) old.heads
   pub numbers : new.numbers ≡ old.numbers
   pub blocks : new.blocks ≡ old.blocks
+  pub groups : new.groups ≡ old.groups
   pub prepared : new.prepared ≡ None
 
 -- the chosen are in flight
@@ -104,6 +124,7 @@ pub record Launches (old : Known) (chosen : List ℕ) (new : Known) : Type 0 whe
   pub heads : new.heads ≡ map (launched chosen) old.heads
   pub numbers : new.numbers ≡ old.numbers
   pub blocks : new.blocks ≡ old.blocks
+  pub groups : new.groups ≡ old.groups
   pub prepared : new.prepared ≡ None
 
 -- what was in flight of the block is on disk, and what now rests on disk follows
@@ -111,6 +132,7 @@ pub record LandsBlock (old : Known) (b : ℕ) (new : Known) : Type 0 where
   pub cascade : IsCascadeOf (map (landed b) old.heads) new.heads
   pub numbers : new.numbers ≡ old.numbers
   pub blocks : new.blocks ≡ old.blocks
+  pub groups : new.groups ≡ old.groups
   pub prepared : new.prepared ≡ None
 
 -- the chosen are the writable set of a writable block
@@ -129,6 +151,7 @@ pub record AddsChange (old : Known) (b at len : ℕ) (after : List ℕ) (number 
   pub heads : new.heads ≡ old.heads ++ fresh number (Change b at len grade) dependencies ∷ []
   pub numbers : new.numbers ≡ number
   pub blocks : new.blocks ≡ old.blocks
+  pub groups : new.groups ≡ old.groups
   pub prepared : new.prepared ≡ None
 
 -- a new change with these arguments would have that number and grade
@@ -141,6 +164,7 @@ pub record Forgets (old : Known) (dropped : ℕ) (new : Known) : Type 0 where
   pub heads : new.heads ≡ filter is_live old.heads
   pub numbers : new.numbers ≡ old.numbers
   pub blocks : new.blocks ≡ old.blocks
+  pub groups : new.groups ≡ old.groups
   pub prepared : new.prepared ≡ None
 
 -- if nothing is in flight, each change in memory waits for an open gate

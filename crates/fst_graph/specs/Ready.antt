@@ -1,19 +1,24 @@
 -- What is kept of a change that there is room for.
-use Rattle.std.specs.Prelude.{◌<◌, ◌+◌, ◌++◌, ◌∷◌, [], ℕ, List}
+use Rattle.std.specs.Prelude.{◌≡◌, ◌<◌, ◌+◌, ◌++◌, ◌∷◌, [], ℕ, List, Option, Some, None, IfSome, option_map}
 use Rattle.fst_types.specs.Lists.{Lists}
 use Rattle.fst_types.specs.Patches.{Change, Patch}
 use Rattle.fst_types.specs.Grades.{IsGraded}
 use Rattle.fst_types.specs.Making.{fresh}
 use Rattle.fst_types.specs.Order.{make_order}
 use Rattle.fst_types.specs.Refusals.{NoneHolds}
+use Rattle.fst_graph.specs.declared.head.Head.{Head}
+use Rattle.fst_graph.specs.declared.prepared.Gates.{Gates}
 use Rattle.fst_graph.specs.declared.prepared.Prepared.{Prepared as Stored}
+use Rattle.fst_graph.specs.Frames.{HasRoomBelow}
 use Rattle.fst_graph.specs.Known.{Prepared, numbers_of}
+use Rattle.fst_graph.specs.Membering.{ArePaired, BeginsAs, member_order}
+use Rattle.fst_graph.specs.Nodes.{HasRoomAbove}
 use Rattle.fst_graph.specs.Rows.{IsDependency}
 
 -- as contracts see it, its number being the next one
 abbrev pub prepared_of : ℕ → Stored → Prepared
 prepared_of numbers p =
-    record { block = p.block; at = p.span.at; len = p.span.len; after = numbers_of p.names.items; number = numbers + 1; grade = p.grade }
+    record { block = p.block; at = p.span.at; len = p.span.len; after = numbers_of p.names.items; number = numbers + 1; grade = p.grade; group = option_map (λ g. g.head) p.gates }
 
 -- the patch that it becomes
 abbrev pub change_of : ℕ → Stored → Patch
@@ -25,6 +30,25 @@ pub record IsReady (heads : List Patch) (numbers blocks : ℕ) (p : Stored) : Ty
   pub inside : p.block < blocks
   pub depends : Lists (IsDependency heads (numbers_of p.names.items) p.block p.span.at p.span.len) p.dependencies.items
   pub graded : IsGraded heads (heads ++ change_of numbers p ∷ []) p.block (numbers + 1) p.grade
+
+-- a change of the group with these gates is not refused, and this is what it would be once the head is sealed, if it is open
+pub record IsMemberReady (heads : List Patch) (numbers blocks : ℕ) (gates : Gates) (p : Stored) : Type 0 where
+  pub made : (begun : List Patch) → BeginsAs heads gates.head begun → IsReady begun numbers blocks p
+  pub names : numbers_of p.names.items ≡ gates.head ∷ []
+  pub clear : NoneHolds (member_order heads numbers gates.tail p.block p.span.at p.span.len)
+  pub paired : ArePaired heads numbers gates.head gates.tail
+
+-- as it is for a group or for none
+abbrev pub IsReadyFor : Option Gates → List Patch → ℕ → ℕ → Stored → Type 0
+IsReadyFor None heads numbers blocks p = IsReady heads numbers blocks p
+IsReadyFor (Some gates) heads numbers blocks p = IsMemberReady heads numbers blocks gates p
+
+abbrev pub MayBePut : List Patch → ℕ → ℕ → Stored → Type 0
+MayBePut heads numbers blocks p = IsReadyFor p.gates heads numbers blocks p
+
+-- each patch of its row has room for one more dependant, and the tail of its group for one more direct dependency
+abbrev pub HasRoomAround : List Head → Stored → Type 0
+HasRoomAround heads p = HasRoomAbove heads p.dependencies.items × IfSome p.gates (λ g. HasRoomBelow heads g.tail)
 
 -- each of the three rows has a free place for one more head
 pub record HasPlaces (heads heads_capacity marks marks_capacity queue_capacity : ℕ) : Type 0 where

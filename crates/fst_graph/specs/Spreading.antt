@@ -26,6 +26,10 @@ now x = of_kind x.patch.kind x.patch.place (joined_sums x.sums)
 abbrev pub is_told : Node → Bool
 is_told x = is_pending (now x) x.pending
 
+-- something was pending of it when its dependants were told
+abbrev pub is_waiting : Node → Bool
+is_waiting x = not (is_pending x.pending pending.Nothing)
+
 -- an empty patch or a sealed gate is on disk where all of its direct dependencies are
 abbrev pub rested : Node → Node
 rested x = if follows x.patch.kind && (x.sums.count == 0) then record x { patch = record x.patch { place = place.Disk } } else x

@@ -2,14 +2,15 @@
 //! and an empty patch or a sealed gate that has nothing pending any more goes to disk. The queue has those of which
 //! other is pending than their dependants know. What is pending of a patch only sinks, at most twice in its life.
 
-ghost use Rattle.std.specs.Prelude.{◌≡◌, ◌≢◌, ◌<◌, ◌≤◌, ◌+◌, ◌++◌, ◌∷◌, ◌==◌, ℕ, [], true, length, map, Contains, AllPairs, vec_len, vec_capacity, slice_index_or};
+ghost use Rattle.std.specs.Prelude.{◌≡◌, ◌≢◌, ◌<◌, ◌≤◌, ◌+◌, ◌++◌, ◌∷◌, ◌==◌, ℕ, [], true, length, map, Contains, AllPairs, vec_len, vec_capacity, slice_index_or, count_by, if◌then◌else◌};
 ghost use Rattle.fst_types.specs.Cascade.{IsCascadeOf};
 ghost use Rattle.fst_graph.specs.declared.pending.Pending.TheVariants as pending;
+ghost use Rattle.fst_graph.specs.Frames.{frame_of, frames_of};
 ghost use Rattle.fst_graph.specs.Heads.{IsRising, kind_of, patches_of};
 ghost use Rattle.fst_graph.specs.Marks.{HasSlot};
 ghost use Rattle.fst_graph.specs.Nodes.{Node, node_of, nodes_of, at_number, AreLinked, AreDistinct, AreSettled};
-ghost use Rattle.fst_graph.specs.Pendings.{Fits};
-ghost use Rattle.fst_graph.specs.Spreading.{follows, rested, is_told, now, hears, wakes, heard, woken, CanHear, settles, seals, wakes_sealed, Spreading, IsSpreadOf};
+ghost use Rattle.fst_graph.specs.Pendings.{Fits, is_pending};
+ghost use Rattle.fst_graph.specs.Spreading.{follows, rested, is_told, now, hears, wakes, heard, woken, is_waiting, CanHear, settles, seals, wakes_sealed, Spreading, IsSpreadOf};
 ghost use Rattle.fst_graph.specs.Standings.{AllStand};
 
 use crate::head::{Head, Kind};
@@ -53,7 +54,8 @@ fn is_told(head: &Head) -> bool
 
 // An empty patch or a sealed gate is on disk where all of its direct dependencies are.
 fn rest(head: &mut Head)
-    ensures { node_of head.new ≡ rested (node_of head.old) }
+    ensures node { node_of head.new ≡ rested (node_of head.old) }
+    ensures frame { frame_of head.new ≡ frame_of head.old }
 {
     if follows(head.kind) && head.sums.count == 0 {
         head.place = Place::Disk;
@@ -67,6 +69,7 @@ fn hear(head: &mut Head, old: Pending, new: Pending) -> bool
     ensures node { node_of head.new ≡ hears old new (node_of head.old) }
     ensures woke { result ≡ wakes old new (node_of head.old) }
     ensures fits { Fits head.new.sums }
+    ensures frame { frame_of head.new ≡ frame_of head.old }
 {
     let told = is_told(head);
     head.sums.change(old, new);
@@ -82,6 +85,8 @@ fn hear_at(heads: &mut Vec<Head>, queue: &mut Vec<u32>, number: u32, old: Pendin
     requires room { (x : Node) → Contains (nodes_of heads.old.items) x → x.patch.number ≡ number → wakes old new x ≡ true → vec_len queue.old < vec_capacity queue.old }
     ensures nodes { nodes_of heads.new.items ≡ map (at_number number (hears old new)) (nodes_of heads.old.items) }
     ensures queued { queue.new.items ≡ queue.old.items ++ woken (number ∷ []) old new (nodes_of heads.old.items) }
+    ensures frames { frames_of heads.new.items ≡ frames_of heads.old.items }
+    ensures places { vec_capacity heads.new ≡ vec_capacity heads.old }
     ensures capacity { vec_capacity queue.new ≡ vec_capacity queue.old }
 {
     if let Some(slot) = slot_of(heads, number) {
@@ -100,6 +105,8 @@ fn tell(heads: &mut Vec<Head>, queue: &mut Vec<u32>, slot: usize, old: Pending, 
     requires live { old ≢ pending.Nothing }
     requires room { (d : Node) → length queue.old.items + length (woken (slice_index_or (nodes_of heads.old.items) slot d).dependants old new (nodes_of heads.old.items)) ≤ vec_capacity queue.old }
     ensures nodes { (d : Node) → nodes_of heads.new.items ≡ map (heard (slice_index_or (nodes_of heads.old.items) slot d).dependants old new) (nodes_of heads.old.items) }
+    ensures frames { frames_of heads.new.items ≡ frames_of heads.old.items }
+    ensures places { vec_capacity heads.new ≡ vec_capacity heads.old }
     ensures queued { (d : Node) → queue.new.items ≡ queue.old.items ++ woken (slice_index_or (nodes_of heads.old.items) slot d).dependants old new (nodes_of heads.old.items) }
     ensures capacity { vec_capacity queue.new ≡ vec_capacity queue.old }
 {
@@ -111,8 +118,18 @@ fn tell(heads: &mut Vec<Head>, queue: &mut Vec<u32>, slot: usize, old: Pending, 
     }
 }
 
-/// Tells of all that waits in the queue, and of what wakes by that.
-pub fn cascade(heads: &mut Vec<Head>, queue: &mut Vec<u32>, standings: &mut Vec<Standing>)
+// One where nothing is pending, so that the patch is on disk.
+fn landings(left: Pending) -> usize
+    ensures { result ≡ if is_pending left pending.Nothing then 1 else 0 }
+{
+    match left {
+        Pending::Nothing => 1,
+        Pending::Block(_) | Pending::Apart | Pending::Held => 0,
+    }
+}
+
+/// Tells of all that waits in the queue, and of what wakes by that. Answers how many patches are on disk besides.
+pub fn cascade(heads: &mut Vec<Head>, queue: &mut Vec<u32>, standings: &mut Vec<Standing>) -> usize
     requires start { Spreading (nodes_of heads.old.items) (vec_len standings.old) queue.old.items }
     requires linked { AreLinked (nodes_of heads.old.items) }
     requires distinct { AreDistinct (nodes_of heads.old.items) }
@@ -123,15 +140,21 @@ pub fn cascade(heads: &mut Vec<Head>, queue: &mut Vec<u32>, standings: &mut Vec<
     ensures placed { IsCascadeOf (patches_of heads.old.items) (patches_of heads.new.items) }
     ensures spread { IsSpreadOf (nodes_of heads.old.items) (nodes_of heads.new.items) }
     ensures standing { AllStand (nodes_of heads.new.items) (vec_len standings.old) standings.new.items }
+    ensures frames { frames_of heads.new.items ≡ frames_of heads.old.items }
+    ensures places { vec_capacity heads.new ≡ vec_capacity heads.old }
+    ensures landed { count_by is_waiting (nodes_of heads.new.items) + result ≡ count_by is_waiting (nodes_of heads.old.items) }
     ensures empty { queue.new.items ≡ [] }
     ensures capacity { vec_capacity queue.new ≡ vec_capacity queue.old }
 {
+    let mut landed = 0;
     while let Some(number) = queue.pop() {
         if let Some(slot) = slot_of(heads, number) {
             let (old, new) = settle_slot(heads, standings, slot);
+            landed += landings(new);
             tell(heads, queue, slot, old, new);
         }
     }
+    landed
 }
 
 /// Seals the gate in the slot. It waits in the queue where its dependants have to be told.
@@ -142,6 +165,8 @@ pub fn seal_slot(heads: &mut Vec<Head>, queue: &mut Vec<u32>, gate: u32, slot: u
     requires room { vec_len queue.old < vec_capacity queue.old }
     ensures nodes { nodes_of heads.new.items ≡ map (at_number gate seals) (nodes_of heads.old.items) }
     ensures queued { queue.new.items ≡ queue.old.items ++ wakes_sealed gate (nodes_of heads.old.items) }
+    ensures frames { frames_of heads.new.items ≡ frames_of heads.old.items }
+    ensures places { vec_capacity heads.new ≡ vec_capacity heads.old }
     ensures capacity { vec_capacity queue.new ≡ vec_capacity queue.old }
 {
     let head = &mut heads[slot];

@@ -21,8 +21,8 @@ use crate::pending::{Pending, is_pending};
 use crate::row::pending_at;
 use fst_types::PatchNo;
 
-// Visits the patch with the number if it waits for an open gate.
-fn visit_held(heads: &[Head], marks: &mut [bool], queue: &mut Vec<u32>, number: u32)
+/// Visits the patch with the number if it waits for an open gate.
+pub fn visit_held(heads: &[Head], marks: &mut [bool], queue: &mut Vec<u32>, number: u32)
     requires rising { IsRising heads.now }
     requires long { length marks.old ≡ length heads.now }
     requires room { length heads.now ≤ vec_capacity queue.old }
@@ -53,8 +53,8 @@ fn visit_names(heads: &[Head], marks: &mut [bool], queue: &mut Vec<u32>, names: 
     }
 }
 
-// Visits those of the row that wait for an open gate.
-fn visit_row(heads: &[Head], marks: &mut [bool], queue: &mut Vec<u32>, row: &[u32])
+/// Visits those of the row that wait for an open gate.
+pub fn visit_row(heads: &[Head], marks: &mut [bool], queue: &mut Vec<u32>, row: &[u32])
     requires rising { IsRising heads.now }
     requires long { length marks.old ≡ length heads.now }
     requires room { length heads.now ≤ vec_capacity queue.old }
@@ -69,8 +69,8 @@ fn visit_row(heads: &[Head], marks: &mut [bool], queue: &mut Vec<u32>, row: &[u3
     }
 }
 
-// Visits all that the search meets from what is in the queue on.
-fn search_down(heads: &[Head], marks: &mut [bool], queue: &mut Vec<u32>)
+/// Visits all that the search meets from what is in the queue on.
+pub fn search_down(heads: &[Head], marks: &mut [bool], queue: &mut Vec<u32>)
     requires rising { IsRising heads.now }
     requires long { length marks.old ≡ length heads.now }
     requires room { length heads.now ≤ vec_capacity queue.old }

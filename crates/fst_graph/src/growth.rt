@@ -1,8 +1,9 @@
 //! What an open gate gains.
 
-ghost use Rattle.std.specs.Prelude.{◌≡◌, ◌↔◌, ◌≤◌, length, map, IsTrue, IfOk, OnOk, OnErr, Contains};
+ghost use Rattle.std.specs.Prelude.{◌≡◌, ◌↔◌, ◌≤◌, ◌∷◌, [], ℕ, List, length, map, IsTrue, IfOk, OnOk, OnErr, Contains, vec_len, vec_capacity};
 ghost use Rattle.fst_types.specs.Dependencies.{DirectlyOn, IsLiveNumber};
 ghost use Rattle.fst_types.specs.Lists.{Lists};
+ghost use Rattle.fst_graph.specs.Frames.{HasRoomBelow};
 ghost use Rattle.fst_graph.specs.Heads.{IsRising, patches_of};
 ghost use Rattle.fst_graph.specs.Known.{numbers_of};
 ghost use Rattle.fst_graph.specs.Nodes.{Node, nodes_of, at_number, gains_names, HasRoomAbove};
@@ -73,4 +74,25 @@ pub fn gain(heads: &mut Vec<Head>, gate: u32, names: &[u32], sums: Sums) -> Resu
         head.sums = head.sums.with(sums);
     }
     Ok(())
+}
+
+/// The gate has the number besides, which has these sums. It takes no memory.
+pub fn gain_one(heads: &mut Vec<Head>, gate: u32, number: u32, sums: Sums)
+    requires rising { IsRising heads.old.items }
+    requires counted { (x : Node) → Contains (nodes_of heads.old.items) x → (x.sums.count ≤ length x.patch.dependencies) × Fits x.sums }
+    requires one { sums.count ≤ 1 }
+    requires fits { Fits sums }
+    requires room { HasRoomBelow heads.old.items gate }
+    ensures nodes { nodes_of heads.new.items ≡ map (at_number gate (gains_names (number ∷ []) sums)) (nodes_of heads.old.items) }
+    ensures above { (row : List ℕ) → HasRoomAbove heads.old.items row → HasRoomAbove heads.new.items row }
+    ensures len { vec_len heads.new ≡ vec_len heads.old }
+    ensures capacity { vec_capacity heads.new ≡ vec_capacity heads.old }
+{
+    if let Some(slot) = slot_of(heads, gate) {
+        let head = &mut heads[slot];
+        head.dependencies.push_reserved(number);
+        // The row is as long as both counts together, so that their sum fits.
+        prove!(sums.count <= head.dependencies.len() - head.sums.count);
+        head.sums = head.sums.with(sums);
+    }
 }

@@ -9,11 +9,17 @@ mod descent;
 mod gates;
 mod grade;
 mod graph;
+mod group;
+mod groups;
 mod growth;
 mod head;
 mod links;
 mod lists;
 mod marks;
+mod member;
+mod other_gates;
+mod overlap_cycle;
+mod patches;
 mod pending;
 mod places;
 mod prepared;
@@ -23,6 +29,7 @@ mod shortcuts;
 mod standing;
 mod test;
 mod way_back;
+mod way_down;
 
 pub use graph::Graph;
 

@@ -1,6 +1,7 @@
 //! How patches go from place to place.
 
-ghost use Rattle.std.specs.Prelude.{◌≡◌, ◌∷◌, [], map, filter, count_by, Contains};
+ghost use Rattle.std.specs.Prelude.{◌≡◌, ◌∷◌, [], map, filter, count_by, Contains, if◌then◌else◌};
+ghost use Rattle.fst_types.specs.declared.place.Place.TheVariants as place;
 ghost use Rattle.fst_types.specs.Patches.{Patch, block_of_kind};
 ghost use Rattle.fst_types.specs.Tests.{is_at, is_on, is_change_at, is_live};
 ghost use Rattle.fst_graph.specs.Known.{numbers_of};
@@ -80,22 +81,23 @@ pub fn block_of(heads: &[Head], number: u32) -> Option<u32>
     }
 }
 
-/// Drops the patches on disk.
-pub fn keep_live(heads: &mut Vec<Head>)
+/// Drops the patches on disk, so many not being there. Where all are such it looks at none.
+pub fn keep_live(heads: &mut Vec<Head>, live: usize)
+    requires { live ≡ count_by is_live (patches_of heads.old.items) }
     ensures { nodes_of heads.new.items ≡ filter (λ x. is_live x.patch) (nodes_of heads.old.items) }
 {
+    if live == heads.len() {
+        return;
+    }
     heads.retain(|head| is_live(head.place));
 }
 
-/// How many patches are not on disk.
-pub fn live_count(heads: &[Head]) -> usize
-    ensures { result ≡ count_by is_live (patches_of heads.now) }
+/// One for a patch that is not on disk.
+pub fn weight(at: Place) -> usize
+    ensures { result ≡ if is_at at place.Disk then 0 else 1 }
 {
-    let mut count = 0;
-    for head in heads {
-        if is_live(head.place) {
-            count += 1;
-        }
+    match at {
+        Place::Memory | Place::Flight => 1,
+        Place::Disk => 0,
     }
-    count
 }

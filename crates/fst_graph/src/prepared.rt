@@ -1,7 +1,7 @@
 //! The change that `room` made room for. It is kept whole, so that `add_data` with the same arguments only puts it
 //! down, which takes no memory and is not refused.
 
-ghost use Rattle.std.specs.Prelude.{◌≡◌, ◌↔◌, ◌<◌, ◌≤◌, [], IsTrue, IfOk, true, length, map, vec_capacity};
+ghost use Rattle.std.specs.Prelude.{◌≡◌, ◌↔◌, ◌<◌, ◌≤◌, [], option_map, IsTrue, IfOk, true, length, map, vec_capacity};
 ghost use Rattle.fst_types.specs.Closure.{IsAcyclic};
 ghost use Rattle.fst_types.specs.Dependencies.{DirectlyOn};
 ghost use Rattle.fst_types.specs.Facts.{IsOnDiskWithAll, HardNeverHold};
@@ -24,7 +24,15 @@ use crate::standing::Standing;
 use fst_types::{Grade, PatchNo, Span};
 use std::alloc::{AllocError, Global};
 
-/// A change that is not made yet: its arguments, and what it will depend on and be graded.
+/// The gates of a group.
+#[derive(Clone, Copy, Debug, PartialEq, Eq)]
+pub struct Gates {
+    pub head: u32,
+    pub tail: u32,
+}
+
+/// A change that is not made yet: its arguments, what it will depend on and be graded, and the gates of the group for
+/// which it is made, if there is one.
 #[derive(Drop)]
 pub struct Prepared {
     pub block: u32,
@@ -32,18 +40,33 @@ pub struct Prepared {
     pub names: Vec<PatchNo>,
     pub dependencies: Row,
     pub grade: Grade,
+    pub gates: Option<Gates>,
 }
 
 impl Prepared {
-    /// Whether it has these arguments.
+    /// Whether it has these arguments, and is for no group.
     pub fn is_for(&self, block: u32, span: Span, names: &[PatchNo]) -> bool
-        ensures { IsTrue result ↔ ((self.now.block ≡ block) × (self.now.span ≡ span) × (self.now.names.items ≡ names.now)) }
+        ensures { IsTrue result ↔ ((self.now.block ≡ block) × (self.now.span ≡ span) × (self.now.names.items ≡ names.now) × (self.now.gates ≡ None)) }
     {
+        if self.gates.is_some() {
+            return false;
+        }
         self.block == block && self.span == span && self.names.as_slice() == names
+    }
+
+    /// Whether it has these arguments, and is for the group with that head.
+    pub fn is_for_group(&self, head: u32, block: u32, span: Span) -> bool
+        ensures { IsTrue result ↔ ((self.now.block ≡ block) × (self.now.span ≡ span) × (option_map (λ g. g.head) self.now.gates ≡ Some head)) }
+    {
+        match self.gates {
+            Some(gates) => gates.head == head && self.block == block && self.span == span,
+            None => false,
+        }
     }
 }
 
-fn copy_of(alloc: Global, names: &[PatchNo]) -> Result<Vec<PatchNo>, AllocError>
+/// The same names.
+pub fn copy_of(alloc: Global, names: &[PatchNo]) -> Result<Vec<PatchNo>, AllocError>
     ensures { IfOk result (λ copy. copy.items ≡ names.now) }
 {
     let mut copy = Vec::new(alloc);
@@ -81,7 +104,8 @@ pub fn prepare(
     ensures span { IfOk result (λ p. p.span ≡ span) }
     ensures names { IfOk result (λ p. p.names.items ≡ names.now) }
     ensures depends { IfOk result (λ p. Lists (IsDependency (patches_of heads.now) (numbers_of names.now) block span.at span.len) p.dependencies.items) }
-    ensures graded { IfOk result (λ p. FollowsRule p.grade (MayBeHard (patches_of heads.now) block p.dependencies.items)) }
+    ensures graded { IfOk result (λ p. FollowsRule p.grade (MayBeHard (patches_of heads.now) None block p.dependencies.items)) }
+    ensures gates { IfOk result (λ p. p.gates ≡ None) }
     ensures idle { queue.new.items ≡ queue.old.items }
     ensures capacity { vec_capacity queue.new ≡ vec_capacity queue.old }
 {
@@ -97,6 +121,7 @@ pub fn prepare(
         queue,
         block,
         dependencies.as_slice(),
+        None,
     );
     Ok(Prepared {
         block,
@@ -104,5 +129,6 @@ pub fn prepare(
         names,
         dependencies,
         grade,
+        gates: None,
     })
 }

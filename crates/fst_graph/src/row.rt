@@ -90,8 +90,8 @@ fn end_of(span: Span) -> u64
     u64::from(at) + u64::from(len)
 }
 
-// Whether the two share a byte.
-fn shares(own: Span, span: Span) -> bool
+/// Whether the two share a byte.
+pub fn shares(own: Span, span: Span) -> bool
     ensures { result ≡ shares span.at span.len own.at own.len }
 {
     u64::from(own.at) < end_of(span) && u64::from(span.at) < end_of(own)

@@ -29,7 +29,7 @@ use fst_types::Place;
 // How far a chain is followed. A chain over all blocks comes back within as many steps as there are blocks.
 const MOST_STEPS: u32 = 4_096;
 
-// Whether the patch with the number passes.
+/// Whether the patch with the number passes.
 pub fn passes_at(heads: &[Head], test: Test, number: u32) -> bool
     requires { IsRising heads.now }
     ensures { IsTrue result ↔ PassesAt test (patches_of heads.now) number }
@@ -40,7 +40,7 @@ pub fn passes_at(heads: &[Head], test: Test, number: u32) -> bool
     }
 }
 
-/// Whether an open gate is in the row or below it. A change with that row is soft.
+/// Whether an open gate is in the row or below it.
 pub fn waits_for_gate(heads: &[Head], row: &[u32]) -> bool
     requires rising { IsRising heads.now }
     requires acyclic { IsAcyclic (DirectlyOn (patches_of heads.now)) }
@@ -95,7 +95,7 @@ pub fn waits_for_quiet_block(
     requires disk { IsOnDiskWithAll (patches_of heads.now) }
     requires settled { AreSettled (nodes_of heads.now) (length standings.now) }
     requires standing { AllStand (nodes_of heads.now) (length standings.now) standings.now }
-    ensures { IsTrue result → MayBeHard (patches_of heads.now) block row.now }
+    ensures { IsTrue result → MayBeHard (patches_of heads.now) None block row.now }
 {
     match row_sums(heads, row).joined() {
         Pending::Nothing => true,

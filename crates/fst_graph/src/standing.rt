@@ -1,8 +1,9 @@
 //! How each block stands: the mark that says whether it may be written, as counts that follow each change.
 
-ghost use Rattle.std.specs.Prelude.{◌≡◌, ◌<◌, ◌≤◌, ◌↔◌, [], ℕ, true, false, length, map, Contains, IfOk, IsTrue, MatchOption, slice_index_or, slice_set, vec_len};
+ghost use Rattle.std.specs.Prelude.{◌≡◌, ◌<◌, ◌≤◌, ◌↔◌, [], ℕ, true, false, length, map, Contains, IfOk, IsTrue, MatchOption, slice_index_or, slice_set, vec_len, vec_capacity};
 ghost use Rattle.fst_types.specs.Patches.{Change};
 ghost use Rattle.fst_types.specs.declared.grade.Grade.{Grade};
+ghost use Rattle.fst_graph.specs.Frames.{frames_of};
 ghost use Rattle.fst_graph.specs.Heads.{IsRising, kind_of};
 ghost use Rattle.fst_graph.specs.Nodes.{Node, nodes_of, at_number};
 ghost use Rattle.fst_graph.specs.Pendings.{Fits, Sinks};
@@ -129,6 +130,8 @@ pub fn settle_slot(
     ensures new { (d : Node) → result.1 ≡ now (slice_index_or (nodes_of heads.old.items) slot d) }
     ensures nodes { (d : Node) → nodes_of heads.new.items ≡ map (at_number (slice_index_or (nodes_of heads.old.items) slot d).patch.number settles) (nodes_of heads.old.items) }
     ensures standing { AllStand (nodes_of heads.new.items) (vec_len standings.old) standings.new.items }
+    ensures frames { frames_of heads.new.items ≡ frames_of heads.old.items }
+    ensures places { vec_capacity heads.new ≡ vec_capacity heads.old }
     ensures len { vec_len heads.new ≡ vec_len heads.old }
 {
     let head = &mut heads[slot];

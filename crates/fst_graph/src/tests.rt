@@ -2,6 +2,8 @@
 //! large graphs take.
 
 mod checked;
+mod groups;
+mod members;
 mod random;
 mod same;
 mod speed;

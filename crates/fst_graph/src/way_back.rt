@@ -1,19 +1,19 @@
 //! The walk up from the changes of a block to all from which a way leads back to it: from a patch to those that directly
 //! depend on it, and from a hard change in memory to all changes of its block, which is not written without it. What was
-//! met stands in the queue and is marked, so that each patch is looked at once, and each block is crossed once.
+//! met stands in the queue and is marked, so that each patch is looked at once, and each block is crossed once. It ends
+//! where it meets what it looks for.
 
 ghost use Rattle.std.specs.Prelude.{◌≡◌, ◌≤◌, ◌<◌, ◌↔◌, ℕ, [], length, map, Contains, IsTrue, MatchBool, vec_capacity};
 ghost use Rattle.fst_types.specs.Facts.{IsOnDiskWithAll};
-ghost use Rattle.fst_types.specs.Gates.{IsOpenNumber};
 ghost use Rattle.fst_graph.specs.declared.test.Test.TheVariants as test;
 ghost use Rattle.fst_graph.specs.Descending.{Visited, Visits};
-ghost use Rattle.fst_graph.specs.Grading.{HasUnder, MayBeHard};
+ghost use Rattle.fst_graph.specs.Grading.{LeadsNowhere};
 ghost use Rattle.fst_graph.specs.Heads.{IsRising, patches_of};
 ghost use Rattle.fst_graph.specs.Keeps.{IsInside};
 ghost use Rattle.fst_graph.specs.Lists.{entries_of, AreListed};
 ghost use Rattle.fst_graph.specs.Marks.{Has, HasSlot, PassesAt};
 ghost use Rattle.fst_graph.specs.Nodes.{nodes_of, AreLinked};
-ghost use Rattle.fst_graph.specs.WayBack.{Crosses, IsLiveOver, Meets, ShowsBlockOf};
+ghost use Rattle.fst_graph.specs.WayBack.{Crosses, IsLiveOver, IsMet, Meets, ShowsBlockOf};
 
 use crate::descent::{clear, cross_all, keep_away, show_only, visit, visit_row};
 use crate::head::{Head, Kind};
@@ -76,13 +76,28 @@ fn cross(
     }
 }
 
-// Visits all that the walk meets from what is in the queue on.
+// How long a row may be for the walk to look for what it meets there. A change that overlaps many has a long row, which
+// is looked at once, at the end.
+const SHORT: usize = 64;
+
+// Whether the number is in the row, if the row is short.
+fn is_in(row: &[u32], number: u32) -> bool
+    ensures { IsTrue result → Contains row.now number }
+{
+    if row.len() > SHORT {
+        return false;
+    }
+    row.contains(&number)
+}
+
+// Visits all that the walk meets from what is in the queue on, or stops at one of a short row that it met.
 fn walk_back(
     heads: &[Head],
     lists: &[Vec<Listed>],
     marks: &mut [bool],
     crossed: &mut [bool],
     queue: &mut Vec<u32>,
+    row: &[u32],
 )
     requires rising { IsRising heads.now }
     requires long { length marks.old ≡ length heads.now }
@@ -92,12 +107,16 @@ fn walk_back(
     requires listed { AreListed (patches_of heads.now) (length crossed.old) (map (λ l. entries_of l.items) lists.now) }
     requires inside { IsInside (patches_of heads.now) (length crossed.old) }
     ensures visited { Visited heads.now marks.new queue.new.items }
-    ensures meets { Meets (patches_of heads.now) crossed.old queue.old.items queue.new.items }
+    ensures only { (n : ℕ) → Contains queue.new.items n → IsMet (patches_of heads.now) crossed.old queue.old.items n }
+    ensures meets { ((n : ℕ) → Contains row.now n → Contains queue.new.items n → ⊥) → Meets (patches_of heads.now) crossed.old queue.old.items queue.new.items }
     ensures capacity { vec_capacity queue.new ≡ vec_capacity queue.old }
 {
     let mut at = 0;
     while at < queue.len() {
         let number = queue[at];
+        if is_in(row, number) {
+            return;
+        }
         if let Some(slot) = slot_of(heads, number) {
             visit_row(heads, marks, queue, heads[slot].dependants.as_slice());
             cross(heads, lists, marks, crossed, queue, slot, number);
@@ -131,7 +150,7 @@ fn visit_over(
     clear(marks);
     cross_all(crossed);
     visit_changes(heads, lists, marks, queue, block);
-    walk_back(heads, lists, marks, crossed, queue);
+    walk_back(heads, lists, marks, crossed, queue, &[]);
 }
 
 // Whether one of the row was visited.
@@ -148,9 +167,9 @@ fn names_visited(heads: &[Head], marks: &[bool], row: &[u32]) -> bool
     false
 }
 
-/// Whether a new change of the block with that row, under which no open gate is, may not be hard: from the block's
-/// changes the walk goes up to changes of other blocks, and from these to one of the row. What was marked, crossed and
-/// queued before does not matter, and nothing is in the queue afterwards.
+/// Whether a new change of the block with that row may not be hard, also where no open gate is under the row: from the
+/// block's changes the walk goes up to changes of other blocks, and from these to one of the row. What was marked,
+/// crossed and queued before does not matter, and nothing is in the queue afterwards.
 pub fn is_held_back(
     heads: &[Head],
     lists: &[Vec<Listed>],
@@ -168,15 +187,14 @@ pub fn is_held_back(
     requires inside { IsInside (patches_of heads.now) (length crossed.old) }
     requires block { block < length crossed.old }
     requires disk { IsOnDiskWithAll (patches_of heads.now) }
-    requires free { HasUnder (patches_of heads.now) row.now (IsOpenNumber (patches_of heads.now)) → ⊥ }
-    ensures held { MatchBool result (MayBeHard (patches_of heads.now) block row.now → ⊥) (MayBeHard (patches_of heads.now) block row.now) }
+    ensures held { MatchBool result (LeadsNowhere (patches_of heads.now) block row.now → ⊥) (LeadsNowhere (patches_of heads.now) block row.now) }
     ensures idle { queue.new.items ≡ [] }
     ensures capacity { vec_capacity queue.new ≡ vec_capacity queue.old }
 {
     visit_over(heads, lists, marks, crossed, queue, block);
     keep_away(heads, marks, queue, block);
     show_only(crossed, block);
-    walk_back(heads, lists, marks, crossed, queue);
+    walk_back(heads, lists, marks, crossed, queue, row);
     queue.clear();
     names_visited(heads, marks, row)
 }

@@ -9,7 +9,8 @@ use Rattle.fst_pairs.specs.Rings.{Write, Sent, Told, Lane, World, IsReached, InO
 use Rattle.fst_pairs.specs.Whole.{HoldsCrash, Stage, Waits, Stands, Comes, IsAtStage, IsCarriedAt, HasOnePlace}
 use Rattle.fst_pairs.proofs.RingLaws.{get_below, run_keeps}
 use Rattle.fst_pairs.proofs.RingFlights.{job_of, told_length, lengths, Flies, one_job, same_item}
-use Rattle.fst_pairs.proofs.RingSlots.{MayHold, Slots, slots_kept, start_slots, is_somewhere, holds_one, job_standing, get_item, none_or_some}
+use Rattle.fst_pairs.proofs.RingPlaces.{is_somewhere, holds_one, job_standing, get_item, none_or_some}
+use Rattle.fst_pairs.proofs.RingSlots.{MayHold, Slots, slots_kept, start_slots}
 
 pub reached_slots : (w : World) → IsReached w → Slots w
 reached_slots w r = run_keeps Slots slots_kept r.1 r.0 w r.3 (start_slots r.0 r.2)

@@ -106,19 +106,19 @@ looks_same xs = record { many = refl; kept = λ i. omega arith }
 
 module _ {S : Type 0} where
   -- how many jobs are out with the i-th worker
-  pub out_at : (lanes : List (Lane S)) (i : ℕ) (lane : Lane S) → i < length lanes → lane ≡ slice_index_or lanes i lane → slice_index_or (outs (map ends_of lanes)) i 0 ≡ length lane.out.items
+  pub out_at : {A : Type 0} (lanes : List (Lane S A)) (i : ℕ) (lane : Lane S A) → i < length lanes → lane ≡ slice_index_or lanes i lane → slice_index_or (outs (map ends_of lanes)) i 0 ≡ length lane.out.items
   out_at lanes i lane lt at =
       index_map (λ ends. length ends.out) (map ends_of lanes) i (ends_of lane) 0 (subst (λ n. i < n) (sym (length-map lanes ends_of)) lt)
       ∙ ap (λ ends. length ends.out) (index_map ends_of lanes i lane (ends_of lane) lt ∙ ap ends_of (sym at))
 
-  pub free_at : (lanes : List (Lane S)) (i : ℕ) (lane : Lane S) → i < length lanes → lane ≡ slice_index_or lanes i lane → slice_index_or (map free_of lanes) i 0 ≡ free_of lane
+  pub free_at : {A : Type 0} (lanes : List (Lane S A)) (i : ℕ) (lane : Lane S A) → i < length lanes → lane ≡ slice_index_or lanes i lane → slice_index_or (map free_of lanes) i 0 ≡ free_of lane
   free_at lanes i lane lt at = index_map free_of lanes i lane 0 lt ∙ ap free_of (sym at)
 
-  pub outs_length : (lanes : List (Lane S)) → length (outs (map ends_of lanes)) ≡ length lanes
+  pub outs_length : {A : Type 0} (lanes : List (Lane S A)) → length (outs (map ends_of lanes)) ≡ length lanes
   outs_length lanes = length-map (map ends_of lanes) (λ ends. length ends.out) ∙ length-map lanes ends_of
 
   -- a look at the ring of one lane
-  module _ (before lanes : List (Lane S)) (n : ℕ) (lane seen : Lane S) (same : map ends_of lanes ≡ map ends_of before) (lt : n < length lanes) (at : lane ≡ slice_index_or lanes n lane) (kept : ends_of seen ≡ ends_of lane) where
+  module _ {A : Type 0} (before lanes : List (Lane S A)) (n : ℕ) (lane seen : Lane S A) (same : map ends_of lanes ≡ map ends_of before) (lt : n < length lanes) (at : lane ≡ slice_index_or lanes n lane) (kept : ends_of seen ≡ ends_of lane) where
     abbrev out : List ℕ
     out = outs (map ends_of before)
 
@@ -155,7 +155,7 @@ module _ {S : Type 0} where
         rw (map_set free_of lanes n seen) (looks_one old free n (free_of seen) l inside (omega (arith, is, more)))
 
   -- the lane of a ring with a place has room
-  pub room_there : (lanes : List (Lane S)) (i : ℕ) (lane : Lane S) → i < length lanes → lane ≡ slice_index_or lanes i lane → HasPlace (outs (map ends_of lanes)) (map free_of lanes) i → HasRoom lane
+  pub room_there : {A : Type 0} (lanes : List (Lane S A)) (i : ℕ) (lane : Lane S A) → i < length lanes → lane ≡ slice_index_or lanes i lane → HasPlace (outs (map ends_of lanes)) (map free_of lanes) i → HasRoom lane
   room_there lanes i lane lt at place =
       let few = place.1 in
       let some = place.2 in
@@ -164,18 +164,18 @@ module _ {S : Type 0} where
       (omega (arith, few, out), omega (arith, some, free))
 
   -- the lane of the roomiest ring
-  pub inside_of : (before lanes : List (Lane S)) (i : ℕ) → map ends_of lanes ≡ map ends_of before → i < length (outs (map ends_of before)) → i < length lanes
+  pub inside_of : {A : Type 0} (before lanes : List (Lane S A)) (i : ℕ) → map ends_of lanes ≡ map ends_of before → i < length (outs (map ends_of before)) → i < length lanes
   inside_of before lanes i same lt =
       let many : length lanes ≡ length before = sym (length-map lanes ends_of) ∙ (ap length same ∙ length-map before ends_of) in
       let all = outs_length before in
       omega (arith, lt, many, all)
 
-  pub roomiest_there : (before lanes : List (Lane S)) (i : ℕ) (lane : Lane S) → map ends_of lanes ≡ map ends_of before → lane ≡ slice_index_or lanes i lane → HasPlace (outs (map ends_of before)) (map free_of lanes) i → HasRoom lane
+  pub roomiest_there : {A : Type 0} (before lanes : List (Lane S A)) (i : ℕ) (lane : Lane S A) → map ends_of lanes ≡ map ends_of before → lane ≡ slice_index_or lanes i lane → HasPlace (outs (map ends_of before)) (map free_of lanes) i → HasRoom lane
   roomiest_there before lanes i lane same at place =
       room_there lanes i lane (inside_of before lanes i same place.0) at (subst (λ xs. HasPlace (outs xs) (map free_of lanes) i) (sym same) place)
 
   -- a job took a place of it
-  pub free_taken : (lanes : List (Lane S)) (i : ℕ) (lane sent : Lane S) → i < length lanes → lane ≡ slice_index_or lanes i lane → free_of lane ≡ free_of sent + 1
+  pub free_taken : {A : Type 0} (lanes : List (Lane S A)) (i : ℕ) (lane sent : Lane S A) → i < length lanes → lane ≡ slice_index_or lanes i lane → free_of lane ≡ free_of sent + 1
       → map free_of (slice_set lanes i sent) ≡ slice_set (map free_of lanes) i (slice_index_or (map free_of lanes) i 0 - 1)
   free_taken lanes i lane sent lt at one =
       let is = free_at lanes i lane lt at in

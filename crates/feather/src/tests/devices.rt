@@ -18,7 +18,7 @@ struct Change {
 
 // What a line does to the list.
 #[derive(Clone, Copy)]
-enum Does {
+pub enum Does {
     Nothing,
     // This change is made, of this byte of the disk.
     Makes(u32, usize, u8),
@@ -29,9 +29,10 @@ enum Does {
 }
 
 // A script, each line with its reply and what it does, and which change needs which other one.
-struct Script {
-    rows: &'static [(&'static str, &'static str, Does)],
-    needs: &'static [(u32, u32)],
+#[derive(Drop)]
+pub struct Script {
+    pub rows: &'static [(&'static str, &'static str, Does)],
+    pub needs: &'static [(u32, u32)],
 }
 
 const CYCLE_OF_BLOCKS: Script = Script {
@@ -273,7 +274,7 @@ fn add_line(text: &mut Vec<u8>, line: &str) -> Result<(), AllocError> {
 }
 
 // The script with a crash after each line for each set of writes that may be finished, and the replies.
-fn crashes(rt: &impl Abort, alloc: Global, script: &Script) -> Result<(), Fail> {
+pub fn crashes(rt: &impl Abort, alloc: Global, script: &Script) -> Result<(), Fail> {
     let mut lines = Vec::new(alloc);
     let mut replies = Vec::new(alloc);
     let mut plain = Plain::new(alloc);

@@ -236,6 +236,50 @@ done 2 block 0
 }
 
 #[test]
+fn groups_in_order(rt: HostRuntime) -> Result<(), Fail> {
+    let script = r#"{"do":"group"}
+{"do":"group"}
+{"do":"group_after","group":3,"on":1}
+{"do":"group_patch","group":3,"block":1,"at":0,"data":"42"}
+{"do":"group_patch","group":1,"block":0,"at":0,"data":"41"}
+{"do":"group_after","group":1,"on":3}
+{"do":"write","block":0}
+{"do":"done","ticket":1}
+{"do":"write","block":1}
+{"do":"group_patch","group":1,"block":2,"at":0,"data":"43"}
+{"do":"group_close","group":1}
+{"do":"write","block":1}
+{"do":"write","block":2}
+{"do":"crash","finish":[2]}
+{"do":"done","ticket":2}
+{"do":"write","block":1}
+{"do":"crash","finish":[1]}
+{"do":"done","ticket":3}
+"#;
+    let replies = r#"group 1
+group 3
+group_after 3
+patch 5 soft
+patch 6 hard
+refused 18
+flight 1 block 0 patches 6 image 41000000
+done 1 block 0
+refused 10
+patch 7 hard
+group_close 1
+refused 10
+flight 2 block 2 patches 7 image 43000000
+crash 41000000 00000000 43000000 00000000
+done 2 block 2
+flight 3 block 1 patches 5 image 42000000
+crash 41000000 42000000 43000000 00000000
+done 3 block 1
+"#;
+    plays_to(&rt, rt.alloc(), 4, script.as_bytes(), replies.as_bytes());
+    Ok(())
+}
+
+#[test]
 fn lost_block(rt: HostRuntime) -> Result<(), Fail> {
     let script = r#"{"do":"patch","block":0,"at":0,"data":"41"}
 {"do":"patch","block":1,"at":0,"data":"42","after":[1]}
@@ -288,6 +332,54 @@ fn one_write(rt: HostRuntime) -> Result<(), Fail> {
 flight 1 block 0 patches 1 image 41000000
 done 1 block 0
 crash 41000000 00000000 00000000 00000000
+"#;
+    plays_to(&rt, rt.alloc(), 4, script.as_bytes(), replies.as_bytes());
+    Ok(())
+}
+
+#[test]
+fn rename(rt: HostRuntime) -> Result<(), Fail> {
+    let script = r#"{"do":"group"}
+{"do":"group_patch","group":1,"block":1,"at":0,"data":"6e6f6465"}
+{"do":"group_patch","group":1,"block":2,"at":0,"data":"746f0001"}
+{"do":"group_close","group":1}
+{"do":"group"}
+{"do":"group_after","group":5,"on":1}
+{"do":"group_patch","group":5,"block":3,"at":0,"data":"00000000"}
+{"do":"group_close","group":5}
+{"do":"empty","after":[6]}
+{"do":"write","block":3}
+{"do":"write","block":1}
+{"do":"write","block":2}
+{"do":"crash","finish":[2]}
+{"do":"done","ticket":2}
+{"do":"write","block":3}
+{"do":"done","ticket":1}
+{"do":"write","block":3}
+{"do":"crash","finish":[3]}
+{"do":"done","ticket":3}
+{"do":"place","patch":8}
+"#;
+    let replies = r#"group 1
+patch 3 hard
+patch 4 hard
+group_close 1
+group 5
+group_after 5
+patch 7 hard
+group_close 5
+empty 8
+refused 10
+flight 1 block 1 patches 3 image 6e6f6465
+flight 2 block 2 patches 4 image 746f0001
+crash 00000000 00000000 746f0001 00000000
+done 2 block 2
+refused 10
+done 1 block 1
+flight 3 block 3 patches 7 image 00000000
+crash 00000000 6e6f6465 746f0001 00000000
+done 3 block 3
+place 8 disk
 "#;
     plays_to(&rt, rt.alloc(), 4, script.as_bytes(), replies.as_bytes());
     Ok(())

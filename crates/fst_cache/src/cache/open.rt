@@ -80,6 +80,7 @@ impl<S: BlockSlot> Cache<S> {
     pub fn open(alloc: Global, shape: Shape, slots: Vec<S>) -> Result<Cache<S>, (Vec<S>, Fault)>
         ensures opened { IfOk result (λ cache. cache ≡ record {
           state = opening shape.size shape.resident 0 0 (map S.held slots.items);
+          homes = map (λ slot. Some (S.held slot)) slots.items;
           faults = map S.faults slots.items;
           resident = map (λ slot. false) slots.items;
           back = map (λ slot. None) slots.items;
@@ -104,6 +105,7 @@ impl<S: BlockSlot> Cache<S> {
     ) -> Result<Cache<S>, (Vec<S>, Fault)>
         ensures opened { IfOk result (λ cache. cache ≡ record {
           state = opening shape.size shape.resident numbers tickets (map S.held slots.items);
+          homes = map (λ slot. Some (S.held slot)) slots.items;
           faults = map S.faults slots.items;
           resident = map (λ slot. false) slots.items;
           back = map (λ slot. None) slots.items;

@@ -2,6 +2,7 @@
 
 ghost use Rattle.std.specs.Prelude.{◌≡◌, IfOk, IfErr};
 
+use crate::crews::taking::take_in;
 use crate::plan::CREW_BLOCKS;
 use fst_device::BlockSlot;
 use fst_pairs::Desk;
@@ -24,9 +25,7 @@ fn only_lost_left<S: BlockSlot>(desk: &Desk<S>) -> bool {
 // Takes in what came, and sends the next write and one that failed. Answers whether anything is not on disk yet, or
 // `Lost` where that is so for good: nothing may be written, and every write in flight is of a lost block.
 fn turn<S: BlockSlot>(desk: &mut Desk<S>) -> Result<bool, Fault> {
-    if desk.collect().stray.is_some() {
-        return Err(Fault::Stranger);
-    }
+    take_in(desk)?;
     desk.submit()?;
     if let Some(block) = desk.stalled() {
         desk.resubmit(block)?;

@@ -4,8 +4,10 @@ ghost use Rattle.std.specs.Prelude.{◌≡◌, ◌+◌, ◌*◌, ◌≤◌, [], 
 
 use crate::crews::drain::drain;
 use crate::crews::files::{FileEnd, MakesAll, file};
+use crate::crews::stacks::{Stacks, stack};
 use crate::fault::CrewFault;
 use crate::plan::Crew;
+use core::thread::Anything;
 use fst_cache::Share;
 use fst_device::BlockSlot;
 use fst_pairs::{Desk, Step, Worker};
@@ -16,23 +18,29 @@ use std::sync::{Mutex, Wait};
 use std::thread;
 use std::thread::{PromisedHandle, Scope, Threads};
 
-/// What the threads share: the desk under its lock, and the word that stops the workers.
+/// What the threads share: the desk under its lock, the word that stops the workers, and what stacks they have.
 #[derive(Drop)]
-pub struct Shop<S: BlockSlot> {
+pub struct Shop<'a, S: BlockSlot> {
     desk: Mutex<Desk<S>>,
     stop: AtomicBool,
+    stacks: Stacks<'a>,
 }
 
-impl<S: BlockSlot> Shop<S> {
-    pub fn new(desk: Desk<S>) -> Shop<S> {
+impl<'a, S: BlockSlot> Shop<'a, S> {
+    pub fn new(desk: Desk<S>, stacks: Stacks<'a>) -> Shop<'a, S> {
         Shop {
             desk: Mutex::new(desk),
             stop: AtomicBool::new(false),
+            stacks,
         }
     }
 
     pub fn into_desk(self) -> Desk<S> {
-        let Shop { desk, stop: _ } = self;
+        let Shop {
+            desk,
+            stop: _,
+            stacks: _,
+        } = self;
         desk.into_inner()
     }
 }
@@ -86,11 +94,17 @@ fn join_files<R: Threads>(
 fn start_workers<'s, S: BlockSlot + Send + 's, E: 's, R: Threads + Wait + Sync>(
     scope: &Scope<'s, E>,
     rt: &'s R,
-    shop: &'s Shop<S>,
+    shop: &'s Shop<'s, S>,
     workers: Vec<Worker<S>>,
 ) -> Result<(), CrewFault> {
-    for worker in workers {
-        if scope.spawn(move || work(rt, worker, &shop.stop)).is_err() {
+    for (at, worker) in workers.into_iter().enumerate() {
+        let stack = stack(shop.stacks.workers, at);
+        let started = stack.spawn_scoped_with(
+            scope,
+            Anything,
+            move || work(rt, worker, &shop.stop),
+        );
+        if started.is_err() {
             return Err(CrewFault::Thread);
         }
     }
@@ -101,7 +115,7 @@ fn start_workers<'s, S: BlockSlot + Send + 's, E: 's, R: Threads + Wait + Sync>(
 fn start_files<'s, S: BlockSlot + Send + 's, E: 's, R: Threads + Wait + Sync>(
     scope: &Scope<'s, E>,
     rt: &'s R,
-    shop: &'s Shop<S>,
+    shop: &'s Shop<'s, S>,
     plan: Crew,
     files: &mut Vec<PromisedHandle<FileEnd, MakesAll>>,
 ) -> bool
@@ -112,8 +126,10 @@ fn start_files<'s, S: BlockSlot + Send + 's, E: 's, R: Threads + Wait + Sync>(
     ensures all { IsTrue result → vec_len files.new ≡ plan.files }
 {
     let rounds = plan.rounds;
+    let desk = &shop.desk;
     for at in 0..plan.files {
-        match scope.spawn_with(MakesAll(rounds), move || file(rt, &shop.desk, at, rounds)) {
+        let stack = stack(shop.stacks.files, at as usize);
+        match stack.spawn_scoped_with(scope, MakesAll(rounds), move || file(rt, desk, at, rounds)) {
             Ok(handle) => files.push_reserved(handle),
             Err(_) => return false,
         }
@@ -126,7 +142,7 @@ fn run<'s, S: BlockSlot + Send + 's, E: 's, R: Threads + Wait + Sync>(
     scope: &Scope<'s, E>,
     rt: &'s R,
     alloc: Global,
-    shop: &'s Shop<S>,
+    shop: &'s Shop<'s, S>,
     workers: Vec<Worker<S>>,
     plan: Crew,
 ) -> Result<Vec<Share>, CrewFault>
@@ -149,7 +165,7 @@ fn run<'s, S: BlockSlot + Send + 's, E: 's, R: Threads + Wait + Sync>(
 pub fn in_scope<S: BlockSlot + Send, R: Threads + Wait + Sync>(
     rt: &R,
     alloc: Global,
-    shop: &Shop<S>,
+    shop: &Shop<'_, S>,
     workers: Vec<Worker<S>>,
     plan: Crew,
 ) -> Result<Vec<Share>, CrewFault>

@@ -6,10 +6,10 @@ ghost use Rattle.std.specs.Prelude.{◌≡◌, ◌<◌};
 
 use crate::graph::Graph;
 use crate::tests::same::{
-    same_answer, same_block, same_change, same_count, same_held, same_number, same_patches,
-    same_place,
+    same_answer, same_block, same_change, same_count, same_group, same_held, same_number,
+    same_patches, same_place,
 };
-use fst_types::{BlockNo, Fault, Grade, PatchNo, Place, Shape, Span};
+use fst_types::{BlockNo, Fault, Grade, GroupNo, PatchNo, Place, Shape, Span};
 use std::alloc::Global;
 use std::process::Abort;
 
@@ -102,6 +102,65 @@ impl Checked {
         expected: Result<(), Fault>,
     ) {
         same_answer(rt, self.graph.depend(gate, on), expected);
+    }
+
+    /// A new group.
+    pub fn group(&mut self, rt: &impl Abort, expected: Result<GroupNo, Fault>) {
+        same_group(rt, self.graph.group_new(), expected);
+    }
+
+    /// A group comes after another.
+    pub fn group_after(
+        &mut self,
+        rt: &impl Abort,
+        group: GroupNo,
+        on: GroupNo,
+        expected: Result<(), Fault>,
+    ) {
+        same_answer(rt, self.graph.group_after(group, on), expected);
+    }
+
+    /// A change of one byte for a group.
+    pub fn member(
+        &mut self,
+        rt: &impl Abort,
+        group: GroupNo,
+        block: u32,
+        at: u32,
+        expected: Result<(PatchNo, Grade), Fault>,
+    )
+        requires { block < 4 }
+    {
+        let span = Span { at, len: 1 };
+        same_change(
+            rt,
+            self.graph.group_patch(group, BlockNo(block), span),
+            expected,
+        );
+    }
+
+    /// What `group_room` foresees of a change of one byte for a group.
+    pub fn group_room(
+        &mut self,
+        rt: &impl Abort,
+        group: GroupNo,
+        block: u32,
+        at: u32,
+        expected: Result<(PatchNo, Grade), Fault>,
+    )
+        requires { block < 4 }
+    {
+        let span = Span { at, len: 1 };
+        same_change(
+            rt,
+            self.graph.group_room(group, BlockNo(block), span),
+            expected,
+        );
+    }
+
+    /// Closes a group.
+    pub fn group_close(&mut self, rt: &impl Abort, group: GroupNo, expected: Result<(), Fault>) {
+        same_answer(rt, self.graph.group_close(group), expected);
     }
 
     /// Where a patch is.

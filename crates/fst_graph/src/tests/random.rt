@@ -5,11 +5,11 @@ ghost use Rattle.std.specs.Prelude.{◌≡◌, ◌<◌, ◌≤◌};
 
 use crate::graph::Graph;
 use crate::tests::same::{
-    same_answer, same_block, same_change, same_count, same_held, same_number, same_patches,
-    same_place,
+    same_answer, same_block, same_change, same_count, same_group, same_held, same_number,
+    same_patches, same_place,
 };
 use crate::tests::twin::Twin;
-use fst_types::{BlockNo, Fault, Grade, PatchNo, Shape, Span};
+use fst_types::{BlockNo, Fault, Grade, GroupNo, PatchNo, Shape, Span};
 use std::alloc::{AllocError, Global};
 use std::process::Abort;
 use std::test::Fail;
@@ -71,6 +71,27 @@ fn answer_to(
     }
     let foreseen = graph.room(block, span, names);
     let made = graph.add_data(block, span, names);
+    same_change(rt, foreseen, made);
+    made
+}
+
+// What the graph answers to a change for a group, which `group_room` may have foreseen.
+fn answer_to_member(
+    rt: &impl Abort,
+    graph: &mut Graph,
+    group: GroupNo,
+    block: BlockNo,
+    span: Span,
+    is_foreseen: bool,
+) -> Result<(PatchNo, Grade), Fault>
+    requires { block.0 < graph.old.blocks }
+    ensures { graph.new.blocks ≡ graph.old.blocks }
+{
+    if !is_foreseen {
+        return graph.group_patch(group, block, span);
+    }
+    let foreseen = graph.group_room(group, block, span);
+    let made = graph.group_patch(group, block, span);
     same_change(rt, foreseen, made);
     made
 }
@@ -138,6 +159,48 @@ impl Pair {
         same_answer(rt, answer, self.twin.try_seal(gate));
     }
 
+    // A group, of the last ones more often, and at times a number that is none.
+    fn group_name(&self, dice: &mut Dice) -> GroupNo {
+        let count = self.twin.group_count().min(4_096) as u32;
+        let index = dice.roll(count.min(4).max(1));
+        match self.twin.group_at(count.saturating_sub(index + 1) as usize) {
+            Some(group) => group,
+            None => GroupNo(dice.name(self.twin.numbers()).0),
+        }
+    }
+
+    fn group(&mut self, rt: &impl Abort) -> Result<(), Fail> {
+        let made = self.graph.group_new();
+        same_group(rt, made, self.twin.try_group_new()?);
+        Ok(())
+    }
+
+    fn group_after(&mut self, rt: &impl Abort, dice: &mut Dice) -> Result<(), Fail> {
+        let late = self.group_name(dice);
+        let early = self.group_name(dice);
+        let answer = self.graph.group_after(late, early);
+        same_answer(rt, answer, self.twin.try_group_after(late, early)?);
+        Ok(())
+    }
+
+    // A change for a group, which `group_room` may have foreseen.
+    fn member(&mut self, rt: &impl Abort, dice: &mut Dice) -> Result<(), Fail> {
+        let group = self.group_name(dice);
+        let block = BlockNo(dice.roll(self.blocks));
+        let at = dice.roll(4);
+        let len = 1 + dice.roll(4 - at);
+        let span = Span { at, len };
+        let is_foreseen = dice.roll(2) == 0;
+        let made = answer_to_member(rt, &mut self.graph, group, block, span, is_foreseen);
+        same_change(rt, made, self.twin.try_member(group, block, span)?);
+        Ok(())
+    }
+
+    fn group_close(&mut self, rt: &impl Abort, group: GroupNo) {
+        let answer = self.graph.group_close(group);
+        same_answer(rt, answer, self.twin.try_group_close(group));
+    }
+
     // Puts the least writable block in flight, and answers which it is.
     fn launch(&mut self) -> Result<Option<BlockNo>, Fault> {
         let Some(block) = self.graph.pick() else {
@@ -161,7 +224,7 @@ impl Pair {
 
     // One random call.
     fn step(&mut self, rt: &impl Abort, dice: &mut Dice) -> Result<(), Fail> {
-        match dice.roll(24) {
+        match dice.roll(40) {
             0..=10 => self.change(rt, dice)?,
             11 | 12 => self.empty(rt, dice)?,
             13 | 14 => self.gate(rt)?,
@@ -173,7 +236,14 @@ impl Pair {
             20 | 21 => {
                 self.launch()?;
             }
-            22 => self.land(BlockNo(dice.roll(self.blocks))),
+            22 | 23 => self.group(rt)?,
+            24..=27 => self.group_after(rt, dice)?,
+            28 => {
+                let group = self.group_name(dice);
+                self.group_close(rt, group);
+            }
+            29..=36 => self.member(rt, dice)?,
+            37 | 38 => self.land(BlockNo(dice.roll(self.blocks))),
             _ => self.forget(rt),
         }
         Ok(())
@@ -220,6 +290,14 @@ impl Pair {
         }
     }
 
+    fn close_all(&mut self, rt: &impl Abort) {
+        for index in 0..self.twin.group_count() {
+            if let Some(group) = self.twin.group_at(index) {
+                self.group_close(rt, group);
+            }
+        }
+    }
+
     fn land_all(&mut self) {
         for block in 0..self.blocks {
             self.land(BlockNo(block));
@@ -239,6 +317,7 @@ impl Pair {
     // With every gate sealed, and block after block written, nothing is left that is not on disk.
     fn finish(&mut self, rt: &impl Abort) -> Result<(), Fail> {
         self.seal_all(rt);
+        self.close_all(rt);
         self.land_all();
         self.compare(rt)?;
         self.write_all()?;

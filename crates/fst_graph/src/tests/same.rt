@@ -1,7 +1,7 @@
 //! One comparison for each type of answer. An `assert_eq!` in a test is proved with all that the test knows so far, and
 //! for a type such as `Result<(PatchNo, Grade), Fault>` that is long: here it is proved once.
 
-use fst_types::{BlockNo, Fault, Grade, PatchNo, Place};
+use fst_types::{BlockNo, Fault, Grade, GroupNo, PatchNo, Place};
 use std::process::Abort;
 
 /// The number of a new patch.
@@ -10,6 +10,11 @@ pub fn same_number(
     made: Result<PatchNo, Fault>,
     expected: Result<PatchNo, Fault>,
 ) {
+    assert_eq!(rt; made, expected);
+}
+
+/// The number of a new group.
+pub fn same_group(rt: &impl Abort, made: Result<GroupNo, Fault>, expected: Result<GroupNo, Fault>) {
     assert_eq!(rt; made, expected);
 }
 

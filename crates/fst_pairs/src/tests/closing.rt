@@ -5,6 +5,7 @@ use crate::tests::{only, patch_all, steps, submits, with_one, write_one, zeros};
 use crate::worker::Step;
 use fst_device::carry;
 use fst_types::{BlockNo, Fault, Ticket};
+use linked_list_allocator::LocalHeap;
 use std::test::Fail;
 
 // What was made, sent and landed.
@@ -89,15 +90,33 @@ fn opens_over_no_write_that_is_out(rt: HostRuntime) -> Result<(), Fail> {
     Ok(())
 }
 
-// Where memory for the rings is refused the cache comes back, and with memory it opens. In a plain run none is refused:
-// `rt try --test --fail-alloc N` refuses the N-th allocation.
+// Heaps with ever more room refuse each allocation of the rings in turn. The cache comes back as it was and the heap is
+// empty again; with room for all of them the same cache opens.
 #[test]
 fn refused_in_turn_fst_pairs(rt: HostRuntime) -> Result<(), Fail> {
-    let cache = zeros(rt.alloc(), 1)?;
-    if let Err((cache, fault)) = Desk::open(rt.alloc(), cache, 8) {
-        assert!(rt; fault == Fault::Memory);
-        assert_eq!(rt; cache.blocks(), 1);
-        assert!(rt; Desk::open(rt.alloc(), cache, 8).is_ok());
+    let mut cache = zeros(rt.alloc(), 1)?;
+    let mut share = cache.share();
+    assert!(rt; cache.patch(&mut share, BlockNo(0), 0, b"A", &[]).is_ok());
+    let before = cache.stat();
+    for room in 1..4096usize {
+        let heap = LocalHeap::new(rt.alloc(), 64 * room)?;
+        match Desk::open(&heap, cache, 8) {
+            Ok((mut desk, workers)) => {
+                assert!(rt;
+                    room > 16,
+                    "the rings and their lists take many allocations"
+                );
+                assert_eq!(rt; workers.len(), 8);
+                submits(&rt, &mut desk, Some(1));
+                return Ok(());
+            }
+            Err((back, fault)) => {
+                assert!(rt; fault == Fault::Memory);
+                assert_eq!(rt; back.stat(), before);
+                assert_eq!(rt; heap.used(), 0);
+                cache = back;
+            }
+        }
     }
-    Ok(())
+    Err("no heap had room enough")?
 }

@@ -1,12 +1,16 @@
-use Rattle.std.proofs.Common.{◌≡◌, ◌∙◌, [], vec_len, subst, sym, arith}
+use Rattle.std.proofs.Common.{◌≡◌, ◌∙◌, [], cond, count_by, ap, vec_len, subst, sym, arith}
 use Rattle.std.proofs.lemmas.List.{length-map, nil_from_length}
 use Rattle.fst_graph.specs.Heads.{IsRising}
 use Rattle.fst_graph.specs.Marks.{HasSlot, HasNone}
 use Rattle.fst_graph.specs.Nodes.{node_of, nodes_of}
-use Rattle.fst_graph.specs.Spreading.{Spreading}
+use Rattle.fst_types.proofs.Finite.{In-from_Contains}
+use Rattle.fst_graph.specs.declared.pending.Pending.TheVariants as pending
+use Rattle.fst_graph.specs.Pendings.{is_pending}
+use Rattle.fst_graph.specs.Spreading.{Spreading, is_waiting, now}
 use Rattle.fst_graph.specs.Standings.{AllStand}
+use Rattle.fst_graph.proofs.Living.{waits_untold, waiting_settles, waiting_heard}
 use Rattle.fst_graph.proofs.Popping.{fits_there, untold_there, rising_settled, after_is, once_after, live_after, hears_after, room_after, turned, cascaded_heads}
-use Rattle.fst_graph.proofs.Slotted.{rising_slots, none_of_number}
+use Rattle.fst_graph.proofs.Slotted.{rising_slots, none_of_number, node_is}
 use Rattle.fst_graph.proofs.Stands.{stand_heard}
 use Rattle.fst_graph.proofs.Starting.{settled_spread, spread_trans, length_spread}
 use Rattle.fst_graph.proofs.Telling.{last_waits}
@@ -151,13 +155,24 @@ loop-number-preserved-in-Some-slot_of c =
     let start = nodes_of c.args.heads.now.items in
     let next = nodes_of c.tell.new.heads.items in
     let d = (last_waits nodes blocks queue q S).0 in
+    let here = last_waits nodes blocks queue q S in
+    let waits = waits_untold here.0 (S.sinks here.0 here.1) here.3 in
+    let is = node_is heads q s here.0 d (rising_slots heads S.rising) found here.1 here.2 in
+    let less = waiting_settles nodes q here.0 S.rising (In-from_Contains nodes here.0 here.1) here.2 waits in
+    let told = ap (count_by is_waiting) (c.tell.ensures.nodes d) ∙ waiting_heard _ _ _ after in
+    let first = ap (count_by is_waiting) (after_is heads blocks queue q s c.requires.narrow S c.loop-number.invariant.linked c.loop-number.invariant.distinct found c.settle_slot-old.result.0 c.settle_slot-old.result.1 after settled.old settled.new settled.nodes) in
+    let own : c.landings-landed.result ≡ cond (is_pending (now here.0) pending.Nothing) 1 0 =
+    c.landings-landed.ensures ∙ ap (λ p. cond (is_pending p pending.Nothing) 1 0) (settled.new d ∙ ap now is) in
     record {
+      landed = omega (arith, c.loop-number.invariant.landed, told, first, less, own);
       spreading = turn.spreading;
       linked = turn.are_linked;
       distinct = turn.are_distinct;
       standing = subst (λ k. AllStand next k c.settle_slot-old.new.standings.items) same (rw (c.tell.ensures.nodes d) (stand_heard after (vec_len c.loop-number.standings) c.settle_slot-old.new.standings.items _ _ _ settled.standing));
       spread = spread_trans start nodes next c.loop-number.invariant.spread turn.spread;
       capacity = c.tell.ensures.capacity ∙ (c.in-Some.ensures.capacity ∙ c.loop-number.invariant.capacity);
+      frames = c.tell.ensures.frames ∙ (settled.frames ∙ c.loop-number.invariant.frames);
+      places = c.tell.ensures.places ∙ (settled.places ∙ c.loop-number.invariant.places);
     }
 
 -- the number is that of a head

@@ -1,7 +1,9 @@
 use Rattle.std.proofs.Common.{◌∙◌, sym, ap, subst}
 use Rattle.fst_graph.proofs.AtNumber.{at_slot, at_none}
+use Rattle.fst_graph.proofs.Framed.{frames_set}
 use Rattle.fst_graph.proofs.PendingAt.{node_in}
 use Rattle.fst_graph.proofs.Slotted.{waits_none, stays_slot, waits_slot, number_in}
+use Rattle.fst_graph.specs.Frames.{frame_of}
 use Rattle.fst_graph.specs.Marks.{HasSlot, HasNone}
 use Rattle.fst_graph.specs.Nodes.{node_of}
 use Rattle.fst_graph.specs.Spreading.{hears, wakes}
@@ -54,3 +56,13 @@ returns-in_default-clause-nodes c =
 pub returns-in_default-clause-queued : goal.returns-in_default-clause-queued
 returns-in_default-clause-queued c =
     waits_none c.args.heads.now.items c.args.number (wakes c.args.old c.args.new) c.args.queue.now.items (subst (λ hs. HasNone hs c.args.number) c.deref.ensures.value c.in_default.ensures.none)
+
+pub returns-then-hear-clause-frames : goal.returns-then-hear-clause-frames
+returns-then-hear-clause-frames c =
+    let slot = subst (λ hs. HasSlot hs c.args.number c.in-Some.slot) c.deref.ensures.value c.in-Some.ensures.found in
+    frames_set c.args.heads.now.items c.in-Some.slot _ c.index_mut.result.now slot.0 (c.hear.ensures.frame ∙ ap frame_of c.index_mut.ensures.value)
+
+pub returns-else-hear-clause-frames : goal.returns-else-hear-clause-frames
+returns-else-hear-clause-frames c =
+    let slot = subst (λ hs. HasSlot hs c.args.number c.in-Some.slot) c.deref.ensures.value c.in-Some.ensures.found in
+    frames_set c.args.heads.now.items c.in-Some.slot _ c.index_mut.result.now slot.0 (c.hear.ensures.frame ∙ ap frame_of c.index_mut.ensures.value)

@@ -12,6 +12,8 @@ loop-at-init c = record {
   queued = sym (append-nil c.args.queue.now.items);
   len = refl;
   capacity = refl;
+  frames = refl;
+  places = refl;
 }
 
 pub hear_at-requires-clause-rising : goal.hear_at-requires-clause-rising
@@ -94,6 +96,8 @@ loop-at-preserved c =
           ∙ ap (λ ms. c.args.queue.now.items ++ ms) (woken_more row once i lt c.args.old c.args.new start))));
       len = omega (arith, length_heard start c.hear_at.new.heads.items (take (i + 1) row) c.args.old c.args.new nodes, length-map heads node_of);
       capacity = c.hear_at.ensures.capacity ∙ before.capacity;
+      frames = c.hear_at.ensures.frames ∙ before.frames;
+      places = c.hear_at.ensures.places ∙ before.places;
     }
 
 pub returns-clause-nodes : goal.returns-clause-nodes

@@ -1,4 +1,5 @@
 use Rattle.std.proofs.Common.{◌≡◌, ◌-◌, ◌++◌, length, map, take, vec_len, vec_capacity}
+use Rattle.fst_graph.specs.Frames.{frames_of}
 use Rattle.fst_graph.specs.Nodes.{nodes_of}
 use Rattle.fst_graph.specs.Spreading.{heard, woken}
 use Rattle.fst_graph.proofs.Slotted.{row_at}
@@ -10,6 +11,8 @@ invariant-loop-at l = record {
   queued : l.queue.items ≡ l.fn.queue.items ++ woken (take l.at (row_at (nodes_of l.fn.heads.items) l.slot)) l.old l.new (nodes_of l.fn.heads.items);
   len : vec_len l.heads ≡ vec_len l.fn.heads;
   capacity : vec_capacity l.queue ≡ vec_capacity l.fn.queue;
+  frames : frames_of l.heads.items ≡ frames_of l.fn.heads.items;
+  places : vec_capacity l.heads ≡ vec_capacity l.fn.heads;
 }
 
 abbrev pub decreases-loop-at : goal.decreases-loop-at

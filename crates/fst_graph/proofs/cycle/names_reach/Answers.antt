@@ -18,7 +18,7 @@ returns-clause-reaches c =
     let o = c.requires.is_open in
     let gate : IsOpenNumber (patches_of heads) c.args.gate = record { patch = o.patch; head = o.head; numbered = o.numbered; is_open = o.is_open } in
     let starts = subst (λ q. Visits (λ n. Contains names n × (told n ≡ pending.Held)) q start) c.clear.ensures.items c.visit_names.ensures.visits in
-    let said = searched (patches_of heads) told c.requires.held c.args.gate gate names start c.search_down.new.queue.items starts c.search_down.ensures.led in
+    let said = searched (patches_of heads) told c.requires.held c.args.gate gate (Contains names) start c.search_down.new.queue.items starts c.search_down.ensures.led in
     let marked = c.search_down.ensures.visited.marked in (
       λ e. said.0 (marked.only c.args.gate (c.is_marked.ensures.0 e)),
       λ a. c.is_marked.ensures.1 (marked.each c.args.gate (said.1 a)),

@@ -5,6 +5,7 @@ use Rattle.fst_graph.specs.Heads.{patch_of}
 use Rattle.fst_graph.specs.Marks.{HasSlot, HasNone}
 use Rattle.fst_graph.specs.Nodes.{node_of, nodes_of, at_number}
 use Rattle.fst_graph.proofs.AtNumber.{at_none, at_slot}
+use Rattle.fst_graph.proofs.Framed.{still_below}
 use Rattle.fst_graph.proofs.Linking.{adds, rising_linked, room_first, room_left, room_fewer, room_here, link_none, link_more}
 use Rattle.fst_graph.proofs.links.link.Goals as goal
 use Rattle.fst_graph.proofs.links.link.Goals.{in-Some, in_default}
@@ -13,6 +14,7 @@ pub loop-other-init : goal.loop-other-init
 loop-other-init c = record {
   nodes = sym (link_none (nodes_of c.args.heads.now.items) c.args.number);
   room = room_first c.args.heads.now.items c.args.row.now c.requires.room;
+  below = λ n room. room;
   len = refl;
   capacity = refl;
 }
@@ -49,6 +51,7 @@ loop-other-preserved c =
           (record {
             nodes = at_slot heads (get_or row i 0) s (adds n) linked head rising slot node ∙ (ap (λ xs. map (at_number (get_or row i 0) (adds n)) xs) before.nodes ∙ more);
             room = room_left heads row i s linked c.requires.once slot.0 (ap (λ h. h.number) w.index_mut.ensures.value ∙ slot.1 head) before.room;
+            below = λ m below. still_below heads s linked head slot.0 (ap (λ h. h.number) w.index_mut.ensures.value) (ap (λ (h : Head). h.dependencies) w.index_mut.ensures.value) m (before.below m below);
             len = before.len;
             capacity = before.capacity;
           })
@@ -58,6 +61,7 @@ loop-other-preserved c =
           (record {
             nodes = at_none heads (get_or row i 0) (adds n) none ∙ (ap (λ xs. map (at_number (get_or row i 0) (adds n)) xs) before.nodes ∙ more);
             room = room_fewer heads row i before.room;
+            below = before.below;
             len = before.len;
             capacity = before.capacity;
           })

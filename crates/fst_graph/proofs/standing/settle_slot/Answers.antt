@@ -11,12 +11,14 @@ use Rattle.fst_graph.specs.declared.head.Kind.TheVariants as kinds
 use Rattle.fst_graph.specs.declared.standing.Standing.{Standing}
 use Rattle.fst_graph.specs.Heads.{kind_of}
 use Rattle.fst_graph.specs.Marks.{HasSlot}
+use Rattle.fst_graph.specs.Frames.{frame_of}
 use Rattle.fst_graph.specs.Nodes.{Node, node_of, nodes_of}
 use Rattle.fst_graph.specs.declared.pending.Pending.{Pending}
 use Rattle.fst_graph.specs.declared.pending.Pending.TheVariants as pending
 use Rattle.fst_graph.specs.Pendings.{Fits, Sinks, is_pending}
 use Rattle.fst_graph.specs.Spreading.{now, is_told, settles}
 use Rattle.fst_graph.specs.Standings.{AllStand}
+use Rattle.fst_graph.proofs.Framed.{frames_set}
 use Rattle.fst_graph.proofs.AtNumber.{at_slot}
 use Rattle.fst_graph.proofs.Releasing.{node_at, node_there, few_ready, some_held, stand_freed, stand_held, stand_told}
 use Rattle.fst_graph.proofs.Slots.{slot_here}
@@ -133,3 +135,7 @@ returns-clause-standing c =
           subst (λ (v : Vec Standing Global). AllStand (nodes_of (set heads s after)) (vec_len c.args.standings.now) v.items) (sym w.standings-is)
           (stand_told heads s h lt e (vec_len c.args.standings.now) c.args.standings.now.items c.requires.standing after same (λ b. off_change b h.kind (is_at h.place place.Memory) w.in_default.not-Change))
     ]
+
+pub returns-clause-frames : goal.returns-clause-frames
+returns-clause-frames c =
+    frames_set c.args.heads.now.items c.args.slot _ c.index_mut-head.result.now (omega (arith, c.requires.slot, c.args.heads.now.ok.0)) (ap frame_of c.index_mut-head.ensures.value)

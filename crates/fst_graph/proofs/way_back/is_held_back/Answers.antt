@@ -2,7 +2,7 @@ use Rattle.std.proofs.Common.{◌≡◌, ◌↔◌, ◌∙◌, ℕ, Bool, true, 
 use Rattle.std.proofs.lemmas.Bool.{false≢true}
 use Rattle.fst_types.specs.Facts.{IsOnDiskWithAll}
 use Rattle.fst_graph.specs.declared.test.Test.TheVariants as test
-use Rattle.fst_graph.specs.Grading.{MayBeHard}
+use Rattle.fst_graph.specs.Grading.{LeadsNowhere}
 use Rattle.fst_graph.specs.Heads.{patches_of}
 use Rattle.fst_graph.specs.Marks.{PassesAt}
 use Rattle.fst_graph.specs.WayBack.{IsLiveOver}
@@ -22,7 +22,7 @@ returns-clause-held c =
     let b = c.args.block in
     let row = c.args.row.now in
     let disk : IsOnDiskWithAll patches = record { disk = c.requires.disk.disk; follows = c.requires.disk.follows; open_gates = c.requires.disk.open_gates; only_changes_fly = c.requires.disk.only_changes_fly } in
-    let Hard = MayBeHard patches b row in
+    let Nowhere = LeadsNowhere patches b row in
     let start = c.keep_away.new.queue.items in
     let met = c.walk_back.new.queue.items in
     let starts : (n : ℕ) → Contains start n ↔ (IsLiveOver patches b n × PassesAt (test.LiveOff b) patches n) = λ n.
@@ -33,7 +33,8 @@ returns-clause-held c =
     ) in
     let marked = c.walk_back.ensures.visited.marked in
     let found = c.names_visited.ensures in
-    decided c.names_visited.result (Hard → ⊥) Hard
-    (λ e. let f = found.0 e in met_soft patches rising disk b row c.show_only.new.reached c.show_only.ensures start met starts c.walk_back.ensures.meets (f.0, f.1, marked.only f.0 f.2))
-    (λ e. none_hard patches rising disk b row c.show_only.new.reached c.show_only.ensures start met starts c.walk_back.ensures.meets c.requires.free
-    (λ has. false≢true (sym e ∙ found.1 (has.0, has.1, marked.each has.0 has.2))))
+    decided c.names_visited.result (Nowhere → ⊥) Nowhere
+    (λ e. let f = found.0 e in met_soft patches rising disk b row c.show_only.new.reached c.show_only.ensures start met starts c.walk_back.ensures.only (f.0, f.1, marked.only f.0 f.2))
+    (λ e.
+    let none : ((n : ℕ) × Contains row n × Contains met n) → ⊥ = λ has. false≢true (sym e ∙ found.1 (has.0, has.1, marked.each has.0 has.2)) in
+    none_hard patches rising disk b row c.show_only.new.reached c.show_only.ensures start met starts (c.walk_back.ensures.meets (λ n named here. none (n, named, here))) none)

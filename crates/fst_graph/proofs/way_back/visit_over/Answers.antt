@@ -23,4 +23,4 @@ returns-clause-over c n =
     let b = c.args.block in
     let disk : IsOnDiskWithAll patches = record { disk = c.requires.disk.disk; follows = c.requires.disk.follows; open_gates = c.requires.disk.open_gates; only_changes_fly = c.requires.disk.only_changes_fly } in
     let starts = subst (λ q. Visits (PassesAt (test.LiveOn b) patches) q c.visit_changes.new.queue.items) c.clear.ensures.items c.visit_changes.ensures.visits in
-    met_over patches disk b (length c.args.crossed.now) c.requires.inside c.cross_all.new.crossed c.cross_all.ensures c.visit_changes.new.queue.items c.walk_back.new.queue.items starts c.walk_back.ensures.meets n
+    met_over patches disk b (length c.args.crossed.now) c.requires.inside c.cross_all.new.crossed c.cross_all.ensures c.visit_changes.new.queue.items c.walk_back.new.queue.items starts (c.walk_back.ensures.meets (λ m named. absurd (omega (arith, named.1)))) n

@@ -53,6 +53,20 @@ loop-at-preserved c =
       | in_default w ↦ absurd (not_live_none heads n (subst (HasNone heads) same w.in_default.ensures.none) (c.loop-at.invariant.visited.live n (Contains-get_or queue at 0 lt)))
     ]
 
+-- the number at which it stops is in the row and in the queue
+pub returns-then-is_in-clause-meets : goal.returns-then-is_in-clause-meets
+returns-then-is_in-clause-meets c none =
+    let queue = c.loop-at.queue.items in
+    let lt : c.loop-at.at < length queue = omega (arith, c.loop-at-test.true, c.len.ensures, c.loop-at.queue.ok.0) in
+    let same : c.index-number.result.now ≡ get_or queue c.loop-at.at 0 = c.index-number.ensures ∙ any_default queue c.loop-at.at _ 0 lt in
+    absurd (none c.index-number.result.now (c.is_in.ensures c.if-is_in.true) (subst (Contains queue) (sym same) (Contains-get_or queue c.loop-at.at 0 lt)))
+
+pub returns-then-is_in-clause-only : goal.returns-then-is_in-clause-only
+returns-then-is_in-clause-only c = c.loop-at.invariant.walking.only
+
+pub returns-clause-only : goal.returns-clause-only
+returns-clause-only c = c.loop-at.invariant.walking.only
+
 pub returns-clause-meets : goal.returns-clause-meets
-returns-clause-meets c =
+returns-clause-meets c none =
     walking_all (patches_of c.args.heads.now) c.args.crossed.now c.args.queue.now.items c.loop-at.at c.loop-at.crossed c.loop-at.queue.items (omega (arith, c.loop-at-test.false, c.len.ensures, c.loop-at.queue.ok.0)) c.loop-at.invariant.walking

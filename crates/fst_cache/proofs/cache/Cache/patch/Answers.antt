@@ -1,20 +1,22 @@
 use Rattle.std.proofs.Common.{◌≡◌, ◌≤◌, ◌<◌, ◌+◌, length, refl, ap, inl, inr, arith, true, drop}
+use Rattle.fst_types.specs.Order.{make_order}
 use Rattle.fst_types.specs.Step.{refused}
 use Rattle.fst_graph.specs.Known.{Known}
 use Rattle.fst_cache.specs.Names.{numbers_of}
 use Rattle.fst_cache.specs.Kept.{state_of}
-use Rattle.fst_cache.specs.Making.{MayHold}
+use Rattle.fst_cache.specs.Making.{span_order, MayHold}
 use Rattle.fst_cache.proofs.SameRefused.{kept_unprepared, step_unprepared}
 use Rattle.fst_cache.proofs.ResideSeats.{room_for, at_rest}
-use Rattle.fst_cache.proofs.MakeRefused.{refused_by_graph}
+use Rattle.fst_cache.proofs.MakeRefused.{first_append, refused_by_graph}
 use Rattle.fst_cache.proofs.MakeReady.{as_long, newest, kept_ready, loaded}
-use Rattle.fst_cache.proofs.MakeWhole.{step_refused, step_made, kept_made, faults_made, back_made, load_fault, load_here, puts_here, rose_here, adds_prepared}
+use Rattle.fst_cache.proofs.MakeWhole.{step_refused, step_made, kept_made, load_fault, load_here, puts_here, rose_here, adds_prepared}
+use Rattle.fst_cache.proofs.MakeBeside.{faults_made, homes_made, back_made}
 use Rattle.fst_cache.proofs.cache.Cache.patch.Goals as goal
 use Rattle.fst_cache.proofs.MakeCounted.{counted_here, quiet_here}
 use Rattle.fst_cache.proofs.ResideShowing.{told, not_failed}
 
 pub returns-in-Some-clause-step : goal.returns-in-Some-clause-step
-returns-in-Some-clause-step g c = refused (inl (c.in-Some.ensures (numbers_of c.args.after.now) true))
+returns-in-Some-clause-step g c = refused (inl (first_append (span_order c.args.self.now.state c.args.share.now c.args.block.0 c.args.at c.args.bytes.now) (make_order c.args.self.now.state.heads c.args.self.now.state.numbers (numbers_of c.args.after.now)) c.in-Some.fault c.in-Some.ensures))
 
 pub overflow_cast-span : goal.overflow_cast-span
 overflow_cast-span g c =
@@ -33,7 +35,7 @@ returns-in-Err-clause-step g c =
     let may : MayHold (state_of i.size i.resident i.tickets i.made i.graph i.contents.items i.seats.items) c.args.share.now c.args.block.0 c.args.at c.args.bytes.now = rw (← c.self.view_is) at c.in_default.ensures in
     rw (← c.self.view_is)
     (step_unprepared i.size i.resident i.tickets i.made i.graph c.room.new.self i.contents.items i.seats.items c.in-Err.ensures.same _ c.in-Err.fault
-    (refused_by_graph (state_of i.size i.resident i.tickets i.made i.graph i.contents.items i.seats.items) c.args.share.now c.args.block.0 c.args.at c.args.bytes.now (numbers_of c.args.after.now) _ may c.in-Err.fault c.in-Err.ensures.refused))
+    (refused_by_graph (state_of i.size i.resident i.tickets i.made i.graph i.contents.items i.seats.items) c.args.share.now c.args.block.0 c.args.at c.args.bytes.now may (numbers_of c.args.after.now) _ c.in-Err.fault c.in-Err.ensures.refused))
 
 pub put-requires-clause-rest : goal.put-requires-clause-rest
 put-requires-clause-rest g c =
@@ -85,6 +87,13 @@ returns-in-Err-put-clause-faults g c =
     let load = load_here i.resident i.seats.items c.deref_mut.result.now c.put.new.seats c.args.block.0 i.seats.len (drop (length c.put.new.seats) i.seats.items) c.deref_mut.ensures.value long (c.in-Err-put.ensures.refused refl) in
     rw (← c.self.view_is) (loaded i.size i.resident i.tickets i.made i.graph c.room.new.self _ c.in-Ok.ensures.prepared i.contents.items i.seats.items _ c.self.invariant c.args.block.0 load).faults
 
+pub returns-in-Err-put-clause-homes : goal.returns-in-Err-put-clause-homes
+returns-in-Err-put-clause-homes g c =
+    let i = c.self.inside in
+    let long : i.seats.len ≡ length c.put.new.seats = omega (arith, i.seats.ok.0, c.put.auto.seats, c.deref_mut.ensures.len) in
+    let load = load_here i.resident i.seats.items c.deref_mut.result.now c.put.new.seats c.args.block.0 i.seats.len (drop (length c.put.new.seats) i.seats.items) c.deref_mut.ensures.value long (c.in-Err-put.ensures.refused refl) in
+    rw (← c.self.view_is) (loaded i.size i.resident i.tickets i.made i.graph c.room.new.self _ c.in-Ok.ensures.prepared i.contents.items i.seats.items _ c.self.invariant c.args.block.0 load).homes
+
 pub returns-in-Err-put-clause-back : goal.returns-in-Err-put-clause-back
 returns-in-Err-put-clause-back g c =
     let i = c.self.inside in
@@ -113,20 +122,23 @@ returns-clause-step g c =
 pub returns-clause-faults : goal.returns-clause-faults
 returns-clause-faults g c =
     let i = c.self.inside in
-    let may : MayHold (state_of i.size i.resident i.tickets i.made i.graph i.contents.items i.seats.items) c.args.share.now c.args.block.0 c.args.at c.args.bytes.now = rw (← c.self.view_is) at c.in_default.ensures in
     let long : i.seats.len ≡ length c.put.new.seats = omega (arith, i.seats.ok.0, c.put.auto.seats, c.deref_mut.ensures.len) in
     let puts = puts_here i.resident i.seats.items c.deref_mut.result.now c.put.new.seats c.args.block.0 i.seats.len (drop (length c.put.new.seats) i.seats.items) c.deref_mut.ensures.value long _ c.in_default-put.ensures.put in
-    let adds = adds_prepared c.room.new.self c.args.block.0 c.args.at (length c.args.bytes.now) (numbers_of c.args.after.now) c.in-Ok.made.0.0 c.in-Ok.made.1 c.add_data.new.self c.add_data.result (c.add_data.ensures.prepared c.in-Ok.made.0.0 c.in-Ok.made.1 (ap (λ (k : Known). k.prepared) c.in-Ok.ensures.prepared)) c.add_data.ensures.ok in
-    rw (← c.self.view_is) (faults_made i.size i.resident i.tickets i.made i.graph c.room.new.self _ c.in-Ok.ensures.prepared i.contents.items i.seats.items _ c.self.invariant c.args.share.now c.args.block.0 c.args.at c.args.bytes.now (numbers_of c.args.after.now) c.in-Ok.made.0.0 c.in-Ok.made.1 may puts c.add_data.new.self adds)
+    rw (← c.self.view_is) (faults_made i.size i.resident i.tickets i.made i.graph c.room.new.self _ c.in-Ok.ensures.prepared i.contents.items i.seats.items _ c.self.invariant c.args.block.0 _ puts)
+
+pub returns-clause-homes : goal.returns-clause-homes
+returns-clause-homes g c =
+    let i = c.self.inside in
+    let long : i.seats.len ≡ length c.put.new.seats = omega (arith, i.seats.ok.0, c.put.auto.seats, c.deref_mut.ensures.len) in
+    let puts = puts_here i.resident i.seats.items c.deref_mut.result.now c.put.new.seats c.args.block.0 i.seats.len (drop (length c.put.new.seats) i.seats.items) c.deref_mut.ensures.value long _ c.in_default-put.ensures.put in
+    rw (← c.self.view_is) (homes_made i.size i.resident i.tickets i.made i.graph c.room.new.self _ c.in-Ok.ensures.prepared i.contents.items i.seats.items _ c.self.invariant c.args.block.0 _ puts)
 
 pub returns-clause-back : goal.returns-clause-back
 returns-clause-back g c =
     let i = c.self.inside in
-    let may : MayHold (state_of i.size i.resident i.tickets i.made i.graph i.contents.items i.seats.items) c.args.share.now c.args.block.0 c.args.at c.args.bytes.now = rw (← c.self.view_is) at c.in_default.ensures in
     let long : i.seats.len ≡ length c.put.new.seats = omega (arith, i.seats.ok.0, c.put.auto.seats, c.deref_mut.ensures.len) in
     let puts = puts_here i.resident i.seats.items c.deref_mut.result.now c.put.new.seats c.args.block.0 i.seats.len (drop (length c.put.new.seats) i.seats.items) c.deref_mut.ensures.value long _ c.in_default-put.ensures.put in
-    let adds = adds_prepared c.room.new.self c.args.block.0 c.args.at (length c.args.bytes.now) (numbers_of c.args.after.now) c.in-Ok.made.0.0 c.in-Ok.made.1 c.add_data.new.self c.add_data.result (c.add_data.ensures.prepared c.in-Ok.made.0.0 c.in-Ok.made.1 (ap (λ (k : Known). k.prepared) c.in-Ok.ensures.prepared)) c.add_data.ensures.ok in
-    rw (← c.self.view_is) (back_made i.size i.resident i.tickets i.made i.graph c.room.new.self _ c.in-Ok.ensures.prepared i.contents.items i.seats.items _ c.self.invariant c.args.share.now c.args.block.0 c.args.at c.args.bytes.now (numbers_of c.args.after.now) c.in-Ok.made.0.0 c.in-Ok.made.1 may puts c.add_data.new.self adds)
+    rw (← c.self.view_is) (back_made i.size i.resident i.tickets i.made i.graph c.room.new.self _ c.in-Ok.ensures.prepared i.contents.items i.seats.items _ c.self.invariant c.args.block.0 _ puts)
 
 pub returns-in-Err-put-clause-one_fault : goal.returns-in-Err-put-clause-one_fault
 returns-in-Err-put-clause-one_fault g c =

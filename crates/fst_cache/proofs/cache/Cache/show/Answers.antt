@@ -14,7 +14,7 @@ use Rattle.fst_cache.proofs.ResideShowing.{load_fault, step_not_loaded, told, no
 use Rattle.fst_cache.proofs.cache.Cache.show.Goals as goal
 
 pub returns-in-Some : goal.returns-in-Some
-returns-in-Some g c = ((refl, (λ _. tt), (refl, refl, sym (set-get_or c.args.self.now.faults c.args.block.0 0), refused (inl c.in-Some.ensures), inl refl, (λ _. refl))), record { after = tt })
+returns-in-Some g c = ((refl, (λ _. tt), (refl, refl, refl, sym (set-get_or c.args.self.now.faults c.args.block.0 0), refused (inl c.in-Some.ensures), inl refl, (λ _. refl))), record { after = tt })
 
 pub load-requires-clause-rest : goal.load-requires-clause-rest
 load-requires-clause-rest g c =
@@ -71,7 +71,7 @@ returns g c =
     let L = load_keeps s i.graph i.seats.items c.self.invariant refl c.args.block.0 c.load.new.seats (rw c.deref_mut.ensures.value at c.load.ensures.seats) in
     let clear : NoneHolds (order c.args.self.now.state (Show c.args.block.0 false)) = c.in_default.ensures in
     let quiet = rw c.deref_mut.ensures.value at (c.in_ok-load.ensures.no_fault (λ e. not_failed e)) in
-    rw (c.bytes.ensures, ← c.self.view_is, back, L.blocks) ((refl, (λ _. tt), (refl, L.back, L.faults, accepted (rw (← c.self.view_is) at clear) show, inl quiet, (λ _. quiet))), record { after = tt })
+    rw (c.bytes.ensures, ← c.self.view_is, back, L.blocks) ((refl, (λ _. tt), (refl, L.homes, L.back, L.faults, accepted (rw (← c.self.view_is) at clear) show, inl quiet, (λ _. quiet))), record { after = tt })
 
 pub returns-in_err-load : goal.returns-in_err-load
 returns-in_err-load g c =
@@ -91,7 +91,7 @@ returns-in_err-load g c =
       (
         refl,
         (λ _. tt),
-        (refl, L.back, L.faults, step_not_loaded s i.graph i.seats.items c.self.invariant refl c.args.block.0 c.load.new.seats p.0 (rw (← c.self.view_is) at clear) (loads (subst IsErr (sym was) refl)) (rw p.2 refused_by), counted, (λ fine. quiet (λ d. fine (told p.0 _ p.2 (sym was ∙ d))))),
+        (refl, L.homes, L.back, L.faults, step_not_loaded s i.graph i.seats.items c.self.invariant refl c.args.block.0 c.load.new.seats p.0 (rw (← c.self.view_is) at clear) (loads (subst IsErr (sym was) refl)) (rw p.2 refused_by), counted, (λ fine. quiet (λ d. fine (told p.0 _ p.2 (sym was ∙ d))))),
       ),
       record { after = tt },
     )

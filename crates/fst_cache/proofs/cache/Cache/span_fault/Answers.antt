@@ -16,14 +16,14 @@ room_of s b h = record {
 }
 
 pub returns-then-is_lost : goal.returns-then-is_lost
-returns-then-is_lost g c after faulted =
+returns-then-is_lost g c =
     let i = c.self.inside in
     let seated : slice_get i.seats.items c.args.block.0 ≡ Some c.index.result.now = slice_get_read i.seats.items _ _ _ i.seats.ok.0 (omega arith) c.index.ensures in
     let lost = lost_at i.size i.resident i.tickets i.made i.graph i.contents.items i.seats.items _ _ seated (sym c.is_lost.ensures ∙ c.if-is_lost.true) in
     rw (← c.self.view_is, length-map) (inr ((λ h. omega arith), inr ((λ h. omega arith), inl (lost, refl))))
 
 pub returns-then-not-has_room : goal.returns-then-not-has_room
-returns-then-not-has_room g c after faulted =
+returns-then-not-has_room g c =
     let i = c.self.inside in
     let seated : slice_get i.seats.items c.args.block.0 ≡ Some c.index.result.now = slice_get_read i.seats.items _ _ _ i.seats.ok.0 (omega arith) c.index.ensures in
     let kept = not_lost_at i.size i.resident i.tickets i.made i.graph i.contents.items i.seats.items _ _ seated (sym c.is_lost.ensures ∙ c.if-is_lost.false) in

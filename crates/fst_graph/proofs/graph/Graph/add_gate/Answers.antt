@@ -1,64 +1,10 @@
-use Rattle.std.proofs.Common.{◌<◌, ◌++◌, ◌∷◌, [], ◌+◌, rules, refl, ap, map, arith, subst, length}
-use Rattle.std.proofs.lemmas.List.{length-map}
-use Rattle.fst_types.specs.Limits.{max_heads}
-use Rattle.fst_types.specs.Making.{fresh}
-use Rattle.fst_types.specs.Patches.{OpenGate}
-use Rattle.fst_types.specs.Refusals.{NoneHolds}
-use Rattle.fst_types.specs.Order.{room_order}
-use Rattle.fst_graph.specs.Heads.{patches_of}
-use Rattle.fst_graph.specs.Keeps.{Tallies}
-use Rattle.fst_graph.specs.Lists.{entries_of}
-use Rattle.fst_graph.specs.Nodes.{node_of, nodes_of, patches_in}
-use Rattle.fst_graph.proofs.Added.{new_node}
-use Rattle.fst_graph.proofs.Making.{gate_lawful, keeps_gate}
-use Rattle.fst_graph.proofs.Emptying.{map_push}
-use Rattle.fst_graph.proofs.Linked.{with_gate}
-use Rattle.fst_graph.proofs.Listed.{listed_made}
-use Rattle.fst_graph.proofs.Seen.{lawful_nodes, tallies_wider}
-use Rattle.fst_graph.proofs.Stands.{stand_made}
-use Rattle.fst_graph.proofs.Tallied.{tallies_made}
+use Rattle.fst_graph.proofs.Grouped.{answered, grouped_gate, grouped_unprepared}
 use Rattle.fst_graph.proofs.graph.Graph.add_gate.Goals as goal
 
-pub invariant_of-self-2 : goal.invariant_of-self-2
-invariant_of-self-2 c =
-    let heads = c.self.inside.heads.items in
-    let nodes = nodes_of heads in
-    let n = c.self.inside.numbers in
-    let blocks = c.self.inside.blocks in
-    let p = fresh (n + 1) OpenGate [] in
-    let clear = subst (λ hs. NoneHolds (room_order (patches_of hs) n)) c.deref.ensures.value c.in_default.ensures.clear in
-    let few : length (patches_of heads) < max_heads = let full = clear.0 in omega (arith, full) in
-    let free : c.reserve_one.new.heads.len < c.reserve_one.new.queue.cap = search rules in
-    let room : length nodes < c.reserve_one.new.queue.cap = let same = ap length c.reserve_one.ensures.heads in omega (arith, free, same, c.reserve_one.new.heads.ok.0, length-map heads node_of) in
-    let T = c.self.invariant.4 in
-    let H = lawful_nodes heads n c.self.invariant.0.lawful in
-    let standing = stand_made nodes blocks c.self.inside.standings.items p (λ b. refl) T.standing in
-    let made = tallies_made nodes n blocks _ _ _ _ _ _ c.reserve_one.new.queue.cap p H (gate_lawful (patches_in nodes) n H) T refl
-    (λ i lt. absurd (omega (arith, lt)))
-    (λ m h. absurd (omega (arith, h.1)))
-    (λ b on. absurd (cc))
-    (listed_made nodes blocks _ p T.listed (λ b. refl))
-    standing
-    room in (
-      rw (c.push_reserved.ensures.items, c.reserve_one.ensures.heads, map_push, c.push_reserved-2.ensures.items, c.reserve_one.ensures.marks, c.new.ensures.items)
-          (keeps_gate _ n blocks c.self.inside.marks.items c.self.invariant.0 few),
-      tt,
-      tt,
-      c.self.invariant.3,
-      rw (c.push_reserved.ensures.items, c.reserve_one.ensures.heads, map_push, c.no_sums.ensures, c.new.ensures.items, c.new-2.ensures.items, c.reserve_one.ensures.queue)
-          (subst (λ ns. Tallies (ns ++ new_node nodes p ∷ []) (n + 1) blocks (map (λ l. entries_of l.items) c.self.inside.lists.items) c.self.inside.standings.items c.self.inside.queue.items c.reserve_one.new.queue.cap) (with_gate nodes (n + 1)) made),
-      tt,
-      tt,
-    )
-
-pub invariant_of-self-then-is_err : goal.invariant_of-self-then-is_err
-invariant_of-self-then-is_err c =
-    let K = c.self.invariant.0 in (
-      rw (c.reserve_one.ensures.heads, c.reserve_one.ensures.marks) K,
-      tt,
-      tt,
-      c.self.invariant.3,
-      rw c.reserve_one.ensures.heads (tallies_wider _ c.self.inside.numbers c.self.inside.blocks _ _ _ _ _ _ c.self.invariant.4 c.reserve_one.ensures.queue c.reserve_one.ensures.wide),
-      tt,
-      tt,
-    )
+pub invariant_of-self : goal.invariant_of-self
+invariant_of-self c =
+    let p = c.self.inside.patches in
+    let q = c.add_gate.new.self in
+    let gs = c.self.inside.groups.items in
+    let G = c.self.invariant in
+    answered c.add_gate.result c.add_gate.ensures.ok c.add_gate.ensures.same (λ no a. grouped_gate p q gs G no.0 a) (λ same. grouped_unprepared p q gs G same)

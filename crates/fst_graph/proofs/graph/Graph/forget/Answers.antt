@@ -1,52 +1,5 @@
-use Rattle.std.proofs.Common.{◌≡◌, ◌∙◌, ◌-◌, filter, count_by, length, sym, ap, subst, refl, arith}
-use Rattle.std.proofs.lemmas.List.{length-map, length-take}
-use Rattle.fst_types.specs.declared.place.Place.TheVariants as place
-use Rattle.fst_types.specs.Facts.{HeadsAreLawful}
-use Rattle.fst_types.specs.Tests.{is_at, is_live}
-use Rattle.fst_graph.specs.Heads.{patch_of, patches_of}
-use Rattle.fst_graph.specs.Nodes.{nodes_of}
-use Rattle.fst_graph.proofs.AtNumber.{patches_in_nodes}
-use Rattle.fst_graph.proofs.Placed.{patches_dropped}
-use Rattle.fst_graph.proofs.Seen.{seen, lawful_nodes}
-use Rattle.fst_graph.proofs.Tallied.{tallies_dropped}
-use Rattle.fst_graph.proofs.Forgetting.{counted, keeps_dropped}
+use Rattle.fst_graph.proofs.Grouped.{grouped_forget}
 use Rattle.fst_graph.proofs.graph.Graph.forget.Goals as goal
 
-pub overflow_sub-result : goal.overflow_sub-result
-overflow_sub-result c =
-    let all = counted (patches_of c.self.inside.heads.items) in
-    let left : patches_of c.keep_live.new.heads.items ≡ filter is_live (patches_of c.self.inside.heads.items) =
-    seen c.keep_live.new.heads.items _ c.keep_live.ensures ∙ (patches_dropped (nodes_of c.self.inside.heads.items) ∙ ap (filter is_live) (patches_in_nodes c.self.inside.heads.items)) in
-    let live = ap length left in
-    omega (arith, all, live, length-map c.self.inside.heads.items patch_of, length-map c.keep_live.new.heads.items patch_of, c.len-2.ensures, c.len-before.ensures, c.keep_live.new.heads.ok.0, c.self.inside.heads.ok.0)
-
 pub invariant_of-self : goal.invariant_of-self
-invariant_of-self c =
-    let all = counted (patches_of c.self.inside.heads.items) in
-    let left : patches_of c.keep_live.new.heads.items ≡ filter is_live (patches_of c.self.inside.heads.items) =
-    seen c.keep_live.new.heads.items _ c.keep_live.ensures ∙ (patches_dropped (nodes_of c.self.inside.heads.items) ∙ ap (filter is_live) (patches_in_nodes c.self.inside.heads.items)) in
-    let live = ap length left in
-    let long : length c.truncate.new.self.items ≡ length (filter is_live (patches_of c.self.inside.heads.items)) =
-    rw c.truncate.ensures.items (omega (arith, all, live, length-take c.len.result c.self.inside.marks.items, length-map c.keep_live.new.heads.items patch_of, c.len.ensures, c.keep_live.new.heads.ok.0, c.self.invariant.0.marked)) in
-    let heads = c.self.inside.heads.items in
-    let n = c.self.inside.numbers in
-    let kept = keeps_dropped (patches_of heads) n c.self.inside.blocks c.self.inside.marks.items c.self.invariant.0 c.truncate.new.self.items long in
-    let lawful = subst (λ ps. HeadsAreLawful ps n) (sym (patches_dropped (nodes_of heads) ∙ ap (filter is_live) (patches_in_nodes heads))) kept.lawful in (
-      rw left kept,
-      tt,
-      tt,
-      c.self.invariant.3,
-      rw c.keep_live.ensures (tallies_dropped (nodes_of heads) n c.self.inside.blocks _ _ _ _ (lawful_nodes heads n c.self.invariant.0.lawful) lawful c.self.invariant.4),
-      tt,
-      tt,
-    )
-
-pub returns : goal.returns
-returns c =
-    let all = counted (patches_of c.self.inside.heads.items) in
-    let left : patches_of c.keep_live.new.heads.items ≡ filter is_live (patches_of c.self.inside.heads.items) =
-    seen c.keep_live.new.heads.items _ c.keep_live.ensures ∙ (patches_dropped (nodes_of c.self.inside.heads.items) ∙ ap (filter is_live) (patches_in_nodes c.self.inside.heads.items)) in
-    let live = ap length left in
-    let count : c.len-before.result - c.len-2.result ≡ count_by (λ p. is_at p.place place.Disk) (patches_of c.self.inside.heads.items) =
-    omega (arith, all, live, length-map c.self.inside.heads.items patch_of, length-map c.keep_live.new.heads.items patch_of, c.len-2.ensures, c.len-before.ensures, c.keep_live.new.heads.ok.0, c.self.inside.heads.ok.0) in
-    rw (← c.self.view_is) (record { counted = count; heads = left; numbers = refl; blocks = refl; prepared = refl })
+invariant_of-self c = grouped_forget c.self.inside.patches c.forget.new.self c.self.inside.groups.items c.self.invariant _ c.forget.ensures

@@ -1,115 +1,15 @@
-use Rattle.std.proofs.Common.{◌≡◌, ◌∙◌, map, ap, subst, arith, refl}
-use Rattle.fst_types.specs.Cascade.{IsCascadeOf, unsettled}
-use Rattle.fst_types.specs.Gates.{IsOpenNumber}
-use Rattle.fst_types.specs.Gating.{sealed}
-use Rattle.fst_types.specs.Refusals.{NoneHolds}
-use Rattle.fst_types.specs.Order.{seal_order}
-use Rattle.fst_graph.specs.Spreading.{IsSpreadOf, seals}
-use Rattle.fst_graph.specs.Heads.{patches_of}
-use Rattle.fst_graph.specs.Nodes.{nodes_of, at_number, AreSettled}
-use Rattle.fst_graph.specs.Standings.{AllStand}
-use Rattle.fst_graph.proofs.AtNumber.{patches_in_nodes}
-use Rattle.fst_graph.proofs.Borne.{inside_nodes, open_nodes, settled_fits}
-use Rattle.fst_graph.proofs.Kept.{keeps_sealed}
-use Rattle.fst_graph.proofs.Seen.{seen, one_each, lawful_nodes}
-use Rattle.fst_graph.proofs.Slots.{rising_heads}
-use Rattle.fst_graph.proofs.Stands.{stand_sealed}
-use Rattle.fst_graph.proofs.Starting.{starts_sealed, linked_sealed, distinct_sealed, unsettled_sealed}
-use Rattle.fst_graph.proofs.Tallied.{tallies_sealed}
+use Rattle.std.proofs.Common.{refl, inl, sym, ◌∙◌}
+use Rattle.std.proofs.lemmas.Bool.{false≢true}
+use Rattle.fst_graph.proofs.Grouped.{answered, grouped_seal, grouped_unprepared}
 use Rattle.fst_graph.proofs.graph.Graph.seal.Goals as goal
 
-pub gate_slot-requires : goal.gate_slot-requires
-gate_slot-requires c = rw c.deref.ensures.value (rising_heads c.self.inside.heads.items c.self.invariant.0.lawful.one_place_each.rising)
-
-pub returns-in-Err-clause-refused : goal.returns-in-Err-clause-refused
-returns-in-Err-clause-refused c = rw (← c.self.view_is, ← c.deref.ensures.value) c.in-Err.ensures.refused
-
-pub seal_slot-requires-clause-rising : goal.seal_slot-requires-clause-rising
-seal_slot-requires-clause-rising c = rising_heads c.self.inside.heads.items c.self.invariant.0.lawful.one_place_each.rising
-
-pub seal_slot-requires-clause-fits : goal.seal_slot-requires-clause-fits
-seal_slot-requires-clause-fits c =
-    let T = c.self.invariant.4 in
-    settled_fits (nodes_of c.self.inside.heads.items) c.self.inside.blocks (omega (arith, c.self.ranges)) T.settled
-
-pub cascade-requires-clause-start : goal.cascade-requires-clause-start
-cascade-requires-clause-start c =
-    let heads = c.self.inside.heads.items in
-    let n = c.self.inside.numbers in
-    let blocks = c.self.inside.blocks in
-    let g = c.args.gate.0 in
-    let K = c.self.invariant.0 in
-    let T = c.self.invariant.4 in
-    let gate = open_nodes heads g (subst (λ hs. IsOpenNumber (patches_of hs) g) c.deref.ensures.value c.in-Ok.ensures.is_open) in
-    let long : c.self.inside.standings.len ≡ blocks = omega (arith, T.standing.long, c.self.inside.standings.ok.0) in
-    rw (c.seal_slot.ensures.nodes, c.seal_slot.ensures.queued, T.idle, long)
-    (starts_sealed (nodes_of heads) n blocks g (lawful_nodes heads n K.lawful) (inside_nodes heads blocks K.inside) T.settled gate)
-
-pub cascade-requires-clause-linked : goal.cascade-requires-clause-linked
-cascade-requires-clause-linked c = rw c.seal_slot.ensures.nodes (linked_sealed (nodes_of c.self.inside.heads.items) c.args.gate.0 c.self.invariant.4.linked)
-
-pub cascade-requires-clause-distinct : goal.cascade-requires-clause-distinct
-cascade-requires-clause-distinct c = rw c.seal_slot.ensures.nodes (distinct_sealed (nodes_of c.self.inside.heads.items) c.args.gate.0 c.self.invariant.4.distinct)
-
-pub cascade-requires-clause-standing : goal.cascade-requires-clause-standing
-cascade-requires-clause-standing c =
-    let heads = c.self.inside.heads.items in
-    let n = c.self.inside.numbers in
-    let blocks = c.self.inside.blocks in
-    let g = c.args.gate.0 in
-    let T = c.self.invariant.4 in
-    let gate = open_nodes heads g (subst (λ hs. IsOpenNumber (patches_of hs) g) c.deref.ensures.value c.in-Ok.ensures.is_open) in
-    let long : c.self.inside.standings.len ≡ blocks = omega (arith, T.standing.long, c.self.inside.standings.ok.0) in
-    rw (c.seal_slot.ensures.nodes, long)
-    (stand_sealed (nodes_of heads) n blocks g c.self.inside.standings.items (one_each heads n c.self.invariant.0.lawful.one_place_each) gate T.standing)
+pub returns-then-has_gate-clause-refused : goal.returns-then-has_gate-clause-refused
+returns-then-has_gate-clause-refused c = rw (← c.self.view_is) (inl (c.has_gate.ensures.0 c.if-has_gate.true, refl))
 
 pub invariant_of-self-2 : goal.invariant_of-self-2
 invariant_of-self-2 c =
-    let heads = c.self.inside.heads.items in
-    let nodes = nodes_of heads in
-    let old = patches_of heads in
-    let new = c.cascade.new.heads.items in
-    let n = c.self.inside.numbers in
-    let blocks = c.self.inside.blocks in
-    let g = c.args.gate.0 in
-    let K = c.self.invariant.0 in
-    let T = c.self.invariant.4 in
-    let open_gate = subst (λ hs. IsOpenNumber (patches_of hs) g) c.deref.ensures.value c.in-Ok.ensures.is_open in
-    let gate = open_nodes heads g open_gate in
-    let long : c.self.inside.standings.len ≡ blocks = omega (arith, T.standing.long, c.self.inside.standings.ok.0) in
-    let placed = c.cascade.ensures.placed in
-    let was : map unsettled (patches_of c.seal_slot.new.heads.items) ≡ map unsettled (map (sealed g) old) =
-    ap (map unsettled) (seen c.seal_slot.new.heads.items _ c.seal_slot.ensures.nodes) ∙ (unsettled_sealed nodes g ∙ ap (λ ps. map unsettled (map (sealed g) ps)) (patches_in_nodes heads)) in
-    let cascade : IsCascadeOf (map (sealed g) old) (patches_of new) = record { same = placed.same ∙ was; places = placed.places; settled = placed.settled } in
-    let spread : IsSpreadOf (map (at_number g seals) nodes) (nodes_of new) = subst (λ ns. IsSpreadOf ns (nodes_of new)) c.seal_slot.ensures.nodes c.cascade.ensures.spread in
-    let kept = keeps_sealed old (patches_of new) n blocks g c.self.inside.marks.items c.self.inside.marks.items K open_gate cascade refl in
-    let settled = subst (AreSettled (nodes_of new)) long c.cascade.ensures.settled in
-    let standing = subst (λ k. AllStand (nodes_of new) k c.cascade.new.standings.items) long c.cascade.ensures.standing in (
-      kept,
-      tt,
-      tt,
-      c.self.invariant.3,
-      rw (c.cascade.ensures.empty, c.cascade.ensures.capacity, c.seal_slot.ensures.capacity)
-          (tallies_sealed nodes (nodes_of new) n blocks _ _ _ _ _ g (lawful_nodes heads n K.lawful) (lawful_nodes new n kept.lawful) T gate spread settled standing),
-      tt,
-      tt,
-    )
-
-pub returns-clause-ok : goal.returns-clause-ok
-returns-clause-ok c =
-    let heads = c.self.inside.heads.items in
-    let nodes = nodes_of heads in
-    let old = patches_of heads in
-    let g = c.args.gate.0 in
-    let placed = c.cascade.ensures.placed in
-    let was : map unsettled (patches_of c.seal_slot.new.heads.items) ≡ map unsettled (map (sealed g) old) =
-    ap (map unsettled) (seen c.seal_slot.new.heads.items _ c.seal_slot.ensures.nodes) ∙ (unsettled_sealed nodes g ∙ ap (λ ps. map unsettled (map (sealed g) ps)) (patches_in_nodes heads)) in
-    rw (← c.self.view_is)
-    (record {
-      clear = subst (λ hs. NoneHolds (seal_order (patches_of hs) c.self.inside.numbers g)) c.deref.ensures.value c.in-Ok.ensures.clear;
-      is_open = subst (λ hs. IsOpenNumber (patches_of hs) g) c.deref.ensures.value c.in-Ok.ensures.is_open;
-      cascade = record { same = placed.same ∙ was; places = placed.places; settled = placed.settled };
-      numbers = refl;
-      blocks = refl;
-      prepared = refl;
-    })
+    let p = c.self.inside.patches in
+    let q = c.seal.new.self in
+    let gs = c.self.inside.groups.items in
+    let G = c.self.invariant in
+    answered c.seal.result c.seal.ensures.ok c.seal.ensures.same (λ u a. grouped_seal p q gs G c.args.gate.0 (λ h. false≢true (sym c.if-has_gate.false ∙ c.has_gate.ensures.1 h)) a) (λ same. grouped_unprepared p q gs G same)

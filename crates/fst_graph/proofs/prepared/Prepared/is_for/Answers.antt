@@ -1,7 +1,7 @@
 use Rattle.std.proofs.Common.{◌∙◌, sym}
 use Rattle.std.proofs.lemmas.Bool.Decides.{Decides-eqb}
 use Rattle.std.proofs.lemmas.Slice.Eq.{slice_eq-Decides}
-use Rattle.fst_graph.proofs.Readied.{name_decides, span_tested}
+use Rattle.fst_graph.proofs.Readied.{name_decides, span_tested, no_gates_left}
 use Rattle.fst_graph.proofs.prepared.Prepared.is_for.Goals as goal
 use Rattle.fst_graph.proofs.prepared.Prepared.is_for.Goals.{then-self-block, else-self-block}
 
@@ -11,6 +11,6 @@ returns-then-eq c =
     elim c.if-self-block.branch [
       | then-self-block w ↦
           let span = span_tested c.args.self.now.span c.args.span (sym w.eq.ensures ∙ (sym w.value-is ∙ c.if-eq.true)) in
-          (λ e. (w.if-self-block.true, span, sym c.as_slice.ensures.value ∙ names.0 e), λ h. names.1 (c.as_slice.ensures.value ∙ h.2))
+          (λ e. (w.if-self-block.true, span, sym c.as_slice.ensures.value ∙ names.0 e, no_gates_left c.args.self.now.gates (sym c.is_some.ensures ∙ c.if-is_some.false)), λ h. names.1 (c.as_slice.ensures.value ∙ h.2))
       | else-self-block w ↦ absurd (w.if-self-block.false ((Decides-eqb c.args.self.now.block c.args.block).0 (sym w.value-is ∙ c.if-eq.true)))
     ]

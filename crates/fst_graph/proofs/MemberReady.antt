@@ -1,0 +1,168 @@
+-- What is prepared for a group: it is ready, and tells which number and grade a change would have.
+use Rattle.std.proofs.Common.{◌≡◌, ◌≢◌, ◌⊎◌, ◌+◌, ◌<◌, ◌≤◌, ◌++◌, ℕ, Bool, List, [], ◌∷◌, Option, Some, None, IfSome, option_map, length, map, Contains, refl, sym, ap, subst, ◌∙◌, inl, inr, arith}
+use Rattle.fst_types.specs.declared.grade.Grade.{Grade}
+use Rattle.fst_types.specs.Cascade.{IsCascadeOf}
+use Rattle.fst_types.specs.Events.{Reply, MadeChange}
+use Rattle.fst_types.specs.declared.grade.Grade.TheVariants as grade
+use Rattle.fst_types.specs.Facts.{HeadsAreLawful, IsTied}
+use Rattle.fst_types.specs.Gates.{IsOpenNumber}
+use Rattle.fst_types.specs.Gating.{sealed}
+use Rattle.fst_types.specs.Grades.{FollowsRule}
+use Rattle.fst_types.specs.Limits.{max_names}
+use Rattle.fst_types.specs.Lists.{Lists}
+use Rattle.fst_types.specs.Order.{make_order, room_order, NamesUnknown}
+use Rattle.fst_types.specs.Patches.{Patch}
+use Rattle.fst_types.specs.Refusals.{NoneHolds}
+use Rattle.fst_types.proofs.Finite.{In-from_Contains}
+use Rattle.fst_types.proofs.OneChange.{changes_same}
+use Rattle.fst_graph.specs.declared.prepared.Gates.{Gates}
+use Rattle.fst_graph.specs.declared.prepared.Prepared.{Prepared as Stored}
+use Rattle.fst_graph.specs.declared.head.Head.{Head}
+use Rattle.fst_graph.specs.Frames.{frames_of, HasRoomBelow}
+use Rattle.fst_graph.specs.Grading.{MayBeHard}
+use Rattle.fst_graph.specs.Keeps.{Keeps}
+use Rattle.fst_graph.specs.Known.{Known, Prepared, numbers_of, AddsChange}
+use Rattle.fst_graph.specs.Membering.{ArePaired, BeginsAs, Foretells, OverlapReaches, member_order}
+use Rattle.fst_graph.specs.Ready.{prepared_of, change_of, IsReady, IsMemberReady, MayBePut, HasRoomAround, HasPlaces}
+use Rattle.fst_graph.specs.Rows.{IsDependency}
+use Rattle.fst_graph.proofs.Grouped.{makes_change, state_at}
+use Rattle.fst_graph.proofs.Framed.{room_above, room_below}
+use Rattle.fst_graph.proofs.Kept.{keeps_sealed}
+use Rattle.fst_graph.proofs.Readied.{ready_member, member_put}
+use Rattle.fst_graph.proofs.TakenAsSealed.{is, depends, open_was, open_is, stays, touched_was}
+use Rattle.fst_graph.proofs.Touching.{depends_exactly, graded_change, touched_overlaps, overlaps_touched}
+
+module _ (old : List Patch) (n blocks : ℕ) (marks : List Bool) (K : Keeps old n blocks marks) (gates : Gates) (paired : ArePaired old n gates.head gates.tail) where
+  -- the heads keep as much once the head is sealed
+  keeps_begun : (begun : List Patch) → BeginsAs old gates.head begun → Keeps begun n blocks marks
+  keeps_begun begun (inl s) = keeps_sealed old begun n blocks gates.head marks marks K s.0 s.1 refl
+  keeps_begun begun (inr s) = subst (λ hs. Keeps hs n blocks marks) (sym s.1) K
+
+  -- the head alone is named
+  one_name : (x : ℕ) → Contains (gates.head ∷ []) x → gates.head ≡ x
+  one_name x c = elim (In-from_Contains (gates.head ∷ []) x c) [ inl e ↦ e | inr h ↦ absurd h ]
+
+  clear_begun : (begun : List Patch) → BeginsAs old gates.head begun → NoneHolds (room_order old n) → NoneHolds (make_order begun n (gates.head ∷ []))
+  clear_begun begun s room =
+      let long : length begun ≡ length old = sym (keeps_begun begun s).marked ∙ K.marked in (
+        λ many. omega (arith, many),
+        (
+          λ (u : NamesUnknown n (gates.head ∷ [])). u.2 (subst (λ x. (1 ≤ x) × (x ≤ n)) (one_name u.0 u.1) paired.given),
+          (λ full. room.0 (omega (arith, full, long)), room.1),
+        ),
+      )
+
+  pub member_ready : (p : Stored) → numbers_of p.names.items ≡ gates.head ∷ [] → p.block < blocks → NoneHolds (member_order old n gates.tail p.block p.span.at p.span.len)
+      → ((begun : List Patch) → BeginsAs old gates.head begun → Lists (IsDependency begun (gates.head ∷ []) p.block p.span.at p.span.len) p.dependencies.items)
+      → ((begun : List Patch) → BeginsAs old gates.head begun → FollowsRule p.grade (MayBeHard begun None p.block p.dependencies.items))
+      → IsMemberReady old n blocks gates p
+  member_ready p names inside clear depends follows = record {
+    made = λ begun s. record {
+      clear = rw names (clear_begun begun s clear.1);
+      inside = inside;
+      depends = rw names (depends begun s);
+      graded = graded_change begun n blocks marks (keeps_begun begun s) p.block p.span.at p.span.len (gates.head ∷ []) p.grade p.dependencies.items (depends begun s) (follows begun s);
+    };
+    names = names;
+    clear = clear;
+    paired = paired;
+  }
+
+-- and which number and grade it would have
+module _ (old : Known) (blocks : ℕ) (marks : List Bool) (K : Keeps old.heads old.numbers blocks marks) (gates : Gates) (p : Stored) (R : IsMemberReady old.heads old.numbers blocks gates p) where
+  reply_same : (m k : ℕ) (g h : Grade) → MadeChange m g ≡ MadeChange k h → (m ≡ k) × (g ≡ h)
+  reply_same m k g h e = (cc, cc)
+
+  pub foretold : Foretells old gates.head gates.tail p.block p.span.at p.span.len (old.numbers + 1) p.grade
+  foretold k g new m =
+      let begins : BeginsAs old.heads gates.head m.begun.heads = elim m.begin [ inl s ↦ inl (s.is_open, s.cascade) | inr e ↦ inr (e.0, ap (λ x. x.heads) e.1) ] in
+      let numbers : m.begun.numbers ≡ old.numbers = elim m.begin [ inl s ↦ s.numbers | inr e ↦ ap (λ x. x.numbers) e.1 ] in
+      let ready = R.made m.begun.heads begins in
+      let made : Known = record { heads = m.begun.heads ++ change_of old.numbers p ∷ []; numbers = old.numbers + 1; blocks = m.begun.blocks; groups = m.begun.groups; prepared = None } in
+      let names = R.names in
+      let deps = p.dependencies.items in
+      let own : AddsChange m.begun p.block p.span.at p.span.len (gates.head ∷ []) (old.numbers + 1) p.grade made = record {
+        clear = rw numbers (subst (λ ns. NoneHolds (make_order m.begun.heads old.numbers ns)) names ready.clear);
+        next = rw numbers refl;
+        dependencies = deps;
+        depends = depends_exactly m.begun.heads (gates.head ∷ []) p.block p.span.at p.span.len (old.numbers + 1) p.grade deps deps (subst (λ ns. Lists (IsDependency m.begun.heads ns p.block p.span.at p.span.len) deps) names ready.depends);
+        graded = ready.graded;
+        heads = refl;
+        numbers = refl;
+        blocks = refl;
+        groups = refl;
+        prepared = refl;
+      } in
+      let lawful = subst (λ x. HeadsAreLawful m.begun.heads x) (sym numbers) (keeps_begun old.heads old.numbers blocks marks K gates R.paired m.begun.heads begins).lawful in
+      let both = changes_same (state_at m.begun [] 0 []) (state_at m.with_change [] 1 _) (state_at made [] 1 _) p.block p.span.at _ (gates.head ∷ []) k (old.numbers + 1) g p.grade lawful
+      (makes_change m.begun m.with_change [] p.block p.span.at p.span.len k 0 [] (gates.head ∷ []) g m.change)
+      (makes_change m.begun made [] p.block p.span.at p.span.len (old.numbers + 1) 0 [] (gates.head ∷ []) p.grade own) in
+      reply_same k (old.numbers + 1) g p.grade both.0
+
+-- a gate that was sealed is not open
+pub shut_begun : (old : List Patch) (n : ℕ) → HeadsAreLawful old n → (g : ℕ) (begun : List Patch) → IsOpenNumber old g → IsCascadeOf (map (sealed g) old) begun → IsOpenNumber begun g → ⊥
+shut_begun old n H g begun gate cascade o = (open_was old begun n g H gate cascade g o).1 refl
+
+-- once the head is sealed it is as ready as before
+module _ (old : List Patch) (n blocks : ℕ) (marks : List Bool) (K : Keeps old n blocks marks) (gates : Gates) (p : Stored) (R : IsMemberReady old n blocks gates p) (begun : List Patch) (is_open : IsOpenNumber old gates.head) (cascade : IsCascadeOf (map (sealed gates.head) old) begun) where
+  L : HeadsAreLawful old n
+  L = K.lawful
+
+  shut : IsOpenNumber begun gates.head → ⊥
+  shut = shut_begun old n K.lawful gates.head begun is_open cascade
+
+  tied_begun : IsTied old gates.tail gates.head → IsTied begun gates.tail gates.head
+  tied_begun (inl disk) = inl (stays old begun n gates.head L is_open cascade gates.head disk)
+  tied_begun (inr direct) = let q = is old begun n gates.head L is_open cascade direct.patch direct.head in inr (record { patch = q.0; head = q.1; numbered = q.2.number ∙ direct.numbered; named = subst (λ ds. Contains ds gates.head) (sym q.2.dependencies) direct.named })
+
+  overlap_was : OverlapReaches begun gates.tail p.block p.span.at p.span.len → OverlapReaches old gates.tail p.block p.span.at p.span.len
+  overlap_was o =
+      let b = p.block in
+      let at = p.span.at in
+      let len = p.span.len in (
+        o.0,
+        touched_overlaps old b at len 0 grade.Soft [] o.0 (touched_was old begun n gates.head L is_open cascade b at len o.0 (overlaps_touched begun b at len 0 grade.Soft [] o.0 o.1)),
+        (depends old begun n gates.head L is_open cascade o.0 gates.tail).0 o.2,
+      )
+
+  pub ready_begun : IsMemberReady begun n blocks gates p
+  ready_begun =
+      let long : length begun ≡ length old = sym (keeps_begun old n blocks marks K gates R.paired begun (inl (is_open, cascade))).marked ∙ K.marked in
+      record {
+        made = λ hs s. elim s [ inl again ↦ absurd (shut again.0) | inr same ↦ subst (λ ps. IsReady ps n blocks p) (sym same.1) (R.made begun (inl (is_open, cascade))) ];
+        names = R.names;
+        clear = (λ o. R.clear.0 (overlap_was o), (λ full. R.clear.1.0 (omega (arith, full, long)), R.clear.1.1));
+        paired = record {
+          given = R.paired.given;
+          tail_open = open_is old begun n gates.head L is_open cascade gates.tail (R.paired.tail_open, λ e. let f = R.paired.follows in omega (arith, e, f));
+          tied = tied_begun R.paired.tied;
+          follows = R.paired.follows;
+        };
+      }
+
+-- what is prepared for the group with that head
+module _ (old : List Patch) (n blocks : ℕ) (marks : List Bool) (K : Keeps old n blocks marks) (head : ℕ) (begun : List Patch) (is_open : IsOpenNumber old head) (cascade : IsCascadeOf (map (sealed head) old) begun) where
+  pub put_begun : (o : Option Stored) (q : Prepared) → option_map (prepared_of n) o ≡ Some q → q.group ≡ Some head → IfSome o (MayBePut old n blocks) → IfSome o (MayBePut begun n blocks)
+  put_begun None q seen named ready = tt
+  put_begun (Some p) q seen named ready =
+      let same : prepared_of n p ≡ q = cc in
+      let told : option_map (λ (g : Gates). g.head) p.gates ≡ Some head = ap (λ x. x.group) same ∙ named in
+      let r = ready_member n p head old n blocks told ready in
+      let own : r.0.head ≡ head = some_head r.0.head head (sym (ap (option_map (λ (g : Gates). g.head)) r.1) ∙ told) in
+      member_put p r.0 begun n blocks r.1 (ready_begun old n blocks marks K r.0 p r.2 begun (subst (IsOpenNumber old) (sym own) is_open) (subst (λ g. IsCascadeOf (map (sealed g) old) begun) (sym own) cascade))
+    where
+      some_head : (x y : ℕ) → Some x ≡ Some y → x ≡ y
+      some_head x y e = cc
+
+-- and the room for it
+pub around_kept : (new old : List Head) → frames_of new ≡ frames_of old → (o : Option Stored) → IfSome o (HasRoomAround old) → IfSome o (HasRoomAround new)
+around_kept new old e None room = tt
+around_kept new old e (Some p) room = (room_above new old e p.dependencies.items room.0, below p.gates room.1)
+  where
+    below : (g : Option Gates) → IfSome g (λ x. HasRoomBelow old x.tail) → IfSome g (λ x. HasRoomBelow new x.tail)
+    below None r = tt
+    below (Some x) r = room_below new old e x.tail r
+
+pub places_kept : (heads heads' capacity capacity' marks marks_capacity queue queue' : ℕ) (o : Option Stored) → heads' ≡ heads → capacity' ≡ capacity → queue' ≡ queue
+    → IfSome o (λ p. HasPlaces heads capacity marks marks_capacity queue) → IfSome o (λ p. HasPlaces heads' capacity' marks marks_capacity queue')
+places_kept heads heads' capacity capacity' marks marks_capacity queue queue' o e f g room = rw (e, f, g) room

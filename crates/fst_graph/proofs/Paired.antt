@@ -1,0 +1,197 @@
+-- Two new gates, the second of which depends on the first.
+use Rattle.std.proofs.Common.{◌≡◌, ◌≢◌, ◌+◌, ◌≤◌, ℕ, List, [], ◌∷◌, ◌++◌, map, length, Contains, Bool, false, Some, None, refl, sym, ap, subst, inl, inr, arith}
+use Rattle.std.proofs.lemmas.List.{length_push}
+use Rattle.std.proofs.lemmas.List.Elements.{Contains-push, Contains-push_cases, Contains-append_left}
+use Rattle.std.proofs.lemmas.Bool.{ne_eqb, eq-eqb}
+use Rattle.fst_types.specs.declared.place.Place.{Place}
+use Rattle.fst_types.specs.declared.place.Place.TheVariants as place
+use Rattle.fst_types.specs.Limits.{max_heads}
+use Rattle.fst_types.specs.Lists.{Lists}
+use Rattle.fst_types.specs.Patches.{Kind, Patch, OpenGate, SealedGate, block_of_kind}
+use Rattle.fst_types.specs.Dependencies.{DirectlyOn, DependsOn, IsLiveNumber}
+use Rattle.fst_types.specs.Gates.{IsOpenNumber}
+use Rattle.fst_types.specs.Gating.{Depends, gains}
+use Rattle.fst_types.specs.Facts.{HeadsAreLawful}
+use Rattle.fst_types.specs.Making.{fresh}
+use Rattle.fst_types.specs.Order.{depend_order}
+use Rattle.fst_types.specs.Refusals.{NoneHolds}
+use Rattle.fst_types.specs.Events.{Depend}
+use Rattle.fst_types.specs.Step.{depend}
+use Rattle.fst_types.proofs.Crash.{same_number}
+use Rattle.fst_types.proofs.Finite.{In, In-from_Contains, Contains-from_In, first_step}
+use Rattle.fst_types.proofs.Heads.{heads_row}
+use Rattle.fst_graph.specs.Grouping.{pair_order, AddsPair}
+use Rattle.fst_graph.specs.Known.{Known}
+use Rattle.fst_graph.proofs.Making.{around, gate_lawful, keeps_added, keeps_gate}
+use Rattle.fst_graph.specs.Keeps.{Keeps}
+
+only_one : (x y : ℕ) → Contains (x ∷ []) y → y ≡ x
+only_one x y c = elim (In-from_Contains (x ∷ []) y c) [ inl e ↦ sym e | inr h ↦ absurd h ]
+
+-- the patches with the first gate, and with both
+abbrev pub with_head : List Patch → ℕ → List Patch
+with_head heads n = heads ++ fresh (n + 1) OpenGate [] ∷ []
+
+abbrev pub paired : List Patch → ℕ → List Patch
+paired heads n = with_head heads n ++ fresh (n + 1 + 1) OpenGate ((n + 1) ∷ []) ∷ []
+
+module _ (heads : List Patch) (n : ℕ) (H : HeadsAreLawful heads n) where
+  abbrev head_gate : Patch
+  head_gate = fresh (n + 1) OpenGate []
+
+  abbrev tail_gate : Patch
+  tail_gate = fresh (n + 1 + 1) OpenGate []
+
+  abbrev one : List Patch
+  one = with_head heads n
+
+  abbrev pub with_tail : List Patch
+  with_tail = one ++ tail_gate ∷ []
+
+  abbrev pub tied_tail : Patch
+  tied_tail = fresh (n + 1 + 1) OpenGate ((n + 1) ∷ [])
+
+  abbrev both : List Patch
+  both = paired heads n
+
+  pub head_lawful : HeadsAreLawful one (n + 1)
+  head_lawful = gate_lawful heads n H
+
+  both_lawful : HeadsAreLawful with_tail (n + 1 + 1)
+  both_lawful = gate_lawful one (n + 1) head_lawful
+
+  head_there : Contains with_tail head_gate
+  head_there = Contains-append_left one (tail_gate ∷ []) head_gate (Contains-push heads head_gate)
+
+  tail_there : Contains with_tail tail_gate
+  tail_there = Contains-push one tail_gate
+
+  is_head : (x : Patch) → Contains with_tail x → x.number ≡ n + 1 → x ≡ head_gate
+  is_head x c e = same_number with_tail x head_gate both_lawful.one_place_each.rising c head_there e
+
+  is_tail : (x : Patch) → Contains with_tail x → x.number ≡ n + 1 + 1 → x ≡ tail_gate
+  is_tail x c e = same_number with_tail x tail_gate both_lawful.one_place_each.rising c tail_there e
+
+  is_open : IsOpenNumber with_tail (n + 1 + 1)
+  is_open = record { patch = tail_gate; head = tail_there; numbered = refl; is_open = refl }
+
+  memory_live : (x : Place) → x ≡ place.Memory → x ≡ place.Disk → ⊥
+  memory_live x a b = cc
+
+  head_live : IsLiveNumber with_tail (n + 1)
+  head_live = record { patch = head_gate; head = head_there; numbered = refl; live = λ d. memory_live place.Memory refl d }
+
+  none_in : (x : ℕ) → Contains [] x → ⊥
+  none_in x c = omega (arith, c.1)
+
+  none_direct : (m : ℕ) → DirectlyOn with_tail (n + 1) m → ⊥
+  none_direct m d = none_in m (subst (λ (x : Patch). Contains x.dependencies m) (is_head d.patch d.head d.numbered) d.named)
+
+  none_yet : (m : ℕ) → DirectlyOn with_tail (n + 1 + 1) m → ⊥
+  none_yet m d = none_in m (subst (λ (x : Patch). Contains x.dependencies m) (is_tail d.patch d.head d.numbered) d.named)
+
+  none_above : DependsOn with_tail (n + 1) (n + 1 + 1) → ⊥
+  none_above d = let f = first_step (n + 1) (n + 1 + 1) d in none_direct f.0 f.1
+
+  not_sealed : (k : Kind) → k ≡ OpenGate → k ≡ SealedGate → ⊥
+  not_sealed k a b = cc
+
+  clear_tie : NoneHolds (depend_order with_tail (n + 1 + 1) (n + 1 + 1) ((n + 1) ∷ []))
+  clear_tie = (
+    λ unknown. unknown (omega arith, omega arith),
+    (
+      λ none. none (inl is_open),
+      (
+        λ s. not_sealed s.patch.kind (ap (λ (x : Patch). x.kind) (is_tail s.patch s.head s.numbered)) s.is_sealed,
+        (
+          λ many. omega (arith, many),
+          (
+            λ u. u.2 (let e = only_one (n + 1) u.0 u.1 in (omega (arith, e), omega (arith, e))),
+            (
+              λ a. let e = only_one (n + 1) a.0 a.1 in elim a.2 [ inl same ↦ omega (arith, same, e) | inr d ↦ none_above (subst (λ m. DependsOn with_tail m (n + 1 + 1)) e d) ],
+              tt,
+            ),
+          ),
+        ),
+      ),
+    ),
+  )
+
+  names : Lists (λ m. IsLiveNumber with_tail m × Contains ((n + 1) ∷ []) m × (DirectlyOn with_tail (n + 1 + 1) m → ⊥)) ((n + 1) ∷ [])
+  names = record {
+    rising = λ i lt. absurd (omega (arith, lt));
+    only = λ m c. (subst (IsLiveNumber with_tail) (sym (only_one (n + 1) m c)) head_live, c, none_yet m);
+    each = λ m h. h.1;
+  }
+
+  others : (xs : List Patch) → ((x : Patch) → In xs x → x.number ≢ n + 1 + 1) → map (gains (n + 1 + 1) ((n + 1) ∷ [])) (xs ++ tail_gate ∷ []) ≡ xs ++ tied_tail ∷ []
+  others [] away = rw (eq-eqb (n + 1 + 1) (n + 1 + 1) refl) refl
+  others (x ∷ xs) away =
+      let first : gains (n + 1 + 1) ((n + 1) ∷ []) x ≡ x = rw (ne_eqb x.number (n + 1 + 1) (away x (inl refl))) refl in
+      let rest = others xs (λ y c. away y (inr c)) in
+      cc
+
+  pub gained : map (gains (n + 1 + 1) ((n + 1) ∷ [])) with_tail ≡ both
+  gained = others one (λ x c e. let small = (head_lawful.one_place_each.numbered x (Contains-from_In one x c)).1 in omega (arith, small, e))
+
+  pub paired_lawful : HeadsAreLawful both (n + 1 + 1)
+  paired_lawful =
+      let row : Depends (around with_tail (n + 1 + 1)) (n + 1 + 1) ((n + 1) ∷ []) (around both (n + 1 + 1)) = record {
+        gate = is_open;
+        clear = λ m c. (λ e. clear_tie.1.1.1.1.1.0 (m, c, inl e), λ d. clear_tie.1.1.1.1.1.0 (m, c, inr d));
+        names = (n + 1) ∷ [];
+        live = names;
+        state = rw gained refl;
+      } in
+      heads_row (around with_tail (n + 1 + 1)) (around both (n + 1 + 1)) (Depend (n + 1 + 1) ((n + 1) ∷ [])) _ (depend row) both_lawful
+
+  pub adds_pair : (blocks : ℕ) (old : Known) → old.heads ≡ heads → old.numbers ≡ n → old.blocks ≡ blocks → NoneHolds (pair_order heads n)
+      → AddsPair old (n + 1) (record { heads = both; numbers = n + 1 + 1; blocks = blocks; groups = old.groups; prepared = None })
+  adds_pair blocks old hs ns bs clear =
+      let a = clear.0 in
+      let b = clear.1.0 in
+      record {
+        clear = rw (hs, ns) clear;
+        with_head = record { heads = one; numbers = n + 1; blocks = blocks; groups = old.groups; prepared = None };
+        head = record {
+          clear = rw (hs, ns) (λ full. a (omega (arith, full)), (λ full. b (omega (arith, full)), tt));
+          next = rw ns refl;
+          heads = rw hs refl;
+          numbers = refl;
+          blocks = sym bs;
+          groups = refl;
+          prepared = refl;
+        };
+        with_tail = record { heads = with_tail; numbers = n + 1 + 1; blocks = blocks; groups = old.groups; prepared = None };
+        tail = record {
+          clear = (λ full. a (let long = length_push heads head_gate in omega (arith, full, long)), (λ full. b full, tt));
+          next = refl;
+          heads = refl;
+          numbers = refl;
+          blocks = refl;
+          groups = refl;
+          prepared = refl;
+        };
+        tie = record {
+          clear = clear_tie;
+          is_open = is_open;
+          names = (n + 1) ∷ [];
+          live = names;
+          heads = sym gained;
+          numbers = refl;
+          blocks = refl;
+          groups = refl;
+          prepared = refl;
+        };
+      }
+
+  none_on : (k : Kind) (b : ℕ) → k ≡ OpenGate → block_of_kind k ≡ Some b → ⊥
+  none_on k b e on = cc
+
+  pub keeps_pair : (blocks : ℕ) (marks : List Bool) → Keeps heads n blocks marks → (max_heads ≤ length heads + 1 → ⊥) → Keeps both (n + 1 + 1) blocks ((marks ++ false ∷ []) ++ false ∷ [])
+  keeps_pair blocks marks K room =
+      let long = length_push heads head_gate in
+      let first = keeps_gate heads n blocks marks K (omega (arith, room)) in
+      keeps_added one (n + 1) blocks (marks ++ false ∷ []) first both paired_lawful (length_push one tied_tail)
+      (λ x b h on. elim (Contains-push_cases one tied_tail x h) [ inl o ↦ first.inside x b o on | inr e ↦ absurd (none_on x.kind b (ap (λ (y : Patch). y.kind) (sym e)) on) ])
+      (omega (arith, long, room))

@@ -1,0 +1,36 @@
+-- A gate is sealed if it is open.
+use Rattle.std.proofs.Common.{◌≡◌, ℕ, List, Result, Ok, Err, sym, ap, ◌∙◌, inl, inr, arith}
+use Rattle.std.specs.Prelude.{OnOk, OnErr, IfErr}
+use Rattle.fst_types.specs.declared.fault.Fault.{Fault}
+use Rattle.fst_types.specs.Facts.{HeadsAreLawful}
+use Rattle.fst_types.specs.Gates.{IsOpenNumber, IsSealedNumber}
+use Rattle.fst_types.specs.Order.{seal_order}
+use Rattle.fst_types.specs.Patches.{Patch, Kind, OpenGate, SealedGate}
+use Rattle.fst_types.specs.Refusals.{IsFirst}
+use Rattle.fst_types.proofs.Crash.{same_number}
+use Rattle.fst_graph.specs.Grouping.{SealsIfOpen}
+use Rattle.fst_graph.specs.Known.{Known, unprepared, SealsGate}
+
+not_both : (k : Kind) → k ≡ OpenGate → k ≡ SealedGate → ⊥
+not_both k a b = cc
+
+-- an open gate is not sealed
+pub open_not_sealed : (heads : List Patch) (numbers g : ℕ) → HeadsAreLawful heads numbers → IsOpenNumber heads g → IsSealedNumber heads g → ⊥
+open_not_sealed heads numbers g H o s =
+    let same = same_number heads o.patch s.patch H.one_place_each.rising o.head s.head (o.numbered ∙ sym s.numbered) in
+    not_both o.patch.kind o.is_open (ap (λ (p : Patch). p.kind) same ∙ s.is_sealed)
+
+-- so `seal` refuses only what is no open gate
+pub refused_closed : (heads : List Patch) (numbers g : ℕ) (f : Fault) → HeadsAreLawful heads numbers → IsFirst (seal_order heads numbers g) f → IsOpenNumber heads g → ⊥
+refused_closed heads numbers g f H first gate =
+    elim first [
+      | inl unknown ↦ unknown.0 (let k = H.one_place_each.numbered gate.patch gate.head in let e = gate.numbered in (omega (arith, k.0, e), omega (arith, k.1, e)))
+      | inr more ↦ elim more.1 [
+        | inl none ↦ none.0 (inl gate)
+        | inr past ↦ elim past.1 [ inl shut ↦ open_not_sealed heads numbers g H gate shut.0 | inr end ↦ absurd end.1 ]
+      ]
+    ]
+
+pub seals_if_open : (p q : Known) (g : ℕ) → HeadsAreLawful p.heads p.numbers → {T : Type 0} (r : Result T Fault) → OnOk r (SealsGate p g q) → IfErr r (IsFirst (seal_order p.heads p.numbers g)) → OnErr r (q ≡ unprepared p) → SealsIfOpen p g q
+seals_if_open p q g H (Ok x) ok refused same = inl ok
+seals_if_open p q g H (Err f) ok refused same = inr (refused_closed p.heads p.numbers g f H refused, same)

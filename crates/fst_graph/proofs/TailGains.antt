@@ -1,0 +1,167 @@
+-- The tail of a group gains the change that was made for it.
+use Rattle.std.proofs.Common.{◌≡◌, ◌≢◌, ◌⊎◌, ◌+◌, ◌<◌, ◌≤◌, ◌++◌, ℕ, Bool, List, [], ◌∷◌, Option, Some, None, IfSome, option_map, length, Contains, refl, sym, ap, subst, ◌∙◌, inl, inr, arith}
+use Rattle.std.specs.List.Sorted.{IsStrictlyIncreasing}
+use Rattle.std.proofs.lemmas.List.Elements.{Contains-append_left, Contains-push, Contains-push_cases}
+use Rattle.fst_types.specs.declared.grade.Grade.TheVariants as grade
+use Rattle.fst_types.specs.declared.place.Place.{Place}
+use Rattle.fst_types.specs.declared.place.Place.TheVariants as place
+use Rattle.fst_types.specs.Closure.{one, join}
+use Rattle.fst_types.specs.Dependencies.{DirectlyOn, DependsOn, IsLiveNumber}
+use Rattle.fst_types.specs.Facts.{HeadsAreLawful}
+use Rattle.fst_types.specs.Gates.{IsOpenNumber}
+use Rattle.fst_types.specs.Lists.{Lists}
+use Rattle.fst_types.specs.Order.{depend_order, NamesUnknown, NamesAbove}
+use Rattle.fst_types.specs.Patches.{Patch}
+use Rattle.fst_types.specs.Refusals.{NoneHolds}
+use Rattle.fst_types.proofs.Finite.{In-from_Contains, Contains-from_In, In-map}
+use Rattle.fst_types.proofs.NewChange.{IsWithin}
+use Rattle.fst_graph.specs.declared.prepared.Gates.{Gates}
+use Rattle.fst_graph.specs.declared.prepared.Prepared.{Prepared as Stored}
+use Rattle.fst_graph.specs.declared.head.Head.{Head}
+use Rattle.fst_graph.specs.Heads.{patch_of, patches_of}
+use Rattle.fst_graph.specs.Keeps.{Keeps}
+use Rattle.fst_graph.specs.Known.{Prepared, numbers_of}
+use Rattle.fst_graph.specs.Membering.{member_order}
+use Rattle.fst_graph.specs.Ready.{prepared_of, change_of, IsReady, IsMemberReady, IsReadyFor, MayBePut}
+use Rattle.fst_graph.proofs.Graded.{depends_under}
+use Rattle.fst_graph.proofs.Overlapped.{touched_no_gate}
+use Rattle.fst_graph.proofs.Readied.{ready_member}
+use Rattle.fst_graph.proofs.SealedIf.{open_not_sealed}
+use Rattle.fst_graph.proofs.Touching.{touched_overlaps}
+
+-- what is prepared is for the group with those gates
+pub head_same : (o : Option Stored) (n : ℕ) (q : Prepared) (head : ℕ) (p : Stored) (gates : Gates) → option_map (prepared_of n) o ≡ Some q → q.group ≡ Some head → o ≡ Some p → p.gates ≡ Some gates → gates.head ≡ head
+head_same None n q head p gates seen named kept there = absurd (cc)
+head_same (Some r) n q head p gates seen named kept there =
+    let same : r ≡ p = cc in
+    let shown : prepared_of n r ≡ q = cc in
+    let told : option_map (λ (g : Gates). g.head) r.gates ≡ Some head = ap (λ x. x.group) shown ∙ named in
+    some_head gates.head head (sym (ap (option_map (λ (g : Gates). g.head)) (ap (λ x. x.gates) same ∙ there)) ∙ told)
+  where
+    some_head : (x y : ℕ) → Some x ≡ Some y → x ≡ y
+    some_head x y e = cc
+
+pub member_kept : (o : Option Stored) (p : Stored) (gates : Gates) (old : List Patch) (n blocks : ℕ) → o ≡ Some p → p.gates ≡ Some gates → IfSome o (MayBePut old n blocks) → IsMemberReady old n blocks gates p
+member_kept o p gates old n blocks kept there ready = subst (λ g. IsReadyFor g old n blocks p) there (subst (λ x. IfSome x (MayBePut old n blocks)) kept ready)
+
+only_one : (x y : ℕ) → Contains (x ∷ []) y → x ≡ y
+only_one x y c = elim (In-from_Contains (x ∷ []) y c) [ inl e ↦ e | inr h ↦ absurd h ]
+
+memory_live : (x : Place) → x ≡ place.Memory → x ≡ place.Disk → ⊥
+memory_live x a b = cc
+
+module _ (old : List Patch) (n blocks : ℕ) (marks : List Bool) (K : Keeps old n blocks marks) (gates : Gates) (p : Stored) (R : IsMemberReady old n blocks gates p) (closed : IsOpenNumber old gates.head → ⊥) where
+  H : HeadsAreLawful old n
+  H = K.lawful
+
+  pub ready_now : IsReady old n blocks p
+  ready_now = R.made old (inr (closed, refl))
+
+  abbrev made : Patch
+  made = change_of n p
+
+  abbrev with_made : List Patch
+  with_made = old ++ made ∷ []
+
+  abbrev row : List ℕ
+  row = p.dependencies.items
+
+  tail_small : gates.tail ≤ n
+  tail_small = let t = R.paired.tail_open in let k = (H.one_place_each.numbered t.patch t.head).1 in let e = t.numbered in omega (arith, k, e)
+
+  pub tail_there : IsOpenNumber with_made gates.tail
+  tail_there = let t = R.paired.tail_open in record { patch = t.patch; head = Contains-append_left old (made ∷ []) t.patch t.head; numbered = t.numbered; is_open = t.is_open }
+
+  named : (q : ℕ) → Contains row q → q ≤ n
+  named q c = elim (ready_now.depends.only q c) [
+    | inl l ↦ let k = (H.one_place_each.numbered l.0.patch l.0.head).1 in let e = l.0.numbered in omega (arith, k, e)
+    | inr t ↦ let k = (H.one_place_each.numbered t.patch t.head).1 in let e = t.numbered in omega (arith, k, e)
+  ]
+
+  within : IsWithin old n
+  within = λ x h. ((H.one_place_each.numbered x h).1, λ q c. H.one_place_each.named x q h c)
+
+  -- the head does not depend on the tail
+  head_apart : IsLiveNumber old gates.head → DependsOn old gates.head gates.tail → ⊥
+  head_apart live d = elim R.paired.tied [
+    | inl disk ↦ live.live (disk live.patch live.head live.numbered)
+    | inr direct ↦ H.no_cycle gates.tail (join (one direct) d)
+  ]
+
+  -- nor does what the change depends on
+  row_apart : (y : ℕ) → Contains row y → (y ≡ gates.tail) ⊎ DependsOn old y gates.tail → ⊥
+  row_apart y c reach = elim (ready_now.depends.only y c) [
+    | inl l ↦
+        let own : gates.head ≡ y = only_one gates.head y (subst (λ ns. Contains ns y) R.names l.1) in
+        elim reach [
+          | inl same ↦ let f = R.paired.follows in absurd (omega (arith, own, same, f))
+          | inr d ↦ head_apart (subst (IsLiveNumber old) (sym own) l.0) (subst (λ x. DependsOn old x gates.tail) (sym own) d)
+        ]
+    | inr t ↦ elim reach [
+      | inl same ↦ touched_no_gate old p.block p.span.at p.span.len gates.tail y H.one_place_each.rising R.paired.tail_open t same
+      | inr d ↦ R.clear.0 (y, touched_overlaps old p.block p.span.at p.span.len 0 grade.Soft [] y t, d)
+    ]
+  ]
+
+  change_apart : DependsOn with_made (n + 1) gates.tail → ⊥
+  change_apart d =
+      let u = depends_under old n within p.block p.span.at p.span.len p.grade row named (λ m. m ≡ gates.tail) gates.tail refl d in
+      row_apart u.0 u.1 (elim u.2 [ inl e ↦ inl e | inr r ↦ inr (subst (DependsOn old u.0) r.2 r.1) ])
+
+  pub tail_clear : HeadsAreLawful with_made (n + 1) → NoneHolds (depend_order with_made (n + 1) gates.tail ((n + 1) ∷ []))
+  tail_clear L = (
+    λ unknown. let t = R.paired.tail_open in let k = (H.one_place_each.numbered t.patch t.head).0 in let e = t.numbered in let s = tail_small in unknown (omega (arith, k, e), omega (arith, s)),
+    (
+      λ none. none (inl tail_there),
+      (
+        λ shut. open_not_sealed with_made (n + 1) gates.tail L tail_there shut,
+        (
+          λ many. omega (arith, many),
+          (
+            λ (u : NamesUnknown (n + 1) ((n + 1) ∷ [])). let e = only_one (n + 1) u.0 u.1 in u.2 (omega (arith, e), omega (arith, e)),
+            (
+              λ (a : NamesAbove with_made gates.tail ((n + 1) ∷ [])).
+                  let e = only_one (n + 1) a.0 a.1 in
+                  elim a.2 [
+                    | inl same ↦ let s = tail_small in omega (arith, e, same, s)
+                    | inr d ↦ change_apart (subst (λ x. DependsOn with_made x gates.tail) (sym e) d)
+                  ],
+              tt,
+            ),
+          ),
+        ),
+      ),
+    ),
+  )
+
+  pub tail_gains : Lists (λ m. IsLiveNumber with_made m × Contains ((n + 1) ∷ []) m × (DirectlyOn with_made gates.tail m → ⊥)) ((n + 1) ∷ [])
+  tail_gains = record {
+    rising = λ k lt. absurd (omega (arith, lt));
+    only = λ m c.
+        let e = only_one (n + 1) m c in (
+          record { patch = made; head = Contains-push old made; numbered = e; live = λ d. memory_live made.place refl d },
+          c,
+          λ d. elim (Contains-push_cases old made d.patch d.head) [
+            | inl o ↦ let k = H.one_place_each.named d.patch m o d.named in omega (arith, k, e)
+            | inr same ↦ let s = tail_small in let f = ap (λ (x : Patch). x.number) same in let g = d.numbered in omega (arith, s, f, g)
+          ],
+        );
+    each = λ m k. k.1;
+  }
+
+-- no head has the next number
+pub none_beyond : (heads : List Head) (old : List Patch) (n : ℕ) → patches_of heads ≡ old → HeadsAreLawful old n → (h : Head) → Contains heads h → h.number ≢ n + 1
+none_beyond heads old n same H h c e =
+    let there = Contains-from_In (patches_of heads) (patch_of h) (In-map patch_of heads h (patch_of h) (In-from_Contains heads h c) refl) in
+    let k = (H.one_place_each.numbered (patch_of h) (subst (λ ps. Contains ps (patch_of h)) same there)).1 in
+    omega (arith, k, e)
+
+-- nothing refuses it
+pub member_clear : (o : Option Stored) (n : ℕ) (q : Prepared) (head : ℕ) (old : List Patch) (blocks : ℕ) → option_map (prepared_of n) o ≡ Some q → q.group ≡ Some head → IfSome o (MayBePut old n blocks) → NoneHolds (member_order old n (head + 1) q.block q.at q.len)
+member_clear None n q head old blocks seen named ready = absurd (cc)
+member_clear (Some p) n q head old blocks seen named ready =
+    let shown : prepared_of n p ≡ q = cc in
+    let r = ready_member n p head old n blocks (ap (λ x. x.group) shown ∙ named) ready in
+    let own = head_same (Some p) n q head p r.0 seen named refl r.1 in
+    let tail : r.0.tail ≡ head + 1 = r.2.paired.follows ∙ ap (λ x. x + 1) own in
+    rw (← shown, ← tail) r.2.clear

@@ -1,0 +1,20 @@
+use Rattle.std.proofs.Common.{subst, arith}
+use Rattle.fst_graph.specs.Gathered.{group_of, HasGroupSlot, HasNoGroup}
+use Rattle.fst_graph.proofs.Gathering.{no_group, only_group, slot_group}
+use Rattle.fst_graph.proofs.groups.Groups.get.Goals as goal
+
+pub returns-in-None-clause-none : goal.returns-in-None-clause-none
+returns-in-None-clause-none c = rw (← c.self.view_is) (no_group c.self.inside.items.items c.args.number (subst (λ gs. HasNoGroup gs c.args.number) c.deref.ensures.value c.in-None.ensures.none))
+
+pub returns-in-Some-clause-only : goal.returns-in-Some-clause-only
+returns-in-Some-clause-only c =
+    let gs = c.self.inside.items.items in
+    let slot = subst (λ hs. HasGroupSlot hs c.args.number c.in-Some.slot) c.deref.ensures.value c.in-Some.ensures.found in
+    rw (← c.self.view_is) (λ h is. only_group gs c.args.number (group_of c.index.result.now) h c.self.invariant.apart (slot_group gs c.args.number c.in-Some.slot c.index.result.now slot c.index.ensures) is)
+
+pub returns-in-Some-clause-narrow : goal.returns-in-Some-clause-narrow
+returns-in-Some-clause-narrow c =
+    let slot = subst (λ hs. HasGroupSlot hs c.args.number c.in-Some.slot) c.deref.ensures.value c.in-Some.ensures.found in
+    let small = c.self.invariant.narrow c.in-Some.slot c.index.result.now slot.0 in
+    let here = slot.1 c.index.result.now in
+    omega (arith, small, here)

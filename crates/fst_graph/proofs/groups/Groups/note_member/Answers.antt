@@ -1,0 +1,29 @@
+use Rattle.std.proofs.Common.{◌++◌, ◌∷◌, [], ◌∙◌, ◌<◌, ap, subst, refl}
+use Rattle.std.proofs.lemmas.List.Elements.{All-set}
+use Rattle.fst_graph.specs.declared.group.Group.{Group as Kept}
+use Rattle.fst_graph.specs.Gathered.{group_of, HasGroupSlot, HasNoGroup, IsToldBegun}
+use Rattle.fst_graph.proofs.Gathering.{heads_rise, with_none, with_slot, apart_set, told_member}
+use Rattle.fst_graph.proofs.groups.Groups.note_member.Goals as goal
+
+pub invariant_of-self : goal.invariant_of-self
+invariant_of-self c =
+    let gs = c.self.inside.items.items in
+    let slot = subst (λ hs. HasGroupSlot hs c.args.group c.in-Some.slot) c.deref.ensures.value c.in-Some.ensures.found in
+    record {
+      apart = apart_set gs c.in-Some.slot _ c.index_mut-group.result.now c.index_mut-group.ensures.value refl c.self.invariant.apart;
+      begun = All-set IsToldBegun gs c.in-Some.slot _ (rw c.with_number-group.ensures (told_member c.index_mut-group.result.now.members.items c.args.change)) c.self.invariant.begun;
+      narrow = All-set (λ (g : Kept). g.head < 4294967295) gs c.in-Some.slot _ (rw c.index_mut-group.ensures.value (c.self.invariant.narrow c.in-Some.slot c.index_mut-group.result.now slot.0)) c.self.invariant.narrow;
+    }
+
+pub returns-in-Some : goal.returns-in-Some
+returns-in-Some c =
+    let gs = c.self.inside.items.items in
+    let slot = subst (λ hs. HasGroupSlot hs c.args.group c.in-Some.slot) c.deref.ensures.value c.in-Some.ensures.found in
+    rw (← c.self.view_is) (with_slot gs c.args.group c.in-Some.slot (λ g. record g { members = g.members ++ c.args.change ∷ [] }) _ c.index_mut-group.result.now (heads_rise gs c.self.invariant.apart) slot
+    (ap (λ ns. record (group_of c.index_mut-group.result.now) { members = ns }) c.with_number-group.ensures
+    ∙ ap (λ (h : Kept). record (group_of h) { members = h.members.items ++ c.args.change ∷ [] }) c.index_mut-group.ensures.value))
+
+pub returns-in_default : goal.returns-in_default
+returns-in_default c =
+    let gs = c.self.inside.items.items in
+    rw (← c.self.view_is) (with_none gs c.args.group (λ g. record g { members = g.members ++ c.args.change ∷ [] }) (subst (λ hs. HasNoGroup hs c.args.group) c.deref.ensures.value c.in_default.ensures.none))

@@ -1,0 +1,41 @@
+use Rattle.std.proofs.Common.{◌∙◌, Bor, List, map, sym, ap, subst, arith}
+use Rattle.std.proofs.lemmas.List.{length-map}
+use Rattle.fst_types.specs.declared.number.PatchNo.{PatchNo}
+use Rattle.fst_types.specs.Grades.{FollowsRule}
+use Rattle.fst_graph.specs.Grading.{MayBeHard}
+use Rattle.fst_graph.specs.Heads.{patches_of}
+use Rattle.fst_graph.specs.Known.{numbers_of}
+use Rattle.fst_graph.specs.Lists.{entries_of, AreListed}
+use Rattle.fst_graph.proofs.Listing.{listed_at}
+use Rattle.fst_graph.proofs.MemberRow.{IsAfter, rests, waits, told_open, member_row, member_rule}
+use Rattle.fst_graph.proofs.member.prepare_member.Goals as goal
+use Rattle.fst_graph.proofs.member.prepare_member.Goals.{then-is_some+then-rests, else-is_some, else-is_some-via-then-is_some+else-rests, else-is_some-via-else-is_some}
+
+pub dependencies_of-requires-clause-listed : goal.dependencies_of-requires-clause-listed
+dependencies_of-requires-clause-listed c =
+    let patches = patches_of c.args.heads.now in
+    let lists = c.args.lists.now in
+    let long = sym c.requires.listed.long ∙ length-map lists (λ l. entries_of l.items) in
+    rw c.deref.ensures.value (listed_at (λ l. entries_of l.items) patches lists c.args.block c.index-lists-block.result (omega (arith, c.requires.block, long)) c.index-lists-block.is (subst (λ n. AreListed patches n (map (λ l. entries_of l.items) lists)) long c.requires.listed))
+
+pub returns-clause-depends : goal.returns-clause-depends
+returns-clause-depends c =
+    let patches = patches_of c.args.heads.now in
+    let head = c.args.gates.head in
+    let after = numbers_of c.if-is_some.after.now in
+    let opened = told_open patches head c.if_open-opened.result c.is_some.result c.is_some.ensures c.if_open-opened.ensures.some c.if_open-opened.ensures.none in
+    let is : IsAfter patches head after =
+    elim c.if-is_some.branch [
+      | then-is_some+then-rests w ↦ subst (IsAfter patches head) (sym (ap (λ (r : Bor (List PatchNo)). numbers_of r.now) w.after-is)) (rests (opened.0 w.if-is_some.true) (w.rests.ensures.rests w.if-rests.true))
+      | else-is_some w ↦ subst (IsAfter patches head) (sym (ap (λ (r : Bor (List PatchNo)). numbers_of r.now) w.after-is)) (waits (λ gate. elim w.else-is_some.branch [
+        | else-is_some-via-then-is_some+else-rests v ↦ v.rests.ensures.waits v.if-rests.false
+        | else-is_some-via-else-is_some v ↦ absurd (opened.1 v.if-is_some.false gate)
+      ]))
+    ] in
+    member_row patches c.requires.lawful.0 c.requires.lawful.1 head c.args.block c.in_ok-dependencies.dependencies.items c.args.span.at c.args.span.len after is c.in_ok-dependencies.ensures
+
+pub returns-clause-graded : goal.returns-clause-graded
+returns-clause-graded c =
+    let patches = patches_of c.args.heads.now in
+    member_rule patches c.requires.lawful.0 c.requires.lawful.1 c.args.gates.head c.args.block c.in_ok-dependencies.dependencies.items c.grade_of-grade.result c.if_open-opened.result c.if_open-opened.ensures.some c.if_open-opened.ensures.none
+    (subst (λ r. FollowsRule c.grade_of-grade.result (MayBeHard patches c.if_open-opened.result c.args.block r)) c.as_slice.ensures c.grade_of-grade.ensures.graded)

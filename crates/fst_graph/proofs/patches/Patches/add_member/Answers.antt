@@ -1,0 +1,24 @@
+use Rattle.std.proofs.Common.{◌+◌, ◌∷◌, ◌∙◌, [], IfSome, ap, subst}
+use Rattle.fst_types.specs.Refusals.{NoneHolds}
+use Rattle.fst_graph.specs.Heads.{patches_of}
+use Rattle.fst_graph.specs.Known.{Known, unprepared, AddsChange, DependsGate}
+use Rattle.fst_graph.specs.Membering.{member_order}
+use Rattle.fst_graph.proofs.TailGains.{member_clear}
+use Rattle.fst_graph.proofs.patches.Patches.add_member.Goals as goal
+
+pub returns-clause-added : goal.returns-clause-added
+returns-clause-added c =
+    let q = c.requires in
+    let head = c.args.head in
+    let r = c.put_member.result in
+    let between = c.begin_member.new.self in
+    let made = subst (λ o. IfSome o (λ p. (w : Known) × AddsChange (unprepared between) p.block p.at p.len (head ∷ []) r.0.0 r.1 w × DependsGate w (head + 1) (r.0.0 ∷ []) c.put_member.new.self)) (c.begin_member.ensures.prepared ∙ q.1) c.put_member.ensures.made in
+    let clear = member_clear c.self.inside.prepared c.self.inside.numbers q.0 head (patches_of c.self.inside.heads.items) c.self.inside.blocks (ap (λ k. k.prepared) c.self.view_is ∙ q.1) q.2 c.self.invariant.1 in
+    rw q.1 (record {
+      clear = subst (λ (v : Known). NoneHolds (member_order v.heads v.numbers (head + 1) q.0.block q.0.at q.0.len)) c.self.view_is clear;
+      begun = unprepared between;
+      begin = c.begin_member.ensures.begun;
+      with_change = made.0;
+      change = made.1;
+      tie = made.2;
+    })

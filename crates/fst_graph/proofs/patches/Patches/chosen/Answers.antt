@@ -1,0 +1,80 @@
+use Rattle.std.proofs.Common.{◌≡◌, ◌↔◌, ◌&&◌, ◌∙◌, ℕ, Bool, true, get_or, subst, arith}
+use Rattle.fst_types.specs.Dependencies.{IsLiveNumber}
+use Rattle.fst_graph.specs.Ascending.{IsBehind}
+use Rattle.fst_graph.specs.Heads.{patches_of}
+use Rattle.fst_graph.specs.Marks.{mark_of}
+use Rattle.fst_graph.specs.Nodes.{nodes_of}
+use Rattle.fst_graph.proofs.AtNumber.{patches_in_nodes}
+use Rattle.fst_graph.proofs.Behind.{pending_live}
+use Rattle.fst_graph.proofs.Resting.{listed_at, replaced, shelves, empty_set, chosen_ready, chosen_refused}
+use Rattle.fst_graph.proofs.Slots.{rising_heads}
+use Rattle.fst_graph.proofs.patches.Patches.chosen.Goals as goal
+
+pub mark_flight-flying-requires-clause-rising : goal.mark_flight-flying-requires-clause-rising
+mark_flight-flying-requires-clause-rising c = rw c.deref-2.ensures.value (rising_heads c.self.inside.heads.items c.self.invariant.0.lawful.one_place_each.rising)
+
+pub mark_flight-flying-requires-clause-listed : goal.mark_flight-flying-requires-clause-listed
+mark_flight-flying-requires-clause-listed c =
+    let s = c.self.inside in
+    let b = c.args.block.0 in
+    let listed = c.self.invariant.4.listed in
+    let list = c.in-Some.list.now in
+    let lt = c.in-Some.ensures.lookup.3.0 in
+    let many = shelves (nodes_of s.heads.items) s.blocks s.lists.items c.deref.result.now listed c.deref.ensures.value in
+    rw (c.deref-3.ensures.value, c.deref-2.ensures.value)
+    (listed_at s.heads.items s.blocks b s.lists.items list listed (omega (arith, lt, many)) (subst (λ ls. list ≡ get_or ls b list) c.deref.ensures.value c.in-Some.ensures.lookup.1))
+
+pub mark_flight-flying-requires-clause-live : goal.mark_flight-flying-requires-clause-live
+mark_flight-flying-requires-clause-live c =
+    let heads = c.self.inside.heads.items in
+    rw c.deref-2.ensures.value (λ n e. subst (λ ps. IsLiveNumber ps n) (patches_in_nodes heads) (pending_live (nodes_of heads) c.self.inside.blocks c.args.block.0 n c.self.invariant.4.settled e))
+
+pub mark_flight-flying-requires-clause-linked : goal.mark_flight-flying-requires-clause-linked
+mark_flight-flying-requires-clause-linked c = rw c.deref-2.ensures.value c.self.invariant.4.linked
+
+pub ready_set-requires-clause-rising : goal.ready_set-requires-clause-rising
+ready_set-requires-clause-rising c = rw c.deref-5.ensures.value (rising_heads c.self.inside.heads.items c.self.invariant.0.lawful.one_place_each.rising)
+
+pub ready_set-requires-clause-listed : goal.ready_set-requires-clause-listed
+ready_set-requires-clause-listed c =
+    let s = c.self.inside in
+    let b = c.args.block.0 in
+    let listed = c.self.invariant.4.listed in
+    let list = c.in-Some.list.now in
+    let lt = c.in-Some.ensures.lookup.3.0 in
+    let many = shelves (nodes_of s.heads.items) s.blocks s.lists.items c.deref.result.now listed c.deref.ensures.value in
+    rw (c.deref-6.ensures.value, c.deref-5.ensures.value)
+    (listed_at s.heads.items s.blocks b s.lists.items list listed (omega (arith, lt, many)) (subst (λ ls. list ≡ get_or ls b list) c.deref.ensures.value c.in-Some.ensures.lookup.1))
+
+pub returns-in_default-clause-ok : goal.returns-in_default-clause-ok
+returns-in_default-clause-ok c =
+    let s = c.self.inside in
+    let past = c.in_default.ensures.lookup.3 in
+    let many = shelves (nodes_of s.heads.items) s.blocks s.lists.items c.deref.result.now c.self.invariant.4.listed c.deref.ensures.value in
+    rw (← c.self.view_is, c.new.ensures.items) (empty_set (patches_of s.heads.items) s.blocks c.args.block.0 c.self.invariant.0.inside (λ lt. omega (arith, lt, past, many)))
+
+pub returns-clause-ok : goal.returns-clause-ok
+returns-clause-ok c =
+    let s = c.self.inside in
+    let heads = s.heads.items in
+    let b = c.args.block.0 in
+    let marks = c.mark_flight-flying.new.marks in
+    let back = c.deref-7.ensures.value ∙ replaced s.marks.items marks s.marks.len (omega (arith, s.marks.ok.0, c.mark_flight-flying.auto.marks, c.deref_mut.ensures.len)) in
+    let behind : ℕ → Bool = λ n. c.mark_flight-flying.result && mark_of heads marks n in
+    let exact : (n : ℕ) → (behind n ≡ true) ↔ IsBehind (nodes_of heads) b n = rw (← c.deref-2.ensures.value) c.mark_flight-flying.ensures.behind in
+    rw (← c.self.view_is)
+    (chosen_ready heads s.numbers s.blocks s.marks.items _ s.standings.items s.queue.items s.queue.cap b c.self.invariant.0 c.self.invariant.4 behind exact c.ready_set.result
+    (rw (← c.deref-5.ensures.value, ← back) c.ready_set.ensures.ok))
+
+pub returns-clause-refused : goal.returns-clause-refused
+returns-clause-refused c =
+    let s = c.self.inside in
+    let heads = s.heads.items in
+    let b = c.args.block.0 in
+    let marks = c.mark_flight-flying.new.marks in
+    let back = c.deref-7.ensures.value ∙ replaced s.marks.items marks s.marks.len (omega (arith, s.marks.ok.0, c.mark_flight-flying.auto.marks, c.deref_mut.ensures.len)) in
+    let behind : ℕ → Bool = λ n. c.mark_flight-flying.result && mark_of heads marks n in
+    let exact : (n : ℕ) → (behind n ≡ true) ↔ IsBehind (nodes_of heads) b n = rw (← c.deref-2.ensures.value) c.mark_flight-flying.ensures.behind in
+    rw (← c.self.view_is)
+    (chosen_refused heads s.numbers s.blocks s.marks.items _ s.standings.items s.queue.items s.queue.cap b c.self.invariant.0 c.self.invariant.4 behind exact c.ready_set.result
+    (rw (← c.deref-5.ensures.value, ← back) c.ready_set.ensures.refused))

@@ -1,0 +1,20 @@
+use Rattle.std.proofs.Common.{◌+◌, IfSome, subst}
+use Rattle.fst_graph.specs.Heads.{patches_of}
+use Rattle.fst_graph.specs.Ready.{MayBePut}
+use Rattle.fst_graph.proofs.Readied.{seen_member, member_seen, ready_member}
+use Rattle.fst_graph.proofs.patches.Patches.is_member_prepared.Goals as goal
+
+pub returns-in-Some : goal.returns-in-Some
+returns-in-Some c =
+    let n = c.self.inside.numbers in
+    let p = c.in-Some.prepared in
+    let heads = patches_of c.self.inside.heads.items in
+    let blocks = c.self.inside.blocks in
+    let ready = subst (λ o. IfSome o (MayBePut heads n blocks)) c.in-Some.is c.self.invariant.1 in
+    rw (← c.self.view_is, c.in-Some.is) (
+      λ e.
+          let said = c.is_for_group.ensures.0 e in
+          let r = ready_member n p c.args.head.0 heads n blocks said.2 ready in
+          (n + 1, p.grade, seen_member n p r.0 heads n blocks r.2 r.1 c.args.head.0 c.args.block.0 c.args.span said),
+      λ h. c.is_for_group.ensures.1 (member_seen n p c.args.head.0 c.args.block.0 c.args.span h.0 h.1 h.2),
+    )

@@ -1,0 +1,26 @@
+use Rattle.std.proofs.Common.{◌≡◌, [], length, refl, arith}
+use Rattle.fst_graph.proofs.Making.{keeps_none}
+use Rattle.fst_graph.proofs.Tallied.{tallies_from}
+use Rattle.fst_graph.proofs.patches.Patches.new.Goals as goal
+
+pub invariant_of-result : goal.invariant_of-result
+invariant_of-result c =
+    let places : length c.in-Ok.reached.items ≡ c.args.shape.blocks = omega (arith, c.in-Ok.reached.ok.0, c.in-Ok.ensures.len) in
+    let K = keeps_none c.args.numbers c.args.shape.blocks (omega (arith, c.ranges.numbers.fits)) in
+    rw (c.new.ensures.items, c.new-2.ensures.items, c.new-3.ensures.items) (
+      K,
+      tt,
+      tt,
+      record { places = places; counted = refl },
+      tallies_from [] c.args.numbers c.args.numbers c.args.shape.blocks _ _ [] _ K.lawful
+          (λ p q h. absurd (omega (arith, h.1)))
+          (λ x n h. absurd (omega (arith, h.1)))
+          (λ x h. absurd (omega (arith, h.1)))
+          (record { summed = λ x h. absurd (omega (arith, h.1)); settled = λ x h. absurd (omega (arith, h.1)); placed = λ x h. absurd (omega (arith, h.1)); inside = λ x b h. absurd (omega (arith, h.1)) })
+          c.in-Ok-empty_lists.ensures
+          c.in-Ok-empty_standings.ensures
+          refl
+          (omega arith),
+      tt,
+      tt,
+    )

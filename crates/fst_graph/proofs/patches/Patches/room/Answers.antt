@@ -1,0 +1,196 @@
+use Rattle.std.proofs.Common.{◌≡◌, ◌+◌, ◌++◌, ◌∷◌, [], ◌<◌, ◌≤◌, ◌∙◌, rules, arith, length, vec_capacity, None, inl, ap, sym, subst, refl}
+use Rattle.fst_types.specs.Grades.{FollowsRule}
+use Rattle.fst_types.specs.Refusals.{NoneHolds}
+use Rattle.fst_types.specs.Order.{make_order}
+use Rattle.fst_types.specs.Lists.{Lists}
+use Rattle.fst_types.specs.Making.{fresh}
+use Rattle.fst_types.specs.Patches.{Change}
+use Rattle.fst_graph.specs.Grading.{MayBeHard}
+use Rattle.fst_graph.specs.Heads.{patches_of}
+use Rattle.fst_graph.specs.Known.{Known, numbers_of}
+use Rattle.fst_graph.specs.Rows.{IsDependency}
+use Rattle.std.proofs.lemmas.List.{length-map}
+use Rattle.fst_graph.specs.Lists.{entries_of}
+use Rattle.fst_graph.specs.Nodes.{nodes_of, AreSettled, HasRoomAbove}
+use Rattle.fst_graph.specs.Standings.{AllStand}
+use Rattle.fst_graph.proofs.AtNumber.{patches_in_nodes}
+use Rattle.fst_graph.proofs.Borne.{ok_of}
+use Rattle.fst_graph.proofs.Readied.{keeps_marks, as_long}
+use Rattle.fst_graph.proofs.Seen.{same_patches, tallies_wider}
+use Rattle.fst_graph.proofs.Shelves.{shelved_same, room_in_list}
+use Rattle.fst_graph.proofs.Slots.{rising_heads}
+use Rattle.fst_graph.proofs.Touching.{depends_exactly, graded_change}
+use Rattle.fst_graph.proofs.patches.Patches.room.Goals as goal
+
+pub returns-in-Some-clause-refused : goal.returns-in-Some-clause-refused
+returns-in-Some-clause-refused c = rw (← c.self.view_is, ← c.deref.ensures.value) (inl c.in-Some.ensures.first)
+
+pub prepare-requires-clause-rising : goal.prepare-requires-clause-rising
+prepare-requires-clause-rising c = rw c.deref-2.ensures.value (rising_heads c.self.inside.heads.items c.self.invariant.0.lawful.one_place_each.rising)
+
+pub returns-clause-ok : goal.returns-clause-ok
+returns-clause-ok c =
+    let old = patches_of c.self.inside.heads.items in
+    let n = c.self.inside.numbers in
+    let blocks = c.self.inside.blocks in
+    let p = c.in-Ok.prepared in
+    let b = c.args.block.0 in
+    let at = c.args.span.at in
+    let len = c.args.span.len in
+    let names = numbers_of c.args.after.now in
+    let row = p.dependencies.items in
+    let clear = subst (λ hs. NoneHolds (make_order (patches_of hs) n names)) c.deref.ensures.value c.in_default.ensures.clear in
+    let depends = subst (λ hs. Lists (IsDependency (patches_of hs) names b at len) row) c.deref-2.ensures.value c.in-Ok.ensures.depends in
+    let follows = subst (λ hs. FollowsRule p.grade (MayBeHard (patches_of hs) None b row)) c.deref-2.ensures.value c.in-Ok.ensures.graded in
+    rw (← c.self.view_is) (
+      record { heads = old ++ fresh (n + 1) (Change b at len p.grade) row ∷ []; numbers = n + 1; blocks = blocks; groups = []; prepared = None },
+      record {
+        clear = clear;
+        next = refl;
+        dependencies = row;
+        depends = depends_exactly old names b at len (n + 1) p.grade row row depends;
+        graded = graded_change old n blocks c.self.inside.marks.items c.self.invariant.0 b at len names p.grade row depends follows;
+        heads = refl;
+        numbers = refl;
+        blocks = refl;
+        groups = refl;
+        prepared = refl;
+      },
+    )
+
+pub prepare-requires-clause-hard : goal.prepare-requires-clause-hard
+prepare-requires-clause-hard c = rw c.deref-2.ensures.value c.self.invariant.0.lawful.hard_never_hold
+
+pub prepare-requires-clause-acyclic : goal.prepare-requires-clause-acyclic
+prepare-requires-clause-acyclic c = rw c.deref-2.ensures.value c.self.invariant.0.lawful.no_cycle
+
+pub prepare-requires-clause-linked : goal.prepare-requires-clause-linked
+prepare-requires-clause-linked c = rw c.deref-2.ensures.value c.self.invariant.4.linked
+
+pub prepare-requires-clause-listed : goal.prepare-requires-clause-listed
+prepare-requires-clause-listed c =
+    let blocks : length c.deref_mut-2.result.now ≡ c.self.inside.blocks = ap length c.deref_mut-2.ensures.value ∙ c.self.invariant.3.places in
+    rw (c.deref-3.ensures.value, blocks, c.deref-2.ensures.value, ← patches_in_nodes c.self.inside.heads.items) c.self.invariant.4.listed
+
+pub prepare-requires-clause-inside : goal.prepare-requires-clause-inside
+prepare-requires-clause-inside c =
+    let blocks : length c.deref_mut-2.result.now ≡ c.self.inside.blocks = ap length c.deref_mut-2.ensures.value ∙ c.self.invariant.3.places in
+    rw (blocks, c.deref-2.ensures.value) c.self.invariant.0.inside
+
+pub invariant_of-self-then-is_err : goal.invariant_of-self-then-is_err
+invariant_of-self-then-is_err c =
+    let marks = as_long c.self.inside.marks.items c.prepare.new.marks c.self.inside.marks.len c.self.inside.marks.ok.0 (c.prepare.auto.marks ∙ ap length c.deref_mut.ensures.value) in
+    let reached = as_long c.self.inside.reached.items c.prepare.new.reached c.self.inside.reached.len c.self.inside.reached.ok.0 (c.prepare.auto.reached ∙ ap length c.deref_mut-2.ensures.value) in (
+      rw (c.reserve_one.ensures.heads, c.reserve_one.ensures.marks)
+          (keeps_marks _ c.self.inside.numbers c.self.inside.blocks c.self.inside.marks.items _ c.self.invariant.0 marks),
+      tt,
+      tt,
+      rw c.reserve_one.ensures.heads (record { places = reached ∙ c.self.invariant.3.places; counted = c.self.invariant.3.counted }),
+      rw c.reserve_one.ensures.heads (tallies_wider _ c.self.inside.numbers c.self.inside.blocks _ _ _ _ _ _ c.self.invariant.4 (c.reserve_one.ensures.queue ∙ c.prepare.ensures.idle) (subst (λ n. n ≤ vec_capacity c.reserve_one.new.queue) c.prepare.ensures.capacity c.reserve_one.ensures.wide)),
+      tt,
+      tt,
+    )
+
+pub invariant_of-self-then-is_err-2 : goal.invariant_of-self-then-is_err-2
+invariant_of-self-then-is_err-2 c =
+    let heads = c.self.inside.heads.items in
+    let still : nodes_of c.reserve_above.new.heads.items ≡ nodes_of heads = c.reserve_above.ensures.nodes ∙ ap nodes_of c.reserve_one.ensures.heads in
+    let marks = as_long c.self.inside.marks.items c.prepare.new.marks c.self.inside.marks.len c.self.inside.marks.ok.0 (c.prepare.auto.marks ∙ ap length c.deref_mut.ensures.value) in
+    let reached = as_long c.self.inside.reached.items c.prepare.new.reached c.self.inside.reached.len c.self.inside.reached.ok.0 (c.prepare.auto.reached ∙ ap length c.deref_mut-2.ensures.value) in (
+      rw (same_patches c.reserve_above.new.heads.items heads still, c.reserve_one.ensures.marks)
+          (keeps_marks _ c.self.inside.numbers c.self.inside.blocks c.self.inside.marks.items _ c.self.invariant.0 marks),
+      tt,
+      tt,
+      rw (same_patches c.reserve_above.new.heads.items heads still) (record { places = reached ∙ c.self.invariant.3.places; counted = c.self.invariant.3.counted }),
+      rw still (tallies_wider _ c.self.inside.numbers c.self.inside.blocks _ _ _ _ _ _ c.self.invariant.4 (c.reserve_one.ensures.queue ∙ c.prepare.ensures.idle) (subst (λ n. n ≤ vec_capacity c.reserve_one.new.queue) c.prepare.ensures.capacity c.reserve_one.ensures.wide)),
+      tt,
+      tt,
+    )
+
+pub invariant_of-self-then-is_err-3 : goal.invariant_of-self-then-is_err-3
+invariant_of-self-then-is_err-3 c =
+    let heads = c.self.inside.heads.items in
+    let still : nodes_of c.reserve_above.new.heads.items ≡ nodes_of heads = c.reserve_above.ensures.nodes ∙ ap nodes_of c.reserve_one.ensures.heads in
+    let marks = as_long c.self.inside.marks.items c.prepare.new.marks c.self.inside.marks.len c.self.inside.marks.ok.0 (c.prepare.auto.marks ∙ ap length c.deref_mut.ensures.value) in
+    let reached = as_long c.self.inside.reached.items c.prepare.new.reached c.self.inside.reached.len c.self.inside.reached.ok.0 (c.prepare.auto.reached ∙ ap length c.deref_mut-2.ensures.value) in (
+      rw (same_patches c.reserve_above.new.heads.items heads still, c.reserve_one.ensures.marks)
+          (keeps_marks _ c.self.inside.numbers c.self.inside.blocks c.self.inside.marks.items _ c.self.invariant.0 marks),
+      tt,
+      tt,
+      rw (same_patches c.reserve_above.new.heads.items heads still) (record { places = reached ∙ c.self.invariant.3.places; counted = c.self.invariant.3.counted }),
+      rw (still, shelved_same c.self.inside.lists.items c.args.block.0 c.index_mut.result.now c.reserve.new.self c.index_mut.ensures.value c.reserve.ensures.items)
+          (tallies_wider _ c.self.inside.numbers c.self.inside.blocks _ _ _ _ _ _ c.self.invariant.4 (c.reserve_one.ensures.queue ∙ c.prepare.ensures.idle) (subst (λ n. n ≤ vec_capacity c.reserve_one.new.queue) c.prepare.ensures.capacity c.reserve_one.ensures.wide)),
+      tt,
+      tt,
+    )
+
+pub invariant_of-self-2 : goal.invariant_of-self-2
+invariant_of-self-2 c =
+    let heads = c.self.inside.heads.items in
+    let old = patches_of heads in
+    let still : nodes_of c.reserve_above.new.heads.items ≡ nodes_of heads = c.reserve_above.ensures.nodes ∙ ap nodes_of c.reserve_one.ensures.heads in
+    let patches = same_patches c.reserve_above.new.heads.items heads still in
+    let n = c.self.inside.numbers in
+    let blocks = c.self.inside.blocks in
+    let p = c.in-Ok.prepared in
+    let made = c.in-Ok.ensures in
+    let names = numbers_of p.names.items in
+    let row = p.dependencies.items in
+    let marks = as_long c.self.inside.marks.items c.prepare.new.marks c.self.inside.marks.len c.self.inside.marks.ok.0 (c.prepare.auto.marks ∙ ap length c.deref_mut.ensures.value) in
+    let reached = as_long c.self.inside.reached.items c.prepare.new.reached c.self.inside.reached.len c.self.inside.reached.ok.0 (c.prepare.auto.reached ∙ ap length c.deref_mut-2.ensures.value) in
+    let clear : NoneHolds (make_order old n names) = rw made.names (subst (λ hs. NoneHolds (make_order (patches_of hs) n (numbers_of c.args.after.now))) c.deref.ensures.value c.in_default.ensures.clear) in
+    let inside : p.block < blocks = rw made.block (subst (λ (v : Known). c.args.block.0 < v.blocks) (sym c.self.view_is) c.requires) in
+    let depends : Lists (IsDependency old names p.block p.span.at p.span.len) row =
+    rw (made.names, made.block, made.span) (subst (λ hs. Lists (IsDependency (patches_of hs) (numbers_of c.args.after.now) c.args.block.0 c.args.span.at c.args.span.len) row) c.deref-2.ensures.value made.depends) in
+    let follows : FollowsRule p.grade (MayBeHard old None p.block row) = rw made.block (subst (λ hs. FollowsRule p.grade (MayBeHard (patches_of hs) None c.args.block.0 row)) c.deref-2.ensures.value made.graded) in
+    let graded = graded_change old n blocks c.self.inside.marks.items c.self.invariant.0 p.block p.span.at p.span.len names p.grade row depends follows in
+    let above : HasRoomAbove c.reserve_above.new.heads.items c.as_slice.result.now = ok_of c.reserve_above.result _ c.reserve_above.ensures.room (sym c.is_err-2.ensures.value ∙ c.if-is_err-2.false) in
+    let free : c.reserve.new.self.len + 1 ≤ c.reserve.new.self.cap = search rules in
+    let lists : length c.self.inside.lists.items ≡ blocks = sym (length-map c.self.inside.lists.items (λ l. entries_of l.items)) ∙ c.self.invariant.4.listed.long in (
+      rw (patches, c.reserve_one.ensures.marks) (keeps_marks _ n blocks c.self.inside.marks.items _ c.self.invariant.0 marks),
+      rw (patches, made.gates) (record { clear = clear; inside = inside; depends = depends; graded = graded }),
+      rw (c.reserve_above.ensures.len, c.reserve_above.ensures.capacity) (record { heads_free = search rules; marks_free = search rules; queue_free = search rules }),
+      rw patches (record { places = reached ∙ c.self.invariant.3.places; counted = c.self.invariant.3.counted }),
+      rw (still, shelved_same c.self.inside.lists.items c.args.block.0 c.index_mut.result.now c.reserve.new.self c.index_mut.ensures.value c.reserve.ensures.items)
+          (tallies_wider _ n blocks _ _ _ _ _ _ c.self.invariant.4 (c.reserve_one.ensures.queue ∙ c.prepare.ensures.idle) (subst (λ n. n ≤ vec_capacity c.reserve_one.new.queue) c.prepare.ensures.capacity c.reserve_one.ensures.wide)),
+      (rw (← c.as_slice.ensures) above, rw made.gates tt),
+      rw made.block (room_in_list c.self.inside.lists.items c.args.block.0 c.reserve.new.self (let i = inside in omega (arith, i, lists, ap (λ x. x) made.block)) (omega (arith, free))),
+    )
+
+pub reserve_above-requires : goal.reserve_above-requires
+reserve_above-requires c = rw c.reserve_one.ensures.heads (rising_heads c.self.inside.heads.items c.self.invariant.0.lawful.one_place_each.rising)
+
+pub returns-then-is_err-2-clause-same : goal.returns-then-is_err-2-clause-same
+returns-then-is_err-2-clause-same c =
+    let heads = c.self.inside.heads.items in
+    let still : nodes_of c.reserve_above.new.heads.items ≡ nodes_of heads = c.reserve_above.ensures.nodes ∙ ap nodes_of c.reserve_one.ensures.heads in
+    rw (← c.self.view_is)
+    (ap (λ ps. record { heads = ps; numbers = c.self.inside.numbers; blocks = c.self.inside.blocks; groups = []; prepared = None }) (same_patches c.reserve_above.new.heads.items heads still))
+
+pub returns-then-is_err-3-clause-same : goal.returns-then-is_err-3-clause-same
+returns-then-is_err-3-clause-same c =
+    let heads = c.self.inside.heads.items in
+    let still : nodes_of c.reserve_above.new.heads.items ≡ nodes_of heads = c.reserve_above.ensures.nodes ∙ ap nodes_of c.reserve_one.ensures.heads in
+    rw (← c.self.view_is)
+    (ap (λ ps. record { heads = ps; numbers = c.self.inside.numbers; blocks = c.self.inside.blocks; groups = []; prepared = None }) (same_patches c.reserve_above.new.heads.items heads still))
+
+pub returns-clause-prepared : goal.returns-clause-prepared
+returns-clause-prepared c =
+    let heads = c.self.inside.heads.items in
+    let still : nodes_of c.reserve_above.new.heads.items ≡ nodes_of heads = c.reserve_above.ensures.nodes ∙ ap nodes_of c.reserve_one.ensures.heads in
+    let made = c.in-Ok.ensures in
+    rw (← c.self.view_is, same_patches c.reserve_above.new.heads.items heads still, made.block, made.span, made.names, made.gates) refl
+
+pub prepare-requires-clause-disk : goal.prepare-requires-clause-disk
+prepare-requires-clause-disk c = rw c.deref-2.ensures.value c.self.invariant.0.lawful.on_disk_with_all
+
+pub prepare-requires-clause-settled : goal.prepare-requires-clause-settled
+prepare-requires-clause-settled c =
+    let T = c.self.invariant.4 in
+    rw (c.deref-4.ensures.value, c.deref-2.ensures.value) (subst (AreSettled (nodes_of c.self.inside.heads.items)) (sym T.standing.long) T.settled)
+
+pub prepare-requires-clause-standing : goal.prepare-requires-clause-standing
+prepare-requires-clause-standing c =
+    let T = c.self.invariant.4 in
+    let standings = c.self.inside.standings.items in
+    rw (c.deref-4.ensures.value, c.deref-2.ensures.value) (subst (λ n. AllStand (nodes_of c.self.inside.heads.items) n standings) (sym T.standing.long) T.standing)

@@ -1,0 +1,10 @@
+use Rattle.std.proofs.Common.{subst}
+use Rattle.fst_types.specs.Facts.{HeadsAreLawful}
+use Rattle.fst_graph.specs.Known.{Known}
+use Rattle.fst_graph.proofs.SealedIf.{seals_if_open}
+use Rattle.fst_graph.proofs.patches.Patches.seal_if_open.Goals as goal
+
+pub returns-clause-sealed : goal.returns-clause-sealed
+returns-clause-sealed c =
+    let H = subst (λ (v : Known). HeadsAreLawful v.heads v.numbers) c.self.view_is c.self.invariant.0.lawful in
+    seals_if_open c.args.self.now c.seal.new.self c.args.gate H c.seal.result c.seal.ensures.ok c.seal.ensures.refused c.seal.ensures.same

@@ -1,0 +1,18 @@
+-- What a graph keeps of its patches and groups together.
+use Rattle.std.specs.Prelude.{ℕ, List, IfSome}
+use Rattle.fst_types.specs.Facts.{HeadsAreLawful, GroupsAreLawful}
+use Rattle.fst_types.specs.Groups.{Group, IsGroupNumber}
+use Rattle.fst_types.specs.Order.{group_close_order}
+use Rattle.fst_types.specs.Refusals.{NoneHolds}
+use Rattle.fst_graph.specs.Known.{Known}
+
+-- group n can get changes
+pub record IsUnclosed (groups : List Group) (n : ℕ) : Type 0 where
+  pub found : IsGroupNumber groups n
+  pub clear : NoneHolds (group_close_order groups n)
+
+-- the patches and the groups are lawful, and what is prepared for a group is for one that can get changes
+pub record IsGrouped (known : Known) (groups : List Group) : Type 0 where
+  pub lawful : HeadsAreLawful known.heads known.numbers
+  pub grouped : GroupsAreLawful known.heads known.numbers groups
+  pub prepared : IfSome known.prepared (λ p. IfSome p.group (IsUnclosed groups))

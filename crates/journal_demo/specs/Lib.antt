@@ -1,0 +1,2 @@
+pub mod Exhausted
+pub mod Making

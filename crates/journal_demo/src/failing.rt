@@ -1,0 +1,23 @@
+//! Accounts on a device that fails.
+
+use crate::accounts::{Accounts, BLOCKS, new_block};
+use crate::fault::StoreFault;
+use crate::flaky_slot::FlakySlot;
+use fst_types::BlockNo;
+use std::alloc::Global;
+use std::io::Write;
+
+/// Transfers between accounts, on a device of which every other write fails.
+pub fn transfers<W: Write>(alloc: Global, out: &mut W) -> Result<(), StoreFault> {
+    let mut slots = Vec::new(alloc);
+    for block in 0..BLOCKS {
+        let bytes = Vec::from_slice(alloc, &new_block(block))?;
+        slots.push(FlakySlot::new(BlockNo(block), bytes))?;
+    }
+    let mut accounts = Accounts::open(alloc, slots)?;
+    accounts.transfer(0, 1, 30)?;
+    let done = accounts.transfer(1, 2, 130)?;
+    accounts.sync(done)?;
+    writeln!(out, "transfer {} is on disk", accounts.transfers())?;
+    Ok(())
+}

@@ -1,0 +1,80 @@
+//! One transaction, from opening the cache to "is it durable?".
+
+use crate::fault::StoreFault;
+use fst_cache::Cache;
+use fst_device::{Arm, MemorySlot, carry};
+use fst_types::{BlockNo, Fault, PatchNo, Place, Settled, Shape};
+use std::alloc::Global;
+use std::io::Write;
+
+const JOURNAL: BlockNo = BlockNo(0);
+
+const COMMIT: BlockNo = BlockNo(1);
+
+const FIRST_HOME: BlockNo = BlockNo(2);
+
+const SECOND_HOME: BlockNo = BlockNo(3);
+
+/// A slot of four zero bytes for each of four blocks.
+fn zeros(alloc: Global) -> Result<Vec<MemorySlot>, StoreFault> {
+    let mut slots = Vec::new(alloc);
+    for block in 0..4 {
+        slots.push(MemorySlot::new(BlockNo(block), vec![in alloc; 0u8; 4]?))?;
+    }
+    Ok(slots)
+}
+
+/// Makes a transaction: the journal record before the commit record, that before the home blocks. The answer is a patch
+/// that stands for all of it.
+fn transaction(cache: &mut Cache<MemorySlot>) -> Result<PatchNo, Fault> {
+    let mut share = cache.share();
+    let (record, _) = cache.patch(&mut share, JOURNAL, 0, b"ab", &[])?;
+    let (commit, _) = cache.patch(&mut share, COMMIT, 0, b"1", &[record])?;
+    let (first, _) = cache.patch(&mut share, FIRST_HOME, 0, b"a", &[commit])?;
+    let (second, _) = cache.patch(&mut share, SECOND_HOME, 0, b"b", &[commit])?;
+    cache.empty(&mut share, &[first, second])
+}
+
+/// Writes the record and the commit record. The first write fails, though the bytes have changed; the same image goes out
+/// again.
+fn write_journal(cache: &mut Cache<MemorySlot>) -> Result<(Settled, Settled), Fault> {
+    let mut job = cache.issue(JOURNAL)?;
+    job.arm(Arm::WriteFailsAfter);
+    let failed = cache.settle(carry(job))?;
+    let job = cache.retry(JOURNAL)?;
+    let again = cache.settle(carry(job))?;
+    let job = cache.issue(COMMIT)?;
+    cache.settle(carry(job))?;
+    Ok((failed, again))
+}
+
+/// Writes both home blocks, which are out at once; the later one lands first.
+fn write_homes(cache: &mut Cache<MemorySlot>) -> Result<(), Fault> {
+    let early = carry(cache.issue(FIRST_HOME)?);
+    let late = carry(cache.issue(SECOND_HOME)?);
+    cache.settle(late)?;
+    cache.settle(early)?;
+    Ok(())
+}
+
+/// Plays one transaction, and tells what comes of it.
+pub fn guide<W: Write>(alloc: Global, out: &mut W) -> Result<(), StoreFault> {
+    // four blocks of four bytes, of which all may be in memory
+    let mut cache = Cache::open(alloc, Shape::new(4, 4, 4)?, zeros(alloc)?)?;
+    let done = transaction(&mut cache)?;
+
+    // only the record may be written yet: the others wait for it
+    if let Err(fault) = cache.issue(COMMIT) {
+        writeln!(out, "the commit record: {fault}")?;
+    }
+    let (failed, again) = write_journal(&mut cache)?;
+    writeln!(out, "the record: {failed:?}, and then {again:?}")?;
+
+    // is it durable? where the patch is on disk, all that it comes after is
+    writeln!(out, "before the home blocks: {:?}", cache.place(done))?;
+    write_homes(&mut cache)?;
+    if cache.place(done) == Some(Place::Disk) {
+        writeln!(out, "durable; {} patches forgotten", cache.forget())?;
+    }
+    Ok(())
+}

@@ -1,0 +1,86 @@
+//! Accounts in a file, and transfers from standard input.
+
+use crate::accounts::{ACCOUNTS, Accounts, BLOCKS, new_block};
+use crate::fault::StoreFault;
+use crate::file_slot::FileSlot;
+use crate::record::SIZE;
+use fst_types::BlockNo;
+use std::fs::{File, OpenOptions};
+use std::io;
+use std::os::unix::fs::FileExt;
+use std::rt::Files;
+
+fn open<R: Files<File = File>>(rt: &R, name: &str) -> io::Result<File> {
+    OpenOptions::new()
+        .read(true)
+        .write(true)
+        .create(true)
+        .open(rt, name)
+}
+
+// Gives a new file its accounts.
+fn begin(file: &File) -> io::Result<()> {
+    for block in (0..BLOCKS).rev() {
+        file.write_all_at(&new_block(block), u64::from(block) * u64::from(SIZE))?;
+    }
+    file.sync_data()
+}
+
+// The slots of the file, which is begun where it is empty.
+pub fn slots<R: Files<File = File> + AllocGlobal>(
+    rt: &R,
+    name: &str,
+) -> Result<Vec<FileSlot>, StoreFault> {
+    let file = open(rt, name)?;
+    let len = file.metadata()?.len();
+    if len == 0 {
+        begin(&file)?;
+    } else if len != u64::from(BLOCKS) * u64::from(SIZE) {
+        return Err(StoreFault::NoStore);
+    }
+    let mut slots = Vec::new(rt.alloc());
+    for block in 0..BLOCKS {
+        let slot = FileSlot::open(rt.alloc(), open(rt, name)?, BlockNo(block), SIZE)?;
+        slots.push(slot)?;
+    }
+    Ok(slots)
+}
+
+// What all accounts have.
+fn tell<R: Print>(rt: &R, accounts: &mut Accounts<FileSlot>) -> Result<(), StoreFault> {
+    print!(rt; "after transfer {}:", accounts.transfers())?;
+    for account in 0..ACCOUNTS as u16 {
+        print!(rt; " {}", accounts.balance(account)?)?;
+    }
+    println!(rt;)?;
+    Ok(())
+}
+
+// The three numbers of a line.
+fn transfer_of(line: &str) -> Option<(u16, u16, u32)> {
+    let mut words = line.split_whitespace();
+    let from = words.next()?.parse().ok()?;
+    let to = words.next()?.parse().ok()?;
+    let amount = words.next()?.parse().ok()?;
+    Some((from, to, amount))
+}
+
+/// Keeps accounts in a file: makes the newest committed transfer good, tells what there is, and makes each transfer of
+/// standard input, telling of each once it is on disk.
+pub fn keep<R: Files<File = File> + Input + Print + AllocGlobal>(
+    rt: &R,
+    name: &str,
+) -> Result<(), StoreFault> {
+    let mut accounts = Accounts::open(rt.alloc(), slots(rt, name)?)?;
+    tell(rt, &mut accounts)?;
+    for line in rt.lines(rt.alloc()) {
+        let line = line?;
+        let Some((from, to, amount)) = transfer_of(line.as_str()) else {
+            return Err(StoreFault::NoTransfer);
+        };
+        let done = accounts.transfer(from, to, amount)?;
+        accounts.sync(done)?;
+        println!(rt; "done {}", accounts.transfers())?;
+    }
+    tell(rt, &mut accounts)
+}

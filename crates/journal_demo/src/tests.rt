@@ -1,0 +1,75 @@
+//! What no clause says of the journal: records, a transaction refused half way, and what a file has after a transfer.
+
+use crate::accounts::Accounts;
+use crate::file_slot::FileSlot;
+use crate::ledger::slots;
+use crate::patching::patch_or_write;
+use crate::record::{Balance, Record};
+use fst_cache::Cache;
+use fst_device::MemorySlot;
+use fst_types::{BlockNo, Fault, Place, Shape, What};
+use std::fs;
+use std::process::Abort;
+use std::test::Fail;
+
+#[test]
+fn a_record_is_read_as_it_was_written(rt: HostRuntime) {
+    let record = Record {
+        number: 70_000,
+        from: Balance {
+            block: 2,
+            amount: 1,
+        },
+        to: Balance {
+            block: 300,
+            amount: u32::MAX,
+        },
+    };
+    assert_eq!(rt; Record::from_bytes(&record.to_bytes()), Some(record));
+    assert_eq!(rt; Record::from_bytes(&[0; 16]), None);
+    assert_eq!(rt; Record::from_bytes(&[1; 15]), None);
+}
+
+#[test]
+fn a_transaction_refused_half_way_goes_on(rt: HostRuntime) -> Result<(), Fail> {
+    let mut zeros = Vec::new(rt.alloc());
+    for block in 0..3 {
+        zeros.push(MemorySlot::new(BlockNo(block), vec![in rt.alloc(); 0u8; 4]?))?;
+    }
+    let Ok(mut cache) = Cache::open(rt.alloc(), Shape::new(3, 4, 2)?, zeros) else {
+        return Err("open")?;
+    };
+    let mut share = cache.share();
+    let (record, _) = cache.patch(&mut share, BlockNo(2), 0, b"r", &[])?;
+    let (commit, _) = cache.patch(&mut share, BlockNo(1), 0, b"c", &[record])?;
+    let refused = cache.patch(&mut share, BlockNo(0), 0, b"h", &[commit]);
+    assert_eq!(rt; refused, Err(Fault::Full(What::Resident)));
+    let home = patch_or_write(&mut cache, &mut share, BlockNo(0), 0, b"h", &[commit])?;
+    assert_eq!(rt; cache.place(record), Some(Place::Disk));
+    assert_eq!(rt; cache.place(commit), Some(Place::Memory));
+    assert_eq!(rt; cache.place(home), Some(Place::Memory));
+    Ok(())
+}
+
+// What two accounts have.
+fn compare(rt: &impl Abort, accounts: &mut Accounts<FileSlot>, first: u32, second: u32) {
+    let has = accounts.balance(0).ok();
+    assert_eq!(rt; has, Some(first));
+    let has = accounts.balance(1).ok();
+    assert_eq!(rt; has, Some(second));
+}
+
+#[test]
+fn a_file_has_what_was_synced(rt: HostRuntime) -> Result<(), Fail> {
+    let name = "accounts-of-a-test";
+    let _ = fs::remove_file(&rt, name);
+    let mut accounts = Accounts::open(rt.alloc(), slots(&rt, name)?)?;
+    let done = accounts.transfer(0, 1, 30)?;
+    accounts.sync(done)?;
+    accounts.transfer(0, 1, 70)?;
+    compare(&rt, &mut accounts, 0, 200);
+    let mut accounts = Accounts::open(rt.alloc(), slots(&rt, name)?)?;
+    compare(&rt, &mut accounts, 70, 130);
+    fs::remove_file(&rt, name)?;
+    Ok(())
+}
