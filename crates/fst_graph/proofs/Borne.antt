@@ -4,19 +4,19 @@ use Rattle.std.proofs.lemmas.Bool.{cases_lt}
 use Rattle.fst_types.specs.Facts.{HeadsAreLawful}
 use Rattle.fst_types.specs.Gates.{IsOpenNumber}
 use Rattle.fst_types.specs.Patches.{Patch}
-use Rattle.fst_graph.specs.declared.head.Head.{Head}
-use Rattle.fst_graph.specs.declared.standing.Standing.{Standing}
-use Rattle.fst_graph.specs.Heads.{patches_of}
-use Rattle.fst_graph.specs.Keeps.{IsInside}
-use Rattle.fst_graph.specs.declared.pending.Pending.TheVariants as pending
-use Rattle.fst_graph.specs.Nodes.{Node, nodes_of, patches_in, pending_in, AreSettled}
-use Rattle.fst_graph.specs.Pendings.{Fits, max_block}
-use Rattle.fst_graph.specs.Spreading.{lands}
-use Rattle.fst_graph.specs.Standings.{AllStand}
-use Rattle.fst_graph.proofs.AtNumber.{patches_in_nodes}
-use Rattle.fst_graph.proofs.PendingIn.{found}
-use Rattle.fst_graph.proofs.Stands.{stand_landed, stand_landed_outside}
-use Rattle.fst_graph.proofs.Sums.{sums_fit}
+use Rattle.fst_heads.specs.declared.head.Head.{Head}
+use Rattle.fst_heads.specs.declared.standing.Standing.{Standing}
+use Rattle.fst_heads.specs.Heads.{patches_of}
+use Rattle.fst_heads.specs.Keeps.{IsInside}
+use Rattle.fst_heads.specs.declared.pending.Pending.TheVariants as pending
+use Rattle.fst_heads.specs.Nodes.{Node, nodes_of, patches_in, pending_in, AreSettled}
+use Rattle.fst_heads.specs.Pendings.{Fits, max_block}
+use Rattle.fst_heads.specs.Spreading.{lands}
+use Rattle.fst_heads.specs.Standings.{AllStand}
+use Rattle.fst_heads.proofs.AtNumber.{patches_in_nodes}
+use Rattle.fst_heads.proofs.PendingIn.{found}
+use Rattle.fst_heads.proofs.Stands.{stand_landed, stand_landed_outside}
+use Rattle.fst_heads.proofs.Sums.{sums_fit}
 
 -- the patches with a new one
 pub lawful_with : (heads : List Head) (p : Patch) (numbers : ℕ) → HeadsAreLawful (patches_of heads ++ p ∷ []) numbers → HeadsAreLawful (patches_in (nodes_of heads) ++ p ∷ []) numbers

@@ -7,10 +7,10 @@ use Rattle.std.proofs.lemmas.Bool.{cases_lt}
 use Rattle.std.proofs.lemmas.List.Elements.{Contains-get_or, Contains-push, Contains-push_cases, Contains-append_left}
 use Rattle.fst_types.specs.Lists.{Lists}
 use Rattle.fst_types.specs.Patches.{Patch}
-use Rattle.fst_graph.specs.declared.head.Head.{Head}
-use Rattle.fst_graph.specs.Heads.{IsRising, patch_of, patches_of}
-use Rattle.fst_graph.specs.Marks.{HasSlot}
-use Rattle.fst_graph.proofs.Slots.{any_default, slot_in, slot_here, some_element}
+use Rattle.fst_heads.specs.declared.head.Head.{Head}
+use Rattle.fst_heads.specs.Heads.{IsRising, patch_of, patches_of}
+use Rattle.fst_heads.specs.Marks.{HasSlot}
+use Rattle.fst_heads.proofs.Slots.{any_default, slot_in, slot_here, some_element}
 
 pub rising_push : (xs : List ℕ) (x : ℕ) → IsStrictlyIncreasing xs → ((n : ℕ) → Contains xs n → n < x) → IsStrictlyIncreasing (xs ++ x ∷ [])
 rising_push xs x rising below k lt =

@@ -1,6 +1,6 @@
 -- A new empty patch.
 use Rattle.std.proofs.Common.{◌≡◌, ◌⊎◌, ℕ, ◌+◌, ◌<◌, ◌≤◌, Bool, false, List, [], ◌∷◌, ◌++◌, map, length, Contains, refl, sym, ap, subst, ◌∙◌, inl, inr, arith}
-use Rattle.std.proofs.lemmas.List.{length_push}
+use Rattle.std.proofs.lemmas.List.{length_push, map_push}
 use Rattle.std.proofs.lemmas.List.Elements.{Contains-push_cases, Contains-append_left}
 use Rattle.fst_types.specs.declared.place.Place.{Place}
 use Rattle.fst_types.specs.declared.place.Place.TheVariants as place
@@ -17,12 +17,8 @@ use Rattle.fst_types.specs.Events.{MakeEmpty}
 use Rattle.fst_types.proofs.Heads.{heads_row}
 use Rattle.fst_types.proofs.Cascades.{no_follower_on}
 use Rattle.fst_graph.specs.Known.{rest_place}
-use Rattle.fst_graph.specs.Keeps.{Keeps}
-use Rattle.fst_graph.proofs.Making.{around, keeps_added}
-
-pub map_push : {X Y : Type 0} (f : X → Y) (xs : List X) (y : X) → map f (xs ++ y ∷ []) ≡ map f xs ++ f y ∷ []
-map_push f [] y = refl
-map_push f (x ∷ xs) y = ap (λ zs. f x ∷ zs) (map_push f xs y)
+use Rattle.fst_heads.specs.Keeps.{Keeps}
+use Rattle.fst_heads.proofs.Making.{around, keeps_added}
 
 not_flight : (p : Place) → (p ≡ place.Flight → ⊥) → (p ≡ place.Memory) ⊎ (p ≡ place.Disk)
 not_flight place.Memory h = inl refl

@@ -1,10 +1,10 @@
 -- The counts of a settled row.
 use Rattle.std.proofs.Common.{◌≡◌, ◌≤◌, ◌∙◌, ℕ, List, Contains, length, sym, subst, inl, inr, arith}
-use Rattle.fst_graph.specs.declared.pending.Pending.TheVariants as pending
-use Rattle.fst_graph.specs.Nodes.{Node, pending_in, AreSettled}
-use Rattle.fst_graph.specs.Pendings.{Fits, max_block}
-use Rattle.fst_graph.proofs.PendingIn.{found}
-use Rattle.fst_graph.proofs.Sums.{sums_fit, sums_few}
+use Rattle.fst_heads.specs.declared.pending.Pending.TheVariants as pending
+use Rattle.fst_heads.specs.Nodes.{Node, pending_in, AreSettled}
+use Rattle.fst_heads.specs.Pendings.{Fits, max_block}
+use Rattle.fst_heads.proofs.PendingIn.{found}
+use Rattle.fst_heads.proofs.Sums.{sums_fit, sums_few}
 
 -- blocks are numbers of 32 bits
 narrow : (nodes : List Node) (blocks : ℕ) → blocks ≤ max_block → AreSettled nodes blocks → (n b : ℕ) → pending_in nodes n ≡ pending.Block b → b ≤ max_block

@@ -12,7 +12,7 @@ use Rattle.fst_types.proofs.Finite.{In-from_Contains, Contains-from_In}
 use Rattle.fst_types.proofs.NewChange.{no_cycle}
 use Rattle.fst_types.proofs.GateGains.{In-unmap, direct_cases}
 use Rattle.fst_types.proofs.Depending.{Grown, grown, length_mapped, heads_gained}
-use Rattle.fst_graph.specs.Keeps.{Keeps}
+use Rattle.fst_heads.specs.Keeps.{Keeps}
 
 module _ (old : List Patch) (numbers blocks g : ℕ) (marks : List Bool) (K : Keeps old numbers blocks marks) (gate : IsOpenNumber old g)
     (names : List ℕ) (live : (n : ℕ) → Contains names n → IsLiveNumber old n) (clear : (n : ℕ) → Contains names n → (n ≡ g) ⊎ DependsOn old n g → ⊥) where

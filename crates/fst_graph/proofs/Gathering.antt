@@ -9,7 +9,7 @@ use Rattle.fst_types.specs.Groups.{Group, IsGroup, IsGroupNumber, IsGroupGate, w
 use Rattle.fst_types.proofs.Apart.{same_group}
 use Rattle.fst_types.proofs.Finite.{In-from_Contains, Contains-from_In, In-map}
 use Rattle.fst_types.proofs.GateGains.{In-unmap}
-use Rattle.fst_graph.proofs.Slots.{any_default, some_element}
+use Rattle.fst_heads.proofs.Slots.{any_default, some_element}
 use Rattle.fst_graph.specs.declared.group.Group.{Group as Kept}
 use Rattle.fst_graph.specs.Gathered.{group_of, groups_of, HasGroupSlot, HasNoGroup}
 

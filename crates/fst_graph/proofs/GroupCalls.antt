@@ -25,7 +25,7 @@ use Rattle.fst_graph.specs.Membering.{ArePaired, GainsMember, Foretells, member_
 use Rattle.fst_graph.specs.Whole.{IsGrouped, IsUnclosed}
 use Rattle.fst_graph.specs.Known.{Known, Prepared, unprepared, with_groups, Refuses, AddsGate, SealsGate, DependsGate}
 use Rattle.fst_graph.proofs.Grouped.{state_at, some_bytes, makes_gate, makes_change, beside_change, seals_gate, depends_gate, beside_depend}
-use Rattle.fst_graph.proofs.Slots.{any_default}
+use Rattle.fst_heads.proofs.Slots.{any_default}
 use Rattle.fst_graph.proofs.SealedIf.{open_not_sealed}
 
 only_one : (x y : ℕ) → Contains (x ∷ []) y → y ≡ x

@@ -11,7 +11,7 @@ use Rattle.fst_types.proofs.Alike.{Alike, back_alike, length_alike, on_back}
 use Rattle.fst_types.proofs.Landing.{alike_landed, heads_landed}
 use Rattle.fst_types.proofs.Sealing.{alike_sealed, heads_sealed}
 use Rattle.fst_types.proofs.Issuing.{alike_launched, heads_launched}
-use Rattle.fst_graph.specs.Keeps.{Keeps}
+use Rattle.fst_heads.specs.Keeps.{Keeps}
 
 module _ (old new : List Patch) (A : Alike old new) where
   pub keeps_alike : (numbers blocks : ℕ) (marks marks' : List Bool) → Keeps old numbers blocks marks → HeadsAreLawful new numbers → length marks' ≡ length marks → Keeps new numbers blocks marks'

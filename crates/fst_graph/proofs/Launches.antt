@@ -7,15 +7,15 @@ use Rattle.fst_types.specs.Patches.{Patch, block_of_kind}
 use Rattle.fst_types.specs.Writable.{IsWritable, IsWritableSet}
 use Rattle.fst_types.specs.Writing.{launched}
 use Rattle.fst_types.proofs.Finite.{In, In-from_Contains, Contains-from_In}
-use Rattle.fst_graph.specs.declared.standing.Standing.{Standing}
-use Rattle.fst_graph.specs.Keeps.{IsInside, Tallies}
-use Rattle.fst_graph.specs.Known.{numbers_of}
-use Rattle.fst_graph.specs.Lists.{Entry}
-use Rattle.fst_graph.specs.Nodes.{Node, patches_in}
-use Rattle.fst_graph.specs.Spreading.{launches}
-use Rattle.fst_graph.specs.Standings.{ready_on}
+use Rattle.fst_heads.specs.declared.standing.Standing.{Standing}
+use Rattle.fst_heads.specs.Keeps.{IsInside, Tallies}
+use Rattle.fst_heads.specs.Names.{numbers_of}
+use Rattle.fst_heads.specs.Lists.{Entry}
+use Rattle.fst_heads.specs.Nodes.{Node, patches_in}
+use Rattle.fst_heads.specs.Spreading.{launches}
+use Rattle.fst_heads.specs.Standings.{ready_on}
 use Rattle.fst_graph.proofs.Marking.{ready_exact, writable_rests}
-use Rattle.fst_graph.proofs.Placed.{patches_launched}
+use Rattle.fst_heads.proofs.Placed.{patches_launched}
 use Rattle.fst_graph.proofs.Tallied.{tallies_launched}
 
 -- two rising rows of the same numbers are the same row

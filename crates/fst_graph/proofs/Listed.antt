@@ -8,13 +8,13 @@ use Rattle.fst_types.specs.declared.place.Place.TheVariants as place
 use Rattle.fst_types.specs.declared.grade.Grade.{Grade}
 use Rattle.fst_types.specs.Patches.{Change, Empty, Patch}
 use Rattle.fst_types.specs.Tests.{is_on, is_live}
-use Rattle.fst_graph.specs.Lists.{Entry, entry, entries_on, AreListed, is_live_on}
-use Rattle.fst_graph.specs.Nodes.{Node, patches_in}
+use Rattle.fst_heads.specs.Lists.{Entry, entry, entries_on, AreListed, is_live_on}
+use Rattle.fst_heads.specs.Nodes.{Node, patches_in}
 use Rattle.fst_types.specs.Dependencies.{IsLiveNumber}
-use Rattle.fst_graph.specs.Rows.{IsDependency}
-use Rattle.fst_graph.proofs.Touching.{touch_parts}
-use Rattle.fst_graph.proofs.Added.{with_node}
-use Rattle.fst_graph.proofs.Linked.{patches_made}
+use Rattle.fst_heads.specs.Rows.{IsDependency}
+use Rattle.fst_heads.proofs.Touching.{touch_parts}
+use Rattle.fst_heads.proofs.Added.{with_node}
+use Rattle.fst_walks.proofs.Linked.{patches_made}
 
 -- the list of a block with one patch more
 entries_more : (b : ℕ) (ps : List Patch) (p : Patch) → entries_on b (ps ++ p ∷ []) ≡ entries_on b ps ++ cond (is_live_on b p) (entry p ∷ []) []

@@ -11,22 +11,22 @@ use Rattle.fst_types.specs.Tests.{is_change_at, is_live}
 use Rattle.fst_types.specs.Writable.{IsInMemoryOn, InWritableSet, IsWritable, IsWritableSet, IsHeld}
 use Rattle.fst_types.specs.Looks.{IsPick}
 use Rattle.fst_types.proofs.Landing.{change_at, at_change}
-use Rattle.fst_graph.specs.declared.pending.Pending.TheVariants as pending
-use Rattle.fst_graph.specs.declared.standing.Standing.{Standing}
-use Rattle.fst_graph.specs.Keeps.{IsInside}
-use Rattle.fst_graph.specs.Nodes.{Node, patches_in, pending_in, AreSettled, AreCounted}
-use Rattle.fst_graph.specs.Nodes.{is_live_in}
-use Rattle.fst_graph.specs.Pendings.{is_pending}
-use Rattle.fst_graph.specs.Standings.{AllStand, AreMarked, may_be_written, standing_of, is_ready_on, is_held_on, is_flying_on, ready_on}
-use Rattle.fst_graph.specs.Tests.{is_hard_kind}
-use Rattle.fst_graph.proofs.Alone.{waits_in, waits_out}
-use Rattle.fst_graph.proofs.Forgetting.{live_place_of, not_disk}
-use Rattle.fst_graph.proofs.Low.{is_block, block_is, is_nothing}
-use Rattle.fst_graph.proofs.Numbered.{rising_numbers, number_in, number_of, none_counted, counted_none, counted_some}
-use Rattle.fst_graph.proofs.Obstacles.{hard_from, hard_to}
-use Rattle.fst_graph.proofs.PendingIn.{found, told_of}
-use Rattle.fst_graph.proofs.Placed.{patch_in, node_of_patch}
-use Rattle.fst_graph.proofs.Sums.{sums_count}
+use Rattle.fst_heads.specs.declared.pending.Pending.TheVariants as pending
+use Rattle.fst_heads.specs.declared.standing.Standing.{Standing}
+use Rattle.fst_heads.specs.Keeps.{IsInside}
+use Rattle.fst_heads.specs.Nodes.{Node, patches_in, pending_in, AreSettled, AreCounted}
+use Rattle.fst_heads.specs.Nodes.{is_live_in}
+use Rattle.fst_heads.specs.Pendings.{is_pending}
+use Rattle.fst_heads.specs.Standings.{AllStand, AreMarked, may_be_written, standing_of, is_ready_on, is_held_on, is_flying_on, ready_on}
+use Rattle.fst_heads.specs.Tests.{is_hard_kind}
+use Rattle.fst_walks.proofs.Alone.{waits_in, waits_out}
+use Rattle.fst_heads.proofs.Forgetting.{live_place_of, not_disk}
+use Rattle.fst_walks.proofs.Low.{is_block, block_is, is_nothing}
+use Rattle.fst_walks.proofs.Numbered.{rising_numbers, number_in, number_of, none_counted, counted_none, counted_some}
+use Rattle.fst_walks.proofs.Obstacles.{hard_from, hard_to}
+use Rattle.fst_heads.proofs.PendingIn.{found, told_of}
+use Rattle.fst_heads.proofs.Placed.{patch_in, node_of_patch}
+use Rattle.fst_heads.proofs.Sums.{sums_count}
 
 -- two tests that follow from one another
 same_test : (s t : Bool) → (s ≡ true → t ≡ true) → (t ≡ true → s ≡ true) → s ≡ t

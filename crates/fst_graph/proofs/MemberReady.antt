@@ -17,20 +17,21 @@ use Rattle.fst_types.proofs.Finite.{In-from_Contains}
 use Rattle.fst_types.proofs.OneChange.{changes_same}
 use Rattle.fst_graph.specs.declared.prepared.Gates.{Gates}
 use Rattle.fst_graph.specs.declared.prepared.Prepared.{Prepared as Stored}
-use Rattle.fst_graph.specs.declared.head.Head.{Head}
-use Rattle.fst_graph.specs.Frames.{frames_of, HasRoomBelow}
-use Rattle.fst_graph.specs.Grading.{MayBeHard}
-use Rattle.fst_graph.specs.Keeps.{Keeps}
-use Rattle.fst_graph.specs.Known.{Known, Prepared, numbers_of, AddsChange}
+use Rattle.fst_heads.specs.declared.head.Head.{Head}
+use Rattle.fst_heads.specs.Frames.{frames_of, HasRoomBelow}
+use Rattle.fst_heads.specs.Grading.{MayBeHard}
+use Rattle.fst_heads.specs.Keeps.{Keeps}
+use Rattle.fst_graph.specs.Known.{Known, Prepared, AddsChange}
+use Rattle.fst_heads.specs.Names.{numbers_of}
 use Rattle.fst_graph.specs.Membering.{ArePaired, BeginsAs, Foretells, OverlapReaches, member_order}
 use Rattle.fst_graph.specs.Ready.{prepared_of, change_of, IsReady, IsMemberReady, MayBePut, HasRoomAround, HasPlaces}
-use Rattle.fst_graph.specs.Rows.{IsDependency}
+use Rattle.fst_heads.specs.Rows.{IsDependency}
 use Rattle.fst_graph.proofs.Grouped.{makes_change, state_at}
-use Rattle.fst_graph.proofs.Framed.{room_above, room_below}
+use Rattle.fst_heads.proofs.Framed.{room_above, room_below}
 use Rattle.fst_graph.proofs.Kept.{keeps_sealed}
 use Rattle.fst_graph.proofs.Readied.{ready_member, member_put}
 use Rattle.fst_graph.proofs.TakenAsSealed.{is, depends, open_was, open_is, stays, touched_was}
-use Rattle.fst_graph.proofs.Touching.{depends_exactly, graded_change, touched_overlaps, overlaps_touched}
+use Rattle.fst_heads.proofs.Touching.{depends_exactly, graded_change, touched_overlaps, overlaps_touched}
 
 module _ (old : List Patch) (n blocks : ℕ) (marks : List Bool) (K : Keeps old n blocks marks) (gates : Gates) (paired : ArePaired old n gates.head gates.tail) where
   -- the heads keep as much once the head is sealed

@@ -11,17 +11,17 @@ use Rattle.fst_types.specs.Lists.{Lists}
 use Rattle.fst_types.specs.Patches.{Patch}
 use Rattle.fst_types.proofs.Cascades.{place_decided}
 use Rattle.fst_types.proofs.Finite.{In, In-from_Contains, Contains-from_In}
-use Rattle.fst_graph.specs.declared.head.Head.{Head}
-use Rattle.fst_graph.specs.Grading.{MayBeHard}
-use Rattle.fst_graph.specs.Heads.{IsRising, patches_of}
-use Rattle.fst_graph.specs.Marks.{HasSlot}
+use Rattle.fst_heads.specs.declared.head.Head.{Head}
+use Rattle.fst_heads.specs.Grading.{MayBeHard}
+use Rattle.fst_heads.specs.Heads.{IsRising, patches_of}
+use Rattle.fst_heads.specs.Marks.{HasSlot}
 use Rattle.fst_graph.specs.Membering.{BeginsAs}
-use Rattle.fst_graph.specs.Nodes.{node_of, nodes_of, is_live_in, AreCounted}
-use Rattle.fst_graph.specs.Rows.{IsDependency}
-use Rattle.fst_graph.proofs.AtNumber.{patches_in_nodes}
-use Rattle.fst_graph.proofs.Forgetting.{live_in, in_live}
-use Rattle.fst_graph.proofs.PendingAt.{node_in}
-use Rattle.fst_graph.proofs.Slots.{any_default, direct_at, named_at}
+use Rattle.fst_heads.specs.Nodes.{node_of, nodes_of, is_live_in, AreCounted}
+use Rattle.fst_heads.specs.Rows.{IsDependency}
+use Rattle.fst_heads.proofs.AtNumber.{patches_in_nodes}
+use Rattle.fst_heads.proofs.Forgetting.{live_in, in_live}
+use Rattle.fst_heads.proofs.PendingAt.{node_in}
+use Rattle.fst_heads.proofs.Slots.{any_default, direct_at, named_at}
 use Rattle.fst_graph.proofs.TakenAsSealed.{rule_sealed, gate_lives, gate_rests, row_named, row_unnamed}
 
 -- a count is 0 exactly where none passes

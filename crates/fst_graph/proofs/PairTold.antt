@@ -10,25 +10,25 @@ use Rattle.fst_types.specs.Facts.{HeadsAreLawful}
 use Rattle.fst_types.specs.Making.{fresh}
 use Rattle.fst_types.specs.Patches.{Patch, OpenGate, IsRising as Rising}
 use Rattle.fst_types.proofs.Finite.{In-from_Contains, Contains-from_In, In-map}
-use Rattle.fst_graph.specs.declared.head.Head.{Head}
-use Rattle.fst_graph.specs.declared.pending.Pending.TheVariants as pending
-use Rattle.fst_graph.specs.declared.pending.Sums.{Sums}
-use Rattle.fst_graph.specs.declared.standing.Standing.{Standing}
-use Rattle.fst_graph.specs.Heads.{IsRising, patch_of, patches_of}
-use Rattle.fst_graph.specs.Keeps.{Tallies}
-use Rattle.fst_graph.specs.Lists.{Entry}
-use Rattle.fst_graph.specs.Nodes.{Node, node_of, nodes_of, patches_in, pending_in, linked_to, HasRoomAbove}
-use Rattle.fst_graph.specs.Pendings.{nothing, sums_of}
-use Rattle.fst_graph.proofs.Added.{new_node, with_node}
-use Rattle.fst_graph.proofs.AtNumber.{patches_in_nodes}
-use Rattle.fst_graph.proofs.Emptying.{map_push}
-use Rattle.fst_graph.proofs.Linked.{patches_made, with_gate}
+use Rattle.fst_heads.specs.declared.head.Head.{Head}
+use Rattle.fst_heads.specs.declared.pending.Pending.TheVariants as pending
+use Rattle.fst_heads.specs.declared.pending.Sums.{Sums}
+use Rattle.fst_heads.specs.declared.standing.Standing.{Standing}
+use Rattle.fst_heads.specs.Heads.{IsRising, patch_of, patches_of}
+use Rattle.fst_heads.specs.Keeps.{Tallies}
+use Rattle.fst_heads.specs.Lists.{Entry}
+use Rattle.fst_heads.specs.Nodes.{Node, node_of, nodes_of, patches_in, pending_in, linked_to, HasRoomAbove}
+use Rattle.fst_heads.specs.Pendings.{nothing, sums_of}
+use Rattle.fst_heads.proofs.Added.{new_node, with_node}
+use Rattle.fst_heads.proofs.AtNumber.{patches_in_nodes}
+use Rattle.std.proofs.lemmas.List.{map_push}
+use Rattle.fst_walks.proofs.Linked.{patches_made, with_gate}
 use Rattle.fst_graph.proofs.Listed.{listed_made}
-use Rattle.fst_graph.proofs.Making.{gate_lawful}
+use Rattle.fst_heads.proofs.Making.{gate_lawful}
 use Rattle.fst_graph.proofs.Paired.{head_lawful, paired, paired_lawful, with_head}
-use Rattle.fst_graph.proofs.Seen.{seen, lawful_nodes}
-use Rattle.fst_graph.proofs.Slots.{rising_heads}
-use Rattle.fst_graph.proofs.Stands.{stand_made}
+use Rattle.fst_walks.proofs.Seen.{seen, lawful_nodes}
+use Rattle.fst_heads.proofs.Slots.{rising_heads}
+use Rattle.fst_heads.proofs.Stands.{stand_made}
 use Rattle.fst_graph.proofs.Tallied.{tallies_made}
 
 abbrev first_gate : ℕ → Patch

@@ -22,8 +22,8 @@ use Rattle.fst_types.proofs.Finite.{In, In-from_Contains, Contains-from_In, firs
 use Rattle.fst_types.proofs.Heads.{heads_row}
 use Rattle.fst_graph.specs.Grouping.{pair_order, AddsPair}
 use Rattle.fst_graph.specs.Known.{Known}
-use Rattle.fst_graph.proofs.Making.{around, gate_lawful, keeps_added, keeps_gate}
-use Rattle.fst_graph.specs.Keeps.{Keeps}
+use Rattle.fst_heads.proofs.Making.{around, gate_lawful, keeps_added, keeps_gate}
+use Rattle.fst_heads.specs.Keeps.{Keeps}
 
 only_one : (x y : ℕ) → Contains (x ∷ []) y → y ≡ x
 only_one x y c = elim (In-from_Contains (x ∷ []) y c) [ inl e ↦ sym e | inr h ↦ absurd h ]

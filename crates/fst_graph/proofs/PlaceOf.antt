@@ -4,7 +4,7 @@ use Rattle.fst_types.specs.declared.place.Place.TheVariants as place
 use Rattle.fst_types.specs.Patches.{Patch, IsRising}
 use Rattle.fst_types.specs.Gates.{IsGiven}
 use Rattle.fst_types.specs.Looks.{place_of}
-use Rattle.fst_graph.proofs.Slots.{find_patch, find_none}
+use Rattle.fst_heads.proofs.Slots.{find_patch, find_none}
 use Rattle.std.proofs.lemmas.Bool.{cases_Bool}
 use Rattle.std.proofs.lemmas.Bool.Decides.{nat_tests}
 

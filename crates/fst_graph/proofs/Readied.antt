@@ -10,10 +10,11 @@ use Rattle.fst_types.specs.declared.grade.Grade.{Grade}
 use Rattle.fst_types.specs.declared.grade.Grade.TheVariants as grade
 use Rattle.fst_types.specs.Grades.{FollowsRule}
 use Rattle.fst_types.specs.Patches.{Patch}
-use Rattle.fst_graph.specs.Keeps.{Keeps}
+use Rattle.fst_heads.specs.Keeps.{Keeps}
 use Rattle.fst_graph.specs.declared.prepared.Gates.{Gates}
 use Rattle.fst_graph.specs.declared.prepared.Prepared.{Prepared as Stored}
-use Rattle.fst_graph.specs.Known.{Prepared, prepared_for, member_for, numbers_of}
+use Rattle.fst_graph.specs.Known.{Prepared, prepared_for, member_for}
+use Rattle.fst_heads.specs.Names.{numbers_of}
 use Rattle.fst_graph.specs.Ready.{prepared_of, IsReady, IsMemberReady, IsReadyFor, MayBePut}
 
 -- what is graded hard may be hard

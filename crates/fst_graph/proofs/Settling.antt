@@ -17,20 +17,20 @@ use Rattle.fst_types.proofs.Finite.{In, In-from_Contains, Contains-from_In}
 use Rattle.fst_types.proofs.GateGains.{In-unmap}
 use Rattle.fst_types.proofs.Issuing.{among_in}
 use Rattle.fst_types.proofs.Landing.{change_at}
-use Rattle.fst_graph.specs.declared.pending.Pending.{Pending}
-use Rattle.fst_graph.specs.declared.pending.Pending.TheVariants as pending
-use Rattle.fst_graph.specs.declared.pending.Sums.{Sums}
-use Rattle.fst_graph.specs.Nodes.{Node, patches_in, pending_in, at_number, linked_to, gains_names, AreSettled}
-use Rattle.fst_graph.specs.Pendings.{joined, of_change, of_kind, over_block, sums_of, together}
-use Rattle.fst_graph.specs.Spreading.{launches}
-use Rattle.fst_graph.specs.Standings.{is_ready_on, ready_on}
-use Rattle.fst_graph.proofs.Added.{with_node, new_node, with_names}
-use Rattle.fst_graph.proofs.AtNumber.{at_same, at_other}
-use Rattle.fst_graph.proofs.Forgetting.{and_parts}
-use Rattle.fst_graph.proofs.Linked.{made_was, both, both_nodes, both_number, named_was}
-use Rattle.fst_graph.proofs.Linking.{linked_patch}
-use Rattle.fst_graph.proofs.Placed.{number_if, patch_in, node_of_patch, unmapped}
-use Rattle.fst_graph.proofs.Sums.{joined_all_nothing, joined_nothing, joined_same, joined_some, sums_append, sums_same}
+use Rattle.fst_heads.specs.declared.pending.Pending.{Pending}
+use Rattle.fst_heads.specs.declared.pending.Pending.TheVariants as pending
+use Rattle.fst_heads.specs.declared.pending.Sums.{Sums}
+use Rattle.fst_heads.specs.Nodes.{Node, patches_in, pending_in, at_number, linked_to, gains_names, AreSettled}
+use Rattle.fst_heads.specs.Pendings.{joined, of_change, of_kind, over_block, sums_of, together}
+use Rattle.fst_heads.specs.Spreading.{launches}
+use Rattle.fst_heads.specs.Standings.{is_ready_on, ready_on}
+use Rattle.fst_heads.proofs.Added.{with_node, new_node, with_names}
+use Rattle.fst_heads.proofs.AtNumber.{at_same, at_other}
+use Rattle.fst_heads.proofs.Forgetting.{and_parts}
+use Rattle.fst_walks.proofs.Linked.{made_was, both, both_nodes, both_number, named_was}
+use Rattle.fst_heads.proofs.Linking.{linked_patch}
+use Rattle.fst_heads.proofs.Placed.{number_if, patch_in, node_of_patch, unmapped}
+use Rattle.fst_heads.proofs.Sums.{joined_all_nothing, joined_nothing, joined_same, joined_some, sums_append, sums_same}
 
 -- what is pending of a number
 

@@ -17,17 +17,18 @@ use Rattle.fst_types.proofs.Finite.{In-from_Contains, Contains-from_In, In-map}
 use Rattle.fst_types.proofs.NewChange.{IsWithin}
 use Rattle.fst_graph.specs.declared.prepared.Gates.{Gates}
 use Rattle.fst_graph.specs.declared.prepared.Prepared.{Prepared as Stored}
-use Rattle.fst_graph.specs.declared.head.Head.{Head}
-use Rattle.fst_graph.specs.Heads.{patch_of, patches_of}
-use Rattle.fst_graph.specs.Keeps.{Keeps}
-use Rattle.fst_graph.specs.Known.{Prepared, numbers_of}
+use Rattle.fst_heads.specs.declared.head.Head.{Head}
+use Rattle.fst_heads.specs.Heads.{patch_of, patches_of}
+use Rattle.fst_heads.specs.Keeps.{Keeps}
+use Rattle.fst_graph.specs.Known.{Prepared}
+use Rattle.fst_heads.specs.Names.{numbers_of}
 use Rattle.fst_graph.specs.Membering.{member_order}
 use Rattle.fst_graph.specs.Ready.{prepared_of, change_of, IsReady, IsMemberReady, IsReadyFor, MayBePut}
-use Rattle.fst_graph.proofs.Graded.{depends_under}
-use Rattle.fst_graph.proofs.Overlapped.{touched_no_gate}
+use Rattle.fst_heads.proofs.Graded.{depends_under}
+use Rattle.fst_walks.proofs.Overlapped.{touched_no_gate}
 use Rattle.fst_graph.proofs.Readied.{ready_member}
 use Rattle.fst_graph.proofs.SealedIf.{open_not_sealed}
-use Rattle.fst_graph.proofs.Touching.{touched_overlaps}
+use Rattle.fst_heads.proofs.Touching.{touched_overlaps}
 
 -- what is prepared is for the group with those gates
 pub head_same : (o : Option Stored) (n : ℕ) (q : Prepared) (head : ℕ) (p : Stored) (gates : Gates) → option_map (prepared_of n) o ≡ Some q → q.group ≡ Some head → o ≡ Some p → p.gates ≡ Some gates → gates.head ≡ head

@@ -20,11 +20,11 @@ use Rattle.fst_types.proofs.Crash.{same_number}
 use Rattle.fst_types.proofs.Finite.{Decided, decided_not, decided_both, In-from_Contains, Contains-from_In, search_in, search_list, lowest}
 use Rattle.fst_types.proofs.SealedSame.{Twin, back, forth, depends_same, need_was, need_is, reaches_same}
 use Rattle.fst_types.proofs.Sealing.{alike_sealed, heads_sealed}
-use Rattle.fst_graph.specs.Grading.{HasUnder, IsReturning, IsLeading, IsOpenBut, MayBeHard}
-use Rattle.fst_graph.specs.Rows.{IsTouched, IsDependency}
-use Rattle.fst_graph.proofs.Holding.{live_up}
-use Rattle.fst_graph.proofs.NearRow.{under_weaker}
-use Rattle.fst_graph.proofs.Touching.{touch_parts, touch_whole}
+use Rattle.fst_heads.specs.Grading.{HasUnder, IsReturning, IsLeading, IsOpenBut, MayBeHard}
+use Rattle.fst_heads.specs.Rows.{IsTouched, IsDependency}
+use Rattle.fst_walks.proofs.Holding.{live_up}
+use Rattle.fst_walks.proofs.NearRow.{under_weaker}
+use Rattle.fst_heads.proofs.Touching.{touch_parts, touch_whole}
 
 memory_live : (x : Place) → x ≡ place.Memory → x ≡ place.Disk → ⊥
 memory_live x a b = cc

@@ -17,21 +17,21 @@ use Rattle.fst_types.specs.Writing.{launched}
 use Rattle.fst_types.proofs.Crash.{same_number}
 use Rattle.fst_types.proofs.Dropping.{filter_in}
 use Rattle.fst_types.proofs.Finite.{In, In-from_Contains, Contains-from_In}
-use Rattle.fst_graph.specs.declared.standing.Standing.{Standing}
-use Rattle.fst_graph.specs.Keeps.{Tallies}
-use Rattle.fst_graph.specs.Lists.{Entry, entries_on, is_live_on, AreListed}
-use Rattle.fst_graph.specs.Nodes.{Node, patches_in, at_number, linked_to, pending_in, AreLinked, AreGiven, AreDistinct, AreSettled}
-use Rattle.fst_graph.specs.Pendings.{sums_of}
-use Rattle.fst_graph.specs.Spreading.{IsSpreadOf, launches, lands, seals}
-use Rattle.fst_graph.specs.Standings.{AllStand, ready_on}
-use Rattle.fst_graph.proofs.Added.{with_node, new_node, with_names}
-use Rattle.fst_graph.proofs.AtNumber.{at_same, at_other}
-use Rattle.fst_graph.proofs.Linked.{patches_made, made_linked, made_given, made_distinct, named_linked, named_given, named_distinct, patches_named, both, both_nodes, gain_stands}
+use Rattle.fst_heads.specs.declared.standing.Standing.{Standing}
+use Rattle.fst_heads.specs.Keeps.{Tallies}
+use Rattle.fst_heads.specs.Lists.{Entry, entries_on, is_live_on, AreListed}
+use Rattle.fst_heads.specs.Nodes.{Node, patches_in, at_number, linked_to, pending_in, AreLinked, AreGiven, AreDistinct, AreSettled}
+use Rattle.fst_heads.specs.Pendings.{sums_of}
+use Rattle.fst_heads.specs.Spreading.{IsSpreadOf, launches, lands, seals}
+use Rattle.fst_heads.specs.Standings.{AllStand, ready_on}
+use Rattle.fst_heads.proofs.Added.{with_node, new_node, with_names}
+use Rattle.fst_heads.proofs.AtNumber.{at_same, at_other}
+use Rattle.fst_walks.proofs.Linked.{patches_made, made_linked, made_given, made_distinct, named_linked, named_given, named_distinct, patches_named, both, both_nodes, gain_stands}
 use Rattle.fst_graph.proofs.Marking.{counted_settled, marked_settled}
-use Rattle.fst_graph.proofs.Placed.{KeepLinks, SameLinks, patch_in, linked_kept, given_kept, distinct_kept, links_mapped, entries_mapped, launched_stands, launched_links, patches_launched, patches_dropped, entries_dropped, number_if, dependencies_if}
+use Rattle.fst_heads.proofs.Placed.{KeepLinks, SameLinks, patch_in, linked_kept, given_kept, distinct_kept, links_mapped, entries_mapped, launched_stands, launched_links, patches_launched, patches_dropped, entries_dropped, number_if, dependencies_if}
 use Rattle.fst_graph.proofs.Settling.{made_settled, depends_settled, launched_settled, dropped_settled, ready_memory}
-use Rattle.fst_graph.proofs.Stands.{stand_gained, stand_launched, stand_dropped}
-use Rattle.fst_graph.proofs.Starting.{length_spread, linked_spread, given_spread, distinct_spread, listed_spread, linked_sealed, distinct_sealed, linked_landed, distinct_landed}
+use Rattle.fst_heads.proofs.Stands.{stand_gained, stand_launched, stand_dropped}
+use Rattle.fst_heads.proofs.Starting.{length_spread, linked_spread, given_spread, distinct_spread, listed_spread, linked_sealed, distinct_sealed, linked_landed, distinct_landed}
 
 pub tallies_from : (nodes : List Node) (numbers given blocks : ℕ) (lists : List (List Entry)) (standings : List Standing) (queue : List ℕ) (cap : ℕ)
     → HeadsAreLawful (patches_in nodes) numbers → AreLinked nodes → AreGiven nodes given → AreDistinct nodes → AreSettled nodes blocks

@@ -1,6 +1,5 @@
 -- What a graph knows, and what its calls make of it.
 use Rattle.std.specs.Prelude.{◌≡◌, ◌≢◌, ◌⊎◌, ◌+◌, ℕ, List, [], ◌∷◌, ◌++◌, Option, Some, None, map, filter, count_by, Contains}
-use Rattle.fst_types.specs.declared.number.PatchNo.{PatchNo}
 use Rattle.fst_types.specs.declared.fault.Fault.{Fault}
 use Rattle.fst_types.specs.declared.fault.Fault.TheVariants as fault
 use Rattle.fst_types.specs.declared.place.Place.{Place}
@@ -57,10 +56,6 @@ prepared_for b at len after number grade =
 abbrev pub member_for : (n b at len number : ℕ) (grade : Grade) → Prepared
 member_for n b at len number grade =
     record { block = b; at = at; len = len; after = n ∷ []; number = number; grade = grade; group = Some n }
-
--- the numbers of a list of names
-abbrev pub numbers_of : List PatchNo → List ℕ
-numbers_of names = map (λ n. n.0) names
 
 -- the first rule that holds decides, and where none does memory was refused
 abbrev pub Refuses : List Rule → Fault → Type 0

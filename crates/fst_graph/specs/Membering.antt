@@ -15,15 +15,10 @@ use Rattle.fst_types.specs.Patches.{Change, Patch}
 use Rattle.fst_types.specs.Refusals.{Rule, rule, NoneHolds}
 use Rattle.fst_graph.specs.Grouping.{SealsIfOpen}
 use Rattle.fst_graph.specs.Known.{Known, AddsChange, DependsGate}
-use Rattle.fst_graph.specs.Rows.{IsTouched}
 
 -- a live change that shares one of these bytes of block b depends on the tail
 abbrev pub OverlapReaches : List Patch → ℕ → (b at len : ℕ) → Type 0
 OverlapReaches heads tail b at len = (p : ℕ) × IsOverlapped heads (fresh 0 (Change b at len grade.Soft) []) p × DependsOn heads p tail
-
--- the same, as a test finds it
-abbrev pub TouchedReaches : List Patch → ℕ → (b at len : ℕ) → Type 0
-TouchedReaches heads tail b at len = (n : ℕ) × IsTouched heads b at len n × DependsOn heads n tail
 
 -- the two are the gates of a group that is not closed: the tail is open, and comes after the head
 pub record ArePaired (heads : List Patch) (numbers head tail : ℕ) : Type 0 where

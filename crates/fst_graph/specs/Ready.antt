@@ -6,14 +6,15 @@ use Rattle.fst_types.specs.Grades.{IsGraded}
 use Rattle.fst_types.specs.Making.{fresh}
 use Rattle.fst_types.specs.Order.{make_order}
 use Rattle.fst_types.specs.Refusals.{NoneHolds}
-use Rattle.fst_graph.specs.declared.head.Head.{Head}
+use Rattle.fst_heads.specs.declared.head.Head.{Head}
 use Rattle.fst_graph.specs.declared.prepared.Gates.{Gates}
 use Rattle.fst_graph.specs.declared.prepared.Prepared.{Prepared as Stored}
-use Rattle.fst_graph.specs.Frames.{HasRoomBelow}
-use Rattle.fst_graph.specs.Known.{Prepared, numbers_of}
+use Rattle.fst_heads.specs.Frames.{HasRoomBelow}
+use Rattle.fst_graph.specs.Known.{Prepared}
+use Rattle.fst_heads.specs.Names.{numbers_of}
 use Rattle.fst_graph.specs.Membering.{ArePaired, BeginsAs, member_order}
-use Rattle.fst_graph.specs.Nodes.{HasRoomAbove}
-use Rattle.fst_graph.specs.Rows.{IsDependency}
+use Rattle.fst_heads.specs.Nodes.{HasRoomAbove}
+use Rattle.fst_heads.specs.Rows.{IsDependency}
 
 -- as contracts see it, its number being the next one
 abbrev pub prepared_of : ℕ → Stored → Prepared

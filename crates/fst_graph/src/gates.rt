@@ -5,17 +5,17 @@ ghost use Rattle.fst_types.specs.Dependencies.{IsLiveNumber};
 ghost use Rattle.fst_types.specs.Order.{seal_order, depend_order};
 ghost use Rattle.fst_types.specs.Refusals.{IsFirst, NoneHolds};
 ghost use Rattle.fst_types.specs.Gates.{IsOpenNumber};
-ghost use Rattle.fst_graph.specs.Heads.{IsRising, patches_of};
-ghost use Rattle.fst_graph.specs.Known.{numbers_of};
-ghost use Rattle.fst_graph.specs.declared.pending.Pending.TheVariants as pending;
-ghost use Rattle.fst_graph.specs.Marks.{HasSlot};
-ghost use Rattle.fst_graph.specs.Nodes.{AreLinked, nodes_of, pending_in};
-ghost use Rattle.fst_graph.specs.Searching.{AreHeldByGates};
+ghost use Rattle.fst_heads.specs.Heads.{IsRising, patches_of};
+ghost use Rattle.fst_heads.specs.Names.{numbers_of};
+ghost use Rattle.fst_heads.specs.declared.pending.Pending.TheVariants as pending;
+ghost use Rattle.fst_heads.specs.Marks.{HasSlot};
+ghost use Rattle.fst_heads.specs.Nodes.{AreLinked, nodes_of, pending_in};
+ghost use Rattle.fst_walks.specs.Searching.{AreHeldByGates};
 
-use crate::cycle::closes_cycle;
-use crate::head::{Head, Kind};
-use crate::marks::slot_of;
-use crate::row::{is_given, names_unknown};
+use fst_walks::cycle::closes_cycle;
+use fst_heads::head::{Head, Kind};
+use fst_heads::marks::slot_of;
+use fst_heads::row::{is_given, names_unknown};
 use fst_types::{Fault, MAX_NAMES, PatchNo};
 
 /// The slot of an open gate, or why it is none: the number was not given, it is no gate's, or the gate is sealed.

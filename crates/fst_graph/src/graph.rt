@@ -10,7 +10,8 @@ ghost use Rattle.fst_types.specs.Refusals.{IsFirst};
 ghost use Rattle.fst_types.specs.Writable.{IsWritableSet, HasReady, IsHeld, IsLeastHeld};
 ghost use Rattle.fst_types.specs.Tests.{is_live};
 ghost use Rattle.fst_types.specs.declared.grade.Grade.{Grade};
-ghost use Rattle.fst_graph.specs.Known.{unprepared, prepared_for, outside_groups, Foresees, numbers_of, Refuses, AddsGate, AddsEmpty, AddsChange, SealsGate, DependsGate, Launches, IsStuckByGates, LandsBlock, MayLaunch, Forgets};
+ghost use Rattle.fst_graph.specs.Known.{unprepared, prepared_for, outside_groups, Foresees, Refuses, AddsGate, AddsEmpty, AddsChange, SealsGate, DependsGate, Launches, IsStuckByGates, LandsBlock, MayLaunch, Forgets};
+ghost use Rattle.fst_heads.specs.Names.{numbers_of};
 
 mod grouping;
 

@@ -9,27 +9,28 @@ ghost use Rattle.fst_types.specs.Order.{room_order, make_order, seal_order, depe
 ghost use Rattle.fst_types.specs.Refusals.{IsFirst, NoneHolds};
 ghost use Rattle.fst_types.specs.Writable.{IsWritableSet, HasReady, IsHeld, IsLeastHeld};
 ghost use Rattle.fst_types.specs.Tests.{is_live};
-ghost use Rattle.fst_graph.specs.Known.{unprepared, numbers_of, rest_place, Refuses, AddsGate, AddsEmpty, SealsGate, DependsGate, Launches, IsStuckByGates, LandsBlock, MayLaunch, Forgets};
+ghost use Rattle.fst_graph.specs.Known.{unprepared, rest_place, Refuses, AddsGate, AddsEmpty, SealsGate, DependsGate, Launches, IsStuckByGates, LandsBlock, MayLaunch, Forgets};
+ghost use Rattle.fst_heads.specs.Names.{numbers_of};
 
 mod grouping;
 mod making;
 mod pairs;
 
-use crate::ascent::mark_flight;
-use crate::cascade::{cascade, seal_slot};
-use crate::choice::{first_held, ready_set};
+use fst_walks::ascent::mark_flight;
+use fst_heads::cascade::{cascade, seal_slot};
+use fst_heads::choice::{first_held, ready_set};
 use crate::gates::{depend_fault, gate_slot};
-use crate::growth::{gain, missing_names};
-use crate::head::{Head, Kind};
-use crate::links::{link, reserve_above};
-use crate::lists::{Listed, empty_lists, land_block};
-use crate::marks::slot_of;
-use crate::pending::{Pending, no_sums};
-use crate::places::{block_of, keep_live, launch_all, weight};
+use fst_heads::growth::{gain, missing_names};
+use fst_heads::head::{Head, Kind};
+use fst_heads::links::{link, reserve_above};
+use fst_heads::lists::{Listed, empty_lists, land_block};
+use fst_heads::marks::slot_of;
+use fst_heads::pending::{Pending, no_sums};
+use fst_heads::places::{block_of, keep_live, launch_all, weight};
 use crate::prepared::Prepared;
 use crate::refusals::{make_fault, room_fault};
-use crate::row::{is_given, live_named, row_sums};
-use crate::standing::{Standing, empty_standings, land_at, least_marked};
+use fst_heads::row::{is_given, live_named, row_sums};
+use fst_heads::standing::{Standing, empty_standings, land_at, least_marked};
 use fst_types::{BlockNo, Fault, PatchNo, Place, Shape};
 use smallvec::SmallVec;
 use std::alloc::{AllocError, Global};
@@ -55,12 +56,12 @@ pub struct Patches {
 }
 
 impl Model for Patches {
-    ghost use Rattle.fst_graph.specs.Heads.{patches_of};
+    ghost use Rattle.fst_heads.specs.Heads.{patches_of};
     ghost use Rattle.std.specs.Prelude.{◌≡◌, [], option_map, IfSome, length, map, vec_len, vec_capacity};
-    ghost use Rattle.fst_graph.specs.Lists.{entries_of, HasRoomInList};
-    ghost use Rattle.fst_graph.specs.Nodes.{nodes_of};
+    ghost use Rattle.fst_heads.specs.Lists.{entries_of, HasRoomInList};
+    ghost use Rattle.fst_heads.specs.Nodes.{nodes_of};
     ghost use Rattle.fst_graph.specs.Known.{Known};
-    ghost use Rattle.fst_graph.specs.Keeps.{Beside, Keeps, Tallies};
+    ghost use Rattle.fst_heads.specs.Keeps.{Beside, Keeps, Tallies};
     ghost use Rattle.fst_graph.specs.Ready.{prepared_of, MayBePut, HasRoomAround, HasPlaces};
 
     ghost Value = { Known };

@@ -8,19 +8,19 @@ ghost use Rattle.fst_graph.specs.Grouping.{SealsIfOpen};
 ghost use Rattle.fst_graph.specs.Known.{Known, Prepared, unprepared, member_for, Refuses, AddsChange, DependsGate};
 ghost use Rattle.fst_graph.specs.Membering.{ArePaired, Foretells, GainsMember, member_order};
 
-use crate::cascade::{cascade, seal_slot};
+use fst_heads::cascade::{cascade, seal_slot};
 use crate::gates::gate_slot;
-use crate::growth::gain_one;
-use crate::head::{Head, Kind};
-use crate::links::{link, reserve_above, reserve_below};
-use crate::lists::Listed;
+use fst_heads::growth::gain_one;
+use fst_heads::head::{Head, Kind};
+use fst_heads::links::{link, reserve_above, reserve_below};
+use fst_heads::lists::Listed;
 use crate::member::prepare_member;
-use crate::overlap_cycle::member_fault;
 use crate::patches::pairs::row_of;
 use crate::patches::{Patches, reserve_one};
-use crate::pending::{Pending, is_pending, over_block};
+use fst_heads::pending::{Pending, is_pending, over_block};
 use crate::prepared::Gates;
-use crate::row::row_sums;
+use crate::refusals::member_fault;
+use fst_heads::row::row_sums;
 use fst_types::{BlockNo, Fault, Grade, PatchNo, Place, Span};
 use smallvec::SmallVec;
 

@@ -3,16 +3,17 @@
 ghost use Rattle.std.specs.Prelude.{◌≡◌, ◌↔◌, ◌<◌, ℕ, Some, IfOk, IfErr, OnErr, IfSome, MatchResult, IsTrue};
 ghost use Rattle.fst_types.specs.Order.{make_order};
 ghost use Rattle.fst_types.specs.declared.grade.Grade.{Grade};
-ghost use Rattle.fst_graph.specs.Known.{Prepared, unprepared, prepared_for, Foresees, numbers_of, Refuses, AddsChange};
+ghost use Rattle.fst_graph.specs.Known.{Prepared, unprepared, prepared_for, Foresees, Refuses, AddsChange};
+ghost use Rattle.fst_heads.specs.Names.{numbers_of};
 
-use crate::head::{Head, Kind};
-use crate::links::{link, reserve_above};
-use crate::lists::Listed;
+use fst_heads::head::{Head, Kind};
+use fst_heads::links::{link, reserve_above};
+use fst_heads::lists::Listed;
 use crate::patches::{Patches, reserve_one};
-use crate::pending::{Pending, is_pending, over_block};
+use fst_heads::pending::{Pending, is_pending, over_block};
 use crate::prepared::prepare;
 use crate::refusals::make_fault;
-use crate::row::row_sums;
+use fst_heads::row::row_sums;
 use fst_types::{BlockNo, Fault, Grade, PatchNo, Place, Span};
 use smallvec::SmallVec;
 

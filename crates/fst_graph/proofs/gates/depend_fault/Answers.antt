@@ -3,7 +3,7 @@ use Rattle.std.proofs.lemmas.Bool.{false≢true}
 use Rattle.std.proofs.lemmas.List.{length-map}
 use Rattle.fst_types.specs.Limits.{max_names}
 use Rattle.fst_types.specs.Order.{NamesUnknown}
-use Rattle.fst_graph.specs.Known.{numbers_of}
+use Rattle.fst_heads.specs.Names.{numbers_of}
 use Rattle.fst_graph.proofs.gates.depend_fault.Goals as goal
 
 pub returns-then-closes_cycle-clause-first : goal.returns-then-closes_cycle-clause-first

@@ -1,5 +1,5 @@
 use Rattle.std.proofs.Common.{inl, inr, refl, ap}
-use Rattle.fst_graph.specs.Heads.{kind_of}
+use Rattle.fst_heads.specs.Heads.{kind_of}
 use Rattle.fst_graph.proofs.GateSlot.{open_number, sealed_number, sealed_kind, open_not_sealed, change_no_gate, empty_no_gate, no_gate}
 use Rattle.fst_graph.proofs.gates.gate_slot.Goals as goal
 

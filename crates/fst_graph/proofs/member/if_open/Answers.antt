@@ -1,7 +1,7 @@
 use Rattle.std.proofs.Common.{◌∙◌, refl, sym}
 use Rattle.std.proofs.lemmas.Bool.{false≢true}
-use Rattle.fst_graph.specs.Heads.{patches_of}
-use Rattle.fst_graph.proofs.Graded.{passes_open, open_passes}
+use Rattle.fst_heads.specs.Heads.{patches_of}
+use Rattle.fst_heads.proofs.Graded.{passes_open, open_passes}
 use Rattle.fst_graph.proofs.member.if_open.Goals as goal
 
 pub returns-then-passes_at-clause-some : goal.returns-then-passes_at-clause-some

@@ -2,11 +2,11 @@ use Rattle.std.proofs.Common.{◌∙◌, Bor, List, map, sym, ap, subst, arith}
 use Rattle.std.proofs.lemmas.List.{length-map}
 use Rattle.fst_types.specs.declared.number.PatchNo.{PatchNo}
 use Rattle.fst_types.specs.Grades.{FollowsRule}
-use Rattle.fst_graph.specs.Grading.{MayBeHard}
-use Rattle.fst_graph.specs.Heads.{patches_of}
-use Rattle.fst_graph.specs.Known.{numbers_of}
-use Rattle.fst_graph.specs.Lists.{entries_of, AreListed}
-use Rattle.fst_graph.proofs.Listing.{listed_at}
+use Rattle.fst_heads.specs.Grading.{MayBeHard}
+use Rattle.fst_heads.specs.Heads.{patches_of}
+use Rattle.fst_heads.specs.Names.{numbers_of}
+use Rattle.fst_heads.specs.Lists.{entries_of, AreListed}
+use Rattle.fst_heads.proofs.Listing.{listed_at}
 use Rattle.fst_graph.proofs.MemberRow.{IsAfter, rests, waits, told_open, member_row, member_rule}
 use Rattle.fst_graph.proofs.member.prepare_member.Goals as goal
 use Rattle.fst_graph.proofs.member.prepare_member.Goals.{then-is_some+then-rests, else-is_some, else-is_some-via-then-is_some+else-rests, else-is_some-via-else-is_some}

@@ -1,8 +1,8 @@
 use Rattle.std.proofs.Common.{◌∙◌, map, sym, subst, arith}
 use Rattle.std.proofs.lemmas.List.{length-map}
-use Rattle.fst_graph.specs.Heads.{patches_of}
-use Rattle.fst_graph.specs.Lists.{entries_of, AreListed}
-use Rattle.fst_graph.proofs.Listing.{listed_at}
+use Rattle.fst_heads.specs.Heads.{patches_of}
+use Rattle.fst_heads.specs.Lists.{entries_of, AreListed}
+use Rattle.fst_heads.proofs.Listing.{listed_at}
 use Rattle.fst_graph.proofs.prepared.prepare.Goals as goal
 
 pub dependencies_of-requires-clause-listed : goal.dependencies_of-requires-clause-listed

@@ -4,7 +4,7 @@ use Rattle.std.proofs.lemmas.List.{length-map}
 use Rattle.std.proofs.lemmas.Bool.{false≢true}
 use Rattle.fst_types.specs.Limits.{max_names}
 use Rattle.fst_types.specs.Order.{NamesUnknown}
-use Rattle.fst_graph.specs.Known.{numbers_of}
+use Rattle.fst_heads.specs.Names.{numbers_of}
 use Rattle.fst_graph.proofs.refusals.make_fault.Goals as goal
 
 pub returns-clause-clear : goal.returns-clause-clear

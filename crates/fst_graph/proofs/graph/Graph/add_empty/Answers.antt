@@ -1,4 +1,4 @@
-use Rattle.fst_graph.specs.Known.{numbers_of}
+use Rattle.fst_heads.specs.Names.{numbers_of}
 use Rattle.fst_graph.proofs.Grouped.{answered, fine, beside_empty, grouped_empty, grouped_unprepared}
 use Rattle.fst_graph.proofs.graph.Graph.add_empty.Goals as goal
 

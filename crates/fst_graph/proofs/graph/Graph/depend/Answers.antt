@@ -1,7 +1,7 @@
 use Rattle.std.proofs.Common.{refl, inl, sym, ◌∙◌}
 use Rattle.std.proofs.lemmas.Bool.{false≢true}
 use Rattle.fst_types.specs.Order.{depend_order}
-use Rattle.fst_graph.specs.Known.{numbers_of}
+use Rattle.fst_heads.specs.Names.{numbers_of}
 use Rattle.fst_graph.proofs.Grouped.{answered, fine, failed, beside_depend, past_front, grouped_depend, grouped_unprepared}
 use Rattle.fst_graph.proofs.graph.Graph.depend.Goals as goal
 

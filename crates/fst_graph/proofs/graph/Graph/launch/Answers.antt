@@ -1,4 +1,4 @@
-use Rattle.fst_graph.specs.Known.{numbers_of}
+use Rattle.fst_heads.specs.Names.{numbers_of}
 use Rattle.fst_graph.proofs.Grouped.{grouped_launch, may_launch}
 use Rattle.fst_graph.proofs.graph.Graph.launch.Goals as goal
 

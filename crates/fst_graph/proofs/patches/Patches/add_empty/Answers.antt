@@ -6,21 +6,23 @@ use Rattle.fst_types.specs.Limits.{max_heads}
 use Rattle.fst_types.specs.Lists.{Lists}
 use Rattle.fst_types.specs.Patches.{Empty, Patch}
 use Rattle.fst_types.specs.Dependencies.{IsLiveNumber}
-use Rattle.fst_graph.specs.Heads.{patches_of}
-use Rattle.fst_graph.specs.Known.{rest_place, numbers_of}
-use Rattle.fst_graph.specs.Nodes.{node_of, nodes_of, patches_in, pending_in, HasRoomAbove}
-use Rattle.fst_graph.specs.Pendings.{joined, joined_sums, sums_of}
-use Rattle.fst_graph.proofs.AtNumber.{patches_in_nodes}
-use Rattle.fst_graph.proofs.Slots.{rising_heads}
-use Rattle.fst_graph.proofs.Emptying.{map_push, keeps_empty, empty_cascade}
-use Rattle.fst_graph.proofs.Linking.{rising_same}
+use Rattle.fst_heads.specs.Heads.{patches_of}
+use Rattle.fst_graph.specs.Known.{rest_place}
+use Rattle.fst_heads.specs.Names.{numbers_of}
+use Rattle.fst_heads.specs.Nodes.{node_of, nodes_of, patches_in, pending_in, HasRoomAbove}
+use Rattle.fst_heads.specs.Pendings.{joined, joined_sums, sums_of}
+use Rattle.fst_heads.proofs.AtNumber.{patches_in_nodes}
+use Rattle.fst_heads.proofs.Slots.{rising_heads}
+use Rattle.fst_graph.proofs.Emptying.{keeps_empty, empty_cascade}
+use Rattle.std.proofs.lemmas.List.{map_push}
+use Rattle.fst_heads.proofs.Linking.{rising_same}
 use Rattle.fst_graph.proofs.Listed.{listed_made, listed_empty}
-use Rattle.fst_graph.proofs.Seen.{same_patches, linked_patches, lawful_nodes, tallies_wider}
+use Rattle.fst_walks.proofs.Seen.{same_patches, linked_patches, lawful_nodes, tallies_wider}
 use Rattle.fst_graph.proofs.Borne.{lawful_with}
-use Rattle.fst_graph.proofs.Stands.{stand_made}
-use Rattle.fst_graph.proofs.Sums.{joined_exact}
+use Rattle.fst_heads.proofs.Stands.{stand_made}
+use Rattle.fst_heads.proofs.Sums.{joined_exact}
 use Rattle.fst_graph.proofs.Tallied.{tallies_made}
-use Rattle.fst_graph.proofs.Beside.{beside_made, one_live, weight_of, weighs}
+use Rattle.fst_heads.proofs.Beside.{beside_made, one_live, weight_of, weighs}
 use Rattle.fst_graph.proofs.patches.Patches.add_empty.Goals as goal
 
 pub live_named-requires : goal.live_named-requires

@@ -5,19 +5,19 @@ use Rattle.fst_types.specs.Making.{fresh}
 use Rattle.fst_types.specs.Patches.{OpenGate}
 use Rattle.fst_types.specs.Refusals.{NoneHolds}
 use Rattle.fst_types.specs.Order.{room_order}
-use Rattle.fst_graph.specs.Heads.{patches_of}
-use Rattle.fst_graph.specs.Keeps.{Tallies}
-use Rattle.fst_graph.specs.Lists.{entries_of}
-use Rattle.fst_graph.specs.Nodes.{node_of, nodes_of, patches_in}
-use Rattle.fst_graph.proofs.Added.{new_node}
-use Rattle.fst_graph.proofs.Making.{gate_lawful, keeps_gate}
-use Rattle.fst_graph.proofs.Emptying.{map_push}
-use Rattle.fst_graph.proofs.Linked.{with_gate}
+use Rattle.fst_heads.specs.Heads.{patches_of}
+use Rattle.fst_heads.specs.Keeps.{Tallies}
+use Rattle.fst_heads.specs.Lists.{entries_of}
+use Rattle.fst_heads.specs.Nodes.{node_of, nodes_of, patches_in}
+use Rattle.fst_heads.proofs.Added.{new_node}
+use Rattle.fst_heads.proofs.Making.{gate_lawful, keeps_gate}
+use Rattle.std.proofs.lemmas.List.{map_push}
+use Rattle.fst_walks.proofs.Linked.{with_gate}
 use Rattle.fst_graph.proofs.Listed.{listed_made}
-use Rattle.fst_graph.proofs.Seen.{lawful_nodes, tallies_wider}
-use Rattle.fst_graph.proofs.Stands.{stand_made}
+use Rattle.fst_walks.proofs.Seen.{lawful_nodes, tallies_wider}
+use Rattle.fst_heads.proofs.Stands.{stand_made}
 use Rattle.fst_graph.proofs.Tallied.{tallies_made}
-use Rattle.fst_graph.proofs.Beside.{beside_made}
+use Rattle.fst_heads.proofs.Beside.{beside_made}
 use Rattle.fst_graph.proofs.patches.Patches.add_gate.Goals as goal
 
 pub invariant_of-self-2 : goal.invariant_of-self-2

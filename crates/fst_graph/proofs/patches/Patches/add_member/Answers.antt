@@ -1,6 +1,6 @@
 use Rattle.std.proofs.Common.{◌+◌, ◌∷◌, ◌∙◌, [], IfSome, ap, subst}
 use Rattle.fst_types.specs.Refusals.{NoneHolds}
-use Rattle.fst_graph.specs.Heads.{patches_of}
+use Rattle.fst_heads.specs.Heads.{patches_of}
 use Rattle.fst_graph.specs.Known.{Known, unprepared, AddsChange, DependsGate}
 use Rattle.fst_graph.specs.Membering.{member_order}
 use Rattle.fst_graph.proofs.TailGains.{member_clear}

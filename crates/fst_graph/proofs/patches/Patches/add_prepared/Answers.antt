@@ -6,28 +6,28 @@ use Rattle.fst_types.specs.Facts.{HeadsAreLawful}
 use Rattle.fst_types.specs.Limits.{max_heads}
 use Rattle.fst_types.specs.Making.{fresh}
 use Rattle.fst_types.specs.Patches.{Change}
-use Rattle.fst_graph.specs.declared.pending.Pending.TheVariants as pending
-use Rattle.fst_graph.specs.declared.head.Head.{Head}
-use Rattle.fst_graph.specs.Heads.{patch_of, patches_of}
-use Rattle.fst_graph.specs.Known.{numbers_of}
-use Rattle.fst_graph.specs.Nodes.{Node, node_of, nodes_of, patches_in, pending_in}
-use Rattle.fst_graph.specs.Pendings.{is_pending, joined, joined_sums, over_block, sums_of}
+use Rattle.fst_heads.specs.declared.pending.Pending.TheVariants as pending
+use Rattle.fst_heads.specs.declared.head.Head.{Head}
+use Rattle.fst_heads.specs.Heads.{patch_of, patches_of}
+use Rattle.fst_heads.specs.Names.{numbers_of}
+use Rattle.fst_heads.specs.Nodes.{Node, node_of, nodes_of, patches_in, pending_in}
+use Rattle.fst_heads.specs.Pendings.{is_pending, joined, joined_sums, over_block, sums_of}
 use Rattle.fst_graph.specs.Ready.{HasPlaces}
-use Rattle.fst_graph.specs.Standings.{is_ready_on, is_held_on, standing_of, entered}
-use Rattle.fst_graph.specs.Tests.{is_hard_kind}
-use Rattle.fst_graph.proofs.Added.{new_node}
-use Rattle.fst_graph.proofs.AtNumber.{patches_in_nodes}
-use Rattle.fst_graph.proofs.Emptying.{map_push}
+use Rattle.fst_heads.specs.Standings.{is_ready_on, is_held_on, standing_of, entered}
+use Rattle.fst_heads.specs.Tests.{is_hard_kind}
+use Rattle.fst_heads.proofs.Added.{new_node}
+use Rattle.fst_heads.proofs.AtNumber.{patches_in_nodes}
+use Rattle.std.proofs.lemmas.List.{map_push}
 use Rattle.fst_graph.proofs.Listed.{listed_change, live_dependency}
 use Rattle.fst_graph.proofs.Readied.{hard_may, ready_alone}
-use Rattle.fst_graph.proofs.Seen.{linked_patches, lawful_nodes}
-use Rattle.fst_graph.proofs.Shelves.{shelved_push}
-use Rattle.fst_graph.proofs.Slots.{rising_heads}
-use Rattle.fst_graph.proofs.Stands.{stand_change}
-use Rattle.fst_graph.proofs.Sums.{joined_exact}
+use Rattle.fst_walks.proofs.Seen.{linked_patches, lawful_nodes}
+use Rattle.fst_walks.proofs.Shelves.{shelved_push}
+use Rattle.fst_heads.proofs.Slots.{rising_heads}
+use Rattle.fst_heads.proofs.Stands.{stand_change}
+use Rattle.fst_heads.proofs.Sums.{joined_exact}
 use Rattle.fst_graph.proofs.Tallied.{tallies_made}
-use Rattle.fst_graph.proofs.Touching.{keeps_change, depends_exactly}
-use Rattle.fst_graph.proofs.Beside.{beside_made}
+use Rattle.fst_heads.proofs.Touching.{keeps_change, depends_exactly}
+use Rattle.fst_heads.proofs.Beside.{beside_made}
 use Rattle.fst_graph.proofs.patches.Patches.add_prepared.Goals as goal
 
 pub row_sums-sums-requires : goal.row_sums-sums-requires

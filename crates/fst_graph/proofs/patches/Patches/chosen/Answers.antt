@@ -1,13 +1,13 @@
 use Rattle.std.proofs.Common.{◌≡◌, ◌↔◌, ◌&&◌, ◌∙◌, ℕ, Bool, true, get_or, subst, arith}
 use Rattle.fst_types.specs.Dependencies.{IsLiveNumber}
-use Rattle.fst_graph.specs.Ascending.{IsBehind}
-use Rattle.fst_graph.specs.Heads.{patches_of}
-use Rattle.fst_graph.specs.Marks.{mark_of}
-use Rattle.fst_graph.specs.Nodes.{nodes_of}
-use Rattle.fst_graph.proofs.AtNumber.{patches_in_nodes}
-use Rattle.fst_graph.proofs.Behind.{pending_live}
-use Rattle.fst_graph.proofs.Resting.{listed_at, replaced, shelves, empty_set, chosen_ready, chosen_refused}
-use Rattle.fst_graph.proofs.Slots.{rising_heads}
+use Rattle.fst_heads.specs.Ascending.{IsBehind}
+use Rattle.fst_heads.specs.Heads.{patches_of}
+use Rattle.fst_heads.specs.Marks.{mark_of}
+use Rattle.fst_heads.specs.Nodes.{nodes_of}
+use Rattle.fst_heads.proofs.AtNumber.{patches_in_nodes}
+use Rattle.fst_walks.proofs.Behind.{pending_live}
+use Rattle.fst_walks.proofs.Resting.{listed_at, replaced, shelves, empty_set, chosen_ready, chosen_refused}
+use Rattle.fst_heads.proofs.Slots.{rising_heads}
 use Rattle.fst_graph.proofs.patches.Patches.chosen.Goals as goal
 
 pub mark_flight-flying-requires-clause-rising : goal.mark_flight-flying-requires-clause-rising

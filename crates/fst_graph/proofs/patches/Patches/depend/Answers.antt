@@ -6,27 +6,27 @@ use Rattle.fst_types.specs.Gating.{gains}
 use Rattle.fst_types.specs.Lists.{Lists}
 use Rattle.fst_types.specs.Order.{depend_order}
 use Rattle.fst_types.specs.Refusals.{NoneHolds}
-use Rattle.fst_graph.specs.Heads.{patches_of}
-use Rattle.fst_graph.specs.Known.{numbers_of}
-use Rattle.fst_graph.specs.Nodes.{Node, nodes_of, at_number, gains_names, linked_to, pending_in, AreSettled, HasRoomAbove}
-use Rattle.fst_graph.specs.declared.pending.Pending.TheVariants as pending
-use Rattle.fst_graph.specs.declared.pending.Sums.{Sums}
-use Rattle.fst_graph.specs.Pendings.{Fits, sums_of, max_block}
-use Rattle.fst_graph.specs.Searching.{AreHeldByGates}
-use Rattle.fst_graph.proofs.AtNumber.{patches_in_nodes}
-use Rattle.fst_graph.proofs.Added.{with_names}
-use Rattle.fst_graph.proofs.Linked.{patches_named}
+use Rattle.fst_heads.specs.Heads.{patches_of}
+use Rattle.fst_heads.specs.Names.{numbers_of}
+use Rattle.fst_heads.specs.Nodes.{Node, nodes_of, at_number, gains_names, linked_to, pending_in, AreSettled, HasRoomAbove}
+use Rattle.fst_heads.specs.declared.pending.Pending.TheVariants as pending
+use Rattle.fst_heads.specs.declared.pending.Sums.{Sums}
+use Rattle.fst_heads.specs.Pendings.{Fits, sums_of, max_block}
+use Rattle.fst_walks.specs.Searching.{AreHeldByGates}
+use Rattle.fst_heads.proofs.AtNumber.{patches_in_nodes}
+use Rattle.fst_heads.proofs.Added.{with_names}
+use Rattle.fst_walks.proofs.Linked.{patches_named}
 use Rattle.fst_graph.proofs.FewCounted.{few}
-use Rattle.fst_graph.proofs.Held.{held_by_gates, held_live}
-use Rattle.fst_graph.proofs.PendingIn.{found}
-use Rattle.fst_graph.proofs.Sums.{sums_fit, sums_few}
+use Rattle.fst_walks.proofs.Held.{held_by_gates, held_live}
+use Rattle.fst_heads.proofs.PendingIn.{found}
+use Rattle.fst_heads.proofs.Sums.{sums_fit, sums_few}
 use Rattle.fst_graph.proofs.Tallied.{tallies_depends}
-use Rattle.fst_graph.proofs.Linking.{rising_as, rising_same}
-use Rattle.fst_graph.proofs.Seen.{seen, same_patches, lawful_nodes, gained_number, tallies_wider}
-use Rattle.fst_graph.proofs.Slots.{rising_heads}
+use Rattle.fst_heads.proofs.Linking.{rising_as, rising_same}
+use Rattle.fst_walks.proofs.Seen.{seen, same_patches, lawful_nodes, gained_number, tallies_wider}
+use Rattle.fst_heads.proofs.Slots.{rising_heads}
 use Rattle.fst_graph.proofs.Mapping.{take_front}
 use Rattle.fst_graph.proofs.Gained.{keeps_depends, keeps_marks}
-use Rattle.fst_graph.proofs.Beside.{beside_depends}
+use Rattle.fst_heads.proofs.Beside.{beside_depends}
 use Rattle.fst_graph.proofs.patches.Patches.depend.Goals as goal
 
 pub depend_fault-requires-clause-rising : goal.depend_fault-requires-clause-rising

@@ -3,14 +3,14 @@ use Rattle.std.proofs.lemmas.List.{length-map, length-take}
 use Rattle.fst_types.specs.declared.place.Place.TheVariants as place
 use Rattle.fst_types.specs.Facts.{HeadsAreLawful}
 use Rattle.fst_types.specs.Tests.{is_at, is_live}
-use Rattle.fst_graph.specs.Heads.{patch_of, patches_of}
-use Rattle.fst_graph.specs.Nodes.{nodes_of}
-use Rattle.fst_graph.proofs.AtNumber.{patches_in_nodes}
-use Rattle.fst_graph.proofs.Placed.{patches_dropped}
-use Rattle.fst_graph.proofs.Seen.{seen, lawful_nodes}
+use Rattle.fst_heads.specs.Heads.{patch_of, patches_of}
+use Rattle.fst_heads.specs.Nodes.{nodes_of}
+use Rattle.fst_heads.proofs.AtNumber.{patches_in_nodes}
+use Rattle.fst_heads.proofs.Placed.{patches_dropped}
+use Rattle.fst_walks.proofs.Seen.{seen, lawful_nodes}
 use Rattle.fst_graph.proofs.Tallied.{tallies_dropped}
-use Rattle.fst_graph.proofs.Forgetting.{counted, keeps_dropped}
-use Rattle.fst_graph.proofs.Beside.{beside_dropped}
+use Rattle.fst_heads.proofs.Forgetting.{counted, keeps_dropped}
+use Rattle.fst_heads.proofs.Beside.{beside_dropped}
 use Rattle.fst_graph.proofs.patches.Patches.forget.Goals as goal
 
 pub overflow_sub-result : goal.overflow_sub-result

@@ -1,5 +1,5 @@
 use Rattle.std.proofs.Common.{◌+◌, IfSome, subst}
-use Rattle.fst_graph.specs.Heads.{patches_of}
+use Rattle.fst_heads.specs.Heads.{patches_of}
 use Rattle.fst_graph.specs.Ready.{MayBePut}
 use Rattle.fst_graph.proofs.Readied.{seen_member, member_seen, ready_member}
 use Rattle.fst_graph.proofs.patches.Patches.is_member_prepared.Goals as goal

@@ -2,21 +2,21 @@ use Rattle.std.proofs.Common.{◌≡◌, ◌∙◌, map, sym, ap, subst, length,
 use Rattle.std.proofs.lemmas.List.{length-map}
 use Rattle.fst_types.specs.Cascade.{IsCascadeOf}
 use Rattle.fst_types.specs.Writing.{landed}
-use Rattle.fst_graph.specs.Spreading.{IsSpreadOf, lands}
-use Rattle.fst_graph.specs.Heads.{patches_of}
-use Rattle.fst_graph.specs.Keeps.{IsInside}
-use Rattle.fst_graph.specs.Lists.{entries_of, AreListed}
-use Rattle.fst_graph.specs.Nodes.{node_of, nodes_of, patches_in, AreSettled}
-use Rattle.fst_graph.specs.Standings.{AllStand}
-use Rattle.fst_graph.proofs.AtNumber.{patches_in_nodes}
+use Rattle.fst_heads.specs.Spreading.{IsSpreadOf, lands}
+use Rattle.fst_heads.specs.Heads.{patches_of}
+use Rattle.fst_heads.specs.Keeps.{IsInside}
+use Rattle.fst_heads.specs.Lists.{entries_of, AreListed}
+use Rattle.fst_heads.specs.Nodes.{node_of, nodes_of, patches_in, AreSettled}
+use Rattle.fst_heads.specs.Standings.{AllStand}
+use Rattle.fst_heads.proofs.AtNumber.{patches_in_nodes}
 use Rattle.fst_graph.proofs.Borne.{inside_nodes, stand_land}
 use Rattle.fst_graph.proofs.Kept.{keeps_landed}
-use Rattle.fst_graph.proofs.Seen.{seen, lawful_nodes}
-use Rattle.fst_graph.proofs.Shelves.{shelved}
-use Rattle.fst_graph.proofs.Slots.{rising_heads}
-use Rattle.fst_graph.proofs.Starting.{starts_landed, patches_landed, linked_landed, distinct_landed}
+use Rattle.fst_walks.proofs.Seen.{seen, lawful_nodes}
+use Rattle.fst_walks.proofs.Shelves.{shelved}
+use Rattle.fst_heads.proofs.Slots.{rising_heads}
+use Rattle.fst_heads.proofs.Starting.{starts_landed, patches_landed, linked_landed, distinct_landed}
 use Rattle.fst_graph.proofs.Tallied.{tallies_landed}
-use Rattle.fst_graph.proofs.Beside.{beside_landed, landed_few}
+use Rattle.fst_heads.proofs.Beside.{beside_landed, landed_few}
 use Rattle.fst_graph.proofs.patches.Patches.land.Goals as goal
 
 pub land_block-requires-clause-rising : goal.land_block-requires-clause-rising

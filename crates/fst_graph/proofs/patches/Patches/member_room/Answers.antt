@@ -5,26 +5,26 @@ use Rattle.fst_types.specs.Grades.{FollowsRule}
 use Rattle.fst_types.specs.Lists.{Lists}
 use Rattle.fst_types.specs.Patches.{Patch}
 use Rattle.fst_types.specs.Refusals.{NoneHolds}
-use Rattle.fst_graph.specs.Frames.{HasRoomBelow}
-use Rattle.fst_graph.specs.Grading.{MayBeHard}
-use Rattle.fst_graph.specs.Heads.{patches_of}
+use Rattle.fst_heads.specs.Frames.{HasRoomBelow}
+use Rattle.fst_heads.specs.Grading.{MayBeHard}
+use Rattle.fst_heads.specs.Heads.{patches_of}
 use Rattle.fst_graph.specs.Known.{Known}
-use Rattle.fst_graph.specs.Lists.{entries_of, AreListed}
+use Rattle.fst_heads.specs.Lists.{entries_of, AreListed}
 use Rattle.fst_graph.specs.Membering.{ArePaired, BeginsAs, member_order}
-use Rattle.fst_graph.specs.Nodes.{nodes_of, pending_in, AreSettled, HasRoomAbove}
+use Rattle.fst_heads.specs.Nodes.{nodes_of, pending_in, AreSettled, HasRoomAbove}
 use Rattle.fst_graph.specs.Ready.{IsMemberReady}
-use Rattle.fst_graph.specs.Rows.{IsDependency}
-use Rattle.fst_graph.specs.Searching.{AreHeldByGates}
-use Rattle.fst_graph.proofs.AtNumber.{patches_in_nodes}
+use Rattle.fst_heads.specs.Rows.{IsDependency}
+use Rattle.fst_walks.specs.Searching.{AreHeldByGates}
+use Rattle.fst_heads.proofs.AtNumber.{patches_in_nodes}
 use Rattle.fst_graph.proofs.Borne.{ok_of}
-use Rattle.fst_graph.proofs.Held.{heads_held, heads_live}
-use Rattle.fst_graph.proofs.Linking.{rising_same}
-use Rattle.fst_graph.proofs.Listing.{listed_at}
+use Rattle.fst_walks.proofs.Held.{heads_held, heads_live}
+use Rattle.fst_heads.proofs.Linking.{rising_same}
+use Rattle.fst_heads.proofs.Listing.{listed_at}
 use Rattle.fst_graph.proofs.MemberReady.{member_ready, foretold}
 use Rattle.fst_graph.proofs.Readied.{keeps_marks, as_long, member_put}
-use Rattle.fst_graph.proofs.Seen.{same_patches, tallies_wider}
-use Rattle.fst_graph.proofs.Shelves.{shelved_same, room_in_list}
-use Rattle.fst_graph.proofs.Slots.{rising_heads}
+use Rattle.fst_walks.proofs.Seen.{same_patches, tallies_wider}
+use Rattle.fst_walks.proofs.Shelves.{shelved_same, room_in_list}
+use Rattle.fst_heads.proofs.Slots.{rising_heads}
 use Rattle.fst_graph.proofs.patches.Patches.member_room.Goals as goal
 
 pub member_fault-requires-clause-rising : goal.member_fault-requires-clause-rising

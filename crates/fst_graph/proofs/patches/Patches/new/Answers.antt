@@ -1,5 +1,5 @@
 use Rattle.std.proofs.Common.{◌≡◌, [], length, refl, arith}
-use Rattle.fst_graph.proofs.Making.{keeps_none}
+use Rattle.fst_heads.proofs.Making.{keeps_none}
 use Rattle.fst_graph.proofs.Tallied.{tallies_from}
 use Rattle.fst_graph.proofs.patches.Patches.new.Goals as goal
 

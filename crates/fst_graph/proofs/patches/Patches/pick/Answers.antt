@@ -2,11 +2,11 @@ use Rattle.std.proofs.Common.{◌≡◌, ◌<◌, ℕ, true, false, List, Option
 use Rattle.fst_types.specs.declared.number.BlockNo.{BlockNo}
 use Rattle.fst_types.specs.Looks.{IsPick}
 use Rattle.fst_types.specs.Patches.{Patch}
-use Rattle.fst_graph.specs.declared.standing.Standing.{Standing}
-use Rattle.fst_graph.specs.Heads.{patches_of}
-use Rattle.fst_graph.specs.Keeps.{IsInside}
-use Rattle.fst_graph.specs.Standings.{AreMarked, may_be_written}
-use Rattle.fst_graph.proofs.AtNumber.{patches_in_nodes}
+use Rattle.fst_heads.specs.declared.standing.Standing.{Standing}
+use Rattle.fst_heads.specs.Heads.{patches_of}
+use Rattle.fst_heads.specs.Keeps.{IsInside}
+use Rattle.fst_heads.specs.Standings.{AreMarked, may_be_written}
+use Rattle.fst_heads.proofs.AtNumber.{patches_in_nodes}
 use Rattle.fst_graph.proofs.Marking.{picked_none, picked_some}
 use Rattle.fst_graph.proofs.Picked.{stuck_by_gates}
 use Rattle.fst_graph.proofs.patches.Patches.pick.Goals as goal

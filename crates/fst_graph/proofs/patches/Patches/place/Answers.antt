@@ -1,6 +1,6 @@
 use Rattle.std.proofs.Common.{subst}
-use Rattle.fst_graph.specs.Marks.{HasSlot, HasNone}
-use Rattle.fst_graph.proofs.Slots.{rising_heads, patch_at, none_slot, slot_in, patch_slot}
+use Rattle.fst_heads.specs.Marks.{HasSlot, HasNone}
+use Rattle.fst_heads.proofs.Slots.{rising_heads, patch_at, none_slot, slot_in, patch_slot}
 use Rattle.fst_graph.proofs.PlaceOf.{place_found, place_lost}
 use Rattle.fst_graph.proofs.patches.Patches.place.Goals as goal
 

@@ -12,37 +12,38 @@ use Rattle.fst_types.specs.Order.{make_order, depend_order}
 use Rattle.fst_types.specs.Overlaps.{IsOverlapped}
 use Rattle.fst_types.specs.Patches.{Change}
 use Rattle.fst_types.specs.Refusals.{NoneHolds}
-use Rattle.fst_graph.specs.declared.pending.Pending.TheVariants as pending
-use Rattle.fst_graph.specs.declared.head.Head.{Head}
-use Rattle.fst_graph.specs.Frames.{HasRoomBelow}
-use Rattle.fst_graph.specs.Heads.{patch_of, patches_of}
-use Rattle.fst_graph.specs.Known.{Known, numbers_of}
-use Rattle.fst_graph.specs.Lists.{HasRoomInList}
+use Rattle.fst_heads.specs.declared.pending.Pending.TheVariants as pending
+use Rattle.fst_heads.specs.declared.head.Head.{Head}
+use Rattle.fst_heads.specs.Frames.{HasRoomBelow}
+use Rattle.fst_heads.specs.Heads.{patch_of, patches_of}
+use Rattle.fst_graph.specs.Known.{Known}
+use Rattle.fst_heads.specs.Names.{numbers_of}
+use Rattle.fst_heads.specs.Lists.{HasRoomInList}
 use Rattle.fst_graph.specs.declared.prepared.Prepared.{Prepared as Stored}
-use Rattle.fst_graph.specs.Nodes.{Node, node_of, nodes_of, patches_in, pending_in, at_number, gains_names, linked_to}
-use Rattle.fst_graph.specs.Pendings.{is_pending, joined, joined_sums, over_block, sums_of}
+use Rattle.fst_heads.specs.Nodes.{Node, node_of, nodes_of, patches_in, pending_in, at_number, gains_names, linked_to}
+use Rattle.fst_heads.specs.Pendings.{is_pending, joined, joined_sums, over_block, sums_of}
 use Rattle.fst_graph.specs.Ready.{HasPlaces, HasRoomAround}
-use Rattle.fst_graph.specs.Standings.{is_ready_on, is_held_on, standing_of, entered}
-use Rattle.fst_graph.specs.Tests.{is_hard_kind}
-use Rattle.fst_graph.proofs.Added.{new_node, with_node, with_names}
-use Rattle.fst_graph.proofs.AtNumber.{patches_in_nodes}
-use Rattle.fst_graph.proofs.Beside.{beside_made, beside_depends}
-use Rattle.fst_graph.proofs.Emptying.{map_push}
+use Rattle.fst_heads.specs.Standings.{is_ready_on, is_held_on, standing_of, entered}
+use Rattle.fst_heads.specs.Tests.{is_hard_kind}
+use Rattle.fst_heads.proofs.Added.{new_node, with_node, with_names}
+use Rattle.fst_heads.proofs.AtNumber.{patches_in_nodes}
+use Rattle.fst_heads.proofs.Beside.{beside_made, beside_depends}
+use Rattle.std.proofs.lemmas.List.{map_push}
 use Rattle.fst_graph.proofs.FewCounted.{few as few_of_settled}
-use Rattle.fst_graph.proofs.Framed.{pushed_below, pushed_above}
+use Rattle.fst_heads.proofs.Framed.{pushed_below, pushed_above}
 use Rattle.fst_graph.proofs.Gained.{keeps_depends}
-use Rattle.fst_graph.proofs.Linked.{patches_named}
-use Rattle.fst_graph.proofs.Linking.{rising_as}
+use Rattle.fst_walks.proofs.Linked.{patches_named}
+use Rattle.fst_heads.proofs.Linking.{rising_as}
 use Rattle.fst_graph.proofs.Listed.{listed_change, live_dependency}
 use Rattle.fst_graph.proofs.Readied.{hard_may}
-use Rattle.fst_graph.proofs.Seen.{seen, linked_patches, lawful_nodes, gained_number}
-use Rattle.fst_graph.proofs.Shelves.{shelved_push}
-use Rattle.fst_graph.proofs.Slots.{rising_heads}
-use Rattle.fst_graph.proofs.Stands.{stand_change}
-use Rattle.fst_graph.proofs.Sums.{joined_exact}
+use Rattle.fst_walks.proofs.Seen.{seen, linked_patches, lawful_nodes, gained_number}
+use Rattle.fst_walks.proofs.Shelves.{shelved_push}
+use Rattle.fst_heads.proofs.Slots.{rising_heads}
+use Rattle.fst_heads.proofs.Stands.{stand_change}
+use Rattle.fst_heads.proofs.Sums.{joined_exact}
 use Rattle.fst_graph.proofs.Tallied.{tallies_made, tallies_depends}
 use Rattle.fst_graph.proofs.TailGains.{head_same, member_kept, ready_now, tail_there, tail_clear, tail_gains, none_beyond}
-use Rattle.fst_graph.proofs.Touching.{keeps_change, depends_exactly}
+use Rattle.fst_heads.proofs.Touching.{keeps_change, depends_exactly}
 use Rattle.fst_graph.proofs.patches.Patches.put_member.Goals as goal
 
 pub row_sums-sums-requires : goal.row_sums-sums-requires

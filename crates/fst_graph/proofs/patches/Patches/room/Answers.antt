@@ -5,21 +5,22 @@ use Rattle.fst_types.specs.Order.{make_order}
 use Rattle.fst_types.specs.Lists.{Lists}
 use Rattle.fst_types.specs.Making.{fresh}
 use Rattle.fst_types.specs.Patches.{Change}
-use Rattle.fst_graph.specs.Grading.{MayBeHard}
-use Rattle.fst_graph.specs.Heads.{patches_of}
-use Rattle.fst_graph.specs.Known.{Known, numbers_of}
-use Rattle.fst_graph.specs.Rows.{IsDependency}
+use Rattle.fst_heads.specs.Grading.{MayBeHard}
+use Rattle.fst_heads.specs.Heads.{patches_of}
+use Rattle.fst_graph.specs.Known.{Known}
+use Rattle.fst_heads.specs.Names.{numbers_of}
+use Rattle.fst_heads.specs.Rows.{IsDependency}
 use Rattle.std.proofs.lemmas.List.{length-map}
-use Rattle.fst_graph.specs.Lists.{entries_of}
-use Rattle.fst_graph.specs.Nodes.{nodes_of, AreSettled, HasRoomAbove}
-use Rattle.fst_graph.specs.Standings.{AllStand}
-use Rattle.fst_graph.proofs.AtNumber.{patches_in_nodes}
+use Rattle.fst_heads.specs.Lists.{entries_of}
+use Rattle.fst_heads.specs.Nodes.{nodes_of, AreSettled, HasRoomAbove}
+use Rattle.fst_heads.specs.Standings.{AllStand}
+use Rattle.fst_heads.proofs.AtNumber.{patches_in_nodes}
 use Rattle.fst_graph.proofs.Borne.{ok_of}
 use Rattle.fst_graph.proofs.Readied.{keeps_marks, as_long}
-use Rattle.fst_graph.proofs.Seen.{same_patches, tallies_wider}
-use Rattle.fst_graph.proofs.Shelves.{shelved_same, room_in_list}
-use Rattle.fst_graph.proofs.Slots.{rising_heads}
-use Rattle.fst_graph.proofs.Touching.{depends_exactly, graded_change}
+use Rattle.fst_walks.proofs.Seen.{same_patches, tallies_wider}
+use Rattle.fst_walks.proofs.Shelves.{shelved_same, room_in_list}
+use Rattle.fst_heads.proofs.Slots.{rising_heads}
+use Rattle.fst_heads.proofs.Touching.{depends_exactly, graded_change}
 use Rattle.fst_graph.proofs.patches.Patches.room.Goals as goal
 
 pub returns-in-Some-clause-refused : goal.returns-in-Some-clause-refused

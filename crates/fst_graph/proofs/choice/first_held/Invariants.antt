@@ -1,9 +1,0 @@
-use Rattle.std.proofs.Common.{◌≡◌, ◌&&◌, drop}
-use Rattle.fst_graph.specs.Ascending.{is_bound_on, bound_on}
-use Rattle.fst_graph.specs.Marks.{mark_of}
-use Rattle.fst_graph.specs.Nodes.{nodes_of}
-use Rattle.fst_graph.proofs.Passing.{passing}
-use Rattle.fst_graph.proofs.choice.first_held.Given as goal
-
-abbrev pub invariant-loop-listed : goal.invariant-loop-listed
-invariant-loop-listed l = passing (is_bound_on (λ n. l.flying && mark_of l.heads l.marks n) l.block) l.heads (drop l.listed-index l.list) ≡ bound_on (λ n. l.flying && mark_of l.heads l.marks n) l.block (nodes_of l.heads)

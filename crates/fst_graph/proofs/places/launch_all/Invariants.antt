@@ -1,8 +1,0 @@
-use Rattle.std.proofs.Common.{◌≡◌, map, take}
-use Rattle.fst_graph.specs.Known.{numbers_of}
-use Rattle.fst_graph.specs.Nodes.{nodes_of}
-use Rattle.fst_graph.specs.Spreading.{launches}
-use Rattle.fst_graph.proofs.places.launch_all.Given as goal
-
-abbrev pub invariant-loop-no : goal.invariant-loop-no
-invariant-loop-no l = nodes_of l.heads.items ≡ map (launches (numbers_of (take l.no-index l.chosen))) (nodes_of l.initial.heads.items)

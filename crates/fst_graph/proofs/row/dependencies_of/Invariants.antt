@@ -1,8 +1,0 @@
-use Rattle.std.proofs.Common.{drop}
-use Rattle.fst_graph.specs.Heads.{patches_of}
-use Rattle.fst_graph.specs.Lists.{entries_of}
-use Rattle.fst_graph.proofs.Touching.{Touches}
-use Rattle.fst_graph.proofs.row.dependencies_of.Given as goal
-
-abbrev pub invariant-loop-listed : goal.invariant-loop-listed
-invariant-loop-listed l = Touches (patches_of l.heads) (entries_of (drop l.listed-index l.list)) l.block l.span.at l.span.len l.initial.row.items l.row.items

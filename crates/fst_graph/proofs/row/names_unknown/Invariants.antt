@@ -1,5 +1,0 @@
-use Rattle.fst_graph.proofs.Rows.{AreGiven}
-use Rattle.fst_graph.proofs.row.names_unknown.Given as goal
-
-abbrev pub invariant-loop-name : goal.invariant-loop-name
-invariant-loop-name l = AreGiven l.numbers l.names l.name-index

@@ -1,7 +1,0 @@
-use Rattle.std.proofs.Common.{IfSome}
-use Rattle.fst_graph.specs.Heads.{patches_of}
-use Rattle.fst_graph.proofs.NearRow.{IsOnPath}
-use Rattle.fst_graph.proofs.shortcuts.comes_back.Given as goal
-
-abbrev pub invariant-loop : goal.invariant-loop
-invariant-loop l = IfSome l.next (IsOnPath (patches_of l.heads) l.block l.row l.away)

@@ -1,0 +1,41 @@
+-- A change of the head in one slot, seen as a change of the node with its number.
+use Rattle.std.proofs.Common.{◌≡◌, ◌≢◌, ℕ, zero, suc, List, [], ◌∷◌, map, get_or, set, refl, sym, ◌∙◌, arith}
+use Rattle.std.proofs.lemmas.Bool.{eq-eqb, ne_eqb}
+use Rattle.fst_heads.specs.declared.head.Head.{Head}
+use Rattle.fst_heads.specs.Heads.{IsRising, patches_of}
+use Rattle.fst_heads.specs.Marks.{HasSlot, HasNone}
+use Rattle.fst_heads.specs.Nodes.{Node, node_of, nodes_of, patches_in, at_number}
+
+pub at_other : (n : ℕ) (f : Node → Node) (x : Node) → x.patch.number ≢ n → at_number n f x ≡ x
+at_other n f x ne = rw (ne_eqb x.patch.number n ne) refl
+
+pub at_same : (n : ℕ) (f : Node → Node) (x : Node) → x.patch.number ≡ n → at_number n f x ≡ f x
+at_same n f x e = rw (eq-eqb x.patch.number n e) refl
+
+-- where no head has the number all stay
+pub at_none : (heads : List Head) (n : ℕ) (f : Node → Node) → HasNone heads n → nodes_of heads ≡ map (at_number n f) (nodes_of heads)
+at_none [] n f none = refl
+at_none (h ∷ hs) n f none =
+    let first = sym (at_other n f (node_of h) (none 0 h (omega arith))) in
+    let rest = at_none hs n f (λ k d lt. none (suc k) d (omega (arith, lt))) in
+    cc
+
+pub at_slot : (heads : List Head) (n s : ℕ) (f : Node → Node) (y d : Head) → IsRising heads → HasSlot heads n s
+    → node_of y ≡ f (node_of (get_or heads s d))
+    → nodes_of (set heads s y) ≡ map (at_number n f) (nodes_of heads)
+at_slot [] n s f y d rising slot e = absurd (omega (arith, slot.0))
+at_slot (h ∷ hs) n zero f y d rising slot e =
+    let first : node_of y ≡ at_number n f (node_of h) = e ∙ sym (at_same n f (node_of h) (slot.1 d)) in
+    let rest = at_none hs n f (λ k c lt same. let r = rising 0 (suc k) c (omega arith) (omega (arith, lt)) in let here = slot.1 d in omega (arith, r, same, here)) in
+    cc
+at_slot (h ∷ hs) n (suc s) f y d rising slot e =
+    let inside = slot.0 in
+    let below = rising 0 (suc s) d (omega arith) inside in
+    let there = slot.1 d in
+    let first = sym (at_other n f (node_of h) (λ same. omega (arith, same, below, there))) in
+    let rest = at_slot hs n s f y d (λ i j c lt b. rising (suc i) (suc j) c (omega (arith, lt)) (omega (arith, b))) (omega (arith, inside), slot.1) e in
+    cc
+
+pub patches_in_nodes : (heads : List Head) → patches_in (nodes_of heads) ≡ patches_of heads
+patches_in_nodes [] = refl
+patches_in_nodes (h ∷ hs) = let rest = patches_in_nodes hs in cc

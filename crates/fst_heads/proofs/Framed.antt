@@ -1,0 +1,77 @@
+-- A head that was changed but for its number and its rows.
+use Rattle.std.proofs.Common.{◌≡◌, ◌≢◌, ◌++◌, ℕ, zero, suc, ◌<◌, List, [], ◌∷◌, length, map, get_or, set, Contains, refl, sym, ap, subst, ◌∙◌, inl, inr, arith}
+use Rattle.std.proofs.lemmas.List.Elements.{Contains-push_cases}
+use Rattle.smallvec.specs.SmallVec.{HasRoomFor}
+use Rattle.fst_types.proofs.Finite.{In, In-from_Contains, Contains-from_In}
+use Rattle.fst_heads.specs.declared.head.Head.{Head}
+use Rattle.fst_heads.specs.Frames.{frame_of, frames_of, HasRoomBelow}
+use Rattle.fst_heads.specs.Heads.{IsRising}
+use Rattle.fst_heads.specs.Marks.{HasSlot}
+use Rattle.fst_heads.specs.Nodes.{HasRoomAbove}
+use Rattle.fst_heads.proofs.Linking.{set_cases}
+use Rattle.fst_heads.proofs.Slots.{any_default, slot_unique}
+
+pub frames_set : (heads : List Head) (s : ℕ) (y d : Head) → s < length heads → frame_of y ≡ frame_of (get_or heads s d) → frames_of (set heads s y) ≡ frames_of heads
+frames_set [] s y d lt e = absurd (omega (arith, lt))
+frames_set (h ∷ hs) zero y d lt e = ap (λ x. x ∷ frames_of hs) e
+frames_set (h ∷ hs) (suc s) y d lt e = ap (λ xs. frame_of h ∷ xs) (frames_set hs s y d (omega (arith, lt)) e)
+
+-- each of the new heads has the number and the rows of an old one
+framed : (new old : List Head) → frames_of new ≡ frames_of old → (h : Head) → In new h → (k : Head) × In old k × (frame_of h ≡ frame_of k)
+framed [] old e h i = absurd i
+framed (x ∷ xs) [] e h i = absurd (none_first (frame_of x) (frames_of xs) e)
+  where
+    none_first : {X : Type 0} (y : X) (ys : List X) → y ∷ ys ≡ [] → ⊥
+    none_first y ys e = cc
+framed (x ∷ xs) (y ∷ ys) e h i =
+    let first : frame_of x ≡ frame_of y = cc in
+    let rest : frames_of xs ≡ frames_of ys = cc in
+    elim i [ inl same ↦ (y, inl refl, ap frame_of (sym same) ∙ first) | inr there ↦ let r = framed xs ys rest h there in (r.0, inr r.1, r.2) ]
+
+-- so there is room where there was
+pub room_above : (new old : List Head) → frames_of new ≡ frames_of old → (row : List ℕ) → HasRoomAbove old row → HasRoomAbove new row
+room_above new old e row room h c named =
+    let k = framed new old e h (In-from_Contains new h c) in
+    subst (λ v. HasRoomFor v 1) (sym (ap (λ f. f.2) k.2)) (room k.0 (Contains-from_In old k.0 k.1) (subst (Contains row) (ap (λ f. f.0) k.2) named))
+
+pub room_below : (new old : List Head) → frames_of new ≡ frames_of old → (n : ℕ) → HasRoomBelow old n → HasRoomBelow new n
+room_below new old e n room h c named =
+    let k = framed new old e h (In-from_Contains new h c) in
+    subst (λ v. HasRoomFor v 1) (sym (ap (λ f. f.1) k.2)) (room k.0 (Contains-from_In old k.0 k.1) (sym (ap (λ f. f.0) k.2) ∙ named))
+
+-- with more room for the direct dependencies of the head in one slot
+module _ (heads : List Head) (n s : ℕ) (y : Head) (rising : IsRising heads) (slot : HasSlot heads n s) where
+  pub below_set : HasRoomFor y.dependencies 1 → HasRoomBelow (set heads s y) n
+  below_set room h c named = elim (set_cases heads s y h slot.0 c) [
+    | inl same ↦ subst (λ (k : Head). HasRoomFor k.dependencies 1) same room
+    | inr other ↦ absurd (other.2 (slot_unique heads n other.0 s rising (other.1, λ d. ap (λ k. k.number) (any_default heads other.0 d h other.1 ∙ other.3) ∙ named) slot))
+  ]
+
+  pub above_set : (d : Head) → y.number ≡ (get_or heads s d).number → y.dependants ≡ (get_or heads s d).dependants → (row : List ℕ) → HasRoomAbove heads row → HasRoomAbove (set heads s y) row
+  above_set d number dependants row room h c named = elim (set_cases heads s y h slot.0 c) [
+    | inl same ↦
+        let k = get_or heads s d in
+        let there : Contains heads k = (s, slot.0, any_default heads s k d slot.0) in
+        subst (λ (x : Head). HasRoomFor x.dependants 1) same (subst (λ v. HasRoomFor v 1) (sym dependants) (room k there (subst (Contains row) (sym (ap (λ (x : Head). x.number) same) ∙ number) named)))
+    | inr other ↦ room h (other.0, other.1, other.3) named
+  ]
+
+-- the direct dependencies of all heads have the room that they had
+pub still_below : (heads : List Head) (s : ℕ) (y d : Head) → s < length heads → y.number ≡ (get_or heads s d).number → y.dependencies ≡ (get_or heads s d).dependencies → (n : ℕ) → HasRoomBelow heads n → HasRoomBelow (set heads s y) n
+still_below heads s y d lt number dependencies n room h c named = elim (set_cases heads s y h lt c) [
+  | inl same ↦
+      let k = get_or heads s d in
+      let there : Contains heads k = (s, lt, any_default heads s k d lt) in
+      subst (λ (x : Head). HasRoomFor x.dependencies 1) same (subst (λ v. HasRoomFor v 1) (sym dependencies) (room k there (sym number ∙ (ap (λ (x : Head). x.number) same ∙ named))))
+  | inr other ↦ room h (other.0, other.1, other.3) named
+]
+
+-- with one head more
+pub pushed_below : (heads : List Head) (y : Head) (n : ℕ) → y.number ≢ n → HasRoomBelow heads n → HasRoomBelow (heads ++ y ∷ []) n
+pushed_below heads y n other room h c named = elim (Contains-push_cases heads y h c) [ inl o ↦ room h o named | inr same ↦ absurd (other (ap (λ (x : Head). x.number) same ∙ named)) ]
+
+pub pushed_above : (heads : List Head) (y : Head) (n : ℕ) → ((h : Head) → Contains heads h → h.number ≢ n) → HasRoomFor y.dependants 1 → HasRoomAbove (heads ++ y ∷ []) (n ∷ [])
+pushed_above heads y n none room h c named = elim (Contains-push_cases heads y h c) [
+  | inl o ↦ absurd (none h o (elim (In-from_Contains (n ∷ []) h.number named) [ inl same ↦ sym same | inr i ↦ absurd i ]))
+  | inr same ↦ subst (λ (x : Head). HasRoomFor x.dependants 1) same room
+]

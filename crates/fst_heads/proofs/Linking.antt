@@ -1,0 +1,182 @@
+-- Loops along a row that change the head of each of its numbers.
+use Rattle.std.proofs.Common.{◌≡◌, ◌≢◌, ◌⊎◌, ◌||◌, ℕ, zero, suc, ◌+◌, ◌<◌, ◌≤◌, Bool, true, false, List, [], ◌∷◌, ◌++◌, take, length, map, get_or, set, Contains, if◌then◌else◌, refl, sym, ap, subst, ◌∙◌, inl, inr, arith, get_or-set_same, get_or-set_other}
+use Rattle.std.specs.List.Sorted.{IsStrictlyIncreasing}
+use Rattle.std.proofs.Math.ListN.{length-set}
+use Rattle.std.proofs.lemmas.Bool.{cases_eq, eq-eqb, ne_eqb}
+use Rattle.std.proofs.lemmas.List.{length-map, take_more}
+use Rattle.std.proofs.lemmas.List.Elements.{Contains-get_or}
+use Rattle.std.proofs.lemmas.List.Kept.{AllPairs-from_increasing}
+use Rattle.smallvec.specs.SmallVec.{HasRoomFor}
+use Rattle.fst_types.specs.Tests.{is_among}
+use Rattle.fst_types.proofs.Finite.{In}
+use Rattle.fst_heads.specs.declared.head.Head.{Head}
+use Rattle.fst_heads.specs.Heads.{IsRising}
+use Rattle.fst_heads.specs.Marks.{HasSlot, HasNone}
+use Rattle.fst_heads.specs.Nodes.{Node, node_of, nodes_of, at_number, linked_to, HasRoomAbove}
+use Rattle.fst_heads.proofs.AtNumber.{at_other, at_same}
+use Rattle.fst_heads.proofs.Slots.{any_default, slot_unique}
+
+-- heads of which the nodes were changed but for their numbers have the numbers that they had
+number_as : (f : Node → Node) → ((x : Node) → (f x).patch.number ≡ x.patch.number) → (new old : List Head) → nodes_of new ≡ map f (nodes_of old)
+    → (i : ℕ) (d : Head) → i < length new → (get_or new i d).number ≡ (get_or old i d).number
+number_as f keeps [] old e i d lt = absurd (omega (arith, lt))
+number_as f keeps (h ∷ hs) [] e i d lt = cc
+number_as f keeps (h ∷ hs) (k ∷ ks) e zero d lt =
+    let first : node_of h ≡ f (node_of k) = cc in
+    ap (λ x. x.patch.number) first ∙ keeps (node_of k)
+number_as f keeps (h ∷ hs) (k ∷ ks) e (suc i) d lt =
+    let rest : nodes_of hs ≡ map f (nodes_of ks) = cc in
+    number_as f keeps hs ks rest i d (omega (arith, lt))
+
+-- and rise as they did
+pub rising_as : (f : Node → Node) → ((x : Node) → (f x).patch.number ≡ x.patch.number) → (new old : List Head) → nodes_of new ≡ map f (nodes_of old) → IsRising old → IsRising new
+rising_as f keeps new old e rising i j d lt inside =
+    let a = number_as f keeps new old e i d (omega (arith, lt, inside)) in
+    let b = number_as f keeps new old e j d inside in
+    let long : length new ≡ length old = sym (length-map new node_of) ∙ (ap length e ∙ (length-map (nodes_of old) f ∙ length-map old node_of)) in
+    let r = rising i j d lt (omega (arith, inside, long)) in
+    omega (arith, a, b, r)
+
+map_self : (xs : List Node) → map (λ x. x) xs ≡ xs
+map_self [] = refl
+map_self (x ∷ xs) = ap (λ ys. x ∷ ys) (map_self xs)
+
+pub rising_same : (new old : List Head) → nodes_of new ≡ nodes_of old → IsRising old → IsRising new
+rising_same new old e rising = rising_as (λ x. x) (λ x. refl) new old (e ∙ sym (map_self (nodes_of old))) rising
+
+linked_either : (b : Bool) (n : ℕ) (x : Node) → (if b then record x { dependants = x.dependants ++ n ∷ [] } else x).patch ≡ x.patch
+linked_either true n x = refl
+linked_either false n x = refl
+
+-- a link leaves the patch
+pub linked_patch : (row : List ℕ) (n : ℕ) (x : Node) → (linked_to row n x).patch ≡ x.patch
+linked_patch row n x = linked_either (is_among row x.patch.number) n x
+
+pub rising_linked : (new old : List Head) (row : List ℕ) (n : ℕ) → nodes_of new ≡ map (linked_to row n) (nodes_of old) → IsRising old → IsRising new
+rising_linked new old row n e rising = rising_as (linked_to row n) (λ x. ap (λ p. p.number) (linked_patch row n x)) new old e rising
+
+-- where the new head has the node of the old one all nodes stay
+pub nodes_set : (heads : List Head) (s : ℕ) (y d : Head) → s < length heads → node_of y ≡ node_of (get_or heads s d) → nodes_of (set heads s y) ≡ nodes_of heads
+nodes_set [] s y d lt e = absurd (omega (arith, lt))
+nodes_set (h ∷ hs) zero y d lt e = ap (λ x. x ∷ nodes_of hs) e
+nodes_set (h ∷ hs) (suc s) y d lt e = ap (λ xs. node_of h ∷ xs) (nodes_set hs s y d (omega (arith, lt)) e)
+
+-- what is in the list after one head was set is that head, or stands in another slot
+pub set_cases : (heads : List Head) (s : ℕ) (y h : Head) → s < length heads → Contains (set heads s y) h → (y ≡ h) ⊎ ((j : ℕ) × (j < length heads) × (j ≢ s) × (get_or heads j h ≡ h))
+set_cases heads s y h lt c =
+    elim (cases_eq c.0 s) [
+      | inl same ↦ inl (sym (get_or-set_same heads s y h lt) ∙ subst (λ k. get_or (set heads s y) k h ≡ h) same c.2)
+      | inr other ↦ inr (c.0, omega (arith, c.1, length-set heads s y), other, sym (get_or-set_other heads s c.0 y h other) ∙ c.2)
+    ]
+
+-- the heads of the first i numbers of the row have room for one more dependant
+abbrev pub HasRoomUpTo : List Head → List ℕ → ℕ → Type 0
+HasRoomUpTo heads row i = (h : Head) (k : ℕ) → Contains heads h → k < i → k < length row → h.number ≡ get_or row k 0 → HasRoomFor h.dependants 1
+
+-- the heads of the others have
+abbrev pub HasRoomFrom : List Head → List ℕ → ℕ → Type 0
+HasRoomFrom heads row i = (h : Head) (k : ℕ) → Contains heads h → i ≤ k → k < length row → h.number ≡ get_or row k 0 → HasRoomFor h.dependants 1
+
+pub room_all : (heads : List Head) (row : List ℕ) (i : ℕ) → length row ≤ i → HasRoomUpTo heads row i → HasRoomAbove heads row
+room_all heads row i past room h c m = room h m.0 c (omega (arith, m.1, past)) m.1 (sym m.2 ∙ any_default row m.0 h.number 0 m.1)
+
+pub room_first : (heads : List Head) (row : List ℕ) → HasRoomAbove heads row → HasRoomFrom heads row 0
+room_first heads row room h k c le inside e = room h c (k, inside, any_default row k h.number 0 inside ∙ sym e)
+
+-- the head at the slot of the next number
+pub room_here : (heads : List Head) (row : List ℕ) (i s : ℕ) (d : Head) → i < length row → HasSlot heads (get_or row i 0) s → HasRoomFrom heads row i → HasRoomFor (get_or heads s d).dependants 1
+room_here heads row i s d lt slot room = room (get_or heads s d) i (Contains-get_or heads s d slot.0) (omega arith) lt (slot.1 d)
+
+pub room_more : (heads : List Head) (row : List ℕ) (i s : ℕ) (y : Head) → IsRising heads → HasSlot heads (get_or row i 0) s → HasRoomFor y.dependants 1 → HasRoomUpTo heads row i → HasRoomUpTo (set heads s y) row (i + 1)
+room_more heads row i s y rising slot here room h k c lt inside e =
+    elim (set_cases heads s y h slot.0 c) [
+      | inl same ↦ subst (λ (x : Head). HasRoomFor x.dependants 1) same here
+      | inr o ↦
+          elim (cases_eq k i) [
+            | inl last ↦
+                let number = e ∙ ap (λ m. get_or row m 0) last in
+                absurd (o.2 (slot_unique heads (get_or row i 0) o.0 s rising (o.1, λ d. ap (λ x. x.number) (any_default heads o.0 d h o.1 ∙ o.3) ∙ number) slot))
+            | inr earlier ↦ room h k (o.0, o.1, o.3) (omega (arith, lt, earlier)) inside e
+          ]
+    ]
+
+pub room_skip : (heads : List Head) (row : List ℕ) (i : ℕ) → HasNone heads (get_or row i 0) → HasRoomUpTo heads row i → HasRoomUpTo heads row (i + 1)
+room_skip heads row i none room h k c lt inside e =
+    elim (cases_eq k i) [
+      | inl last ↦ absurd (none c.0 h c.1 (ap (λ x. x.number) c.2 ∙ (e ∙ ap (λ m. get_or row m 0) last)))
+      | inr earlier ↦ room h k c (omega (arith, lt, earlier)) inside e
+    ]
+
+-- the head that was linked has none of the numbers that are left, since they rise
+pub room_left : (heads : List Head) (row : List ℕ) (i s : ℕ) (y : Head) → IsStrictlyIncreasing row → s < length heads → y.number ≡ get_or row i 0 → HasRoomFrom heads row i → HasRoomFrom (set heads s y) row (i + 1)
+room_left heads row i s y once lt number room h k c le inside e =
+    elim (set_cases heads s y h lt c) [
+      | inl same ↦
+          let r = AllPairs-from_increasing row once i k 0 (omega (arith, le)) inside in
+          let m : y.number ≡ h.number = ap (λ x. x.number) same in
+          absurd (omega (arith, r, m, number, e))
+      | inr o ↦ room h k (o.0, o.1, o.3) (omega (arith, le)) inside e
+    ]
+
+pub room_fewer : (heads : List Head) (row : List ℕ) (i : ℕ) → HasRoomFrom heads row i → HasRoomFrom heads row (i + 1)
+room_fewer heads row i room h k c le inside e = room h k c (omega (arith, le)) inside e
+
+or_true : (b : Bool) → (b || true) ≡ true
+or_true true = refl
+or_true false = refl
+
+pub among_push_other : (row : List ℕ) (r m : ℕ) → r ≢ m → is_among (row ++ r ∷ []) m ≡ is_among row m
+among_push_other [] r m ne = rw (ne_eqb r m ne) refl
+among_push_other (y ∷ ys) r m ne = rw (among_push_other ys r m ne) refl
+
+pub among_push_same : (row : List ℕ) (r : ℕ) → is_among (row ++ r ∷ []) r ≡ true
+among_push_same [] r = rw (eq-eqb r r refl) refl
+among_push_same (y ∷ ys) r = rw (among_push_same ys r) (or_true _)
+
+pub none_among : (xs : List ℕ) (m : ℕ) → ((x : ℕ) → In xs x → x ≢ m) → is_among xs m ≡ false
+none_among [] m none = refl
+none_among (x ∷ xs) m none = rw (ne_eqb x m (none x (inl refl)), none_among xs m (λ y h. none y (inr h))) refl
+
+below_at : (row : List ℕ) → ((i j d : ℕ) → i < j → j < length row → get_or row i d < get_or row j d) → (i : ℕ) → i < length row → (x : ℕ) → In (take i row) x → x < get_or row i 0
+below_at [] rising i lt x h = absurd (omega (arith, lt))
+below_at (y ∷ ys) rising zero lt x h = absurd h
+below_at (y ∷ ys) rising (suc i) lt x (inl e) = let r = rising 0 (suc i) 0 (omega arith) lt in omega (arith, r, e)
+below_at (y ∷ ys) rising (suc i) lt x (inr h) = below_at ys (λ a b d l j. rising (suc a) (suc b) d (omega (arith, l)) (omega (arith, j))) i (omega (arith, lt)) x h
+
+abbrev pub adds : ℕ → Node → Node
+adds n x = record x { dependants = x.dependants ++ n ∷ [] }
+
+-- the last number of the row is linked after the others
+link_push : (row : List ℕ) (r n : ℕ) (x : Node) → is_among row r ≡ false → at_number r (adds n) (linked_to row n x) ≡ linked_to (row ++ r ∷ []) n x
+link_push row r n x none =
+    elim (cases_eq x.patch.number r) [
+      | inl same ↦
+          let here : is_among row x.patch.number ≡ false = ap (is_among row) same ∙ none in
+          let there : is_among (row ++ r ∷ []) x.patch.number ≡ true = ap (is_among (row ++ r ∷ [])) same ∙ among_push_same row r in
+          let stays : linked_to row n x ≡ x = rw here refl in
+          let gains : linked_to (row ++ r ∷ []) n x ≡ adds n x = rw there refl in
+          rw stays (at_same r (adds n) x same ∙ sym gains)
+      | inr other ↦
+          let number = ap (λ p. p.number) (linked_patch row n x) in
+          let alike : is_among (row ++ r ∷ []) x.patch.number ≡ is_among row x.patch.number = among_push_other row r x.patch.number (λ e. other (sym e)) in
+          let same : linked_to (row ++ r ∷ []) n x ≡ linked_to row n x = rw alike refl in
+          at_other r (adds n) (linked_to row n x) (λ e. other (sym number ∙ e)) ∙ sym same
+    ]
+
+-- one change after another
+pub map_twice : (f g h : Node → Node) → ((x : Node) → f (g x) ≡ h x) → (xs : List Node) → map f (map g xs) ≡ map h xs
+map_twice f g h e [] = refl
+map_twice f g h e (x ∷ xs) = let first = e x in let rest = map_twice f g h e xs in cc
+
+pub link_more : (nodes : List Node) (row : List ℕ) (i n : ℕ) → IsStrictlyIncreasing row → i < length row
+    → map (at_number (get_or row i 0) (adds n)) (map (linked_to (take i row) n) nodes) ≡ map (linked_to (take (i + 1) row) n) nodes
+link_more nodes row i n once lt =
+    let pairs = AllPairs-from_increasing row once in
+    let none = none_among (take i row) (get_or row i 0) (λ x h same. let b = below_at row (λ a b d l j. pairs a b d l j) i lt x h in omega (arith, b, same)) in
+    rw (take_more row i 0 lt)
+    (map_twice (at_number (get_or row i 0) (adds n)) (linked_to (take i row) n) (linked_to (take i row ++ get_or row i 0 ∷ []) n) (λ x. link_push (take i row) (get_or row i 0) n x none) nodes)
+
+-- of no row none is linked
+pub link_none : (nodes : List Node) (n : ℕ) → map (linked_to [] n) nodes ≡ nodes
+link_none [] n = refl
+link_none (x ∷ xs) n = ap (λ ys. x ∷ ys) (link_none xs n)

@@ -1,0 +1,56 @@
+-- What a new patch leaves of what the fields keep.
+use Rattle.std.proofs.Common.{◌≡◌, ℕ, ◌+◌, ◌<◌, ◌≤◌, Bool, false, List, [], ◌∷◌, ◌++◌, length, refl, sym, ap, subst, ◌∙◌, inl, inr, arith, lit≤}
+use Rattle.std.proofs.lemmas.List.{length_push}
+use Rattle.std.proofs.lemmas.List.Elements.{Contains-push_cases}
+use Rattle.fst_types.specs.Limits.{max_heads, max_number}
+use Rattle.fst_types.specs.Patches.{Patch, IsOn, OpenGate}
+use Rattle.fst_types.specs.Facts.{HeadsAreLawful}
+use Rattle.fst_types.specs.Making.{fresh}
+use Rattle.fst_types.specs.State.{State}
+use Rattle.fst_types.specs.Step.{gate}
+use Rattle.fst_types.specs.Events.{MakeGate}
+use Rattle.fst_types.proofs.Heads.{heads_row}
+use Rattle.fst_types.proofs.Opened.{opening_is_lawful}
+use Rattle.fst_heads.specs.Keeps.{Keeps, IsInside}
+
+-- a state with these heads and nothing else
+abbrev pub around : List Patch → ℕ → State
+around heads numbers = record { size = 0; resident = 0; numbers = numbers; tickets = 0; made = 0; heads = heads; contents = []; blocks = []; groups = [] }
+
+module _ (heads : List Patch) (numbers blocks : ℕ) (marks : List Bool) (K : Keeps heads numbers blocks marks) where
+  pub keeps_added : (new : List Patch) → HeadsAreLawful new (numbers + 1) → length new ≡ length heads + 1 → IsInside new blocks → length heads < max_heads → Keeps new (numbers + 1) blocks (marks ++ false ∷ [])
+  keeps_added new lawful long inside few = record {
+    lawful = lawful;
+    few = omega (arith, long, few);
+    inside = inside;
+    marked = length_push marks false ∙ (ap (λ k. k + 1) K.marked ∙ sym long);
+  }
+
+pub gate_lawful : (heads : List Patch) (numbers : ℕ) → HeadsAreLawful heads numbers → HeadsAreLawful (heads ++ fresh (numbers + 1) OpenGate [] ∷ []) (numbers + 1)
+gate_lawful heads numbers H =
+    let old = around heads numbers in
+    let new : State = record old { numbers = numbers + 1; made = 1; heads = heads ++ fresh (numbers + 1) OpenGate [] ∷ [] } in
+    heads_row old new (MakeGate 0) _ (gate (record { next = refl; state = refl })) H
+
+abbrev pub new_gate : ℕ → Patch
+new_gate numbers = fresh (numbers + 1) OpenGate []
+
+-- of no patch all is kept
+pub keeps_none : (numbers blocks : ℕ) → numbers ≤ max_number → Keeps [] numbers blocks []
+keeps_none numbers blocks few = record {
+  lawful = (opening_is_lawful 0 0 numbers 0 [] (λ k d lt. absurd (omega (arith, lt))) few (lit≤ tt)).heads;
+  few = lit≤ tt;
+  inside = λ p b c. absurd (omega (arith, c.1));
+  marked = refl;
+}
+
+module _ (heads : List Patch) (numbers blocks : ℕ) (marks : List Bool) (K : Keeps heads numbers blocks marks) where
+  -- a new gate keeps all
+  pub keeps_gate : (length heads < max_heads) → Keeps (heads ++ fresh (numbers + 1) OpenGate [] ∷ []) (numbers + 1) blocks (marks ++ false ∷ [])
+  keeps_gate few =
+      keeps_added heads numbers blocks marks K (heads ++ new_gate numbers ∷ []) (gate_lawful heads numbers K.lawful) (length_push heads (new_gate numbers))
+      (λ x b h on. elim (Contains-push_cases heads (new_gate numbers) x h) [ inl o ↦ K.inside x b o on | inr e ↦ absurd (none_on b (subst (λ y. IsOn y b) (sym e) on)) ])
+      few
+    where
+      none_on : (b : ℕ) → IsOn (new_gate numbers) b → ⊥
+      none_on b on = cc

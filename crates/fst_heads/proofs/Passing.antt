@@ -1,0 +1,106 @@
+-- The walk along the list of a block for those of its patches that pass a test.
+use Rattle.std.proofs.Common.{◌≡◌, ◌==◌, ◌&&◌, ◌||◌, ℕ, ◌<◌, ◌+◌, Bool, true, false, not, List, [], ◌∷◌, map, filter, drop, length, get_or, refl, sym, ap, ◌∙◌, inl, inr}
+use Rattle.std.specs.List.{list_any}
+use Rattle.std.proofs.lemmas.Bool.{cases_Bool, false≢true}
+use Rattle.std.proofs.lemmas.List.{drop_more}
+use Rattle.fst_types.proofs.Finite.{In, Contains-from_In}
+use Rattle.fst_types.specs.declared.place.Place.{Place}
+use Rattle.fst_types.specs.declared.place.Place.TheVariants as place
+use Rattle.fst_types.specs.Tests.{is_at, is_on, is_change_at}
+use Rattle.fst_heads.specs.declared.pending.Pending.TheVariants as pending
+use Rattle.fst_heads.specs.Ascending.{is_free_on, is_bound_on}
+use Rattle.fst_heads.specs.declared.head.Head.{Head}
+use Rattle.fst_heads.specs.declared.lists.Listed.{Listed}
+use Rattle.fst_heads.specs.Heads.{IsRising, kind_of, patch_of, patches_of}
+use Rattle.fst_heads.specs.Lists.{entries_of, entries_on, is_live_on}
+use Rattle.fst_heads.specs.Marks.{HasSlot, HasNone}
+use Rattle.fst_heads.specs.Nodes.{Node, node_of, nodes_of}
+use Rattle.fst_heads.specs.Pendings.{is_pending}
+use Rattle.fst_heads.specs.Standings.{is_ready_on}
+use Rattle.fst_heads.specs.Tests.{is_hard_kind}
+use Rattle.fst_heads.proofs.Forgetting.{and_parts}
+use Rattle.fst_heads.proofs.Listing.{any_none, any_slot, numbers_on}
+use Rattle.fst_heads.proofs.Slots.{any_default}
+
+-- the node with number n passes
+abbrev pub passes_at : (Node → Bool) → List Node → ℕ → Bool
+passes_at t nodes n = list_any (λ x. (x.patch.number == n) && t x) nodes
+
+-- the numbers of the list whose nodes pass
+abbrev pub passing : (Node → Bool) → List Head → List Listed → List ℕ
+passing t heads list = filter (passes_at t (nodes_of heads)) (map (λ e. e.number) (entries_of list))
+
+pub memory_live : (p : Place) (t : Bool) → (is_at p place.Memory && t) ≡ true → (not (is_at p place.Disk) && t) ≡ true
+memory_live place.Memory t e = e
+memory_live place.Flight t e = absurd (false≢true e)
+memory_live place.Disk t e = absurd (false≢true e)
+
+-- a change of the block in memory is in its list
+pub listed_memory : (b : ℕ) (x : Node) → is_change_at place.Memory b x.patch ≡ true → is_live_on b x.patch ≡ true
+listed_memory b x e = memory_live x.patch.place (is_on b x.patch.kind) e
+
+module _ (b : ℕ) (t : Node → Bool) (inside : (x : Node) → t x ≡ true → is_live_on b x.patch ≡ true) where
+  passing_each : (f : ℕ → Bool) (heads : List Head) → ((h : Head) → In heads h → f h.number ≡ t (node_of h)) → filter f (numbers_on b heads) ≡ map (λ x. x.patch.number) (filter t (nodes_of heads))
+  passing_each f [] says = refl
+  passing_each f (h ∷ hs) says =
+      let rest = passing_each f hs (λ k i. says k (inr i)) in
+      let here = says h (inl refl) in
+      elim (cases_Bool (t (node_of h))) [
+        | inl yes_h ↦ rw (inside (node_of h) yes_h, here, yes_h) (ap (λ ns. h.number ∷ ns) rest)
+        | inr no_h ↦ elim (cases_Bool (is_live_on b (patch_of h))) [ inl live ↦ rw (live, here, no_h) rest | inr off ↦ rw (off, no_h) rest ]
+      ]
+
+  -- the whole list has the numbers of all that pass, in order
+  pub passing_start : (heads : List Head) (list : List Listed) → IsRising heads → entries_of list ≡ entries_on b (patches_of heads) → passing t heads list ≡ map (λ x. x.patch.number) (filter t (nodes_of heads))
+  passing_start heads list rising listed =
+      ap (λ es. filter (passes_at t (nodes_of heads)) (map (λ e. e.number) es)) listed
+      ∙ passing_each (passes_at t (nodes_of heads)) heads (λ h i.
+      let c = Contains-from_In heads h i in
+      any_slot heads h.number c.0 t h rising (c.1, λ d. ap (λ k. k.number) (any_default heads c.0 d h c.1 ∙ c.2)) ∙ ap (λ k. t (node_of k)) c.2)
+
+module _ (t : Node → Bool) (heads : List Head) (list : List Listed) (i : ℕ) (l : Listed) (lt : i < length list) where
+  abbrev n : ℕ
+  n = (get_or list i l).number
+
+  next : map (λ e. e.number) (entries_of (drop i list)) ≡ n ∷ map (λ e. e.number) (entries_of (drop (i + 1) list))
+  next = ap (λ ls. map (λ e. e.number) (entries_of ls)) (drop_more list i l lt)
+
+  -- the next number passes, or not
+  pub passing_yes : passes_at t (nodes_of heads) n ≡ true → passing t heads (drop i list) ≡ n ∷ passing t heads (drop (i + 1) list)
+  passing_yes e = rw (next, e) refl
+
+  pub passing_no : passes_at t (nodes_of heads) n ≡ false → passing t heads (drop i list) ≡ passing t heads (drop (i + 1) list)
+  passing_no e = rw (next, e) refl
+
+  pub passing_absent : HasNone heads n → passing t heads (drop i list) ≡ passing t heads (drop (i + 1) list)
+  passing_absent none = passing_no (any_none heads n t none)
+
+  pub passing_found : (s : ℕ) (d : Head) → IsRising heads → HasSlot heads n s → t (node_of (get_or heads s d)) ≡ true → passing t heads (drop i list) ≡ n ∷ passing t heads (drop (i + 1) list)
+  passing_found s d rising slot e = passing_yes (any_slot heads n s t d rising slot ∙ e)
+
+  pub passing_skip : (s : ℕ) (d : Head) → IsRising heads → HasSlot heads n s → t (node_of (get_or heads s d)) ≡ false → passing t heads (drop i list) ≡ passing t heads (drop (i + 1) list)
+  passing_skip s d rising slot e = passing_no (any_slot heads n s t d rising slot ∙ e)
+
+pub free_listed : (behind : ℕ → Bool) (b : ℕ) (x : Node) → is_free_on behind b x ≡ true → is_live_on b x.patch ≡ true
+free_listed behind b x e =
+    let ready = (and_parts (is_change_at place.Memory b x.patch && is_pending x.pending (pending.Block b)) _ e).0 in
+    listed_memory b x (and_parts (is_change_at place.Memory b x.patch) _ ready).0
+
+pub bound_listed : (behind : ℕ → Bool) (b : ℕ) (x : Node) → is_bound_on behind b x ≡ true → is_live_on b x.patch ≡ true
+bound_listed behind b x e =
+    let hard = (and_parts (is_change_at place.Memory b x.patch && is_hard_kind x.patch.kind) _ e).0 in
+    listed_memory b x (and_parts (is_change_at place.Memory b x.patch) (is_hard_kind x.patch.kind) hard).0
+
+-- the test of the code says whether the node of the head passes
+module _ (behind : ℕ → Bool) (b : ℕ) (h d : Head) (n : ℕ) (back r : Bool) (at : h ≡ d) (number : d.number ≡ n) (told : back ≡ behind n) where
+  pub free_at : r ≡ (is_ready_on b (node_of h) && not back) → is_free_on behind b (node_of d) ≡ r
+  free_at e = sym (e ∙ (ap (λ k. is_ready_on b (node_of h) && not k) (told ∙ ap behind (sym number)) ∙ ap (λ k. is_ready_on b (node_of k) && not (behind d.number)) at))
+
+  abbrev hard : Head → Bool
+  hard k = is_change_at place.Memory b (patch_of k) && is_hard_kind (kind_of k.kind)
+
+  abbrev more : Head → Bool
+  more k = not (is_pending k.pending (pending.Block b))
+
+  pub bound_at : r ≡ (hard h && (more h || back)) → is_bound_on behind b (node_of d) ≡ r
+  bound_at e = sym (e ∙ (ap (λ k. hard h && (more h || k)) (told ∙ ap behind (sym number)) ∙ ap (λ k. hard k && (more k || behind d.number)) at))

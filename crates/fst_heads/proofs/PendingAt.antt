@@ -1,0 +1,44 @@
+-- What is pending of the head in a slot, and the node that it stands for.
+use Rattle.std.proofs.Common.{◌≡◌, ◌<◌, ◌+◌, ◌++◌, ◌∷◌, [], ℕ, zero, suc, List, length, get_or, take, Contains, refl, sym, ap, ◌∙◌, arith}
+use Rattle.std.proofs.lemmas.Bool.{eq-eqb, ne_eqb}
+use Rattle.std.proofs.lemmas.List.{take_more}
+use Rattle.smallvec.specs.SmallVec.{SmallVec}
+use Rattle.fst_types.proofs.Finite.{Contains-from_In, In-map}
+use Rattle.fst_heads.specs.declared.head.Head.{Head}
+use Rattle.fst_heads.specs.declared.pending.Pending.{Pending}
+use Rattle.fst_heads.specs.declared.pending.Pending.TheVariants as pending
+use Rattle.fst_heads.specs.declared.pending.Sums.{Sums}
+use Rattle.fst_heads.specs.Heads.{IsRising}
+use Rattle.fst_heads.specs.Marks.{HasSlot, HasNone}
+use Rattle.fst_heads.specs.Nodes.{node_of, nodes_of, pending_in, gains_names}
+use Rattle.fst_heads.specs.Pendings.{plus, sums_of, together}
+use Rattle.fst_heads.proofs.Slots.{slot_head}
+use Rattle.fst_heads.proofs.Sums.{sums_push}
+
+-- where no head has the number nothing is pending
+pub pending_none : (heads : List Head) (n : ℕ) → HasNone heads n → pending_in (nodes_of heads) n ≡ pending.Nothing
+pending_none [] n none = refl
+pending_none (h ∷ hs) n none = rw (ne_eqb h.number n (none 0 h (omega arith))) (pending_none hs n (λ k d lt. none (suc k) d (omega (arith, lt))))
+
+pub pending_slot : (heads : List Head) (n s : ℕ) (d : Head) → IsRising heads → HasSlot heads n s → pending_in (nodes_of heads) n ≡ (get_or heads s d).pending
+pending_slot [] n s d rising slot = absurd (omega (arith, slot.0))
+pending_slot (h ∷ hs) n zero d rising slot = rw (eq-eqb h.number n (slot.1 d)) refl
+pending_slot (h ∷ hs) n (suc s) d rising slot =
+    let inside = slot.0 in
+    let below = rising 0 (suc s) d (omega arith) inside in
+    let there = slot.1 d in
+    rw (ne_eqb h.number n (λ same. omega (arith, same, below, there)))
+    (pending_slot hs n s d (λ i j c lt b. rising (suc i) (suc j) c (omega (arith, lt)) (omega (arith, b))) (omega (arith, inside), slot.1))
+
+-- the node of the head in a slot
+pub node_in : (heads : List Head) (s : ℕ) (h : Head) → s < length heads → h ≡ get_or heads s h → Contains (nodes_of heads) (node_of h)
+node_in heads s h lt e = Contains-from_In (nodes_of heads) _ (In-map node_of heads (get_or heads s h) _ (slot_head heads s h lt) (ap node_of (sym e)))
+
+-- a head with the names besides, and what they add up to
+pub gained_node : (h : Head) (more : SmallVec ℕ) (names : List ℕ) (sums both : Sums) → more.items ≡ h.dependencies.items ++ names → both ≡ together h.sums sums
+    → node_of (record h { dependencies = more; sums = both }) ≡ gains_names names sums (node_of h)
+gained_node h more names sums both e f = rw (e, f) refl
+
+-- the sums of a row as far as it is read
+pub sums_more : (told : ℕ → Pending) (row : List ℕ) (i d : ℕ) → i < length row → sums_of told (take (i + 1) row) ≡ plus (told (get_or row i d)) (sums_of told (take i row))
+sums_more told row i d lt = ap (sums_of told) (take_more row i d lt) ∙ sums_push told (take i row) (get_or row i d)

@@ -1,0 +1,149 @@
+-- What stands beside the patches where some are launched or forgotten.
+use Rattle.std.proofs.Common.{◌≡◌, ◌≢◌, ℕ, Bool, true, false, cond, List, [], ◌∷◌, map, filter, AllPairs, Contains, refl, sym, ap, subst, ◌∙◌, inl, inr}
+use Rattle.std.proofs.lemmas.Bool.{cases_Bool}
+use Rattle.fst_types.specs.Patches.{Patch}
+use Rattle.fst_types.specs.Dependencies.{IsLiveNumber}
+use Rattle.fst_types.specs.Facts.{HasOnePlaceEach}
+use Rattle.fst_types.specs.Tests.{is_live, is_on, is_among}
+use Rattle.fst_types.specs.Writing.{launched}
+use Rattle.fst_types.proofs.Crash.{same_number}
+use Rattle.fst_types.proofs.Finite.{In, In-from_Contains, Contains-from_In}
+use Rattle.fst_types.proofs.GateGains.{In-unmap}
+use Rattle.fst_types.proofs.Issuing.{among_in}
+use Rattle.fst_heads.specs.Spreading.{launches}
+use Rattle.fst_heads.specs.Lists.{entry, entries_on, is_live_on}
+use Rattle.fst_heads.specs.Nodes.{Node, patches_in, times, AreLinked, AreGiven, AreDistinct}
+use Rattle.fst_heads.specs.Nodes.{is_live_in}
+use Rattle.fst_heads.proofs.Forgetting.{live_place_of}
+
+-- y has the number, the direct dependencies and the dependants of x
+pub record SameLinks (x y : Node) : Type 0 where
+  pub number : y.patch.number ≡ x.patch.number
+  pub dependencies : y.patch.dependencies ≡ x.patch.dependencies
+  pub dependants : y.dependants ≡ x.dependants
+
+-- each new node has the links of an old one
+abbrev pub KeepLinks : List Node → List Node → Type 0
+KeepLinks old new = (y : Node) → Contains new y → (x : Node) × Contains old x × SameLinks x y
+
+pub linked_kept : (old new : List Node) → KeepLinks old new → AreLinked old → AreLinked new
+linked_kept old new kept L p q cp cq =
+    let a = kept p cp in
+    let b = kept q cq in
+    (ap (λ row. times row p.patch.number) b.2.dependants ∙ ap (times b.0.dependants) a.2.number)
+    ∙ (L a.0 b.0 a.1 b.1 ∙ sym (ap (λ row. times row q.patch.number) a.2.dependencies ∙ ap (times a.0.patch.dependencies) b.2.number))
+
+pub given_kept : (old new : List Node) (numbers : ℕ) → KeepLinks old new → AreGiven old numbers → AreGiven new numbers
+given_kept old new numbers kept G y n c d = let k = kept y c in G k.0 n k.1 (subst (λ ns. Contains ns n) k.2.dependants d)
+
+pub distinct_kept : (old new : List Node) → KeepLinks old new → AreDistinct old → AreDistinct new
+distinct_kept old new kept D y c =
+    let k = kept y c in
+    let d = D k.0 k.1 in
+    (subst (λ ns. AllPairs (λ m n. m ≢ n) ns) (sym k.2.dependencies) d.0, subst (λ ns. AllPairs (λ m n. m ≢ n) ns) (sym k.2.dependants) d.1)
+
+-- a node of a mapped list, and what it was
+pub unmapped : {X Y : Type 0} (f : X → Y) (xs : List X) (y : Y) → Contains (map f xs) y → (x : X) × Contains xs x × (f x ≡ y)
+unmapped f xs y c = let r = In-unmap f xs y (In-from_Contains (map f xs) y c) in (r.0, Contains-from_In xs r.0 r.1, r.2)
+
+pub links_mapped : (f : Node → Node) (nodes : List Node) → ((x : Node) → SameLinks x (f x)) → KeepLinks nodes (map f nodes)
+links_mapped f nodes same y c = let r = unmapped f nodes y c in (r.0, r.1, subst (SameLinks r.0) r.2 (same r.0))
+
+-- q is live exactly where p is, and has its number and its kind
+pub record StandsFor (p q : Patch) : Type 0 where
+  pub live : is_live q ≡ is_live p
+  pub number : q.number ≡ p.number
+  pub kind : q.kind ≡ p.kind
+
+in_patches : (nodes : List Node) (x : Node) → In nodes x → In (patches_in nodes) x.patch
+in_patches [] x h = h
+in_patches (y ∷ ys) x (inl e) = inl (ap (λ z. z.patch) e)
+in_patches (y ∷ ys) x (inr h) = inr (in_patches ys x h)
+
+pub patch_in : (nodes : List Node) (x : Node) → Contains nodes x → Contains (patches_in nodes) x.patch
+patch_in nodes x c = Contains-from_In (patches_in nodes) x.patch (in_patches nodes x (In-from_Contains nodes x c))
+
+-- the node of a patch
+pub node_of_patch : (nodes : List Node) (p : Patch) → Contains (patches_in nodes) p → (x : Node) × Contains nodes x × (x.patch ≡ p)
+node_of_patch nodes p c = let r = In-unmap (λ (x : Node). x.patch) nodes p (In-from_Contains (patches_in nodes) p c) in (r.0, Contains-from_In nodes r.0 r.1, r.2)
+
+module _ (f : Patch → Patch) where
+  pub live_in_mapped : (ps : List Patch) (n : ℕ) → ((p : Patch) → In ps p → StandsFor p (f p)) → is_live_in (map f ps) n ≡ is_live_in ps n
+  live_in_mapped [] n same = refl
+  live_in_mapped (p ∷ ps) n same =
+      let s = same p (inl refl) in
+      let r = live_in_mapped ps n (λ q h. same q (inr h)) in
+      rw (s.live, s.number, r) refl
+
+  pub entries_mapped : (b : ℕ) (ps : List Patch) → ((p : Patch) → In ps p → StandsFor p (f p)) → entries_on b (map f ps) ≡ entries_on b ps
+  entries_mapped b [] same = refl
+  entries_mapped b (p ∷ ps) same =
+      let s = same p (inl refl) in
+      let r = entries_mapped b ps (λ q h. same q (inr h)) in
+      let first : entry (f p) ≡ entry p = rw (s.number, s.kind) refl in
+      elim (cases_Bool (is_live_on b p)) [
+        | inl e ↦ let g : is_live_on b (f p) ≡ true = rw (s.live, s.kind) e in rw (e, g, r, first) refl
+        | inr e ↦ let g : is_live_on b (f p) ≡ false = rw (s.live, s.kind) e in rw (e, g, r) refl
+      ]
+
+pub number_if : (t : Bool) (p q : Patch) → q.number ≡ p.number → (cond t q p).number ≡ p.number
+number_if true p q e = e
+number_if false p q e = refl
+
+kind_if : (t : Bool) (p q : Patch) → q.kind ≡ p.kind → (cond t q p).kind ≡ p.kind
+kind_if true p q e = e
+kind_if false p q e = refl
+
+pub dependencies_if : (t : Bool) (p q : Patch) → q.dependencies ≡ p.dependencies → (cond t q p).dependencies ≡ p.dependencies
+dependencies_if true p q e = e
+dependencies_if false p q e = refl
+
+live_if : (t : Bool) (p q : Patch) → (t ≡ true → is_live q ≡ is_live p) → is_live (cond t q p) ≡ is_live p
+live_if true p q e = e refl
+live_if false p q e = refl
+
+pub patches_launched : (nodes : List Node) (chosen : List ℕ) → patches_in (map (launches chosen) nodes) ≡ map (launched chosen) (patches_in nodes)
+patches_launched [] chosen = refl
+patches_launched (x ∷ xs) chosen = let r = patches_launched xs chosen in rw r refl
+
+module _ (nodes : List Node) (numbers : ℕ) (chosen : List ℕ) (H : HasOnePlaceEach (patches_in nodes) numbers)
+    (live : (n : ℕ) → Contains chosen n → IsLiveNumber (patches_in nodes) n) where
+  -- what is launched was live, since its number is that of a live patch
+  pub launched_stands : (p : Patch) → In (patches_in nodes) p → StandsFor p (launched chosen p)
+  launched_stands p h = record {
+    live = live_if (is_among chosen p.number) p _ (λ e.
+        let l = live p.number (Contains-from_In chosen p.number (among_in chosen p.number e)) in
+        let same = same_number (patches_in nodes) l.patch p H.rising l.head (Contains-from_In (patches_in nodes) p h) l.numbered in
+        sym (live_place_of p.place (λ d. l.live (ap (λ q. q.place) same ∙ d))));
+    number = number_if (is_among chosen p.number) p _ refl;
+    kind = kind_if (is_among chosen p.number) p _ refl;
+  }
+
+pub launched_links : (chosen : List ℕ) (x : Node) → SameLinks x (launches chosen x)
+launched_links chosen x = record {
+  number = number_if (is_among chosen x.patch.number) x.patch _ refl;
+  dependencies = dependencies_if (is_among chosen x.patch.number) x.patch _ refl;
+  dependants = refl;
+}
+
+pub patches_dropped : (nodes : List Node) → patches_in (filter (λ x. is_live x.patch) nodes) ≡ filter is_live (patches_in nodes)
+patches_dropped [] = refl
+patches_dropped (x ∷ xs) = elim (cases_Bool (is_live x.patch)) [
+  | inl e ↦ let r = patches_dropped xs in rw (e, r) refl
+  | inr e ↦ let r = patches_dropped xs in rw (e, r) refl
+]
+
+-- what is on disk is not the one live patch of a number
+pub live_in_dropped : (ps : List Patch) (n : ℕ) → is_live_in (filter is_live ps) n ≡ is_live_in ps n
+live_in_dropped [] n = refl
+live_in_dropped (p ∷ ps) n = elim (cases_Bool (is_live p)) [
+  | inl e ↦ let r = live_in_dropped ps n in rw (e, e, r) refl
+  | inr e ↦ let r = live_in_dropped ps n in rw (e, r) refl
+]
+
+pub entries_dropped : (b : ℕ) (ps : List Patch) → entries_on b (filter is_live ps) ≡ entries_on b ps
+entries_dropped b [] = refl
+entries_dropped b (p ∷ ps) = let r = entries_dropped b ps in elim (cases_Bool (is_live p)) [
+  | inl e ↦ elim (cases_Bool (is_on b p.kind)) [ inl f ↦ rw (e, e, f, r) refl | inr f ↦ rw (e, e, f, r) refl ]
+  | inr e ↦ rw (e, r) refl
+]

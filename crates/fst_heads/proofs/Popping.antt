@@ -1,0 +1,144 @@
+-- A number is taken from the queue of a cascade: its head is settled, and its dependants are told.
+use Rattle.std.proofs.Common.{◌≡◌, ◌≢◌, ◌+◌, ◌<◌, ◌≤◌, ◌==◌, ℕ, Bool, true, false, if◌then◌else◌, List, [], ◌∷◌, ◌++◌, length, map, get_or, Contains, AllPairs, length-append, refl, sym, ap, subst, ◌∙◌, arith}
+use Rattle.std.proofs.lemmas.List.{length-map, get_or-map}
+use Rattle.fst_types.specs.Cascade.{IsCascadeOf}
+use Rattle.fst_heads.specs.declared.head.Head.{Head}
+use Rattle.fst_heads.specs.declared.pending.Pending.{Pending}
+use Rattle.fst_heads.specs.declared.pending.Pending.TheVariants as pending
+use Rattle.fst_heads.specs.Heads.{IsRising, patches_of}
+use Rattle.fst_heads.specs.Marks.{HasSlot}
+use Rattle.fst_heads.specs.Nodes.{Node, node_of, nodes_of, patches_in, at_number, AreLinked, AreDistinct}
+use Rattle.fst_heads.specs.Pendings.{Fits, Sinks, max_block}
+use Rattle.fst_heads.specs.Spreading.{Spreading, IsSpreadOf, CanHear, now, is_told, settles, heard, woken, heights}
+use Rattle.fst_heads.proofs.AtNumber.{at_same, patches_in_nodes}
+use Rattle.fst_heads.proofs.Linking.{rising_as}
+use Rattle.fst_heads.proofs.Slots.{some_element}
+use Rattle.fst_heads.proofs.Slotted.{node_in_slot, node_is, rising_slots}
+use Rattle.fst_heads.proofs.Starting.{cascaded_spread, linked_spread, distinct_spread}
+use Rattle.fst_heads.proofs.Telling.{spreading_fits, queue_fits, last_waits, live, can_hear, spreads_on, spread_of, lower}
+
+-- what is settled keeps its number
+settles_either : (b : Bool) (x : Node) → (if b then settles x else x).patch.number ≡ x.patch.number
+settles_either true x = refl
+settles_either false x = refl
+
+-- the heads rise where one was settled
+pub rising_settled : (q : ℕ) (old new : List Head) → nodes_of new ≡ map (at_number q settles) (nodes_of old) → IsRising old → IsRising new
+rising_settled q old new e rising = rising_as (at_number q settles) (λ x. settles_either (x.patch.number == q) x) new old e rising
+
+module _ (heads : List Head) (blocks : ℕ) (queue : List ℕ) (q s : ℕ) (narrow : blocks ≤ max_block)
+    (S : Spreading (nodes_of heads) blocks (queue ++ q ∷ [])) (linked : AreLinked (nodes_of heads)) (distinct : AreDistinct (nodes_of heads)) (found : HasSlot heads q s) where
+  abbrev nodes : List Node
+  nodes = nodes_of heads
+
+  abbrev settled : List Node
+  settled = map (at_number q settles) nodes
+
+  -- the node that is settled
+  abbrev here : Node
+  here = node_of (get_or heads s (some_element heads s found.0))
+
+  in_slot : (d : Node) → get_or nodes s d ≡ here
+  in_slot d = get_or-map node_of heads s (some_element heads s found.0) d found.0
+
+  here_in : Contains nodes here
+  here_in = subst (Contains nodes) (in_slot here) (node_in_slot heads q s here found).0
+
+  here_number : here.patch.number ≡ q
+  here_number = found.1 (some_element heads s found.0)
+
+  pub number_there : (d : Node) → (get_or nodes s d).patch.number ≡ q
+  number_there d = ap (λ (x : Node). x.patch.number) (in_slot d) ∙ here_number
+
+  pub fits_there : (d : Node) → Fits (get_or nodes s d).sums
+  fits_there d = spreading_fits nodes blocks (queue ++ q ∷ []) narrow S (get_or nodes s d) (node_in_slot heads q s d found).0
+
+  pub sinks_there : (d : Node) → Sinks (get_or nodes s d).pending (now (get_or nodes s d))
+  sinks_there d = S.sinks (get_or nodes s d) (node_in_slot heads q s d found).0
+
+  pub untold_there : (d : Node) → is_told (get_or nodes s d) ≡ false
+  untold_there d =
+      let x = last_waits nodes blocks queue q S in
+      subst (λ y. is_told y ≡ false) (sym (node_is heads q s x.0 d (rising_slots heads S.rising) found x.1 x.2)) x.3
+
+  -- settle_slot settles it
+  module _ (was is : Pending) (after : List Node) (old : (d : Node) → was ≡ (get_or nodes s d).pending) (new : (d : Node) → is ≡ now (get_or nodes s d))
+      (settled : (d : Node) → after ≡ map (at_number (get_or nodes s d).patch.number settles) nodes) where
+    pub after_is : after ≡ map (at_number q settles) nodes
+    after_is = settled here ∙ ap (λ n. map (at_number n settles) nodes) (number_there here)
+
+    was_is : was ≡ here.pending
+    was_is = old here ∙ ap (λ (x : Node). x.pending) (in_slot here)
+
+    is_now : is ≡ now here
+    is_now = new here ∙ ap now (in_slot here)
+
+    row_after : (d : Node) → (get_or after s d).dependants ≡ here.dependants
+    row_after d =
+        ap (λ ns. (get_or ns s d).dependants) after_is
+        ∙ ap (λ (x : Node). x.dependants) (get_or-map (at_number q settles) nodes s d d (omega (arith, found.0, length-map heads node_of)) ∙ (ap (at_number q settles) (in_slot d) ∙ at_same q settles here here_number))
+
+    -- what `tell` asks for
+    pub once_after : (d : Node) → AllPairs (λ m n. m ≢ n) (get_or after s d).dependants
+    once_after d = subst (λ ms. AllPairs (λ m n. m ≢ n) ms) (sym (row_after d)) (distinct here here_in).1
+
+    pub live_after : was ≢ pending.Nothing
+    live_after e = live nodes blocks queue q here narrow S linked distinct here_in here_number (sym was_is ∙ e)
+
+    pub hears_after : (y d : Node) → Contains after y → Contains (get_or after s d).dependants y.patch.number → CanHear was y
+    hears_after y d c named =
+        subst (λ p. CanHear p y) (sym was_is)
+        (can_hear nodes blocks queue q here narrow S linked distinct here_in here_number y (subst (λ ns. Contains ns y) after_is c) (subst (λ ms. Contains ms y.patch.number) (row_after d) named))
+
+    abbrev told : List Node
+    told = map (heard here.dependants here.pending (now here)) (map (at_number q settles) nodes)
+
+    told_after : (d : Node) → map (heard (get_or after s d).dependants was is) after ≡ told
+    told_after d =
+        ap (λ ms. map (heard ms was is) after) (row_after d)
+        ∙ (ap (λ p. map (heard here.dependants p is) after) was_is
+        ∙ (ap (λ p. map (heard here.dependants here.pending p) after) is_now
+        ∙ ap (λ ns. map (heard here.dependants here.pending (now here)) ns) after_is))
+
+    woken_after : (d : Node) → woken (get_or after s d).dependants was is after ≡ woken here.dependants here.pending (now here) (map (at_number q settles) nodes)
+    woken_after d =
+        ap (λ ms. woken ms was is after) (row_after d)
+        ∙ (ap (λ p. woken here.dependants p is after) was_is
+        ∙ (ap (λ p. woken here.dependants here.pending p after) is_now
+        ∙ ap (λ ns. woken here.dependants here.pending (now here) ns) after_is))
+
+    spreads : Spreading told blocks (queue ++ woken here.dependants here.pending (now here) (map (at_number q settles) nodes))
+    spreads = spreads_on nodes blocks queue q here narrow S linked distinct here_in here_number
+
+    pub room_after : (d : Node) → length queue + length (woken (get_or after s d).dependants was is after) ≤ length heads
+    room_after d =
+        let fits = queue_fits told blocks (queue ++ woken here.dependants here.pending (now here) (map (at_number q settles) nodes)) spreads in
+        let parts = length-append queue (woken here.dependants here.pending (now here) (map (at_number q settles) nodes)) in
+        let long = length-map (map (at_number q settles) nodes) (heard here.dependants here.pending (now here)) ∙ (length-map nodes (at_number q settles) ∙ length-map heads node_of) in
+        omega (arith, fits, parts, long, ap length (woken_after d))
+
+    -- what stands after it
+    pub record Turn (next : List Node) (longer : List ℕ) : Type 0 where
+      pub spreading : Spreading next blocks longer
+      pub spread : IsSpreadOf nodes next
+      pub are_linked : AreLinked next
+      pub are_distinct : AreDistinct next
+      pub falls : heights next < heights nodes
+
+    pub turned : (next : List Node) (longer : List ℕ) → ((d : Node) → next ≡ map (heard (get_or after s d).dependants was is) after) → ((d : Node) → longer ≡ queue ++ woken (get_or after s d).dependants was is after) → Turn next longer
+    turned next longer ns qs =
+        let same : next ≡ told = ns here ∙ told_after here in
+        let more : longer ≡ queue ++ woken here.dependants here.pending (now here) (map (at_number q settles) nodes) = qs here ∙ ap (λ ms. queue ++ ms) (woken_after here) in
+        let spread = spread_of nodes blocks queue q here narrow S linked distinct here_in here_number in
+        rw (same, more) (record {
+          spreading = spreads;
+          spread = spread;
+          are_linked = linked_spread nodes told spread linked;
+          are_distinct = distinct_spread nodes told spread distinct;
+          falls = lower nodes blocks queue q here narrow S linked distinct here_in here_number;
+        })
+
+pub cascaded_heads : (old new : List Head) (blocks : ℕ) → Spreading (nodes_of new) blocks [] → IsSpreadOf (nodes_of old) (nodes_of new) → IsCascadeOf (patches_of old) (patches_of new)
+cascaded_heads old new blocks S spread =
+    subst (λ ps. IsCascadeOf ps (patches_of new)) (patches_in_nodes old)
+    (subst (λ ps. IsCascadeOf (patches_in (nodes_of old)) ps) (patches_in_nodes new) (cascaded_spread (nodes_of old) (nodes_of new) blocks S spread))

@@ -1,0 +1,188 @@
+-- Rising rows, and names as calls give them.
+use Rattle.std.proofs.Common.{◌≡◌, ℕ, zero, suc, ◌+◌, ◌-◌, ◌<◌, ◌≤◌, true, false, List, [], ◌∷◌, length, get_or, Contains, Result, Ok, Err, refl, sym, ap, subst, inl, inr, arith}
+use Rattle.std.specs.List.{insert}
+use Rattle.std.specs.List.Sorted.{IsStrictlyIncreasing, IsSearchInRange, IsBinarySearchResult, IsNonDecreasingBy}
+use Rattle.std.specs.Ordering.{nat_cmp, ordering_index}
+use Rattle.std.proofs.lemmas.Cmp.{ranked}
+use Rattle.std.proofs.lemmas.Bool.Decides.{nat_tests}
+use Rattle.std.proofs.lemmas.List.{length-map, get_or-map}
+use Rattle.fst_types.specs.Tests.{is_among}
+use Rattle.fst_types.proofs.Issuing.{among_in, in_among}
+use Rattle.std.proofs.lemmas.Bool.{cases_Bool, cases_lt, cases_eq}
+use Rattle.std.proofs.lemmas.List.Kept.{AllPairs-from_increasing}
+use Rattle.std.proofs.lemmas.List.Sorted.{searched, IsNonDecreasingBy-from_default, IsPermutation-insert, IsPermutation-sym, Contains-permutation}
+use Rattle.std.proofs.lemmas.List.Edits.{length-insert, get_or-insert_below, get_or-insert_at, get_or-insert_above}
+use Rattle.fst_types.specs.declared.number.PatchNo.{PatchNo}
+use Rattle.fst_types.specs.Lists.{Lists}
+use Rattle.fst_types.specs.Gates.{IsGiven}
+use Rattle.fst_types.specs.Order.{NamesUnknown}
+use Rattle.fst_types.proofs.Finite.{In, In-get_or, In-from_Contains, Contains-from_In, In-map}
+use Rattle.fst_heads.specs.Names.{numbers_of}
+use Rattle.fst_heads.specs.Rows.{Gains}
+
+module _ (xs : List ℕ) (rising : IsStrictlyIncreasing xs) where
+  pub ordered : (i j : ℕ) → i < j → j < length xs → get_or xs i 0 < get_or xs j 0
+  ordered i j lt inside = AllPairs-from_increasing xs rising i j 0 lt inside
+
+  not_falling : (i j : ℕ) → i ≤ j → j < length xs → get_or xs i 0 ≤ get_or xs j 0
+  not_falling i j le lt = elim (cases_lt i j) [
+    | inl below ↦ let r = ordered i j below lt in omega (arith, r)
+    | inr up ↦ let same : i ≡ j = omega (arith, le, up) in subst (λ k. get_or xs i 0 ≤ get_or xs k 0) same (omega arith)
+  ]
+
+  module _ (x at : ℕ) (small : at ≤ length xs) (before : (k : ℕ) → k < at → get_or xs k 0 < x) (after : (k : ℕ) → at ≤ k → k < length xs → x < get_or xs k 0) where
+    rises : IsStrictlyIncreasing (insert xs at x)
+    rises k lt =
+        let len = length-insert xs at x small in
+        let here = get_or-insert_at xs at x 0 small in
+        elim (cases_lt (k + 1) at) [
+          | inl low ↦ rw (get_or-insert_below xs at x 0 k (omega (arith, low)) small, get_or-insert_below xs at x 0 (k + 1) low small) (rising k (omega (arith, low, small)))
+          | inr rest ↦ elim (cases_eq (k + 1) at) [
+            | inl e ↦ rw (get_or-insert_below xs at x 0 k (omega (arith, e)) small) (subst (λ m. get_or xs k 0 < get_or (insert xs at x) m 0) (sym e) (rw here (before k (omega (arith, e)))))
+            | inr ne ↦
+                elim (cases_eq k at) [
+                  | inl e ↦ rw (get_or-insert_above xs at x 0 k (omega (arith, e)) small) (subst (λ m. get_or (insert xs at x) m 0 < get_or xs k 0) (sym e) (rw here (after k (omega (arith, e)) (omega (arith, lt, len)))))
+                  | inr ne' ↦
+                      let back : k - 1 + 1 ≡ k = omega (arith, rest, ne, ne') in
+                      let a : get_or (insert xs at x) k 0 ≡ get_or xs (k - 1) 0 = subst (λ m. get_or (insert xs at x) m 0 ≡ get_or xs (k - 1) 0) back (get_or-insert_above xs at x 0 (k - 1) (omega (arith, rest, ne, ne')) small) in
+                      rw (a, get_or-insert_above xs at x 0 k (omega (arith, rest, ne, ne')) small) (ordered (k - 1) k (omega (arith, back)) (omega (arith, lt, len)))
+                ]
+          ]
+        ]
+
+    pub gains_at : Gains xs x (insert xs at x)
+    gains_at = record {
+      rising = rises;
+      only = λ n c.
+          elim (In-from_Contains (x ∷ xs) n (Contains-permutation (insert xs at x) (x ∷ xs) n (IsPermutation-sym (x ∷ xs) (insert xs at x) (IsPermutation-insert xs at x)) c)) [
+            | inl e ↦ inr (sym e)
+            | inr i ↦ inl (Contains-from_In xs n i)
+          ];
+      kept = λ n c. Contains-permutation (x ∷ xs) (insert xs at x) n (IsPermutation-insert xs at x) (Contains-from_In (x ∷ xs) n (inr (In-from_Contains xs n c)));
+      gained = Contains-permutation (x ∷ xs) (insert xs at x) x (IsPermutation-insert xs at x) (Contains-from_In (x ∷ xs) x (inl refl));
+    }
+
+  pub gains_found : (x at : ℕ) → (r : Result ℕ ℕ) → r ≡ Ok at → IsBinarySearchResult (λ y. nat_cmp y x) xs r → Gains xs x xs
+  gains_found x at (Ok k) e found =
+      let s = searched xs x (Ok k) found not_falling in
+      record { rising = rising; only = λ n c. inl c; kept = λ n c. c; gained = subst (Contains xs) s.1 (Contains-from_In xs (get_or xs k 0) (In-get_or xs k 0 s.0)) }
+  gains_found x at (Err k) e found = cc
+
+  pub gains_new : (x at : ℕ) → (r : Result ℕ ℕ) → r ≡ Err at → IsBinarySearchResult (λ y. nat_cmp y x) xs r → Gains xs x (insert xs at x)
+  gains_new x at (Ok k) e found = cc
+  gains_new x at (Err k) e found =
+      let s = searched xs x (Err k) found not_falling in
+      let same : k ≡ at = cc in
+      subst (λ m. Gains xs x (insert xs m x)) same (gains_at x k s.0 s.1 s.2)
+
+-- names
+pub name_in : (names : List PatchNo) (k : ℕ) (d : PatchNo) → k < length names → Contains (numbers_of names) (get_or names k d).0
+name_in names k d lt = Contains-from_In _ _ (In-map (λ n. n.0) names (get_or names k d) _ (In-get_or names k d lt) refl)
+
+pub name_of : (names : List PatchNo) (n : ℕ) → Contains (numbers_of names) n → (k : ℕ) × (k < length names) × ((d : PatchNo) → (get_or names k d).0 ≡ n)
+name_of names n c = go names (In-from_Contains (numbers_of names) n c)
+  where
+    go : (xs : List PatchNo) → In (numbers_of xs) n → (k : ℕ) × (k < length xs) × ((d : PatchNo) → (get_or xs k d).0 ≡ n)
+    go [] h = absurd h
+    go (y ∷ ys) (inl e) = (0, omega arith, λ d. e)
+    go (y ∷ ys) (inr h) = let r = go ys h in (suc r.0, omega (arith, r.1), r.2)
+
+-- every name up to i was given
+abbrev pub AreGiven : ℕ → List PatchNo → ℕ → Type 0
+AreGiven numbers names i = (k : ℕ) (d : PatchNo) → k < i → IsGiven numbers (get_or names k d).0
+
+pub none_unknown : (numbers : ℕ) (names : List PatchNo) (i : ℕ) → length names ≤ i → AreGiven numbers names i → NamesUnknown numbers (numbers_of names) → ⊥
+none_unknown numbers names i past all u =
+    let k = name_of names u.0 u.1 in
+    let d = some names k.0 k.1 in
+    u.2 (subst (IsGiven numbers) (k.2 d) (all k.0 d (omega (arith, k.1, past))))
+  where
+    some : (xs : List PatchNo) (k : ℕ) → k < length xs → PatchNo
+    some [] k h = absurd (omega (arith, h))
+    some (y ∷ ys) k h = y
+
+-- the names with P, as far as they were looked at
+pub record Gathers (P : ℕ → Type 0) (names : List PatchNo) (i : ℕ) (row : List ℕ) : Type 0 where
+  pub rising : IsStrictlyIncreasing row
+  pub only : (n : ℕ) → Contains row n → P n × Contains (numbers_of names) n
+  pub each : (k : ℕ) (d : PatchNo) → k < i → k < length names → P (get_or names k d).0 → Contains row (get_or names k d).0
+
+pub gathers_none : (P : ℕ → Type 0) (names : List PatchNo) → Gathers P names 0 []
+gathers_none P names = record { rising = λ k lt. absurd (omega (arith, lt)); only = λ n c. absurd (omega (arith, c.1)); each = λ k d lt. absurd (omega (arith, lt)) }
+
+module _ (P : ℕ → Type 0) (names : List PatchNo) (i : ℕ) (row : List ℕ) (e : PatchNo) (lt : i < length names) (x : Gathers P names i row) where
+  here : (k : ℕ) (d : PatchNo) → (k < i → ⊥) → k < i + 1 → get_or names i e ≡ get_or names k d
+  here k d past up = let same : i ≡ k = omega (arith, up, past) in subst (λ j. get_or names i e ≡ get_or names j d) same (go names i lt)
+    where
+      go : (xs : List PatchNo) (j : ℕ) → j < length xs → get_or xs j e ≡ get_or xs j d
+      go [] j h = absurd (omega (arith, h))
+      go (y ∷ ys) zero h = refl
+      go (y ∷ ys) (suc j) h = go ys j (omega (arith, h))
+
+  pub gathers_more : (new : List ℕ) → P (get_or names i e).0 → Gains row (get_or names i e).0 new → Gathers P names (i + 1) new
+  gathers_more new p g = record {
+    rising = g.rising;
+    only = λ n c. elim (g.only n c) [ inl o ↦ x.only n o | inr same ↦ subst (λ m. P m × Contains (numbers_of names) m) (sym same) (p, name_in names i e lt) ];
+    each = λ k d up inside q. elim (cases_lt k i) [
+      | inl o ↦ g.kept _ (x.each k d o inside q)
+      | inr past ↦ subst (Contains new) (ap (λ m. m.0) (here k d (λ h. omega (arith, h, past)) up)) g.gained
+    ];
+  }
+
+  pub gathers_skip : (P (get_or names i e).0 → ⊥) → Gathers P names (i + 1) row
+  gathers_skip no_p = record {
+    rising = x.rising;
+    only = x.only;
+    each = λ k d up inside q. elim (cases_lt k i) [
+      | inl o ↦ x.each k d o inside q
+      | inr past ↦ absurd (no_p (subst P (sym (ap (λ m. m.0) (here k d (λ h. omega (arith, h, past)) up))) q))
+    ];
+  }
+
+pub gathers_all : (P : ℕ → Type 0) (names : List PatchNo) (i : ℕ) (row : List ℕ) → length names ≤ i → Gathers P names i row → Lists (λ n. P n × Contains (numbers_of names) n) row
+gathers_all P names i row past x = record {
+  rising = x.rising;
+  only = x.only;
+  each = λ n p.
+      let k = name_of names n p.1 in
+      let d = some names k.0 k.1 in
+      subst (Contains row) (k.2 d) (x.each k.0 d (omega (arith, k.1, past)) k.1 (subst P (sym (k.2 d)) p.0));
+}
+  where
+    some : (xs : List PatchNo) (k : ℕ) → k < length xs → PatchNo
+    some [] k h = absurd (omega (arith, h))
+    some (y ∷ ys) k h = y
+
+-- whether a number is among names that rise
+module _ (names : List PatchNo) (rising : IsStrictlyIncreasing (numbers_of names)) (n : ℕ) where
+  name_below : (i j : ℕ) (e : PatchNo) → i < j → j < length names → (get_or names i e).0 < (get_or names j e).0
+  name_below i j e lt inside =
+      let len = length-map names (λ m. m.0) in
+      let r = ordered (numbers_of names) rising i j lt (omega (arith, inside, len)) in
+      let a = get_or-map (λ m. m.0) names i e 0 (omega (arith, lt, inside)) in
+      let b = get_or-map (λ m. m.0) names j e 0 inside in
+      omega (arith, r, a, b)
+
+  compared : (e : PatchNo) → IsNonDecreasingBy (λ m. ordering_index (nat_cmp m.0 n)) names
+  compared e = IsNonDecreasingBy-from_default (λ m. ordering_index (nat_cmp m.0 n)) names e (λ i j le lt.
+      let below : (i < j) → (get_or names i e).0 < (get_or names j e).0 = λ h. name_below i j e h lt in
+      let same : i ≡ j → (get_or names i e).0 ≡ (get_or names j e).0 = λ k. ap (λ m. (get_or names m e).0) k in
+      grind (arith, nat_tests, below, same))
+
+  pub among_found : (r : Result ℕ ℕ) → IsSearchInRange r (length names) → IsBinarySearchResult (λ m. nat_cmp m.0 n) names r → record { found : (k : ℕ) → r ≡ Ok k → true ≡ is_among (numbers_of names) n; none : (k : ℕ) → r ≡ Err k → false ≡ is_among (numbers_of names) n }
+  among_found (Ok at) in_range equal = record {
+    found = λ k e. sym (in_among (numbers_of names) n (In-from_Contains (numbers_of names) n (subst (Contains (numbers_of names)) (ranked _ n _ (sym (equal (record { 0 = 0 })))) (name_in names at (record { 0 = 0 }) in_range))));
+    none = λ k e. cc;
+  }
+  among_found (Err at) in_range parted = record {
+    found = λ k e. cc;
+    none = λ k e. elim (cases_Bool (is_among (numbers_of names) n)) [
+      | inr f ↦ sym f
+      | inl f ↦
+          let c = name_of names n (Contains-from_In (numbers_of names) n (among_in (numbers_of names) n f)) in
+          absurd (elim (cases_lt c.0 at) [
+            | inl before ↦ let r = ranked _ n _ (sym ((parted (compared (record { 0 = 0 }))).0 c.0 (record { 0 = 0 }) (omega arith) before)) in omega (arith, r, c.2 (record { 0 = 0 }))
+            | inr after ↦ let r = ranked _ n _ (sym ((parted (compared (record { 0 = 0 }))).1 c.0 (record { 0 = 0 }) after c.1)) in omega (arith, r, c.2 (record { 0 = 0 }))
+          ])
+    ];
+  }

@@ -1,0 +1,174 @@
+-- Slots, numbers and marks.
+use Rattle.std.proofs.Common.{◌==◌, cond, find, All, AllPairs, ◌≡◌, ◌≢◌, ℕ, zero, suc, ◌<◌, Bool, true, false, List, [], ◌∷◌, length, get_or, Contains, Some, None, Result, Ok, Err, refl, sym, ap, subst, ◌∙◌, inl, inr, arith}
+use Rattle.std.specs.List.Sorted.{IsSearchInRange, IsBinarySearchResult, IsNonDecreasingBy}
+use Rattle.std.specs.Ordering.{nat_cmp, ordering_index}
+use Rattle.std.proofs.lemmas.Cmp.{ranked}
+use Rattle.std.proofs.lemmas.List.Sorted.{IsNonDecreasingBy-from_default}
+use Rattle.std.proofs.lemmas.Bool.{cases_order, cases_lt, eq-eqb, ne_eqb}
+use Rattle.std.proofs.lemmas.Bool.Decides.{nat_tests}
+use Rattle.fst_types.specs.Patches.{Patch, IsRising as Rising}
+use Rattle.std.proofs.lemmas.List.{length-map, get_or-map}
+use Rattle.fst_types.specs.Dependencies.{DirectlyOn, IsLiveNumber}
+use Rattle.fst_types.specs.declared.place.Place.{Place}
+use Rattle.fst_types.specs.declared.place.Place.TheVariants as place
+use Rattle.fst_heads.specs.Tests.{is_live_place}
+use Rattle.fst_types.proofs.Finite.{In, In-from_Contains, Contains-from_In, In-map}
+use Rattle.fst_heads.specs.declared.head.Head.{Head}
+use Rattle.fst_heads.specs.Heads.{IsRising, patch_of, patches_of}
+use Rattle.fst_heads.specs.Marks.{HasSlot, HasNone, Has}
+
+-- within a list the default does not matter
+pub any_default : {X : Type 0} (xs : List X) (i : ℕ) (d e : X) → i < length xs → get_or xs i d ≡ get_or xs i e
+any_default [] i d e h = absurd (omega (arith, h))
+any_default (y ∷ ys) zero d e h = refl
+any_default (y ∷ ys) (suc i) d e h = any_default ys i d e (omega (arith, h))
+
+-- an element to stand for the default
+pub some_element : {X : Type 0} (xs : List X) (k : ℕ) → k < length xs → X
+some_element [] k h = absurd (omega (arith, h))
+some_element (y ∷ ys) k h = y
+
+-- a search among keys that rise
+module _ {X : Type 0} (key : X → ℕ) (xs : List X) (rising : AllPairs (λ x y. key x < key y) xs) (n : ℕ) where
+  compared : (e : X) → IsNonDecreasingBy (λ h. ordering_index (nat_cmp (key h) n)) xs
+  compared e = IsNonDecreasingBy-from_default (λ h. ordering_index (nat_cmp (key h) n)) xs e (λ i j le lt.
+      let below : (i < j) → key (get_or xs i e) < key (get_or xs j e) = λ h. rising i j e h lt in
+      let same : i ≡ j → key (get_or xs i e) ≡ key (get_or xs j e) = λ k. ap (λ m. key (get_or xs m e)) k in
+      grind (arith, nat_tests, below, same))
+
+  pub searched_by : (r : Result ℕ ℕ) → IsSearchInRange r (length xs) → IsBinarySearchResult (λ h. nat_cmp (key h) n) xs r
+      → record { found : (slot : ℕ) → r ≡ Ok slot → (slot < length xs) × ((d : X) → key (get_or xs slot d) ≡ n); none : (slot : ℕ) → r ≡ Err slot → All (λ h. key h ≢ n) xs }
+  searched_by (Ok at) in_range equal = record { found = λ slot e. let same : at ≡ slot = cc in subst (λ k. (k < length xs) × ((d : X) → key (get_or xs k d) ≡ n)) same (in_range, λ d. ranked _ n _ (sym (equal d))); none = λ slot e. cc }
+  searched_by (Err at) in_range parted = record {
+    found = λ slot e. cc;
+    none = λ slot e k d lt same. elim (cases_lt k at) [
+      | inl before ↦ let r = ranked _ n _ (sym ((parted (compared d)).0 k d (omega arith) before)) in omega (arith, r, same)
+      | inr after ↦ let r = ranked _ n _ (sym ((parted (compared d)).1 k d after lt)) in omega (arith, r, same)
+    ];
+  }
+
+pub searched : (heads : List Head) (rising : IsRising heads) (n : ℕ) (r : Result ℕ ℕ) → IsSearchInRange r (length heads) → IsBinarySearchResult (λ h. nat_cmp h.number n) heads r
+    → record { found : (slot : ℕ) → r ≡ Ok slot → HasSlot heads n slot; none : (slot : ℕ) → r ≡ Err slot → HasNone heads n }
+searched heads rising n r in_range result = let s = searched_by (λ (h : Head). h.number) heads rising n r in_range result in record { found = s.found; none = s.none }
+
+pub slot_unique : (heads : List Head) (q s t : ℕ) → IsRising heads → HasSlot heads q s → HasSlot heads q t → s ≡ t
+slot_unique [] q s t rising a b = absurd (omega (arith, a.0))
+slot_unique (h ∷ hs) q s t rising a b =
+    elim (cases_order s t) [
+      | inl e ↦ e
+      | inr o ↦ elim o [
+        | inl lt ↦ let r = rising s t h lt b.0 in absurd (omega (arith, r, a.1 h, b.1 h))
+        | inr lt ↦ let r = rising t s h lt a.0 in absurd (omega (arith, r, a.1 h, b.1 h))
+      ]
+    ]
+
+pub slot_number : (heads : List Head) (s q r : ℕ) → HasSlot heads q s → HasSlot heads r s → q ≡ r
+slot_number [] s q r a b = absurd (omega (arith, a.0))
+slot_number (h ∷ hs) s q r a b = sym (a.1 h) ∙ b.1 h
+
+pub none_slot : (heads : List Head) (q s : ℕ) → HasNone heads q → HasSlot heads q s → ⊥
+none_slot heads q s none h = let d = some_element heads s h.0 in none s d h.0 (h.1 d)
+
+pub slot_here : (heads : List Head) (s : ℕ) (d : Head) → s < length heads → HasSlot heads (get_or heads s d).number s
+slot_here heads s d lt = (lt, λ e. ap (λ y. y.number) (any_default heads s e d lt))
+
+-- the slot of a patch
+pub slot_in : (heads : List Head) (x : Patch) → Contains (patches_of heads) x → (s : ℕ) × (s < length heads) × ((d : Head) → patch_of (get_or heads s d) ≡ x)
+slot_in heads x c = go heads (In-from_Contains (patches_of heads) x c)
+  where
+    go : (hs : List Head) → In (patches_of hs) x → (s : ℕ) × (s < length hs) × ((d : Head) → patch_of (get_or hs s d) ≡ x)
+    go [] h = absurd h
+    go (y ∷ ys) (inl e) = (0, omega arith, λ d. e)
+    go (y ∷ ys) (inr h) = let r = go ys h in (suc r.0, omega (arith, r.1), r.2)
+
+pub patch_slot : (heads : List Head) (x : Patch) (s : ℕ) → s < length heads → ((d : Head) → patch_of (get_or heads s d) ≡ x) → HasSlot heads x.number s
+patch_slot heads x s lt same = (lt, λ d. ap (λ p. p.number) (same d))
+
+pub slot_head : (heads : List Head) (s : ℕ) (d : Head) → s < length heads → In heads (get_or heads s d)
+slot_head [] s d h = absurd (omega (arith, h))
+slot_head (y ∷ ys) zero d h = inl refl
+slot_head (y ∷ ys) (suc s) d h = inr (slot_head ys s d (omega (arith, h)))
+
+-- the patch at a slot
+pub patch_at : (heads : List Head) (s : ℕ) (d : Head) → s < length heads → Contains (patches_of heads) (patch_of (get_or heads s d))
+patch_at heads s d lt = Contains-from_In (patches_of heads) _ (In-map patch_of heads (get_or heads s d) _ (slot_head heads s d lt) refl)
+
+-- the patch with the number of a slot stands there
+pub patch_is : (heads : List Head) (x : Patch) (s : ℕ) (d : Head) → IsRising heads → Contains (patches_of heads) x → HasSlot heads x.number s → patch_of (get_or heads s d) ≡ x
+patch_is heads x s d rising c slot =
+    let t = slot_in heads x c in
+    subst (λ k. patch_of (get_or heads k d) ≡ x) (slot_unique heads x.number t.0 s rising (patch_slot heads x t.0 t.1 t.2) slot) (t.2 d)
+
+-- what the head at a slot names is a direct dependency
+pub direct_at : (heads : List Head) (q r s : ℕ) (d : Head) → HasSlot heads q s → Contains (get_or heads s d).dependencies.items r → DirectlyOn (patches_of heads) q r
+direct_at heads q r s d slot named = record { patch = patch_of (get_or heads s d); head = patch_at heads s d slot.0; numbered = slot.1 d; named = named }
+
+-- and the head names each direct dependency
+pub named_at : (heads : List Head) (q r s : ℕ) (d : Head) → IsRising heads → HasSlot heads q s → DirectlyOn (patches_of heads) q r → Contains (get_or heads s d).dependencies.items r
+named_at heads q r s d rising slot e =
+    subst (λ p. Contains p.dependencies r) (sym (patch_is heads e.patch s d rising e.head (subst (λ n. HasSlot heads n s) (sym e.numbered) slot))) e.named
+
+-- a number of a direct dependency belongs to a head
+pub direct_slot : (heads : List Head) (q r : ℕ) → DirectlyOn (patches_of heads) q r → (s : ℕ) × HasSlot heads q s
+direct_slot heads q r e = let t = slot_in heads e.patch e.head in (t.0, subst (λ n. HasSlot heads n t.0) e.numbered (patch_slot heads e.patch t.0 t.1 t.2))
+
+-- the mark of a number is that of its slot
+pub has_at : (heads : List Head) (marks : List Bool) (n s : ℕ) → IsRising heads → HasSlot heads n s → Has heads marks n → get_or marks s false ≡ true
+has_at heads marks n s rising slot h = subst (λ k. get_or marks k false ≡ true) (slot_unique heads n h.slot s rising h.at slot) h.marked
+
+pub has_none : (heads : List Head) (marks : List Bool) (n : ℕ) → HasNone heads n → Has heads marks n → ⊥
+has_none heads marks n none h = none_slot heads n h.slot none h.at
+
+-- the patch of a marked number
+pub has_patch : (heads : List Head) (marks : List Bool) (n : ℕ) → Has heads marks n → (p : Patch) × Contains (patches_of heads) p × (p.number ≡ n)
+has_patch heads marks n h = let d = some_element heads h.slot h.at.0 in (patch_of (get_or heads h.slot d), patch_at heads h.slot d h.at.0, h.at.1 d)
+
+-- heads rise as their patches do
+pub rising_heads : (heads : List Head) → Rising (patches_of heads) → IsRising heads
+rising_heads heads rising i j d lt in_range =
+    let r = rising i j (patch_of d) lt (omega (arith, in_range, length-map heads patch_of)) in
+    let a = get_or-map patch_of heads i d (patch_of d) (omega (arith, lt, in_range)) in
+    let b = get_or-map patch_of heads j d (patch_of d) in_range in
+    subst (λ x. x.number < (get_or heads j d).number) a (subst (λ y. (get_or (patches_of heads) i (patch_of d)).number < y.number) b r)
+
+pub live_place : (p : Place) → is_live_place p ≡ true → p ≡ place.Disk → ⊥
+live_place place.Memory e d = cc
+live_place place.Flight e d = cc
+live_place place.Disk e d = cc
+
+pub place_live : (p : Place) → (p ≡ place.Disk → ⊥) → is_live_place p ≡ true
+place_live place.Memory n = refl
+place_live place.Flight n = refl
+place_live place.Disk n = absurd (n refl)
+
+-- a number is live as the head at its slot is
+pub live_at : (heads : List Head) (n s : ℕ) (d : Head) → IsRising heads → HasSlot heads n s → record { 0 : is_live_place (get_or heads s d).place ≡ true → IsLiveNumber (patches_of heads) n; 1 : IsLiveNumber (patches_of heads) n → is_live_place (get_or heads s d).place ≡ true }
+live_at heads n s d rising slot = record {
+  0 = λ e. record { patch = patch_of (get_or heads s d); head = patch_at heads s d slot.0; numbered = slot.1 d; live = live_place (get_or heads s d).place e };
+  1 = λ l.
+      let same = patch_is heads l.patch s d rising l.head (subst (λ m. HasSlot heads m s) (sym l.numbered) slot) in
+      place_live (get_or heads s d).place (λ e. l.live (sym (ap (λ p. p.place) same) ∙ e));
+}
+
+pub not_live_none : (heads : List Head) (n : ℕ) → HasNone heads n → IsLiveNumber (patches_of heads) n → ⊥
+not_live_none heads n none l =
+    let t = slot_in heads l.patch l.head in none_slot heads n t.0 none (subst (λ m. HasSlot heads m t.0) l.numbered (patch_slot heads l.patch t.0 t.1 t.2))
+
+-- the one patch with a number is found
+pub find_patch : (heads : List Patch) (p : Patch) → Rising heads → Contains heads p → find (λ x. x.number == p.number) heads ≡ Some p
+find_patch heads p rising c = go heads (λ i j d lt h. rising i j d lt h) (In-from_Contains heads p c)
+  where
+    go : (xs : List Patch) → AllPairs (λ x y. x.number < y.number) xs → In xs p → find (λ x. x.number == p.number) xs ≡ Some p
+    go [] r h = absurd h
+    go (y ∷ ys) r (inl e) = subst (λ z. cond (z.number == p.number) (Some z) (find (λ x. x.number == p.number) ys) ≡ Some p) (sym e) (rw (eq-eqb p.number p.number refl) refl)
+    go (y ∷ ys) r (inr h) =
+        let k = Contains-from_In ys p h in
+        let lt = r 0 (suc k.0) p (omega arith) (omega (arith, k.1)) in
+        let below : (k : Contains ys p) → y.number < (get_or ys k.0 p).number → y.number < p.number = λ k lt. subst {A = Patch} (λ z. y.number < z.number) k.2 lt in
+        let differs : y.number ≢ p.number = λ e. omega (arith, e, below k lt) in
+        rw (ne_eqb y.number p.number differs) (go ys (λ i j d l b. r (suc i) (suc j) d (omega (arith, l)) (omega (arith, b))) h)
+
+pub find_none : (heads : List Patch) (n : ℕ) → ((p : Patch) → Contains heads p → p.number ≡ n → ⊥) → find (λ x. x.number == n) heads ≡ None
+find_none [] n none = refl
+find_none (y ∷ ys) n none =
+    rw (ne_eqb y.number n (none y (0, omega arith, refl))) (find_none ys n (λ p c e. none p (Contains-from_In (y ∷ ys) p (inr (In-from_Contains ys p c))) e))

@@ -1,0 +1,217 @@
+-- The head in one slot hears of another patch, and all that have a number of a row do.
+use Rattle.std.proofs.Common.{◌≡◌, ◌≢◌, ℕ, zero, suc, ◌+◌, ◌<◌, ◌==◌, ◌&&◌, Bool, true, false, if◌then◌else◌, List, [], ◌∷◌, ◌++◌, length, map, take, drop, get_or, Contains, AllPairs, append-nil, length-append, refl, sym, ap, subst, ◌∙◌, inl, inr, arith}
+use Rattle.std.specs.List.{list_any}
+use Rattle.std.proofs.lemmas.Bool.{cases_eq, and_from, eq-eqb, ne_eqb}
+use Rattle.std.proofs.lemmas.List.{length-map, get_or-map, take_more, take-append-drop}
+use Rattle.std.proofs.lemmas.List.Elements.{filter-append}
+use Rattle.std.proofs.lemmas.List.Folds.{list_any-from_Any}
+use Rattle.fst_types.specs.declared.place.Place.TheVariants as place
+use Rattle.fst_types.specs.Tests.{is_among}
+use Rattle.fst_types.proofs.Finite.{In, In-from_Contains, Contains-from_In, In-map}
+use Rattle.fst_types.proofs.GateGains.{In-unmap}
+use Rattle.fst_heads.specs.declared.head.Head.{Head}
+use Rattle.fst_heads.specs.declared.pending.Pending.{Pending}
+use Rattle.fst_heads.specs.Heads.{IsRising}
+use Rattle.fst_heads.specs.Marks.{HasSlot, HasNone}
+use Rattle.fst_heads.specs.Nodes.{Node, node_of, nodes_of, at_number}
+use Rattle.fst_heads.specs.Pendings.{plus, minus}
+use Rattle.fst_heads.specs.Spreading.{follows, rested, hears, wakes, heard, woken}
+use Rattle.fst_heads.proofs.AtNumber.{at_same, at_other}
+use Rattle.fst_heads.proofs.Listing.{any_none, any_slot}
+use Rattle.fst_heads.proofs.Linking.{map_twice, rising_as, none_among, among_push_other, among_push_same}
+use Rattle.fst_heads.proofs.Slots.{any_default, some_element, slot_head, slot_unique}
+
+-- what rests keeps all but its place
+module _ (x : Node) where
+  abbrev to_disk : Bool → Node
+  to_disk b = if b then record x { patch = record x.patch { place = place.Disk } } else x
+
+  record IsAlike (y : Node) : Type 0 where
+    number : y.patch.number ≡ x.patch.number
+    sums : y.sums ≡ x.sums
+    dependants : y.dependants ≡ x.dependants
+
+  to_disk_keeps : (b : Bool) → IsAlike (to_disk b)
+  to_disk_keeps true = record { number = refl; sums = refl; dependants = refl }
+  to_disk_keeps false = record { number = refl; sums = refl; dependants = refl }
+
+  rested_keeps : IsAlike (rested x)
+  rested_keeps = to_disk_keeps (follows x.patch.kind && (x.sums.count == 0))
+
+  pub rested_sums : (rested x).sums ≡ x.sums
+  rested_sums = rested_keeps.sums
+
+-- those that hear keep their numbers and their dependants
+heard_keeps : (b : Bool) (old new : Pending) (x : Node) → record { number : (if b then hears old new x else x).patch.number ≡ x.patch.number; dependants : (if b then hears old new x else x).dependants ≡ x.dependants }
+heard_keeps true old new x = let k = rested_keeps (record x { sums = plus new (minus old x.sums) }) in record { number = k.number; dependants = k.dependants }
+heard_keeps false old new x = record { number = refl; dependants = refl }
+
+heard_number : (row : List ℕ) (old new : Pending) (x : Node) → (heard row old new x).patch.number ≡ x.patch.number
+heard_number row old new x = (heard_keeps (is_among row x.patch.number) old new x).number
+
+heard_dependants : (row : List ℕ) (old new : Pending) (x : Node) → (heard row old new x).dependants ≡ x.dependants
+heard_dependants row old new x = (heard_keeps (is_among row x.patch.number) old new x).dependants
+
+heard_other : (row : List ℕ) (old new : Pending) (x : Node) → is_among row x.patch.number ≡ false → heard row old new x ≡ x
+heard_other row old new x e = rw e refl
+
+-- the queue gets no number that passes nowhere
+pub waits_none : (heads : List Head) (n : ℕ) (p : Node → Bool) (queue : List ℕ) → HasNone heads n
+    → queue ≡ queue ++ (if list_any (λ x. (x.patch.number == n) && p x) (nodes_of heads) then n ∷ [] else [])
+waits_none heads n p queue none = rw (any_none heads n p none) (sym (append-nil queue))
+
+pub stays_slot : (heads : List Head) (n s : ℕ) (p : Node → Bool) (d : Head) (queue : List ℕ) → IsRising heads → HasSlot heads n s
+    → p (node_of (get_or heads s d)) ≡ false
+    → queue ≡ queue ++ (if list_any (λ x. (x.patch.number == n) && p x) (nodes_of heads) then n ∷ [] else [])
+stays_slot heads n s p d queue rising slot e = rw (any_slot heads n s p d rising slot, e) (sym (append-nil queue))
+
+pub waits_slot : (heads : List Head) (n s : ℕ) (p : Node → Bool) (d : Head) (queue : List ℕ) → IsRising heads → HasSlot heads n s
+    → p (node_of (get_or heads s d)) ≡ true
+    → queue ++ n ∷ [] ≡ queue ++ (if list_any (λ x. (x.patch.number == n) && p x) (nodes_of heads) then n ∷ [] else [])
+waits_slot heads n s p d queue rising slot e = rw (any_slot heads n s p d rising slot, e) refl
+
+pub number_in : (heads : List Head) (n s : ℕ) (h : Head) → HasSlot heads n s → h ≡ get_or heads s h → h.number ≡ n
+number_in heads n s h slot e = ap (λ (x : Head). x.number) e ∙ slot.1 h
+
+-- the node in the slot of a number
+pub node_in_slot : (heads : List Head) (n s : ℕ) (d : Node) → HasSlot heads n s → Contains (nodes_of heads) (get_or (nodes_of heads) s d) × ((get_or (nodes_of heads) s d).patch.number ≡ n)
+node_in_slot heads n s d slot =
+    let e = some_element heads s slot.0 in
+    let is = get_or-map node_of heads s e d slot.0 in (
+      subst (Contains (nodes_of heads)) (sym is) (Contains-from_In (nodes_of heads) (node_of (get_or heads s e)) (In-map node_of heads (get_or heads s e) (node_of (get_or heads s e)) (slot_head heads s e slot.0) refl)),
+      ap (λ (x : Node). x.patch.number) is ∙ slot.1 e,
+    )
+
+-- it is the one node with that number
+pub node_is : (heads : List Head) (n s : ℕ) (x d : Node) → IsRising heads → HasSlot heads n s → Contains (nodes_of heads) x → x.patch.number ≡ n → get_or (nodes_of heads) s d ≡ x
+node_is heads n s x d rising slot c e =
+    let r = In-unmap node_of heads x (In-from_Contains (nodes_of heads) x c) in
+    let h = Contains-from_In heads r.0 r.1 in
+    let number = ap (λ (y : Node). y.patch.number) r.2 ∙ e in
+    let there = slot_unique heads n s h.0 rising slot (h.1, λ b. ap (λ (y : Head). y.number) (any_default heads h.0 b r.0 h.1 ∙ h.2) ∙ number) in
+    get_or-map node_of heads s r.0 d slot.0 ∙ (ap node_of (ap (λ k. get_or heads k r.0) there ∙ h.2) ∙ r.2)
+
+-- where no head has the number no node has it
+pub none_of_number : (heads : List Head) (n : ℕ) (x : Node) → HasNone heads n → Contains (nodes_of heads) x → x.patch.number ≡ n → ⊥
+none_of_number heads n x none c e =
+    let r = In-unmap node_of heads x (In-from_Contains (nodes_of heads) x c) in
+    let h = Contains-from_In heads r.0 r.1 in
+    none h.0 r.0 h.1 (ap (λ (y : Head). y.number) h.2 ∙ (ap (λ (y : Node). y.patch.number) r.2 ∙ e))
+
+-- heads rise where their nodes do
+pub rising_slots : (heads : List Head) → AllPairs (λ x y. x.patch.number < y.patch.number) (nodes_of heads) → IsRising heads
+rising_slots heads rising i j d lt inside =
+    let r = rising i j (node_of d) lt (omega (arith, inside, length-map heads node_of)) in
+    let a = get_or-map node_of heads i d (node_of d) (omega (arith, lt, inside)) in
+    let b = get_or-map node_of heads j d (node_of d) inside in
+    subst (λ x. x.patch.number < (get_or heads j d).number) a (subst (λ y. (get_or (nodes_of heads) i (node_of d)).patch.number < y.patch.number) b r)
+
+-- the dependants of the node in a slot
+abbrev pub row_at : List Node → ℕ → List ℕ
+row_at nodes s = get_or (map (λ (x : Node). x.dependants) nodes) s []
+
+pub row_is : (nodes : List Node) (s : ℕ) (d : Node) → s < length nodes → (get_or nodes s d).dependants ≡ row_at nodes s
+row_is nodes s d lt = sym (get_or-map (λ (x : Node). x.dependants) nodes s d [] lt)
+
+-- what is so of it at each default is so of the row
+pub at_row : (P : List ℕ → Type 0) (nodes : List Node) (s : ℕ) → s < length nodes → ((d : Node) → P (get_or nodes s d).dependants) → P (row_at nodes s)
+at_row P nodes s lt h = let d = some_element nodes s lt in subst P (row_is nodes s d lt) (h d)
+
+rows_heard : (row : List ℕ) (old new : Pending) (nodes : List Node) → map (λ (x : Node). x.dependants) (map (heard row old new) nodes) ≡ map (λ (x : Node). x.dependants) nodes
+rows_heard row old new [] = refl
+rows_heard row old new (x ∷ xs) = let first = heard_dependants row old new x in let rest = rows_heard row old new xs in cc
+
+-- as many heads as nodes, also where some heard
+pub length_heard : (start : List Node) (heads : List Head) (row : List ℕ) (old new : Pending) → nodes_of heads ≡ map (heard row old new) start → length heads ≡ length start
+length_heard start heads row old new e = sym (length-map heads node_of) ∙ (ap length e ∙ length-map start (heard row old new))
+
+-- and the head in a slot keeps the dependants that it had
+pub row_now : (start : List Node) (heads : List Head) (row : List ℕ) (old new : Pending) (s : ℕ) (h : Head) → s < length heads → nodes_of heads ≡ map (heard row old new) start
+    → h ≡ get_or heads s h → h.dependants.items ≡ row_at start s
+row_now start heads row old new s h lt e at =
+    ap (λ (x : Head). x.dependants.items) at
+    ∙ (sym (ap (λ (x : Node). x.dependants) (get_or-map node_of heads s h (node_of h) lt))
+    ∙ (row_is (nodes_of heads) s (node_of h) (omega (arith, lt, length-map heads node_of))
+    ∙ (ap (λ ns. row_at ns s) e ∙ ap (λ rows. get_or rows s []) (rows_heard row old new start))))
+
+pub rising_heard : (start heads : List Head) (row : List ℕ) (old new : Pending) → nodes_of heads ≡ map (heard row old new) (nodes_of start) → IsRising start → IsRising heads
+rising_heard start heads row old new e rising = rising_as (heard row old new) (heard_number row old new) heads start e rising
+
+-- of no row none hears
+pub heard_none : (old new : Pending) (nodes : List Node) → map (heard [] old new) nodes ≡ nodes
+heard_none old new [] = refl
+heard_none old new (x ∷ xs) = ap (λ ys. x ∷ ys) (heard_none old new xs)
+
+-- a number that stands once in a row is not among those before it
+before_at : (row : List ℕ) → AllPairs (λ m n. m ≢ n) row → (i : ℕ) → i < length row → (m : ℕ) → In (take i row) m → m ≢ get_or row i 0
+before_at [] once i lt m h = absurd (omega (arith, lt))
+before_at (y ∷ ys) once zero lt m h = absurd h
+before_at (y ∷ ys) once (suc i) lt m (inl e) = λ same. once 0 (suc i) 0 (omega arith) lt (e ∙ same)
+before_at (y ∷ ys) once (suc i) lt m (inr h) = before_at ys (λ a b d l j. once (suc a) (suc b) d (omega (arith, l)) (omega (arith, j))) i (omega (arith, lt)) m h
+
+module _ (row : List ℕ) (once : AllPairs (λ m n. m ≢ n) row) (i : ℕ) (lt : i < length row) (old new : Pending) where
+  abbrev next : ℕ
+  next = get_or row i 0
+
+  abbrev done : List ℕ
+  done = take i row
+
+  fresh : is_among done next ≡ false
+  fresh = none_among done next (before_at row once i lt)
+
+  heard_next : (x : Node) → x.patch.number ≡ next → heard done old new x ≡ x
+  heard_next x e = heard_other done old new x (ap (is_among done) e ∙ fresh)
+
+  -- a node with the next number did not hear yet
+  pub heard_before : (nodes : List Node) (x : Node) → Contains (map (heard done old new) nodes) x → x.patch.number ≡ next → Contains nodes x
+  heard_before nodes x c e =
+      let r = In-unmap (heard done old new) nodes x (In-from_Contains (map (heard done old new) nodes) x c) in
+      let number = sym (heard_number done old new r.0) ∙ (ap (λ (y : Node). y.patch.number) r.2 ∙ e) in
+      Contains-from_In nodes x (subst (In nodes) (sym (heard_next r.0 number) ∙ r.2) r.1)
+
+  heard_push : (x : Node) → at_number next (hears old new) (heard done old new x) ≡ heard (done ++ next ∷ []) old new x
+  heard_push x =
+      elim (cases_eq x.patch.number next) [
+        | inl same ↦
+            let there : is_among (done ++ next ∷ []) x.patch.number ≡ true = ap (is_among (done ++ next ∷ [])) same ∙ among_push_same done next in
+            let hears_it : heard (done ++ next ∷ []) old new x ≡ hears old new x = rw there refl in
+            rw (heard_next x same) (at_same next (hears old new) x same ∙ sym hears_it)
+        | inr other ↦
+            let alike : is_among (done ++ next ∷ []) x.patch.number ≡ is_among done x.patch.number = among_push_other done next x.patch.number (λ e. other (sym e)) in
+            let same : heard (done ++ next ∷ []) old new x ≡ heard done old new x = rw alike refl in
+            at_other next (hears old new) (heard done old new x) (λ e. other (sym (heard_number done old new x) ∙ e)) ∙ sym same
+      ]
+
+  -- one more of the row hears
+  pub heard_more : (nodes : List Node) → map (at_number next (hears old new)) (map (heard done old new) nodes) ≡ map (heard (take (i + 1) row) old new) nodes
+  heard_more nodes = rw (take_more row i 0 lt) (map_twice (at_number next (hears old new)) (heard done old new) (heard (done ++ next ∷ []) old new) heard_push nodes)
+
+  any_next : (nodes : List Node) → list_any (λ x. (x.patch.number == next) && wakes old new x) (map (heard done old new) nodes) ≡ list_any (λ x. (x.patch.number == next) && wakes old new x) nodes
+  any_next [] = refl
+  any_next (x ∷ xs) = elim (cases_eq x.patch.number next) [
+    | inl same ↦ rw (heard_next x same, any_next xs) refl
+    | inr other ↦ rw (ne_eqb (heard done old new x).patch.number next (λ e. other (sym (heard_number done old new x) ∙ e)), ne_eqb x.patch.number next other) (any_next xs)
+  ]
+
+  woken_next : (nodes : List Node) → woken (next ∷ []) old new (map (heard done old new) nodes) ≡ woken (next ∷ []) old new nodes
+  woken_next nodes = ap (λ t. if t then next ∷ [] else []) (any_next nodes)
+
+  pub woken_more : (nodes : List Node) → woken done old new nodes ++ woken (next ∷ []) old new (map (heard done old new) nodes) ≡ woken (take (i + 1) row) old new nodes
+  woken_more nodes =
+      ap (λ ms. woken done old new nodes ++ ms) (woken_next nodes)
+      ∙ (sym (filter-append (λ n. list_any (λ x. (x.patch.number == n) && wakes old new x) nodes) done (next ∷ []))
+      ∙ ap (λ ms. woken ms old new nodes) (sym (take_more row i 0 lt)))
+
+  -- there is room for what wakes
+  pub woken_room : (nodes : List Node) (x : Node) → Contains (map (heard done old new) nodes) x → x.patch.number ≡ next → wakes old new x ≡ true
+      → length (woken done old new nodes) < length (woken row old new nodes)
+  woken_room nodes x c e w =
+      let now = map (heard done old new) nodes in
+      let hit = list_any-from_Any (λ x. (x.patch.number == next) && wakes old new x) now (c.0, x, c.1, c.2, and_from (x.patch.number == next) (wakes old new x) (eq-eqb x.patch.number next e) w) in
+      let one : woken (next ∷ []) old new now ≡ next ∷ [] = ap (λ t. if t then next ∷ [] else []) hit in
+      let more = ap length (sym (ap (λ ms. woken done old new nodes ++ ms) one) ∙ woken_more nodes) in
+      let all = ap length (ap (λ ms. woken ms old new nodes) (sym (take-append-drop (i + 1) row)) ∙ filter-append (λ n. list_any (λ x. (x.patch.number == n) && wakes old new x) nodes) (take (i + 1) row) (drop (i + 1) row)) in
+      let before = length-append (woken done old new nodes) (next ∷ []) in
+      let parts = length-append (woken (take (i + 1) row) old new nodes) (woken (drop (i + 1) row) old new nodes) in
+      let single : length (next ∷ []) ≡ 1 = refl in
+      omega (arith, more, all, before, parts, single)

@@ -1,0 +1,433 @@
+-- How a spread begins, and what it leaves.
+use Rattle.std.proofs.Common.{◌≡◌, ◌≢◌, ◌⊎◌, ◌↔◌, ◌==◌, ◌&&◌, ◌<◌, ℕ, Bool, true, false, not, cond, List, [], ◌∷◌, Some, length, map, filter, AllPairs, Contains, refl, sym, ap, subst, ◌∙◌, inl, inr, arith}
+use Rattle.std.specs.List.{list_any}
+use Rattle.std.proofs.lemmas.Bool.{cases_Bool, cases_eq, eq-eqb, ne_eqb, eqb-true, both_ways, and_right}
+use Rattle.std.proofs.lemmas.List.{length-map, get_or-map}
+use Rattle.std.proofs.lemmas.List.Kept.{AllPairs-filter}
+use Rattle.fst_types.specs.declared.place.Place.{Place}
+use Rattle.fst_types.specs.declared.place.Place.TheVariants as place
+use Rattle.fst_types.specs.Cascade.{IsCascadeOf, Follows, RestsOnDisk, unsettled}
+use Rattle.fst_types.specs.Dependencies.{IsOnDisk}
+use Rattle.fst_types.specs.Facts.{HasOnePlaceEach, HeadsAreLawful}
+use Rattle.fst_types.specs.Gates.{IsOpenNumber}
+use Rattle.fst_types.specs.Gating.{sealed}
+use Rattle.fst_types.specs.Patches.{Kind, Change, Empty, OpenGate, SealedGate, Patch, block_of_kind}
+use Rattle.fst_types.specs.Tests.{is_live, is_on, is_change_at}
+use Rattle.fst_types.specs.Writing.{landed}
+use Rattle.fst_types.proofs.Cascades.{no_follower_on, all_settled}
+use Rattle.fst_types.proofs.Crash.{same_number}
+use Rattle.fst_types.proofs.Dropping.{filter_in, in_filter}
+use Rattle.fst_types.proofs.Finite.{In, In-from_Contains, Contains-from_In, In-map}
+use Rattle.fst_types.proofs.GateGains.{In-unmap}
+use Rattle.fst_types.proofs.Landing.{landed_cases, change_at, at_change}
+use Rattle.fst_heads.specs.declared.pending.Pending.{Pending}
+use Rattle.fst_heads.specs.declared.pending.Pending.TheVariants as pending
+use Rattle.fst_heads.specs.declared.pending.Sums.{Sums}
+use Rattle.fst_heads.specs.Keeps.{IsInside}
+use Rattle.fst_heads.specs.Lists.{Entry, AreListed, is_live_on, entries_on, flying_on}
+use Rattle.fst_heads.specs.Nodes.{Node, patches_in, pending_in, at_number, AreLinked, AreGiven, AreDistinct, AreSettled}
+use Rattle.fst_heads.specs.Pendings.{is_pending, joined, joined_sums, of_kind}
+use Rattle.fst_heads.specs.Spreading.{Spreading, IsSpreadOf, unspread, now, is_told, seals, lands, wakes_sealed}
+use Rattle.fst_heads.proofs.AtNumber.{at_same, at_other}
+use Rattle.fst_heads.proofs.Begins.{Begins, Sound, sound_at_rest, stays_told, begun}
+use Rattle.fst_heads.proofs.Forgetting.{and_parts}
+use Rattle.fst_heads.proofs.Joining.{held_sinks, sinks_to_nothing}
+use Rattle.fst_heads.proofs.Pended.{now_row, told_now}
+use Rattle.fst_heads.proofs.PendingIn.{found}
+use Rattle.fst_heads.proofs.Waiting.{pending_of}
+use Rattle.fst_heads.proofs.Placed.{SameLinks, links_mapped, linked_kept, given_kept, patch_in, node_of_patch, number_if, dependencies_if}
+use Rattle.fst_heads.proofs.Slots.{some_element}
+use Rattle.fst_heads.proofs.SpreadKept.{SameEntry, links_spread, distinct_kept, unsettled_spread, entries_more, entries_settled}
+use Rattle.fst_heads.proofs.Sums.{joined_nothing, joined_all_nothing}
+
+-- what passes a test among the elements
+any_found : {X : Type 0} (t : X → Bool) (xs : List X) → list_any t xs ≡ true → (x : X) × In xs x × (t x ≡ true)
+any_found t [] e = cc
+any_found t (x ∷ xs) e = elim (cases_Bool (t x)) [
+  | inl yes_x ↦ (x, inl refl, yes_x)
+  | inr no_x ↦ let r = any_found t xs (rw no_x at e) in (r.0, inr r.1, r.2)
+]
+
+any_fails : {X : Type 0} (t : X → Bool) (xs : List X) (x : X) → In xs x → t x ≡ true → list_any t xs ≡ true
+any_fails t [] x h e = absurd h
+any_fails t (y ∷ ys) x (inl s) e = rw (subst (λ z. t z ≡ true) (sym s) e) refl
+any_fails t (y ∷ ys) x (inr h) e = elim (cases_Bool (t y)) [ inl yes_y ↦ rw yes_y refl | inr no_y ↦ rw no_y (any_fails t ys x h e) ]
+
+-- a row has nothing pending exactly where it has none that is not on disk
+none_left : (s : Sums) → s.count ≡ 0 → joined_sums s ≡ pending.Nothing
+none_left s e = rw (eq-eqb s.count 0 e) refl
+
+some_left : (s : Sums) → s.count ≢ 0 → joined_sums s ≢ pending.Nothing
+some_left s ne e = go (s.count == 0) _ _ _ (ne_eqb s.count 0 ne) e
+  where
+    go : (t u v : Bool) (b : ℕ) → t ≡ false → cond t pending.Nothing (cond u (cond v (pending.Block b) pending.Apart) pending.Held) ≡ pending.Nothing → ⊥
+    go true u v b f e = cc
+    go false true true b f e = cc
+    go false true false b f e = cc
+    go false false v b f e = cc
+
+-- a sealed gate is on disk where its row has none that is not there
+sealed_cases : (x : Node) → ((x.sums.count ≡ 0) × (seals x ≡ record x { patch = record x.patch { kind = SealedGate; place = place.Disk } })) ⊎ ((x.sums.count ≢ 0) × (seals x ≡ record x { patch = record x.patch { kind = SealedGate } }))
+sealed_cases x = elim (cases_eq x.sums.count 0) [
+  | inl e ↦ inl (e, rw (eq-eqb x.sums.count 0 e) refl)
+  | inr ne ↦ inr (ne, rw (ne_eqb x.sums.count 0 ne) refl)
+]
+
+-- nothing but the patch's kind and place differs
+pub record SameBut (x y : Node) : Type 0 where
+  pub links : SameLinks x y
+  pub sums : y.sums ≡ x.sums
+  pub pending : y.pending ≡ x.pending
+
+same_but : (x : Node) → SameBut x x
+same_but x = record { links = record { number = refl; dependencies = refl; dependants = refl }; sums = refl; pending = refl }
+
+seals_same : (x : Node) → SameBut x (seals x)
+seals_same x = elim (sealed_cases x) [
+  | inl e ↦ subst (SameBut x) (sym e.1) (record { links = record { number = refl; dependencies = refl; dependants = refl }; sums = refl; pending = refl })
+  | inr e ↦ subst (SameBut x) (sym e.1) (record { links = record { number = refl; dependencies = refl; dependants = refl }; sums = refl; pending = refl })
+]
+
+pub seal_same : (g : ℕ) (x : Node) → SameBut x (at_number g seals x)
+seal_same g x = elim (cases_eq x.patch.number g) [
+  | inl e ↦ subst (SameBut x) (sym (at_same g seals x e)) (seals_same x)
+  | inr ne ↦ subst (SameBut x) (sym (at_other g seals x ne)) (same_but x)
+]
+
+not_true : (b : Bool) → not b ≡ true → b ≡ false
+not_true true e = cc
+not_true false e = refl
+
+and_both : (a b : Bool) → a ≡ true → b ≡ false → (a && not b) ≡ true
+and_both a b e f = rw (e, f) refl
+
+module _ (nodes : List Node) (numbers blocks g : ℕ) (H : HeadsAreLawful (patches_in nodes) numbers) (inside : IsInside (patches_in nodes) blocks) (S : AreSettled nodes blocks) (gate : IsOpenNumber (patches_in nodes) g) where
+  -- the node with the number is an open gate in memory, and is sealed; the others stay
+  seal_cases : (x : Node) → Contains nodes x → ((x.patch.number ≡ g) × (x.patch.kind ≡ OpenGate) × (x.patch.place ≡ place.Memory) × (at_number g seals x ≡ seals x)) ⊎ ((x.patch.number ≢ g) × (at_number g seals x ≡ x))
+  seal_cases x c = elim (cases_eq x.patch.number g) [
+    | inl e ↦
+        let h = patch_in nodes x c in
+        let same = same_number (patches_in nodes) x.patch gate.patch H.one_place_each.rising h gate.head (e ∙ sym gate.numbered) in
+        let is_open : x.patch.kind ≡ OpenGate = ap (λ (p : Patch). p.kind) same ∙ gate.is_open in
+        inl (e, is_open, H.on_disk_with_all.open_gates x.patch h is_open, at_same g seals x e)
+    | inr ne ↦ inr (ne, at_other g seals x ne)
+  ]
+
+  open_held : (x : Node) → Contains nodes x → x.patch.kind ≡ OpenGate → x.pending ≡ pending.Held
+  open_held x c is_open = S.settled x c ∙ ap (λ k. of_kind k x.patch.place (joined (pending_in nodes) x.patch.dependencies)) is_open
+
+  seals_sound : (x : Node) → Contains nodes x → x.patch.kind ≡ OpenGate → x.patch.place ≡ place.Memory → Sound (seals x) blocks
+  seals_sound x c is_open memory = elim (sealed_cases x) [
+    | inl e ↦ subst (λ y. Sound y blocks) (sym e.1) (record {
+      sinks = rw (open_held x c is_open) (held_sinks (now (record x { patch = record x.patch { kind = SealedGate; place = place.Disk } })));
+      placed = (λ n. refl, λ d. none_left x.sums e.0);
+      follow = λ f. inr refl;
+      changes = λ b at len grade k. absurd (cc);
+    })
+    | inr e ↦ subst (λ y. Sound y blocks) (sym e.1) (record {
+      sinks = rw (open_held x c is_open) (held_sinks (now (record x { patch = record x.patch { kind = SealedGate } })));
+      placed = (λ n. absurd (some_left x.sums e.0 n), λ d. absurd (cc));
+      follow = λ f. inl memory;
+      changes = λ b at len grade k. absurd (cc);
+    })
+  ]
+
+  -- whether the sealed gate waits
+  wake_cases : ((x : Node) × Contains nodes x × (x.patch.number ≡ g) × (is_told (seals x) ≡ false) × (wakes_sealed g nodes ≡ g ∷ []))
+      ⊎ (((x : Node) → Contains nodes x → x.patch.number ≡ g → is_told (seals x) ≡ false → ⊥) × (wakes_sealed g nodes ≡ []))
+  wake_cases =
+      let t = λ (x : Node). (x.patch.number == g) && not (is_told (seals x)) in
+      elim (cases_Bool (list_any t nodes)) [
+        | inl e ↦
+            let r = any_found t nodes e in
+            let both = and_parts (r.0.patch.number == g) (not (is_told (seals r.0))) r.2 in
+            inl (r.0, Contains-from_In nodes r.0 r.1, eqb-true r.0.patch.number g both.0, not_true (is_told (seals r.0)) both.1, ap (λ b. cond b (g ∷ []) []) e)
+        | inr e ↦ inr (
+          λ x c n untold.
+              let found = any_fails t nodes x (In-from_Contains nodes x c) (and_both (x.patch.number == g) (is_told (seals x)) (eq-eqb x.patch.number g n) untold) in
+              both_ways (list_any t nodes) e found,
+          ap (λ b. cond b (g ∷ []) []) e,
+        )
+      ]
+
+  seal_begins : Begins nodes blocks (at_number g seals) (wakes_sealed g nodes)
+  seal_begins = record {
+    links = λ x. (seal_same g x).links;
+    sums = λ x. (seal_same g x).sums;
+    pending = λ x. (seal_same g x).pending;
+    sound = λ x c. elim (seal_cases x c) [
+      | inl s ↦ subst (λ y. Sound y blocks) (sym s.3) (seals_sound x c s.1 s.2)
+      | inr s ↦ subst (λ y. Sound y blocks) (sym s.1) (sound_at_rest nodes numbers blocks H inside S x c)
+    ];
+    queued = λ n c. elim wake_cases [
+      | inl r ↦ elim (In-from_Contains (g ∷ []) n (subst (λ q. Contains q n) r.4 c)) [
+        | inl e ↦ (r.0, r.1, r.2 ∙ e, ap is_told (at_same g seals r.0 r.2) ∙ r.3)
+        | inr no_more ↦ absurd no_more
+      ]
+      | inr none ↦ absurd (In-from_Contains [] n (subst (λ q. Contains q n) none.1 c))
+    ];
+    waits = λ x c untold. elim (seal_cases x c) [
+      | inl s ↦ elim wake_cases [
+        | inl r ↦ subst (λ q. Contains q x.patch.number) (sym r.4) (0, omega arith, sym s.0)
+        | inr none ↦ absurd (none.0 x c s.0 (sym (ap is_told s.3) ∙ untold))
+      ]
+      | inr s ↦ absurd (both_ways (is_told x) (sym (ap is_told s.1) ∙ untold) (stays_told nodes blocks S x c))
+    ];
+    once = elim wake_cases [
+      | inl r ↦ subst (λ q. AllPairs (λ m n. m ≢ n) q) (sym r.4) (λ i j d lt within. absurd (omega (arith, lt, within)))
+      | inr none ↦ subst (λ q. AllPairs (λ m n. m ≢ n) q) (sym none.1) (λ i j d lt within. absurd (omega (arith, lt, within)))
+    ];
+  }
+
+-- where a gate is sealed
+pub starts_sealed : (nodes : List Node) (numbers blocks g : ℕ) → HeadsAreLawful (patches_in nodes) numbers → IsInside (patches_in nodes) blocks → AreSettled nodes blocks → IsOpenNumber (patches_in nodes) g
+    → Spreading (map (at_number g seals) nodes) blocks (wakes_sealed g nodes)
+starts_sealed nodes numbers blocks g H inside S gate =
+    begun nodes blocks (at_number g seals) (wakes_sealed g nodes) (seal_begins nodes numbers blocks g H inside S gate) H.one_place_each.rising S
+
+-- a change on disk has nothing pending
+nothing_on_disk : (k : Kind) (b : ℕ) (below : Pending) → block_of_kind k ≡ Some b → of_kind k place.Disk below ≡ pending.Nothing
+nothing_on_disk (Change block at len grade) b below on = refl
+nothing_on_disk Empty b below on = cc
+nothing_on_disk OpenGate b below on = cc
+nothing_on_disk SealedGate b below on = cc
+
+not_nothing : (p : Pending) → p ≢ pending.Nothing → is_pending pending.Nothing p ≡ false
+not_nothing pending.Nothing ne = absurd (ne refl)
+not_nothing (pending.Block b) ne = refl
+not_nothing pending.Apart ne = refl
+not_nothing pending.Held ne = refl
+
+pub land_same : (b : ℕ) (x : Node) → SameBut x (lands b x)
+land_same b x = record {
+  links = record { number = number_if (is_change_at place.Flight b x.patch) x.patch _ refl; dependencies = dependencies_if (is_change_at place.Flight b x.patch) x.patch _ refl; dependants = refl };
+  sums = refl;
+  pending = refl;
+}
+
+module _ (nodes : List Node) (numbers blocks b : ℕ) (H : HeadsAreLawful (patches_in nodes) numbers) (inside : IsInside (patches_in nodes) blocks) (S : AreSettled nodes blocks) where
+  -- a number of what flies on the block
+  flying_in : (n : ℕ) → Contains (flying_on b (patches_in nodes)) n → (x : Node) × Contains nodes x × (x.patch.number ≡ n) × (is_change_at place.Flight b x.patch ≡ true)
+  flying_in n c =
+      let r = In-unmap (λ (p : Patch). p.number) (filter (is_change_at place.Flight b) (patches_in nodes)) n (In-from_Contains _ n c) in
+      let k = filter_in (is_change_at place.Flight b) (patches_in nodes) r.0 r.1 in
+      let x = node_of_patch nodes r.0 (Contains-from_In (patches_in nodes) r.0 k.0) in
+      (x.0, x.1, ap (λ p. p.number) x.2 ∙ r.2, subst (λ p. is_change_at place.Flight b p ≡ true) (sym x.2) k.1)
+
+  in_flying : (x : Node) → Contains nodes x → is_change_at place.Flight b x.patch ≡ true → Contains (flying_on b (patches_in nodes)) x.patch.number
+  in_flying x c flies =
+      let k = in_filter (is_change_at place.Flight b) (patches_in nodes) x.patch (In-from_Contains (patches_in nodes) x.patch (patch_in nodes x c)) flies in
+      Contains-from_In _ x.patch.number (In-map (λ (p : Patch). p.number) (filter (is_change_at place.Flight b) (patches_in nodes)) x.patch x.patch.number k refl)
+
+  flying_once : AllPairs (λ m n. m ≢ n) (flying_on b (patches_in nodes))
+  flying_once i j d lt within same =
+      let fs = filter (is_change_at place.Flight b) (patches_in nodes) in
+      let rising = AllPairs-filter (λ (p : Patch) (q : Patch). p.number < q.number) (is_change_at place.Flight b) (patches_in nodes) H.one_place_each.rising in
+      let up : j < length fs = omega (arith, within, length-map fs (λ (p : Patch). p.number)) in
+      let e = some_element fs j up in
+      let r = rising i j e lt up in
+      let at = λ (k : ℕ) (up : k < length fs). get_or-map (λ (p : Patch). p.number) fs k e d up in
+      omega (arith, same, r, at i (omega (arith, lt, up)), at j up)
+
+  -- what lands was in flight; the others stay
+  land_cases : (x : Node) → ((is_change_at place.Flight b x.patch ≡ true) × (lands b x ≡ record x { patch = record x.patch { place = place.Disk } })) ⊎ (lands b x ≡ x)
+  land_cases x = elim (landed_cases b x.patch) [
+    | inl m ↦ inl (at_change place.Flight b x.patch m.0 m.1, ap (λ p. record x { patch = p }) m.2)
+    | inr s ↦ inr (ap (λ p. record x { patch = p }) s.0)
+  ]
+
+  lands_sound : (x : Node) → Contains nodes x → Sound (lands b x) blocks
+  lands_sound x c = elim (land_cases x) [
+    | inl m ↦
+        let flies = change_at place.Flight b x.patch m.0 in
+        let nothing = nothing_on_disk x.patch.kind b (joined_sums x.sums) flies.0 in
+        subst (λ y. Sound y blocks) (sym m.1) (record {
+          sinks = rw nothing (sinks_to_nothing x.pending);
+          placed = (λ n. refl, λ d. nothing);
+          follow = λ f. absurd (no_follower_on x.patch.kind b flies.0 f);
+          changes = λ on at len grade k. inside x.patch on (patch_in nodes x c) (ap block_of_kind k);
+        })
+    | inr s ↦ subst (λ y. Sound y blocks) (sym s) (sound_at_rest nodes numbers blocks H inside S x c)
+  ]
+
+  -- its dependants were told of a change in flight that it is not on disk
+  lands_untold : (x : Node) → Contains nodes x → is_change_at place.Flight b x.patch ≡ true → is_told (lands b x) ≡ false
+  lands_untold x c here = elim (landed_cases b x.patch) [
+    | inl m ↦
+        let nothing = nothing_on_disk x.patch.kind b (joined_sums x.sums) m.0 in
+        let flies = m.1 in
+        ap (λ p. is_told (record x { patch = p })) m.2
+        ∙ (ap (λ p. is_pending p x.pending) nothing ∙ not_nothing x.pending (λ e. let d = (S.placed x c).0 e in cc))
+    | inr s ↦ let flies = change_at place.Flight b x.patch here in absurd (s.1 flies.0 flies.1)
+  ]
+
+  land_begins : Begins nodes blocks (lands b) (flying_on b (patches_in nodes))
+  land_begins = record {
+    links = λ x. (land_same b x).links;
+    sums = λ x. refl;
+    pending = λ x. refl;
+    sound = lands_sound;
+    queued = λ n c. let x = flying_in n c in (x.0, x.1, x.2, lands_untold x.0 x.1 x.3);
+    waits = λ x c untold. elim (land_cases x) [
+      | inl m ↦ in_flying x c m.0
+      | inr s ↦ absurd (both_ways (is_told x) (sym (ap is_told s) ∙ untold) (stays_told nodes blocks S x c))
+    ];
+    once = flying_once;
+  }
+
+-- where a block landed
+pub starts_landed : (nodes : List Node) (numbers blocks b : ℕ) → HeadsAreLawful (patches_in nodes) numbers → IsInside (patches_in nodes) blocks → AreSettled nodes blocks
+    → Spreading (map (lands b) nodes) blocks (flying_on b (patches_in nodes))
+starts_landed nodes numbers blocks b H inside S =
+    begun nodes blocks (lands b) (flying_on b (patches_in nodes)) (land_begins nodes numbers blocks b H inside S) H.one_place_each.rising S
+
+-- a patch that follows has nothing pending besides its row
+follows_row : (k : Kind) → Follows k → (at : Place) (below : Pending) → of_kind k at below ≡ below
+follows_row (Change block on len grade) f at below = absurd f
+follows_row Empty f at below = refl
+follows_row OpenGate f at below = absurd f
+follows_row SealedGate f at below = refl
+
+module _ (nodes : List Node) (blocks : ℕ) (S : Spreading nodes blocks []) where
+  -- all are told
+  all_told : (x : Node) → Contains nodes x → now x ≡ x.pending
+  all_told x c = elim (cases_Bool (is_told x)) [
+    | inl told ↦ told_now x told
+    | inr untold ↦ absurd (In-from_Contains [] x.patch.number (S.waits x c untold))
+  ]
+
+  -- nothing is pending of a number exactly where it is on disk
+  nothing_disk : (n : ℕ) → pending_in nodes n ≡ pending.Nothing → IsOnDisk (patches_in nodes) n
+  nothing_disk n none p h numbered =
+      let x = node_of_patch nodes p h in
+      let here : pending_in nodes n ≡ x.0.pending = subst (λ m. pending_in nodes m ≡ x.0.pending) (ap (λ (q : Patch). q.number) x.2 ∙ numbered) (pending_of nodes x.0 S.rising x.1) in
+      sym (ap (λ (q : Patch). q.place) x.2) ∙ (S.placed x.0 x.1).0 (all_told x.0 x.1 ∙ (sym here ∙ none))
+
+  disk_nothing : (n : ℕ) → IsOnDisk (patches_in nodes) n → pending_in nodes n ≡ pending.Nothing
+  disk_nothing n disk = elim (found nodes n) [
+    | inl f ↦ f.told ∙ (sym (all_told f.node f.head) ∙ (S.placed f.node f.head).1 (disk f.node.patch (patch_in nodes f.node f.head) f.numbered))
+    | inr none ↦ none
+  ]
+
+  row_now : (x : Node) → Contains nodes x → Follows x.patch.kind → now x ≡ joined (pending_in nodes) x.patch.dependencies
+  row_now x c f = now_row (pending_in nodes) x (S.summed x c) ∙ follows_row x.patch.kind f x.patch.place (joined (pending_in nodes) x.patch.dependencies)
+
+  disk_rests : (x : Node) → Contains nodes x → Follows x.patch.kind → x.patch.place ≡ place.Disk → RestsOnDisk (patches_in nodes) x.patch
+  disk_rests x c f disk n named =
+      nothing_disk n (joined_nothing (pending_in nodes) x.patch.dependencies (sym (row_now x c f) ∙ (S.placed x c).1 disk) n named)
+
+  rests_disk : (x : Node) → Contains nodes x → Follows x.patch.kind → RestsOnDisk (patches_in nodes) x.patch → x.patch.place ≡ place.Disk
+  rests_disk x c f rests =
+      (S.placed x c).0 (row_now x c f ∙ joined_all_nothing (pending_in nodes) x.patch.dependencies (λ n named. disk_nothing n (rests n named)))
+
+-- where nothing waits
+pub settled_spread : (nodes : List Node) (blocks : ℕ) → Spreading nodes blocks [] → AreSettled nodes blocks
+settled_spread nodes blocks S = record {
+  summed = S.summed;
+  settled = λ x c. sym (all_told nodes blocks S x c) ∙ now_row (pending_in nodes) x (S.summed x c);
+  placed = λ x c. let told = all_told nodes blocks S x c in (λ e. (S.placed x c).0 (told ∙ e), λ d. sym told ∙ (S.placed x c).1 d);
+  inside = S.inside;
+}
+
+pub cascaded_spread : (old new : List Node) (blocks : ℕ) → Spreading new blocks [] → IsSpreadOf old new → IsCascadeOf (patches_in old) (patches_in new)
+cascaded_spread old new blocks S spread = record {
+  same = unsettled_spread old new spread;
+  places = λ p c f. let x = node_of_patch new p c in subst (λ (q : Patch). (q.place ≡ place.Memory) ⊎ (q.place ≡ place.Disk)) x.2 (S.follow x.0 x.1 (subst (λ (q : Patch). Follows q.kind) (sym x.2) f));
+  settled = λ p c f.
+      let x = node_of_patch new p c in
+      let g = subst (λ (q : Patch). Follows q.kind) (sym x.2) f in
+      subst (λ (q : Patch). (q.place ≡ place.Disk) ↔ RestsOnDisk (patches_in new) q) x.2 (disk_rests new blocks S x.0 x.1 g, rests_disk new blocks S x.0 x.1 g);
+}
+
+pub patches_landed : (nodes : List Node) (b : ℕ) → patches_in (map (lands b) nodes) ≡ map (landed b) (patches_in nodes)
+patches_landed [] b = refl
+patches_landed (x ∷ xs) b = let r = patches_landed xs b in rw r refl
+
+pub unsettled_sealed : (nodes : List Node) (g : ℕ) → map unsettled (patches_in (map (at_number g seals) nodes)) ≡ map unsettled (map (sealed g) (patches_in nodes))
+unsettled_sealed [] g = refl
+unsettled_sealed (x ∷ xs) g =
+    let r = unsettled_sealed xs g in
+    let first : unsettled (at_number g seals x).patch ≡ unsettled (sealed g x.patch) = elim (cases_eq x.patch.number g) [
+      | inl e ↦ rw (eq-eqb x.patch.number g e) (elim (sealed_cases x) [ inl s ↦ ap (λ (y : Node). unsettled y.patch) s.1 | inr s ↦ ap (λ (y : Node). unsettled y.patch) s.1 ])
+      | inr ne ↦ rw (ne_eqb x.patch.number g ne) refl
+    ] in
+    rw (first, r) refl
+
+-- a spread keeps links, what was given, and the lists
+pub spread_trans : (old mid new : List Node) → IsSpreadOf old mid → IsSpreadOf mid new → IsSpreadOf old new
+spread_trans old mid new a b = b ∙ a
+
+pub length_spread : (old new : List Node) → IsSpreadOf old new → length new ≡ length old
+length_spread old new spread = sym (length-map new unspread) ∙ (ap length spread ∙ length-map old unspread)
+
+pub linked_spread : (old new : List Node) → IsSpreadOf old new → AreLinked old → AreLinked new
+linked_spread old new spread L = linked_kept old new (links_spread old new spread) L
+
+pub given_spread : (old new : List Node) (numbers : ℕ) → IsSpreadOf old new → AreGiven old numbers → AreGiven new numbers
+given_spread old new numbers spread G = given_kept old new numbers (links_spread old new spread) G
+
+pub distinct_spread : (old new : List Node) → IsSpreadOf old new → AreDistinct old → AreDistinct new
+distinct_spread old new spread D = distinct_kept old new (links_spread old new spread) D
+
+pub listed_spread : (old new : List Node) (blocks : ℕ) (lists : List (List Entry)) → IsSpreadOf old new → AreListed (patches_in old) blocks lists → AreListed (patches_in new) blocks lists
+listed_spread old new blocks lists spread A = record {
+  long = A.long;
+  each = λ b d lt. A.each b d lt ∙ sym (entries_settled b (patches_in old) (patches_in new) (all_settled (patches_in old) (patches_in new) (unsettled_spread old new spread)));
+}
+
+pub linked_sealed : (nodes : List Node) (g : ℕ) → AreLinked nodes → AreLinked (map (at_number g seals) nodes)
+linked_sealed nodes g L = linked_kept nodes (map (at_number g seals) nodes) (links_mapped (at_number g seals) nodes (λ x. (seal_same g x).links)) L
+
+pub distinct_sealed : (nodes : List Node) (g : ℕ) → AreDistinct nodes → AreDistinct (map (at_number g seals) nodes)
+distinct_sealed nodes g D = distinct_kept nodes (map (at_number g seals) nodes) (links_mapped (at_number g seals) nodes (λ x. (seal_same g x).links)) D
+
+pub linked_landed : (nodes : List Node) (b : ℕ) → AreLinked nodes → AreLinked (map (lands b) nodes)
+linked_landed nodes b L = linked_kept nodes (map (lands b) nodes) (links_mapped (lands b) nodes (λ x. (land_same b x).links)) L
+
+pub distinct_landed : (nodes : List Node) (b : ℕ) → AreDistinct nodes → AreDistinct (map (lands b) nodes)
+distinct_landed nodes b D = distinct_kept nodes (map (lands b) nodes) (links_mapped (lands b) nodes (λ x. (land_same b x).links)) D
+
+pub given_sealed : (nodes : List Node) (numbers g : ℕ) → AreGiven nodes numbers → AreGiven (map (at_number g seals) nodes) numbers
+given_sealed nodes numbers g G = given_kept nodes (map (at_number g seals) nodes) numbers (links_mapped (at_number g seals) nodes (λ x. (seal_same g x).links)) G
+
+pub given_landed : (nodes : List Node) (numbers b : ℕ) → AreGiven nodes numbers → AreGiven (map (lands b) nodes) numbers
+given_landed nodes numbers b G = given_kept nodes (map (lands b) nodes) numbers (links_mapped (lands b) nodes (λ x. (land_same b x).links)) G
+
+-- a gate stands in no list, open or sealed
+gate_entry : (b : ℕ) (p q : Patch) (k l : Kind) → p.kind ≡ k → q.kind ≡ l → is_on b k ≡ false → is_on b l ≡ false → SameEntry b p q
+gate_entry b p q k l e f off gone = record {
+  live = none q l f gone ∙ sym (none p k e off);
+  same = λ t. absurd (both_ways (is_live_on b p) (none p k e off) t);
+}
+  where
+    none : (r : Patch) (m : Kind) → r.kind ≡ m → is_on b m ≡ false → is_live_on b r ≡ false
+    none r m is off = and_right (is_live r) (is_on b r.kind) (ap (is_on b) is ∙ off)
+
+seals_entry : (b : ℕ) (x : Node) → x.patch.kind ≡ OpenGate → SameEntry b x.patch (seals x).patch
+seals_entry b x e = elim (sealed_cases x) [
+  | inl s ↦ gate_entry b x.patch (seals x).patch OpenGate SealedGate e (ap (λ (y : Node). y.patch.kind) s.1) refl refl
+  | inr s ↦ gate_entry b x.patch (seals x).patch OpenGate SealedGate e (ap (λ (y : Node). y.patch.kind) s.1) refl refl
+]
+
+module _ (nodes : List Node) (numbers g : ℕ) (H : HasOnePlaceEach (patches_in nodes) numbers) (gate : IsOpenNumber (patches_in nodes) g) where
+  seal_entry : (b : ℕ) (x : Node) → Contains nodes x → SameEntry b x.patch (at_number g seals x).patch
+  seal_entry b x c = elim (cases_eq x.patch.number g) [
+    | inl e ↦
+        let same = same_number (patches_in nodes) x.patch gate.patch H.rising (patch_in nodes x c) gate.head (e ∙ sym gate.numbered) in
+        subst (λ (y : Node). SameEntry b x.patch y.patch) (sym (at_same g seals x e)) (seals_entry b x (ap (λ (p : Patch). p.kind) same ∙ gate.is_open))
+    | inr ne ↦ subst (λ (y : Node). SameEntry b x.patch y.patch) (sym (at_other g seals x ne)) (record { live = refl; same = λ t. refl })
+  ]
+
+  entries_sealed : (b : ℕ) → entries_on b (patches_in (map (at_number g seals) nodes)) ≡ entries_on b (patches_in nodes)
+  entries_sealed b = go nodes (λ x h. seal_entry b x (Contains-from_In nodes x h))
+    where
+      go : (xs : List Node) → ((x : Node) → In xs x → SameEntry b x.patch (at_number g seals x).patch) → entries_on b (patches_in (map (at_number g seals) xs)) ≡ entries_on b (patches_in xs)
+      go [] each = refl
+      go (x ∷ xs) each = entries_more b x.patch (at_number g seals x).patch (patches_in xs) (patches_in (map (at_number g seals) xs)) (each x (inl refl)) (go xs (λ y h. each y (inr h)))
+
+pub listed_sealed : (nodes : List Node) (numbers blocks g : ℕ) (lists : List (List Entry)) → HasOnePlaceEach (patches_in nodes) numbers → IsOpenNumber (patches_in nodes) g
+    → AreListed (patches_in nodes) blocks lists → AreListed (patches_in (map (at_number g seals) nodes)) blocks lists
+listed_sealed nodes numbers blocks g lists H gate A = record {
+  long = A.long;
+  each = λ b d lt. A.each b d lt ∙ sym (entries_sealed nodes numbers g H gate b);
+}

@@ -1,0 +1,284 @@
+-- One step of a spread: what is pending of one patch now is told to its dependants.
+use Rattle.std.proofs.Common.{◌≡◌, ◌≢◌, ◌⊎◌, ◌↔◌, ◌<◌, ◌≤◌, ℕ, true, false, List, [], ◌∷◌, ◌++◌, length, map, Contains, AllPairs, refl, sym, ap, subst, ◌∙◌, inl, inr, arith}
+use Rattle.std.proofs.lemmas.Bool.{cases_Bool, cases_eq, both_ways}
+use Rattle.std.proofs.lemmas.List.{length-map}
+use Rattle.std.proofs.lemmas.List.Elements.{Contains-push, Contains-push_cases, Contains-append_left, Contains-append_right, Contains-append_cases}
+use Rattle.std.proofs.lemmas.List.Kept.{AllPairs-filter}
+use Rattle.fst_types.specs.declared.place.Place.TheVariants as place
+use Rattle.fst_types.specs.Cascade.{Follows}
+use Rattle.fst_types.proofs.Finite.{In, In-map, In_decided, In-from_Contains, Contains-from_In}
+use Rattle.fst_heads.specs.declared.pending.Pending.{Pending}
+use Rattle.fst_heads.specs.declared.pending.Pending.TheVariants as pending
+use Rattle.fst_heads.specs.Nodes.{Node, pending_in, at_number, AreLinked, AreDistinct}
+use Rattle.fst_heads.specs.Pendings.{Fits, HasIn, Sinks, joined, joined_sums, of_kind, plus, minus, sums_of, height, max_block}
+use Rattle.fst_heads.specs.Spreading.{Spreading, IsSpreadOf, CanHear, now, is_told, settles, heard, woken, heights, unspread}
+use Rattle.fst_heads.proofs.AtNumber.{at_same, at_other}
+use Rattle.fst_heads.proofs.Placed.{unmapped}
+use Rattle.fst_heads.proofs.Sums.{joined_exact, joined_some, joined_sinks, kind_sinks, sinks_on, sums_fit, sums_has, sums_moved, sums_same}
+use Rattle.fst_heads.proofs.Turning.{Turns, turned, turns, untold, not_told, told_now, sinks_nothing, never_back, lower_sinks, block_of}
+use Rattle.fst_heads.proofs.Waiting.{mapped, map_twice, same_node, pending_of, pending_node, pending_mapped, rising_mapped, heights_lower, times_some, some_times, once_fits, once_append, once_front, once_last, set_number, set_sums, woken_from, woken_to}
+
+-- blocks that are pending fit
+narrow_in : (nodes : List Node) (blocks : ℕ) (queue : List ℕ) → blocks ≤ max_block → Spreading nodes blocks queue → (n b : ℕ) → pending_in nodes n ≡ pending.Block b → b ≤ max_block
+narrow_in nodes blocks queue narrow S n b e =
+    let r = pending_node nodes n b e in
+    let within = S.inside r.0 b r.1 r.2 in
+    omega (arith, within, narrow)
+
+-- the sums of all fit
+pub spreading_fits : (nodes : List Node) (blocks : ℕ) (queue : List ℕ) → blocks ≤ max_block → Spreading nodes blocks queue → (x : Node) → Contains nodes x → Fits x.sums
+spreading_fits nodes blocks queue narrow S x c =
+    subst Fits (sym (S.summed x c)) (sums_fit (pending_in nodes) x.patch.dependencies (narrow_in nodes blocks queue narrow S))
+
+-- the queue names no more than there are
+pub queue_fits : (nodes : List Node) (blocks : ℕ) (queue : List ℕ) → Spreading nodes blocks queue → length queue ≤ length nodes
+queue_fits nodes blocks queue S =
+    let number = λ (y : Node). y.patch.number in
+    let few = once_fits queue (map number nodes) S.once (λ n h. let s = S.queued n (Contains-from_In queue n h) in In-map number nodes s.0 n (In-from_Contains nodes s.0 s.1) s.2) in
+    let long = length-map nodes number in
+    omega (arith, few, long)
+
+-- the last that waits is a patch of which other is pending than its dependants know
+pub last_waits : (nodes : List Node) (blocks : ℕ) (queue : List ℕ) (q : ℕ) → Spreading nodes blocks (queue ++ q ∷ []) → (x : Node) × Contains nodes x × (x.patch.number ≡ q) × (is_told x ≡ false)
+last_waits nodes blocks queue q S = S.queued q (Contains-push queue q)
+
+same_spread : (f : Node → Node) (nodes : List Node) → ((y : Node) → unspread (f y) ≡ unspread y) → map unspread (map f nodes) ≡ map unspread nodes
+same_spread f [] same = refl
+same_spread f (y ∷ ys) same = let first = same y in let rest = same_spread f ys same in cc
+
+module _ (nodes : List Node) (blocks : ℕ) (queue : List ℕ) (q : ℕ) (x : Node) (narrow : blocks ≤ max_block)
+    (S : Spreading nodes blocks (queue ++ q ∷ [])) (linked : AreLinked nodes) (distinct : AreDistinct nodes) (c : Contains nodes x) (e : x.patch.number ≡ q) where
+  -- it is told, and then its dependants
+  abbrev pub settled : List Node
+  settled = map (at_number q settles) nodes
+
+  abbrev pub told : List Node
+  told = map (heard x.dependants x.pending (now x)) settled
+
+  -- what is pending at each number, before and after
+  abbrev was : ℕ → Pending
+  was = pending_in nodes
+
+  abbrev is : ℕ → Pending
+  is = pending_in told
+
+  -- what becomes of a node
+  abbrev after : Node → Node
+  after = turned x.dependants x.pending (now x) q
+
+  turn : (y : Node) → Turns x.dependants x.pending (now x) q y (after y)
+  turn y = turns x.dependants x.pending (now x) q y
+
+  other : now x ≢ x.pending
+  other =
+      let s = last_waits nodes blocks queue q S in
+      untold x (subst (λ z. is_told z ≡ false) (same_node nodes s.0 x S.rising s.1 c (s.2 ∙ sym e)) s.3)
+
+  pub live : x.pending ≢ pending.Nothing
+  live none = other (sinks_nothing x.pending (now x) (S.sinks x c) none ∙ sym none)
+
+  in_one : told ≡ map after nodes
+  in_one = map_twice (heard x.dependants x.pending (now x)) (at_number q settles) nodes
+
+  goes_on : (y : Node) → Contains nodes y → Contains told (after y)
+  goes_on y cy = mapped (heard x.dependants x.pending (now x)) settled (at_number q settles y) (mapped (at_number q settles) nodes y cy)
+
+  came_from : (z : Node) → Contains told z → (y : Node) × Contains nodes y × (after y ≡ z)
+  came_from z cz =
+      let a = unmapped (heard x.dependants x.pending (now x)) settled z cz in
+      let b = unmapped (at_number q settles) nodes a.0 a.1 in
+      (b.0, b.1, ap (heard x.dependants x.pending (now x)) b.2 ∙ a.2)
+
+  keeps_number : (y : Node) → (after y).patch.number ≡ y.patch.number
+  keeps_number y = (turn y).stays.number
+
+  rising_on : AllPairs (λ a b. a.patch.number < b.patch.number) told
+  rising_on = subst (λ ns. AllPairs (λ a b. a.patch.number < b.patch.number) ns) (sym in_one) (rising_mapped after nodes keeps_number S.rising)
+
+  was_here : was q ≡ x.pending
+  was_here = ap was (sym e) ∙ pending_of nodes x S.rising c
+
+  is_here : is q ≡ now x
+  is_here = ap is (sym (keeps_number x ∙ e)) ∙ (pending_of told (after x) rising_on (goes_on x c) ∙ (turn x).as_it_is e)
+
+  is_elsewhere : (n : ℕ) → n ≢ q → is n ≡ was n
+  is_elsewhere n ne = ap (λ ns. pending_in ns n) in_one ∙ pending_mapped after nodes n keeps_number (λ y m. (turn y).as_it_was (λ s. ne (sym m ∙ s)))
+
+  each_sinks : (n : ℕ) → Sinks (was n) (is n)
+  each_sinks n = elim (cases_eq n q) [
+    | inl s ↦ subst (λ k. Sinks (was k) (is k)) (sym s) (subst (λ a. Sinks a (is q)) (sym was_here) (subst (Sinks x.pending) (sym is_here) (S.sinks x c)))
+    | inr ne ↦ inl (is_elsewhere n ne)
+  ]
+
+  -- its dependants are those that name it
+  named : (y : Node) → Contains nodes y → In x.dependants y.patch.number → In y.patch.dependencies q
+  named y cy h =
+      let l = linked y x cy c in
+      let some = times_some x.dependants y.patch.number h in
+      subst (In y.patch.dependencies) e (some_times y.patch.dependencies x.patch.number (omega (arith, l, some)))
+
+  unnamed : (y : Node) → Contains nodes y → (In x.dependants y.patch.number → ⊥) → (n : ℕ) → Contains y.patch.dependencies n → n ≢ q
+  unnamed y cy out n cn same =
+      let l = linked y x cy c in
+      let some = times_some y.patch.dependencies x.patch.number (subst (In y.patch.dependencies) (same ∙ sym e) (In-from_Contains y.patch.dependencies n cn)) in
+      out (some_times x.dependants y.patch.number (omega (arith, l, some)))
+
+  sums_are : (y : Node) → Contains nodes y → (after y).sums ≡ sums_of is y.patch.dependencies
+  sums_are y cy = elim (In_decided x.dependants y.patch.number) [
+    | inl h ↦
+        (turn y).moved h
+        ∙ (ap (λ a. plus a (minus x.pending y.sums)) (sym is_here)
+        ∙ (ap (λ a. plus (is q) (minus a y.sums)) (sym was_here)
+        ∙ (ap (λ s. plus (is q) (minus (was q) s)) (S.summed y cy)
+        ∙ sym (sums_moved was is y.patch.dependencies q (distinct y cy).0 (Contains-from_In y.patch.dependencies q (named y cy h)) is_elsewhere))))
+    | inr out ↦
+        ((turn y).same out).0
+        ∙ (S.summed y cy ∙ sym (sums_same was is y.patch.dependencies (λ n cn. is_elsewhere n (unnamed y cy out n cn))))
+  ]
+
+  now_was : (y : Node) → Contains nodes y → now y ≡ of_kind y.patch.kind y.patch.place (joined was y.patch.dependencies)
+  now_was y cy = ap (of_kind y.patch.kind y.patch.place) (ap joined_sums (S.summed y cy) ∙ joined_exact was y.patch.dependencies)
+
+  now_is : (y : Node) → Contains nodes y → now (after y) ≡ of_kind y.patch.kind y.patch.place (joined is y.patch.dependencies)
+  now_is y cy = (turn y).pends ∙ ap (of_kind y.patch.kind y.patch.place) (ap joined_sums (sums_are y cy) ∙ joined_exact is y.patch.dependencies)
+
+  now_sinks : (y : Node) → Contains nodes y → Sinks (now y) (now (after y))
+  now_sinks y cy =
+      let row = y.patch.dependencies in
+      let s = kind_sinks y.patch.kind y.patch.place (joined was row) (joined is row) (joined_sinks was is row (λ n cn. each_sinks n)) in
+      subst (λ a. Sinks a (now (after y))) (sym (now_was y cy)) (subst (Sinks (of_kind y.patch.kind y.patch.place (joined was row))) (sym (now_is y cy)) s)
+
+  -- where it hears nothing
+  now_same : (y : Node) → (In x.dependants y.patch.number → ⊥) → now (after y) ≡ now y
+  now_same y out = (turn y).pends ∙ ap (λ s. of_kind y.patch.kind y.patch.place (joined_sums s)) ((turn y).same out).0
+
+  sinks_at : (y : Node) → Contains nodes y → Sinks (after y).pending (now (after y))
+  sinks_at y cy = elim (cases_eq y.patch.number q) [
+    | inl n ↦ subst (λ a. Sinks a (now (after y))) (sym ((turn y).as_it_is n)) (now_sinks y cy)
+    | inr ne ↦ subst (λ a. Sinks a (now (after y))) (sym ((turn y).as_it_was ne)) (sinks_on y.pending (now y) (now (after y)) (S.sinks y cy) (now_sinks y cy))
+  ]
+
+  placed_at : (y : Node) → Contains nodes y → (now (after y) ≡ pending.Nothing) ↔ ((after y).patch.place ≡ place.Disk)
+  placed_at y cy = elim (In_decided x.dependants y.patch.number) [
+    | inl h ↦ (turn y).placed h (λ d. sinks_nothing (now y) (now (after y)) (now_sinks y cy) ((S.placed y cy).1 d))
+    | inr out ↦
+        let same = now_same y out in
+        let there = ((turn y).same out).1 in
+        (λ p. there ∙ (S.placed y cy).0 (sym same ∙ p), λ d. same ∙ (S.placed y cy).1 (sym there ∙ d))
+  ]
+
+  follow_at : (y : Node) → Contains nodes y → Follows (after y).patch.kind → ((after y).patch.place ≡ place.Memory) ⊎ ((after y).patch.place ≡ place.Disk)
+  follow_at y cy f = elim (turn y).places [
+    | inl same ↦ elim (S.follow y cy (subst Follows (turn y).stays.kind f)) [ inl memory ↦ inl (same ∙ memory) | inr disk ↦ inr (same ∙ disk) ]
+    | inr disk ↦ inr disk
+  ]
+
+  now_inside : (y : Node) (b : ℕ) → Contains nodes y → now y ≡ pending.Block b → b < blocks
+  now_inside y b cy p = elim (block_of y.patch.kind y.patch.place (joined was y.patch.dependencies) b (sym (now_was y cy) ∙ p)) [
+    | inl k ↦ S.changes y b k.0 k.1 k.2 cy k.3
+    | inr j ↦
+        let some = joined_some was y.patch.dependencies b j in
+        let r = pending_node nodes some.0 b some.2 in
+        S.inside r.0 b r.1 r.2
+  ]
+
+  inside_at : (y : Node) (b : ℕ) → Contains nodes y → (after y).pending ≡ pending.Block b → b < blocks
+  inside_at y b cy p = elim (cases_eq y.patch.number q) [
+    | inl n ↦ now_inside y b cy (sym ((turn y).as_it_is n) ∙ p)
+    | inr ne ↦ S.inside y b cy (sym ((turn y).as_it_was ne) ∙ p)
+  ]
+
+  abbrev waking : List ℕ
+  waking = woken x.dependants x.pending (now x) settled
+
+  queued_at : (m : ℕ) → Contains (queue ++ waking) m → (z : Node) × Contains told z × (z.patch.number ≡ m) × (is_told z ≡ false)
+  queued_at m cm = elim (Contains-append_cases queue waking m cm) [
+    | inl old ↦
+        let s = S.queued m (Contains-append_left queue (q ∷ []) m old) in
+        let ne = once_last queue q m S.once old in
+        let kept = (turn s.0).as_it_was (λ n. ne (sym s.2 ∙ n)) in (
+          after s.0,
+          goes_on s.0 s.1,
+          keeps_number s.0 ∙ s.2,
+          not_told (after s.0) (λ t. never_back s.0.pending (now s.0) (now (after s.0)) (S.sinks s.0 s.1) (untold s.0 s.3) (now_sinks s.0 s.1) (t ∙ kept)),
+        )
+    | inr new ↦
+        let w = woken_from nodes x.dependants x.pending (now x) q m new in
+        (after w.0, goes_on w.0 w.1, keeps_number w.0 ∙ w.2, w.4)
+  ]
+
+  in_front : (y : Node) → Contains nodes y → y.patch.number ≢ q → is_told y ≡ false → Contains (queue ++ waking) y.patch.number
+  in_front y cy ne u = elim (Contains-push_cases queue q y.patch.number (S.waits y cy u)) [
+    | inl old ↦ Contains-append_left queue waking y.patch.number old
+    | inr here ↦ absurd (ne (sym here))
+  ]
+
+  wakes_at : (y : Node) → Contains nodes y → In x.dependants y.patch.number → is_told (at_number q settles y) ≡ true → is_told (after y) ≡ false → Contains (queue ++ waking) y.patch.number
+  wakes_at y cy h t u = Contains-append_right queue waking y.patch.number (woken_to nodes x.dependants x.pending (now x) q y cy h t u)
+
+  waits_at : (y : Node) → Contains nodes y → is_told (after y) ≡ false → Contains (queue ++ waking) y.patch.number
+  waits_at y cy u = elim (In_decided x.dependants y.patch.number) [
+    | inl h ↦ elim (cases_eq y.patch.number q) [
+      | inl n ↦ wakes_at y cy h (subst (λ z. is_told z ≡ true) (sym (at_same q settles y n)) (told_now (settles y) refl)) u
+      | inr ne ↦ elim (cases_Bool (is_told y)) [
+        | inl t ↦ wakes_at y cy h (subst (λ z. is_told z ≡ true) (sym (at_other q settles y ne)) t) u
+        | inr f ↦ in_front y cy ne f
+      ]
+    ]
+    | inr out ↦ elim (cases_eq y.patch.number q) [
+      | inl n ↦ absurd (untold (after y) u (now_same y out ∙ sym ((turn y).as_it_is n)))
+      | inr ne ↦ in_front y cy ne (not_told y (λ s. untold (after y) u (now_same y out ∙ (s ∙ sym ((turn y).as_it_was ne)))))
+    ]
+  ]
+
+  once_at : AllPairs (λ m n. m ≢ n) (queue ++ waking)
+  once_at = once_append queue waking (once_front queue q S.once) (AllPairs-filter (λ m n. m ≢ n) _ x.dependants (distinct x c).1) (λ n old new.
+      let s = S.queued n (Contains-append_left queue (q ∷ []) n old) in
+      let ne = once_last queue q n S.once old in
+      let w = woken_from nodes x.dependants x.pending (now x) q n new in
+      let t = subst (λ z. is_told z ≡ true) (at_other q settles w.0 (λ m. ne (sym w.2 ∙ m))) w.3 in
+      both_ways (is_told s.0) s.3 (subst (λ z. is_told z ≡ true) (same_node nodes w.0 s.0 S.rising w.1 s.1 (w.2 ∙ sym s.2)) t))
+
+  pub can_hear : (y : Node) → Contains settled y → Contains x.dependants y.patch.number → CanHear x.pending y
+  can_hear y cy hit =
+      let u = unmapped (at_number q settles) nodes y cy in
+      let same : y.sums ≡ u.0.sums = ap (λ (z : Node). z.sums) (sym u.2) ∙ set_sums q u.0 in
+      let number : y.patch.number ≡ u.0.patch.number = ap (λ (z : Node). z.patch.number) (sym u.2) ∙ set_number q u.0 in
+      let row = u.0.patch.dependencies in
+      let on = Contains-from_In row q (named u.0 u.1 (subst (In x.dependants) number (In-from_Contains x.dependants y.patch.number hit))) in
+      let has = sums_has was row q (narrow_in nodes blocks (queue ++ q ∷ []) narrow S) on in (
+        subst Fits (sym same) (spreading_fits nodes blocks (queue ++ q ∷ []) narrow S u.0 u.1),
+        subst (HasIn x.pending) (sym (same ∙ S.summed u.0 u.1)) (subst (λ a. HasIn a (sums_of was row)) was_here has),
+      )
+
+  pub spreads_on : Spreading told blocks (queue ++ woken x.dependants x.pending (now x) settled)
+  spreads_on = record {
+    rising = rising_on;
+    summed = λ z cz. let r = came_from z cz in subst (λ (w : Node). w.sums ≡ sums_of is w.patch.dependencies) r.2 (sums_are r.0 r.1 ∙ ap (sums_of is) (sym (turn r.0).stays.dependencies));
+    sinks = λ z cz. let r = came_from z cz in subst (λ w. Sinks w.pending (now w)) r.2 (sinks_at r.0 r.1);
+    placed = λ z cz. let r = came_from z cz in subst (λ w. (now w ≡ pending.Nothing) ↔ (w.patch.place ≡ place.Disk)) r.2 (placed_at r.0 r.1);
+    follow = λ z cz. let r = came_from z cz in subst (λ w. Follows w.patch.kind → (w.patch.place ≡ place.Memory) ⊎ (w.patch.place ≡ place.Disk)) r.2 (follow_at r.0 r.1);
+    inside = λ z b cz p. let r = came_from z cz in inside_at r.0 b r.1 (ap (λ (w : Node). w.pending) r.2 ∙ p);
+    changes = λ z b at len grade cz k. let r = came_from z cz in S.changes r.0 b at len grade r.1 (sym (turn r.0).stays.kind ∙ (ap (λ (w : Node). w.patch.kind) r.2 ∙ k));
+    queued = queued_at;
+    waits = λ z cz u.
+        let r = came_from z cz in
+        subst (Contains (queue ++ waking)) (sym (keeps_number r.0) ∙ ap (λ (w : Node). w.patch.number) r.2) (waits_at r.0 r.1 (subst (λ w. is_told w ≡ false) (sym r.2) u));
+    once = once_at;
+  }
+
+  pub spread_of : IsSpreadOf nodes told
+  spread_of = ap (map unspread) in_one ∙ same_spread after nodes (λ y. (turn y).stays.spread)
+
+  pub lower : heights told < heights nodes
+  lower =
+      let less = λ (y : Node) (cy : Contains nodes y) (n : y.patch.number ≡ q). subst (λ a. height a < height y.pending) (sym ((turn y).as_it_is n))
+      (subst (λ (z : Node). height (now z) < height z.pending) (same_node nodes x y S.rising c cy (e ∙ sym n)) (lower_sinks x.pending (now x) (S.sinks x c) other)) in
+      let low = λ (y : Node) (cy : Contains nodes y). low_at y (less y cy) in
+      subst (λ ns. heights ns < heights nodes) (sym in_one) (heights_lower after nodes x low c (less x c e))
+    where
+      low_at : (y : Node) → (y.patch.number ≡ q → height (after y).pending < height y.pending) → height (after y).pending ≤ height y.pending
+      low_at y less = elim (cases_eq y.patch.number q) [
+        | inl n ↦ let l = less n in omega (arith, l)
+        | inr ne ↦ subst (λ a. height a ≤ height y.pending) (sym ((turn y).as_it_was ne)) (omega arith)
+      ]

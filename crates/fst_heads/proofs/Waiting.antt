@@ -1,0 +1,228 @@
+-- The nodes of a spread, found by their numbers, and the numbers that wait in its queue.
+use Rattle.std.proofs.Common.{◌≡◌, ◌≢◌, ◌<◌, ◌≤◌, ◌==◌, ◌&&◌, ◌+◌, ℕ, zero, suc, Bool, true, false, not, cond, List, [], ◌∷◌, ◌++◌, length, map, get_or, Contains, AllPairs, length-append, refl, sym, ap, subst, ◌∙◌, inl, inr, arith}
+use Rattle.std.specs.List.{list_any}
+use Rattle.std.proofs.lemmas.Bool.{cases_eq, cases_order, and_parts, and_from, eqb-true, eq-eqb, ne_eqb, not-true, not_from_false}
+use Rattle.std.proofs.lemmas.List.{length-map, get_or-map, get_or_append_left}
+use Rattle.std.proofs.lemmas.List.Elements.{Contains-get_or, Contains-append_cases}
+use Rattle.std.proofs.lemmas.List.Folds.{Any-from_list_any, list_any-from_Any}
+use Rattle.std.proofs.lemmas.List.Kept.{AllPairs-cons}
+use Rattle.std.proofs.lemmas.List.Sums.{sum_by-cons}
+use Rattle.std.proofs.Math.Seq.{get_or-append_seam}
+use Rattle.fst_types.proofs.Dropping.{filter_in, in_filter}
+use Rattle.fst_types.proofs.Finite.{In, In-map, In-from_Contains, Contains-from_In, pull}
+use Rattle.fst_heads.specs.declared.pending.Pending.{Pending}
+use Rattle.fst_heads.specs.declared.pending.Pending.TheVariants as pending
+use Rattle.fst_heads.specs.Pendings.{height}
+use Rattle.fst_heads.specs.Nodes.{Node, pending_in, times, at_number}
+use Rattle.fst_heads.specs.Spreading.{is_told, settles, hears, heard, wakes, woken, heights}
+use Rattle.fst_heads.proofs.AtNumber.{at_same, at_other}
+use Rattle.fst_heads.proofs.PendingIn.{found}
+use Rattle.fst_heads.proofs.Placed.{unmapped}
+use Rattle.fst_heads.proofs.Slots.{any_default}
+use Rattle.fst_heads.proofs.Turning.{turned, is_heard}
+
+pub mapped : {X Y : Type 0} (f : X → Y) (xs : List X) (x : X) → Contains xs x → Contains (map f xs) (f x)
+mapped f xs x c = Contains-from_In (map f xs) (f x) (In-map f xs x (f x) (In-from_Contains xs x c) refl)
+
+pub map_twice : {X Y Z : Type 0} (f : Y → Z) (g : X → Y) (xs : List X) → map f (map g xs) ≡ map (λ x. f (g x)) xs
+map_twice f g [] = refl
+map_twice f g (x ∷ xs) = ap (λ ys. f (g x) ∷ ys) (map_twice f g xs)
+
+-- one number, one node
+pub same_node : (nodes : List Node) (x y : Node) → AllPairs (λ a b. a.patch.number < b.patch.number) nodes → Contains nodes x → Contains nodes y → x.patch.number ≡ y.patch.number → x ≡ y
+same_node nodes x y rising a b e =
+    elim (cases_order a.0 b.0) [
+      | inl same ↦ sym a.2 ∙ (any_default nodes a.0 x y a.1 ∙ (ap (λ k. get_or nodes k y) same ∙ b.2))
+      | inr o ↦ elim o [
+        | inl lt ↦ absurd (apart a.0 b.0 x y lt b.1 a.2 (any_default nodes b.0 x y b.1 ∙ b.2) e)
+        | inr lt ↦ absurd (apart b.0 a.0 y x lt a.1 b.2 (any_default nodes a.0 y x a.1 ∙ a.2) (sym e))
+      ]
+    ]
+  where
+    apart : (i j : ℕ) (p q : Node) → i < j → j < length nodes → get_or nodes i p ≡ p → get_or nodes j p ≡ q → p.patch.number ≡ q.patch.number → ⊥
+    apart i j p q lt inside at_i at_j same =
+        let r = rising i j p lt inside in
+        let one = ap (λ (z : Node). z.patch.number) at_i in
+        let other = ap (λ (z : Node). z.patch.number) at_j in
+        omega (arith, r, one, other, same)
+
+-- what is pending at a number
+
+pending_at : (nodes : List Node) (x : Node) → ((y : Node) → In nodes y → y.patch.number ≡ x.patch.number → y ≡ x) → In nodes x → pending_in nodes x.patch.number ≡ x.pending
+pending_at [] x one h = absurd h
+pending_at (y ∷ ys) x one h = elim (cases_eq y.patch.number x.patch.number) [
+  | inl e ↦ rw (eq-eqb y.patch.number x.patch.number e) (ap (λ (z : Node). z.pending) (one y (inl refl) e))
+  | inr ne ↦ rw (ne_eqb y.patch.number x.patch.number ne) (pending_at ys x (λ z i. one z (inr i)) (elim h [ inl same ↦ absurd (ne (ap (λ (z : Node). z.patch.number) same)) | inr there ↦ there ]))
+]
+
+pub pending_of : (nodes : List Node) (x : Node) → AllPairs (λ a b. a.patch.number < b.patch.number) nodes → Contains nodes x → pending_in nodes x.patch.number ≡ x.pending
+pending_of nodes x rising c = pending_at nodes x (λ y i e. same_node nodes y x rising (Contains-from_In nodes y i) c e) (In-from_Contains nodes x c)
+
+-- where one block is pending at a number, it is pending of a node
+pub pending_node : (nodes : List Node) (n b : ℕ) → pending_in nodes n ≡ pending.Block b → (y : Node) × Contains nodes y × (y.pending ≡ pending.Block b)
+pending_node nodes n b e = elim (found nodes n) [ inl f ↦ (f.node, f.head, sym f.told ∙ e) | inr none ↦ absurd (let off = sym none ∙ e in cc) ]
+
+pub pending_mapped : (f : Node → Node) (nodes : List Node) (n : ℕ) → ((y : Node) → (f y).patch.number ≡ y.patch.number)
+    → ((y : Node) → y.patch.number ≡ n → (f y).pending ≡ y.pending) → pending_in (map f nodes) n ≡ pending_in nodes n
+pending_mapped f [] n number same = refl
+pending_mapped f (y ∷ ys) n number same =
+    let rest = pending_mapped f ys n number same in
+    let m = number y in
+    elim (cases_eq y.patch.number n) [
+      | inl e ↦ rw (m, eq-eqb y.patch.number n e) (same y e)
+      | inr ne ↦ rw (m, ne_eqb y.patch.number n ne) rest
+    ]
+
+pub rising_mapped : (f : Node → Node) (nodes : List Node) → ((y : Node) → (f y).patch.number ≡ y.patch.number)
+    → AllPairs (λ a b. a.patch.number < b.patch.number) nodes → AllPairs (λ a b. a.patch.number < b.patch.number) (map f nodes)
+rising_mapped f nodes number rising i j d lt inside =
+    let long = length-map nodes f in
+    let a = get_or-map f nodes i d d (omega (arith, lt, inside, long)) in
+    let b = get_or-map f nodes j d d (omega (arith, inside, long)) in
+    let r = rising i j d lt (omega (arith, inside, long)) in
+    let na = number (get_or nodes i d) in
+    let nb = number (get_or nodes j d) in
+    let fa = ap (λ (z : Node). z.patch.number) a in
+    let fb = ap (λ (z : Node). z.patch.number) b in
+    omega (arith, r, na, nb, fa, fb)
+
+-- heights
+
+abbrev tall : Node → ℕ
+tall x = height x.pending
+
+heights_stay : (f : Node → Node) (nodes : List Node) → ((y : Node) → In nodes y → tall (f y) ≤ tall y) → heights (map f nodes) ≤ heights nodes
+heights_stay f [] low = omega arith
+heights_stay f (y ∷ ys) low =
+    let rest = heights_stay f ys (λ z i. low z (inr i)) in
+    let first = low y (inl refl) in
+    omega (arith, sum_by-cons tall (f y) (map f ys), sum_by-cons tall y ys, rest, first)
+
+heights_fall : (f : Node → Node) (nodes : List Node) (x : Node) → ((y : Node) → In nodes y → tall (f y) ≤ tall y) → In nodes x → tall (f x) < tall x → heights (map f nodes) < heights nodes
+heights_fall f [] x low h less = absurd h
+heights_fall f (y ∷ ys) x low (inl e) less =
+    let rest = heights_stay f ys (λ z i. low z (inr i)) in
+    let first : tall (f y) < tall y = subst (λ z. tall (f z) < tall z) (sym e) less in
+    omega (arith, sum_by-cons tall (f y) (map f ys), sum_by-cons tall y ys, rest, first)
+heights_fall f (y ∷ ys) x low (inr h) less =
+    let rest = heights_fall f ys x (λ z i. low z (inr i)) h less in
+    let first = low y (inl refl) in
+    omega (arith, sum_by-cons tall (f y) (map f ys), sum_by-cons tall y ys, rest, first)
+
+-- where no node is higher and one is lower
+pub heights_lower : (f : Node → Node) (nodes : List Node) (x : Node) → ((y : Node) → Contains nodes y → height (f y).pending ≤ height y.pending) → Contains nodes x
+    → height (f x).pending < height x.pending → heights (map f nodes) < heights nodes
+heights_lower f nodes x low c less = heights_fall f nodes x (λ y i. low y (Contains-from_In nodes y i)) (In-from_Contains nodes x c) less
+
+-- how often a number stands in a row
+
+times_cons : (m : ℕ) (ms : List ℕ) (n : ℕ) → times (m ∷ ms) n ≡ cond (m == n) 1 0 + times ms n
+times_cons m ms n = sum_by-cons (λ k. cond (k == n) 1 0) m ms
+
+pub times_some : (ms : List ℕ) (n : ℕ) → In ms n → 0 < times ms n
+times_some [] n h = absurd h
+times_some (m ∷ ms) n (inl e) =
+    let one : cond {A = ℕ} (m == n) 1 0 ≡ 1 = rw (eq-eqb m n e) refl in
+    omega (arith, times_cons m ms n, one)
+times_some (m ∷ ms) n (inr h) = let rest = times_some ms n h in omega (arith, times_cons m ms n, rest)
+
+pub some_times : (ms : List ℕ) (n : ℕ) → 0 < times ms n → In ms n
+some_times [] n lt = absurd (let none : times [] n ≡ 0 = refl in omega (arith, none, lt))
+some_times (m ∷ ms) n lt = elim (cases_eq m n) [
+  | inl e ↦ inl e
+  | inr ne ↦
+      let none : cond {A = ℕ} (m == n) 1 0 ≡ 0 = rw (ne_eqb m n ne) refl in
+      inr (some_times ms n (omega (arith, times_cons m ms n, none, lt)))
+]
+
+-- numbers that are apart
+
+abbrev Once : List ℕ → Type 0
+Once ns = AllPairs (λ (a b : ℕ). a ≢ b) ns
+
+-- they are no more than the numbers that they are among
+pub once_fits : (ns ms : List ℕ) → AllPairs (λ a b. a ≢ b) ns → ((n : ℕ) → In ns n → In ms n) → length ns ≤ length ms
+once_fits [] ms once among = omega arith
+once_fits (n ∷ ns) ms once among =
+    let r = pull ms n (among n (inl refl)) in
+    let apart = λ (m : ℕ) (h : In ns m) (e : n ≡ m). let c = Contains-from_In ns m h in once 0 (suc c.0) m (omega arith) (omega (arith, c.1)) (e ∙ sym c.2) in
+    let rest = once_fits ns r.0 (λ i j d lt inside. once (suc i) (suc j) d (omega (arith, lt)) (omega (arith, inside))) (λ m h. r.2 m (among m (inr h)) (apart m h)) in
+    omega (arith, r.1, rest)
+
+pub once_append : (xs ys : List ℕ) → AllPairs (λ a b. a ≢ b) xs → AllPairs (λ a b. a ≢ b) ys → ((n : ℕ) → Contains xs n → Contains ys n → ⊥) → AllPairs (λ a b. a ≢ b) (xs ++ ys)
+once_append [] ys one two apart = two
+once_append (x ∷ xs) ys one two apart =
+    let tail : Once xs = λ i j d lt inside. one (suc i) (suc j) d (omega (arith, lt)) (omega (arith, inside)) in
+    let here : Contains (x ∷ xs) x = (0, omega arith, refl) in
+    let later = λ (n : ℕ) (c : Contains xs n). Contains-from_In (x ∷ xs) n (inr (In-from_Contains xs n c)) in
+    AllPairs-cons (λ a b. a ≢ b) x (xs ++ ys)
+    (λ k d lt e. elim (Contains-append_cases xs ys (get_or (xs ++ ys) k d) (Contains-get_or (xs ++ ys) k d lt)) [
+      | inl c ↦ one 0 (suc c.0) d (omega arith) (omega (arith, c.1)) (e ∙ (sym c.2 ∙ any_number xs c.0 (get_or (xs ++ ys) k d) d c.1))
+      | inr c ↦ apart x here (subst (Contains ys) (sym e) c)
+    ])
+    (once_append xs ys tail two (λ n a b. apart n (later n a) b))
+  where
+    any_number : (ns : List ℕ) (i : ℕ) (a b : ℕ) → i < length ns → get_or ns i a ≡ get_or ns i b
+    any_number [] i a b lt = absurd (omega (arith, lt))
+    any_number (n ∷ ns) zero a b lt = refl
+    any_number (n ∷ ns) (suc i) a b lt = any_number ns i a b (omega (arith, lt))
+
+pub once_front : (queue : List ℕ) (q : ℕ) → AllPairs (λ a b. a ≢ b) (queue ++ q ∷ []) → AllPairs (λ a b. a ≢ b) queue
+once_front queue q once i j d lt inside e =
+    once i j d lt (omega (arith, inside, length-append queue (q ∷ [])))
+    (get_or_append_left queue (q ∷ []) d i (omega (arith, lt, inside)) ∙ (e ∙ sym (get_or_append_left queue (q ∷ []) d j inside)))
+
+-- the last is not among those before it
+pub once_last : (queue : List ℕ) (q n : ℕ) → AllPairs (λ a b. a ≢ b) (queue ++ q ∷ []) → Contains queue n → n ≢ q
+once_last queue q n once c e =
+    once c.0 (length queue) n c.1 (omega (arith, length-append queue (q ∷ [])))
+    (get_or_append_left queue (q ∷ []) n c.0 c.1 ∙ (c.2 ∙ (e ∙ sym (get_or-append_seam queue q [] n))))
+
+-- those that wake
+
+pub set_number : (q : ℕ) (y : Node) → (at_number q settles y).patch.number ≡ y.patch.number
+set_number q y = elim (cases_eq y.patch.number q) [
+  | inl e ↦ ap (λ (z : Node). z.patch.number) (at_same q settles y e)
+  | inr ne ↦ ap (λ (z : Node). z.patch.number) (at_other q settles y ne)
+]
+
+pub set_sums : (q : ℕ) (y : Node) → (at_number q settles y).sums ≡ y.sums
+set_sums q y = elim (cases_eq y.patch.number q) [
+  | inl e ↦ ap (λ (z : Node). z.sums) (at_same q settles y e)
+  | inr ne ↦ ap (λ (z : Node). z.sums) (at_other q settles y ne)
+]
+
+module _ (nodes : List Node) (row : List ℕ) (old new : Pending) (q : ℕ) where
+  abbrev set : List Node
+  set = map (at_number q settles) nodes
+
+  abbrev wakes_at : ℕ → Node → Bool
+  wakes_at n z = (z.patch.number == n) && wakes old new z
+
+  pub woken_from : (n : ℕ) → Contains (woken row old new set) n
+      → (y : Node) × Contains nodes y × (y.patch.number ≡ n) × (is_told (at_number q settles y) ≡ true) × (is_told (turned row old new q y) ≡ false)
+  woken_from n c =
+      let f = filter_in (λ m. list_any (wakes_at m) set) row n (In-from_Contains (woken row old new set) n c) in
+      let a = Any-from_list_any (wakes_at n) set f.1 in
+      let u = unmapped (at_number q settles) nodes a.1 (a.0, a.2, a.3) in
+      let k = and_parts (a.1.patch.number == n) (wakes old new a.1) a.4 in
+      let w = and_parts (is_told a.1) (not (is_told (hears old new a.1))) k.1 in
+      let number = eqb-true a.1.patch.number n k.0 in
+      let same = is_heard row old new a.1 (subst (In row) (sym number) f.0) in (
+        u.0,
+        u.1,
+        sym (set_number q u.0) ∙ (ap (λ (z : Node). z.patch.number) u.2 ∙ number),
+        subst (λ z. is_told z ≡ true) (sym u.2) w.0,
+        subst (λ z. is_told (heard row old new z) ≡ false) (sym u.2) (subst (λ z. is_told z ≡ false) (sym same) (not-true (is_told (hears old new a.1)) w.1)),
+      )
+
+  pub woken_to : (y : Node) → Contains nodes y → In row y.patch.number → is_told (at_number q settles y) ≡ true → is_told (turned row old new q y) ≡ false
+      → Contains (woken row old new set) y.patch.number
+  woken_to y c named before after =
+      let z = at_number q settles y in
+      let number = set_number q y in
+      let there = mapped (at_number q settles) nodes y c in
+      let same = is_heard row old new z (subst (In row) (sym number) named) in
+      let wakens = and_from (is_told z) (not (is_told (hears old new z))) before (not_from_false (is_told (hears old new z)) (subst (λ v. is_told v ≡ false) same after)) in
+      let hit = list_any-from_Any (wakes_at y.patch.number) set (there.0, z, there.1, there.2, and_from (z.patch.number == y.patch.number) (wakes old new z) (eq-eqb z.patch.number y.patch.number number) wakens) in
+      Contains-from_In (woken row old new set) y.patch.number (in_filter (λ m. list_any (wakes_at m) set) row y.patch.number named hit)

@@ -1,0 +1,203 @@
+use Rattle.std.proofs.Common.{◌≡◌, ◌∙◌, [], cond, count_by, ap, vec_len, subst, sym, arith}
+use Rattle.std.proofs.lemmas.List.{length-map, nil_from_length}
+use Rattle.fst_heads.specs.Heads.{IsRising}
+use Rattle.fst_heads.specs.Marks.{HasSlot, HasNone}
+use Rattle.fst_heads.specs.Nodes.{node_of, nodes_of}
+use Rattle.fst_types.proofs.Finite.{In-from_Contains}
+use Rattle.fst_heads.specs.declared.pending.Pending.TheVariants as pending
+use Rattle.fst_heads.specs.Pendings.{is_pending}
+use Rattle.fst_heads.specs.Spreading.{Spreading, is_waiting, now}
+use Rattle.fst_heads.specs.Standings.{AllStand}
+use Rattle.fst_heads.proofs.Living.{waits_untold, waiting_settles, waiting_heard}
+use Rattle.fst_heads.proofs.Popping.{fits_there, untold_there, rising_settled, after_is, once_after, live_after, hears_after, room_after, turned, cascaded_heads}
+use Rattle.fst_heads.proofs.Slotted.{rising_slots, none_of_number, node_is}
+use Rattle.fst_heads.proofs.Stands.{stand_heard}
+use Rattle.fst_heads.proofs.Starting.{settled_spread, spread_trans, length_spread}
+use Rattle.fst_heads.proofs.Telling.{last_waits}
+use Rattle.fst_heads.proofs.cascade.cascade.Goals as goal
+
+pub slot_of-requires : goal.slot_of-requires
+slot_of-requires c = subst IsRising (sym c.deref.ensures.value) (rising_slots c.loop-number.heads.items c.loop-number.invariant.spreading.rising)
+
+pub settle_slot-old-requires-clause-rising : goal.settle_slot-old-requires-clause-rising
+settle_slot-old-requires-clause-rising c = rising_slots c.loop-number.heads.items c.loop-number.invariant.spreading.rising
+
+pub settle_slot-old-requires-clause-fits : goal.settle_slot-old-requires-clause-fits
+settle_slot-old-requires-clause-fits c =
+    let heads = c.loop-number.heads.items in
+    let nodes = nodes_of heads in
+    let blocks = vec_len c.args.standings.now in
+    let queue = c.pop.new.self.items in
+    let q = c.in-Some.number in
+    let s = c.in-Some-slot_of.slot in
+    let S = subst (Spreading nodes blocks) c.in-Some.ensures.items c.loop-number.invariant.spreading in
+    let found = subst (λ hs. HasSlot hs q s) c.deref.ensures.value c.in-Some-slot_of.ensures.found in
+    fits_there heads blocks queue q s c.requires.narrow S c.loop-number.invariant.linked c.loop-number.invariant.distinct found
+
+pub settle_slot-old-requires-clause-untold : goal.settle_slot-old-requires-clause-untold
+settle_slot-old-requires-clause-untold c =
+    let heads = c.loop-number.heads.items in
+    let nodes = nodes_of heads in
+    let blocks = vec_len c.args.standings.now in
+    let queue = c.pop.new.self.items in
+    let q = c.in-Some.number in
+    let s = c.in-Some-slot_of.slot in
+    let S = subst (Spreading nodes blocks) c.in-Some.ensures.items c.loop-number.invariant.spreading in
+    let found = subst (λ hs. HasSlot hs q s) c.deref.ensures.value c.in-Some-slot_of.ensures.found in
+    untold_there heads blocks queue q s c.requires.narrow S c.loop-number.invariant.linked c.loop-number.invariant.distinct found
+
+pub settle_slot-old-requires-clause-inside : goal.settle_slot-old-requires-clause-inside
+settle_slot-old-requires-clause-inside c x b at len grade contained kind =
+    let within = c.loop-number.invariant.spreading.changes x b at len grade contained kind in
+    omega (arith, within, c.loop-number.standings.ok.0, c.loop-number.invariant.standing.long)
+
+pub tell-requires-clause-rising : goal.tell-requires-clause-rising
+tell-requires-clause-rising c =
+    let heads = c.loop-number.heads.items in
+    let nodes = nodes_of heads in
+    let blocks = vec_len c.args.standings.now in
+    let queue = c.pop.new.self.items in
+    let q = c.in-Some.number in
+    let s = c.in-Some-slot_of.slot in
+    let S = subst (Spreading nodes blocks) c.in-Some.ensures.items c.loop-number.invariant.spreading in
+    let found = subst (λ hs. HasSlot hs q s) c.deref.ensures.value c.in-Some-slot_of.ensures.found in
+    let settled = c.settle_slot-old.ensures in
+    let after = nodes_of c.settle_slot-old.new.heads.items in
+    rising_settled q heads c.settle_slot-old.new.heads.items (after_is heads blocks queue q s c.requires.narrow S c.loop-number.invariant.linked c.loop-number.invariant.distinct found c.settle_slot-old.result.0 c.settle_slot-old.result.1 after settled.old settled.new settled.nodes) (rising_slots heads S.rising)
+
+pub tell-requires-clause-once : goal.tell-requires-clause-once
+tell-requires-clause-once c =
+    let heads = c.loop-number.heads.items in
+    let nodes = nodes_of heads in
+    let blocks = vec_len c.args.standings.now in
+    let queue = c.pop.new.self.items in
+    let q = c.in-Some.number in
+    let s = c.in-Some-slot_of.slot in
+    let S = subst (Spreading nodes blocks) c.in-Some.ensures.items c.loop-number.invariant.spreading in
+    let found = subst (λ hs. HasSlot hs q s) c.deref.ensures.value c.in-Some-slot_of.ensures.found in
+    let settled = c.settle_slot-old.ensures in
+    let after = nodes_of c.settle_slot-old.new.heads.items in
+    once_after heads blocks queue q s c.requires.narrow S c.loop-number.invariant.linked c.loop-number.invariant.distinct found c.settle_slot-old.result.0 c.settle_slot-old.result.1 after settled.old settled.new settled.nodes
+
+pub tell-requires-clause-hears : goal.tell-requires-clause-hears
+tell-requires-clause-hears c =
+    let heads = c.loop-number.heads.items in
+    let nodes = nodes_of heads in
+    let blocks = vec_len c.args.standings.now in
+    let queue = c.pop.new.self.items in
+    let q = c.in-Some.number in
+    let s = c.in-Some-slot_of.slot in
+    let S = subst (Spreading nodes blocks) c.in-Some.ensures.items c.loop-number.invariant.spreading in
+    let found = subst (λ hs. HasSlot hs q s) c.deref.ensures.value c.in-Some-slot_of.ensures.found in
+    let settled = c.settle_slot-old.ensures in
+    let after = nodes_of c.settle_slot-old.new.heads.items in
+    hears_after heads blocks queue q s c.requires.narrow S c.loop-number.invariant.linked c.loop-number.invariant.distinct found c.settle_slot-old.result.0 c.settle_slot-old.result.1 after settled.old settled.new settled.nodes
+
+pub tell-requires-clause-live : goal.tell-requires-clause-live
+tell-requires-clause-live c =
+    let heads = c.loop-number.heads.items in
+    let nodes = nodes_of heads in
+    let blocks = vec_len c.args.standings.now in
+    let queue = c.pop.new.self.items in
+    let q = c.in-Some.number in
+    let s = c.in-Some-slot_of.slot in
+    let S = subst (Spreading nodes blocks) c.in-Some.ensures.items c.loop-number.invariant.spreading in
+    let found = subst (λ hs. HasSlot hs q s) c.deref.ensures.value c.in-Some-slot_of.ensures.found in
+    let settled = c.settle_slot-old.ensures in
+    let after = nodes_of c.settle_slot-old.new.heads.items in
+    live_after heads blocks queue q s c.requires.narrow S c.loop-number.invariant.linked c.loop-number.invariant.distinct found c.settle_slot-old.result.0 c.settle_slot-old.result.1 after settled.old settled.new settled.nodes
+
+pub tell-requires-clause-room : goal.tell-requires-clause-room
+tell-requires-clause-room c d =
+    let heads = c.loop-number.heads.items in
+    let nodes = nodes_of heads in
+    let blocks = vec_len c.args.standings.now in
+    let queue = c.pop.new.self.items in
+    let q = c.in-Some.number in
+    let s = c.in-Some-slot_of.slot in
+    let S = subst (Spreading nodes blocks) c.in-Some.ensures.items c.loop-number.invariant.spreading in
+    let found = subst (λ hs. HasSlot hs q s) c.deref.ensures.value c.in-Some-slot_of.ensures.found in
+    let settled = c.settle_slot-old.ensures in
+    let after = nodes_of c.settle_slot-old.new.heads.items in
+    let room = room_after heads blocks queue q s c.requires.narrow S c.loop-number.invariant.linked c.loop-number.invariant.distinct found c.settle_slot-old.result.0 c.settle_slot-old.result.1 after settled.old settled.new settled.nodes d in
+    let long = length_spread (nodes_of c.args.heads.now.items) nodes c.loop-number.invariant.spread in
+    omega (arith, room, long, length-map heads node_of, length-map c.args.heads.now.items node_of, c.requires.room, c.loop-number.invariant.capacity, c.in-Some.ensures.capacity)
+
+pub loop-number-smaller-in-Some-slot_of : goal.loop-number-smaller-in-Some-slot_of
+loop-number-smaller-in-Some-slot_of c =
+    let heads = c.loop-number.heads.items in
+    let nodes = nodes_of heads in
+    let blocks = vec_len c.args.standings.now in
+    let queue = c.pop.new.self.items in
+    let q = c.in-Some.number in
+    let s = c.in-Some-slot_of.slot in
+    let S = subst (Spreading nodes blocks) c.in-Some.ensures.items c.loop-number.invariant.spreading in
+    let found = subst (λ hs. HasSlot hs q s) c.deref.ensures.value c.in-Some-slot_of.ensures.found in
+    let settled = c.settle_slot-old.ensures in
+    let after = nodes_of c.settle_slot-old.new.heads.items in
+    let turn = turned heads blocks queue q s c.requires.narrow S c.loop-number.invariant.linked c.loop-number.invariant.distinct found c.settle_slot-old.result.0 c.settle_slot-old.result.1 after settled.old settled.new settled.nodes (nodes_of c.tell.new.heads.items) c.tell.new.queue.items c.tell.ensures.nodes c.tell.ensures.queued in
+    turn.falls
+
+pub loop-number-preserved-in-Some-slot_of : goal.loop-number-preserved-in-Some-slot_of
+loop-number-preserved-in-Some-slot_of c =
+    let heads = c.loop-number.heads.items in
+    let nodes = nodes_of heads in
+    let blocks = vec_len c.args.standings.now in
+    let queue = c.pop.new.self.items in
+    let q = c.in-Some.number in
+    let s = c.in-Some-slot_of.slot in
+    let S = subst (Spreading nodes blocks) c.in-Some.ensures.items c.loop-number.invariant.spreading in
+    let found = subst (λ hs. HasSlot hs q s) c.deref.ensures.value c.in-Some-slot_of.ensures.found in
+    let settled = c.settle_slot-old.ensures in
+    let after = nodes_of c.settle_slot-old.new.heads.items in
+    let turn = turned heads blocks queue q s c.requires.narrow S c.loop-number.invariant.linked c.loop-number.invariant.distinct found c.settle_slot-old.result.0 c.settle_slot-old.result.1 after settled.old settled.new settled.nodes (nodes_of c.tell.new.heads.items) c.tell.new.queue.items c.tell.ensures.nodes c.tell.ensures.queued in
+    let same : vec_len c.loop-number.standings ≡ vec_len c.args.standings.now = omega (arith, c.loop-number.standings.ok.0, c.loop-number.invariant.standing.long) in
+    let start = nodes_of c.args.heads.now.items in
+    let next = nodes_of c.tell.new.heads.items in
+    let d = (last_waits nodes blocks queue q S).0 in
+    let here = last_waits nodes blocks queue q S in
+    let waits = waits_untold here.0 (S.sinks here.0 here.1) here.3 in
+    let is = node_is heads q s here.0 d (rising_slots heads S.rising) found here.1 here.2 in
+    let less = waiting_settles nodes q here.0 S.rising (In-from_Contains nodes here.0 here.1) here.2 waits in
+    let told = ap (count_by is_waiting) (c.tell.ensures.nodes d) ∙ waiting_heard _ _ _ after in
+    let first = ap (count_by is_waiting) (after_is heads blocks queue q s c.requires.narrow S c.loop-number.invariant.linked c.loop-number.invariant.distinct found c.settle_slot-old.result.0 c.settle_slot-old.result.1 after settled.old settled.new settled.nodes) in
+    let own : c.landings-landed.result ≡ cond (is_pending (now here.0) pending.Nothing) 1 0 =
+    c.landings-landed.ensures ∙ ap (λ p. cond (is_pending p pending.Nothing) 1 0) (settled.new d ∙ ap now is) in
+    record {
+      landed = omega (arith, c.loop-number.invariant.landed, told, first, less, own);
+      spreading = turn.spreading;
+      linked = turn.are_linked;
+      distinct = turn.are_distinct;
+      standing = subst (λ k. AllStand next k c.settle_slot-old.new.standings.items) same (rw (c.tell.ensures.nodes d) (stand_heard after (vec_len c.loop-number.standings) c.settle_slot-old.new.standings.items _ _ _ settled.standing));
+      spread = spread_trans start nodes next c.loop-number.invariant.spread turn.spread;
+      capacity = c.tell.ensures.capacity ∙ (c.in-Some.ensures.capacity ∙ c.loop-number.invariant.capacity);
+      frames = c.tell.ensures.frames ∙ (settled.frames ∙ c.loop-number.invariant.frames);
+      places = c.tell.ensures.places ∙ (settled.places ∙ c.loop-number.invariant.places);
+    }
+
+-- the number is that of a head
+absent : (c : goal.In_default-slot_of) → ⊥
+absent c =
+    let nodes = nodes_of c.loop-number.heads.items in
+    let S = subst (Spreading nodes (vec_len c.args.standings.now)) c.in-Some.ensures.items c.loop-number.invariant.spreading in
+    let x = last_waits nodes (vec_len c.args.standings.now) c.pop.new.self.items c.in-Some.number S in
+    none_of_number c.loop-number.heads.items c.in-Some.number x.0 (subst (λ hs. HasNone hs c.in-Some.number) c.deref.ensures.value c.in_default-slot_of.ensures.none) x.1 x.2
+
+pub loop-number-smaller : goal.loop-number-smaller
+loop-number-smaller c = absurd (absent c)
+
+pub loop-number-preserved : goal.loop-number-preserved
+loop-number-preserved c = absurd (absent c)
+
+-- nothing waits where nothing was popped
+left : (c : goal.In_default) → Spreading (nodes_of c.loop-number.heads.items) (vec_len c.args.standings.now) []
+left c =
+    let long = c.loop-number.queue.ok.0 in
+    let none = c.in_default.ensures.cases.0 in
+    subst (Spreading (nodes_of c.loop-number.heads.items) (vec_len c.args.standings.now)) (nil_from_length c.loop-number.queue.items (omega (arith, long, none))) c.loop-number.invariant.spreading
+
+pub returns-clause-settled : goal.returns-clause-settled
+returns-clause-settled c = settled_spread (nodes_of c.loop-number.heads.items) (vec_len c.args.standings.now) (left c)
+
+pub returns-clause-placed : goal.returns-clause-placed
+returns-clause-placed c = cascaded_heads c.args.heads.now.items c.loop-number.heads.items (vec_len c.args.standings.now) (left c) c.loop-number.invariant.spread

@@ -1,0 +1,22 @@
+use Rattle.std.proofs.Common.{◌≡◌, ◌+◌, count_by, vec_len, vec_capacity}
+use Rattle.fst_heads.specs.Frames.{frames_of}
+use Rattle.fst_heads.specs.Nodes.{nodes_of, AreLinked, AreDistinct}
+use Rattle.fst_heads.specs.Spreading.{Spreading, IsSpreadOf, heights, is_waiting}
+use Rattle.fst_heads.specs.Standings.{AllStand}
+use Rattle.fst_heads.proofs.cascade.cascade.Given as goal
+
+abbrev pub invariant-loop-number : goal.invariant-loop-number
+invariant-loop-number l = record {
+  spreading : Spreading (nodes_of l.heads.items) (vec_len l.fn.standings) l.queue.items;
+  linked : AreLinked (nodes_of l.heads.items);
+  distinct : AreDistinct (nodes_of l.heads.items);
+  standing : AllStand (nodes_of l.heads.items) (vec_len l.fn.standings) l.standings.items;
+  spread : IsSpreadOf (nodes_of l.fn.heads.items) (nodes_of l.heads.items);
+  landed : count_by is_waiting (nodes_of l.heads.items) + l.landed ≡ count_by is_waiting (nodes_of l.fn.heads.items);
+  capacity : vec_capacity l.queue ≡ vec_capacity l.fn.queue;
+  frames : frames_of l.heads.items ≡ frames_of l.fn.heads.items;
+  places : vec_capacity l.heads ≡ vec_capacity l.fn.heads;
+}
+
+abbrev pub decreases-loop-number : goal.decreases-loop-number
+decreases-loop-number l = heights (nodes_of l.heads.items)

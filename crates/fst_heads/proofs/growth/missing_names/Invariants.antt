@@ -1,0 +1,7 @@
+use Rattle.fst_heads.specs.Heads.{patches_of}
+use Rattle.fst_heads.specs.Rows.{IsMissing}
+use Rattle.fst_heads.proofs.Rows.{Gathers}
+use Rattle.fst_heads.proofs.growth.missing_names.Given as goal
+
+abbrev pub invariant-loop-name : goal.invariant-loop-name
+invariant-loop-name l = Gathers (IsMissing (patches_of l.heads) l.gate) l.names l.name-index l.row.items

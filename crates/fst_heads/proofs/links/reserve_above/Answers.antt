@@ -1,0 +1,44 @@
+use Rattle.std.proofs.Common.{◌≡◌, ◌∙◌, get_or, ap, subst}
+use Rattle.fst_heads.specs.declared.head.Head.{Head}
+use Rattle.fst_heads.specs.Heads.{patch_of}
+use Rattle.fst_heads.specs.Marks.{HasSlot, HasNone}
+use Rattle.fst_heads.specs.Nodes.{node_of}
+use Rattle.fst_heads.proofs.Linking.{rising_same, nodes_set, room_more, room_skip, room_all}
+use Rattle.fst_heads.proofs.links.reserve_above.Goals as goal
+use Rattle.fst_heads.proofs.links.reserve_above.Goals.{in-Some+in_ok-reserve, in_default}
+
+pub slot_of-requires : goal.slot_of-requires
+slot_of-requires c = rw c.deref.ensures.value (rising_same c.loop-number.heads.items c.args.heads.now.items c.loop-number.invariant.nodes c.requires)
+
+pub loop-number-preserved : goal.loop-number-preserved
+loop-number-preserved c =
+    let heads = c.loop-number.heads.items in
+    let row = c.args.row.now in
+    let i = c.loop-number.number-index in
+    let before = c.loop-number.invariant in
+    elim c.match-slot_of.branch [
+      | in-Some+in_ok-reserve w ↦
+          let s = w.in-Some.slot in
+          let slot = subst (λ hs. HasSlot hs (get_or row i 0) s) c.deref.ensures.value w.in-Some.ensures.found in
+          let head = w.index_mut.result.now in
+          let room : Head = record head { dependants = w.reserve.new.self } in
+          let node : node_of room ≡ node_of (get_or heads s head) = ap (λ ns. record { patch = patch_of head; sums = head.sums; pending = head.pending; dependants = ns }) w.in_ok-reserve.ensures.items ∙ ap node_of w.index_mut.ensures.value in
+          rw w.heads-is
+          (record {
+            nodes = nodes_set heads s room head slot.0 node ∙ before.nodes;
+            room = room_more heads row i s room (rising_same heads c.args.heads.now.items before.nodes c.requires) slot w.in_ok-reserve.ensures.ok before.room;
+            len = before.len;
+            capacity = before.capacity;
+          })
+      | in_default w ↦
+          rw w.heads-is
+          (record {
+            nodes = before.nodes;
+            room = room_skip heads row i (subst (λ hs. HasNone hs (get_or row i 0)) c.deref.ensures.value w.in_default.ensures.none) before.room;
+            len = before.len;
+            capacity = before.capacity;
+          })
+    ]
+
+pub returns-clause-room : goal.returns-clause-room
+returns-clause-room c = room_all c.loop-number.heads.items c.args.row.now c.loop-number.number-index c.loop-number-test.false c.loop-number.invariant.room

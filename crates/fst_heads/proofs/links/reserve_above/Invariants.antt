@@ -1,0 +1,12 @@
+use Rattle.std.proofs.Common.{◌≡◌, vec_len, vec_capacity}
+use Rattle.fst_heads.specs.Nodes.{nodes_of}
+use Rattle.fst_heads.proofs.Linking.{HasRoomUpTo}
+use Rattle.fst_heads.proofs.links.reserve_above.Given as goal
+
+abbrev pub invariant-loop-number : goal.invariant-loop-number
+invariant-loop-number l = record {
+  nodes : nodes_of l.heads.items ≡ nodes_of l.initial.heads.items;
+  room : HasRoomUpTo l.heads.items l.row l.number-index;
+  len : vec_len l.heads ≡ vec_len l.initial.heads;
+  capacity : vec_capacity l.heads ≡ vec_capacity l.initial.heads;
+}

@@ -1,0 +1,7 @@
+use Rattle.fst_types.specs.Dependencies.{IsLiveNumber}
+use Rattle.fst_heads.specs.Heads.{patches_of}
+use Rattle.fst_heads.proofs.Rows.{Gathers}
+use Rattle.fst_heads.proofs.row.live_named.Given as goal
+
+abbrev pub invariant-loop-name : goal.invariant-loop-name
+invariant-loop-name l = Gathers (IsLiveNumber (patches_of l.heads)) l.names l.name-index l.row.items

@@ -1,0 +1,20 @@
+use Rattle.std.proofs.Common.{◌≡◌, ◌≤◌, ◌+◌, ◌∙◌, get_or, sym, ap}
+use Rattle.fst_heads.specs.Nodes.{nodes_of, pending_in}
+use Rattle.fst_heads.specs.Pendings.{plus}
+use Rattle.fst_heads.proofs.Joining.{few_plus}
+use Rattle.fst_heads.proofs.PendingAt.{sums_more}
+use Rattle.fst_heads.proofs.row.row_sums.Goals as goal
+
+pub loop-number-preserved : goal.loop-number-preserved
+loop-number-preserved c =
+    let told = pending_in (nodes_of c.args.heads.now) in
+    let row = c.args.row.now in
+    let i = c.loop-number.number-index in
+    let sums = c.loop-number.sums in
+    let found = c.pending_at.result in
+    let added : c.add.new.self ≡ plus found sums = c.add.ensures.plus in
+    let few : (plus found sums).count ≤ i + 1 = few_plus found sums i c.loop-number.invariant.2 in (
+      added ∙ (ap (λ p. plus p sums) c.pending_at.ensures ∙ (ap (plus (told (get_or row i 0))) c.loop-number.invariant.0 ∙ sym (sums_more told row i 0 c.loop-number-test.true))),
+      c.add.ensures.fits,
+      rw added few,
+    )

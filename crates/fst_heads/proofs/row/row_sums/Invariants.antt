@@ -1,0 +1,8 @@
+use Rattle.std.proofs.Common.{◌≡◌, ◌≤◌, take}
+use Rattle.fst_heads.specs.Nodes.{nodes_of, pending_in}
+use Rattle.fst_heads.specs.Pendings.{Fits, sums_of}
+use Rattle.fst_heads.proofs.row.row_sums.Given as goal
+
+abbrev pub invariant-loop-number : goal.invariant-loop-number
+invariant-loop-number l =
+    (l.sums ≡ sums_of (pending_in (nodes_of l.heads)) (take l.number-index l.row)) × Fits l.sums × (l.sums.count ≤ l.number-index)

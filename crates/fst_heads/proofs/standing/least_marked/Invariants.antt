@@ -1,0 +1,7 @@
+use Rattle.std.proofs.Common.{◌≡◌, ◌<◌, ℕ, false, get_or}
+use Rattle.fst_heads.specs.declared.standing.Standing.{Standing}
+use Rattle.fst_heads.specs.Standings.{may_be_written}
+use Rattle.fst_heads.proofs.standing.least_marked.Given as goal
+
+abbrev pub invariant-loop-block : goal.invariant-loop-block
+invariant-loop-block l = (b : ℕ) (d : Standing) → b < l.block → may_be_written (get_or l.standings b d) ≡ false

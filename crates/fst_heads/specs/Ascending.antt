@@ -1,0 +1,43 @@
+-- The walk up from what is in flight of a block to what waits behind it.
+use Rattle.std.specs.Prelude.{◌≡◌, ◌⊎◌, ◌&&◌, ◌||◌, ℕ, Bool, not, List, map, filter, Contains}
+use Rattle.fst_types.specs.declared.place.Place.TheVariants as place
+use Rattle.fst_types.specs.Closure.{Closure}
+use Rattle.fst_types.specs.Dependencies.{DirectlyOn}
+use Rattle.fst_types.specs.Patches.{Patch, IsOn}
+use Rattle.fst_types.specs.Tests.{is_change_at}
+use Rattle.fst_heads.specs.declared.pending.Pending.TheVariants as pending
+use Rattle.fst_heads.specs.Nodes.{Node, patches_in, pending_in}
+use Rattle.fst_heads.specs.Pendings.{is_pending}
+use Rattle.fst_heads.specs.Standings.{is_ready_on}
+use Rattle.fst_heads.specs.Tests.{is_hard_kind}
+
+-- n is the number of a change of block b in flight
+pub record IsFlyingNumber (patches : List Patch) (b n : ℕ) : Type 0 where
+  pub patch : Patch
+  pub head : Contains patches patch
+  pub numbered : patch.number ≡ n
+  pub change : IsOn patch b
+  pub flying : patch.place ≡ place.Flight
+
+-- a step of the walk: n directly depends on m, and waits for changes of b alone
+abbrev pub IsNextBehind : List Node → ℕ → ℕ → ℕ → Type 0
+IsNextBehind nodes b m n = DirectlyOn (patches_in nodes) n m × (pending_in nodes n ≡ pending.Block b)
+
+-- n is in flight of b, or steps lead to it from what is
+abbrev pub IsBehind : List Node → ℕ → ℕ → Type 0
+IsBehind nodes b n = IsFlyingNumber (patches_in nodes) b n ⊎ ((f : ℕ) × IsFlyingNumber (patches_in nodes) b f × Closure (IsNextBehind nodes b) f n)
+
+-- a change of b in memory that waits for changes of b alone, and is not behind a flight
+abbrev pub is_free_on : (ℕ → Bool) → ℕ → Node → Bool
+is_free_on behind b x = is_ready_on b x && not (behind x.patch.number)
+
+-- a hard change of b in memory that waits for more, or is behind a flight
+abbrev pub is_bound_on : (ℕ → Bool) → ℕ → Node → Bool
+is_bound_on behind b x = is_change_at place.Memory b x.patch && is_hard_kind x.patch.kind && (not (is_pending x.pending (pending.Block b)) || behind x.patch.number)
+
+-- the numbers of those
+abbrev pub free_on : (ℕ → Bool) → ℕ → List Node → List ℕ
+free_on behind b nodes = map (λ x. x.patch.number) (filter (is_free_on behind b) nodes)
+
+abbrev pub bound_on : (ℕ → Bool) → ℕ → List Node → List ℕ
+bound_on behind b nodes = map (λ x. x.patch.number) (filter (is_bound_on behind b) nodes)

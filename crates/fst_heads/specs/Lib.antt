@@ -1,0 +1,15 @@
+pub mod Heads
+pub mod Tests
+pub mod Marks
+pub mod Keeps
+pub mod Rows
+pub mod Reaching
+pub mod Grading
+pub mod Pendings
+pub mod Nodes
+pub mod Frames
+pub mod Lists
+pub mod Standings
+pub mod Spreading
+pub mod Ascending
+pub mod Names

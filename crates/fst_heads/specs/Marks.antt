@@ -1,0 +1,60 @@
+-- Marks on heads.
+use Rattle.std.specs.Prelude.{◌≡◌, ◌≢◌, ◌<◌, ◌⊎◌, ◌==◌, ◌&&◌, ◌||◌, ℕ, Bool, true, false, List, [], ◌∷◌, length, All, Contains, slice_index_or}
+use Rattle.fst_types.specs.Patches.{Patch}
+use Rattle.fst_types.specs.Dependencies.{DirectlyOn, DependsOn}
+use Rattle.fst_heads.specs.declared.head.Head.{Head}
+use Rattle.fst_heads.specs.declared.test.Test.{Test}
+use Rattle.fst_heads.specs.Heads.{patches_of}
+use Rattle.fst_heads.specs.Tests.{passes}
+
+-- the head at the slot has this number
+abbrev pub HasSlot : List Head → ℕ → ℕ → Type 0
+HasSlot heads number slot = (slot < length heads) × ((d : Head) → (slice_index_or heads slot d).number ≡ number)
+
+-- no head has this number
+abbrev pub HasNone : List Head → ℕ → Type 0
+HasNone heads number = All (λ h. h.number ≢ number) heads
+
+-- the head with number n is marked
+pub record Has (heads : List Head) (marks : List Bool) (n : ℕ) : Type 0 where
+  pub slot : ℕ
+  pub at : HasSlot heads n slot
+  pub marked : slice_index_or marks slot false ≡ true
+
+-- the head with number n is marked besides if it directly depends on a marked one
+pub record SpreadsOne (heads : List Head) (n : ℕ) (old new : List Bool) : Type 0 where
+  pub kept : (m : ℕ) → Has heads old m → Has heads new m
+  pub only : (m : ℕ) → Has heads new m → Has heads old m ⊎ ((m ≡ n) × ((q : ℕ) × DirectlyOn (patches_of heads) n q × Has heads old q))
+  pub closed : (q : ℕ) → DirectlyOn (patches_of heads) n q → Has heads old q → Has heads new n
+
+-- all that depend on a marked head are marked besides
+pub record Spreads (heads : List Head) (old new : List Bool) : Type 0 where
+  pub kept : (m : ℕ) → Has heads old m → Has heads new m
+  pub only : (m : ℕ) → Has heads new m → Has heads old m ⊎ ((q : ℕ) × DependsOn (patches_of heads) m q × Has heads old q)
+  pub above : (m q : ℕ) → DependsOn (patches_of heads) m q → Has heads old q → Has heads new m
+
+-- exactly the heads with P are marked
+pub record Shows (heads : List Head) (marks : List Bool) (P : ℕ → Type 0) : Type 0 where
+  pub only : (n : ℕ) → Has heads marks n → P n
+  pub each : (n : ℕ) → P n → Has heads marks n
+
+-- n is the number of a patch that passes
+pub record PassesAt (t : Test) (patches : List Patch) (n : ℕ) : Type 0 where
+  pub patch : Patch
+  pub head : Contains patches patch
+  pub numbered : patch.number ≡ n
+  pub passed : passes t patch ≡ true
+
+-- n has P, or depends on a number with P
+abbrev pub IsAbove : List Patch → (ℕ → Type 0) → ℕ → Type 0
+IsAbove patches P n = P n ⊎ ((q : ℕ) × DependsOn patches n q × P q)
+
+-- n is the gate, or depends on it
+abbrev pub ReachesGate : List Patch → ℕ → ℕ → Type 0
+ReachesGate patches gate n = (n ≡ gate) ⊎ DependsOn patches n gate
+
+-- whether a marked head has number n
+abbrev pub mark_of : List Head → List Bool → ℕ → Bool
+mark_of [] marks n = false
+mark_of (h ∷ hs) [] n = false
+mark_of (h ∷ hs) (m ∷ ms) n = ((h.number == n) && m) || mark_of hs ms n

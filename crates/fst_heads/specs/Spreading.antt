@@ -1,0 +1,100 @@
+-- How what is pending of a patch is told to its dependants, and what has nothing pending any more goes to disk.
+use Rattle.std.specs.Prelude.{◌≡◌, ◌≢◌, ◌⊎◌, ◌<◌, ◌==◌, ◌&&◌, ◌↔◌, ℕ, Bool, true, false, not, List, [], ◌∷◌, map, filter, sum_by, Contains, AllPairs, if◌then◌else◌}
+use Rattle.std.specs.List.{list_any}
+use Rattle.fst_types.specs.declared.place.Place.TheVariants as place
+use Rattle.fst_types.specs.Patches.{Kind, Change, Empty, OpenGate, SealedGate}
+use Rattle.fst_types.specs.Cascade.{Follows, unsettled}
+use Rattle.fst_types.specs.Tests.{is_among}
+use Rattle.fst_types.specs.Writing.{launched, landed}
+use Rattle.fst_heads.specs.declared.pending.Pending.{Pending}
+use Rattle.fst_heads.specs.declared.pending.Pending.TheVariants as pending
+use Rattle.fst_heads.specs.Pendings.{Sinks, HasIn, Fits, is_pending, of_kind, joined_sums, nothing, plus, minus, sums_of, height}
+use Rattle.fst_heads.specs.Nodes.{Node, pending_in}
+
+-- an empty patch or a sealed gate
+abbrev pub follows : Kind → Bool
+follows (Change block at len grade) = false
+follows Empty = true
+follows OpenGate = false
+follows SealedGate = true
+
+-- what is pending of it now, by its sums
+abbrev pub now : Node → Pending
+now x = of_kind x.patch.kind x.patch.place (joined_sums x.sums)
+
+-- it is what its dependants were told
+abbrev pub is_told : Node → Bool
+is_told x = is_pending (now x) x.pending
+
+-- something was pending of it when its dependants were told
+abbrev pub is_waiting : Node → Bool
+is_waiting x = not (is_pending x.pending pending.Nothing)
+
+-- an empty patch or a sealed gate is on disk where all of its direct dependencies are
+abbrev pub rested : Node → Node
+rested x = if follows x.patch.kind && (x.sums.count == 0) then record x { patch = record x.patch { place = place.Disk } } else x
+
+-- one of its direct dependencies has something else pending
+abbrev pub hears : Pending → Pending → Node → Node
+hears old new x = rested (record x { sums = plus new (minus old x.sums) })
+
+-- from then on it is not what its dependants were told
+abbrev pub wakes : Pending → Pending → Node → Bool
+wakes old new x = is_told x && not (is_told (hears old new x))
+
+-- those of the row that hear of it
+abbrev pub heard : List ℕ → Pending → Pending → Node → Node
+heard row old new x = if is_among row x.patch.number then hears old new x else x
+
+-- those of the row that wake
+abbrev pub woken : List ℕ → Pending → Pending → List Node → List ℕ
+woken row old new nodes = filter (λ n. list_any (λ x. (x.patch.number == n) && wakes old new x) nodes) row
+
+-- a node of which old can be taken
+abbrev pub CanHear : Pending → Node → Type 0
+CanHear old x = Fits x.sums × HasIn old x.sums
+
+-- what is pending of it now is told
+abbrev pub settles : Node → Node
+settles x = record x { pending = now x }
+
+-- a gate is sealed
+abbrev pub seals : Node → Node
+seals x = rested (record x { patch = record x.patch { kind = SealedGate } })
+
+-- n, if that wakes it
+abbrev pub wakes_sealed : ℕ → List Node → List ℕ
+wakes_sealed n nodes = if list_any (λ x. (x.patch.number == n) && not (is_told (seals x))) nodes then n ∷ [] else []
+
+-- the chosen are in flight
+abbrev pub launches : List ℕ → Node → Node
+launches chosen x = record x { patch = launched chosen x.patch }
+
+-- what was in flight of the block is on disk
+abbrev pub lands : ℕ → Node → Node
+lands b x = record x { patch = landed b x.patch }
+
+-- between two steps: the queue has those of which other is pending than their dependants were told
+pub record Spreading (nodes : List Node) (blocks : ℕ) (queue : List ℕ) : Type 0 where
+  pub rising : AllPairs (λ x y. x.patch.number < y.patch.number) nodes
+  pub summed : (x : Node) → Contains nodes x → x.sums ≡ sums_of (pending_in nodes) x.patch.dependencies
+  pub sinks : (x : Node) → Contains nodes x → Sinks x.pending (now x)
+  pub placed : (x : Node) → Contains nodes x → (now x ≡ pending.Nothing) ↔ (x.patch.place ≡ place.Disk)
+  pub follow : (x : Node) → Contains nodes x → Follows x.patch.kind → (x.patch.place ≡ place.Memory) ⊎ (x.patch.place ≡ place.Disk)
+  pub inside : (x : Node) (b : ℕ) → Contains nodes x → x.pending ≡ pending.Block b → b < blocks
+  pub changes : (x : Node) (b at len : ℕ) (grade : _) → Contains nodes x → x.patch.kind ≡ Change b at len grade → b < blocks
+  pub queued : (n : ℕ) → Contains queue n → (x : Node) × Contains nodes x × (x.patch.number ≡ n) × (is_told x ≡ false)
+  pub waits : (x : Node) → Contains nodes x → is_told x ≡ false → Contains queue x.patch.number
+  pub once : AllPairs (λ m n. m ≢ n) queue
+
+-- how far all have still to sink
+abbrev pub heights : List Node → ℕ
+heights nodes = sum_by (λ x. height x.pending) nodes
+
+-- a node without what is pending of it and below it, and without the place of an empty patch or a sealed gate
+abbrev pub unspread : Node → Node
+unspread x = record { patch = unsettled x.patch; sums = nothing; pending = pending.Nothing; dependants = x.dependants }
+
+-- only sums, what is pending, and the places of empty patches and sealed gates differ
+abbrev pub IsSpreadOf : List Node → List Node → Type 0
+IsSpreadOf old new = map unspread new ≡ map unspread old

@@ -1,0 +1,57 @@
+-- How each block stands.
+use Rattle.std.specs.Prelude.{◌≡◌, ◌<◌, ◌==◌, ◌&&◌, ◌↔◌, ◌+◌, ◌-◌, ℕ, Bool, true, false, not, List, map, filter, length, count_by, IsTrue, slice_index_or}
+use Rattle.fst_types.specs.declared.place.Place.TheVariants as place
+use Rattle.fst_types.specs.Patches.{Patch}
+use Rattle.fst_types.specs.Tests.{is_change_at}
+use Rattle.fst_types.specs.Writable.{IsWritable}
+use Rattle.fst_heads.specs.declared.pending.Pending.TheVariants as pending
+use Rattle.fst_heads.specs.declared.standing.Standing.{Standing}
+use Rattle.fst_heads.specs.Nodes.{Node}
+use Rattle.fst_heads.specs.Pendings.{is_pending}
+use Rattle.fst_heads.specs.Tests.{is_hard_kind}
+
+-- a change of b in memory that waits for changes of b alone
+abbrev pub is_ready_on : ℕ → Node → Bool
+is_ready_on b x = is_change_at place.Memory b x.patch && is_pending x.pending (pending.Block b)
+
+-- a hard change of b in memory that waits for more
+abbrev pub is_held_on : ℕ → Node → Bool
+is_held_on b x = is_change_at place.Memory b x.patch && is_hard_kind x.patch.kind && not (is_pending x.pending (pending.Block b))
+
+-- a change of b in flight
+abbrev pub is_flying_on : ℕ → Node → Bool
+is_flying_on b x = is_change_at place.Flight b x.patch
+
+-- the numbers of those
+abbrev pub ready_on : ℕ → List Node → List ℕ
+ready_on b nodes = map (λ x. x.patch.number) (filter (is_ready_on b) nodes)
+
+abbrev pub held_on : ℕ → List Node → List ℕ
+held_on b nodes = map (λ x. x.patch.number) (filter (is_held_on b) nodes)
+
+-- the block has that many of each
+abbrev pub standing_of : List Node → ℕ → Standing
+standing_of nodes b = record { ready = count_by (is_ready_on b) nodes; held = count_by (is_held_on b) nodes; flying = count_by (is_flying_on b) nodes }
+
+pub record AllStand (nodes : List Node) (blocks : ℕ) (standings : List Standing) : Type 0 where
+  pub long : length standings ≡ blocks
+  pub each : (b : ℕ) (d : Standing) → b < blocks → slice_index_or standings b d ≡ standing_of nodes b
+
+-- the mark of a block
+abbrev pub may_be_written : Standing → Bool
+may_be_written s = (s.flying == 0) && (s.held == 0) && not (s.ready == 0)
+
+-- the mark of each block is true exactly where it is writable
+abbrev pub AreMarked : List Patch → ℕ → List Standing → Type 0
+AreMarked patches blocks standings = (b : ℕ) (d : Standing) → b < blocks → IsTrue (may_be_written (slice_index_or standings b d)) ↔ IsWritable patches b
+
+-- with a change more that is ready now, which was held if it is hard
+abbrev pub released : Bool → Standing → Standing
+released true s = record { ready = s.ready + 1; held = s.held - 1; flying = s.flying }
+released false s = record { ready = s.ready + 1; held = s.held; flying = s.flying }
+
+-- with a new change in memory, which is hard or not, and ready or not
+abbrev pub entered : Bool → Bool → Standing → Standing
+entered hard true s = record { ready = s.ready + 1; held = s.held; flying = s.flying }
+entered true false s = record { ready = s.ready; held = s.held + 1; flying = s.flying }
+entered false false s = s

@@ -1,0 +1,178 @@
+//! Where something else is pending of a patch, its dependants are told: what a seal or a landing sets free is found so,
+//! and an empty patch or a sealed gate that has nothing pending any more goes to disk. The queue has those of which
+//! other is pending than their dependants know. What is pending of a patch only sinks, at most twice in its life.
+
+ghost use Rattle.std.specs.Prelude.{◌≡◌, ◌≢◌, ◌<◌, ◌≤◌, ◌+◌, ◌++◌, ◌∷◌, ◌==◌, ℕ, [], true, length, map, Contains, AllPairs, vec_len, vec_capacity, slice_index_or, count_by, if◌then◌else◌};
+ghost use Rattle.fst_types.specs.Cascade.{IsCascadeOf};
+ghost use Rattle.fst_heads.specs.declared.pending.Pending.TheVariants as pending;
+ghost use Rattle.fst_heads.specs.Frames.{frame_of, frames_of};
+ghost use Rattle.fst_heads.specs.Heads.{IsRising, kind_of, patches_of};
+ghost use Rattle.fst_heads.specs.Marks.{HasSlot};
+ghost use Rattle.fst_heads.specs.Nodes.{Node, node_of, nodes_of, at_number, AreLinked, AreDistinct, AreSettled};
+ghost use Rattle.fst_heads.specs.Pendings.{Fits, is_pending};
+ghost use Rattle.fst_heads.specs.Spreading.{follows, rested, is_told, now, hears, wakes, heard, woken, is_waiting, CanHear, settles, seals, wakes_sealed, Spreading, IsSpreadOf};
+ghost use Rattle.fst_heads.specs.Standings.{AllStand};
+
+use crate::head::{Head, Kind};
+use crate::marks::slot_of;
+use crate::pending::{Pending, is_pending, over_block};
+use crate::standing::{Standing, settle_slot};
+use fst_types::Place;
+
+// Whether it is on disk as soon as all that it depends on is.
+fn follows(kind: Kind) -> bool
+    ensures { result ≡ follows (kind_of kind) }
+{
+    match kind {
+        Kind::Empty | Kind::SealedGate => true,
+        Kind::Change(_, _, _) | Kind::OpenGate => false,
+    }
+}
+
+/// What is pending of the patch, by its sums.
+pub fn pending_now(head: &Head) -> Pending
+    requires { Fits head.now.sums }
+    ensures { result ≡ now (node_of head.now) }
+{
+    match head.kind {
+        Kind::Change(block, _, _) => match head.place {
+            Place::Disk => Pending::Nothing,
+            Place::Memory | Place::Flight => over_block(block, head.sums.joined()),
+        },
+        Kind::OpenGate => Pending::Held,
+        Kind::Empty | Kind::SealedGate => head.sums.joined(),
+    }
+}
+
+// Whether that is what its dependants know.
+fn is_told(head: &Head) -> bool
+    requires { Fits head.now.sums }
+    ensures { result ≡ is_told (node_of head.now) }
+{
+    is_pending(pending_now(head), head.pending)
+}
+
+// An empty patch or a sealed gate is on disk where all of its direct dependencies are.
+fn rest(head: &mut Head)
+    ensures node { node_of head.new ≡ rested (node_of head.old) }
+    ensures frame { frame_of head.new ≡ frame_of head.old }
+{
+    if follows(head.kind) && head.sums.count == 0 {
+        head.place = Place::Disk;
+    }
+}
+
+// One of its direct dependencies has something else pending. Whether its own dependants have to be told of it.
+fn hear(head: &mut Head, old: Pending, new: Pending) -> bool
+    requires hears { CanHear old (node_of head.old) }
+    requires live { old ≢ pending.Nothing }
+    ensures node { node_of head.new ≡ hears old new (node_of head.old) }
+    ensures woke { result ≡ wakes old new (node_of head.old) }
+    ensures fits { Fits head.new.sums }
+    ensures frame { frame_of head.new ≡ frame_of head.old }
+{
+    let told = is_told(head);
+    head.sums.change(old, new);
+    rest(head);
+    told && !is_told(head)
+}
+
+// The head with this number hears, and waits in the queue where it wakes.
+fn hear_at(heads: &mut Vec<Head>, queue: &mut Vec<u32>, number: u32, old: Pending, new: Pending)
+    requires rising { IsRising heads.old.items }
+    requires hears { (x : Node) → Contains (nodes_of heads.old.items) x → x.patch.number ≡ number → CanHear old x }
+    requires live { old ≢ pending.Nothing }
+    requires room { (x : Node) → Contains (nodes_of heads.old.items) x → x.patch.number ≡ number → wakes old new x ≡ true → vec_len queue.old < vec_capacity queue.old }
+    ensures nodes { nodes_of heads.new.items ≡ map (at_number number (hears old new)) (nodes_of heads.old.items) }
+    ensures queued { queue.new.items ≡ queue.old.items ++ woken (number ∷ []) old new (nodes_of heads.old.items) }
+    ensures frames { frames_of heads.new.items ≡ frames_of heads.old.items }
+    ensures places { vec_capacity heads.new ≡ vec_capacity heads.old }
+    ensures capacity { vec_capacity queue.new ≡ vec_capacity queue.old }
+{
+    if let Some(slot) = slot_of(heads, number) {
+        if hear(&mut heads[slot], old, new) {
+            queue.push_reserved(number);
+        }
+    }
+}
+
+// All that directly depend on the head in the slot hear.
+fn tell(heads: &mut Vec<Head>, queue: &mut Vec<u32>, slot: usize, old: Pending, new: Pending)
+    requires rising { IsRising heads.old.items }
+    requires slot { slot < vec_len heads.old }
+    requires once { (d : Node) → AllPairs (λ m n. m ≢ n) (slice_index_or (nodes_of heads.old.items) slot d).dependants }
+    requires hears { (x d : Node) → Contains (nodes_of heads.old.items) x → Contains (slice_index_or (nodes_of heads.old.items) slot d).dependants x.patch.number → CanHear old x }
+    requires live { old ≢ pending.Nothing }
+    requires room { (d : Node) → length queue.old.items + length (woken (slice_index_or (nodes_of heads.old.items) slot d).dependants old new (nodes_of heads.old.items)) ≤ vec_capacity queue.old }
+    ensures nodes { (d : Node) → nodes_of heads.new.items ≡ map (heard (slice_index_or (nodes_of heads.old.items) slot d).dependants old new) (nodes_of heads.old.items) }
+    ensures frames { frames_of heads.new.items ≡ frames_of heads.old.items }
+    ensures places { vec_capacity heads.new ≡ vec_capacity heads.old }
+    ensures queued { (d : Node) → queue.new.items ≡ queue.old.items ++ woken (slice_index_or (nodes_of heads.old.items) slot d).dependants old new (nodes_of heads.old.items) }
+    ensures capacity { vec_capacity queue.new ≡ vec_capacity queue.old }
+{
+    let mut at = 0;
+    while at < heads[slot].dependants.len() {
+        let number = heads[slot].dependants.as_slice()[at];
+        hear_at(heads, queue, number, old, new);
+        at += 1;
+    }
+}
+
+// One where nothing is pending, so that the patch is on disk.
+fn landings(left: Pending) -> usize
+    ensures { result ≡ if is_pending left pending.Nothing then 1 else 0 }
+{
+    match left {
+        Pending::Nothing => 1,
+        Pending::Block(_) | Pending::Apart | Pending::Held => 0,
+    }
+}
+
+/// Tells of all that waits in the queue, and of what wakes by that. Answers how many patches are on disk besides.
+pub fn cascade(heads: &mut Vec<Head>, queue: &mut Vec<u32>, standings: &mut Vec<Standing>) -> usize
+    requires start { Spreading (nodes_of heads.old.items) (vec_len standings.old) queue.old.items }
+    requires linked { AreLinked (nodes_of heads.old.items) }
+    requires distinct { AreDistinct (nodes_of heads.old.items) }
+    requires standing { AllStand (nodes_of heads.old.items) (vec_len standings.old) standings.old.items }
+    requires narrow { vec_len standings.old ≤ 4294967295 }
+    requires room { length heads.old.items ≤ vec_capacity queue.old }
+    ensures settled { AreSettled (nodes_of heads.new.items) (vec_len standings.old) }
+    ensures placed { IsCascadeOf (patches_of heads.old.items) (patches_of heads.new.items) }
+    ensures spread { IsSpreadOf (nodes_of heads.old.items) (nodes_of heads.new.items) }
+    ensures standing { AllStand (nodes_of heads.new.items) (vec_len standings.old) standings.new.items }
+    ensures frames { frames_of heads.new.items ≡ frames_of heads.old.items }
+    ensures places { vec_capacity heads.new ≡ vec_capacity heads.old }
+    ensures landed { count_by is_waiting (nodes_of heads.new.items) + result ≡ count_by is_waiting (nodes_of heads.old.items) }
+    ensures empty { queue.new.items ≡ [] }
+    ensures capacity { vec_capacity queue.new ≡ vec_capacity queue.old }
+{
+    let mut landed = 0;
+    while let Some(number) = queue.pop() {
+        if let Some(slot) = slot_of(heads, number) {
+            let (old, new) = settle_slot(heads, standings, slot);
+            landed += landings(new);
+            tell(heads, queue, slot, old, new);
+        }
+    }
+    landed
+}
+
+/// Seals the gate in the slot. It waits in the queue where its dependants have to be told.
+pub fn seal_slot(heads: &mut Vec<Head>, queue: &mut Vec<u32>, gate: u32, slot: usize)
+    requires rising { IsRising heads.old.items }
+    requires slot { HasSlot heads.old.items gate slot }
+    requires fits { (x : Node) → Contains (nodes_of heads.old.items) x → Fits x.sums }
+    requires room { vec_len queue.old < vec_capacity queue.old }
+    ensures nodes { nodes_of heads.new.items ≡ map (at_number gate seals) (nodes_of heads.old.items) }
+    ensures queued { queue.new.items ≡ queue.old.items ++ wakes_sealed gate (nodes_of heads.old.items) }
+    ensures frames { frames_of heads.new.items ≡ frames_of heads.old.items }
+    ensures places { vec_capacity heads.new ≡ vec_capacity heads.old }
+    ensures capacity { vec_capacity queue.new ≡ vec_capacity queue.old }
+{
+    let head = &mut heads[slot];
+    head.kind = Kind::SealedGate;
+    rest(head);
+    if !is_told(head) {
+        queue.push_reserved(gate);
+    }
+}

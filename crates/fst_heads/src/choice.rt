@@ -1,0 +1,119 @@
+//! Which changes of a block may be written, by the list of the block.
+
+ghost use Rattle.std.specs.Prelude.{◌<◌, ◌∷◌, [], ℕ, List, ◌≡◌, ◌&&◌, ◌||◌, not, length, IfOk, IfErr, IfSome, IfNone};
+ghost use Rattle.fst_types.specs.declared.fault.Fault.TheVariants as fault;
+ghost use Rattle.fst_types.specs.declared.place.Place.TheVariants as place;
+ghost use Rattle.fst_types.specs.Tests.{is_change_at};
+ghost use Rattle.fst_heads.specs.declared.pending.Pending.TheVariants as pending;
+ghost use Rattle.fst_heads.specs.Ascending.{free_on, bound_on};
+ghost use Rattle.fst_heads.specs.Heads.{IsRising, kind_of, patch_of, patches_of};
+ghost use Rattle.fst_heads.specs.Names.{numbers_of};
+ghost use Rattle.fst_heads.specs.Lists.{entries_of, entries_on};
+ghost use Rattle.fst_heads.specs.Marks.{mark_of};
+ghost use Rattle.fst_heads.specs.Nodes.{node_of, nodes_of};
+ghost use Rattle.fst_heads.specs.Pendings.{is_pending};
+ghost use Rattle.fst_heads.specs.Standings.{is_ready_on};
+ghost use Rattle.fst_heads.specs.Tests.{is_hard_kind};
+
+use crate::head::{Head, Kind};
+use crate::lists::Listed;
+use crate::marks::{is_marked, slot_of};
+use crate::pending::{Pending, is_pending};
+use crate::places::is_change_at;
+use fst_types::{Fault, Grade, PatchNo, Place};
+use std::alloc::Global;
+
+// Whether the number is that of a marked patch, where something of the block is in flight.
+fn is_behind(heads: &[Head], marks: &[bool], flying: bool, number: u32) -> bool
+    requires rising { IsRising heads.now }
+    requires long { length marks.now ≡ length heads.now }
+    ensures { result ≡ (flying && mark_of heads.now marks.now number) }
+{
+    flying && is_marked(heads, marks, number)
+}
+
+// Whether the patch is a change of the block in memory that waits for changes of the block alone, and is not behind a
+// flight.
+fn is_free(head: &Head, behind: bool, block: u32) -> bool
+    ensures { result ≡ (is_ready_on block (node_of head.now) && not behind) }
+{
+    is_change_at(head, Place::Memory, block)
+        && is_pending(head.pending, Pending::Block(block))
+        && !behind
+}
+
+/// The writable set of a block. The list has the changes of the block that are not on disk; where some are in flight,
+/// what is behind them is marked.
+pub fn ready_set(
+    alloc: Global,
+    heads: &[Head],
+    list: &[Listed],
+    marks: &[bool],
+    flying: bool,
+    block: u32,
+) -> Result<Vec<PatchNo>, Fault>
+    requires rising { IsRising heads.now }
+    requires long { length marks.now ≡ length heads.now }
+    requires listed { entries_of list.now ≡ entries_on block (patches_of heads.now) }
+    ensures ok { IfOk result (λ numbers. numbers_of numbers.items ≡ free_on (λ n. flying && mark_of heads.now marks.now n) block (nodes_of heads.now)) }
+    ensures refused { IfErr result (λ f. (0 < length (free_on (λ n. flying && mark_of heads.now marks.now n) block (nodes_of heads.now))) × (f ≡ fault.Memory)) }
+{
+    let mut numbers = Vec::new(alloc);
+    for listed in list {
+        if let Some(slot) = slot_of(heads, listed.number) {
+            let behind = is_behind(heads, marks, flying, listed.number);
+            if is_free(&heads[slot], behind, block) {
+                let Ok(()) = numbers.push(PatchNo(listed.number)) else {
+                    return Err(Fault::Memory);
+                };
+            }
+        }
+    }
+    Ok(numbers)
+}
+
+// Whether the patch is a hard change of the block in memory that waits for more, or is behind a flight.
+fn is_bound(head: &Head, behind: bool, block: u32) -> bool
+    ensures { result ≡ (is_change_at place.Memory block (patch_of head.now) && is_hard_kind (kind_of head.now.kind) && (not (is_pending head.now.pending (pending.Block block)) || behind)) }
+{
+    is_change_at(head, Place::Memory, block)
+        && is_hard(head.kind)
+        && (!is_pending(head.pending, Pending::Block(block)) || behind)
+}
+
+/// The least hard patch of the block in memory outside its writable set. The list has the changes of the block that are
+/// not on disk; where some are in flight, what is behind them is marked.
+pub fn first_held(
+    heads: &[Head],
+    list: &[Listed],
+    marks: &[bool],
+    flying: bool,
+    block: u32,
+) -> Option<PatchNo>
+    requires rising { IsRising heads.now }
+    requires long { length marks.now ≡ length heads.now }
+    requires listed { entries_of list.now ≡ entries_on block (patches_of heads.now) }
+    ensures none { IfNone result (bound_on (λ n. flying && mark_of heads.now marks.now n) block (nodes_of heads.now) ≡ []) }
+    ensures least { IfSome result (λ no. (rest : List ℕ) × (bound_on (λ n. flying && mark_of heads.now marks.now n) block (nodes_of heads.now) ≡ no.0 ∷ rest)) }
+{
+    for listed in list {
+        if let Some(slot) = slot_of(heads, listed.number) {
+            let behind = is_behind(heads, marks, flying, listed.number);
+            if is_bound(&heads[slot], behind, block) {
+                return Some(PatchNo(listed.number));
+            }
+        }
+    }
+    None
+}
+
+/// Whether it is a hard change.
+pub fn is_hard(kind: Kind) -> bool
+    ensures { result ≡ is_hard_kind (kind_of kind) }
+{
+    match kind {
+        Kind::Change(_, _, Grade::Hard) => true,
+        Kind::Change(_, _, Grade::Soft) => false,
+        Kind::Empty | Kind::OpenGate | Kind::SealedGate => false,
+    }
+}

@@ -1,0 +1,98 @@
+//! What an open gate gains.
+
+ghost use Rattle.std.specs.Prelude.{◌≡◌, ◌↔◌, ◌≤◌, ◌∷◌, [], ℕ, List, length, map, IsTrue, IfOk, OnOk, OnErr, Contains, vec_len, vec_capacity};
+ghost use Rattle.fst_types.specs.Dependencies.{DirectlyOn, IsLiveNumber};
+ghost use Rattle.fst_types.specs.Lists.{Lists};
+ghost use Rattle.fst_heads.specs.Frames.{HasRoomBelow};
+ghost use Rattle.fst_heads.specs.Heads.{IsRising, patches_of};
+ghost use Rattle.fst_heads.specs.Names.{numbers_of};
+ghost use Rattle.fst_heads.specs.Nodes.{Node, nodes_of, at_number, gains_names, HasRoomAbove};
+ghost use Rattle.fst_heads.specs.Pendings.{Fits};
+ghost use Rattle.fst_heads.specs.Rows.{IsMissing};
+
+use crate::head::Head;
+use crate::marks::slot_of;
+use crate::pending::Sums;
+use crate::row::{Row, is_live_number, put};
+use fst_types::PatchNo;
+use smallvec::SmallVec;
+use std::alloc::{AllocError, Global};
+
+// Whether the one patch has the other as a direct dependency.
+fn is_direct(heads: &[Head], from: u32, to: u32) -> bool
+    requires { IsRising heads.now }
+    ensures { IsTrue result ↔ DirectlyOn (patches_of heads.now) from to }
+{
+    match slot_of(heads, from) {
+        Some(slot) => heads[slot].dependencies.as_slice().contains(&to),
+        None => false,
+    }
+}
+
+// Whether the number is that of a patch that is not on disk, and that the gate does not have.
+fn is_missing(heads: &[Head], gate: u32, number: u32) -> bool
+    requires { IsRising heads.now }
+    ensures { IsTrue result ↔ IsMissing (patches_of heads.now) gate number }
+{
+    is_live_number(heads, number) && !is_direct(heads, gate, number)
+}
+
+/// The row of the names that are not on disk and that the gate does not have.
+pub fn missing_names(
+    alloc: Global,
+    heads: &[Head],
+    gate: u32,
+    names: &[PatchNo],
+) -> Result<Row, AllocError>
+    requires { IsRising heads.now }
+    ensures { IfOk result (λ row. Lists (λ n. IsLiveNumber (patches_of heads.now) n × Contains (numbers_of names.now) n × (DirectlyOn (patches_of heads.now) gate n → ⊥)) row.items) }
+{
+    let mut row = SmallVec::new(alloc);
+    for name in names {
+        if is_missing(heads, gate, name.0) {
+            put(&mut row, name.0)?;
+        }
+    }
+    Ok(row)
+}
+
+/// The gate has the names besides, which add up to the sums. Where there is no memory it does not.
+pub fn gain(heads: &mut Vec<Head>, gate: u32, names: &[u32], sums: Sums) -> Result<(), AllocError>
+    requires rising { IsRising heads.old.items }
+    requires counted { (x : Node) → Contains (nodes_of heads.old.items) x → (x.sums.count ≤ length x.patch.dependencies) × Fits x.sums }
+    requires names { sums.count ≤ length names.now }
+    requires fits { Fits sums }
+    ensures ok { OnOk result (nodes_of heads.new.items ≡ map (at_number gate (gains_names names.now sums)) (nodes_of heads.old.items)) }
+    ensures same { OnErr result (nodes_of heads.new.items ≡ nodes_of heads.old.items) }
+    ensures room { OnOk result (HasRoomAbove heads.old.items names.now → HasRoomAbove heads.new.items names.now) }
+{
+    if let Some(slot) = slot_of(heads, gate) {
+        let head = &mut heads[slot];
+        head.dependencies.extend_from_slice(names)?;
+        // The row is as long as both counts together, so that their sum fits.
+        prove!(sums.count <= head.dependencies.len() - head.sums.count);
+        head.sums = head.sums.with(sums);
+    }
+    Ok(())
+}
+
+/// The gate has the number besides, which has these sums. It takes no memory.
+pub fn gain_one(heads: &mut Vec<Head>, gate: u32, number: u32, sums: Sums)
+    requires rising { IsRising heads.old.items }
+    requires counted { (x : Node) → Contains (nodes_of heads.old.items) x → (x.sums.count ≤ length x.patch.dependencies) × Fits x.sums }
+    requires one { sums.count ≤ 1 }
+    requires fits { Fits sums }
+    requires room { HasRoomBelow heads.old.items gate }
+    ensures nodes { nodes_of heads.new.items ≡ map (at_number gate (gains_names (number ∷ []) sums)) (nodes_of heads.old.items) }
+    ensures above { (row : List ℕ) → HasRoomAbove heads.old.items row → HasRoomAbove heads.new.items row }
+    ensures len { vec_len heads.new ≡ vec_len heads.old }
+    ensures capacity { vec_capacity heads.new ≡ vec_capacity heads.old }
+{
+    if let Some(slot) = slot_of(heads, gate) {
+        let head = &mut heads[slot];
+        head.dependencies.push_reserved(number);
+        // The row is as long as both counts together, so that their sum fits.
+        prove!(sums.count <= head.dependencies.len() - head.sums.count);
+        head.sums = head.sums.with(sums);
+    }
+}

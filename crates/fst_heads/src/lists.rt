@@ -1,0 +1,85 @@
+//! Each block lists its changes that are not on disk, so that a call that asks for those of one block looks at no others.
+
+ghost use Rattle.std.specs.Prelude.{◌≡◌, ◌≤◌, ◌++◌, ◌<◌, [], length, map, filter, IfOk, vec_len, vec_capacity};
+ghost use Rattle.fst_heads.specs.Spreading.{lands};
+ghost use Rattle.fst_heads.specs.Heads.{IsRising, patches_of};
+ghost use Rattle.fst_heads.specs.Keeps.{IsInside};
+ghost use Rattle.fst_heads.specs.Lists.{entries_of, entries_on, flying_on, AreListed};
+ghost use Rattle.fst_heads.specs.Nodes.{nodes_of};
+ghost use Rattle.fst_heads.specs.Nodes.{is_live_in};
+
+use crate::head::Head;
+use crate::marks::slot_of;
+use crate::places::is_change_at;
+use crate::row::is_live_number;
+use fst_types::{Place, Span};
+use std::alloc::{AllocError, Global};
+
+/// A change as its block lists it.
+#[derive(Clone, Copy, Debug, PartialEq, Eq)]
+pub struct Listed {
+    pub number: u32,
+    pub span: Span,
+}
+
+/// An empty list for each block.
+pub fn empty_lists(alloc: Global, blocks: u32) -> Result<Vec<Vec<Listed>>, AllocError>
+    ensures { IfOk result (λ lists. AreListed [] blocks (map (λ l. entries_of l.items) lists.items)) }
+{
+    let mut lists = Vec::with_capacity(alloc, blocks as usize)?;
+    for _ in 0..blocks {
+        lists.push_reserved(Vec::new(alloc));
+    }
+    Ok(lists)
+}
+
+// What is in flight among the listed is on disk, and waits in the queue.
+fn land_listed(heads: &mut Vec<Head>, list: &[Listed], queue: &mut Vec<u32>, block: u32)
+    requires rising { IsRising heads.old.items }
+    requires listed { entries_of list.now ≡ entries_on block (patches_of heads.old.items) }
+    requires idle { queue.old.items ≡ [] }
+    requires room { length heads.old.items ≤ vec_capacity queue.old }
+    ensures nodes { nodes_of heads.new.items ≡ map (lands block) (nodes_of heads.old.items) }
+    ensures queued { queue.new.items ≡ flying_on block (patches_of heads.old.items) }
+    ensures capacity { vec_capacity queue.new ≡ vec_capacity queue.old }
+{
+    for listed in list {
+        if let Some(slot) = slot_of(heads, listed.number) {
+            if is_change_at(&heads[slot], Place::Flight, block) {
+                heads[slot].place = Place::Disk;
+                queue.push_reserved(listed.number);
+            }
+        }
+    }
+}
+
+// Drops those that are on disk now.
+fn keep_listed(list: &mut Vec<Listed>, heads: &[Head])
+    requires { IsRising heads.now }
+    ensures { entries_of list.new.items ≡ filter (λ e. is_live_in (patches_of heads.now) e.number) (entries_of list.old.items) }
+{
+    list.retain(|listed| is_live_number(heads, listed.number));
+}
+
+/// What is in flight of the block is on disk, and waits in the queue.
+pub fn land_block(
+    heads: &mut Vec<Head>,
+    lists: &mut Vec<Vec<Listed>>,
+    queue: &mut Vec<u32>,
+    block: u32,
+)
+    requires rising { IsRising heads.old.items }
+    requires inside { IsInside (patches_of heads.old.items) (length lists.old.items) }
+    requires listed { AreListed (patches_of heads.old.items) (length lists.old.items) (map (λ l. entries_of l.items) lists.old.items) }
+    requires idle { queue.old.items ≡ [] }
+    requires room { length heads.old.items ≤ vec_capacity queue.old }
+    ensures nodes { nodes_of heads.new.items ≡ map (lands block) (nodes_of heads.old.items) }
+    ensures queued { queue.new.items ≡ flying_on block (patches_of heads.old.items) }
+    ensures listed { AreListed (patches_of heads.new.items) (length lists.old.items) (map (λ l. entries_of l.items) lists.new.items) }
+    ensures capacity { vec_capacity queue.new ≡ vec_capacity queue.old }
+{
+    if let Some(list) = lists.get_mut(block as usize) {
+        land_listed(heads, list, queue, block);
+        keep_listed(list, heads);
+    }
+}

@@ -1,0 +1,69 @@
+//! Marks on heads.
+
+ghost use Rattle.std.specs.Prelude.{◌≡◌, ◌↔◌, ℕ, length, IsTrue, IfSome, IfNone, Contains};
+ghost use Rattle.fst_heads.specs.Heads.{IsRising};
+ghost use Rattle.fst_heads.specs.Marks.{HasSlot, HasNone, Has};
+
+use crate::head::Head;
+
+// The slot of the head with this number, where none of those behind it is missing: then it is as far from the last slot as
+// its number is from the last number.
+fn slot_from_end(heads: &[Head], number: u32) -> Option<usize>
+    ensures { IfSome result (λ slot. HasSlot heads.now number slot) }
+{
+    let last = heads.last()?.number;
+    if last < number {
+        return None;
+    }
+    let back = (last - number) as usize;
+    if heads.len() <= back {
+        return None;
+    }
+    let slot = heads.len() - back - 1;
+    if heads[slot].number == number {
+        Some(slot)
+    } else {
+        None
+    }
+}
+
+/// The slot of the head with this number.
+pub fn slot_of(heads: &[Head], number: u32) -> Option<usize>
+    requires { IsRising heads.now }
+    ensures found { IfSome result (λ slot. HasSlot heads.now number slot) }
+    ensures none { IfNone result (HasNone heads.now number) }
+{
+    if let Some(slot) = slot_from_end(heads, number) {
+        return Some(slot);
+    }
+    match heads.binary_search_by_key(&number, |head| head.number) {
+        Ok(slot) => Some(slot),
+        Err(_) => None,
+    }
+}
+
+/// Whether the head with this number is marked.
+pub fn is_marked(heads: &[Head], marks: &[bool], number: u32) -> bool
+    requires rising { IsRising heads.now }
+    requires long { length marks.now ≡ length heads.now }
+    ensures { IsTrue result ↔ Has heads.now marks.now number }
+{
+    match slot_of(heads, number) {
+        Some(slot) => marks[slot],
+        None => false,
+    }
+}
+
+/// Whether one of the numbers is that of a marked head.
+pub fn names_marked(heads: &[Head], marks: &[bool], row: &[u32]) -> bool
+    requires rising { IsRising heads.now }
+    requires long { length marks.now ≡ length heads.now }
+    ensures { IsTrue result ↔ ((q : ℕ) × Contains row.now q × Has heads.now marks.now q) }
+{
+    for number in row {
+        if is_marked(heads, marks, *number) {
+            return true;
+        }
+    }
+    false
+}

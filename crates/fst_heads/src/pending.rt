@@ -1,0 +1,186 @@
+//! What is still to be written before a patch is on disk, and how a row of patches adds up to that.
+
+ghost use Rattle.std.specs.Prelude.{◌≡◌, ◌<◌, ◌≢◌, ◌+◌};
+ghost use Rattle.fst_heads.specs.declared.pending.Pending.TheVariants as pending;
+ghost use Rattle.fst_heads.specs.Pendings.{is_pending, over_block, nothing, plus, minus, together, joined_sums, Fits, HasIn};
+
+/// What has still to reach the disk of a patch and of all that it depends on.
+#[derive(Clone, Copy, Debug, PartialEq, Eq)]
+pub enum Pending {
+    /// It is on disk.
+    Nothing,
+    /// Changes of this block, and empty patches and sealed gates over them.
+    Block(u32),
+    /// Changes of more than one block, and empty patches and sealed gates over them.
+    Apart,
+    /// An open gate, and perhaps changes.
+    Held,
+}
+
+/// Whether the two are the same.
+pub fn is_pending(pending: Pending, other: Pending) -> bool
+    ensures { result ≡ is_pending pending other }
+{
+    match pending {
+        Pending::Nothing => match other {
+            Pending::Nothing => true,
+            Pending::Block(_) | Pending::Apart | Pending::Held => false,
+        },
+        Pending::Block(block) => match other {
+            Pending::Block(second) => block == second,
+            Pending::Nothing | Pending::Apart | Pending::Held => false,
+        },
+        Pending::Apart => match other {
+            Pending::Apart => true,
+            Pending::Nothing | Pending::Block(_) | Pending::Held => false,
+        },
+        Pending::Held => match other {
+            Pending::Held => true,
+            Pending::Nothing | Pending::Block(_) | Pending::Apart => false,
+        },
+    }
+}
+
+/// A change of the block over what is pending below it.
+pub fn over_block(block: u32, below: Pending) -> Pending
+    ensures { result ≡ over_block block below }
+{
+    match below {
+        Pending::Nothing => Pending::Block(block),
+        Pending::Block(other) => if other == block {
+            Pending::Block(block)
+        } else {
+            Pending::Apart
+        },
+        Pending::Apart => Pending::Apart,
+        Pending::Held => Pending::Held,
+    }
+}
+
+/// How many patches of a row are not on disk, how many of these wait for an open gate, and how many of the others for
+/// more than one block, and the sums of the blocks of the rest and of the squares of those blocks. The two sums tell
+/// whether all those blocks are the same, and follow where one patch of the row changes, without a look at the others.
+#[derive(Clone, Copy, Debug, PartialEq, Eq)]
+pub struct Sums {
+    pub count: usize,
+    pub held: usize,
+    pub apart: usize,
+    pub total: u128,
+    pub squares: u128,
+}
+
+/// The sums of no patch.
+pub fn no_sums() -> Sums
+    ensures { result ≡ nothing }
+{
+    Sums {
+        count: 0,
+        held: 0,
+        apart: 0,
+        total: 0,
+        squares: 0,
+    }
+}
+
+impl Sums {
+    /// One patch more.
+    pub fn add(&mut self, pending: Pending)
+        requires fits { Fits self.old }
+        requires room { self.old.count < 18446744073709551615 }
+        ensures plus { self.new ≡ plus pending self.old }
+        ensures fits { Fits self.new }
+    {
+        match pending {
+            Pending::Nothing => {}
+            Pending::Block(block) => {
+                let block = u128::from(block);
+                self.count += 1;
+                self.total += block;
+                self.squares += block * block;
+            }
+            Pending::Apart => {
+                self.count += 1;
+                self.apart += 1;
+            }
+            Pending::Held => {
+                self.count += 1;
+                self.held += 1;
+            }
+        }
+    }
+
+    /// One patch less, which is in the row.
+    fn take(&mut self, gone: Pending)
+        requires { HasIn gone self.old }
+        ensures minus { self.new ≡ minus gone self.old }
+        ensures room { gone ≢ pending.Nothing → self.new.count < 18446744073709551615 }
+    {
+        match gone {
+            Pending::Nothing => {}
+            Pending::Block(block) => {
+                let block = u128::from(block);
+                self.count -= 1;
+                self.total -= block;
+                self.squares -= block * block;
+            }
+            Pending::Apart => {
+                self.count -= 1;
+                self.apart -= 1;
+            }
+            Pending::Held => {
+                self.count -= 1;
+                self.held -= 1;
+            }
+        }
+    }
+
+    /// One patch of the row, which was not on disk, has something else pending.
+    pub fn change(&mut self, old: Pending, new: Pending)
+        requires has { HasIn old self.old }
+        requires live { old ≢ pending.Nothing }
+        ensures moved { self.new ≡ plus new (minus old self.old) }
+        ensures fits { Fits self.new }
+    {
+        self.take(old);
+        self.add(new);
+    }
+
+    /// The sums of two rows together.
+    pub fn with(self, other: Sums) -> Sums
+        requires fits { Fits self }
+        requires other { Fits other }
+        requires room { self.count + other.count < 18446744073709551616 }
+        ensures { result ≡ together self other }
+    {
+        Sums {
+            count: self.count + other.count,
+            held: self.held + other.held,
+            apart: self.apart + other.apart,
+            total: self.total + other.total,
+            squares: self.squares + other.squares,
+        }
+    }
+
+    /// What is pending of the row.
+    pub fn joined(&self) -> Pending
+        requires { Fits self.now }
+        ensures { result ≡ joined_sums self.now }
+    {
+        if self.count == 0 {
+            return Pending::Nothing;
+        }
+        if self.held > 0 {
+            return Pending::Held;
+        }
+        if self.apart > 0 {
+            return Pending::Apart;
+        }
+        let count = self.count as u128;
+        let block = self.total / count;
+        if block * count == self.total && block * self.total == self.squares {
+            Pending::Block(block as u32)
+        } else {
+            Pending::Apart
+        }
+    }
+}

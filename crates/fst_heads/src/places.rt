@@ -1,0 +1,103 @@
+//! How patches go from place to place.
+
+ghost use Rattle.std.specs.Prelude.{◌≡◌, ◌∷◌, [], map, filter, count_by, Contains, if◌then◌else◌};
+ghost use Rattle.fst_types.specs.declared.place.Place.TheVariants as place;
+ghost use Rattle.fst_types.specs.Patches.{Patch, block_of_kind};
+ghost use Rattle.fst_types.specs.Tests.{is_at, is_on, is_change_at, is_live};
+ghost use Rattle.fst_heads.specs.Names.{numbers_of};
+ghost use Rattle.fst_heads.specs.Heads.{IsRising, kind_of, patch_of, patches_of};
+ghost use Rattle.fst_heads.specs.Spreading.{launches};
+ghost use Rattle.fst_heads.specs.Nodes.{node_of, nodes_of};
+
+use crate::head::{Head, Kind};
+use crate::marks::slot_of;
+use crate::test::is_live;
+use fst_types::{PatchNo, Place};
+
+fn is_at(place: Place, at: Place) -> bool
+    ensures { result ≡ is_at place at }
+{
+    match place {
+        Place::Memory => match at {
+            Place::Memory => true,
+            Place::Flight | Place::Disk => false,
+        },
+        Place::Flight => match at {
+            Place::Flight => true,
+            Place::Memory | Place::Disk => false,
+        },
+        Place::Disk => match at {
+            Place::Disk => true,
+            Place::Memory | Place::Flight => false,
+        },
+    }
+}
+
+fn is_on(kind: Kind, block: u32) -> bool
+    ensures { result ≡ is_on block (kind_of kind) }
+{
+    match kind {
+        Kind::Change(on, _, _) => on == block,
+        Kind::Empty | Kind::OpenGate | Kind::SealedGate => false,
+    }
+}
+
+/// Whether the patch is a change of the block at the place.
+pub fn is_change_at(head: &Head, at: Place, block: u32) -> bool
+    ensures { result ≡ is_change_at at block (patch_of head.now) }
+{
+    is_at(head.place, at) && is_on(head.kind, block)
+}
+
+// The patch with the number is in flight.
+fn launch_at(heads: &mut Vec<Head>, number: u32)
+    requires { IsRising heads.old.items }
+    ensures { nodes_of heads.new.items ≡ map (launches (number ∷ [])) (nodes_of heads.old.items) }
+{
+    if let Some(slot) = slot_of(heads, number) {
+        heads[slot].place = Place::Flight;
+    }
+}
+
+/// The chosen are in flight.
+pub fn launch_all(heads: &mut Vec<Head>, chosen: &[PatchNo])
+    requires { IsRising heads.old.items }
+    ensures { nodes_of heads.new.items ≡ map (launches (numbers_of chosen.now)) (nodes_of heads.old.items) }
+{
+    for no in chosen {
+        launch_at(heads, no.0);
+    }
+}
+
+/// The block of the patch with the number, if it is a change.
+pub fn block_of(heads: &[Head], number: u32) -> Option<u32>
+    requires { IsRising heads.now }
+    ensures { (p : Patch) → Contains (patches_of heads.now) p → p.number ≡ number → result ≡ block_of_kind p.kind }
+{
+    let slot = slot_of(heads, number)?;
+    match heads[slot].kind {
+        Kind::Change(block, _, _) => Some(block),
+        Kind::Empty | Kind::OpenGate | Kind::SealedGate => None,
+    }
+}
+
+/// Drops the patches on disk, so many not being there. Where all are such it looks at none.
+pub fn keep_live(heads: &mut Vec<Head>, live: usize)
+    requires { live ≡ count_by is_live (patches_of heads.old.items) }
+    ensures { nodes_of heads.new.items ≡ filter (λ x. is_live x.patch) (nodes_of heads.old.items) }
+{
+    if live == heads.len() {
+        return;
+    }
+    heads.retain(|head| is_live(head.place));
+}
+
+/// One for a patch that is not on disk.
+pub fn weight(at: Place) -> usize
+    ensures { result ≡ if is_at at place.Disk then 0 else 1 }
+{
+    match at {
+        Place::Memory | Place::Flight => 1,
+        Place::Disk => 0,
+    }
+}

@@ -1,0 +1,160 @@
+//! How each block stands: the mark that says whether it may be written, as counts that follow each change.
+
+ghost use Rattle.std.specs.Prelude.{◌≡◌, ◌<◌, ◌≤◌, ◌↔◌, [], ℕ, true, false, length, map, Contains, IfOk, IsTrue, MatchOption, slice_index_or, slice_set, vec_len, vec_capacity};
+ghost use Rattle.fst_types.specs.Patches.{Change};
+ghost use Rattle.fst_types.specs.declared.grade.Grade.{Grade};
+ghost use Rattle.fst_heads.specs.Frames.{frames_of};
+ghost use Rattle.fst_heads.specs.Heads.{IsRising, kind_of};
+ghost use Rattle.fst_heads.specs.Nodes.{Node, nodes_of, at_number};
+ghost use Rattle.fst_heads.specs.Pendings.{Fits, Sinks};
+ghost use Rattle.fst_heads.specs.Spreading.{now, is_told, settles};
+ghost use Rattle.fst_heads.specs.Standings.{AllStand, may_be_written, released, entered};
+ghost use Rattle.fst_heads.specs.Tests.{is_hard_kind};
+
+use crate::cascade::pending_now;
+use crate::choice::is_hard;
+use crate::head::{Head, Kind};
+use crate::pending::{Pending, is_pending};
+use fst_types::{BlockNo, Place};
+use std::alloc::{AllocError, Global};
+
+/// How many changes of a block in memory have nothing pending but changes of the block, how many hard ones in memory have
+/// more, and how many changes are in flight.
+#[derive(Clone, Copy, Debug, PartialEq, Eq)]
+pub struct Standing {
+    pub ready: usize,
+    pub held: usize,
+    pub flying: usize,
+}
+
+impl Standing {
+    /// The mark of the block: whether it may be written.
+    pub fn may_be_written(&self) -> bool
+        ensures { result ≡ may_be_written self.now }
+    {
+        self.flying == 0 && self.held == 0 && self.ready > 0
+    }
+
+    /// A change in memory that waited for more now waits for the block alone.
+    fn release(&mut self, kind: Kind)
+        requires ready { self.old.ready < 18446744073709551615 }
+        requires held { is_hard_kind (kind_of kind) ≡ true → 0 < self.old.held }
+        ensures { self.new ≡ released (is_hard_kind (kind_of kind)) self.old }
+    {
+        self.ready += 1;
+        if is_hard(kind) {
+            self.held -= 1;
+        }
+    }
+
+    /// A new change of the block in memory.
+    pub fn enter(&mut self, kind: Kind, is_ready: bool)
+        requires ready { self.old.ready < 18446744073709551615 }
+        requires held { self.old.held < 18446744073709551615 }
+        ensures { self.new ≡ entered (is_hard_kind (kind_of kind)) is_ready self.old }
+    {
+        if is_ready {
+            self.ready += 1;
+        } else if is_hard(kind) {
+            self.held += 1;
+        }
+    }
+
+    /// What is ready is in flight.
+    pub fn launch(&mut self)
+        ensures { self.new ≡ record { ready = 0; held = self.old.held; flying = self.old.ready } }
+    {
+        self.flying = self.ready;
+        self.ready = 0;
+    }
+
+    /// What was in flight is on disk.
+    pub fn land(&mut self)
+        ensures { self.new ≡ record { ready = self.old.ready; held = self.old.held; flying = 0 } }
+    {
+        self.flying = 0;
+    }
+}
+
+/// Whether nothing of the block is in flight.
+pub fn is_resting(standings: &[Standing], block: u32) -> bool
+    ensures { IsTrue result ↔ ((block < length standings.now) × ((d : Standing) → (slice_index_or standings.now block d).flying ≡ 0)) }
+{
+    match standings.get(block as usize) {
+        Some(standing) => standing.flying == 0,
+        None => false,
+    }
+}
+
+/// The least block whose mark is true.
+pub fn least_marked(standings: &[Standing]) -> Option<BlockNo>
+    requires { length standings.now ≤ 4294967296 }
+    ensures { MatchOption result
+        ((b : ℕ) (d : Standing) → b < length standings.now → may_be_written (slice_index_or standings.now b d) ≡ false)
+        (λ no. (no.0 < length standings.now) × ((d : Standing) → may_be_written (slice_index_or standings.now no.0 d) ≡ true) × ((b : ℕ) (d : Standing) → b < no.0 → may_be_written (slice_index_or standings.now b d) ≡ false)) }
+{
+    for (block, standing) in standings.iter().enumerate() {
+        if standing.may_be_written() {
+            return Some(BlockNo(block as u32));
+        }
+    }
+    None
+}
+
+/// A block without changes, for each block.
+pub fn empty_standings(alloc: Global, blocks: u32) -> Result<Vec<Standing>, AllocError>
+    ensures { IfOk result (λ standings. AllStand [] blocks standings.items) }
+{
+    vec![in alloc; Standing {
+        ready: 0,
+        held: 0,
+        flying: 0
+    }; blocks as usize]
+}
+
+/// What is pending of the head in the slot from now on its dependants have to be told. Answers what they knew, and what
+/// is pending now. A change in memory that now waits for its block alone is ready.
+pub fn settle_slot(
+    heads: &mut Vec<Head>,
+    standings: &mut Vec<Standing>,
+    slot: usize,
+) -> (Pending, Pending)
+    requires rising { IsRising heads.old.items }
+    requires slot { slot < vec_len heads.old }
+    requires fits { (d : Node) → Fits (slice_index_or (nodes_of heads.old.items) slot d).sums }
+    requires sinks { (d : Node) → Sinks (slice_index_or (nodes_of heads.old.items) slot d).pending (now (slice_index_or (nodes_of heads.old.items) slot d)) }
+    requires untold { (d : Node) → is_told (slice_index_or (nodes_of heads.old.items) slot d) ≡ false }
+    requires inside { (x : Node) (b at len : ℕ) (grade : Grade) → Contains (nodes_of heads.old.items) x → x.patch.kind ≡ Change b at len grade → b < vec_len standings.old }
+    requires standing { AllStand (nodes_of heads.old.items) (vec_len standings.old) standings.old.items }
+    ensures old { (d : Node) → result.0 ≡ (slice_index_or (nodes_of heads.old.items) slot d).pending }
+    ensures new { (d : Node) → result.1 ≡ now (slice_index_or (nodes_of heads.old.items) slot d) }
+    ensures nodes { (d : Node) → nodes_of heads.new.items ≡ map (at_number (slice_index_or (nodes_of heads.old.items) slot d).patch.number settles) (nodes_of heads.old.items) }
+    ensures standing { AllStand (nodes_of heads.new.items) (vec_len standings.old) standings.new.items }
+    ensures frames { frames_of heads.new.items ≡ frames_of heads.old.items }
+    ensures places { vec_capacity heads.new ≡ vec_capacity heads.old }
+    ensures len { vec_len heads.new ≡ vec_len heads.old }
+{
+    let head = &mut heads[slot];
+    let old = head.pending;
+    let new = pending_now(head);
+    if let Kind::Change(block, _, _) = head.kind {
+        if let Place::Memory = head.place {
+            if is_pending(new, Pending::Block(block)) {
+                standings[block as usize].release(head.kind);
+            }
+        }
+    }
+    head.pending = new;
+    (old, new)
+}
+
+/// Nothing of the block is in flight any more.
+pub fn land_at(standings: &mut Vec<Standing>, block: u32)
+    ensures inside { (d : Standing) → block < vec_len standings.old → standings.new.items ≡ slice_set standings.old.items block (record { ready = (slice_index_or standings.old.items block d).ready; held = (slice_index_or standings.old.items block d).held; flying = 0 }) }
+    ensures outside { vec_len standings.old ≤ block → standings.new.items ≡ standings.old.items }
+    ensures len { vec_len standings.new ≡ vec_len standings.old }
+{
+    if let Some(standing) = standings.get_mut(block as usize) {
+        standing.land();
+    }
+}

@@ -1,0 +1,58 @@
+-- A walk whose steps are told by a relation: what it has met so far, and that in the end it has met all.
+use Rattle.std.proofs.Common.{◌≡◌, ◌≤◌, ◌<◌, ◌+◌, ◌↔◌, ℕ, List, [], ◌++◌, length, get_or, Contains, sym, ap, subst, ◌∙◌, inl, inr, arith}
+use Rattle.std.proofs.lemmas.Bool.{cases_lt}
+use Rattle.std.proofs.lemmas.List.{append-nil, append_assoc, get_or_append_left}
+use Rattle.std.proofs.lemmas.List.Elements.{Contains-append_left, Contains-get_or}
+use Rattle.fst_types.specs.Closure.{Closure, one, join}
+use Rattle.fst_walks.specs.Descending.{IsLedFrom, Visits}
+use Rattle.fst_heads.proofs.Slots.{any_default}
+use Rattle.fst_walks.proofs.Visiting.{visits_old}
+
+-- all that steps lead to from the first `at` in the queue is there
+pub record Climbing (Steps : ℕ → ℕ → Type 0) (start : List ℕ) (at : ℕ) (queue : List ℕ) : Type 0 where
+  pub grown : (rest : List ℕ) × (queue ≡ start ++ rest)
+  pub only : (n : ℕ) → Contains queue n → IsLedFrom Steps start n
+  pub done : (i q : ℕ) → i < at → i < length queue → Steps (get_or queue i 0) q → Contains queue q
+
+pub climbing_none : (Steps : ℕ → ℕ → Type 0) (start : List ℕ) → Climbing Steps start 0 start
+climbing_none Steps start = record { grown = ([], sym (append-nil start)); only = λ n c. inl c; done = λ i q lt. absurd (omega (arith, lt)) }
+
+pub led_on : (Steps : ℕ → ℕ → Type 0) (start : List ℕ) (n q : ℕ) → IsLedFrom Steps start n → Steps n q → IsLedFrom Steps start q
+led_on Steps start n q m s = elim m [
+  | inl c ↦ inr (n, c, one s)
+  | inr r ↦ inr (r.0, r.1, join r.2 (one s))
+]
+
+-- one more of the queue
+module _ (Steps : ℕ → ℕ → Type 0) (start : List ℕ) (at : ℕ) (queue new : List ℕ) (inside : at < length queue) (x : Climbing Steps start at queue) (v : Visits (Steps (get_or queue at 0)) queue new) where
+  same_at : (i : ℕ) → i < length queue → get_or new i 0 ≡ get_or queue i 0
+  same_at i lt = ap (λ q. get_or q i 0) v.kept.1 ∙ get_or_append_left queue v.kept.0 0 i lt
+
+  to_new : (q : ℕ) → Contains queue q → Contains new q
+  to_new q c = visits_old (Steps (get_or queue at 0)) queue new v q c
+
+  pub climbing_more : Climbing Steps start (at + 1) new
+  climbing_more = record {
+    grown = (x.grown.0 ++ v.kept.0, v.kept.1 ∙ (ap (λ q. q ++ v.kept.0) x.grown.1 ∙ append_assoc start x.grown.0 v.kept.0));
+    only = λ q c. elim (v.only q c) [
+      | inl old ↦ x.only q old
+      | inr s ↦ led_on Steps start (get_or queue at 0) q (x.only (get_or queue at 0) (Contains-get_or queue at 0 inside)) s
+    ];
+    done = λ i q up lt s. elim (cases_lt i at) [
+      | inl before ↦ to_new q (x.done i q before (omega (arith, before, inside)) (subst (λ m. Steps m q) (same_at i (omega (arith, before, inside))) s))
+      | inr past ↦
+          let here : i ≡ at = omega (arith, up, past) in
+          v.each q (subst (λ m. Steps m q) (same_at i (omega (arith, here, inside)) ∙ ap (λ j. get_or queue j 0) here) s)
+    ];
+  }
+
+-- in the end all is met
+pub climbing_all : (Steps : ℕ → ℕ → Type 0) (start : List ℕ) (at : ℕ) (queue : List ℕ) → length queue ≤ at → Climbing Steps start at queue → (n : ℕ) → Contains queue n ↔ IsLedFrom Steps start n
+climbing_all Steps start at queue past x n = (x.only n, λ m. elim m [ inl c ↦ begun n c | inr r ↦ on r.0 n r.2 (begun r.0 r.1) ])
+  where
+    begun : (n : ℕ) → Contains start n → Contains queue n
+    begun n c = subst (λ q. Contains q n) (sym x.grown.1) (Contains-append_left start x.grown.0 n c)
+
+    on : (p q : ℕ) → Closure Steps p q → Contains queue p → Contains queue q
+    on p q (one s) c = x.done c.0 q (omega (arith, c.1, past)) c.1 (subst (λ m. Steps m q) (sym (any_default queue c.0 0 p c.1 ∙ c.2)) s)
+    on p q (join {q = r} d e) c = on r q e (on p r d c)

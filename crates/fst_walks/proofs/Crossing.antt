@@ -1,0 +1,97 @@
+-- From a change across its block, to the hard changes of it in memory.
+use Rattle.std.proofs.Common.{◌≡◌, ◌<◌, ℕ, Bool, true, false, List, length, map, filter, get_or, set, Contains, refl, sym, ap, subst, ◌∙◌, inl, inr, get_or-set_same, get_or-set_other}
+use Rattle.std.proofs.lemmas.Bool.{cases_eq}
+use Rattle.fst_types.specs.declared.place.Place.TheVariants as place
+use Rattle.fst_types.specs.Dependencies.{IsLiveNumber}
+use Rattle.fst_types.specs.Patches.{Patch, IsOn}
+use Rattle.fst_types.proofs.Landing.{at_change}
+use Rattle.fst_types.specs.Tests.{is_on}
+use Rattle.fst_types.proofs.Dropping.{in_filter}
+use Rattle.fst_types.proofs.Finite.{In, In-from_Contains, Contains-from_In, In-map}
+use Rattle.fst_heads.specs.declared.head.Head.{Head}
+use Rattle.fst_heads.specs.declared.lists.Listed.{Listed}
+use Rattle.fst_heads.specs.declared.test.Test.TheVariants as test
+use Rattle.fst_walks.specs.Descending.{Visits}
+use Rattle.fst_walks.specs.WayDown.{Crosses, ShowsBlockOf}
+use Rattle.fst_heads.specs.Grading.{IsHardNumber}
+use Rattle.fst_heads.specs.Heads.{IsRising, patch_of, patches_of}
+use Rattle.fst_heads.specs.Lists.{Entry, entry, entry_of, entries_of, entries_on, is_live_on}
+use Rattle.fst_heads.specs.Marks.{HasSlot, PassesAt}
+use Rattle.fst_heads.specs.Reaching.{IsReached, IsHardIn}
+use Rattle.fst_heads.proofs.Graded.{on_from, on_to}
+use Rattle.fst_heads.proofs.Leading.{one_block, reached_more}
+use Rattle.fst_heads.proofs.Passing.{memory_live}
+use Rattle.fst_heads.proofs.Slots.{patch_at, patch_is}
+use Rattle.fst_walks.proofs.Visiting.{visits_none}
+use Rattle.fst_heads.proofs.Waiting.{map_twice}
+
+-- a hard change in memory is not on disk
+pub hard_live : (patches : List Patch) (b n : ℕ) → IsHardNumber patches b n → IsLiveNumber patches n
+hard_live patches b n h = record { patch = h.patch; head = h.head; numbered = h.numbered; live = λ e. memory_disk h.patch.place h.hard.memory e }
+  where
+    memory_disk : (p : _) → p ≡ place.Memory → p ≡ place.Disk → ⊥
+    memory_disk p m d = cc
+
+module _ (heads : List Head) (rising : IsRising heads) (n s : ℕ) (d : Head) (slot : HasSlot heads n s) (live : IsLiveNumber (patches_of heads) n) where
+  abbrev patches : List Patch
+  patches = patches_of heads
+
+  abbrev here : Patch
+  here = patch_of (get_or heads s d)
+
+  is_here : (p : Patch) → Contains patches p → p.number ≡ n → here ≡ p
+  is_here p h e = patch_is heads p s d rising h (subst (λ m. HasSlot heads m s) (sym e) slot)
+
+  -- the block of what is there, if it is a change
+  pub on_here : (c : ℕ) → PassesAt (test.LiveOn c) patches n → IsOn here c
+  on_here c x = subst (λ p. IsOn p c) (sym (is_here x.patch x.head x.numbered)) (on_from c x.patch.number x.patch.kind x.patch.place x.passed).1
+
+  here_on : (c : ℕ) → IsOn here c → PassesAt (test.LiveOn c) patches n
+  here_on c on = record {
+    patch = here;
+    head = patch_at heads s d slot.0;
+    numbered = slot.1 d;
+    passed = on_to c here.number here.kind here.place (λ e. live.live (sym (ap (λ p. p.place) (is_here live.patch live.head live.numbered)) ∙ e)) on;
+  }
+
+  -- it is a change of b
+  module _ (b : ℕ) (on : IsOn here b) (crossed : List Bool) where
+    same_block : (c : ℕ) → PassesAt (test.LiveOn c) patches n → c ≡ b
+    same_block c x = one_block here c b (on_here c x) on
+
+    pub crosses_from : (q : ℕ) → (IsReached crossed b → ⊥) → IsHardNumber patches b q → Crosses patches crossed n q
+    crosses_from q fresh hard = record { block = b; change = here_on b on; fresh = fresh; hard = hard }
+
+    pub crosses_to : (q : ℕ) → Crosses patches crossed n q → (IsReached crossed b → ⊥) × IsHardNumber patches b q
+    crosses_to q x = let e = same_block x.block x.change in (subst (λ c. IsReached crossed c → ⊥) e x.fresh, subst (λ c. IsHardNumber patches c q) e x.hard)
+
+    pub shows_more : b < length crossed → ShowsBlockOf patches n crossed (set crossed b true)
+    shows_more inside = record {
+      kept = λ c r. reached_more crossed b c inside r;
+      only = λ c r. elim (cases_eq c b) [
+        | inl e ↦ inr (here_on c (subst (IsOn here) (sym e) on))
+        | inr ne ↦ inl (sym (get_or-set_other crossed b c true false ne) ∙ r)
+      ];
+      each = λ c x. subst (IsReached (set crossed b true)) (sym (same_block c x)) (get_or-set_same crossed b true false inside);
+    }
+
+    pub shows_same : IsReached crossed b → ShowsBlockOf patches n crossed crossed
+    shows_same shown = record { kept = λ c r. r; only = λ c r. inl r; each = λ c x. subst (IsReached crossed) (sym (same_block c x)) shown }
+
+  -- it is none
+  module _ (none : (c : ℕ) → IsOn here c → ⊥) (crossed : List Bool) where
+    pub crosses_none : (queue : List ℕ) → Visits (Crosses patches crossed n) queue queue
+    crosses_none queue = visits_none (Crosses patches crossed n) queue (λ q x. absurd (none x.block (on_here x.block x.change)))
+
+    pub shows_none : ShowsBlockOf patches n crossed crossed
+    shows_none = record { kept = λ c r. r; only = λ c r. inl r; each = λ c x. absurd (none c (on_here c x)) }
+
+-- the list of a block names its hard changes in memory
+memory_listed : (b : ℕ) (p : Patch) → IsHardIn p b → is_live_on b p ≡ true
+memory_listed b p h = memory_live p.place (is_on b p.kind) (at_change place.Memory b p h.change h.memory)
+
+pub hard_listed : (patches : List Patch) (list : List Listed) (b n : ℕ) → entries_of list ≡ entries_on b patches → IsHardNumber patches b n → Contains (map (λ (l : Listed). l.number) list) n
+hard_listed patches list b n same h =
+    let kept = in_filter (is_live_on b) patches h.patch (In-from_Contains patches h.patch h.head) (memory_listed b h.patch h.hard) in
+    let numbered = In-map (λ (e : Entry). e.number) (entries_on b patches) (entry h.patch) n (In-map entry (filter (is_live_on b) patches) h.patch (entry h.patch) kept refl) h.numbered in
+    Contains-from_In (map (λ (l : Listed). l.number) list) n (subst (λ ns. In ns n) (ap (map (λ (e : Entry). e.number)) (sym same) ∙ map_twice (λ (e : Entry). e.number) entry_of list) numbered)

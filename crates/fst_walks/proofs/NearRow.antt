@@ -1,0 +1,200 @@
+-- What is near a row, and the grade that it tells.
+use Rattle.std.proofs.Common.{◌≡◌, ◌⊎◌, ◌&&◌, ℕ, Bool, true, false, List, get_or, Contains, Some, None, Option, IfSome, refl, sym, ap, subst, ◌∙◌, inl, inr}
+use Rattle.std.proofs.lemmas.Bool.{false≢true}
+use Rattle.fst_types.specs.declared.place.Place.TheVariants as place
+use Rattle.fst_types.specs.declared.grade.Grade.TheVariants as grade
+use Rattle.fst_types.specs.Closure.{one, join}
+use Rattle.fst_types.specs.Patches.{Kind, OpenGate, Patch, IsOn, grade_of_kind}
+use Rattle.fst_types.specs.Dependencies.{DirectlyOn, DependsOn}
+use Rattle.fst_types.specs.Facts.{HardNeverHold}
+use Rattle.fst_types.specs.Gates.{IsOpenNumber}
+use Rattle.fst_types.specs.Tests.{is_change_at}
+use Rattle.fst_types.proofs.Landing.{change_at, at_change}
+use Rattle.fst_heads.specs.declared.test.Test.{Test}
+use Rattle.fst_heads.specs.declared.test.Test.TheVariants as test
+use Rattle.fst_heads.specs.declared.head.Head.{Head}
+use Rattle.fst_heads.specs.Heads.{IsRising, patch_of, patches_of}
+use Rattle.fst_heads.specs.Marks.{HasSlot, HasNone, PassesAt}
+use Rattle.fst_heads.specs.Tests.{passes, is_hard_kind}
+use Rattle.fst_heads.specs.Reaching.{IsHardIn}
+use Rattle.fst_heads.specs.Grading.{HasUnder, IsReturning, IsOpenBut, MayBeHard, IsHardNumber, RestsOnHard}
+use Rattle.fst_heads.proofs.Slots.{direct_at, patch_at, patch_is, patch_slot, slot_in, none_slot}
+use Rattle.fst_heads.proofs.Leading.{one_block, same_patch}
+use Rattle.fst_walks.proofs.Obstacles.{hard_from, hard_to}
+use Rattle.fst_heads.proofs.Graded.{on_from, off_from}
+
+-- a number that no head has is no patch's
+pub no_patch : (heads : List Head) (n : ℕ) → HasNone heads n → (p : Patch) → Contains (patches_of heads) p → p.number ≡ n → ⊥
+no_patch heads n none p c e = let t = slot_in heads p c in none_slot heads n t.0 none (subst (λ m. HasSlot heads m t.0) e (patch_slot heads p t.0 t.1 t.2))
+
+both : (x y : Bool) → (x && y) ≡ true → (x ≡ true) × (y ≡ true)
+both true true e = (refl, refl)
+both true false e = absurd (false≢true e)
+both false y e = absurd (false≢true e)
+
+-- the head at the slot of a number tells what its patch is
+module _ (heads : List Head) (rising : IsRising heads) (n s : ℕ) (d : Head) (slot : HasSlot heads n s) where
+  abbrev p : Patch
+  p = patch_of (get_or heads s d)
+
+  is_it : (x : Patch) → Contains (patches_of heads) x → x.number ≡ n → p ≡ x
+  is_it x c e = patch_is heads x s d rising c (subst (λ m. HasSlot heads m s) (sym e) slot)
+
+  pub passes_here : (t : Test) → passes t p ≡ true → PassesAt t (patches_of heads) n
+  passes_here t e = record { patch = p; head = patch_at heads s d slot.0; numbered = slot.1 d; passed = e }
+
+  pub here_passes : (t : Test) → PassesAt t (patches_of heads) n → passes t p ≡ true
+  here_passes t x = ap (passes t) (is_it x.patch x.head x.numbered) ∙ x.passed
+
+  -- the newest that its row names is a direct dependency
+  pub newest_direct : (o : Option ℕ) → IfSome o (Contains (get_or heads s d).dependencies.items) → IfSome o (DirectlyOn (patches_of heads) n)
+  newest_direct (Some q) c = direct_at heads n q s d slot c
+  newest_direct None c = tt
+
+  pub hard_here : (b : ℕ) → (is_change_at place.Memory b p && is_hard_kind p.kind) ≡ true → IsHardNumber (patches_of heads) b n
+  hard_here b e =
+      let k = both _ _ e in
+      let at = change_at place.Memory b p k.0 in
+      record { patch = p; head = patch_at heads s d slot.0; numbered = slot.1 d; hard = record { change = at.0; memory = at.1; hard = hard_from p.kind k.1 } }
+
+  pub here_hard : (b : ℕ) → IsHardNumber (patches_of heads) b n → (is_change_at place.Memory b p && is_hard_kind p.kind) ≡ true
+  here_hard b x =
+      let h = subst (λ q. IsHardIn q b) (sym (is_it x.patch x.head x.numbered)) x.hard in
+      rw (at_change place.Memory b p h.change h.memory, hard_to p.kind h.hard) refl
+
+-- a hard change is no gate
+hard_no_gate : (k : Kind) → grade_of_kind k ≡ Some grade.Hard → k ≡ OpenGate → ⊥
+hard_no_gate k e f = cc
+
+-- what is below hard changes of b in memory neither is an open gate, nor returns to b, nor leads to it
+module _ (heads : List Head) (rising : IsRising heads) (b : ℕ) (row : List ℕ) (hard : HardNeverHold (patches_of heads)) (rests : RestsOnHard (patches_of heads) b row) where
+  abbrev patches : List Patch
+  patches = patches_of heads
+
+  pub rests_may : MayBeHard patches None b row
+  rests_may = record {
+    free = λ u. let h = rests u.0 u.1 in elim u.2 [
+      | inl o ↦
+          let same = same_patch heads o.patch h.patch rising o.head h.head (o.numbered ∙ sym h.numbered) in
+          hard_no_gate h.patch.kind h.hard.hard (ap (λ p. p.kind) (sym same) ∙ o.is_open)
+      | inr r ↦
+          let o = r.2 in
+          hard.free h.patch h.head h.hard.hard (record {
+            gate = o.patch;
+            head = o.head;
+            is_open = o.is_open;
+            depends = subst (λ m. DependsOn patches m o.patch.number) (sym h.numbered) (subst (DependsOn patches u.0) (sym o.numbered) r.1);
+          })
+    ];
+    straight = λ u. let h = rests u.0 u.1 in elim u.2 [
+      | inl r ↦
+          let same = same_patch heads r.away h.patch rising r.head h.head (r.numbered ∙ sym h.numbered) in
+          r.off (one_block h.patch r.away_on b (subst (λ p. IsOn p r.away_on) same r.change) h.hard.change)
+      | inr low ↦
+          let r = low.2 in
+          hard.straight h.patch b (record { head = h.head; change = h.hard.change; memory = h.hard.memory }) h.hard.hard (record {
+            away = r.away;
+            back = r.back;
+            away_on = r.away_on;
+            off = r.off;
+            away_needed = record { head = r.head; change = r.change; depends = subst (λ m. DependsOn patches m r.away.number) (sym h.numbered) (subst (DependsOn patches u.0) (sym r.numbered) low.1) };
+            away_live = r.away_live;
+            back_needed = r.back_needed;
+            back_live = r.back_live;
+          })
+    ];
+    open_ended = λ u. let h = rests u.0 u.1 in elim u.2 [
+      | inl l ↦
+          let same = same_patch heads l.patch h.patch rising l.head h.head (l.numbered ∙ sym h.numbered) in
+          l.other (one_block h.patch l.block b (subst (λ p. IsOn p l.block) same l.change) h.hard.change)
+      | inr low ↦
+          let l = low.2 in
+          hard.acyclic b (join (one (record {
+            other = λ e. l.other (sym e);
+            hard = h.patch;
+            need = l.patch;
+            in_memory = record { head = h.head; change = h.hard.change; memory = h.hard.memory };
+            is_hard = h.hard.hard;
+            needs = record { head = l.head; change = l.change; depends = subst (λ m. DependsOn patches m l.patch.number) (sym h.numbered) (subst (DependsOn patches u.0) (sym l.numbered) low.1) };
+            live = l.live;
+          })) l.reaches)
+    ];
+  }
+
+-- what may be hard may be so where a gate is taken as sealed
+pub may_but : (heads : List Patch) (but : Option ℕ) (b : ℕ) (row : List ℕ) → MayBeHard heads None b row → MayBeHard heads but b row
+may_but heads but b row may = record { free = λ u. may.free (u.0, u.1, elim u.2 [ inl o ↦ inl (is_open but u.0 o) | inr r ↦ inr (r.0, r.1, is_open but r.0 r.2) ]); straight = may.straight; open_ended = may.open_ended }
+  where
+    is_open : (o : Option ℕ) (n : ℕ) → IsOpenBut heads o n → IsOpenNumber heads n
+    is_open None n e = e
+    is_open (Some gate) n e = e.0
+
+-- an open gate in the row is under it
+pub names_under : (heads : List Patch) (row : List ℕ) → ((n : ℕ) × Contains row n × IsOpenNumber heads n) → HasUnder heads row (IsOpenNumber heads)
+names_under heads row g = (g.0, g.1, inl g.2)
+
+-- what is under a row
+module _ (heads : List Patch) (row : List ℕ) where
+  abbrev under : (ℕ → Type 0) → Type 0
+  under P = HasUnder heads row P
+
+  pub under_weaker : (P Q : ℕ → Type 0) → ((n : ℕ) → P n → Q n) → under P → under Q
+  under_weaker P Q to u = (u.0, u.1, elim u.2 [ inl p ↦ inl (to u.0 p) | inr r ↦ inr (r.0, r.1, to r.0 r.2) ])
+
+  under_first : (n : ℕ) → Contains row n → under (λ m. m ≡ n)
+  under_first n c = (n, c, inl refl)
+
+  under_next : (n q : ℕ) → DirectlyOn heads n q → under (λ m. m ≡ n) → under (λ m. m ≡ q)
+  under_next n q d u = (
+    u.0,
+    u.1,
+    elim u.2 [
+      | inl e ↦ inr (q, one (subst (λ m. DirectlyOn heads m q) (sym e) d), refl)
+      | inr r ↦ inr (q, join r.1 (one (subst (λ m. DirectlyOn heads m q) (sym r.2) d)), refl)
+    ],
+  )
+
+-- m is a live change of a block other than b, and depends on n
+abbrev pub IsAwayAbove : List Patch → ℕ → ℕ → ℕ → Type 0
+IsAwayAbove heads b n m = PassesAt (test.LiveOff b) heads m × DependsOn heads m n
+
+-- n is under the row, and below a live change of a block other than b where one was met
+pub record IsOnPath (heads : List Patch) (b : ℕ) (row : List ℕ) (away : Bool) (n : ℕ) : Type 0 where
+  pub under : HasUnder heads row (λ m. m ≡ n)
+  pub off : away ≡ true → HasUnder heads row (IsAwayAbove heads b n)
+
+pub path_start : (heads : List Patch) (b : ℕ) (row : List ℕ) (n : ℕ) → Contains row n → IsOnPath heads b row false n
+path_start heads b row n c = record { under = under_first heads row n c; off = λ e. absurd (false≢true e) }
+
+path_next : (heads : List Patch) (b : ℕ) (row : List ℕ) (was now : Bool) (n q : ℕ) → IsOnPath heads b row was n → DirectlyOn heads n q → (now ≡ true → (was ≡ true) ⊎ PassesAt (test.LiveOff b) heads n) → IsOnPath heads b row now q
+path_next heads b row was now n q x d said = record {
+  under = under_next heads row n q d x.under;
+  off = λ e. elim (said e) [
+    | inl before ↦ under_weaker heads row (IsAwayAbove heads b n) (IsAwayAbove heads b q) (λ m a. (a.0, join a.1 (one d))) (x.off before)
+    | inr here ↦ under_weaker heads row (λ m. m ≡ n) (IsAwayAbove heads b q) (λ m s. (subst (PassesAt (test.LiveOff b) heads) (sym s) here, one (subst (λ k. DirectlyOn heads k q) (sym s) d))) x.under
+  ];
+}
+
+pub path_further : (heads : List Patch) (b : ℕ) (row : List ℕ) (was now : Bool) (n : ℕ) (o : Option ℕ) → IsOnPath heads b row was n → IfSome o (DirectlyOn heads n) → (now ≡ true → (was ≡ true) ⊎ PassesAt (test.LiveOff b) heads n) → IfSome o (IsOnPath heads b row now)
+path_further heads b row was now n (Some q) x d said = path_next heads b row was now n q x d said
+path_further heads b row was now n None x d said = tt
+
+-- a live change of b that is below one of another block is what it returns to
+pub path_back : (heads : List Patch) (b : ℕ) (row : List ℕ) (n : ℕ) → IsOnPath heads b row true n → PassesAt (test.LiveOn b) heads n → HasUnder heads row (IsReturning heads b)
+path_back heads b row n x p = under_weaker heads row (IsAwayAbove heads b n) (IsReturning heads b) (λ m a.
+    let away = a.0.patch in
+    let back = p.patch in
+    let off = off_from b away.number away.kind away.place a.0.passed in
+    let on = on_from b back.number back.kind back.place p.passed in
+    record {
+      away = away;
+      back = back;
+      away_on = off.1;
+      head = a.0.head;
+      numbered = a.0.numbered;
+      change = off.2;
+      off = off.3;
+      away_live = off.0;
+      back_needed = record { head = p.head; change = on.1; depends = subst (λ k. DependsOn heads k back.number) (sym a.0.numbered) (subst (DependsOn heads m) (sym p.numbered) a.1) };
+      back_live = on.0;
+    }) (x.off refl)

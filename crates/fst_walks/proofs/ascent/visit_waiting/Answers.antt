@@ -1,0 +1,44 @@
+use Rattle.std.proofs.Common.{◌≡◌, ◌∙◌, ℕ, take, get_or, Contains, subst, sym, ap, arith}
+use Rattle.std.proofs.lemmas.Bool.{false≢true}
+use Rattle.std.proofs.lemmas.List.{take_all, take_more}
+use Rattle.fst_types.specs.Dependencies.{IsLiveNumber}
+use Rattle.fst_heads.specs.declared.pending.Pending.TheVariants as pending
+use Rattle.fst_walks.specs.Descending.{Visits}
+use Rattle.fst_heads.specs.Heads.{patches_of}
+use Rattle.fst_heads.specs.Nodes.{nodes_of, pending_in}
+use Rattle.fst_heads.specs.Pendings.{is_pending}
+use Rattle.fst_walks.proofs.Low.{is_block, block_is}
+use Rattle.fst_walks.proofs.Visiting.{visits_next, visits_skip}
+use Rattle.fst_walks.proofs.ascent.visit_waiting.Goals as goal
+use Rattle.fst_walks.proofs.ascent.visit_waiting.Goals.{then-is_pending, else-is_pending}
+
+pub loop-number-preserved : goal.loop-number-preserved
+loop-number-preserved c =
+    let L = IsLiveNumber (patches_of c.args.heads.now) in
+    let P : ℕ → Type 0 = λ m. pending_in (nodes_of c.args.heads.now) m ≡ pending.Block c.args.block in
+    let row = c.args.row.now in
+    let i = c.loop-number.number-index in
+    let n = get_or row i 0 in
+    let old = c.args.queue.now.items in
+    let mid = c.loop-number.queue.items in
+    let said = ap (λ p. is_pending p (pending.Block c.args.block)) (sym c.pending_at.ensures) ∙ sym c.is_pending.ensures in
+    elim c.if-is_pending.branch [
+      | then-is_pending w ↦
+          let own : P n = is_block c.args.block (pending_in (nodes_of c.args.heads.now) n) (said ∙ w.if-is_pending.true) in
+          rw (w.marks-is, w.queue-is) record {
+            visited = w.visit.ensures.visited;
+            visits = rw (take_more row i 0 c.loop-number-test.true) (visits_next P L (take i row) n old mid w.visit.new.queue.items c.requires.live (λ l. own) c.loop-number.invariant.visits w.visit.ensures.visits);
+            capacity = w.visit.ensures.capacity ∙ c.loop-number.invariant.capacity;
+          }
+      | else-is_pending w ↦ rw (w.marks-is, w.queue-is) record {
+        visited = c.loop-number.invariant.visited;
+        visits = rw (take_more row i 0 c.loop-number-test.true)
+            (visits_skip P (take i row) n old mid (λ own. false≢true (sym (said ∙ w.if-is_pending.false) ∙ block_is c.args.block (pending_in (nodes_of c.args.heads.now) n) own)) c.loop-number.invariant.visits);
+        capacity = c.loop-number.invariant.capacity;
+      }
+    ]
+
+pub returns-clause-visits : goal.returns-clause-visits
+returns-clause-visits c =
+    subst (λ ns. Visits (λ n. Contains ns n × (pending_in (nodes_of c.args.heads.now) n ≡ pending.Block c.args.block)) c.args.queue.now.items c.loop-number.queue.items)
+    (take_all c.loop-number.number-index c.args.row.now (omega (arith, c.loop-number-test.false))) c.loop-number.invariant.visits

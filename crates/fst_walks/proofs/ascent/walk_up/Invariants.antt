@@ -1,0 +1,16 @@
+use Rattle.std.proofs.Common.{◌≡◌, ◌-◌, length, vec_capacity}
+use Rattle.fst_heads.specs.Ascending.{IsNextBehind}
+use Rattle.fst_walks.specs.Descending.{Visited}
+use Rattle.fst_heads.specs.Nodes.{nodes_of}
+use Rattle.fst_walks.proofs.Ascended.{Climbing}
+use Rattle.fst_walks.proofs.ascent.walk_up.Given as goal
+
+abbrev pub invariant-loop-at : goal.invariant-loop-at
+invariant-loop-at l = record {
+  visited : Visited l.heads l.marks l.queue.items;
+  climbing : Climbing (IsNextBehind (nodes_of l.heads) l.block) l.initial.queue.items l.at l.queue.items;
+  capacity : vec_capacity l.queue ≡ vec_capacity l.initial.queue;
+}
+
+abbrev pub decreases-loop-at : goal.decreases-loop-at
+decreases-loop-at l = length l.heads - l.at

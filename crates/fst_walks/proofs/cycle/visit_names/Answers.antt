@@ -1,0 +1,29 @@
+use Rattle.std.proofs.Common.{◌≡◌, ◌∙◌, ℕ, take, get_or, Contains, ap, subst, arith}
+use Rattle.std.proofs.lemmas.List.{take_all, take_more}
+use Rattle.fst_types.specs.declared.number.PatchNo.{PatchNo}
+use Rattle.fst_heads.specs.declared.pending.Pending.TheVariants as pending
+use Rattle.fst_walks.specs.Descending.{Visits}
+use Rattle.fst_heads.specs.Names.{numbers_of}
+use Rattle.fst_heads.specs.Nodes.{nodes_of, pending_in}
+use Rattle.std.proofs.lemmas.List.{map_push}
+use Rattle.fst_walks.proofs.Visiting.{visits_next}
+use Rattle.fst_walks.proofs.cycle.visit_names.Goals as goal
+
+pub loop-name-preserved : goal.loop-name-preserved
+loop-name-preserved c =
+    let P : ℕ → Type 0 = λ m. pending_in (nodes_of c.args.heads.now) m ≡ pending.Held in
+    let names = c.args.names.now in
+    let i = c.loop-name.name-index in
+    let none : PatchNo = record { 0 = 0 } in
+    let n = (get_or names i none).0 in
+    let more = ap numbers_of (take_more names i none c.loop-name-test.true) ∙ map_push (λ (m : PatchNo). m.0) (take i names) (get_or names i none) in
+    record {
+      visited = c.visit_held.ensures.visited;
+      visits = rw more (visits_next P P (numbers_of (take i names)) n c.args.queue.now.items c.loop-name.queue.items c.visit_held.new.queue.items (λ m l. l) (λ l. l) c.loop-name.invariant.visits c.visit_held.ensures.visits);
+      capacity = c.visit_held.ensures.capacity ∙ c.loop-name.invariant.capacity;
+    }
+
+pub returns-clause-visits : goal.returns-clause-visits
+returns-clause-visits c =
+    let P : ℕ → Type 0 = λ m. pending_in (nodes_of c.args.heads.now) m ≡ pending.Held in
+    subst (λ ns. Visits (λ n. Contains (numbers_of ns) n × P n) c.args.queue.now.items c.loop-name.queue.items) (take_all c.loop-name.name-index c.args.names.now (omega (arith, c.loop-name-test.false))) c.loop-name.invariant.visits

@@ -1,0 +1,13 @@
+use Rattle.std.proofs.Common.{◌≡◌, take, Contains, vec_capacity}
+use Rattle.fst_heads.specs.declared.pending.Pending.TheVariants as pending
+use Rattle.fst_walks.specs.Descending.{Visited, Visits}
+use Rattle.fst_heads.specs.Names.{numbers_of}
+use Rattle.fst_heads.specs.Nodes.{nodes_of, pending_in}
+use Rattle.fst_walks.proofs.cycle.visit_names.Given as goal
+
+abbrev pub invariant-loop-name : goal.invariant-loop-name
+invariant-loop-name l = record {
+  visited : Visited l.heads l.marks l.queue.items;
+  visits : Visits (λ n. Contains (numbers_of (take l.name-index l.names)) n × (pending_in (nodes_of l.heads) n ≡ pending.Held)) l.initial.queue.items l.queue.items;
+  capacity : vec_capacity l.queue ≡ vec_capacity l.initial.queue;
+}

@@ -1,0 +1,24 @@
+use Rattle.std.proofs.Common.{◌∙◌, take, get_or, Contains, subst, arith}
+use Rattle.std.proofs.lemmas.List.{take_all, take_more}
+use Rattle.fst_types.specs.Dependencies.{IsLiveNumber}
+use Rattle.fst_walks.specs.Descending.{Visits}
+use Rattle.fst_heads.specs.Heads.{patches_of}
+use Rattle.fst_walks.proofs.Visiting.{visits_next}
+use Rattle.fst_walks.proofs.descent.visit_row.Goals as goal
+
+pub loop-number-preserved : goal.loop-number-preserved
+loop-number-preserved c =
+    let L = IsLiveNumber (patches_of c.args.heads.now) in
+    let row = c.args.row.now in
+    let i = c.loop-number.number-index in
+    let n = get_or row i 0 in
+    record {
+      visited = c.visit.ensures.visited;
+      visits = rw (take_more row i 0 c.loop-number-test.true) (visits_next L L (take i row) n c.args.queue.now.items c.loop-number.queue.items c.visit.new.queue.items (λ m l. l) (λ l. l) c.loop-number.invariant.visits c.visit.ensures.visits);
+      capacity = c.visit.ensures.capacity ∙ c.loop-number.invariant.capacity;
+    }
+
+pub returns-clause-visits : goal.returns-clause-visits
+returns-clause-visits c =
+    let L = IsLiveNumber (patches_of c.args.heads.now) in
+    subst (λ ns. Visits (λ n. Contains ns n × L n) c.args.queue.now.items c.loop-number.queue.items) (take_all c.loop-number.number-index c.args.row.now (omega (arith, c.loop-number-test.false))) c.loop-number.invariant.visits

@@ -1,0 +1,33 @@
+use Rattle.std.proofs.Common.{◌∙◌, sym}
+use Rattle.std.proofs.lemmas.Bool.{false≢true}
+use Rattle.fst_types.specs.Facts.{HardNeverHold}
+use Rattle.fst_heads.specs.Grading.{LeadsNowhere}
+use Rattle.fst_heads.specs.Heads.{patches_of}
+use Rattle.fst_walks.proofs.NearRow.{rests_may, may_but}
+use Rattle.fst_walks.proofs.grade.grade_of.Goals as goal
+use Rattle.fst_walks.proofs.grade.grade_of.Goals.{then-rests_on_hard-via-then-rests_on_hard, then-rests_on_hard-via-else-rests_on_hard+then-waits_for_quiet_block, then-is_blocked-via-then-is_blocked, then-is_blocked-via-else-is_blocked+then-comes_back}
+
+pub returns-then-rests_on_hard-clause-graded : goal.returns-then-rests_on_hard-clause-graded
+returns-then-rests_on_hard-clause-graded c =
+    let heads = c.args.heads.now in
+    let hard : HardNeverHold (patches_of heads) = record { free = c.requires.hard.free; straight = c.requires.hard.straight; acyclic = c.requires.hard.acyclic } in
+    may_but (patches_of heads) c.args.but c.args.block c.args.row.now (elim c.then-rests_on_hard.branch [
+      | then-rests_on_hard-via-then-rests_on_hard w ↦ rests_may heads c.requires.rising c.args.block c.args.row.now hard (c.rests_on_hard.ensures.0 w.if-rests_on_hard.true)
+      | then-rests_on_hard-via-else-rests_on_hard+then-waits_for_quiet_block w ↦ w.waits_for_quiet_block.ensures w.if-waits_for_quiet_block.true
+    ])
+
+pub returns-then-is_blocked-clause-graded : goal.returns-then-is_blocked-clause-graded
+returns-then-is_blocked-clause-graded c may = elim c.then-is_blocked.branch [
+  | then-is_blocked-via-then-is_blocked w ↦ may.free (c.is_blocked.ensures.blocked.0 w.if-is_blocked.true)
+  | then-is_blocked-via-else-is_blocked+then-comes_back w ↦ may.straight (w.comes_back.ensures w.if-comes_back.true)
+]
+
+pub returns-then-is_held_back-clause-graded : goal.returns-then-is_held_back-clause-graded
+returns-then-is_held_back-clause-graded c may =
+    let held : LeadsNowhere (patches_of c.args.heads.now) c.args.block c.args.row.now → ⊥ = rw c.if-is_held_back.true at c.is_held_back.ensures.held in
+    held (record { straight = may.straight; open_ended = may.open_ended })
+
+pub returns-clause-graded : goal.returns-clause-graded
+returns-clause-graded c =
+    let nowhere : LeadsNowhere (patches_of c.args.heads.now) c.args.block c.args.row.now = rw c.if-is_held_back.false at c.is_held_back.ensures.held in
+    record { free = λ u. false≢true (sym c.if-is_blocked.false ∙ c.is_blocked.ensures.blocked.1 u); straight = nowhere.straight; open_ended = nowhere.open_ended }

@@ -1,0 +1,55 @@
+use Rattle.std.proofs.Common.{◌≡◌, ◌∙◌, ℕ, refl, get_or, take, ap, subst, sym, arith}
+use Rattle.std.proofs.lemmas.List.{take_all, take_more}
+use Rattle.fst_heads.specs.declared.lists.Listed.{Listed}
+use Rattle.fst_heads.specs.declared.pending.Pending.TheVariants as pending
+use Rattle.fst_walks.specs.Descending.{Visits}
+use Rattle.fst_heads.specs.Heads.{patches_of}
+use Rattle.fst_heads.specs.Lists.{entry_of, entries_of}
+use Rattle.fst_heads.specs.Nodes.{nodes_of, pending_in}
+use Rattle.fst_heads.specs.Rows.{IsTouched}
+use Rattle.std.proofs.lemmas.List.{map_push}
+use Rattle.fst_walks.proofs.Overlapped.{IsSharing, sharing_none, sharing_more, sharing_skip, sharing_touched, touched_sharing}
+use Rattle.fst_walks.proofs.Visiting.{visits_same}
+use Rattle.fst_walks.proofs.overlap_cycle.visit_overlapped.Goals as goal
+use Rattle.fst_walks.proofs.overlap_cycle.visit_overlapped.Goals.{then-shares, else-shares}
+
+pub loop-listed-init : goal.loop-listed-init
+loop-listed-init c = record { visited = c.requires.visited; visits = sharing_none (λ n. pending_in (nodes_of c.args.heads.now) n ≡ pending.Held) c.args.span.at c.args.span.len c.args.queue.now.items; capacity = refl }
+
+pub loop-listed-preserved : goal.loop-listed-preserved
+loop-listed-preserved c =
+    let Held : ℕ → Type 0 = λ n. pending_in (nodes_of c.args.heads.now) n ≡ pending.Held in
+    let list = c.args.list.now in
+    let i = c.loop-listed.listed-index in
+    let none : Listed = record { number = 0; span = record { at = 0; len = 0 } } in
+    let at = c.args.span.at in
+    let len = c.args.span.len in
+    let done = entries_of (take i list) in
+    let e = entry_of (get_or list i none) in
+    let more = ap entries_of (take_more list i none c.loop-listed-test.true) ∙ map_push entry_of (take i list) (get_or list i none) in
+    elim c.if-shares.branch [
+      | then-shares w ↦
+          rw (w.marks-is, w.queue-is) record {
+            visited = w.visit_held.ensures.visited;
+            visits = rw more (sharing_more Held at len done e c.args.queue.now.items c.loop-listed.queue.items w.visit_held.new.queue.items (sym c.shares.ensures ∙ w.if-shares.true) c.loop-listed.invariant.visits w.visit_held.ensures.visits);
+            capacity = w.visit_held.ensures.capacity ∙ c.loop-listed.invariant.capacity;
+          }
+      | else-shares w ↦
+          rw (w.marks-is, w.queue-is) record {
+            visited = c.loop-listed.invariant.visited;
+            visits = rw more (sharing_skip Held at len done e c.args.queue.now.items c.loop-listed.queue.items (sym c.shares.ensures ∙ w.if-shares.false) c.loop-listed.invariant.visits);
+            capacity = c.loop-listed.invariant.capacity;
+          }
+    ]
+
+pub returns-clause-visits : goal.returns-clause-visits
+returns-clause-visits c =
+    let Held : ℕ → Type 0 = λ n. pending_in (nodes_of c.args.heads.now) n ≡ pending.Held in
+    let patches = patches_of c.args.heads.now in
+    let list = c.args.list.now in
+    let at = c.args.span.at in
+    let len = c.args.span.len in
+    let all = subst (λ ls. Visits (λ n. IsSharing at len (entries_of ls) n × Held n) c.args.queue.now.items c.loop-listed.queue.items) (take_all c.loop-listed.listed-index list (omega (arith, c.loop-listed-test.false))) c.loop-listed.invariant.visits in
+    visits_same (λ n. IsSharing at len (entries_of list) n × Held n) (λ n. IsTouched patches c.args.block at len n × Held n) c.args.queue.now.items c.loop-listed.queue.items
+    (λ n k. (sharing_touched patches c.args.block at len (entries_of list) c.requires.listed n k.0, k.1))
+    (λ n k. (touched_sharing patches c.args.block at len (entries_of list) c.requires.listed n k.0, k.1)) all

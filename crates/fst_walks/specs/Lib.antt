@@ -1,0 +1,4 @@
+pub mod Searching
+pub mod Descending
+pub mod WayBack
+pub mod WayDown

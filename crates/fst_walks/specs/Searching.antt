@@ -1,0 +1,21 @@
+-- The search for a cycle: down from names to an open gate, through what waits for an open gate.
+use Rattle.std.specs.Prelude.{◌≡◌, ◌↔◌, ℕ, List}
+use Rattle.fst_types.specs.Dependencies.{DirectlyOn, DependsOn}
+use Rattle.fst_types.specs.Gates.{IsOpenNumber}
+use Rattle.fst_types.specs.Patches.{Patch}
+use Rattle.fst_heads.specs.declared.pending.Pending.{Pending}
+use Rattle.fst_heads.specs.declared.pending.Pending.TheVariants as pending
+use Rattle.fst_heads.specs.Marks.{IsAbove}
+use Rattle.fst_heads.specs.Rows.{IsTouched}
+
+-- an open gate is pending of exactly the open gates and of what depends on one
+abbrev pub AreHeldByGates : List Patch → (ℕ → Pending) → Type 0
+AreHeldByGates patches told = (n : ℕ) → (told n ≡ pending.Held) ↔ IsAbove patches (IsOpenNumber patches) n
+
+-- a step of the search: to a direct dependency that waits for an open gate
+abbrev pub IsNextHeld : List Patch → (ℕ → Pending) → ℕ → ℕ → Type 0
+IsNextHeld patches told n m = DirectlyOn patches n m × (told m ≡ pending.Held)
+
+-- a live change that shares one of these bytes of block b depends on the tail
+abbrev pub TouchedReaches : List Patch → ℕ → (b at len : ℕ) → Type 0
+TouchedReaches heads tail b at len = (n : ℕ) × IsTouched heads b at len n × DependsOn heads n tail

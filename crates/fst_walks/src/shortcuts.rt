@@ -1,0 +1,146 @@
+//! What tells the grade of a new change at once, from the patches near its row. A walk over all patches decides only
+//! where none of this does: a change behind a gate, a chain on one block, a chain over a few blocks and a change over a
+//! block that holds nothing back need none.
+
+ghost use Rattle.std.specs.Prelude.{◌≡◌, ◌↔◌, ◌&&◌, ℕ, IsTrue, IfSome, Contains, length};
+ghost use Rattle.fst_types.specs.Closure.{IsAcyclic};
+ghost use Rattle.fst_types.specs.Dependencies.{DirectlyOn};
+ghost use Rattle.fst_types.specs.Facts.{IsOnDiskWithAll};
+ghost use Rattle.fst_types.specs.declared.place.Place.TheVariants as place;
+ghost use Rattle.fst_types.specs.Gates.{IsOpenNumber};
+ghost use Rattle.fst_types.specs.Tests.{is_change_at};
+ghost use Rattle.fst_heads.specs.Heads.{IsRising, kind_of, patch_of, patches_of};
+ghost use Rattle.fst_heads.specs.Marks.{PassesAt};
+ghost use Rattle.fst_heads.specs.Tests.{is_hard_kind};
+ghost use Rattle.fst_heads.specs.Grading.{HasUnder, IsReturning, IsHardNumber, RestsOnHard, MayBeHard};
+ghost use Rattle.fst_heads.specs.Nodes.{nodes_of, AreSettled};
+ghost use Rattle.fst_heads.specs.Standings.{AllStand};
+
+use fst_heads::choice::is_hard;
+use fst_heads::head::Head;
+use fst_heads::marks::slot_of;
+use fst_heads::pending::{Pending, is_pending};
+use fst_heads::places::is_change_at;
+use fst_heads::row::row_sums;
+use fst_heads::standing::Standing;
+use fst_heads::test::{Test, passes};
+use fst_types::Place;
+
+// How far a chain is followed. A chain over all blocks comes back within as many steps as there are blocks.
+const MOST_STEPS: u32 = 4_096;
+
+/// Whether the patch with the number passes.
+pub fn passes_at(heads: &[Head], test: Test, number: u32) -> bool
+    requires { IsRising heads.now }
+    ensures { IsTrue result ↔ PassesAt test (patches_of heads.now) number }
+{
+    match slot_of(heads, number) {
+        Some(slot) => passes(test, &heads[slot]),
+        None => false,
+    }
+}
+
+/// Whether an open gate is in the row or below it.
+pub fn waits_for_gate(heads: &[Head], row: &[u32]) -> bool
+    requires rising { IsRising heads.now }
+    requires acyclic { IsAcyclic (DirectlyOn (patches_of heads.now)) }
+    requires disk { IsOnDiskWithAll (patches_of heads.now) }
+    requires settled { (blocks : ℕ) × AreSettled (nodes_of heads.now) blocks }
+    ensures { IsTrue result ↔ HasUnder (patches_of heads.now) row.now (IsOpenNumber (patches_of heads.now)) }
+{
+    is_pending(row_sums(heads, row).joined(), Pending::Held)
+}
+
+// Whether the patch is a hard change of the block in memory.
+pub fn is_hard_in(head: &Head, block: u32) -> bool
+    ensures { result ≡ (is_change_at place.Memory block (patch_of head.now) && is_hard_kind (kind_of head.now.kind)) }
+{
+    is_change_at(head, Place::Memory, block) && is_hard(head.kind)
+}
+
+// Whether the number is that of such a change.
+pub fn is_hard_number(heads: &[Head], block: u32, number: u32) -> bool
+    requires { IsRising heads.now }
+    ensures { IsTrue result ↔ IsHardNumber (patches_of heads.now) block number }
+{
+    match slot_of(heads, number) {
+        Some(slot) => is_hard_in(&heads[slot], block),
+        None => false,
+    }
+}
+
+/// Whether each of the row is a hard change of the block in memory. A change of the block with that row waits for no
+/// more than they do, so it is hard.
+pub fn rests_on_hard(heads: &[Head], block: u32, row: &[u32]) -> bool
+    requires { IsRising heads.now }
+    ensures { IsTrue result ↔ RestsOnHard (patches_of heads.now) block row.now }
+{
+    for number in row {
+        if !is_hard_number(heads, block, *number) {
+            return false;
+        }
+    }
+    true
+}
+
+/// Whether all that is pending of the row is of one block, which is the block or holds no hard change back, so that no
+/// edge leads away from it. A change of the block with that row is hard.
+pub fn waits_for_quiet_block(
+    heads: &[Head],
+    standings: &[Standing],
+    block: u32,
+    row: &[u32],
+) -> bool
+    requires rising { IsRising heads.now }
+    requires disk { IsOnDiskWithAll (patches_of heads.now) }
+    requires settled { AreSettled (nodes_of heads.now) (length standings.now) }
+    requires standing { AllStand (nodes_of heads.now) (length standings.now) standings.now }
+    ensures { IsTrue result → MayBeHard (patches_of heads.now) None block row.now }
+{
+    match row_sums(heads, row).joined() {
+        Pending::Nothing => true,
+        Pending::Block(other) => other == block || standings[other as usize].held == 0,
+        Pending::Apart | Pending::Held => false,
+    }
+}
+
+// The last of the row.
+fn newest(row: &[u32]) -> Option<u32>
+    ensures { IfSome result (Contains row.now) }
+{
+    match row {
+        [.., last] => Some(*last),
+        [] => None,
+    }
+}
+
+// The newest direct dependency of the patch with the number.
+fn newest_below(heads: &[Head], number: u32) -> Option<u32>
+    requires { IsRising heads.now }
+    ensures { IfSome result (DirectlyOn (patches_of heads.now) number) }
+{
+    let slot = slot_of(heads, number)?;
+    newest(heads[slot].dependencies.as_slice())
+}
+
+/// Whether the newest of the row, the newest that it depends on, and so on, come over a change of another block back to
+/// one of the block, neither being on disk. A change of the block with that row is soft. Where they do not, another
+/// path may.
+pub fn comes_back(heads: &[Head], block: u32, row: &[u32]) -> bool
+    requires { IsRising heads.now }
+    ensures { IsTrue result → HasUnder (patches_of heads.now) row.now (IsReturning (patches_of heads.now) block) }
+{
+    let mut next = newest(row);
+    let mut away = false;
+    for _ in 0..MOST_STEPS {
+        let Some(number) = next else {
+            return false;
+        };
+        if away && passes_at(heads, Test::LiveOn(block), number) {
+            return true;
+        }
+        away = away || passes_at(heads, Test::LiveOff(block), number);
+        next = newest_below(heads, number);
+    }
+    false
+}
