@@ -12,11 +12,11 @@ ghost use Rattle.fst_heads.specs.Marks.{HasSlot};
 ghost use Rattle.fst_heads.specs.Nodes.{AreLinked, nodes_of, pending_in};
 ghost use Rattle.fst_walks.specs.Searching.{AreHeldByGates};
 
-use fst_walks::cycle::closes_cycle;
 use fst_heads::head::{Head, Kind};
 use fst_heads::marks::slot_of;
 use fst_heads::row::{is_given, names_unknown};
 use fst_types::{Fault, MAX_NAMES, PatchNo};
+use fst_walks::cycle::closes_cycle;
 
 /// The slot of an open gate, or why it is none: the number was not given, it is no gate's, or the gate is sealed.
 pub fn gate_slot(heads: &[Head], numbers: u32, gate: u32) -> Result<usize, Fault>

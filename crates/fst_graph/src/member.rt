@@ -18,16 +18,16 @@ ghost use Rattle.fst_heads.specs.Nodes.{nodes_of, AreCounted, AreLinked, AreSett
 ghost use Rattle.fst_heads.specs.Rows.{IsDependency};
 ghost use Rattle.fst_heads.specs.Standings.{AllStand};
 
-use fst_walks::grade::grade_of;
+use crate::prepared::{Gates, Prepared, copy_of};
 use fst_heads::head::Head;
 use fst_heads::lists::Listed;
 use fst_heads::marks::slot_of;
-use crate::prepared::{Gates, Prepared, copy_of};
 use fst_heads::row::dependencies_of;
-use fst_walks::shortcuts::passes_at;
 use fst_heads::standing::Standing;
 use fst_heads::test::Test;
 use fst_types::{PatchNo, Span};
+use fst_walks::grade::grade_of;
+use fst_walks::shortcuts::passes_at;
 use std::alloc::{AllocError, Global};
 
 // The number, if it is that of an open gate.

@@ -16,12 +16,12 @@ ghost use Rattle.fst_heads.specs.Nodes.{nodes_of, AreLinked, AreSettled};
 ghost use Rattle.fst_heads.specs.Rows.{IsDependency};
 ghost use Rattle.fst_heads.specs.Standings.{AllStand};
 
-use fst_walks::grade::grade_of;
 use fst_heads::head::Head;
 use fst_heads::lists::Listed;
 use fst_heads::row::{Row, dependencies_of};
 use fst_heads::standing::Standing;
 use fst_types::{Grade, PatchNo, Span};
+use fst_walks::grade::grade_of;
 use std::alloc::{AllocError, Global};
 
 /// The gates of a group.

@@ -15,9 +15,9 @@ ghost use Rattle.fst_walks.specs.Searching.{AreHeldByGates};
 
 use fst_heads::head::Head;
 use fst_heads::lists::Listed;
-use fst_walks::overlap_cycle::overlap_reaches;
 use fst_heads::row::names_unknown;
 use fst_types::{Fault, MAX_HEADS, MAX_NAMES, MAX_NUMBER, PatchNo, Span, What};
+use fst_walks::overlap_cycle::overlap_reaches;
 
 /// Why no patch can be made now.
 pub fn room_fault(heads: &[Head], numbers: u32) -> Option<Fault>

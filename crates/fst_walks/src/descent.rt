@@ -9,9 +9,9 @@ ghost use Rattle.fst_heads.specs.Heads.{IsRising, patches_of};
 ghost use Rattle.fst_heads.specs.Marks.{PassesAt, Shows};
 ghost use Rattle.fst_heads.specs.Reaching.{IsReached, ShowsBlocks};
 
+use crate::shortcuts::passes_at;
 use fst_heads::head::Head;
 use fst_heads::marks::slot_of;
-use crate::shortcuts::passes_at;
 use fst_heads::test::{Test, is_live};
 
 /// Visits the patch with the number, unless it is on disk or was visited before.

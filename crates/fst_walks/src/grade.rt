@@ -16,13 +16,13 @@ ghost use Rattle.fst_heads.specs.Lists.{entries_of, AreListed};
 ghost use Rattle.fst_heads.specs.Nodes.{nodes_of, AreLinked, AreSettled};
 ghost use Rattle.fst_heads.specs.Standings.{AllStand};
 
-use fst_heads::head::Head;
-use fst_heads::lists::Listed;
 use crate::other_gates::is_blocked;
 use crate::shortcuts::{comes_back, rests_on_hard, waits_for_quiet_block};
-use fst_heads::standing::Standing;
 use crate::way_back::is_held_back;
 use crate::way_down::grade_below;
+use fst_heads::head::Head;
+use fst_heads::lists::Listed;
+use fst_heads::standing::Standing;
 use fst_types::Grade;
 
 /// The grade of a new change of the block that directly depends on the row, where that gate is taken as sealed. What was

@@ -13,8 +13,8 @@ ghost use Rattle.fst_walks.specs.Searching.{AreHeldByGates};
 
 use crate::cycle::{search_down, visit_row};
 use crate::descent::clear;
-use fst_heads::head::Head;
 use crate::shortcuts::{passes_at, waits_for_gate};
+use fst_heads::head::Head;
 use fst_heads::test::Test;
 
 // Whether one of the numbers is that of an open gate, and not the gate's.

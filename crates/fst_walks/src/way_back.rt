@@ -16,10 +16,10 @@ ghost use Rattle.fst_heads.specs.Nodes.{nodes_of, AreLinked};
 ghost use Rattle.fst_walks.specs.WayBack.{Crosses, IsLiveOver, IsMet, Meets, ShowsBlockOf};
 
 use crate::descent::{clear, cross_all, keep_away, show_only, visit, visit_row};
+use crate::shortcuts::is_hard_in;
 use fst_heads::head::{Head, Kind};
 use fst_heads::lists::Listed;
 use fst_heads::marks::{is_marked, slot_of};
-use crate::shortcuts::is_hard_in;
 
 // Visits the changes of the block that are not on disk, which its list has.
 fn visit_changes(

@@ -17,10 +17,10 @@ ghost use Rattle.fst_heads.specs.Marks.{HasSlot, PassesAt};
 ghost use Rattle.fst_walks.specs.WayDown.{Crosses, IsLiveUnder, Meets, ShowsBlockOf};
 
 use crate::descent::{clear, cross_all, keep_away, show_only, visit, visit_row};
+use crate::shortcuts::{is_hard_number, passes_at};
 use fst_heads::head::{Head, Kind};
 use fst_heads::lists::Listed;
 use fst_heads::marks::slot_of;
-use crate::shortcuts::{is_hard_number, passes_at};
 use fst_heads::test::Test;
 use fst_types::Grade;
 

@@ -6,13 +6,13 @@ ghost use Rattle.fst_types.specs.declared.grade.Grade.{Grade};
 ghost use Rattle.fst_graph.specs.Known.{Prepared, unprepared, prepared_for, Foresees, Refuses, AddsChange};
 ghost use Rattle.fst_heads.specs.Names.{numbers_of};
 
+use crate::patches::{Patches, reserve_one};
+use crate::prepared::prepare;
+use crate::refusals::make_fault;
 use fst_heads::head::{Head, Kind};
 use fst_heads::links::{link, reserve_above};
 use fst_heads::lists::Listed;
-use crate::patches::{Patches, reserve_one};
 use fst_heads::pending::{Pending, is_pending, over_block};
-use crate::prepared::prepare;
-use crate::refusals::make_fault;
 use fst_heads::row::row_sums;
 use fst_types::{BlockNo, Fault, Grade, PatchNo, Place, Span};
 use smallvec::SmallVec;

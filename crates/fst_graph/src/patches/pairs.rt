@@ -10,9 +10,9 @@ ghost use Rattle.fst_graph.specs.Known.{unprepared, Refuses};
 ghost use Rattle.fst_heads.specs.Nodes.{node_of};
 ghost use Rattle.fst_heads.specs.declared.pending.Pending.TheVariants as pending;
 
+use crate::patches::Patches;
 use fst_heads::head::{Head, Kind};
 use fst_heads::links::link;
-use crate::patches::Patches;
 use fst_heads::pending::{Pending, Sums, no_sums};
 use fst_heads::row::{Row, row_sums};
 use fst_types::{Fault, MAX_HEADS, MAX_NUMBER, PatchNo, Place, What};
