@@ -1,4 +1,17 @@
 //! Which patches depend on which, and what may be written: the patches without their bytes.
+//!
+//! `Graph` is what callers see, and its value is `Known` in `specs/`, the one file there that is theirs to read: the heads as
+//! patches of the definitions, the greatest number given, how many blocks there are, the groups, and the change that is
+//! prepared. Each call is one record there, or the first refusal of its order.
+//!
+//! A change is made in two calls. `room` finds what it will depend on and its grade, and makes every growth that adding it
+//! takes; `add_data` with the same arguments then adds it and is not refused. So a caller can load a block between the
+//! two, and nothing has to be taken back.
+//!
+//! Below it `patches` has all calls that know no groups, over what is kept of each patch (`fst_heads`) and the searches that
+//! find grades and cycles (`fst_walks`). Its type keeps, between calls, that the patches are as the definitions want them
+//! and that what stands beside them tells the truth: sums, what is pending, lists, marks. `Graph` stands over it with the
+//! groups, and keeps what holds of those.
 #![tactic(auto)]
 
 mod gates;
