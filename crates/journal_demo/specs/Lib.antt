@@ -1,2 +1,3 @@
 pub mod Exhausted
 pub mod Making
+pub mod Pairing

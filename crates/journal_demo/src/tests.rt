@@ -1,7 +1,10 @@
-//! What no clause says of the journal: records, a transaction refused half way, and what a file has after a transfer.
+//! What no clause says of the journal: what the guides tell, records, a transaction refused half way, and what a file has
+//! after a transfer.
 
 use crate::accounts::Accounts;
 use crate::file_slot::FileSlot;
+use crate::groups::groups;
+use crate::guide::guide;
 use crate::ledger::slots;
 use crate::patching::patch_or_write;
 use crate::record::{Balance, Record};
@@ -11,6 +14,37 @@ use fst_types::{BlockNo, Fault, Place, Shape, What};
 use std::fs;
 use std::process::Abort;
 use std::test::Fail;
+
+// What the page says that the guide prints.
+const TOLD_OF_A_TRANSACTION: &str = "\
+the commit record: no change of the block may be written now; write what its changes come after, or seal the gates that they come after
+the record: Stalled, and then Landed
+before the home blocks: Some(Memory)
+durable; 5 patches forgotten
+";
+
+// What it says that the guide to groups prints.
+const TOLD_OF_GROUPS: &str = "\
+a home block: no change of the block may be written now; write what its changes come after, or seal the gates that they come after
+the blocks of the transaction, as written: 2 3 0 1
+the gate behind the transaction: Some(Disk)
+the blocks of the rename, as written: 1 2 0
+the gate behind the rename: Some(Disk)
+each after the other: a named patch is the gate or comes after it
+after another once it has a change: the group has a change, so it can come after no other any more
+a change for it once it is closed: the gate is sealed, and gains nothing more
+";
+
+#[test]
+fn guides_tell_what_the_page_says(rt: HostRuntime) -> Result<(), Fail> {
+    let mut out = Vec::new(rt.alloc());
+    guide(rt.alloc(), &mut out)?;
+    assert_eq!(rt; str::from_utf8(&out), Ok(TOLD_OF_A_TRANSACTION));
+    let mut out = Vec::new(rt.alloc());
+    groups(rt.alloc(), &mut out)?;
+    assert_eq!(rt; str::from_utf8(&out), Ok(TOLD_OF_GROUPS));
+    Ok(())
+}
 
 #[test]
 fn a_record_is_read_as_it_was_written(rt: HostRuntime) {
