@@ -2,6 +2,7 @@
 
 mod devices;
 mod examples;
+mod groups;
 mod hostile;
 mod limits;
 mod pages;

@@ -1,0 +1,198 @@
+//! Groups: which may come after which one, what is left of them once their changes were forgotten, and after each line,
+//! whichever writes are finished, what a crash leaves of them. What a lost block holds back.
+
+mod order;
+mod scripts;
+
+use crate::play::play;
+use crate::tests::groups::order::Plain;
+use crate::tests::groups::scripts::{
+    FORGOTTEN_CHANGES, LOST_CHANGE, OWN_TAIL, Row, THROUGH_AN_EMPTY_GROUP, TWO_GROUPS,
+};
+use crate::tests::{plays_rows, shape_of};
+use std::alloc::{AllocError, Global};
+use std::process::Abort;
+use std::test::Fail;
+
+// The lines, with a crash after each one for each set of the writes that are out.
+fn with_crashes(alloc: Global, rows: &[Row]) -> Result<Vec<u8>, AllocError> {
+    let mut script = Vec::new(alloc);
+    let mut plain = Plain::new(alloc);
+    for (line, _, does) in rows {
+        script.extend_from_slice(line.as_bytes())?;
+        script.push(b'\n')?;
+        plain.take(alloc, *does)?;
+        for set in plain.sets(alloc)? {
+            let crash = format!(in alloc; "{{\"do\":\"crash\",\"finish\":[{set}]}}\n")?;
+            script.extend_from_slice(crash.as_bytes())?;
+        }
+    }
+    Ok(script)
+}
+
+// Judges the replies to the lines and to the crashes. Whether the last crash leaves all changes.
+fn judge(rt: &impl Abort, alloc: Global, rows: &[Row], replies: &str) -> Result<bool, Fail> {
+    let mut told = replies.lines();
+    let mut plain = Plain::new(alloc);
+    let mut is_whole = true;
+    for (line, reply, does) in rows {
+        assert_eq!(rt; told.next(), Some(*reply), "to {line}");
+        plain.take(alloc, *does)?;
+        for set in plain.sets(alloc)? {
+            let crash = told.next().unwrap_or("");
+            assert!(rt; crash.starts_with("crash "), "after {line}");
+            assert!(rt;
+                plain.is_in_order(crash),
+                "{crash} after {line}, [{set}] being finished"
+            );
+            is_whole = plain.is_whole(crash);
+        }
+    }
+    assert!(rt; told.next().is_none());
+    Ok(is_whole)
+}
+
+// Plays the rows with all crashes. Whether the last one, which finishes all writes, leaves all changes.
+fn ends_whole(rt: &impl Abort, alloc: Global, rows: &[Row]) -> Result<bool, Fail> {
+    let script = with_crashes(alloc, rows)?;
+    let mut reader = script.as_slice();
+    let mut writer = Vec::new(alloc);
+    assert!(rt; play(alloc, &mut reader, &mut writer, shape_of(rt, 4)).is_ok());
+    let Ok(replies) = std::str::from_utf8(&writer) else {
+        return Err("the replies are text")?;
+    };
+    judge(rt, alloc, rows, replies)
+}
+
+#[test]
+fn every_crash_leaves_groups_in_order(rt: HostRuntime) -> Result<(), Fail> {
+    for rows in [
+        TWO_GROUPS,
+        OWN_TAIL,
+        THROUGH_AN_EMPTY_GROUP,
+        FORGOTTEN_CHANGES,
+    ] {
+        assert!(rt; ends_whole(&rt, rt.alloc(), rows)?);
+    }
+    assert!(rt; !ends_whole(&rt, rt.alloc(), LOST_CHANGE)?);
+    Ok(())
+}
+
+// What the judge refuses: a change of the second group without one of the first, or with an open first group.
+#[test]
+fn groups_out_of_order(rt: HostRuntime) -> Result<(), Fail> {
+    let mut plain = Plain::new(rt.alloc());
+    for (_, reply, does) in TWO_GROUPS {
+        if *reply == "group_close 1" {
+            assert!(rt; !plain.is_in_order("crash 41000000 42000000 43000000 00000000"));
+        }
+        plain.take(rt.alloc(), *does)?;
+    }
+    assert!(rt; plain.is_in_order("crash 41000000 42000000 43000000 00000000"));
+    assert!(rt; !plain.is_in_order("crash 41000000 42000000 00000000 00000000"));
+    assert!(rt; plain.is_in_order("crash 41000000 00000000 00000000 00000000"));
+    Ok(())
+}
+
+// Groups without changes, each after the one before it: the first cannot come after the last.
+#[test]
+fn groups_without_changes(rt: HostRuntime) -> Result<(), Fail> {
+    plays_rows(
+        &rt,
+        rt.alloc(),
+        4,
+        &[
+            (r#"{"do":"group"}"#, "group 1"),
+            (r#"{"do":"group"}"#, "group 3"),
+            (r#"{"do":"group"}"#, "group 5"),
+            (r#"{"do":"group_after","group":3,"on":1}"#, "group_after 3"),
+            (r#"{"do":"group_after","group":5,"on":3}"#, "group_after 5"),
+            (r#"{"do":"group_after","group":1,"on":5}"#, "refused 8"),
+            (r#"{"do":"group_after","group":1,"on":1}"#, "refused 8"),
+            (r#"{"do":"group_close","group":5}"#, "group_close 5"),
+            (r#"{"do":"group_close","group":3}"#, "group_close 3"),
+            (r#"{"do":"stat"}"#, "stat made 6 live 6 undo 0 flights 0"),
+            (r#"{"do":"group_close","group":1}"#, "group_close 1"),
+            (r#"{"do":"stat"}"#, "stat made 6 live 0 undo 0 flights 0"),
+        ],
+    )
+}
+
+// What waits for a lost block waits for good, and with a hard change all of its block and what waits for that.
+#[test]
+fn behind_a_lost_block(rt: HostRuntime) -> Result<(), Fail> {
+    plays_rows(
+        &rt,
+        rt.alloc(),
+        4,
+        &[
+            (
+                r#"{"do":"patch","block":0,"at":0,"data":"41"}"#,
+                "patch 1 hard",
+            ),
+            (
+                r#"{"do":"patch","block":1,"at":0,"data":"42","after":[1]}"#,
+                "patch 2 hard",
+            ),
+            (
+                r#"{"do":"write","block":0}"#,
+                "flight 1 block 0 patches 1 image 41000000",
+            ),
+            (
+                r#"{"do":"done","ticket":1,"fail":"before"}"#,
+                "stalled 1 block 0",
+            ),
+            (
+                r#"{"do":"retry","block":0}"#,
+                "flight 2 block 0 patches 1 image 41000000",
+            ),
+            (
+                r#"{"do":"done","ticket":2,"fail":"after"}"#,
+                "stalled 2 block 0",
+            ),
+            (
+                r#"{"do":"retry","block":0}"#,
+                "flight 3 block 0 patches 1 image 41000000",
+            ),
+            (
+                r#"{"do":"done","ticket":3,"fail":"before"}"#,
+                "lost 3 block 0",
+            ),
+            (r#"{"do":"done","ticket":3}"#, "refused 14"),
+            (
+                r#"{"do":"patch","block":1,"at":1,"data":"43"}"#,
+                "patch 3 hard",
+            ),
+            (r#"{"do":"choose","block":1}"#, "chosen 1 patches 3"),
+            (r#"{"do":"write","block":1}"#, "refused 11 held 2"),
+            (
+                r#"{"do":"patch","block":2,"at":0,"data":"44","after":[3]}"#,
+                "patch 4 hard",
+            ),
+            (r#"{"do":"write","block":2}"#, "refused 10"),
+            (r#"{"do":"pick"}"#, "pick none"),
+            (
+                r#"{"do":"patch","block":3,"at":0,"data":"45"}"#,
+                "patch 5 hard",
+            ),
+            (r#"{"do":"pick"}"#, "pick 3"),
+            (
+                r#"{"do":"write","block":3}"#,
+                "flight 4 block 3 patches 5 image 45000000",
+            ),
+            (r#"{"do":"done","ticket":4}"#, "done 4 block 3"),
+            (r#"{"do":"pick"}"#, "pick none"),
+            (r#"{"do":"empty","after":[4,5]}"#, "empty 6"),
+            (r#"{"do":"place","patch":6}"#, "place 6 memory"),
+            (r#"{"do":"place","patch":1}"#, "place 1 flight"),
+            (r#"{"do":"evict","block":0}"#, "refused 12"),
+            (r#"{"do":"show","block":0}"#, "show 0 41000000"),
+            (r#"{"do":"forget"}"#, "forget 1"),
+            (r#"{"do":"stat"}"#, "stat made 6 live 5 undo 0 flights 1"),
+            (
+                r#"{"do":"crash","finish":[0]}"#,
+                "crash 41000000 00000000 00000000 45000000",
+            ),
+        ],
+    )
+}
