@@ -1,8 +1,8 @@
 -- Steps of a session.
 use Rattle.std.proofs.Common.{◌≡◌, ℕ, ◌<◌, false, List, [], ◌∷◌, ◌++◌, Option, Result, Ok, Err, sym, ap, ◌∙◌, subst, append_assoc, append-nil, length, take, IsErrAnd}
 use Rattle.std.specs.Prelude.{◌==◌}
-use Rattle.std.specs.Io.KnownBytes.{Appends, Consumes}
-use Rattle.std.proofs.KnownBytes.{Appends-nil, Appends-trans, Consumes-trans}
+use Rattle.std.specs.Io.KnownBytes.{Appends, Consumes, Keeps}
+use Rattle.std.proofs.KnownBytes.{Appends-kept, Appends-nil, Appends-trans, Consumes-trans}
 use Rattle.fst_types.specs.declared.shape.Shape.{Shape}
 use Rattle.feather.specs.Play.{Plays}
 use Rattle.feather.specs.declared.play.PlayFault.TheVariants.{Write}
@@ -128,7 +128,39 @@ Finishes-line s t a b (Err e) some f = λ origin given sent at.
           (subst (λ (x : List (List ℕ)). IsScriptRun origin ((parted given).ended ++ x) (sent ++ (told.0 ++ 10 ∷ [])) t.player) (sym (last_line-some _ (some _ at.held))) run),
     )
 
+-- the writer was flushed then, whatever came of it
+pub Feeds-kept : {T E : Type 0} (s t : Session) (p : List ℕ) (a b c : Option (List ℕ)) (r : Result T E) → Leads s p a b t → Keeps b c → Feeds s p a c r t
+Feeds-kept s t p a b c (Ok u) f kept = λ origin given sent at.
+    let led = f origin given sent at in (led.0, Appends-kept a b c led.0 led.1 kept, led.2)
+Feeds-kept s t p a b c (Err e) f kept = λ origin given sent at.
+    let led = f origin given sent at in
+    record {
+      full = sent ++ led.0;
+      last = t.player;
+      run = led.2.run;
+      part = led.0;
+      more = [];
+      taken = Appends-kept a b c led.0 led.1 kept;
+      is_beginning = ap (λ (x : List ℕ). sent ++ x) (append-nil led.0);
+    }
+
+pub Finishes-kept : {T E U : Type 0} (V : Type 0) (s : Session) (a b c : Option (List ℕ)) (u : U) (r : Result T E) → Finishes {T = U} {E = V} s a b (Ok u) → Keeps b c → Finishes s a c r
+Finishes-kept V s a b c u (Ok v) f kept = λ origin given sent at.
+    let left = f origin given sent at in (left.0, left.1, Appends-kept a b c left.0 left.2 kept, left.3)
+Finishes-kept V s a b c u (Err e) f kept = λ origin given sent at.
+    let left = f origin given sent at in (
+      left.0,
+      [],
+      left.1,
+      Appends-kept a b c left.0 left.2 kept,
+      subst (λ (x : List ℕ). IsScriptRun origin (lines given) (sent ++ x) left.1) (sym (append-nil left.0)) left.3,
+    )
+
 -- the exit of the question mark
+pub Finishes-err : {T E V : Type 0} (U : Type 0) (Q : E → Type 0) (s : Session) (a b : Option (List ℕ)) (x : V) (r : Result T E) → IsErrAnd r Q → Finishes {T = U} {E = V} s a b (Err x) → Finishes s a b r
+Finishes-err U Q s a b x (Ok u) e h = absurd e
+Finishes-err U Q s a b x (Err y) e h = h
+
 pub Feeds-err : {T E : Type 0} (Q : E → Type 0) (s t : Session) (p : List ℕ) (a b : Option (List ℕ)) (r : Result T E) → IsErrAnd r Q → Stops s p a b → Feeds s p a b r t
 Feeds-err Q s t p a b (Ok u) e h = absurd e
 Feeds-err Q s t p a b (Err x) e h = h

@@ -21,6 +21,7 @@ mod status;
 mod tests;
 
 use status::{carry_out, stopped};
+use std::io::BufWriter;
 use std::process::ExitCode;
 use std::{env, io};
 
@@ -40,7 +41,12 @@ fn main(rt: HostRuntime) -> ExitCode {
     else {
         return ExitCode::from(stopped(&mut err));
     };
+    let Ok(mut out) = BufWriter::new(rt.alloc(), io::writer(&rt)) else {
+        return ExitCode::from(stopped(&mut err));
+    };
     let mut reader = rt.reader();
-    let mut out = io::writer(&rt);
-    ExitCode::from(carry_out(&rt, rt.alloc(), &texts, &mut reader, &mut out, &mut err))
+    let status = carry_out(&rt, rt.alloc(), &texts, &mut reader, &mut out, &mut err);
+    // What is left after a write that failed is not tried again.
+    let _ = out.into_parts();
+    ExitCode::from(status)
 }

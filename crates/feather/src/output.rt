@@ -1,7 +1,9 @@
-//! Replies go out in pieces, through a loop over `write`, so that no reply takes memory or has a greatest length.
+//! Replies go out in pieces, through a loop over `write`, so that no reply takes memory or has a greatest length. A writer
+//! that gathers pieces is told where to pass them on.
 
 ghost use Rattle.std.specs.Prelude.{◌≡◌, ◌≤◌, ◌<◌, ◌++◌, ◌∷◌, [], length, take, drop, map, decimal};
 ghost use Rattle.std.specs.List.{flat_map};
+ghost use Rattle.std.specs.Io.KnownBytes.{Keeps};
 ghost use Rattle.hex.specs.Hex.{encode_lower};
 ghost use Rattle.feather.specs.Sending.{Sends};
 ghost use Rattle.feather.specs.Parsing.{patch_numbers};
@@ -42,6 +44,21 @@ pub fn send<W: Write>(writer: &mut W, calls: &mut u64, bytes: &[u8]) -> Result<(
         }
     }
     Ok(())
+}
+
+/// Has a writer that gathers bytes, as a `BufWriter`, pass them on. It stops where that fails, or where the calls that are
+/// left are used up.
+pub fn pass_on<W: Write>(writer: &mut W, calls: &mut u64) -> Result<(), Stopped>
+    ensures { Keeps (W.contents writer.old) (W.contents writer.new) }
+{
+    if *calls == 0 {
+        return Err(Stopped);
+    }
+    *calls -= 1;
+    match writer.flush() {
+        Ok(()) => Ok(()),
+        Err(_) => Err(Stopped),
+    }
 }
 
 fn send_number<W: Write>(writer: &mut W, calls: &mut u64, n: u64) -> Result<(), Stopped>

@@ -16,16 +16,18 @@ use std::io::{Read, Write};
 pub enum PlayFault {
     /// The reader failed, or its calls were used up.
     Read,
-    /// The writer failed or took nothing, or its calls were used up.
+    /// The writer failed, also to flush, or took nothing, or its calls were used up.
     Write,
     /// The player could not start.
     Start(Fault),
 }
 
 /// Plays all that the reader gives to the writer, over zero blocks: one reply a line, and nothing else. A line is at most
-/// 65,536 bytes long: one that is longer is refused as that, and takes no memory. The reader and the writer are called at
-/// most 18,446,744,073,709,551,615 times each. Memory is taken for the player, for the line that is read, and for what it
-/// asks; a line for which memory is refused is answered so, and the play goes on.
+/// 65,536 bytes long: one that is longer is refused as that, and takes no memory. A reply is written in several writes, and
+/// the writer is flushed before the reader is asked for more: whoever waits for a reply has it, also where the writer is a
+/// `BufWriter`. The reader and the writer are called at most 18,446,744,073,709,551,615 times each. Memory is taken for the
+/// player, for the line that is read, and for what it asks; a line for which memory is refused is answered so, and the play
+/// goes on.
 pub fn play<R: Read, W: Write>(
     alloc: Global,
     reader: &mut R,

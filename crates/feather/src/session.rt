@@ -7,7 +7,7 @@ ghost use Rattle.feather.specs.Session.{Feeds, Finishes};
 
 use crate::command::MAX_LINE;
 use crate::line::Line;
-use crate::output::Stopped;
+use crate::output::{Stopped, pass_on};
 use crate::player::Player;
 use std::alloc::Global;
 use std::io::Write;
@@ -87,7 +87,8 @@ impl Session {
         Ok(())
     }
 
-    /// Takes the next piece of the stream, and answers each line that ends in it.
+    /// Takes the next piece of the stream, and answers each line that ends in it. The writer then passes the replies on,
+    /// since whoever writes the lines may wait for them.
     pub fn feed<W: Write>(
         &mut self,
         alloc: Global,
@@ -101,7 +102,7 @@ impl Session {
         for byte in piece {
             self.take(alloc, writer, calls, *byte)?;
         }
-        Ok(())
+        pass_on(writer, calls)
     }
 
     fn has_bytes(&self) -> bool
@@ -126,6 +127,7 @@ impl Session {
         if !self.has_bytes() {
             return Ok(());
         }
-        self.end_line(alloc, writer, calls)
+        self.end_line(alloc, writer, calls)?;
+        pass_on(writer, calls)
     }
 }

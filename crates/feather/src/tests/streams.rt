@@ -7,7 +7,7 @@ use crate::tests::rows::CYCLE_OF_BLOCKS;
 use crate::tests::{plays_to, shape_of};
 use std::alloc::Global;
 use std::io;
-use std::io::{Read, Write};
+use std::io::{BufWriter, Read, Write};
 use std::test::Fail;
 
 const SCRIPT: &[u8] =
@@ -105,6 +105,31 @@ impl Write for Narrow {
     }
 
     fn flush(&mut self) -> io::Result<()> {
+        Ok(())
+    }
+}
+
+// Takes all, counts the writes, and is never flushed if it fails to be.
+#[derive(Drop)]
+struct Counting {
+    held: Vec<u8>,
+    writes: usize,
+    fails_to_flush: bool,
+}
+
+impl Write for Counting {
+    ghost contents = { λ w. Some w.held.items };
+
+    fn write(&mut self, buf: &[u8]) -> io::Result<usize> {
+        self.held.extend_from_slice(buf)?;
+        self.writes = self.writes.saturating_add(1);
+        Ok(buf.len())
+    }
+
+    fn flush(&mut self) -> io::Result<()> {
+        if self.fails_to_flush {
+            return Err(io::Error::from(io::ErrorKind::Other));
+        }
         Ok(())
     }
 }
@@ -234,5 +259,58 @@ fn writer_that_stops_once(rt: HostRuntime) -> Result<(), Fail> {
             assert_eq!(rt; writer.held.as_slice(), &replies[..room]);
         }
     }
+    Ok(())
+}
+
+// Wherever the reader fails, a buffer before the writer holds nothing back: the next line may wait for the replies.
+#[test]
+fn replies_before_the_next_read(rt: HostRuntime) -> Result<(), Fail> {
+    let mut ended = 0;
+    for (end, byte) in SCRIPT.iter().enumerate() {
+        let mut reader = Single {
+            rest: &SCRIPT[..end],
+            fails: true,
+        };
+        let mut writer = BufWriter::new(rt.alloc(), Vec::new(rt.alloc()))?;
+        let played = play(rt.alloc(), &mut reader, &mut writer, shape_of(&rt, 4));
+        assert!(rt; matches!(played, Err(PlayFault::Read)));
+        assert!(rt; writer.buffer().is_empty());
+        assert_eq!(rt; Some(writer.get_ref().as_slice()), REPLIES.get(..ended));
+        if *byte == b'\n' {
+            ended = ended.saturating_add(b"refused 1\n".len());
+        }
+    }
+    Ok(())
+}
+
+// Behind a buffer, one write for the lines of a piece, and one for a last line without an end.
+#[test]
+fn one_write_a_piece(rt: HostRuntime) -> Result<(), Fail> {
+    let counting = Counting {
+        held: Vec::new(rt.alloc()),
+        writes: 0,
+        fails_to_flush: false,
+    };
+    let mut reader = SCRIPT;
+    let mut writer = BufWriter::new(rt.alloc(), counting)?;
+    assert!(rt; play(rt.alloc(), &mut reader, &mut writer, shape_of(&rt, 4)).is_ok());
+    assert!(rt; writer.buffer().is_empty());
+    assert_eq!(rt; writer.get_ref().held.as_slice(), REPLIES);
+    assert_eq!(rt; writer.get_ref().writes, 2);
+    Ok(())
+}
+
+// A writer that took the replies and can not be flushed has failed.
+#[test]
+fn failing_flush(rt: HostRuntime) -> Result<(), Fail> {
+    let mut reader = SCRIPT;
+    let mut writer = Counting {
+        held: Vec::new(rt.alloc()),
+        writes: 0,
+        fails_to_flush: true,
+    };
+    let played = play(rt.alloc(), &mut reader, &mut writer, shape_of(&rt, 4));
+    assert!(rt; matches!(played, Err(PlayFault::Write)));
+    assert_eq!(rt; writer.held.as_slice(), &REPLIES[..40]);
     Ok(())
 }
