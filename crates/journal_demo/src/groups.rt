@@ -1,7 +1,7 @@
 //! Groups: changes that reach the disk together before those of another group.
 //!
 //! A group is for changes of which none has to come before another, as the blocks of a journal record. Of a group that was
-//! put after it nothing is written before all of it is on disk.
+//! put after it nothing is written before all of it is on disk, or goes in the same write.
 
 ghost use Rattle.std.specs.Prelude.{IfOk};
 ghost use Rattle.journal_demo.specs.Pairing.{IsPair};

@@ -13,7 +13,9 @@ use fst_device::BlockSlot;
 use fst_types::{BlockNo, Fault, PatchNo, What};
 
 /// Makes a change, as `Cache::patch`; where there is no room for it in memory or among the heads, writes the next block
-/// and asks again. What cannot be had by writing is refused as `patch` refuses it.
+/// and asks again, forgetting what is on disk. What cannot be had by writing is refused as `patch` refuses it: `Full(Heads)`
+/// or `Full(Resident)` where nothing more can be written, and any other fault of `patch` at once. A write that could not be
+/// issued or settled is refused as `issue`, `retry` or `settle` refused it.
 pub fn patch_or_write<S: BlockSlot>(
     cache: &mut Cache<S>,
     share: &mut Share,
