@@ -38,7 +38,7 @@ fn texts_of_faults(rt: HostRuntime) -> Result<(), Fail> {
     let cycle = format!(in rt.alloc(); "{}", Fault::Cycle)?;
     assert_eq!(rt;
         cycle.as_str(),
-        "a named patch is the gate or comes after it"
+        "the gate or group would come after itself; make another one for this"
     );
     Ok(())
 }

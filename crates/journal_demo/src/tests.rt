@@ -30,9 +30,9 @@ the blocks of the transaction, as written: 2 3 0 1
 the gate behind the transaction: Some(Disk)
 the blocks of the rename, as written: 1 2 0
 the gate behind the rename: Some(Disk)
-each after the other: a named patch is the gate or comes after it
-after another once it has a change: the group has a change, so it can come after no other any more
-a change for it once it is closed: the gate is sealed, and gains nothing more
+each after the other: the gate or group would come after itself; make another one for this
+after another once it has a change: the group has a change already; put a group after others before its first change
+a change for it once it is closed: the gate is sealed, or the group closed; it gains nothing more
 ";
 
 #[test]
