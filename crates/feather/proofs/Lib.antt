@@ -1,17 +1,3 @@
-pub mod CommandLemmas
 pub mod ReadLemmas
-pub mod SendingLemmas
-pub mod StreamLemmas
-pub mod RunLemmas
-pub mod SessionLemmas
-pub mod AnswerLemmas
-pub mod KeptLemmas
-mod GroupLemmas
-pub mod TellLemmas
-pub mod JobLemmas
-pub mod LeftLemmas
-pub mod ZeroLemmas
-pub mod ScriptRuns
-pub mod CrashTold
 pub mod ProgramLemmas
 pub mod StatusLemmas

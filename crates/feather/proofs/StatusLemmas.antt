@@ -1,5 +1,5 @@
 -- What `clap`'s errors say of the words, and how a play and a crew end well.
-use Rattle.std.proofs.Common.{◌≡◌, ◌≢◌, ◌*◌, ℕ, List, Result, Ok, Err, IsOk, refl, sym, subst, inl, inr, ◌∙◌}
+use Rattle.std.proofs.Common.{◌≡◌, ◌≢◌, ◌*◌, ℕ, List, Result, Ok, Err, IsOk, OnOk, refl, sym, subst, inl, inr, ◌∙◌}
 use Rattle.std.proofs.lemmas.Bool.{false≢true}
 use Rattle.clap.specs.declared.error.Error.{Error}
 use Rattle.clap.specs.declared.error.kind.ErrorKind.{ErrorKind}
@@ -8,12 +8,12 @@ use Rattle.clap.specs.Words.{HasKind, IsAmong, Text, fault_of, kind_of}
 use Rattle.fst_types.specs.declared.shape.Shape.{Shape}
 use Rattle.fst_crew.specs.Crewing.{told}
 use Rattle.feather.specs.Arguments.{Asks}
-use Rattle.feather.specs.Play.{Plays}
+use Rattle.fst_player.specs.Play.{Plays}
 use Rattle.feather.specs.Program.{program}
-use Rattle.feather.specs.Script.{PlayerState, opened, IsScriptRun}
-use Rattle.feather.specs.Stream.{lines}
+use Rattle.fst_player.specs.Script.{PlayerState, opened, IsScriptRun}
+use Rattle.fst_player.specs.Stream.{lines}
 use Rattle.feather.specs.declared.arguments.Run.{Run}
-use Rattle.feather.specs.declared.play.PlayFault.{PlayFault}
+use Rattle.fst_player.specs.declared.play.PlayFault.{PlayFault}
 use Rattle.feather.specs.Status.{AreRefused, AsksHelp}
 
 other_kind : OutOfMemory ≡ DisplayHelp → ⊥
@@ -37,3 +37,8 @@ same_told files files' rounds rounds' blocks f r = rw (f, r) refl
 
 pub asks_same : (words : List Text) (run run' : Run) → run ≡ run' → Asks words run → Asks words run'
 asks_same words run run' same asks = subst (λ (r : Run). Asks words r) same asks
+
+-- what is said of `Ok`, where that is the answer
+pub at_ok : {T E P : Type 0} (r : Result T E) → IsOk r → OnOk r P → P
+at_ok (Ok x) ok p = p
+at_ok (Err e) ok p = absurd (false≢true ok)

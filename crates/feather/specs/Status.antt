@@ -9,8 +9,8 @@ use Rattle.fst_types.specs.declared.shape.Shape.{Shape}
 use Rattle.fst_crew.specs.Crewing.{IsCrew, told}
 use Rattle.feather.specs.Arguments.{Asks}
 use Rattle.feather.specs.Program.{program}
-use Rattle.feather.specs.Script.{PlayerState, opened, IsScriptRun}
-use Rattle.feather.specs.Stream.{lines}
+use Rattle.fst_player.specs.Script.{PlayerState, opened, IsScriptRun}
+use Rattle.fst_player.specs.Stream.{lines}
 use Rattle.feather.specs.declared.arguments.Run.{Run}
 use Rattle.feather.specs.declared.arguments.Run.TheVariants.{Play, Crew}
 

@@ -4,18 +4,7 @@
 //! `status` says what it does with its words, and with which status it ends.
 #![tactic(auto)]
 
-mod accepted;
 mod arguments;
-mod command;
-mod failure;
-mod laws;
-mod line;
-mod members;
-mod output;
-mod play;
-mod player;
-mod reply;
-mod session;
 mod status;
 #[cfg(test)]
 mod tests;

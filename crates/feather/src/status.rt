@@ -10,12 +10,12 @@ ghost use Rattle.feather.specs.declared.arguments.Run.{Run};
 ghost use Rattle.clap.specs.Words.{kind_of};
 
 use crate::arguments::{Run, args};
-use crate::play::play;
-use crate::player::zero_slots;
 use clap::Error;
 use clap::error::ErrorKind;
 use fst_crew::crew;
 use fst_crew::plan::{CREW_BLOCKS, Crew};
+use fst_player::play::play;
+use fst_player::zeros::zero_slots;
 use fst_types::Shape;
 use std::alloc::Global;
 use std::io::{Read, Write};

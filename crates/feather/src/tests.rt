@@ -1,59 +1,9 @@
-//! Whole scripts with each reply, whole runs, hostile lines, limits, and streams in pieces or failing.
+//! The program's words, and whole runs of it.
 
-mod devices;
-mod examples;
-mod groups;
-mod hostile;
-mod limits;
-mod pages;
 mod program;
-mod refusals;
-mod rows;
-mod streams;
 
 use crate::arguments::{Run, args};
-use crate::play::play;
-use fst_types::Shape;
-use std::alloc::Global;
-use std::process::Abort;
 use std::test::Fail;
-
-// Four blocks of four bytes, of which so many may be in memory at once.
-fn shape_of(rt: &impl Abort, resident: u32) -> Shape {
-    Shape::new(4, 4, resident).expect(rt, "the shape is within its limits")
-}
-
-// Plays a script over blocks of this shape, and compares all the replies.
-fn plays_over(rt: &impl Abort, alloc: Global, shape: Shape, script: &[u8], replies: &[u8]) {
-    let mut reader = script;
-    let mut writer = Vec::new(alloc);
-    assert!(rt; play(alloc, &mut reader, &mut writer, shape).is_ok());
-    assert_eq!(rt; writer.as_slice(), replies);
-}
-
-// Plays a script over four blocks of four bytes, of which so many may be in memory, and compares all the replies.
-fn plays_to(rt: &impl Abort, alloc: Global, resident: u32, script: &[u8], replies: &[u8]) {
-    plays_over(rt, alloc, shape_of(rt, resident), script, replies);
-}
-
-// Plays lines, each with its reply.
-fn plays_rows(
-    rt: &impl Abort,
-    alloc: Global,
-    resident: u32,
-    rows: &[(&str, &str)],
-) -> Result<(), Fail> {
-    let mut script = Vec::new(alloc);
-    let mut replies = Vec::new(alloc);
-    for (line, reply) in rows {
-        script.extend_from_slice(line.as_bytes())?;
-        script.push(b'\n')?;
-        replies.extend_from_slice(reply.as_bytes())?;
-        replies.push(b'\n')?;
-    }
-    plays_to(rt, alloc, resident, &script, &replies);
-    Ok(())
-}
 
 #[test]
 fn words(rt: HostRuntime) -> Result<(), Fail> {

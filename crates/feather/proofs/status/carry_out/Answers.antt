@@ -1,5 +1,4 @@
 use Rattle.std.proofs.Common.{◌≡◌, ℕ, List, Bor, map, inl, refl}
-use Rattle.feather.specs.declared.arguments.Run.{Run}
 use Rattle.feather.specs.declared.arguments.Run.TheVariants.{Crew}
 use Rattle.feather.proofs.StatusLemmas.{asks_same, fault_found}
 use Rattle.feather.proofs.status.carry_out.Goals as goal

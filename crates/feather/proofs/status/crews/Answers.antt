@@ -1,14 +1,13 @@
 use Rattle.std.proofs.Common.{◌*◌, IsOk, rules, refl, []}
 use Rattle.std.proofs.KnownBytes.{Appends-kept, Consumes-nil}
 use Rattle.fst_crew.specs.Crewing.{told}
-use Rattle.feather.proofs.SendingLemmas.{OnOk-at}
-use Rattle.feather.proofs.StatusLemmas.{same_told}
+use Rattle.feather.proofs.StatusLemmas.{at_ok, same_told}
 use Rattle.feather.proofs.status.crews.Goals as goal
 
 pub returns-then-is_ok-2-clause-done : goal.returns-then-is_ok-2-clause-done
 returns-then-is_ok-2-clause-done g c = λ zero unread.
     let ok : IsOk c.crew-worked.result = search rules in
-    let end = OnOk-at _ _ ok c.crew-worked.ensures.made in
+    let end = at_ok _ ok c.crew-worked.ensures.made in
     let plan = c.in-Ok.plan in
     record {
       in_range = c.in-Ok.ensures.0;

@@ -1,5 +1,0 @@
-use Rattle.feather.proofs.ScriptRuns.{script_is_run}
-use Rattle.feather.proofs.laws.script_is_run.Goals as goal
-
-pub returns : goal.returns
-returns c = script_is_run

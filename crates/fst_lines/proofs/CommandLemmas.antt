@@ -1,0 +1,48 @@
+-- What a line asks, from what is known of its bytes.
+use Rattle.std.proofs.Common.{◌≡◌, ℕ, ◌≤◌, ◌<◌, Bool, true, false, List, length, Option, Some, None, Result, Ok, Err, refl, sym, ap, ◌∙◌, subst, arith}
+use Rattle.std.specs.Prelude.{if◌then◌else◌}
+use Rattle.std.specs.Str.{IsUtf8, is_utf8}
+use Rattle.std.proofs.lemmas.Str.{is_utf8-from_IsUtf8, IsUtf8-from_is_utf8}
+use Rattle.std.proofs.lemmas.Bool.Decides.{nat_tests}
+use Rattle.serde_json.specs.Data.{Data, null, boolean, number, string, array, object, Members}
+use Rattle.serde_json.specs.Find.{as_object}
+use Rattle.serde_json.specs.Read.{read}
+use Rattle.fst_types.specs.declared.fault.Fault.{Fault}
+use Rattle.fst_types.specs.declared.fault.Fault.TheVariants as fault
+use Rattle.fst_lines.specs.Commands.{Command, max_line, value_of, command_in, or_field, command_of_value, command_of}
+use Rattle.fst_lines.specs.Parsing.{command, Gives, Parses}
+use Rattle.fst_lines.specs.declared.command.Command.{Command as Parsed}
+
+pub value_of-text : (line : List ℕ) → IsUtf8 line → value_of line ≡ read line
+value_of-text line h = ap (λ t. if t then read line else None) (is_utf8-from_IsUtf8 line h)
+
+pub value_of-none : (line : List ℕ) → (IsUtf8 line → read line ≡ None) → value_of line ≡ None
+value_of-none line h = by_test (is_utf8 line) (λ e. h (IsUtf8-from_is_utf8 line e))
+  where
+    by_test : (t : Bool) → (t ≡ true → read line ≡ None) → (if t then read line else None) ≡ None
+    by_test true f = f refl
+    by_test false f = refl
+
+pub command_of-short : (line : List ℕ) → length line ≤ max_line → command_of line ≡ command_of_value (value_of line)
+command_of-short line h = grind (arith, nat_tests)
+
+at_object : (d : Data) (ms : Members) → as_object d ≡ Some ms → command_of_value (Some d) ≡ or_field (command_in d)
+at_object null ms h = cc
+at_object (boolean b) ms h = cc
+at_object (number n) ms h = cc
+at_object (string s) ms h = cc
+at_object (array ds) ms h = cc
+at_object (object os) ms h = refl
+
+parses_field : (r : Result Parsed Fault) (o : Option Command) → Gives command r o → Parses r (or_field o)
+parses_field (Ok c) o h = ap or_field h
+parses_field (Err fault.Memory) o h = tt
+parses_field (Err fault.BadField) o h = ap or_field h
+parses_field (Err _) o h = absurd h
+
+pub Parses-object : (r : Result Parsed Fault) (line : List ℕ) (d : Data) (ms : Members) → length line ≤ max_line → value_of line ≡ Some d → as_object d ≡ Some ms → Gives command r (command_in d) → Parses r (command_of line)
+Parses-object r line d ms short value is h =
+    subst (Parses r) (sym (command_of-short line short ∙ ap command_of_value value ∙ at_object d ms is)) (parses_field r (command_in d) h)
+
+pub command_of-long : (line : List ℕ) → max_line < length line → command_of line ≡ Err fault.BadLine
+command_of-long line h = grind (arith, nat_tests)

@@ -1,0 +1,6 @@
+pub mod Members
+pub mod Commands
+pub mod Parsing
+pub mod Sending
+pub mod Pieces
+pub mod Replies

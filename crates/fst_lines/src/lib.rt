@@ -1,0 +1,18 @@
+//! The text of a script: what a line asks, and what a reply says.
+//!
+//! A line is one JSON object with a member `do` and the members that its command has (`members`, `command`; `failure` is how
+//! a write that a line names goes wrong). What a line's bytes mean is a definition over JSON as `serde_json` reads it:
+//! `command_of` in `specs/Commands.antt`; `parse` gives that command, that refusal, or want of memory.
+//!
+//! A reply is a line of words, decimal numbers and bytes in hex, whose text is a definition too (`specs/Replies.antt`). It
+//! goes out in pieces, through a loop over `write` (`output`, `reply`): so no reply takes memory or has a greatest length,
+//! and a writer that stops has taken a beginning of it.
+//!
+//! Nothing here knows a cache: who answers is a layer above (`fst_player`).
+#![tactic(auto)]
+
+pub mod command;
+pub mod failure;
+pub mod members;
+pub mod output;
+pub mod reply;

@@ -1,0 +1,363 @@
+//! The replies, each with the end of its line.
+
+ghost use Rattle.std.specs.Prelude.{◌≡◌, ◌++◌, ◌∷◌, [], option_map, codes, decimal};
+ghost use Rattle.fst_lines.specs.Sending.{Sends};
+ghost use Rattle.fst_lines.specs.Parsing.{patch_numbers};
+ghost use Rattle.fst_lines.specs.Replies.{refusal, patch_text, chosen_text, pick_text, flight_text, done_text, stalled_text, lost_text, show_text, place_name, place_text, crash_part};
+
+use crate::output::{Piece, Stopped, send_all};
+use fst_types::{BlockNo, Fault, Grade, PatchNo, Place, Ticket, What};
+use std::io::Write;
+
+fn what_name<'a>(what: What) -> &'a str
+    ensures { result.now ≡ what_name what }
+{
+    match what {
+        What::Heads => "heads",
+        What::Numbers => "numbers",
+        What::Tickets => "tickets",
+        What::Flights => "flights",
+        What::Resident => "resident",
+        What::Groups => "groups",
+    }
+}
+
+ghost use Rattle.fst_lines.specs.Replies.{what_name};
+
+// `refused N` and the thing that is full.
+fn send_full<W: Write>(
+    writer: &mut W,
+    calls: &mut u64,
+    number: u8,
+    name: &str,
+) -> Result<(), Stopped>
+    ensures { Sends (W.contents writer.old) (W.contents writer.new) result
+        (codes "refused " ++ decimal number ++ codes " " ++ name.now ++ 10 ∷ []) }
+{
+    send_all(
+        writer,
+        calls,
+        &[
+            Piece::Text("refused "),
+            Piece::Number(u64::from(number)),
+            Piece::Text(" "),
+            Piece::Text(name),
+            Piece::Text("\n"),
+        ],
+    )
+}
+
+/// `refused N`, with the patch that is held or the thing that is full.
+pub fn send_refusal<W: Write>(writer: &mut W, calls: &mut u64, fault: Fault) -> Result<(), Stopped>
+    ensures { Sends (W.contents writer.old) (W.contents writer.new) result
+        (refusal fault ++ 10 ∷ []) }
+{
+    match fault {
+        Fault::HardHeld(patch) => send_all(
+            writer,
+            calls,
+            &[
+                Piece::Text("refused "),
+                Piece::Number(u64::from(fault.number())),
+                Piece::Text(" held "),
+                Piece::Number(u64::from(patch.0)),
+                Piece::Text("\n"),
+            ],
+        ),
+        Fault::Full(what) => send_full(writer, calls, fault.number(), what_name(what)),
+        _ => send_all(
+            writer,
+            calls,
+            &[
+                Piece::Text("refused "),
+                Piece::Number(u64::from(fault.number())),
+                Piece::Text("\n"),
+            ],
+        ),
+    }
+}
+
+/// A reply that is a word and a number, as `gate N`.
+pub fn send_numbered<W: Write>(
+    writer: &mut W,
+    calls: &mut u64,
+    word: &str,
+    number: u32,
+) -> Result<(), Stopped>
+    ensures { Sends (W.contents writer.old) (W.contents writer.new) result
+        (word.now ++ codes " " ++ decimal number ++ 10 ∷ []) }
+{
+    send_all(
+        writer,
+        calls,
+        &[
+            Piece::Text(word),
+            Piece::Text(" "),
+            Piece::Number(u64::from(number)),
+            Piece::Text("\n"),
+        ],
+    )
+}
+
+/// `patch N hard` or `patch N soft`.
+pub fn send_patch<W: Write>(
+    writer: &mut W,
+    calls: &mut u64,
+    patch: PatchNo,
+    grade: Grade,
+) -> Result<(), Stopped>
+    ensures { Sends (W.contents writer.old) (W.contents writer.new) result
+        (patch_text patch.0 grade ++ 10 ∷ []) }
+{
+    match grade {
+        Grade::Hard => send_all(
+            writer,
+            calls,
+            &[
+                Piece::Text("patch "),
+                Piece::Number(u64::from(patch.0)),
+                Piece::Text(" hard\n"),
+            ],
+        ),
+        Grade::Soft => send_all(
+            writer,
+            calls,
+            &[
+                Piece::Text("patch "),
+                Piece::Number(u64::from(patch.0)),
+                Piece::Text(" soft\n"),
+            ],
+        ),
+    }
+}
+
+/// `chosen B patches L`, or `chosen B none`.
+pub fn send_chosen<W: Write>(
+    writer: &mut W,
+    calls: &mut u64,
+    block: BlockNo,
+    patches: &[PatchNo],
+) -> Result<(), Stopped>
+    ensures { Sends (W.contents writer.old) (W.contents writer.new) result
+        (chosen_text block.0 (patch_numbers patches.now) ++ 10 ∷ []) }
+{
+    if patches.is_empty() {
+        send_all(
+            writer,
+            calls,
+            &[
+                Piece::Text("chosen "),
+                Piece::Number(u64::from(block.0)),
+                Piece::Text(" none\n"),
+            ],
+        )
+    } else {
+        send_all(
+            writer,
+            calls,
+            &[
+                Piece::Text("chosen "),
+                Piece::Number(u64::from(block.0)),
+                Piece::Text(" patches "),
+                Piece::Patches(patches),
+                Piece::Text("\n"),
+            ],
+        )
+    }
+}
+
+/// `pick B`, or `pick none`.
+pub fn send_pick<W: Write>(
+    writer: &mut W,
+    calls: &mut u64,
+    block: Option<BlockNo>,
+) -> Result<(), Stopped>
+    ensures { Sends (W.contents writer.old) (W.contents writer.new) result
+        (pick_text (option_map (λ b. b.0) block) ++ 10 ∷ []) }
+{
+    match block {
+        Some(block) => send_numbered(writer, calls, "pick", block.0),
+        None => send_all(writer, calls, &[Piece::Text("pick none\n")]),
+    }
+}
+
+/// `flight T block B patches L image H`.
+pub fn send_flight<'a, W: Write>(
+    writer: &mut W,
+    calls: &mut u64,
+    ticket: Ticket,
+    block: BlockNo,
+    patches: &'a [PatchNo],
+    image: &'a [u8],
+) -> Result<(), Stopped>
+    ensures { Sends (W.contents writer.old) (W.contents writer.new) result
+        (flight_text ticket.0 block.0 (patch_numbers patches.now) image.now ++ 10 ∷ []) }
+{
+    send_all(
+        writer,
+        calls,
+        &[
+            Piece::Text("flight "),
+            Piece::Number(ticket.0),
+            Piece::Text(" block "),
+            Piece::Number(u64::from(block.0)),
+            Piece::Text(" patches "),
+            Piece::Patches(patches),
+            Piece::Text(" image "),
+            Piece::Hex(image),
+            Piece::Text("\n"),
+        ],
+    )
+}
+
+/// `done T block B`.
+pub fn send_done<W: Write>(
+    writer: &mut W,
+    calls: &mut u64,
+    ticket: Ticket,
+    block: BlockNo,
+) -> Result<(), Stopped>
+    ensures { Sends (W.contents writer.old) (W.contents writer.new) result
+        (done_text ticket.0 block.0 ++ 10 ∷ []) }
+{
+    send_all(
+        writer,
+        calls,
+        &[
+            Piece::Text("done "),
+            Piece::Number(ticket.0),
+            Piece::Text(" block "),
+            Piece::Number(u64::from(block.0)),
+            Piece::Text("\n"),
+        ],
+    )
+}
+
+/// `stalled T block B`.
+pub fn send_stalled<W: Write>(
+    writer: &mut W,
+    calls: &mut u64,
+    ticket: Ticket,
+    block: BlockNo,
+) -> Result<(), Stopped>
+    ensures { Sends (W.contents writer.old) (W.contents writer.new) result
+        (stalled_text ticket.0 block.0 ++ 10 ∷ []) }
+{
+    send_all(
+        writer,
+        calls,
+        &[
+            Piece::Text("stalled "),
+            Piece::Number(ticket.0),
+            Piece::Text(" block "),
+            Piece::Number(u64::from(block.0)),
+            Piece::Text("\n"),
+        ],
+    )
+}
+
+/// `lost T block B`.
+pub fn send_lost<W: Write>(
+    writer: &mut W,
+    calls: &mut u64,
+    ticket: Ticket,
+    block: BlockNo,
+) -> Result<(), Stopped>
+    ensures { Sends (W.contents writer.old) (W.contents writer.new) result
+        (lost_text ticket.0 block.0 ++ 10 ∷ []) }
+{
+    send_all(
+        writer,
+        calls,
+        &[
+            Piece::Text("lost "),
+            Piece::Number(ticket.0),
+            Piece::Text(" block "),
+            Piece::Number(u64::from(block.0)),
+            Piece::Text("\n"),
+        ],
+    )
+}
+
+/// `show B H`.
+pub fn send_show<W: Write>(
+    writer: &mut W,
+    calls: &mut u64,
+    block: BlockNo,
+    bytes: &[u8],
+) -> Result<(), Stopped>
+    ensures { Sends (W.contents writer.old) (W.contents writer.new) result
+        (show_text block.0 bytes.now ++ 10 ∷ []) }
+{
+    send_all(
+        writer,
+        calls,
+        &[
+            Piece::Text("show "),
+            Piece::Number(u64::from(block.0)),
+            Piece::Text(" "),
+            Piece::Hex(bytes),
+            Piece::Text("\n"),
+        ],
+    )
+}
+
+fn place_name<'a>(place: Place) -> &'a str
+    ensures { result.now ≡ place_name place }
+{
+    match place {
+        Place::Memory => "memory",
+        Place::Flight => "flight",
+        Place::Disk => "disk",
+    }
+}
+
+// `place N` and the name of the place.
+fn send_placed<W: Write>(
+    writer: &mut W,
+    calls: &mut u64,
+    patch: PatchNo,
+    name: &str,
+) -> Result<(), Stopped>
+    ensures { Sends (W.contents writer.old) (W.contents writer.new) result
+        (codes "place " ++ decimal patch.0 ++ codes " " ++ name.now ++ 10 ∷ []) }
+{
+    send_all(
+        writer,
+        calls,
+        &[
+            Piece::Text("place "),
+            Piece::Number(u64::from(patch.0)),
+            Piece::Text(" "),
+            Piece::Text(name),
+            Piece::Text("\n"),
+        ],
+    )
+}
+
+/// `place N memory`, `place N flight` or `place N disk`; a number that was not given is refused.
+pub fn send_place<W: Write>(
+    writer: &mut W,
+    calls: &mut u64,
+    patch: PatchNo,
+    place: Option<Place>,
+) -> Result<(), Stopped>
+    ensures { Sends (W.contents writer.old) (W.contents writer.new) result
+        (place_text patch.0 place ++ 10 ∷ []) }
+{
+    match place {
+        Some(place) => send_placed(writer, calls, patch, place_name(place)),
+        None => send_refusal(writer, calls, Fault::NoPatch),
+    }
+}
+
+/// The bytes of one block within the reply to `crash`.
+pub fn send_crash_part<W: Write>(
+    writer: &mut W,
+    calls: &mut u64,
+    bytes: &[u8],
+) -> Result<(), Stopped>
+    ensures { Sends (W.contents writer.old) (W.contents writer.new) result (crash_part bytes.now) }
+{
+    send_all(writer, calls, &[Piece::Text(" "), Piece::Hex(bytes)])
+}

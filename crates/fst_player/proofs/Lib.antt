@@ -1,0 +1,12 @@
+pub mod StreamLemmas
+pub mod RunLemmas
+pub mod SessionLemmas
+pub mod AnswerLemmas
+pub mod KeptLemmas
+mod GroupLemmas
+pub mod TellLemmas
+pub mod JobLemmas
+pub mod LeftLemmas
+pub mod ZeroLemmas
+pub mod ScriptRuns
+pub mod CrashTold

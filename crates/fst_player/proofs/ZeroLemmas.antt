@@ -1,0 +1,43 @@
+-- Slots of zero bytes are those that a cache is opened over.
+use Rattle.std.proofs.Common.{◌≡◌, ◌⊎◌, ℕ, zero, suc, ◌+◌, List, ◌∷◌, length, map, get_or, refl, ap, ◌∙◌, inl, inr, arith, zero-add}
+use Rattle.std.specs.Prelude.{replicate}
+use Rattle.std.specs.List.{range_with_len}
+use Rattle.std.proofs.lemmas.List.{length-replicate, get_or-replicate}
+use Rattle.std.proofs.lemmas.List.FromFn.{length-range_with_len, get_or-range_with_len}
+use Rattle.fst_types.specs.declared.fault.Fault.{Fault}
+use Rattle.fst_types.specs.declared.fault.Fault.TheVariants as fault
+use Rattle.fst_types.specs.Order.{open_order}
+use Rattle.fst_types.specs.Refusals.{IsFirst, NoneHolds}
+use Rattle.fst_device.specs.MemoryView.{MemoryView}
+use Rattle.fst_player.specs.Zeros.{zero_slot}
+
+pub indices_are : (size a n : ℕ) → map (λ (s : MemoryView). s.index) (map (zero_slot size) (range_with_len a n)) ≡ range_with_len a n
+indices_are size a zero = refl
+indices_are size a (suc n) = ap (λ l. a ∷ l) (indices_are size (a + 1) n)
+
+pub sizes_are : (size a n : ℕ) → map (λ (s : MemoryView). length s.bytes) (map (zero_slot size) (range_with_len a n)) ≡ replicate n size
+sizes_are size a zero = refl
+sizes_are size a (suc n) =
+    ap (λ x. x ∷ map (λ (s : MemoryView). length s.bytes) (map (zero_slot size) (range_with_len (a + 1) n))) (length-replicate size 0) ∙ ap (λ l. size ∷ l) (sizes_are size (a + 1) n)
+
+pub bytes_are : (size a n : ℕ) → map (λ (s : MemoryView). s.bytes) (map (zero_slot size) (range_with_len a n)) ≡ replicate n (replicate size 0)
+bytes_are size a zero = refl
+bytes_are size a (suc n) = ap (λ l. replicate size 0 ∷ l) (bytes_are size (a + 1) n)
+
+-- no rule refuses them, so that memory alone can be wanting
+pub open_fault : (n size : ℕ) (indices sizes : List ℕ) (f : Fault) → indices ≡ range_with_len 0 n → sizes ≡ replicate n size
+    → IsFirst (open_order n size indices sizes) f ⊎ (NoneHolds (open_order n size indices sizes) × (f ≡ fault.Memory)) → f ≡ fault.Memory
+open_fault n size indices sizes f at of (inr free) = free.1
+open_fault n size indices sizes f at of (inl first) =
+    let long : length indices ≡ n = ap (λ (l : List ℕ). length l) at ∙ length-range_with_len 0 n in
+    let many : length sizes ≡ n = ap (λ (l : List ℕ). length l) of ∙ length-replicate n size in
+    elim first [
+      | inl wrong ↦ elim wrong.0 [
+        | inl other ↦ absurd (other long)
+        | inr off ↦ absurd (off.2 (ap (λ (l : List ℕ). get_or l off.0 0) at ∙ (get_or-range_with_len 0 n off.0 0 (let lt = off.1 in omega (arith, lt, long)) ∙ zero-add off.0)))
+      ]
+      | inr rest ↦ elim rest.1 [
+        | inl wrong ↦ absurd (wrong.0.2 (ap (λ (l : List ℕ). get_or l wrong.0.0 0) of ∙ get_or-replicate n wrong.0.0 size 0 (let lt = wrong.0.1 in omega (arith, lt, many))))
+        | inr none ↦ absurd none.1
+      ]
+    ]

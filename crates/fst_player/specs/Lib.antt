@@ -1,0 +1,9 @@
+pub mod Script
+pub mod Stream
+pub mod Lines
+pub mod Answering
+pub mod Kept
+pub mod Zeros
+pub mod Session
+pub mod Play
+pub mod Law

@@ -1,0 +1,88 @@
+//! Completions: a kept job's one write is made, or told to fail, and the cache takes it in.
+
+ghost use Rattle.std.specs.Prelude.{◌≡◌, ◌++◌, ◌∷◌, [], MatchOption, None};
+ghost use Rattle.fst_lines.specs.Commands as script;
+ghost use Rattle.fst_player.specs.Script.{job_of, is_made};
+ghost use Rattle.fst_player.specs.Kept.{jobs_kept, settled_text, IsJobAt};
+ghost use Rattle.fst_lines.specs.Sending.{Sends};
+ghost use Rattle.fst_player.specs.Answering.{Obeyed};
+
+use crate::player::Player;
+use fst_device::{Arm, Done, Job, MemorySlot, carry};
+use fst_lines::failure::Failure;
+use fst_lines::output::Stopped;
+use fst_lines::reply::{send_done, send_lost, send_refusal, send_stalled};
+use fst_types::{BlockNo, Fault, Settled, Ticket};
+use std::io::Write;
+
+// Where the job of a ticket is.
+fn job_at(jobs: &[Job<MemorySlot>], ticket: Ticket) -> Option<usize>
+    ensures { MatchOption result (job_of (jobs_kept jobs.now) ticket.0 ≡ None) (λ i. IsJobAt jobs.now ticket.0 i) }
+{
+    for (i, job) in jobs.iter().enumerate() {
+        if job.ticket() == ticket {
+            return Some(i);
+        }
+    }
+    None
+}
+
+// Makes a job's one write, which fails where it is told to. A failing read is met later.
+fn carry_told(job: Job<MemorySlot>, fail: Option<Failure>) -> Done<MemorySlot>
+    ensures ticket { result.ticket ≡ job.ticket }
+    ensures block { result.block ≡ job.block }
+    ensures image { result.image ≡ job.image }
+    ensures written { result.written ≡ is_made fail }
+{
+    let mut job = job;
+    job.disarm_write();
+    match fail {
+        None => {}
+        Some(Failure::Before) => job.arm(Arm::WriteFailsBefore),
+        Some(Failure::After) => job.arm(Arm::WriteFailsAfter),
+        Some(Failure::Read) => job.arm(Arm::ReadFails),
+    }
+    carry(job)
+}
+
+// Tells whether a write has landed.
+fn send_settled<W: Write>(
+    writer: &mut W,
+    calls: &mut u64,
+    ticket: Ticket,
+    block: BlockNo,
+    settled: Settled,
+) -> Result<(), Stopped>
+    ensures { Sends (W.contents writer.old) (W.contents writer.new) result
+        (settled_text ticket.0 block.0 settled ++ 10 ∷ []) }
+{
+    match settled {
+        Settled::Landed => send_done(writer, calls, ticket, block),
+        Settled::Stalled => send_stalled(writer, calls, ticket, block),
+        Settled::Lost => send_lost(writer, calls, ticket, block),
+    }
+}
+
+impl Player {
+    // Makes the write of a kept job, or has it fail, and tells the cache.
+    pub(super) fn done<W: Write>(
+        &mut self,
+        writer: &mut W,
+        calls: &mut u64,
+        ticket: Ticket,
+        fail: Option<Failure>,
+    ) -> Result<(), Stopped>
+        ensures { Obeyed self.old (script.done ticket.0 fail) (W.contents writer.old)
+            (W.contents writer.new) result self.new }
+    {
+        let Some(at) = job_at(&self.jobs, ticket) else {
+            return send_refusal(writer, calls, Fault::Stranger);
+        };
+        let job = self.jobs.remove(at);
+        let block = job.block();
+        match self.cache.settle(carry_told(job, fail)) {
+            Ok(settled) => send_settled(writer, calls, ticket, block, settled),
+            Err(_) => unreachable!(),
+        }
+    }
+}

@@ -1,0 +1,133 @@
+//! A play in progress: the line so far, and the player.
+
+ghost use Rattle.std.specs.Prelude.{◌≡◌, ◌++◌, ◌∷◌, ℕ, List, [], IsTrue, ◌<◌, length, false};
+ghost use Rattle.fst_player.specs.Lines.{Holds};
+ghost use Rattle.fst_player.specs.Answering.{Answered};
+ghost use Rattle.fst_player.specs.Session.{Feeds, Finishes};
+
+use crate::line::Line;
+use crate::player::Player;
+use fst_lines::command::MAX_LINE;
+use fst_lines::output::{Stopped, pass_on};
+use std::alloc::Global;
+use std::io::Write;
+
+/// A play in progress.
+#[derive(Drop)]
+pub struct Session {
+    line: Line,
+    player: Player,
+}
+
+impl Session {
+    /// A play of which nothing was read yet.
+    pub fn new(alloc: Global, player: Player) -> Session
+        ensures line { Holds result.line [] }
+        ensures player { result.player ≡ player }
+    {
+        Session {
+            line: Line::Kept(Vec::new(alloc)),
+            player,
+        }
+    }
+
+    // Answers the line, which has ended.
+    fn end_line<W: Write>(
+        &mut self,
+        alloc: Global,
+        writer: &mut W,
+        calls: &mut u64,
+    ) -> Result<(), Stopped>
+        ensures line { Holds self.new.line [] }
+        ensures answered { Answered self.old.player self.old.line (W.contents writer.old) (W.contents writer.new) result self.new.player }
+    {
+        let line = std::mem::replace(&mut self.line, Line::Kept(Vec::new(alloc)));
+        self.player.answer(alloc, writer, calls, &line)
+    }
+
+    // Keeps one more byte of the line, if it is not too long and there is memory for it.
+    fn keep(&mut self, byte: u8)
+        ensures held { (text : List ℕ) → Holds self.old.line text
+            → Holds self.new.line (text ++ byte ∷ []) }
+        ensures kept { self.new.player ≡ self.old.player }
+    {
+        let so_far = match &self.line {
+            Line::Kept(bytes) => bytes.len(),
+            Line::Refused(bytes) => *bytes,
+            Line::Long => return,
+        };
+        if so_far >= MAX_LINE {
+            self.line = Line::Long;
+            return;
+        }
+        let is_kept = match &mut self.line {
+            Line::Kept(bytes) => bytes.push(byte).is_ok(),
+            Line::Refused(_) | Line::Long => false,
+        };
+        if !is_kept {
+            self.line = Line::Refused(so_far + 1);
+        }
+    }
+
+    // Takes the next byte of the stream.
+    fn take<W: Write>(
+        &mut self,
+        alloc: Global,
+        writer: &mut W,
+        calls: &mut u64,
+        byte: u8,
+    ) -> Result<(), Stopped>
+        ensures { Feeds self.old (byte ∷ []) (W.contents writer.old) (W.contents writer.new)
+            result self.new }
+    {
+        if byte == b'\n' {
+            return self.end_line(alloc, writer, calls);
+        }
+        self.keep(byte);
+        Ok(())
+    }
+
+    /// Takes the next piece of the stream, and answers each line that ends in it. The writer then passes the replies on,
+    /// since whoever writes the lines may wait for them.
+    pub fn feed<W: Write>(
+        &mut self,
+        alloc: Global,
+        writer: &mut W,
+        calls: &mut u64,
+        piece: &[u8],
+    ) -> Result<(), Stopped>
+        ensures { Feeds self.old piece.now (W.contents writer.old) (W.contents writer.new)
+            result self.new }
+    {
+        for byte in piece {
+            self.take(alloc, writer, calls, *byte)?;
+        }
+        pass_on(writer, calls)
+    }
+
+    fn has_bytes(&self) -> bool
+        ensures some { IsTrue result → (text : List ℕ) → Holds self.now.line text → 0 < length text }
+        ensures none { result ≡ false → (text : List ℕ) → Holds self.now.line text → text ≡ [] }
+    {
+        match &self.line {
+            Line::Kept(bytes) => !bytes.is_empty(),
+            Line::Long | Line::Refused(_) => true,
+        }
+    }
+
+    /// Answers a last line that has no end, if it has a byte.
+    pub fn finish<W: Write>(
+        &mut self,
+        alloc: Global,
+        writer: &mut W,
+        calls: &mut u64,
+    ) -> Result<(), Stopped>
+        ensures { Finishes self.old (W.contents writer.old) (W.contents writer.new) result }
+    {
+        if !self.has_bytes() {
+            return Ok(());
+        }
+        self.end_line(alloc, writer, calls)?;
+        pass_on(writer, calls)
+    }
+}
