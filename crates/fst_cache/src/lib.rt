@@ -16,6 +16,3 @@ pub use cache::Cache;
 pub use flight::Flight;
 pub use share::Share;
 pub use stat::Stat;
-
-#[cfg(test)]
-mod tests;

@@ -24,6 +24,3 @@ mod prepared;
 mod refusals;
 
 pub use graph::Graph;
-
-#[cfg(test)]
-mod tests;

@@ -9,7 +9,7 @@ mod same;
 mod speed;
 mod twin;
 
-use crate::tests::checked::Checked;
+use crate::graph::checked::Checked;
 use fst_types::{BlockNo, Fault, Grade, PatchNo, Place, Span, What};
 
 const FIRST: PatchNo = PatchNo(1);

@@ -1,6 +1,6 @@
 //! What the twin may write, and how it grades a new change.
 
-use crate::tests::twin::{Kind, Patch, Twin};
+use crate::graph::twin::{Kind, Patch, Twin};
 use fst_types::{BlockNo, Grade, PatchNo, Place};
 use std::alloc::AllocError;
 

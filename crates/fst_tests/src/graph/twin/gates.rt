@@ -1,6 +1,6 @@
 //! What the gates of the twin gain, and sealing them.
 
-use crate::tests::twin::{Kind, Twin};
+use crate::graph::twin::{Kind, Twin};
 use fst_types::{Fault, PatchNo};
 use std::alloc::AllocError;
 

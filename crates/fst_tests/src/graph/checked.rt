@@ -4,11 +4,11 @@
 
 ghost use Rattle.std.specs.Prelude.{◌≡◌, ◌<◌};
 
-use crate::graph::Graph;
-use crate::tests::same::{
+use crate::graph::same::{
     same_answer, same_block, same_change, same_count, same_group, same_held, same_number,
     same_patches, same_place,
 };
+use fst_graph::Graph;
 use fst_types::{BlockNo, Fault, Grade, GroupNo, PatchNo, Place, Shape, Span};
 use std::alloc::Global;
 use std::process::Abort;

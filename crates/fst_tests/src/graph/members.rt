@@ -1,6 +1,6 @@
 //! Changes of groups: what they depend on, how they are graded, and when there is none.
 
-use crate::tests::checked::Checked;
+use crate::graph::checked::Checked;
 use fst_types::{Fault, Grade, GroupNo, PatchNo, Place};
 
 const FIRST: GroupNo = GroupNo(1);

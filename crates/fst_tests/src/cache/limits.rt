@@ -1,7 +1,7 @@
 //! The limits, where memory is ample: what may be had is had, and what is past a limit is refused for it.
 
-use crate::Cache;
-use crate::tests::{issue_refused, issued, patched, settled};
+use crate::cache::{issue_refused, issued, patched, settled};
+use fst_cache::Cache;
 use fst_device::MemorySlot;
 use fst_types::{BlockNo, Fault, Grade, PatchNo, Settled, Shape, What};
 use std::alloc::Global;

@@ -1,6 +1,6 @@
 //! The groups of the twin.
 
-use crate::tests::twin::{Kind, Twin};
+use crate::graph::twin::{Kind, Twin};
 use fst_types::{
     BlockNo, Fault, Grade, GroupNo, MAX_GROUPS, MAX_HEADS, MAX_NUMBER, PatchNo, Span, What,
 };

@@ -3,7 +3,7 @@
 
 ghost use Rattle.std.specs.Prelude.{◌≡◌, ◌<◌};
 
-use crate::graph::Graph;
+use fst_graph::Graph;
 use fst_types::{BlockNo, Fault, PatchNo, Shape, Span};
 use std::alloc::Global;
 use std::rt::Clock;

@@ -1,6 +1,6 @@
 //! Groups: what their calls answer, and what becomes of their gates.
 
-use crate::tests::checked::Checked;
+use crate::graph::checked::Checked;
 use fst_types::{BlockNo, Fault, Grade, GroupNo, PatchNo, Place, What};
 
 const FIRST: GroupNo = GroupNo(1);

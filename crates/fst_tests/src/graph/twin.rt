@@ -4,7 +4,7 @@ mod gates;
 mod grading;
 mod grouping;
 
-use crate::tests::twin::grouping::Group;
+use crate::graph::twin::grouping::Group;
 use fst_types::{
     BlockNo, Fault, Grade, MAX_HEADS, MAX_NAMES, MAX_NUMBER, PatchNo, Place, Span, What,
 };

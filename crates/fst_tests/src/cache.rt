@@ -4,7 +4,7 @@ ghost use Rattle.std.specs.Prelude.{◌≡◌, IfOk, length};
 mod limits;
 mod strangers;
 
-use crate::{Cache, Share, Stat};
+use fst_cache::{Cache, Share, Stat};
 use fst_device::{Arm, Done, Job, MemorySlot, carry};
 use fst_types::{BlockNo, Fault, Grade, PatchNo, Place, Settled, Shape, Ticket, What};
 use std::alloc::Global;

@@ -1,7 +1,7 @@
 //! Completions that are of no write that is out: each is handed back as it was, and nothing changes.
 
-use crate::tests::{handed_back, issued, patched, settled, zero_slot, zeros};
-use crate::{Cache, Stat};
+use crate::cache::{handed_back, issued, patched, settled, zero_slot, zeros};
+use fst_cache::{Cache, Stat};
 use fst_device::{Arm, Done, Job, MemorySlot, carry};
 use fst_types::{BlockNo, Fault, Settled, Ticket};
 use std::alloc::Global;

@@ -1,0 +1,13 @@
+//! Tests of the public calls of the graph and of the cache.
+//!
+//! `graph` has the worked rows as far as they speak of patches alone, random graphs against a plain twin, and what large
+//! graphs take; `cache` has each call once, the limits, and what comes of failures and strangers.
+//!
+//! They stand in a crate above both, and need nothing but their public calls: beside their code, the tests' proofs would
+//! take a second proof of all of it. The tests of a crate that look at something private stand in that crate.
+#![tactic(auto)]
+
+#[cfg(test)]
+mod cache;
+#[cfg(test)]
+mod graph;
