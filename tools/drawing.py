@@ -207,19 +207,26 @@ def toward(start, end, reach):
     return start[0] + (end[0] - start[0]) * reach / whole, start[1] + (end[1] - start[1]) * reach / whole
 
 
-def legend(y):
-    parts, x = [], MARGIN - 9
+def legend(y, most):
+    """What the signs mean, in rows that are no wider than that; and how wide and high they are."""
+    parts, x, widest = [], MARGIN - 9, 0
     rows = [(FILLS[place], EDGES[place], 'stroke-width="1"', f"in {place}" if place != "disk" else "on disk") for place in FILLS]
     rows.append(("#ffffff", INK, 'stroke-width="3"', "hard"))
     rows.append(("#ffffff", INK, 'stroke-dasharray="5 3" stroke-width="1.5"', "soft; open gate"))
     rows.append(("#ffffff", INK, 'rx="8" stroke-width="1"', "gate, empty patch"))
     for fill, edge, more, name in rows:
+        wide = 52 + 7 * len(name)
+        if x + wide > most and x > MARGIN - 9:
+            x, y = MARGIN - 9, y + 26
         parts.append(f'<rect x="{x}" y="{y}" width="26" height="16" fill="{fill}" stroke="{edge}" {more}/>')
         parts.append(f'<text x="{x + 33}" y="{y + 13}" font-size="12" fill="{INK}">{name}</text>')
-        x += 52 + 7 * len(name)
+        x += wide
+        widest = max(widest, x)
+    if x + 120 > most:
+        x, y = MARGIN - 9, y + 26
     parts.append(f'<path d="M {x} {y + 8} L {x + 26} {y + 8}" stroke="{INK}" stroke-width="1.4" marker-end="url(#ink)"/>')
     parts.append(f'<text x="{x + 35}" y="{y + 13}" font-size="12" fill="{INK}">comes after</text>')
-    return "\n".join(parts), x + 120
+    return "\n".join(parts), max(widest, x + 120), y
 
 
 def marker(name, colour):
@@ -239,10 +246,11 @@ def svg_of(frames, across):
         for index, drawing in enumerate(row):
             body.append(f'<g transform="translate({index * wide} {y})">\n{drawing.drawn()}\n</g>')
         y += max(drawing.height for drawing in row) + 14
-    signs, signs_wide = legend(y + 4)
-    width = max(wide * min(across, max(1, len(drawings))), signs_wide)
+    width = wide * min(across, max(1, len(drawings)))
+    signs, signs_wide, y = legend(y + 4, width)
+    width = max(width, signs_wide)
     return (
-        f'<svg xmlns="http://www.w3.org/2000/svg" viewBox="0 0 {width} {y + 32}" width="{width}" height="{y + 32}" font-family="sans-serif">\n'
+        f'<svg xmlns="http://www.w3.org/2000/svg" viewBox="0 0 {width} {y + 28}" width="{width}" height="{y + 28}" font-family="sans-serif">\n'
         f'<rect width="100%" height="100%" fill="#ffffff"/>\n<defs>{marker("ink", INK)}{marker("faint", FAINT)}</defs>\n'
         + "\n".join(body + [signs])
         + "\n</svg>"
