@@ -1,10 +1,12 @@
-//! Whole scripts with each reply, whole runs, hostile lines, limits, and streams in pieces or failing.
+//! Whole scripts with each reply, whole runs, hostile lines and such that are nearly right, limits, and streams in pieces
+//! or failing.
 
 mod devices;
 mod examples;
 mod groups;
 mod hostile;
 mod limits;
+mod nearly_right;
 mod pages;
 mod refusals;
 mod rows;

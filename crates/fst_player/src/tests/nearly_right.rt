@@ -1,0 +1,207 @@
+//! A thousand lines that are nearly right: good lines of every command, and in every second one a byte that is another,
+//! left out, or there twice. Each gets one reply of those that there are, and the player counts what was accepted.
+
+use crate::play::play;
+use crate::tests::shape_of;
+use std::alloc::{AllocError, Global};
+use std::process::Abort;
+use std::test::Fail;
+
+const GOOD: &[&str] = &[
+    r#"{"do":"patch","block":0,"at":0,"data":"41"}"#,
+    r#"{"do":"patch","block":1,"at":1,"data":"4243","after":[1]}"#,
+    r#"{"do":"patch","block":2,"at":0,"data":"44454647","after":[1,2]}"#,
+    r#"{"do":"empty"}"#,
+    r#"{"do":"empty","after":[2,3]}"#,
+    r#"{"do":"gate"}"#,
+    r#"{"do":"depend","gate":5,"on":[1,2]}"#,
+    r#"{"do":"seal","gate":5}"#,
+    r#"{"do":"choose","block":1}"#,
+    r#"{"do":"pick"}"#,
+    r#"{"do":"write","block":0}"#,
+    r#"{"do":"done","ticket":1}"#,
+    r#"{"do":"done","ticket":2,"fail":"after"}"#,
+    r#"{"do":"retry","block":0}"#,
+    r#"{"do":"evict","block":3}"#,
+    r#"{"do":"show","block":3}"#,
+    r#"{"do":"place","patch":2}"#,
+    r#"{"do":"forget"}"#,
+    r#"{"do":"stat"}"#,
+    r#"{"do":"crash","finish":[0,1]}"#,
+    r#"{"do":"group"}"#,
+    r#"{"do":"group_after","group":7,"on":9}"#,
+    r#"{"do":"group_patch","group":7,"block":3,"at":2,"data":"4849"}"#,
+    r#"{"do":"group_close","group":9}"#,
+    r#"{ "on" : [ 1 ] , "gate" : 12 , "do" : "depend" }"#,
+];
+
+const ROUNDS: u32 = 40;
+
+// How each reply begins, but for refusals.
+const REPLIES: &[&str] = &[
+    "patch ",
+    "empty ",
+    "gate ",
+    "depend ",
+    "seal ",
+    "chosen ",
+    "pick ",
+    "flight ",
+    "done ",
+    "stalled ",
+    "lost ",
+    "evict ",
+    "show ",
+    "place ",
+    "forget ",
+    "stat made ",
+    "crash ",
+    "group ",
+    "group_after ",
+    "group_close ",
+];
+
+// Memory is there, and no read was armed to fail: neither 17 nor 15.
+const REFUSALS: &[&str] = &[
+    "1",
+    "2",
+    "3",
+    "4",
+    "5",
+    "6",
+    "7",
+    "8",
+    "9",
+    "10",
+    "11 held ",
+    "12",
+    "13",
+    "14",
+    "16 resident",
+    "18",
+    "19",
+];
+
+// What a byte of a line may become, nearly a line still.
+const SIGNS: &[u8] = br#"0123456789abcdef"{}[]:,.-+ eE_tu\"#;
+
+/// A small generator of numbers, the same at each run.
+#[derive(Drop)]
+struct Dice {
+    state: u32,
+}
+
+impl Dice {
+    fn roll(&mut self, sides: u32) -> u32
+        requires { 0 < sides }
+    {
+        self.state = self
+            .state
+            .wrapping_mul(1_664_525)
+            .wrapping_add(1_013_904_223);
+        (self.state >> 8) % sides
+    }
+
+    // Any byte but the end of a line, and mostly one that lines have.
+    fn sign(&mut self) -> u8 {
+        let any = self.roll(256);
+        if any < 32 && any != 10 {
+            return any as u8;
+        }
+        match SIGNS.get(self.roll(32) as usize) {
+            Some(sign) => *sign,
+            None => b'?',
+        }
+    }
+}
+
+// The line with one byte changed, left out or doubled; as it is where the place is past its end, about every second time.
+fn nearly(alloc: Global, dice: &mut Dice, line: &str) -> Result<Vec<u8>, AllocError> {
+    let at = dice.roll(96) as usize;
+    let how = dice.roll(3);
+    let other = dice.sign();
+    let mut text = Vec::new(alloc);
+    for (place, byte) in line.as_bytes().iter().enumerate() {
+        match how {
+            0 if place == at => text.push(other)?,
+            1 if place == at => {}
+            2 if place == at => {
+                text.push(*byte)?;
+                text.push(*byte)?;
+            }
+            _ => text.push(*byte)?,
+        }
+    }
+    text.push(b'\n')?;
+    Ok(text)
+}
+
+// Whether it is one of the replies that a player gives.
+fn is_reply(reply: &str) -> bool {
+    for beginning in REPLIES {
+        if reply.starts_with(*beginning) {
+            return true;
+        }
+    }
+    let Some(refusal) = reply.strip_prefix("refused ") else {
+        return false;
+    };
+    for number in REFUSALS {
+        if refusal == *number || (number.ends_with(' ') && refusal.starts_with(*number)) {
+            return true;
+        }
+    }
+    false
+}
+
+// How many patches were made where this was answered.
+fn made_by(reply: &str) -> u32 {
+    if reply.starts_with("group ") {
+        return 2;
+    }
+    if reply.starts_with("patch ") || reply.starts_with("empty ") || reply.starts_with("gate ") {
+        return 1;
+    }
+    0
+}
+
+// Each line has a reply, and the last one counts what the others made.
+fn judge(rt: &impl Abort, alloc: Global, lines: u32, replies: &str) -> Result<(), Fail> {
+    let mut made = 0u32;
+    let mut count = 0u32;
+    let mut last = "";
+    for reply in replies.lines() {
+        assert!(rt; is_reply(reply), "{reply}");
+        made = made.saturating_add(made_by(reply));
+        count = count.saturating_add(1);
+        last = reply;
+    }
+    assert_eq!(rt; count, lines);
+    let told = format!(in alloc; "stat made {made} ")?;
+    assert!(rt;
+        made > 50 && last.starts_with(told.as_str()),
+        "{last}, and {made} were made"
+    );
+    Ok(())
+}
+
+#[test]
+fn nearly_right(rt: HostRuntime) -> Result<(), Fail> {
+    let mut dice = Dice { state: 2007 };
+    let mut script = Vec::new(rt.alloc());
+    let mut lines = 1u32;
+    for _ in 0..ROUNDS {
+        for line in GOOD {
+            script.extend_from_slice(&nearly(rt.alloc(), &mut dice, line)?)?;
+            lines = lines.saturating_add(1);
+        }
+    }
+    script.extend_from_slice(br#"{"do":"stat"}"#)?;
+    let mut reader = script.as_slice();
+    let mut writer = Vec::new(rt.alloc());
+    assert!(rt; play(rt.alloc(), &mut reader, &mut writer, shape_of(&rt, 2)).is_ok());
+    let Ok(replies) = std::str::from_utf8(&writer) else {
+        return Err("the replies are text")?;
+    };
+    judge(&rt, rt.alloc(), lines, replies)
+}
