@@ -1,6 +1,8 @@
 //! A thousand lines that are nearly right: good lines of every command, and in every second one a byte that is another,
 //! left out, or there twice. Each gets one reply of those that there are, and the player counts what was accepted.
 
+ghost use Rattle.std.specs.Prelude.{◌<◌};
+
 use crate::play::play;
 use crate::tests::shape_of;
 use std::alloc::{AllocError, Global};
@@ -165,23 +167,24 @@ fn made_by(reply: &str) -> u32 {
     0
 }
 
-// Each line has a reply, and the last one counts what the others made.
+// Each line has a reply, and each `stat` counts what was made so far.
 fn judge(rt: &impl Abort, alloc: Global, lines: u32, replies: &str) -> Result<(), Fail> {
     let mut made = 0u32;
     let mut count = 0u32;
-    let mut last = "";
     for reply in replies.lines() {
         assert!(rt; is_reply(reply), "{reply}");
+        if reply.starts_with("stat ") {
+            let told = format!(in alloc; "stat made {made} ")?;
+            assert!(rt;
+                reply.starts_with(told.as_str()),
+                "{reply}, and {made} were made"
+            );
+        }
         made = made.saturating_add(made_by(reply));
         count = count.saturating_add(1);
-        last = reply;
     }
     assert_eq!(rt; count, lines);
-    let told = format!(in alloc; "stat made {made} ")?;
-    assert!(rt;
-        made > 50 && last.starts_with(told.as_str()),
-        "{last}, and {made} were made"
-    );
+    assert!(rt; made > 50, "{made} were made");
     Ok(())
 }
 
