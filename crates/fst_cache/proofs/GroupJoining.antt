@@ -1,17 +1,14 @@
 -- What the graph makes of a new change for a group is a row of the state.
-use Rattle.std.proofs.Common.{◌≡◌, ◌+◌, ℕ, List, [], ◌∷◌, ◌++◌, length, ap, ◌∙◌, subst, inl, inr}
+use Rattle.std.proofs.Common.{◌≡◌, ◌+◌, ℕ, List, [], ◌∷◌, ◌++◌, length, refl, ap, ◌∙◌, subst}
 use Rattle.std.specs.Prelude.{Result, Ok, Err, IfOk, MatchResult}
 use Rattle.fst_types.specs.declared.number.PatchNo.{PatchNo}
 use Rattle.fst_types.specs.declared.fault.Fault.{Fault}
 use Rattle.fst_types.specs.declared.grade.Grade.{Grade}
 use Rattle.fst_types.specs.Grouping.{MakesMember}
 use Rattle.fst_graph.specs.Known.{Known, unprepared}
-use Rattle.fst_graph.specs.Grouping.{AddsMember, SealsIfOpen}
+use Rattle.fst_graph.specs.Grouping.{AddsMember}
 use Rattle.fst_cache.specs.Seats.{SeatView, blocks}
 use Rattle.fst_cache.specs.Kept.{state_of}
-use Rattle.fst_cache.proofs.SameGating.{depend_row}
-use Rattle.fst_cache.proofs.MakeStep.{change_row}
-use Rattle.fst_cache.proofs.GroupStep.{begin_row, begun_blocks}
 
 pub member_row : (size resident tickets made : ℕ) (graph graph' : Known) (contents : List (ℕ × List ℕ)) (seats seats' : List SeatView) → blocks seats' ≡ blocks seats
     → (n b at number : ℕ) (bytes : List ℕ) (grade : Grade) → AddsMember graph n b at (length bytes) number grade graph'
@@ -19,37 +16,16 @@ pub member_row : (size resident tickets made : ℕ) (graph graph' : Known) (cont
 member_row size resident tickets made graph graph' contents seats seats' same_blocks n b at number bytes grade a = record {
   group = a.group;
   named = a.named;
-  begun = state_of size resident tickets made a.begun contents seats;
-  begin = begin_row size resident tickets made graph a.begun contents seats n a.begin;
-  with_change = state_of size resident tickets (made + 1) a.with_change (contents ++ (number, bytes) ∷ []) seats';
-  change = change_row size resident tickets made a.begun a.with_change contents seats seats' same_blocks b at number bytes (n ∷ []) grade a.change;
-  tied = state_of size resident tickets (made + 1) a.tied (contents ++ (number, bytes) ∷ []) seats';
-  tie = depend_row size resident tickets (made + 1) a.with_change a.tied (contents ++ (number, bytes) ∷ []) seats' a.group.tail (number ∷ []) a.tie;
-  state = ap (λ (k : Known). state_of size resident tickets (made + 1) k (contents ++ (number, bytes) ∷ []) seats') a.state;
+  row = a.row;
+  state = ap (λ (k : Known). state_of size resident tickets (made + 1) k (contents ++ (number, bytes) ∷ []) seats') a.state ∙ rw same_blocks refl;
 }
 
 pub member_blocks : (graph graph' : Known) (n b at len number : ℕ) (grade : Grade) → AddsMember graph n b at len number grade graph' → graph'.blocks ≡ graph.blocks
-member_blocks graph graph' n b at len number grade a =
-    ap (λ (k : Known). k.blocks) a.state ∙ (a.tie.blocks ∙ (a.change.blocks ∙ begun_blocks graph a.begun n a.begin))
+member_blocks graph graph' n b at len number grade a = ap (λ (k : Known). k.blocks) a.state
 
 -- what is prepared does not matter to what a member adds
-seals_unprepared : (old : Known) (g : ℕ) (new : Known) → SealsIfOpen (unprepared old) g new → SealsIfOpen old g new
-seals_unprepared old g new (inl s) = inl (record { clear = s.clear; is_open = s.is_open; cascade = s.cascade; numbers = s.numbers; blocks = s.blocks; groups = s.groups; prepared = s.prepared })
-seals_unprepared old g new (inr stays) = inr stays
-
 member_unprepared : (old : Known) (n b at len number : ℕ) (grade : Grade) (new : Known) → AddsMember (unprepared old) n b at len number grade new → AddsMember old n b at len number grade new
-member_unprepared old n b at len number grade new a = record {
-  clear = a.clear;
-  group = a.group;
-  named = a.named;
-  begun = a.begun;
-  begin = seals_unprepared old n a.begun a.begin;
-  with_change = a.with_change;
-  change = a.change;
-  tied = a.tied;
-  tie = a.tie;
-  state = a.state;
-}
+member_unprepared old n b at len number grade new a = record { clear = a.clear; group = a.group; named = a.named; row = a.row; state = a.state }
 
 -- the graph makes what it prepared
 pub member_prepared : (old : Known) (n b at len number : ℕ) (grade : Grade) (new : Known) (r : Result (PatchNo × Grade) Fault)

@@ -7,9 +7,10 @@ use Rattle.fst_types.specs.Facts.{HeadsAreLawful}
 use Rattle.fst_types.specs.Groups.{Group}
 use Rattle.fst_types.specs.Making.{fresh, MakesGate}
 use Rattle.fst_types.specs.Gating.{Depends, gains, Seals, sealed}
-use Rattle.fst_types.specs.Grouping.{SealsIfOpen, MakesGroup, PutsAfter, ClosesGroup}
+use Rattle.fst_types.specs.Grouping.{MakesGroup, PutsAfter, ClosesGroup}
 use Rattle.fst_types.specs.State.{State, block_of}
 use Rattle.fst_types.proofs.Depending.{grown}
+use Rattle.fst_types.proofs.Parts.{SealsIfOpen, new_in_parts, after_in_parts, close_in_parts}
 use Rattle.fst_types.proofs.GroupsKept.{begins}
 use Rattle.fst_cache.specs.Kept.{IsSameAt}
 use Rattle.fst_cache.proofs.SameAdding.{same_added}
@@ -27,17 +28,17 @@ same_then s t u b first second = record {
 
 same_gate : (s t : State) (number b : ℕ) → MakesGate s number t → IsSameAt s t b
 same_gate s t number b m =
-    same_added s t b (fresh number OpenGate []) refl (ap (λ (u : State). map unsettled u.heads) m.state) (ap (λ (u : State). block_of u b) m.state) (ap (λ (u : State). u.contents) m.state)
+    same_added s t b (fresh number OpenGate []) refl (ap (map unsettled) m.row.added) (ap (λ (u : State). block_of u b) m.state) (ap (λ (u : State). u.contents) m.state)
 
 pub same_depend : (s t : State) (g : ℕ) (on : List ℕ) (b : ℕ) → Depends s g on t → IsSameAt s t b
 same_depend s t g on b m =
-    same_moved s t b (gains g m.names) (ap (λ (u : State). block_of u b) m.state) (ap (λ (u : State). u.contents) m.state) (ap (λ (u : State). map unsettled u.heads) m.state)
-    (λ p h. let k = grown g m.names p in still_alike b p (gains g m.names p) k.number k.kind k.place)
+    same_moved s t b (gains g m.row.names) (ap (λ (u : State). block_of u b) m.state) (ap (λ (u : State). u.contents) m.state) (ap (map unsettled) m.row.gained)
+    (λ p h. let k = grown g m.row.names p in still_alike b p (gains g m.row.names p) k.number k.kind k.place)
 
 same_seal : (s t : State) (g b : ℕ) → HeadsAreLawful s.heads s.numbers → Seals s g t → IsSameAt s t b
 same_seal s t g b H m =
     same_moved s t b (sealed g) (ap (λ (u : State). block_of u b) m.state) (ap (λ (u : State). u.contents) m.state)
-    (ap (λ (u : State). map unsettled u.heads) m.state ∙ m.cascade.same) (still_sealed s.heads m.heads s.numbers g H m.gate m.cascade b)
+    m.row.cascade.same (still_sealed s.heads t.heads s.numbers g H m.row.gate m.row.cascade b)
 
 pub same_begin : (s t : State) (g b : ℕ) → HeadsAreLawful s.heads s.numbers → SealsIfOpen s g t → IsSameAt s t b
 same_begin s t g b H (inl m) = same_seal s t g b H m
@@ -48,15 +49,19 @@ pub same_regrouped : (s t : State) (groups : List Group) (b : ℕ) → t ≡ rec
 same_regrouped s t groups b e = subst (λ (u : State). IsSameAt s u b) (sym e) (record { block = refl; patches = refl; flying = refl; dirty = λ e. e })
 
 pub same_new : (s t : State) (number b : ℕ) → MakesGroup s number t → IsSameAt s t b
-same_new s t number b m =
+same_new s t number b made =
+    let m = new_in_parts s number t made in
     same_then s m.with_head t b (same_gate s m.with_head number b m.head)
     (same_then m.with_head m.with_tail t b (same_gate m.with_head m.with_tail (number + 1) b m.tail)
     (same_then m.with_tail m.tied t b (same_depend m.with_tail m.tied (number + 1) (number ∷ []) b m.tie) (same_regrouped m.tied t _ b m.state)))
 
 pub same_after : (s t : State) (n k b : ℕ) → PutsAfter s n k t → IsSameAt s t b
-same_after s t n k b m = same_then s m.tied t b (same_depend s m.tied n (m.before.tail ∷ []) b m.tie) (same_regrouped m.tied t _ b m.state)
+same_after s t n k b puts =
+    let m = after_in_parts s n k t puts in
+    same_then s m.tied t b (same_depend s m.tied n (m.before.tail ∷ []) b m.tie) (same_regrouped m.tied t _ b m.state)
 
 pub same_close : (s t : State) (n b : ℕ) → HeadsAreLawful s.heads s.numbers → ClosesGroup s n t → IsSameAt s t b
-same_close s t n b H m =
+same_close s t n b H closes =
+    let m = close_in_parts s n t closes in
     same_then s m.begun t b (same_begin s m.begun n b H m.begin)
     (same_then m.begun m.ended t b (same_seal m.begun m.ended m.group.tail b (begins s n m.begun m.begin H).heads m.end) (same_regrouped m.ended t _ b m.state))

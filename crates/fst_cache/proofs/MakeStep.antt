@@ -1,8 +1,7 @@
 -- A new change of a block in memory is one step, and the cache keeps what it keeps.
 use Rattle.std.proofs.Common.{◌≡◌, ◌+◌, ℕ, Bool, true, List, [], ◌∷◌, ◌++◌, Some, IsSome, is_some, refl, sym, ap, ◌∙◌, rules, length, slice_get, slice_set}
 use Rattle.fst_types.specs.declared.grade.Grade.{Grade}
-use Rattle.fst_types.specs.Patches.{Change}
-use Rattle.fst_types.specs.Making.{fresh, MakesChange}
+use Rattle.fst_types.specs.Making.{MakesChange}
 use Rattle.fst_types.specs.State.{State}
 use Rattle.fst_types.specs.Events.{MakeChange, MadeChange}
 use Rattle.fst_types.specs.Step.{Step, accepted, change}
@@ -20,14 +19,7 @@ use Rattle.fst_cache.proofs.MakeRefused.{none_refuses}
 pub change_row : (size resident tickets made : ℕ) (graph graph' : Known) (contents : List (ℕ × List ℕ)) (seats seats' : List SeatView) → blocks seats' ≡ blocks seats
     → (b at number : ℕ) (bytes names : List ℕ) (grade : Grade) → AddsChange graph b at (length bytes) names number grade graph'
     → MakesChange (state_of size resident tickets made graph contents seats) b at bytes names number grade (state_of size resident tickets (made + 1) graph' (contents ++ (number, bytes) ∷ []) seats')
-change_row size resident tickets made graph graph' contents seats seats' same_blocks b at number bytes names grade adds = record {
-  next = adds.next;
-  patch = fresh number (Change b at (length bytes) grade) adds.dependencies;
-  is = refl;
-  depends = adds.depends;
-  graded = adds.graded;
-  state = rw (adds.heads, adds.numbers, adds.groups, same_blocks) refl;
-}
+change_row size resident tickets made graph graph' contents seats seats' same_blocks b at number bytes names grade adds = record { row = adds.row; state = rw (adds.numbers, adds.groups, same_blocks) refl }
 
 module _ (size resident tickets made : ℕ) (graph graph' : Known) (contents : List (ℕ × List ℕ)) (seats : List SeatView) (K : IsKept (state_of size resident tickets made graph contents seats) graph seats)
     (b : ℕ) (seat : SeatView) (at_b : slice_get seats b ≡ Some seat) (view : BlockView) (there : seat.loaded ≡ Some view)
@@ -55,12 +47,12 @@ module _ (size resident tickets made : ℕ) (graph graph' : Known) (contents : L
   step_change faulted = accepted (none_refuses before share b at bytes may names faulted adds.clear) (change made_change)
 
   seat_changed : IsKeptSeat after_it b changed
-  seat_changed = seat_put before after_it (numbered before K.lawful) b at number bytes adds.dependencies grade adds.next adds.heads refl same_blocks seat (K.seat b seat at_b) view there
+  seat_changed = seat_put before after_it (numbered before K.lawful) b at number bytes adds.row.dependencies grade adds.row.next adds.row.added refl same_blocks seat (K.seat b seat at_b) view there
 
   pub kept_change : IsKept after_it graph' (slice_set seats b changed)
   kept_change =
       one_moved seats b seat at_b before after_it graph graph' K changed
       (step_keeps_lawful before after_it (MakeChange share b at bytes names true) (MadeChange number grade) K.lawful (step_change true)) refl refl adds.blocks
       (sym (ap (λ o. is_some o) there))
-      (λ j other. same_else before after_it (numbered before K.lawful) b at number bytes adds.dependencies grade adds.next adds.heads refl same_blocks j other)
+      (λ j other. same_else before after_it (numbered before K.lawful) b at number bytes adds.row.dependencies grade adds.row.next adds.row.added refl same_blocks j other)
       seat_changed

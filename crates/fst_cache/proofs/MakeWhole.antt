@@ -113,18 +113,7 @@ module _ (resident : ℕ) (old slice new : List SeatView) (b n : ℕ) (rest : Li
 
 -- what is prepared does not matter to what a change adds
 of_unprepared : (old : Known) (b at len : ℕ) (names : List ℕ) (number : ℕ) (grade : Grade) (new : Known) → AddsChange (unprepared old) b at len names number grade new → AddsChange old b at len names number grade new
-of_unprepared old b at len names number grade new a = record {
-  clear = a.clear;
-  next = a.next;
-  dependencies = a.dependencies;
-  depends = a.depends;
-  graded = a.graded;
-  heads = a.heads;
-  numbers = a.numbers;
-  groups = a.groups;
-  blocks = a.blocks;
-  prepared = a.prepared;
-}
+of_unprepared old b at len names number grade new a = record { clear = a.clear; row = a.row; numbers = a.numbers; groups = a.groups; blocks = a.blocks; prepared = a.prepared }
 
 -- the graph makes what it prepared
 pub adds_prepared : (old : Known) (b at len : ℕ) (names : List ℕ) (number : ℕ) (grade : Grade) (new : Known) (r : Result (PatchNo × Grade) Fault)

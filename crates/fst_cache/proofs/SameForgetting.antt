@@ -59,30 +59,30 @@ module _ (size resident tickets made dropped : ℕ) (graph graph' : Known) (cont
   kept_contents = filter (λ e. has_number kept_heads e.0) contents
 
   contents_are : contents' ≡ kept_contents
-  contents_are = left ∙ ap (λ (hs : List Patch). filter (λ (e : ℕ × List ℕ). has_number hs e.0) contents) f.heads
+  contents_are = left ∙ ap (λ (hs : List Patch). filter (λ (e : ℕ × List ℕ). has_number hs e.0) contents) f.row.kept
 
   same_block_patch : (p : Patch) → In kept_heads p → block_patch kept_contents p ≡ block_patch contents p
   same_block_patch p h = rw (content_kept (has_number kept_heads) contents p.number (has_in kept_heads p h)) refl
 
   patches_left : (j : ℕ) → map (block_patch contents') (filter (is_change_at place.Memory j) graph'.heads) ≡ map (block_patch contents) (filter (is_change_at place.Memory j) graph.heads)
   patches_left j =
-      rw (contents_are, f.heads) (
+      rw (contents_are, f.row.kept) (
       map_same (block_patch kept_contents) (block_patch contents) (filter (is_change_at place.Memory j) kept_heads) (λ p h. same_block_patch p (filter_in (is_change_at place.Memory j) kept_heads p h).0)
       ∙ ap (map (block_patch contents)) (filter_twice (is_change_at place.Memory j) is_live graph.heads (λ p e. memory_lives p.place (change_at place.Memory j p e).1)))
 
   flying_left : (j : ℕ) → map (λ (p : Patch). p.number) (filter (is_change_at place.Flight j) graph'.heads) ≡ map (λ (p : Patch). p.number) (filter (is_change_at place.Flight j) graph.heads)
-  flying_left j = rw f.heads (ap (map (λ (p : Patch). p.number)) (filter_twice (is_change_at place.Flight j) is_live graph.heads (λ p e. flight_lives p.place (change_at place.Flight j p e).1)))
+  flying_left j = rw f.row.kept (ap (map (λ (p : Patch). p.number)) (filter_twice (is_change_at place.Flight j) is_live graph.heads (λ p e. flight_lives p.place (change_at place.Flight j p e).1)))
 
   same_left : (j : ℕ) → IsSameAt before after_it j
   same_left j = record {
     block = refl;
     patches = patches_left j;
     flying = flying_left j;
-    dirty = λ e. any_kept (lives_on j) is_live graph.heads (ap (λ (hs : List Patch). is_dirty hs j) (sym f.heads) ∙ e);
+    dirty = λ e. any_kept (lives_on j) is_live graph.heads (ap (λ (hs : List Patch). is_dirty hs j) (sym f.row.kept) ∙ e);
   }
 
   pub step_forget : Step before Forget (Forgot dropped) after_it
-  step_forget = accepted tt (forget (record { counted = f.counted; state = rw (contents_are, f.heads, f.numbers, f.groups) refl }))
+  step_forget = accepted tt (forget (record { row = f.row; state = rw (left, f.numbers, f.groups) refl }))
 
   pub kept_forget : IsKept after_it graph' seats
   kept_forget = all_moved before after_it graph graph' seats K (step_keeps_lawful before after_it Forget (Forgot dropped) K.lawful step_forget) refl refl f.blocks same_left

@@ -16,7 +16,7 @@ use Rattle.fst_cache.proofs.SameAdding.{same_added}
 
 pub gate_row : (size resident tickets made : ℕ) (graph graph' : Known) (contents : List (ℕ × List ℕ)) (seats : List SeatView) (number : ℕ) → AddsGate graph number graph'
     → MakesGate (state_of size resident tickets made graph contents seats) number (state_of size resident tickets (made + 1) graph' contents seats)
-gate_row size resident tickets made graph graph' contents seats number a = record { next = a.next; state = rw (a.heads, a.numbers, a.groups) refl }
+gate_row size resident tickets made graph graph' contents seats number a = record { row = a.row; state = rw (a.numbers, a.groups) refl }
 
 module _ (size resident tickets made : ℕ) (graph graph' : Known) (contents : List (ℕ × List ℕ)) (seats : List SeatView) (K : IsKept (state_of size resident tickets made graph contents seats) graph seats)
     (share number : ℕ) (free : max_share ≤ share → ⊥) where
@@ -27,19 +27,12 @@ module _ (size resident tickets made : ℕ) (graph graph' : Known) (contents : L
   after_it = state_of size resident tickets (made + 1) graph' contents seats
 
   pub step_empty : (names : List ℕ) → AddsEmpty graph names number graph' → Step before (MakeEmpty share names) (Made number) after_it
-  step_empty names a = accepted (free, a.clear) (empty (record {
-    next = a.next;
-    dependencies = a.dependencies;
-    depends = a.depends;
-    heads = graph'.heads;
-    cascade = a.cascade;
-    state = rw (a.numbers, a.groups) refl;
-  }))
+  step_empty names a = accepted (free, a.clear) (empty (record { row = a.row; state = rw (a.numbers, a.groups) refl }))
 
   pub kept_empty : (names : List ℕ) → AddsEmpty graph names number graph' → IsKept after_it graph' seats
   kept_empty names a =
       all_moved before after_it graph graph' seats K (step_keeps_lawful before after_it (MakeEmpty share names) (Made number) K.lawful (step_empty names a)) refl refl a.blocks
-      (λ j. same_added before after_it j (fresh number Empty a.dependencies) refl a.cascade.same refl refl)
+      (λ j. same_added before after_it j (fresh number Empty a.row.dependencies) refl a.row.cascade.same refl refl)
 
   pub step_gate : AddsGate graph number graph' → Step before (MakeGate share) (Made number) after_it
   step_gate a = accepted (free, a.clear) (gate (gate_row size resident tickets made graph graph' contents seats number a))
@@ -47,4 +40,4 @@ module _ (size resident tickets made : ℕ) (graph graph' : Known) (contents : L
   pub kept_gate : AddsGate graph number graph' → IsKept after_it graph' seats
   kept_gate a =
       all_moved before after_it graph graph' seats K (step_keeps_lawful before after_it (MakeGate share) (Made number) K.lawful (step_gate a)) refl refl a.blocks
-      (λ j. same_added before after_it j (fresh number OpenGate []) refl (ap (map unsettled) a.heads) refl refl)
+      (λ j. same_added before after_it j (fresh number OpenGate []) refl (ap (map unsettled) a.row.added) refl refl)

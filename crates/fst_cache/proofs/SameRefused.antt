@@ -2,7 +2,7 @@
 use Rattle.std.proofs.Common.{◌≡◌, ℕ, List, ◌∷◌, ap, inl, inr}
 use Rattle.std.specs.Prelude.{Result, Ok, Err, OnOk, OnErr, IfErr, MatchResult}
 use Rattle.fst_types.specs.declared.fault.Fault.{Fault}
-use Rattle.fst_types.specs.Refusals.{Rule, rule}
+use Rattle.fst_types.specs.Refusals.{Rule, ◌when◌}
 use Rattle.fst_types.specs.Events.{Event, Refused}
 use Rattle.fst_types.specs.Order.{IsRefusal}
 use Rattle.fst_types.specs.Step.{Step, refused}
@@ -11,7 +11,7 @@ use Rattle.fst_cache.specs.Seats.{SeatView}
 use Rattle.fst_cache.specs.Kept.{IsKept, state_of}
 
 -- a rule before the others does not hold
-pub refuses_past : (f x : Fault) (P : Type 0) (rules : List Rule) → (P → ⊥) → Refuses rules f → Refuses (rule x P ∷ rules) f
+pub refuses_past : (f x : Fault) (P : Type 0) (rules : List Rule) → (P → ⊥) → Refuses rules f → Refuses (x when P ∷ rules) f
 refuses_past f x P rules free (inl first) = inl (inr (free, first))
 refuses_past f x P rules free (inr none) = inr ((free, none.0), none.1)
 

@@ -137,7 +137,7 @@ module _ (s : State) (law : IsLawful s) (b : ℕ) (names : List PatchNo) (choice
         ]
 
     pub writable : IsWritable s.heads b
-    writable = record { landed = none_flies; some = ready; hard = hard_in_set }
+    writable = record { none_flies = none_flies; some = ready; hard = hard_in_set }
 
     known : All (λ n. Contains (map (λ (q : BlockPatch). q.number) (block_patches s b)) n) (numbers_of names)
     known = λ i d lt.

@@ -90,6 +90,7 @@ module _ (s : State) (graph : Known) (seats : List SeatView) (b : ℕ) (seat : S
         chosen = numbers_of names;
         choice = S.choice;
         folded = folded;
+        row = refl;
         state = refl;
       }))
 
@@ -214,4 +215,4 @@ pub state_sent : (size resident tickets made : ℕ) (graph : Known) (contents : 
     → let s = state_of size resident tickets made graph contents seats in
     state_of size resident (tickets + 1) made graph' contents (slice_set seats b (sent s graph seats b seat names S image folded)) ≡ after s graph seats b seat names S image folded
 state_sent size resident tickets made graph contents seats b seat names S image folded graph' L =
-    rw (L.heads, L.numbers, L.groups, map-set, block_is (state_of size resident tickets made graph contents seats) graph seats b seat names S) refl
+    rw (L.row, L.numbers, L.groups, map-set, block_is (state_of size resident tickets made graph contents seats) graph seats b seat names S) refl

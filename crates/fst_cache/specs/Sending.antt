@@ -5,9 +5,9 @@ use Rattle.fst_types.specs.declared.fault.What.TheVariants as what
 use Rattle.fst_types.specs.Limits.{max_ticket, max_flights}
 use Rattle.fst_types.specs.State.{State}
 use Rattle.fst_types.specs.Counts.{flights}
-use Rattle.fst_types.specs.Refusals.{Rule, rule}
+use Rattle.fst_types.specs.Refusals.{Rule, ◌when◌}
 use Rattle.fst_types.specs.Order.{held_rule}
 
 -- a hard patch of block b is held, or no place or no ticket is left for a flight
 abbrev pub sending_order : State → ℕ → List Rule
-sending_order s b = held_rule s.heads b ∷ rule (fault.Full what.Flights) (max_flights ≤ flights s) ∷ rule (fault.Full what.Tickets) (max_ticket ≤ s.tickets) ∷ []
+sending_order s b = held_rule s.heads b ∷ fault.Full what.Flights when (max_flights ≤ flights s) ∷ fault.Full what.Tickets when (max_ticket ≤ s.tickets) ∷ []

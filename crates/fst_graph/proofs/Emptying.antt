@@ -11,14 +11,11 @@ use Rattle.fst_types.specs.Dependencies.{IsLiveNumber, IsOnDisk}
 use Rattle.fst_types.specs.Cascade.{Follows, RestsOnDisk, IsCascadeOf, unsettled}
 use Rattle.fst_types.specs.Facts.{HeadsAreLawful}
 use Rattle.fst_types.specs.Making.{fresh}
-use Rattle.fst_types.specs.State.{State}
-use Rattle.fst_types.specs.Step.{empty}
-use Rattle.fst_types.specs.Events.{MakeEmpty}
-use Rattle.fst_types.proofs.Heads.{heads_row}
+use Rattle.fst_types.proofs.Heads.{heads_emptied}
 use Rattle.fst_types.proofs.Cascades.{no_follower_on}
 use Rattle.fst_graph.specs.Known.{rest_place}
 use Rattle.fst_heads.specs.Keeps.{Keeps}
-use Rattle.fst_heads.proofs.Making.{around, keeps_added}
+use Rattle.fst_heads.proofs.Making.{keeps_added}
 
 not_flight : (p : Place) → (p ≡ place.Flight → ⊥) → (p ≡ place.Memory) ⊎ (p ≡ place.Disk)
 not_flight place.Memory h = inl refl
@@ -87,10 +84,7 @@ module _ (heads : List Patch) (numbers blocks : ℕ) (marks : List Bool) (K : Ke
   }
 
   empty_lawful : HeadsAreLawful new (numbers + 1)
-  empty_lawful =
-      let old = around heads numbers in
-      let after_state : State = record old { numbers = numbers + 1; made = 1; heads = new } in
-      heads_row old after_state (MakeEmpty 0 after) _ (empty (record { next = refl; dependencies = deps; depends = depends; heads = new; cascade = empty_cascade; state = refl })) K.lawful
+  empty_lawful = heads_emptied heads new numbers after (numbers + 1) (record { next = refl; dependencies = deps; depends = depends; cascade = empty_cascade }) K.lawful
 
   none_on : (b : ℕ) → IsOn p b → ⊥
   none_on b on = cc

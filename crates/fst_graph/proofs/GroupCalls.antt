@@ -2,15 +2,17 @@
 use Rattle.std.proofs.Common.{◌≡◌, ◌+◌, ◌<◌, ◌≤◌, ℕ, true, false, List, [], ◌∷◌, ◌++◌, length, get_or, All, Contains, Option, Some, None, refl, sym, ap, subst, ◌∙◌, inl, inr, arith}
 use Rattle.std.specs.Prelude.{IfSome, IfNone}
 use Rattle.std.proofs.lemmas.Bool.{cases_Bool}
+use Rattle.std.proofs.lemmas.List.{length-replicate}
 use Rattle.fst_types.specs.declared.fault.Fault.{Fault}
 use Rattle.fst_types.specs.Limits.{max_groups}
 use Rattle.fst_types.specs.Patches.{Patch}
 use Rattle.fst_types.specs.Dependencies.{DependsOn}
 use Rattle.fst_types.specs.Gates.{IsOpenNumber}
-use Rattle.fst_types.specs.Groups.{Group, IsGroup, IsGroupNumber, with_group}
+use Rattle.fst_types.specs.Groups.{Group, IsGroup, IsGroupNumber}
 use Rattle.fst_types.specs.declared.grade.Grade.{Grade}
 use Rattle.fst_types.specs.Facts.{IsTied}
-use Rattle.fst_types.specs.Grouping.{new_group, MakesGroup, MakesMember, PutsAfter as PutsStateAfter, ClosesGroup as ClosesStateGroup, SealsIfOpen as SealsStateIfOpen}
+use Rattle.fst_types.specs.Gating.{GateGains, GateIsSealed}
+use Rattle.fst_types.specs.Grouping.{GroupIsPutAfter, MemberIsMade, GroupIsClosed, with_new, put_after, with_member, with_closed, MakesGroup, MakesMember, PutsAfter as PutsStateAfter, ClosesGroup as ClosesStateGroup}
 use Rattle.fst_types.specs.Events.{Event, Reply, GroupNew, GroupAfter, GroupPatch, GroupClose}
 use Rattle.fst_types.specs.Step.{Row, group, group_new, group_after, group_patch, group_close}
 use Rattle.fst_types.specs.Refusals.{Rule, IsFirst, NoneHolds}
@@ -20,11 +22,12 @@ use Rattle.fst_types.proofs.Finite.{In-from_Contains}
 use Rattle.fst_types.proofs.GroupsClear.{close_clear}
 use Rattle.fst_types.proofs.GroupsKept.{Spares, groups_row}
 use Rattle.fst_types.proofs.Heads.{heads_row}
+use Rattle.fst_types.proofs.Parts.{SealsIfOpen as SealsStateIfOpen, seals_if_open}
 use Rattle.fst_graph.specs.Grouping.{unstarted_order, AddsPair, AddsGroup, PutsAfter, AddsMember, ForeseesMember, ClosesGroup, SealsIfOpen}
 use Rattle.fst_graph.specs.Membering.{ArePaired, GainsMember, Foretells, member_order}
 use Rattle.fst_graph.specs.Whole.{IsGrouped, IsUnclosed}
-use Rattle.fst_graph.specs.Known.{Known, Prepared, unprepared, with_groups, Refuses, AddsGate, SealsGate, DependsGate}
-use Rattle.fst_graph.proofs.Grouped.{state_at, some_bytes, makes_gate, makes_change, beside_change, seals_gate, depends_gate, beside_depend}
+use Rattle.fst_graph.specs.Known.{Known, Prepared, unprepared, with_groups, Refuses, DependsGate}
+use Rattle.fst_graph.proofs.Grouped.{state_at, some_bytes}
 use Rattle.fst_heads.proofs.Slots.{any_default}
 use Rattle.fst_graph.proofs.SealedIf.{open_not_sealed}
 
@@ -51,18 +54,9 @@ first_unstarted heads gs n m f first = elim first [
   | inr a ↦ inr (a.0, elim a.1 [ inl b ↦ inl b | inr b ↦ inr (b.0, elim b.1 [ inl c ↦ inl c | inr c ↦ absurd c.1 ]) ])
 ]
 
-module _ (p q : Known) (gs : List Group) where
-  beside_gate : (n : ℕ) → AddsGate p n q → AddsGate (with_groups p gs) n (with_groups q gs)
-  beside_gate n a = record { clear = a.clear; next = a.next; heads = a.heads; numbers = a.numbers; blocks = a.blocks; groups = refl; prepared = a.prepared }
-
-  beside_seal : (g : ℕ) → SealsGate p g q → SealsGate (with_groups p gs) g (with_groups q gs)
-  beside_seal g a = record { clear = a.clear; is_open = a.is_open; cascade = a.cascade; numbers = a.numbers; blocks = a.blocks; groups = refl; prepared = a.prepared }
-
-  beside_if : (g : ℕ) → SealsIfOpen p g q → SealsIfOpen (with_groups p gs) g (with_groups q gs)
-  beside_if g s = elim s [ inl a ↦ inl (beside_seal g a) | inr same ↦ inr (same.0, ap (λ k. with_groups k gs) same.1) ]
-
-  state_if : (g : ℕ) → SealsIfOpen p g q → SealsStateIfOpen (state_at p gs 0 []) g (state_at q gs 0 [])
-  state_if g s = elim s [ inl a ↦ inl (seals_gate p q gs g 0 [] a) | inr same ↦ inr (same.0, ap (λ k. state_at k gs 0 []) same.1) ]
+-- a head that is sealed if it is open, beside groups
+begun_if : (p q : Known) (gs : List Group) (g : ℕ) → SealsIfOpen p g q → SealsStateIfOpen (state_at p gs 0 []) g (state_at q gs 0 [])
+begun_if p q gs g s = subst (λ n. SealsStateIfOpen (state_at p gs 0 []) g (record (state_at q gs 0 []) { numbers = n })) (ap (λ k. k.numbers) (sym s.state)) (seals_if_open (state_at p gs 0 []) g q.heads s.row)
 
 module _ (p q : Known) (gs : List Group) (G : IsGrouped p gs) where
   -- what a row of a group makes
@@ -82,37 +76,20 @@ module _ (p q : Known) (gs : List Group) (G : IsGrouped p gs) where
 
   -- a new group
   module _ (n : ℕ) (a : AddsPair p n q) (few : max_groups ≤ length gs → ⊥) where
-    pub adds_group : AddsGroup (with_groups p gs) n (with_groups q (gs ++ new_group n ∷ []))
-    adds_group = record {
-      clear = (few, a.clear);
-      with_head = with_groups a.with_head gs;
-      head = beside_gate p a.with_head gs n a.head;
-      with_tail = with_groups a.with_tail gs;
-      tail = beside_gate a.with_head a.with_tail gs (n + 1) a.tail;
-      tied = with_groups q gs;
-      tie = beside_depend a.with_tail q gs (n + 1) (n ∷ []) a.tie;
-      state = refl;
-    }
+    pub adds_group : AddsGroup (with_groups p gs) n (with_groups q (with_new gs n))
+    adds_group = record { clear = (few, a.clear); row = a.row; state = ap (λ k. with_groups k (with_new gs n)) a.state }
 
-    pub grouped_new : IsGrouped q (gs ++ new_group n ∷ [])
+    pub grouped_new : IsGrouped q (with_new gs n)
     grouped_new =
-        let made : MakesGroup (state_at p gs 0 []) n (state_at q (gs ++ new_group n ∷ []) 2 []) = record {
-          with_head = state_at a.with_head gs 1 [];
-          head = makes_gate p a.with_head gs n 0 [] a.head;
-          with_tail = state_at a.with_tail gs 2 [];
-          tail = makes_gate a.with_head a.with_tail gs (n + 1) 1 [] a.tail;
-          tied = state_at q gs 2 [];
-          tie = depends_gate a.with_tail q gs (n + 1) 2 [] (n ∷ []) a.tie;
-          state = refl;
-        } in
-        by_group (gs ++ new_group n ∷ []) 2 [] (GroupNew 0) _ a.tie.prepared few (group (group_new made))
+        let made : MakesGroup (state_at p gs 0 []) n (state_at q (with_new gs n) 2 []) = record { row = a.row; state = ap (λ k. state_at k (with_new gs n) 2 []) a.state } in
+        by_group (with_new gs n) 2 [] (GroupNew 0) _ (ap (λ k. k.prepared) a.state) few (group (group_new made))
 
     -- its number is past all tails, and there is one more
     pub past_tails : All (λ g. g.tail < n) gs
-    past_tails k d lt = let small = (G.grouped.each (get_or gs k d) (k, lt, any_default gs k (get_or gs k d) d lt)).given.1 in let next = a.head.next in omega (arith, small, next)
+    past_tails k d lt = let small = (G.grouped.each (get_or gs k d) (k, lt, any_default gs k (get_or gs k d) d lt)).given.1 in let next = a.row.head.next in omega (arith, small, next)
 
     pub not_last : n < 4294967295
-    not_last = let room = a.clear.1.0 in let next = a.head.next in omega (arith, room, next)
+    not_last = let room = a.clear.1.0 in let next = a.row.head.next in omega (arith, room, next)
 
   -- a group that is put after another
   module _ (n m : ℕ) (u : NoneHolds (unstarted_order gs n m)) (found : IsGroupNumber gs n) (other : IsGroupNumber gs m) where
@@ -122,27 +99,21 @@ module _ (p q : Known) (gs : List Group) (G : IsGrouped p gs) where
         let unclosed : g.closed ≡ false = elim (cases_Bool g.closed) [ inl e ↦ absurd (u.1.0 (g, found.1, e)) | inr e ↦ e ] in
         subst (IsOpenNumber p.heads) found.1.1 ((G.grouped.each g found.1.0).head_open.1 (record { empty = empty_or_not g.members (λ x. u.1.1.0 (g, found.1, x.0, x.1)); unclosed = unclosed }))
 
-    pub puts_after : DependsGate p n ((m + 1) ∷ []) q → PutsAfter (with_groups p gs) n m (with_groups q (with_group gs n (λ g. record g { after = g.after ++ m ∷ [] })))
+    -- what the gate gains is the row
+    puts_row : DependsGate p n ((m + 1) ∷ []) q → GroupIsPutAfter p.heads gs n m q.heads
+    puts_row d = record { before = other.0; named = other.1; tie = subst (λ t. GateGains p.heads n (t ∷ []) q.heads) (sym (tail_is m other.0 other.1)) d.row }
+
+    pub puts_after : DependsGate p n ((m + 1) ∷ []) q → PutsAfter (with_groups p gs) n m (with_groups q (put_after gs n m))
     puts_after d = record {
-      clear = (u.0, (u.1.0, (u.1.1.0, (λ r. d.clear.1.1.1.1.1.0 (m + 1, (0, omega arith, refl), inr (subst (λ t. DependsOn p.heads t n) (tail_is m r.0 r.1) r.2)), tt))));
-      before = other.0;
-      named = other.1;
-      tied = with_groups q gs;
-      tie = subst (λ t. DependsGate (with_groups p gs) n (t ∷ []) (with_groups q gs)) (sym (tail_is m other.0 other.1)) (beside_depend p q gs n ((m + 1) ∷ []) d);
-      state = refl;
+      clear = (u.0, (u.1.0, (u.1.1.0, (λ r. d.row.clear (m + 1, (0, omega arith, refl), inr (subst (λ t. DependsOn p.heads t n) (tail_is m r.0 r.1) r.2)), tt))));
+      row = puts_row d;
+      state = rw (d.numbers, d.blocks, d.prepared) refl;
     }
 
-    pub grouped_after : DependsGate p n ((m + 1) ∷ []) q → IsGrouped q (with_group gs n (λ g. record g { after = g.after ++ m ∷ [] }))
+    pub grouped_after : DependsGate p n ((m + 1) ∷ []) q → IsGrouped q (put_after gs n m)
     grouped_after d =
-        let now = with_group gs n (λ g. record g { after = g.after ++ m ∷ [] }) in
-        let put : PutsStateAfter (state_at p gs 0 []) n m (state_at q now 0 []) = record {
-          before = other.0;
-          named = other.1;
-          tied = state_at q gs 0 [];
-          tie = depends_gate p q gs n 0 [] (other.0.tail ∷ []) (subst (λ t. DependsGate p n (t ∷ []) q) (sym (tail_is m other.0 other.1)) d);
-          state = refl;
-        } in
-        by_group now 0 [] (GroupAfter n m) _ d.prepared tt (group (group_after put))
+        let put : PutsStateAfter (state_at p gs 0 []) n m (state_at q (put_after gs n m) 0 []) = record { row = puts_row d; state = rw d.numbers refl } in
+        by_group (put_after gs n m) 0 [] (GroupAfter n m) _ d.prepared tt (group (group_after put))
 
     -- a cycle is all that can be refused past the first rules
     cycle_first : (f : Fault) → IsFirst (depend_order p.heads p.numbers n ((m + 1) ∷ [])) f → IsFirst (group_after_order p.heads gs n m) f
@@ -233,53 +204,37 @@ module _ (p : Known) (gs : List Group) (G : IsGrouped p gs) (n : ℕ) (u : IsUnc
   -- what the patches foretell holds of the group's change too
   pub foretold : (b at len number : ℕ) (grade : Grade) → Foretells (unprepared p) n (n + 1) b at len number grade → ForeseesMember (unprepared (with_groups p gs)) n b at len number grade
   foretold b at len number grade tells k g new a =
-      let gains : GainsMember (unprepared p) n (n + 1) b at len k g (with_groups a.tied p.groups) = record {
-        clear = clear_member p.heads p.numbers gs n b at len a.group a.named (tail_after a.group a.named) a.clear;
-        begun = with_groups a.begun p.groups;
-        begin = beside_if (unprepared (with_groups p gs)) a.begun p.groups n a.begin;
-        with_change = with_groups a.with_change p.groups;
-        change = beside_change a.begun a.with_change p.groups b at len k (n ∷ []) g a.change;
-        tie = subst (λ t. DependsGate (with_groups a.with_change p.groups) t (k ∷ []) (with_groups a.tied p.groups)) (tail_after a.group a.named) (beside_depend a.with_change a.tied p.groups a.group.tail (k ∷ []) a.tie);
-      } in
-      tells k g (with_groups a.tied p.groups) gains
+      let same = tail_after a.group a.named in
+      tells k g (record p { heads = new.heads; numbers = k; prepared = None }) (record {
+        clear = clear_member p.heads p.numbers gs n b at len a.group a.named same a.clear;
+        row = subst (λ t. MemberIsMade p.heads p.numbers n t b at len k g new.heads) same a.row;
+        state = refl;
+      })
 
   module _ (q : Known) (b at len number : ℕ) (grade : Grade) (m : GainsMember (unprepared p) n (n + 1) b at len number grade q) where
-    abbrev pub joined_groups : List Group
-    joined_groups = with_group gs n (λ g. record g { members = g.members ++ number ∷ [] })
+    -- the row, by the group's own tail
+    member_row : MemberIsMade p.heads p.numbers n u.found.0.tail b at len number grade q.heads
+    member_row = subst (λ t. MemberIsMade p.heads p.numbers n t b at len number grade q.heads) (sym (tail_after u.found.0 u.found.1)) m.row
 
-    tied_tail : DependsGate m.with_change u.found.0.tail (number ∷ []) q
-    tied_tail = subst (λ t. DependsGate m.with_change t (number ∷ []) q) (sym (tail_after u.found.0 u.found.1)) m.tie
-
-    pub adds_member : AddsMember (unprepared (with_groups p gs)) n b at len number grade (with_groups q joined_groups)
+    pub adds_member : AddsMember (unprepared (with_groups p gs)) n b at len number grade (with_groups q (with_member gs n number))
     adds_member = record {
       clear = member_clear p.heads p.numbers gs n b at len tail_after u.clear m.clear;
       group = u.found.0;
       named = u.found.1;
-      begun = with_groups m.begun gs;
-      begin = beside_if (unprepared p) m.begun gs n m.begin;
-      with_change = with_groups m.with_change gs;
-      change = beside_change m.begun m.with_change gs b at len number (n ∷ []) grade m.change;
-      tied = with_groups q gs;
-      tie = beside_depend m.with_change q gs u.found.0.tail (number ∷ []) tied_tail;
-      state = refl;
+      row = member_row;
+      state = ap (λ k. with_groups k (with_member gs n number)) m.state;
     }
 
-    pub grouped_member : IsGrouped q joined_groups
+    pub grouped_member : IsGrouped q (with_member gs n number)
     grouped_member =
-        let bytes = some_bytes len in
-        let contents = (number, bytes) ∷ [] in
-        let made : MakesMember (state_at p gs 0 []) n b at bytes number grade (state_at q joined_groups 1 contents) = record {
+        let contents = (number, some_bytes len) ∷ [] in
+        let made : MakesMember (state_at p gs 0 []) n b at (some_bytes len) number grade (state_at q (with_member gs n number) 1 contents) = record {
           group = u.found.0;
           named = u.found.1;
-          begun = state_at m.begun gs 0 [];
-          begin = state_if (unprepared p) m.begun gs n m.begin;
-          with_change = state_at m.with_change gs 1 contents;
-          change = makes_change m.begun m.with_change gs b at len number 0 [] (n ∷ []) grade m.change;
-          tied = state_at q gs 1 contents;
-          tie = depends_gate m.with_change q gs u.found.0.tail 1 contents (number ∷ []) tied_tail;
-          state = refl;
+          row = subst (λ k. MemberIsMade p.heads p.numbers n u.found.0.tail b at k number grade q.heads) (sym (length-replicate len 0)) member_row;
+          state = ap (λ k. state_at k (with_member gs n number) 1 contents) m.state;
         } in
-        by_group p q gs G joined_groups 1 contents (GroupPatch 0 n b at bytes false) _ m.tie.prepared tt (group (group_patch made))
+        by_group p q gs G (with_member gs n number) 1 contents (GroupPatch 0 n b at (some_bytes len) false) _ (ap (λ k. k.prepared) m.state) tt (group (group_patch made))
 
 -- the change that is prepared for a group is put down
 module _ (p q : Known) (gs : List Group) (G : IsGrouped p gs) (n number : ℕ) (grade : Grade) (ready : (x : Prepared) × (p.prepared ≡ Some x) × (x.group ≡ Some n))
@@ -290,10 +245,10 @@ module _ (p q : Known) (gs : List Group) (G : IsGrouped p gs) (n number : ℕ) (
   gained : GainsMember (unprepared p) n (n + 1) ready.0.block ready.0.at ready.0.len number grade q
   gained = subst (λ o. IfSome o (λ x. GainsMember (unprepared p) n (n + 1) x.block x.at x.len number grade q)) ready.1 gains
 
-  pub put_grouped : IsGrouped q (with_group gs n (λ g. record g { members = g.members ++ number ∷ [] }))
+  pub put_grouped : IsGrouped q (with_member gs n number)
   put_grouped = grouped_member p gs G n open_group q ready.0.block ready.0.at ready.0.len number grade gained
 
-  pub put_adds : IfSome p.prepared (λ x. AddsMember (unprepared (with_groups p gs)) n x.block x.at x.len number grade (with_groups q (with_group gs n (λ g. record g { members = g.members ++ number ∷ [] }))))
+  pub put_adds : IfSome p.prepared (λ x. AddsMember (unprepared (with_groups p gs)) n x.block x.at x.len number grade (with_groups q (with_member gs n number)))
   put_adds = rw ready.1 (adds_member p gs G n open_group q ready.0.block ready.0.at ready.0.len number grade gained)
 
 -- a group that is closed
@@ -301,37 +256,29 @@ module _ (p r q : Known) (gs : List Group) (G : IsGrouped p gs) (n : ℕ) (none 
   tail_next : found.0.tail ≡ n + 1
   tail_next = tail_is p r gs G n found.0 found.1
 
-  tail_sealed : SealsGate r found.0.tail q
+  tail_sealed : GateIsSealed r.heads found.0.tail q.heads
   tail_sealed =
-      elim end [
-        | inl a ↦ subst (λ t. SealsGate r t q) (sym tail_next) a
-        | inr same ↦ absurd (same.0 (subst (IsOpenNumber r.heads) tail_next (close_clear (state_at p gs 0 []) G.lawful G.grouped n found.0 (state_at r gs 0 []) found.1 (state_if p r gs n begin) none)))
+      elim end.row [
+        | inl a ↦ subst (λ t. GateIsSealed r.heads t q.heads) (sym tail_next) a
+        | inr same ↦ absurd (same.0 (subst (IsOpenNumber r.heads) tail_next (close_clear (state_at p gs 0 []) G.lawful G.grouped n found.0 (state_at r gs 0 []) found.1 (begun_if p r gs n begin) none)))
       ]
 
-  abbrev pub closed_groups : List Group
-  closed_groups = with_group gs n (λ g. record g { closed = true })
+  closed_row : GroupIsClosed p.heads n found.0.tail q.heads
+  closed_row = record { begun = r.heads; begin = begin.row; end = tail_sealed }
 
-  pub closes_group : ClosesGroup (with_groups p gs) n (with_groups q closed_groups)
-  closes_group = record {
-    clear = none;
-    group = found.0;
-    named = found.1;
-    begun = with_groups r gs;
-    begin = beside_if p r gs n begin;
-    ended = with_groups q gs;
-    end = beside_seal r q gs found.0.tail tail_sealed;
-    state = refl;
-  }
+  -- the patches but for the heads stay
+  still : q ≡ record p { heads = q.heads; prepared = None }
+  still = end.state ∙ ap (λ (k : Known). record k { heads = q.heads; prepared = None }) begin.state
 
-  pub grouped_close : IsGrouped q closed_groups
+  pub closes_group : ClosesGroup (with_groups p gs) n (with_groups q (with_closed gs n))
+  closes_group = record { clear = none; group = found.0; named = found.1; row = closed_row; state = ap (λ k. with_groups k (with_closed gs n)) still }
+
+  pub grouped_close : IsGrouped q (with_closed gs n)
   grouped_close =
-      let closes : ClosesStateGroup (state_at p gs 0 []) n (state_at q closed_groups 0 []) = record {
+      let closes : ClosesStateGroup (state_at p gs 0 []) n (state_at q (with_closed gs n) 0 []) = record {
         group = found.0;
         named = found.1;
-        begun = state_at r gs 0 [];
-        begin = state_if p r gs n begin;
-        ended = state_at q gs 0 [];
-        end = seals_gate r q gs found.0.tail 0 [] tail_sealed;
-        state = refl;
+        row = closed_row;
+        state = ap (λ k. state_at k (with_closed gs n) 0 []) still;
       } in
-      by_group p q gs G closed_groups 0 [] (GroupClose n) _ tail_sealed.prepared tt (group (group_close closes))
+      by_group p q gs G (with_closed gs n) 0 [] (GroupClose n) _ (ap (λ k. k.prepared) still) tt (group (group_close closes))

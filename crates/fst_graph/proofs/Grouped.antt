@@ -4,15 +4,14 @@ use Rattle.std.specs.Prelude.{IfOk, IfErr, IfSome, OnErr}
 use Rattle.std.proofs.lemmas.List.{length-replicate}
 use Rattle.fst_types.specs.declared.fault.Fault.{Fault}
 use Rattle.fst_types.specs.declared.grade.Grade.{Grade}
-use Rattle.fst_types.specs.Patches.{Change}
 use Rattle.fst_types.specs.Groups.{Group, IsGroupGate}
 use Rattle.fst_types.specs.State.{State}
 use Rattle.fst_types.specs.declared.fault.Fault.TheVariants as fault
-use Rattle.fst_types.specs.Refusals.{Rule, rule}
+use Rattle.fst_types.specs.Refusals.{Rule, ◌when◌}
 use Rattle.fst_types.specs.Facts.{HeadsAreLawful}
 use Rattle.fst_types.specs.Events.{Event, Reply, MakeChange, MakeEmpty, MakeGate, Depend, Seal, Forget}
 use Rattle.fst_types.specs.Step.{Row, change, empty, gate, depend, seal, forget}
-use Rattle.fst_types.specs.Making.{fresh, MakesChange, MakesEmpty, MakesGate}
+use Rattle.fst_types.specs.Making.{ChangeIsMade, MakesChange, MakesEmpty, MakesGate}
 use Rattle.fst_types.specs.Gating.{Depends, Seals}
 use Rattle.fst_types.specs.Forgetting.{Forgets as ForgetsHeads}
 use Rattle.fst_types.specs.Writing.{landed}
@@ -29,40 +28,29 @@ use Rattle.fst_graph.specs.Known.{Known, Prepared, unprepared, with_groups, outs
 abbrev pub state_at : Known → List Group → ℕ → List (ℕ × List ℕ) → State
 state_at k gs made contents = record { size = 0; resident = 0; numbers = k.numbers; tickets = 0; made = made; heads = k.heads; contents = contents; blocks = []; groups = gs }
 
-pub makes_gate : (p q : Known) (gs : List Group) (n made : ℕ) (contents : List (ℕ × List ℕ)) → AddsGate p n q → MakesGate (state_at p gs made contents) n (state_at q gs (made + 1) contents)
-makes_gate p q gs n made contents a = record { next = a.next; state = rw (a.heads, a.numbers) refl }
+-- what the patches gain is a row of such a state
+makes_gate : (p q : Known) (gs : List Group) (n : ℕ) → AddsGate p n q → MakesGate (state_at p gs 0 []) n (state_at q gs 1 [])
+makes_gate p q gs n a = record { row = a.row; state = rw a.numbers refl }
 
-pub makes_empty : (p q : Known) (gs : List Group) (n made : ℕ) (contents : List (ℕ × List ℕ)) (after : List ℕ) → AddsEmpty p after n q → MakesEmpty (state_at p gs made contents) after n (state_at q gs (made + 1) contents)
-makes_empty p q gs n made contents after a = record { next = a.next; dependencies = a.dependencies; depends = a.depends; heads = q.heads; cascade = a.cascade; state = rw a.numbers refl }
+makes_empty : (p q : Known) (gs : List Group) (n : ℕ) (after : List ℕ) → AddsEmpty p after n q → MakesEmpty (state_at p gs 0 []) after n (state_at q gs 1 [])
+makes_empty p q gs n after a = record { row = a.row; state = rw a.numbers refl }
 
-pub seals_gate : (p q : Known) (gs : List Group) (g made : ℕ) (contents : List (ℕ × List ℕ)) → SealsGate p g q → Seals (state_at p gs made contents) g (state_at q gs made contents)
-seals_gate p q gs g made contents a = record { gate = a.is_open; heads = q.heads; cascade = a.cascade; state = rw a.numbers refl }
+seals_gate : (p q : Known) (gs : List Group) (g : ℕ) → SealsGate p g q → Seals (state_at p gs 0 []) g (state_at q gs 0 [])
+seals_gate p q gs g a = record { row = a.row; state = rw a.numbers refl }
 
-pub depends_gate : (p q : Known) (gs : List Group) (g made : ℕ) (contents : List (ℕ × List ℕ)) (on : List ℕ) → DependsGate p g on q → Depends (state_at p gs made contents) g on (state_at q gs made contents)
-depends_gate p q gs g made contents on a = record {
-  gate = a.is_open;
-  clear = λ n c. (λ e. a.clear.1.1.1.1.1.0 (n, c, inl e), λ d. a.clear.1.1.1.1.1.0 (n, c, inr d));
-  names = a.names;
-  live = a.live;
-  state = rw (a.heads, a.numbers) refl;
-}
+depends_gate : (p q : Known) (gs : List Group) (g : ℕ) (on : List ℕ) → DependsGate p g on q → Depends (state_at p gs 0 []) g on (state_at q gs 0 [])
+depends_gate p q gs g on a = record { row = a.row; state = rw a.numbers refl }
 
 -- bytes for a change, which the patches do not have
 abbrev pub some_bytes : ℕ → List ℕ
 some_bytes len = replicate len 0
 
-pub makes_change : (p q : Known) (gs : List Group) (b at len n made : ℕ) (contents : List (ℕ × List ℕ)) (after : List ℕ) (grade : Grade) → AddsChange p b at len after n grade q
-    → MakesChange (state_at p gs made contents) b at (some_bytes len) after n grade (state_at q gs (made + 1) (contents ++ (n, some_bytes len) ∷ []))
-makes_change p q gs b at len n made contents after grade a =
-    let long : length (some_bytes len) ≡ len = length-replicate len 0 in
-    record {
-      next = a.next;
-      patch = fresh n (Change b at len grade) a.dependencies;
-      is = rw long refl;
-      depends = a.depends;
-      graded = a.graded;
-      state = rw (a.heads, a.numbers) refl;
-    }
+makes_change : (p q : Known) (gs : List Group) (b at len n : ℕ) (after : List ℕ) (grade : Grade) → AddsChange p b at len after n grade q
+    → MakesChange (state_at p gs 0 []) b at (some_bytes len) after n grade (state_at q gs 1 ((n, some_bytes len) ∷ []))
+makes_change p q gs b at len n after grade a = record {
+  row = subst (λ k. ChangeIsMade p.heads p.numbers b at k after n grade q.heads) (sym (length-replicate len 0)) a.row;
+  state = rw a.numbers refl;
+}
 
 module _ (p q : Known) (gs : List Group) (G : IsGrouped p gs) where
   -- what a row of the definitions makes
@@ -81,23 +69,23 @@ module _ (p q : Known) (gs : List Group) (G : IsGrouped p gs) where
   grouped_prepared ready meant same = subst (λ k. IsGrouped k gs) (sym same) (record { lawful = G.lawful; grouped = G.grouped; prepared = meant })
 
   pub grouped_gate : (n : ℕ) → AddsGate p n q → IsGrouped q gs
-  grouped_gate n a = by_row 1 [] (MakeGate 0) _ a.prepared tt (gate (makes_gate p q gs n 0 [] a))
+  grouped_gate n a = by_row 1 [] (MakeGate 0) _ a.prepared tt (gate (makes_gate p q gs n a))
 
   pub grouped_empty : (after : List ℕ) (n : ℕ) → AddsEmpty p after n q → IsGrouped q gs
-  grouped_empty after n a = by_row 1 [] (MakeEmpty 0 after) _ a.prepared tt (empty (makes_empty p q gs n 0 [] after a))
+  grouped_empty after n a = by_row 1 [] (MakeEmpty 0 after) _ a.prepared tt (empty (makes_empty p q gs n after a))
 
   pub grouped_seal : (g : ℕ) → (IsGroupGate gs g → ⊥) → SealsGate p g q → IsGrouped q gs
-  grouped_seal g plain a = by_row 0 [] (Seal g) _ a.prepared plain (seal (seals_gate p q gs g 0 [] a))
+  grouped_seal g plain a = by_row 0 [] (Seal g) _ a.prepared plain (seal (seals_gate p q gs g a))
 
   pub grouped_depend : (g : ℕ) (on : List ℕ) → DependsGate p g on q → IsGrouped q gs
-  grouped_depend g on a = by_row 0 [] (Depend g on) _ a.prepared tt (depend (depends_gate p q gs g 0 [] on a))
+  grouped_depend g on a = by_row 0 [] (Depend g on) _ a.prepared tt (depend (depends_gate p q gs g on a))
 
   pub grouped_change : (b at len n : ℕ) (after : List ℕ) (grade : Grade) → AddsChange p b at len after n grade q → IsGrouped q gs
-  grouped_change b at len n after grade a = by_row 1 ((n, some_bytes len) ∷ []) (MakeChange 0 b at (some_bytes len) after false) _ a.prepared tt (change (makes_change p q gs b at len n 0 [] after grade a))
+  grouped_change b at len n after grade a = by_row 1 ((n, some_bytes len) ∷ []) (MakeChange 0 b at (some_bytes len) after false) _ a.prepared tt (change (makes_change p q gs b at len n after grade a))
 
   pub grouped_forget : (dropped : ℕ) → Forgets p dropped q → IsGrouped q gs
   grouped_forget dropped a =
-      let row : ForgetsHeads (state_at p gs 0 []) dropped (state_at q gs 0 []) = record { counted = a.counted; state = rw (a.heads, a.numbers) refl } in
+      let row : ForgetsHeads (state_at p gs 0 []) dropped (state_at q gs 0 []) = record { row = a.row; state = rw a.numbers refl } in
       by_row 0 [] Forget _ a.prepared tt (forget row)
 
   -- no gate is sealed
@@ -109,13 +97,13 @@ module _ (p q : Known) (gs : List Group) (G : IsGrouped p gs) where
 
   pub grouped_launch : (chosen : List ℕ) → MayLaunch p chosen → Launches p chosen q → IsGrouped q gs
   grouped_launch chosen may a =
-      passed (rw (a.heads, a.numbers) (heads_launched p.heads p.numbers may.block chosen G.lawful may.writable may.choice))
-      (subst (Heirs NoneShut p.numbers p.heads) (sym a.heads) (heirs_launched p.numbers may.block chosen p.heads G.lawful may.writable may.choice)) a.numbers a.prepared
+      passed (rw (a.row, a.numbers) (heads_launched p.heads p.numbers may.block chosen G.lawful may.writable may.choice))
+      (subst (Heirs NoneShut p.numbers p.heads) (sym a.row) (heirs_launched p.numbers may.block chosen p.heads G.lawful may.writable may.choice)) a.numbers a.prepared
 
   pub grouped_land : (b : ℕ) → LandsBlock p b q → IsGrouped q gs
   grouped_land b a =
-      passed (rw a.numbers (heads_landed p.heads q.heads p.numbers b G.lawful a.cascade))
-      (heirs_cascade NoneShut p.numbers p.heads (map (landed b) p.heads) q.heads (heirs_landed p.numbers b p.heads) a.cascade) a.numbers a.prepared
+      passed (rw a.numbers (heads_landed p.heads q.heads p.numbers b G.lawful a.row))
+      (heirs_cascade NoneShut p.numbers p.heads (map (landed b) p.heads) q.heads (heirs_landed p.numbers b p.heads) a.row) a.numbers a.prepared
 
 -- what comes of a call, whatever it answers
 pub answered : {T E : Type 0} {P : T → Type 0} {Q R : Type 0} (r : Result T E) → IfOk r P → OnErr r Q → ((x : T) → P x → R) → (Q → R) → R
@@ -133,14 +121,14 @@ failed (Err e) f err = f e err
 -- the groups stand beside what a call of the patches makes
 module _ (p q : Known) (gs : List Group) where
   pub beside_empty : (after : List ℕ) (n : ℕ) → AddsEmpty p after n q → AddsEmpty (with_groups p gs) after n (with_groups q gs)
-  beside_empty after n a = record { clear = a.clear; next = a.next; dependencies = a.dependencies; depends = a.depends; cascade = a.cascade; numbers = a.numbers; blocks = a.blocks; groups = refl; prepared = a.prepared }
+  beside_empty after n a = record { clear = a.clear; row = a.row; numbers = a.numbers; blocks = a.blocks; groups = refl; prepared = a.prepared }
 
   pub beside_depend : (g : ℕ) (on : List ℕ) → DependsGate p g on q → DependsGate (with_groups p gs) g on (with_groups q gs)
-  beside_depend g on a = record { clear = a.clear; is_open = a.is_open; names = a.names; live = a.live; heads = a.heads; numbers = a.numbers; blocks = a.blocks; groups = refl; prepared = a.prepared }
+  beside_depend g on a = record { clear = a.clear; row = a.row; numbers = a.numbers; blocks = a.blocks; groups = refl; prepared = a.prepared }
 
   pub beside_change : (b at len n : ℕ) (after : List ℕ) (grade : Grade) → AddsChange p b at len after n grade q → AddsChange (with_groups p gs) b at len after n grade (with_groups q gs)
   beside_change b at len n after grade a =
-      record { clear = a.clear; next = a.next; dependencies = a.dependencies; depends = a.depends; graded = a.graded; heads = a.heads; numbers = a.numbers; blocks = a.blocks; groups = refl; prepared = a.prepared }
+      record { clear = a.clear; row = a.row; numbers = a.numbers; blocks = a.blocks; groups = refl; prepared = a.prepared }
 
 pub beside_foreseen : (p : Known) (gs : List Group) (b at len n : ℕ) (after : List ℕ) (grade : Grade) → Foresees (unprepared p) b at len after n grade → Foresees (unprepared (with_groups p gs)) b at len after n grade
 beside_foreseen p gs b at len n after grade x = (with_groups x.0 gs, beside_change (unprepared p) x.0 gs b at len n after grade x.1)
@@ -155,4 +143,4 @@ pub past_rule : (r : Rule) (rules : List Rule) (f : Fault) → (r.holds → ⊥)
 past_rule r rules f front refuses = elim refuses [ inl first ↦ inl (inr (front, first)) | inr memory ↦ inr ((front, memory.0), memory.1) ]
 
 pub past_front : (gs : List Group) (g : ℕ) (rules : List Rule) (f : Fault) → (IsGroupGate gs g → ⊥) → Refuses rules f → Refuses (outside_groups gs g rules) f
-past_front gs g rules f front refuses = past_rule (rule fault.NotGate (IsGroupGate gs g)) rules f front refuses
+past_front gs g rules f front refuses = past_rule (fault.NotGate when IsGroupGate gs g) rules f front refuses

@@ -143,7 +143,7 @@ module _ (nodes : List Node) (numbers blocks : ℕ) (H : HeadsAreLawful (patches
       let none = none_counted (is_held_on b) nodes (eqb-true s.held 0 k.1) in
       let x = counted_some (is_ready_on b) nodes (eqb-false s.ready 0 (not-true (s.ready == 0) k.2)) in
       record {
-        landed = free;
+        none_flies = free;
         some = (x.0.patch, ready_in b free x.0 x.1 x.2);
         hard = λ p m hard.
             let y = node_of_patch nodes p m.head in
@@ -156,10 +156,10 @@ module _ (nodes : List Node) (numbers blocks : ℕ) (H : HeadsAreLawful (patches
   writable_marked : (b : ℕ) → IsWritable (patches_in nodes) b → may_be_written (standing_of nodes b) ≡ true
   writable_marked b w =
       let s = standing_of nodes b in
-      let flying = counted_none (is_flying_on b) nodes (λ x c e. let at = change_at place.Flight b x.patch e in w.landed x.patch (patch_in nodes x c) at.0 at.1) in
-      let held = counted_none (is_held_on b) nodes (λ x c e. let h = held_in b w.landed x c e in h.left_out (w.hard x.patch h.in_memory h.hard)) in
+      let flying = counted_none (is_flying_on b) nodes (λ x c e. let at = change_at place.Flight b x.patch e in w.none_flies x.patch (patch_in nodes x c) at.0 at.1) in
+      let held = counted_none (is_held_on b) nodes (λ x c e. let h = held_in b w.none_flies x c e in h.left_out (w.hard x.patch h.in_memory h.hard)) in
       let y = node_of_patch nodes w.some.0 w.some.1.in_memory.head in
-      let here = in_ready b w.landed y.0 y.1 (subst (InWritableSet (patches_in nodes) b) (sym y.2) w.some.1) in
+      let here = in_ready b w.none_flies y.0 y.1 (subst (InWritableSet (patches_in nodes) b) (sym y.2) w.some.1) in
       three_from (s.flying == 0) (s.held == 0) (not (s.ready == 0)) (eq-eqb s.flying 0 flying) (eq-eqb s.held 0 held)
       (not_from_false (s.ready == 0) (ne_eqb s.ready 0 (λ z. none_counted (is_ready_on b) nodes z y.0 y.1 here)))
 
@@ -172,7 +172,7 @@ pub writable_rests : (nodes : List Node) (blocks b : ℕ) (standings : List Stan
 writable_rests nodes blocks b standings d inside A w =
     let m = w.some.1.in_memory in
     let lt = inside w.some.0 b m.head m.change in
-    let flying = counted_none (is_flying_on b) nodes (λ x c e. let at = change_at place.Flight b x.patch e in w.landed x.patch (patch_in nodes x c) at.0 at.1) in
+    let flying = counted_none (is_flying_on b) nodes (λ x c e. let at = change_at place.Flight b x.patch e in w.none_flies x.patch (patch_in nodes x c) at.0 at.1) in
     (lt, ap (λ s. s.flying) (A.each b d lt) ∙ flying)
 
 pub picked_none : (patches : List Patch) (blocks : ℕ) (standings : List Standing) → IsInside patches blocks → AreMarked patches blocks standings

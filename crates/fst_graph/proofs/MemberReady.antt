@@ -10,23 +10,23 @@ use Rattle.fst_types.specs.Gating.{sealed}
 use Rattle.fst_types.specs.Grades.{FollowsRule}
 use Rattle.fst_types.specs.Limits.{max_names}
 use Rattle.fst_types.specs.Lists.{Lists}
+use Rattle.fst_types.specs.Making.{ChangeIsMade}
 use Rattle.fst_types.specs.Order.{make_order, room_order, NamesUnknown}
 use Rattle.fst_types.specs.Patches.{Patch}
 use Rattle.fst_types.specs.Refusals.{NoneHolds}
 use Rattle.fst_types.proofs.Finite.{In-from_Contains}
-use Rattle.fst_types.proofs.OneChange.{changes_same}
+use Rattle.fst_types.proofs.OneChange.{changes_fixed}
 use Rattle.fst_graph.specs.declared.prepared.Gates.{Gates}
 use Rattle.fst_graph.specs.declared.prepared.Prepared.{Prepared as Stored}
 use Rattle.fst_heads.specs.declared.head.Head.{Head}
 use Rattle.fst_heads.specs.Frames.{frames_of, HasRoomBelow}
 use Rattle.fst_heads.specs.Grading.{MayBeHard}
 use Rattle.fst_heads.specs.Keeps.{Keeps}
-use Rattle.fst_graph.specs.Known.{Known, Prepared, AddsChange}
+use Rattle.fst_graph.specs.Known.{Known, Prepared}
 use Rattle.fst_heads.specs.Names.{numbers_of}
 use Rattle.fst_graph.specs.Membering.{ArePaired, BeginsAs, Foretells, OverlapReaches, member_order}
 use Rattle.fst_graph.specs.Ready.{prepared_of, change_of, IsReady, IsMemberReady, MayBePut, HasRoomAround, HasPlaces}
 use Rattle.fst_heads.specs.Rows.{IsDependency}
-use Rattle.fst_graph.proofs.Grouped.{makes_change, state_at}
 use Rattle.fst_heads.proofs.Framed.{room_above, room_below}
 use Rattle.fst_graph.proofs.Kept.{keeps_sealed}
 use Rattle.fst_graph.proofs.Readied.{ready_member, member_put}
@@ -36,7 +36,7 @@ use Rattle.fst_heads.proofs.Touching.{depends_exactly, graded_change, touched_ov
 module _ (old : List Patch) (n blocks : ℕ) (marks : List Bool) (K : Keeps old n blocks marks) (gates : Gates) (paired : ArePaired old n gates.head gates.tail) where
   -- the heads keep as much once the head is sealed
   keeps_begun : (begun : List Patch) → BeginsAs old gates.head begun → Keeps begun n blocks marks
-  keeps_begun begun (inl s) = keeps_sealed old begun n blocks gates.head marks marks K s.0 s.1 refl
+  keeps_begun begun (inl s) = keeps_sealed old begun n blocks gates.head marks marks K s.gate s.cascade refl
   keeps_begun begun (inr s) = subst (λ hs. Keeps hs n blocks marks) (sym s.1) K
 
   -- the head alone is named
@@ -76,28 +76,18 @@ module _ (old : Known) (blocks : ℕ) (marks : List Bool) (K : Keeps old.heads o
 
   pub foretold : Foretells old gates.head gates.tail p.block p.span.at p.span.len (old.numbers + 1) p.grade
   foretold k g new m =
-      let begins : BeginsAs old.heads gates.head m.begun.heads = elim m.begin [ inl s ↦ inl (s.is_open, s.cascade) | inr e ↦ inr (e.0, ap (λ x. x.heads) e.1) ] in
-      let numbers : m.begun.numbers ≡ old.numbers = elim m.begin [ inl s ↦ s.numbers | inr e ↦ ap (λ x. x.numbers) e.1 ] in
-      let ready = R.made m.begun.heads begins in
-      let made : Known = record { heads = m.begun.heads ++ change_of old.numbers p ∷ []; numbers = old.numbers + 1; blocks = m.begun.blocks; groups = m.begun.groups; prepared = None } in
-      let names = R.names in
+      let begun = m.row.begun in
+      let ready = R.made begun m.row.begin in
       let deps = p.dependencies.items in
-      let own : AddsChange m.begun p.block p.span.at p.span.len (gates.head ∷ []) (old.numbers + 1) p.grade made = record {
-        clear = rw numbers (subst (λ ns. NoneHolds (make_order m.begun.heads old.numbers ns)) names ready.clear);
-        next = rw numbers refl;
+      let own : ChangeIsMade begun old.numbers p.block p.span.at p.span.len (gates.head ∷ []) (old.numbers + 1) p.grade (begun ++ change_of old.numbers p ∷ []) = record {
+        next = refl;
         dependencies = deps;
-        depends = depends_exactly m.begun.heads (gates.head ∷ []) p.block p.span.at p.span.len (old.numbers + 1) p.grade deps deps (subst (λ ns. Lists (IsDependency m.begun.heads ns p.block p.span.at p.span.len) deps) names ready.depends);
+        depends = depends_exactly begun (gates.head ∷ []) p.block p.span.at p.span.len (old.numbers + 1) p.grade deps deps (subst (λ ns. Lists (IsDependency begun ns p.block p.span.at p.span.len) deps) R.names ready.depends);
+        added = refl;
         graded = ready.graded;
-        heads = refl;
-        numbers = refl;
-        blocks = refl;
-        groups = refl;
-        prepared = refl;
       } in
-      let lawful = subst (λ x. HeadsAreLawful m.begun.heads x) (sym numbers) (keeps_begun old.heads old.numbers blocks marks K gates R.paired m.begun.heads begins).lawful in
-      let both = changes_same (state_at m.begun [] 0 []) (state_at m.with_change [] 1 _) (state_at made [] 1 _) p.block p.span.at _ (gates.head ∷ []) k (old.numbers + 1) g p.grade lawful
-      (makes_change m.begun m.with_change [] p.block p.span.at p.span.len k 0 [] (gates.head ∷ []) g m.change)
-      (makes_change m.begun made [] p.block p.span.at p.span.len (old.numbers + 1) 0 [] (gates.head ∷ []) p.grade own) in
+      let lawful = (keeps_begun old.heads old.numbers blocks marks K gates R.paired begun m.row.begin).lawful in
+      let both = changes_fixed begun m.row.with_change (begun ++ change_of old.numbers p ∷ []) old.numbers p.block p.span.at p.span.len (gates.head ∷ []) k (old.numbers + 1) g p.grade lawful m.row.change own in
       reply_same k (old.numbers + 1) g p.grade both.0
 
 -- a gate that was sealed is not open
@@ -128,9 +118,9 @@ module _ (old : List Patch) (n blocks : ℕ) (marks : List Bool) (K : Keeps old 
 
   pub ready_begun : IsMemberReady begun n blocks gates p
   ready_begun =
-      let long : length begun ≡ length old = sym (keeps_begun old n blocks marks K gates R.paired begun (inl (is_open, cascade))).marked ∙ K.marked in
+      let long : length begun ≡ length old = sym (keeps_begun old n blocks marks K gates R.paired begun (inl (record { gate = is_open; cascade = cascade }))).marked ∙ K.marked in
       record {
-        made = λ hs s. elim s [ inl again ↦ absurd (shut again.0) | inr same ↦ subst (λ ps. IsReady ps n blocks p) (sym same.1) (R.made begun (inl (is_open, cascade))) ];
+        made = λ hs s. elim s [ inl again ↦ absurd (shut again.gate) | inr same ↦ subst (λ ps. IsReady ps n blocks p) (sym same.1) (R.made begun (inl (record { gate = is_open; cascade = cascade }))) ];
         names = R.names;
         clear = (λ o. R.clear.0 (overlap_was o), (λ full. R.clear.1.0 (omega (arith, full, long)), R.clear.1.1));
         paired = record {

@@ -80,16 +80,16 @@ pub data IsAfter (heads : List Patch) (head : ℕ) : List ℕ → Type 0 where
 module _ (old : List Patch) (numbers : ℕ) (H : HeadsAreLawful old numbers) (head b : ℕ) (row : List ℕ) where
   pub member_row : (at len : ℕ) (after : List ℕ) → IsAfter old head after → Lists (IsDependency old after b at len) row → (begun : List Patch) → BeginsAs old head begun → Lists (IsDependency begun (head ∷ []) b at len) row
   member_row at len [] (rests gate rest) l begun (inl s) =
-      row_unnamed old begun numbers head H s.0 s.1 b at len row (gate_rests old begun numbers head H s.0 s.1 rest) l
+      row_unnamed old begun numbers head H s.gate s.cascade b at len row (gate_rests old begun numbers head H s.gate s.cascade rest) l
   member_row at len [] (rests gate rest) l begun (inr s) = absurd (s.0 gate)
   member_row at len (x ∷ xs) (waits live) l begun (inl s) =
-      let q = live s.0 in
-      row_named old begun numbers head H s.0 s.1 b at len row (gate_lives old begun numbers head H s.0 s.1 q.0 q.1 q.2) l
+      let q = live s.gate in
+      row_named old begun numbers head H s.gate s.cascade b at len row (gate_lives old begun numbers head H s.gate s.cascade q.0 q.1 q.2) l
   member_row at len (x ∷ xs) (waits live) l begun (inr s) = subst (λ hs. Lists (IsDependency hs (head ∷ []) b at len) row) (sym s.1) l
 
   pub member_rule : (g : Grade) (but : Option ℕ) → IfSome but (λ n. (n ≡ head) × IsOpenNumber old head) → IfNone but (IsOpenNumber old head → ⊥) → FollowsRule g (MayBeHard old but b row)
       → (begun : List Patch) → BeginsAs old head begun → FollowsRule g (MayBeHard begun None b row)
-  member_rule g (Some n) some none f begun (inl s) = rule_sealed old begun numbers head H s.0 s.1 g b row (subst (λ k. FollowsRule g (MayBeHard old (Some k) b row)) some.0 f)
+  member_rule g (Some n) some none f begun (inl s) = rule_sealed old begun numbers head H s.gate s.cascade g b row (subst (λ k. FollowsRule g (MayBeHard old (Some k) b row)) some.0 f)
   member_rule g (Some n) some none f begun (inr s) = absurd (s.0 some.1)
-  member_rule g None some none f begun (inl s) = absurd (none s.0)
+  member_rule g None some none f begun (inl s) = absurd (none s.gate)
   member_rule g None some none f begun (inr s) = subst (λ hs. FollowsRule g (MayBeHard hs None b row)) (sym s.1) f

@@ -10,19 +10,17 @@ use Rattle.fst_types.specs.Lists.{Lists}
 use Rattle.fst_types.specs.Patches.{Kind, Patch, OpenGate, SealedGate, block_of_kind}
 use Rattle.fst_types.specs.Dependencies.{DirectlyOn, DependsOn, IsLiveNumber}
 use Rattle.fst_types.specs.Gates.{IsOpenNumber}
-use Rattle.fst_types.specs.Gating.{Depends, gains}
+use Rattle.fst_types.specs.Gating.{GateGains, gains}
 use Rattle.fst_types.specs.Facts.{HeadsAreLawful}
 use Rattle.fst_types.specs.Making.{fresh}
-use Rattle.fst_types.specs.Order.{depend_order}
+use Rattle.fst_types.specs.Order.{NamesAbove}
 use Rattle.fst_types.specs.Refusals.{NoneHolds}
-use Rattle.fst_types.specs.Events.{Depend}
-use Rattle.fst_types.specs.Step.{depend}
 use Rattle.fst_types.proofs.Crash.{same_number}
 use Rattle.fst_types.proofs.Finite.{In, In-from_Contains, Contains-from_In, first_step}
-use Rattle.fst_types.proofs.Heads.{heads_row}
+use Rattle.fst_types.proofs.Heads.{heads_depended}
 use Rattle.fst_graph.specs.Grouping.{pair_order, AddsPair}
 use Rattle.fst_graph.specs.Known.{Known}
-use Rattle.fst_heads.proofs.Making.{around, gate_lawful, keeps_added, keeps_gate}
+use Rattle.fst_heads.proofs.Making.{gate_lawful, keeps_added, keeps_gate}
 use Rattle.fst_heads.specs.Keeps.{Keeps}
 
 only_one : (x y : ℕ) → Contains (x ∷ []) y → y ≡ x
@@ -93,29 +91,8 @@ module _ (heads : List Patch) (n : ℕ) (H : HeadsAreLawful heads n) where
   none_above : DependsOn with_tail (n + 1) (n + 1 + 1) → ⊥
   none_above d = let f = first_step (n + 1) (n + 1 + 1) d in none_direct f.0 f.1
 
-  not_sealed : (k : Kind) → k ≡ OpenGate → k ≡ SealedGate → ⊥
-  not_sealed k a b = cc
-
-  clear_tie : NoneHolds (depend_order with_tail (n + 1 + 1) (n + 1 + 1) ((n + 1) ∷ []))
-  clear_tie = (
-    λ unknown. unknown (omega arith, omega arith),
-    (
-      λ none. none (inl is_open),
-      (
-        λ s. not_sealed s.patch.kind (ap (λ (x : Patch). x.kind) (is_tail s.patch s.head s.numbered)) s.is_sealed,
-        (
-          λ many. omega (arith, many),
-          (
-            λ u. u.2 (let e = only_one (n + 1) u.0 u.1 in (omega (arith, e), omega (arith, e))),
-            (
-              λ a. let e = only_one (n + 1) a.0 a.1 in elim a.2 [ inl same ↦ omega (arith, same, e) | inr d ↦ none_above (subst (λ m. DependsOn with_tail m (n + 1 + 1)) e d) ],
-              tt,
-            ),
-          ),
-        ),
-      ),
-    ),
-  )
+  none_named : NamesAbove with_tail (n + 1 + 1) ((n + 1) ∷ []) → ⊥
+  none_named a = let e = only_one (n + 1) a.0 a.1 in elim a.2 [ inl same ↦ omega (arith, same, e) | inr d ↦ none_above (subst (λ m. DependsOn with_tail m (n + 1 + 1)) e d) ]
 
   names : Lists (λ m. IsLiveNumber with_tail m × Contains ((n + 1) ∷ []) m × (DirectlyOn with_tail (n + 1 + 1) m → ⊥)) ((n + 1) ∷ [])
   names = record {
@@ -134,56 +111,26 @@ module _ (heads : List Patch) (n : ℕ) (H : HeadsAreLawful heads n) where
   pub gained : map (gains (n + 1 + 1) ((n + 1) ∷ [])) with_tail ≡ both
   gained = others one (λ x c e. let small = (head_lawful.one_place_each.numbered x (Contains-from_In one x c)).1 in omega (arith, small, e))
 
+  -- the second gate depends on the first
+  tie : GateGains with_tail (n + 1 + 1) ((n + 1) ∷ []) both
+  tie = record { gate = is_open; clear = none_named; names = (n + 1) ∷ []; live = names; gained = sym gained }
+
   pub paired_lawful : HeadsAreLawful both (n + 1 + 1)
-  paired_lawful =
-      let row : Depends (around with_tail (n + 1 + 1)) (n + 1 + 1) ((n + 1) ∷ []) (around both (n + 1 + 1)) = record {
-        gate = is_open;
-        clear = λ m c. (λ e. clear_tie.1.1.1.1.1.0 (m, c, inl e), λ d. clear_tie.1.1.1.1.1.0 (m, c, inr d));
-        names = (n + 1) ∷ [];
-        live = names;
-        state = rw gained refl;
-      } in
-      heads_row (around with_tail (n + 1 + 1)) (around both (n + 1 + 1)) (Depend (n + 1 + 1) ((n + 1) ∷ [])) _ (depend row) both_lawful
+  paired_lawful = heads_depended with_tail both (n + 1 + 1) (n + 1 + 1) ((n + 1) ∷ []) tie both_lawful
 
   pub adds_pair : (blocks : ℕ) (old : Known) → old.heads ≡ heads → old.numbers ≡ n → old.blocks ≡ blocks → NoneHolds (pair_order heads n)
       → AddsPair old (n + 1) (record { heads = both; numbers = n + 1 + 1; blocks = blocks; groups = old.groups; prepared = None })
-  adds_pair blocks old hs ns bs clear =
-      let a = clear.0 in
-      let b = clear.1.0 in
-      record {
-        clear = rw (hs, ns) clear;
-        with_head = record { heads = one; numbers = n + 1; blocks = blocks; groups = old.groups; prepared = None };
-        head = record {
-          clear = rw (hs, ns) (λ full. a (omega (arith, full)), (λ full. b (omega (arith, full)), tt));
-          next = rw ns refl;
-          heads = rw hs refl;
-          numbers = refl;
-          blocks = sym bs;
-          groups = refl;
-          prepared = refl;
-        };
-        with_tail = record { heads = with_tail; numbers = n + 1 + 1; blocks = blocks; groups = old.groups; prepared = None };
-        tail = record {
-          clear = (λ full. a (let long = length_push heads head_gate in omega (arith, full, long)), (λ full. b full, tt));
-          next = refl;
-          heads = refl;
-          numbers = refl;
-          blocks = refl;
-          groups = refl;
-          prepared = refl;
-        };
-        tie = record {
-          clear = clear_tie;
-          is_open = is_open;
-          names = (n + 1) ∷ [];
-          live = names;
-          heads = sym gained;
-          numbers = refl;
-          blocks = refl;
-          groups = refl;
-          prepared = refl;
-        };
-      }
+  adds_pair blocks old hs ns bs clear = record {
+    clear = rw (hs, ns) clear;
+    row = record {
+      with_head = one;
+      head = record { next = rw ns refl; added = rw hs refl };
+      with_tail = with_tail;
+      tail = record { next = refl; added = refl };
+      tie = tie;
+    };
+    state = rw bs refl;
+  }
 
   none_on : (k : Kind) (b : ℕ) → k ≡ OpenGate → block_of_kind k ≡ Some b → ⊥
   none_on k b e on = cc

@@ -1,8 +1,9 @@
 -- A gate is sealed if it is open.
-use Rattle.std.proofs.Common.{◌≡◌, ℕ, List, Result, Ok, Err, sym, ap, ◌∙◌, inl, inr, arith}
+use Rattle.std.proofs.Common.{◌≡◌, ℕ, List, Result, Ok, Err, None, refl, sym, ap, ◌∙◌, inl, inr, arith}
 use Rattle.std.specs.Prelude.{OnOk, OnErr, IfErr}
 use Rattle.fst_types.specs.declared.fault.Fault.{Fault}
 use Rattle.fst_types.specs.Facts.{HeadsAreLawful}
+use Rattle.fst_types.specs.Groups.{Group}
 use Rattle.fst_types.specs.Gates.{IsOpenNumber, IsSealedNumber}
 use Rattle.fst_types.specs.Order.{seal_order}
 use Rattle.fst_types.specs.Patches.{Patch, Kind, OpenGate, SealedGate}
@@ -31,6 +32,11 @@ refused_closed heads numbers g f H first gate =
       ]
     ]
 
+-- what a graph knows, field by field
+pub known_is : (q : Known) (numbers blocks : ℕ) (groups : List Group) → q.numbers ≡ numbers → q.blocks ≡ blocks → q.groups ≡ groups → q.prepared ≡ None
+    → q ≡ record { heads = q.heads; numbers = numbers; blocks = blocks; groups = groups; prepared = None }
+known_is q numbers blocks groups a b c d = rw (a, b, c, d) refl
+
 pub seals_if_open : (p q : Known) (g : ℕ) → HeadsAreLawful p.heads p.numbers → {T : Type 0} (r : Result T Fault) → OnOk r (SealsGate p g q) → IfErr r (IsFirst (seal_order p.heads p.numbers g)) → OnErr r (q ≡ unprepared p) → SealsIfOpen p g q
-seals_if_open p q g H (Ok x) ok refused same = inl ok
-seals_if_open p q g H (Err f) ok refused same = inr (refused_closed p.heads p.numbers g f H refused, same)
+seals_if_open p q g H (Ok x) ok refused same = record { row = inl ok.row; state = known_is q p.numbers p.blocks p.groups ok.numbers ok.blocks ok.groups ok.prepared }
+seals_if_open p q g H (Err f) ok refused same = record { row = inr (refused_closed p.heads p.numbers g f H refused, ap (λ k. k.heads) same); state = rw same refl }

@@ -1,20 +1,18 @@
 -- A new change of a group, of which the patches see the two gates.
-use Rattle.std.specs.Prelude.{◌≡◌, ◌⊎◌, ◌+◌, ◌∷◌, [], ℕ, List, map}
+use Rattle.std.specs.Prelude.{◌≡◌, ◌+◌, ◌∷◌, [], ℕ, List, None}
 use Rattle.fst_types.specs.declared.grade.Grade.{Grade}
 use Rattle.fst_types.specs.declared.grade.Grade.TheVariants as grade
 use Rattle.fst_types.specs.declared.fault.Fault.TheVariants as fault
-use Rattle.fst_types.specs.Cascade.{IsCascadeOf}
 use Rattle.fst_types.specs.Dependencies.{DependsOn}
 use Rattle.fst_types.specs.Facts.{IsTied}
 use Rattle.fst_types.specs.Gates.{IsGiven, IsOpenNumber}
-use Rattle.fst_types.specs.Gating.{sealed}
+use Rattle.fst_types.specs.Grouping.{GateIsSealedIfOpen, MemberIsMade}
 use Rattle.fst_types.specs.Making.{fresh}
 use Rattle.fst_types.specs.Order.{room_order}
 use Rattle.fst_types.specs.Overlaps.{IsOverlapped}
 use Rattle.fst_types.specs.Patches.{Change, Patch}
-use Rattle.fst_types.specs.Refusals.{Rule, rule, NoneHolds}
-use Rattle.fst_graph.specs.Grouping.{SealsIfOpen}
-use Rattle.fst_graph.specs.Known.{Known, AddsChange, DependsGate}
+use Rattle.fst_types.specs.Refusals.{Rule, ◌when◌, NoneHolds}
+use Rattle.fst_graph.specs.Known.{Known}
 
 -- a live change that shares one of these bytes of block b depends on the tail
 abbrev pub OverlapReaches : List Patch → ℕ → (b at len : ℕ) → Type 0
@@ -29,20 +27,17 @@ pub record ArePaired (heads : List Patch) (numbers head tail : ℕ) : Type 0 whe
 
 -- the heads once gate g is sealed, if it is open
 abbrev pub BeginsAs : List Patch → ℕ → List Patch → Type 0
-BeginsAs heads g begun = (IsOpenNumber heads g × IsCascadeOf (map (sealed g) heads) begun) ⊎ ((IsOpenNumber heads g → ⊥) × (begun ≡ heads))
+BeginsAs heads g begun = GateIsSealedIfOpen heads g begun
 
 -- a new change of a group with that tail
 abbrev pub member_order : List Patch → ℕ → (tail b at len : ℕ) → List Rule
-member_order heads numbers tail b at len = rule fault.Cycle (OverlapReaches heads tail b at len) ∷ room_order heads numbers
+member_order heads numbers tail b at len = fault.Cycle when OverlapReaches heads tail b at len ∷ room_order heads numbers
 
--- a new change after the head, which is sealed if it is open; then the tail depends on the change
+-- a new change of the group with these gates
 pub record GainsMember (old : Known) (head tail b at len number : ℕ) (grade : Grade) (new : Known) : Type 0 where
   pub clear : NoneHolds (member_order old.heads old.numbers tail b at len)
-  pub begun : Known
-  pub begin : SealsIfOpen old head begun
-  pub with_change : Known
-  pub change : AddsChange begun b at len (head ∷ []) number grade with_change
-  pub tie : DependsGate with_change tail (number ∷ []) new
+  pub row : MemberIsMade old.heads old.numbers head tail b at len number grade new.heads
+  pub state : new ≡ record old { heads = new.heads; numbers = number; prepared = None }
 
 -- whatever such a change would come to, it would have that number and grade
 abbrev pub Foretells : (old : Known) (head tail b at len number : ℕ) (grade : Grade) → Type 0

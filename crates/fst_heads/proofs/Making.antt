@@ -6,16 +6,9 @@ use Rattle.fst_types.specs.Limits.{max_heads, max_number}
 use Rattle.fst_types.specs.Patches.{Patch, IsOn, OpenGate}
 use Rattle.fst_types.specs.Facts.{HeadsAreLawful}
 use Rattle.fst_types.specs.Making.{fresh}
-use Rattle.fst_types.specs.State.{State}
-use Rattle.fst_types.specs.Step.{gate}
-use Rattle.fst_types.specs.Events.{MakeGate}
-use Rattle.fst_types.proofs.Heads.{heads_row}
+use Rattle.fst_types.proofs.Heads.{heads_gated}
 use Rattle.fst_types.proofs.Opened.{opening_is_lawful}
 use Rattle.fst_heads.specs.Keeps.{Keeps, IsInside}
-
--- a state with these heads and nothing else
-abbrev pub around : List Patch → ℕ → State
-around heads numbers = record { size = 0; resident = 0; numbers = numbers; tickets = 0; made = 0; heads = heads; contents = []; blocks = []; groups = [] }
 
 module _ (heads : List Patch) (numbers blocks : ℕ) (marks : List Bool) (K : Keeps heads numbers blocks marks) where
   pub keeps_added : (new : List Patch) → HeadsAreLawful new (numbers + 1) → length new ≡ length heads + 1 → IsInside new blocks → length heads < max_heads → Keeps new (numbers + 1) blocks (marks ++ false ∷ [])
@@ -27,10 +20,7 @@ module _ (heads : List Patch) (numbers blocks : ℕ) (marks : List Bool) (K : Ke
   }
 
 pub gate_lawful : (heads : List Patch) (numbers : ℕ) → HeadsAreLawful heads numbers → HeadsAreLawful (heads ++ fresh (numbers + 1) OpenGate [] ∷ []) (numbers + 1)
-gate_lawful heads numbers H =
-    let old = around heads numbers in
-    let new : State = record old { numbers = numbers + 1; made = 1; heads = heads ++ fresh (numbers + 1) OpenGate [] ∷ [] } in
-    heads_row old new (MakeGate 0) _ (gate (record { next = refl; state = refl })) H
+gate_lawful heads numbers H = heads_gated heads (heads ++ fresh (numbers + 1) OpenGate [] ∷ []) numbers (numbers + 1) (record { next = refl; added = refl }) H
 
 abbrev pub new_gate : ℕ → Patch
 new_gate numbers = fresh (numbers + 1) OpenGate []

@@ -1,8 +1,8 @@
 -- A patch depends directly on earlier ones alone, but for a gate: each step keeps that.
-use Rattle.std.proofs.Common.{◌≡◌, ℕ, ◌+◌, ◌≤◌, List, [], ◌∷◌, ◌++◌, map, filter, Contains, sym, ap, subst, ◌∙◌, inl, inr, arith}
+use Rattle.std.proofs.Common.{◌≡◌, ℕ, ◌+◌, ◌≤◌, List, [], ◌∷◌, ◌++◌, length, map, filter, Contains, sym, ap, subst, ◌∙◌, inl, inr, arith}
 use Rattle.std.proofs.lemmas.List.Elements.{Contains-push_cases}
 use Rattle.fst_types.specs.declared.grade.Grade.{Grade}
-use Rattle.fst_types.specs.Patches.{Empty, OpenGate, Patch}
+use Rattle.fst_types.specs.Patches.{Change, Empty, OpenGate, Patch}
 use Rattle.fst_types.specs.Tests.{is_live}
 use Rattle.fst_types.specs.Gates.{IsOpenNumber}
 use Rattle.fst_types.specs.Gating.{Depends, Seals, gains}
@@ -65,22 +65,23 @@ earlier_at heads new same E = subst DependOnEarlier (sym same) E
 
 earlier_changed : (old new : State) (b at : ℕ) (bytes after : List ℕ) (number : ℕ) (grade : Grade) → MakesChange old b at bytes after number grade new → HeadsAreLawful old.heads old.numbers → DependOnEarlier old.heads → DependOnEarlier new.heads
 earlier_changed old new b at bytes after number grade m H E =
-    earlier_at (old.heads ++ m.patch ∷ []) new.heads (ap (λ s. s.heads) m.state)
-    (earlier_added old.heads m.patch old.numbers (ap (λ x. x.number) m.is ∙ m.next)
-    (λ q c. elim (m.depends.only q c) [
+    let p = fresh number (Change b at (length bytes) grade) m.row.dependencies in
+    earlier_at (old.heads ++ p ∷ []) new.heads m.row.added
+    (earlier_added old.heads p old.numbers m.row.next
+    (λ q c. elim (m.row.depends.only q c) [
       | inl l ↦ let k = (H.one_place_each.numbered l.0.patch l.0.head).1 in omega (arith, k, l.0.numbered)
       | inr o ↦ let k = (H.one_place_each.numbered o.patch o.head).1 in omega (arith, k, o.numbered)
     ]) E)
 
 earlier_gained_by : (old new : State) (g : ℕ) (on : List ℕ) → Depends old g on new → HeadsAreLawful old.heads old.numbers → DependOnEarlier old.heads → DependOnEarlier new.heads
-earlier_gained_by old new g on m H E = earlier_at (map (gains g m.names) old.heads) new.heads (ap (λ s. s.heads) m.state) (earlier_gained old.heads old.numbers g m.names H m.gate E)
+earlier_gained_by old new g on m H E = earlier_at (map (gains g m.row.names) old.heads) new.heads m.row.gained (earlier_gained old.heads old.numbers g m.row.names H m.row.gate E)
 
 earlier_sealed : (old new : State) (g : ℕ) → Seals old g new → HeadsAreLawful old.heads old.numbers → DependOnEarlier old.heads → DependOnEarlier new.heads
-earlier_sealed old new g m H E = earlier_at m.heads new.heads (ap (λ s. s.heads) m.state) (earlier_alike old.heads m.heads (alike_sealed old.heads m.heads old.numbers g H m.gate m.cascade) E)
+earlier_sealed old new g m H E = earlier_alike old.heads new.heads (alike_sealed old.heads new.heads old.numbers g H m.row.gate m.row.cascade) E
 
 earlier_part : (old : State) (k : ℕ) (added : List ChangeMade) (new : State) → Part old k added new → HeadsAreLawful old.heads old.numbers → DependOnEarlier old.heads → DependOnEarlier new.heads
 earlier_part old k added new (gates {number = number} m) H E =
-    earlier_at (old.heads ++ fresh number OpenGate [] ∷ []) new.heads (ap (λ s. s.heads) m.state) (earlier_added old.heads (fresh number OpenGate []) old.numbers m.next (λ q c. absurd (omega (arith, c.1))) E)
+    earlier_at (old.heads ++ fresh number OpenGate [] ∷ []) new.heads m.row.added (earlier_added old.heads (fresh number OpenGate []) old.numbers m.row.next (λ q c. absurd (omega (arith, c.1))) E)
 earlier_part old k added new (depends m) H E = earlier_gained_by old new _ _ m H E
 earlier_part old k added new (seals m) H E = earlier_sealed old new _ m H E
 earlier_part old k added new (changes m) H E = earlier_changed old new _ _ _ _ _ _ m H E
@@ -93,21 +94,20 @@ earlier_parts old k added new (and_then {k = i} {j = j} {made = made} {more = mo
 pub earlier_row : (old new : State) (e : Event) (r : Reply) → Row old e r new → HeadsAreLawful old.heads old.numbers → DependOnEarlier old.heads → DependOnEarlier new.heads
 earlier_row old new e r (change m) H E = earlier_changed old new _ _ _ _ _ _ m H E
 earlier_row old new e r (empty {number = number} m) H E =
-    let mid = old.heads ++ fresh number Empty m.dependencies ∷ [] in
-    earlier_at m.heads new.heads (ap (λ s. s.heads) m.state)
-    (earlier_alike mid m.heads (alike_cascade mid m.heads m.cascade)
-    (earlier_added old.heads (fresh number Empty m.dependencies) old.numbers m.next (λ q c. let l = m.depends.only q c in let k = (H.one_place_each.numbered l.0.patch l.0.head).1 in omega (arith, k, l.0.numbered)) E))
+    let mid = old.heads ++ fresh number Empty m.row.dependencies ∷ [] in
+    earlier_alike mid new.heads (alike_cascade mid new.heads m.row.cascade)
+    (earlier_added old.heads (fresh number Empty m.row.dependencies) old.numbers m.row.next (λ q c. let l = m.row.depends.only q c in let k = (H.one_place_each.numbered l.0.patch l.0.head).1 in omega (arith, k, l.0.numbered)) E)
 earlier_row old new e r (gate m) H E = earlier_part old 1 [] new (gates m) H E
 earlier_row old new e r (depend m) H E = earlier_gained_by old new _ _ m H E
 earlier_row old new e r (seal m) H E = earlier_sealed old new _ m H E
-earlier_row old new e r (issue {b = b} m) H E = earlier_at _ new.heads (ap (λ s. s.heads) m.state) (earlier_alike old.heads _ (alike_launched old.heads old.numbers b m.chosen H m.writable m.choice) E)
-earlier_row old new e r (land {b = b} m) H E = earlier_at m.heads new.heads (ap (λ s. s.heads) m.state) (earlier_alike old.heads m.heads (alike_landed old.heads m.heads old.numbers b H m.cascade) E)
+earlier_row old new e r (issue {b = b} m) H E = earlier_at _ new.heads m.row (earlier_alike old.heads _ (alike_launched old.heads old.numbers b m.chosen H m.writable m.choice) E)
+earlier_row old new e r (land {b = b} m) H E = earlier_alike old.heads new.heads (alike_landed old.heads new.heads old.numbers b H m.row) E
 earlier_row old new e r (stall m) H E = earlier_at old.heads new.heads (ap (λ s. s.heads) m.state) E
 earlier_row old new e r (lose m) H E = earlier_at old.heads new.heads (ap (λ s. s.heads) m.state) E
 earlier_row old new e r (retry m) H E = earlier_at old.heads new.heads (ap (λ s. s.heads) m.state) E
 earlier_row old new e r evict H E = E
 earlier_row old new e r (forget m) H E =
-    earlier_at (filter is_live old.heads) new.heads (ap (λ s. s.heads) m.state) (λ p q h c. E p q (Contains-from_In old.heads p (filter_in is_live old.heads p (In-from_Contains (filter is_live old.heads) p h)).0) c)
+    earlier_at (filter is_live old.heads) new.heads m.row.kept (λ p q h c. E p q (Contains-from_In old.heads p (filter_in is_live old.heads p (In-from_Contains (filter is_live old.heads) p h)).0) c)
 earlier_row old new e r (choose m) H E = E
 earlier_row old new e r (pick m) H E = E
 earlier_row old new e r show H E = E

@@ -2,7 +2,7 @@
 use Rattle.std.proofs.Common.{◌≡◌, ◌⊎◌, ℕ, ◌+◌, ◌≤◌, List, [], ◌∷◌, ◌++◌, length, map, Contains, Some, None, refl, sym, ap, subst, ◌∙◌, inl, inr, arith}
 use Rattle.std.proofs.lemmas.List.Elements.{Contains-push_cases}
 use Rattle.fst_types.specs.declared.grade.Grade.{Grade}
-use Rattle.fst_types.specs.Patches.{OpenGate, Patch, IsOn, block_of_kind, at_of}
+use Rattle.fst_types.specs.Patches.{Change, OpenGate, Patch, IsOn, block_of_kind, at_of}
 use Rattle.fst_types.specs.State.{State}
 use Rattle.fst_types.specs.Bytes.{content_of}
 use Rattle.fst_types.specs.Cascade.{IsCascadeOf}
@@ -99,16 +99,16 @@ extends_gated : (old new : State) (number : ℕ) → MakesGate old number new �
 extends_gated old new number m = record {
   back = λ q h. elim (Contains-push_cases old.heads (fresh number OpenGate []) q (subst (λ hs. Contains hs q) heads h)) [
     | inl o ↦ inl (q, o, stays_self q)
-    | inr e ↦ let k = ap (λ x. x.number) e in inr (record { after = omega (arith, k, m.next); known = λ b on. absurd (no_block b (ap (λ x. block_of_kind x.kind) e ∙ on)) })
+    | inr e ↦ let k = ap (λ x. x.number) e in inr (record { after = omega (arith, k, m.row.next); known = λ b on. absurd (no_block b (ap (λ x. block_of_kind x.kind) e ∙ on)) })
   ];
   forth = λ o h. (o, subst (λ hs. Contains hs o) (sym heads) (Contains-from_In (old.heads ++ fresh number OpenGate [] ∷ []) o (In-append_left old.heads (fresh number OpenGate [] ∷ []) o (In-from_Contains old.heads o h))), stays_self o);
   bytes = λ p h few. ap (λ s. content_of s.contents p.number) m.state;
   each = λ c h. absurd h;
-  rises = let k = ap (λ s. s.numbers) m.state in omega (arith, k, m.next);
+  rises = let k = ap (λ s. s.numbers) m.state in omega (arith, k, m.row.next);
 }
   where
     heads : new.heads ≡ old.heads ++ fresh number OpenGate [] ∷ []
-    heads = ap (λ s. s.heads) m.state
+    heads = m.row.added
 
     no_block : (b : ℕ) → None ≡ Some b → ⊥
     no_block b e = cc
@@ -171,13 +171,13 @@ extends_changed : (old new : State) (b at : ℕ) (bytes after : List ℕ) (numbe
     → Extends (made_now number b at bytes ∷ []) old new
 extends_changed old new b at bytes after number grade m H F = record {
   back = λ q h.
-      elim (Contains-push_cases old.heads m.patch q (subst (λ hs. Contains hs q) heads h)) [
+      elim (Contains-push_cases old.heads p q (subst (λ hs. Contains hs q) heads h)) [
         | inl o ↦ inl (q, o, stays_self q)
         | inr e ↦
-            let same = sym numbered ∙ ap (λ x. x.number) e in
+            let same = ap (λ x. x.number) e in
             inr (record { after = omega (arith, same, next); known = λ c on. (made_now number b at bytes, inl refl, same) })
       ];
-  forth = λ o h. (o, now o (In-append_left old.heads (m.patch ∷ []) o (In-from_Contains old.heads o h)), stays_self o);
+  forth = λ o h. (o, now o (In-append_left old.heads (p ∷ []) o (In-from_Contains old.heads o h)), stays_self o);
   bytes = λ q h few. ap (λ es. content_of es q.number) contents ∙ content_more old.contents number q.number bytes (λ e. omega (arith, e, few, next));
   each = λ c i.
       elim i [
@@ -185,38 +185,37 @@ extends_changed old new b at bytes after number grade m H F = record {
             subst (IsAdded old.numbers new) e (record {
               after = omega (arith, next);
               given = let k = ap (λ s. s.numbers) m.state in omega (arith, k);
-              patch = m.patch;
-              head = now m.patch (In-append_right old.heads (m.patch ∷ []) m.patch (inl refl));
+              patch = p;
+              head = now p (In-append_right old.heads (p ∷ []) p (inl refl));
               made = record {
-                number = numbered;
-                block = ap (λ x. block_of_kind x.kind) m.is;
-                at = ap (λ x. at_of x.kind) m.is;
+                number = refl;
+                block = refl;
+                at = refl;
                 bytes =
-                    ap (content_of new.contents) numbered
-                    ∙ (ap (λ es. content_of es number) contents
-                    ∙ content_end old.contents number bytes (λ x k same. let given = F.given x (Contains-from_In old.contents x k) in omega (arith, given, same, next)));
+                    ap (λ es. content_of es number) contents
+                    ∙ content_end old.contents number bytes (λ x k same. let given = F.given x (Contains-from_In old.contents x k) in omega (arith, given, same, next));
               };
-              memory = ap (λ x. x.place) m.is;
+              memory = refl;
             })
         | inr k ↦ absurd k
       ];
   rises = let k = ap (λ s. s.numbers) m.state in omega (arith, k, next);
 }
   where
-    heads : new.heads ≡ old.heads ++ m.patch ∷ []
-    heads = ap (λ s. s.heads) m.state
+    p : Patch
+    p = fresh number (Change b at (length bytes) grade) m.row.dependencies
+
+    heads : new.heads ≡ old.heads ++ p ∷ []
+    heads = m.row.added
 
     contents : new.contents ≡ old.contents ++ (number, bytes) ∷ []
     contents = ap (λ s. s.contents) m.state
 
-    numbered : m.patch.number ≡ number
-    numbered = ap (λ x. x.number) m.is
-
     next : number ≡ old.numbers + 1
-    next = m.next
+    next = m.row.next
 
-    now : (q : Patch) → In (old.heads ++ m.patch ∷ []) q → Contains new.heads q
-    now q i = subst (λ hs. Contains hs q) (sym heads) (Contains-from_In (old.heads ++ m.patch ∷ []) q i)
+    now : (q : Patch) → In (old.heads ++ p ∷ []) q → Contains new.heads q
+    now q i = subst (λ hs. Contains hs q) (sym heads) (Contains-from_In (old.heads ++ p ∷ []) q i)
 
 pub carries_changed : (old new : State) (b at : ℕ) (bytes after : List ℕ) (number : ℕ) (grade : Grade) → MakesChange old b at bytes after number grade new → HeadsAreLawful old.heads old.numbers → ChangesFit old
     → Carries Never (made_now number b at bytes ∷ []) old new
@@ -227,16 +226,15 @@ pub extends_part : (old : State) (k : ℕ) (added : List ChangeMade) (new : Stat
 extends_part old k added new (gates {number = number} m) H F = extends_gated old new number m
 extends_part old k added new (depends {g = g} m) H F =
     extends_all old new (ap (λ s. s.contents) m.state) (ap (λ s. s.numbers) m.state)
-    (subst (Stay old.heads) (sym (ap (λ s. s.heads) m.state))
-    (stay_mapped (gains g m.names) old.heads (λ o h. let j = grown g m.names o in record { number = j.number; block = ap block_of_kind j.kind; at = ap at_of j.kind; place = λ b on. j.place })))
+    (subst (Stay old.heads) (sym m.row.gained)
+    (stay_mapped (gains g m.row.names) old.heads (λ o h. let j = grown g m.row.names o in record { number = j.number; block = ap block_of_kind j.kind; at = ap at_of j.kind; place = λ b on. j.place })))
 extends_part old k added new (seals {g = g} m) H F =
     extends_all old new (ap (λ s. s.contents) m.state) (ap (λ s. s.numbers) m.state)
-    (subst (Stay old.heads) (sym (ap (λ s. s.heads) m.state))
-    (stay_cascade old.heads (map (sealed g) old.heads) m.heads
-    (stay_mapped (sealed g) old.heads (λ o h. elim (sealed_cases old.heads m.heads old.numbers g H m.gate m.cascade o h) [
+    (stay_cascade old.heads (map (sealed g) old.heads) new.heads
+    (stay_mapped (sealed g) old.heads (λ o h. elim (sealed_cases old.heads new.heads old.numbers g H m.row.gate m.row.cascade o h) [
       | inl was ↦ subst (Stays o) (sym was.1) (record { number = refl; block = sym (ap block_of_kind was.0); at = sym (ap at_of was.0); place = λ b on. refl })
       | inr same ↦ subst (Stays o) (sym same) (stays_self o)
-    ])) m.cascade))
+    ])) m.row.cascade)
 extends_part old k added new (changes {b = b} {at = at} {number = number} {bytes = bytes} {after = after} {grade = grade} m) H F = extends_changed old new b at bytes after number grade m H F
 extends_part old k added new (regroups groups same) H F =
     extends_all old new (ap (λ s. s.contents) same) (ap (λ s. s.numbers) same) (subst (Stay old.heads) (sym (ap (λ s. s.heads) same)) (stay_self old.heads))

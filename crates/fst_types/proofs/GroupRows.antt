@@ -13,15 +13,15 @@ use Rattle.fst_types.specs.Writable.{IsInMemoryOn, InWritableSet}
 use Rattle.fst_types.specs.Cascade.{Follows, RestsOnDisk}
 use Rattle.fst_types.specs.Groups.{Group}
 use Rattle.fst_types.specs.State.{State}
-use Rattle.fst_types.specs.Making.{MakesChange}
-use Rattle.fst_types.specs.Gating.{Seals}
+use Rattle.fst_types.specs.Making.{ChangeIsMade}
+use Rattle.fst_types.specs.Gating.{GateIsSealed}
 use Rattle.fst_types.specs.Grouping.{MakesGroup, PutsAfter, MakesMember}
 use Rattle.fst_types.specs.Writing.{Issues}
 use Rattle.fst_types.specs.Refusals.{IsFirst}
 use Rattle.fst_types.specs.Order.{order}
 use Rattle.fst_types.specs.Events.{Depend, Seal, Issue, GroupAfter, GroupPatch}
 use Rattle.fst_types.proofs.Finite.{In-from_Contains}
-use Rattle.fst_types.proofs.SmallStates.{AllOf, each_of, only_in, down, true_false, not_direct, one_name, patch_of, group_of, state_of}
+use Rattle.fst_types.proofs.SmallStates.{AllOf, each_of, only_in, down, true_false, not_direct, none_above, one_name, patch_of, group_of, state_of}
 
 -- {"do":"group"} -> group 1: a head gate, and a tail gate after it
 abbrev first_gates : List Patch
@@ -29,17 +29,18 @@ first_gates = patch_of 1 OpenGate place.Memory [] ∷ patch_of 2 OpenGate place.
 
 pub first_group : MakesGroup (state_of 0 [] [] []) 1 (state_of 2 (patch_of 1 OpenGate place.Memory [] ∷ patch_of 2 OpenGate place.Memory (1 ∷ []) ∷ []) [] (group_of 1 [] false [] ∷ []))
 first_group = record {
-  with_head = state_of 1 (patch_of 1 OpenGate place.Memory [] ∷ []) [] [];
-  head = record { next = refl; state = refl };
-  with_tail = state_of 2 first_gates [] [];
-  tail = record { next = refl; state = refl };
-  tied = state_of 2 (patch_of 1 OpenGate place.Memory [] ∷ patch_of 2 OpenGate place.Memory (1 ∷ []) ∷ []) [] [];
-  tie = record {
-    gate = record { patch = patch_of 2 OpenGate place.Memory []; head = (1, omega arith, refl); numbered = refl; is_open = refl };
-    clear = λ n c. subst (λ (x : ℕ). (x ≢ 2) × (DependsOn first_gates x 2 → ⊥)) (only_in 1 n c) (λ e. omega (arith, e), λ d. true_false (nat_le 2 1) (down (λ x. nat_le x 1) first_gates refl 1 2 d refl) refl);
-    names = 1 ∷ [];
-    live = one_name first_gates 2 1 (record { patch = patch_of 1 OpenGate place.Memory []; head = (0, omega arith, refl); numbered = refl; live = λ e. cc }) (not_direct first_gates 2 1 refl);
-    state = refl;
+  row = record {
+    with_head = patch_of 1 OpenGate place.Memory [] ∷ [];
+    head = record { next = refl; added = refl };
+    with_tail = first_gates;
+    tail = record { next = refl; added = refl };
+    tie = record {
+      gate = record { patch = patch_of 2 OpenGate place.Memory []; head = (1, omega arith, refl); numbered = refl; is_open = refl };
+      clear = none_above first_gates 2 1 (λ e. omega (arith, e)) (λ d. true_false (nat_le 2 1) (down (λ x. nat_le x 1) first_gates refl 1 2 d refl) refl);
+      names = 1 ∷ [];
+      live = one_name first_gates 2 1 (record { patch = patch_of 1 OpenGate place.Memory []; head = (0, omega arith, refl); numbered = refl; live = λ e. cc }) (not_direct first_gates 2 1 refl);
+      gained = refl;
+    };
   };
   state = refl;
 }
@@ -53,15 +54,16 @@ in_order = patch_of 1 OpenGate place.Memory [] ∷ patch_of 2 OpenGate place.Mem
 
 pub put_after : PutsAfter (state_of 4 two_groups [] (group_of 1 [] false [] ∷ group_of 3 [] false [] ∷ [])) 3 1 (state_of 4 in_order [] (group_of 1 [] false [] ∷ group_of 3 [] false (1 ∷ []) ∷ []))
 put_after = record {
-  before = group_of 1 [] false [];
-  named = ((0, omega arith, refl), refl);
-  tied = state_of 4 in_order [] (group_of 1 [] false [] ∷ group_of 3 [] false [] ∷ []);
-  tie = record {
-    gate = record { patch = patch_of 3 OpenGate place.Memory []; head = (2, omega arith, refl); numbered = refl; is_open = refl };
-    clear = λ n c. subst (λ (x : ℕ). (x ≢ 3) × (DependsOn two_groups x 3 → ⊥)) (only_in 2 n c) (λ e. omega (arith, e), λ d. true_false (nat_le 3 2) (down (λ x. nat_le x 2) two_groups refl 2 3 d refl) refl);
-    names = 2 ∷ [];
-    live = one_name two_groups 3 2 (record { patch = patch_of 2 OpenGate place.Memory (1 ∷ []); head = (1, omega arith, refl); numbered = refl; live = λ e. cc }) (not_direct two_groups 3 2 refl);
-    state = refl;
+  row = record {
+    before = group_of 1 [] false [];
+    named = ((0, omega arith, refl), refl);
+    tie = record {
+      gate = record { patch = patch_of 3 OpenGate place.Memory []; head = (2, omega arith, refl); numbered = refl; is_open = refl };
+      clear = none_above two_groups 3 2 (λ e. omega (arith, e)) (λ d. true_false (nat_le 3 2) (down (λ x. nat_le x 2) two_groups refl 2 3 d refl) refl);
+      names = 2 ∷ [];
+      live = one_name two_groups 3 2 (record { patch = patch_of 2 OpenGate place.Memory (1 ∷ []); head = (1, omega arith, refl); numbered = refl; live = λ e. cc }) (not_direct two_groups 3 2 refl);
+      gained = refl;
+    };
   };
   state = refl;
 }
@@ -93,10 +95,9 @@ member_groups = group_of 1 [] false [] ∷ group_of 3 (5 ∷ []) false (1 ∷ []
 abbrev with_member : State
 with_member = state_of 5 member_heads ((5, 66 ∷ []) ∷ []) member_groups
 
-begin_third : Seals (state_of 4 in_order [] begun_groups) 3 (state_of 4 begun [] begun_groups)
+begin_third : GateIsSealed in_order 3 begun
 begin_third = record {
   gate = record { patch = patch_of 3 OpenGate place.Memory (2 ∷ []); head = (2, omega arith, refl); numbered = refl; is_open = refl };
-  heads = begun;
   cascade = record {
     same = refl;
     places = each_of (λ p. Follows p.kind → (p.place ≡ place.Memory) ⊎ (p.place ≡ place.Disk)) begun (λ f. inl refl, (λ f. inl refl, (λ f. inl refl, (λ f. inl refl, tt))));
@@ -105,7 +106,6 @@ begin_third = record {
       (λ f. absurd f, (λ f. (λ e. absurd (in_memory e), λ rests. absurd (in_memory (rests 2 (0, omega arith, refl) (patch_of 2 OpenGate place.Memory (1 ∷ [])) (1, omega arith, refl) refl))), (λ f. absurd f, tt))),
     );
   };
-  state = refl;
 }
   where
     in_memory : place.Memory ≡ place.Disk → ⊥
@@ -115,11 +115,10 @@ begin_third = record {
 fifth_waits : (heads : List Patch) → Contains heads fifth → (third : Patch) → Contains heads third → third.number ≡ 3 → Contains third.dependencies 2 → DependsOn heads 5 2
 fifth_waits heads h third k e named = join {q = 3} (one (record { patch = fifth; head = h; numbered = refl; named = (0, omega arith, refl) })) (one (record { patch = third; head = k; numbered = e; named = named }))
 
-make_fifth : MakesChange (state_of 4 begun [] begun_groups) 1 0 (66 ∷ []) (3 ∷ []) 5 grade.Soft (state_of 5 with_fifth ((5, 66 ∷ []) ∷ []) begun_groups)
+make_fifth : ChangeIsMade begun 4 1 0 1 (3 ∷ []) 5 grade.Soft with_fifth
 make_fifth = record {
   next = refl;
-  patch = fifth;
-  is = refl;
+  dependencies = 3 ∷ [];
   depends = record {
     rising = λ k h. omega (arith, h);
     only = λ n c. subst (λ (x : ℕ). (IsLiveNumber begun x × Contains (3 ∷ []) x) ⊎ IsOverlapped begun fifth x) (only_in 3 n c)
@@ -132,7 +131,7 @@ make_fifth = record {
     is_open = refl;
     depends = fifth_waits with_fifth (4, omega arith, refl) (patch_of 3 SealedGate place.Memory (2 ∷ [])) (2, omega arith, refl) refl (0, omega arith, refl);
   });
-  state = refl;
+  added = refl;
 }
   where
     no_change : (p : Patch) → Contains begun p → (b : ℕ) → IsOn p b → ⊥
@@ -142,17 +141,18 @@ pub first_member : MakesMember (state_of 4 in_order [] begun_groups) 3 1 0 (66 �
 first_member = record {
   group = group_of 3 [] false (1 ∷ []);
   named = ((1, omega arith, refl), refl);
-  begun = state_of 4 begun [] begun_groups;
-  begin = inl begin_third;
-  with_change = state_of 5 with_fifth ((5, 66 ∷ []) ∷ []) begun_groups;
-  change = make_fifth;
-  tied = state_of 5 member_heads ((5, 66 ∷ []) ∷ []) begun_groups;
-  tie = record {
-    gate = record { patch = patch_of 4 OpenGate place.Memory (3 ∷ []); head = (3, omega arith, refl); numbered = refl; is_open = refl };
-    clear = λ n c. subst (λ (x : ℕ). (x ≢ 4) × (DependsOn with_fifth x 4 → ⊥)) (only_in 5 n c) (λ e. omega (arith, e), λ d. true_false (not (4 == 4)) (down (λ x. not (x == 4)) with_fifth refl 5 4 d refl) refl);
-    names = 5 ∷ [];
-    live = one_name with_fifth 4 5 (record { patch = fifth; head = (4, omega arith, refl); numbered = refl; live = λ e. cc }) (not_direct with_fifth 4 5 refl);
-    state = refl;
+  row = record {
+    begun = begun;
+    begin = inl begin_third;
+    with_change = with_fifth;
+    change = make_fifth;
+    tie = record {
+      gate = record { patch = patch_of 4 OpenGate place.Memory (3 ∷ []); head = (3, omega arith, refl); numbered = refl; is_open = refl };
+      clear = none_above with_fifth 4 5 (λ e. omega (arith, e)) (λ d. true_false (not (4 == 4)) (down (λ x. not (x == 4)) with_fifth refl 5 4 d refl) refl);
+      names = 5 ∷ [];
+      live = one_name with_fifth 4 5 (record { patch = fifth; head = (4, omega arith, refl); numbered = refl; live = λ e. cc }) (not_direct with_fifth 4 5 refl);
+      gained = refl;
+    };
   };
   state = refl;
 }
@@ -306,7 +306,7 @@ pub both_in_one_write : Issues with_closed 1 1 (66 ∷ 65 ∷ 0 ∷ 0 ∷ []) (r
 })
 both_in_one_write = record {
   writable = record {
-    landed = of_first_block (λ p. p.place ≢ place.Flight) (λ e. cc) (λ e. cc);
+    none_flies = of_first_block (λ p. p.place ≢ place.Flight) (λ e. cc) (λ e. cc);
     some = (fifth, fifth_goes);
     hard = λ p i h. of_first_block (InWritableSet closed_heads 1) fifth_goes sixth_goes p i.head i.change;
   };
@@ -322,6 +322,7 @@ both_in_one_write = record {
     each = λ n p. subst (Contains (5 ∷ 6 ∷ [])) p.1 (of_first_block (λ q. Contains (5 ∷ 6 ∷ []) q.number) (0, omega arith, refl) (1, omega arith, refl) p.0 p.2.in_memory.head p.2.in_memory.change);
   };
   folded = refl;
+  row = refl;
   state = refl;
 }
   where

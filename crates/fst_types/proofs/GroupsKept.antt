@@ -4,7 +4,7 @@ use Rattle.std.proofs.lemmas.Bool.{cases_lt}
 use Rattle.std.proofs.lemmas.List.Elements.{Contains-push_cases}
 use Rattle.fst_types.specs.declared.grade.Grade.{Grade}
 use Rattle.fst_types.specs.Limits.{max_groups}
-use Rattle.fst_types.specs.Patches.{Empty, OpenGate, Patch, block_of_kind}
+use Rattle.fst_types.specs.Patches.{Change, Empty, OpenGate, Patch, block_of_kind}
 use Rattle.fst_types.specs.Gates.{IsOpenNumber}
 use Rattle.fst_types.specs.Groups.{Group, IsGroupGate, with_group}
 use Rattle.fst_types.specs.State.{State}
@@ -13,13 +13,13 @@ use Rattle.fst_types.specs.Order.{order}
 use Rattle.fst_types.specs.Making.{fresh, MakesChange, MakesGate}
 use Rattle.fst_types.specs.Gating.{Depends, Seals, sealed}
 use Rattle.fst_types.specs.Writing.{landed}
-use Rattle.fst_types.specs.Grouping.{SealsIfOpen, new_group, MakesGroup, PutsAfter, MakesMember, ClosesGroup}
+use Rattle.fst_types.specs.Grouping.{new_group}
 use Rattle.fst_types.specs.Facts.{IsTied, HeadsAreLawful, GroupIsLawful, GroupsAreLawful}
 use Rattle.fst_types.specs.Events.{Event, MakeChange, MakeEmpty, MakeGate, Depend, Seal, Issue, Settle, Retry, Evict, Forget, Choose, Pick, Show, AskPlace, AskFlight, AskStalled, AskStat, GroupNew, GroupAfter, GroupPatch, GroupClose, Reply}
 use Rattle.fst_types.specs.Step.{Row, change, empty, gate, depend, seal, issue, land, stall, lose, retry, evict, forget, choose, pick, show, ask_place, ask_flight, ask_stalled, ask_stat, GroupRow, group_new, group_after, group_patch, group_close, group}
 use Rattle.fst_types.proofs.Finite.{In-from_Contains, Contains-from_In, In-append_left, In-append_right}
 use Rattle.fst_types.proofs.Numbers.{live_cases}
-use Rattle.fst_types.proofs.Parts.{gates, depends, seals, changes}
+use Rattle.fst_types.proofs.Parts.{gates, depends, seals, changes, SealsIfOpen, NewInParts, new_in_parts, AfterInParts, after_in_parts, MemberInParts, member_in_parts, CloseInParts, close_in_parts}
 use Rattle.fst_types.proofs.Heads.{heads_part}
 use Rattle.fst_types.proofs.Apart.{apart_from, from_apart, apart_more, same_group, same_tail, tail_no_head}
 use Rattle.fst_types.proofs.Heirs.{NoneShut, Heirs, heirs_self, heirs_pushed, heirs_cascade, heirs_gained, heirs_sealed, heirs_launched, heirs_landed, heirs_forgotten, Passes, passes, passes_then}
@@ -32,23 +32,22 @@ none_in x c = omega (arith, c.1)
 pub passes_gate : (old : State) (number : ℕ) (new : State) → MakesGate old number new → HeadsAreLawful old.heads old.numbers → Passes NoneShut old.numbers old.heads new.heads
 passes_gate old number new m H =
     passes NoneShut old.heads new.heads old.numbers new.numbers H (heads_part old 1 [] new (gates m) H)
-    (subst (Heirs NoneShut old.numbers old.heads) (sym (ap (λ s. s.heads) m.state)) (heirs_pushed old.numbers old.heads (fresh number OpenGate []) m.next))
+    (subst (Heirs NoneShut old.numbers old.heads) (sym m.row.added) (heirs_pushed old.numbers old.heads (fresh number OpenGate []) m.row.next))
 
 pub passes_change : (old : State) (b at : ℕ) (bytes after : List ℕ) (number : ℕ) (grade : Grade) (new : State) → MakesChange old b at bytes after number grade new → HeadsAreLawful old.heads old.numbers → Passes NoneShut old.numbers old.heads new.heads
 passes_change old b at bytes after number grade new m H =
     passes NoneShut old.heads new.heads old.numbers new.numbers H (heads_part old 1 _ new (changes m) H)
-    (subst (Heirs NoneShut old.numbers old.heads) (sym (ap (λ s. s.heads) m.state)) (heirs_pushed old.numbers old.heads m.patch (ap (λ x. x.number) m.is ∙ m.next)))
+    (subst (Heirs NoneShut old.numbers old.heads) (sym (m.row.added)) (heirs_pushed old.numbers old.heads (fresh number (Change b at (length bytes) grade) m.row.dependencies) m.row.next))
 
 pub passes_depend : (old : State) (g : ℕ) (on : List ℕ) (new : State) → Depends old g on new → HeadsAreLawful old.heads old.numbers → Passes NoneShut old.numbers old.heads new.heads
 passes_depend old g on new m H =
     passes NoneShut old.heads new.heads old.numbers new.numbers H (heads_part old 0 [] new (depends m) H)
-    (subst (Heirs NoneShut old.numbers old.heads) (sym (ap (λ s. s.heads) m.state)) (heirs_gained old.numbers g m.names old.heads H m.gate))
+    (subst (Heirs NoneShut old.numbers old.heads) (sym m.row.gained) (heirs_gained old.numbers g m.row.names old.heads H m.row.gate))
 
 pub passes_seal : (old : State) (g : ℕ) (new : State) → Seals old g new → HeadsAreLawful old.heads old.numbers → Passes (λ n. n ≡ g) old.numbers old.heads new.heads
 passes_seal old g new m H =
     passes (λ n. n ≡ g) old.heads new.heads old.numbers new.numbers H (heads_part old 0 [] new (seals m) H)
-    (subst (Heirs (λ n. n ≡ g) old.numbers old.heads) (sym (ap (λ s. s.heads) m.state))
-    (heirs_cascade (λ n. n ≡ g) old.numbers old.heads (map (sealed g) old.heads) m.heads (heirs_sealed old.numbers g old.heads H m.gate) m.cascade))
+    (heirs_cascade (λ n. n ≡ g) old.numbers old.heads (map (sealed g) old.heads) new.heads (heirs_sealed old.numbers g old.heads H m.row.gate) m.row.cascade)
 
 -- a head that is sealed, or was no open gate
 pub record Begins (old : State) (g : ℕ) (new : State) : Type 0 where
@@ -79,7 +78,7 @@ never : (groups : List Group) (g : Group) → Contains groups g → (⊥ → ⊥
 never groups g c = (λ x. x, λ x. x)
 
 -- a new group
-module _ (old : State) (number : ℕ) (new : State) (m : MakesGroup old number new) (few : max_groups ≤ length old.groups → ⊥) (H : HeadsAreLawful old.heads old.numbers) (G : GroupsAreLawful old.heads old.numbers old.groups) where
+module _ (old : State) (number : ℕ) (new : State) (m : NewInParts old number new) (few : max_groups ≤ length old.groups → ⊥) (H : HeadsAreLawful old.heads old.numbers) (G : GroupsAreLawful old.heads old.numbers old.groups) where
   abbrev now_new : State
   now_new = record m.tied { groups = old.groups ++ new_group number ∷ [] }
 
@@ -115,7 +114,7 @@ module _ (old : State) (number : ℕ) (new : State) (m : MakesGroup old number n
 
   to_new : Passes ShutNew old.numbers old.heads m.tied.heads
   to_new =
-      let next = m.head.next in
+      let next = m.head.row.next in
       passes_then (λ n. NoneShut n ⊎ NoneShut n) NoneShut old.numbers m.with_tail.numbers old.heads m.with_tail.heads m.tied.heads (omega (arith, next, tail_numbers))
       (passes_then NoneShut NoneShut old.numbers m.with_head.numbers old.heads m.with_head.heads m.with_tail.heads (omega (arith, next, head_numbers)) to_head to_tail) to_tied
 
@@ -131,14 +130,14 @@ module _ (old : State) (number : ℕ) (new : State) (m : MakesGroup old number n
   }
 
   rises_new : old.numbers ≤ now_new.numbers
-  rises_new = let next = m.head.next in omega (arith, next, tied_numbers)
+  rises_new = let next = m.head.row.next in omega (arith, next, tied_numbers)
 
   keeps_group : (h : Group) → Contains old.groups h → (k : Group) × Contains now_new.groups k × IsKin h k
   keeps_group h c = (h, Contains-from_In (old.groups ++ new_group number ∷ []) h (In-append_left old.groups (new_group number ∷ []) h (In-from_Contains old.groups h c)), kin_self h)
 
   the_new : GroupIsLawful now_new.heads now_new.numbers now_new.groups (new_group number)
   the_new = record {
-    given = let next = m.head.next in (omega (arith, next), omega (arith, tied_numbers));
+    given = let next = m.head.row.next in (omega (arith, next), omega (arith, tied_numbers));
     tail_follows = refl;
     tail_after_head = tied_by m.with_tail m.tied (number + 1) (number ∷ []) number m.tie tail_lawful to_tied (omega (arith, tail_numbers)) (0, omega arith, refl);
     members_given = λ k c. absurd (none_in k c);
@@ -149,11 +148,11 @@ module _ (old : State) (number : ℕ) (new : State) (m : MakesGroup old number n
     head_open = (
       λ is_open. record { empty = refl; unclosed = refl },
       λ unbegun. open_on m.with_tail.numbers m.with_tail.heads m.tied.heads to_tied number
-          (open_on m.with_head.numbers m.with_head.heads m.with_tail.heads to_tail number (pushed_open old.heads m.with_head.heads number (ap (λ s. s.heads) m.head.state))),
+          (open_on m.with_head.numbers m.with_head.heads m.with_tail.heads to_tail number (pushed_open old.heads m.with_head.heads number (m.head.row.added))),
     );
     tail_open = (
       λ is_open. refl,
-      λ unclosed. open_on m.with_tail.numbers m.with_tail.heads m.tied.heads to_tied (number + 1) (pushed_open m.with_head.heads m.with_tail.heads (number + 1) (ap (λ s. s.heads) m.tail.state)),
+      λ unclosed. open_on m.with_tail.numbers m.with_tail.heads m.tied.heads to_tied (number + 1) (pushed_open m.with_head.heads m.with_tail.heads (number + 1) (m.tail.row.added)),
     );
   }
 
@@ -161,7 +160,7 @@ module _ (old : State) (number : ℕ) (new : State) (m : MakesGroup old number n
   groups_made = subst (λ (s : State). GroupsAreLawful s.heads s.numbers s.groups) (sym m.state) (record {
     few = let long = length-append old.groups (new_group number ∷ []) in let k = below few in omega (arith, long, k);
     apart = from_apart (old.groups ++ new_group number ∷ [])
-        (apart_more old.groups (new_group number) (apart_from old.groups G.apart) (λ h i. let k = (G.each h (Contains-from_In old.groups h i)).given.1 in let next = m.head.next in omega (arith, k, next)));
+        (apart_more old.groups (new_group number) (apart_from old.groups G.apart) (λ h i. let k = (G.each h (Contains-from_In old.groups h i)).given.1 in let next = m.head.row.next in omega (arith, k, next)));
     each = λ g c. elim (Contains-push_cases old.groups (new_group number) g c) [
       | inl was ↦ held_same ShutNew old now_new to_new rises_new G keeps_group g was (none_shut g.head) (none_shut g.tail)
       | inr e ↦ subst (GroupIsLawful now_new.heads now_new.numbers now_new.groups) e the_new
@@ -172,7 +171,7 @@ module _ (old : State) (number : ℕ) (new : State) (m : MakesGroup old number n
       below out = elim (cases_lt (length old.groups) max_groups) [ inl lt ↦ omega (arith, lt) | inr past ↦ absurd (out past) ]
 
 -- a group put after another
-module _ (old : State) (n j : ℕ) (new : State) (m : PutsAfter old n j new) (H : HeadsAreLawful old.heads old.numbers) (G : GroupsAreLawful old.heads old.numbers old.groups) where
+module _ (old : State) (n j : ℕ) (new : State) (m : AfterInParts old n j new) (H : HeadsAreLawful old.heads old.numbers) (G : GroupsAreLawful old.heads old.numbers old.groups) where
   abbrev put : Group → Group
   put g = record g { after = g.after ++ j ∷ [] }
 
@@ -217,9 +216,12 @@ module _ (old : State) (n j : ℕ) (new : State) (m : PutsAfter old n j new) (H 
   })
 
 -- a new change of a group
-module _ (old : State) (n b at : ℕ) (bytes : List ℕ) (number : ℕ) (grade : Grade) (new : State) (m : MakesMember old n b at bytes number grade new) (H : HeadsAreLawful old.heads old.numbers) (G : GroupsAreLawful old.heads old.numbers old.groups) where
+module _ (old : State) (n b at : ℕ) (bytes : List ℕ) (number : ℕ) (grade : Grade) (new : State) (m : MemberInParts old n b at bytes number grade new) (H : HeadsAreLawful old.heads old.numbers) (G : GroupsAreLawful old.heads old.numbers old.groups) where
   abbrev joined : Group → Group
   joined g = record g { members = g.members ++ number ∷ [] }
+
+  abbrev made : Patch
+  made = fresh number (Change b at (length bytes) grade) m.change.row.dependencies
 
   abbrev now_joined : State
   now_joined = record m.tied { groups = with_group old.groups n joined }
@@ -240,7 +242,7 @@ module _ (old : State) (n b at : ℕ) (bytes : List ℕ) (number : ℕ) (grade :
   tied_same = ap (λ s. s.numbers) m.tie.state ∙ change_numbers
 
   next_number : number ≡ old.numbers + 1
-  next_number = let a = m.change.next in let c = begun.numbers in omega (arith, a, c)
+  next_number = let a = m.change.row.next in let c = begun.numbers in omega (arith, a, c)
 
   to_change : Passes NoneShut m.begun.numbers m.begun.heads m.with_change.heads
   to_change = passes_change m.begun b at bytes (n ∷ []) number grade m.with_change m.change begun.heads
@@ -274,10 +276,10 @@ module _ (old : State) (n b at : ℕ) (bytes : List ℕ) (number : ℕ) (grade :
       elim (live_cases m.begun.heads n) [
         | inr disk ↦ to_change.tied number n (let c = begun.numbers in omega (arith, few, c)) (inl disk.0)
         | inl live ↦ inr (record {
-          patch = m.change.patch;
-          head = subst (λ hs. Contains hs m.change.patch) (sym (ap (λ s. s.heads) m.change.state)) (Contains-from_In (m.begun.heads ++ m.change.patch ∷ []) m.change.patch (In-append_right m.begun.heads (m.change.patch ∷ []) m.change.patch (inl refl)));
-          numbered = ap (λ x. x.number) m.change.is;
-          named = m.change.depends.each n (inl (record { patch = live.0; head = live.1; numbered = live.2; live = live.3 }, (0, omega arith, refl)));
+          patch = made;
+          head = subst (λ hs. Contains hs made) (sym (m.change.row.added)) (Contains-from_In (m.begun.heads ++ made ∷ []) made (In-append_right m.begun.heads (made ∷ []) made (inl refl)));
+          numbered = refl;
+          named = m.change.row.depends.each n (inl (record { patch = live.0; head = live.1; numbered = live.2; live = live.3 }, (0, omega arith, refl)));
         })
       ]
 
@@ -288,9 +290,9 @@ module _ (old : State) (n b at : ℕ) (bytes : List ℕ) (number : ℕ) (grade :
     before_tail = subst (λ (x : Group). IsTied m.tied.heads x.tail number) same (tied_by m.with_change m.tied m.group.tail (number ∷ []) number m.tie change_lawful to_tie (omega (arith, change_numbers)) (0, omega arith, refl));
     change = λ p h e.
         let o = to_tie.changes p h (omega (arith, e, change_numbers)) in
-        elim (Contains-push_cases m.begun.heads m.change.patch o.0 (subst (λ hs. Contains hs o.0) (ap (λ s. s.heads) m.change.state) o.1)) [
+        elim (Contains-push_cases m.begun.heads made o.0 (subst (λ hs. Contains hs o.0) (m.change.row.added) o.1)) [
           | inl was ↦ let k = (begun.heads.one_place_each.numbered o.0 was).1 in let c = begun.numbers in let f = o.2 in absurd (omega (arith, k, c, f, e, next_number))
-          | inr is ↦ (b, o.3 ∙ (ap (λ x. block_of_kind x.kind) (sym is) ∙ ap (λ x. block_of_kind x.kind) m.change.is))
+          | inr is ↦ (b, o.3 ∙ ap (λ x. block_of_kind x.kind) (sym is))
         ];
   }
     where
@@ -332,7 +334,7 @@ module _ (old : State) (n b at : ℕ) (bytes : List ℕ) (number : ℕ) (grade :
   })
 
 -- a group closed
-module _ (old : State) (n : ℕ) (new : State) (m : ClosesGroup old n new) (H : HeadsAreLawful old.heads old.numbers) (G : GroupsAreLawful old.heads old.numbers old.groups) where
+module _ (old : State) (n : ℕ) (new : State) (m : CloseInParts old n new) (H : HeadsAreLawful old.heads old.numbers) (G : GroupsAreLawful old.heads old.numbers old.groups) where
   abbrev ended : Group → Group
   ended g = record g { closed = true }
 
@@ -424,36 +426,36 @@ spares s (GroupPatch share k b at bytes faulted) n = tt
 spares s (GroupClose k) n = tt
 
 groups_grouped : (old new : State) (e : Event) (r : Reply) → Spares old e → GroupRow old e r new → HeadsAreLawful old.heads old.numbers → GroupsAreLawful old.heads old.numbers old.groups → GroupsAreLawful new.heads new.numbers new.groups
-groups_grouped old new e r n (group_new {number = number} m) H G = groups_made old number new m n H G
-groups_grouped old new e r n (group_after {n = k} {m = j} m) H G = groups_put old k j new m H G
-groups_grouped old new e r n (group_patch {n = k} {b = b} {at = at} {number = number} {bytes = bytes} {grade = grade} m) H G = groups_joined old k b at bytes number grade new m H G
-groups_grouped old new e r n (group_close {n = k} m) H G = groups_ended old k new m H G
+groups_grouped old new e r n (group_new {number = number} m) H G = groups_made old number new (new_in_parts old number new m) n H G
+groups_grouped old new e r n (group_after {n = k} {m = j} m) H G = groups_put old k j new (after_in_parts old k j new m) H G
+groups_grouped old new e r n (group_patch {n = k} {b = b} {at = at} {number = number} {bytes = bytes} {grade = grade} m) H G = groups_joined old k b at bytes number grade new (member_in_parts old k b at bytes number grade new m) H G
+groups_grouped old new e r n (group_close {n = k} m) H G = groups_ended old k new (close_in_parts old k new m) H G
 
 pub groups_row : (old new : State) (e : Event) (r : Reply) → Spares old e → Row old e r new → HeadsAreLawful old.heads old.numbers → HeadsAreLawful new.heads new.numbers → GroupsAreLawful old.heads old.numbers old.groups → GroupsAreLawful new.heads new.numbers new.groups
-groups_row old new e r n (change m) H K G =
-    plain NoneShut old new (subst (Heirs NoneShut old.numbers old.heads) (sym (ap (λ s. s.heads) m.state)) (heirs_pushed old.numbers old.heads m.patch (ap (λ x. x.number) m.is ∙ m.next)))
-    H K (let k = ap (λ s. s.numbers) m.state in omega (arith, k, m.next)) (ap (λ s. s.groups) m.state) (never old.groups) G
+groups_row old new e r n (change {b = b} {at = at} {number = number} {bytes = bytes} {grade = grade} m) H K G =
+    plain NoneShut old new (subst (Heirs NoneShut old.numbers old.heads) (sym (m.row.added)) (heirs_pushed old.numbers old.heads (fresh number (Change b at (length bytes) grade) m.row.dependencies) m.row.next))
+    H K (let k = ap (λ s. s.numbers) m.state in omega (arith, k, m.row.next)) (ap (λ s. s.groups) m.state) (never old.groups) G
 groups_row old new e r n (empty {number = number} m) H K G =
-    plain NoneShut old new (subst (Heirs NoneShut old.numbers old.heads) (sym (ap (λ s. s.heads) m.state))
-    (heirs_cascade NoneShut old.numbers old.heads (old.heads ++ fresh number Empty m.dependencies ∷ []) m.heads (heirs_pushed old.numbers old.heads (fresh number Empty m.dependencies) m.next) m.cascade))
-    H K (let k = ap (λ s. s.numbers) m.state in omega (arith, k, m.next)) (ap (λ s. s.groups) m.state) (never old.groups) G
+    plain NoneShut old new
+    (heirs_cascade NoneShut old.numbers old.heads (old.heads ++ fresh number Empty m.row.dependencies ∷ []) new.heads (heirs_pushed old.numbers old.heads (fresh number Empty m.row.dependencies) m.row.next) m.row.cascade)
+    H K (let k = ap (λ s. s.numbers) m.state in omega (arith, k, m.row.next)) (ap (λ s. s.groups) m.state) (never old.groups) G
 groups_row old new e r n (gate {number = number} m) H K G =
-    plain NoneShut old new (subst (Heirs NoneShut old.numbers old.heads) (sym (ap (λ s. s.heads) m.state)) (heirs_pushed old.numbers old.heads (fresh number OpenGate []) m.next))
-    H K (let k = ap (λ s. s.numbers) m.state in omega (arith, k, m.next)) (ap (λ s. s.groups) m.state) (never old.groups) G
+    plain NoneShut old new (subst (Heirs NoneShut old.numbers old.heads) (sym m.row.added) (heirs_pushed old.numbers old.heads (fresh number OpenGate []) m.row.next))
+    H K (let k = ap (λ s. s.numbers) m.state in omega (arith, k, m.row.next)) (ap (λ s. s.groups) m.state) (never old.groups) G
 groups_row old new e r n (depend {g = g} m) H K G =
-    plain NoneShut old new (subst (Heirs NoneShut old.numbers old.heads) (sym (ap (λ s. s.heads) m.state)) (heirs_gained old.numbers g m.names old.heads H m.gate))
+    plain NoneShut old new (subst (Heirs NoneShut old.numbers old.heads) (sym m.row.gained) (heirs_gained old.numbers g m.row.names old.heads H m.row.gate))
     H K (let k = ap (λ s. s.numbers) m.state in omega (arith, k)) (ap (λ s. s.groups) m.state) (never old.groups) G
 groups_row old new e r n (seal {g = g} m) H K G =
-    plain (λ k. k ≡ g) old new (subst (Heirs (λ k. k ≡ g) old.numbers old.heads) (sym (ap (λ s. s.heads) m.state))
-    (heirs_cascade (λ k. k ≡ g) old.numbers old.heads (map (sealed g) old.heads) m.heads (heirs_sealed old.numbers g old.heads H m.gate) m.cascade))
+    plain (λ k. k ≡ g) old new
+    (heirs_cascade (λ k. k ≡ g) old.numbers old.heads (map (sealed g) old.heads) new.heads (heirs_sealed old.numbers g old.heads H m.row.gate) m.row.cascade)
     H K (let k = ap (λ s. s.numbers) m.state in omega (arith, k)) (ap (λ s. s.groups) m.state)
     (λ h in_groups. (λ e. n (h, in_groups, inl (sym e)), λ e. n (h, in_groups, inr (sym e)))) G
 groups_row old new e r n (issue {b = b} m) H K G =
-    plain NoneShut old new (subst (Heirs NoneShut old.numbers old.heads) (sym (ap (λ s. s.heads) m.state)) (heirs_launched old.numbers b m.chosen old.heads H m.writable m.choice))
+    plain NoneShut old new (subst (Heirs NoneShut old.numbers old.heads) (sym m.row) (heirs_launched old.numbers b m.chosen old.heads H m.writable m.choice))
     H K (let k = ap (λ s. s.numbers) m.state in omega (arith, k)) (ap (λ s. s.groups) m.state) (never old.groups) G
 groups_row old new e r n (land {b = b} m) H K G =
-    plain NoneShut old new (subst (Heirs NoneShut old.numbers old.heads) (sym (ap (λ s. s.heads) m.state))
-    (heirs_cascade NoneShut old.numbers old.heads (map (landed b) old.heads) m.heads (heirs_landed old.numbers b old.heads) m.cascade))
+    plain NoneShut old new
+    (heirs_cascade NoneShut old.numbers old.heads (map (landed b) old.heads) new.heads (heirs_landed old.numbers b old.heads) m.row)
     H K (let k = ap (λ s. s.numbers) m.state in omega (arith, k)) (ap (λ s. s.groups) m.state) (never old.groups) G
 groups_row old new e r n (stall m) H K G =
     plain NoneShut old new (subst (Heirs NoneShut old.numbers old.heads) (sym (ap (λ s. s.heads) m.state)) (heirs_self old.numbers old.heads))
@@ -466,7 +468,7 @@ groups_row old new e r n (retry m) H K G =
     H K (let k = ap (λ s. s.numbers) m.state in omega (arith, k)) (ap (λ s. s.groups) m.state) (never old.groups) G
 groups_row old new e r n evict H K G = G
 groups_row old new e r n (forget m) H K G =
-    plain NoneShut old new (subst (Heirs NoneShut old.numbers old.heads) (sym (ap (λ s. s.heads) m.state)) (heirs_forgotten old.numbers old.heads))
+    plain NoneShut old new (subst (Heirs NoneShut old.numbers old.heads) (sym m.row.kept) (heirs_forgotten old.numbers old.heads))
     H K (let k = ap (λ s. s.numbers) m.state in omega (arith, k)) (ap (λ s. s.groups) m.state) (never old.groups) G
 groups_row old new e r n (choose m) H K G = G
 groups_row old new e r n (pick m) H K G = G

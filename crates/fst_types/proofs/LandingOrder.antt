@@ -24,6 +24,7 @@ use Rattle.fst_types.specs.Run.{ChangeMade, ShareByte, Call, Run, start, more, c
 use Rattle.fst_types.proofs.Finite.{In, In-from_Contains}
 use Rattle.fst_types.proofs.Ascends.{from_ascends, filter_same}
 use Rattle.fst_types.proofs.Carries.{Never, IsFlying}
+use Rattle.fst_types.proofs.Fits.{lie_row}
 use Rattle.fst_types.proofs.Effects.{Effect, quiet, landing, added_by, effect_row}
 use Rattle.fst_types.proofs.Numbers.{given_told, among_told, one_block}
 use Rattle.fst_types.proofs.Along.{is_down, down_of, is_out, out_of, Along, along, crash_folded, image_folded, down_same, down_landed}
@@ -88,7 +89,7 @@ none_made (GroupClose n) f made = refl
 along_step : (first old new : State) (e : Event) (r : Reply) (made : List ChangeMade) → Step old e r new → Along first old made → Along first new (made_after made e r)
 along_step first old new e r made (accepted n row) A =
     subst (Along first new) (sym (made_row e r made))
-    (along_effect first old new made (added_by e r) (effect_row old new e r n row A.lawful.heads A.lawful.changes_fit) (step_keeps_lawful old new e r A.lawful (accepted n row)) A)
+    (along_effect first old new made (added_by e r) (effect_row old new e r (lie_row old new e r n row) row A.lawful.heads A.lawful.changes_fit) (step_keeps_lawful old new e r A.lawful (accepted n row)) A)
 along_step first old new e r made (refused {fault = f} refusal) A = subst (Along first old) (sym (none_made e f made)) A
 
 along_start : (first : State) → IsLawful first → first.heads ≡ [] → Along first first []

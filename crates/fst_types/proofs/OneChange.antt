@@ -9,9 +9,8 @@ use Rattle.fst_types.specs.Patches.{Change, Patch, IsOpenGate, block_of_kind, at
 use Rattle.fst_types.specs.Dependencies.{DirectlyOn, DependsOn, Needs, IsLiveNumber}
 use Rattle.fst_types.specs.Overlaps.{IsOverlapped}
 use Rattle.fst_types.specs.Grades.{IsGradedHard, FollowsRule}
-use Rattle.fst_types.specs.State.{State}
 use Rattle.fst_types.specs.Facts.{HeadsAreLawful}
-use Rattle.fst_types.specs.Making.{fresh, MakesChange}
+use Rattle.fst_types.specs.Making.{fresh, ChangeIsMade}
 use Rattle.fst_types.specs.Events.{MadeChange}
 use Rattle.fst_types.proofs.Finite.{In-from_Contains, Contains-from_In, In-append_left, In-append_right}
 use Rattle.fst_types.proofs.NewChange.{IsWithin, old_head, need_small}
@@ -67,23 +66,25 @@ grade_same grades.Hard grades.Soft P Q a b f k = absurd (b (f a))
 grade_same grades.Soft grades.Hard P Q a b f k = absurd (a (k b))
 grade_same grades.Soft grades.Soft P Q a b f k = refl
 
-pub changes_same : (old new other : State) (b at : ℕ) (bytes after : List ℕ) (number also : ℕ) (g h : Grade) → HeadsAreLawful old.heads old.numbers
-    → MakesChange old b at bytes after number g new → MakesChange old b at bytes after also h other → (MadeChange number g ≡ MadeChange also h) × (new ≡ other)
-changes_same old new other b at bytes after number also g h H m k = (
-  ap (λ x. MadeChange x g) n ∙ ap (λ x. MadeChange also x) same_grade,
-  m.state ∙ (ap (λ (x : ℕ × Patch). record old { numbers = x.0; made = old.made + 1; heads = old.heads ++ x.1 ∷ []; contents = old.contents ++ (x.0, bytes) ∷ [] }) pair ∙ sym k.state),
+pub changes_fixed : (heads later also : List Patch) (numbers b at len : ℕ) (after : List ℕ) (number other : ℕ) (g h : Grade) → HeadsAreLawful heads numbers
+    → ChangeIsMade heads numbers b at len after number g later → ChangeIsMade heads numbers b at len after other h also → (MadeChange number g ≡ MadeChange other h) × (later ≡ also)
+changes_fixed heads later also numbers b at len after number other g h H m k = (
+  ap (λ x. MadeChange x g) n ∙ ap (λ x. MadeChange other x) same_grade,
+  m.added
+      ∙ (ap (λ x. heads ++ fresh x (Change b at len g) m.dependencies ∷ []) n
+      ∙ (ap (λ x. heads ++ fresh other (Change b at len x) m.dependencies ∷ []) same_grade ∙ (ap (λ ds. heads ++ fresh other (Change b at len h) ds ∷ []) same_dependencies ∙ sym k.added))),
 )
   where
-    n : number ≡ also
+    n : number ≡ other
     n = m.next ∙ sym k.next
 
-    m_kind : m.patch.kind ≡ Change b at (length bytes) g
-    m_kind = ap (λ x. x.kind) m.is
+    p : Patch
+    p = fresh number (Change b at len g) m.dependencies
 
-    k_kind : k.patch.kind ≡ Change b at (length bytes) h
-    k_kind = ap (λ x. x.kind) k.is
+    q : Patch
+    q = fresh other (Change b at len h) k.dependencies
 
-    over : (p q : Patch) → block_of_kind q.kind ≡ block_of_kind p.kind → at_of q.kind ≡ at_of p.kind → len_of q.kind ≡ len_of p.kind → (x : ℕ) → IsOverlapped old.heads p x → IsOverlapped old.heads q x
+    over : (p q : Patch) → block_of_kind q.kind ≡ block_of_kind p.kind → at_of q.kind ≡ at_of p.kind → len_of q.kind ≡ len_of p.kind → (x : ℕ) → IsOverlapped heads p x → IsOverlapped heads q x
     over p q e f l x o = record {
       patch = o.patch;
       head = o.head;
@@ -98,41 +99,32 @@ changes_same old new other b at bytes after number also g h H m k = (
       };
     }
 
-    same_dependencies : m.patch.dependencies ≡ k.patch.dependencies
+    same_dependencies : m.dependencies ≡ k.dependencies
     same_dependencies =
-        lists_same _ _ m.patch.dependencies k.patch.dependencies m.depends k.depends
-        (λ x e. elim e [ inl l ↦ inl l | inr o ↦ inr (over m.patch k.patch (ap block_of_kind k_kind ∙ sym (ap block_of_kind m_kind)) (ap at_of k_kind ∙ sym (ap at_of m_kind)) (ap len_of k_kind ∙ sym (ap len_of m_kind)) x o) ])
-        (λ x e. elim e [ inl l ↦ inl l | inr o ↦ inr (over k.patch m.patch (ap block_of_kind m_kind ∙ sym (ap block_of_kind k_kind)) (ap at_of m_kind ∙ sym (ap at_of k_kind)) (ap len_of m_kind ∙ sym (ap len_of k_kind)) x o) ])
+        lists_same _ _ m.dependencies k.dependencies m.depends k.depends
+        (λ x e. elim e [ inl l ↦ inl l | inr o ↦ inr (over p q refl refl refl x o) ])
+        (λ x e. elim e [ inl l ↦ inl l | inr o ↦ inr (over q p refl refl refl x o) ])
 
-    m_number : m.patch.number ≡ number
-    m_number = ap (λ x. x.number) m.is
-
-    k_number : k.patch.number ≡ also
-    k_number = ap (λ x. x.number) k.is
-
-    within : IsWithin old.heads old.numbers
+    within : IsWithin heads numbers
     within = λ x h. ((H.one_place_each.numbered x h).1, λ q c. H.one_place_each.named x q h c)
 
-    given : (p : Patch) → Lists (λ x. (IsLiveNumber old.heads x × Contains after x) ⊎ IsOverlapped old.heads p x) p.dependencies → (x : ℕ) → Contains p.dependencies x → x ≤ old.numbers
+    given : (p : Patch) → Lists (λ x. (IsLiveNumber heads x × Contains after x) ⊎ IsOverlapped heads p x) p.dependencies → (x : ℕ) → Contains p.dependencies x → x ≤ numbers
     given p ds x c = elim (ds.only x c) [
       | inl l ↦ let w = (H.one_place_each.numbered l.0.patch l.0.head).1 in omega (arith, w, l.0.numbered)
       | inr o ↦ let w = (H.one_place_each.numbered o.patch o.head).1 in omega (arith, w, o.numbered)
     ]
 
-    shut : (p : Patch) (g : Grade) → p.kind ≡ Change b at (length bytes) g → IsOpenGate p → ⊥
+    shut : (p : Patch) (g : Grade) → p.kind ≡ Change b at len g → IsOpenGate p → ⊥
     shut p g e f = cc
 
-    m_rule : FollowsRule g (IsGradedHard old.heads (old.heads ++ m.patch ∷ []) b m.patch.number)
-    m_rule = subst (λ x. FollowsRule g (IsGradedHard old.heads (old.heads ++ m.patch ∷ []) b x)) (sym m_number) (subst (λ hs. FollowsRule g (IsGradedHard old.heads hs b number)) (ap (λ s. s.heads) m.state) m.graded)
+    m_rule : FollowsRule g (IsGradedHard heads (heads ++ p ∷ []) b number)
+    m_rule = subst (λ hs. FollowsRule g (IsGradedHard heads hs b number)) m.added m.graded
 
-    k_rule : FollowsRule h (IsGradedHard old.heads (old.heads ++ k.patch ∷ []) b k.patch.number)
-    k_rule = subst (λ x. FollowsRule h (IsGradedHard old.heads (old.heads ++ k.patch ∷ []) b x)) (sym k_number) (subst (λ hs. FollowsRule h (IsGradedHard old.heads hs b also)) (ap (λ s. s.heads) k.state) k.graded)
+    k_rule : FollowsRule h (IsGradedHard heads (heads ++ q ∷ []) b other)
+    k_rule = subst (λ hs. FollowsRule h (IsGradedHard heads hs b other)) k.added k.graded
 
     same_grade : g ≡ h
     same_grade =
         grade_same g h _ _ m_rule k_rule
-        (hard_over old.heads old.numbers within m.patch k.patch (k_number ∙ k.next) (given k.patch k.depends) (m_number ∙ (n ∙ sym k_number)) same_dependencies (shut k.patch h k_kind) b)
-        (hard_over old.heads old.numbers within k.patch m.patch (m_number ∙ m.next) (given m.patch m.depends) (k_number ∙ (sym n ∙ sym m_number)) (sym same_dependencies) (shut m.patch g m_kind) b)
-
-    pair : ◌≡◌ {A = ℕ × Patch} (number, m.patch) (also, k.patch)
-    pair = ap (λ x. (x, m.patch)) n ∙ ap (λ p. (also, p)) (m.is ∙ (ap (λ x. fresh x (Change b at (length bytes) g) m.patch.dependencies) n ∙ (ap (λ x. fresh also (Change b at (length bytes) x) m.patch.dependencies) same_grade ∙ (ap (λ x. fresh also (Change b at (length bytes) h) x) same_dependencies ∙ sym k.is))))
+        (hard_over heads numbers within p q k.next (given q k.depends) n same_dependencies (shut q h refl) b)
+        (hard_over heads numbers within q p m.next (given p m.depends) (sym n) (sym same_dependencies) (shut p g refl) b)

@@ -1,5 +1,5 @@
 -- A change goes from memory to flight to disk, and no other way.
-use Rattle.std.proofs.Common.{◌≡◌, ◌⊎◌, ℕ, ◌<◌, true, List, [], ◌∷◌, ◌++◌, map, filter, Contains, Some, None, refl, sym, ap, subst, ◌∙◌, inl, inr, arith}
+use Rattle.std.proofs.Common.{◌≡◌, ◌⊎◌, ℕ, ◌<◌, true, List, [], ◌∷◌, ◌++◌, length, map, filter, Contains, Some, None, refl, sym, ap, subst, ◌∙◌, inl, inr, arith}
 use Rattle.std.proofs.lemmas.List.Elements.{Contains-push_cases}
 use Rattle.fst_types.specs.declared.place.Place.TheVariants as place
 use Rattle.fst_types.specs.Patches.{Kind, Empty, Patch, IsOn, IsLive, block_of_kind}
@@ -9,8 +9,6 @@ use Rattle.fst_types.specs.State.{State}
 use Rattle.fst_types.specs.Cascade.{IsCascadeOf}
 use Rattle.fst_types.specs.Making.{fresh}
 use Rattle.fst_types.specs.Writing.{Issues, launched, landed}
-use Rattle.fst_types.specs.Refusals.{NoneHolds}
-use Rattle.fst_types.specs.Order.{order}
 use Rattle.fst_types.specs.Facts.{IsLawful, HeadsAreLawful}
 use Rattle.fst_types.specs.Events.{Event, Issue, Settle, Reply}
 use Rattle.fst_types.specs.Run.{ChangeMade}
@@ -25,7 +23,7 @@ use Rattle.fst_types.proofs.Finite.{Contains-from_In}
 use Rattle.fst_types.proofs.Landing.{landed_cases}
 use Rattle.fst_types.proofs.Issuing.{launched_cases}
 use Rattle.fst_types.proofs.Dropping.{filter_in}
-use Rattle.fst_types.proofs.Fits.{lie_row}
+use Rattle.fst_types.proofs.Fits.{LieIn, lie_row}
 use Rattle.fst_types.proofs.Heads.{heads_row}
 use Rattle.fst_types.proofs.Parts.{Part, gates, depends, seals, changes, made_by, parts_row}
 use Rattle.fst_types.proofs.Carries.{Carries, Never, IsFlying}
@@ -138,35 +136,35 @@ move_forgotten e old numbers p b h on = move_self e old numbers p b (Contains-fr
 move_to : (e : Event) (old : List Patch) (numbers : ℕ) (heads new : List Patch) → new ≡ heads → MoveOn e old numbers heads → MoveOn e old numbers new
 move_to e old numbers heads new same move = subst (MoveOn e old numbers) (sym same) move
 
-move_row : (old new : State) (e : Event) (r : Reply) → NoneHolds (order old e) → Row old e r new → IsLawful old → HeadsAreLawful new.heads new.numbers → MoveOn e old.heads old.numbers new.heads
-move_row old new e r n (change m) L H = move_part e old 1 _ new (changes m) L H
-move_row old new e r n (empty {number = number} m) L H =
-    let mid = old.heads ++ fresh number Empty m.dependencies ∷ [] in
-    move_to e old.heads old.numbers m.heads new.heads (ap (λ s. s.heads) m.state) (move_cascade e old.heads mid m.heads old.numbers (move_emptied e old.heads old.numbers number m.dependencies) m.cascade)
-move_row old new e r n (gate m) L H = move_part e old 1 [] new (gates m) L H
-move_row old new e r n (depend m) L H = move_part e old 0 [] new (depends m) L H
-move_row old new e r n (seal m) L H = move_part e old 0 [] new (seals m) L H
-move_row old new e r n (issue {b = b} {ticket = ticket} {image = image} m) L H = move_to (Issue b) old.heads old.numbers (map (launched m.chosen) old.heads) new.heads (ap (λ s. s.heads) m.state) (move_issued old new b ticket image m L.heads)
-move_row old new e r n (land {ticket = ticket} {b = b} {image = image} m) L H =
+move_row : (old new : State) (e : Event) (r : Reply) → LieIn (length old.blocks) old.size (added_by e r) → Row old e r new → IsLawful old → HeadsAreLawful new.heads new.numbers → MoveOn e old.heads old.numbers new.heads
+move_row old new e r lie (change m) L H = move_part e old 1 _ new (changes m) L H
+move_row old new e r lie (empty {number = number} m) L H =
+    let mid = old.heads ++ fresh number Empty m.row.dependencies ∷ [] in
+    move_cascade e old.heads mid new.heads old.numbers (move_emptied e old.heads old.numbers number m.row.dependencies) m.row.cascade
+move_row old new e r lie (gate m) L H = move_part e old 1 [] new (gates m) L H
+move_row old new e r lie (depend m) L H = move_part e old 0 [] new (depends m) L H
+move_row old new e r lie (seal m) L H = move_part e old 0 [] new (seals m) L H
+move_row old new e r lie (issue {b = b} {ticket = ticket} {image = image} m) L H = move_to (Issue b) old.heads old.numbers (map (launched m.chosen) old.heads) new.heads m.row (move_issued old new b ticket image m L.heads)
+move_row old new e r lie (land {ticket = ticket} {b = b} {image = image} m) L H =
     let e = Settle ticket b image true in
-    move_to e old.heads old.numbers m.heads new.heads (ap (λ s. s.heads) m.state) (move_cascade e old.heads (map (landed b) old.heads) m.heads old.numbers (move_landed old.heads old.numbers ticket b image) m.cascade)
-move_row old new e r n (stall m) L H = move_to e old.heads old.numbers old.heads new.heads (ap (λ s. s.heads) m.state) (move_self e old.heads old.numbers)
-move_row old new e r n (lose m) L H = move_to e old.heads old.numbers old.heads new.heads (ap (λ s. s.heads) m.state) (move_self e old.heads old.numbers)
-move_row old new e r n (retry m) L H = move_to e old.heads old.numbers old.heads new.heads (ap (λ s. s.heads) m.state) (move_self e old.heads old.numbers)
-move_row old new e r n evict L H = move_self e old.heads old.numbers
-move_row old new e r n (forget m) L H = move_to e old.heads old.numbers (filter is_live old.heads) new.heads (ap (λ s. s.heads) m.state) (move_forgotten e old.heads old.numbers)
-move_row old new e r n (choose m) L H = move_self e old.heads old.numbers
-move_row old new e r n (pick m) L H = move_self e old.heads old.numbers
-move_row old new e r n show L H = move_self e old.heads old.numbers
-move_row old new e r n ask_place L H = move_self e old.heads old.numbers
-move_row old new e r n ask_flight L H = move_self e old.heads old.numbers
-move_row old new e r n (ask_stalled m) L H = move_self e old.heads old.numbers
-move_row old new e r n ask_stat L H = move_self e old.heads old.numbers
-move_row old new e r n (group m) L H =
-    move_extended e (added_by e r) old new H (extends_parts old (made_by e) (added_by e r) new (parts_row old e r new m) L.heads (lie_row old new e r n m) L.changes_fit)
+    move_cascade e old.heads (map (landed b) old.heads) new.heads old.numbers (move_landed old.heads old.numbers ticket b image) m.row
+move_row old new e r lie (stall m) L H = move_to e old.heads old.numbers old.heads new.heads (ap (λ s. s.heads) m.state) (move_self e old.heads old.numbers)
+move_row old new e r lie (lose m) L H = move_to e old.heads old.numbers old.heads new.heads (ap (λ s. s.heads) m.state) (move_self e old.heads old.numbers)
+move_row old new e r lie (retry m) L H = move_to e old.heads old.numbers old.heads new.heads (ap (λ s. s.heads) m.state) (move_self e old.heads old.numbers)
+move_row old new e r lie evict L H = move_self e old.heads old.numbers
+move_row old new e r lie (forget m) L H = move_to e old.heads old.numbers (filter is_live old.heads) new.heads m.row.kept (move_forgotten e old.heads old.numbers)
+move_row old new e r lie (choose m) L H = move_self e old.heads old.numbers
+move_row old new e r lie (pick m) L H = move_self e old.heads old.numbers
+move_row old new e r lie show L H = move_self e old.heads old.numbers
+move_row old new e r lie ask_place L H = move_self e old.heads old.numbers
+move_row old new e r lie ask_flight L H = move_self e old.heads old.numbers
+move_row old new e r lie (ask_stalled m) L H = move_self e old.heads old.numbers
+move_row old new e r lie ask_stat L H = move_self e old.heads old.numbers
+move_row old new e r lie (group m) L H =
+    move_extended e (added_by e r) old new H (extends_parts old (made_by e) (added_by e r) new (parts_row old e r new m) L.heads lie L.changes_fit)
 
 pub changes_move_on : ChangesMoveOn
-changes_move_on old new e r p b L (accepted n row) h on = move_row old new e r n row L (heads_row old new e r row L.heads) p b h on
+changes_move_on old new e r p b L (accepted n row) h on = move_row old new e r (lie_row old new e r n row) row L (heads_row old new e r row L.heads) p b h on
 changes_move_on old new e r p b L (refused refusal) h on = move_self e old.heads old.numbers p b h on
 
 -- a live change is a head after the call
@@ -181,7 +179,7 @@ live_effect added old new (quiet same C) p b h on live = live_kept Never added o
 live_effect added old new (landing c f flight image others C) p b h on live = live_kept (IsFlying c) added old new C p b h on live
 
 pub live_changes_stay : LiveChangesStay
-live_changes_stay old new e r p b L (accepted n row) h on live = live_effect (added_by e r) old new (effect_row old new e r n row L.heads L.changes_fit) p b h on live
+live_changes_stay old new e r p b L (accepted n row) h on live = live_effect (added_by e r) old new (effect_row old new e r (lie_row old new e r n row) row L.heads L.changes_fit) p b h on live
 live_changes_stay old new e r p b L (refused refusal) h on live = (p, h, refl, on)
 
 -- what was on disk is there, or forgotten
@@ -199,5 +197,5 @@ disk_effect added old new lawful (quiet same C) = disk_kept Never added old new 
 disk_effect added old new lawful (landing b f flight image others C) = disk_kept (IsFlying b) added old new lawful C
 
 pub disk_is_for_good : DiskIsForGood
-disk_is_for_good old new e r p b lawful (accepted n row) hp on disk = disk_effect (added_by e r) old new lawful (effect_row old new e r n row lawful.heads lawful.changes_fit) p b hp on disk
+disk_is_for_good old new e r p b lawful (accepted n row) hp on disk = disk_effect (added_by e r) old new lawful (effect_row old new e r (lie_row old new e r n row) row lawful.heads lawful.changes_fit) p b hp on disk
 disk_is_for_good old new e r p b lawful (refused refusal) hp on disk = on_disk old.heads p lawful.heads.one_place_each.rising hp disk

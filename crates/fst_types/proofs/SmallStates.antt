@@ -1,5 +1,5 @@
 -- Small states for worked examples, and what a look through their lists shows.
-use Rattle.std.proofs.Common.{◌≡◌, ◌+◌, ℕ, Bool, true, false, not, List, [], ◌∷◌, Contains, None, refl, ap, subst, ◌∙◌, inl, inr, arith}
+use Rattle.std.proofs.Common.{◌≡◌, ◌+◌, ℕ, Bool, true, false, not, List, [], ◌∷◌, Contains, None, refl, sym, ap, subst, ◌∙◌, inl, inr, arith}
 use Rattle.std.specs.Prelude.{◌==◌, ◌||◌}
 use Rattle.std.specs.List.{list_all}
 use Rattle.fst_types.specs.declared.place.Place.{Place}
@@ -10,6 +10,7 @@ use Rattle.fst_types.specs.Tests.{is_among}
 use Rattle.fst_types.specs.Dependencies.{DirectlyOn, DependsOn, IsLiveNumber}
 use Rattle.fst_types.specs.Groups.{Group}
 use Rattle.fst_types.specs.State.{State}
+use Rattle.fst_types.specs.Order.{NamesAbove}
 use Rattle.fst_types.proofs.Finite.{In, In-from_Contains}
 use Rattle.fst_types.proofs.Issuing.{in_among}
 use Rattle.fst_types.proofs.Numbers.{both, equal_test}
@@ -62,6 +63,12 @@ not_direct heads g n none d =
     neither true true a b k = cc
     neither true false a b k = cc
     neither false y a b k = cc
+
+-- one name, which is not the gate and does not depend on it
+pub none_above : (heads : List Patch) (g n : ℕ) → (n ≡ g → ⊥) → (DependsOn heads n g → ⊥) → NamesAbove heads g (n ∷ []) → ⊥
+none_above heads g n other free above =
+    let e = only_in n above.0 above.1 in
+    elim above.2 [ inl same ↦ other (e ∙ same) | inr d ↦ free (subst (λ x. DependsOn heads x g) (sym e) d) ]
 
 -- one live name, which the gate does not have yet
 pub one_name : (heads : List Patch) (g n : ℕ) → IsLiveNumber heads n → (DirectlyOn heads g n → ⊥) → Lists (λ m. IsLiveNumber heads m × Contains (n ∷ []) m × (DirectlyOn heads g m → ⊥)) (n ∷ [])

@@ -201,7 +201,7 @@ module _ (heads : List Head) (marks : List Bool) (b : ℕ) (rising : IsRising he
       ]
 
   pub writable_yes : ((p : Patch) → Contains (patches_of heads) p → IsOn p b → p.place ≡ place.Flight → ⊥) → HasReady (patches_of heads) b → ((p : Patch) → IsHeld (patches_of heads) b p → ⊥) → IsWritable (patches_of heads) b
-  writable_yes landed ready none = record { landed = landed; some = ready; hard = hard_ready none }
+  writable_yes landed ready none = record { none_flies = landed; some = ready; hard = hard_ready none }
 
 pub held_not_writable : (heads : List Patch) (b : ℕ) (p : Patch) → IsHeld heads b p → IsWritable heads b → ⊥
 held_not_writable heads b p h w = h.left_out (w.hard p h.in_memory h.hard)

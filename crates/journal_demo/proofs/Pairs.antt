@@ -16,7 +16,7 @@ use Rattle.journal_demo.specs.Pairing.{IsPair}
 pub tail_has_number : (old new : State) (share n : ℕ) → Step old (GroupNew share) (Made n) new → n + 1 ≤ max_number
 tail_has_number old new share n (accepted none (group (group_new m))) =
     let room : old.numbers + 1 < max_number = elim (cases_lt (old.numbers + 1) max_number) [ inl lt ↦ lt | inr past ↦ absurd (none.1.1.1.0 past) ] in
-    omega (arith, room, m.head.next)
+    omega (arith, room, m.row.head.next)
 
 -- a new group is among the groups
 pub made_group : (old new : State) (share n : ℕ) → Step old (GroupNew share) (Made n) new → Contains new.groups (new_group n)

@@ -80,7 +80,7 @@ writable_refused s b f lawful w (inl first) =
       | inr r ↦ elim r.1 [
         | inl h ↦ let flight = flight_there (flight_of s b) h.0 in
             let flies = lawful.flights_have_changes.some b flight.0 flight.1 in
-            absurd (w.landed flies.0 flies.1.head flies.1.change flies.1.flight)
+            absurd (w.none_flies flies.0 flies.1.head flies.1.change flies.1.flight)
         | inr r' ↦ elim r'.1 [
           | inl h ↦ absurd (h.0 ready)
           | inr r'' ↦ elim r''.1 [

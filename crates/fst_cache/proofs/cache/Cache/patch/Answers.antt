@@ -60,7 +60,7 @@ pub put-requires-clause-newest : goal.put-requires-clause-newest
 put-requires-clause-newest g c =
     let i = c.self.inside in
     rw c.deref_mut.ensures.value
-    (λ seat at_b. newest (state_of i.size i.resident i.tickets i.made i.graph i.contents.items i.seats.items) i.graph i.seats.items c.self.invariant refl c.args.block.0 seat at_b c.in-Ok.made.0.0 c.in-Ok.ensures.ok.1.next)
+    (λ seat at_b. newest (state_of i.size i.resident i.tickets i.made i.graph i.contents.items i.seats.items) i.graph i.seats.items c.self.invariant refl c.args.block.0 seat at_b c.in-Ok.made.0.0 c.in-Ok.ensures.ok.1.row.next)
 
 pub invariant_of-self-in-Err-put : goal.invariant_of-self-in-Err-put
 invariant_of-self-in-Err-put g c =

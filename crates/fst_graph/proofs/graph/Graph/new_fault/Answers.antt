@@ -2,7 +2,7 @@ use Rattle.std.proofs.Common.{◌≤◌, length, arith}
 use Rattle.fst_types.specs.declared.fault.What.TheVariants as what
 use Rattle.fst_types.specs.declared.fault.Fault.TheVariants as fault
 use Rattle.fst_types.specs.Limits.{max_groups}
-use Rattle.fst_types.specs.Refusals.{rule}
+use Rattle.fst_types.specs.Refusals.{◌when◌}
 use Rattle.fst_graph.specs.Grouping.{pair_order}
 use Rattle.fst_graph.proofs.GroupCalls.{first_past, none_past}
 use Rattle.fst_graph.proofs.graph.Graph.new_fault.Goals as goal
@@ -13,7 +13,7 @@ returns-clause-first c =
     let gs = c.self.inside.groups.items in
     let many = c.len.ensures in
     let few = c.if-len-ge-MAX_GROUPS.false in
-    rw (← c.self.view_is) (first_past (rule (fault.Full what.Groups) (max_groups ≤ length gs)) (pair_order p.heads p.numbers) (λ full. omega (arith, full, many, few)) c.pair_fault.result c.pair_fault.ensures.first)
+    rw (← c.self.view_is) (first_past (fault.Full what.Groups when (max_groups ≤ length gs)) (pair_order p.heads p.numbers) (λ full. omega (arith, full, many, few)) c.pair_fault.result c.pair_fault.ensures.first)
 
 pub returns-clause-clear : goal.returns-clause-clear
 returns-clause-clear c =
@@ -21,4 +21,4 @@ returns-clause-clear c =
     let gs = c.self.inside.groups.items in
     let many = c.len.ensures in
     let few = c.if-len-ge-MAX_GROUPS.false in
-    rw (← c.self.view_is) (none_past (rule (fault.Full what.Groups) (max_groups ≤ length gs)) (pair_order p.heads p.numbers) (λ full. omega (arith, full, many, few)) c.pair_fault.result c.pair_fault.ensures.clear)
+    rw (← c.self.view_is) (none_past (fault.Full what.Groups when (max_groups ≤ length gs)) (pair_order p.heads p.numbers) (λ full. omega (arith, full, many, few)) c.pair_fault.result c.pair_fault.ensures.clear)

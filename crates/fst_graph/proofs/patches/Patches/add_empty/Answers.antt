@@ -81,10 +81,12 @@ returns-clause-ok c =
     rw (← c.self.view_is)
     (record {
       clear = clear;
-      next = refl;
-      dependencies = c.in-Ok.dependencies.items;
-      depends = depends;
-      cascade = rw (c.push_reserved.ensures.items, map_push, patches, place) (empty_cascade _ c.self.inside.numbers c.self.inside.blocks c.self.inside.marks.items c.self.invariant.0 (numbers_of c.args.after.now) c.in-Ok.dependencies.items depends);
+      row = record {
+        next = refl;
+        dependencies = c.in-Ok.dependencies.items;
+        depends = depends;
+        cascade = rw (c.push_reserved.ensures.items, map_push, patches, place) (empty_cascade _ c.self.inside.numbers c.self.inside.blocks c.self.inside.marks.items c.self.invariant.0 (numbers_of c.args.after.now) c.in-Ok.dependencies.items depends);
+      };
       numbers = refl;
       blocks = refl;
       groups = refl;

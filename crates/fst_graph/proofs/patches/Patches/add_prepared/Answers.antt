@@ -124,11 +124,13 @@ returns-clause-added c =
     rw (← c.self.view_is, kept)
     (record {
       clear = ready.clear;
-      next = refl;
-      dependencies = p.dependencies.items;
-      depends = depends_exactly old (numbers_of p.names.items) p.block p.span.at p.span.len (n + 1) p.grade p.dependencies.items p.dependencies.items ready.depends;
-      graded = rw (c.push_reserved.ensures.items, map_push, patches) ready.graded;
-      heads = rw (c.push_reserved.ensures.items, map_push, patches) refl;
+      row = record {
+        next = refl;
+        dependencies = p.dependencies.items;
+        depends = depends_exactly old (numbers_of p.names.items) p.block p.span.at p.span.len (n + 1) p.grade p.dependencies.items p.dependencies.items ready.depends;
+        added = rw (c.push_reserved.ensures.items, map_push, patches) refl;
+        graded = rw (c.push_reserved.ensures.items, map_push, patches) ready.graded;
+      };
       numbers = refl;
       blocks = refl;
       groups = refl;

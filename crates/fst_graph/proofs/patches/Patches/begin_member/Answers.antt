@@ -118,15 +118,13 @@ returns-in-Ok-clause-begun c =
     let was : map unsettled (patches_of c.seal_slot.new.heads.items) ≡ map unsettled (map (sealed g) old) =
     ap (map unsettled) (seen c.seal_slot.new.heads.items _ c.seal_slot.ensures.nodes) ∙ (unsettled_sealed nodes g ∙ ap (λ ps. map unsettled (map (sealed g) ps)) (patches_in_nodes heads)) in
     rw (← c.self.view_is)
-    (inl (record {
-      clear = subst (λ hs. NoneHolds (seal_order (patches_of hs) c.self.inside.numbers g)) c.deref.ensures.value c.in-Ok.ensures.clear;
-      is_open = subst (λ hs. IsOpenNumber (patches_of hs) g) c.deref.ensures.value c.in-Ok.ensures.is_open;
-      cascade = record { same = placed.same ∙ was; places = placed.places; settled = placed.settled };
-      numbers = refl;
-      blocks = refl;
-      groups = refl;
-      prepared = refl;
-    }))
+    (record {
+      row = inl (record {
+        gate = subst (λ hs. IsOpenNumber (patches_of hs) g) c.deref.ensures.value c.in-Ok.ensures.is_open;
+        cascade = record { same = placed.same ∙ was; places = placed.places; settled = placed.settled };
+      });
+      state = refl;
+    })
 
 pub returns-in-Ok-clause-closed : goal.returns-in-Ok-clause-closed
 returns-in-Ok-clause-closed c =
@@ -144,7 +142,13 @@ pub returns-in-Err-clause-begun : goal.returns-in-Err-clause-begun
 returns-in-Err-clause-begun c =
     let heads = c.self.inside.heads.items in
     rw (← c.self.view_is)
-    (inr (refused_closed (patches_of heads) c.self.inside.numbers c.args.head c.in-Err.field-0 c.self.invariant.0.lawful (subst (λ hs. IsFirst (seal_order (patches_of hs) c.self.inside.numbers c.args.head) c.in-Err.field-0) c.deref.ensures.value c.in-Err.ensures.refused), refl))
+    (record {
+      row = inr (
+        refused_closed (patches_of heads) c.self.inside.numbers c.args.head c.in-Err.field-0 c.self.invariant.0.lawful (subst (λ hs. IsFirst (seal_order (patches_of hs) c.self.inside.numbers c.args.head) c.in-Err.field-0) c.deref.ensures.value c.in-Err.ensures.refused),
+        refl,
+      );
+      state = refl;
+    })
 
 pub returns-in-Err-clause-closed : goal.returns-in-Err-clause-closed
 returns-in-Err-clause-closed c =

@@ -194,13 +194,17 @@ returns-clause-ok c =
     let heads = c.self.inside.heads.items in
     let g = c.args.gate.0 in
     let on = numbers_of c.args.on.now in
+    let clear = subst (λ hs. NoneHolds (depend_order (patches_of hs) c.self.inside.numbers g on)) c.deref.ensures.value c.in_default.ensures.clear in
     rw (← c.self.view_is)
     (record {
-      clear = subst (λ hs. NoneHolds (depend_order (patches_of hs) c.self.inside.numbers g on)) c.deref.ensures.value c.in_default.ensures.clear;
-      is_open = subst (λ hs. IsOpenNumber (patches_of hs) g) c.deref.ensures.value c.in_default.ensures.is_open;
-      names = c.in-Ok.names.items;
-      live = subst (λ hs. Lists (λ n. IsLiveNumber (patches_of hs) n × Contains on n × (DirectlyOn (patches_of hs) g n → ⊥)) c.in-Ok.names.items) c.deref-2.ensures.value c.in-Ok.ensures;
-      heads = new_patches c;
+      clear = clear;
+      row = record {
+        gate = subst (λ hs. IsOpenNumber (patches_of hs) g) c.deref.ensures.value c.in_default.ensures.is_open;
+        clear = clear.1.1.1.1.1.0;
+        names = c.in-Ok.names.items;
+        live = subst (λ hs. Lists (λ n. IsLiveNumber (patches_of hs) n × Contains on n × (DirectlyOn (patches_of hs) g n → ⊥)) c.in-Ok.names.items) c.deref-2.ensures.value c.in-Ok.ensures;
+        gained = new_patches c;
+      };
       numbers = refl;
       blocks = refl;
       groups = refl;

@@ -50,4 +50,4 @@ returns c =
     let live = ap length left in
     let count : c.len-before.result - c.len-2.result ≡ count_by (λ p. is_at p.place place.Disk) (patches_of c.self.inside.heads.items) =
     omega (arith, all, live, length-map c.self.inside.heads.items patch_of, length-map c.keep_live.new.heads.items patch_of, c.len-2.ensures, c.len-before.ensures, c.keep_live.new.heads.ok.0, c.self.inside.heads.ok.0) in
-    rw (← c.self.view_is) (record { counted = count; heads = left; numbers = refl; blocks = refl; groups = refl; prepared = refl })
+    rw (← c.self.view_is) (record { row = record { counted = count; kept = left }; numbers = refl; blocks = refl; groups = refl; prepared = refl })

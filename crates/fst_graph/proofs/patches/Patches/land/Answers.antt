@@ -119,4 +119,4 @@ returns-clause-landed c =
     let b = c.args.block.0 in
     let mid = c.land_block.new.heads.items in
     let was = seen mid _ c.land_block.ensures.nodes ∙ (patches_landed (nodes_of heads) b ∙ ap (map (landed b)) (patches_in_nodes heads)) in
-    rw (← c.self.view_is) (record { cascade = subst (λ ps. IsCascadeOf ps (patches_of c.cascade-landed.new.heads.items)) was c.cascade-landed.ensures.placed; numbers = refl; blocks = refl; groups = refl; prepared = refl })
+    rw (← c.self.view_is) (record { row = subst (λ ps. IsCascadeOf ps (patches_of c.cascade-landed.new.heads.items)) was c.cascade-landed.ensures.placed; numbers = refl; blocks = refl; groups = refl; prepared = refl })

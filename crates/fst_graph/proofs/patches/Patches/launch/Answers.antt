@@ -89,4 +89,4 @@ returns-clause-launched c =
     let heads = c.self.inside.heads.items in
     let chosen = numbers_of c.args.chosen.now in
     let new = seen c.launch_all.new.heads.items _ c.launch_all.ensures ∙ (patches_launched (nodes_of heads) chosen ∙ ap (map (launched chosen)) (patches_in_nodes heads)) in
-    rw (← c.self.view_is) (record { heads = new; numbers = refl; blocks = refl; groups = refl; prepared = refl })
+    rw (← c.self.view_is) (record { row = new; numbers = refl; blocks = refl; groups = refl; prepared = refl })

@@ -481,11 +481,13 @@ returns-clause-made c =
       record { heads = old ++ made ∷ []; numbers = n + 1; blocks = blocks; groups = []; prepared = None },
       record {
         clear = subst (λ ns. NoneHolds (make_order old n ns)) names_head ready.clear;
-        next = refl;
-        dependencies = row;
-        depends = subst (λ ns. Lists (λ x. (IsLiveNumber old x × Contains ns x) ⊎ IsOverlapped old made x) row) names_head (depends_exactly old (numbers_of p.names.items) p.block p.span.at p.span.len (n + 1) p.grade row row ready.depends);
-        graded = ready.graded;
-        heads = refl;
+        row = record {
+          next = refl;
+          dependencies = row;
+          depends = subst (λ ns. Lists (λ x. (IsLiveNumber old x × Contains ns x) ⊎ IsOverlapped old made x) row) names_head (depends_exactly old (numbers_of p.names.items) p.block p.span.at p.span.len (n + 1) p.grade row row ready.depends);
+          added = refl;
+          graded = ready.graded;
+        };
         numbers = refl;
         blocks = refl;
         groups = refl;
@@ -493,10 +495,7 @@ returns-clause-made c =
       },
       rw (← own, ← R.paired.follows) record {
         clear = none;
-        is_open = gate;
-        names = names;
-        live = gain;
-        heads = seen2;
+        row = record { gate = gate; clear = none.1.1.1.1.1.0; names = names; live = gain; gained = seen2 };
         numbers = refl;
         blocks = refl;
         groups = refl;

@@ -47,11 +47,13 @@ returns-clause-ok c =
       record { heads = old ++ fresh (n + 1) (Change b at len p.grade) row ∷ []; numbers = n + 1; blocks = blocks; groups = []; prepared = None },
       record {
         clear = clear;
-        next = refl;
-        dependencies = row;
-        depends = depends_exactly old names b at len (n + 1) p.grade row row depends;
-        graded = graded_change old n blocks c.self.inside.marks.items c.self.invariant.0 b at len names p.grade row depends follows;
-        heads = refl;
+        row = record {
+          next = refl;
+          dependencies = row;
+          depends = depends_exactly old names b at len (n + 1) p.grade row row depends;
+          added = refl;
+          graded = graded_change old n blocks c.self.inside.marks.items c.self.invariant.0 b at len names p.grade row depends follows;
+        };
         numbers = refl;
         blocks = refl;
         groups = refl;

@@ -117,8 +117,10 @@ returns-clause-ok c =
     rw (← c.self.view_is)
     (record {
       clear = subst (λ hs. NoneHolds (seal_order (patches_of hs) c.self.inside.numbers g)) c.deref.ensures.value c.in-Ok.ensures.clear;
-      is_open = subst (λ hs. IsOpenNumber (patches_of hs) g) c.deref.ensures.value c.in-Ok.ensures.is_open;
-      cascade = record { same = placed.same ∙ was; places = placed.places; settled = placed.settled };
+      row = record {
+        gate = subst (λ hs. IsOpenNumber (patches_of hs) g) c.deref.ensures.value c.in-Ok.ensures.is_open;
+        cascade = record { same = placed.same ∙ was; places = placed.places; settled = placed.settled };
+      };
       numbers = refl;
       blocks = refl;
       groups = refl;
