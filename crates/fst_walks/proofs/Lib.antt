@@ -25,3 +25,4 @@ pub mod HeldBelow
 pub mod Descended
 pub mod Crossing
 pub mod Beneath
+pub mod Trails

@@ -2,3 +2,4 @@ pub mod Searching
 pub mod Descending
 pub mod WayBack
 pub mod WayDown
+pub mod Walks

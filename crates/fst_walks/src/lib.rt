@@ -20,5 +20,6 @@ pub mod grade;
 pub mod other_gates;
 pub mod overlap_cycle;
 pub mod shortcuts;
+pub mod walk;
 pub mod way_back;
 pub mod way_down;

@@ -1,0 +1,17 @@
+use Rattle.std.proofs.Common.{◌<◌, ◌∷◌, [], false, length, sym, subst, arith, length-append}
+use Rattle.fst_walks.specs.Walks.{Trail}
+use Rattle.fst_walks.proofs.Trails.{marked_grown}
+use Rattle.fst_walks.proofs.walk.Walk.grow.Goals as goal
+
+pub invariant_of-self : goal.invariant_of-self
+invariant_of-self c =
+    let s = c.self.invariant in
+    let marks = c.self.inside.marks.items in
+    let free = subst (λ (t : Trail). length t.marks < t.room) (sym c.self.view_is) c.requires in
+    rw c.push_reserved.ensures.items record {
+      marked = marked_grown marks c.self.inside.met.items s.marked;
+      once = s.once;
+      few = omega (arith, free, length-append marks (false ∷ []));
+      marks_room = omega (arith, s.marks_room, c.push_reserved.ensures.capacity);
+      met_room = s.met_room;
+    }

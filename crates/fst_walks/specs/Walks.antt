@@ -1,0 +1,42 @@
+-- What a walk keeps beside the heads.
+use Rattle.std.specs.Prelude.{◌≡◌, ◌≢◌, ◌⊎◌, ◌≤◌, ◌++◌, ◌∷◌, [], ℕ, Bool, true, false, List, length, map, Contains, AllPairs, slice_index_or}
+use Rattle.fst_heads.specs.declared.head.Head.{Head}
+use Rattle.fst_heads.specs.declared.test.Test.{Test}
+use Rattle.fst_heads.specs.Heads.{patch_of}
+use Rattle.fst_heads.specs.Tests.{passes}
+
+-- a mark for each head, the slots of the heads that were met, in the order in which they were met, and for how many heads there is room
+pub record Trail : Type 0 where
+  pub marks : List Bool
+  pub met : List ℕ
+  pub room : ℕ
+
+-- exactly the slots that were met are marked
+pub record AreMarked (marks : List Bool) (met : List ℕ) : Type 0 where
+  pub only : (slot : ℕ) → slice_index_or marks slot false ≡ true → Contains met slot
+  pub each : (slot : ℕ) → Contains met slot → slice_index_or marks slot false ≡ true
+
+-- each of them was met once, and there is room for all
+pub record IsSound (trail : Trail) (marks_capacity met_capacity : ℕ) : Type 0 where
+  pub marked : AreMarked trail.marks trail.met
+  pub once : AllPairs (λ s t. s ≢ t) trail.met
+  pub few : length trail.marks ≤ trail.room
+  pub marks_room : trail.room ≤ marks_capacity
+  pub met_room : trail.room ≤ met_capacity
+
+-- the slot was met besides, if it was not met before
+pub record Meets (slot : ℕ) (old new : Trail) : Type 0 where
+  pub long : length new.marks ≡ length old.marks
+  pub met : (Contains old.met slot × (new.met ≡ old.met)) ⊎ (new.met ≡ old.met ++ slot ∷ [])
+
+-- the number of the head in the slot
+abbrev pub number_at : List Head → ℕ → ℕ
+number_at heads slot = slice_index_or (map (λ h. h.number) heads) slot 0
+
+-- the numbers of those that were met
+abbrev pub numbers_met : List Head → Trail → List ℕ
+numbers_met heads trail = map (number_at heads) trail.met
+
+-- the patch in the slot passes
+abbrev pub passes_in : Test → List Head → ℕ → Bool
+passes_in t heads slot = slice_index_or (map (λ h. passes t (patch_of h)) heads) slot false

@@ -1,0 +1,172 @@
+//! What a walk keeps beside the heads: a mark for each head, and the slots of what it has met, in the order in which it met
+//! it. What is marked is what was met, so that each patch is looked at once, and a walk begins by taking back the marks of
+//! what the one before it met, which takes no longer than that walk did.
+
+ghost use Rattle.std.specs.Prelude.{◌≡◌, ◌≤◌, ◌<◌, ◌+◌, [], ℕ, filter, length, Contains, OnOk, slice_index_or};
+ghost use Rattle.fst_walks.specs.Walks.{AreMarked, Meets, passes_in};
+
+use fst_heads::head::Head;
+use fst_heads::test::{Test, passes};
+use std::alloc::{AllocError, Global};
+use std::marker::Model;
+
+/// A walk over heads. It takes a byte and the room for a slot for each head.
+#[derive(Drop)]
+pub struct Walk {
+    marks: Vec<bool>,
+    met: Vec<usize>,
+    room: usize,
+}
+
+impl Model for Walk {
+    ghost use Rattle.std.specs.Prelude.{vec_capacity};
+    ghost use Rattle.fst_walks.specs.Walks.{Trail, IsSound};
+
+    ghost Value = { Trail };
+
+    ghost view = { λ w. record { marks = w.marks.items; met = w.met.items; room = w.room } };
+
+    ghost invariant = { λ w. IsSound (record { marks = w.marks.items; met = w.met.items; room = w.room }) (vec_capacity w.marks) (vec_capacity w.met) };
+}
+
+// Takes back the marks of what was met.
+fn unmark(marks: &mut [bool], met: &[usize])
+    requires { AreMarked marks.old met.now }
+    ensures long { length marks.new ≡ length marks.old }
+    ensures clear { AreMarked marks.new [] }
+{
+    for slot in met {
+        marks[*slot] = false;
+    }
+}
+
+// Marks what was met.
+fn mark(marks: &mut [bool], met: &[usize])
+    requires clear { AreMarked marks.old [] }
+    requires inside { (slot : ℕ) → Contains met.now slot → slot < length marks.old }
+    ensures long { length marks.new ≡ length marks.old }
+    ensures marked { AreMarked marks.new met.now }
+{
+    for slot in met {
+        marks[*slot] = true;
+    }
+}
+
+// Whether the patch in the slot passes.
+fn passes_at(heads: &[Head], test: Test, slot: usize) -> bool
+    ensures { result ≡ passes_in test heads.now slot }
+{
+    match heads.get(slot) {
+        Some(head) => passes(test, head),
+        None => false,
+    }
+}
+
+impl Walk {
+    /// A walk over no head. It takes no memory.
+    pub fn new(alloc: Global) -> Walk
+        ensures { result ≡ record { marks = []; met = []; room = 0 } }
+    {
+        Walk {
+            marks: Vec::new(alloc),
+            met: Vec::new(alloc),
+            room: 0,
+        }
+    }
+
+    /// Nothing was met.
+    pub fn clear(&mut self)
+        ensures long { length self.new.marks ≡ length self.old.marks }
+        ensures met { self.new.met ≡ [] }
+        ensures room { self.new.room ≡ self.old.room }
+    {
+        unmark(&mut self.marks, &self.met);
+        self.met.clear();
+    }
+
+    /// Room for so many heads more. Nothing was met then.
+    pub fn reserve(&mut self, more: u32) -> Result<(), AllocError>
+        ensures long { length self.new.marks ≡ length self.old.marks }
+        ensures room { OnOk result (length self.new.marks + more ≤ self.new.room) }
+    {
+        self.clear();
+        let more = more as usize;
+        self.marks.reserve(more)?;
+        self.met.reserve(self.marks.len() + more)?;
+        self.room = self.marks.len() + more;
+        Ok(())
+    }
+
+    /// One head more, for which there is room.
+    pub fn grow(&mut self)
+        requires { length self.old.marks < self.old.room }
+        ensures long { length self.new.marks ≡ length self.old.marks + 1 }
+        ensures met { self.new.met ≡ self.old.met }
+        ensures room { self.new.room ≡ self.old.room }
+    {
+        self.marks.push_reserved(false);
+    }
+
+    /// Only so many heads are left. Nothing was met then.
+    pub fn shrink(&mut self, heads: usize)
+        requires { heads ≤ length self.old.marks }
+        ensures { length self.new.marks ≡ heads }
+    {
+        self.clear();
+        self.marks.truncate(heads);
+    }
+
+    /// How many were met.
+    pub fn len(&self) -> usize
+        ensures long { result ≡ length self.now.met }
+        ensures few { result ≤ length self.now.marks }
+    {
+        self.met.len()
+    }
+
+    /// The slot that was met there in turn.
+    pub fn slot(&self, at: usize) -> usize
+        requires { at < length self.now.met }
+        ensures slot { result ≡ slice_index_or self.now.met at 0 }
+        ensures inside { result < length self.now.marks }
+    {
+        self.met[at]
+    }
+
+    /// The slots that were met.
+    pub fn slots(&self) -> &[usize]
+        ensures slots { result.now ≡ self.now.met }
+        ensures inside { (slot : ℕ) → Contains result.now slot → slot < length self.now.marks }
+    {
+        self.met.as_slice()
+    }
+
+    /// The marks.
+    pub fn marks(&self) -> &[bool]
+        ensures marks { result.now ≡ self.now.marks }
+        ensures marked { AreMarked result.now self.now.met }
+    {
+        self.marks.as_slice()
+    }
+
+    /// Meets the head in the slot, unless it was met before.
+    pub fn meet(&mut self, slot: usize)
+        requires { slot < length self.old.marks }
+        ensures { Meets slot self.old self.new }
+    {
+        if !self.marks[slot] {
+            self.marks[slot] = true;
+            self.met.push_reserved(slot);
+        }
+    }
+
+    /// Of what was met, those stay that pass the test.
+    pub fn keep(&mut self, heads: &[Head], test: Test)
+        ensures long { length self.new.marks ≡ length self.old.marks }
+        ensures kept { self.new.met ≡ filter (passes_in test heads.now) self.old.met }
+    {
+        unmark(&mut self.marks, &self.met);
+        self.met.retain(|slot| passes_at(heads, test, *slot));
+        mark(&mut self.marks, &self.met);
+    }
+}
