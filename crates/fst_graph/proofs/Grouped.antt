@@ -1,5 +1,5 @@
 -- What each call leaves of what holds of the patches and their groups.
-use Rattle.std.proofs.Common.{◌≡◌, ◌+◌, ℕ, List, [], ◌∷◌, ◌++◌, map, replicate, length, false, Result, Ok, Err, Some, None, refl, sym, ap, subst, inl, inr, arith}
+use Rattle.std.proofs.Common.{◌≡◌, ℕ, List, [], ◌∷◌, map, replicate, false, Result, Ok, Err, Some, None, refl, sym, subst, inl, inr, arith}
 use Rattle.std.specs.Prelude.{IfOk, IfErr, IfSome, OnErr}
 use Rattle.std.proofs.lemmas.List.{length-replicate}
 use Rattle.fst_types.specs.declared.fault.Fault.{Fault}

@@ -24,3 +24,4 @@ pub mod MemberRow
 pub mod MemberReady
 pub mod FewCounted
 pub mod TailGains
+mod Walked

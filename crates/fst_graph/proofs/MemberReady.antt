@@ -1,14 +1,13 @@
 -- What is prepared for a group: it is ready, and tells which number and grade a change would have.
-use Rattle.std.proofs.Common.{◌≡◌, ◌≢◌, ◌⊎◌, ◌+◌, ◌<◌, ◌≤◌, ◌++◌, ℕ, Bool, List, [], ◌∷◌, Option, Some, None, IfSome, option_map, length, map, Contains, refl, sym, ap, subst, ◌∙◌, inl, inr, arith}
+use Rattle.std.proofs.Common.{◌≡◌, ◌+◌, ◌<◌, ◌≤◌, ◌++◌, ℕ, Bool, List, [], ◌∷◌, Option, Some, None, IfSome, option_map, length, map, Contains, refl, sym, ap, subst, ◌∙◌, inl, inr, arith}
 use Rattle.fst_types.specs.declared.grade.Grade.{Grade}
 use Rattle.fst_types.specs.Cascade.{IsCascadeOf}
-use Rattle.fst_types.specs.Events.{Reply, MadeChange}
+use Rattle.fst_types.specs.Events.{MadeChange}
 use Rattle.fst_types.specs.declared.grade.Grade.TheVariants as grade
 use Rattle.fst_types.specs.Facts.{HeadsAreLawful, IsTied}
 use Rattle.fst_types.specs.Gates.{IsOpenNumber}
 use Rattle.fst_types.specs.Gating.{sealed}
 use Rattle.fst_types.specs.Grades.{FollowsRule}
-use Rattle.fst_types.specs.Limits.{max_names}
 use Rattle.fst_types.specs.Lists.{Lists}
 use Rattle.fst_types.specs.Making.{ChangeIsMade}
 use Rattle.fst_types.specs.Order.{make_order, room_order, NamesUnknown}

@@ -1,6 +1,5 @@
 -- The tail of a group gains the change that was made for it.
-use Rattle.std.proofs.Common.{◌≡◌, ◌≢◌, ◌⊎◌, ◌+◌, ◌<◌, ◌≤◌, ◌++◌, ℕ, Bool, List, [], ◌∷◌, Option, Some, None, IfSome, option_map, length, Contains, refl, sym, ap, subst, ◌∙◌, inl, inr, arith}
-use Rattle.std.specs.List.Sorted.{IsStrictlyIncreasing}
+use Rattle.std.proofs.Common.{◌≡◌, ◌≢◌, ◌⊎◌, ◌+◌, ◌≤◌, ◌++◌, ℕ, Bool, List, [], ◌∷◌, Option, Some, None, IfSome, option_map, Contains, refl, sym, ap, subst, ◌∙◌, inl, inr, arith}
 use Rattle.std.proofs.lemmas.List.Elements.{Contains-append_left, Contains-push, Contains-push_cases}
 use Rattle.fst_types.specs.declared.grade.Grade.TheVariants as grade
 use Rattle.fst_types.specs.declared.place.Place.{Place}
@@ -21,7 +20,6 @@ use Rattle.fst_heads.specs.declared.head.Head.{Head}
 use Rattle.fst_heads.specs.Heads.{patch_of, patches_of}
 use Rattle.fst_heads.specs.Keeps.{Keeps}
 use Rattle.fst_graph.specs.Known.{Prepared}
-use Rattle.fst_heads.specs.Names.{numbers_of}
 use Rattle.fst_graph.specs.Membering.{member_order}
 use Rattle.fst_graph.specs.Ready.{prepared_of, change_of, IsReady, IsMemberReady, IsReadyFor, MayBePut}
 use Rattle.fst_heads.proofs.Graded.{depends_under}

@@ -1,22 +1,21 @@
 //! Gates, as calls name them.
 
-ghost use Rattle.std.specs.Prelude.{◌≡◌, ◌≤◌, ℕ, [], length, vec_capacity, IfOk, IfErr, IfSome, IfNone};
-ghost use Rattle.fst_types.specs.Dependencies.{IsLiveNumber};
+ghost use Rattle.std.specs.Prelude.{◌≡◌, length, IfOk, IfErr, IfSome, IfNone};
 ghost use Rattle.fst_types.specs.Order.{seal_order, depend_order};
 ghost use Rattle.fst_types.specs.Refusals.{IsFirst, NoneHolds};
 ghost use Rattle.fst_types.specs.Gates.{IsOpenNumber};
 ghost use Rattle.fst_heads.specs.Heads.{IsRising, patches_of};
 ghost use Rattle.fst_heads.specs.Names.{numbers_of};
-ghost use Rattle.fst_heads.specs.declared.pending.Pending.TheVariants as pending;
 ghost use Rattle.fst_heads.specs.Marks.{HasSlot};
-ghost use Rattle.fst_heads.specs.Nodes.{AreLinked, nodes_of, pending_in};
-ghost use Rattle.fst_walks.specs.Searching.{AreHeldByGates};
+ghost use Rattle.fst_heads.specs.Nodes.{AreLinked, nodes_of};
+ghost use Rattle.fst_walks.specs.Searching.{TellsGates};
 
 use fst_heads::head::{Head, Kind};
 use fst_heads::marks::slot_of;
 use fst_heads::row::{is_given, names_unknown};
 use fst_types::{Fault, MAX_NAMES, PatchNo};
 use fst_walks::cycle::closes_cycle;
+use fst_walks::walk::Walk;
 
 /// The slot of an open gate, or why it is none: the number was not given, it is no gate's, or the gate is sealed.
 pub fn gate_slot(heads: &[Head], numbers: u32, gate: u32) -> Result<usize, Fault>
@@ -40,27 +39,22 @@ pub fn gate_slot(heads: &[Head], numbers: u32, gate: u32) -> Result<usize, Fault
     }
 }
 
-/// Why the gate cannot gain these names. What was marked before does not matter.
+/// Why the gate cannot gain these names. What was met before does not matter.
 pub fn depend_fault(
     heads: &[Head],
-    marks: &mut [bool],
-    queue: &mut Vec<u32>,
+    walk: &mut Walk,
     numbers: u32,
     gate: u32,
     on: &[PatchNo],
 ) -> Option<Fault>
     requires rising { IsRising heads.now }
-    requires long { length marks.old ≡ length heads.now }
-    requires room { length heads.now ≤ vec_capacity queue.old }
-    requires idle { queue.old.items ≡ [] }
+    requires long { length walk.old.marks ≡ length heads.now }
     requires linked { AreLinked (nodes_of heads.now) }
-    requires live { (n : ℕ) → pending_in (nodes_of heads.now) n ≡ pending.Held → IsLiveNumber (patches_of heads.now) n }
-    requires held { AreHeldByGates (patches_of heads.now) (pending_in (nodes_of heads.now)) }
+    requires gates { TellsGates heads.now }
     ensures first { IfSome result (IsFirst (depend_order (patches_of heads.now) numbers gate (numbers_of on.now))) }
     ensures clear { IfNone result (NoneHolds (depend_order (patches_of heads.now) numbers gate (numbers_of on.now))) }
     ensures is_open { IfNone result (IsOpenNumber (patches_of heads.now) gate) }
-    ensures idle { queue.new.items ≡ [] }
-    ensures capacity { vec_capacity queue.new ≡ vec_capacity queue.old }
+    ensures long { length walk.new.marks ≡ length heads.now }
 {
     let slot = match gate_slot(heads, numbers, gate) {
         Ok(slot) => slot,
@@ -72,7 +66,7 @@ pub fn depend_fault(
     if names_unknown(numbers, on) {
         return Some(Fault::NoPatch);
     }
-    if closes_cycle(heads, marks, queue, slot, gate, on) {
+    if closes_cycle(heads, walk, slot, gate, on) {
         return Some(Fault::Cycle);
     }
     None

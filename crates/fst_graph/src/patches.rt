@@ -2,7 +2,7 @@
 //! calls look at the patches that they touch, and at those that depend on these. Between two calls of its own a call of a
 //! group has no group as it should be, so that the groups and what holds of them stand a layer above, in the graph.
 
-ghost use Rattle.std.specs.Prelude.{◌≡◌, ◌<◌, ◌≤◌, [], None, IfOk, IfErr, OnErr, IfSome, IfNone, OnOk, option_map, MatchResult, vec_len, vec_capacity, ℕ, count_by};
+ghost use Rattle.std.specs.Prelude.{◌≡◌, ◌<◌, ◌≤◌, [], None, IfOk, IfErr, OnErr, IfSome, IfNone, OnOk, option_map, MatchResult, length, vec_len, vec_capacity, ℕ, count_by};
 ghost use Rattle.fst_types.specs.Patches.{Patch};
 ghost use Rattle.fst_types.specs.Looks.{place_of, IsPick};
 ghost use Rattle.fst_types.specs.Order.{room_order, make_order, seal_order, depend_order};
@@ -32,20 +32,21 @@ use fst_heads::row::{is_given, live_named, row_sums};
 use fst_heads::standing::{Standing, empty_standings, land_at, least_marked};
 use fst_types::{BlockNo, Fault, PatchNo, Place, Shape};
 use fst_walks::ascent::mark_flight;
+use fst_walks::block_walk::BlockWalk;
+use fst_walks::walk::Walk;
 use smallvec::SmallVec;
 use std::alloc::{AllocError, Global};
 use std::marker::Model;
 
-/// The heads, which are the patches not forgotten, in order of number. `marks` has a place for each. Where a change is
-/// prepared, each of the two has a free place for it. `reached` has a place for each block, for the walk that finds a grade. `lists` has for each block its changes that are
-/// not on disk, and `standings` has the mark of each. `queue` has a place for each head, for those of which their
-/// dependants are to be told. `live` is how many of the patches are not on disk.
+/// The heads, which are the patches not forgotten, in order of number. `walks` has a mark for each, and a place for each
+/// block, for the walks that find grades and cycles. `lists` has for each block its changes that are not on disk, and
+/// `standings` has the mark of each. `queue` has a place for each head, for those of which their dependants are to be told.
+/// Where a change is prepared, there is a free place for it in each. `live` is how many of the patches are not on disk.
 #[derive(Drop)]
 pub struct Patches {
     alloc: Global,
     heads: Vec<Head>,
-    marks: Vec<bool>,
-    reached: Vec<bool>,
+    walks: BlockWalk,
     lists: Vec<Vec<Listed>>,
     standings: Vec<Standing>,
     queue: Vec<u32>,
@@ -68,10 +69,10 @@ impl Model for Patches {
 
     ghost view = { λ g. record { heads = patches_of g.heads.items; numbers = g.numbers; blocks = g.blocks; groups = []; prepared = option_map (prepared_of g.numbers) g.prepared } };
 
-    ghost invariant = { λ g. Keeps (patches_of g.heads.items) g.numbers g.blocks g.marks.items
+    ghost invariant = { λ g. Keeps (patches_of g.heads.items) g.numbers g.blocks g.walks.walk.marks
         × IfSome g.prepared (MayBePut (patches_of g.heads.items) g.numbers g.blocks)
-        × IfSome g.prepared (λ _. HasPlaces (vec_len g.heads) (vec_capacity g.heads) (vec_len g.marks) (vec_capacity g.marks) (vec_capacity g.queue))
-        × Beside (patches_of g.heads.items) g.blocks g.live g.reached.items
+        × IfSome g.prepared (λ _. HasPlaces (vec_len g.heads) (vec_capacity g.heads) (length g.walks.walk.marks) g.walks.walk.room (vec_capacity g.queue))
+        × Beside (patches_of g.heads.items) g.blocks g.live g.walks.crossed.items
         × Tallies (nodes_of g.heads.items) g.numbers g.blocks (map (λ l. entries_of l.items) g.lists.items) g.standings.items g.queue.items (vec_capacity g.queue)
         × IfSome g.prepared (HasRoomAround g.heads.items)
         × IfSome g.prepared (λ p. HasRoomInList (map (λ l. vec_len l) g.lists.items) (map (λ l. vec_capacity l) g.lists.items) p.block) };
@@ -80,19 +81,19 @@ impl Model for Patches {
 // Room for one more head.
 fn reserve_one(
     heads: &mut Vec<Head>,
-    marks: &mut Vec<bool>,
+    walk: &mut Walk,
     queue: &mut Vec<u32>,
 ) -> Result<(), AllocError>
     ensures heads { heads.new.items ≡ heads.old.items }
-    ensures marks { marks.new.items ≡ marks.old.items }
+    ensures marks { walk.new.marks ≡ walk.old.marks }
     ensures room_heads { OnOk result (vec_len heads.new < vec_capacity heads.new) }
-    ensures room_marks { OnOk result (vec_len marks.new < vec_capacity marks.new) }
+    ensures room_marks { OnOk result (length walk.new.marks < walk.new.room) }
     ensures queue { queue.new.items ≡ queue.old.items }
     ensures room_queue { OnOk result (vec_len heads.new < vec_capacity queue.new) }
     ensures wide { vec_capacity queue.old ≤ vec_capacity queue.new }
 {
     heads.reserve(1)?;
-    marks.reserve(1)?;
+    walk.reserve(1)?;
     queue.reserve(heads.len() + 1)
 }
 
@@ -112,7 +113,7 @@ impl Patches {
     pub fn new(alloc: Global, shape: Shape, numbers: u32) -> Result<Patches, Fault>
         ensures { MatchResult result (λ g. g ≡ record { heads = []; numbers = numbers; blocks = shape.blocks; groups = []; prepared = None }) (λ f. f ≡ Fault.Memory) }
     {
-        let Ok(reached) = vec![in alloc; false; shape.blocks as usize] else {
+        let Ok(crossed) = vec![in alloc; false; shape.blocks as usize] else {
             return Err(Fault::Memory);
         };
         let Ok(lists) = empty_lists(alloc, shape.blocks) else {
@@ -124,8 +125,10 @@ impl Patches {
         Ok(Patches {
             alloc,
             heads: Vec::new(alloc),
-            marks: Vec::new(alloc),
-            reached,
+            walks: BlockWalk {
+                walk: Walk::new(alloc),
+                crossed,
+            },
             lists,
             standings,
             queue: Vec::new(alloc),
@@ -175,7 +178,7 @@ impl Patches {
         if let Some(fault) = room_fault(&self.heads, self.numbers) {
             return Err(fault);
         }
-        if reserve_one(&mut self.heads, &mut self.marks, &mut self.queue).is_err() {
+        if reserve_one(&mut self.heads, &mut self.walks.walk, &mut self.queue).is_err() {
             return Err(Fault::Memory);
         }
         let number = self.numbers + 1;
@@ -188,7 +191,7 @@ impl Patches {
             pending: Pending::Held,
             dependants: SmallVec::new(self.alloc),
         });
-        self.marks.push_reserved(false);
+        self.walks.walk.grow();
         self.live += 1;
         self.numbers = number;
         Ok(PatchNo(number))
@@ -210,7 +213,7 @@ impl Patches {
         let Ok(dependencies) = live_named(self.alloc, &self.heads, after) else {
             return Err(Fault::Memory);
         };
-        if reserve_one(&mut self.heads, &mut self.marks, &mut self.queue).is_err() {
+        if reserve_one(&mut self.heads, &mut self.walks.walk, &mut self.queue).is_err() {
             return Err(Fault::Memory);
         }
         if reserve_above(&mut self.heads, dependencies.as_slice()).is_err() {
@@ -229,7 +232,7 @@ impl Patches {
             pending: sums.joined(),
             dependants: SmallVec::new(self.alloc),
         });
-        self.marks.push_reserved(false);
+        self.walks.walk.grow();
         self.live += weight(place);
         self.numbers = number;
         Ok(PatchNo(number))
@@ -245,15 +248,10 @@ impl Patches {
         let Some(list) = self.lists.get(block.0 as usize) else {
             return Ok(Vec::new(self.alloc));
         };
-        let flying = mark_flight(
-            &self.heads,
-            list,
-            &self.standings,
-            &mut self.marks,
-            &mut self.queue,
-            block.0,
-        );
-        ready_set(self.alloc, &self.heads, list, &self.marks, flying, block.0)
+        let walk = &mut self.walks.walk;
+        let flying = mark_flight(&self.heads, list, &self.standings, walk, block.0);
+        let marks = self.walks.walk.marks();
+        ready_set(self.alloc, &self.heads, list, marks, flying, block.0)
     }
 
     /// Seals an open gate, and puts on disk what now rests there. It is refused as `NoPatch` where the number was not
@@ -288,8 +286,7 @@ impl Patches {
         self.prepared = None;
         if let Some(fault) = depend_fault(
             &self.heads,
-            &mut self.marks,
-            &mut self.queue,
+            &mut self.walks.walk,
             self.numbers,
             gate.0,
             on,
@@ -346,7 +343,7 @@ impl Patches {
         self.prepared = None;
         let before = self.heads.len();
         keep_live(&mut self.heads, self.live);
-        self.marks.truncate(self.heads.len());
+        self.walks.walk.shrink(self.heads.len());
         (before - self.heads.len()) as u32
     }
 
@@ -360,15 +357,10 @@ impl Patches {
         let Some(list) = self.lists.get(block.0 as usize) else {
             return None;
         };
-        let flying = mark_flight(
-            &self.heads,
-            list,
-            &self.standings,
-            &mut self.marks,
-            &mut self.queue,
-            block.0,
-        );
-        first_held(&self.heads, list, &self.marks, flying, block.0)
+        let walk = &mut self.walks.walk;
+        let flying = mark_flight(&self.heads, list, &self.standings, walk, block.0);
+        let marks = self.walks.walk.marks();
+        first_held(&self.heads, list, marks, flying, block.0)
     }
 
     /// The least writable block, or none where no block is writable. Where nothing is in flight either, each change in

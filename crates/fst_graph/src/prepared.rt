@@ -1,27 +1,20 @@
 //! The change that `room` made room for. It is kept whole, so that `add_data` with the same arguments only puts it
 //! down, which takes no memory and is not refused.
 
-ghost use Rattle.std.specs.Prelude.{◌≡◌, ◌↔◌, ◌<◌, ◌≤◌, [], option_map, IsTrue, IfOk, true, length, map, vec_capacity};
-ghost use Rattle.fst_types.specs.Closure.{IsAcyclic};
-ghost use Rattle.fst_types.specs.Dependencies.{DirectlyOn};
-ghost use Rattle.fst_types.specs.Facts.{IsOnDiskWithAll, HardNeverHold};
+ghost use Rattle.std.specs.Prelude.{◌≡◌, ◌↔◌, ◌<◌, option_map, IsTrue, IfOk, true, length};
 ghost use Rattle.fst_types.specs.Grades.{FollowsRule};
 ghost use Rattle.fst_types.specs.Lists.{Lists};
 ghost use Rattle.fst_heads.specs.Grading.{MayBeHard};
-ghost use Rattle.fst_heads.specs.Heads.{IsRising, patches_of};
-ghost use Rattle.fst_heads.specs.Keeps.{IsInside};
+ghost use Rattle.fst_heads.specs.Heads.{patches_of};
 ghost use Rattle.fst_heads.specs.Names.{numbers_of};
-ghost use Rattle.fst_heads.specs.Lists.{entries_of, AreListed};
-ghost use Rattle.fst_heads.specs.Nodes.{nodes_of, AreLinked, AreSettled};
 ghost use Rattle.fst_heads.specs.Rows.{IsDependency};
-ghost use Rattle.fst_heads.specs.Standings.{AllStand};
+ghost use Rattle.fst_walks.specs.Sights.{Sees};
 
-use fst_heads::head::Head;
-use fst_heads::lists::Listed;
 use fst_heads::row::{Row, dependencies_of};
-use fst_heads::standing::Standing;
 use fst_types::{Grade, PatchNo, Span};
+use fst_walks::block_walk::BlockWalk;
 use fst_walks::grade::grade_of;
+use fst_walks::sight::Sight;
 use std::alloc::{AllocError, Global};
 
 /// The gates of a group.
@@ -74,55 +67,33 @@ pub fn copy_of(alloc: Global, names: &[PatchNo]) -> Result<Vec<PatchNo>, AllocEr
     Ok(copy)
 }
 
-/// The change of the span that these names and the heads make. What was marked and reached before does not matter.
+/// The change of the span that these names and the heads make. What was met and crossed before does not matter.
 pub fn prepare(
     alloc: Global,
-    heads: &[Head],
-    lists: &[Vec<Listed>],
-    standings: &[Standing],
-    marks: &mut [bool],
-    reached: &mut [bool],
-    queue: &mut Vec<u32>,
+    sight: &Sight<'_>,
+    walks: &mut BlockWalk,
     block: u32,
     span: Span,
     names: &[PatchNo],
 ) -> Result<Prepared, AllocError>
-    requires rising { IsRising heads.now }
-    requires long { length marks.old ≡ length heads.now }
-    requires room { length heads.now ≤ vec_capacity queue.old }
-    requires idle { queue.old.items ≡ [] }
-    requires linked { AreLinked (nodes_of heads.now) }
-    requires hard { HardNeverHold (patches_of heads.now) }
-    requires acyclic { IsAcyclic (DirectlyOn (patches_of heads.now)) }
-    requires inside { IsInside (patches_of heads.now) (length reached.old) }
-    requires block { block < length reached.old }
-    requires disk { IsOnDiskWithAll (patches_of heads.now) }
-    requires settled { AreSettled (nodes_of heads.now) (length standings.now) }
-    requires standing { AllStand (nodes_of heads.now) (length standings.now) standings.now }
-    requires listed { AreListed (patches_of heads.now) (length reached.old) (map (λ l. entries_of l.items) lists.now) }
+    requires sees { Sees sight.now }
+    requires long { length walks.old.walk.marks ≡ length sight.now.heads.now }
+    requires crossed { length walks.old.crossed.items ≡ length sight.now.lists.now }
+    requires block { block < length sight.now.lists.now }
     ensures block { IfOk result (λ p. p.block ≡ block) }
     ensures span { IfOk result (λ p. p.span ≡ span) }
     ensures names { IfOk result (λ p. p.names.items ≡ names.now) }
-    ensures depends { IfOk result (λ p. Lists (IsDependency (patches_of heads.now) (numbers_of names.now) block span.at span.len) p.dependencies.items) }
-    ensures graded { IfOk result (λ p. FollowsRule p.grade (MayBeHard (patches_of heads.now) None block p.dependencies.items)) }
+    ensures depends { IfOk result (λ p. Lists (IsDependency (patches_of sight.now.heads.now) (numbers_of names.now) block span.at span.len) p.dependencies.items) }
+    ensures graded { IfOk result (λ p. FollowsRule p.grade (MayBeHard (patches_of sight.now.heads.now) None block p.dependencies.items)) }
     ensures gates { IfOk result (λ p. p.gates ≡ None) }
-    ensures idle { queue.new.items ≡ queue.old.items }
-    ensures capacity { vec_capacity queue.new ≡ vec_capacity queue.old }
+    ensures long { length walks.new.walk.marks ≡ length sight.now.heads.now }
+    ensures crossed { length walks.new.crossed.items ≡ length sight.now.lists.now }
 {
-    let list = &lists[block as usize];
-    let dependencies = dependencies_of(alloc, heads, list, block, span, names)?;
+    let list = &sight.lists[block as usize];
+    let dependencies = dependencies_of(alloc, sight.heads, list, block, span, names)?;
     let names = copy_of(alloc, names)?;
-    let grade = grade_of(
-        heads,
-        lists,
-        standings,
-        marks,
-        reached,
-        queue,
-        block,
-        dependencies.as_slice(),
-        None,
-    );
+    let row = dependencies.as_slice();
+    let grade = grade_of(sight, &mut walks.walk, &mut walks.crossed, block, row, None);
     Ok(Prepared {
         block,
         span,

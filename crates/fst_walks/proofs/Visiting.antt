@@ -1,88 +1,65 @@
 -- What was visited, and what is visited besides.
-use Rattle.std.proofs.Common.{◌≡◌, ◌≢◌, ◌⊎◌, ◌≤◌, ◌<◌, ℕ, Bool, true, false, List, [], ◌∷◌, ◌++◌, length, map, get_or, set, Contains, AllPairs, refl, sym, ap, subst, ◌∙◌, inl, inr, arith, get_or-set_same, get_or-set_other, length-append}
-use Rattle.std.proofs.lemmas.Bool.{cases_eq, false≢true}
-use Rattle.std.proofs.lemmas.List.{append-nil, append_assoc, length-map}
+use Rattle.std.proofs.Common.{◌≡◌, ◌⊎◌, ◌<◌, ℕ, List, [], ◌∷◌, ◌++◌, length, map, get_or, Contains, refl, sym, ap, subst, ◌∙◌, inl, inr, arith}
+use Rattle.std.proofs.lemmas.List.{append-nil, append_assoc, get_or-map, length-map, map_push}
 use Rattle.std.proofs.lemmas.List.Elements.{Contains-append_left, Contains-push, Contains-push_cases}
 use Rattle.fst_types.specs.Dependencies.{IsLiveNumber}
-use Rattle.fst_types.specs.Patches.{Patch}
-use Rattle.fst_types.proofs.Finite.{In-from_Contains, Contains-from_In, In-map}
 use Rattle.fst_heads.specs.declared.head.Head.{Head}
 use Rattle.fst_walks.specs.Descending.{Visited, Visits}
-use Rattle.fst_heads.specs.Heads.{IsRising, patch_of, patches_of}
-use Rattle.fst_heads.specs.Marks.{HasSlot, Has, Shows}
-use Rattle.fst_heads.proofs.Slots.{has_at, slot_number}
-use Rattle.fst_heads.proofs.Waiting.{once_fits, once_append}
-
--- the queue is no longer than the heads
-pub visited_fits : (heads : List Head) (marks : List Bool) (queue : List ℕ) → Visited heads marks queue → length queue ≤ length heads
-visited_fits heads marks queue v =
-    let numbers = map (λ (p : Patch). p.number) (patches_of heads) in
-    let few = once_fits queue numbers v.once (λ n h. let l = v.live n (Contains-from_In queue n h) in In-map (λ (p : Patch). p.number) (patches_of heads) l.patch n (In-from_Contains (patches_of heads) l.patch l.head) l.numbered) in
-    omega (arith, few, length-map (patches_of heads) (λ (p : Patch). p.number), length-map heads patch_of)
+use Rattle.fst_walks.specs.Walks.{Trail, AreMarked, Meets, number_at, numbers_met}
+use Rattle.fst_heads.specs.Heads.{IsRising, patches_of}
+use Rattle.fst_heads.specs.Marks.{HasSlot, Shows}
+use Rattle.fst_heads.proofs.Placed.{unmapped}
+use Rattle.fst_heads.proofs.Slots.{slot_unique, some_element}
+use Rattle.fst_heads.proofs.Waiting.{mapped}
+use Rattle.fst_walks.proofs.Trails.{met_inside}
 
 pub none_in : (n : ℕ) → Contains {X = ℕ} [] n → ⊥
 none_in n c = absurd (omega (arith, c.1))
 
-only_one : (n m : ℕ) → Contains (n ∷ []) m → n ≡ m
-only_one n m c = elim (Contains-push_cases [] n m c) [ inl none ↦ absurd (none_in m none) | inr e ↦ e ]
+-- the number of a slot
+pub slot_number : (heads : List Head) (n s : ℕ) → HasSlot heads n s → number_at heads s ≡ n
+slot_number heads n s slot = let d = some_element heads s slot.0 in get_or-map (λ (h : Head). h.number) heads s d 0 slot.0 ∙ slot.1 d
 
--- one more is marked
-module _ (heads : List Head) (marks : List Bool) (done : List ℕ) (n s : ℕ) (long : length marks ≡ length heads) (slot : HasSlot heads n s) (shown : Shows heads marks (Contains done)) where
-  here : get_or (set marks s true) s false ≡ true
-  here = get_or-set_same marks s true false (omega (arith, slot.0, long))
+pub slot_at : (heads : List Head) (s : ℕ) → s < length heads → HasSlot heads (number_at heads s) s
+slot_at heads s lt = (lt, λ d. sym (get_or-map (λ (h : Head). h.number) heads s d 0 lt))
 
-  still : (m : ℕ) → Has heads marks m → Has heads (set marks s true) m
-  still m h = record {
-    slot = h.slot;
-    at = h.at;
-    marked = elim (cases_eq h.slot s) [
-      | inl e ↦ subst (λ k. get_or (set marks s true) k false ≡ true) (sym e) here
-      | inr ne ↦ get_or-set_other marks s h.slot true false ne ∙ h.marked
-    ];
-  }
+-- what was met in turn
+pub met_at : (heads : List Head) (walk : Trail) (at : ℕ) → at < length walk.met → get_or (numbers_met heads walk) at 0 ≡ number_at heads (get_or walk.met at 0)
+met_at heads walk at lt = get_or-map (number_at heads) walk.met at 0 0 lt
 
-  pub shows_push : Shows heads (set marks s true) (Contains (done ++ n ∷ []))
-  shows_push = record {
-    only = λ m h. elim (cases_eq h.slot s) [
-      | inl e ↦ subst (Contains (done ++ n ∷ [])) (slot_number heads s n m slot (subst (HasSlot heads m) e h.at)) (Contains-push done n)
-      | inr ne ↦ Contains-append_left done (n ∷ []) m (shown.only m (record { slot = h.slot; at = h.at; marked = sym (get_or-set_other marks s h.slot true false ne) ∙ h.marked }))
-    ];
-    each = λ m c. elim (Contains-push_cases done n m c) [
-      | inl old ↦ still m (shown.each m old)
-      | inr e ↦ record { slot = s; at = subst (λ k. HasSlot heads k s) e slot; marked = here }
-    ];
-  }
+pub slot_met : (heads : List Head) (walk : Trail) (at s : ℕ) → length walk.marks ≡ length heads → at < length walk.met → s ≡ get_or walk.met at 0 → s < length walk.marks → HasSlot heads (get_or (numbers_met heads walk) at 0) s
+slot_met heads walk at s long lt is inside =
+    subst (λ n. HasSlot heads n s) (ap (number_at heads) is ∙ sym (met_at heads walk at lt)) (slot_at heads s (omega (arith, inside, long)))
 
--- one more is visited
-module _ (heads : List Head) (marks : List Bool) (queue : List ℕ) (n s : ℕ) (rising : IsRising heads) (long : length marks ≡ length heads) (slot : HasSlot heads n s) (live : IsLiveNumber (patches_of heads) n)
-    (fresh : get_or marks s false ≡ false) (v : Visited heads marks queue) where
-  apart : (m : ℕ) → Contains queue m → Contains (n ∷ []) m → ⊥
-  apart m c d = false≢true (sym fresh ∙ has_at heads marks n s rising slot (v.marked.each n (subst (Contains queue) (sym (only_one n m d)) c)))
+-- as many numbers as slots
+pub long_met : (heads : List Head) (walk : Trail) → length (numbers_met heads walk) ≡ length walk.met
+long_met heads walk = length-map walk.met (number_at heads)
 
-  single : AllPairs (λ (i j : ℕ). i ≢ j) (n ∷ [])
-  single i j d lt inside = absurd (omega (arith, lt, inside))
+-- a number was met where its slot was
+pub number_of_met : (heads : List Head) (walk : Trail) (n s : ℕ) → HasSlot heads n s → Contains walk.met s → Contains (numbers_met heads walk) n
+number_of_met heads walk n s slot c = subst (Contains (numbers_met heads walk)) (slot_number heads n s slot) (mapped (number_at heads) walk.met s c)
 
-  pub visited_push : Visited heads (set marks s true) (queue ++ n ∷ [])
-  visited_push = record {
-    marked = shows_push heads marks queue n s long slot v.marked;
-    live = λ m c. elim (Contains-push_cases queue n m c) [ inl old ↦ v.live m old | inr e ↦ subst (IsLiveNumber (patches_of heads)) e live ];
-    once = once_append queue (n ∷ []) v.once single apart;
-  }
+pub met_of_number : (heads : List Head) (walk : Trail) → IsRising heads → length walk.marks ≡ length heads → AreMarked walk.marks walk.met → (n s : ℕ) → HasSlot heads n s → Contains (numbers_met heads walk) n → Contains walk.met s
+met_of_number heads walk rising long m n s slot c =
+    let r = unmapped (number_at heads) walk.met n c in
+    let lt = met_inside walk.marks walk.met m r.0 r.1 in
+    let own : HasSlot heads n r.0 = subst (λ k. HasSlot heads k r.0) r.2 (slot_at heads r.0 (omega (arith, lt, long))) in
+    subst (Contains walk.met) (slot_unique heads n r.0 s rising own slot) r.1
 
-  -- and there is room for it
-  pub room_to_push : length queue < length heads
-  room_to_push = let fits = visited_fits heads (set marks s true) (queue ++ n ∷ []) visited_push in omega (arith, fits, length-append queue (n ∷ []))
+pub slot_of_met : (heads : List Head) (walk : Trail) → length walk.marks ≡ length heads → AreMarked walk.marks walk.met → (n : ℕ) → Contains (numbers_met heads walk) n → (s : ℕ) × HasSlot heads n s
+slot_of_met heads walk long m n c =
+    let r = unmapped (number_at heads) walk.met n c in
+    let lt = met_inside walk.marks walk.met m r.0 r.1 in
+    (r.0, subst (λ k. HasSlot heads k r.0) r.2 (slot_at heads r.0 (omega (arith, lt, long))))
 
--- nothing is marked
-pub shows_none : (heads : List Head) (marks : List Bool) → ((s : ℕ) → get_or marks s false ≡ false) → Shows heads marks (Contains [])
-shows_none heads marks clear = record { only = λ n h. absurd (false≢true (sym (clear h.slot) ∙ h.marked)); each = λ n c. absurd (none_in n c) }
-
--- nothing was visited
-pub visited_none : (heads : List Head) (marks : List Bool) → ((s : ℕ) → get_or marks s false ≡ false) → Visited heads marks []
-visited_none heads marks clear = record {
-  marked = shows_none heads marks clear;
-  live = λ n c. absurd (none_in n c);
-  once = λ i j d lt inside. absurd (omega (arith, inside));
+-- so exactly what was met is marked
+pub shows_met : (heads : List Head) (walk : Trail) → length walk.marks ≡ length heads → AreMarked walk.marks walk.met → Shows heads walk.marks (Contains (numbers_met heads walk))
+shows_met heads walk long m = record {
+  only = λ n h. number_of_met heads walk n h.slot h.at (m.only h.slot h.marked);
+  each = λ n c.
+      let r = unmapped (number_at heads) walk.met n c in
+      let lt = met_inside walk.marks walk.met m r.0 r.1 in
+      record { slot = r.0; at = subst (λ k. HasSlot heads k r.0) r.2 (slot_at heads r.0 (omega (arith, lt, long))); marked = m.each r.0 r.1 };
 }
 
 -- nothing new
@@ -96,6 +73,35 @@ visits_one P queue n here one = record {
   only = λ m c. elim (Contains-push_cases queue n m c) [ inl old ↦ inl old | inr e ↦ inr (subst P e here) ];
   each = λ m p. subst (Contains (queue ++ n ∷ [])) (sym (one m p)) (Contains-push queue n);
 }
+
+-- one slot is met
+module _ (heads : List Head) (n s : ℕ) (slot : HasSlot heads n s) (old new : Trail) (m : Meets s old new) where
+  pub visits_meet : (P : ℕ → Type 0) → P n → ((q : ℕ) → P q → q ≡ n) → Visits P (numbers_met heads old) (numbers_met heads new)
+  visits_meet P here one =
+      let before = numbers_met heads old in
+      elim m.met [
+        | inl k ↦
+            subst (λ ms. Visits P before (map (number_at heads) ms)) (sym k.1)
+            (visits_none P before (λ q p. subst (Contains before) (sym (one q p)) (number_of_met heads old n s slot k.0)))
+        | inr e ↦
+            subst (λ ms. Visits P before (map (number_at heads) ms)) (sym e)
+            (subst (Visits P before) (sym (map_push (number_at heads) old.met s ∙ ap (λ k. before ++ k ∷ []) (slot_number heads n s slot))) (visits_one P before n here one))
+      ]
+
+  pub visited_meet : IsLiveNumber (patches_of heads) n → Visited heads old → Visited heads new
+  visited_meet live v =
+      let more = visits_meet (λ q. q ≡ n) refl (λ q e. e) in
+      record {
+        long = m.long ∙ v.long;
+        live = λ q c. elim (more.only q c) [ inl before ↦ v.live q before | inr e ↦ subst (IsLiveNumber (patches_of heads)) (sym e) live ];
+      }
+
+-- nothing was met
+pub none_met : (heads : List Head) (walk : Trail) → walk.met ≡ [] → numbers_met heads walk ≡ []
+none_met heads walk none = ap (map (number_at heads)) none
+
+pub visited_none : (heads : List Head) (walk : Trail) → length walk.marks ≡ length heads → walk.met ≡ [] → Visited heads walk
+visited_none heads walk long none = record { long = long; live = λ n c. absurd (none_in n (subst (λ ms. Contains (map (number_at heads) ms) n) none c)) }
 
 -- what stays in the queue
 pub visits_old : (P : ℕ → Type 0) (old new : List ℕ) → Visits P old new → (n : ℕ) → Contains old n → Contains new n

@@ -3,3 +3,4 @@ pub mod Descending
 pub mod WayBack
 pub mod WayDown
 pub mod Walks
+pub mod Sights

@@ -1,16 +1,24 @@
 -- The search for a cycle: down from names to an open gate, through what waits for an open gate.
 use Rattle.std.specs.Prelude.{◌≡◌, ◌↔◌, ℕ, List}
-use Rattle.fst_types.specs.Dependencies.{DirectlyOn, DependsOn}
+use Rattle.fst_types.specs.Dependencies.{DirectlyOn, DependsOn, IsLiveNumber}
 use Rattle.fst_types.specs.Gates.{IsOpenNumber}
 use Rattle.fst_types.specs.Patches.{Patch}
+use Rattle.fst_heads.specs.declared.head.Head.{Head}
 use Rattle.fst_heads.specs.declared.pending.Pending.{Pending}
 use Rattle.fst_heads.specs.declared.pending.Pending.TheVariants as pending
+use Rattle.fst_heads.specs.Heads.{patches_of}
 use Rattle.fst_heads.specs.Marks.{IsAbove}
+use Rattle.fst_heads.specs.Nodes.{nodes_of, pending_in}
 use Rattle.fst_heads.specs.Rows.{IsTouched}
 
 -- an open gate is pending of exactly the open gates and of what depends on one
 abbrev pub AreHeldByGates : List Patch → (ℕ → Pending) → Type 0
 AreHeldByGates patches told = (n : ℕ) → (told n ≡ pending.Held) ↔ IsAbove patches (IsOpenNumber patches) n
+
+-- what is pending tells of the open gates, and what waits for one is not on disk
+pub record TellsGates (heads : List Head) : Type 0 where
+  pub live : (n : ℕ) → pending_in (nodes_of heads) n ≡ pending.Held → IsLiveNumber (patches_of heads) n
+  pub held : AreHeldByGates (patches_of heads) (pending_in (nodes_of heads))
 
 -- a step of the search: to a direct dependency that waits for an open gate
 abbrev pub IsNextHeld : List Patch → (ℕ → Pending) → ℕ → ℕ → Type 0

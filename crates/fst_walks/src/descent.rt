@@ -1,73 +1,55 @@
-//! What walks visit: patches that are not on disk. What was met stands in the queue and is marked, so that each patch is
-//! looked at once; blocks are shown as crossed, so that each is crossed once.
+//! What walks visit: patches that are not on disk, each once. Blocks are shown as crossed, so that each is crossed once.
 
-ghost use Rattle.std.specs.Prelude.{◌≡◌, ◌≤◌, ◌<◌, ◌↔◌, ℕ, length, Contains, vec_capacity, slice_index_or, false};
+ghost use Rattle.std.specs.Prelude.{◌≡◌, ◌<◌, ◌↔◌, ℕ, length, Contains, IsTrue};
 ghost use Rattle.fst_types.specs.Dependencies.{IsLiveNumber};
 ghost use Rattle.fst_heads.specs.declared.test.Test.TheVariants as test;
 ghost use Rattle.fst_walks.specs.Descending.{Visited, Visits};
 ghost use Rattle.fst_heads.specs.Heads.{IsRising, patches_of};
-ghost use Rattle.fst_heads.specs.Marks.{PassesAt, Shows};
+ghost use Rattle.fst_walks.specs.Walks.{numbers_met};
+ghost use Rattle.fst_heads.specs.Marks.{PassesAt};
 ghost use Rattle.fst_heads.specs.Reaching.{IsReached, ShowsBlocks};
 
-use crate::shortcuts::passes_at;
+use crate::walk::Walk;
 use fst_heads::head::Head;
 use fst_heads::marks::slot_of;
 use fst_heads::test::{Test, is_live};
 
 /// Visits the patch with the number, unless it is on disk or was visited before.
-pub fn visit(heads: &[Head], marks: &mut [bool], queue: &mut Vec<u32>, number: u32)
+pub fn visit(heads: &[Head], walk: &mut Walk, number: u32)
     requires rising { IsRising heads.now }
-    requires long { length marks.old ≡ length heads.now }
-    requires room { length heads.now ≤ vec_capacity queue.old }
-    requires visited { Visited heads.now marks.old queue.old.items }
-    ensures visited { Visited heads.now marks.new queue.new.items }
-    ensures visits { Visits (λ n. (n ≡ number) × IsLiveNumber (patches_of heads.now) n) queue.old.items queue.new.items }
-    ensures capacity { vec_capacity queue.new ≡ vec_capacity queue.old }
+    requires visited { Visited heads.now walk.old }
+    ensures visited { Visited heads.now walk.new }
+    ensures visits { Visits (λ n. (n ≡ number) × IsLiveNumber (patches_of heads.now) n) (numbers_met heads.now walk.old) (numbers_met heads.now walk.new) }
 {
     if let Some(slot) = slot_of(heads, number) {
-        if is_live(heads[slot].place) && !marks[slot] {
-            marks[slot] = true;
-            queue.push_reserved(number);
+        if is_live(heads[slot].place) {
+            walk.meet(slot);
         }
     }
 }
 
 /// Visits what is not on disk of the row.
-pub fn visit_row(heads: &[Head], marks: &mut [bool], queue: &mut Vec<u32>, row: &[u32])
+pub fn visit_row(heads: &[Head], walk: &mut Walk, row: &[u32])
     requires rising { IsRising heads.now }
-    requires long { length marks.old ≡ length heads.now }
-    requires room { length heads.now ≤ vec_capacity queue.old }
-    requires visited { Visited heads.now marks.old queue.old.items }
-    ensures visited { Visited heads.now marks.new queue.new.items }
-    ensures visits { Visits (λ n. Contains row.now n × IsLiveNumber (patches_of heads.now) n) queue.old.items queue.new.items }
-    ensures capacity { vec_capacity queue.new ≡ vec_capacity queue.old }
+    requires visited { Visited heads.now walk.old }
+    ensures visited { Visited heads.now walk.new }
+    ensures visits { Visits (λ n. Contains row.now n × IsLiveNumber (patches_of heads.now) n) (numbers_met heads.now walk.old) (numbers_met heads.now walk.new) }
 {
     for number in row {
-        visit(heads, marks, queue, *number);
+        visit(heads, walk, *number);
     }
 }
 
-/// No patch is marked.
-pub fn clear(marks: &mut [bool])
-    ensures { (slot : ℕ) → slice_index_or marks.new slot false ≡ false }
-{
-    for mark in marks.iter_mut() {
-        *mark = false;
-    }
-}
-
-// Marks what is in the queue, and nothing else.
-fn mark_again(heads: &[Head], marks: &mut [bool], queue: &[u32])
+/// Whether the patch with the number was visited.
+pub fn is_visited(heads: &[Head], walk: &Walk, number: u32) -> bool
     requires rising { IsRising heads.now }
-    requires long { length marks.old ≡ length heads.now }
-    requires live { (n : ℕ) → Contains queue.now n → IsLiveNumber (patches_of heads.now) n }
-    ensures { Shows heads.now marks.new (Contains queue.now) }
+    requires long { length walk.now.marks ≡ length heads.now }
+    ensures { IsTrue result ↔ Contains (numbers_met heads.now walk.now) number }
 {
-    clear(marks);
-    for number in queue {
-        if let Some(slot) = slot_of(heads, *number) {
-            marks[slot] = true;
-        }
+    let marks = walk.marks();
+    match slot_of(heads, number) {
+        Some(slot) => marks[slot],
+        None => false,
     }
 }
 
@@ -91,14 +73,11 @@ pub fn show_only(reached: &mut [bool], block: u32)
 }
 
 /// Of what was visited, the changes of other blocks stay.
-pub fn keep_away(heads: &[Head], marks: &mut [bool], queue: &mut Vec<u32>, block: u32)
+pub fn keep_away(heads: &[Head], walk: &mut Walk, block: u32)
     requires rising { IsRising heads.now }
-    requires long { length marks.old ≡ length heads.now }
-    requires visited { Visited heads.now marks.old queue.old.items }
-    ensures visited { Visited heads.now marks.new queue.new.items }
-    ensures kept { (n : ℕ) → Contains queue.new.items n ↔ (Contains queue.old.items n × PassesAt (test.LiveOff block) (patches_of heads.now) n) }
-    ensures capacity { vec_capacity queue.new ≡ vec_capacity queue.old }
+    requires visited { Visited heads.now walk.old }
+    ensures visited { Visited heads.now walk.new }
+    ensures kept { (n : ℕ) → Contains (numbers_met heads.now walk.new) n ↔ (Contains (numbers_met heads.now walk.old) n × PassesAt (test.LiveOff block) (patches_of heads.now) n) }
 {
-    queue.retain(|number| passes_at(heads, Test::LiveOff(block), *number));
-    mark_again(heads, marks, queue);
+    walk.keep(heads, Test::LiveOff(block));
 }

@@ -7,19 +7,23 @@
 //! from them through what waits for an open gate (`cycle`, `overlap_cycle`, `other_gates`). *What waits behind a write that
 //! is out?* A walk goes up from what flies (`ascent`).
 //!
-//! A walk keeps two things beside the heads: a mark for each head, and the queue of what it has met, in the order in which it
-//! met it. What is marked is what is in the queue; each patch is looked at once, and each block is crossed once.
+//! A walk is a value of its own (`walk`), which keeps what it has met, so that each patch is looked at once; it can be used
+//! for walk after walk, each of which begins where nothing was met. What walks look at is one value too (`sight`): the heads,
+//! the lists of the blocks and how the blocks stand. A walk that crosses blocks keeps besides which it has crossed
+//! (`block_walk`).
 //!
 //! All of it only reads the heads. Each answer is that of the definition, exactly: a walk that gives up says so.
 #![tactic(auto)]
 
 pub mod ascent;
+pub mod block_walk;
 pub mod cycle;
 pub mod descent;
 pub mod grade;
 pub mod other_gates;
 pub mod overlap_cycle;
 pub mod shortcuts;
+pub mod sight;
 pub mod walk;
 pub mod way_back;
 pub mod way_down;

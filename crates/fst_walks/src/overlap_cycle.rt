@@ -1,8 +1,8 @@
 //! The search for a cycle that a new change of a group would close: the tail of the group is to depend on the change,
 //! which depends on the changes that it overlaps. So the search goes down from these, to the tail or not.
 
-ghost use Rattle.std.specs.Prelude.{◌≡◌, ◌≤◌, ◌↔◌, ℕ, [], length, Contains, IsTrue, vec_capacity};
-ghost use Rattle.fst_types.specs.Dependencies.{DependsOn, IsLiveNumber};
+ghost use Rattle.std.specs.Prelude.{◌≡◌, ◌↔◌, ℕ, length, Contains, IsTrue};
+ghost use Rattle.fst_types.specs.Dependencies.{DependsOn};
 ghost use Rattle.fst_types.specs.Gates.{IsOpenNumber};
 ghost use Rattle.fst_heads.specs.declared.pending.Pending.TheVariants as pending;
 ghost use Rattle.fst_walks.specs.Descending.{Visited, Visits};
@@ -10,38 +10,30 @@ ghost use Rattle.fst_heads.specs.Heads.{IsRising, patches_of};
 ghost use Rattle.fst_heads.specs.Lists.{entries_of, entries_on};
 ghost use Rattle.fst_heads.specs.Nodes.{AreLinked, nodes_of, pending_in};
 ghost use Rattle.fst_heads.specs.Rows.{IsTouched};
-ghost use Rattle.fst_walks.specs.Searching.{AreHeldByGates, TouchedReaches};
+ghost use Rattle.fst_walks.specs.Searching.{TellsGates, TouchedReaches};
+ghost use Rattle.fst_walks.specs.Walks.{numbers_met};
 
 use crate::cycle::{search_down, visit_held};
-use crate::descent::clear;
+use crate::descent::is_visited;
+use crate::walk::Walk;
 use fst_heads::head::Head;
 use fst_heads::lists::Listed;
-use fst_heads::marks::{is_marked, slot_of};
+use fst_heads::marks::slot_of;
 use fst_heads::row::shares;
 use fst_types::Span;
 
 // Visits the listed changes that share a byte with the span and wait for an open gate.
-fn visit_overlapped(
-    heads: &[Head],
-    list: &[Listed],
-    marks: &mut [bool],
-    queue: &mut Vec<u32>,
-    block: u32,
-    span: Span,
-)
+fn visit_overlapped(heads: &[Head], list: &[Listed], walk: &mut Walk, block: u32, span: Span)
     requires rising { IsRising heads.now }
-    requires long { length marks.old ≡ length heads.now }
-    requires room { length heads.now ≤ vec_capacity queue.old }
-    requires visited { Visited heads.now marks.old queue.old.items }
+    requires visited { Visited heads.now walk.old }
     requires listed { entries_of list.now ≡ entries_on block (patches_of heads.now) }
-    requires live { (n : ℕ) → pending_in (nodes_of heads.now) n ≡ pending.Held → IsLiveNumber (patches_of heads.now) n }
-    ensures visited { Visited heads.now marks.new queue.new.items }
-    ensures visits { Visits (λ n. IsTouched (patches_of heads.now) block span.at span.len n × (pending_in (nodes_of heads.now) n ≡ pending.Held)) queue.old.items queue.new.items }
-    ensures capacity { vec_capacity queue.new ≡ vec_capacity queue.old }
+    requires gates { TellsGates heads.now }
+    ensures visited { Visited heads.now walk.new }
+    ensures visits { Visits (λ n. IsTouched (patches_of heads.now) block span.at span.len n × (pending_in (nodes_of heads.now) n ≡ pending.Held)) (numbers_met heads.now walk.old) (numbers_met heads.now walk.new) }
 {
     for listed in list {
         if shares(listed.span, span) {
-            visit_held(heads, marks, queue, listed.number);
+            visit_held(heads, walk, listed.number);
         }
     }
 }
@@ -59,35 +51,29 @@ fn has_dependants(heads: &[Head], number: u32) -> bool
 }
 
 /// Whether a change not on disk that shares a byte with the span depends on the open gate. The list has the changes of
-/// the block that are not on disk. What was marked before does not matter.
+/// the block that are not on disk. What was met before does not matter.
 pub fn overlap_reaches(
     heads: &[Head],
     list: &[Listed],
-    marks: &mut [bool],
-    queue: &mut Vec<u32>,
+    walk: &mut Walk,
     gate: u32,
     block: u32,
     span: Span,
 ) -> bool
     requires rising { IsRising heads.now }
-    requires long { length marks.old ≡ length heads.now }
-    requires room { length heads.now ≤ vec_capacity queue.old }
-    requires idle { queue.old.items ≡ [] }
+    requires long { length walk.old.marks ≡ length heads.now }
     requires linked { AreLinked (nodes_of heads.now) }
     requires listed { entries_of list.now ≡ entries_on block (patches_of heads.now) }
-    requires live { (n : ℕ) → pending_in (nodes_of heads.now) n ≡ pending.Held → IsLiveNumber (patches_of heads.now) n }
-    requires held { AreHeldByGates (patches_of heads.now) (pending_in (nodes_of heads.now)) }
+    requires gates { TellsGates heads.now }
     requires is_open { IsOpenNumber (patches_of heads.now) gate }
     ensures reaches { IsTrue result ↔ TouchedReaches (patches_of heads.now) gate block span.at span.len }
-    ensures idle { queue.new.items ≡ [] }
-    ensures capacity { vec_capacity queue.new ≡ vec_capacity queue.old }
+    ensures long { length walk.new.marks ≡ length heads.now }
 {
     if !has_dependants(heads, gate) {
         return false;
     }
-    clear(marks);
-    visit_overlapped(heads, list, marks, queue, block, span);
-    search_down(heads, marks, queue);
-    queue.clear();
-    is_marked(heads, marks, gate)
+    walk.clear();
+    visit_overlapped(heads, list, walk, block, span);
+    search_down(heads, walk);
+    is_visited(heads, walk, gate)
 }

@@ -2,7 +2,7 @@
 //! it. What is marked is what was met, so that each patch is looked at once, and a walk begins by taking back the marks of
 //! what the one before it met, which takes no longer than that walk did.
 
-ghost use Rattle.std.specs.Prelude.{◌≡◌, ◌≤◌, ◌<◌, ◌+◌, [], ℕ, filter, length, Contains, OnOk, slice_index_or};
+ghost use Rattle.std.specs.Prelude.{◌≡◌, ◌≤◌, ◌<◌, ◌+◌, ◌++◌, ◌∷◌, [], ℕ, false, filter, length, Contains, OnOk, slice_index_or};
 ghost use Rattle.fst_walks.specs.Walks.{AreMarked, Meets, passes_in};
 
 use fst_heads::head::Head;
@@ -84,23 +84,23 @@ impl Walk {
         self.met.clear();
     }
 
-    /// Room for so many heads more. Nothing was met then.
+    /// Room for so many heads more.
     pub fn reserve(&mut self, more: u32) -> Result<(), AllocError>
-        ensures long { length self.new.marks ≡ length self.old.marks }
+        ensures marks { self.new.marks ≡ self.old.marks }
+        ensures met { self.new.met ≡ self.old.met }
         ensures room { OnOk result (length self.new.marks + more ≤ self.new.room) }
     {
-        self.clear();
-        let more = more as usize;
-        self.marks.reserve(more)?;
-        self.met.reserve(self.marks.len() + more)?;
-        self.room = self.marks.len() + more;
+        let room = self.marks.len() + more as usize;
+        self.marks.reserve(more as usize)?;
+        self.met.reserve(room - self.met.len())?;
+        self.room = room;
         Ok(())
     }
 
     /// One head more, for which there is room.
     pub fn grow(&mut self)
         requires { length self.old.marks < self.old.room }
-        ensures long { length self.new.marks ≡ length self.old.marks + 1 }
+        ensures marks { self.new.marks ≡ self.old.marks ++ false ∷ [] }
         ensures met { self.new.met ≡ self.old.met }
         ensures room { self.new.room ≡ self.old.room }
     {
@@ -133,14 +133,6 @@ impl Walk {
         self.met[at]
     }
 
-    /// The slots that were met.
-    pub fn slots(&self) -> &[usize]
-        ensures slots { result.now ≡ self.now.met }
-        ensures inside { (slot : ℕ) → Contains result.now slot → slot < length self.now.marks }
-    {
-        self.met.as_slice()
-    }
-
     /// The marks.
     pub fn marks(&self) -> &[bool]
         ensures marks { result.now ≡ self.now.marks }
@@ -163,6 +155,7 @@ impl Walk {
     /// Of what was met, those stay that pass the test.
     pub fn keep(&mut self, heads: &[Head], test: Test)
         ensures long { length self.new.marks ≡ length self.old.marks }
+        ensures inside { (slot : ℕ) → Contains self.old.met slot → slot < length self.old.marks }
         ensures kept { self.new.met ≡ filter (passes_in test heads.now) self.old.met }
     {
         unmark(&mut self.marks, &self.met);

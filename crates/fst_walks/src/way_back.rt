@@ -1,76 +1,51 @@
 //! The walk up from the changes of a block to all from which a way leads back to it: from a patch to those that directly
-//! depend on it, and from a hard change in memory to all changes of its block, which is not written without it. What was
-//! met stands in the queue and is marked, so that each patch is looked at once, and each block is crossed once. It ends
-//! where it meets what it looks for.
+//! depend on it, and from a hard change in memory to all changes of its block, which is not written without it. Each
+//! patch is looked at once, and each block is crossed once. It ends where it meets what it looks for.
 
-ghost use Rattle.std.specs.Prelude.{◌≡◌, ◌≤◌, ◌<◌, ◌↔◌, ℕ, [], length, map, Contains, IsTrue, MatchBool, vec_capacity};
-ghost use Rattle.fst_types.specs.Facts.{IsOnDiskWithAll};
+ghost use Rattle.std.specs.Prelude.{◌≡◌, ◌<◌, ◌↔◌, ℕ, length, Contains, IsTrue, MatchBool};
 ghost use Rattle.fst_heads.specs.declared.test.Test.TheVariants as test;
 ghost use Rattle.fst_walks.specs.Descending.{Visited, Visits};
 ghost use Rattle.fst_heads.specs.Grading.{LeadsNowhere};
 ghost use Rattle.fst_heads.specs.Heads.{IsRising, patches_of};
-ghost use Rattle.fst_heads.specs.Keeps.{IsInside};
-ghost use Rattle.fst_heads.specs.Lists.{entries_of, AreListed};
-ghost use Rattle.fst_heads.specs.Marks.{Has, HasSlot, PassesAt};
-ghost use Rattle.fst_heads.specs.Nodes.{nodes_of, AreLinked};
+ghost use Rattle.fst_heads.specs.Marks.{HasSlot, PassesAt};
+ghost use Rattle.fst_walks.specs.Sights.{Sees};
+ghost use Rattle.fst_walks.specs.Walks.{numbers_met};
 ghost use Rattle.fst_walks.specs.WayBack.{Crosses, IsLiveOver, IsMet, Meets, ShowsBlockOf};
 
-use crate::descent::{clear, cross_all, keep_away, show_only, visit, visit_row};
+use crate::descent::{cross_all, is_visited, keep_away, show_only, visit, visit_row};
 use crate::shortcuts::is_hard_in;
+use crate::sight::Sight;
+use crate::walk::Walk;
 use fst_heads::head::{Head, Kind};
-use fst_heads::lists::Listed;
-use fst_heads::marks::{is_marked, slot_of};
 
 // Visits the changes of the block that are not on disk, which its list has.
-fn visit_changes(
-    heads: &[Head],
-    lists: &[Vec<Listed>],
-    marks: &mut [bool],
-    queue: &mut Vec<u32>,
-    block: u32,
-)
-    requires rising { IsRising heads.now }
-    requires long { length marks.old ≡ length heads.now }
-    requires room { length heads.now ≤ vec_capacity queue.old }
-    requires visited { Visited heads.now marks.old queue.old.items }
-    requires block { block < length lists.now }
-    requires listed { AreListed (patches_of heads.now) (length lists.now) (map (λ l. entries_of l.items) lists.now) }
-    ensures visited { Visited heads.now marks.new queue.new.items }
-    ensures visits { Visits (PassesAt (test.LiveOn block) (patches_of heads.now)) queue.old.items queue.new.items }
-    ensures capacity { vec_capacity queue.new ≡ vec_capacity queue.old }
+fn visit_changes(sight: &Sight<'_>, walk: &mut Walk, block: u32)
+    requires sees { Sees sight.now }
+    requires visited { Visited sight.now.heads.now walk.old }
+    requires block { block < length sight.now.lists.now }
+    ensures visited { Visited sight.now.heads.now walk.new }
+    ensures visits { Visits (PassesAt (test.LiveOn block) (patches_of sight.now.heads.now)) (numbers_met sight.now.heads.now walk.old) (numbers_met sight.now.heads.now walk.new) }
 {
-    for listed in lists[block as usize].as_slice() {
-        visit(heads, marks, queue, listed.number);
+    for listed in sight.lists[block as usize].as_slice() {
+        visit(sight.heads, walk, listed.number);
     }
 }
 
 // From the patch with the number, if it is a hard change in memory, across its block, unless that was crossed before.
-fn cross(
-    heads: &[Head],
-    lists: &[Vec<Listed>],
-    marks: &mut [bool],
-    crossed: &mut [bool],
-    queue: &mut Vec<u32>,
-    slot: usize,
-    number: u32,
-)
-    requires rising { IsRising heads.now }
-    requires long { length marks.old ≡ length heads.now }
-    requires room { length heads.now ≤ vec_capacity queue.old }
-    requires visited { Visited heads.now marks.old queue.old.items }
-    requires listed { AreListed (patches_of heads.now) (length crossed.old) (map (λ l. entries_of l.items) lists.now) }
-    requires inside { IsInside (patches_of heads.now) (length crossed.old) }
-    requires slot { HasSlot heads.now number slot }
-    ensures visited { Visited heads.now marks.new queue.new.items }
-    ensures visits { Visits (Crosses (patches_of heads.now) crossed.old number) queue.old.items queue.new.items }
-    ensures crossed { ShowsBlockOf (patches_of heads.now) number crossed.old crossed.new }
-    ensures capacity { vec_capacity queue.new ≡ vec_capacity queue.old }
+fn cross(sight: &Sight<'_>, walk: &mut Walk, crossed: &mut [bool], slot: usize, number: u32)
+    requires sees { Sees sight.now }
+    requires crossed { length crossed.old ≡ length sight.now.lists.now }
+    requires visited { Visited sight.now.heads.now walk.old }
+    requires slot { HasSlot sight.now.heads.now number slot }
+    ensures visited { Visited sight.now.heads.now walk.new }
+    ensures visits { Visits (Crosses (patches_of sight.now.heads.now) crossed.old number) (numbers_met sight.now.heads.now walk.old) (numbers_met sight.now.heads.now walk.new) }
+    ensures crossed { ShowsBlockOf (patches_of sight.now.heads.now) number crossed.old crossed.new }
 {
-    if let Kind::Change(block, _, _) = heads[slot].kind {
-        if is_hard_in(&heads[slot], block) {
+    if let Kind::Change(block, _, _) = sight.heads[slot].kind {
+        if is_hard_in(&sight.heads[slot], block) {
             if !crossed[block as usize] {
                 crossed[block as usize] = true;
-                visit_changes(heads, lists, marks, queue, block);
+                visit_changes(sight, walk, block);
             }
         }
     }
@@ -90,77 +65,51 @@ fn is_in(row: &[u32], number: u32) -> bool
     row.contains(&number)
 }
 
-// Visits all that the walk meets from what is in the queue on, or stops at one of a short row that it met.
-fn walk_back(
-    heads: &[Head],
-    lists: &[Vec<Listed>],
-    marks: &mut [bool],
-    crossed: &mut [bool],
-    queue: &mut Vec<u32>,
-    row: &[u32],
-)
-    requires rising { IsRising heads.now }
-    requires long { length marks.old ≡ length heads.now }
-    requires room { length heads.now ≤ vec_capacity queue.old }
-    requires visited { Visited heads.now marks.old queue.old.items }
-    requires linked { AreLinked (nodes_of heads.now) }
-    requires listed { AreListed (patches_of heads.now) (length crossed.old) (map (λ l. entries_of l.items) lists.now) }
-    requires inside { IsInside (patches_of heads.now) (length crossed.old) }
-    ensures visited { Visited heads.now marks.new queue.new.items }
-    ensures only { (n : ℕ) → Contains queue.new.items n → IsMet (patches_of heads.now) crossed.old queue.old.items n }
-    ensures meets { ((n : ℕ) → Contains row.now n → Contains queue.new.items n → ⊥) → Meets (patches_of heads.now) crossed.old queue.old.items queue.new.items }
-    ensures capacity { vec_capacity queue.new ≡ vec_capacity queue.old }
+// Visits all that the walk meets from what was visited on, or stops at one of a short row that it met.
+fn walk_back(sight: &Sight<'_>, walk: &mut Walk, crossed: &mut [bool], row: &[u32])
+    requires sees { Sees sight.now }
+    requires crossed { length crossed.old ≡ length sight.now.lists.now }
+    requires visited { Visited sight.now.heads.now walk.old }
+    ensures visited { Visited sight.now.heads.now walk.new }
+    ensures only { (n : ℕ) → Contains (numbers_met sight.now.heads.now walk.new) n → IsMet (patches_of sight.now.heads.now) crossed.old (numbers_met sight.now.heads.now walk.old) n }
+    ensures meets { ((n : ℕ) → Contains row.now n → Contains (numbers_met sight.now.heads.now walk.new) n → ⊥) → Meets (patches_of sight.now.heads.now) crossed.old (numbers_met sight.now.heads.now walk.old) (numbers_met sight.now.heads.now walk.new) }
 {
     let mut at = 0;
-    while at < queue.len() {
-        let number = queue[at];
-        if is_in(row, number) {
+    while at < walk.len() {
+        let slot = walk.slot(at);
+        let head = &sight.heads[slot];
+        if is_in(row, head.number) {
             return;
         }
-        if let Some(slot) = slot_of(heads, number) {
-            visit_row(heads, marks, queue, heads[slot].dependants.as_slice());
-            cross(heads, lists, marks, crossed, queue, slot, number);
-        }
+        visit_row(sight.heads, walk, head.dependants.as_slice());
+        cross(sight, walk, crossed, slot, head.number);
         at += 1;
     }
 }
 
 // Visits exactly the changes of the block that are not on disk, and what depends on them.
-fn visit_over(
-    heads: &[Head],
-    lists: &[Vec<Listed>],
-    marks: &mut [bool],
-    crossed: &mut [bool],
-    queue: &mut Vec<u32>,
-    block: u32,
-)
-    requires rising { IsRising heads.now }
-    requires long { length marks.old ≡ length heads.now }
-    requires room { length heads.now ≤ vec_capacity queue.old }
-    requires linked { AreLinked (nodes_of heads.now) }
-    requires listed { AreListed (patches_of heads.now) (length crossed.old) (map (λ l. entries_of l.items) lists.now) }
-    requires inside { IsInside (patches_of heads.now) (length crossed.old) }
-    requires block { block < length crossed.old }
-    requires disk { IsOnDiskWithAll (patches_of heads.now) }
-    ensures visited { Visited heads.now marks.new queue.new.items }
-    ensures over { (n : ℕ) → Contains queue.new.items n ↔ IsLiveOver (patches_of heads.now) block n }
-    ensures capacity { vec_capacity queue.new ≡ vec_capacity queue.old }
+fn visit_over(sight: &Sight<'_>, walk: &mut Walk, crossed: &mut [bool], block: u32)
+    requires sees { Sees sight.now }
+    requires crossed { length crossed.old ≡ length sight.now.lists.now }
+    requires long { length walk.old.marks ≡ length sight.now.heads.now }
+    requires block { block < length sight.now.lists.now }
+    ensures visited { Visited sight.now.heads.now walk.new }
+    ensures over { (n : ℕ) → Contains (numbers_met sight.now.heads.now walk.new) n ↔ IsLiveOver (patches_of sight.now.heads.now) block n }
 {
-    queue.clear();
-    clear(marks);
+    walk.clear();
     cross_all(crossed);
-    visit_changes(heads, lists, marks, queue, block);
-    walk_back(heads, lists, marks, crossed, queue, &[]);
+    visit_changes(sight, walk, block);
+    walk_back(sight, walk, crossed, &[]);
 }
 
 // Whether one of the row was visited.
-fn names_visited(heads: &[Head], marks: &[bool], row: &[u32]) -> bool
+fn names_visited(heads: &[Head], walk: &Walk, row: &[u32]) -> bool
     requires rising { IsRising heads.now }
-    requires long { length marks.now ≡ length heads.now }
-    ensures { IsTrue result ↔ ((n : ℕ) × Contains row.now n × Has heads.now marks.now n) }
+    requires long { length walk.now.marks ≡ length heads.now }
+    ensures { IsTrue result ↔ ((n : ℕ) × Contains row.now n × Contains (numbers_met heads.now walk.now) n) }
 {
     for number in row {
-        if is_marked(heads, marks, *number) {
+        if is_visited(heads, walk, *number) {
             return true;
         }
     }
@@ -168,33 +117,25 @@ fn names_visited(heads: &[Head], marks: &[bool], row: &[u32]) -> bool
 }
 
 /// Whether a new change of the block with that row may not be hard, also where no open gate is under the row: from the
-/// block's changes the walk goes up to changes of other blocks, and from these to one of the row. What was marked,
-/// crossed and queued before does not matter, and nothing is in the queue afterwards.
+/// block's changes the walk goes up to changes of other blocks, and from these to one of the row. What was met
+/// and crossed before does not matter.
 pub fn is_held_back(
-    heads: &[Head],
-    lists: &[Vec<Listed>],
-    marks: &mut [bool],
+    sight: &Sight<'_>,
+    walk: &mut Walk,
     crossed: &mut [bool],
-    queue: &mut Vec<u32>,
     block: u32,
     row: &[u32],
 ) -> bool
-    requires rising { IsRising heads.now }
-    requires long { length marks.old ≡ length heads.now }
-    requires room { length heads.now ≤ vec_capacity queue.old }
-    requires linked { AreLinked (nodes_of heads.now) }
-    requires listed { AreListed (patches_of heads.now) (length crossed.old) (map (λ l. entries_of l.items) lists.now) }
-    requires inside { IsInside (patches_of heads.now) (length crossed.old) }
-    requires block { block < length crossed.old }
-    requires disk { IsOnDiskWithAll (patches_of heads.now) }
-    ensures held { MatchBool result (LeadsNowhere (patches_of heads.now) block row.now → ⊥) (LeadsNowhere (patches_of heads.now) block row.now) }
-    ensures idle { queue.new.items ≡ [] }
-    ensures capacity { vec_capacity queue.new ≡ vec_capacity queue.old }
+    requires sees { Sees sight.now }
+    requires crossed { length crossed.old ≡ length sight.now.lists.now }
+    requires long { length walk.old.marks ≡ length sight.now.heads.now }
+    requires block { block < length sight.now.lists.now }
+    ensures held { MatchBool result (LeadsNowhere (patches_of sight.now.heads.now) block row.now → ⊥) (LeadsNowhere (patches_of sight.now.heads.now) block row.now) }
+    ensures long { length walk.new.marks ≡ length sight.now.heads.now }
 {
-    visit_over(heads, lists, marks, crossed, queue, block);
-    keep_away(heads, marks, queue, block);
+    visit_over(sight, walk, crossed, block);
+    keep_away(sight.heads, walk, block);
     show_only(crossed, block);
-    walk_back(heads, lists, marks, crossed, queue, row);
-    queue.clear();
-    names_visited(heads, marks, row)
+    walk_back(sight, walk, crossed, row);
+    names_visited(sight.heads, walk, row)
 }

@@ -3,209 +3,147 @@
 //! looks at a few patches and then gives up, since the way back to the block is often far shorter from one end than from
 //! the other.
 
-ghost use Rattle.std.specs.Prelude.{◌≡◌, ◌≤◌, ◌<◌, ◌↔◌, ℕ, [], length, map, Contains, IfSome, IsTrue, vec_capacity};
+ghost use Rattle.std.specs.Prelude.{◌≡◌, ◌<◌, ◌↔◌, ℕ, length, Contains, IfSome, IsTrue};
 ghost use Rattle.fst_types.specs.Dependencies.{IsLiveNumber};
-ghost use Rattle.fst_types.specs.Facts.{IsOnDiskWithAll};
 ghost use Rattle.fst_types.specs.Grades.{FollowsRule};
 ghost use Rattle.fst_heads.specs.declared.test.Test.TheVariants as test;
 ghost use Rattle.fst_walks.specs.Descending.{Visited, Visits};
 ghost use Rattle.fst_heads.specs.Grading.{IsHardNumber, LeadsNowhere};
 ghost use Rattle.fst_heads.specs.Heads.{IsRising, patches_of};
-ghost use Rattle.fst_heads.specs.Keeps.{IsInside};
-ghost use Rattle.fst_heads.specs.Lists.{entries_of, entries_on, AreListed};
+ghost use Rattle.fst_heads.specs.Lists.{entries_of, entries_on};
 ghost use Rattle.fst_heads.specs.Marks.{HasSlot, PassesAt};
+ghost use Rattle.fst_walks.specs.Sights.{Sees};
+ghost use Rattle.fst_walks.specs.Walks.{numbers_met};
 ghost use Rattle.fst_walks.specs.WayDown.{Crosses, IsLiveUnder, Meets, ShowsBlockOf};
 
-use crate::descent::{clear, cross_all, keep_away, show_only, visit, visit_row};
-use crate::shortcuts::{is_hard_number, passes_at};
+use crate::descent::{cross_all, keep_away, show_only, visit, visit_row};
+use crate::shortcuts::is_hard_number;
+use crate::sight::Sight;
+use crate::walk::Walk;
 use fst_heads::head::{Head, Kind};
 use fst_heads::lists::Listed;
-use fst_heads::marks::slot_of;
-use fst_heads::test::Test;
+use fst_heads::test::{Test, passes};
 use fst_types::Grade;
 
 // How many patches the walk meets before it gives up.
 const FEW: usize = 64;
 
 // Visits the hard changes of the block in memory, which its list has.
-fn visit_hard(heads: &[Head], marks: &mut [bool], queue: &mut Vec<u32>, list: &[Listed], block: u32)
+fn visit_hard(heads: &[Head], walk: &mut Walk, list: &[Listed], block: u32)
     requires rising { IsRising heads.now }
-    requires long { length marks.old ≡ length heads.now }
-    requires room { length heads.now ≤ vec_capacity queue.old }
-    requires visited { Visited heads.now marks.old queue.old.items }
+    requires visited { Visited heads.now walk.old }
     requires listed { entries_of list.now ≡ entries_on block (patches_of heads.now) }
-    ensures visited { Visited heads.now marks.new queue.new.items }
-    ensures visits { Visits (IsHardNumber (patches_of heads.now) block) queue.old.items queue.new.items }
-    ensures capacity { vec_capacity queue.new ≡ vec_capacity queue.old }
+    ensures visited { Visited heads.now walk.new }
+    ensures visits { Visits (IsHardNumber (patches_of heads.now) block) (numbers_met heads.now walk.old) (numbers_met heads.now walk.new) }
 {
     for listed in list {
         if is_hard_number(heads, block, listed.number) {
-            visit(heads, marks, queue, listed.number);
+            visit(heads, walk, listed.number);
         }
     }
 }
 
 // From the patch with the number, if it is a change, across its block, unless that was crossed before.
-fn cross(
-    heads: &[Head],
-    lists: &[Vec<Listed>],
-    marks: &mut [bool],
-    crossed: &mut [bool],
-    queue: &mut Vec<u32>,
-    slot: usize,
-    number: u32,
-)
-    requires rising { IsRising heads.now }
-    requires long { length marks.old ≡ length heads.now }
-    requires room { length heads.now ≤ vec_capacity queue.old }
-    requires visited { Visited heads.now marks.old queue.old.items }
-    requires listed { AreListed (patches_of heads.now) (length crossed.old) (map (λ l. entries_of l.items) lists.now) }
-    requires inside { IsInside (patches_of heads.now) (length crossed.old) }
-    requires slot { HasSlot heads.now number slot }
-    requires live { IsLiveNumber (patches_of heads.now) number }
-    ensures visited { Visited heads.now marks.new queue.new.items }
-    ensures visits { Visits (Crosses (patches_of heads.now) crossed.old number) queue.old.items queue.new.items }
-    ensures crossed { ShowsBlockOf (patches_of heads.now) number crossed.old crossed.new }
-    ensures capacity { vec_capacity queue.new ≡ vec_capacity queue.old }
+fn cross(sight: &Sight<'_>, walk: &mut Walk, crossed: &mut [bool], slot: usize, number: u32)
+    requires sees { Sees sight.now }
+    requires crossed { length crossed.old ≡ length sight.now.lists.now }
+    requires visited { Visited sight.now.heads.now walk.old }
+    requires slot { HasSlot sight.now.heads.now number slot }
+    requires live { IsLiveNumber (patches_of sight.now.heads.now) number }
+    ensures visited { Visited sight.now.heads.now walk.new }
+    ensures visits { Visits (Crosses (patches_of sight.now.heads.now) crossed.old number) (numbers_met sight.now.heads.now walk.old) (numbers_met sight.now.heads.now walk.new) }
+    ensures crossed { ShowsBlockOf (patches_of sight.now.heads.now) number crossed.old crossed.new }
 {
-    if let Kind::Change(block, _, _) = heads[slot].kind {
+    if let Kind::Change(block, _, _) = sight.heads[slot].kind {
         if !crossed[block as usize] {
             crossed[block as usize] = true;
-            visit_hard(heads, marks, queue, lists[block as usize].as_slice(), block);
+            visit_hard(
+                sight.heads,
+                walk,
+                sight.lists[block as usize].as_slice(),
+                block,
+            );
         }
     }
 }
 
-// Visits all that the walk meets from what is in the queue on. Answers whether it came to the end.
-fn walk_down(
-    heads: &[Head],
-    lists: &[Vec<Listed>],
-    marks: &mut [bool],
-    crossed: &mut [bool],
-    queue: &mut Vec<u32>,
-) -> bool
-    requires rising { IsRising heads.now }
-    requires long { length marks.old ≡ length heads.now }
-    requires room { length heads.now ≤ vec_capacity queue.old }
-    requires visited { Visited heads.now marks.old queue.old.items }
-    requires listed { AreListed (patches_of heads.now) (length crossed.old) (map (λ l. entries_of l.items) lists.now) }
-    requires inside { IsInside (patches_of heads.now) (length crossed.old) }
-    ensures visited { Visited heads.now marks.new queue.new.items }
-    ensures meets { IsTrue result → Meets (patches_of heads.now) crossed.old queue.old.items queue.new.items }
-    ensures capacity { vec_capacity queue.new ≡ vec_capacity queue.old }
+// Visits all that the walk meets from what was visited on. Answers whether it came to the end.
+fn walk_down(sight: &Sight<'_>, walk: &mut Walk, crossed: &mut [bool]) -> bool
+    requires sees { Sees sight.now }
+    requires crossed { length crossed.old ≡ length sight.now.lists.now }
+    requires visited { Visited sight.now.heads.now walk.old }
+    ensures visited { Visited sight.now.heads.now walk.new }
+    ensures meets { IsTrue result → Meets (patches_of sight.now.heads.now) crossed.old (numbers_met sight.now.heads.now walk.old) (numbers_met sight.now.heads.now walk.new) }
 {
     let mut at = 0;
-    while at < queue.len() {
-        if queue.len() > FEW {
+    while at < walk.len() {
+        if walk.len() > FEW {
             return false;
         }
-        let number = queue[at];
-        if let Some(slot) = slot_of(heads, number) {
-            visit_row(heads, marks, queue, heads[slot].dependencies.as_slice());
-            cross(heads, lists, marks, crossed, queue, slot, number);
-        }
+        let slot = walk.slot(at);
+        let head = &sight.heads[slot];
+        visit_row(sight.heads, walk, head.dependencies.as_slice());
+        cross(sight, walk, crossed, slot, head.number);
         at += 1;
     }
     true
 }
 
 // Visits what is not on disk of the row and below it. Answers whether that is all of it.
-fn visit_below(
-    heads: &[Head],
-    lists: &[Vec<Listed>],
-    marks: &mut [bool],
-    crossed: &mut [bool],
-    queue: &mut Vec<u32>,
-    row: &[u32],
-) -> bool
-    requires rising { IsRising heads.now }
-    requires long { length marks.old ≡ length heads.now }
-    requires room { length heads.now ≤ vec_capacity queue.old }
-    requires listed { AreListed (patches_of heads.now) (length crossed.old) (map (λ l. entries_of l.items) lists.now) }
-    requires inside { IsInside (patches_of heads.now) (length crossed.old) }
-    requires disk { IsOnDiskWithAll (patches_of heads.now) }
-    ensures visited { Visited heads.now marks.new queue.new.items }
-    ensures below { IsTrue result → (n : ℕ) → Contains queue.new.items n ↔ IsLiveUnder (patches_of heads.now) row.now n }
-    ensures capacity { vec_capacity queue.new ≡ vec_capacity queue.old }
+fn visit_below(sight: &Sight<'_>, walk: &mut Walk, crossed: &mut [bool], row: &[u32]) -> bool
+    requires sees { Sees sight.now }
+    requires crossed { length crossed.old ≡ length sight.now.lists.now }
+    requires long { length walk.old.marks ≡ length sight.now.heads.now }
+    ensures visited { Visited sight.now.heads.now walk.new }
+    ensures below { IsTrue result → (n : ℕ) → Contains (numbers_met sight.now.heads.now walk.new) n ↔ IsLiveUnder (patches_of sight.now.heads.now) row.now n }
 {
-    queue.clear();
-    clear(marks);
+    walk.clear();
     cross_all(crossed);
-    visit_row(heads, marks, queue, row);
-    walk_down(heads, lists, marks, crossed, queue)
+    visit_row(sight.heads, walk, row);
+    walk_down(sight, walk, crossed)
 }
 
-// Whether one of those met is a change of the block that is not on disk.
-fn is_any_on(heads: &[Head], block: u32, met: &[u32]) -> bool
-    requires { IsRising heads.now }
-    ensures { IsTrue result ↔ ((n : ℕ) × Contains met.now n × PassesAt (test.LiveOn block) (patches_of heads.now) n) }
+// Whether a change of the block that is not on disk was met.
+fn meets_change(heads: &[Head], walk: &Walk, block: u32) -> bool
+    requires rising { IsRising heads.now }
+    requires visited { Visited heads.now walk.now }
+    ensures { IsTrue result ↔ ((n : ℕ) × Contains (numbers_met heads.now walk.now) n × PassesAt (test.LiveOn block) (patches_of heads.now) n) }
 {
-    for number in met {
-        if passes_at(heads, Test::LiveOn(block), *number) {
+    for at in 0..walk.len() {
+        if passes(Test::LiveOn(block), &heads[walk.slot(at)]) {
             return true;
         }
     }
     false
 }
 
-// As `grade_below`, but that the queue is left as the walk leaves it.
-fn grade_met(
-    heads: &[Head],
-    lists: &[Vec<Listed>],
-    marks: &mut [bool],
+/// What keeps a new change of the block with that row soft but for open gates, if a look at a few patches below the row
+/// tells it: soft where the walk comes from a change of another block below the row to one of the block, else hard. What
+/// was met and crossed before does not matter.
+pub fn grade_below(
+    sight: &Sight<'_>,
+    walk: &mut Walk,
     crossed: &mut [bool],
-    queue: &mut Vec<u32>,
     block: u32,
     row: &[u32],
 ) -> Option<Grade>
-    requires rising { IsRising heads.now }
-    requires long { length marks.old ≡ length heads.now }
-    requires room { length heads.now ≤ vec_capacity queue.old }
-    requires listed { AreListed (patches_of heads.now) (length crossed.old) (map (λ l. entries_of l.items) lists.now) }
-    requires inside { IsInside (patches_of heads.now) (length crossed.old) }
-    requires block { block < length crossed.old }
-    requires disk { IsOnDiskWithAll (patches_of heads.now) }
-    ensures graded { IfSome result (λ grade. FollowsRule grade (LeadsNowhere (patches_of heads.now) block row.now)) }
-    ensures capacity { vec_capacity queue.new ≡ vec_capacity queue.old }
+    requires sees { Sees sight.now }
+    requires crossed { length crossed.old ≡ length sight.now.lists.now }
+    requires long { length walk.old.marks ≡ length sight.now.heads.now }
+    requires block { block < length sight.now.lists.now }
+    ensures graded { IfSome result (λ grade. FollowsRule grade (LeadsNowhere (patches_of sight.now.heads.now) block row.now)) }
+    ensures long { length walk.new.marks ≡ length sight.now.heads.now }
 {
-    if !visit_below(heads, lists, marks, crossed, queue, row) {
+    if !visit_below(sight, walk, crossed, row) {
         return None;
     }
-    keep_away(heads, marks, queue, block);
+    keep_away(sight.heads, walk, block);
     show_only(crossed, block);
-    if !walk_down(heads, lists, marks, crossed, queue) {
+    if !walk_down(sight, walk, crossed) {
         return None;
     }
-    if is_any_on(heads, block, queue) {
+    if meets_change(sight.heads, walk, block) {
         return Some(Grade::Soft);
     }
     Some(Grade::Hard)
-}
-
-/// What keeps a new change of the block with that row soft but for open gates, if a look at a few patches below the row
-/// tells it: soft where the walk comes from a change of another block below the row to one of the block, else hard. What
-/// was marked, crossed and queued before does not matter, and nothing is in the queue afterwards.
-pub fn grade_below(
-    heads: &[Head],
-    lists: &[Vec<Listed>],
-    marks: &mut [bool],
-    crossed: &mut [bool],
-    queue: &mut Vec<u32>,
-    block: u32,
-    row: &[u32],
-) -> Option<Grade>
-    requires rising { IsRising heads.now }
-    requires long { length marks.old ≡ length heads.now }
-    requires room { length heads.now ≤ vec_capacity queue.old }
-    requires listed { AreListed (patches_of heads.now) (length crossed.old) (map (λ l. entries_of l.items) lists.now) }
-    requires inside { IsInside (patches_of heads.now) (length crossed.old) }
-    requires block { block < length crossed.old }
-    requires disk { IsOnDiskWithAll (patches_of heads.now) }
-    ensures graded { IfSome result (λ grade. FollowsRule grade (LeadsNowhere (patches_of heads.now) block row.now)) }
-    ensures idle { queue.new.items ≡ [] }
-    ensures capacity { vec_capacity queue.new ≡ vec_capacity queue.old }
-{
-    let grade = grade_met(heads, lists, marks, crossed, queue, block, row);
-    queue.clear();
-    grade
 }

@@ -22,6 +22,7 @@ use fst_heads::lists::Listed;
 use fst_heads::pending::{Pending, is_pending, over_block};
 use fst_heads::row::row_sums;
 use fst_types::{BlockNo, Fault, Grade, PatchNo, Place, Span};
+use fst_walks::sight::Sight;
 use smallvec::SmallVec;
 
 impl Patches {
@@ -45,33 +46,20 @@ impl Patches {
         ensures blocks { self.new.blocks ≡ self.old.blocks }
     {
         self.prepared = None;
-        if let Some(fault) = member_fault(
-            &self.heads,
-            &self.lists[block.0 as usize],
-            &mut self.marks,
-            &mut self.queue,
-            self.numbers,
-            gates.tail,
-            block.0,
-            span,
-        ) {
+        let sight = Sight {
+            heads: &self.heads,
+            lists: &self.lists,
+            standings: &self.standings,
+        };
+        let walk = &mut self.walks.walk;
+        if let Some(fault) = member_fault(&sight, walk, self.numbers, gates.tail, block.0, span) {
             return Err(fault);
         }
-        let Ok(prepared) = prepare_member(
-            self.alloc,
-            &self.heads,
-            &self.lists,
-            &self.standings,
-            &mut self.marks,
-            &mut self.reached,
-            &mut self.queue,
-            block.0,
-            span,
-            gates,
-        ) else {
+        let Ok(prepared) = prepare_member(self.alloc, &sight, &mut self.walks, block.0, span, gates)
+        else {
             return Err(Fault::Memory);
         };
-        if reserve_one(&mut self.heads, &mut self.marks, &mut self.queue).is_err() {
+        if reserve_one(&mut self.heads, &mut self.walks.walk, &mut self.queue).is_err() {
             return Err(Fault::Memory);
         }
         if reserve_above(&mut self.heads, prepared.dependencies.as_slice()).is_err() {
@@ -148,7 +136,7 @@ impl Patches {
         });
         self.lists[block as usize].push_reserved(Listed { number, span });
         self.standings[block as usize].enter(kind, is_pending(pending, Pending::Block(block)));
-        self.marks.push_reserved(false);
+        self.walks.walk.grow();
         self.live += 1;
         self.numbers = number;
         let row = row_of(self.alloc, number);

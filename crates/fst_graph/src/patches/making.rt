@@ -15,6 +15,7 @@ use fst_heads::lists::Listed;
 use fst_heads::pending::{Pending, is_pending, over_block};
 use fst_heads::row::row_sums;
 use fst_types::{BlockNo, Fault, Grade, PatchNo, Place, Span};
+use fst_walks::sight::Sight;
 use smallvec::SmallVec;
 
 impl Patches {
@@ -39,21 +40,15 @@ impl Patches {
         if let Some(fault) = make_fault(&self.heads, self.numbers, after) {
             return Err(fault);
         }
-        let Ok(prepared) = prepare(
-            self.alloc,
-            &self.heads,
-            &self.lists,
-            &self.standings,
-            &mut self.marks,
-            &mut self.reached,
-            &mut self.queue,
-            block.0,
-            span,
-            after,
-        ) else {
+        let sight = Sight {
+            heads: &self.heads,
+            lists: &self.lists,
+            standings: &self.standings,
+        };
+        let Ok(prepared) = prepare(self.alloc, &sight, &mut self.walks, block.0, span, after) else {
             return Err(Fault::Memory);
         };
-        if reserve_one(&mut self.heads, &mut self.marks, &mut self.queue).is_err() {
+        if reserve_one(&mut self.heads, &mut self.walks.walk, &mut self.queue).is_err() {
             return Err(Fault::Memory);
         }
         if reserve_above(&mut self.heads, prepared.dependencies.as_slice()).is_err() {
@@ -105,7 +100,7 @@ impl Patches {
         });
         self.lists[block as usize].push_reserved(Listed { number, span });
         self.standings[block as usize].enter(kind, is_pending(pending, Pending::Block(block)));
-        self.marks.push_reserved(false);
+        self.walks.walk.grow();
         self.live += 1;
         self.numbers = number;
         (PatchNo(number), grade)

@@ -1,6 +1,6 @@
 //! The two gates of a group, and sealing them.
 
-ghost use Rattle.std.specs.Prelude.{◌≡◌, ◌+◌, ◌≤◌, ◌∷◌, [], IfOk, IfErr, IfSome, IfNone, OnErr, OnOk, vec_len, vec_capacity};
+ghost use Rattle.std.specs.Prelude.{◌≡◌, ◌+◌, ◌≤◌, ◌∷◌, [], IfOk, IfErr, IfSome, IfNone, OnErr, OnOk, length, vec_len, vec_capacity};
 ghost use Rattle.smallvec.specs.SmallVec.{HasRoomFor};
 ghost use Rattle.fst_types.specs.Making.{fresh};
 ghost use Rattle.fst_types.specs.Patches.{OpenGate};
@@ -16,25 +16,26 @@ use fst_heads::links::link;
 use fst_heads::pending::{Pending, Sums, no_sums};
 use fst_heads::row::{Row, row_sums};
 use fst_types::{Fault, MAX_HEADS, MAX_NUMBER, PatchNo, Place, What};
+use fst_walks::walk::Walk;
 use smallvec::SmallVec;
 use std::alloc::{AllocError, Global};
 
 // Room for two more heads.
 fn reserve_two(
     heads: &mut Vec<Head>,
-    marks: &mut Vec<bool>,
+    walk: &mut Walk,
     queue: &mut Vec<u32>,
 ) -> Result<(), AllocError>
     ensures heads { heads.new.items ≡ heads.old.items }
     ensures room_heads { OnOk result (vec_len heads.new + 2 ≤ vec_capacity heads.new) }
-    ensures marks { marks.new.items ≡ marks.old.items }
-    ensures room_marks { OnOk result (vec_len marks.new + 2 ≤ vec_capacity marks.new) }
+    ensures marks { walk.new.marks ≡ walk.old.marks }
+    ensures room_marks { OnOk result (length walk.new.marks + 2 ≤ walk.new.room) }
     ensures queue { queue.new.items ≡ queue.old.items }
     ensures room_queue { OnOk result (vec_len heads.new + 2 ≤ vec_capacity queue.new) }
     ensures wide { vec_capacity queue.old ≤ vec_capacity queue.new }
 {
     heads.reserve(2)?;
-    marks.reserve(2)?;
+    walk.reserve(2)?;
     queue.reserve(heads.len() + 2)
 }
 
@@ -89,7 +90,7 @@ impl Patches {
         if let Some(fault) = self.pair_fault() {
             return Err(fault);
         }
-        if reserve_two(&mut self.heads, &mut self.marks, &mut self.queue).is_err() {
+        if reserve_two(&mut self.heads, &mut self.walks.walk, &mut self.queue).is_err() {
             return Err(Fault::Memory);
         }
         let number = self.numbers + 1;
@@ -101,8 +102,8 @@ impl Patches {
         link(&mut self.heads, row.as_slice(), number + 1);
         self.heads
             .push_reserved(new_gate(self.alloc, number + 1, row, sums));
-        self.marks.push_reserved(false);
-        self.marks.push_reserved(false);
+        self.walks.walk.grow();
+        self.walks.walk.grow();
         self.live += 2;
         self.numbers = number + 1;
         Ok(PatchNo(number))

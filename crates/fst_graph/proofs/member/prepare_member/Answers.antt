@@ -1,11 +1,10 @@
-use Rattle.std.proofs.Common.{◌∙◌, Bor, List, map, sym, ap, subst, arith}
-use Rattle.std.proofs.lemmas.List.{length-map}
+use Rattle.std.proofs.Common.{Bor, List, sym, ap, subst}
 use Rattle.fst_types.specs.declared.number.PatchNo.{PatchNo}
 use Rattle.fst_types.specs.Grades.{FollowsRule}
 use Rattle.fst_heads.specs.Grading.{MayBeHard}
 use Rattle.fst_heads.specs.Heads.{patches_of}
 use Rattle.fst_heads.specs.Names.{numbers_of}
-use Rattle.fst_heads.specs.Lists.{entries_of, AreListed}
+use Rattle.fst_heads.specs.Lists.{entries_of}
 use Rattle.fst_heads.proofs.Listing.{listed_at}
 use Rattle.fst_graph.proofs.MemberRow.{IsAfter, rests, waits, told_open, member_row, member_rule}
 use Rattle.fst_graph.proofs.member.prepare_member.Goals as goal
@@ -13,14 +12,11 @@ use Rattle.fst_graph.proofs.member.prepare_member.Goals.{then-is_some+then-rests
 
 pub dependencies_of-requires-clause-listed : goal.dependencies_of-requires-clause-listed
 dependencies_of-requires-clause-listed c =
-    let patches = patches_of c.args.heads.now in
-    let lists = c.args.lists.now in
-    let long = sym c.requires.listed.long ∙ length-map lists (λ l. entries_of l.items) in
-    rw c.deref.ensures.value (listed_at (λ l. entries_of l.items) patches lists c.args.block c.index-lists-block.result (omega (arith, c.requires.block, long)) c.index-lists-block.is (subst (λ n. AreListed patches n (map (λ l. entries_of l.items) lists)) long c.requires.listed))
+    rw (c.deref.ensures.value, ← c.index-sight-block.is) (listed_at (λ l. entries_of l.items) (patches_of c.args.sight.now.heads.now) c.args.sight.now.lists.now c.args.block c.index-sight-block.result c.requires.block c.index-sight-block.is c.requires.sees.listed)
 
 pub returns-clause-depends : goal.returns-clause-depends
 returns-clause-depends c =
-    let patches = patches_of c.args.heads.now in
+    let patches = patches_of c.args.sight.now.heads.now in
     let head = c.args.gates.head in
     let after = numbers_of c.if-is_some.after.now in
     let opened = told_open patches head c.if_open-opened.result c.is_some.result c.is_some.ensures c.if_open-opened.ensures.some c.if_open-opened.ensures.none in
@@ -36,6 +32,6 @@ returns-clause-depends c =
 
 pub returns-clause-graded : goal.returns-clause-graded
 returns-clause-graded c =
-    let patches = patches_of c.args.heads.now in
+    let patches = patches_of c.args.sight.now.heads.now in
     member_rule patches c.requires.lawful.0 c.requires.lawful.1 c.args.gates.head c.args.block c.in_ok-dependencies.dependencies.items c.grade_of-grade.result c.if_open-opened.result c.if_open-opened.ensures.some c.if_open-opened.ensures.none
-    (subst (λ r. FollowsRule c.grade_of-grade.result (MayBeHard patches c.if_open-opened.result c.args.block r)) c.as_slice.ensures c.grade_of-grade.ensures.graded)
+    (subst (λ r. FollowsRule c.grade_of-grade.result (MayBeHard patches c.if_open-opened.result c.args.block r)) c.as_slice-row.ensures c.grade_of-grade.ensures.graded)

@@ -16,5 +16,5 @@ returns-then-is_resting-clause-behind c n =
 pub returns-clause-behind : goal.returns-clause-behind
 returns-clause-behind c n =
     let heads = c.args.heads.now in
-    let marks = c.mark_behind.new.marks in
+    let marks = c.mark_behind.new.walk.marks in
     (λ e. c.mark_behind.ensures.marked.only n (mark_has heads marks n e), λ h. has_mark heads marks n (c.mark_behind.ensures.marked.each n h))

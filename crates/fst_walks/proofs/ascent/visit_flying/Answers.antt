@@ -3,6 +3,7 @@ use Rattle.std.proofs.lemmas.Bool.{false≢true}
 use Rattle.std.proofs.lemmas.List.{take_all, take_more}
 use Rattle.fst_types.specs.Dependencies.{IsLiveNumber}
 use Rattle.fst_heads.specs.declared.lists.Listed.{Listed}
+use Rattle.fst_walks.specs.Walks.{numbers_met}
 use Rattle.fst_walks.specs.Descending.{Visits}
 use Rattle.fst_heads.specs.Ascending.{IsFlyingNumber}
 use Rattle.fst_heads.specs.Heads.{patches_of}
@@ -23,19 +24,17 @@ loop-listed-preserved c =
     let none : Listed = record { number = 0; span = record { at = 0; len = 0 } } in
     let number = λ (l : Listed). l.number in
     let n = (get_or list i none).number in
-    let old = c.args.queue.now.items in
-    let mid = c.loop-listed.queue.items in
+    let old = numbers_met c.args.heads.now c.args.walk.now in
+    let mid = numbers_met c.args.heads.now c.loop-listed.walk in
     let more = ap (map number) (take_more list i none c.loop-listed-test.true) ∙ map_push number (take i list) (get_or list i none) in
     elim c.if-is_flying_number.branch [
-      | then-is_flying_number w ↦ rw (w.marks-is, w.queue-is) record {
+      | then-is_flying_number w ↦ rw (w.walk-is) record {
         visited = w.visit.ensures.visited;
-        visits = rw more (visits_next P L (map number (take i list)) n old mid w.visit.new.queue.items (flying_live patches b) (λ l. c.is_flying_number.ensures.0 w.if-is_flying_number.true) c.loop-listed.invariant.visits w.visit.ensures.visits);
-        capacity = w.visit.ensures.capacity ∙ c.loop-listed.invariant.capacity;
+        visits = rw more (visits_next P L (map number (take i list)) n old mid (numbers_met c.args.heads.now w.visit.new.walk) (flying_live patches b) (λ l. c.is_flying_number.ensures.0 w.if-is_flying_number.true) c.loop-listed.invariant.visits w.visit.ensures.visits);
       }
-      | else-is_flying_number w ↦ rw (w.marks-is, w.queue-is) record {
+      | else-is_flying_number w ↦ rw (w.walk-is) record {
         visited = c.loop-listed.invariant.visited;
         visits = rw more (visits_skip P (map number (take i list)) n old mid (λ h. false≢true (sym w.if-is_flying_number.false ∙ c.is_flying_number.ensures.1 h)) c.loop-listed.invariant.visits);
-        capacity = c.loop-listed.invariant.capacity;
       }
     ]
 
@@ -46,5 +45,5 @@ returns-clause-visits c =
     let P = IsFlyingNumber patches b in
     let list = c.args.list.now in
     let number = λ (l : Listed). l.number in
-    let all = subst (λ ls. Visits (λ n. Contains (map number ls) n × P n) c.args.queue.now.items c.loop-listed.queue.items) (take_all c.loop-listed.listed-index list (omega (arith, c.loop-listed-test.false))) c.loop-listed.invariant.visits in
-    visits_same (λ n. Contains (map number list) n × P n) P c.args.queue.now.items c.loop-listed.queue.items (λ n k. k.1) (λ n h. (flying_listed patches list b n c.requires.listed h, h)) all
+    let all = subst (λ ls. Visits (λ n. Contains (map number ls) n × P n) (numbers_met c.args.heads.now c.args.walk.now) (numbers_met c.args.heads.now c.loop-listed.walk)) (take_all c.loop-listed.listed-index list (omega (arith, c.loop-listed-test.false))) c.loop-listed.invariant.visits in
+    visits_same (λ n. Contains (map number list) n × P n) P (numbers_met c.args.heads.now c.args.walk.now) (numbers_met c.args.heads.now c.loop-listed.walk) (λ n k. k.1) (λ n h. (flying_listed patches list b n c.requires.listed h, h)) all

@@ -3,6 +3,7 @@ use Rattle.std.proofs.lemmas.Bool.{false≢true}
 use Rattle.std.proofs.lemmas.List.{take_all, take_more}
 use Rattle.fst_types.specs.Dependencies.{IsLiveNumber}
 use Rattle.fst_heads.specs.declared.pending.Pending.TheVariants as pending
+use Rattle.fst_walks.specs.Walks.{numbers_met}
 use Rattle.fst_walks.specs.Descending.{Visits}
 use Rattle.fst_heads.specs.Heads.{patches_of}
 use Rattle.fst_heads.specs.Nodes.{nodes_of, pending_in}
@@ -19,26 +20,24 @@ loop-number-preserved c =
     let row = c.args.row.now in
     let i = c.loop-number.number-index in
     let n = get_or row i 0 in
-    let old = c.args.queue.now.items in
-    let mid = c.loop-number.queue.items in
+    let old = numbers_met c.args.heads.now c.args.walk.now in
+    let mid = numbers_met c.args.heads.now c.loop-number.walk in
     let said = ap (λ p. is_pending p (pending.Block c.args.block)) (sym c.pending_at.ensures) ∙ sym c.is_pending.ensures in
     elim c.if-is_pending.branch [
       | then-is_pending w ↦
           let own : P n = is_block c.args.block (pending_in (nodes_of c.args.heads.now) n) (said ∙ w.if-is_pending.true) in
-          rw (w.marks-is, w.queue-is) record {
+          rw (w.walk-is) record {
             visited = w.visit.ensures.visited;
-            visits = rw (take_more row i 0 c.loop-number-test.true) (visits_next P L (take i row) n old mid w.visit.new.queue.items c.requires.live (λ l. own) c.loop-number.invariant.visits w.visit.ensures.visits);
-            capacity = w.visit.ensures.capacity ∙ c.loop-number.invariant.capacity;
+            visits = rw (take_more row i 0 c.loop-number-test.true) (visits_next P L (take i row) n old mid (numbers_met c.args.heads.now w.visit.new.walk) c.requires.live (λ l. own) c.loop-number.invariant.visits w.visit.ensures.visits);
           }
-      | else-is_pending w ↦ rw (w.marks-is, w.queue-is) record {
+      | else-is_pending w ↦ rw (w.walk-is) record {
         visited = c.loop-number.invariant.visited;
         visits = rw (take_more row i 0 c.loop-number-test.true)
             (visits_skip P (take i row) n old mid (λ own. false≢true (sym (said ∙ w.if-is_pending.false) ∙ block_is c.args.block (pending_in (nodes_of c.args.heads.now) n) own)) c.loop-number.invariant.visits);
-        capacity = c.loop-number.invariant.capacity;
       }
     ]
 
 pub returns-clause-visits : goal.returns-clause-visits
 returns-clause-visits c =
-    subst (λ ns. Visits (λ n. Contains ns n × (pending_in (nodes_of c.args.heads.now) n ≡ pending.Block c.args.block)) c.args.queue.now.items c.loop-number.queue.items)
+    subst (λ ns. Visits (λ n. Contains ns n × (pending_in (nodes_of c.args.heads.now) n ≡ pending.Block c.args.block)) (numbers_met c.args.heads.now c.args.walk.now) (numbers_met c.args.heads.now c.loop-number.walk))
     (take_all c.loop-number.number-index c.args.row.now (omega (arith, c.loop-number-test.false))) c.loop-number.invariant.visits

@@ -1,12 +1,12 @@
-use Rattle.std.proofs.Common.{◌≡◌, take, Contains, vec_capacity}
+use Rattle.std.proofs.Common.{◌≡◌, take, Contains}
 use Rattle.fst_heads.specs.declared.pending.Pending.TheVariants as pending
+use Rattle.fst_walks.specs.Walks.{numbers_met}
 use Rattle.fst_walks.specs.Descending.{Visited, Visits}
 use Rattle.fst_heads.specs.Nodes.{nodes_of, pending_in}
 use Rattle.fst_walks.proofs.ascent.visit_waiting.Given as goal
 
 abbrev pub invariant-loop-number : goal.invariant-loop-number
 invariant-loop-number l = record {
-  visited : Visited l.heads l.marks l.queue.items;
-  visits : Visits (λ n. Contains (take l.number-index l.row) n × (pending_in (nodes_of l.heads) n ≡ pending.Block l.block)) l.initial.queue.items l.queue.items;
-  capacity : vec_capacity l.queue ≡ vec_capacity l.initial.queue;
+  visited : Visited l.heads l.walk;
+  visits : Visits (λ n. Contains (take l.number-index l.row) n × (pending_in (nodes_of l.heads) n ≡ pending.Block l.block)) (numbers_met l.heads l.initial.walk) (numbers_met l.heads l.walk);
 }

@@ -19,5 +19,5 @@ returns-then-not-names_held-clause-closes c =
     let o = c.requires.is_open in
     let gate : IsOpenNumber (patches_of heads) c.args.gate = record { patch = o.patch; head = o.head; numbered = o.numbered; is_open = o.is_open } in (
       λ e. absurd (cc),
-      λ a. absurd (false≢true (sym c.if-not-names_held.true ∙ c.names_held.ensures.1 (a.0, a.1, (c.requires.held a.0).1 (named_held (patches_of heads) c.args.gate a.0 gate a.2)))),
+      λ a. absurd (false≢true (sym c.if-not-names_held.true ∙ c.names_held.ensures.1 (a.0, a.1, (c.requires.gates.held a.0).1 (named_held (patches_of heads) c.args.gate a.0 gate a.2)))),
     )

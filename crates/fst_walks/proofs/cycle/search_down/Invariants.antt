@@ -1,5 +1,6 @@
-use Rattle.std.proofs.Common.{◌≡◌, ◌-◌, length, vec_capacity}
+use Rattle.std.proofs.Common.{◌-◌, length}
 use Rattle.fst_walks.specs.Descending.{Visited}
+use Rattle.fst_walks.specs.Walks.{numbers_met}
 use Rattle.fst_heads.specs.Heads.{patches_of}
 use Rattle.fst_heads.specs.Nodes.{nodes_of, pending_in}
 use Rattle.fst_walks.specs.Searching.{IsNextHeld}
@@ -8,9 +9,8 @@ use Rattle.fst_walks.proofs.cycle.search_down.Given as goal
 
 abbrev pub invariant-loop-at : goal.invariant-loop-at
 invariant-loop-at l = record {
-  visited : Visited l.heads l.marks l.queue.items;
-  climbing : Climbing (IsNextHeld (patches_of l.heads) (pending_in (nodes_of l.heads))) l.initial.queue.items l.at l.queue.items;
-  capacity : vec_capacity l.queue ≡ vec_capacity l.initial.queue;
+  visited : Visited l.heads l.walk;
+  climbing : Climbing (IsNextHeld (patches_of l.heads) (pending_in (nodes_of l.heads))) (numbers_met l.heads l.initial.walk) l.at (numbers_met l.heads l.walk);
 }
 
 abbrev pub decreases-loop-at : goal.decreases-loop-at

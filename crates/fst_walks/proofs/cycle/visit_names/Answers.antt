@@ -2,6 +2,7 @@ use Rattle.std.proofs.Common.{◌≡◌, ◌∙◌, ℕ, take, get_or, Contains,
 use Rattle.std.proofs.lemmas.List.{take_all, take_more}
 use Rattle.fst_types.specs.declared.number.PatchNo.{PatchNo}
 use Rattle.fst_heads.specs.declared.pending.Pending.TheVariants as pending
+use Rattle.fst_walks.specs.Walks.{numbers_met}
 use Rattle.fst_walks.specs.Descending.{Visits}
 use Rattle.fst_heads.specs.Names.{numbers_of}
 use Rattle.fst_heads.specs.Nodes.{nodes_of, pending_in}
@@ -19,11 +20,10 @@ loop-name-preserved c =
     let more = ap numbers_of (take_more names i none c.loop-name-test.true) ∙ map_push (λ (m : PatchNo). m.0) (take i names) (get_or names i none) in
     record {
       visited = c.visit_held.ensures.visited;
-      visits = rw more (visits_next P P (numbers_of (take i names)) n c.args.queue.now.items c.loop-name.queue.items c.visit_held.new.queue.items (λ m l. l) (λ l. l) c.loop-name.invariant.visits c.visit_held.ensures.visits);
-      capacity = c.visit_held.ensures.capacity ∙ c.loop-name.invariant.capacity;
+      visits = rw more (visits_next P P (numbers_of (take i names)) n (numbers_met c.args.heads.now c.args.walk.now) (numbers_met c.args.heads.now c.loop-name.walk) (numbers_met c.args.heads.now c.visit_held.new.walk) (λ m l. l) (λ l. l) c.loop-name.invariant.visits c.visit_held.ensures.visits);
     }
 
 pub returns-clause-visits : goal.returns-clause-visits
 returns-clause-visits c =
     let P : ℕ → Type 0 = λ m. pending_in (nodes_of c.args.heads.now) m ≡ pending.Held in
-    subst (λ ns. Visits (λ n. Contains (numbers_of ns) n × P n) c.args.queue.now.items c.loop-name.queue.items) (take_all c.loop-name.name-index c.args.names.now (omega (arith, c.loop-name-test.false))) c.loop-name.invariant.visits
+    subst (λ ns. Visits (λ n. Contains (numbers_of ns) n × P n) (numbers_met c.args.heads.now c.args.walk.now) (numbers_met c.args.heads.now c.loop-name.walk)) (take_all c.loop-name.name-index c.args.names.now (omega (arith, c.loop-name-test.false))) c.loop-name.invariant.visits

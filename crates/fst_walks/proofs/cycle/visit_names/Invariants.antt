@@ -1,5 +1,6 @@
-use Rattle.std.proofs.Common.{◌≡◌, take, Contains, vec_capacity}
+use Rattle.std.proofs.Common.{◌≡◌, take, Contains}
 use Rattle.fst_heads.specs.declared.pending.Pending.TheVariants as pending
+use Rattle.fst_walks.specs.Walks.{numbers_met}
 use Rattle.fst_walks.specs.Descending.{Visited, Visits}
 use Rattle.fst_heads.specs.Names.{numbers_of}
 use Rattle.fst_heads.specs.Nodes.{nodes_of, pending_in}
@@ -7,7 +8,6 @@ use Rattle.fst_walks.proofs.cycle.visit_names.Given as goal
 
 abbrev pub invariant-loop-name : goal.invariant-loop-name
 invariant-loop-name l = record {
-  visited : Visited l.heads l.marks l.queue.items;
-  visits : Visits (λ n. Contains (numbers_of (take l.name-index l.names)) n × (pending_in (nodes_of l.heads) n ≡ pending.Held)) l.initial.queue.items l.queue.items;
-  capacity : vec_capacity l.queue ≡ vec_capacity l.initial.queue;
+  visited : Visited l.heads l.walk;
+  visits : Visits (λ n. Contains (numbers_of (take l.name-index l.names)) n × (pending_in (nodes_of l.heads) n ≡ pending.Held)) (numbers_met l.heads l.initial.walk) (numbers_met l.heads l.walk);
 }

@@ -1,6 +1,7 @@
-use Rattle.std.proofs.Common.{◌≡◌, ◌∙◌, ℕ, take, get_or, Contains, subst, arith}
+use Rattle.std.proofs.Common.{◌≡◌, ℕ, take, get_or, Contains, subst, arith}
 use Rattle.std.proofs.lemmas.List.{take_all, take_more}
 use Rattle.fst_heads.specs.declared.pending.Pending.TheVariants as pending
+use Rattle.fst_walks.specs.Walks.{numbers_met}
 use Rattle.fst_walks.specs.Descending.{Visits}
 use Rattle.fst_heads.specs.Nodes.{nodes_of, pending_in}
 use Rattle.fst_walks.proofs.Visiting.{visits_next}
@@ -14,11 +15,10 @@ loop-number-preserved c =
     let n = get_or row i 0 in
     record {
       visited = c.visit_held.ensures.visited;
-      visits = rw (take_more row i 0 c.loop-number-test.true) (visits_next P P (take i row) n c.args.queue.now.items c.loop-number.queue.items c.visit_held.new.queue.items (λ m l. l) (λ l. l) c.loop-number.invariant.visits c.visit_held.ensures.visits);
-      capacity = c.visit_held.ensures.capacity ∙ c.loop-number.invariant.capacity;
+      visits = rw (take_more row i 0 c.loop-number-test.true) (visits_next P P (take i row) n (numbers_met c.args.heads.now c.args.walk.now) (numbers_met c.args.heads.now c.loop-number.walk) (numbers_met c.args.heads.now c.visit_held.new.walk) (λ m l. l) (λ l. l) c.loop-number.invariant.visits c.visit_held.ensures.visits);
     }
 
 pub returns-clause-visits : goal.returns-clause-visits
 returns-clause-visits c =
     let P : ℕ → Type 0 = λ m. pending_in (nodes_of c.args.heads.now) m ≡ pending.Held in
-    subst (λ ns. Visits (λ n. Contains ns n × P n) c.args.queue.now.items c.loop-number.queue.items) (take_all c.loop-number.number-index c.args.row.now (omega (arith, c.loop-number-test.false))) c.loop-number.invariant.visits
+    subst (λ ns. Visits (λ n. Contains ns n × P n) (numbers_met c.args.heads.now c.args.walk.now) (numbers_met c.args.heads.now c.loop-number.walk)) (take_all c.loop-number.number-index c.args.row.now (omega (arith, c.loop-number-test.false))) c.loop-number.invariant.visits

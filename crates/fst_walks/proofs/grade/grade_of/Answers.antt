@@ -9,10 +9,10 @@ use Rattle.fst_walks.proofs.grade.grade_of.Goals.{then-rests_on_hard-via-then-re
 
 pub returns-then-rests_on_hard-clause-graded : goal.returns-then-rests_on_hard-clause-graded
 returns-then-rests_on_hard-clause-graded c =
-    let heads = c.args.heads.now in
-    let hard : HardNeverHold (patches_of heads) = record { free = c.requires.hard.free; straight = c.requires.hard.straight; acyclic = c.requires.hard.acyclic } in
+    let heads = c.args.sight.now.heads.now in
+    let hard : HardNeverHold (patches_of heads) = c.requires.sees.hard in
     may_but (patches_of heads) c.args.but c.args.block c.args.row.now (elim c.then-rests_on_hard.branch [
-      | then-rests_on_hard-via-then-rests_on_hard w ↦ rests_may heads c.requires.rising c.args.block c.args.row.now hard (c.rests_on_hard.ensures.0 w.if-rests_on_hard.true)
+      | then-rests_on_hard-via-then-rests_on_hard w ↦ rests_may heads c.requires.sees.rising c.args.block c.args.row.now hard (c.rests_on_hard.ensures.0 w.if-rests_on_hard.true)
       | then-rests_on_hard-via-else-rests_on_hard+then-waits_for_quiet_block w ↦ w.waits_for_quiet_block.ensures w.if-waits_for_quiet_block.true
     ])
 
@@ -24,10 +24,10 @@ returns-then-is_blocked-clause-graded c may = elim c.then-is_blocked.branch [
 
 pub returns-then-is_held_back-clause-graded : goal.returns-then-is_held_back-clause-graded
 returns-then-is_held_back-clause-graded c may =
-    let held : LeadsNowhere (patches_of c.args.heads.now) c.args.block c.args.row.now → ⊥ = rw c.if-is_held_back.true at c.is_held_back.ensures.held in
+    let held : LeadsNowhere (patches_of c.args.sight.now.heads.now) c.args.block c.args.row.now → ⊥ = rw c.if-is_held_back.true at c.is_held_back.ensures.held in
     held (record { straight = may.straight; open_ended = may.open_ended })
 
 pub returns-clause-graded : goal.returns-clause-graded
 returns-clause-graded c =
-    let nowhere : LeadsNowhere (patches_of c.args.heads.now) c.args.block c.args.row.now = rw c.if-is_held_back.false at c.is_held_back.ensures.held in
+    let nowhere : LeadsNowhere (patches_of c.args.sight.now.heads.now) c.args.block c.args.row.now = rw c.if-is_held_back.false at c.is_held_back.ensures.held in
     record { free = λ u. false≢true (sym c.if-is_blocked.false ∙ c.is_blocked.ensures.blocked.1 u); straight = nowhere.straight; open_ended = nowhere.open_ended }

@@ -3,6 +3,7 @@ use Rattle.std.proofs.lemmas.Bool.{false≢true}
 use Rattle.fst_types.specs.Gates.{IsOpenNumber}
 use Rattle.fst_heads.specs.declared.pending.Pending.{Pending}
 use Rattle.fst_heads.specs.declared.pending.Pending.TheVariants as pending
+use Rattle.fst_walks.specs.Walks.{numbers_met}
 use Rattle.fst_walks.specs.Descending.{Visits}
 use Rattle.fst_heads.specs.Heads.{patches_of}
 use Rattle.fst_heads.specs.Nodes.{nodes_of, pending_in}
@@ -10,6 +11,7 @@ use Rattle.fst_heads.specs.Rows.{IsTouched}
 use Rattle.fst_heads.proofs.Listing.{rising_patches}
 use Rattle.fst_walks.proofs.Overlapped.{touched_no_gate}
 use Rattle.fst_walks.proofs.Searched.{searched}
+use Rattle.fst_walks.proofs.Visiting.{none_met}
 use Rattle.fst_walks.proofs.overlap_cycle.overlap_reaches.Goals as goal
 
 pub returns-then-not-has_dependants-clause-reaches : goal.returns-then-not-has_dependants-clause-reaches
@@ -26,10 +28,9 @@ returns-clause-reaches c =
     let Touched = IsTouched patches c.args.block c.args.span.at c.args.span.len in
     let o = c.requires.is_open in
     let gate : IsOpenNumber patches c.args.gate = record { patch = o.patch; head = o.head; numbered = o.numbered; is_open = o.is_open } in
-    let start = c.visit_overlapped.new.queue.items in
-    let starts = subst (λ q. Visits (λ n. Touched n × (told n ≡ pending.Held)) q start) c.requires.idle c.visit_overlapped.ensures.visits in
-    let said = searched patches told c.requires.held c.args.gate gate Touched start c.search_down.new.queue.items starts c.search_down.ensures.led in
-    let marked = c.search_down.ensures.visited.marked in (
-      λ e. let a = said.0 (marked.only c.args.gate (c.is_marked.ensures.0 e)) in (a.0, a.1, elim a.2 [ inl same ↦ absurd (touched_no_gate patches c.args.block c.args.span.at c.args.span.len c.args.gate a.0 (rising_patches heads c.requires.rising) gate a.1 same) | inr d ↦ d ]),
-      λ a. c.is_marked.ensures.1 (marked.each c.args.gate (said.1 (a.0, a.1, inr a.2))),
+    let start = numbers_met c.args.heads.now c.visit_overlapped.new.walk in
+    let starts = subst (λ q. Visits (λ n. Touched n × (told n ≡ pending.Held)) q start) (none_met heads c.clear.new.self c.clear.ensures.met) c.visit_overlapped.ensures.visits in
+    let said = searched patches told c.requires.gates.held c.args.gate gate Touched start (numbers_met c.args.heads.now c.search_down.new.walk) starts c.search_down.ensures.led in (
+      λ e. let a = said.0 (c.is_visited.ensures.0 e) in (a.0, a.1, elim a.2 [ inl same ↦ absurd (touched_no_gate patches c.args.block c.args.span.at c.args.span.len c.args.gate a.0 (rising_patches heads c.requires.rising) gate a.1 same) | inr d ↦ d ]),
+      λ a. c.is_visited.ensures.1 (said.1 (a.0, a.1, inr a.2)),
     )

@@ -1,7 +1,8 @@
-use Rattle.std.proofs.Common.{◌≡◌, ◌∙◌, ℕ, refl, get_or, take, ap, subst, sym, arith}
+use Rattle.std.proofs.Common.{◌≡◌, ◌∙◌, ℕ, get_or, take, ap, subst, sym, arith}
 use Rattle.std.proofs.lemmas.List.{take_all, take_more}
 use Rattle.fst_heads.specs.declared.lists.Listed.{Listed}
 use Rattle.fst_heads.specs.declared.pending.Pending.TheVariants as pending
+use Rattle.fst_walks.specs.Walks.{numbers_met}
 use Rattle.fst_walks.specs.Descending.{Visits}
 use Rattle.fst_heads.specs.Heads.{patches_of}
 use Rattle.fst_heads.specs.Lists.{entry_of, entries_of}
@@ -14,7 +15,7 @@ use Rattle.fst_walks.proofs.overlap_cycle.visit_overlapped.Goals as goal
 use Rattle.fst_walks.proofs.overlap_cycle.visit_overlapped.Goals.{then-shares, else-shares}
 
 pub loop-listed-init : goal.loop-listed-init
-loop-listed-init c = record { visited = c.requires.visited; visits = sharing_none (λ n. pending_in (nodes_of c.args.heads.now) n ≡ pending.Held) c.args.span.at c.args.span.len c.args.queue.now.items; capacity = refl }
+loop-listed-init c = record { visited = c.requires.visited; visits = sharing_none (λ n. pending_in (nodes_of c.args.heads.now) n ≡ pending.Held) c.args.span.at c.args.span.len (numbers_met c.args.heads.now c.args.walk.now) }
 
 pub loop-listed-preserved : goal.loop-listed-preserved
 loop-listed-preserved c =
@@ -29,16 +30,14 @@ loop-listed-preserved c =
     let more = ap entries_of (take_more list i none c.loop-listed-test.true) ∙ map_push entry_of (take i list) (get_or list i none) in
     elim c.if-shares.branch [
       | then-shares w ↦
-          rw (w.marks-is, w.queue-is) record {
+          rw (w.walk-is) record {
             visited = w.visit_held.ensures.visited;
-            visits = rw more (sharing_more Held at len done e c.args.queue.now.items c.loop-listed.queue.items w.visit_held.new.queue.items (sym c.shares.ensures ∙ w.if-shares.true) c.loop-listed.invariant.visits w.visit_held.ensures.visits);
-            capacity = w.visit_held.ensures.capacity ∙ c.loop-listed.invariant.capacity;
+            visits = rw more (sharing_more Held at len done e (numbers_met c.args.heads.now c.args.walk.now) (numbers_met c.args.heads.now c.loop-listed.walk) (numbers_met c.args.heads.now w.visit_held.new.walk) (sym c.shares.ensures ∙ w.if-shares.true) c.loop-listed.invariant.visits w.visit_held.ensures.visits);
           }
       | else-shares w ↦
-          rw (w.marks-is, w.queue-is) record {
+          rw (w.walk-is) record {
             visited = c.loop-listed.invariant.visited;
-            visits = rw more (sharing_skip Held at len done e c.args.queue.now.items c.loop-listed.queue.items (sym c.shares.ensures ∙ w.if-shares.false) c.loop-listed.invariant.visits);
-            capacity = c.loop-listed.invariant.capacity;
+            visits = rw more (sharing_skip Held at len done e (numbers_met c.args.heads.now c.args.walk.now) (numbers_met c.args.heads.now c.loop-listed.walk) (sym c.shares.ensures ∙ w.if-shares.false) c.loop-listed.invariant.visits);
           }
     ]
 
@@ -49,7 +48,7 @@ returns-clause-visits c =
     let list = c.args.list.now in
     let at = c.args.span.at in
     let len = c.args.span.len in
-    let all = subst (λ ls. Visits (λ n. IsSharing at len (entries_of ls) n × Held n) c.args.queue.now.items c.loop-listed.queue.items) (take_all c.loop-listed.listed-index list (omega (arith, c.loop-listed-test.false))) c.loop-listed.invariant.visits in
-    visits_same (λ n. IsSharing at len (entries_of list) n × Held n) (λ n. IsTouched patches c.args.block at len n × Held n) c.args.queue.now.items c.loop-listed.queue.items
+    let all = subst (λ ls. Visits (λ n. IsSharing at len (entries_of ls) n × Held n) (numbers_met c.args.heads.now c.args.walk.now) (numbers_met c.args.heads.now c.loop-listed.walk)) (take_all c.loop-listed.listed-index list (omega (arith, c.loop-listed-test.false))) c.loop-listed.invariant.visits in
+    visits_same (λ n. IsSharing at len (entries_of list) n × Held n) (λ n. IsTouched patches c.args.block at len n × Held n) (numbers_met c.args.heads.now c.args.walk.now) (numbers_met c.args.heads.now c.loop-listed.walk)
     (λ n k. (sharing_touched patches c.args.block at len (entries_of list) c.requires.listed n k.0, k.1))
     (λ n k. (touched_sharing patches c.args.block at len (entries_of list) c.requires.listed n k.0, k.1)) all

@@ -1,5 +1,6 @@
-use Rattle.std.proofs.Common.{◌≡◌, take, vec_capacity}
+use Rattle.std.proofs.Common.{◌≡◌, take}
 use Rattle.fst_heads.specs.declared.pending.Pending.TheVariants as pending
+use Rattle.fst_walks.specs.Walks.{numbers_met}
 use Rattle.fst_walks.specs.Descending.{Visited, Visits}
 use Rattle.fst_heads.specs.Lists.{entries_of}
 use Rattle.fst_heads.specs.Nodes.{nodes_of, pending_in}
@@ -8,7 +9,6 @@ use Rattle.fst_walks.proofs.overlap_cycle.visit_overlapped.Given as goal
 
 abbrev pub invariant-loop-listed : goal.invariant-loop-listed
 invariant-loop-listed l = record {
-  visited : Visited l.heads l.marks l.queue.items;
-  visits : Visits (λ n. IsSharing l.span.at l.span.len (entries_of (take l.listed-index l.list)) n × (pending_in (nodes_of l.heads) n ≡ pending.Held)) l.initial.queue.items l.queue.items;
-  capacity : vec_capacity l.queue ≡ vec_capacity l.initial.queue;
+  visited : Visited l.heads l.walk;
+  visits : Visits (λ n. IsSharing l.span.at l.span.len (entries_of (take l.listed-index l.list)) n × (pending_in (nodes_of l.heads) n ≡ pending.Held)) (numbers_met l.heads l.initial.walk) (numbers_met l.heads l.walk);
 }

@@ -1,18 +1,16 @@
-use Rattle.std.proofs.Common.{◌≡◌, ◌∙◌, ◌&&◌, ℕ, map, Some, refl, sym, ap, subst, get_or, arith}
+use Rattle.std.proofs.Common.{◌≡◌, ◌∙◌, ◌&&◌, ℕ, Some, refl, sym, ap, get_or, arith}
 use Rattle.std.proofs.lemmas.Bool.{false≢true}
-use Rattle.std.proofs.lemmas.List.{length-map}
 use Rattle.fst_types.specs.declared.grade.Grade.{Grade}
 use Rattle.fst_types.specs.declared.place.Place.TheVariants as place
 use Rattle.fst_types.specs.Patches.{block_of_kind}
 use Rattle.fst_types.specs.Tests.{is_change_at}
-use Rattle.fst_heads.specs.declared.head.Head.{Head}
 use Rattle.fst_heads.specs.declared.head.Kind.{Kind}
 use Rattle.fst_heads.specs.declared.head.Kind.TheVariants as kinds
 use Rattle.fst_heads.specs.declared.test.Test.TheVariants as test
+use Rattle.fst_walks.specs.Walks.{numbers_met}
 use Rattle.fst_walks.specs.WayBack.{Crosses}
 use Rattle.fst_heads.specs.Grading.{IsHardNumber}
 use Rattle.fst_heads.specs.Heads.{kind_of, patch_of, patches_of}
-use Rattle.fst_heads.specs.Lists.{entries_of, AreListed}
 use Rattle.fst_heads.specs.Marks.{PassesAt}
 use Rattle.fst_heads.specs.Reaching.{IsReached}
 use Rattle.fst_heads.specs.Tests.{is_hard_kind}
@@ -29,115 +27,111 @@ no_change kinds.OpenGate none c e = cc
 no_change kinds.SealedGate none c e = cc
 
 pub bounds-crossed-block : goal.bounds-crossed-block
-bounds-crossed-block c = c.requires.inside _ c.in-Change.block (patch_at c.args.heads.now c.args.slot _ c.requires.slot.0) (ap (λ k. block_of_kind (kind_of k)) c.in-Change.is)
+bounds-crossed-block c =
+    let inside = c.requires.sees.inside _ c.in-Change.block (patch_at c.args.sight.now.heads.now c.args.slot _ c.requires.slot.0) (ap (λ k. block_of_kind (kind_of k)) c.in-Change.is) in
+    omega (arith, inside, c.requires.crossed)
 
 pub bounds-crossed-block-then-not-crossed-block : goal.bounds-crossed-block-then-not-crossed-block
-bounds-crossed-block-then-not-crossed-block c = c.requires.inside _ c.in-Change.block (patch_at c.args.heads.now c.args.slot _ c.requires.slot.0) (ap (λ k. block_of_kind (kind_of k)) c.in-Change.is)
+bounds-crossed-block-then-not-crossed-block c =
+    let inside = c.requires.sees.inside _ c.in-Change.block (patch_at c.args.sight.now.heads.now c.args.slot _ c.requires.slot.0) (ap (λ k. block_of_kind (kind_of k)) c.in-Change.is) in
+    omega (arith, inside, c.requires.crossed)
 
 pub visit_changes-requires-clause-block : goal.visit_changes-requires-clause-block
-visit_changes-requires-clause-block c =
-    let inside = c.requires.inside _ c.in-Change.block (patch_at c.args.heads.now c.args.slot _ c.requires.slot.0) (ap (λ k. block_of_kind (kind_of k)) c.in-Change.is) in
-    omega (arith, inside, c.requires.listed.long, length-map c.args.lists.now (λ l. entries_of l.items))
-
-pub visit_changes-requires-clause-listed : goal.visit_changes-requires-clause-listed
-visit_changes-requires-clause-listed c =
-    let long = sym c.requires.listed.long ∙ length-map c.args.lists.now (λ l. entries_of l.items) in
-    subst (λ n. AreListed (patches_of c.args.heads.now) n (map (λ l. entries_of l.items) c.args.lists.now)) long c.requires.listed
+visit_changes-requires-clause-block c = c.requires.sees.inside _ c.in-Change.block (patch_at c.args.sight.now.heads.now c.args.slot _ c.requires.slot.0) (ap (λ k. block_of_kind (kind_of k)) c.in-Change.is)
 
 pub returns-then-not-crossed-block-clause-visits : goal.returns-then-not-crossed-block-clause-visits
 returns-then-not-crossed-block-clause-visits c =
-    let heads = c.args.heads.now in
+    let heads = c.args.sight.now.heads.now in
     let n = c.args.number in
     let s = c.args.slot in
     let b = c.in-Change.block in
-    let d = c.index-heads-slot.result in
+    let d = c.index-sight-slot.result in
     let said : c.is_hard_in.result ≡ (is_change_at place.Memory b (patch_of (get_or heads s d)) && is_hard_kind (kind_of (get_or heads s d).kind)) =
-    c.is_hard_in.ensures ∙ ap (λ (h : Head). is_change_at place.Memory b (patch_of h) && is_hard_kind (kind_of h.kind)) c.index-heads-slot.is in
-    let hard : IsHardNumber (patches_of heads) b n = hard_here heads c.requires.rising n s d c.requires.slot b (sym said ∙ c.if-is_hard_in.true) in
+    c.is_hard_in.ensures in
+    let hard : IsHardNumber (patches_of heads) b n = hard_here heads c.requires.sees.rising n s d c.requires.slot b (sym said ∙ c.if-is_hard_in.true) in
     let crossed = c.args.crossed.now in
     let fresh : IsReached crossed b → ⊥ = λ r. false≢true (sym c.if-not-crossed-block.true ∙ r) in
-    visits_same (PassesAt (test.LiveOn b) (patches_of heads)) (Crosses (patches_of heads) crossed n) c.args.queue.now.items c.visit_changes.new.queue.items
-    (λ q x. crosses_from heads c.requires.rising n s d c.requires.slot b hard crossed q fresh x)
-    (λ q k. (crosses_to heads c.requires.rising n s d c.requires.slot b hard crossed q k).1)
+    visits_same (PassesAt (test.LiveOn b) (patches_of heads)) (Crosses (patches_of heads) crossed n) (numbers_met c.args.sight.now.heads.now c.args.walk.now) (numbers_met c.args.sight.now.heads.now c.visit_changes.new.walk)
+    (λ q x. crosses_from heads c.requires.sees.rising n s d c.requires.slot b hard crossed q fresh x)
+    (λ q k. (crosses_to heads c.requires.sees.rising n s d c.requires.slot b hard crossed q k).1)
     c.visit_changes.ensures.visits
 
 pub returns-then-not-crossed-block-clause-crossed : goal.returns-then-not-crossed-block-clause-crossed
 returns-then-not-crossed-block-clause-crossed c =
-    let heads = c.args.heads.now in
+    let heads = c.args.sight.now.heads.now in
     let n = c.args.number in
     let s = c.args.slot in
     let b = c.in-Change.block in
-    let d = c.index-heads-slot.result in
+    let d = c.index-sight-slot.result in
     let said : c.is_hard_in.result ≡ (is_change_at place.Memory b (patch_of (get_or heads s d)) && is_hard_kind (kind_of (get_or heads s d).kind)) =
-    c.is_hard_in.ensures ∙ ap (λ (h : Head). is_change_at place.Memory b (patch_of h) && is_hard_kind (kind_of h.kind)) c.index-heads-slot.is in
-    let hard : IsHardNumber (patches_of heads) b n = hard_here heads c.requires.rising n s d c.requires.slot b (sym said ∙ c.if-is_hard_in.true) in
+    c.is_hard_in.ensures in
+    let hard : IsHardNumber (patches_of heads) b n = hard_here heads c.requires.sees.rising n s d c.requires.slot b (sym said ∙ c.if-is_hard_in.true) in
     let crossed = c.args.crossed.now in
-    let inside = c.requires.inside _ b (patch_at heads s _ c.requires.slot.0) (ap (λ k. block_of_kind (kind_of k)) c.in-Change.is) in
-    shows_more heads c.requires.rising n s d c.requires.slot b hard crossed inside
+    let inside = c.requires.sees.inside _ b (patch_at heads s _ c.requires.slot.0) (ap (λ k. block_of_kind (kind_of k)) c.in-Change.is) in
+    shows_more heads c.requires.sees.rising n s d c.requires.slot b hard crossed (omega (arith, inside, c.requires.crossed))
 
 pub returns-else-not-crossed-block-clause-visits : goal.returns-else-not-crossed-block-clause-visits
 returns-else-not-crossed-block-clause-visits c =
-    let heads = c.args.heads.now in
+    let heads = c.args.sight.now.heads.now in
     let n = c.args.number in
     let s = c.args.slot in
     let b = c.in-Change.block in
-    let d = c.index-heads-slot.result in
+    let d = c.index-sight-slot.result in
     let said : c.is_hard_in.result ≡ (is_change_at place.Memory b (patch_of (get_or heads s d)) && is_hard_kind (kind_of (get_or heads s d).kind)) =
-    c.is_hard_in.ensures ∙ ap (λ (h : Head). is_change_at place.Memory b (patch_of h) && is_hard_kind (kind_of h.kind)) c.index-heads-slot.is in
-    let hard : IsHardNumber (patches_of heads) b n = hard_here heads c.requires.rising n s d c.requires.slot b (sym said ∙ c.if-is_hard_in.true) in
+    c.is_hard_in.ensures in
+    let hard : IsHardNumber (patches_of heads) b n = hard_here heads c.requires.sees.rising n s d c.requires.slot b (sym said ∙ c.if-is_hard_in.true) in
     let crossed = c.args.crossed.now in
-    visits_none (Crosses (patches_of heads) crossed n) c.args.queue.now.items (λ q k. absurd ((crosses_to heads c.requires.rising n s d c.requires.slot b hard crossed q k).0 c.if-not-crossed-block.false))
+    visits_none (Crosses (patches_of heads) crossed n) (numbers_met c.args.sight.now.heads.now c.args.walk.now) (λ q k. absurd ((crosses_to heads c.requires.sees.rising n s d c.requires.slot b hard crossed q k).0 c.if-not-crossed-block.false))
 
 pub returns-else-not-crossed-block-clause-crossed : goal.returns-else-not-crossed-block-clause-crossed
 returns-else-not-crossed-block-clause-crossed c =
-    let heads = c.args.heads.now in
+    let heads = c.args.sight.now.heads.now in
     let n = c.args.number in
     let s = c.args.slot in
     let b = c.in-Change.block in
-    let d = c.index-heads-slot.result in
+    let d = c.index-sight-slot.result in
     let said : c.is_hard_in.result ≡ (is_change_at place.Memory b (patch_of (get_or heads s d)) && is_hard_kind (kind_of (get_or heads s d).kind)) =
-    c.is_hard_in.ensures ∙ ap (λ (h : Head). is_change_at place.Memory b (patch_of h) && is_hard_kind (kind_of h.kind)) c.index-heads-slot.is in
-    let hard : IsHardNumber (patches_of heads) b n = hard_here heads c.requires.rising n s d c.requires.slot b (sym said ∙ c.if-is_hard_in.true) in
+    c.is_hard_in.ensures in
+    let hard : IsHardNumber (patches_of heads) b n = hard_here heads c.requires.sees.rising n s d c.requires.slot b (sym said ∙ c.if-is_hard_in.true) in
     let crossed = c.args.crossed.now in
-    shows_same heads c.requires.rising n s d c.requires.slot b hard crossed c.if-not-crossed-block.false
+    shows_same heads c.requires.sees.rising n s d c.requires.slot b hard crossed c.if-not-crossed-block.false
 
 pub returns-else-is_hard_in-clause-visits : goal.returns-else-is_hard_in-clause-visits
 returns-else-is_hard_in-clause-visits c =
-    let heads = c.args.heads.now in
+    let heads = c.args.sight.now.heads.now in
     let n = c.args.number in
     let s = c.args.slot in
     let b = c.in-Change.block in
-    let d = c.index-heads-slot.result in
+    let d = c.index-sight-slot.result in
     let said : c.is_hard_in.result ≡ (is_change_at place.Memory b (patch_of (get_or heads s d)) && is_hard_kind (kind_of (get_or heads s d).kind)) =
-    c.is_hard_in.ensures ∙ ap (λ (h : Head). is_change_at place.Memory b (patch_of h) && is_hard_kind (kind_of h.kind)) c.index-heads-slot.is in
+    c.is_hard_in.ensures in
     let on = ap (λ k. block_of_kind (kind_of k)) c.in-Change.is in
     let none : (k : ℕ) → IsHardNumber (patches_of heads) k n → ⊥ = λ k h.
-    false≢true (sym c.if-is_hard_in.false ∙ (said ∙ here_hard heads c.requires.rising n s d c.requires.slot b (hard_same heads c.requires.rising n s _ c.requires.slot b on k h))) in
-    crosses_none (patches_of heads) n none c.args.crossed.now c.args.queue.now.items
+    false≢true (sym c.if-is_hard_in.false ∙ (said ∙ here_hard heads c.requires.sees.rising n s d c.requires.slot b (hard_same heads c.requires.sees.rising n s _ c.requires.slot b on k h))) in
+    crosses_none (patches_of heads) n none c.args.crossed.now (numbers_met c.args.sight.now.heads.now c.args.walk.now)
 
 pub returns-else-is_hard_in-clause-crossed : goal.returns-else-is_hard_in-clause-crossed
 returns-else-is_hard_in-clause-crossed c =
-    let heads = c.args.heads.now in
+    let heads = c.args.sight.now.heads.now in
     let n = c.args.number in
     let s = c.args.slot in
     let b = c.in-Change.block in
-    let d = c.index-heads-slot.result in
+    let d = c.index-sight-slot.result in
     let said : c.is_hard_in.result ≡ (is_change_at place.Memory b (patch_of (get_or heads s d)) && is_hard_kind (kind_of (get_or heads s d).kind)) =
-    c.is_hard_in.ensures ∙ ap (λ (h : Head). is_change_at place.Memory b (patch_of h) && is_hard_kind (kind_of h.kind)) c.index-heads-slot.is in
+    c.is_hard_in.ensures in
     let on = ap (λ k. block_of_kind (kind_of k)) c.in-Change.is in
     let none : (k : ℕ) → IsHardNumber (patches_of heads) k n → ⊥ = λ k h.
-    false≢true (sym c.if-is_hard_in.false ∙ (said ∙ here_hard heads c.requires.rising n s d c.requires.slot b (hard_same heads c.requires.rising n s _ c.requires.slot b on k h))) in
+    false≢true (sym c.if-is_hard_in.false ∙ (said ∙ here_hard heads c.requires.sees.rising n s d c.requires.slot b (hard_same heads c.requires.sees.rising n s _ c.requires.slot b on k h))) in
     shows_none (patches_of heads) n none c.args.crossed.now
 
 pub returns-in_default : goal.returns-in_default
 returns-in_default c =
-    let heads = c.args.heads.now in
+    let heads = c.args.sight.now.heads.now in
     let n = c.args.number in
     let no_block = no_change _ c.in_default.not-Change in
-    let none : (k : ℕ) → IsHardNumber (patches_of heads) k n → ⊥ = λ k h. no_block k (hard_on_here heads c.requires.rising n c.args.slot _ c.requires.slot k h).change in
+    let none : (k : ℕ) → IsHardNumber (patches_of heads) k n → ⊥ = λ k h. no_block k (hard_on_here heads c.requires.sees.rising n c.args.slot _ c.requires.slot k h).change in
     record {
       visited = c.requires.visited;
-      visits = crosses_none (patches_of heads) n none c.args.crossed.now c.args.queue.now.items;
+      visits = crosses_none (patches_of heads) n none c.args.crossed.now (numbers_met c.args.sight.now.heads.now c.args.walk.now);
       crossed = shows_none (patches_of heads) n none c.args.crossed.now;
-      capacity = refl;
     }

@@ -1,4 +1,5 @@
-use Rattle.std.proofs.Common.{◌≡◌, ◌-◌, length, vec_capacity}
+use Rattle.std.proofs.Common.{◌-◌, length}
+use Rattle.fst_walks.specs.Walks.{numbers_met}
 use Rattle.fst_walks.specs.Descending.{Visited}
 use Rattle.fst_heads.specs.Heads.{patches_of}
 use Rattle.fst_walks.proofs.WalkingBack.{Walking}
@@ -6,10 +7,9 @@ use Rattle.fst_walks.proofs.way_back.walk_back.Given as goal
 
 abbrev pub invariant-loop-at : goal.invariant-loop-at
 invariant-loop-at l = record {
-  visited : Visited l.heads l.marks l.queue.items;
-  walking : Walking (patches_of l.heads) l.initial.crossed l.initial.queue.items l.at l.crossed l.queue.items;
-  capacity : vec_capacity l.queue ≡ vec_capacity l.initial.queue;
+  visited : Visited l.sight.heads.now l.walk;
+  walking : Walking (patches_of l.sight.heads.now) l.initial.crossed (numbers_met l.sight.heads.now l.initial.walk) l.at l.crossed (numbers_met l.sight.heads.now l.walk);
 }
 
 abbrev pub decreases-loop-at : goal.decreases-loop-at
-decreases-loop-at l = length l.heads - l.at
+decreases-loop-at l = length l.sight.heads.now - l.at

@@ -1,57 +1,63 @@
-use Rattle.std.proofs.Common.{◌≡◌, ◌<◌, ◌∙◌, length, get_or, Contains, sym, subst, arith}
+use Rattle.std.proofs.Common.{◌≡◌, ◌<◌, length, get_or, Contains, sym, subst, arith}
 use Rattle.std.proofs.lemmas.List.Elements.{Contains-get_or}
 use Rattle.fst_types.specs.Dependencies.{DirectlyOn, IsLiveNumber}
+use Rattle.fst_heads.specs.declared.head.Head.{Head}
 use Rattle.fst_walks.specs.Descending.{Visits}
+use Rattle.fst_walks.specs.Walks.{numbers_met}
 use Rattle.fst_walks.specs.WayDown.{Crosses, ShowsBlockOf}
 use Rattle.fst_heads.specs.Heads.{patches_of}
-use Rattle.fst_heads.specs.Marks.{HasNone, HasSlot}
 use Rattle.fst_walks.proofs.Descended.{walking_more, walking_all}
-use Rattle.fst_heads.proofs.Slots.{any_default, direct_at, named_at, not_live_none}
-use Rattle.fst_walks.proofs.Visiting.{visited_fits, visits_same}
+use Rattle.fst_heads.proofs.Slots.{direct_at, named_at, slot_here}
+use Rattle.fst_walks.proofs.Visiting.{long_met, slot_met, visits_same}
 use Rattle.fst_walks.proofs.way_down.walk_down.Goals as goal
-use Rattle.fst_walks.proofs.way_down.walk_down.Goals.{in-Some, in_default}
 
 pub cross-requires-clause-live : goal.cross-requires-clause-live
 cross-requires-clause-live c =
-    let queue = c.loop-at.queue.items in
-    let lt : c.loop-at.at < length queue = omega (arith, c.loop-at-test.true, c.len.ensures, c.loop-at.queue.ok.0) in
-    subst (IsLiveNumber (patches_of c.args.heads.now)) (sym (c.index-number.ensures ∙ any_default queue c.loop-at.at _ 0 lt)) (c.loop-at.invariant.visited.live (get_or queue c.loop-at.at 0) (Contains-get_or queue c.loop-at.at 0 lt))
+    let heads = c.args.sight.now.heads.now in
+    let walk = c.loop-at.walk in
+    let met = numbers_met heads walk in
+    let at = c.loop-at.at in
+    let v = c.loop-at.invariant.visited in
+    let lt : at < length walk.met = omega (arith, c.loop-at-test.true, c.len.ensures.long) in
+    let slot = slot_met heads walk at c.slot-slot.result v.long lt c.slot-slot.ensures.slot c.slot-slot.ensures.inside in
+    subst (IsLiveNumber (patches_of heads)) (sym (slot.1 c.index-sight-slot.result)) (v.live (get_or met at 0) (Contains-get_or met at 0 (omega (arith, lt, long_met heads walk))))
+
+pub cross-requires-clause-slot : goal.cross-requires-clause-slot
+cross-requires-clause-slot c = slot_here c.args.sight.now.heads.now c.slot-slot.result c.index-sight-slot.result (omega (arith, c.slot-slot.ensures.inside, c.loop-at.invariant.visited.long))
 
 pub loop-at-smaller : goal.loop-at-smaller
-loop-at-smaller c =
-    let fits = visited_fits c.args.heads.now c.loop-at.marks c.loop-at.queue.items c.loop-at.invariant.visited in
-    omega (arith, fits, c.loop-at-test.true, c.len.ensures, c.loop-at.queue.ok.0)
+loop-at-smaller c = omega (arith, c.len.ensures.few, c.loop-at-test.true, c.loop-at.invariant.visited.long)
 
 pub loop-at-preserved : goal.loop-at-preserved
 loop-at-preserved c =
-    let heads = c.args.heads.now in
+    let heads = c.args.sight.now.heads.now in
     let patches = patches_of heads in
-    let queue = c.loop-at.queue.items in
+    let walk = c.loop-at.walk in
+    let met = numbers_met heads walk in
     let at = c.loop-at.at in
     let now = c.loop-at.crossed in
-    let lt : at < length queue = omega (arith, c.loop-at-test.true, c.len.ensures, c.loop-at.queue.ok.0) in
-    let n = get_or queue at 0 in
-    let same : c.index-number.result.now ≡ n = c.index-number.ensures ∙ any_default queue at _ 0 lt in
-    elim c.match-slot_of.branch [
-      | in-Some w ↦
-          let slot = subst (λ m. HasSlot heads m w.in-Some.slot) same w.in-Some.ensures.found in
-          let mid = w.visit_row.new.queue.items in
-          let new = w.cross.new.queue.items in
-          let direct : Visits (λ q. DirectlyOn patches n q × IsLiveNumber patches q) queue mid =
-          visits_same _ (λ q. DirectlyOn patches n q × IsLiveNumber patches q) queue mid
-          (λ q k. (direct_at heads n q w.in-Some.slot _ slot (subst (λ row. Contains row q) w.as_slice.ensures k.0), k.1))
-          (λ q k. (subst (λ row. Contains row q) (sym w.as_slice.ensures) (named_at heads n q w.in-Some.slot _ c.requires.rising slot k.0), k.1))
-          w.visit_row.ensures.visits in
-          let across = subst (λ m. Visits (Crosses patches now m) mid new) same w.cross.ensures.visits in
-          let shown = subst (λ m. ShowsBlockOf patches m now w.cross.new.crossed) same w.cross.ensures.crossed in
-          rw (w.marks-is, w.crossed-is, w.queue-is) record {
-            visited = w.cross.ensures.visited;
-            walking = walking_more patches c.args.crossed.now c.args.queue.now.items at now w.cross.new.crossed queue mid new lt c.loop-at.invariant.walking direct across shown;
-            capacity = w.cross.ensures.capacity ∙ (w.visit_row.ensures.capacity ∙ c.loop-at.invariant.capacity);
-          }
-      | in_default w ↦ absurd (not_live_none heads n (subst (HasNone heads) same w.in_default.ensures.none) (c.loop-at.invariant.visited.live n (Contains-get_or queue at 0 lt)))
-    ]
+    let lt : at < length walk.met = omega (arith, c.loop-at-test.true, c.len.ensures.long) in
+    let n = get_or met at 0 in
+    let s = c.slot-slot.result in
+    let d : Head = c.index-sight-slot.result in
+    let slot = slot_met heads walk at s c.loop-at.invariant.visited.long lt c.slot-slot.ensures.slot c.slot-slot.ensures.inside in
+    let same : (get_or heads s d).number ≡ n = slot.1 d in
+    let mid = numbers_met heads c.visit_row.new.walk in
+    let new = numbers_met heads c.cross.new.walk in
+    let direct : Visits (λ q. DirectlyOn patches n q × IsLiveNumber patches q) met mid =
+    visits_same _ (λ q. DirectlyOn patches n q × IsLiveNumber patches q) met mid
+    (λ q k. (direct_at heads n q s d slot (subst (λ row. Contains row q) c.as_slice.ensures k.0), k.1))
+    (λ q k. (subst (λ row. Contains row q) (sym c.as_slice.ensures) (named_at heads n q s d c.requires.sees.rising slot k.0), k.1))
+    c.visit_row.ensures.visits in
+    let across = subst (λ m. Visits (Crosses patches now m) mid new) same c.cross.ensures.visits in
+    let shown = subst (λ m. ShowsBlockOf patches m now c.cross.new.crossed) same c.cross.ensures.crossed in
+    record {
+      visited = c.cross.ensures.visited;
+      walking = walking_more patches c.args.crossed.now (numbers_met heads c.args.walk.now) at now c.cross.new.crossed met mid new (omega (arith, lt, long_met heads walk)) c.loop-at.invariant.walking direct across shown;
+    }
 
 pub returns-clause-meets : goal.returns-clause-meets
 returns-clause-meets c all =
-    walking_all (patches_of c.args.heads.now) c.args.crossed.now c.args.queue.now.items c.loop-at.at c.loop-at.crossed c.loop-at.queue.items (omega (arith, c.loop-at-test.false, c.len.ensures, c.loop-at.queue.ok.0)) c.loop-at.invariant.walking
+    let heads = c.args.sight.now.heads.now in
+    walking_all (patches_of heads) c.args.crossed.now (numbers_met heads c.args.walk.now) c.loop-at.at c.loop-at.crossed (numbers_met heads c.loop-at.walk)
+    (omega (arith, c.loop-at-test.false, c.len.ensures.long, long_met heads c.loop-at.walk)) c.loop-at.invariant.walking

@@ -47,7 +47,7 @@ invariant_of-self-2 c =
     let live : (m : _) → Contains row m → IsLiveNumber (patches_in nodes) m = λ m h. subst (λ ps. IsLiveNumber ps m) (sym (patches_in_nodes heads)) (depends.only m h).0 in
     let K = c.self.invariant.0 in
     let H = lawful_nodes heads n K.lawful in
-    let kept = keeps_empty _ n c.self.inside.blocks c.self.inside.marks.items K (numbers_of c.args.after.now) row depends few in
+    let kept = keeps_empty _ n c.self.inside.blocks c.self.inside.walks.walk.marks K (numbers_of c.args.after.now) row depends few in
     let made = tallies_made nodes n c.self.inside.blocks _ _ _ _ _ _ c.reserve_one.new.queue.cap p H (lawful_with heads p (n + 1) kept.lawful) T refl depends.rising live
     (λ b on. absurd (cc))
     (listed_made nodes c.self.inside.blocks _ p T.listed (listed_empty p refl))
@@ -60,11 +60,11 @@ invariant_of-self-2 c =
     ∙ (ap (λ ns. sums_of (pending_in ns) c.as_slice-3.result.now) still ∙ ap (sums_of told) c.as_slice-3.ensures)) in
     let own : c.weight.result ≡ one_live p = c.weight.ensures ∙ (ap weight_of place ∙ weighs p) in
     let below : c.joined.result ≡ joined told row = c.joined.ensures ∙ (ap joined_sums sums ∙ joined_exact told row) in (
-      rw (c.push_reserved.ensures.items, map_push, patches, c.push_reserved-2.ensures.items, c.reserve_one.ensures.marks, place) kept,
+      rw (c.push_reserved.ensures.items, map_push, patches, c.grow.ensures.marks, c.reserve_one.ensures.marks, place) kept,
       tt,
       tt,
       rw (c.push_reserved.ensures.items, map_push, patches, place)
-          (beside_made (patches_of heads) c.self.inside.blocks c.self.inside.live _ c.self.inside.reached.items p own c.self.invariant.3),
+          (beside_made (patches_of heads) c.self.inside.blocks c.self.inside.live _ c.self.inside.walks.crossed.items p own c.self.invariant.3),
       rw (c.push_reserved.ensures.items, map_push, c.link.ensures.nodes, still, c.as_slice-4.ensures, below, sums, place, c.new.ensures.items, c.reserve_one.ensures.queue) made,
       tt,
       tt,
@@ -85,7 +85,7 @@ returns-clause-ok c =
         next = refl;
         dependencies = c.in-Ok.dependencies.items;
         depends = depends;
-        cascade = rw (c.push_reserved.ensures.items, map_push, patches, place) (empty_cascade _ c.self.inside.numbers c.self.inside.blocks c.self.inside.marks.items c.self.invariant.0 (numbers_of c.args.after.now) c.in-Ok.dependencies.items depends);
+        cascade = rw (c.push_reserved.ensures.items, map_push, patches, place) (empty_cascade _ c.self.inside.numbers c.self.inside.blocks c.self.inside.walks.walk.marks c.self.invariant.0 (numbers_of c.args.after.now) c.in-Ok.dependencies.items depends);
       };
       numbers = refl;
       blocks = refl;

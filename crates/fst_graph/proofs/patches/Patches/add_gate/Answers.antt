@@ -41,12 +41,12 @@ invariant_of-self-2 c =
     (listed_made nodes blocks _ p T.listed (λ b. refl))
     standing
     room in (
-      rw (c.push_reserved.ensures.items, c.reserve_one.ensures.heads, map_push, c.push_reserved-2.ensures.items, c.reserve_one.ensures.marks, c.new.ensures.items)
-          (keeps_gate _ n blocks c.self.inside.marks.items c.self.invariant.0 few),
+      rw (c.push_reserved.ensures.items, c.reserve_one.ensures.heads, map_push, c.grow.ensures.marks, c.reserve_one.ensures.marks, c.new.ensures.items)
+          (keeps_gate _ n blocks c.self.inside.walks.walk.marks c.self.invariant.0 few),
       tt,
       tt,
       rw (c.push_reserved.ensures.items, c.reserve_one.ensures.heads, map_push, c.new.ensures.items)
-          (beside_made (patches_of heads) blocks c.self.inside.live 1 c.self.inside.reached.items p refl c.self.invariant.3),
+          (beside_made (patches_of heads) blocks c.self.inside.live 1 c.self.inside.walks.crossed.items p refl c.self.invariant.3),
       rw (c.push_reserved.ensures.items, c.reserve_one.ensures.heads, map_push, c.no_sums.ensures, c.new.ensures.items, c.new-2.ensures.items, c.reserve_one.ensures.queue)
           (subst (λ ns. Tallies (ns ++ new_node nodes p ∷ []) (n + 1) blocks (map (λ l. entries_of l.items) c.self.inside.lists.items) c.self.inside.standings.items c.self.inside.queue.items c.reserve_one.new.queue.cap) (with_gate nodes (n + 1)) made),
       tt,

@@ -57,14 +57,14 @@ invariant_of-self-2 c =
     let clear = c.in_default.ensures.clear in
     let free : c.reserve_two.new.heads.len + 2 ≤ c.reserve_two.new.queue.cap = search rules in
     let room : length (nodes_of heads) + 2 ≤ c.reserve_two.new.queue.cap = let same = ap length c.reserve_two.ensures.heads in omega (arith, free, same, c.reserve_two.new.heads.ok.0, length-map heads node_of) in (
-      rw (patches_paired heads c.push_reserved-2.new.self.items n (second c), c.push_reserved-4.ensures.items, c.push_reserved-3.ensures.items, c.reserve_two.ensures.marks)
-          (keeps_pair (patches_of heads) n K.lawful blocks c.self.inside.marks.items K clear.0),
+      rw (patches_paired heads c.push_reserved-2.new.self.items n (second c), c.grow-2.ensures.marks, c.grow.ensures.marks, c.reserve_two.ensures.marks)
+          (keeps_pair (patches_of heads) n K.lawful blocks c.self.inside.walks.walk.marks K clear.0),
       tt,
       tt,
       rw (patches_paired heads c.push_reserved-2.new.self.items n (second c))
-          (subst (λ k. Beside (paired (patches_of heads) n) blocks k c.self.inside.reached.items) (omega arith)
-          (beside_made (with_head (patches_of heads) n) blocks (c.self.inside.live + 1) 1 c.self.inside.reached.items (fresh (n + 1 + 1) OpenGate ((n + 1) ∷ [])) refl
-          (beside_made (patches_of heads) blocks c.self.inside.live 1 c.self.inside.reached.items (fresh (n + 1) OpenGate []) refl c.self.invariant.3))),
+          (subst (λ k. Beside (paired (patches_of heads) n) blocks k c.self.inside.walks.crossed.items) (omega arith)
+          (beside_made (with_head (patches_of heads) n) blocks (c.self.inside.live + 1) 1 c.self.inside.walks.crossed.items (fresh (n + 1 + 1) OpenGate ((n + 1) ∷ [])) refl
+          (beside_made (patches_of heads) blocks c.self.inside.live 1 c.self.inside.walks.crossed.items (fresh (n + 1) OpenGate []) refl c.self.invariant.3))),
       rw (second c, c.reserve_two.ensures.queue) (tallies_pair heads n blocks _ _ _ _ c.reserve_two.new.queue.cap K.lawful c.self.invariant.4 room),
       tt,
       tt,

@@ -67,14 +67,14 @@ invariant_of-self c =
     let ready = ready_alone n c.self.inside.prepared p c.requires.0 old n blocks kept (ap (λ k. k.prepared) c.self.view_is ∙ c.requires.1) c.requires.2 c.self.invariant.1 in
     let few : length old < max_heads = let full = ready.clear.1.1.0 in omega (arith, full) in
     let patches = linked_patches c.link.new.heads.items heads _ _ c.link.ensures.nodes in
-    let places = subst (λ o. IfSome o (λ _. HasPlaces c.self.inside.heads.len c.self.inside.heads.cap c.self.inside.marks.len c.self.inside.marks.cap c.self.inside.queue.cap)) kept c.self.invariant.2 in
+    let places = subst (λ o. IfSome o (λ _. HasPlaces c.self.inside.heads.len c.self.inside.heads.cap (length c.self.inside.walks.walk.marks) c.self.inside.walks.walk.room c.self.inside.queue.cap)) kept c.self.invariant.2 in
     let room : length nodes < c.self.inside.queue.cap = let free = places.queue_free in omega (arith, free, c.self.inside.heads.ok.0, length-map heads node_of) in
     let K = c.self.invariant.0 in
     let T = c.self.invariant.4 in
     let made = fresh (n + 1) (Change p.block p.span.at p.span.len p.grade) row in
     let live : (m : _) → Contains row m → IsLiveNumber (patches_in nodes) m = λ m h. subst (λ ps. IsLiveNumber ps m) (sym (patches_in_nodes heads)) (live_dependency old (numbers_of p.names.items) p.block p.span.at p.span.len m (ready.depends.only m h)) in
     let long : length c.self.inside.lists.items ≡ blocks = sym (length-map c.self.inside.lists.items _) ∙ T.listed.long in
-    let keeps = keeps_change old n blocks c.self.inside.marks.items K p.block p.span.at p.span.len (numbers_of p.names.items) p.grade row ready.depends ready.inside few (hard_may p.grade _ ready.graded) in
+    let keeps = keeps_change old n blocks c.self.inside.walks.walk.marks K p.block p.span.at p.span.len (numbers_of p.names.items) p.grade row ready.depends ready.inside few (hard_may p.grade _ ready.graded) in
     let lawful = subst (λ ps. HeadsAreLawful (ps ++ made ∷ []) (n + 1)) (sym (patches_in_nodes heads)) keeps.lawful in
     let own = c.index_mut-2.result.now in
     let tallies = tallies_made nodes n blocks _ _ _ _ _ _ c.self.inside.queue.cap made (lawful_nodes heads n K.lawful) lawful T refl ready.depends.rising live
@@ -92,10 +92,10 @@ invariant_of-self c =
     ∙ (ap (λ t. entered (is_hard_kind made.kind) t own) (c.is_pending.ensures ∙ ap (λ q. is_pending q (pending.Block p.block)) over)
     ∙ ap (entered (is_hard_kind made.kind) (is_pending (new_node nodes made).pending (pending.Block p.block))) c.index_mut-2.ensures.value) in
     rw c.take.ensures.after (
-      rw (c.push_reserved.ensures.items, map_push, patches, c.push_reserved-3.ensures.items) keeps,
+      rw (c.push_reserved.ensures.items, map_push, patches, c.grow.ensures.marks) keeps,
       tt,
       tt,
-      rw (c.push_reserved.ensures.items, map_push, patches) (beside_made old blocks c.self.inside.live 1 c.self.inside.reached.items made refl c.self.invariant.3),
+      rw (c.push_reserved.ensures.items, map_push, patches) (beside_made old blocks c.self.inside.live 1 c.self.inside.walks.crossed.items made refl c.self.invariant.3),
       rw (
         c.push_reserved.ensures.items,
         map_push,

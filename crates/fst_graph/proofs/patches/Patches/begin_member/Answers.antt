@@ -3,7 +3,7 @@ use Rattle.std.proofs.lemmas.List.{length-map}
 use Rattle.fst_types.specs.Cascade.{IsCascadeOf, unsettled}
 use Rattle.fst_types.specs.Gates.{IsOpenNumber}
 use Rattle.fst_types.specs.Gating.{sealed}
-use Rattle.fst_types.specs.Refusals.{IsFirst, NoneHolds}
+use Rattle.fst_types.specs.Refusals.{IsFirst}
 use Rattle.fst_types.specs.Order.{seal_order}
 use Rattle.fst_heads.specs.Frames.{frame_of, frames_of}
 use Rattle.fst_heads.specs.Spreading.{IsSpreadOf, seals}
@@ -71,7 +71,7 @@ overflow_sub-self c =
     let T = c.self.invariant.4 in
     let long : c.self.inside.standings.len ≡ c.self.inside.blocks = omega (arith, T.standing.long, c.self.inside.standings.ok.0) in
     let settled = subst (AreSettled (nodes_of new)) long c.cascade-landed.ensures.settled in
-    landed_few c.self.inside.heads.items c.seal_slot.new.heads.items new (at_number c.args.head seals) c.self.inside.blocks c.self.inside.live c.cascade-landed.result c.self.inside.reached.items c.seal_slot.ensures.nodes (sealed_told c.args.head) T.settled settled
+    landed_few c.self.inside.heads.items c.seal_slot.new.heads.items new (at_number c.args.head seals) c.self.inside.blocks c.self.inside.live c.cascade-landed.result c.self.inside.walks.crossed.items c.seal_slot.ensures.nodes (sealed_told c.args.head) T.settled settled
     c.cascade-landed.ensures.landed c.self.invariant.3
 
 pub invariant_of-self : goal.invariant_of-self
@@ -93,15 +93,15 @@ invariant_of-self c =
     ap (map unsettled) (seen c.seal_slot.new.heads.items _ c.seal_slot.ensures.nodes) ∙ (unsettled_sealed nodes g ∙ ap (λ ps. map unsettled (map (sealed g) ps)) (patches_in_nodes heads)) in
     let cascade : IsCascadeOf (map (sealed g) old) (patches_of new) = record { same = placed.same ∙ was; places = placed.places; settled = placed.settled } in
     let spread : IsSpreadOf (map (at_number g seals) nodes) (nodes_of new) = subst (λ ns. IsSpreadOf ns (nodes_of new)) c.seal_slot.ensures.nodes c.cascade-landed.ensures.spread in
-    let kept = keeps_sealed old (patches_of new) n blocks g c.self.inside.marks.items c.self.inside.marks.items K open_gate cascade refl in
+    let kept = keeps_sealed old (patches_of new) n blocks g c.self.inside.walks.walk.marks c.self.inside.walks.walk.marks K open_gate cascade refl in
     let settled = subst (AreSettled (nodes_of new)) long c.cascade-landed.ensures.settled in
     let standing = subst (λ k. AllStand (nodes_of new) k c.cascade-landed.new.standings.items) long c.cascade-landed.ensures.standing in
     let frames : frames_of new ≡ frames_of heads = c.cascade-landed.ensures.frames ∙ c.seal_slot.ensures.frames in
     let heads_long : c.cascade-landed.new.heads.len ≡ c.self.inside.heads.len = omega (arith, ap length frames, length-map new frame_of, length-map heads frame_of, c.cascade-landed.new.heads.ok.0, c.self.inside.heads.ok.0) in (
       kept,
-      put_begun old n blocks c.self.inside.marks.items K g (patches_of new) open_gate cascade c.self.inside.prepared c.requires.0 (ap (λ k. k.prepared) c.self.view_is ∙ c.requires.1) c.requires.2 c.self.invariant.1,
+      put_begun old n blocks c.self.inside.walks.walk.marks K g (patches_of new) open_gate cascade c.self.inside.prepared c.requires.0 (ap (λ k. k.prepared) c.self.view_is ∙ c.requires.1) c.requires.2 c.self.invariant.1,
       places_kept _ _ _ _ _ _ _ _ c.self.inside.prepared heads_long (c.cascade-landed.ensures.places ∙ c.seal_slot.ensures.places) (c.cascade-landed.ensures.capacity ∙ c.seal_slot.ensures.capacity) c.self.invariant.2,
-      beside_landed heads c.seal_slot.new.heads.items new (at_number g seals) blocks c.self.inside.live c.cascade-landed.result c.self.inside.reached.items c.seal_slot.ensures.nodes (sealed_told g) T.settled settled c.cascade-landed.ensures.landed c.self.invariant.3,
+      beside_landed heads c.seal_slot.new.heads.items new (at_number g seals) blocks c.self.inside.live c.cascade-landed.result c.self.inside.walks.crossed.items c.seal_slot.ensures.nodes (sealed_told g) T.settled settled c.cascade-landed.ensures.landed c.self.invariant.3,
       rw (c.cascade-landed.ensures.empty, c.cascade-landed.ensures.capacity, c.seal_slot.ensures.capacity)
           (tallies_sealed nodes (nodes_of new) n blocks _ _ _ _ _ g (lawful_nodes heads n K.lawful) (lawful_nodes new n kept.lawful) T gate spread settled standing),
       around_kept new heads frames c.self.inside.prepared c.self.invariant.5,

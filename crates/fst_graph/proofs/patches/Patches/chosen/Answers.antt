@@ -1,4 +1,4 @@
-use Rattle.std.proofs.Common.{◌≡◌, ◌↔◌, ◌&&◌, ◌∙◌, ℕ, Bool, true, get_or, subst, arith}
+use Rattle.std.proofs.Common.{◌≡◌, ◌↔◌, ◌&&◌, ℕ, Bool, true, get_or, subst, arith}
 use Rattle.fst_types.specs.Dependencies.{IsLiveNumber}
 use Rattle.fst_heads.specs.Ascending.{IsBehind}
 use Rattle.fst_heads.specs.Heads.{patches_of}
@@ -6,7 +6,7 @@ use Rattle.fst_heads.specs.Marks.{mark_of}
 use Rattle.fst_heads.specs.Nodes.{nodes_of}
 use Rattle.fst_heads.proofs.AtNumber.{patches_in_nodes}
 use Rattle.fst_walks.proofs.Behind.{pending_live}
-use Rattle.fst_walks.proofs.Resting.{listed_at, replaced, shelves, empty_set, chosen_ready, chosen_refused}
+use Rattle.fst_walks.proofs.Resting.{listed_at, shelves, empty_set, chosen_ready, chosen_refused}
 use Rattle.fst_heads.proofs.Slots.{rising_heads}
 use Rattle.fst_graph.proofs.patches.Patches.chosen.Goals as goal
 
@@ -58,12 +58,12 @@ returns-clause-ok c =
     let s = c.self.inside in
     let heads = s.heads.items in
     let b = c.args.block.0 in
-    let marks = c.mark_flight-flying.new.marks in
-    let back = c.deref-7.ensures.value ∙ replaced s.marks.items marks s.marks.len (omega (arith, s.marks.ok.0, c.mark_flight-flying.auto.marks, c.deref_mut.ensures.len)) in
+    let marks = c.mark_flight-flying.new.walk.marks in
+    let back = c.marks-marks.ensures.marks in
     let behind : ℕ → Bool = λ n. c.mark_flight-flying.result && mark_of heads marks n in
     let exact : (n : ℕ) → (behind n ≡ true) ↔ IsBehind (nodes_of heads) b n = rw (← c.deref-2.ensures.value) c.mark_flight-flying.ensures.behind in
     rw (← c.self.view_is)
-    (chosen_ready heads s.numbers s.blocks s.marks.items _ s.standings.items s.queue.items s.queue.cap b c.self.invariant.0 c.self.invariant.4 behind exact c.ready_set.result
+    (chosen_ready heads s.numbers s.blocks s.walks.walk.marks _ s.standings.items s.queue.items s.queue.cap b c.self.invariant.0 c.self.invariant.4 behind exact c.ready_set.result
     (rw (← c.deref-5.ensures.value, ← back) c.ready_set.ensures.ok))
 
 pub returns-clause-refused : goal.returns-clause-refused
@@ -71,10 +71,10 @@ returns-clause-refused c =
     let s = c.self.inside in
     let heads = s.heads.items in
     let b = c.args.block.0 in
-    let marks = c.mark_flight-flying.new.marks in
-    let back = c.deref-7.ensures.value ∙ replaced s.marks.items marks s.marks.len (omega (arith, s.marks.ok.0, c.mark_flight-flying.auto.marks, c.deref_mut.ensures.len)) in
+    let marks = c.mark_flight-flying.new.walk.marks in
+    let back = c.marks-marks.ensures.marks in
     let behind : ℕ → Bool = λ n. c.mark_flight-flying.result && mark_of heads marks n in
     let exact : (n : ℕ) → (behind n ≡ true) ↔ IsBehind (nodes_of heads) b n = rw (← c.deref-2.ensures.value) c.mark_flight-flying.ensures.behind in
     rw (← c.self.view_is)
-    (chosen_refused heads s.numbers s.blocks s.marks.items _ s.standings.items s.queue.items s.queue.cap b c.self.invariant.0 c.self.invariant.4 behind exact c.ready_set.result
+    (chosen_refused heads s.numbers s.blocks s.walks.walk.marks _ s.standings.items s.queue.items s.queue.cap b c.self.invariant.0 c.self.invariant.4 behind exact c.ready_set.result
     (rw (← c.deref-5.ensures.value, ← back) c.ready_set.ensures.refused))

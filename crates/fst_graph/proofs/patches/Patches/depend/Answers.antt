@@ -1,4 +1,4 @@
-use Rattle.std.proofs.Common.{◌≡◌, ◌≤◌, ◌∙◌, ℕ, List, Contains, length, map, drop, refl, sym, ap, subst, inl, inr, arith, None, []}
+use Rattle.std.proofs.Common.{◌≡◌, ◌≤◌, ◌∙◌, Contains, length, map, refl, sym, ap, subst, inl, inr, arith, None, []}
 use Rattle.fst_types.specs.Dependencies.{DirectlyOn, IsLiveNumber}
 use Rattle.fst_types.specs.Facts.{HeadsAreLawful}
 use Rattle.fst_types.specs.Gates.{IsOpenNumber}
@@ -8,24 +8,19 @@ use Rattle.fst_types.specs.Order.{depend_order}
 use Rattle.fst_types.specs.Refusals.{NoneHolds}
 use Rattle.fst_heads.specs.Heads.{patches_of}
 use Rattle.fst_heads.specs.Names.{numbers_of}
-use Rattle.fst_heads.specs.Nodes.{Node, nodes_of, at_number, gains_names, linked_to, pending_in, AreSettled, HasRoomAbove}
-use Rattle.fst_heads.specs.declared.pending.Pending.TheVariants as pending
+use Rattle.fst_heads.specs.Nodes.{nodes_of, at_number, gains_names, linked_to, pending_in, HasRoomAbove}
 use Rattle.fst_heads.specs.declared.pending.Sums.{Sums}
-use Rattle.fst_heads.specs.Pendings.{Fits, sums_of, max_block}
-use Rattle.fst_walks.specs.Searching.{AreHeldByGates}
+use Rattle.fst_heads.specs.Pendings.{sums_of}
 use Rattle.fst_heads.proofs.AtNumber.{patches_in_nodes}
 use Rattle.fst_heads.proofs.Added.{with_names}
 use Rattle.fst_walks.proofs.Linked.{patches_named}
 use Rattle.fst_graph.proofs.FewCounted.{few}
-use Rattle.fst_walks.proofs.Held.{held_by_gates, held_live}
-use Rattle.fst_heads.proofs.PendingIn.{found}
-use Rattle.fst_heads.proofs.Sums.{sums_fit, sums_few}
 use Rattle.fst_graph.proofs.Tallied.{tallies_depends}
 use Rattle.fst_heads.proofs.Linking.{rising_as, rising_same}
-use Rattle.fst_walks.proofs.Seen.{seen, same_patches, lawful_nodes, gained_number, tallies_wider}
+use Rattle.fst_walks.proofs.Seen.{seen, same_patches, lawful_nodes, gained_number}
 use Rattle.fst_heads.proofs.Slots.{rising_heads}
-use Rattle.fst_graph.proofs.Mapping.{take_front}
-use Rattle.fst_graph.proofs.Gained.{keeps_depends, keeps_marks}
+use Rattle.fst_graph.proofs.Gained.{keeps_depends}
+use Rattle.fst_graph.proofs.Walked.{gates_told, still_marked}
 use Rattle.fst_heads.proofs.Beside.{beside_depends}
 use Rattle.fst_graph.proofs.patches.Patches.depend.Goals as goal
 
@@ -35,19 +30,8 @@ depend_fault-requires-clause-rising c = rw c.deref.ensures.value (rising_heads c
 pub depend_fault-requires-clause-linked : goal.depend_fault-requires-clause-linked
 depend_fault-requires-clause-linked c = rw c.deref.ensures.value c.self.invariant.4.linked
 
-pub depend_fault-requires-clause-live : goal.depend_fault-requires-clause-live
-depend_fault-requires-clause-live c =
-    let heads = c.self.inside.heads.items in
-    let n = c.self.inside.numbers in
-    let H = lawful_nodes heads n c.self.invariant.0.lawful in
-    rw c.deref.ensures.value (λ m e. subst (λ ps. IsLiveNumber ps m) (patches_in_nodes heads) (held_live (nodes_of heads) c.self.inside.blocks H.one_place_each.rising H.no_cycle H.on_disk_with_all c.self.invariant.4.settled m e))
-
-pub depend_fault-requires-clause-held : goal.depend_fault-requires-clause-held
-depend_fault-requires-clause-held c =
-    let heads = c.self.inside.heads.items in
-    let n = c.self.inside.numbers in
-    let H = lawful_nodes heads n c.self.invariant.0.lawful in
-    rw c.deref.ensures.value (subst (λ ps. AreHeldByGates ps (pending_in (nodes_of heads))) (patches_in_nodes heads) (held_by_gates (nodes_of heads) c.self.inside.blocks H.one_place_each.rising H.no_cycle H.on_disk_with_all c.self.invariant.4.settled))
+pub depend_fault-requires-clause-gates : goal.depend_fault-requires-clause-gates
+depend_fault-requires-clause-gates c = rw c.deref.ensures.value (gates_told c.self.inside.heads.items c.self.inside.numbers c.self.inside.blocks c.self.inside.walks.walk.marks c.self.invariant.0 c.self.invariant.4.settled)
 
 pub returns-in-Some-clause-refused : goal.returns-in-Some-clause-refused
 returns-in-Some-clause-refused c = rw (← c.self.view_is, ← c.deref.ensures.value) (inl c.in-Some.ensures.first)
@@ -64,16 +48,13 @@ reserve_above-requires c = rising_heads c.self.inside.heads.items c.self.invaria
 pub invariant_of-self-in_default-reserve_above : goal.invariant_of-self-in_default-reserve_above
 invariant_of-self-in_default-reserve_above c =
     let heads = c.self.inside.heads.items in
-    let marks = c.self.inside.marks in
-    let new = c.depend_fault.new.marks in
-    let same : length new ≡ length marks.items = c.depend_fault.auto.marks ∙ ap length c.deref_mut.ensures.value in
-    let front = take_front marks.len new (drop (length new) marks.items) (omega (arith, same, marks.ok.0)) in (
+    let K = still_marked c.self.inside.heads.items c.self.inside.numbers c.self.inside.blocks c.self.inside.walks.walk.marks c.depend_fault.new.walk.marks c.self.invariant.0 (c.depend_fault.ensures.long ∙ ap length c.deref.ensures.value) in (
       rw (same_patches c.reserve_above.new.heads.items heads c.reserve_above.ensures.nodes)
-          (keeps_marks (patches_of heads) c.self.inside.numbers c.self.inside.blocks marks.items _ c.self.invariant.0 (ap length front ∙ same)),
+          K,
       tt,
       tt,
       rw (same_patches c.reserve_above.new.heads.items heads c.reserve_above.ensures.nodes) c.self.invariant.3,
-      rw c.reserve_above.ensures.nodes (tallies_wider _ c.self.inside.numbers c.self.inside.blocks _ _ _ _ _ _ c.self.invariant.4 (c.depend_fault.ensures.idle ∙ sym c.self.invariant.4.idle) (omega (arith, c.depend_fault.ensures.capacity))),
+      rw c.reserve_above.ensures.nodes c.self.invariant.4,
       tt,
       tt,
     )
@@ -97,16 +78,13 @@ pub invariant_of-self-in_default-gain : goal.invariant_of-self-in_default-gain
 invariant_of-self-in_default-gain c =
     let heads = c.self.inside.heads.items in
     let still : nodes_of c.gain.new.heads.items ≡ nodes_of heads = c.in_default-gain.ensures.same ∙ c.reserve_above.ensures.nodes in
-    let marks = c.self.inside.marks in
-    let new = c.depend_fault.new.marks in
-    let same : length new ≡ length marks.items = c.depend_fault.auto.marks ∙ ap length c.deref_mut.ensures.value in
-    let front = take_front marks.len new (drop (length new) marks.items) (omega (arith, same, marks.ok.0)) in (
+    let K = still_marked c.self.inside.heads.items c.self.inside.numbers c.self.inside.blocks c.self.inside.walks.walk.marks c.depend_fault.new.walk.marks c.self.invariant.0 (c.depend_fault.ensures.long ∙ ap length c.deref.ensures.value) in (
       rw (same_patches c.gain.new.heads.items heads still)
-          (keeps_marks (patches_of heads) c.self.inside.numbers c.self.inside.blocks marks.items _ c.self.invariant.0 (ap length front ∙ same)),
+          K,
       tt,
       tt,
       rw (same_patches c.gain.new.heads.items heads still) c.self.invariant.3,
-      rw still (tallies_wider _ c.self.inside.numbers c.self.inside.blocks _ _ _ _ _ _ c.self.invariant.4 (c.depend_fault.ensures.idle ∙ sym c.self.invariant.4.idle) (omega (arith, c.depend_fault.ensures.capacity))),
+      rw still c.self.invariant.4,
       tt,
       tt,
     )
@@ -165,26 +143,21 @@ invariant_of-self-2 c =
     let numbers = c.self.inside.numbers in
     let g = c.args.gate.0 in
     let on = numbers_of c.args.on.now in
-    let marks = c.self.inside.marks in
-    let new = c.depend_fault.new.marks in
-    let same : length new ≡ length marks.items = c.depend_fault.auto.marks ∙ ap length c.deref_mut.ensures.value in
-    let front = take_front marks.len new (drop (length new) marks.items) (omega (arith, same, marks.ok.0)) in
+    let K = still_marked c.self.inside.heads.items c.self.inside.numbers c.self.inside.blocks c.self.inside.walks.walk.marks c.depend_fault.new.walk.marks c.self.invariant.0 (c.depend_fault.ensures.long ∙ ap length c.deref.ensures.value) in
     let gate = subst (λ hs. IsOpenNumber (patches_of hs) g) c.deref.ensures.value c.in_default.ensures.is_open in
     let none = subst (λ hs. NoneHolds (depend_order (patches_of hs) numbers g on)) c.deref.ensures.value c.in_default.ensures.clear in
     let live = subst (λ hs. Lists (λ n. IsLiveNumber (patches_of hs) n × Contains on n × (DirectlyOn (patches_of hs) g n → ⊥)) c.in-Ok.names.items) c.deref-2.ensures.value c.in-Ok.ensures in
     let T = c.self.invariant.4 in
     let back = sym (patches_in_nodes heads) in
     let live_there = subst (λ ps. Lists (λ n. IsLiveNumber ps n × Contains on n × (DirectlyOn ps g n → ⊥)) c.in-Ok.names.items) back live in
-    let keeps = keeps_depends (patches_of heads) numbers c.self.inside.blocks g c.in-Ok.names.items on marks.items _ c.self.invariant.0 gate none live (ap length front ∙ same) in
+    let keeps = keeps_depends (patches_of heads) numbers c.self.inside.blocks g c.in-Ok.names.items on c.depend_fault.new.walk.marks _ K gate none live refl in
     let lawful = subst (λ ps. HeadsAreLawful ps numbers) (sym (new_patches c) ∙ seen c.link.new.heads.items _ (named c)) keeps.lawful in (
       rw (new_patches c) keeps,
       tt,
       tt,
-      rw (new_patches c) (beside_depends (patches_of heads) c.self.inside.blocks c.self.inside.live c.self.inside.reached.items g c.in-Ok.names.items c.self.invariant.3),
+      rw (new_patches c) (beside_depends (patches_of heads) c.self.inside.blocks c.self.inside.live c.self.inside.walks.crossed.items g c.in-Ok.names.items c.self.invariant.3),
       rw (named c)
-          (tallies_wider _ numbers c.self.inside.blocks _ _ _ _ _ _
-          (tallies_depends (nodes_of heads) numbers c.self.inside.blocks _ _ _ _ g on c.in-Ok.names.items (lawful_nodes heads numbers c.self.invariant.0.lawful) lawful T (subst (λ ps. IsOpenNumber ps g) back gate) live_there)
-          (c.depend_fault.ensures.idle ∙ sym T.idle) (omega (arith, c.depend_fault.ensures.capacity))),
+          (tallies_depends (nodes_of heads) numbers c.self.inside.blocks _ _ _ _ g on c.in-Ok.names.items (lawful_nodes heads numbers c.self.invariant.0.lawful) lawful T (subst (λ ps. IsOpenNumber ps g) back gate) live_there),
       tt,
       tt,
     )

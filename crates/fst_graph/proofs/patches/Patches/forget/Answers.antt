@@ -1,5 +1,5 @@
 use Rattle.std.proofs.Common.{◌≡◌, ◌∙◌, ◌-◌, filter, count_by, length, sym, ap, subst, refl, arith}
-use Rattle.std.proofs.lemmas.List.{length-map, length-take}
+use Rattle.std.proofs.lemmas.List.{length-map}
 use Rattle.fst_types.specs.declared.place.Place.TheVariants as place
 use Rattle.fst_types.specs.Facts.{HeadsAreLawful}
 use Rattle.fst_types.specs.Tests.{is_at, is_live}
@@ -21,22 +21,30 @@ overflow_sub-result c =
     let live = ap length left in
     omega (arith, all, live, length-map c.self.inside.heads.items patch_of, length-map c.keep_live.new.heads.items patch_of, c.len-2.ensures, c.len-before.ensures, c.keep_live.new.heads.ok.0, c.self.inside.heads.ok.0)
 
+pub shrink-requires : goal.shrink-requires
+shrink-requires c =
+    let all = counted (patches_of c.self.inside.heads.items) in
+    let left : patches_of c.keep_live.new.heads.items ≡ filter is_live (patches_of c.self.inside.heads.items) =
+    seen c.keep_live.new.heads.items _ c.keep_live.ensures ∙ (patches_dropped (nodes_of c.self.inside.heads.items) ∙ ap (filter is_live) (patches_in_nodes c.self.inside.heads.items)) in
+    let live = ap length left in
+    omega (arith, all, live, length-map c.self.inside.heads.items patch_of, length-map c.keep_live.new.heads.items patch_of, c.len.ensures, c.keep_live.new.heads.ok.0, c.self.invariant.0.marked)
+
 pub invariant_of-self : goal.invariant_of-self
 invariant_of-self c =
     let all = counted (patches_of c.self.inside.heads.items) in
     let left : patches_of c.keep_live.new.heads.items ≡ filter is_live (patches_of c.self.inside.heads.items) =
     seen c.keep_live.new.heads.items _ c.keep_live.ensures ∙ (patches_dropped (nodes_of c.self.inside.heads.items) ∙ ap (filter is_live) (patches_in_nodes c.self.inside.heads.items)) in
     let live = ap length left in
-    let long : length c.truncate.new.self.items ≡ length (filter is_live (patches_of c.self.inside.heads.items)) =
-    rw c.truncate.ensures.items (omega (arith, all, live, length-take c.len.result c.self.inside.marks.items, length-map c.keep_live.new.heads.items patch_of, c.len.ensures, c.keep_live.new.heads.ok.0, c.self.invariant.0.marked)) in
+    let long : length c.shrink.new.self.marks ≡ length (filter is_live (patches_of c.self.inside.heads.items)) =
+    omega (arith, all, live, length-map c.keep_live.new.heads.items patch_of, c.len.ensures, c.keep_live.new.heads.ok.0, c.shrink.ensures) in
     let heads = c.self.inside.heads.items in
     let n = c.self.inside.numbers in
-    let kept = keeps_dropped (patches_of heads) n c.self.inside.blocks c.self.inside.marks.items c.self.invariant.0 c.truncate.new.self.items long in
+    let kept = keeps_dropped (patches_of heads) n c.self.inside.blocks c.self.inside.walks.walk.marks c.self.invariant.0 c.shrink.new.self.marks long in
     let lawful = subst (λ ps. HeadsAreLawful ps n) (sym (patches_dropped (nodes_of heads) ∙ ap (filter is_live) (patches_in_nodes heads))) kept.lawful in (
       rw left kept,
       tt,
       tt,
-      rw left (beside_dropped (patches_of heads) c.self.inside.blocks c.self.inside.live c.self.inside.reached.items c.self.invariant.3),
+      rw left (beside_dropped (patches_of heads) c.self.inside.blocks c.self.inside.live c.self.inside.walks.crossed.items c.self.invariant.3),
       rw c.keep_live.ensures (tallies_dropped (nodes_of heads) n c.self.inside.blocks _ _ _ _ (lawful_nodes heads n c.self.invariant.0.lawful) lawful c.self.invariant.4),
       tt,
       tt,

@@ -1,4 +1,4 @@
-use Rattle.std.proofs.Common.{◌≡◌, ◌↔◌, ◌&&◌, ◌∙◌, ℕ, Bool, true, get_or, subst, arith}
+use Rattle.std.proofs.Common.{◌≡◌, ◌↔◌, ◌&&◌, ℕ, Bool, true, get_or, subst, arith}
 use Rattle.fst_types.specs.Dependencies.{IsLiveNumber}
 use Rattle.fst_heads.specs.Ascending.{IsBehind}
 use Rattle.fst_heads.specs.Heads.{patches_of}
@@ -6,7 +6,7 @@ use Rattle.fst_heads.specs.Marks.{mark_of}
 use Rattle.fst_heads.specs.Nodes.{nodes_of}
 use Rattle.fst_heads.proofs.AtNumber.{patches_in_nodes}
 use Rattle.fst_walks.proofs.Behind.{pending_live}
-use Rattle.fst_walks.proofs.Resting.{listed_at, replaced, shelves, none_there, none_held, least_held}
+use Rattle.fst_walks.proofs.Resting.{listed_at, shelves, none_there, none_held, least_held}
 use Rattle.fst_heads.proofs.Slots.{rising_heads}
 use Rattle.fst_graph.proofs.patches.Patches.hard_held.Goals as goal
 
@@ -58,12 +58,12 @@ returns-clause-none c =
     let s = c.self.inside in
     let heads = s.heads.items in
     let b = c.args.block.0 in
-    let marks = c.mark_flight-flying.new.marks in
-    let back = c.deref-7.ensures.value ∙ replaced s.marks.items marks s.marks.len (omega (arith, s.marks.ok.0, c.mark_flight-flying.auto.marks, c.deref_mut.ensures.len)) in
+    let marks = c.mark_flight-flying.new.walk.marks in
+    let back = c.marks-marks.ensures.marks in
     let behind : ℕ → Bool = λ n. c.mark_flight-flying.result && mark_of heads marks n in
     let exact : (n : ℕ) → (behind n ≡ true) ↔ IsBehind (nodes_of heads) b n = rw (← c.deref-2.ensures.value) c.mark_flight-flying.ensures.behind in
     rw (← c.self.view_is)
-    (none_held heads s.numbers s.blocks s.marks.items _ s.standings.items s.queue.items s.queue.cap b c.self.invariant.0 c.self.invariant.4 behind exact c.first_held.result
+    (none_held heads s.numbers s.blocks s.walks.walk.marks _ s.standings.items s.queue.items s.queue.cap b c.self.invariant.0 c.self.invariant.4 behind exact c.first_held.result
     (rw (← c.deref-5.ensures.value, ← back) c.first_held.ensures.none))
 
 pub returns-clause-least : goal.returns-clause-least
@@ -71,10 +71,10 @@ returns-clause-least c =
     let s = c.self.inside in
     let heads = s.heads.items in
     let b = c.args.block.0 in
-    let marks = c.mark_flight-flying.new.marks in
-    let back = c.deref-7.ensures.value ∙ replaced s.marks.items marks s.marks.len (omega (arith, s.marks.ok.0, c.mark_flight-flying.auto.marks, c.deref_mut.ensures.len)) in
+    let marks = c.mark_flight-flying.new.walk.marks in
+    let back = c.marks-marks.ensures.marks in
     let behind : ℕ → Bool = λ n. c.mark_flight-flying.result && mark_of heads marks n in
     let exact : (n : ℕ) → (behind n ≡ true) ↔ IsBehind (nodes_of heads) b n = rw (← c.deref-2.ensures.value) c.mark_flight-flying.ensures.behind in
     rw (← c.self.view_is)
-    (least_held heads s.numbers s.blocks s.marks.items _ s.standings.items s.queue.items s.queue.cap b c.self.invariant.0 c.self.invariant.4 behind exact c.first_held.result
+    (least_held heads s.numbers s.blocks s.walks.walk.marks _ s.standings.items s.queue.items s.queue.cap b c.self.invariant.0 c.self.invariant.4 behind exact c.first_held.result
     (rw (← c.deref-5.ensures.value, ← back) c.first_held.ensures.least))

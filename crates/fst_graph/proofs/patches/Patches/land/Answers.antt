@@ -77,7 +77,7 @@ overflow_sub-self c =
     let T = c.self.invariant.4 in
     let wide : c.self.inside.standings.len ≡ c.self.inside.blocks = omega (arith, T.standing.long, c.self.inside.standings.ok.0) in
     let settled = subst (AreSettled (nodes_of new)) (c.land_at.ensures.len ∙ wide) c.cascade-landed.ensures.settled in
-    landed_few c.self.inside.heads.items c.land_block.new.heads.items new (lands c.args.block.0) c.self.inside.blocks c.self.inside.live c.cascade-landed.result c.self.inside.reached.items c.land_block.ensures.nodes (λ x. refl) T.settled settled
+    landed_few c.self.inside.heads.items c.land_block.new.heads.items new (lands c.args.block.0) c.self.inside.blocks c.self.inside.live c.cascade-landed.result c.self.inside.walks.crossed.items c.land_block.ensures.nodes (λ x. refl) T.settled settled
     c.cascade-landed.ensures.landed c.self.invariant.3
 
 pub invariant_of-self : goal.invariant_of-self
@@ -99,14 +99,14 @@ invariant_of-self c =
     let spread : IsSpreadOf (map (lands b) nodes) (nodes_of new) = subst (λ ns. IsSpreadOf ns (nodes_of new)) c.land_block.ensures.nodes c.cascade-landed.ensures.spread in
     let settled = subst (AreSettled (nodes_of new)) (c.land_at.ensures.len ∙ wide) c.cascade-landed.ensures.settled in
     let standing = subst (λ k. AllStand (nodes_of new) k c.cascade-landed.new.standings.items) (c.land_at.ensures.len ∙ wide) c.cascade-landed.ensures.standing in
-    let kept = keeps_landed old (patches_of new) n blocks b c.self.inside.marks.items c.self.inside.marks.items c.self.invariant.0 cascade refl in
+    let kept = keeps_landed old (patches_of new) n blocks b c.self.inside.walks.walk.marks c.self.inside.walks.walk.marks c.self.invariant.0 cascade refl in
     let listed : AreListed (patches_in (map (lands b) nodes)) blocks (shelved c.land_block.new.lists.items) =
     subst (λ k. AreListed (patches_in (map (lands b) nodes)) k (shelved c.land_block.new.lists.items)) long
     (subst (λ ps. AreListed ps (length lists) (shelved c.land_block.new.lists.items)) (seen mid _ c.land_block.ensures.nodes) c.land_block.ensures.listed) in (
       kept,
       tt,
       tt,
-      beside_landed heads mid new (lands b) blocks c.self.inside.live c.cascade-landed.result c.self.inside.reached.items c.land_block.ensures.nodes (λ x. refl) T.settled settled c.cascade-landed.ensures.landed c.self.invariant.3,
+      beside_landed heads mid new (lands b) blocks c.self.inside.live c.cascade-landed.result c.self.inside.walks.crossed.items c.land_block.ensures.nodes (λ x. refl) T.settled settled c.cascade-landed.ensures.landed c.self.invariant.3,
       rw (c.cascade-landed.ensures.empty, c.cascade-landed.ensures.capacity, c.land_block.ensures.capacity)
           (tallies_landed nodes (nodes_of new) n blocks b _ _ _ _ _ _ (lawful_nodes new n kept.lawful) T listed spread settled standing),
       tt,

@@ -70,14 +70,14 @@ invariant_of-self-2 c =
     let here = block_found (patches_of heads) b c.in-Some-block_of.block chosen c.in-Some.first.now.0 choice named (λ p h e. c.in-Some-block_of.ensures p (subst (λ hs. Contains (patches_of hs) p) (sym c.deref.ensures.value) h) e) in
     let new : patches_of c.launch_all.new.heads.items ≡ map (launched chosen) (patches_of heads) =
     seen c.launch_all.new.heads.items _ c.launch_all.ensures ∙ (patches_launched (nodes_of heads) chosen ∙ ap (map (launched chosen)) same) in
-    let kept = keeps_launched _ n blocks b chosen c.self.inside.marks.items K writable choice in
+    let kept = keeps_launched _ n blocks b chosen c.self.inside.walks.walk.marks K writable choice in
     let lawful = subst (λ ps. HeadsAreLawful (map (launched chosen) ps) n) (sym same) kept.lawful in
     let tallies = tallies_chosen (nodes_of heads) n blocks b c.in-Some-block_of.block _ c.self.inside.standings.items _ _ chosen c.index_mut.result.now c.launch.new.self (lawful_nodes heads n K.lawful) lawful (inside_nodes heads blocks K.inside) c.self.invariant.4
     (subst (λ ps. IsWritable ps b) (sym same) writable) (subst (λ ps. IsWritableSet ps b chosen) (sym same) choice) here c.index_mut.ensures.value c.launch.ensures in (
       rw new kept,
       tt,
       tt,
-      beside_kept heads c.launch_all.new.heads.items (launches chosen) blocks c.self.inside.live c.self.inside.reached.items c.launch_all.ensures (λ x. refl) c.self.invariant.4.settled (rw c.launch_all.ensures tallies.settled) c.self.invariant.3,
+      beside_kept heads c.launch_all.new.heads.items (launches chosen) blocks c.self.inside.live c.self.inside.walks.crossed.items c.launch_all.ensures (λ x. refl) c.self.invariant.4.settled (rw c.launch_all.ensures tallies.settled) c.self.invariant.3,
       rw c.launch_all.ensures
           tallies,
       tt,

@@ -5,9 +5,9 @@ use Rattle.fst_graph.proofs.patches.Patches.new.Goals as goal
 
 pub invariant_of-result : goal.invariant_of-result
 invariant_of-result c =
-    let places : length c.in-Ok.reached.items ≡ c.args.shape.blocks = omega (arith, c.in-Ok.reached.ok.0, c.in-Ok.ensures.len) in
+    let places : length c.in-Ok.crossed.items ≡ c.args.shape.blocks = omega (arith, c.in-Ok.crossed.ok.0, c.in-Ok.ensures.len) in
     let K = keeps_none c.args.numbers c.args.shape.blocks (omega (arith, c.ranges.numbers.fits)) in
-    rw (c.new.ensures.items, c.new-2.ensures.items, c.new-3.ensures.items) (
+    rw (c.new.ensures.items, c.new-2.ensures, c.new-3.ensures.items) (
       K,
       tt,
       tt,

@@ -8,7 +8,7 @@ use Rattle.fst_types.specs.Gating.{gains}
 use Rattle.fst_types.specs.Limits.{max_heads}
 use Rattle.fst_types.specs.Lists.{Lists}
 use Rattle.fst_types.specs.Making.{fresh}
-use Rattle.fst_types.specs.Order.{make_order, depend_order}
+use Rattle.fst_types.specs.Order.{make_order}
 use Rattle.fst_types.specs.Overlaps.{IsOverlapped}
 use Rattle.fst_types.specs.Patches.{Change}
 use Rattle.fst_types.specs.Refusals.{NoneHolds}
@@ -68,7 +68,7 @@ link-requires-clause-once c =
     let R = member_kept c.self.inside.prepared p gates old n blocks kept c.in-Some-gates.is c.self.invariant.1 in
     let own : gates.head ≡ c.args.head = head_same c.self.inside.prepared n q.0 c.args.head p gates (ap (λ k. k.prepared) c.self.view_is ∙ q.1) q.2 kept c.in-Some-gates.is in
     let closed : IsOpenNumber old gates.head → ⊥ = λ o. c.requires.closed (subst (λ (v : Known). IsOpenNumber v.heads c.args.head) c.self.view_is (subst (IsOpenNumber old) own o)) in
-    let ready = ready_now old n blocks c.self.inside.marks.items K gates p R closed in
+    let ready = ready_now old n blocks c.self.inside.walks.walk.marks K gates p R closed in
     rw c.as_slice-2.ensures ready.depends.rising
 
 pub push_reserved-requires-2 : goal.push_reserved-requires-2
@@ -87,7 +87,7 @@ push_reserved-requires-2 c =
     let R = member_kept c.self.inside.prepared p gates old n blocks kept c.in-Some-gates.is c.self.invariant.1 in
     let own : gates.head ≡ c.args.head = head_same c.self.inside.prepared n q.0 c.args.head p gates (ap (λ k. k.prepared) c.self.view_is ∙ q.1) q.2 kept c.in-Some-gates.is in
     let closed : IsOpenNumber old gates.head → ⊥ = λ o. c.requires.closed (subst (λ (v : Known). IsOpenNumber v.heads c.args.head) c.self.view_is (subst (IsOpenNumber old) own o)) in
-    let ready = ready_now old n blocks c.self.inside.marks.items K gates p R closed in
+    let ready = ready_now old n blocks c.self.inside.walks.walk.marks K gates p R closed in
     let lists = c.self.inside.lists.items in
     let long : length lists ≡ blocks = sym (length-map lists _) ∙ T.listed.long in
     let room = subst (λ o. IfSome o (λ (x : Stored). HasRoomInList (map (λ l. vec_len l) lists) (map (λ l. vec_capacity l) lists) x.block)) kept c.self.invariant.6 in
@@ -113,7 +113,7 @@ index_mut-requires-2 c =
     let R = member_kept c.self.inside.prepared p gates old n blocks kept c.in-Some-gates.is c.self.invariant.1 in
     let own : gates.head ≡ c.args.head = head_same c.self.inside.prepared n q.0 c.args.head p gates (ap (λ k. k.prepared) c.self.view_is ∙ q.1) q.2 kept c.in-Some-gates.is in
     let closed : IsOpenNumber old gates.head → ⊥ = λ o. c.requires.closed (subst (λ (v : Known). IsOpenNumber v.heads c.args.head) c.self.view_is (subst (IsOpenNumber old) own o)) in
-    let ready = ready_now old n blocks c.self.inside.marks.items K gates p R closed in
+    let ready = ready_now old n blocks c.self.inside.walks.walk.marks K gates p R closed in
     let inside = ready.inside in omega (arith, inside, T.standing.long, c.self.inside.standings.ok.0)
 
 -- a count of heads is no more than there may be heads
@@ -136,7 +136,7 @@ enter-requires-clause-ready c =
     let R = member_kept c.self.inside.prepared p gates old n blocks kept c.in-Some-gates.is c.self.invariant.1 in
     let own : gates.head ≡ c.args.head = head_same c.self.inside.prepared n q.0 c.args.head p gates (ap (λ k. k.prepared) c.self.view_is ∙ q.1) q.2 kept c.in-Some-gates.is in
     let closed : IsOpenNumber old gates.head → ⊥ = λ o. c.requires.closed (subst (λ (v : Known). IsOpenNumber v.heads c.args.head) c.self.view_is (subst (IsOpenNumber old) own o)) in
-    let ready = ready_now old n blocks c.self.inside.marks.items K gates p R closed in
+    let ready = ready_now old n blocks c.self.inside.walks.walk.marks K gates p R closed in
     let counted : c.index_mut-2.result.now ≡ standing_of nodes p.block = c.index_mut-2.ensures.value ∙ T.standing.each p.block c.index_mut-2.result.now ready.inside in
     few_counted heads (is_ready_on p.block) _ K.few (ap (λ s. s.ready) counted)
 
@@ -156,7 +156,7 @@ enter-requires-clause-held c =
     let R = member_kept c.self.inside.prepared p gates old n blocks kept c.in-Some-gates.is c.self.invariant.1 in
     let own : gates.head ≡ c.args.head = head_same c.self.inside.prepared n q.0 c.args.head p gates (ap (λ k. k.prepared) c.self.view_is ∙ q.1) q.2 kept c.in-Some-gates.is in
     let closed : IsOpenNumber old gates.head → ⊥ = λ o. c.requires.closed (subst (λ (v : Known). IsOpenNumber v.heads c.args.head) c.self.view_is (subst (IsOpenNumber old) own o)) in
-    let ready = ready_now old n blocks c.self.inside.marks.items K gates p R closed in
+    let ready = ready_now old n blocks c.self.inside.walks.walk.marks K gates p R closed in
     let counted : c.index_mut-2.result.now ≡ standing_of nodes p.block = c.index_mut-2.ensures.value ∙ T.standing.each p.block c.index_mut-2.result.now ready.inside in
     few_counted heads (is_held_on p.block) _ K.few (ap (λ s. s.held) counted)
 
@@ -176,12 +176,12 @@ row_sums-gained-requires c =
     let R = member_kept c.self.inside.prepared p gates old n blocks kept c.in-Some-gates.is c.self.invariant.1 in
     let own : gates.head ≡ c.args.head = head_same c.self.inside.prepared n q.0 c.args.head p gates (ap (λ k. k.prepared) c.self.view_is ∙ q.1) q.2 kept c.in-Some-gates.is in
     let closed : IsOpenNumber old gates.head → ⊥ = λ o. c.requires.closed (subst (λ (v : Known). IsOpenNumber v.heads c.args.head) c.self.view_is (subst (IsOpenNumber old) own o)) in
-    let ready = ready_now old n blocks c.self.inside.marks.items K gates p R closed in
+    let ready = ready_now old n blocks c.self.inside.walks.walk.marks K gates p R closed in
     let row = p.dependencies.items in
     let few : length old < max_heads = let full = ready.clear.1.1.0 in omega (arith, full) in
     let patches = linked_patches c.link.new.heads.items heads _ _ c.link.ensures.nodes in
     let made = fresh (n + 1) (Change p.block p.span.at p.span.len p.grade) row in
-    let keeps = keeps_change old n blocks c.self.inside.marks.items K p.block p.span.at p.span.len (numbers_of p.names.items) p.grade row ready.depends ready.inside few (hard_may p.grade _ ready.graded) in
+    let keeps = keeps_change old n blocks c.self.inside.walks.walk.marks K p.block p.span.at p.span.len (numbers_of p.names.items) p.grade row ready.depends ready.inside few (hard_may p.grade _ ready.graded) in
     let told = pending_in nodes in
     let sums : c.row_sums-sums.result ≡ sums_of told row =
     c.row_sums-sums.ensures.sums ∙ (ap (λ hs. sums_of (pending_in (nodes_of hs)) c.as_slice.result.now) c.deref.ensures.value ∙ ap (sums_of told) c.as_slice.ensures) in
@@ -208,12 +208,12 @@ gain_one-requires-clause-rising c =
     let R = member_kept c.self.inside.prepared p gates old n blocks kept c.in-Some-gates.is c.self.invariant.1 in
     let own : gates.head ≡ c.args.head = head_same c.self.inside.prepared n q.0 c.args.head p gates (ap (λ k. k.prepared) c.self.view_is ∙ q.1) q.2 kept c.in-Some-gates.is in
     let closed : IsOpenNumber old gates.head → ⊥ = λ o. c.requires.closed (subst (λ (v : Known). IsOpenNumber v.heads c.args.head) c.self.view_is (subst (IsOpenNumber old) own o)) in
-    let ready = ready_now old n blocks c.self.inside.marks.items K gates p R closed in
+    let ready = ready_now old n blocks c.self.inside.walks.walk.marks K gates p R closed in
     let row = p.dependencies.items in
     let few : length old < max_heads = let full = ready.clear.1.1.0 in omega (arith, full) in
     let patches = linked_patches c.link.new.heads.items heads _ _ c.link.ensures.nodes in
     let made = fresh (n + 1) (Change p.block p.span.at p.span.len p.grade) row in
-    let keeps = keeps_change old n blocks c.self.inside.marks.items K p.block p.span.at p.span.len (numbers_of p.names.items) p.grade row ready.depends ready.inside few (hard_may p.grade _ ready.graded) in
+    let keeps = keeps_change old n blocks c.self.inside.walks.walk.marks K p.block p.span.at p.span.len (numbers_of p.names.items) p.grade row ready.depends ready.inside few (hard_may p.grade _ ready.graded) in
     let told = pending_in nodes in
     let sums : c.row_sums-sums.result ≡ sums_of told row =
     c.row_sums-sums.ensures.sums ∙ (ap (λ hs. sums_of (pending_in (nodes_of hs)) c.as_slice.result.now) c.deref.ensures.value ∙ ap (sums_of told) c.as_slice.ensures) in
@@ -240,12 +240,12 @@ gain_one-requires-clause-counted c =
     let R = member_kept c.self.inside.prepared p gates old n blocks kept c.in-Some-gates.is c.self.invariant.1 in
     let own : gates.head ≡ c.args.head = head_same c.self.inside.prepared n q.0 c.args.head p gates (ap (λ k. k.prepared) c.self.view_is ∙ q.1) q.2 kept c.in-Some-gates.is in
     let closed : IsOpenNumber old gates.head → ⊥ = λ o. c.requires.closed (subst (λ (v : Known). IsOpenNumber v.heads c.args.head) c.self.view_is (subst (IsOpenNumber old) own o)) in
-    let ready = ready_now old n blocks c.self.inside.marks.items K gates p R closed in
+    let ready = ready_now old n blocks c.self.inside.walks.walk.marks K gates p R closed in
     let row = p.dependencies.items in
     let few : length old < max_heads = let full = ready.clear.1.1.0 in omega (arith, full) in
     let patches = linked_patches c.link.new.heads.items heads _ _ c.link.ensures.nodes in
     let made = fresh (n + 1) (Change p.block p.span.at p.span.len p.grade) row in
-    let keeps = keeps_change old n blocks c.self.inside.marks.items K p.block p.span.at p.span.len (numbers_of p.names.items) p.grade row ready.depends ready.inside few (hard_may p.grade _ ready.graded) in
+    let keeps = keeps_change old n blocks c.self.inside.walks.walk.marks K p.block p.span.at p.span.len (numbers_of p.names.items) p.grade row ready.depends ready.inside few (hard_may p.grade _ ready.graded) in
     let told = pending_in nodes in
     let sums : c.row_sums-sums.result ≡ sums_of told row =
     c.row_sums-sums.ensures.sums ∙ (ap (λ hs. sums_of (pending_in (nodes_of hs)) c.as_slice.result.now) c.deref.ensures.value ∙ ap (sums_of told) c.as_slice.ensures) in
@@ -254,7 +254,7 @@ gain_one-requires-clause-counted c =
     let nodes1 = with_node nodes made in
     let at1 : nodes_of c.push_reserved.new.self.items ≡ nodes1 = rw (c.push_reserved.ensures.items, map_push, c.link.ensures.nodes, c.as_slice-2.ensures, over, sums, c.new.ensures.items) refl in
     let seen1 : patches_of c.push_reserved.new.self.items ≡ old ++ made ∷ [] = rw (c.push_reserved.ensures.items, map_push, patches) refl in
-    let places = subst (λ o. IfSome o (λ _. HasPlaces c.self.inside.heads.len c.self.inside.heads.cap c.self.inside.marks.len c.self.inside.marks.cap c.self.inside.queue.cap)) kept c.self.invariant.2 in
+    let places = subst (λ o. IfSome o (λ _. HasPlaces c.self.inside.heads.len c.self.inside.heads.cap (length c.self.inside.walks.walk.marks) c.self.inside.walks.walk.room c.self.inside.queue.cap)) kept c.self.invariant.2 in
     let room : length nodes < c.self.inside.queue.cap = let free = places.queue_free in omega (arith, free, c.self.inside.heads.ok.0, length-map heads node_of) in
     let live : (m : _) → Contains row m → IsLiveNumber (patches_in nodes) m = λ m h. subst (λ ps. IsLiveNumber ps m) (sym (patches_in_nodes heads)) (live_dependency old (numbers_of p.names.items) p.block p.span.at p.span.len m (ready.depends.only m h)) in
     let lawful = subst (λ ps. HeadsAreLawful (ps ++ made ∷ []) (n + 1)) (sym (patches_in_nodes heads)) keeps.lawful in
@@ -282,12 +282,12 @@ gain_one-requires-clause-room c =
     let R = member_kept c.self.inside.prepared p gates old n blocks kept c.in-Some-gates.is c.self.invariant.1 in
     let own : gates.head ≡ c.args.head = head_same c.self.inside.prepared n q.0 c.args.head p gates (ap (λ k. k.prepared) c.self.view_is ∙ q.1) q.2 kept c.in-Some-gates.is in
     let closed : IsOpenNumber old gates.head → ⊥ = λ o. c.requires.closed (subst (λ (v : Known). IsOpenNumber v.heads c.args.head) c.self.view_is (subst (IsOpenNumber old) own o)) in
-    let ready = ready_now old n blocks c.self.inside.marks.items K gates p R closed in
+    let ready = ready_now old n blocks c.self.inside.walks.walk.marks K gates p R closed in
     let row = p.dependencies.items in
     let few : length old < max_heads = let full = ready.clear.1.1.0 in omega (arith, full) in
     let patches = linked_patches c.link.new.heads.items heads _ _ c.link.ensures.nodes in
     let made = fresh (n + 1) (Change p.block p.span.at p.span.len p.grade) row in
-    let keeps = keeps_change old n blocks c.self.inside.marks.items K p.block p.span.at p.span.len (numbers_of p.names.items) p.grade row ready.depends ready.inside few (hard_may p.grade _ ready.graded) in
+    let keeps = keeps_change old n blocks c.self.inside.walks.walk.marks K p.block p.span.at p.span.len (numbers_of p.names.items) p.grade row ready.depends ready.inside few (hard_may p.grade _ ready.graded) in
     let told = pending_in nodes in
     let sums : c.row_sums-sums.result ≡ sums_of told row =
     c.row_sums-sums.ensures.sums ∙ (ap (λ hs. sums_of (pending_in (nodes_of hs)) c.as_slice.result.now) c.deref.ensures.value ∙ ap (sums_of told) c.as_slice.ensures) in
@@ -316,12 +316,12 @@ link-requires-2-clause-rising c =
     let R = member_kept c.self.inside.prepared p gates old n blocks kept c.in-Some-gates.is c.self.invariant.1 in
     let own : gates.head ≡ c.args.head = head_same c.self.inside.prepared n q.0 c.args.head p gates (ap (λ k. k.prepared) c.self.view_is ∙ q.1) q.2 kept c.in-Some-gates.is in
     let closed : IsOpenNumber old gates.head → ⊥ = λ o. c.requires.closed (subst (λ (v : Known). IsOpenNumber v.heads c.args.head) c.self.view_is (subst (IsOpenNumber old) own o)) in
-    let ready = ready_now old n blocks c.self.inside.marks.items K gates p R closed in
+    let ready = ready_now old n blocks c.self.inside.walks.walk.marks K gates p R closed in
     let row = p.dependencies.items in
     let few : length old < max_heads = let full = ready.clear.1.1.0 in omega (arith, full) in
     let patches = linked_patches c.link.new.heads.items heads _ _ c.link.ensures.nodes in
     let made = fresh (n + 1) (Change p.block p.span.at p.span.len p.grade) row in
-    let keeps = keeps_change old n blocks c.self.inside.marks.items K p.block p.span.at p.span.len (numbers_of p.names.items) p.grade row ready.depends ready.inside few (hard_may p.grade _ ready.graded) in
+    let keeps = keeps_change old n blocks c.self.inside.walks.walk.marks K p.block p.span.at p.span.len (numbers_of p.names.items) p.grade row ready.depends ready.inside few (hard_may p.grade _ ready.graded) in
     let told = pending_in nodes in
     let sums : c.row_sums-sums.result ≡ sums_of told row =
     c.row_sums-sums.ensures.sums ∙ (ap (λ hs. sums_of (pending_in (nodes_of hs)) c.as_slice.result.now) c.deref.ensures.value ∙ ap (sums_of told) c.as_slice.ensures) in
@@ -348,7 +348,7 @@ link-requires-2-clause-room c =
     let R = member_kept c.self.inside.prepared p gates old n blocks kept c.in-Some-gates.is c.self.invariant.1 in
     let own : gates.head ≡ c.args.head = head_same c.self.inside.prepared n q.0 c.args.head p gates (ap (λ k. k.prepared) c.self.view_is ∙ q.1) q.2 kept c.in-Some-gates.is in
     let closed : IsOpenNumber old gates.head → ⊥ = λ o. c.requires.closed (subst (λ (v : Known). IsOpenNumber v.heads c.args.head) c.self.view_is (subst (IsOpenNumber old) own o)) in
-    let ready = ready_now old n blocks c.self.inside.marks.items K gates p R closed in
+    let ready = ready_now old n blocks c.self.inside.walks.walk.marks K gates p R closed in
     let patches = linked_patches c.link.new.heads.items heads _ _ c.link.ensures.nodes in
     let fresh_room : length c.new.result.items + 1 ≤ c.new.result.capacity = omega (arith, ap length c.new.ensures.items, c.new.ensures.capacity) in
     rw (c.as_slice-4.ensures, c.row_of-row.ensures) (c.gain_one.ensures.above ((n + 1) ∷ []) (rw c.push_reserved.ensures.items (pushed_above c.link.new.heads.items _ (n + 1) (none_beyond c.link.new.heads.items old n patches K.lawful) fresh_room)))
@@ -369,12 +369,12 @@ invariant_of-self c =
     let R = member_kept c.self.inside.prepared p gates old n blocks kept c.in-Some-gates.is c.self.invariant.1 in
     let own : gates.head ≡ c.args.head = head_same c.self.inside.prepared n q.0 c.args.head p gates (ap (λ k. k.prepared) c.self.view_is ∙ q.1) q.2 kept c.in-Some-gates.is in
     let closed : IsOpenNumber old gates.head → ⊥ = λ o. c.requires.closed (subst (λ (v : Known). IsOpenNumber v.heads c.args.head) c.self.view_is (subst (IsOpenNumber old) own o)) in
-    let ready = ready_now old n blocks c.self.inside.marks.items K gates p R closed in
+    let ready = ready_now old n blocks c.self.inside.walks.walk.marks K gates p R closed in
     let row = p.dependencies.items in
     let few : length old < max_heads = let full = ready.clear.1.1.0 in omega (arith, full) in
     let patches = linked_patches c.link.new.heads.items heads _ _ c.link.ensures.nodes in
     let made = fresh (n + 1) (Change p.block p.span.at p.span.len p.grade) row in
-    let keeps = keeps_change old n blocks c.self.inside.marks.items K p.block p.span.at p.span.len (numbers_of p.names.items) p.grade row ready.depends ready.inside few (hard_may p.grade _ ready.graded) in
+    let keeps = keeps_change old n blocks c.self.inside.walks.walk.marks K p.block p.span.at p.span.len (numbers_of p.names.items) p.grade row ready.depends ready.inside few (hard_may p.grade _ ready.graded) in
     let told = pending_in nodes in
     let sums : c.row_sums-sums.result ≡ sums_of told row =
     c.row_sums-sums.ensures.sums ∙ (ap (λ hs. sums_of (pending_in (nodes_of hs)) c.as_slice.result.now) c.deref.ensures.value ∙ ap (sums_of told) c.as_slice.ensures) in
@@ -383,7 +383,7 @@ invariant_of-self c =
     let nodes1 = with_node nodes made in
     let at1 : nodes_of c.push_reserved.new.self.items ≡ nodes1 = rw (c.push_reserved.ensures.items, map_push, c.link.ensures.nodes, c.as_slice-2.ensures, over, sums, c.new.ensures.items) refl in
     let seen1 : patches_of c.push_reserved.new.self.items ≡ old ++ made ∷ [] = rw (c.push_reserved.ensures.items, map_push, patches) refl in
-    let places = subst (λ o. IfSome o (λ _. HasPlaces c.self.inside.heads.len c.self.inside.heads.cap c.self.inside.marks.len c.self.inside.marks.cap c.self.inside.queue.cap)) kept c.self.invariant.2 in
+    let places = subst (λ o. IfSome o (λ _. HasPlaces c.self.inside.heads.len c.self.inside.heads.cap (length c.self.inside.walks.walk.marks) c.self.inside.walks.walk.room c.self.inside.queue.cap)) kept c.self.invariant.2 in
     let room : length nodes < c.self.inside.queue.cap = let free = places.queue_free in omega (arith, free, c.self.inside.heads.ok.0, length-map heads node_of) in
     let live : (m : _) → Contains row m → IsLiveNumber (patches_in nodes) m = λ m h. subst (λ ps. IsLiveNumber ps m) (sym (patches_in_nodes heads)) (live_dependency old (numbers_of p.names.items) p.block p.span.at p.span.len m (ready.depends.only m h)) in
     let lawful = subst (λ ps. HeadsAreLawful (ps ++ made ∷ []) (n + 1)) (sym (patches_in_nodes heads)) keeps.lawful in
@@ -404,7 +404,7 @@ invariant_of-self c =
     ∙ ap (map (linked_to names tail)) (c.gain_one.ensures.nodes ∙ (ap (λ s. map (at_number tail (gains_names names s)) (nodes_of c.push_reserved.new.self.items)) gained ∙ ap (map (at_number tail (gains_names names (sums_of (pending_in nodes1) names)))) at1))) in
     let seen2 : patches_of c.link-2.new.heads.items ≡ map (gains tail names) (old ++ made ∷ []) =
     seen c.link-2.new.heads.items _ at2 ∙ (patches_named tail names (sums_of (pending_in nodes1) names) nodes1 ∙ ap (map (gains tail names)) (sym (seen c.push_reserved.new.self.items nodes1 at1) ∙ seen1)) in
-    let marks = c.self.inside.marks.items in
+    let marks = c.self.inside.walks.walk.marks in
     let gate = tail_there old n blocks marks K gates p R closed in
     let none = tail_clear old n blocks marks K gates p R closed keeps.lawful in
     let gain = tail_gains old n blocks marks K gates p R closed in
@@ -421,10 +421,10 @@ invariant_of-self c =
     let tallies2 = tallies_depends nodes1 (n + 1) blocks _ _ _ c.self.inside.queue.cap tail names names lawful1 lawful2 tallies (subst (λ ps. IsOpenNumber ps tail) back gate)
     (subst (λ ps. Lists (λ m. IsLiveNumber ps m × Contains names m × (DirectlyOn ps tail m → ⊥)) names) back gain) in
     rw c.take.ensures.after (
-      rw (seen2, c.push_reserved-3.ensures.items) keeps2,
+      rw (seen2, c.grow.ensures.marks) keeps2,
       tt,
       tt,
-      rw seen2 (beside_depends (old ++ made ∷ []) blocks (c.self.inside.live + 1) c.self.inside.reached.items tail names (beside_made old blocks c.self.inside.live 1 c.self.inside.reached.items made refl c.self.invariant.3)),
+      rw seen2 (beside_depends (old ++ made ∷ []) blocks (c.self.inside.live + 1) c.self.inside.walks.crossed.items tail names (beside_made old blocks c.self.inside.live 1 c.self.inside.walks.crossed.items made refl c.self.invariant.3)),
       rw (at2, entering, shelved_push c.self.inside.lists.items p.block c.index_mut.result.now c.push_reserved-2.new.self _ (let inside = ready.inside in omega (arith, inside, long)) c.index_mut.ensures.value c.push_reserved-2.ensures.items)
           tallies2,
       tt,
@@ -447,12 +447,12 @@ returns-clause-made c =
     let R = member_kept c.self.inside.prepared p gates old n blocks kept c.in-Some-gates.is c.self.invariant.1 in
     let own : gates.head ≡ c.args.head = head_same c.self.inside.prepared n q.0 c.args.head p gates (ap (λ k. k.prepared) c.self.view_is ∙ q.1) q.2 kept c.in-Some-gates.is in
     let closed : IsOpenNumber old gates.head → ⊥ = λ o. c.requires.closed (subst (λ (v : Known). IsOpenNumber v.heads c.args.head) c.self.view_is (subst (IsOpenNumber old) own o)) in
-    let ready = ready_now old n blocks c.self.inside.marks.items K gates p R closed in
+    let ready = ready_now old n blocks c.self.inside.walks.walk.marks K gates p R closed in
     let row = p.dependencies.items in
     let few : length old < max_heads = let full = ready.clear.1.1.0 in omega (arith, full) in
     let patches = linked_patches c.link.new.heads.items heads _ _ c.link.ensures.nodes in
     let made = fresh (n + 1) (Change p.block p.span.at p.span.len p.grade) row in
-    let keeps = keeps_change old n blocks c.self.inside.marks.items K p.block p.span.at p.span.len (numbers_of p.names.items) p.grade row ready.depends ready.inside few (hard_may p.grade _ ready.graded) in
+    let keeps = keeps_change old n blocks c.self.inside.walks.walk.marks K p.block p.span.at p.span.len (numbers_of p.names.items) p.grade row ready.depends ready.inside few (hard_may p.grade _ ready.graded) in
     let told = pending_in nodes in
     let sums : c.row_sums-sums.result ≡ sums_of told row =
     c.row_sums-sums.ensures.sums ∙ (ap (λ hs. sums_of (pending_in (nodes_of hs)) c.as_slice.result.now) c.deref.ensures.value ∙ ap (sums_of told) c.as_slice.ensures) in
@@ -472,7 +472,7 @@ returns-clause-made c =
     ∙ ap (map (linked_to names tail)) (c.gain_one.ensures.nodes ∙ (ap (λ s. map (at_number tail (gains_names names s)) (nodes_of c.push_reserved.new.self.items)) gained ∙ ap (map (at_number tail (gains_names names (sums_of (pending_in nodes1) names)))) at1))) in
     let seen2 : patches_of c.link-2.new.heads.items ≡ map (gains tail names) (old ++ made ∷ []) =
     seen c.link-2.new.heads.items _ at2 ∙ (patches_named tail names (sums_of (pending_in nodes1) names) nodes1 ∙ ap (map (gains tail names)) (sym (seen c.push_reserved.new.self.items nodes1 at1) ∙ seen1)) in
-    let marks = c.self.inside.marks.items in
+    let marks = c.self.inside.walks.walk.marks in
     let gate = tail_there old n blocks marks K gates p R closed in
     let none = tail_clear old n blocks marks K gates p R closed keeps.lawful in
     let gain = tail_gains old n blocks marks K gates p R closed in

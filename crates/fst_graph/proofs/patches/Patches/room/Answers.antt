@@ -12,11 +12,9 @@ use Rattle.fst_heads.specs.Names.{numbers_of}
 use Rattle.fst_heads.specs.Rows.{IsDependency}
 use Rattle.std.proofs.lemmas.List.{length-map}
 use Rattle.fst_heads.specs.Lists.{entries_of}
-use Rattle.fst_heads.specs.Nodes.{nodes_of, AreSettled, HasRoomAbove}
-use Rattle.fst_heads.specs.Standings.{AllStand}
-use Rattle.fst_heads.proofs.AtNumber.{patches_in_nodes}
+use Rattle.fst_heads.specs.Nodes.{nodes_of, HasRoomAbove}
 use Rattle.fst_graph.proofs.Borne.{ok_of}
-use Rattle.fst_graph.proofs.Readied.{keeps_marks, as_long}
+use Rattle.fst_graph.proofs.Walked.{as_many_marks, many_lists, sees_all, still_marked}
 use Rattle.fst_walks.proofs.Seen.{same_patches, tallies_wider}
 use Rattle.fst_walks.proofs.Shelves.{shelved_same, room_in_list}
 use Rattle.fst_heads.proofs.Slots.{rising_heads}
@@ -25,9 +23,6 @@ use Rattle.fst_graph.proofs.patches.Patches.room.Goals as goal
 
 pub returns-in-Some-clause-refused : goal.returns-in-Some-clause-refused
 returns-in-Some-clause-refused c = rw (← c.self.view_is, ← c.deref.ensures.value) (inl c.in-Some.ensures.first)
-
-pub prepare-requires-clause-rising : goal.prepare-requires-clause-rising
-prepare-requires-clause-rising c = rw c.deref-2.ensures.value (rising_heads c.self.inside.heads.items c.self.invariant.0.lawful.one_place_each.rising)
 
 pub returns-clause-ok : goal.returns-clause-ok
 returns-clause-ok c =
@@ -52,7 +47,7 @@ returns-clause-ok c =
           dependencies = row;
           depends = depends_exactly old names b at len (n + 1) p.grade row row depends;
           added = refl;
-          graded = graded_change old n blocks c.self.inside.marks.items c.self.invariant.0 b at len names p.grade row depends follows;
+          graded = graded_change old n blocks c.self.inside.walks.walk.marks c.self.invariant.0 b at len names p.grade row depends follows;
         };
         numbers = refl;
         blocks = refl;
@@ -61,35 +56,37 @@ returns-clause-ok c =
       },
     )
 
-pub prepare-requires-clause-hard : goal.prepare-requires-clause-hard
-prepare-requires-clause-hard c = rw c.deref-2.ensures.value c.self.invariant.0.lawful.hard_never_hold
+pub prepare-requires-clause-sees : goal.prepare-requires-clause-sees
+prepare-requires-clause-sees c =
+    let s = c.self.inside in
+    sees_all _ s.numbers s.blocks s.walks.walk.marks s.queue.items (vec_capacity s.queue) s.heads.items s.lists.items s.standings.items c.self.invariant.0 c.self.invariant.4 c.deref-2.ensures.value c.deref-3.ensures.value c.deref-4.ensures.value
 
-pub prepare-requires-clause-acyclic : goal.prepare-requires-clause-acyclic
-prepare-requires-clause-acyclic c = rw c.deref-2.ensures.value c.self.invariant.0.lawful.no_cycle
+pub prepare-requires-clause-long : goal.prepare-requires-clause-long
+prepare-requires-clause-long c = as_many_marks c.self.inside.heads.items c.self.inside.numbers c.self.inside.blocks c.self.inside.walks.walk.marks c.self.invariant.0 ∙ sym (ap length c.deref-2.ensures.value)
 
-pub prepare-requires-clause-linked : goal.prepare-requires-clause-linked
-prepare-requires-clause-linked c = rw c.deref-2.ensures.value c.self.invariant.4.linked
+pub prepare-requires-clause-crossed : goal.prepare-requires-clause-crossed
+prepare-requires-clause-crossed c =
+    let s = c.self.inside in
+    let long = many_lists (nodes_of s.heads.items) s.numbers s.blocks s.lists.items s.standings.items s.queue.items (vec_capacity s.queue) c.self.invariant.4 in
+    c.self.invariant.3.places ∙ (sym long ∙ sym (ap length c.deref-3.ensures.value))
 
-pub prepare-requires-clause-listed : goal.prepare-requires-clause-listed
-prepare-requires-clause-listed c =
-    let blocks : length c.deref_mut-2.result.now ≡ c.self.inside.blocks = ap length c.deref_mut-2.ensures.value ∙ c.self.invariant.3.places in
-    rw (c.deref-3.ensures.value, blocks, c.deref-2.ensures.value, ← patches_in_nodes c.self.inside.heads.items) c.self.invariant.4.listed
-
-pub prepare-requires-clause-inside : goal.prepare-requires-clause-inside
-prepare-requires-clause-inside c =
-    let blocks : length c.deref_mut-2.result.now ≡ c.self.inside.blocks = ap length c.deref_mut-2.ensures.value ∙ c.self.invariant.3.places in
-    rw (blocks, c.deref-2.ensures.value) c.self.invariant.0.inside
+pub prepare-requires-clause-block : goal.prepare-requires-clause-block
+prepare-requires-clause-block c =
+    let s = c.self.inside in
+    let long = many_lists (nodes_of s.heads.items) s.numbers s.blocks s.lists.items s.standings.items s.queue.items (vec_capacity s.queue) c.self.invariant.4 in
+    let inside : c.args.block.0 < s.blocks = subst (λ (v : Known). c.args.block.0 < v.blocks) (sym c.self.view_is) c.requires in
+    omega (arith, inside, long, ap length c.deref-3.ensures.value)
 
 pub invariant_of-self-then-is_err : goal.invariant_of-self-then-is_err
 invariant_of-self-then-is_err c =
-    let marks = as_long c.self.inside.marks.items c.prepare.new.marks c.self.inside.marks.len c.self.inside.marks.ok.0 (c.prepare.auto.marks ∙ ap length c.deref_mut.ensures.value) in
-    let reached = as_long c.self.inside.reached.items c.prepare.new.reached c.self.inside.reached.len c.self.inside.reached.ok.0 (c.prepare.auto.reached ∙ ap length c.deref_mut-2.ensures.value) in (
+    let K = still_marked c.self.inside.heads.items c.self.inside.numbers c.self.inside.blocks c.self.inside.walks.walk.marks c.prepare.new.walks.walk.marks c.self.invariant.0 (c.prepare.ensures.long ∙ ap length c.deref-2.ensures.value) in
+    let crossed = c.prepare.ensures.crossed ∙ (ap length c.deref-3.ensures.value ∙ many_lists (nodes_of c.self.inside.heads.items) c.self.inside.numbers c.self.inside.blocks c.self.inside.lists.items c.self.inside.standings.items c.self.inside.queue.items (vec_capacity c.self.inside.queue) c.self.invariant.4) in (
       rw (c.reserve_one.ensures.heads, c.reserve_one.ensures.marks)
-          (keeps_marks _ c.self.inside.numbers c.self.inside.blocks c.self.inside.marks.items _ c.self.invariant.0 marks),
+          K,
       tt,
       tt,
-      rw c.reserve_one.ensures.heads (record { places = reached ∙ c.self.invariant.3.places; counted = c.self.invariant.3.counted }),
-      rw c.reserve_one.ensures.heads (tallies_wider _ c.self.inside.numbers c.self.inside.blocks _ _ _ _ _ _ c.self.invariant.4 (c.reserve_one.ensures.queue ∙ c.prepare.ensures.idle) (subst (λ n. n ≤ vec_capacity c.reserve_one.new.queue) c.prepare.ensures.capacity c.reserve_one.ensures.wide)),
+      rw c.reserve_one.ensures.heads (record { places = crossed; counted = c.self.invariant.3.counted }),
+      rw c.reserve_one.ensures.heads (tallies_wider _ c.self.inside.numbers c.self.inside.blocks _ _ _ _ _ _ c.self.invariant.4 c.reserve_one.ensures.queue c.reserve_one.ensures.wide),
       tt,
       tt,
     )
@@ -98,14 +95,14 @@ pub invariant_of-self-then-is_err-2 : goal.invariant_of-self-then-is_err-2
 invariant_of-self-then-is_err-2 c =
     let heads = c.self.inside.heads.items in
     let still : nodes_of c.reserve_above.new.heads.items ≡ nodes_of heads = c.reserve_above.ensures.nodes ∙ ap nodes_of c.reserve_one.ensures.heads in
-    let marks = as_long c.self.inside.marks.items c.prepare.new.marks c.self.inside.marks.len c.self.inside.marks.ok.0 (c.prepare.auto.marks ∙ ap length c.deref_mut.ensures.value) in
-    let reached = as_long c.self.inside.reached.items c.prepare.new.reached c.self.inside.reached.len c.self.inside.reached.ok.0 (c.prepare.auto.reached ∙ ap length c.deref_mut-2.ensures.value) in (
+    let K = still_marked c.self.inside.heads.items c.self.inside.numbers c.self.inside.blocks c.self.inside.walks.walk.marks c.prepare.new.walks.walk.marks c.self.invariant.0 (c.prepare.ensures.long ∙ ap length c.deref-2.ensures.value) in
+    let crossed = c.prepare.ensures.crossed ∙ (ap length c.deref-3.ensures.value ∙ many_lists (nodes_of c.self.inside.heads.items) c.self.inside.numbers c.self.inside.blocks c.self.inside.lists.items c.self.inside.standings.items c.self.inside.queue.items (vec_capacity c.self.inside.queue) c.self.invariant.4) in (
       rw (same_patches c.reserve_above.new.heads.items heads still, c.reserve_one.ensures.marks)
-          (keeps_marks _ c.self.inside.numbers c.self.inside.blocks c.self.inside.marks.items _ c.self.invariant.0 marks),
+          K,
       tt,
       tt,
-      rw (same_patches c.reserve_above.new.heads.items heads still) (record { places = reached ∙ c.self.invariant.3.places; counted = c.self.invariant.3.counted }),
-      rw still (tallies_wider _ c.self.inside.numbers c.self.inside.blocks _ _ _ _ _ _ c.self.invariant.4 (c.reserve_one.ensures.queue ∙ c.prepare.ensures.idle) (subst (λ n. n ≤ vec_capacity c.reserve_one.new.queue) c.prepare.ensures.capacity c.reserve_one.ensures.wide)),
+      rw (same_patches c.reserve_above.new.heads.items heads still) (record { places = crossed; counted = c.self.invariant.3.counted }),
+      rw still (tallies_wider _ c.self.inside.numbers c.self.inside.blocks _ _ _ _ _ _ c.self.invariant.4 c.reserve_one.ensures.queue c.reserve_one.ensures.wide),
       tt,
       tt,
     )
@@ -114,15 +111,15 @@ pub invariant_of-self-then-is_err-3 : goal.invariant_of-self-then-is_err-3
 invariant_of-self-then-is_err-3 c =
     let heads = c.self.inside.heads.items in
     let still : nodes_of c.reserve_above.new.heads.items ≡ nodes_of heads = c.reserve_above.ensures.nodes ∙ ap nodes_of c.reserve_one.ensures.heads in
-    let marks = as_long c.self.inside.marks.items c.prepare.new.marks c.self.inside.marks.len c.self.inside.marks.ok.0 (c.prepare.auto.marks ∙ ap length c.deref_mut.ensures.value) in
-    let reached = as_long c.self.inside.reached.items c.prepare.new.reached c.self.inside.reached.len c.self.inside.reached.ok.0 (c.prepare.auto.reached ∙ ap length c.deref_mut-2.ensures.value) in (
+    let K = still_marked c.self.inside.heads.items c.self.inside.numbers c.self.inside.blocks c.self.inside.walks.walk.marks c.prepare.new.walks.walk.marks c.self.invariant.0 (c.prepare.ensures.long ∙ ap length c.deref-2.ensures.value) in
+    let crossed = c.prepare.ensures.crossed ∙ (ap length c.deref-3.ensures.value ∙ many_lists (nodes_of c.self.inside.heads.items) c.self.inside.numbers c.self.inside.blocks c.self.inside.lists.items c.self.inside.standings.items c.self.inside.queue.items (vec_capacity c.self.inside.queue) c.self.invariant.4) in (
       rw (same_patches c.reserve_above.new.heads.items heads still, c.reserve_one.ensures.marks)
-          (keeps_marks _ c.self.inside.numbers c.self.inside.blocks c.self.inside.marks.items _ c.self.invariant.0 marks),
+          K,
       tt,
       tt,
-      rw (same_patches c.reserve_above.new.heads.items heads still) (record { places = reached ∙ c.self.invariant.3.places; counted = c.self.invariant.3.counted }),
+      rw (same_patches c.reserve_above.new.heads.items heads still) (record { places = crossed; counted = c.self.invariant.3.counted }),
       rw (still, shelved_same c.self.inside.lists.items c.args.block.0 c.index_mut.result.now c.reserve.new.self c.index_mut.ensures.value c.reserve.ensures.items)
-          (tallies_wider _ c.self.inside.numbers c.self.inside.blocks _ _ _ _ _ _ c.self.invariant.4 (c.reserve_one.ensures.queue ∙ c.prepare.ensures.idle) (subst (λ n. n ≤ vec_capacity c.reserve_one.new.queue) c.prepare.ensures.capacity c.reserve_one.ensures.wide)),
+          (tallies_wider _ c.self.inside.numbers c.self.inside.blocks _ _ _ _ _ _ c.self.invariant.4 c.reserve_one.ensures.queue c.reserve_one.ensures.wide),
       tt,
       tt,
     )
@@ -139,23 +136,23 @@ invariant_of-self-2 c =
     let made = c.in-Ok.ensures in
     let names = numbers_of p.names.items in
     let row = p.dependencies.items in
-    let marks = as_long c.self.inside.marks.items c.prepare.new.marks c.self.inside.marks.len c.self.inside.marks.ok.0 (c.prepare.auto.marks ∙ ap length c.deref_mut.ensures.value) in
-    let reached = as_long c.self.inside.reached.items c.prepare.new.reached c.self.inside.reached.len c.self.inside.reached.ok.0 (c.prepare.auto.reached ∙ ap length c.deref_mut-2.ensures.value) in
+    let K = still_marked c.self.inside.heads.items c.self.inside.numbers c.self.inside.blocks c.self.inside.walks.walk.marks c.prepare.new.walks.walk.marks c.self.invariant.0 (c.prepare.ensures.long ∙ ap length c.deref-2.ensures.value) in
+    let crossed = c.prepare.ensures.crossed ∙ (ap length c.deref-3.ensures.value ∙ many_lists (nodes_of c.self.inside.heads.items) c.self.inside.numbers c.self.inside.blocks c.self.inside.lists.items c.self.inside.standings.items c.self.inside.queue.items (vec_capacity c.self.inside.queue) c.self.invariant.4) in
     let clear : NoneHolds (make_order old n names) = rw made.names (subst (λ hs. NoneHolds (make_order (patches_of hs) n (numbers_of c.args.after.now))) c.deref.ensures.value c.in_default.ensures.clear) in
     let inside : p.block < blocks = rw made.block (subst (λ (v : Known). c.args.block.0 < v.blocks) (sym c.self.view_is) c.requires) in
     let depends : Lists (IsDependency old names p.block p.span.at p.span.len) row =
     rw (made.names, made.block, made.span) (subst (λ hs. Lists (IsDependency (patches_of hs) (numbers_of c.args.after.now) c.args.block.0 c.args.span.at c.args.span.len) row) c.deref-2.ensures.value made.depends) in
     let follows : FollowsRule p.grade (MayBeHard old None p.block row) = rw made.block (subst (λ hs. FollowsRule p.grade (MayBeHard (patches_of hs) None c.args.block.0 row)) c.deref-2.ensures.value made.graded) in
-    let graded = graded_change old n blocks c.self.inside.marks.items c.self.invariant.0 p.block p.span.at p.span.len names p.grade row depends follows in
+    let graded = graded_change old n blocks c.self.inside.walks.walk.marks c.self.invariant.0 p.block p.span.at p.span.len names p.grade row depends follows in
     let above : HasRoomAbove c.reserve_above.new.heads.items c.as_slice.result.now = ok_of c.reserve_above.result _ c.reserve_above.ensures.room (sym c.is_err-2.ensures.value ∙ c.if-is_err-2.false) in
     let free : c.reserve.new.self.len + 1 ≤ c.reserve.new.self.cap = search rules in
     let lists : length c.self.inside.lists.items ≡ blocks = sym (length-map c.self.inside.lists.items (λ l. entries_of l.items)) ∙ c.self.invariant.4.listed.long in (
-      rw (patches, c.reserve_one.ensures.marks) (keeps_marks _ n blocks c.self.inside.marks.items _ c.self.invariant.0 marks),
+      rw (patches, c.reserve_one.ensures.marks) K,
       rw (patches, made.gates) (record { clear = clear; inside = inside; depends = depends; graded = graded }),
       rw (c.reserve_above.ensures.len, c.reserve_above.ensures.capacity) (record { heads_free = search rules; marks_free = search rules; queue_free = search rules }),
-      rw patches (record { places = reached ∙ c.self.invariant.3.places; counted = c.self.invariant.3.counted }),
+      rw patches (record { places = crossed; counted = c.self.invariant.3.counted }),
       rw (still, shelved_same c.self.inside.lists.items c.args.block.0 c.index_mut.result.now c.reserve.new.self c.index_mut.ensures.value c.reserve.ensures.items)
-          (tallies_wider _ n blocks _ _ _ _ _ _ c.self.invariant.4 (c.reserve_one.ensures.queue ∙ c.prepare.ensures.idle) (subst (λ n. n ≤ vec_capacity c.reserve_one.new.queue) c.prepare.ensures.capacity c.reserve_one.ensures.wide)),
+          (tallies_wider _ n blocks _ _ _ _ _ _ c.self.invariant.4 c.reserve_one.ensures.queue c.reserve_one.ensures.wide),
       (rw (← c.as_slice.ensures) above, rw made.gates tt),
       rw made.block (room_in_list c.self.inside.lists.items c.args.block.0 c.reserve.new.self (let i = inside in omega (arith, i, lists, ap (λ x. x) made.block)) (omega (arith, free))),
     )
@@ -183,17 +180,3 @@ returns-clause-prepared c =
     let still : nodes_of c.reserve_above.new.heads.items ≡ nodes_of heads = c.reserve_above.ensures.nodes ∙ ap nodes_of c.reserve_one.ensures.heads in
     let made = c.in-Ok.ensures in
     rw (← c.self.view_is, same_patches c.reserve_above.new.heads.items heads still, made.block, made.span, made.names, made.gates) refl
-
-pub prepare-requires-clause-disk : goal.prepare-requires-clause-disk
-prepare-requires-clause-disk c = rw c.deref-2.ensures.value c.self.invariant.0.lawful.on_disk_with_all
-
-pub prepare-requires-clause-settled : goal.prepare-requires-clause-settled
-prepare-requires-clause-settled c =
-    let T = c.self.invariant.4 in
-    rw (c.deref-4.ensures.value, c.deref-2.ensures.value) (subst (AreSettled (nodes_of c.self.inside.heads.items)) (sym T.standing.long) T.settled)
-
-pub prepare-requires-clause-standing : goal.prepare-requires-clause-standing
-prepare-requires-clause-standing c =
-    let T = c.self.invariant.4 in
-    let standings = c.self.inside.standings.items in
-    rw (c.deref-4.ensures.value, c.deref-2.ensures.value) (subst (λ n. AllStand (nodes_of c.self.inside.heads.items) n standings) (sym T.standing.long) T.standing)

@@ -70,7 +70,7 @@ overflow_sub-self c =
     let T = c.self.invariant.4 in
     let long : c.self.inside.standings.len ≡ c.self.inside.blocks = omega (arith, T.standing.long, c.self.inside.standings.ok.0) in
     let settled = subst (AreSettled (nodes_of new)) long c.cascade-landed.ensures.settled in
-    landed_few c.self.inside.heads.items c.seal_slot.new.heads.items new (at_number c.args.gate.0 seals) c.self.inside.blocks c.self.inside.live c.cascade-landed.result c.self.inside.reached.items c.seal_slot.ensures.nodes (sealed_told c.args.gate.0) T.settled settled
+    landed_few c.self.inside.heads.items c.seal_slot.new.heads.items new (at_number c.args.gate.0 seals) c.self.inside.blocks c.self.inside.live c.cascade-landed.result c.self.inside.walks.crossed.items c.seal_slot.ensures.nodes (sealed_told c.args.gate.0) T.settled settled
     c.cascade-landed.ensures.landed c.self.invariant.3
 
 pub invariant_of-self-2 : goal.invariant_of-self-2
@@ -92,13 +92,13 @@ invariant_of-self-2 c =
     ap (map unsettled) (seen c.seal_slot.new.heads.items _ c.seal_slot.ensures.nodes) ∙ (unsettled_sealed nodes g ∙ ap (λ ps. map unsettled (map (sealed g) ps)) (patches_in_nodes heads)) in
     let cascade : IsCascadeOf (map (sealed g) old) (patches_of new) = record { same = placed.same ∙ was; places = placed.places; settled = placed.settled } in
     let spread : IsSpreadOf (map (at_number g seals) nodes) (nodes_of new) = subst (λ ns. IsSpreadOf ns (nodes_of new)) c.seal_slot.ensures.nodes c.cascade-landed.ensures.spread in
-    let kept = keeps_sealed old (patches_of new) n blocks g c.self.inside.marks.items c.self.inside.marks.items K open_gate cascade refl in
+    let kept = keeps_sealed old (patches_of new) n blocks g c.self.inside.walks.walk.marks c.self.inside.walks.walk.marks K open_gate cascade refl in
     let settled = subst (AreSettled (nodes_of new)) long c.cascade-landed.ensures.settled in
     let standing = subst (λ k. AllStand (nodes_of new) k c.cascade-landed.new.standings.items) long c.cascade-landed.ensures.standing in (
       kept,
       tt,
       tt,
-      beside_landed heads c.seal_slot.new.heads.items new (at_number g seals) blocks c.self.inside.live c.cascade-landed.result c.self.inside.reached.items c.seal_slot.ensures.nodes (sealed_told g) T.settled settled c.cascade-landed.ensures.landed c.self.invariant.3,
+      beside_landed heads c.seal_slot.new.heads.items new (at_number g seals) blocks c.self.inside.live c.cascade-landed.result c.self.inside.walks.crossed.items c.seal_slot.ensures.nodes (sealed_told g) T.settled settled c.cascade-landed.ensures.landed c.self.invariant.3,
       rw (c.cascade-landed.ensures.empty, c.cascade-landed.ensures.capacity, c.seal_slot.ensures.capacity)
           (tallies_sealed nodes (nodes_of new) n blocks _ _ _ _ _ g (lawful_nodes heads n K.lawful) (lawful_nodes new n kept.lawful) T gate spread settled standing),
       tt,

@@ -37,3 +37,6 @@ returns-clause-kept c =
     let met = c.self.inside.met.items in
     let same : c.retain.new.self.items ≡ filter t met = filter_from_test _ t _ (λ n b g called. (search rules, search rules)) _ _ c.retain.ensures.filtered in
     same ∙ ap (λ (w : Trail). filter t w.met) c.self.view_is
+
+pub returns-clause-inside : goal.returns-clause-inside
+returns-clause-inside c s h = rw (← c.self.view_is) (met_inside c.self.inside.marks.items c.self.inside.met.items c.self.invariant.marked s (subst (λ (w : Trail). Contains w.met s) (sym c.self.view_is) h))

@@ -1,4 +1,4 @@
-use Rattle.std.proofs.Common.{◌<◌, ◌∙◌, length, sym, subst, refl, inl, arith, length-set, true}
+use Rattle.std.proofs.Common.{◌<◌, length, sym, subst, refl, inl, arith, length-set, true}
 use Rattle.fst_walks.specs.Walks.{Trail}
 use Rattle.fst_walks.proofs.Trails.{marked_push, once_push, room_to_meet, mark_of_slot}
 use Rattle.fst_walks.proofs.walk.Walk.meet.Goals as goal

@@ -1,0 +1,23 @@
+-- What walks look at is as it should be.
+use Rattle.std.specs.Prelude.{length, map}
+use Rattle.fst_types.specs.Closure.{IsAcyclic}
+use Rattle.fst_types.specs.Dependencies.{DirectlyOn}
+use Rattle.fst_types.specs.Facts.{IsOnDiskWithAll, HardNeverHold}
+use Rattle.fst_heads.specs.Heads.{IsRising, patches_of}
+use Rattle.fst_heads.specs.Keeps.{IsInside}
+use Rattle.fst_heads.specs.Lists.{entries_of, AreListed}
+use Rattle.fst_heads.specs.Nodes.{nodes_of, AreLinked, AreSettled}
+use Rattle.fst_heads.specs.Standings.{AllStand}
+use Rattle.fst_walks.specs.declared.sight.Sight.{Sight}
+
+-- the patches are as the definitions want them, and what stands beside them tells of them
+pub record Sees (sight : Sight) : Type 0 where
+  pub rising : IsRising sight.heads.now
+  pub inside : IsInside (patches_of sight.heads.now) (length sight.lists.now)
+  pub disk : IsOnDiskWithAll (patches_of sight.heads.now)
+  pub hard : HardNeverHold (patches_of sight.heads.now)
+  pub acyclic : IsAcyclic (DirectlyOn (patches_of sight.heads.now))
+  pub linked : AreLinked (nodes_of sight.heads.now)
+  pub settled : AreSettled (nodes_of sight.heads.now) (length sight.standings.now)
+  pub listed : AreListed (patches_of sight.heads.now) (length sight.lists.now) (map (λ l. entries_of l.items) sight.lists.now)
+  pub standing : AllStand (nodes_of sight.heads.now) (length sight.standings.now) sight.standings.now
