@@ -1,8 +1,9 @@
-use Rattle.std.proofs.Common.{◌≡◌, ◌↔◌, ◌&&◌, ◌∙◌, ℕ, Bool, true, get_or, subst, arith}
+use Rattle.std.proofs.Common.{length, IfSome, option_map, sym, ap, ◌≡◌, ◌↔◌, ◌&&◌, ◌∙◌, ℕ, Bool, true, get_or, subst, arith}
 use Rattle.fst_types.specs.Dependencies.{IsLiveNumber}
 use Rattle.fst_heads.specs.Ascending.{IsBehind}
-use Rattle.fst_heads.specs.Heads.{patches_of}
-use Rattle.fst_heads.specs.Marks.{mark_of}
+use Rattle.std.proofs.lemmas.List.{length-map}
+use Rattle.fst_heads.specs.Heads.{patch_of, patches_of}
+use Rattle.fst_heads.specs.Marks.{mark_in, mark_of}
 use Rattle.fst_heads.specs.Nodes.{nodes_of}
 use Rattle.fst_heads.proofs.AtNumber.{patches_in_nodes}
 use Rattle.fst_walks.proofs.Behind.{pending_live}
@@ -33,7 +34,7 @@ pub mark_flight-flying-requires-clause-linked : goal.mark_flight-flying-requires
 mark_flight-flying-requires-clause-linked c = rw c.deref-2.ensures.value c.self.invariant.4.linked
 
 pub first_held-requires-clause-rising : goal.first_held-requires-clause-rising
-first_held-requires-clause-rising c = rw c.deref-5.ensures.value (rising_heads c.self.inside.heads.items c.self.invariant.0.lawful.one_place_each.rising)
+first_held-requires-clause-rising c = rw c.deref-6.ensures.value (rising_heads c.self.inside.heads.items c.self.invariant.0.lawful.one_place_each.rising)
 
 pub first_held-requires-clause-listed : goal.first_held-requires-clause-listed
 first_held-requires-clause-listed c =
@@ -43,8 +44,17 @@ first_held-requires-clause-listed c =
     let list = c.in-Some.list.now in
     let lt = c.in-Some.ensures.lookup.3.0 in
     let many = shelves (nodes_of s.heads.items) s.blocks s.lists.items c.deref.result.now listed c.deref.ensures.value in
-    rw (c.deref-6.ensures.value, c.deref-5.ensures.value)
+    rw (c.deref-7.ensures.value, c.deref-6.ensures.value)
     (listed_at s.heads.items s.blocks b s.lists.items list listed (omega (arith, lt, many)) (subst (λ ls. list ≡ get_or ls b list) c.deref.ensures.value c.in-Some.ensures.lookup.1))
+
+pub first_held-requires-clause-long : goal.first_held-requires-clause-long
+first_held-requires-clause-long c =
+    let heads = c.self.inside.heads.items in
+    let as_many = c.self.invariant.0.marked in
+    let patches = length-map heads patch_of in
+    let same : length c.deref-5.result.now ≡ length c.deref-6.result.now =
+    omega (arith, as_many, patches, ap length c.deref-6.ensures.value, c.deref-5.ensures.len, c.deref_mut.ensures.len, c.mark_flight-flying.auto.marks, c.self.inside.marks.ok.0) in
+    subst (λ k. IfSome c.marks_if-marks.result (λ m. length m.now ≡ k)) same c.marks_if-marks.ensures.long
 
 pub returns-in_default-clause-none : goal.returns-in_default-clause-none
 returns-in_default-clause-none c =
@@ -59,12 +69,13 @@ returns-clause-none c =
     let heads = s.heads.items in
     let b = c.args.block.0 in
     let marks = c.mark_flight-flying.new.marks in
-    let back = c.deref-7.ensures.value ∙ replaced s.marks.items marks s.marks.len (omega (arith, s.marks.ok.0, c.mark_flight-flying.auto.marks, c.deref_mut.ensures.len)) in
-    let behind : ℕ → Bool = λ n. c.mark_flight-flying.result && mark_of heads marks n in
-    let exact : (n : ℕ) → (behind n ≡ true) ↔ IsBehind (nodes_of heads) b n = rw (← c.deref-2.ensures.value) c.mark_flight-flying.ensures.behind in
+    let back = c.deref-5.ensures.value ∙ replaced s.marks.items marks s.marks.len (omega (arith, s.marks.ok.0, c.mark_flight-flying.auto.marks, c.deref_mut.ensures.len)) in
+    let behind : ℕ → Bool = mark_in heads (option_map (λ m. m.now) c.marks_if-marks.result) in
+    let exact : (n : ℕ) → (behind n ≡ true) ↔ IsBehind (nodes_of heads) b n = λ n.
+    subst (λ t. (t ≡ true) ↔ IsBehind (nodes_of heads) b n) (sym (c.marks_if-marks.ensures.marks heads n ∙ ap (λ k. c.mark_flight-flying.result && mark_of heads k n) back)) (rw (← c.deref-2.ensures.value) (c.mark_flight-flying.ensures.behind n)) in
     rw (← c.self.view_is)
     (none_held heads s.numbers s.blocks s.marks.items _ s.standings.items s.queue.items s.queue.cap b c.self.invariant.0 c.self.invariant.4 behind exact c.first_held.result
-    (rw (← c.deref-5.ensures.value, ← back) c.first_held.ensures.none))
+    (rw (← c.deref-6.ensures.value) c.first_held.ensures.none))
 
 pub returns-clause-least : goal.returns-clause-least
 returns-clause-least c =
@@ -72,9 +83,10 @@ returns-clause-least c =
     let heads = s.heads.items in
     let b = c.args.block.0 in
     let marks = c.mark_flight-flying.new.marks in
-    let back = c.deref-7.ensures.value ∙ replaced s.marks.items marks s.marks.len (omega (arith, s.marks.ok.0, c.mark_flight-flying.auto.marks, c.deref_mut.ensures.len)) in
-    let behind : ℕ → Bool = λ n. c.mark_flight-flying.result && mark_of heads marks n in
-    let exact : (n : ℕ) → (behind n ≡ true) ↔ IsBehind (nodes_of heads) b n = rw (← c.deref-2.ensures.value) c.mark_flight-flying.ensures.behind in
+    let back = c.deref-5.ensures.value ∙ replaced s.marks.items marks s.marks.len (omega (arith, s.marks.ok.0, c.mark_flight-flying.auto.marks, c.deref_mut.ensures.len)) in
+    let behind : ℕ → Bool = mark_in heads (option_map (λ m. m.now) c.marks_if-marks.result) in
+    let exact : (n : ℕ) → (behind n ≡ true) ↔ IsBehind (nodes_of heads) b n = λ n.
+    subst (λ t. (t ≡ true) ↔ IsBehind (nodes_of heads) b n) (sym (c.marks_if-marks.ensures.marks heads n ∙ ap (λ k. c.mark_flight-flying.result && mark_of heads k n) back)) (rw (← c.deref-2.ensures.value) (c.mark_flight-flying.ensures.behind n)) in
     rw (← c.self.view_is)
     (least_held heads s.numbers s.blocks s.marks.items _ s.standings.items s.queue.items s.queue.cap b c.self.invariant.0 c.self.invariant.4 behind exact c.first_held.result
-    (rw (← c.deref-5.ensures.value, ← back) c.first_held.ensures.least))
+    (rw (← c.deref-6.ensures.value) c.first_held.ensures.least))
