@@ -25,11 +25,11 @@ use fst_heads::growth::{gain, missing_names};
 use fst_heads::head::{Head, Kind};
 use fst_heads::links::{link, reserve_above};
 use fst_heads::lists::{Listed, empty_lists, land_block};
-use fst_heads::marks::slot_of;
+use fst_heads::marks::{marks_if, slot_of};
 use fst_heads::pending::{Pending, no_sums};
 use fst_heads::places::{block_of, keep_live, launch_all, weight};
 use fst_heads::row::{is_given, live_named, row_sums};
-use fst_heads::standing::{Standing, empty_standings, land_at, least_marked};
+use fst_heads::standing::{Standing, empty_standings, land_at, least_marked, ready_count};
 use fst_types::{BlockNo, Fault, PatchNo, Place, Shape};
 use fst_walks::ascent::mark_flight;
 use fst_walks::block_walk::BlockWalk;
@@ -250,8 +250,9 @@ impl Patches {
         };
         let walk = &mut self.walks.walk;
         let flying = mark_flight(&self.heads, list, &self.standings, walk, block.0);
-        let marks = self.walks.walk.marks();
-        ready_set(self.alloc, &self.heads, list, marks, flying, block.0)
+        let marks = marks_if(flying, self.walks.walk.marks());
+        let most = ready_count(&self.standings, block.0);
+        ready_set(self.alloc, &self.heads, list, marks, most, block.0)
     }
 
     /// Seals an open gate, and puts on disk what now rests there. It is refused as `NoPatch` where the number was not
@@ -359,8 +360,8 @@ impl Patches {
         };
         let walk = &mut self.walks.walk;
         let flying = mark_flight(&self.heads, list, &self.standings, walk, block.0);
-        let marks = self.walks.walk.marks();
-        first_held(&self.heads, list, marks, flying, block.0)
+        let marks = marks_if(flying, self.walks.walk.marks());
+        first_held(&self.heads, list, marks, block.0)
     }
 
     /// The least writable block, or none where no block is writable. Where nothing is in flight either, each change in

@@ -1,5 +1,5 @@
 -- Marks on heads.
-use Rattle.std.specs.Prelude.{◌≡◌, ◌≢◌, ◌<◌, ◌⊎◌, ◌==◌, ◌&&◌, ◌||◌, ℕ, Bool, true, false, List, [], ◌∷◌, length, All, Contains, slice_index_or}
+use Rattle.std.specs.Prelude.{◌≡◌, ◌≢◌, ◌<◌, ◌⊎◌, ◌==◌, ◌&&◌, ◌||◌, ℕ, Bool, true, false, List, [], ◌∷◌, Option, None, Some, length, All, Contains, slice_index_or}
 use Rattle.fst_types.specs.Patches.{Patch}
 use Rattle.fst_types.specs.Dependencies.{DirectlyOn, DependsOn}
 use Rattle.fst_heads.specs.declared.head.Head.{Head}
@@ -58,3 +58,8 @@ abbrev pub mark_of : List Head → List Bool → ℕ → Bool
 mark_of [] marks n = false
 mark_of (h ∷ hs) [] n = false
 mark_of (h ∷ hs) (m ∷ ms) n = ((h.number == n) && m) || mark_of hs ms n
+
+-- the same where marks are given, and false where none are
+abbrev pub mark_in : List Head → Option (List Bool) → ℕ → Bool
+mark_in heads None n = false
+mark_in heads (Some marks) n = mark_of heads marks n

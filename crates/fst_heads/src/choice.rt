@@ -1,6 +1,6 @@
 //! Which changes of a block may be written, by the list of the block.
 
-ghost use Rattle.std.specs.Prelude.{◌<◌, ◌∷◌, [], ℕ, List, ◌≡◌, ◌&&◌, ◌||◌, not, length, IfOk, IfErr, IfSome, IfNone};
+ghost use Rattle.std.specs.Prelude.{◌<◌, ◌≤◌, ◌∷◌, [], ℕ, List, ◌≡◌, ◌&&◌, ◌||◌, not, length, IfOk, IfErr, IfSome, IfNone, option_map};
 ghost use Rattle.fst_types.specs.declared.fault.Fault.TheVariants as fault;
 ghost use Rattle.fst_types.specs.declared.place.Place.TheVariants as place;
 ghost use Rattle.fst_types.specs.Tests.{is_change_at};
@@ -9,7 +9,7 @@ ghost use Rattle.fst_heads.specs.Ascending.{free_on, bound_on};
 ghost use Rattle.fst_heads.specs.Heads.{IsRising, kind_of, patch_of, patches_of};
 ghost use Rattle.fst_heads.specs.Names.{numbers_of};
 ghost use Rattle.fst_heads.specs.Lists.{entries_of, entries_on};
-ghost use Rattle.fst_heads.specs.Marks.{mark_of};
+ghost use Rattle.fst_heads.specs.Marks.{mark_in};
 ghost use Rattle.fst_heads.specs.Nodes.{node_of, nodes_of};
 ghost use Rattle.fst_heads.specs.Pendings.{is_pending};
 ghost use Rattle.fst_heads.specs.Standings.{is_ready_on};
@@ -23,13 +23,16 @@ use crate::places::is_change_at;
 use fst_types::{Fault, Grade, PatchNo, Place};
 use std::alloc::Global;
 
-// Whether the number is that of a marked patch, where something of the block is in flight.
-fn is_behind(heads: &[Head], marks: &[bool], flying: bool, number: u32) -> bool
+// Whether the number is that of a marked patch, where marks are given.
+fn is_behind(heads: &[Head], marks: Option<&[bool]>, number: u32) -> bool
     requires rising { IsRising heads.now }
-    requires long { length marks.now ≡ length heads.now }
-    ensures { result ≡ (flying && mark_of heads.now marks.now number) }
+    requires long { IfSome marks (λ m. length m.now ≡ length heads.now) }
+    ensures { result ≡ mark_in heads.now (option_map (λ m. m.now) marks.entry) number }
 {
-    flying && is_marked(heads, marks, number)
+    match marks {
+        Some(marks) => is_marked(heads, marks, number),
+        None => false,
+    }
 }
 
 // Whether the patch is a change of the block in memory that waits for changes of the block alone, and is not behind a
@@ -43,25 +46,30 @@ fn is_free(head: &Head, behind: bool, block: u32) -> bool
 }
 
 /// The writable set of a block. The list has the changes of the block that are not on disk; where some are in flight,
-/// what is behind them is marked.
+/// there are marks of what is behind them. The set has at most so many changes: where they are found, no others are
+/// looked at.
 pub fn ready_set(
     alloc: Global,
     heads: &[Head],
     list: &[Listed],
-    marks: &[bool],
-    flying: bool,
+    marks: Option<&[bool]>,
+    most: usize,
     block: u32,
 ) -> Result<Vec<PatchNo>, Fault>
     requires rising { IsRising heads.now }
-    requires long { length marks.now ≡ length heads.now }
+    requires long { IfSome marks (λ m. length m.now ≡ length heads.now) }
     requires listed { entries_of list.now ≡ entries_on block (patches_of heads.now) }
-    ensures ok { IfOk result (λ numbers. numbers_of numbers.items ≡ free_on (λ n. flying && mark_of heads.now marks.now n) block (nodes_of heads.now)) }
-    ensures refused { IfErr result (λ f. (0 < length (free_on (λ n. flying && mark_of heads.now marks.now n) block (nodes_of heads.now))) × (f ≡ fault.Memory)) }
+    requires most { length (free_on (mark_in heads.now (option_map (λ m. m.now) marks)) block (nodes_of heads.now)) ≤ most }
+    ensures ok { IfOk result (λ numbers. numbers_of numbers.items ≡ free_on (mark_in heads.now (option_map (λ m. m.now) marks.entry)) block (nodes_of heads.now)) }
+    ensures refused { IfErr result (λ f. (0 < length (free_on (mark_in heads.now (option_map (λ m. m.now) marks.entry)) block (nodes_of heads.now))) × (f ≡ fault.Memory)) }
 {
     let mut numbers = Vec::new(alloc);
     for listed in list {
+        if numbers.len() == most {
+            return Ok(numbers);
+        }
         if let Some(slot) = slot_of(heads, listed.number) {
-            let behind = is_behind(heads, marks, flying, listed.number);
+            let behind = is_behind(heads, marks, listed.number);
             if is_free(&heads[slot], behind, block) {
                 let Ok(()) = numbers.push(PatchNo(listed.number)) else {
                     return Err(Fault::Memory);
@@ -82,23 +90,22 @@ fn is_bound(head: &Head, behind: bool, block: u32) -> bool
 }
 
 /// The least hard patch of the block in memory outside its writable set. The list has the changes of the block that are
-/// not on disk; where some are in flight, what is behind them is marked.
+/// not on disk; where some are in flight, there are marks of what is behind them.
 pub fn first_held(
     heads: &[Head],
     list: &[Listed],
-    marks: &[bool],
-    flying: bool,
+    marks: Option<&[bool]>,
     block: u32,
 ) -> Option<PatchNo>
     requires rising { IsRising heads.now }
-    requires long { length marks.now ≡ length heads.now }
+    requires long { IfSome marks (λ m. length m.now ≡ length heads.now) }
     requires listed { entries_of list.now ≡ entries_on block (patches_of heads.now) }
-    ensures none { IfNone result (bound_on (λ n. flying && mark_of heads.now marks.now n) block (nodes_of heads.now) ≡ []) }
-    ensures least { IfSome result (λ no. (rest : List ℕ) × (bound_on (λ n. flying && mark_of heads.now marks.now n) block (nodes_of heads.now) ≡ no.0 ∷ rest)) }
+    ensures none { IfNone result (bound_on (mark_in heads.now (option_map (λ m. m.now) marks.entry)) block (nodes_of heads.now) ≡ []) }
+    ensures least { IfSome result (λ no. (rest : List ℕ) × (bound_on (mark_in heads.now (option_map (λ m. m.now) marks.entry)) block (nodes_of heads.now) ≡ no.0 ∷ rest)) }
 {
     for listed in list {
         if let Some(slot) = slot_of(heads, listed.number) {
-            let behind = is_behind(heads, marks, flying, listed.number);
+            let behind = is_behind(heads, marks, listed.number);
             if is_bound(&heads[slot], behind, block) {
                 return Some(PatchNo(listed.number));
             }

@@ -13,15 +13,16 @@ pub enum Kind {
     SealedGate,
 }
 
-/// A patch that is not forgotten, with the numbers that it directly depends on and how those add up, what is pending of
-/// it as its dependants know it, and the numbers of the patches that directly depend on it.
+/// A patch that is not forgotten, with what is pending of it as its dependants know it, the numbers of the patches that
+/// directly depend on it, and the numbers that it directly depends on and how those add up. What is read of each change of
+/// a block to find what may be written stands first, and so lies together.
 #[derive(Drop)]
 pub struct Head {
     pub number: u32,
     pub kind: Kind,
     pub place: Place,
-    pub dependencies: SmallVec<u32, 4>,
-    pub sums: Sums,
     pub pending: Pending,
     pub dependants: SmallVec<u32, 4>,
+    pub dependencies: SmallVec<u32, 4>,
+    pub sums: Sums,
 }

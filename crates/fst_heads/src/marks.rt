@@ -1,8 +1,9 @@
 //! Marks on heads.
 
-ghost use Rattle.std.specs.Prelude.{◌≡◌, ◌↔◌, ℕ, length, IsTrue, IfSome, IfNone, Contains};
+ghost use Rattle.std.specs.Prelude.{◌≡◌, ◌↔◌, ◌&&◌, ℕ, List, length, IsTrue, IfSome, IfNone, Contains, option_map};
+ghost use Rattle.fst_heads.specs.declared.head.Head.{Head};
 ghost use Rattle.fst_heads.specs.Heads.{IsRising};
-ghost use Rattle.fst_heads.specs.Marks.{HasSlot, HasNone, Has};
+ghost use Rattle.fst_heads.specs.Marks.{HasSlot, HasNone, Has, mark_in, mark_of};
 
 use crate::head::Head;
 
@@ -66,4 +67,12 @@ pub fn names_marked(heads: &[Head], marks: &[bool], row: &[u32]) -> bool
         }
     }
     false
+}
+
+/// The marks, where they are to be looked at.
+pub fn marks_if(wanted: bool, marks: &[bool]) -> Option<&[bool]>
+    ensures marks { (heads : List Head) (n : ℕ) → mark_in heads (option_map (λ m. m.now) result) n ≡ (wanted && mark_of heads marks.now n) }
+    ensures long { IfSome result (λ m. length m.now ≡ length marks.now) }
+{
+    if wanted { Some(marks) } else { None }
 }

@@ -86,6 +86,16 @@ pub fn is_resting(standings: &[Standing], block: u32) -> bool
     }
 }
 
+/// How many changes of the block in memory wait for changes of the block alone.
+pub fn ready_count(standings: &[Standing], block: u32) -> usize
+    ensures { (d : Standing) → block < length standings.now → result ≡ (slice_index_or standings.now block d).ready }
+{
+    match standings.get(block as usize) {
+        Some(standing) => standing.ready,
+        None => 0,
+    }
+}
+
 /// The least block whose mark is true.
 pub fn least_marked(standings: &[Standing]) -> Option<BlockNo>
     requires { length standings.now ≤ 4294967296 }

@@ -107,10 +107,10 @@ fn send_others<W: Write>(
 fn send_hex<W: Write>(writer: &mut W, calls: &mut u64, bytes: &[u8]) -> Result<(), Stopped>
     ensures { Sends (W.contents writer.old) (W.contents writer.new) result (encode_lower bytes.now) }
 {
-    let mut text = [0u8; 64];
+    let mut text = [0u8; 256];
     let mut at = 0;
     while at < bytes.len() {
-        let end = bytes.len().min(at + 32);
+        let end = bytes.len().min(at + 128);
         let part = &mut text[..2 * (end - at)];
         hex::encode_to_slice(&bytes[at..end], part).unwrap();
         send(writer, calls, part)?;

@@ -27,7 +27,7 @@ pub enum PlayFault {
 /// the writer is flushed before the reader is asked for more: whoever waits for a reply has it, also where the writer is a
 /// `BufWriter`. The reader and the writer are called at most 18,446,744,073,709,551,615 times each. Memory is taken for the
 /// player, for the line that is read, and for what it asks; a line for which memory is refused is answered so, and the play
-/// goes on.
+/// goes on. What the longest line took is kept for those after it.
 pub fn play<R: Read, W: Write>(
     alloc: Global,
     reader: &mut R,

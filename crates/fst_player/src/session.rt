@@ -31,7 +31,7 @@ impl Session {
         }
     }
 
-    // Answers the line, which has ended.
+    // Answers the line, which has ended. The next one is kept where it was.
     fn end_line<W: Write>(
         &mut self,
         alloc: Global,
@@ -41,8 +41,10 @@ impl Session {
         ensures line { Holds self.new.line [] }
         ensures answered { Answered self.old.player self.old.line (W.contents writer.old) (W.contents writer.new) result self.new.player }
     {
-        let line = std::mem::replace(&mut self.line, Line::Kept(Vec::new(alloc)));
-        self.player.answer(alloc, writer, calls, &line)
+        let line = std::mem::replace(&mut self.line, Line::Long);
+        let answered = self.player.answer(alloc, writer, calls, &line);
+        self.line = line.clear(alloc);
+        answered
     }
 
     // Keeps one more byte of the line, if it is not too long and there is memory for it.

@@ -1,7 +1,7 @@
-use Rattle.std.proofs.Common.{◌∙◌, ◌+◌, ◌&&◌, ℕ, Bool, drop, get_or, sym}
+use Rattle.std.proofs.Common.{option_map, ◌∙◌, ◌+◌, ℕ, Bool, drop, get_or, sym}
 use Rattle.fst_heads.specs.declared.lists.Listed.{Listed}
 use Rattle.fst_heads.specs.Ascending.{is_bound_on}
-use Rattle.fst_heads.specs.Marks.{mark_of}
+use Rattle.fst_heads.specs.Marks.{mark_in}
 use Rattle.fst_heads.proofs.Passing.{passing, passing_start, passing_found, passing_skip, passing_absent, bound_at, bound_listed}
 use Rattle.fst_heads.proofs.choice.first_held.Goals as goal
 use Rattle.fst_heads.proofs.choice.first_held.Goals.{in-Some+else-is_bound, in_default}
@@ -9,7 +9,7 @@ use Rattle.fst_heads.proofs.choice.first_held.Goals.{in-Some+else-is_bound, in_d
 pub loop-listed-init : goal.loop-listed-init
 loop-listed-init c =
     let b = c.args.block in
-    let behind : ℕ → Bool = λ n. c.args.flying && mark_of c.args.heads.now c.args.marks.now n in
+    let behind : ℕ → Bool = mark_in c.args.heads.now (option_map (λ m. m.now) c.args.marks) in
     passing_start b (is_bound_on behind b) (bound_listed behind b) c.args.heads.now c.args.list.now c.requires.rising c.requires.listed
 
 pub returns-then-is_bound-clause-least : goal.returns-then-is_bound-clause-least
@@ -19,7 +19,7 @@ returns-then-is_bound-clause-least c =
     let list = c.args.list.now in
     let i = c.loop-listed.listed-index in
     let none : Listed = record { number = 0; span = record { at = 0; len = 0 } } in
-    let behind : ℕ → Bool = λ n. c.args.flying && mark_of heads c.args.marks.now n in
+    let behind : ℕ → Bool = mark_in heads (option_map (λ m. m.now) c.args.marks) in
     let found = c.in-Some.ensures.found in
     let passes = bound_at behind b c.index-heads-slot.result (get_or heads c.in-Some.slot c.index-heads-slot.result) (get_or list i none).number c.is_behind-behind.result c.is_bound.result c.index-heads-slot.is (found.1 c.index-heads-slot.result) c.is_behind-behind.ensures c.is_bound.ensures ∙ c.if-is_bound.true in (
       passing (is_bound_on behind b) heads (drop (i + 1) list),
@@ -33,7 +33,7 @@ loop-listed-preserved c =
     let list = c.args.list.now in
     let i = c.loop-listed.listed-index in
     let none : Listed = record { number = 0; span = record { at = 0; len = 0 } } in
-    let behind : ℕ → Bool = λ n. c.args.flying && mark_of heads c.args.marks.now n in
+    let behind : ℕ → Bool = mark_in heads (option_map (λ m. m.now) c.args.marks) in
     elim c.match-slot_of.branch [
       | in-Some+else-is_bound w ↦
           let found = w.in-Some.ensures.found in

@@ -1,9 +1,9 @@
-use Rattle.std.proofs.Common.{◌≡◌, ◌&&◌, drop}
+use Rattle.std.proofs.Common.{option_map, ◌≡◌, drop}
 use Rattle.fst_heads.specs.Ascending.{is_bound_on, bound_on}
-use Rattle.fst_heads.specs.Marks.{mark_of}
+use Rattle.fst_heads.specs.Marks.{mark_in}
 use Rattle.fst_heads.specs.Nodes.{nodes_of}
 use Rattle.fst_heads.proofs.Passing.{passing}
 use Rattle.fst_heads.proofs.choice.first_held.Given as goal
 
 abbrev pub invariant-loop-listed : goal.invariant-loop-listed
-invariant-loop-listed l = passing (is_bound_on (λ n. l.flying && mark_of l.heads l.marks n) l.block) l.heads (drop l.listed-index l.list) ≡ bound_on (λ n. l.flying && mark_of l.heads l.marks n) l.block (nodes_of l.heads)
+invariant-loop-listed l = passing (is_bound_on (mark_in l.heads (option_map (λ m. m.now) l.marks)) l.block) l.heads (drop l.listed-index l.list) ≡ bound_on (mark_in l.heads (option_map (λ m. m.now) l.marks)) l.block (nodes_of l.heads)

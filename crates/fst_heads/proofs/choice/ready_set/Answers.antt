@@ -1,8 +1,8 @@
-use Rattle.std.proofs.Common.{◌∙◌, ◌+◌, ◌++◌, ◌∷◌, ◌&&◌, ℕ, Bool, [], length, drop, get_or, append_assoc, length-append, ap, sym, refl, arith}
+use Rattle.std.proofs.Common.{option_map, ◌∙◌, ◌+◌, ◌++◌, ◌∷◌, ℕ, Bool, [], length, drop, get_or, append_assoc, length-append, ap, sym, refl, arith}
 use Rattle.fst_heads.specs.declared.lists.Listed.{Listed}
 use Rattle.fst_heads.specs.Ascending.{is_free_on}
 use Rattle.fst_heads.specs.Names.{numbers_of}
-use Rattle.fst_heads.specs.Marks.{mark_of}
+use Rattle.fst_heads.specs.Marks.{mark_in}
 use Rattle.std.proofs.lemmas.List.{map_push}
 use Rattle.fst_heads.proofs.Passing.{passing, passing_start, passing_found, passing_skip, passing_absent, free_at, free_listed}
 use Rattle.fst_heads.proofs.choice.ready_set.Goals as goal
@@ -11,7 +11,7 @@ use Rattle.fst_heads.proofs.choice.ready_set.Goals.{in-Some+then-is_free+in-Ok, 
 pub loop-listed-init : goal.loop-listed-init
 loop-listed-init c =
     let b = c.args.block in
-    let behind : ℕ → Bool = λ n. c.args.flying && mark_of c.args.heads.now c.args.marks.now n in
+    let behind : ℕ → Bool = mark_in c.args.heads.now (option_map (λ m. m.now) c.args.marks) in
     rw c.new-numbers.ensures.items (passing_start b (is_free_on behind b) (free_listed behind b) c.args.heads.now c.args.list.now c.requires.rising c.requires.listed)
 
 pub returns-in_default-push-clause-refused : goal.returns-in_default-push-clause-refused
@@ -21,7 +21,7 @@ returns-in_default-push-clause-refused c =
     let list = c.args.list.now in
     let i = c.loop-listed.listed-index in
     let none : Listed = record { number = 0; span = record { at = 0; len = 0 } } in
-    let behind : ℕ → Bool = λ n. c.args.flying && mark_of heads c.args.marks.now n in
+    let behind : ℕ → Bool = mark_in heads (option_map (λ m. m.now) c.args.marks) in
     let found = c.in-Some.ensures.found in
     let passes = free_at behind b c.index-heads-slot.result (get_or heads c.in-Some.slot c.index-heads-slot.result) (get_or list i none).number c.is_behind-behind.result c.is_free.result c.index-heads-slot.is (found.1 c.index-heads-slot.result) c.is_behind-behind.ensures c.is_free.ensures ∙ c.if-is_free.true in
     let next = passing_found (is_free_on behind b) heads list i none c.loop-listed-test.true c.in-Some.slot c.index-heads-slot.result c.requires.rising found passes in
@@ -37,7 +37,7 @@ loop-listed-preserved c =
     let list = c.args.list.now in
     let i = c.loop-listed.listed-index in
     let none : Listed = record { number = 0; span = record { at = 0; len = 0 } } in
-    let behind : ℕ → Bool = λ n. c.args.flying && mark_of heads c.args.marks.now n in
+    let behind : ℕ → Bool = mark_in heads (option_map (λ m. m.now) c.args.marks) in
     let before = numbers_of c.loop-listed.numbers.items in
     elim c.match-slot_of.branch [
       | in-Some+then-is_free+in-Ok w ↦

@@ -1,11 +1,11 @@
-use Rattle.std.proofs.Common.{◌≡◌, ◌++◌, ◌&&◌, drop}
+use Rattle.std.proofs.Common.{option_map, ◌≡◌, ◌++◌, drop}
 use Rattle.fst_heads.specs.Ascending.{is_free_on, free_on}
 use Rattle.fst_heads.specs.Names.{numbers_of}
-use Rattle.fst_heads.specs.Marks.{mark_of}
+use Rattle.fst_heads.specs.Marks.{mark_in}
 use Rattle.fst_heads.specs.Nodes.{nodes_of}
 use Rattle.fst_heads.proofs.Passing.{passing}
 use Rattle.fst_heads.proofs.choice.ready_set.Given as goal
 
 abbrev pub invariant-loop-listed : goal.invariant-loop-listed
 invariant-loop-listed l =
-    numbers_of l.numbers.items ++ passing (is_free_on (λ n. l.flying && mark_of l.heads l.marks n) l.block) l.heads (drop l.listed-index l.list) ≡ free_on (λ n. l.flying && mark_of l.heads l.marks n) l.block (nodes_of l.heads)
+    numbers_of l.numbers.items ++ passing (is_free_on (mark_in l.heads (option_map (λ m. m.now) l.marks)) l.block) l.heads (drop l.listed-index l.list) ≡ free_on (mark_in l.heads (option_map (λ m. m.now) l.marks)) l.block (nodes_of l.heads)

@@ -1,8 +1,9 @@
-use Rattle.std.proofs.Common.{◌≡◌, ◌↔◌, ◌&&◌, ℕ, Bool, true, get_or, subst, arith}
+use Rattle.std.proofs.Common.{length, IfSome, option_map, sym, ap, ◌∙◌, ◌≡◌, ◌↔◌, ◌&&◌, ℕ, Bool, true, get_or, subst, arith}
 use Rattle.fst_types.specs.Dependencies.{IsLiveNumber}
 use Rattle.fst_heads.specs.Ascending.{IsBehind}
-use Rattle.fst_heads.specs.Heads.{patches_of}
-use Rattle.fst_heads.specs.Marks.{mark_of}
+use Rattle.std.proofs.lemmas.List.{length-map}
+use Rattle.fst_heads.specs.Heads.{patch_of, patches_of}
+use Rattle.fst_heads.specs.Marks.{mark_in, mark_of}
 use Rattle.fst_heads.specs.Nodes.{nodes_of}
 use Rattle.fst_heads.proofs.AtNumber.{patches_in_nodes}
 use Rattle.fst_walks.proofs.Behind.{pending_live}
@@ -46,6 +47,15 @@ first_held-requires-clause-listed c =
     rw (c.deref-6.ensures.value, c.deref-5.ensures.value)
     (listed_at s.heads.items s.blocks b s.lists.items list listed (omega (arith, lt, many)) (subst (λ ls. list ≡ get_or ls b list) c.deref.ensures.value c.in-Some.ensures.lookup.1))
 
+pub first_held-requires-clause-long : goal.first_held-requires-clause-long
+first_held-requires-clause-long c =
+    let heads = c.self.inside.heads.items in
+    let as_many = c.self.invariant.0.marked in
+    let patches = length-map heads patch_of in
+    let same : length c.marks.result.now ≡ length c.deref-5.result.now =
+    omega (arith, as_many, patches, ap length c.deref-5.ensures.value, ap length c.deref-2.ensures.value, ap length c.marks.ensures.marks, c.mark_flight-flying.ensures.long) in
+    subst (λ k. IfSome c.marks_if-marks.result (λ m. length m.now ≡ k)) same c.marks_if-marks.ensures.long
+
 pub returns-in_default-clause-none : goal.returns-in_default-clause-none
 returns-in_default-clause-none c =
     let s = c.self.inside in
@@ -59,12 +69,13 @@ returns-clause-none c =
     let heads = s.heads.items in
     let b = c.args.block.0 in
     let marks = c.mark_flight-flying.new.walk.marks in
-    let back = c.marks-marks.ensures.marks in
-    let behind : ℕ → Bool = λ n. c.mark_flight-flying.result && mark_of heads marks n in
-    let exact : (n : ℕ) → (behind n ≡ true) ↔ IsBehind (nodes_of heads) b n = rw (← c.deref-2.ensures.value) c.mark_flight-flying.ensures.behind in
+    let back = c.marks.ensures.marks in
+    let behind : ℕ → Bool = mark_in heads (option_map (λ m. m.now) c.marks_if-marks.result) in
+    let exact : (n : ℕ) → (behind n ≡ true) ↔ IsBehind (nodes_of heads) b n = λ n.
+    subst (λ t. (t ≡ true) ↔ IsBehind (nodes_of heads) b n) (sym (c.marks_if-marks.ensures.marks heads n ∙ ap (λ k. c.mark_flight-flying.result && mark_of heads k n) back)) (rw (← c.deref-2.ensures.value) (c.mark_flight-flying.ensures.behind n)) in
     rw (← c.self.view_is)
     (none_held heads s.numbers s.blocks s.walks.walk.marks _ s.standings.items s.queue.items s.queue.cap b c.self.invariant.0 c.self.invariant.4 behind exact c.first_held.result
-    (rw (← c.deref-5.ensures.value, ← back) c.first_held.ensures.none))
+    (rw (← c.deref-5.ensures.value) c.first_held.ensures.none))
 
 pub returns-clause-least : goal.returns-clause-least
 returns-clause-least c =
@@ -72,9 +83,10 @@ returns-clause-least c =
     let heads = s.heads.items in
     let b = c.args.block.0 in
     let marks = c.mark_flight-flying.new.walk.marks in
-    let back = c.marks-marks.ensures.marks in
-    let behind : ℕ → Bool = λ n. c.mark_flight-flying.result && mark_of heads marks n in
-    let exact : (n : ℕ) → (behind n ≡ true) ↔ IsBehind (nodes_of heads) b n = rw (← c.deref-2.ensures.value) c.mark_flight-flying.ensures.behind in
+    let back = c.marks.ensures.marks in
+    let behind : ℕ → Bool = mark_in heads (option_map (λ m. m.now) c.marks_if-marks.result) in
+    let exact : (n : ℕ) → (behind n ≡ true) ↔ IsBehind (nodes_of heads) b n = λ n.
+    subst (λ t. (t ≡ true) ↔ IsBehind (nodes_of heads) b n) (sym (c.marks_if-marks.ensures.marks heads n ∙ ap (λ k. c.mark_flight-flying.result && mark_of heads k n) back)) (rw (← c.deref-2.ensures.value) (c.mark_flight-flying.ensures.behind n)) in
     rw (← c.self.view_is)
     (least_held heads s.numbers s.blocks s.walks.walk.marks _ s.standings.items s.queue.items s.queue.cap b c.self.invariant.0 c.self.invariant.4 behind exact c.first_held.result
-    (rw (← c.deref-5.ensures.value, ← back) c.first_held.ensures.least))
+    (rw (← c.deref-5.ensures.value) c.first_held.ensures.least))
