@@ -1,7 +1,5 @@
-//! A thousand lines that are nearly right: good lines of every command, and in every second one a byte that is another,
+//! A thousand lines, good ones of every command, each once as it is and once nearly right: with a byte that is another,
 //! left out, or there twice. Each gets one reply of those that there are, and the player counts what was accepted.
-
-ghost use Rattle.std.specs.Prelude.{◌<◌};
 
 use crate::play::play;
 use crate::tests::shape_of;
@@ -37,7 +35,7 @@ const GOOD: &[&str] = &[
     r#"{ "on" : [ 1 ] , "gate" : 12 , "do" : "depend" }"#,
 ];
 
-const ROUNDS: u32 = 40;
+const ROUNDS: u32 = 20;
 
 // How each reply begins, but for refusals.
 const REPLIES: &[&str] = &[
@@ -94,32 +92,30 @@ struct Dice {
 }
 
 impl Dice {
-    fn roll(&mut self, sides: u32) -> u32
-        requires { 0 < sides }
-    {
+    fn roll(&mut self, sides: usize) -> usize {
         self.state = self
             .state
             .wrapping_mul(1_664_525)
             .wrapping_add(1_013_904_223);
-        (self.state >> 8) % sides
+        ((self.state >> 8) as usize).checked_rem(sides).unwrap_or(0)
     }
 
-    // Any byte but the end of a line, and mostly one that lines have.
+    // Mostly a byte that lines have, and else any but the end of a line.
     fn sign(&mut self) -> u8 {
-        let any = self.roll(256);
-        if any < 32 && any != 10 {
-            return any as u8;
+        let any = self.state.to_le_bytes()[3];
+        if self.roll(4) == 0 && any != b'\n' {
+            return any;
         }
-        match SIGNS.get(self.roll(32) as usize) {
+        match SIGNS.get(self.roll(SIGNS.len())) {
             Some(sign) => *sign,
             None => b'?',
         }
     }
 }
 
-// The line with one byte changed, left out or doubled; as it is where the place is past its end, about every second time.
+// The line with one byte changed, left out or doubled, and its end.
 fn nearly(alloc: Global, dice: &mut Dice, line: &str) -> Result<Vec<u8>, AllocError> {
-    let at = dice.roll(96) as usize;
+    let at = dice.roll(line.len());
     let how = dice.roll(3);
     let other = dice.sign();
     let mut text = Vec::new(alloc);
@@ -167,10 +163,12 @@ fn made_by(reply: &str) -> u32 {
     0
 }
 
-// Each line has a reply, and each `stat` counts what was made so far.
+// Each line has a reply, each `stat` counts what was made so far, and many lines of both kinds are there: such as made
+// a patch, and such as are no line.
 fn judge(rt: &impl Abort, alloc: Global, lines: u32, replies: &str) -> Result<(), Fail> {
     let mut made = 0u32;
     let mut count = 0u32;
+    let mut bad = 0u32;
     for reply in replies.lines() {
         assert!(rt; is_reply(reply), "{reply}");
         if reply.starts_with("stat ") {
@@ -181,10 +179,14 @@ fn judge(rt: &impl Abort, alloc: Global, lines: u32, replies: &str) -> Result<()
             );
         }
         made = made.saturating_add(made_by(reply));
+        if reply == "refused 1" {
+            bad = bad.saturating_add(1);
+        }
         count = count.saturating_add(1);
     }
     assert_eq!(rt; count, lines);
-    assert!(rt; made > 50, "{made} were made");
+    assert!(rt; made > 100, "{made} were made");
+    assert!(rt; bad > 200, "{bad} were no lines");
     Ok(())
 }
 
@@ -195,8 +197,10 @@ fn nearly_right(rt: HostRuntime) -> Result<(), Fail> {
     let mut lines = 1u32;
     for _ in 0..ROUNDS {
         for line in GOOD {
+            script.extend_from_slice(line.as_bytes())?;
+            script.push(b'\n')?;
             script.extend_from_slice(&nearly(rt.alloc(), &mut dice, line)?)?;
-            lines = lines.saturating_add(1);
+            lines = lines.saturating_add(2);
         }
     }
     script.extend_from_slice(br#"{"do":"stat"}"#)?;
