@@ -46,7 +46,3 @@ pub keeps_depends : (heads : List Patch) (numbers blocks g : ℕ) (names on : Li
     → Keeps (map (gains g names) heads) numbers blocks marks'
 keeps_depends heads numbers blocks g names on marks marks' K gate none live long =
     keeps_gained heads numbers blocks g marks K gate names (λ n c. (live.only n c).0) (λ n c r. none.1.1.1.1.1.0 (n, (live.only n c).1, r)) marks' long
-
--- only how many marks there are is kept
-pub keeps_marks : (old : List Patch) (numbers blocks : ℕ) (marks marks' : List Bool) → Keeps old numbers blocks marks → length marks' ≡ length marks → Keeps old numbers blocks marks'
-keeps_marks old numbers blocks marks marks' K long = record { lawful = K.lawful; few = K.few; inside = K.inside; marked = long ∙ K.marked }

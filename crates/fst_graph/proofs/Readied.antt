@@ -1,7 +1,6 @@
 -- What is prepared.
-use Rattle.std.proofs.Common.{◌≡◌, ℕ, ◌+◌, Bool, true, false, ◌&&◌, List, [], ◌∷◌, ◌++◌, length, take, drop, length-append, length-drop, arith, Option, Some, None, IfSome, option_map, is_some, subst, refl, sym, ap, ◌∙◌, eqb}
+use Rattle.std.proofs.Common.{◌≡◌, ℕ, ◌+◌, Bool, true, false, ◌&&◌, List, [], ◌∷◌, Option, Some, None, IfSome, option_map, is_some, subst, refl, sym, ap, ◌∙◌, eqb}
 use Rattle.std.specs.Bool.{Decides}
-use Rattle.std.proofs.lemmas.List.{length-take}
 use Rattle.std.proofs.lemmas.Bool.{false≢true}
 use Rattle.std.proofs.lemmas.Bool.Decides.{Decides-eqb}
 use Rattle.fst_types.specs.declared.number.PatchNo.{PatchNo}
@@ -10,7 +9,6 @@ use Rattle.fst_types.specs.declared.grade.Grade.{Grade}
 use Rattle.fst_types.specs.declared.grade.Grade.TheVariants as grade
 use Rattle.fst_types.specs.Grades.{FollowsRule}
 use Rattle.fst_types.specs.Patches.{Patch}
-use Rattle.fst_heads.specs.Keeps.{Keeps}
 use Rattle.fst_graph.specs.declared.prepared.Gates.{Gates}
 use Rattle.fst_graph.specs.declared.prepared.Prepared.{Prepared as Stored}
 use Rattle.fst_graph.specs.Known.{Prepared, prepared_for, member_for}
@@ -71,19 +69,6 @@ module _ (numbers : ℕ) (p : Stored) (b : ℕ) (span : Span) (after : List Patc
       let at : p.span.at ≡ span.at = ap (λ q. q.at) same in
       let len : p.span.len ≡ span.len = ap (λ q. q.len) same in
       (ap (λ q. q.block) same, same_span p.span span at len, same_names p.names.items after (ap (λ q. q.after) same), no_gates p.gates (ap (λ q. q.group) same))
-
--- other marks of the same length keep as much
-pub keeps_marks : (heads : List Patch) (numbers blocks : ℕ) (marks new : List Bool) → Keeps heads numbers blocks marks → length new ≡ length marks → Keeps heads numbers blocks new
-keeps_marks heads numbers blocks marks new K long = record {
-  lawful = K.lawful;
-  few = K.few;
-  inside = K.inside;
-  marked = long ∙ K.marked;
-}
-
--- what a slice of a row leaves there is as long
-pub as_long : (old new : List Bool) (n : ℕ) → n ≡ length old → length new ≡ length old → length (take n (new ++ drop (length new) old)) ≡ length old
-as_long old new n all same = omega (arith, all, same, length-take n (new ++ drop (length new) old), length-append new (drop (length new) old), length-drop (length new) old)
 
 -- what is prepared for no group is ready as it is
 pub ready_alone : (numbers : ℕ) (o : Option Stored) (p : Stored) (q : Prepared) (heads : List Patch) (n blocks : ℕ) → o ≡ Some p → option_map (prepared_of numbers) o ≡ Some q → q.group ≡ None → IfSome o (MayBePut heads n blocks) → IsReady heads n blocks p
