@@ -17,6 +17,7 @@ pub mod Sums
 pub mod PendingAt
 pub mod Added
 pub mod PendingIn
+pub mod Counts
 pub mod CountsAs
 pub mod Releasing
 pub mod Stands

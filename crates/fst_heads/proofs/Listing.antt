@@ -1,17 +1,21 @@
 -- The walk along the list of a block that lands what is in flight.
-use Rattle.std.proofs.Common.{◌≡◌, ◌≢◌, ◌==◌, ◌&&◌, ℕ, zero, suc, ◌<◌, ◌≤◌, Bool, true, false, not, cond, List, [], ◌∷◌, ◌++◌, length, map, filter, set, get_or, Contains, Some, refl, sym, ap, subst, ◌∙◌, inl, inr, arith, get_or-set_same, get_or-set_other}
+use Rattle.std.proofs.Common.{◌≡◌, ◌≢◌, ◌==◌, ◌&&◌, ◌||◌, ℕ, zero, suc, ◌<◌, ◌≤◌, Bool, true, false, not, cond, List, [], ◌∷◌, ◌++◌, ◌+◌, length, map, filter, set, get_or, Contains, Some, refl, sym, ap, subst, ◌∙◌, inl, inr, arith, get_or-set_same, get_or-set_other}
 use Rattle.std.proofs.Math.ListN.{length-set}
-use Rattle.std.specs.List.{list_any}
+use Rattle.std.specs.List.{list_any, AllPairs}
+use Rattle.std.specs.List.Sorted.{IsStrictlyIncreasing}
+use Rattle.std.proofs.lemmas.List.Kept.{AllPairs-filter}
 use Rattle.std.proofs.Math.Bool.{and-false}
-use Rattle.std.proofs.lemmas.Bool.{cases_Bool, cases_eq, eqb-true, eq-eqb, ne_eqb}
+use Rattle.std.proofs.lemmas.Bool.{cases_Bool, cases_eq, eqb-true, false≢true, eq-eqb, ne_eqb}
 use Rattle.std.proofs.lemmas.List.{set-get_or, append_assoc, append-nil, length-append, length-map, get_or-map}
 use Rattle.fst_types.specs.declared.place.Place.{Place}
 use Rattle.fst_types.specs.declared.place.Place.TheVariants as place
 use Rattle.fst_types.specs.Patches.{Kind, Change, Empty, OpenGate, SealedGate, Patch, IsRising as Rising, block_of_kind}
-use Rattle.fst_types.specs.Tests.{is_at, is_on, is_live, is_change_at}
+use Rattle.fst_types.specs.Tests.{is_among, is_at, is_on, is_live, is_change_at}
 use Rattle.fst_types.specs.Writing.{landed}
 use Rattle.fst_types.proofs.Finite.{In, In-from_Contains, Contains-from_In, In-map}
 use Rattle.fst_types.proofs.Crash.{same_number}
+use Rattle.fst_types.proofs.Dropping.{filter_in, in_filter}
+use Rattle.fst_types.proofs.Issuing.{among_in, in_among}
 use Rattle.fst_heads.specs.declared.head.Head.{Head}
 use Rattle.fst_heads.specs.Spreading.{lands}
 use Rattle.fst_heads.specs.Heads.{IsRising, patch_of, patches_of}
@@ -20,6 +24,7 @@ use Rattle.fst_heads.specs.Nodes.{is_live_in}
 use Rattle.fst_heads.specs.Lists.{Entry, entry, entries_of, is_live_on, entries_on, flying_on, AreListed}
 use Rattle.fst_heads.specs.Marks.{HasSlot, HasNone}
 use Rattle.fst_heads.specs.Nodes.{Node, node_of, nodes_of, patches_in, at_number}
+use Rattle.fst_heads.proofs.Placed.{unmapped}
 use Rattle.fst_heads.proofs.Slots.{any_default, some_element}
 use Rattle.fst_heads.proofs.Forgetting.{same_test, and_parts, not_disk, live_place_of}
 use Rattle.fst_heads.proofs.Starting.{patches_landed}
@@ -55,14 +60,22 @@ rising_patches heads rising i j p lt inside =
     omega (arith, low, high, r)
 
 -- entries go as what they stand for
-pub entries_filter : (patches : List Patch) (list : List Listed) → entries_of (filter (λ (l : Listed). is_live_in patches l.number) list) ≡ filter (λ e. is_live_in patches e.number) (entries_of list)
-entries_filter patches [] = refl
-entries_filter patches (l ∷ ls) =
-    let rest = entries_filter patches ls in
-    elim (cases_Bool (is_live_in patches l.number)) [ inl e ↦ rw (e, rest) refl | inr e ↦ rw (e, rest) refl ]
+pub entries_filter : (stays : ℕ → Bool) (list : List Listed) → entries_of (filter (λ (l : Listed). stays l.number) list) ≡ filter (λ e. stays e.number) (entries_of list)
+entries_filter stays [] = refl
+entries_filter stays (l ∷ ls) =
+    let rest = entries_filter stays ls in
+    elim (cases_Bool (stays l.number)) [ inl e ↦ rw (e, rest) refl | inr e ↦ rw (e, rest) refl ]
 
 entries_cons : (b : ℕ) (p : Patch) (ps : List Patch) → entries_on b (p ∷ ps) ≡ cond (is_live_on b p) (entry p ∷ entries_on b ps) (entries_on b ps)
 entries_cons b p ps = elim (cases_Bool (is_live_on b p)) [ inl e ↦ rw e refl | inr e ↦ rw e refl ]
+
+or_parts : (a t : Bool) → (a || t) ≡ false → (a ≡ false) × (t ≡ false)
+or_parts false t e = (refl, e)
+or_parts true t e = absurd (false≢true (sym e))
+
+no_more : (ns : List ℕ) → length ns ≤ 0 → ns ≡ []
+no_more [] few = refl
+no_more (n ∷ ns) few = absurd (omega (arith, few))
 
 and_on : (a t : Bool) → t ≡ true → (a && t) ≡ a
 and_on true t e = e
@@ -73,6 +86,18 @@ on_other {b} (Change block at len grade) c ne e = ne_eqb block c (λ same. ne (s
 on_other Empty c ne e = refl
 on_other OpenGate c ne e = refl
 on_other SealedGate c ne e = refl
+
+abbrev IsBelow : Patch → Patch → Type 0
+IsBelow p q = p.number < q.number
+
+numbers_rise : (ps : List Patch) → AllPairs IsBelow ps → IsStrictlyIncreasing (map (λ p. p.number) ps)
+numbers_rise [] pairs k lt = absurd (omega (arith, lt))
+numbers_rise (p ∷ ps) pairs k lt =
+    let long = length-map (p ∷ ps) (λ (q : Patch). q.number) in
+    let r = pairs k (k + 1) p (omega arith) (omega (arith, lt, long)) in
+    let e = get_or-map (λ (q : Patch). q.number) (p ∷ ps) k p 0 (omega (arith, lt, long)) in
+    let f = get_or-map (λ (q : Patch). q.number) (p ∷ ps) (k + 1) p 0 (omega (arith, lt, long)) in
+    omega (arith, r, e, f)
 
 -- the list of a block that is lent
 pub listed_at : {X : Type 0} (f : X → List Entry) (ps : List Patch) (lists : List X) (b : ℕ) (x : X) → b < length lists → x ≡ get_or lists b x → AreListed ps (length lists) (map f lists) → f x ≡ entries_on b ps
@@ -258,8 +283,33 @@ module _ (b : ℕ) where
           let total = ap length one in
           omega (arith, long, few, total)
 
-  pub landing_all : (start heads : List Head) (queue : List ℕ) → Landing start heads [] queue → (nodes_of heads ≡ map (lands b) (nodes_of start)) × (queue ≡ flying_on b (patches_of start))
-  landing_all start heads queue x = (x.nodes, sym (append-nil queue) ∙ x.queued)
+  -- where the walk meets no more that flies, it leaves the nodes as they are
+  unmoved : (n : ℕ) (nodes : List Node) → list_any (λ x. (x.patch.number == n) && flies x) nodes ≡ false → map (at_number n (lands b)) nodes ≡ nodes
+  unmoved n [] none = refl
+  unmoved n (x ∷ xs) none =
+      let parts = or_parts ((x.patch.number == n) && flies x) (list_any (λ y. (y.patch.number == n) && flies y) xs) none in
+      let first : at_number n (lands b) x ≡ x = elim (cases_Bool (x.patch.number == n)) [
+        | inl e ↦ rw e (lands_still x (sym (ap (λ t. t && flies x) e) ∙ parts.0))
+        | inr e ↦ rw e refl
+      ] in
+      let rest = unmoved n xs parts.1 in cc
+
+  none_left : (ns : List ℕ) (nodes : List Node) → fly_each ns nodes ≡ [] → land_each ns nodes ≡ nodes
+  none_left [] nodes none = refl
+  none_left (n ∷ ns) nodes none =
+      let moved = map (at_number n (lands b)) nodes in
+      elim (cases_Bool (list_any (λ x. (x.patch.number == n) && flies x) nodes)) [
+        | inl some ↦ let long = ap length (sym (ap (λ t. cond t (n ∷ []) [] ++ fly_each ns moved) some) ∙ none) in absurd (omega (arith, long))
+        | inr off ↦ none_left ns moved (sym (ap (λ t. cond t (n ∷ []) [] ++ fly_each ns moved) off) ∙ none) ∙ unmoved n nodes off
+      ]
+
+  -- where as many landed as fly, the walk has no more to land
+  pub landing_full : (start heads : List Head) (rest queue : List ℕ) → Landing start heads rest queue → length (flying_on b (patches_of start)) ≤ length queue → (nodes_of heads ≡ map (lands b) (nodes_of start)) × (queue ≡ flying_on b (patches_of start))
+  landing_full start heads rest queue x full =
+      let total = ap length x.queued in
+      let long = length-append queue (fly_each rest (nodes_of heads)) in
+      let none = no_more (fly_each rest (nodes_of heads)) (omega (arith, total, long, full)) in
+      (sym (none_left rest (nodes_of heads) none) ∙ x.nodes, sym (append-nil queue) ∙ (ap (λ ns. queue ++ ns) (sym none) ∙ x.queued))
 
   landed_number : (p : Patch) → (landed b p).number ≡ p.number
   landed_number p = elim (cases_Bool (is_change_at place.Flight b p)) [ inl e ↦ rw e refl | inr e ↦ rw e refl ]
@@ -273,17 +323,17 @@ module _ (b : ℕ) where
   landed_still : (p : Patch) → is_live_on b p ≡ false → landed b p ≡ p
   landed_still p e = rw (still p e) refl
 
-  -- after the landing, the list of b has those of its entries that are still live
-  entries_kept : (patches ps : List Patch) → ((p : Patch) → In ps p → is_live_in patches p.number ≡ is_live (landed b p))
-      → filter (λ e. is_live_in patches e.number) (entries_on b ps) ≡ entries_on b (map (landed b) ps)
-  entries_kept patches [] says = refl
-  entries_kept patches (p ∷ ps) says =
-      let rest = entries_kept patches ps (λ q i. says q (inr i)) in
-      let short : List Entry = filter (λ e. is_live_in patches e.number) (entries_on b ps) in
+  -- after the landing, the list of b has those of its entries that stay live
+  entries_kept : (stays : ℕ → Bool) (ps : List Patch) → ((p : Patch) → In ps p → is_live_on b p ≡ true → stays p.number ≡ is_live (landed b p))
+      → filter (λ e. stays e.number) (entries_on b ps) ≡ entries_on b (map (landed b) ps)
+  entries_kept stays [] says = refl
+  entries_kept stays (p ∷ ps) says =
+      let rest = entries_kept stays ps (λ q i. says q (inr i)) in
+      let short : List Entry = filter (λ e. stays e.number) (entries_on b ps) in
       let new : entries_on b (map (landed b) (p ∷ ps)) ≡ cond (is_live_on b (landed b p)) (entry (landed b p) ∷ entries_on b (map (landed b) ps)) (entries_on b (map (landed b) ps)) = entries_cons b (landed b p) (map (landed b) ps) in
       elim (cases_Bool (is_live_on b p)) [
         | inl f ↦
-            let same : is_live_in patches p.number ≡ is_live_on b (landed b p) = says p (inl refl) ∙ (sym (and_on (is_live (landed b p)) (is_on b p.kind) (and_parts (is_live p) (is_on b p.kind) f).1) ∙ ap (λ k. is_live (landed b p) && is_on b k) (sym (landed_kind p))) in
+            let same : stays p.number ≡ is_live_on b (landed b p) = says p (inl refl) f ∙ (sym (and_on (is_live (landed b p)) (is_on b p.kind) (and_parts (is_live p) (is_on b p.kind) f).1) ∙ ap (λ k. is_live (landed b p) && is_on b k) (sym (landed_kind p))) in
             rw f
             (ap (λ t. cond t (entry p ∷ short) short) same
             ∙ (ap (λ e. cond (is_live_on b (landed b p)) (e ∷ short) short) (sym (landed_entry p))
@@ -319,24 +369,35 @@ module _ (b : ℕ) where
         let r = rising i j d lt (omega (arith, inside, long)) in
         omega (arith, low, high, r)
 
-    -- a number is live after the landing as its patch is
-    live_landed : (p : Patch) → Contains ps p → is_live_in (map (landed b) ps) p.number ≡ is_live (landed b p)
-    live_landed p c =
-        let new = map (landed b) ps in
-        let there = Contains-from_In new (landed b p) (In-map (landed b) ps p (landed b p) (In-from_Contains ps p c) refl) in
-        sym (same_test new p.number (is_live (landed b p))
-        (λ e. record { patch = landed b p; head = there; numbered = landed_number p; live = not_disk (landed b p).place e })
-        (λ l. subst (λ q. is_live q ≡ true) (same_number new l.patch (landed b p) rising_landed l.head there (l.numbered ∙ sym (landed_number p))) (live_place_of l.patch.place l.live)))
+    -- the numbers of those that flew are in order
+    pub flying_rise : IsStrictlyIncreasing (flying_on b ps)
+    flying_rise = numbers_rise (filter (is_change_at place.Flight b) ps) (AllPairs-filter IsBelow (is_change_at place.Flight b) ps (λ i j d lt inside. rising i j d lt inside))
+
+    -- a live change of b flew exactly where it is live no more
+    flew : (p : Patch) → Contains ps p → is_live_on b p ≡ true → not (is_among (flying_on b ps) p.number) ≡ is_live (landed b p)
+    flew p c live = elim (cases_Bool (is_change_at place.Flight b p)) [
+      | inl e ↦
+          let there = in_among (flying_on b ps) p.number (In-map (λ q. q.number) (filter (is_change_at place.Flight b) ps) p p.number (in_filter (is_change_at place.Flight b) ps p (In-from_Contains ps p c) e) refl) in
+          rw (there, e) refl
+      | inr e ↦ elim (cases_Bool (is_among (flying_on b ps) p.number)) [
+        | inr none ↦ rw (none, e) (sym (and_parts (is_live p) (is_on b p.kind) live).0)
+        | inl some ↦
+            let q = unmapped (λ (q : Patch). q.number) (filter (is_change_at place.Flight b) ps) p.number (Contains-from_In (flying_on b ps) p.number (among_in (flying_on b ps) p.number some)) in
+            let k = filter_in (is_change_at place.Flight b) ps q.0 (In-from_Contains (filter (is_change_at place.Flight b) ps) q.0 q.1) in
+            let same = same_number ps q.0 p rising (Contains-from_In ps q.0 k.0) c q.2 in
+            absurd (false≢true (sym e ∙ (ap (is_change_at place.Flight b) (sym same) ∙ k.1)))
+      ]
+    ]
 
     pub listed_landed : (blocks : ℕ) (lists : List (List Entry)) (kept : List Entry) → b < blocks → AreListed ps blocks lists
-        → kept ≡ filter (λ e. is_live_in (map (landed b) ps) e.number) (entries_on b ps)
+        → kept ≡ filter (λ e. not (is_among (flying_on b ps) e.number)) (entries_on b ps)
         → AreListed (map (landed b) ps) blocks (set lists b kept)
     listed_landed blocks lists kept inside L e = record {
       long = length-set lists b kept ∙ L.long;
       each = λ c d within. elim (cases_eq c b) [
         | inl same ↦
             subst (λ k. get_or (set lists b kept) k d ≡ entries_on k (map (landed b) ps)) (sym same)
-            (get_or-set_same lists b kept d (omega (arith, inside, L.long)) ∙ (e ∙ entries_kept (map (landed b) ps) ps (λ p i. live_landed p (Contains-from_In ps p i))))
+            (get_or-set_same lists b kept d (omega (arith, inside, L.long)) ∙ (e ∙ entries_kept (λ n. not (is_among (flying_on b ps) n)) ps (λ p i live. flew p (Contains-from_In ps p i) live)))
         | inr ne ↦ get_or-set_other lists b c kept d ne ∙ (L.each c d within ∙ sym (entries_other c ps ne))
       ];
     }
@@ -344,9 +405,6 @@ module _ (b : ℕ) where
   module _ (heads : List Head) (new : List Head) (landing : nodes_of new ≡ map (lands b) (nodes_of heads)) where
     pub heads_landed : patches_of new ≡ map (landed b) (patches_of heads)
     heads_landed = sym (patches_in_nodes new) ∙ (ap patches_in landing ∙ (patches_landed (nodes_of heads) b ∙ ap (map (landed b)) (patches_in_nodes heads)))
-
-    pub rising_after : IsRising heads → IsRising new
-    rising_after = rising_as (lands b) lands_number new heads landing
 
   -- where no patch is a change of b nothing lands
   module _ (heads : List Head) (other : (p : Patch) → Contains (patches_of heads) p → is_on b p.kind ≡ false) where

@@ -1,15 +1,14 @@
 -- The walk along the list of a block for those of its patches that pass a test.
-use Rattle.std.proofs.Common.{◌≡◌, ◌==◌, ◌&&◌, ◌||◌, ℕ, ◌<◌, ◌≤◌, ◌+◌, Bool, true, false, not, List, [], ◌∷◌, map, filter, drop, length, count_by, get_or, arith, refl, sym, ap, ◌∙◌, inl, inr}
+use Rattle.std.proofs.Common.{◌≡◌, ◌==◌, ◌&&◌, ◌||◌, ℕ, ◌<◌, ◌≤◌, ◌+◌, Bool, true, false, not, List, [], ◌∷◌, map, filter, drop, length, get_or, arith, refl, sym, ap, ◌∙◌, inl, inr}
 use Rattle.std.specs.List.{list_any}
 use Rattle.std.proofs.lemmas.Bool.{cases_Bool, false≢true}
 use Rattle.std.proofs.lemmas.List.{drop_more}
-use Rattle.std.proofs.lemmas.List.Sums.{length-filter}
 use Rattle.fst_types.proofs.Finite.{In, Contains-from_In}
 use Rattle.fst_types.specs.declared.place.Place.{Place}
 use Rattle.fst_types.specs.declared.place.Place.TheVariants as place
 use Rattle.fst_types.specs.Tests.{is_at, is_on, is_change_at}
 use Rattle.fst_heads.specs.declared.pending.Pending.TheVariants as pending
-use Rattle.fst_heads.specs.Ascending.{is_free_on, is_bound_on, free_on}
+use Rattle.fst_heads.specs.Ascending.{is_free_on, is_bound_on}
 use Rattle.fst_heads.specs.declared.head.Head.{Head}
 use Rattle.fst_heads.specs.declared.lists.Listed.{Listed}
 use Rattle.fst_heads.specs.Heads.{IsRising, kind_of, patch_of, patches_of}
@@ -105,19 +104,3 @@ module _ (behind : ℕ → Bool) (b : ℕ) (h d : Head) (n : ℕ) (back r : Bool
 
   pub bound_at : r ≡ (hard h && (more h || back)) → is_bound_on behind b (node_of d) ≡ r
   bound_at e = sym (e ∙ (ap (λ k. hard h && (more h || k)) (told ∙ ap behind (sym number)) ∙ ap (λ k. hard k && (more k || behind d.number)) at))
-
--- what is free is ready
-fewer_free : (behind : ℕ → Bool) (b : ℕ) (nodes : List Node) → length (free_on behind b nodes) ≤ length (filter (is_ready_on b) nodes)
-fewer_free behind b [] = omega arith
-fewer_free behind b (x ∷ xs) =
-    let rest = fewer_free behind b xs in
-    elim (cases_Bool (is_ready_on b x)) [
-      | inl ready ↦ elim (cases_Bool (behind x.patch.number)) [ inl e ↦ rw (ready, e) (omega (arith, rest)) | inr e ↦ rw (ready, e) (omega (arith, rest)) ]
-      | inr off ↦ rw off rest
-    ]
-
-pub free_few : (behind : ℕ → Bool) (b : ℕ) (nodes : List Node) → length (free_on behind b nodes) ≤ count_by (is_ready_on b) nodes
-free_few behind b nodes =
-    let fewer = fewer_free behind b nodes in
-    let same = length-filter (is_ready_on b) nodes in
-    omega (arith, fewer, same)

@@ -1,5 +1,5 @@
 -- Rising rows, and names as calls give them.
-use Rattle.std.proofs.Common.{◌≡◌, ℕ, zero, suc, ◌+◌, ◌-◌, ◌<◌, ◌≤◌, true, false, List, [], ◌∷◌, length, get_or, Contains, Result, Ok, Err, refl, sym, ap, subst, inl, inr, arith}
+use Rattle.std.proofs.Common.{◌≡◌, ℕ, zero, suc, ◌+◌, ◌-◌, ◌<◌, ◌≤◌, true, false, List, [], ◌∷◌, length, get_or, Contains, Result, Ok, Err, is_ok, refl, sym, ap, subst, ◌∙◌, inl, inr, arith}
 use Rattle.std.specs.List.{insert}
 use Rattle.std.specs.List.Sorted.{IsStrictlyIncreasing, IsSearchInRange, IsBinarySearchResult, IsNonDecreasingBy}
 use Rattle.std.specs.Ordering.{nat_cmp, ordering_index}
@@ -8,6 +8,7 @@ use Rattle.std.proofs.lemmas.Bool.Decides.{nat_tests}
 use Rattle.std.proofs.lemmas.List.{length-map, get_or-map}
 use Rattle.fst_types.specs.Tests.{is_among}
 use Rattle.fst_types.proofs.Issuing.{among_in, in_among}
+use Rattle.fst_heads.proofs.Slots.{any_default}
 use Rattle.std.proofs.lemmas.Bool.{cases_Bool, cases_lt, cases_eq}
 use Rattle.std.proofs.lemmas.List.Kept.{AllPairs-from_increasing}
 use Rattle.std.proofs.lemmas.List.Sorted.{searched, IsNonDecreasingBy-from_default, IsPermutation-insert, IsPermutation-sym, Contains-permutation}
@@ -74,6 +75,24 @@ module _ (xs : List ℕ) (rising : IsStrictlyIncreasing xs) where
       let s = searched xs x (Err k) found not_falling in
       let same : k ≡ at = cc in
       subst (λ m. Gains xs x (insert xs m x)) same (gains_at x k s.0 s.1 s.2)
+
+  -- the search tells whether the row has the number
+  pub row_found : (x : ℕ) (r : Result ℕ ℕ) → IsBinarySearchResult (λ y. nat_cmp y x) xs r → is_ok r ≡ is_among xs x
+  row_found x (Ok k) found =
+      let s = searched xs x (Ok k) found not_falling in
+      sym (in_among xs x (subst (In xs) s.1 (In-get_or xs k 0 s.0)))
+  row_found x (Err k) found =
+      let s = searched xs x (Err k) found not_falling in
+      elim (cases_Bool (is_among xs x)) [
+        | inr none ↦ sym none
+        | inl some ↦
+            let c = Contains-from_In xs x (among_in xs x some) in
+            let here : get_or xs c.0 0 ≡ x = any_default xs c.0 0 x c.1 ∙ c.2 in
+            absurd (elim (cases_lt c.0 k) [
+              | inl before ↦ let r = s.1 c.0 before in omega (arith, r, here)
+              | inr after ↦ let r = s.2 c.0 after c.1 in omega (arith, r, here)
+            ])
+      ]
 
 -- names
 pub name_in : (names : List PatchNo) (k : ℕ) (d : PatchNo) → k < length names → Contains (numbers_of names) (get_or names k d).0

@@ -1,17 +1,18 @@
 //! Each block lists its changes that are not on disk, so that a call that asks for those of one block looks at no others.
 
-ghost use Rattle.std.specs.Prelude.{◌≡◌, ◌≤◌, ◌++◌, ◌<◌, [], length, map, filter, IfOk, vec_len, vec_capacity};
+ghost use Rattle.std.specs.Prelude.{◌≡◌, ◌≤◌, ◌++◌, ◌<◌, [], not, length, map, filter, IfOk, vec_len, vec_capacity};
+ghost use Rattle.std.specs.List.Sorted.{IsStrictlyIncreasing};
 ghost use Rattle.fst_heads.specs.Spreading.{lands};
 ghost use Rattle.fst_heads.specs.Heads.{IsRising, patches_of};
 ghost use Rattle.fst_heads.specs.Keeps.{IsInside};
 ghost use Rattle.fst_heads.specs.Lists.{entries_of, entries_on, flying_on, AreListed};
 ghost use Rattle.fst_heads.specs.Nodes.{nodes_of};
-ghost use Rattle.fst_heads.specs.Nodes.{is_live_in};
+ghost use Rattle.fst_types.specs.Tests.{is_among};
 
 use crate::head::Head;
 use crate::marks::slot_of;
 use crate::places::is_change_at;
-use crate::row::is_live_number;
+use crate::row::has_number;
 use fst_types::{Place, Span};
 use std::alloc::{AllocError, Global};
 
@@ -33,10 +34,18 @@ pub fn empty_lists(alloc: Global, blocks: u32) -> Result<Vec<Vec<Listed>>, Alloc
     Ok(lists)
 }
 
-// What is in flight among the listed is on disk, and waits in the queue.
-fn land_listed(heads: &mut Vec<Head>, list: &[Listed], queue: &mut Vec<u32>, block: u32)
+// What is in flight among the listed is on disk, and waits in the queue. At most so many fly: where they are found, no
+// others are looked at.
+fn land_listed(
+    heads: &mut Vec<Head>,
+    list: &[Listed],
+    queue: &mut Vec<u32>,
+    flying: usize,
+    block: u32,
+)
     requires rising { IsRising heads.old.items }
     requires listed { entries_of list.now ≡ entries_on block (patches_of heads.old.items) }
+    requires flying { length (flying_on block (patches_of heads.old.items)) ≤ flying }
     requires idle { queue.old.items ≡ [] }
     requires room { length heads.old.items ≤ vec_capacity queue.old }
     ensures nodes { nodes_of heads.new.items ≡ map (lands block) (nodes_of heads.old.items) }
@@ -44,6 +53,9 @@ fn land_listed(heads: &mut Vec<Head>, list: &[Listed], queue: &mut Vec<u32>, blo
     ensures capacity { vec_capacity queue.new ≡ vec_capacity queue.old }
 {
     for listed in list {
+        if queue.len() == flying {
+            return;
+        }
         if let Some(slot) = slot_of(heads, listed.number) {
             if is_change_at(&heads[slot], Place::Flight, block) {
                 heads[slot].place = Place::Disk;
@@ -53,24 +65,26 @@ fn land_listed(heads: &mut Vec<Head>, list: &[Listed], queue: &mut Vec<u32>, blo
     }
 }
 
-// Drops those that are on disk now.
-fn keep_listed(list: &mut Vec<Listed>, heads: &[Head])
-    requires { IsRising heads.now }
-    ensures { entries_of list.new.items ≡ filter (λ e. is_live_in (patches_of heads.now) e.number) (entries_of list.old.items) }
+// Drops those that landed.
+fn drop_landed(list: &mut Vec<Listed>, landed: &[u32])
+    requires { IsStrictlyIncreasing landed.now }
+    ensures { entries_of list.new.items ≡ filter (λ e. not (is_among landed.now e.number)) (entries_of list.old.items) }
 {
-    list.retain(|listed| is_live_number(heads, listed.number));
+    list.retain(|listed| !has_number(landed, listed.number));
 }
 
-/// What is in flight of the block is on disk, and waits in the queue.
+/// What is in flight of the block is on disk, and waits in the queue. No more of its changes fly than `flying`.
 pub fn land_block(
     heads: &mut Vec<Head>,
     lists: &mut Vec<Vec<Listed>>,
     queue: &mut Vec<u32>,
+    flying: usize,
     block: u32,
 )
     requires rising { IsRising heads.old.items }
     requires inside { IsInside (patches_of heads.old.items) (length lists.old.items) }
     requires listed { AreListed (patches_of heads.old.items) (length lists.old.items) (map (λ l. entries_of l.items) lists.old.items) }
+    requires flying { length (flying_on block (patches_of heads.old.items)) ≤ flying }
     requires idle { queue.old.items ≡ [] }
     requires room { length heads.old.items ≤ vec_capacity queue.old }
     ensures nodes { nodes_of heads.new.items ≡ map (lands block) (nodes_of heads.old.items) }
@@ -79,7 +93,7 @@ pub fn land_block(
     ensures capacity { vec_capacity queue.new ≡ vec_capacity queue.old }
 {
     if let Some(list) = lists.get_mut(block as usize) {
-        land_listed(heads, list, queue, block);
-        keep_listed(list, heads);
+        land_listed(heads, list, queue, flying, block);
+        drop_landed(list, queue);
     }
 }

@@ -6,6 +6,7 @@ ghost use Rattle.fst_types.specs.Dependencies.{IsLiveNumber};
 ghost use Rattle.fst_types.specs.Gates.{IsGiven};
 ghost use Rattle.fst_types.specs.Lists.{Lists};
 ghost use Rattle.fst_types.specs.Order.{NamesUnknown};
+ghost use Rattle.fst_types.specs.Tests.{is_among};
 ghost use Rattle.fst_heads.specs.Heads.{IsRising, patch_of, patches_of};
 ghost use Rattle.fst_heads.specs.Names.{numbers_of};
 ghost use Rattle.fst_heads.specs.Lists.{entries_of, entries_on};
@@ -53,6 +54,14 @@ pub fn is_live_number(heads: &[Head], number: u32) -> bool
         Some(slot) => is_live(heads[slot].place),
         None => false,
     }
+}
+
+/// Whether the rising row has the number.
+pub fn has_number(row: &[u32], number: u32) -> bool
+    requires { IsStrictlyIncreasing row.now }
+    ensures { result ≡ is_among row.now number }
+{
+    row.binary_search(&number).is_ok()
 }
 
 /// Puts the number into the row, unless it is there.

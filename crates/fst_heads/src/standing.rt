@@ -96,6 +96,26 @@ pub fn ready_count(standings: &[Standing], block: u32) -> usize
     }
 }
 
+/// How many hard changes of the block in memory wait for more than changes of the block.
+pub fn held_count(standings: &[Standing], block: u32) -> usize
+    ensures { (d : Standing) → block < length standings.now → result ≡ (slice_index_or standings.now block d).held }
+{
+    match standings.get(block as usize) {
+        Some(standing) => standing.held,
+        None => 0,
+    }
+}
+
+/// How many changes of the block are in flight.
+pub fn flying_count(standings: &[Standing], block: u32) -> usize
+    ensures { (d : Standing) → block < length standings.now → result ≡ (slice_index_or standings.now block d).flying }
+{
+    match standings.get(block as usize) {
+        Some(standing) => standing.flying,
+        None => 0,
+    }
+}
+
 /// The least block whose mark is true.
 pub fn least_marked(standings: &[Standing]) -> Option<BlockNo>
     requires { length standings.now ≤ 4294967296 }

@@ -1,12 +1,14 @@
-use Rattle.std.proofs.Common.{◌∙◌, map, get_or, refl, sym, ap, subst, arith}
+use Rattle.std.proofs.Common.{◌≡◌, ◌∙◌, map, drop, get_or, refl, sym, ap, subst, arith}
 use Rattle.std.proofs.lemmas.List.{drop_more}
 use Rattle.fst_types.specs.declared.place.Place.TheVariants as place
 use Rattle.fst_types.specs.Tests.{is_change_at}
 use Rattle.fst_heads.specs.declared.lists.Listed.{Listed}
-use Rattle.fst_heads.specs.Heads.{patch_of}
-use Rattle.fst_heads.specs.Lists.{entries_of}
+use Rattle.fst_heads.specs.Heads.{patch_of, patches_of}
+use Rattle.fst_heads.specs.Lists.{entries_of, flying_on}
+use Rattle.fst_heads.specs.Nodes.{nodes_of}
+use Rattle.fst_heads.specs.Spreading.{lands}
 use Rattle.fst_heads.specs.Marks.{HasSlot, HasNone}
-use Rattle.fst_heads.proofs.Listing.{landing_none, landing_absent, landing_skip, landing_disk, landing_room}
+use Rattle.fst_heads.proofs.Listing.{landing_none, landing_full, landing_absent, landing_skip, landing_disk, landing_room}
 use Rattle.fst_heads.proofs.lists.land_listed.Goals as goal
 use Rattle.fst_heads.proofs.lists.land_listed.Goals.{in-Some+then-is_change_at, in-Some+else-is_change_at, in_default}
 
@@ -15,6 +17,12 @@ loop-listed-init c = record {
   landing = rw c.requires.listed (landing_none c.args.block c.args.heads.now.items c.args.queue.now.items c.requires.rising c.requires.idle);
   capacity = refl;
 }
+
+-- as many landed as fly
+all_landed : (c : goal.Then-len-flying) → (nodes_of c.loop-listed.heads.items ≡ map (lands c.args.block) (nodes_of c.args.heads.now.items)) × (c.loop-listed.queue.items ≡ flying_on c.args.block (patches_of c.args.heads.now.items))
+all_landed c =
+    landing_full c.args.block c.args.heads.now.items c.loop-listed.heads.items (map (λ e. e.number) (entries_of (drop c.loop-listed.listed-index c.args.list.now))) c.loop-listed.queue.items c.loop-listed.invariant.landing
+    (omega (arith, c.requires.flying, c.len.ensures, c.if-len-flying.true))
 
 pub push_reserved-requires : goal.push_reserved-requires
 push_reserved-requires c =
@@ -54,3 +62,9 @@ loop-listed-preserved c =
           rw (w.heads-is, w.queue-is)
           record { landing = landing_absent b start heads _ queue _ n next c.loop-listed.invariant.landing (subst (λ hs. HasNone hs n) c.deref.ensures.value (w.in_default.ensures.none)); capacity = c.loop-listed.invariant.capacity }
     ]
+
+pub returns-then-len-flying-clause-nodes : goal.returns-then-len-flying-clause-nodes
+returns-then-len-flying-clause-nodes c = (all_landed c).0
+
+pub returns-then-len-flying-clause-queued : goal.returns-then-len-flying-clause-queued
+returns-then-len-flying-clause-queued c = (all_landed c).1

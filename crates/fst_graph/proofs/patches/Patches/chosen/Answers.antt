@@ -9,7 +9,7 @@ use Rattle.fst_heads.specs.Standings.{is_ready_on}
 use Rattle.fst_heads.proofs.AtNumber.{patches_in_nodes}
 use Rattle.fst_walks.proofs.Behind.{pending_live}
 use Rattle.fst_walks.proofs.Resting.{listed_at, shelves, empty_set, none_yet, chosen_ready, chosen_refused}
-use Rattle.fst_heads.proofs.Passing.{free_few}
+use Rattle.fst_heads.proofs.Counts.{free_few}
 use Rattle.fst_heads.proofs.Slots.{rising_heads}
 use Rattle.fst_graph.proofs.patches.Patches.chosen.Goals as goal
 

@@ -1,13 +1,15 @@
-use Rattle.std.proofs.Common.{length, IfSome, option_map, sym, ap, ◌∙◌, ◌≡◌, ◌↔◌, ◌&&◌, ℕ, Bool, true, get_or, subst, arith}
+use Rattle.std.proofs.Common.{◌<◌, length, count_by, None, IfSome, option_map, sym, ap, ◌∙◌, ◌≡◌, ◌↔◌, ◌&&◌, ℕ, Bool, true, get_or, subst, arith}
 use Rattle.fst_types.specs.Dependencies.{IsLiveNumber}
 use Rattle.fst_heads.specs.Ascending.{IsBehind}
 use Rattle.std.proofs.lemmas.List.{length-map}
 use Rattle.fst_heads.specs.Heads.{patch_of, patches_of}
 use Rattle.fst_heads.specs.Marks.{mark_in, mark_of}
 use Rattle.fst_heads.specs.Nodes.{nodes_of}
+use Rattle.fst_heads.specs.Standings.{is_held_on}
 use Rattle.fst_heads.proofs.AtNumber.{patches_in_nodes}
+use Rattle.fst_heads.proofs.Counts.{none_bound}
 use Rattle.fst_walks.proofs.Behind.{pending_live}
-use Rattle.fst_walks.proofs.Resting.{listed_at, shelves, none_there, none_held, least_held}
+use Rattle.fst_walks.proofs.Resting.{listed_at, shelves, none_yet, none_there, none_held, least_held}
 use Rattle.fst_heads.proofs.Slots.{rising_heads}
 use Rattle.fst_graph.proofs.patches.Patches.hard_held.Goals as goal
 
@@ -62,6 +64,25 @@ returns-in_default-clause-none c =
     let past = c.in_default.ensures.lookup.3 in
     let many = shelves (nodes_of s.heads.items) s.blocks s.lists.items c.deref.result.now c.self.invariant.4.listed c.deref.ensures.value in
     rw (← c.self.view_is) (λ p h. none_there (patches_of s.heads.items) s.blocks c.args.block.0 c.self.invariant.0.inside (λ lt. omega (arith, lt, past, many)) p h.in_memory)
+
+pub returns-then-held_count-eq0-clause-none : goal.returns-then-held_count-eq0-clause-none
+returns-then-held_count-eq0-clause-none c =
+    let s = c.self.inside in
+    let heads = s.heads.items in
+    let b = c.args.block.0 in
+    let mark : ℕ → Bool = mark_of heads c.mark_flight-flying.new.walk.marks in
+    let behind : ℕ → Bool = λ n. c.mark_flight-flying.result && mark n in
+    let exact : (n : ℕ) → (behind n ≡ true) ↔ IsBehind (nodes_of heads) b n = λ n. rw (← c.deref-2.ensures.value) (c.mark_flight-flying.ensures.behind n) in
+    let stands = c.self.invariant.4.standing in
+    let lt = c.in-Some.ensures.lookup.3.0 in
+    let many = shelves (nodes_of heads) s.blocks s.lists.items c.deref.result.now c.self.invariant.4.listed c.deref.ensures.value in
+    let inside : b < length s.standings.items = omega (arith, lt, many, stands.long) in
+    let counted = stands.each b none_yet (omega (arith, inside, stands.long)) in
+    let told = c.held_count.ensures none_yet (subst (λ xs. b < length xs) (sym c.deref-then-not-flying.ensures.value) inside) in
+    let held : c.held_count.result ≡ count_by (is_held_on b) (nodes_of heads) = told ∙ (ap (λ xs. (get_or xs b none_yet).held) c.deref-then-not-flying.ensures.value ∙ ap (λ t. t.held) counted) in
+    let none = none_bound behind b (nodes_of heads) (λ n. ap (λ t. t && mark n) c.if-not-flying.true) (omega (arith, held, c.if-held_count-eq0.true)) in
+    rw (← c.self.view_is)
+    (none_held heads s.numbers s.blocks s.walks.walk.marks _ s.standings.items s.queue.items s.queue.cap b c.self.invariant.0 c.self.invariant.4 behind exact None none)
 
 pub returns-clause-none : goal.returns-clause-none
 returns-clause-none c =

@@ -1,4 +1,5 @@
-use Rattle.std.proofs.Common.{◌≡◌, ◌∙◌, map, sym, ap, subst, length, arith, refl}
+use Rattle.std.proofs.Common.{◌≡◌, ◌≤◌, ◌∙◌, inl, inr, count_by, get_or, map, sym, ap, subst, length, arith, refl}
+use Rattle.std.proofs.lemmas.Bool.{cases_lt}
 use Rattle.std.proofs.lemmas.List.{length-map}
 use Rattle.fst_types.specs.Cascade.{IsCascadeOf}
 use Rattle.fst_types.specs.Writing.{landed}
@@ -7,12 +8,15 @@ use Rattle.fst_heads.specs.Heads.{patches_of}
 use Rattle.fst_heads.specs.Keeps.{IsInside}
 use Rattle.fst_heads.specs.Lists.{entries_of, AreListed}
 use Rattle.fst_heads.specs.Nodes.{node_of, nodes_of, patches_in, AreSettled}
-use Rattle.fst_heads.specs.Standings.{AllStand}
+use Rattle.fst_heads.specs.Standings.{AllStand, is_flying_on}
 use Rattle.fst_heads.proofs.AtNumber.{patches_in_nodes}
 use Rattle.fst_graph.proofs.Borne.{inside_nodes, stand_land}
 use Rattle.fst_graph.proofs.Kept.{keeps_landed}
 use Rattle.fst_walks.proofs.Seen.{seen, lawful_nodes}
 use Rattle.fst_walks.proofs.Shelves.{shelved}
+use Rattle.fst_heads.proofs.Counts.{flying_counted}
+use Rattle.fst_heads.proofs.Listing.{nothing_flies, is_off}
+use Rattle.fst_walks.proofs.Resting.{none_yet}
 use Rattle.fst_heads.proofs.Slots.{rising_heads}
 use Rattle.fst_heads.proofs.Starting.{starts_landed, patches_landed, linked_landed, distinct_landed}
 use Rattle.fst_graph.proofs.Tallied.{tallies_landed}
@@ -38,6 +42,22 @@ land_block-requires-clause-idle c = c.self.invariant.4.idle
 
 pub land_block-requires-clause-room : goal.land_block-requires-clause-room
 land_block-requires-clause-room c = omega (arith, c.self.invariant.4.room, length-map c.self.inside.heads.items node_of)
+
+pub land_block-requires-clause-flying : goal.land_block-requires-clause-flying
+land_block-requires-clause-flying c =
+    let s = c.self.inside in
+    let heads = s.heads.items in
+    let b = c.args.block.0 in
+    let T = c.self.invariant.4 in
+    elim (cases_lt b s.blocks) [
+      | inl inside ↦
+          let told = c.flying_count-flying.ensures none_yet (rw c.deref.ensures.value (omega (arith, inside, T.standing.long))) in
+          let most : c.flying_count-flying.result ≡ count_by (is_flying_on b) (nodes_of heads) = told ∙ (ap (λ xs. (get_or xs b none_yet).flying) c.deref.ensures.value ∙ ap (λ t. t.flying) (T.standing.each b none_yet inside)) in
+          omega (arith, flying_counted b heads, most)
+      | inr past ↦
+          let none = nothing_flies b heads (λ p h. is_off b p.kind (λ on. let lt = c.self.invariant.0.inside p b h on in omega (arith, lt, past))) in
+          subst (λ ns. length ns ≤ c.flying_count-flying.result) (sym none) (omega arith)
+    ]
 
 pub cascade-landed-requires-clause-start : goal.cascade-landed-requires-clause-start
 cascade-landed-requires-clause-start c =
