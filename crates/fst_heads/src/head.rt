@@ -13,16 +13,16 @@ pub enum Kind {
     SealedGate,
 }
 
-/// A patch that is not forgotten, with what is pending of it as its dependants know it, the numbers of the patches that
-/// directly depend on it, and the numbers that it directly depends on and how those add up. What is read of each change of
-/// a block to find what may be written stands first, and so lies together.
+/// A patch that is not forgotten, with what is pending of it as its dependants know it, the numbers that it directly
+/// depends on, the numbers of the patches that directly depend on it, and how what it depends on adds up. What is read of
+/// each change of a block to find what may be written, and of each patch on a way down, stands first, and so lies together.
 #[derive(Drop)]
 pub struct Head {
     pub number: u32,
     pub kind: Kind,
     pub place: Place,
     pub pending: Pending,
-    pub dependants: SmallVec<u32, 4>,
     pub dependencies: SmallVec<u32, 4>,
+    pub dependants: SmallVec<u32, 4>,
     pub sums: Sums,
 }

@@ -46,10 +46,9 @@ module _ (heads : List Head) (rising : IsRising heads) (n s : ℕ) (d : Head) (s
   pub here_passes : (t : Test) → PassesAt t (patches_of heads) n → passes t p ≡ true
   here_passes t x = ap (passes t) (is_it x.patch x.head x.numbered) ∙ x.passed
 
-  -- the newest that its row names is a direct dependency
-  pub newest_direct : (o : Option ℕ) → IfSome o (Contains (get_or heads s d).dependencies.items) → IfSome o (DirectlyOn (patches_of heads) n)
-  newest_direct (Some q) c = direct_at heads n q s d slot c
-  newest_direct None c = tt
+  -- what its row names are its direct dependencies
+  pub row_direct : (row : List ℕ) → row ≡ (get_or heads s d).dependencies.items → (q : ℕ) → Contains row q → DirectlyOn (patches_of heads) n q
+  row_direct row e q c = direct_at heads n q s d slot (subst (λ qs. Contains qs q) e c)
 
   pub hard_here : (b : ℕ) → (is_change_at place.Memory b p && is_hard_kind p.kind) ≡ true → IsHardNumber (patches_of heads) b n
   hard_here b e =
@@ -166,7 +165,7 @@ pub record IsOnPath (heads : List Patch) (b : ℕ) (row : List ℕ) (away : Bool
 pub path_start : (heads : List Patch) (b : ℕ) (row : List ℕ) (n : ℕ) → Contains row n → IsOnPath heads b row false n
 path_start heads b row n c = record { under = under_first heads row n c; off = λ e. absurd (false≢true e) }
 
-path_next : (heads : List Patch) (b : ℕ) (row : List ℕ) (was now : Bool) (n q : ℕ) → IsOnPath heads b row was n → DirectlyOn heads n q → (now ≡ true → (was ≡ true) ⊎ PassesAt (test.LiveOff b) heads n) → IsOnPath heads b row now q
+pub path_next : (heads : List Patch) (b : ℕ) (row : List ℕ) (was now : Bool) (n q : ℕ) → IsOnPath heads b row was n → DirectlyOn heads n q → (now ≡ true → (was ≡ true) ⊎ PassesAt (test.LiveOff b) heads n) → IsOnPath heads b row now q
 path_next heads b row was now n q x d said = record {
   under = under_next heads row n q d x.under;
   off = λ e. elim (said e) [
@@ -175,9 +174,10 @@ path_next heads b row was now n q x d said = record {
   ];
 }
 
-pub path_further : (heads : List Patch) (b : ℕ) (row : List ℕ) (was now : Bool) (n : ℕ) (o : Option ℕ) → IsOnPath heads b row was n → IfSome o (DirectlyOn heads n) → (now ≡ true → (was ≡ true) ⊎ PassesAt (test.LiveOff b) heads n) → IfSome o (IsOnPath heads b row now)
-path_further heads b row was now n (Some q) x d said = path_next heads b row was now n q x d said
-path_further heads b row was now n None x d said = tt
+pub path_further : (heads : List Patch) (b : ℕ) (row below : List ℕ) (was now : Bool) (n : ℕ) (o : Option ℕ) → IsOnPath heads b row was n → ((q : ℕ) → Contains below q → DirectlyOn heads n q)
+    → (now ≡ true → (was ≡ true) ⊎ PassesAt (test.LiveOff b) heads n) → IfSome o (Contains below) → IfSome o (IsOnPath heads b row now)
+path_further heads b row below was now n (Some q) x d said c = path_next heads b row was now n q x (d q c) said
+path_further heads b row below was now n None x d said c = tt
 
 -- a live change of b that is below one of another block is what it returns to
 pub path_back : (heads : List Patch) (b : ℕ) (row : List ℕ) (n : ℕ) → IsOnPath heads b row true n → PassesAt (test.LiveOn b) heads n → HasUnder heads row (IsReturning heads b)

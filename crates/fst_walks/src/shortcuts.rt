@@ -9,6 +9,7 @@ ghost use Rattle.fst_types.specs.Facts.{IsOnDiskWithAll};
 ghost use Rattle.fst_types.specs.declared.place.Place.TheVariants as place;
 ghost use Rattle.fst_types.specs.Gates.{IsOpenNumber};
 ghost use Rattle.fst_types.specs.Tests.{is_change_at};
+ghost use Rattle.fst_heads.specs.declared.test.Test.TheVariants as test;
 ghost use Rattle.fst_heads.specs.Heads.{IsRising, kind_of, patch_of, patches_of};
 ghost use Rattle.fst_heads.specs.Marks.{PassesAt};
 ghost use Rattle.fst_heads.specs.Tests.{is_hard_kind};
@@ -26,8 +27,11 @@ use fst_heads::standing::Standing;
 use fst_heads::test::{Test, passes};
 use fst_types::Place;
 
-// How far a chain is followed. A chain over all blocks comes back within as many steps as there are blocks.
+// How far a chain is followed, how many patches beside it are looked at in all, and how many of one row. A chain over all
+// blocks comes back within as many steps as there are blocks.
 const MOST_STEPS: u32 = 4_096;
+const MOST_LOOKS: usize = 8_192;
+const WIDTH: usize = 64;
 
 /// Whether the patch with the number passes.
 pub fn passes_at(heads: &[Head], test: Test, number: u32) -> bool
@@ -114,33 +118,64 @@ fn newest(row: &[u32]) -> Option<u32>
     }
 }
 
-// The newest direct dependency of the patch with the number.
-fn newest_below(heads: &[Head], number: u32) -> Option<u32>
+// What the patch with the number directly depends on. Nothing is where it is forgotten.
+fn row_below(heads: &[Head], number: u32) -> &[u32]
     requires { IsRising heads.now }
-    ensures { IfSome result (DirectlyOn (patches_of heads.now) number) }
+    ensures { (q : ℕ) → Contains result.now q → DirectlyOn (patches_of heads.now) number q }
 {
-    let slot = slot_of(heads, number)?;
-    newest(heads[slot].dependencies.as_slice())
+    match slot_of(heads, number) {
+        Some(slot) => heads[slot].dependencies.as_slice(),
+        None => &[],
+    }
+}
+
+// The newest of the row, as many as are looked at.
+fn newest_few(row: &[u32]) -> &[u32]
+    ensures { (q : ℕ) → Contains result.now q → Contains row.now q }
+{
+    &row[row.len().saturating_sub(WIDTH)..]
+}
+
+// Whether one of the row is a change of the block that is not on disk.
+fn has_change(heads: &[Head], block: u32, row: &[u32]) -> bool
+    requires { IsRising heads.now }
+    ensures { IsTrue result → (q : ℕ) × Contains row.now q × PassesAt (test.LiveOn block) (patches_of heads.now) q }
+{
+    for number in row {
+        if passes_at(heads, Test::LiveOn(block), *number) {
+            return true;
+        }
+    }
+    false
 }
 
 /// Whether the newest of the row, the newest that it depends on, and so on, come over a change of another block back to
-/// one of the block, neither being on disk. A change of the block with that row is soft. Where they do not, another
-/// path may.
+/// one of the block, or to a patch that directly depends on one, none being on disk. A change of the block with that row
+/// is soft. Where they do not, another path may.
 pub fn comes_back(heads: &[Head], block: u32, row: &[u32]) -> bool
     requires { IsRising heads.now }
     ensures { IsTrue result → HasUnder (patches_of heads.now) row.now (IsReturning (patches_of heads.now) block) }
 {
     let mut next = newest(row);
     let mut away = false;
+    let mut looks = MOST_LOOKS;
     for _ in 0..MOST_STEPS {
         let Some(number) = next else {
             return false;
         };
-        if away && passes_at(heads, Test::LiveOn(block), number) {
-            return true;
-        }
         away = away || passes_at(heads, Test::LiveOff(block), number);
-        next = newest_below(heads, number);
+        let below = row_below(heads, number);
+        if away {
+            let few = newest_few(below);
+            if looks < few.len() {
+                return false;
+            }
+            if has_change(heads, block, few) {
+                return true;
+            }
+            looks -= few.len();
+        }
+        next = newest(below);
     }
     false
 }

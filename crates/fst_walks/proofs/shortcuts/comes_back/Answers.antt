@@ -2,16 +2,24 @@ use Rattle.std.proofs.Common.{◌≡◌, ◌⊎◌, ◌∙◌, true, IfSome, sym
 use Rattle.fst_heads.specs.declared.test.Test.TheVariants as test
 use Rattle.fst_heads.specs.Heads.{patches_of}
 use Rattle.fst_heads.specs.Marks.{PassesAt}
-use Rattle.fst_walks.proofs.NearRow.{IsOnPath, path_back, path_further}
+use Rattle.fst_walks.proofs.NearRow.{IsOnPath, path_next, path_further, path_back}
 use Rattle.fst_walks.proofs.shortcuts.comes_back.Goals as goal
-use Rattle.fst_walks.proofs.shortcuts.comes_back.Goals.{then-away-2, else-away-2}
+use Rattle.fst_walks.proofs.shortcuts.comes_back.Goals.{then-away, else-away}
 
-pub returns-then-passes_at : goal.returns-then-passes_at
-returns-then-passes_at c e =
+pub returns-then-has_change : goal.returns-then-has_change
+returns-then-has_change c e =
     let patches = patches_of c.args.heads.now in
+    let b = c.args.block in
+    let row = c.args.row.now in
     let n = c.in-Some.number in
-    let path : IsOnPath patches c.args.block c.args.row.now c.loop.away n = subst (λ o. IfSome o (IsOnPath patches c.args.block c.args.row.now c.loop.away)) c.in-Some.is c.loop.invariant in
-    path_back patches c.args.block c.args.row.now n (subst (λ a. IsOnPath patches c.args.block c.args.row.now a n) c.if-away.true path) (c.passes_at.ensures.0 c.if-passes_at.true)
+    let path : IsOnPath patches b row c.loop.away n = subst (λ o. IfSome o (IsOnPath patches b row c.loop.away)) c.in-Some.is c.loop.invariant in
+    let left : (c.loop.away ≡ true) ⊎ PassesAt (test.LiveOff b) patches n = elim c.if-away.branch [
+      | then-away w ↦ inl w.if-away.true
+      | else-away w ↦ inr (w.passes_at-away.ensures.0 (sym w.away-is ∙ c.if-away-2.true))
+    ] in
+    let back = c.has_change.ensures c.if-has_change.true in
+    let direct = c.row_below-below.ensures back.0 (c.newest_few-few.ensures back.0 back.1) in
+    path_back patches b row back.0 (path_next patches b row c.loop.away true n back.0 path direct (λ t. left)) back.2
 
 pub loop-preserved : goal.loop-preserved
 loop-preserved c =
@@ -20,8 +28,8 @@ loop-preserved c =
     let row = c.args.row.now in
     let n = c.in-Some.number in
     let path : IsOnPath patches b row c.loop.away n = subst (λ o. IfSome o (IsOnPath patches b row c.loop.away)) c.in-Some.is c.loop.invariant in
-    let said : c.if-away-2.away ≡ true → (c.loop.away ≡ true) ⊎ PassesAt (test.LiveOff b) patches n = λ e. elim c.if-away-2.branch [
-      | then-away-2 w ↦ inl w.if-away-2.true
-      | else-away-2 w ↦ inr (w.passes_at-away.ensures.0 (sym w.away-is ∙ e))
+    let left : c.if-away.away ≡ true → (c.loop.away ≡ true) ⊎ PassesAt (test.LiveOff b) patches n = λ e. elim c.if-away.branch [
+      | then-away w ↦ inl w.if-away.true
+      | else-away w ↦ inr (w.passes_at-away.ensures.0 (sym w.away-is ∙ e))
     ] in
-    path_further patches b row c.loop.away c.if-away-2.away n c.newest_below-next.result path c.newest_below-next.ensures said
+    path_further patches b row c.row_below-below.result.now c.loop.away c.if-away.away n c.newest-next-in-loop.result path c.row_below-below.ensures left c.newest-next-in-loop.ensures
