@@ -29,7 +29,9 @@ use fst_heads::marks::{marks_if, slot_of};
 use fst_heads::pending::{Pending, no_sums};
 use fst_heads::places::{block_of, keep_live, launch_all, weight};
 use fst_heads::row::{is_given, live_named, row_sums};
-use fst_heads::standing::{Standing, empty_standings, flying_count, held_count, land_at, least_marked, ready_count};
+use fst_heads::standing::{
+    Standing, empty_standings, flying_count, held_count, land_at, least_marked, ready_count,
+};
 use fst_types::{BlockNo, Fault, PatchNo, Place, Shape};
 use fst_walks::ascent::mark_flight;
 use fst_walks::block_walk::BlockWalk;
@@ -332,7 +334,13 @@ impl Patches {
     {
         self.prepared = None;
         let flying = flying_count(&self.standings, block.0);
-        land_block(&mut self.heads, &mut self.lists, &mut self.queue, flying, block.0);
+        land_block(
+            &mut self.heads,
+            &mut self.lists,
+            &mut self.queue,
+            flying,
+            block.0,
+        );
         land_at(&mut self.standings, block.0);
         let landed = cascade(&mut self.heads, &mut self.queue, &mut self.standings);
         self.live -= landed;

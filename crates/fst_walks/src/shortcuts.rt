@@ -27,10 +27,13 @@ use fst_heads::standing::Standing;
 use fst_heads::test::{Test, passes};
 use fst_types::Place;
 
-// How far a chain is followed, how many patches beside it are looked at in all, and how many of one row. A chain over all
-// blocks comes back within as many steps as there are blocks.
+// How far a chain is followed. A chain over all blocks comes back within as many steps as there are blocks.
 const MOST_STEPS: u32 = 4_096;
+
+// How many patches beside a chain are looked at in all.
 const MOST_LOOKS: usize = 8_192;
+
+// How many of one row are looked at.
 const WIDTH: usize = 64;
 
 /// Whether the patch with the number passes.
