@@ -1,5 +1,5 @@
 -- What the counts of a block say of its patches.
-use Rattle.std.proofs.Common.{◌≡◌, ◌&&◌, ◌||◌, ℕ, suc, ◌≤◌, Bool, true, false, not, List, [], ◌∷◌, map, filter, length, count_by, arith, refl, ap, ◌∙◌, inl, inr}
+use Rattle.std.proofs.Common.{◌≡◌, ◌&&◌, ◌||◌, ℕ, suc, ◌≤◌, Bool, false, not, List, [], ◌∷◌, filter, length, count_by, arith, refl, ap, ◌∙◌, inl, inr}
 use Rattle.std.proofs.Math.Bool.{or-false}
 use Rattle.std.proofs.lemmas.Bool.{cases_Bool}
 use Rattle.std.proofs.lemmas.List.{length-map}

@@ -11,6 +11,7 @@ pub mod AtNumber
 pub mod Linking
 pub mod Placed
 pub mod Listing
+pub mod Relisting
 pub mod Squares
 pub mod Joining
 pub mod Sums

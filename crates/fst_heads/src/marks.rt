@@ -1,6 +1,6 @@
 //! Marks on heads.
 
-ghost use Rattle.std.specs.Prelude.{◌≡◌, ◌↔◌, ◌&&◌, ℕ, List, length, IsTrue, IfSome, IfNone, Contains, option_map};
+ghost use Rattle.std.specs.Prelude.{◌≡◌, ◌↔◌, ◌&&◌, ℕ, List, length, IsTrue, IfSome, IfNone, option_map};
 ghost use Rattle.fst_heads.specs.declared.head.Head.{Head};
 ghost use Rattle.fst_heads.specs.Heads.{IsRising};
 ghost use Rattle.fst_heads.specs.Marks.{HasSlot, HasNone, Has, mark_in, mark_of};
@@ -53,20 +53,6 @@ pub fn is_marked(heads: &[Head], marks: &[bool], number: u32) -> bool
         Some(slot) => marks[slot],
         None => false,
     }
-}
-
-/// Whether one of the numbers is that of a marked head.
-pub fn names_marked(heads: &[Head], marks: &[bool], row: &[u32]) -> bool
-    requires rising { IsRising heads.now }
-    requires long { length marks.now ≡ length heads.now }
-    ensures { IsTrue result ↔ ((q : ℕ) × Contains row.now q × Has heads.now marks.now q) }
-{
-    for number in row {
-        if is_marked(heads, marks, *number) {
-            return true;
-        }
-    }
-    false
 }
 
 /// The marks, where they are to be looked at.

@@ -1,6 +1,5 @@
 -- What the list of a block tells of the patches of the heads, where it is known what is behind a flight.
-use Rattle.std.proofs.Common.{◌≡◌, ◌<◌, ◌↔◌, ◌∙◌, ℕ, Bool, true, List, [], ◌∷◌, Option, Some, None, IfOk, IfErr, IfSome, IfNone, Ok, Err, Result, Vec, Global, ◌++◌, length, take, drop, get_or, sym, ap, subst, arith}
-use Rattle.std.proofs.Math.Seq.{take-append_seam}
+use Rattle.std.proofs.Common.{◌≡◌, ◌<◌, ◌↔◌, ◌∙◌, ℕ, Bool, true, List, [], ◌∷◌, Option, Some, None, IfOk, IfErr, IfSome, IfNone, Ok, Err, Result, Vec, Global, length, get_or, sym, ap, subst, arith}
 use Rattle.std.proofs.lemmas.List.{length-map, get_or-map}
 use Rattle.fst_types.specs.declared.fault.Fault.{Fault}
 use Rattle.fst_types.specs.declared.fault.Fault.TheVariants as fault
@@ -28,10 +27,6 @@ listed_at heads blocks b lists l A lt there =
     let within : b < length lists = omega (arith, lt, A.long, length-map lists (λ v. entries_of v.items)) in
     let here : get_or (shelved lists) b [] ≡ entries_of l.items = get_or-map (λ v. entries_of v.items) lists b l [] within ∙ ap (λ v. entries_of v.items) (sym there) in
     sym here ∙ (A.each b [] lt ∙ ap (entries_on b) (patches_in_nodes heads))
-
--- a slice that is written whole replaces what was there
-pub replaced : (old new : List Bool) (n : ℕ) → n ≡ length new → take n (new ++ drop (length new) old) ≡ new
-replaced old new n e = ap (λ k. take k (new ++ drop (length new) old)) e ∙ take-append_seam new (drop (length new) old)
 
 -- how many lists there are
 pub shelves : (nodes : List Node) (blocks : ℕ) (lists slice : List (Vec Listed Global)) → AreListed (patches_in nodes) blocks (shelved lists) → slice ≡ lists → length slice ≡ blocks

@@ -100,9 +100,6 @@ module _ (heads : List Head) (n s : ℕ) (slot : HasSlot heads n s) (old new : T
 pub none_met : (heads : List Head) (walk : Trail) → walk.met ≡ [] → numbers_met heads walk ≡ []
 none_met heads walk none = ap (map (number_at heads)) none
 
-pub visited_none : (heads : List Head) (walk : Trail) → length walk.marks ≡ length heads → walk.met ≡ [] → Visited heads walk
-visited_none heads walk long none = record { long = long; live = λ n c. absurd (none_in n (subst (λ ms. Contains (map (number_at heads) ms) n) none c)) }
-
 -- what stays in the queue
 pub visits_old : (P : ℕ → Type 0) (old new : List ℕ) → Visits P old new → (n : ℕ) → Contains old n → Contains new n
 visits_old P old new v n c = subst (λ q. Contains q n) (sym v.kept.1) (Contains-append_left old v.kept.0 n c)

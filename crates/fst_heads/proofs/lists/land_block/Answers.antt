@@ -6,7 +6,8 @@ use Rattle.fst_types.specs.Tests.{is_among}
 use Rattle.fst_heads.specs.declared.lists.Listed.{Listed}
 use Rattle.fst_heads.specs.Heads.{patches_of}
 use Rattle.fst_heads.specs.Lists.{Entry, entries_of, entries_on}
-use Rattle.fst_heads.proofs.Listing.{listed_at, listed_landed, flying_rise, rising_patches, heads_landed, nothing_lands, nothing_flies, is_off}
+use Rattle.fst_heads.proofs.Relisting.{listed_landed, flying_rise}
+use Rattle.fst_heads.proofs.Listing.{listed_at, rising_patches, heads_landed, nothing_lands, nothing_flies, is_off}
 use Rattle.fst_heads.proofs.lists.land_block.Goals as goal
 
 pub land_listed-requires-clause-listed : goal.land_listed-requires-clause-listed

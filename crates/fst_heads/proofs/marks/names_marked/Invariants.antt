@@ -1,6 +1,0 @@
-use Rattle.std.proofs.Common.{ℕ, ◌<◌, get_or}
-use Rattle.fst_heads.specs.Marks.{Has}
-use Rattle.fst_heads.proofs.marks.names_marked.Given as goal
-
-abbrev pub invariant-loop-number : goal.invariant-loop-number
-invariant-loop-number l = (j : ℕ) → j < l.number-index → Has l.heads l.marks (get_or l.row j 0) → ⊥
