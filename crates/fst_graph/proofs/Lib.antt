@@ -16,6 +16,7 @@ pub mod Readied
 pub mod Listed
 pub mod Marking
 pub mod Settling
+pub mod Sound
 pub mod Tallied
 pub mod Borne
 pub mod Launches

@@ -5,3 +5,4 @@ pub mod Whole
 pub mod Membering
 pub mod Picking
 pub mod Ready
+pub mod Sound

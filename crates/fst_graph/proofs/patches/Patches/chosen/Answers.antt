@@ -14,13 +14,13 @@ use Rattle.fst_heads.proofs.Slots.{rising_heads}
 use Rattle.fst_graph.proofs.patches.Patches.chosen.Goals as goal
 
 pub mark_flight-flying-requires-clause-rising : goal.mark_flight-flying-requires-clause-rising
-mark_flight-flying-requires-clause-rising c = rw c.deref-2.ensures.value (rising_heads c.self.inside.heads.items c.self.invariant.0.lawful.one_place_each.rising)
+mark_flight-flying-requires-clause-rising c = rw c.deref-2.ensures.value (rising_heads c.self.inside.heads.items c.self.invariant.keeps.lawful.one_place_each.rising)
 
 pub mark_flight-flying-requires-clause-listed : goal.mark_flight-flying-requires-clause-listed
 mark_flight-flying-requires-clause-listed c =
     let s = c.self.inside in
     let b = c.args.block.0 in
-    let listed = c.self.invariant.4.listed in
+    let listed = c.self.invariant.tallies.listed in
     let list = c.in-Some.list.now in
     let lt = c.in-Some.ensures.lookup.3.0 in
     let many = shelves (nodes_of s.heads.items) s.blocks s.lists.items c.deref.result.now listed c.deref.ensures.value in
@@ -30,19 +30,19 @@ mark_flight-flying-requires-clause-listed c =
 pub mark_flight-flying-requires-clause-live : goal.mark_flight-flying-requires-clause-live
 mark_flight-flying-requires-clause-live c =
     let heads = c.self.inside.heads.items in
-    rw c.deref-2.ensures.value (λ n e. subst (λ ps. IsLiveNumber ps n) (patches_in_nodes heads) (pending_live (nodes_of heads) c.self.inside.blocks c.args.block.0 n c.self.invariant.4.settled e))
+    rw c.deref-2.ensures.value (λ n e. subst (λ ps. IsLiveNumber ps n) (patches_in_nodes heads) (pending_live (nodes_of heads) c.self.inside.blocks c.args.block.0 n c.self.invariant.tallies.settled e))
 
 pub mark_flight-flying-requires-clause-linked : goal.mark_flight-flying-requires-clause-linked
-mark_flight-flying-requires-clause-linked c = rw c.deref-2.ensures.value c.self.invariant.4.linked
+mark_flight-flying-requires-clause-linked c = rw c.deref-2.ensures.value c.self.invariant.tallies.linked
 
 pub ready_set-requires-clause-rising : goal.ready_set-requires-clause-rising
-ready_set-requires-clause-rising c = rw c.deref-6.ensures.value (rising_heads c.self.inside.heads.items c.self.invariant.0.lawful.one_place_each.rising)
+ready_set-requires-clause-rising c = rw c.deref-6.ensures.value (rising_heads c.self.inside.heads.items c.self.invariant.keeps.lawful.one_place_each.rising)
 
 pub ready_set-requires-clause-listed : goal.ready_set-requires-clause-listed
 ready_set-requires-clause-listed c =
     let s = c.self.inside in
     let b = c.args.block.0 in
-    let listed = c.self.invariant.4.listed in
+    let listed = c.self.invariant.tallies.listed in
     let list = c.in-Some.list.now in
     let lt = c.in-Some.ensures.lookup.3.0 in
     let many = shelves (nodes_of s.heads.items) s.blocks s.lists.items c.deref.result.now listed c.deref.ensures.value in
@@ -52,7 +52,7 @@ ready_set-requires-clause-listed c =
 pub ready_set-requires-clause-long : goal.ready_set-requires-clause-long
 ready_set-requires-clause-long c =
     let heads = c.self.inside.heads.items in
-    let as_many = c.self.invariant.0.marked in
+    let as_many = c.self.invariant.keeps.marked in
     let patches = length-map heads patch_of in
     let same : length c.marks.result.now ≡ length c.deref-6.result.now =
     omega (arith, as_many, patches, ap length c.deref-6.ensures.value, ap length c.deref-2.ensures.value, ap length c.marks.ensures.marks, c.mark_flight-flying.ensures.long) in
@@ -64,9 +64,9 @@ ready_set-requires-clause-most c =
     let b = c.args.block.0 in
     let heads = c.deref-6.result.now in
     let few = free_few (mark_in heads (option_map (λ m. m.now) c.marks_if-marks.result)) b (nodes_of heads) in
-    let stands = c.self.invariant.4.standing in
+    let stands = c.self.invariant.tallies.standing in
     let lt = c.in-Some.ensures.lookup.3.0 in
-    let many = shelves (nodes_of s.heads.items) s.blocks s.lists.items c.deref.result.now c.self.invariant.4.listed c.deref.ensures.value in
+    let many = shelves (nodes_of s.heads.items) s.blocks s.lists.items c.deref.result.now c.self.invariant.tallies.listed c.deref.ensures.value in
     let inside : b < length s.standings.items = omega (arith, lt, many, stands.long) in
     let counted = stands.each b none_yet (omega (arith, inside, stands.long)) in
     let told = c.ready_count-most.ensures none_yet (subst (λ xs. b < length xs) (sym c.deref-5.ensures.value) inside) in
@@ -80,8 +80,8 @@ pub returns-in_default-clause-ok : goal.returns-in_default-clause-ok
 returns-in_default-clause-ok c =
     let s = c.self.inside in
     let past = c.in_default.ensures.lookup.3 in
-    let many = shelves (nodes_of s.heads.items) s.blocks s.lists.items c.deref.result.now c.self.invariant.4.listed c.deref.ensures.value in
-    rw (← c.self.view_is, c.new.ensures.items) (empty_set (patches_of s.heads.items) s.blocks c.args.block.0 c.self.invariant.0.inside (λ lt. omega (arith, lt, past, many)))
+    let many = shelves (nodes_of s.heads.items) s.blocks s.lists.items c.deref.result.now c.self.invariant.tallies.listed c.deref.ensures.value in
+    rw (← c.self.view_is, c.new.ensures.items) (empty_set (patches_of s.heads.items) s.blocks c.args.block.0 c.self.invariant.keeps.inside (λ lt. omega (arith, lt, past, many)))
 
 pub returns-clause-ok : goal.returns-clause-ok
 returns-clause-ok c =
@@ -94,7 +94,7 @@ returns-clause-ok c =
     let exact : (n : ℕ) → (behind n ≡ true) ↔ IsBehind (nodes_of heads) b n = λ n.
     subst (λ t. (t ≡ true) ↔ IsBehind (nodes_of heads) b n) (sym (c.marks_if-marks.ensures.marks heads n ∙ ap (λ k. c.mark_flight-flying.result && mark_of heads k n) back)) (rw (← c.deref-2.ensures.value) (c.mark_flight-flying.ensures.behind n)) in
     rw (← c.self.view_is)
-    (chosen_ready heads s.numbers s.blocks s.walks.walk.marks _ s.standings.items s.queue.items s.queue.cap b c.self.invariant.0 c.self.invariant.4 behind exact c.ready_set.result
+    (chosen_ready heads s.numbers s.blocks s.walks.walk.marks _ s.standings.items s.queue.items s.queue.cap b c.self.invariant.keeps c.self.invariant.tallies behind exact c.ready_set.result
     (rw (← c.deref-6.ensures.value) c.ready_set.ensures.ok))
 
 pub returns-clause-refused : goal.returns-clause-refused
@@ -108,5 +108,5 @@ returns-clause-refused c =
     let exact : (n : ℕ) → (behind n ≡ true) ↔ IsBehind (nodes_of heads) b n = λ n.
     subst (λ t. (t ≡ true) ↔ IsBehind (nodes_of heads) b n) (sym (c.marks_if-marks.ensures.marks heads n ∙ ap (λ k. c.mark_flight-flying.result && mark_of heads k n) back)) (rw (← c.deref-2.ensures.value) (c.mark_flight-flying.ensures.behind n)) in
     rw (← c.self.view_is)
-    (chosen_refused heads s.numbers s.blocks s.walks.walk.marks _ s.standings.items s.queue.items s.queue.cap b c.self.invariant.0 c.self.invariant.4 behind exact c.ready_set.result
+    (chosen_refused heads s.numbers s.blocks s.walks.walk.marks _ s.standings.items s.queue.items s.queue.cap b c.self.invariant.keeps c.self.invariant.tallies behind exact c.ready_set.result
     (rw (← c.deref-6.ensures.value) c.ready_set.ensures.refused))

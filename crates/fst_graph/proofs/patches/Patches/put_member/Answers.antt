@@ -18,11 +18,8 @@ use Rattle.fst_heads.specs.Frames.{HasRoomBelow}
 use Rattle.fst_heads.specs.Heads.{patch_of, patches_of}
 use Rattle.fst_graph.specs.Known.{Known}
 use Rattle.fst_heads.specs.Names.{numbers_of}
-use Rattle.fst_heads.specs.Lists.{HasRoomInList}
-use Rattle.fst_graph.specs.declared.prepared.Prepared.{Prepared as Stored}
 use Rattle.fst_heads.specs.Nodes.{Node, node_of, nodes_of, patches_in, pending_in, at_number, gains_names, linked_to}
 use Rattle.fst_heads.specs.Pendings.{is_pending, joined, joined_sums, over_block, sums_of}
-use Rattle.fst_graph.specs.Ready.{HasPlaces, HasRoomAround}
 use Rattle.fst_heads.specs.Standings.{is_ready_on, is_held_on, standing_of, entered}
 use Rattle.fst_heads.specs.Tests.{is_hard_kind}
 use Rattle.fst_heads.proofs.Added.{new_node, with_node, with_names}
@@ -36,6 +33,7 @@ use Rattle.fst_walks.proofs.Linked.{patches_named}
 use Rattle.fst_heads.proofs.Linking.{rising_as}
 use Rattle.fst_graph.proofs.Listed.{listed_change, live_dependency}
 use Rattle.fst_graph.proofs.Readied.{hard_may}
+use Rattle.fst_graph.proofs.Sound.{prepared_is}
 use Rattle.fst_walks.proofs.Seen.{seen, linked_patches, lawful_nodes, gained_number}
 use Rattle.fst_walks.proofs.Shelves.{shelved_push}
 use Rattle.fst_heads.proofs.Slots.{rising_heads}
@@ -47,10 +45,10 @@ use Rattle.fst_heads.proofs.Touching.{keeps_change, depends_exactly}
 use Rattle.fst_graph.proofs.patches.Patches.put_member.Goals as goal
 
 pub row_sums-sums-requires : goal.row_sums-sums-requires
-row_sums-sums-requires c = rw c.deref.ensures.value (rising_heads c.self.inside.heads.items c.self.invariant.0.lawful.one_place_each.rising)
+row_sums-sums-requires c = rw c.deref.ensures.value (rising_heads c.self.inside.heads.items c.self.invariant.keeps.lawful.one_place_each.rising)
 
 pub link-requires-clause-rising : goal.link-requires-clause-rising
-link-requires-clause-rising c = rising_heads c.self.inside.heads.items c.self.invariant.0.lawful.one_place_each.rising
+link-requires-clause-rising c = rising_heads c.self.inside.heads.items c.self.invariant.keeps.lawful.one_place_each.rising
 
 pub link-requires-clause-once : goal.link-requires-clause-once
 link-requires-clause-once c =
@@ -63,13 +61,17 @@ link-requires-clause-once c =
     let gates = c.in-Some-gates.gates in
     let q = c.requires.prepared in
     let kept : c.self.inside.prepared ≡ Some p = sym c.take.ensures.value ∙ c.in-Some.is in
-    let K = c.self.invariant.0 in
-    let T = c.self.invariant.4 in
-    let R = member_kept c.self.inside.prepared p gates old n blocks kept c.in-Some-gates.is c.self.invariant.1 in
+    let K = c.self.invariant.keeps in
+    let T = c.self.invariant.tallies in
+    let I = prepared_is c.self.invariant p kept in
+    let R = member_kept p gates old n blocks c.in-Some-gates.is I.ready in
     let own : gates.head ≡ c.args.head = head_same c.self.inside.prepared n q.0 c.args.head p gates (ap (λ k. k.prepared) c.self.view_is ∙ q.1) q.2 kept c.in-Some-gates.is in
     let closed : IsOpenNumber old gates.head → ⊥ = λ o. c.requires.closed (subst (λ (v : Known). IsOpenNumber v.heads c.args.head) c.self.view_is (subst (IsOpenNumber old) own o)) in
     let ready = ready_now old n blocks c.self.inside.walks.walk.marks K gates p R closed in
     rw c.as_slice-2.ensures ready.depends.rising
+
+pub link-requires-clause-room : goal.link-requires-clause-room
+link-requires-clause-room c = rw c.as_slice-2.ensures (prepared_is c.self.invariant c.in-Some.prepared (sym c.take.ensures.value ∙ c.in-Some.is)).around.0
 
 pub push_reserved-requires-2 : goal.push_reserved-requires-2
 push_reserved-requires-2 c =
@@ -82,15 +84,16 @@ push_reserved-requires-2 c =
     let gates = c.in-Some-gates.gates in
     let q = c.requires.prepared in
     let kept : c.self.inside.prepared ≡ Some p = sym c.take.ensures.value ∙ c.in-Some.is in
-    let K = c.self.invariant.0 in
-    let T = c.self.invariant.4 in
-    let R = member_kept c.self.inside.prepared p gates old n blocks kept c.in-Some-gates.is c.self.invariant.1 in
+    let K = c.self.invariant.keeps in
+    let T = c.self.invariant.tallies in
+    let I = prepared_is c.self.invariant p kept in
+    let R = member_kept p gates old n blocks c.in-Some-gates.is I.ready in
     let own : gates.head ≡ c.args.head = head_same c.self.inside.prepared n q.0 c.args.head p gates (ap (λ k. k.prepared) c.self.view_is ∙ q.1) q.2 kept c.in-Some-gates.is in
     let closed : IsOpenNumber old gates.head → ⊥ = λ o. c.requires.closed (subst (λ (v : Known). IsOpenNumber v.heads c.args.head) c.self.view_is (subst (IsOpenNumber old) own o)) in
     let ready = ready_now old n blocks c.self.inside.walks.walk.marks K gates p R closed in
     let lists = c.self.inside.lists.items in
     let long : length lists ≡ blocks = sym (length-map lists _) ∙ T.listed.long in
-    let room = subst (λ o. IfSome o (λ (x : Stored). HasRoomInList (map (λ l. vec_len l) lists) (map (λ l. vec_capacity l) lists) x.block)) kept c.self.invariant.6 in
+    let room = I.in_list in
     let inside : p.block < length lists = let i = ready.inside in omega (arith, i, long) in
     let v = c.index_mut.result.now in
     let lens = get_or-map (λ l. vec_len l) lists p.block v 0 inside in
@@ -108,9 +111,10 @@ index_mut-requires-2 c =
     let gates = c.in-Some-gates.gates in
     let q = c.requires.prepared in
     let kept : c.self.inside.prepared ≡ Some p = sym c.take.ensures.value ∙ c.in-Some.is in
-    let K = c.self.invariant.0 in
-    let T = c.self.invariant.4 in
-    let R = member_kept c.self.inside.prepared p gates old n blocks kept c.in-Some-gates.is c.self.invariant.1 in
+    let K = c.self.invariant.keeps in
+    let T = c.self.invariant.tallies in
+    let I = prepared_is c.self.invariant p kept in
+    let R = member_kept p gates old n blocks c.in-Some-gates.is I.ready in
     let own : gates.head ≡ c.args.head = head_same c.self.inside.prepared n q.0 c.args.head p gates (ap (λ k. k.prepared) c.self.view_is ∙ q.1) q.2 kept c.in-Some-gates.is in
     let closed : IsOpenNumber old gates.head → ⊥ = λ o. c.requires.closed (subst (λ (v : Known). IsOpenNumber v.heads c.args.head) c.self.view_is (subst (IsOpenNumber old) own o)) in
     let ready = ready_now old n blocks c.self.inside.walks.walk.marks K gates p R closed in
@@ -131,9 +135,10 @@ enter-requires-clause-ready c =
     let gates = c.in-Some-gates.gates in
     let q = c.requires.prepared in
     let kept : c.self.inside.prepared ≡ Some p = sym c.take.ensures.value ∙ c.in-Some.is in
-    let K = c.self.invariant.0 in
-    let T = c.self.invariant.4 in
-    let R = member_kept c.self.inside.prepared p gates old n blocks kept c.in-Some-gates.is c.self.invariant.1 in
+    let K = c.self.invariant.keeps in
+    let T = c.self.invariant.tallies in
+    let I = prepared_is c.self.invariant p kept in
+    let R = member_kept p gates old n blocks c.in-Some-gates.is I.ready in
     let own : gates.head ≡ c.args.head = head_same c.self.inside.prepared n q.0 c.args.head p gates (ap (λ k. k.prepared) c.self.view_is ∙ q.1) q.2 kept c.in-Some-gates.is in
     let closed : IsOpenNumber old gates.head → ⊥ = λ o. c.requires.closed (subst (λ (v : Known). IsOpenNumber v.heads c.args.head) c.self.view_is (subst (IsOpenNumber old) own o)) in
     let ready = ready_now old n blocks c.self.inside.walks.walk.marks K gates p R closed in
@@ -151,9 +156,10 @@ enter-requires-clause-held c =
     let gates = c.in-Some-gates.gates in
     let q = c.requires.prepared in
     let kept : c.self.inside.prepared ≡ Some p = sym c.take.ensures.value ∙ c.in-Some.is in
-    let K = c.self.invariant.0 in
-    let T = c.self.invariant.4 in
-    let R = member_kept c.self.inside.prepared p gates old n blocks kept c.in-Some-gates.is c.self.invariant.1 in
+    let K = c.self.invariant.keeps in
+    let T = c.self.invariant.tallies in
+    let I = prepared_is c.self.invariant p kept in
+    let R = member_kept p gates old n blocks c.in-Some-gates.is I.ready in
     let own : gates.head ≡ c.args.head = head_same c.self.inside.prepared n q.0 c.args.head p gates (ap (λ k. k.prepared) c.self.view_is ∙ q.1) q.2 kept c.in-Some-gates.is in
     let closed : IsOpenNumber old gates.head → ⊥ = λ o. c.requires.closed (subst (λ (v : Known). IsOpenNumber v.heads c.args.head) c.self.view_is (subst (IsOpenNumber old) own o)) in
     let ready = ready_now old n blocks c.self.inside.walks.walk.marks K gates p R closed in
@@ -171,9 +177,10 @@ row_sums-gained-requires c =
     let gates = c.in-Some-gates.gates in
     let q = c.requires.prepared in
     let kept : c.self.inside.prepared ≡ Some p = sym c.take.ensures.value ∙ c.in-Some.is in
-    let K = c.self.invariant.0 in
-    let T = c.self.invariant.4 in
-    let R = member_kept c.self.inside.prepared p gates old n blocks kept c.in-Some-gates.is c.self.invariant.1 in
+    let K = c.self.invariant.keeps in
+    let T = c.self.invariant.tallies in
+    let I = prepared_is c.self.invariant p kept in
+    let R = member_kept p gates old n blocks c.in-Some-gates.is I.ready in
     let own : gates.head ≡ c.args.head = head_same c.self.inside.prepared n q.0 c.args.head p gates (ap (λ k. k.prepared) c.self.view_is ∙ q.1) q.2 kept c.in-Some-gates.is in
     let closed : IsOpenNumber old gates.head → ⊥ = λ o. c.requires.closed (subst (λ (v : Known). IsOpenNumber v.heads c.args.head) c.self.view_is (subst (IsOpenNumber old) own o)) in
     let ready = ready_now old n blocks c.self.inside.walks.walk.marks K gates p R closed in
@@ -203,9 +210,10 @@ gain_one-requires-clause-rising c =
     let gates = c.in-Some-gates.gates in
     let q = c.requires.prepared in
     let kept : c.self.inside.prepared ≡ Some p = sym c.take.ensures.value ∙ c.in-Some.is in
-    let K = c.self.invariant.0 in
-    let T = c.self.invariant.4 in
-    let R = member_kept c.self.inside.prepared p gates old n blocks kept c.in-Some-gates.is c.self.invariant.1 in
+    let K = c.self.invariant.keeps in
+    let T = c.self.invariant.tallies in
+    let I = prepared_is c.self.invariant p kept in
+    let R = member_kept p gates old n blocks c.in-Some-gates.is I.ready in
     let own : gates.head ≡ c.args.head = head_same c.self.inside.prepared n q.0 c.args.head p gates (ap (λ k. k.prepared) c.self.view_is ∙ q.1) q.2 kept c.in-Some-gates.is in
     let closed : IsOpenNumber old gates.head → ⊥ = λ o. c.requires.closed (subst (λ (v : Known). IsOpenNumber v.heads c.args.head) c.self.view_is (subst (IsOpenNumber old) own o)) in
     let ready = ready_now old n blocks c.self.inside.walks.walk.marks K gates p R closed in
@@ -235,9 +243,10 @@ gain_one-requires-clause-counted c =
     let gates = c.in-Some-gates.gates in
     let q = c.requires.prepared in
     let kept : c.self.inside.prepared ≡ Some p = sym c.take.ensures.value ∙ c.in-Some.is in
-    let K = c.self.invariant.0 in
-    let T = c.self.invariant.4 in
-    let R = member_kept c.self.inside.prepared p gates old n blocks kept c.in-Some-gates.is c.self.invariant.1 in
+    let K = c.self.invariant.keeps in
+    let T = c.self.invariant.tallies in
+    let I = prepared_is c.self.invariant p kept in
+    let R = member_kept p gates old n blocks c.in-Some-gates.is I.ready in
     let own : gates.head ≡ c.args.head = head_same c.self.inside.prepared n q.0 c.args.head p gates (ap (λ k. k.prepared) c.self.view_is ∙ q.1) q.2 kept c.in-Some-gates.is in
     let closed : IsOpenNumber old gates.head → ⊥ = λ o. c.requires.closed (subst (λ (v : Known). IsOpenNumber v.heads c.args.head) c.self.view_is (subst (IsOpenNumber old) own o)) in
     let ready = ready_now old n blocks c.self.inside.walks.walk.marks K gates p R closed in
@@ -254,8 +263,7 @@ gain_one-requires-clause-counted c =
     let nodes1 = with_node nodes made in
     let at1 : nodes_of c.push_reserved.new.self.items ≡ nodes1 = rw (c.push_reserved.ensures.items, map_push, c.link.ensures.nodes, c.as_slice-2.ensures, over, sums, c.new.ensures.items) refl in
     let seen1 : patches_of c.push_reserved.new.self.items ≡ old ++ made ∷ [] = rw (c.push_reserved.ensures.items, map_push, patches) refl in
-    let places = subst (λ o. IfSome o (λ _. HasPlaces c.self.inside.heads.len c.self.inside.heads.cap (length c.self.inside.walks.walk.marks) c.self.inside.walks.walk.room c.self.inside.queue.cap)) kept c.self.invariant.2 in
-    let room : length nodes < c.self.inside.queue.cap = let free = places.queue_free in omega (arith, free, c.self.inside.heads.ok.0, length-map heads node_of) in
+    let room : length nodes < c.self.inside.queue.cap = let free = I.places.queue_free in omega (arith, free, c.self.inside.heads.ok.0, length-map heads node_of) in
     let live : (m : _) → Contains row m → IsLiveNumber (patches_in nodes) m = λ m h. subst (λ ps. IsLiveNumber ps m) (sym (patches_in_nodes heads)) (live_dependency old (numbers_of p.names.items) p.block p.span.at p.span.len m (ready.depends.only m h)) in
     let lawful = subst (λ ps. HeadsAreLawful (ps ++ made ∷ []) (n + 1)) (sym (patches_in_nodes heads)) keeps.lawful in
     let own_counts = c.index_mut-2.result.now in
@@ -277,9 +285,10 @@ gain_one-requires-clause-room c =
     let gates = c.in-Some-gates.gates in
     let q = c.requires.prepared in
     let kept : c.self.inside.prepared ≡ Some p = sym c.take.ensures.value ∙ c.in-Some.is in
-    let K = c.self.invariant.0 in
-    let T = c.self.invariant.4 in
-    let R = member_kept c.self.inside.prepared p gates old n blocks kept c.in-Some-gates.is c.self.invariant.1 in
+    let K = c.self.invariant.keeps in
+    let T = c.self.invariant.tallies in
+    let I = prepared_is c.self.invariant p kept in
+    let R = member_kept p gates old n blocks c.in-Some-gates.is I.ready in
     let own : gates.head ≡ c.args.head = head_same c.self.inside.prepared n q.0 c.args.head p gates (ap (λ k. k.prepared) c.self.view_is ∙ q.1) q.2 kept c.in-Some-gates.is in
     let closed : IsOpenNumber old gates.head → ⊥ = λ o. c.requires.closed (subst (λ (v : Known). IsOpenNumber v.heads c.args.head) c.self.view_is (subst (IsOpenNumber old) own o)) in
     let ready = ready_now old n blocks c.self.inside.walks.walk.marks K gates p R closed in
@@ -296,8 +305,7 @@ gain_one-requires-clause-room c =
     let nodes1 = with_node nodes made in
     let at1 : nodes_of c.push_reserved.new.self.items ≡ nodes1 = rw (c.push_reserved.ensures.items, map_push, c.link.ensures.nodes, c.as_slice-2.ensures, over, sums, c.new.ensures.items) refl in
     let seen1 : patches_of c.push_reserved.new.self.items ≡ old ++ made ∷ [] = rw (c.push_reserved.ensures.items, map_push, patches) refl in
-    let around = subst (λ o. IfSome o (HasRoomAround heads)) kept c.self.invariant.5 in
-    let below_tail : HasRoomBelow heads gates.tail = subst (λ g. IfSome g (λ x. HasRoomBelow heads x.tail)) c.in-Some-gates.is around.1 in
+    let below_tail : HasRoomBelow heads gates.tail = subst (λ g. IfSome g (λ x. HasRoomBelow heads x.tail)) c.in-Some-gates.is I.around.1 in
     rw c.push_reserved.ensures.items (pushed_below c.link.new.heads.items _ gates.tail (λ e. let t = R.paired.tail_open in let k = (K.lawful.one_place_each.numbered t.patch t.head).1 in let f = t.numbered in omega (arith, e, k, f)) (c.link.ensures.below gates.tail below_tail))
 
 pub link-requires-2-clause-rising : goal.link-requires-2-clause-rising
@@ -311,9 +319,10 @@ link-requires-2-clause-rising c =
     let gates = c.in-Some-gates.gates in
     let q = c.requires.prepared in
     let kept : c.self.inside.prepared ≡ Some p = sym c.take.ensures.value ∙ c.in-Some.is in
-    let K = c.self.invariant.0 in
-    let T = c.self.invariant.4 in
-    let R = member_kept c.self.inside.prepared p gates old n blocks kept c.in-Some-gates.is c.self.invariant.1 in
+    let K = c.self.invariant.keeps in
+    let T = c.self.invariant.tallies in
+    let I = prepared_is c.self.invariant p kept in
+    let R = member_kept p gates old n blocks c.in-Some-gates.is I.ready in
     let own : gates.head ≡ c.args.head = head_same c.self.inside.prepared n q.0 c.args.head p gates (ap (λ k. k.prepared) c.self.view_is ∙ q.1) q.2 kept c.in-Some-gates.is in
     let closed : IsOpenNumber old gates.head → ⊥ = λ o. c.requires.closed (subst (λ (v : Known). IsOpenNumber v.heads c.args.head) c.self.view_is (subst (IsOpenNumber old) own o)) in
     let ready = ready_now old n blocks c.self.inside.walks.walk.marks K gates p R closed in
@@ -343,9 +352,10 @@ link-requires-2-clause-room c =
     let gates = c.in-Some-gates.gates in
     let q = c.requires.prepared in
     let kept : c.self.inside.prepared ≡ Some p = sym c.take.ensures.value ∙ c.in-Some.is in
-    let K = c.self.invariant.0 in
-    let T = c.self.invariant.4 in
-    let R = member_kept c.self.inside.prepared p gates old n blocks kept c.in-Some-gates.is c.self.invariant.1 in
+    let K = c.self.invariant.keeps in
+    let T = c.self.invariant.tallies in
+    let I = prepared_is c.self.invariant p kept in
+    let R = member_kept p gates old n blocks c.in-Some-gates.is I.ready in
     let own : gates.head ≡ c.args.head = head_same c.self.inside.prepared n q.0 c.args.head p gates (ap (λ k. k.prepared) c.self.view_is ∙ q.1) q.2 kept c.in-Some-gates.is in
     let closed : IsOpenNumber old gates.head → ⊥ = λ o. c.requires.closed (subst (λ (v : Known). IsOpenNumber v.heads c.args.head) c.self.view_is (subst (IsOpenNumber old) own o)) in
     let ready = ready_now old n blocks c.self.inside.walks.walk.marks K gates p R closed in
@@ -364,9 +374,10 @@ invariant_of-self c =
     let gates = c.in-Some-gates.gates in
     let q = c.requires.prepared in
     let kept : c.self.inside.prepared ≡ Some p = sym c.take.ensures.value ∙ c.in-Some.is in
-    let K = c.self.invariant.0 in
-    let T = c.self.invariant.4 in
-    let R = member_kept c.self.inside.prepared p gates old n blocks kept c.in-Some-gates.is c.self.invariant.1 in
+    let K = c.self.invariant.keeps in
+    let T = c.self.invariant.tallies in
+    let I = prepared_is c.self.invariant p kept in
+    let R = member_kept p gates old n blocks c.in-Some-gates.is I.ready in
     let own : gates.head ≡ c.args.head = head_same c.self.inside.prepared n q.0 c.args.head p gates (ap (λ k. k.prepared) c.self.view_is ∙ q.1) q.2 kept c.in-Some-gates.is in
     let closed : IsOpenNumber old gates.head → ⊥ = λ o. c.requires.closed (subst (λ (v : Known). IsOpenNumber v.heads c.args.head) c.self.view_is (subst (IsOpenNumber old) own o)) in
     let ready = ready_now old n blocks c.self.inside.walks.walk.marks K gates p R closed in
@@ -383,8 +394,7 @@ invariant_of-self c =
     let nodes1 = with_node nodes made in
     let at1 : nodes_of c.push_reserved.new.self.items ≡ nodes1 = rw (c.push_reserved.ensures.items, map_push, c.link.ensures.nodes, c.as_slice-2.ensures, over, sums, c.new.ensures.items) refl in
     let seen1 : patches_of c.push_reserved.new.self.items ≡ old ++ made ∷ [] = rw (c.push_reserved.ensures.items, map_push, patches) refl in
-    let places = subst (λ o. IfSome o (λ _. HasPlaces c.self.inside.heads.len c.self.inside.heads.cap (length c.self.inside.walks.walk.marks) c.self.inside.walks.walk.room c.self.inside.queue.cap)) kept c.self.invariant.2 in
-    let room : length nodes < c.self.inside.queue.cap = let free = places.queue_free in omega (arith, free, c.self.inside.heads.ok.0, length-map heads node_of) in
+    let room : length nodes < c.self.inside.queue.cap = let free = I.places.queue_free in omega (arith, free, c.self.inside.heads.ok.0, length-map heads node_of) in
     let live : (m : _) → Contains row m → IsLiveNumber (patches_in nodes) m = λ m h. subst (λ ps. IsLiveNumber ps m) (sym (patches_in_nodes heads)) (live_dependency old (numbers_of p.names.items) p.block p.span.at p.span.len m (ready.depends.only m h)) in
     let lawful = subst (λ ps. HeadsAreLawful (ps ++ made ∷ []) (n + 1)) (sym (patches_in_nodes heads)) keeps.lawful in
     let own_counts = c.index_mut-2.result.now in
@@ -420,16 +430,13 @@ invariant_of-self c =
     let lawful2 = subst (λ ps. HeadsAreLawful ps (n + 1)) (sym seen2 ∙ seen c.link-2.new.heads.items _ at2) keeps2.lawful in
     let tallies2 = tallies_depends nodes1 (n + 1) blocks _ _ _ c.self.inside.queue.cap tail names names lawful1 lawful2 tallies (subst (λ ps. IsOpenNumber ps tail) back gate)
     (subst (λ ps. Lists (λ m. IsLiveNumber ps m × Contains names m × (DirectlyOn ps tail m → ⊥)) names) back gain) in
-    rw c.take.ensures.after (
-      rw (seen2, c.grow.ensures.marks) keeps2,
-      tt,
-      tt,
-      rw seen2 (beside_depends (old ++ made ∷ []) blocks (c.self.inside.live + 1) c.self.inside.walks.crossed.items tail names (beside_made old blocks c.self.inside.live 1 c.self.inside.walks.crossed.items made refl c.self.invariant.3)),
-      rw (at2, entering, shelved_push c.self.inside.lists.items p.block c.index_mut.result.now c.push_reserved-2.new.self _ (let inside = ready.inside in omega (arith, inside, long)) c.index_mut.ensures.value c.push_reserved-2.ensures.items)
-          tallies2,
-      tt,
-      tt,
-    )
+    rw c.take.ensures.after (record {
+      keeps = rw (seen2, c.grow.ensures.marks) keeps2;
+      beside = rw seen2 (beside_depends (old ++ made ∷ []) blocks (c.self.inside.live + 1) c.self.inside.walks.crossed.items tail names (beside_made old blocks c.self.inside.live 1 c.self.inside.walks.crossed.items made refl c.self.invariant.beside));
+      tallies = rw (at2, entering, shelved_push c.self.inside.lists.items p.block c.index_mut.result.now c.push_reserved-2.new.self _ (let inside = ready.inside in omega (arith, inside, long)) c.index_mut.ensures.value c.push_reserved-2.ensures.items)
+          tallies2;
+      prepared = tt;
+    })
 
 pub returns-clause-made : goal.returns-clause-made
 returns-clause-made c =
@@ -442,9 +449,10 @@ returns-clause-made c =
     let gates = c.in-Some-gates.gates in
     let q = c.requires.prepared in
     let kept : c.self.inside.prepared ≡ Some p = sym c.take.ensures.value ∙ c.in-Some.is in
-    let K = c.self.invariant.0 in
-    let T = c.self.invariant.4 in
-    let R = member_kept c.self.inside.prepared p gates old n blocks kept c.in-Some-gates.is c.self.invariant.1 in
+    let K = c.self.invariant.keeps in
+    let T = c.self.invariant.tallies in
+    let I = prepared_is c.self.invariant p kept in
+    let R = member_kept p gates old n blocks c.in-Some-gates.is I.ready in
     let own : gates.head ≡ c.args.head = head_same c.self.inside.prepared n q.0 c.args.head p gates (ap (λ k. k.prepared) c.self.view_is ∙ q.1) q.2 kept c.in-Some-gates.is in
     let closed : IsOpenNumber old gates.head → ⊥ = λ o. c.requires.closed (subst (λ (v : Known). IsOpenNumber v.heads c.args.head) c.self.view_is (subst (IsOpenNumber old) own o)) in
     let ready = ready_now old n blocks c.self.inside.walks.walk.marks K gates p R closed in
