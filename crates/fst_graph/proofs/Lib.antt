@@ -17,6 +17,7 @@ pub mod Listed
 pub mod Marking
 pub mod Settling
 pub mod Sound
+pub mod AtRest
 pub mod Tallied
 pub mod Borne
 pub mod Launches
