@@ -6,8 +6,6 @@ pub mod GroupCalls
 pub mod Grouped
 pub mod PlaceOf
 pub mod Emptying
-pub mod Choosing
-pub mod Mapping
 pub mod Kept
 pub mod GateSlot
 pub mod Picked
