@@ -16,6 +16,7 @@ pub mod Marking
 pub mod Settling
 pub mod Sound
 pub mod AtRest
+pub mod PutNow
 pub mod Tallied
 pub mod Borne
 pub mod Launches

@@ -1,22 +1,21 @@
-use Rattle.std.proofs.Common.{ℕ, Bool, List, ◌≡◌, ◌<◌, ◌≤◌, ◌+◌, ◌++◌, ◌∷◌, ◌∙◌, [], Some, arith, sym, subst, refl, ap, length, count_by, get_or, Contains}
+use Rattle.std.proofs.Common.{◌≡◌, ◌<◌, ◌+◌, ◌++◌, ◌∷◌, ◌∙◌, [], Some, arith, sym, subst, refl, ap, length, get_or, Contains}
 use Rattle.std.proofs.lemmas.List.{length-map}
-use Rattle.std.proofs.lemmas.List.Sums.{count_by-le-length}
 use Rattle.fst_types.specs.Dependencies.{IsLiveNumber}
 use Rattle.fst_types.specs.Facts.{HeadsAreLawful}
 use Rattle.fst_types.specs.Limits.{max_heads}
 use Rattle.fst_types.specs.Making.{fresh}
 use Rattle.fst_types.specs.Patches.{Change}
 use Rattle.fst_heads.specs.declared.pending.Pending.TheVariants as pending
-use Rattle.fst_heads.specs.declared.head.Head.{Head}
-use Rattle.fst_heads.specs.Heads.{patch_of, patches_of}
+use Rattle.fst_heads.specs.Heads.{patches_of}
 use Rattle.fst_heads.specs.Names.{numbers_of}
-use Rattle.fst_heads.specs.Nodes.{Node, node_of, nodes_of, patches_in, pending_in}
+use Rattle.fst_heads.specs.Nodes.{node_of, nodes_of, patches_in, pending_in}
 use Rattle.fst_heads.specs.Pendings.{is_pending, joined, joined_sums, over_block, sums_of}
 use Rattle.fst_heads.specs.Standings.{is_ready_on, is_held_on, standing_of, entered}
 use Rattle.fst_heads.specs.Tests.{is_hard_kind}
 use Rattle.fst_heads.proofs.Added.{new_node}
 use Rattle.fst_heads.proofs.AtNumber.{patches_in_nodes}
 use Rattle.std.proofs.lemmas.List.{map_push}
+use Rattle.fst_graph.proofs.FewCounted.{few_counted}
 use Rattle.fst_graph.proofs.Listed.{listed_change, live_dependency}
 use Rattle.fst_graph.proofs.Readied.{hard_may, ready_alone}
 use Rattle.fst_graph.proofs.Sound.{prepared_is}
@@ -43,10 +42,6 @@ counted c =
     let kept : c.self.inside.prepared ≡ Some p = sym c.take.ensures.value ∙ c.in-Some.is in
     let ready = ready_alone c.self.inside.numbers c.self.inside.prepared p c.requires.0 (patches_of c.self.inside.heads.items) c.self.inside.numbers c.self.inside.blocks kept (ap (λ k. k.prepared) c.self.view_is ∙ c.requires.1) c.requires.2 (prepared_is c.self.invariant p kept).ready in
     c.index_mut-2.ensures.value ∙ c.self.invariant.tallies.standing.each p.block c.index_mut-2.result.now ready.inside
-
--- a count of heads is no more than there may be heads
-few_counted : (heads : List Head) (t : Node → Bool) (n : ℕ) → length (patches_of heads) ≤ max_heads → n ≡ count_by t (nodes_of heads) → n < 18446744073709551615
-few_counted heads t n few same = omega (arith, same, few, count_by-le-length t (nodes_of heads), length-map heads node_of, length-map heads patch_of)
 
 pub enter-requires-clause-ready : goal.enter-requires-clause-ready
 enter-requires-clause-ready c = few_counted c.self.inside.heads.items (is_ready_on c.in-Some.prepared.block) _ c.self.invariant.keeps.few (ap (λ s. s.ready) (counted c))
