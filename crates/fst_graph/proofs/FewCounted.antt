@@ -1,7 +1,12 @@
--- The counts of a settled row.
-use Rattle.std.proofs.Common.{◌≡◌, ◌≤◌, ◌∙◌, ℕ, List, Contains, length, sym, subst, inl, inr, arith}
+-- The counts of a settled row, and those of heads.
+use Rattle.std.proofs.Common.{◌≡◌, ◌<◌, ◌≤◌, ◌∙◌, ℕ, Bool, List, Contains, length, count_by, sym, subst, inl, inr, arith}
+use Rattle.std.proofs.lemmas.List.{length-map}
+use Rattle.std.proofs.lemmas.List.Sums.{count_by-le-length}
+use Rattle.fst_types.specs.Limits.{max_heads}
+use Rattle.fst_heads.specs.declared.head.Head.{Head}
 use Rattle.fst_heads.specs.declared.pending.Pending.TheVariants as pending
-use Rattle.fst_heads.specs.Nodes.{Node, pending_in, AreSettled}
+use Rattle.fst_heads.specs.Heads.{patch_of, patches_of}
+use Rattle.fst_heads.specs.Nodes.{Node, node_of, nodes_of, pending_in, AreSettled}
 use Rattle.fst_heads.specs.Pendings.{Fits, max_block}
 use Rattle.fst_heads.proofs.PendingIn.{found}
 use Rattle.fst_heads.proofs.Sums.{sums_fit, sums_few}
@@ -20,3 +25,7 @@ few nodes blocks small S x c = (
   subst (λ s. s.count ≤ length x.patch.dependencies) (sym (S.summed x c)) (sums_few (pending_in nodes) x.patch.dependencies),
   subst Fits (sym (S.summed x c)) (sums_fit (pending_in nodes) x.patch.dependencies (narrow nodes blocks small S)),
 )
+
+-- a count of heads is no more than there may be heads
+pub few_counted : (heads : List Head) (t : Node → Bool) (n : ℕ) → length (patches_of heads) ≤ max_heads → n ≡ count_by t (nodes_of heads) → n < 18446744073709551615
+few_counted heads t n few same = omega (arith, same, few, count_by-le-length t (nodes_of heads), length-map heads node_of, length-map heads patch_of)

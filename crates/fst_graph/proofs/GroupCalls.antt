@@ -84,12 +84,9 @@ module _ (p q : Known) (gs : List Group) (G : IsGrouped p gs) where
         let made : MakesGroup (state_at p gs 0 []) n (state_at q (with_new gs n) 2 []) = record { row = a.row; state = ap (λ k. state_at k (with_new gs n) 2 []) a.state } in
         by_group (with_new gs n) 2 [] (GroupNew 0) _ (ap (λ k. k.prepared) a.state) few (group (group_new made))
 
-    -- its number is past all tails, and there is one more
+    -- its number is past all tails
     pub past_tails : All (λ g. g.tail < n) gs
     past_tails k d lt = let small = (G.grouped.each (get_or gs k d) (k, lt, any_default gs k (get_or gs k d) d lt)).given.1 in let next = a.row.head.next in omega (arith, small, next)
-
-    pub not_last : n < 4294967295
-    not_last = let room = a.clear.1.0 in let next = a.row.head.next in omega (arith, room, next)
 
   -- a group that is put after another
   module _ (n m : ℕ) (u : NoneHolds (unstarted_order gs n m)) (found : IsGroupNumber gs n) (other : IsGroupNumber gs m) where

@@ -6,8 +6,6 @@ pub mod GroupCalls
 pub mod Grouped
 pub mod PlaceOf
 pub mod Emptying
-pub mod Choosing
-pub mod Mapping
 pub mod Kept
 pub mod GateSlot
 pub mod Picked
@@ -16,6 +14,9 @@ pub mod Readied
 pub mod Listed
 pub mod Marking
 pub mod Settling
+pub mod Sound
+pub mod AtRest
+pub mod PutNow
 pub mod Tallied
 pub mod Borne
 pub mod Launches

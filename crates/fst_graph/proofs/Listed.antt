@@ -1,5 +1,5 @@
 -- The lists of the blocks where a patch is made.
-use Rattle.std.proofs.Common.{◌≡◌, ℕ, ◌<◌, ◌==◌, ◌&&◌, false, cond, List, [], ◌∷◌, ◌++◌, length, set, get_or, refl, sym, ap, subst, ◌∙◌, inl, inr, arith, get_or-set_same, get_or-set_other}
+use Rattle.std.proofs.Common.{◌≡◌, ℕ, ◌<◌, ◌==◌, ◌&&◌, false, cond, List, [], ◌∷◌, ◌++◌, set, get_or, refl, sym, ap, subst, ◌∙◌, inl, inr, arith, get_or-set_same, get_or-set_other}
 use Rattle.std.proofs.Math.ListN.{length-set}
 use Rattle.std.proofs.Math.Bool.{and-false}
 use Rattle.std.proofs.lemmas.Bool.{cases_Bool, cases_eq, eq-eqb, ne_eqb}
@@ -52,9 +52,6 @@ listed_change nodes blocks lists p b at len grade d L kind memory inside = recor
             ∙ (L.each c e within ∙ (sym (append-nil (entries_on c (patches_in nodes))) ∙ (ap (λ t. entries_on c (patches_in nodes) ++ cond t (entry p ∷ []) []) (sym (ne_eqb b c (λ o. ne (sym o)))) ∙ here)))
       ];
 }
-
-pub listed_none : (blocks : ℕ) (lists : List (List Entry)) → length lists ≡ blocks → ((b : ℕ) (d : List Entry) → b < blocks → get_or lists b d ≡ []) → AreListed [] blocks lists
-listed_none blocks lists long empty = record { long = long; each = empty }
 
 -- an empty patch is on no block
 pub listed_empty : (p : Patch) → p.kind ≡ Empty → (b : ℕ) → is_live_on b p ≡ false

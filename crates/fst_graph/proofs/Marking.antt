@@ -78,11 +78,6 @@ counted_settled nodes numbers blocks H S x c =
     (λ n. same_test (not (is_pending (pending_in nodes n) pending.Nothing)) (is_live_in (patches_in nodes) n) (told_live nodes blocks n rising S) (live_told nodes blocks n rising S)) x.patch.dependencies)
 
 module _ (nodes : List Node) (numbers blocks : ℕ) (H : HeadsAreLawful (patches_in nodes) numbers) (S : AreSettled nodes blocks) where
-  -- where nothing of the block is in flight, a change of it in memory is in its writable set exactly if it waits for the block alone
-  pub waits_alone : (b : ℕ) → ((p : Patch) → Contains (patches_in nodes) p → IsOn p b → p.place ≡ place.Flight → ⊥)
-      → (x : Node) → Contains nodes x → IsInMemoryOn (patches_in nodes) b x.patch → (x.pending ≡ pending.Block b) ↔ InWritableSet (patches_in nodes) b x.patch
-  waits_alone b rest x c m = (waits_in nodes numbers blocks H S b x c m (λ p n. rest p n.head n.change), waits_out nodes numbers blocks H S b x c)
-
   -- no change of the block is in flight
   abbrev Rests : ℕ → Type 0
   Rests b = (p : Patch) → Contains (patches_in nodes) p → IsOn p b → p.place ≡ place.Flight → ⊥

@@ -21,10 +21,10 @@ use Rattle.fst_heads.specs.declared.head.Head.{Head}
 use Rattle.fst_heads.specs.Frames.{frames_of, HasRoomBelow}
 use Rattle.fst_heads.specs.Grading.{MayBeHard}
 use Rattle.fst_heads.specs.Keeps.{Keeps}
-use Rattle.fst_graph.specs.Known.{Known, Prepared}
+use Rattle.fst_graph.specs.Known.{Known}
 use Rattle.fst_heads.specs.Names.{numbers_of}
 use Rattle.fst_graph.specs.Membering.{ArePaired, BeginsAs, Foretells, OverlapReaches, member_order}
-use Rattle.fst_graph.specs.Ready.{prepared_of, change_of, IsReady, IsMemberReady, MayBePut, HasRoomAround, HasPlaces}
+use Rattle.fst_graph.specs.Ready.{change_of, IsReady, IsMemberReady, MayBePut, HasRoomAround, HasPlaces}
 use Rattle.fst_heads.specs.Rows.{IsDependency}
 use Rattle.fst_heads.proofs.Framed.{room_above, room_below}
 use Rattle.fst_graph.proofs.Kept.{keeps_sealed}
@@ -132,11 +132,8 @@ module _ (old : List Patch) (n blocks : ℕ) (marks : List Bool) (K : Keeps old 
 
 -- what is prepared for the group with that head
 module _ (old : List Patch) (n blocks : ℕ) (marks : List Bool) (K : Keeps old n blocks marks) (head : ℕ) (begun : List Patch) (is_open : IsOpenNumber old head) (cascade : IsCascadeOf (map (sealed head) old) begun) where
-  pub put_begun : (o : Option Stored) (q : Prepared) → option_map (prepared_of n) o ≡ Some q → q.group ≡ Some head → IfSome o (MayBePut old n blocks) → IfSome o (MayBePut begun n blocks)
-  put_begun None q seen named ready = tt
-  put_begun (Some p) q seen named ready =
-      let same : prepared_of n p ≡ q = cc in
-      let told : option_map (λ (g : Gates). g.head) p.gates ≡ Some head = ap (λ x. x.group) same ∙ named in
+  pub put_begun : (p : Stored) → option_map (λ (g : Gates). g.head) p.gates ≡ Some head → MayBePut old n blocks p → MayBePut begun n blocks p
+  put_begun p told ready =
       let r = ready_member n p head old n blocks told ready in
       let own : r.0.head ≡ head = some_head r.0.head head (sym (ap (option_map (λ (g : Gates). g.head)) r.1) ∙ told) in
       member_put p r.0 begun n blocks r.1 (ready_begun old n blocks marks K r.0 p r.2 begun (subst (IsOpenNumber old) (sym own) is_open) (subst (λ g. IsCascadeOf (map (sealed g) old) begun) (sym own) cascade))
@@ -145,14 +142,13 @@ module _ (old : List Patch) (n blocks : ℕ) (marks : List Bool) (K : Keeps old 
       some_head x y e = cc
 
 -- and the room for it
-pub around_kept : (new old : List Head) → frames_of new ≡ frames_of old → (o : Option Stored) → IfSome o (HasRoomAround old) → IfSome o (HasRoomAround new)
-around_kept new old e None room = tt
-around_kept new old e (Some p) room = (room_above new old e p.dependencies.items room.0, below p.gates room.1)
+pub around_kept : (new old : List Head) → frames_of new ≡ frames_of old → (p : Stored) → HasRoomAround old p → HasRoomAround new p
+around_kept new old e p room = (room_above new old e p.dependencies.items room.0, below p.gates room.1)
   where
     below : (g : Option Gates) → IfSome g (λ x. HasRoomBelow old x.tail) → IfSome g (λ x. HasRoomBelow new x.tail)
     below None r = tt
     below (Some x) r = room_below new old e x.tail r
 
-pub places_kept : (heads heads' capacity capacity' marks marks_capacity queue queue' : ℕ) (o : Option Stored) → heads' ≡ heads → capacity' ≡ capacity → queue' ≡ queue
-    → IfSome o (λ p. HasPlaces heads capacity marks marks_capacity queue) → IfSome o (λ p. HasPlaces heads' capacity' marks marks_capacity queue')
-places_kept heads heads' capacity capacity' marks marks_capacity queue queue' o e f g room = rw (e, f, g) room
+pub places_kept : (heads heads' capacity capacity' marks marks_capacity queue queue' : ℕ) → heads' ≡ heads → capacity' ≡ capacity → queue' ≡ queue
+    → HasPlaces heads capacity marks marks_capacity queue → HasPlaces heads' capacity' marks marks_capacity queue'
+places_kept heads heads' capacity capacity' marks marks_capacity queue queue' e f g room = rw (e, f, g) room

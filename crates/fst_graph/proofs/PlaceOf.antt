@@ -1,11 +1,10 @@
 -- The place of a number.
-use Rattle.std.proofs.Common.{◌≡◌, ℕ, ◌==◌, ◌&&◌, nat_le, true, List, Contains, Some, None, find, Option, IfNone, refl, subst, inl, inr, arith, IfSome}
+use Rattle.std.proofs.Common.{◌≡◌, ℕ, ◌==◌, ◌&&◌, nat_le, true, List, Contains, Some, None, find, Option, IfNone, refl, subst, arith, IfSome}
 use Rattle.fst_types.specs.declared.place.Place.TheVariants as place
 use Rattle.fst_types.specs.Patches.{Patch, IsRising}
 use Rattle.fst_types.specs.Gates.{IsGiven}
 use Rattle.fst_types.specs.Looks.{place_of}
 use Rattle.fst_heads.proofs.Slots.{find_patch, find_none}
-use Rattle.std.proofs.lemmas.Bool.{cases_Bool}
 use Rattle.std.proofs.lemmas.Bool.Decides.{nat_tests}
 
 given_test : (numbers n : ℕ) → IsGiven numbers n → (nat_le 1 n && nat_le n numbers) ≡ true
@@ -16,12 +15,6 @@ place_found heads numbers n p rising c e g = rw (given_test numbers n g) (rw (su
 
 pub place_lost : (heads : List Patch) (numbers n : ℕ) → ((p : Patch) → Contains heads p → p.number ≡ n → ⊥) → IsGiven numbers n → Some place.Disk ≡ place_of heads numbers n
 place_lost heads numbers n none g = rw (given_test numbers n g) (rw (find_none heads n none) refl)
-
-pub place_none : (heads : List Patch) (numbers n : ℕ) → (IsGiven numbers n → ⊥) → None ≡ place_of heads numbers n
-place_none heads numbers n g = elim (cases_Bool (nat_le 1 n && nat_le n numbers)) [
-  | inl yes_given ↦ absurd (g (grind (arith, nat_tests, yes_given)))
-  | inr not_given ↦ rw not_given refl
-]
 
 -- what follows where an option is none
 pub none_then : {X : Type 0} (r : Option X) {P Q : Type 0} → (P → Q) → IfNone r P → IfNone r Q

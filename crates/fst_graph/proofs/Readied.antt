@@ -1,5 +1,5 @@
 -- What is prepared.
-use Rattle.std.proofs.Common.{◌≡◌, ℕ, ◌+◌, Bool, true, false, ◌&&◌, List, [], ◌∷◌, Option, Some, None, IfSome, option_map, is_some, subst, refl, sym, ap, ◌∙◌, eqb}
+use Rattle.std.proofs.Common.{◌≡◌, ℕ, ◌+◌, Bool, true, false, ◌&&◌, List, [], ◌∷◌, Option, Some, None, option_map, is_some, subst, refl, sym, ap, ◌∙◌, eqb}
 use Rattle.std.specs.Bool.{Decides}
 use Rattle.std.proofs.lemmas.Bool.{false≢true}
 use Rattle.std.proofs.lemmas.Bool.Decides.{Decides-eqb}
@@ -71,11 +71,10 @@ module _ (numbers : ℕ) (p : Stored) (b : ℕ) (span : Span) (after : List Patc
       (ap (λ q. q.block) same, same_span p.span span at len, same_names p.names.items after (ap (λ q. q.after) same), no_gates p.gates (ap (λ q. q.group) same))
 
 -- what is prepared for no group is ready as it is
-pub ready_alone : (numbers : ℕ) (o : Option Stored) (p : Stored) (q : Prepared) (heads : List Patch) (n blocks : ℕ) → o ≡ Some p → option_map (prepared_of numbers) o ≡ Some q → q.group ≡ None → IfSome o (MayBePut heads n blocks) → IsReady heads n blocks p
+pub ready_alone : (numbers : ℕ) (o : Option Stored) (p : Stored) (q : Prepared) (heads : List Patch) (n blocks : ℕ) → o ≡ Some p → option_map (prepared_of numbers) o ≡ Some q → q.group ≡ None → MayBePut heads n blocks p → IsReady heads n blocks p
 ready_alone numbers o p q heads n blocks kept seen alone ready =
-    let there : MayBePut heads n blocks p = subst (λ x. IfSome x (MayBePut heads n blocks)) kept ready in
     let same : prepared_of numbers p ≡ q = some_same (prepared_of numbers p) q (sym (ap (option_map (prepared_of numbers)) kept) ∙ seen) in
-    subst (λ g. IsReadyFor g heads n blocks p) (no_gates p.gates (ap (λ x. x.group) same ∙ alone)) there
+    subst (λ g. IsReadyFor g heads n blocks p) (no_gates p.gates (ap (λ x. x.group) same ∙ alone)) ready
   where
     some_same : (x y : Prepared) → Some x ≡ Some y → x ≡ y
     some_same x y e = cc
@@ -94,6 +93,14 @@ pub member_seen : (numbers : ℕ) (p : Stored) (head b : ℕ) (span : Span) (num
 member_seen numbers p head b span number grade e =
     let same : prepared_of numbers p ≡ member_for head b span.at span.len number grade = cc in
     (ap (λ q. q.block) same, same_span p.span span (ap (λ q. q.at) same) (ap (λ q. q.len) same), ap (λ q. q.group) same)
+
+-- what is prepared for the group with that head has the gates of that group
+pub head_told : (o : Option Stored) (n : ℕ) (q : Prepared) (head : ℕ) (p : Stored) → option_map (prepared_of n) o ≡ Some q → q.group ≡ Some head → o ≡ Some p → option_map (λ (g : Gates). g.head) p.gates ≡ Some head
+head_told None n q head p seen named kept = absurd (cc)
+head_told (Some r) n q head p seen named kept =
+    let same : p ≡ r = cc in
+    let shown : prepared_of n r ≡ q = cc in
+    ap (λ (x : Stored). option_map (λ (g : Gates). g.head) x.gates) same ∙ (ap (λ x. x.group) shown ∙ named)
 
 -- of a group
 pub ready_member : (numbers : ℕ) (p : Stored) (head : ℕ) (heads : List Patch) (n blocks : ℕ) → option_map (λ (g : Gates). g.head) p.gates ≡ Some head → MayBePut heads n blocks p → (gates : Gates) × (p.gates ≡ Some gates) × IsMemberReady heads n blocks gates p

@@ -24,24 +24,19 @@ use Rattle.fst_graph.specs.Membering.{member_order}
 use Rattle.fst_graph.specs.Ready.{prepared_of, change_of, IsReady, IsMemberReady, IsReadyFor, MayBePut}
 use Rattle.fst_heads.proofs.Graded.{depends_under}
 use Rattle.fst_walks.proofs.Overlapped.{touched_no_gate}
-use Rattle.fst_graph.proofs.Readied.{ready_member}
+use Rattle.fst_graph.proofs.Readied.{head_told, ready_member}
 use Rattle.fst_graph.proofs.SealedIf.{open_not_sealed}
 use Rattle.fst_heads.proofs.Touching.{touched_overlaps}
 
 -- what is prepared is for the group with those gates
 pub head_same : (o : Option Stored) (n : ℕ) (q : Prepared) (head : ℕ) (p : Stored) (gates : Gates) → option_map (prepared_of n) o ≡ Some q → q.group ≡ Some head → o ≡ Some p → p.gates ≡ Some gates → gates.head ≡ head
-head_same None n q head p gates seen named kept there = absurd (cc)
-head_same (Some r) n q head p gates seen named kept there =
-    let same : r ≡ p = cc in
-    let shown : prepared_of n r ≡ q = cc in
-    let told : option_map (λ (g : Gates). g.head) r.gates ≡ Some head = ap (λ x. x.group) shown ∙ named in
-    some_head gates.head head (sym (ap (option_map (λ (g : Gates). g.head)) (ap (λ x. x.gates) same ∙ there)) ∙ told)
+head_same o n q head p gates seen named kept there = some_head gates.head head (sym (ap (option_map (λ (g : Gates). g.head)) there) ∙ head_told o n q head p seen named kept)
   where
     some_head : (x y : ℕ) → Some x ≡ Some y → x ≡ y
     some_head x y e = cc
 
-pub member_kept : (o : Option Stored) (p : Stored) (gates : Gates) (old : List Patch) (n blocks : ℕ) → o ≡ Some p → p.gates ≡ Some gates → IfSome o (MayBePut old n blocks) → IsMemberReady old n blocks gates p
-member_kept o p gates old n blocks kept there ready = subst (λ g. IsReadyFor g old n blocks p) there (subst (λ x. IfSome x (MayBePut old n blocks)) kept ready)
+pub member_kept : (p : Stored) (gates : Gates) (old : List Patch) (n blocks : ℕ) → p.gates ≡ Some gates → MayBePut old n blocks p → IsMemberReady old n blocks gates p
+member_kept p gates old n blocks there ready = subst (λ g. IsReadyFor g old n blocks p) there ready
 
 only_one : (x y : ℕ) → Contains (x ∷ []) y → x ≡ y
 only_one x y c = elim (In-from_Contains (x ∷ []) y c) [ inl e ↦ e | inr h ↦ absurd h ]

@@ -3,5 +3,5 @@ pub mod Known
 pub mod Gathered
 pub mod Whole
 pub mod Membering
-pub mod Picking
 pub mod Ready
+pub mod Sound

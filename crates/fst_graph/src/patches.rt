@@ -60,24 +60,16 @@ pub struct Patches {
 
 impl Model for Patches {
     ghost use Rattle.fst_heads.specs.Heads.{patches_of};
-    ghost use Rattle.std.specs.Prelude.{◌≡◌, [], option_map, IfSome, length, map, vec_len, vec_capacity};
-    ghost use Rattle.fst_heads.specs.Lists.{entries_of, HasRoomInList};
-    ghost use Rattle.fst_heads.specs.Nodes.{nodes_of};
+    ghost use Rattle.std.specs.Prelude.{[], option_map};
     ghost use Rattle.fst_graph.specs.Known.{Known};
-    ghost use Rattle.fst_heads.specs.Keeps.{Beside, Keeps, Tallies};
-    ghost use Rattle.fst_graph.specs.Ready.{prepared_of, MayBePut, HasRoomAround, HasPlaces};
+    ghost use Rattle.fst_graph.specs.Ready.{prepared_of};
+    ghost use Rattle.fst_graph.specs.Sound.{AreSound};
 
     ghost Value = { Known };
 
     ghost view = { λ g. record { heads = patches_of g.heads.items; numbers = g.numbers; blocks = g.blocks; groups = []; prepared = option_map (prepared_of g.numbers) g.prepared } };
 
-    ghost invariant = { λ g. Keeps (patches_of g.heads.items) g.numbers g.blocks g.walks.walk.marks
-        × IfSome g.prepared (MayBePut (patches_of g.heads.items) g.numbers g.blocks)
-        × IfSome g.prepared (λ _. HasPlaces (vec_len g.heads) (vec_capacity g.heads) (length g.walks.walk.marks) g.walks.walk.room (vec_capacity g.queue))
-        × Beside (patches_of g.heads.items) g.blocks g.live g.walks.crossed.items
-        × Tallies (nodes_of g.heads.items) g.numbers g.blocks (map (λ l. entries_of l.items) g.lists.items) g.standings.items g.queue.items (vec_capacity g.queue)
-        × IfSome g.prepared (HasRoomAround g.heads.items)
-        × IfSome g.prepared (λ p. HasRoomInList (map (λ l. vec_len l) g.lists.items) (map (λ l. vec_capacity l) g.lists.items) p.block) };
+    ghost invariant = { λ g. AreSound g.heads g.walks g.lists g.standings g.queue g.live g.numbers g.blocks g.prepared };
 }
 
 // Room for one more head.

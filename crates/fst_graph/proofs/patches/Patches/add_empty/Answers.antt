@@ -26,7 +26,7 @@ use Rattle.fst_heads.proofs.Beside.{beside_made, one_live, weight_of, weighs}
 use Rattle.fst_graph.proofs.patches.Patches.add_empty.Goals as goal
 
 pub live_named-requires : goal.live_named-requires
-live_named-requires c = rw c.deref-2.ensures.value (rising_heads c.self.inside.heads.items c.self.invariant.0.lawful.one_place_each.rising)
+live_named-requires c = rw c.deref-2.ensures.value (rising_heads c.self.inside.heads.items c.self.invariant.keeps.lawful.one_place_each.rising)
 
 pub invariant_of-self-2 : goal.invariant_of-self-2
 invariant_of-self-2 c =
@@ -42,10 +42,10 @@ invariant_of-self-2 c =
     let patches = linked_patches c.link.new.heads.items c.reserve_above.new.heads.items _ _ c.link.ensures.nodes ∙ same_patches c.reserve_above.new.heads.items heads still in
     let free : c.reserve_one.new.heads.len < c.reserve_one.new.queue.cap = search rules in
     let room : length nodes < c.reserve_one.new.queue.cap = let same = ap length c.reserve_one.ensures.heads in omega (arith, free, same, c.reserve_one.new.heads.ok.0, length-map heads node_of) in
-    let T = c.self.invariant.4 in
+    let T = c.self.invariant.tallies in
     let p : Patch = record { number = n + 1; kind = Empty; place = rest_place row; dependencies = row } in
     let live : (m : _) → Contains row m → IsLiveNumber (patches_in nodes) m = λ m h. subst (λ ps. IsLiveNumber ps m) (sym (patches_in_nodes heads)) (depends.only m h).0 in
-    let K = c.self.invariant.0 in
+    let K = c.self.invariant.keeps in
     let H = lawful_nodes heads n K.lawful in
     let kept = keeps_empty _ n c.self.inside.blocks c.self.inside.walks.walk.marks K (numbers_of c.args.after.now) row depends few in
     let made = tallies_made nodes n c.self.inside.blocks _ _ _ _ _ _ c.reserve_one.new.queue.cap p H (lawful_with heads p (n + 1) kept.lawful) T refl depends.rising live
@@ -59,16 +59,13 @@ invariant_of-self-2 c =
     ∙ (ap (λ hs. sums_of (pending_in (nodes_of hs)) c.as_slice-3.result.now) c.deref-3.ensures.value
     ∙ (ap (λ ns. sums_of (pending_in ns) c.as_slice-3.result.now) still ∙ ap (sums_of told) c.as_slice-3.ensures)) in
     let own : c.weight.result ≡ one_live p = c.weight.ensures ∙ (ap weight_of place ∙ weighs p) in
-    let below : c.joined.result ≡ joined told row = c.joined.ensures ∙ (ap joined_sums sums ∙ joined_exact told row) in (
-      rw (c.push_reserved.ensures.items, map_push, patches, c.grow.ensures.marks, c.reserve_one.ensures.marks, place) kept,
-      tt,
-      tt,
-      rw (c.push_reserved.ensures.items, map_push, patches, place)
-          (beside_made (patches_of heads) c.self.inside.blocks c.self.inside.live _ c.self.inside.walks.crossed.items p own c.self.invariant.3),
-      rw (c.push_reserved.ensures.items, map_push, c.link.ensures.nodes, still, c.as_slice-4.ensures, below, sums, place, c.new.ensures.items, c.reserve_one.ensures.queue) made,
-      tt,
-      tt,
-    )
+    let below : c.joined.result ≡ joined told row = c.joined.ensures ∙ (ap joined_sums sums ∙ joined_exact told row) in record {
+      keeps = rw (c.push_reserved.ensures.items, map_push, patches, c.grow.ensures.marks, c.reserve_one.ensures.marks, place) kept;
+      beside = rw (c.push_reserved.ensures.items, map_push, patches, place)
+          (beside_made (patches_of heads) c.self.inside.blocks c.self.inside.live _ c.self.inside.walks.crossed.items p own c.self.invariant.beside);
+      tallies = rw (c.push_reserved.ensures.items, map_push, c.link.ensures.nodes, still, c.as_slice-4.ensures, below, sums, place, c.new.ensures.items, c.reserve_one.ensures.queue) made;
+      prepared = tt;
+    }
 
 pub returns-clause-ok : goal.returns-clause-ok
 returns-clause-ok c =
@@ -85,7 +82,7 @@ returns-clause-ok c =
         next = refl;
         dependencies = c.in-Ok.dependencies.items;
         depends = depends;
-        cascade = rw (c.push_reserved.ensures.items, map_push, patches, place) (empty_cascade _ c.self.inside.numbers c.self.inside.blocks c.self.inside.walks.walk.marks c.self.invariant.0 (numbers_of c.args.after.now) c.in-Ok.dependencies.items depends);
+        cascade = rw (c.push_reserved.ensures.items, map_push, patches, place) (empty_cascade _ c.self.inside.numbers c.self.inside.blocks c.self.inside.walks.walk.marks c.self.invariant.keeps (numbers_of c.args.after.now) c.in-Ok.dependencies.items depends);
       };
       numbers = refl;
       blocks = refl;
@@ -98,32 +95,26 @@ returns-in-Some-clause-refused c = rw (← c.self.view_is, ← c.deref.ensures.v
 
 pub invariant_of-self-then-is_err : goal.invariant_of-self-then-is_err
 invariant_of-self-then-is_err c =
-    let K = c.self.invariant.0 in (
-      rw (c.reserve_one.ensures.heads, c.reserve_one.ensures.marks) K,
-      tt,
-      tt,
-      rw c.reserve_one.ensures.heads c.self.invariant.3,
-      rw c.reserve_one.ensures.heads (tallies_wider _ c.self.inside.numbers c.self.inside.blocks _ _ _ _ _ _ c.self.invariant.4 c.reserve_one.ensures.queue c.reserve_one.ensures.wide),
-      tt,
-      tt,
-    )
+    let K = c.self.invariant.keeps in record {
+      keeps = rw (c.reserve_one.ensures.heads, c.reserve_one.ensures.marks) K;
+      beside = rw c.reserve_one.ensures.heads c.self.invariant.beside;
+      tallies = rw c.reserve_one.ensures.heads (tallies_wider _ c.self.inside.numbers c.self.inside.blocks _ _ _ _ _ _ c.self.invariant.tallies c.reserve_one.ensures.queue c.reserve_one.ensures.wide);
+      prepared = tt;
+    }
 
 pub invariant_of-self-then-is_err-2 : goal.invariant_of-self-then-is_err-2
 invariant_of-self-then-is_err-2 c =
-    let K = c.self.invariant.0 in
+    let K = c.self.invariant.keeps in
     let heads = c.self.inside.heads.items in
-    let still : nodes_of c.reserve_above.new.heads.items ≡ nodes_of heads = c.reserve_above.ensures.nodes ∙ ap nodes_of c.reserve_one.ensures.heads in (
-      rw (same_patches c.reserve_above.new.heads.items heads still, c.reserve_one.ensures.marks) K,
-      tt,
-      tt,
-      rw (same_patches c.reserve_above.new.heads.items heads still) c.self.invariant.3,
-      rw still (tallies_wider _ c.self.inside.numbers c.self.inside.blocks _ _ _ _ _ _ c.self.invariant.4 c.reserve_one.ensures.queue c.reserve_one.ensures.wide),
-      tt,
-      tt,
-    )
+    let still : nodes_of c.reserve_above.new.heads.items ≡ nodes_of heads = c.reserve_above.ensures.nodes ∙ ap nodes_of c.reserve_one.ensures.heads in record {
+      keeps = rw (same_patches c.reserve_above.new.heads.items heads still, c.reserve_one.ensures.marks) K;
+      beside = rw (same_patches c.reserve_above.new.heads.items heads still) c.self.invariant.beside;
+      tallies = rw still (tallies_wider _ c.self.inside.numbers c.self.inside.blocks _ _ _ _ _ _ c.self.invariant.tallies c.reserve_one.ensures.queue c.reserve_one.ensures.wide);
+      prepared = tt;
+    }
 
 pub reserve_above-requires : goal.reserve_above-requires
-reserve_above-requires c = rw c.reserve_one.ensures.heads (rising_heads c.self.inside.heads.items c.self.invariant.0.lawful.one_place_each.rising)
+reserve_above-requires c = rw c.reserve_one.ensures.heads (rising_heads c.self.inside.heads.items c.self.invariant.keeps.lawful.one_place_each.rising)
 
 pub returns-then-is_err-2-clause-same : goal.returns-then-is_err-2-clause-same
 returns-then-is_err-2-clause-same c =
@@ -136,12 +127,12 @@ pub row_sums-sums-requires : goal.row_sums-sums-requires
 row_sums-sums-requires c =
     let heads = c.self.inside.heads.items in
     rw c.deref-3.ensures.value
-    (rising_same c.reserve_above.new.heads.items heads (c.reserve_above.ensures.nodes ∙ ap nodes_of c.reserve_one.ensures.heads) (rising_heads heads c.self.invariant.0.lawful.one_place_each.rising))
+    (rising_same c.reserve_above.new.heads.items heads (c.reserve_above.ensures.nodes ∙ ap nodes_of c.reserve_one.ensures.heads) (rising_heads heads c.self.invariant.keeps.lawful.one_place_each.rising))
 
 pub link-requires-clause-rising : goal.link-requires-clause-rising
 link-requires-clause-rising c =
     let heads = c.self.inside.heads.items in
-    rising_same c.reserve_above.new.heads.items heads (c.reserve_above.ensures.nodes ∙ ap nodes_of c.reserve_one.ensures.heads) (rising_heads heads c.self.invariant.0.lawful.one_place_each.rising)
+    rising_same c.reserve_above.new.heads.items heads (c.reserve_above.ensures.nodes ∙ ap nodes_of c.reserve_one.ensures.heads) (rising_heads heads c.self.invariant.keeps.lawful.one_place_each.rising)
 
 pub link-requires-clause-room : goal.link-requires-clause-room
 link-requires-clause-room c =

@@ -31,8 +31,8 @@ invariant_of-self-2 c =
     let few : length (patches_of heads) < max_heads = let full = clear.0 in omega (arith, full) in
     let free : c.reserve_one.new.heads.len < c.reserve_one.new.queue.cap = search rules in
     let room : length nodes < c.reserve_one.new.queue.cap = let same = ap length c.reserve_one.ensures.heads in omega (arith, free, same, c.reserve_one.new.heads.ok.0, length-map heads node_of) in
-    let T = c.self.invariant.4 in
-    let H = lawful_nodes heads n c.self.invariant.0.lawful in
+    let T = c.self.invariant.tallies in
+    let H = lawful_nodes heads n c.self.invariant.keeps.lawful in
     let standing = stand_made nodes blocks c.self.inside.standings.items p (λ b. refl) T.standing in
     let made = tallies_made nodes n blocks _ _ _ _ _ _ c.reserve_one.new.queue.cap p H (gate_lawful (patches_in nodes) n H) T refl
     (λ i lt. absurd (omega (arith, lt)))
@@ -40,27 +40,21 @@ invariant_of-self-2 c =
     (λ b on. absurd (cc))
     (listed_made nodes blocks _ p T.listed (λ b. refl))
     standing
-    room in (
-      rw (c.push_reserved.ensures.items, c.reserve_one.ensures.heads, map_push, c.grow.ensures.marks, c.reserve_one.ensures.marks, c.new.ensures.items)
-          (keeps_gate _ n blocks c.self.inside.walks.walk.marks c.self.invariant.0 few),
-      tt,
-      tt,
-      rw (c.push_reserved.ensures.items, c.reserve_one.ensures.heads, map_push, c.new.ensures.items)
-          (beside_made (patches_of heads) blocks c.self.inside.live 1 c.self.inside.walks.crossed.items p refl c.self.invariant.3),
-      rw (c.push_reserved.ensures.items, c.reserve_one.ensures.heads, map_push, c.no_sums.ensures, c.new.ensures.items, c.new-2.ensures.items, c.reserve_one.ensures.queue)
-          (subst (λ ns. Tallies (ns ++ new_node nodes p ∷ []) (n + 1) blocks (map (λ l. entries_of l.items) c.self.inside.lists.items) c.self.inside.standings.items c.self.inside.queue.items c.reserve_one.new.queue.cap) (with_gate nodes (n + 1)) made),
-      tt,
-      tt,
-    )
+    room in record {
+      keeps = rw (c.push_reserved.ensures.items, c.reserve_one.ensures.heads, map_push, c.grow.ensures.marks, c.reserve_one.ensures.marks, c.new.ensures.items)
+          (keeps_gate _ n blocks c.self.inside.walks.walk.marks c.self.invariant.keeps few);
+      beside = rw (c.push_reserved.ensures.items, c.reserve_one.ensures.heads, map_push, c.new.ensures.items)
+          (beside_made (patches_of heads) blocks c.self.inside.live 1 c.self.inside.walks.crossed.items p refl c.self.invariant.beside);
+      tallies = rw (c.push_reserved.ensures.items, c.reserve_one.ensures.heads, map_push, c.no_sums.ensures, c.new.ensures.items, c.new-2.ensures.items, c.reserve_one.ensures.queue)
+          (subst (λ ns. Tallies (ns ++ new_node nodes p ∷ []) (n + 1) blocks (map (λ l. entries_of l.items) c.self.inside.lists.items) c.self.inside.standings.items c.self.inside.queue.items c.reserve_one.new.queue.cap) (with_gate nodes (n + 1)) made);
+      prepared = tt;
+    }
 
 pub invariant_of-self-then-is_err : goal.invariant_of-self-then-is_err
 invariant_of-self-then-is_err c =
-    let K = c.self.invariant.0 in (
-      rw (c.reserve_one.ensures.heads, c.reserve_one.ensures.marks) K,
-      tt,
-      tt,
-      rw c.reserve_one.ensures.heads c.self.invariant.3,
-      rw c.reserve_one.ensures.heads (tallies_wider _ c.self.inside.numbers c.self.inside.blocks _ _ _ _ _ _ c.self.invariant.4 c.reserve_one.ensures.queue c.reserve_one.ensures.wide),
-      tt,
-      tt,
-    )
+    let K = c.self.invariant.keeps in record {
+      keeps = rw (c.reserve_one.ensures.heads, c.reserve_one.ensures.marks) K;
+      beside = rw c.reserve_one.ensures.heads c.self.invariant.beside;
+      tallies = rw c.reserve_one.ensures.heads (tallies_wider _ c.self.inside.numbers c.self.inside.blocks _ _ _ _ _ _ c.self.invariant.tallies c.reserve_one.ensures.queue c.reserve_one.ensures.wide);
+      prepared = tt;
+    }

@@ -4,7 +4,9 @@ use Rattle.fst_types.specs.Refusals.{NoneHolds}
 use Rattle.fst_heads.specs.Heads.{patches_of}
 use Rattle.fst_graph.specs.Known.{Known, unprepared, AddsChange, DependsGate}
 use Rattle.fst_graph.specs.Membering.{member_order}
+use Rattle.fst_graph.specs.Ready.{MayBePut}
 use Rattle.fst_graph.proofs.SealedIf.{known_is}
+use Rattle.fst_graph.proofs.Sound.{if_prepared}
 use Rattle.fst_graph.proofs.TailGains.{member_clear}
 use Rattle.fst_graph.proofs.patches.Patches.add_member.Goals as goal
 
@@ -15,7 +17,7 @@ returns-clause-added c =
     let r = c.put_member.result in
     let between = c.begin_member.new.self in
     let made = subst (λ o. IfSome o (λ p. (w : Known) × AddsChange (unprepared between) p.block p.at p.len (head ∷ []) r.0.0 r.1 w × DependsGate w (head + 1) (r.0.0 ∷ []) c.put_member.new.self)) (c.begin_member.ensures.prepared ∙ q.1) c.put_member.ensures.made in
-    let clear = member_clear c.self.inside.prepared c.self.inside.numbers q.0 head (patches_of c.self.inside.heads.items) c.self.inside.blocks (ap (λ k. k.prepared) c.self.view_is ∙ q.1) q.2 c.self.invariant.1 in
+    let clear = member_clear c.self.inside.prepared c.self.inside.numbers q.0 head (patches_of c.self.inside.heads.items) c.self.inside.blocks (ap (λ k. k.prepared) c.self.view_is ∙ q.1) q.2 (if_prepared c.self.invariant (MayBePut (patches_of c.self.inside.heads.items) c.self.inside.numbers c.self.inside.blocks) (λ p is k. k.ready)) in
     let begun = c.begin_member.ensures.begun in
     let numbers = ap (λ (k : Known). k.numbers) begun.state in
     let blocks = made.2.blocks ∙ (made.1.blocks ∙ ap (λ (k : Known). k.blocks) begun.state) in

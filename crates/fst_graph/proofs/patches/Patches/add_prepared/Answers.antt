@@ -1,25 +1,24 @@
-use Rattle.std.proofs.Common.{ℕ, Bool, List, ◌≡◌, ◌<◌, ◌≤◌, ◌+◌, ◌++◌, ◌∷◌, ◌∙◌, [], Some, IfSome, arith, sym, subst, refl, ap, length, count_by, get_or, Contains}
+use Rattle.std.proofs.Common.{◌≡◌, ◌<◌, ◌+◌, ◌++◌, ◌∷◌, ◌∙◌, [], Some, arith, sym, subst, refl, ap, length, get_or, Contains}
 use Rattle.std.proofs.lemmas.List.{length-map}
-use Rattle.std.proofs.lemmas.List.Sums.{count_by-le-length}
 use Rattle.fst_types.specs.Dependencies.{IsLiveNumber}
 use Rattle.fst_types.specs.Facts.{HeadsAreLawful}
 use Rattle.fst_types.specs.Limits.{max_heads}
 use Rattle.fst_types.specs.Making.{fresh}
 use Rattle.fst_types.specs.Patches.{Change}
 use Rattle.fst_heads.specs.declared.pending.Pending.TheVariants as pending
-use Rattle.fst_heads.specs.declared.head.Head.{Head}
-use Rattle.fst_heads.specs.Heads.{patch_of, patches_of}
+use Rattle.fst_heads.specs.Heads.{patches_of}
 use Rattle.fst_heads.specs.Names.{numbers_of}
-use Rattle.fst_heads.specs.Nodes.{Node, node_of, nodes_of, patches_in, pending_in}
+use Rattle.fst_heads.specs.Nodes.{node_of, nodes_of, patches_in, pending_in}
 use Rattle.fst_heads.specs.Pendings.{is_pending, joined, joined_sums, over_block, sums_of}
-use Rattle.fst_graph.specs.Ready.{HasPlaces}
 use Rattle.fst_heads.specs.Standings.{is_ready_on, is_held_on, standing_of, entered}
 use Rattle.fst_heads.specs.Tests.{is_hard_kind}
 use Rattle.fst_heads.proofs.Added.{new_node}
 use Rattle.fst_heads.proofs.AtNumber.{patches_in_nodes}
 use Rattle.std.proofs.lemmas.List.{map_push}
+use Rattle.fst_graph.proofs.FewCounted.{few_counted}
 use Rattle.fst_graph.proofs.Listed.{listed_change, live_dependency}
 use Rattle.fst_graph.proofs.Readied.{hard_may, ready_alone}
+use Rattle.fst_graph.proofs.Sound.{prepared_is}
 use Rattle.fst_walks.proofs.Seen.{linked_patches, lawful_nodes}
 use Rattle.fst_walks.proofs.Shelves.{shelved_push}
 use Rattle.fst_heads.proofs.Slots.{rising_heads}
@@ -31,28 +30,24 @@ use Rattle.fst_heads.proofs.Beside.{beside_made}
 use Rattle.fst_graph.proofs.patches.Patches.add_prepared.Goals as goal
 
 pub row_sums-sums-requires : goal.row_sums-sums-requires
-row_sums-sums-requires c = rw c.deref.ensures.value (rising_heads c.self.inside.heads.items c.self.invariant.0.lawful.one_place_each.rising)
+row_sums-sums-requires c = rw c.deref.ensures.value (rising_heads c.self.inside.heads.items c.self.invariant.keeps.lawful.one_place_each.rising)
 
 pub link-requires-clause-rising : goal.link-requires-clause-rising
-link-requires-clause-rising c = rising_heads c.self.inside.heads.items c.self.invariant.0.lawful.one_place_each.rising
+link-requires-clause-rising c = rising_heads c.self.inside.heads.items c.self.invariant.keeps.lawful.one_place_each.rising
 
 -- the counts of the block are those of its changes before
 counted : (c : goal.After-is_pending) → c.index_mut-2.result.now ≡ standing_of (nodes_of c.self.inside.heads.items) c.in-Some.prepared.block
 counted c =
     let p = c.in-Some.prepared in
     let kept : c.self.inside.prepared ≡ Some p = sym c.take.ensures.value ∙ c.in-Some.is in
-    let ready = ready_alone c.self.inside.numbers c.self.inside.prepared p c.requires.0 (patches_of c.self.inside.heads.items) c.self.inside.numbers c.self.inside.blocks kept (ap (λ k. k.prepared) c.self.view_is ∙ c.requires.1) c.requires.2 c.self.invariant.1 in
-    c.index_mut-2.ensures.value ∙ c.self.invariant.4.standing.each p.block c.index_mut-2.result.now ready.inside
-
--- a count of heads is no more than there may be heads
-few_counted : (heads : List Head) (t : Node → Bool) (n : ℕ) → length (patches_of heads) ≤ max_heads → n ≡ count_by t (nodes_of heads) → n < 18446744073709551615
-few_counted heads t n few same = omega (arith, same, few, count_by-le-length t (nodes_of heads), length-map heads node_of, length-map heads patch_of)
+    let ready = ready_alone c.self.inside.numbers c.self.inside.prepared p c.requires.0 (patches_of c.self.inside.heads.items) c.self.inside.numbers c.self.inside.blocks kept (ap (λ k. k.prepared) c.self.view_is ∙ c.requires.1) c.requires.2 (prepared_is c.self.invariant p kept).ready in
+    c.index_mut-2.ensures.value ∙ c.self.invariant.tallies.standing.each p.block c.index_mut-2.result.now ready.inside
 
 pub enter-requires-clause-ready : goal.enter-requires-clause-ready
-enter-requires-clause-ready c = few_counted c.self.inside.heads.items (is_ready_on c.in-Some.prepared.block) _ c.self.invariant.0.few (ap (λ s. s.ready) (counted c))
+enter-requires-clause-ready c = few_counted c.self.inside.heads.items (is_ready_on c.in-Some.prepared.block) _ c.self.invariant.keeps.few (ap (λ s. s.ready) (counted c))
 
 pub enter-requires-clause-held : goal.enter-requires-clause-held
-enter-requires-clause-held c = few_counted c.self.inside.heads.items (is_held_on c.in-Some.prepared.block) _ c.self.invariant.0.few (ap (λ s. s.held) (counted c))
+enter-requires-clause-held c = few_counted c.self.inside.heads.items (is_held_on c.in-Some.prepared.block) _ c.self.invariant.keeps.few (ap (λ s. s.held) (counted c))
 
 pub invariant_of-self : goal.invariant_of-self
 invariant_of-self c =
@@ -64,13 +59,12 @@ invariant_of-self c =
     let p = c.in-Some.prepared in
     let row = p.dependencies.items in
     let kept : c.self.inside.prepared ≡ Some p = sym c.take.ensures.value ∙ c.in-Some.is in
-    let ready = ready_alone n c.self.inside.prepared p c.requires.0 old n blocks kept (ap (λ k. k.prepared) c.self.view_is ∙ c.requires.1) c.requires.2 c.self.invariant.1 in
+    let ready = ready_alone n c.self.inside.prepared p c.requires.0 old n blocks kept (ap (λ k. k.prepared) c.self.view_is ∙ c.requires.1) c.requires.2 (prepared_is c.self.invariant p kept).ready in
     let few : length old < max_heads = let full = ready.clear.1.1.0 in omega (arith, full) in
     let patches = linked_patches c.link.new.heads.items heads _ _ c.link.ensures.nodes in
-    let places = subst (λ o. IfSome o (λ _. HasPlaces c.self.inside.heads.len c.self.inside.heads.cap (length c.self.inside.walks.walk.marks) c.self.inside.walks.walk.room c.self.inside.queue.cap)) kept c.self.invariant.2 in
-    let room : length nodes < c.self.inside.queue.cap = let free = places.queue_free in omega (arith, free, c.self.inside.heads.ok.0, length-map heads node_of) in
-    let K = c.self.invariant.0 in
-    let T = c.self.invariant.4 in
+    let room : length nodes < c.self.inside.queue.cap = let free = (prepared_is c.self.invariant p kept).places.queue_free in omega (arith, free, c.self.inside.heads.ok.0, length-map heads node_of) in
+    let K = c.self.invariant.keeps in
+    let T = c.self.invariant.tallies in
     let made = fresh (n + 1) (Change p.block p.span.at p.span.len p.grade) row in
     let live : (m : _) → Contains row m → IsLiveNumber (patches_in nodes) m = λ m h. subst (λ ps. IsLiveNumber ps m) (sym (patches_in_nodes heads)) (live_dependency old (numbers_of p.names.items) p.block p.span.at p.span.len m (ready.depends.only m h)) in
     let long : length c.self.inside.lists.items ≡ blocks = sym (length-map c.self.inside.lists.items _) ∙ T.listed.long in
@@ -91,12 +85,10 @@ invariant_of-self c =
     c.enter.ensures
     ∙ (ap (λ t. entered (is_hard_kind made.kind) t own) (c.is_pending.ensures ∙ ap (λ q. is_pending q (pending.Block p.block)) over)
     ∙ ap (entered (is_hard_kind made.kind) (is_pending (new_node nodes made).pending (pending.Block p.block))) c.index_mut-2.ensures.value) in
-    rw c.take.ensures.after (
-      rw (c.push_reserved.ensures.items, map_push, patches, c.grow.ensures.marks) keeps,
-      tt,
-      tt,
-      rw (c.push_reserved.ensures.items, map_push, patches) (beside_made old blocks c.self.inside.live 1 c.self.inside.walks.crossed.items made refl c.self.invariant.3),
-      rw (
+    rw c.take.ensures.after (record {
+      keeps = rw (c.push_reserved.ensures.items, map_push, patches, c.grow.ensures.marks) keeps;
+      beside = rw (c.push_reserved.ensures.items, map_push, patches) (beside_made old blocks c.self.inside.live 1 c.self.inside.walks.crossed.items made refl c.self.invariant.beside);
+      tallies = rw (
         c.push_reserved.ensures.items,
         map_push,
         c.link.ensures.nodes,
@@ -107,10 +99,9 @@ invariant_of-self c =
         entering,
         shelved_push c.self.inside.lists.items p.block c.index_mut.result.now c.push_reserved-2.new.self _ (let inside = ready.inside in omega (arith, inside, long)) c.index_mut.ensures.value c.push_reserved-2.ensures.items,
       )
-          tallies,
-      tt,
-      tt,
-    )
+          tallies;
+      prepared = tt;
+    })
 
 pub returns-clause-added : goal.returns-clause-added
 returns-clause-added c =
@@ -119,7 +110,7 @@ returns-clause-added c =
     let n = c.self.inside.numbers in
     let p = c.in-Some.prepared in
     let kept : c.self.inside.prepared ≡ Some p = sym c.take.ensures.value ∙ c.in-Some.is in
-    let ready = ready_alone n c.self.inside.prepared p c.requires.0 old n c.self.inside.blocks kept (ap (λ k. k.prepared) c.self.view_is ∙ c.requires.1) c.requires.2 c.self.invariant.1 in
+    let ready = ready_alone n c.self.inside.prepared p c.requires.0 old n c.self.inside.blocks kept (ap (λ k. k.prepared) c.self.view_is ∙ c.requires.1) c.requires.2 (prepared_is c.self.invariant p kept).ready in
     let patches = linked_patches c.link.new.heads.items heads _ _ c.link.ensures.nodes in
     rw (← c.self.view_is, kept)
     (record {

@@ -25,51 +25,48 @@ use Rattle.fst_heads.proofs.Beside.{beside_depends}
 use Rattle.fst_graph.proofs.patches.Patches.depend.Goals as goal
 
 pub depend_fault-requires-clause-rising : goal.depend_fault-requires-clause-rising
-depend_fault-requires-clause-rising c = rw c.deref.ensures.value (rising_heads c.self.inside.heads.items c.self.invariant.0.lawful.one_place_each.rising)
+depend_fault-requires-clause-rising c = rw c.deref.ensures.value (rising_heads c.self.inside.heads.items c.self.invariant.keeps.lawful.one_place_each.rising)
 
 pub depend_fault-requires-clause-linked : goal.depend_fault-requires-clause-linked
-depend_fault-requires-clause-linked c = rw c.deref.ensures.value c.self.invariant.4.linked
+depend_fault-requires-clause-linked c = rw c.deref.ensures.value c.self.invariant.tallies.linked
 
 pub depend_fault-requires-clause-gates : goal.depend_fault-requires-clause-gates
-depend_fault-requires-clause-gates c = rw c.deref.ensures.value (gates_told c.self.inside.heads.items c.self.inside.numbers c.self.inside.blocks c.self.inside.walks.walk.marks c.self.invariant.0 c.self.invariant.4.settled)
+depend_fault-requires-clause-gates c = rw c.deref.ensures.value (gates_told c.self.inside.heads.items c.self.inside.numbers c.self.inside.blocks c.self.inside.walks.walk.marks c.self.invariant.keeps c.self.invariant.tallies.settled)
 
 pub returns-in-Some-clause-refused : goal.returns-in-Some-clause-refused
 returns-in-Some-clause-refused c = rw (← c.self.view_is, ← c.deref.ensures.value) (inl c.in-Some.ensures.first)
 
 pub missing_names-requires : goal.missing_names-requires
-missing_names-requires c = rw c.deref-2.ensures.value (rising_heads c.self.inside.heads.items c.self.invariant.0.lawful.one_place_each.rising)
+missing_names-requires c = rw c.deref-2.ensures.value (rising_heads c.self.inside.heads.items c.self.invariant.keeps.lawful.one_place_each.rising)
 
 pub returns-in_default-missing_names-clause-refused : goal.returns-in_default-missing_names-clause-refused
 returns-in_default-missing_names-clause-refused c = rw (← c.self.view_is, ← c.deref.ensures.value) (inr (c.in_default.ensures.clear, refl))
 
 pub reserve_above-requires : goal.reserve_above-requires
-reserve_above-requires c = rising_heads c.self.inside.heads.items c.self.invariant.0.lawful.one_place_each.rising
+reserve_above-requires c = rising_heads c.self.inside.heads.items c.self.invariant.keeps.lawful.one_place_each.rising
 
 pub invariant_of-self-in_default-reserve_above : goal.invariant_of-self-in_default-reserve_above
 invariant_of-self-in_default-reserve_above c =
     let heads = c.self.inside.heads.items in
-    let K = still_marked c.self.inside.heads.items c.self.inside.numbers c.self.inside.blocks c.self.inside.walks.walk.marks c.depend_fault.new.walk.marks c.self.invariant.0 (c.depend_fault.ensures.long ∙ ap length c.deref.ensures.value) in (
-      rw (same_patches c.reserve_above.new.heads.items heads c.reserve_above.ensures.nodes)
-          K,
-      tt,
-      tt,
-      rw (same_patches c.reserve_above.new.heads.items heads c.reserve_above.ensures.nodes) c.self.invariant.3,
-      rw c.reserve_above.ensures.nodes c.self.invariant.4,
-      tt,
-      tt,
-    )
+    let K = still_marked c.self.inside.heads.items c.self.inside.numbers c.self.inside.blocks c.self.inside.walks.walk.marks c.depend_fault.new.walk.marks c.self.invariant.keeps (c.depend_fault.ensures.long ∙ ap length c.deref.ensures.value) in record {
+      keeps = rw (same_patches c.reserve_above.new.heads.items heads c.reserve_above.ensures.nodes)
+          K;
+      beside = rw (same_patches c.reserve_above.new.heads.items heads c.reserve_above.ensures.nodes) c.self.invariant.beside;
+      tallies = rw c.reserve_above.ensures.nodes c.self.invariant.tallies;
+      prepared = tt;
+    }
 
 pub returns-in_default-reserve_above-clause-refused : goal.returns-in_default-reserve_above-clause-refused
 returns-in_default-reserve_above-clause-refused c = rw (← c.self.view_is, ← c.deref.ensures.value) (inr (c.in_default.ensures.clear, refl))
 
 pub row_sums-sums-requires : goal.row_sums-sums-requires
-row_sums-sums-requires c = rw c.deref-3.ensures.value (rising_same _ _ c.reserve_above.ensures.nodes (rising_heads c.self.inside.heads.items c.self.invariant.0.lawful.one_place_each.rising))
+row_sums-sums-requires c = rw c.deref-3.ensures.value (rising_same _ _ c.reserve_above.ensures.nodes (rising_heads c.self.inside.heads.items c.self.invariant.keeps.lawful.one_place_each.rising))
 
 pub gain-requires-clause-rising : goal.gain-requires-clause-rising
-gain-requires-clause-rising c = rising_same _ _ c.reserve_above.ensures.nodes (rising_heads c.self.inside.heads.items c.self.invariant.0.lawful.one_place_each.rising)
+gain-requires-clause-rising c = rising_same _ _ c.reserve_above.ensures.nodes (rising_heads c.self.inside.heads.items c.self.invariant.keeps.lawful.one_place_each.rising)
 
 pub gain-requires-clause-counted : goal.gain-requires-clause-counted
-gain-requires-clause-counted c = rw c.reserve_above.ensures.nodes (few (nodes_of c.self.inside.heads.items) c.self.inside.blocks (omega (arith, c.self.ranges)) c.self.invariant.4.settled)
+gain-requires-clause-counted c = rw c.reserve_above.ensures.nodes (few (nodes_of c.self.inside.heads.items) c.self.inside.blocks (omega (arith, c.self.ranges)) c.self.invariant.tallies.settled)
 
 pub gain-requires-clause-names : goal.gain-requires-clause-names
 gain-requires-clause-names c = subst (λ row. c.row_sums-sums.result.count ≤ length row) (c.as_slice-2.ensures ∙ sym c.as_slice-3.ensures) c.row_sums-sums.ensures.few
@@ -78,16 +75,13 @@ pub invariant_of-self-in_default-gain : goal.invariant_of-self-in_default-gain
 invariant_of-self-in_default-gain c =
     let heads = c.self.inside.heads.items in
     let still : nodes_of c.gain.new.heads.items ≡ nodes_of heads = c.in_default-gain.ensures.same ∙ c.reserve_above.ensures.nodes in
-    let K = still_marked c.self.inside.heads.items c.self.inside.numbers c.self.inside.blocks c.self.inside.walks.walk.marks c.depend_fault.new.walk.marks c.self.invariant.0 (c.depend_fault.ensures.long ∙ ap length c.deref.ensures.value) in (
-      rw (same_patches c.gain.new.heads.items heads still)
-          K,
-      tt,
-      tt,
-      rw (same_patches c.gain.new.heads.items heads still) c.self.invariant.3,
-      rw still c.self.invariant.4,
-      tt,
-      tt,
-    )
+    let K = still_marked c.self.inside.heads.items c.self.inside.numbers c.self.inside.blocks c.self.inside.walks.walk.marks c.depend_fault.new.walk.marks c.self.invariant.keeps (c.depend_fault.ensures.long ∙ ap length c.deref.ensures.value) in record {
+      keeps = rw (same_patches c.gain.new.heads.items heads still)
+          K;
+      beside = rw (same_patches c.gain.new.heads.items heads still) c.self.invariant.beside;
+      tallies = rw still c.self.invariant.tallies;
+      prepared = tt;
+    }
 
 pub returns-in_default-gain-clause-refused : goal.returns-in_default-gain-clause-refused
 returns-in_default-gain-clause-refused c = rw (← c.self.view_is, ← c.deref.ensures.value) (inr (c.in_default.ensures.clear, refl))
@@ -95,7 +89,7 @@ returns-in_default-gain-clause-refused c = rw (← c.self.view_is, ← c.deref.e
 pub link-requires-clause-rising : goal.link-requires-clause-rising
 link-requires-clause-rising c =
     rising_as (at_number c.args.gate.0 (gains_names c.as_slice-3.result.now c.row_sums-sums.result)) (gained_number c.args.gate.0 c.as_slice-3.result.now c.row_sums-sums.result) _ _ c.in-Ok-gain.ensures.ok
-    (rising_same _ _ c.reserve_above.ensures.nodes (rising_heads c.self.inside.heads.items c.self.invariant.0.lawful.one_place_each.rising))
+    (rising_same _ _ c.reserve_above.ensures.nodes (rising_heads c.self.inside.heads.items c.self.invariant.keeps.lawful.one_place_each.rising))
 
 pub link-requires-clause-once : goal.link-requires-clause-once
 link-requires-clause-once c = rw c.as_slice-4.ensures c.in-Ok.ensures.rising
@@ -143,24 +137,21 @@ invariant_of-self-2 c =
     let numbers = c.self.inside.numbers in
     let g = c.args.gate.0 in
     let on = numbers_of c.args.on.now in
-    let K = still_marked c.self.inside.heads.items c.self.inside.numbers c.self.inside.blocks c.self.inside.walks.walk.marks c.depend_fault.new.walk.marks c.self.invariant.0 (c.depend_fault.ensures.long ∙ ap length c.deref.ensures.value) in
+    let K = still_marked c.self.inside.heads.items c.self.inside.numbers c.self.inside.blocks c.self.inside.walks.walk.marks c.depend_fault.new.walk.marks c.self.invariant.keeps (c.depend_fault.ensures.long ∙ ap length c.deref.ensures.value) in
     let gate = subst (λ hs. IsOpenNumber (patches_of hs) g) c.deref.ensures.value c.in_default.ensures.is_open in
     let none = subst (λ hs. NoneHolds (depend_order (patches_of hs) numbers g on)) c.deref.ensures.value c.in_default.ensures.clear in
     let live = subst (λ hs. Lists (λ n. IsLiveNumber (patches_of hs) n × Contains on n × (DirectlyOn (patches_of hs) g n → ⊥)) c.in-Ok.names.items) c.deref-2.ensures.value c.in-Ok.ensures in
-    let T = c.self.invariant.4 in
+    let T = c.self.invariant.tallies in
     let back = sym (patches_in_nodes heads) in
     let live_there = subst (λ ps. Lists (λ n. IsLiveNumber ps n × Contains on n × (DirectlyOn ps g n → ⊥)) c.in-Ok.names.items) back live in
     let keeps = keeps_depends (patches_of heads) numbers c.self.inside.blocks g c.in-Ok.names.items on c.depend_fault.new.walk.marks _ K gate none live refl in
-    let lawful = subst (λ ps. HeadsAreLawful ps numbers) (sym (new_patches c) ∙ seen c.link.new.heads.items _ (named c)) keeps.lawful in (
-      rw (new_patches c) keeps,
-      tt,
-      tt,
-      rw (new_patches c) (beside_depends (patches_of heads) c.self.inside.blocks c.self.inside.live c.self.inside.walks.crossed.items g c.in-Ok.names.items c.self.invariant.3),
-      rw (named c)
-          (tallies_depends (nodes_of heads) numbers c.self.inside.blocks _ _ _ _ g on c.in-Ok.names.items (lawful_nodes heads numbers c.self.invariant.0.lawful) lawful T (subst (λ ps. IsOpenNumber ps g) back gate) live_there),
-      tt,
-      tt,
-    )
+    let lawful = subst (λ ps. HeadsAreLawful ps numbers) (sym (new_patches c) ∙ seen c.link.new.heads.items _ (named c)) keeps.lawful in record {
+      keeps = rw (new_patches c) keeps;
+      beside = rw (new_patches c) (beside_depends (patches_of heads) c.self.inside.blocks c.self.inside.live c.self.inside.walks.crossed.items g c.in-Ok.names.items c.self.invariant.beside);
+      tallies = rw (named c)
+          (tallies_depends (nodes_of heads) numbers c.self.inside.blocks _ _ _ _ g on c.in-Ok.names.items (lawful_nodes heads numbers c.self.invariant.keeps.lawful) lawful T (subst (λ ps. IsOpenNumber ps g) back gate) live_there);
+      prepared = tt;
+    }
 
 pub returns-clause-ok : goal.returns-clause-ok
 returns-clause-ok c =

@@ -27,7 +27,7 @@ shrink-requires c =
     let left : patches_of c.keep_live.new.heads.items ≡ filter is_live (patches_of c.self.inside.heads.items) =
     seen c.keep_live.new.heads.items _ c.keep_live.ensures ∙ (patches_dropped (nodes_of c.self.inside.heads.items) ∙ ap (filter is_live) (patches_in_nodes c.self.inside.heads.items)) in
     let live = ap length left in
-    omega (arith, all, live, length-map c.self.inside.heads.items patch_of, length-map c.keep_live.new.heads.items patch_of, c.len.ensures, c.keep_live.new.heads.ok.0, c.self.invariant.0.marked)
+    omega (arith, all, live, length-map c.self.inside.heads.items patch_of, length-map c.keep_live.new.heads.items patch_of, c.len.ensures, c.keep_live.new.heads.ok.0, c.self.invariant.keeps.marked)
 
 pub invariant_of-self : goal.invariant_of-self
 invariant_of-self c =
@@ -39,16 +39,13 @@ invariant_of-self c =
     omega (arith, all, live, length-map c.keep_live.new.heads.items patch_of, c.len.ensures, c.keep_live.new.heads.ok.0, c.shrink.ensures) in
     let heads = c.self.inside.heads.items in
     let n = c.self.inside.numbers in
-    let kept = keeps_dropped (patches_of heads) n c.self.inside.blocks c.self.inside.walks.walk.marks c.self.invariant.0 c.shrink.new.self.marks long in
-    let lawful = subst (λ ps. HeadsAreLawful ps n) (sym (patches_dropped (nodes_of heads) ∙ ap (filter is_live) (patches_in_nodes heads))) kept.lawful in (
-      rw left kept,
-      tt,
-      tt,
-      rw left (beside_dropped (patches_of heads) c.self.inside.blocks c.self.inside.live c.self.inside.walks.crossed.items c.self.invariant.3),
-      rw c.keep_live.ensures (tallies_dropped (nodes_of heads) n c.self.inside.blocks _ _ _ _ (lawful_nodes heads n c.self.invariant.0.lawful) lawful c.self.invariant.4),
-      tt,
-      tt,
-    )
+    let kept = keeps_dropped (patches_of heads) n c.self.inside.blocks c.self.inside.walks.walk.marks c.self.invariant.keeps c.shrink.new.self.marks long in
+    let lawful = subst (λ ps. HeadsAreLawful ps n) (sym (patches_dropped (nodes_of heads) ∙ ap (filter is_live) (patches_in_nodes heads))) kept.lawful in record {
+      keeps = rw left kept;
+      beside = rw left (beside_dropped (patches_of heads) c.self.inside.blocks c.self.inside.live c.self.inside.walks.crossed.items c.self.invariant.beside);
+      tallies = rw c.keep_live.ensures (tallies_dropped (nodes_of heads) n c.self.inside.blocks _ _ _ _ (lawful_nodes heads n c.self.invariant.keeps.lawful) lawful c.self.invariant.tallies);
+      prepared = tt;
+    }
 
 pub returns : goal.returns
 returns c =

@@ -1,7 +1,7 @@
-use Rattle.std.proofs.Common.{◌+◌, IfSome, subst}
+use Rattle.std.proofs.Common.{◌+◌}
 use Rattle.fst_heads.specs.Heads.{patches_of}
-use Rattle.fst_graph.specs.Ready.{MayBePut}
 use Rattle.fst_graph.proofs.Readied.{seen_member, member_seen, ready_member}
+use Rattle.fst_graph.proofs.Sound.{prepared_is}
 use Rattle.fst_graph.proofs.patches.Patches.is_member_prepared.Goals as goal
 
 pub returns-in-Some : goal.returns-in-Some
@@ -10,7 +10,7 @@ returns-in-Some c =
     let p = c.in-Some.prepared in
     let heads = patches_of c.self.inside.heads.items in
     let blocks = c.self.inside.blocks in
-    let ready = subst (λ o. IfSome o (MayBePut heads n blocks)) c.in-Some.is c.self.invariant.1 in
+    let ready = (prepared_is c.self.invariant p c.in-Some.is).ready in
     rw (← c.self.view_is, c.in-Some.is) (
       λ e.
           let said = c.is_for_group.ensures.0 e in

@@ -20,10 +20,10 @@ use Rattle.fst_heads.specs.Spreading.{launches}
 use Rattle.fst_graph.proofs.patches.Patches.launch.Goals as goal
 
 pub block_of-requires : goal.block_of-requires
-block_of-requires c = rw c.deref.ensures.value (rising_heads c.self.inside.heads.items c.self.invariant.0.lawful.one_place_each.rising)
+block_of-requires c = rw c.deref.ensures.value (rising_heads c.self.inside.heads.items c.self.invariant.keeps.lawful.one_place_each.rising)
 
 pub launch_all-requires : goal.launch_all-requires
-launch_all-requires c = rising_heads c.self.inside.heads.items c.self.invariant.0.lawful.one_place_each.rising
+launch_all-requires c = rising_heads c.self.inside.heads.items c.self.invariant.keeps.lawful.one_place_each.rising
 
 pub returns-in_default-clause-launched : goal.returns-in_default-clause-launched
 returns-in_default-clause-launched c =
@@ -44,13 +44,13 @@ index_mut-requires c =
     let heads = c.self.inside.heads.items in
     let chosen = numbers_of c.args.chosen.now in
     let b = c.requires.block in
-    let T = c.self.invariant.4 in
+    let T = c.self.invariant.tallies in
     let writable = subst (λ (v : Known). IsWritable v.heads b) (sym c.self.view_is) c.requires.writable in
     let choice = subst (λ (v : Known). IsWritableSet v.heads b chosen) (sym c.self.view_is) c.requires.choice in
     let item = c.in-Some.ensures.item in
     let named = first_named c.args.chosen.now c.in-Some.first.now item.3.0 item.3.1 in
     let here = block_found (patches_of heads) b c.in-Some-block_of.block chosen c.in-Some.first.now.0 choice named (λ p h e. c.in-Some-block_of.ensures p (subst (λ hs. Contains (patches_of hs) p) (sym c.deref.ensures.value) h) e) in
-    let rests = writable_rests (nodes_of heads) c.self.inside.blocks b c.self.inside.standings.items none_yet (inside_nodes heads c.self.inside.blocks c.self.invariant.0.inside) T.standing (subst (λ ps. IsWritable ps b) (sym (patches_in_nodes heads)) writable) in
+    let rests = writable_rests (nodes_of heads) c.self.inside.blocks b c.self.inside.standings.items none_yet (inside_nodes heads c.self.inside.blocks c.self.invariant.keeps.inside) T.standing (subst (λ ps. IsWritable ps b) (sym (patches_in_nodes heads)) writable) in
     let lt = rests.0 in
     omega (arith, here, lt, T.standing.long, c.self.inside.standings.ok.0)
 
@@ -61,7 +61,7 @@ invariant_of-self-2 c =
     let blocks = c.self.inside.blocks in
     let chosen = numbers_of c.args.chosen.now in
     let b = c.requires.block in
-    let K = c.self.invariant.0 in
+    let K = c.self.invariant.keeps in
     let same = patches_in_nodes heads in
     let writable = subst (λ (v : Known). IsWritable v.heads b) (sym c.self.view_is) c.requires.writable in
     let choice = subst (λ (v : Known). IsWritableSet v.heads b chosen) (sym c.self.view_is) c.requires.choice in
@@ -72,17 +72,14 @@ invariant_of-self-2 c =
     seen c.launch_all.new.heads.items _ c.launch_all.ensures ∙ (patches_launched (nodes_of heads) chosen ∙ ap (map (launched chosen)) same) in
     let kept = keeps_launched _ n blocks b chosen c.self.inside.walks.walk.marks K writable choice in
     let lawful = subst (λ ps. HeadsAreLawful (map (launched chosen) ps) n) (sym same) kept.lawful in
-    let tallies = tallies_chosen (nodes_of heads) n blocks b c.in-Some-block_of.block _ c.self.inside.standings.items _ _ chosen c.index_mut.result.now c.launch.new.self (lawful_nodes heads n K.lawful) lawful (inside_nodes heads blocks K.inside) c.self.invariant.4
-    (subst (λ ps. IsWritable ps b) (sym same) writable) (subst (λ ps. IsWritableSet ps b chosen) (sym same) choice) here c.index_mut.ensures.value c.launch.ensures in (
-      rw new kept,
-      tt,
-      tt,
-      beside_kept heads c.launch_all.new.heads.items (launches chosen) blocks c.self.inside.live c.self.inside.walks.crossed.items c.launch_all.ensures (λ x. refl) c.self.invariant.4.settled (rw c.launch_all.ensures tallies.settled) c.self.invariant.3,
-      rw c.launch_all.ensures
-          tallies,
-      tt,
-      tt,
-    )
+    let tallies = tallies_chosen (nodes_of heads) n blocks b c.in-Some-block_of.block _ c.self.inside.standings.items _ _ chosen c.index_mut.result.now c.launch.new.self (lawful_nodes heads n K.lawful) lawful (inside_nodes heads blocks K.inside) c.self.invariant.tallies
+    (subst (λ ps. IsWritable ps b) (sym same) writable) (subst (λ ps. IsWritableSet ps b chosen) (sym same) choice) here c.index_mut.ensures.value c.launch.ensures in record {
+      keeps = rw new kept;
+      beside = beside_kept heads c.launch_all.new.heads.items (launches chosen) blocks c.self.inside.live c.self.inside.walks.crossed.items c.launch_all.ensures (λ x. refl) c.self.invariant.tallies.settled (rw c.launch_all.ensures tallies.settled) c.self.invariant.beside;
+      tallies = rw c.launch_all.ensures
+          tallies;
+      prepared = tt;
+    }
 
 pub returns-clause-launched : goal.returns-clause-launched
 returns-clause-launched c =

@@ -7,12 +7,10 @@ pub invariant_of-result : goal.invariant_of-result
 invariant_of-result c =
     let places : length c.in-Ok.crossed.items ≡ c.args.shape.blocks = omega (arith, c.in-Ok.crossed.ok.0, c.in-Ok.ensures.len) in
     let K = keeps_none c.args.numbers c.args.shape.blocks (omega (arith, c.ranges.numbers.fits)) in
-    rw (c.new.ensures.items, c.new-2.ensures, c.new-3.ensures.items) (
-      K,
-      tt,
-      tt,
-      record { places = places; counted = refl },
-      tallies_from [] c.args.numbers c.args.numbers c.args.shape.blocks _ _ [] _ K.lawful
+    record {
+      keeps = rw (c.new.ensures.items, c.new-2.ensures) K;
+      beside = rw c.new.ensures.items (record { places = places; counted = refl });
+      tallies = rw (c.new.ensures.items, c.new-3.ensures.items) (tallies_from [] c.args.numbers c.args.numbers c.args.shape.blocks _ _ [] _ K.lawful
           (λ p q h. absurd (omega (arith, h.1)))
           (λ x n h. absurd (omega (arith, h.1)))
           (λ x h. absurd (omega (arith, h.1)))
@@ -20,7 +18,6 @@ invariant_of-result c =
           c.in-Ok-empty_lists.ensures
           c.in-Ok-empty_standings.ensures
           refl
-          (omega arith),
-      tt,
-      tt,
-    )
+          (omega arith));
+      prepared = tt;
+    }

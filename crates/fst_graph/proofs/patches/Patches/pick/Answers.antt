@@ -23,16 +23,16 @@ picked patches standings blocks (Some b) long inside M some = picked_some patche
 pub returns-clause-least : goal.returns-clause-least
 returns-clause-least c =
     let heads = c.self.inside.heads.items in
-    let T = c.self.invariant.4 in
+    let T = c.self.invariant.tallies in
     let M = subst (λ ps. AreMarked ps c.self.inside.blocks c.self.inside.standings.items) (patches_in_nodes heads) T.marked in
     rw (← c.self.view_is)
-    (picked (patches_of heads) c.self.inside.standings.items c.self.inside.blocks c.least_marked.result T.standing.long c.self.invariant.0.inside M (rw (← c.deref.ensures.value) c.least_marked.ensures))
+    (picked (patches_of heads) c.self.inside.standings.items c.self.inside.blocks c.least_marked.result T.standing.long c.self.invariant.keeps.inside M (rw (← c.deref.ensures.value) c.least_marked.ensures))
 
 pub returns-clause-never_stuck : goal.returns-clause-never_stuck
 returns-clause-never_stuck c =
     let heads = c.self.inside.heads.items in
-    let T = c.self.invariant.4 in
-    let K = c.self.invariant.0 in
+    let T = c.self.invariant.tallies in
+    let K = c.self.invariant.keeps in
     let M = subst (λ ps. AreMarked ps c.self.inside.blocks c.self.inside.standings.items) (patches_in_nodes heads) T.marked in
     let pick = picked (patches_of heads) c.self.inside.standings.items c.self.inside.blocks c.least_marked.result T.standing.long K.inside M (rw (← c.deref.ensures.value) c.least_marked.ensures) in
     rw (← c.self.view_is) (stuck_by_gates (patches_of heads) c.least_marked.result K.lawful.no_cycle K.lawful.hard_never_hold pick)

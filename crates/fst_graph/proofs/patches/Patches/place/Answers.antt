@@ -5,7 +5,7 @@ use Rattle.fst_graph.proofs.PlaceOf.{place_found, place_lost}
 use Rattle.fst_graph.proofs.patches.Patches.place.Goals as goal
 
 pub slot_of-requires : goal.slot_of-requires
-slot_of-requires c = rw c.deref.ensures.value (rising_heads c.self.inside.heads.items c.self.invariant.0.lawful.one_place_each.rising)
+slot_of-requires c = rw c.deref.ensures.value (rising_heads c.self.inside.heads.items c.self.invariant.keeps.lawful.one_place_each.rising)
 
 pub returns-in-Some : goal.returns-in-Some
 returns-in-Some c =
@@ -13,7 +13,7 @@ returns-in-Some c =
     let d = c.index.result.now in
     let slot = subst (λ hs. HasSlot hs c.args.no.0 c.in-Some.slot) c.deref.ensures.value c.in-Some.ensures.found in
     rw (← c.self.view_is, c.index.ensures)
-    (place_found _ c.self.inside.numbers c.args.no.0 _ c.self.invariant.0.lawful.one_place_each.rising (patch_at heads c.in-Some.slot d slot.0) (slot.1 d) (c.is_given.ensures.0 c.if-not-is_given.false))
+    (place_found _ c.self.inside.numbers c.args.no.0 _ c.self.invariant.keeps.lawful.one_place_each.rising (patch_at heads c.in-Some.slot d slot.0) (slot.1 d) (c.is_given.ensures.0 c.if-not-is_given.false))
 
 pub returns-in-None : goal.returns-in-None
 returns-in-None c =

@@ -47,7 +47,7 @@ returns-clause-ok c =
           dependencies = row;
           depends = depends_exactly old names b at len (n + 1) p.grade row row depends;
           added = refl;
-          graded = graded_change old n blocks c.self.inside.walks.walk.marks c.self.invariant.0 b at len names p.grade row depends follows;
+          graded = graded_change old n blocks c.self.inside.walks.walk.marks c.self.invariant.keeps b at len names p.grade row depends follows;
         };
         numbers = refl;
         blocks = refl;
@@ -59,70 +59,61 @@ returns-clause-ok c =
 pub prepare-requires-clause-sees : goal.prepare-requires-clause-sees
 prepare-requires-clause-sees c =
     let s = c.self.inside in
-    sees_all _ s.numbers s.blocks s.walks.walk.marks s.queue.items (vec_capacity s.queue) s.heads.items s.lists.items s.standings.items c.self.invariant.0 c.self.invariant.4 c.deref-2.ensures.value c.deref-3.ensures.value c.deref-4.ensures.value
+    sees_all _ s.numbers s.blocks s.walks.walk.marks s.queue.items (vec_capacity s.queue) s.heads.items s.lists.items s.standings.items c.self.invariant.keeps c.self.invariant.tallies c.deref-2.ensures.value c.deref-3.ensures.value c.deref-4.ensures.value
 
 pub prepare-requires-clause-long : goal.prepare-requires-clause-long
-prepare-requires-clause-long c = as_many_marks c.self.inside.heads.items c.self.inside.numbers c.self.inside.blocks c.self.inside.walks.walk.marks c.self.invariant.0 ∙ sym (ap length c.deref-2.ensures.value)
+prepare-requires-clause-long c = as_many_marks c.self.inside.heads.items c.self.inside.numbers c.self.inside.blocks c.self.inside.walks.walk.marks c.self.invariant.keeps ∙ sym (ap length c.deref-2.ensures.value)
 
 pub prepare-requires-clause-crossed : goal.prepare-requires-clause-crossed
 prepare-requires-clause-crossed c =
     let s = c.self.inside in
-    let long = many_lists (nodes_of s.heads.items) s.numbers s.blocks s.lists.items s.standings.items s.queue.items (vec_capacity s.queue) c.self.invariant.4 in
-    c.self.invariant.3.places ∙ (sym long ∙ sym (ap length c.deref-3.ensures.value))
+    let long = many_lists (nodes_of s.heads.items) s.numbers s.blocks s.lists.items s.standings.items s.queue.items (vec_capacity s.queue) c.self.invariant.tallies in
+    c.self.invariant.beside.places ∙ (sym long ∙ sym (ap length c.deref-3.ensures.value))
 
 pub prepare-requires-clause-block : goal.prepare-requires-clause-block
 prepare-requires-clause-block c =
     let s = c.self.inside in
-    let long = many_lists (nodes_of s.heads.items) s.numbers s.blocks s.lists.items s.standings.items s.queue.items (vec_capacity s.queue) c.self.invariant.4 in
+    let long = many_lists (nodes_of s.heads.items) s.numbers s.blocks s.lists.items s.standings.items s.queue.items (vec_capacity s.queue) c.self.invariant.tallies in
     let inside : c.args.block.0 < s.blocks = subst (λ (v : Known). c.args.block.0 < v.blocks) (sym c.self.view_is) c.requires in
     omega (arith, inside, long, ap length c.deref-3.ensures.value)
 
 pub invariant_of-self-then-is_err : goal.invariant_of-self-then-is_err
 invariant_of-self-then-is_err c =
-    let K = still_marked c.self.inside.heads.items c.self.inside.numbers c.self.inside.blocks c.self.inside.walks.walk.marks c.prepare.new.walks.walk.marks c.self.invariant.0 (c.prepare.ensures.long ∙ ap length c.deref-2.ensures.value) in
-    let crossed = c.prepare.ensures.crossed ∙ (ap length c.deref-3.ensures.value ∙ many_lists (nodes_of c.self.inside.heads.items) c.self.inside.numbers c.self.inside.blocks c.self.inside.lists.items c.self.inside.standings.items c.self.inside.queue.items (vec_capacity c.self.inside.queue) c.self.invariant.4) in (
-      rw (c.reserve_one.ensures.heads, c.reserve_one.ensures.marks)
-          K,
-      tt,
-      tt,
-      rw c.reserve_one.ensures.heads (record { places = crossed; counted = c.self.invariant.3.counted }),
-      rw c.reserve_one.ensures.heads (tallies_wider _ c.self.inside.numbers c.self.inside.blocks _ _ _ _ _ _ c.self.invariant.4 c.reserve_one.ensures.queue c.reserve_one.ensures.wide),
-      tt,
-      tt,
-    )
+    let K = still_marked c.self.inside.heads.items c.self.inside.numbers c.self.inside.blocks c.self.inside.walks.walk.marks c.prepare.new.walks.walk.marks c.self.invariant.keeps (c.prepare.ensures.long ∙ ap length c.deref-2.ensures.value) in
+    let crossed = c.prepare.ensures.crossed ∙ (ap length c.deref-3.ensures.value ∙ many_lists (nodes_of c.self.inside.heads.items) c.self.inside.numbers c.self.inside.blocks c.self.inside.lists.items c.self.inside.standings.items c.self.inside.queue.items (vec_capacity c.self.inside.queue) c.self.invariant.tallies) in record {
+      keeps = rw (c.reserve_one.ensures.heads, c.reserve_one.ensures.marks)
+          K;
+      beside = rw c.reserve_one.ensures.heads (record { places = crossed; counted = c.self.invariant.beside.counted });
+      tallies = rw c.reserve_one.ensures.heads (tallies_wider _ c.self.inside.numbers c.self.inside.blocks _ _ _ _ _ _ c.self.invariant.tallies c.reserve_one.ensures.queue c.reserve_one.ensures.wide);
+      prepared = tt;
+    }
 
 pub invariant_of-self-then-is_err-2 : goal.invariant_of-self-then-is_err-2
 invariant_of-self-then-is_err-2 c =
     let heads = c.self.inside.heads.items in
     let still : nodes_of c.reserve_above.new.heads.items ≡ nodes_of heads = c.reserve_above.ensures.nodes ∙ ap nodes_of c.reserve_one.ensures.heads in
-    let K = still_marked c.self.inside.heads.items c.self.inside.numbers c.self.inside.blocks c.self.inside.walks.walk.marks c.prepare.new.walks.walk.marks c.self.invariant.0 (c.prepare.ensures.long ∙ ap length c.deref-2.ensures.value) in
-    let crossed = c.prepare.ensures.crossed ∙ (ap length c.deref-3.ensures.value ∙ many_lists (nodes_of c.self.inside.heads.items) c.self.inside.numbers c.self.inside.blocks c.self.inside.lists.items c.self.inside.standings.items c.self.inside.queue.items (vec_capacity c.self.inside.queue) c.self.invariant.4) in (
-      rw (same_patches c.reserve_above.new.heads.items heads still, c.reserve_one.ensures.marks)
-          K,
-      tt,
-      tt,
-      rw (same_patches c.reserve_above.new.heads.items heads still) (record { places = crossed; counted = c.self.invariant.3.counted }),
-      rw still (tallies_wider _ c.self.inside.numbers c.self.inside.blocks _ _ _ _ _ _ c.self.invariant.4 c.reserve_one.ensures.queue c.reserve_one.ensures.wide),
-      tt,
-      tt,
-    )
+    let K = still_marked c.self.inside.heads.items c.self.inside.numbers c.self.inside.blocks c.self.inside.walks.walk.marks c.prepare.new.walks.walk.marks c.self.invariant.keeps (c.prepare.ensures.long ∙ ap length c.deref-2.ensures.value) in
+    let crossed = c.prepare.ensures.crossed ∙ (ap length c.deref-3.ensures.value ∙ many_lists (nodes_of c.self.inside.heads.items) c.self.inside.numbers c.self.inside.blocks c.self.inside.lists.items c.self.inside.standings.items c.self.inside.queue.items (vec_capacity c.self.inside.queue) c.self.invariant.tallies) in record {
+      keeps = rw (same_patches c.reserve_above.new.heads.items heads still, c.reserve_one.ensures.marks)
+          K;
+      beside = rw (same_patches c.reserve_above.new.heads.items heads still) (record { places = crossed; counted = c.self.invariant.beside.counted });
+      tallies = rw still (tallies_wider _ c.self.inside.numbers c.self.inside.blocks _ _ _ _ _ _ c.self.invariant.tallies c.reserve_one.ensures.queue c.reserve_one.ensures.wide);
+      prepared = tt;
+    }
 
 pub invariant_of-self-then-is_err-3 : goal.invariant_of-self-then-is_err-3
 invariant_of-self-then-is_err-3 c =
     let heads = c.self.inside.heads.items in
     let still : nodes_of c.reserve_above.new.heads.items ≡ nodes_of heads = c.reserve_above.ensures.nodes ∙ ap nodes_of c.reserve_one.ensures.heads in
-    let K = still_marked c.self.inside.heads.items c.self.inside.numbers c.self.inside.blocks c.self.inside.walks.walk.marks c.prepare.new.walks.walk.marks c.self.invariant.0 (c.prepare.ensures.long ∙ ap length c.deref-2.ensures.value) in
-    let crossed = c.prepare.ensures.crossed ∙ (ap length c.deref-3.ensures.value ∙ many_lists (nodes_of c.self.inside.heads.items) c.self.inside.numbers c.self.inside.blocks c.self.inside.lists.items c.self.inside.standings.items c.self.inside.queue.items (vec_capacity c.self.inside.queue) c.self.invariant.4) in (
-      rw (same_patches c.reserve_above.new.heads.items heads still, c.reserve_one.ensures.marks)
-          K,
-      tt,
-      tt,
-      rw (same_patches c.reserve_above.new.heads.items heads still) (record { places = crossed; counted = c.self.invariant.3.counted }),
-      rw (still, shelved_same c.self.inside.lists.items c.args.block.0 c.index_mut.result.now c.reserve.new.self c.index_mut.ensures.value c.reserve.ensures.items)
-          (tallies_wider _ c.self.inside.numbers c.self.inside.blocks _ _ _ _ _ _ c.self.invariant.4 c.reserve_one.ensures.queue c.reserve_one.ensures.wide),
-      tt,
-      tt,
-    )
+    let K = still_marked c.self.inside.heads.items c.self.inside.numbers c.self.inside.blocks c.self.inside.walks.walk.marks c.prepare.new.walks.walk.marks c.self.invariant.keeps (c.prepare.ensures.long ∙ ap length c.deref-2.ensures.value) in
+    let crossed = c.prepare.ensures.crossed ∙ (ap length c.deref-3.ensures.value ∙ many_lists (nodes_of c.self.inside.heads.items) c.self.inside.numbers c.self.inside.blocks c.self.inside.lists.items c.self.inside.standings.items c.self.inside.queue.items (vec_capacity c.self.inside.queue) c.self.invariant.tallies) in record {
+      keeps = rw (same_patches c.reserve_above.new.heads.items heads still, c.reserve_one.ensures.marks)
+          K;
+      beside = rw (same_patches c.reserve_above.new.heads.items heads still) (record { places = crossed; counted = c.self.invariant.beside.counted });
+      tallies = rw (still, shelved_same c.self.inside.lists.items c.args.block.0 c.index_mut.result.now c.reserve.new.self c.index_mut.ensures.value c.reserve.ensures.items)
+          (tallies_wider _ c.self.inside.numbers c.self.inside.blocks _ _ _ _ _ _ c.self.invariant.tallies c.reserve_one.ensures.queue c.reserve_one.ensures.wide);
+      prepared = tt;
+    }
 
 pub invariant_of-self-2 : goal.invariant_of-self-2
 invariant_of-self-2 c =
@@ -136,29 +127,31 @@ invariant_of-self-2 c =
     let made = c.in-Ok.ensures in
     let names = numbers_of p.names.items in
     let row = p.dependencies.items in
-    let K = still_marked c.self.inside.heads.items c.self.inside.numbers c.self.inside.blocks c.self.inside.walks.walk.marks c.prepare.new.walks.walk.marks c.self.invariant.0 (c.prepare.ensures.long ∙ ap length c.deref-2.ensures.value) in
-    let crossed = c.prepare.ensures.crossed ∙ (ap length c.deref-3.ensures.value ∙ many_lists (nodes_of c.self.inside.heads.items) c.self.inside.numbers c.self.inside.blocks c.self.inside.lists.items c.self.inside.standings.items c.self.inside.queue.items (vec_capacity c.self.inside.queue) c.self.invariant.4) in
+    let K = still_marked c.self.inside.heads.items c.self.inside.numbers c.self.inside.blocks c.self.inside.walks.walk.marks c.prepare.new.walks.walk.marks c.self.invariant.keeps (c.prepare.ensures.long ∙ ap length c.deref-2.ensures.value) in
+    let crossed = c.prepare.ensures.crossed ∙ (ap length c.deref-3.ensures.value ∙ many_lists (nodes_of c.self.inside.heads.items) c.self.inside.numbers c.self.inside.blocks c.self.inside.lists.items c.self.inside.standings.items c.self.inside.queue.items (vec_capacity c.self.inside.queue) c.self.invariant.tallies) in
     let clear : NoneHolds (make_order old n names) = rw made.names (subst (λ hs. NoneHolds (make_order (patches_of hs) n (numbers_of c.args.after.now))) c.deref.ensures.value c.in_default.ensures.clear) in
     let inside : p.block < blocks = rw made.block (subst (λ (v : Known). c.args.block.0 < v.blocks) (sym c.self.view_is) c.requires) in
     let depends : Lists (IsDependency old names p.block p.span.at p.span.len) row =
     rw (made.names, made.block, made.span) (subst (λ hs. Lists (IsDependency (patches_of hs) (numbers_of c.args.after.now) c.args.block.0 c.args.span.at c.args.span.len) row) c.deref-2.ensures.value made.depends) in
     let follows : FollowsRule p.grade (MayBeHard old None p.block row) = rw made.block (subst (λ hs. FollowsRule p.grade (MayBeHard (patches_of hs) None c.args.block.0 row)) c.deref-2.ensures.value made.graded) in
-    let graded = graded_change old n blocks c.self.inside.walks.walk.marks c.self.invariant.0 p.block p.span.at p.span.len names p.grade row depends follows in
+    let graded = graded_change old n blocks c.self.inside.walks.walk.marks c.self.invariant.keeps p.block p.span.at p.span.len names p.grade row depends follows in
     let above : HasRoomAbove c.reserve_above.new.heads.items c.as_slice.result.now = ok_of c.reserve_above.result _ c.reserve_above.ensures.room (sym c.is_err-2.ensures.value ∙ c.if-is_err-2.false) in
     let free : c.reserve.new.self.len + 1 ≤ c.reserve.new.self.cap = search rules in
-    let lists : length c.self.inside.lists.items ≡ blocks = sym (length-map c.self.inside.lists.items (λ l. entries_of l.items)) ∙ c.self.invariant.4.listed.long in (
-      rw (patches, c.reserve_one.ensures.marks) K,
-      rw (patches, made.gates) (record { clear = clear; inside = inside; depends = depends; graded = graded }),
-      rw (c.reserve_above.ensures.len, c.reserve_above.ensures.capacity) (record { heads_free = search rules; marks_free = search rules; queue_free = search rules }),
-      rw patches (record { places = crossed; counted = c.self.invariant.3.counted }),
-      rw (still, shelved_same c.self.inside.lists.items c.args.block.0 c.index_mut.result.now c.reserve.new.self c.index_mut.ensures.value c.reserve.ensures.items)
-          (tallies_wider _ n blocks _ _ _ _ _ _ c.self.invariant.4 c.reserve_one.ensures.queue c.reserve_one.ensures.wide),
-      (rw (← c.as_slice.ensures) above, rw made.gates tt),
-      rw made.block (room_in_list c.self.inside.lists.items c.args.block.0 c.reserve.new.self (let i = inside in omega (arith, i, lists, ap (λ x. x) made.block)) (omega (arith, free))),
-    )
+    let lists : length c.self.inside.lists.items ≡ blocks = sym (length-map c.self.inside.lists.items (λ l. entries_of l.items)) ∙ c.self.invariant.tallies.listed.long in record {
+      keeps = rw (patches, c.reserve_one.ensures.marks) K;
+      beside = rw patches (record { places = crossed; counted = c.self.invariant.beside.counted });
+      tallies = rw (still, shelved_same c.self.inside.lists.items c.args.block.0 c.index_mut.result.now c.reserve.new.self c.index_mut.ensures.value c.reserve.ensures.items)
+          (tallies_wider _ n blocks _ _ _ _ _ _ c.self.invariant.tallies c.reserve_one.ensures.queue c.reserve_one.ensures.wide);
+      prepared = record {
+        ready = rw (patches, made.gates) (record { clear = clear; inside = inside; depends = depends; graded = graded });
+        places = rw (c.reserve_above.ensures.len, c.reserve_above.ensures.capacity) (record { heads_free = search rules; marks_free = search rules; queue_free = search rules });
+        around = (rw (← c.as_slice.ensures) above, rw made.gates tt);
+        in_list = rw made.block (room_in_list c.self.inside.lists.items c.args.block.0 c.reserve.new.self (let i = inside in omega (arith, i, lists, ap (λ x. x) made.block)) (omega (arith, free)));
+      };
+    }
 
 pub reserve_above-requires : goal.reserve_above-requires
-reserve_above-requires c = rw c.reserve_one.ensures.heads (rising_heads c.self.inside.heads.items c.self.invariant.0.lawful.one_place_each.rising)
+reserve_above-requires c = rw c.reserve_one.ensures.heads (rising_heads c.self.inside.heads.items c.self.invariant.keeps.lawful.one_place_each.rising)
 
 pub returns-then-is_err-2-clause-same : goal.returns-then-is_err-2-clause-same
 returns-then-is_err-2-clause-same c =

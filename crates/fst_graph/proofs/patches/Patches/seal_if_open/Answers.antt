@@ -6,5 +6,5 @@ use Rattle.fst_graph.proofs.patches.Patches.seal_if_open.Goals as goal
 
 pub returns-clause-sealed : goal.returns-clause-sealed
 returns-clause-sealed c =
-    let H = subst (λ (v : Known). HeadsAreLawful v.heads v.numbers) c.self.view_is c.self.invariant.0.lawful in
+    let H = subst (λ (v : Known). HeadsAreLawful v.heads v.numbers) c.self.view_is c.self.invariant.keeps.lawful in
     seals_if_open c.args.self.now c.seal.new.self c.args.gate H c.seal.result c.seal.ensures.ok c.seal.ensures.refused c.seal.ensures.same
