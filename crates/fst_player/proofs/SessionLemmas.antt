@@ -12,7 +12,7 @@ use Rattle.fst_player.specs.Session.{IsAt, StopsIn, Leads, Stops, Feeds, Finishe
 use Rattle.fst_player.specs.Lines.{Holds}
 use Rattle.fst_player.specs.Answering.{Answered}
 use Rattle.fst_player.specs.declared.session.Session.{Session}
-use Rattle.fst_player.proofs.StreamLemmas.{parted-push, parted-end, ended-append, last_line-some}
+use Rattle.fst_player.proofs.StreamLemmas.{IsText, parted-text, parted-end, ended-append, last_line-some}
 use Rattle.fst_player.proofs.RunLemmas.{Run-append, Run-one, Run-total}
 
 pub Leads-nil : (s : Session) (a : Option (List ℕ)) → Leads s [] a a s
@@ -85,14 +85,14 @@ Feeds-end s t a b (Err e) line f = λ origin given sent at.
       is_beginning = ap (λ (x : List ℕ). sent ++ x) sends.2;
     }
 
-pub Leads-byte : (s t : Session) (c : ℕ) (a : Option (List ℕ)) → (c == 10) ≡ false → t.player ≡ s.player → ((text : List ℕ) → Holds s.line text → Holds t.line (text ++ c ∷ [])) → Leads s (c ∷ []) a a t
-Leads-byte s t c a ne same f origin given sent at = (
+pub Leads-text : (s t : Session) (piece : List ℕ) (a : Option (List ℕ)) → IsText piece → t.player ≡ s.player → ((text : List ℕ) → Holds s.line text → Holds t.line (text ++ piece)) → Leads s piece a a t
+Leads-text s t piece a plain same f origin given sent at = (
   [],
   Appends-nil a,
   record {
-    run = subst (λ (x : Parted). IsScriptRun origin x.ended (sent ++ []) t.player) (sym (parted-push given c ne))
+    run = subst (λ (x : Parted). IsScriptRun origin x.ended (sent ++ []) t.player) (sym (parted-text piece given plain))
         (subst (λ (x : PlayerState). IsScriptRun origin (parted given).ended (sent ++ []) x) (sym same) (subst (λ (x : List ℕ). IsScriptRun origin (parted given).ended x s.player) (sym (append-nil sent)) at.run));
-    held = subst (λ (x : Parted). Holds t.line x.rest) (sym (parted-push given c ne)) (f (parted given).rest at.held);
+    held = subst (λ (x : Parted). Holds t.line x.rest) (sym (parted-text piece given plain)) (f (parted given).rest at.held);
   },
 )
 

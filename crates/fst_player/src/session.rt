@@ -1,6 +1,6 @@
 //! A play in progress: the line so far, and the player.
 
-ghost use Rattle.std.specs.Prelude.{◌≡◌, ◌++◌, ◌∷◌, ℕ, List, [], IsTrue, ◌<◌, length, false};
+ghost use Rattle.std.specs.Prelude.{◌≡◌, ◌++◌, ℕ, List, [], IsTrue, ◌<◌, length, false};
 ghost use Rattle.fst_player.specs.Lines.{Holds};
 ghost use Rattle.fst_player.specs.Answering.{Answered};
 ghost use Rattle.fst_player.specs.Session.{Feeds, Finishes};
@@ -9,6 +9,7 @@ use crate::line::Line;
 use crate::player::Player;
 use fst_lines::command::MAX_LINE;
 use fst_lines::output::{Stopped, pass_on};
+use memchr::memchr;
 use std::alloc::Global;
 use std::io::Write;
 
@@ -47,46 +48,31 @@ impl Session {
         answered
     }
 
-    // Keeps one more byte of the line, if it is not too long and there is memory for it.
-    fn keep(&mut self, byte: u8)
+    // Keeps more bytes of the line, if it does not get too long and there is memory for them.
+    fn keep(&mut self, bytes: &[u8])
         ensures held { (text : List ℕ) → Holds self.old.line text
-            → Holds self.new.line (text ++ byte ∷ []) }
+            → Holds self.new.line (text ++ bytes.now) }
         ensures kept { self.new.player ≡ self.old.player }
     {
+        if bytes.is_empty() {
+            return;
+        }
         let so_far = match &self.line {
-            Line::Kept(bytes) => bytes.len(),
-            Line::Refused(bytes) => *bytes,
+            Line::Kept(line) => line.len(),
+            Line::Refused(len) => *len,
             Line::Long => return,
         };
-        if so_far >= MAX_LINE {
+        if MAX_LINE.saturating_sub(so_far) < bytes.len() {
             self.line = Line::Long;
             return;
         }
         let is_kept = match &mut self.line {
-            Line::Kept(bytes) => bytes.push(byte).is_ok(),
+            Line::Kept(line) => line.extend_from_slice(bytes).is_ok(),
             Line::Refused(_) | Line::Long => false,
         };
         if !is_kept {
-            self.line = Line::Refused(so_far + 1);
+            self.line = Line::Refused(so_far + bytes.len());
         }
-    }
-
-    // Takes the next byte of the stream.
-    fn take<W: Write>(
-        &mut self,
-        alloc: Global,
-        writer: &mut W,
-        calls: &mut u64,
-        byte: u8,
-    ) -> Result<(), Stopped>
-        ensures { Feeds self.old (byte ∷ []) (W.contents writer.old) (W.contents writer.new)
-            result self.new }
-    {
-        if byte == b'\n' {
-            return self.end_line(alloc, writer, calls);
-        }
-        self.keep(byte);
-        Ok(())
     }
 
     /// Takes the next piece of the stream, and answers each line that ends in it. The writer then passes the replies on,
@@ -101,9 +87,13 @@ impl Session {
         ensures { Feeds self.old piece.now (W.contents writer.old) (W.contents writer.new)
             result self.new }
     {
-        for byte in piece {
-            self.take(alloc, writer, calls, *byte)?;
+        let mut at = 0;
+        while let Some(end) = memchr(b'\n', &piece[at..]) {
+            self.keep(&piece[at..at + end]);
+            self.end_line(alloc, writer, calls)?;
+            at += end + 1;
         }
+        self.keep(&piece[at..]);
         pass_on(writer, calls)
     }
 
