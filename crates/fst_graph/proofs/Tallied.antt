@@ -31,7 +31,7 @@ use Rattle.fst_graph.proofs.Marking.{counted_settled, marked_settled}
 use Rattle.fst_heads.proofs.Placed.{KeepLinks, SameLinks, patch_in, linked_kept, given_kept, distinct_kept, links_mapped, entries_mapped, launched_stands, launched_links, patches_launched, patches_dropped, entries_dropped, number_if, dependencies_if}
 use Rattle.fst_graph.proofs.Settling.{made_settled, depends_settled, launched_settled, dropped_settled, ready_memory}
 use Rattle.fst_heads.proofs.Stands.{stand_gained, stand_launched, stand_dropped}
-use Rattle.fst_heads.proofs.Starting.{length_spread, linked_spread, given_spread, distinct_spread, listed_spread, linked_sealed, distinct_sealed, linked_landed, distinct_landed}
+use Rattle.fst_heads.proofs.Carried.{length_spread, linked_spread, given_spread, distinct_spread, listed_spread, linked_sealed, distinct_sealed, linked_landed, distinct_landed}
 
 pub tallies_from : (nodes : List Node) (numbers given blocks : ℕ) (lists : List (List Entry)) (standings : List Standing) (queue : List ℕ) (cap : ℕ)
     → HeadsAreLawful (patches_in nodes) numbers → AreLinked nodes → AreGiven nodes given → AreDistinct nodes → AreSettled nodes blocks

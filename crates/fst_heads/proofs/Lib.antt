@@ -29,6 +29,7 @@ pub mod Pended
 pub mod Begins
 pub mod SpreadKept
 pub mod Starting
+pub mod Carried
 pub mod Launching
 pub mod Passing
 pub mod Slotted

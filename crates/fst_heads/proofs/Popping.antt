@@ -14,7 +14,8 @@ use Rattle.fst_heads.proofs.AtNumber.{at_same, patches_in_nodes}
 use Rattle.fst_heads.proofs.Linking.{rising_as}
 use Rattle.fst_heads.proofs.Slots.{some_element}
 use Rattle.fst_heads.proofs.Slotted.{node_in_slot, node_is, rising_slots}
-use Rattle.fst_heads.proofs.Starting.{cascaded_spread, linked_spread, distinct_spread}
+use Rattle.fst_heads.proofs.Starting.{cascaded_spread}
+use Rattle.fst_heads.proofs.Carried.{linked_spread, distinct_spread}
 use Rattle.fst_heads.proofs.Telling.{spreading_fits, queue_fits, last_waits, live, can_hear, spreads_on, spread_of, lower}
 
 -- what is settled keeps its number

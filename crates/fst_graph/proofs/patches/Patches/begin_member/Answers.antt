@@ -22,7 +22,8 @@ use Rattle.fst_graph.proofs.Sound.{if_prepared}
 use Rattle.fst_walks.proofs.Seen.{seen, one_each, lawful_nodes}
 use Rattle.fst_heads.proofs.Slots.{rising_heads}
 use Rattle.fst_heads.proofs.Stands.{stand_sealed}
-use Rattle.fst_heads.proofs.Starting.{starts_sealed, linked_sealed, distinct_sealed, unsettled_sealed}
+use Rattle.fst_heads.proofs.Starting.{starts_sealed, unsettled_sealed}
+use Rattle.fst_heads.proofs.Carried.{linked_sealed, distinct_sealed}
 use Rattle.fst_graph.proofs.Tallied.{tallies_sealed}
 use Rattle.fst_graph.proofs.patches.Patches.begin_member.Goals as goal
 

@@ -18,7 +18,8 @@ use Rattle.fst_heads.proofs.Counts.{flying_counted}
 use Rattle.fst_heads.proofs.Listing.{nothing_flies, is_off}
 use Rattle.fst_walks.proofs.Resting.{none_yet}
 use Rattle.fst_heads.proofs.Slots.{rising_heads}
-use Rattle.fst_heads.proofs.Starting.{starts_landed, patches_landed, linked_landed, distinct_landed}
+use Rattle.fst_heads.proofs.Starting.{starts_landed, patches_landed}
+use Rattle.fst_heads.proofs.Carried.{linked_landed, distinct_landed}
 use Rattle.fst_graph.proofs.Tallied.{tallies_landed}
 use Rattle.fst_heads.proofs.Beside.{beside_landed, landed_few}
 use Rattle.fst_graph.proofs.patches.Patches.land.Goals as goal

@@ -14,7 +14,8 @@ use Rattle.fst_graph.proofs.Kept.{keeps_sealed}
 use Rattle.fst_walks.proofs.Seen.{seen, one_each, lawful_nodes}
 use Rattle.fst_heads.proofs.Slots.{rising_heads}
 use Rattle.fst_heads.proofs.Stands.{stand_sealed}
-use Rattle.fst_heads.proofs.Starting.{starts_sealed, linked_sealed, distinct_sealed, unsettled_sealed}
+use Rattle.fst_heads.proofs.Starting.{starts_sealed, unsettled_sealed}
+use Rattle.fst_heads.proofs.Carried.{linked_sealed, distinct_sealed}
 use Rattle.fst_graph.proofs.Tallied.{tallies_sealed}
 use Rattle.fst_heads.proofs.Beside.{beside_landed, landed_few, sealed_told}
 use Rattle.fst_graph.proofs.patches.Patches.seal.Goals as goal
