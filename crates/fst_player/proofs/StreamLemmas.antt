@@ -79,8 +79,8 @@ last_line-some (b ∷ bs) h = refl
 
 -- what a search for the first end of a line finds of the bytes from at on
 module _ (piece : List ℕ) (at : ℕ) where
-  pub plain_rest : at ≤ length piece → ((k : ℕ) → 0 ≤ k → k < length (drop at piece) → (get_or (drop at piece) k 0 == 10) ≡ true → ⊥) → IsText (drop at piece)
-  plain_rest inside none k lt = none_false (get_or (drop at piece) k 0 == 10) (none k (omega arith) lt)
+  pub plain_rest : ((k : ℕ) → 0 ≤ k → k < length (drop at piece) → (get_or (drop at piece) k 0 == 10) ≡ true → ⊥) → IsText (drop at piece)
+  plain_rest none k lt = none_false (get_or (drop at piece) k 0 == 10) (none k (omega arith) lt)
 
   module _ (end : ℕ) (within : end < length (drop at piece)) (low : at ≤ length piece) where
     long : length (drop at piece) ≡ length piece - at
