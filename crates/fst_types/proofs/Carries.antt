@@ -20,6 +20,7 @@ use Rattle.fst_types.proofs.Landing.{landed_cases}
 use Rattle.fst_types.proofs.Issuing.{launched_cases}
 use Rattle.fst_types.proofs.Sealing.{sealed_cases}
 use Rattle.fst_types.proofs.Depending.{grown}
+use Rattle.fst_types.proofs.Loosened.{loosened}
 
 -- head p of s is the change c as it was made
 pub record IsMadeAs (s : State) (c : ChangeMade) (p : Patch) : Type 0 where
@@ -105,7 +106,7 @@ flight_disk x a b = cc
 
 pub goes_launched : (old : List Patch) (numbers b : ℕ) (chosen : List ℕ) → HeadsAreLawful old numbers → IsWritable old b → IsWritableSet old b chosen → (o : Patch) → Contains old o → Goes Never o (launched chosen o)
 goes_launched old numbers b chosen H writable choice o h =
-    elim (launched_cases old numbers b chosen H writable choice o h) [
+    elim (launched_cases old numbers b chosen (loosened H) writable choice o h) [
       | inl m ↦
           subst (Goes Never o) (sym m.1) (record {
             number = refl;
@@ -126,7 +127,7 @@ goes_landed b o =
 
 pub goes_sealed : (old new : List Patch) (numbers g : ℕ) → HeadsAreLawful old numbers → IsOpenNumber old g → IsCascadeOf (map (sealed g) old) new → (o : Patch) → Contains old o → Goes Never o (sealed g o)
 goes_sealed old new numbers g H was_open cascade o h =
-    elim (sealed_cases old new numbers g H was_open cascade o h) [
+    elim (sealed_cases old new numbers g (loosened H) was_open cascade o h) [
       | inl m ↦ subst (Goes Never o) (sym m.1) (goes_alike o (record o { kind = SealedGate }) refl (sym (ap block_of_kind m.0)) (sym (ap at_of m.0)) (λ b on. refl))
       | inr s ↦ subst (Goes Never o) (sym s) (goes_self o)
     ]

@@ -24,6 +24,7 @@ use Rattle.fst_types.proofs.Issuing.{alike_launched}
 use Rattle.fst_types.proofs.Sealing.{alike_sealed}
 use Rattle.fst_types.proofs.Parts.{Part, gates, depends, seals, changes, regroups, Parts, no_parts, and_then, made_by, parts_row}
 use Rattle.fst_types.proofs.Heads.{heads_parts}
+use Rattle.fst_types.proofs.Loosened.{loosened}
 
 -- the same patches at other places, a gate perhaps sealed
 earlier_alike : (old new : List Patch) → Alike old new → DependOnEarlier old → DependOnEarlier new
@@ -77,7 +78,7 @@ earlier_gained_by : (old new : State) (g : ℕ) (on : List ℕ) → Depends old 
 earlier_gained_by old new g on m H E = earlier_at (map (gains g m.row.names) old.heads) new.heads m.row.gained (earlier_gained old.heads old.numbers g m.row.names H m.row.gate E)
 
 earlier_sealed : (old new : State) (g : ℕ) → Seals old g new → HeadsAreLawful old.heads old.numbers → DependOnEarlier old.heads → DependOnEarlier new.heads
-earlier_sealed old new g m H E = earlier_alike old.heads new.heads (alike_sealed old.heads new.heads old.numbers g H m.row.gate m.row.cascade) E
+earlier_sealed old new g m H E = earlier_alike old.heads new.heads (alike_sealed old.heads new.heads old.numbers g (loosened H) m.row.gate m.row.cascade) E
 
 earlier_part : (old : State) (k : ℕ) (added : List ChangeMade) (new : State) → Part old k added new → HeadsAreLawful old.heads old.numbers → DependOnEarlier old.heads → DependOnEarlier new.heads
 earlier_part old k added new (gates {number = number} m) H E =
@@ -100,8 +101,8 @@ earlier_row old new e r (empty {number = number} m) H E =
 earlier_row old new e r (gate m) H E = earlier_part old 1 [] new (gates m) H E
 earlier_row old new e r (depend m) H E = earlier_gained_by old new _ _ m H E
 earlier_row old new e r (seal m) H E = earlier_sealed old new _ m H E
-earlier_row old new e r (issue {b = b} m) H E = earlier_at _ new.heads m.row (earlier_alike old.heads _ (alike_launched old.heads old.numbers b m.chosen H m.writable m.choice) E)
-earlier_row old new e r (land {b = b} m) H E = earlier_alike old.heads new.heads (alike_landed old.heads new.heads old.numbers b H m.row) E
+earlier_row old new e r (issue {b = b} m) H E = earlier_at _ new.heads m.row (earlier_alike old.heads _ (alike_launched old.heads old.numbers b m.chosen (loosened H) m.writable m.choice) E)
+earlier_row old new e r (land {b = b} m) H E = earlier_alike old.heads new.heads (alike_landed old.heads new.heads old.numbers b (loosened H) m.row) E
 earlier_row old new e r (stall m) H E = earlier_at old.heads new.heads (ap (λ s. s.heads) m.state) E
 earlier_row old new e r (lose m) H E = earlier_at old.heads new.heads (ap (λ s. s.heads) m.state) E
 earlier_row old new e r (retry m) H E = earlier_at old.heads new.heads (ap (λ s. s.heads) m.state) E

@@ -21,6 +21,7 @@ use Rattle.fst_types.proofs.Parts.{Part, gates, depends, seals, changes, regroup
 use Rattle.fst_types.proofs.Ascends.{in_append}
 use Rattle.fst_types.proofs.Images.{content_more}
 use Rattle.fst_types.proofs.Carries.{Goes, Never, goes_alike, IsNew, IsAdded, Carries}
+use Rattle.fst_types.proofs.Loosened.{loosened}
 
 -- the change that a call made
 abbrev pub made_now : ℕ → ℕ → ℕ → List ℕ → ChangeMade
@@ -231,7 +232,7 @@ extends_part old k added new (depends {g = g} m) H F =
 extends_part old k added new (seals {g = g} m) H F =
     extends_all old new (ap (λ s. s.contents) m.state) (ap (λ s. s.numbers) m.state)
     (stay_cascade old.heads (map (sealed g) old.heads) new.heads
-    (stay_mapped (sealed g) old.heads (λ o h. elim (sealed_cases old.heads new.heads old.numbers g H m.row.gate m.row.cascade o h) [
+    (stay_mapped (sealed g) old.heads (λ o h. elim (sealed_cases old.heads new.heads old.numbers g (loosened H) m.row.gate m.row.cascade o h) [
       | inl was ↦ subst (Stays o) (sym was.1) (record { number = refl; block = sym (ap block_of_kind was.0); at = sym (ap at_of was.0); place = λ b on. refl })
       | inr same ↦ subst (Stays o) (sym same) (stays_self o)
     ])) m.row.cascade)

@@ -7,7 +7,7 @@ use Rattle.fst_types.specs.Lists.{Lists}
 use Rattle.fst_types.specs.Patches.{Kind, Patch, block_of_kind}
 use Rattle.fst_types.specs.Dependencies.{IsOnDisk}
 use Rattle.fst_types.specs.Cascade.{Follows, IsCascadeOf}
-use Rattle.fst_types.specs.Facts.{HeadsAreLawful}
+use Rattle.fst_types.specs.Facts.{SparseAreLawful}
 use Rattle.fst_types.proofs.Finite.{In-from_Contains, Contains-from_In}
 use Rattle.fst_types.proofs.Ascends.{ascends_from, same_items}
 use Rattle.fst_types.proofs.Crash.{on_disk, same_number}
@@ -38,7 +38,7 @@ memory_disk : (x : Place) → x ≡ place.Memory → x ≡ place.Disk → ⊥
 memory_disk x a b = cc
 
 -- what is on disk after one cascade is after the other
-module _ (mid A B : List Patch) (numbers : ℕ) (ca : IsCascadeOf mid A) (cb : IsCascadeOf mid B) (HA : HeadsAreLawful A numbers) (HB : HeadsAreLawful B numbers) where
+module _ (mid A B : List Patch) (numbers : ℕ) (ca : IsCascadeOf mid A) (cb : IsCascadeOf mid B) (HA : SparseAreLawful A numbers) (HB : SparseAreLawful B numbers) where
   -- the same patch in the other
   twin : (p : Patch) → Contains A p → (o : Patch) × (q : Patch) × Contains B q × Settled o p × Settled o q
   twin p h = let r = settled_back mid A ca p h in let s = settled_on mid B cb r.0 r.1 in (r.0, s.0, s.1, r.2, s.2)
@@ -58,7 +58,7 @@ module _ (mid A B : List Patch) (numbers : ℕ) (ca : IsCascadeOf mid A) (cb : I
       HB.on_disk_with_all.disk t.1 t.2 (bound t.1 t.2 (t.4.number ∙ sym t.3.number)) q.number (subst (λ ds. Contains ds q.number) (t.3.dependencies ∙ sym t.4.dependencies) named))
 
 -- two cascades of the same patches are one
-pub cascade_same : (mid A B : List Patch) (numbers : ℕ) → IsCascadeOf mid A → IsCascadeOf mid B → HeadsAreLawful A numbers → HeadsAreLawful B numbers → A ≡ B
+pub cascade_same : (mid A B : List Patch) (numbers : ℕ) → IsCascadeOf mid A → IsCascadeOf mid B → SparseAreLawful A numbers → SparseAreLawful B numbers → A ≡ B
 cascade_same mid A B numbers ca cb HA HB =
     sym (map_self A)
     ∙ (same_items (λ (p : Patch). p.number) (λ (p : Patch). p.number) (λ (p : Patch). p) (λ (p : Patch). p) A B

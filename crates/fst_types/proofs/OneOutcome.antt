@@ -20,16 +20,17 @@ use Rattle.fst_types.specs.Laws.{RowsAreFixed}
 use Rattle.fst_types.proofs.Moves.{flight_out, same_some}
 use Rattle.fst_types.proofs.Whole.{whole_issue, whole_forget}
 use Rattle.fst_types.proofs.Heads.{heads_row}
-use Rattle.fst_types.proofs.Sealing.{heads_sealed}
-use Rattle.fst_types.proofs.Landing.{heads_landed}
+use Rattle.fst_types.proofs.Sealing.{heads_sealed, sparse_sealed}
+use Rattle.fst_types.proofs.Landing.{sparse_landed}
 use Rattle.fst_types.proofs.Apart.{same_group}
 use Rattle.fst_types.proofs.OneList.{lists_same, cascade_same}
 use Rattle.fst_types.proofs.OneChange.{changes_fixed}
+use Rattle.fst_types.proofs.Loosened.{loosened}
 
 -- the rows that change patches; a row of the heads fixes them
 seals_fixed : (heads later also : List Patch) (numbers g : ℕ) → HeadsAreLawful heads numbers → GateIsSealed heads g later → GateIsSealed heads g also → later ≡ also
 seals_fixed heads later also numbers g H m k =
-    cascade_same (map (sealed g) heads) later also numbers m.cascade k.cascade (heads_sealed heads later numbers g H m.gate m.cascade) (heads_sealed heads also numbers g H k.gate k.cascade)
+    cascade_same (map (sealed g) heads) later also numbers m.cascade k.cascade (sparse_sealed heads later numbers g (loosened H) m.gate m.cascade) (sparse_sealed heads also numbers g (loosened H) k.gate k.cascade)
 
 gains_fixed : (heads later also : List Patch) (g : ℕ) (on : List ℕ) → GateGains heads g on later → GateGains heads g on also → later ≡ also
 gains_fixed heads later also g on m k = m.gained ∙ (ap (λ xs. map (gains g xs) heads) (lists_same _ _ m.names k.names m.live k.live (λ x h. h) (λ x h. h)) ∙ sym k.gained)
@@ -39,7 +40,7 @@ seals_same old new other g H m k = m.state ∙ (ap (λ h. record old { heads = h
 
 lands_same : (old new other : State) (t b : ℕ) (image : List ℕ) → HeadsAreLawful old.heads old.numbers → Lands old t b image new → Lands old t b image other → new ≡ other
 lands_same old new other t b image H m k =
-    let same = cascade_same (map (landed b) old.heads) new.heads other.heads old.numbers m.row k.row (heads_landed old.heads new.heads old.numbers b H m.row) (heads_landed old.heads other.heads old.numbers b H k.row) in
+    let same = cascade_same (map (landed b) old.heads) new.heads other.heads old.numbers m.row k.row (sparse_landed old.heads new.heads old.numbers b (loosened H) m.row) (sparse_landed old.heads other.heads old.numbers b (loosened H) k.row) in
     m.state ∙ (ap (λ h. record old { heads = h; blocks = slice_set old.blocks b (record { committed = image; flight = None }) }) same ∙ sym k.state)
 
 empties_same : (old new other : State) (after : List ℕ) (number also : ℕ) → HeadsAreLawful old.heads old.numbers → MakesEmpty old after number new → MakesEmpty old after also other → (number ≡ also) × (new ≡ other)
@@ -49,7 +50,7 @@ empties_same old new other after number also H m k =
     let HA = subst (HeadsAreLawful new.heads) (ap (λ s. s.numbers) m.state) (heads_row old new (MakeEmpty 0 after) (Made number) (empty m) H) in
     let HB = subst (HeadsAreLawful other.heads) (ap (λ s. s.numbers) k.state ∙ sym n) (heads_row old other (MakeEmpty 0 after) (Made also) (empty k) H) in
     let cb = subst (λ x. IsCascadeOf (old.heads ++ fresh x Empty m.row.dependencies ∷ []) other.heads) (sym n) (subst (λ xs. IsCascadeOf (old.heads ++ fresh also Empty xs ∷ []) other.heads) (sym ds) k.row.cascade) in
-    let same = cascade_same (old.heads ++ fresh number Empty m.row.dependencies ∷ []) new.heads other.heads number m.row.cascade cb HA HB in
+    let same = cascade_same (old.heads ++ fresh number Empty m.row.dependencies ∷ []) new.heads other.heads number m.row.cascade cb (loosened HA) (loosened HB) in
     (n, m.state ∙ (ap (λ h. record old { numbers = number; made = old.made + 1; heads = h }) same ∙ (ap (λ x. record old { numbers = x; made = old.made + 1; heads = other.heads }) n ∙ sym k.state)))
 
 depends_same : (old new other : State) (g : ℕ) (on : List ℕ) → Depends old g on new → Depends old g on other → new ≡ other

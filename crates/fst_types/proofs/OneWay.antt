@@ -29,6 +29,7 @@ use Rattle.fst_types.proofs.Parts.{Part, gates, depends, seals, changes, made_by
 use Rattle.fst_types.proofs.Carries.{Carries, Never, IsFlying}
 use Rattle.fst_types.proofs.Extends.{Extends, extends_part, extends_parts}
 use Rattle.fst_types.proofs.Effects.{Effect, quiet, landing, added_by, effect_row}
+use Rattle.fst_types.proofs.Loosened.{loosened}
 
 -- a change is in memory as the call made it
 abbrev IsNewInMemory : ℕ → Patch → Type 0
@@ -109,7 +110,7 @@ flown b o on memory = record {
 move_issued : (old new : State) (b ticket : ℕ) (image : List ℕ) (m : Issues old b ticket image new) → HeadsAreLawful old.heads old.numbers → MoveOn (Issue b) old.heads old.numbers (map (launched m.chosen) old.heads)
 move_issued old new b ticket image m H =
     move_mapped (Issue b) old.heads old.numbers (launched m.chosen)
-    (λ o h. elim (launched_cases old.heads old.numbers b m.chosen H m.writable m.choice o h) [
+    (λ o h. elim (launched_cases old.heads old.numbers b m.chosen (loosened H) m.writable m.choice o h) [
       | inl w ↦ subst (Moved (Issue b) o) (sym w.1) (flown b o w.0.in_memory.change w.0.in_memory.memory)
       | inr s ↦ subst (Moved (Issue b) o) (sym s.0) (moved_self (Issue b) o)
     ])
