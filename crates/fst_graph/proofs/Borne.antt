@@ -1,7 +1,7 @@
 -- What holds of the patches of heads, said of the patches of their nodes.
 use Rattle.std.proofs.Common.{◌≡◌, ◌<◌, ◌≤◌, ◌∙◌, ℕ, false, List, [], ◌∷◌, ◌++◌, Result, Ok, Err, OnOk, is_err, map, set, get_or, Contains, sym, subst, inl, inr, arith}
 use Rattle.std.proofs.lemmas.Bool.{cases_lt}
-use Rattle.fst_types.specs.Facts.{HeadsAreLawful}
+use Rattle.fst_types.specs.Facts.{SparseAreLawful}
 use Rattle.fst_types.specs.Gates.{IsOpenNumber}
 use Rattle.fst_types.specs.Patches.{Patch}
 use Rattle.fst_heads.specs.declared.head.Head.{Head}
@@ -19,8 +19,8 @@ use Rattle.fst_heads.proofs.Stands.{stand_landed, stand_landed_outside}
 use Rattle.fst_heads.proofs.Sums.{sums_fit}
 
 -- the patches with a new one
-pub lawful_with : (heads : List Head) (p : Patch) (numbers : ℕ) → HeadsAreLawful (patches_of heads ++ p ∷ []) numbers → HeadsAreLawful (patches_in (nodes_of heads) ++ p ∷ []) numbers
-lawful_with heads p numbers H = subst (λ ps. HeadsAreLawful (ps ++ p ∷ []) numbers) (sym (patches_in_nodes heads)) H
+pub lawful_with : (heads : List Head) (p : Patch) (numbers : ℕ) → SparseAreLawful (patches_of heads ++ p ∷ []) numbers → SparseAreLawful (patches_in (nodes_of heads) ++ p ∷ []) numbers
+lawful_with heads p numbers H = subst (λ ps. SparseAreLawful (ps ++ p ∷ []) numbers) (sym (patches_in_nodes heads)) H
 
 pub inside_nodes : (heads : List Head) (blocks : ℕ) → IsInside (patches_of heads) blocks → IsInside (patches_in (nodes_of heads)) blocks
 inside_nodes heads blocks inside = subst (λ ps. IsInside ps blocks) (sym (patches_in_nodes heads)) inside

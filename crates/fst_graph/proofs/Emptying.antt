@@ -9,9 +9,9 @@ use Rattle.fst_types.specs.Lists.{Lists}
 use Rattle.fst_types.specs.Patches.{Patch, IsOn, Empty}
 use Rattle.fst_types.specs.Dependencies.{IsLiveNumber, IsOnDisk}
 use Rattle.fst_types.specs.Cascade.{Follows, RestsOnDisk, IsCascadeOf, unsettled}
-use Rattle.fst_types.specs.Facts.{HeadsAreLawful}
+use Rattle.fst_types.specs.Facts.{SparseAreLawful}
 use Rattle.fst_types.specs.Making.{fresh}
-use Rattle.fst_types.proofs.Heads.{heads_emptied}
+use Rattle.fst_types.proofs.Heads.{sparse_emptied}
 use Rattle.fst_types.proofs.Cascades.{no_follower_on}
 use Rattle.fst_graph.specs.Known.{rest_place}
 use Rattle.fst_heads.specs.Keeps.{Keeps}
@@ -83,8 +83,8 @@ module _ (heads : List Patch) (numbers blocks : ℕ) (marks : List Bool) (K : Ke
     settled = λ x h f. (follows_on_disk x h f, on_disk_follows x h f);
   }
 
-  empty_lawful : HeadsAreLawful new (numbers + 1)
-  empty_lawful = heads_emptied heads new numbers after (numbers + 1) (record { next = refl; dependencies = deps; depends = depends; cascade = empty_cascade }) K.lawful
+  empty_lawful : SparseAreLawful new (numbers + 1)
+  empty_lawful = sparse_emptied heads new numbers after (numbers + 1) (record { next = refl; dependencies = deps; depends = depends; cascade = empty_cascade }) K.lawful
 
   none_on : (b : ℕ) → IsOn p b → ⊥
   none_on b on = cc

@@ -11,7 +11,7 @@ use Rattle.fst_types.specs.Gating.{gains}
 use Rattle.fst_types.proofs.Finite.{In-from_Contains, Contains-from_In}
 use Rattle.fst_types.proofs.NewChange.{no_cycle}
 use Rattle.fst_types.proofs.GateGains.{In-unmap, direct_cases}
-use Rattle.fst_types.proofs.Depending.{Grown, grown, length_mapped, heads_gained}
+use Rattle.fst_types.proofs.Depending.{Grown, grown, length_mapped, sparse_gained}
 use Rattle.fst_heads.specs.Keeps.{Keeps}
 
 module _ (old : List Patch) (numbers blocks g : ℕ) (marks : List Bool) (K : Keeps old numbers blocks marks) (gate : IsOpenNumber old g)
@@ -32,7 +32,7 @@ module _ (old : List Patch) (numbers blocks g : ℕ) (marks : List Bool) (K : Ke
 
   pub keeps_gained : (marks' : List Bool) → length marks' ≡ length marks → Keeps new numbers blocks marks'
   keeps_gained marks' long = record {
-    lawful = heads_gained old numbers g names K.lawful gate small acyclic;
+    lawful = sparse_gained old numbers g names K.lawful gate small acyclic;
     few = let e = length_mapped (gains g names) old in omega (arith, e, K.few);
     inside = λ p b c on. let o = was p c in K.inside o.0 b o.1 (sym (ap block_of_kind o.2.kind) ∙ on);
     marked = long ∙ (K.marked ∙ sym (length_mapped (gains g names) old));

@@ -27,6 +27,7 @@ use Rattle.fst_graph.specs.Grouping.{unstarted_order, AddsPair, AddsGroup, PutsA
 use Rattle.fst_graph.specs.Membering.{ArePaired, GainsMember, Foretells, member_order}
 use Rattle.fst_graph.specs.Whole.{IsGrouped, IsUnclosed}
 use Rattle.fst_graph.specs.Known.{Known, Prepared, unprepared, with_groups, Refuses, DependsGate}
+use Rattle.fst_types.proofs.Loosened.{loosened}
 use Rattle.fst_graph.proofs.Grouped.{state_at, some_bytes}
 use Rattle.fst_heads.proofs.Slots.{any_default}
 use Rattle.fst_graph.proofs.SealedIf.{open_not_sealed}
@@ -124,7 +125,7 @@ module _ (p q : Known) (gs : List Group) (G : IsGrouped p gs) where
           | inr a ↦ elim a.1 [
             | inl b ↦ absurd (b.0 (inl head_gate))
             | inr b ↦ elim b.1 [
-              | inl c ↦ absurd (open_not_sealed p.heads p.numbers n G.lawful head_gate c.0)
+              | inl c ↦ absurd (open_not_sealed p.heads p.numbers n (loosened G.lawful) head_gate c.0)
               | inr c ↦ elim c.1 [
                 | inl d ↦ let many = d.0 in absurd (omega (arith, many))
                 | inr d ↦ elim d.1 [

@@ -2,7 +2,7 @@
 use Rattle.std.proofs.Common.{◌≡◌, ◌<◌, ◌≤◌, ◌∙◌, ℕ, suc, List, [], ◌∷◌, Some, None, slice_get, length, map, get_or, set, Contains, AllPairs, refl, sym, ap, subst, inl, inr, arith}
 use Rattle.std.proofs.lemmas.List.Kept.{AllPairs-from_increasing}
 use Rattle.fst_types.specs.declared.number.PatchNo.{PatchNo}
-use Rattle.fst_types.specs.Facts.{HeadsAreLawful}
+use Rattle.fst_types.specs.Facts.{SparseAreLawful}
 use Rattle.fst_types.specs.Patches.{Patch, block_of_kind}
 use Rattle.fst_types.specs.Writable.{IsWritable, IsWritableSet}
 use Rattle.fst_types.specs.Writing.{launched}
@@ -71,7 +71,7 @@ chosen_on patches b chosen n choice c =
     (w.0, w.2.in_memory.head, w.1, w.2.in_memory.change)
 
 pub tallies_chosen : (nodes : List Node) (numbers blocks b at : ℕ) (lists : List (List Entry)) (standings : List Standing) (queue : List ℕ) (cap : ℕ) (chosen : List ℕ) (old new : Standing)
-    → HeadsAreLawful (patches_in nodes) numbers → HeadsAreLawful (map (launched chosen) (patches_in nodes)) numbers
+    → SparseAreLawful (patches_in nodes) numbers → SparseAreLawful (map (launched chosen) (patches_in nodes)) numbers
     → IsInside (patches_in nodes) blocks → Tallies nodes numbers blocks lists standings queue cap
     → IsWritable (patches_in nodes) b → IsWritableSet (patches_in nodes) b chosen
     → at ≡ b → old ≡ get_or standings at old → new ≡ record { ready = 0; held = old.held; flying = old.ready }
@@ -79,7 +79,7 @@ pub tallies_chosen : (nodes : List Node) (numbers blocks b at : ℕ) (lists : Li
 tallies_chosen nodes numbers blocks b at lists standings queue cap chosen old new H H' inside T writable choice here was is =
     let rests = writable_rests nodes blocks b standings old inside T.standing writable in
     let same = same_set (patches_in nodes) b chosen (ready_on b nodes) choice (ready_exact nodes numbers blocks H T.settled standings b old T.standing rests.0 rests.1) in
-    let lawful = subst (λ ns. HeadsAreLawful (patches_in (map (launches ns) nodes)) numbers) same (subst (λ ps. HeadsAreLawful ps numbers) (sym (patches_launched nodes chosen)) H') in
+    let lawful = subst (λ ns. SparseAreLawful (patches_in (map (launches ns) nodes)) numbers) same (subst (λ ps. SparseAreLawful ps numbers) (sym (patches_launched nodes chosen)) H') in
     let value = is ∙ ap (λ (s : Standing). record { ready = 0; held = s.held; flying = s.ready }) (was ∙ ap (λ k. get_or standings k old) here) in
     let base = tallies_launched nodes numbers blocks b lists standings old queue cap H lawful T rests.0 rests.1 in
     subst (λ ns. Tallies (map (launches ns) nodes) numbers blocks lists (set standings at new) queue cap) (sym same)

@@ -5,7 +5,7 @@ use Rattle.std.proofs.lemmas.List.Elements.{filter_agree}
 use Rattle.std.proofs.lemmas.List.Folds.{Any-from_list_any, list_any-from_Any}
 use Rattle.std.proofs.lemmas.List.Sums.{length-filter}
 use Rattle.fst_types.specs.declared.place.Place.TheVariants as place
-use Rattle.fst_types.specs.Facts.{HeadsAreLawful}
+use Rattle.fst_types.specs.Facts.{SparseAreLawful}
 use Rattle.fst_types.specs.Patches.{Patch, IsRising, IsOn, IsHard}
 use Rattle.fst_types.specs.Tests.{is_change_at, is_live}
 use Rattle.fst_types.specs.Writable.{IsInMemoryOn, InWritableSet, IsWritable, IsWritableSet, IsHeld}
@@ -70,14 +70,14 @@ module _ (nodes : List Node) (blocks n : ℕ) (rising : IsRising (patches_in nod
         | inl t ↦ absurd (not_disk a.1.place k.0 (sym (ap (λ r. r.place) y.2) ∙ (S.placed y.0 y.1).0 (sym same ∙ is_nothing (pending_in nodes n) t)))
       ]
 
-pub counted_settled : (nodes : List Node) (numbers blocks : ℕ) → HeadsAreLawful (patches_in nodes) numbers → AreSettled nodes blocks → AreCounted nodes
+pub counted_settled : (nodes : List Node) (numbers blocks : ℕ) → SparseAreLawful (patches_in nodes) numbers → AreSettled nodes blocks → AreCounted nodes
 counted_settled nodes numbers blocks H S x c =
     let rising = H.one_place_each.rising in
     ap (λ s. s.count) (S.summed x c) ∙ (sums_count (pending_in nodes) x.patch.dependencies
     ∙ count_agree (λ n. not (is_pending (pending_in nodes n) pending.Nothing)) (is_live_in (patches_in nodes))
     (λ n. same_test (not (is_pending (pending_in nodes n) pending.Nothing)) (is_live_in (patches_in nodes) n) (told_live nodes blocks n rising S) (live_told nodes blocks n rising S)) x.patch.dependencies)
 
-module _ (nodes : List Node) (numbers blocks : ℕ) (H : HeadsAreLawful (patches_in nodes) numbers) (S : AreSettled nodes blocks) where
+module _ (nodes : List Node) (numbers blocks : ℕ) (H : SparseAreLawful (patches_in nodes) numbers) (S : AreSettled nodes blocks) where
   -- no change of the block is in flight
   abbrev Rests : ℕ → Type 0
   Rests b = (p : Patch) → Contains (patches_in nodes) p → IsOn p b → p.place ≡ place.Flight → ⊥

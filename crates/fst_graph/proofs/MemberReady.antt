@@ -2,19 +2,15 @@
 use Rattle.std.proofs.Common.{◌≡◌, ◌+◌, ◌<◌, ◌≤◌, ◌++◌, ℕ, Bool, List, [], ◌∷◌, Option, Some, None, IfSome, option_map, length, map, Contains, refl, sym, ap, subst, ◌∙◌, inl, inr, arith}
 use Rattle.fst_types.specs.declared.grade.Grade.{Grade}
 use Rattle.fst_types.specs.Cascade.{IsCascadeOf}
-use Rattle.fst_types.specs.Events.{MadeChange}
 use Rattle.fst_types.specs.declared.grade.Grade.TheVariants as grade
-use Rattle.fst_types.specs.Facts.{HeadsAreLawful, IsTied}
+use Rattle.fst_types.specs.Facts.{SparseAreLawful, IsTied}
 use Rattle.fst_types.specs.Gates.{IsOpenNumber}
 use Rattle.fst_types.specs.Gating.{sealed}
 use Rattle.fst_types.specs.Grades.{FollowsRule}
-use Rattle.fst_types.specs.Lists.{Lists}
-use Rattle.fst_types.specs.Making.{ChangeIsMade}
 use Rattle.fst_types.specs.Order.{make_order, room_order, NamesUnknown}
 use Rattle.fst_types.specs.Patches.{Patch}
 use Rattle.fst_types.specs.Refusals.{NoneHolds}
 use Rattle.fst_types.proofs.Finite.{In-from_Contains}
-use Rattle.fst_types.proofs.OneChange.{changes_fixed}
 use Rattle.fst_graph.specs.declared.prepared.Gates.{Gates}
 use Rattle.fst_graph.specs.declared.prepared.Prepared.{Prepared as Stored}
 use Rattle.fst_heads.specs.declared.head.Head.{Head}
@@ -23,14 +19,15 @@ use Rattle.fst_heads.specs.Grading.{MayBeHard}
 use Rattle.fst_heads.specs.Keeps.{Keeps}
 use Rattle.fst_graph.specs.Known.{Known}
 use Rattle.fst_heads.specs.Names.{numbers_of}
-use Rattle.fst_graph.specs.Membering.{ArePaired, BeginsAs, Foretells, OverlapReaches, member_order}
+use Rattle.fst_graph.specs.Sparse.{ForetellsSparse}
+use Rattle.fst_graph.specs.Membering.{ArePaired, BeginsAs, OverlapReaches, member_order}
 use Rattle.fst_graph.specs.Ready.{change_of, IsReady, IsMemberReady, MayBePut, HasRoomAround, HasPlaces}
-use Rattle.fst_heads.specs.Rows.{IsDependency}
+use Rattle.fst_heads.specs.Rows.{IsSparseRow}
 use Rattle.fst_heads.proofs.Framed.{room_above, room_below}
 use Rattle.fst_graph.proofs.Kept.{keeps_sealed}
 use Rattle.fst_graph.proofs.Readied.{ready_member, member_put}
 use Rattle.fst_graph.proofs.TakenAsSealed.{is, depends, open_was, open_is, stays, touched_was}
-use Rattle.fst_heads.proofs.Touching.{depends_exactly, graded_change, touched_overlaps, overlaps_touched}
+use Rattle.fst_heads.proofs.Touching.{graded_change, touched_overlaps, overlaps_touched}
 
 module _ (old : List Patch) (n blocks : ℕ) (marks : List Bool) (K : Keeps old n blocks marks) (gates : Gates) (paired : ArePaired old n gates.head gates.tail) where
   -- the heads keep as much once the head is sealed
@@ -53,7 +50,7 @@ module _ (old : List Patch) (n blocks : ℕ) (marks : List Bool) (K : Keeps old 
       )
 
   pub member_ready : (p : Stored) → numbers_of p.names.items ≡ gates.head ∷ [] → p.block < blocks → NoneHolds (member_order old n gates.tail p.block p.span.at p.span.len)
-      → ((begun : List Patch) → BeginsAs old gates.head begun → Lists (IsDependency begun (gates.head ∷ []) p.block p.span.at p.span.len) p.dependencies.items)
+      → ((begun : List Patch) → BeginsAs old gates.head begun → IsSparseRow begun (gates.head ∷ []) p.block p.span.at p.span.len p.dependencies.items)
       → ((begun : List Patch) → BeginsAs old gates.head begun → FollowsRule p.grade (MayBeHard begun None p.block p.dependencies.items))
       → IsMemberReady old n blocks gates p
   member_ready p names inside clear depends follows = record {
@@ -70,32 +67,26 @@ module _ (old : List Patch) (n blocks : ℕ) (marks : List Bool) (K : Keeps old 
 
 -- and which number and grade it would have
 module _ (old : Known) (blocks : ℕ) (marks : List Bool) (K : Keeps old.heads old.numbers blocks marks) (gates : Gates) (p : Stored) (R : IsMemberReady old.heads old.numbers blocks gates p) where
-  reply_same : (m k : ℕ) (g h : Grade) → MadeChange m g ≡ MadeChange k h → (m ≡ k) × (g ≡ h)
-  reply_same m k g h e = (cc, cc)
-
-  pub foretold : Foretells old gates.head gates.tail p.block p.span.at p.span.len (old.numbers + 1) p.grade
-  foretold k g new m =
-      let begun = m.row.begun in
-      let ready = R.made begun m.row.begin in
-      let deps = p.dependencies.items in
-      let own : ChangeIsMade begun old.numbers p.block p.span.at p.span.len (gates.head ∷ []) (old.numbers + 1) p.grade (begun ++ change_of old.numbers p ∷ []) = record {
-        next = refl;
-        dependencies = deps;
-        depends = depends_exactly begun (gates.head ∷ []) p.block p.span.at p.span.len (old.numbers + 1) p.grade deps deps (subst (λ ns. Lists (IsDependency begun ns p.block p.span.at p.span.len) deps) R.names ready.depends);
-        added = refl;
-        graded = ready.graded;
-      } in
-      let lawful = (keeps_begun old.heads old.numbers blocks marks K gates R.paired begun m.row.begin).lawful in
-      let both = changes_fixed begun m.row.with_change (begun ++ change_of old.numbers p ∷ []) old.numbers p.block p.span.at p.span.len (gates.head ∷ []) k (old.numbers + 1) g p.grade lawful m.row.change own in
-      reply_same k (old.numbers + 1) g p.grade both.0
+  pub foretold : ForetellsSparse old gates.head p.block p.span.at p.span.len (old.numbers + 1) p.grade
+  foretold begun begin =
+      let ready = R.made begun begin in (
+        begun ++ change_of old.numbers p ∷ [],
+        record {
+          next = refl;
+          dependencies = p.dependencies.items;
+          sparse = subst (λ ns. IsSparseRow begun ns p.block p.span.at p.span.len p.dependencies.items) R.names ready.depends;
+          added = refl;
+          graded = ready.graded;
+        },
+      )
 
 -- a gate that was sealed is not open
-pub shut_begun : (old : List Patch) (n : ℕ) → HeadsAreLawful old n → (g : ℕ) (begun : List Patch) → IsOpenNumber old g → IsCascadeOf (map (sealed g) old) begun → IsOpenNumber begun g → ⊥
+pub shut_begun : (old : List Patch) (n : ℕ) → SparseAreLawful old n → (g : ℕ) (begun : List Patch) → IsOpenNumber old g → IsCascadeOf (map (sealed g) old) begun → IsOpenNumber begun g → ⊥
 shut_begun old n H g begun gate cascade o = (open_was old begun n g H gate cascade g o).1 refl
 
 -- once the head is sealed it is as ready as before
 module _ (old : List Patch) (n blocks : ℕ) (marks : List Bool) (K : Keeps old n blocks marks) (gates : Gates) (p : Stored) (R : IsMemberReady old n blocks gates p) (begun : List Patch) (is_open : IsOpenNumber old gates.head) (cascade : IsCascadeOf (map (sealed gates.head) old) begun) where
-  L : HeadsAreLawful old n
+  L : SparseAreLawful old n
   L = K.lawful
 
   shut : IsOpenNumber begun gates.head → ⊥

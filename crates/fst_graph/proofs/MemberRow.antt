@@ -4,10 +4,9 @@ use Rattle.std.proofs.lemmas.Bool.{cases_Bool, eqb-true, eqb-false, false≢true
 use Rattle.std.proofs.lemmas.List.Sums.{length-filter}
 use Rattle.fst_types.specs.declared.grade.Grade.{Grade}
 use Rattle.fst_types.specs.Dependencies.{DirectlyOn, IsLiveNumber, IsOnDisk}
-use Rattle.fst_types.specs.Facts.{HeadsAreLawful}
+use Rattle.fst_types.specs.Facts.{SparseAreLawful}
 use Rattle.fst_types.specs.Gates.{IsOpenNumber}
 use Rattle.fst_types.specs.Grades.{FollowsRule}
-use Rattle.fst_types.specs.Lists.{Lists}
 use Rattle.fst_types.specs.Patches.{Patch}
 use Rattle.fst_types.proofs.Cascades.{place_decided}
 use Rattle.fst_types.proofs.Finite.{In, In-from_Contains, Contains-from_In}
@@ -17,7 +16,7 @@ use Rattle.fst_heads.specs.Heads.{IsRising, patches_of}
 use Rattle.fst_heads.specs.Marks.{HasSlot}
 use Rattle.fst_graph.specs.Membering.{BeginsAs}
 use Rattle.fst_heads.specs.Nodes.{node_of, nodes_of, is_live_in, AreCounted}
-use Rattle.fst_heads.specs.Rows.{IsDependency}
+use Rattle.fst_heads.specs.Rows.{IsSparseRow}
 use Rattle.fst_heads.proofs.AtNumber.{patches_in_nodes}
 use Rattle.fst_heads.proofs.Forgetting.{live_in, in_live}
 use Rattle.fst_heads.proofs.PendingAt.{node_in}
@@ -77,15 +76,15 @@ pub data IsAfter (heads : List Patch) (head : ℕ) : List ℕ → Type 0 where
   rests : IsOpenNumber heads head → ((q : ℕ) → DirectlyOn heads head q → IsOnDisk heads q) → IsAfter heads head []
   waits : (IsOpenNumber heads head → (q : ℕ) × DirectlyOn heads head q × IsLiveNumber heads q) → IsAfter heads head (head ∷ [])
 
-module _ (old : List Patch) (numbers : ℕ) (H : HeadsAreLawful old numbers) (head b : ℕ) (row : List ℕ) where
-  pub member_row : (at len : ℕ) (after : List ℕ) → IsAfter old head after → Lists (IsDependency old after b at len) row → (begun : List Patch) → BeginsAs old head begun → Lists (IsDependency begun (head ∷ []) b at len) row
+module _ (old : List Patch) (numbers : ℕ) (H : SparseAreLawful old numbers) (head b : ℕ) (row : List ℕ) where
+  pub member_row : (at len : ℕ) (after : List ℕ) → IsAfter old head after → IsSparseRow old after b at len row → (begun : List Patch) → BeginsAs old head begun → IsSparseRow begun (head ∷ []) b at len row
   member_row at len [] (rests gate rest) l begun (inl s) =
       row_unnamed old begun numbers head H s.gate s.cascade b at len row (gate_rests old begun numbers head H s.gate s.cascade rest) l
   member_row at len [] (rests gate rest) l begun (inr s) = absurd (s.0 gate)
   member_row at len (x ∷ xs) (waits live) l begun (inl s) =
       let q = live s.gate in
       row_named old begun numbers head H s.gate s.cascade b at len row (gate_lives old begun numbers head H s.gate s.cascade q.0 q.1 q.2) l
-  member_row at len (x ∷ xs) (waits live) l begun (inr s) = subst (λ hs. Lists (IsDependency hs (head ∷ []) b at len) row) (sym s.1) l
+  member_row at len (x ∷ xs) (waits live) l begun (inr s) = subst (λ hs. IsSparseRow hs (head ∷ []) b at len row) (sym s.1) l
 
   pub member_rule : (g : Grade) (but : Option ℕ) → IfSome but (λ n. (n ≡ head) × IsOpenNumber old head) → IfNone but (IsOpenNumber old head → ⊥) → FollowsRule g (MayBeHard old but b row)
       → (begun : List Patch) → BeginsAs old head begun → FollowsRule g (MayBeHard begun None b row)

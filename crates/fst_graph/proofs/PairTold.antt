@@ -6,7 +6,7 @@ use Rattle.smallvec.specs.SmallVec.{HasRoomFor}
 use Rattle.fst_types.specs.declared.place.Place.{Place}
 use Rattle.fst_types.specs.declared.place.Place.TheVariants as place
 use Rattle.fst_types.specs.Dependencies.{IsLiveNumber}
-use Rattle.fst_types.specs.Facts.{HeadsAreLawful}
+use Rattle.fst_types.specs.Facts.{SparseAreLawful}
 use Rattle.fst_types.specs.Making.{fresh}
 use Rattle.fst_types.specs.Patches.{Patch, OpenGate, IsRising as Rising}
 use Rattle.fst_types.proofs.Finite.{In-from_Contains, Contains-from_In, In-map}
@@ -63,7 +63,7 @@ patches_gated heads n = map_push (λ (x : Node). x.patch) (nodes_of heads) (new_
 pub patches_paired : (heads last : List Head) (n : ℕ) → nodes_of last ≡ with_node (gated (nodes_of heads) n) (second_gate n) → patches_of last ≡ paired (patches_of heads) n
 patches_paired heads last n e = seen last _ e ∙ (patches_made (gated (nodes_of heads) n) (second_gate n) ∙ ap (λ ps. ps ++ second_gate n ∷ []) (patches_gated heads n))
 
-module _ (heads put : List Head) (n : ℕ) (H : HeadsAreLawful (patches_of heads) n) where
+module _ (heads put : List Head) (n : ℕ) (H : SparseAreLawful (patches_of heads) n) where
   pub rising_gated : nodes_of put ≡ gated (nodes_of heads) n → IsRising put
   rising_gated e = rising_heads put (subst Rising (sym (seen put _ e ∙ patches_gated heads n)) (head_lawful (patches_of heads) n H).one_place_each.rising)
 
@@ -77,12 +77,12 @@ module _ (heads put : List Head) (n : ℕ) (H : HeadsAreLawful (patches_of heads
         | inr e ↦ subst (λ (y : Head). HasRoomFor y.dependants 1) e room
       ]
 
-module _ (heads : List Head) (n blocks : ℕ) (lists : List (List Entry)) (standings : List Standing) (queue : List ℕ) (cap cap' : ℕ) (H : HeadsAreLawful (patches_of heads) n) (T : Tallies (nodes_of heads) n blocks lists standings queue cap)
+module _ (heads : List Head) (n blocks : ℕ) (lists : List (List Entry)) (standings : List Standing) (queue : List ℕ) (cap cap' : ℕ) (H : SparseAreLawful (patches_of heads) n) (T : Tallies (nodes_of heads) n blocks lists standings queue cap)
     (room : length (nodes_of heads) + 2 ≤ cap') where
   abbrev nodes : List Node
   nodes = nodes_of heads
 
-  there : HeadsAreLawful (patches_in nodes) n
+  there : SparseAreLawful (patches_in nodes) n
   there = lawful_nodes heads n H
 
   tallies_first : Tallies (gated nodes n) (n + 1) blocks lists standings queue cap'
@@ -96,11 +96,11 @@ module _ (heads : List Head) (n blocks : ℕ) (lists : List (List Entry)) (stand
       (stand_made nodes blocks standings (first_gate n) (λ b. refl) T.standing)
       (omega (arith, room)))
 
-  gated_lawful : HeadsAreLawful (patches_in (gated nodes n)) (n + 1)
-  gated_lawful = subst (λ ps. HeadsAreLawful ps (n + 1)) (sym (patches_gated heads n)) (head_lawful (patches_of heads) n H)
+  gated_lawful : SparseAreLawful (patches_in (gated nodes n)) (n + 1)
+  gated_lawful = subst (λ ps. SparseAreLawful ps (n + 1)) (sym (patches_gated heads n)) (head_lawful (patches_of heads) n H)
 
-  both_lawful : HeadsAreLawful (patches_in (gated nodes n) ++ second_gate n ∷ []) (n + 1 + 1)
-  both_lawful = subst (λ ps. HeadsAreLawful (ps ++ second_gate n ∷ []) (n + 1 + 1)) (sym (patches_gated heads n)) (paired_lawful (patches_of heads) n H)
+  both_lawful : SparseAreLawful (patches_in (gated nodes n) ++ second_gate n ∷ []) (n + 1 + 1)
+  both_lawful = subst (λ ps. SparseAreLawful (ps ++ second_gate n ∷ []) (n + 1 + 1)) (sym (patches_gated heads n)) (paired_lawful (patches_of heads) n H)
 
   in_memory : (x : Place) → x ≡ place.Memory → x ≡ place.Disk → ⊥
   in_memory x a b = cc

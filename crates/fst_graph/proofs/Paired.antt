@@ -11,13 +11,13 @@ use Rattle.fst_types.specs.Patches.{Kind, Patch, OpenGate, block_of_kind}
 use Rattle.fst_types.specs.Dependencies.{DirectlyOn, DependsOn, IsLiveNumber}
 use Rattle.fst_types.specs.Gates.{IsOpenNumber}
 use Rattle.fst_types.specs.Gating.{GateGains, gains}
-use Rattle.fst_types.specs.Facts.{HeadsAreLawful}
+use Rattle.fst_types.specs.Facts.{SparseAreLawful}
 use Rattle.fst_types.specs.Making.{fresh}
 use Rattle.fst_types.specs.Order.{NamesAbove}
 use Rattle.fst_types.specs.Refusals.{NoneHolds}
 use Rattle.fst_types.proofs.Crash.{same_number}
 use Rattle.fst_types.proofs.Finite.{In, In-from_Contains, Contains-from_In, first_step}
-use Rattle.fst_types.proofs.Heads.{heads_depended}
+use Rattle.fst_types.proofs.Heads.{sparse_depended}
 use Rattle.fst_graph.specs.Grouping.{pair_order, AddsPair}
 use Rattle.fst_graph.specs.Known.{Known}
 use Rattle.fst_heads.proofs.Making.{gate_lawful, keeps_added, keeps_gate}
@@ -33,7 +33,7 @@ with_head heads n = heads ++ fresh (n + 1) OpenGate [] ∷ []
 abbrev pub paired : List Patch → ℕ → List Patch
 paired heads n = with_head heads n ++ fresh (n + 1 + 1) OpenGate ((n + 1) ∷ []) ∷ []
 
-module _ (heads : List Patch) (n : ℕ) (H : HeadsAreLawful heads n) where
+module _ (heads : List Patch) (n : ℕ) (H : SparseAreLawful heads n) where
   abbrev head_gate : Patch
   head_gate = fresh (n + 1) OpenGate []
 
@@ -52,10 +52,10 @@ module _ (heads : List Patch) (n : ℕ) (H : HeadsAreLawful heads n) where
   abbrev both : List Patch
   both = paired heads n
 
-  pub head_lawful : HeadsAreLawful one (n + 1)
+  pub head_lawful : SparseAreLawful one (n + 1)
   head_lawful = gate_lawful heads n H
 
-  both_lawful : HeadsAreLawful with_tail (n + 1 + 1)
+  both_lawful : SparseAreLawful with_tail (n + 1 + 1)
   both_lawful = gate_lawful one (n + 1) head_lawful
 
   head_there : Contains with_tail head_gate
@@ -115,8 +115,8 @@ module _ (heads : List Patch) (n : ℕ) (H : HeadsAreLawful heads n) where
   tie : GateGains with_tail (n + 1 + 1) ((n + 1) ∷ []) both
   tie = record { gate = is_open; clear = none_named; names = (n + 1) ∷ []; live = names; gained = sym gained }
 
-  pub paired_lawful : HeadsAreLawful both (n + 1 + 1)
-  paired_lawful = heads_depended with_tail both (n + 1 + 1) (n + 1 + 1) ((n + 1) ∷ []) tie both_lawful
+  pub paired_lawful : SparseAreLawful both (n + 1 + 1)
+  paired_lawful = sparse_depended with_tail both (n + 1 + 1) (n + 1 + 1) ((n + 1) ∷ []) tie both_lawful
 
   pub adds_pair : (blocks : ℕ) (old : Known) → old.heads ≡ heads → old.numbers ≡ n → old.blocks ≡ blocks → NoneHolds (pair_order heads n)
       → AddsPair old (n + 1) (record { heads = both; numbers = n + 1 + 1; blocks = blocks; groups = old.groups; prepared = None })

@@ -7,7 +7,7 @@ use Rattle.fst_types.specs.declared.place.Place.{Place}
 use Rattle.fst_types.specs.declared.place.Place.TheVariants as place
 use Rattle.fst_types.specs.Cascade.{Follows}
 use Rattle.fst_types.specs.Dependencies.{IsLiveNumber}
-use Rattle.fst_types.specs.Facts.{HeadsAreLawful}
+use Rattle.fst_types.specs.Facts.{SparseAreLawful}
 use Rattle.fst_types.specs.Gates.{IsOpenNumber}
 use Rattle.fst_types.specs.Patches.{Kind, Change, Empty, OpenGate, SealedGate, Patch, IsOn, block_of_kind}
 use Rattle.fst_types.specs.Tests.{is_at, is_live, is_among, is_change_at}
@@ -145,7 +145,7 @@ over_some c (pending.Block o) e = elim (cases_Bool (o == c)) [
 over_some c pending.Apart e = cc
 over_some c pending.Held e = cc
 
-module _ (nodes : List Node) (numbers blocks : ℕ) (p : Patch) (H : HeadsAreLawful (patches_in nodes) numbers) (H' : HeadsAreLawful (patches_in nodes ++ p ∷ []) (numbers + 1))
+module _ (nodes : List Node) (numbers blocks : ℕ) (p : Patch) (H : SparseAreLawful (patches_in nodes) numbers) (H' : SparseAreLawful (patches_in nodes ++ p ∷ []) (numbers + 1))
     (S : AreSettled nodes blocks) (next : p.number ≡ numbers + 1) (rising : IsStrictlyIncreasing p.dependencies)
     (live : (n : ℕ) → Contains p.dependencies n → IsLiveNumber (patches_in nodes) n) (on : (b : ℕ) → IsOn p b → b < blocks) where
   -- the new patch is a dependency of none
@@ -246,7 +246,7 @@ gained_pending : (b : Bool) (names : List ℕ) (sums : Sums) (x : Node) → (if 
 gained_pending true names sums x = refl
 gained_pending false names sums x = refl
 
-module _ (nodes : List Node) (numbers blocks g : ℕ) (names : List ℕ) (H : HeadsAreLawful (patches_in nodes) numbers) (S : AreSettled nodes blocks) (gate : IsOpenNumber (patches_in nodes) g) where
+module _ (nodes : List Node) (numbers blocks g : ℕ) (names : List ℕ) (H : SparseAreLawful (patches_in nodes) numbers) (S : AreSettled nodes blocks) (gate : IsOpenNumber (patches_in nodes) g) where
   abbrev sums : Sums
   sums = sums_of (pending_in nodes) names
 
@@ -301,7 +301,7 @@ ready_memory b nodes n c =
     let k = filter_in (is_ready_on b) nodes r.0 r.1 in
     (r.0, Contains-from_In nodes r.0 k.0, r.2, (change_at place.Memory b r.0.patch (and_parts (is_change_at place.Memory b r.0.patch) _ k.1).0).1)
 
-pub launched_settled : (nodes : List Node) (numbers blocks b : ℕ) → HeadsAreLawful (patches_in nodes) numbers → AreSettled nodes blocks → AreSettled (map (launches (ready_on b nodes)) nodes) blocks
+pub launched_settled : (nodes : List Node) (numbers blocks b : ℕ) → SparseAreLawful (patches_in nodes) numbers → AreSettled nodes blocks → AreSettled (map (launches (ready_on b nodes)) nodes) blocks
 launched_settled nodes numbers blocks b H S =
     let f = launches (ready_on b nodes) in
     settled_all (map f nodes) blocks (λ a ca.
@@ -323,7 +323,7 @@ on_disk place.Memory e = cc
 on_disk place.Flight e = cc
 on_disk place.Disk e = refl
 
-pub dropped_settled : (nodes : List Node) (numbers blocks : ℕ) → HeadsAreLawful (patches_in nodes) numbers → AreSettled nodes blocks → AreSettled (filter (λ x. is_live x.patch) nodes) blocks
+pub dropped_settled : (nodes : List Node) (numbers blocks : ℕ) → SparseAreLawful (patches_in nodes) numbers → AreSettled nodes blocks → AreSettled (filter (λ x. is_live x.patch) nodes) blocks
 dropped_settled nodes numbers blocks H S =
     let new = filter (λ (x : Node). is_live x.patch) nodes in
     settled_all new blocks (λ a ca.

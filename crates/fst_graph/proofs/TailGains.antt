@@ -6,7 +6,7 @@ use Rattle.fst_types.specs.declared.place.Place.{Place}
 use Rattle.fst_types.specs.declared.place.Place.TheVariants as place
 use Rattle.fst_types.specs.Closure.{one, join}
 use Rattle.fst_types.specs.Dependencies.{DirectlyOn, DependsOn, IsLiveNumber}
-use Rattle.fst_types.specs.Facts.{HeadsAreLawful}
+use Rattle.fst_types.specs.Facts.{SparseAreLawful}
 use Rattle.fst_types.specs.Gates.{IsOpenNumber}
 use Rattle.fst_types.specs.Lists.{Lists}
 use Rattle.fst_types.specs.Order.{depend_order, NamesUnknown, NamesAbove}
@@ -45,7 +45,7 @@ memory_live : (x : Place) → x ≡ place.Memory → x ≡ place.Disk → ⊥
 memory_live x a b = cc
 
 module _ (old : List Patch) (n blocks : ℕ) (marks : List Bool) (K : Keeps old n blocks marks) (gates : Gates) (p : Stored) (R : IsMemberReady old n blocks gates p) (closed : IsOpenNumber old gates.head → ⊥) where
-  H : HeadsAreLawful old n
+  H : SparseAreLawful old n
   H = K.lawful
 
   pub ready_now : IsReady old n blocks p
@@ -102,7 +102,7 @@ module _ (old : List Patch) (n blocks : ℕ) (marks : List Bool) (K : Keeps old 
       let u = depends_under old n within p.block p.span.at p.span.len p.grade row named (λ m. m ≡ gates.tail) gates.tail refl d in
       row_apart u.0 u.1 (elim u.2 [ inl e ↦ inl e | inr r ↦ inr (subst (DependsOn old u.0) r.2 r.1) ])
 
-  pub tail_clear : HeadsAreLawful with_made (n + 1) → NoneHolds (depend_order with_made (n + 1) gates.tail ((n + 1) ∷ []))
+  pub tail_clear : SparseAreLawful with_made (n + 1) → NoneHolds (depend_order with_made (n + 1) gates.tail ((n + 1) ∷ []))
   tail_clear L = (
     λ unknown. let t = R.paired.tail_open in let k = (H.one_place_each.numbered t.patch t.head).0 in let e = t.numbered in let s = tail_small in unknown (omega (arith, k, e), omega (arith, s)),
     (
@@ -144,7 +144,7 @@ module _ (old : List Patch) (n blocks : ℕ) (marks : List Bool) (K : Keeps old 
   }
 
 -- no head has the next number
-pub none_beyond : (heads : List Head) (old : List Patch) (n : ℕ) → patches_of heads ≡ old → HeadsAreLawful old n → (h : Head) → Contains heads h → h.number ≢ n + 1
+pub none_beyond : (heads : List Head) (old : List Patch) (n : ℕ) → patches_of heads ≡ old → SparseAreLawful old n → (h : Head) → Contains heads h → h.number ≢ n + 1
 none_beyond heads old n same H h c e =
     let there = Contains-from_In (patches_of heads) (patch_of h) (In-map patch_of heads h (patch_of h) (In-from_Contains heads h c) refl) in
     let k = (H.one_place_each.numbered (patch_of h) (subst (λ ps. Contains ps (patch_of h)) same there)).1 in

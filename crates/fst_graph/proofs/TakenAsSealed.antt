@@ -8,20 +8,19 @@ use Rattle.fst_types.specs.declared.grade.Grade.TheVariants as grade
 use Rattle.fst_types.specs.Cascade.{Follows, RestsOnDisk, IsCascadeOf}
 use Rattle.fst_types.specs.Closure.{one, join}
 use Rattle.fst_types.specs.Dependencies.{DirectlyOn, DependsOn, Needs, IsLiveNumber, IsOnDisk}
-use Rattle.fst_types.specs.Facts.{HeadsAreLawful}
+use Rattle.fst_types.specs.Facts.{SparseAreLawful}
 use Rattle.fst_types.specs.Gates.{IsOpenNumber}
 use Rattle.fst_types.specs.Gating.{sealed}
 use Rattle.fst_types.specs.Grades.{FollowsRule}
-use Rattle.fst_types.specs.Lists.{Lists}
 use Rattle.fst_types.specs.Patches.{SealedGate, Patch, IsOn, IsLive, IsOpenGate}
 use Rattle.fst_types.proofs.Alike.{back_alike}
 use Rattle.fst_types.proofs.Cascades.{kind_cases, place_decided, arrived}
 use Rattle.fst_types.proofs.Crash.{same_number}
 use Rattle.fst_types.proofs.Finite.{Decided, decided_not, decided_both, In-from_Contains, Contains-from_In, search_in, search_list, lowest}
 use Rattle.fst_types.proofs.SealedSame.{Twin, back, forth, depends_same, need_was, need_is, reaches_same}
-use Rattle.fst_types.proofs.Sealing.{alike_sealed, heads_sealed}
+use Rattle.fst_types.proofs.Sealing.{alike_sealed, sparse_sealed}
 use Rattle.fst_heads.specs.Grading.{HasUnder, IsReturning, IsLeading, IsOpenBut, MayBeHard}
-use Rattle.fst_heads.specs.Rows.{IsTouched, IsDependency}
+use Rattle.fst_heads.specs.Rows.{IsTouched, IsSparseRow}
 use Rattle.fst_walks.proofs.Holding.{live_up}
 use Rattle.fst_walks.proofs.NearRow.{under_weaker}
 use Rattle.fst_heads.proofs.Touching.{touch_parts, touch_whole}
@@ -29,9 +28,9 @@ use Rattle.fst_heads.proofs.Touching.{touch_parts, touch_whole}
 memory_live : (x : Place) → x ≡ place.Memory → x ≡ place.Disk → ⊥
 memory_live x a b = cc
 
-module _ (old new : List Patch) (numbers g : ℕ) (H : HeadsAreLawful old numbers) (gate : IsOpenNumber old g) (cascade : IsCascadeOf (map (sealed g) old) new) where
-  K : HeadsAreLawful new numbers
-  K = heads_sealed old new numbers g H gate cascade
+module _ (old new : List Patch) (numbers g : ℕ) (H : SparseAreLawful old numbers) (gate : IsOpenNumber old g) (cascade : IsCascadeOf (map (sealed g) old) new) where
+  K : SparseAreLawful new numbers
+  K = sparse_sealed old new numbers g H gate cascade
 
   was : (p : Patch) → Contains new p → (o : Patch) × Contains old o × Twin g o p
   was = back old new numbers g H gate cascade
@@ -266,19 +265,21 @@ module _ (old new : List Patch) (numbers g : ℕ) (H : HeadsAreLawful old number
   only_one : (x y : ℕ) → Contains (x ∷ []) y → x ≡ y
   only_one x y c = elim (In-from_Contains (x ∷ []) y c) [ inl e ↦ e | inr h ↦ absurd h ]
 
-  pub row_named : (b at len : ℕ) (row : List ℕ) → IsLiveNumber new g → Lists (IsDependency old (g ∷ []) b at len) row → Lists (IsDependency new (g ∷ []) b at len) row
+  pub row_named : (b at len : ℕ) (row : List ℕ) → IsLiveNumber new g → IsSparseRow old (g ∷ []) b at len row → IsSparseRow new (g ∷ []) b at len row
   row_named b at len row live l = record {
     rising = l.rising;
     only = λ n c. elim (l.only n c) [ inl k ↦ inl (subst (IsLiveNumber new) (only_one g n k.1) live, k.1) | inr t ↦ inr (touched_is b at len n t) ];
-    each = λ n d. l.each n (elim d [ inl k ↦ inl (subst (IsLiveNumber old) (only_one g n k.1) gate_live, k.1) | inr t ↦ inr (touched_was b at len n t) ]);
+    named = λ n k c. l.named n (subst (IsLiveNumber old) (only_one g n c) gate_live) c;
+    above = λ n t. elim (l.above n (touched_was b at len n t)) [ inl c ↦ inl c | inr m ↦ inr (m.0, m.1, (depends m.0 n).1 m.2) ];
   }
     where
       gate_live : IsLiveNumber old g
       gate_live = record { patch = gate.patch; head = gate.head; numbered = gate.numbered; live = λ e. memory_live gate.patch.place (H.on_disk_with_all.open_gates gate.patch gate.head gate.is_open) e }
 
-  pub row_unnamed : (b at len : ℕ) (row : List ℕ) → (IsLiveNumber new g → ⊥) → Lists (IsDependency old [] b at len) row → Lists (IsDependency new (g ∷ []) b at len) row
+  pub row_unnamed : (b at len : ℕ) (row : List ℕ) → (IsLiveNumber new g → ⊥) → IsSparseRow old [] b at len row → IsSparseRow new (g ∷ []) b at len row
   row_unnamed b at len row rests l = record {
     rising = l.rising;
     only = λ n c. elim (l.only n c) [ inl k ↦ absurd (In-from_Contains [] n k.1) | inr t ↦ inr (touched_is b at len n t) ];
-    each = λ n d. l.each n (elim d [ inl k ↦ absurd (rests (subst (IsLiveNumber new) (sym (only_one g n k.1)) k.0)) | inr t ↦ inr (touched_was b at len n t) ]);
+    named = λ n k c. absurd (rests (subst (IsLiveNumber new) (sym (only_one g n c)) k));
+    above = λ n t. elim (l.above n (touched_was b at len n t)) [ inl c ↦ inl c | inr m ↦ inr (m.0, m.1, (depends m.0 n).1 m.2) ];
   }

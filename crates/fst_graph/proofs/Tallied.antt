@@ -7,7 +7,7 @@ use Rattle.std.proofs.lemmas.List.{length-map, length_push}
 use Rattle.std.proofs.lemmas.List.Sums.{length-filter, count_by-le-length}
 use Rattle.fst_types.specs.declared.place.Place.TheVariants as place
 use Rattle.fst_types.specs.Dependencies.{DirectlyOn, IsLiveNumber}
-use Rattle.fst_types.specs.Facts.{HeadsAreLawful}
+use Rattle.fst_types.specs.Facts.{SparseAreLawful}
 use Rattle.fst_types.specs.Gates.{IsOpenNumber}
 use Rattle.fst_types.specs.Gating.{gains}
 use Rattle.fst_types.specs.Lists.{Lists}
@@ -34,7 +34,7 @@ use Rattle.fst_heads.proofs.Stands.{stand_gained, stand_launched, stand_dropped}
 use Rattle.fst_heads.proofs.Carried.{length_spread, linked_spread, given_spread, distinct_spread, listed_spread, linked_sealed, distinct_sealed, linked_landed, distinct_landed}
 
 pub tallies_from : (nodes : List Node) (numbers given blocks : ℕ) (lists : List (List Entry)) (standings : List Standing) (queue : List ℕ) (cap : ℕ)
-    → HeadsAreLawful (patches_in nodes) numbers → AreLinked nodes → AreGiven nodes given → AreDistinct nodes → AreSettled nodes blocks
+    → SparseAreLawful (patches_in nodes) numbers → AreLinked nodes → AreGiven nodes given → AreDistinct nodes → AreSettled nodes blocks
     → AreListed (patches_in nodes) blocks lists → AllStand nodes blocks standings → queue ≡ [] → length nodes ≤ cap
     → Tallies nodes given blocks lists standings queue cap
 tallies_from nodes numbers given blocks lists standings queue cap H linked gives distinct settled listed standing idle room = record {
@@ -52,7 +52,7 @@ tallies_from nodes numbers given blocks lists standings queue cap H linked gives
 
 -- a new patch; the patches with it are lawful
 pub tallies_made : (nodes : List Node) (numbers blocks : ℕ) (lists lists' : List (List Entry)) (standings standings' : List Standing) (queue : List ℕ) (cap cap' : ℕ) (p : Patch)
-    → HeadsAreLawful (patches_in nodes) numbers → HeadsAreLawful (patches_in nodes ++ p ∷ []) (numbers + 1)
+    → SparseAreLawful (patches_in nodes) numbers → SparseAreLawful (patches_in nodes ++ p ∷ []) (numbers + 1)
     → Tallies nodes numbers blocks lists standings queue cap
     → p.number ≡ numbers + 1 → IsStrictlyIncreasing p.dependencies → ((n : ℕ) → Contains p.dependencies n → IsLiveNumber (patches_in nodes) n)
     → ((b : ℕ) → IsOn p b → b < blocks)
@@ -61,7 +61,7 @@ pub tallies_made : (nodes : List Node) (numbers blocks : ℕ) (lists lists' : Li
 tallies_made nodes numbers blocks lists lists' standings standings' queue cap cap' p H H' T next rising live inside listed standing room =
     let one = H.one_place_each in
     tallies_from (with_node nodes p) (numbers + 1) (numbers + 1) blocks lists' standings' queue cap'
-    (subst (λ ps. HeadsAreLawful ps (numbers + 1)) (sym (patches_made nodes p)) H')
+    (subst (λ ps. SparseAreLawful ps (numbers + 1)) (sym (patches_made nodes p)) H')
     (made_linked nodes numbers p one next rising live T.linked T.given)
     (made_given nodes numbers p one next rising live T.given)
     (made_distinct nodes numbers p one next rising live T.given T.distinct)
@@ -71,7 +71,7 @@ tallies_made nodes numbers blocks lists lists' standings standings' queue cap ca
 
 -- an open gate gains names; the patches after that are lawful
 pub tallies_depends : (nodes : List Node) (numbers blocks : ℕ) (lists : List (List Entry)) (standings : List Standing) (queue : List ℕ) (cap g : ℕ) (on names : List ℕ)
-    → HeadsAreLawful (patches_in nodes) numbers → HeadsAreLawful (patches_in (with_names nodes g names (sums_of (pending_in nodes) names))) numbers
+    → SparseAreLawful (patches_in nodes) numbers → SparseAreLawful (patches_in (with_names nodes g names (sums_of (pending_in nodes) names))) numbers
     → Tallies nodes numbers blocks lists standings queue cap → IsOpenNumber (patches_in nodes) g
     → Lists (λ n. IsLiveNumber (patches_in nodes) n × Contains on n × (DirectlyOn (patches_in nodes) g n → ⊥)) names
     → Tallies (with_names nodes g names (sums_of (pending_in nodes) names)) numbers blocks lists standings queue cap
@@ -93,7 +93,7 @@ tallies_depends nodes numbers blocks lists standings queue cap g on names H H' T
 
 -- the ready changes of a block of which nothing flies are in flight
 pub tallies_launched : (nodes : List Node) (numbers blocks b : ℕ) (lists : List (List Entry)) (standings : List Standing) (d : Standing) (queue : List ℕ) (cap : ℕ)
-    → HeadsAreLawful (patches_in nodes) numbers → HeadsAreLawful (patches_in (map (launches (ready_on b nodes)) nodes)) numbers
+    → SparseAreLawful (patches_in nodes) numbers → SparseAreLawful (patches_in (map (launches (ready_on b nodes)) nodes)) numbers
     → Tallies nodes numbers blocks lists standings queue cap → b < blocks → (get_or standings b d).flying ≡ 0
     → Tallies (map (launches (ready_on b nodes)) nodes) numbers blocks lists (set standings b (record { ready = 0; held = (get_or standings b d).held; flying = (get_or standings b d).ready })) queue cap
 tallies_launched nodes numbers blocks b lists standings d queue cap H H' T lt rest =
@@ -117,7 +117,7 @@ tallies_launched nodes numbers blocks b lists standings d queue cap H H' T lt re
 
 -- those on disk are forgotten
 pub tallies_dropped : (nodes : List Node) (numbers blocks : ℕ) (lists : List (List Entry)) (standings : List Standing) (queue : List ℕ) (cap : ℕ)
-    → HeadsAreLawful (patches_in nodes) numbers → HeadsAreLawful (patches_in (filter (λ x. is_live x.patch) nodes)) numbers
+    → SparseAreLawful (patches_in nodes) numbers → SparseAreLawful (patches_in (filter (λ x. is_live x.patch) nodes)) numbers
     → Tallies nodes numbers blocks lists standings queue cap
     → Tallies (filter (λ x. is_live x.patch) nodes) numbers blocks lists standings queue cap
 tallies_dropped nodes numbers blocks lists standings queue cap H H' T =
@@ -171,7 +171,7 @@ module _ (g : ℕ) where
         | inr ne ↦ rw (at_other g seals x ne) (elim (cases_Bool (is_live_on c x.patch)) [ inl t ↦ rw (t, r) refl | inr t ↦ rw (t, r) refl ])
       ]
 
-  listed_sealed : (nodes : List Node) (numbers blocks : ℕ) (lists : List (List Entry)) → HeadsAreLawful (patches_in nodes) numbers → IsOpenNumber (patches_in nodes) g
+  listed_sealed : (nodes : List Node) (numbers blocks : ℕ) (lists : List (List Entry)) → SparseAreLawful (patches_in nodes) numbers → IsOpenNumber (patches_in nodes) g
       → AreListed (patches_in nodes) blocks lists → AreListed (patches_in (map (at_number g seals) nodes)) blocks lists
   listed_sealed nodes numbers blocks lists H gate L =
       let kind : (x : Node) → In nodes x → x.patch.number ≡ g → x.patch.kind ≡ OpenGate = λ x h e.
@@ -180,7 +180,7 @@ module _ (g : ℕ) where
 
 -- what was sealed has spread
 pub tallies_sealed : (nodes new : List Node) (numbers blocks : ℕ) (lists : List (List Entry)) (standings standings' : List Standing) (queue : List ℕ) (cap g : ℕ)
-    → HeadsAreLawful (patches_in nodes) numbers → HeadsAreLawful (patches_in new) numbers
+    → SparseAreLawful (patches_in nodes) numbers → SparseAreLawful (patches_in new) numbers
     → Tallies nodes numbers blocks lists standings queue cap → IsOpenNumber (patches_in nodes) g
     → IsSpreadOf (map (at_number g seals) nodes) new → AreSettled new blocks → AllStand new blocks standings'
     → Tallies new numbers blocks lists standings' [] cap
@@ -199,7 +199,7 @@ tallies_sealed nodes new numbers blocks lists standings standings' queue cap g H
 
 -- what landed has spread
 pub tallies_landed : (nodes new : List Node) (numbers blocks b : ℕ) (lists lists' : List (List Entry)) (standings standings' : List Standing) (queue : List ℕ) (cap : ℕ)
-    → HeadsAreLawful (patches_in new) numbers
+    → SparseAreLawful (patches_in new) numbers
     → Tallies nodes numbers blocks lists standings queue cap → AreListed (patches_in (map (lands b) nodes)) blocks lists'
     → IsSpreadOf (map (lands b) nodes) new → AreSettled new blocks → AllStand new blocks standings'
     → Tallies new numbers blocks lists' standings' [] cap

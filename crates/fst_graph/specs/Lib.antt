@@ -5,3 +5,4 @@ pub mod Whole
 pub mod Membering
 pub mod Ready
 pub mod Sound
+pub mod Sparse

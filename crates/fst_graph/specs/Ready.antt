@@ -1,6 +1,5 @@
 -- What is kept of a change that there is room for.
 use Rattle.std.specs.Prelude.{◌≡◌, ◌<◌, ◌+◌, ◌++◌, ◌∷◌, [], ℕ, List, Option, Some, None, IfSome, option_map}
-use Rattle.fst_types.specs.Lists.{Lists}
 use Rattle.fst_types.specs.Patches.{Change, Patch}
 use Rattle.fst_types.specs.Grades.{IsGraded}
 use Rattle.fst_types.specs.Making.{fresh}
@@ -14,7 +13,7 @@ use Rattle.fst_graph.specs.Known.{Prepared}
 use Rattle.fst_heads.specs.Names.{numbers_of}
 use Rattle.fst_graph.specs.Membering.{ArePaired, BeginsAs, member_order}
 use Rattle.fst_heads.specs.Nodes.{HasRoomAbove}
-use Rattle.fst_heads.specs.Rows.{IsDependency}
+use Rattle.fst_heads.specs.Rows.{IsSparseRow}
 
 -- as contracts see it, its number being the next one
 abbrev pub prepared_of : ℕ → Stored → Prepared
@@ -29,7 +28,7 @@ change_of numbers p = fresh (numbers + 1) (Change p.block p.span.at p.span.len p
 pub record IsReady (heads : List Patch) (numbers blocks : ℕ) (p : Stored) : Type 0 where
   pub clear : NoneHolds (make_order heads numbers (numbers_of p.names.items))
   pub inside : p.block < blocks
-  pub depends : Lists (IsDependency heads (numbers_of p.names.items) p.block p.span.at p.span.len) p.dependencies.items
+  pub depends : IsSparseRow heads (numbers_of p.names.items) p.block p.span.at p.span.len p.dependencies.items
   pub graded : IsGraded heads (heads ++ change_of numbers p ∷ []) p.block (numbers + 1) p.grade
 
 -- a change of the group with these gates is not refused, and this is what it would be once the head is sealed, if it is open

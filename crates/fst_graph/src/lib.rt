@@ -19,7 +19,7 @@ mod graph;
 mod group;
 mod groups;
 mod member;
-mod patches;
+mod sparse;
 mod prepared;
 mod refusals;
 

@@ -3,17 +3,16 @@
 
 ghost use Rattle.std.specs.Prelude.{◌≡◌, ◌↔◌, ◌<◌, ◌∷◌, [], false, ℕ, List, IsTrue, IfOk, IfSome, IfNone, length};
 ghost use Rattle.fst_types.specs.Dependencies.{DirectlyOn, IsLiveNumber, IsOnDisk};
-ghost use Rattle.fst_types.specs.Facts.{HeadsAreLawful};
+ghost use Rattle.fst_types.specs.Facts.{SparseAreLawful};
 ghost use Rattle.fst_types.specs.Gates.{IsOpenNumber};
 ghost use Rattle.fst_types.specs.Grades.{FollowsRule};
-ghost use Rattle.fst_types.specs.Lists.{Lists};
 ghost use Rattle.fst_types.specs.Patches.{Patch};
 ghost use Rattle.fst_heads.specs.Grading.{MayBeHard};
 ghost use Rattle.fst_heads.specs.Heads.{IsRising, patches_of};
 ghost use Rattle.fst_heads.specs.Names.{numbers_of};
 ghost use Rattle.fst_graph.specs.Membering.{BeginsAs};
 ghost use Rattle.fst_heads.specs.Nodes.{nodes_of, AreCounted};
-ghost use Rattle.fst_heads.specs.Rows.{IsDependency};
+ghost use Rattle.fst_heads.specs.Rows.{IsSparseRow};
 ghost use Rattle.fst_walks.specs.Sights.{Sees};
 
 use crate::prepared::{Gates, Prepared, copy_of};
@@ -63,7 +62,7 @@ pub fn prepare_member(
     span: Span,
     gates: Gates,
 ) -> Result<Prepared, AllocError>
-    requires lawful { (numbers : ℕ) × HeadsAreLawful (patches_of sight.now.heads.now) numbers }
+    requires lawful { (numbers : ℕ) × SparseAreLawful (patches_of sight.now.heads.now) numbers }
     requires counted { AreCounted (nodes_of sight.now.heads.now) }
     requires sees { Sees sight.now }
     requires long { length walks.old.walk.marks ≡ length sight.now.heads.now }
@@ -73,7 +72,7 @@ pub fn prepare_member(
     ensures span { IfOk result (λ p. p.span ≡ span) }
     ensures names { IfOk result (λ p. numbers_of p.names.items ≡ gates.head ∷ []) }
     ensures gates { IfOk result (λ p. p.gates ≡ Some gates) }
-    ensures depends { IfOk result (λ p. (begun : List Patch) → BeginsAs (patches_of sight.now.heads.now) gates.head begun → Lists (IsDependency begun (gates.head ∷ []) block span.at span.len) p.dependencies.items) }
+    ensures depends { IfOk result (λ p. (begun : List Patch) → BeginsAs (patches_of sight.now.heads.now) gates.head begun → IsSparseRow begun (gates.head ∷ []) block span.at span.len p.dependencies.items) }
     ensures graded { IfOk result (λ p. (begun : List Patch) → BeginsAs (patches_of sight.now.heads.now) gates.head begun → FollowsRule p.grade (MayBeHard begun None block p.dependencies.items)) }
     ensures long { length walks.new.walk.marks ≡ length sight.now.heads.now }
     ensures crossed { length walks.new.crossed.items ≡ length sight.now.lists.now }

@@ -3,11 +3,10 @@
 
 ghost use Rattle.std.specs.Prelude.{◌≡◌, ◌↔◌, ◌<◌, option_map, IsTrue, IfOk, true, length};
 ghost use Rattle.fst_types.specs.Grades.{FollowsRule};
-ghost use Rattle.fst_types.specs.Lists.{Lists};
 ghost use Rattle.fst_heads.specs.Grading.{MayBeHard};
 ghost use Rattle.fst_heads.specs.Heads.{patches_of};
 ghost use Rattle.fst_heads.specs.Names.{numbers_of};
-ghost use Rattle.fst_heads.specs.Rows.{IsDependency};
+ghost use Rattle.fst_heads.specs.Rows.{IsSparseRow};
 ghost use Rattle.fst_walks.specs.Sights.{Sees};
 
 use fst_heads::row::{Row, dependencies_of};
@@ -83,7 +82,7 @@ pub fn prepare(
     ensures block { IfOk result (λ p. p.block ≡ block) }
     ensures span { IfOk result (λ p. p.span ≡ span) }
     ensures names { IfOk result (λ p. p.names.items ≡ names.now) }
-    ensures depends { IfOk result (λ p. Lists (IsDependency (patches_of sight.now.heads.now) (numbers_of names.now) block span.at span.len) p.dependencies.items) }
+    ensures depends { IfOk result (λ p. IsSparseRow (patches_of sight.now.heads.now) (numbers_of names.now) block span.at span.len p.dependencies.items) }
     ensures graded { IfOk result (λ p. FollowsRule p.grade (MayBeHard (patches_of sight.now.heads.now) None block p.dependencies.items)) }
     ensures gates { IfOk result (λ p. p.gates ≡ None) }
     ensures long { length walks.new.walk.marks ≡ length sight.now.heads.now }

@@ -6,7 +6,7 @@ use Rattle.fst_types.specs.declared.place.Place.TheVariants as place
 use Rattle.fst_types.specs.declared.grade.Grade.{Grade}
 use Rattle.fst_types.specs.Patches.{Patch, Change, IsRising, block_of_kind}
 use Rattle.fst_types.specs.Cascade.{Follows}
-use Rattle.fst_types.specs.Facts.{HeadsAreLawful}
+use Rattle.fst_types.specs.Facts.{SparseAreLawful}
 use Rattle.fst_types.proofs.Cascades.{no_follower_on}
 use Rattle.fst_types.proofs.Finite.{In-from_Contains, Contains-from_In, In-map}
 use Rattle.fst_heads.specs.declared.pending.Pending.TheVariants as pending
@@ -41,7 +41,7 @@ pub record Begins (nodes : List Node) (blocks : ℕ) (f : Node → Node) (queue 
   pub waits : (x : Node) → Contains nodes x → is_told (f x) ≡ false → Contains queue x.patch.number
   pub once : AllPairs (λ m n. m ≢ n) queue
 
-module _ (nodes : List Node) (numbers blocks : ℕ) (H : HeadsAreLawful (patches_in nodes) numbers) (inside : IsInside (patches_in nodes) blocks) (S : AreSettled nodes blocks) where
+module _ (nodes : List Node) (numbers blocks : ℕ) (H : SparseAreLawful (patches_in nodes) numbers) (inside : IsInside (patches_in nodes) blocks) (S : AreSettled nodes blocks) where
   -- each node at rest
   pub sound_at_rest : (x : Node) → Contains nodes x → Sound x blocks
   sound_at_rest x c =

@@ -10,7 +10,7 @@ use Rattle.fst_types.specs.Patches.{Patch}
 use Rattle.fst_types.specs.Dependencies.{IsLiveNumber}
 use Rattle.fst_types.specs.Tests.{is_at, is_live}
 use Rattle.fst_types.proofs.Finite.{In, In-from_Contains, Contains-from_In}
-use Rattle.fst_types.proofs.Dropping.{filter_in, heads_dropped}
+use Rattle.fst_types.proofs.Dropping.{filter_in, sparse_dropped}
 use Rattle.fst_heads.specs.declared.head.Head.{Head}
 use Rattle.fst_heads.specs.Tests.{is_live_place}
 use Rattle.fst_heads.specs.Nodes.{is_live_in}
@@ -88,7 +88,7 @@ module _ (heads : List Patch) (numbers blocks : ℕ) (marks : List Bool) (K : Ke
 
   pub keeps_dropped : (marks' : List Bool) → length marks' ≡ length new → Keeps new numbers blocks marks'
   keeps_dropped marks' long = record {
-    lawful = heads_dropped heads numbers K.lawful;
+    lawful = sparse_dropped heads numbers K.lawful;
     few = let c = counted heads in omega (arith, c, K.few);
     inside = λ p b c on. K.inside p b (was p c).0 on;
     marked = long;

@@ -4,14 +4,15 @@ use Rattle.std.proofs.lemmas.List.{length_push}
 use Rattle.std.proofs.lemmas.List.Elements.{Contains-push_cases}
 use Rattle.fst_types.specs.Limits.{max_heads, max_number}
 use Rattle.fst_types.specs.Patches.{Patch, IsOn, OpenGate}
-use Rattle.fst_types.specs.Facts.{HeadsAreLawful}
+use Rattle.fst_types.specs.Facts.{SparseAreLawful}
 use Rattle.fst_types.specs.Making.{fresh}
-use Rattle.fst_types.proofs.Heads.{heads_gated}
+use Rattle.fst_types.proofs.Heads.{sparse_gated}
+use Rattle.fst_types.proofs.Loosened.{loosened}
 use Rattle.fst_types.proofs.Opened.{opening_is_lawful}
 use Rattle.fst_heads.specs.Keeps.{Keeps, IsInside}
 
 module _ (heads : List Patch) (numbers blocks : ℕ) (marks : List Bool) (K : Keeps heads numbers blocks marks) where
-  pub keeps_added : (new : List Patch) → HeadsAreLawful new (numbers + 1) → length new ≡ length heads + 1 → IsInside new blocks → length heads < max_heads → Keeps new (numbers + 1) blocks (marks ++ false ∷ [])
+  pub keeps_added : (new : List Patch) → SparseAreLawful new (numbers + 1) → length new ≡ length heads + 1 → IsInside new blocks → length heads < max_heads → Keeps new (numbers + 1) blocks (marks ++ false ∷ [])
   keeps_added new lawful long inside few = record {
     lawful = lawful;
     few = omega (arith, long, few);
@@ -19,8 +20,8 @@ module _ (heads : List Patch) (numbers blocks : ℕ) (marks : List Bool) (K : Ke
     marked = length_push marks false ∙ (ap (λ k. k + 1) K.marked ∙ sym long);
   }
 
-pub gate_lawful : (heads : List Patch) (numbers : ℕ) → HeadsAreLawful heads numbers → HeadsAreLawful (heads ++ fresh (numbers + 1) OpenGate [] ∷ []) (numbers + 1)
-gate_lawful heads numbers H = heads_gated heads (heads ++ fresh (numbers + 1) OpenGate [] ∷ []) numbers (numbers + 1) (record { next = refl; added = refl }) H
+pub gate_lawful : (heads : List Patch) (numbers : ℕ) → SparseAreLawful heads numbers → SparseAreLawful (heads ++ fresh (numbers + 1) OpenGate [] ∷ []) (numbers + 1)
+gate_lawful heads numbers H = sparse_gated heads (heads ++ fresh (numbers + 1) OpenGate [] ∷ []) numbers (numbers + 1) (record { next = refl; added = refl }) H
 
 abbrev pub new_gate : ℕ → Patch
 new_gate numbers = fresh (numbers + 1) OpenGate []
@@ -28,7 +29,7 @@ new_gate numbers = fresh (numbers + 1) OpenGate []
 -- of no patch all is kept
 pub keeps_none : (numbers blocks : ℕ) → numbers ≤ max_number → Keeps [] numbers blocks []
 keeps_none numbers blocks few = record {
-  lawful = (opening_is_lawful 0 0 numbers 0 [] (λ k d lt. absurd (omega (arith, lt))) few (lit≤ tt)).heads;
+  lawful = loosened (opening_is_lawful 0 0 numbers 0 [] (λ k d lt. absurd (omega (arith, lt))) few (lit≤ tt)).heads;
   few = lit≤ tt;
   inside = λ p b c. absurd (omega (arith, c.1));
   marked = refl;

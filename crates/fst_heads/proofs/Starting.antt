@@ -8,7 +8,7 @@ use Rattle.fst_types.specs.declared.place.Place.{Place}
 use Rattle.fst_types.specs.declared.place.Place.TheVariants as place
 use Rattle.fst_types.specs.Cascade.{IsCascadeOf, Follows, RestsOnDisk, unsettled}
 use Rattle.fst_types.specs.Dependencies.{IsOnDisk}
-use Rattle.fst_types.specs.Facts.{HeadsAreLawful}
+use Rattle.fst_types.specs.Facts.{SparseAreLawful}
 use Rattle.fst_types.specs.Gates.{IsOpenNumber}
 use Rattle.fst_types.specs.Gating.{sealed}
 use Rattle.fst_types.specs.Patches.{Kind, Change, Empty, OpenGate, SealedGate, Patch, block_of_kind}
@@ -101,7 +101,7 @@ not_true false e = refl
 and_both : (a b : Bool) → a ≡ true → b ≡ false → (a && not b) ≡ true
 and_both a b e f = rw (e, f) refl
 
-module _ (nodes : List Node) (numbers blocks g : ℕ) (H : HeadsAreLawful (patches_in nodes) numbers) (inside : IsInside (patches_in nodes) blocks) (S : AreSettled nodes blocks) (gate : IsOpenNumber (patches_in nodes) g) where
+module _ (nodes : List Node) (numbers blocks g : ℕ) (H : SparseAreLawful (patches_in nodes) numbers) (inside : IsInside (patches_in nodes) blocks) (S : AreSettled nodes blocks) (gate : IsOpenNumber (patches_in nodes) g) where
   -- the node with the number is an open gate in memory, and is sealed; the others stay
   seal_cases : (x : Node) → Contains nodes x → ((x.patch.number ≡ g) × (x.patch.kind ≡ OpenGate) × (x.patch.place ≡ place.Memory) × (at_number g seals x ≡ seals x)) ⊎ ((x.patch.number ≢ g) × (at_number g seals x ≡ x))
   seal_cases x c = elim (cases_eq x.patch.number g) [
@@ -180,7 +180,7 @@ module _ (nodes : List Node) (numbers blocks g : ℕ) (H : HeadsAreLawful (patch
   }
 
 -- where a gate is sealed
-pub starts_sealed : (nodes : List Node) (numbers blocks g : ℕ) → HeadsAreLawful (patches_in nodes) numbers → IsInside (patches_in nodes) blocks → AreSettled nodes blocks → IsOpenNumber (patches_in nodes) g
+pub starts_sealed : (nodes : List Node) (numbers blocks g : ℕ) → SparseAreLawful (patches_in nodes) numbers → IsInside (patches_in nodes) blocks → AreSettled nodes blocks → IsOpenNumber (patches_in nodes) g
     → Spreading (map (at_number g seals) nodes) blocks (wakes_sealed g nodes)
 starts_sealed nodes numbers blocks g H inside S gate =
     begun nodes blocks (at_number g seals) (wakes_sealed g nodes) (seal_begins nodes numbers blocks g H inside S gate) H.one_place_each.rising S
@@ -205,7 +205,7 @@ land_same b x = record {
   pending = refl;
 }
 
-module _ (nodes : List Node) (numbers blocks b : ℕ) (H : HeadsAreLawful (patches_in nodes) numbers) (inside : IsInside (patches_in nodes) blocks) (S : AreSettled nodes blocks) where
+module _ (nodes : List Node) (numbers blocks b : ℕ) (H : SparseAreLawful (patches_in nodes) numbers) (inside : IsInside (patches_in nodes) blocks) (S : AreSettled nodes blocks) where
   -- a number of what flies on the block
   flying_in : (n : ℕ) → Contains (flying_on b (patches_in nodes)) n → (x : Node) × Contains nodes x × (x.patch.number ≡ n) × (is_change_at place.Flight b x.patch ≡ true)
   flying_in n c =
@@ -276,7 +276,7 @@ module _ (nodes : List Node) (numbers blocks b : ℕ) (H : HeadsAreLawful (patch
   }
 
 -- where a block landed
-pub starts_landed : (nodes : List Node) (numbers blocks b : ℕ) → HeadsAreLawful (patches_in nodes) numbers → IsInside (patches_in nodes) blocks → AreSettled nodes blocks
+pub starts_landed : (nodes : List Node) (numbers blocks b : ℕ) → SparseAreLawful (patches_in nodes) numbers → IsInside (patches_in nodes) blocks → AreSettled nodes blocks
     → Spreading (map (lands b) nodes) blocks (flying_on b (patches_in nodes))
 starts_landed nodes numbers blocks b H inside S =
     begun nodes blocks (lands b) (flying_on b (patches_in nodes)) (land_begins nodes numbers blocks b H inside S) H.one_place_each.rising S

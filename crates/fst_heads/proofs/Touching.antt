@@ -14,14 +14,14 @@ use Rattle.fst_types.specs.Patches.{Kind, Change, Empty, OpenGate, SealedGate, P
 use Rattle.fst_types.specs.Dependencies.{IsLiveNumber}
 use Rattle.fst_types.specs.Overlaps.{IsOverlapped}
 use Rattle.fst_types.specs.Grades.{IsGradedHard, FollowsRule}
-use Rattle.fst_types.specs.Facts.{HeadsAreLawful}
+use Rattle.fst_types.specs.Facts.{SparseAreLawful}
 use Rattle.fst_types.specs.Making.{fresh}
 use Rattle.fst_types.specs.Tests.{is_at, is_on}
 use Rattle.fst_types.proofs.Finite.{In, In-from_Contains, Contains-from_In}
 use Rattle.fst_types.proofs.NewChange.{IsWithin, hard_kept}
-use Rattle.fst_types.proofs.Adding.{one_place_added, acyclic_added, on_disk_with_all_added, alone_added, overlaps_added}
+use Rattle.fst_types.proofs.Adding.{one_place_added, acyclic_added, on_disk_with_all_added, alone_added}
 use Rattle.fst_heads.specs.Lists.{Entry, entry, is_live_on, entries_on}
-use Rattle.fst_heads.specs.Rows.{Gains, kind_touches, touches, shares, IsTouched, IsDependency}
+use Rattle.fst_heads.specs.Rows.{Gains, kind_touches, touches, shares, IsTouched, IsDependency, IsSparseRow}
 use Rattle.fst_heads.specs.Tests.{is_live_place}
 use Rattle.fst_heads.specs.Grading.{MayBeHard}
 use Rattle.fst_heads.specs.Keeps.{Keeps}
@@ -80,6 +80,10 @@ module _ (heads : List Patch) (b at len number : ℕ) (grade : Grade) (deps : Li
       let v = o.overlaps in
       let same : b ≡ v.block = some_injective b v.block v.second in
       record { patch = o.patch; head = o.head; numbered = o.numbered; shares = touch_whole b at len o.patch.kind o.patch.place o.live (v.first ∙ ap Some (sym same)) v.starts_before v.ends_after }
+
+-- a whole row is a sparse one
+pub whole_is_sparse : (heads : List Patch) (names : List ℕ) (b at len : ℕ) (row : List ℕ) → Lists (IsDependency heads names b at len) row → IsSparseRow heads names b at len row
+whole_is_sparse heads names b at len row l = record { rising = l.rising; only = l.only; named = λ n live c. l.each n (inl (live, c)); above = λ n t. inl (l.each n (inr t)) }
 
 pub depends_exactly : (heads : List Patch) (names : List ℕ) (b at len number : ℕ) (grade : Grade) (deps row : List ℕ) → Lists (IsDependency heads names b at len) row → Lists (λ n. (IsLiveNumber heads n × Contains names n) ⊎ IsOverlapped heads (fresh number (Change b at len grade) deps) n) row
 depends_exactly heads names b at len number grade deps row l = record {
@@ -184,7 +188,7 @@ module _ (heads : List Patch) (rest : List Entry) (b at len : ℕ) (old row : Li
   }
 
 module _ (heads : List Patch) (numbers blocks : ℕ) (marks : List Bool) (K : Keeps heads numbers blocks marks)
-    (b at len : ℕ) (names : List ℕ) (grade : Grade) (deps : List ℕ) (depends : Lists (IsDependency heads names b at len) deps) where
+    (b at len : ℕ) (names : List ℕ) (grade : Grade) (deps : List ℕ) (depends : IsSparseRow heads names b at len deps) where
   abbrev new_change : Patch
   new_change = fresh (numbers + 1) (Change b at len grade) deps
 
@@ -197,14 +201,12 @@ module _ (heads : List Patch) (numbers blocks : ℕ) (marks : List Bool) (K : Ke
   within : IsWithin heads numbers
   within = λ x h. ((K.lawful.one_place_each.numbered x h).1, λ q c. K.lawful.one_place_each.named x q h c)
 
-  pub change_lawful : (IsHard new_change → IsGradedHard heads (heads ++ new_change ∷ []) b (numbers + 1)) → HeadsAreLawful (heads ++ new_change ∷ []) (numbers + 1)
+  pub change_lawful : (IsHard new_change → IsGradedHard heads (heads ++ new_change ∷ []) b (numbers + 1)) → SparseAreLawful (heads ++ new_change ∷ []) (numbers + 1)
   change_lawful graded = record {
     one_place_each = one_place_added heads numbers K.lawful new_change refl named refl;
     no_cycle = acyclic_added heads numbers K.lawful new_change refl named refl;
     on_disk_with_all = on_disk_with_all_added heads numbers K.lawful new_change refl named refl (λ f. f);
     flights_stand_alone = alone_added heads numbers K.lawful new_change refl named refl;
-    overlaps_are_ordered = overlaps_added heads numbers K.lawful new_change refl named refl (λ x h live v.
-        depends.each x.number (inr (overlaps_touched heads b at len (numbers + 1) grade deps x.number (record { patch = x; head = h; numbered = refl; live = live; overlaps = v }))));
     hard_never_hold = hard_kept heads numbers within new_change refl named b refl K.lawful.hard_never_hold graded;
   }
 

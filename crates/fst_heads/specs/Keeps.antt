@@ -2,7 +2,7 @@
 use Rattle.std.specs.Prelude.{◌≡◌, ◌≤◌, ◌<◌, ℕ, Bool, List, [], length, count_by, Contains}
 use Rattle.fst_types.specs.Limits.{max_heads}
 use Rattle.fst_types.specs.Patches.{Patch, IsOn}
-use Rattle.fst_types.specs.Facts.{HeadsAreLawful}
+use Rattle.fst_types.specs.Facts.{SparseAreLawful}
 use Rattle.fst_types.specs.Tests.{is_live}
 use Rattle.fst_heads.specs.Nodes.{Node, patches_in, AreLinked, AreGiven, AreDistinct, AreSettled, AreCounted}
 use Rattle.fst_heads.specs.declared.standing.Standing.{Standing}
@@ -14,7 +14,7 @@ abbrev pub IsInside : List Patch → ℕ → Type 0
 IsInside heads blocks = (p : Patch) (b : ℕ) → Contains heads p → IsOn p b → b < blocks
 
 pub record Keeps (heads : List Patch) (numbers blocks : ℕ) (marks : List Bool) : Type 0 where
-  pub lawful : HeadsAreLawful heads numbers
+  pub lawful : SparseAreLawful heads numbers
   pub few : length heads ≤ max_heads
   pub inside : IsInside heads blocks
   pub marked : length marks ≡ length heads

@@ -2,7 +2,7 @@
 use Rattle.std.specs.Prelude.{◌≡◌, ◌⊎◌, ◌==◌, ◌&&◌, ◌+◌, nat_lt, ℕ, Bool, true, false, List, Contains}
 use Rattle.fst_types.specs.declared.place.Place.{Place}
 use Rattle.fst_types.specs.Patches.{Kind, Change, Empty, OpenGate, SealedGate, Patch}
-use Rattle.fst_types.specs.Dependencies.{DirectlyOn, IsLiveNumber}
+use Rattle.fst_types.specs.Dependencies.{DependsOn, DirectlyOn, IsLiveNumber}
 use Rattle.fst_heads.specs.Tests.{is_live_place}
 use Rattle.std.specs.List.Sorted.{IsStrictlyIncreasing}
 
@@ -41,3 +41,10 @@ IsDependency heads names b at len n = (IsLiveNumber heads n × Contains names n)
 -- n is the number of a live patch, and no direct dependency of the gate
 abbrev pub IsMissing : List Patch → ℕ → ℕ → Type 0
 IsMissing heads gate n = IsLiveNumber heads n × (DirectlyOn heads gate n → ⊥)
+
+-- a sparse row of a new change, which rises: the named patches that are not on disk, and such changes that share a byte with it that each other one that does is below one of these
+pub record IsSparseRow (heads : List Patch) (names : List ℕ) (b at len : ℕ) (row : List ℕ) : Type 0 where
+  pub rising : IsStrictlyIncreasing row
+  pub only : (n : ℕ) → Contains row n → IsDependency heads names b at len n
+  pub named : (n : ℕ) → IsLiveNumber heads n → Contains names n → Contains row n
+  pub above : (n : ℕ) → IsTouched heads b at len n → Contains row n ⊎ ((m : ℕ) × Contains row m × DependsOn heads m n)

@@ -4,7 +4,7 @@ use Rattle.fst_types.specs.declared.place.Place.{Place}
 use Rattle.fst_types.specs.declared.place.Place.TheVariants as place
 use Rattle.fst_types.specs.Closure.{one, join}
 use Rattle.fst_types.specs.Dependencies.{DirectlyOn, DependsOn, Needs}
-use Rattle.fst_types.specs.Facts.{HeadsAreLawful}
+use Rattle.fst_types.specs.Facts.{SparseAreLawful}
 use Rattle.fst_types.specs.Patches.{Patch, IsOn, IsOpenGate, block_of_kind}
 use Rattle.fst_types.specs.Writable.{IsInMemoryOn, InWritableSet}
 use Rattle.fst_types.proofs.Finite.{In-from_Contains, decided_not, search_list, lowest}
@@ -23,7 +23,7 @@ in_memory_else place.Memory d f = refl
 in_memory_else place.Flight d f = absurd (f refl)
 in_memory_else place.Disk d f = absurd (d refl)
 
-module _ (nodes : List Node) (numbers blocks : ℕ) (H : HeadsAreLawful (patches_in nodes) numbers) (S : AreSettled nodes blocks) (b : ℕ) where
+module _ (nodes : List Node) (numbers blocks : ℕ) (H : SparseAreLawful (patches_in nodes) numbers) (S : AreSettled nodes blocks) (b : ℕ) where
   abbrev told : ℕ → Pending
   told = pending_in nodes
 

@@ -6,7 +6,7 @@ use Rattle.std.proofs.lemmas.List.Kept.{AllPairs-from_increasing}
 use Rattle.fst_types.specs.declared.place.Place.TheVariants as place
 use Rattle.fst_types.specs.Closure.{Closure, one, join}
 use Rattle.fst_types.specs.Dependencies.{DependsOn, IsLiveNumber}
-use Rattle.fst_types.specs.Facts.{HeadsAreLawful}
+use Rattle.fst_types.specs.Facts.{SparseAreLawful}
 use Rattle.fst_types.specs.Patches.{Patch, IsOn}
 use Rattle.fst_types.specs.Tests.{is_change_at}
 use Rattle.fst_types.specs.Writable.{IsInMemoryOn, InWritableSet, IsWritableSet, HasReady, IsHeld, IsLeastHeld}
@@ -78,7 +78,7 @@ pub behind_depends : (nodes : List Node) (b f n : ℕ) → Closure (IsNextBehind
 behind_depends nodes b f n (one s) = one s.0
 behind_depends nodes b f n (join {q = r} d e) = join (behind_depends nodes b r n e) (behind_depends nodes b f r d)
 
-module _ (nodes : List Node) (numbers blocks : ℕ) (H : HeadsAreLawful (patches_in nodes) numbers) (S : AreSettled nodes blocks) (b : ℕ) where
+module _ (nodes : List Node) (numbers blocks : ℕ) (H : SparseAreLawful (patches_in nodes) numbers) (S : AreSettled nodes blocks) (b : ℕ) where
   abbrev told : ℕ → Pending
   told = pending_in nodes
 

@@ -1,7 +1,7 @@
 -- The patches of heads, seen through their nodes.
 use Rattle.std.proofs.Common.{◌≡◌, ◌≤◌, ◌∙◌, ℕ, List, map, sym, ap, subst, arith, cond, eqb, inl, inr}
 use Rattle.std.proofs.lemmas.Bool.{cases_Bool}
-use Rattle.fst_types.specs.Facts.{HasOnePlaceEach, HeadsAreLawful}
+use Rattle.fst_types.specs.Facts.{HasOnePlaceEach, SparseAreLawful}
 use Rattle.fst_heads.specs.declared.head.Head.{Head}
 use Rattle.fst_heads.specs.declared.pending.Sums.{Sums}
 use Rattle.fst_heads.specs.declared.standing.Standing.{Standing}
@@ -25,8 +25,8 @@ same_patches new old e = seen new _ e ∙ patches_in_nodes old
 pub one_each : (heads : List Head) (numbers : ℕ) → HasOnePlaceEach (patches_of heads) numbers → HasOnePlaceEach (patches_in (nodes_of heads)) numbers
 one_each heads numbers H = subst (λ ps. HasOnePlaceEach ps numbers) (sym (patches_in_nodes heads)) H
 
-pub lawful_nodes : (heads : List Head) (numbers : ℕ) → HeadsAreLawful (patches_of heads) numbers → HeadsAreLawful (patches_in (nodes_of heads)) numbers
-lawful_nodes heads numbers H = subst (λ ps. HeadsAreLawful ps numbers) (sym (patches_in_nodes heads)) H
+pub lawful_nodes : (heads : List Head) (numbers : ℕ) → SparseAreLawful (patches_of heads) numbers → SparseAreLawful (patches_in (nodes_of heads)) numbers
+lawful_nodes heads numbers H = subst (λ ps. SparseAreLawful ps numbers) (sym (patches_in_nodes heads)) H
 
 -- a queue with more room
 pub tallies_wider : (nodes : List Node) (numbers blocks : ℕ) (lists : List (List Entry)) (standings : List Standing) (queue wider : List ℕ) (cap cap' : ℕ)

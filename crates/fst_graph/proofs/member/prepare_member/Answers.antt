@@ -6,6 +6,7 @@ use Rattle.fst_heads.specs.Heads.{patches_of}
 use Rattle.fst_heads.specs.Names.{numbers_of}
 use Rattle.fst_heads.specs.Lists.{entries_of}
 use Rattle.fst_heads.proofs.Listing.{listed_at}
+use Rattle.fst_heads.proofs.Touching.{whole_is_sparse}
 use Rattle.fst_graph.proofs.MemberRow.{IsAfter, rests, waits, told_open, member_row, member_rule}
 use Rattle.fst_graph.proofs.member.prepare_member.Goals as goal
 use Rattle.fst_graph.proofs.member.prepare_member.Goals.{then-is_some+then-rests, else-is_some, else-is_some-via-then-is_some+else-rests, else-is_some-via-else-is_some}
@@ -28,7 +29,7 @@ returns-clause-depends c =
         | else-is_some-via-else-is_some v ↦ absurd (opened.1 v.if-is_some.false gate)
       ]))
     ] in
-    member_row patches c.requires.lawful.0 c.requires.lawful.1 head c.args.block c.in_ok-dependencies.dependencies.items c.args.span.at c.args.span.len after is c.in_ok-dependencies.ensures
+    member_row patches c.requires.lawful.0 c.requires.lawful.1 head c.args.block c.in_ok-dependencies.dependencies.items c.args.span.at c.args.span.len after is (whole_is_sparse patches after c.args.block c.args.span.at c.args.span.len c.in_ok-dependencies.dependencies.items c.in_ok-dependencies.ensures)
 
 pub returns-clause-graded : goal.returns-clause-graded
 returns-clause-graded c =

@@ -1,0 +1,80 @@
+use Rattle.std.proofs.Common.{◌≡◌, ◌+◌, ◌≤◌, ◌∙◌, ◌∷◌, [], length, refl, rules, ap, subst, inl, arith}
+use Rattle.fst_types.specs.Patches.{OpenGate}
+use Rattle.fst_types.specs.Making.{fresh}
+use Rattle.fst_heads.specs.Keeps.{Beside}
+use Rattle.std.proofs.lemmas.List.{length-map}
+use Rattle.fst_heads.specs.Heads.{patches_of}
+use Rattle.fst_heads.specs.Nodes.{node_of, nodes_of, pending_in}
+use Rattle.fst_heads.specs.Pendings.{sums_of}
+use Rattle.fst_heads.proofs.Beside.{beside_made}
+use Rattle.fst_graph.proofs.Paired.{adds_pair, keeps_pair, paired, with_head}
+use Rattle.fst_heads.proofs.Added.{with_node}
+use Rattle.fst_graph.proofs.PairTold.{gated, second_gate, first_put, second_put, patches_paired, rising_gated, room_gated, tallies_pair}
+use Rattle.fst_walks.proofs.Seen.{tallies_wider}
+use Rattle.fst_graph.proofs.sparse.Sparse.add_pair.Goals as goal
+
+pub row_sums-sums-requires : goal.row_sums-sums-requires
+row_sums-sums-requires c =
+    let heads = c.self.inside.heads.items in
+    let n = c.self.inside.numbers in
+    let first = first_put heads _ _ _ n _ _ c.push_reserved.ensures.items c.reserve_two.ensures.heads c.new_gate.ensures.node c.new-none.ensures.items c.no_sums.ensures in
+    rw c.deref.ensures.value (rising_gated heads c.push_reserved.new.self.items n c.self.invariant.keeps.lawful first)
+
+pub link-requires-clause-rising : goal.link-requires-clause-rising
+link-requires-clause-rising c =
+    let heads = c.self.inside.heads.items in
+    let n = c.self.inside.numbers in
+    let first = first_put heads _ _ _ n _ _ c.push_reserved.ensures.items c.reserve_two.ensures.heads c.new_gate.ensures.node c.new-none.ensures.items c.no_sums.ensures in
+    rising_gated heads c.push_reserved.new.self.items n c.self.invariant.keeps.lawful first
+
+pub link-requires-clause-room : goal.link-requires-clause-room
+link-requires-clause-room c =
+    room_gated c.self.inside.heads.items c.push_reserved.new.self.items c.self.inside.numbers c.self.invariant.keeps.lawful c.reserve_two.new.heads.items c.new_gate.result c.as_slice-2.result.now
+    c.push_reserved.ensures.items c.reserve_two.ensures.heads c.new_gate.ensures.room (c.as_slice-2.ensures ∙ c.row_of-row.ensures)
+
+-- the nodes with both gates
+second : (c : goal.After-self-3-1) → nodes_of c.push_reserved-2.new.self.items ≡ with_node (gated (nodes_of c.self.inside.heads.items) c.self.inside.numbers) (second_gate c.self.inside.numbers)
+second c =
+    let heads = c.self.inside.heads.items in
+    let n = c.self.inside.numbers in
+    let first = first_put heads _ _ _ n _ _ c.push_reserved.ensures.items c.reserve_two.ensures.heads c.new_gate.ensures.node c.new-none.ensures.items c.no_sums.ensures in
+    let sums = c.row_sums-sums.ensures.sums ∙ ap (λ hs. sums_of (pending_in (nodes_of hs)) c.as_slice.result.now) c.deref.ensures.value in
+    second_put (nodes_of heads) _ _ _ _ n _ _ _ _ first (c.as_slice.ensures ∙ c.row_of-row.ensures) (c.as_slice-2.ensures ∙ c.row_of-row.ensures) c.row_of-row.ensures sums c.link.ensures.nodes c.push_reserved-2.ensures.items c.new_gate-2.ensures.node
+
+pub returns-clause-ok : goal.returns-clause-ok
+returns-clause-ok c =
+    let heads = c.self.inside.heads.items in
+    let n = c.self.inside.numbers in
+    let clear = c.in_default.ensures.clear in
+    rw (← c.self.view_is, patches_paired heads c.push_reserved-2.new.self.items n (second c)) (adds_pair (patches_of heads) n c.self.invariant.keeps.lawful c.self.inside.blocks _ refl refl refl clear)
+
+pub invariant_of-self-2 : goal.invariant_of-self-2
+invariant_of-self-2 c =
+    let heads = c.self.inside.heads.items in
+    let n = c.self.inside.numbers in
+    let blocks = c.self.inside.blocks in
+    let K = c.self.invariant.keeps in
+    let clear = c.in_default.ensures.clear in
+    let free : c.reserve_two.new.heads.len + 2 ≤ c.reserve_two.new.queue.cap = search rules in
+    let room : length (nodes_of heads) + 2 ≤ c.reserve_two.new.queue.cap = let same = ap length c.reserve_two.ensures.heads in omega (arith, free, same, c.reserve_two.new.heads.ok.0, length-map heads node_of) in record {
+      keeps = rw (patches_paired heads c.push_reserved-2.new.self.items n (second c), c.grow-2.ensures.marks, c.grow.ensures.marks, c.reserve_two.ensures.marks)
+          (keeps_pair (patches_of heads) n K.lawful blocks c.self.inside.walks.walk.marks K clear.0);
+      beside = rw (patches_paired heads c.push_reserved-2.new.self.items n (second c))
+          (subst (λ k. Beside (paired (patches_of heads) n) blocks k c.self.inside.walks.crossed.items) (omega arith)
+          (beside_made (with_head (patches_of heads) n) blocks (c.self.inside.live + 1) 1 c.self.inside.walks.crossed.items (fresh (n + 1 + 1) OpenGate ((n + 1) ∷ [])) refl
+          (beside_made (patches_of heads) blocks c.self.inside.live 1 c.self.inside.walks.crossed.items (fresh (n + 1) OpenGate []) refl c.self.invariant.beside)));
+      tallies = rw (second c, c.reserve_two.ensures.queue) (tallies_pair heads n blocks _ _ _ _ c.reserve_two.new.queue.cap K.lawful c.self.invariant.tallies room);
+      prepared = tt;
+    }
+
+pub invariant_of-self-then-is_err : goal.invariant_of-self-then-is_err
+invariant_of-self-then-is_err c =
+    let K = c.self.invariant.keeps in record {
+      keeps = rw (c.reserve_two.ensures.heads, c.reserve_two.ensures.marks) K;
+      beside = rw c.reserve_two.ensures.heads c.self.invariant.beside;
+      tallies = rw c.reserve_two.ensures.heads (tallies_wider _ c.self.inside.numbers c.self.inside.blocks _ _ _ _ _ _ c.self.invariant.tallies c.reserve_two.ensures.queue c.reserve_two.ensures.wide);
+      prepared = tt;
+    }
+
+pub returns-in-Some-clause-refused : goal.returns-in-Some-clause-refused
+returns-in-Some-clause-refused c = rw (← c.self.view_is) (inl c.in-Some.ensures.first)

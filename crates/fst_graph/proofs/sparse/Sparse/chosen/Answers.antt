@@ -1,0 +1,77 @@
+use Rattle.std.proofs.Common.{◌≡◌, ◌∙◌, length, count_by, IfSome, option_map, sym, ap, subst, arith}
+use Rattle.fst_heads.specs.Heads.{patches_of}
+use Rattle.fst_heads.specs.Marks.{mark_in}
+use Rattle.fst_heads.specs.Nodes.{nodes_of}
+use Rattle.fst_heads.specs.Standings.{is_ready_on}
+use Rattle.fst_heads.proofs.Counts.{free_few}
+use Rattle.fst_heads.proofs.Slots.{rising_heads}
+use Rattle.fst_walks.proofs.Resting.{empty_set, none_yet, chosen_ready, chosen_refused}
+use Rattle.fst_graph.proofs.AtRest.{many_lists, its_list, its_standing, waits_live, behind_marked}
+use Rattle.fst_graph.proofs.sparse.Sparse.chosen.Goals as goal
+
+pub mark_flight-flying-requires-clause-rising : goal.mark_flight-flying-requires-clause-rising
+mark_flight-flying-requires-clause-rising c = rw c.deref-2.ensures.value (rising_heads c.self.inside.heads.items c.self.invariant.keeps.lawful.one_place_each.rising)
+
+pub mark_flight-flying-requires-clause-listed : goal.mark_flight-flying-requires-clause-listed
+mark_flight-flying-requires-clause-listed c =
+    rw (c.deref-3.ensures.value, c.deref-2.ensures.value)
+    (its_list c.self.invariant c.deref.result.now c.deref.ensures.value c.args.block.0 c.in-Some.ensures.lookup.3.0 c.in-Some.list.now c.in-Some.ensures.lookup.1)
+
+pub mark_flight-flying-requires-clause-live : goal.mark_flight-flying-requires-clause-live
+mark_flight-flying-requires-clause-live c = rw c.deref-2.ensures.value (waits_live c.self.invariant c.args.block.0)
+
+pub mark_flight-flying-requires-clause-linked : goal.mark_flight-flying-requires-clause-linked
+mark_flight-flying-requires-clause-linked c = rw c.deref-2.ensures.value c.self.invariant.tallies.linked
+
+pub ready_set-requires-clause-rising : goal.ready_set-requires-clause-rising
+ready_set-requires-clause-rising c = rw c.deref-6.ensures.value (rising_heads c.self.inside.heads.items c.self.invariant.keeps.lawful.one_place_each.rising)
+
+pub ready_set-requires-clause-listed : goal.ready_set-requires-clause-listed
+ready_set-requires-clause-listed c =
+    rw (c.deref-7.ensures.value, c.deref-6.ensures.value)
+    (its_list c.self.invariant c.deref.result.now c.deref.ensures.value c.args.block.0 c.in-Some.ensures.lookup.3.0 c.in-Some.list.now c.in-Some.ensures.lookup.1)
+
+pub ready_set-requires-clause-long : goal.ready_set-requires-clause-long
+ready_set-requires-clause-long c =
+    let same : length c.marks.result.now ≡ length c.deref-6.result.now =
+    ap length c.marks.ensures.marks ∙ (c.mark_flight-flying.ensures.long ∙ ap length (c.deref-2.ensures.value ∙ sym c.deref-6.ensures.value)) in
+    subst (λ k. IfSome c.marks_if-marks.result (λ m. length m.now ≡ k)) same c.marks_if-marks.ensures.long
+
+pub ready_set-requires-clause-most : goal.ready_set-requires-clause-most
+ready_set-requires-clause-most c =
+    let b = c.args.block.0 in
+    let heads = c.deref-6.result.now in
+    let few = free_few (mark_in heads (option_map (λ m. m.now) c.marks_if-marks.result)) b (nodes_of heads) in
+    let stands = its_standing c.self.invariant c.deref.result.now c.deref.ensures.value b c.in-Some.ensures.lookup.3.0 c.deref-5.result.now c.deref-5.ensures.value in
+    let most : c.ready_count-most.result ≡ count_by (is_ready_on b) (nodes_of heads) =
+    c.ready_count-most.ensures none_yet stands.0 ∙ (ap (λ t. t.ready) (stands.1 none_yet) ∙ ap (λ hs. count_by (is_ready_on b) (nodes_of hs)) (sym c.deref-6.ensures.value)) in
+    omega (arith, few, most)
+
+pub returns-in_default-clause-ok : goal.returns-in_default-clause-ok
+returns-in_default-clause-ok c =
+    let s = c.self.inside in
+    let past = c.in_default.ensures.lookup.3 in
+    let many = many_lists c.self.invariant c.deref.result.now c.deref.ensures.value in
+    rw (← c.self.view_is, c.new.ensures.items) (empty_set (patches_of s.heads.items) s.blocks c.args.block.0 c.self.invariant.keeps.inside (λ lt. omega (arith, lt, past, many)))
+
+pub returns-clause-ok : goal.returns-clause-ok
+returns-clause-ok c =
+    let s = c.self.inside in
+    let heads = s.heads.items in
+    let b = c.args.block.0 in
+    let given = option_map (λ m. m.now) c.marks_if-marks.result in
+    let exact = behind_marked heads c.deref-2.result.now b c.mark_flight-flying.result c.marks.result.now c.mark_flight-flying.new.walk.marks given c.deref-2.ensures.value c.marks.ensures.marks c.mark_flight-flying.ensures.behind c.marks_if-marks.ensures.marks in
+    rw (← c.self.view_is)
+    (chosen_ready heads s.numbers s.blocks s.walks.walk.marks _ s.standings.items s.queue.items s.queue.cap b c.self.invariant.keeps c.self.invariant.tallies (mark_in heads given) exact c.ready_set.result
+    (rw (← c.deref-6.ensures.value) c.ready_set.ensures.ok))
+
+pub returns-clause-refused : goal.returns-clause-refused
+returns-clause-refused c =
+    let s = c.self.inside in
+    let heads = s.heads.items in
+    let b = c.args.block.0 in
+    let given = option_map (λ m. m.now) c.marks_if-marks.result in
+    let exact = behind_marked heads c.deref-2.result.now b c.mark_flight-flying.result c.marks.result.now c.mark_flight-flying.new.walk.marks given c.deref-2.ensures.value c.marks.ensures.marks c.mark_flight-flying.ensures.behind c.marks_if-marks.ensures.marks in
+    rw (← c.self.view_is)
+    (chosen_refused heads s.numbers s.blocks s.walks.walk.marks _ s.standings.items s.queue.items s.queue.cap b c.self.invariant.keeps c.self.invariant.tallies (mark_in heads given) exact c.ready_set.result
+    (rw (← c.deref-6.ensures.value) c.ready_set.ensures.refused))

@@ -1,0 +1,81 @@
+use Rattle.std.proofs.Common.{◌≡◌, ◌∙◌, ◌&&◌, ℕ, Bool, None, length, count_by, IfSome, option_map, sym, ap, subst, arith}
+use Rattle.fst_heads.specs.Heads.{patches_of}
+use Rattle.fst_heads.specs.Marks.{mark_in, mark_of}
+use Rattle.fst_heads.specs.Nodes.{nodes_of}
+use Rattle.fst_heads.specs.Standings.{is_held_on}
+use Rattle.fst_heads.proofs.Counts.{none_bound}
+use Rattle.fst_heads.proofs.Slots.{rising_heads}
+use Rattle.fst_walks.proofs.Resting.{none_yet, none_there, none_held, least_held}
+use Rattle.fst_graph.proofs.AtRest.{many_lists, its_list, its_standing, waits_live, behind_marked}
+use Rattle.fst_graph.proofs.sparse.Sparse.hard_held.Goals as goal
+
+pub mark_flight-flying-requires-clause-rising : goal.mark_flight-flying-requires-clause-rising
+mark_flight-flying-requires-clause-rising c = rw c.deref-2.ensures.value (rising_heads c.self.inside.heads.items c.self.invariant.keeps.lawful.one_place_each.rising)
+
+pub mark_flight-flying-requires-clause-listed : goal.mark_flight-flying-requires-clause-listed
+mark_flight-flying-requires-clause-listed c =
+    rw (c.deref-3.ensures.value, c.deref-2.ensures.value)
+    (its_list c.self.invariant c.deref.result.now c.deref.ensures.value c.args.block.0 c.in-Some.ensures.lookup.3.0 c.in-Some.list.now c.in-Some.ensures.lookup.1)
+
+pub mark_flight-flying-requires-clause-live : goal.mark_flight-flying-requires-clause-live
+mark_flight-flying-requires-clause-live c = rw c.deref-2.ensures.value (waits_live c.self.invariant c.args.block.0)
+
+pub mark_flight-flying-requires-clause-linked : goal.mark_flight-flying-requires-clause-linked
+mark_flight-flying-requires-clause-linked c = rw c.deref-2.ensures.value c.self.invariant.tallies.linked
+
+pub first_held-requires-clause-rising : goal.first_held-requires-clause-rising
+first_held-requires-clause-rising c = rw c.deref-5.ensures.value (rising_heads c.self.inside.heads.items c.self.invariant.keeps.lawful.one_place_each.rising)
+
+pub first_held-requires-clause-listed : goal.first_held-requires-clause-listed
+first_held-requires-clause-listed c =
+    rw (c.deref-6.ensures.value, c.deref-5.ensures.value)
+    (its_list c.self.invariant c.deref.result.now c.deref.ensures.value c.args.block.0 c.in-Some.ensures.lookup.3.0 c.in-Some.list.now c.in-Some.ensures.lookup.1)
+
+pub first_held-requires-clause-long : goal.first_held-requires-clause-long
+first_held-requires-clause-long c =
+    let same : length c.marks.result.now ≡ length c.deref-5.result.now =
+    ap length c.marks.ensures.marks ∙ (c.mark_flight-flying.ensures.long ∙ ap length (c.deref-2.ensures.value ∙ sym c.deref-5.ensures.value)) in
+    subst (λ k. IfSome c.marks_if-marks.result (λ m. length m.now ≡ k)) same c.marks_if-marks.ensures.long
+
+pub returns-in_default-clause-none : goal.returns-in_default-clause-none
+returns-in_default-clause-none c =
+    let s = c.self.inside in
+    let past = c.in_default.ensures.lookup.3 in
+    let many = many_lists c.self.invariant c.deref.result.now c.deref.ensures.value in
+    rw (← c.self.view_is) (λ p h. none_there (patches_of s.heads.items) s.blocks c.args.block.0 c.self.invariant.keeps.inside (λ lt. omega (arith, lt, past, many)) p h.in_memory)
+
+pub returns-then-held_count-eq0-clause-none : goal.returns-then-held_count-eq0-clause-none
+returns-then-held_count-eq0-clause-none c =
+    let s = c.self.inside in
+    let heads = s.heads.items in
+    let b = c.args.block.0 in
+    let mark : ℕ → Bool = mark_of heads c.mark_flight-flying.new.walk.marks in
+    let behind : ℕ → Bool = λ n. c.mark_flight-flying.result && mark n in
+    let stands = its_standing c.self.invariant c.deref.result.now c.deref.ensures.value b c.in-Some.ensures.lookup.3.0 c.deref-then-not-flying.result.now c.deref-then-not-flying.ensures.value in
+    let held : c.held_count.result ≡ count_by (is_held_on b) (nodes_of heads) = c.held_count.ensures none_yet stands.0 ∙ ap (λ t. t.held) (stands.1 none_yet) in
+    let none = none_bound behind b (nodes_of heads) (λ n. ap (λ t. t && mark n) c.if-not-flying.true) (omega (arith, held, c.if-held_count-eq0.true)) in
+    rw (← c.self.view_is)
+    (none_held heads s.numbers s.blocks s.walks.walk.marks _ s.standings.items s.queue.items s.queue.cap b c.self.invariant.keeps c.self.invariant.tallies behind
+    (λ n. rw (← c.deref-2.ensures.value) (c.mark_flight-flying.ensures.behind n)) None none)
+
+pub returns-clause-none : goal.returns-clause-none
+returns-clause-none c =
+    let s = c.self.inside in
+    let heads = s.heads.items in
+    let b = c.args.block.0 in
+    let given = option_map (λ m. m.now) c.marks_if-marks.result in
+    let exact = behind_marked heads c.deref-2.result.now b c.mark_flight-flying.result c.marks.result.now c.mark_flight-flying.new.walk.marks given c.deref-2.ensures.value c.marks.ensures.marks c.mark_flight-flying.ensures.behind c.marks_if-marks.ensures.marks in
+    rw (← c.self.view_is)
+    (none_held heads s.numbers s.blocks s.walks.walk.marks _ s.standings.items s.queue.items s.queue.cap b c.self.invariant.keeps c.self.invariant.tallies (mark_in heads given) exact c.first_held.result
+    (rw (← c.deref-5.ensures.value) c.first_held.ensures.none))
+
+pub returns-clause-least : goal.returns-clause-least
+returns-clause-least c =
+    let s = c.self.inside in
+    let heads = s.heads.items in
+    let b = c.args.block.0 in
+    let given = option_map (λ m. m.now) c.marks_if-marks.result in
+    let exact = behind_marked heads c.deref-2.result.now b c.mark_flight-flying.result c.marks.result.now c.mark_flight-flying.new.walk.marks given c.deref-2.ensures.value c.marks.ensures.marks c.mark_flight-flying.ensures.behind c.marks_if-marks.ensures.marks in
+    rw (← c.self.view_is)
+    (least_held heads s.numbers s.blocks s.walks.walk.marks _ s.standings.items s.queue.items s.queue.cap b c.self.invariant.keeps c.self.invariant.tallies (mark_in heads given) exact c.first_held.result
+    (rw (← c.deref-5.ensures.value) c.first_held.ensures.least))

@@ -1,0 +1,23 @@
+use Rattle.std.proofs.Common.{◌≡◌, [], length, refl, arith}
+use Rattle.fst_heads.proofs.Making.{keeps_none}
+use Rattle.fst_graph.proofs.Tallied.{tallies_from}
+use Rattle.fst_graph.proofs.sparse.Sparse.new.Goals as goal
+
+pub invariant_of-result : goal.invariant_of-result
+invariant_of-result c =
+    let places : length c.in-Ok.crossed.items ≡ c.args.shape.blocks = omega (arith, c.in-Ok.crossed.ok.0, c.in-Ok.ensures.len) in
+    let K = keeps_none c.args.numbers c.args.shape.blocks (omega (arith, c.ranges.numbers.fits)) in
+    record {
+      keeps = rw (c.new.ensures.items, c.new-2.ensures) K;
+      beside = rw c.new.ensures.items (record { places = places; counted = refl });
+      tallies = rw (c.new.ensures.items, c.new-3.ensures.items) (tallies_from [] c.args.numbers c.args.numbers c.args.shape.blocks _ _ [] _ K.lawful
+          (λ p q h. absurd (omega (arith, h.1)))
+          (λ x n h. absurd (omega (arith, h.1)))
+          (λ x h. absurd (omega (arith, h.1)))
+          (record { summed = λ x h. absurd (omega (arith, h.1)); settled = λ x h. absurd (omega (arith, h.1)); placed = λ x h. absurd (omega (arith, h.1)); inside = λ x b h. absurd (omega (arith, h.1)) })
+          c.in-Ok-empty_lists.ensures
+          c.in-Ok-empty_standings.ensures
+          refl
+          (omega arith));
+      prepared = tt;
+    }

@@ -1,0 +1,38 @@
+use Rattle.std.proofs.Common.{◌≡◌, ◌<◌, ℕ, true, false, List, Option, Some, None, MatchOption, length, get_or, option_map, subst, arith}
+use Rattle.fst_types.specs.declared.number.BlockNo.{BlockNo}
+use Rattle.fst_types.specs.Looks.{IsPick}
+use Rattle.fst_types.specs.Patches.{Patch}
+use Rattle.fst_heads.specs.declared.standing.Standing.{Standing}
+use Rattle.fst_heads.specs.Heads.{patches_of}
+use Rattle.fst_heads.specs.Keeps.{IsInside}
+use Rattle.fst_heads.specs.Standings.{AreMarked, may_be_written}
+use Rattle.fst_heads.proofs.AtNumber.{patches_in_nodes}
+use Rattle.fst_graph.proofs.Marking.{picked_none, picked_some}
+use Rattle.fst_graph.proofs.Picked.{stuck_by_gates}
+use Rattle.fst_graph.proofs.sparse.Sparse.pick.Goals as goal
+
+-- the least block whose mark is true is the pick
+picked : (patches : List Patch) (standings : List Standing) (blocks : ℕ) (r : Option BlockNo) → length standings ≡ blocks → IsInside patches blocks → AreMarked patches blocks standings
+    → MatchOption r
+    ((b : ℕ) (d : Standing) → b < length standings → may_be_written (get_or standings b d) ≡ false)
+    (λ no. (no.0 < length standings) × ((d : Standing) → may_be_written (get_or standings no.0 d) ≡ true) × ((b : ℕ) (d : Standing) → b < no.0 → may_be_written (get_or standings b d) ≡ false))
+    → IsPick patches (option_map (λ b. b.0) r)
+picked patches standings blocks None long inside M none = picked_none patches blocks standings inside M (λ b d lt. none b d (omega (arith, lt, long)))
+picked patches standings blocks (Some b) long inside M some = picked_some patches blocks b.0 standings M (omega (arith, some.0, long)) some.1 some.2
+
+pub returns-clause-least : goal.returns-clause-least
+returns-clause-least c =
+    let heads = c.self.inside.heads.items in
+    let T = c.self.invariant.tallies in
+    let M = subst (λ ps. AreMarked ps c.self.inside.blocks c.self.inside.standings.items) (patches_in_nodes heads) T.marked in
+    rw (← c.self.view_is)
+    (picked (patches_of heads) c.self.inside.standings.items c.self.inside.blocks c.least_marked.result T.standing.long c.self.invariant.keeps.inside M (rw (← c.deref.ensures.value) c.least_marked.ensures))
+
+pub returns-clause-never_stuck : goal.returns-clause-never_stuck
+returns-clause-never_stuck c =
+    let heads = c.self.inside.heads.items in
+    let T = c.self.invariant.tallies in
+    let K = c.self.invariant.keeps in
+    let M = subst (λ ps. AreMarked ps c.self.inside.blocks c.self.inside.standings.items) (patches_in_nodes heads) T.marked in
+    let pick = picked (patches_of heads) c.self.inside.standings.items c.self.inside.blocks c.least_marked.result T.standing.long K.inside M (rw (← c.deref.ensures.value) c.least_marked.ensures) in
+    rw (← c.self.view_is) (stuck_by_gates (patches_of heads) c.least_marked.result K.lawful.no_cycle K.lawful.hard_never_hold pick)

@@ -1,0 +1,381 @@
+//! The patches that are not forgotten, without the groups. What stands beside them tells what may be written, so that most
+//! calls look at the patches that they touch, and at those that depend on these. Between two calls of its own a call of a
+//! group has no group as it should be, so that the groups and what holds of them stand a layer above, in the graph.
+
+ghost use Rattle.std.specs.Prelude.{◌≡◌, ◌<◌, ◌≤◌, [], None, IfOk, IfErr, OnErr, IfSome, IfNone, OnOk, option_map, MatchResult, length, vec_len, vec_capacity, ℕ, count_by};
+ghost use Rattle.fst_types.specs.Patches.{Patch};
+ghost use Rattle.fst_types.specs.Looks.{place_of, IsPick};
+ghost use Rattle.fst_types.specs.Order.{room_order, make_order, seal_order, depend_order};
+ghost use Rattle.fst_types.specs.Refusals.{IsFirst, NoneHolds};
+ghost use Rattle.fst_types.specs.Writable.{IsWritableSet, HasReady, IsHeld, IsLeastHeld};
+ghost use Rattle.fst_types.specs.Tests.{is_live};
+ghost use Rattle.fst_graph.specs.Known.{unprepared, rest_place, Refuses, AddsGate, AddsEmpty, SealsGate, DependsGate, Launches, IsStuckByGates, LandsBlock, MayLaunch, Forgets};
+ghost use Rattle.fst_heads.specs.Names.{numbers_of};
+
+mod grouping;
+mod making;
+mod pairs;
+
+use crate::gates::{depend_fault, gate_slot};
+use crate::prepared::Prepared;
+use crate::refusals::{make_fault, room_fault};
+use fst_heads::cascade::{cascade, seal_slot};
+use fst_heads::choice::{first_held, ready_set};
+use fst_heads::growth::{gain, missing_names};
+use fst_heads::head::{Head, Kind};
+use fst_heads::links::{link, reserve_above};
+use fst_heads::lists::{Listed, empty_lists, land_block};
+use fst_heads::marks::{marks_if, slot_of};
+use fst_heads::pending::{Pending, no_sums};
+use fst_heads::places::{block_of, keep_live, launch_all, weight};
+use fst_heads::row::{is_given, live_named, row_sums};
+use fst_heads::standing::{
+    Standing, empty_standings, flying_count, held_count, land_at, least_marked, ready_count,
+};
+use fst_types::{BlockNo, Fault, PatchNo, Place, Shape};
+use fst_walks::ascent::mark_flight;
+use fst_walks::block_walk::BlockWalk;
+use fst_walks::walk::Walk;
+use smallvec::SmallVec;
+use std::alloc::{AllocError, Global};
+use std::marker::Model;
+
+/// The heads, which are the patches not forgotten, in order of number. `walks` has a mark for each, and a place for each
+/// block, for the walks that find grades and cycles. `lists` has for each block its changes that are not on disk, and
+/// `standings` has the mark of each. `queue` has a place for each head, for those of which their dependants are to be told.
+/// Where a change is prepared, there is a free place for it in each. `live` is how many of the patches are not on disk.
+#[derive(Drop)]
+pub struct Sparse {
+    alloc: Global,
+    heads: Vec<Head>,
+    walks: BlockWalk,
+    lists: Vec<Vec<Listed>>,
+    standings: Vec<Standing>,
+    queue: Vec<u32>,
+    live: usize,
+    numbers: u32,
+    blocks: u32,
+    prepared: Option<Prepared>,
+}
+
+impl Model for Sparse {
+    ghost use Rattle.fst_heads.specs.Heads.{patches_of};
+    ghost use Rattle.std.specs.Prelude.{[], option_map};
+    ghost use Rattle.fst_graph.specs.Known.{Known};
+    ghost use Rattle.fst_graph.specs.Ready.{prepared_of};
+    ghost use Rattle.fst_graph.specs.Sound.{AreSound};
+
+    ghost Value = { Known };
+
+    ghost view = { λ g. record { heads = patches_of g.heads.items; numbers = g.numbers; blocks = g.blocks; groups = []; prepared = option_map (prepared_of g.numbers) g.prepared } };
+
+    ghost invariant = { λ g. AreSound g.heads g.walks g.lists g.standings g.queue g.live g.numbers g.blocks g.prepared };
+}
+
+// Room for one more head.
+fn reserve_one(
+    heads: &mut Vec<Head>,
+    walk: &mut Walk,
+    queue: &mut Vec<u32>,
+) -> Result<(), AllocError>
+    ensures heads { heads.new.items ≡ heads.old.items }
+    ensures marks { walk.new.marks ≡ walk.old.marks }
+    ensures room_heads { OnOk result (vec_len heads.new < vec_capacity heads.new) }
+    ensures room_marks { OnOk result (length walk.new.marks < walk.new.room) }
+    ensures queue { queue.new.items ≡ queue.old.items }
+    ensures room_queue { OnOk result (vec_len heads.new < vec_capacity queue.new) }
+    ensures wide { vec_capacity queue.old ≤ vec_capacity queue.new }
+{
+    heads.reserve(1)?;
+    walk.reserve(1)?;
+    queue.reserve(heads.len() + 1)
+}
+
+// Where a new empty patch is: on disk where it depends on nothing live.
+fn resting_place(row: &[u32]) -> Place
+    ensures { result ≡ rest_place row.now }
+{
+    match row {
+        [] => Place::Disk,
+        _ => Place::Memory,
+    }
+}
+
+impl Sparse {
+    /// No patch, the numbers up to the given one counting as on disk and forgotten. It takes a byte and a list for each
+    /// block, and is refused as `Memory`.
+    pub fn new(alloc: Global, shape: Shape, numbers: u32) -> Result<Sparse, Fault>
+        ensures { MatchResult result (λ g. g ≡ record { heads = []; numbers = numbers; blocks = shape.blocks; groups = []; prepared = None }) (λ f. f ≡ Fault.Memory) }
+    {
+        let Ok(crossed) = vec![in alloc; false; shape.blocks as usize] else {
+            return Err(Fault::Memory);
+        };
+        let Ok(lists) = empty_lists(alloc, shape.blocks) else {
+            return Err(Fault::Memory);
+        };
+        let Ok(standings) = empty_standings(alloc, shape.blocks) else {
+            return Err(Fault::Memory);
+        };
+        Ok(Sparse {
+            alloc,
+            heads: Vec::new(alloc),
+            walks: BlockWalk {
+                walk: Walk::new(alloc),
+                crossed,
+            },
+            lists,
+            standings,
+            queue: Vec::new(alloc),
+            live: 0,
+            numbers,
+            blocks: shape.blocks,
+            prepared: None,
+        })
+    }
+
+    /// What is prepared is prepared no more.
+    pub fn unprepare(&mut self)
+        ensures { self.new ≡ unprepared self.old }
+    {
+        self.prepared = None;
+    }
+
+    /// How many patches are not on disk. It takes no memory.
+    pub fn live(&self) -> u32
+        ensures { result ≡ count_by is_live self.now.heads }
+    {
+        self.live as u32
+    }
+
+    /// Where a patch is: none for a number that was not given, the disk for one that was forgotten. It takes no memory.
+    pub fn place(&self, no: PatchNo) -> Option<Place>
+        ensures { result ≡ place_of self.now.heads self.now.numbers no.0 }
+    {
+        if !is_given(self.numbers, no.0) {
+            return None;
+        }
+        match slot_of(&self.heads, no.0) {
+            Some(slot) => Some(self.heads[slot].place),
+            None => Some(Place::Disk),
+        }
+    }
+
+    /// A new gate, open, without dependencies. It is refused as `Full(Heads)` where 65,535 patches are not forgotten, as
+    /// `Full(Numbers)` where the last number was given, and as `Memory`.
+    pub fn add_gate(&mut self) -> Result<PatchNo, Fault>
+        ensures ok { IfOk result (λ no. AddsGate self.old no.0 self.new) }
+        ensures refused { IfErr result (Refuses (room_order self.old.heads self.old.numbers)) }
+        ensures same { OnErr result (self.new ≡ unprepared self.old) }
+        ensures blocks { self.new.blocks ≡ self.old.blocks }
+    {
+        self.prepared = None;
+        if let Some(fault) = room_fault(&self.heads, self.numbers) {
+            return Err(fault);
+        }
+        if reserve_one(&mut self.heads, &mut self.walks.walk, &mut self.queue).is_err() {
+            return Err(Fault::Memory);
+        }
+        let number = self.numbers + 1;
+        self.heads.push_reserved(Head {
+            number,
+            kind: Kind::OpenGate,
+            place: Place::Memory,
+            dependencies: SmallVec::new(self.alloc),
+            sums: no_sums(),
+            pending: Pending::Held,
+            dependants: SmallVec::new(self.alloc),
+        });
+        self.walks.walk.grow();
+        self.live += 1;
+        self.numbers = number;
+        Ok(PatchNo(number))
+    }
+
+    /// A new empty patch, which depends on the named patches that are not on disk. It is on disk at once where none is.
+    /// It is refused as `BadField` where more than 64 are named, as `NoPatch` where one was never given, as `Full(Heads)`
+    /// and `Full(Numbers)`, and as `Memory`.
+    pub fn add_empty(&mut self, after: &[PatchNo]) -> Result<PatchNo, Fault>
+        ensures ok { IfOk result (λ no. AddsEmpty self.old (numbers_of after.now) no.0 self.new) }
+        ensures refused { IfErr result (Refuses (make_order self.old.heads self.old.numbers (numbers_of after.now))) }
+        ensures same { OnErr result (self.new ≡ unprepared self.old) }
+        ensures blocks { self.new.blocks ≡ self.old.blocks }
+    {
+        self.prepared = None;
+        if let Some(fault) = make_fault(&self.heads, self.numbers, after) {
+            return Err(fault);
+        }
+        let Ok(dependencies) = live_named(self.alloc, &self.heads, after) else {
+            return Err(Fault::Memory);
+        };
+        if reserve_one(&mut self.heads, &mut self.walks.walk, &mut self.queue).is_err() {
+            return Err(Fault::Memory);
+        }
+        if reserve_above(&mut self.heads, dependencies.as_slice()).is_err() {
+            return Err(Fault::Memory);
+        }
+        let number = self.numbers + 1;
+        let place = resting_place(dependencies.as_slice());
+        let sums = row_sums(&self.heads, dependencies.as_slice());
+        link(&mut self.heads, dependencies.as_slice(), number);
+        self.heads.push_reserved(Head {
+            number,
+            kind: Kind::Empty,
+            place,
+            dependencies,
+            sums,
+            pending: sums.joined(),
+            dependants: SmallVec::new(self.alloc),
+        });
+        self.walks.walk.grow();
+        self.live += weight(place);
+        self.numbers = number;
+        Ok(PatchNo(number))
+    }
+
+    /// The writable set of the block, in order of number. `Memory` is answered only where it is not empty.
+    pub fn chosen(&mut self, block: BlockNo) -> Result<Vec<PatchNo>, Fault>
+        ensures ok { IfOk result (λ numbers. IsWritableSet self.old.heads block.0 (numbers_of numbers.items)) }
+        ensures refused { IfErr result (λ f. HasReady self.old.heads block.0 × (f ≡ Fault.Memory)) }
+        ensures same { self.new ≡ unprepared self.old }
+    {
+        self.prepared = None;
+        let Some(list) = self.lists.get(block.0 as usize) else {
+            return Ok(Vec::new(self.alloc));
+        };
+        let walk = &mut self.walks.walk;
+        let flying = mark_flight(&self.heads, list, &self.standings, walk, block.0);
+        let marks = marks_if(flying, self.walks.walk.marks());
+        let most = ready_count(&self.standings, block.0);
+        ready_set(self.alloc, &self.heads, list, marks, most, block.0)
+    }
+
+    /// Seals an open gate, and puts on disk what now rests there. It is refused as `NoPatch` where the number was not
+    /// given, as `NotGate` where it is no gate's or forgotten, and as `Sealed`. It takes no memory.
+    pub fn seal(&mut self, gate: PatchNo) -> Result<(), Fault>
+        ensures ok { OnOk result (SealsGate self.old gate.0 self.new) }
+        ensures refused { IfErr result (IsFirst (seal_order self.old.heads self.old.numbers gate.0)) }
+        ensures same { OnErr result (self.new ≡ unprepared self.old) }
+        ensures blocks { self.new.blocks ≡ self.old.blocks }
+    {
+        self.prepared = None;
+        let slot = match gate_slot(&self.heads, self.numbers, gate.0) {
+            Ok(slot) => slot,
+            Err(fault) => return Err(fault),
+        };
+        seal_slot(&mut self.heads, &mut self.queue, gate.0, slot);
+        let landed = cascade(&mut self.heads, &mut self.queue, &mut self.standings);
+        self.live -= landed;
+        Ok(())
+    }
+
+    /// The open gate gains the named patches that are not on disk and that it does not have yet. It is refused as
+    /// `NoPatch` where the gate's number was not given, as `NotGate` where it is no gate's or forgotten, as `Sealed`, as
+    /// `BadField` where more than 64 are named, as `NoPatch` where one was never given, as `Cycle` exactly where one is
+    /// the gate or depends on it, and as `Memory`.
+    pub fn depend(&mut self, gate: PatchNo, on: &[PatchNo]) -> Result<(), Fault>
+        ensures ok { OnOk result (DependsGate self.old gate.0 (numbers_of on.now) self.new) }
+        ensures refused { IfErr result (Refuses (depend_order self.old.heads self.old.numbers gate.0 (numbers_of on.now))) }
+        ensures same { OnErr result (self.new ≡ unprepared self.old) }
+        ensures blocks { self.new.blocks ≡ self.old.blocks }
+    {
+        self.prepared = None;
+        if let Some(fault) = depend_fault(
+            &self.heads,
+            &mut self.walks.walk,
+            self.numbers,
+            gate.0,
+            on,
+        ) {
+            return Err(fault);
+        }
+        let Ok(names) = missing_names(self.alloc, &self.heads, gate.0, on) else {
+            return Err(Fault::Memory);
+        };
+        let Ok(()) = reserve_above(&mut self.heads, names.as_slice()) else {
+            return Err(Fault::Memory);
+        };
+        let sums = row_sums(&self.heads, names.as_slice());
+        let Ok(()) = gain(&mut self.heads, gate.0, names.as_slice(), sums) else {
+            return Err(Fault::Memory);
+        };
+        link(&mut self.heads, names.as_slice(), gate.0);
+        Ok(())
+    }
+
+    /// Puts the chosen in flight, which are the writable set of a writable block. It takes no memory.
+    pub fn launch(&mut self, chosen: &[PatchNo])
+        requires { MayLaunch self.old (numbers_of chosen.now) }
+        ensures launched { Launches self.old (numbers_of chosen.now) self.new }
+        ensures blocks { self.new.blocks ≡ self.old.blocks }
+    {
+        self.prepared = None;
+        let Some(first) = chosen.first() else {
+            return;
+        };
+        let Some(block) = block_of(&self.heads, first.0) else {
+            return;
+        };
+        launch_all(&mut self.heads, chosen);
+        self.standings[block as usize].launch();
+    }
+
+    /// Puts on disk what is in flight of the block, and what now rests there. It takes no memory.
+    pub fn land(&mut self, block: BlockNo)
+        ensures landed { LandsBlock self.old block.0 self.new }
+        ensures blocks { self.new.blocks ≡ self.old.blocks }
+    {
+        self.prepared = None;
+        let flying = flying_count(&self.standings, block.0);
+        land_block(
+            &mut self.heads,
+            &mut self.lists,
+            &mut self.queue,
+            flying,
+            block.0,
+        );
+        land_at(&mut self.standings, block.0);
+        let landed = cascade(&mut self.heads, &mut self.queue, &mut self.standings);
+        self.live -= landed;
+    }
+
+    /// Forgets the patches on disk, and answers how many they were. It takes no memory.
+    pub fn forget(&mut self) -> u32
+        ensures { Forgets self.old result self.new }
+    {
+        self.prepared = None;
+        let before = self.heads.len();
+        keep_live(&mut self.heads, self.live);
+        self.walks.walk.shrink(self.heads.len());
+        (before - self.heads.len()) as u32
+    }
+
+    /// The least hard patch of the block in memory outside its writable set. It takes no memory.
+    pub fn hard_held(&mut self, block: BlockNo) -> Option<PatchNo>
+        ensures none { IfNone result ((p : Patch) → IsHeld self.old.heads block.0 p → ⊥) }
+        ensures least { IfSome result (λ no. IsLeastHeld self.old.heads block.0 no.0) }
+        ensures same { self.new ≡ unprepared self.old }
+    {
+        self.prepared = None;
+        let Some(list) = self.lists.get(block.0 as usize) else {
+            return None;
+        };
+        let walk = &mut self.walks.walk;
+        let flying = mark_flight(&self.heads, list, &self.standings, walk, block.0);
+        if !flying && held_count(&self.standings, block.0) == 0 {
+            return None;
+        }
+        let marks = marks_if(flying, self.walks.walk.marks());
+        first_held(&self.heads, list, marks, block.0)
+    }
+
+    /// The least writable block, or none where no block is writable. Where nothing is in flight either, each change in
+    /// memory then waits for an open gate. It takes no memory, and looks at one mark a block.
+    pub fn pick(&mut self) -> Option<BlockNo>
+        ensures least { IsPick self.old.heads (option_map (λ b. b.0) result) }
+        ensures never_stuck { IfNone result (IsStuckByGates self.old.heads) }
+        ensures same { self.new ≡ unprepared self.old }
+    {
+        self.prepared = None;
+        least_marked(&self.standings)
+    }
+}

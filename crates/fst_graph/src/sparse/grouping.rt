@@ -1,0 +1,162 @@
+//! Making a change of a group: first room for it, while its head stays as it is, then the change itself.
+
+ghost use Rattle.std.specs.Prelude.{◌≡◌, ◌↔◌, ◌<◌, ◌+◌, ◌∷◌, [], ℕ, Some, IfOk, IfErr, IfSome, OnOk, OnErr, IsTrue};
+ghost use Rattle.fst_types.specs.declared.grade.Grade.{Grade};
+ghost use Rattle.fst_types.specs.Gates.{IsOpenNumber};
+ghost use Rattle.fst_types.specs.Refusals.{NoneHolds};
+ghost use Rattle.fst_graph.specs.Grouping.{SealsIfOpen};
+ghost use Rattle.fst_graph.specs.Known.{Known, Prepared, unprepared, member_for, Refuses, DependsGate};
+ghost use Rattle.fst_graph.specs.Membering.{ArePaired, member_order};
+ghost use Rattle.fst_graph.specs.Sparse.{AddsSparse, ForetellsSparse, GainsSparse};
+
+use crate::gates::gate_slot;
+use crate::member::prepare_member;
+use crate::sparse::pairs::row_of;
+use crate::sparse::{Sparse, reserve_one};
+use crate::prepared::Gates;
+use crate::refusals::member_fault;
+use fst_heads::cascade::{cascade, seal_slot};
+use fst_heads::growth::gain_one;
+use fst_heads::head::{Head, Kind};
+use fst_heads::links::{link, reserve_above, reserve_below};
+use fst_heads::lists::Listed;
+use fst_heads::pending::{Pending, is_pending, over_block};
+use fst_heads::row::row_sums;
+use fst_types::{BlockNo, Fault, Grade, PatchNo, Place, Span};
+use fst_walks::sight::Sight;
+use smallvec::SmallVec;
+
+impl Sparse {
+    /// Makes room for a new change of the group with these gates, and answers the number and the grade that it will have.
+    /// It is refused as `Cycle` exactly where a change that it overlaps depends on the tail, as `Full(Heads)` and
+    /// `Full(Numbers)`, and as `Memory`. The head stays as it is.
+    pub fn member_room(
+        &mut self,
+        gates: Gates,
+        block: BlockNo,
+        span: Span,
+    ) -> Result<(PatchNo, Grade), Fault>
+        requires block { block.0 < self.old.blocks }
+        requires gates { ArePaired self.old.heads self.old.numbers gates.head gates.tail }
+        ensures ok { IfOk result (λ made. ForetellsSparse (unprepared self.old) gates.head block.0 span.at span.len made.0.0 made.1) }
+        ensures prepared { IfOk result (λ made. self.new ≡ record self.old { prepared = Some (member_for gates.head block.0 span.at span.len made.0.0 made.1) }) }
+        ensures clear { OnOk result (NoneHolds (member_order self.old.heads self.old.numbers gates.tail block.0 span.at span.len)) }
+        ensures next { IfOk result (λ made. made.0.0 ≡ self.old.numbers + 1) }
+        ensures refused { IfErr result (Refuses (member_order self.old.heads self.old.numbers gates.tail block.0 span.at span.len)) }
+        ensures same { OnErr result (self.new ≡ unprepared self.old) }
+        ensures blocks { self.new.blocks ≡ self.old.blocks }
+    {
+        self.prepared = None;
+        let sight = Sight {
+            heads: &self.heads,
+            lists: &self.lists,
+            standings: &self.standings,
+        };
+        let walk = &mut self.walks.walk;
+        if let Some(fault) = member_fault(&sight, walk, self.numbers, gates.tail, block.0, span) {
+            return Err(fault);
+        }
+        let Ok(prepared) = prepare_member(self.alloc, &sight, &mut self.walks, block.0, span, gates)
+        else {
+            return Err(Fault::Memory);
+        };
+        if reserve_one(&mut self.heads, &mut self.walks.walk, &mut self.queue).is_err() {
+            return Err(Fault::Memory);
+        }
+        if reserve_above(&mut self.heads, prepared.dependencies.as_slice()).is_err() {
+            return Err(Fault::Memory);
+        }
+        if reserve_below(&mut self.heads, gates.tail).is_err() {
+            return Err(Fault::Memory);
+        }
+        if self.lists[block.0 as usize].reserve(1).is_err() {
+            return Err(Fault::Memory);
+        }
+        let grade = prepared.grade;
+        self.prepared = Some(prepared);
+        Ok((PatchNo(self.numbers + 1), grade))
+    }
+
+    /// Whether a change of the group with that head and these arguments is prepared.
+    pub fn is_member_prepared(&self, head: PatchNo, block: BlockNo, span: Span) -> bool
+        ensures { IsTrue result ↔ ((number : ℕ) × (grade : Grade) × (self.now.prepared ≡ Some (member_for head.0 block.0 span.at span.len number grade))) }
+    {
+        match &self.prepared {
+            Some(prepared) => prepared.is_for_group(head.0, block.0, span),
+            None => false,
+        }
+    }
+
+    // Seals the head of the group for which a change is prepared, if it is open, and puts on disk what now rests there. The
+    // change stays prepared.
+    fn begin_member(&mut self, head: u32)
+        requires { (p : Prepared) × (self.old.prepared ≡ Some p) × (p.group ≡ Some head) }
+        ensures begun { SealsIfOpen (unprepared self.old) head (unprepared self.new) }
+        ensures prepared { self.new.prepared ≡ self.old.prepared }
+        ensures closed { IsOpenNumber self.new.heads head → ⊥ }
+    {
+        match gate_slot(&self.heads, self.numbers, head) {
+            Ok(slot) => {
+                seal_slot(&mut self.heads, &mut self.queue, head, slot);
+                let landed = cascade(&mut self.heads, &mut self.queue, &mut self.standings);
+                self.live -= landed;
+            }
+            Err(_) => {}
+        }
+    }
+
+    // Puts down the change that is prepared for a group, whose head is not open, and the tail gains it.
+    fn put_member(&mut self, head: u32) -> (PatchNo, Grade)
+        requires prepared { (p : Prepared) × (self.old.prepared ≡ Some p) × (p.group ≡ Some head) }
+        requires closed { IsOpenNumber self.old.heads head → ⊥ }
+        ensures made { IfSome self.old.prepared (λ p. (with_change : Known) × AddsSparse (unprepared self.old) p.block p.at p.len (head ∷ []) result.0.0 result.1 with_change × DependsGate with_change (head + 1) (result.0.0 ∷ []) self.new) }
+        ensures foreseen { IfSome self.old.prepared (λ p. (result.0.0 ≡ p.number) × (result.1 ≡ p.grade)) }
+    {
+        let Some(prepared) = self.prepared.take() else {
+            unreachable!();
+        };
+        let Some(gates) = prepared.gates else {
+            unreachable!();
+        };
+        let number = self.numbers + 1;
+        let grade = prepared.grade;
+        let span = prepared.span;
+        let block = prepared.block;
+        let kind = Kind::Change(block, span, grade);
+        let sums = row_sums(&self.heads, prepared.dependencies.as_slice());
+        let pending = over_block(block, sums.joined());
+        link(&mut self.heads, prepared.dependencies.as_slice(), number);
+        self.heads.push_reserved(Head {
+            number,
+            kind,
+            place: Place::Memory,
+            dependencies: prepared.dependencies,
+            sums,
+            pending,
+            dependants: SmallVec::new(self.alloc),
+        });
+        self.lists[block as usize].push_reserved(Listed { number, span });
+        self.standings[block as usize].enter(kind, is_pending(pending, Pending::Block(block)));
+        self.walks.walk.grow();
+        self.live += 1;
+        self.numbers = number;
+        let row = row_of(self.alloc, number);
+        let gained = row_sums(&self.heads, row.as_slice());
+        gain_one(&mut self.heads, gates.tail, number, gained);
+        link(&mut self.heads, row.as_slice(), gates.tail);
+        (PatchNo(number), grade)
+    }
+
+    /// Puts down the change that is prepared for the group with that head, which is sealed if it is open; then the tail
+    /// depends on the change. It takes no memory.
+    pub fn add_member(&mut self, head: u32) -> (PatchNo, Grade)
+        requires { (p : Prepared) × (self.old.prepared ≡ Some p) × (p.group ≡ Some head) }
+        ensures added { IfSome self.old.prepared (λ p. GainsSparse (unprepared self.old) head (head + 1) p.block p.at p.len result.0.0 result.1 self.new) }
+        ensures foreseen { IfSome self.old.prepared (λ p. (result.0.0 ≡ p.number) × (result.1 ≡ p.grade)) }
+        ensures blocks { self.new.blocks ≡ self.old.blocks }
+    {
+        let _ = &self.heads;
+        self.begin_member(head);
+        self.put_member(head)
+    }
+}

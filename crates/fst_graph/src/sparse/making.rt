@@ -1,0 +1,132 @@
+//! Making a change: first room for it, then the change itself.
+
+ghost use Rattle.std.specs.Prelude.{◌≡◌, ◌↔◌, ◌<◌, ℕ, Some, IfOk, IfErr, OnErr, IfSome, MatchResult, IsTrue};
+ghost use Rattle.fst_types.specs.Order.{make_order};
+ghost use Rattle.fst_types.specs.declared.grade.Grade.{Grade};
+ghost use Rattle.fst_graph.specs.Known.{Prepared, unprepared, prepared_for, Refuses};
+ghost use Rattle.fst_graph.specs.Sparse.{AddsSparse, ForeseesSparse};
+ghost use Rattle.fst_heads.specs.Names.{numbers_of};
+
+use crate::sparse::{Sparse, reserve_one};
+use crate::prepared::prepare;
+use crate::refusals::make_fault;
+use fst_heads::head::{Head, Kind};
+use fst_heads::links::{link, reserve_above};
+use fst_heads::lists::Listed;
+use fst_heads::pending::{Pending, is_pending, over_block};
+use fst_heads::row::row_sums;
+use fst_types::{BlockNo, Fault, Grade, PatchNo, Place, Span};
+use fst_walks::sight::Sight;
+use smallvec::SmallVec;
+
+impl Sparse {
+    /// Makes room for a new change, and answers the number and the grade that `add_data` with these arguments will answer.
+    /// It is refused as `add_data` is. Where the patches near the change do not tell the grade, it looks at what the
+    /// change depends on and at what may hold that back, at each patch once. What is prepared is gone after any other call
+    /// that may change the graph, and after a refused `room`.
+    pub fn room(
+        &mut self,
+        block: BlockNo,
+        span: Span,
+        after: &[PatchNo],
+    ) -> Result<(PatchNo, Grade), Fault>
+        requires { block.0 < self.old.blocks }
+        ensures ok { IfOk result (λ made. ForeseesSparse (unprepared self.old) block.0 span.at span.len (numbers_of after.now) made.0.0 made.1) }
+        ensures prepared { IfOk result (λ made. self.new ≡ record self.old { prepared = Some (prepared_for block.0 span.at span.len (numbers_of after.now) made.0.0 made.1) }) }
+        ensures refused { IfErr result (Refuses (make_order self.old.heads self.old.numbers (numbers_of after.now))) }
+        ensures same { OnErr result (self.new ≡ unprepared self.old) }
+        ensures blocks { self.new.blocks ≡ self.old.blocks }
+    {
+        self.prepared = None;
+        if let Some(fault) = make_fault(&self.heads, self.numbers, after) {
+            return Err(fault);
+        }
+        let sight = Sight {
+            heads: &self.heads,
+            lists: &self.lists,
+            standings: &self.standings,
+        };
+        let Ok(prepared) = prepare(self.alloc, &sight, &mut self.walks, block.0, span, after) else {
+            return Err(Fault::Memory);
+        };
+        if reserve_one(&mut self.heads, &mut self.walks.walk, &mut self.queue).is_err() {
+            return Err(Fault::Memory);
+        }
+        if reserve_above(&mut self.heads, prepared.dependencies.as_slice()).is_err() {
+            return Err(Fault::Memory);
+        }
+        if self.lists[block.0 as usize].reserve(1).is_err() {
+            return Err(Fault::Memory);
+        }
+        let grade = prepared.grade;
+        self.prepared = Some(prepared);
+        Ok((PatchNo(self.numbers + 1), grade))
+    }
+
+    // Whether a change with these arguments is prepared.
+    fn is_prepared(&self, block: BlockNo, span: Span, after: &[PatchNo]) -> bool
+        ensures { IsTrue result ↔ ((number : ℕ) × (grade : Grade) × (self.now.prepared ≡ Some (prepared_for block.0 span.at span.len (numbers_of after.now) number grade))) }
+    {
+        match &self.prepared {
+            Some(prepared) => prepared.is_for(block.0, span, after),
+            None => false,
+        }
+    }
+
+    // Puts down the change that is prepared.
+    fn add_prepared(&mut self) -> (PatchNo, Grade)
+        requires { (p : Prepared) × (self.old.prepared ≡ Some p) × (p.group ≡ None) }
+        ensures added { IfSome self.old.prepared (λ p. AddsSparse (unprepared self.old) p.block p.at p.len p.after result.0.0 result.1 self.new) }
+        ensures foreseen { IfSome self.old.prepared (λ p. (result.0.0 ≡ p.number) × (result.1 ≡ p.grade)) }
+    {
+        let Some(prepared) = self.prepared.take() else {
+            unreachable!();
+        };
+        let number = self.numbers + 1;
+        let grade = prepared.grade;
+        let span = prepared.span;
+        let block = prepared.block;
+        let kind = Kind::Change(block, span, grade);
+        let sums = row_sums(&self.heads, prepared.dependencies.as_slice());
+        let pending = over_block(block, sums.joined());
+        link(&mut self.heads, prepared.dependencies.as_slice(), number);
+        self.heads.push_reserved(Head {
+            number,
+            kind,
+            place: Place::Memory,
+            dependencies: prepared.dependencies,
+            sums,
+            pending,
+            dependants: SmallVec::new(self.alloc),
+        });
+        self.lists[block as usize].push_reserved(Listed { number, span });
+        self.standings[block as usize].enter(kind, is_pending(pending, Pending::Block(block)));
+        self.walks.walk.grow();
+        self.live += 1;
+        self.numbers = number;
+        (PatchNo(number), grade)
+    }
+
+    /// A new change of the block, which depends on the named patches that are not on disk and on the changes not on disk
+    /// with which it shares a byte. It is refused as `add_empty` is. Where `room` has prepared it for these arguments, it
+    /// answers what `room` did, and takes no memory.
+    pub fn add_data(
+        &mut self,
+        block: BlockNo,
+        span: Span,
+        after: &[PatchNo],
+    ) -> Result<(PatchNo, Grade), Fault>
+        requires { block.0 < self.old.blocks }
+        ensures ok { IfOk result (λ made. AddsSparse (unprepared self.old) block.0 span.at span.len (numbers_of after.now) made.0.0 made.1 self.new) }
+        ensures prepared { (number : ℕ) (grade : Grade) → self.old.prepared ≡ Some (prepared_for block.0 span.at span.len (numbers_of after.now) number grade) → MatchResult result (λ made. (made.0.0 ≡ number) × (made.1 ≡ grade)) (λ f. ⊥) }
+        ensures refused { IfErr result (Refuses (make_order self.old.heads self.old.numbers (numbers_of after.now))) }
+        ensures same { OnErr result (self.new ≡ unprepared self.old) }
+        ensures blocks { self.new.blocks ≡ self.old.blocks }
+    {
+        if self.is_prepared(block, span, after) {
+            return Ok(self.add_prepared());
+        }
+        self.room(block, span, after)?;
+        Ok(self.add_prepared())
+    }
+}
