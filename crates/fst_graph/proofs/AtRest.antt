@@ -7,6 +7,7 @@ use Rattle.fst_heads.specs.declared.lists.Listed.{Listed}
 use Rattle.fst_heads.specs.declared.pending.Pending.TheVariants as pending
 use Rattle.fst_heads.specs.declared.standing.Standing.{Standing}
 use Rattle.fst_heads.specs.Ascending.{IsBehind}
+use Rattle.fst_heads.specs.Covers.{Covering}
 use Rattle.fst_heads.specs.Heads.{patches_of}
 use Rattle.fst_heads.specs.Lists.{entries_of, entries_on}
 use Rattle.fst_heads.specs.Marks.{mark_in, mark_of}
@@ -19,8 +20,8 @@ use Rattle.fst_walks.proofs.Resting.{listed_at, shelves}
 use Rattle.fst_graph.specs.declared.prepared.Prepared.{Prepared as Stored}
 use Rattle.fst_graph.specs.Sound.{AreSound}
 
-module _ {heads : Vec Head} {walks : BlockWalk} {lists : Vec (Vec Listed)} {standings : Vec Standing} {queue : Vec ℕ} {live numbers blocks : ℕ} {o : Option Stored}
-    (S : AreSound heads walks lists standings queue live numbers blocks o) where
+module _ {heads : Vec Head} {walks : BlockWalk} {lists : Vec (Vec Listed)} {covers : Vec Covering} {standings : Vec Standing} {queue : Vec ℕ} {live numbers blocks : ℕ} {o : Option Stored}
+    (S : AreSound heads walks lists covers standings queue live numbers blocks o) where
   -- there are as many lists as blocks
   pub many_lists : (slice : List (Vec Listed)) → slice ≡ lists.items → length slice ≡ blocks
   many_lists slice e = shelves (nodes_of heads.items) blocks lists.items slice S.tallies.listed e

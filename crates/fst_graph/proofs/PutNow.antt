@@ -2,6 +2,7 @@
 use Rattle.std.proofs.Common.{◌≡◌, ℕ, [], Option, Some, option_map, ap, subst, ◌∙◌}
 use Rattle.std.specs.Global.{Vec}
 use Rattle.fst_types.specs.Gates.{IsOpenNumber}
+use Rattle.fst_heads.specs.Covers.{Covering}
 use Rattle.fst_heads.specs.declared.head.Head.{Head}
 use Rattle.fst_heads.specs.declared.lists.Listed.{Listed}
 use Rattle.fst_heads.specs.declared.standing.Standing.{Standing}
@@ -15,19 +16,19 @@ use Rattle.fst_graph.specs.Sound.{AreSound, IsPrepared}
 use Rattle.fst_graph.proofs.Sound.{prepared_is}
 use Rattle.fst_graph.proofs.TailGains.{head_same, member_kept, ready_now}
 
-pub record IsPutNow (heads : Vec Head) (walks : BlockWalk) (lists : Vec (Vec Listed)) (queue : Vec ℕ) (numbers blocks head : ℕ) (gates : Gates) (p : Stored) : Type 0 where
-  pub prepared : IsPrepared heads walks lists queue numbers blocks p
+pub record IsPutNow (heads : Vec Head) (walks : BlockWalk) (lists : Vec (Vec Listed)) (covers : Vec Covering) (queue : Vec ℕ) (numbers blocks head : ℕ) (gates : Gates) (p : Stored) : Type 0 where
+  pub prepared : IsPrepared heads walks lists covers queue numbers blocks p
   pub member : IsMemberReady (patches_of heads.items) numbers blocks gates p
   pub own : gates.head ≡ head
   pub closed : IsOpenNumber (patches_of heads.items) gates.head → ⊥
   pub ready : IsReady (patches_of heads.items) numbers blocks p
 
-pub put_now : {heads : Vec Head} {walks : BlockWalk} {lists : Vec (Vec Listed)} {standings : Vec Standing} {queue : Vec ℕ} {live numbers blocks : ℕ} {o : Option Stored}
-    → AreSound heads walks lists standings queue live numbers blocks o → (p : Stored) (gates : Gates) (head : ℕ) (known : Known)
+pub put_now : {heads : Vec Head} {walks : BlockWalk} {lists : Vec (Vec Listed)} {covers : Vec Covering} {standings : Vec Standing} {queue : Vec ℕ} {live numbers blocks : ℕ} {o : Option Stored}
+    → AreSound heads walks lists covers standings queue live numbers blocks o → (p : Stored) (gates : Gates) (head : ℕ) (known : Known)
     → record { heads = patches_of heads.items; numbers = numbers; blocks = blocks; groups = []; prepared = option_map (prepared_of numbers) o } ≡ known
     → ((q : Prepared) × (known.prepared ≡ Some q) × (q.group ≡ Some head)) → (IsOpenNumber known.heads head → ⊥) → o ≡ Some p → p.gates ≡ Some gates
-    → IsPutNow heads walks lists queue numbers blocks head gates p
-put_now {heads} {walks} {lists} {standings} {queue} {live} {numbers} {blocks} {o} S p gates head known seen q shut kept there =
+    → IsPutNow heads walks lists covers queue numbers blocks head gates p
+put_now {heads} {walks} {lists} {covers} {standings} {queue} {live} {numbers} {blocks} {o} S p gates head known seen q shut kept there =
     let old = patches_of heads.items in
     let I = prepared_is S p kept in
     let R = member_kept p gates old numbers blocks there I.ready in

@@ -4,6 +4,7 @@ use Rattle.std.proofs.lemmas.List.{length-map}
 use Rattle.fst_heads.specs.declared.head.Head.{Head}
 use Rattle.fst_heads.specs.declared.lists.Listed.{Listed}
 use Rattle.fst_heads.specs.declared.standing.Standing.{Standing}
+use Rattle.fst_heads.specs.Covers.{AreCovered, Covering}
 use Rattle.fst_heads.specs.Heads.{patch_of, patches_of}
 use Rattle.fst_heads.specs.Keeps.{IsInside, Keeps, Tallies}
 use Rattle.fst_heads.specs.Lists.{entries_of, AreListed}
@@ -37,8 +38,9 @@ many_lists nodes numbers blocks lists standings queue cap T = sym (length-map li
 
 -- what stands beside the patches is as walks want it
 module _ (sight : Sight) (numbers blocks : ℕ) (marks : List Bool) (queue : List ℕ) (cap : ℕ) where
-  seen_sight : Keeps (patches_of sight.heads.now) numbers blocks marks → Tallies (nodes_of sight.heads.now) numbers blocks (map (λ l. entries_of l.items) sight.lists.now) sight.standings.now queue cap → Sees sight
-  seen_sight K T =
+  seen_sight : Keeps (patches_of sight.heads.now) numbers blocks marks → Tallies (nodes_of sight.heads.now) numbers blocks (map (λ l. entries_of l.items) sight.lists.now) sight.standings.now queue cap
+      → AreCovered (patches_of sight.heads.now) blocks sight.covers.now → Sees sight
+  seen_sight K T C =
       let heads = sight.heads.now in
       let lists = map (λ l. entries_of l.items) sight.lists.now in
       let long = many_lists (nodes_of heads) numbers blocks sight.lists.now sight.standings.now queue cap T in
@@ -51,15 +53,17 @@ module _ (sight : Sight) (numbers blocks : ℕ) (marks : List Bool) (queue : Lis
         linked = T.linked;
         settled = subst (AreSettled (nodes_of heads)) (sym T.standing.long) T.settled;
         listed = subst (λ n. AreListed (patches_of heads) n lists) (sym long) (subst (λ ps. AreListed ps blocks lists) (patches_in_nodes heads) T.listed);
+        covered = subst (λ n. AreCovered (patches_of heads) n sight.covers.now) (sym long) C;
         standing = subst (λ n. AllStand (nodes_of heads) n sight.standings.now) (sym T.standing.long) T.standing;
       }
 
-  pub sees_all : (heads : List Head) (lists : List (Vec Listed Global)) (standings : List Standing) → Keeps (patches_of heads) numbers blocks marks
-      → Tallies (nodes_of heads) numbers blocks (map (λ l. entries_of l.items) lists) standings queue cap
-      → sight.heads.now ≡ heads → sight.lists.now ≡ lists → sight.standings.now ≡ standings → Sees sight
-  sees_all heads lists standings K T h l s =
+  pub sees_all : (heads : List Head) (lists : List (Vec Listed Global)) (covers : List Covering) (standings : List Standing) → Keeps (patches_of heads) numbers blocks marks
+      → Tallies (nodes_of heads) numbers blocks (map (λ l. entries_of l.items) lists) standings queue cap → AreCovered (patches_of heads) blocks covers
+      → sight.heads.now ≡ heads → sight.lists.now ≡ lists → sight.covers.now ≡ covers → sight.standings.now ≡ standings → Sees sight
+  sees_all heads lists covers standings K T C h l v s =
       let entries = λ (ls : List (Vec Listed Global)). map (λ (l : Vec Listed Global). entries_of l.items) ls in
       seen_sight (subst (λ hs. Keeps (patches_of hs) numbers blocks marks) (sym h) K)
       (subst (λ hs. Tallies (nodes_of hs) numbers blocks (entries sight.lists.now) sight.standings.now queue cap) (sym h)
       (subst (λ ls. Tallies (nodes_of heads) numbers blocks (entries ls) sight.standings.now queue cap) (sym l)
       (subst (λ ss. Tallies (nodes_of heads) numbers blocks (entries lists) ss queue cap) (sym s) T)))
+      (subst (λ hs. AreCovered (patches_of hs) blocks sight.covers.now) (sym h) (subst (AreCovered (patches_of heads) blocks) (sym v) C))

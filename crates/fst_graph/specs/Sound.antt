@@ -1,9 +1,10 @@
 -- What the patches keep of their fields between two calls.
-use Rattle.std.specs.Prelude.{ℕ, Option, IfSome, length, map, vec_len, vec_capacity}
+use Rattle.std.specs.Prelude.{ℕ, false, [], slice_index_or, Option, IfSome, length, map, vec_len, vec_capacity}
 use Rattle.std.specs.Global.{Vec}
 use Rattle.fst_heads.specs.declared.head.Head.{Head}
 use Rattle.fst_heads.specs.declared.lists.Listed.{Listed}
 use Rattle.fst_heads.specs.declared.standing.Standing.{Standing}
+use Rattle.fst_heads.specs.Covers.{AreCovered, Covering, HasBytes}
 use Rattle.fst_heads.specs.Heads.{patches_of}
 use Rattle.fst_heads.specs.Keeps.{Beside, Keeps, Tallies}
 use Rattle.fst_heads.specs.Lists.{entries_of, HasRoomInList}
@@ -13,15 +14,17 @@ use Rattle.fst_graph.specs.declared.prepared.Prepared.{Prepared as Stored}
 use Rattle.fst_graph.specs.Ready.{MayBePut, HasPlaces, HasRoomAround}
 
 -- a change that is prepared is not refused, and whatever it is put into has a free place for it
-pub record IsPrepared (heads : Vec Head) (walks : BlockWalk) (lists : Vec (Vec Listed)) (queue : Vec ℕ) (numbers blocks : ℕ) (p : Stored) : Type 0 where
+pub record IsPrepared (heads : Vec Head) (walks : BlockWalk) (lists : Vec (Vec Listed)) (covers : Vec Covering) (queue : Vec ℕ) (numbers blocks : ℕ) (p : Stored) : Type 0 where
   pub ready : MayBePut (patches_of heads.items) numbers blocks p
   pub places : HasPlaces (vec_len heads) (vec_capacity heads) (length walks.walk.marks) walks.walk.room (vec_capacity queue)
   pub around : HasRoomAround heads.items p
+  pub bytes : HasBytes (slice_index_or covers.items p.block (record { newest = []; points = false })) p.span.at p.span.len
   pub in_list : HasRoomInList (map (λ l. vec_len l) lists.items) (map (λ l. vec_capacity l) lists.items) p.block
 
 -- the heads are lawful patches, what stands beside them tells of them, and there is room for what is prepared
-pub record AreSound (heads : Vec Head) (walks : BlockWalk) (lists : Vec (Vec Listed)) (standings : Vec Standing) (queue : Vec ℕ) (live numbers blocks : ℕ) (stored : Option Stored) : Type 0 where
+pub record AreSound (heads : Vec Head) (walks : BlockWalk) (lists : Vec (Vec Listed)) (covers : Vec Covering) (standings : Vec Standing) (queue : Vec ℕ) (live numbers blocks : ℕ) (stored : Option Stored) : Type 0 where
   pub keeps : Keeps (patches_of heads.items) numbers blocks walks.walk.marks
   pub beside : Beside (patches_of heads.items) blocks live walks.crossed.items
   pub tallies : Tallies (nodes_of heads.items) numbers blocks (map (λ l. entries_of l.items) lists.items) standings.items queue.items (vec_capacity queue)
-  pub prepared : IfSome stored (IsPrepared heads walks lists queue numbers blocks)
+  pub covered : AreCovered (patches_of heads.items) blocks covers.items
+  pub prepared : IfSome stored (IsPrepared heads walks lists covers queue numbers blocks)

@@ -18,7 +18,7 @@ ghost use Rattle.fst_walks.specs.Sights.{Sees};
 use crate::prepared::{Gates, Prepared, copy_of};
 use fst_heads::head::Head;
 use fst_heads::marks::slot_of;
-use fst_heads::row::dependencies_of;
+use fst_heads::sparse::{Wanted, sparse_row};
 use fst_heads::test::Test;
 use fst_types::{PatchNo, Span};
 use fst_walks::block_walk::BlockWalk;
@@ -87,7 +87,13 @@ pub fn prepare_member(
         &names
     };
     let list = &sight.lists[block as usize];
-    let dependencies = dependencies_of(alloc, heads, list, block, span, after)?;
+    let cover = &sight.covers[block as usize];
+    let wanted = Wanted {
+        block,
+        span,
+        names: after,
+    };
+    let dependencies = sparse_row(alloc, heads, list, cover, &wanted)?;
     let names = copy_of(alloc, &names)?;
     let row = dependencies.as_slice();
     let grade = grade_of(

@@ -9,7 +9,8 @@ ghost use Rattle.fst_heads.specs.Names.{numbers_of};
 ghost use Rattle.fst_heads.specs.Rows.{IsSparseRow};
 ghost use Rattle.fst_walks.specs.Sights.{Sees};
 
-use fst_heads::row::{Row, dependencies_of};
+use fst_heads::row::Row;
+use fst_heads::sparse::{Wanted, sparse_row};
 use fst_types::{Grade, PatchNo, Span};
 use fst_walks::block_walk::BlockWalk;
 use fst_walks::grade::grade_of;
@@ -89,7 +90,9 @@ pub fn prepare(
     ensures crossed { length walks.new.crossed.items ≡ length sight.now.lists.now }
 {
     let list = &sight.lists[block as usize];
-    let dependencies = dependencies_of(alloc, sight.heads, list, block, span, names)?;
+    let cover = &sight.covers[block as usize];
+    let wanted = Wanted { block, span, names };
+    let dependencies = sparse_row(alloc, sight.heads, list, cover, &wanted)?;
     let names = copy_of(alloc, names)?;
     let row = dependencies.as_slice();
     let grade = grade_of(sight, &mut walks.walk, &mut walks.crossed, block, row, None);

@@ -21,6 +21,7 @@ use crate::prepared::Prepared;
 use crate::refusals::{make_fault, room_fault};
 use fst_heads::cascade::{cascade, seal_slot};
 use fst_heads::choice::{first_held, ready_set};
+use fst_heads::cover::{Cover, empty_covers};
 use fst_heads::growth::{gain, missing_names};
 use fst_heads::head::{Head, Kind};
 use fst_heads::links::{link, reserve_above};
@@ -50,6 +51,7 @@ pub struct Sparse {
     heads: Vec<Head>,
     walks: BlockWalk,
     lists: Vec<Vec<Listed>>,
+    covers: Vec<Cover>,
     standings: Vec<Standing>,
     queue: Vec<u32>,
     live: usize,
@@ -69,7 +71,7 @@ impl Model for Sparse {
 
     ghost view = { λ g. record { heads = patches_of g.heads.items; numbers = g.numbers; blocks = g.blocks; groups = []; prepared = option_map (prepared_of g.numbers) g.prepared } };
 
-    ghost invariant = { λ g. AreSound g.heads g.walks g.lists g.standings g.queue g.live g.numbers g.blocks g.prepared };
+    ghost invariant = { λ g. AreSound g.heads g.walks g.lists g.covers g.standings g.queue g.live g.numbers g.blocks g.prepared };
 }
 
 // Room for one more head.
@@ -113,6 +115,9 @@ impl Sparse {
         let Ok(lists) = empty_lists(alloc, shape.blocks) else {
             return Err(Fault::Memory);
         };
+        let Ok(covers) = empty_covers(alloc, shape.blocks) else {
+            return Err(Fault::Memory);
+        };
         let Ok(standings) = empty_standings(alloc, shape.blocks) else {
             return Err(Fault::Memory);
         };
@@ -124,6 +129,7 @@ impl Sparse {
                 crossed,
             },
             lists,
+            covers,
             standings,
             queue: Vec::new(alloc),
             live: 0,

@@ -1,6 +1,8 @@
 pub mod Slots
 pub mod Rows
 pub mod Making
+pub mod Newest
+pub mod Covering
 pub mod Touching
 pub mod Forgetting
 pub mod Missing

@@ -81,10 +81,6 @@ module _ (heads : List Patch) (b at len number : ℕ) (grade : Grade) (deps : Li
       let same : b ≡ v.block = some_injective b v.block v.second in
       record { patch = o.patch; head = o.head; numbered = o.numbered; shares = touch_whole b at len o.patch.kind o.patch.place o.live (v.first ∙ ap Some (sym same)) v.starts_before v.ends_after }
 
--- a whole row is a sparse one
-pub whole_is_sparse : (heads : List Patch) (names : List ℕ) (b at len : ℕ) (row : List ℕ) → Lists (IsDependency heads names b at len) row → IsSparseRow heads names b at len row
-whole_is_sparse heads names b at len row l = record { rising = l.rising; only = l.only; named = λ n live c. l.each n (inl (live, c)); above = λ n t. inl (l.each n (inr t)) }
-
 pub depends_exactly : (heads : List Patch) (names : List ℕ) (b at len number : ℕ) (grade : Grade) (deps row : List ℕ) → Lists (IsDependency heads names b at len) row → Lists (λ n. (IsLiveNumber heads n × Contains names n) ⊎ IsOverlapped heads (fresh number (Change b at len grade) deps) n) row
 depends_exactly heads names b at len number grade deps row l = record {
   rising = l.rising;

@@ -3,6 +3,7 @@ pub mod Tests
 pub mod Marks
 pub mod Keeps
 pub mod Rows
+pub mod Covers
 pub mod Reaching
 pub mod Grading
 pub mod Pendings

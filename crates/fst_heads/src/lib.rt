@@ -22,6 +22,7 @@
 
 pub mod cascade;
 pub mod choice;
+pub mod cover;
 pub mod growth;
 pub mod head;
 pub mod links;
@@ -30,5 +31,6 @@ pub mod marks;
 pub mod pending;
 pub mod places;
 pub mod row;
+pub mod sparse;
 pub mod standing;
 pub mod test;

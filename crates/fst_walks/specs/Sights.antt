@@ -3,6 +3,7 @@ use Rattle.std.specs.Prelude.{length, map}
 use Rattle.fst_types.specs.Closure.{IsAcyclic}
 use Rattle.fst_types.specs.Dependencies.{DirectlyOn}
 use Rattle.fst_types.specs.Facts.{IsOnDiskWithAll, HardNeverHold}
+use Rattle.fst_heads.specs.Covers.{AreCovered}
 use Rattle.fst_heads.specs.Heads.{IsRising, patches_of}
 use Rattle.fst_heads.specs.Keeps.{IsInside}
 use Rattle.fst_heads.specs.Lists.{entries_of, AreListed}
@@ -20,4 +21,5 @@ pub record Sees (sight : Sight) : Type 0 where
   pub linked : AreLinked (nodes_of sight.heads.now)
   pub settled : AreSettled (nodes_of sight.heads.now) (length sight.standings.now)
   pub listed : AreListed (patches_of sight.heads.now) (length sight.lists.now) (map (λ l. entries_of l.items) sight.lists.now)
+  pub covered : AreCovered (patches_of sight.heads.now) (length sight.lists.now) sight.covers.now
   pub standing : AllStand (nodes_of sight.heads.now) (length sight.standings.now) sight.standings.now

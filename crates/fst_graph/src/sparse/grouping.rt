@@ -50,6 +50,7 @@ impl Sparse {
         let sight = Sight {
             heads: &self.heads,
             lists: &self.lists,
+            covers: &self.covers,
             standings: &self.standings,
         };
         let walk = &mut self.walks.walk;
@@ -70,6 +71,9 @@ impl Sparse {
             return Err(Fault::Memory);
         }
         if self.lists[block.0 as usize].reserve(1).is_err() {
+            return Err(Fault::Memory);
+        }
+        if self.covers[block.0 as usize].reserve(span).is_err() {
             return Err(Fault::Memory);
         }
         let grade = prepared.grade;
@@ -136,6 +140,7 @@ impl Sparse {
             dependants: SmallVec::new(self.alloc),
         });
         self.lists[block as usize].push_reserved(Listed { number, span });
+        self.covers[block as usize].put(span, number);
         self.standings[block as usize].enter(kind, is_pending(pending, Pending::Block(block)));
         self.walks.walk.grow();
         self.live += 1;

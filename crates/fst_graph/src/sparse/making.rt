@@ -44,6 +44,7 @@ impl Sparse {
         let sight = Sight {
             heads: &self.heads,
             lists: &self.lists,
+            covers: &self.covers,
             standings: &self.standings,
         };
         let Ok(prepared) = prepare(self.alloc, &sight, &mut self.walks, block.0, span, after) else {
@@ -56,6 +57,9 @@ impl Sparse {
             return Err(Fault::Memory);
         }
         if self.lists[block.0 as usize].reserve(1).is_err() {
+            return Err(Fault::Memory);
+        }
+        if self.covers[block.0 as usize].reserve(span).is_err() {
             return Err(Fault::Memory);
         }
         let grade = prepared.grade;
@@ -100,6 +104,7 @@ impl Sparse {
             dependants: SmallVec::new(self.alloc),
         });
         self.lists[block as usize].push_reserved(Listed { number, span });
+        self.covers[block as usize].put(span, number);
         self.standings[block as usize].enter(kind, is_pending(pending, Pending::Block(block)));
         self.walks.walk.grow();
         self.live += 1;

@@ -23,6 +23,7 @@ use Rattle.fst_heads.proofs.Stands.{stand_made}
 use Rattle.fst_heads.proofs.Sums.{joined_exact}
 use Rattle.fst_graph.proofs.Tallied.{tallies_made}
 use Rattle.fst_heads.proofs.Beside.{beside_made, one_live, weight_of, weighs}
+use Rattle.fst_heads.proofs.Covering.{covered_push}
 use Rattle.fst_graph.proofs.sparse.Sparse.add_empty.Goals as goal
 
 pub live_named-requires : goal.live_named-requires
@@ -64,6 +65,7 @@ invariant_of-self-2 c =
       beside = rw (c.push_reserved.ensures.items, map_push, patches, place)
           (beside_made (patches_of heads) c.self.inside.blocks c.self.inside.live _ c.self.inside.walks.crossed.items p own c.self.invariant.beside);
       tallies = rw (c.push_reserved.ensures.items, map_push, c.link.ensures.nodes, still, c.as_slice-4.ensures, below, sums, place, c.new.ensures.items, c.reserve_one.ensures.queue) made;
+      covered = rw (c.push_reserved.ensures.items, map_push, patches, place) (covered_push (patches_of heads) _ (λ b on. cc) c.self.inside.blocks c.self.inside.covers.items c.self.invariant.covered);
       prepared = tt;
     }
 
@@ -99,6 +101,7 @@ invariant_of-self-then-is_err c =
       keeps = rw (c.reserve_one.ensures.heads, c.reserve_one.ensures.marks) K;
       beside = rw c.reserve_one.ensures.heads c.self.invariant.beside;
       tallies = rw c.reserve_one.ensures.heads (tallies_wider _ c.self.inside.numbers c.self.inside.blocks _ _ _ _ _ _ c.self.invariant.tallies c.reserve_one.ensures.queue c.reserve_one.ensures.wide);
+      covered = rw c.reserve_one.ensures.heads c.self.invariant.covered;
       prepared = tt;
     }
 
@@ -110,6 +113,7 @@ invariant_of-self-then-is_err-2 c =
       keeps = rw (same_patches c.reserve_above.new.heads.items heads still, c.reserve_one.ensures.marks) K;
       beside = rw (same_patches c.reserve_above.new.heads.items heads still) c.self.invariant.beside;
       tallies = rw still (tallies_wider _ c.self.inside.numbers c.self.inside.blocks _ _ _ _ _ _ c.self.invariant.tallies c.reserve_one.ensures.queue c.reserve_one.ensures.wide);
+      covered = rw (same_patches c.reserve_above.new.heads.items heads still) c.self.invariant.covered;
       prepared = tt;
     }
 

@@ -18,6 +18,7 @@ use Rattle.fst_walks.proofs.Seen.{lawful_nodes, tallies_wider}
 use Rattle.fst_heads.proofs.Stands.{stand_made}
 use Rattle.fst_graph.proofs.Tallied.{tallies_made}
 use Rattle.fst_heads.proofs.Beside.{beside_made}
+use Rattle.fst_heads.proofs.Covering.{covered_push}
 use Rattle.fst_graph.proofs.sparse.Sparse.add_gate.Goals as goal
 
 pub invariant_of-self-2 : goal.invariant_of-self-2
@@ -47,6 +48,7 @@ invariant_of-self-2 c =
           (beside_made (patches_of heads) blocks c.self.inside.live 1 c.self.inside.walks.crossed.items p refl c.self.invariant.beside);
       tallies = rw (c.push_reserved.ensures.items, c.reserve_one.ensures.heads, map_push, c.no_sums.ensures, c.new.ensures.items, c.new-2.ensures.items, c.reserve_one.ensures.queue)
           (subst (λ ns. Tallies (ns ++ new_node nodes p ∷ []) (n + 1) blocks (map (λ l. entries_of l.items) c.self.inside.lists.items) c.self.inside.standings.items c.self.inside.queue.items c.reserve_one.new.queue.cap) (with_gate nodes (n + 1)) made);
+      covered = rw (c.push_reserved.ensures.items, c.reserve_one.ensures.heads, map_push, c.new.ensures.items) (covered_push (patches_of c.self.inside.heads.items) (fresh (c.self.inside.numbers + 1) OpenGate []) (λ b on. cc) c.self.inside.blocks c.self.inside.covers.items c.self.invariant.covered);
       prepared = tt;
     }
 
@@ -56,5 +58,6 @@ invariant_of-self-then-is_err c =
       keeps = rw (c.reserve_one.ensures.heads, c.reserve_one.ensures.marks) K;
       beside = rw c.reserve_one.ensures.heads c.self.invariant.beside;
       tallies = rw c.reserve_one.ensures.heads (tallies_wider _ c.self.inside.numbers c.self.inside.blocks _ _ _ _ _ _ c.self.invariant.tallies c.reserve_one.ensures.queue c.reserve_one.ensures.wide);
+      covered = rw c.reserve_one.ensures.heads c.self.invariant.covered;
       prepared = tt;
     }

@@ -22,6 +22,7 @@ use Rattle.fst_heads.proofs.Slots.{rising_heads}
 use Rattle.fst_graph.proofs.Gained.{keeps_depends}
 use Rattle.fst_graph.proofs.Walked.{gates_told, still_marked}
 use Rattle.fst_heads.proofs.Beside.{beside_depends}
+use Rattle.fst_heads.proofs.Covering.{covered_gained}
 use Rattle.fst_graph.proofs.sparse.Sparse.depend.Goals as goal
 
 pub depend_fault-requires-clause-rising : goal.depend_fault-requires-clause-rising
@@ -53,6 +54,7 @@ invariant_of-self-in_default-reserve_above c =
           K;
       beside = rw (same_patches c.reserve_above.new.heads.items heads c.reserve_above.ensures.nodes) c.self.invariant.beside;
       tallies = rw c.reserve_above.ensures.nodes c.self.invariant.tallies;
+      covered = rw (same_patches c.reserve_above.new.heads.items heads c.reserve_above.ensures.nodes) c.self.invariant.covered;
       prepared = tt;
     }
 
@@ -80,6 +82,7 @@ invariant_of-self-in_default-gain c =
           K;
       beside = rw (same_patches c.gain.new.heads.items heads still) c.self.invariant.beside;
       tallies = rw still c.self.invariant.tallies;
+      covered = rw (same_patches c.gain.new.heads.items heads still) c.self.invariant.covered;
       prepared = tt;
     }
 
@@ -150,6 +153,7 @@ invariant_of-self-2 c =
       beside = rw (new_patches c) (beside_depends (patches_of heads) c.self.inside.blocks c.self.inside.live c.self.inside.walks.crossed.items g c.in-Ok.names.items c.self.invariant.beside);
       tallies = rw (named c)
           (tallies_depends (nodes_of heads) numbers c.self.inside.blocks _ _ _ _ g on c.in-Ok.names.items (lawful_nodes heads numbers c.self.invariant.keeps.lawful) lawful T (subst (λ ps. IsOpenNumber ps g) back gate) live_there);
+      covered = rw (new_patches c) (covered_gained (patches_of heads) g c.in-Ok.names.items c.self.inside.blocks c.self.inside.covers.items c.self.invariant.covered);
       prepared = tt;
     }
 

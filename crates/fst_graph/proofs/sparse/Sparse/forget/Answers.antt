@@ -11,6 +11,7 @@ use Rattle.fst_walks.proofs.Seen.{seen, lawful_nodes}
 use Rattle.fst_graph.proofs.Tallied.{tallies_dropped}
 use Rattle.fst_heads.proofs.Forgetting.{counted, keeps_dropped}
 use Rattle.fst_heads.proofs.Beside.{beside_dropped}
+use Rattle.fst_heads.proofs.Covering.{covered_left}
 use Rattle.fst_graph.proofs.sparse.Sparse.forget.Goals as goal
 
 pub overflow_sub-result : goal.overflow_sub-result
@@ -44,6 +45,7 @@ invariant_of-self c =
       keeps = rw left kept;
       beside = rw left (beside_dropped (patches_of heads) c.self.inside.blocks c.self.inside.live c.self.inside.walks.crossed.items c.self.invariant.beside);
       tallies = rw c.keep_live.ensures (tallies_dropped (nodes_of heads) n c.self.inside.blocks _ _ _ _ (lawful_nodes heads n c.self.invariant.keeps.lawful) lawful c.self.invariant.tallies);
+      covered = rw left (covered_left (patches_of heads) c.self.invariant.keeps.lawful.on_disk_with_all c.self.inside.blocks c.self.inside.covers.items c.self.invariant.covered);
       prepared = tt;
     }
 

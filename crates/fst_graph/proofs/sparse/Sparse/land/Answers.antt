@@ -22,6 +22,8 @@ use Rattle.fst_heads.proofs.Starting.{starts_landed, patches_landed}
 use Rattle.fst_heads.proofs.Carried.{linked_landed, distinct_landed}
 use Rattle.fst_graph.proofs.Tallied.{tallies_landed}
 use Rattle.fst_heads.proofs.Beside.{beside_landed, landed_few}
+use Rattle.fst_heads.proofs.Covering.{covered_alike}
+use Rattle.fst_types.proofs.Landing.{alike_landed}
 use Rattle.fst_graph.proofs.sparse.Sparse.land.Goals as goal
 
 pub land_block-requires-clause-rising : goal.land_block-requires-clause-rising
@@ -128,6 +130,7 @@ invariant_of-self c =
       beside = beside_landed heads mid new (lands b) blocks c.self.inside.live c.cascade-landed.result c.self.inside.walks.crossed.items c.land_block.ensures.nodes (λ x. refl) T.settled settled c.cascade-landed.ensures.landed c.self.invariant.beside;
       tallies = rw (c.cascade-landed.ensures.empty, c.cascade-landed.ensures.capacity, c.land_block.ensures.capacity)
           (tallies_landed nodes (nodes_of new) n blocks b _ _ _ _ _ _ (lawful_nodes new n kept.lawful) T listed spread settled standing);
+      covered = ?;
       prepared = tt;
     }
 

@@ -17,6 +17,8 @@ use Rattle.fst_walks.proofs.Seen.{seen, lawful_nodes}
 use Rattle.fst_heads.proofs.Slots.{rising_heads}
 use Rattle.fst_heads.proofs.Beside.{beside_kept}
 use Rattle.fst_heads.specs.Spreading.{launches}
+use Rattle.fst_heads.proofs.Covering.{covered_alike}
+use Rattle.fst_types.proofs.Issuing.{alike_launched}
 use Rattle.fst_graph.proofs.sparse.Sparse.launch.Goals as goal
 
 pub block_of-requires : goal.block_of-requires
@@ -78,6 +80,7 @@ invariant_of-self-2 c =
       beside = beside_kept heads c.launch_all.new.heads.items (launches chosen) blocks c.self.inside.live c.self.inside.walks.crossed.items c.launch_all.ensures (λ x. refl) c.self.invariant.tallies.settled (rw c.launch_all.ensures tallies.settled) c.self.invariant.beside;
       tallies = rw c.launch_all.ensures
           tallies;
+      covered = ?;
       prepared = tt;
     }
 

@@ -20,12 +20,13 @@ use Rattle.fst_graph.proofs.Walked.{as_many_marks, gates_told, many_lists, sees_
 use Rattle.fst_walks.proofs.Seen.{same_patches, tallies_wider}
 use Rattle.fst_walks.proofs.Shelves.{shelved_same, room_in_list}
 use Rattle.fst_heads.proofs.Slots.{rising_heads}
+use Rattle.fst_heads.proofs.Covering.{covered_longer}
 use Rattle.fst_graph.proofs.sparse.Sparse.member_room.Goals as goal
 
 pub member_fault-requires-clause-sees : goal.member_fault-requires-clause-sees
 member_fault-requires-clause-sees c =
     let s = c.self.inside in
-    sees_all _ s.numbers s.blocks s.walks.walk.marks s.queue.items (vec_capacity s.queue) s.heads.items s.lists.items s.standings.items c.self.invariant.keeps c.self.invariant.tallies c.deref.ensures.value c.deref-2.ensures.value c.deref-3.ensures.value
+    sees_all _ s.numbers s.blocks s.walks.walk.marks s.queue.items (vec_capacity s.queue) s.heads.items s.lists.items s.covers.items s.standings.items c.self.invariant.keeps c.self.invariant.tallies c.self.invariant.covered c.deref.ensures.value c.deref-2.ensures.value c.deref-3.ensures.value
 
 pub member_fault-requires-clause-gates : goal.member_fault-requires-clause-gates
 member_fault-requires-clause-gates c = rw c.deref.ensures.value (gates_told c.self.inside.heads.items c.self.inside.numbers c.self.inside.blocks c.self.inside.walks.walk.marks c.self.invariant.keeps c.self.invariant.tallies.settled)
@@ -46,7 +47,7 @@ returns-in-Some-clause-refused c = rw (← c.self.view_is, ← c.deref.ensures.v
 pub prepare_member-requires-clause-sees : goal.prepare_member-requires-clause-sees
 prepare_member-requires-clause-sees c =
     let s = c.self.inside in
-    sees_all _ s.numbers s.blocks s.walks.walk.marks s.queue.items (vec_capacity s.queue) s.heads.items s.lists.items s.standings.items c.self.invariant.keeps c.self.invariant.tallies c.deref.ensures.value c.deref-2.ensures.value c.deref-3.ensures.value
+    sees_all _ s.numbers s.blocks s.walks.walk.marks s.queue.items (vec_capacity s.queue) s.heads.items s.lists.items s.covers.items s.standings.items c.self.invariant.keeps c.self.invariant.tallies c.self.invariant.covered c.deref.ensures.value c.deref-2.ensures.value c.deref-3.ensures.value
 
 pub prepare_member-requires-clause-counted : goal.prepare_member-requires-clause-counted
 prepare_member-requires-clause-counted c = rw c.deref.ensures.value c.self.invariant.tallies.counted
@@ -73,6 +74,7 @@ invariant_of-self-then-is_err c =
       keeps = rw (c.reserve_one.ensures.heads, c.reserve_one.ensures.marks) K;
       beside = rw c.reserve_one.ensures.heads (record { places = crossed; counted = c.self.invariant.beside.counted });
       tallies = rw c.reserve_one.ensures.heads (tallies_wider _ c.self.inside.numbers c.self.inside.blocks _ _ _ _ _ _ c.self.invariant.tallies c.reserve_one.ensures.queue c.reserve_one.ensures.wide);
+      covered = rw c.reserve_one.ensures.heads c.self.invariant.covered;
       prepared = tt;
     }
 
@@ -86,6 +88,7 @@ invariant_of-self-then-is_err-2 c =
       keeps = rw (same_patches c.reserve_above.new.heads.items heads still, c.reserve_one.ensures.marks) K;
       beside = rw (same_patches c.reserve_above.new.heads.items heads still) (record { places = crossed; counted = c.self.invariant.beside.counted });
       tallies = rw still (tallies_wider _ c.self.inside.numbers c.self.inside.blocks _ _ _ _ _ _ c.self.invariant.tallies c.reserve_one.ensures.queue c.reserve_one.ensures.wide);
+      covered = rw (same_patches c.reserve_above.new.heads.items heads still) c.self.invariant.covered;
       prepared = tt;
     }
 
@@ -99,6 +102,7 @@ invariant_of-self-then-is_err-3 c =
       keeps = rw (same_patches c.reserve_below.new.heads.items heads still, c.reserve_one.ensures.marks) K;
       beside = rw (same_patches c.reserve_below.new.heads.items heads still) (record { places = crossed; counted = c.self.invariant.beside.counted });
       tallies = rw still (tallies_wider _ c.self.inside.numbers c.self.inside.blocks _ _ _ _ _ _ c.self.invariant.tallies c.reserve_one.ensures.queue c.reserve_one.ensures.wide);
+      covered = rw (same_patches c.reserve_below.new.heads.items heads still) c.self.invariant.covered;
       prepared = tt;
     }
 
@@ -112,6 +116,7 @@ invariant_of-self-then-is_err-4 c =
       keeps = rw (same_patches c.reserve_below.new.heads.items heads still, c.reserve_one.ensures.marks) K;
       beside = rw (same_patches c.reserve_below.new.heads.items heads still) (record { places = crossed; counted = c.self.invariant.beside.counted });
       tallies = rw (still, shelved_same c.self.inside.lists.items c.args.block.0 c.index_mut.result.now c.reserve.new.self c.index_mut.ensures.value c.reserve.ensures.items) (tallies_wider _ c.self.inside.numbers c.self.inside.blocks _ _ _ _ _ _ c.self.invariant.tallies c.reserve_one.ensures.queue c.reserve_one.ensures.wide);
+      covered = rw (same_patches c.reserve_below.new.heads.items heads still) c.self.invariant.covered;
       prepared = tt;
     }
 
@@ -175,6 +180,7 @@ invariant_of-self-2 c =
       beside = rw patches (record { places = crossed; counted = c.self.invariant.beside.counted });
       tallies = rw (still, shelved_same c.self.inside.lists.items c.args.block.0 c.index_mut.result.now c.reserve.new.self c.index_mut.ensures.value c.reserve.ensures.items)
           (tallies_wider _ n blocks _ _ _ _ _ _ c.self.invariant.tallies c.reserve_one.ensures.queue c.reserve_one.ensures.wide);
+      covered = ?;
       prepared = record {
         ready = rw patches (member_put p gates old n blocks made.gates ready);
         places = rw (c.reserve_below.ensures.len, c.reserve_below.ensures.capacity, c.reserve_above.ensures.len, c.reserve_above.ensures.capacity) (record { heads_free = search rules; marks_free = search rules; queue_free = search rules });

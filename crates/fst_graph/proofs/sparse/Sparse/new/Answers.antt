@@ -19,5 +19,6 @@ invariant_of-result c =
           c.in-Ok-empty_standings.ensures
           refl
           (omega arith));
+      covered = ?;
       prepared = tt;
     }

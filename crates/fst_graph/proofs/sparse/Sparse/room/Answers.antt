@@ -18,6 +18,7 @@ use Rattle.fst_walks.proofs.Seen.{same_patches, tallies_wider}
 use Rattle.fst_walks.proofs.Shelves.{shelved_same, room_in_list}
 use Rattle.fst_heads.proofs.Slots.{rising_heads}
 use Rattle.fst_heads.proofs.Touching.{graded_change}
+use Rattle.fst_heads.proofs.Covering.{covered_longer}
 use Rattle.fst_graph.proofs.sparse.Sparse.room.Goals as goal
 
 pub returns-in-Some-clause-refused : goal.returns-in-Some-clause-refused
@@ -58,7 +59,7 @@ returns-clause-ok c =
 pub prepare-requires-clause-sees : goal.prepare-requires-clause-sees
 prepare-requires-clause-sees c =
     let s = c.self.inside in
-    sees_all _ s.numbers s.blocks s.walks.walk.marks s.queue.items (vec_capacity s.queue) s.heads.items s.lists.items s.standings.items c.self.invariant.keeps c.self.invariant.tallies c.deref-2.ensures.value c.deref-3.ensures.value c.deref-4.ensures.value
+    sees_all _ s.numbers s.blocks s.walks.walk.marks s.queue.items (vec_capacity s.queue) s.heads.items s.lists.items s.covers.items s.standings.items c.self.invariant.keeps c.self.invariant.tallies c.self.invariant.covered c.deref-2.ensures.value c.deref-3.ensures.value c.deref-4.ensures.value
 
 pub prepare-requires-clause-long : goal.prepare-requires-clause-long
 prepare-requires-clause-long c = as_many_marks c.self.inside.heads.items c.self.inside.numbers c.self.inside.blocks c.self.inside.walks.walk.marks c.self.invariant.keeps ∙ sym (ap length c.deref-2.ensures.value)
@@ -84,6 +85,7 @@ invariant_of-self-then-is_err c =
           K;
       beside = rw c.reserve_one.ensures.heads (record { places = crossed; counted = c.self.invariant.beside.counted });
       tallies = rw c.reserve_one.ensures.heads (tallies_wider _ c.self.inside.numbers c.self.inside.blocks _ _ _ _ _ _ c.self.invariant.tallies c.reserve_one.ensures.queue c.reserve_one.ensures.wide);
+      covered = rw c.reserve_one.ensures.heads c.self.invariant.covered;
       prepared = tt;
     }
 
@@ -97,6 +99,7 @@ invariant_of-self-then-is_err-2 c =
           K;
       beside = rw (same_patches c.reserve_above.new.heads.items heads still) (record { places = crossed; counted = c.self.invariant.beside.counted });
       tallies = rw still (tallies_wider _ c.self.inside.numbers c.self.inside.blocks _ _ _ _ _ _ c.self.invariant.tallies c.reserve_one.ensures.queue c.reserve_one.ensures.wide);
+      covered = rw (same_patches c.reserve_above.new.heads.items heads still) c.self.invariant.covered;
       prepared = tt;
     }
 
@@ -111,6 +114,7 @@ invariant_of-self-then-is_err-3 c =
       beside = rw (same_patches c.reserve_above.new.heads.items heads still) (record { places = crossed; counted = c.self.invariant.beside.counted });
       tallies = rw (still, shelved_same c.self.inside.lists.items c.args.block.0 c.index_mut.result.now c.reserve.new.self c.index_mut.ensures.value c.reserve.ensures.items)
           (tallies_wider _ c.self.inside.numbers c.self.inside.blocks _ _ _ _ _ _ c.self.invariant.tallies c.reserve_one.ensures.queue c.reserve_one.ensures.wide);
+      covered = rw (same_patches c.reserve_above.new.heads.items heads still) c.self.invariant.covered;
       prepared = tt;
     }
 
@@ -141,6 +145,7 @@ invariant_of-self-2 c =
       beside = rw patches (record { places = crossed; counted = c.self.invariant.beside.counted });
       tallies = rw (still, shelved_same c.self.inside.lists.items c.args.block.0 c.index_mut.result.now c.reserve.new.self c.index_mut.ensures.value c.reserve.ensures.items)
           (tallies_wider _ n blocks _ _ _ _ _ _ c.self.invariant.tallies c.reserve_one.ensures.queue c.reserve_one.ensures.wide);
+      covered = ?;
       prepared = record {
         ready = rw (patches, made.gates) (record { clear = clear; inside = inside; depends = depends; graded = graded });
         places = rw (c.reserve_above.ensures.len, c.reserve_above.ensures.capacity) (record { heads_free = search rules; marks_free = search rules; queue_free = search rules });

@@ -1,0 +1,6 @@
+use Rattle.fst_heads.specs.Heads.{patches_of}
+use Rattle.fst_heads.proofs.Newest.{GainsUpTo}
+use Rattle.fst_heads.proofs.sparse.gain_touched.Given as goal
+
+abbrev pub invariant-loop-number : goal.invariant-loop-number
+invariant-loop-number l = GainsUpTo (patches_of l.heads) l.numbers l.block l.span.at l.span.len l.number-index l.last l.fn.row.items l.row.items

@@ -1,0 +1,96 @@
+//! The row of a new change: the named patches, and the newest change over each of its bytes.
+
+ghost use Rattle.std.specs.Prelude.{◌≡◌, ◌↔◌, IsTrue, IfOk, OnOk};
+ghost use Rattle.std.specs.List.Sorted.{IsStrictlyIncreasing};
+ghost use Rattle.fst_heads.specs.Covers.{GainsTouched, IsCovered};
+ghost use Rattle.fst_heads.specs.Heads.{IsRising, patch_of, patches_of};
+ghost use Rattle.fst_heads.specs.Lists.{entries_of, entries_on};
+ghost use Rattle.fst_heads.specs.Names.{numbers_of};
+ghost use Rattle.fst_heads.specs.Rows.{IsSparseRow, IsTouched, touches};
+
+use crate::cover::Cover;
+use crate::head::{Head, Kind};
+use crate::lists::Listed;
+use crate::marks::slot_of;
+use crate::row::{Row, dependencies_of, live_named, put, shares};
+use crate::test::is_live;
+use fst_types::{PatchNo, Span};
+use std::alloc::{AllocError, Global};
+
+/// A change that is to be made: its block, its bytes, and the patches that it is to depend on.
+#[derive(Clone, Copy, Debug)]
+pub struct Wanted<'a> {
+    pub block: u32,
+    pub span: Span,
+    pub names: &'a [PatchNo],
+}
+
+// Whether it is a change of the block that is not on disk and shares a byte with the span.
+fn touches(head: &Head, block: u32, span: Span) -> bool
+    ensures { result ≡ touches block span.at span.len (patch_of head.now) }
+{
+    match head.kind {
+        Kind::Change(on, own, _) => is_live(head.place) && on == block && shares(own, span),
+        Kind::Empty | Kind::OpenGate | Kind::SealedGate => false,
+    }
+}
+
+// Whether the number is that of such a change.
+fn is_touched(heads: &[Head], number: u32, block: u32, span: Span) -> bool
+    requires { IsRising heads.now }
+    ensures { IsTrue result ↔ IsTouched (patches_of heads.now) block span.at span.len number }
+{
+    match slot_of(heads, number) {
+        Some(slot) => touches(&heads[slot], block, span),
+        None => false,
+    }
+}
+
+// Puts those of the numbers into the row that share a byte with the span. Equal ones mostly stand side by side.
+fn gain_touched(
+    heads: &[Head],
+    numbers: &[u32],
+    block: u32,
+    span: Span,
+    row: &mut Row,
+) -> Result<(), AllocError>
+    requires heads { IsRising heads.now }
+    requires row { IsStrictlyIncreasing row.old.items }
+    ensures { OnOk result (GainsTouched (patches_of heads.now) numbers.now block span.at span.len row.old.items row.new.items) }
+{
+    let mut last = 0;
+    for number in numbers {
+        if *number != last {
+            last = *number;
+            if is_touched(heads, last, block, span) {
+                put(row, last)?;
+            }
+        }
+    }
+    Ok(())
+}
+
+/// What a new change is to name so that it depends on the named patches that are not on disk, and on each change not on
+/// disk that shares a byte with it. It looks at its bytes alone, but for a block of which a change without a byte was made,
+/// or a change that has none: there at the list, which has the changes of the block that are not on disk.
+pub fn sparse_row(
+    alloc: Global,
+    heads: &[Head],
+    list: &[Listed],
+    cover: &Cover,
+    wanted: &Wanted<'_>,
+) -> Result<Row, AllocError>
+    requires rising { IsRising heads.now }
+    requires listed { entries_of list.now ≡ entries_on wanted.now.block (patches_of heads.now) }
+    requires covered { IsCovered (patches_of heads.now) wanted.now.block cover.now }
+    ensures { IfOk result (λ row. IsSparseRow (patches_of heads.now) (numbers_of wanted.now.names.now) wanted.now.block wanted.now.span.at wanted.now.span.len row.items) }
+{
+    let block = wanted.block;
+    let span = wanted.span;
+    if span.len == 0 || cover.has_points() {
+        return dependencies_of(alloc, heads, list, block, span, wanted.names);
+    }
+    let mut row = live_named(alloc, heads, wanted.names)?;
+    gain_touched(heads, cover.over(span), block, span, &mut row)?;
+    Ok(row)
+}
