@@ -19,6 +19,7 @@ use Rattle.fst_types.proofs.Bounds.{step_keeps_lawful}
 use Rattle.fst_types.proofs.Dropping.{filter_in, in_filter}
 use Rattle.fst_types.proofs.Finite.{In, In-from_Contains, Contains-from_In}
 use Rattle.fst_types.proofs.Issuing.{launched_cases, among_in}
+use Rattle.fst_types.proofs.Loosened.{loosened}
 use Rattle.fst_types.proofs.Landing.{change_at, at_change}
 use Rattle.fst_types.proofs.Numbers.{both}
 use Rattle.fst_block.specs.BlockView.{BlockView, fold_of}
@@ -97,7 +98,7 @@ module _ (s : State) (graph : Known) (seats : List SeatView) (b : ℕ) (seat : S
   -- the other blocks
   still_launched : (j : ℕ) → j ≢ b → (p : Patch) → In s.heads p → IsStill j p (launched (numbers_of names) p)
   still_launched j other p h =
-      elim (launched_cases s.heads s.numbers b (numbers_of names) law.heads (writable s law b names S.choice S.clear) S.choice p (Contains-from_In s.heads p h)) [
+      elim (launched_cases s.heads s.numbers b (numbers_of names) (loosened law.heads) (writable s law b names S.choice S.clear) S.choice p (Contains-from_In s.heads p h)) [
         | inl m ↦ subst (IsStill j p) (sym m.1) (still_away j p (off p.kind b j m.0.in_memory.change other))
         | inr k ↦ subst (IsStill j p) (sym k.0) (still_self j p)
       ]

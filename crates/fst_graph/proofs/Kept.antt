@@ -1,6 +1,8 @@
 -- What calls that change places leave of what the fields keep.
-use Rattle.std.proofs.Common.{◌≡◌, ℕ, Bool, List, length, map, refl, sym, ◌∙◌, arith}
-use Rattle.fst_types.specs.Patches.{Patch}
+use Rattle.std.proofs.Common.{◌≡◌, ◌<◌, ◌+◌, ◌++◌, ◌∷◌, [], ℕ, Bool, List, length, map, get_or, set, refl, sym, subst, ◌∙◌, arith}
+use Rattle.fst_types.specs.declared.grade.Grade.{Grade}
+use Rattle.fst_types.specs.Making.{fresh}
+use Rattle.fst_types.specs.Patches.{Change, Patch}
 use Rattle.fst_types.specs.Facts.{SparseAreLawful}
 use Rattle.fst_types.specs.Gates.{IsOpenNumber}
 use Rattle.fst_types.specs.Gating.{sealed}
@@ -11,7 +13,10 @@ use Rattle.fst_types.proofs.Alike.{Alike, back_alike, length_alike, on_back}
 use Rattle.fst_types.proofs.Landing.{alike_landed, sparse_landed}
 use Rattle.fst_types.proofs.Sealing.{alike_sealed, sparse_sealed}
 use Rattle.fst_types.proofs.Issuing.{alike_launched, sparse_launched}
+use Rattle.fst_heads.specs.Covers.{AreCovered, Covering, HasBytes, IsPut}
 use Rattle.fst_heads.specs.Keeps.{Keeps}
+use Rattle.fst_heads.specs.Rows.{IsSparseRow}
+use Rattle.fst_heads.proofs.Covering.{covered_alike, covered_put}
 
 module _ (old new : List Patch) (A : Alike old new) where
   pub keeps_alike : (numbers blocks : ℕ) (marks marks' : List Bool) → Keeps old numbers blocks marks → SparseAreLawful new numbers → length marks' ≡ length marks → Keeps new numbers blocks marks'
@@ -33,3 +38,19 @@ keeps_landed old new numbers blocks b marks marks' K cascade long =
 pub keeps_launched : (old : List Patch) (numbers blocks b : ℕ) (chosen : List ℕ) (marks : List Bool) → Keeps old numbers blocks marks → IsWritable old b → IsWritableSet old b chosen → Keeps (map (launched chosen) old) numbers blocks marks
 keeps_launched old numbers blocks b chosen marks K writable choice =
     keeps_alike old (map (launched chosen) old) (alike_launched old numbers b chosen K.lawful writable choice) numbers blocks marks marks K (sparse_launched old numbers b chosen K.lawful writable choice) refl
+
+-- the covers, where patches moved on
+pub covered_moved : {old new : List Patch} {numbers blocks : ℕ} {marks : List Bool} {covers : List Covering} → Alike old new → Keeps new numbers blocks marks → AreCovered old blocks covers → AreCovered new blocks covers
+covered_moved {old} {new} {numbers} {blocks} {marks} {covers} A K C = covered_alike old new A K.lawful.on_disk_with_all K.lawful.one_place_each.rising blocks covers C
+
+-- where there is room for one change more
+pub covered_on : {heads : List Patch} {blocks : ℕ} {covers covers' : List Covering} → AreCovered heads blocks covers
+    → ((hs : List Patch) → AreCovered hs (length covers) covers → AreCovered hs (length covers) covers') → AreCovered heads blocks covers'
+covered_on {heads} {blocks} {covers} {covers'} C same = subst (λ k. AreCovered heads k covers') C.long (same heads (subst (λ k. AreCovered heads k covers) (sym C.long) C))
+
+-- and where a change was made
+pub covered_made : {old : List Patch} {n b at len : ℕ} {grade : Grade} {names row : List ℕ} {blocks : ℕ} {covers : List Covering} {own cover : Covering} → IsSparseRow old names b at len row
+    → AreCovered old blocks covers → b < blocks → own ≡ get_or covers b own → ((d : Covering) → HasBytes (get_or covers b d) at len) → IsPut own at len (n + 1) cover
+    → AreCovered (old ++ fresh (n + 1) (Change b at len grade) row ∷ []) blocks (set covers b cover)
+covered_made {old} {n} {b} {at} {len} {grade} {names} {row} {blocks} {covers} {own} {cover} S C inside same room put =
+    covered_put old (n + 1) b at len grade names row (omega arith) S blocks covers C inside own cover (room own) (subst (λ c. IsPut c at len (n + 1) cover) same put)

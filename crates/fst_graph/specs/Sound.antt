@@ -1,5 +1,5 @@
 -- What the patches keep of their fields between two calls.
-use Rattle.std.specs.Prelude.{ℕ, false, [], slice_index_or, Option, IfSome, length, map, vec_len, vec_capacity}
+use Rattle.std.specs.Prelude.{ℕ, slice_index_or, Option, IfSome, length, map, vec_len, vec_capacity}
 use Rattle.std.specs.Global.{Vec}
 use Rattle.fst_heads.specs.declared.head.Head.{Head}
 use Rattle.fst_heads.specs.declared.lists.Listed.{Listed}
@@ -18,7 +18,7 @@ pub record IsPrepared (heads : Vec Head) (walks : BlockWalk) (lists : Vec (Vec L
   pub ready : MayBePut (patches_of heads.items) numbers blocks p
   pub places : HasPlaces (vec_len heads) (vec_capacity heads) (length walks.walk.marks) walks.walk.room (vec_capacity queue)
   pub around : HasRoomAround heads.items p
-  pub bytes : HasBytes (slice_index_or covers.items p.block (record { newest = []; points = false })) p.span.at p.span.len
+  pub bytes : (d : Covering) → HasBytes (slice_index_or covers.items p.block d) p.span.at p.span.len
   pub in_list : HasRoomInList (map (λ l. vec_len l) lists.items) (map (λ l. vec_capacity l) lists.items) p.block
 
 -- the heads are lawful patches, what stands beside them tells of them, and there is room for what is prepared

@@ -12,7 +12,7 @@ ghost use Rattle.fst_graph.specs.Sparse.{AddsSparse, ForetellsSparse, GainsSpars
 use crate::gates::gate_slot;
 use crate::member::prepare_member;
 use crate::sparse::pairs::row_of;
-use crate::sparse::{Sparse, reserve_one};
+use crate::sparse::{Sparse, reserve_on, reserve_one};
 use crate::prepared::Gates;
 use crate::refusals::member_fault;
 use fst_heads::cascade::{cascade, seal_slot};
@@ -70,10 +70,7 @@ impl Sparse {
         if reserve_below(&mut self.heads, gates.tail).is_err() {
             return Err(Fault::Memory);
         }
-        if self.lists[block.0 as usize].reserve(1).is_err() {
-            return Err(Fault::Memory);
-        }
-        if self.covers[block.0 as usize].reserve(span).is_err() {
+        if reserve_on(&mut self.lists, &mut self.covers, block.0, span).is_err() {
             return Err(Fault::Memory);
         }
         let grade = prepared.grade;
@@ -140,8 +137,8 @@ impl Sparse {
             dependants: SmallVec::new(self.alloc),
         });
         self.lists[block as usize].push_reserved(Listed { number, span });
-        self.covers[block as usize].put(span, number);
         self.standings[block as usize].enter(kind, is_pending(pending, Pending::Block(block)));
+        self.covers[block as usize].put(span, number);
         self.walks.walk.grow();
         self.live += 1;
         self.numbers = number;

@@ -7,7 +7,7 @@ ghost use Rattle.fst_graph.specs.Known.{Prepared, unprepared, prepared_for, Refu
 ghost use Rattle.fst_graph.specs.Sparse.{AddsSparse, ForeseesSparse};
 ghost use Rattle.fst_heads.specs.Names.{numbers_of};
 
-use crate::sparse::{Sparse, reserve_one};
+use crate::sparse::{Sparse, reserve_on, reserve_one};
 use crate::prepared::prepare;
 use crate::refusals::make_fault;
 use fst_heads::head::{Head, Kind};
@@ -56,10 +56,7 @@ impl Sparse {
         if reserve_above(&mut self.heads, prepared.dependencies.as_slice()).is_err() {
             return Err(Fault::Memory);
         }
-        if self.lists[block.0 as usize].reserve(1).is_err() {
-            return Err(Fault::Memory);
-        }
-        if self.covers[block.0 as usize].reserve(span).is_err() {
+        if reserve_on(&mut self.lists, &mut self.covers, block.0, span).is_err() {
             return Err(Fault::Memory);
         }
         let grade = prepared.grade;
@@ -104,8 +101,8 @@ impl Sparse {
             dependants: SmallVec::new(self.alloc),
         });
         self.lists[block as usize].push_reserved(Listed { number, span });
-        self.covers[block as usize].put(span, number);
         self.standings[block as usize].enter(kind, is_pending(pending, Pending::Block(block)));
+        self.covers[block as usize].put(span, number);
         self.walks.walk.grow();
         self.live += 1;
         self.numbers = number;

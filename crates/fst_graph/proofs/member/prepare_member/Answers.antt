@@ -1,4 +1,4 @@
-use Rattle.std.proofs.Common.{Bor, List, sym, ap, subst}
+use Rattle.std.proofs.Common.{Bor, List, sym, ap, subst, arith}
 use Rattle.fst_types.specs.declared.number.PatchNo.{PatchNo}
 use Rattle.fst_types.specs.Grades.{FollowsRule}
 use Rattle.fst_heads.specs.Grading.{MayBeHard}
@@ -6,14 +6,19 @@ use Rattle.fst_heads.specs.Heads.{patches_of}
 use Rattle.fst_heads.specs.Names.{numbers_of}
 use Rattle.fst_heads.specs.Lists.{entries_of}
 use Rattle.fst_heads.proofs.Listing.{listed_at}
-use Rattle.fst_heads.proofs.Touching.{whole_is_sparse}
 use Rattle.fst_graph.proofs.MemberRow.{IsAfter, rests, waits, told_open, member_row, member_rule}
 use Rattle.fst_graph.proofs.member.prepare_member.Goals as goal
 use Rattle.fst_graph.proofs.member.prepare_member.Goals.{then-is_some+then-rests, else-is_some, else-is_some-via-then-is_some+else-rests, else-is_some-via-else-is_some}
 
-pub dependencies_of-requires-clause-listed : goal.dependencies_of-requires-clause-listed
-dependencies_of-requires-clause-listed c =
+pub index-sight-block-2-requires : goal.index-sight-block-2-requires
+index-sight-block-2-requires c = omega (arith, c.requires.block, c.requires.sees.covered.long)
+
+pub sparse_row-requires-clause-listed : goal.sparse_row-requires-clause-listed
+sparse_row-requires-clause-listed c =
     rw (c.deref.ensures.value, ← c.index-sight-block.is) (listed_at (λ l. entries_of l.items) (patches_of c.args.sight.now.heads.now) c.args.sight.now.lists.now c.args.block c.index-sight-block.result c.requires.block c.index-sight-block.is c.requires.sees.listed)
+
+pub sparse_row-requires-clause-covered : goal.sparse_row-requires-clause-covered
+sparse_row-requires-clause-covered c = rw c.index-sight-block-2.is (c.requires.sees.covered.each c.args.block c.index-sight-block-2.result c.requires.block)
 
 pub returns-clause-depends : goal.returns-clause-depends
 returns-clause-depends c =
@@ -29,7 +34,7 @@ returns-clause-depends c =
         | else-is_some-via-else-is_some v ↦ absurd (opened.1 v.if-is_some.false gate)
       ]))
     ] in
-    member_row patches c.requires.lawful.0 c.requires.lawful.1 head c.args.block c.in_ok-dependencies.dependencies.items c.args.span.at c.args.span.len after is (whole_is_sparse patches after c.args.block c.args.span.at c.args.span.len c.in_ok-dependencies.dependencies.items c.in_ok-dependencies.ensures)
+    member_row patches c.requires.lawful.0 c.requires.lawful.1 head c.args.block c.in_ok-dependencies.dependencies.items c.args.span.at c.args.span.len after is c.in_ok-dependencies.ensures
 
 pub returns-clause-graded : goal.returns-clause-graded
 returns-clause-graded c =

@@ -11,7 +11,7 @@ use Rattle.fst_graph.proofs.Paired.{adds_pair, keeps_pair, paired, with_head}
 use Rattle.fst_heads.proofs.Added.{with_node}
 use Rattle.fst_graph.proofs.PairTold.{gated, second_gate, first_put, second_put, patches_paired, rising_gated, room_gated, tallies_pair}
 use Rattle.fst_walks.proofs.Seen.{tallies_wider}
-use Rattle.fst_heads.proofs.Covering.{covered_gained, covered_push}
+use Rattle.fst_heads.proofs.Covering.{covered_push}
 use Rattle.fst_graph.proofs.sparse.Sparse.add_pair.Goals as goal
 
 pub row_sums-sums-requires : goal.row_sums-sums-requires
@@ -65,7 +65,9 @@ invariant_of-self-2 c =
           (beside_made (with_head (patches_of heads) n) blocks (c.self.inside.live + 1) 1 c.self.inside.walks.crossed.items (fresh (n + 1 + 1) OpenGate ((n + 1) ∷ [])) refl
           (beside_made (patches_of heads) blocks c.self.inside.live 1 c.self.inside.walks.crossed.items (fresh (n + 1) OpenGate []) refl c.self.invariant.beside)));
       tallies = rw (second c, c.reserve_two.ensures.queue) (tallies_pair heads n blocks _ _ _ _ c.reserve_two.new.queue.cap K.lawful c.self.invariant.tallies room);
-      covered = ?;
+      covered = rw (patches_paired heads c.push_reserved-2.new.self.items n (second c))
+          (covered_push (with_head (patches_of heads) n) (fresh (n + 1 + 1) OpenGate ((n + 1) ∷ [])) (λ b on. cc) blocks c.self.inside.covers.items
+          (covered_push (patches_of heads) (fresh (n + 1) OpenGate []) (λ b on. cc) blocks c.self.inside.covers.items c.self.invariant.covered));
       prepared = tt;
     }
 

@@ -27,7 +27,7 @@ use Rattle.fst_heads.proofs.Sums.{joined_exact}
 use Rattle.fst_graph.proofs.Tallied.{tallies_made}
 use Rattle.fst_heads.proofs.Touching.{keeps_change}
 use Rattle.fst_heads.proofs.Beside.{beside_made}
-use Rattle.fst_heads.proofs.Covering.{covered_put}
+use Rattle.fst_graph.proofs.Kept.{covered_made}
 use Rattle.fst_graph.proofs.sparse.Sparse.add_prepared.Goals as goal
 
 pub row_sums-sums-requires : goal.row_sums-sums-requires
@@ -101,7 +101,7 @@ invariant_of-self c =
         shelved_push c.self.inside.lists.items p.block c.index_mut.result.now c.push_reserved-2.new.self _ (let inside = ready.inside in omega (arith, inside, long)) c.index_mut.ensures.value c.push_reserved-2.ensures.items,
       )
           tallies;
-      covered = rw (c.push_reserved.ensures.items, map_push, patches) (?);
+      covered = rw (c.push_reserved.ensures.items, map_push, patches) (covered_made ready.depends c.self.invariant.covered ready.inside c.index_mut-3.ensures.value (prepared_is c.self.invariant p kept).bytes c.put.ensures);
       prepared = tt;
     })
 

@@ -13,7 +13,7 @@ use Rattle.fst_heads.specs.Standings.{AllStand}
 use Rattle.fst_heads.proofs.AtNumber.{patches_in_nodes}
 use Rattle.fst_heads.proofs.Beside.{beside_landed, landed_few, sealed_told}
 use Rattle.fst_graph.proofs.Borne.{inside_nodes, open_nodes, settled_fits}
-use Rattle.fst_graph.proofs.Kept.{keeps_sealed}
+use Rattle.fst_graph.proofs.Kept.{covered_moved, keeps_sealed}
 use Rattle.fst_graph.proofs.MemberReady.{put_begun, around_kept, places_kept, shut_begun}
 use Rattle.fst_graph.specs.Sound.{IsPrepared}
 use Rattle.fst_graph.proofs.Readied.{head_told}
@@ -25,7 +25,6 @@ use Rattle.fst_heads.proofs.Stands.{stand_sealed}
 use Rattle.fst_heads.proofs.Starting.{starts_sealed, unsettled_sealed}
 use Rattle.fst_heads.proofs.Carried.{linked_sealed, distinct_sealed}
 use Rattle.fst_graph.proofs.Tallied.{tallies_sealed}
-use Rattle.fst_heads.proofs.Covering.{covered_alike}
 use Rattle.fst_types.proofs.Sealing.{alike_sealed}
 use Rattle.fst_graph.proofs.sparse.Sparse.begin_member.Goals as goal
 
@@ -108,8 +107,8 @@ invariant_of-self c =
       beside = beside_landed heads c.seal_slot.new.heads.items new (at_number g seals) blocks c.self.inside.live c.cascade-landed.result c.self.inside.walks.crossed.items c.seal_slot.ensures.nodes (sealed_told g) T.settled settled c.cascade-landed.ensures.landed c.self.invariant.beside;
       tallies = rw (c.cascade-landed.ensures.empty, c.cascade-landed.ensures.capacity, c.seal_slot.ensures.capacity)
           (tallies_sealed nodes (nodes_of new) n blocks _ _ _ _ _ g (lawful_nodes heads n K.lawful) (lawful_nodes new n kept.lawful) T gate spread settled standing);
-      covered = covered_alike old (patches_of new) (alike_sealed old (patches_of new) n g K.lawful open_gate cascade) kept.lawful.on_disk_with_all kept.lawful.one_place_each.rising blocks c.self.inside.covers.items c.self.invariant.covered;
-      prepared = if_prepared c.self.invariant (IsPrepared c.cascade-landed.new.heads c.self.inside.walks c.self.inside.lists c.cascade-landed.new.queue n blocks) (λ p is k. record {
+      covered = covered_moved (alike_sealed old (patches_of new) n g K.lawful open_gate cascade) kept c.self.invariant.covered;
+      prepared = if_prepared c.self.invariant (IsPrepared c.cascade-landed.new.heads c.self.inside.walks c.self.inside.lists c.self.inside.covers c.cascade-landed.new.queue n blocks) (λ p is k. record {
         ready = put_begun old n blocks c.self.inside.walks.walk.marks K g (patches_of new) open_gate cascade p (head_told c.self.inside.prepared n c.requires.0 g p (ap (λ k. k.prepared) c.self.view_is ∙ c.requires.1) c.requires.2 is) k.ready;
         places = places_kept _ _ _ _ _ _ _ _ heads_long (c.cascade-landed.ensures.places ∙ c.seal_slot.ensures.places) (c.cascade-landed.ensures.capacity ∙ c.seal_slot.ensures.capacity) k.places;
         around = around_kept new heads frames p k.around;

@@ -11,7 +11,7 @@ use Rattle.fst_heads.specs.Nodes.{node_of, nodes_of, patches_in, AreSettled}
 use Rattle.fst_heads.specs.Standings.{AllStand, is_flying_on}
 use Rattle.fst_heads.proofs.AtNumber.{patches_in_nodes}
 use Rattle.fst_graph.proofs.Borne.{inside_nodes, stand_land}
-use Rattle.fst_graph.proofs.Kept.{keeps_landed}
+use Rattle.fst_graph.proofs.Kept.{covered_moved, keeps_landed}
 use Rattle.fst_walks.proofs.Seen.{seen, lawful_nodes}
 use Rattle.fst_walks.proofs.Shelves.{shelved}
 use Rattle.fst_heads.proofs.Counts.{flying_counted}
@@ -22,7 +22,6 @@ use Rattle.fst_heads.proofs.Starting.{starts_landed, patches_landed}
 use Rattle.fst_heads.proofs.Carried.{linked_landed, distinct_landed}
 use Rattle.fst_graph.proofs.Tallied.{tallies_landed}
 use Rattle.fst_heads.proofs.Beside.{beside_landed, landed_few}
-use Rattle.fst_heads.proofs.Covering.{covered_alike}
 use Rattle.fst_types.proofs.Landing.{alike_landed}
 use Rattle.fst_graph.proofs.sparse.Sparse.land.Goals as goal
 
@@ -130,7 +129,7 @@ invariant_of-self c =
       beside = beside_landed heads mid new (lands b) blocks c.self.inside.live c.cascade-landed.result c.self.inside.walks.crossed.items c.land_block.ensures.nodes (λ x. refl) T.settled settled c.cascade-landed.ensures.landed c.self.invariant.beside;
       tallies = rw (c.cascade-landed.ensures.empty, c.cascade-landed.ensures.capacity, c.land_block.ensures.capacity)
           (tallies_landed nodes (nodes_of new) n blocks b _ _ _ _ _ _ (lawful_nodes new n kept.lawful) T listed spread settled standing);
-      covered = ?;
+      covered = covered_moved (alike_landed old (patches_of new) n b c.self.invariant.keeps.lawful cascade) kept c.self.invariant.covered;
       prepared = tt;
     }
 

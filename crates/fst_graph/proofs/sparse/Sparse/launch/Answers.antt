@@ -8,7 +8,7 @@ use Rattle.fst_heads.specs.Names.{numbers_of}
 use Rattle.fst_heads.specs.Nodes.{nodes_of}
 use Rattle.fst_heads.proofs.AtNumber.{patches_in_nodes}
 use Rattle.fst_graph.proofs.Borne.{inside_nodes}
-use Rattle.fst_graph.proofs.Kept.{keeps_launched}
+use Rattle.fst_graph.proofs.Kept.{covered_moved, keeps_launched}
 use Rattle.fst_graph.proofs.Launches.{some_chosen, first_named, none_first, block_found, block_some, tallies_chosen}
 use Rattle.fst_graph.proofs.Marking.{writable_rests}
 use Rattle.fst_heads.proofs.Placed.{patches_launched}
@@ -17,7 +17,6 @@ use Rattle.fst_walks.proofs.Seen.{seen, lawful_nodes}
 use Rattle.fst_heads.proofs.Slots.{rising_heads}
 use Rattle.fst_heads.proofs.Beside.{beside_kept}
 use Rattle.fst_heads.specs.Spreading.{launches}
-use Rattle.fst_heads.proofs.Covering.{covered_alike}
 use Rattle.fst_types.proofs.Issuing.{alike_launched}
 use Rattle.fst_graph.proofs.sparse.Sparse.launch.Goals as goal
 
@@ -80,7 +79,7 @@ invariant_of-self-2 c =
       beside = beside_kept heads c.launch_all.new.heads.items (launches chosen) blocks c.self.inside.live c.self.inside.walks.crossed.items c.launch_all.ensures (λ x. refl) c.self.invariant.tallies.settled (rw c.launch_all.ensures tallies.settled) c.self.invariant.beside;
       tallies = rw c.launch_all.ensures
           tallies;
-      covered = ?;
+      covered = rw new (covered_moved (alike_launched (patches_of heads) n b chosen K.lawful writable choice) kept c.self.invariant.covered);
       prepared = tt;
     }
 

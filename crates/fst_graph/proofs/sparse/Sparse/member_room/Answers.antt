@@ -18,9 +18,8 @@ use Rattle.fst_graph.proofs.MemberReady.{member_ready, foretold}
 use Rattle.fst_graph.proofs.Readied.{member_put}
 use Rattle.fst_graph.proofs.Walked.{as_many_marks, gates_told, many_lists, sees_all, still_marked}
 use Rattle.fst_walks.proofs.Seen.{same_patches, tallies_wider}
-use Rattle.fst_walks.proofs.Shelves.{shelved_same, room_in_list}
 use Rattle.fst_heads.proofs.Slots.{rising_heads}
-use Rattle.fst_heads.proofs.Covering.{covered_longer}
+use Rattle.fst_graph.proofs.Kept.{covered_on}
 use Rattle.fst_graph.proofs.sparse.Sparse.member_room.Goals as goal
 
 pub member_fault-requires-clause-sees : goal.member_fault-requires-clause-sees
@@ -115,8 +114,8 @@ invariant_of-self-then-is_err-4 c =
     let still : nodes_of c.reserve_below.new.heads.items ≡ nodes_of heads = c.reserve_below.ensures.nodes ∙ (c.reserve_above.ensures.nodes ∙ ap nodes_of c.reserve_one.ensures.heads) in record {
       keeps = rw (same_patches c.reserve_below.new.heads.items heads still, c.reserve_one.ensures.marks) K;
       beside = rw (same_patches c.reserve_below.new.heads.items heads still) (record { places = crossed; counted = c.self.invariant.beside.counted });
-      tallies = rw (still, shelved_same c.self.inside.lists.items c.args.block.0 c.index_mut.result.now c.reserve.new.self c.index_mut.ensures.value c.reserve.ensures.items) (tallies_wider _ c.self.inside.numbers c.self.inside.blocks _ _ _ _ _ _ c.self.invariant.tallies c.reserve_one.ensures.queue c.reserve_one.ensures.wide);
-      covered = rw (same_patches c.reserve_below.new.heads.items heads still) c.self.invariant.covered;
+      tallies = rw (still, c.reserve_on.ensures.entries) (tallies_wider _ c.self.inside.numbers c.self.inside.blocks _ _ _ _ _ _ c.self.invariant.tallies c.reserve_one.ensures.queue c.reserve_one.ensures.wide);
+      covered = rw (same_patches c.reserve_below.new.heads.items heads still) (covered_on c.self.invariant.covered c.reserve_on.ensures.covered);
       prepared = tt;
     }
 
@@ -174,18 +173,18 @@ invariant_of-self-2 c =
     let patches = same_patches c.reserve_below.new.heads.items heads still in
     let above : HasRoomAbove c.reserve_above.new.heads.items c.as_slice.result.now = ok_of c.reserve_above.result _ c.reserve_above.ensures.room (sym c.is_err-2.ensures.value ∙ c.if-is_err-2.false) in
     let below : HasRoomBelow c.reserve_below.new.heads.items gates.tail = ok_of c.reserve_below.result _ c.reserve_below.ensures.room (sym c.is_err-3.ensures.value ∙ c.if-is_err-3.false) in
-    let free : c.reserve.new.self.len + 1 ≤ c.reserve.new.self.cap = search rules in
-    let lists : length c.self.inside.lists.items ≡ blocks = sym (length-map c.self.inside.lists.items (λ l. entries_of l.items)) ∙ c.self.invariant.tallies.listed.long in record {
+    record {
       keeps = rw (patches, c.reserve_one.ensures.marks) K;
       beside = rw patches (record { places = crossed; counted = c.self.invariant.beside.counted });
-      tallies = rw (still, shelved_same c.self.inside.lists.items c.args.block.0 c.index_mut.result.now c.reserve.new.self c.index_mut.ensures.value c.reserve.ensures.items)
+      tallies = rw (still, c.reserve_on.ensures.entries)
           (tallies_wider _ n blocks _ _ _ _ _ _ c.self.invariant.tallies c.reserve_one.ensures.queue c.reserve_one.ensures.wide);
-      covered = ?;
+      covered = rw patches (covered_on c.self.invariant.covered c.reserve_on.ensures.covered);
       prepared = record {
         ready = rw patches (member_put p gates old n blocks made.gates ready);
         places = rw (c.reserve_below.ensures.len, c.reserve_below.ensures.capacity, c.reserve_above.ensures.len, c.reserve_above.ensures.capacity) (record { heads_free = search rules; marks_free = search rules; queue_free = search rules });
         around = (rw (← c.as_slice.ensures) (c.reserve_below.ensures.above c.as_slice.result.now above), rw made.gates below);
-        in_list = rw made.block (room_in_list c.self.inside.lists.items c.args.block.0 c.reserve.new.self (let i = inside in omega (arith, i, lists, ap (λ x. x) made.block)) (omega (arith, free)));
+        in_list = rw made.block (ok_of c.reserve_on.result _ c.reserve_on.ensures.in_list (sym c.is_err-4.ensures.value ∙ c.if-is_err-4.false));
+        bytes = rw (made.block, made.span) (ok_of c.reserve_on.result _ c.reserve_on.ensures.bytes (sym c.is_err-4.ensures.value ∙ c.if-is_err-4.false));
       };
     }
 

@@ -19,6 +19,6 @@ invariant_of-result c =
           c.in-Ok-empty_standings.ensures
           refl
           (omega arith));
-      covered = ?;
+      covered = rw c.new.ensures.items c.in-Ok-empty_covers.ensures;
       prepared = tt;
     }

@@ -15,10 +15,9 @@ use Rattle.fst_heads.specs.Nodes.{nodes_of, HasRoomAbove}
 use Rattle.fst_graph.proofs.Borne.{ok_of}
 use Rattle.fst_graph.proofs.Walked.{as_many_marks, many_lists, sees_all, still_marked}
 use Rattle.fst_walks.proofs.Seen.{same_patches, tallies_wider}
-use Rattle.fst_walks.proofs.Shelves.{shelved_same, room_in_list}
 use Rattle.fst_heads.proofs.Slots.{rising_heads}
 use Rattle.fst_heads.proofs.Touching.{graded_change}
-use Rattle.fst_heads.proofs.Covering.{covered_longer}
+use Rattle.fst_graph.proofs.Kept.{covered_on}
 use Rattle.fst_graph.proofs.sparse.Sparse.room.Goals as goal
 
 pub returns-in-Some-clause-refused : goal.returns-in-Some-clause-refused
@@ -112,9 +111,9 @@ invariant_of-self-then-is_err-3 c =
       keeps = rw (same_patches c.reserve_above.new.heads.items heads still, c.reserve_one.ensures.marks)
           K;
       beside = rw (same_patches c.reserve_above.new.heads.items heads still) (record { places = crossed; counted = c.self.invariant.beside.counted });
-      tallies = rw (still, shelved_same c.self.inside.lists.items c.args.block.0 c.index_mut.result.now c.reserve.new.self c.index_mut.ensures.value c.reserve.ensures.items)
+      tallies = rw (still, c.reserve_on.ensures.entries)
           (tallies_wider _ c.self.inside.numbers c.self.inside.blocks _ _ _ _ _ _ c.self.invariant.tallies c.reserve_one.ensures.queue c.reserve_one.ensures.wide);
-      covered = rw (same_patches c.reserve_above.new.heads.items heads still) c.self.invariant.covered;
+      covered = rw (same_patches c.reserve_above.new.heads.items heads still) (covered_on c.self.invariant.covered c.reserve_on.ensures.covered);
       prepared = tt;
     }
 
@@ -139,18 +138,18 @@ invariant_of-self-2 c =
     let follows : FollowsRule p.grade (MayBeHard old None p.block row) = rw made.block (subst (λ hs. FollowsRule p.grade (MayBeHard (patches_of hs) None c.args.block.0 row)) c.deref-2.ensures.value made.graded) in
     let graded = graded_change old n blocks c.self.inside.walks.walk.marks c.self.invariant.keeps p.block p.span.at p.span.len names p.grade row depends follows in
     let above : HasRoomAbove c.reserve_above.new.heads.items c.as_slice.result.now = ok_of c.reserve_above.result _ c.reserve_above.ensures.room (sym c.is_err-2.ensures.value ∙ c.if-is_err-2.false) in
-    let free : c.reserve.new.self.len + 1 ≤ c.reserve.new.self.cap = search rules in
-    let lists : length c.self.inside.lists.items ≡ blocks = sym (length-map c.self.inside.lists.items (λ l. entries_of l.items)) ∙ c.self.invariant.tallies.listed.long in record {
+    record {
       keeps = rw (patches, c.reserve_one.ensures.marks) K;
       beside = rw patches (record { places = crossed; counted = c.self.invariant.beside.counted });
-      tallies = rw (still, shelved_same c.self.inside.lists.items c.args.block.0 c.index_mut.result.now c.reserve.new.self c.index_mut.ensures.value c.reserve.ensures.items)
+      tallies = rw (still, c.reserve_on.ensures.entries)
           (tallies_wider _ n blocks _ _ _ _ _ _ c.self.invariant.tallies c.reserve_one.ensures.queue c.reserve_one.ensures.wide);
-      covered = ?;
+      covered = rw patches (covered_on c.self.invariant.covered c.reserve_on.ensures.covered);
       prepared = record {
         ready = rw (patches, made.gates) (record { clear = clear; inside = inside; depends = depends; graded = graded });
         places = rw (c.reserve_above.ensures.len, c.reserve_above.ensures.capacity) (record { heads_free = search rules; marks_free = search rules; queue_free = search rules });
         around = (rw (← c.as_slice.ensures) above, rw made.gates tt);
-        in_list = rw made.block (room_in_list c.self.inside.lists.items c.args.block.0 c.reserve.new.self (let i = inside in omega (arith, i, lists, ap (λ x. x) made.block)) (omega (arith, free)));
+        in_list = rw made.block (ok_of c.reserve_on.result _ c.reserve_on.ensures.in_list (sym c.is_err-3.ensures.value ∙ c.if-is_err-3.false));
+        bytes = rw (made.block, made.span) (ok_of c.reserve_on.result _ c.reserve_on.ensures.bytes (sym c.is_err-3.ensures.value ∙ c.if-is_err-3.false));
       };
     }
 

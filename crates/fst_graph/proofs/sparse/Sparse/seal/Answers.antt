@@ -10,7 +10,7 @@ use Rattle.fst_heads.specs.Nodes.{nodes_of, at_number, AreSettled}
 use Rattle.fst_heads.specs.Standings.{AllStand}
 use Rattle.fst_heads.proofs.AtNumber.{patches_in_nodes}
 use Rattle.fst_graph.proofs.Borne.{inside_nodes, open_nodes, settled_fits}
-use Rattle.fst_graph.proofs.Kept.{keeps_sealed}
+use Rattle.fst_graph.proofs.Kept.{covered_moved, keeps_sealed}
 use Rattle.fst_walks.proofs.Seen.{seen, one_each, lawful_nodes}
 use Rattle.fst_heads.proofs.Slots.{rising_heads}
 use Rattle.fst_heads.proofs.Stands.{stand_sealed}
@@ -18,7 +18,6 @@ use Rattle.fst_heads.proofs.Starting.{starts_sealed, unsettled_sealed}
 use Rattle.fst_heads.proofs.Carried.{linked_sealed, distinct_sealed}
 use Rattle.fst_graph.proofs.Tallied.{tallies_sealed}
 use Rattle.fst_heads.proofs.Beside.{beside_landed, landed_few, sealed_told}
-use Rattle.fst_heads.proofs.Covering.{covered_alike}
 use Rattle.fst_types.proofs.Sealing.{alike_sealed}
 use Rattle.fst_graph.proofs.sparse.Sparse.seal.Goals as goal
 
@@ -102,7 +101,7 @@ invariant_of-self-2 c =
       beside = beside_landed heads c.seal_slot.new.heads.items new (at_number g seals) blocks c.self.inside.live c.cascade-landed.result c.self.inside.walks.crossed.items c.seal_slot.ensures.nodes (sealed_told g) T.settled settled c.cascade-landed.ensures.landed c.self.invariant.beside;
       tallies = rw (c.cascade-landed.ensures.empty, c.cascade-landed.ensures.capacity, c.seal_slot.ensures.capacity)
           (tallies_sealed nodes (nodes_of new) n blocks _ _ _ _ _ g (lawful_nodes heads n K.lawful) (lawful_nodes new n kept.lawful) T gate spread settled standing);
-      covered = covered_alike old (patches_of new) (alike_sealed old (patches_of new) n g K.lawful open_gate cascade) kept.lawful.on_disk_with_all kept.lawful.one_place_each.rising blocks c.self.inside.covers.items c.self.invariant.covered;
+      covered = covered_moved (alike_sealed old (patches_of new) n g K.lawful open_gate cascade) kept c.self.invariant.covered;
       prepared = tt;
     }
 
