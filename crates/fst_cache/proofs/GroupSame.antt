@@ -1,7 +1,7 @@
 -- What a call of a group leaves of each block. The call is made of parts, and each part leaves a block the same, but for the
 -- change that a new member makes of its own block.
-use Rattle.std.proofs.Common.{◌≡◌, ◌+◌, ℕ, List, [], ◌∷◌, ◌++◌, map, refl, sym, ap, subst, ◌∙◌, inl, inr}
-use Rattle.fst_types.specs.Patches.{OpenGate, Patch}
+use Rattle.std.proofs.Common.{◌≡◌, ◌+◌, ℕ, List, [], ◌∷◌, map, refl, sym, ap, subst, ◌∙◌, inl, inr}
+use Rattle.fst_types.specs.Patches.{OpenGate}
 use Rattle.fst_types.specs.Cascade.{unsettled}
 use Rattle.fst_types.specs.Facts.{HeadsAreLawful}
 use Rattle.fst_types.specs.Groups.{Group}

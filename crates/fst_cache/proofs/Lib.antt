@@ -35,3 +35,4 @@ pub mod SendState
 pub mod SettleFound
 pub mod SettleLanded
 pub mod SettleSeat
+pub mod Counted

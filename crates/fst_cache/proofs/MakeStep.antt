@@ -1,5 +1,5 @@
 -- A new change of a block in memory is one step, and the cache keeps what it keeps.
-use Rattle.std.proofs.Common.{◌≡◌, ◌+◌, ℕ, Bool, true, List, [], ◌∷◌, ◌++◌, Some, IsSome, is_some, refl, sym, ap, ◌∙◌, rules, length, slice_get, slice_set}
+use Rattle.std.proofs.Common.{◌≡◌, ◌+◌, ℕ, Bool, true, List, [], ◌∷◌, ◌++◌, Some, is_some, refl, sym, ap, length, slice_get, slice_set}
 use Rattle.fst_types.specs.declared.grade.Grade.{Grade}
 use Rattle.fst_types.specs.Making.{MakesChange}
 use Rattle.fst_types.specs.State.{State}
@@ -9,7 +9,7 @@ use Rattle.fst_types.proofs.Bounds.{step_keeps_lawful}
 use Rattle.fst_block.specs.BlockView.{BlockPatch, BlockView}
 use Rattle.fst_graph.specs.Known.{Known, AddsChange}
 use Rattle.fst_cache.specs.Seats.{SeatView, blocks}
-use Rattle.fst_cache.specs.Kept.{IsKept, IsKeptSeat, state_of, span_of, block_view}
+use Rattle.fst_cache.specs.Kept.{IsKept, IsKeptSeat, state_of, span_of}
 use Rattle.fst_cache.specs.Making.{MayHold}
 use Rattle.fst_cache.proofs.Kept.{one_moved, same_listed}
 use Rattle.fst_cache.proofs.MakeChanged.{numbered, seat_put, same_else}

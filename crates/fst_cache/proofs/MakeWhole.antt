@@ -1,5 +1,5 @@
 -- Making a change from end to end: room in the graph, the block in memory, its patch, the change in the graph.
-use Rattle.std.proofs.Common.{◌≡◌, ◌+◌, ℕ, Bool, true, List, [], ◌∷◌, ◌++◌, map, Option, refl, sym, ap, subst, ◌∙◌, inl, inr, length, slice_set, take, arith}
+use Rattle.std.proofs.Common.{◌≡◌, ◌+◌, ℕ, Bool, true, List, [], ◌∷◌, ◌++◌, map, Option, refl, sym, ap, subst, ◌∙◌, inl, inr, length, take, arith}
 use Rattle.std.proofs.lemmas.Bool.{both_ways}
 use Rattle.std.specs.Prelude.{nat_lt, slice_index, IsErrOf, Err, Ok, Result, IfOk, MatchResult, ◌⊎◌}
 use Rattle.fst_types.specs.declared.number.PatchNo.{PatchNo}
@@ -18,10 +18,9 @@ use Rattle.fst_graph.specs.Known.{Known, unprepared, Prepared, AddsChange}
 use Rattle.fst_cache.specs.Seats.{SeatView}
 use Rattle.fst_cache.specs.Kept.{IsKept, state_of, span_of}
 use Rattle.fst_cache.specs.Making.{MayHold, MayLoad, Puts}
-use Rattle.fst_cache.proofs.Kept.{same_listed}
-use Rattle.fst_cache.proofs.ResideLoading.{Loaded, loads_clean}
+use Rattle.fst_cache.proofs.ResideLoading.{loads_clean}
 use Rattle.fst_cache.proofs.MakeRefused.{refused_by_load}
-use Rattle.fst_cache.proofs.MakeReady.{loaded, same_state, kept_ready}
+use Rattle.fst_cache.proofs.MakeReady.{same_state, kept_ready}
 use Rattle.fst_cache.proofs.MakeStep.{after_it, step_change, kept_change}
 
 module _ (size resident tickets made : ℕ) (graph graph' : Known) (prepared : Option Prepared) (same : graph' ≡ record graph { prepared = prepared })

@@ -7,7 +7,7 @@ use Rattle.fst_types.specs.declared.grade.Grade.TheVariants as grade
 use Rattle.fst_types.specs.Patches.{Kind, Change, Patch, at_of, len_of}
 use Rattle.fst_types.specs.State.{Flight, State, block_of, committed, flight_of}
 use Rattle.fst_types.specs.Bytes.{content_of, changes_at, base_under}
-use Rattle.fst_types.specs.Counts.{is_dirty, IsDirty}
+use Rattle.fst_types.specs.Counts.{is_dirty, IsDirty, flights}
 use Rattle.fst_types.specs.Facts.{IsLawful}
 use Rattle.fst_block.specs.BlockView.{BlockPatch, BlockView}
 use Rattle.fst_graph.specs.Known.{Known}
@@ -78,6 +78,11 @@ pub record IsKept (s : State) (graph : Known) (seats : List SeatView) : Type 0 w
   pub graph_blocks : graph.blocks ≡ length seats
   pub loaded : count_by (λ seat. is_some seat.loaded) seats ≤ s.resident
   pub seat : (b : ℕ) (seat : SeatView) → slice_get seats b ≡ Some seat → IsKeptSeat s b seat
+
+-- that, and the count of the blocks in flight that is kept is the state's
+pub record IsCounted (count : ℕ) (s : State) (graph : Known) (seats : List SeatView) : Type 0 where
+  pub kept : IsKept s graph seats
+  pub flying : count ≡ flights s
 
 -- block b, its changes and whether it is dirty are in both states the same
 pub record IsSameAt (s t : State) (b : ℕ) : Type 0 where

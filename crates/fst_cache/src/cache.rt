@@ -4,7 +4,8 @@
 //! The cache keeps neither bytes nor dependencies of its own: it asks both, and keeps them in step.
 //!
 //! All that every call needs and keeps is in the type's invariant: the state is lawful, a block in memory is as the state
-//! says, a block with a change that is not on disk is in memory, and no more blocks are in memory than may be.
+//! says, a block with a change that is not on disk is in memory, no more blocks are in memory than may be, and the blocks in
+//! flight are as many as are counted.
 
 mod gates;
 mod groups;
@@ -29,6 +30,7 @@ pub struct Cache<S: BlockSlot> {
     resident: u32,
     tickets: u64,
     made: u64,
+    flights: usize,
     graph: Graph,
     contents: Contents,
     seats: Vec<Seat<S>>,
@@ -36,11 +38,11 @@ pub struct Cache<S: BlockSlot> {
 
 impl<S: BlockSlot> Model for Cache<S> {
     ghost use Rattle.fst_cache.specs.Views.{CacheView};
-    ghost use Rattle.fst_cache.specs.Kept.{IsKept, state_of, view_of};
+    ghost use Rattle.fst_cache.specs.Kept.{IsCounted, state_of, view_of};
 
     ghost Value = { CacheView };
 
     ghost view = { λ a. view_of (state_of a.size a.resident a.tickets a.made a.graph a.contents.items a.seats.items) a.seats.items };
 
-    ghost invariant = { λ a. IsKept (state_of a.size a.resident a.tickets a.made a.graph a.contents.items a.seats.items) a.graph a.seats.items };
+    ghost invariant = { λ a. IsCounted a.flights (state_of a.size a.resident a.tickets a.made a.graph a.contents.items a.seats.items) a.graph a.seats.items };
 }

@@ -131,6 +131,7 @@ impl<S: BlockSlot> Cache<S> {
             resident: shape.resident,
             tickets,
             made: 0,
+            flights: 0,
             graph,
             contents: Contents::none(),
             seats: seated(slots, seats),

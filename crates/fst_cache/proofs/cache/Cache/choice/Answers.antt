@@ -23,13 +23,21 @@ ready g c some =
     has_ready (λ v. v.items) c.self.inside.graph.heads c.args.block.0 c.chosen-chosen.result c.chosen-chosen.ensures.ok c.chosen-chosen.ensures.refused (λ none. true_false c.is_none.result (c.is_none.ensures.1 none) some)
 
 pub invariant_of-self : goal.invariant_of-self
-invariant_of-self g c = let i = c.self.inside in kept_still i.size i.resident i.tickets i.made i.graph c.chosen-chosen.new.self i.contents.items i.seats.items c.chosen-chosen.ensures.same c.self.invariant
+invariant_of-self g c =
+    let i = c.self.inside in
+    record {
+      kept = kept_still i.size i.resident i.tickets i.made i.graph c.chosen-chosen.new.self i.contents.items i.seats.items c.chosen-chosen.ensures.same c.self.invariant.kept;
+      flying = c.self.invariant.flying;
+    }
 
 pub invariant_of-self-2 : goal.invariant_of-self-2
 invariant_of-self-2 g c =
     let i = c.self.inside in
-    kept_still i.size i.resident i.tickets i.made c.chosen-chosen.new.self c.hard_held-held.new.self i.contents.items i.seats.items c.hard_held-held.ensures.same
-    (kept_still i.size i.resident i.tickets i.made i.graph c.chosen-chosen.new.self i.contents.items i.seats.items c.chosen-chosen.ensures.same c.self.invariant)
+    record {
+      kept = kept_still i.size i.resident i.tickets i.made c.chosen-chosen.new.self c.hard_held-held.new.self i.contents.items i.seats.items c.hard_held-held.ensures.same
+          (kept_still i.size i.resident i.tickets i.made i.graph c.chosen-chosen.new.self i.contents.items i.seats.items c.chosen-chosen.ensures.same c.self.invariant.kept);
+      flying = c.self.invariant.flying;
+    }
 
 pub returns-then-is_none-clause-refused : goal.returns-then-is_none-clause-refused
 returns-then-is_none-clause-refused g c =

@@ -11,7 +11,12 @@ returns-then-block-len-clause-step g c =
     refused (inl (inl (past, refl)))
 
 pub invariant_of-self : goal.invariant_of-self
-invariant_of-self g c = let i = c.self.inside in kept_still i.size i.resident i.tickets i.made i.graph c.chosen.new.self i.contents.items i.seats.items c.chosen.ensures.same c.self.invariant
+invariant_of-self g c =
+    let i = c.self.inside in
+    record {
+      kept = kept_still i.size i.resident i.tickets i.made i.graph c.chosen.new.self i.contents.items i.seats.items c.chosen.ensures.same c.self.invariant.kept;
+      flying = c.self.invariant.flying;
+    }
 
 pub returns-clause-step : goal.returns-clause-step
 returns-clause-step g c =

@@ -16,7 +16,10 @@ returns-then-made-eq18446744073709551615-clause-step g c = refused (inl (inl (om
 pub invariant_of-self : goal.invariant_of-self
 invariant_of-self g c =
     let i = c.self.inside in
-    kept_unprepared i.size i.resident i.tickets i.made i.graph c.add_empty.new.self i.contents.items i.seats.items c.in_err-no.ensures.same c.self.invariant
+    record {
+      kept = kept_unprepared i.size i.resident i.tickets i.made i.graph c.add_empty.new.self i.contents.items i.seats.items c.in_err-no.ensures.same c.self.invariant.kept;
+      flying = c.self.invariant.flying;
+    }
 
 pub returns-in_err-no-clause-step : goal.returns-in_err-no-clause-step
 returns-in_err-no-clause-step g c =
@@ -29,9 +32,12 @@ returns-in_err-no-clause-step g c =
 pub invariant_of-self-2 : goal.invariant_of-self-2
 invariant_of-self-2 g c =
     let i = c.self.inside in
-    kept_empty i.size i.resident i.tickets i.made i.graph c.add_empty.new.self i.contents.items i.seats.items c.self.invariant c.args.share.now _ (λ h. omega arith) _ c.in_ok-no.ensures.ok
+    record {
+      kept = kept_empty i.size i.resident i.tickets i.made i.graph c.add_empty.new.self i.contents.items i.seats.items c.self.invariant.kept c.args.share.now _ (λ h. omega arith) _ c.in_ok-no.ensures.ok;
+      flying = c.self.invariant.flying;
+    }
 
 pub returns-clause-step : goal.returns-clause-step
 returns-clause-step g c =
     let i = c.self.inside in
-    rw (← c.self.view_is) (step_empty i.size i.resident i.tickets i.made i.graph c.add_empty.new.self i.contents.items i.seats.items c.self.invariant c.args.share.now _ (λ h. omega arith) _ c.in_ok-no.ensures.ok)
+    rw (← c.self.view_is) (step_empty i.size i.resident i.tickets i.made i.graph c.add_empty.new.self i.contents.items i.seats.items c.self.invariant.kept c.args.share.now _ (λ h. omega arith) _ c.in_ok-no.ensures.ok)

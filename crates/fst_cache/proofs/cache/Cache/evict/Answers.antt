@@ -1,4 +1,4 @@
-use Rattle.std.proofs.Common.{◌≡◌, ◌<◌, Some, None, refl, ◌∙◌, slice_get, length, inl}
+use Rattle.std.proofs.Common.{ap, is_some, ◌≡◌, ◌<◌, Some, None, refl, ◌∙◌, slice_get, length, inl}
 use Rattle.std.proofs.lemmas.Bool.{false_from_ne_true}
 use Rattle.std.proofs.lemmas.Option.{slice_get_read}
 use Rattle.std.proofs.lemmas.List.{length-map}
@@ -11,6 +11,7 @@ use Rattle.fst_cache.specs.Kept.{state_of}
 use Rattle.fst_cache.proofs.Kept.{same_listed}
 use Rattle.fst_cache.proofs.ResideSeats.{dirty_is}
 use Rattle.fst_cache.proofs.ResideLoading.{unloaded, view_unloaded, within_of}
+use Rattle.fst_cache.proofs.Counted.{flying_same}
 use Rattle.fst_cache.proofs.cache.Cache.evict.Goals as goal
 
 pub returns-in-Some-clause-step : goal.returns-in-Some-clause-step
@@ -23,9 +24,12 @@ invariant_of-self g c =
     let clear : NoneHolds (order c.args.self.now.state (Evict c.args.block.0)) = c.in_default.ensures in
     let lt : c.args.block.0 < length i.seats.items = within_of (length i.seats.items) c.args.block.0 (rw (← c.self.view_is, length-map) at clear.0) in
     let seated : slice_get i.seats.items c.args.block.0 ≡ Some c.index_mut.result.now = slice_get_read i.seats.items _ _ _ refl lt c.index_mut.ensures.value in
-    let clean = dirty_is s i.graph i.seats.items c.self.invariant refl _ _ seated ∙ false_from_ne_true _ (rw (← c.self.view_is) at clear.1.0) in
-    rw (c.unload.ensures, same_listed i.seats.items c.args.block.0 _ seated (λ (t : SeatView). t.block) (record c.index_mut.result.now { loaded = None }) refl)
-    (unloaded s i.graph i.seats.items c.self.invariant refl _ _ seated clean)
+    let clean = dirty_is s i.graph i.seats.items c.self.invariant.kept refl _ _ seated ∙ false_from_ne_true _ (rw (← c.self.view_is) at clear.1.0) in
+    record {
+      kept = rw (c.unload.ensures, same_listed i.seats.items c.args.block.0 _ seated (λ (t : SeatView). t.block) (record c.index_mut.result.now { loaded = None }) refl)
+          (unloaded s i.graph i.seats.items c.self.invariant.kept refl _ _ seated clean);
+      flying = flying_same i.seats.items c.args.block.0 _ _ seated i.flights (ap (λ (t : SeatView). is_some t.block.flight) c.unload.ensures) c.self.invariant.flying;
+    }
 
 pub returns-clause-step : goal.returns-clause-step
 returns-clause-step g c =

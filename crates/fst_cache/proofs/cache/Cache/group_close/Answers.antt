@@ -10,16 +10,19 @@ use Rattle.fst_cache.proofs.cache.Cache.group_close.Goals as goal
 pub invariant_of-self : goal.invariant_of-self
 invariant_of-self g c =
     let i = c.self.inside in
-    on_either c.group_close.result c.group_close.ensures.ok c.group_close.ensures.same
-    (kept_close i.size i.resident i.tickets i.made i.graph c.group_close.new.self i.contents.items i.seats.items c.self.invariant c.args.group.0)
-    (λ same. kept_unprepared i.size i.resident i.tickets i.made i.graph c.group_close.new.self i.contents.items i.seats.items same c.self.invariant)
+    record {
+      kept = on_either c.group_close.result c.group_close.ensures.ok c.group_close.ensures.same
+          (kept_close i.size i.resident i.tickets i.made i.graph c.group_close.new.self i.contents.items i.seats.items c.self.invariant.kept c.args.group.0)
+          (λ same. kept_unprepared i.size i.resident i.tickets i.made i.graph c.group_close.new.self i.contents.items i.seats.items same c.self.invariant.kept);
+      flying = c.self.invariant.flying;
+    }
 
 pub returns-clause-step : goal.returns-clause-step
 returns-clause-step g c =
     let i = c.self.inside in
     rw (← c.self.view_is)
     (match_either c.group_close.result c.group_close.ensures.ok c.group_close.ensures.same c.group_close.ensures.refused
-    (step_close i.size i.resident i.tickets i.made i.graph c.group_close.new.self i.contents.items i.seats.items c.self.invariant c.args.group.0)
+    (step_close i.size i.resident i.tickets i.made i.graph c.group_close.new.self i.contents.items i.seats.items c.self.invariant.kept c.args.group.0)
     (λ fault same why. step_unprepared i.size i.resident i.tickets i.made i.graph c.group_close.new.self i.contents.items i.seats.items same (GroupClose c.args.group.0) fault (inl why)))
 
 pub returns-clause-refused : goal.returns-clause-refused

@@ -14,7 +14,10 @@ returns-then-made-clause-step g c = refused (inl (inl (omega arith, refl)))
 pub invariant_of-self : goal.invariant_of-self
 invariant_of-self g c =
     let i = c.self.inside in
-    kept_unprepared i.size i.resident i.tickets i.made i.graph c.group_new.new.self i.contents.items i.seats.items c.in_err-group.ensures.same c.self.invariant
+    record {
+      kept = kept_unprepared i.size i.resident i.tickets i.made i.graph c.group_new.new.self i.contents.items i.seats.items c.in_err-group.ensures.same c.self.invariant.kept;
+      flying = c.self.invariant.flying;
+    }
 
 pub returns-in_err-group-clause-step : goal.returns-in_err-group-clause-step
 returns-in_err-group-clause-step g c =
@@ -27,9 +30,12 @@ returns-in_err-group-clause-step g c =
 pub invariant_of-self-2 : goal.invariant_of-self-2
 invariant_of-self-2 g c =
     let i = c.self.inside in
-    kept_new i.size i.resident i.tickets i.made i.graph c.group_new.new.self i.contents.items i.seats.items c.self.invariant c.args.share.now _ (λ h. omega arith) c.in_ok-group.ensures.ok
+    record {
+      kept = kept_new i.size i.resident i.tickets i.made i.graph c.group_new.new.self i.contents.items i.seats.items c.self.invariant.kept c.args.share.now _ (λ h. omega arith) c.in_ok-group.ensures.ok;
+      flying = c.self.invariant.flying;
+    }
 
 pub returns-clause-step : goal.returns-clause-step
 returns-clause-step g c =
     let i = c.self.inside in
-    rw (← c.self.view_is) (step_new i.size i.resident i.tickets i.made i.graph c.group_new.new.self i.contents.items i.seats.items c.self.invariant c.args.share.now _ (λ h. omega arith) c.in_ok-group.ensures.ok)
+    rw (← c.self.view_is) (step_new i.size i.resident i.tickets i.made i.graph c.group_new.new.self i.contents.items i.seats.items c.self.invariant.kept c.args.share.now _ (λ h. omega arith) c.in_ok-group.ensures.ok)

@@ -10,11 +10,11 @@ returns-then-is_loaded g c =
     let i = c.self.inside in
     let seated : slice_get i.seats.items c.args.block.0 ≡ Some c.index.result.now =
     slice_get_read i.seats.items _ _ _ i.seats.ok.0 (rw (← c.self.view_is, length-map, ← i.seats.ok.0) at c.requires) c.index.ensures in
-    rw (← c.self.view_is) ((λ _. room_there (state_of i.size i.resident i.tickets i.made i.graph i.contents.items i.seats.items) i.graph i.seats.items c.self.invariant refl _ _ seated (sym c.is_loaded.ensures ∙ c.if-is_loaded.true)), (λ _. c.if-is_loaded.true))
+    rw (← c.self.view_is) ((λ _. room_there (state_of i.size i.resident i.tickets i.made i.graph i.contents.items i.seats.items) i.graph i.seats.items c.self.invariant.kept refl _ _ seated (sym c.is_loaded.ensures ∙ c.if-is_loaded.true)), (λ _. c.if-is_loaded.true))
 
 pub returns-else-is_loaded : goal.returns-else-is_loaded
 returns-else-is_loaded g c =
     let i = c.self.inside in
     let seated : slice_get i.seats.items c.args.block.0 ≡ Some c.index.result.now =
     slice_get_read i.seats.items _ _ _ i.seats.ok.0 (rw (← c.self.view_is, length-map, ← i.seats.ok.0) at c.requires) c.index.ensures in
-    rw (← c.self.view_is, c.dirty.ensures, c.deref.ensures.value) (room_else (state_of i.size i.resident i.tickets i.made i.graph i.contents.items i.seats.items) i.graph i.seats.items c.self.invariant refl _ _ seated (sym c.is_loaded.ensures ∙ c.if-is_loaded.false))
+    rw (← c.self.view_is, c.dirty.ensures, c.deref.ensures.value) (room_else (state_of i.size i.resident i.tickets i.made i.graph i.contents.items i.seats.items) i.graph i.seats.items c.self.invariant.kept refl _ _ seated (sym c.is_loaded.ensures ∙ c.if-is_loaded.false))

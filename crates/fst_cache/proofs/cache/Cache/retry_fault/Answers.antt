@@ -45,7 +45,7 @@ returns-clause-fault g c =
     let i = c.self.inside in
     let lt : c.args.block.0 < length i.seats.items = omega (arith, i.seats.ok.0) in
     let st = stalled g (goal.at.returns-clause-fault g c).After-is_stalled c.if-not-is_stalled.false in
-    let few : i.tickets < 18446744073709551615 = let top = c.self.invariant.lawful.limits.tickets in grind (arith, c.if-self.false, top) in
+    let few : i.tickets < 18446744073709551615 = let top = c.self.invariant.kept.lawful.limits.tickets in grind (arith, c.if-self.false, top) in
     let no = kept g (goal.at.returns-clause-fault g c).After-is_stalled c.if-is_lost.false in
     rw (← c.self.view_is, length-map) ((λ h. omega arith), (no, ((λ h. h st), ((λ h. omega arith), tt))))
 

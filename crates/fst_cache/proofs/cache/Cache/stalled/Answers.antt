@@ -16,8 +16,8 @@ returns-then-is_stalled g c =
     let at_b : slice_get i.seats.items c.loop-at.at ≡ Some c.seat-item.result = rw c.deref-seat-items.ensures.value at seated in
     rw (← c.self.view_is)
     record {
-      stalled = stalled_at s i.graph i.seats.items c.self.invariant refl _ _ at_b (sym c.is_stalled.ensures.flight ∙ c.if-is_stalled.true);
-      least = none_below s i.graph i.seats.items c.self.invariant refl c.loop-at.at (rw c.deref-seat-items.ensures.value at c.loop-at.invariant);
+      stalled = stalled_at s i.graph i.seats.items c.self.invariant.kept refl _ _ at_b (sym c.is_stalled.ensures.flight ∙ c.if-is_stalled.true);
+      least = none_below s i.graph i.seats.items c.self.invariant.kept refl c.loop-at.at (rw c.deref-seat-items.ensures.value at c.loop-at.invariant);
     }
 
 pub loop-at-preserved : goal.loop-at-preserved
@@ -30,6 +30,6 @@ pub returns : goal.returns
 returns g c =
     let i = c.self.inside in
     let s = state_of i.size i.resident i.tickets i.made i.graph i.contents.items i.seats.items in
-    let all = none_below s i.graph i.seats.items c.self.invariant refl c.loop-at.at (rw c.deref-seat-items.ensures.value at c.loop-at.invariant) in
+    let all = none_below s i.graph i.seats.items c.self.invariant.kept refl c.loop-at.at (rw c.deref-seat-items.ensures.value at c.loop-at.invariant) in
     let len : length c.deref-seat-items.result.now ≡ length i.seats.items = ap length c.deref-seat-items.ensures.value in
-    rw (← c.self.view_is) (λ b h. let lt = stalled_within s i.graph i.seats.items c.self.invariant refl b h in let le = all b h in omega (arith, lt, le, len, c.loop-at-test.false))
+    rw (← c.self.view_is) (λ b h. let lt = stalled_within s i.graph i.seats.items c.self.invariant.kept refl b h in let le = all b h in omega (arith, lt, le, len, c.loop-at-test.false))
