@@ -49,8 +49,8 @@ pub covered_on : {heads : List Patch} {blocks : ℕ} {covers covers' : List Cove
 covered_on {heads} {blocks} {covers} {covers'} C same = subst (λ k. AreCovered heads k covers') C.long (same heads (subst (λ k. AreCovered heads k covers) (sym C.long) C))
 
 -- and where a change was made
-pub covered_made : {old : List Patch} {n b at len : ℕ} {grade : Grade} {names row : List ℕ} {blocks : ℕ} {covers : List Covering} {own cover : Covering} → IsSparseRow old names b at len row
+pub covered_made : {old : List Patch} {b at len : ℕ} {names row : List ℕ} {blocks : ℕ} {covers : List Covering} {own cover : Covering} (n : ℕ) (grade : Grade) → IsSparseRow old names b at len row
     → AreCovered old blocks covers → b < blocks → own ≡ get_or covers b own → ((d : Covering) → HasBytes (get_or covers b d) at len) → IsPut own at len (n + 1) cover
     → AreCovered (old ++ fresh (n + 1) (Change b at len grade) row ∷ []) blocks (set covers b cover)
-covered_made {old} {n} {b} {at} {len} {grade} {names} {row} {blocks} {covers} {own} {cover} S C inside same room put =
+covered_made {old} {b} {at} {len} {names} {row} {blocks} {covers} {own} {cover} n grade S C inside same room put =
     covered_put old (n + 1) b at len grade names row (omega arith) S blocks covers C inside own cover (room own) (subst (λ c. IsPut c at len (n + 1) cover) same put)

@@ -101,7 +101,7 @@ invariant_of-self c =
         shelved_push c.self.inside.lists.items p.block c.index_mut.result.now c.push_reserved-2.new.self _ (let inside = ready.inside in omega (arith, inside, long)) c.index_mut.ensures.value c.push_reserved-2.ensures.items,
       )
           tallies;
-      covered = rw (c.push_reserved.ensures.items, map_push, patches) (covered_made ready.depends c.self.invariant.covered ready.inside c.index_mut-3.ensures.value (prepared_is c.self.invariant p kept).bytes c.put.ensures);
+      covered = rw (c.push_reserved.ensures.items, map_push, patches) (covered_made n p.grade ready.depends c.self.invariant.covered ready.inside c.index_mut-3.ensures.value (prepared_is c.self.invariant p kept).bytes c.put.ensures);
       prepared = tt;
     })
 

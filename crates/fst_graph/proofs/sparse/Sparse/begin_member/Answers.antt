@@ -112,6 +112,7 @@ invariant_of-self c =
         ready = put_begun old n blocks c.self.inside.walks.walk.marks K g (patches_of new) open_gate cascade p (head_told c.self.inside.prepared n c.requires.0 g p (ap (λ k. k.prepared) c.self.view_is ∙ c.requires.1) c.requires.2 is) k.ready;
         places = places_kept _ _ _ _ _ _ _ _ heads_long (c.cascade-landed.ensures.places ∙ c.seal_slot.ensures.places) (c.cascade-landed.ensures.capacity ∙ c.seal_slot.ensures.capacity) k.places;
         around = around_kept new heads frames p k.around;
+        bytes = k.bytes;
         in_list = k.in_list;
       });
     }

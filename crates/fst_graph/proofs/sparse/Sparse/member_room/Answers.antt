@@ -25,7 +25,7 @@ use Rattle.fst_graph.proofs.sparse.Sparse.member_room.Goals as goal
 pub member_fault-requires-clause-sees : goal.member_fault-requires-clause-sees
 member_fault-requires-clause-sees c =
     let s = c.self.inside in
-    sees_all _ s.numbers s.blocks s.walks.walk.marks s.queue.items (vec_capacity s.queue) s.heads.items s.lists.items s.covers.items s.standings.items c.self.invariant.keeps c.self.invariant.tallies c.self.invariant.covered c.deref.ensures.value c.deref-2.ensures.value c.deref-3.ensures.value
+    sees_all _ s.numbers s.blocks s.walks.walk.marks s.queue.items (vec_capacity s.queue) s.heads.items s.lists.items s.covers.items s.standings.items c.self.invariant.keeps c.self.invariant.tallies c.self.invariant.covered c.deref.ensures.value c.deref-2.ensures.value c.deref-3.ensures.value c.deref-4.ensures.value
 
 pub member_fault-requires-clause-gates : goal.member_fault-requires-clause-gates
 member_fault-requires-clause-gates c = rw c.deref.ensures.value (gates_told c.self.inside.heads.items c.self.inside.numbers c.self.inside.blocks c.self.inside.walks.walk.marks c.self.invariant.keeps c.self.invariant.tallies.settled)
@@ -46,7 +46,7 @@ returns-in-Some-clause-refused c = rw (← c.self.view_is, ← c.deref.ensures.v
 pub prepare_member-requires-clause-sees : goal.prepare_member-requires-clause-sees
 prepare_member-requires-clause-sees c =
     let s = c.self.inside in
-    sees_all _ s.numbers s.blocks s.walks.walk.marks s.queue.items (vec_capacity s.queue) s.heads.items s.lists.items s.covers.items s.standings.items c.self.invariant.keeps c.self.invariant.tallies c.self.invariant.covered c.deref.ensures.value c.deref-2.ensures.value c.deref-3.ensures.value
+    sees_all _ s.numbers s.blocks s.walks.walk.marks s.queue.items (vec_capacity s.queue) s.heads.items s.lists.items s.covers.items s.standings.items c.self.invariant.keeps c.self.invariant.tallies c.self.invariant.covered c.deref.ensures.value c.deref-2.ensures.value c.deref-3.ensures.value c.deref-4.ensures.value
 
 pub prepare_member-requires-clause-counted : goal.prepare_member-requires-clause-counted
 prepare_member-requires-clause-counted c = rw c.deref.ensures.value c.self.invariant.tallies.counted

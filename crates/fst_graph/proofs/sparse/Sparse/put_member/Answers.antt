@@ -293,7 +293,7 @@ invariant_of-self c =
       beside = rw seen2 (beside_depends (old ++ made ∷ []) blocks (c.self.inside.live + 1) c.self.inside.walks.crossed.items tail names (beside_made old blocks c.self.inside.live 1 c.self.inside.walks.crossed.items made refl c.self.invariant.beside));
       tallies = rw (at2, entering, shelved_push c.self.inside.lists.items p.block c.index_mut.result.now c.push_reserved-2.new.self _ (let inside = ready.inside in omega (arith, inside, long)) c.index_mut.ensures.value c.push_reserved-2.ensures.items)
           tallies2;
-      covered = rw seen2 (covered_gained (old ++ made ∷ []) tail names blocks _ (covered_made ready.depends c.self.invariant.covered ready.inside c.index_mut-3.ensures.value P.prepared.bytes c.put.ensures));
+      covered = rw seen2 (covered_gained (old ++ made ∷ []) tail names blocks _ (covered_made n p.grade ready.depends c.self.invariant.covered ready.inside c.index_mut-3.ensures.value P.prepared.bytes c.put.ensures));
       prepared = tt;
     })
 

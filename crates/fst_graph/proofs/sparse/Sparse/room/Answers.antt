@@ -58,7 +58,7 @@ returns-clause-ok c =
 pub prepare-requires-clause-sees : goal.prepare-requires-clause-sees
 prepare-requires-clause-sees c =
     let s = c.self.inside in
-    sees_all _ s.numbers s.blocks s.walks.walk.marks s.queue.items (vec_capacity s.queue) s.heads.items s.lists.items s.covers.items s.standings.items c.self.invariant.keeps c.self.invariant.tallies c.self.invariant.covered c.deref-2.ensures.value c.deref-3.ensures.value c.deref-4.ensures.value
+    sees_all _ s.numbers s.blocks s.walks.walk.marks s.queue.items (vec_capacity s.queue) s.heads.items s.lists.items s.covers.items s.standings.items c.self.invariant.keeps c.self.invariant.tallies c.self.invariant.covered c.deref-2.ensures.value c.deref-3.ensures.value c.deref-4.ensures.value c.deref-5.ensures.value
 
 pub prepare-requires-clause-long : goal.prepare-requires-clause-long
 prepare-requires-clause-long c = as_many_marks c.self.inside.heads.items c.self.inside.numbers c.self.inside.blocks c.self.inside.walks.walk.marks c.self.invariant.keeps ∙ sym (ap length c.deref-2.ensures.value)
