@@ -25,4 +25,5 @@ pub mod MemberRow
 pub mod MemberReady
 pub mod FewCounted
 pub mod TailGains
+pub mod Wholes
 mod Walked
