@@ -25,5 +25,6 @@ pub mod MemberRow
 pub mod MemberReady
 pub mod FewCounted
 pub mod TailGains
+pub mod WholeSteps
 pub mod Wholes
 mod Walked

@@ -1,5 +1,6 @@
 -- The whole rows of changes whose heads keep only a part of them, so that the rest is below that part.
-use Rattle.std.specs.Prelude.{◌==◌, ◌&&◌, ◌||◌, ◌≤◌, nat_lt, ℕ, List, [], ◌∷◌, Contains, map, filter, if◌then◌else◌}
+use Rattle.std.specs.Prelude.{◌&&◌, ◌||◌, ◌≤◌, nat_lt, ℕ, List, Contains, map, filter}
+use Rattle.fst_types.specs.Bytes.{content_of}
 use Rattle.fst_types.specs.Dependencies.{DependsOn, IsLiveNumber}
 use Rattle.fst_types.specs.Patches.{Kind, Change, Empty, OpenGate, SealedGate, Patch}
 use Rattle.fst_types.specs.Tests.{is_among, is_live}
@@ -8,8 +9,7 @@ use Rattle.fst_graph.specs.Known.{Known}
 
 -- the first row kept under the number, or none
 abbrev pub row_under : List (ℕ × List ℕ) → ℕ → List ℕ
-row_under [] n = []
-row_under (e ∷ es) n = if e.0 == n then e.1 else row_under es n
+row_under rows n = content_of rows n
 
 -- the whole row of a patch: of a change that which is kept under its number, else its own
 abbrev pub row_of_kind : List (ℕ × List ℕ) → Kind → ℕ → List ℕ → List ℕ
