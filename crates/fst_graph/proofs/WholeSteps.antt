@@ -169,7 +169,7 @@ module _ (rows : List (ℕ × List ℕ)) where
   pub swap_launched : (chosen : List ℕ) (heads : List Patch) → map (launched chosen) (map (whole rows) heads) ≡ map (whole rows) (map (launched chosen) heads)
   swap_launched chosen heads = map_swap (launched chosen) (whole rows) heads (λ p h. elim (cases_Bool (is_among chosen p.number)) [ inl t ↦ rw t refl | inr f ↦ rw f refl ])
 
-  open_other : (p : Patch) → p.kind ≡ OpenGate → (b : ℕ) → IsOn p b → ⊥
+  pub open_other : (p : Patch) → p.kind ≡ OpenGate → (b : ℕ) → IsOn p b → ⊥
   open_other p e b on = gate_off p.kind e on
     where
       gate_off : (k : Kind) → k ≡ OpenGate → block_of_kind k ≡ Some b → ⊥
@@ -177,6 +177,9 @@ module _ (rows : List (ℕ × List ℕ)) where
       gate_off Empty e on = cc
       gate_off OpenGate e on = cc
       gate_off SealedGate e on = cc
+
+  pub whole_open : (p : Patch) → p.kind ≡ OpenGate → (whole rows p).dependencies ≡ p.dependencies
+  whole_open p e = whole_other p (open_other p e)
 
   pub swap_sealed : (g : ℕ) (heads : List Patch) → ((p : Patch) → Contains heads p → p.number ≡ g → p.kind ≡ OpenGate) → map (sealed g) (map (whole rows) heads) ≡ map (whole rows) (map (sealed g) heads)
   swap_sealed g heads gate =

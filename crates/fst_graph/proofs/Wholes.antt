@@ -16,7 +16,7 @@ use Rattle.fst_types.proofs.GateGains.{In-unmap}
 use Rattle.fst_graph.specs.Rows.{whole, IsSparseOf}
 use Rattle.fst_walks.proofs.Holding.{live_up}
 
-memory_live : (x : Place) → x ≡ place.Memory → x ≡ place.Disk → ⊥
+pub memory_live : (x : Place) → x ≡ place.Memory → x ≡ place.Disk → ⊥
 memory_live x a b = cc
 
 -- a patch and the same with its whole row

@@ -2,6 +2,7 @@
 use Rattle.std.specs.Prelude.{◌&&◌, ◌||◌, ◌≤◌, nat_lt, ℕ, List, Contains, map, filter}
 use Rattle.fst_types.specs.Bytes.{content_of}
 use Rattle.fst_types.specs.Dependencies.{DependsOn, IsLiveNumber}
+use Rattle.fst_types.specs.Facts.{HeadsAreLawful}
 use Rattle.fst_types.specs.Patches.{Kind, Change, Empty, OpenGate, SealedGate, Patch}
 use Rattle.fst_types.specs.Tests.{is_among, is_live}
 use Rattle.fst_heads.specs.Rows.{touches}
@@ -36,3 +37,8 @@ pub record IsSparseOf (rows : List (ℕ × List ℕ)) (heads : List Patch) (numb
 abbrev pub whole_row : List Patch → ℕ → List ℕ → (b at len : ℕ) → List ℕ
 whole_row heads number after b at len =
     map (λ p. p.number) (filter (λ p. nat_lt p.number number && (touches b at len p || (is_live p && is_among after p.number))) heads)
+
+-- the patches with whole rows are lawful, and what each head keeps tells the rest
+pub record AreWhole (rows : List (ℕ × List ℕ)) (heads : List Patch) (numbers : ℕ) : Type 0 where
+  pub lawful : HeadsAreLawful (map (whole rows) heads) numbers
+  pub sparse : IsSparseOf rows heads numbers
