@@ -25,6 +25,7 @@ pub mod MemberRow
 pub mod MemberReady
 pub mod FewCounted
 pub mod TailGains
+pub mod WholeChange
 pub mod WholeRows
 pub mod WholeSteps
 pub mod Wholes
