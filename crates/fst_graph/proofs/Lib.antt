@@ -26,6 +26,7 @@ pub mod MemberReady
 pub mod FewCounted
 pub mod TailGains
 pub mod WholeChange
+pub mod WholeRow
 pub mod WholeRows
 pub mod WholeSteps
 pub mod Wholes
