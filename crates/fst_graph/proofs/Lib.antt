@@ -25,4 +25,9 @@ pub mod MemberRow
 pub mod MemberReady
 pub mod FewCounted
 pub mod TailGains
+pub mod WholeChange
+pub mod WholeRow
+pub mod WholeRows
+pub mod WholeSteps
+pub mod Wholes
 mod Walked

@@ -4,5 +4,6 @@ pub mod Gathered
 pub mod Whole
 pub mod Membering
 pub mod Ready
+pub mod Rows
 pub mod Sound
 pub mod Sparse
