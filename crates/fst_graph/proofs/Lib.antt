@@ -26,6 +26,8 @@ pub mod MemberReady
 pub mod FewCounted
 pub mod TailGains
 pub mod WholeChange
+pub mod WholeMember
+pub mod WholeCalls
 pub mod WholeRow
 pub mod WholeRows
 pub mod WholeSteps

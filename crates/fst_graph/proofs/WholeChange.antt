@@ -43,12 +43,13 @@ kind_more rows number row SealedGate n own other = refl
 
 -- what a change of those bytes touches does not depend on rows
 pub touched_whole : (rows : List (ℕ × List ℕ)) (heads : List Patch) (b at len n : ℕ) → IsTouched heads b at len n ↔ IsTouched (map (whole rows) heads) b at len n
-touched_whole rows heads b at len n =
-    (λ t. record { patch = whole rows t.patch; head = is rows heads t.patch t.head; numbered = t.numbered; shares = t.shares },
-    λ t.
-    let w = was rows heads t.patch t.head in
-    let k = subst (λ (x : Patch). (x.number ≡ n) × (touches b at len x ≡ true)) (sym w.2) (t.numbered, t.shares) in
-    record { patch = w.0; head = w.1; numbered = k.0; shares = k.1 })
+touched_whole rows heads b at len n = (
+  λ t. record { patch = whole rows t.patch; head = is rows heads t.patch t.head; numbered = t.numbered; shares = t.shares },
+  λ t.
+      let w = was rows heads t.patch t.head in
+      let k = subst (λ (x : Patch). (x.number ≡ n) × (touches b at len x ≡ true)) (sym w.2) (t.numbered, t.shares) in
+      record { patch = w.0; head = w.1; numbered = k.0; shares = k.1 },
+)
 
 pub row_whole : (rows : List (ℕ × List ℕ)) (heads : List Patch) (after : List ℕ) (b at len : ℕ) (row : List ℕ) → Lists (IsDependency heads after b at len) row → Lists (IsDependency (map (whole rows) heads) after b at len) row
 row_whole rows heads after b at len row l = record {
@@ -150,20 +151,21 @@ module _ (rows : List (ℕ × List ℕ)) (T : List Patch) (numbers : ℕ) (W : A
   }
 
   graded_same : IsGradedHard T new b number ↔ IsGradedHard F (map (whole more) new) b number
-  graded_same =
-      (λ h. record {
-        free = λ k. h.free ((blocked more new number sparse_over disk number).1 k);
-        straight = λ r. h.straight ((returns more new number sparse_over disk b number).1 r);
-        open_ended = λ q c n live off r.
-            let p = need_was more new number sparse_over disk number q c n live in
-            h.open_ended p.0 c p.1 (λ e. live (sym (ap (λ x. x.place) p.2) ∙ e)) off ((reaches rows T numbers W.sparse W.lawful.on_disk_with_all c b).1 r);
-      },
-      λ h. record {
-        free = λ k. h.free ((blocked more new number sparse_over disk number).0 k);
-        straight = λ r. h.straight ((returns more new number sparse_over disk b number).0 r);
-        open_ended = λ q c n live off r.
-            h.open_ended (whole more q) c (need_is more new number sparse_over disk number q c n) live off ((reaches rows T numbers W.sparse W.lawful.on_disk_with_all c b).0 r);
-      })
+  graded_same = (
+    λ h. record {
+      free = λ k. h.free ((blocked more new number sparse_over disk number).1 k);
+      straight = λ r. h.straight ((returns more new number sparse_over disk b number).1 r);
+      open_ended = λ q c n live off r.
+          let p = need_was more new number sparse_over disk number q c n live in
+          h.open_ended p.0 c p.1 (λ e. live (sym (ap (λ x. x.place) p.2) ∙ e)) off ((reaches rows T numbers W.sparse W.lawful.on_disk_with_all c b).1 r);
+    },
+    λ h. record {
+      free = λ k. h.free ((blocked more new number sparse_over disk number).0 k);
+      straight = λ r. h.straight ((returns more new number sparse_over disk b number).0 r);
+      open_ended = λ q c n live off r.
+          h.open_ended (whole more q) c (need_is more new number sparse_over disk number q c n) live off ((reaches rows T numbers W.sparse W.lawful.on_disk_with_all c b).0 r);
+    },
+  )
 
   pub change_is : ChangeIsMade F numbers b at len after number grade (map (whole more) new)
   change_is = record {

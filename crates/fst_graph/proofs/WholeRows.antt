@@ -35,7 +35,7 @@ use Rattle.fst_graph.proofs.Wholes.{memory_live, is, was, each_whole, on_disk, l
 use Rattle.fst_graph.proofs.WholeSteps.{whole_open, open_other, IsKept, kept_self, AreKept, kept_then, kept_map, kept_cascade, kept_pushed, sparse_kept, cascade_whole, swap_landed, swap_launched, swap_sealed, swap_gains, swap_filter, swap_pushed}
 
 -- where no patch with the number is live, it is on disk
-live_or_disk : (heads : List Patch) (n : ℕ) → IsLiveNumber heads n ⊎ IsOnDisk heads n
+pub live_or_disk : (heads : List Patch) (n : ℕ) → IsLiveNumber heads n ⊎ IsOnDisk heads n
 live_or_disk heads n =
     elim (search_list (λ p. (p.number ≡ n) × IsLive p) heads (λ p. decided_both (cases_eq p.number n) (decided_not (place_decided p.place)))) [
       | inl f ↦ inl (record { patch = f.0; head = f.1; numbered = f.2.0; live = f.2.1 })
@@ -138,18 +138,19 @@ module _ (rows : List (ℕ × List ℕ)) (T : List Patch) (numbers : ℕ) (W : A
       (subst (AreKept T) (sym s) (kept_map (launched chosen) T (λ p h. kept_launched chosen p))) (omega arith)
 
   -- an open gate gains named patches
-  direct_gate : (g : ℕ) → IsOpenNumber T g → (n : ℕ) → DirectlyOn T g n ↔ DirectlyOn F g n
-  direct_gate g o n =
-      (λ d. record { patch = whole rows d.patch; head = is rows T d.patch d.head; numbered = d.numbered; named = W.sparse.only d.patch n d.head d.named },
-      λ d.
-      let w = was rows T d.patch d.head in
-      let e = ap (λ x. x.number) w.2 ∙ d.numbered in
-      record {
-        patch = w.0;
-        head = w.1;
-        numbered = e;
-        named = subst (λ ds. Contains ds n) (whole_open rows w.0 (gate_only g o w.0 w.1 e)) (subst (λ (x : Patch). Contains x.dependencies n) (sym w.2) d.named);
-      })
+  pub direct_gate : (g : ℕ) → IsOpenNumber T g → (n : ℕ) → DirectlyOn T g n ↔ DirectlyOn F g n
+  direct_gate g o n = (
+    λ d. record { patch = whole rows d.patch; head = is rows T d.patch d.head; numbered = d.numbered; named = W.sparse.only d.patch n d.head d.named },
+    λ d.
+        let w = was rows T d.patch d.head in
+        let e = ap (λ x. x.number) w.2 ∙ d.numbered in
+        record {
+          patch = w.0;
+          head = w.1;
+          numbered = e;
+          named = subst (λ ds. Contains ds n) (whole_open rows w.0 (gate_only g o w.0 w.1 e)) (subst (λ (x : Patch). Contains x.dependencies n) (sym w.2) d.named);
+        },
+  )
 
   gate_live : (g : ℕ) → IsOpenNumber T g → IsLiveNumber T g
   gate_live g o =
@@ -157,9 +158,10 @@ module _ (rows : List (ℕ × List ℕ)) (T : List Patch) (numbers : ℕ) (W : A
       (live_number rows T g).1 (record { patch = k.patch; head = k.head; numbered = k.numbered; live = λ e. memory_live k.patch.place (D.open_gates k.patch k.head k.is_open) e })
 
   pub above_same : (g : ℕ) (on : List ℕ) → IsOpenNumber T g → NamesAbove T g on ↔ NamesAbove F g on
-  above_same g on o =
-      (λ a. (a.0, a.1, elim a.2 [ inl e ↦ inl e | inr d ↦ inr (depends_up rows T numbers W.sparse D a.0 g d) ]),
-      λ a. (a.0, a.1, elim a.2 [ inl e ↦ inl e | inr d ↦ inr (depends_down rows T numbers W.sparse D a.0 g d (gate_live g o)) ]))
+  above_same g on o = (
+    λ a. (a.0, a.1, elim a.2 [ inl e ↦ inl e | inr d ↦ inr (depends_up rows T numbers W.sparse D a.0 g d) ]),
+    λ a. (a.0, a.1, elim a.2 [ inl e ↦ inl e | inr d ↦ inr (depends_down rows T numbers W.sparse D a.0 g d (gate_live g o)) ]),
+  )
 
   pub gains_is : (g : ℕ) (on : List ℕ) (new : List Patch) → GateGains T g on new → GateGains F g on (map (whole rows) new)
   gains_is g on new s = record {
@@ -279,12 +281,13 @@ pub grouped_is : (rows : List (ℕ × List ℕ)) (T : List Patch) (numbers numbe
     → GroupIsMade (map (whole rows) T) numbers number (map (whole rows) new) × AreWhole rows new (number + 1)
 grouped_is rows T numbers number new W s =
     let V = gated_over rows T numbers W number s.with_head s.head in
-    let U = gated_over rows s.with_head number V (number + 1) s.with_tail s.tail in
-    (record {
-      with_head = map (whole rows) s.with_head;
-      head = gated_is rows T numbers W number s.with_head s.head;
-      with_tail = map (whole rows) s.with_tail;
-      tail = gated_is rows s.with_head number V (number + 1) s.with_tail s.tail;
-      tie = gains_is rows s.with_tail (number + 1) U (number + 1) (number ∷ []) new s.tie;
-    },
-    gains_over rows s.with_tail (number + 1) U (number + 1) (number ∷ []) new s.tie)
+    let U = gated_over rows s.with_head number V (number + 1) s.with_tail s.tail in (
+      record {
+        with_head = map (whole rows) s.with_head;
+        head = gated_is rows T numbers W number s.with_head s.head;
+        with_tail = map (whole rows) s.with_tail;
+        tail = gated_is rows s.with_head number V (number + 1) s.with_tail s.tail;
+        tie = gains_is rows s.with_tail (number + 1) U (number + 1) (number ∷ []) new s.tie;
+      },
+      gains_over rows s.with_tail (number + 1) U (number + 1) (number ∷ []) new s.tie,
+    )

@@ -154,9 +154,9 @@ module _ (rows : List (ℕ × List ℕ)) where
     same = swap new ∙ (ap (map (whole rows)) cascade.same ∙ sym (swap mid));
     places = each_whole rows new (λ q. Follows q.kind → (q.place ≡ place.Memory) ⊎ (q.place ≡ place.Disk)) (λ p h f. cascade.places p h f);
     settled = each_whole rows new (λ q. Follows q.kind → ((q.place ≡ place.Disk) ↔ RestsOnDisk (map (whole rows) new) q)) (λ p h f.
-    let own = whole_other p (follower_other p f) in
-    let s = cascade.settled p h f in
-    (λ d q c. (on_disk rows new q).0 (s.0 d q (subst (λ ds. Contains ds q) own c)), λ r. s.1 (λ q c. (on_disk rows new q).1 (r q (subst (λ ds. Contains ds q) (sym own) c)))));
+        let own = whole_other p (follower_other p f) in
+        let s = cascade.settled p h f in
+        (λ d q c. (on_disk rows new q).0 (s.0 d q (subst (λ ds. Contains ds q) own c)), λ r. s.1 (λ q c. (on_disk rows new q).1 (r q (subst (λ ds. Contains ds q) (sym own) c)))));
   }
     where
       swap : (xs : List Patch) → map unsettled (map (whole rows) xs) ≡ map (whole rows) (map unsettled xs)

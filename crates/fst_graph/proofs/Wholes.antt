@@ -38,19 +38,22 @@ module _ (rows : List (ℕ × List ℕ)) (T : List Patch) where
   on_disk n = (λ d. each_whole (λ q. q.number ≡ n → q.place ≡ place.Disk) (λ p h e. d p h e), λ d p h e. d (whole rows p) (is p h) e)
 
   pub live_number : (n : ℕ) → IsLiveNumber T n ↔ IsLiveNumber wholes n
-  live_number n =
-      (λ l. record { patch = whole rows l.patch; head = is l.patch l.head; numbered = l.numbered; live = l.live },
-      λ l. let w = was l.patch l.head in record { patch = w.0; head = w.1; numbered = ap (λ x. x.number) w.2 ∙ l.numbered; live = λ e. l.live (sym (ap (λ x. x.place) w.2) ∙ e) })
+  live_number n = (
+    λ l. record { patch = whole rows l.patch; head = is l.patch l.head; numbered = l.numbered; live = l.live },
+    λ l. let w = was l.patch l.head in record { patch = w.0; head = w.1; numbered = ap (λ x. x.number) w.2 ∙ l.numbered; live = λ e. l.live (sym (ap (λ x. x.place) w.2) ∙ e) },
+  )
 
   pub open_number : (n : ℕ) → IsOpenNumber T n ↔ IsOpenNumber wholes n
-  open_number n =
-      (λ l. record { patch = whole rows l.patch; head = is l.patch l.head; numbered = l.numbered; is_open = l.is_open },
-      λ l. let w = was l.patch l.head in record { patch = w.0; head = w.1; numbered = ap (λ x. x.number) w.2 ∙ l.numbered; is_open = ap (λ x. x.kind) w.2 ∙ l.is_open })
+  open_number n = (
+    λ l. record { patch = whole rows l.patch; head = is l.patch l.head; numbered = l.numbered; is_open = l.is_open },
+    λ l. let w = was l.patch l.head in record { patch = w.0; head = w.1; numbered = ap (λ x. x.number) w.2 ∙ l.numbered; is_open = ap (λ x. x.kind) w.2 ∙ l.is_open },
+  )
 
   pub sealed_number : (n : ℕ) → IsSealedNumber T n ↔ IsSealedNumber wholes n
-  sealed_number n =
-      (λ l. record { patch = whole rows l.patch; head = is l.patch l.head; numbered = l.numbered; is_sealed = l.is_sealed },
-      λ l. let w = was l.patch l.head in record { patch = w.0; head = w.1; numbered = ap (λ x. x.number) w.2 ∙ l.numbered; is_sealed = ap (λ x. x.kind) w.2 ∙ l.is_sealed })
+  sealed_number n = (
+    λ l. record { patch = whole rows l.patch; head = is l.patch l.head; numbered = l.numbered; is_sealed = l.is_sealed },
+    λ l. let w = was l.patch l.head in record { patch = w.0; head = w.1; numbered = ap (λ x. x.number) w.2 ∙ l.numbered; is_sealed = ap (λ x. x.kind) w.2 ∙ l.is_sealed },
+  )
 
   pub memory_is : (b : ℕ) (p : Patch) → IsInMemoryOn T b p → IsInMemoryOn wholes b (whole rows p)
   memory_is b p m = record { head = is p m.head; change = m.change; memory = m.memory }
@@ -81,16 +84,17 @@ module _ (rows : List (ℕ × List ℕ)) (T : List Patch) (numbers : ℕ) (S : I
   open_live g h o = (live_number rows T g.number).1 (record { patch = g; head = h; numbered = refl; live = λ e. memory_live g.place (D.open_gates g h o) e })
 
   pub blocked : (a : ℕ) → IsBlocked T a ↔ IsBlocked F a
-  blocked a =
-      (λ k. record { gate = whole rows k.gate; head = is rows T k.gate k.head; is_open = k.is_open; depends = depends_up a k.gate.number k.depends },
-      λ k.
-      let w = was rows T k.gate k.head in
-      record {
-        gate = w.0;
-        head = w.1;
-        is_open = ap (λ x. x.kind) w.2 ∙ k.is_open;
-        depends = subst (DependsOn T a) (sym (ap (λ x. x.number) w.2)) (depends_down a k.gate.number k.depends (open_live k.gate k.head k.is_open));
-      })
+  blocked a = (
+    λ k. record { gate = whole rows k.gate; head = is rows T k.gate k.head; is_open = k.is_open; depends = depends_up a k.gate.number k.depends },
+    λ k.
+        let w = was rows T k.gate k.head in
+        record {
+          gate = w.0;
+          head = w.1;
+          is_open = ap (λ x. x.kind) w.2 ∙ k.is_open;
+          depends = subst (DependsOn T a) (sym (ap (λ x. x.number) w.2)) (depends_down a k.gate.number k.depends (open_live k.gate k.head k.is_open));
+        },
+  )
 
   pub need_is : (a : ℕ) (q : Patch) (c : ℕ) → Needs T a q c → Needs F a (whole rows q) c
   need_is a q c n = record { head = is rows T q n.head; change = n.change; depends = depends_up a q.number n.depends }
@@ -157,27 +161,28 @@ module _ (rows : List (ℕ × List ℕ)) (T : List Patch) (numbers : ℕ) (S : I
   reaches b c = (closure_map (HasEdge T) (HasEdge F) edge_is b c, closure_map (HasEdge F) (HasEdge T) edge_was b c)
 
   pub returns : (b a : ℕ) → Returns T b a ↔ Returns F b a
-  returns b a =
-      (λ r. record {
-        away = whole rows r.away;
-        back = whole rows r.back;
-        away_on = r.away_on;
-        off = r.off;
-        away_needed = need_is a r.away r.away_on r.away_needed;
-        away_live = r.away_live;
-        back_needed = need_is r.away.number r.back b r.back_needed;
-        back_live = r.back_live;
-      },
-      λ r.
-      let x = need_was a r.away r.away_on r.away_needed r.away_live in
-      let y = need_was r.away.number r.back b r.back_needed r.back_live in
-      record {
-        away = x.0;
-        back = y.0;
-        away_on = r.away_on;
-        off = r.off;
-        away_needed = x.1;
-        away_live = λ e. r.away_live (sym (ap (λ z. z.place) x.2) ∙ e);
-        back_needed = subst (λ n. Needs T n y.0 b) (sym (ap (λ z. z.number) x.2)) y.1;
-        back_live = λ e. r.back_live (sym (ap (λ z. z.place) y.2) ∙ e);
-      })
+  returns b a = (
+    λ r. record {
+      away = whole rows r.away;
+      back = whole rows r.back;
+      away_on = r.away_on;
+      off = r.off;
+      away_needed = need_is a r.away r.away_on r.away_needed;
+      away_live = r.away_live;
+      back_needed = need_is r.away.number r.back b r.back_needed;
+      back_live = r.back_live;
+    },
+    λ r.
+        let x = need_was a r.away r.away_on r.away_needed r.away_live in
+        let y = need_was r.away.number r.back b r.back_needed r.back_live in
+        record {
+          away = x.0;
+          back = y.0;
+          away_on = r.away_on;
+          off = r.off;
+          away_needed = x.1;
+          away_live = λ e. r.away_live (sym (ap (λ z. z.place) x.2) ∙ e);
+          back_needed = subst (λ n. Needs T n y.0 b) (sym (ap (λ z. z.number) x.2)) y.1;
+          back_live = λ e. r.back_live (sym (ap (λ z. z.place) y.2) ∙ e);
+        },
+  )

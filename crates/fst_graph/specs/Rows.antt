@@ -1,5 +1,5 @@
 -- The whole rows of changes whose heads keep only a part of them, so that the rest is below that part.
-use Rattle.std.specs.Prelude.{◌&&◌, ◌||◌, ◌≤◌, nat_lt, ℕ, List, Contains, map, filter}
+use Rattle.std.specs.Prelude.{◌&&◌, ◌||◌, ◌≤◌, ◌++◌, ◌∷◌, [], nat_lt, ℕ, List, Contains, map, filter}
 use Rattle.fst_types.specs.Bytes.{content_of}
 use Rattle.fst_types.specs.Dependencies.{DependsOn, IsLiveNumber}
 use Rattle.fst_types.specs.Facts.{HeadsAreLawful}
@@ -37,6 +37,10 @@ pub record IsSparseOf (rows : List (ℕ × List ℕ)) (heads : List Patch) (numb
 abbrev pub whole_row : List Patch → ℕ → List ℕ → (b at len : ℕ) → List ℕ
 whole_row heads number after b at len =
     map (λ p. p.number) (filter (λ p. nat_lt p.number number && (touches b at len p || (is_live p && is_among after p.number))) heads)
+
+-- with the whole row of a new change, told by the patches after it
+abbrev pub with_row : List (ℕ × List ℕ) → List Patch → ℕ → List ℕ → (b at len : ℕ) → List (ℕ × List ℕ)
+with_row rows heads number after b at len = rows ++ (number, whole_row heads number after b at len) ∷ []
 
 -- the patches with whole rows are lawful, and what each head keeps tells the rest
 pub record AreWhole (rows : List (ℕ × List ℕ)) (heads : List Patch) (numbers : ℕ) : Type 0 where

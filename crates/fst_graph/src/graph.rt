@@ -16,7 +16,7 @@ ghost use Rattle.fst_heads.specs.Names.{numbers_of};
 mod grouping;
 
 use crate::groups::Groups;
-use crate::sparse::Sparse as Patches;
+use crate::patches::Patches;
 use fst_types::{BlockNo, Fault, Grade, PatchNo, Place, Shape, Span};
 use std::alloc::Global;
 use std::marker::Model;

@@ -19,8 +19,10 @@ mod graph;
 mod group;
 mod groups;
 mod member;
-mod sparse;
+mod patches;
 mod prepared;
 mod refusals;
+mod rows;
+mod sparse;
 
 pub use graph::Graph;

@@ -1,6 +1,6 @@
 //! Making a change of a group: first room for it, while its head stays as it is, then the change itself.
 
-ghost use Rattle.std.specs.Prelude.{◌≡◌, ◌↔◌, ◌<◌, ◌+◌, ◌∷◌, [], ℕ, Some, IfOk, IfErr, IfSome, OnOk, OnErr, IsTrue};
+ghost use Rattle.std.specs.Prelude.{◌≡◌, ◌↔◌, ◌<◌, ◌+◌, ◌∷◌, [], ℕ, Some, None, IfOk, IfErr, IfSome, IfNone, OnOk, OnErr, IsTrue};
 ghost use Rattle.fst_types.specs.declared.grade.Grade.{Grade};
 ghost use Rattle.fst_types.specs.Gates.{IsOpenNumber};
 ghost use Rattle.fst_types.specs.Refusals.{NoneHolds};
@@ -11,10 +11,10 @@ ghost use Rattle.fst_graph.specs.Sparse.{AddsSparse, ForetellsSparse, GainsSpars
 
 use crate::gates::gate_slot;
 use crate::member::prepare_member;
-use crate::sparse::pairs::row_of;
-use crate::sparse::{Sparse, reserve_on, reserve_one};
 use crate::prepared::Gates;
 use crate::refusals::member_fault;
+use crate::sparse::pairs::row_of;
+use crate::sparse::{Sparse, reserve_on, reserve_one};
 use fst_heads::cascade::{cascade, seal_slot};
 use fst_heads::growth::gain_one;
 use fst_heads::head::{Head, Kind};
@@ -85,6 +85,17 @@ impl Sparse {
         match &self.prepared {
             Some(prepared) => prepared.is_for_group(head.0, block.0, span),
             None => false,
+        }
+    }
+
+    /// The block and the bytes of the change that is prepared, if there is one.
+    pub fn prepared_span(&self) -> Option<(BlockNo, Span)>
+        ensures none { IfNone result (self.now.prepared ≡ None) }
+        ensures some { IfSome result (λ at. (p : Prepared) × (self.now.prepared ≡ Some p) × (p.block ≡ at.0.0) × (p.at ≡ at.1.at) × (p.len ≡ at.1.len)) }
+    {
+        match &self.prepared {
+            Some(prepared) => Some((BlockNo(prepared.block), prepared.span)),
+            None => None,
         }
     }
 

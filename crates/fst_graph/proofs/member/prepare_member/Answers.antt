@@ -2,7 +2,6 @@ use Rattle.std.proofs.Common.{Bor, List, sym, ap, subst}
 use Rattle.fst_types.specs.declared.number.PatchNo.{PatchNo}
 use Rattle.fst_types.specs.Grades.{FollowsRule}
 use Rattle.fst_heads.specs.Grading.{MayBeHard}
-use Rattle.fst_heads.specs.Covers.{IsCovered}
 use Rattle.fst_heads.specs.Heads.{patches_of}
 use Rattle.fst_heads.specs.Names.{numbers_of}
 use Rattle.fst_heads.specs.Lists.{entries_of}
@@ -16,7 +15,7 @@ sparse_row-requires-clause-listed c =
     rw (c.deref.ensures.value, ← c.index-sight-block.is) (listed_at (λ l. entries_of l.items) (patches_of c.args.sight.now.heads.now) c.args.sight.now.lists.now c.args.block c.index-sight-block.result c.requires.block c.index-sight-block.is c.requires.sees.listed)
 
 pub sparse_row-requires-clause-covered : goal.sparse_row-requires-clause-covered
-sparse_row-requires-clause-covered c = subst (IsCovered (patches_of c.args.sight.now.heads.now) c.args.block) (sym c.index-sight-block-2.is) (c.requires.sees.covered.each c.args.block c.index-sight-block-2.result c.requires.block)
+sparse_row-requires-clause-covered c = c.requires.sees.covered.each c.args.block c.index-sight-block-2.result c.requires.block
 
 pub returns-clause-depends : goal.returns-clause-depends
 returns-clause-depends c =

@@ -1,5 +1,3 @@
-use Rattle.std.proofs.Common.{sym, subst}
-use Rattle.fst_heads.specs.Covers.{IsCovered}
 use Rattle.fst_heads.specs.Heads.{patches_of}
 use Rattle.fst_heads.specs.Lists.{entries_of}
 use Rattle.fst_heads.proofs.Listing.{listed_at}
@@ -10,4 +8,4 @@ sparse_row-requires-clause-listed c =
     rw (c.deref.ensures.value, ← c.index-sight-block.is) (listed_at (λ l. entries_of l.items) (patches_of c.args.sight.now.heads.now) c.args.sight.now.lists.now c.args.block c.index-sight-block.result c.requires.block c.index-sight-block.is c.requires.sees.listed)
 
 pub sparse_row-requires-clause-covered : goal.sparse_row-requires-clause-covered
-sparse_row-requires-clause-covered c = subst (IsCovered (patches_of c.args.sight.now.heads.now) c.args.block) (sym c.index-sight-block-2.is) (c.requires.sees.covered.each c.args.block c.index-sight-block-2.result c.requires.block)
+sparse_row-requires-clause-covered c = c.requires.sees.covered.each c.args.block c.index-sight-block-2.result c.requires.block
