@@ -51,7 +51,7 @@ loop-at-preserved c =
 
 -- the number at which it stops is in the row and was met
 pub returns-then-is_in-clause-meets : goal.returns-then-is_in-clause-meets
-returns-then-is_in-clause-meets c none =
+returns-then-is_in-clause-meets c yes_it none =
     let heads = c.args.sight.now.heads.now in
     let walk = c.loop-at.walk in
     let met = numbers_met heads walk in
@@ -65,11 +65,14 @@ returns-then-is_in-clause-meets c none =
 pub returns-then-is_in-clause-only : goal.returns-then-is_in-clause-only
 returns-then-is_in-clause-only c = c.loop-at.invariant.walking.only
 
+pub returns-then-len-most-clause-only : goal.returns-then-len-most-clause-only
+returns-then-len-most-clause-only c = c.loop-at.invariant.walking.only
+
 pub returns-clause-only : goal.returns-clause-only
 returns-clause-only c = c.loop-at.invariant.walking.only
 
 pub returns-clause-meets : goal.returns-clause-meets
-returns-clause-meets c none =
+returns-clause-meets c yes_it none =
     let heads = c.args.sight.now.heads.now in
     walking_all (patches_of heads) c.args.crossed.now (numbers_met heads c.args.walk.now) c.loop-at.at c.loop-at.crossed (numbers_met heads c.loop-at.walk)
     (omega (arith, c.loop-at-test.false, c.len.ensures.long, long_met heads c.loop-at.walk)) c.loop-at.invariant.walking
