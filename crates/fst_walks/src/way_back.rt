@@ -65,6 +65,20 @@ fn is_in(row: &[u32], number: u32) -> bool
     row.len() <= SHORT && row.contains(&number)
 }
 
+// Whether one of the row, if it is short, was met at that turn or later.
+fn meets_one(heads: &[Head], walk: &Walk, from: usize, row: &[u32]) -> bool
+    requires rising { IsRising heads.now }
+    requires visited { Visited heads.now walk.now }
+    ensures { IsTrue result → (n : ℕ) × Contains row.now n × Contains (numbers_met heads.now walk.now) n }
+{
+    for at in from..walk.len() {
+        if is_in(row, heads[walk.slot(at)].number) {
+            return true;
+        }
+    }
+    false
+}
+
 // Visits all that the walk meets from what was visited on, or stops at one of a short row that it met. Answers whether it
 // did either before it met more than `most`.
 fn walk_back(
@@ -83,15 +97,17 @@ fn walk_back(
     ensures ended { result ≡ false → most < length sight.now.heads.now }
 {
     let mut at = 0;
+    let mut looked = 0;
     while at < walk.len() {
         if walk.len() > most {
             return false;
         }
-        let slot = walk.slot(at);
-        let head = &sight.heads[slot];
-        if is_in(row, head.number) {
+        if meets_one(sight.heads, walk, looked, row) {
             return true;
         }
+        looked = walk.len();
+        let slot = walk.slot(at);
+        let head = &sight.heads[slot];
         visit_row(sight.heads, walk, head.dependants.as_slice());
         cross(sight, walk, crossed, slot, head.number);
         at += 1;
