@@ -67,9 +67,10 @@ pub fn show_only(reached: &mut [bool], block: u32)
     requires { block < length reached.old }
     ensures { ShowsBlocks reached.new (λ c. c ≡ block) }
 {
-    for (other, shown) in reached.iter_mut().enumerate() {
-        *shown = other == block as usize;
+    for shown in reached.iter_mut() {
+        *shown = false;
     }
+    reached[block as usize] = true;
 }
 
 /// Of what was visited, the changes of other blocks stay.

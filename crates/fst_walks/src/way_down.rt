@@ -1,7 +1,7 @@
 //! The walk down from the row of a new change to all that may keep the change where it is: from a patch to what it
 //! directly depends on, and from a change to the hard changes of its block, without which the block is not written. It
-//! looks at a few patches and then gives up, since the way back to the block is often far shorter from one end than from
-//! the other.
+//! gives up where it has met more than it was told to, since the way back to the block is often far shorter from one end
+//! than from the other.
 
 ghost use Rattle.std.specs.Prelude.{◌≡◌, ◌<◌, ◌↔◌, ℕ, length, Contains, IfSome, IsTrue};
 ghost use Rattle.fst_types.specs.Dependencies.{IsLiveNumber};
@@ -24,9 +24,6 @@ use fst_heads::head::{Head, Kind};
 use fst_heads::lists::Listed;
 use fst_heads::test::{Test, passes};
 use fst_types::Grade;
-
-// How many patches the walk meets before it gives up.
-const FEW: usize = 64;
 
 // Visits the hard changes of the block in memory, which its list has.
 fn visit_hard(heads: &[Head], walk: &mut Walk, list: &[Listed], block: u32)
@@ -67,8 +64,9 @@ fn cross(sight: &Sight<'_>, walk: &mut Walk, crossed: &mut [bool], slot: usize, 
     }
 }
 
-// Visits all that the walk meets from what was visited on. Answers whether it came to the end.
-fn walk_down(sight: &Sight<'_>, walk: &mut Walk, crossed: &mut [bool]) -> bool
+// Visits all that the walk meets from what was visited on. Answers whether it came to the end before it met more than
+// `most`.
+fn walk_down(sight: &Sight<'_>, walk: &mut Walk, crossed: &mut [bool], most: usize) -> bool
     requires sees { Sees sight.now }
     requires crossed { length crossed.old ≡ length sight.now.lists.now }
     requires visited { Visited sight.now.heads.now walk.old }
@@ -77,7 +75,7 @@ fn walk_down(sight: &Sight<'_>, walk: &mut Walk, crossed: &mut [bool]) -> bool
 {
     let mut at = 0;
     while at < walk.len() {
-        if walk.len() > FEW {
+        if walk.len() > most {
             return false;
         }
         let slot = walk.slot(at);
@@ -90,7 +88,13 @@ fn walk_down(sight: &Sight<'_>, walk: &mut Walk, crossed: &mut [bool]) -> bool
 }
 
 // Visits what is not on disk of the row and below it. Answers whether that is all of it.
-fn visit_below(sight: &Sight<'_>, walk: &mut Walk, crossed: &mut [bool], row: &[u32]) -> bool
+fn visit_below(
+    sight: &Sight<'_>,
+    walk: &mut Walk,
+    crossed: &mut [bool],
+    row: &[u32],
+    most: usize,
+) -> bool
     requires sees { Sees sight.now }
     requires crossed { length crossed.old ≡ length sight.now.lists.now }
     requires long { length walk.old.marks ≡ length sight.now.heads.now }
@@ -100,7 +104,7 @@ fn visit_below(sight: &Sight<'_>, walk: &mut Walk, crossed: &mut [bool], row: &[
     walk.clear();
     cross_all(crossed);
     visit_row(sight.heads, walk, row);
-    walk_down(sight, walk, crossed)
+    walk_down(sight, walk, crossed, most)
 }
 
 // Whether a change of the block that is not on disk was met.
@@ -117,7 +121,7 @@ fn meets_change(heads: &[Head], walk: &Walk, block: u32) -> bool
     false
 }
 
-/// What keeps a new change of the block with that row soft but for open gates, if a look at a few patches below the row
+/// What keeps a new change of the block with that row soft but for open gates, if a look at so many patches below the row
 /// tells it: soft where the walk comes from a change of another block below the row to one of the block, else hard. What
 /// was met and crossed before does not matter.
 pub fn grade_below(
@@ -126,6 +130,7 @@ pub fn grade_below(
     crossed: &mut [bool],
     block: u32,
     row: &[u32],
+    most: usize,
 ) -> Option<Grade>
     requires sees { Sees sight.now }
     requires crossed { length crossed.old ≡ length sight.now.lists.now }
@@ -134,12 +139,12 @@ pub fn grade_below(
     ensures graded { IfSome result (λ grade. FollowsRule grade (LeadsNowhere (patches_of sight.now.heads.now) block row.now)) }
     ensures long { length walk.new.marks ≡ length sight.now.heads.now }
 {
-    if !visit_below(sight, walk, crossed, row) {
+    if !visit_below(sight, walk, crossed, row, most) {
         return None;
     }
     keep_away(sight.heads, walk, block);
     show_only(crossed, block);
-    if !walk_down(sight, walk, crossed) {
+    if !walk_down(sight, walk, crossed, most) {
         return None;
     }
     if meets_change(sight.heads, walk, block) {

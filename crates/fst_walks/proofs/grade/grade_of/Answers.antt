@@ -1,7 +1,11 @@
-use Rattle.std.proofs.Common.{◌∙◌, sym}
+use Rattle.std.proofs.Common.{◌∙◌, ◌<◌, ℕ, Option, Some, None, IfSome, IfNone, length, sym, arith}
 use Rattle.std.proofs.lemmas.Bool.{false≢true}
+use Rattle.std.specs.Option.{unwrap_or}
+use Rattle.fst_types.specs.declared.grade.Grade.{Grade}
+use Rattle.fst_types.specs.declared.grade.Grade.TheVariants as grade
 use Rattle.fst_types.specs.Facts.{HardNeverHold}
-use Rattle.fst_heads.specs.Grading.{LeadsNowhere}
+use Rattle.fst_types.specs.Grades.{FollowsRule}
+use Rattle.fst_heads.specs.Grading.{LeadsNowhere, MayBeHard}
 use Rattle.fst_heads.specs.Heads.{patches_of}
 use Rattle.fst_walks.proofs.NearRow.{rests_may, may_but}
 use Rattle.fst_walks.proofs.grade.grade_of.Goals as goal
@@ -22,12 +26,24 @@ returns-then-is_blocked-clause-graded c may = elim c.then-is_blocked.branch [
   | then-is_blocked-via-else-is_blocked+then-comes_back w ↦ may.straight (w.comes_back.ensures w.if-comes_back.true)
 ]
 
-pub returns-then-is_held_back-clause-graded : goal.returns-then-is_held_back-clause-graded
-returns-then-is_held_back-clause-graded c may =
-    let held : LeadsNowhere (patches_of c.args.sight.now.heads.now) c.args.block c.args.row.now → ⊥ = rw c.if-is_held_back.true at c.is_held_back.ensures.held in
-    held (record { straight = may.straight; open_ended = may.open_ended })
+-- no open gate is in the way, so the rest decides
+decided : (o : Option Grade) (May Nowhere : Type 0) → (May → Nowhere) → (Nowhere → May) → IfSome o (λ g. FollowsRule g Nowhere) → IfNone o ⊥ → FollowsRule (unwrap_or o grade.Soft) May
+decided (Some grade.Hard) May Nowhere to from told some = from told
+decided (Some grade.Soft) May Nowhere to from told some = λ may. told (to may)
+decided None May Nowhere to from told some = absurd some
+
+never : (o : Option Grade) (n : ℕ) → IfNone o (n < n) → IfNone o ⊥
+never (Some g) n e = tt
+never None n e = omega (arith, e)
 
 pub returns-clause-graded : goal.returns-clause-graded
 returns-clause-graded c =
-    let nowhere : LeadsNowhere (patches_of c.args.sight.now.heads.now) c.args.block c.args.row.now = rw c.if-is_held_back.false at c.is_held_back.ensures.held in
-    record { free = λ u. false≢true (sym c.if-is_blocked.false ∙ c.is_blocked.ensures.blocked.1 u); straight = nowhere.straight; open_ended = nowhere.open_ended }
+    let patches = patches_of c.args.sight.now.heads.now in
+    let b = c.args.block in
+    let row = c.args.row.now in
+    let o = c.grade_back.result in
+    rw c.unwrap_or.ensures
+    (decided o (MayBeHard patches c.args.but b row) (LeadsNowhere patches b row)
+    (λ may. record { straight = may.straight; open_ended = may.open_ended })
+    (λ nowhere. record { free = λ u. false≢true (sym c.if-is_blocked.false ∙ c.is_blocked.ensures.blocked.1 u); straight = nowhere.straight; open_ended = nowhere.open_ended })
+    c.grade_back.ensures.graded (never o (length c.args.sight.now.heads.now) c.grade_back.ensures.ended))

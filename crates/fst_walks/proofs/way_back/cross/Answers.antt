@@ -39,90 +39,66 @@ bounds-crossed-block-then-not-crossed-block c =
 pub visit_changes-requires-clause-block : goal.visit_changes-requires-clause-block
 visit_changes-requires-clause-block c = c.requires.sees.inside _ c.in-Change.block (patch_at c.args.sight.now.heads.now c.args.slot _ c.requires.slot.0) (ap (λ k. block_of_kind (kind_of k)) c.in-Change.is)
 
-pub returns-then-not-crossed-block-clause-visits : goal.returns-then-not-crossed-block-clause-visits
-returns-then-not-crossed-block-clause-visits c =
+pub returns-then-not-crossed-block : goal.returns-then-not-crossed-block
+returns-then-not-crossed-block c =
     let heads = c.args.sight.now.heads.now in
+    let rising = c.requires.sees.rising in
     let n = c.args.number in
     let s = c.args.slot in
     let b = c.in-Change.block in
     let d = c.index-sight-slot.result in
+    let crossed = c.args.crossed.now in
     let said : c.is_hard_in.result ≡ (is_change_at place.Memory b (patch_of (get_or heads s d)) && is_hard_kind (kind_of (get_or heads s d).kind)) =
     c.is_hard_in.ensures in
-    let hard : IsHardNumber (patches_of heads) b n = hard_here heads c.requires.sees.rising n s d c.requires.slot b (sym said ∙ c.if-is_hard_in.true) in
-    let crossed = c.args.crossed.now in
+    let hard : IsHardNumber (patches_of heads) b n = hard_here heads rising n s d c.requires.slot b (sym said ∙ c.if-is_hard_in.true) in
     let fresh : IsReached crossed b → ⊥ = λ r. false≢true (sym c.if-not-crossed-block.true ∙ r) in
-    visits_same (PassesAt (test.LiveOn b) (patches_of heads)) (Crosses (patches_of heads) crossed n) (numbers_met c.args.sight.now.heads.now c.args.walk.now) (numbers_met c.args.sight.now.heads.now c.visit_changes.new.walk)
-    (λ q x. crosses_from heads c.requires.sees.rising n s d c.requires.slot b hard crossed q fresh x)
-    (λ q k. (crosses_to heads c.requires.sees.rising n s d c.requires.slot b hard crossed q k).1)
-    c.visit_changes.ensures.visits
-
-pub returns-then-not-crossed-block-clause-crossed : goal.returns-then-not-crossed-block-clause-crossed
-returns-then-not-crossed-block-clause-crossed c =
-    let heads = c.args.sight.now.heads.now in
-    let n = c.args.number in
-    let s = c.args.slot in
-    let b = c.in-Change.block in
-    let d = c.index-sight-slot.result in
-    let said : c.is_hard_in.result ≡ (is_change_at place.Memory b (patch_of (get_or heads s d)) && is_hard_kind (kind_of (get_or heads s d).kind)) =
-    c.is_hard_in.ensures in
-    let hard : IsHardNumber (patches_of heads) b n = hard_here heads c.requires.sees.rising n s d c.requires.slot b (sym said ∙ c.if-is_hard_in.true) in
-    let crossed = c.args.crossed.now in
     let inside = c.requires.sees.inside _ b (patch_at heads s _ c.requires.slot.0) (ap (λ k. block_of_kind (kind_of k)) c.in-Change.is) in
-    shows_more heads c.requires.sees.rising n s d c.requires.slot b hard crossed (omega (arith, inside, c.requires.crossed))
+    record {
+      visited = c.visit_changes.ensures.visited;
+      visits = visits_same (PassesAt (test.LiveOn b) (patches_of heads)) (Crosses (patches_of heads) crossed n) (numbers_met heads c.args.walk.now) (numbers_met heads c.visit_changes.new.walk)
+          (λ q x. crosses_from heads rising n s d c.requires.slot b hard crossed q fresh x)
+          (λ q k. (crosses_to heads rising n s d c.requires.slot b hard crossed q k).1)
+          c.visit_changes.ensures.visits;
+      crossed = shows_more heads rising n s d c.requires.slot b hard crossed (omega (arith, inside, c.requires.crossed));
+    }
 
-pub returns-else-not-crossed-block-clause-visits : goal.returns-else-not-crossed-block-clause-visits
-returns-else-not-crossed-block-clause-visits c =
+pub returns-else-not-crossed-block : goal.returns-else-not-crossed-block
+returns-else-not-crossed-block c =
     let heads = c.args.sight.now.heads.now in
+    let rising = c.requires.sees.rising in
     let n = c.args.number in
     let s = c.args.slot in
     let b = c.in-Change.block in
     let d = c.index-sight-slot.result in
+    let crossed = c.args.crossed.now in
     let said : c.is_hard_in.result ≡ (is_change_at place.Memory b (patch_of (get_or heads s d)) && is_hard_kind (kind_of (get_or heads s d).kind)) =
     c.is_hard_in.ensures in
-    let hard : IsHardNumber (patches_of heads) b n = hard_here heads c.requires.sees.rising n s d c.requires.slot b (sym said ∙ c.if-is_hard_in.true) in
-    let crossed = c.args.crossed.now in
-    visits_none (Crosses (patches_of heads) crossed n) (numbers_met c.args.sight.now.heads.now c.args.walk.now) (λ q k. absurd ((crosses_to heads c.requires.sees.rising n s d c.requires.slot b hard crossed q k).0 c.if-not-crossed-block.false))
+    let hard : IsHardNumber (patches_of heads) b n = hard_here heads rising n s d c.requires.slot b (sym said ∙ c.if-is_hard_in.true) in
+    record {
+      visited = c.requires.visited;
+      visits = visits_none (Crosses (patches_of heads) crossed n) (numbers_met heads c.args.walk.now) (λ q k. absurd ((crosses_to heads rising n s d c.requires.slot b hard crossed q k).0 c.if-not-crossed-block.false));
+      crossed = shows_same heads rising n s d c.requires.slot b hard crossed c.if-not-crossed-block.false;
+    }
 
-pub returns-else-not-crossed-block-clause-crossed : goal.returns-else-not-crossed-block-clause-crossed
-returns-else-not-crossed-block-clause-crossed c =
+pub returns-else-is_hard_in : goal.returns-else-is_hard_in
+returns-else-is_hard_in c =
     let heads = c.args.sight.now.heads.now in
+    let rising = c.requires.sees.rising in
     let n = c.args.number in
     let s = c.args.slot in
     let b = c.in-Change.block in
     let d = c.index-sight-slot.result in
-    let said : c.is_hard_in.result ≡ (is_change_at place.Memory b (patch_of (get_or heads s d)) && is_hard_kind (kind_of (get_or heads s d).kind)) =
-    c.is_hard_in.ensures in
-    let hard : IsHardNumber (patches_of heads) b n = hard_here heads c.requires.sees.rising n s d c.requires.slot b (sym said ∙ c.if-is_hard_in.true) in
     let crossed = c.args.crossed.now in
-    shows_same heads c.requires.sees.rising n s d c.requires.slot b hard crossed c.if-not-crossed-block.false
-
-pub returns-else-is_hard_in-clause-visits : goal.returns-else-is_hard_in-clause-visits
-returns-else-is_hard_in-clause-visits c =
-    let heads = c.args.sight.now.heads.now in
-    let n = c.args.number in
-    let s = c.args.slot in
-    let b = c.in-Change.block in
-    let d = c.index-sight-slot.result in
     let said : c.is_hard_in.result ≡ (is_change_at place.Memory b (patch_of (get_or heads s d)) && is_hard_kind (kind_of (get_or heads s d).kind)) =
     c.is_hard_in.ensures in
     let on = ap (λ k. block_of_kind (kind_of k)) c.in-Change.is in
     let none : (k : ℕ) → IsHardNumber (patches_of heads) k n → ⊥ = λ k h.
-    false≢true (sym c.if-is_hard_in.false ∙ (said ∙ here_hard heads c.requires.sees.rising n s d c.requires.slot b (hard_same heads c.requires.sees.rising n s _ c.requires.slot b on k h))) in
-    crosses_none (patches_of heads) n none c.args.crossed.now (numbers_met c.args.sight.now.heads.now c.args.walk.now)
-
-pub returns-else-is_hard_in-clause-crossed : goal.returns-else-is_hard_in-clause-crossed
-returns-else-is_hard_in-clause-crossed c =
-    let heads = c.args.sight.now.heads.now in
-    let n = c.args.number in
-    let s = c.args.slot in
-    let b = c.in-Change.block in
-    let d = c.index-sight-slot.result in
-    let said : c.is_hard_in.result ≡ (is_change_at place.Memory b (patch_of (get_or heads s d)) && is_hard_kind (kind_of (get_or heads s d).kind)) =
-    c.is_hard_in.ensures in
-    let on = ap (λ k. block_of_kind (kind_of k)) c.in-Change.is in
-    let none : (k : ℕ) → IsHardNumber (patches_of heads) k n → ⊥ = λ k h.
-    false≢true (sym c.if-is_hard_in.false ∙ (said ∙ here_hard heads c.requires.sees.rising n s d c.requires.slot b (hard_same heads c.requires.sees.rising n s _ c.requires.slot b on k h))) in
-    shows_none (patches_of heads) n none c.args.crossed.now
+    false≢true (sym c.if-is_hard_in.false ∙ (said ∙ here_hard heads rising n s d c.requires.slot b (hard_same heads rising n s _ c.requires.slot b on k h))) in
+    record {
+      visited = c.requires.visited;
+      visits = crosses_none (patches_of heads) n none crossed (numbers_met heads c.args.walk.now);
+      crossed = shows_none (patches_of heads) n none crossed;
+    }
 
 pub returns-in_default : goal.returns-in_default
 returns-in_default c =

@@ -3,5 +3,5 @@ use Rattle.fst_types.proofs.Finite.{Contains-from_In}
 use Rattle.fst_types.proofs.Issuing.{among_in}
 use Rattle.fst_walks.proofs.way_back.is_in.Goals as goal
 
-pub returns : goal.returns
-returns c e = Contains-from_In c.args.row.now c.args.number (among_in c.args.row.now c.args.number (sym c.contains.ensures.value ∙ e))
+pub returns-then-row-le-SHORT : goal.returns-then-row-le-SHORT
+returns-then-row-le-SHORT c e = Contains-from_In c.args.row.now c.args.number (among_in c.args.row.now c.args.number (sym c.contains.ensures.value ∙ e))

@@ -11,9 +11,9 @@ use Rattle.fst_walks.proofs.WalkingBack.{met_over}
 use Rattle.fst_walks.proofs.way_back.visit_over.Goals as goal
 
 pub returns-clause-over : goal.returns-clause-over
-returns-clause-over c n =
+returns-clause-over c all n =
     let patches = patches_of c.args.sight.now.heads.now in
     let b = c.args.block in
     let disk : IsOnDiskWithAll patches = c.requires.sees.disk in
     let starts = subst (λ q. Visits (PassesAt (test.LiveOn b) patches) q (numbers_met c.args.sight.now.heads.now c.visit_changes.new.walk)) (none_met c.args.sight.now.heads.now c.clear.new.self c.clear.ensures.met) c.visit_changes.ensures.visits in
-    met_over patches disk b (length c.args.crossed.now) (subst (IsInside patches) (sym c.requires.crossed) c.requires.sees.inside) c.cross_all.new.crossed c.cross_all.ensures (numbers_met c.args.sight.now.heads.now c.visit_changes.new.walk) (numbers_met c.args.sight.now.heads.now c.walk_back.new.walk) starts (c.walk_back.ensures.meets (λ m named. absurd (omega (arith, named.1)))) n
+    met_over patches disk b (length c.args.crossed.now) (subst (IsInside patches) (sym c.requires.crossed) c.requires.sees.inside) c.cross_all.new.crossed c.cross_all.ensures (numbers_met c.args.sight.now.heads.now c.visit_changes.new.walk) (numbers_met c.args.sight.now.heads.now c.walk_back.new.walk) starts (c.walk_back.ensures.meets all (λ m named. absurd (omega (arith, named.1)))) n

@@ -1,5 +1,4 @@
 use Rattle.std.proofs.Common.{◌≡◌, ◌<◌, length, get_or, Contains, sym, subst, arith}
-use Rattle.std.proofs.lemmas.List.Elements.{Contains-get_or}
 use Rattle.fst_types.specs.Dependencies.{DirectlyOn, IsLiveNumber}
 use Rattle.fst_heads.specs.declared.head.Head.{Head}
 use Rattle.fst_walks.specs.Descending.{Visits}
@@ -49,27 +48,21 @@ loop-at-preserved c =
       walking = walking_more patches c.args.crossed.now (numbers_met heads c.args.walk.now) at now c.cross.new.crossed met mid new (omega (arith, lt, long_met heads walk)) c.loop-at.invariant.walking above across shown;
     }
 
--- the number at which it stops is in the row and was met
-pub returns-then-is_in-clause-meets : goal.returns-then-is_in-clause-meets
-returns-then-is_in-clause-meets c none =
-    let heads = c.args.sight.now.heads.now in
-    let walk = c.loop-at.walk in
-    let met = numbers_met heads walk in
-    let at = c.loop-at.at in
-    let lt : at < length walk.met = omega (arith, c.loop-at-test.true, c.len.ensures.long) in
-    let d : Head = c.index-sight-slot.result in
-    let slot = slot_met heads walk at c.slot-slot.result c.loop-at.invariant.visited.long lt c.slot-slot.ensures.slot c.slot-slot.ensures.inside in
-    let number : (get_or heads c.slot-slot.result d).number ≡ get_or met at 0 = slot.1 d in
-    absurd (none (get_or heads c.slot-slot.result d).number (c.is_in.ensures c.if-is_in.true) (subst (Contains met) (sym number) (Contains-get_or met at 0 (omega (arith, lt, long_met heads walk)))))
+-- one of the row was met
+pub returns-then-meets_one-clause-meets : goal.returns-then-meets_one-clause-meets
+returns-then-meets_one-clause-meets c yes_it none = let met = c.meets_one.ensures c.if-meets_one.true in absurd (none met.0 met.1 met.2)
 
-pub returns-then-is_in-clause-only : goal.returns-then-is_in-clause-only
-returns-then-is_in-clause-only c = c.loop-at.invariant.walking.only
+pub returns-then-meets_one-clause-only : goal.returns-then-meets_one-clause-only
+returns-then-meets_one-clause-only c = c.loop-at.invariant.walking.only
+
+pub returns-then-len-most-clause-only : goal.returns-then-len-most-clause-only
+returns-then-len-most-clause-only c = c.loop-at.invariant.walking.only
 
 pub returns-clause-only : goal.returns-clause-only
 returns-clause-only c = c.loop-at.invariant.walking.only
 
 pub returns-clause-meets : goal.returns-clause-meets
-returns-clause-meets c none =
+returns-clause-meets c yes_it none =
     let heads = c.args.sight.now.heads.now in
     walking_all (patches_of heads) c.args.crossed.now (numbers_met heads c.args.walk.now) c.loop-at.at c.loop-at.crossed (numbers_met heads c.loop-at.walk)
     (omega (arith, c.loop-at-test.false, c.len.ensures.long, long_met heads c.loop-at.walk)) c.loop-at.invariant.walking
