@@ -337,7 +337,7 @@ fn read(alloc: Global, line: &[u8]) -> Result<Command, Fault>
 pub fn parse(alloc: Global, scratch: &mut Scratch, line: &[u8]) -> Result<Command, Fault>
     ensures { Parses result (command_of line.now) }
 {
-    match read_short(scratch, line) {
+    match read_short(alloc, scratch, line) {
         Some(command) => Ok(command),
         None => read(alloc, line),
     }

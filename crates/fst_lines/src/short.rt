@@ -16,6 +16,7 @@ use crate::command::Command;
 use fast_float::Numeral;
 use fst_types::{BlockNo, GroupNo, PatchNo, Ticket};
 use json::{Reader, Scratch, Token};
+use std::alloc::Global;
 
 // No line of one number is longer.
 const LONGEST: usize = 48;
@@ -134,8 +135,8 @@ fn take_members<'a>(reader: &mut Reader<'a>) -> Option<Short<'a>>
     take_rest(reader, name)
 }
 
-// A command that has no member.
-fn alone(name: &str) -> Option<Command>
+// A command that has no member, or names no patches.
+fn alone(alloc: Global, name: &str) -> Option<Command>
     ensures { IfSome result (λ c. command_in (alone_data name.now) ≡ Some (command c)) }
 {
     if is(name, "pick") {
@@ -152,6 +153,10 @@ fn alone(name: &str) -> Option<Command>
     }
     if is(name, "forget") {
         return Some(Command::Forget);
+    }
+    if is(name, "empty") {
+        let after = Vec::new(alloc);
+        return Some(Command::Empty { after });
     }
     None
 }
@@ -214,18 +219,18 @@ fn numbered(name: &str, key: &str, number: u64) -> Option<Command>
     on_number(name, key, number as u32)
 }
 
-fn asked(short: Short<'_>) -> Option<Command>
+fn asked(alloc: Global, short: Short<'_>) -> Option<Command>
     ensures { IfSome result (λ c. command_in (data_of short.entry) ≡ Some (command c)) }
 {
     match short {
-        Short::Alone(name) => alone(name),
+        Short::Alone(name) => alone(alloc, name),
         Short::Numbered(name, key, number) => numbered(name, key, number),
     }
 }
 
 /// The command of a line, where it is a short one. It takes what memory the scratch lacks, and answers nothing where that
 /// is refused.
-pub fn read_short(scratch: &mut Scratch, line: &[u8]) -> Option<Command>
+pub fn read_short(alloc: Global, scratch: &mut Scratch, line: &[u8]) -> Option<Command>
     ensures { IfSome result (λ c. command_of line.now ≡ Ok (command c)) }
 {
     if line.len() > LONGEST {
@@ -238,7 +243,7 @@ pub fn read_short(scratch: &mut Scratch, line: &[u8]) -> Option<Command>
         return None;
     };
     match take_members(&mut reader) {
-        Some(short) => asked(short),
+        Some(short) => asked(alloc, short),
         None => None,
     }
 }
