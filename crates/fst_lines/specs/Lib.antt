@@ -4,3 +4,4 @@ pub mod Parsing
 pub mod Sending
 pub mod Pieces
 pub mod Replies
+pub mod Short

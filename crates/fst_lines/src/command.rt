@@ -11,7 +11,9 @@ use crate::members::{
     blocks_if_any, bytes_at, failure_if_any, has_only, long_at, number_at, patches_at,
     patches_if_any,
 };
+use crate::short::read_short;
 use fst_types::{BlockNo, Fault, GroupNo, PatchNo, Ticket};
+use json::Scratch;
 use serde_json::{Map, Value};
 use std::alloc::Global;
 
@@ -307,9 +309,8 @@ fn command_in(alloc: Global, value: &Value, members: &Map<String, Value>) -> Res
     }
 }
 
-/// The command of a line; `BadLine` where the line is too long or no JSON object, `BadField` where its members are
-/// not those of a command, `Memory` where memory for reading it is refused.
-pub fn parse(alloc: Global, line: &[u8]) -> Result<Command, Fault>
+// The command of a line that is read as JSON.
+fn read(alloc: Global, line: &[u8]) -> Result<Command, Fault>
     ensures { Parses result (command_of line.now) }
 {
     if line.len() > MAX_LINE {
@@ -327,5 +328,17 @@ pub fn parse(alloc: Global, line: &[u8]) -> Result<Command, Fault>
     match value.as_object() {
         Some(members) => command_in(alloc, &value, members),
         None => Err(Fault::BadLine),
+    }
+}
+
+/// The command of a line; `BadLine` where the line is too long or no JSON object, `BadField` where its members are
+/// not those of a command, `Memory` where memory for reading it is refused. The scratch is for what reading needs for a
+/// while; it may be kept from line to line.
+pub fn parse(alloc: Global, scratch: &mut Scratch, line: &[u8]) -> Result<Command, Fault>
+    ensures { Parses result (command_of line.now) }
+{
+    match read_short(alloc, scratch, line) {
+        Some(command) => Ok(command),
+        None => read(alloc, line),
     }
 }

@@ -16,3 +16,6 @@ pub mod failure;
 pub mod members;
 pub mod output;
 pub mod reply;
+mod short;
+
+pub use json::Scratch;

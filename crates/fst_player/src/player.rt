@@ -19,6 +19,7 @@ use crate::accepted::Accepted;
 use crate::line::Line;
 use fst_cache::{Cache, Share};
 use fst_device::{Job, MemorySlot};
+use fst_lines::Scratch;
 use fst_lines::command::{Command, parse};
 use fst_lines::output::Stopped;
 use fst_lines::reply::send_refusal;
@@ -92,10 +93,12 @@ impl Player {
         }
     }
 
-    /// Does what a line asks and sends the reply. A line that is refused changes nothing.
+    /// Does what a line asks and sends the reply. A line that is refused changes nothing. The scratch is for reading the
+    /// line, and may be kept from line to line.
     pub fn answer<W: Write>(
         &mut self,
         alloc: Global,
+        scratch: &mut Scratch,
         writer: &mut W,
         calls: &mut u64,
         line: &Line,
@@ -103,7 +106,7 @@ impl Player {
         ensures { Answered self.old line.now (W.contents writer.old) (W.contents writer.new) result self.new }
     {
         match line {
-            Line::Kept(bytes) => match parse(alloc, bytes.as_slice()) {
+            Line::Kept(bytes) => match parse(alloc, scratch, bytes.as_slice()) {
                 Ok(command) => self.obey(writer, calls, command),
                 Err(fault) => send_refusal(writer, calls, fault),
             },

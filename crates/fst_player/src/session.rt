@@ -7,6 +7,7 @@ ghost use Rattle.fst_player.specs.Session.{Feeds, Finishes};
 
 use crate::line::Line;
 use crate::player::Player;
+use fst_lines::Scratch;
 use fst_lines::command::MAX_LINE;
 use fst_lines::output::{Stopped, pass_on};
 use memchr::memchr;
@@ -17,6 +18,8 @@ use std::io::Write;
 #[derive(Drop)]
 pub struct Session {
     line: Line,
+    // What reading a line needs for a while, kept from line to line.
+    scratch: Scratch,
     player: Player,
 }
 
@@ -28,6 +31,7 @@ impl Session {
     {
         Session {
             line: Line::Kept(Vec::new(alloc)),
+            scratch: Scratch::new(alloc),
             player,
         }
     }
@@ -43,7 +47,9 @@ impl Session {
         ensures answered { Answered self.old.player self.old.line (W.contents writer.old) (W.contents writer.new) result self.new.player }
     {
         let line = std::mem::replace(&mut self.line, Line::Long);
-        let answered = self.player.answer(alloc, writer, calls, &line);
+        let answered = self
+            .player
+            .answer(alloc, &mut self.scratch, writer, calls, &line);
         self.line = line.clear(alloc);
         answered
     }

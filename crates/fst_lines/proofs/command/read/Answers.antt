@@ -2,7 +2,7 @@ use Rattle.std.proofs.Common.{◌∙◌, sym, ap, arith}
 use Rattle.std.proofs.lemmas.Bool.{false≢true}
 use Rattle.fst_lines.specs.Commands.{command_of_value}
 use Rattle.fst_lines.proofs.CommandLemmas.{value_of-text, value_of-none, command_of-short, Parses-object}
-use Rattle.fst_lines.proofs.command.parse.Goals as goal
+use Rattle.fst_lines.proofs.command.read.Goals as goal
 
 pub returns-in-Err : goal.returns-in-Err
 returns-in-Err c =

@@ -1,0 +1,249 @@
+//! Short lines: what a command does, and one number or no other member.
+//!
+//! They come as often as the long ones, and a tree of values would cost more than the command. So the members are taken
+//! from the tokens of `json`, in memory that is kept from line to line. A line that is anything else, or is written in
+//! another order, is left to `serde_json`; both agree on what a line means.
+
+ghost use Rattle.std.specs.Prelude.{◌≡◌, ◌==◌, ◌∷◌, [], List, ℕ, false, Some, Ok, IsTrue, IfSome, codes, slice_index};
+ghost use Rattle.json.specs.Token.{begin_object, end_object, key, string, number};
+ghost use Rattle.serde_json.specs.Data.{unsigned};
+ghost use Rattle.serde_json.specs.Read.{number_of, number_from};
+ghost use Rattle.fst_lines.specs.Commands.{command_in, command_of};
+ghost use Rattle.fst_lines.specs.Parsing.{command};
+ghost use Rattle.fst_lines.specs.Short.{alone_data, short_data, data_of, IsShort};
+
+use crate::command::Command;
+use fast_float::Numeral;
+use fst_types::{BlockNo, GroupNo, PatchNo, Ticket};
+use json::{Reader, Scratch, Token};
+use std::alloc::Global;
+
+// No line of one number is longer.
+const LONGEST: usize = 48;
+
+/// What a line does, and its number under a name where it has one.
+#[derive(Drop)]
+enum Short<'a> {
+    Alone(&'a str),
+    Numbered(&'a str, &'a str, u64),
+}
+
+fn is(text: &str, other: &str) -> bool
+    ensures { IsTrue result → text.now ≡ other.now }
+{
+    text == other
+}
+
+fn takes_begin(reader: &mut Reader<'_>) -> bool
+    ensures { IsTrue result → reader.old ≡ begin_object ∷ reader.new }
+{
+    match reader.next() {
+        Some(Token::BeginObject) => true,
+        _ => false,
+    }
+}
+
+fn takes_end(reader: &mut Reader<'_>) -> bool
+    ensures { IsTrue result → reader.old ≡ end_object ∷ [] }
+{
+    match reader.next() {
+        Some(Token::EndObject) => reader.next().is_none(),
+        _ => false,
+    }
+}
+
+fn take_key<'a>(reader: &mut Reader<'a>) -> Option<&'a str>
+    ensures { IfSome result (λ name. reader.old ≡ key name.now ∷ reader.new) }
+{
+    match reader.next() {
+        Some(Token::Key(name)) => Some(name),
+        _ => None,
+    }
+}
+
+fn take_text<'a>(reader: &mut Reader<'a>) -> Option<&'a str>
+    ensures { IfSome result (λ text. reader.old ≡ string text.now ∷ reader.new) }
+{
+    match reader.next() {
+        Some(Token::String(text)) => Some(text),
+        _ => None,
+    }
+}
+
+fn has_minus(bytes: &[u8]) -> bool
+    ensures { result ≡ (slice_index bytes.now 0 == 45) }
+{
+    !bytes.is_empty() && bytes[0] == b'-'
+}
+
+fn whole(numeral: &Numeral<'_>) -> Option<u64>
+    ensures { IfSome result (λ n. number_from false numeral.now ≡ Some (unsigned n)) }
+{
+    numeral.to_u64()
+}
+
+// The number that a text is, where it is one of 64 bits.
+fn unsigned(text: &str) -> Option<u64>
+    ensures { IfSome result (λ n. number_of text.now ≡ Some (unsigned n)) }
+{
+    let bytes = text.as_bytes();
+    if has_minus(bytes) {
+        return None;
+    }
+    whole(&Numeral::scan(bytes))
+}
+
+fn take_number(reader: &mut Reader<'_>) -> Option<u64>
+    ensures { IfSome result (λ n. (text : List ℕ) × (reader.old ≡ number text ∷ reader.new) × (number_of text ≡ Some (unsigned n))) }
+{
+    match reader.next() {
+        Some(Token::Number(text)) => unsigned(text),
+        _ => None,
+    }
+}
+
+// What follows the name of a command, to the end of the line.
+fn take_rest<'a>(reader: &mut Reader<'a>, name: &'a str) -> Option<Short<'a>>
+    ensures { IfSome result (λ s. IsShort (begin_object ∷ key (codes "do") ∷ string name.now ∷ reader.old) s) }
+{
+    match reader.next() {
+        Some(Token::EndObject) => match reader.next() {
+            None => Some(Short::Alone(name)),
+            Some(_) => None,
+        },
+        Some(Token::Key(key)) => {
+            let number = take_number(reader)?;
+            if !takes_end(reader) {
+                return None;
+            }
+            Some(Short::Numbered(name, key, number))
+        }
+        _ => None,
+    }
+}
+
+fn take_members<'a>(reader: &mut Reader<'a>) -> Option<Short<'a>>
+    ensures { IfSome result (λ s. IsShort reader.old s) }
+{
+    if !takes_begin(reader) {
+        return None;
+    }
+    if !is(take_key(reader)?, "do") {
+        return None;
+    }
+    let name = take_text(reader)?;
+    take_rest(reader, name)
+}
+
+// A command that has no member, or names no patches.
+fn alone(alloc: Global, name: &str) -> Option<Command>
+    ensures { IfSome result (λ c. command_in (alone_data name.now) ≡ Some (command c)) }
+{
+    if is(name, "pick") {
+        return Some(Command::Pick);
+    }
+    if is(name, "stat") {
+        return Some(Command::Stat);
+    }
+    if is(name, "gate") {
+        return Some(Command::Gate);
+    }
+    if is(name, "group") {
+        return Some(Command::GroupNew);
+    }
+    if is(name, "forget") {
+        return Some(Command::Forget);
+    }
+    if is(name, "empty") {
+        let after = Vec::new(alloc);
+        return Some(Command::Empty { after });
+    }
+    None
+}
+
+// A command on a block.
+fn on_block(name: &str, block: BlockNo) -> Option<Command>
+    ensures { IfSome result (λ c. command_in (short_data name.now (codes "block") block.0) ≡ Some (command c)) }
+{
+    if is(name, "write") {
+        return Some(Command::Write { block });
+    }
+    if is(name, "choose") {
+        return Some(Command::Choose { block });
+    }
+    if is(name, "show") {
+        return Some(Command::Show { block });
+    }
+    if is(name, "evict") {
+        return Some(Command::Evict { block });
+    }
+    if is(name, "retry") {
+        return Some(Command::Retry { block });
+    }
+    None
+}
+
+// A command on something else.
+fn on_number(name: &str, key: &str, number: u32) -> Option<Command>
+    ensures { IfSome result (λ c. command_in (short_data name.now key.now number) ≡ Some (command c)) }
+{
+    if is(key, "block") {
+        return on_block(name, BlockNo(number));
+    }
+    if is(name, "place") && is(key, "patch") {
+        let patch = PatchNo(number);
+        return Some(Command::Place { patch });
+    }
+    if is(name, "seal") && is(key, "gate") {
+        let gate = PatchNo(number);
+        return Some(Command::Seal { gate });
+    }
+    if is(name, "group_close") && is(key, "group") {
+        let group = GroupNo(number);
+        return Some(Command::GroupClose { group });
+    }
+    None
+}
+
+// A command with one number.
+fn numbered(name: &str, key: &str, number: u64) -> Option<Command>
+    ensures { IfSome result (λ c. command_in (short_data name.now key.now number) ≡ Some (command c)) }
+{
+    if is(name, "done") && is(key, "ticket") {
+        let ticket = Ticket(number);
+        return Some(Command::Done { ticket, fail: None });
+    }
+    if number > 4_294_967_295 {
+        return None;
+    }
+    on_number(name, key, number as u32)
+}
+
+fn asked(alloc: Global, short: Short<'_>) -> Option<Command>
+    ensures { IfSome result (λ c. command_in (data_of short.entry) ≡ Some (command c)) }
+{
+    match short {
+        Short::Alone(name) => alone(alloc, name),
+        Short::Numbered(name, key, number) => numbered(name, key, number),
+    }
+}
+
+/// The command of a line, where it is a short one. It takes what memory the scratch lacks, and answers nothing where that
+/// is refused.
+pub fn read_short(alloc: Global, scratch: &mut Scratch, line: &[u8]) -> Option<Command>
+    ensures { IfSome result (λ c. command_of line.now ≡ Ok (command c)) }
+{
+    if line.len() > LONGEST {
+        return None;
+    }
+    let Ok(text) = std::str::from_utf8(line) else {
+        return None;
+    };
+    let Ok(mut reader) = Reader::new(text, scratch) else {
+        return None;
+    };
+    match take_members(&mut reader) {
+        Some(short) => asked(alloc, short),
+        None => None,
+    }
+}
