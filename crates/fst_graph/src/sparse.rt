@@ -2,7 +2,7 @@
 //! calls look at the patches that they touch, and at those that depend on these. Between two calls of its own a call of a
 //! group has no group as it should be, so that the groups and what holds of them stand a layer above, in the graph.
 
-ghost use Rattle.std.specs.Prelude.{◌≡◌, ◌<◌, ◌≤◌, [], None, IfOk, IfErr, OnErr, IfSome, IfNone, OnOk, option_map, MatchResult, List, length, map, slice_index_or, vec_len, vec_capacity, ℕ, count_by};
+ghost use Rattle.std.specs.Prelude.{◌≡◌, ◌<◌, ◌≤◌, [], None, IfOk, IfErr, OnErr, IfSome, IfNone, OnOk, option_map, MatchResult, length, vec_len, vec_capacity, ℕ, count_by};
 ghost use Rattle.fst_types.specs.Patches.{Patch};
 ghost use Rattle.fst_types.specs.Looks.{place_of, IsPick};
 ghost use Rattle.fst_types.specs.Order.{room_order, make_order, seal_order, depend_order};
@@ -10,8 +10,6 @@ ghost use Rattle.fst_types.specs.Refusals.{IsFirst, NoneHolds};
 ghost use Rattle.fst_types.specs.Writable.{IsWritableSet, HasReady, IsHeld, IsLeastHeld};
 ghost use Rattle.fst_types.specs.Tests.{is_live};
 ghost use Rattle.fst_graph.specs.Known.{unprepared, rest_place, Refuses, AddsGate, AddsEmpty, SealsGate, DependsGate, Launches, IsStuckByGates, LandsBlock, MayLaunch, Forgets};
-ghost use Rattle.fst_heads.specs.Covers.{AreCovered, Covering, HasBytes};
-ghost use Rattle.fst_heads.specs.Lists.{entries_of, HasRoomInList};
 ghost use Rattle.fst_heads.specs.Names.{numbers_of};
 
 mod grouping;
@@ -35,7 +33,7 @@ use fst_heads::row::{is_given, live_named, row_sums};
 use fst_heads::standing::{
     Standing, empty_standings, flying_count, held_count, land_at, least_marked, ready_count,
 };
-use fst_types::{BlockNo, Fault, PatchNo, Place, Shape, Span};
+use fst_types::{BlockNo, Fault, PatchNo, Place, Shape};
 use fst_walks::ascent::mark_flight;
 use fst_walks::block_walk::BlockWalk;
 use fst_walks::walk::Walk;
@@ -93,24 +91,6 @@ fn reserve_one(
     heads.reserve(1)?;
     walk.reserve(1)?;
     queue.reserve(heads.len() + 1)
-}
-
-// Room for one more change of the block, with that span.
-fn reserve_on(
-    lists: &mut Vec<Vec<Listed>>,
-    covers: &mut Vec<Cover>,
-    block: u32,
-    span: Span,
-) -> Result<(), AllocError>
-    requires list { block < length lists.old.items }
-    requires cover { block < length covers.old.items }
-    ensures entries { map (λ l. entries_of l.items) lists.new.items ≡ map (λ l. entries_of l.items) lists.old.items }
-    ensures covered { (heads : List Patch) → AreCovered heads (length covers.old.items) covers.old.items → AreCovered heads (length covers.old.items) covers.new.items }
-    ensures in_list { OnOk result (HasRoomInList (map (λ l. vec_len l) lists.new.items) (map (λ l. vec_capacity l) lists.new.items) block) }
-    ensures bytes { OnOk result ((d : Covering) → HasBytes (slice_index_or covers.new.items block d) span.at span.len) }
-{
-    lists[block as usize].reserve(1)?;
-    covers[block as usize].reserve(span)
 }
 
 // Where a new empty patch is: on disk where it depends on nothing live.

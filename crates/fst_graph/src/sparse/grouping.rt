@@ -11,10 +11,10 @@ ghost use Rattle.fst_graph.specs.Sparse.{AddsSparse, ForetellsSparse, GainsSpars
 
 use crate::gates::gate_slot;
 use crate::member::prepare_member;
-use crate::prepared::Gates;
+use crate::prepared::{Gates, reserve_on};
 use crate::refusals::member_fault;
 use crate::sparse::pairs::row_of;
-use crate::sparse::{Sparse, reserve_on, reserve_one};
+use crate::sparse::{Sparse, reserve_one};
 use fst_heads::cascade::{cascade, seal_slot};
 use fst_heads::growth::gain_one;
 use fst_heads::head::{Head, Kind};

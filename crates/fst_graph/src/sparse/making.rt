@@ -7,9 +7,9 @@ ghost use Rattle.fst_graph.specs.Known.{Prepared, unprepared, prepared_for, Refu
 ghost use Rattle.fst_graph.specs.Sparse.{AddsSparse, ForeseesSparse};
 ghost use Rattle.fst_heads.specs.Names.{numbers_of};
 
-use crate::prepared::prepare;
+use crate::prepared::{prepare, reserve_on};
 use crate::refusals::make_fault;
-use crate::sparse::{Sparse, reserve_on, reserve_one};
+use crate::sparse::{Sparse, reserve_one};
 use fst_heads::head::{Head, Kind};
 use fst_heads::links::{link, reserve_above};
 use fst_heads::lists::Listed;

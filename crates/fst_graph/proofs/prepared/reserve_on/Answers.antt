@@ -2,7 +2,7 @@ use Rattle.std.proofs.Common.{◌+◌, ◌≤◌, rules, arith, OnOk, Result, Ok
 use Rattle.fst_heads.specs.Covers.{IsLonger}
 use Rattle.fst_heads.proofs.Covering.{covered_longer}
 use Rattle.fst_walks.proofs.Shelves.{shelved_same, room_in_list}
-use Rattle.fst_graph.proofs.sparse.reserve_on.Goals as goal
+use Rattle.fst_graph.proofs.prepared.reserve_on.Goals as goal
 
 pub returns-in_err-reserve-clause-entries : goal.returns-in_err-reserve-clause-entries
 returns-in_err-reserve-clause-entries c = shelved_same c.args.lists.now.items c.args.block c.index_mut.result.now c.reserve.new.self c.index_mut.ensures.value c.reserve.ensures.items
