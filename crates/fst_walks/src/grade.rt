@@ -2,12 +2,12 @@
 //! that it depends on can come to wait for its block: no open gate, no change of another block that needs one of its
 //! block, and no block from which the block graph leads to its block. What is near the change mostly tells it; else a walk
 //! up from the changes of its block does, which mostly is short. Where it is not, a walk down from what the change depends
-//! on may be; so the two take turns, and only where neither comes to an end one walks up all the way. A gate that is sealed with the change is taken as sealed
+//! on may be, and only where neither comes to an end soon one walks up all the way. A gate that is sealed with the change is taken as sealed
 //! already: that sets free what it alone blocks, and moves no change and no dependency.
 
-ghost use Rattle.std.specs.Prelude.{◌≡◌, ◌<◌, length, IfSome};
+ghost use Rattle.std.specs.Prelude.{◌≡◌, ◌<◌, length};
 ghost use Rattle.fst_types.specs.Grades.{FollowsRule};
-ghost use Rattle.fst_heads.specs.Grading.{LeadsNowhere, MayBeHard};
+ghost use Rattle.fst_heads.specs.Grading.{MayBeHard};
 ghost use Rattle.fst_heads.specs.Heads.{patches_of};
 ghost use Rattle.fst_walks.specs.Sights.{Sees};
 
@@ -19,33 +19,8 @@ use crate::way_back::grade_back;
 use crate::way_down::grade_below;
 use fst_types::Grade;
 
-// How many patches a walk meets at first before it gives up, and how many when both have.
+// How many patches a walk meets at first before it gives up.
 const FEW: usize = 64;
-
-const MANY: usize = 2_048;
-
-// What keeps a new change of the block with that row soft but for open gates, if a walk that meets no more than so many
-// patches tells it.
-fn grade_within(
-    sight: &Sight<'_>,
-    walk: &mut Walk,
-    crossed: &mut [bool],
-    block: u32,
-    row: &[u32],
-    most: usize,
-) -> Option<Grade>
-    requires sees { Sees sight.now }
-    requires crossed { length crossed.old ≡ length sight.now.lists.now }
-    requires long { length walk.old.marks ≡ length sight.now.heads.now }
-    requires block { block < length sight.now.lists.now }
-    ensures graded { IfSome result (λ grade. FollowsRule grade (LeadsNowhere (patches_of sight.now.heads.now) block row.now)) }
-    ensures long { length walk.new.marks ≡ length sight.now.heads.now }
-{
-    if let Some(grade) = grade_back(sight, walk, crossed, block, row, most) {
-        return Some(grade);
-    }
-    grade_below(sight, walk, crossed, block, row, most)
-}
 
 /// The grade of a new change of the block that directly depends on the row, where that gate is taken as sealed. What was
 /// met and crossed before does not matter.
@@ -72,10 +47,10 @@ pub fn grade_of(
     if is_blocked(sight.heads, walk, row, but) || comes_back(sight.heads, block, row) {
         return Grade::Soft;
     }
-    if let Some(grade) = grade_within(sight, walk, crossed, block, row, FEW) {
+    if let Some(grade) = grade_back(sight, walk, crossed, block, row, FEW) {
         return grade;
     }
-    if let Some(grade) = grade_within(sight, walk, crossed, block, row, MANY) {
+    if let Some(grade) = grade_below(sight, walk, crossed, block, row, FEW) {
         return grade;
     }
     // A walk that may meet all heads comes to the end.

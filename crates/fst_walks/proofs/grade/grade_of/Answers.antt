@@ -41,9 +41,9 @@ returns-clause-graded c =
     let patches = patches_of c.args.sight.now.heads.now in
     let b = c.args.block in
     let row = c.args.row.now in
-    let o = c.grade_back.result in
+    let o = c.grade_back-2.result in
     rw c.unwrap_or.ensures
     (decided o (MayBeHard patches c.args.but b row) (LeadsNowhere patches b row)
     (λ may. record { straight = may.straight; open_ended = may.open_ended })
     (λ nowhere. record { free = λ u. false≢true (sym c.if-is_blocked.false ∙ c.is_blocked.ensures.blocked.1 u); straight = nowhere.straight; open_ended = nowhere.open_ended })
-    c.grade_back.ensures.graded (never o (length c.args.sight.now.heads.now) c.grade_back.ensures.ended))
+    c.grade_back-2.ensures.graded (never o (length c.args.sight.now.heads.now) c.grade_back-2.ensures.ended))
