@@ -3,6 +3,7 @@
 //! A line is one JSON object with a member `do` and the members that its command has (`members`, `command`; `failure` is how
 //! a write that a line names goes wrong). What a line's bytes mean is a definition over JSON as `serde_json` reads it:
 //! `command_of` in `specs/Commands.antt`; `parse` gives that command, that refusal, or want of memory.
+//! A line with one number or no other member is read from its tokens first (`short`), which says the same.
 //!
 //! A reply is a line of words, decimal numbers and bytes in hex, whose text is a definition too (`specs/Replies.antt`). It
 //! goes out in pieces, through a loop over `write` (`output`, `reply`): so no reply takes memory or has a greatest length,
