@@ -36,6 +36,11 @@ fn plays_to(rt: &impl Abort, alloc: Global, resident: u32, script: &[u8], replie
     plays_over(rt, alloc, shape_of(rt, resident), script, replies);
 }
 
+// The same of texts. A test that took the bytes of a long text itself would be proved with what each of them is.
+fn plays_text(rt: &impl Abort, alloc: Global, resident: u32, script: &str, replies: &str) {
+    plays_to(rt, alloc, resident, script.as_bytes(), replies.as_bytes());
+}
+
 // Plays lines, each with its reply.
 fn plays_rows(
     rt: &impl Abort,

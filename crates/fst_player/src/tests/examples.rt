@@ -1,10 +1,9 @@
 //! The scripts of examples/ with their replies. Written by tools/examples --test; change those files, and not this one.
 
-use crate::tests::plays_to;
-use std::test::Fail;
+use crate::tests::plays_text;
 
 #[test]
-fn crashes(rt: HostRuntime) -> Result<(), Fail> {
+fn crashes(rt: HostRuntime) {
     let script = r#"{"do":"patch","block":0,"at":0,"data":"41"}
 {"do":"patch","block":1,"at":0,"data":"42"}
 {"do":"patch","block":2,"at":0,"data":"43","after":[1,2]}
@@ -39,12 +38,11 @@ flight 3 block 2 patches 3 image 43000000
 crash 41000000 42000000 00000000 00000000
 crash 41000000 42000000 43000000 00000000
 "#;
-    plays_to(&rt, rt.alloc(), 4, script.as_bytes(), replies.as_bytes());
-    Ok(())
+    plays_text(&rt, rt.alloc(), 4, script, replies);
 }
 
 #[test]
-fn crosswise_hold(rt: HostRuntime) -> Result<(), Fail> {
+fn crosswise_hold(rt: HostRuntime) {
     let script = r#"{"do":"patch","block":0,"at":0,"data":"41"}
 {"do":"patch","block":1,"at":0,"data":"42"}
 {"do":"patch","block":0,"at":1,"data":"43","after":[2]}
@@ -77,12 +75,11 @@ flight 3 block 1 patches 4 image 42440000
 done 3 block 1
 crash 41430000 42440000 00000000 00000000
 "#;
-    plays_to(&rt, rt.alloc(), 4, script.as_bytes(), replies.as_bytes());
-    Ok(())
+    plays_text(&rt, rt.alloc(), 4, script, replies);
 }
 
 #[test]
-fn cycle_of_blocks(rt: HostRuntime) -> Result<(), Fail> {
+fn cycle_of_blocks(rt: HostRuntime) {
     let script = r#"{"do":"patch","block":0,"at":0,"data":"41"}
 {"do":"patch","block":1,"at":0,"data":"42","after":[1]}
 {"do":"patch","block":0,"at":1,"data":"43","after":[2]}
@@ -117,12 +114,11 @@ done 3 block 0
 stat made 3 live 0 undo 0 flights 0
 crash 41430000 42000000 00000000 00000000
 "#;
-    plays_to(&rt, rt.alloc(), 4, script.as_bytes(), replies.as_bytes());
-    Ok(())
+    plays_text(&rt, rt.alloc(), 4, script, replies);
 }
 
 #[test]
-fn eviction_and_forgetting(rt: HostRuntime) -> Result<(), Fail> {
+fn eviction_and_forgetting(rt: HostRuntime) {
     let script = r#"{"do":"patch","block":0,"at":0,"data":"41"}
 {"do":"patch","block":1,"at":0,"data":"42"}
 {"do":"evict","block":0}
@@ -159,12 +155,11 @@ stat made 2 live 0 undo 0 flights 0
 place 2 disk
 refused 5
 "#;
-    plays_to(&rt, rt.alloc(), 1, script.as_bytes(), replies.as_bytes());
-    Ok(())
+    plays_text(&rt, rt.alloc(), 1, script, replies);
 }
 
 #[test]
-fn failed_write(rt: HostRuntime) -> Result<(), Fail> {
+fn failed_write(rt: HostRuntime) {
     let script = r#"{"do":"patch","block":0,"at":0,"data":"41"}
 {"do":"write","block":0}
 {"do":"done","ticket":1,"fail":"after"}
@@ -193,12 +188,11 @@ refused 13
 flight 3 block 0 patches 2 image 41420000
 done 3 block 0
 "#;
-    plays_to(&rt, rt.alloc(), 4, script.as_bytes(), replies.as_bytes());
-    Ok(())
+    plays_text(&rt, rt.alloc(), 4, script, replies);
 }
 
 #[test]
-fn gate(rt: HostRuntime) -> Result<(), Fail> {
+fn gate(rt: HostRuntime) {
     let script = r#"{"do":"gate"}
 {"do":"patch","block":0,"at":0,"data":"41","after":[1]}
 {"do":"pick"}
@@ -231,12 +225,11 @@ place 1 disk
 flight 2 block 0 patches 2 image 41000000
 done 2 block 0
 "#;
-    plays_to(&rt, rt.alloc(), 4, script.as_bytes(), replies.as_bytes());
-    Ok(())
+    plays_text(&rt, rt.alloc(), 4, script, replies);
 }
 
 #[test]
-fn groups_in_order(rt: HostRuntime) -> Result<(), Fail> {
+fn groups_in_order(rt: HostRuntime) {
     let script = r#"{"do":"group"}
 {"do":"group"}
 {"do":"group_after","group":3,"on":1}
@@ -275,12 +268,11 @@ flight 3 block 1 patches 5 image 42000000
 crash 41000000 42000000 43000000 00000000
 done 3 block 1
 "#;
-    plays_to(&rt, rt.alloc(), 4, script.as_bytes(), replies.as_bytes());
-    Ok(())
+    plays_text(&rt, rt.alloc(), 4, script, replies);
 }
 
 #[test]
-fn lost_block(rt: HostRuntime) -> Result<(), Fail> {
+fn lost_block(rt: HostRuntime) {
     let script = r#"{"do":"patch","block":0,"at":0,"data":"41"}
 {"do":"patch","block":1,"at":0,"data":"42","after":[1]}
 {"do":"patch","block":2,"at":0,"data":"43"}
@@ -317,12 +309,11 @@ pick none
 crash 00000000 00000000 43000000 00000000
 crash 41000000 00000000 43000000 00000000
 "#;
-    plays_to(&rt, rt.alloc(), 4, script.as_bytes(), replies.as_bytes());
-    Ok(())
+    plays_text(&rt, rt.alloc(), 4, script, replies);
 }
 
 #[test]
-fn one_write(rt: HostRuntime) -> Result<(), Fail> {
+fn one_write(rt: HostRuntime) {
     let script = r#"{"do":"patch","block":0,"at":0,"data":"41"}
 {"do":"write","block":0}
 {"do":"done","ticket":1}
@@ -333,12 +324,11 @@ flight 1 block 0 patches 1 image 41000000
 done 1 block 0
 crash 41000000 00000000 00000000 00000000
 "#;
-    plays_to(&rt, rt.alloc(), 4, script.as_bytes(), replies.as_bytes());
-    Ok(())
+    plays_text(&rt, rt.alloc(), 4, script, replies);
 }
 
 #[test]
-fn rename(rt: HostRuntime) -> Result<(), Fail> {
+fn rename(rt: HostRuntime) {
     let script = r#"{"do":"group"}
 {"do":"group_patch","group":1,"block":1,"at":0,"data":"6e6f6465"}
 {"do":"group_patch","group":1,"block":2,"at":0,"data":"746f0001"}
@@ -381,6 +371,5 @@ crash 00000000 6e6f6465 746f0001 00000000
 done 3 block 3
 place 8 disk
 "#;
-    plays_to(&rt, rt.alloc(), 4, script.as_bytes(), replies.as_bytes());
-    Ok(())
+    plays_text(&rt, rt.alloc(), 4, script, replies);
 }

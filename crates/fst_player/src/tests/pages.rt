@@ -1,10 +1,9 @@
 //! The scripts of the pages with their replies. Written by tools/examples --test; change those files, and not this one.
 
-use crate::tests::plays_to;
-use std::test::Fail;
+use crate::tests::plays_text;
 
 #[test]
-fn readme_1(rt: HostRuntime) -> Result<(), Fail> {
+fn readme_1(rt: HostRuntime) {
     let script = r#"{"do":"patch","block":0,"at":0,"data":"41"}
 {"do":"patch","block":1,"at":0,"data":"42","after":[1]}
 {"do":"pick"}
@@ -19,12 +18,11 @@ refused 10
 flight 1 block 0 patches 1 image 41000000
 crash 41000000 00000000 00000000 00000000
 "#;
-    plays_to(&rt, rt.alloc(), 4, script.as_bytes(), replies.as_bytes());
-    Ok(())
+    plays_text(&rt, rt.alloc(), 4, script, replies);
 }
 
 #[test]
-fn lines_1(rt: HostRuntime) -> Result<(), Fail> {
+fn lines_1(rt: HostRuntime) {
     let script = r#"{"do":"patch","block":0,"at":0,"data":"41"}
 {"do":"patch","block":1,"at":0,"data":"42"}
 {"do":"patch","block":0,"at":1,"data":"43","after":[2]}
@@ -43,12 +41,11 @@ refused 11 held 3
 done 1 block 1
 flight 2 block 0 patches 1,3 image 41430000
 "#;
-    plays_to(&rt, rt.alloc(), 4, script.as_bytes(), replies.as_bytes());
-    Ok(())
+    plays_text(&rt, rt.alloc(), 4, script, replies);
 }
 
 #[test]
-fn lines_2(rt: HostRuntime) -> Result<(), Fail> {
+fn lines_2(rt: HostRuntime) {
     let script = r#"{"do":"patch","block":0,"at":0,"data":"4a"}
 {"do":"patch","block":1,"at":0,"data":"43","after":[1]}
 {"do":"patch","block":2,"at":0,"data":"48","after":[2]}
@@ -87,6 +84,5 @@ done 4 block 2
 place 4 disk
 forget 4
 "#;
-    plays_to(&rt, rt.alloc(), 4, script.as_bytes(), replies.as_bytes());
-    Ok(())
+    plays_text(&rt, rt.alloc(), 4, script, replies);
 }
