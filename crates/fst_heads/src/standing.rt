@@ -32,7 +32,7 @@ impl Standing {
     pub fn may_be_written(&self) -> bool
         ensures { result ≡ may_be_written self.now }
     {
-        self.flying == 0 && self.held == 0 && self.ready > 0
+        self.ready > 0 && self.held == 0 && self.flying == 0
     }
 
     /// A change in memory that waited for more now waits for the block alone.

@@ -138,28 +138,25 @@ module _ (heads : List Patch) (rising : IsRising heads) (b : ℕ) where
           }))
         ]
 
-module _ (heads : List Patch) (rising : IsRising heads) (disk : IsOnDiskWithAll heads) (b : ℕ) (row : List ℕ) (crossed : List Bool) (shown : ShowsBlocks crossed (λ c. c ≡ b)) (start met : List ℕ)
-    (starts : (n : ℕ) → Contains start n ↔ (IsLiveOver heads b n × PassesAt (test.LiveOff b) heads n)) (only : (n : ℕ) → Contains met n → IsMet heads crossed start n) where
-  -- a change of another block is none of b
-  start_back : (n : ℕ) → Contains start n → ComesBack heads rising b n
-  start_back n c =
-      let k = (starts n).0 c in
-      let p = k.1.patch in
-      let off = off_from b p.number p.kind p.place k.1.passed in
-      let q = k.0.change in
+module _ (heads : List Patch) (rising : IsRising heads) (b : ℕ) where
+  -- a change of another block that depends on a live change of b is none of b
+  over_back : (n : ℕ) → IsLiveOver heads b n → PassesAt (test.LiveOff b) heads n → ComesBack heads rising b n
+  over_back n q x =
+      let p = x.patch in
+      let off = off_from b p.number p.kind p.place x.passed in
       record {
         root = n;
         is_root = record {
           on = off.1;
-          change = on_live heads rising b off.1 n p k.1.head k.1.numbered off.2 off.0;
+          change = on_live heads rising b off.1 n p x.head x.numbered off.2 off.0;
           off = off.3;
           back = inl (
-            k.0.base,
-            q,
-            elim k.0.over [
+            q.base,
+            q.change,
+            elim q.over [
               | inl e ↦
-                  let same = same_number heads p q.patch rising k.1.head q.head (k.1.numbered ∙ (e ∙ sym q.numbered)) in
-                  absurd (off.3 (one_block q.patch off.1 b (subst (λ r. IsOn r off.1) same off.2) (live_on heads rising b b k.0.base q).1))
+                  let same = same_number heads p q.change.patch rising x.head q.change.head (x.numbered ∙ (e ∙ sym q.change.numbered)) in
+                  absurd (off.3 (one_block q.change.patch off.1 b (subst (λ r. IsOn r off.1) same off.2) (live_on heads rising b b q.base q.change).1))
               | inr d ↦ d
             ],
           );
@@ -167,12 +164,19 @@ module _ (heads : List Patch) (rising : IsRising heads) (disk : IsOnDiskWithAll 
         over = inl refl;
       }
 
+  -- such a change is in the row
+  pub over_soft : (row : List ℕ) (n : ℕ) → Contains row n → IsLiveOver heads b n → PassesAt (test.LiveOff b) heads n → LeadsNowhere heads b row → ⊥
+  over_soft row n named q x = back_soft heads rising b row n named (over_back n q x)
+
+module _ (heads : List Patch) (rising : IsRising heads) (disk : IsOnDiskWithAll heads) (b : ℕ) (row : List ℕ) (crossed : List Bool) (shown : ShowsBlocks crossed (λ c. c ≡ b)) (start met : List ℕ)
+    (starts : (n : ℕ) → Contains start n ↔ (IsLiveOver heads b n × PassesAt (test.LiveOff b) heads n)) (only : (n : ℕ) → Contains met n → IsMet heads crossed start n) where
   met_back : (n : ℕ) → Contains met n → ComesBack heads rising b n
   met_back n c = elim (only n c) [
-    | inl first ↦ start_back n first
-    | inr r ↦ steps_back heads rising b crossed shown r.0 n r.2 (start_back r.0 r.1)
+    | inl first ↦ let k = (starts n).0 first in over_back heads rising b n k.0 k.1
+    | inr r ↦ let k = (starts r.0).0 r.1 in steps_back heads rising b crossed shown r.0 n r.2 (over_back heads rising b r.0 k.0 k.1)
   ]
 
+  -- one of the row was met
   pub met_soft : ((n : ℕ) × Contains row n × Contains met n) → LeadsNowhere heads b row → ⊥
   met_soft has = back_soft heads rising b row has.0 has.1 (met_back has.0 has.2)
 

@@ -26,3 +26,4 @@ pub mod Descended
 pub mod Crossing
 pub mod Beneath
 pub mod Trails
+pub mod Nearby

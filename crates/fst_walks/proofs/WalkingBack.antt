@@ -110,8 +110,8 @@ walking_all patches crossed start at now queue past x = record {
     on p q (join {q = r} d e) c = on r q e (on p r d c)
 
 -- where no block is crossed, the walk meets what is not on disk of what it starts from and of what depends on that
-module _ (heads : List Patch) (disk : IsOnDiskWithAll heads) (b blocks : ℕ) (inside : IsInside heads blocks) (crossed : List Bool) (all : (c : ℕ) → c < blocks → IsReached crossed c) (start met : List ℕ)
-    (starts : Visits (PassesAt (test.LiveOn b) heads) [] start) (meets : Meets heads crossed start met) where
+module _ (heads : List Patch) (disk : IsOnDiskWithAll heads) (b blocks : ℕ) (inside : IsInside heads blocks) (crossed : List Bool) (all : (c : ℕ) → c < blocks → IsReached crossed c) (start : List ℕ)
+    (starts : Visits (PassesAt (test.LiveOn b) heads) [] start) where
   -- each step goes up
   step_up : (p q : ℕ) → StepsUp heads crossed p q → DirectlyOn heads q p × IsLiveNumber heads q
   step_up p q s = elim s [
@@ -135,12 +135,13 @@ module _ (heads : List Patch) (disk : IsOnDiskWithAll heads) (b blocks : ℕ) (i
   base_live : (n : ℕ) → PassesAt (test.LiveOn b) heads n → IsLiveNumber heads n
   base_live n x = record { patch = x.patch; head = x.head; numbered = x.numbered; live = (on_from b x.patch.number x.patch.kind x.patch.place x.passed).0 }
 
-  pub met_over : (n : ℕ) → Contains met n ↔ IsLiveOver heads b n
-  met_over n = (
-    λ c. elim (meets.only n c) [
-      | inl first ↦ let x = started n first in record { live = base_live n x; base = n; change = x; over = inl refl }
-      | inr r ↦ let k = steps_up r.0 n r.2 in record { live = k.1; base = r.0; change = started r.0 r.1; over = inr k.0 }
-    ],
+  pub is_over : (n : ℕ) → IsMet heads crossed start n → IsLiveOver heads b n
+  is_over n (inl first) = let x = started n first in record { live = base_live n x; base = n; change = x; over = inl refl }
+  is_over n (inr r) = let k = steps_up r.0 n r.2 in record { live = k.1; base = r.0; change = started r.0 r.1; over = inr k.0 }
+
+  pub met_over : (met : List ℕ) → Meets heads crossed start met → (n : ℕ) → Contains met n ↔ IsLiveOver heads b n
+  met_over met meets n = (
+    λ c. is_over n (meets.only n c),
     λ o. meets.each n (elim o.over [
       | inl e ↦ inl (subst (Contains start) (sym e) (starts.each o.base o.change))
       | inr path ↦ inr (o.base, starts.each o.base o.change, goes_up n o.base path (base_live o.base o.change))

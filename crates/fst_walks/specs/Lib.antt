@@ -4,3 +4,4 @@ pub mod WayBack
 pub mod WayDown
 pub mod Walks
 pub mod Sights
+pub mod Nearby

@@ -7,10 +7,11 @@
 
 ghost use Rattle.std.specs.Prelude.{◌≡◌, ◌<◌, length};
 ghost use Rattle.fst_types.specs.Grades.{FollowsRule};
-ghost use Rattle.fst_heads.specs.Grading.{MayBeHard};
+ghost use Rattle.fst_heads.specs.Grading.{LeadsNowhere, MayBeHard};
 ghost use Rattle.fst_heads.specs.Heads.{patches_of};
 ghost use Rattle.fst_walks.specs.Sights.{Sees};
 
+use crate::near::{WIDTH, near_of};
 use crate::other_gates::is_blocked;
 use crate::shortcuts::{comes_back, rests_on_hard, waits_for_quiet_block};
 use crate::sight::Sight;
@@ -21,6 +22,33 @@ use fst_types::Grade;
 
 // How many patches a walk meets at first before it gives up.
 const FEW: usize = 64;
+
+// What keeps a new change of the block with that row soft but for open gates, told by walks. What was met and crossed before
+// does not matter.
+fn grade_by_walks(
+    sight: &Sight<'_>,
+    walk: &mut Walk,
+    crossed: &mut [bool],
+    block: u32,
+    row: &[u32],
+) -> Grade
+    requires sees { Sees sight.now }
+    requires crossed { length crossed.old ≡ length sight.now.lists.now }
+    requires long { length walk.old.marks ≡ length sight.now.heads.now }
+    requires block { block < length sight.now.lists.now }
+    ensures graded { FollowsRule result (LeadsNowhere (patches_of sight.now.heads.now) block row.now) }
+    ensures long { length walk.new.marks ≡ length sight.now.heads.now }
+{
+    if let Some(grade) = grade_back(sight, walk, crossed, block, row, FEW) {
+        return grade;
+    }
+    if let Some(grade) = grade_below(sight, walk, crossed, block, row, FEW) {
+        return grade;
+    }
+    // A walk that may meet all heads comes to the end.
+    let all = sight.heads.len();
+    grade_back(sight, walk, crossed, block, row, all).unwrap_or(Grade::Soft)
+}
 
 /// The grade of a new change of the block that directly depends on the row, where that gate is taken as sealed. What was
 /// met and crossed before does not matter.
@@ -47,13 +75,9 @@ pub fn grade_of(
     if is_blocked(sight.heads, walk, row, but) || comes_back(sight.heads, block, row) {
         return Grade::Soft;
     }
-    if let Some(grade) = grade_back(sight, walk, crossed, block, row, FEW) {
-        return grade;
+    if WIDTH < row.len() {
+        return grade_by_walks(sight, walk, crossed, block, row);
     }
-    if let Some(grade) = grade_below(sight, walk, crossed, block, row, FEW) {
-        return grade;
-    }
-    // A walk that may meet all heads comes to the end.
-    let all = sight.heads.len();
-    grade_back(sight, walk, crossed, block, row, all).unwrap_or(Grade::Soft)
+    let near = near_of(sight.heads, row);
+    grade_by_walks(sight, walk, crossed, block, near.as_slice())
 }

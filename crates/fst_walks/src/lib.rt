@@ -20,6 +20,7 @@ pub mod block_walk;
 pub mod cycle;
 pub mod descent;
 pub mod grade;
+pub mod near;
 pub mod other_gates;
 pub mod overlap_cycle;
 pub mod shortcuts;

@@ -121,8 +121,8 @@ fn newest(row: &[u32]) -> Option<u32>
     }
 }
 
-// What the patch with the number directly depends on, or nothing where it is forgotten.
-fn row_below(heads: &[Head], number: u32) -> &[u32]
+/// What the patch with the number directly depends on, or nothing where it is forgotten.
+pub fn row_below(heads: &[Head], number: u32) -> &[u32]
     requires { IsRising heads.now }
     ensures { (q : ℕ) → Contains result.now q → DirectlyOn (patches_of heads.now) number q }
 {

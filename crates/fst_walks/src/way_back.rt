@@ -15,6 +15,7 @@ ghost use Rattle.fst_walks.specs.Walks.{numbers_met};
 ghost use Rattle.fst_walks.specs.WayBack.{Crosses, IsLiveOver, IsMet, Meets, ShowsBlockOf};
 
 use crate::descent::{cross_all, is_visited, keep_away, show_only, visit, visit_row};
+use crate::near::away_of;
 use crate::shortcuts::is_hard_in;
 use crate::sight::Sight;
 use crate::walk::Walk;
@@ -115,12 +116,14 @@ fn walk_back(
     true
 }
 
-// Visits the changes of the block that are not on disk, and what depends on them. Answers whether that is all of it.
+// Visits the changes of the block that are not on disk, and what depends on them, or stops at one of those away that it
+// met. Answers whether it did either before it met more than `most`.
 fn visit_over(
     sight: &Sight<'_>,
     walk: &mut Walk,
     crossed: &mut [bool],
     block: u32,
+    away: &[u32],
     most: usize,
 ) -> bool
     requires sees { Sees sight.now }
@@ -128,13 +131,14 @@ fn visit_over(
     requires long { length walk.old.marks ≡ length sight.now.heads.now }
     requires block { block < length sight.now.lists.now }
     ensures visited { Visited sight.now.heads.now walk.new }
-    ensures over { IsTrue result → (n : ℕ) → Contains (numbers_met sight.now.heads.now walk.new) n ↔ IsLiveOver (patches_of sight.now.heads.now) block n }
+    ensures only { (n : ℕ) → Contains (numbers_met sight.now.heads.now walk.new) n → IsLiveOver (patches_of sight.now.heads.now) block n }
+    ensures over { IsTrue result → ((n : ℕ) → Contains away.now n → Contains (numbers_met sight.now.heads.now walk.new) n → ⊥) → (n : ℕ) → Contains (numbers_met sight.now.heads.now walk.new) n ↔ IsLiveOver (patches_of sight.now.heads.now) block n }
     ensures ended { result ≡ false → most < length sight.now.heads.now }
 {
     walk.clear();
     cross_all(crossed);
     visit_changes(sight, walk, block);
-    walk_back(sight, walk, crossed, &[], most)
+    walk_back(sight, walk, crossed, away, most)
 }
 
 // Whether one of the row was visited.
@@ -170,8 +174,13 @@ pub fn grade_back(
     ensures ended { IfNone result (most < length sight.now.heads.now) }
     ensures long { length walk.new.marks ≡ length sight.now.heads.now }
 {
-    if !visit_over(sight, walk, crossed, block, most) {
+    let near = away_of(sight.heads, block, row);
+    let away = near.as_slice();
+    if !visit_over(sight, walk, crossed, block, away, most) {
         return None;
+    }
+    if names_visited(sight.heads, walk, away) {
+        return Some(Grade::Soft);
     }
     keep_away(sight.heads, walk, block);
     show_only(crossed, block);

@@ -1,12 +1,13 @@
-use Rattle.std.proofs.Common.{◌∙◌, ◌<◌, ℕ, Option, Some, None, IfSome, IfNone, length, sym, arith}
+use Rattle.std.proofs.Common.{◌∙◌, sym, subst}
 use Rattle.std.proofs.lemmas.Bool.{false≢true}
-use Rattle.std.specs.Option.{unwrap_or}
 use Rattle.fst_types.specs.declared.grade.Grade.{Grade}
 use Rattle.fst_types.specs.declared.grade.Grade.TheVariants as grade
 use Rattle.fst_types.specs.Facts.{HardNeverHold}
 use Rattle.fst_types.specs.Grades.{FollowsRule}
 use Rattle.fst_heads.specs.Grading.{LeadsNowhere, MayBeHard}
 use Rattle.fst_heads.specs.Heads.{patches_of}
+use Rattle.fst_walks.specs.Nearby.{Deepens}
+use Rattle.fst_walks.proofs.Nearby.{nowhere_near, nowhere_row}
 use Rattle.fst_walks.proofs.NearRow.{rests_may, may_but}
 use Rattle.fst_walks.proofs.grade.grade_of.Goals as goal
 use Rattle.fst_walks.proofs.grade.grade_of.Goals.{then-rests_on_hard-via-then-rests_on_hard, then-rests_on_hard-via-else-rests_on_hard+then-waits_for_quiet_block, then-is_blocked-via-then-is_blocked, then-is_blocked-via-else-is_blocked+then-comes_back}
@@ -27,23 +28,18 @@ returns-then-is_blocked-clause-graded c may = elim c.then-is_blocked.branch [
 ]
 
 -- no open gate is in the way, so the rest decides
-decided : (o : Option Grade) (May Nowhere : Type 0) → (May → Nowhere) → (Nowhere → May) → IfSome o (λ g. FollowsRule g Nowhere) → IfNone o ⊥ → FollowsRule (unwrap_or o grade.Soft) May
-decided (Some grade.Hard) May Nowhere to from told some = from told
-decided (Some grade.Soft) May Nowhere to from told some = λ may. told (to may)
-decided None May Nowhere to from told some = absurd some
-
-never : (o : Option Grade) (n : ℕ) → IfNone o (n < n) → IfNone o ⊥
-never (Some g) n e = tt
-never None n e = omega (arith, e)
+decided : (g : Grade) (May Nowhere : Type 0) → (May → Nowhere) → (Nowhere → May) → FollowsRule g Nowhere → FollowsRule g May
+decided grade.Hard May Nowhere to from told = from told
+decided grade.Soft May Nowhere to from told = λ may. told (to may)
 
 pub returns-clause-graded : goal.returns-clause-graded
 returns-clause-graded c =
     let patches = patches_of c.args.sight.now.heads.now in
     let b = c.args.block in
     let row = c.args.row.now in
-    let o = c.grade_back-2.result in
-    rw c.unwrap_or.ensures
-    (decided o (MayBeHard patches c.args.but b row) (LeadsNowhere patches b row)
-    (λ may. record { straight = may.straight; open_ended = may.open_ended })
-    (λ nowhere. record { free = λ u. false≢true (sym c.if-is_blocked.false ∙ c.is_blocked.ensures.blocked.1 u); straight = nowhere.straight; open_ended = nowhere.open_ended })
-    c.grade_back-2.ensures.graded (never o (length c.args.sight.now.heads.now) c.grade_back-2.ensures.ended))
+    let near = c.as_slice.result.now in
+    let deep = subst (Deepens patches row) (sym c.as_slice.ensures.value) c.near_of-near.ensures in
+    decided c.grade_by_walks-2.result (MayBeHard patches c.args.but b row) (LeadsNowhere patches b near)
+    (λ may. nowhere_near patches row near deep b (record { straight = may.straight; open_ended = may.open_ended }))
+    (λ leads. let nowhere = nowhere_row patches row near deep b leads in record { free = λ u. false≢true (sym c.if-is_blocked.false ∙ c.is_blocked.ensures.blocked.1 u); straight = nowhere.straight; open_ended = nowhere.open_ended })
+    c.grade_by_walks-2.ensures.graded
