@@ -1,5 +1,5 @@
 -- What is near a row tells what the row does.
-use Rattle.std.proofs.Common.{◌≡◌, ◌⊎◌, ℕ, List, ◌∷◌, [], ◌++◌, Contains, refl, sym, subst, inl, inr}
+use Rattle.std.proofs.Common.{◌≡◌, ℕ, List, ◌∷◌, [], ◌++◌, Contains, refl, sym, subst, inl, inr}
 use Rattle.std.proofs.lemmas.List.Elements.{Contains-push_cases}
 use Rattle.fst_types.specs.Closure.{one, join}
 use Rattle.fst_types.specs.Dependencies.{DirectlyOn, DependsOn}

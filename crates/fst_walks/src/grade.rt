@@ -20,8 +20,11 @@ use crate::way_back::grade_back;
 use crate::way_down::grade_below;
 use fst_types::Grade;
 
-// How many patches a walk meets at first before it gives up.
+// How many patches a walk up meets at first before it gives up.
 const FEW: usize = 64;
+
+// How many patches a walk down meets besides those of the row before it gives up. Where it ends at all it mostly ends soon.
+const FEW_BELOW: usize = 16;
 
 // What keeps a new change of the block with that row soft but for open gates, told by walks. What was met and crossed before
 // does not matter.
@@ -42,7 +45,8 @@ fn grade_by_walks(
     if let Some(grade) = grade_back(sight, walk, crossed, block, row, FEW) {
         return grade;
     }
-    if let Some(grade) = grade_below(sight, walk, crossed, block, row, FEW) {
+    let few = row.len() + FEW_BELOW;
+    if let Some(grade) = grade_below(sight, walk, crossed, block, row, few) {
         return grade;
     }
     // A walk that may meet all heads comes to the end.

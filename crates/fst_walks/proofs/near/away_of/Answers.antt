@@ -1,4 +1,4 @@
-use Rattle.std.proofs.Common.{◌&&◌, ℕ, get_or, Contains, sym, subst, inl, inr}
+use Rattle.std.proofs.Common.{get_or, Contains}
 use Rattle.std.proofs.lemmas.List.Elements.{Contains-get_or}
 use Rattle.fst_heads.specs.declared.test.Test.TheVariants as test
 use Rattle.fst_heads.specs.Heads.{patches_of}

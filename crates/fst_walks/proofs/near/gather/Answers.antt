@@ -1,4 +1,4 @@
-use Rattle.std.proofs.Common.{◌⊎◌, ℕ, get_or, Contains, sym, subst, inl, inr}
+use Rattle.std.proofs.Common.{◌⊎◌, get_or, Contains, sym, subst, inr}
 use Rattle.std.proofs.lemmas.List.Elements.{Contains-append_left, Contains-get_or}
 use Rattle.fst_walks.proofs.Nearby.{push_all}
 use Rattle.fst_walks.proofs.near.gather.Goals as goal

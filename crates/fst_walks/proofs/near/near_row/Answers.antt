@@ -1,2 +1,0 @@
-use Rattle.std.proofs.Common.{arith}
-use Rattle.fst_walks.proofs.near.near_row.Goals as goal
