@@ -23,10 +23,16 @@ use fst_types::Grade;
 // How many patches a walk up meets at first before it gives up.
 const FEW: usize = 64;
 
+// How far a chain of newest dependencies is followed at first, and where the patches above the block do not tell the grade
+// soon. A chain over all blocks comes back within as many steps as there are blocks.
+const FEW_STEPS: u32 = 128;
+
+const MOST_STEPS: u32 = 4_096;
+
 // How many patches a walk down meets besides those of the row before it gives up. Where it ends at all it mostly ends soon.
 const FEW_BELOW: usize = 16;
 
-// What keeps a new change of the block with that row soft but for open gates, told by walks. What was met and crossed before
+// What keeps a new change of the block with that row soft but for open gates, told by walks and by a long chain. What was met and crossed before
 // does not matter.
 fn grade_by_walks(
     sight: &Sight<'_>,
@@ -44,6 +50,9 @@ fn grade_by_walks(
 {
     if let Some(grade) = grade_back(sight, walk, crossed, block, row, FEW) {
         return grade;
+    }
+    if comes_back(sight.heads, block, row, MOST_STEPS) {
+        return Grade::Soft;
     }
     let few = row.len() + FEW_BELOW;
     if let Some(grade) = grade_below(sight, walk, crossed, block, row, few) {
@@ -76,7 +85,7 @@ pub fn grade_of(
     {
         return Grade::Hard;
     }
-    if is_blocked(sight.heads, walk, row, but) || comes_back(sight.heads, block, row) {
+    if is_blocked(sight.heads, walk, row, but) || comes_back(sight.heads, block, row, FEW_STEPS) {
         return Grade::Soft;
     }
     if WIDTH < row.len() {

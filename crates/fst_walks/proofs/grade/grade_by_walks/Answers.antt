@@ -15,3 +15,6 @@ answered None n Nowhere told none = absurd (omega (arith, none))
 pub returns-clause-graded : goal.returns-clause-graded
 returns-clause-graded c =
     rw c.unwrap_or.ensures (answered c.grade_back-2.result (length c.args.sight.now.heads.now) (LeadsNowhere (patches_of c.args.sight.now.heads.now) c.args.block c.args.row.now) c.grade_back-2.ensures.graded c.grade_back-2.ensures.ended)
+
+pub returns-then-comes_back-clause-graded : goal.returns-then-comes_back-clause-graded
+returns-then-comes_back-clause-graded c leads = leads.straight (c.comes_back.ensures c.if-comes_back.true)
