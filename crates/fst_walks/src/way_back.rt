@@ -174,6 +174,9 @@ pub fn grade_back(
     ensures ended { IfNone result (most < length sight.now.heads.now) }
     ensures long { length walk.new.marks ≡ length sight.now.heads.now }
 {
+    if most < sight.lists[block as usize].len() {
+        return None;
+    }
     let near = away_of(sight.heads, block, row);
     let away = near.as_slice();
     if !visit_over(sight, walk, crossed, block, away, most) {

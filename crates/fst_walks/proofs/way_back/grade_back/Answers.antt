@@ -1,4 +1,4 @@
-use Rattle.std.proofs.Common.{◌↔◌, ◌∙◌, ℕ, Contains, sym, subst}
+use Rattle.std.proofs.Common.{◌↔◌, ◌∙◌, ℕ, Contains, sym, ap, subst, vec_len, arith}
 use Rattle.std.proofs.lemmas.Bool.{false≢true}
 use Rattle.fst_types.specs.Facts.{IsOnDiskWithAll}
 use Rattle.fst_heads.specs.declared.test.Test.TheVariants as test
@@ -7,9 +7,18 @@ use Rattle.fst_heads.specs.Marks.{PassesAt}
 use Rattle.fst_walks.specs.Walks.{numbers_met}
 use Rattle.fst_walks.specs.WayBack.{IsLiveOver}
 use Rattle.fst_walks.proofs.ComesBack.{met_soft, none_hard, over_soft}
-use Rattle.fst_heads.proofs.Listing.{rising_patches}
+use Rattle.fst_heads.specs.Lists.{entries_of}
+use Rattle.fst_heads.proofs.Listing.{listed_at, rising_patches}
+use Rattle.fst_walks.proofs.CrossingBack.{few_listed}
 use Rattle.fst_walks.proofs.Away.{kept_with}
 use Rattle.fst_walks.proofs.way_back.grade_back.Goals as goal
+
+pub returns-then-most-len-clause-ended : goal.returns-then-most-len-clause-ended
+returns-then-most-len-clause-ended c =
+    let heads = c.args.sight.now.heads.now in
+    let list = c.index-sight-block.result in
+    let few = few_listed heads list.items c.args.block (listed_at (λ l. entries_of l.items) (patches_of heads) c.args.sight.now.lists.now c.args.block list c.requires.block c.index-sight-block.is c.requires.sees.listed) in
+    omega (arith, few, c.if-most-len.true, list.ok, c.len.ensures, ap vec_len c.index-sight-block.is)
 
 -- a change of another block that depends on one of the block was met
 pub returns-then-names_visited-clause-graded : goal.returns-then-names_visited-clause-graded
