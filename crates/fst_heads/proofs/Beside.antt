@@ -24,9 +24,6 @@ one_if t = cond t 1 0
 abbrev pub one_live : Patch → ℕ
 one_live p = cond (is_live p) 1 0
 
-pub live_few : (heads : List Patch) (blocks live : ℕ) (reached : List Bool) → Beside heads blocks live reached → live ≤ length heads
-live_few heads blocks live reached B = let few = count_by-le-length is_live heads in omega (arith, few, B.counted)
-
 -- what `weight` says of a place
 abbrev pub weight_of : Place → ℕ
 weight_of at = cond (is_at at place.Disk) 0 1

@@ -16,7 +16,7 @@ use Rattle.fst_types.specs.Patches.{Patch, Change, IsOn, IsLive, IsRising, block
 use Rattle.fst_types.specs.Tests.{is_at, is_live}
 use Rattle.fst_types.proofs.Depending.{Grown, grown}
 use Rattle.fst_types.proofs.Dropping.{filter_in, in_filter}
-use Rattle.fst_types.proofs.Alike.{Alike, Like, at_same, len_same, on_back, on_forth, back_alike, forth_alike, closure_map}
+use Rattle.fst_types.proofs.Alike.{Alike, at_same, len_same, on_back, on_forth, back_alike, forth_alike, closure_map}
 use Rattle.fst_types.proofs.Crash.{same_number}
 use Rattle.fst_types.proofs.Finite.{In-from_Contains, Contains-from_In, In-map}
 use Rattle.fst_types.proofs.GateGains.{In-unmap}

@@ -64,11 +64,6 @@ in_live heads n l = go heads (In-from_Contains heads l.patch l.head)
     go (p ∷ ps) (inl e) = rw (subst (λ q. (is_live q && (q.number == n)) ≡ true) (sym e) yes_p) refl
     go (p ∷ ps) (inr i) = elim (cases_Bool (is_live p && (p.number == n))) [ inl t ↦ rw t refl | inr f ↦ rw f (go ps i) ]
 
--- a test that says what another does
-pub same_test : (heads : List Patch) (n : ℕ) (b : Bool) → (b ≡ true → IsLiveNumber heads n) → (IsLiveNumber heads n → b ≡ true) → b ≡ is_live_in heads n
-same_test heads n true f g = sym (in_live heads n (f refl))
-same_test heads n false f g = elim (cases_Bool (is_live_in heads n)) [ inl t ↦ absurd (false≢true (g (live_in heads n t))) | inr e ↦ sym e ]
-
 split : (heads : List Patch) → length (filter is_live heads) + length (filter (λ p. is_at p.place place.Disk) heads) ≡ length heads
 split [] = refl
 split (p ∷ ps) = elim (cases_Bool (is_at p.place place.Disk)) [

@@ -24,9 +24,6 @@ at_number_told n f x same = elim (cases_eq x.patch.number n) [
   | inr ne ↦ rw (at_other n f x ne) refl
 ]
 
-pub waiting_at : (n : ℕ) (f : Node → Node) (nodes : List Node) → ((x : Node) → (f x).pending ≡ x.pending) → count_by is_waiting (map (at_number n f) nodes) ≡ count_by is_waiting nodes
-waiting_at n f nodes same = waiting_kept (at_number n f) nodes (λ x. at_number_told n f x (same x))
-
 pub waiting_heard : (row : List ℕ) (old new : Pending) (nodes : List Node) → count_by is_waiting (map (heard row old new) nodes) ≡ count_by is_waiting nodes
 waiting_heard row old new nodes = waiting_kept (heard row old new) nodes told
   where

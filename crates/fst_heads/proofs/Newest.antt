@@ -36,15 +36,6 @@ pub record GainsUpTo (heads : List Patch) (numbers : List ℕ) (b at len i last 
   pub each : (k : ℕ) → k < i → 1 ≤ get_or numbers k 0 → IsTouched heads b at len (get_or numbers k 0) → Contains row (get_or numbers k 0)
   pub again : 1 ≤ last → IsTouched heads b at len last → Contains row last
 
-pub gains_none : (heads : List Patch) (numbers : List ℕ) (b at len : ℕ) (row : List ℕ) → IsStrictlyIncreasing row → GainsUpTo heads numbers b at len 0 0 row row
-gains_none heads numbers b at len row rising = record {
-  rising = rising;
-  only = λ n c. inl c;
-  kept = λ n c. c;
-  each = λ k lt. absurd (omega (arith, lt));
-  again = λ some. absurd (omega (arith, some));
-}
-
 module _ (heads : List Patch) (numbers : List ℕ) (b at len i last : ℕ) (old row : List ℕ) (x : GainsUpTo heads numbers b at len i last old row) where
   -- one number more
   up : (new : List ℕ) → ((n : ℕ) → Contains row n → Contains new n) → (1 ≤ get_or numbers i 0 → IsTouched heads b at len (get_or numbers i 0) → Contains new (get_or numbers i 0))

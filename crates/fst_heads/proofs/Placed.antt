@@ -13,7 +13,6 @@ use Rattle.fst_types.proofs.Issuing.{among_in}
 use Rattle.fst_heads.specs.Spreading.{launches}
 use Rattle.fst_heads.specs.Lists.{entry, entries_on, is_live_on}
 use Rattle.fst_heads.specs.Nodes.{Node, patches_in, times, AreLinked, AreGiven, AreDistinct}
-use Rattle.fst_heads.specs.Nodes.{is_live_in}
 use Rattle.fst_heads.proofs.Forgetting.{live_place_of}
 
 -- y has the number, the direct dependencies and the dependants of x
@@ -68,13 +67,6 @@ pub node_of_patch : (nodes : List Node) (p : Patch) → Contains (patches_in nod
 node_of_patch nodes p c = let r = In-unmap (λ (x : Node). x.patch) nodes p (In-from_Contains (patches_in nodes) p c) in (r.0, Contains-from_In nodes r.0 r.1, r.2)
 
 module _ (f : Patch → Patch) where
-  pub live_in_mapped : (ps : List Patch) (n : ℕ) → ((p : Patch) → In ps p → StandsFor p (f p)) → is_live_in (map f ps) n ≡ is_live_in ps n
-  live_in_mapped [] n same = refl
-  live_in_mapped (p ∷ ps) n same =
-      let s = same p (inl refl) in
-      let r = live_in_mapped ps n (λ q h. same q (inr h)) in
-      rw (s.live, s.number, r) refl
-
   pub entries_mapped : (b : ℕ) (ps : List Patch) → ((p : Patch) → In ps p → StandsFor p (f p)) → entries_on b (map f ps) ≡ entries_on b ps
   entries_mapped b [] same = refl
   entries_mapped b (p ∷ ps) same =
@@ -131,14 +123,6 @@ patches_dropped [] = refl
 patches_dropped (x ∷ xs) = elim (cases_Bool (is_live x.patch)) [
   | inl e ↦ let r = patches_dropped xs in rw (e, r) refl
   | inr e ↦ let r = patches_dropped xs in rw (e, r) refl
-]
-
--- what is on disk is not the one live patch of a number
-pub live_in_dropped : (ps : List Patch) (n : ℕ) → is_live_in (filter is_live ps) n ≡ is_live_in ps n
-live_in_dropped [] n = refl
-live_in_dropped (p ∷ ps) n = elim (cases_Bool (is_live p)) [
-  | inl e ↦ let r = live_in_dropped ps n in rw (e, e, r) refl
-  | inr e ↦ let r = live_in_dropped ps n in rw (e, r) refl
 ]
 
 pub entries_dropped : (b : ℕ) (ps : List Patch) → entries_on b (filter is_live ps) ≡ entries_on b ps

@@ -8,7 +8,7 @@ use Rattle.fst_heads.specs.declared.pending.Pending.TheVariants as pending
 use Rattle.fst_heads.specs.Heads.{IsRising, patches_of}
 use Rattle.fst_heads.specs.Marks.{HasSlot}
 use Rattle.fst_heads.specs.Nodes.{Node, node_of, nodes_of, patches_in, at_number, AreLinked, AreDistinct}
-use Rattle.fst_heads.specs.Pendings.{Fits, Sinks, max_block}
+use Rattle.fst_heads.specs.Pendings.{Fits, max_block}
 use Rattle.fst_heads.specs.Spreading.{Spreading, IsSpreadOf, CanHear, now, is_told, settles, heard, woken, heights}
 use Rattle.fst_heads.proofs.AtNumber.{at_same, patches_in_nodes}
 use Rattle.fst_heads.proofs.Linking.{rising_as}
@@ -53,9 +53,6 @@ module _ (heads : List Head) (blocks : ℕ) (queue : List ℕ) (q s : ℕ) (narr
 
   pub fits_there : (d : Node) → Fits (get_or nodes s d).sums
   fits_there d = spreading_fits nodes blocks (queue ++ q ∷ []) narrow S (get_or nodes s d) (node_in_slot heads q s d found).0
-
-  pub sinks_there : (d : Node) → Sinks (get_or nodes s d).pending (now (get_or nodes s d))
-  sinks_there d = S.sinks (get_or nodes s d) (node_in_slot heads q s d found).0
 
   pub untold_there : (d : Node) → is_told (get_or nodes s d) ≡ false
   untold_there d =

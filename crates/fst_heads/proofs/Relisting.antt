@@ -54,9 +54,6 @@ numbers_rise (p ∷ ps) pairs k lt =
     omega (arith, r, e, f)
 
 module _ (b : ℕ) where
-  landed_number : (p : Patch) → (landed b p).number ≡ p.number
-  landed_number p = elim (cases_Bool (is_change_at place.Flight b p)) [ inl e ↦ rw e refl | inr e ↦ rw e refl ]
-
   landed_entry : (p : Patch) → entry (landed b p) ≡ entry p
   landed_entry p = elim (cases_Bool (is_change_at place.Flight b p)) [ inl e ↦ rw e refl | inr e ↦ rw e refl ]
 
@@ -104,14 +101,6 @@ module _ (b : ℕ) where
       ∙ (ap (λ es. cond (is_live_on c p) (entry p ∷ es) es) rest ∙ sym (entries_cons c p ps))))
 
   module _ (ps : List Patch) (rising : Rising ps) where
-    rising_landed : Rising (map (landed b) ps)
-    rising_landed i j d lt inside =
-        let long = length-map ps (landed b) in
-        let low = ap (λ p. p.number) (get_or-map (landed b) ps i d d (omega (arith, lt, inside, long))) ∙ landed_number (get_or ps i d) in
-        let high = ap (λ p. p.number) (get_or-map (landed b) ps j d d (omega (arith, inside, long))) ∙ landed_number (get_or ps j d) in
-        let r = rising i j d lt (omega (arith, inside, long)) in
-        omega (arith, low, high, r)
-
     -- the numbers of those that flew are in order
     pub flying_rise : IsStrictlyIncreasing (flying_on b ps)
     flying_rise = numbers_rise (filter (is_change_at place.Flight b) ps) (AllPairs-filter IsBelow (is_change_at place.Flight b) ps (λ i j d lt inside. rising i j d lt inside))

@@ -1,9 +1,8 @@
 -- Rising rows, and names as calls give them.
-use Rattle.std.proofs.Common.{◌≡◌, ℕ, zero, suc, ◌+◌, ◌-◌, ◌<◌, ◌≤◌, true, false, List, [], ◌∷◌, length, get_or, Contains, Result, Ok, Err, is_ok, refl, sym, ap, subst, ◌∙◌, inl, inr, arith}
+use Rattle.std.proofs.Common.{◌≡◌, ℕ, zero, suc, ◌+◌, ◌-◌, ◌<◌, ◌≤◌, List, [], ◌∷◌, length, get_or, Contains, Result, Ok, Err, is_ok, refl, sym, ap, subst, ◌∙◌, inl, inr, arith}
 use Rattle.std.specs.List.{insert}
-use Rattle.std.specs.List.Sorted.{IsStrictlyIncreasing, IsSearchInRange, IsBinarySearchResult, IsNonDecreasingBy}
+use Rattle.std.specs.List.Sorted.{IsStrictlyIncreasing, IsBinarySearchResult, IsNonDecreasingBy}
 use Rattle.std.specs.Ordering.{nat_cmp, ordering_index}
-use Rattle.std.proofs.lemmas.Cmp.{ranked}
 use Rattle.std.proofs.lemmas.Bool.Decides.{nat_tests}
 use Rattle.std.proofs.lemmas.List.{length-map, get_or-map}
 use Rattle.fst_types.specs.Tests.{is_among}
@@ -63,12 +62,6 @@ module _ (xs : List ℕ) (rising : IsStrictlyIncreasing xs) where
       gained = Contains-permutation (x ∷ xs) (insert xs at x) x (IsPermutation-insert xs at x) (Contains-from_In (x ∷ xs) x (inl refl));
     }
 
-  pub gains_found : (x at : ℕ) → (r : Result ℕ ℕ) → r ≡ Ok at → IsBinarySearchResult (λ y. nat_cmp y x) xs r → Gains xs x xs
-  gains_found x at (Ok k) e found =
-      let s = searched xs x (Ok k) found not_falling in
-      record { rising = rising; only = λ n c. inl c; kept = λ n c. c; gained = subst (Contains xs) s.1 (Contains-from_In xs (get_or xs k 0) (In-get_or xs k 0 s.0)) }
-  gains_found x at (Err k) e found = cc
-
   pub gains_new : (x at : ℕ) → (r : Result ℕ ℕ) → r ≡ Err at → IsBinarySearchResult (λ y. nat_cmp y x) xs r → Gains xs x (insert xs at x)
   gains_new x at (Ok k) e found = cc
   gains_new x at (Err k) e found =
@@ -125,9 +118,6 @@ pub record Gathers (P : ℕ → Type 0) (names : List PatchNo) (i : ℕ) (row : 
   pub rising : IsStrictlyIncreasing row
   pub only : (n : ℕ) → Contains row n → P n × Contains (numbers_of names) n
   pub each : (k : ℕ) (d : PatchNo) → k < i → k < length names → P (get_or names k d).0 → Contains row (get_or names k d).0
-
-pub gathers_none : (P : ℕ → Type 0) (names : List PatchNo) → Gathers P names 0 []
-gathers_none P names = record { rising = λ k lt. absurd (omega (arith, lt)); only = λ n c. absurd (omega (arith, c.1)); each = λ k d lt. absurd (omega (arith, lt)) }
 
 module _ (P : ℕ → Type 0) (names : List PatchNo) (i : ℕ) (row : List ℕ) (e : PatchNo) (lt : i < length names) (x : Gathers P names i row) where
   here : (k : ℕ) (d : PatchNo) → (k < i → ⊥) → k < i + 1 → get_or names i e ≡ get_or names k d
@@ -187,21 +177,3 @@ module _ (names : List PatchNo) (rising : IsStrictlyIncreasing (numbers_of names
       let below : (i < j) → (get_or names i e).0 < (get_or names j e).0 = λ h. name_below i j e h lt in
       let same : i ≡ j → (get_or names i e).0 ≡ (get_or names j e).0 = λ k. ap (λ m. (get_or names m e).0) k in
       grind (arith, nat_tests, below, same))
-
-  pub among_found : (r : Result ℕ ℕ) → IsSearchInRange r (length names) → IsBinarySearchResult (λ m. nat_cmp m.0 n) names r → record { found : (k : ℕ) → r ≡ Ok k → true ≡ is_among (numbers_of names) n; none : (k : ℕ) → r ≡ Err k → false ≡ is_among (numbers_of names) n }
-  among_found (Ok at) in_range equal = record {
-    found = λ k e. sym (in_among (numbers_of names) n (In-from_Contains (numbers_of names) n (subst (Contains (numbers_of names)) (ranked _ n _ (sym (equal (record { 0 = 0 })))) (name_in names at (record { 0 = 0 }) in_range))));
-    none = λ k e. cc;
-  }
-  among_found (Err at) in_range parted = record {
-    found = λ k e. cc;
-    none = λ k e. elim (cases_Bool (is_among (numbers_of names) n)) [
-      | inr f ↦ sym f
-      | inl f ↦
-          let c = name_of names n (Contains-from_In (numbers_of names) n (among_in (numbers_of names) n f)) in
-          absurd (elim (cases_lt c.0 at) [
-            | inl before ↦ let r = ranked _ n _ (sym ((parted (compared (record { 0 = 0 }))).0 c.0 (record { 0 = 0 }) (omega arith) before)) in omega (arith, r, c.2 (record { 0 = 0 }))
-            | inr after ↦ let r = ranked _ n _ (sym ((parted (compared (record { 0 = 0 }))).1 c.0 (record { 0 = 0 }) after c.1)) in omega (arith, r, c.2 (record { 0 = 0 }))
-          ])
-    ];
-  }

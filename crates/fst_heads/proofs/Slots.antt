@@ -62,10 +62,6 @@ slot_unique (h ∷ hs) q s t rising a b =
       ]
     ]
 
-pub slot_number : (heads : List Head) (s q r : ℕ) → HasSlot heads q s → HasSlot heads r s → q ≡ r
-slot_number [] s q r a b = absurd (omega (arith, a.0))
-slot_number (h ∷ hs) s q r a b = sym (a.1 h) ∙ b.1 h
-
 pub none_slot : (heads : List Head) (q s : ℕ) → HasNone heads q → HasSlot heads q s → ⊥
 none_slot heads q s none h = let d = some_element heads s h.0 in none s d h.0 (h.1 d)
 
@@ -118,10 +114,6 @@ has_at heads marks n s rising slot h = subst (λ k. get_or marks k false ≡ tru
 
 pub has_none : (heads : List Head) (marks : List Bool) (n : ℕ) → HasNone heads n → Has heads marks n → ⊥
 has_none heads marks n none h = none_slot heads n h.slot none h.at
-
--- the patch of a marked number
-pub has_patch : (heads : List Head) (marks : List Bool) (n : ℕ) → Has heads marks n → (p : Patch) × Contains (patches_of heads) p × (p.number ≡ n)
-has_patch heads marks n h = let d = some_element heads h.slot h.at.0 in (patch_of (get_or heads h.slot d), patch_at heads h.slot d h.at.0, h.at.1 d)
 
 -- heads rise as their patches do
 pub rising_heads : (heads : List Head) → Rising (patches_of heads) → IsRising heads

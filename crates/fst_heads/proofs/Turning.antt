@@ -52,12 +52,6 @@ not_told x ne = false_from_ne_true (is_told x) (λ e. ne (same_pending (now x) x
 pub told_now : (x : Node) → now x ≡ x.pending → is_told x ≡ true
 told_now x e = subst (λ p. is_pending p x.pending ≡ true) (sym e) (is_itself x.pending)
 
-height_none : (p : Pending) → height p ≡ 0 → p ≡ pending.Nothing
-height_none pending.Nothing e = refl
-height_none (pending.Block b) e = absurd (omega (arith, e))
-height_none pending.Apart e = absurd (omega (arith, e))
-height_none pending.Held e = absurd (omega (arith, e))
-
 pub sinks_nothing : (p n : Pending) → Sinks p n → p ≡ pending.Nothing → n ≡ pending.Nothing
 sinks_nothing p n (inl same) e = same ∙ e
 sinks_nothing p n (inr lower) e = absurd (omega (arith, lower, ap height e))
