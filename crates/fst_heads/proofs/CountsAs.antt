@@ -5,7 +5,7 @@ use Rattle.std.proofs.lemmas.Bool.{cases_Bool, cases_eq, and_parts, and_right, e
 use Rattle.std.proofs.lemmas.List.Sums.{sum_by-cons, sum_by-append}
 use Rattle.fst_types.specs.declared.place.Place.{Place}
 use Rattle.fst_types.specs.declared.place.Place.TheVariants as place
-use Rattle.fst_types.specs.Patches.{Kind, Change, Empty, OpenGate, SealedGate}
+use Rattle.fst_types.specs.Patches.{Kind, Change}
 use Rattle.fst_types.specs.Tests.{is_at, is_on, is_change_at}
 use Rattle.fst_types.proofs.Finite.{In}
 use Rattle.fst_heads.specs.declared.standing.Standing.{Standing}
@@ -116,9 +116,7 @@ self_as b x = like_as b x x refl refl refl
 
 follows_off : (b : ℕ) (k : Kind) → follows k ≡ true → is_on b k ≡ false
 follows_off b (Change block at len grade) e = absurd (false≢true e)
-follows_off b Empty e = refl
-follows_off b OpenGate e = refl
-follows_off b SealedGate e = refl
+follows_off b k e = refl
 
 -- an empty patch or a sealed gate that goes to disk counts for no block
 pub rested_as : (b : ℕ) (x : Node) → CountsAs b (rested x) x
@@ -130,6 +128,4 @@ rested_as b x = elim (cases_Bool (follows x.patch.kind && (x.sums.count == 0))) 
 -- a change is of one block
 pub on_one : (b c : ℕ) (k : Kind) → c ≢ b → is_on b k ≡ true → is_on c k ≡ false
 on_one b c (Change block at len grade) ne e = ne_eqb block c (λ same. ne (sym same ∙ eqb-true block b e))
-on_one b c Empty ne e = refl
-on_one b c OpenGate ne e = refl
-on_one b c SealedGate ne e = refl
+on_one b c k ne e = refl

@@ -19,8 +19,7 @@ use Rattle.fst_heads.specs.Nodes.{nodes_of}
 
 place_same : (p : Place) → is_live_place p ≡ not (is_at p place.Disk)
 place_same place.Memory = refl
-place_same place.Flight = refl
-place_same place.Disk = refl
+place_same p = refl
 
 -- the live heads stand for the live nodes
 pub live_heads : (heads : List Head) → nodes_of (filter (λ h. is_live_place h.place) heads) ≡ filter (λ x. is_live x.patch) (nodes_of heads)
@@ -31,14 +30,12 @@ live_heads (h ∷ hs) = elim (cases_Bool (is_live_place h.place)) [
 ]
 
 pub live_place_of : (p : Place) → (p ≡ place.Disk → ⊥) → not (is_at p place.Disk) ≡ true
-live_place_of place.Memory n = refl
-live_place_of place.Flight n = refl
 live_place_of place.Disk n = absurd (n refl)
+live_place_of p n = refl
 
 pub not_disk : (p : Place) → not (is_at p place.Disk) ≡ true → p ≡ place.Disk → ⊥
 not_disk place.Memory e d = cc
-not_disk place.Flight e d = cc
-not_disk place.Disk e d = cc
+not_disk p e d = cc
 
 pub and_parts : (a b : Bool) → (a && b) ≡ true → (a ≡ true) × (b ≡ true)
 and_parts true b e = (refl, e)

@@ -1,5 +1,5 @@
 -- What the walks over a row show, and the grade that follows.
-use Rattle.std.proofs.Common.{◌≡◌, ◌≢◌, ◌&&◌, ℕ, ◌+◌, ◌≤◌, eqb, Bool, true, false, List, [], ◌∷◌, ◌++◌, Contains, Some, None, refl, sym, ap, subst, ◌∙◌, inl, inr, arith}
+use Rattle.std.proofs.Common.{◌≡◌, ◌≢◌, ◌&&◌, ℕ, ◌+◌, ◌≤◌, eqb, Bool, true, List, [], ◌∷◌, ◌++◌, Contains, Some, None, refl, sym, ap, subst, ◌∙◌, inl, inr, arith}
 use Rattle.std.proofs.lemmas.Bool.{eqb-true, eqb-false, eq-eqb, ne_eqb, false≢true, not-true}
 use Rattle.std.proofs.lemmas.List.Elements.{Contains-append_left, Contains-push, Contains-push_cases}
 use Rattle.fst_types.specs.declared.place.Place.{Place}
@@ -7,7 +7,7 @@ use Rattle.fst_types.specs.declared.place.Place.TheVariants as place
 use Rattle.fst_types.specs.declared.grade.Grade.{Grade}
 use Rattle.fst_types.specs.declared.grade.Grade.TheVariants as grade
 use Rattle.fst_types.specs.Closure.{one, join}
-use Rattle.fst_types.specs.Patches.{Kind, Change, Empty, OpenGate, SealedGate, Patch, block_of_kind}
+use Rattle.fst_types.specs.Patches.{Kind, Change, OpenGate, Patch, block_of_kind}
 use Rattle.fst_types.specs.Dependencies.{DirectlyOn, DependsOn}
 use Rattle.fst_types.specs.Gates.{IsOpenNumber}
 use Rattle.fst_types.specs.Grades.{IsGradedHard, FollowsRule}
@@ -22,16 +22,12 @@ use Rattle.fst_heads.proofs.Slots.{live_place, place_live}
 
 -- open gates
 open_from : (n : ℕ) (k : Kind) (p : Place) → kind_passes test.Open n k p ≡ true → k ≡ OpenGate
-open_from n (Change on at len grade) p e = absurd (false≢true e)
-open_from n Empty p e = absurd (false≢true e)
 open_from n OpenGate p e = refl
-open_from n SealedGate p e = absurd (false≢true e)
+open_from n k p e = absurd (false≢true e)
 
 open_to : (n : ℕ) (k : Kind) (p : Place) → k ≡ OpenGate → kind_passes test.Open n k p ≡ true
-open_to n (Change on at len grade) p e = cc
-open_to n Empty p e = cc
 open_to n OpenGate p e = refl
-open_to n SealedGate p e = cc
+open_to n k p e = cc
 
 pub passes_open : (patches : List Patch) (n : ℕ) → PassesAt test.Open patches n → IsOpenNumber patches n
 passes_open patches n p = record { patch = p.patch; head = p.head; numbered = p.numbered; is_open = open_from p.patch.number p.patch.kind p.patch.place p.passed }
@@ -42,8 +38,7 @@ open_passes patches n o = record { patch = o.patch; head = o.head; numbered = o.
 -- live changes of a block, and of others
 both : (x y : Bool) → (x && y) ≡ true → (x ≡ true) × (y ≡ true)
 both true true e = (refl, refl)
-both true false e = absurd (false≢true e)
-both false y e = absurd (false≢true e)
+both x y e = absurd (false≢true e)
 
 whole : (x y : Bool) → x ≡ true → y ≡ true → (x && y) ≡ true
 whole x y e f = rw (e, f) refl
@@ -53,27 +48,19 @@ some_injective a b e = cc
 
 pub on_from : (b n : ℕ) (k : Kind) (p : Place) → kind_passes (test.LiveOn b) n k p ≡ true → (p ≡ place.Disk → ⊥) × (block_of_kind k ≡ Some b)
 on_from b n (Change on at len grade) p e = let k = both _ _ e in (live_place p k.0, ap Some (eqb-true on b k.1))
-on_from b n Empty p e = absurd (false≢true e)
-on_from b n OpenGate p e = absurd (false≢true e)
-on_from b n SealedGate p e = absurd (false≢true e)
+on_from b n k p e = absurd (false≢true e)
 
 pub on_to : (b n : ℕ) (k : Kind) (p : Place) → (p ≡ place.Disk → ⊥) → block_of_kind k ≡ Some b → kind_passes (test.LiveOn b) n k p ≡ true
 on_to b n (Change on at len grade) p live e = rw (place_live p live, eq-eqb on b (some_injective on b e)) refl
-on_to b n Empty p live e = cc
-on_to b n OpenGate p live e = cc
-on_to b n SealedGate p live e = cc
+on_to b n k p live e = cc
 
 pub off_from : (b n : ℕ) (k : Kind) (p : Place) → kind_passes (test.LiveOff b) n k p ≡ true → (p ≡ place.Disk → ⊥) × (c : ℕ) × (block_of_kind k ≡ Some c) × (c ≢ b)
 off_from b n (Change on at len grade) p e = let k = both _ _ e in (live_place p k.0, on, refl, eqb-false on b (not-true (eqb on b) k.1))
-off_from b n Empty p e = absurd (false≢true e)
-off_from b n OpenGate p e = absurd (false≢true e)
-off_from b n SealedGate p e = absurd (false≢true e)
+off_from b n k p e = absurd (false≢true e)
 
 pub off_to : (b n c : ℕ) (k : Kind) (p : Place) → (p ≡ place.Disk → ⊥) → block_of_kind k ≡ Some c → c ≢ b → kind_passes (test.LiveOff b) n k p ≡ true
 off_to b n c (Change on at len grade) p live e other = rw (place_live p live, ne_eqb on b (λ s. other (sym (some_injective on c e) ∙ s))) refl
-off_to b n c Empty p live e other = cc
-off_to b n c OpenGate p live e other = cc
-off_to b n c SealedGate p live e other = cc
+off_to b n c k p live e other = cc
 
 -- what a new change depends on is under its row
 module _ (heads : List Patch) (numbers : ℕ) (within : IsWithin heads numbers) (b at len : ℕ) (g : Grade) (row : List ℕ) (named : (q : ℕ) → Contains row q → q ≤ numbers) where

@@ -25,8 +25,7 @@ same_patch heads p q rising a b e =
 
 both : (x y : Bool) → (x && y) ≡ true → (x ≡ true) × (y ≡ true)
 both true true e = (refl, refl)
-both true false e = absurd (false≢true e)
-both false y e = absurd (false≢true e)
+both x y e = absurd (false≢true e)
 
 -- one more block is shown
 pub reached_more : (reached : List Bool) (b c : ℕ) → b < length reached → IsReached reached c → IsReached (set reached b true) c

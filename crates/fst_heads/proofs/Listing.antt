@@ -6,7 +6,7 @@ use Rattle.std.proofs.lemmas.Bool.{cases_Bool, false≢true, eq-eqb, ne_eqb}
 use Rattle.std.proofs.lemmas.List.{set-get_or, append_assoc, append-nil, length-append, length-map, get_or-map}
 use Rattle.fst_types.specs.declared.place.Place.{Place}
 use Rattle.fst_types.specs.declared.place.Place.TheVariants as place
-use Rattle.fst_types.specs.Patches.{Kind, Change, Empty, OpenGate, SealedGate, Patch, IsRising as Rising, block_of_kind}
+use Rattle.fst_types.specs.Patches.{Kind, Change, Patch, IsRising as Rising, block_of_kind}
 use Rattle.fst_types.specs.Tests.{is_at, is_on, is_change_at}
 use Rattle.fst_types.specs.Writing.{landed}
 use Rattle.fst_types.proofs.Finite.{In, In-from_Contains, Contains-from_In}
@@ -105,9 +105,8 @@ module _ (b : ℕ) where
       ]
 
   still_place : (p : Place) (t : Bool) → (not (is_at p place.Disk) && t) ≡ false → (is_at p place.Flight && t) ≡ false
-  still_place place.Memory t e = refl
   still_place place.Flight t e = e
-  still_place place.Disk t e = refl
+  still_place p t e = refl
 
   -- what is not listed does not fly
   pub still : (p : Patch) → is_live_on b p ≡ false → is_change_at place.Flight b p ≡ false
@@ -298,6 +297,4 @@ module _ (b : ℕ) where
 -- a kind that is not that of a change of b
 pub is_off : (b : ℕ) (k : Kind) → (block_of_kind k ≡ Some b → ⊥) → is_on b k ≡ false
 is_off b (Change block at len grade) off = ne_eqb block b (λ e. off (ap Some e))
-is_off b Empty off = refl
-is_off b OpenGate off = refl
-is_off b SealedGate off = refl
+is_off b k off = refl

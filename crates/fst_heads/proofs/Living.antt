@@ -82,9 +82,7 @@ waiting_settles (x ∷ xs) q here rising i e waits =
 
 is_nothing : (p : Pending) → is_pending p pending.Nothing ≡ true → p ≡ pending.Nothing
 is_nothing pending.Nothing e = refl
-is_nothing (pending.Block b) e = absurd (false≢true e)
-is_nothing pending.Apart e = absurd (false≢true e)
-is_nothing pending.Held e = absurd (false≢true e)
+is_nothing p e = absurd (false≢true e)
 
 -- where its dependants know other than is pending now it waits
 pub waits_untold : (x : Node) → Sinks x.pending (now x) → is_told x ≡ false → is_waiting x ≡ true

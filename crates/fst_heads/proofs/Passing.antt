@@ -32,8 +32,7 @@ passing t heads list = filter (passes_at t (nodes_of heads)) (map (λ e. e.numbe
 
 pub memory_live : (p : Place) (t : Bool) → (is_at p place.Memory && t) ≡ true → (not (is_at p place.Disk) && t) ≡ true
 memory_live place.Memory t e = e
-memory_live place.Flight t e = absurd (false≢true e)
-memory_live place.Disk t e = absurd (false≢true e)
+memory_live p t e = absurd (false≢true e)
 
 -- a change of the block in memory is in its list
 pub listed_memory : (b : ℕ) (x : Node) → is_change_at place.Memory b x.patch ≡ true → is_live_on b x.patch ≡ true

@@ -10,28 +10,15 @@ use Rattle.fst_heads.specs.Spreading.{now, is_told}
 use Rattle.fst_heads.proofs.Sums.{joined_exact}
 
 pub same_pending : (p : Pending) → is_pending p p ≡ true
-same_pending pending.Nothing = refl
 same_pending (pending.Block b) = eq-eqb b b refl
-same_pending pending.Apart = refl
-same_pending pending.Held = refl
+same_pending p = refl
 
 pub pending_same : (p q : Pending) → is_pending p q ≡ true → p ≡ q
 pending_same pending.Nothing pending.Nothing e = refl
-pending_same pending.Nothing (pending.Block c) e = cc
-pending_same pending.Nothing pending.Apart e = cc
-pending_same pending.Nothing pending.Held e = cc
-pending_same (pending.Block b) pending.Nothing e = cc
 pending_same (pending.Block b) (pending.Block c) e = ap pending.Block (eqb-true b c e)
-pending_same (pending.Block b) pending.Apart e = cc
-pending_same (pending.Block b) pending.Held e = cc
-pending_same pending.Apart pending.Nothing e = cc
-pending_same pending.Apart (pending.Block c) e = cc
 pending_same pending.Apart pending.Apart e = refl
-pending_same pending.Apart pending.Held e = cc
-pending_same pending.Held pending.Nothing e = cc
-pending_same pending.Held (pending.Block c) e = cc
-pending_same pending.Held pending.Apart e = cc
 pending_same pending.Held pending.Held e = refl
+pending_same p q e = cc
 
 pub told_from : (x : Node) → now x ≡ x.pending → is_told x ≡ true
 told_from x e = ap (λ p. is_pending p x.pending) e ∙ same_pending x.pending

@@ -31,23 +31,18 @@ pub node_there : (heads : List Head) (s : ℕ) (h : Head) → s < length heads �
 node_there heads s h lt e = (s, omega (arith, lt, length-map heads node_of), node_at heads s h (node_of h) lt e)
 
 pending_self : (p : Pending) → is_pending p p ≡ true
-pending_self pending.Nothing = refl
 pending_self (pending.Block b) = eq-eqb b b refl
-pending_self pending.Apart = refl
-pending_self pending.Held = refl
+pending_self p = refl
 
 -- of a change that is not on disk something is pending
 over_high : (b : ℕ) (below : Pending) → 1 ≤ height (over_block b below)
-over_high b pending.Nothing = omega arith
 over_high b (pending.Block c) = elim (cases_Bool (c == b)) [ inl e ↦ rw e (omega arith) | inr e ↦ rw e (omega arith) ]
-over_high b pending.Apart = omega arith
-over_high b pending.Held = omega arith
+over_high b below = omega arith
 
 high_apart : (p : Pending) (b : ℕ) → 2 ≤ height p → is_pending p (pending.Block b) ≡ false
-high_apart pending.Nothing b le = absurd (omega (arith, le))
-high_apart (pending.Block c) b le = absurd (omega (arith, le))
 high_apart pending.Apart b le = refl
 high_apart pending.Held b le = refl
+high_apart p b le = absurd (omega (arith, le))
 
 -- where the dependants of a change in memory know other than is pending of it, it waited for more than its block
 pub waited_for_more : (x : Node) (b at len : ℕ) (grade : Grade) → x.patch.kind ≡ Change b at len grade → x.patch.place ≡ place.Memory → Sinks x.pending (now x) → is_told x ≡ false

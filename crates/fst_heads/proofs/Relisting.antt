@@ -8,7 +8,7 @@ use Rattle.std.proofs.Math.Bool.{and-false}
 use Rattle.std.proofs.lemmas.Bool.{cases_Bool, cases_eq, eqb-true, false≢true, ne_eqb}
 use Rattle.std.proofs.lemmas.List.{length-map, get_or-map}
 use Rattle.fst_types.specs.declared.place.Place.TheVariants as place
-use Rattle.fst_types.specs.Patches.{Kind, Change, Empty, OpenGate, SealedGate, Patch, IsRising as Rising}
+use Rattle.fst_types.specs.Patches.{Kind, Change, Patch, IsRising as Rising}
 use Rattle.fst_types.specs.Tests.{is_among, is_at, is_on, is_live, is_change_at}
 use Rattle.fst_types.specs.Writing.{landed}
 use Rattle.fst_types.proofs.Finite.{In, In-from_Contains, Contains-from_In, In-map}
@@ -37,9 +37,7 @@ and_on false t e = refl
 
 on_other : {b : ℕ} (k : Kind) (c : ℕ) → c ≢ b → is_on b k ≡ true → is_on c k ≡ false
 on_other {b} (Change block at len grade) c ne e = ne_eqb block c (λ same. ne (sym same ∙ eqb-true block b e))
-on_other Empty c ne e = refl
-on_other OpenGate c ne e = refl
-on_other SealedGate c ne e = refl
+on_other k c ne e = refl
 
 abbrev IsBelow : Patch → Patch → Type 0
 IsBelow p q = p.number < q.number

@@ -125,13 +125,11 @@ rising_heads heads rising i j d lt in_range =
 
 pub live_place : (p : Place) → is_live_place p ≡ true → p ≡ place.Disk → ⊥
 live_place place.Memory e d = cc
-live_place place.Flight e d = cc
-live_place place.Disk e d = cc
+live_place p e d = cc
 
 pub place_live : (p : Place) → (p ≡ place.Disk → ⊥) → is_live_place p ≡ true
-place_live place.Memory n = refl
-place_live place.Flight n = refl
 place_live place.Disk n = absurd (n refl)
+place_live p n = refl
 
 -- a number is live as the head at its slot is
 pub live_at : (heads : List Head) (n s : ℕ) (d : Head) → IsRising heads → HasSlot heads n s → record { 0 : is_live_place (get_or heads s d).place ≡ true → IsLiveNumber (patches_of heads) n; 1 : IsLiveNumber (patches_of heads) n → is_live_place (get_or heads s d).place ≡ true }

@@ -3,7 +3,7 @@ use Rattle.std.proofs.Common.{◌≡◌, ◌&&◌, ℕ, true, false, not, List, 
 use Rattle.std.proofs.lemmas.Bool.{cases_Bool, and_right}
 use Rattle.fst_types.specs.declared.place.Place.{Place}
 use Rattle.fst_types.specs.declared.place.Place.TheVariants as place
-use Rattle.fst_types.specs.Patches.{Kind, Change, Empty, OpenGate, SealedGate, Patch}
+use Rattle.fst_types.specs.Patches.{Kind, Empty, SealedGate, Patch}
 use Rattle.fst_types.specs.Cascade.{Follows, unsettled}
 use Rattle.fst_types.specs.Tests.{is_at, is_on}
 use Rattle.fst_types.proofs.Cascades.{Settled, AllSettled, more, all_settled}
@@ -48,10 +48,9 @@ unsettled_spread old new spread = sym (go new) ∙ (ap (map (λ (x : Node). x.pa
 
 -- an empty patch or a sealed gate stands in no list, and what is none keeps its place
 live_settled : (b : ℕ) (k : Kind) (a c : Place) → ((Follows k → ⊥) → c ≡ a) → (not (is_at c place.Disk) && is_on b k) ≡ (not (is_at a place.Disk) && is_on b k)
-live_settled b (Change on at len grade) a c same = rw (same (λ f. f)) refl
 live_settled b Empty a c same = and_right (not (is_at c place.Disk)) false refl ∙ sym (and_right (not (is_at a place.Disk)) false refl)
-live_settled b OpenGate a c same = rw (same (λ f. f)) refl
 live_settled b SealedGate a c same = and_right (not (is_at c place.Disk)) false refl ∙ sym (and_right (not (is_at a place.Disk)) false refl)
+live_settled b k a c same = rw (same (λ f. f)) refl
 
 entry_same : (o p : Patch) → p.number ≡ o.number → p.kind ≡ o.kind → entry p ≡ entry o
 entry_same o p number kind = rw (number, kind) refl
@@ -75,6 +74,5 @@ entry_settled b o p s = record {
 
 pub entries_settled : (b : ℕ) (old new : List Patch) → AllSettled old new → entries_on b new ≡ entries_on b old
 entries_settled b [] [] a = refl
-entries_settled b [] (p ∷ ps) a = elim a [ ]
-entries_settled b (o ∷ os) [] a = elim a [ ]
 entries_settled b (o ∷ os) (p ∷ ps) (more s a) = entries_more b o p os ps (entry_settled b o p s) (entries_settled b os ps a)
+entries_settled b old new a = elim a [ ]

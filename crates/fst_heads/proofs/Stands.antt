@@ -79,9 +79,8 @@ pub stand_landed_outside : (nodes : List Node) (blocks b : ℕ) (standings : Lis
 stand_landed_outside nodes blocks b standings inside outside S = stand_map (lands b) nodes blocks standings (λ x c i lt. landed_other b c x (λ same. omega (arith, lt, same, outside))) S
 
 in_flight : (p : Place) (on : Bool) → (is_at p place.Flight && on) ≡ true → (is_at p place.Memory) ≡ false
-in_flight place.Memory on e = absurd (false≢true e)
 in_flight place.Flight on e = refl
-in_flight place.Disk on e = absurd (false≢true e)
+in_flight p on e = absurd (false≢true e)
 
 pub stand_landed : (nodes : List Node) (blocks b : ℕ) (standings : List Standing) (d : Standing) → b < blocks
     → AllStand nodes blocks standings → AllStand (map (lands b) nodes) blocks (set standings b (record { ready = (get_or standings b d).ready; held = (get_or standings b d).held; flying = 0 }))
@@ -108,8 +107,7 @@ stand_landed nodes blocks b standings d lt S = stand_set (map (lands b) nodes) n
 
 ready_not_held : (change hard ready : Bool) → ready ≡ true → ((change && hard) && not ready) ≡ false
 ready_not_held true true ready e = rw e refl
-ready_not_held true false ready e = refl
-ready_not_held false hard ready e = refl
+ready_not_held change hard ready e = refl
 
 -- one number, one node
 rising_in : (nodes : List Node) → AllPairs (λ p q. p.number < q.number) (patches_in nodes) → AllPairs (λ x y. x.patch.number < y.patch.number) nodes
@@ -192,9 +190,8 @@ stand_launched nodes numbers blocks b standings d H lt rest S = stand_set (map (
         (ap (λ (s : Standing). s.ready) at_b ∙ sym (count_map (is_flying_on b) (is_ready_on b) (launches (ready_on b nodes)) nodes (λ x i. flies_as nodes rising b x i (resting x i))))
 
 not_live : (p : Place) → not (is_at p place.Disk) ≡ false → p ≡ place.Disk
-not_live place.Memory e = absurd (false≢true (sym e))
-not_live place.Flight e = absurd (false≢true (sym e))
 not_live place.Disk e = refl
+not_live p e = absurd (false≢true (sym e))
 
 -- what is dropped was on disk, and counts for no block
 pub stand_dropped : (nodes : List Node) (blocks : ℕ) (standings : List Standing) → AllStand nodes blocks standings → AllStand (filter (λ x. is_live x.patch) nodes) blocks standings

@@ -188,15 +188,11 @@ starts_sealed nodes numbers blocks g H inside S gate =
 -- a change on disk has nothing pending
 nothing_on_disk : (k : Kind) (b : ℕ) (below : Pending) → block_of_kind k ≡ Some b → of_kind k place.Disk below ≡ pending.Nothing
 nothing_on_disk (Change block at len grade) b below on = refl
-nothing_on_disk Empty b below on = cc
-nothing_on_disk OpenGate b below on = cc
-nothing_on_disk SealedGate b below on = cc
+nothing_on_disk k b below on = cc
 
 not_nothing : (p : Pending) → p ≢ pending.Nothing → is_pending pending.Nothing p ≡ false
 not_nothing pending.Nothing ne = absurd (ne refl)
-not_nothing (pending.Block b) ne = refl
-not_nothing pending.Apart ne = refl
-not_nothing pending.Held ne = refl
+not_nothing p ne = refl
 
 pub land_same : (b : ℕ) (x : Node) → SameBut x (lands b x)
 land_same b x = record {
@@ -283,10 +279,9 @@ starts_landed nodes numbers blocks b H inside S =
 
 -- a patch that follows has nothing pending besides its row
 follows_row : (k : Kind) → Follows k → (at : Place) (below : Pending) → of_kind k at below ≡ below
-follows_row (Change block on len grade) f at below = absurd f
 follows_row Empty f at below = refl
-follows_row OpenGate f at below = absurd f
 follows_row SealedGate f at below = refl
+follows_row k f at below = absurd f
 
 module _ (nodes : List Node) (blocks : ℕ) (S : Spreading nodes blocks []) where
   -- all are told

@@ -144,9 +144,7 @@ sums_moved told other row q once c same =
 
 count_plus : (p : Pending) (s : Sums) → (plus p s).count ≡ cond (not (is_pending p pending.Nothing)) 1 0 + s.count
 count_plus pending.Nothing s = omega arith
-count_plus (pending.Block b) s = omega arith
-count_plus pending.Apart s = omega arith
-count_plus pending.Held s = omega arith
+count_plus p s = omega arith
 
 pub sums_count : (told : ℕ → Pending) (row : List ℕ) → (sums_of told row).count ≡ count_by (λ n. not (is_pending (told n) pending.Nothing)) row
 sums_count told [] = refl

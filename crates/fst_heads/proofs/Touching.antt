@@ -10,7 +10,7 @@ use Rattle.fst_types.specs.declared.place.Place.TheVariants as place
 use Rattle.fst_types.specs.declared.grade.Grade.{Grade}
 use Rattle.fst_types.specs.Limits.{max_heads}
 use Rattle.fst_types.specs.Lists.{Lists}
-use Rattle.fst_types.specs.Patches.{Kind, Change, Empty, OpenGate, SealedGate, Patch, IsOn, IsHard, block_of_kind, at_of, len_of}
+use Rattle.fst_types.specs.Patches.{Kind, Change, Empty, Patch, IsOn, IsHard, block_of_kind, at_of, len_of}
 use Rattle.fst_types.specs.Dependencies.{IsLiveNumber}
 use Rattle.fst_types.specs.Overlaps.{IsOverlapped}
 use Rattle.fst_types.specs.Grades.{IsGradedHard, FollowsRule}
@@ -30,20 +30,15 @@ use Rattle.fst_heads.proofs.Making.{keeps_added}
 
 live_from : (p : Place) → is_live_place p ≡ true → p ≡ place.Disk → ⊥
 live_from place.Memory e d = cc
-live_from place.Flight e d = cc
-live_from place.Disk e d = cc
+live_from p e d = cc
 
 live_to : (p : Place) → (p ≡ place.Disk → ⊥) → is_live_place p ≡ true
-live_to place.Memory n = refl
-live_to place.Flight n = refl
 live_to place.Disk n = absurd (n refl)
+live_to p n = refl
 
 parts : (a b c d : Bool) → (a && b && c && d) ≡ true → (a ≡ true) × (b ≡ true) × (c ≡ true) × (d ≡ true)
 parts true true true true e = (refl, refl, refl, refl)
-parts true true true false e = absurd (false≢true e)
-parts true true false d e = absurd (false≢true e)
-parts true false c d e = absurd (false≢true e)
-parts false b c d e = absurd (false≢true e)
+parts a b c d e = absurd (false≢true e)
 
 whole : (a b c d : Bool) → a ≡ true → b ≡ true → c ≡ true → d ≡ true → (a && b && c && d) ≡ true
 whole a b c d e f g h = rw (e, f, g, h) refl
@@ -53,8 +48,7 @@ touch_parts b at len (Change on own_at own_len grade) p e =
     let k = parts (is_live_place p) (on == b) (nat_lt own_at (at + len)) (nat_lt at (own_at + own_len)) e in
     (live_from p k.0, ap Some (eqb-true on b k.1), grind (arith, nat_tests, k.2), grind (arith, nat_tests, k.3))
 touch_parts b at len Empty p e = absurd (false≢true e)
-touch_parts b at len OpenGate p e = absurd (false≢true e)
-touch_parts b at len SealedGate p e = absurd (false≢true e)
+touch_parts b at len k p e = absurd (false≢true e)
 
 some_injective : (a b : ℕ) → Some a ≡ Some b → a ≡ b
 some_injective a b e = cc
@@ -63,8 +57,7 @@ pub touch_whole : (b at len : ℕ) (k : Kind) (p : Place) → (p ≡ place.Disk 
 touch_whole b at len (Change on own_at own_len grade) p live on_b lo hi =
     whole (is_live_place p) (on == b) (nat_lt own_at (at + len)) (nat_lt at (own_at + own_len)) (live_to p live) (eq-eqb on b (some_injective on b on_b)) (grind (arith, nat_tests, lo)) (grind (arith, nat_tests, hi))
 touch_whole b at len Empty p live on_b lo hi = cc
-touch_whole b at len OpenGate p live on_b lo hi = cc
-touch_whole b at len SealedGate p live on_b lo hi = cc
+touch_whole b at len k p live on_b lo hi = cc
 
 module _ (heads : List Patch) (b at len number : ℕ) (grade : Grade) (deps : List ℕ) (n : ℕ) where
   abbrev p : Patch
@@ -92,10 +85,7 @@ depends_exactly heads names b at len number grade deps row l = record {
 pub touch_entry : (b at len : ℕ) (k : Kind) (p : Place) → kind_touches b at len k p ≡ true → ((not (is_at p place.Disk) && is_on b k) ≡ true) × (shares at len (at_of k) (len_of k) ≡ true)
 touch_entry b at len (Change on own_at own_len grade) place.Memory e = let k = parts true (on == b) (nat_lt own_at (at + len)) (nat_lt at (own_at + own_len)) e in (k.1, rw (k.2, k.3) refl)
 touch_entry b at len (Change on own_at own_len grade) place.Flight e = let k = parts true (on == b) (nat_lt own_at (at + len)) (nat_lt at (own_at + own_len)) e in (k.1, rw (k.2, k.3) refl)
-touch_entry b at len (Change on own_at own_len grade) place.Disk e = absurd (false≢true e)
-touch_entry b at len Empty p e = absurd (false≢true e)
-touch_entry b at len OpenGate p e = absurd (false≢true e)
-touch_entry b at len SealedGate p e = absurd (false≢true e)
+touch_entry b at len k p e = absurd (false≢true e)
 
 and_false : (a : Bool) → (a && false) ≡ true → ⊥
 and_false true e = false≢true e
@@ -105,9 +95,7 @@ pub entry_touch : (b at len : ℕ) (k : Kind) (p : Place) → (not (is_at p plac
 entry_touch b at len (Change on own_at own_len grade) place.Memory e s = rw e s
 entry_touch b at len (Change on own_at own_len grade) place.Flight e s = rw e s
 entry_touch b at len (Change on own_at own_len grade) place.Disk e s = absurd (false≢true e)
-entry_touch b at len Empty p e s = absurd (and_false (not (is_at p place.Disk)) e)
-entry_touch b at len OpenGate p e s = absurd (and_false (not (is_at p place.Disk)) e)
-entry_touch b at len SealedGate p e s = absurd (and_false (not (is_at p place.Disk)) e)
+entry_touch b at len k p e s = absurd (and_false (not (is_at p place.Disk)) e)
 
 -- the list of a block has its live changes, and no others
 pub in_entries : (b : ℕ) (ps : List Patch) (p : Patch) → In ps p → is_live_on b p ≡ true → In (entries_on b ps) (entry p)

@@ -20,27 +20,14 @@ use Rattle.fst_heads.proofs.AtNumber.{at_same, at_other}
 
 pub same_pending : (p n : Pending) → is_pending p n ≡ true → p ≡ n
 same_pending pending.Nothing pending.Nothing e = refl
-same_pending pending.Nothing (pending.Block c) e = absurd (false≢true e)
-same_pending pending.Nothing pending.Apart e = absurd (false≢true e)
-same_pending pending.Nothing pending.Held e = absurd (false≢true e)
-same_pending (pending.Block b) pending.Nothing e = absurd (false≢true e)
 same_pending (pending.Block b) (pending.Block c) e = ap (λ k. pending.Block k) (eqb-true b c e)
-same_pending (pending.Block b) pending.Apart e = absurd (false≢true e)
-same_pending (pending.Block b) pending.Held e = absurd (false≢true e)
-same_pending pending.Apart pending.Nothing e = absurd (false≢true e)
-same_pending pending.Apart (pending.Block c) e = absurd (false≢true e)
 same_pending pending.Apart pending.Apart e = refl
-same_pending pending.Apart pending.Held e = absurd (false≢true e)
-same_pending pending.Held pending.Nothing e = absurd (false≢true e)
-same_pending pending.Held (pending.Block c) e = absurd (false≢true e)
-same_pending pending.Held pending.Apart e = absurd (false≢true e)
 same_pending pending.Held pending.Held e = refl
+same_pending p n e = absurd (false≢true e)
 
 pub is_itself : (p : Pending) → is_pending p p ≡ true
-is_itself pending.Nothing = refl
 is_itself (pending.Block b) = eq-eqb b b refl
-is_itself pending.Apart = refl
-is_itself pending.Held = refl
+is_itself p = refl
 
 -- what is told is what is pending now
 pub untold : (x : Node) → is_told x ≡ false → now x ≢ x.pending
@@ -69,41 +56,34 @@ never_back p n m s ne (inr lower) e = omega (arith, lower_sinks p n s ne, lower,
 -- what is pending by a kind
 
 pub follows_is : (k : Kind) → follows k ≡ true → Follows k
-follows_is (Change block at len grade) e = absurd (false≢true e)
 follows_is Empty e = tt
-follows_is OpenGate e = absurd (false≢true e)
 follows_is SealedGate e = tt
+follows_is k e = absurd (false≢true e)
 
 pub is_follows : (k : Kind) → Follows k → follows k ≡ true
-is_follows (Change block at len grade) f = absurd f
 is_follows Empty f = refl
-is_follows OpenGate f = absurd f
 is_follows SealedGate f = refl
+is_follows k f = absurd f
 
 some_pending : (t : Bool) (b : ℕ) → cond t (pending.Block b) pending.Apart ≡ pending.Nothing → ⊥
 some_pending true b e = cc
 some_pending false b e = cc
 
 join_live : (b : ℕ) (p : Pending) → join (pending.Block b) p ≡ pending.Nothing → ⊥
-join_live b pending.Nothing e = cc
 join_live b (pending.Block c) e = some_pending (c == b) b e
-join_live b pending.Apart e = cc
-join_live b pending.Held e = cc
+join_live b p e = cc
 
 join_one : (b c : ℕ) (p : Pending) → join (pending.Block b) p ≡ pending.Block c → b ≡ c
-join_one b c pending.Nothing e = cc
 join_one b c (pending.Block d) e = one (d == b) e
   where
     one : (t : Bool) → cond t (pending.Block b) pending.Apart ≡ pending.Block c → b ≡ c
     one true e = cc
     one false e = cc
-join_one b c pending.Apart e = cc
-join_one b c pending.Held e = cc
+join_one b c p e = cc
 
 some_left : (t u : Bool) (b : ℕ) → cond t (cond u (pending.Block b) pending.Apart) pending.Held ≡ pending.Nothing → ⊥
 some_left true true b e = cc
-some_left true false b e = cc
-some_left false u b e = cc
+some_left t u b e = cc
 
 pub nothing_counted : (s : Sums) → joined_sums s ≡ pending.Nothing → s.count ≡ 0
 nothing_counted s e = elim (cases_Bool (s.count == 0)) [
@@ -116,28 +96,25 @@ counted_nothing s e = rw (eq-eqb s.count 0 e) refl
 
 -- an empty patch and a sealed gate have what is below them
 follower_of : (k : Kind) (p : Place) (below : Pending) → Follows k → of_kind k p below ≡ below
-follower_of (Change block at len grade) p below f = absurd f
 follower_of Empty p below f = refl
-follower_of OpenGate p below f = absurd f
 follower_of SealedGate p below f = refl
+follower_of k p below f = absurd f
 
 nothing_rests : (k : Kind) (p : Place) (s : Sums) → of_kind k p (joined_sums s) ≡ pending.Nothing → (p ≡ place.Disk) ⊎ (Follows k × (s.count ≡ 0))
-nothing_rests (Change block at len grade) place.Memory s e = absurd (join_live block (joined_sums s) e)
-nothing_rests (Change block at len grade) place.Flight s e = absurd (join_live block (joined_sums s) e)
 nothing_rests (Change block at len grade) place.Disk s e = inl refl
 nothing_rests Empty p s e = inr (tt, nothing_counted s e)
 nothing_rests OpenGate p s e = cc
 nothing_rests SealedGate p s e = inr (tt, nothing_counted s e)
+nothing_rests (Change block at len grade) p s e = absurd (join_live block (joined_sums s) e)
 
 -- one block is pending of a change of it, or of what is below an empty patch or a sealed gate
 pub block_of : (k : Kind) (p : Place) (below : Pending) (b : ℕ) → of_kind k p below ≡ pending.Block b
     → ((at len : ℕ) × (grade : _) × (k ≡ Change b at len grade)) ⊎ (below ≡ pending.Block b)
-block_of (Change block at len grade) place.Memory below b e = inl (at, len, grade, ap (λ c. Change c at len grade) (join_one block b below e))
-block_of (Change block at len grade) place.Flight below b e = inl (at, len, grade, ap (λ c. Change c at len grade) (join_one block b below e))
 block_of (Change block at len grade) place.Disk below b e = cc
 block_of Empty p below b e = inr e
 block_of OpenGate p below b e = cc
 block_of SealedGate p below b e = inr e
+block_of (Change block at len grade) p below b e = inl (at, len, grade, ap (λ c. Change c at len grade) (join_one block b below e))
 
 -- y is x but for its sums, what is pending of it, and the place of an empty patch or a sealed gate
 pub record Stays (x y : Node) : Type 0 where
@@ -147,10 +124,9 @@ pub record Stays (x y : Node) : Type 0 where
   pub spread : unspread y ≡ unspread x
 
 disk_unsettled : (k : Kind) (p : Patch) → Follows k → placed_as k (record p { place = place.Disk }) ≡ placed_as k p
-disk_unsettled (Change block at len grade) p f = absurd f
 disk_unsettled Empty p f = refl
-disk_unsettled OpenGate p f = absurd f
 disk_unsettled SealedGate p f = refl
+disk_unsettled _ p f = absurd f
 
 abbrev rest_if : Bool → Node → Node
 rest_if t x = cond t (record x { patch = record x.patch { place = place.Disk } }) x

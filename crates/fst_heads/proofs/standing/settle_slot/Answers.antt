@@ -46,14 +46,11 @@ slot_untold heads s h at all = subst (λ (x : Node). is_told x ≡ false) at (al
 -- what is not in memory, or no change, is no change in memory
 off_memory : (p : Place) (on : Bool) → (p ≡ place.Memory → ⊥) → (is_at p place.Memory && on) ≡ false
 off_memory place.Memory on not = absurd (not refl)
-off_memory place.Flight on not = refl
-off_memory place.Disk on not = refl
+off_memory p on not = refl
 
 off_change : (b : ℕ) (k : Kind) (here : Bool) → ((block : ℕ) (span : Span) (grade : Grade) → k ≡ kinds.Change block span grade → ⊥) → (here && is_on b (kind_of k)) ≡ false
 off_change b (kinds.Change block span grade) here not = absurd (not block span grade refl)
-off_change b kinds.Empty here not = and_right here false refl
-off_change b kinds.OpenGate here not = and_right here false refl
-off_change b kinds.SealedGate here not = and_right here false refl
+off_change b k here not = and_right here false refl
 
 -- what the test says of the answer it says of what is pending now
 is_block_now : (h : Head) (p : Pending) (b : ℕ) → p ≡ now (node_of h) → is_pending p (pending.Block b) ≡ true → is_pending (now (node_of h)) (pending.Block b) ≡ true
