@@ -1,10 +1,6 @@
 -- A change of the head in one slot, seen as a change of the node with its number.
-use Rattle.std.proofs.Common.{◌≡◌, ◌≢◌, ℕ, zero, suc, List, [], ◌∷◌, map, get_or, set, refl, sym, ◌∙◌, arith}
-use Rattle.std.proofs.lemmas.Bool.{eq-eqb, ne_eqb}
-use Rattle.fst_heads.specs.declared.head.Head.{Head}
-use Rattle.fst_heads.specs.Heads.{IsRising, patches_of}
-use Rattle.fst_heads.specs.Marks.{HasSlot, HasNone}
-use Rattle.fst_heads.specs.Nodes.{Node, node_of, nodes_of, patches_in, at_number}
+use Rattle.fst_heads.proofs.Basics.{◌≡◌, ◌≢◌, ℕ, zero, suc, List, [], ◌∷◌, map, get_or, set, refl, sym, ◌∙◌, arith, eq-eqb, ne_eqb}
+use Rattle.fst_heads.proofs.Words.{Head, IsRising, patches_of, HasSlot, HasNone, Node, node_of, nodes_of, patches_in, at_number}
 
 pub at_other : (n : ℕ) (f : Node → Node) (x : Node) → x.patch.number ≢ n → at_number n f x ≡ x
 at_other n f x ne = rw (ne_eqb x.patch.number n ne) refl

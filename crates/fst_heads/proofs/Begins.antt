@@ -1,19 +1,9 @@
 -- How a spread begins: f changes some of the nodes at rest, and the queue has those of which other is pending by that.
-use Rattle.std.proofs.Common.{◌≡◌, ◌≢◌, ◌⊎◌, ◌↔◌, ℕ, ◌<◌, true, false, List, length, map, get_or, AllPairs, Contains, refl, sym, ap, subst, ◌∙◌, inl, inr, arith}
-use Rattle.std.proofs.lemmas.List.{length-map, get_or-map}
-use Rattle.fst_types.specs.declared.place.Place.{Place}
-use Rattle.fst_types.specs.declared.place.Place.TheVariants as place
-use Rattle.fst_types.specs.declared.grade.Grade.{Grade}
-use Rattle.fst_types.specs.Patches.{Patch, Change, IsRising, block_of_kind}
-use Rattle.fst_types.specs.Cascade.{Follows}
-use Rattle.fst_types.specs.Facts.{SparseAreLawful}
-use Rattle.fst_types.proofs.Cascades.{no_follower_on}
-use Rattle.fst_types.proofs.Finite.{In-from_Contains, Contains-from_In, In-map}
-use Rattle.fst_heads.specs.declared.pending.Pending.TheVariants as pending
-use Rattle.fst_heads.specs.Keeps.{IsInside}
-use Rattle.fst_heads.specs.Nodes.{Node, patches_in, pending_in, AreSettled}
-use Rattle.fst_heads.specs.Pendings.{Sinks, sums_of}
-use Rattle.fst_heads.specs.Spreading.{Spreading, now, is_told}
+use Rattle.fst_heads.proofs.Basics.{◌≡◌, ◌≢◌, ◌⊎◌, ◌↔◌, ℕ, ◌<◌, true, false, List, length, map, get_or, AllPairs, Contains, refl, sym, ap, subst, ◌∙◌, inl, inr, arith, length-map, get_or-map}
+use Rattle.fst_heads.proofs.Patches.{Place, Grade, Patch, Change, Rising as IsRising, block_of_kind, Follows, SparseAreLawful, no_follower_on, In-from_Contains, Contains-from_In, In-map}
+use Rattle.fst_heads.proofs.Patches.place
+use Rattle.fst_heads.proofs.Words.{IsInside, Node, patches_in, pending_in, AreSettled, Sinks, sums_of, Spreading, now, is_told}
+use Rattle.fst_heads.proofs.Words.pending
 use Rattle.fst_heads.proofs.Pended.{told_from, now_at_rest}
 use Rattle.fst_heads.proofs.Waiting.{pending_mapped}
 use Rattle.fst_heads.proofs.Placed.{SameLinks, unmapped, patch_in}

@@ -1,19 +1,8 @@
 -- What calls leave of the count of patches that are not on disk.
-use Rattle.std.proofs.Common.{◌≡◌, ℕ, ◌+◌, ◌-◌, ◌≤◌, ◌==◌, Bool, true, false, cond, if◌then◌else◌, List, [], ◌∷◌, ◌++◌, map, filter, length, count_by, refl, sym, ap, subst, ◌∙◌, inl, inr, arith}
-use Rattle.std.proofs.lemmas.Bool.{cases_Bool}
-use Rattle.std.proofs.lemmas.List.{length-map}
-use Rattle.std.proofs.lemmas.List.Sums.{count_by-le-length}
-use Rattle.fst_types.specs.declared.place.Place.{Place}
-use Rattle.fst_types.specs.declared.place.Place.TheVariants as place
-use Rattle.fst_types.specs.Gating.{gains}
-use Rattle.fst_types.specs.Patches.{Patch}
-use Rattle.fst_types.specs.Tests.{is_at, is_live}
-use Rattle.fst_types.specs.Patches.{SealedGate}
-use Rattle.fst_heads.specs.declared.head.Head.{Head}
-use Rattle.fst_heads.specs.Heads.{patch_of, patches_of}
-use Rattle.fst_heads.specs.Keeps.{Beside}
-use Rattle.fst_heads.specs.Nodes.{Node, node_of, nodes_of, at_number, AreSettled}
-use Rattle.fst_heads.specs.Spreading.{is_waiting, seals}
+use Rattle.fst_heads.proofs.Basics.{◌≡◌, ℕ, ◌+◌, ◌-◌, ◌≤◌, ◌==◌, Bool, true, false, cond, if◌then◌else◌, List, [], ◌∷◌, ◌++◌, map, filter, length, count_by, refl, sym, ap, subst, ◌∙◌, inl, inr, arith, cases_Bool, length-map, count_by-le-length}
+use Rattle.fst_heads.proofs.Patches.{Place, gains, Patch, is_at, is_live, SealedGate}
+use Rattle.fst_heads.proofs.Patches.place
+use Rattle.fst_heads.proofs.Words.{Head, patch_of, patches_of, Beside, Node, node_of, nodes_of, at_number, AreSettled, is_waiting, seals}
 use Rattle.fst_heads.proofs.AtNumber.{patches_in_nodes}
 use Rattle.fst_heads.proofs.CountsAs.{count_append, count_cons, count_kept, count_map}
 use Rattle.fst_heads.proofs.Living.{at_number_told, waiting_kept, waiting_live}

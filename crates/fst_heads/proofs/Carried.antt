@@ -1,10 +1,7 @@
 -- What a spread, a seal and a landing keep: links, what was given, and the lists.
-use Rattle.std.proofs.Common.{◌≡◌, ℕ, List, length, map, sym, ap, ◌∙◌}
-use Rattle.std.proofs.lemmas.List.{length-map}
-use Rattle.fst_types.proofs.Cascades.{all_settled}
-use Rattle.fst_heads.specs.Lists.{Entry, AreListed}
-use Rattle.fst_heads.specs.Nodes.{Node, patches_in, at_number, AreLinked, AreGiven, AreDistinct}
-use Rattle.fst_heads.specs.Spreading.{IsSpreadOf, unspread, seals, lands}
+use Rattle.fst_heads.proofs.Basics.{◌≡◌, ℕ, List, length, map, sym, ap, ◌∙◌, length-map}
+use Rattle.fst_heads.proofs.Patches.{all_settled}
+use Rattle.fst_heads.proofs.Words.{Entry, AreListed, Node, patches_in, at_number, AreLinked, AreGiven, AreDistinct, IsSpreadOf, unspread, seals, lands}
 use Rattle.fst_heads.proofs.Placed.{links_mapped, linked_kept, given_kept}
 use Rattle.fst_heads.proofs.SpreadKept.{links_spread, distinct_kept, unsettled_spread, entries_settled}
 use Rattle.fst_heads.proofs.Starting.{seal_same, land_same}

@@ -1,21 +1,9 @@
 -- What the counts of a block say of its patches.
-use Rattle.std.proofs.Common.{◌≡◌, ◌&&◌, ◌||◌, ℕ, suc, ◌≤◌, Bool, false, not, List, [], ◌∷◌, filter, length, count_by, arith, refl, ap, ◌∙◌, inl, inr}
-use Rattle.std.proofs.Math.Bool.{or-false}
-use Rattle.std.proofs.lemmas.Bool.{cases_Bool}
-use Rattle.std.proofs.lemmas.List.{length-map}
-use Rattle.std.proofs.lemmas.List.Sums.{length-filter}
-use Rattle.fst_types.specs.declared.place.Place.TheVariants as place
-use Rattle.fst_types.specs.Patches.{Patch}
-use Rattle.fst_types.specs.Tests.{is_change_at}
-use Rattle.fst_heads.specs.declared.pending.Pending.TheVariants as pending
-use Rattle.fst_heads.specs.Ascending.{is_bound_on, free_on, bound_on}
-use Rattle.fst_heads.specs.declared.head.Head.{Head}
-use Rattle.fst_heads.specs.Heads.{patch_of, patches_of}
-use Rattle.fst_heads.specs.Lists.{flying_on}
-use Rattle.fst_heads.specs.Nodes.{Node, nodes_of}
-use Rattle.fst_heads.specs.Pendings.{is_pending}
-use Rattle.fst_heads.specs.Standings.{is_ready_on, is_held_on, is_flying_on, held_on}
-use Rattle.fst_heads.specs.Tests.{is_hard_kind}
+use Rattle.fst_heads.proofs.Basics.{◌≡◌, ◌&&◌, ◌||◌, ℕ, suc, ◌≤◌, Bool, false, not, List, [], ◌∷◌, filter, length, count_by, arith, refl, ap, ◌∙◌, inl, inr, or-false, cases_Bool, length-map, length-filter}
+use Rattle.fst_heads.proofs.Patches.{Patch, is_change_at}
+use Rattle.fst_heads.proofs.Patches.place
+use Rattle.fst_heads.proofs.Words.{is_bound_on, free_on, bound_on, Head, patch_of, patches_of, flying_on, Node, nodes_of, is_pending, is_ready_on, is_held_on, is_flying_on, held_on, is_hard_kind}
+use Rattle.fst_heads.proofs.Words.pending
 
 -- what is free is ready
 fewer_free : (behind : ℕ → Bool) (b : ℕ) (nodes : List Node) → length (free_on behind b nodes) ≤ length (filter (is_ready_on b) nodes)

@@ -1,17 +1,9 @@
 -- Nodes that count for a block as others do, and what that leaves of the counts of all blocks.
-use Rattle.std.proofs.Common.{◌≡◌, ◌≢◌, ℕ, ◌+◌, ◌<◌, ◌==◌, ◌&&◌, Bool, true, false, cond, List, [], ◌∷◌, ◌++◌, map, filter, count_by, set, get_or, refl, sym, ap, subst, ◌∙◌, inl, inr, arith, get_or-set_same, get_or-set_other}
-use Rattle.std.proofs.Math.ListN.{length-set}
-use Rattle.std.proofs.lemmas.Bool.{cases_Bool, cases_eq, and_parts, and_right, eqb-true, ne_eqb, false≢true}
-use Rattle.std.proofs.lemmas.List.Sums.{sum_by-cons, sum_by-append}
-use Rattle.fst_types.specs.declared.place.Place.{Place}
-use Rattle.fst_types.specs.declared.place.Place.TheVariants as place
-use Rattle.fst_types.specs.Patches.{Kind, Change}
-use Rattle.fst_types.specs.Tests.{is_at, is_on, is_change_at}
-use Rattle.fst_types.proofs.Finite.{In}
-use Rattle.fst_heads.specs.declared.standing.Standing.{Standing}
-use Rattle.fst_heads.specs.Nodes.{Node}
-use Rattle.fst_heads.specs.Spreading.{follows, rested}
-use Rattle.fst_heads.specs.Standings.{AllStand, is_ready_on, is_held_on, is_flying_on, standing_of}
+use Rattle.fst_heads.proofs.Basics.{◌≡◌, ◌≢◌, ℕ, ◌+◌, ◌<◌, ◌==◌, ◌&&◌, Bool, true, false, cond, List, [], ◌∷◌, ◌++◌, map, filter, count_by, set, get_or, refl, sym, ap, subst, ◌∙◌, inl, inr, arith, get_or-set_same, get_or-set_other, length-set, cases_Bool, cases_eq, and_parts, and_right}
+use Rattle.fst_heads.proofs.Basics.{eqb-true, ne_eqb, false≢true, sum_by-cons, sum_by-append}
+use Rattle.fst_heads.proofs.Patches.{Place, Kind, Change, is_at, is_on, is_change_at, In}
+use Rattle.fst_heads.proofs.Patches.place
+use Rattle.fst_heads.proofs.Words.{Standing, Node, follows, rested, AllStand, is_ready_on, is_held_on, is_flying_on, standing_of}
 
 -- y counts for block b as x does
 pub record CountsAs (b : ℕ) (y x : Node) : Type 0 where

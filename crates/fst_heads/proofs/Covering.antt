@@ -1,27 +1,14 @@
 -- What the covers of the blocks keep from call to call.
-use Rattle.std.proofs.Common.{◌≡◌, ◌≢◌, ◌⊎◌, ◌<◌, ◌≤◌, ◌+◌, ◌++◌, ◌∷◌, ◌∙◌, [], ℕ, false, true, not, Bool, List, Some, length, map, filter, get_or, set, Contains, ◌==◌, ◌||◌, zero, suc, refl, sym, ap, subst, inl, inr, arith}
-use Rattle.std.proofs.lemmas.Bool.{cases_lt, cases_eq, eqb-false}
+use Rattle.fst_heads.proofs.Basics.{◌≡◌, ◌≢◌, ◌⊎◌, ◌<◌, ◌≤◌, ◌+◌, ◌++◌, ◌∷◌, ◌∙◌, [], ℕ, false, true, not, Bool, List, Some, length, map, filter, get_or, set, Contains, ◌==◌, ◌||◌, zero, suc, refl, sym, ap, subst, inl, inr, arith, cases_lt, cases_eq, eqb-false, length-set}
+use Rattle.fst_heads.proofs.Basics.{get_or-set_other, Contains-push_cases, Contains-append_left, Contains-append_right}
 use Rattle.std.proofs.lemmas.Grind.{get_or-set_at}
-use Rattle.std.proofs.lemmas.List.{length-set, get_or-set_other}
-use Rattle.std.proofs.lemmas.List.Elements.{Contains-push_cases, Contains-append_left, Contains-append_right}
-use Rattle.fst_types.specs.declared.grade.Grade.{Grade}
-use Rattle.fst_types.specs.declared.place.Place.{Place}
-use Rattle.fst_types.specs.declared.place.Place.TheVariants as place
 use Rattle.fst_types.specs.Closure.{one, join}
-use Rattle.fst_types.specs.Dependencies.{DirectlyOn, DependsOn, IsLiveNumber}
-use Rattle.fst_types.specs.Facts.{IsOnDiskWithAll}
-use Rattle.fst_types.specs.Gating.{gains}
-use Rattle.fst_types.specs.Making.{fresh}
-use Rattle.fst_types.specs.Patches.{Patch, Change, IsOn, IsLive, IsRising, block_of_kind, at_of, len_of}
-use Rattle.fst_types.specs.Tests.{is_at, is_live}
 use Rattle.fst_types.proofs.Depending.{Grown, grown}
-use Rattle.fst_types.proofs.Dropping.{filter_in, in_filter}
 use Rattle.fst_types.proofs.Alike.{Alike, at_same, len_same, on_back, on_forth, back_alike, forth_alike, closure_map}
-use Rattle.fst_types.proofs.Crash.{same_number}
-use Rattle.fst_types.proofs.Finite.{In-from_Contains, Contains-from_In, In-map}
-use Rattle.fst_types.proofs.GateGains.{In-unmap}
-use Rattle.fst_heads.specs.Covers.{Covering, IsOver, IsCovered, AreCovered, Covers, IsLonger, IsPut, HasBytes, newest_over}
-use Rattle.fst_heads.specs.Rows.{IsSparseRow}
+use Rattle.fst_heads.proofs.Patches.{Grade, Place, DirectlyOn, DependsOn, IsLiveNumber, IsOnDiskWithAll, gains, fresh, Patch, Change, IsOn, IsLive, Rising as IsRising, block_of_kind, at_of, len_of, is_at, is_live, filter_in, in_filter, same_number, In-from_Contains, Contains-from_In}
+use Rattle.fst_heads.proofs.Patches.{In-map, In-unmap}
+use Rattle.fst_heads.proofs.Patches.place
+use Rattle.fst_heads.proofs.Words.{Covering, IsOver, IsCovered, AreCovered, Covers, IsLonger, IsPut, HasBytes, newest_over, IsSparseRow}
 use Rattle.fst_heads.proofs.Newest.{over_touched}
 
 -- where there is no patch any covers do

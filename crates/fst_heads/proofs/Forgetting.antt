@@ -1,21 +1,9 @@
 -- What forgetting leaves of what the fields keep.
-use Rattle.std.proofs.Common.{◌≡◌, ℕ, ◌+◌, ◌==◌, ◌&&◌, Bool, true, false, not, List, [], ◌∷◌, length, filter, count_by, Contains, refl, sym, ap, subst, ◌∙◌, inl, inr, arith}
-use Rattle.std.specs.List.{items_where_true}
+use Rattle.fst_heads.proofs.Basics.{◌≡◌, ℕ, ◌+◌, ◌==◌, ◌&&◌, Bool, true, false, not, List, [], ◌∷◌, length, filter, count_by, Contains, refl, sym, ap, subst, ◌∙◌, inl, inr, arith, items_where_true, cases_Bool, eqb-true, eq-eqb, false≢true, length-filter}
 use Rattle.std.specs.List.Retain.{IsFiltered, ReturnsInTurn}
-use Rattle.std.proofs.lemmas.Bool.{cases_Bool, eqb-true, eq-eqb, false≢true}
-use Rattle.std.proofs.lemmas.List.Sums.{length-filter}
-use Rattle.fst_types.specs.declared.place.Place.{Place}
-use Rattle.fst_types.specs.declared.place.Place.TheVariants as place
-use Rattle.fst_types.specs.Patches.{Patch}
-use Rattle.fst_types.specs.Dependencies.{IsLiveNumber}
-use Rattle.fst_types.specs.Tests.{is_at, is_live}
-use Rattle.fst_types.proofs.Finite.{In, In-from_Contains, Contains-from_In}
-use Rattle.fst_types.proofs.Dropping.{filter_in, sparse_dropped}
-use Rattle.fst_heads.specs.declared.head.Head.{Head}
-use Rattle.fst_heads.specs.Tests.{is_live_place}
-use Rattle.fst_heads.specs.Nodes.{is_live_in}
-use Rattle.fst_heads.specs.Keeps.{Keeps}
-use Rattle.fst_heads.specs.Nodes.{nodes_of}
+use Rattle.fst_heads.proofs.Patches.{Place, Patch, IsLiveNumber, is_at, is_live, In, In-from_Contains, Contains-from_In, filter_in, sparse_dropped}
+use Rattle.fst_heads.proofs.Patches.place
+use Rattle.fst_heads.proofs.Words.{Head, is_live_place, is_live_in, Keeps, nodes_of}
 
 place_same : (p : Place) → is_live_place p ≡ not (is_at p place.Disk)
 place_same place.Memory = refl

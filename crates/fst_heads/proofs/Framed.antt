@@ -1,13 +1,7 @@
 -- A head that was changed but for its number and its rows.
-use Rattle.std.proofs.Common.{◌≡◌, ◌≢◌, ◌++◌, ℕ, zero, suc, ◌<◌, List, [], ◌∷◌, length, get_or, set, Contains, refl, sym, ap, subst, ◌∙◌, inl, inr, arith}
-use Rattle.std.proofs.lemmas.List.Elements.{Contains-push_cases}
-use Rattle.smallvec.specs.SmallVec.{HasRoomFor}
-use Rattle.fst_types.proofs.Finite.{In, In-from_Contains, Contains-from_In}
-use Rattle.fst_heads.specs.declared.head.Head.{Head}
-use Rattle.fst_heads.specs.Frames.{frame_of, frames_of, HasRoomBelow}
-use Rattle.fst_heads.specs.Heads.{IsRising}
-use Rattle.fst_heads.specs.Marks.{HasSlot}
-use Rattle.fst_heads.specs.Nodes.{HasRoomAbove}
+use Rattle.fst_heads.proofs.Basics.{◌≡◌, ◌≢◌, ◌++◌, ℕ, zero, suc, ◌<◌, List, [], ◌∷◌, length, get_or, set, Contains, refl, sym, ap, subst, ◌∙◌, inl, inr, arith, Contains-push_cases, HasRoomFor}
+use Rattle.fst_heads.proofs.Patches.{In, In-from_Contains, Contains-from_In}
+use Rattle.fst_heads.proofs.Words.{Head, frame_of, frames_of, HasRoomBelow, IsRising, HasSlot, HasRoomAbove}
 use Rattle.fst_heads.proofs.Linking.{set_cases}
 use Rattle.fst_heads.proofs.Slots.{any_default, slot_unique}
 

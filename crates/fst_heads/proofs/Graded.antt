@@ -1,23 +1,11 @@
 -- What the walks over a row show, and the grade that follows.
-use Rattle.std.proofs.Common.{◌≡◌, ◌≢◌, ◌&&◌, ℕ, ◌+◌, ◌≤◌, eqb, Bool, true, List, [], ◌∷◌, ◌++◌, Contains, Some, None, refl, sym, ap, subst, ◌∙◌, inl, inr, arith}
-use Rattle.std.proofs.lemmas.Bool.{eqb-true, eqb-false, eq-eqb, ne_eqb, false≢true, not-true}
-use Rattle.std.proofs.lemmas.List.Elements.{Contains-append_left, Contains-push, Contains-push_cases}
-use Rattle.fst_types.specs.declared.place.Place.{Place}
-use Rattle.fst_types.specs.declared.place.Place.TheVariants as place
-use Rattle.fst_types.specs.declared.grade.Grade.{Grade}
+use Rattle.fst_heads.proofs.Basics.{◌≡◌, ◌≢◌, ◌&&◌, ℕ, ◌+◌, ◌≤◌, eqb, Bool, true, List, [], ◌∷◌, ◌++◌, Contains, Some, None, refl, sym, ap, subst, ◌∙◌, inl, inr, arith, eqb-true, eqb-false, eq-eqb, ne_eqb, false≢true, not-true, Contains-append_left, Contains-push, Contains-push_cases}
 use Rattle.fst_types.specs.declared.grade.Grade.TheVariants as grade
 use Rattle.fst_types.specs.Closure.{one, join}
-use Rattle.fst_types.specs.Patches.{Kind, Change, OpenGate, Patch, block_of_kind}
-use Rattle.fst_types.specs.Dependencies.{DirectlyOn, DependsOn}
-use Rattle.fst_types.specs.Gates.{IsOpenNumber}
-use Rattle.fst_types.specs.Grades.{IsGradedHard, FollowsRule}
-use Rattle.fst_types.specs.Making.{fresh}
-use Rattle.fst_types.proofs.Finite.{first_step}
-use Rattle.fst_types.proofs.NewChange.{IsWithin, old_head, target_small, depends_old, needs_old}
+use Rattle.fst_heads.proofs.Patches.{Place, Grade, Kind, Change, OpenGate, Patch, block_of_kind, DirectlyOn, DependsOn, IsOpenNumber, IsGradedHard, FollowsRule, fresh, first_step, IsWithin, old_head, target_small, depends_old, needs_old}
+use Rattle.fst_heads.proofs.Patches.place
+use Rattle.fst_heads.proofs.Words.{PassesAt, kind_passes, HasUnder, IsReturning, IsLeading, MayBeHard}
 use Rattle.fst_heads.specs.declared.test.Test.TheVariants as test
-use Rattle.fst_heads.specs.Marks.{PassesAt}
-use Rattle.fst_heads.specs.Tests.{kind_passes}
-use Rattle.fst_heads.specs.Grading.{HasUnder, IsReturning, IsLeading, MayBeHard}
 use Rattle.fst_heads.proofs.Slots.{live_place, place_live}
 
 -- open gates

@@ -1,14 +1,9 @@
 -- What is pending of two patches together, and how one patch more or less changes the sums.
-use Rattle.std.proofs.Common.{◌≡◌, ◌≢◌, ◌⊎◌, ℕ, ◌+◌, ◌*◌, ◌≤◌, refl, sym, ap, ◌∙◌, inl, inr, arith}
-use Rattle.std.proofs.lemmas.Bool.{cases_eq, eq-eqb, ne_eqb}
-use Rattle.std.proofs.Math.Nat.{mul-add, mul-le-mul}
-use Rattle.fst_types.specs.declared.place.Place.{Place}
-use Rattle.fst_types.specs.declared.place.Place.TheVariants as place
-use Rattle.fst_types.specs.Patches.{Kind, Change, OpenGate}
-use Rattle.fst_heads.specs.declared.pending.Pending.{Pending}
-use Rattle.fst_heads.specs.declared.pending.Pending.TheVariants as pending
-use Rattle.fst_heads.specs.declared.pending.Sums.{Sums}
-use Rattle.fst_heads.specs.Pendings.{join, of_kind, Sinks, Fits, plus, minus, together, nothing, max_block}
+use Rattle.fst_heads.proofs.Basics.{◌≡◌, ◌≢◌, ◌⊎◌, ℕ, ◌+◌, ◌*◌, ◌≤◌, refl, sym, ap, ◌∙◌, inl, inr, arith, cases_eq, eq-eqb, ne_eqb, mul-add, mul-le-mul}
+use Rattle.fst_heads.proofs.Patches.{Place, Kind, Change, OpenGate}
+use Rattle.fst_heads.proofs.Patches.place
+use Rattle.fst_heads.proofs.Words.{Pending, Sums, join, of_kind, Sinks, Fits, plus, minus, together, nothing, max_block}
+use Rattle.fst_heads.proofs.Words.pending
 use Rattle.fst_heads.proofs.Squares.{apart, gap_more}
 
 -- nothing is pending, or the block

@@ -1,13 +1,8 @@
 -- Patches that go into flight one after another.
-use Rattle.std.proofs.Common.{◌≡◌, ◌==◌, ◌||◌, ℕ, Bool, true, false, List, [], ◌∷◌, ◌++◌, if◌then◌else◌, map, get_or, set, refl, sym, ap, ◌∙◌, inl, inr}
-use Rattle.std.proofs.lemmas.Bool.{cases_eq, cases_Bool, eq-eqb, ne_eqb}
-use Rattle.fst_types.specs.declared.place.Place.TheVariants as place
-use Rattle.fst_types.specs.Tests.{is_among}
-use Rattle.fst_heads.specs.declared.head.Head.{Head}
-use Rattle.fst_heads.specs.Heads.{IsRising}
-use Rattle.fst_heads.specs.Marks.{HasSlot, HasNone}
-use Rattle.fst_heads.specs.Nodes.{Node, node_of, nodes_of, at_number}
-use Rattle.fst_heads.specs.Spreading.{launches}
+use Rattle.fst_heads.proofs.Basics.{◌≡◌, ◌==◌, ◌||◌, ℕ, Bool, true, false, List, [], ◌∷◌, ◌++◌, if◌then◌else◌, map, get_or, set, refl, sym, ap, ◌∙◌, inl, inr, cases_eq, cases_Bool, eq-eqb, ne_eqb}
+use Rattle.fst_heads.proofs.Patches.{is_among}
+use Rattle.fst_heads.proofs.Patches.place
+use Rattle.fst_heads.proofs.Words.{Head, IsRising, HasSlot, HasNone, Node, node_of, nodes_of, at_number, launches}
 use Rattle.fst_heads.proofs.AtNumber.{at_none, at_slot, at_same, at_other}
 use Rattle.fst_heads.proofs.Linking.{map_twice, rising_as}
 use Rattle.fst_heads.proofs.Placed.{number_if}

@@ -1,11 +1,7 @@
 -- Marks by blocks that are reached, and how blocks come to be reached.
-use Rattle.std.proofs.Common.{◌≡◌, ◌⊎◌, ◌&&◌, ℕ, ◌+◌, ◌<◌, cond, not, Bool, true, false, List, length, get_or, set, Contains, Some, MatchBool, refl, sym, ap, subst, ◌∙◌, inl, inr, arith, get_or-set_same, get_or-set_other}
-use Rattle.std.proofs.lemmas.Bool.{cases_Bool, cases_eq, false≢true}
-use Rattle.std.proofs.lemmas.List.Sums.{sum_by-set}
-use Rattle.fst_types.specs.Patches.{Patch, IsOn}
-use Rattle.fst_heads.specs.declared.head.Head.{Head}
-use Rattle.fst_heads.specs.Heads.{IsRising, patch_of, patches_of}
-use Rattle.fst_heads.specs.Marks.{HasSlot, Has}
+use Rattle.fst_heads.proofs.Basics.{◌≡◌, ◌⊎◌, ◌&&◌, ℕ, ◌+◌, ◌<◌, cond, not, Bool, true, false, List, length, get_or, set, Contains, Some, MatchBool, refl, sym, ap, subst, ◌∙◌, inl, inr, arith, get_or-set_same, get_or-set_other, cases_Bool, cases_eq, false≢true, sum_by-set}
+use Rattle.fst_heads.proofs.Patches.{Patch, IsOn}
+use Rattle.fst_heads.proofs.Words.{Head, IsRising, patch_of, patches_of, HasSlot, Has}
 use Rattle.fst_heads.specs.Reaching.{IsReached, unreached, IsHardIn}
 use Rattle.fst_heads.proofs.Slots.{any_default, some_element, slot_in, patch_slot, patch_is}
 

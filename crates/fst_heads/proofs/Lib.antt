@@ -1,3 +1,6 @@
+pub mod Basics
+pub mod Patches
+pub mod Words
 pub mod Slots
 pub mod Rows
 pub mod Making

@@ -1,18 +1,8 @@
 -- Loops along a row that change the head of each of its numbers.
-use Rattle.std.proofs.Common.{◌≡◌, ◌≢◌, ◌⊎◌, ◌||◌, ℕ, zero, suc, ◌+◌, ◌<◌, ◌≤◌, Bool, true, false, List, [], ◌∷◌, ◌++◌, take, length, map, get_or, set, Contains, if◌then◌else◌, refl, sym, ap, subst, ◌∙◌, inl, inr, arith, get_or-set_same, get_or-set_other}
-use Rattle.std.specs.List.Sorted.{IsStrictlyIncreasing}
-use Rattle.std.proofs.Math.ListN.{length-set}
-use Rattle.std.proofs.lemmas.Bool.{cases_eq, eq-eqb, ne_eqb}
-use Rattle.std.proofs.lemmas.List.{length-map, take_more}
-use Rattle.std.proofs.lemmas.List.Elements.{Contains-get_or}
-use Rattle.std.proofs.lemmas.List.Kept.{AllPairs-from_increasing}
-use Rattle.smallvec.specs.SmallVec.{HasRoomFor}
-use Rattle.fst_types.specs.Tests.{is_among}
-use Rattle.fst_types.proofs.Finite.{In}
-use Rattle.fst_heads.specs.declared.head.Head.{Head}
-use Rattle.fst_heads.specs.Heads.{IsRising}
-use Rattle.fst_heads.specs.Marks.{HasSlot, HasNone}
-use Rattle.fst_heads.specs.Nodes.{Node, node_of, nodes_of, at_number, linked_to, HasRoomAbove}
+use Rattle.fst_heads.proofs.Basics.{◌≡◌, ◌≢◌, ◌⊎◌, ◌||◌, ℕ, zero, suc, ◌+◌, ◌<◌, ◌≤◌, Bool, true, false, List, [], ◌∷◌, ◌++◌, take, length, map, get_or, set, Contains, if◌then◌else◌, refl, sym, ap, subst, ◌∙◌, inl, inr, arith, get_or-set_same, get_or-set_other, IsStrictlyIncreasing}
+use Rattle.fst_heads.proofs.Basics.{length-set, cases_eq, eq-eqb, ne_eqb, length-map, take_more, Contains-get_or, AllPairs-from_increasing, HasRoomFor}
+use Rattle.fst_heads.proofs.Patches.{is_among, In}
+use Rattle.fst_heads.proofs.Words.{Head, IsRising, HasSlot, HasNone, Node, node_of, nodes_of, at_number, linked_to, HasRoomAbove}
 use Rattle.fst_heads.proofs.AtNumber.{at_other, at_same}
 use Rattle.fst_heads.proofs.Slots.{any_default, slot_unique}
 

@@ -1,21 +1,9 @@
 -- The walk along the list of a block that lands what is in flight.
-use Rattle.std.proofs.Common.{◌≡◌, ◌≢◌, ◌==◌, ◌&&◌, ◌||◌, ℕ, zero, suc, ◌<◌, ◌≤◌, Bool, true, false, not, cond, List, [], ◌∷◌, ◌++◌, length, map, set, get_or, Contains, Some, refl, sym, ap, ◌∙◌, inl, inr, arith}
-use Rattle.std.specs.List.{list_any}
-use Rattle.std.proofs.Math.Bool.{and-false}
-use Rattle.std.proofs.lemmas.Bool.{cases_Bool, false≢true, eq-eqb, ne_eqb}
-use Rattle.std.proofs.lemmas.List.{set-get_or, append_assoc, append-nil, length-append, length-map, get_or-map}
-use Rattle.fst_types.specs.declared.place.Place.{Place}
-use Rattle.fst_types.specs.declared.place.Place.TheVariants as place
-use Rattle.fst_types.specs.Patches.{Kind, Change, Patch, IsRising as Rising, block_of_kind}
-use Rattle.fst_types.specs.Tests.{is_at, is_on, is_change_at}
-use Rattle.fst_types.specs.Writing.{landed}
-use Rattle.fst_types.proofs.Finite.{In, In-from_Contains, Contains-from_In}
-use Rattle.fst_heads.specs.declared.head.Head.{Head}
-use Rattle.fst_heads.specs.Spreading.{lands}
-use Rattle.fst_heads.specs.Heads.{IsRising, patch_of, patches_of}
-use Rattle.fst_heads.specs.Lists.{Entry, is_live_on, entries_on, flying_on, AreListed}
-use Rattle.fst_heads.specs.Marks.{HasSlot, HasNone}
-use Rattle.fst_heads.specs.Nodes.{Node, node_of, nodes_of, patches_in, at_number}
+use Rattle.fst_heads.proofs.Basics.{◌≡◌, ◌≢◌, ◌==◌, ◌&&◌, ◌||◌, ℕ, zero, suc, ◌<◌, ◌≤◌, Bool, true, false, not, cond, List, [], ◌∷◌, ◌++◌, length, map, set, get_or, Contains, Some, refl, sym, ap, ◌∙◌, inl, inr, arith, list_any, and-false, cases_Bool, false≢true, eq-eqb, ne_eqb, set-get_or}
+use Rattle.fst_heads.proofs.Basics.{append_assoc, append-nil, length-append, length-map, get_or-map}
+use Rattle.fst_heads.proofs.Patches.{Place, Kind, Change, Patch, Rising, block_of_kind, is_at, is_on, is_change_at, landed, In, In-from_Contains, Contains-from_In}
+use Rattle.fst_heads.proofs.Patches.place
+use Rattle.fst_heads.proofs.Words.{Head, lands, IsRising, patch_of, patches_of, Entry, is_live_on, entries_on, flying_on, AreListed, HasSlot, HasNone, Node, node_of, nodes_of, patches_in, at_number}
 use Rattle.fst_heads.proofs.Slots.{any_default, some_element}
 use Rattle.fst_heads.proofs.Starting.{patches_landed}
 use Rattle.fst_heads.proofs.Linking.{rising_as}

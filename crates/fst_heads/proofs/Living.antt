@@ -1,15 +1,9 @@
 -- How many patches wait for the disk: those of which something is pending, as their dependants know it.
-use Rattle.std.proofs.Common.{◌≡◌, ◌≢◌, ℕ, suc, ◌+◌, ◌<◌, Bool, true, false, not, cond, if◌then◌else◌, ◌&&◌, ◌==◌, List, [], ◌∷◌, map, count_by, AllPairs, refl, sym, ap, subst, ◌∙◌, inl, inr, arith}
-use Rattle.std.proofs.lemmas.Bool.{cases_Bool, cases_eq, false≢true}
-use Rattle.fst_types.specs.declared.place.Place.TheVariants as place
-use Rattle.fst_types.specs.Tests.{is_at, is_live}
-use Rattle.fst_types.proofs.Finite.{In, In-from_Contains, Contains-from_In}
-use Rattle.fst_heads.specs.declared.pending.Pending.{Pending}
-use Rattle.fst_heads.specs.declared.pending.Pending.TheVariants as pending
-use Rattle.fst_heads.specs.Nodes.{Node, patches_in, at_number, AreSettled}
-use Rattle.fst_heads.specs.Pendings.{is_pending, plus, minus, height, Sinks}
-use Rattle.fst_heads.specs.Spreading.{is_waiting, is_told, now, settles, heard, follows}
-use Rattle.fst_types.specs.Tests.{is_among}
+use Rattle.fst_heads.proofs.Basics.{◌≡◌, ◌≢◌, ℕ, suc, ◌+◌, ◌<◌, Bool, true, false, not, cond, if◌then◌else◌, ◌&&◌, ◌==◌, List, [], ◌∷◌, map, count_by, AllPairs, refl, sym, ap, subst, ◌∙◌, inl, inr, arith, cases_Bool, cases_eq, false≢true}
+use Rattle.fst_heads.proofs.Patches.{is_at, is_live, In, In-from_Contains, Contains-from_In, is_among}
+use Rattle.fst_heads.proofs.Patches.place
+use Rattle.fst_heads.proofs.Words.{Pending, Node, patches_in, at_number, AreSettled, is_pending, plus, minus, height, Sinks, is_waiting, is_told, now, settles, heard, follows}
+use Rattle.fst_heads.proofs.Words.pending
 use Rattle.fst_heads.proofs.AtNumber.{at_same, at_other}
 use Rattle.fst_heads.proofs.CountsAs.{count_cons, count_map}
 use Rattle.fst_heads.proofs.Forgetting.{live_place_of}

@@ -1,8 +1,6 @@
 -- Marks by number, and lists parted by them.
-use Rattle.std.proofs.Common.{◌≡◌, ℕ, zero, suc, ◌==◌, ◌&&◌, Bool, true, false, List, [], ◌∷◌, get_or, refl, sym, inl, inr, arith}
-use Rattle.std.proofs.lemmas.Bool.{cases_Bool, eqb-true, eq-eqb, false≢true, or_cases}
-use Rattle.fst_heads.specs.declared.head.Head.{Head}
-use Rattle.fst_heads.specs.Marks.{HasSlot, Has, mark_of}
+use Rattle.fst_heads.proofs.Basics.{◌≡◌, ℕ, zero, suc, ◌==◌, ◌&&◌, Bool, true, false, List, [], ◌∷◌, get_or, refl, sym, inl, inr, arith, cases_Bool, eqb-true, eq-eqb, false≢true, or_cases}
+use Rattle.fst_heads.proofs.Words.{Head, HasSlot, Has, mark_of}
 
 both : (x y : Bool) → (x && y) ≡ true → (x ≡ true) × (y ≡ true)
 both true y e = (refl, e)

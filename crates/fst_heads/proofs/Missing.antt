@@ -1,15 +1,7 @@
 -- What a gate does not have yet.
-use Rattle.std.proofs.Common.{◌≡◌, ℕ, true, List, get_or, Contains}
-use Rattle.fst_types.specs.Dependencies.{DirectlyOn, IsLiveNumber}
-use Rattle.fst_types.specs.Lists.{Lists}
-use Rattle.fst_types.specs.Patches.{Patch}
-use Rattle.fst_types.specs.Tests.{is_among}
-use Rattle.fst_types.proofs.Finite.{In-from_Contains, Contains-from_In}
-use Rattle.fst_types.proofs.Issuing.{among_in, in_among}
-use Rattle.fst_heads.specs.declared.head.Head.{Head}
-use Rattle.fst_heads.specs.Heads.{IsRising, patches_of}
-use Rattle.fst_heads.specs.Marks.{HasSlot}
-use Rattle.fst_heads.specs.Rows.{IsMissing}
+use Rattle.fst_heads.proofs.Basics.{◌≡◌, ℕ, true, List, get_or, Contains}
+use Rattle.fst_heads.proofs.Patches.{DirectlyOn, IsLiveNumber, Lists, Patch, is_among, In-from_Contains, Contains-from_In, among_in, in_among}
+use Rattle.fst_heads.proofs.Words.{Head, IsRising, patches_of, HasSlot, IsMissing}
 use Rattle.fst_heads.proofs.Slots.{direct_at, named_at}
 
 -- what the row of the head at a slot has is what the patch directly depends on

@@ -1,15 +1,7 @@
 -- The row of a new change, from the newest changes over its bytes.
-use Rattle.std.proofs.Common.{◌≡◌, ◌⊎◌, ℕ, ◌+◌, ◌<◌, ◌≤◌, true, false, List, length, get_or, Contains, refl, sym, subst, ◌∙◌, inl, inr, arith}
-use Rattle.std.proofs.lemmas.Bool.{cases_lt}
-use Rattle.std.specs.List.Sorted.{IsStrictlyIncreasing}
-use Rattle.fst_types.specs.Dependencies.{DependsOn, IsLiveNumber}
-use Rattle.fst_types.specs.Lists.{Lists}
-use Rattle.fst_types.specs.Patches.{Patch, at_of, len_of}
-use Rattle.fst_heads.specs.declared.head.Head.{Head}
-use Rattle.fst_heads.specs.Covers.{Covering, newest_over, IsOver, IsCovered, GainsTouched}
-use Rattle.fst_heads.specs.Heads.{IsRising, patch_of, patches_of}
-use Rattle.fst_heads.specs.Marks.{HasSlot, HasNone}
-use Rattle.fst_heads.specs.Rows.{Gains, touches, IsTouched, IsDependency, IsSparseRow}
+use Rattle.fst_heads.proofs.Basics.{◌≡◌, ◌⊎◌, ℕ, ◌+◌, ◌<◌, ◌≤◌, true, false, List, length, get_or, Contains, refl, sym, subst, ◌∙◌, inl, inr, arith, cases_lt, IsStrictlyIncreasing}
+use Rattle.fst_heads.proofs.Patches.{DependsOn, IsLiveNumber, Lists, Patch, at_of, len_of}
+use Rattle.fst_heads.proofs.Words.{Head, Covering, newest_over, IsOver, IsCovered, GainsTouched, IsRising, patch_of, patches_of, HasSlot, HasNone, Gains, touches, IsTouched, IsDependency, IsSparseRow}
 use Rattle.fst_heads.proofs.Slots.{any_default, none_slot, patch_at, patch_is, patch_slot, slot_in}
 use Rattle.fst_heads.proofs.Touching.{touch_parts, touch_whole}
 

@@ -1,23 +1,9 @@
 -- The walk along the list of a block for those of its patches that pass a test.
-use Rattle.std.proofs.Common.{◌≡◌, ◌==◌, ◌&&◌, ◌||◌, ℕ, ◌<◌, ◌+◌, Bool, true, false, not, List, [], ◌∷◌, map, filter, drop, length, get_or, refl, sym, ap, ◌∙◌, inl, inr}
-use Rattle.std.specs.List.{list_any}
-use Rattle.std.proofs.lemmas.Bool.{cases_Bool, false≢true}
-use Rattle.std.proofs.lemmas.List.{drop_more}
-use Rattle.fst_types.proofs.Finite.{In, Contains-from_In}
-use Rattle.fst_types.specs.declared.place.Place.{Place}
-use Rattle.fst_types.specs.declared.place.Place.TheVariants as place
-use Rattle.fst_types.specs.Tests.{is_at, is_on, is_change_at}
-use Rattle.fst_heads.specs.declared.pending.Pending.TheVariants as pending
-use Rattle.fst_heads.specs.Ascending.{is_free_on, is_bound_on}
-use Rattle.fst_heads.specs.declared.head.Head.{Head}
-use Rattle.fst_heads.specs.declared.lists.Listed.{Listed}
-use Rattle.fst_heads.specs.Heads.{IsRising, kind_of, patch_of, patches_of}
-use Rattle.fst_heads.specs.Lists.{entries_of, entries_on, is_live_on}
-use Rattle.fst_heads.specs.Marks.{HasSlot, HasNone}
-use Rattle.fst_heads.specs.Nodes.{Node, node_of, nodes_of}
-use Rattle.fst_heads.specs.Pendings.{is_pending}
-use Rattle.fst_heads.specs.Standings.{is_ready_on}
-use Rattle.fst_heads.specs.Tests.{is_hard_kind}
+use Rattle.fst_heads.proofs.Basics.{◌≡◌, ◌==◌, ◌&&◌, ◌||◌, ℕ, ◌<◌, ◌+◌, Bool, true, false, not, List, [], ◌∷◌, map, filter, drop, length, get_or, refl, sym, ap, ◌∙◌, inl, inr, list_any, cases_Bool, false≢true, drop_more}
+use Rattle.fst_heads.proofs.Patches.{In, Contains-from_In, Place, is_at, is_on, is_change_at}
+use Rattle.fst_heads.proofs.Patches.place
+use Rattle.fst_heads.proofs.Words.{is_free_on, is_bound_on, Head, Listed, IsRising, kind_of, patch_of, patches_of, entries_of, entries_on, is_live_on, HasSlot, HasNone, Node, node_of, nodes_of, is_pending, is_ready_on, is_hard_kind}
+use Rattle.fst_heads.proofs.Words.pending
 use Rattle.fst_heads.proofs.Forgetting.{and_parts}
 use Rattle.fst_heads.proofs.Listing.{any_none, any_slot, numbers_on}
 use Rattle.fst_heads.proofs.Slots.{any_default}

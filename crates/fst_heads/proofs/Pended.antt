@@ -1,12 +1,7 @@
 -- What is pending of the patch with a number, and which patches are told.
-use Rattle.std.proofs.Common.{◌≡◌, ℕ, true, List, Contains, refl, sym, ap, ◌∙◌}
-use Rattle.std.proofs.lemmas.Bool.{eq-eqb, eqb-true}
-use Rattle.fst_heads.specs.declared.pending.Pending.{Pending}
-use Rattle.fst_heads.specs.declared.pending.Pending.TheVariants as pending
-use Rattle.fst_heads.specs.declared.pending.Sums.{Sums}
-use Rattle.fst_heads.specs.Nodes.{Node, pending_in, AreSettled}
-use Rattle.fst_heads.specs.Pendings.{is_pending, joined, joined_sums, of_kind, sums_of}
-use Rattle.fst_heads.specs.Spreading.{now, is_told}
+use Rattle.fst_heads.proofs.Basics.{◌≡◌, ℕ, true, List, Contains, refl, sym, ap, ◌∙◌, eq-eqb, eqb-true}
+use Rattle.fst_heads.proofs.Words.{Pending, Sums, Node, pending_in, AreSettled, is_pending, joined, joined_sums, of_kind, sums_of, now, is_told}
+use Rattle.fst_heads.proofs.Words.pending
 use Rattle.fst_heads.proofs.Sums.{joined_exact}
 
 pub same_pending : (p : Pending) → is_pending p p ≡ true

@@ -1,17 +1,8 @@
 -- What is pending of the head in a slot, and the node that it stands for.
-use Rattle.std.proofs.Common.{◌≡◌, ◌<◌, ◌+◌, ◌++◌, ◌∷◌, [], ℕ, zero, suc, List, length, get_or, take, Contains, refl, sym, ap, ◌∙◌, arith}
-use Rattle.std.proofs.lemmas.Bool.{eq-eqb, ne_eqb}
-use Rattle.std.proofs.lemmas.List.{take_more}
-use Rattle.smallvec.specs.SmallVec.{SmallVec}
-use Rattle.fst_types.proofs.Finite.{Contains-from_In, In-map}
-use Rattle.fst_heads.specs.declared.head.Head.{Head}
-use Rattle.fst_heads.specs.declared.pending.Pending.{Pending}
-use Rattle.fst_heads.specs.declared.pending.Pending.TheVariants as pending
-use Rattle.fst_heads.specs.declared.pending.Sums.{Sums}
-use Rattle.fst_heads.specs.Heads.{IsRising}
-use Rattle.fst_heads.specs.Marks.{HasSlot, HasNone}
-use Rattle.fst_heads.specs.Nodes.{node_of, nodes_of, pending_in, gains_names}
-use Rattle.fst_heads.specs.Pendings.{plus, sums_of, together}
+use Rattle.fst_heads.proofs.Basics.{◌≡◌, ◌<◌, ◌+◌, ◌++◌, ◌∷◌, [], ℕ, zero, suc, List, length, get_or, take, Contains, refl, sym, ap, ◌∙◌, arith, eq-eqb, ne_eqb, take_more, SmallVec}
+use Rattle.fst_heads.proofs.Patches.{Contains-from_In, In-map}
+use Rattle.fst_heads.proofs.Words.{Head, Pending, Sums, IsRising, HasSlot, HasNone, node_of, nodes_of, pending_in, gains_names, plus, sums_of, together}
+use Rattle.fst_heads.proofs.Words.pending
 use Rattle.fst_heads.proofs.Slots.{slot_head}
 use Rattle.fst_heads.proofs.Sums.{sums_push}
 

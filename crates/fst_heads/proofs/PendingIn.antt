@@ -1,10 +1,8 @@
 -- What is pending of a number is what is pending of the node that has it.
-use Rattle.std.proofs.Common.{◌≡◌, ◌⊎◌, ◌<◌, ◌==◌, ℕ, suc, List, [], ◌∷◌, Contains, refl, ap, subst, ◌∙◌, inl, inr, arith}
-use Rattle.std.proofs.lemmas.Bool.{cases_Bool, eqb-true, eq-eqb, ne_eqb, cond-true, cond-false}
-use Rattle.fst_types.specs.Patches.{Patch, IsRising}
-use Rattle.fst_types.proofs.Finite.{In, In-from_Contains, Contains-from_In}
-use Rattle.fst_heads.specs.declared.pending.Pending.TheVariants as pending
-use Rattle.fst_heads.specs.Nodes.{Node, patches_in, pending_in}
+use Rattle.fst_heads.proofs.Basics.{◌≡◌, ◌⊎◌, ◌<◌, ◌==◌, ℕ, suc, List, [], ◌∷◌, Contains, refl, ap, subst, ◌∙◌, inl, inr, arith, cases_Bool, eqb-true, eq-eqb, ne_eqb, cond-true, cond-false}
+use Rattle.fst_heads.proofs.Patches.{Patch, Rising as IsRising, In, In-from_Contains, Contains-from_In}
+use Rattle.fst_heads.proofs.Words.{Node, patches_in, pending_in}
+use Rattle.fst_heads.proofs.Words.pending
 use Rattle.fst_heads.proofs.Placed.{patch_in}
 
 -- the node with the number

@@ -1,18 +1,7 @@
 -- What stands beside the patches where some are launched or forgotten.
-use Rattle.std.proofs.Common.{◌≡◌, ◌≢◌, ℕ, Bool, true, false, cond, List, [], ◌∷◌, map, filter, AllPairs, Contains, refl, sym, ap, subst, ◌∙◌, inl, inr}
-use Rattle.std.proofs.lemmas.Bool.{cases_Bool}
-use Rattle.fst_types.specs.Patches.{Patch}
-use Rattle.fst_types.specs.Dependencies.{IsLiveNumber}
-use Rattle.fst_types.specs.Facts.{HasOnePlaceEach}
-use Rattle.fst_types.specs.Tests.{is_live, is_on, is_among}
-use Rattle.fst_types.specs.Writing.{launched}
-use Rattle.fst_types.proofs.Crash.{same_number}
-use Rattle.fst_types.proofs.Finite.{In, In-from_Contains, Contains-from_In}
-use Rattle.fst_types.proofs.GateGains.{In-unmap}
-use Rattle.fst_types.proofs.Issuing.{among_in}
-use Rattle.fst_heads.specs.Spreading.{launches}
-use Rattle.fst_heads.specs.Lists.{entry, entries_on, is_live_on}
-use Rattle.fst_heads.specs.Nodes.{Node, patches_in, times, AreLinked, AreGiven, AreDistinct}
+use Rattle.fst_heads.proofs.Basics.{◌≡◌, ◌≢◌, ℕ, Bool, true, false, cond, List, [], ◌∷◌, map, filter, AllPairs, Contains, refl, sym, ap, subst, ◌∙◌, inl, inr, cases_Bool}
+use Rattle.fst_heads.proofs.Patches.{Patch, IsLiveNumber, HasOnePlaceEach, is_live, is_on, is_among, launched, same_number, In, In-from_Contains, Contains-from_In, In-unmap, among_in}
+use Rattle.fst_heads.proofs.Words.{launches, entry, entries_on, is_live_on, Node, patches_in, times, AreLinked, AreGiven, AreDistinct}
 use Rattle.fst_heads.proofs.Forgetting.{live_place_of}
 
 -- y has the number, the direct dependencies and the dependants of x

@@ -1,15 +1,8 @@
 -- A number is taken from the queue of a cascade: its head is settled, and its dependants are told.
-use Rattle.std.proofs.Common.{◌≡◌, ◌≢◌, ◌+◌, ◌<◌, ◌≤◌, ◌==◌, ℕ, Bool, true, false, if◌then◌else◌, List, [], ◌∷◌, ◌++◌, length, map, get_or, Contains, AllPairs, length-append, refl, sym, ap, subst, ◌∙◌, arith}
-use Rattle.std.proofs.lemmas.List.{length-map, get_or-map}
-use Rattle.fst_types.specs.Cascade.{IsCascadeOf}
-use Rattle.fst_heads.specs.declared.head.Head.{Head}
-use Rattle.fst_heads.specs.declared.pending.Pending.{Pending}
-use Rattle.fst_heads.specs.declared.pending.Pending.TheVariants as pending
-use Rattle.fst_heads.specs.Heads.{IsRising, patches_of}
-use Rattle.fst_heads.specs.Marks.{HasSlot}
-use Rattle.fst_heads.specs.Nodes.{Node, node_of, nodes_of, patches_in, at_number, AreLinked, AreDistinct}
-use Rattle.fst_heads.specs.Pendings.{Fits, max_block}
-use Rattle.fst_heads.specs.Spreading.{Spreading, IsSpreadOf, CanHear, now, is_told, settles, heard, woken, heights}
+use Rattle.fst_heads.proofs.Basics.{◌≡◌, ◌≢◌, ◌+◌, ◌<◌, ◌≤◌, ◌==◌, ℕ, Bool, true, false, if◌then◌else◌, List, [], ◌∷◌, ◌++◌, length, map, get_or, Contains, AllPairs, length-append, refl, sym, ap, subst, ◌∙◌, arith, length-map, get_or-map}
+use Rattle.fst_heads.proofs.Patches.{IsCascadeOf}
+use Rattle.fst_heads.proofs.Words.{Head, Pending, IsRising, patches_of, HasSlot, Node, node_of, nodes_of, patches_in, at_number, AreLinked, AreDistinct, Fits, max_block, Spreading, IsSpreadOf, CanHear, now, is_told, settles, heard, woken, heights}
+use Rattle.fst_heads.proofs.Words.pending
 use Rattle.fst_heads.proofs.AtNumber.{at_same, patches_in_nodes}
 use Rattle.fst_heads.proofs.Linking.{rising_as}
 use Rattle.fst_heads.proofs.Slots.{some_element}

@@ -1,24 +1,11 @@
 -- Rising rows, and names as calls give them.
-use Rattle.std.proofs.Common.{◌≡◌, ℕ, zero, suc, ◌+◌, ◌-◌, ◌<◌, ◌≤◌, List, [], ◌∷◌, length, get_or, Contains, Result, Ok, Err, is_ok, refl, sym, ap, subst, ◌∙◌, inl, inr, arith}
-use Rattle.std.specs.List.{insert}
-use Rattle.std.specs.List.Sorted.{IsStrictlyIncreasing, IsBinarySearchResult, IsNonDecreasingBy}
-use Rattle.std.specs.Ordering.{nat_cmp, ordering_index}
-use Rattle.std.proofs.lemmas.Bool.Decides.{nat_tests}
-use Rattle.std.proofs.lemmas.List.{length-map, get_or-map}
-use Rattle.fst_types.specs.Tests.{is_among}
-use Rattle.fst_types.proofs.Issuing.{among_in, in_among}
-use Rattle.fst_heads.proofs.Slots.{any_default}
-use Rattle.std.proofs.lemmas.Bool.{cases_Bool, cases_lt, cases_eq}
-use Rattle.std.proofs.lemmas.List.Kept.{AllPairs-from_increasing}
-use Rattle.std.proofs.lemmas.List.Sorted.{searched, IsNonDecreasingBy-from_default, IsPermutation-insert, IsPermutation-sym, Contains-permutation}
-use Rattle.std.proofs.lemmas.List.Edits.{length-insert, get_or-insert_below, get_or-insert_at, get_or-insert_above}
-use Rattle.fst_types.specs.declared.number.PatchNo.{PatchNo}
-use Rattle.fst_types.specs.Lists.{Lists}
-use Rattle.fst_types.specs.Gates.{IsGiven}
+use Rattle.fst_heads.proofs.Basics.{◌≡◌, ℕ, zero, suc, ◌+◌, ◌-◌, ◌<◌, ◌≤◌, List, [], ◌∷◌, length, get_or, Contains, Result, Ok, Err, is_ok, refl, sym, ap, subst, ◌∙◌, inl, inr, arith, insert, IsStrictlyIncreasing, IsBinarySearchResult, IsNonDecreasingBy, nat_cmp, ordering_index, nat_tests}
+use Rattle.fst_heads.proofs.Basics.{length-map, get_or-map, cases_Bool, cases_lt, cases_eq, AllPairs-from_increasing, searched, IsNonDecreasingBy-from_default, IsPermutation-insert, IsPermutation-sym, Contains-permutation, length-insert, get_or-insert_below, get_or-insert_at}
+use Rattle.fst_heads.proofs.Basics.{get_or-insert_above}
 use Rattle.fst_types.specs.Order.{NamesUnknown}
-use Rattle.fst_types.proofs.Finite.{In, In-get_or, In-from_Contains, Contains-from_In, In-map}
-use Rattle.fst_heads.specs.Names.{numbers_of}
-use Rattle.fst_heads.specs.Rows.{Gains}
+use Rattle.fst_heads.proofs.Patches.{is_among, among_in, in_among, PatchNo, Lists, IsGiven, In, In-get_or, In-from_Contains, Contains-from_In, In-map}
+use Rattle.fst_heads.proofs.Words.{numbers_of, Gains}
+use Rattle.fst_heads.proofs.Slots.{any_default}
 
 module _ (xs : List ℕ) (rising : IsStrictlyIncreasing xs) where
   pub ordered : (i j : ℕ) → i < j → j < length xs → get_or xs i 0 < get_or xs j 0

@@ -1,21 +1,9 @@
 -- The head in one slot hears of another patch, and all that have a number of a row do.
-use Rattle.std.proofs.Common.{◌≡◌, ◌≢◌, ℕ, zero, suc, ◌+◌, ◌<◌, ◌==◌, ◌&&◌, Bool, true, false, if◌then◌else◌, List, [], ◌∷◌, ◌++◌, length, map, take, drop, get_or, Contains, AllPairs, append-nil, length-append, refl, sym, ap, subst, ◌∙◌, inl, inr, arith}
-use Rattle.std.specs.List.{list_any}
-use Rattle.std.proofs.lemmas.Bool.{cases_eq, and_from, eq-eqb, ne_eqb}
-use Rattle.std.proofs.lemmas.List.{length-map, get_or-map, take_more, take-append-drop}
-use Rattle.std.proofs.lemmas.List.Elements.{filter-append}
-use Rattle.std.proofs.lemmas.List.Folds.{list_any-from_Any}
-use Rattle.fst_types.specs.declared.place.Place.TheVariants as place
-use Rattle.fst_types.specs.Tests.{is_among}
-use Rattle.fst_types.proofs.Finite.{In, In-from_Contains, Contains-from_In, In-map}
-use Rattle.fst_types.proofs.GateGains.{In-unmap}
-use Rattle.fst_heads.specs.declared.head.Head.{Head}
-use Rattle.fst_heads.specs.declared.pending.Pending.{Pending}
-use Rattle.fst_heads.specs.Heads.{IsRising}
-use Rattle.fst_heads.specs.Marks.{HasSlot, HasNone}
-use Rattle.fst_heads.specs.Nodes.{Node, node_of, nodes_of, at_number}
-use Rattle.fst_heads.specs.Pendings.{plus, minus}
-use Rattle.fst_heads.specs.Spreading.{follows, rested, hears, wakes, heard, woken}
+use Rattle.fst_heads.proofs.Basics.{◌≡◌, ◌≢◌, ℕ, zero, suc, ◌+◌, ◌<◌, ◌==◌, ◌&&◌, Bool, true, false, if◌then◌else◌, List, [], ◌∷◌, ◌++◌, length, map, take, drop, get_or, Contains, AllPairs, append-nil, length-append, refl, sym, ap, subst, ◌∙◌, inl, inr, arith, list_any, cases_eq, and_from}
+use Rattle.fst_heads.proofs.Basics.{eq-eqb, ne_eqb, length-map, get_or-map, take_more, take-append-drop, filter-append, list_any-from_Any}
+use Rattle.fst_heads.proofs.Patches.{is_among, In, In-from_Contains, Contains-from_In, In-map, In-unmap}
+use Rattle.fst_heads.proofs.Patches.place
+use Rattle.fst_heads.proofs.Words.{Head, Pending, IsRising, HasSlot, HasNone, Node, node_of, nodes_of, at_number, plus, minus, follows, rested, hears, wakes, heard, woken}
 use Rattle.fst_heads.proofs.AtNumber.{at_same, at_other}
 use Rattle.fst_heads.proofs.Listing.{any_none, any_slot}
 use Rattle.fst_heads.proofs.Linking.{map_twice, rising_as, none_among, among_push_other, among_push_same}

@@ -1,17 +1,8 @@
 -- What a spread keeps of nodes: all but sums, what is pending, and the places of empty patches and sealed gates.
-use Rattle.std.proofs.Common.{◌≡◌, ◌&&◌, ℕ, true, false, not, List, [], ◌∷◌, map, AllPairs, Contains, ◌≢◌, refl, sym, ap, subst, ◌∙◌, inl, inr}
-use Rattle.std.proofs.lemmas.Bool.{cases_Bool, and_right}
-use Rattle.fst_types.specs.declared.place.Place.{Place}
-use Rattle.fst_types.specs.declared.place.Place.TheVariants as place
-use Rattle.fst_types.specs.Patches.{Kind, Empty, SealedGate, Patch}
-use Rattle.fst_types.specs.Cascade.{Follows, unsettled}
-use Rattle.fst_types.specs.Tests.{is_at, is_on}
-use Rattle.fst_types.proofs.Cascades.{Settled, AllSettled, more, all_settled}
-use Rattle.fst_types.proofs.Finite.{In-from_Contains, Contains-from_In, In-map, In}
-use Rattle.fst_types.proofs.GateGains.{In-unmap}
-use Rattle.fst_heads.specs.Lists.{entry, is_live_on, entries_on}
-use Rattle.fst_heads.specs.Nodes.{Node, patches_in, AreDistinct}
-use Rattle.fst_heads.specs.Spreading.{IsSpreadOf, unspread}
+use Rattle.fst_heads.proofs.Basics.{◌≡◌, ◌&&◌, ℕ, true, false, not, List, [], ◌∷◌, map, AllPairs, Contains, ◌≢◌, refl, sym, ap, subst, ◌∙◌, inl, inr, cases_Bool, and_right}
+use Rattle.fst_heads.proofs.Patches.{Place, Kind, Empty, SealedGate, Patch, Follows, unsettled, is_at, is_on, Settled, AllSettled, more, all_settled, In-from_Contains, Contains-from_In, In-map, In, In-unmap}
+use Rattle.fst_heads.proofs.Patches.place
+use Rattle.fst_heads.proofs.Words.{entry, is_live_on, entries_on, Node, patches_in, AreDistinct, IsSpreadOf, unspread}
 use Rattle.fst_heads.proofs.Placed.{KeepLinks}
 
 settled_one : (o p : Patch) → AllSettled (o ∷ []) (p ∷ []) → Settled o p

@@ -1,7 +1,6 @@
 -- Numbers that add up as if all were one number, and whose squares do too, are all that number.
-use Rattle.std.proofs.Common.{◌≡◌, ℕ, ◌+◌, ◌-◌, ◌*◌, ap, ◌∙◌, inl, inr, arith}
-use Rattle.std.proofs.lemmas.Bool.{cases_lt}
-use Rattle.std.proofs.Math.Nat.{mul-add, add-mul, mul_comm, mul_left_comm, one-le-mul}
+use Rattle.fst_heads.proofs.Basics.{◌≡◌, ℕ, ◌+◌, ◌-◌, ◌*◌, ap, ◌∙◌, inl, inr, arith, cases_lt, mul-add, add-mul, mul_comm, mul_left_comm}
+use Rattle.std.proofs.Math.Nat.{one-le-mul}
 
 -- how far x lies from c: the gap is the square of their difference
 pub record Apart (x c : ℕ) : Type 0 where

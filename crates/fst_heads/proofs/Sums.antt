@@ -1,15 +1,9 @@
 -- What a row adds up to, and what is pending of it.
-use Rattle.std.proofs.Common.{◌≡◌, ◌≢◌, ◌⊎◌, ◌≤◌, ◌==◌, ℕ, suc, ◌+◌, ◌*◌, ◌/◌, true, false, not, cond, List, [], ◌∷◌, ◌++◌, length, count_by, Contains, AllPairs, refl, sym, ap, subst, ◌∙◌, inl, inr, arith}
-use Rattle.std.proofs.lemmas.Bool.{and_from, and_parts, eqb-true, eq-eqb, ne_eqb, false_from_ne_true}
-use Rattle.std.proofs.lemmas.List.Sums.{sum_by-cons}
-use Rattle.std.proofs.Math.Nat.{mul-div_cancel}
-use Rattle.fst_types.specs.declared.place.Place.{Place}
-use Rattle.fst_types.specs.Patches.{Kind}
-use Rattle.fst_types.proofs.Finite.{In, In-from_Contains, Contains-from_In}
-use Rattle.fst_heads.specs.declared.pending.Pending.{Pending}
-use Rattle.fst_heads.specs.declared.pending.Pending.TheVariants as pending
-use Rattle.fst_heads.specs.declared.pending.Sums.{Sums}
-use Rattle.fst_heads.specs.Pendings.{join, joined, joined_sums, is_even, is_pending, of_kind, Sinks, Fits, HasIn, plus, minus, sums_of, together, max_block}
+use Rattle.fst_heads.proofs.Basics.{◌≡◌, ◌≢◌, ◌⊎◌, ◌≤◌, ◌==◌, ℕ, suc, ◌+◌, ◌*◌, ◌/◌, true, false, not, cond, List, [], ◌∷◌, ◌++◌, length, count_by, Contains, AllPairs, refl, sym, ap, subst, ◌∙◌, inl, inr, arith, and_from, and_parts, eqb-true, eq-eqb, ne_eqb, false_from_ne_true}
+use Rattle.fst_heads.proofs.Basics.{sum_by-cons, mul-div_cancel}
+use Rattle.fst_heads.proofs.Patches.{Place, Kind, In, In-from_Contains, Contains-from_In}
+use Rattle.fst_heads.proofs.Words.{Pending, Sums, join, joined, joined_sums, is_even, is_pending, of_kind, Sinks, Fits, HasIn, plus, minus, sums_of, together, max_block}
+use Rattle.fst_heads.proofs.Words.pending
 use Rattle.fst_heads.proofs.Squares.{gap_none}
 use Rattle.fst_heads.proofs.Joining.{Within, Even, Tells, tells_nothing, tells_plus, join_nothing, join_block, join_parts, join_from, join_sinks, sinks_of_kind, sinks_trans, fits_plus, few_plus, nothing_together, plus_together, plus_swap, minus_plus}
 

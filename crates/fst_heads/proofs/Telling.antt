@@ -1,17 +1,10 @@
 -- One step of a spread: what is pending of one patch now is told to its dependants.
-use Rattle.std.proofs.Common.{◌≡◌, ◌≢◌, ◌⊎◌, ◌↔◌, ◌<◌, ◌≤◌, ℕ, true, false, List, [], ◌∷◌, ◌++◌, length, map, Contains, AllPairs, refl, sym, ap, subst, ◌∙◌, inl, inr, arith}
-use Rattle.std.proofs.lemmas.Bool.{cases_Bool, cases_eq, both_ways}
-use Rattle.std.proofs.lemmas.List.{length-map}
-use Rattle.std.proofs.lemmas.List.Elements.{Contains-push, Contains-push_cases, Contains-append_left, Contains-append_right, Contains-append_cases}
-use Rattle.std.proofs.lemmas.List.Kept.{AllPairs-filter}
-use Rattle.fst_types.specs.declared.place.Place.TheVariants as place
-use Rattle.fst_types.specs.Cascade.{Follows}
-use Rattle.fst_types.proofs.Finite.{In, In-map, In_decided, In-from_Contains, Contains-from_In}
-use Rattle.fst_heads.specs.declared.pending.Pending.{Pending}
-use Rattle.fst_heads.specs.declared.pending.Pending.TheVariants as pending
-use Rattle.fst_heads.specs.Nodes.{Node, pending_in, at_number, AreLinked, AreDistinct}
-use Rattle.fst_heads.specs.Pendings.{Fits, HasIn, Sinks, joined, joined_sums, of_kind, plus, minus, sums_of, height, max_block}
-use Rattle.fst_heads.specs.Spreading.{Spreading, IsSpreadOf, CanHear, now, is_told, settles, heard, woken, heights, unspread}
+use Rattle.fst_heads.proofs.Basics.{◌≡◌, ◌≢◌, ◌⊎◌, ◌↔◌, ◌<◌, ◌≤◌, ℕ, true, false, List, [], ◌∷◌, ◌++◌, length, map, Contains, AllPairs, refl, sym, ap, subst, ◌∙◌, inl, inr, arith, cases_Bool, cases_eq, both_ways, length-map, Contains-push, Contains-push_cases, Contains-append_left}
+use Rattle.fst_heads.proofs.Basics.{Contains-append_right, Contains-append_cases, AllPairs-filter}
+use Rattle.fst_heads.proofs.Patches.{Follows, In, In-map, In_decided, In-from_Contains, Contains-from_In}
+use Rattle.fst_heads.proofs.Patches.place
+use Rattle.fst_heads.proofs.Words.{Pending, Node, pending_in, at_number, AreLinked, AreDistinct, Fits, HasIn, Sinks, joined, joined_sums, of_kind, plus, minus, sums_of, height, max_block, Spreading, IsSpreadOf, CanHear, now, is_told, settles, heard, woken, heights, unspread}
+use Rattle.fst_heads.proofs.Words.pending
 use Rattle.fst_heads.proofs.AtNumber.{at_same, at_other}
 use Rattle.fst_heads.proofs.Placed.{unmapped}
 use Rattle.fst_heads.proofs.Sums.{joined_exact, joined_some, joined_sinks, kind_sinks, sinks_on, sums_fit, sums_has, sums_moved, sums_same}

@@ -1,30 +1,11 @@
 -- What a new change depends on.
-use Rattle.std.proofs.Common.{◌≡◌, ◌⊎◌, ℕ, ◌+◌, ◌<◌, ◌≤◌, ◌==◌, ◌&&◌, nat_lt, Bool, true, false, not, List, [], ◌∷◌, ◌++◌, length, Contains, Some, refl, sym, ap, subst, ◌∙◌, inl, inr, arith, None}
-use Rattle.std.proofs.lemmas.Bool.{cases_Bool, eqb-true, eq-eqb, false≢true}
-use Rattle.std.proofs.lemmas.Bool.Decides.{nat_tests}
-use Rattle.std.proofs.lemmas.List.{length_push}
-use Rattle.std.proofs.lemmas.List.Elements.{Contains-push_cases}
-use Rattle.std.specs.List.Sorted.{IsStrictlyIncreasing}
-use Rattle.fst_types.specs.declared.place.Place.{Place}
-use Rattle.fst_types.specs.declared.place.Place.TheVariants as place
-use Rattle.fst_types.specs.declared.grade.Grade.{Grade}
-use Rattle.fst_types.specs.Limits.{max_heads}
-use Rattle.fst_types.specs.Lists.{Lists}
-use Rattle.fst_types.specs.Patches.{Kind, Change, Empty, Patch, IsOn, IsHard, block_of_kind, at_of, len_of}
-use Rattle.fst_types.specs.Dependencies.{IsLiveNumber}
+use Rattle.fst_heads.proofs.Basics.{◌≡◌, ◌⊎◌, ℕ, ◌+◌, ◌<◌, ◌≤◌, ◌==◌, ◌&&◌, nat_lt, Bool, true, false, not, List, [], ◌∷◌, ◌++◌, length, Contains, Some, refl, sym, ap, subst, ◌∙◌, inl, inr, arith, None, cases_Bool, eqb-true, eq-eqb, false≢true, nat_tests, length_push, Contains-push_cases}
+use Rattle.fst_heads.proofs.Basics.{IsStrictlyIncreasing}
 use Rattle.fst_types.specs.Overlaps.{IsOverlapped}
-use Rattle.fst_types.specs.Grades.{IsGradedHard, FollowsRule}
-use Rattle.fst_types.specs.Facts.{SparseAreLawful}
-use Rattle.fst_types.specs.Making.{fresh}
-use Rattle.fst_types.specs.Tests.{is_at, is_on}
-use Rattle.fst_types.proofs.Finite.{In, In-from_Contains, Contains-from_In}
-use Rattle.fst_types.proofs.NewChange.{IsWithin, hard_kept}
 use Rattle.fst_types.proofs.Adding.{one_place_added, acyclic_added, on_disk_with_all_added, alone_added}
-use Rattle.fst_heads.specs.Lists.{Entry, entry, is_live_on, entries_on}
-use Rattle.fst_heads.specs.Rows.{Gains, kind_touches, touches, shares, IsTouched, IsDependency, IsSparseRow}
-use Rattle.fst_heads.specs.Tests.{is_live_place}
-use Rattle.fst_heads.specs.Grading.{MayBeHard}
-use Rattle.fst_heads.specs.Keeps.{Keeps}
+use Rattle.fst_heads.proofs.Patches.{Place, Grade, max_heads, Lists, Kind, Change, Empty, Patch, IsOn, IsHard, block_of_kind, at_of, len_of, IsLiveNumber, IsGradedHard, FollowsRule, SparseAreLawful, fresh, is_at, is_on, In, In-from_Contains, Contains-from_In, IsWithin, hard_kept}
+use Rattle.fst_heads.proofs.Patches.place
+use Rattle.fst_heads.proofs.Words.{Entry, entry, is_live_on, entries_on, Gains, kind_touches, touches, shares, IsTouched, IsDependency, IsSparseRow, is_live_place, MayBeHard, Keeps}
 use Rattle.fst_heads.proofs.Graded.{graded_rule}
 use Rattle.fst_heads.proofs.Making.{keeps_added}
 

@@ -1,20 +1,10 @@
 -- The nodes of a spread, found by their numbers, and the numbers that wait in its queue.
-use Rattle.std.proofs.Common.{◌≡◌, ◌≢◌, ◌<◌, ◌≤◌, ◌==◌, ◌&&◌, ◌+◌, ℕ, zero, suc, Bool, true, false, not, cond, List, [], ◌∷◌, ◌++◌, length, map, get_or, Contains, AllPairs, length-append, refl, sym, ap, subst, ◌∙◌, inl, inr, arith}
-use Rattle.std.specs.List.{list_any}
-use Rattle.std.proofs.lemmas.Bool.{cases_eq, cases_order, and_parts, and_from, eqb-true, eq-eqb, ne_eqb, not-true, not_from_false}
-use Rattle.std.proofs.lemmas.List.{length-map, get_or-map, get_or_append_left}
-use Rattle.std.proofs.lemmas.List.Elements.{Contains-get_or, Contains-append_cases}
-use Rattle.std.proofs.lemmas.List.Folds.{Any-from_list_any, list_any-from_Any}
-use Rattle.std.proofs.lemmas.List.Kept.{AllPairs-cons}
-use Rattle.std.proofs.lemmas.List.Sums.{sum_by-cons}
+use Rattle.fst_heads.proofs.Basics.{◌≡◌, ◌≢◌, ◌<◌, ◌≤◌, ◌==◌, ◌&&◌, ◌+◌, ℕ, zero, suc, Bool, true, false, not, cond, List, [], ◌∷◌, ◌++◌, length, map, get_or, Contains, AllPairs, length-append, refl, sym, ap, subst, ◌∙◌, inl, inr, arith, list_any, cases_eq, cases_order, and_parts}
+use Rattle.fst_heads.proofs.Basics.{and_from, eqb-true, eq-eqb, ne_eqb, not-true, not_from_false, length-map, get_or-map, get_or_append_left, Contains-get_or, Contains-append_cases, Any-from_list_any, list_any-from_Any, AllPairs-cons, sum_by-cons}
 use Rattle.std.proofs.Math.Seq.{get_or-append_seam}
-use Rattle.fst_types.proofs.Dropping.{filter_in, in_filter}
-use Rattle.fst_types.proofs.Finite.{In, In-map, In-from_Contains, Contains-from_In, pull}
-use Rattle.fst_heads.specs.declared.pending.Pending.{Pending}
-use Rattle.fst_heads.specs.declared.pending.Pending.TheVariants as pending
-use Rattle.fst_heads.specs.Pendings.{height}
-use Rattle.fst_heads.specs.Nodes.{Node, pending_in, times, at_number}
-use Rattle.fst_heads.specs.Spreading.{is_told, settles, hears, heard, wakes, woken, heights}
+use Rattle.fst_heads.proofs.Patches.{filter_in, in_filter, In, In-map, In-from_Contains, Contains-from_In, pull}
+use Rattle.fst_heads.proofs.Words.{Pending, height, Node, pending_in, times, at_number, is_told, settles, hears, heard, wakes, woken, heights}
+use Rattle.fst_heads.proofs.Words.pending
 use Rattle.fst_heads.proofs.AtNumber.{at_same, at_other}
 use Rattle.fst_heads.proofs.PendingIn.{found}
 use Rattle.fst_heads.proofs.Placed.{unmapped}

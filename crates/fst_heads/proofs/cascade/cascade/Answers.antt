@@ -1,13 +1,7 @@
-use Rattle.std.proofs.Common.{◌≡◌, ◌∙◌, [], cond, count_by, ap, vec_len, subst, sym, arith}
-use Rattle.std.proofs.lemmas.List.{length-map, nil_from_length}
-use Rattle.fst_heads.specs.Heads.{IsRising}
-use Rattle.fst_heads.specs.Marks.{HasSlot, HasNone}
-use Rattle.fst_heads.specs.Nodes.{node_of, nodes_of}
-use Rattle.fst_types.proofs.Finite.{In-from_Contains}
-use Rattle.fst_heads.specs.declared.pending.Pending.TheVariants as pending
-use Rattle.fst_heads.specs.Pendings.{is_pending}
-use Rattle.fst_heads.specs.Spreading.{Spreading, is_waiting, now}
-use Rattle.fst_heads.specs.Standings.{AllStand}
+use Rattle.fst_heads.proofs.Basics.{◌≡◌, ◌∙◌, [], cond, count_by, ap, vec_len, subst, sym, arith, length-map, nil_from_length}
+use Rattle.fst_heads.proofs.Patches.{In-from_Contains}
+use Rattle.fst_heads.proofs.Words.{IsRising, HasSlot, HasNone, node_of, nodes_of, is_pending, Spreading, is_waiting, now, AllStand}
+use Rattle.fst_heads.proofs.Words.pending
 use Rattle.fst_heads.proofs.Living.{waits_untold, waiting_settles, waiting_heard}
 use Rattle.fst_heads.proofs.Popping.{fits_there, untold_there, rising_settled, after_is, once_after, live_after, hears_after, room_after, turned, cascaded_heads}
 use Rattle.fst_heads.proofs.Slotted.{rising_slots, none_of_number, node_is}

@@ -1,6 +1,5 @@
-use Rattle.std.proofs.Common.{◌∙◌, sym, ap, subst}
-use Rattle.fst_heads.specs.Nodes.{Node}
-use Rattle.fst_heads.specs.Pendings.{Fits}
+use Rattle.fst_heads.proofs.Basics.{◌∙◌, sym, ap, subst}
+use Rattle.fst_heads.proofs.Words.{Node, Fits}
 use Rattle.fst_heads.proofs.Slotted.{rested_sums}
 use Rattle.fst_heads.proofs.cascade.hear.Goals as goal
 

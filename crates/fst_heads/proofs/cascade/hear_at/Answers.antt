@@ -1,12 +1,9 @@
-use Rattle.std.proofs.Common.{◌∙◌, sym, ap, subst}
+use Rattle.fst_heads.proofs.Basics.{◌∙◌, sym, ap, subst}
+use Rattle.fst_heads.proofs.Words.{frame_of, HasSlot, HasNone, node_of, hears, wakes}
 use Rattle.fst_heads.proofs.AtNumber.{at_slot, at_none}
 use Rattle.fst_heads.proofs.Framed.{frames_set}
 use Rattle.fst_heads.proofs.PendingAt.{node_in}
 use Rattle.fst_heads.proofs.Slotted.{waits_none, stays_slot, waits_slot, number_in}
-use Rattle.fst_heads.specs.Frames.{frame_of}
-use Rattle.fst_heads.specs.Marks.{HasSlot, HasNone}
-use Rattle.fst_heads.specs.Nodes.{node_of}
-use Rattle.fst_heads.specs.Spreading.{hears, wakes}
 use Rattle.fst_heads.proofs.cascade.hear_at.Goals as goal
 
 pub hear-requires-clause-hears : goal.hear-requires-clause-hears

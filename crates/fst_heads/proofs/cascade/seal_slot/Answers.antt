@@ -1,13 +1,10 @@
-use Rattle.std.proofs.Common.{◌∙◌, not, sym, ap, subst}
+use Rattle.fst_heads.proofs.Basics.{◌∙◌, not, sym, ap, subst}
+use Rattle.fst_heads.proofs.Words.{frame_of, Node, node_of, Fits, is_told, seals}
 use Rattle.fst_heads.proofs.AtNumber.{at_slot}
 use Rattle.fst_heads.proofs.Framed.{frames_set}
 use Rattle.fst_heads.proofs.PendingAt.{node_in}
 use Rattle.fst_heads.proofs.Slotted.{rested_sums, stays_slot, waits_slot}
 use Rattle.fst_heads.specs.declared.head.Kind.TheVariants as kinds
-use Rattle.fst_heads.specs.Frames.{frame_of}
-use Rattle.fst_heads.specs.Nodes.{Node, node_of}
-use Rattle.fst_heads.specs.Pendings.{Fits}
-use Rattle.fst_heads.specs.Spreading.{is_told, seals}
 use Rattle.fst_heads.proofs.cascade.seal_slot.Goals as goal
 
 pub is_told-requires : goal.is_told-requires

@@ -1,7 +1,5 @@
-use Rattle.std.proofs.Common.{◌≡◌, ◌≢◌, ◌∙◌, ◌+◌, ◌<◌, ◌≤◌, ◌++◌, ◌∷◌, [], AllPairs, Contains, length, map, take, get_or, vec_capacity, append-nil, append_assoc, length-append, arith, ap, refl, sym, subst}
-use Rattle.std.proofs.lemmas.List.{length-map, take_all}
-use Rattle.fst_heads.specs.Nodes.{node_of, nodes_of, at_number}
-use Rattle.fst_heads.specs.Spreading.{CanHear, hears, heard, woken}
+use Rattle.fst_heads.proofs.Basics.{◌≡◌, ◌≢◌, ◌∙◌, ◌+◌, ◌<◌, ◌≤◌, ◌++◌, ◌∷◌, [], AllPairs, Contains, length, map, take, get_or, vec_capacity, append-nil, append_assoc, length-append, arith, ap, refl, sym, subst, length-map, take_all}
+use Rattle.fst_heads.proofs.Words.{node_of, nodes_of, at_number, CanHear, hears, heard, woken}
 use Rattle.fst_heads.proofs.Slotted.{row_at, row_is, at_row, row_now, length_heard, rising_heard, heard_none, heard_before, heard_more, woken_more, woken_room}
 use Rattle.fst_heads.proofs.Slots.{any_default}
 use Rattle.fst_heads.proofs.cascade.tell.Goals as goal

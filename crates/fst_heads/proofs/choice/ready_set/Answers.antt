@@ -1,9 +1,5 @@
-use Rattle.std.proofs.Common.{option_map, ◌∙◌, ◌+◌, ◌++◌, ◌∷◌, ℕ, Bool, [], length, drop, get_or, append_assoc, length-append, ap, sym, refl, arith}
-use Rattle.fst_heads.specs.declared.lists.Listed.{Listed}
-use Rattle.fst_heads.specs.Ascending.{is_free_on}
-use Rattle.fst_heads.specs.Names.{numbers_of}
-use Rattle.fst_heads.specs.Marks.{mark_in}
-use Rattle.std.proofs.lemmas.List.{map_push}
+use Rattle.fst_heads.proofs.Basics.{option_map, ◌∙◌, ◌+◌, ◌++◌, ◌∷◌, ℕ, Bool, [], length, drop, get_or, append_assoc, length-append, ap, sym, refl, arith, map_push}
+use Rattle.fst_heads.proofs.Words.{Listed, is_free_on, numbers_of, mark_in}
 use Rattle.fst_heads.proofs.Passing.{passing, passing_start, passing_found, passing_skip, passing_absent, free_at, free_listed}
 use Rattle.fst_heads.proofs.choice.ready_set.Goals as goal
 use Rattle.fst_heads.proofs.choice.ready_set.Goals.{in-Some+then-is_free+in-Ok, in-Some+else-is_free, in_default}

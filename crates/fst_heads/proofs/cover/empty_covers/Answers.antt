@@ -1,4 +1,4 @@
-use Rattle.std.proofs.Common.{arith}
+use Rattle.fst_heads.proofs.Basics.{arith}
 use Rattle.fst_heads.proofs.Covering.{covered_none}
 use Rattle.fst_heads.proofs.cover.empty_covers.Goals as goal
 

@@ -1,7 +1,5 @@
-use Rattle.std.proofs.Common.{◌≤◌, ◌∙◌, ◌∷◌, [], length, arith, ap, subst, length-append}
-use Rattle.fst_heads.specs.declared.head.Head.{Head}
-use Rattle.fst_heads.specs.Marks.{HasSlot, HasNone}
-use Rattle.fst_heads.specs.Nodes.{node_of, gains_names}
+use Rattle.fst_heads.proofs.Basics.{◌≤◌, ◌∙◌, ◌∷◌, [], length, arith, ap, subst, length-append}
+use Rattle.fst_heads.proofs.Words.{Head, HasSlot, HasNone, node_of, gains_names}
 use Rattle.fst_heads.proofs.AtNumber.{at_slot, at_none}
 use Rattle.fst_heads.proofs.PendingAt.{node_in, gained_node}
 use Rattle.fst_heads.proofs.growth.gain_one.Goals as goal

@@ -1,9 +1,5 @@
-use Rattle.std.proofs.Common.{◌≡◌, ◌∙◌, get_or, map, ap, sym, subst, take, refl, arith}
-use Rattle.smallvec.specs.SmallVec.{HasRoomFor}
-use Rattle.fst_heads.specs.declared.head.Head.{Head}
-use Rattle.fst_heads.specs.Heads.{patch_of}
-use Rattle.fst_heads.specs.Marks.{HasSlot, HasNone}
-use Rattle.fst_heads.specs.Nodes.{node_of, nodes_of, at_number}
+use Rattle.fst_heads.proofs.Basics.{◌≡◌, ◌∙◌, get_or, map, ap, sym, subst, take, refl, arith, HasRoomFor}
+use Rattle.fst_heads.proofs.Words.{Head, patch_of, HasSlot, HasNone, node_of, nodes_of, at_number}
 use Rattle.fst_heads.proofs.AtNumber.{at_none, at_slot}
 use Rattle.fst_heads.proofs.Framed.{still_below}
 use Rattle.fst_heads.proofs.Linking.{adds, rising_linked, room_first, room_left, room_fewer, room_here, link_none, link_more}

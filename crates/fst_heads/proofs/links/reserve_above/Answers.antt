@@ -1,8 +1,5 @@
-use Rattle.std.proofs.Common.{◌≡◌, ◌∙◌, get_or, ap, subst}
-use Rattle.fst_heads.specs.declared.head.Head.{Head}
-use Rattle.fst_heads.specs.Heads.{patch_of}
-use Rattle.fst_heads.specs.Marks.{HasSlot, HasNone}
-use Rattle.fst_heads.specs.Nodes.{node_of}
+use Rattle.fst_heads.proofs.Basics.{◌≡◌, ◌∙◌, get_or, ap, subst}
+use Rattle.fst_heads.proofs.Words.{Head, patch_of, HasSlot, HasNone, node_of}
 use Rattle.fst_heads.proofs.Linking.{rising_same, nodes_set, room_more, room_skip, room_all}
 use Rattle.fst_heads.proofs.links.reserve_above.Goals as goal
 use Rattle.fst_heads.proofs.links.reserve_above.Goals.{in-Some+in_ok-reserve, in_default}

@@ -1,8 +1,5 @@
-use Rattle.std.proofs.Common.{◌≡◌, ◌∙◌, get_or, ap, subst}
-use Rattle.fst_heads.specs.declared.head.Head.{Head}
-use Rattle.fst_heads.specs.Heads.{patch_of}
-use Rattle.fst_heads.specs.Marks.{HasSlot}
-use Rattle.fst_heads.specs.Nodes.{node_of}
+use Rattle.fst_heads.proofs.Basics.{◌≡◌, ◌∙◌, get_or, ap, subst}
+use Rattle.fst_heads.proofs.Words.{Head, patch_of, HasSlot, node_of}
 use Rattle.fst_heads.proofs.Framed.{below_set, above_set}
 use Rattle.fst_heads.proofs.Linking.{nodes_set}
 use Rattle.fst_heads.proofs.links.reserve_below.Goals as goal

@@ -1,11 +1,6 @@
-use Rattle.std.proofs.Common.{◌≡◌, ◌∙◌, List, Vec, Global, not, map, filter, length, refl, sym, ap, subst, arith}
-use Rattle.std.proofs.lemmas.List.{map-set}
-use Rattle.std.proofs.lemmas.Bool.{false≢true}
-use Rattle.std.specs.List.Sorted.{IsStrictlyIncreasing}
-use Rattle.fst_types.specs.Tests.{is_among}
-use Rattle.fst_heads.specs.declared.lists.Listed.{Listed}
-use Rattle.fst_heads.specs.Heads.{patches_of}
-use Rattle.fst_heads.specs.Lists.{Entry, entries_of, entries_on}
+use Rattle.fst_heads.proofs.Basics.{◌≡◌, ◌∙◌, List, Vec, Global, not, map, filter, length, refl, sym, ap, subst, arith, map-set, false≢true, IsStrictlyIncreasing}
+use Rattle.fst_heads.proofs.Patches.{is_among}
+use Rattle.fst_heads.proofs.Words.{Listed, patches_of, Entry, entries_of, entries_on}
 use Rattle.fst_heads.proofs.Relisting.{listed_landed, flying_rise}
 use Rattle.fst_heads.proofs.Listing.{listed_at, rising_patches, heads_landed, nothing_lands, nothing_flies, is_off}
 use Rattle.fst_heads.proofs.lists.land_block.Goals as goal

@@ -1,13 +1,7 @@
-use Rattle.std.proofs.Common.{◌≡◌, ◌∙◌, map, drop, get_or, refl, sym, ap, subst, arith}
-use Rattle.std.proofs.lemmas.List.{drop_more}
-use Rattle.fst_types.specs.declared.place.Place.TheVariants as place
-use Rattle.fst_types.specs.Tests.{is_change_at}
-use Rattle.fst_heads.specs.declared.lists.Listed.{Listed}
-use Rattle.fst_heads.specs.Heads.{patch_of, patches_of}
-use Rattle.fst_heads.specs.Lists.{entries_of, flying_on}
-use Rattle.fst_heads.specs.Nodes.{nodes_of}
-use Rattle.fst_heads.specs.Spreading.{lands}
-use Rattle.fst_heads.specs.Marks.{HasSlot, HasNone}
+use Rattle.fst_heads.proofs.Basics.{◌≡◌, ◌∙◌, map, drop, get_or, refl, sym, ap, subst, arith, drop_more}
+use Rattle.fst_heads.proofs.Patches.{is_change_at}
+use Rattle.fst_heads.proofs.Patches.place
+use Rattle.fst_heads.proofs.Words.{Listed, patch_of, patches_of, entries_of, flying_on, nodes_of, lands, HasSlot, HasNone}
 use Rattle.fst_heads.proofs.Listing.{landing_none, landing_full, landing_absent, landing_skip, landing_disk, landing_room}
 use Rattle.fst_heads.proofs.lists.land_listed.Goals as goal
 use Rattle.fst_heads.proofs.lists.land_listed.Goals.{in-Some+then-is_change_at, in-Some+else-is_change_at, in_default}

@@ -1,7 +1,5 @@
-use Rattle.std.proofs.Common.{rules, arith, ◌∙◌, ap}
-use Rattle.std.proofs.lemmas.List.Elements.{filter_from_retain}
-use Rattle.fst_heads.specs.Nodes.{nodes_of}
-use Rattle.fst_heads.specs.Tests.{is_live_place}
+use Rattle.fst_heads.proofs.Basics.{rules, arith, ◌∙◌, ap, filter_from_retain}
+use Rattle.fst_heads.proofs.Words.{nodes_of, is_live_place}
 use Rattle.fst_heads.proofs.Beside.{all_live}
 use Rattle.fst_heads.proofs.Forgetting.{live_heads}
 use Rattle.fst_heads.proofs.places.keep_live.Goals as goal

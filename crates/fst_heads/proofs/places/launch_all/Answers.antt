@@ -1,10 +1,6 @@
-use Rattle.std.proofs.Common.{◌∙◌, ◌∷◌, [], map, take, get_or, sym, ap}
-use Rattle.std.proofs.lemmas.List.{take_more}
-use Rattle.fst_types.specs.declared.number.PatchNo.{PatchNo}
-use Rattle.fst_heads.specs.Names.{numbers_of}
-use Rattle.fst_heads.specs.Nodes.{nodes_of}
-use Rattle.fst_heads.specs.Spreading.{launches}
-use Rattle.std.proofs.lemmas.List.{map_push}
+use Rattle.fst_heads.proofs.Basics.{◌∙◌, ◌∷◌, [], map, take, get_or, sym, ap, take_more, map_push}
+use Rattle.fst_heads.proofs.Patches.{PatchNo}
+use Rattle.fst_heads.proofs.Words.{numbers_of, nodes_of, launches}
 use Rattle.fst_heads.proofs.Launching.{launched_start, launched_more, rising_launched}
 use Rattle.fst_heads.proofs.places.launch_all.Goals as goal
 

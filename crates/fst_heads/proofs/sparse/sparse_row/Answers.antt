@@ -1,6 +1,5 @@
-use Rattle.std.proofs.Common.{◌∙◌, sym, IfOk, Result, Ok, Err, arith}
-use Rattle.fst_heads.specs.Heads.{patches_of}
-use Rattle.fst_heads.specs.Names.{numbers_of}
+use Rattle.fst_heads.proofs.Basics.{◌∙◌, sym, IfOk, Result, Ok, Err, arith}
+use Rattle.fst_heads.proofs.Words.{patches_of, numbers_of}
 use Rattle.fst_heads.proofs.Newest.{whole_is_sparse, newest_are_sparse}
 use Rattle.fst_heads.proofs.sparse.sparse_row.Goals as goal
 

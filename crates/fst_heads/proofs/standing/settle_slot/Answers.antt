@@ -1,23 +1,11 @@
-use Rattle.std.proofs.Common.{◌≡◌, ◌<◌, ◌∙◌, ◌&&◌, ℕ, Bool, List, length, set, get_or, vec_len, Vec, Global, true, false, refl, sym, ap, subst, arith}
-use Rattle.std.proofs.lemmas.Bool.{and_right}
-use Rattle.fst_types.specs.declared.grade.Grade.{Grade}
-use Rattle.fst_types.specs.declared.place.Place.{Place}
-use Rattle.fst_types.specs.declared.place.Place.TheVariants as place
+use Rattle.fst_heads.proofs.Basics.{◌≡◌, ◌<◌, ◌∙◌, ◌&&◌, ℕ, Bool, List, length, set, get_or, vec_len, Vec, Global, true, false, refl, sym, ap, subst, arith, and_right}
 use Rattle.fst_types.specs.declared.span.Span.{Span}
-use Rattle.fst_types.specs.Tests.{is_at, is_on}
-use Rattle.fst_heads.specs.declared.head.Head.{Head}
+use Rattle.fst_heads.proofs.Patches.{Grade, Place, is_at, is_on}
+use Rattle.fst_heads.proofs.Patches.place
+use Rattle.fst_heads.proofs.Words.{Head, Standing, kind_of, HasSlot, frame_of, Node, node_of, nodes_of, Pending, Fits, Sinks, is_pending, now, is_told, settles, AllStand}
+use Rattle.fst_heads.proofs.Words.pending
 use Rattle.fst_heads.specs.declared.head.Kind.{Kind}
 use Rattle.fst_heads.specs.declared.head.Kind.TheVariants as kinds
-use Rattle.fst_heads.specs.declared.standing.Standing.{Standing}
-use Rattle.fst_heads.specs.Heads.{kind_of}
-use Rattle.fst_heads.specs.Marks.{HasSlot}
-use Rattle.fst_heads.specs.Frames.{frame_of}
-use Rattle.fst_heads.specs.Nodes.{Node, node_of, nodes_of}
-use Rattle.fst_heads.specs.declared.pending.Pending.{Pending}
-use Rattle.fst_heads.specs.declared.pending.Pending.TheVariants as pending
-use Rattle.fst_heads.specs.Pendings.{Fits, Sinks, is_pending}
-use Rattle.fst_heads.specs.Spreading.{now, is_told, settles}
-use Rattle.fst_heads.specs.Standings.{AllStand}
 use Rattle.fst_heads.proofs.Framed.{frames_set}
 use Rattle.fst_heads.proofs.AtNumber.{at_slot}
 use Rattle.fst_heads.proofs.Releasing.{node_at, node_there, few_ready, some_held, stand_freed, stand_held, stand_told}
