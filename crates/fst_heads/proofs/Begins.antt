@@ -4,10 +4,11 @@ use Rattle.fst_heads.proofs.Patches.{Place, Grade, Patch, Change, Rising as IsRi
 use Rattle.fst_heads.proofs.Patches.place
 use Rattle.fst_heads.proofs.Words.{IsInside, Node, patches_in, pending_in, AreSettled, Sinks, sums_of, Spreading, now, is_told}
 use Rattle.fst_heads.proofs.Words.pending
-use Rattle.fst_heads.proofs.Pended.{told_from, now_at_rest}
+use Rattle.fst_heads.proofs.Pended.{now_at_rest}
 use Rattle.fst_heads.proofs.Waiting.{pending_mapped}
 use Rattle.fst_heads.proofs.Placed.{SameLinks, unmapped, patch_in}
 use Rattle.fst_heads.proofs.Sums.{sums_same}
+use Rattle.fst_heads.proofs.Turning.{told_now}
 
 -- what a spread knows of each node, but for the sums and the queue
 pub record Sound (x : Node) (blocks : ℕ) : Type 0 where
@@ -91,4 +92,4 @@ module _ (nodes : List Node) (blocks : ℕ) (f : Node → Node) (queue : List �
 
 -- what stays is told
 pub stays_told : (nodes : List Node) (blocks : ℕ) → AreSettled nodes blocks → (x : Node) → Contains nodes x → is_told x ≡ true
-stays_told nodes blocks S x c = told_from x (now_at_rest nodes blocks S x c)
+stays_told nodes blocks S x c = told_now x (now_at_rest nodes blocks S x c)

@@ -5,10 +5,7 @@ use Rattle.fst_heads.proofs.Patches.place
 use Rattle.fst_heads.proofs.Words.{Head, patch_of, patches_of, Beside, Node, node_of, nodes_of, at_number, AreSettled, is_waiting, seals}
 use Rattle.fst_heads.proofs.AtNumber.{patches_in_nodes}
 use Rattle.fst_heads.proofs.CountsAs.{count_append, count_cons, count_kept, count_map}
-use Rattle.fst_heads.proofs.Living.{at_number_told, waiting_kept, waiting_live}
-
-abbrev one_if : Bool → ℕ
-one_if t = cond t 1 0
+use Rattle.fst_heads.proofs.Living.{at_number_told, waiting_kept, waiting_live, one_if}
 
 abbrev pub one_live : Patch → ℕ
 one_live p = cond (is_live p) 1 0

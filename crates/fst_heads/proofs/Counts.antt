@@ -1,5 +1,5 @@
 -- What the counts of a block say of its patches.
-use Rattle.fst_heads.proofs.Basics.{◌≡◌, ◌&&◌, ◌||◌, ℕ, suc, ◌≤◌, Bool, false, not, List, [], ◌∷◌, filter, length, count_by, arith, refl, ap, ◌∙◌, inl, inr, or-false, cases_Bool, length-map, length-filter}
+use Rattle.fst_heads.proofs.Basics.{◌≡◌, ◌&&◌, ◌||◌, ℕ, suc, ◌≤◌, Bool, false, not, List, [], ◌∷◌, filter, length, count_by, arith, refl, ap, ◌∙◌, inl, inr, or-false, cases_Bool, length-map, length-filter, nil_from_length}
 use Rattle.fst_heads.proofs.Patches.{Patch, is_change_at}
 use Rattle.fst_heads.proofs.Patches.place
 use Rattle.fst_heads.proofs.Words.{is_bound_on, free_on, bound_on, Head, patch_of, patches_of, flying_on, Node, nodes_of, is_pending, is_ready_on, is_held_on, is_flying_on, held_on, is_hard_kind}
@@ -37,11 +37,7 @@ pub none_bound : (behind : ℕ → Bool) (b : ℕ) (nodes : List Node) → ((n :
 none_bound behind b nodes off none =
     let long = length-map (filter (is_held_on b) nodes) (λ (x : Node). x.patch.number) in
     let counted = length-filter (is_held_on b) nodes in
-    bound_held behind b nodes off ∙ empty (held_on b nodes) (omega (arith, none, long, counted))
-  where
-    empty : (ns : List ℕ) → length ns ≡ 0 → ns ≡ []
-    empty [] e = refl
-    empty (n ∷ ns) e = absurd (omega (arith, e))
+    bound_held behind b nodes off ∙ nil_from_length (held_on b nodes) (omega (arith, none, long, counted))
 
 -- as many fly as are counted
 pub flying_counted : (b : ℕ) (heads : List Head) → length (flying_on b (patches_of heads)) ≡ count_by (is_flying_on b) (nodes_of heads)

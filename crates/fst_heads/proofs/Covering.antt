@@ -1,15 +1,17 @@
 -- What the covers of the blocks keep from call to call.
-use Rattle.fst_heads.proofs.Basics.{◌≡◌, ◌≢◌, ◌⊎◌, ◌<◌, ◌≤◌, ◌+◌, ◌++◌, ◌∷◌, ◌∙◌, [], ℕ, false, true, not, Bool, List, Some, length, map, filter, get_or, set, Contains, ◌==◌, ◌||◌, zero, suc, refl, sym, ap, subst, inl, inr, arith, cases_lt, cases_eq, eqb-false, length-set}
+use Rattle.fst_heads.proofs.Basics.{◌≡◌, ◌≢◌, ◌⊎◌, ◌<◌, ◌≤◌, ◌+◌, ◌++◌, ◌∷◌, ◌∙◌, [], ℕ, true, List, length, map, filter, get_or, set, Contains, ◌==◌, zero, suc, refl, sym, ap, subst, inl, inr, arith, cases_lt, cases_eq, eqb-false, length-set, or_parts}
 use Rattle.fst_heads.proofs.Basics.{get_or-set_other, Contains-push_cases, Contains-append_left, Contains-append_right}
 use Rattle.std.proofs.lemmas.Grind.{get_or-set_at}
 use Rattle.fst_types.specs.Closure.{one, join}
 use Rattle.fst_types.proofs.Depending.{Grown, grown}
 use Rattle.fst_types.proofs.Alike.{Alike, at_same, len_same, on_back, on_forth, back_alike, forth_alike, closure_map}
-use Rattle.fst_heads.proofs.Patches.{Grade, Place, DirectlyOn, DependsOn, IsLiveNumber, IsOnDiskWithAll, gains, fresh, Patch, Change, IsOn, IsLive, Rising as IsRising, block_of_kind, at_of, len_of, is_at, is_live, filter_in, in_filter, same_number, In-from_Contains, Contains-from_In}
+use Rattle.fst_heads.proofs.Patches.{Grade, DirectlyOn, DependsOn, IsLiveNumber, IsOnDiskWithAll, gains, fresh, Patch, Change, IsOn, IsLive, Rising as IsRising, block_of_kind, at_of, len_of, is_live, filter_in, in_filter, same_number, In-from_Contains, Contains-from_In}
 use Rattle.fst_heads.proofs.Patches.{In-map, In-unmap}
 use Rattle.fst_heads.proofs.Patches.place
 use Rattle.fst_heads.proofs.Words.{Covering, IsOver, IsCovered, AreCovered, Covers, IsLonger, IsPut, HasBytes, newest_over, IsSparseRow}
 use Rattle.fst_heads.proofs.Newest.{over_touched}
+use Rattle.fst_heads.proofs.Leading.{some_injective}
+use Rattle.fst_heads.proofs.Forgetting.{live_place_of}
 
 -- where there is no patch any covers do
 pub covered_none : (blocks : ℕ) (covers : List Covering) → length covers ≡ blocks → AreCovered [] blocks covers
@@ -175,12 +177,7 @@ module _ (old : List Patch) (disk : IsOnDiskWithAll old) where
   left = filter is_live old
 
   live_told : (p : Patch) → IsLive p → is_live p ≡ true
-  live_told p live = place_told p.place live
-    where
-      place_told : (at : Place) → (at ≡ place.Disk → ⊥) → not (is_at at place.Disk) ≡ true
-      place_told place.Memory k = refl
-      place_told place.Flight k = refl
-      place_told place.Disk k = absurd (k refl)
+  live_told p live = live_place_of p.place live
 
   was_left : (p : Patch) → Contains left p → Contains old p
   was_left p h = Contains-from_In old p (filter_in is_live old p (In-from_Contains left p h)).0
@@ -301,17 +298,13 @@ module _ (old : List Patch) (n b at len : ℕ) (grade : Grade) (names row : List
       | inr lo ↦ elim (cases_lt x (at + len)) [ inl hi ↦ own x q (omega (arith, lo)) hi o | inr after ↦ beside x q (inr (omega (arith, after))) o ]
     ];
     bytes = λ none y h live on.
-        let parts = or_false was.points (len == 0) (sym put.points ∙ none) in
+        let parts = or_parts was.points (len == 0) (sym put.points ∙ none) in
         elim (Contains-push_cases old p y h) [
           | inl w ↦ C.bytes parts.0 y w live on
           | inr e ↦ subst (λ z. 1 ≤ len_of z.kind) e (let f = eqb-false len 0 parts.1 in positive len f)
         ];
   }
     where
-      or_false : (a c : Bool) → (a || c) ≡ false → (a ≡ false) × (c ≡ false)
-      or_false true c e = cc
-      or_false false c e = (refl, e)
-
       positive : (k : ℕ) → k ≢ 0 → 1 ≤ k
       positive zero e = absurd (e refl)
       positive (suc k) e = omega arith
@@ -321,9 +314,6 @@ module _ (old : List Patch) (n b at len : ℕ) (grade : Grade) (names row : List
     long = length-set covers b cover ∙ A.long;
     each = λ c e within. elim (cases_eq c b) [
       | inl here ↦ subst (IsCovered new c) (sym (get_or-set_at covers b c cover e here (let l = A.long in omega (arith, inside, l)))) (subst (λ k. IsCovered new k cover) (sym here) own_cover)
-      | inr away ↦ subst (IsCovered new c) (sym (get_or-set_other covers b c cover e away)) (covered_beside old p c (λ on. away (sym (some_same b c on))) (get_or covers c e) (A.each c e within))
+      | inr away ↦ subst (IsCovered new c) (sym (get_or-set_other covers b c cover e away)) (covered_beside old p c (λ on. away (sym (some_injective b c on))) (get_or covers c e) (A.each c e within))
     ];
   }
-    where
-      some_same : (x y : ℕ) → Some x ≡ Some y → x ≡ y
-      some_same x y e = cc

@@ -4,6 +4,7 @@ use Rattle.std.specs.List.Retain.{IsFiltered, ReturnsInTurn}
 use Rattle.fst_heads.proofs.Patches.{Place, Patch, IsLiveNumber, is_at, is_live, In, In-from_Contains, Contains-from_In, filter_in, sparse_dropped}
 use Rattle.fst_heads.proofs.Patches.place
 use Rattle.fst_heads.proofs.Words.{Head, is_live_place, is_live_in, Keeps, nodes_of}
+pub use Rattle.std.proofs.lemmas.Bool.{and_parts}
 
 place_same : (p : Place) → is_live_place p ≡ not (is_at p place.Disk)
 place_same place.Memory = refl
@@ -24,10 +25,6 @@ live_place_of p n = refl
 pub not_disk : (p : Place) → not (is_at p place.Disk) ≡ true → p ≡ place.Disk → ⊥
 not_disk place.Memory e d = cc
 not_disk p e d = cc
-
-pub and_parts : (a b : Bool) → (a && b) ≡ true → (a ≡ true) × (b ≡ true)
-and_parts true b e = (refl, e)
-and_parts false b e = absurd (false≢true e)
 
 pub live_in : (heads : List Patch) (n : ℕ) → is_live_in heads n ≡ true → IsLiveNumber heads n
 live_in [] n e = absurd (false≢true e)

@@ -1,5 +1,5 @@
 -- What the walks over a row show, and the grade that follows.
-use Rattle.fst_heads.proofs.Basics.{◌≡◌, ◌≢◌, ◌&&◌, ℕ, ◌+◌, ◌≤◌, eqb, Bool, true, List, [], ◌∷◌, ◌++◌, Contains, Some, None, refl, sym, ap, subst, ◌∙◌, inl, inr, arith, eqb-true, eqb-false, eq-eqb, ne_eqb, false≢true, not-true, Contains-append_left, Contains-push, Contains-push_cases}
+use Rattle.fst_heads.proofs.Basics.{◌≡◌, ◌≢◌, ℕ, ◌+◌, ◌≤◌, eqb, true, List, [], ◌∷◌, ◌++◌, Contains, Some, None, refl, sym, ap, subst, ◌∙◌, inl, inr, arith, eqb-true, eqb-false, eq-eqb, ne_eqb, false≢true, not-true, Contains-append_left, Contains-push, Contains-push_cases, and_parts}
 use Rattle.fst_types.specs.declared.grade.Grade.TheVariants as grade
 use Rattle.fst_types.specs.Closure.{one, join}
 use Rattle.fst_heads.proofs.Patches.{Place, Grade, Kind, Change, OpenGate, Patch, block_of_kind, DirectlyOn, DependsOn, IsOpenNumber, IsGradedHard, FollowsRule, fresh, first_step, IsWithin, old_head, target_small, depends_old, needs_old}
@@ -7,6 +7,7 @@ use Rattle.fst_heads.proofs.Patches.place
 use Rattle.fst_heads.proofs.Words.{PassesAt, kind_passes, HasUnder, IsReturning, IsLeading, MayBeHard}
 use Rattle.fst_heads.specs.declared.test.Test.TheVariants as test
 use Rattle.fst_heads.proofs.Slots.{live_place, place_live}
+use Rattle.fst_heads.proofs.Leading.{some_injective}
 
 -- open gates
 open_from : (n : ℕ) (k : Kind) (p : Place) → kind_passes test.Open n k p ≡ true → k ≡ OpenGate
@@ -23,19 +24,8 @@ passes_open patches n p = record { patch = p.patch; head = p.head; numbered = p.
 pub open_passes : (patches : List Patch) (n : ℕ) → IsOpenNumber patches n → PassesAt test.Open patches n
 open_passes patches n o = record { patch = o.patch; head = o.head; numbered = o.numbered; passed = open_to o.patch.number o.patch.kind o.patch.place o.is_open }
 
--- live changes of a block, and of others
-both : (x y : Bool) → (x && y) ≡ true → (x ≡ true) × (y ≡ true)
-both true true e = (refl, refl)
-both x y e = absurd (false≢true e)
-
-whole : (x y : Bool) → x ≡ true → y ≡ true → (x && y) ≡ true
-whole x y e f = rw (e, f) refl
-
-some_injective : (a b : ℕ) → Some a ≡ Some b → a ≡ b
-some_injective a b e = cc
-
 pub on_from : (b n : ℕ) (k : Kind) (p : Place) → kind_passes (test.LiveOn b) n k p ≡ true → (p ≡ place.Disk → ⊥) × (block_of_kind k ≡ Some b)
-on_from b n (Change on at len grade) p e = let k = both _ _ e in (live_place p k.0, ap Some (eqb-true on b k.1))
+on_from b n (Change on at len grade) p e = let k = and_parts _ _ e in (live_place p k.0, ap Some (eqb-true on b k.1))
 on_from b n k p e = absurd (false≢true e)
 
 pub on_to : (b n : ℕ) (k : Kind) (p : Place) → (p ≡ place.Disk → ⊥) → block_of_kind k ≡ Some b → kind_passes (test.LiveOn b) n k p ≡ true
@@ -43,7 +33,7 @@ on_to b n (Change on at len grade) p live e = rw (place_live p live, eq-eqb on b
 on_to b n k p live e = cc
 
 pub off_from : (b n : ℕ) (k : Kind) (p : Place) → kind_passes (test.LiveOff b) n k p ≡ true → (p ≡ place.Disk → ⊥) × (c : ℕ) × (block_of_kind k ≡ Some c) × (c ≢ b)
-off_from b n (Change on at len grade) p e = let k = both _ _ e in (live_place p k.0, on, refl, eqb-false on b (not-true (eqb on b) k.1))
+off_from b n (Change on at len grade) p e = let k = and_parts _ _ e in (live_place p k.0, on, refl, eqb-false on b (not-true (eqb on b) k.1))
 off_from b n k p e = absurd (false≢true e)
 
 pub off_to : (b n c : ℕ) (k : Kind) (p : Place) → (p ≡ place.Disk → ⊥) → block_of_kind k ≡ Some c → c ≢ b → kind_passes (test.LiveOff b) n k p ≡ true

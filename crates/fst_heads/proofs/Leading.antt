@@ -1,11 +1,11 @@
 -- Marks by blocks that are reached, and how blocks come to be reached.
-use Rattle.fst_heads.proofs.Basics.{◌≡◌, ◌⊎◌, ◌&&◌, ℕ, ◌+◌, ◌<◌, cond, not, Bool, true, false, List, length, get_or, set, Contains, Some, MatchBool, refl, sym, ap, subst, ◌∙◌, inl, inr, arith, get_or-set_same, get_or-set_other, cases_Bool, cases_eq, false≢true, sum_by-set}
+use Rattle.fst_heads.proofs.Basics.{◌≡◌, ◌⊎◌, ℕ, ◌+◌, ◌<◌, cond, not, Bool, true, false, List, length, get_or, set, Contains, Some, MatchBool, refl, sym, ap, subst, ◌∙◌, inl, inr, arith, get_or-set_same, get_or-set_other, cases_Bool, cases_eq, sum_by-set}
 use Rattle.fst_heads.proofs.Patches.{Patch, IsOn}
 use Rattle.fst_heads.proofs.Words.{Head, IsRising, patch_of, patches_of, HasSlot, Has}
 use Rattle.fst_heads.specs.Reaching.{IsReached, unreached, IsHardIn}
 use Rattle.fst_heads.proofs.Slots.{any_default, some_element, slot_in, patch_slot, patch_is}
 
-some_injective : (a b : ℕ) → Some a ≡ Some b → a ≡ b
+pub some_injective : (a b : ℕ) → Some a ≡ Some b → a ≡ b
 some_injective a b e = cc
 
 -- a patch is a change of one block
@@ -18,10 +18,6 @@ same_patch heads p q rising a b e =
     let s = slot_in heads p a in
     let d = some_element heads s.0 s.1 in
     sym (s.2 d) ∙ patch_is heads q s.0 d rising b (subst (λ n. HasSlot heads n s.0) e (patch_slot heads p s.0 s.1 s.2))
-
-both : (x y : Bool) → (x && y) ≡ true → (x ≡ true) × (y ≡ true)
-both true true e = (refl, refl)
-both x y e = absurd (false≢true e)
 
 -- one more block is shown
 pub reached_more : (reached : List Bool) (b c : ℕ) → b < length reached → IsReached reached c → IsReached (set reached b true) c

@@ -1,5 +1,5 @@
 -- Loops along a row that change the head of each of its numbers.
-use Rattle.fst_heads.proofs.Basics.{◌≡◌, ◌≢◌, ◌⊎◌, ◌||◌, ℕ, zero, suc, ◌+◌, ◌<◌, ◌≤◌, Bool, true, false, List, [], ◌∷◌, ◌++◌, take, length, map, get_or, set, Contains, if◌then◌else◌, refl, sym, ap, subst, ◌∙◌, inl, inr, arith, get_or-set_same, get_or-set_other, IsStrictlyIncreasing}
+use Rattle.fst_heads.proofs.Basics.{◌≡◌, ◌≢◌, ◌⊎◌, ℕ, zero, suc, ◌+◌, ◌<◌, ◌≤◌, Bool, true, false, List, [], ◌∷◌, ◌++◌, take, length, map, get_or, set, Contains, if◌then◌else◌, refl, sym, ap, subst, ◌∙◌, inl, inr, arith, get_or-set_same, get_or-set_other, IsStrictlyIncreasing, or-true}
 use Rattle.fst_heads.proofs.Basics.{length-set, cases_eq, eq-eqb, ne_eqb, length-map, take_more, Contains-get_or, AllPairs-from_increasing, HasRoomFor}
 use Rattle.fst_heads.proofs.Patches.{is_among, In}
 use Rattle.fst_heads.proofs.Words.{Head, IsRising, HasSlot, HasNone, Node, node_of, nodes_of, at_number, linked_to, HasRoomAbove}
@@ -111,17 +111,13 @@ room_left heads row i s y once lt number room h k c le inside e =
 pub room_fewer : (heads : List Head) (row : List ℕ) (i : ℕ) → HasRoomFrom heads row i → HasRoomFrom heads row (i + 1)
 room_fewer heads row i room h k c le inside e = room h k c (omega (arith, le)) inside e
 
-or_true : (b : Bool) → (b || true) ≡ true
-or_true true = refl
-or_true false = refl
-
 pub among_push_other : (row : List ℕ) (r m : ℕ) → r ≢ m → is_among (row ++ r ∷ []) m ≡ is_among row m
 among_push_other [] r m ne = rw (ne_eqb r m ne) refl
 among_push_other (y ∷ ys) r m ne = rw (among_push_other ys r m ne) refl
 
 pub among_push_same : (row : List ℕ) (r : ℕ) → is_among (row ++ r ∷ []) r ≡ true
 among_push_same [] r = rw (eq-eqb r r refl) refl
-among_push_same (y ∷ ys) r = rw (among_push_same ys r) (or_true _)
+among_push_same (y ∷ ys) r = rw (among_push_same ys r) (or-true _)
 
 pub none_among : (xs : List ℕ) (m : ℕ) → ((x : ℕ) → In xs x → x ≢ m) → is_among xs m ≡ false
 none_among [] m none = refl

@@ -1,5 +1,5 @@
 -- The walk along the list of a block that lands what is in flight.
-use Rattle.fst_heads.proofs.Basics.{◌≡◌, ◌≢◌, ◌==◌, ◌&&◌, ◌||◌, ℕ, zero, suc, ◌<◌, ◌≤◌, Bool, true, false, not, cond, List, [], ◌∷◌, ◌++◌, length, map, set, get_or, Contains, Some, refl, sym, ap, ◌∙◌, inl, inr, arith, list_any, and-false, cases_Bool, false≢true, eq-eqb, ne_eqb, set-get_or}
+use Rattle.fst_heads.proofs.Basics.{◌≡◌, ◌≢◌, ◌==◌, ◌&&◌, ℕ, zero, suc, ◌<◌, ◌≤◌, Bool, true, false, not, cond, List, [], ◌∷◌, ◌++◌, length, map, set, get_or, Contains, Some, refl, sym, ap, ◌∙◌, inl, inr, arith, list_any, and-false, cases_Bool, eq-eqb, ne_eqb, set-get_or, or_parts}
 use Rattle.fst_heads.proofs.Basics.{append_assoc, append-nil, length-append, length-map, get_or-map}
 use Rattle.fst_heads.proofs.Patches.{Place, Kind, Change, Patch, Rising, block_of_kind, is_at, is_on, is_change_at, landed, In, In-from_Contains, Contains-from_In}
 use Rattle.fst_heads.proofs.Patches.place
@@ -36,10 +36,6 @@ rising_patches heads rising i j p lt inside =
     let high = ap (λ p. p.number) (get_or-map patch_of heads j d p (omega (arith, inside, long))) in
     let r = rising i j d lt (omega (arith, inside, long)) in
     omega (arith, low, high, r)
-
-or_parts : (a t : Bool) → (a || t) ≡ false → (a ≡ false) × (t ≡ false)
-or_parts false t e = (refl, e)
-or_parts true t e = absurd (false≢true (sym e))
 
 no_more : (ns : List ℕ) → length ns ≤ 0 → ns ≡ []
 no_more [] few = refl

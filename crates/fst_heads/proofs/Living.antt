@@ -34,7 +34,7 @@ waiting_heard row old new nodes = waiting_kept (heard row old new) nodes told
 waiting_others : (q : ℕ) (nodes : List Node) → ((x : Node) → In nodes x → x.patch.number ≢ q) → count_by is_waiting (map (at_number q settles) nodes) ≡ count_by is_waiting nodes
 waiting_others q nodes others = count_map is_waiting is_waiting (at_number q settles) nodes (λ x i. ap is_waiting (at_other q settles x (others x i)))
 
-abbrev one_if : Bool → ℕ
+abbrev pub one_if : Bool → ℕ
 one_if t = cond t 1 0
 
 one_of : (t : Bool) → one_if (not t) + one_if t ≡ 1

@@ -1,17 +1,13 @@
 -- Marks by number, and lists parted by them.
-use Rattle.fst_heads.proofs.Basics.{◌≡◌, ℕ, zero, suc, ◌==◌, ◌&&◌, Bool, true, false, List, [], ◌∷◌, get_or, refl, sym, inl, inr, arith, cases_Bool, eqb-true, eq-eqb, false≢true, or_cases}
+use Rattle.fst_heads.proofs.Basics.{◌≡◌, ℕ, zero, suc, ◌==◌, ◌&&◌, Bool, true, false, List, [], ◌∷◌, get_or, refl, sym, inl, inr, arith, cases_Bool, eqb-true, eq-eqb, false≢true, or_cases, and_parts}
 use Rattle.fst_heads.proofs.Words.{Head, HasSlot, Has, mark_of}
-
-both : (x y : Bool) → (x && y) ≡ true → (x ≡ true) × (y ≡ true)
-both true y e = (refl, e)
-both false y e = absurd (false≢true e)
 
 -- the mark of a number tells whether a marked head has it
 pub mark_has : (heads : List Head) (marks : List Bool) (n : ℕ) → mark_of heads marks n ≡ true → Has heads marks n
 mark_has [] marks n e = absurd (false≢true e)
 mark_has (h ∷ hs) [] n e = absurd (false≢true e)
 mark_has (h ∷ hs) (m ∷ ms) n e = elim (or_cases ((h.number == n) && m) (mark_of hs ms n) e) [
-  | inl here ↦ let k = both (h.number == n) m here in record { slot = 0; at = (omega arith, λ d. eqb-true h.number n k.0); marked = k.1 }
+  | inl here ↦ let k = and_parts (h.number == n) m here in record { slot = 0; at = (omega arith, λ d. eqb-true h.number n k.0); marked = k.1 }
   | inr later ↦ let r = mark_has hs ms n later in record { slot = suc r.slot; at = (let lt = r.at.0 in omega (arith, lt), r.at.1); marked = r.marked }
 ]
 

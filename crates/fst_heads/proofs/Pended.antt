@@ -1,25 +1,12 @@
 -- What is pending of the patch with a number, and which patches are told.
-use Rattle.fst_heads.proofs.Basics.{◌≡◌, ℕ, true, List, Contains, refl, sym, ap, ◌∙◌, eq-eqb, eqb-true}
-use Rattle.fst_heads.proofs.Words.{Pending, Sums, Node, pending_in, AreSettled, is_pending, joined, joined_sums, of_kind, sums_of, now, is_told}
+use Rattle.fst_heads.proofs.Basics.{◌≡◌, ℕ, true, List, Contains, sym, ap, ◌∙◌}
+use Rattle.fst_heads.proofs.Words.{Pending, Sums, Node, pending_in, AreSettled, joined, joined_sums, of_kind, sums_of, now, is_told}
 use Rattle.fst_heads.proofs.Words.pending
 use Rattle.fst_heads.proofs.Sums.{joined_exact}
-
-pub same_pending : (p : Pending) → is_pending p p ≡ true
-same_pending (pending.Block b) = eq-eqb b b refl
-same_pending p = refl
-
-pub pending_same : (p q : Pending) → is_pending p q ≡ true → p ≡ q
-pending_same pending.Nothing pending.Nothing e = refl
-pending_same (pending.Block b) (pending.Block c) e = ap pending.Block (eqb-true b c e)
-pending_same pending.Apart pending.Apart e = refl
-pending_same pending.Held pending.Held e = refl
-pending_same p q e = cc
-
-pub told_from : (x : Node) → now x ≡ x.pending → is_told x ≡ true
-told_from x e = ap (λ p. is_pending p x.pending) e ∙ same_pending x.pending
+use Rattle.fst_heads.proofs.Turning.{same_pending}
 
 pub told_now : (x : Node) → is_told x ≡ true → now x ≡ x.pending
-told_now x e = pending_same (now x) x.pending e
+told_now x e = same_pending (now x) x.pending e
 
 -- by its exact sums what is pending of it now follows from its row
 pub now_row : (told : ℕ → Pending) (x : Node) → x.sums ≡ sums_of told x.patch.dependencies → now x ≡ of_kind x.patch.kind x.patch.place (joined told x.patch.dependencies)

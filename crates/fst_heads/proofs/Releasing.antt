@@ -1,25 +1,17 @@
 -- What becomes of the counts of each block where what is pending of one patch is settled.
-use Rattle.fst_heads.proofs.Basics.{◌≡◌, ◌≢◌, ℕ, ◌+◌, ◌<◌, ◌≤◌, ◌==◌, ◌&&◌, Bool, true, false, not, cond, List, length, count_by, set, get_or, Contains, refl, sym, ap, subst, ◌∙◌, inl, inr, arith, length-set, cases_Bool, cases_eq, eq-eqb, ne_eqb, false≢true, length-map, get_or-map}
+use Rattle.fst_heads.proofs.Basics.{◌≡◌, ◌≢◌, ℕ, ◌+◌, ◌<◌, ◌≤◌, ◌==◌, ◌&&◌, Bool, true, false, not, cond, List, length, count_by, set, get_or, refl, sym, ap, subst, ◌∙◌, inl, inr, arith, length-set, cases_Bool, cases_eq, eq-eqb, ne_eqb, false≢true, length-map, get_or-map, and-true, and-false}
 use Rattle.fst_heads.proofs.Basics.{map-set, sum_by-set, get_or-le-sum_by, count_by-le-length}
 use Rattle.fst_heads.proofs.Patches.{Grade, Change, is_at, is_on, is_change_at}
 use Rattle.fst_heads.proofs.Patches.place
 use Rattle.fst_heads.proofs.Words.{Head, kind_of, patch_of, Pending, Standing, Node, node_of, nodes_of, is_pending, over_block, of_kind, joined_sums, height, Sinks, now, is_told, settles, AllStand, is_ready_on, is_held_on, is_flying_on, standing_of, released, is_hard_kind}
 use Rattle.fst_heads.proofs.Words.pending
 use Rattle.fst_heads.proofs.CountsAs.{CountsAs, counts, standing_same, stand_set, off_as}
-
-abbrev one_if : Bool → ℕ
-one_if t = cond t 1 0
+use Rattle.fst_heads.proofs.Turning.{is_itself}
+use Rattle.fst_heads.proofs.Living.{one_if}
 
 -- the node of the head in a slot
 pub node_at : (heads : List Head) (s : ℕ) (h : Head) (d : Node) → s < length heads → h ≡ get_or heads s h → get_or (nodes_of heads) s d ≡ node_of h
 node_at heads s h d lt e = get_or-map node_of heads s h d lt ∙ ap node_of (sym e)
-
-pub node_there : (heads : List Head) (s : ℕ) (h : Head) → s < length heads → h ≡ get_or heads s h → Contains (nodes_of heads) (node_of h)
-node_there heads s h lt e = (s, omega (arith, lt, length-map heads node_of), node_at heads s h (node_of h) lt e)
-
-pending_self : (p : Pending) → is_pending p p ≡ true
-pending_self (pending.Block b) = eq-eqb b b refl
-pending_self p = refl
 
 -- of a change that is not on disk something is pending
 over_high : (b : ℕ) (below : Pending) → 1 ≤ height (over_block b below)
@@ -38,7 +30,7 @@ waited_for_more x b at len grade kind memory sinks untold =
     let own : now x ≡ over_block b (joined_sums x.sums) =
     ap (λ k. of_kind k x.patch.place (joined_sums x.sums)) kind ∙ ap (λ p. of_kind (Change b at len grade) p (joined_sums x.sums)) memory in
     high_apart x.pending b (elim sinks [
-      | inl same ↦ absurd (false≢true (sym untold ∙ (ap (λ p. is_pending p x.pending) same ∙ pending_self x.pending)))
+      | inl same ↦ absurd (false≢true (sym untold ∙ (ap (λ p. is_pending p x.pending) same ∙ is_itself x.pending)))
       | inr lower ↦ let some = over_high b (joined_sums x.sums) in let level = ap height own in omega (arith, lower, some, level)
     ])
 
@@ -79,11 +71,7 @@ module _ (nodes : List Node) (s : ℕ) (x : Node) (lt : s < length nodes) (e : g
     pub was_held : is_held_on b x ≡ is_hard_kind x.patch.kind
     was_held =
         ap (λ t. (t && is_hard_kind x.patch.kind) && not (is_pending x.pending (pending.Block b))) here
-        ∙ (ap (λ t. is_hard_kind x.patch.kind && not t) (waited_for_more x b at len grade kind memory sinks untold) ∙ and_on (is_hard_kind x.patch.kind))
-      where
-        and_on : (t : Bool) → (t && true) ≡ t
-        and_on true = refl
-        and_on false = refl
+        ∙ (ap (λ t. is_hard_kind x.patch.kind && not t) (waited_for_more x b at len grade kind memory sinks untold) ∙ and-true (is_hard_kind x.patch.kind))
 
     off : (c : ℕ) → c ≢ b → is_on c x.patch.kind ≡ false
     off c ne = ap (is_on c) kind ∙ ne_eqb b c (λ same. ne (sym same))
@@ -105,11 +93,7 @@ module _ (nodes : List Node) (s : ℕ) (x : Node) (lt : s < length nodes) (e : g
       ready_then = ap (λ t. t && is_pending (now x) (pending.Block b)) here ∙ block_again
 
       held_no_more : is_held_on b (settles x) ≡ false
-      held_no_more = ap (λ t. (is_change_at place.Memory b x.patch && is_hard_kind x.patch.kind) && not t) block_again ∙ none (is_change_at place.Memory b x.patch && is_hard_kind x.patch.kind)
-        where
-          none : (t : Bool) → (t && false) ≡ false
-          none true = refl
-          none false = refl
+      held_no_more = ap (λ t. (is_change_at place.Memory b x.patch && is_hard_kind x.patch.kind) && not t) block_again ∙ and-false (is_change_at place.Memory b x.patch && is_hard_kind x.patch.kind)
 
       -- one more can be ready
       pub ready_few : count_by (is_ready_on b) nodes < length nodes

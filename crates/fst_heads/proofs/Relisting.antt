@@ -1,11 +1,10 @@
 -- The lists of the blocks after a landing.
-use Rattle.fst_heads.proofs.Basics.{◌≡◌, ◌≢◌, ◌&&◌, ℕ, ◌<◌, Bool, true, false, not, cond, List, [], ◌∷◌, ◌+◌, map, filter, set, get_or, Contains, refl, sym, ap, subst, ◌∙◌, inl, inr, arith, get_or-set_same, get_or-set_other, length-set, AllPairs, IsStrictlyIncreasing, AllPairs-filter}
+use Rattle.fst_heads.proofs.Basics.{◌≡◌, ◌≢◌, ◌&&◌, ℕ, ◌<◌, Bool, true, false, not, cond, List, [], ◌∷◌, ◌+◌, map, filter, set, get_or, Contains, refl, sym, ap, subst, ◌∙◌, inl, inr, arith, get_or-set_same, get_or-set_other, length-set, AllPairs, IsStrictlyIncreasing, AllPairs-filter, and_parts}
 use Rattle.fst_heads.proofs.Basics.{and-false, cases_Bool, cases_eq, eqb-true, false≢true, ne_eqb, length-map, get_or-map}
 use Rattle.fst_heads.proofs.Patches.{Kind, Change, Patch, Rising, is_among, is_at, is_on, is_live, is_change_at, landed, In, In-from_Contains, Contains-from_In, In-map, same_number, filter_in, in_filter, among_in, in_among}
 use Rattle.fst_heads.proofs.Patches.place
 use Rattle.fst_heads.proofs.Words.{Listed, Entry, entry, entries_of, is_live_on, entries_on, flying_on, AreListed}
 use Rattle.fst_heads.proofs.Placed.{unmapped}
-use Rattle.fst_heads.proofs.Forgetting.{and_parts}
 use Rattle.fst_heads.proofs.Listing.{still}
 
 -- entries go as what they stand for

@@ -1,11 +1,11 @@
 -- Rising rows, and names as calls give them.
-use Rattle.fst_heads.proofs.Basics.{◌≡◌, ℕ, zero, suc, ◌+◌, ◌-◌, ◌<◌, ◌≤◌, List, [], ◌∷◌, length, get_or, Contains, Result, Ok, Err, is_ok, refl, sym, ap, subst, ◌∙◌, inl, inr, arith, insert, IsStrictlyIncreasing, IsBinarySearchResult, IsNonDecreasingBy, nat_cmp, ordering_index, nat_tests}
+use Rattle.fst_heads.proofs.Basics.{◌≡◌, ℕ, suc, ◌+◌, ◌-◌, ◌<◌, ◌≤◌, List, [], ◌∷◌, length, get_or, Contains, Result, Ok, Err, is_ok, refl, sym, ap, subst, ◌∙◌, inl, inr, arith, insert, IsStrictlyIncreasing, IsBinarySearchResult, IsNonDecreasingBy, nat_cmp, ordering_index, nat_tests}
 use Rattle.fst_heads.proofs.Basics.{length-map, get_or-map, cases_Bool, cases_lt, cases_eq, AllPairs-from_increasing, searched, IsNonDecreasingBy-from_default, IsPermutation-insert, IsPermutation-sym, Contains-permutation, length-insert, get_or-insert_below, get_or-insert_at}
 use Rattle.fst_heads.proofs.Basics.{get_or-insert_above}
 use Rattle.fst_types.specs.Order.{NamesUnknown}
 use Rattle.fst_heads.proofs.Patches.{is_among, among_in, in_among, PatchNo, Lists, IsGiven, In, In-get_or, In-from_Contains, Contains-from_In, In-map}
 use Rattle.fst_heads.proofs.Words.{numbers_of, Gains}
-use Rattle.fst_heads.proofs.Slots.{any_default}
+use Rattle.fst_heads.proofs.Slots.{any_default, some_element}
 
 module _ (xs : List ℕ) (rising : IsStrictlyIncreasing xs) where
   pub ordered : (i j : ℕ) → i < j → j < length xs → get_or xs i 0 < get_or xs j 0
@@ -93,12 +93,8 @@ AreGiven numbers names i = (k : ℕ) (d : PatchNo) → k < i → IsGiven numbers
 pub none_unknown : (numbers : ℕ) (names : List PatchNo) (i : ℕ) → length names ≤ i → AreGiven numbers names i → NamesUnknown numbers (numbers_of names) → ⊥
 none_unknown numbers names i past all u =
     let k = name_of names u.0 u.1 in
-    let d = some names k.0 k.1 in
+    let d = some_element names k.0 k.1 in
     u.2 (subst (IsGiven numbers) (k.2 d) (all k.0 d (omega (arith, k.1, past))))
-  where
-    some : (xs : List PatchNo) (k : ℕ) → k < length xs → PatchNo
-    some [] k h = absurd (omega (arith, h))
-    some (y ∷ ys) k h = y
 
 -- the names with P, as far as they were looked at
 pub record Gathers (P : ℕ → Type 0) (names : List PatchNo) (i : ℕ) (row : List ℕ) : Type 0 where
@@ -108,12 +104,7 @@ pub record Gathers (P : ℕ → Type 0) (names : List PatchNo) (i : ℕ) (row : 
 
 module _ (P : ℕ → Type 0) (names : List PatchNo) (i : ℕ) (row : List ℕ) (e : PatchNo) (lt : i < length names) (x : Gathers P names i row) where
   here : (k : ℕ) (d : PatchNo) → (k < i → ⊥) → k < i + 1 → get_or names i e ≡ get_or names k d
-  here k d past up = let same : i ≡ k = omega (arith, up, past) in subst (λ j. get_or names i e ≡ get_or names j d) same (go names i lt)
-    where
-      go : (xs : List PatchNo) (j : ℕ) → j < length xs → get_or xs j e ≡ get_or xs j d
-      go [] j h = absurd (omega (arith, h))
-      go (y ∷ ys) zero h = refl
-      go (y ∷ ys) (suc j) h = go ys j (omega (arith, h))
+  here k d past up = let same : i ≡ k = omega (arith, up, past) in subst (λ j. get_or names i e ≡ get_or names j d) same (any_default names i e d lt)
 
   pub gathers_more : (new : List ℕ) → P (get_or names i e).0 → Gains row (get_or names i e).0 new → Gathers P names (i + 1) new
   gathers_more new p g = record {
@@ -141,13 +132,9 @@ gathers_all P names i row past x = record {
   only = x.only;
   each = λ n p.
       let k = name_of names n p.1 in
-      let d = some names k.0 k.1 in
+      let d = some_element names k.0 k.1 in
       subst (Contains row) (k.2 d) (x.each k.0 d (omega (arith, k.1, past)) k.1 (subst P (sym (k.2 d)) p.0));
 }
-  where
-    some : (xs : List PatchNo) (k : ℕ) → k < length xs → PatchNo
-    some [] k h = absurd (omega (arith, h))
-    some (y ∷ ys) k h = y
 
 -- whether a number is among names that rise
 module _ (names : List PatchNo) (rising : IsStrictlyIncreasing (numbers_of names)) (n : ℕ) where

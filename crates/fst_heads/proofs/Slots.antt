@@ -5,12 +5,7 @@ use Rattle.std.proofs.lemmas.Cmp.{ranked}
 use Rattle.fst_heads.proofs.Patches.{Patch, Rising, DirectlyOn, IsLiveNumber, Place, In, In-from_Contains, Contains-from_In, In-map}
 use Rattle.fst_heads.proofs.Patches.place
 use Rattle.fst_heads.proofs.Words.{is_live_place, Head, IsRising, patch_of, patches_of, HasSlot, HasNone, Has}
-
--- within a list the default does not matter
-pub any_default : {X : Type 0} (xs : List X) (i : ℕ) (d e : X) → i < length xs → get_or xs i d ≡ get_or xs i e
-any_default [] i d e h = absurd (omega (arith, h))
-any_default (y ∷ ys) zero d e h = refl
-any_default (y ∷ ys) (suc i) d e h = any_default ys i d e (omega (arith, h))
+pub use Rattle.std.proofs.lemmas.List.{get_or_default as any_default}
 
 -- an element to stand for the default
 pub some_element : {X : Type 0} (xs : List X) (k : ℕ) → k < length xs → X

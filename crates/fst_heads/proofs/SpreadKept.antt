@@ -1,8 +1,8 @@
 -- What a spread keeps of nodes: all but sums, what is pending, and the places of empty patches and sealed gates.
-use Rattle.fst_heads.proofs.Basics.{◌≡◌, ◌&&◌, ℕ, true, false, not, List, [], ◌∷◌, map, AllPairs, Contains, ◌≢◌, refl, sym, ap, subst, ◌∙◌, inl, inr, cases_Bool, and_right}
+use Rattle.fst_heads.proofs.Basics.{◌≡◌, ◌&&◌, ℕ, true, false, not, List, [], ◌∷◌, map, Contains, refl, sym, ap, subst, ◌∙◌, inl, inr, cases_Bool, and_right}
 use Rattle.fst_heads.proofs.Patches.{Place, Kind, Empty, SealedGate, Patch, Follows, unsettled, is_at, is_on, Settled, AllSettled, more, all_settled, In-from_Contains, Contains-from_In, In-map, In, In-unmap}
 use Rattle.fst_heads.proofs.Patches.place
-use Rattle.fst_heads.proofs.Words.{entry, is_live_on, entries_on, Node, patches_in, AreDistinct, IsSpreadOf, unspread}
+use Rattle.fst_heads.proofs.Words.{entry, is_live_on, entries_on, Node, patches_in, IsSpreadOf, unspread}
 use Rattle.fst_heads.proofs.Placed.{KeepLinks}
 
 settled_one : (o p : Patch) → AllSettled (o ∷ []) (p ∷ []) → Settled o p
@@ -23,12 +23,6 @@ links_spread old new spread x c =
     let r = spread_back old new spread x c in
     let s = settled_node r.0 x r.2 in
     (r.0, r.1, record { number = s.number; dependencies = s.dependencies; dependants = ap (λ (y : Node). y.dependants) r.2 })
-
-pub distinct_kept : (old new : List Node) → KeepLinks old new → AreDistinct old → AreDistinct new
-distinct_kept old new kept D y c =
-    let k = kept y c in
-    let d = D k.0 k.1 in
-    (subst (λ row. AllPairs (λ m n. m ≢ n) row) (sym k.2.dependencies) d.0, subst (λ row. AllPairs (λ m n. m ≢ n) row) (sym k.2.dependants) d.1)
 
 pub unsettled_spread : (old new : List Node) → IsSpreadOf old new → map unsettled (patches_in new) ≡ map unsettled (patches_in old)
 unsettled_spread old new spread = sym (go new) ∙ (ap (map (λ (x : Node). x.patch)) spread ∙ go old)

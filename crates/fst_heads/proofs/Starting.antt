@@ -1,15 +1,14 @@
 -- How a spread begins, and what it leaves.
-use Rattle.fst_heads.proofs.Basics.{◌≡◌, ◌≢◌, ◌⊎◌, ◌↔◌, ◌==◌, ◌&&◌, ◌<◌, ℕ, Bool, true, false, not, cond, List, [], ◌∷◌, Some, length, map, filter, AllPairs, Contains, refl, sym, ap, subst, ◌∙◌, inl, inr, arith, list_any, cases_Bool, cases_eq, eq-eqb, ne_eqb, eqb-true, both_ways}
+use Rattle.fst_heads.proofs.Basics.{◌≡◌, ◌≢◌, ◌⊎◌, ◌↔◌, ◌==◌, ◌&&◌, ◌<◌, ℕ, Bool, true, false, not, cond, List, [], ◌∷◌, Some, length, map, filter, AllPairs, Contains, refl, sym, ap, subst, ◌∙◌, inl, inr, arith, list_any, cases_Bool, cases_eq, eq-eqb, ne_eqb, eqb-true, both_ways, not-true, and_parts}
 use Rattle.fst_heads.proofs.Basics.{length-map, get_or-map, AllPairs-filter}
 use Rattle.fst_types.proofs.Landing.{landed_cases, change_at, at_change}
 use Rattle.fst_heads.proofs.Patches.{Place, IsCascadeOf, Follows, RestsOnDisk, unsettled, IsOnDisk, SparseAreLawful, IsOpenNumber, sealed, Kind, Change, Empty, OpenGate, SealedGate, Patch, block_of_kind, is_change_at, landed, no_follower_on, same_number, filter_in, in_filter, In}
 use Rattle.fst_heads.proofs.Patches.{In-from_Contains, Contains-from_In, In-map, In-unmap}
 use Rattle.fst_heads.proofs.Patches.place
-use Rattle.fst_heads.proofs.Words.{Pending, Sums, IsInside, flying_on, Node, patches_in, pending_in, at_number, AreSettled, is_pending, joined, joined_sums, of_kind, Spreading, IsSpreadOf, now, is_told, seals, lands, wakes_sealed}
+use Rattle.fst_heads.proofs.Words.{Pending, IsInside, flying_on, Node, patches_in, pending_in, at_number, AreSettled, is_pending, joined, joined_sums, of_kind, Spreading, IsSpreadOf, now, is_told, seals, lands, wakes_sealed}
 use Rattle.fst_heads.proofs.Words.pending
 use Rattle.fst_heads.proofs.AtNumber.{at_same, at_other}
 use Rattle.fst_heads.proofs.Begins.{Begins, Sound, sound_at_rest, stays_told, begun}
-use Rattle.fst_heads.proofs.Forgetting.{and_parts}
 use Rattle.fst_heads.proofs.Joining.{held_sinks, sinks_to_nothing}
 use Rattle.fst_heads.proofs.Pended.{now_row, told_now}
 use Rattle.fst_heads.proofs.PendingIn.{found}
@@ -18,6 +17,7 @@ use Rattle.fst_heads.proofs.Placed.{SameLinks, patch_in, node_of_patch, number_i
 use Rattle.fst_heads.proofs.Slots.{some_element}
 use Rattle.fst_heads.proofs.SpreadKept.{unsettled_spread}
 use Rattle.fst_heads.proofs.Sums.{joined_nothing, joined_all_nothing}
+use Rattle.fst_heads.proofs.Turning.{counted_nothing, nothing_counted}
 
 -- what passes a test among the elements
 any_found : {X : Type 0} (t : X → Bool) (xs : List X) → list_any t xs ≡ true → (x : X) × In xs x × (t x ≡ true)
@@ -31,19 +31,6 @@ any_fails : {X : Type 0} (t : X → Bool) (xs : List X) (x : X) → In xs x → 
 any_fails t [] x h e = absurd h
 any_fails t (y ∷ ys) x (inl s) e = rw (subst (λ z. t z ≡ true) (sym s) e) refl
 any_fails t (y ∷ ys) x (inr h) e = elim (cases_Bool (t y)) [ inl yes_y ↦ rw yes_y refl | inr no_y ↦ rw no_y (any_fails t ys x h e) ]
-
--- a row has nothing pending exactly where it has none that is not on disk
-none_left : (s : Sums) → s.count ≡ 0 → joined_sums s ≡ pending.Nothing
-none_left s e = rw (eq-eqb s.count 0 e) refl
-
-some_left : (s : Sums) → s.count ≢ 0 → joined_sums s ≢ pending.Nothing
-some_left s ne e = go (s.count == 0) _ _ _ (ne_eqb s.count 0 ne) e
-  where
-    go : (t u v : Bool) (b : ℕ) → t ≡ false → cond t pending.Nothing (cond u (cond v (pending.Block b) pending.Apart) pending.Held) ≡ pending.Nothing → ⊥
-    go true u v b f e = cc
-    go false true true b f e = cc
-    go false true false b f e = cc
-    go false false v b f e = cc
 
 -- a sealed gate is on disk where its row has none that is not there
 pub sealed_cases : (x : Node) → ((x.sums.count ≡ 0) × (seals x ≡ record x { patch = record x.patch { kind = SealedGate; place = place.Disk } })) ⊎ ((x.sums.count ≢ 0) × (seals x ≡ record x { patch = record x.patch { kind = SealedGate } }))
@@ -73,10 +60,6 @@ seal_same g x = elim (cases_eq x.patch.number g) [
   | inr ne ↦ subst (SameBut x) (sym (at_other g seals x ne)) (same_but x)
 ]
 
-not_true : (b : Bool) → not b ≡ true → b ≡ false
-not_true true e = cc
-not_true false e = refl
-
 and_both : (a b : Bool) → a ≡ true → b ≡ false → (a && not b) ≡ true
 and_both a b e f = rw (e, f) refl
 
@@ -99,13 +82,13 @@ module _ (nodes : List Node) (numbers blocks g : ℕ) (H : SparseAreLawful (patc
   seals_sound x c is_open memory = elim (sealed_cases x) [
     | inl e ↦ subst (λ y. Sound y blocks) (sym e.1) (record {
       sinks = rw (open_held x c is_open) (held_sinks (now (record x { patch = record x.patch { kind = SealedGate; place = place.Disk } })));
-      placed = (λ n. refl, λ d. none_left x.sums e.0);
+      placed = (λ n. refl, λ d. counted_nothing x.sums e.0);
       follow = λ f. inr refl;
       changes = λ b at len grade k. absurd (cc);
     })
     | inr e ↦ subst (λ y. Sound y blocks) (sym e.1) (record {
       sinks = rw (open_held x c is_open) (held_sinks (now (record x { patch = record x.patch { kind = SealedGate } })));
-      placed = (λ n. absurd (some_left x.sums e.0 n), λ d. absurd (cc));
+      placed = (λ n. absurd (e.0 (nothing_counted x.sums n)), λ d. absurd (cc));
       follow = λ f. inl memory;
       changes = λ b at len grade k. absurd (cc);
     })
@@ -120,7 +103,7 @@ module _ (nodes : List Node) (numbers blocks g : ℕ) (H : SparseAreLawful (patc
         | inl e ↦
             let r = any_found t nodes e in
             let both = and_parts (r.0.patch.number == g) (not (is_told (seals r.0))) r.2 in
-            inl (r.0, Contains-from_In nodes r.0 r.1, eqb-true r.0.patch.number g both.0, not_true (is_told (seals r.0)) both.1, ap (λ b. cond b (g ∷ []) []) e)
+            inl (r.0, Contains-from_In nodes r.0 r.1, eqb-true r.0.patch.number g both.0, not-true (is_told (seals r.0)) both.1, ap (λ b. cond b (g ∷ []) []) e)
         | inr e ↦ inr (
           λ x c n untold.
               let found = any_fails t nodes x (In-from_Contains nodes x c) (and_both (x.patch.number == g) (is_told (seals x)) (eq-eqb x.patch.number g n) untold) in

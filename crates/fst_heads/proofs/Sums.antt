@@ -1,18 +1,16 @@
 -- What a row adds up to, and what is pending of it.
 use Rattle.fst_heads.proofs.Basics.{◌≡◌, ◌≢◌, ◌⊎◌, ◌≤◌, ◌==◌, ℕ, suc, ◌+◌, ◌*◌, ◌/◌, true, false, not, cond, List, [], ◌∷◌, ◌++◌, length, count_by, Contains, AllPairs, refl, sym, ap, subst, ◌∙◌, inl, inr, arith, and_from, and_parts, eqb-true, eq-eqb, ne_eqb, false_from_ne_true}
 use Rattle.fst_heads.proofs.Basics.{sum_by-cons, mul-div_cancel}
-use Rattle.fst_heads.proofs.Patches.{Place, Kind, In, In-from_Contains, Contains-from_In}
-use Rattle.fst_heads.proofs.Words.{Pending, Sums, join, joined, joined_sums, is_even, is_pending, of_kind, Sinks, Fits, HasIn, plus, minus, sums_of, together, max_block}
+use Rattle.fst_heads.proofs.Patches.{In, In-from_Contains, Contains-from_In}
+use Rattle.fst_heads.proofs.Words.{Pending, Sums, join, joined, joined_sums, is_even, is_pending, Sinks, Fits, HasIn, plus, minus, sums_of, together, max_block}
 use Rattle.fst_heads.proofs.Words.pending
 use Rattle.fst_heads.proofs.Squares.{gap_none}
-use Rattle.fst_heads.proofs.Joining.{Within, Even, Tells, tells_nothing, tells_plus, join_nothing, join_block, join_parts, join_from, join_sinks, sinks_of_kind, sinks_trans, fits_plus, few_plus, nothing_together, plus_together, plus_swap, minus_plus}
+use Rattle.fst_heads.proofs.Joining.{Within, Even, Tells, tells_nothing, tells_plus, join_nothing, join_block, join_parts, join_from, join_sinks, fits_plus, few_plus, nothing_together, plus_together, plus_swap, minus_plus}
+use Rattle.fst_heads.proofs.Turning.{counted_nothing}
 
 tells : (told : ℕ → Pending) (row : List ℕ) → Tells (sums_of told row) (joined told row)
 tells told [] = tells_nothing
 tells told (n ∷ ns) = tells_plus (told n) (sums_of told ns) (joined told ns) (tells told ns)
-
-joined_none : (s : Sums) → s.count ≡ 0 → joined_sums s ≡ pending.Nothing
-joined_none s e = rw (eq-eqb s.count 0 e) refl
 
 joined_even : (s : Sums) → s.count ≢ 0 → s.held ≡ 0 → is_even s ≡ true → joined_sums s ≡ pending.Block (s.total / s.count)
 joined_even s ne free e = rw (ne_eqb s.count 0 ne, eq-eqb s.held 0 free, e) refl
@@ -42,7 +40,7 @@ uneven_test s told e =
     elim (off.same none) [ inl f ↦ cc | inr f ↦ cc ]
 
 exact : (s : Sums) (p : Pending) → Tells s p → joined_sums s ≡ p
-exact s pending.Nothing told = joined_none s (told.nothing refl)
+exact s pending.Nothing told = counted_nothing s (told.nothing refl)
 exact s (pending.Block b) told =
     let some : s.count ≢ 0 = λ e. let n = told.none e in cc in
     let even = told.even b (inr refl) in
@@ -195,9 +193,3 @@ sinks_in told other (n ∷ ns) each = join_sinks (told n) (joined told ns) (othe
 -- where each sinks, or stays, so does what is pending of the row, and of what has the row
 pub joined_sinks : (told other : ℕ → Pending) (row : List ℕ) → ((n : ℕ) → Contains row n → Sinks (told n) (other n)) → Sinks (joined told row) (joined other row)
 joined_sinks told other row each = sinks_in told other row (λ n i. each n (Contains-from_In row n i))
-
-pub kind_sinks : (k : Kind) (p : Place) (below other : Pending) → Sinks below other → Sinks (of_kind k p below) (of_kind k p other)
-kind_sinks k p below other s = sinks_of_kind k p below other s
-
-pub sinks_on : (a b c : Pending) → Sinks a b → Sinks b c → Sinks a c
-sinks_on a b c f g = sinks_trans a b c f g

@@ -7,9 +7,10 @@ use Rattle.fst_heads.proofs.Words.{Pending, Node, pending_in, at_number, AreLink
 use Rattle.fst_heads.proofs.Words.pending
 use Rattle.fst_heads.proofs.AtNumber.{at_same, at_other}
 use Rattle.fst_heads.proofs.Placed.{unmapped}
-use Rattle.fst_heads.proofs.Sums.{joined_exact, joined_some, joined_sinks, kind_sinks, sinks_on, sums_fit, sums_has, sums_moved, sums_same}
+use Rattle.fst_heads.proofs.Sums.{joined_exact, joined_some, joined_sinks, sums_fit, sums_has, sums_moved, sums_same}
 use Rattle.fst_heads.proofs.Turning.{Turns, turned, turns, untold, not_told, told_now, sinks_nothing, never_back, lower_sinks, block_of}
 use Rattle.fst_heads.proofs.Waiting.{mapped, map_twice, same_node, pending_of, pending_node, pending_mapped, rising_mapped, heights_lower, times_some, some_times, once_fits, once_append, once_front, once_last, set_number, set_sums, woken_from, woken_to}
+use Rattle.fst_heads.proofs.Joining.{sinks_of_kind, sinks_trans}
 
 -- blocks that are pending fit
 narrow_in : (nodes : List Node) (blocks : ℕ) (queue : List ℕ) → blocks ≤ max_block → Spreading nodes blocks queue → (n b : ℕ) → pending_in nodes n ≡ pending.Block b → b ≤ max_block
@@ -138,7 +139,7 @@ module _ (nodes : List Node) (blocks : ℕ) (queue : List ℕ) (q : ℕ) (x : No
   now_sinks : (y : Node) → Contains nodes y → Sinks (now y) (now (after y))
   now_sinks y cy =
       let row = y.patch.dependencies in
-      let s = kind_sinks y.patch.kind y.patch.place (joined was row) (joined is row) (joined_sinks was is row (λ n cn. each_sinks n)) in
+      let s = sinks_of_kind y.patch.kind y.patch.place (joined was row) (joined is row) (joined_sinks was is row (λ n cn. each_sinks n)) in
       subst (λ a. Sinks a (now (after y))) (sym (now_was y cy)) (subst (Sinks (of_kind y.patch.kind y.patch.place (joined was row))) (sym (now_is y cy)) s)
 
   -- where it hears nothing
@@ -148,7 +149,7 @@ module _ (nodes : List Node) (blocks : ℕ) (queue : List ℕ) (q : ℕ) (x : No
   sinks_at : (y : Node) → Contains nodes y → Sinks (after y).pending (now (after y))
   sinks_at y cy = elim (cases_eq y.patch.number q) [
     | inl n ↦ subst (λ a. Sinks a (now (after y))) (sym ((turn y).as_it_is n)) (now_sinks y cy)
-    | inr ne ↦ subst (λ a. Sinks a (now (after y))) (sym ((turn y).as_it_was ne)) (sinks_on y.pending (now y) (now (after y)) (S.sinks y cy) (now_sinks y cy))
+    | inr ne ↦ subst (λ a. Sinks a (now (after y))) (sym ((turn y).as_it_was ne)) (sinks_trans y.pending (now y) (now (after y)) (S.sinks y cy) (now_sinks y cy))
   ]
 
   placed_at : (y : Node) → Contains nodes y → (now (after y) ≡ pending.Nothing) ↔ ((after y).patch.place ≡ place.Disk)

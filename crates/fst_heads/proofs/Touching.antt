@@ -8,14 +8,8 @@ use Rattle.fst_heads.proofs.Patches.place
 use Rattle.fst_heads.proofs.Words.{Entry, entry, is_live_on, entries_on, Gains, kind_touches, touches, shares, IsTouched, IsDependency, IsSparseRow, is_live_place, MayBeHard, Keeps}
 use Rattle.fst_heads.proofs.Graded.{graded_rule}
 use Rattle.fst_heads.proofs.Making.{keeps_added}
-
-live_from : (p : Place) → is_live_place p ≡ true → p ≡ place.Disk → ⊥
-live_from place.Memory e d = cc
-live_from p e d = cc
-
-live_to : (p : Place) → (p ≡ place.Disk → ⊥) → is_live_place p ≡ true
-live_to place.Disk n = absurd (n refl)
-live_to p n = refl
+use Rattle.fst_heads.proofs.Slots.{place_live, live_place}
+use Rattle.fst_heads.proofs.Leading.{some_injective}
 
 parts : (a b c d : Bool) → (a && b && c && d) ≡ true → (a ≡ true) × (b ≡ true) × (c ≡ true) × (d ≡ true)
 parts true true true true e = (refl, refl, refl, refl)
@@ -27,16 +21,13 @@ whole a b c d e f g h = rw (e, f, g, h) refl
 pub touch_parts : (b at len : ℕ) (k : Kind) (p : Place) → kind_touches b at len k p ≡ true → (p ≡ place.Disk → ⊥) × (block_of_kind k ≡ Some b) × (at_of k < at + len) × (at < at_of k + len_of k)
 touch_parts b at len (Change on own_at own_len grade) p e =
     let k = parts (is_live_place p) (on == b) (nat_lt own_at (at + len)) (nat_lt at (own_at + own_len)) e in
-    (live_from p k.0, ap Some (eqb-true on b k.1), grind (arith, nat_tests, k.2), grind (arith, nat_tests, k.3))
+    (live_place p k.0, ap Some (eqb-true on b k.1), grind (arith, nat_tests, k.2), grind (arith, nat_tests, k.3))
 touch_parts b at len Empty p e = absurd (false≢true e)
 touch_parts b at len k p e = absurd (false≢true e)
 
-some_injective : (a b : ℕ) → Some a ≡ Some b → a ≡ b
-some_injective a b e = cc
-
 pub touch_whole : (b at len : ℕ) (k : Kind) (p : Place) → (p ≡ place.Disk → ⊥) → block_of_kind k ≡ Some b → at_of k < at + len → at < at_of k + len_of k → kind_touches b at len k p ≡ true
 touch_whole b at len (Change on own_at own_len grade) p live on_b lo hi =
-    whole (is_live_place p) (on == b) (nat_lt own_at (at + len)) (nat_lt at (own_at + own_len)) (live_to p live) (eq-eqb on b (some_injective on b on_b)) (grind (arith, nat_tests, lo)) (grind (arith, nat_tests, hi))
+    whole (is_live_place p) (on == b) (nat_lt own_at (at + len)) (nat_lt at (own_at + own_len)) (place_live p live) (eq-eqb on b (some_injective on b on_b)) (grind (arith, nat_tests, lo)) (grind (arith, nat_tests, hi))
 touch_whole b at len Empty p live on_b lo hi = cc
 touch_whole b at len k p live on_b lo hi = cc
 

@@ -8,10 +8,11 @@ use Rattle.fst_heads.specs.declared.head.Kind.{Kind}
 use Rattle.fst_heads.specs.declared.head.Kind.TheVariants as kinds
 use Rattle.fst_heads.proofs.Framed.{frames_set}
 use Rattle.fst_heads.proofs.AtNumber.{at_slot}
-use Rattle.fst_heads.proofs.Releasing.{node_at, node_there, few_ready, some_held, stand_freed, stand_held, stand_told}
+use Rattle.fst_heads.proofs.Releasing.{node_at, few_ready, some_held, stand_freed, stand_held, stand_told}
 use Rattle.fst_heads.proofs.Slots.{slot_here}
 use Rattle.fst_heads.proofs.standing.settle_slot.Goals as goal
 use Rattle.fst_heads.proofs.standing.settle_slot.Goals.{in-Change+in-Memory+then-is_pending, in-Change+in-Memory+else-is_pending, in-Change+in_default-place, in_default}
+use Rattle.fst_heads.proofs.PendingAt.{node_in}
 
 pub pending_now-new-requires : goal.pending_now-new-requires
 pending_now-new-requires c =
@@ -22,7 +23,7 @@ pub index_mut-requires : goal.index_mut-requires
 index_mut-requires c =
     let h = c.index_mut-head.result.now in
     c.requires.inside (node_of h) c.in-Change.block c.in-Change.field-1.at c.in-Change.field-1.len c.in-Change.field-2
-    (node_there c.args.heads.now.items c.args.slot h (omega (arith, c.requires.slot, c.args.heads.now.ok.0)) c.index_mut-head.ensures.value) (ap kind_of c.in-Change.is)
+    (node_in c.args.heads.now.items c.args.slot h (omega (arith, c.requires.slot, c.args.heads.now.ok.0)) c.index_mut-head.ensures.value) (ap kind_of c.in-Change.is)
 
 -- the facts of the slot at the head that stands there
 slot_sinks : (heads : List Head) (s : ℕ) (h : Head) → get_or (nodes_of heads) s (node_of h) ≡ node_of h → ((d : Node) → Sinks (get_or (nodes_of heads) s d).pending (now (get_or (nodes_of heads) s d))) → Sinks h.pending (now (node_of h))
@@ -55,7 +56,7 @@ release-requires-clause-ready c =
     let lt : s < length heads = omega (arith, c.requires.slot, c.args.heads.now.ok.0) in
     let e = c.index_mut-head.ensures.value in
     let at = node_at heads s h (node_of h) lt e in
-    let inside = c.requires.inside (node_of h) c.in-Change.block c.in-Change.field-1.at c.in-Change.field-1.len c.in-Change.field-2 (node_there heads s h lt e) (ap kind_of c.in-Change.is) in
+    let inside = c.requires.inside (node_of h) c.in-Change.block c.in-Change.field-1.at c.in-Change.field-1.len c.in-Change.field-2 (node_in heads s h lt e) (ap kind_of c.in-Change.is) in
     let few = few_ready heads s h lt e (vec_len c.args.standings.now) c.args.standings.now.items c.requires.standing
     c.in-Change.block c.in-Change.field-1.at c.in-Change.field-1.len c.in-Change.field-2 (ap kind_of c.in-Change.is) c.in-Memory.is
     (slot_sinks heads s h at c.requires.sinks) (slot_untold heads s h at c.requires.untold) inside c.index_mut.result.now c.index_mut.ensures.value
@@ -70,7 +71,7 @@ release-requires-clause-held c =
     let lt : s < length heads = omega (arith, c.requires.slot, c.args.heads.now.ok.0) in
     let e = c.index_mut-head.ensures.value in
     let at = node_at heads s h (node_of h) lt e in
-    let inside = c.requires.inside (node_of h) c.in-Change.block c.in-Change.field-1.at c.in-Change.field-1.len c.in-Change.field-2 (node_there heads s h lt e) (ap kind_of c.in-Change.is) in
+    let inside = c.requires.inside (node_of h) c.in-Change.block c.in-Change.field-1.at c.in-Change.field-1.len c.in-Change.field-2 (node_in heads s h lt e) (ap kind_of c.in-Change.is) in
     some_held heads s h lt e (vec_len c.args.standings.now) c.args.standings.now.items c.requires.standing
     c.in-Change.block c.in-Change.field-1.at c.in-Change.field-1.len c.in-Change.field-2 (ap kind_of c.in-Change.is) c.in-Memory.is
     (slot_sinks heads s h at c.requires.sinks) (slot_untold heads s h at c.requires.untold) inside c.index_mut.result.now c.index_mut.ensures.value
@@ -107,7 +108,7 @@ returns-clause-standing c =
           (slot_sinks heads s h at c.requires.sinks) (slot_untold heads s h at c.requires.untold)
           after same (not_block_now h c.pending_now-new.result w.in-Change.block c.pending_now-new.ensures (sym w.is_pending.ensures ∙ w.if-is_pending.false)))
       | in-Change+in-Memory+then-is_pending w ↦
-          let inside = c.requires.inside (node_of h) w.in-Change.block w.in-Change.field-1.at w.in-Change.field-1.len w.in-Change.field-2 (node_there heads s h lt e) (ap kind_of w.in-Change.is) in
+          let inside = c.requires.inside (node_of h) w.in-Change.block w.in-Change.field-1.at w.in-Change.field-1.len w.in-Change.field-2 (node_in heads s h lt e) (ap kind_of w.in-Change.is) in
           subst (λ (v : Vec Standing Global). AllStand (nodes_of (set heads s after)) (vec_len c.args.standings.now) v.items) (sym w.standings-is)
           (stand_freed heads s h lt e (vec_len c.args.standings.now) c.args.standings.now.items c.requires.standing
           w.in-Change.block w.in-Change.field-1.at w.in-Change.field-1.len w.in-Change.field-2 (ap kind_of w.in-Change.is) w.in-Memory.is
