@@ -27,8 +27,7 @@ at_slot (h ∷ hs) n zero f y d rising slot e =
 at_slot (h ∷ hs) n (suc s) f y d rising slot e =
     let inside = slot.0 in
     let below = rising 0 (suc s) d (omega arith) inside in
-    let there = slot.1 d in
-    let first = sym (at_other n f (node_of h) (λ same. omega (arith, same, below, there))) in
+    let first = sym (at_other n f (node_of h) (λ same. omega (arith, same, below, slot.1 d))) in
     let rest = at_slot hs n s f y d (λ i j c lt b. rising (suc i) (suc j) c (omega (arith, lt)) (omega (arith, b))) (omega (arith, inside), slot.1) e in
     cc
 

@@ -1,5 +1,5 @@
 -- What calls leave of the count of patches that are not on disk.
-use Rattle.fst_heads.proofs.Basics.{◌≡◌, ℕ, ◌+◌, ◌-◌, ◌≤◌, ◌==◌, Bool, true, false, cond, if◌then◌else◌, List, [], ◌∷◌, ◌++◌, map, filter, length, count_by, refl, sym, ap, subst, ◌∙◌, inl, inr, arith, cases_Bool, length-map, count_by-le-length}
+use Rattle.fst_heads.proofs.Basics.{◌≡◌, ℕ, ◌+◌, ◌-◌, ◌≤◌, ◌==◌, Bool, true, false, cond, if◌then◌else◌, List, [], ◌∷◌, ◌++◌, map, filter, length, count_by, refl, sym, ap, subst, ◌∙◌, inl, inr, arith, cases_Bool, length-map, count_by-le-length, rules}
 use Rattle.fst_heads.proofs.Patches.{Place, gains, Patch, is_at, is_live, SealedGate}
 use Rattle.fst_heads.proofs.Patches.place
 use Rattle.fst_heads.proofs.Words.{Head, patch_of, patches_of, Beside, Node, node_of, nodes_of, at_number, AreSettled, is_waiting, seals}
@@ -19,27 +19,11 @@ weighs p = elim (cases_Bool (is_at p.place place.Disk)) [ inl e ↦ rw e refl | 
 
 -- a new patch
 pub beside_made : (heads : List Patch) (blocks live more : ℕ) (reached : List Bool) (p : Patch) → more ≡ one_live p → Beside heads blocks live reached → Beside (heads ++ p ∷ []) blocks (live + more) reached
-beside_made heads blocks live more reached p one B = record {
-  places = B.places;
-  counted =
-      let all = count_append is_live heads (p ∷ []) in
-      let last = count_cons is_live p [] in
-      omega (arith, B.counted, one, all, last);
-}
+beside_made heads blocks live more reached p one B = search (rules, count_append, count_cons)
 
 -- an open gate with more names
 pub beside_depends : (heads : List Patch) (blocks live : ℕ) (reached : List Bool) (g : ℕ) (names : List ℕ) → Beside heads blocks live reached → Beside (map (gains g names) heads) blocks live reached
-beside_depends heads blocks live reached g names B = record {
-  places = B.places;
-  counted = B.counted ∙ sym (count_map is_live is_live (gains g names) heads (λ p i. one p));
-}
-  where
-    chosen : (t : Bool) (p q : Patch) → is_live q ≡ is_live p → is_live (if t then q else p) ≡ is_live p
-    chosen true p q e = e
-    chosen false p q e = refl
-
-    one : (p : Patch) → is_live (gains g names p) ≡ is_live p
-    one p = chosen (p.number == g) p _ refl
+beside_depends heads blocks live reached g names B = search (rules, count_map)
 
 -- those on disk are forgotten
 pub beside_dropped : (heads : List Patch) (blocks live : ℕ) (reached : List Bool) → Beside heads blocks live reached → Beside (filter is_live heads) blocks live reached
@@ -49,15 +33,12 @@ beside_dropped heads blocks live reached B = record { places = B.places; counted
 pub all_live : (heads : List Head) → count_by is_live (patches_of heads) ≡ length heads → nodes_of heads ≡ filter (λ x. is_live x.patch) (nodes_of heads)
 all_live [] same = refl
 all_live (h ∷ hs) same =
-    let few = count_by-le-length is_live (patches_of hs) in
-    let long = length-map hs patch_of in
     let first = count_cons is_live (patch_of h) (patches_of hs) in
     elim (cases_Bool (is_live (patch_of h))) [
       | inl e ↦
-          let one = ap (λ t. one_if t) e in
-          let rest = all_live hs (omega (arith, same, first, one)) in
+          let rest = all_live hs (omega (arith, same, first, ap (λ t. one_if t) e)) in
           rw e (ap (λ xs. node_of h ∷ xs) rest)
-      | inr e ↦ let none = ap (λ t. one_if t) e in absurd (omega (arith, same, first, none, few, long))
+      | inr e ↦ let none = ap (λ t. one_if t) e in absurd (omega (arith, same, first, none, count_by-le-length is_live (patches_of hs), length-map hs patch_of))
     ]
 
 sealed_rest : (t : Bool) (x : Node) → (if t then record x { patch = record x.patch { kind = SealedGate; place = place.Disk } } else record x { patch = record x.patch { kind = SealedGate } }).pending ≡ x.pending
@@ -72,11 +53,7 @@ module _ (heads mid new : List Head) (f : Node → Node) (blocks live landed : �
     (old_settled : AreSettled (nodes_of heads) blocks) (new_settled : AreSettled (nodes_of new) blocks) where
   -- of those that wait so many are told that they are on disk
   landed_live : count_by is_waiting (nodes_of new) + landed ≡ count_by is_waiting (nodes_of mid) → count_by is_live (patches_of new) + landed ≡ count_by is_live (patches_of heads)
-  landed_live counted =
-      let before = ap (count_by is_waiting) made ∙ waiting_kept f (nodes_of heads) told in
-      let old = waiting_live (nodes_of heads) blocks old_settled ∙ ap (count_by is_live) (patches_in_nodes heads) in
-      let after = waiting_live (nodes_of new) blocks new_settled ∙ ap (count_by is_live) (patches_in_nodes new) in
-      omega (arith, counted, before, old, after)
+  landed_live counted = grind (arith, waiting_kept, waiting_live, patches_in_nodes)
 
   pub landed_few : count_by is_waiting (nodes_of new) + landed ≡ count_by is_waiting (nodes_of mid) → Beside (patches_of heads) blocks live reached → landed ≤ live
   landed_few counted B = let all = landed_live counted in omega (arith, all, B.counted)

@@ -1,5 +1,5 @@
 -- What a spread, a seal and a landing keep: links, what was given, and the lists.
-use Rattle.fst_heads.proofs.Basics.{◌≡◌, ℕ, List, length, map, sym, ap, ◌∙◌, length-map}
+use Rattle.fst_heads.proofs.Basics.{◌≡◌, ℕ, List, length, map, sym, ap, ◌∙◌, length-map, rules}
 use Rattle.fst_heads.proofs.Patches.{all_settled}
 use Rattle.fst_heads.proofs.Words.{Entry, AreListed, Node, patches_in, at_number, AreLinked, AreGiven, AreDistinct, IsSpreadOf, unspread, seals, lands}
 use Rattle.fst_heads.proofs.Placed.{links_mapped, linked_kept, given_kept, distinct_kept}
@@ -23,10 +23,7 @@ pub distinct_spread : (old new : List Node) → IsSpreadOf old new → AreDistin
 distinct_spread old new spread D = distinct_kept old new (links_spread old new spread) D
 
 pub listed_spread : (old new : List Node) (blocks : ℕ) (lists : List (List Entry)) → IsSpreadOf old new → AreListed (patches_in old) blocks lists → AreListed (patches_in new) blocks lists
-listed_spread old new blocks lists spread A = record {
-  long = A.long;
-  each = λ b d lt. A.each b d lt ∙ sym (entries_settled b (patches_in old) (patches_in new) (all_settled (patches_in old) (patches_in new) (unsettled_spread old new spread)));
-}
+listed_spread old new blocks lists spread A = search (rules, entries_settled, all_settled, unsettled_spread)
 
 pub linked_sealed : (nodes : List Node) (g : ℕ) → AreLinked nodes → AreLinked (map (at_number g seals) nodes)
 linked_sealed nodes g L = linked_kept nodes (map (at_number g seals) nodes) (links_mapped (at_number g seals) nodes (λ x. (seal_same g x).links)) L

@@ -1,5 +1,5 @@
 -- What the counts of a block say of its patches.
-use Rattle.fst_heads.proofs.Basics.{◌≡◌, ◌&&◌, ◌||◌, ℕ, suc, ◌≤◌, Bool, false, not, List, [], ◌∷◌, filter, length, count_by, arith, refl, ap, ◌∙◌, inl, inr, or-false, cases_Bool, length-map, length-filter, nil_from_length}
+use Rattle.fst_heads.proofs.Basics.{◌≡◌, ◌&&◌, ◌||◌, ℕ, suc, ◌≤◌, Bool, false, not, List, [], ◌∷◌, filter, length, count_by, arith, refl, ap, ◌∙◌, inl, inr, or-false, cases_Bool, length-map, length-filter, nil_from_length, rules}
 use Rattle.fst_heads.proofs.Patches.{Patch, is_change_at}
 use Rattle.fst_heads.proofs.Patches.place
 use Rattle.fst_heads.proofs.Words.{is_bound_on, free_on, bound_on, Head, patch_of, patches_of, flying_on, Node, nodes_of, is_pending, is_ready_on, is_held_on, is_flying_on, held_on, is_hard_kind}
@@ -16,10 +16,7 @@ fewer_free behind b (x ∷ xs) =
     ]
 
 pub free_few : (behind : ℕ → Bool) (b : ℕ) (nodes : List Node) → length (free_on behind b nodes) ≤ count_by (is_ready_on b) nodes
-free_few behind b nodes =
-    let fewer = fewer_free behind b nodes in
-    let same = length-filter (is_ready_on b) nodes in
-    omega (arith, fewer, same)
+free_few behind b nodes = grind (arith, fewer_free, length-filter)
 
 -- where nothing is behind a flight, what is bound is what is held
 bound_held : (behind : ℕ → Bool) (b : ℕ) (nodes : List Node) → ((n : ℕ) → behind n ≡ false) → bound_on behind b nodes ≡ held_on b nodes
@@ -34,10 +31,7 @@ bound_held behind b (x ∷ xs) off =
     ]
 
 pub none_bound : (behind : ℕ → Bool) (b : ℕ) (nodes : List Node) → ((n : ℕ) → behind n ≡ false) → count_by (is_held_on b) nodes ≡ 0 → bound_on behind b nodes ≡ []
-none_bound behind b nodes off none =
-    let long = length-map (filter (is_held_on b) nodes) (λ (x : Node). x.patch.number) in
-    let counted = length-filter (is_held_on b) nodes in
-    bound_held behind b nodes off ∙ nil_from_length (held_on b nodes) (omega (arith, none, long, counted))
+none_bound behind b nodes off none = search (rules, length-map, length-filter, bound_held, nil_from_length)
 
 -- as many fly as are counted
 pub flying_counted : (b : ℕ) (heads : List Head) → length (flying_on b (patches_of heads)) ≡ count_by (is_flying_on b) (nodes_of heads)

@@ -1,5 +1,5 @@
 -- Nodes that count for a block as others do, and what that leaves of the counts of all blocks.
-use Rattle.fst_heads.proofs.Basics.{◌≡◌, ◌≢◌, ℕ, ◌+◌, ◌<◌, ◌==◌, ◌&&◌, Bool, true, false, cond, List, [], ◌∷◌, ◌++◌, map, filter, count_by, set, get_or, refl, sym, ap, subst, ◌∙◌, inl, inr, arith, get_or-set_same, get_or-set_other, length-set, cases_Bool, cases_eq, and_parts, and_right}
+use Rattle.fst_heads.proofs.Basics.{◌≡◌, ◌≢◌, ℕ, ◌+◌, ◌<◌, Bool, true, false, cond, List, [], ◌∷◌, ◌++◌, map, filter, count_by, set, get_or, refl, sym, ap, subst, ◌∙◌, inl, inr, arith, get_or-set_same, get_or-set_other, length-set, cases_Bool, cases_eq, and_parts, and_right, rules}
 use Rattle.fst_heads.proofs.Basics.{eqb-true, ne_eqb, false≢true, sum_by-cons, sum_by-append}
 use Rattle.fst_heads.proofs.Patches.{Place, Kind, Change, is_at, is_on, is_change_at, In}
 use Rattle.fst_heads.proofs.Patches.place
@@ -29,8 +29,7 @@ count_map p q f (x ∷ xs) same =
 pub count_nothing : {X : Type 0} (p : X → Bool) (xs : List X) → ((x : X) → In xs x → p x ≡ false) → count_by p xs ≡ 0
 count_nothing p [] none = refl
 count_nothing p (x ∷ xs) none =
-    let rest = count_nothing p xs (λ y i. none y (inr i)) in
-    count_cons p x xs ∙ (ap (λ t. cond t 1 0 + count_by p xs) (none x (inl refl)) ∙ omega (arith, rest))
+    count_cons p x xs ∙ (ap (λ t. cond t 1 0 + count_by p xs) (none x (inl refl)) ∙ omega (arith, count_nothing p xs (λ y i. none y (inr i))))
 
 -- where none is counted each fails the test
 pub count_none : {X : Type 0} (p : X → Bool) (xs : List X) → count_by p xs ≡ 0 → (x : X) → In xs x → p x ≡ false
@@ -93,11 +92,7 @@ pub off_place : (b : ℕ) (at : Place) (x : Node) → is_on b x.patch.kind ≡ f
 off_place b at x off = and_right (is_at x.patch.place at) (is_on b x.patch.kind) off
 
 pub off_as : (b : ℕ) (y x : Node) → is_on b y.patch.kind ≡ false → is_on b x.patch.kind ≡ false → CountsAs b y x
-off_as b y x new old = record {
-  ready = rw (off_place b place.Memory y new, off_place b place.Memory x old) refl;
-  held = rw (off_place b place.Memory y new, off_place b place.Memory x old) refl;
-  flying = off_place b place.Flight y new ∙ sym (off_place b place.Flight x old);
-}
+off_as b y x new old = search (rules, off_place)
 
 -- what has the same kind, place and pending counts alike
 pub like_as : (b : ℕ) (y x : Node) → y.patch.kind ≡ x.patch.kind → y.patch.place ≡ x.patch.place → y.pending ≡ x.pending → CountsAs b y x
@@ -112,10 +107,7 @@ follows_off b k e = refl
 
 -- an empty patch or a sealed gate that goes to disk counts for no block
 pub rested_as : (b : ℕ) (x : Node) → CountsAs b (rested x) x
-rested_as b x = elim (cases_Bool (follows x.patch.kind && (x.sums.count == 0))) [
-  | inl e ↦ let off = follows_off b x.patch.kind (and_parts _ _ e).0 in rw e (off_as b _ x off off)
-  | inr e ↦ rw e (self_as b x)
-]
+rested_as b x = grind (arith, cases_Bool, follows_off, and_parts, off_as, self_as)
 
 -- a change is of one block
 pub on_one : (b c : ℕ) (k : Kind) → c ≢ b → is_on b k ≡ true → is_on c k ≡ false

@@ -1,5 +1,5 @@
 -- What the covers of the blocks keep from call to call.
-use Rattle.fst_heads.proofs.Basics.{◌≡◌, ◌≢◌, ◌⊎◌, ◌<◌, ◌≤◌, ◌+◌, ◌++◌, ◌∷◌, ◌∙◌, [], ℕ, true, List, length, map, filter, get_or, set, Contains, ◌==◌, zero, suc, refl, sym, ap, subst, inl, inr, arith, cases_lt, cases_eq, eqb-false, length-set, or_parts}
+use Rattle.fst_heads.proofs.Basics.{◌≡◌, ◌≢◌, ◌⊎◌, ◌<◌, ◌≤◌, ◌+◌, ◌++◌, ◌∷◌, ◌∙◌, [], ℕ, true, List, length, map, filter, get_or, set, Contains, ◌==◌, zero, suc, refl, sym, ap, subst, inl, inr, arith, cases_lt, cases_eq, eqb-false, length-set, or_parts, rules}
 use Rattle.fst_heads.proofs.Basics.{get_or-set_other, Contains-push_cases, Contains-append_left, Contains-append_right}
 use Rattle.std.proofs.lemmas.Grind.{get_or-set_at}
 use Rattle.fst_types.specs.Closure.{one, join}
@@ -15,10 +15,7 @@ use Rattle.fst_heads.proofs.Forgetting.{live_place_of}
 
 -- where there is no patch any covers do
 pub covered_none : (blocks : ℕ) (covers : List Covering) → length covers ≡ blocks → AreCovered [] blocks covers
-covered_none blocks covers long = record {
-  long = long;
-  each = λ b d inside. record { each = λ q x o. absurd (let h = o.head in omega (arith, h.1)); bytes = λ none p h. absurd (omega (arith, h.1)) };
-}
+covered_none blocks covers long = search rules
 
 -- each live change of the new heads was one of the old ones, and what is over a byte, and is or depends on what is live there, still does
 module _ (old new : List Patch)
@@ -58,18 +55,15 @@ module _ (old new : List Patch) (A : Alike old new) (disk : IsOnDiskWithAll new)
   over_back : (b x q : ℕ) → IsOver new b x q → IsOver old b x q
   over_back b x q o =
       let r = back_alike old new A o.patch o.head in
-      let s = o.starts in
-      let e = o.ends in
       let at = at_same r.0 o.patch r.2 in
-      let len = len_same r.0 o.patch r.2 in
       record {
         patch = r.0;
         head = r.1;
         numbered = sym r.2.number ∙ o.numbered;
         live = r.2.live b o.change o.live;
         change = on_back r.0 o.patch r.2 b o.change;
-        starts = omega (arith, s, at);
-        ends = omega (arith, e, at, len);
+        starts = omega (arith, o.starts, at);
+        ends = omega (arith, o.ends, at, len_same r.0 o.patch r.2);
       }
 
   over_forth : (b x c q : ℕ) → IsOver old b x c → IsOver new b x q → (c ≡ q) ⊎ DependsOn old c q → IsOver new b x c × ((c ≡ q) ⊎ DependsOn new c q)
@@ -78,8 +72,6 @@ module _ (old new : List Patch) (A : Alike old new) (disk : IsOnDiskWithAll new)
       let r = forth_alike old new A o.patch o.head in
       let l = live_over new disk c q (depends_forth c q d) (over_live new b x q n) in
       let same = same_number new l.patch r.0 rising l.head r.1 (l.numbered ∙ (sym o.numbered ∙ sym r.2.number)) in
-      let s = o.starts in
-      let e = o.ends in
       let at = at_same o.patch r.0 r.2 in
       let len = len_same o.patch r.0 r.2 in (
         record {
@@ -88,8 +80,8 @@ module _ (old new : List Patch) (A : Alike old new) (disk : IsOnDiskWithAll new)
           numbered = r.2.number ∙ o.numbered;
           live = subst IsLive same l.live;
           change = on_forth o.patch r.0 r.2 b o.change;
-          starts = omega (arith, s, at);
-          ends = omega (arith, e, at, len);
+          starts = omega (arith, o.starts, at);
+          ends = omega (arith, o.ends, at, len);
         },
         inr (depends_forth c q d),
       )
@@ -118,20 +110,7 @@ module _ (old : List Patch) (g : ℕ) (names : List ℕ) where
       record { patch = r.0; head = r.1; numbered = r.2.number ∙ d.numbered; named = r.2.kept b d.named })
 
   over_grown : (b x q : ℕ) (heads other : List Patch) (o : IsOver heads b x q) (p : Patch) → Contains other p → p.number ≡ o.patch.number → p.kind ≡ o.patch.kind → p.place ≡ o.patch.place → IsOver other b x q
-  over_grown b x q heads other o p h number kind at =
-      let s = o.starts in
-      let e = o.ends in
-      let a = ap at_of kind in
-      let l = ap len_of kind in
-      record {
-        patch = p;
-        head = h;
-        numbered = number ∙ o.numbered;
-        live = λ d. o.live (sym at ∙ d);
-        change = ap block_of_kind kind ∙ o.change;
-        starts = omega (arith, s, a);
-        ends = omega (arith, e, a, l);
-      }
+  over_grown b x q heads other o p h number kind at = grind arith
 
   pub covered_gained : (blocks : ℕ) (covers : List Covering) → AreCovered old blocks covers → AreCovered gained blocks covers
   covered_gained = covered_by old gained
@@ -260,10 +239,9 @@ module _ (old : List Patch) (n b at len : ℕ) (grade : Grade) (names row : List
   own : (x q : ℕ) → at ≤ x → x < at + len → IsOver new b x q → Covers new b cover x q
   own x q lo hi o =
       let same = put.own x lo hi in
-      let long = put.long in
       let fits = room (omega (arith, lo, hi)) in
       record {
-        inside = omega (arith, hi, fits, long);
+        inside = omega (arith, hi, fits, put.long);
         some = subst (λ k. 1 ≤ k) (sym same) some;
         over = subst (IsOver new b x) (sym same) (record { patch = p; head = there; numbered = refl; live = λ e. cc; change = refl; starts = lo; ends = hi });
         above = subst (λ k. (k ≡ q) ⊎ DependsOn new k q) (sym same) (elim (over_cases old p b x q o) [
@@ -277,18 +255,15 @@ module _ (old : List Patch) (n b at len : ℕ) (grade : Grade) (names row : List
     | inl w ↦
         let k = C.each q x w in
         let same = put.beside x off in
-        let long = put.long in
-        let i = k.inside in
         record {
-          inside = omega (arith, i, long);
+          inside = omega (arith, k.inside, put.long);
           some = subst (λ m. 1 ≤ m) (sym same) k.some;
           over = subst (IsOver new b x) (sym same) (over_with old p b x (newest_over was x) k.over);
           above = subst (λ m. (m ≡ q) ⊎ DependsOn new m q) (sym same) (elim k.above [ inl e ↦ inl e | inr e ↦ inr (depends_with old p (newest_over was x) q e) ]);
         }
     | inr e ↦
-        let s = subst (λ y. at_of y.kind ≤ x) (sym e) o.starts in
         let t = subst (λ y. x < at_of y.kind + len_of y.kind) (sym e) o.ends in
-        absurd (elim off [ inl lt ↦ omega (arith, lt, s) | inr ge ↦ omega (arith, ge, t) ])
+        absurd (elim off [ inl lt ↦ omega (arith, lt, subst (λ y. at_of y.kind ≤ x) (sym e) o.starts) | inr ge ↦ omega (arith, ge, t) ])
   ]
 
   own_cover : IsCovered new b cover

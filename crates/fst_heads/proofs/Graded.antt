@@ -138,8 +138,4 @@ module _ (heads : List Patch) (numbers : ℕ) (within : IsWithin heads numbers) 
 
   -- so the grade by the row is the grade of the new change
   pub graded_rule : FollowsRule g (MayBeHard heads None b row) → FollowsRule g (IsGradedHard heads after b (numbers + 1))
-  graded_rule rule = by_grade g rule
-    where
-      by_grade : (x : Grade) → FollowsRule x (MayBeHard heads None b row) → FollowsRule x (IsGradedHard heads after b (numbers + 1))
-      by_grade grade.Hard r = may_graded r
-      by_grade grade.Soft r = λ k. r (graded_may k)
+  graded_rule rule = grind (arith, may_graded, graded_may)

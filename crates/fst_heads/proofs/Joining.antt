@@ -1,5 +1,5 @@
 -- What is pending of two patches together, and how one patch more or less changes the sums.
-use Rattle.fst_heads.proofs.Basics.{◌≡◌, ◌≢◌, ◌⊎◌, ℕ, ◌+◌, ◌*◌, ◌≤◌, refl, sym, ap, ◌∙◌, inl, inr, arith, cases_eq, eq-eqb, ne_eqb, mul-add, mul-le-mul}
+use Rattle.fst_heads.proofs.Basics.{◌≡◌, ◌≢◌, ◌⊎◌, ℕ, ◌+◌, ◌*◌, ◌≤◌, refl, sym, ap, inl, inr, arith, cases_eq, eq-eqb, ne_eqb, mul-add, mul-le-mul, rules}
 use Rattle.fst_heads.proofs.Patches.{Place, Kind, Change, OpenGate}
 use Rattle.fst_heads.proofs.Patches.place
 use Rattle.fst_heads.proofs.Words.{Pending, Sums, join, of_kind, Sinks, Fits, plus, minus, together, nothing, max_block}
@@ -21,10 +21,7 @@ join_right pending.Nothing = refl
 join_right p = refl
 
 join_blocks_turned : (b c : ℕ) → join (pending.Block b) (pending.Block c) ≡ join (pending.Block c) (pending.Block b)
-join_blocks_turned b c = elim (cases_eq c b) [
-  | inl e ↦ join_same b c e ∙ (ap (λ n. pending.Block n) (sym e) ∙ sym (join_same c b (sym e)))
-  | inr ne ↦ join_differs b c ne ∙ sym (join_differs c b (λ e. ne (sym e)))
-]
+join_blocks_turned b c = grind (arith, cases_eq, join_same, join_differs)
 
 pub join_turned : (p q : Pending) → join p q ≡ join q p
 join_turned pending.Nothing q = sym (join_right q)
@@ -36,11 +33,7 @@ join_turned p q = refl
 -- two together wait for an open gate exactly where one of them does
 pub join_held : (p q : Pending) → join p q ≡ pending.Held → (p ≡ pending.Held) ⊎ (q ≡ pending.Held)
 join_held pending.Nothing q e = inr e
-join_held (pending.Block b) (pending.Block c) e =
-    elim (cases_eq c b) [
-      | inl same ↦ let j = join_same b c same in absurd (cc)
-      | inr ne ↦ let j = join_differs b c ne in absurd (cc)
-    ]
+join_held (pending.Block b) (pending.Block c) e = grind (arith, cases_eq, join_same, join_differs)
 join_held (pending.Block b) pending.Held e = inr refl
 join_held pending.Apart pending.Held e = inr refl
 join_held pending.Held q e = inl refl
@@ -51,11 +44,7 @@ held_join p q e = rw (e, join_turned p pending.Held) refl
 
 pub join_nothing : (p q : Pending) → join p q ≡ pending.Nothing → (p ≡ pending.Nothing) × (q ≡ pending.Nothing)
 join_nothing pending.Nothing q e = (refl, e)
-join_nothing (pending.Block b) (pending.Block c) e =
-    elim (cases_eq c b) [
-      | inl same ↦ let j = join_same b c same in absurd (cc)
-      | inr ne ↦ let j = join_differs b c ne in absurd (cc)
-    ]
+join_nothing (pending.Block b) (pending.Block c) e = grind (arith, cases_eq, join_same, join_differs)
 join_nothing pending.Apart pending.Nothing e = absurd (cc)
 join_nothing p q e = absurd (cc)
 
@@ -63,14 +52,7 @@ join_nothing p q e = absurd (cc)
 pub join_block : (p q : Pending) (b : ℕ) → join p q ≡ pending.Block b → Within b p × Within b q
 join_block pending.Nothing q b e = (inl refl, inr e)
 join_block (pending.Block x) pending.Nothing b e = (inr e, inl refl)
-join_block (pending.Block x) (pending.Block y) b e =
-    elim (cases_eq y x) [
-      | inl same ↦
-          let j = join_same x y same in
-          let first : pending.Block x ≡ pending.Block b = sym j ∙ e in
-          (inr first, inr (ap (λ n. pending.Block n) same ∙ first))
-      | inr ne ↦ let j = join_differs x y ne in absurd (cc)
-    ]
+join_block (pending.Block x) (pending.Block y) b e = grind (arith, cases_eq, join_same, join_differs)
 join_block pending.Apart pending.Nothing b e = absurd (cc)
 join_block p q b e = absurd (cc)
 
@@ -95,11 +77,7 @@ sinks_to_nothing p = inr (omega arith)
 -- one of two sinks, or stays, or both do
 sinks_first : (p q : Pending) → Sinks (join p q) q
 sinks_first (pending.Block b) pending.Nothing = inr (omega arith)
-sinks_first (pending.Block b) (pending.Block c) =
-    elim (cases_eq c b) [
-      | inl same ↦ inl (ap (λ n. pending.Block n) same ∙ sym (join_same b c same))
-      | inr ne ↦ inr (rw (join_differs b c ne) (omega arith))
-    ]
+sinks_first (pending.Block b) (pending.Block c) = grind (arith, cases_eq, join_same, join_differs)
 sinks_first pending.Apart pending.Nothing = inr (omega arith)
 sinks_first pending.Apart (pending.Block c) = inr (omega arith)
 sinks_first pending.Held q = held_sinks q
@@ -107,11 +85,7 @@ sinks_first p q = inl refl
 
 apart_sinks : (c : ℕ) (q : Pending) → Sinks (join pending.Apart q) (join (pending.Block c) q)
 apart_sinks c pending.Nothing = inr (omega arith)
-apart_sinks c (pending.Block d) =
-    elim (cases_eq d c) [
-      | inl same ↦ inr (rw (join_same c d same) (omega arith))
-      | inr ne ↦ inl (join_differs c d ne)
-    ]
+apart_sinks c (pending.Block d) = grind (arith, cases_eq, join_same, join_differs)
 apart_sinks c q = inl refl
 
 join_left : (p o q : Pending) → Sinks p o → Sinks (join p q) (join o q)
@@ -206,15 +180,7 @@ pub record Tells (s : Sums) (p : Pending) : Type 0 where
 
 even_plus : (p : Pending) (s : Sums) (b : ℕ) → Within b p → Even s b → Even (plus p s) b
 even_plus pending.Nothing s b w even = even
-even_plus (pending.Block x) s b (inr e) even =
-    let same : x ≡ b = cc in
-    let square : x * x ≡ b * x = ap (λ y. y * x) same in
-    record {
-      none_held = even.none_held;
-      none_apart = even.none_apart;
-      total = omega (arith, even.total, same, mul-add b s.count 1);
-      squares = omega (arith, even.squares, square, mul-add b s.total x);
-    }
+even_plus (pending.Block x) s b (inr e) even = grind (arith, mul-add)
 even_plus p s b (inl e) even = absurd (cc)
 even_plus p s b (inr e) even = absurd (cc)
 
@@ -238,10 +204,7 @@ held_grows pending.Nothing s = omega arith
 held_grows p s = omega arith
 
 held_plus : (p : Pending) (s : Sums) (q : Pending) → (q ≡ pending.Held → 1 ≤ s.held) → join p q ≡ pending.Held → 1 ≤ (plus p s).held
-held_plus p s q held e = elim (join_held p q e) [
-  | inl own ↦ rw own (omega arith)
-  | inr below ↦ omega (arith, held below, held_grows p s)
-]
+held_plus p s q held e = grind (arith, join_held, held_grows)
 
 free_plus : (p : Pending) (s : Sums) (q : Pending) → ((q ≡ pending.Held → ⊥) → s.held ≡ 0) → (join p q ≡ pending.Held → ⊥) → (plus p s).held ≡ 0
 free_plus pending.Nothing s q free out = free out
@@ -267,11 +230,4 @@ tells_plus p s q tells = record {
 }
 
 pub tells_nothing : Tells nothing pending.Nothing
-tells_nothing = record {
-  none = λ e. refl;
-  nothing = λ e. refl;
-  held = λ e. absurd (cc);
-  free = λ out. refl;
-  even = λ b w. record { none_held = refl; none_apart = refl; total = omega arith; squares = omega arith };
-  off = λ c h e. record { gap = 0; squares = omega arith; same = λ g. inl refl };
-}
+tells_nothing = search rules

@@ -1,5 +1,5 @@
 -- Patches that go into flight one after another.
-use Rattle.fst_heads.proofs.Basics.{◌≡◌, ◌==◌, ◌||◌, ℕ, Bool, true, false, List, [], ◌∷◌, ◌++◌, if◌then◌else◌, map, get_or, set, refl, sym, ap, ◌∙◌, inl, inr, cases_eq, cases_Bool, eq-eqb, ne_eqb}
+use Rattle.fst_heads.proofs.Basics.{◌≡◌, ◌==◌, ◌||◌, ℕ, Bool, true, false, List, [], ◌∷◌, ◌++◌, if◌then◌else◌, map, get_or, set, refl, ap, ◌∙◌, inl, inr, cases_eq, cases_Bool, eq-eqb, ne_eqb, arith}
 use Rattle.fst_heads.proofs.Patches.{is_among}
 use Rattle.fst_heads.proofs.Patches.place
 use Rattle.fst_heads.proofs.Words.{Head, IsRising, HasSlot, HasNone, Node, node_of, nodes_of, at_number, launches}
@@ -12,10 +12,7 @@ flies x = record x { patch = record x.patch { place = place.Flight } }
 
 -- one number is that of one node
 one_launched : (n : ℕ) (x : Node) → at_number n flies x ≡ launches (n ∷ []) x
-one_launched n x = elim (cases_eq x.patch.number n) [
-  | inl e ↦ at_same n flies x e ∙ sym (rw (eq-eqb n x.patch.number (sym e)) refl)
-  | inr ne ↦ at_other n flies x ne ∙ sym (rw (ne_eqb n x.patch.number (λ e. ne (sym e))) refl)
-]
+one_launched n x = grind (arith, cases_eq, at_same, eq-eqb, at_other, ne_eqb)
 
 map_alike : (f g : Node → Node) → ((x : Node) → f x ≡ g x) → (xs : List Node) → map f xs ≡ map g xs
 map_alike f g same [] = refl
@@ -53,12 +50,7 @@ launches_number ns x = number_if (is_among ns x.patch.number) x.patch _ refl
 
 -- one number more
 step : (ns : List ℕ) (n : ℕ) (x : Node) → launches (n ∷ []) (launches ns x) ≡ launches (ns ++ n ∷ []) x
-step ns n x =
-    chosen ((n == (launches ns x).patch.number) || false) (launches ns x)
-    ∙ (ap (λ m. if (n == m) || false then flies (launches ns x) else launches ns x) (launches_number ns x)
-    ∙ (ap (λ y. if (n == x.patch.number) || false then flies y else y) (chosen (is_among ns x.patch.number) x)
-    ∙ (launched_either (is_among ns x.patch.number) (n == x.patch.number) x
-    ∙ (ap (λ t. if t then flies x else x) (sym (among_append ns n x.patch.number)) ∙ sym (chosen (is_among (ns ++ n ∷ []) x.patch.number) x)))))
+step ns n x = grind (arith, chosen, launches_number, launched_either, among_append)
 
 pub launched_more : (nodes : List Node) (ns : List ℕ) (n : ℕ) → map (launches (n ∷ [])) (map (launches ns) nodes) ≡ map (launches (ns ++ n ∷ [])) nodes
 launched_more nodes ns n = map_twice (launches (n ∷ [])) (launches ns) (launches (ns ++ n ∷ [])) (step ns n) nodes

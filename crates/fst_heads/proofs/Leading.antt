@@ -1,5 +1,5 @@
 -- Marks by blocks that are reached, and how blocks come to be reached.
-use Rattle.fst_heads.proofs.Basics.{◌≡◌, ◌⊎◌, ℕ, ◌+◌, ◌<◌, cond, not, Bool, true, false, List, length, get_or, set, Contains, Some, MatchBool, refl, sym, ap, subst, ◌∙◌, inl, inr, arith, get_or-set_same, get_or-set_other, cases_Bool, cases_eq, sum_by-set}
+use Rattle.fst_heads.proofs.Basics.{◌≡◌, ◌⊎◌, ℕ, ◌+◌, ◌<◌, Bool, true, false, List, length, get_or, set, Contains, Some, MatchBool, sym, subst, ◌∙◌, arith, get_or-set_same, get_or-set_other, cases_Bool, cases_eq, sum_by-set}
 use Rattle.fst_heads.proofs.Patches.{Patch, IsOn}
 use Rattle.fst_heads.proofs.Words.{Head, IsRising, patch_of, patches_of, HasSlot, Has}
 use Rattle.fst_heads.specs.Reaching.{IsReached, unreached, IsHardIn}
@@ -21,18 +21,10 @@ same_patch heads p q rising a b e =
 
 -- one more block is shown
 pub reached_more : (reached : List Bool) (b c : ℕ) → b < length reached → IsReached reached c → IsReached (set reached b true) c
-reached_more reached b c inside r = elim (cases_eq c b) [
-  | inl e ↦ subst (IsReached (set reached b true)) (sym e) (get_or-set_same reached b true false inside)
-  | inr ne ↦ get_or-set_other reached b c true false ne ∙ r
-]
+reached_more reached b c inside r = grind (arith, cases_eq, get_or-set_same, get_or-set_other)
 
 fewer : (reached : List Bool) (b : ℕ) → b < length reached → (IsReached reached b → ⊥) → unreached (set reached b true) < unreached reached
-fewer reached b inside none =
-    let e = sum_by-set (λ x. cond (not x) 1 0) reached b true false inside in
-    elim (cases_Bool (get_or reached b false)) [
-      | inl yes_it ↦ absurd (none yes_it)
-      | inr no_it ↦ let f : ◌≡◌ {A = ℕ} (cond (not (get_or reached b false)) 1 0) 1 = rw no_it refl in omega (arith, e, f)
-    ]
+fewer reached b inside none = grind (arith, sum_by-set, cases_Bool)
 
 -- the marked hard changes among the first i heads have been taken in
 pub record Taking (heads : List Head) (marks : List Bool) (i : ℕ) (old new : List Bool) (grown : Bool) : Type 0 where
@@ -47,6 +39,4 @@ module _ (heads : List Head) (marks : List Bool) (i : ℕ) (old reached : List B
   p = patch_of (get_or heads i d)
 
   here : (k : ℕ) (e : Head) (c : ℕ) → (k < i → ⊥) → k < i + 1 → IsHardIn (patch_of (get_or heads k e)) c → IsHardIn p c
-  here k e c past up h =
-      let same : k ≡ i = omega (arith, up, past) in
-      subst (λ q. IsHardIn (patch_of q) c) (ap (λ j. get_or heads j e) same ∙ any_default heads i e d lt) h
+  here k e c past up h = grind (arith, any_default)

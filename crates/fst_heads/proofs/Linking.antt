@@ -11,9 +11,7 @@ number_as : (f : Node → Node) → ((x : Node) → (f x).patch.number ≡ x.pat
     → (i : ℕ) (d : Head) → i < length new → (get_or new i d).number ≡ (get_or old i d).number
 number_as f keeps [] old e i d lt = absurd (omega (arith, lt))
 number_as f keeps (h ∷ hs) [] e i d lt = cc
-number_as f keeps (h ∷ hs) (k ∷ ks) e zero d lt =
-    let first : node_of h ≡ f (node_of k) = cc in
-    ap (λ x. x.patch.number) first ∙ keeps (node_of k)
+number_as f keeps (h ∷ hs) (k ∷ ks) e zero d lt = grind arith
 number_as f keeps (h ∷ hs) (k ∷ ks) e (suc i) d lt =
     let rest : nodes_of hs ≡ map f (nodes_of ks) = cc in
     number_as f keeps hs ks rest i d (omega (arith, lt))
@@ -22,10 +20,9 @@ number_as f keeps (h ∷ hs) (k ∷ ks) e (suc i) d lt =
 pub rising_as : (f : Node → Node) → ((x : Node) → (f x).patch.number ≡ x.patch.number) → (new old : List Head) → nodes_of new ≡ map f (nodes_of old) → IsRising old → IsRising new
 rising_as f keeps new old e rising i j d lt inside =
     let a = number_as f keeps new old e i d (omega (arith, lt, inside)) in
-    let b = number_as f keeps new old e j d inside in
     let long : length new ≡ length old = sym (length-map new node_of) ∙ (ap length e ∙ (length-map (nodes_of old) f ∙ length-map old node_of)) in
     let r = rising i j d lt (omega (arith, inside, long)) in
-    omega (arith, a, b, r)
+    omega (arith, a, number_as f keeps new old e j d inside, r)
 
 map_self : (xs : List Node) → map (λ x. x) xs ≡ xs
 map_self [] = refl
@@ -53,11 +50,7 @@ nodes_set (h ∷ hs) (suc s) y d lt e = ap (λ xs. node_of h ∷ xs) (nodes_set 
 
 -- what is in the list after one head was set is that head, or stands in another slot
 pub set_cases : (heads : List Head) (s : ℕ) (y h : Head) → s < length heads → Contains (set heads s y) h → (y ≡ h) ⊎ ((j : ℕ) × (j < length heads) × (j ≢ s) × (get_or heads j h ≡ h))
-set_cases heads s y h lt c =
-    elim (cases_eq c.0 s) [
-      | inl same ↦ inl (sym (get_or-set_same heads s y h lt) ∙ subst (λ k. get_or (set heads s y) k h ≡ h) same c.2)
-      | inr other ↦ inr (c.0, omega (arith, c.1, length-set heads s y), other, sym (get_or-set_other heads s c.0 y h other) ∙ c.2)
-    ]
+set_cases heads s y h lt c = grind (arith, cases_eq, get_or-set_same, length-set, get_or-set_other)
 
 -- the heads of the first i numbers of the row have room for one more dependant
 abbrev pub HasRoomUpTo : List Head → List ℕ → ℕ → Type 0
@@ -91,11 +84,7 @@ room_more heads row i s y rising slot here room h k c lt inside e =
     ]
 
 pub room_skip : (heads : List Head) (row : List ℕ) (i : ℕ) → HasNone heads (get_or row i 0) → HasRoomUpTo heads row i → HasRoomUpTo heads row (i + 1)
-room_skip heads row i none room h k c lt inside e =
-    elim (cases_eq k i) [
-      | inl last ↦ absurd (none c.0 h c.1 (ap (λ x. x.number) c.2 ∙ (e ∙ ap (λ m. get_or row m 0) last)))
-      | inr earlier ↦ room h k c (omega (arith, lt, earlier)) inside e
-    ]
+room_skip heads row i none room h k c lt inside e = grind (arith, cases_eq)
 
 -- the head that was linked has none of the numbers that are left, since they rise
 pub room_left : (heads : List Head) (row : List ℕ) (i s : ℕ) (y : Head) → IsStrictlyIncreasing row → s < length heads → y.number ≡ get_or row i 0 → HasRoomFrom heads row i → HasRoomFrom (set heads s y) row (i + 1)
@@ -134,20 +123,7 @@ adds n x = record x { dependants = x.dependants ++ n ∷ [] }
 
 -- the last number of the row is linked after the others
 link_push : (row : List ℕ) (r n : ℕ) (x : Node) → is_among row r ≡ false → at_number r (adds n) (linked_to row n x) ≡ linked_to (row ++ r ∷ []) n x
-link_push row r n x none =
-    elim (cases_eq x.patch.number r) [
-      | inl same ↦
-          let here : is_among row x.patch.number ≡ false = ap (is_among row) same ∙ none in
-          let there : is_among (row ++ r ∷ []) x.patch.number ≡ true = ap (is_among (row ++ r ∷ [])) same ∙ among_push_same row r in
-          let stays : linked_to row n x ≡ x = rw here refl in
-          let gains : linked_to (row ++ r ∷ []) n x ≡ adds n x = rw there refl in
-          rw stays (at_same r (adds n) x same ∙ sym gains)
-      | inr other ↦
-          let number = ap (λ p. p.number) (linked_patch row n x) in
-          let alike : is_among (row ++ r ∷ []) x.patch.number ≡ is_among row x.patch.number = among_push_other row r x.patch.number (λ e. other (sym e)) in
-          let same : linked_to (row ++ r ∷ []) n x ≡ linked_to row n x = rw alike refl in
-          at_other r (adds n) (linked_to row n x) (λ e. other (sym number ∙ e)) ∙ sym same
-    ]
+link_push row r n x none = grind (arith, cases_eq, among_push_same, at_same, linked_patch, among_push_other, at_other)
 
 -- one change after another
 pub map_twice : (f g h : Node → Node) → ((x : Node) → f (g x) ≡ h x) → (xs : List Node) → map f (map g xs) ≡ map h xs

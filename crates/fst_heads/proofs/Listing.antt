@@ -1,5 +1,5 @@
 -- The walk along the list of a block that lands what is in flight.
-use Rattle.fst_heads.proofs.Basics.{◌≡◌, ◌≢◌, ◌==◌, ◌&&◌, ℕ, zero, suc, ◌<◌, ◌≤◌, Bool, true, false, not, cond, List, [], ◌∷◌, ◌++◌, length, map, set, get_or, Contains, Some, refl, sym, ap, ◌∙◌, inl, inr, arith, list_any, and-false, cases_Bool, eq-eqb, ne_eqb, set-get_or, or_parts}
+use Rattle.fst_heads.proofs.Basics.{◌≡◌, ◌≢◌, ◌==◌, ◌&&◌, ℕ, zero, suc, ◌<◌, ◌≤◌, Bool, true, false, not, cond, List, [], ◌∷◌, ◌++◌, length, map, set, get_or, Contains, Some, refl, sym, ap, ◌∙◌, inl, inr, arith, list_any, and-false, cases_Bool, eq-eqb, ne_eqb, set-get_or, or_parts, rules}
 use Rattle.fst_heads.proofs.Basics.{append_assoc, append-nil, length-append, length-map, get_or-map}
 use Rattle.fst_heads.proofs.Patches.{Place, Kind, Change, Patch, Rising, block_of_kind, is_at, is_on, is_change_at, landed, In, In-from_Contains, Contains-from_In}
 use Rattle.fst_heads.proofs.Patches.place
@@ -23,8 +23,7 @@ any_slot (h ∷ hs) n zero t d rising slot =
 any_slot (h ∷ hs) n (suc s) t d rising slot =
     let inside = slot.0 in
     let below = rising 0 (suc s) d (omega arith) inside in
-    let there = slot.1 d in
-    rw (ne_eqb h.number n (λ same. omega (arith, same, below, there)))
+    rw (ne_eqb h.number n (λ same. omega (arith, same, below, slot.1 d)))
     (any_slot hs n s t d (λ i j c lt b. rising (suc i) (suc j) c (omega (arith, lt)) (omega (arith, b))) (omega (arith, inside), slot.1))
 
 -- patches rise as their heads do
@@ -114,10 +113,7 @@ module _ (b : ℕ) where
 
     -- the step of the walk at the first node
     first_lands : map (at_number h.number (lands b)) (nodes_of (h ∷ hs)) ≡ lands b (node_of h) ∷ nodes_of hs
-    first_lands =
-        let one = at_same h.number (lands b) (node_of h) refl in
-        let rest = sym (at_none hs h.number (lands b) none_above) in
-        cc
+    first_lands = grind (arith, at_same, at_none, none_above)
 
     first_flies : flies_at h.number (nodes_of (h ∷ hs)) ≡ cond (flies (node_of h)) (h.number ∷ []) []
     first_flies = ap (λ t. cond t (h.number ∷ []) []) (any_slot (h ∷ hs) h.number 0 flies h rising (omega arith, λ d. refl))
@@ -204,10 +200,7 @@ module _ (b : ℕ) where
           (nothing _ (here ∙ none))
 
       landing_more : (y : Head) → is_change_at place.Flight b (patch_of (get_or heads s d)) ≡ true → node_of y ≡ lands b (node_of (get_or heads s d)) → Landing start (set heads s y) left (queue ++ n ∷ [])
-      landing_more y flying e =
-          stepped (set heads s y) (queue ++ n ∷ [])
-          (at_slot heads n s (lands b) y d x.rising slot e)
-          (ap (λ t. queue ++ cond t (n ∷ []) []) (sym (here ∙ flying)))
+      landing_more y flying e = search (rules, stepped, at_slot, here)
 
       pub landing_disk : is_change_at place.Flight b (patch_of (get_or heads s d)) ≡ true → (m : Head) → m ≡ get_or heads s m → Landing start (set heads s (record m { place = place.Disk })) left (queue ++ n ∷ [])
       landing_disk flying m same =
@@ -219,10 +212,7 @@ module _ (b : ℕ) where
       pub landing_room : is_change_at place.Flight b (patch_of (get_or heads s d)) ≡ true → length queue < length start
       landing_room flying =
           let one = ap (λ t. queue ++ (cond t (n ∷ []) [] ++ fly_each left (map (at_number n (lands b)) (nodes_of heads)))) (sym (here ∙ flying)) ∙ (sym (ap (λ ns. queue ++ fly_each ns (nodes_of heads)) next) ∙ x.queued) in
-          let long = length-append queue (n ∷ fly_each left (map (at_number n (lands b)) (nodes_of heads))) in
-          let few = flying_few start in
-          let total = ap length one in
-          omega (arith, long, few, total)
+          omega (arith, length-append queue (n ∷ fly_each left (map (at_number n (lands b)) (nodes_of heads))), flying_few start, ap length one)
 
   -- where the walk meets no more that flies, it leaves the nodes as they are
   unmoved : (n : ℕ) (nodes : List Node) → list_any (λ x. (x.patch.number == n) && flies x) nodes ≡ false → map (at_number n (lands b)) nodes ≡ nodes
@@ -246,11 +236,7 @@ module _ (b : ℕ) where
 
   -- where as many landed as fly, the walk has no more to land
   pub landing_full : (start heads : List Head) (rest queue : List ℕ) → Landing start heads rest queue → length (flying_on b (patches_of start)) ≤ length queue → (nodes_of heads ≡ map (lands b) (nodes_of start)) × (queue ≡ flying_on b (patches_of start))
-  landing_full start heads rest queue x full =
-      let total = ap length x.queued in
-      let long = length-append queue (fly_each rest (nodes_of heads)) in
-      let none = no_more (fly_each rest (nodes_of heads)) (omega (arith, total, long, full)) in
-      (sym (none_left rest (nodes_of heads) none) ∙ x.nodes, sym (append-nil queue) ∙ (ap (λ ns. queue ++ ns) (sym none) ∙ x.queued))
+  landing_full start heads rest queue x full = grind (arith, length-append, no_more, none_left, append-nil)
 
   module _ (heads : List Head) (new : List Head) (landing : nodes_of new ≡ map (lands b) (nodes_of heads)) where
     pub heads_landed : patches_of new ≡ map (landed b) (patches_of heads)

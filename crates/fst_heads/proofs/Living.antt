@@ -1,8 +1,8 @@
 -- How many patches wait for the disk: those of which something is pending, as their dependants know it.
-use Rattle.fst_heads.proofs.Basics.{◌≡◌, ◌≢◌, ℕ, suc, ◌+◌, ◌<◌, Bool, true, false, not, cond, if◌then◌else◌, ◌&&◌, ◌==◌, List, [], ◌∷◌, map, count_by, AllPairs, refl, sym, ap, subst, ◌∙◌, inl, inr, arith, cases_Bool, cases_eq, false≢true}
-use Rattle.fst_heads.proofs.Patches.{is_at, is_live, In, In-from_Contains, Contains-from_In, is_among}
+use Rattle.fst_heads.proofs.Basics.{◌≡◌, ◌≢◌, ℕ, suc, ◌+◌, ◌<◌, Bool, true, false, not, cond, List, [], ◌∷◌, map, count_by, AllPairs, refl, sym, ap, subst, ◌∙◌, inl, inr, arith, cases_Bool, cases_eq, false≢true}
+use Rattle.fst_heads.proofs.Patches.{is_at, is_live, In, In-from_Contains, Contains-from_In}
 use Rattle.fst_heads.proofs.Patches.place
-use Rattle.fst_heads.proofs.Words.{Pending, Node, patches_in, at_number, AreSettled, is_pending, plus, minus, height, Sinks, is_waiting, is_told, now, settles, heard, follows}
+use Rattle.fst_heads.proofs.Words.{Pending, Node, patches_in, at_number, AreSettled, is_pending, Sinks, is_waiting, is_told, now, settles, heard}
 use Rattle.fst_heads.proofs.Words.pending
 use Rattle.fst_heads.proofs.AtNumber.{at_same, at_other}
 use Rattle.fst_heads.proofs.CountsAs.{count_cons, count_map}
@@ -13,23 +13,10 @@ pub waiting_kept : (f : Node → Node) (nodes : List Node) → ((x : Node) → (
 waiting_kept f nodes same = count_map is_waiting is_waiting f nodes (λ x i. ap (λ p. not (is_pending p pending.Nothing)) (same x))
 
 pub at_number_told : (n : ℕ) (f : Node → Node) (x : Node) → (f x).pending ≡ x.pending → (at_number n f x).pending ≡ x.pending
-at_number_told n f x same = elim (cases_eq x.patch.number n) [
-  | inl e ↦ rw (at_same n f x e) same
-  | inr ne ↦ rw (at_other n f x ne) refl
-]
+at_number_told n f x same = grind (arith, cases_eq, at_same, at_other)
 
 pub waiting_heard : (row : List ℕ) (old new : Pending) (nodes : List Node) → count_by is_waiting (map (heard row old new) nodes) ≡ count_by is_waiting nodes
-waiting_heard row old new nodes = waiting_kept (heard row old new) nodes told
-  where
-    rests : (t : Bool) (x : Node) → (if t then record x { patch = record x.patch { place = place.Disk } } else x).pending ≡ x.pending
-    rests true x = refl
-    rests false x = refl
-
-    told : (x : Node) → (heard row old new x).pending ≡ x.pending
-    told x = elim (cases_Bool (is_among row x.patch.number)) [
-      | inl e ↦ rw e (rests (follows x.patch.kind && ((plus new (minus old x.sums)).count == 0)) (record x { sums = plus new (minus old x.sums) }))
-      | inr e ↦ rw e refl
-    ]
+waiting_heard row old new nodes = grind (arith, waiting_kept, cases_Bool)
 
 waiting_others : (q : ℕ) (nodes : List Node) → ((x : Node) → In nodes x → x.patch.number ≢ q) → count_by is_waiting (map (at_number q settles) nodes) ≡ count_by is_waiting nodes
 waiting_others q nodes others = count_map is_waiting is_waiting (at_number q settles) nodes (λ x i. ap is_waiting (at_other q settles x (others x i)))
@@ -58,20 +45,15 @@ waiting_settles (x ∷ xs) q here rising i e waits =
           let others = waiting_others q xs (λ y j n. let lt = behind y j in omega (arith, lt, n, own)) in
           let first : is_waiting (at_number q settles x) ≡ not (is_pending (now x) pending.Nothing) = ap is_waiting (at_same q settles x own) in
           let same_now : is_pending (now here) pending.Nothing ≡ is_pending (now x) pending.Nothing = ap (λ z. is_pending (now z) pending.Nothing) (sym same) in
-          let a = count_cons is_waiting (at_number q settles x) (map (at_number q settles) xs) in
-          let b = count_cons is_waiting x xs in
           let one = ap one_if first in
           let two = ap one_if here_waits in
           let three = ap one_if same_now in
           let four = one_of (is_pending (now x) pending.Nothing) in
-          omega (arith, a, b, one, two, three, four, others)
+          omega (arith, count_cons is_waiting (at_number q settles x) (map (at_number q settles) xs), count_cons is_waiting x xs, one, two, three, four, others)
       | inr j ↦
-          let lt = behind here j in
-          let r = waiting_settles xs q here rest j e waits in
-          let first = ap one_if (ap is_waiting (at_other q settles x (λ n. omega (arith, n, lt, e)))) in
-          let a = count_cons is_waiting (at_number q settles x) (map (at_number q settles) xs) in
+          let first = ap one_if (ap is_waiting (at_other q settles x (λ n. omega (arith, n, behind here j, e)))) in
           let b = count_cons is_waiting x xs in
-          omega (arith, a, b, first, r)
+          omega (arith, count_cons is_waiting (at_number q settles x) (map (at_number q settles) xs), b, first, waiting_settles xs q here rest j e waits)
     ]
 
 is_nothing : (p : Pending) → is_pending p pending.Nothing ≡ true → p ≡ pending.Nothing
@@ -80,17 +62,7 @@ is_nothing p e = absurd (false≢true e)
 
 -- where its dependants know other than is pending now it waits
 pub waits_untold : (x : Node) → Sinks x.pending (now x) → is_told x ≡ false → is_waiting x ≡ true
-waits_untold x sinks untold = elim (cases_Bool (is_pending x.pending pending.Nothing)) [
-  | inr e ↦ rw e refl
-  | inl e ↦
-      let none = is_nothing x.pending e in
-      elim sinks [
-        | inl same ↦
-            let own : now x ≡ pending.Nothing = same ∙ none in
-            absurd (false≢true (sym untold ∙ (ap (λ p. is_pending p x.pending) own ∙ ap (λ p. is_pending pending.Nothing p) none)))
-        | inr lower ↦ let level = ap height none in absurd (omega (arith, lower, level))
-      ]
-]
+waits_untold x sinks untold = grind (arith, cases_Bool, is_nothing, false≢true)
 
 -- between calls those wait that are not on disk
 pub waiting_live : (nodes : List Node) (blocks : ℕ) → AreSettled nodes blocks → count_by is_waiting nodes ≡ count_by is_live (patches_in nodes)
@@ -107,8 +79,4 @@ waiting_live nodes blocks S = go nodes (λ x i. i)
     go : (xs : List Node) → ((x : Node) → In xs x → In nodes x) → count_by is_waiting xs ≡ count_by is_live (patches_in xs)
     go [] among = refl
     go (x ∷ xs) among =
-        let rest = go xs (λ y i. among y (inr i)) in
-        let same = ap one_if (one x (among x (inl refl))) in
-        let a = count_cons is_waiting x xs in
-        let b = count_cons is_live x.patch (patches_in xs) in
-        omega (arith, a, b, same, rest)
+        omega (arith, count_cons is_waiting x xs, count_cons is_live x.patch (patches_in xs), ap one_if (one x (among x (inl refl))), go xs (λ y i. among y (inr i)))

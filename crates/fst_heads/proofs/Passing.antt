@@ -1,5 +1,5 @@
 -- The walk along the list of a block for those of its patches that pass a test.
-use Rattle.fst_heads.proofs.Basics.{◌≡◌, ◌==◌, ◌&&◌, ◌||◌, ℕ, ◌<◌, ◌+◌, Bool, true, false, not, List, [], ◌∷◌, map, filter, drop, length, get_or, refl, sym, ap, ◌∙◌, inl, inr, list_any, cases_Bool, false≢true, drop_more, and_parts}
+use Rattle.fst_heads.proofs.Basics.{◌≡◌, ◌==◌, ◌&&◌, ◌||◌, ℕ, ◌<◌, ◌+◌, Bool, true, false, not, List, [], ◌∷◌, map, filter, drop, length, get_or, refl, sym, ap, ◌∙◌, inl, inr, list_any, cases_Bool, false≢true, drop_more, and_parts, arith}
 use Rattle.fst_heads.proofs.Patches.{In, Contains-from_In, Place, is_at, is_on, is_change_at}
 use Rattle.fst_heads.proofs.Patches.place
 use Rattle.fst_heads.proofs.Words.{is_free_on, is_bound_on, Head, Listed, IsRising, kind_of, patch_of, patches_of, entries_of, entries_on, is_live_on, HasSlot, HasNone, Node, node_of, nodes_of, is_pending, is_ready_on, is_hard_kind}
@@ -66,14 +66,10 @@ module _ (t : Node → Bool) (heads : List Head) (list : List Listed) (i : ℕ) 
   passing_skip s d rising slot e = passing_no (any_slot heads n s t d rising slot ∙ e)
 
 pub free_listed : (behind : ℕ → Bool) (b : ℕ) (x : Node) → is_free_on behind b x ≡ true → is_live_on b x.patch ≡ true
-free_listed behind b x e =
-    let ready = (and_parts (is_change_at place.Memory b x.patch && is_pending x.pending (pending.Block b)) _ e).0 in
-    listed_memory b x (and_parts (is_change_at place.Memory b x.patch) _ ready).0
+free_listed behind b x e = grind (arith, and_parts, listed_memory)
 
 pub bound_listed : (behind : ℕ → Bool) (b : ℕ) (x : Node) → is_bound_on behind b x ≡ true → is_live_on b x.patch ≡ true
-bound_listed behind b x e =
-    let hard = (and_parts (is_change_at place.Memory b x.patch && is_hard_kind x.patch.kind) _ e).0 in
-    listed_memory b x (and_parts (is_change_at place.Memory b x.patch) (is_hard_kind x.patch.kind) hard).0
+bound_listed behind b x e = grind (arith, and_parts, listed_memory)
 
 -- the test of the code says whether the node of the head passes
 module _ (behind : ℕ → Bool) (b : ℕ) (h d : Head) (n : ℕ) (back r : Bool) (at : h ≡ d) (number : d.number ≡ n) (told : back ≡ behind n) where

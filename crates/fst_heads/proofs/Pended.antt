@@ -1,18 +1,16 @@
 -- What is pending of the patch with a number, and which patches are told.
-use Rattle.fst_heads.proofs.Basics.{◌≡◌, ℕ, true, List, Contains, sym, ap, ◌∙◌}
-use Rattle.fst_heads.proofs.Words.{Pending, Sums, Node, pending_in, AreSettled, joined, joined_sums, of_kind, sums_of, now, is_told}
+use Rattle.fst_heads.proofs.Basics.{◌≡◌, ℕ, true, List, Contains, sym, ◌∙◌, arith}
+use Rattle.fst_heads.proofs.Words.{Pending, Node, pending_in, AreSettled, joined, of_kind, sums_of, now, is_told}
 use Rattle.fst_heads.proofs.Words.pending
 use Rattle.fst_heads.proofs.Sums.{joined_exact}
-use Rattle.fst_heads.proofs.Turning.{same_pending}
+pub use Rattle.fst_heads.proofs.Turning.{same_pending as pending_same}
 
 pub told_now : (x : Node) → is_told x ≡ true → now x ≡ x.pending
-told_now x e = same_pending (now x) x.pending e
+told_now x e = pending_same (now x) x.pending e
 
 -- by its exact sums what is pending of it now follows from its row
 pub now_row : (told : ℕ → Pending) (x : Node) → x.sums ≡ sums_of told x.patch.dependencies → now x ≡ of_kind x.patch.kind x.patch.place (joined told x.patch.dependencies)
-now_row told x e =
-    ap (λ (s : Sums). of_kind x.patch.kind x.patch.place (joined_sums s)) e
-    ∙ ap (of_kind x.patch.kind x.patch.place) (joined_exact told x.patch.dependencies)
+now_row told x e = grind (arith, joined_exact)
 
 -- at rest all are told
 pub now_at_rest : (nodes : List Node) (blocks : ℕ) → AreSettled nodes blocks → (x : Node) → Contains nodes x → now x ≡ x.pending

@@ -17,8 +17,7 @@ pending_slot (h ∷ hs) n zero d rising slot = rw (eq-eqb h.number n (slot.1 d))
 pending_slot (h ∷ hs) n (suc s) d rising slot =
     let inside = slot.0 in
     let below = rising 0 (suc s) d (omega arith) inside in
-    let there = slot.1 d in
-    rw (ne_eqb h.number n (λ same. omega (arith, same, below, there)))
+    rw (ne_eqb h.number n (λ same. omega (arith, same, below, slot.1 d)))
     (pending_slot hs n s d (λ i j c lt b. rising (suc i) (suc j) c (omega (arith, lt)) (omega (arith, b))) (omega (arith, inside), slot.1))
 
 -- the node of the head in a slot

@@ -1,5 +1,5 @@
 -- What stands beside the patches where some are launched or forgotten.
-use Rattle.fst_heads.proofs.Basics.{◌≡◌, ◌≢◌, ℕ, Bool, true, false, cond, List, [], ◌∷◌, map, filter, AllPairs, Contains, refl, sym, ap, subst, ◌∙◌, inl, inr, cases_Bool}
+use Rattle.fst_heads.proofs.Basics.{◌≡◌, ◌≢◌, ℕ, Bool, true, false, cond, List, [], ◌∷◌, map, filter, AllPairs, Contains, refl, sym, ap, subst, ◌∙◌, inl, inr, cases_Bool, rules}
 use Rattle.fst_heads.proofs.Patches.{Patch, IsLiveNumber, HasOnePlaceEach, is_live, is_on, is_among, launched, same_number, In, In-from_Contains, Contains-from_In, In-unmap, among_in}
 use Rattle.fst_heads.proofs.Words.{launches, entry, entries_on, is_live_on, Node, patches_in, times, AreLinked, AreGiven, AreDistinct}
 use Rattle.fst_heads.proofs.Forgetting.{live_place_of}
@@ -101,11 +101,7 @@ module _ (nodes : List Node) (numbers : ℕ) (chosen : List ℕ) (H : HasOnePlac
   }
 
 pub launched_links : (chosen : List ℕ) (x : Node) → SameLinks x (launches chosen x)
-launched_links chosen x = record {
-  number = number_if (is_among chosen x.patch.number) x.patch _ refl;
-  dependencies = dependencies_if (is_among chosen x.patch.number) x.patch _ refl;
-  dependants = refl;
-}
+launched_links chosen x = search (rules, number_if, dependencies_if)
 
 pub patches_dropped : (nodes : List Node) → patches_in (filter (λ x. is_live x.patch) nodes) ≡ filter is_live (patches_in nodes)
 patches_dropped [] = refl

@@ -85,18 +85,10 @@ module _ (heads : List Head) (blocks : ℕ) (queue : List ℕ) (q s : ℕ) (narr
     told = map (heard here.dependants here.pending (now here)) (map (at_number q settles) nodes)
 
     told_after : (d : Node) → map (heard (get_or after s d).dependants was is) after ≡ told
-    told_after d =
-        ap (λ ms. map (heard ms was is) after) (row_after d)
-        ∙ (ap (λ p. map (heard here.dependants p is) after) was_is
-        ∙ (ap (λ p. map (heard here.dependants here.pending p) after) is_now
-        ∙ ap (λ ns. map (heard here.dependants here.pending (now here)) ns) after_is))
+    told_after d = grind (arith, row_after, was_is, is_now, after_is)
 
     woken_after : (d : Node) → woken (get_or after s d).dependants was is after ≡ woken here.dependants here.pending (now here) (map (at_number q settles) nodes)
-    woken_after d =
-        ap (λ ms. woken ms was is after) (row_after d)
-        ∙ (ap (λ p. woken here.dependants p is after) was_is
-        ∙ (ap (λ p. woken here.dependants here.pending p after) is_now
-        ∙ ap (λ ns. woken here.dependants here.pending (now here) ns) after_is))
+    woken_after d = grind (arith, row_after, was_is, is_now, after_is)
 
     spreads : Spreading told blocks (queue ++ woken here.dependants here.pending (now here) (map (at_number q settles) nodes))
     spreads = spreads_on nodes blocks queue q here narrow S linked distinct here_in here_number
@@ -104,9 +96,8 @@ module _ (heads : List Head) (blocks : ℕ) (queue : List ℕ) (q s : ℕ) (narr
     pub room_after : (d : Node) → length queue + length (woken (get_or after s d).dependants was is after) ≤ length heads
     room_after d =
         let fits = queue_fits told blocks (queue ++ woken here.dependants here.pending (now here) (map (at_number q settles) nodes)) spreads in
-        let parts = length-append queue (woken here.dependants here.pending (now here) (map (at_number q settles) nodes)) in
         let long = length-map (map (at_number q settles) nodes) (heard here.dependants here.pending (now here)) ∙ (length-map nodes (at_number q settles) ∙ length-map heads node_of) in
-        omega (arith, fits, parts, long, ap length (woken_after d))
+        omega (arith, fits, length-append queue (woken here.dependants here.pending (now here) (map (at_number q settles) nodes)), long, ap length (woken_after d))
 
     -- what stands after it
     pub record Turn (next : List Node) (longer : List ℕ) : Type 0 where

@@ -1,9 +1,9 @@
 -- What becomes of the counts of each block where what is pending of one patch is settled.
-use Rattle.fst_heads.proofs.Basics.{◌≡◌, ◌≢◌, ℕ, ◌+◌, ◌<◌, ◌≤◌, ◌==◌, ◌&&◌, Bool, true, false, not, cond, List, length, count_by, set, get_or, refl, sym, ap, subst, ◌∙◌, inl, inr, arith, length-set, cases_Bool, cases_eq, eq-eqb, ne_eqb, false≢true, length-map, get_or-map, and-true, and-false}
+use Rattle.fst_heads.proofs.Basics.{◌≡◌, ◌≢◌, ℕ, ◌+◌, ◌<◌, ◌≤◌, ◌==◌, ◌&&◌, Bool, true, false, not, cond, List, length, count_by, set, get_or, refl, sym, ap, subst, ◌∙◌, inl, inr, arith, length-set, cases_Bool, cases_eq, eq-eqb, ne_eqb, false≢true, length-map, get_or-map, and-true, and-false, rules}
 use Rattle.fst_heads.proofs.Basics.{map-set, sum_by-set, get_or-le-sum_by, count_by-le-length}
 use Rattle.fst_heads.proofs.Patches.{Grade, Change, is_at, is_on, is_change_at}
 use Rattle.fst_heads.proofs.Patches.place
-use Rattle.fst_heads.proofs.Words.{Head, kind_of, patch_of, Pending, Standing, Node, node_of, nodes_of, is_pending, over_block, of_kind, joined_sums, height, Sinks, now, is_told, settles, AllStand, is_ready_on, is_held_on, is_flying_on, standing_of, released, is_hard_kind}
+use Rattle.fst_heads.proofs.Words.{Head, kind_of, patch_of, Pending, Standing, Node, node_of, nodes_of, is_pending, over_block, height, Sinks, now, is_told, settles, AllStand, is_ready_on, is_held_on, is_flying_on, standing_of, released, is_hard_kind}
 use Rattle.fst_heads.proofs.Words.pending
 use Rattle.fst_heads.proofs.CountsAs.{CountsAs, counts, standing_same, stand_set, off_as}
 use Rattle.fst_heads.proofs.Turning.{is_itself}
@@ -26,13 +26,7 @@ high_apart p b le = absurd (omega (arith, le))
 -- where the dependants of a change in memory know other than is pending of it, it waited for more than its block
 pub waited_for_more : (x : Node) (b at len : ℕ) (grade : Grade) → x.patch.kind ≡ Change b at len grade → x.patch.place ≡ place.Memory → Sinks x.pending (now x) → is_told x ≡ false
     → is_pending x.pending (pending.Block b) ≡ false
-waited_for_more x b at len grade kind memory sinks untold =
-    let own : now x ≡ over_block b (joined_sums x.sums) =
-    ap (λ k. of_kind k x.patch.place (joined_sums x.sums)) kind ∙ ap (λ p. of_kind (Change b at len grade) p (joined_sums x.sums)) memory in
-    high_apart x.pending b (elim sinks [
-      | inl same ↦ absurd (false≢true (sym untold ∙ (ap (λ p. is_pending p x.pending) same ∙ is_itself x.pending)))
-      | inr lower ↦ let some = over_high b (joined_sums x.sums) in let level = ap height own in omega (arith, lower, some, level)
-    ])
+waited_for_more x b at len grade kind memory sinks untold = grind (arith, high_apart, false≢true, is_itself, over_high)
 
 module _ (nodes : List Node) (s : ℕ) (x : Node) (lt : s < length nodes) (e : get_or nodes s x ≡ x) where
   -- a count where the node is another
@@ -51,10 +45,7 @@ module _ (nodes : List Node) (s : ℕ) (x : Node) (lt : s < length nodes) (e : g
 
   -- what counts is counted
   pub counted_some : (t : Node → Bool) → t x ≡ true → 0 < count_by t nodes
-  counted_some t passes =
-      let part = get_or-le-sum_by (λ z. cond (t z) 1 0) nodes s x lt in
-      let one : cond (t (get_or nodes s x)) 1 0 ≡ 1 = ap (λ z. cond (t z) 1 0) e ∙ ap one_if passes in
-      omega (arith, part, one)
+  counted_some t passes = grind (arith, get_or-le-sum_by, one_if)
 
   released_as : (hard : Bool) (r h f r' h' f' : ℕ) → r' + 0 ≡ r + 1 → h' + cond hard 1 0 ≡ h + 0 → f' ≡ f → released hard (counts r h f) ≡ counts r' h' f'
   released_as true r h f r' h' f' a b c = standing_same _ _ _ _ _ _ (omega (arith, a)) (omega (arith, b)) (sym c)
@@ -69,9 +60,7 @@ module _ (nodes : List Node) (s : ℕ) (x : Node) (lt : s < length nodes) (e : g
     not_ready = ap (λ t. t && is_pending x.pending (pending.Block b)) here ∙ waited_for_more x b at len grade kind memory sinks untold
 
     pub was_held : is_held_on b x ≡ is_hard_kind x.patch.kind
-    was_held =
-        ap (λ t. (t && is_hard_kind x.patch.kind) && not (is_pending x.pending (pending.Block b))) here
-        ∙ (ap (λ t. is_hard_kind x.patch.kind && not t) (waited_for_more x b at len grade kind memory sinks untold) ∙ and-true (is_hard_kind x.patch.kind))
+    was_held = grind (arith, here, waited_for_more, and-true)
 
     off : (c : ℕ) → c ≢ b → is_on c x.patch.kind ≡ false
     off c ne = ap (is_on c) kind ∙ ne_eqb b c (λ same. ne (sym same))
@@ -98,11 +87,8 @@ module _ (nodes : List Node) (s : ℕ) (x : Node) (lt : s < length nodes) (e : g
       -- one more can be ready
       pub ready_few : count_by (is_ready_on b) nodes < length nodes
       ready_few =
-          let all = count_set (is_ready_on b) (settles x) in
           let most = count_by-le-length (is_ready_on b) (set nodes s (settles x)) in
-          let before = ap one_if not_ready in
-          let after = ap one_if ready_then in
-          omega (arith, all, most, before, after, length-set nodes s (settles x))
+          omega (arith, count_set (is_ready_on b) (settles x), most, ap one_if not_ready, ap one_if ready_then, length-set nodes s (settles x))
 
       pub stand_released : (blocks : ℕ) (standings : List Standing) (d : Standing) → b < blocks → AllStand nodes blocks standings
           → AllStand (set nodes s (settles x)) blocks (set standings b (released (is_hard_kind x.patch.kind) (get_or standings b d)))
@@ -110,17 +96,11 @@ module _ (nodes : List Node) (s : ℕ) (x : Node) (lt : s < length nodes) (e : g
         where
           ready_more : count_by (is_ready_on b) (set nodes s (settles x)) + 0 ≡ count_by (is_ready_on b) nodes + 1
           ready_more =
-              let all = count_set (is_ready_on b) (settles x) in
-              let before = ap one_if not_ready in
-              let after = ap one_if ready_then in
-              omega (arith, all, before, after)
+              omega (arith, count_set (is_ready_on b) (settles x), ap one_if not_ready, ap one_if ready_then)
 
           held_less : count_by (is_held_on b) (set nodes s (settles x)) + cond (is_hard_kind x.patch.kind) 1 0 ≡ count_by (is_held_on b) nodes + 0
           held_less =
-              let all = count_set (is_held_on b) (settles x) in
-              let before = ap one_if was_held in
-              let after = ap one_if held_no_more in
-              omega (arith, all, before, after)
+              omega (arith, count_set (is_held_on b) (settles x), ap one_if was_held, ap one_if held_no_more)
 
           own : released (is_hard_kind x.patch.kind) (get_or standings b d) ≡ standing_of (set nodes s (settles x)) b
           own =
@@ -161,16 +141,10 @@ module _ (heads : List Head) (s : ℕ) (h : Head) (lt : s < length heads) (e : h
     counted = own ∙ S.each b st inside
 
     pub few_ready : is_pending (now (node_of h)) (pending.Block b) ≡ true → st.ready < length heads
-    few_ready again =
-        let few = ready_few (nodes_of heads) s (node_of h) long there b at len grade kind memory sinks untold again in
-        let same = ap (λ (z : Standing). z.ready) counted in
-        omega (arith, few, same, length-map heads node_of)
+    few_ready again = search (rules, ready_few, long, there, counted, length-map)
 
     pub some_held : is_hard_kind (kind_of h.kind) ≡ true → 0 < st.held
-    some_held hard =
-        let held = counted_some (nodes_of heads) s (node_of h) long there (is_held_on b) (was_held (nodes_of heads) s (node_of h) long there b at len grade kind memory sinks untold ∙ hard) in
-        let same = ap (λ (z : Standing). z.held) counted in
-        omega (arith, held, same)
+    some_held hard = grind (arith, counted_some, long, there, was_held, counted)
 
     pub stand_freed : is_pending (now (node_of h)) (pending.Block b) ≡ true → (y : Head) → node_of y ≡ settles (node_of h) → (after : Standing) → after ≡ released (is_hard_kind (kind_of h.kind)) st → AllStand (nodes_of (set heads s y)) blocks (set standings b after)
     stand_freed again y same after is =

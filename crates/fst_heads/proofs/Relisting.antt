@@ -1,7 +1,7 @@
 -- The lists of the blocks after a landing.
 use Rattle.fst_heads.proofs.Basics.{◌≡◌, ◌≢◌, ◌&&◌, ℕ, ◌<◌, Bool, true, false, not, cond, List, [], ◌∷◌, ◌+◌, map, filter, set, get_or, Contains, refl, sym, ap, subst, ◌∙◌, inl, inr, arith, get_or-set_same, get_or-set_other, length-set, AllPairs, IsStrictlyIncreasing, AllPairs-filter, and_parts}
 use Rattle.fst_heads.proofs.Basics.{and-false, cases_Bool, cases_eq, eqb-true, false≢true, ne_eqb, length-map, get_or-map}
-use Rattle.fst_heads.proofs.Patches.{Kind, Change, Patch, Rising, is_among, is_at, is_on, is_live, is_change_at, landed, In, In-from_Contains, Contains-from_In, In-map, same_number, filter_in, in_filter, among_in, in_among}
+use Rattle.fst_heads.proofs.Patches.{Kind, Change, Patch, Rising, is_among, is_on, is_live, is_change_at, landed, In, In-from_Contains, Contains-from_In, In-map, same_number, filter_in, in_filter, among_in, in_among}
 use Rattle.fst_heads.proofs.Patches.place
 use Rattle.fst_heads.proofs.Words.{Listed, Entry, entry, entries_of, is_live_on, entries_on, flying_on, AreListed}
 use Rattle.fst_heads.proofs.Placed.{unmapped}
@@ -68,10 +68,7 @@ module _ (b : ℕ) where
 
   -- the lists of the other blocks stay
   other_test : (c : ℕ) (p : Patch) → c ≢ b → is_live_on c (landed b p) ≡ is_live_on c p
-  other_test c p ne = elim (cases_Bool (is_change_at place.Flight b p)) [
-    | inl e ↦ let off = on_other p.kind c ne (and_parts (is_at p.place place.Flight) (is_on b p.kind) e).1 in rw e (sym (ap (λ t. is_live p && t) off ∙ and-false (is_live p)))
-    | inr e ↦ rw e refl
-  ]
+  other_test c p ne = grind (arith, cases_Bool, on_other, and_parts, and-false)
 
   entries_other : (c : ℕ) (ps : List Patch) → c ≢ b → entries_on c (map (landed b) ps) ≡ entries_on c ps
   entries_other c [] ne = refl

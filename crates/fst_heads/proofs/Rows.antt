@@ -1,6 +1,6 @@
 -- Rising rows, and names as calls give them.
-use Rattle.fst_heads.proofs.Basics.{◌≡◌, ℕ, suc, ◌+◌, ◌-◌, ◌<◌, ◌≤◌, List, [], ◌∷◌, length, get_or, Contains, Result, Ok, Err, is_ok, refl, sym, ap, subst, ◌∙◌, inl, inr, arith, insert, IsStrictlyIncreasing, IsBinarySearchResult, IsNonDecreasingBy, nat_cmp, ordering_index, nat_tests}
-use Rattle.fst_heads.proofs.Basics.{length-map, get_or-map, cases_Bool, cases_lt, cases_eq, AllPairs-from_increasing, searched, IsNonDecreasingBy-from_default, IsPermutation-insert, IsPermutation-sym, Contains-permutation, length-insert, get_or-insert_below, get_or-insert_at}
+use Rattle.fst_heads.proofs.Basics.{◌≡◌, ℕ, suc, ◌+◌, ◌-◌, ◌<◌, ◌≤◌, List, [], ◌∷◌, length, get_or, Contains, Result, Ok, Err, is_ok, refl, sym, ap, subst, ◌∙◌, inl, inr, arith, insert, IsStrictlyIncreasing, IsBinarySearchResult, IsNonDecreasingBy, nat_cmp, ordering_index, nat_tests, rules}
+use Rattle.fst_heads.proofs.Basics.{length-map, get_or-map, cases_Bool, cases_lt, cases_eq, AllPairs-from_increasing, searched, IsPermutation-insert, IsPermutation-sym, Contains-permutation, length-insert, get_or-insert_below, get_or-insert_at}
 use Rattle.fst_heads.proofs.Basics.{get_or-insert_above}
 use Rattle.fst_types.specs.Order.{NamesUnknown}
 use Rattle.fst_heads.proofs.Patches.{is_among, among_in, in_among, PatchNo, Lists, IsGiven, In, In-get_or, In-from_Contains, Contains-from_In, In-map}
@@ -12,10 +12,7 @@ module _ (xs : List ℕ) (rising : IsStrictlyIncreasing xs) where
   ordered i j lt inside = AllPairs-from_increasing xs rising i j 0 lt inside
 
   not_falling : (i j : ℕ) → i ≤ j → j < length xs → get_or xs i 0 ≤ get_or xs j 0
-  not_falling i j le lt = elim (cases_lt i j) [
-    | inl below ↦ let r = ordered i j below lt in omega (arith, r)
-    | inr up ↦ let same : i ≡ j = omega (arith, le, up) in subst (λ k. get_or xs i 0 ≤ get_or xs k 0) same (omega arith)
-  ]
+  not_falling i j le lt = grind (arith, cases_lt, ordered)
 
   module _ (x at : ℕ) (small : at ≤ length xs) (before : (k : ℕ) → k < at → get_or xs k 0 < x) (after : (k : ℕ) → at ≤ k → k < length xs → x < get_or xs k 0) where
     rises : IsStrictlyIncreasing (insert xs at x)
@@ -117,14 +114,7 @@ module _ (P : ℕ → Type 0) (names : List PatchNo) (i : ℕ) (row : List ℕ) 
   }
 
   pub gathers_skip : (P (get_or names i e).0 → ⊥) → Gathers P names (i + 1) row
-  gathers_skip no_p = record {
-    rising = x.rising;
-    only = x.only;
-    each = λ k d up inside q. elim (cases_lt k i) [
-      | inl o ↦ x.each k d o inside q
-      | inr past ↦ absurd (no_p (subst P (sym (ap (λ m. m.0) (here k d (λ h. omega (arith, h, past)) up))) q))
-    ];
-  }
+  gathers_skip no_p = search (rules, cases_lt, here)
 
 pub gathers_all : (P : ℕ → Type 0) (names : List PatchNo) (i : ℕ) (row : List ℕ) → length names ≤ i → Gathers P names i row → Lists (λ n. P n × Contains (numbers_of names) n) row
 gathers_all P names i row past x = record {
@@ -140,14 +130,9 @@ gathers_all P names i row past x = record {
 module _ (names : List PatchNo) (rising : IsStrictlyIncreasing (numbers_of names)) (n : ℕ) where
   name_below : (i j : ℕ) (e : PatchNo) → i < j → j < length names → (get_or names i e).0 < (get_or names j e).0
   name_below i j e lt inside =
-      let len = length-map names (λ m. m.0) in
-      let r = ordered (numbers_of names) rising i j lt (omega (arith, inside, len)) in
+      let r = ordered (numbers_of names) rising i j lt (omega (arith, inside, length-map names (λ m. m.0))) in
       let a = get_or-map (λ m. m.0) names i e 0 (omega (arith, lt, inside)) in
-      let b = get_or-map (λ m. m.0) names j e 0 inside in
-      omega (arith, r, a, b)
+      omega (arith, r, a, get_or-map (λ m. m.0) names j e 0 inside)
 
   compared : (e : PatchNo) → IsNonDecreasingBy (λ m. ordering_index (nat_cmp m.0 n)) names
-  compared e = IsNonDecreasingBy-from_default (λ m. ordering_index (nat_cmp m.0 n)) names e (λ i j le lt.
-      let below : (i < j) → (get_or names i e).0 < (get_or names j e).0 = λ h. name_below i j e h lt in
-      let same : i ≡ j → (get_or names i e).0 ≡ (get_or names j e).0 = λ k. ap (λ m. (get_or names m e).0) k in
-      grind (arith, nat_tests, below, same))
+  compared e = grind (arith, name_below, nat_tests)

@@ -1,6 +1,6 @@
 -- Slots, numbers and marks.
 use Rattle.fst_heads.proofs.Basics.{◌==◌, cond, find, All, AllPairs, ◌≡◌, ◌≢◌, ℕ, zero, suc, ◌<◌, Bool, true, false, List, [], ◌∷◌, length, get_or, Contains, Some, None, Result, Ok, Err, refl, sym, ap, subst, ◌∙◌, inl, inr, arith, IsSearchInRange, IsBinarySearchResult, IsNonDecreasingBy}
-use Rattle.fst_heads.proofs.Basics.{nat_cmp, ordering_index, IsNonDecreasingBy-from_default, cases_order, cases_lt, eq-eqb, ne_eqb, nat_tests, length-map, get_or-map}
+use Rattle.fst_heads.proofs.Basics.{nat_cmp, ordering_index, cases_order, cases_lt, eq-eqb, ne_eqb, nat_tests, length-map, get_or-map}
 use Rattle.std.proofs.lemmas.Cmp.{ranked}
 use Rattle.fst_heads.proofs.Patches.{Patch, Rising, DirectlyOn, IsLiveNumber, Place, In, In-from_Contains, Contains-from_In, In-map}
 use Rattle.fst_heads.proofs.Patches.place
@@ -15,10 +15,7 @@ some_element (y ∷ ys) k h = y
 -- a search among keys that rise
 module _ {X : Type 0} (key : X → ℕ) (xs : List X) (rising : AllPairs (λ x y. key x < key y) xs) (n : ℕ) where
   compared : (e : X) → IsNonDecreasingBy (λ h. ordering_index (nat_cmp (key h) n)) xs
-  compared e = IsNonDecreasingBy-from_default (λ h. ordering_index (nat_cmp (key h) n)) xs e (λ i j le lt.
-      let below : (i < j) → key (get_or xs i e) < key (get_or xs j e) = λ h. rising i j e h lt in
-      let same : i ≡ j → key (get_or xs i e) ≡ key (get_or xs j e) = λ k. ap (λ m. key (get_or xs m e)) k in
-      grind (arith, nat_tests, below, same))
+  compared e = grind (arith, nat_tests)
 
   pub searched_by : (r : Result ℕ ℕ) → IsSearchInRange r (length xs) → IsBinarySearchResult (λ h. nat_cmp (key h) n) xs r
       → record { found : (slot : ℕ) → r ≡ Ok slot → (slot < length xs) × ((d : X) → key (get_or xs slot d) ≡ n); none : (slot : ℕ) → r ≡ Err slot → All (λ h. key h ≢ n) xs }

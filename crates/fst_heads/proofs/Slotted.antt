@@ -1,5 +1,5 @@
 -- The head in one slot hears of another patch, and all that have a number of a row do.
-use Rattle.fst_heads.proofs.Basics.{◌≡◌, ◌≢◌, ℕ, zero, suc, ◌+◌, ◌<◌, ◌==◌, ◌&&◌, Bool, true, false, if◌then◌else◌, List, [], ◌∷◌, ◌++◌, length, map, take, drop, get_or, Contains, AllPairs, append-nil, length-append, refl, sym, ap, subst, ◌∙◌, inl, inr, arith, list_any, cases_eq, and_from}
+use Rattle.fst_heads.proofs.Basics.{◌≡◌, ◌≢◌, ℕ, zero, suc, ◌+◌, ◌<◌, ◌==◌, ◌&&◌, Bool, true, false, if◌then◌else◌, List, [], ◌∷◌, ◌++◌, length, map, take, drop, get_or, Contains, AllPairs, append-nil, length-append, refl, sym, ap, subst, ◌∙◌, inl, inr, arith, list_any, cases_eq, and_from, rules}
 use Rattle.fst_heads.proofs.Basics.{eq-eqb, ne_eqb, length-map, get_or-map, take_more, take-append-drop, filter-append, list_any-from_Any}
 use Rattle.fst_heads.proofs.Patches.{is_among, In, In-from_Contains, Contains-from_In, In-map, In-unmap}
 use Rattle.fst_heads.proofs.Patches.place
@@ -158,17 +158,7 @@ module _ (row : List ℕ) (once : AllPairs (λ m n. m ≢ n) row) (i : ℕ) (lt 
       Contains-from_In nodes x (subst (In nodes) (sym (heard_next r.0 number) ∙ r.2) r.1)
 
   heard_push : (x : Node) → at_number next (hears old new) (heard done old new x) ≡ heard (done ++ next ∷ []) old new x
-  heard_push x =
-      elim (cases_eq x.patch.number next) [
-        | inl same ↦
-            let there : is_among (done ++ next ∷ []) x.patch.number ≡ true = ap (is_among (done ++ next ∷ [])) same ∙ among_push_same done next in
-            let hears_it : heard (done ++ next ∷ []) old new x ≡ hears old new x = rw there refl in
-            rw (heard_next x same) (at_same next (hears old new) x same ∙ sym hears_it)
-        | inr other ↦
-            let alike : is_among (done ++ next ∷ []) x.patch.number ≡ is_among done x.patch.number = among_push_other done next x.patch.number (λ e. other (sym e)) in
-            let same : heard (done ++ next ∷ []) old new x ≡ heard done old new x = rw alike refl in
-            at_other next (hears old new) (heard done old new x) (λ e. other (sym (heard_number done old new x) ∙ e)) ∙ sym same
-      ]
+  heard_push x = search (rules, cases_eq, among_push_same, heard_next, at_same, among_push_other, at_other, heard_number)
 
   -- one more of the row hears
   pub heard_more : (nodes : List Node) → map (at_number next (hears old new)) (map (heard done old new) nodes) ≡ map (heard (take (i + 1) row) old new) nodes
@@ -197,9 +187,8 @@ module _ (row : List ℕ) (once : AllPairs (λ m n. m ≢ n) row) (i : ℕ) (lt 
       let now = map (heard done old new) nodes in
       let hit = list_any-from_Any (λ x. (x.patch.number == next) && wakes old new x) now (c.0, x, c.1, c.2, and_from (x.patch.number == next) (wakes old new x) (eq-eqb x.patch.number next e) w) in
       let one : woken (next ∷ []) old new now ≡ next ∷ [] = ap (λ t. if t then next ∷ [] else []) hit in
-      let more = ap length (sym (ap (λ ms. woken done old new nodes ++ ms) one) ∙ woken_more nodes) in
       let all = ap length (ap (λ ms. woken ms old new nodes) (sym (take-append-drop (i + 1) row)) ∙ filter-append (λ n. list_any (λ x. (x.patch.number == n) && wakes old new x) nodes) (take (i + 1) row) (drop (i + 1) row)) in
       let before = length-append (woken done old new nodes) (next ∷ []) in
       let parts = length-append (woken (take (i + 1) row) old new nodes) (woken (drop (i + 1) row) old new nodes) in
       let single : length (next ∷ []) ≡ 1 = refl in
-      omega (arith, more, all, before, parts, single)
+      omega (arith, ap length (sym (ap (λ ms. woken done old new nodes ++ ms) one) ∙ woken_more nodes), all, before, parts, single)

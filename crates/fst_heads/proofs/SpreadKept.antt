@@ -1,5 +1,5 @@
 -- What a spread keeps of nodes: all but sums, what is pending, and the places of empty patches and sealed gates.
-use Rattle.fst_heads.proofs.Basics.{◌≡◌, ◌&&◌, ℕ, true, false, not, List, [], ◌∷◌, map, Contains, refl, sym, ap, subst, ◌∙◌, inl, inr, cases_Bool, and_right}
+use Rattle.fst_heads.proofs.Basics.{◌≡◌, ◌&&◌, ℕ, true, false, not, List, [], ◌∷◌, map, Contains, refl, sym, ap, subst, ◌∙◌, cases_Bool, and_right, rules, arith}
 use Rattle.fst_heads.proofs.Patches.{Place, Kind, Empty, SealedGate, Patch, Follows, unsettled, is_at, is_on, Settled, AllSettled, more, all_settled, In-from_Contains, Contains-from_In, In-map, In, In-unmap}
 use Rattle.fst_heads.proofs.Patches.place
 use Rattle.fst_heads.proofs.Words.{entry, is_live_on, entries_on, Node, patches_in, IsSpreadOf, unspread}
@@ -46,16 +46,10 @@ pub record SameEntry (b : ℕ) (o p : Patch) : Type 0 where
   pub same : is_live_on b o ≡ true → entry p ≡ entry o
 
 pub entries_more : (b : ℕ) (o p : Patch) (os ps : List Patch) → SameEntry b o p → entries_on b ps ≡ entries_on b os → entries_on b (p ∷ ps) ≡ entries_on b (o ∷ os)
-entries_more b o p os ps l rest = elim (cases_Bool (is_live_on b o)) [
-  | inl t ↦ let e = l.same t in rw (l.live, t, e, rest) refl
-  | inr f ↦ rw (l.live, f, rest) refl
-]
+entries_more b o p os ps l rest = grind (arith, cases_Bool)
 
 entry_settled : (b : ℕ) (o p : Patch) → Settled o p → SameEntry b o p
-entry_settled b o p s = record {
-  live = subst (λ k. (not (is_at p.place place.Disk) && is_on b k) ≡ is_live_on b o) (sym s.kind) (live_settled b o.kind o.place p.place s.place);
-  same = λ t. entry_same o p s.number s.kind;
-}
+entry_settled b o p s = search (rules, live_settled, entry_same)
 
 pub entries_settled : (b : ℕ) (old new : List Patch) → AllSettled old new → entries_on b new ≡ entries_on b old
 entries_settled b [] [] a = refl

@@ -1,5 +1,5 @@
 -- Numbers that add up as if all were one number, and whose squares do too, are all that number.
-use Rattle.fst_heads.proofs.Basics.{◌≡◌, ℕ, ◌+◌, ◌-◌, ◌*◌, ap, ◌∙◌, inl, inr, arith, cases_lt, mul-add, add-mul, mul_comm, mul_left_comm}
+use Rattle.fst_heads.proofs.Basics.{◌≡◌, ℕ, ◌+◌, ◌-◌, ◌*◌, inl, inr, arith, cases_lt, mul-add, add-mul, mul_comm, mul_left_comm}
 use Rattle.std.proofs.Math.Nat.{one-le-mul}
 
 -- how far x lies from c: the gap is the square of their difference
@@ -9,11 +9,7 @@ pub record Apart (x c : ℕ) : Type 0 where
   pub same : gap ≡ 0 → x ≡ c
 
 square_none : (k : ℕ) → k * k ≡ 0 → k ≡ 0
-square_none k e =
-    elim (cases_lt 0 k) [
-      | inl lt ↦ let some = one-le-mul {a = k} {b = k} (omega (arith, lt)) (omega (arith, lt)) in absurd (omega (arith, some, e))
-      | inr le ↦ omega (arith, le)
-    ]
+square_none k e = grind (arith, cases_lt, one-le-mul)
 
 square_sum : (x k : ℕ) → (x + k) * (x + k) ≡ x * x + x * k + x * k + k * k
 square_sum x k = omega (arith, add-mul x k (x + k), mul-add x x k, mul-add k x k, mul_comm k x)
@@ -46,6 +42,4 @@ gap_more count total squares c x gap own e f = omega (arith, e, f, add-mul count
 
 -- where c is the mean, and c times the total is the sum of squares, there is no gap
 pub gap_none : (count total squares c gap : ℕ) → squares + count * (c * c) ≡ c * total + c * total + gap → c * count ≡ total → c * total ≡ squares → gap ≡ 0
-gap_none count total squares c gap e mean even =
-    let turned : count * (c * c) ≡ c * total = mul_left_comm count c c ∙ ap (λ y. c * y) (mul_comm count c ∙ mean) in
-    omega (arith, e, turned, even)
+gap_none count total squares c gap e mean even = grind (arith, mul_left_comm, mul_comm)

@@ -1,5 +1,5 @@
 -- How the counts of each block follow what becomes of patches.
-use Rattle.fst_heads.proofs.Basics.{◌≡◌, ◌≢◌, ◌&&◌, ◌+◌, ◌<◌, ◌≤◌, ℕ, Bool, true, false, not, cond, List, [], ◌∷◌, map, filter, count_by, set, get_or, AllPairs, refl, sym, ap, subst, ◌∙◌, inl, inr, arith, cases_Bool, cases_eq, and_parts, eq-eqb, ne_eqb, false≢true, length-map, get_or-map}
+use Rattle.fst_heads.proofs.Basics.{◌≡◌, ◌≢◌, ◌&&◌, ◌+◌, ◌<◌, ◌≤◌, ℕ, Bool, true, false, not, cond, List, map, filter, count_by, set, get_or, AllPairs, refl, sym, ap, subst, ◌∙◌, inl, inr, arith, cases_Bool, cases_eq, and_parts, eq-eqb, ne_eqb, false≢true, length-map, get_or-map, rules}
 use Rattle.fst_heads.proofs.Patches.{Grade, Place, HasOnePlaceEach, IsOpenNumber, Kind, Patch, Change, OpenGate, SealedGate, is_among, is_at, is_change_at, is_live, is_on, same_number, filter_in, in_filter, In, Contains-from_In, In-map, In-unmap, among_in, in_among}
 use Rattle.fst_heads.proofs.Patches.place
 use Rattle.fst_heads.proofs.Words.{Pending, Sums, Standing, IsInside, Node, patches_in, at_number, linked_to, gains_names, is_pending, plus, minus, hears, heard, seals, lands, launches, AllStand, is_ready_on, is_held_on, is_flying_on, ready_on, standing_of, entered, is_hard_kind}
@@ -48,10 +48,7 @@ flying_on_it b x e = (and_parts (is_at x.patch.place place.Flight) (is_on b x.pa
 
 -- a landing of b changes no count of another block
 landed_other : (b c : ℕ) (x : Node) → c ≢ b → CountsAs c (lands b x) x
-landed_other b c x ne = elim (cases_Bool (is_flying_on b x)) [
-  | inl e ↦ let off = on_one b c x.patch.kind ne (flying_on_it b x e) in rw e (off_as c _ x off off)
-  | inr e ↦ rw e (self_as c x)
-]
+landed_other b c x ne = grind (arith, cases_Bool, on_one, flying_on_it, off_as, self_as)
 
 -- a block without changes in it has nothing in flight
 pub stand_landed_outside : (nodes : List Node) (blocks b : ℕ) (standings : List Standing) → IsInside (patches_in nodes) blocks → blocks ≤ b
@@ -92,11 +89,9 @@ ready_not_held change hard ready e = refl
 -- one number, one node
 rising_in : (nodes : List Node) → AllPairs (λ p q. p.number < q.number) (patches_in nodes) → AllPairs (λ x y. x.patch.number < y.patch.number) nodes
 rising_in nodes rising i j d lt inside =
-    let long = length-map nodes (λ (x : Node). x.patch) in
-    let r = rising i j d.patch lt (omega (arith, inside, long)) in
+    let r = rising i j d.patch lt (omega (arith, inside, length-map nodes (λ (x : Node). x.patch))) in
     let one = ap (λ (p : Patch). p.number) (get_or-map (λ (x : Node). x.patch) nodes i d d.patch (omega (arith, lt, inside))) in
-    let other = ap (λ (p : Patch). p.number) (get_or-map (λ (x : Node). x.patch) nodes j d d.patch inside) in
-    omega (arith, r, one, other)
+    omega (arith, r, one, ap (λ (p : Patch). p.number) (get_or-map (λ (x : Node). x.patch) nodes j d d.patch inside))
 
 -- where one block launches what is ready of it
 module _ (nodes : List Node) (rising : AllPairs (λ x y. x.patch.number < y.patch.number) nodes) (b : ℕ) where
@@ -124,29 +119,13 @@ module _ (nodes : List Node) (rising : AllPairs (λ x y. x.patch.number < y.patc
   none_ready x i = elim (cases_Bool (is_ready_on b x)) [ inl e ↦ ap (is_ready_on b) (goes x i e) | inr e ↦ ap (is_ready_on b) (stays x i e) ∙ e ]
 
   held_as : (x : Node) → In nodes x → is_held_on b (launches (ready_on b nodes) x) ≡ is_held_on b x
-  held_as x i = elim (cases_Bool (is_ready_on b x)) [
-    | inl e ↦ let k = and_parts (is_change_at place.Memory b x.patch) (is_pending x.pending (pending.Block b)) e in ap (is_held_on b) (goes x i e) ∙ (sym (ready_not_held (is_change_at place.Memory b x.patch) (is_hard_kind x.patch.kind) (is_pending x.pending (pending.Block b)) k.1))
-    | inr e ↦ ap (is_held_on b) (stays x i e)
-  ]
+  held_as x i = grind (arith, cases_Bool, and_parts, goes, ready_not_held, stays)
 
   flies_as : (x : Node) → In nodes x → is_flying_on b x ≡ false → is_flying_on b (launches (ready_on b nodes) x) ≡ is_ready_on b x
-  flies_as x i none = elim (cases_Bool (is_ready_on b x)) [
-    | inl e ↦
-        let k = and_parts (is_change_at place.Memory b x.patch) (is_pending x.pending (pending.Block b)) e in
-        let on = and_parts (is_at x.patch.place place.Memory) (is_on b x.patch.kind) k.0 in
-        ap (is_flying_on b) (goes x i e) ∙ (on.1 ∙ sym e)
-    | inr e ↦ ap (is_flying_on b) (stays x i e) ∙ (none ∙ sym e)
-  ]
+  flies_as x i none = grind (arith, cases_Bool, and_parts, goes, stays)
 
   launched_other : (c : ℕ) (x : Node) → In nodes x → c ≢ b → CountsAs c (launches (ready_on b nodes) x) x
-  launched_other c x i ne = elim (cases_Bool (is_ready_on b x)) [
-    | inl e ↦
-        let k = and_parts (is_change_at place.Memory b x.patch) (is_pending x.pending (pending.Block b)) e in
-        let on = and_parts (is_at x.patch.place place.Memory) (is_on b x.patch.kind) k.0 in
-        let off = on_one b c x.patch.kind ne on.1 in
-        rw (goes x i e) (off_as c _ x off off)
-    | inr e ↦ rw (stays x i e) (self_as c x)
-  ]
+  launched_other c x i ne = grind (arith, cases_Bool, and_parts, on_one, goes, off_as, stays, self_as)
 
 -- all that is ready of the block goes, and nothing else
 pub stand_launched : (nodes : List Node) (numbers blocks b : ℕ) (standings : List Standing) (d : Standing) → HasOnePlaceEach (patches_in nodes) numbers → b < blocks → (get_or standings b d).flying ≡ 0
@@ -175,14 +154,7 @@ not_live p e = absurd (false≢true (sym e))
 
 -- what is dropped was on disk, and counts for no block
 pub stand_dropped : (nodes : List Node) (blocks : ℕ) (standings : List Standing) → AllStand nodes blocks standings → AllStand (filter (λ x. is_live x.patch) nodes) blocks standings
-stand_dropped nodes blocks standings S = record {
-  long = S.long;
-  each = λ b d lt. S.each b d lt
-      ∙ sym (standing_same _ _ _ _ _ _
-      (count_kept (is_ready_on b) (λ x. is_live x.patch) nodes (λ x e. rw (not_live x.patch.place e) refl))
-      (count_kept (is_held_on b) (λ x. is_live x.patch) nodes (λ x e. rw (not_live x.patch.place e) refl))
-      (count_kept (is_flying_on b) (λ x. is_live x.patch) nodes (λ x e. rw (not_live x.patch.place e) refl)));
-}
+stand_dropped nodes blocks standings S = search (rules, standing_same, count_kept, not_live)
 
 -- a link keeps what a node counts as
 linked_as : (row : List ℕ) (n b : ℕ) (x : Node) → CountsAs b (linked_to row n x) x
@@ -190,20 +162,13 @@ linked_as row n b x = elim (cases_Bool (is_among row x.patch.number)) [ inl e �
 
 -- a count where there is a new node
 count_made : (t : Node → Bool) (nodes : List Node) (p : Patch) → ((x : Node) → t (linked_to p.dependencies p.number x) ≡ t x) → count_by t (with_node nodes p) ≡ count_by t nodes + cond (t (new_node nodes p)) 1 0
-count_made t nodes p same =
-    let last = count_cons t (new_node nodes p) [] in
-    let others = count_map t t (linked_to p.dependencies p.number) nodes (λ x i. same x) in
-    let all = count_append t (map (linked_to p.dependencies p.number) nodes) (new_node nodes p ∷ []) in
-    omega (arith, last, others, all)
+count_made t nodes p same = grind (arith, count_cons, new_node, count_map, count_append)
 
 standing_made : (nodes : List Node) (p : Patch) (b : ℕ)
     → standing_of (with_node nodes p) b
     ≡ counts (count_by (is_ready_on b) nodes + cond (is_ready_on b (new_node nodes p)) 1 0) (count_by (is_held_on b) nodes + cond (is_held_on b (new_node nodes p)) 1 0)
     (count_by (is_flying_on b) nodes + cond (is_flying_on b (new_node nodes p)) 1 0)
-standing_made nodes p b = standing_same _ _ _ _ _ _
-    (count_made (is_ready_on b) nodes p (λ x. (linked_as p.dependencies p.number b x).ready))
-    (count_made (is_held_on b) nodes p (λ x. (linked_as p.dependencies p.number b x).held))
-    (count_made (is_flying_on b) nodes p (λ x. (linked_as p.dependencies p.number b x).flying))
+standing_made nodes p b = grind (arith, standing_same, count_made, linked_as)
 
 -- a new patch that is no change of the block
 made_off : (nodes : List Node) (p : Patch) (b : ℕ) → is_on b p.kind ≡ false → standing_of (with_node nodes p) b ≡ standing_of nodes b
@@ -263,12 +228,7 @@ stand_change nodes blocks standings p b at len grade d kind memory lt S =
         (ap (λ t. count_by (is_flying_on b) nodes + cond t 1 0) flies_new)))
 
 gained_as : (g b : ℕ) (names : List ℕ) (sums : Sums) (x : Node) → CountsAs b (at_number g (gains_names names sums) x) x
-gained_as g b names sums x = elim (cases_eq x.patch.number g) [
-  | inl same ↦ rw (at_same g (gains_names names sums) x same) (like_as b _ x refl refl refl)
-  | inr ne ↦ rw (at_other g (gains_names names sums) x ne) (self_as b x)
-]
+gained_as g b names sums x = grind (arith, cases_eq, at_same, like_as, at_other, self_as)
 
 pub stand_gained : (nodes : List Node) (blocks g : ℕ) (names : List ℕ) (sums : Sums) (standings : List Standing) → AllStand nodes blocks standings → AllStand (with_names nodes g names sums) blocks standings
-stand_gained nodes blocks g names sums standings S =
-    stand_map (linked_to names g) (map (at_number g (gains_names names sums)) nodes) blocks standings (λ x b i lt. linked_as names g b x)
-    (stand_map (at_number g (gains_names names sums)) nodes blocks standings (λ x b i lt. gained_as g b names sums x) S)
+stand_gained nodes blocks g names sums standings S = search (rules, stand_map, linked_as, gained_as)

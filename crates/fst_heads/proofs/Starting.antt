@@ -1,5 +1,5 @@
 -- How a spread begins, and what it leaves.
-use Rattle.fst_heads.proofs.Basics.{◌≡◌, ◌≢◌, ◌⊎◌, ◌↔◌, ◌==◌, ◌&&◌, ◌<◌, ℕ, Bool, true, false, not, cond, List, [], ◌∷◌, Some, length, map, filter, AllPairs, Contains, refl, sym, ap, subst, ◌∙◌, inl, inr, arith, list_any, cases_Bool, cases_eq, eq-eqb, ne_eqb, eqb-true, both_ways, not-true, and_parts}
+use Rattle.fst_heads.proofs.Basics.{◌≡◌, ◌≢◌, ◌⊎◌, ◌↔◌, ◌==◌, ◌&&◌, ◌<◌, ℕ, Bool, true, false, not, cond, List, [], ◌∷◌, Some, length, map, filter, AllPairs, Contains, refl, sym, ap, subst, ◌∙◌, inl, inr, arith, list_any, cases_Bool, cases_eq, eq-eqb, ne_eqb, eqb-true, both_ways, not-true, and_parts, rules}
 use Rattle.fst_heads.proofs.Basics.{length-map, get_or-map, AllPairs-filter}
 use Rattle.fst_types.proofs.Landing.{landed_cases, change_at, at_change}
 use Rattle.fst_heads.proofs.Patches.{Place, IsCascadeOf, Follows, RestsOnDisk, unsettled, IsOnDisk, SparseAreLawful, IsOpenNumber, sealed, Kind, Change, Empty, OpenGate, SealedGate, Patch, block_of_kind, is_change_at, landed, no_follower_on, same_number, filter_in, in_filter, In}
@@ -34,10 +34,7 @@ any_fails t (y ∷ ys) x (inr h) e = elim (cases_Bool (t y)) [ inl yes_y ↦ rw 
 
 -- a sealed gate is on disk where its row has none that is not there
 pub sealed_cases : (x : Node) → ((x.sums.count ≡ 0) × (seals x ≡ record x { patch = record x.patch { kind = SealedGate; place = place.Disk } })) ⊎ ((x.sums.count ≢ 0) × (seals x ≡ record x { patch = record x.patch { kind = SealedGate } }))
-sealed_cases x = elim (cases_eq x.sums.count 0) [
-  | inl e ↦ inl (e, rw (eq-eqb x.sums.count 0 e) refl)
-  | inr ne ↦ inr (ne, rw (ne_eqb x.sums.count 0 ne) refl)
-]
+sealed_cases x = grind (arith, cases_eq, eq-eqb, ne_eqb)
 
 -- nothing but the patch's kind and place differs
 pub record SameBut (x y : Node) : Type 0 where
@@ -49,16 +46,10 @@ same_but : (x : Node) → SameBut x x
 same_but x = record { links = record { number = refl; dependencies = refl; dependants = refl }; sums = refl; pending = refl }
 
 seals_same : (x : Node) → SameBut x (seals x)
-seals_same x = elim (sealed_cases x) [
-  | inl e ↦ subst (SameBut x) (sym e.1) (record { links = record { number = refl; dependencies = refl; dependants = refl }; sums = refl; pending = refl })
-  | inr e ↦ subst (SameBut x) (sym e.1) (record { links = record { number = refl; dependencies = refl; dependants = refl }; sums = refl; pending = refl })
-]
+seals_same x = grind (arith, sealed_cases)
 
 pub seal_same : (g : ℕ) (x : Node) → SameBut x (at_number g seals x)
-seal_same g x = elim (cases_eq x.patch.number g) [
-  | inl e ↦ subst (SameBut x) (sym (at_same g seals x e)) (seals_same x)
-  | inr ne ↦ subst (SameBut x) (sym (at_other g seals x ne)) (same_but x)
-]
+seal_same g x = grind (arith, cases_eq, at_same, seals_same, at_other, same_but)
 
 and_both : (a b : Bool) → a ≡ true → b ≡ false → (a && not b) ≡ true
 and_both a b e f = rw (e, f) refl
@@ -144,8 +135,7 @@ module _ (nodes : List Node) (numbers blocks g : ℕ) (H : SparseAreLawful (patc
 -- where a gate is sealed
 pub starts_sealed : (nodes : List Node) (numbers blocks g : ℕ) → SparseAreLawful (patches_in nodes) numbers → IsInside (patches_in nodes) blocks → AreSettled nodes blocks → IsOpenNumber (patches_in nodes) g
     → Spreading (map (at_number g seals) nodes) blocks (wakes_sealed g nodes)
-starts_sealed nodes numbers blocks g H inside S gate =
-    begun nodes blocks (at_number g seals) (wakes_sealed g nodes) (seal_begins nodes numbers blocks g H inside S gate) H.one_place_each.rising S
+starts_sealed nodes numbers blocks g H inside S gate = search (rules, begun, seal_begins)
 
 -- a change on disk has nothing pending
 nothing_on_disk : (k : Kind) (b : ℕ) (below : Pending) → block_of_kind k ≡ Some b → of_kind k place.Disk below ≡ pending.Nothing
@@ -157,11 +147,7 @@ not_nothing pending.Nothing ne = absurd (ne refl)
 not_nothing p ne = refl
 
 pub land_same : (b : ℕ) (x : Node) → SameBut x (lands b x)
-land_same b x = record {
-  links = record { number = number_if (is_change_at place.Flight b x.patch) x.patch _ refl; dependencies = dependencies_if (is_change_at place.Flight b x.patch) x.patch _ refl; dependants = refl };
-  sums = refl;
-  pending = refl;
-}
+land_same b x = search (rules, number_if, dependencies_if)
 
 module _ (nodes : List Node) (numbers blocks b : ℕ) (H : SparseAreLawful (patches_in nodes) numbers) (inside : IsInside (patches_in nodes) blocks) (S : AreSettled nodes blocks) where
   -- a number of what flies on the block
@@ -183,16 +169,12 @@ module _ (nodes : List Node) (numbers blocks b : ℕ) (H : SparseAreLawful (patc
       let rising = AllPairs-filter (λ (p : Patch) (q : Patch). p.number < q.number) (is_change_at place.Flight b) (patches_in nodes) H.one_place_each.rising in
       let up : j < length fs = omega (arith, within, length-map fs (λ (p : Patch). p.number)) in
       let e = some_element fs j up in
-      let r = rising i j e lt up in
       let at = λ (k : ℕ) (up : k < length fs). get_or-map (λ (p : Patch). p.number) fs k e d up in
-      omega (arith, same, r, at i (omega (arith, lt, up)), at j up)
+      omega (arith, same, rising i j e lt up, at i (omega (arith, lt, up)), at j up)
 
   -- what lands was in flight; the others stay
   land_cases : (x : Node) → ((is_change_at place.Flight b x.patch ≡ true) × (lands b x ≡ record x { patch = record x.patch { place = place.Disk } })) ⊎ (lands b x ≡ x)
-  land_cases x = elim (landed_cases b x.patch) [
-    | inl m ↦ inl (at_change place.Flight b x.patch m.0 m.1, ap (λ p. record x { patch = p }) m.2)
-    | inr s ↦ inr (ap (λ p. record x { patch = p }) s.0)
-  ]
+  land_cases x = grind (arith, landed_cases, at_change)
 
   lands_sound : (x : Node) → Contains nodes x → Sound (lands b x) blocks
   lands_sound x c = elim (land_cases x) [
@@ -236,8 +218,7 @@ module _ (nodes : List Node) (numbers blocks b : ℕ) (H : SparseAreLawful (patc
 -- where a block landed
 pub starts_landed : (nodes : List Node) (numbers blocks b : ℕ) → SparseAreLawful (patches_in nodes) numbers → IsInside (patches_in nodes) blocks → AreSettled nodes blocks
     → Spreading (map (lands b) nodes) blocks (flying_on b (patches_in nodes))
-starts_landed nodes numbers blocks b H inside S =
-    begun nodes blocks (lands b) (flying_on b (patches_in nodes)) (land_begins nodes numbers blocks b H inside S) H.one_place_each.rising S
+starts_landed nodes numbers blocks b H inside S = search (rules, begun, land_begins)
 
 -- a patch that follows has nothing pending besides its row
 follows_row : (k : Kind) → Follows k → (at : Place) (below : Pending) → of_kind k at below ≡ below
@@ -248,10 +229,7 @@ follows_row k f at below = absurd f
 module _ (nodes : List Node) (blocks : ℕ) (S : Spreading nodes blocks []) where
   -- all are told
   all_told : (x : Node) → Contains nodes x → now x ≡ x.pending
-  all_told x c = elim (cases_Bool (is_told x)) [
-    | inl told ↦ told_now x told
-    | inr untold ↦ absurd (In-from_Contains [] x.patch.number (S.waits x c untold))
-  ]
+  all_told x c = grind (arith, cases_Bool, told_now)
 
   -- nothing is pending of a number exactly where it is on disk
   nothing_disk : (n : ℕ) → pending_in nodes n ≡ pending.Nothing → IsOnDisk (patches_in nodes) n

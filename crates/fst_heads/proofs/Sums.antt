@@ -26,9 +26,7 @@ mean_block : (s : Sums) (b : ℕ) → s.count ≢ 0 → Even s b → s.total / s
 mean_block s b ne even = ap (λ t. t / s.count) even.total ∙ mul-div_cancel b (omega (arith, ne))
 
 even_test : (s : Sums) (b : ℕ) → s.count ≢ 0 → Even s b → is_even s ≡ true
-even_test s b ne even =
-    rw (mean_block s b ne even)
-    (and_from (s.apart == 0) _ (eq-eqb s.apart 0 even.none_apart) (and_from (b * s.count == s.total) _ (eq-eqb _ _ (sym even.total)) (eq-eqb _ _ (sym even.squares))))
+even_test s b ne even = grind (arith, mean_block, and_from, eq-eqb)
 
 -- the test passes for no row of which changes of several blocks are pending
 uneven_test : (s : Sums) → Tells s pending.Apart → is_even s ≡ true → ⊥
@@ -45,11 +43,8 @@ exact s (pending.Block b) told =
     let some : s.count ≢ 0 = λ e. let n = told.none e in cc in
     let even = told.even b (inr refl) in
     joined_even s some even.none_held (even_test s b some even) ∙ ap (λ n. pending.Block n) (mean_block s b some even)
-exact s pending.Apart told =
-    joined_uneven s (λ e. let n = told.none e in cc) (told.free (λ f. cc)) (false_from_ne_true (is_even s) (uneven_test s told))
-exact s pending.Held told =
-    let some = told.held refl in
-    joined_held s (λ e. let n = told.none e in cc) (λ e. omega (arith, some, e))
+exact s pending.Apart told = grind (arith, joined_uneven, false_from_ne_true, uneven_test)
+exact s pending.Held told = grind (arith, joined_held)
 
 -- the sums tell exactly what is pending of the row
 pub joined_exact : (told : ℕ → Pending) (row : List ℕ) → joined_sums (sums_of told row) ≡ joined told row

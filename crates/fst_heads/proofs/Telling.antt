@@ -16,8 +16,7 @@ use Rattle.fst_heads.proofs.Joining.{sinks_of_kind, sinks_trans}
 narrow_in : (nodes : List Node) (blocks : ℕ) (queue : List ℕ) → blocks ≤ max_block → Spreading nodes blocks queue → (n b : ℕ) → pending_in nodes n ≡ pending.Block b → b ≤ max_block
 narrow_in nodes blocks queue narrow S n b e =
     let r = pending_node nodes n b e in
-    let within = S.inside r.0 b r.1 r.2 in
-    omega (arith, within, narrow)
+    omega (arith, S.inside r.0 b r.1 r.2, narrow)
 
 -- the sums of all fit
 pub spreading_fits : (nodes : List Node) (blocks : ℕ) (queue : List ℕ) → blocks ≤ max_block → Spreading nodes blocks queue → (x : Node) → Contains nodes x → Fits x.sums
@@ -29,8 +28,7 @@ pub queue_fits : (nodes : List Node) (blocks : ℕ) (queue : List ℕ) → Sprea
 queue_fits nodes blocks queue S =
     let number = λ (y : Node). y.patch.number in
     let few = once_fits queue (map number nodes) S.once (λ n h. let s = S.queued n (Contains-from_In queue n h) in In-map number nodes s.0 n (In-from_Contains nodes s.0 s.1) s.2) in
-    let long = length-map nodes number in
-    omega (arith, few, long)
+    omega (arith, few, length-map nodes number)
 
 -- the last that waits is a patch of which other is pending than its dependants know
 pub last_waits : (nodes : List Node) (blocks : ℕ) (queue : List ℕ) (q : ℕ) → Spreading nodes blocks (queue ++ q ∷ []) → (x : Node) × Contains nodes x × (x.patch.number ≡ q) × (is_told x ≡ false)
@@ -107,15 +105,12 @@ module _ (nodes : List Node) (blocks : ℕ) (queue : List ℕ) (q : ℕ) (x : No
   -- its dependants are those that name it
   named : (y : Node) → Contains nodes y → In x.dependants y.patch.number → In y.patch.dependencies q
   named y cy h =
-      let l = linked y x cy c in
-      let some = times_some x.dependants y.patch.number h in
-      subst (In y.patch.dependencies) e (some_times y.patch.dependencies x.patch.number (omega (arith, l, some)))
+      subst (In y.patch.dependencies) e (some_times y.patch.dependencies x.patch.number (omega (arith, linked y x cy c, times_some x.dependants y.patch.number h)))
 
   unnamed : (y : Node) → Contains nodes y → (In x.dependants y.patch.number → ⊥) → (n : ℕ) → Contains y.patch.dependencies n → n ≢ q
   unnamed y cy out n cn same =
-      let l = linked y x cy c in
       let some = times_some y.patch.dependencies x.patch.number (subst (In y.patch.dependencies) (same ∙ sym e) (In-from_Contains y.patch.dependencies n cn)) in
-      out (some_times x.dependants y.patch.number (omega (arith, l, some)))
+      out (some_times x.dependants y.patch.number (omega (arith, linked y x cy c, some)))
 
   sums_are : (y : Node) → Contains nodes y → (after y).sums ≡ sums_of is y.patch.dependencies
   sums_are y cy = elim (In_decided x.dependants y.patch.number) [

@@ -1,11 +1,11 @@
 -- What a new change depends on.
-use Rattle.fst_heads.proofs.Basics.{◌≡◌, ◌⊎◌, ℕ, ◌+◌, ◌<◌, ◌≤◌, ◌==◌, ◌&&◌, nat_lt, Bool, true, false, not, List, [], ◌∷◌, ◌++◌, length, Contains, Some, refl, sym, ap, subst, ◌∙◌, inl, inr, arith, None, cases_Bool, eqb-true, eq-eqb, false≢true, nat_tests, length_push, Contains-push_cases}
+use Rattle.fst_heads.proofs.Basics.{◌≡◌, ◌⊎◌, ℕ, ◌+◌, ◌<◌, ◌≤◌, ◌==◌, ◌&&◌, nat_lt, Bool, true, false, not, List, [], ◌∷◌, ◌++◌, length, Contains, Some, refl, sym, ap, subst, inl, inr, arith, None, cases_Bool, eqb-true, eq-eqb, false≢true, nat_tests, length_push, Contains-push_cases, rules}
 use Rattle.fst_heads.proofs.Basics.{IsStrictlyIncreasing}
 use Rattle.fst_types.specs.Overlaps.{IsOverlapped}
 use Rattle.fst_types.proofs.Adding.{one_place_added, acyclic_added, on_disk_with_all_added, alone_added}
 use Rattle.fst_heads.proofs.Patches.{Place, Grade, max_heads, Lists, Kind, Change, Empty, Patch, IsOn, IsHard, block_of_kind, at_of, len_of, IsLiveNumber, IsGradedHard, FollowsRule, SparseAreLawful, fresh, is_at, is_on, In, In-from_Contains, Contains-from_In, IsWithin, hard_kept}
 use Rattle.fst_heads.proofs.Patches.place
-use Rattle.fst_heads.proofs.Words.{Entry, entry, is_live_on, entries_on, Gains, kind_touches, touches, shares, IsTouched, IsDependency, IsSparseRow, is_live_place, MayBeHard, Keeps}
+use Rattle.fst_heads.proofs.Words.{Entry, entry, is_live_on, entries_on, Gains, kind_touches, touches, shares, IsTouched, IsDependency, IsSparseRow, MayBeHard, Keeps}
 use Rattle.fst_heads.proofs.Graded.{graded_rule}
 use Rattle.fst_heads.proofs.Making.{keeps_added}
 use Rattle.fst_heads.proofs.Slots.{place_live, live_place}
@@ -19,15 +19,12 @@ whole : (a b c d : Bool) → a ≡ true → b ≡ true → c ≡ true → d ≡ 
 whole a b c d e f g h = rw (e, f, g, h) refl
 
 pub touch_parts : (b at len : ℕ) (k : Kind) (p : Place) → kind_touches b at len k p ≡ true → (p ≡ place.Disk → ⊥) × (block_of_kind k ≡ Some b) × (at_of k < at + len) × (at < at_of k + len_of k)
-touch_parts b at len (Change on own_at own_len grade) p e =
-    let k = parts (is_live_place p) (on == b) (nat_lt own_at (at + len)) (nat_lt at (own_at + own_len)) e in
-    (live_place p k.0, ap Some (eqb-true on b k.1), grind (arith, nat_tests, k.2), grind (arith, nat_tests, k.3))
+touch_parts b at len (Change on own_at own_len grade) p e = grind (arith, parts, nat_lt, live_place, eqb-true, nat_tests)
 touch_parts b at len Empty p e = absurd (false≢true e)
 touch_parts b at len k p e = absurd (false≢true e)
 
 pub touch_whole : (b at len : ℕ) (k : Kind) (p : Place) → (p ≡ place.Disk → ⊥) → block_of_kind k ≡ Some b → at_of k < at + len → at < at_of k + len_of k → kind_touches b at len k p ≡ true
-touch_whole b at len (Change on own_at own_len grade) p live on_b lo hi =
-    whole (is_live_place p) (on == b) (nat_lt own_at (at + len)) (nat_lt at (own_at + own_len)) (place_live p live) (eq-eqb on b (some_injective on b on_b)) (grind (arith, nat_tests, lo)) (grind (arith, nat_tests, hi))
+touch_whole b at len (Change on own_at own_len grade) p live on_b lo hi = grind (arith, whole, nat_lt, place_live, eq-eqb, some_injective, nat_tests)
 touch_whole b at len Empty p live on_b lo hi = cc
 touch_whole b at len k p live on_b lo hi = cc
 
@@ -36,22 +33,13 @@ module _ (heads : List Patch) (b at len number : ℕ) (grade : Grade) (deps : Li
   p = fresh number (Change b at len grade) deps
 
   pub touched_overlaps : IsTouched heads b at len n → IsOverlapped heads p n
-  touched_overlaps t =
-      let k = touch_parts b at len t.patch.kind t.patch.place t.shares in
-      record { patch = t.patch; head = t.head; numbered = t.numbered; live = k.0; overlaps = record { block = b; first = k.1; second = refl; starts_before = k.2; ends_after = k.3 } }
+  touched_overlaps t = grind (arith, touch_parts)
 
   pub overlaps_touched : IsOverlapped heads p n → IsTouched heads b at len n
-  overlaps_touched o =
-      let v = o.overlaps in
-      let same : b ≡ v.block = some_injective b v.block v.second in
-      record { patch = o.patch; head = o.head; numbered = o.numbered; shares = touch_whole b at len o.patch.kind o.patch.place o.live (v.first ∙ ap Some (sym same)) v.starts_before v.ends_after }
+  overlaps_touched o = grind (arith, some_injective, touch_whole)
 
 pub depends_exactly : (heads : List Patch) (names : List ℕ) (b at len number : ℕ) (grade : Grade) (deps row : List ℕ) → Lists (IsDependency heads names b at len) row → Lists (λ n. (IsLiveNumber heads n × Contains names n) ⊎ IsOverlapped heads (fresh number (Change b at len grade) deps) n) row
-depends_exactly heads names b at len number grade deps row l = record {
-  rising = l.rising;
-  only = λ n c. elim (l.only n c) [ inl k ↦ inl k | inr t ↦ inr (touched_overlaps heads b at len number grade deps n t) ];
-  each = λ n d. l.each n (elim d [ inl k ↦ inl k | inr o ↦ inr (overlaps_touched heads b at len number grade deps n o) ]);
-}
+depends_exactly heads names b at len number grade deps row l = search (rules, touched_overlaps, overlaps_touched)
 
 -- a change that is touched is listed by its block, and its entry shares a byte
 pub touch_entry : (b at len : ℕ) (k : Kind) (p : Place) → kind_touches b at len k p ≡ true → ((not (is_at p place.Disk) && is_on b k) ≡ true) × (shares at len (at_of k) (len_of k) ≡ true)
@@ -129,19 +117,7 @@ module _ (heads : List Patch) (rest : List Entry) (b at len : ℕ) (old row : Li
   }
 
   pub touches_skip : shares at len e.at e.len ≡ false → Touches heads left b at len old row
-  touches_skip none = record {
-    rising = x.rising;
-    only = x.only;
-    kept = x.kept;
-    live = λ f i. x.live f (subst (λ es. In es f) (sym next) (inr i));
-    each = λ p c t. elim (x.each p c t) [
-      | inl i ↦ elim (subst (λ es. In es (entry p)) next i) [
-        | inl same ↦ absurd (false≢true (sym none ∙ (ap (λ f. shares at len f.at f.len) same ∙ (touch_entry b at len p.kind p.place t).1)))
-        | inr j ↦ inl j
-      ]
-      | inr o ↦ inr o
-    ];
-  }
+  touches_skip none = search (rules, false≢true, touch_entry)
 
 module _ (heads : List Patch) (numbers blocks : ℕ) (marks : List Bool) (K : Keeps heads numbers blocks marks)
     (b at len : ℕ) (names : List ℕ) (grade : Grade) (deps : List ℕ) (depends : IsSparseRow heads names b at len deps) where

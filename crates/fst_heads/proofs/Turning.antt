@@ -1,6 +1,6 @@
 -- What a node keeps, and what it gets, where it is told what is pending of another.
-use Rattle.fst_heads.proofs.Basics.{◌≡◌, ◌≢◌, ◌⊎◌, ◌↔◌, ◌<◌, ◌==◌, ◌&&◌, ℕ, Bool, true, false, cond, List, refl, sym, ap, subst, ◌∙◌, inl, inr, arith, cases_Bool, cases_eq, and_parts, and_from, eqb-true, eq-eqb, false≢true, both_ways, false_from_ne_true}
-use Rattle.fst_heads.proofs.Patches.{Place, Kind, Change, Empty, OpenGate, SealedGate, Patch, Follows, placed_as, unsettled, is_among, In, In_decided, among_in, in_among}
+use Rattle.fst_heads.proofs.Basics.{◌≡◌, ◌≢◌, ◌⊎◌, ◌↔◌, ◌<◌, ◌==◌, ◌&&◌, ℕ, Bool, true, false, cond, List, refl, sym, ap, subst, ◌∙◌, inl, inr, arith, cases_Bool, cases_eq, and_parts, and_from, eqb-true, eq-eqb, false≢true, both_ways, false_from_ne_true, rules}
+use Rattle.fst_heads.proofs.Patches.{Place, Kind, Change, Empty, OpenGate, SealedGate, Patch, Follows, placed_as, is_among, In, In_decided, among_in, in_among}
 use Rattle.fst_heads.proofs.Patches.place
 use Rattle.fst_heads.proofs.Words.{Pending, Sums, join, joined_sums, is_pending, of_kind, Sinks, height, plus, minus, Node, at_number, now, is_told, follows, rested, hears, heard, settles, unspread}
 use Rattle.fst_heads.proofs.Words.pending
@@ -64,11 +64,7 @@ join_live b (pending.Block c) e = some_pending (c == b) b e
 join_live b p e = cc
 
 join_one : (b c : ℕ) (p : Pending) → join (pending.Block b) p ≡ pending.Block c → b ≡ c
-join_one b c (pending.Block d) e = one (d == b) e
-  where
-    one : (t : Bool) → cond t (pending.Block b) pending.Apart ≡ pending.Block c → b ≡ c
-    one true e = cc
-    one false e = cc
+join_one b c (pending.Block d) e = grind arith
 join_one b c p e = cc
 
 some_left : (t u : Bool) (b : ℕ) → cond t (cond u (pending.Block b) pending.Apart) pending.Held ≡ pending.Nothing → ⊥
@@ -76,10 +72,7 @@ some_left true true b e = cc
 some_left t u b e = cc
 
 pub nothing_counted : (s : Sums) → joined_sums s ≡ pending.Nothing → s.count ≡ 0
-nothing_counted s e = elim (cases_Bool (s.count == 0)) [
-  | inl none ↦ eqb-true s.count 0 none
-  | inr some ↦ absurd (some_left (s.held == 0) _ _ (rw some at e))
-]
+nothing_counted s e = grind (arith, cases_Bool, eqb-true, some_left)
 
 pub counted_nothing : (s : Sums) → s.count ≡ 0 → joined_sums s ≡ pending.Nothing
 counted_nothing s e = rw (eq-eqb s.count 0 e) refl
@@ -130,25 +123,8 @@ pub record Rests (x y : Node) : Type 0 where
   pub places : (y.patch.place ≡ x.patch.place) ⊎ (y.patch.place ≡ place.Disk)
 
 rests_if : (t : Bool) (x : Node) → (t ≡ true → Follows x.patch.kind) → Rests x (rest_if t x)
-rests_if true x f = record {
-  stays = record {
-    number = refl;
-    kind = refl;
-    dependencies = refl;
-    spread = let e : unsettled (record x.patch { place = place.Disk }) ≡ unsettled x.patch = disk_unsettled x.patch.kind x.patch (f refl) in cc;
-  };
-  told = refl;
-  sums = refl;
-  pends = follower_of x.patch.kind place.Disk (joined_sums x.sums) (f refl) ∙ sym (follower_of x.patch.kind x.patch.place (joined_sums x.sums) (f refl));
-  places = inr refl;
-}
-rests_if false x f = record {
-  stays = record { number = refl; kind = refl; dependencies = refl; spread = refl };
-  told = refl;
-  sums = refl;
-  pends = refl;
-  places = inl refl;
-}
+rests_if true x f = search (rules, disk_unsettled, follower_of)
+rests_if false x f = search rules
 
 abbrev goes : Node → Bool
 goes x = follows x.patch.kind && (x.sums.count == 0)

@@ -31,10 +31,7 @@ same_node nodes x y rising a b e =
   where
     apart : (i j : ℕ) (p q : Node) → i < j → j < length nodes → get_or nodes i p ≡ p → get_or nodes j p ≡ q → p.patch.number ≡ q.patch.number → ⊥
     apart i j p q lt inside at_i at_j same =
-        let r = rising i j p lt inside in
-        let one = ap (λ (z : Node). z.patch.number) at_i in
-        let other = ap (λ (z : Node). z.patch.number) at_j in
-        omega (arith, r, one, other, same)
+        omega (arith, rising i j p lt inside, ap (λ (z : Node). z.patch.number) at_i, ap (λ (z : Node). z.patch.number) at_j, same)
 
 -- what is pending at a number
 
@@ -70,11 +67,7 @@ rising_mapped f nodes number rising i j d lt inside =
     let a = get_or-map f nodes i d d (omega (arith, lt, inside, long)) in
     let b = get_or-map f nodes j d d (omega (arith, inside, long)) in
     let r = rising i j d lt (omega (arith, inside, long)) in
-    let na = number (get_or nodes i d) in
-    let nb = number (get_or nodes j d) in
-    let fa = ap (λ (z : Node). z.patch.number) a in
-    let fb = ap (λ (z : Node). z.patch.number) b in
-    omega (arith, r, na, nb, fa, fb)
+    omega (arith, r, number (get_or nodes i d), number (get_or nodes j d), ap (λ (z : Node). z.patch.number) a, ap (λ (z : Node). z.patch.number) b)
 
 -- heights
 
@@ -84,20 +77,15 @@ tall x = height x.pending
 heights_stay : (f : Node → Node) (nodes : List Node) → ((y : Node) → In nodes y → tall (f y) ≤ tall y) → heights (map f nodes) ≤ heights nodes
 heights_stay f [] low = omega arith
 heights_stay f (y ∷ ys) low =
-    let rest = heights_stay f ys (λ z i. low z (inr i)) in
-    let first = low y (inl refl) in
-    omega (arith, sum_by-cons tall (f y) (map f ys), sum_by-cons tall y ys, rest, first)
+    omega (arith, sum_by-cons tall (f y) (map f ys), sum_by-cons tall y ys, heights_stay f ys (λ z i. low z (inr i)), low y (inl refl))
 
 heights_fall : (f : Node → Node) (nodes : List Node) (x : Node) → ((y : Node) → In nodes y → tall (f y) ≤ tall y) → In nodes x → tall (f x) < tall x → heights (map f nodes) < heights nodes
 heights_fall f [] x low h less = absurd h
 heights_fall f (y ∷ ys) x low (inl e) less =
-    let rest = heights_stay f ys (λ z i. low z (inr i)) in
     let first : tall (f y) < tall y = subst (λ z. tall (f z) < tall z) (sym e) less in
-    omega (arith, sum_by-cons tall (f y) (map f ys), sum_by-cons tall y ys, rest, first)
+    omega (arith, sum_by-cons tall (f y) (map f ys), sum_by-cons tall y ys, heights_stay f ys (λ z i. low z (inr i)), first)
 heights_fall f (y ∷ ys) x low (inr h) less =
-    let rest = heights_fall f ys x (λ z i. low z (inr i)) h less in
-    let first = low y (inl refl) in
-    omega (arith, sum_by-cons tall (f y) (map f ys), sum_by-cons tall y ys, rest, first)
+    omega (arith, sum_by-cons tall (f y) (map f ys), sum_by-cons tall y ys, heights_fall f ys x (λ z i. low z (inr i)) h less, low y (inl refl))
 
 -- where no node is higher and one is lower
 pub heights_lower : (f : Node → Node) (nodes : List Node) (x : Node) → ((y : Node) → Contains nodes y → height (f y).pending ≤ height y.pending) → Contains nodes x
@@ -158,9 +146,7 @@ once_append (x ∷ xs) ys one two apart =
     any_number (n ∷ ns) (suc i) a b lt = any_number ns i a b (omega (arith, lt))
 
 pub once_front : (queue : List ℕ) (q : ℕ) → AllPairs (λ a b. a ≢ b) (queue ++ q ∷ []) → AllPairs (λ a b. a ≢ b) queue
-once_front queue q once i j d lt inside e =
-    once i j d lt (omega (arith, inside, length-append queue (q ∷ [])))
-    (get_or_append_left queue (q ∷ []) d i (omega (arith, lt, inside)) ∙ (e ∙ sym (get_or_append_left queue (q ∷ []) d j inside)))
+once_front queue q once i j d lt inside e = grind (arith, length-append, get_or_append_left)
 
 -- the last is not among those before it
 pub once_last : (queue : List ℕ) (q n : ℕ) → AllPairs (λ a b. a ≢ b) (queue ++ q ∷ []) → Contains queue n → n ≢ q
@@ -171,16 +157,10 @@ once_last queue q n once c e =
 -- those that wake
 
 pub set_number : (q : ℕ) (y : Node) → (at_number q settles y).patch.number ≡ y.patch.number
-set_number q y = elim (cases_eq y.patch.number q) [
-  | inl e ↦ ap (λ (z : Node). z.patch.number) (at_same q settles y e)
-  | inr ne ↦ ap (λ (z : Node). z.patch.number) (at_other q settles y ne)
-]
+set_number q y = grind (arith, cases_eq, at_same, at_other)
 
 pub set_sums : (q : ℕ) (y : Node) → (at_number q settles y).sums ≡ y.sums
-set_sums q y = elim (cases_eq y.patch.number q) [
-  | inl e ↦ ap (λ (z : Node). z.sums) (at_same q settles y e)
-  | inr ne ↦ ap (λ (z : Node). z.sums) (at_other q settles y ne)
-]
+set_sums q y = grind (arith, cases_eq, at_same, at_other)
 
 module _ (nodes : List Node) (row : List ℕ) (old new : Pending) (q : ℕ) where
   abbrev set : List Node

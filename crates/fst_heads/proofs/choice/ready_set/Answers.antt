@@ -21,10 +21,8 @@ returns-in_default-push-clause-refused c =
     let found = c.in-Some.ensures.found in
     let passes = free_at behind b c.index-heads-slot.result (get_or heads c.in-Some.slot c.index-heads-slot.result) (get_or list i none).number c.is_behind-behind.result c.is_free.result c.index-heads-slot.is (found.1 c.index-heads-slot.result) c.is_behind-behind.ensures c.is_free.ensures ∙ c.if-is_free.true in
     let next = passing_found (is_free_on behind b) heads list i none c.loop-listed-test.true c.in-Some.slot c.index-heads-slot.result c.requires.rising found passes in
-    let whole = ap length c.loop-listed.invariant in
     let parts = length-append (numbers_of c.loop-listed.numbers.items) (passing (is_free_on behind b) heads (drop i list)) in
-    let rest = ap length next in
-    (omega (arith, whole, parts, rest), refl)
+    (omega (arith, ap length c.loop-listed.invariant, parts, ap length next), refl)
 
 pub loop-listed-preserved : goal.loop-listed-preserved
 loop-listed-preserved c =

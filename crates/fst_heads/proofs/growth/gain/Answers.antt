@@ -9,8 +9,7 @@ overflow_sub-len c =
     let head = c.index_mut-head.result.now in
     let slot = subst (λ hs. HasSlot hs c.args.gate c.in-Some.slot) c.deref.ensures.value c.in-Some.ensures.found in
     let counted : head.sums.count ≤ length head.dependencies.items = (c.requires.counted (node_of head) (node_in c.args.heads.now.items c.in-Some.slot head slot.0 c.index_mut-head.ensures.value)).0 in
-    let row = c.in_ok-extend_from_slice.ensures.ok in
-    omega (arith, counted, ap length row, length-append head.dependencies.items c.args.names.now, c.len.ensures.value)
+    omega (arith, counted, ap length c.in_ok-extend_from_slice.ensures.ok, length-append head.dependencies.items c.args.names.now, c.len.ensures.value)
 
 pub prove-unreachable-requires : goal.prove-unreachable-requires
 prove-unreachable-requires c =
