@@ -1,28 +1,17 @@
 -- Loops along a row that change the head of each of its numbers.
-use Rattle.fst_heads.proofs.Basics.{◌≡◌, ◌≢◌, ◌⊎◌, ℕ, zero, suc, ◌+◌, ◌<◌, ◌≤◌, Bool, true, false, List, [], ◌∷◌, ◌++◌, take, length, map, get_or, set, Contains, if◌then◌else◌, refl, sym, ap, subst, ◌∙◌, inl, inr, arith, get_or-set_same, get_or-set_other, IsStrictlyIncreasing, or-true}
-use Rattle.fst_heads.proofs.Basics.{length-set, cases_eq, eq-eqb, ne_eqb, length-map, take_more, Contains-get_or, AllPairs-from_increasing, HasRoomFor}
+use Rattle.fst_heads.proofs.Basics.{◌≡◌, ◌≢◌, ◌⊎◌, ℕ, zero, suc, ◌+◌, ◌<◌, ◌≤◌, Bool, true, false, List, [], ◌∷◌, ◌++◌, take, length, map, get_or, set, Contains, if◌then◌else◌, refl, sym, ap, subst, ◌∙◌, inl, inr, arith, get_or-set_same, get_or-set_other, IsStrictlyIncreasing, or-true, AllPairs}
+use Rattle.fst_heads.proofs.Basics.{length-set, cases_eq, eq-eqb, ne_eqb, take_more, Contains-get_or, AllPairs-from_increasing, HasRoomFor}
 use Rattle.fst_heads.proofs.Patches.{is_among, In}
 use Rattle.fst_heads.proofs.Words.{Head, IsRising, HasSlot, HasNone, Node, node_of, nodes_of, at_number, linked_to, HasRoomAbove}
 use Rattle.fst_heads.proofs.AtNumber.{at_other, at_same}
-use Rattle.fst_heads.proofs.Slots.{any_default, slot_unique}
-
--- heads of which the nodes were changed but for their numbers have the numbers that they had
-number_as : (f : Node → Node) → ((x : Node) → (f x).patch.number ≡ x.patch.number) → (new old : List Head) → nodes_of new ≡ map f (nodes_of old)
-    → (i : ℕ) (d : Head) → i < length new → (get_or new i d).number ≡ (get_or old i d).number
-number_as f keeps [] old e i d lt = absurd (omega (arith, lt))
-number_as f keeps (h ∷ hs) [] e i d lt = cc
-number_as f keeps (h ∷ hs) (k ∷ ks) e zero d lt = grind arith
-number_as f keeps (h ∷ hs) (k ∷ ks) e (suc i) d lt =
-    let rest : nodes_of hs ≡ map f (nodes_of ks) = cc in
-    number_as f keeps hs ks rest i d (omega (arith, lt))
+use Rattle.fst_heads.proofs.Slots.{any_default, slot_unique, rising_map, rising_back}
 
 -- and rise as they did
 pub rising_as : (f : Node → Node) → ((x : Node) → (f x).patch.number ≡ x.patch.number) → (new old : List Head) → nodes_of new ≡ map f (nodes_of old) → IsRising old → IsRising new
-rising_as f keeps new old e rising i j d lt inside =
-    let a = number_as f keeps new old e i d (omega (arith, lt, inside)) in
-    let long : length new ≡ length old = sym (length-map new node_of) ∙ (ap length e ∙ (length-map (nodes_of old) f ∙ length-map old node_of)) in
-    let r = rising i j d lt (omega (arith, inside, long)) in
-    omega (arith, a, number_as f keeps new old e j d inside, r)
+rising_as f keeps new old e rising =
+    let before = rising_map node_of old (λ h. h.number) (λ x. x.patch.number) (λ h. refl) rising in
+    let after = rising_map f (nodes_of old) (λ x. x.patch.number) (λ x. x.patch.number) keeps before in
+    rising_back node_of new (λ h. h.number) (λ x. x.patch.number) (λ h. refl) (subst (λ ns. AllPairs (λ x y. x.patch.number < y.patch.number) ns) (sym e) after)
 
 map_self : (xs : List Node) → map (λ x. x) xs ≡ xs
 map_self [] = refl

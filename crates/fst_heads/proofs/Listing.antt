@@ -1,10 +1,10 @@
 -- The walk along the list of a block that lands what is in flight.
 use Rattle.fst_heads.proofs.Basics.{◌≡◌, ◌≢◌, ◌==◌, ◌&&◌, ℕ, zero, suc, ◌<◌, ◌≤◌, Bool, true, false, not, cond, List, [], ◌∷◌, ◌++◌, length, map, set, get_or, Contains, Some, refl, sym, ap, ◌∙◌, inl, inr, arith, list_any, and-false, cases_Bool, eq-eqb, ne_eqb, set-get_or, or_parts, rules}
-use Rattle.fst_heads.proofs.Basics.{append_assoc, append-nil, length-append, length-map, get_or-map}
+use Rattle.fst_heads.proofs.Basics.{append_assoc, append-nil, length-append, get_or-map}
 use Rattle.fst_heads.proofs.Patches.{Place, Kind, Change, Patch, Rising, block_of_kind, is_at, is_on, is_change_at, landed, In, In-from_Contains, Contains-from_In}
 use Rattle.fst_heads.proofs.Patches.place
 use Rattle.fst_heads.proofs.Words.{Head, lands, IsRising, patch_of, patches_of, Entry, is_live_on, entries_on, flying_on, AreListed, HasSlot, HasNone, Node, node_of, nodes_of, patches_in, at_number}
-use Rattle.fst_heads.proofs.Slots.{any_default, some_element}
+use Rattle.fst_heads.proofs.Slots.{any_default, rising_map}
 use Rattle.fst_heads.proofs.Starting.{patches_landed}
 use Rattle.fst_heads.proofs.Linking.{rising_as}
 use Rattle.fst_heads.proofs.AtNumber.{patches_in_nodes, at_other, at_same, at_none, at_slot}
@@ -28,13 +28,7 @@ any_slot (h ∷ hs) n (suc s) t d rising slot =
 
 -- patches rise as their heads do
 pub rising_patches : (heads : List Head) → IsRising heads → Rising (patches_of heads)
-rising_patches heads rising i j p lt inside =
-    let long = length-map heads patch_of in
-    let d = some_element heads j (omega (arith, inside, long)) in
-    let low = ap (λ p. p.number) (get_or-map patch_of heads i d p (omega (arith, lt, inside, long))) in
-    let high = ap (λ p. p.number) (get_or-map patch_of heads j d p (omega (arith, inside, long))) in
-    let r = rising i j d lt (omega (arith, inside, long)) in
-    omega (arith, low, high, r)
+rising_patches heads rising = rising_map patch_of heads (λ h. h.number) (λ p. p.number) (λ h. refl) rising
 
 no_more : (ns : List ℕ) → length ns ≤ 0 → ns ≡ []
 no_more [] few = refl

@@ -1,5 +1,5 @@
 -- Slots, numbers and marks.
-use Rattle.fst_heads.proofs.Basics.{◌==◌, cond, find, All, AllPairs, ◌≡◌, ◌≢◌, ℕ, zero, suc, ◌<◌, Bool, true, false, List, [], ◌∷◌, length, get_or, Contains, Some, None, Result, Ok, Err, refl, sym, ap, subst, ◌∙◌, inl, inr, arith, IsSearchInRange, IsBinarySearchResult, IsNonDecreasingBy}
+use Rattle.fst_heads.proofs.Basics.{◌==◌, cond, find, All, AllPairs, ◌≡◌, ◌≢◌, ℕ, zero, suc, ◌<◌, Bool, true, false, List, [], ◌∷◌, length, get_or, Contains, Some, None, Result, Ok, Err, refl, sym, ap, subst, ◌∙◌, inl, inr, arith, IsSearchInRange, IsBinarySearchResult, IsNonDecreasingBy, map}
 use Rattle.fst_heads.proofs.Basics.{nat_cmp, ordering_index, cases_order, cases_lt, eq-eqb, ne_eqb, nat_tests, length-map, get_or-map}
 use Rattle.std.proofs.lemmas.Cmp.{ranked}
 use Rattle.fst_heads.proofs.Patches.{Patch, Rising, DirectlyOn, IsLiveNumber, Place, In, In-from_Contains, Contains-from_In, In-map}
@@ -11,6 +11,22 @@ pub use Rattle.std.proofs.lemmas.List.{get_or_default as any_default}
 pub some_element : {X : Type 0} (xs : List X) (k : ℕ) → k < length xs → X
 some_element [] k h = absurd (omega (arith, h))
 some_element (y ∷ ys) k h = y
+
+-- a list rises by a key as its image does
+module _ {X Y : Type 0} (f : X → Y) (xs : List X) (low : X → ℕ) (high : Y → ℕ) (same : (x : X) → high (f x) ≡ low x) where
+  pub rising_map : AllPairs (λ a b. low a < low b) xs → AllPairs (λ a b. high a < high b) (map f xs)
+  rising_map rising i j e lt inside =
+      let long = length-map xs f in
+      let d = some_element xs j (omega (arith, inside, long)) in
+      let first = ap high (get_or-map f xs i d e (omega (arith, lt, inside, long))) ∙ same (get_or xs i d) in
+      let other = ap high (get_or-map f xs j d e (omega (arith, inside, long))) ∙ same (get_or xs j d) in
+      omega (arith, first, other, rising i j d lt (omega (arith, inside, long)))
+
+  pub rising_back : AllPairs (λ a b. high a < high b) (map f xs) → AllPairs (λ a b. low a < low b) xs
+  rising_back rising i j d lt inside =
+      let first = ap high (get_or-map f xs i d (f d) (omega (arith, lt, inside))) ∙ same (get_or xs i d) in
+      let other = ap high (get_or-map f xs j d (f d) inside) ∙ same (get_or xs j d) in
+      omega (arith, first, other, rising i j (f d) lt (omega (arith, inside, length-map xs f)))
 
 -- a search among keys that rise
 module _ {X : Type 0} (key : X → ℕ) (xs : List X) (rising : AllPairs (λ x y. key x < key y) xs) (n : ℕ) where
@@ -98,11 +114,7 @@ has_none heads marks n none h = none_slot heads n h.slot none h.at
 
 -- heads rise as their patches do
 pub rising_heads : (heads : List Head) → Rising (patches_of heads) → IsRising heads
-rising_heads heads rising i j d lt in_range =
-    let r = rising i j (patch_of d) lt (omega (arith, in_range, length-map heads patch_of)) in
-    let a = get_or-map patch_of heads i d (patch_of d) (omega (arith, lt, in_range)) in
-    let b = get_or-map patch_of heads j d (patch_of d) in_range in
-    subst (λ x. x.number < (get_or heads j d).number) a (subst (λ y. (get_or (patches_of heads) i (patch_of d)).number < y.number) b r)
+rising_heads heads rising = rising_back patch_of heads (λ h. h.number) (λ p. p.number) (λ h. refl) rising
 
 pub live_place : (p : Place) → is_live_place p ≡ true → p ≡ place.Disk → ⊥
 live_place place.Memory e d = cc

@@ -7,7 +7,7 @@ use Rattle.fst_heads.proofs.Words.{Head, Pending, IsRising, HasSlot, HasNone, No
 use Rattle.fst_heads.proofs.AtNumber.{at_same, at_other}
 use Rattle.fst_heads.proofs.Listing.{any_none, any_slot}
 use Rattle.fst_heads.proofs.Linking.{map_twice, rising_as, none_among, among_push_other, among_push_same}
-use Rattle.fst_heads.proofs.Slots.{any_default, some_element, slot_head, slot_unique}
+use Rattle.fst_heads.proofs.Slots.{any_default, some_element, slot_head, slot_unique, rising_back}
 
 -- what rests keeps all but its place
 module _ (x : Node) where
@@ -88,11 +88,7 @@ none_of_number heads n x none c e =
 
 -- heads rise where their nodes do
 pub rising_slots : (heads : List Head) → AllPairs (λ x y. x.patch.number < y.patch.number) (nodes_of heads) → IsRising heads
-rising_slots heads rising i j d lt inside =
-    let r = rising i j (node_of d) lt (omega (arith, inside, length-map heads node_of)) in
-    let a = get_or-map node_of heads i d (node_of d) (omega (arith, lt, inside)) in
-    let b = get_or-map node_of heads j d (node_of d) inside in
-    subst (λ x. x.patch.number < (get_or heads j d).number) a (subst (λ y. (get_or (nodes_of heads) i (node_of d)).patch.number < y.patch.number) b r)
+rising_slots heads rising = rising_back node_of heads (λ h. h.number) (λ x. x.patch.number) (λ h. refl) rising
 
 -- the dependants of the node in a slot
 abbrev pub row_at : List Node → ℕ → List ℕ
@@ -121,6 +117,13 @@ row_now start heads row old new s h lt e at =
     ∙ (sym (ap (λ (x : Node). x.dependants) (get_or-map node_of heads s h (node_of h) lt))
     ∙ (row_is (nodes_of heads) s (node_of h) (omega (arith, lt, length-map heads node_of))
     ∙ (ap (λ ns. row_at ns s) e ∙ ap (λ rows. get_or rows s []) (rows_heard row old new start))))
+
+-- told of the heads as they stood at the start
+pub row_of : (start now : List Head) (row : List ℕ) (old new : Pending) (s : ℕ) (h : Head) → s < length start → nodes_of now ≡ map (heard row old new) (nodes_of start)
+    → h ≡ get_or now s h → h.dependants.items ≡ row_at (nodes_of start) s
+row_of start now row old new s h lt e at =
+    let inside : s < length now = omega (arith, lt, length_heard (nodes_of start) now row old new e, length-map start node_of) in
+    row_now (nodes_of start) now row old new s h inside e at
 
 pub rising_heard : (start heads : List Head) (row : List ℕ) (old new : Pending) → nodes_of heads ≡ map (heard row old new) (nodes_of start) → IsRising start → IsRising heads
 rising_heard start heads row old new e rising = rising_as (heard row old new) (heard_number row old new) heads start e rising

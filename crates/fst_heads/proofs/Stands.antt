@@ -1,5 +1,5 @@
 -- How the counts of each block follow what becomes of patches.
-use Rattle.fst_heads.proofs.Basics.{◌≡◌, ◌≢◌, ◌&&◌, ◌+◌, ◌<◌, ◌≤◌, ℕ, Bool, true, false, not, cond, List, map, filter, count_by, set, get_or, AllPairs, refl, sym, ap, subst, ◌∙◌, inl, inr, arith, cases_Bool, cases_eq, and_parts, eq-eqb, ne_eqb, false≢true, length-map, get_or-map, rules}
+use Rattle.fst_heads.proofs.Basics.{◌≡◌, ◌≢◌, ◌&&◌, ◌+◌, ◌<◌, ◌≤◌, ℕ, Bool, true, false, not, cond, List, map, filter, count_by, set, get_or, AllPairs, refl, sym, ap, subst, ◌∙◌, inl, inr, arith, cases_Bool, cases_eq, and_parts, eq-eqb, ne_eqb, false≢true, rules}
 use Rattle.fst_heads.proofs.Patches.{Grade, Place, HasOnePlaceEach, IsOpenNumber, Kind, Patch, Change, OpenGate, SealedGate, is_among, is_at, is_change_at, is_live, is_on, same_number, filter_in, in_filter, In, Contains-from_In, In-map, In-unmap, among_in, in_among}
 use Rattle.fst_heads.proofs.Patches.place
 use Rattle.fst_heads.proofs.Words.{Pending, Sums, Standing, IsInside, Node, patches_in, at_number, linked_to, gains_names, is_pending, plus, minus, hears, heard, seals, lands, launches, AllStand, is_ready_on, is_held_on, is_flying_on, ready_on, standing_of, entered, is_hard_kind}
@@ -8,6 +8,7 @@ use Rattle.fst_heads.proofs.Added.{with_node, new_node, with_names}
 use Rattle.fst_heads.proofs.AtNumber.{at_same, at_other}
 use Rattle.fst_heads.proofs.CountsAs.{CountsAs, counts, count_cons, count_append, count_map, count_nothing, count_none, count_kept, standing_same, stands_as, stand_map, stand_set, off_place, off_as, like_as, self_as, rested_as, on_one}
 use Rattle.fst_heads.proofs.Waiting.{same_node}
+use Rattle.fst_heads.proofs.Slots.{rising_back}
 
 -- those that hear of another keep their places in the counts
 pub stand_heard : (nodes : List Node) (blocks : ℕ) (standings : List Standing) (row : List ℕ) (old new : Pending) → AllStand nodes blocks standings → AllStand (map (heard row old new) nodes) blocks standings
@@ -88,10 +89,7 @@ ready_not_held change hard ready e = refl
 
 -- one number, one node
 rising_in : (nodes : List Node) → AllPairs (λ p q. p.number < q.number) (patches_in nodes) → AllPairs (λ x y. x.patch.number < y.patch.number) nodes
-rising_in nodes rising i j d lt inside =
-    let r = rising i j d.patch lt (omega (arith, inside, length-map nodes (λ (x : Node). x.patch))) in
-    let one = ap (λ (p : Patch). p.number) (get_or-map (λ (x : Node). x.patch) nodes i d d.patch (omega (arith, lt, inside))) in
-    omega (arith, r, one, ap (λ (p : Patch). p.number) (get_or-map (λ (x : Node). x.patch) nodes j d d.patch inside))
+rising_in nodes rising = rising_back (λ (x : Node). x.patch) nodes (λ x. x.patch.number) (λ p. p.number) (λ x. refl) rising
 
 -- where one block launches what is ready of it
 module _ (nodes : List Node) (rising : AllPairs (λ x y. x.patch.number < y.patch.number) nodes) (b : ℕ) where

@@ -1,6 +1,6 @@
 -- The nodes of a spread, found by their numbers, and the numbers that wait in its queue.
 use Rattle.fst_heads.proofs.Basics.{◌≡◌, ◌≢◌, ◌<◌, ◌≤◌, ◌==◌, ◌&&◌, ◌+◌, ℕ, zero, suc, Bool, true, false, not, cond, List, [], ◌∷◌, ◌++◌, length, map, get_or, Contains, AllPairs, length-append, refl, sym, ap, subst, ◌∙◌, inl, inr, arith, list_any, cases_eq, cases_order, and_parts}
-use Rattle.fst_heads.proofs.Basics.{and_from, eqb-true, eq-eqb, ne_eqb, not-true, not_from_false, length-map, get_or-map, get_or_append_left, Contains-get_or, Contains-append_cases, Any-from_list_any, list_any-from_Any, AllPairs-cons, sum_by-cons}
+use Rattle.fst_heads.proofs.Basics.{and_from, eqb-true, eq-eqb, ne_eqb, not-true, not_from_false, get_or_append_left, Contains-get_or, Contains-append_cases, Any-from_list_any, list_any-from_Any, AllPairs-cons, sum_by-cons}
 use Rattle.std.proofs.Math.Seq.{get_or-append_seam}
 use Rattle.fst_heads.proofs.Patches.{filter_in, in_filter, In, In-map, In-from_Contains, Contains-from_In, pull}
 use Rattle.fst_heads.proofs.Words.{Pending, height, Node, pending_in, times, at_number, is_told, settles, hears, heard, wakes, woken, heights}
@@ -8,7 +8,7 @@ use Rattle.fst_heads.proofs.Words.pending
 use Rattle.fst_heads.proofs.AtNumber.{at_same, at_other}
 use Rattle.fst_heads.proofs.PendingIn.{found}
 use Rattle.fst_heads.proofs.Placed.{unmapped}
-use Rattle.fst_heads.proofs.Slots.{any_default}
+use Rattle.fst_heads.proofs.Slots.{any_default, rising_map}
 use Rattle.fst_heads.proofs.Turning.{turned, is_heard}
 
 pub mapped : {X Y : Type 0} (f : X → Y) (xs : List X) (x : X) → Contains xs x → Contains (map f xs) (f x)
@@ -62,12 +62,7 @@ pending_mapped f (y ∷ ys) n number same =
 
 pub rising_mapped : (f : Node → Node) (nodes : List Node) → ((y : Node) → (f y).patch.number ≡ y.patch.number)
     → AllPairs (λ a b. a.patch.number < b.patch.number) nodes → AllPairs (λ a b. a.patch.number < b.patch.number) (map f nodes)
-rising_mapped f nodes number rising i j d lt inside =
-    let long = length-map nodes f in
-    let a = get_or-map f nodes i d d (omega (arith, lt, inside, long)) in
-    let b = get_or-map f nodes j d d (omega (arith, inside, long)) in
-    let r = rising i j d lt (omega (arith, inside, long)) in
-    omega (arith, r, number (get_or nodes i d), number (get_or nodes j d), ap (λ (z : Node). z.patch.number) a, ap (λ (z : Node). z.patch.number) b)
+rising_mapped f nodes number rising = rising_map f nodes (λ y. y.patch.number) (λ y. y.patch.number) number rising
 
 -- heights
 

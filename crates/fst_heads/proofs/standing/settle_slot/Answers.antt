@@ -48,8 +48,8 @@ is_block_now h p b e yes_it = ap (λ q. is_pending q (pending.Block b)) (sym e) 
 not_block_now : (h : Head) (p : Pending) (b : ℕ) → p ≡ now (node_of h) → is_pending p (pending.Block b) ≡ false → is_pending (now (node_of h)) (pending.Block b) ≡ false
 not_block_now h p b e no_it = ap (λ q. is_pending q (pending.Block b)) (sym e) ∙ no_it
 
-pub release-requires-clause-ready : goal.release-requires-clause-ready
-release-requires-clause-ready c =
+pub release-requires : goal.release-requires
+release-requires c =
     let heads = c.args.heads.now.items in
     let s = c.args.slot in
     let h = c.index_mut-head.result.now in
@@ -61,20 +61,12 @@ release-requires-clause-ready c =
     c.in-Change.block c.in-Change.field-1.at c.in-Change.field-1.len c.in-Change.field-2 (ap kind_of c.in-Change.is) c.in-Memory.is
     (slot_sinks heads s h at c.requires.sinks) (slot_untold heads s h at c.requires.untold) inside c.index_mut.result.now c.index_mut.ensures.value
     (is_block_now h c.pending_now-new.result c.in-Change.block c.pending_now-new.ensures (sym c.is_pending.ensures ∙ c.if-is_pending.true)) in
-    omega (arith, few, c.args.heads.now.ok.0, c.args.heads.now.ok.1, c.args.heads.now.small)
-
-pub release-requires-clause-held : goal.release-requires-clause-held
-release-requires-clause-held c =
-    let heads = c.args.heads.now.items in
-    let s = c.args.slot in
-    let h = c.index_mut-head.result.now in
-    let lt : s < length heads = omega (arith, c.requires.slot, c.args.heads.now.ok.0) in
-    let e = c.index_mut-head.ensures.value in
-    let at = node_at heads s h (node_of h) lt e in
-    let inside = c.requires.inside (node_of h) c.in-Change.block c.in-Change.field-1.at c.in-Change.field-1.len c.in-Change.field-2 (node_in heads s h lt e) (ap kind_of c.in-Change.is) in
-    some_held heads s h lt e (vec_len c.args.standings.now) c.args.standings.now.items c.requires.standing
-    c.in-Change.block c.in-Change.field-1.at c.in-Change.field-1.len c.in-Change.field-2 (ap kind_of c.in-Change.is) c.in-Memory.is
-    (slot_sinks heads s h at c.requires.sinks) (slot_untold heads s h at c.requires.untold) inside c.index_mut.result.now c.index_mut.ensures.value
+    record {
+      ready = omega (arith, few, c.args.heads.now.ok.0, c.args.heads.now.ok.1, c.args.heads.now.small);
+      held = λ hard. some_held heads s h lt e (vec_len c.args.standings.now) c.args.standings.now.items c.requires.standing
+          c.in-Change.block c.in-Change.field-1.at c.in-Change.field-1.len c.in-Change.field-2 (ap kind_of c.in-Change.is) c.in-Memory.is
+          (slot_sinks heads s h at c.requires.sinks) (slot_untold heads s h at c.requires.untold) inside c.index_mut.result.now c.index_mut.ensures.value hard;
+    }
 
 pub returns-clause-nodes : goal.returns-clause-nodes
 returns-clause-nodes c d =
