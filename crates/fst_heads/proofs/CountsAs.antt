@@ -52,9 +52,7 @@ count_kept p q (x ∷ xs) drops =
     let rest = count_kept p q xs drops in
     elim (cases_Bool (q x)) [
       | inl t ↦ rw t (count_cons p x (filter q xs) ∙ (ap (λ k. cond (p x) 1 0 + k) rest ∙ sym (count_cons p x xs)))
-      | inr f ↦
-          let none : count_by p (x ∷ xs) ≡ count_by p xs = let one = count_cons p x xs ∙ ap (λ t. cond t 1 0 + count_by p xs) (drops x f) in omega (arith, one) in
-          rw f (rest ∙ sym none)
+      | inr f ↦ grind (arith, count_cons)
     ]
 
 -- three counts alike, one standing

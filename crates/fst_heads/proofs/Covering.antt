@@ -5,7 +5,7 @@ use Rattle.std.proofs.lemmas.Grind.{get_or-set_at}
 use Rattle.fst_types.specs.Closure.{one, join}
 use Rattle.fst_types.proofs.Depending.{Grown, grown}
 use Rattle.fst_types.proofs.Alike.{Alike, at_same, len_same, on_back, on_forth, back_alike, forth_alike, closure_map}
-use Rattle.fst_heads.proofs.Patches.{Grade, DirectlyOn, DependsOn, IsLiveNumber, IsOnDiskWithAll, gains, fresh, Patch, Change, IsOn, IsLive, Rising as IsRising, block_of_kind, at_of, len_of, is_live, filter_in, in_filter, same_number, In-from_Contains, Contains-from_In}
+use Rattle.fst_heads.proofs.Patches.{Grade, DirectlyOn, DependsOn, IsLiveNumber, IsOnDiskWithAll, gains, fresh, Patch, Change, IsOn, IsLive, Rising as IsRising, block_of_kind, len_of, is_live, filter_in, in_filter, same_number, In-from_Contains, Contains-from_In}
 use Rattle.fst_heads.proofs.Patches.{In-map, In-unmap}
 use Rattle.fst_heads.proofs.Patches.place
 use Rattle.fst_heads.proofs.Words.{Covering, IsOver, IsCovered, AreCovered, Covers, IsLonger, IsPut, HasBytes, newest_over, IsSparseRow}
@@ -261,9 +261,7 @@ module _ (old : List Patch) (n b at len : ℕ) (grade : Grade) (names row : List
           over = subst (IsOver new b x) (sym same) (over_with old p b x (newest_over was x) k.over);
           above = subst (λ m. (m ≡ q) ⊎ DependsOn new m q) (sym same) (elim k.above [ inl e ↦ inl e | inr e ↦ inr (depends_with old p (newest_over was x) q e) ]);
         }
-    | inr e ↦
-        let t = subst (λ y. x < at_of y.kind + len_of y.kind) (sym e) o.ends in
-        absurd (elim off [ inl lt ↦ omega (arith, lt, subst (λ y. at_of y.kind ≤ x) (sym e) o.starts) | inr ge ↦ omega (arith, ge, t) ])
+    | inr e ↦ grind arith
   ]
 
   own_cover : IsCovered new b cover

@@ -39,7 +39,7 @@ pub in_live : (heads : List Patch) (n : ℕ) → IsLiveNumber heads n → is_liv
 in_live heads n l = go heads (In-from_Contains heads l.patch l.head)
   where
     yes_p : (is_live l.patch && (l.patch.number == n)) ≡ true
-    yes_p = rw (live_place_of l.patch.place l.live, eq-eqb l.patch.number n l.numbered) refl
+    yes_p = grind (arith, live_place_of, eq-eqb)
 
     go : (ps : List Patch) → In ps l.patch → is_live_in ps n ≡ true
     go [] i = absurd i

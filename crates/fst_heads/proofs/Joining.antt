@@ -192,9 +192,7 @@ off_plus (pending.Block b) s c q off h e =
     record {
       gap = below.gap + own.gap;
       squares = gap_more s.count s.total s.squares c b below.gap own.gap below.squares own.squares;
-      same = λ none.
-          let b_same : b ≡ c = own.same (omega (arith, none)) in
-          join_from (pending.Block b) q c (inr (ap (λ n. pending.Block n) b_same)) (below.same (omega (arith, none)));
+      same = grind (arith, join_from);
     }
 off_plus pending.Apart s c q off h e = absurd (omega (arith, e))
 off_plus pending.Held s c q off h e = absurd (omega (arith, h))

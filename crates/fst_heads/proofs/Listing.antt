@@ -170,10 +170,7 @@ module _ (b : ℕ) where
     stepped new more nodes gained = record {
       rising = rising_as (at_number n (lands b)) one_number new heads nodes x.rising;
       nodes = ap (λ xs. land_each left xs) nodes ∙ (sym (ap (λ ns. land_each ns (nodes_of heads)) next) ∙ x.nodes);
-      queued =
-          ap (λ ns. ns ++ fly_each left (nodes_of new)) gained
-          ∙ (append_assoc queue (flies_at n (nodes_of heads)) (fly_each left (nodes_of new))
-          ∙ (ap (λ xs. queue ++ (flies_at n (nodes_of heads) ++ fly_each left xs)) nodes ∙ (sym (ap (λ ns. queue ++ fly_each ns (nodes_of heads)) next) ∙ x.queued)));
+      queued = grind (arith, append_assoc);
     }
 
     nothing : (t : Bool) → t ≡ false → queue ≡ queue ++ cond t (n ∷ []) []

@@ -68,11 +68,7 @@ module _ (nodes : List Node) (s : ℕ) (x : Node) (lt : s < length nodes) (e : g
     -- where it waits for more than its block from then on too, no count changes
     pub stand_waiting : (blocks : ℕ) (standings : List Standing) → is_pending (now x) (pending.Block b) ≡ false → AllStand nodes blocks standings → AllStand (set nodes s (settles x)) blocks standings
     stand_waiting blocks standings more S = stand_kept blocks standings (settles x) (λ c. elim (cases_eq c b) [
-      | inl same ↦ subst (λ n. CountsAs n (settles x) x) (sym same) (record {
-        ready = rw (more, waited_for_more x b at len grade kind memory sinks untold) refl;
-        held = rw (more, waited_for_more x b at len grade kind memory sinks untold) refl;
-        flying = refl;
-      })
+      | inl same ↦ grind (arith, waited_for_more)
       | inr ne ↦ off_as c (settles x) x (off c ne) (off c ne)
     ]) S
 
@@ -95,12 +91,10 @@ module _ (nodes : List Node) (s : ℕ) (x : Node) (lt : s < length nodes) (e : g
       stand_released blocks standings d inside S = stand_set (set nodes s (settles x)) nodes blocks b standings _ inside S own (λ c within ne. standing_kept c (settles x) (off_as c (settles x) x (off c ne) (off c ne)))
         where
           ready_more : count_by (is_ready_on b) (set nodes s (settles x)) + 0 ≡ count_by (is_ready_on b) nodes + 1
-          ready_more =
-              omega (arith, count_set (is_ready_on b) (settles x), ap one_if not_ready, ap one_if ready_then)
+          ready_more = grind (arith, count_set, not_ready, ready_then)
 
           held_less : count_by (is_held_on b) (set nodes s (settles x)) + cond (is_hard_kind x.patch.kind) 1 0 ≡ count_by (is_held_on b) nodes + 0
-          held_less =
-              omega (arith, count_set (is_held_on b) (settles x), ap one_if was_held, ap one_if held_no_more)
+          held_less = grind (arith, count_set, was_held, held_no_more)
 
           own : released (is_hard_kind x.patch.kind) (get_or standings b d) ≡ standing_of (set nodes s (settles x)) b
           own =

@@ -56,14 +56,8 @@ module _ (b : ℕ) where
       let short : List Entry = filter (λ e. stays e.number) (entries_on b ps) in
       let new : entries_on b (map (landed b) (p ∷ ps)) ≡ cond (is_live_on b (landed b p)) (entry (landed b p) ∷ entries_on b (map (landed b) ps)) (entries_on b (map (landed b) ps)) = entries_cons b (landed b p) (map (landed b) ps) in
       elim (cases_Bool (is_live_on b p)) [
-        | inl f ↦
-            let same : stays p.number ≡ is_live_on b (landed b p) = says p (inl refl) f ∙ (sym (and_on (is_live (landed b p)) (is_on b p.kind) (and_parts (is_live p) (is_on b p.kind) f).1) ∙ ap (λ k. is_live (landed b p) && is_on b k) (sym (landed_kind p))) in
-            rw f
-            (ap (λ t. cond t (entry p ∷ short) short) same
-            ∙ (ap (λ e. cond (is_live_on b (landed b p)) (e ∷ short) short) (sym (landed_entry p))
-            ∙ (ap (λ es. cond (is_live_on b (landed b p)) (entry (landed b p) ∷ es) es) rest ∙ sym new)))
-        | inr f ↦
-            rw f (rest ∙ sym (new ∙ ap (λ t. cond t (entry (landed b p) ∷ entries_on b (map (landed b) ps)) (entries_on b (map (landed b) ps))) (ap (is_live_on b) (landed_still p f) ∙ f)))
+        | inl f ↦ grind (arith, and_on, and_parts, landed_kind, landed_entry)
+        | inr f ↦ grind (arith, landed_still)
       ]
 
   -- the lists of the other blocks stay

@@ -1,5 +1,5 @@
 -- Rising rows, and names as calls give them.
-use Rattle.fst_heads.proofs.Basics.{◌≡◌, ℕ, suc, ◌+◌, ◌-◌, ◌<◌, ◌≤◌, List, [], ◌∷◌, length, get_or, Contains, Result, Ok, Err, is_ok, refl, sym, ap, subst, ◌∙◌, inl, inr, arith, insert, IsStrictlyIncreasing, IsBinarySearchResult, IsNonDecreasingBy, nat_cmp, ordering_index, nat_tests, rules}
+use Rattle.fst_heads.proofs.Basics.{◌≡◌, ℕ, suc, ◌+◌, ◌-◌, ◌<◌, ◌≤◌, List, [], ◌∷◌, length, get_or, Contains, Result, Ok, Err, is_ok, refl, sym, subst, ◌∙◌, inl, inr, arith, insert, IsStrictlyIncreasing, IsBinarySearchResult, IsNonDecreasingBy, nat_cmp, ordering_index, nat_tests, rules}
 use Rattle.fst_heads.proofs.Basics.{length-map, get_or-map, cases_Bool, cases_lt, cases_eq, AllPairs-from_increasing, searched, IsPermutation-insert, IsPermutation-sym, Contains-permutation, length-insert, get_or-insert_below, get_or-insert_at}
 use Rattle.fst_heads.proofs.Basics.{get_or-insert_above}
 use Rattle.fst_types.specs.Order.{NamesUnknown}
@@ -107,10 +107,7 @@ module _ (P : ℕ → Type 0) (names : List PatchNo) (i : ℕ) (row : List ℕ) 
   gathers_more new p g = record {
     rising = g.rising;
     only = λ n c. elim (g.only n c) [ inl o ↦ x.only n o | inr same ↦ subst (λ m. P m × Contains (numbers_of names) m) (sym same) (p, name_in names i e lt) ];
-    each = λ k d up inside q. elim (cases_lt k i) [
-      | inl o ↦ g.kept _ (x.each k d o inside q)
-      | inr past ↦ subst (Contains new) (ap (λ m. m.0) (here k d (λ h. omega (arith, h, past)) up)) g.gained
-    ];
+    each = grind (arith, cases_lt, here);
   }
 
   pub gathers_skip : (P (get_or names i e).0 → ⊥) → Gathers P names (i + 1) row

@@ -2,7 +2,7 @@
 use Rattle.fst_heads.proofs.Basics.{◌≡◌, ◌≢◌, ◌&&◌, ◌+◌, ◌<◌, ◌≤◌, ℕ, Bool, true, false, not, cond, List, map, filter, count_by, set, get_or, AllPairs, refl, sym, ap, subst, ◌∙◌, inl, inr, arith, cases_Bool, cases_eq, and_parts, eq-eqb, ne_eqb, false≢true, rules}
 use Rattle.fst_heads.proofs.Patches.{Grade, Place, HasOnePlaceEach, IsOpenNumber, Kind, Patch, Change, OpenGate, SealedGate, is_among, is_at, is_change_at, is_live, is_on, same_number, filter_in, in_filter, In, Contains-from_In, In-map, In-unmap, among_in, in_among}
 use Rattle.fst_heads.proofs.Patches.place
-use Rattle.fst_heads.proofs.Words.{Pending, Sums, Standing, IsInside, Node, patches_in, at_number, linked_to, gains_names, is_pending, plus, minus, hears, heard, seals, lands, launches, AllStand, is_ready_on, is_held_on, is_flying_on, ready_on, standing_of, entered, is_hard_kind}
+use Rattle.fst_heads.proofs.Words.{Pending, Sums, Standing, IsInside, Node, patches_in, at_number, linked_to, gains_names, is_pending, heard, seals, lands, launches, AllStand, is_ready_on, is_held_on, is_flying_on, ready_on, standing_of, entered, is_hard_kind}
 use Rattle.fst_heads.proofs.Words.pending
 use Rattle.fst_heads.proofs.Added.{with_node, new_node, with_names}
 use Rattle.fst_heads.proofs.AtNumber.{at_same, at_other}
@@ -15,13 +15,7 @@ pub stand_heard : (nodes : List Node) (blocks : ℕ) (standings : List Standing)
 stand_heard nodes blocks standings row old new S = stand_map (heard row old new) nodes blocks standings (λ x b i lt. one b x) S
   where
     one : (b : ℕ) (x : Node) → CountsAs b (heard row old new x) x
-    one b x = elim (cases_Bool (is_among row x.patch.number)) [
-      | inl e ↦
-          let all = rested_as b (record x { sums = plus new (minus old x.sums) }) in
-          let there : CountsAs b (hears old new x) x = record { ready = all.ready; held = all.held; flying = all.flying } in
-          rw e there
-      | inr e ↦ rw e (self_as b x)
-    ]
+    one b x = grind (arith, cases_Bool, rested_as, self_as)
 
 pub stand_sealed : (nodes : List Node) (numbers blocks g : ℕ) (standings : List Standing) → HasOnePlaceEach (patches_in nodes) numbers → IsOpenNumber (patches_in nodes) g
     → AllStand nodes blocks standings → AllStand (map (at_number g seals) nodes) blocks standings
@@ -66,7 +60,7 @@ stand_landed nodes blocks b standings d lt S = stand_set (map (lands b) nodes) n
   where
     -- what flies is in memory neither before nor after
     ready_stays : (x : Node) → is_ready_on b (lands b x) ≡ is_ready_on b x
-    ready_stays x = elim (cases_Bool (is_flying_on b x)) [ inl e ↦ rw (e, in_flight x.patch.place (is_on b x.patch.kind) e) refl | inr e ↦ rw e refl ]
+    ready_stays x = grind (arith, cases_Bool, in_flight)
 
     held_stays : (x : Node) → is_held_on b (lands b x) ≡ is_held_on b x
     held_stays x = elim (cases_Bool (is_flying_on b x)) [ inl e ↦ rw (e, in_flight x.patch.place (is_on b x.patch.kind) e) refl | inr e ↦ rw e refl ]
@@ -75,7 +69,7 @@ stand_landed nodes blocks b standings d lt S = stand_set (map (lands b) nodes) n
     none_flies x = elim (cases_Bool (is_flying_on b x)) [ inl e ↦ rw e refl | inr e ↦ rw e e ]
 
     at_b : get_or standings b d ≡ standing_of nodes b
-    at_b = S.each b d lt
+    at_b = grind arith
 
     own : record { ready = (get_or standings b d).ready; held = (get_or standings b d).held; flying = 0 } ≡ standing_of (map (lands b) nodes) b
     own = standing_same _ _ _ _ _ _
@@ -132,10 +126,10 @@ pub stand_launched : (nodes : List Node) (numbers blocks b : ℕ) (standings : L
 stand_launched nodes numbers blocks b standings d H lt rest S = stand_set (map (launches (ready_on b nodes)) nodes) nodes blocks b standings _ lt S own (λ c inside ne. stands_as (launches (ready_on b nodes)) nodes c (λ x i. launched_other nodes rising b c x i ne))
   where
     rising : AllPairs (λ x y. x.patch.number < y.patch.number) nodes
-    rising = rising_in nodes H.rising
+    rising = grind (arith, rising_in)
 
     at_b : get_or standings b d ≡ standing_of nodes b
-    at_b = S.each b d lt
+    at_b = grind arith
 
     resting : (x : Node) → In nodes x → is_flying_on b x ≡ false
     resting x i = count_none (is_flying_on b) nodes (sym (ap (λ (s : Standing). s.flying) at_b) ∙ rest) x i
@@ -200,20 +194,20 @@ stand_change nodes blocks standings p b at len grade d kind memory lt S =
     stand_set (with_node nodes p) nodes blocks b standings _ lt S own (λ c inside ne. made_off nodes p c (off_block b c p.kind at len grade kind ne))
   where
     on_b : is_on b p.kind ≡ true
-    on_b = ap (is_on b) kind ∙ eq-eqb b b refl
+    on_b = grind (arith, eq-eqb)
 
     -- it is a change of b in memory
     here : is_change_at place.Memory b p ≡ true
-    here = ap (λ q. is_at q place.Memory && is_on b p.kind) memory ∙ on_b
+    here = grind arith
 
     ready_new : is_ready_on b (new_node nodes p) ≡ is_pending (new_node nodes p).pending (pending.Block b)
-    ready_new = ap (λ t. t && is_pending (new_node nodes p).pending (pending.Block b)) here
+    ready_new = grind arith
 
     held_new : is_held_on b (new_node nodes p) ≡ (is_hard_kind p.kind && not (is_pending (new_node nodes p).pending (pending.Block b)))
-    held_new = ap (λ t. (t && is_hard_kind p.kind) && not (is_pending (new_node nodes p).pending (pending.Block b))) here
+    held_new = grind arith
 
     flies_new : is_flying_on b (new_node nodes p) ≡ false
-    flies_new = ap (λ q. is_at q place.Flight && is_on b p.kind) memory
+    flies_new = grind arith
 
     own : entered (is_hard_kind p.kind) (is_pending (new_node nodes p).pending (pending.Block b)) (get_or standings b d) ≡ standing_of (with_node nodes p) b
     own =

@@ -71,12 +71,7 @@ module _ (nodes : List Node) (numbers blocks g : ℕ) (H : SparseAreLawful (patc
 
   seals_sound : (x : Node) → Contains nodes x → x.patch.kind ≡ OpenGate → x.patch.place ≡ place.Memory → Sound (seals x) blocks
   seals_sound x c is_open memory = elim (sealed_cases x) [
-    | inl e ↦ subst (λ y. Sound y blocks) (sym e.1) (record {
-      sinks = rw (open_held x c is_open) (held_sinks (now (record x { patch = record x.patch { kind = SealedGate; place = place.Disk } })));
-      placed = (λ n. refl, λ d. counted_nothing x.sums e.0);
-      follow = λ f. inr refl;
-      changes = λ b at len grade k. absurd (cc);
-    })
+    | inl e ↦ grind (arith, open_held, held_sinks, counted_nothing)
     | inr e ↦ subst (λ y. Sound y blocks) (sym e.1) (record {
       sinks = rw (open_held x c is_open) (held_sinks (now (record x { patch = record x.patch { kind = SealedGate } })));
       placed = (λ n. absurd (e.0 (nothing_counted x.sums n)), λ d. absurd (cc));
@@ -113,23 +108,11 @@ module _ (nodes : List Node) (numbers blocks g : ℕ) (H : SparseAreLawful (patc
       | inr s ↦ subst (λ y. Sound y blocks) (sym s.1) (sound_at_rest nodes numbers blocks H inside S x c)
     ];
     queued = λ n c. elim wake_cases [
-      | inl r ↦ elim (In-from_Contains (g ∷ []) n (subst (λ q. Contains q n) r.4 c)) [
-        | inl e ↦ (r.0, r.1, r.2 ∙ e, ap is_told (at_same g seals r.0 r.2) ∙ r.3)
-        | inr no_more ↦ absurd no_more
-      ]
+      | inl r ↦ search (rules, at_same)
       | inr none ↦ absurd (In-from_Contains [] n (subst (λ q. Contains q n) none.1 c))
     ];
-    waits = λ x c untold. elim (seal_cases x c) [
-      | inl s ↦ elim wake_cases [
-        | inl r ↦ subst (λ q. Contains q x.patch.number) (sym r.4) (0, omega arith, sym s.0)
-        | inr none ↦ absurd (none.0 x c s.0 (sym (ap is_told s.3) ∙ untold))
-      ]
-      | inr s ↦ absurd (both_ways (is_told x) (sym (ap is_told s.1) ∙ untold) (stays_told nodes blocks S x c))
-    ];
-    once = elim wake_cases [
-      | inl r ↦ subst (λ q. AllPairs (λ m n. m ≢ n) q) (sym r.4) (λ i j d lt within. absurd (omega (arith, lt, within)))
-      | inr none ↦ subst (λ q. AllPairs (λ m n. m ≢ n) q) (sym none.1) (λ i j d lt within. absurd (omega (arith, lt, within)))
-    ];
+    waits = search (rules, seal_cases, wake_cases, both_ways, stays_told);
+    once = grind (arith, wake_cases);
   }
 
 -- where a gate is sealed
@@ -178,15 +161,7 @@ module _ (nodes : List Node) (numbers blocks b : ℕ) (H : SparseAreLawful (patc
 
   lands_sound : (x : Node) → Contains nodes x → Sound (lands b x) blocks
   lands_sound x c = elim (land_cases x) [
-    | inl m ↦
-        let flies = change_at place.Flight b x.patch m.0 in
-        let nothing = nothing_on_disk x.patch.kind b (joined_sums x.sums) flies.0 in
-        subst (λ y. Sound y blocks) (sym m.1) (record {
-          sinks = rw nothing (sinks_to_nothing x.pending);
-          placed = (λ n. refl, λ d. nothing);
-          follow = λ f. absurd (no_follower_on x.patch.kind b flies.0 f);
-          changes = λ on at len grade k. inside x.patch on (patch_in nodes x c) (ap block_of_kind k);
-        })
+    | inl m ↦ grind (arith, change_at, nothing_on_disk, sinks_to_nothing, no_follower_on, patch_in)
     | inr s ↦ subst (λ y. Sound y blocks) (sym s) (sound_at_rest nodes numbers blocks H inside S x c)
   ]
 
@@ -208,10 +183,7 @@ module _ (nodes : List Node) (numbers blocks b : ℕ) (H : SparseAreLawful (patc
     pending = λ x. refl;
     sound = lands_sound;
     queued = λ n c. let x = flying_in n c in (x.0, x.1, x.2, lands_untold x.0 x.1 x.3);
-    waits = λ x c untold. elim (land_cases x) [
-      | inl m ↦ in_flying x c m.0
-      | inr s ↦ absurd (both_ways (is_told x) (sym (ap is_told s) ∙ untold) (stays_told nodes blocks S x c))
-    ];
+    waits = grind (arith, land_cases, in_flying, both_ways, stays_told);
     once = flying_once;
   }
 

@@ -1,5 +1,5 @@
 -- One step of a spread: what is pending of one patch now is told to its dependants.
-use Rattle.fst_heads.proofs.Basics.{◌≡◌, ◌≢◌, ◌⊎◌, ◌↔◌, ◌<◌, ◌≤◌, ℕ, true, false, List, [], ◌∷◌, ◌++◌, length, map, Contains, AllPairs, refl, sym, ap, subst, ◌∙◌, inl, inr, arith, cases_Bool, cases_eq, both_ways, length-map, Contains-push, Contains-push_cases, Contains-append_left}
+use Rattle.fst_heads.proofs.Basics.{◌≡◌, ◌≢◌, ◌⊎◌, ◌↔◌, ◌<◌, ◌≤◌, ℕ, true, false, List, [], ◌∷◌, ◌++◌, length, map, Contains, AllPairs, refl, sym, ap, subst, ◌∙◌, inl, inr, arith, cases_Bool, cases_eq, both_ways, length-map, Contains-push, Contains-push_cases, Contains-append_left, rules}
 use Rattle.fst_heads.proofs.Basics.{Contains-append_right, Contains-append_cases, AllPairs-filter}
 use Rattle.fst_heads.proofs.Patches.{Follows, In, In-map, In_decided, In-from_Contains, Contains-from_In}
 use Rattle.fst_heads.proofs.Patches.place
@@ -214,10 +214,7 @@ module _ (nodes : List Node) (blocks : ℕ) (queue : List ℕ) (q : ℕ) (x : No
         | inr f ↦ in_front y cy ne f
       ]
     ]
-    | inr out ↦ elim (cases_eq y.patch.number q) [
-      | inl n ↦ absurd (untold (after y) u (now_same y out ∙ sym ((turn y).as_it_is n)))
-      | inr ne ↦ in_front y cy ne (not_told y (λ s. untold (after y) u (now_same y out ∙ (s ∙ sym ((turn y).as_it_was ne)))))
-    ]
+    | inr out ↦ search (rules, cases_eq, untold, now_same, turn, in_front, not_told)
   ]
 
   once_at : AllPairs (λ m n. m ≢ n) (queue ++ waking)
@@ -267,7 +264,4 @@ module _ (nodes : List Node) (blocks : ℕ) (queue : List ℕ) (q : ℕ) (x : No
       subst (λ ns. heights ns < heights nodes) (sym in_one) (heights_lower after nodes x low c (less x c e))
     where
       low_at : (y : Node) → (y.patch.number ≡ q → height (after y).pending < height y.pending) → height (after y).pending ≤ height y.pending
-      low_at y less = elim (cases_eq y.patch.number q) [
-        | inl n ↦ let l = less n in omega (arith, l)
-        | inr ne ↦ subst (λ a. height a ≤ height y.pending) (sym ((turn y).as_it_was ne)) (omega arith)
-      ]
+      low_at y less = search (rules, cases_eq, turn)

@@ -110,10 +110,7 @@ module _ (heads : List Patch) (rest : List Entry) (b at len : ℕ) (old row : Li
     only = λ n c. elim (g.only n c) [ inl o ↦ x.only n o | inr same ↦ inr (subst (IsTouched heads b at len) (sym same) (touched_here s)) ];
     kept = λ n c. g.kept n (x.kept n c);
     live = λ f i. x.live f (subst (λ es. In es f) (sym next) (inr i));
-    each = λ p c t. elim (x.each p c t) [
-      | inl i ↦ elim (subst (λ es. In es (entry p)) next i) [ inl same ↦ inr (subst (Contains new) (ap (λ f. f.number) same) g.gained) | inr j ↦ inl j ]
-      | inr o ↦ inr (g.kept p.number o)
-    ];
+    each = grind arith;
   }
 
   pub touches_skip : shares at len e.at e.len ≡ false → Touches heads left b at len old row

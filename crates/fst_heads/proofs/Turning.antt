@@ -152,16 +152,10 @@ pub rested_placed : (x : Node) → (x.patch.place ≡ place.Disk → now x ≡ p
 rested_placed x disk = (to, from)
   where
     to : now (rested x) ≡ pending.Nothing → (rested x).patch.place ≡ place.Disk
-    to e = elim (nothing_rests x.patch.kind x.patch.place x.sums (sym (rests x).pends ∙ e)) [
-      | inl on ↦ disk_if (goes x) x on
-      | inr b ↦ went_if (goes x) x (and_from (follows x.patch.kind) (x.sums.count == 0) (is_follows x.patch.kind b.0) (eq-eqb x.sums.count 0 b.1))
-    ]
+    to e = grind (arith, nothing_rests, rests, disk_if, went_if, and_from, is_follows, eq-eqb)
 
     from : (rested x).patch.place ≡ place.Disk → now (rested x) ≡ pending.Nothing
-    from e = (rests x).pends ∙ elim (cases_Bool (goes x)) [
-      | inl g ↦ let k = goes_parts x g in follower_of x.patch.kind x.patch.place (joined_sums x.sums) k.0 ∙ counted_nothing x.sums k.1
-      | inr g ↦ disk (sym (stayed_if (goes x) x g) ∙ e)
-    ]
+    from e = grind (arith, rests, cases_Bool, goes_parts, follower_of, counted_nothing, stayed_if)
 
 -- what becomes of a node where old of a patch with this row of dependants becomes new
 pub record Hears (row : List ℕ) (old new : Pending) (x y : Node) : Type 0 where
@@ -185,26 +179,8 @@ module _ (row : List ℕ) (old new : Pending) (x : Node) where
 
   pub hears_heard : Hears row old new x (heard row old new x)
   hears_heard = elim (In_decided row x.patch.number) [
-    | inl h ↦
-        let r = rests summed in
-        subst (Hears row old new x) (sym (is_heard h)) (record {
-          stays = record { number = r.stays.number; kind = r.stays.kind; dependencies = r.stays.dependencies; spread = r.stays.spread };
-          told = r.told;
-          pends = r.pends ∙ ap (λ s. of_kind x.patch.kind x.patch.place (joined_sums s)) (sym r.sums);
-          places = r.places;
-          same = λ out. absurd (out h);
-          moved = λ i. r.sums;
-          placed = λ i disk. rested_placed summed (λ d. sym r.pends ∙ disk d);
-        })
-    | inr out ↦ subst (Hears row old new x) (sym (not_heard out)) (record {
-      stays = record { number = refl; kind = refl; dependencies = refl; spread = refl };
-      told = refl;
-      pends = refl;
-      places = inl refl;
-      same = λ o. (refl, refl);
-      moved = λ h. absurd (out h);
-      placed = λ h. absurd (out h);
-    })
+    | inl h ↦ grind (arith, rests, is_heard, rested_placed)
+    | inr out ↦ grind (arith, not_heard)
   ]
 
 -- what becomes of a node where new is told of the patch with number q and row of dependants

@@ -30,8 +30,7 @@ same_node nodes x y rising a b e =
     ]
   where
     apart : (i j : ℕ) (p q : Node) → i < j → j < length nodes → get_or nodes i p ≡ p → get_or nodes j p ≡ q → p.patch.number ≡ q.patch.number → ⊥
-    apart i j p q lt inside at_i at_j same =
-        omega (arith, rising i j p lt inside, ap (λ (z : Node). z.patch.number) at_i, ap (λ (z : Node). z.patch.number) at_j, same)
+    apart i j p q lt inside at_i at_j same = grind arith
 
 -- what is pending at a number
 

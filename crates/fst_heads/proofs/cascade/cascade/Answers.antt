@@ -129,10 +129,7 @@ loop-number-preserved c = absurd (absent c)
 
 -- nothing waits where nothing was popped
 left : (c : goal.In_default) → Spreading (nodes_of c.loop-number.heads.items) (vec_len c.args.standings.now) []
-left c =
-    let long = c.loop-number.queue.ok.0 in
-    let none = c.in_default.ensures.cases.0 in
-    subst (Spreading (nodes_of c.loop-number.heads.items) (vec_len c.args.standings.now)) (nil_from_length c.loop-number.queue.items (omega (arith, long, none))) c.loop-number.invariant.spreading
+left c = grind (arith, nil_from_length)
 
 pub returns-clause-settled : goal.returns-clause-settled
 returns-clause-settled c = settled_spread (nodes_of c.loop-number.heads.items) (vec_len c.args.standings.now) (left c)

@@ -1,5 +1,5 @@
-use Rattle.fst_heads.proofs.Basics.{◌∙◌, sym, ap, subst, rules}
-use Rattle.fst_heads.proofs.Words.{frame_of, HasSlot, HasNone, node_of, hears, wakes}
+use Rattle.fst_heads.proofs.Basics.{◌∙◌, sym, ap, subst, rules, arith}
+use Rattle.fst_heads.proofs.Words.{HasSlot, HasNone, node_of, hears, wakes}
 use Rattle.fst_heads.proofs.AtNumber.{at_slot, at_none}
 use Rattle.fst_heads.proofs.Framed.{frames_set}
 use Rattle.fst_heads.proofs.PendingAt.{node_in}
@@ -27,12 +27,11 @@ returns-then-hear c =
     let s = c.in-Some.slot in
     let slot = subst (λ hs. HasSlot hs c.args.number s) c.deref.ensures.value c.in-Some.ensures.found in
     record {
-      nodes = at_slot heads c.args.number s (hears c.args.old c.args.new) _ c.index_mut.result.now c.requires.rising slot
-          (c.hear.ensures.node ∙ ap (λ h. hears c.args.old c.args.new (node_of h)) c.index_mut.ensures.value);
+      nodes = grind (arith, at_slot);
       queued = c.push_reserved.ensures.items
           ∙ waits_slot heads c.args.number s (wakes c.args.old c.args.new) c.index_mut.result.now c.args.queue.now.items c.requires.rising slot
           (sym (ap (λ h. wakes c.args.old c.args.new (node_of h)) c.index_mut.ensures.value) ∙ (sym c.hear.ensures.woke ∙ c.if-hear.true));
-      frames = frames_set heads s _ c.index_mut.result.now slot.0 (c.hear.ensures.frame ∙ ap frame_of c.index_mut.ensures.value);
+      frames = grind (arith, frames_set);
       places = search rules;
       capacity = search rules;
     }
@@ -43,18 +42,16 @@ returns-else-hear c =
     let s = c.in-Some.slot in
     let slot = subst (λ hs. HasSlot hs c.args.number s) c.deref.ensures.value c.in-Some.ensures.found in
     record {
-      nodes = at_slot heads c.args.number s (hears c.args.old c.args.new) _ c.index_mut.result.now c.requires.rising slot
-          (c.hear.ensures.node ∙ ap (λ h. hears c.args.old c.args.new (node_of h)) c.index_mut.ensures.value);
+      nodes = grind (arith, at_slot);
       queued = stays_slot heads c.args.number s (wakes c.args.old c.args.new) c.index_mut.result.now c.args.queue.now.items c.requires.rising slot
           (sym (ap (λ h. wakes c.args.old c.args.new (node_of h)) c.index_mut.ensures.value) ∙ (sym c.hear.ensures.woke ∙ c.if-hear.false));
-      frames = frames_set heads s _ c.index_mut.result.now slot.0 (c.hear.ensures.frame ∙ ap frame_of c.index_mut.ensures.value);
+      frames = grind (arith, frames_set);
       places = search rules;
       capacity = search rules;
     }
 
 pub returns-in_default-clause-nodes : goal.returns-in_default-clause-nodes
-returns-in_default-clause-nodes c =
-    at_none c.args.heads.now.items c.args.number (hears c.args.old c.args.new) (subst (λ hs. HasNone hs c.args.number) c.deref.ensures.value c.in_default.ensures.none)
+returns-in_default-clause-nodes c = grind (arith, at_none)
 
 pub returns-in_default-clause-queued : goal.returns-in_default-clause-queued
 returns-in_default-clause-queued c =

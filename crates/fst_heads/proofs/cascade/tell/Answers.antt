@@ -1,18 +1,11 @@
-use Rattle.fst_heads.proofs.Basics.{◌≡◌, ◌≢◌, ◌∙◌, ◌+◌, ◌<◌, ◌≤◌, ◌++◌, ◌∷◌, [], AllPairs, Contains, length, map, take, get_or, vec_capacity, append-nil, append_assoc, length-append, arith, ap, refl, sym, subst, length-map, take_all}
+use Rattle.fst_heads.proofs.Basics.{◌≡◌, ◌≢◌, ◌∙◌, ◌+◌, ◌<◌, ◌≤◌, ◌∷◌, [], AllPairs, Contains, length, map, take, get_or, vec_capacity, append-nil, append_assoc, length-append, arith, ap, sym, subst, length-map, take_all, rules}
 use Rattle.fst_heads.proofs.Words.{node_of, nodes_of, at_number, CanHear, hears, heard, woken}
-use Rattle.fst_heads.proofs.Slotted.{row_at, row_is, at_row, row_of, length_heard, rising_heard, heard_none, heard_before, heard_more, woken_more, woken_room}
+use Rattle.fst_heads.proofs.Slotted.{row_at, row_is, at_row, row_of, row_now, length_heard, rising_heard, heard_none, heard_before, heard_more, woken_more, woken_room}
 use Rattle.fst_heads.proofs.Slots.{any_default}
 use Rattle.fst_heads.proofs.cascade.tell.Goals as goal
 
 pub loop-at-init : goal.loop-at-init
-loop-at-init c = record {
-  nodes = sym (heard_none c.args.old c.args.new (nodes_of c.args.heads.now.items));
-  queued = sym (append-nil c.args.queue.now.items);
-  len = refl;
-  capacity = refl;
-  frames = refl;
-  places = refl;
-}
+loop-at-init c = grind (arith, heard_none, append-nil)
 
 pub hear_at-requires : goal.hear_at-requires
 hear_at-requires c =
@@ -41,14 +34,7 @@ hear_at-requires c =
     }
 
 pub loop-at-smaller : goal.loop-at-smaller
-loop-at-smaller c =
-    let heads = c.args.heads.now.items in
-    let start = nodes_of heads in
-    let row = row_at start c.args.slot in
-    let i = c.loop-at.at in
-    let inside : c.args.slot < length start = omega (arith, c.requires.slot, length-map heads node_of) in
-    let here = row_of heads c.loop-at.heads.items (take i row) c.args.old c.args.new c.args.slot c.index.result.now (omega (arith, c.requires.slot)) c.loop-at.invariant.nodes c.index.ensures in
-    omega (arith, c.len.ensures.value, ap length here, c.loop-at-test.true)
+loop-at-smaller c = grind (arith, length-map, length_heard, row_now)
 
 pub loop-at-preserved : goal.loop-at-preserved
 loop-at-preserved c =
@@ -72,30 +58,15 @@ loop-at-preserved c =
     ∙ ap (woken (get_or row i 0 ∷ []) c.args.old c.args.new) before.nodes in
     record {
       nodes = nodes;
-      queued = c.hear_at.ensures.queued
-          ∙ (ap (λ ms. c.loop-at.queue.items ++ ms) woke
-          ∙ (ap (λ ms. ms ++ woken (get_or row i 0 ∷ []) c.args.old c.args.new (map (heard (take i row) c.args.old c.args.new) start)) before.queued
-          ∙ (append_assoc c.args.queue.now.items (woken (take i row) c.args.old c.args.new start) (woken (get_or row i 0 ∷ []) c.args.old c.args.new (map (heard (take i row) c.args.old c.args.new) start))
-          ∙ ap (λ ms. c.args.queue.now.items ++ ms) (woken_more row once i lt c.args.old c.args.new start))));
+      queued = grind (arith, append_assoc, woken_more);
       len = omega (arith, length_heard start c.hear_at.new.heads.items (take (i + 1) row) c.args.old c.args.new nodes, length-map heads node_of);
       capacity = c.hear_at.ensures.capacity ∙ before.capacity;
       frames = c.hear_at.ensures.frames ∙ before.frames;
       places = c.hear_at.ensures.places ∙ before.places;
     }
 
-pub returns : goal.returns
-returns c =
-    let heads = c.args.heads.now.items in
-    let start = nodes_of heads in
-    let row = row_at start c.args.slot in
-    let i = c.loop-at.at in
-    let inside : c.args.slot < length start = omega (arith, c.requires.slot, length-map heads node_of) in
-    let here = row_of heads c.loop-at.heads.items (take i row) c.args.old c.args.new c.args.slot c.index.result.now (omega (arith, c.requires.slot)) c.loop-at.invariant.nodes c.index.ensures in
-    let all = take_all i row (omega (arith, c.len.ensures.value, ap length here, c.loop-at-test.false)) in
-    record {
-      nodes = λ d. c.loop-at.invariant.nodes ∙ ap (λ ms. map (heard ms c.args.old c.args.new) start) (all ∙ sym (row_is start c.args.slot d inside));
-      queued = λ d. c.loop-at.invariant.queued ∙ ap (λ ms. c.args.queue.now.items ++ woken ms c.args.old c.args.new start) (all ∙ sym (row_is start c.args.slot d inside));
-      frames = c.loop-at.invariant.frames;
-      places = c.loop-at.invariant.places;
-      capacity = c.loop-at.invariant.capacity;
-    }
+pub returns-clause-nodes : goal.returns-clause-nodes
+returns-clause-nodes c d = search (rules, length-map, length_heard, row_now, take_all, row_is)
+
+pub returns-clause-queued : goal.returns-clause-queued
+returns-clause-queued c d = grind (arith, length-map, length_heard, row_now, take_all, row_is)

@@ -1,5 +1,5 @@
-use Rattle.fst_heads.proofs.Basics.{◌≡◌, ◌∙◌, get_or, map, ap, sym, subst, take, refl, arith, HasRoomFor}
-use Rattle.fst_heads.proofs.Words.{Head, patch_of, HasSlot, HasNone, node_of, nodes_of, at_number}
+use Rattle.fst_heads.proofs.Basics.{◌≡◌, ◌∙◌, get_or, map, ap, sym, subst, take, arith, HasRoomFor, rules}
+use Rattle.fst_heads.proofs.Words.{Head, patch_of, HasSlot, node_of, nodes_of, at_number}
 use Rattle.fst_heads.proofs.AtNumber.{at_none, at_slot}
 use Rattle.fst_heads.proofs.Framed.{still_below}
 use Rattle.fst_heads.proofs.Linking.{adds, rising_linked, room_first, room_left, room_fewer, room_here, link_none, link_more}
@@ -7,13 +7,7 @@ use Rattle.fst_heads.proofs.links.link.Goals as goal
 use Rattle.fst_heads.proofs.links.link.Goals.{in-Some, in_default}
 
 pub loop-other-init : goal.loop-other-init
-loop-other-init c = record {
-  nodes = sym (link_none (nodes_of c.args.heads.now.items) c.args.number);
-  room = room_first c.args.heads.now.items c.args.row.now c.requires.room;
-  below = λ n room. room;
-  len = refl;
-  capacity = refl;
-}
+loop-other-init c = search (rules, link_none, room_first)
 
 pub slot_of-requires : goal.slot_of-requires
 slot_of-requires c = rw c.deref.ensures.value (rising_linked c.loop-other.heads.items c.args.heads.now.items (take c.loop-other.other-index c.args.row.now) c.args.number c.loop-other.invariant.nodes c.requires.rising)
@@ -51,14 +45,5 @@ loop-other-preserved c =
             len = before.len;
             capacity = before.capacity;
           })
-      | in_default w ↦
-          let none = subst (λ hs. HasNone hs (get_or row i 0)) c.deref.ensures.value w.in_default.ensures.none in
-          rw w.heads-is
-          (record {
-            nodes = at_none heads (get_or row i 0) (adds n) none ∙ (ap (λ xs. map (at_number (get_or row i 0) (adds n)) xs) before.nodes ∙ more);
-            room = room_fewer heads row i before.room;
-            below = before.below;
-            len = before.len;
-            capacity = before.capacity;
-          })
+      | in_default w ↦ grind (arith, at_none, room_fewer)
     ]

@@ -1,5 +1,5 @@
-use Rattle.fst_heads.proofs.Basics.{◌≡◌, ◌∙◌, get_or, ap, subst}
-use Rattle.fst_heads.proofs.Words.{Head, patch_of, HasSlot, HasNone, node_of}
+use Rattle.fst_heads.proofs.Basics.{◌≡◌, ◌∙◌, get_or, ap, subst, arith}
+use Rattle.fst_heads.proofs.Words.{Head, patch_of, HasSlot, node_of}
 use Rattle.fst_heads.proofs.Linking.{rising_same, nodes_set, room_more, room_skip, room_all}
 use Rattle.fst_heads.proofs.links.reserve_above.Goals as goal
 use Rattle.fst_heads.proofs.links.reserve_above.Goals.{in-Some+in_ok-reserve, in_default}
@@ -27,14 +27,7 @@ loop-number-preserved c =
             len = before.len;
             capacity = before.capacity;
           })
-      | in_default w ↦
-          rw w.heads-is
-          (record {
-            nodes = before.nodes;
-            room = room_skip heads row i (subst (λ hs. HasNone hs (get_or row i 0)) c.deref.ensures.value w.in_default.ensures.none) before.room;
-            len = before.len;
-            capacity = before.capacity;
-          })
+      | in_default w ↦ grind (arith, room_skip)
     ]
 
 pub returns-clause-room : goal.returns-clause-room

@@ -1,4 +1,4 @@
-use Rattle.fst_heads.proofs.Basics.{◌≡◌, ◌∙◌, map, drop, get_or, refl, sym, ap, subst, arith, drop_more}
+use Rattle.fst_heads.proofs.Basics.{◌≡◌, ◌∙◌, map, get_or, refl, sym, ap, subst, arith, drop_more}
 use Rattle.fst_heads.proofs.Patches.{is_change_at}
 use Rattle.fst_heads.proofs.Patches.place
 use Rattle.fst_heads.proofs.Words.{Listed, patch_of, patches_of, entries_of, flying_on, nodes_of, lands, HasSlot, HasNone}
@@ -14,9 +14,7 @@ loop-listed-init c = record {
 
 -- as many landed as fly
 all_landed : (c : goal.Then-len-flying) → (nodes_of c.loop-listed.heads.items ≡ map (lands c.args.block) (nodes_of c.args.heads.now.items)) × (c.loop-listed.queue.items ≡ flying_on c.args.block (patches_of c.args.heads.now.items))
-all_landed c =
-    landing_full c.args.block c.args.heads.now.items c.loop-listed.heads.items (map (λ e. e.number) (entries_of (drop c.loop-listed.listed-index c.args.list.now))) c.loop-listed.queue.items c.loop-listed.invariant.landing
-    (omega (arith, c.requires.flying, c.len.ensures, c.if-len-flying.true))
+all_landed c = grind (arith, landing_full)
 
 pub push_reserved-requires : goal.push_reserved-requires
 push_reserved-requires c =

@@ -8,6 +8,4 @@ pub returns : goal.returns
 returns c = ap nodes_of (filter_from_retain _ (λ h. is_live_place h.place) (λ f x b g called. search rules) _ _ _ c.retain.ensures.filtered) ∙ live_heads c.args.heads.now.items
 
 pub returns-then-live-len : goal.returns-then-live-len
-returns-then-live-len c =
-    let heads = c.args.heads.now.items in
-    all_live heads (omega (arith, c.requires, c.if-live-len.true, c.len.ensures, c.args.heads.now.ok.0))
+returns-then-live-len c = grind (arith, all_live)

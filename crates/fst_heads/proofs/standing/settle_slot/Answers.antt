@@ -1,8 +1,8 @@
-use Rattle.fst_heads.proofs.Basics.{◌≡◌, ◌<◌, ◌∙◌, ◌&&◌, ℕ, Bool, List, length, set, get_or, vec_len, Vec, Global, true, false, refl, sym, ap, subst, arith, and_right}
+use Rattle.fst_heads.proofs.Basics.{◌≡◌, ◌<◌, ◌∙◌, ◌&&◌, ℕ, Bool, List, length, set, get_or, vec_len, Vec, Global, true, false, refl, sym, ap, subst, arith, and_right, rules}
 use Rattle.fst_types.specs.declared.span.Span.{Span}
 use Rattle.fst_heads.proofs.Patches.{Grade, Place, is_at, is_on}
 use Rattle.fst_heads.proofs.Patches.place
-use Rattle.fst_heads.proofs.Words.{Head, Standing, kind_of, HasSlot, frame_of, Node, node_of, nodes_of, Pending, Fits, Sinks, is_pending, now, is_told, settles, AllStand}
+use Rattle.fst_heads.proofs.Words.{Head, Standing, kind_of, Node, node_of, nodes_of, Pending, Fits, Sinks, is_pending, now, is_told, settles, AllStand}
 use Rattle.fst_heads.proofs.Words.pending
 use Rattle.fst_heads.specs.declared.head.Kind.{Kind}
 use Rattle.fst_heads.specs.declared.head.Kind.TheVariants as kinds
@@ -69,18 +69,7 @@ release-requires c =
     }
 
 pub returns-clause-nodes : goal.returns-clause-nodes
-returns-clause-nodes c d =
-    let heads = c.args.heads.now.items in
-    let s = c.args.slot in
-    let h = c.index_mut-head.result.now in
-    let lt : s < length heads = omega (arith, c.requires.slot, c.args.heads.now.ok.0) in
-    let e = c.index_mut-head.ensures.value in
-    let at = node_at heads s h d lt e in
-    let number : (get_or heads s h).number ≡ (get_or (nodes_of heads) s d).patch.number = sym (ap (λ (x : Head). x.number) e) ∙ sym (ap (λ (x : Node). x.patch.number) at) in
-    let slot = subst (λ n. HasSlot heads n s) number (slot_here heads s h lt) in
-    let same : node_of (record h { pending = c.pending_now-new.result }) ≡ settles (node_of (get_or heads s h)) =
-    ap (λ p. node_of (record h { pending = p })) c.pending_now-new.ensures ∙ ap (λ (x : Head). settles (node_of x)) e in
-    at_slot heads (get_or (nodes_of heads) s d).patch.number s settles (record h { pending = c.pending_now-new.result }) h c.requires.rising slot same
+returns-clause-nodes c d = search (rules, node_at, slot_here, at_slot)
 
 pub returns-clause-standing : goal.returns-clause-standing
 returns-clause-standing c =
@@ -115,5 +104,4 @@ returns-clause-standing c =
     ]
 
 pub returns-clause-frames : goal.returns-clause-frames
-returns-clause-frames c =
-    frames_set c.args.heads.now.items c.args.slot _ c.index_mut-head.result.now (omega (arith, c.requires.slot, c.args.heads.now.ok.0)) (ap frame_of c.index_mut-head.ensures.value)
+returns-clause-frames c = grind (arith, frames_set)
