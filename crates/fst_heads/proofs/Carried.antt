@@ -2,8 +2,7 @@
 use Rattle.fst_heads.proofs.Basics.{◌≡◌, ℕ, List, length, map, sym, ap, ◌∙◌, length-map, rules}
 use Rattle.fst_heads.proofs.Patches.{all_settled}
 use Rattle.fst_heads.proofs.Words.{Entry, AreListed, Node, patches_in, at_number, AreLinked, AreGiven, AreDistinct, IsSpreadOf, unspread, seals, lands}
-use Rattle.fst_heads.proofs.Placed.{links_mapped, linked_kept, given_kept, distinct_kept}
-use Rattle.fst_heads.proofs.SpreadKept.{links_spread, unsettled_spread, entries_settled}
+use Rattle.fst_heads.proofs.Placed.{links_mapped, linked_kept, given_kept, distinct_kept, links_spread, unsettled_spread, entries_settled}
 use Rattle.fst_heads.proofs.Starting.{seal_same, land_same}
 
 -- a spread keeps links, what was given, and the lists

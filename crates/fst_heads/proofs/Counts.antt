@@ -1,8 +1,8 @@
 -- What the counts of a block say of its patches.
-use Rattle.fst_heads.proofs.Basics.{◌≡◌, ◌&&◌, ◌||◌, ℕ, suc, ◌≤◌, Bool, false, not, List, [], ◌∷◌, filter, length, count_by, arith, refl, ap, ◌∙◌, inl, inr, or-false, cases_Bool, length-map, length-filter, nil_from_length, rules}
-use Rattle.fst_heads.proofs.Patches.{Patch, is_change_at}
+use Rattle.fst_heads.proofs.Basics.{◌≡◌, ◌&&◌, ◌||◌, ℕ, ◌≤◌, Bool, false, not, List, [], ◌∷◌, filter, length, count_by, arith, refl, ap, ◌∙◌, inl, inr, or-false, cases_Bool, length-map, length-filter, nil_from_length, rules, common_steps}
+use Rattle.fst_heads.proofs.Patches.{is_change_at}
 use Rattle.fst_heads.proofs.Patches.place
-use Rattle.fst_heads.proofs.Words.{is_bound_on, free_on, bound_on, Head, patch_of, patches_of, flying_on, Node, nodes_of, is_pending, is_ready_on, is_held_on, is_flying_on, held_on, is_hard_kind}
+use Rattle.fst_heads.proofs.Words.{is_bound_on, free_on, bound_on, Head, patches_of, flying_on, Node, nodes_of, is_pending, is_ready_on, is_held_on, is_flying_on, held_on, is_hard_kind}
 use Rattle.fst_heads.proofs.Words.pending
 
 -- what is free is ready
@@ -35,13 +35,4 @@ none_bound behind b nodes off none = search (rules, length-map, length-filter, b
 
 -- as many fly as are counted
 pub flying_counted : (b : ℕ) (heads : List Head) → length (flying_on b (patches_of heads)) ≡ count_by (is_flying_on b) (nodes_of heads)
-flying_counted b heads = length-map (filter (is_change_at place.Flight b) (patches_of heads)) (λ (p : Patch). p.number) ∙ (as_long heads ∙ length-filter (is_flying_on b) (nodes_of heads))
-  where
-    as_long : (hs : List Head) → length (filter (is_change_at place.Flight b) (patches_of hs)) ≡ length (filter (is_flying_on b) (nodes_of hs))
-    as_long [] = refl
-    as_long (h ∷ hs) =
-        let rest = as_long hs in
-        elim (cases_Bool (is_change_at place.Flight b (patch_of h))) [
-          | inl f ↦ rw f (ap suc rest)
-          | inr f ↦ rw f rest
-        ]
+flying_counted b heads = grind (arith, common_steps, length-map, length-filter, cases_Bool)

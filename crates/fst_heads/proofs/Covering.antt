@@ -1,12 +1,11 @@
 -- What the covers of the blocks keep from call to call.
-use Rattle.fst_heads.proofs.Basics.{◌≡◌, ◌≢◌, ◌⊎◌, ◌<◌, ◌≤◌, ◌+◌, ◌++◌, ◌∷◌, ◌∙◌, [], ℕ, true, List, length, map, filter, get_or, set, Contains, ◌==◌, zero, suc, refl, sym, ap, subst, inl, inr, arith, cases_lt, cases_eq, eqb-false, length-set, or_parts, rules}
-use Rattle.fst_heads.proofs.Basics.{get_or-set_other, Contains-push_cases, Contains-append_left, Contains-append_right}
+use Rattle.fst_heads.proofs.Basics.{◌≡◌, ◌≢◌, ◌⊎◌, ◌<◌, ◌≤◌, ◌+◌, ◌++◌, ◌∷◌, ◌∙◌, [], ℕ, true, List, length, map, filter, get_or, set, Contains, zero, suc, refl, sym, ap, subst, inl, inr, arith, cases_lt, cases_eq, eqb-false, length-set, or_parts, rules, get_or-set_other, Contains-push_cases, common_steps}
+use Rattle.fst_heads.proofs.Basics.{Contains-append_left, Contains-append_right}
 use Rattle.std.proofs.lemmas.Grind.{get_or-set_at}
 use Rattle.fst_types.specs.Closure.{one, join}
 use Rattle.fst_types.proofs.Depending.{Grown, grown}
 use Rattle.fst_types.proofs.Alike.{Alike, at_same, len_same, on_back, on_forth, back_alike, forth_alike, closure_map}
-use Rattle.fst_heads.proofs.Patches.{Grade, DirectlyOn, DependsOn, IsLiveNumber, IsOnDiskWithAll, gains, fresh, Patch, Change, IsOn, IsLive, Rising as IsRising, block_of_kind, len_of, is_live, filter_in, in_filter, same_number, In-from_Contains, Contains-from_In}
-use Rattle.fst_heads.proofs.Patches.{In-map, In-unmap}
+use Rattle.fst_heads.proofs.Patches.{Grade, DirectlyOn, DependsOn, IsLiveNumber, IsOnDiskWithAll, gains, fresh, Patch, Change, IsOn, IsLive, Rising as IsRising, block_of_kind, len_of, is_live, filter_in, in_filter, same_number, In-from_Contains, Contains-from_In, In-map, In-unmap}
 use Rattle.fst_heads.proofs.Patches.place
 use Rattle.fst_heads.proofs.Words.{Covering, IsOver, IsCovered, AreCovered, Covers, IsLonger, IsPut, HasBytes, newest_over, IsSparseRow}
 use Rattle.fst_heads.proofs.Newest.{over_touched}
@@ -35,7 +34,7 @@ module _ (old new : List Patch)
   covered_by blocks covers A = record { long = A.long; each = λ b d inside. covered_one b (get_or covers b d) (A.each b d inside) }
 
 -- what depends on a live patch is live, where what is on disk has all that it depends on there
-live_over : (heads : List Patch) → IsOnDiskWithAll heads → (m n : ℕ) → DependsOn heads m n → IsLiveNumber heads n → IsLiveNumber heads m
+pub live_over : (heads : List Patch) → IsOnDiskWithAll heads → (m n : ℕ) → DependsOn heads m n → IsLiveNumber heads n → IsLiveNumber heads m
 live_over heads disk m n (one d) l = record { patch = d.patch; head = d.head; numbered = d.numbered; live = λ e. l.live (disk.disk d.patch d.head e n d.named l.patch l.head l.numbered) }
 live_over heads disk m n (join {q = k} c d) l = live_over heads disk m k c (live_over heads disk k n d l)
 
@@ -130,10 +129,7 @@ module _ (old : List Patch) (p : Patch) where
   over_with b x q o = record { patch = o.patch; head = Contains-append_left old (p ∷ []) o.patch o.head; numbered = o.numbered; live = o.live; change = o.change; starts = o.starts; ends = o.ends }
 
   over_cases : (b x q : ℕ) (o : IsOver with_one b x q) → IsOver old b x q ⊎ (p ≡ o.patch)
-  over_cases b x q o = elim (Contains-push_cases old p o.patch o.head) [
-    | inl h ↦ inl (record { patch = o.patch; head = h; numbered = o.numbered; live = o.live; change = o.change; starts = o.starts; ends = o.ends })
-    | inr e ↦ inr e
-  ]
+  over_cases b x q o = grind (arith, common_steps)
 
   -- which is no change of that block
   covered_beside : (b : ℕ) → (IsOn p b → ⊥) → (cover : Covering) → IsCovered old b cover → IsCovered with_one b cover
@@ -270,12 +266,7 @@ module _ (old : List Patch) (n b at len : ℕ) (grade : Grade) (names row : List
       | inl before ↦ beside x q (inl before) o
       | inr lo ↦ elim (cases_lt x (at + len)) [ inl hi ↦ own x q (omega (arith, lo)) hi o | inr after ↦ beside x q (inr (omega (arith, after))) o ]
     ];
-    bytes = λ none y h live on.
-        let parts = or_parts was.points (len == 0) (sym put.points ∙ none) in
-        elim (Contains-push_cases old p y h) [
-          | inl w ↦ C.bytes parts.0 y w live on
-          | inr e ↦ subst (λ z. 1 ≤ len_of z.kind) e (let f = eqb-false len 0 parts.1 in positive len f)
-        ];
+    bytes = grind (arith, common_steps, or_parts, eqb-false);
   }
     where
       positive : (k : ℕ) → k ≢ 0 → 1 ≤ k

@@ -1,7 +1,7 @@
 -- What forgetting leaves of what the fields keep.
-use Rattle.fst_heads.proofs.Basics.{◌≡◌, ℕ, ◌+◌, ◌==◌, ◌&&◌, Bool, true, false, not, List, [], ◌∷◌, length, filter, count_by, Contains, refl, sym, ap, subst, ◌∙◌, inl, inr, arith, items_where_true, cases_Bool, eqb-true, eq-eqb, false≢true, length-filter}
+use Rattle.fst_heads.proofs.Basics.{◌≡◌, ℕ, ◌+◌, ◌==◌, ◌&&◌, Bool, true, false, not, List, [], ◌∷◌, length, filter, count_by, Contains, refl, sym, ap, subst, ◌∙◌, inl, inr, arith, items_where_true, cases_Bool, eqb-true, eq-eqb, false≢true, length-filter, common_steps}
 use Rattle.std.specs.List.Retain.{IsFiltered, ReturnsInTurn}
-use Rattle.fst_heads.proofs.Patches.{Place, Patch, IsLiveNumber, is_at, is_live, In, In-from_Contains, Contains-from_In, filter_in, sparse_dropped}
+use Rattle.fst_heads.proofs.Patches.{Place, Patch, IsLiveNumber, is_at, is_live, In-from_Contains, Contains-from_In, filter_in, sparse_dropped}
 use Rattle.fst_heads.proofs.Patches.place
 use Rattle.fst_heads.proofs.Words.{Head, is_live_place, is_live_in, Keeps, nodes_of}
 pub use Rattle.std.proofs.lemmas.Bool.{and_parts}
@@ -36,15 +36,7 @@ live_in (p ∷ ps) n e = elim (cases_Bool (is_live p && (p.number == n))) [
 ]
 
 pub in_live : (heads : List Patch) (n : ℕ) → IsLiveNumber heads n → is_live_in heads n ≡ true
-in_live heads n l = go heads (In-from_Contains heads l.patch l.head)
-  where
-    yes_p : (is_live l.patch && (l.patch.number == n)) ≡ true
-    yes_p = grind (arith, live_place_of, eq-eqb)
-
-    go : (ps : List Patch) → In ps l.patch → is_live_in ps n ≡ true
-    go [] i = absurd i
-    go (p ∷ ps) (inl e) = rw (subst (λ q. (is_live q && (q.number == n)) ≡ true) (sym e) yes_p) refl
-    go (p ∷ ps) (inr i) = elim (cases_Bool (is_live p && (p.number == n))) [ inl t ↦ rw t refl | inr f ↦ rw f (go ps i) ]
+in_live heads n l = grind (arith, common_steps, live_place_of, eq-eqb, cases_Bool)
 
 split : (heads : List Patch) → length (filter is_live heads) + length (filter (λ p. is_at p.place place.Disk) heads) ≡ length heads
 split [] = refl

@@ -1,6 +1,6 @@
 -- Loops along a row that change the head of each of its numbers.
-use Rattle.fst_heads.proofs.Basics.{◌≡◌, ◌≢◌, ◌⊎◌, ℕ, zero, suc, ◌+◌, ◌<◌, ◌≤◌, Bool, true, false, List, [], ◌∷◌, ◌++◌, take, length, map, get_or, set, Contains, if◌then◌else◌, refl, sym, ap, subst, ◌∙◌, inl, inr, arith, get_or-set_same, get_or-set_other, IsStrictlyIncreasing, or-true, AllPairs}
-use Rattle.fst_heads.proofs.Basics.{length-set, cases_eq, eq-eqb, ne_eqb, take_more, Contains-get_or, AllPairs-from_increasing, HasRoomFor}
+use Rattle.fst_heads.proofs.Basics.{◌≡◌, ◌≢◌, ◌⊎◌, ℕ, zero, suc, ◌+◌, ◌<◌, ◌≤◌, Bool, true, false, List, [], ◌∷◌, ◌++◌, take, length, map, get_or, set, Contains, if◌then◌else◌, refl, sym, ap, subst, ◌∙◌, inl, inr, arith, get_or-set_same, get_or-set_other, IsStrictlyIncreasing, or-true, AllPairs, length-set}
+use Rattle.fst_heads.proofs.Basics.{cases_eq, eq-eqb, ne_eqb, take_more, Contains-get_or, AllPairs-from_increasing, HasRoomFor}
 use Rattle.fst_heads.proofs.Patches.{is_among, In}
 use Rattle.fst_heads.proofs.Words.{Head, IsRising, HasSlot, HasNone, Node, node_of, nodes_of, at_number, linked_to, HasRoomAbove}
 use Rattle.fst_heads.proofs.AtNumber.{at_other, at_same}

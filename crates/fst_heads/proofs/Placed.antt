@@ -1,8 +1,11 @@
 -- What stands beside the patches where some are launched or forgotten.
-use Rattle.fst_heads.proofs.Basics.{◌≡◌, ◌≢◌, ℕ, Bool, true, false, cond, List, [], ◌∷◌, map, filter, AllPairs, Contains, refl, sym, ap, subst, ◌∙◌, inl, inr, cases_Bool, rules}
-use Rattle.fst_heads.proofs.Patches.{Patch, IsLiveNumber, HasOnePlaceEach, is_live, is_on, is_among, launched, same_number, In, In-from_Contains, Contains-from_In, In-unmap, among_in}
-use Rattle.fst_heads.proofs.Words.{launches, entry, entries_on, is_live_on, Node, patches_in, times, AreLinked, AreGiven, AreDistinct}
+use Rattle.fst_heads.proofs.Basics.{◌≡◌, ◌≢◌, ℕ, Bool, true, false, cond, List, [], ◌∷◌, map, filter, AllPairs, Contains, refl, sym, ap, subst, ◌∙◌, inl, inr, cases_Bool, rules, ◌&&◌, not, and_right, arith, ◌==◌, ◌||◌, ◌++◌, if◌then◌else◌, get_or, set, cases_eq, eq-eqb, ne_eqb}
+use Rattle.fst_heads.proofs.Patches.{Patch, IsLiveNumber, HasOnePlaceEach, is_live, is_on, is_among, launched, same_number, In, In-from_Contains, Contains-from_In, In-unmap, among_in, Place, Kind, Empty, SealedGate, Follows, unsettled, is_at, Settled, AllSettled, more, all_settled, In-map}
+use Rattle.fst_heads.proofs.Words.{launches, entry, entries_on, is_live_on, Node, patches_in, times, AreLinked, AreGiven, AreDistinct, IsSpreadOf, unspread, Head, IsRising, HasSlot, HasNone, node_of, nodes_of, at_number}
 use Rattle.fst_heads.proofs.Forgetting.{live_place_of}
+use Rattle.fst_heads.proofs.AtNumber.{at_none, at_slot, at_same, at_other}
+use Rattle.fst_heads.proofs.Linking.{map_twice, rising_as}
+use Rattle.fst_heads.proofs.Patches.place
 
 -- y has the number, the direct dependencies and the dependants of x
 pub record SameLinks (x y : Node) : Type 0 where
@@ -116,3 +119,109 @@ entries_dropped b (p ∷ ps) = let r = entries_dropped b ps in elim (cases_Bool 
   | inl e ↦ elim (cases_Bool (is_on b p.kind)) [ inl f ↦ rw (e, e, f, r) refl | inr f ↦ rw (e, e, f, r) refl ]
   | inr e ↦ rw (e, r) refl
 ]
+
+-- what a spread keeps of nodes: all but sums, what is pending, and the places of empty patches and sealed gates
+
+settled_one : (o p : Patch) → AllSettled (o ∷ []) (p ∷ []) → Settled o p
+settled_one o p (more s a) = s
+
+pub settled_node : (o x : Node) → unspread x ≡ unspread o → Settled o.patch x.patch
+settled_node o x e = settled_one o.patch x.patch (all_settled (o.patch ∷ []) (x.patch ∷ []) (ap (λ (y : Node). y.patch ∷ []) e))
+
+-- what a new node was
+pub spread_back : (old new : List Node) → IsSpreadOf old new → (x : Node) → Contains new x → (o : Node) × Contains old o × (unspread x ≡ unspread o)
+spread_back old new spread x c =
+    let there = In-map unspread new x (unspread x) (In-from_Contains new x c) refl in
+    let r = In-unmap unspread old (unspread x) (subst (λ ys. In ys (unspread x)) spread there) in
+    (r.0, Contains-from_In old r.0 r.1, sym r.2)
+
+pub links_spread : (old new : List Node) → IsSpreadOf old new → KeepLinks old new
+links_spread old new spread x c =
+    let r = spread_back old new spread x c in
+    let s = settled_node r.0 x r.2 in
+    (r.0, r.1, record { number = s.number; dependencies = s.dependencies; dependants = ap (λ (y : Node). y.dependants) r.2 })
+
+pub unsettled_spread : (old new : List Node) → IsSpreadOf old new → map unsettled (patches_in new) ≡ map unsettled (patches_in old)
+unsettled_spread old new spread = sym (go new) ∙ (ap (map (λ (x : Node). x.patch)) spread ∙ go old)
+  where
+    go : (nodes : List Node) → map (λ (x : Node). x.patch) (map unspread nodes) ≡ map unsettled (patches_in nodes)
+    go [] = refl
+    go (x ∷ xs) = let rest = go xs in cc
+
+-- an empty patch or a sealed gate stands in no list, and what is none keeps its place
+live_settled : (b : ℕ) (k : Kind) (a c : Place) → ((Follows k → ⊥) → c ≡ a) → (not (is_at c place.Disk) && is_on b k) ≡ (not (is_at a place.Disk) && is_on b k)
+live_settled b Empty a c same = and_right (not (is_at c place.Disk)) false refl ∙ sym (and_right (not (is_at a place.Disk)) false refl)
+live_settled b SealedGate a c same = and_right (not (is_at c place.Disk)) false refl ∙ sym (and_right (not (is_at a place.Disk)) false refl)
+live_settled b k a c same = rw (same (λ f. f)) refl
+
+entry_same : (o p : Patch) → p.number ≡ o.number → p.kind ≡ o.kind → entry p ≡ entry o
+entry_same o p number kind = rw (number, kind) refl
+
+-- the entry of a new patch of block b is that of the old
+pub record SameEntry (b : ℕ) (o p : Patch) : Type 0 where
+  pub live : is_live_on b p ≡ is_live_on b o
+  pub same : is_live_on b o ≡ true → entry p ≡ entry o
+
+pub entries_more : (b : ℕ) (o p : Patch) (os ps : List Patch) → SameEntry b o p → entries_on b ps ≡ entries_on b os → entries_on b (p ∷ ps) ≡ entries_on b (o ∷ os)
+entries_more b o p os ps l rest = grind (arith, cases_Bool)
+
+entry_settled : (b : ℕ) (o p : Patch) → Settled o p → SameEntry b o p
+entry_settled b o p s = search (rules, live_settled, entry_same)
+
+pub entries_settled : (b : ℕ) (old new : List Patch) → AllSettled old new → entries_on b new ≡ entries_on b old
+entries_settled b [] [] a = refl
+entries_settled b (o ∷ os) (p ∷ ps) (more s a) = entries_more b o p os ps (entry_settled b o p s) (entries_settled b os ps a)
+entries_settled b old new a = elim a [ ]
+
+-- patches that go into flight one after another
+
+abbrev pub flies : Node → Node
+flies x = record x { patch = record x.patch { place = place.Flight } }
+
+-- one number is that of one node
+one_launched : (n : ℕ) (x : Node) → at_number n flies x ≡ launches (n ∷ []) x
+one_launched n x = grind (arith, cases_eq, at_same, eq-eqb, at_other, ne_eqb)
+
+map_alike : (f g : Node → Node) → ((x : Node) → f x ≡ g x) → (xs : List Node) → map f xs ≡ map g xs
+map_alike f g same [] = refl
+map_alike f g same (x ∷ xs) = let first = same x in let rest = map_alike f g same xs in cc
+
+pub launched_none : (heads : List Head) (n : ℕ) → HasNone heads n → nodes_of heads ≡ map (launches (n ∷ [])) (nodes_of heads)
+launched_none heads n none = at_none heads n flies none ∙ map_alike (at_number n flies) (launches (n ∷ [])) (one_launched n) (nodes_of heads)
+
+pub launched_slot : (heads : List Head) (n s : ℕ) (y d : Head) → IsRising heads → HasSlot heads n s → node_of y ≡ flies (node_of (get_or heads s d))
+    → nodes_of (set heads s y) ≡ map (launches (n ∷ [])) (nodes_of heads)
+launched_slot heads n s y d rising slot e = at_slot heads n s flies y d rising slot e ∙ map_alike (at_number n flies) (launches (n ∷ [])) (one_launched n) (nodes_of heads)
+
+-- of no number none
+pub launched_start : (nodes : List Node) → nodes ≡ map (launches []) nodes
+launched_start [] = refl
+launched_start (x ∷ xs) = ap (λ ys. x ∷ ys) (launched_start xs)
+
+among_append : (ns : List ℕ) (n m : ℕ) → is_among (ns ++ n ∷ []) m ≡ (is_among ns m || (n == m))
+among_append [] n m = elim (cases_Bool (n == m)) [ inl t ↦ rw t refl | inr t ↦ rw t refl ]
+among_append (k ∷ ks) n m = elim (cases_Bool (k == m)) [ inl t ↦ rw t refl | inr t ↦ rw (t, among_append ks n m) refl ]
+
+launched_either : (a b : Bool) (x : Node) → (if b || false then flies (if a then flies x else x) else (if a then flies x else x)) ≡ (if a || b then flies x else x)
+launched_either true true x = refl
+launched_either true false x = refl
+launched_either false true x = refl
+launched_either false false x = refl
+
+-- a launch as a choice between two nodes
+chosen : (a : Bool) (x : Node) → record x { patch = if a then record x.patch { place = place.Flight } else x.patch } ≡ (if a then flies x else x)
+chosen true x = refl
+chosen false x = refl
+
+pub launches_number : (ns : List ℕ) (x : Node) → (launches ns x).patch.number ≡ x.patch.number
+launches_number ns x = number_if (is_among ns x.patch.number) x.patch _ refl
+
+-- one number more
+step : (ns : List ℕ) (n : ℕ) (x : Node) → launches (n ∷ []) (launches ns x) ≡ launches (ns ++ n ∷ []) x
+step ns n x = grind (arith, chosen, launches_number, launched_either, among_append)
+
+pub launched_more : (nodes : List Node) (ns : List ℕ) (n : ℕ) → map (launches (n ∷ [])) (map (launches ns) nodes) ≡ map (launches (ns ++ n ∷ [])) nodes
+launched_more nodes ns n = map_twice (launches (n ∷ [])) (launches ns) (launches (ns ++ n ∷ [])) (step ns n) nodes
+
+pub rising_launched : (new old : List Head) (ns : List ℕ) → nodes_of new ≡ map (launches ns) (nodes_of old) → IsRising old → IsRising new
+rising_launched new old ns e rising = rising_as (launches ns) (launches_number ns) new old e rising

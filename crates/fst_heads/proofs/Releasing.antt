@@ -1,13 +1,13 @@
 -- What becomes of the counts of each block where what is pending of one patch is settled.
-use Rattle.fst_heads.proofs.Basics.{◌≡◌, ◌≢◌, ℕ, ◌+◌, ◌<◌, ◌≤◌, ◌==◌, ◌&&◌, Bool, true, false, not, cond, List, length, count_by, set, get_or, refl, sym, ap, subst, ◌∙◌, inl, inr, arith, length-set, cases_Bool, cases_eq, eq-eqb, ne_eqb, false≢true, length-map, get_or-map, and-true, and-false, rules}
-use Rattle.fst_heads.proofs.Basics.{map-set, sum_by-set, get_or-le-sum_by, count_by-le-length}
+use Rattle.fst_heads.proofs.Basics.{◌≡◌, ◌≢◌, ℕ, ◌+◌, ◌<◌, ◌≤◌, ◌==◌, ◌&&◌, Bool, true, false, not, cond, List, length, count_by, set, get_or, refl, sym, ap, subst, ◌∙◌, inl, inr, arith, length-set, cases_Bool, cases_eq, eq-eqb, ne_eqb, false≢true, length-map, get_or-map, and-true, and-false, rules, map-set}
+use Rattle.fst_heads.proofs.Basics.{common_steps, sum_by-set, get_or-le-sum_by, count_by-le-length}
 use Rattle.fst_heads.proofs.Patches.{Grade, Change, is_at, is_on, is_change_at}
 use Rattle.fst_heads.proofs.Patches.place
 use Rattle.fst_heads.proofs.Words.{Head, kind_of, patch_of, Pending, Standing, Node, node_of, nodes_of, is_pending, over_block, height, Sinks, now, is_told, settles, AllStand, is_ready_on, is_held_on, is_flying_on, standing_of, released, is_hard_kind}
 use Rattle.fst_heads.proofs.Words.pending
 use Rattle.fst_heads.proofs.CountsAs.{CountsAs, counts, standing_same, stand_set, off_as}
 use Rattle.fst_heads.proofs.Turning.{is_itself}
-use Rattle.fst_heads.proofs.Living.{one_if}
+use Rattle.fst_heads.proofs.Beside.{one_if}
 
 -- the node of the head in a slot
 pub node_at : (heads : List Head) (s : ℕ) (h : Head) (d : Node) → s < length heads → h ≡ get_or heads s h → get_or (nodes_of heads) s d ≡ node_of h
@@ -67,10 +67,7 @@ module _ (nodes : List Node) (s : ℕ) (x : Node) (lt : s < length nodes) (e : g
 
     -- where it waits for more than its block from then on too, no count changes
     pub stand_waiting : (blocks : ℕ) (standings : List Standing) → is_pending (now x) (pending.Block b) ≡ false → AllStand nodes blocks standings → AllStand (set nodes s (settles x)) blocks standings
-    stand_waiting blocks standings more S = stand_kept blocks standings (settles x) (λ c. elim (cases_eq c b) [
-      | inl same ↦ grind (arith, waited_for_more)
-      | inr ne ↦ off_as c (settles x) x (off c ne) (off c ne)
-    ]) S
+    stand_waiting blocks standings more S = grind (arith, common_steps, stand_kept, cases_eq, waited_for_more, off_as, off)
 
     -- where it waits for its block alone from then on, it is ready
     module _ (block_again : is_pending (now x) (pending.Block b) ≡ true) where
@@ -97,9 +94,7 @@ module _ (nodes : List Node) (s : ℕ) (x : Node) (lt : s < length nodes) (e : g
           held_less = grind (arith, count_set, was_held, held_no_more)
 
           own : released (is_hard_kind x.patch.kind) (get_or standings b d) ≡ standing_of (set nodes s (settles x)) b
-          own =
-              ap (released (is_hard_kind x.patch.kind)) (S.each b d inside)
-              ∙ released_as (is_hard_kind x.patch.kind) _ _ _ _ _ _ ready_more held_less (count_same (is_flying_on b) (settles x) refl)
+          own = grind (arith, common_steps, released_as, count_same)
 
 -- what is told of anything else changes no count
 pub settles_kept : (x : Node) (b : ℕ) → is_change_at place.Memory b x.patch ≡ false → CountsAs b (settles x) x

@@ -1,11 +1,28 @@
 -- Rising rows, and names as calls give them.
-use Rattle.fst_heads.proofs.Basics.{◌≡◌, ℕ, suc, ◌+◌, ◌-◌, ◌<◌, ◌≤◌, List, [], ◌∷◌, length, get_or, Contains, Result, Ok, Err, is_ok, refl, sym, subst, ◌∙◌, inl, inr, arith, insert, IsStrictlyIncreasing, IsBinarySearchResult, IsNonDecreasingBy, nat_cmp, ordering_index, nat_tests, rules}
-use Rattle.fst_heads.proofs.Basics.{length-map, get_or-map, cases_Bool, cases_lt, cases_eq, AllPairs-from_increasing, searched, IsPermutation-insert, IsPermutation-sym, Contains-permutation, length-insert, get_or-insert_below, get_or-insert_at}
-use Rattle.fst_heads.proofs.Basics.{get_or-insert_above}
+use Rattle.fst_heads.proofs.Basics.{◌≡◌, ℕ, ◌+◌, ◌-◌, ◌<◌, ◌≤◌, List, ◌∷◌, length, get_or, Contains, Result, Ok, Err, is_ok, refl, sym, subst, ◌∙◌, inl, inr, arith, insert, IsStrictlyIncreasing, IsBinarySearchResult, IsNonDecreasingBy, nat_cmp, ordering_index, nat_tests, rules, length-map, get_or-map}
+use Rattle.fst_heads.proofs.Basics.{common_steps, cases_Bool, cases_lt, cases_eq, AllPairs-from_increasing, searched, IsPermutation-insert, IsPermutation-sym, Contains-permutation, length-insert, get_or-insert_below, get_or-insert_at, get_or-insert_above, true}
 use Rattle.fst_types.specs.Order.{NamesUnknown}
-use Rattle.fst_heads.proofs.Patches.{is_among, among_in, in_among, PatchNo, Lists, IsGiven, In, In-get_or, In-from_Contains, Contains-from_In, In-map}
-use Rattle.fst_heads.proofs.Words.{numbers_of, Gains}
-use Rattle.fst_heads.proofs.Slots.{any_default, some_element}
+use Rattle.fst_heads.proofs.Patches.{is_among, among_in, in_among, PatchNo, Lists, IsGiven, In, In-get_or, In-from_Contains, Contains-from_In, In-map, DirectlyOn, IsLiveNumber, Patch}
+use Rattle.fst_heads.proofs.Words.{numbers_of, Gains, Head, IsRising, patches_of, HasSlot, IsMissing}
+use Rattle.fst_heads.proofs.Slots.{any_default, some_element, direct_at, named_at}
+
+-- what a gate does not have yet
+
+-- what the row of the head at a slot has is what the patch directly depends on
+module _ (heads : List Head) (rising : IsRising heads) (p s : ℕ) (d : Head) (slot : HasSlot heads p s) (q : ℕ) where
+  pub direct_from : is_among (get_or heads s d).dependencies.items q ≡ true → DirectlyOn (patches_of heads) p q
+  direct_from e = let row = (get_or heads s d).dependencies.items in direct_at heads p q s d slot (Contains-from_In row q (among_in row q e))
+
+  pub direct_to : DirectlyOn (patches_of heads) p q → is_among (get_or heads s d).dependencies.items q ≡ true
+  direct_to e = let row = (get_or heads s d).dependencies.items in in_among row q (In-from_Contains row q (named_at heads p q s d rising slot e))
+
+-- the same, the facts in the order of the definition
+pub missing_list : (heads : List Patch) (gate : ℕ) (names row : List ℕ) → Lists (λ n. IsMissing heads gate n × Contains names n) row → Lists (λ n. IsLiveNumber heads n × Contains names n × (DirectlyOn heads gate n → ⊥)) row
+missing_list heads gate names row l = record {
+  rising = l.rising;
+  only = λ n c. let k = l.only n c in (k.0.0, k.1, k.0.1);
+  each = λ n k. l.each n ((k.0, k.2), k.1);
+}
 
 module _ (xs : List ℕ) (rising : IsStrictlyIncreasing xs) where
   pub ordered : (i j : ℕ) → i < j → j < length xs → get_or xs i 0 < get_or xs j 0
@@ -76,12 +93,7 @@ pub name_in : (names : List PatchNo) (k : ℕ) (d : PatchNo) → k < length name
 name_in names k d lt = Contains-from_In _ _ (In-map (λ n. n.0) names (get_or names k d) _ (In-get_or names k d lt) refl)
 
 pub name_of : (names : List PatchNo) (n : ℕ) → Contains (numbers_of names) n → (k : ℕ) × (k < length names) × ((d : PatchNo) → (get_or names k d).0 ≡ n)
-name_of names n c = go names (In-from_Contains (numbers_of names) n c)
-  where
-    go : (xs : List PatchNo) → In (numbers_of xs) n → (k : ℕ) × (k < length xs) × ((d : PatchNo) → (get_or xs k d).0 ≡ n)
-    go [] h = absurd h
-    go (y ∷ ys) (inl e) = (0, omega arith, λ d. e)
-    go (y ∷ ys) (inr h) = let r = go ys h in (suc r.0, omega (arith, r.1), r.2)
+name_of names n c = grind (arith, common_steps)
 
 -- every name up to i was given
 abbrev pub AreGiven : ℕ → List PatchNo → ℕ → Type 0

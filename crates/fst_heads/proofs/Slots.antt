@@ -1,6 +1,6 @@
 -- Slots, numbers and marks.
-use Rattle.fst_heads.proofs.Basics.{◌==◌, cond, find, All, AllPairs, ◌≡◌, ◌≢◌, ℕ, zero, suc, ◌<◌, Bool, true, false, List, [], ◌∷◌, length, get_or, Contains, Some, None, Result, Ok, Err, refl, sym, ap, subst, ◌∙◌, inl, inr, arith, IsSearchInRange, IsBinarySearchResult, IsNonDecreasingBy, map}
-use Rattle.fst_heads.proofs.Basics.{nat_cmp, ordering_index, cases_order, cases_lt, eq-eqb, ne_eqb, nat_tests, length-map, get_or-map}
+use Rattle.fst_heads.proofs.Basics.{◌==◌, cond, find, All, AllPairs, ◌≡◌, ◌≢◌, ℕ, zero, suc, ◌<◌, Bool, true, false, List, [], ◌∷◌, length, get_or, Contains, Some, None, Result, Ok, Err, refl, sym, ap, subst, ◌∙◌, inl, inr, arith, IsSearchInRange, IsBinarySearchResult, IsNonDecreasingBy, map, nat_cmp}
+use Rattle.fst_heads.proofs.Basics.{common_steps, ordering_index, cases_order, cases_lt, eq-eqb, ne_eqb, nat_tests, length-map, get_or-map}
 use Rattle.std.proofs.lemmas.Cmp.{ranked}
 use Rattle.fst_heads.proofs.Patches.{Patch, Rising, DirectlyOn, IsLiveNumber, Place, In, In-from_Contains, Contains-from_In, In-map}
 use Rattle.fst_heads.proofs.Patches.place
@@ -67,12 +67,7 @@ slot_here heads s d lt = (lt, λ e. ap (λ y. y.number) (any_default heads s e d
 
 -- the slot of a patch
 pub slot_in : (heads : List Head) (x : Patch) → Contains (patches_of heads) x → (s : ℕ) × (s < length heads) × ((d : Head) → patch_of (get_or heads s d) ≡ x)
-slot_in heads x c = go heads (In-from_Contains (patches_of heads) x c)
-  where
-    go : (hs : List Head) → In (patches_of hs) x → (s : ℕ) × (s < length hs) × ((d : Head) → patch_of (get_or hs s d) ≡ x)
-    go [] h = absurd h
-    go (y ∷ ys) (inl e) = (0, omega arith, λ d. e)
-    go (y ∷ ys) (inr h) = let r = go ys h in (suc r.0, omega (arith, r.1), r.2)
+slot_in heads x c = grind (arith, common_steps)
 
 pub patch_slot : (heads : List Head) (x : Patch) (s : ℕ) → s < length heads → ((d : Head) → patch_of (get_or heads s d) ≡ x) → HasSlot heads x.number s
 patch_slot heads x s lt same = (lt, λ d. ap (λ p. p.number) (same d))

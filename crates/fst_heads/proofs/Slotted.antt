@@ -1,6 +1,6 @@
 -- The head in one slot hears of another patch, and all that have a number of a row do.
-use Rattle.fst_heads.proofs.Basics.{◌≡◌, ◌≢◌, ℕ, zero, suc, ◌+◌, ◌<◌, ◌==◌, ◌&&◌, Bool, true, false, if◌then◌else◌, List, [], ◌∷◌, ◌++◌, length, map, take, drop, get_or, Contains, AllPairs, append-nil, length-append, refl, sym, ap, subst, ◌∙◌, inl, inr, arith, list_any, cases_eq, and_from, rules}
-use Rattle.fst_heads.proofs.Basics.{eq-eqb, ne_eqb, length-map, get_or-map, take_more, take-append-drop, filter-append, list_any-from_Any}
+use Rattle.fst_heads.proofs.Basics.{◌≡◌, ◌≢◌, ℕ, zero, suc, ◌+◌, ◌<◌, ◌==◌, ◌&&◌, Bool, true, false, if◌then◌else◌, List, [], ◌∷◌, ◌++◌, length, map, take, drop, get_or, Contains, AllPairs, append-nil, length-append, refl, sym, ap, subst, ◌∙◌, inl, inr, arith, list_any, cases_eq, and_from, rules, eq-eqb, ne_eqb}
+use Rattle.fst_heads.proofs.Basics.{common_steps, length-map, get_or-map, take_more, take-append-drop, filter-append, list_any-from_Any}
 use Rattle.fst_heads.proofs.Patches.{is_among, In, In-from_Contains, Contains-from_In, In-map, In-unmap}
 use Rattle.fst_heads.proofs.Patches.place
 use Rattle.fst_heads.proofs.Words.{Head, Pending, IsRising, HasSlot, HasNone, Node, node_of, nodes_of, at_number, plus, minus, follows, rested, hears, wakes, heard, woken}
@@ -121,9 +121,7 @@ row_now start heads row old new s h lt e at =
 -- told of the heads as they stood at the start
 pub row_of : (start now : List Head) (row : List ℕ) (old new : Pending) (s : ℕ) (h : Head) → s < length start → nodes_of now ≡ map (heard row old new) (nodes_of start)
     → h ≡ get_or now s h → h.dependants.items ≡ row_at (nodes_of start) s
-row_of start now row old new s h lt e at =
-    let inside : s < length now = omega (arith, lt, length_heard (nodes_of start) now row old new e, length-map start node_of) in
-    row_now (nodes_of start) now row old new s h inside e at
+row_of start now row old new s h lt e at = grind (arith, common_steps, length_heard, length-map, row_now)
 
 pub rising_heard : (start heads : List Head) (row : List ℕ) (old new : Pending) → nodes_of heads ≡ map (heard row old new) (nodes_of start) → IsRising start → IsRising heads
 rising_heard start heads row old new e rising = rising_as (heard row old new) (heard_number row old new) heads start e rising
@@ -155,10 +153,7 @@ module _ (row : List ℕ) (once : AllPairs (λ m n. m ≢ n) row) (i : ℕ) (lt 
 
   -- a node with the next number did not hear yet
   pub heard_before : (nodes : List Node) (x : Node) → Contains (map (heard done old new) nodes) x → x.patch.number ≡ next → Contains nodes x
-  heard_before nodes x c e =
-      let r = In-unmap (heard done old new) nodes x (In-from_Contains (map (heard done old new) nodes) x c) in
-      let number = sym (heard_number done old new r.0) ∙ (ap (λ (y : Node). y.patch.number) r.2 ∙ e) in
-      Contains-from_In nodes x (subst (In nodes) (sym (heard_next r.0 number) ∙ r.2) r.1)
+  heard_before nodes x c e = grind (arith, common_steps, heard_number, heard_next)
 
   heard_push : (x : Node) → at_number next (hears old new) (heard done old new x) ≡ heard (done ++ next ∷ []) old new x
   heard_push x = search (rules, cases_eq, among_push_same, heard_next, at_same, among_push_other, at_other, heard_number)
@@ -178,10 +173,7 @@ module _ (row : List ℕ) (once : AllPairs (λ m n. m ≢ n) row) (i : ℕ) (lt 
   woken_next nodes = ap (λ t. if t then next ∷ [] else []) (any_next nodes)
 
   pub woken_more : (nodes : List Node) → woken done old new nodes ++ woken (next ∷ []) old new (map (heard done old new) nodes) ≡ woken (take (i + 1) row) old new nodes
-  woken_more nodes =
-      ap (λ ms. woken done old new nodes ++ ms) (woken_next nodes)
-      ∙ (sym (filter-append (λ n. list_any (λ x. (x.patch.number == n) && wakes old new x) nodes) done (next ∷ []))
-      ∙ ap (λ ms. woken ms old new nodes) (sym (take_more row i 0 lt)))
+  woken_more nodes = grind (arith, common_steps, woken_next, filter-append, take_more)
 
   -- there is room for what wakes
   pub woken_room : (nodes : List Node) (x : Node) → Contains (map (heard done old new) nodes) x → x.patch.number ≡ next → wakes old new x ≡ true

@@ -1,5 +1,5 @@
 -- How the counts of each block follow what becomes of patches.
-use Rattle.fst_heads.proofs.Basics.{◌≡◌, ◌≢◌, ◌&&◌, ◌+◌, ◌<◌, ◌≤◌, ℕ, Bool, true, false, not, cond, List, map, filter, count_by, set, get_or, AllPairs, refl, sym, ap, subst, ◌∙◌, inl, inr, arith, cases_Bool, cases_eq, and_parts, eq-eqb, ne_eqb, false≢true, rules}
+use Rattle.fst_heads.proofs.Basics.{◌≡◌, ◌≢◌, ◌&&◌, ◌+◌, ◌<◌, ◌≤◌, ℕ, Bool, true, false, not, cond, List, map, filter, count_by, set, get_or, AllPairs, refl, sym, ap, subst, ◌∙◌, inl, inr, arith, cases_Bool, cases_eq, and_parts, eq-eqb, ne_eqb, false≢true, rules, common_steps}
 use Rattle.fst_heads.proofs.Patches.{Grade, Place, HasOnePlaceEach, IsOpenNumber, Kind, Patch, Change, OpenGate, SealedGate, is_among, is_at, is_change_at, is_live, is_on, same_number, filter_in, in_filter, In, Contains-from_In, In-map, In-unmap, among_in, in_among}
 use Rattle.fst_heads.proofs.Patches.place
 use Rattle.fst_heads.proofs.Words.{Pending, Sums, Standing, IsInside, Node, patches_in, at_number, linked_to, gains_names, is_pending, heard, seals, lands, launches, AllStand, is_ready_on, is_held_on, is_flying_on, ready_on, standing_of, entered, is_hard_kind}
@@ -164,13 +164,7 @@ standing_made nodes p b = grind (arith, standing_same, count_made, linked_as)
 
 -- a new patch that is no change of the block
 made_off : (nodes : List Node) (p : Patch) (b : ℕ) → is_on b p.kind ≡ false → standing_of (with_node nodes p) b ≡ standing_of nodes b
-made_off nodes p b off =
-    standing_made nodes p b
-    ∙ standing_same _ _ _ _ _ _ (nothing_more _ _ (rw (off_place b place.Memory (new_node nodes p) off) refl)) (nothing_more _ _ (rw (off_place b place.Memory (new_node nodes p) off) refl)) (nothing_more _ _ (off_place b place.Flight (new_node nodes p) off))
-  where
-    nothing_more : (n : ℕ) (t : Bool) → t ≡ false → n + cond t 1 0 ≡ n
-    nothing_more n true e = absurd (false≢true (sym e))
-    nothing_more n false e = omega arith
+made_off nodes p b off = grind (arith, common_steps, standing_made, standing_same, off_place, false≢true)
 
 -- a new patch that is no change
 pub stand_made : (nodes : List Node) (blocks : ℕ) (standings : List Standing) (p : Patch) → ((b : ℕ) → is_on b p.kind ≡ false) → AllStand nodes blocks standings → AllStand (with_node nodes p) blocks standings
@@ -210,14 +204,7 @@ stand_change nodes blocks standings p b at len grade d kind memory lt S =
     flies_new = grind arith
 
     own : entered (is_hard_kind p.kind) (is_pending (new_node nodes p).pending (pending.Block b)) (get_or standings b d) ≡ standing_of (with_node nodes p) b
-    own =
-        ap (entered (is_hard_kind p.kind) (is_pending (new_node nodes p).pending (pending.Block b))) (S.each b d lt)
-        ∙ (entered_as (is_hard_kind p.kind) (is_pending (new_node nodes p).pending (pending.Block b)) (count_by (is_ready_on b) nodes) (count_by (is_held_on b) nodes) (count_by (is_flying_on b) nodes)
-        ∙ sym (standing_made nodes p b
-        ∙ standing_same _ _ _ _ _ _
-        (ap (λ t. count_by (is_ready_on b) nodes + cond t 1 0) ready_new)
-        (ap (λ t. count_by (is_held_on b) nodes + cond t 1 0) held_new)
-        (ap (λ t. count_by (is_flying_on b) nodes + cond t 1 0) flies_new)))
+    own = grind (arith, common_steps, entered_as, standing_made, standing_same)
 
 gained_as : (g b : ℕ) (names : List ℕ) (sums : Sums) (x : Node) → CountsAs b (at_number g (gains_names names sums) x) x
 gained_as g b names sums x = grind (arith, cases_eq, at_same, like_as, at_other, self_as)

@@ -1,11 +1,9 @@
 -- What a row adds up to, and what is pending of it.
-use Rattle.fst_heads.proofs.Basics.{◌≡◌, ◌≢◌, ◌⊎◌, ◌≤◌, ◌==◌, ℕ, suc, ◌+◌, ◌*◌, ◌/◌, true, false, not, cond, List, [], ◌∷◌, ◌++◌, length, count_by, Contains, AllPairs, refl, sym, ap, subst, ◌∙◌, inl, inr, arith, and_from, and_parts, eqb-true, eq-eqb, ne_eqb, false_from_ne_true}
-use Rattle.fst_heads.proofs.Basics.{sum_by-cons, mul-div_cancel}
+use Rattle.fst_heads.proofs.Basics.{◌≡◌, ◌≢◌, ◌⊎◌, ◌≤◌, ◌==◌, ℕ, suc, ◌+◌, ◌*◌, ◌/◌, true, false, not, cond, List, [], ◌∷◌, ◌++◌, length, count_by, Contains, AllPairs, refl, sym, ap, subst, ◌∙◌, inl, inr, arith, and_from, and_parts, eqb-true, eq-eqb, ne_eqb, false_from_ne_true, sum_by-cons, mul-div_cancel}
 use Rattle.fst_heads.proofs.Patches.{In, In-from_Contains, Contains-from_In}
 use Rattle.fst_heads.proofs.Words.{Pending, Sums, join, joined, joined_sums, is_even, is_pending, Sinks, Fits, HasIn, plus, minus, sums_of, together, max_block}
 use Rattle.fst_heads.proofs.Words.pending
-use Rattle.fst_heads.proofs.Squares.{gap_none}
-use Rattle.fst_heads.proofs.Joining.{Within, Even, Tells, tells_nothing, tells_plus, join_nothing, join_block, join_parts, join_from, join_sinks, fits_plus, few_plus, nothing_together, plus_together, plus_swap, minus_plus}
+use Rattle.fst_heads.proofs.Joining.{gap_none, Within, Even, Tells, tells_nothing, tells_plus, join_nothing, join_block, join_parts, join_from, join_sinks, fits_plus, few_plus, nothing_together, plus_together, plus_swap, minus_plus}
 use Rattle.fst_heads.proofs.Turning.{counted_nothing}
 
 tells : (told : ℕ → Pending) (row : List ℕ) → Tells (sums_of told row) (joined told row)

@@ -1,5 +1,5 @@
 -- What a node keeps, and what it gets, where it is told what is pending of another.
-use Rattle.fst_heads.proofs.Basics.{◌≡◌, ◌≢◌, ◌⊎◌, ◌↔◌, ◌<◌, ◌==◌, ◌&&◌, ℕ, Bool, true, false, cond, List, refl, sym, ap, subst, ◌∙◌, inl, inr, arith, cases_Bool, cases_eq, and_parts, and_from, eqb-true, eq-eqb, false≢true, both_ways, false_from_ne_true, rules}
+use Rattle.fst_heads.proofs.Basics.{◌≡◌, ◌≢◌, ◌⊎◌, ◌↔◌, ◌<◌, ◌==◌, ◌&&◌, ℕ, Bool, true, false, cond, List, refl, sym, ap, subst, ◌∙◌, inl, inr, arith, cases_Bool, cases_eq, and_parts, and_from, eqb-true, eq-eqb, false≢true, both_ways, false_from_ne_true, rules, common_steps}
 use Rattle.fst_heads.proofs.Patches.{Place, Kind, Change, Empty, OpenGate, SealedGate, Patch, Follows, placed_as, is_among, In, In_decided, among_in, in_among}
 use Rattle.fst_heads.proofs.Patches.place
 use Rattle.fst_heads.proofs.Words.{Pending, Sums, join, joined_sums, is_pending, of_kind, Sinks, height, plus, minus, Node, at_number, now, is_told, follows, rested, hears, heard, settles, unspread}
@@ -149,13 +149,7 @@ stayed_if false x e = refl
 
 -- nothing is pending of it exactly where it is on disk
 pub rested_placed : (x : Node) → (x.patch.place ≡ place.Disk → now x ≡ pending.Nothing) → (now (rested x) ≡ pending.Nothing) ↔ ((rested x).patch.place ≡ place.Disk)
-rested_placed x disk = (to, from)
-  where
-    to : now (rested x) ≡ pending.Nothing → (rested x).patch.place ≡ place.Disk
-    to e = grind (arith, nothing_rests, rests, disk_if, went_if, and_from, is_follows, eq-eqb)
-
-    from : (rested x).patch.place ≡ place.Disk → now (rested x) ≡ pending.Nothing
-    from e = grind (arith, rests, cases_Bool, goes_parts, follower_of, counted_nothing, stayed_if)
+rested_placed x disk = grind (arith, common_steps, nothing_rests, rests, disk_if, went_if, and_from, is_follows, eq-eqb, cases_Bool, goes_parts, follower_of, counted_nothing, stayed_if)
 
 -- what becomes of a node where old of a patch with this row of dependants becomes new
 pub record Hears (row : List ℕ) (old new : Pending) (x y : Node) : Type 0 where
@@ -173,9 +167,6 @@ module _ (row : List ℕ) (old new : Pending) (x : Node) where
 
   pub is_heard : In row x.patch.number → heard row old new x ≡ hears old new x
   is_heard h = let e = in_among row x.patch.number h in rw e refl
-
-  abbrev summed : Node
-  summed = record x { sums = plus new (minus old x.sums) }
 
   pub hears_heard : Hears row old new x (heard row old new x)
   hears_heard = elim (In_decided row x.patch.number) [

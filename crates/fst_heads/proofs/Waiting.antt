@@ -1,6 +1,6 @@
 -- The nodes of a spread, found by their numbers, and the numbers that wait in its queue.
-use Rattle.fst_heads.proofs.Basics.{◌≡◌, ◌≢◌, ◌<◌, ◌≤◌, ◌==◌, ◌&&◌, ◌+◌, ℕ, zero, suc, Bool, true, false, not, cond, List, [], ◌∷◌, ◌++◌, length, map, get_or, Contains, AllPairs, length-append, refl, sym, ap, subst, ◌∙◌, inl, inr, arith, list_any, cases_eq, cases_order, and_parts}
-use Rattle.fst_heads.proofs.Basics.{and_from, eqb-true, eq-eqb, ne_eqb, not-true, not_from_false, get_or_append_left, Contains-get_or, Contains-append_cases, Any-from_list_any, list_any-from_Any, AllPairs-cons, sum_by-cons}
+use Rattle.fst_heads.proofs.Basics.{◌≡◌, ◌≢◌, ◌<◌, ◌≤◌, ◌==◌, ◌&&◌, ◌+◌, ℕ, zero, suc, Bool, true, false, not, cond, List, [], ◌∷◌, ◌++◌, length, map, get_or, Contains, AllPairs, length-append, refl, sym, ap, subst, ◌∙◌, inl, inr, arith, list_any, cases_eq, cases_order, and_parts, and_from, eqb-true, eq-eqb}
+use Rattle.fst_heads.proofs.Basics.{common_steps, ne_eqb, not-true, not_from_false, get_or_append_left, Contains-get_or, Contains-append_cases, Any-from_list_any, list_any-from_Any, AllPairs-cons, sum_by-cons}
 use Rattle.std.proofs.Math.Seq.{get_or-append_seam}
 use Rattle.fst_heads.proofs.Patches.{filter_in, in_filter, In, In-map, In-from_Contains, Contains-from_In, pull}
 use Rattle.fst_heads.proofs.Words.{Pending, height, Node, pending_in, times, at_number, is_told, settles, hears, heard, wakes, woken, heights}
@@ -75,9 +75,7 @@ heights_stay f (y ∷ ys) low =
 
 heights_fall : (f : Node → Node) (nodes : List Node) (x : Node) → ((y : Node) → In nodes y → tall (f y) ≤ tall y) → In nodes x → tall (f x) < tall x → heights (map f nodes) < heights nodes
 heights_fall f [] x low h less = absurd h
-heights_fall f (y ∷ ys) x low (inl e) less =
-    let first : tall (f y) < tall y = subst (λ z. tall (f z) < tall z) (sym e) less in
-    omega (arith, sum_by-cons tall (f y) (map f ys), sum_by-cons tall y ys, heights_stay f ys (λ z i. low z (inr i)), first)
+heights_fall f (y ∷ ys) x low (inl e) less = grind (arith, common_steps, sum_by-cons, heights_stay)
 heights_fall f (y ∷ ys) x low (inr h) less =
     omega (arith, sum_by-cons tall (f y) (map f ys), sum_by-cons tall y ys, heights_fall f ys x (λ z i. low z (inr i)) h less, low y (inl refl))
 
@@ -93,9 +91,7 @@ times_cons m ms n = sum_by-cons (λ k. cond (k == n) 1 0) m ms
 
 pub times_some : (ms : List ℕ) (n : ℕ) → In ms n → 0 < times ms n
 times_some [] n h = absurd h
-times_some (m ∷ ms) n (inl e) =
-    let one : cond {A = ℕ} (m == n) 1 0 ≡ 1 = rw (eq-eqb m n e) refl in
-    omega (arith, times_cons m ms n, one)
+times_some (m ∷ ms) n (inl e) = grind (arith, common_steps, eq-eqb, times_cons)
 times_some (m ∷ ms) n (inr h) = let rest = times_some ms n h in omega (arith, times_cons m ms n, rest)
 
 pub some_times : (ms : List ℕ) (n : ℕ) → 0 < times ms n → In ms n

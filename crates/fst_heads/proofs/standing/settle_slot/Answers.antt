@@ -1,4 +1,4 @@
-use Rattle.fst_heads.proofs.Basics.{◌≡◌, ◌<◌, ◌∙◌, ◌&&◌, ℕ, Bool, List, length, set, get_or, vec_len, Vec, Global, true, false, refl, sym, ap, subst, arith, and_right, rules}
+use Rattle.fst_heads.proofs.Basics.{◌≡◌, ◌<◌, ◌∙◌, ◌&&◌, ℕ, Bool, List, length, set, get_or, vec_len, Vec, Global, true, false, refl, sym, ap, subst, arith, and_right, rules, common_steps}
 use Rattle.fst_types.specs.declared.span.Span.{Span}
 use Rattle.fst_heads.proofs.Patches.{Grade, Place, is_at, is_on}
 use Rattle.fst_heads.proofs.Patches.place
@@ -63,9 +63,7 @@ release-requires c =
     (is_block_now h c.pending_now-new.result c.in-Change.block c.pending_now-new.ensures (sym c.is_pending.ensures ∙ c.if-is_pending.true)) in
     record {
       ready = omega (arith, few, c.args.heads.now.ok.0, c.args.heads.now.ok.1, c.args.heads.now.small);
-      held = λ hard. some_held heads s h lt e (vec_len c.args.standings.now) c.args.standings.now.items c.requires.standing
-          c.in-Change.block c.in-Change.field-1.at c.in-Change.field-1.len c.in-Change.field-2 (ap kind_of c.in-Change.is) c.in-Memory.is
-          (slot_sinks heads s h at c.requires.sinks) (slot_untold heads s h at c.requires.untold) inside c.index_mut.result.now c.index_mut.ensures.value hard;
+      held = grind (arith, common_steps, some_held, slot_sinks, slot_untold);
     }
 
 pub returns-clause-nodes : goal.returns-clause-nodes
