@@ -20,11 +20,7 @@ count_append p xs ys = sum_by-append (λ y. cond (p y) 1 0) xs ys
 -- a count after a map, where the one test says of what f makes what the other said before
 pub count_map : {X : Type 0} (p q : X → Bool) (f : X → X) (xs : List X) → ((x : X) → In xs x → p (f x) ≡ q x) → count_by p (map f xs) ≡ count_by q xs
 count_map p q f [] same = refl
-count_map p q f (x ∷ xs) same =
-    let first = same x (inl refl) in
-    let rest = count_map p q f xs (λ y i. same y (inr i)) in
-    count_cons p (f x) (map f xs)
-    ∙ (ap (λ t. cond t 1 0 + count_by p (map f xs)) first ∙ (ap (λ k. cond (q x) 1 0 + k) rest ∙ sym (count_cons q x xs)))
+count_map p q f (x ∷ xs) same = grind (arith, count_cons, count_map p q f xs (λ y i. same y (inr i)))
 
 pub count_nothing : {X : Type 0} (p : X → Bool) (xs : List X) → ((x : X) → In xs x → p x ≡ false) → count_by p xs ≡ 0
 count_nothing p [] none = refl
@@ -48,12 +44,7 @@ count_none p (y ∷ ys) e x i =
 -- those that the filter drops are not counted
 pub count_kept : {X : Type 0} (p q : X → Bool) (xs : List X) → ((x : X) → q x ≡ false → p x ≡ false) → count_by p (filter q xs) ≡ count_by p xs
 count_kept p q [] drops = refl
-count_kept p q (x ∷ xs) drops =
-    let rest = count_kept p q xs drops in
-    elim (cases_Bool (q x)) [
-      | inl t ↦ rw t (count_cons p x (filter q xs) ∙ (ap (λ k. cond (p x) 1 0 + k) rest ∙ sym (count_cons p x xs)))
-      | inr f ↦ grind (arith, count_cons)
-    ]
+count_kept p q (x ∷ xs) drops = grind (arith, cases_Bool, count_cons, count_kept p q xs drops)
 
 -- three counts alike, one standing
 abbrev pub counts : ℕ → ℕ → ℕ → Standing

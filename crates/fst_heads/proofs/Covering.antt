@@ -1,11 +1,11 @@
 -- What the covers of the blocks keep from call to call.
-use Rattle.fst_heads.proofs.Basics.{◌≡◌, ◌≢◌, ◌⊎◌, ◌<◌, ◌≤◌, ◌+◌, ◌++◌, ◌∷◌, ◌∙◌, [], ℕ, true, List, length, map, filter, get_or, set, Contains, zero, suc, refl, sym, ap, subst, inl, inr, arith, cases_lt, cases_eq, eqb-false, length-set, or_parts, rules, get_or-set_other, Contains-push_cases, common_steps}
-use Rattle.fst_heads.proofs.Basics.{Contains-append_left, Contains-append_right}
+use Rattle.fst_heads.proofs.Basics.{◌≡◌, ◌⊎◌, ◌<◌, ◌≤◌, ◌+◌, ◌++◌, ◌∷◌, ◌∙◌, [], ℕ, true, List, length, map, filter, get_or, set, Contains, refl, sym, ap, subst, inl, inr, arith, cases_lt, cases_eq, eqb-false, length-set, or_parts, rules, get_or-set_other, Contains-push_cases, common_steps, Contains-append_left}
+use Rattle.fst_heads.proofs.Basics.{Contains-append_right}
 use Rattle.std.proofs.lemmas.Grind.{get_or-set_at}
 use Rattle.fst_types.specs.Closure.{one, join}
 use Rattle.fst_types.proofs.Depending.{Grown, grown}
 use Rattle.fst_types.proofs.Alike.{Alike, at_same, len_same, on_back, on_forth, back_alike, forth_alike, closure_map}
-use Rattle.fst_heads.proofs.Patches.{Grade, DirectlyOn, DependsOn, IsLiveNumber, IsOnDiskWithAll, gains, fresh, Patch, Change, IsOn, IsLive, Rising as IsRising, block_of_kind, len_of, is_live, filter_in, in_filter, same_number, In-from_Contains, Contains-from_In, In-map, In-unmap}
+use Rattle.fst_heads.proofs.Patches.{Grade, DirectlyOn, DependsOn, IsLiveNumber, IsOnDiskWithAll, gains, fresh, Patch, Change, IsOn, at_of, len_of, IsLive, Rising as IsRising, block_of_kind, is_live, filter_in, in_filter, same_number, In-from_Contains, Contains-from_In, In-map, In-unmap}
 use Rattle.fst_heads.proofs.Patches.place
 use Rattle.fst_heads.proofs.Words.{Covering, IsOver, IsCovered, AreCovered, Covers, IsLonger, IsPut, HasBytes, newest_over, IsSparseRow}
 use Rattle.fst_heads.proofs.Newest.{over_touched}
@@ -41,6 +41,11 @@ live_over heads disk m n (join {q = k} c d) l = live_over heads disk m k c (live
 over_live : (heads : List Patch) (b x q : ℕ) → IsOver heads b x q → IsLiveNumber heads q
 over_live heads b x q o = record { patch = o.patch; head = o.head; numbered = o.numbered; live = o.live }
 
+-- what is over a byte is so in other heads too, as a patch with its number that is live on the same bytes of the block
+over_as : (b x q : ℕ) (heads other : List Patch) (o : IsOver heads b x q) (p : Patch) → Contains other p → p.number ≡ o.patch.number → IsLive p → IsOn p b
+    → at_of p.kind ≡ at_of o.patch.kind → len_of p.kind ≡ len_of o.patch.kind → IsOver other b x q
+over_as b x q heads other o p h number live on at len = search rules
+
 -- patches moved on, with the rows that they had
 module _ (old new : List Patch) (A : Alike old new) (disk : IsOnDiskWithAll new) (rising : IsRising new) where
   direct_forth : (a b : ℕ) → DirectlyOn old a b → DirectlyOn new a b
@@ -54,16 +59,8 @@ module _ (old new : List Patch) (A : Alike old new) (disk : IsOnDiskWithAll new)
   over_back : (b x q : ℕ) → IsOver new b x q → IsOver old b x q
   over_back b x q o =
       let r = back_alike old new A o.patch o.head in
-      let at = at_same r.0 o.patch r.2 in
-      record {
-        patch = r.0;
-        head = r.1;
-        numbered = sym r.2.number ∙ o.numbered;
-        live = r.2.live b o.change o.live;
-        change = on_back r.0 o.patch r.2 b o.change;
-        starts = omega (arith, o.starts, at);
-        ends = omega (arith, o.ends, at, len_same r.0 o.patch r.2);
-      }
+      let live = r.2.live b o.change o.live in
+      over_as b x q new old o r.0 r.1 (sym r.2.number) live (on_back r.0 o.patch r.2 b o.change) (sym (at_same r.0 o.patch r.2)) (sym (len_same r.0 o.patch r.2))
 
   over_forth : (b x c q : ℕ) → IsOver old b x c → IsOver new b x q → (c ≡ q) ⊎ DependsOn old c q → IsOver new b x c × ((c ≡ q) ⊎ DependsOn new c q)
   over_forth b x c q o n (inl same) = (subst (IsOver new b x) (sym same) n, inl same)
@@ -71,19 +68,8 @@ module _ (old new : List Patch) (A : Alike old new) (disk : IsOnDiskWithAll new)
       let r = forth_alike old new A o.patch o.head in
       let l = live_over new disk c q (depends_forth c q d) (over_live new b x q n) in
       let same = same_number new l.patch r.0 rising l.head r.1 (l.numbered ∙ (sym o.numbered ∙ sym r.2.number)) in
-      let at = at_same o.patch r.0 r.2 in
-      let len = len_same o.patch r.0 r.2 in (
-        record {
-          patch = r.0;
-          head = r.1;
-          numbered = r.2.number ∙ o.numbered;
-          live = subst IsLive same l.live;
-          change = on_forth o.patch r.0 r.2 b o.change;
-          starts = omega (arith, o.starts, at);
-          ends = omega (arith, o.ends, at, len);
-        },
-        inr (depends_forth c q d),
-      )
+      let live = subst IsLive same l.live in
+      (over_as b x c old new o r.0 r.1 r.2.number live (on_forth o.patch r.0 r.2 b o.change) (at_same o.patch r.0 r.2) (len_same o.patch r.0 r.2), inr (depends_forth c q d))
 
   pub covered_alike : (blocks : ℕ) (covers : List Covering) → AreCovered old blocks covers → AreCovered new blocks covers
   covered_alike = covered_by old new over_back over_forth (λ p b h live on.
@@ -268,10 +254,6 @@ module _ (old : List Patch) (n b at len : ℕ) (grade : Grade) (names row : List
     ];
     bytes = grind (arith, common_steps, or_parts, eqb-false);
   }
-    where
-      positive : (k : ℕ) → k ≢ 0 → 1 ≤ k
-      positive zero e = absurd (e refl)
-      positive (suc k) e = omega arith
 
   pub covered_put : AreCovered new blocks (set covers b cover)
   covered_put = record {

@@ -1,5 +1,5 @@
 -- What forgetting leaves of what the fields keep.
-use Rattle.fst_heads.proofs.Basics.{◌≡◌, ℕ, ◌+◌, ◌==◌, ◌&&◌, Bool, true, false, not, List, [], ◌∷◌, length, filter, count_by, Contains, refl, sym, ap, subst, ◌∙◌, inl, inr, arith, items_where_true, cases_Bool, eqb-true, eq-eqb, false≢true, length-filter, common_steps}
+use Rattle.fst_heads.proofs.Basics.{◌≡◌, ℕ, ◌+◌, ◌==◌, ◌&&◌, Bool, true, false, not, List, [], ◌∷◌, length, filter, count_by, Contains, refl, ap, subst, ◌∙◌, inl, inr, arith, items_where_true, cases_Bool, eqb-true, eq-eqb, false≢true, length-filter, common_steps}
 use Rattle.std.specs.List.Retain.{IsFiltered, ReturnsInTurn}
 use Rattle.fst_heads.proofs.Patches.{Place, Patch, IsLiveNumber, is_at, is_live, In-from_Contains, Contains-from_In, filter_in, sparse_dropped}
 use Rattle.fst_heads.proofs.Patches.place
@@ -13,10 +13,7 @@ place_same p = refl
 -- the live heads stand for the live nodes
 pub live_heads : (heads : List Head) → nodes_of (filter (λ h. is_live_place h.place) heads) ≡ filter (λ x. is_live x.patch) (nodes_of heads)
 live_heads [] = refl
-live_heads (h ∷ hs) = elim (cases_Bool (is_live_place h.place)) [
-  | inl e ↦ let f = sym (place_same h.place) ∙ e in let r = live_heads hs in rw (e, f, r) refl
-  | inr e ↦ let f = sym (place_same h.place) ∙ e in let r = live_heads hs in rw (e, f, r) refl
-]
+live_heads (h ∷ hs) = grind (arith, cases_Bool, place_same, live_heads hs)
 
 pub live_place_of : (p : Place) → (p ≡ place.Disk → ⊥) → not (is_at p place.Disk) ≡ true
 live_place_of place.Disk n = absurd (n refl)
@@ -40,10 +37,7 @@ in_live heads n l = grind (arith, common_steps, live_place_of, eq-eqb, cases_Boo
 
 split : (heads : List Patch) → length (filter is_live heads) + length (filter (λ p. is_at p.place place.Disk) heads) ≡ length heads
 split [] = refl
-split (p ∷ ps) = elim (cases_Bool (is_at p.place place.Disk)) [
-  | inl e ↦ let r = split ps in rw e (omega (arith, r))
-  | inr e ↦ let r = split ps in rw e (omega (arith, r))
-]
+split (p ∷ ps) = grind (arith, cases_Bool, split ps)
 
 pub counted : (heads : List Patch) → length (filter is_live heads) + count_by (λ p. is_at p.place place.Disk) heads ≡ length heads
 counted heads = let s = split heads in let c = length-filter (λ (p : Patch). is_at p.place place.Disk) heads in omega (arith, s, c)

@@ -1,9 +1,9 @@
 -- Marks by blocks that are reached, and how blocks come to be reached.
-use Rattle.fst_heads.proofs.Basics.{◌≡◌, ◌⊎◌, ℕ, ◌+◌, ◌<◌, Bool, true, false, List, length, get_or, set, Contains, Some, MatchBool, sym, subst, ◌∙◌, arith, get_or-set_same, get_or-set_other, cases_Bool, cases_eq, sum_by-set}
+use Rattle.fst_heads.proofs.Basics.{◌≡◌, ◌⊎◌, ℕ, ◌<◌, Bool, true, false, List, length, get_or, set, Contains, Some, MatchBool, sym, subst, ◌∙◌, arith, get_or-set_same, get_or-set_other, cases_Bool, cases_eq, sum_by-set}
 use Rattle.fst_heads.proofs.Patches.{Patch, IsOn}
 use Rattle.fst_heads.proofs.Words.{Head, IsRising, patch_of, patches_of, HasSlot, Has}
 use Rattle.fst_heads.specs.Reaching.{IsReached, unreached, IsHardIn}
-use Rattle.fst_heads.proofs.Slots.{any_default, some_element, slot_in, patch_slot, patch_is}
+use Rattle.fst_heads.proofs.Slots.{some_element, slot_in, patch_slot, patch_is}
 
 pub some_injective : (a b : ℕ) → Some a ≡ Some b → a ≡ b
 some_injective a b e = cc
@@ -37,6 +37,3 @@ pub record Taking (heads : List Head) (marks : List Bool) (i : ℕ) (old new : L
 module _ (heads : List Head) (marks : List Bool) (i : ℕ) (old reached : List Bool) (grown : Bool) (d : Head) (lt : i < length heads) (x : Taking heads marks i old reached grown) where
   abbrev p : Patch
   p = patch_of (get_or heads i d)
-
-  here : (k : ℕ) (e : Head) (c : ℕ) → (k < i → ⊥) → k < i + 1 → IsHardIn (patch_of (get_or heads k e)) c → IsHardIn p c
-  here k e c past up h = grind (arith, any_default)

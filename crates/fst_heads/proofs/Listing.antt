@@ -135,9 +135,7 @@ module _ (b : ℕ) where
 
   flying_few : (heads : List Head) → length (flying_on b (patches_of heads)) ≤ length heads
   flying_few [] = omega arith
-  flying_few (h ∷ hs) =
-      let rest = flying_few hs in
-      elim (cases_Bool (is_change_at place.Flight b (patch_of h))) [ inl e ↦ rw e (omega (arith, rest)) | inr e ↦ rw e (omega (arith, rest)) ]
+  flying_few (h ∷ hs) = grind (arith, cases_Bool, flying_few hs)
 
   pub all_fly : (heads : List Head) → IsRising heads → fly_each (numbers_on heads) (nodes_of heads) ≡ flying_on b (patches_of heads)
   all_fly [] rising = refl
@@ -266,9 +264,7 @@ is_off b k off = refl
 -- entries go as what they stand for
 pub entries_filter : (stays : ℕ → Bool) (list : List Listed) → entries_of (filter (λ (l : Listed). stays l.number) list) ≡ filter (λ e. stays e.number) (entries_of list)
 entries_filter stays [] = refl
-entries_filter stays (l ∷ ls) =
-    let rest = entries_filter stays ls in
-    elim (cases_Bool (stays l.number)) [ inl e ↦ rw (e, rest) refl | inr e ↦ rw (e, rest) refl ]
+entries_filter stays (l ∷ ls) = grind (arith, cases_Bool, entries_filter stays ls)
 
 entries_cons : (b : ℕ) (p : Patch) (ps : List Patch) → entries_on b (p ∷ ps) ≡ cond (is_live_on b p) (entry p ∷ entries_on b ps) (entries_on b ps)
 entries_cons b p ps = elim (cases_Bool (is_live_on b p)) [ inl e ↦ rw e refl | inr e ↦ rw e refl ]
@@ -307,14 +303,7 @@ module _ (b : ℕ) where
   entries_kept : (stays : ℕ → Bool) (ps : List Patch) → ((p : Patch) → In ps p → is_live_on b p ≡ true → stays p.number ≡ is_live (landed b p))
       → filter (λ e. stays e.number) (entries_on b ps) ≡ entries_on b (map (landed b) ps)
   entries_kept stays [] says = refl
-  entries_kept stays (p ∷ ps) says =
-      let rest = entries_kept stays ps (λ q i. says q (inr i)) in
-      let short : List Entry = filter (λ e. stays e.number) (entries_on b ps) in
-      let new : entries_on b (map (landed b) (p ∷ ps)) ≡ cond (is_live_on b (landed b p)) (entry (landed b p) ∷ entries_on b (map (landed b) ps)) (entries_on b (map (landed b) ps)) = entries_cons b (landed b p) (map (landed b) ps) in
-      elim (cases_Bool (is_live_on b p)) [
-        | inl f ↦ grind (arith, and_on, and_parts, landed_kind, landed_entry)
-        | inr f ↦ grind (arith, landed_still)
-      ]
+  entries_kept stays (p ∷ ps) says = grind (arith, entries_cons, cases_Bool, and_on, and_parts, landed_kind, landed_entry, landed_still, entries_kept stays ps (λ q i. says q (inr i)))
 
   -- the lists of the other blocks stay
   other_test : (c : ℕ) (p : Patch) → c ≢ b → is_live_on c (landed b p) ≡ is_live_on c p
@@ -322,14 +311,7 @@ module _ (b : ℕ) where
 
   entries_other : (c : ℕ) (ps : List Patch) → c ≢ b → entries_on c (map (landed b) ps) ≡ entries_on c ps
   entries_other c [] ne = refl
-  entries_other c (p ∷ ps) ne =
-      let rest = entries_other c ps ne in
-      let t = other_test c p ne in
-      let e = landed_entry p in
-      entries_cons c (landed b p) (map (landed b) ps)
-      ∙ (ap (λ t. cond t (entry (landed b p) ∷ entries_on c (map (landed b) ps)) (entries_on c (map (landed b) ps))) t
-      ∙ (ap (λ e. cond (is_live_on c p) (e ∷ entries_on c (map (landed b) ps)) (entries_on c (map (landed b) ps))) e
-      ∙ (ap (λ es. cond (is_live_on c p) (entry p ∷ es) es) rest ∙ sym (entries_cons c p ps))))
+  entries_other c (p ∷ ps) ne = grind (arith, other_test, landed_entry, entries_cons, entries_other c ps ne)
 
   module _ (ps : List Patch) (rising : Rising ps) where
     -- the numbers of those that flew are in order

@@ -1,5 +1,5 @@
 -- The walk along the list of a block for those of its patches that pass a test.
-use Rattle.fst_heads.proofs.Basics.{◌≡◌, ◌==◌, ◌&&◌, ◌||◌, ℕ, ◌<◌, ◌+◌, Bool, true, false, not, List, [], ◌∷◌, map, filter, drop, length, get_or, refl, sym, ap, ◌∙◌, inl, inr, list_any, cases_Bool, false≢true, drop_more, and_parts, arith}
+use Rattle.fst_heads.proofs.Basics.{◌≡◌, ◌==◌, ◌&&◌, ◌||◌, ℕ, ◌<◌, ◌+◌, Bool, true, false, not, List, [], ◌∷◌, map, filter, drop, length, get_or, refl, sym, ap, ◌∙◌, inr, list_any, cases_Bool, false≢true, drop_more, and_parts, arith}
 use Rattle.fst_heads.proofs.Patches.{In, Contains-from_In, Place, is_at, is_on, is_change_at}
 use Rattle.fst_heads.proofs.Patches.place
 use Rattle.fst_heads.proofs.Words.{is_free_on, is_bound_on, Head, Listed, IsRising, kind_of, patch_of, patches_of, entries_of, entries_on, is_live_on, HasSlot, HasNone, Node, node_of, nodes_of, is_pending, is_ready_on, is_hard_kind}
@@ -26,13 +26,7 @@ listed_memory b x e = memory_live x.patch.place (is_on b x.patch.kind) e
 module _ (b : ℕ) (t : Node → Bool) (inside : (x : Node) → t x ≡ true → is_live_on b x.patch ≡ true) where
   passing_each : (f : ℕ → Bool) (heads : List Head) → ((h : Head) → In heads h → f h.number ≡ t (node_of h)) → filter f (numbers_on b heads) ≡ map (λ x. x.patch.number) (filter t (nodes_of heads))
   passing_each f [] says = refl
-  passing_each f (h ∷ hs) says =
-      let rest = passing_each f hs (λ k i. says k (inr i)) in
-      let here = says h (inl refl) in
-      elim (cases_Bool (t (node_of h))) [
-        | inl yes_h ↦ rw (inside (node_of h) yes_h, here, yes_h) (ap (λ ns. h.number ∷ ns) rest)
-        | inr no_h ↦ elim (cases_Bool (is_live_on b (patch_of h))) [ inl live ↦ rw (live, here, no_h) rest | inr off ↦ rw (off, no_h) rest ]
-      ]
+  passing_each f (h ∷ hs) says = grind (arith, cases_Bool, passing_each f hs (λ k i. says k (inr i)))
 
   -- the whole list has the numbers of all that pass, in order
   pub passing_start : (heads : List Head) (list : List Listed) → IsRising heads → entries_of list ≡ entries_on b (patches_of heads) → passing t heads list ≡ map (λ x. x.patch.number) (filter t (nodes_of heads))

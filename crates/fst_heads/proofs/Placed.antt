@@ -61,14 +61,7 @@ node_of_patch nodes p c = let r = In-unmap (λ (x : Node). x.patch) nodes p (In-
 module _ (f : Patch → Patch) where
   pub entries_mapped : (b : ℕ) (ps : List Patch) → ((p : Patch) → In ps p → StandsFor p (f p)) → entries_on b (map f ps) ≡ entries_on b ps
   entries_mapped b [] same = refl
-  entries_mapped b (p ∷ ps) same =
-      let s = same p (inl refl) in
-      let r = entries_mapped b ps (λ q h. same q (inr h)) in
-      let first : entry (f p) ≡ entry p = rw (s.number, s.kind) refl in
-      elim (cases_Bool (is_live_on b p)) [
-        | inl e ↦ let g : is_live_on b (f p) ≡ true = rw (s.live, s.kind) e in rw (e, g, r, first) refl
-        | inr e ↦ let g : is_live_on b (f p) ≡ false = rw (s.live, s.kind) e in rw (e, g, r) refl
-      ]
+  entries_mapped b (p ∷ ps) same = grind (arith, cases_Bool, entries_mapped b ps (λ q h. same q (inr h)))
 
 pub number_if : (t : Bool) (p q : Patch) → q.number ≡ p.number → (cond t q p).number ≡ p.number
 number_if true p q e = e
@@ -108,17 +101,11 @@ launched_links chosen x = search (rules, number_if, dependencies_if)
 
 pub patches_dropped : (nodes : List Node) → patches_in (filter (λ x. is_live x.patch) nodes) ≡ filter is_live (patches_in nodes)
 patches_dropped [] = refl
-patches_dropped (x ∷ xs) = elim (cases_Bool (is_live x.patch)) [
-  | inl e ↦ let r = patches_dropped xs in rw (e, r) refl
-  | inr e ↦ let r = patches_dropped xs in rw (e, r) refl
-]
+patches_dropped (x ∷ xs) = grind (arith, cases_Bool, patches_dropped xs)
 
 pub entries_dropped : (b : ℕ) (ps : List Patch) → entries_on b (filter is_live ps) ≡ entries_on b ps
 entries_dropped b [] = refl
-entries_dropped b (p ∷ ps) = let r = entries_dropped b ps in elim (cases_Bool (is_live p)) [
-  | inl e ↦ elim (cases_Bool (is_on b p.kind)) [ inl f ↦ rw (e, e, f, r) refl | inr f ↦ rw (e, e, f, r) refl ]
-  | inr e ↦ rw (e, r) refl
-]
+entries_dropped b (p ∷ ps) = grind (arith, cases_Bool, entries_dropped b ps)
 
 -- what a spread keeps of nodes: all but sums, what is pending, and the places of empty patches and sealed gates
 

@@ -1,6 +1,6 @@
 -- What becomes of the counts of each block where what is pending of one patch is settled.
-use Rattle.fst_heads.proofs.Basics.{◌≡◌, ◌≢◌, ℕ, ◌+◌, ◌<◌, ◌≤◌, ◌==◌, ◌&&◌, Bool, true, false, not, cond, List, length, count_by, set, get_or, refl, sym, ap, subst, ◌∙◌, inl, inr, arith, length-set, cases_Bool, cases_eq, eq-eqb, ne_eqb, false≢true, length-map, get_or-map, and-true, and-false, rules, map-set}
-use Rattle.fst_heads.proofs.Basics.{common_steps, sum_by-set, get_or-le-sum_by, count_by-le-length}
+use Rattle.fst_heads.proofs.Basics.{◌≡◌, ◌≢◌, ℕ, ◌+◌, ◌<◌, ◌≤◌, ◌==◌, ◌&&◌, Bool, true, false, cond, List, length, count_by, set, get_or, refl, sym, ap, subst, ◌∙◌, inl, inr, arith, length-set, cases_Bool, cases_eq, eq-eqb, ne_eqb, false≢true, length-map, get_or-map, and-true, rules, map-set, common_steps}
+use Rattle.fst_heads.proofs.Basics.{sum_by-set, get_or-le-sum_by, count_by-le-length}
 use Rattle.fst_heads.proofs.Patches.{Grade, Change, is_at, is_on, is_change_at}
 use Rattle.fst_heads.proofs.Patches.place
 use Rattle.fst_heads.proofs.Words.{Head, kind_of, patch_of, Pending, Standing, Node, node_of, nodes_of, is_pending, over_block, height, Sinks, now, is_told, settles, AllStand, is_ready_on, is_held_on, is_flying_on, standing_of, released, is_hard_kind}
@@ -74,9 +74,6 @@ module _ (nodes : List Node) (s : ℕ) (x : Node) (lt : s < length nodes) (e : g
       ready_then : is_ready_on b (settles x) ≡ true
       ready_then = ap (λ t. t && is_pending (now x) (pending.Block b)) here ∙ block_again
 
-      held_no_more : is_held_on b (settles x) ≡ false
-      held_no_more = ap (λ t. (is_change_at place.Memory b x.patch && is_hard_kind x.patch.kind) && not t) block_again ∙ and-false (is_change_at place.Memory b x.patch && is_hard_kind x.patch.kind)
-
       -- one more can be ready
       pub ready_few : count_by (is_ready_on b) nodes < length nodes
       ready_few =
@@ -87,12 +84,6 @@ module _ (nodes : List Node) (s : ℕ) (x : Node) (lt : s < length nodes) (e : g
           → AllStand (set nodes s (settles x)) blocks (set standings b (released (is_hard_kind x.patch.kind) (get_or standings b d)))
       stand_released blocks standings d inside S = stand_set (set nodes s (settles x)) nodes blocks b standings _ inside S own (λ c within ne. standing_kept c (settles x) (off_as c (settles x) x (off c ne) (off c ne)))
         where
-          ready_more : count_by (is_ready_on b) (set nodes s (settles x)) + 0 ≡ count_by (is_ready_on b) nodes + 1
-          ready_more = grind (arith, count_set, not_ready, ready_then)
-
-          held_less : count_by (is_held_on b) (set nodes s (settles x)) + cond (is_hard_kind x.patch.kind) 1 0 ≡ count_by (is_held_on b) nodes + 0
-          held_less = grind (arith, count_set, was_held, held_no_more)
-
           own : released (is_hard_kind x.patch.kind) (get_or standings b d) ≡ standing_of (set nodes s (settles x)) b
           own = grind (arith, common_steps, released_as, count_same)
 

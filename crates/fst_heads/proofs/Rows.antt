@@ -1,6 +1,6 @@
 -- Rising rows, and names as calls give them.
-use Rattle.fst_heads.proofs.Basics.{◌≡◌, ℕ, ◌+◌, ◌-◌, ◌<◌, ◌≤◌, List, ◌∷◌, length, get_or, Contains, Result, Ok, Err, is_ok, refl, sym, subst, ◌∙◌, inl, inr, arith, insert, IsStrictlyIncreasing, IsBinarySearchResult, IsNonDecreasingBy, nat_cmp, ordering_index, nat_tests, rules, length-map, get_or-map}
-use Rattle.fst_heads.proofs.Basics.{common_steps, cases_Bool, cases_lt, cases_eq, AllPairs-from_increasing, searched, IsPermutation-insert, IsPermutation-sym, Contains-permutation, length-insert, get_or-insert_below, get_or-insert_at, get_or-insert_above, true}
+use Rattle.fst_heads.proofs.Basics.{◌≡◌, ℕ, ◌+◌, ◌-◌, ◌<◌, ◌≤◌, List, ◌∷◌, length, get_or, Contains, Result, Ok, Err, is_ok, refl, sym, subst, ◌∙◌, inl, inr, arith, insert, IsStrictlyIncreasing, IsBinarySearchResult, nat_cmp, rules, common_steps, cases_Bool, cases_lt, cases_eq, AllPairs-from_increasing, searched}
+use Rattle.fst_heads.proofs.Basics.{IsPermutation-insert, IsPermutation-sym, Contains-permutation, length-insert, get_or-insert_below, get_or-insert_at, get_or-insert_above, true}
 use Rattle.fst_types.specs.Order.{NamesUnknown}
 use Rattle.fst_heads.proofs.Patches.{is_among, among_in, in_among, PatchNo, Lists, IsGiven, In, In-get_or, In-from_Contains, Contains-from_In, In-map, DirectlyOn, IsLiveNumber, Patch}
 use Rattle.fst_heads.proofs.Words.{numbers_of, Gains, Head, IsRising, patches_of, HasSlot, IsMissing}
@@ -134,14 +134,3 @@ gathers_all P names i row past x = record {
       let d = some_element names k.0 k.1 in
       subst (Contains row) (k.2 d) (x.each k.0 d (omega (arith, k.1, past)) k.1 (subst P (sym (k.2 d)) p.0));
 }
-
--- whether a number is among names that rise
-module _ (names : List PatchNo) (rising : IsStrictlyIncreasing (numbers_of names)) (n : ℕ) where
-  name_below : (i j : ℕ) (e : PatchNo) → i < j → j < length names → (get_or names i e).0 < (get_or names j e).0
-  name_below i j e lt inside =
-      let r = ordered (numbers_of names) rising i j lt (omega (arith, inside, length-map names (λ m. m.0))) in
-      let a = get_or-map (λ m. m.0) names i e 0 (omega (arith, lt, inside)) in
-      omega (arith, r, a, get_or-map (λ m. m.0) names j e 0 inside)
-
-  compared : (e : PatchNo) → IsNonDecreasingBy (λ m. ordering_index (nat_cmp m.0 n)) names
-  compared e = grind (arith, name_below, nat_tests)

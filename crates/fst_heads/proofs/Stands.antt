@@ -1,6 +1,6 @@
 -- How the counts of each block follow what becomes of patches.
-use Rattle.fst_heads.proofs.Basics.{◌≡◌, ◌≢◌, ◌&&◌, ◌+◌, ◌<◌, ◌≤◌, ℕ, Bool, true, false, not, cond, List, map, filter, count_by, set, get_or, AllPairs, refl, sym, ap, subst, ◌∙◌, inl, inr, arith, cases_Bool, cases_eq, and_parts, eq-eqb, ne_eqb, false≢true, rules, common_steps}
-use Rattle.fst_heads.proofs.Patches.{Grade, Place, HasOnePlaceEach, IsOpenNumber, Kind, Patch, Change, OpenGate, SealedGate, is_among, is_at, is_change_at, is_live, is_on, same_number, filter_in, in_filter, In, Contains-from_In, In-map, In-unmap, among_in, in_among}
+use Rattle.fst_heads.proofs.Basics.{◌≡◌, ◌≢◌, ◌&&◌, ◌+◌, ◌<◌, ◌≤◌, ℕ, Bool, true, false, not, cond, List, map, filter, count_by, set, get_or, AllPairs, refl, sym, ap, subst, ◌∙◌, inl, inr, arith, cases_Bool, cases_eq, and_parts, ne_eqb, false≢true, rules, common_steps}
+use Rattle.fst_heads.proofs.Patches.{Grade, Place, HasOnePlaceEach, IsOpenNumber, Kind, Patch, Change, OpenGate, SealedGate, is_among, is_at, is_live, is_on, same_number, filter_in, in_filter, In, Contains-from_In, In-map, In-unmap, among_in, in_among}
 use Rattle.fst_heads.proofs.Patches.place
 use Rattle.fst_heads.proofs.Words.{Pending, Sums, Standing, IsInside, Node, patches_in, at_number, linked_to, gains_names, is_pending, heard, seals, lands, launches, AllStand, is_ready_on, is_held_on, is_flying_on, ready_on, standing_of, entered, is_hard_kind}
 use Rattle.fst_heads.proofs.Words.pending
@@ -187,22 +187,6 @@ pub stand_change : (nodes : List Node) (blocks : ℕ) (standings : List Standing
 stand_change nodes blocks standings p b at len grade d kind memory lt S =
     stand_set (with_node nodes p) nodes blocks b standings _ lt S own (λ c inside ne. made_off nodes p c (off_block b c p.kind at len grade kind ne))
   where
-    on_b : is_on b p.kind ≡ true
-    on_b = grind (arith, eq-eqb)
-
-    -- it is a change of b in memory
-    here : is_change_at place.Memory b p ≡ true
-    here = grind arith
-
-    ready_new : is_ready_on b (new_node nodes p) ≡ is_pending (new_node nodes p).pending (pending.Block b)
-    ready_new = grind arith
-
-    held_new : is_held_on b (new_node nodes p) ≡ (is_hard_kind p.kind && not (is_pending (new_node nodes p).pending (pending.Block b)))
-    held_new = grind arith
-
-    flies_new : is_flying_on b (new_node nodes p) ≡ false
-    flies_new = grind arith
-
     own : entered (is_hard_kind p.kind) (is_pending (new_node nodes p).pending (pending.Block b)) (get_or standings b d) ≡ standing_of (with_node nodes p) b
     own = grind (arith, common_steps, entered_as, standing_made, standing_same)
 

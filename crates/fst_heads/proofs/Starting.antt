@@ -331,10 +331,4 @@ patches_landed (x ∷ xs) b = let r = patches_landed xs b in rw r refl
 
 pub unsettled_sealed : (nodes : List Node) (g : ℕ) → map unsettled (patches_in (map (at_number g seals) nodes)) ≡ map unsettled (map (sealed g) (patches_in nodes))
 unsettled_sealed [] g = refl
-unsettled_sealed (x ∷ xs) g =
-    let r = unsettled_sealed xs g in
-    let first : unsettled (at_number g seals x).patch ≡ unsettled (sealed g x.patch) = elim (cases_eq x.patch.number g) [
-      | inl e ↦ rw (eq-eqb x.patch.number g e) (elim (sealed_cases x) [ inl s ↦ ap (λ (y : Node). unsettled y.patch) s.1 | inr s ↦ ap (λ (y : Node). unsettled y.patch) s.1 ])
-      | inr ne ↦ rw (ne_eqb x.patch.number g ne) refl
-    ] in
-    rw (first, r) refl
+unsettled_sealed (x ∷ xs) g = grind (arith, cases_eq, eq-eqb, sealed_cases, ne_eqb, unsettled_sealed xs g)

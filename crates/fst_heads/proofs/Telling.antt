@@ -1,6 +1,6 @@
 -- One step of a spread: what is pending of one patch now is told to its dependants.
-use Rattle.fst_heads.proofs.Basics.{◌≡◌, ◌≢◌, ◌⊎◌, ◌↔◌, ◌<◌, ◌≤◌, ℕ, true, false, List, [], ◌∷◌, ◌++◌, length, map, Contains, AllPairs, refl, sym, ap, subst, ◌∙◌, inl, inr, arith, cases_Bool, cases_eq, both_ways, length-map, Contains-push, Contains-push_cases, Contains-append_left, rules}
-use Rattle.fst_heads.proofs.Basics.{Contains-append_right, Contains-append_cases, AllPairs-filter}
+use Rattle.fst_heads.proofs.Basics.{◌≡◌, ◌≢◌, ◌⊎◌, ◌↔◌, ◌<◌, ◌≤◌, ℕ, true, false, List, [], ◌∷◌, ◌++◌, length, map, Contains, AllPairs, refl, sym, ap, subst, ◌∙◌, inl, inr, arith, cases_Bool, cases_eq, both_ways, length-map, Contains-push, Contains-push_cases, Contains-append_left, rules, Contains-append_right}
+use Rattle.fst_heads.proofs.Basics.{Contains-append_cases, AllPairs-filter}
 use Rattle.fst_heads.proofs.Patches.{Follows, In, In-map, In_decided, In-from_Contains, Contains-from_In}
 use Rattle.fst_heads.proofs.Patches.place
 use Rattle.fst_heads.proofs.Words.{Pending, Node, pending_in, at_number, AreLinked, AreDistinct, Fits, HasIn, Sinks, joined, joined_sums, of_kind, plus, minus, sums_of, height, max_block, Spreading, IsSpreadOf, CanHear, now, is_told, settles, heard, woken, heights, unspread}

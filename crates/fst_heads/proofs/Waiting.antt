@@ -51,13 +51,7 @@ pending_node nodes n b e = elim (found nodes n) [ inl f ↦ (f.node, f.head, sym
 pub pending_mapped : (f : Node → Node) (nodes : List Node) (n : ℕ) → ((y : Node) → (f y).patch.number ≡ y.patch.number)
     → ((y : Node) → y.patch.number ≡ n → (f y).pending ≡ y.pending) → pending_in (map f nodes) n ≡ pending_in nodes n
 pending_mapped f [] n number same = refl
-pending_mapped f (y ∷ ys) n number same =
-    let rest = pending_mapped f ys n number same in
-    let m = number y in
-    elim (cases_eq y.patch.number n) [
-      | inl e ↦ rw (m, eq-eqb y.patch.number n e) (same y e)
-      | inr ne ↦ rw (m, ne_eqb y.patch.number n ne) rest
-    ]
+pending_mapped f (y ∷ ys) n number same = grind (arith, cases_eq, eq-eqb, ne_eqb, pending_mapped f ys n number same)
 
 pub rising_mapped : (f : Node → Node) (nodes : List Node) → ((y : Node) → (f y).patch.number ≡ y.patch.number)
     → AllPairs (λ a b. a.patch.number < b.patch.number) nodes → AllPairs (λ a b. a.patch.number < b.patch.number) (map f nodes)
