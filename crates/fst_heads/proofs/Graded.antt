@@ -1,5 +1,5 @@
 -- What the walks over a row show, and the grade that follows.
-use Rattle.fst_heads.proofs.Basics.{◌≡◌, ◌≢◌, ℕ, ◌+◌, ◌≤◌, eqb, true, List, [], ◌∷◌, ◌++◌, Contains, Some, None, refl, sym, ap, subst, ◌∙◌, inl, inr, arith, eqb-true, eqb-false, eq-eqb, ne_eqb, false≢true, not-true, Contains-append_left, Contains-push, Contains-push_cases, and_parts}
+use Rattle.fst_heads.proofs.Basics.{◌≡◌, ◌≢◌, ℕ, ◌+◌, ◌≤◌, eqb, true, List, [], ◌∷◌, ◌++◌, Contains, Some, None, refl, sym, ap, subst, ◌∙◌, inl, inr, arith, eqb-true, eqb-false, eq-eqb, ne_eqb, false≢true, not-true, Contains-append_left, Contains-push, Contains-push_cases, and_parts, rules}
 use Rattle.fst_types.specs.declared.grade.Grade.TheVariants as grade
 use Rattle.fst_types.specs.Closure.{one, join}
 use Rattle.fst_heads.proofs.Patches.{Place, Grade, Kind, Change, OpenGate, Patch, block_of_kind, DirectlyOn, DependsOn, IsOpenNumber, IsGradedHard, FollowsRule, fresh, first_step, IsWithin, old_head, target_small, depends_old, needs_old}
@@ -88,28 +88,13 @@ module _ (heads : List Patch) (numbers : ℕ) (within : IsWithin heads numbers) 
   may_graded : MayBeHard heads None b row → IsGradedHard heads after b (numbers + 1)
   may_graded m = record {
     free = λ k. m.free (depends_under (IsOpenNumber heads) k.gate.number (record { patch = k.gate; head = old k.gate k.head k.depends; numbered = refl; is_open = k.is_open }) k.depends);
-    straight = λ r. m.straight (depends_under (IsReturning heads b) r.away.number (record {
-      away = r.away;
-      back = r.back;
-      away_on = r.away_on;
-      head = old r.away r.away_needed.head r.away_needed.depends;
-      numbered = refl;
-      change = r.away_needed.change;
-      off = r.off;
-      away_live = r.away_live;
-      back_needed = needs_old heads numbers within new_change refl named r.away.number r.back b r.back_needed (small r.away.number r.away_needed.depends);
-      back_live = r.back_live;
-    }) r.away_needed.depends);
-    open_ended = λ q c need live other path. m.open_ended (depends_under (IsLeading heads b) q.number (record {
-      patch = q;
-      block = c;
-      head = old q need.head need.depends;
-      numbered = refl;
-      change = need.change;
-      live = live;
-      other = other;
-      reaches = path;
-    }) need.depends);
+    straight = λ r.
+        let head = old r.away r.away_needed.head r.away_needed.depends in
+        let back = needs_old heads numbers within new_change refl named r.away.number r.back b r.back_needed (small r.away.number r.away_needed.depends) in
+        m.straight (depends_under (IsReturning heads b) r.away.number (search rules) r.away_needed.depends);
+    open_ended = λ q c need live other path.
+        let head = old q need.head need.depends in
+        m.open_ended (depends_under (IsLeading heads b) q.number (search rules) need.depends);
   }
 
   graded_may : IsGradedHard heads after b (numbers + 1) → MayBeHard heads None b row
@@ -120,16 +105,11 @@ module _ (heads : List Patch) (numbers : ℕ) (within : IsWithin heads numbers) 
     straight = λ u.
         let d = under_depends (IsReturning heads b) u in
         let r = d.1 in
-        k.straight (record {
-          away = r.away;
-          back = r.back;
-          away_on = r.away_on;
-          off = r.off;
-          away_needed = record { head = Contains-append_left heads (new_change ∷ []) r.away r.head; change = r.change; depends = subst (DependsOn after (numbers + 1)) (sym r.numbered) d.2 };
-          away_live = r.away_live;
-          back_needed = record { head = Contains-append_left heads (new_change ∷ []) r.back r.back_needed.head; change = r.back_needed.change; depends = still r.away.number r.back.number r.back_needed.depends };
-          back_live = r.back_live;
-        });
+        let away = Contains-append_left heads (new_change ∷ []) r.away r.head in
+        let back = Contains-append_left heads (new_change ∷ []) r.back r.back_needed.head in
+        let depends = subst (DependsOn after (numbers + 1)) (sym r.numbered) d.2 in
+        let under = still r.away.number r.back.number r.back_needed.depends in
+        k.straight (search rules);
     open_ended = λ u.
         let d = under_depends (IsLeading heads b) u in
         let l = d.1 in

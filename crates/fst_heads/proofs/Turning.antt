@@ -192,26 +192,10 @@ pub turns : (row : List ℕ) (old new : Pending) (q : ℕ) (x : Node) → Turns 
 turns row old new q x = elim (cases_eq x.patch.number q) [
   | inl e ↦
       let h = hears_heard row old new (settles x) in
-      subst (λ z. Turns row old new q x (heard row old new z)) (sym (at_same q settles x e)) (record {
-        stays = record { number = h.stays.number; kind = h.stays.kind; dependencies = h.stays.dependencies; spread = h.stays.spread };
-        as_it_was = λ ne. absurd (ne e);
-        as_it_is = λ s. h.told;
-        pends = h.pends;
-        places = h.places;
-        same = h.same;
-        moved = h.moved;
-        placed = h.placed;
-      })
+      let was : x.patch.number ≢ q → (heard row old new (settles x)).pending ≡ x.pending = λ ne. absurd (ne e) in
+      subst (λ z. Turns row old new q x (heard row old new z)) (sym (at_same q settles x e)) (search rules)
   | inr ne ↦
       let h = hears_heard row old new x in
-      subst (λ z. Turns row old new q x (heard row old new z)) (sym (at_other q settles x ne)) (record {
-        stays = h.stays;
-        as_it_was = λ s. h.told;
-        as_it_is = λ e. absurd (ne e);
-        pends = h.pends;
-        places = h.places;
-        same = h.same;
-        moved = h.moved;
-        placed = h.placed;
-      })
+      let is : x.patch.number ≡ q → (heard row old new x).pending ≡ now x = λ e. absurd (ne e) in
+      subst (λ z. Turns row old new q x (heard row old new z)) (sym (at_other q settles x ne)) (search rules)
 ]
