@@ -1,5 +1,5 @@
 -- What calls leave of the count of patches that are not on disk.
-use Rattle.fst_heads.proofs.Basics.{◌≡◌, ℕ, ◌+◌, ◌-◌, ◌≤◌, ◌==◌, Bool, true, false, cond, if◌then◌else◌, List, [], ◌∷◌, ◌++◌, map, filter, length, count_by, refl, sym, ap, subst, ◌∙◌, inl, inr, arith, cases_Bool, length-map, count_by-le-length, rules, ◌≢◌, suc, ◌<◌, not, AllPairs, cases_eq, false≢true, common_steps}
+use Rattle.fst_heads.proofs.Basics.{◌≡◌, ℕ, ◌+◌, ◌-◌, ◌≤◌, ◌==◌, Bool, true, false, cond, if◌then◌else◌, List, [], ◌∷◌, ◌++◌, map, filter, length, count_by, refl, sym, ap, subst, ◌∙◌, inl, inr, arith, cases_Bool, length-map, count_by-le-length, rules, suc, ◌<◌, not, AllPairs, cases_eq, false≢true, common_steps}
 use Rattle.fst_heads.proofs.Patches.{Place, gains, Patch, is_at, is_live, SealedGate, In, In-from_Contains, Contains-from_In}
 use Rattle.fst_heads.proofs.Words.{Head, patch_of, patches_of, Beside, Node, node_of, nodes_of, at_number, AreSettled, is_waiting, seals, Pending, patches_in, is_pending, Sinks, is_told, now, settles, heard}
 use Rattle.fst_heads.proofs.AtNumber.{patches_in_nodes, at_same, at_other}
@@ -10,18 +10,11 @@ use Rattle.fst_heads.proofs.Words.pending
 
 -- how many patches wait for the disk: those of which something is pending, as their dependants know it
 
--- what leaves what is told of each leaves the count
-pub waiting_kept : (f : Node → Node) (nodes : List Node) → ((x : Node) → (f x).pending ≡ x.pending) → count_by is_waiting (map f nodes) ≡ count_by is_waiting nodes
-waiting_kept f nodes same = count_map is_waiting is_waiting f nodes (λ x i. ap (λ p. not (is_pending p pending.Nothing)) (same x))
-
 pub at_number_told : (n : ℕ) (f : Node → Node) (x : Node) → (f x).pending ≡ x.pending → (at_number n f x).pending ≡ x.pending
 at_number_told n f x same = grind (arith, cases_eq, at_same, at_other)
 
 pub waiting_heard : (row : List ℕ) (old new : Pending) (nodes : List Node) → count_by is_waiting (map (heard row old new) nodes) ≡ count_by is_waiting nodes
-waiting_heard row old new nodes = grind (arith, waiting_kept, cases_Bool)
-
-waiting_others : (q : ℕ) (nodes : List Node) → ((x : Node) → In nodes x → x.patch.number ≢ q) → count_by is_waiting (map (at_number q settles) nodes) ≡ count_by is_waiting nodes
-waiting_others q nodes others = count_map is_waiting is_waiting (at_number q settles) nodes (λ x i. ap is_waiting (at_other q settles x (others x i)))
+waiting_heard row old new nodes = grind (arith, count_map, cases_Bool)
 
 abbrev pub one_if : Bool → ℕ
 one_if t = cond t 1 0
@@ -41,7 +34,7 @@ waiting_settles (x ∷ xs) q here rising i e waits =
     subst (λ z. x.patch.number < z.patch.number) c.2 (rising 0 (suc c.0) y (omega arith) (omega (arith, c.1))) in
     let rest : AllPairs (λ x y. x.patch.number < y.patch.number) xs = λ j k d lt inside. rising (suc j) (suc k) d (omega (arith, lt)) (omega (arith, inside)) in
     elim i [
-      | inl same ↦ grind (arith, common_steps, waiting_others, at_same, one_of, count_cons)
+      | inl same ↦ grind (arith, common_steps, count_map, at_other, at_same, one_of, count_cons)
       | inr j ↦
           let first = ap one_if (ap is_waiting (at_other q settles x (λ n. omega (arith, n, behind here j, e)))) in
           let b = count_cons is_waiting x xs in
@@ -119,7 +112,7 @@ module _ (heads mid new : List Head) (f : Node → Node) (blocks live landed : �
     (old_settled : AreSettled (nodes_of heads) blocks) (new_settled : AreSettled (nodes_of new) blocks) where
   -- of those that wait so many are told that they are on disk
   landed_live : count_by is_waiting (nodes_of new) + landed ≡ count_by is_waiting (nodes_of mid) → count_by is_live (patches_of new) + landed ≡ count_by is_live (patches_of heads)
-  landed_live counted = grind (arith, waiting_kept, waiting_live, patches_in_nodes)
+  landed_live counted = grind (arith, count_map, waiting_live, patches_in_nodes)
 
   pub landed_few : count_by is_waiting (nodes_of new) + landed ≡ count_by is_waiting (nodes_of mid) → Beside (patches_of heads) blocks live reached → landed ≤ live
   landed_few counted B = let all = landed_live counted in omega (arith, all, B.counted)

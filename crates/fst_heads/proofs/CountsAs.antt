@@ -1,9 +1,9 @@
 -- Nodes that count for a block as others do, and what that leaves of the counts of all blocks.
-use Rattle.fst_heads.proofs.Basics.{◌≡◌, ◌≢◌, ℕ, ◌+◌, ◌<◌, Bool, true, false, cond, List, [], ◌∷◌, ◌++◌, map, filter, count_by, set, get_or, refl, sym, ap, subst, ◌∙◌, inl, inr, arith, get_or-set_same, get_or-set_other, length-set, cases_Bool, cases_eq, and_parts, and_right, rules, eqb-true, ne_eqb, false≢true}
+use Rattle.fst_heads.proofs.Basics.{◌≡◌, ◌≢◌, ℕ, ◌+◌, ◌<◌, Bool, true, false, cond, List, [], ◌∷◌, ◌++◌, map, filter, count_by, set, get_or, refl, sym, ap, subst, ◌∙◌, inl, inr, arith, get_or-set_same, get_or-set_other, length-set, cases_Bool, cases_eq, and_parts, and_right, rules, eqb-true, ne_eqb}
 use Rattle.fst_heads.proofs.Basics.{sum_by-cons, sum_by-append}
 use Rattle.fst_heads.proofs.Patches.{Place, Kind, Change, is_at, is_on, is_change_at, In}
 use Rattle.fst_heads.proofs.Patches.place
-use Rattle.fst_heads.proofs.Words.{Standing, Node, follows, rested, AllStand, is_ready_on, is_held_on, is_flying_on, standing_of}
+use Rattle.fst_heads.proofs.Words.{Standing, Node, rested, AllStand, is_ready_on, is_held_on, is_flying_on, standing_of}
 
 -- y counts for block b as x does
 pub record CountsAs (b : ℕ) (y x : Node) : Type 0 where
@@ -90,13 +90,9 @@ like_as b y x kind at told = record { ready = rw (kind, at, told) refl; held = r
 pub self_as : (b : ℕ) (x : Node) → CountsAs b x x
 self_as b x = like_as b x x refl refl refl
 
-follows_off : (b : ℕ) (k : Kind) → follows k ≡ true → is_on b k ≡ false
-follows_off b (Change block at len grade) e = absurd (false≢true e)
-follows_off b k e = refl
-
 -- an empty patch or a sealed gate that goes to disk counts for no block
 pub rested_as : (b : ℕ) (x : Node) → CountsAs b (rested x) x
-rested_as b x = grind (arith, cases_Bool, follows_off, and_parts, off_as, self_as)
+rested_as b x = grind (arith, cases_Bool, and_parts, off_as, self_as)
 
 -- a change is of one block
 pub on_one : (b c : ℕ) (k : Kind) → c ≢ b → is_on b k ≡ true → is_on c k ≡ false

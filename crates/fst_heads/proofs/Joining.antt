@@ -1,5 +1,5 @@
 -- What is pending of two patches together, and how one patch more or less changes the sums.
-use Rattle.fst_heads.proofs.Basics.{◌≡◌, ◌≢◌, ◌⊎◌, ℕ, ◌+◌, ◌*◌, ◌≤◌, refl, sym, ap, inl, inr, arith, cases_eq, eq-eqb, ne_eqb, mul-add, mul-le-mul, rules, ◌-◌, cases_lt, add-mul, mul_comm, mul_left_comm}
+use Rattle.fst_heads.proofs.Basics.{◌≡◌, ◌⊎◌, ℕ, ◌+◌, ◌*◌, ◌≤◌, refl, sym, ap, inl, inr, arith, cases_eq, eq-eqb, mul-add, mul-le-mul, rules, ◌-◌, cases_lt, add-mul, mul_comm, mul_left_comm}
 use Rattle.fst_heads.proofs.Patches.{Place, Kind, Change, OpenGate}
 use Rattle.fst_heads.proofs.Words.{Pending, Sums, join, of_kind, Sinks, Fits, plus, minus, together, nothing, max_block}
 use Rattle.std.proofs.Math.Nat.{one-le-mul}
@@ -57,15 +57,12 @@ Within b p = (p ≡ pending.Nothing) ⊎ (p ≡ pending.Block b)
 pub join_same : (b c : ℕ) → c ≡ b → join (pending.Block b) (pending.Block c) ≡ pending.Block b
 join_same b c e = rw (eq-eqb c b e) refl
 
-pub join_differs : (b c : ℕ) → c ≢ b → join (pending.Block b) (pending.Block c) ≡ pending.Apart
-join_differs b c ne = rw (ne_eqb c b ne) refl
-
 pub join_right : (p : Pending) → join p pending.Nothing ≡ p
 join_right pending.Nothing = refl
 join_right p = refl
 
 join_blocks_turned : (b c : ℕ) → join (pending.Block b) (pending.Block c) ≡ join (pending.Block c) (pending.Block b)
-join_blocks_turned b c = grind (arith, cases_eq, join_same, join_differs)
+join_blocks_turned b c = grind (arith, cases_eq, join_same)
 
 pub join_turned : (p q : Pending) → join p q ≡ join q p
 join_turned pending.Nothing q = sym (join_right q)
@@ -77,7 +74,7 @@ join_turned p q = refl
 -- two together wait for an open gate exactly where one of them does
 pub join_held : (p q : Pending) → join p q ≡ pending.Held → (p ≡ pending.Held) ⊎ (q ≡ pending.Held)
 join_held pending.Nothing q e = inr e
-join_held (pending.Block b) (pending.Block c) e = grind (arith, cases_eq, join_same, join_differs)
+join_held (pending.Block b) (pending.Block c) e = grind (arith, cases_eq, join_same)
 join_held (pending.Block b) pending.Held e = inr refl
 join_held pending.Apart pending.Held e = inr refl
 join_held pending.Held q e = inl refl
@@ -88,7 +85,7 @@ held_join p q e = rw (e, join_turned p pending.Held) refl
 
 pub join_nothing : (p q : Pending) → join p q ≡ pending.Nothing → (p ≡ pending.Nothing) × (q ≡ pending.Nothing)
 join_nothing pending.Nothing q e = (refl, e)
-join_nothing (pending.Block b) (pending.Block c) e = grind (arith, cases_eq, join_same, join_differs)
+join_nothing (pending.Block b) (pending.Block c) e = grind (arith, cases_eq, join_same)
 join_nothing pending.Apart pending.Nothing e = absurd (cc)
 join_nothing p q e = absurd (cc)
 
@@ -96,7 +93,7 @@ join_nothing p q e = absurd (cc)
 pub join_block : (p q : Pending) (b : ℕ) → join p q ≡ pending.Block b → Within b p × Within b q
 join_block pending.Nothing q b e = (inl refl, inr e)
 join_block (pending.Block x) pending.Nothing b e = (inr e, inl refl)
-join_block (pending.Block x) (pending.Block y) b e = grind (arith, cases_eq, join_same, join_differs)
+join_block (pending.Block x) (pending.Block y) b e = grind (arith, cases_eq, join_same)
 join_block pending.Apart pending.Nothing b e = absurd (cc)
 join_block p q b e = absurd (cc)
 
@@ -121,7 +118,7 @@ sinks_to_nothing p = inr (omega arith)
 -- one of two sinks, or stays, or both do
 sinks_first : (p q : Pending) → Sinks (join p q) q
 sinks_first (pending.Block b) pending.Nothing = inr (omega arith)
-sinks_first (pending.Block b) (pending.Block c) = grind (arith, cases_eq, join_same, join_differs)
+sinks_first (pending.Block b) (pending.Block c) = grind (arith, cases_eq, join_same)
 sinks_first pending.Apart pending.Nothing = inr (omega arith)
 sinks_first pending.Apart (pending.Block c) = inr (omega arith)
 sinks_first pending.Held q = held_sinks q
@@ -129,7 +126,7 @@ sinks_first p q = inl refl
 
 apart_sinks : (c : ℕ) (q : Pending) → Sinks (join pending.Apart q) (join (pending.Block c) q)
 apart_sinks c pending.Nothing = inr (omega arith)
-apart_sinks c (pending.Block d) = grind (arith, cases_eq, join_same, join_differs)
+apart_sinks c (pending.Block d) = grind (arith, cases_eq, join_same)
 apart_sinks c q = inl refl
 
 join_left : (p o q : Pending) → Sinks p o → Sinks (join p q) (join o q)
@@ -241,12 +238,8 @@ off_plus (pending.Block b) s c q off h e =
 off_plus pending.Apart s c q off h e = absurd (omega (arith, e))
 off_plus pending.Held s c q off h e = absurd (omega (arith, h))
 
-held_grows : (p : Pending) (s : Sums) → s.held ≤ (plus p s).held
-held_grows pending.Nothing s = omega arith
-held_grows p s = omega arith
-
 held_plus : (p : Pending) (s : Sums) (q : Pending) → (q ≡ pending.Held → 1 ≤ s.held) → join p q ≡ pending.Held → 1 ≤ (plus p s).held
-held_plus p s q held e = grind (arith, join_held, held_grows)
+held_plus p s q held e = grind (arith, join_held)
 
 free_plus : (p : Pending) (s : Sums) (q : Pending) → ((q ≡ pending.Held → ⊥) → s.held ≡ 0) → (join p q ≡ pending.Held → ⊥) → (plus p s).held ≡ 0
 free_plus pending.Nothing s q free out = free out

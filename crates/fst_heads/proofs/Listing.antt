@@ -1,6 +1,6 @@
 -- The walk along the list of a block that lands what is in flight.
 use Rattle.fst_heads.proofs.Basics.{◌≡◌, ◌≢◌, ◌==◌, ◌&&◌, ℕ, zero, suc, ◌<◌, ◌≤◌, Bool, true, false, not, cond, List, [], ◌∷◌, ◌++◌, length, map, set, get_or, Contains, Some, refl, sym, ap, ◌∙◌, inl, inr, arith, list_any, and-false, cases_Bool, eq-eqb, ne_eqb, set-get_or, or_parts, rules, append_assoc, append-nil}
-use Rattle.fst_heads.proofs.Basics.{length-append, get_or-map, ◌+◌, filter, subst, get_or-set_same, get_or-set_other, length-set, AllPairs, IsStrictlyIncreasing, AllPairs-filter, and_parts, cases_eq, eqb-true, false≢true, length-map}
+use Rattle.fst_heads.proofs.Basics.{length-append, get_or-map, ◌+◌, filter, subst, get_or-set_same, get_or-set_other, length-set, AllPairs, IsStrictlyIncreasing, AllPairs-filter, and_parts, cases_eq, false≢true, length-map}
 use Rattle.fst_heads.proofs.Patches.{Place, Kind, Change, Patch, Rising, block_of_kind, is_at, is_on, is_change_at, landed, In, In-from_Contains, Contains-from_In, is_among, is_live, In-map, same_number, filter_in, in_filter, among_in, in_among}
 use Rattle.fst_heads.proofs.Words.{Head, lands, IsRising, patch_of, patches_of, Entry, is_live_on, entries_on, flying_on, AreListed, HasSlot, HasNone, Node, node_of, nodes_of, patches_in, at_number, Listed, entry, entries_of}
 use Rattle.fst_heads.proofs.Slots.{any_default, rising_map}
@@ -273,10 +273,6 @@ and_on : (a t : Bool) → t ≡ true → (a && t) ≡ a
 and_on true t e = e
 and_on false t e = refl
 
-on_other : {b : ℕ} (k : Kind) (c : ℕ) → c ≢ b → is_on b k ≡ true → is_on c k ≡ false
-on_other {b} (Change block at len grade) c ne e = ne_eqb block c (λ same. ne (sym same ∙ eqb-true block b e))
-on_other k c ne e = refl
-
 abbrev IsBelow : Patch → Patch → Type 0
 IsBelow p q = p.number < q.number
 
@@ -305,13 +301,9 @@ module _ (b : ℕ) where
   entries_kept stays [] says = refl
   entries_kept stays (p ∷ ps) says = grind (arith, entries_cons, cases_Bool, and_on, and_parts, landed_kind, landed_entry, landed_still, entries_kept stays ps (λ q i. says q (inr i)))
 
-  -- the lists of the other blocks stay
-  other_test : (c : ℕ) (p : Patch) → c ≢ b → is_live_on c (landed b p) ≡ is_live_on c p
-  other_test c p ne = grind (arith, cases_Bool, on_other, and_parts, and-false)
-
   entries_other : (c : ℕ) (ps : List Patch) → c ≢ b → entries_on c (map (landed b) ps) ≡ entries_on c ps
   entries_other c [] ne = refl
-  entries_other c (p ∷ ps) ne = grind (arith, other_test, landed_entry, entries_cons, entries_other c ps ne)
+  entries_other c (p ∷ ps) ne = grind (arith, landed_entry, entries_cons, entries_other c ps ne)
 
   module _ (ps : List Patch) (rising : Rising ps) where
     -- the numbers of those that flew are in order

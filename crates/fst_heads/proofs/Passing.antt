@@ -1,6 +1,6 @@
 -- The walk along the list of a block for those of its patches that pass a test.
 use Rattle.fst_heads.proofs.Basics.{◌≡◌, ◌==◌, ◌&&◌, ◌||◌, ℕ, ◌<◌, ◌+◌, Bool, true, false, not, List, [], ◌∷◌, map, filter, drop, length, get_or, refl, sym, ap, ◌∙◌, inr, list_any, cases_Bool, false≢true, drop_more, and_parts, arith}
-use Rattle.fst_heads.proofs.Patches.{In, Contains-from_In, Place, is_at, is_on, is_change_at}
+use Rattle.fst_heads.proofs.Patches.{In, Contains-from_In, Place, is_at, is_change_at}
 use Rattle.fst_heads.proofs.Patches.place
 use Rattle.fst_heads.proofs.Words.{is_free_on, is_bound_on, Head, Listed, IsRising, kind_of, patch_of, patches_of, entries_of, entries_on, is_live_on, HasSlot, HasNone, Node, node_of, nodes_of, is_pending, is_ready_on, is_hard_kind}
 use Rattle.fst_heads.proofs.Words.pending
@@ -18,10 +18,6 @@ passing t heads list = filter (passes_at t (nodes_of heads)) (map (λ e. e.numbe
 pub memory_live : (p : Place) (t : Bool) → (is_at p place.Memory && t) ≡ true → (not (is_at p place.Disk) && t) ≡ true
 memory_live place.Memory t e = e
 memory_live p t e = absurd (false≢true e)
-
--- a change of the block in memory is in its list
-pub listed_memory : (b : ℕ) (x : Node) → is_change_at place.Memory b x.patch ≡ true → is_live_on b x.patch ≡ true
-listed_memory b x e = memory_live x.patch.place (is_on b x.patch.kind) e
 
 module _ (b : ℕ) (t : Node → Bool) (inside : (x : Node) → t x ≡ true → is_live_on b x.patch ≡ true) where
   passing_each : (f : ℕ → Bool) (heads : List Head) → ((h : Head) → In heads h → f h.number ≡ t (node_of h)) → filter f (numbers_on b heads) ≡ map (λ x. x.patch.number) (filter t (nodes_of heads))
@@ -60,10 +56,10 @@ module _ (t : Node → Bool) (heads : List Head) (list : List Listed) (i : ℕ) 
   passing_skip s d rising slot e = passing_no (any_slot heads n s t d rising slot ∙ e)
 
 pub free_listed : (behind : ℕ → Bool) (b : ℕ) (x : Node) → is_free_on behind b x ≡ true → is_live_on b x.patch ≡ true
-free_listed behind b x e = grind (arith, and_parts, listed_memory)
+free_listed behind b x e = grind (arith, and_parts)
 
 pub bound_listed : (behind : ℕ → Bool) (b : ℕ) (x : Node) → is_bound_on behind b x ≡ true → is_live_on b x.patch ≡ true
-bound_listed behind b x e = grind (arith, and_parts, listed_memory)
+bound_listed behind b x e = grind (arith, and_parts)
 
 -- the test of the code says whether the node of the head passes
 module _ (behind : ℕ → Bool) (b : ℕ) (h d : Head) (n : ℕ) (back r : Bool) (at : h ≡ d) (number : d.number ≡ n) (told : back ≡ behind n) where

@@ -1,6 +1,6 @@
 -- What stands beside the patches where some are launched or forgotten.
-use Rattle.fst_heads.proofs.Basics.{◌≡◌, ◌≢◌, ℕ, Bool, true, false, cond, List, [], ◌∷◌, map, filter, AllPairs, Contains, refl, sym, ap, subst, ◌∙◌, inl, inr, cases_Bool, rules, ◌&&◌, not, and_right, arith, ◌==◌, ◌||◌, ◌++◌, if◌then◌else◌, get_or, set, cases_eq, eq-eqb, ne_eqb}
-use Rattle.fst_heads.proofs.Patches.{Patch, IsLiveNumber, HasOnePlaceEach, is_live, is_on, is_among, launched, same_number, In, In-from_Contains, Contains-from_In, In-unmap, among_in, Place, Kind, Empty, SealedGate, Follows, unsettled, is_at, Settled, AllSettled, more, all_settled, In-map}
+use Rattle.fst_heads.proofs.Basics.{◌≡◌, ◌≢◌, ℕ, Bool, true, false, cond, List, [], ◌∷◌, map, filter, AllPairs, Contains, refl, sym, ap, subst, ◌∙◌, inl, inr, cases_Bool, rules, arith, ◌==◌, ◌||◌, ◌++◌, if◌then◌else◌, get_or, set, cases_eq, eq-eqb, ne_eqb}
+use Rattle.fst_heads.proofs.Patches.{Patch, IsLiveNumber, HasOnePlaceEach, is_live, is_among, launched, same_number, In, In-from_Contains, Contains-from_In, In-unmap, among_in, unsettled, Settled, AllSettled, more, all_settled, In-map}
 use Rattle.fst_heads.proofs.Words.{launches, entry, entries_on, is_live_on, Node, patches_in, times, AreLinked, AreGiven, AreDistinct, IsSpreadOf, unspread, Head, IsRising, HasSlot, HasNone, node_of, nodes_of, at_number}
 use Rattle.fst_heads.proofs.Forgetting.{live_place_of}
 use Rattle.fst_heads.proofs.AtNumber.{at_none, at_slot, at_same, at_other}
@@ -135,15 +135,6 @@ unsettled_spread old new spread = sym (go new) ∙ (ap (map (λ (x : Node). x.pa
     go [] = refl
     go (x ∷ xs) = let rest = go xs in cc
 
--- an empty patch or a sealed gate stands in no list, and what is none keeps its place
-live_settled : (b : ℕ) (k : Kind) (a c : Place) → ((Follows k → ⊥) → c ≡ a) → (not (is_at c place.Disk) && is_on b k) ≡ (not (is_at a place.Disk) && is_on b k)
-live_settled b Empty a c same = and_right (not (is_at c place.Disk)) false refl ∙ sym (and_right (not (is_at a place.Disk)) false refl)
-live_settled b SealedGate a c same = and_right (not (is_at c place.Disk)) false refl ∙ sym (and_right (not (is_at a place.Disk)) false refl)
-live_settled b k a c same = rw (same (λ f. f)) refl
-
-entry_same : (o p : Patch) → p.number ≡ o.number → p.kind ≡ o.kind → entry p ≡ entry o
-entry_same o p number kind = rw (number, kind) refl
-
 -- the entry of a new patch of block b is that of the old
 pub record SameEntry (b : ℕ) (o p : Patch) : Type 0 where
   pub live : is_live_on b p ≡ is_live_on b o
@@ -153,7 +144,7 @@ pub entries_more : (b : ℕ) (o p : Patch) (os ps : List Patch) → SameEntry b 
 entries_more b o p os ps l rest = grind (arith, cases_Bool)
 
 entry_settled : (b : ℕ) (o p : Patch) → Settled o p → SameEntry b o p
-entry_settled b o p s = search (rules, live_settled, entry_same)
+entry_settled b o p s = search rules
 
 pub entries_settled : (b : ℕ) (old new : List Patch) → AllSettled old new → entries_on b new ≡ entries_on b old
 entries_settled b [] [] a = refl

@@ -1,11 +1,11 @@
 -- What becomes of the counts of each block where what is pending of one patch is settled.
-use Rattle.fst_heads.proofs.Basics.{◌≡◌, ◌≢◌, ℕ, ◌+◌, ◌<◌, ◌≤◌, ◌==◌, ◌&&◌, Bool, true, false, cond, List, length, count_by, set, get_or, refl, sym, ap, subst, ◌∙◌, inl, inr, arith, length-set, cases_Bool, cases_eq, eq-eqb, ne_eqb, false≢true, length-map, get_or-map, and-true, rules, map-set, common_steps}
+use Rattle.fst_heads.proofs.Basics.{◌≡◌, ◌≢◌, ℕ, ◌+◌, ◌<◌, ◌&&◌, Bool, true, false, cond, List, length, count_by, set, get_or, refl, sym, ap, subst, ◌∙◌, arith, length-set, cases_eq, eq-eqb, ne_eqb, false≢true, length-map, get_or-map, rules, map-set, common_steps}
 use Rattle.fst_heads.proofs.Basics.{sum_by-set, get_or-le-sum_by, count_by-le-length}
 use Rattle.fst_heads.proofs.Patches.{Grade, Change, is_at, is_on, is_change_at}
 use Rattle.fst_heads.proofs.Patches.place
-use Rattle.fst_heads.proofs.Words.{Head, kind_of, patch_of, Pending, Standing, Node, node_of, nodes_of, is_pending, over_block, height, Sinks, now, is_told, settles, AllStand, is_ready_on, is_held_on, is_flying_on, standing_of, released, is_hard_kind}
+use Rattle.fst_heads.proofs.Words.{Head, kind_of, patch_of, Standing, Node, node_of, nodes_of, is_pending, Sinks, now, is_told, settles, AllStand, is_ready_on, is_held_on, is_flying_on, standing_of, released, is_hard_kind}
 use Rattle.fst_heads.proofs.Words.pending
-use Rattle.fst_heads.proofs.CountsAs.{CountsAs, counts, standing_same, stand_set, off_as}
+use Rattle.fst_heads.proofs.CountsAs.{CountsAs, standing_same, stand_set, off_as}
 use Rattle.fst_heads.proofs.Turning.{is_itself}
 use Rattle.fst_heads.proofs.Beside.{one_if}
 
@@ -13,20 +13,10 @@ use Rattle.fst_heads.proofs.Beside.{one_if}
 pub node_at : (heads : List Head) (s : ℕ) (h : Head) (d : Node) → s < length heads → h ≡ get_or heads s h → get_or (nodes_of heads) s d ≡ node_of h
 node_at heads s h d lt e = get_or-map node_of heads s h d lt ∙ ap node_of (sym e)
 
--- of a change that is not on disk something is pending
-over_high : (b : ℕ) (below : Pending) → 1 ≤ height (over_block b below)
-over_high b (pending.Block c) = elim (cases_Bool (c == b)) [ inl e ↦ rw e (omega arith) | inr e ↦ rw e (omega arith) ]
-over_high b below = omega arith
-
-high_apart : (p : Pending) (b : ℕ) → 2 ≤ height p → is_pending p (pending.Block b) ≡ false
-high_apart pending.Apart b le = refl
-high_apart pending.Held b le = refl
-high_apart p b le = absurd (omega (arith, le))
-
 -- where the dependants of a change in memory know other than is pending of it, it waited for more than its block
 pub waited_for_more : (x : Node) (b at len : ℕ) (grade : Grade) → x.patch.kind ≡ Change b at len grade → x.patch.place ≡ place.Memory → Sinks x.pending (now x) → is_told x ≡ false
     → is_pending x.pending (pending.Block b) ≡ false
-waited_for_more x b at len grade kind memory sinks untold = grind (arith, high_apart, false≢true, is_itself, over_high)
+waited_for_more x b at len grade kind memory sinks untold = grind (arith, false≢true, is_itself)
 
 module _ (nodes : List Node) (s : ℕ) (x : Node) (lt : s < length nodes) (e : get_or nodes s x ≡ x) where
   -- a count where the node is another
@@ -47,10 +37,6 @@ module _ (nodes : List Node) (s : ℕ) (x : Node) (lt : s < length nodes) (e : g
   pub counted_some : (t : Node → Bool) → t x ≡ true → 0 < count_by t nodes
   counted_some t passes = grind (arith, get_or-le-sum_by, one_if)
 
-  released_as : (hard : Bool) (r h f r' h' f' : ℕ) → r' + 0 ≡ r + 1 → h' + cond hard 1 0 ≡ h + 0 → f' ≡ f → released hard (counts r h f) ≡ counts r' h' f'
-  released_as true r h f r' h' f' a b c = standing_same _ _ _ _ _ _ (omega (arith, a)) (omega (arith, b)) (sym c)
-  released_as false r h f r' h' f' a b c = standing_same _ _ _ _ _ _ (omega (arith, a)) (omega (arith, b)) (sym c)
-
   module _ (b at len : ℕ) (grade : Grade) (kind : x.patch.kind ≡ Change b at len grade) (memory : x.patch.place ≡ place.Memory) (sinks : Sinks x.pending (now x)) (untold : is_told x ≡ false) where
     here : is_change_at place.Memory b x.patch ≡ true
     here = ap (λ q. is_at q place.Memory && is_on b x.patch.kind) memory ∙ (ap (is_on b) kind ∙ eq-eqb b b refl)
@@ -58,9 +44,6 @@ module _ (nodes : List Node) (s : ℕ) (x : Node) (lt : s < length nodes) (e : g
     -- it was held if it is hard, and is ready from then on
     not_ready : is_ready_on b x ≡ false
     not_ready = ap (λ t. t && is_pending x.pending (pending.Block b)) here ∙ waited_for_more x b at len grade kind memory sinks untold
-
-    pub was_held : is_held_on b x ≡ is_hard_kind x.patch.kind
-    was_held = grind (arith, here, waited_for_more, and-true)
 
     off : (c : ℕ) → c ≢ b → is_on c x.patch.kind ≡ false
     off c ne = ap (is_on c) kind ∙ ne_eqb b c (λ same. ne (sym same))
@@ -85,7 +68,7 @@ module _ (nodes : List Node) (s : ℕ) (x : Node) (lt : s < length nodes) (e : g
       stand_released blocks standings d inside S = stand_set (set nodes s (settles x)) nodes blocks b standings _ inside S own (λ c within ne. standing_kept c (settles x) (off_as c (settles x) x (off c ne) (off c ne)))
         where
           own : released (is_hard_kind x.patch.kind) (get_or standings b d) ≡ standing_of (set nodes s (settles x)) b
-          own = grind (arith, common_steps, released_as, count_same)
+          own = grind (arith, common_steps, count_same)
 
 -- what is told of anything else changes no count
 pub settles_kept : (x : Node) (b : ℕ) → is_change_at place.Memory b x.patch ≡ false → CountsAs b (settles x) x
@@ -124,7 +107,7 @@ module _ (heads : List Head) (s : ℕ) (h : Head) (lt : s < length heads) (e : h
     few_ready again = search (rules, ready_few, long, there, counted, length-map)
 
     pub some_held : is_hard_kind (kind_of h.kind) ≡ true → 0 < st.held
-    some_held hard = grind (arith, counted_some, long, there, was_held, counted)
+    some_held hard = grind (arith, counted_some, long, there, counted)
 
     pub stand_freed : is_pending (now (node_of h)) (pending.Block b) ≡ true → (y : Head) → node_of y ≡ settles (node_of h) → (after : Standing) → after ≡ released (is_hard_kind (kind_of h.kind)) st → AllStand (nodes_of (set heads s y)) blocks (set standings b after)
     stand_freed again y same after is =

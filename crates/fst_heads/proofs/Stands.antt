@@ -1,5 +1,5 @@
 -- How the counts of each block follow what becomes of patches.
-use Rattle.fst_heads.proofs.Basics.{◌≡◌, ◌≢◌, ◌&&◌, ◌+◌, ◌<◌, ◌≤◌, ℕ, Bool, true, false, not, cond, List, map, filter, count_by, set, get_or, AllPairs, refl, sym, ap, subst, ◌∙◌, inl, inr, arith, cases_Bool, cases_eq, and_parts, ne_eqb, false≢true, rules, common_steps}
+use Rattle.fst_heads.proofs.Basics.{◌≡◌, ◌≢◌, ◌&&◌, ◌+◌, ◌<◌, ◌≤◌, ℕ, Bool, true, false, cond, List, map, filter, count_by, set, get_or, AllPairs, refl, sym, ap, subst, ◌∙◌, inl, inr, arith, cases_Bool, cases_eq, and_parts, ne_eqb, false≢true, rules, common_steps}
 use Rattle.fst_heads.proofs.Patches.{Grade, Place, HasOnePlaceEach, IsOpenNumber, Kind, Patch, Change, OpenGate, SealedGate, is_among, is_at, is_live, is_on, same_number, filter_in, in_filter, In, Contains-from_In, In-map, In-unmap, among_in, in_among}
 use Rattle.fst_heads.proofs.Patches.place
 use Rattle.fst_heads.proofs.Words.{Pending, Sums, Standing, IsInside, Node, patches_in, at_number, linked_to, gains_names, is_pending, heard, seals, lands, launches, AllStand, is_ready_on, is_held_on, is_flying_on, ready_on, standing_of, entered, is_hard_kind}
@@ -37,13 +37,9 @@ stand_sealed nodes numbers blocks g standings H gate S = stand_map (at_number g 
       | inr ne ↦ rw (at_other g seals x ne) (self_as b x)
     ]
 
--- what flies of b is on it
-flying_on_it : (b : ℕ) (x : Node) → is_flying_on b x ≡ true → is_on b x.patch.kind ≡ true
-flying_on_it b x e = (and_parts (is_at x.patch.place place.Flight) (is_on b x.patch.kind) e).1
-
 -- a landing of b changes no count of another block
 landed_other : (b c : ℕ) (x : Node) → c ≢ b → CountsAs c (lands b x) x
-landed_other b c x ne = grind (arith, cases_Bool, on_one, flying_on_it, off_as, self_as)
+landed_other b c x ne = grind (arith, cases_Bool, on_one, off_as, self_as)
 
 -- a block without changes in it has nothing in flight
 pub stand_landed_outside : (nodes : List Node) (blocks b : ℕ) (standings : List Standing) → IsInside (patches_in nodes) blocks → blocks ≤ b
@@ -77,10 +73,6 @@ stand_landed nodes blocks b standings d lt S = stand_set (map (lands b) nodes) n
         (ap (λ (s : Standing). s.held) at_b ∙ sym (count_map (is_held_on b) (is_held_on b) (lands b) nodes (λ x i. held_stays x)))
         (sym (count_map (is_flying_on b) (λ x. false) (lands b) nodes (λ x i. none_flies x) ∙ count_nothing (λ x. false) nodes (λ x i. refl)))
 
-ready_not_held : (change hard ready : Bool) → ready ≡ true → ((change && hard) && not ready) ≡ false
-ready_not_held true true ready e = rw e refl
-ready_not_held change hard ready e = refl
-
 -- one number, one node
 rising_in : (nodes : List Node) → AllPairs (λ p q. p.number < q.number) (patches_in nodes) → AllPairs (λ x y. x.patch.number < y.patch.number) nodes
 rising_in nodes rising = rising_back (λ (x : Node). x.patch) nodes (λ x. x.patch.number) (λ p. p.number) (λ x. refl) rising
@@ -111,7 +103,7 @@ module _ (nodes : List Node) (rising : AllPairs (λ x y. x.patch.number < y.patc
   none_ready x i = elim (cases_Bool (is_ready_on b x)) [ inl e ↦ ap (is_ready_on b) (goes x i e) | inr e ↦ ap (is_ready_on b) (stays x i e) ∙ e ]
 
   held_as : (x : Node) → In nodes x → is_held_on b (launches (ready_on b nodes) x) ≡ is_held_on b x
-  held_as x i = grind (arith, cases_Bool, and_parts, goes, ready_not_held, stays)
+  held_as x i = grind (arith, cases_Bool, and_parts, goes, stays)
 
   flies_as : (x : Node) → In nodes x → is_flying_on b x ≡ false → is_flying_on b (launches (ready_on b nodes) x) ≡ is_ready_on b x
   flies_as x i none = grind (arith, cases_Bool, and_parts, goes, stays)
@@ -140,13 +132,9 @@ stand_launched nodes numbers blocks b standings d H lt rest S = stand_set (map (
         (ap (λ (s : Standing). s.held) at_b ∙ sym (count_map (is_held_on b) (is_held_on b) (launches (ready_on b nodes)) nodes (λ x i. held_as nodes rising b x i)))
         (ap (λ (s : Standing). s.ready) at_b ∙ sym (count_map (is_flying_on b) (is_ready_on b) (launches (ready_on b nodes)) nodes (λ x i. flies_as nodes rising b x i (resting x i))))
 
-not_live : (p : Place) → not (is_at p place.Disk) ≡ false → p ≡ place.Disk
-not_live place.Disk e = refl
-not_live p e = absurd (false≢true (sym e))
-
 -- what is dropped was on disk, and counts for no block
 pub stand_dropped : (nodes : List Node) (blocks : ℕ) (standings : List Standing) → AllStand nodes blocks standings → AllStand (filter (λ x. is_live x.patch) nodes) blocks standings
-stand_dropped nodes blocks standings S = search (rules, standing_same, count_kept, not_live)
+stand_dropped nodes blocks standings S = search (rules, standing_same, count_kept)
 
 -- a link keeps what a node counts as
 linked_as : (row : List ℕ) (n b : ℕ) (x : Node) → CountsAs b (linked_to row n x) x
@@ -170,13 +158,6 @@ made_off nodes p b off = grind (arith, common_steps, standing_made, standing_sam
 pub stand_made : (nodes : List Node) (blocks : ℕ) (standings : List Standing) (p : Patch) → ((b : ℕ) → is_on b p.kind ≡ false) → AllStand nodes blocks standings → AllStand (with_node nodes p) blocks standings
 stand_made nodes blocks standings p off S = record { long = S.long; each = λ b d lt. S.each b d lt ∙ sym (made_off nodes p b (off b)) }
 
--- a new change counts as ready, or as held if it is hard
-entered_as : (hard ready : Bool) (r h f : ℕ) → entered hard ready (counts r h f) ≡ counts (r + cond ready 1 0) (h + cond (hard && not ready) 1 0) (f + 0)
-entered_as true true r h f = standing_same _ _ _ _ _ _ refl (omega arith) (omega arith)
-entered_as false true r h f = standing_same _ _ _ _ _ _ refl (omega arith) (omega arith)
-entered_as true false r h f = standing_same _ _ _ _ _ _ (omega arith) refl (omega arith)
-entered_as false false r h f = standing_same _ _ _ _ _ _ (omega arith) (omega arith) (omega arith)
-
 off_block : (b c : ℕ) (k : Kind) (at len : ℕ) (grade : Grade) → k ≡ Change b at len grade → c ≢ b → is_on c k ≡ false
 off_block b c k at len grade kind ne = ap (is_on c) kind ∙ ne_eqb b c (λ e. ne (sym e))
 
@@ -188,7 +169,7 @@ stand_change nodes blocks standings p b at len grade d kind memory lt S =
     stand_set (with_node nodes p) nodes blocks b standings _ lt S own (λ c inside ne. made_off nodes p c (off_block b c p.kind at len grade kind ne))
   where
     own : entered (is_hard_kind p.kind) (is_pending (new_node nodes p).pending (pending.Block b)) (get_or standings b d) ≡ standing_of (with_node nodes p) b
-    own = grind (arith, common_steps, entered_as, standing_made, standing_same)
+    own = grind (arith, common_steps, standing_made, standing_same)
 
 gained_as : (g b : ℕ) (names : List ℕ) (sums : Sums) (x : Node) → CountsAs b (at_number g (gains_names names sums) x) x
 gained_as g b names sums x = grind (arith, cases_eq, at_same, like_as, at_other, self_as)

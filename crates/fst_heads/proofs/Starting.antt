@@ -126,17 +126,11 @@ pub record SameBut (x y : Node) : Type 0 where
   pub sums : y.sums ≡ x.sums
   pub pending : y.pending ≡ x.pending
 
-same_but : (x : Node) → SameBut x x
-same_but x = record { links = record { number = refl; dependencies = refl; dependants = refl }; sums = refl; pending = refl }
-
 seals_same : (x : Node) → SameBut x (seals x)
 seals_same x = grind (arith, sealed_cases)
 
 pub seal_same : (g : ℕ) (x : Node) → SameBut x (at_number g seals x)
-seal_same g x = grind (arith, cases_eq, at_same, seals_same, at_other, same_but)
-
-and_both : (a b : Bool) → a ≡ true → b ≡ false → (a && not b) ≡ true
-and_both a b e f = rw (e, f) refl
+seal_same g x = grind (arith, cases_eq, at_same, seals_same, at_other)
 
 module _ (nodes : List Node) (numbers blocks g : ℕ) (H : SparseAreLawful (patches_in nodes) numbers) (inside : IsInside (patches_in nodes) blocks) (S : AreSettled nodes blocks) (gate : IsOpenNumber (patches_in nodes) g) where
   -- the node with the number is an open gate in memory, and is sealed; the others stay
@@ -174,7 +168,7 @@ module _ (nodes : List Node) (numbers blocks g : ℕ) (H : SparseAreLawful (patc
             let r = any_found t nodes e in
             let both = and_parts (r.0.patch.number == g) (not (is_told (seals r.0))) r.2 in
             inl (r.0, Contains-from_In nodes r.0 r.1, eqb-true r.0.patch.number g both.0, not-true (is_told (seals r.0)) both.1, ap (λ b. cond b (g ∷ []) []) e)
-        | inr e ↦ grind (arith, common_steps, found, any_fails, and_both, eq-eqb, both_ways)
+        | inr e ↦ grind (arith, common_steps, found, any_fails, eq-eqb, both_ways)
       ]
 
   seal_begins : Begins nodes blocks (at_number g seals) (wakes_sealed g nodes)

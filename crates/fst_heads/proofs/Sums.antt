@@ -1,5 +1,5 @@
 -- What a row adds up to, and what is pending of it.
-use Rattle.fst_heads.proofs.Basics.{◌≡◌, ◌≢◌, ◌⊎◌, ◌≤◌, ◌==◌, ℕ, suc, ◌+◌, ◌*◌, ◌/◌, true, false, not, cond, List, [], ◌∷◌, ◌++◌, length, count_by, Contains, AllPairs, refl, sym, ap, subst, ◌∙◌, inl, inr, arith, and_from, and_parts, eqb-true, eq-eqb, ne_eqb, false_from_ne_true, sum_by-cons, mul-div_cancel}
+use Rattle.fst_heads.proofs.Basics.{◌≡◌, ◌≢◌, ◌⊎◌, ◌≤◌, ◌==◌, ℕ, suc, ◌+◌, ◌*◌, ◌/◌, true, not, cond, List, [], ◌∷◌, ◌++◌, length, count_by, Contains, AllPairs, refl, sym, ap, subst, ◌∙◌, inl, inr, arith, and_from, and_parts, eqb-true, eq-eqb, ne_eqb, false_from_ne_true, sum_by-cons, mul-div_cancel}
 use Rattle.fst_heads.proofs.Patches.{In, In-from_Contains, Contains-from_In}
 use Rattle.fst_heads.proofs.Words.{Pending, Sums, join, joined, joined_sums, is_even, is_pending, Sinks, Fits, HasIn, plus, minus, sums_of, together, max_block}
 use Rattle.fst_heads.proofs.Words.pending
@@ -12,12 +12,6 @@ tells told (n ∷ ns) = tells_plus (told n) (sums_of told ns) (joined told ns) (
 
 joined_even : (s : Sums) → s.count ≢ 0 → s.held ≡ 0 → is_even s ≡ true → joined_sums s ≡ pending.Block (s.total / s.count)
 joined_even s ne free e = rw (ne_eqb s.count 0 ne, eq-eqb s.held 0 free, e) refl
-
-joined_uneven : (s : Sums) → s.count ≢ 0 → s.held ≡ 0 → is_even s ≡ false → joined_sums s ≡ pending.Apart
-joined_uneven s ne free e = rw (ne_eqb s.count 0 ne, eq-eqb s.held 0 free, e) refl
-
-joined_held : (s : Sums) → s.count ≢ 0 → s.held ≢ 0 → joined_sums s ≡ pending.Held
-joined_held s ne some = rw (ne_eqb s.count 0 ne, ne_eqb s.held 0 some) refl
 
 -- the mean of patches of one block is that block
 mean_block : (s : Sums) (b : ℕ) → s.count ≢ 0 → Even s b → s.total / s.count ≡ b
@@ -41,8 +35,8 @@ exact s (pending.Block b) told =
     let some : s.count ≢ 0 = λ e. let n = told.none e in cc in
     let even = told.even b (inr refl) in
     joined_even s some even.none_held (even_test s b some even) ∙ ap (λ n. pending.Block n) (mean_block s b some even)
-exact s pending.Apart told = grind (arith, joined_uneven, false_from_ne_true, uneven_test)
-exact s pending.Held told = grind (arith, joined_held)
+exact s pending.Apart told = grind (arith, false_from_ne_true, uneven_test)
+exact s pending.Held told = grind arith
 
 -- the sums tell exactly what is pending of the row
 pub joined_exact : (told : ℕ → Pending) (row : List ℕ) → joined_sums (sums_of told row) ≡ joined told row

@@ -1,6 +1,6 @@
 -- What a node keeps, and what it gets, where it is told what is pending of another.
-use Rattle.fst_heads.proofs.Basics.{◌≡◌, ◌≢◌, ◌⊎◌, ◌↔◌, ◌<◌, ◌==◌, ◌&&◌, ℕ, Bool, true, false, cond, List, refl, sym, ap, subst, ◌∙◌, inl, inr, arith, cases_Bool, cases_eq, and_parts, and_from, eqb-true, eq-eqb, false≢true, both_ways, false_from_ne_true, rules, common_steps}
-use Rattle.fst_heads.proofs.Patches.{Place, Kind, Change, Empty, OpenGate, SealedGate, Patch, Follows, placed_as, is_among, In, In_decided, among_in, in_among}
+use Rattle.fst_heads.proofs.Basics.{◌≡◌, ◌≢◌, ◌⊎◌, ◌↔◌, ◌<◌, ◌==◌, ◌&&◌, ℕ, Bool, true, false, cond, List, refl, sym, ap, subst, ◌∙◌, inl, inr, arith, cases_Bool, cases_eq, and_parts, eqb-true, eq-eqb, false≢true, both_ways, false_from_ne_true, rules}
+use Rattle.fst_heads.proofs.Patches.{Place, Kind, Change, Empty, OpenGate, SealedGate, Follows, In, In_decided, among_in, in_among}
 use Rattle.fst_heads.proofs.Patches.place
 use Rattle.fst_heads.proofs.Words.{Pending, Sums, join, joined_sums, is_pending, of_kind, Sinks, height, plus, minus, Node, at_number, now, is_told, follows, rested, hears, heard, settles, unspread}
 use Rattle.fst_heads.proofs.Words.pending
@@ -50,11 +50,6 @@ follows_is Empty e = tt
 follows_is SealedGate e = tt
 follows_is k e = absurd (false≢true e)
 
-pub is_follows : (k : Kind) → Follows k → follows k ≡ true
-is_follows Empty f = refl
-is_follows SealedGate f = refl
-is_follows k f = absurd f
-
 some_pending : (t : Bool) (b : ℕ) → cond t (pending.Block b) pending.Apart ≡ pending.Nothing → ⊥
 some_pending true b e = cc
 some_pending false b e = cc
@@ -77,19 +72,6 @@ nothing_counted s e = grind (arith, cases_Bool, eqb-true, some_left)
 pub counted_nothing : (s : Sums) → s.count ≡ 0 → joined_sums s ≡ pending.Nothing
 counted_nothing s e = rw (eq-eqb s.count 0 e) refl
 
--- an empty patch and a sealed gate have what is below them
-follower_of : (k : Kind) (p : Place) (below : Pending) → Follows k → of_kind k p below ≡ below
-follower_of Empty p below f = refl
-follower_of SealedGate p below f = refl
-follower_of k p below f = absurd f
-
-nothing_rests : (k : Kind) (p : Place) (s : Sums) → of_kind k p (joined_sums s) ≡ pending.Nothing → (p ≡ place.Disk) ⊎ (Follows k × (s.count ≡ 0))
-nothing_rests (Change block at len grade) place.Disk s e = inl refl
-nothing_rests Empty p s e = inr (tt, nothing_counted s e)
-nothing_rests OpenGate p s e = cc
-nothing_rests SealedGate p s e = inr (tt, nothing_counted s e)
-nothing_rests (Change block at len grade) p s e = absurd (join_live block (joined_sums s) e)
-
 -- one block is pending of a change of it, or of what is below an empty patch or a sealed gate
 pub block_of : (k : Kind) (p : Place) (below : Pending) (b : ℕ) → of_kind k p below ≡ pending.Block b
     → ((at len : ℕ) × (grade : _) × (k ≡ Change b at len grade)) ⊎ (below ≡ pending.Block b)
@@ -106,11 +88,6 @@ pub record Stays (x y : Node) : Type 0 where
   pub dependencies : y.patch.dependencies ≡ x.patch.dependencies
   pub spread : unspread y ≡ unspread x
 
-disk_unsettled : (k : Kind) (p : Patch) → Follows k → placed_as k (record p { place = place.Disk }) ≡ placed_as k p
-disk_unsettled Empty p f = refl
-disk_unsettled SealedGate p f = refl
-disk_unsettled _ p f = absurd f
-
 abbrev rest_if : Bool → Node → Node
 rest_if t x = cond t (record x { patch = record x.patch { place = place.Disk } }) x
 
@@ -123,7 +100,7 @@ pub record Rests (x y : Node) : Type 0 where
   pub places : (y.patch.place ≡ x.patch.place) ⊎ (y.patch.place ≡ place.Disk)
 
 rests_if : (t : Bool) (x : Node) → (t ≡ true → Follows x.patch.kind) → Rests x (rest_if t x)
-rests_if true x f = search (rules, disk_unsettled, follower_of)
+rests_if true x f = search rules
 rests_if false x f = search rules
 
 abbrev goes : Node → Bool
@@ -134,22 +111,6 @@ goes_parts x e = let k = and_parts (follows x.patch.kind) (x.sums.count == 0) e 
 
 pub rests : (x : Node) → Rests x (rested x)
 rests x = rests_if (goes x) x (λ e. (goes_parts x e).0)
-
-disk_if : (t : Bool) (x : Node) → x.patch.place ≡ place.Disk → (rest_if t x).patch.place ≡ place.Disk
-disk_if true x e = refl
-disk_if false x e = e
-
-went_if : (t : Bool) (x : Node) → t ≡ true → (rest_if t x).patch.place ≡ place.Disk
-went_if true x e = refl
-went_if false x e = absurd (false≢true e)
-
-stayed_if : (t : Bool) (x : Node) → t ≡ false → (rest_if t x).patch.place ≡ x.patch.place
-stayed_if true x e = absurd (false≢true (sym e))
-stayed_if false x e = refl
-
--- nothing is pending of it exactly where it is on disk
-pub rested_placed : (x : Node) → (x.patch.place ≡ place.Disk → now x ≡ pending.Nothing) → (now (rested x) ≡ pending.Nothing) ↔ ((rested x).patch.place ≡ place.Disk)
-rested_placed x disk = grind (arith, common_steps, nothing_rests, rests, disk_if, went_if, and_from, is_follows, eq-eqb, cases_Bool, goes_parts, follower_of, counted_nothing, stayed_if)
 
 -- what becomes of a node where old of a patch with this row of dependants becomes new
 pub record Hears (row : List ℕ) (old new : Pending) (x y : Node) : Type 0 where
@@ -162,16 +123,13 @@ pub record Hears (row : List ℕ) (old new : Pending) (x y : Node) : Type 0 wher
   pub placed : In row x.patch.number → (x.patch.place ≡ place.Disk → now y ≡ pending.Nothing) → (now y ≡ pending.Nothing) ↔ (y.patch.place ≡ place.Disk)
 
 module _ (row : List ℕ) (old new : Pending) (x : Node) where
-  pub not_heard : (In row x.patch.number → ⊥) → heard row old new x ≡ x
-  not_heard out = let e = false_from_ne_true (is_among row x.patch.number) (λ t. out (among_in row x.patch.number t)) in rw e refl
-
   pub is_heard : In row x.patch.number → heard row old new x ≡ hears old new x
   is_heard h = let e = in_among row x.patch.number h in rw e refl
 
   pub hears_heard : Hears row old new x (heard row old new x)
   hears_heard = elim (In_decided row x.patch.number) [
-    | inl h ↦ grind (arith, rests, is_heard, rested_placed)
-    | inr out ↦ grind (arith, not_heard)
+    | inl h ↦ grind (arith, rests, is_heard)
+    | inr out ↦ grind (arith, false_from_ne_true, among_in)
   ]
 
 -- what becomes of a node where new is told of the patch with number q and row of dependants
