@@ -50,14 +50,6 @@ follows_is Empty e = tt
 follows_is SealedGate e = tt
 follows_is k e = absurd (false≢true e)
 
-some_pending : (t : Bool) (b : ℕ) → cond t (pending.Block b) pending.Apart ≡ pending.Nothing → ⊥
-some_pending true b e = cc
-some_pending false b e = cc
-
-join_live : (b : ℕ) (p : Pending) → join (pending.Block b) p ≡ pending.Nothing → ⊥
-join_live b (pending.Block c) e = some_pending (c == b) b e
-join_live b p e = cc
-
 join_one : (b c : ℕ) (p : Pending) → join (pending.Block b) p ≡ pending.Block c → b ≡ c
 join_one b c (pending.Block d) e = grind arith
 join_one b c p e = cc
