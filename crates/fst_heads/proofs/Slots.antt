@@ -25,8 +25,7 @@ module _ {X Y : Type 0} (f : X → Y) (xs : List X) (low : X → ℕ) (high : Y 
   pub rising_back : AllPairs (λ a b. high a < high b) (map f xs) → AllPairs (λ a b. low a < low b) xs
   rising_back rising i j d lt inside =
       let first = ap high (get_or-map f xs i d (f d) (omega (arith, lt, inside))) ∙ same (get_or xs i d) in
-      let other = ap high (get_or-map f xs j d (f d) inside) ∙ same (get_or xs j d) in
-      omega (arith, first, other, rising i j (f d) lt (omega (arith, inside, length-map xs f)))
+      omega (arith, first, ap high (get_or-map f xs j d (f d) inside) ∙ same (get_or xs j d), rising i j (f d) lt (omega (arith, inside, length-map xs f)))
 
 -- a search among keys that rise
 module _ {X : Type 0} (key : X → ℕ) (xs : List X) (rising : AllPairs (λ x y. key x < key y) xs) (n : ℕ) where

@@ -30,8 +30,7 @@ settle_slot-old-requires c =
       sinks = λ d. S.sinks (get_or (nodes_of heads) s d) (node_in_slot heads q s d found).0;
       untold = untold_there heads blocks queue q s c.requires.narrow S c.loop-number.invariant.linked c.loop-number.invariant.distinct found;
       inside = λ x b at len grade contained kind.
-          let within = S.changes x b at len grade contained kind in
-          omega (arith, within, c.loop-number.standings.ok.0, c.loop-number.invariant.standing.long);
+          omega (arith, S.changes x b at len grade contained kind, c.loop-number.standings.ok.0, c.loop-number.invariant.standing.long);
       standing = search rules;
     }
 

@@ -12,15 +12,6 @@ loop-other-init c = search (rules, link_none, room_first)
 pub slot_of-requires : goal.slot_of-requires
 slot_of-requires c = rw c.deref.ensures.value (rising_linked c.loop-other.heads.items c.args.heads.now.items (take c.loop-other.other-index c.args.row.now) c.args.number c.loop-other.invariant.nodes c.requires.rising)
 
-pub push_reserved-requires : goal.push_reserved-requires
-push_reserved-requires c =
-    let heads = c.loop-other.heads.items in
-    let row = c.args.row.now in
-    let i = c.loop-other.other-index in
-    let slot = subst (λ hs. HasSlot hs (get_or row i 0) c.in-Some.slot) c.deref.ensures.value c.in-Some.ensures.found in
-    let room = room_here heads row i c.in-Some.slot c.index_mut.result.now c.loop-other-test.true slot c.loop-other.invariant.room in
-    (omega arith, subst (λ (h : Head). HasRoomFor h.dependants 1) (sym c.index_mut.ensures.value) room)
-
 pub loop-other-preserved : goal.loop-other-preserved
 loop-other-preserved c =
     let heads = c.loop-other.heads.items in

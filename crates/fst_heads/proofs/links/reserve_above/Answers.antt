@@ -29,6 +29,3 @@ loop-number-preserved c =
           })
       | in_default w ↦ grind (arith, room_skip)
     ]
-
-pub returns-clause-room : goal.returns-clause-room
-returns-clause-room c = room_all c.loop-number.heads.items c.args.row.now c.loop-number.number-index c.loop-number-test.false c.loop-number.invariant.room

@@ -12,6 +12,3 @@ returns-in_ok-reserve-clause-room c =
     let heads = c.args.heads.now.items in
     let slot = subst (λ hs. HasSlot hs c.args.number c.in-Some.slot) c.deref.ensures.value c.in-Some.ensures.found in
     below_set heads c.args.number c.in-Some.slot _ c.requires slot c.in_ok-reserve.ensures.ok
-
-pub returns-in_ok-reserve-clause-above : goal.returns-in_ok-reserve-clause-above
-returns-in_ok-reserve-clause-above c = search (rules, above_set)

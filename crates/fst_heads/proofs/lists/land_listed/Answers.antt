@@ -57,6 +57,3 @@ loop-listed-preserved c =
 
 pub returns-then-len-flying-clause-nodes : goal.returns-then-len-flying-clause-nodes
 returns-then-len-flying-clause-nodes c = (all_landed c).0
-
-pub returns-then-len-flying-clause-queued : goal.returns-then-len-flying-clause-queued
-returns-then-len-flying-clause-queued c = (all_landed c).1
