@@ -1,5 +1,5 @@
 -- What the covers of the blocks keep from call to call.
-use Rattle.fst_heads.proofs.Basics.{◌≡◌, ◌⊎◌, ◌<◌, ◌≤◌, ◌+◌, ◌++◌, ◌∷◌, ◌∙◌, [], ℕ, true, List, length, map, filter, get_or, set, Contains, refl, sym, ap, subst, inl, inr, arith, cases_lt, cases_eq, eqb-false, length-set, or_parts, rules, get_or-set_other, Contains-push_cases, common_steps, Contains-append_left}
+use Rattle.fst_heads.proofs.Basics.{◌≡◌, ◌⊎◌, ◌<◌, ◌≤◌, ◌+◌, ◌++◌, ◌∷◌, ◌∙◌, [], ℕ, true, List, map, filter, get_or, set, Contains, refl, sym, ap, subst, inl, inr, arith, cases_lt, cases_eq, eqb-false, length-set, or_parts, rules, get_or-set_other, Contains-push_cases, common_steps, Contains-append_left}
 use Rattle.fst_heads.proofs.Basics.{Contains-append_right}
 use Rattle.std.proofs.lemmas.Grind.{get_or-set_at}
 use Rattle.fst_types.specs.Closure.{one, join}
@@ -11,10 +11,6 @@ use Rattle.fst_heads.proofs.Words.{Covering, IsOver, IsCovered, AreCovered, Cove
 use Rattle.fst_heads.proofs.Newest.{over_touched}
 use Rattle.fst_heads.proofs.Leading.{some_injective}
 use Rattle.fst_heads.proofs.Forgetting.{live_place_of}
-
--- where there is no patch any covers do
-pub covered_none : (blocks : ℕ) (covers : List Covering) → length covers ≡ blocks → AreCovered [] blocks covers
-covered_none blocks covers long = search rules
 
 -- each live change of the new heads was one of the old ones, and what is over a byte, and is or depends on what is live there, still does
 module _ (old new : List Patch)

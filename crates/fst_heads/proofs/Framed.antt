@@ -38,9 +38,6 @@ module _ (heads : List Head) (n s : ℕ) (y : Head) (rising : IsRising heads) (s
     | inr other ↦ absurd (other.2 (slot_unique heads n other.0 s rising (other.1, λ d. ap (λ k. k.number) (any_default heads other.0 d h other.1 ∙ other.3) ∙ named) slot))
   ]
 
-  pub above_set : (d : Head) → y.number ≡ (get_or heads s d).number → y.dependants ≡ (get_or heads s d).dependants → (row : List ℕ) → HasRoomAbove heads row → HasRoomAbove (set heads s y) row
-  above_set d number dependants row room h c named = search (rules, set_cases, any_default)
-
 -- the direct dependencies of all heads have the room that they had
 pub still_below : (heads : List Head) (s : ℕ) (y d : Head) → s < length heads → y.number ≡ (get_or heads s d).number → y.dependencies ≡ (get_or heads s d).dependencies → (n : ℕ) → HasRoomBelow heads n → HasRoomBelow (set heads s y) n
 still_below heads s y d lt number dependencies n room h c named = search (rules, set_cases, any_default)

@@ -1,6 +1,6 @@
 -- Loops along a row that change the head of each of its numbers.
 use Rattle.fst_heads.proofs.Basics.{◌≡◌, ◌≢◌, ◌⊎◌, ℕ, zero, suc, ◌+◌, ◌<◌, ◌≤◌, Bool, true, false, List, [], ◌∷◌, ◌++◌, take, length, map, get_or, set, Contains, if◌then◌else◌, refl, sym, ap, subst, ◌∙◌, inl, inr, arith, get_or-set_same, get_or-set_other, IsStrictlyIncreasing, or-true, AllPairs, length-set}
-use Rattle.fst_heads.proofs.Basics.{cases_eq, eq-eqb, ne_eqb, take_more, Contains-get_or, AllPairs-from_increasing, HasRoomFor}
+use Rattle.fst_heads.proofs.Basics.{cases_eq, eq-eqb, ne_eqb, take_more, AllPairs-from_increasing, HasRoomFor}
 use Rattle.fst_heads.proofs.Patches.{is_among, In}
 use Rattle.fst_heads.proofs.Words.{Head, IsRising, HasSlot, HasNone, Node, node_of, nodes_of, at_number, linked_to, HasRoomAbove}
 use Rattle.fst_heads.proofs.AtNumber.{at_other, at_same}
@@ -49,15 +49,8 @@ HasRoomUpTo heads row i = (h : Head) (k : ℕ) → Contains heads h → k < i �
 abbrev pub HasRoomFrom : List Head → List ℕ → ℕ → Type 0
 HasRoomFrom heads row i = (h : Head) (k : ℕ) → Contains heads h → i ≤ k → k < length row → h.number ≡ get_or row k 0 → HasRoomFor h.dependants 1
 
-pub room_all : (heads : List Head) (row : List ℕ) (i : ℕ) → length row ≤ i → HasRoomUpTo heads row i → HasRoomAbove heads row
-room_all heads row i past room h c m = room h m.0 c (omega (arith, m.1, past)) m.1 (sym m.2 ∙ any_default row m.0 h.number 0 m.1)
-
 pub room_first : (heads : List Head) (row : List ℕ) → HasRoomAbove heads row → HasRoomFrom heads row 0
 room_first heads row room h k c le inside e = room h c (k, inside, any_default row k h.number 0 inside ∙ sym e)
-
--- the head at the slot of the next number
-pub room_here : (heads : List Head) (row : List ℕ) (i s : ℕ) (d : Head) → i < length row → HasSlot heads (get_or row i 0) s → HasRoomFrom heads row i → HasRoomFor (get_or heads s d).dependants 1
-room_here heads row i s d lt slot room = room (get_or heads s d) i (Contains-get_or heads s d slot.0) (omega arith) lt (slot.1 d)
 
 pub room_more : (heads : List Head) (row : List ℕ) (i s : ℕ) (y : Head) → IsRising heads → HasSlot heads (get_or row i 0) s → HasRoomFor y.dependants 1 → HasRoomUpTo heads row i → HasRoomUpTo (set heads s y) row (i + 1)
 room_more heads row i s y rising slot here room h k c lt inside e =

@@ -1,6 +1,6 @@
-use Rattle.fst_heads.proofs.Basics.{subst, rules, arith}
+use Rattle.fst_heads.proofs.Basics.{subst, arith}
 use Rattle.fst_heads.proofs.Words.{HasSlot}
-use Rattle.fst_heads.proofs.Framed.{below_set, above_set}
+use Rattle.fst_heads.proofs.Framed.{below_set}
 use Rattle.fst_heads.proofs.Linking.{nodes_set}
 use Rattle.fst_heads.proofs.links.reserve_below.Goals as goal
 
