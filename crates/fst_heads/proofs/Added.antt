@@ -1,9 +1,7 @@
 -- The nodes where a patch is made, and where a gate gains names.
-use Rattle.std.proofs.Common.{ℕ, List, [], ◌∷◌, ◌++◌, map}
-use Rattle.fst_types.specs.Patches.{Patch}
-use Rattle.fst_heads.specs.declared.pending.Sums.{Sums}
-use Rattle.fst_heads.specs.Nodes.{Node, at_number, linked_to, gains_names, pending_in}
-use Rattle.fst_heads.specs.Pendings.{joined, of_kind, sums_of}
+use Rattle.fst_heads.proofs.Basics.{ℕ, List, [], ◌∷◌, ◌++◌, map}
+use Rattle.fst_heads.proofs.Patches.{Patch}
+use Rattle.fst_heads.proofs.Words.{Sums, Node, at_number, linked_to, gains_names, pending_in, joined, of_kind, sums_of}
 
 -- the node of a new patch
 abbrev pub new_node : List Node → Patch → Node

@@ -1,10 +1,6 @@
 -- A change of the head in one slot, seen as a change of the node with its number.
-use Rattle.std.proofs.Common.{◌≡◌, ◌≢◌, ℕ, zero, suc, List, [], ◌∷◌, map, get_or, set, refl, sym, ◌∙◌, arith}
-use Rattle.std.proofs.lemmas.Bool.{eq-eqb, ne_eqb}
-use Rattle.fst_heads.specs.declared.head.Head.{Head}
-use Rattle.fst_heads.specs.Heads.{IsRising, patches_of}
-use Rattle.fst_heads.specs.Marks.{HasSlot, HasNone}
-use Rattle.fst_heads.specs.Nodes.{Node, node_of, nodes_of, patches_in, at_number}
+use Rattle.fst_heads.proofs.Basics.{◌≡◌, ◌≢◌, ℕ, zero, suc, List, [], ◌∷◌, map, get_or, set, refl, sym, ◌∙◌, arith, eq-eqb, ne_eqb}
+use Rattle.fst_heads.proofs.Words.{Head, IsRising, patches_of, HasSlot, HasNone, Node, node_of, nodes_of, patches_in, at_number}
 
 pub at_other : (n : ℕ) (f : Node → Node) (x : Node) → x.patch.number ≢ n → at_number n f x ≡ x
 at_other n f x ne = rw (ne_eqb x.patch.number n ne) refl
@@ -31,8 +27,7 @@ at_slot (h ∷ hs) n zero f y d rising slot e =
 at_slot (h ∷ hs) n (suc s) f y d rising slot e =
     let inside = slot.0 in
     let below = rising 0 (suc s) d (omega arith) inside in
-    let there = slot.1 d in
-    let first = sym (at_other n f (node_of h) (λ same. omega (arith, same, below, there))) in
+    let first = sym (at_other n f (node_of h) (λ same. omega (arith, same, below, slot.1 d))) in
     let rest = at_slot hs n s f y d (λ i j c lt b. rising (suc i) (suc j) c (omega (arith, lt)) (omega (arith, b))) (omega (arith, inside), slot.1) e in
     cc
 

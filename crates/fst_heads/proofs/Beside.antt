@@ -1,31 +1,73 @@
 -- What calls leave of the count of patches that are not on disk.
-use Rattle.std.proofs.Common.{◌≡◌, ℕ, ◌+◌, ◌-◌, ◌≤◌, ◌==◌, Bool, true, false, cond, if◌then◌else◌, List, [], ◌∷◌, ◌++◌, map, filter, length, count_by, refl, sym, ap, subst, ◌∙◌, inl, inr, arith}
-use Rattle.std.proofs.lemmas.Bool.{cases_Bool}
-use Rattle.std.proofs.lemmas.List.{length-map}
-use Rattle.std.proofs.lemmas.List.Sums.{count_by-le-length}
-use Rattle.fst_types.specs.declared.place.Place.{Place}
-use Rattle.fst_types.specs.declared.place.Place.TheVariants as place
-use Rattle.fst_types.specs.Gating.{gains}
-use Rattle.fst_types.specs.Patches.{Patch}
-use Rattle.fst_types.specs.Tests.{is_at, is_live}
-use Rattle.fst_types.specs.Patches.{SealedGate}
-use Rattle.fst_heads.specs.declared.head.Head.{Head}
-use Rattle.fst_heads.specs.Heads.{patch_of, patches_of}
-use Rattle.fst_heads.specs.Keeps.{Beside}
-use Rattle.fst_heads.specs.Nodes.{Node, node_of, nodes_of, at_number, AreSettled}
-use Rattle.fst_heads.specs.Spreading.{is_waiting, seals}
-use Rattle.fst_heads.proofs.AtNumber.{patches_in_nodes}
+use Rattle.fst_heads.proofs.Basics.{◌≡◌, ℕ, ◌+◌, ◌-◌, ◌≤◌, ◌==◌, Bool, true, false, cond, if◌then◌else◌, List, [], ◌∷◌, ◌++◌, map, filter, length, count_by, refl, sym, ap, subst, ◌∙◌, inl, inr, arith, cases_Bool, length-map, count_by-le-length, rules, suc, ◌<◌, not, AllPairs, cases_eq, false≢true, common_steps}
+use Rattle.fst_heads.proofs.Patches.{Place, gains, Patch, is_at, is_live, SealedGate, In, In-from_Contains, Contains-from_In}
+use Rattle.fst_heads.proofs.Words.{Head, patch_of, patches_of, Beside, Node, node_of, nodes_of, at_number, AreSettled, is_waiting, seals, Pending, patches_in, is_pending, Sinks, is_told, now, settles, heard}
+use Rattle.fst_heads.proofs.AtNumber.{patches_in_nodes, at_same, at_other}
 use Rattle.fst_heads.proofs.CountsAs.{count_append, count_cons, count_kept, count_map}
-use Rattle.fst_heads.proofs.Living.{at_number_told, waiting_kept, waiting_live}
+use Rattle.fst_heads.proofs.Forgetting.{live_place_of}
+use Rattle.fst_heads.proofs.Patches.place
+use Rattle.fst_heads.proofs.Words.pending
 
-abbrev one_if : Bool → ℕ
+-- how many patches wait for the disk: those of which something is pending, as their dependants know it
+
+pub at_number_told : (n : ℕ) (f : Node → Node) (x : Node) → (f x).pending ≡ x.pending → (at_number n f x).pending ≡ x.pending
+at_number_told n f x same = grind (arith, cases_eq, at_same, at_other)
+
+pub waiting_heard : (row : List ℕ) (old new : Pending) (nodes : List Node) → count_by is_waiting (map (heard row old new) nodes) ≡ count_by is_waiting nodes
+waiting_heard row old new nodes = grind (arith, count_map, cases_Bool)
+
+abbrev pub one_if : Bool → ℕ
 one_if t = cond t 1 0
+
+one_of : (t : Bool) → one_if (not t) + one_if t ≡ 1
+one_of true = refl
+one_of false = refl
+
+-- where nothing is pending now of one that waited, one less waits
+pub waiting_settles : (nodes : List Node) (q : ℕ) (here : Node) → AllPairs (λ x y. x.patch.number < y.patch.number) nodes → In nodes here → here.patch.number ≡ q → is_waiting here ≡ true
+    → count_by is_waiting (map (at_number q settles) nodes) + cond (is_pending (now here) pending.Nothing) 1 0 ≡ count_by is_waiting nodes
+waiting_settles [] q here rising i e waits = absurd i
+waiting_settles (x ∷ xs) q here rising i e waits =
+    let behind : (y : Node) → In xs y → x.patch.number < y.patch.number = λ y j.
+    let k = In-from_Contains xs y (Contains-from_In xs y j) in
+    let c = Contains-from_In xs y j in
+    subst (λ z. x.patch.number < z.patch.number) c.2 (rising 0 (suc c.0) y (omega arith) (omega (arith, c.1))) in
+    let rest : AllPairs (λ x y. x.patch.number < y.patch.number) xs = λ j k d lt inside. rising (suc j) (suc k) d (omega (arith, lt)) (omega (arith, inside)) in
+    elim i [
+      | inl same ↦ grind (arith, common_steps, count_map, at_other, at_same, one_of, count_cons)
+      | inr j ↦
+          let first = ap one_if (ap is_waiting (at_other q settles x (λ n. omega (arith, n, behind here j, e)))) in
+          let b = count_cons is_waiting x xs in
+          omega (arith, count_cons is_waiting (at_number q settles x) (map (at_number q settles) xs), b, first, waiting_settles xs q here rest j e waits)
+    ]
+
+is_nothing : (p : Pending) → is_pending p pending.Nothing ≡ true → p ≡ pending.Nothing
+is_nothing pending.Nothing e = refl
+is_nothing p e = absurd (false≢true e)
+
+-- where its dependants know other than is pending now it waits
+pub waits_untold : (x : Node) → Sinks x.pending (now x) → is_told x ≡ false → is_waiting x ≡ true
+waits_untold x sinks untold = grind (arith, cases_Bool, is_nothing, false≢true)
+
+-- between calls those wait that are not on disk
+pub waiting_live : (nodes : List Node) (blocks : ℕ) → AreSettled nodes blocks → count_by is_waiting nodes ≡ count_by is_live (patches_in nodes)
+waiting_live nodes blocks S = go nodes (λ x i. i)
+  where
+    one : (x : Node) → In nodes x → is_waiting x ≡ is_live x.patch
+    one x i =
+        let placed = S.placed x (Contains-from_In nodes x i) in
+        elim (cases_Bool (is_pending x.pending pending.Nothing)) [
+          | inl e ↦ let disk = placed.0 (is_nothing x.pending e) in rw e (sym (ap (λ p. not (is_at p place.Disk)) disk))
+          | inr e ↦ rw e (sym (live_place_of x.patch.place (λ disk. false≢true (sym e ∙ ap (λ p. is_pending p pending.Nothing) (placed.1 disk)))))
+        ]
+
+    go : (xs : List Node) → ((x : Node) → In xs x → In nodes x) → count_by is_waiting xs ≡ count_by is_live (patches_in xs)
+    go [] among = refl
+    go (x ∷ xs) among =
+        omega (arith, count_cons is_waiting x xs, count_cons is_live x.patch (patches_in xs), ap one_if (one x (among x (inl refl))), go xs (λ y i. among y (inr i)))
 
 abbrev pub one_live : Patch → ℕ
 one_live p = cond (is_live p) 1 0
-
-pub live_few : (heads : List Patch) (blocks live : ℕ) (reached : List Bool) → Beside heads blocks live reached → live ≤ length heads
-live_few heads blocks live reached B = let few = count_by-le-length is_live heads in omega (arith, few, B.counted)
 
 -- what `weight` says of a place
 abbrev pub weight_of : Place → ℕ
@@ -36,27 +78,11 @@ weighs p = elim (cases_Bool (is_at p.place place.Disk)) [ inl e ↦ rw e refl | 
 
 -- a new patch
 pub beside_made : (heads : List Patch) (blocks live more : ℕ) (reached : List Bool) (p : Patch) → more ≡ one_live p → Beside heads blocks live reached → Beside (heads ++ p ∷ []) blocks (live + more) reached
-beside_made heads blocks live more reached p one B = record {
-  places = B.places;
-  counted =
-      let all = count_append is_live heads (p ∷ []) in
-      let last = count_cons is_live p [] in
-      omega (arith, B.counted, one, all, last);
-}
+beside_made heads blocks live more reached p one B = search (rules, count_append, count_cons)
 
 -- an open gate with more names
 pub beside_depends : (heads : List Patch) (blocks live : ℕ) (reached : List Bool) (g : ℕ) (names : List ℕ) → Beside heads blocks live reached → Beside (map (gains g names) heads) blocks live reached
-beside_depends heads blocks live reached g names B = record {
-  places = B.places;
-  counted = B.counted ∙ sym (count_map is_live is_live (gains g names) heads (λ p i. one p));
-}
-  where
-    chosen : (t : Bool) (p q : Patch) → is_live q ≡ is_live p → is_live (if t then q else p) ≡ is_live p
-    chosen true p q e = e
-    chosen false p q e = refl
-
-    one : (p : Patch) → is_live (gains g names p) ≡ is_live p
-    one p = chosen (p.number == g) p _ refl
+beside_depends heads blocks live reached g names B = search (rules, count_map)
 
 -- those on disk are forgotten
 pub beside_dropped : (heads : List Patch) (blocks live : ℕ) (reached : List Bool) → Beside heads blocks live reached → Beside (filter is_live heads) blocks live reached
@@ -66,15 +92,12 @@ beside_dropped heads blocks live reached B = record { places = B.places; counted
 pub all_live : (heads : List Head) → count_by is_live (patches_of heads) ≡ length heads → nodes_of heads ≡ filter (λ x. is_live x.patch) (nodes_of heads)
 all_live [] same = refl
 all_live (h ∷ hs) same =
-    let few = count_by-le-length is_live (patches_of hs) in
-    let long = length-map hs patch_of in
     let first = count_cons is_live (patch_of h) (patches_of hs) in
     elim (cases_Bool (is_live (patch_of h))) [
       | inl e ↦
-          let one = ap (λ t. one_if t) e in
-          let rest = all_live hs (omega (arith, same, first, one)) in
+          let rest = all_live hs (omega (arith, same, first, ap (λ t. one_if t) e)) in
           rw e (ap (λ xs. node_of h ∷ xs) rest)
-      | inr e ↦ let none = ap (λ t. one_if t) e in absurd (omega (arith, same, first, none, few, long))
+      | inr e ↦ let none = ap (λ t. one_if t) e in absurd (omega (arith, same, first, none, count_by-le-length is_live (patches_of hs), length-map hs patch_of))
     ]
 
 sealed_rest : (t : Bool) (x : Node) → (if t then record x { patch = record x.patch { kind = SealedGate; place = place.Disk } } else record x { patch = record x.patch { kind = SealedGate } }).pending ≡ x.pending
@@ -89,11 +112,7 @@ module _ (heads mid new : List Head) (f : Node → Node) (blocks live landed : �
     (old_settled : AreSettled (nodes_of heads) blocks) (new_settled : AreSettled (nodes_of new) blocks) where
   -- of those that wait so many are told that they are on disk
   landed_live : count_by is_waiting (nodes_of new) + landed ≡ count_by is_waiting (nodes_of mid) → count_by is_live (patches_of new) + landed ≡ count_by is_live (patches_of heads)
-  landed_live counted =
-      let before = ap (count_by is_waiting) made ∙ waiting_kept f (nodes_of heads) told in
-      let old = waiting_live (nodes_of heads) blocks old_settled ∙ ap (count_by is_live) (patches_in_nodes heads) in
-      let after = waiting_live (nodes_of new) blocks new_settled ∙ ap (count_by is_live) (patches_in_nodes new) in
-      omega (arith, counted, before, old, after)
+  landed_live counted = grind (arith, count_map, waiting_live, patches_in_nodes)
 
   pub landed_few : count_by is_waiting (nodes_of new) + landed ≡ count_by is_waiting (nodes_of mid) → Beside (patches_of heads) blocks live reached → landed ≤ live
   landed_few counted B = let all = landed_live counted in omega (arith, all, B.counted)

@@ -1,69 +1,23 @@
 -- What the counts of a block say of its patches.
-use Rattle.std.proofs.Common.{◌≡◌, ◌&&◌, ◌||◌, ℕ, suc, ◌≤◌, Bool, false, not, List, [], ◌∷◌, filter, length, count_by, arith, refl, ap, ◌∙◌, inl, inr}
-use Rattle.std.proofs.Math.Bool.{or-false}
-use Rattle.std.proofs.lemmas.Bool.{cases_Bool}
-use Rattle.std.proofs.lemmas.List.{length-map}
-use Rattle.std.proofs.lemmas.List.Sums.{length-filter}
-use Rattle.fst_types.specs.declared.place.Place.TheVariants as place
-use Rattle.fst_types.specs.Patches.{Patch}
-use Rattle.fst_types.specs.Tests.{is_change_at}
-use Rattle.fst_heads.specs.declared.pending.Pending.TheVariants as pending
-use Rattle.fst_heads.specs.Ascending.{is_bound_on, free_on, bound_on}
-use Rattle.fst_heads.specs.declared.head.Head.{Head}
-use Rattle.fst_heads.specs.Heads.{patch_of, patches_of}
-use Rattle.fst_heads.specs.Lists.{flying_on}
-use Rattle.fst_heads.specs.Nodes.{Node, nodes_of}
-use Rattle.fst_heads.specs.Pendings.{is_pending}
-use Rattle.fst_heads.specs.Standings.{is_ready_on, is_held_on, is_flying_on, held_on}
-use Rattle.fst_heads.specs.Tests.{is_hard_kind}
+use Rattle.fst_heads.proofs.Basics.{◌≡◌, ℕ, ◌≤◌, Bool, false, List, [], ◌∷◌, filter, length, count_by, arith, refl, or-false, cases_Bool, length-map, length-filter, nil_from_length, rules, common_steps}
+use Rattle.fst_heads.proofs.Words.{free_on, bound_on, Head, patches_of, flying_on, Node, nodes_of, is_ready_on, is_held_on, is_flying_on, held_on}
 
 -- what is free is ready
 fewer_free : (behind : ℕ → Bool) (b : ℕ) (nodes : List Node) → length (free_on behind b nodes) ≤ length (filter (is_ready_on b) nodes)
 fewer_free behind b [] = omega arith
-fewer_free behind b (x ∷ xs) =
-    let rest = fewer_free behind b xs in
-    elim (cases_Bool (is_ready_on b x)) [
-      | inl ready ↦ elim (cases_Bool (behind x.patch.number)) [ inl e ↦ rw (ready, e) (omega (arith, rest)) | inr e ↦ rw (ready, e) (omega (arith, rest)) ]
-      | inr off ↦ rw off rest
-    ]
+fewer_free behind b (x ∷ xs) = grind (arith, cases_Bool, fewer_free behind b xs)
 
 pub free_few : (behind : ℕ → Bool) (b : ℕ) (nodes : List Node) → length (free_on behind b nodes) ≤ count_by (is_ready_on b) nodes
-free_few behind b nodes =
-    let fewer = fewer_free behind b nodes in
-    let same = length-filter (is_ready_on b) nodes in
-    omega (arith, fewer, same)
+free_few behind b nodes = grind (arith, fewer_free, length-filter)
 
 -- where nothing is behind a flight, what is bound is what is held
 bound_held : (behind : ℕ → Bool) (b : ℕ) (nodes : List Node) → ((n : ℕ) → behind n ≡ false) → bound_on behind b nodes ≡ held_on b nodes
 bound_held behind b [] off = refl
-bound_held behind b (x ∷ xs) off =
-    let rest = bound_held behind b xs off in
-    let waits = not (is_pending x.pending (pending.Block b)) in
-    let same : is_bound_on behind b x ≡ is_held_on b x = ap (λ t. is_change_at place.Memory b x.patch && is_hard_kind x.patch.kind && (waits || t)) (off x.patch.number) ∙ ap (λ t. is_change_at place.Memory b x.patch && is_hard_kind x.patch.kind && t) (or-false waits) in
-    elim (cases_Bool (is_held_on b x)) [
-      | inl f ↦ rw (same, f) (ap (λ ns. x.patch.number ∷ ns) rest)
-      | inr f ↦ rw (same, f) rest
-    ]
+bound_held behind b (x ∷ xs) off = grind (arith, or-false, cases_Bool, bound_held behind b xs off)
 
 pub none_bound : (behind : ℕ → Bool) (b : ℕ) (nodes : List Node) → ((n : ℕ) → behind n ≡ false) → count_by (is_held_on b) nodes ≡ 0 → bound_on behind b nodes ≡ []
-none_bound behind b nodes off none =
-    let long = length-map (filter (is_held_on b) nodes) (λ (x : Node). x.patch.number) in
-    let counted = length-filter (is_held_on b) nodes in
-    bound_held behind b nodes off ∙ empty (held_on b nodes) (omega (arith, none, long, counted))
-  where
-    empty : (ns : List ℕ) → length ns ≡ 0 → ns ≡ []
-    empty [] e = refl
-    empty (n ∷ ns) e = absurd (omega (arith, e))
+none_bound behind b nodes off none = search (rules, length-map, length-filter, bound_held, nil_from_length)
 
 -- as many fly as are counted
 pub flying_counted : (b : ℕ) (heads : List Head) → length (flying_on b (patches_of heads)) ≡ count_by (is_flying_on b) (nodes_of heads)
-flying_counted b heads = length-map (filter (is_change_at place.Flight b) (patches_of heads)) (λ (p : Patch). p.number) ∙ (as_long heads ∙ length-filter (is_flying_on b) (nodes_of heads))
-  where
-    as_long : (hs : List Head) → length (filter (is_change_at place.Flight b) (patches_of hs)) ≡ length (filter (is_flying_on b) (nodes_of hs))
-    as_long [] = refl
-    as_long (h ∷ hs) =
-        let rest = as_long hs in
-        elim (cases_Bool (is_change_at place.Flight b (patch_of h))) [
-          | inl f ↦ rw f (ap suc rest)
-          | inr f ↦ rw f rest
-        ]
+flying_counted b heads = grind (arith, common_steps, length-map, length-filter, cases_Bool)

@@ -1,17 +1,9 @@
 -- Nodes that count for a block as others do, and what that leaves of the counts of all blocks.
-use Rattle.std.proofs.Common.{◌≡◌, ◌≢◌, ℕ, ◌+◌, ◌<◌, ◌==◌, ◌&&◌, Bool, true, false, cond, List, [], ◌∷◌, ◌++◌, map, filter, count_by, set, get_or, refl, sym, ap, subst, ◌∙◌, inl, inr, arith, get_or-set_same, get_or-set_other}
-use Rattle.std.proofs.Math.ListN.{length-set}
-use Rattle.std.proofs.lemmas.Bool.{cases_Bool, cases_eq, and_parts, and_right, eqb-true, ne_eqb, false≢true}
-use Rattle.std.proofs.lemmas.List.Sums.{sum_by-cons, sum_by-append}
-use Rattle.fst_types.specs.declared.place.Place.{Place}
-use Rattle.fst_types.specs.declared.place.Place.TheVariants as place
-use Rattle.fst_types.specs.Patches.{Kind, Change, Empty, OpenGate, SealedGate}
-use Rattle.fst_types.specs.Tests.{is_at, is_on, is_change_at}
-use Rattle.fst_types.proofs.Finite.{In}
-use Rattle.fst_heads.specs.declared.standing.Standing.{Standing}
-use Rattle.fst_heads.specs.Nodes.{Node}
-use Rattle.fst_heads.specs.Spreading.{follows, rested}
-use Rattle.fst_heads.specs.Standings.{AllStand, is_ready_on, is_held_on, is_flying_on, standing_of}
+use Rattle.fst_heads.proofs.Basics.{◌≡◌, ◌≢◌, ℕ, ◌+◌, ◌<◌, Bool, true, false, cond, List, [], ◌∷◌, ◌++◌, map, filter, count_by, set, get_or, refl, sym, ap, subst, ◌∙◌, inl, inr, arith, get_or-set_same, get_or-set_other, length-set, cases_Bool, cases_eq, and_parts, and_right, rules, eqb-true, ne_eqb}
+use Rattle.fst_heads.proofs.Basics.{sum_by-cons, sum_by-append}
+use Rattle.fst_heads.proofs.Patches.{Place, Kind, Change, is_at, is_on, is_change_at, In}
+use Rattle.fst_heads.proofs.Patches.place
+use Rattle.fst_heads.proofs.Words.{Standing, Node, rested, AllStand, is_ready_on, is_held_on, is_flying_on, standing_of}
 
 -- y counts for block b as x does
 pub record CountsAs (b : ℕ) (y x : Node) : Type 0 where
@@ -28,17 +20,12 @@ count_append p xs ys = sum_by-append (λ y. cond (p y) 1 0) xs ys
 -- a count after a map, where the one test says of what f makes what the other said before
 pub count_map : {X : Type 0} (p q : X → Bool) (f : X → X) (xs : List X) → ((x : X) → In xs x → p (f x) ≡ q x) → count_by p (map f xs) ≡ count_by q xs
 count_map p q f [] same = refl
-count_map p q f (x ∷ xs) same =
-    let first = same x (inl refl) in
-    let rest = count_map p q f xs (λ y i. same y (inr i)) in
-    count_cons p (f x) (map f xs)
-    ∙ (ap (λ t. cond t 1 0 + count_by p (map f xs)) first ∙ (ap (λ k. cond (q x) 1 0 + k) rest ∙ sym (count_cons q x xs)))
+count_map p q f (x ∷ xs) same = grind (arith, count_cons, count_map p q f xs (λ y i. same y (inr i)))
 
 pub count_nothing : {X : Type 0} (p : X → Bool) (xs : List X) → ((x : X) → In xs x → p x ≡ false) → count_by p xs ≡ 0
 count_nothing p [] none = refl
 count_nothing p (x ∷ xs) none =
-    let rest = count_nothing p xs (λ y i. none y (inr i)) in
-    count_cons p x xs ∙ (ap (λ t. cond t 1 0 + count_by p xs) (none x (inl refl)) ∙ omega (arith, rest))
+    count_cons p x xs ∙ (ap (λ t. cond t 1 0 + count_by p xs) (none x (inl refl)) ∙ omega (arith, count_nothing p xs (λ y i. none y (inr i))))
 
 -- where none is counted each fails the test
 pub count_none : {X : Type 0} (p : X → Bool) (xs : List X) → count_by p xs ≡ 0 → (x : X) → In xs x → p x ≡ false
@@ -57,14 +44,7 @@ count_none p (y ∷ ys) e x i =
 -- those that the filter drops are not counted
 pub count_kept : {X : Type 0} (p q : X → Bool) (xs : List X) → ((x : X) → q x ≡ false → p x ≡ false) → count_by p (filter q xs) ≡ count_by p xs
 count_kept p q [] drops = refl
-count_kept p q (x ∷ xs) drops =
-    let rest = count_kept p q xs drops in
-    elim (cases_Bool (q x)) [
-      | inl t ↦ rw t (count_cons p x (filter q xs) ∙ (ap (λ k. cond (p x) 1 0 + k) rest ∙ sym (count_cons p x xs)))
-      | inr f ↦
-          let none : count_by p (x ∷ xs) ≡ count_by p xs = let one = count_cons p x xs ∙ ap (λ t. cond t 1 0 + count_by p xs) (drops x f) in omega (arith, one) in
-          rw f (rest ∙ sym none)
-    ]
+count_kept p q (x ∷ xs) drops = grind (arith, cases_Bool, count_cons, count_kept p q xs drops)
 
 -- three counts alike, one standing
 abbrev pub counts : ℕ → ℕ → ℕ → Standing
@@ -101,11 +81,7 @@ pub off_place : (b : ℕ) (at : Place) (x : Node) → is_on b x.patch.kind ≡ f
 off_place b at x off = and_right (is_at x.patch.place at) (is_on b x.patch.kind) off
 
 pub off_as : (b : ℕ) (y x : Node) → is_on b y.patch.kind ≡ false → is_on b x.patch.kind ≡ false → CountsAs b y x
-off_as b y x new old = record {
-  ready = rw (off_place b place.Memory y new, off_place b place.Memory x old) refl;
-  held = rw (off_place b place.Memory y new, off_place b place.Memory x old) refl;
-  flying = off_place b place.Flight y new ∙ sym (off_place b place.Flight x old);
-}
+off_as b y x new old = search (rules, off_place)
 
 -- what has the same kind, place and pending counts alike
 pub like_as : (b : ℕ) (y x : Node) → y.patch.kind ≡ x.patch.kind → y.patch.place ≡ x.patch.place → y.pending ≡ x.pending → CountsAs b y x
@@ -114,22 +90,11 @@ like_as b y x kind at told = record { ready = rw (kind, at, told) refl; held = r
 pub self_as : (b : ℕ) (x : Node) → CountsAs b x x
 self_as b x = like_as b x x refl refl refl
 
-follows_off : (b : ℕ) (k : Kind) → follows k ≡ true → is_on b k ≡ false
-follows_off b (Change block at len grade) e = absurd (false≢true e)
-follows_off b Empty e = refl
-follows_off b OpenGate e = refl
-follows_off b SealedGate e = refl
-
 -- an empty patch or a sealed gate that goes to disk counts for no block
 pub rested_as : (b : ℕ) (x : Node) → CountsAs b (rested x) x
-rested_as b x = elim (cases_Bool (follows x.patch.kind && (x.sums.count == 0))) [
-  | inl e ↦ let off = follows_off b x.patch.kind (and_parts _ _ e).0 in rw e (off_as b _ x off off)
-  | inr e ↦ rw e (self_as b x)
-]
+rested_as b x = grind (arith, cases_Bool, and_parts, off_as, self_as)
 
 -- a change is of one block
 pub on_one : (b c : ℕ) (k : Kind) → c ≢ b → is_on b k ≡ true → is_on c k ≡ false
 on_one b c (Change block at len grade) ne e = ne_eqb block c (λ same. ne (sym same ∙ eqb-true block b e))
-on_one b c Empty ne e = refl
-on_one b c OpenGate ne e = refl
-on_one b c SealedGate ne e = refl
+on_one b c k ne e = refl

@@ -1,35 +1,16 @@
 -- What the covers of the blocks keep from call to call.
-use Rattle.std.proofs.Common.{◌≡◌, ◌≢◌, ◌⊎◌, ◌<◌, ◌≤◌, ◌+◌, ◌++◌, ◌∷◌, ◌∙◌, [], ℕ, false, true, not, Bool, List, Some, length, map, filter, get_or, set, Contains, ◌==◌, ◌||◌, zero, suc, refl, sym, ap, subst, inl, inr, arith}
-use Rattle.std.proofs.lemmas.Bool.{cases_lt, cases_eq, eqb-false}
+use Rattle.fst_heads.proofs.Basics.{◌≡◌, ◌⊎◌, ◌<◌, ◌≤◌, ◌+◌, ◌++◌, ◌∷◌, ◌∙◌, [], ℕ, true, List, map, filter, get_or, set, Contains, refl, sym, ap, subst, inl, inr, arith, cases_lt, cases_eq, eqb-false, length-set, or_parts, rules, get_or-set_other, Contains-push_cases, common_steps, Contains-append_left}
+use Rattle.fst_heads.proofs.Basics.{Contains-append_right}
 use Rattle.std.proofs.lemmas.Grind.{get_or-set_at}
-use Rattle.std.proofs.lemmas.List.{length-set, get_or-set_other}
-use Rattle.std.proofs.lemmas.List.Elements.{Contains-push_cases, Contains-append_left, Contains-append_right}
-use Rattle.fst_types.specs.declared.grade.Grade.{Grade}
-use Rattle.fst_types.specs.declared.place.Place.{Place}
-use Rattle.fst_types.specs.declared.place.Place.TheVariants as place
 use Rattle.fst_types.specs.Closure.{one, join}
-use Rattle.fst_types.specs.Dependencies.{DirectlyOn, DependsOn, IsLiveNumber}
-use Rattle.fst_types.specs.Facts.{IsOnDiskWithAll}
-use Rattle.fst_types.specs.Gating.{gains}
-use Rattle.fst_types.specs.Making.{fresh}
-use Rattle.fst_types.specs.Patches.{Patch, Change, IsOn, IsLive, IsRising, block_of_kind, at_of, len_of}
-use Rattle.fst_types.specs.Tests.{is_at, is_live}
 use Rattle.fst_types.proofs.Depending.{Grown, grown}
-use Rattle.fst_types.proofs.Dropping.{filter_in, in_filter}
-use Rattle.fst_types.proofs.Alike.{Alike, Like, at_same, len_same, on_back, on_forth, back_alike, forth_alike, closure_map}
-use Rattle.fst_types.proofs.Crash.{same_number}
-use Rattle.fst_types.proofs.Finite.{In-from_Contains, Contains-from_In, In-map}
-use Rattle.fst_types.proofs.GateGains.{In-unmap}
-use Rattle.fst_heads.specs.Covers.{Covering, IsOver, IsCovered, AreCovered, Covers, IsLonger, IsPut, HasBytes, newest_over}
-use Rattle.fst_heads.specs.Rows.{IsSparseRow}
+use Rattle.fst_types.proofs.Alike.{Alike, at_same, len_same, on_back, on_forth, back_alike, forth_alike, closure_map}
+use Rattle.fst_heads.proofs.Patches.{Grade, DirectlyOn, DependsOn, IsLiveNumber, IsOnDiskWithAll, gains, fresh, Patch, Change, IsOn, at_of, len_of, IsLive, Rising as IsRising, block_of_kind, is_live, filter_in, in_filter, same_number, In-from_Contains, Contains-from_In, In-map, In-unmap}
+use Rattle.fst_heads.proofs.Patches.place
+use Rattle.fst_heads.proofs.Words.{Covering, IsOver, IsCovered, AreCovered, Covers, IsLonger, IsPut, HasBytes, newest_over, IsSparseRow}
 use Rattle.fst_heads.proofs.Newest.{over_touched}
-
--- where there is no patch any covers do
-pub covered_none : (blocks : ℕ) (covers : List Covering) → length covers ≡ blocks → AreCovered [] blocks covers
-covered_none blocks covers long = record {
-  long = long;
-  each = λ b d inside. record { each = λ q x o. absurd (let h = o.head in omega (arith, h.1)); bytes = λ none p h. absurd (omega (arith, h.1)) };
-}
+use Rattle.fst_heads.proofs.Leading.{some_injective}
+use Rattle.fst_heads.proofs.Forgetting.{live_place_of}
 
 -- each live change of the new heads was one of the old ones, and what is over a byte, and is or depends on what is live there, still does
 module _ (old new : List Patch)
@@ -49,12 +30,17 @@ module _ (old new : List Patch)
   covered_by blocks covers A = record { long = A.long; each = λ b d inside. covered_one b (get_or covers b d) (A.each b d inside) }
 
 -- what depends on a live patch is live, where what is on disk has all that it depends on there
-live_over : (heads : List Patch) → IsOnDiskWithAll heads → (m n : ℕ) → DependsOn heads m n → IsLiveNumber heads n → IsLiveNumber heads m
+pub live_over : (heads : List Patch) → IsOnDiskWithAll heads → (m n : ℕ) → DependsOn heads m n → IsLiveNumber heads n → IsLiveNumber heads m
 live_over heads disk m n (one d) l = record { patch = d.patch; head = d.head; numbered = d.numbered; live = λ e. l.live (disk.disk d.patch d.head e n d.named l.patch l.head l.numbered) }
 live_over heads disk m n (join {q = k} c d) l = live_over heads disk m k c (live_over heads disk k n d l)
 
 over_live : (heads : List Patch) (b x q : ℕ) → IsOver heads b x q → IsLiveNumber heads q
 over_live heads b x q o = record { patch = o.patch; head = o.head; numbered = o.numbered; live = o.live }
+
+-- what is over a byte is so in other heads too, as a patch with its number that is live on the same bytes of the block
+over_as : (b x q : ℕ) (heads other : List Patch) (o : IsOver heads b x q) (p : Patch) → Contains other p → p.number ≡ o.patch.number → IsLive p → IsOn p b
+    → at_of p.kind ≡ at_of o.patch.kind → len_of p.kind ≡ len_of o.patch.kind → IsOver other b x q
+over_as b x q heads other o p h number live on at len = search rules
 
 -- patches moved on, with the rows that they had
 module _ (old new : List Patch) (A : Alike old new) (disk : IsOnDiskWithAll new) (rising : IsRising new) where
@@ -69,19 +55,8 @@ module _ (old new : List Patch) (A : Alike old new) (disk : IsOnDiskWithAll new)
   over_back : (b x q : ℕ) → IsOver new b x q → IsOver old b x q
   over_back b x q o =
       let r = back_alike old new A o.patch o.head in
-      let s = o.starts in
-      let e = o.ends in
-      let at = at_same r.0 o.patch r.2 in
-      let len = len_same r.0 o.patch r.2 in
-      record {
-        patch = r.0;
-        head = r.1;
-        numbered = sym r.2.number ∙ o.numbered;
-        live = r.2.live b o.change o.live;
-        change = on_back r.0 o.patch r.2 b o.change;
-        starts = omega (arith, s, at);
-        ends = omega (arith, e, at, len);
-      }
+      let live = r.2.live b o.change o.live in
+      over_as b x q new old o r.0 r.1 (sym r.2.number) live (on_back r.0 o.patch r.2 b o.change) (sym (at_same r.0 o.patch r.2)) (sym (len_same r.0 o.patch r.2))
 
   over_forth : (b x c q : ℕ) → IsOver old b x c → IsOver new b x q → (c ≡ q) ⊎ DependsOn old c q → IsOver new b x c × ((c ≡ q) ⊎ DependsOn new c q)
   over_forth b x c q o n (inl same) = (subst (IsOver new b x) (sym same) n, inl same)
@@ -89,21 +64,8 @@ module _ (old new : List Patch) (A : Alike old new) (disk : IsOnDiskWithAll new)
       let r = forth_alike old new A o.patch o.head in
       let l = live_over new disk c q (depends_forth c q d) (over_live new b x q n) in
       let same = same_number new l.patch r.0 rising l.head r.1 (l.numbered ∙ (sym o.numbered ∙ sym r.2.number)) in
-      let s = o.starts in
-      let e = o.ends in
-      let at = at_same o.patch r.0 r.2 in
-      let len = len_same o.patch r.0 r.2 in (
-        record {
-          patch = r.0;
-          head = r.1;
-          numbered = r.2.number ∙ o.numbered;
-          live = subst IsLive same l.live;
-          change = on_forth o.patch r.0 r.2 b o.change;
-          starts = omega (arith, s, at);
-          ends = omega (arith, e, at, len);
-        },
-        inr (depends_forth c q d),
-      )
+      let live = subst IsLive same l.live in
+      (over_as b x c old new o r.0 r.1 r.2.number live (on_forth o.patch r.0 r.2 b o.change) (at_same o.patch r.0 r.2) (len_same o.patch r.0 r.2), inr (depends_forth c q d))
 
   pub covered_alike : (blocks : ℕ) (covers : List Covering) → AreCovered old blocks covers → AreCovered new blocks covers
   covered_alike = covered_by old new over_back over_forth (λ p b h live on.
@@ -129,20 +91,7 @@ module _ (old : List Patch) (g : ℕ) (names : List ℕ) where
       record { patch = r.0; head = r.1; numbered = r.2.number ∙ d.numbered; named = r.2.kept b d.named })
 
   over_grown : (b x q : ℕ) (heads other : List Patch) (o : IsOver heads b x q) (p : Patch) → Contains other p → p.number ≡ o.patch.number → p.kind ≡ o.patch.kind → p.place ≡ o.patch.place → IsOver other b x q
-  over_grown b x q heads other o p h number kind at =
-      let s = o.starts in
-      let e = o.ends in
-      let a = ap at_of kind in
-      let l = ap len_of kind in
-      record {
-        patch = p;
-        head = h;
-        numbered = number ∙ o.numbered;
-        live = λ d. o.live (sym at ∙ d);
-        change = ap block_of_kind kind ∙ o.change;
-        starts = omega (arith, s, a);
-        ends = omega (arith, e, a, l);
-      }
+  over_grown b x q heads other o p h number kind at = grind arith
 
   pub covered_gained : (blocks : ℕ) (covers : List Covering) → AreCovered old blocks covers → AreCovered gained blocks covers
   covered_gained = covered_by old gained
@@ -162,10 +111,7 @@ module _ (old : List Patch) (p : Patch) where
   over_with b x q o = record { patch = o.patch; head = Contains-append_left old (p ∷ []) o.patch o.head; numbered = o.numbered; live = o.live; change = o.change; starts = o.starts; ends = o.ends }
 
   over_cases : (b x q : ℕ) (o : IsOver with_one b x q) → IsOver old b x q ⊎ (p ≡ o.patch)
-  over_cases b x q o = elim (Contains-push_cases old p o.patch o.head) [
-    | inl h ↦ inl (record { patch = o.patch; head = h; numbered = o.numbered; live = o.live; change = o.change; starts = o.starts; ends = o.ends })
-    | inr e ↦ inr e
-  ]
+  over_cases b x q o = grind (arith, common_steps)
 
   -- which is no change of that block
   covered_beside : (b : ℕ) → (IsOn p b → ⊥) → (cover : Covering) → IsCovered old b cover → IsCovered with_one b cover
@@ -188,12 +134,7 @@ module _ (old : List Patch) (disk : IsOnDiskWithAll old) where
   left = filter is_live old
 
   live_told : (p : Patch) → IsLive p → is_live p ≡ true
-  live_told p live = place_told p.place live
-    where
-      place_told : (at : Place) → (at ≡ place.Disk → ⊥) → not (is_at at place.Disk) ≡ true
-      place_told place.Memory k = refl
-      place_told place.Flight k = refl
-      place_told place.Disk k = absurd (k refl)
+  live_told p live = live_place_of p.place live
 
   was_left : (p : Patch) → Contains left p → Contains old p
   was_left p h = Contains-from_In old p (filter_in is_live old p (In-from_Contains left p h)).0
@@ -276,10 +217,9 @@ module _ (old : List Patch) (n b at len : ℕ) (grade : Grade) (names row : List
   own : (x q : ℕ) → at ≤ x → x < at + len → IsOver new b x q → Covers new b cover x q
   own x q lo hi o =
       let same = put.own x lo hi in
-      let long = put.long in
       let fits = room (omega (arith, lo, hi)) in
       record {
-        inside = omega (arith, hi, fits, long);
+        inside = omega (arith, hi, fits, put.long);
         some = subst (λ k. 1 ≤ k) (sym same) some;
         over = subst (IsOver new b x) (sym same) (record { patch = p; head = there; numbered = refl; live = λ e. cc; change = refl; starts = lo; ends = hi });
         above = subst (λ k. (k ≡ q) ⊎ DependsOn new k q) (sym same) (elim (over_cases old p b x q o) [
@@ -293,18 +233,13 @@ module _ (old : List Patch) (n b at len : ℕ) (grade : Grade) (names row : List
     | inl w ↦
         let k = C.each q x w in
         let same = put.beside x off in
-        let long = put.long in
-        let i = k.inside in
         record {
-          inside = omega (arith, i, long);
+          inside = omega (arith, k.inside, put.long);
           some = subst (λ m. 1 ≤ m) (sym same) k.some;
           over = subst (IsOver new b x) (sym same) (over_with old p b x (newest_over was x) k.over);
           above = subst (λ m. (m ≡ q) ⊎ DependsOn new m q) (sym same) (elim k.above [ inl e ↦ inl e | inr e ↦ inr (depends_with old p (newest_over was x) q e) ]);
         }
-    | inr e ↦
-        let s = subst (λ y. at_of y.kind ≤ x) (sym e) o.starts in
-        let t = subst (λ y. x < at_of y.kind + len_of y.kind) (sym e) o.ends in
-        absurd (elim off [ inl lt ↦ omega (arith, lt, s) | inr ge ↦ omega (arith, ge, t) ])
+    | inr e ↦ grind arith
   ]
 
   own_cover : IsCovered new b cover
@@ -313,30 +248,14 @@ module _ (old : List Patch) (n b at len : ℕ) (grade : Grade) (names row : List
       | inl before ↦ beside x q (inl before) o
       | inr lo ↦ elim (cases_lt x (at + len)) [ inl hi ↦ own x q (omega (arith, lo)) hi o | inr after ↦ beside x q (inr (omega (arith, after))) o ]
     ];
-    bytes = λ none y h live on.
-        let parts = or_false was.points (len == 0) (sym put.points ∙ none) in
-        elim (Contains-push_cases old p y h) [
-          | inl w ↦ C.bytes parts.0 y w live on
-          | inr e ↦ subst (λ z. 1 ≤ len_of z.kind) e (let f = eqb-false len 0 parts.1 in positive len f)
-        ];
+    bytes = grind (arith, common_steps, or_parts, eqb-false);
   }
-    where
-      or_false : (a c : Bool) → (a || c) ≡ false → (a ≡ false) × (c ≡ false)
-      or_false true c e = cc
-      or_false false c e = (refl, e)
-
-      positive : (k : ℕ) → k ≢ 0 → 1 ≤ k
-      positive zero e = absurd (e refl)
-      positive (suc k) e = omega arith
 
   pub covered_put : AreCovered new blocks (set covers b cover)
   covered_put = record {
     long = length-set covers b cover ∙ A.long;
     each = λ c e within. elim (cases_eq c b) [
       | inl here ↦ subst (IsCovered new c) (sym (get_or-set_at covers b c cover e here (let l = A.long in omega (arith, inside, l)))) (subst (λ k. IsCovered new k cover) (sym here) own_cover)
-      | inr away ↦ subst (IsCovered new c) (sym (get_or-set_other covers b c cover e away)) (covered_beside old p c (λ on. away (sym (some_same b c on))) (get_or covers c e) (A.each c e within))
+      | inr away ↦ subst (IsCovered new c) (sym (get_or-set_other covers b c cover e away)) (covered_beside old p c (λ on. away (sym (some_injective b c on))) (get_or covers c e) (A.each c e within))
     ];
   }
-    where
-      some_same : (x y : ℕ) → Some x ≡ Some y → x ≡ y
-      some_same x y e = cc

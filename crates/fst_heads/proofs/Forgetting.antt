@@ -1,48 +1,27 @@
 -- What forgetting leaves of what the fields keep.
-use Rattle.std.proofs.Common.{◌≡◌, ℕ, ◌+◌, ◌==◌, ◌&&◌, Bool, true, false, not, List, [], ◌∷◌, length, filter, count_by, Contains, refl, sym, ap, subst, ◌∙◌, inl, inr, arith}
-use Rattle.std.specs.List.{items_where_true}
+use Rattle.fst_heads.proofs.Basics.{◌≡◌, ℕ, ◌+◌, ◌==◌, ◌&&◌, Bool, true, false, not, List, [], ◌∷◌, length, filter, count_by, Contains, refl, ap, subst, ◌∙◌, inl, inr, arith, items_where_true, cases_Bool, eqb-true, eq-eqb, false≢true, length-filter, common_steps}
 use Rattle.std.specs.List.Retain.{IsFiltered, ReturnsInTurn}
-use Rattle.std.proofs.lemmas.Bool.{cases_Bool, eqb-true, eq-eqb, false≢true}
-use Rattle.std.proofs.lemmas.List.Sums.{length-filter}
-use Rattle.fst_types.specs.declared.place.Place.{Place}
-use Rattle.fst_types.specs.declared.place.Place.TheVariants as place
-use Rattle.fst_types.specs.Patches.{Patch}
-use Rattle.fst_types.specs.Dependencies.{IsLiveNumber}
-use Rattle.fst_types.specs.Tests.{is_at, is_live}
-use Rattle.fst_types.proofs.Finite.{In, In-from_Contains, Contains-from_In}
-use Rattle.fst_types.proofs.Dropping.{filter_in, sparse_dropped}
-use Rattle.fst_heads.specs.declared.head.Head.{Head}
-use Rattle.fst_heads.specs.Tests.{is_live_place}
-use Rattle.fst_heads.specs.Nodes.{is_live_in}
-use Rattle.fst_heads.specs.Keeps.{Keeps}
-use Rattle.fst_heads.specs.Nodes.{nodes_of}
+use Rattle.fst_heads.proofs.Patches.{Place, Patch, IsLiveNumber, is_at, is_live, In-from_Contains, Contains-from_In, filter_in, sparse_dropped}
+use Rattle.fst_heads.proofs.Patches.place
+use Rattle.fst_heads.proofs.Words.{Head, is_live_place, is_live_in, Keeps, nodes_of}
+pub use Rattle.std.proofs.lemmas.Bool.{and_parts}
 
 place_same : (p : Place) → is_live_place p ≡ not (is_at p place.Disk)
 place_same place.Memory = refl
-place_same place.Flight = refl
-place_same place.Disk = refl
+place_same p = refl
 
 -- the live heads stand for the live nodes
 pub live_heads : (heads : List Head) → nodes_of (filter (λ h. is_live_place h.place) heads) ≡ filter (λ x. is_live x.patch) (nodes_of heads)
 live_heads [] = refl
-live_heads (h ∷ hs) = elim (cases_Bool (is_live_place h.place)) [
-  | inl e ↦ let f = sym (place_same h.place) ∙ e in let r = live_heads hs in rw (e, f, r) refl
-  | inr e ↦ let f = sym (place_same h.place) ∙ e in let r = live_heads hs in rw (e, f, r) refl
-]
+live_heads (h ∷ hs) = grind (arith, cases_Bool, place_same, live_heads hs)
 
 pub live_place_of : (p : Place) → (p ≡ place.Disk → ⊥) → not (is_at p place.Disk) ≡ true
-live_place_of place.Memory n = refl
-live_place_of place.Flight n = refl
 live_place_of place.Disk n = absurd (n refl)
+live_place_of p n = refl
 
 pub not_disk : (p : Place) → not (is_at p place.Disk) ≡ true → p ≡ place.Disk → ⊥
 not_disk place.Memory e d = cc
-not_disk place.Flight e d = cc
-not_disk place.Disk e d = cc
-
-pub and_parts : (a b : Bool) → (a && b) ≡ true → (a ≡ true) × (b ≡ true)
-and_parts true b e = (refl, e)
-and_parts false b e = absurd (false≢true e)
+not_disk p e d = cc
 
 pub live_in : (heads : List Patch) (n : ℕ) → is_live_in heads n ≡ true → IsLiveNumber heads n
 live_in [] n e = absurd (false≢true e)
@@ -54,27 +33,11 @@ live_in (p ∷ ps) n e = elim (cases_Bool (is_live p && (p.number == n))) [
 ]
 
 pub in_live : (heads : List Patch) (n : ℕ) → IsLiveNumber heads n → is_live_in heads n ≡ true
-in_live heads n l = go heads (In-from_Contains heads l.patch l.head)
-  where
-    yes_p : (is_live l.patch && (l.patch.number == n)) ≡ true
-    yes_p = rw (live_place_of l.patch.place l.live, eq-eqb l.patch.number n l.numbered) refl
-
-    go : (ps : List Patch) → In ps l.patch → is_live_in ps n ≡ true
-    go [] i = absurd i
-    go (p ∷ ps) (inl e) = rw (subst (λ q. (is_live q && (q.number == n)) ≡ true) (sym e) yes_p) refl
-    go (p ∷ ps) (inr i) = elim (cases_Bool (is_live p && (p.number == n))) [ inl t ↦ rw t refl | inr f ↦ rw f (go ps i) ]
-
--- a test that says what another does
-pub same_test : (heads : List Patch) (n : ℕ) (b : Bool) → (b ≡ true → IsLiveNumber heads n) → (IsLiveNumber heads n → b ≡ true) → b ≡ is_live_in heads n
-same_test heads n true f g = sym (in_live heads n (f refl))
-same_test heads n false f g = elim (cases_Bool (is_live_in heads n)) [ inl t ↦ absurd (false≢true (g (live_in heads n t))) | inr e ↦ sym e ]
+in_live heads n l = grind (arith, common_steps, live_place_of, eq-eqb, cases_Bool)
 
 split : (heads : List Patch) → length (filter is_live heads) + length (filter (λ p. is_at p.place place.Disk) heads) ≡ length heads
 split [] = refl
-split (p ∷ ps) = elim (cases_Bool (is_at p.place place.Disk)) [
-  | inl e ↦ let r = split ps in rw e (omega (arith, r))
-  | inr e ↦ let r = split ps in rw e (omega (arith, r))
-]
+split (p ∷ ps) = grind (arith, cases_Bool, split ps)
 
 pub counted : (heads : List Patch) → length (filter is_live heads) + count_by (λ p. is_at p.place place.Disk) heads ≡ length heads
 counted heads = let s = split heads in let c = length-filter (λ (p : Patch). is_at p.place place.Disk) heads in omega (arith, s, c)

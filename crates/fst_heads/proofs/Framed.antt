@@ -1,13 +1,7 @@
 -- A head that was changed but for its number and its rows.
-use Rattle.std.proofs.Common.{◌≡◌, ◌≢◌, ◌++◌, ℕ, zero, suc, ◌<◌, List, [], ◌∷◌, length, get_or, set, Contains, refl, sym, ap, subst, ◌∙◌, inl, inr, arith}
-use Rattle.std.proofs.lemmas.List.Elements.{Contains-push_cases}
-use Rattle.smallvec.specs.SmallVec.{HasRoomFor}
-use Rattle.fst_types.proofs.Finite.{In, In-from_Contains, Contains-from_In}
-use Rattle.fst_heads.specs.declared.head.Head.{Head}
-use Rattle.fst_heads.specs.Frames.{frame_of, frames_of, HasRoomBelow}
-use Rattle.fst_heads.specs.Heads.{IsRising}
-use Rattle.fst_heads.specs.Marks.{HasSlot}
-use Rattle.fst_heads.specs.Nodes.{HasRoomAbove}
+use Rattle.fst_heads.proofs.Basics.{◌≡◌, ◌≢◌, ◌++◌, ℕ, zero, suc, ◌<◌, List, [], ◌∷◌, length, get_or, set, Contains, refl, sym, ap, subst, ◌∙◌, inl, inr, arith, Contains-push_cases, HasRoomFor, rules}
+use Rattle.fst_heads.proofs.Patches.{In, In-from_Contains, Contains-from_In}
+use Rattle.fst_heads.proofs.Words.{Head, frame_of, frames_of, HasRoomBelow, IsRising, HasSlot, HasRoomAbove}
 use Rattle.fst_heads.proofs.Linking.{set_cases}
 use Rattle.fst_heads.proofs.Slots.{any_default, slot_unique}
 
@@ -19,10 +13,7 @@ frames_set (h ∷ hs) (suc s) y d lt e = ap (λ xs. frame_of h ∷ xs) (frames_s
 -- each of the new heads has the number and the rows of an old one
 framed : (new old : List Head) → frames_of new ≡ frames_of old → (h : Head) → In new h → (k : Head) × In old k × (frame_of h ≡ frame_of k)
 framed [] old e h i = absurd i
-framed (x ∷ xs) [] e h i = absurd (none_first (frame_of x) (frames_of xs) e)
-  where
-    none_first : {X : Type 0} (y : X) (ys : List X) → y ∷ ys ≡ [] → ⊥
-    none_first y ys e = cc
+framed (x ∷ xs) [] e h i = grind arith
 framed (x ∷ xs) (y ∷ ys) e h i =
     let first : frame_of x ≡ frame_of y = cc in
     let rest : frames_of xs ≡ frames_of ys = cc in
@@ -47,24 +38,9 @@ module _ (heads : List Head) (n s : ℕ) (y : Head) (rising : IsRising heads) (s
     | inr other ↦ absurd (other.2 (slot_unique heads n other.0 s rising (other.1, λ d. ap (λ k. k.number) (any_default heads other.0 d h other.1 ∙ other.3) ∙ named) slot))
   ]
 
-  pub above_set : (d : Head) → y.number ≡ (get_or heads s d).number → y.dependants ≡ (get_or heads s d).dependants → (row : List ℕ) → HasRoomAbove heads row → HasRoomAbove (set heads s y) row
-  above_set d number dependants row room h c named = elim (set_cases heads s y h slot.0 c) [
-    | inl same ↦
-        let k = get_or heads s d in
-        let there : Contains heads k = (s, slot.0, any_default heads s k d slot.0) in
-        subst (λ (x : Head). HasRoomFor x.dependants 1) same (subst (λ v. HasRoomFor v 1) (sym dependants) (room k there (subst (Contains row) (sym (ap (λ (x : Head). x.number) same) ∙ number) named)))
-    | inr other ↦ room h (other.0, other.1, other.3) named
-  ]
-
 -- the direct dependencies of all heads have the room that they had
 pub still_below : (heads : List Head) (s : ℕ) (y d : Head) → s < length heads → y.number ≡ (get_or heads s d).number → y.dependencies ≡ (get_or heads s d).dependencies → (n : ℕ) → HasRoomBelow heads n → HasRoomBelow (set heads s y) n
-still_below heads s y d lt number dependencies n room h c named = elim (set_cases heads s y h lt c) [
-  | inl same ↦
-      let k = get_or heads s d in
-      let there : Contains heads k = (s, lt, any_default heads s k d lt) in
-      subst (λ (x : Head). HasRoomFor x.dependencies 1) same (subst (λ v. HasRoomFor v 1) (sym dependencies) (room k there (sym number ∙ (ap (λ (x : Head). x.number) same ∙ named))))
-  | inr other ↦ room h (other.0, other.1, other.3) named
-]
+still_below heads s y d lt number dependencies n room h c named = search (rules, set_cases, any_default)
 
 -- with one head more
 pub pushed_below : (heads : List Head) (y : Head) (n : ℕ) → y.number ≢ n → HasRoomBelow heads n → HasRoomBelow (heads ++ y ∷ []) n

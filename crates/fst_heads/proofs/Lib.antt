@@ -1,3 +1,6 @@
+pub mod Basics
+pub mod Patches
+pub mod Words
 pub mod Slots
 pub mod Rows
 pub mod Making
@@ -5,7 +8,6 @@ pub mod Newest
 pub mod Covering
 pub mod Touching
 pub mod Forgetting
-pub mod Missing
 pub mod Marked
 pub mod Leading
 pub mod Graded
@@ -13,8 +15,6 @@ pub mod AtNumber
 pub mod Linking
 pub mod Placed
 pub mod Listing
-pub mod Relisting
-pub mod Squares
 pub mod Joining
 pub mod Sums
 pub mod PendingAt
@@ -27,15 +27,11 @@ pub mod Stands
 pub mod Turning
 pub mod Waiting
 pub mod Telling
+pub mod Popping
 pub mod Pended
-pub mod Begins
-pub mod SpreadKept
 pub mod Starting
 pub mod Carried
-pub mod Launching
 pub mod Passing
 pub mod Slotted
-pub mod Popping
-pub mod Living
 pub mod Beside
 pub mod Framed

@@ -1,41 +1,17 @@
 -- Loops along a row that change the head of each of its numbers.
-use Rattle.std.proofs.Common.{◌≡◌, ◌≢◌, ◌⊎◌, ◌||◌, ℕ, zero, suc, ◌+◌, ◌<◌, ◌≤◌, Bool, true, false, List, [], ◌∷◌, ◌++◌, take, length, map, get_or, set, Contains, if◌then◌else◌, refl, sym, ap, subst, ◌∙◌, inl, inr, arith, get_or-set_same, get_or-set_other}
-use Rattle.std.specs.List.Sorted.{IsStrictlyIncreasing}
-use Rattle.std.proofs.Math.ListN.{length-set}
-use Rattle.std.proofs.lemmas.Bool.{cases_eq, eq-eqb, ne_eqb}
-use Rattle.std.proofs.lemmas.List.{length-map, take_more}
-use Rattle.std.proofs.lemmas.List.Elements.{Contains-get_or}
-use Rattle.std.proofs.lemmas.List.Kept.{AllPairs-from_increasing}
-use Rattle.smallvec.specs.SmallVec.{HasRoomFor}
-use Rattle.fst_types.specs.Tests.{is_among}
-use Rattle.fst_types.proofs.Finite.{In}
-use Rattle.fst_heads.specs.declared.head.Head.{Head}
-use Rattle.fst_heads.specs.Heads.{IsRising}
-use Rattle.fst_heads.specs.Marks.{HasSlot, HasNone}
-use Rattle.fst_heads.specs.Nodes.{Node, node_of, nodes_of, at_number, linked_to, HasRoomAbove}
+use Rattle.fst_heads.proofs.Basics.{◌≡◌, ◌≢◌, ◌⊎◌, ℕ, zero, suc, ◌+◌, ◌<◌, ◌≤◌, Bool, true, false, List, [], ◌∷◌, ◌++◌, take, length, map, get_or, set, Contains, if◌then◌else◌, refl, sym, ap, subst, ◌∙◌, inl, inr, arith, get_or-set_same, get_or-set_other, IsStrictlyIncreasing, or-true, AllPairs, length-set}
+use Rattle.fst_heads.proofs.Basics.{cases_eq, eq-eqb, ne_eqb, take_more, AllPairs-from_increasing, HasRoomFor}
+use Rattle.fst_heads.proofs.Patches.{is_among, In}
+use Rattle.fst_heads.proofs.Words.{Head, IsRising, HasSlot, HasNone, Node, node_of, nodes_of, at_number, linked_to, HasRoomAbove}
 use Rattle.fst_heads.proofs.AtNumber.{at_other, at_same}
-use Rattle.fst_heads.proofs.Slots.{any_default, slot_unique}
-
--- heads of which the nodes were changed but for their numbers have the numbers that they had
-number_as : (f : Node → Node) → ((x : Node) → (f x).patch.number ≡ x.patch.number) → (new old : List Head) → nodes_of new ≡ map f (nodes_of old)
-    → (i : ℕ) (d : Head) → i < length new → (get_or new i d).number ≡ (get_or old i d).number
-number_as f keeps [] old e i d lt = absurd (omega (arith, lt))
-number_as f keeps (h ∷ hs) [] e i d lt = cc
-number_as f keeps (h ∷ hs) (k ∷ ks) e zero d lt =
-    let first : node_of h ≡ f (node_of k) = cc in
-    ap (λ x. x.patch.number) first ∙ keeps (node_of k)
-number_as f keeps (h ∷ hs) (k ∷ ks) e (suc i) d lt =
-    let rest : nodes_of hs ≡ map f (nodes_of ks) = cc in
-    number_as f keeps hs ks rest i d (omega (arith, lt))
+use Rattle.fst_heads.proofs.Slots.{any_default, slot_unique, rising_map, rising_back}
 
 -- and rise as they did
 pub rising_as : (f : Node → Node) → ((x : Node) → (f x).patch.number ≡ x.patch.number) → (new old : List Head) → nodes_of new ≡ map f (nodes_of old) → IsRising old → IsRising new
-rising_as f keeps new old e rising i j d lt inside =
-    let a = number_as f keeps new old e i d (omega (arith, lt, inside)) in
-    let b = number_as f keeps new old e j d inside in
-    let long : length new ≡ length old = sym (length-map new node_of) ∙ (ap length e ∙ (length-map (nodes_of old) f ∙ length-map old node_of)) in
-    let r = rising i j d lt (omega (arith, inside, long)) in
-    omega (arith, a, b, r)
+rising_as f keeps new old e rising =
+    let before = rising_map node_of old (λ h. h.number) (λ x. x.patch.number) (λ h. refl) rising in
+    let after = rising_map f (nodes_of old) (λ x. x.patch.number) (λ x. x.patch.number) keeps before in
+    rising_back node_of new (λ h. h.number) (λ x. x.patch.number) (λ h. refl) (subst (λ ns. AllPairs (λ x y. x.patch.number < y.patch.number) ns) (sym e) after)
 
 map_self : (xs : List Node) → map (λ x. x) xs ≡ xs
 map_self [] = refl
@@ -63,11 +39,7 @@ nodes_set (h ∷ hs) (suc s) y d lt e = ap (λ xs. node_of h ∷ xs) (nodes_set 
 
 -- what is in the list after one head was set is that head, or stands in another slot
 pub set_cases : (heads : List Head) (s : ℕ) (y h : Head) → s < length heads → Contains (set heads s y) h → (y ≡ h) ⊎ ((j : ℕ) × (j < length heads) × (j ≢ s) × (get_or heads j h ≡ h))
-set_cases heads s y h lt c =
-    elim (cases_eq c.0 s) [
-      | inl same ↦ inl (sym (get_or-set_same heads s y h lt) ∙ subst (λ k. get_or (set heads s y) k h ≡ h) same c.2)
-      | inr other ↦ inr (c.0, omega (arith, c.1, length-set heads s y), other, sym (get_or-set_other heads s c.0 y h other) ∙ c.2)
-    ]
+set_cases heads s y h lt c = grind (arith, cases_eq, get_or-set_same, length-set, get_or-set_other)
 
 -- the heads of the first i numbers of the row have room for one more dependant
 abbrev pub HasRoomUpTo : List Head → List ℕ → ℕ → Type 0
@@ -77,15 +49,8 @@ HasRoomUpTo heads row i = (h : Head) (k : ℕ) → Contains heads h → k < i �
 abbrev pub HasRoomFrom : List Head → List ℕ → ℕ → Type 0
 HasRoomFrom heads row i = (h : Head) (k : ℕ) → Contains heads h → i ≤ k → k < length row → h.number ≡ get_or row k 0 → HasRoomFor h.dependants 1
 
-pub room_all : (heads : List Head) (row : List ℕ) (i : ℕ) → length row ≤ i → HasRoomUpTo heads row i → HasRoomAbove heads row
-room_all heads row i past room h c m = room h m.0 c (omega (arith, m.1, past)) m.1 (sym m.2 ∙ any_default row m.0 h.number 0 m.1)
-
 pub room_first : (heads : List Head) (row : List ℕ) → HasRoomAbove heads row → HasRoomFrom heads row 0
 room_first heads row room h k c le inside e = room h c (k, inside, any_default row k h.number 0 inside ∙ sym e)
-
--- the head at the slot of the next number
-pub room_here : (heads : List Head) (row : List ℕ) (i s : ℕ) (d : Head) → i < length row → HasSlot heads (get_or row i 0) s → HasRoomFrom heads row i → HasRoomFor (get_or heads s d).dependants 1
-room_here heads row i s d lt slot room = room (get_or heads s d) i (Contains-get_or heads s d slot.0) (omega arith) lt (slot.1 d)
 
 pub room_more : (heads : List Head) (row : List ℕ) (i s : ℕ) (y : Head) → IsRising heads → HasSlot heads (get_or row i 0) s → HasRoomFor y.dependants 1 → HasRoomUpTo heads row i → HasRoomUpTo (set heads s y) row (i + 1)
 room_more heads row i s y rising slot here room h k c lt inside e =
@@ -101,11 +66,7 @@ room_more heads row i s y rising slot here room h k c lt inside e =
     ]
 
 pub room_skip : (heads : List Head) (row : List ℕ) (i : ℕ) → HasNone heads (get_or row i 0) → HasRoomUpTo heads row i → HasRoomUpTo heads row (i + 1)
-room_skip heads row i none room h k c lt inside e =
-    elim (cases_eq k i) [
-      | inl last ↦ absurd (none c.0 h c.1 (ap (λ x. x.number) c.2 ∙ (e ∙ ap (λ m. get_or row m 0) last)))
-      | inr earlier ↦ room h k c (omega (arith, lt, earlier)) inside e
-    ]
+room_skip heads row i none room h k c lt inside e = grind (arith, cases_eq)
 
 -- the head that was linked has none of the numbers that are left, since they rise
 pub room_left : (heads : List Head) (row : List ℕ) (i s : ℕ) (y : Head) → IsStrictlyIncreasing row → s < length heads → y.number ≡ get_or row i 0 → HasRoomFrom heads row i → HasRoomFrom (set heads s y) row (i + 1)
@@ -121,17 +82,13 @@ room_left heads row i s y once lt number room h k c le inside e =
 pub room_fewer : (heads : List Head) (row : List ℕ) (i : ℕ) → HasRoomFrom heads row i → HasRoomFrom heads row (i + 1)
 room_fewer heads row i room h k c le inside e = room h k c (omega (arith, le)) inside e
 
-or_true : (b : Bool) → (b || true) ≡ true
-or_true true = refl
-or_true false = refl
-
 pub among_push_other : (row : List ℕ) (r m : ℕ) → r ≢ m → is_among (row ++ r ∷ []) m ≡ is_among row m
 among_push_other [] r m ne = rw (ne_eqb r m ne) refl
 among_push_other (y ∷ ys) r m ne = rw (among_push_other ys r m ne) refl
 
 pub among_push_same : (row : List ℕ) (r : ℕ) → is_among (row ++ r ∷ []) r ≡ true
 among_push_same [] r = rw (eq-eqb r r refl) refl
-among_push_same (y ∷ ys) r = rw (among_push_same ys r) (or_true _)
+among_push_same (y ∷ ys) r = rw (among_push_same ys r) (or-true _)
 
 pub none_among : (xs : List ℕ) (m : ℕ) → ((x : ℕ) → In xs x → x ≢ m) → is_among xs m ≡ false
 none_among [] m none = refl
@@ -148,20 +105,7 @@ adds n x = record x { dependants = x.dependants ++ n ∷ [] }
 
 -- the last number of the row is linked after the others
 link_push : (row : List ℕ) (r n : ℕ) (x : Node) → is_among row r ≡ false → at_number r (adds n) (linked_to row n x) ≡ linked_to (row ++ r ∷ []) n x
-link_push row r n x none =
-    elim (cases_eq x.patch.number r) [
-      | inl same ↦
-          let here : is_among row x.patch.number ≡ false = ap (is_among row) same ∙ none in
-          let there : is_among (row ++ r ∷ []) x.patch.number ≡ true = ap (is_among (row ++ r ∷ [])) same ∙ among_push_same row r in
-          let stays : linked_to row n x ≡ x = rw here refl in
-          let gains : linked_to (row ++ r ∷ []) n x ≡ adds n x = rw there refl in
-          rw stays (at_same r (adds n) x same ∙ sym gains)
-      | inr other ↦
-          let number = ap (λ p. p.number) (linked_patch row n x) in
-          let alike : is_among (row ++ r ∷ []) x.patch.number ≡ is_among row x.patch.number = among_push_other row r x.patch.number (λ e. other (sym e)) in
-          let same : linked_to (row ++ r ∷ []) n x ≡ linked_to row n x = rw alike refl in
-          at_other r (adds n) (linked_to row n x) (λ e. other (sym number ∙ e)) ∙ sym same
-    ]
+link_push row r n x none = grind (arith, cases_eq, among_push_same, at_same, linked_patch, among_push_other, at_other)
 
 -- one change after another
 pub map_twice : (f g h : Node → Node) → ((x : Node) → f (g x) ≡ h x) → (xs : List Node) → map f (map g xs) ≡ map h xs

@@ -1,25 +1,14 @@
 -- The walk along the list of a block that lands what is in flight.
-use Rattle.std.proofs.Common.{◌≡◌, ◌≢◌, ◌==◌, ◌&&◌, ◌||◌, ℕ, zero, suc, ◌<◌, ◌≤◌, Bool, true, false, not, cond, List, [], ◌∷◌, ◌++◌, length, map, set, get_or, Contains, Some, refl, sym, ap, ◌∙◌, inl, inr, arith}
-use Rattle.std.specs.List.{list_any}
-use Rattle.std.proofs.Math.Bool.{and-false}
-use Rattle.std.proofs.lemmas.Bool.{cases_Bool, false≢true, eq-eqb, ne_eqb}
-use Rattle.std.proofs.lemmas.List.{set-get_or, append_assoc, append-nil, length-append, length-map, get_or-map}
-use Rattle.fst_types.specs.declared.place.Place.{Place}
-use Rattle.fst_types.specs.declared.place.Place.TheVariants as place
-use Rattle.fst_types.specs.Patches.{Kind, Change, Empty, OpenGate, SealedGate, Patch, IsRising as Rising, block_of_kind}
-use Rattle.fst_types.specs.Tests.{is_at, is_on, is_change_at}
-use Rattle.fst_types.specs.Writing.{landed}
-use Rattle.fst_types.proofs.Finite.{In, In-from_Contains, Contains-from_In}
-use Rattle.fst_heads.specs.declared.head.Head.{Head}
-use Rattle.fst_heads.specs.Spreading.{lands}
-use Rattle.fst_heads.specs.Heads.{IsRising, patch_of, patches_of}
-use Rattle.fst_heads.specs.Lists.{Entry, is_live_on, entries_on, flying_on, AreListed}
-use Rattle.fst_heads.specs.Marks.{HasSlot, HasNone}
-use Rattle.fst_heads.specs.Nodes.{Node, node_of, nodes_of, patches_in, at_number}
-use Rattle.fst_heads.proofs.Slots.{any_default, some_element}
+use Rattle.fst_heads.proofs.Basics.{◌≡◌, ◌≢◌, ◌==◌, ◌&&◌, ℕ, zero, suc, ◌<◌, ◌≤◌, Bool, true, false, not, cond, List, [], ◌∷◌, ◌++◌, length, map, set, get_or, Contains, Some, refl, sym, ap, ◌∙◌, inl, inr, arith, list_any, and-false, cases_Bool, eq-eqb, ne_eqb, set-get_or, or_parts, rules, append_assoc, append-nil}
+use Rattle.fst_heads.proofs.Basics.{length-append, get_or-map, ◌+◌, filter, subst, get_or-set_same, get_or-set_other, length-set, AllPairs, IsStrictlyIncreasing, AllPairs-filter, and_parts, cases_eq, false≢true, length-map}
+use Rattle.fst_heads.proofs.Patches.{Place, Kind, Change, Patch, Rising, block_of_kind, is_at, is_on, is_change_at, landed, In, In-from_Contains, Contains-from_In, is_among, is_live, In-map, same_number, filter_in, in_filter, among_in, in_among}
+use Rattle.fst_heads.proofs.Words.{Head, lands, IsRising, patch_of, patches_of, Entry, is_live_on, entries_on, flying_on, AreListed, HasSlot, HasNone, Node, node_of, nodes_of, patches_in, at_number, Listed, entry, entries_of}
+use Rattle.fst_heads.proofs.Slots.{any_default, rising_map}
 use Rattle.fst_heads.proofs.Starting.{patches_landed}
 use Rattle.fst_heads.proofs.Linking.{rising_as}
 use Rattle.fst_heads.proofs.AtNumber.{patches_in_nodes, at_other, at_same, at_none, at_slot}
+use Rattle.fst_heads.proofs.Placed.{unmapped}
+use Rattle.fst_heads.proofs.Patches.place
 
 -- whether a node with number n passes
 pub any_none : (heads : List Head) (n : ℕ) (t : Node → Bool) → HasNone heads n → list_any (λ x. (x.patch.number == n) && t x) (nodes_of heads) ≡ false
@@ -35,23 +24,12 @@ any_slot (h ∷ hs) n zero t d rising slot =
 any_slot (h ∷ hs) n (suc s) t d rising slot =
     let inside = slot.0 in
     let below = rising 0 (suc s) d (omega arith) inside in
-    let there = slot.1 d in
-    rw (ne_eqb h.number n (λ same. omega (arith, same, below, there)))
+    rw (ne_eqb h.number n (λ same. omega (arith, same, below, slot.1 d)))
     (any_slot hs n s t d (λ i j c lt b. rising (suc i) (suc j) c (omega (arith, lt)) (omega (arith, b))) (omega (arith, inside), slot.1))
 
 -- patches rise as their heads do
 pub rising_patches : (heads : List Head) → IsRising heads → Rising (patches_of heads)
-rising_patches heads rising i j p lt inside =
-    let long = length-map heads patch_of in
-    let d = some_element heads j (omega (arith, inside, long)) in
-    let low = ap (λ p. p.number) (get_or-map patch_of heads i d p (omega (arith, lt, inside, long))) in
-    let high = ap (λ p. p.number) (get_or-map patch_of heads j d p (omega (arith, inside, long))) in
-    let r = rising i j d lt (omega (arith, inside, long)) in
-    omega (arith, low, high, r)
-
-or_parts : (a t : Bool) → (a || t) ≡ false → (a ≡ false) × (t ≡ false)
-or_parts false t e = (refl, e)
-or_parts true t e = absurd (false≢true (sym e))
+rising_patches heads rising = rising_map patch_of heads (λ h. h.number) (λ p. p.number) (λ h. refl) rising
 
 no_more : (ns : List ℕ) → length ns ≤ 0 → ns ≡ []
 no_more [] few = refl
@@ -105,9 +83,8 @@ module _ (b : ℕ) where
       ]
 
   still_place : (p : Place) (t : Bool) → (not (is_at p place.Disk) && t) ≡ false → (is_at p place.Flight && t) ≡ false
-  still_place place.Memory t e = refl
   still_place place.Flight t e = e
-  still_place place.Disk t e = refl
+  still_place p t e = refl
 
   -- what is not listed does not fly
   pub still : (p : Patch) → is_live_on b p ≡ false → is_change_at place.Flight b p ≡ false
@@ -131,10 +108,7 @@ module _ (b : ℕ) where
 
     -- the step of the walk at the first node
     first_lands : map (at_number h.number (lands b)) (nodes_of (h ∷ hs)) ≡ lands b (node_of h) ∷ nodes_of hs
-    first_lands =
-        let one = at_same h.number (lands b) (node_of h) refl in
-        let rest = sym (at_none hs h.number (lands b) none_above) in
-        cc
+    first_lands = grind (arith, at_same, at_none, none_above)
 
     first_flies : flies_at h.number (nodes_of (h ∷ hs)) ≡ cond (flies (node_of h)) (h.number ∷ []) []
     first_flies = ap (λ t. cond t (h.number ∷ []) []) (any_slot (h ∷ hs) h.number 0 flies h rising (omega arith, λ d. refl))
@@ -161,9 +135,7 @@ module _ (b : ℕ) where
 
   flying_few : (heads : List Head) → length (flying_on b (patches_of heads)) ≤ length heads
   flying_few [] = omega arith
-  flying_few (h ∷ hs) =
-      let rest = flying_few hs in
-      elim (cases_Bool (is_change_at place.Flight b (patch_of h))) [ inl e ↦ rw e (omega (arith, rest)) | inr e ↦ rw e (omega (arith, rest)) ]
+  flying_few (h ∷ hs) = grind (arith, cases_Bool, flying_few hs)
 
   pub all_fly : (heads : List Head) → IsRising heads → fly_each (numbers_on heads) (nodes_of heads) ≡ flying_on b (patches_of heads)
   all_fly [] rising = refl
@@ -197,10 +169,7 @@ module _ (b : ℕ) where
     stepped new more nodes gained = record {
       rising = rising_as (at_number n (lands b)) one_number new heads nodes x.rising;
       nodes = ap (λ xs. land_each left xs) nodes ∙ (sym (ap (λ ns. land_each ns (nodes_of heads)) next) ∙ x.nodes);
-      queued =
-          ap (λ ns. ns ++ fly_each left (nodes_of new)) gained
-          ∙ (append_assoc queue (flies_at n (nodes_of heads)) (fly_each left (nodes_of new))
-          ∙ (ap (λ xs. queue ++ (flies_at n (nodes_of heads) ++ fly_each left xs)) nodes ∙ (sym (ap (λ ns. queue ++ fly_each ns (nodes_of heads)) next) ∙ x.queued)));
+      queued = grind (arith, append_assoc);
     }
 
     nothing : (t : Bool) → t ≡ false → queue ≡ queue ++ cond t (n ∷ []) []
@@ -221,10 +190,7 @@ module _ (b : ℕ) where
           (nothing _ (here ∙ none))
 
       landing_more : (y : Head) → is_change_at place.Flight b (patch_of (get_or heads s d)) ≡ true → node_of y ≡ lands b (node_of (get_or heads s d)) → Landing start (set heads s y) left (queue ++ n ∷ [])
-      landing_more y flying e =
-          stepped (set heads s y) (queue ++ n ∷ [])
-          (at_slot heads n s (lands b) y d x.rising slot e)
-          (ap (λ t. queue ++ cond t (n ∷ []) []) (sym (here ∙ flying)))
+      landing_more y flying e = search (rules, stepped, at_slot, here)
 
       pub landing_disk : is_change_at place.Flight b (patch_of (get_or heads s d)) ≡ true → (m : Head) → m ≡ get_or heads s m → Landing start (set heads s (record m { place = place.Disk })) left (queue ++ n ∷ [])
       landing_disk flying m same =
@@ -236,10 +202,7 @@ module _ (b : ℕ) where
       pub landing_room : is_change_at place.Flight b (patch_of (get_or heads s d)) ≡ true → length queue < length start
       landing_room flying =
           let one = ap (λ t. queue ++ (cond t (n ∷ []) [] ++ fly_each left (map (at_number n (lands b)) (nodes_of heads)))) (sym (here ∙ flying)) ∙ (sym (ap (λ ns. queue ++ fly_each ns (nodes_of heads)) next) ∙ x.queued) in
-          let long = length-append queue (n ∷ fly_each left (map (at_number n (lands b)) (nodes_of heads))) in
-          let few = flying_few start in
-          let total = ap length one in
-          omega (arith, long, few, total)
+          omega (arith, length-append queue (n ∷ fly_each left (map (at_number n (lands b)) (nodes_of heads))), flying_few start, ap length one)
 
   -- where the walk meets no more that flies, it leaves the nodes as they are
   unmoved : (n : ℕ) (nodes : List Node) → list_any (λ x. (x.patch.number == n) && flies x) nodes ≡ false → map (at_number n (lands b)) nodes ≡ nodes
@@ -263,11 +226,7 @@ module _ (b : ℕ) where
 
   -- where as many landed as fly, the walk has no more to land
   pub landing_full : (start heads : List Head) (rest queue : List ℕ) → Landing start heads rest queue → length (flying_on b (patches_of start)) ≤ length queue → (nodes_of heads ≡ map (lands b) (nodes_of start)) × (queue ≡ flying_on b (patches_of start))
-  landing_full start heads rest queue x full =
-      let total = ap length x.queued in
-      let long = length-append queue (fly_each rest (nodes_of heads)) in
-      let none = no_more (fly_each rest (nodes_of heads)) (omega (arith, total, long, full)) in
-      (sym (none_left rest (nodes_of heads) none) ∙ x.nodes, sym (append-nil queue) ∙ (ap (λ ns. queue ++ ns) (sym none) ∙ x.queued))
+  landing_full start heads rest queue x full = grind (arith, length-append, no_more, none_left, append-nil)
 
   module _ (heads : List Head) (new : List Head) (landing : nodes_of new ≡ map (lands b) (nodes_of heads)) where
     pub heads_landed : patches_of new ≡ map (landed b) (patches_of heads)
@@ -298,6 +257,84 @@ module _ (b : ℕ) where
 -- a kind that is not that of a change of b
 pub is_off : (b : ℕ) (k : Kind) → (block_of_kind k ≡ Some b → ⊥) → is_on b k ≡ false
 is_off b (Change block at len grade) off = ne_eqb block b (λ e. off (ap Some e))
-is_off b Empty off = refl
-is_off b OpenGate off = refl
-is_off b SealedGate off = refl
+is_off b k off = refl
+
+-- the lists of the blocks after a landing
+
+-- entries go as what they stand for
+pub entries_filter : (stays : ℕ → Bool) (list : List Listed) → entries_of (filter (λ (l : Listed). stays l.number) list) ≡ filter (λ e. stays e.number) (entries_of list)
+entries_filter stays [] = refl
+entries_filter stays (l ∷ ls) = grind (arith, cases_Bool, entries_filter stays ls)
+
+entries_cons : (b : ℕ) (p : Patch) (ps : List Patch) → entries_on b (p ∷ ps) ≡ cond (is_live_on b p) (entry p ∷ entries_on b ps) (entries_on b ps)
+entries_cons b p ps = elim (cases_Bool (is_live_on b p)) [ inl e ↦ rw e refl | inr e ↦ rw e refl ]
+
+and_on : (a t : Bool) → t ≡ true → (a && t) ≡ a
+and_on true t e = e
+and_on false t e = refl
+
+abbrev IsBelow : Patch → Patch → Type 0
+IsBelow p q = p.number < q.number
+
+numbers_rise : (ps : List Patch) → AllPairs IsBelow ps → IsStrictlyIncreasing (map (λ p. p.number) ps)
+numbers_rise [] pairs k lt = absurd (omega (arith, lt))
+numbers_rise (p ∷ ps) pairs k lt =
+    let long = length-map (p ∷ ps) (λ (q : Patch). q.number) in
+    let r = pairs k (k + 1) p (omega arith) (omega (arith, lt, long)) in
+    let e = get_or-map (λ (q : Patch). q.number) (p ∷ ps) k p 0 (omega (arith, lt, long)) in
+    let f = get_or-map (λ (q : Patch). q.number) (p ∷ ps) (k + 1) p 0 (omega (arith, lt, long)) in
+    omega (arith, r, e, f)
+
+module _ (b : ℕ) where
+  landed_entry : (p : Patch) → entry (landed b p) ≡ entry p
+  landed_entry p = elim (cases_Bool (is_change_at place.Flight b p)) [ inl e ↦ rw e refl | inr e ↦ rw e refl ]
+
+  landed_kind : (p : Patch) → (landed b p).kind ≡ p.kind
+  landed_kind p = elim (cases_Bool (is_change_at place.Flight b p)) [ inl e ↦ rw e refl | inr e ↦ rw e refl ]
+
+  landed_still : (p : Patch) → is_live_on b p ≡ false → landed b p ≡ p
+  landed_still p e = rw (still b p e) refl
+
+  -- after the landing, the list of b has those of its entries that stay live
+  entries_kept : (stays : ℕ → Bool) (ps : List Patch) → ((p : Patch) → In ps p → is_live_on b p ≡ true → stays p.number ≡ is_live (landed b p))
+      → filter (λ e. stays e.number) (entries_on b ps) ≡ entries_on b (map (landed b) ps)
+  entries_kept stays [] says = refl
+  entries_kept stays (p ∷ ps) says = grind (arith, entries_cons, cases_Bool, and_on, and_parts, landed_kind, landed_entry, landed_still, entries_kept stays ps (λ q i. says q (inr i)))
+
+  entries_other : (c : ℕ) (ps : List Patch) → c ≢ b → entries_on c (map (landed b) ps) ≡ entries_on c ps
+  entries_other c [] ne = refl
+  entries_other c (p ∷ ps) ne = grind (arith, landed_entry, entries_cons, entries_other c ps ne)
+
+  module _ (ps : List Patch) (rising : Rising ps) where
+    -- the numbers of those that flew are in order
+    pub flying_rise : IsStrictlyIncreasing (flying_on b ps)
+    flying_rise = numbers_rise (filter (is_change_at place.Flight b) ps) (AllPairs-filter IsBelow (is_change_at place.Flight b) ps (λ i j d lt inside. rising i j d lt inside))
+
+    -- a live change of b flew exactly where it is live no more
+    flew : (p : Patch) → Contains ps p → is_live_on b p ≡ true → not (is_among (flying_on b ps) p.number) ≡ is_live (landed b p)
+    flew p c live = elim (cases_Bool (is_change_at place.Flight b p)) [
+      | inl e ↦
+          let there = in_among (flying_on b ps) p.number (In-map (λ q. q.number) (filter (is_change_at place.Flight b) ps) p p.number (in_filter (is_change_at place.Flight b) ps p (In-from_Contains ps p c) e) refl) in
+          rw (there, e) refl
+      | inr e ↦ elim (cases_Bool (is_among (flying_on b ps) p.number)) [
+        | inr none ↦ rw (none, e) (sym (and_parts (is_live p) (is_on b p.kind) live).0)
+        | inl some ↦
+            let q = unmapped (λ (q : Patch). q.number) (filter (is_change_at place.Flight b) ps) p.number (Contains-from_In (flying_on b ps) p.number (among_in (flying_on b ps) p.number some)) in
+            let k = filter_in (is_change_at place.Flight b) ps q.0 (In-from_Contains (filter (is_change_at place.Flight b) ps) q.0 q.1) in
+            let same = same_number ps q.0 p rising (Contains-from_In ps q.0 k.0) c q.2 in
+            absurd (false≢true (sym e ∙ (ap (is_change_at place.Flight b) (sym same) ∙ k.1)))
+      ]
+    ]
+
+    pub listed_landed : (blocks : ℕ) (lists : List (List Entry)) (kept : List Entry) → b < blocks → AreListed ps blocks lists
+        → kept ≡ filter (λ e. not (is_among (flying_on b ps) e.number)) (entries_on b ps)
+        → AreListed (map (landed b) ps) blocks (set lists b kept)
+    listed_landed blocks lists kept inside L e = record {
+      long = length-set lists b kept ∙ L.long;
+      each = λ c d within. elim (cases_eq c b) [
+        | inl same ↦
+            subst (λ k. get_or (set lists b kept) k d ≡ entries_on k (map (landed b) ps)) (sym same)
+            (get_or-set_same lists b kept d (omega (arith, inside, L.long)) ∙ (e ∙ entries_kept (λ n. not (is_among (flying_on b ps) n)) ps (λ p i live. flew p (Contains-from_In ps p i) live)))
+        | inr ne ↦ get_or-set_other lists b c kept d ne ∙ (L.each c d within ∙ sym (entries_other c ps ne))
+      ];
+    }

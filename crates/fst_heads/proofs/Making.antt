@@ -1,24 +1,14 @@
 -- What a new patch leaves of what the fields keep.
-use Rattle.std.proofs.Common.{◌≡◌, ℕ, ◌+◌, ◌<◌, ◌≤◌, Bool, false, List, [], ◌∷◌, ◌++◌, length, refl, sym, ap, subst, ◌∙◌, inl, inr, arith, lit≤}
-use Rattle.std.proofs.lemmas.List.{length_push}
-use Rattle.std.proofs.lemmas.List.Elements.{Contains-push_cases}
-use Rattle.fst_types.specs.Limits.{max_heads, max_number}
-use Rattle.fst_types.specs.Patches.{Patch, IsOn, OpenGate}
-use Rattle.fst_types.specs.Facts.{SparseAreLawful}
-use Rattle.fst_types.specs.Making.{fresh}
+use Rattle.fst_heads.proofs.Basics.{◌≡◌, ℕ, ◌+◌, ◌<◌, ◌≤◌, Bool, false, List, [], ◌∷◌, ◌++◌, length, refl, sym, subst, inl, inr, arith, lit≤, length_push, Contains-push_cases, rules}
 use Rattle.fst_types.proofs.Heads.{sparse_gated}
 use Rattle.fst_types.proofs.Loosened.{loosened}
 use Rattle.fst_types.proofs.Opened.{opening_is_lawful}
-use Rattle.fst_heads.specs.Keeps.{Keeps, IsInside}
+use Rattle.fst_heads.proofs.Patches.{max_heads, max_number, Patch, IsOn, OpenGate, SparseAreLawful, fresh}
+use Rattle.fst_heads.proofs.Words.{Keeps, IsInside}
 
 module _ (heads : List Patch) (numbers blocks : ℕ) (marks : List Bool) (K : Keeps heads numbers blocks marks) where
   pub keeps_added : (new : List Patch) → SparseAreLawful new (numbers + 1) → length new ≡ length heads + 1 → IsInside new blocks → length heads < max_heads → Keeps new (numbers + 1) blocks (marks ++ false ∷ [])
-  keeps_added new lawful long inside few = record {
-    lawful = lawful;
-    few = omega (arith, long, few);
-    inside = inside;
-    marked = length_push marks false ∙ (ap (λ k. k + 1) K.marked ∙ sym long);
-  }
+  keeps_added new lawful long inside few = search (rules, length_push)
 
 pub gate_lawful : (heads : List Patch) (numbers : ℕ) → SparseAreLawful heads numbers → SparseAreLawful (heads ++ fresh (numbers + 1) OpenGate [] ∷ []) (numbers + 1)
 gate_lawful heads numbers H = sparse_gated heads (heads ++ fresh (numbers + 1) OpenGate [] ∷ []) numbers (numbers + 1) (record { next = refl; added = refl }) H

@@ -1,15 +1,7 @@
 -- The row of a new change, from the newest changes over its bytes.
-use Rattle.std.proofs.Common.{◌≡◌, ◌⊎◌, ℕ, ◌+◌, ◌<◌, ◌≤◌, true, false, List, length, get_or, Contains, refl, sym, subst, ◌∙◌, inl, inr, arith}
-use Rattle.std.proofs.lemmas.Bool.{cases_lt}
-use Rattle.std.specs.List.Sorted.{IsStrictlyIncreasing}
-use Rattle.fst_types.specs.Dependencies.{DependsOn, IsLiveNumber}
-use Rattle.fst_types.specs.Lists.{Lists}
-use Rattle.fst_types.specs.Patches.{Patch, at_of, len_of}
-use Rattle.fst_heads.specs.declared.head.Head.{Head}
-use Rattle.fst_heads.specs.Covers.{Covering, newest_over, IsOver, IsCovered, GainsTouched}
-use Rattle.fst_heads.specs.Heads.{IsRising, patch_of, patches_of}
-use Rattle.fst_heads.specs.Marks.{HasSlot, HasNone}
-use Rattle.fst_heads.specs.Rows.{Gains, touches, IsTouched, IsDependency, IsSparseRow}
+use Rattle.fst_heads.proofs.Basics.{◌≡◌, ◌⊎◌, ℕ, ◌+◌, ◌<◌, ◌≤◌, true, false, List, length, get_or, Contains, refl, sym, subst, ◌∙◌, inl, inr, arith, cases_lt, IsStrictlyIncreasing, rules}
+use Rattle.fst_heads.proofs.Patches.{DependsOn, IsLiveNumber, Lists, Patch, at_of, len_of}
+use Rattle.fst_heads.proofs.Words.{Head, Covering, newest_over, IsOver, IsCovered, GainsTouched, IsRising, patch_of, patches_of, HasSlot, HasNone, Gains, touches, IsTouched, IsDependency, IsSparseRow}
 use Rattle.fst_heads.proofs.Slots.{any_default, none_slot, patch_at, patch_is, patch_slot, slot_in}
 use Rattle.fst_heads.proofs.Touching.{touch_parts, touch_whole}
 
@@ -36,34 +28,14 @@ pub record GainsUpTo (heads : List Patch) (numbers : List ℕ) (b at len i last 
   pub each : (k : ℕ) → k < i → 1 ≤ get_or numbers k 0 → IsTouched heads b at len (get_or numbers k 0) → Contains row (get_or numbers k 0)
   pub again : 1 ≤ last → IsTouched heads b at len last → Contains row last
 
-pub gains_none : (heads : List Patch) (numbers : List ℕ) (b at len : ℕ) (row : List ℕ) → IsStrictlyIncreasing row → GainsUpTo heads numbers b at len 0 0 row row
-gains_none heads numbers b at len row rising = record {
-  rising = rising;
-  only = λ n c. inl c;
-  kept = λ n c. c;
-  each = λ k lt. absurd (omega (arith, lt));
-  again = λ some. absurd (omega (arith, some));
-}
-
 module _ (heads : List Patch) (numbers : List ℕ) (b at len i last : ℕ) (old row : List ℕ) (x : GainsUpTo heads numbers b at len i last old row) where
   -- one number more
   up : (new : List ℕ) → ((n : ℕ) → Contains row n → Contains new n) → (1 ≤ get_or numbers i 0 → IsTouched heads b at len (get_or numbers i 0) → Contains new (get_or numbers i 0))
       → (k : ℕ) → k < i + 1 → 1 ≤ get_or numbers k 0 → IsTouched heads b at len (get_or numbers k 0) → Contains new (get_or numbers k 0)
-  up new kept here k lt some t = elim (cases_lt k i) [
-    | inl before ↦ kept _ (x.each k before some t)
-    | inr past ↦
-        let same : i ≡ k = omega (arith, lt, past) in
-        subst (λ j. 1 ≤ get_or numbers j 0 → IsTouched heads b at len (get_or numbers j 0) → Contains new (get_or numbers j 0)) same here some t
-  ]
+  up new kept here k lt some t = grind (arith, cases_lt)
 
   pub gains_same : get_or numbers i 0 ≡ last → GainsUpTo heads numbers b at len (i + 1) last old row
-  gains_same e = record {
-    rising = x.rising;
-    only = x.only;
-    kept = x.kept;
-    each = up row (λ n c. c) (subst (λ m. 1 ≤ m → IsTouched heads b at len m → Contains row m) (sym e) x.again);
-    again = x.again;
-  }
+  gains_same e = search (rules, up)
 
   pub gains_more : (new : List ℕ) → IsTouched heads b at len (get_or numbers i 0) → Gains row (get_or numbers i 0) new → GainsUpTo heads numbers b at len (i + 1) (get_or numbers i 0) old new
   gains_more new t g = record {
@@ -75,13 +47,7 @@ module _ (heads : List Patch) (numbers : List ℕ) (b at len i last : ℕ) (old 
   }
 
   pub gains_skip : (IsTouched heads b at len (get_or numbers i 0) → ⊥) → GainsUpTo heads numbers b at len (i + 1) (get_or numbers i 0) old row
-  gains_skip off = record {
-    rising = x.rising;
-    only = x.only;
-    kept = x.kept;
-    each = up row (λ n c. c) (λ some touched. absurd (off touched));
-    again = λ some touched. absurd (off touched);
-  }
+  gains_skip off = search (rules, up)
 
   pub gains_all : length numbers ≤ i → GainsTouched heads numbers b at len old row
   gains_all past = record {
@@ -115,15 +81,7 @@ touched_over heads b at len t h shares own other =
 
 -- and a change over one of its bytes shares it
 pub over_touched : (heads : List Patch) (b at len x n : ℕ) → at ≤ x → x < at + len → IsOver heads b x n → IsTouched heads b at len n
-over_touched heads b at len x n lo hi o = record {
-  patch = o.patch;
-  head = o.head;
-  numbered = o.numbered;
-  shares =
-      let s = o.starts in
-      let e = o.ends in
-      touch_whole b at len o.patch.kind o.patch.place o.live o.change (omega (arith, s, hi)) (omega (arith, lo, e));
-}
+over_touched heads b at len x n lo hi o = search (rules, touch_whole)
 
 -- the named with the newest over each byte are a sparse row
 module _ (heads : List Patch) (names : List ℕ) (b at len : ℕ) (cover : Covering) (C : IsCovered heads b cover) (numbers named row : List ℕ) where

@@ -1,24 +1,9 @@
 -- The walk along the list of a block for those of its patches that pass a test.
-use Rattle.std.proofs.Common.{◌≡◌, ◌==◌, ◌&&◌, ◌||◌, ℕ, ◌<◌, ◌+◌, Bool, true, false, not, List, [], ◌∷◌, map, filter, drop, length, get_or, refl, sym, ap, ◌∙◌, inl, inr}
-use Rattle.std.specs.List.{list_any}
-use Rattle.std.proofs.lemmas.Bool.{cases_Bool, false≢true}
-use Rattle.std.proofs.lemmas.List.{drop_more}
-use Rattle.fst_types.proofs.Finite.{In, Contains-from_In}
-use Rattle.fst_types.specs.declared.place.Place.{Place}
-use Rattle.fst_types.specs.declared.place.Place.TheVariants as place
-use Rattle.fst_types.specs.Tests.{is_at, is_on, is_change_at}
-use Rattle.fst_heads.specs.declared.pending.Pending.TheVariants as pending
-use Rattle.fst_heads.specs.Ascending.{is_free_on, is_bound_on}
-use Rattle.fst_heads.specs.declared.head.Head.{Head}
-use Rattle.fst_heads.specs.declared.lists.Listed.{Listed}
-use Rattle.fst_heads.specs.Heads.{IsRising, kind_of, patch_of, patches_of}
-use Rattle.fst_heads.specs.Lists.{entries_of, entries_on, is_live_on}
-use Rattle.fst_heads.specs.Marks.{HasSlot, HasNone}
-use Rattle.fst_heads.specs.Nodes.{Node, node_of, nodes_of}
-use Rattle.fst_heads.specs.Pendings.{is_pending}
-use Rattle.fst_heads.specs.Standings.{is_ready_on}
-use Rattle.fst_heads.specs.Tests.{is_hard_kind}
-use Rattle.fst_heads.proofs.Forgetting.{and_parts}
+use Rattle.fst_heads.proofs.Basics.{◌≡◌, ◌==◌, ◌&&◌, ◌||◌, ℕ, ◌<◌, ◌+◌, Bool, true, false, not, List, [], ◌∷◌, map, filter, drop, length, get_or, refl, sym, ap, ◌∙◌, inr, list_any, cases_Bool, false≢true, drop_more, and_parts, arith}
+use Rattle.fst_heads.proofs.Patches.{In, Contains-from_In, Place, is_at, is_change_at}
+use Rattle.fst_heads.proofs.Patches.place
+use Rattle.fst_heads.proofs.Words.{is_free_on, is_bound_on, Head, Listed, IsRising, kind_of, patch_of, patches_of, entries_of, entries_on, is_live_on, HasSlot, HasNone, Node, node_of, nodes_of, is_pending, is_ready_on, is_hard_kind}
+use Rattle.fst_heads.proofs.Words.pending
 use Rattle.fst_heads.proofs.Listing.{any_none, any_slot, numbers_on}
 use Rattle.fst_heads.proofs.Slots.{any_default}
 
@@ -32,23 +17,12 @@ passing t heads list = filter (passes_at t (nodes_of heads)) (map (λ e. e.numbe
 
 pub memory_live : (p : Place) (t : Bool) → (is_at p place.Memory && t) ≡ true → (not (is_at p place.Disk) && t) ≡ true
 memory_live place.Memory t e = e
-memory_live place.Flight t e = absurd (false≢true e)
-memory_live place.Disk t e = absurd (false≢true e)
-
--- a change of the block in memory is in its list
-pub listed_memory : (b : ℕ) (x : Node) → is_change_at place.Memory b x.patch ≡ true → is_live_on b x.patch ≡ true
-listed_memory b x e = memory_live x.patch.place (is_on b x.patch.kind) e
+memory_live p t e = absurd (false≢true e)
 
 module _ (b : ℕ) (t : Node → Bool) (inside : (x : Node) → t x ≡ true → is_live_on b x.patch ≡ true) where
   passing_each : (f : ℕ → Bool) (heads : List Head) → ((h : Head) → In heads h → f h.number ≡ t (node_of h)) → filter f (numbers_on b heads) ≡ map (λ x. x.patch.number) (filter t (nodes_of heads))
   passing_each f [] says = refl
-  passing_each f (h ∷ hs) says =
-      let rest = passing_each f hs (λ k i. says k (inr i)) in
-      let here = says h (inl refl) in
-      elim (cases_Bool (t (node_of h))) [
-        | inl yes_h ↦ rw (inside (node_of h) yes_h, here, yes_h) (ap (λ ns. h.number ∷ ns) rest)
-        | inr no_h ↦ elim (cases_Bool (is_live_on b (patch_of h))) [ inl live ↦ rw (live, here, no_h) rest | inr off ↦ rw (off, no_h) rest ]
-      ]
+  passing_each f (h ∷ hs) says = grind (arith, cases_Bool, passing_each f hs (λ k i. says k (inr i)))
 
   -- the whole list has the numbers of all that pass, in order
   pub passing_start : (heads : List Head) (list : List Listed) → IsRising heads → entries_of list ≡ entries_on b (patches_of heads) → passing t heads list ≡ map (λ x. x.patch.number) (filter t (nodes_of heads))
@@ -82,14 +56,10 @@ module _ (t : Node → Bool) (heads : List Head) (list : List Listed) (i : ℕ) 
   passing_skip s d rising slot e = passing_no (any_slot heads n s t d rising slot ∙ e)
 
 pub free_listed : (behind : ℕ → Bool) (b : ℕ) (x : Node) → is_free_on behind b x ≡ true → is_live_on b x.patch ≡ true
-free_listed behind b x e =
-    let ready = (and_parts (is_change_at place.Memory b x.patch && is_pending x.pending (pending.Block b)) _ e).0 in
-    listed_memory b x (and_parts (is_change_at place.Memory b x.patch) _ ready).0
+free_listed behind b x e = grind (arith, and_parts)
 
 pub bound_listed : (behind : ℕ → Bool) (b : ℕ) (x : Node) → is_bound_on behind b x ≡ true → is_live_on b x.patch ≡ true
-bound_listed behind b x e =
-    let hard = (and_parts (is_change_at place.Memory b x.patch && is_hard_kind x.patch.kind) _ e).0 in
-    listed_memory b x (and_parts (is_change_at place.Memory b x.patch) (is_hard_kind x.patch.kind) hard).0
+bound_listed behind b x e = grind (arith, and_parts)
 
 -- the test of the code says whether the node of the head passes
 module _ (behind : ℕ → Bool) (b : ℕ) (h d : Head) (n : ℕ) (back r : Bool) (at : h ≡ d) (number : d.number ≡ n) (told : back ≡ behind n) where

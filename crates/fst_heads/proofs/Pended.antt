@@ -1,49 +1,16 @@
 -- What is pending of the patch with a number, and which patches are told.
-use Rattle.std.proofs.Common.{◌≡◌, ℕ, true, List, Contains, refl, sym, ap, ◌∙◌}
-use Rattle.std.proofs.lemmas.Bool.{eq-eqb, eqb-true}
-use Rattle.fst_heads.specs.declared.pending.Pending.{Pending}
-use Rattle.fst_heads.specs.declared.pending.Pending.TheVariants as pending
-use Rattle.fst_heads.specs.declared.pending.Sums.{Sums}
-use Rattle.fst_heads.specs.Nodes.{Node, pending_in, AreSettled}
-use Rattle.fst_heads.specs.Pendings.{is_pending, joined, joined_sums, of_kind, sums_of}
-use Rattle.fst_heads.specs.Spreading.{now, is_told}
+use Rattle.fst_heads.proofs.Basics.{◌≡◌, ℕ, true, List, Contains, sym, ◌∙◌, arith}
+use Rattle.fst_heads.proofs.Words.{Pending, Node, pending_in, AreSettled, joined, of_kind, sums_of, now, is_told}
+use Rattle.fst_heads.proofs.Words.pending
 use Rattle.fst_heads.proofs.Sums.{joined_exact}
-
-pub same_pending : (p : Pending) → is_pending p p ≡ true
-same_pending pending.Nothing = refl
-same_pending (pending.Block b) = eq-eqb b b refl
-same_pending pending.Apart = refl
-same_pending pending.Held = refl
-
-pub pending_same : (p q : Pending) → is_pending p q ≡ true → p ≡ q
-pending_same pending.Nothing pending.Nothing e = refl
-pending_same pending.Nothing (pending.Block c) e = cc
-pending_same pending.Nothing pending.Apart e = cc
-pending_same pending.Nothing pending.Held e = cc
-pending_same (pending.Block b) pending.Nothing e = cc
-pending_same (pending.Block b) (pending.Block c) e = ap pending.Block (eqb-true b c e)
-pending_same (pending.Block b) pending.Apart e = cc
-pending_same (pending.Block b) pending.Held e = cc
-pending_same pending.Apart pending.Nothing e = cc
-pending_same pending.Apart (pending.Block c) e = cc
-pending_same pending.Apart pending.Apart e = refl
-pending_same pending.Apart pending.Held e = cc
-pending_same pending.Held pending.Nothing e = cc
-pending_same pending.Held (pending.Block c) e = cc
-pending_same pending.Held pending.Apart e = cc
-pending_same pending.Held pending.Held e = refl
-
-pub told_from : (x : Node) → now x ≡ x.pending → is_told x ≡ true
-told_from x e = ap (λ p. is_pending p x.pending) e ∙ same_pending x.pending
+pub use Rattle.fst_heads.proofs.Turning.{same_pending as pending_same}
 
 pub told_now : (x : Node) → is_told x ≡ true → now x ≡ x.pending
 told_now x e = pending_same (now x) x.pending e
 
 -- by its exact sums what is pending of it now follows from its row
 pub now_row : (told : ℕ → Pending) (x : Node) → x.sums ≡ sums_of told x.patch.dependencies → now x ≡ of_kind x.patch.kind x.patch.place (joined told x.patch.dependencies)
-now_row told x e =
-    ap (λ (s : Sums). of_kind x.patch.kind x.patch.place (joined_sums s)) e
-    ∙ ap (of_kind x.patch.kind x.patch.place) (joined_exact told x.patch.dependencies)
+now_row told x e = grind (arith, joined_exact)
 
 -- at rest all are told
 pub now_at_rest : (nodes : List Node) (blocks : ℕ) → AreSettled nodes blocks → (x : Node) → Contains nodes x → now x ≡ x.pending

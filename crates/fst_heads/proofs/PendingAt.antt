@@ -1,17 +1,8 @@
 -- What is pending of the head in a slot, and the node that it stands for.
-use Rattle.std.proofs.Common.{◌≡◌, ◌<◌, ◌+◌, ◌++◌, ◌∷◌, [], ℕ, zero, suc, List, length, get_or, take, Contains, refl, sym, ap, ◌∙◌, arith}
-use Rattle.std.proofs.lemmas.Bool.{eq-eqb, ne_eqb}
-use Rattle.std.proofs.lemmas.List.{take_more}
-use Rattle.smallvec.specs.SmallVec.{SmallVec}
-use Rattle.fst_types.proofs.Finite.{Contains-from_In, In-map}
-use Rattle.fst_heads.specs.declared.head.Head.{Head}
-use Rattle.fst_heads.specs.declared.pending.Pending.{Pending}
-use Rattle.fst_heads.specs.declared.pending.Pending.TheVariants as pending
-use Rattle.fst_heads.specs.declared.pending.Sums.{Sums}
-use Rattle.fst_heads.specs.Heads.{IsRising}
-use Rattle.fst_heads.specs.Marks.{HasSlot, HasNone}
-use Rattle.fst_heads.specs.Nodes.{node_of, nodes_of, pending_in, gains_names}
-use Rattle.fst_heads.specs.Pendings.{plus, sums_of, together}
+use Rattle.fst_heads.proofs.Basics.{◌≡◌, ◌<◌, ◌+◌, ◌++◌, ◌∷◌, [], ℕ, zero, suc, List, length, get_or, take, Contains, refl, sym, ap, ◌∙◌, arith, eq-eqb, ne_eqb, take_more, SmallVec}
+use Rattle.fst_heads.proofs.Patches.{Contains-from_In, In-map}
+use Rattle.fst_heads.proofs.Words.{Head, Pending, Sums, IsRising, HasSlot, HasNone, node_of, nodes_of, pending_in, gains_names, plus, sums_of, together}
+use Rattle.fst_heads.proofs.Words.pending
 use Rattle.fst_heads.proofs.Slots.{slot_head}
 use Rattle.fst_heads.proofs.Sums.{sums_push}
 
@@ -26,8 +17,7 @@ pending_slot (h ∷ hs) n zero d rising slot = rw (eq-eqb h.number n (slot.1 d))
 pending_slot (h ∷ hs) n (suc s) d rising slot =
     let inside = slot.0 in
     let below = rising 0 (suc s) d (omega arith) inside in
-    let there = slot.1 d in
-    rw (ne_eqb h.number n (λ same. omega (arith, same, below, there)))
+    rw (ne_eqb h.number n (λ same. omega (arith, same, below, slot.1 d)))
     (pending_slot hs n s d (λ i j c lt b. rising (suc i) (suc j) c (omega (arith, lt)) (omega (arith, b))) (omega (arith, inside), slot.1))
 
 -- the node of the head in a slot

@@ -1,10 +1,8 @@
 -- What is pending of a number is what is pending of the node that has it.
-use Rattle.std.proofs.Common.{◌≡◌, ◌⊎◌, ◌<◌, ◌==◌, ℕ, suc, List, [], ◌∷◌, Contains, refl, ap, subst, ◌∙◌, inl, inr, arith}
-use Rattle.std.proofs.lemmas.Bool.{cases_Bool, eqb-true, eq-eqb, ne_eqb, cond-true, cond-false}
-use Rattle.fst_types.specs.Patches.{Patch, IsRising}
-use Rattle.fst_types.proofs.Finite.{In, In-from_Contains, Contains-from_In}
-use Rattle.fst_heads.specs.declared.pending.Pending.TheVariants as pending
-use Rattle.fst_heads.specs.Nodes.{Node, patches_in, pending_in}
+use Rattle.fst_heads.proofs.Basics.{◌≡◌, ◌⊎◌, ◌<◌, ◌==◌, ℕ, suc, List, [], ◌∷◌, Contains, refl, subst, ◌∙◌, inl, inr, arith, cases_Bool, eqb-true, eq-eqb, ne_eqb, cond-true, cond-false}
+use Rattle.fst_heads.proofs.Patches.{Patch, Rising as IsRising, In, In-from_Contains, Contains-from_In}
+use Rattle.fst_heads.proofs.Words.{Node, patches_in, pending_in}
+use Rattle.fst_heads.proofs.Words.pending
 use Rattle.fst_heads.proofs.Placed.{patch_in}
 
 -- the node with the number
@@ -39,8 +37,7 @@ rising_tail y ys rising i j d lt inside = rising (suc i) (suc j) d (omega (arith
 
 told_in : (nodes : List Node) (x : Node) → IsRising (patches_in nodes) → In nodes x → pending_in nodes x.patch.number ≡ x.pending
 told_in [] x rising h = absurd h
-told_in (y ∷ ys) x rising (inl e) =
-    cond-true (y.patch.number == x.patch.number) y.pending (pending_in ys x.patch.number) (eq-eqb y.patch.number x.patch.number (ap (λ (z : Node). z.patch.number) e)) ∙ ap (λ (z : Node). z.pending) e
+told_in (y ∷ ys) x rising (inl e) = grind (arith, cond-true, eq-eqb)
 told_in (y ∷ ys) x rising (inr h) =
     let lt = later_number y ys rising x h in
     cond-false (y.patch.number == x.patch.number) y.pending (pending_in ys x.patch.number) (ne_eqb y.patch.number x.patch.number (λ e. omega (arith, lt, e)))

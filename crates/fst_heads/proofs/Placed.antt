@@ -1,20 +1,11 @@
 -- What stands beside the patches where some are launched or forgotten.
-use Rattle.std.proofs.Common.{◌≡◌, ◌≢◌, ℕ, Bool, true, false, cond, List, [], ◌∷◌, map, filter, AllPairs, Contains, refl, sym, ap, subst, ◌∙◌, inl, inr}
-use Rattle.std.proofs.lemmas.Bool.{cases_Bool}
-use Rattle.fst_types.specs.Patches.{Patch}
-use Rattle.fst_types.specs.Dependencies.{IsLiveNumber}
-use Rattle.fst_types.specs.Facts.{HasOnePlaceEach}
-use Rattle.fst_types.specs.Tests.{is_live, is_on, is_among}
-use Rattle.fst_types.specs.Writing.{launched}
-use Rattle.fst_types.proofs.Crash.{same_number}
-use Rattle.fst_types.proofs.Finite.{In, In-from_Contains, Contains-from_In}
-use Rattle.fst_types.proofs.GateGains.{In-unmap}
-use Rattle.fst_types.proofs.Issuing.{among_in}
-use Rattle.fst_heads.specs.Spreading.{launches}
-use Rattle.fst_heads.specs.Lists.{entry, entries_on, is_live_on}
-use Rattle.fst_heads.specs.Nodes.{Node, patches_in, times, AreLinked, AreGiven, AreDistinct}
-use Rattle.fst_heads.specs.Nodes.{is_live_in}
+use Rattle.fst_heads.proofs.Basics.{◌≡◌, ◌≢◌, ℕ, Bool, true, false, cond, List, [], ◌∷◌, map, filter, AllPairs, Contains, refl, sym, ap, subst, ◌∙◌, inl, inr, cases_Bool, rules, arith, ◌==◌, ◌||◌, ◌++◌, if◌then◌else◌, get_or, set, cases_eq, eq-eqb, ne_eqb}
+use Rattle.fst_heads.proofs.Patches.{Patch, IsLiveNumber, HasOnePlaceEach, is_live, is_among, launched, same_number, In, In-from_Contains, Contains-from_In, In-unmap, among_in, unsettled, Settled, AllSettled, more, all_settled, In-map}
+use Rattle.fst_heads.proofs.Words.{launches, entry, entries_on, is_live_on, Node, patches_in, times, AreLinked, AreGiven, AreDistinct, IsSpreadOf, unspread, Head, IsRising, HasSlot, HasNone, node_of, nodes_of, at_number}
 use Rattle.fst_heads.proofs.Forgetting.{live_place_of}
+use Rattle.fst_heads.proofs.AtNumber.{at_none, at_slot, at_same, at_other}
+use Rattle.fst_heads.proofs.Linking.{map_twice, rising_as}
+use Rattle.fst_heads.proofs.Patches.place
 
 -- y has the number, the direct dependencies and the dependants of x
 pub record SameLinks (x y : Node) : Type 0 where
@@ -68,23 +59,9 @@ pub node_of_patch : (nodes : List Node) (p : Patch) → Contains (patches_in nod
 node_of_patch nodes p c = let r = In-unmap (λ (x : Node). x.patch) nodes p (In-from_Contains (patches_in nodes) p c) in (r.0, Contains-from_In nodes r.0 r.1, r.2)
 
 module _ (f : Patch → Patch) where
-  pub live_in_mapped : (ps : List Patch) (n : ℕ) → ((p : Patch) → In ps p → StandsFor p (f p)) → is_live_in (map f ps) n ≡ is_live_in ps n
-  live_in_mapped [] n same = refl
-  live_in_mapped (p ∷ ps) n same =
-      let s = same p (inl refl) in
-      let r = live_in_mapped ps n (λ q h. same q (inr h)) in
-      rw (s.live, s.number, r) refl
-
   pub entries_mapped : (b : ℕ) (ps : List Patch) → ((p : Patch) → In ps p → StandsFor p (f p)) → entries_on b (map f ps) ≡ entries_on b ps
   entries_mapped b [] same = refl
-  entries_mapped b (p ∷ ps) same =
-      let s = same p (inl refl) in
-      let r = entries_mapped b ps (λ q h. same q (inr h)) in
-      let first : entry (f p) ≡ entry p = rw (s.number, s.kind) refl in
-      elim (cases_Bool (is_live_on b p)) [
-        | inl e ↦ let g : is_live_on b (f p) ≡ true = rw (s.live, s.kind) e in rw (e, g, r, first) refl
-        | inr e ↦ let g : is_live_on b (f p) ≡ false = rw (s.live, s.kind) e in rw (e, g, r) refl
-      ]
+  entries_mapped b (p ∷ ps) same = grind (arith, cases_Bool, entries_mapped b ps (λ q h. same q (inr h)))
 
 pub number_if : (t : Bool) (p q : Patch) → q.number ≡ p.number → (cond t q p).number ≡ p.number
 number_if true p q e = e
@@ -120,30 +97,109 @@ module _ (nodes : List Node) (numbers : ℕ) (chosen : List ℕ) (H : HasOnePlac
   }
 
 pub launched_links : (chosen : List ℕ) (x : Node) → SameLinks x (launches chosen x)
-launched_links chosen x = record {
-  number = number_if (is_among chosen x.patch.number) x.patch _ refl;
-  dependencies = dependencies_if (is_among chosen x.patch.number) x.patch _ refl;
-  dependants = refl;
-}
+launched_links chosen x = search (rules, number_if, dependencies_if)
 
 pub patches_dropped : (nodes : List Node) → patches_in (filter (λ x. is_live x.patch) nodes) ≡ filter is_live (patches_in nodes)
 patches_dropped [] = refl
-patches_dropped (x ∷ xs) = elim (cases_Bool (is_live x.patch)) [
-  | inl e ↦ let r = patches_dropped xs in rw (e, r) refl
-  | inr e ↦ let r = patches_dropped xs in rw (e, r) refl
-]
-
--- what is on disk is not the one live patch of a number
-pub live_in_dropped : (ps : List Patch) (n : ℕ) → is_live_in (filter is_live ps) n ≡ is_live_in ps n
-live_in_dropped [] n = refl
-live_in_dropped (p ∷ ps) n = elim (cases_Bool (is_live p)) [
-  | inl e ↦ let r = live_in_dropped ps n in rw (e, e, r) refl
-  | inr e ↦ let r = live_in_dropped ps n in rw (e, r) refl
-]
+patches_dropped (x ∷ xs) = grind (arith, cases_Bool, patches_dropped xs)
 
 pub entries_dropped : (b : ℕ) (ps : List Patch) → entries_on b (filter is_live ps) ≡ entries_on b ps
 entries_dropped b [] = refl
-entries_dropped b (p ∷ ps) = let r = entries_dropped b ps in elim (cases_Bool (is_live p)) [
-  | inl e ↦ elim (cases_Bool (is_on b p.kind)) [ inl f ↦ rw (e, e, f, r) refl | inr f ↦ rw (e, e, f, r) refl ]
-  | inr e ↦ rw (e, r) refl
-]
+entries_dropped b (p ∷ ps) = grind (arith, cases_Bool, entries_dropped b ps)
+
+-- what a spread keeps of nodes: all but sums, what is pending, and the places of empty patches and sealed gates
+
+settled_one : (o p : Patch) → AllSettled (o ∷ []) (p ∷ []) → Settled o p
+settled_one o p (more s a) = s
+
+pub settled_node : (o x : Node) → unspread x ≡ unspread o → Settled o.patch x.patch
+settled_node o x e = settled_one o.patch x.patch (all_settled (o.patch ∷ []) (x.patch ∷ []) (ap (λ (y : Node). y.patch ∷ []) e))
+
+-- what a new node was
+pub spread_back : (old new : List Node) → IsSpreadOf old new → (x : Node) → Contains new x → (o : Node) × Contains old o × (unspread x ≡ unspread o)
+spread_back old new spread x c =
+    let there = In-map unspread new x (unspread x) (In-from_Contains new x c) refl in
+    let r = In-unmap unspread old (unspread x) (subst (λ ys. In ys (unspread x)) spread there) in
+    (r.0, Contains-from_In old r.0 r.1, sym r.2)
+
+pub links_spread : (old new : List Node) → IsSpreadOf old new → KeepLinks old new
+links_spread old new spread x c =
+    let r = spread_back old new spread x c in
+    let s = settled_node r.0 x r.2 in
+    (r.0, r.1, record { number = s.number; dependencies = s.dependencies; dependants = ap (λ (y : Node). y.dependants) r.2 })
+
+pub unsettled_spread : (old new : List Node) → IsSpreadOf old new → map unsettled (patches_in new) ≡ map unsettled (patches_in old)
+unsettled_spread old new spread = sym (go new) ∙ (ap (map (λ (x : Node). x.patch)) spread ∙ go old)
+  where
+    go : (nodes : List Node) → map (λ (x : Node). x.patch) (map unspread nodes) ≡ map unsettled (patches_in nodes)
+    go [] = refl
+    go (x ∷ xs) = let rest = go xs in cc
+
+-- the entry of a new patch of block b is that of the old
+pub record SameEntry (b : ℕ) (o p : Patch) : Type 0 where
+  pub live : is_live_on b p ≡ is_live_on b o
+  pub same : is_live_on b o ≡ true → entry p ≡ entry o
+
+pub entries_more : (b : ℕ) (o p : Patch) (os ps : List Patch) → SameEntry b o p → entries_on b ps ≡ entries_on b os → entries_on b (p ∷ ps) ≡ entries_on b (o ∷ os)
+entries_more b o p os ps l rest = grind (arith, cases_Bool)
+
+entry_settled : (b : ℕ) (o p : Patch) → Settled o p → SameEntry b o p
+entry_settled b o p s = search rules
+
+pub entries_settled : (b : ℕ) (old new : List Patch) → AllSettled old new → entries_on b new ≡ entries_on b old
+entries_settled b [] [] a = refl
+entries_settled b (o ∷ os) (p ∷ ps) (more s a) = entries_more b o p os ps (entry_settled b o p s) (entries_settled b os ps a)
+entries_settled b old new a = elim a [ ]
+
+-- patches that go into flight one after another
+
+abbrev pub flies : Node → Node
+flies x = record x { patch = record x.patch { place = place.Flight } }
+
+-- one number is that of one node
+one_launched : (n : ℕ) (x : Node) → at_number n flies x ≡ launches (n ∷ []) x
+one_launched n x = grind (arith, cases_eq, at_same, eq-eqb, at_other, ne_eqb)
+
+map_alike : (f g : Node → Node) → ((x : Node) → f x ≡ g x) → (xs : List Node) → map f xs ≡ map g xs
+map_alike f g same [] = refl
+map_alike f g same (x ∷ xs) = let first = same x in let rest = map_alike f g same xs in cc
+
+pub launched_none : (heads : List Head) (n : ℕ) → HasNone heads n → nodes_of heads ≡ map (launches (n ∷ [])) (nodes_of heads)
+launched_none heads n none = at_none heads n flies none ∙ map_alike (at_number n flies) (launches (n ∷ [])) (one_launched n) (nodes_of heads)
+
+pub launched_slot : (heads : List Head) (n s : ℕ) (y d : Head) → IsRising heads → HasSlot heads n s → node_of y ≡ flies (node_of (get_or heads s d))
+    → nodes_of (set heads s y) ≡ map (launches (n ∷ [])) (nodes_of heads)
+launched_slot heads n s y d rising slot e = at_slot heads n s flies y d rising slot e ∙ map_alike (at_number n flies) (launches (n ∷ [])) (one_launched n) (nodes_of heads)
+
+-- of no number none
+pub launched_start : (nodes : List Node) → nodes ≡ map (launches []) nodes
+launched_start [] = refl
+launched_start (x ∷ xs) = ap (λ ys. x ∷ ys) (launched_start xs)
+
+among_append : (ns : List ℕ) (n m : ℕ) → is_among (ns ++ n ∷ []) m ≡ (is_among ns m || (n == m))
+among_append [] n m = elim (cases_Bool (n == m)) [ inl t ↦ rw t refl | inr t ↦ rw t refl ]
+among_append (k ∷ ks) n m = elim (cases_Bool (k == m)) [ inl t ↦ rw t refl | inr t ↦ rw (t, among_append ks n m) refl ]
+
+launched_either : (a b : Bool) (x : Node) → (if b || false then flies (if a then flies x else x) else (if a then flies x else x)) ≡ (if a || b then flies x else x)
+launched_either true true x = refl
+launched_either true false x = refl
+launched_either false true x = refl
+launched_either false false x = refl
+
+-- a launch as a choice between two nodes
+chosen : (a : Bool) (x : Node) → record x { patch = if a then record x.patch { place = place.Flight } else x.patch } ≡ (if a then flies x else x)
+chosen true x = refl
+chosen false x = refl
+
+pub launches_number : (ns : List ℕ) (x : Node) → (launches ns x).patch.number ≡ x.patch.number
+launches_number ns x = number_if (is_among ns x.patch.number) x.patch _ refl
+
+-- one number more
+step : (ns : List ℕ) (n : ℕ) (x : Node) → launches (n ∷ []) (launches ns x) ≡ launches (ns ++ n ∷ []) x
+step ns n x = grind (arith, chosen, launches_number, launched_either, among_append)
+
+pub launched_more : (nodes : List Node) (ns : List ℕ) (n : ℕ) → map (launches (n ∷ [])) (map (launches ns) nodes) ≡ map (launches (ns ++ n ∷ [])) nodes
+launched_more nodes ns n = map_twice (launches (n ∷ [])) (launches ns) (launches (ns ++ n ∷ [])) (step ns n) nodes
+
+pub rising_launched : (new old : List Head) (ns : List ℕ) → nodes_of new ≡ map (launches ns) (nodes_of old) → IsRising old → IsRising new
+rising_launched new old ns e rising = rising_as (launches ns) (launches_number ns) new old e rising

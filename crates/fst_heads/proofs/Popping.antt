@@ -1,15 +1,8 @@
 -- A number is taken from the queue of a cascade: its head is settled, and its dependants are told.
-use Rattle.std.proofs.Common.{◌≡◌, ◌≢◌, ◌+◌, ◌<◌, ◌≤◌, ◌==◌, ℕ, Bool, true, false, if◌then◌else◌, List, [], ◌∷◌, ◌++◌, length, map, get_or, Contains, AllPairs, length-append, refl, sym, ap, subst, ◌∙◌, arith}
-use Rattle.std.proofs.lemmas.List.{length-map, get_or-map}
-use Rattle.fst_types.specs.Cascade.{IsCascadeOf}
-use Rattle.fst_heads.specs.declared.head.Head.{Head}
-use Rattle.fst_heads.specs.declared.pending.Pending.{Pending}
-use Rattle.fst_heads.specs.declared.pending.Pending.TheVariants as pending
-use Rattle.fst_heads.specs.Heads.{IsRising, patches_of}
-use Rattle.fst_heads.specs.Marks.{HasSlot}
-use Rattle.fst_heads.specs.Nodes.{Node, node_of, nodes_of, patches_in, at_number, AreLinked, AreDistinct}
-use Rattle.fst_heads.specs.Pendings.{Fits, Sinks, max_block}
-use Rattle.fst_heads.specs.Spreading.{Spreading, IsSpreadOf, CanHear, now, is_told, settles, heard, woken, heights}
+use Rattle.fst_heads.proofs.Basics.{◌≡◌, ◌≢◌, ◌+◌, ◌<◌, ◌≤◌, ◌==◌, ℕ, Bool, true, false, if◌then◌else◌, List, [], ◌∷◌, ◌++◌, length, map, get_or, Contains, AllPairs, length-append, refl, sym, ap, subst, ◌∙◌, arith, length-map, get_or-map}
+use Rattle.fst_heads.proofs.Patches.{IsCascadeOf}
+use Rattle.fst_heads.proofs.Words.{Head, Pending, IsRising, patches_of, HasSlot, Node, node_of, nodes_of, patches_in, at_number, AreLinked, AreDistinct, Fits, max_block, Spreading, IsSpreadOf, CanHear, now, is_told, settles, heard, woken, heights}
+use Rattle.fst_heads.proofs.Words.pending
 use Rattle.fst_heads.proofs.AtNumber.{at_same, patches_in_nodes}
 use Rattle.fst_heads.proofs.Linking.{rising_as}
 use Rattle.fst_heads.proofs.Slots.{some_element}
@@ -54,9 +47,6 @@ module _ (heads : List Head) (blocks : ℕ) (queue : List ℕ) (q s : ℕ) (narr
   pub fits_there : (d : Node) → Fits (get_or nodes s d).sums
   fits_there d = spreading_fits nodes blocks (queue ++ q ∷ []) narrow S (get_or nodes s d) (node_in_slot heads q s d found).0
 
-  pub sinks_there : (d : Node) → Sinks (get_or nodes s d).pending (now (get_or nodes s d))
-  sinks_there d = S.sinks (get_or nodes s d) (node_in_slot heads q s d found).0
-
   pub untold_there : (d : Node) → is_told (get_or nodes s d) ≡ false
   untold_there d =
       let x = last_waits nodes blocks queue q S in
@@ -95,18 +85,10 @@ module _ (heads : List Head) (blocks : ℕ) (queue : List ℕ) (q s : ℕ) (narr
     told = map (heard here.dependants here.pending (now here)) (map (at_number q settles) nodes)
 
     told_after : (d : Node) → map (heard (get_or after s d).dependants was is) after ≡ told
-    told_after d =
-        ap (λ ms. map (heard ms was is) after) (row_after d)
-        ∙ (ap (λ p. map (heard here.dependants p is) after) was_is
-        ∙ (ap (λ p. map (heard here.dependants here.pending p) after) is_now
-        ∙ ap (λ ns. map (heard here.dependants here.pending (now here)) ns) after_is))
+    told_after d = grind (arith, row_after, was_is, is_now, after_is)
 
     woken_after : (d : Node) → woken (get_or after s d).dependants was is after ≡ woken here.dependants here.pending (now here) (map (at_number q settles) nodes)
-    woken_after d =
-        ap (λ ms. woken ms was is after) (row_after d)
-        ∙ (ap (λ p. woken here.dependants p is after) was_is
-        ∙ (ap (λ p. woken here.dependants here.pending p after) is_now
-        ∙ ap (λ ns. woken here.dependants here.pending (now here) ns) after_is))
+    woken_after d = grind (arith, row_after, was_is, is_now, after_is)
 
     spreads : Spreading told blocks (queue ++ woken here.dependants here.pending (now here) (map (at_number q settles) nodes))
     spreads = spreads_on nodes blocks queue q here narrow S linked distinct here_in here_number
@@ -114,9 +96,8 @@ module _ (heads : List Head) (blocks : ℕ) (queue : List ℕ) (q s : ℕ) (narr
     pub room_after : (d : Node) → length queue + length (woken (get_or after s d).dependants was is after) ≤ length heads
     room_after d =
         let fits = queue_fits told blocks (queue ++ woken here.dependants here.pending (now here) (map (at_number q settles) nodes)) spreads in
-        let parts = length-append queue (woken here.dependants here.pending (now here) (map (at_number q settles) nodes)) in
         let long = length-map (map (at_number q settles) nodes) (heard here.dependants here.pending (now here)) ∙ (length-map nodes (at_number q settles) ∙ length-map heads node_of) in
-        omega (arith, fits, parts, long, ap length (woken_after d))
+        omega (arith, fits, length-append queue (woken here.dependants here.pending (now here) (map (at_number q settles) nodes)), long, ap length (woken_after d))
 
     -- what stands after it
     pub record Turn (next : List Node) (longer : List ℕ) : Type 0 where

@@ -1,64 +1,22 @@
 -- What becomes of the counts of each block where what is pending of one patch is settled.
-use Rattle.std.proofs.Common.{◌≡◌, ◌≢◌, ℕ, ◌+◌, ◌<◌, ◌≤◌, ◌==◌, ◌&&◌, Bool, true, false, not, cond, List, length, count_by, set, get_or, Contains, refl, sym, ap, subst, ◌∙◌, inl, inr, arith}
-use Rattle.std.proofs.Math.ListN.{length-set}
-use Rattle.std.proofs.lemmas.Bool.{cases_Bool, cases_eq, eq-eqb, ne_eqb, false≢true}
-use Rattle.std.proofs.lemmas.List.{length-map, get_or-map, map-set}
-use Rattle.std.proofs.lemmas.List.Sums.{sum_by-set, get_or-le-sum_by, count_by-le-length}
-use Rattle.fst_types.specs.declared.grade.Grade.{Grade}
-use Rattle.fst_types.specs.declared.place.Place.TheVariants as place
-use Rattle.fst_types.specs.Patches.{Change}
-use Rattle.fst_types.specs.Tests.{is_at, is_on, is_change_at}
-use Rattle.fst_heads.specs.declared.head.Head.{Head}
-use Rattle.fst_heads.specs.Heads.{kind_of, patch_of}
-use Rattle.fst_heads.specs.declared.pending.Pending.{Pending}
-use Rattle.fst_heads.specs.declared.pending.Pending.TheVariants as pending
-use Rattle.fst_heads.specs.declared.standing.Standing.{Standing}
-use Rattle.fst_heads.specs.Nodes.{Node, node_of, nodes_of}
-use Rattle.fst_heads.specs.Pendings.{is_pending, over_block, of_kind, joined_sums, height, Sinks}
-use Rattle.fst_heads.specs.Spreading.{now, is_told, settles}
-use Rattle.fst_heads.specs.Standings.{AllStand, is_ready_on, is_held_on, is_flying_on, standing_of, released}
-use Rattle.fst_heads.specs.Tests.{is_hard_kind}
-use Rattle.fst_heads.proofs.CountsAs.{CountsAs, counts, standing_same, stand_set, off_as}
-
-abbrev one_if : Bool → ℕ
-one_if t = cond t 1 0
+use Rattle.fst_heads.proofs.Basics.{◌≡◌, ◌≢◌, ℕ, ◌+◌, ◌<◌, ◌&&◌, Bool, true, false, cond, List, length, count_by, set, get_or, refl, sym, ap, subst, ◌∙◌, arith, length-set, cases_eq, eq-eqb, ne_eqb, false≢true, length-map, get_or-map, rules, map-set, common_steps}
+use Rattle.fst_heads.proofs.Basics.{sum_by-set, get_or-le-sum_by, count_by-le-length}
+use Rattle.fst_heads.proofs.Patches.{Grade, Change, is_at, is_on, is_change_at}
+use Rattle.fst_heads.proofs.Patches.place
+use Rattle.fst_heads.proofs.Words.{Head, kind_of, patch_of, Standing, Node, node_of, nodes_of, is_pending, Sinks, now, is_told, settles, AllStand, is_ready_on, is_held_on, is_flying_on, standing_of, released, is_hard_kind}
+use Rattle.fst_heads.proofs.Words.pending
+use Rattle.fst_heads.proofs.CountsAs.{CountsAs, standing_same, stand_set, off_as}
+use Rattle.fst_heads.proofs.Turning.{is_itself}
+use Rattle.fst_heads.proofs.Beside.{one_if}
 
 -- the node of the head in a slot
 pub node_at : (heads : List Head) (s : ℕ) (h : Head) (d : Node) → s < length heads → h ≡ get_or heads s h → get_or (nodes_of heads) s d ≡ node_of h
 node_at heads s h d lt e = get_or-map node_of heads s h d lt ∙ ap node_of (sym e)
 
-pub node_there : (heads : List Head) (s : ℕ) (h : Head) → s < length heads → h ≡ get_or heads s h → Contains (nodes_of heads) (node_of h)
-node_there heads s h lt e = (s, omega (arith, lt, length-map heads node_of), node_at heads s h (node_of h) lt e)
-
-pending_self : (p : Pending) → is_pending p p ≡ true
-pending_self pending.Nothing = refl
-pending_self (pending.Block b) = eq-eqb b b refl
-pending_self pending.Apart = refl
-pending_self pending.Held = refl
-
--- of a change that is not on disk something is pending
-over_high : (b : ℕ) (below : Pending) → 1 ≤ height (over_block b below)
-over_high b pending.Nothing = omega arith
-over_high b (pending.Block c) = elim (cases_Bool (c == b)) [ inl e ↦ rw e (omega arith) | inr e ↦ rw e (omega arith) ]
-over_high b pending.Apart = omega arith
-over_high b pending.Held = omega arith
-
-high_apart : (p : Pending) (b : ℕ) → 2 ≤ height p → is_pending p (pending.Block b) ≡ false
-high_apart pending.Nothing b le = absurd (omega (arith, le))
-high_apart (pending.Block c) b le = absurd (omega (arith, le))
-high_apart pending.Apart b le = refl
-high_apart pending.Held b le = refl
-
 -- where the dependants of a change in memory know other than is pending of it, it waited for more than its block
 pub waited_for_more : (x : Node) (b at len : ℕ) (grade : Grade) → x.patch.kind ≡ Change b at len grade → x.patch.place ≡ place.Memory → Sinks x.pending (now x) → is_told x ≡ false
     → is_pending x.pending (pending.Block b) ≡ false
-waited_for_more x b at len grade kind memory sinks untold =
-    let own : now x ≡ over_block b (joined_sums x.sums) =
-    ap (λ k. of_kind k x.patch.place (joined_sums x.sums)) kind ∙ ap (λ p. of_kind (Change b at len grade) p (joined_sums x.sums)) memory in
-    high_apart x.pending b (elim sinks [
-      | inl same ↦ absurd (false≢true (sym untold ∙ (ap (λ p. is_pending p x.pending) same ∙ pending_self x.pending)))
-      | inr lower ↦ let some = over_high b (joined_sums x.sums) in let level = ap height own in omega (arith, lower, some, level)
-    ])
+waited_for_more x b at len grade kind memory sinks untold = grind (arith, false≢true, is_itself)
 
 module _ (nodes : List Node) (s : ℕ) (x : Node) (lt : s < length nodes) (e : get_or nodes s x ≡ x) where
   -- a count where the node is another
@@ -77,14 +35,7 @@ module _ (nodes : List Node) (s : ℕ) (x : Node) (lt : s < length nodes) (e : g
 
   -- what counts is counted
   pub counted_some : (t : Node → Bool) → t x ≡ true → 0 < count_by t nodes
-  counted_some t passes =
-      let part = get_or-le-sum_by (λ z. cond (t z) 1 0) nodes s x lt in
-      let one : cond (t (get_or nodes s x)) 1 0 ≡ 1 = ap (λ z. cond (t z) 1 0) e ∙ ap one_if passes in
-      omega (arith, part, one)
-
-  released_as : (hard : Bool) (r h f r' h' f' : ℕ) → r' + 0 ≡ r + 1 → h' + cond hard 1 0 ≡ h + 0 → f' ≡ f → released hard (counts r h f) ≡ counts r' h' f'
-  released_as true r h f r' h' f' a b c = standing_same _ _ _ _ _ _ (omega (arith, a)) (omega (arith, b)) (sym c)
-  released_as false r h f r' h' f' a b c = standing_same _ _ _ _ _ _ (omega (arith, a)) (omega (arith, b)) (sym c)
+  counted_some t passes = grind (arith, get_or-le-sum_by, one_if)
 
   module _ (b at len : ℕ) (grade : Grade) (kind : x.patch.kind ≡ Change b at len grade) (memory : x.patch.place ≡ place.Memory) (sinks : Sinks x.pending (now x)) (untold : is_told x ≡ false) where
     here : is_change_at place.Memory b x.patch ≡ true
@@ -94,72 +45,30 @@ module _ (nodes : List Node) (s : ℕ) (x : Node) (lt : s < length nodes) (e : g
     not_ready : is_ready_on b x ≡ false
     not_ready = ap (λ t. t && is_pending x.pending (pending.Block b)) here ∙ waited_for_more x b at len grade kind memory sinks untold
 
-    pub was_held : is_held_on b x ≡ is_hard_kind x.patch.kind
-    was_held =
-        ap (λ t. (t && is_hard_kind x.patch.kind) && not (is_pending x.pending (pending.Block b))) here
-        ∙ (ap (λ t. is_hard_kind x.patch.kind && not t) (waited_for_more x b at len grade kind memory sinks untold) ∙ and_on (is_hard_kind x.patch.kind))
-      where
-        and_on : (t : Bool) → (t && true) ≡ t
-        and_on true = refl
-        and_on false = refl
-
     off : (c : ℕ) → c ≢ b → is_on c x.patch.kind ≡ false
     off c ne = ap (is_on c) kind ∙ ne_eqb b c (λ same. ne (sym same))
 
     -- where it waits for more than its block from then on too, no count changes
     pub stand_waiting : (blocks : ℕ) (standings : List Standing) → is_pending (now x) (pending.Block b) ≡ false → AllStand nodes blocks standings → AllStand (set nodes s (settles x)) blocks standings
-    stand_waiting blocks standings more S = stand_kept blocks standings (settles x) (λ c. elim (cases_eq c b) [
-      | inl same ↦ subst (λ n. CountsAs n (settles x) x) (sym same) (record {
-        ready = rw (more, waited_for_more x b at len grade kind memory sinks untold) refl;
-        held = rw (more, waited_for_more x b at len grade kind memory sinks untold) refl;
-        flying = refl;
-      })
-      | inr ne ↦ off_as c (settles x) x (off c ne) (off c ne)
-    ]) S
+    stand_waiting blocks standings more S = grind (arith, common_steps, stand_kept, cases_eq, waited_for_more, off_as, off)
 
     -- where it waits for its block alone from then on, it is ready
     module _ (block_again : is_pending (now x) (pending.Block b) ≡ true) where
       ready_then : is_ready_on b (settles x) ≡ true
       ready_then = ap (λ t. t && is_pending (now x) (pending.Block b)) here ∙ block_again
 
-      held_no_more : is_held_on b (settles x) ≡ false
-      held_no_more = ap (λ t. (is_change_at place.Memory b x.patch && is_hard_kind x.patch.kind) && not t) block_again ∙ none (is_change_at place.Memory b x.patch && is_hard_kind x.patch.kind)
-        where
-          none : (t : Bool) → (t && false) ≡ false
-          none true = refl
-          none false = refl
-
       -- one more can be ready
       pub ready_few : count_by (is_ready_on b) nodes < length nodes
       ready_few =
-          let all = count_set (is_ready_on b) (settles x) in
           let most = count_by-le-length (is_ready_on b) (set nodes s (settles x)) in
-          let before = ap one_if not_ready in
-          let after = ap one_if ready_then in
-          omega (arith, all, most, before, after, length-set nodes s (settles x))
+          omega (arith, count_set (is_ready_on b) (settles x), most, ap one_if not_ready, ap one_if ready_then, length-set nodes s (settles x))
 
       pub stand_released : (blocks : ℕ) (standings : List Standing) (d : Standing) → b < blocks → AllStand nodes blocks standings
           → AllStand (set nodes s (settles x)) blocks (set standings b (released (is_hard_kind x.patch.kind) (get_or standings b d)))
       stand_released blocks standings d inside S = stand_set (set nodes s (settles x)) nodes blocks b standings _ inside S own (λ c within ne. standing_kept c (settles x) (off_as c (settles x) x (off c ne) (off c ne)))
         where
-          ready_more : count_by (is_ready_on b) (set nodes s (settles x)) + 0 ≡ count_by (is_ready_on b) nodes + 1
-          ready_more =
-              let all = count_set (is_ready_on b) (settles x) in
-              let before = ap one_if not_ready in
-              let after = ap one_if ready_then in
-              omega (arith, all, before, after)
-
-          held_less : count_by (is_held_on b) (set nodes s (settles x)) + cond (is_hard_kind x.patch.kind) 1 0 ≡ count_by (is_held_on b) nodes + 0
-          held_less =
-              let all = count_set (is_held_on b) (settles x) in
-              let before = ap one_if was_held in
-              let after = ap one_if held_no_more in
-              omega (arith, all, before, after)
-
           own : released (is_hard_kind x.patch.kind) (get_or standings b d) ≡ standing_of (set nodes s (settles x)) b
-          own =
-              ap (released (is_hard_kind x.patch.kind)) (S.each b d inside)
-              ∙ released_as (is_hard_kind x.patch.kind) _ _ _ _ _ _ ready_more held_less (count_same (is_flying_on b) (settles x) refl)
+          own = grind (arith, common_steps, count_same)
 
 -- what is told of anything else changes no count
 pub settles_kept : (x : Node) (b : ℕ) → is_change_at place.Memory b x.patch ≡ false → CountsAs b (settles x) x
@@ -195,16 +104,10 @@ module _ (heads : List Head) (s : ℕ) (h : Head) (lt : s < length heads) (e : h
     counted = own ∙ S.each b st inside
 
     pub few_ready : is_pending (now (node_of h)) (pending.Block b) ≡ true → st.ready < length heads
-    few_ready again =
-        let few = ready_few (nodes_of heads) s (node_of h) long there b at len grade kind memory sinks untold again in
-        let same = ap (λ (z : Standing). z.ready) counted in
-        omega (arith, few, same, length-map heads node_of)
+    few_ready again = search (rules, ready_few, long, there, counted, length-map)
 
     pub some_held : is_hard_kind (kind_of h.kind) ≡ true → 0 < st.held
-    some_held hard =
-        let held = counted_some (nodes_of heads) s (node_of h) long there (is_held_on b) (was_held (nodes_of heads) s (node_of h) long there b at len grade kind memory sinks untold ∙ hard) in
-        let same = ap (λ (z : Standing). z.held) counted in
-        omega (arith, held, same)
+    some_held hard = grind (arith, counted_some, long, there, counted)
 
     pub stand_freed : is_pending (now (node_of h)) (pending.Block b) ≡ true → (y : Head) → node_of y ≡ settles (node_of h) → (after : Standing) → after ≡ released (is_hard_kind (kind_of h.kind)) st → AllStand (nodes_of (set heads s y)) blocks (set standings b after)
     stand_freed again y same after is =

@@ -1,35 +1,35 @@
 -- Rising rows, and names as calls give them.
-use Rattle.std.proofs.Common.{◌≡◌, ℕ, zero, suc, ◌+◌, ◌-◌, ◌<◌, ◌≤◌, true, false, List, [], ◌∷◌, length, get_or, Contains, Result, Ok, Err, is_ok, refl, sym, ap, subst, ◌∙◌, inl, inr, arith}
-use Rattle.std.specs.List.{insert}
-use Rattle.std.specs.List.Sorted.{IsStrictlyIncreasing, IsSearchInRange, IsBinarySearchResult, IsNonDecreasingBy}
-use Rattle.std.specs.Ordering.{nat_cmp, ordering_index}
-use Rattle.std.proofs.lemmas.Cmp.{ranked}
-use Rattle.std.proofs.lemmas.Bool.Decides.{nat_tests}
-use Rattle.std.proofs.lemmas.List.{length-map, get_or-map}
-use Rattle.fst_types.specs.Tests.{is_among}
-use Rattle.fst_types.proofs.Issuing.{among_in, in_among}
-use Rattle.fst_heads.proofs.Slots.{any_default}
-use Rattle.std.proofs.lemmas.Bool.{cases_Bool, cases_lt, cases_eq}
-use Rattle.std.proofs.lemmas.List.Kept.{AllPairs-from_increasing}
-use Rattle.std.proofs.lemmas.List.Sorted.{searched, IsNonDecreasingBy-from_default, IsPermutation-insert, IsPermutation-sym, Contains-permutation}
-use Rattle.std.proofs.lemmas.List.Edits.{length-insert, get_or-insert_below, get_or-insert_at, get_or-insert_above}
-use Rattle.fst_types.specs.declared.number.PatchNo.{PatchNo}
-use Rattle.fst_types.specs.Lists.{Lists}
-use Rattle.fst_types.specs.Gates.{IsGiven}
+use Rattle.fst_heads.proofs.Basics.{◌≡◌, ℕ, ◌+◌, ◌-◌, ◌<◌, ◌≤◌, List, ◌∷◌, length, get_or, Contains, Result, Ok, Err, is_ok, refl, sym, subst, ◌∙◌, inl, inr, arith, insert, IsStrictlyIncreasing, IsBinarySearchResult, nat_cmp, rules, common_steps, cases_Bool, cases_lt, cases_eq, AllPairs-from_increasing, searched}
+use Rattle.fst_heads.proofs.Basics.{IsPermutation-insert, IsPermutation-sym, Contains-permutation, length-insert, get_or-insert_below, get_or-insert_at, get_or-insert_above, true}
 use Rattle.fst_types.specs.Order.{NamesUnknown}
-use Rattle.fst_types.proofs.Finite.{In, In-get_or, In-from_Contains, Contains-from_In, In-map}
-use Rattle.fst_heads.specs.Names.{numbers_of}
-use Rattle.fst_heads.specs.Rows.{Gains}
+use Rattle.fst_heads.proofs.Patches.{is_among, among_in, in_among, PatchNo, Lists, IsGiven, In, In-get_or, In-from_Contains, Contains-from_In, In-map, DirectlyOn, IsLiveNumber, Patch}
+use Rattle.fst_heads.proofs.Words.{numbers_of, Gains, Head, IsRising, patches_of, HasSlot, IsMissing}
+use Rattle.fst_heads.proofs.Slots.{any_default, some_element, direct_at, named_at}
+
+-- what a gate does not have yet
+
+-- what the row of the head at a slot has is what the patch directly depends on
+module _ (heads : List Head) (rising : IsRising heads) (p s : ℕ) (d : Head) (slot : HasSlot heads p s) (q : ℕ) where
+  pub direct_from : is_among (get_or heads s d).dependencies.items q ≡ true → DirectlyOn (patches_of heads) p q
+  direct_from e = let row = (get_or heads s d).dependencies.items in direct_at heads p q s d slot (Contains-from_In row q (among_in row q e))
+
+  pub direct_to : DirectlyOn (patches_of heads) p q → is_among (get_or heads s d).dependencies.items q ≡ true
+  direct_to e = let row = (get_or heads s d).dependencies.items in in_among row q (In-from_Contains row q (named_at heads p q s d rising slot e))
+
+-- the same, the facts in the order of the definition
+pub missing_list : (heads : List Patch) (gate : ℕ) (names row : List ℕ) → Lists (λ n. IsMissing heads gate n × Contains names n) row → Lists (λ n. IsLiveNumber heads n × Contains names n × (DirectlyOn heads gate n → ⊥)) row
+missing_list heads gate names row l = record {
+  rising = l.rising;
+  only = λ n c. let k = l.only n c in (k.0.0, k.1, k.0.1);
+  each = λ n k. l.each n ((k.0, k.2), k.1);
+}
 
 module _ (xs : List ℕ) (rising : IsStrictlyIncreasing xs) where
   pub ordered : (i j : ℕ) → i < j → j < length xs → get_or xs i 0 < get_or xs j 0
   ordered i j lt inside = AllPairs-from_increasing xs rising i j 0 lt inside
 
   not_falling : (i j : ℕ) → i ≤ j → j < length xs → get_or xs i 0 ≤ get_or xs j 0
-  not_falling i j le lt = elim (cases_lt i j) [
-    | inl below ↦ let r = ordered i j below lt in omega (arith, r)
-    | inr up ↦ let same : i ≡ j = omega (arith, le, up) in subst (λ k. get_or xs i 0 ≤ get_or xs k 0) same (omega arith)
-  ]
+  not_falling i j le lt = grind (arith, cases_lt, ordered)
 
   module _ (x at : ℕ) (small : at ≤ length xs) (before : (k : ℕ) → k < at → get_or xs k 0 < x) (after : (k : ℕ) → at ≤ k → k < length xs → x < get_or xs k 0) where
     rises : IsStrictlyIncreasing (insert xs at x)
@@ -63,12 +63,6 @@ module _ (xs : List ℕ) (rising : IsStrictlyIncreasing xs) where
       gained = Contains-permutation (x ∷ xs) (insert xs at x) x (IsPermutation-insert xs at x) (Contains-from_In (x ∷ xs) x (inl refl));
     }
 
-  pub gains_found : (x at : ℕ) → (r : Result ℕ ℕ) → r ≡ Ok at → IsBinarySearchResult (λ y. nat_cmp y x) xs r → Gains xs x xs
-  gains_found x at (Ok k) e found =
-      let s = searched xs x (Ok k) found not_falling in
-      record { rising = rising; only = λ n c. inl c; kept = λ n c. c; gained = subst (Contains xs) s.1 (Contains-from_In xs (get_or xs k 0) (In-get_or xs k 0 s.0)) }
-  gains_found x at (Err k) e found = cc
-
   pub gains_new : (x at : ℕ) → (r : Result ℕ ℕ) → r ≡ Err at → IsBinarySearchResult (λ y. nat_cmp y x) xs r → Gains xs x (insert xs at x)
   gains_new x at (Ok k) e found = cc
   gains_new x at (Err k) e found =
@@ -99,12 +93,7 @@ pub name_in : (names : List PatchNo) (k : ℕ) (d : PatchNo) → k < length name
 name_in names k d lt = Contains-from_In _ _ (In-map (λ n. n.0) names (get_or names k d) _ (In-get_or names k d lt) refl)
 
 pub name_of : (names : List PatchNo) (n : ℕ) → Contains (numbers_of names) n → (k : ℕ) × (k < length names) × ((d : PatchNo) → (get_or names k d).0 ≡ n)
-name_of names n c = go names (In-from_Contains (numbers_of names) n c)
-  where
-    go : (xs : List PatchNo) → In (numbers_of xs) n → (k : ℕ) × (k < length xs) × ((d : PatchNo) → (get_or xs k d).0 ≡ n)
-    go [] h = absurd h
-    go (y ∷ ys) (inl e) = (0, omega arith, λ d. e)
-    go (y ∷ ys) (inr h) = let r = go ys h in (suc r.0, omega (arith, r.1), r.2)
+name_of names n c = grind (arith, common_steps)
 
 -- every name up to i was given
 abbrev pub AreGiven : ℕ → List PatchNo → ℕ → Type 0
@@ -113,12 +102,8 @@ AreGiven numbers names i = (k : ℕ) (d : PatchNo) → k < i → IsGiven numbers
 pub none_unknown : (numbers : ℕ) (names : List PatchNo) (i : ℕ) → length names ≤ i → AreGiven numbers names i → NamesUnknown numbers (numbers_of names) → ⊥
 none_unknown numbers names i past all u =
     let k = name_of names u.0 u.1 in
-    let d = some names k.0 k.1 in
+    let d = some_element names k.0 k.1 in
     u.2 (subst (IsGiven numbers) (k.2 d) (all k.0 d (omega (arith, k.1, past))))
-  where
-    some : (xs : List PatchNo) (k : ℕ) → k < length xs → PatchNo
-    some [] k h = absurd (omega (arith, h))
-    some (y ∷ ys) k h = y
 
 -- the names with P, as far as they were looked at
 pub record Gathers (P : ℕ → Type 0) (names : List PatchNo) (i : ℕ) (row : List ℕ) : Type 0 where
@@ -126,37 +111,19 @@ pub record Gathers (P : ℕ → Type 0) (names : List PatchNo) (i : ℕ) (row : 
   pub only : (n : ℕ) → Contains row n → P n × Contains (numbers_of names) n
   pub each : (k : ℕ) (d : PatchNo) → k < i → k < length names → P (get_or names k d).0 → Contains row (get_or names k d).0
 
-pub gathers_none : (P : ℕ → Type 0) (names : List PatchNo) → Gathers P names 0 []
-gathers_none P names = record { rising = λ k lt. absurd (omega (arith, lt)); only = λ n c. absurd (omega (arith, c.1)); each = λ k d lt. absurd (omega (arith, lt)) }
-
 module _ (P : ℕ → Type 0) (names : List PatchNo) (i : ℕ) (row : List ℕ) (e : PatchNo) (lt : i < length names) (x : Gathers P names i row) where
   here : (k : ℕ) (d : PatchNo) → (k < i → ⊥) → k < i + 1 → get_or names i e ≡ get_or names k d
-  here k d past up = let same : i ≡ k = omega (arith, up, past) in subst (λ j. get_or names i e ≡ get_or names j d) same (go names i lt)
-    where
-      go : (xs : List PatchNo) (j : ℕ) → j < length xs → get_or xs j e ≡ get_or xs j d
-      go [] j h = absurd (omega (arith, h))
-      go (y ∷ ys) zero h = refl
-      go (y ∷ ys) (suc j) h = go ys j (omega (arith, h))
+  here k d past up = let same : i ≡ k = omega (arith, up, past) in subst (λ j. get_or names i e ≡ get_or names j d) same (any_default names i e d lt)
 
   pub gathers_more : (new : List ℕ) → P (get_or names i e).0 → Gains row (get_or names i e).0 new → Gathers P names (i + 1) new
   gathers_more new p g = record {
     rising = g.rising;
     only = λ n c. elim (g.only n c) [ inl o ↦ x.only n o | inr same ↦ subst (λ m. P m × Contains (numbers_of names) m) (sym same) (p, name_in names i e lt) ];
-    each = λ k d up inside q. elim (cases_lt k i) [
-      | inl o ↦ g.kept _ (x.each k d o inside q)
-      | inr past ↦ subst (Contains new) (ap (λ m. m.0) (here k d (λ h. omega (arith, h, past)) up)) g.gained
-    ];
+    each = grind (arith, cases_lt, here);
   }
 
   pub gathers_skip : (P (get_or names i e).0 → ⊥) → Gathers P names (i + 1) row
-  gathers_skip no_p = record {
-    rising = x.rising;
-    only = x.only;
-    each = λ k d up inside q. elim (cases_lt k i) [
-      | inl o ↦ x.each k d o inside q
-      | inr past ↦ absurd (no_p (subst P (sym (ap (λ m. m.0) (here k d (λ h. omega (arith, h, past)) up))) q))
-    ];
-  }
+  gathers_skip no_p = search (rules, cases_lt, here)
 
 pub gathers_all : (P : ℕ → Type 0) (names : List PatchNo) (i : ℕ) (row : List ℕ) → length names ≤ i → Gathers P names i row → Lists (λ n. P n × Contains (numbers_of names) n) row
 gathers_all P names i row past x = record {
@@ -164,44 +131,6 @@ gathers_all P names i row past x = record {
   only = x.only;
   each = λ n p.
       let k = name_of names n p.1 in
-      let d = some names k.0 k.1 in
+      let d = some_element names k.0 k.1 in
       subst (Contains row) (k.2 d) (x.each k.0 d (omega (arith, k.1, past)) k.1 (subst P (sym (k.2 d)) p.0));
 }
-  where
-    some : (xs : List PatchNo) (k : ℕ) → k < length xs → PatchNo
-    some [] k h = absurd (omega (arith, h))
-    some (y ∷ ys) k h = y
-
--- whether a number is among names that rise
-module _ (names : List PatchNo) (rising : IsStrictlyIncreasing (numbers_of names)) (n : ℕ) where
-  name_below : (i j : ℕ) (e : PatchNo) → i < j → j < length names → (get_or names i e).0 < (get_or names j e).0
-  name_below i j e lt inside =
-      let len = length-map names (λ m. m.0) in
-      let r = ordered (numbers_of names) rising i j lt (omega (arith, inside, len)) in
-      let a = get_or-map (λ m. m.0) names i e 0 (omega (arith, lt, inside)) in
-      let b = get_or-map (λ m. m.0) names j e 0 inside in
-      omega (arith, r, a, b)
-
-  compared : (e : PatchNo) → IsNonDecreasingBy (λ m. ordering_index (nat_cmp m.0 n)) names
-  compared e = IsNonDecreasingBy-from_default (λ m. ordering_index (nat_cmp m.0 n)) names e (λ i j le lt.
-      let below : (i < j) → (get_or names i e).0 < (get_or names j e).0 = λ h. name_below i j e h lt in
-      let same : i ≡ j → (get_or names i e).0 ≡ (get_or names j e).0 = λ k. ap (λ m. (get_or names m e).0) k in
-      grind (arith, nat_tests, below, same))
-
-  pub among_found : (r : Result ℕ ℕ) → IsSearchInRange r (length names) → IsBinarySearchResult (λ m. nat_cmp m.0 n) names r → record { found : (k : ℕ) → r ≡ Ok k → true ≡ is_among (numbers_of names) n; none : (k : ℕ) → r ≡ Err k → false ≡ is_among (numbers_of names) n }
-  among_found (Ok at) in_range equal = record {
-    found = λ k e. sym (in_among (numbers_of names) n (In-from_Contains (numbers_of names) n (subst (Contains (numbers_of names)) (ranked _ n _ (sym (equal (record { 0 = 0 })))) (name_in names at (record { 0 = 0 }) in_range))));
-    none = λ k e. cc;
-  }
-  among_found (Err at) in_range parted = record {
-    found = λ k e. cc;
-    none = λ k e. elim (cases_Bool (is_among (numbers_of names) n)) [
-      | inr f ↦ sym f
-      | inl f ↦
-          let c = name_of names n (Contains-from_In (numbers_of names) n (among_in (numbers_of names) n f)) in
-          absurd (elim (cases_lt c.0 at) [
-            | inl before ↦ let r = ranked _ n _ (sym ((parted (compared (record { 0 = 0 }))).0 c.0 (record { 0 = 0 }) (omega arith) before)) in omega (arith, r, c.2 (record { 0 = 0 }))
-            | inr after ↦ let r = ranked _ n _ (sym ((parted (compared (record { 0 = 0 }))).1 c.0 (record { 0 = 0 }) after c.1)) in omega (arith, r, c.2 (record { 0 = 0 }))
-          ])
-    ];
-  }

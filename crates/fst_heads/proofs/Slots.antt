@@ -1,40 +1,36 @@
 -- Slots, numbers and marks.
-use Rattle.std.proofs.Common.{◌==◌, cond, find, All, AllPairs, ◌≡◌, ◌≢◌, ℕ, zero, suc, ◌<◌, Bool, true, false, List, [], ◌∷◌, length, get_or, Contains, Some, None, Result, Ok, Err, refl, sym, ap, subst, ◌∙◌, inl, inr, arith}
-use Rattle.std.specs.List.Sorted.{IsSearchInRange, IsBinarySearchResult, IsNonDecreasingBy}
-use Rattle.std.specs.Ordering.{nat_cmp, ordering_index}
+use Rattle.fst_heads.proofs.Basics.{◌==◌, cond, find, All, AllPairs, ◌≡◌, ◌≢◌, ℕ, zero, suc, ◌<◌, Bool, true, false, List, [], ◌∷◌, length, get_or, Contains, Some, None, Result, Ok, Err, refl, sym, ap, subst, ◌∙◌, inl, inr, arith, IsSearchInRange, IsBinarySearchResult, IsNonDecreasingBy, map, nat_cmp}
+use Rattle.fst_heads.proofs.Basics.{common_steps, ordering_index, cases_order, cases_lt, eq-eqb, ne_eqb, nat_tests, length-map, get_or-map}
 use Rattle.std.proofs.lemmas.Cmp.{ranked}
-use Rattle.std.proofs.lemmas.List.Sorted.{IsNonDecreasingBy-from_default}
-use Rattle.std.proofs.lemmas.Bool.{cases_order, cases_lt, eq-eqb, ne_eqb}
-use Rattle.std.proofs.lemmas.Bool.Decides.{nat_tests}
-use Rattle.fst_types.specs.Patches.{Patch, IsRising as Rising}
-use Rattle.std.proofs.lemmas.List.{length-map, get_or-map}
-use Rattle.fst_types.specs.Dependencies.{DirectlyOn, IsLiveNumber}
-use Rattle.fst_types.specs.declared.place.Place.{Place}
-use Rattle.fst_types.specs.declared.place.Place.TheVariants as place
-use Rattle.fst_heads.specs.Tests.{is_live_place}
-use Rattle.fst_types.proofs.Finite.{In, In-from_Contains, Contains-from_In, In-map}
-use Rattle.fst_heads.specs.declared.head.Head.{Head}
-use Rattle.fst_heads.specs.Heads.{IsRising, patch_of, patches_of}
-use Rattle.fst_heads.specs.Marks.{HasSlot, HasNone, Has}
-
--- within a list the default does not matter
-pub any_default : {X : Type 0} (xs : List X) (i : ℕ) (d e : X) → i < length xs → get_or xs i d ≡ get_or xs i e
-any_default [] i d e h = absurd (omega (arith, h))
-any_default (y ∷ ys) zero d e h = refl
-any_default (y ∷ ys) (suc i) d e h = any_default ys i d e (omega (arith, h))
+use Rattle.fst_heads.proofs.Patches.{Patch, Rising, DirectlyOn, IsLiveNumber, Place, In, In-from_Contains, Contains-from_In, In-map}
+use Rattle.fst_heads.proofs.Patches.place
+use Rattle.fst_heads.proofs.Words.{is_live_place, Head, IsRising, patch_of, patches_of, HasSlot, HasNone, Has}
+pub use Rattle.std.proofs.lemmas.List.{get_or_default as any_default}
 
 -- an element to stand for the default
 pub some_element : {X : Type 0} (xs : List X) (k : ℕ) → k < length xs → X
 some_element [] k h = absurd (omega (arith, h))
 some_element (y ∷ ys) k h = y
 
+-- a list rises by a key as its image does
+module _ {X Y : Type 0} (f : X → Y) (xs : List X) (low : X → ℕ) (high : Y → ℕ) (same : (x : X) → high (f x) ≡ low x) where
+  pub rising_map : AllPairs (λ a b. low a < low b) xs → AllPairs (λ a b. high a < high b) (map f xs)
+  rising_map rising i j e lt inside =
+      let long = length-map xs f in
+      let d = some_element xs j (omega (arith, inside, long)) in
+      let first = ap high (get_or-map f xs i d e (omega (arith, lt, inside, long))) ∙ same (get_or xs i d) in
+      let other = ap high (get_or-map f xs j d e (omega (arith, inside, long))) ∙ same (get_or xs j d) in
+      omega (arith, first, other, rising i j d lt (omega (arith, inside, long)))
+
+  pub rising_back : AllPairs (λ a b. high a < high b) (map f xs) → AllPairs (λ a b. low a < low b) xs
+  rising_back rising i j d lt inside =
+      let first = ap high (get_or-map f xs i d (f d) (omega (arith, lt, inside))) ∙ same (get_or xs i d) in
+      omega (arith, first, ap high (get_or-map f xs j d (f d) inside) ∙ same (get_or xs j d), rising i j (f d) lt (omega (arith, inside, length-map xs f)))
+
 -- a search among keys that rise
 module _ {X : Type 0} (key : X → ℕ) (xs : List X) (rising : AllPairs (λ x y. key x < key y) xs) (n : ℕ) where
   compared : (e : X) → IsNonDecreasingBy (λ h. ordering_index (nat_cmp (key h) n)) xs
-  compared e = IsNonDecreasingBy-from_default (λ h. ordering_index (nat_cmp (key h) n)) xs e (λ i j le lt.
-      let below : (i < j) → key (get_or xs i e) < key (get_or xs j e) = λ h. rising i j e h lt in
-      let same : i ≡ j → key (get_or xs i e) ≡ key (get_or xs j e) = λ k. ap (λ m. key (get_or xs m e)) k in
-      grind (arith, nat_tests, below, same))
+  compared e = grind (arith, nat_tests)
 
   pub searched_by : (r : Result ℕ ℕ) → IsSearchInRange r (length xs) → IsBinarySearchResult (λ h. nat_cmp (key h) n) xs r
       → record { found : (slot : ℕ) → r ≡ Ok slot → (slot < length xs) × ((d : X) → key (get_or xs slot d) ≡ n); none : (slot : ℕ) → r ≡ Err slot → All (λ h. key h ≢ n) xs }
@@ -62,10 +58,6 @@ slot_unique (h ∷ hs) q s t rising a b =
       ]
     ]
 
-pub slot_number : (heads : List Head) (s q r : ℕ) → HasSlot heads q s → HasSlot heads r s → q ≡ r
-slot_number [] s q r a b = absurd (omega (arith, a.0))
-slot_number (h ∷ hs) s q r a b = sym (a.1 h) ∙ b.1 h
-
 pub none_slot : (heads : List Head) (q s : ℕ) → HasNone heads q → HasSlot heads q s → ⊥
 none_slot heads q s none h = let d = some_element heads s h.0 in none s d h.0 (h.1 d)
 
@@ -74,12 +66,7 @@ slot_here heads s d lt = (lt, λ e. ap (λ y. y.number) (any_default heads s e d
 
 -- the slot of a patch
 pub slot_in : (heads : List Head) (x : Patch) → Contains (patches_of heads) x → (s : ℕ) × (s < length heads) × ((d : Head) → patch_of (get_or heads s d) ≡ x)
-slot_in heads x c = go heads (In-from_Contains (patches_of heads) x c)
-  where
-    go : (hs : List Head) → In (patches_of hs) x → (s : ℕ) × (s < length hs) × ((d : Head) → patch_of (get_or hs s d) ≡ x)
-    go [] h = absurd h
-    go (y ∷ ys) (inl e) = (0, omega arith, λ d. e)
-    go (y ∷ ys) (inr h) = let r = go ys h in (suc r.0, omega (arith, r.1), r.2)
+slot_in heads x c = grind (arith, common_steps)
 
 pub patch_slot : (heads : List Head) (x : Patch) (s : ℕ) → s < length heads → ((d : Head) → patch_of (get_or heads s d) ≡ x) → HasSlot heads x.number s
 patch_slot heads x s lt same = (lt, λ d. ap (λ p. p.number) (same d))
@@ -119,27 +106,17 @@ has_at heads marks n s rising slot h = subst (λ k. get_or marks k false ≡ tru
 pub has_none : (heads : List Head) (marks : List Bool) (n : ℕ) → HasNone heads n → Has heads marks n → ⊥
 has_none heads marks n none h = none_slot heads n h.slot none h.at
 
--- the patch of a marked number
-pub has_patch : (heads : List Head) (marks : List Bool) (n : ℕ) → Has heads marks n → (p : Patch) × Contains (patches_of heads) p × (p.number ≡ n)
-has_patch heads marks n h = let d = some_element heads h.slot h.at.0 in (patch_of (get_or heads h.slot d), patch_at heads h.slot d h.at.0, h.at.1 d)
-
 -- heads rise as their patches do
 pub rising_heads : (heads : List Head) → Rising (patches_of heads) → IsRising heads
-rising_heads heads rising i j d lt in_range =
-    let r = rising i j (patch_of d) lt (omega (arith, in_range, length-map heads patch_of)) in
-    let a = get_or-map patch_of heads i d (patch_of d) (omega (arith, lt, in_range)) in
-    let b = get_or-map patch_of heads j d (patch_of d) in_range in
-    subst (λ x. x.number < (get_or heads j d).number) a (subst (λ y. (get_or (patches_of heads) i (patch_of d)).number < y.number) b r)
+rising_heads heads rising = rising_back patch_of heads (λ h. h.number) (λ p. p.number) (λ h. refl) rising
 
 pub live_place : (p : Place) → is_live_place p ≡ true → p ≡ place.Disk → ⊥
 live_place place.Memory e d = cc
-live_place place.Flight e d = cc
-live_place place.Disk e d = cc
+live_place p e d = cc
 
 pub place_live : (p : Place) → (p ≡ place.Disk → ⊥) → is_live_place p ≡ true
-place_live place.Memory n = refl
-place_live place.Flight n = refl
 place_live place.Disk n = absurd (n refl)
+place_live p n = refl
 
 -- a number is live as the head at its slot is
 pub live_at : (heads : List Head) (n s : ℕ) (d : Head) → IsRising heads → HasSlot heads n s → record { 0 : is_live_place (get_or heads s d).place ≡ true → IsLiveNumber (patches_of heads) n; 1 : IsLiveNumber (patches_of heads) n → is_live_place (get_or heads s d).place ≡ true }

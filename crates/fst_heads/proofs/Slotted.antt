@@ -1,25 +1,13 @@
 -- The head in one slot hears of another patch, and all that have a number of a row do.
-use Rattle.std.proofs.Common.{◌≡◌, ◌≢◌, ℕ, zero, suc, ◌+◌, ◌<◌, ◌==◌, ◌&&◌, Bool, true, false, if◌then◌else◌, List, [], ◌∷◌, ◌++◌, length, map, take, drop, get_or, Contains, AllPairs, append-nil, length-append, refl, sym, ap, subst, ◌∙◌, inl, inr, arith}
-use Rattle.std.specs.List.{list_any}
-use Rattle.std.proofs.lemmas.Bool.{cases_eq, and_from, eq-eqb, ne_eqb}
-use Rattle.std.proofs.lemmas.List.{length-map, get_or-map, take_more, take-append-drop}
-use Rattle.std.proofs.lemmas.List.Elements.{filter-append}
-use Rattle.std.proofs.lemmas.List.Folds.{list_any-from_Any}
-use Rattle.fst_types.specs.declared.place.Place.TheVariants as place
-use Rattle.fst_types.specs.Tests.{is_among}
-use Rattle.fst_types.proofs.Finite.{In, In-from_Contains, Contains-from_In, In-map}
-use Rattle.fst_types.proofs.GateGains.{In-unmap}
-use Rattle.fst_heads.specs.declared.head.Head.{Head}
-use Rattle.fst_heads.specs.declared.pending.Pending.{Pending}
-use Rattle.fst_heads.specs.Heads.{IsRising}
-use Rattle.fst_heads.specs.Marks.{HasSlot, HasNone}
-use Rattle.fst_heads.specs.Nodes.{Node, node_of, nodes_of, at_number}
-use Rattle.fst_heads.specs.Pendings.{plus, minus}
-use Rattle.fst_heads.specs.Spreading.{follows, rested, hears, wakes, heard, woken}
+use Rattle.fst_heads.proofs.Basics.{◌≡◌, ◌≢◌, ℕ, zero, suc, ◌+◌, ◌<◌, ◌==◌, ◌&&◌, Bool, true, false, if◌then◌else◌, List, [], ◌∷◌, ◌++◌, length, map, take, drop, get_or, Contains, AllPairs, append-nil, length-append, refl, sym, ap, subst, ◌∙◌, inl, inr, arith, list_any, cases_eq, and_from, rules, eq-eqb, ne_eqb}
+use Rattle.fst_heads.proofs.Basics.{common_steps, length-map, get_or-map, take_more, take-append-drop, filter-append, list_any-from_Any}
+use Rattle.fst_heads.proofs.Patches.{is_among, In, In-from_Contains, Contains-from_In, In-map, In-unmap}
+use Rattle.fst_heads.proofs.Patches.place
+use Rattle.fst_heads.proofs.Words.{Head, Pending, IsRising, HasSlot, HasNone, Node, node_of, nodes_of, at_number, plus, minus, follows, rested, hears, wakes, heard, woken}
 use Rattle.fst_heads.proofs.AtNumber.{at_same, at_other}
 use Rattle.fst_heads.proofs.Listing.{any_none, any_slot}
 use Rattle.fst_heads.proofs.Linking.{map_twice, rising_as, none_among, among_push_other, among_push_same}
-use Rattle.fst_heads.proofs.Slots.{any_default, some_element, slot_head, slot_unique}
+use Rattle.fst_heads.proofs.Slots.{any_default, some_element, slot_head, slot_unique, rising_back}
 
 -- what rests keeps all but its place
 module _ (x : Node) where
@@ -100,11 +88,7 @@ none_of_number heads n x none c e =
 
 -- heads rise where their nodes do
 pub rising_slots : (heads : List Head) → AllPairs (λ x y. x.patch.number < y.patch.number) (nodes_of heads) → IsRising heads
-rising_slots heads rising i j d lt inside =
-    let r = rising i j (node_of d) lt (omega (arith, inside, length-map heads node_of)) in
-    let a = get_or-map node_of heads i d (node_of d) (omega (arith, lt, inside)) in
-    let b = get_or-map node_of heads j d (node_of d) inside in
-    subst (λ x. x.patch.number < (get_or heads j d).number) a (subst (λ y. (get_or (nodes_of heads) i (node_of d)).patch.number < y.patch.number) b r)
+rising_slots heads rising = rising_back node_of heads (λ h. h.number) (λ x. x.patch.number) (λ h. refl) rising
 
 -- the dependants of the node in a slot
 abbrev pub row_at : List Node → ℕ → List ℕ
@@ -133,6 +117,11 @@ row_now start heads row old new s h lt e at =
     ∙ (sym (ap (λ (x : Node). x.dependants) (get_or-map node_of heads s h (node_of h) lt))
     ∙ (row_is (nodes_of heads) s (node_of h) (omega (arith, lt, length-map heads node_of))
     ∙ (ap (λ ns. row_at ns s) e ∙ ap (λ rows. get_or rows s []) (rows_heard row old new start))))
+
+-- told of the heads as they stood at the start
+pub row_of : (start now : List Head) (row : List ℕ) (old new : Pending) (s : ℕ) (h : Head) → s < length start → nodes_of now ≡ map (heard row old new) (nodes_of start)
+    → h ≡ get_or now s h → h.dependants.items ≡ row_at (nodes_of start) s
+row_of start now row old new s h lt e at = grind (arith, common_steps, length_heard, length-map, row_now)
 
 pub rising_heard : (start heads : List Head) (row : List ℕ) (old new : Pending) → nodes_of heads ≡ map (heard row old new) (nodes_of start) → IsRising start → IsRising heads
 rising_heard start heads row old new e rising = rising_as (heard row old new) (heard_number row old new) heads start e rising
@@ -164,23 +153,10 @@ module _ (row : List ℕ) (once : AllPairs (λ m n. m ≢ n) row) (i : ℕ) (lt 
 
   -- a node with the next number did not hear yet
   pub heard_before : (nodes : List Node) (x : Node) → Contains (map (heard done old new) nodes) x → x.patch.number ≡ next → Contains nodes x
-  heard_before nodes x c e =
-      let r = In-unmap (heard done old new) nodes x (In-from_Contains (map (heard done old new) nodes) x c) in
-      let number = sym (heard_number done old new r.0) ∙ (ap (λ (y : Node). y.patch.number) r.2 ∙ e) in
-      Contains-from_In nodes x (subst (In nodes) (sym (heard_next r.0 number) ∙ r.2) r.1)
+  heard_before nodes x c e = grind (arith, common_steps, heard_number, heard_next)
 
   heard_push : (x : Node) → at_number next (hears old new) (heard done old new x) ≡ heard (done ++ next ∷ []) old new x
-  heard_push x =
-      elim (cases_eq x.patch.number next) [
-        | inl same ↦
-            let there : is_among (done ++ next ∷ []) x.patch.number ≡ true = ap (is_among (done ++ next ∷ [])) same ∙ among_push_same done next in
-            let hears_it : heard (done ++ next ∷ []) old new x ≡ hears old new x = rw there refl in
-            rw (heard_next x same) (at_same next (hears old new) x same ∙ sym hears_it)
-        | inr other ↦
-            let alike : is_among (done ++ next ∷ []) x.patch.number ≡ is_among done x.patch.number = among_push_other done next x.patch.number (λ e. other (sym e)) in
-            let same : heard (done ++ next ∷ []) old new x ≡ heard done old new x = rw alike refl in
-            at_other next (hears old new) (heard done old new x) (λ e. other (sym (heard_number done old new x) ∙ e)) ∙ sym same
-      ]
+  heard_push x = search (rules, cases_eq, among_push_same, heard_next, at_same, among_push_other, at_other, heard_number)
 
   -- one more of the row hears
   pub heard_more : (nodes : List Node) → map (at_number next (hears old new)) (map (heard done old new) nodes) ≡ map (heard (take (i + 1) row) old new) nodes
@@ -197,10 +173,7 @@ module _ (row : List ℕ) (once : AllPairs (λ m n. m ≢ n) row) (i : ℕ) (lt 
   woken_next nodes = ap (λ t. if t then next ∷ [] else []) (any_next nodes)
 
   pub woken_more : (nodes : List Node) → woken done old new nodes ++ woken (next ∷ []) old new (map (heard done old new) nodes) ≡ woken (take (i + 1) row) old new nodes
-  woken_more nodes =
-      ap (λ ms. woken done old new nodes ++ ms) (woken_next nodes)
-      ∙ (sym (filter-append (λ n. list_any (λ x. (x.patch.number == n) && wakes old new x) nodes) done (next ∷ []))
-      ∙ ap (λ ms. woken ms old new nodes) (sym (take_more row i 0 lt)))
+  woken_more nodes = grind (arith, common_steps, woken_next, filter-append, take_more)
 
   -- there is room for what wakes
   pub woken_room : (nodes : List Node) (x : Node) → Contains (map (heard done old new) nodes) x → x.patch.number ≡ next → wakes old new x ≡ true
@@ -209,9 +182,8 @@ module _ (row : List ℕ) (once : AllPairs (λ m n. m ≢ n) row) (i : ℕ) (lt 
       let now = map (heard done old new) nodes in
       let hit = list_any-from_Any (λ x. (x.patch.number == next) && wakes old new x) now (c.0, x, c.1, c.2, and_from (x.patch.number == next) (wakes old new x) (eq-eqb x.patch.number next e) w) in
       let one : woken (next ∷ []) old new now ≡ next ∷ [] = ap (λ t. if t then next ∷ [] else []) hit in
-      let more = ap length (sym (ap (λ ms. woken done old new nodes ++ ms) one) ∙ woken_more nodes) in
       let all = ap length (ap (λ ms. woken ms old new nodes) (sym (take-append-drop (i + 1) row)) ∙ filter-append (λ n. list_any (λ x. (x.patch.number == n) && wakes old new x) nodes) (take (i + 1) row) (drop (i + 1) row)) in
       let before = length-append (woken done old new nodes) (next ∷ []) in
       let parts = length-append (woken (take (i + 1) row) old new nodes) (woken (drop (i + 1) row) old new nodes) in
       let single : length (next ∷ []) ≡ 1 = refl in
-      omega (arith, more, all, before, parts, single)
+      omega (arith, ap length (sym (ap (λ ms. woken done old new nodes ++ ms) one) ∙ woken_more nodes), all, before, parts, single)

@@ -1,46 +1,21 @@
 -- How the counts of each block follow what becomes of patches.
-use Rattle.std.proofs.Common.{◌≡◌, ◌≢◌, ◌&&◌, ◌+◌, ◌<◌, ◌≤◌, ℕ, Bool, true, false, not, cond, List, [], ◌∷◌, map, filter, count_by, set, get_or, AllPairs, refl, sym, ap, subst, ◌∙◌, inl, inr, arith}
-use Rattle.std.proofs.lemmas.Bool.{cases_Bool, cases_eq, and_parts, eq-eqb, ne_eqb, false≢true}
-use Rattle.std.proofs.lemmas.List.{length-map, get_or-map}
-use Rattle.fst_types.specs.declared.grade.Grade.{Grade}
-use Rattle.fst_types.specs.declared.place.Place.{Place}
-use Rattle.fst_types.specs.declared.place.Place.TheVariants as place
-use Rattle.fst_types.specs.Facts.{HasOnePlaceEach}
-use Rattle.fst_types.specs.Gates.{IsOpenNumber}
-use Rattle.fst_types.specs.Patches.{Kind, Patch, Change, OpenGate, SealedGate}
-use Rattle.fst_types.specs.Tests.{is_among, is_at, is_change_at, is_live, is_on}
-use Rattle.fst_types.proofs.Crash.{same_number}
-use Rattle.fst_types.proofs.Dropping.{filter_in, in_filter}
-use Rattle.fst_types.proofs.Finite.{In, Contains-from_In, In-map}
-use Rattle.fst_types.proofs.GateGains.{In-unmap}
-use Rattle.fst_types.proofs.Issuing.{among_in, in_among}
-use Rattle.fst_heads.specs.declared.pending.Pending.{Pending}
-use Rattle.fst_heads.specs.declared.pending.Pending.TheVariants as pending
-use Rattle.fst_heads.specs.declared.pending.Sums.{Sums}
-use Rattle.fst_heads.specs.declared.standing.Standing.{Standing}
-use Rattle.fst_heads.specs.Keeps.{IsInside}
-use Rattle.fst_heads.specs.Nodes.{Node, patches_in, at_number, linked_to, gains_names}
-use Rattle.fst_heads.specs.Pendings.{is_pending, plus, minus}
-use Rattle.fst_heads.specs.Spreading.{hears, heard, seals, lands, launches}
-use Rattle.fst_heads.specs.Standings.{AllStand, is_ready_on, is_held_on, is_flying_on, ready_on, standing_of, entered}
-use Rattle.fst_heads.specs.Tests.{is_hard_kind}
+use Rattle.fst_heads.proofs.Basics.{◌≡◌, ◌≢◌, ◌&&◌, ◌+◌, ◌<◌, ◌≤◌, ℕ, Bool, true, false, cond, List, map, filter, count_by, set, get_or, AllPairs, refl, sym, ap, subst, ◌∙◌, inl, inr, arith, cases_Bool, cases_eq, and_parts, ne_eqb, false≢true, rules, common_steps}
+use Rattle.fst_heads.proofs.Patches.{Grade, Place, HasOnePlaceEach, IsOpenNumber, Kind, Patch, Change, OpenGate, SealedGate, is_among, is_at, is_live, is_on, same_number, filter_in, in_filter, In, Contains-from_In, In-map, In-unmap, among_in, in_among}
+use Rattle.fst_heads.proofs.Patches.place
+use Rattle.fst_heads.proofs.Words.{Pending, Sums, Standing, IsInside, Node, patches_in, at_number, linked_to, gains_names, is_pending, heard, seals, lands, launches, AllStand, is_ready_on, is_held_on, is_flying_on, ready_on, standing_of, entered, is_hard_kind}
+use Rattle.fst_heads.proofs.Words.pending
 use Rattle.fst_heads.proofs.Added.{with_node, new_node, with_names}
 use Rattle.fst_heads.proofs.AtNumber.{at_same, at_other}
 use Rattle.fst_heads.proofs.CountsAs.{CountsAs, counts, count_cons, count_append, count_map, count_nothing, count_none, count_kept, standing_same, stands_as, stand_map, stand_set, off_place, off_as, like_as, self_as, rested_as, on_one}
 use Rattle.fst_heads.proofs.Waiting.{same_node}
+use Rattle.fst_heads.proofs.Slots.{rising_back}
 
 -- those that hear of another keep their places in the counts
 pub stand_heard : (nodes : List Node) (blocks : ℕ) (standings : List Standing) (row : List ℕ) (old new : Pending) → AllStand nodes blocks standings → AllStand (map (heard row old new) nodes) blocks standings
 stand_heard nodes blocks standings row old new S = stand_map (heard row old new) nodes blocks standings (λ x b i lt. one b x) S
   where
     one : (b : ℕ) (x : Node) → CountsAs b (heard row old new x) x
-    one b x = elim (cases_Bool (is_among row x.patch.number)) [
-      | inl e ↦
-          let all = rested_as b (record x { sums = plus new (minus old x.sums) }) in
-          let there : CountsAs b (hears old new x) x = record { ready = all.ready; held = all.held; flying = all.flying } in
-          rw e there
-      | inr e ↦ rw e (self_as b x)
-    ]
+    one b x = grind (arith, cases_Bool, rested_as, self_as)
 
 pub stand_sealed : (nodes : List Node) (numbers blocks g : ℕ) (standings : List Standing) → HasOnePlaceEach (patches_in nodes) numbers → IsOpenNumber (patches_in nodes) g
     → AllStand nodes blocks standings → AllStand (map (at_number g seals) nodes) blocks standings
@@ -62,16 +37,9 @@ stand_sealed nodes numbers blocks g standings H gate S = stand_map (at_number g 
       | inr ne ↦ rw (at_other g seals x ne) (self_as b x)
     ]
 
--- what flies of b is on it
-flying_on_it : (b : ℕ) (x : Node) → is_flying_on b x ≡ true → is_on b x.patch.kind ≡ true
-flying_on_it b x e = (and_parts (is_at x.patch.place place.Flight) (is_on b x.patch.kind) e).1
-
 -- a landing of b changes no count of another block
 landed_other : (b c : ℕ) (x : Node) → c ≢ b → CountsAs c (lands b x) x
-landed_other b c x ne = elim (cases_Bool (is_flying_on b x)) [
-  | inl e ↦ let off = on_one b c x.patch.kind ne (flying_on_it b x e) in rw e (off_as c _ x off off)
-  | inr e ↦ rw e (self_as c x)
-]
+landed_other b c x ne = grind (arith, cases_Bool, on_one, off_as, self_as)
 
 -- a block without changes in it has nothing in flight
 pub stand_landed_outside : (nodes : List Node) (blocks b : ℕ) (standings : List Standing) → IsInside (patches_in nodes) blocks → blocks ≤ b
@@ -79,9 +47,8 @@ pub stand_landed_outside : (nodes : List Node) (blocks b : ℕ) (standings : Lis
 stand_landed_outside nodes blocks b standings inside outside S = stand_map (lands b) nodes blocks standings (λ x c i lt. landed_other b c x (λ same. omega (arith, lt, same, outside))) S
 
 in_flight : (p : Place) (on : Bool) → (is_at p place.Flight && on) ≡ true → (is_at p place.Memory) ≡ false
-in_flight place.Memory on e = absurd (false≢true e)
 in_flight place.Flight on e = refl
-in_flight place.Disk on e = absurd (false≢true e)
+in_flight p on e = absurd (false≢true e)
 
 pub stand_landed : (nodes : List Node) (blocks b : ℕ) (standings : List Standing) (d : Standing) → b < blocks
     → AllStand nodes blocks standings → AllStand (map (lands b) nodes) blocks (set standings b (record { ready = (get_or standings b d).ready; held = (get_or standings b d).held; flying = 0 }))
@@ -89,7 +56,7 @@ stand_landed nodes blocks b standings d lt S = stand_set (map (lands b) nodes) n
   where
     -- what flies is in memory neither before nor after
     ready_stays : (x : Node) → is_ready_on b (lands b x) ≡ is_ready_on b x
-    ready_stays x = elim (cases_Bool (is_flying_on b x)) [ inl e ↦ rw (e, in_flight x.patch.place (is_on b x.patch.kind) e) refl | inr e ↦ rw e refl ]
+    ready_stays x = grind (arith, cases_Bool, in_flight)
 
     held_stays : (x : Node) → is_held_on b (lands b x) ≡ is_held_on b x
     held_stays x = elim (cases_Bool (is_flying_on b x)) [ inl e ↦ rw (e, in_flight x.patch.place (is_on b x.patch.kind) e) refl | inr e ↦ rw e refl ]
@@ -98,7 +65,7 @@ stand_landed nodes blocks b standings d lt S = stand_set (map (lands b) nodes) n
     none_flies x = elim (cases_Bool (is_flying_on b x)) [ inl e ↦ rw e refl | inr e ↦ rw e e ]
 
     at_b : get_or standings b d ≡ standing_of nodes b
-    at_b = S.each b d lt
+    at_b = grind arith
 
     own : record { ready = (get_or standings b d).ready; held = (get_or standings b d).held; flying = 0 } ≡ standing_of (map (lands b) nodes) b
     own = standing_same _ _ _ _ _ _
@@ -106,19 +73,9 @@ stand_landed nodes blocks b standings d lt S = stand_set (map (lands b) nodes) n
         (ap (λ (s : Standing). s.held) at_b ∙ sym (count_map (is_held_on b) (is_held_on b) (lands b) nodes (λ x i. held_stays x)))
         (sym (count_map (is_flying_on b) (λ x. false) (lands b) nodes (λ x i. none_flies x) ∙ count_nothing (λ x. false) nodes (λ x i. refl)))
 
-ready_not_held : (change hard ready : Bool) → ready ≡ true → ((change && hard) && not ready) ≡ false
-ready_not_held true true ready e = rw e refl
-ready_not_held true false ready e = refl
-ready_not_held false hard ready e = refl
-
 -- one number, one node
 rising_in : (nodes : List Node) → AllPairs (λ p q. p.number < q.number) (patches_in nodes) → AllPairs (λ x y. x.patch.number < y.patch.number) nodes
-rising_in nodes rising i j d lt inside =
-    let long = length-map nodes (λ (x : Node). x.patch) in
-    let r = rising i j d.patch lt (omega (arith, inside, long)) in
-    let one = ap (λ (p : Patch). p.number) (get_or-map (λ (x : Node). x.patch) nodes i d d.patch (omega (arith, lt, inside))) in
-    let other = ap (λ (p : Patch). p.number) (get_or-map (λ (x : Node). x.patch) nodes j d d.patch inside) in
-    omega (arith, r, one, other)
+rising_in nodes rising = rising_back (λ (x : Node). x.patch) nodes (λ x. x.patch.number) (λ p. p.number) (λ x. refl) rising
 
 -- where one block launches what is ready of it
 module _ (nodes : List Node) (rising : AllPairs (λ x y. x.patch.number < y.patch.number) nodes) (b : ℕ) where
@@ -146,29 +103,13 @@ module _ (nodes : List Node) (rising : AllPairs (λ x y. x.patch.number < y.patc
   none_ready x i = elim (cases_Bool (is_ready_on b x)) [ inl e ↦ ap (is_ready_on b) (goes x i e) | inr e ↦ ap (is_ready_on b) (stays x i e) ∙ e ]
 
   held_as : (x : Node) → In nodes x → is_held_on b (launches (ready_on b nodes) x) ≡ is_held_on b x
-  held_as x i = elim (cases_Bool (is_ready_on b x)) [
-    | inl e ↦ let k = and_parts (is_change_at place.Memory b x.patch) (is_pending x.pending (pending.Block b)) e in ap (is_held_on b) (goes x i e) ∙ (sym (ready_not_held (is_change_at place.Memory b x.patch) (is_hard_kind x.patch.kind) (is_pending x.pending (pending.Block b)) k.1))
-    | inr e ↦ ap (is_held_on b) (stays x i e)
-  ]
+  held_as x i = grind (arith, cases_Bool, and_parts, goes, stays)
 
   flies_as : (x : Node) → In nodes x → is_flying_on b x ≡ false → is_flying_on b (launches (ready_on b nodes) x) ≡ is_ready_on b x
-  flies_as x i none = elim (cases_Bool (is_ready_on b x)) [
-    | inl e ↦
-        let k = and_parts (is_change_at place.Memory b x.patch) (is_pending x.pending (pending.Block b)) e in
-        let on = and_parts (is_at x.patch.place place.Memory) (is_on b x.patch.kind) k.0 in
-        ap (is_flying_on b) (goes x i e) ∙ (on.1 ∙ sym e)
-    | inr e ↦ ap (is_flying_on b) (stays x i e) ∙ (none ∙ sym e)
-  ]
+  flies_as x i none = grind (arith, cases_Bool, and_parts, goes, stays)
 
   launched_other : (c : ℕ) (x : Node) → In nodes x → c ≢ b → CountsAs c (launches (ready_on b nodes) x) x
-  launched_other c x i ne = elim (cases_Bool (is_ready_on b x)) [
-    | inl e ↦
-        let k = and_parts (is_change_at place.Memory b x.patch) (is_pending x.pending (pending.Block b)) e in
-        let on = and_parts (is_at x.patch.place place.Memory) (is_on b x.patch.kind) k.0 in
-        let off = on_one b c x.patch.kind ne on.1 in
-        rw (goes x i e) (off_as c _ x off off)
-    | inr e ↦ rw (stays x i e) (self_as c x)
-  ]
+  launched_other c x i ne = grind (arith, cases_Bool, and_parts, on_one, goes, off_as, stays, self_as)
 
 -- all that is ready of the block goes, and nothing else
 pub stand_launched : (nodes : List Node) (numbers blocks b : ℕ) (standings : List Standing) (d : Standing) → HasOnePlaceEach (patches_in nodes) numbers → b < blocks → (get_or standings b d).flying ≡ 0
@@ -177,10 +118,10 @@ pub stand_launched : (nodes : List Node) (numbers blocks b : ℕ) (standings : L
 stand_launched nodes numbers blocks b standings d H lt rest S = stand_set (map (launches (ready_on b nodes)) nodes) nodes blocks b standings _ lt S own (λ c inside ne. stands_as (launches (ready_on b nodes)) nodes c (λ x i. launched_other nodes rising b c x i ne))
   where
     rising : AllPairs (λ x y. x.patch.number < y.patch.number) nodes
-    rising = rising_in nodes H.rising
+    rising = grind (arith, rising_in)
 
     at_b : get_or standings b d ≡ standing_of nodes b
-    at_b = S.each b d lt
+    at_b = grind arith
 
     resting : (x : Node) → In nodes x → is_flying_on b x ≡ false
     resting x i = count_none (is_flying_on b) nodes (sym (ap (λ (s : Standing). s.flying) at_b) ∙ rest) x i
@@ -191,21 +132,9 @@ stand_launched nodes numbers blocks b standings d H lt rest S = stand_set (map (
         (ap (λ (s : Standing). s.held) at_b ∙ sym (count_map (is_held_on b) (is_held_on b) (launches (ready_on b nodes)) nodes (λ x i. held_as nodes rising b x i)))
         (ap (λ (s : Standing). s.ready) at_b ∙ sym (count_map (is_flying_on b) (is_ready_on b) (launches (ready_on b nodes)) nodes (λ x i. flies_as nodes rising b x i (resting x i))))
 
-not_live : (p : Place) → not (is_at p place.Disk) ≡ false → p ≡ place.Disk
-not_live place.Memory e = absurd (false≢true (sym e))
-not_live place.Flight e = absurd (false≢true (sym e))
-not_live place.Disk e = refl
-
 -- what is dropped was on disk, and counts for no block
 pub stand_dropped : (nodes : List Node) (blocks : ℕ) (standings : List Standing) → AllStand nodes blocks standings → AllStand (filter (λ x. is_live x.patch) nodes) blocks standings
-stand_dropped nodes blocks standings S = record {
-  long = S.long;
-  each = λ b d lt. S.each b d lt
-      ∙ sym (standing_same _ _ _ _ _ _
-      (count_kept (is_ready_on b) (λ x. is_live x.patch) nodes (λ x e. rw (not_live x.patch.place e) refl))
-      (count_kept (is_held_on b) (λ x. is_live x.patch) nodes (λ x e. rw (not_live x.patch.place e) refl))
-      (count_kept (is_flying_on b) (λ x. is_live x.patch) nodes (λ x e. rw (not_live x.patch.place e) refl)));
-}
+stand_dropped nodes blocks standings S = search (rules, standing_same, count_kept)
 
 -- a link keeps what a node counts as
 linked_as : (row : List ℕ) (n b : ℕ) (x : Node) → CountsAs b (linked_to row n x) x
@@ -213,41 +142,21 @@ linked_as row n b x = elim (cases_Bool (is_among row x.patch.number)) [ inl e �
 
 -- a count where there is a new node
 count_made : (t : Node → Bool) (nodes : List Node) (p : Patch) → ((x : Node) → t (linked_to p.dependencies p.number x) ≡ t x) → count_by t (with_node nodes p) ≡ count_by t nodes + cond (t (new_node nodes p)) 1 0
-count_made t nodes p same =
-    let last = count_cons t (new_node nodes p) [] in
-    let others = count_map t t (linked_to p.dependencies p.number) nodes (λ x i. same x) in
-    let all = count_append t (map (linked_to p.dependencies p.number) nodes) (new_node nodes p ∷ []) in
-    omega (arith, last, others, all)
+count_made t nodes p same = grind (arith, count_cons, new_node, count_map, count_append)
 
 standing_made : (nodes : List Node) (p : Patch) (b : ℕ)
     → standing_of (with_node nodes p) b
     ≡ counts (count_by (is_ready_on b) nodes + cond (is_ready_on b (new_node nodes p)) 1 0) (count_by (is_held_on b) nodes + cond (is_held_on b (new_node nodes p)) 1 0)
     (count_by (is_flying_on b) nodes + cond (is_flying_on b (new_node nodes p)) 1 0)
-standing_made nodes p b = standing_same _ _ _ _ _ _
-    (count_made (is_ready_on b) nodes p (λ x. (linked_as p.dependencies p.number b x).ready))
-    (count_made (is_held_on b) nodes p (λ x. (linked_as p.dependencies p.number b x).held))
-    (count_made (is_flying_on b) nodes p (λ x. (linked_as p.dependencies p.number b x).flying))
+standing_made nodes p b = grind (arith, standing_same, count_made, linked_as)
 
 -- a new patch that is no change of the block
 made_off : (nodes : List Node) (p : Patch) (b : ℕ) → is_on b p.kind ≡ false → standing_of (with_node nodes p) b ≡ standing_of nodes b
-made_off nodes p b off =
-    standing_made nodes p b
-    ∙ standing_same _ _ _ _ _ _ (nothing_more _ _ (rw (off_place b place.Memory (new_node nodes p) off) refl)) (nothing_more _ _ (rw (off_place b place.Memory (new_node nodes p) off) refl)) (nothing_more _ _ (off_place b place.Flight (new_node nodes p) off))
-  where
-    nothing_more : (n : ℕ) (t : Bool) → t ≡ false → n + cond t 1 0 ≡ n
-    nothing_more n true e = absurd (false≢true (sym e))
-    nothing_more n false e = omega arith
+made_off nodes p b off = grind (arith, common_steps, standing_made, standing_same, off_place, false≢true)
 
 -- a new patch that is no change
 pub stand_made : (nodes : List Node) (blocks : ℕ) (standings : List Standing) (p : Patch) → ((b : ℕ) → is_on b p.kind ≡ false) → AllStand nodes blocks standings → AllStand (with_node nodes p) blocks standings
 stand_made nodes blocks standings p off S = record { long = S.long; each = λ b d lt. S.each b d lt ∙ sym (made_off nodes p b (off b)) }
-
--- a new change counts as ready, or as held if it is hard
-entered_as : (hard ready : Bool) (r h f : ℕ) → entered hard ready (counts r h f) ≡ counts (r + cond ready 1 0) (h + cond (hard && not ready) 1 0) (f + 0)
-entered_as true true r h f = standing_same _ _ _ _ _ _ refl (omega arith) (omega arith)
-entered_as false true r h f = standing_same _ _ _ _ _ _ refl (omega arith) (omega arith)
-entered_as true false r h f = standing_same _ _ _ _ _ _ (omega arith) refl (omega arith)
-entered_as false false r h f = standing_same _ _ _ _ _ _ (omega arith) (omega arith) (omega arith)
 
 off_block : (b c : ℕ) (k : Kind) (at len : ℕ) (grade : Grade) → k ≡ Change b at len grade → c ≢ b → is_on c k ≡ false
 off_block b c k at len grade kind ne = ap (is_on c) kind ∙ ne_eqb b c (λ e. ne (sym e))
@@ -259,39 +168,11 @@ pub stand_change : (nodes : List Node) (blocks : ℕ) (standings : List Standing
 stand_change nodes blocks standings p b at len grade d kind memory lt S =
     stand_set (with_node nodes p) nodes blocks b standings _ lt S own (λ c inside ne. made_off nodes p c (off_block b c p.kind at len grade kind ne))
   where
-    on_b : is_on b p.kind ≡ true
-    on_b = ap (is_on b) kind ∙ eq-eqb b b refl
-
-    -- it is a change of b in memory
-    here : is_change_at place.Memory b p ≡ true
-    here = ap (λ q. is_at q place.Memory && is_on b p.kind) memory ∙ on_b
-
-    ready_new : is_ready_on b (new_node nodes p) ≡ is_pending (new_node nodes p).pending (pending.Block b)
-    ready_new = ap (λ t. t && is_pending (new_node nodes p).pending (pending.Block b)) here
-
-    held_new : is_held_on b (new_node nodes p) ≡ (is_hard_kind p.kind && not (is_pending (new_node nodes p).pending (pending.Block b)))
-    held_new = ap (λ t. (t && is_hard_kind p.kind) && not (is_pending (new_node nodes p).pending (pending.Block b))) here
-
-    flies_new : is_flying_on b (new_node nodes p) ≡ false
-    flies_new = ap (λ q. is_at q place.Flight && is_on b p.kind) memory
-
     own : entered (is_hard_kind p.kind) (is_pending (new_node nodes p).pending (pending.Block b)) (get_or standings b d) ≡ standing_of (with_node nodes p) b
-    own =
-        ap (entered (is_hard_kind p.kind) (is_pending (new_node nodes p).pending (pending.Block b))) (S.each b d lt)
-        ∙ (entered_as (is_hard_kind p.kind) (is_pending (new_node nodes p).pending (pending.Block b)) (count_by (is_ready_on b) nodes) (count_by (is_held_on b) nodes) (count_by (is_flying_on b) nodes)
-        ∙ sym (standing_made nodes p b
-        ∙ standing_same _ _ _ _ _ _
-        (ap (λ t. count_by (is_ready_on b) nodes + cond t 1 0) ready_new)
-        (ap (λ t. count_by (is_held_on b) nodes + cond t 1 0) held_new)
-        (ap (λ t. count_by (is_flying_on b) nodes + cond t 1 0) flies_new)))
+    own = grind (arith, common_steps, standing_made, standing_same)
 
 gained_as : (g b : ℕ) (names : List ℕ) (sums : Sums) (x : Node) → CountsAs b (at_number g (gains_names names sums) x) x
-gained_as g b names sums x = elim (cases_eq x.patch.number g) [
-  | inl same ↦ rw (at_same g (gains_names names sums) x same) (like_as b _ x refl refl refl)
-  | inr ne ↦ rw (at_other g (gains_names names sums) x ne) (self_as b x)
-]
+gained_as g b names sums x = grind (arith, cases_eq, at_same, like_as, at_other, self_as)
 
 pub stand_gained : (nodes : List Node) (blocks g : ℕ) (names : List ℕ) (sums : Sums) (standings : List Standing) → AllStand nodes blocks standings → AllStand (with_names nodes g names sums) blocks standings
-stand_gained nodes blocks g names sums standings S =
-    stand_map (linked_to names g) (map (at_number g (gains_names names sums)) nodes) blocks standings (λ x b i lt. linked_as names g b x)
-    (stand_map (at_number g (gains_names names sums)) nodes blocks standings (λ x b i lt. gained_as g b names sums x) S)
+stand_gained nodes blocks g names sums standings S = search (rules, stand_map, linked_as, gained_as)

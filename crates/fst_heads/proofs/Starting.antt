@@ -1,44 +1,107 @@
 -- How a spread begins, and what it leaves.
-use Rattle.std.proofs.Common.{◌≡◌, ◌≢◌, ◌⊎◌, ◌↔◌, ◌==◌, ◌&&◌, ◌<◌, ℕ, Bool, true, false, not, cond, List, [], ◌∷◌, Some, length, map, filter, AllPairs, Contains, refl, sym, ap, subst, ◌∙◌, inl, inr, arith}
-use Rattle.std.specs.List.{list_any}
-use Rattle.std.proofs.lemmas.Bool.{cases_Bool, cases_eq, eq-eqb, ne_eqb, eqb-true, both_ways}
-use Rattle.std.proofs.lemmas.List.{length-map, get_or-map}
-use Rattle.std.proofs.lemmas.List.Kept.{AllPairs-filter}
-use Rattle.fst_types.specs.declared.place.Place.{Place}
-use Rattle.fst_types.specs.declared.place.Place.TheVariants as place
-use Rattle.fst_types.specs.Cascade.{IsCascadeOf, Follows, RestsOnDisk, unsettled}
-use Rattle.fst_types.specs.Dependencies.{IsOnDisk}
-use Rattle.fst_types.specs.Facts.{SparseAreLawful}
-use Rattle.fst_types.specs.Gates.{IsOpenNumber}
-use Rattle.fst_types.specs.Gating.{sealed}
-use Rattle.fst_types.specs.Patches.{Kind, Change, Empty, OpenGate, SealedGate, Patch, block_of_kind}
-use Rattle.fst_types.specs.Tests.{is_change_at}
-use Rattle.fst_types.specs.Writing.{landed}
-use Rattle.fst_types.proofs.Cascades.{no_follower_on}
-use Rattle.fst_types.proofs.Crash.{same_number}
-use Rattle.fst_types.proofs.Dropping.{filter_in, in_filter}
-use Rattle.fst_types.proofs.Finite.{In, In-from_Contains, Contains-from_In, In-map}
-use Rattle.fst_types.proofs.GateGains.{In-unmap}
+use Rattle.fst_heads.proofs.Basics.{◌≡◌, ◌≢◌, ◌⊎◌, ◌↔◌, ◌==◌, ◌&&◌, ◌<◌, ℕ, Bool, true, false, not, cond, List, [], ◌∷◌, Some, length, map, filter, AllPairs, Contains, refl, sym, ap, subst, ◌∙◌, inl, inr, arith, list_any, cases_Bool, cases_eq, eq-eqb, ne_eqb, eqb-true, both_ways, not-true, and_parts, rules}
+use Rattle.fst_heads.proofs.Basics.{common_steps, length-map, get_or-map, AllPairs-filter, get_or}
 use Rattle.fst_types.proofs.Landing.{landed_cases, change_at, at_change}
-use Rattle.fst_heads.specs.declared.pending.Pending.{Pending}
-use Rattle.fst_heads.specs.declared.pending.Pending.TheVariants as pending
-use Rattle.fst_heads.specs.declared.pending.Sums.{Sums}
-use Rattle.fst_heads.specs.Keeps.{IsInside}
-use Rattle.fst_heads.specs.Lists.{flying_on}
-use Rattle.fst_heads.specs.Nodes.{Node, patches_in, pending_in, at_number, AreSettled}
-use Rattle.fst_heads.specs.Pendings.{is_pending, joined, joined_sums, of_kind}
-use Rattle.fst_heads.specs.Spreading.{Spreading, IsSpreadOf, now, is_told, seals, lands, wakes_sealed}
+use Rattle.fst_heads.proofs.Patches.{Place, IsCascadeOf, Follows, RestsOnDisk, unsettled, IsOnDisk, SparseAreLawful, IsOpenNumber, sealed, Kind, Change, Empty, OpenGate, SealedGate, Patch, block_of_kind, is_change_at, landed, no_follower_on, same_number, filter_in, in_filter, In, In-from_Contains}
+use Rattle.fst_heads.proofs.Patches.{Contains-from_In, In-map, In-unmap, Grade, Rising as IsRising}
+use Rattle.fst_heads.proofs.Words.{Pending, IsInside, flying_on, Node, patches_in, pending_in, at_number, AreSettled, is_pending, joined, joined_sums, of_kind, Spreading, IsSpreadOf, now, is_told, seals, lands, wakes_sealed, Sinks, sums_of}
 use Rattle.fst_heads.proofs.AtNumber.{at_same, at_other}
-use Rattle.fst_heads.proofs.Begins.{Begins, Sound, sound_at_rest, stays_told, begun}
-use Rattle.fst_heads.proofs.Forgetting.{and_parts}
 use Rattle.fst_heads.proofs.Joining.{held_sinks, sinks_to_nothing}
-use Rattle.fst_heads.proofs.Pended.{now_row, told_now}
+use Rattle.fst_heads.proofs.Pended.{now_row, told_now, now_at_rest}
 use Rattle.fst_heads.proofs.PendingIn.{found}
-use Rattle.fst_heads.proofs.Waiting.{pending_of}
-use Rattle.fst_heads.proofs.Placed.{SameLinks, patch_in, node_of_patch, number_if, dependencies_if}
+use Rattle.fst_heads.proofs.Waiting.{pending_of, pending_mapped}
+use Rattle.fst_heads.proofs.Placed.{SameLinks, patch_in, node_of_patch, number_if, dependencies_if, unsettled_spread, unmapped}
 use Rattle.fst_heads.proofs.Slots.{some_element}
-use Rattle.fst_heads.proofs.SpreadKept.{unsettled_spread}
-use Rattle.fst_heads.proofs.Sums.{joined_nothing, joined_all_nothing}
+use Rattle.fst_heads.proofs.Sums.{joined_nothing, joined_all_nothing, sums_same}
+use Rattle.fst_heads.proofs.Turning.{counted_nothing, nothing_counted, told_now as told_from}
+use Rattle.fst_heads.proofs.Patches.place
+use Rattle.fst_heads.proofs.Words.pending
+
+-- how a spread begins: f changes some of the nodes at rest, and the queue has those of which other is pending by that
+
+-- what a spread knows of each node, but for the sums and the queue
+pub record Sound (x : Node) (blocks : ℕ) : Type 0 where
+  pub sinks : Sinks x.pending (now x)
+  pub placed : (now x ≡ pending.Nothing) ↔ (x.patch.place ≡ place.Disk)
+  pub follow : Follows x.patch.kind → (x.patch.place ≡ place.Memory) ⊎ (x.patch.place ≡ place.Disk)
+  pub changes : (b at len : ℕ) (grade : Grade) → x.patch.kind ≡ Change b at len grade → b < blocks
+
+place_cases : (p : Place) → (p ≡ place.Memory) ⊎ ((p ≡ place.Flight) ⊎ (p ≡ place.Disk))
+place_cases place.Memory = inl refl
+place_cases place.Flight = inr (inl refl)
+place_cases place.Disk = inr (inr refl)
+
+-- f leaves numbers, rows, dependants, sums, and what dependants were told
+pub record Begins (nodes : List Node) (blocks : ℕ) (f : Node → Node) (queue : List ℕ) : Type 0 where
+  pub links : (x : Node) → SameLinks x (f x)
+  pub sums : (x : Node) → (f x).sums ≡ x.sums
+  pub pending : (x : Node) → (f x).pending ≡ x.pending
+  pub sound : (x : Node) → Contains nodes x → Sound (f x) blocks
+  pub queued : (n : ℕ) → Contains queue n → (x : Node) × Contains nodes x × (x.patch.number ≡ n) × (is_told (f x) ≡ false)
+  pub waits : (x : Node) → Contains nodes x → is_told (f x) ≡ false → Contains queue x.patch.number
+  pub once : AllPairs (λ m n. m ≢ n) queue
+
+module _ (nodes : List Node) (numbers blocks : ℕ) (H : SparseAreLawful (patches_in nodes) numbers) (inside : IsInside (patches_in nodes) blocks) (S : AreSettled nodes blocks) where
+  -- each node at rest
+  pub sound_at_rest : (x : Node) → Contains nodes x → Sound x blocks
+  sound_at_rest x c =
+      let same = now_at_rest nodes blocks S x c in
+      let h = patch_in nodes x c in
+      record {
+        sinks = inl same;
+        placed = (λ e. (S.placed x c).0 (sym same ∙ e), λ d. same ∙ (S.placed x c).1 d);
+        follow = λ f. elim (place_cases x.patch.place) [
+          | inl m ↦ inl m
+          | inr o ↦ elim o [
+            | inl flies ↦ let on = H.on_disk_with_all.only_changes_fly x.patch h flies in absurd (no_follower_on x.patch.kind on.0 on.1 f)
+            | inr d ↦ inr d
+          ]
+        ];
+        changes = λ b at len grade e. inside x.patch b h (ap block_of_kind e);
+      }
+
+module _ (nodes : List Node) (blocks : ℕ) (f : Node → Node) (queue : List ℕ) (B : Begins nodes blocks f queue) where
+  was : (y : Node) → Contains (map f nodes) y → (x : Node) × Contains nodes x × (f x ≡ y)
+  was = unmapped f nodes
+
+  sound : (y : Node) → Contains (map f nodes) y → Sound y blocks
+  sound y c = let x = was y c in subst (λ z. Sound z blocks) x.2 (B.sound x.0 x.1)
+
+  rising_nodes : IsRising (patches_in nodes) → AllPairs (λ x y. x.patch.number < y.patch.number) (map f nodes)
+  rising_nodes rising i j d lt within =
+      let inside : j < length nodes = omega (arith, within, length-map nodes f) in
+      let r = rising i j d.patch lt (omega (arith, inside, length-map nodes (λ (x : Node). x.patch))) in
+      let at = λ (k : ℕ) (up : k < length nodes). ap (λ (p : Patch). p.number) (get_or-map (λ (x : Node). x.patch) nodes k d d.patch up) in
+      let new = λ (k : ℕ) (up : k < length nodes). ap (λ (y : Node). y.patch.number) (get_or-map f nodes k d d up) ∙ (B.links (get_or nodes k d)).number in
+      omega (arith, r, at i (omega (arith, lt, inside)), at j inside, new i (omega (arith, lt, inside)), new j inside)
+
+  summed : AreSettled nodes blocks → (x : Node) → Contains nodes x → (f x).sums ≡ sums_of (pending_in (map f nodes)) (f x).patch.dependencies
+  summed S x c =
+      B.sums x
+      ∙ (S.summed x c
+      ∙ (sym (sums_same (pending_in nodes) (pending_in (map f nodes)) x.patch.dependencies (λ n named. pending_mapped f nodes n (λ z. (B.links z).number) (λ z _. B.pending z)))
+      ∙ ap (sums_of (pending_in (map f nodes))) (sym (B.links x).dependencies)))
+
+  -- then it goes on
+  pub begun : IsRising (patches_in nodes) → AreSettled nodes blocks → Spreading (map f nodes) blocks queue
+  begun rising S = record {
+    rising = rising_nodes rising;
+    summed = λ y c. let x = was y c in subst (λ (z : Node). z.sums ≡ sums_of (pending_in (map f nodes)) z.patch.dependencies) x.2 (summed S x.0 x.1);
+    sinks = λ y c. (sound y c).sinks;
+    placed = λ y c. (sound y c).placed;
+    follow = λ y c g. (sound y c).follow g;
+    inside = λ y b c e. let x = was y c in S.inside x.0 b x.1 (sym (B.pending x.0) ∙ (ap (λ (z : Node). z.pending) x.2 ∙ e));
+    changes = λ y b at len grade c e. (sound y c).changes b at len grade e;
+    queued = λ n c. let x = B.queued n c in (f x.0, Contains-from_In (map f nodes) (f x.0) (In-map f nodes x.0 (f x.0) (In-from_Contains nodes x.0 x.1) refl), (B.links x.0).number ∙ x.2, x.3);
+    waits = λ y c e.
+        let x = was y c in
+        subst (λ (z : Node). Contains queue z.patch.number) x.2 (subst (Contains queue) (sym (B.links x.0).number) (B.waits x.0 x.1 (subst (λ (z : Node). is_told z ≡ false) (sym x.2) e)));
+    once = B.once;
+  }
+
+-- what stays is told
+pub stays_told : (nodes : List Node) (blocks : ℕ) → AreSettled nodes blocks → (x : Node) → Contains nodes x → is_told x ≡ true
+stays_told nodes blocks S x c = told_from x (now_at_rest nodes blocks S x c)
 
 -- what passes a test among the elements
 any_found : {X : Type 0} (t : X → Bool) (xs : List X) → list_any t xs ≡ true → (x : X) × In xs x × (t x ≡ true)
@@ -53,25 +116,9 @@ any_fails t [] x h e = absurd h
 any_fails t (y ∷ ys) x (inl s) e = rw (subst (λ z. t z ≡ true) (sym s) e) refl
 any_fails t (y ∷ ys) x (inr h) e = elim (cases_Bool (t y)) [ inl yes_y ↦ rw yes_y refl | inr no_y ↦ rw no_y (any_fails t ys x h e) ]
 
--- a row has nothing pending exactly where it has none that is not on disk
-none_left : (s : Sums) → s.count ≡ 0 → joined_sums s ≡ pending.Nothing
-none_left s e = rw (eq-eqb s.count 0 e) refl
-
-some_left : (s : Sums) → s.count ≢ 0 → joined_sums s ≢ pending.Nothing
-some_left s ne e = go (s.count == 0) _ _ _ (ne_eqb s.count 0 ne) e
-  where
-    go : (t u v : Bool) (b : ℕ) → t ≡ false → cond t pending.Nothing (cond u (cond v (pending.Block b) pending.Apart) pending.Held) ≡ pending.Nothing → ⊥
-    go true u v b f e = cc
-    go false true true b f e = cc
-    go false true false b f e = cc
-    go false false v b f e = cc
-
 -- a sealed gate is on disk where its row has none that is not there
 pub sealed_cases : (x : Node) → ((x.sums.count ≡ 0) × (seals x ≡ record x { patch = record x.patch { kind = SealedGate; place = place.Disk } })) ⊎ ((x.sums.count ≢ 0) × (seals x ≡ record x { patch = record x.patch { kind = SealedGate } }))
-sealed_cases x = elim (cases_eq x.sums.count 0) [
-  | inl e ↦ inl (e, rw (eq-eqb x.sums.count 0 e) refl)
-  | inr ne ↦ inr (ne, rw (ne_eqb x.sums.count 0 ne) refl)
-]
+sealed_cases x = grind (arith, cases_eq, eq-eqb, ne_eqb)
 
 -- nothing but the patch's kind and place differs
 pub record SameBut (x y : Node) : Type 0 where
@@ -79,27 +126,11 @@ pub record SameBut (x y : Node) : Type 0 where
   pub sums : y.sums ≡ x.sums
   pub pending : y.pending ≡ x.pending
 
-same_but : (x : Node) → SameBut x x
-same_but x = record { links = record { number = refl; dependencies = refl; dependants = refl }; sums = refl; pending = refl }
-
 seals_same : (x : Node) → SameBut x (seals x)
-seals_same x = elim (sealed_cases x) [
-  | inl e ↦ subst (SameBut x) (sym e.1) (record { links = record { number = refl; dependencies = refl; dependants = refl }; sums = refl; pending = refl })
-  | inr e ↦ subst (SameBut x) (sym e.1) (record { links = record { number = refl; dependencies = refl; dependants = refl }; sums = refl; pending = refl })
-]
+seals_same x = grind (arith, sealed_cases)
 
 pub seal_same : (g : ℕ) (x : Node) → SameBut x (at_number g seals x)
-seal_same g x = elim (cases_eq x.patch.number g) [
-  | inl e ↦ subst (SameBut x) (sym (at_same g seals x e)) (seals_same x)
-  | inr ne ↦ subst (SameBut x) (sym (at_other g seals x ne)) (same_but x)
-]
-
-not_true : (b : Bool) → not b ≡ true → b ≡ false
-not_true true e = cc
-not_true false e = refl
-
-and_both : (a b : Bool) → a ≡ true → b ≡ false → (a && not b) ≡ true
-and_both a b e f = rw (e, f) refl
+seal_same g x = grind (arith, cases_eq, at_same, seals_same, at_other)
 
 module _ (nodes : List Node) (numbers blocks g : ℕ) (H : SparseAreLawful (patches_in nodes) numbers) (inside : IsInside (patches_in nodes) blocks) (S : AreSettled nodes blocks) (gate : IsOpenNumber (patches_in nodes) g) where
   -- the node with the number is an open gate in memory, and is sealed; the others stay
@@ -118,15 +149,10 @@ module _ (nodes : List Node) (numbers blocks g : ℕ) (H : SparseAreLawful (patc
 
   seals_sound : (x : Node) → Contains nodes x → x.patch.kind ≡ OpenGate → x.patch.place ≡ place.Memory → Sound (seals x) blocks
   seals_sound x c is_open memory = elim (sealed_cases x) [
-    | inl e ↦ subst (λ y. Sound y blocks) (sym e.1) (record {
-      sinks = rw (open_held x c is_open) (held_sinks (now (record x { patch = record x.patch { kind = SealedGate; place = place.Disk } })));
-      placed = (λ n. refl, λ d. none_left x.sums e.0);
-      follow = λ f. inr refl;
-      changes = λ b at len grade k. absurd (cc);
-    })
+    | inl e ↦ grind (arith, open_held, held_sinks, counted_nothing)
     | inr e ↦ subst (λ y. Sound y blocks) (sym e.1) (record {
       sinks = rw (open_held x c is_open) (held_sinks (now (record x { patch = record x.patch { kind = SealedGate } })));
-      placed = (λ n. absurd (some_left x.sums e.0 n), λ d. absurd (cc));
+      placed = (λ n. absurd (e.0 (nothing_counted x.sums n)), λ d. absurd (cc));
       follow = λ f. inl memory;
       changes = λ b at len grade k. absurd (cc);
     })
@@ -141,13 +167,8 @@ module _ (nodes : List Node) (numbers blocks g : ℕ) (H : SparseAreLawful (patc
         | inl e ↦
             let r = any_found t nodes e in
             let both = and_parts (r.0.patch.number == g) (not (is_told (seals r.0))) r.2 in
-            inl (r.0, Contains-from_In nodes r.0 r.1, eqb-true r.0.patch.number g both.0, not_true (is_told (seals r.0)) both.1, ap (λ b. cond b (g ∷ []) []) e)
-        | inr e ↦ inr (
-          λ x c n untold.
-              let found = any_fails t nodes x (In-from_Contains nodes x c) (and_both (x.patch.number == g) (is_told (seals x)) (eq-eqb x.patch.number g n) untold) in
-              both_ways (list_any t nodes) e found,
-          ap (λ b. cond b (g ∷ []) []) e,
-        )
+            inl (r.0, Contains-from_In nodes r.0 r.1, eqb-true r.0.patch.number g both.0, not-true (is_told (seals r.0)) both.1, ap (λ b. cond b (g ∷ []) []) e)
+        | inr e ↦ grind (arith, common_steps, found, any_fails, eq-eqb, both_ways)
       ]
 
   seal_begins : Begins nodes blocks (at_number g seals) (wakes_sealed g nodes)
@@ -160,50 +181,29 @@ module _ (nodes : List Node) (numbers blocks g : ℕ) (H : SparseAreLawful (patc
       | inr s ↦ subst (λ y. Sound y blocks) (sym s.1) (sound_at_rest nodes numbers blocks H inside S x c)
     ];
     queued = λ n c. elim wake_cases [
-      | inl r ↦ elim (In-from_Contains (g ∷ []) n (subst (λ q. Contains q n) r.4 c)) [
-        | inl e ↦ (r.0, r.1, r.2 ∙ e, ap is_told (at_same g seals r.0 r.2) ∙ r.3)
-        | inr no_more ↦ absurd no_more
-      ]
+      | inl r ↦ search (rules, at_same)
       | inr none ↦ absurd (In-from_Contains [] n (subst (λ q. Contains q n) none.1 c))
     ];
-    waits = λ x c untold. elim (seal_cases x c) [
-      | inl s ↦ elim wake_cases [
-        | inl r ↦ subst (λ q. Contains q x.patch.number) (sym r.4) (0, omega arith, sym s.0)
-        | inr none ↦ absurd (none.0 x c s.0 (sym (ap is_told s.3) ∙ untold))
-      ]
-      | inr s ↦ absurd (both_ways (is_told x) (sym (ap is_told s.1) ∙ untold) (stays_told nodes blocks S x c))
-    ];
-    once = elim wake_cases [
-      | inl r ↦ subst (λ q. AllPairs (λ m n. m ≢ n) q) (sym r.4) (λ i j d lt within. absurd (omega (arith, lt, within)))
-      | inr none ↦ subst (λ q. AllPairs (λ m n. m ≢ n) q) (sym none.1) (λ i j d lt within. absurd (omega (arith, lt, within)))
-    ];
+    waits = search (rules, seal_cases, wake_cases, both_ways, stays_told);
+    once = grind (arith, wake_cases);
   }
 
 -- where a gate is sealed
 pub starts_sealed : (nodes : List Node) (numbers blocks g : ℕ) → SparseAreLawful (patches_in nodes) numbers → IsInside (patches_in nodes) blocks → AreSettled nodes blocks → IsOpenNumber (patches_in nodes) g
     → Spreading (map (at_number g seals) nodes) blocks (wakes_sealed g nodes)
-starts_sealed nodes numbers blocks g H inside S gate =
-    begun nodes blocks (at_number g seals) (wakes_sealed g nodes) (seal_begins nodes numbers blocks g H inside S gate) H.one_place_each.rising S
+starts_sealed nodes numbers blocks g H inside S gate = search (rules, begun, seal_begins)
 
 -- a change on disk has nothing pending
 nothing_on_disk : (k : Kind) (b : ℕ) (below : Pending) → block_of_kind k ≡ Some b → of_kind k place.Disk below ≡ pending.Nothing
 nothing_on_disk (Change block at len grade) b below on = refl
-nothing_on_disk Empty b below on = cc
-nothing_on_disk OpenGate b below on = cc
-nothing_on_disk SealedGate b below on = cc
+nothing_on_disk k b below on = cc
 
 not_nothing : (p : Pending) → p ≢ pending.Nothing → is_pending pending.Nothing p ≡ false
 not_nothing pending.Nothing ne = absurd (ne refl)
-not_nothing (pending.Block b) ne = refl
-not_nothing pending.Apart ne = refl
-not_nothing pending.Held ne = refl
+not_nothing p ne = refl
 
 pub land_same : (b : ℕ) (x : Node) → SameBut x (lands b x)
-land_same b x = record {
-  links = record { number = number_if (is_change_at place.Flight b x.patch) x.patch _ refl; dependencies = dependencies_if (is_change_at place.Flight b x.patch) x.patch _ refl; dependants = refl };
-  sums = refl;
-  pending = refl;
-}
+land_same b x = search (rules, number_if, dependencies_if)
 
 module _ (nodes : List Node) (numbers blocks b : ℕ) (H : SparseAreLawful (patches_in nodes) numbers) (inside : IsInside (patches_in nodes) blocks) (S : AreSettled nodes blocks) where
   -- a number of what flies on the block
@@ -225,28 +225,16 @@ module _ (nodes : List Node) (numbers blocks b : ℕ) (H : SparseAreLawful (patc
       let rising = AllPairs-filter (λ (p : Patch) (q : Patch). p.number < q.number) (is_change_at place.Flight b) (patches_in nodes) H.one_place_each.rising in
       let up : j < length fs = omega (arith, within, length-map fs (λ (p : Patch). p.number)) in
       let e = some_element fs j up in
-      let r = rising i j e lt up in
       let at = λ (k : ℕ) (up : k < length fs). get_or-map (λ (p : Patch). p.number) fs k e d up in
-      omega (arith, same, r, at i (omega (arith, lt, up)), at j up)
+      omega (arith, same, rising i j e lt up, at i (omega (arith, lt, up)), at j up)
 
   -- what lands was in flight; the others stay
   land_cases : (x : Node) → ((is_change_at place.Flight b x.patch ≡ true) × (lands b x ≡ record x { patch = record x.patch { place = place.Disk } })) ⊎ (lands b x ≡ x)
-  land_cases x = elim (landed_cases b x.patch) [
-    | inl m ↦ inl (at_change place.Flight b x.patch m.0 m.1, ap (λ p. record x { patch = p }) m.2)
-    | inr s ↦ inr (ap (λ p. record x { patch = p }) s.0)
-  ]
+  land_cases x = grind (arith, landed_cases, at_change)
 
   lands_sound : (x : Node) → Contains nodes x → Sound (lands b x) blocks
   lands_sound x c = elim (land_cases x) [
-    | inl m ↦
-        let flies = change_at place.Flight b x.patch m.0 in
-        let nothing = nothing_on_disk x.patch.kind b (joined_sums x.sums) flies.0 in
-        subst (λ y. Sound y blocks) (sym m.1) (record {
-          sinks = rw nothing (sinks_to_nothing x.pending);
-          placed = (λ n. refl, λ d. nothing);
-          follow = λ f. absurd (no_follower_on x.patch.kind b flies.0 f);
-          changes = λ on at len grade k. inside x.patch on (patch_in nodes x c) (ap block_of_kind k);
-        })
+    | inl m ↦ grind (arith, change_at, nothing_on_disk, sinks_to_nothing, no_follower_on, patch_in)
     | inr s ↦ subst (λ y. Sound y blocks) (sym s) (sound_at_rest nodes numbers blocks H inside S x c)
   ]
 
@@ -268,33 +256,25 @@ module _ (nodes : List Node) (numbers blocks b : ℕ) (H : SparseAreLawful (patc
     pending = λ x. refl;
     sound = lands_sound;
     queued = λ n c. let x = flying_in n c in (x.0, x.1, x.2, lands_untold x.0 x.1 x.3);
-    waits = λ x c untold. elim (land_cases x) [
-      | inl m ↦ in_flying x c m.0
-      | inr s ↦ absurd (both_ways (is_told x) (sym (ap is_told s) ∙ untold) (stays_told nodes blocks S x c))
-    ];
+    waits = grind (arith, land_cases, in_flying, both_ways, stays_told);
     once = flying_once;
   }
 
 -- where a block landed
 pub starts_landed : (nodes : List Node) (numbers blocks b : ℕ) → SparseAreLawful (patches_in nodes) numbers → IsInside (patches_in nodes) blocks → AreSettled nodes blocks
     → Spreading (map (lands b) nodes) blocks (flying_on b (patches_in nodes))
-starts_landed nodes numbers blocks b H inside S =
-    begun nodes blocks (lands b) (flying_on b (patches_in nodes)) (land_begins nodes numbers blocks b H inside S) H.one_place_each.rising S
+starts_landed nodes numbers blocks b H inside S = search (rules, begun, land_begins)
 
 -- a patch that follows has nothing pending besides its row
 follows_row : (k : Kind) → Follows k → (at : Place) (below : Pending) → of_kind k at below ≡ below
-follows_row (Change block on len grade) f at below = absurd f
 follows_row Empty f at below = refl
-follows_row OpenGate f at below = absurd f
 follows_row SealedGate f at below = refl
+follows_row k f at below = absurd f
 
 module _ (nodes : List Node) (blocks : ℕ) (S : Spreading nodes blocks []) where
   -- all are told
   all_told : (x : Node) → Contains nodes x → now x ≡ x.pending
-  all_told x c = elim (cases_Bool (is_told x)) [
-    | inl told ↦ told_now x told
-    | inr untold ↦ absurd (In-from_Contains [] x.patch.number (S.waits x c untold))
-  ]
+  all_told x c = grind (arith, cases_Bool, told_now)
 
   -- nothing is pending of a number exactly where it is on disk
   nothing_disk : (n : ℕ) → pending_in nodes n ≡ pending.Nothing → IsOnDisk (patches_in nodes) n
@@ -345,10 +325,4 @@ patches_landed (x ∷ xs) b = let r = patches_landed xs b in rw r refl
 
 pub unsettled_sealed : (nodes : List Node) (g : ℕ) → map unsettled (patches_in (map (at_number g seals) nodes)) ≡ map unsettled (map (sealed g) (patches_in nodes))
 unsettled_sealed [] g = refl
-unsettled_sealed (x ∷ xs) g =
-    let r = unsettled_sealed xs g in
-    let first : unsettled (at_number g seals x).patch ≡ unsettled (sealed g x.patch) = elim (cases_eq x.patch.number g) [
-      | inl e ↦ rw (eq-eqb x.patch.number g e) (elim (sealed_cases x) [ inl s ↦ ap (λ (y : Node). unsettled y.patch) s.1 | inr s ↦ ap (λ (y : Node). unsettled y.patch) s.1 ])
-      | inr ne ↦ rw (ne_eqb x.patch.number g ne) refl
-    ] in
-    rw (first, r) refl
+unsettled_sealed (x ∷ xs) g = grind (arith, cases_eq, eq-eqb, sealed_cases, ne_eqb, unsettled_sealed xs g)

@@ -1,42 +1,24 @@
 -- What a row adds up to, and what is pending of it.
-use Rattle.std.proofs.Common.{◌≡◌, ◌≢◌, ◌⊎◌, ◌≤◌, ◌==◌, ℕ, suc, ◌+◌, ◌*◌, ◌/◌, true, false, not, cond, List, [], ◌∷◌, ◌++◌, length, count_by, Contains, AllPairs, refl, sym, ap, subst, ◌∙◌, inl, inr, arith}
-use Rattle.std.proofs.lemmas.Bool.{and_from, and_parts, eqb-true, eq-eqb, ne_eqb, false_from_ne_true}
-use Rattle.std.proofs.lemmas.List.Sums.{sum_by-cons}
-use Rattle.std.proofs.Math.Nat.{mul-div_cancel}
-use Rattle.fst_types.specs.declared.place.Place.{Place}
-use Rattle.fst_types.specs.Patches.{Kind}
-use Rattle.fst_types.proofs.Finite.{In, In-from_Contains, Contains-from_In}
-use Rattle.fst_heads.specs.declared.pending.Pending.{Pending}
-use Rattle.fst_heads.specs.declared.pending.Pending.TheVariants as pending
-use Rattle.fst_heads.specs.declared.pending.Sums.{Sums}
-use Rattle.fst_heads.specs.Pendings.{join, joined, joined_sums, is_even, is_pending, of_kind, Sinks, Fits, HasIn, plus, minus, sums_of, together, max_block}
-use Rattle.fst_heads.proofs.Squares.{gap_none}
-use Rattle.fst_heads.proofs.Joining.{Within, Even, Tells, tells_nothing, tells_plus, join_nothing, join_block, join_parts, join_from, join_sinks, sinks_of_kind, sinks_trans, fits_plus, few_plus, nothing_together, plus_together, plus_swap, minus_plus}
+use Rattle.fst_heads.proofs.Basics.{◌≡◌, ◌≢◌, ◌⊎◌, ◌≤◌, ◌==◌, ℕ, suc, ◌+◌, ◌*◌, ◌/◌, true, not, cond, List, [], ◌∷◌, ◌++◌, length, count_by, Contains, AllPairs, refl, sym, ap, subst, ◌∙◌, inl, inr, arith, and_from, and_parts, eqb-true, eq-eqb, ne_eqb, false_from_ne_true, sum_by-cons, mul-div_cancel}
+use Rattle.fst_heads.proofs.Patches.{In, In-from_Contains, Contains-from_In}
+use Rattle.fst_heads.proofs.Words.{Pending, Sums, join, joined, joined_sums, is_even, is_pending, Sinks, Fits, HasIn, plus, minus, sums_of, together, max_block}
+use Rattle.fst_heads.proofs.Words.pending
+use Rattle.fst_heads.proofs.Joining.{gap_none, Within, Even, Tells, tells_nothing, tells_plus, join_nothing, join_block, join_parts, join_from, join_sinks, fits_plus, few_plus, nothing_together, plus_together, plus_swap, minus_plus}
+use Rattle.fst_heads.proofs.Turning.{counted_nothing}
 
 tells : (told : ℕ → Pending) (row : List ℕ) → Tells (sums_of told row) (joined told row)
 tells told [] = tells_nothing
 tells told (n ∷ ns) = tells_plus (told n) (sums_of told ns) (joined told ns) (tells told ns)
 
-joined_none : (s : Sums) → s.count ≡ 0 → joined_sums s ≡ pending.Nothing
-joined_none s e = rw (eq-eqb s.count 0 e) refl
-
 joined_even : (s : Sums) → s.count ≢ 0 → s.held ≡ 0 → is_even s ≡ true → joined_sums s ≡ pending.Block (s.total / s.count)
 joined_even s ne free e = rw (ne_eqb s.count 0 ne, eq-eqb s.held 0 free, e) refl
-
-joined_uneven : (s : Sums) → s.count ≢ 0 → s.held ≡ 0 → is_even s ≡ false → joined_sums s ≡ pending.Apart
-joined_uneven s ne free e = rw (ne_eqb s.count 0 ne, eq-eqb s.held 0 free, e) refl
-
-joined_held : (s : Sums) → s.count ≢ 0 → s.held ≢ 0 → joined_sums s ≡ pending.Held
-joined_held s ne some = rw (ne_eqb s.count 0 ne, ne_eqb s.held 0 some) refl
 
 -- the mean of patches of one block is that block
 mean_block : (s : Sums) (b : ℕ) → s.count ≢ 0 → Even s b → s.total / s.count ≡ b
 mean_block s b ne even = ap (λ t. t / s.count) even.total ∙ mul-div_cancel b (omega (arith, ne))
 
 even_test : (s : Sums) (b : ℕ) → s.count ≢ 0 → Even s b → is_even s ≡ true
-even_test s b ne even =
-    rw (mean_block s b ne even)
-    (and_from (s.apart == 0) _ (eq-eqb s.apart 0 even.none_apart) (and_from (b * s.count == s.total) _ (eq-eqb _ _ (sym even.total)) (eq-eqb _ _ (sym even.squares))))
+even_test s b ne even = grind (arith, mean_block, and_from, eq-eqb)
 
 -- the test passes for no row of which changes of several blocks are pending
 uneven_test : (s : Sums) → Tells s pending.Apart → is_even s ≡ true → ⊥
@@ -48,16 +30,13 @@ uneven_test s told e =
     elim (off.same none) [ inl f ↦ cc | inr f ↦ cc ]
 
 exact : (s : Sums) (p : Pending) → Tells s p → joined_sums s ≡ p
-exact s pending.Nothing told = joined_none s (told.nothing refl)
+exact s pending.Nothing told = counted_nothing s (told.nothing refl)
 exact s (pending.Block b) told =
     let some : s.count ≢ 0 = λ e. let n = told.none e in cc in
     let even = told.even b (inr refl) in
     joined_even s some even.none_held (even_test s b some even) ∙ ap (λ n. pending.Block n) (mean_block s b some even)
-exact s pending.Apart told =
-    joined_uneven s (λ e. let n = told.none e in cc) (told.free (λ f. cc)) (false_from_ne_true (is_even s) (uneven_test s told))
-exact s pending.Held told =
-    let some = told.held refl in
-    joined_held s (λ e. let n = told.none e in cc) (λ e. omega (arith, some, e))
+exact s pending.Apart told = grind (arith, false_from_ne_true, uneven_test)
+exact s pending.Held told = grind arith
 
 -- the sums tell exactly what is pending of the row
 pub joined_exact : (told : ℕ → Pending) (row : List ℕ) → joined_sums (sums_of told row) ≡ joined told row
@@ -144,9 +123,7 @@ sums_moved told other row q once c same =
 
 count_plus : (p : Pending) (s : Sums) → (plus p s).count ≡ cond (not (is_pending p pending.Nothing)) 1 0 + s.count
 count_plus pending.Nothing s = omega arith
-count_plus (pending.Block b) s = omega arith
-count_plus pending.Apart s = omega arith
-count_plus pending.Held s = omega arith
+count_plus p s = omega arith
 
 pub sums_count : (told : ℕ → Pending) (row : List ℕ) → (sums_of told row).count ≡ count_by (λ n. not (is_pending (told n) pending.Nothing)) row
 sums_count told [] = refl
@@ -203,9 +180,3 @@ sinks_in told other (n ∷ ns) each = join_sinks (told n) (joined told ns) (othe
 -- where each sinks, or stays, so does what is pending of the row, and of what has the row
 pub joined_sinks : (told other : ℕ → Pending) (row : List ℕ) → ((n : ℕ) → Contains row n → Sinks (told n) (other n)) → Sinks (joined told row) (joined other row)
 joined_sinks told other row each = sinks_in told other row (λ n i. each n (Contains-from_In row n i))
-
-pub kind_sinks : (k : Kind) (p : Place) (below other : Pending) → Sinks below other → Sinks (of_kind k p below) (of_kind k p other)
-kind_sinks k p below other s = sinks_of_kind k p below other s
-
-pub sinks_on : (a b c : Pending) → Sinks a b → Sinks b c → Sinks a c
-sinks_on a b c f g = sinks_trans a b c f g

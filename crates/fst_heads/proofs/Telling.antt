@@ -1,29 +1,22 @@
 -- One step of a spread: what is pending of one patch now is told to its dependants.
-use Rattle.std.proofs.Common.{◌≡◌, ◌≢◌, ◌⊎◌, ◌↔◌, ◌<◌, ◌≤◌, ℕ, true, false, List, [], ◌∷◌, ◌++◌, length, map, Contains, AllPairs, refl, sym, ap, subst, ◌∙◌, inl, inr, arith}
-use Rattle.std.proofs.lemmas.Bool.{cases_Bool, cases_eq, both_ways}
-use Rattle.std.proofs.lemmas.List.{length-map}
-use Rattle.std.proofs.lemmas.List.Elements.{Contains-push, Contains-push_cases, Contains-append_left, Contains-append_right, Contains-append_cases}
-use Rattle.std.proofs.lemmas.List.Kept.{AllPairs-filter}
-use Rattle.fst_types.specs.declared.place.Place.TheVariants as place
-use Rattle.fst_types.specs.Cascade.{Follows}
-use Rattle.fst_types.proofs.Finite.{In, In-map, In_decided, In-from_Contains, Contains-from_In}
-use Rattle.fst_heads.specs.declared.pending.Pending.{Pending}
-use Rattle.fst_heads.specs.declared.pending.Pending.TheVariants as pending
-use Rattle.fst_heads.specs.Nodes.{Node, pending_in, at_number, AreLinked, AreDistinct}
-use Rattle.fst_heads.specs.Pendings.{Fits, HasIn, Sinks, joined, joined_sums, of_kind, plus, minus, sums_of, height, max_block}
-use Rattle.fst_heads.specs.Spreading.{Spreading, IsSpreadOf, CanHear, now, is_told, settles, heard, woken, heights, unspread}
+use Rattle.fst_heads.proofs.Basics.{◌≡◌, ◌≢◌, ◌⊎◌, ◌↔◌, ◌<◌, ◌≤◌, ℕ, true, false, List, [], ◌∷◌, ◌++◌, length, map, Contains, AllPairs, refl, sym, ap, subst, ◌∙◌, inl, inr, arith, cases_Bool, cases_eq, both_ways, length-map, Contains-push, Contains-push_cases, Contains-append_left, rules, Contains-append_right}
+use Rattle.fst_heads.proofs.Basics.{Contains-append_cases, AllPairs-filter}
+use Rattle.fst_heads.proofs.Patches.{Follows, In, In-map, In_decided, In-from_Contains, Contains-from_In}
+use Rattle.fst_heads.proofs.Patches.place
+use Rattle.fst_heads.proofs.Words.{Pending, Node, pending_in, at_number, AreLinked, AreDistinct, Fits, HasIn, Sinks, joined, joined_sums, of_kind, plus, minus, sums_of, height, max_block, Spreading, IsSpreadOf, CanHear, now, is_told, settles, heard, woken, heights, unspread}
+use Rattle.fst_heads.proofs.Words.pending
 use Rattle.fst_heads.proofs.AtNumber.{at_same, at_other}
 use Rattle.fst_heads.proofs.Placed.{unmapped}
-use Rattle.fst_heads.proofs.Sums.{joined_exact, joined_some, joined_sinks, kind_sinks, sinks_on, sums_fit, sums_has, sums_moved, sums_same}
+use Rattle.fst_heads.proofs.Sums.{joined_exact, joined_some, joined_sinks, sums_fit, sums_has, sums_moved, sums_same}
 use Rattle.fst_heads.proofs.Turning.{Turns, turned, turns, untold, not_told, told_now, sinks_nothing, never_back, lower_sinks, block_of}
 use Rattle.fst_heads.proofs.Waiting.{mapped, map_twice, same_node, pending_of, pending_node, pending_mapped, rising_mapped, heights_lower, times_some, some_times, once_fits, once_append, once_front, once_last, set_number, set_sums, woken_from, woken_to}
+use Rattle.fst_heads.proofs.Joining.{sinks_of_kind, sinks_trans}
 
 -- blocks that are pending fit
 narrow_in : (nodes : List Node) (blocks : ℕ) (queue : List ℕ) → blocks ≤ max_block → Spreading nodes blocks queue → (n b : ℕ) → pending_in nodes n ≡ pending.Block b → b ≤ max_block
 narrow_in nodes blocks queue narrow S n b e =
     let r = pending_node nodes n b e in
-    let within = S.inside r.0 b r.1 r.2 in
-    omega (arith, within, narrow)
+    omega (arith, S.inside r.0 b r.1 r.2, narrow)
 
 -- the sums of all fit
 pub spreading_fits : (nodes : List Node) (blocks : ℕ) (queue : List ℕ) → blocks ≤ max_block → Spreading nodes blocks queue → (x : Node) → Contains nodes x → Fits x.sums
@@ -35,8 +28,7 @@ pub queue_fits : (nodes : List Node) (blocks : ℕ) (queue : List ℕ) → Sprea
 queue_fits nodes blocks queue S =
     let number = λ (y : Node). y.patch.number in
     let few = once_fits queue (map number nodes) S.once (λ n h. let s = S.queued n (Contains-from_In queue n h) in In-map number nodes s.0 n (In-from_Contains nodes s.0 s.1) s.2) in
-    let long = length-map nodes number in
-    omega (arith, few, long)
+    omega (arith, few, length-map nodes number)
 
 -- the last that waits is a patch of which other is pending than its dependants know
 pub last_waits : (nodes : List Node) (blocks : ℕ) (queue : List ℕ) (q : ℕ) → Spreading nodes blocks (queue ++ q ∷ []) → (x : Node) × Contains nodes x × (x.patch.number ≡ q) × (is_told x ≡ false)
@@ -113,15 +105,12 @@ module _ (nodes : List Node) (blocks : ℕ) (queue : List ℕ) (q : ℕ) (x : No
   -- its dependants are those that name it
   named : (y : Node) → Contains nodes y → In x.dependants y.patch.number → In y.patch.dependencies q
   named y cy h =
-      let l = linked y x cy c in
-      let some = times_some x.dependants y.patch.number h in
-      subst (In y.patch.dependencies) e (some_times y.patch.dependencies x.patch.number (omega (arith, l, some)))
+      subst (In y.patch.dependencies) e (some_times y.patch.dependencies x.patch.number (omega (arith, linked y x cy c, times_some x.dependants y.patch.number h)))
 
   unnamed : (y : Node) → Contains nodes y → (In x.dependants y.patch.number → ⊥) → (n : ℕ) → Contains y.patch.dependencies n → n ≢ q
   unnamed y cy out n cn same =
-      let l = linked y x cy c in
       let some = times_some y.patch.dependencies x.patch.number (subst (In y.patch.dependencies) (same ∙ sym e) (In-from_Contains y.patch.dependencies n cn)) in
-      out (some_times x.dependants y.patch.number (omega (arith, l, some)))
+      out (some_times x.dependants y.patch.number (omega (arith, linked y x cy c, some)))
 
   sums_are : (y : Node) → Contains nodes y → (after y).sums ≡ sums_of is y.patch.dependencies
   sums_are y cy = elim (In_decided x.dependants y.patch.number) [
@@ -145,7 +134,7 @@ module _ (nodes : List Node) (blocks : ℕ) (queue : List ℕ) (q : ℕ) (x : No
   now_sinks : (y : Node) → Contains nodes y → Sinks (now y) (now (after y))
   now_sinks y cy =
       let row = y.patch.dependencies in
-      let s = kind_sinks y.patch.kind y.patch.place (joined was row) (joined is row) (joined_sinks was is row (λ n cn. each_sinks n)) in
+      let s = sinks_of_kind y.patch.kind y.patch.place (joined was row) (joined is row) (joined_sinks was is row (λ n cn. each_sinks n)) in
       subst (λ a. Sinks a (now (after y))) (sym (now_was y cy)) (subst (Sinks (of_kind y.patch.kind y.patch.place (joined was row))) (sym (now_is y cy)) s)
 
   -- where it hears nothing
@@ -155,7 +144,7 @@ module _ (nodes : List Node) (blocks : ℕ) (queue : List ℕ) (q : ℕ) (x : No
   sinks_at : (y : Node) → Contains nodes y → Sinks (after y).pending (now (after y))
   sinks_at y cy = elim (cases_eq y.patch.number q) [
     | inl n ↦ subst (λ a. Sinks a (now (after y))) (sym ((turn y).as_it_is n)) (now_sinks y cy)
-    | inr ne ↦ subst (λ a. Sinks a (now (after y))) (sym ((turn y).as_it_was ne)) (sinks_on y.pending (now y) (now (after y)) (S.sinks y cy) (now_sinks y cy))
+    | inr ne ↦ subst (λ a. Sinks a (now (after y))) (sym ((turn y).as_it_was ne)) (sinks_trans y.pending (now y) (now (after y)) (S.sinks y cy) (now_sinks y cy))
   ]
 
   placed_at : (y : Node) → Contains nodes y → (now (after y) ≡ pending.Nothing) ↔ ((after y).patch.place ≡ place.Disk)
@@ -225,10 +214,7 @@ module _ (nodes : List Node) (blocks : ℕ) (queue : List ℕ) (q : ℕ) (x : No
         | inr f ↦ in_front y cy ne f
       ]
     ]
-    | inr out ↦ elim (cases_eq y.patch.number q) [
-      | inl n ↦ absurd (untold (after y) u (now_same y out ∙ sym ((turn y).as_it_is n)))
-      | inr ne ↦ in_front y cy ne (not_told y (λ s. untold (after y) u (now_same y out ∙ (s ∙ sym ((turn y).as_it_was ne)))))
-    ]
+    | inr out ↦ search (rules, cases_eq, untold, now_same, turn, in_front, not_told)
   ]
 
   once_at : AllPairs (λ m n. m ≢ n) (queue ++ waking)
@@ -278,7 +264,4 @@ module _ (nodes : List Node) (blocks : ℕ) (queue : List ℕ) (q : ℕ) (x : No
       subst (λ ns. heights ns < heights nodes) (sym in_one) (heights_lower after nodes x low c (less x c e))
     where
       low_at : (y : Node) → (y.patch.number ≡ q → height (after y).pending < height y.pending) → height (after y).pending ≤ height y.pending
-      low_at y less = elim (cases_eq y.patch.number q) [
-        | inl n ↦ let l = less n in omega (arith, l)
-        | inr ne ↦ subst (λ a. height a ≤ height y.pending) (sym ((turn y).as_it_was ne)) (omega arith)
-      ]
+      low_at y less = search (rules, cases_eq, turn)

@@ -1,101 +1,50 @@
 -- What a new change depends on.
-use Rattle.std.proofs.Common.{◌≡◌, ◌⊎◌, ℕ, ◌+◌, ◌<◌, ◌≤◌, ◌==◌, ◌&&◌, nat_lt, Bool, true, false, not, List, [], ◌∷◌, ◌++◌, length, Contains, Some, refl, sym, ap, subst, ◌∙◌, inl, inr, arith, None}
-use Rattle.std.proofs.lemmas.Bool.{cases_Bool, eqb-true, eq-eqb, false≢true}
-use Rattle.std.proofs.lemmas.Bool.Decides.{nat_tests}
-use Rattle.std.proofs.lemmas.List.{length_push}
-use Rattle.std.proofs.lemmas.List.Elements.{Contains-push_cases}
-use Rattle.std.specs.List.Sorted.{IsStrictlyIncreasing}
-use Rattle.fst_types.specs.declared.place.Place.{Place}
-use Rattle.fst_types.specs.declared.place.Place.TheVariants as place
-use Rattle.fst_types.specs.declared.grade.Grade.{Grade}
-use Rattle.fst_types.specs.Limits.{max_heads}
-use Rattle.fst_types.specs.Lists.{Lists}
-use Rattle.fst_types.specs.Patches.{Kind, Change, Empty, OpenGate, SealedGate, Patch, IsOn, IsHard, block_of_kind, at_of, len_of}
-use Rattle.fst_types.specs.Dependencies.{IsLiveNumber}
+use Rattle.fst_heads.proofs.Basics.{◌≡◌, ◌⊎◌, ℕ, ◌+◌, ◌<◌, ◌≤◌, ◌==◌, ◌&&◌, nat_lt, Bool, true, false, not, List, [], ◌∷◌, ◌++◌, length, Contains, Some, refl, sym, ap, subst, inl, inr, arith, None, cases_Bool, eqb-true, eq-eqb, false≢true, nat_tests, length_push, Contains-push_cases, rules, IsStrictlyIncreasing}
 use Rattle.fst_types.specs.Overlaps.{IsOverlapped}
-use Rattle.fst_types.specs.Grades.{IsGradedHard, FollowsRule}
-use Rattle.fst_types.specs.Facts.{SparseAreLawful}
-use Rattle.fst_types.specs.Making.{fresh}
-use Rattle.fst_types.specs.Tests.{is_at, is_on}
-use Rattle.fst_types.proofs.Finite.{In, In-from_Contains, Contains-from_In}
-use Rattle.fst_types.proofs.NewChange.{IsWithin, hard_kept}
 use Rattle.fst_types.proofs.Adding.{one_place_added, acyclic_added, on_disk_with_all_added, alone_added}
-use Rattle.fst_heads.specs.Lists.{Entry, entry, is_live_on, entries_on}
-use Rattle.fst_heads.specs.Rows.{Gains, kind_touches, touches, shares, IsTouched, IsDependency, IsSparseRow}
-use Rattle.fst_heads.specs.Tests.{is_live_place}
-use Rattle.fst_heads.specs.Grading.{MayBeHard}
-use Rattle.fst_heads.specs.Keeps.{Keeps}
+use Rattle.fst_heads.proofs.Patches.{Place, Grade, max_heads, Lists, Kind, Change, Empty, Patch, IsOn, IsHard, block_of_kind, at_of, len_of, IsLiveNumber, IsGradedHard, FollowsRule, SparseAreLawful, fresh, is_at, is_on, In, In-from_Contains, Contains-from_In, IsWithin, hard_kept}
+use Rattle.fst_heads.proofs.Patches.place
+use Rattle.fst_heads.proofs.Words.{Entry, entry, is_live_on, entries_on, Gains, kind_touches, touches, shares, IsTouched, IsDependency, IsSparseRow, MayBeHard, Keeps}
 use Rattle.fst_heads.proofs.Graded.{graded_rule}
 use Rattle.fst_heads.proofs.Making.{keeps_added}
-
-live_from : (p : Place) → is_live_place p ≡ true → p ≡ place.Disk → ⊥
-live_from place.Memory e d = cc
-live_from place.Flight e d = cc
-live_from place.Disk e d = cc
-
-live_to : (p : Place) → (p ≡ place.Disk → ⊥) → is_live_place p ≡ true
-live_to place.Memory n = refl
-live_to place.Flight n = refl
-live_to place.Disk n = absurd (n refl)
+use Rattle.fst_heads.proofs.Slots.{place_live, live_place}
+use Rattle.fst_heads.proofs.Leading.{some_injective}
 
 parts : (a b c d : Bool) → (a && b && c && d) ≡ true → (a ≡ true) × (b ≡ true) × (c ≡ true) × (d ≡ true)
 parts true true true true e = (refl, refl, refl, refl)
-parts true true true false e = absurd (false≢true e)
-parts true true false d e = absurd (false≢true e)
-parts true false c d e = absurd (false≢true e)
-parts false b c d e = absurd (false≢true e)
+parts a b c d e = absurd (false≢true e)
 
 whole : (a b c d : Bool) → a ≡ true → b ≡ true → c ≡ true → d ≡ true → (a && b && c && d) ≡ true
 whole a b c d e f g h = rw (e, f, g, h) refl
 
 pub touch_parts : (b at len : ℕ) (k : Kind) (p : Place) → kind_touches b at len k p ≡ true → (p ≡ place.Disk → ⊥) × (block_of_kind k ≡ Some b) × (at_of k < at + len) × (at < at_of k + len_of k)
-touch_parts b at len (Change on own_at own_len grade) p e =
-    let k = parts (is_live_place p) (on == b) (nat_lt own_at (at + len)) (nat_lt at (own_at + own_len)) e in
-    (live_from p k.0, ap Some (eqb-true on b k.1), grind (arith, nat_tests, k.2), grind (arith, nat_tests, k.3))
+touch_parts b at len (Change on own_at own_len grade) p e = grind (arith, parts, nat_lt, live_place, eqb-true, nat_tests)
 touch_parts b at len Empty p e = absurd (false≢true e)
-touch_parts b at len OpenGate p e = absurd (false≢true e)
-touch_parts b at len SealedGate p e = absurd (false≢true e)
-
-some_injective : (a b : ℕ) → Some a ≡ Some b → a ≡ b
-some_injective a b e = cc
+touch_parts b at len k p e = absurd (false≢true e)
 
 pub touch_whole : (b at len : ℕ) (k : Kind) (p : Place) → (p ≡ place.Disk → ⊥) → block_of_kind k ≡ Some b → at_of k < at + len → at < at_of k + len_of k → kind_touches b at len k p ≡ true
-touch_whole b at len (Change on own_at own_len grade) p live on_b lo hi =
-    whole (is_live_place p) (on == b) (nat_lt own_at (at + len)) (nat_lt at (own_at + own_len)) (live_to p live) (eq-eqb on b (some_injective on b on_b)) (grind (arith, nat_tests, lo)) (grind (arith, nat_tests, hi))
+touch_whole b at len (Change on own_at own_len grade) p live on_b lo hi = grind (arith, whole, nat_lt, place_live, eq-eqb, some_injective, nat_tests)
 touch_whole b at len Empty p live on_b lo hi = cc
-touch_whole b at len OpenGate p live on_b lo hi = cc
-touch_whole b at len SealedGate p live on_b lo hi = cc
+touch_whole b at len k p live on_b lo hi = cc
 
 module _ (heads : List Patch) (b at len number : ℕ) (grade : Grade) (deps : List ℕ) (n : ℕ) where
   abbrev p : Patch
   p = fresh number (Change b at len grade) deps
 
   pub touched_overlaps : IsTouched heads b at len n → IsOverlapped heads p n
-  touched_overlaps t =
-      let k = touch_parts b at len t.patch.kind t.patch.place t.shares in
-      record { patch = t.patch; head = t.head; numbered = t.numbered; live = k.0; overlaps = record { block = b; first = k.1; second = refl; starts_before = k.2; ends_after = k.3 } }
+  touched_overlaps t = grind (arith, touch_parts)
 
   pub overlaps_touched : IsOverlapped heads p n → IsTouched heads b at len n
-  overlaps_touched o =
-      let v = o.overlaps in
-      let same : b ≡ v.block = some_injective b v.block v.second in
-      record { patch = o.patch; head = o.head; numbered = o.numbered; shares = touch_whole b at len o.patch.kind o.patch.place o.live (v.first ∙ ap Some (sym same)) v.starts_before v.ends_after }
+  overlaps_touched o = grind (arith, some_injective, touch_whole)
 
 pub depends_exactly : (heads : List Patch) (names : List ℕ) (b at len number : ℕ) (grade : Grade) (deps row : List ℕ) → Lists (IsDependency heads names b at len) row → Lists (λ n. (IsLiveNumber heads n × Contains names n) ⊎ IsOverlapped heads (fresh number (Change b at len grade) deps) n) row
-depends_exactly heads names b at len number grade deps row l = record {
-  rising = l.rising;
-  only = λ n c. elim (l.only n c) [ inl k ↦ inl k | inr t ↦ inr (touched_overlaps heads b at len number grade deps n t) ];
-  each = λ n d. l.each n (elim d [ inl k ↦ inl k | inr o ↦ inr (overlaps_touched heads b at len number grade deps n o) ]);
-}
+depends_exactly heads names b at len number grade deps row l = search (rules, touched_overlaps, overlaps_touched)
 
 -- a change that is touched is listed by its block, and its entry shares a byte
 pub touch_entry : (b at len : ℕ) (k : Kind) (p : Place) → kind_touches b at len k p ≡ true → ((not (is_at p place.Disk) && is_on b k) ≡ true) × (shares at len (at_of k) (len_of k) ≡ true)
 touch_entry b at len (Change on own_at own_len grade) place.Memory e = let k = parts true (on == b) (nat_lt own_at (at + len)) (nat_lt at (own_at + own_len)) e in (k.1, rw (k.2, k.3) refl)
 touch_entry b at len (Change on own_at own_len grade) place.Flight e = let k = parts true (on == b) (nat_lt own_at (at + len)) (nat_lt at (own_at + own_len)) e in (k.1, rw (k.2, k.3) refl)
-touch_entry b at len (Change on own_at own_len grade) place.Disk e = absurd (false≢true e)
-touch_entry b at len Empty p e = absurd (false≢true e)
-touch_entry b at len OpenGate p e = absurd (false≢true e)
-touch_entry b at len SealedGate p e = absurd (false≢true e)
+touch_entry b at len k p e = absurd (false≢true e)
 
 and_false : (a : Bool) → (a && false) ≡ true → ⊥
 and_false true e = false≢true e
@@ -105,9 +54,7 @@ pub entry_touch : (b at len : ℕ) (k : Kind) (p : Place) → (not (is_at p plac
 entry_touch b at len (Change on own_at own_len grade) place.Memory e s = rw e s
 entry_touch b at len (Change on own_at own_len grade) place.Flight e s = rw e s
 entry_touch b at len (Change on own_at own_len grade) place.Disk e s = absurd (false≢true e)
-entry_touch b at len Empty p e s = absurd (and_false (not (is_at p place.Disk)) e)
-entry_touch b at len OpenGate p e s = absurd (and_false (not (is_at p place.Disk)) e)
-entry_touch b at len SealedGate p e s = absurd (and_false (not (is_at p place.Disk)) e)
+entry_touch b at len k p e s = absurd (and_false (not (is_at p place.Disk)) e)
 
 -- the list of a block has its live changes, and no others
 pub in_entries : (b : ℕ) (ps : List Patch) (p : Patch) → In ps p → is_live_on b p ≡ true → In (entries_on b ps) (entry p)
@@ -162,26 +109,11 @@ module _ (heads : List Patch) (rest : List Entry) (b at len : ℕ) (old row : Li
     only = λ n c. elim (g.only n c) [ inl o ↦ x.only n o | inr same ↦ inr (subst (IsTouched heads b at len) (sym same) (touched_here s)) ];
     kept = λ n c. g.kept n (x.kept n c);
     live = λ f i. x.live f (subst (λ es. In es f) (sym next) (inr i));
-    each = λ p c t. elim (x.each p c t) [
-      | inl i ↦ elim (subst (λ es. In es (entry p)) next i) [ inl same ↦ inr (subst (Contains new) (ap (λ f. f.number) same) g.gained) | inr j ↦ inl j ]
-      | inr o ↦ inr (g.kept p.number o)
-    ];
+    each = grind arith;
   }
 
   pub touches_skip : shares at len e.at e.len ≡ false → Touches heads left b at len old row
-  touches_skip none = record {
-    rising = x.rising;
-    only = x.only;
-    kept = x.kept;
-    live = λ f i. x.live f (subst (λ es. In es f) (sym next) (inr i));
-    each = λ p c t. elim (x.each p c t) [
-      | inl i ↦ elim (subst (λ es. In es (entry p)) next i) [
-        | inl same ↦ absurd (false≢true (sym none ∙ (ap (λ f. shares at len f.at f.len) same ∙ (touch_entry b at len p.kind p.place t).1)))
-        | inr j ↦ inl j
-      ]
-      | inr o ↦ inr o
-    ];
-  }
+  touches_skip none = search (rules, false≢true, touch_entry)
 
 module _ (heads : List Patch) (numbers blocks : ℕ) (marks : List Bool) (K : Keeps heads numbers blocks marks)
     (b at len : ℕ) (names : List ℕ) (grade : Grade) (deps : List ℕ) (depends : IsSparseRow heads names b at len deps) where

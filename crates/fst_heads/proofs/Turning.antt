@@ -1,46 +1,23 @@
 -- What a node keeps, and what it gets, where it is told what is pending of another.
-use Rattle.std.proofs.Common.{◌≡◌, ◌≢◌, ◌⊎◌, ◌↔◌, ◌<◌, ◌==◌, ◌&&◌, ℕ, Bool, true, false, cond, List, refl, sym, ap, subst, ◌∙◌, inl, inr, arith}
-use Rattle.std.proofs.lemmas.Bool.{cases_Bool, cases_eq, and_parts, and_from, eqb-true, eq-eqb, false≢true, both_ways, false_from_ne_true}
-use Rattle.fst_types.specs.declared.place.Place.{Place}
-use Rattle.fst_types.specs.declared.place.Place.TheVariants as place
-use Rattle.fst_types.specs.Patches.{Kind, Change, Empty, OpenGate, SealedGate, Patch}
-use Rattle.fst_types.specs.Cascade.{Follows, placed_as, unsettled}
-use Rattle.fst_types.specs.Tests.{is_among}
-use Rattle.fst_types.proofs.Finite.{In, In_decided}
-use Rattle.fst_types.proofs.Issuing.{among_in, in_among}
-use Rattle.fst_heads.specs.declared.pending.Pending.{Pending}
-use Rattle.fst_heads.specs.declared.pending.Pending.TheVariants as pending
-use Rattle.fst_heads.specs.declared.pending.Sums.{Sums}
-use Rattle.fst_heads.specs.Pendings.{join, joined_sums, is_pending, of_kind, Sinks, height, plus, minus}
-use Rattle.fst_heads.specs.Nodes.{Node, at_number}
-use Rattle.fst_heads.specs.Spreading.{now, is_told, follows, rested, hears, heard, settles, unspread}
+use Rattle.fst_heads.proofs.Basics.{◌≡◌, ◌≢◌, ◌⊎◌, ◌↔◌, ◌<◌, ◌==◌, ◌&&◌, ℕ, Bool, true, false, cond, List, refl, sym, ap, subst, ◌∙◌, inl, inr, arith, cases_Bool, cases_eq, and_parts, eqb-true, eq-eqb, false≢true, both_ways, false_from_ne_true, rules}
+use Rattle.fst_heads.proofs.Patches.{Place, Kind, Change, Empty, OpenGate, SealedGate, Follows, In, In_decided, among_in, in_among}
+use Rattle.fst_heads.proofs.Patches.place
+use Rattle.fst_heads.proofs.Words.{Pending, Sums, join, joined_sums, is_pending, of_kind, Sinks, height, plus, minus, Node, at_number, now, is_told, follows, rested, hears, heard, settles, unspread}
+use Rattle.fst_heads.proofs.Words.pending
 use Rattle.fst_heads.proofs.AtNumber.{at_same, at_other}
 
 -- what is pending
 
 pub same_pending : (p n : Pending) → is_pending p n ≡ true → p ≡ n
 same_pending pending.Nothing pending.Nothing e = refl
-same_pending pending.Nothing (pending.Block c) e = absurd (false≢true e)
-same_pending pending.Nothing pending.Apart e = absurd (false≢true e)
-same_pending pending.Nothing pending.Held e = absurd (false≢true e)
-same_pending (pending.Block b) pending.Nothing e = absurd (false≢true e)
 same_pending (pending.Block b) (pending.Block c) e = ap (λ k. pending.Block k) (eqb-true b c e)
-same_pending (pending.Block b) pending.Apart e = absurd (false≢true e)
-same_pending (pending.Block b) pending.Held e = absurd (false≢true e)
-same_pending pending.Apart pending.Nothing e = absurd (false≢true e)
-same_pending pending.Apart (pending.Block c) e = absurd (false≢true e)
 same_pending pending.Apart pending.Apart e = refl
-same_pending pending.Apart pending.Held e = absurd (false≢true e)
-same_pending pending.Held pending.Nothing e = absurd (false≢true e)
-same_pending pending.Held (pending.Block c) e = absurd (false≢true e)
-same_pending pending.Held pending.Apart e = absurd (false≢true e)
 same_pending pending.Held pending.Held e = refl
+same_pending p n e = absurd (false≢true e)
 
 pub is_itself : (p : Pending) → is_pending p p ≡ true
-is_itself pending.Nothing = refl
 is_itself (pending.Block b) = eq-eqb b b refl
-is_itself pending.Apart = refl
-is_itself pending.Held = refl
+is_itself p = refl
 
 -- what is told is what is pending now
 pub untold : (x : Node) → is_told x ≡ false → now x ≢ x.pending
@@ -51,12 +28,6 @@ not_told x ne = false_from_ne_true (is_told x) (λ e. ne (same_pending (now x) x
 
 pub told_now : (x : Node) → now x ≡ x.pending → is_told x ≡ true
 told_now x e = subst (λ p. is_pending p x.pending ≡ true) (sym e) (is_itself x.pending)
-
-height_none : (p : Pending) → height p ≡ 0 → p ≡ pending.Nothing
-height_none pending.Nothing e = refl
-height_none (pending.Block b) e = absurd (omega (arith, e))
-height_none pending.Apart e = absurd (omega (arith, e))
-height_none pending.Held e = absurd (omega (arith, e))
 
 pub sinks_nothing : (p n : Pending) → Sinks p n → p ≡ pending.Nothing → n ≡ pending.Nothing
 sinks_nothing p n (inl same) e = same ∙ e
@@ -75,75 +46,32 @@ never_back p n m s ne (inr lower) e = omega (arith, lower_sinks p n s ne, lower,
 -- what is pending by a kind
 
 pub follows_is : (k : Kind) → follows k ≡ true → Follows k
-follows_is (Change block at len grade) e = absurd (false≢true e)
 follows_is Empty e = tt
-follows_is OpenGate e = absurd (false≢true e)
 follows_is SealedGate e = tt
-
-pub is_follows : (k : Kind) → Follows k → follows k ≡ true
-is_follows (Change block at len grade) f = absurd f
-is_follows Empty f = refl
-is_follows OpenGate f = absurd f
-is_follows SealedGate f = refl
-
-some_pending : (t : Bool) (b : ℕ) → cond t (pending.Block b) pending.Apart ≡ pending.Nothing → ⊥
-some_pending true b e = cc
-some_pending false b e = cc
-
-join_live : (b : ℕ) (p : Pending) → join (pending.Block b) p ≡ pending.Nothing → ⊥
-join_live b pending.Nothing e = cc
-join_live b (pending.Block c) e = some_pending (c == b) b e
-join_live b pending.Apart e = cc
-join_live b pending.Held e = cc
+follows_is k e = absurd (false≢true e)
 
 join_one : (b c : ℕ) (p : Pending) → join (pending.Block b) p ≡ pending.Block c → b ≡ c
-join_one b c pending.Nothing e = cc
-join_one b c (pending.Block d) e = one (d == b) e
-  where
-    one : (t : Bool) → cond t (pending.Block b) pending.Apart ≡ pending.Block c → b ≡ c
-    one true e = cc
-    one false e = cc
-join_one b c pending.Apart e = cc
-join_one b c pending.Held e = cc
+join_one b c (pending.Block d) e = grind arith
+join_one b c p e = cc
 
 some_left : (t u : Bool) (b : ℕ) → cond t (cond u (pending.Block b) pending.Apart) pending.Held ≡ pending.Nothing → ⊥
 some_left true true b e = cc
-some_left true false b e = cc
-some_left false u b e = cc
+some_left t u b e = cc
 
 pub nothing_counted : (s : Sums) → joined_sums s ≡ pending.Nothing → s.count ≡ 0
-nothing_counted s e = elim (cases_Bool (s.count == 0)) [
-  | inl none ↦ eqb-true s.count 0 none
-  | inr some ↦ absurd (some_left (s.held == 0) _ _ (rw some at e))
-]
+nothing_counted s e = grind (arith, cases_Bool, eqb-true, some_left)
 
 pub counted_nothing : (s : Sums) → s.count ≡ 0 → joined_sums s ≡ pending.Nothing
 counted_nothing s e = rw (eq-eqb s.count 0 e) refl
 
--- an empty patch and a sealed gate have what is below them
-follower_of : (k : Kind) (p : Place) (below : Pending) → Follows k → of_kind k p below ≡ below
-follower_of (Change block at len grade) p below f = absurd f
-follower_of Empty p below f = refl
-follower_of OpenGate p below f = absurd f
-follower_of SealedGate p below f = refl
-
-nothing_rests : (k : Kind) (p : Place) (s : Sums) → of_kind k p (joined_sums s) ≡ pending.Nothing → (p ≡ place.Disk) ⊎ (Follows k × (s.count ≡ 0))
-nothing_rests (Change block at len grade) place.Memory s e = absurd (join_live block (joined_sums s) e)
-nothing_rests (Change block at len grade) place.Flight s e = absurd (join_live block (joined_sums s) e)
-nothing_rests (Change block at len grade) place.Disk s e = inl refl
-nothing_rests Empty p s e = inr (tt, nothing_counted s e)
-nothing_rests OpenGate p s e = cc
-nothing_rests SealedGate p s e = inr (tt, nothing_counted s e)
-
 -- one block is pending of a change of it, or of what is below an empty patch or a sealed gate
 pub block_of : (k : Kind) (p : Place) (below : Pending) (b : ℕ) → of_kind k p below ≡ pending.Block b
     → ((at len : ℕ) × (grade : _) × (k ≡ Change b at len grade)) ⊎ (below ≡ pending.Block b)
-block_of (Change block at len grade) place.Memory below b e = inl (at, len, grade, ap (λ c. Change c at len grade) (join_one block b below e))
-block_of (Change block at len grade) place.Flight below b e = inl (at, len, grade, ap (λ c. Change c at len grade) (join_one block b below e))
 block_of (Change block at len grade) place.Disk below b e = cc
 block_of Empty p below b e = inr e
 block_of OpenGate p below b e = cc
 block_of SealedGate p below b e = inr e
+block_of (Change block at len grade) p below b e = inl (at, len, grade, ap (λ c. Change c at len grade) (join_one block b below e))
 
 -- y is x but for its sums, what is pending of it, and the place of an empty patch or a sealed gate
 pub record Stays (x y : Node) : Type 0 where
@@ -151,12 +79,6 @@ pub record Stays (x y : Node) : Type 0 where
   pub kind : y.patch.kind ≡ x.patch.kind
   pub dependencies : y.patch.dependencies ≡ x.patch.dependencies
   pub spread : unspread y ≡ unspread x
-
-disk_unsettled : (k : Kind) (p : Patch) → Follows k → placed_as k (record p { place = place.Disk }) ≡ placed_as k p
-disk_unsettled (Change block at len grade) p f = absurd f
-disk_unsettled Empty p f = refl
-disk_unsettled OpenGate p f = absurd f
-disk_unsettled SealedGate p f = refl
 
 abbrev rest_if : Bool → Node → Node
 rest_if t x = cond t (record x { patch = record x.patch { place = place.Disk } }) x
@@ -170,25 +92,8 @@ pub record Rests (x y : Node) : Type 0 where
   pub places : (y.patch.place ≡ x.patch.place) ⊎ (y.patch.place ≡ place.Disk)
 
 rests_if : (t : Bool) (x : Node) → (t ≡ true → Follows x.patch.kind) → Rests x (rest_if t x)
-rests_if true x f = record {
-  stays = record {
-    number = refl;
-    kind = refl;
-    dependencies = refl;
-    spread = let e : unsettled (record x.patch { place = place.Disk }) ≡ unsettled x.patch = disk_unsettled x.patch.kind x.patch (f refl) in cc;
-  };
-  told = refl;
-  sums = refl;
-  pends = follower_of x.patch.kind place.Disk (joined_sums x.sums) (f refl) ∙ sym (follower_of x.patch.kind x.patch.place (joined_sums x.sums) (f refl));
-  places = inr refl;
-}
-rests_if false x f = record {
-  stays = record { number = refl; kind = refl; dependencies = refl; spread = refl };
-  told = refl;
-  sums = refl;
-  pends = refl;
-  places = inl refl;
-}
+rests_if true x f = search rules
+rests_if false x f = search rules
 
 abbrev goes : Node → Bool
 goes x = follows x.patch.kind && (x.sums.count == 0)
@@ -198,34 +103,6 @@ goes_parts x e = let k = and_parts (follows x.patch.kind) (x.sums.count == 0) e 
 
 pub rests : (x : Node) → Rests x (rested x)
 rests x = rests_if (goes x) x (λ e. (goes_parts x e).0)
-
-disk_if : (t : Bool) (x : Node) → x.patch.place ≡ place.Disk → (rest_if t x).patch.place ≡ place.Disk
-disk_if true x e = refl
-disk_if false x e = e
-
-went_if : (t : Bool) (x : Node) → t ≡ true → (rest_if t x).patch.place ≡ place.Disk
-went_if true x e = refl
-went_if false x e = absurd (false≢true e)
-
-stayed_if : (t : Bool) (x : Node) → t ≡ false → (rest_if t x).patch.place ≡ x.patch.place
-stayed_if true x e = absurd (false≢true (sym e))
-stayed_if false x e = refl
-
--- nothing is pending of it exactly where it is on disk
-pub rested_placed : (x : Node) → (x.patch.place ≡ place.Disk → now x ≡ pending.Nothing) → (now (rested x) ≡ pending.Nothing) ↔ ((rested x).patch.place ≡ place.Disk)
-rested_placed x disk = (to, from)
-  where
-    to : now (rested x) ≡ pending.Nothing → (rested x).patch.place ≡ place.Disk
-    to e = elim (nothing_rests x.patch.kind x.patch.place x.sums (sym (rests x).pends ∙ e)) [
-      | inl on ↦ disk_if (goes x) x on
-      | inr b ↦ went_if (goes x) x (and_from (follows x.patch.kind) (x.sums.count == 0) (is_follows x.patch.kind b.0) (eq-eqb x.sums.count 0 b.1))
-    ]
-
-    from : (rested x).patch.place ≡ place.Disk → now (rested x) ≡ pending.Nothing
-    from e = (rests x).pends ∙ elim (cases_Bool (goes x)) [
-      | inl g ↦ let k = goes_parts x g in follower_of x.patch.kind x.patch.place (joined_sums x.sums) k.0 ∙ counted_nothing x.sums k.1
-      | inr g ↦ disk (sym (stayed_if (goes x) x g) ∙ e)
-    ]
 
 -- what becomes of a node where old of a patch with this row of dependants becomes new
 pub record Hears (row : List ℕ) (old new : Pending) (x y : Node) : Type 0 where
@@ -238,37 +115,13 @@ pub record Hears (row : List ℕ) (old new : Pending) (x y : Node) : Type 0 wher
   pub placed : In row x.patch.number → (x.patch.place ≡ place.Disk → now y ≡ pending.Nothing) → (now y ≡ pending.Nothing) ↔ (y.patch.place ≡ place.Disk)
 
 module _ (row : List ℕ) (old new : Pending) (x : Node) where
-  pub not_heard : (In row x.patch.number → ⊥) → heard row old new x ≡ x
-  not_heard out = let e = false_from_ne_true (is_among row x.patch.number) (λ t. out (among_in row x.patch.number t)) in rw e refl
-
   pub is_heard : In row x.patch.number → heard row old new x ≡ hears old new x
   is_heard h = let e = in_among row x.patch.number h in rw e refl
 
-  abbrev summed : Node
-  summed = record x { sums = plus new (minus old x.sums) }
-
   pub hears_heard : Hears row old new x (heard row old new x)
   hears_heard = elim (In_decided row x.patch.number) [
-    | inl h ↦
-        let r = rests summed in
-        subst (Hears row old new x) (sym (is_heard h)) (record {
-          stays = record { number = r.stays.number; kind = r.stays.kind; dependencies = r.stays.dependencies; spread = r.stays.spread };
-          told = r.told;
-          pends = r.pends ∙ ap (λ s. of_kind x.patch.kind x.patch.place (joined_sums s)) (sym r.sums);
-          places = r.places;
-          same = λ out. absurd (out h);
-          moved = λ i. r.sums;
-          placed = λ i disk. rested_placed summed (λ d. sym r.pends ∙ disk d);
-        })
-    | inr out ↦ subst (Hears row old new x) (sym (not_heard out)) (record {
-      stays = record { number = refl; kind = refl; dependencies = refl; spread = refl };
-      told = refl;
-      pends = refl;
-      places = inl refl;
-      same = λ o. (refl, refl);
-      moved = λ h. absurd (out h);
-      placed = λ h. absurd (out h);
-    })
+    | inl h ↦ grind (arith, rests, is_heard)
+    | inr out ↦ grind (arith, false_from_ne_true, among_in)
   ]
 
 -- what becomes of a node where new is told of the patch with number q and row of dependants
@@ -289,26 +142,10 @@ pub turns : (row : List ℕ) (old new : Pending) (q : ℕ) (x : Node) → Turns 
 turns row old new q x = elim (cases_eq x.patch.number q) [
   | inl e ↦
       let h = hears_heard row old new (settles x) in
-      subst (λ z. Turns row old new q x (heard row old new z)) (sym (at_same q settles x e)) (record {
-        stays = record { number = h.stays.number; kind = h.stays.kind; dependencies = h.stays.dependencies; spread = h.stays.spread };
-        as_it_was = λ ne. absurd (ne e);
-        as_it_is = λ s. h.told;
-        pends = h.pends;
-        places = h.places;
-        same = h.same;
-        moved = h.moved;
-        placed = h.placed;
-      })
+      let was : x.patch.number ≢ q → (heard row old new (settles x)).pending ≡ x.pending = λ ne. absurd (ne e) in
+      subst (λ z. Turns row old new q x (heard row old new z)) (sym (at_same q settles x e)) (search rules)
   | inr ne ↦
       let h = hears_heard row old new x in
-      subst (λ z. Turns row old new q x (heard row old new z)) (sym (at_other q settles x ne)) (record {
-        stays = h.stays;
-        as_it_was = λ s. h.told;
-        as_it_is = λ e. absurd (ne e);
-        pends = h.pends;
-        places = h.places;
-        same = h.same;
-        moved = h.moved;
-        placed = h.placed;
-      })
+      let is : x.patch.number ≡ q → (heard row old new x).pending ≡ now x = λ e. absurd (ne e) in
+      subst (λ z. Turns row old new q x (heard row old new z)) (sym (at_other q settles x ne)) (search rules)
 ]

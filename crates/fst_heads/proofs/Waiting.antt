@@ -1,24 +1,14 @@
 -- The nodes of a spread, found by their numbers, and the numbers that wait in its queue.
-use Rattle.std.proofs.Common.{◌≡◌, ◌≢◌, ◌<◌, ◌≤◌, ◌==◌, ◌&&◌, ◌+◌, ℕ, zero, suc, Bool, true, false, not, cond, List, [], ◌∷◌, ◌++◌, length, map, get_or, Contains, AllPairs, length-append, refl, sym, ap, subst, ◌∙◌, inl, inr, arith}
-use Rattle.std.specs.List.{list_any}
-use Rattle.std.proofs.lemmas.Bool.{cases_eq, cases_order, and_parts, and_from, eqb-true, eq-eqb, ne_eqb, not-true, not_from_false}
-use Rattle.std.proofs.lemmas.List.{length-map, get_or-map, get_or_append_left}
-use Rattle.std.proofs.lemmas.List.Elements.{Contains-get_or, Contains-append_cases}
-use Rattle.std.proofs.lemmas.List.Folds.{Any-from_list_any, list_any-from_Any}
-use Rattle.std.proofs.lemmas.List.Kept.{AllPairs-cons}
-use Rattle.std.proofs.lemmas.List.Sums.{sum_by-cons}
+use Rattle.fst_heads.proofs.Basics.{◌≡◌, ◌≢◌, ◌<◌, ◌≤◌, ◌==◌, ◌&&◌, ◌+◌, ℕ, zero, suc, Bool, true, false, not, cond, List, [], ◌∷◌, ◌++◌, length, map, get_or, Contains, AllPairs, length-append, refl, sym, ap, subst, ◌∙◌, inl, inr, arith, list_any, cases_eq, cases_order, and_parts, and_from, eqb-true, eq-eqb}
+use Rattle.fst_heads.proofs.Basics.{common_steps, ne_eqb, not-true, not_from_false, get_or_append_left, Contains-get_or, Contains-append_cases, Any-from_list_any, list_any-from_Any, AllPairs-cons, sum_by-cons}
 use Rattle.std.proofs.Math.Seq.{get_or-append_seam}
-use Rattle.fst_types.proofs.Dropping.{filter_in, in_filter}
-use Rattle.fst_types.proofs.Finite.{In, In-map, In-from_Contains, Contains-from_In, pull}
-use Rattle.fst_heads.specs.declared.pending.Pending.{Pending}
-use Rattle.fst_heads.specs.declared.pending.Pending.TheVariants as pending
-use Rattle.fst_heads.specs.Pendings.{height}
-use Rattle.fst_heads.specs.Nodes.{Node, pending_in, times, at_number}
-use Rattle.fst_heads.specs.Spreading.{is_told, settles, hears, heard, wakes, woken, heights}
+use Rattle.fst_heads.proofs.Patches.{filter_in, in_filter, In, In-map, In-from_Contains, Contains-from_In, pull}
+use Rattle.fst_heads.proofs.Words.{Pending, height, Node, pending_in, times, at_number, is_told, settles, hears, heard, wakes, woken, heights}
+use Rattle.fst_heads.proofs.Words.pending
 use Rattle.fst_heads.proofs.AtNumber.{at_same, at_other}
 use Rattle.fst_heads.proofs.PendingIn.{found}
 use Rattle.fst_heads.proofs.Placed.{unmapped}
-use Rattle.fst_heads.proofs.Slots.{any_default}
+use Rattle.fst_heads.proofs.Slots.{any_default, rising_map}
 use Rattle.fst_heads.proofs.Turning.{turned, is_heard}
 
 pub mapped : {X Y : Type 0} (f : X → Y) (xs : List X) (x : X) → Contains xs x → Contains (map f xs) (f x)
@@ -40,11 +30,7 @@ same_node nodes x y rising a b e =
     ]
   where
     apart : (i j : ℕ) (p q : Node) → i < j → j < length nodes → get_or nodes i p ≡ p → get_or nodes j p ≡ q → p.patch.number ≡ q.patch.number → ⊥
-    apart i j p q lt inside at_i at_j same =
-        let r = rising i j p lt inside in
-        let one = ap (λ (z : Node). z.patch.number) at_i in
-        let other = ap (λ (z : Node). z.patch.number) at_j in
-        omega (arith, r, one, other, same)
+    apart i j p q lt inside at_i at_j same = grind arith
 
 -- what is pending at a number
 
@@ -65,26 +51,11 @@ pending_node nodes n b e = elim (found nodes n) [ inl f ↦ (f.node, f.head, sym
 pub pending_mapped : (f : Node → Node) (nodes : List Node) (n : ℕ) → ((y : Node) → (f y).patch.number ≡ y.patch.number)
     → ((y : Node) → y.patch.number ≡ n → (f y).pending ≡ y.pending) → pending_in (map f nodes) n ≡ pending_in nodes n
 pending_mapped f [] n number same = refl
-pending_mapped f (y ∷ ys) n number same =
-    let rest = pending_mapped f ys n number same in
-    let m = number y in
-    elim (cases_eq y.patch.number n) [
-      | inl e ↦ rw (m, eq-eqb y.patch.number n e) (same y e)
-      | inr ne ↦ rw (m, ne_eqb y.patch.number n ne) rest
-    ]
+pending_mapped f (y ∷ ys) n number same = grind (arith, cases_eq, eq-eqb, ne_eqb, pending_mapped f ys n number same)
 
 pub rising_mapped : (f : Node → Node) (nodes : List Node) → ((y : Node) → (f y).patch.number ≡ y.patch.number)
     → AllPairs (λ a b. a.patch.number < b.patch.number) nodes → AllPairs (λ a b. a.patch.number < b.patch.number) (map f nodes)
-rising_mapped f nodes number rising i j d lt inside =
-    let long = length-map nodes f in
-    let a = get_or-map f nodes i d d (omega (arith, lt, inside, long)) in
-    let b = get_or-map f nodes j d d (omega (arith, inside, long)) in
-    let r = rising i j d lt (omega (arith, inside, long)) in
-    let na = number (get_or nodes i d) in
-    let nb = number (get_or nodes j d) in
-    let fa = ap (λ (z : Node). z.patch.number) a in
-    let fb = ap (λ (z : Node). z.patch.number) b in
-    omega (arith, r, na, nb, fa, fb)
+rising_mapped f nodes number rising = rising_map f nodes (λ y. y.patch.number) (λ y. y.patch.number) number rising
 
 -- heights
 
@@ -94,20 +65,13 @@ tall x = height x.pending
 heights_stay : (f : Node → Node) (nodes : List Node) → ((y : Node) → In nodes y → tall (f y) ≤ tall y) → heights (map f nodes) ≤ heights nodes
 heights_stay f [] low = omega arith
 heights_stay f (y ∷ ys) low =
-    let rest = heights_stay f ys (λ z i. low z (inr i)) in
-    let first = low y (inl refl) in
-    omega (arith, sum_by-cons tall (f y) (map f ys), sum_by-cons tall y ys, rest, first)
+    omega (arith, sum_by-cons tall (f y) (map f ys), sum_by-cons tall y ys, heights_stay f ys (λ z i. low z (inr i)), low y (inl refl))
 
 heights_fall : (f : Node → Node) (nodes : List Node) (x : Node) → ((y : Node) → In nodes y → tall (f y) ≤ tall y) → In nodes x → tall (f x) < tall x → heights (map f nodes) < heights nodes
 heights_fall f [] x low h less = absurd h
-heights_fall f (y ∷ ys) x low (inl e) less =
-    let rest = heights_stay f ys (λ z i. low z (inr i)) in
-    let first : tall (f y) < tall y = subst (λ z. tall (f z) < tall z) (sym e) less in
-    omega (arith, sum_by-cons tall (f y) (map f ys), sum_by-cons tall y ys, rest, first)
+heights_fall f (y ∷ ys) x low (inl e) less = grind (arith, common_steps, sum_by-cons, heights_stay)
 heights_fall f (y ∷ ys) x low (inr h) less =
-    let rest = heights_fall f ys x (λ z i. low z (inr i)) h less in
-    let first = low y (inl refl) in
-    omega (arith, sum_by-cons tall (f y) (map f ys), sum_by-cons tall y ys, rest, first)
+    omega (arith, sum_by-cons tall (f y) (map f ys), sum_by-cons tall y ys, heights_fall f ys x (λ z i. low z (inr i)) h less, low y (inl refl))
 
 -- where no node is higher and one is lower
 pub heights_lower : (f : Node → Node) (nodes : List Node) (x : Node) → ((y : Node) → Contains nodes y → height (f y).pending ≤ height y.pending) → Contains nodes x
@@ -121,9 +85,7 @@ times_cons m ms n = sum_by-cons (λ k. cond (k == n) 1 0) m ms
 
 pub times_some : (ms : List ℕ) (n : ℕ) → In ms n → 0 < times ms n
 times_some [] n h = absurd h
-times_some (m ∷ ms) n (inl e) =
-    let one : cond {A = ℕ} (m == n) 1 0 ≡ 1 = rw (eq-eqb m n e) refl in
-    omega (arith, times_cons m ms n, one)
+times_some (m ∷ ms) n (inl e) = grind (arith, common_steps, eq-eqb, times_cons)
 times_some (m ∷ ms) n (inr h) = let rest = times_some ms n h in omega (arith, times_cons m ms n, rest)
 
 pub some_times : (ms : List ℕ) (n : ℕ) → 0 < times ms n → In ms n
@@ -168,9 +130,7 @@ once_append (x ∷ xs) ys one two apart =
     any_number (n ∷ ns) (suc i) a b lt = any_number ns i a b (omega (arith, lt))
 
 pub once_front : (queue : List ℕ) (q : ℕ) → AllPairs (λ a b. a ≢ b) (queue ++ q ∷ []) → AllPairs (λ a b. a ≢ b) queue
-once_front queue q once i j d lt inside e =
-    once i j d lt (omega (arith, inside, length-append queue (q ∷ [])))
-    (get_or_append_left queue (q ∷ []) d i (omega (arith, lt, inside)) ∙ (e ∙ sym (get_or_append_left queue (q ∷ []) d j inside)))
+once_front queue q once i j d lt inside e = grind (arith, length-append, get_or_append_left)
 
 -- the last is not among those before it
 pub once_last : (queue : List ℕ) (q n : ℕ) → AllPairs (λ a b. a ≢ b) (queue ++ q ∷ []) → Contains queue n → n ≢ q
@@ -181,16 +141,10 @@ once_last queue q n once c e =
 -- those that wake
 
 pub set_number : (q : ℕ) (y : Node) → (at_number q settles y).patch.number ≡ y.patch.number
-set_number q y = elim (cases_eq y.patch.number q) [
-  | inl e ↦ ap (λ (z : Node). z.patch.number) (at_same q settles y e)
-  | inr ne ↦ ap (λ (z : Node). z.patch.number) (at_other q settles y ne)
-]
+set_number q y = grind (arith, cases_eq, at_same, at_other)
 
 pub set_sums : (q : ℕ) (y : Node) → (at_number q settles y).sums ≡ y.sums
-set_sums q y = elim (cases_eq y.patch.number q) [
-  | inl e ↦ ap (λ (z : Node). z.sums) (at_same q settles y e)
-  | inr ne ↦ ap (λ (z : Node). z.sums) (at_other q settles y ne)
-]
+set_sums q y = grind (arith, cases_eq, at_same, at_other)
 
 module _ (nodes : List Node) (row : List ℕ) (old new : Pending) (q : ℕ) where
   abbrev set : List Node

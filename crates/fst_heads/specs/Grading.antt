@@ -1,21 +1,15 @@
 -- When a new change may be hard, said of what it depends on.
-use Rattle.std.specs.Prelude.{◌≡◌, ◌≢◌, ℕ, Bool, List, Option, Some, None, Contains}
+use Rattle.std.specs.Prelude.{◌≡◌, ◌≢◌, ℕ, List, Option, Some, None, Contains}
 use Rattle.fst_types.specs.Patches.{Patch, IsOn, IsLive}
 use Rattle.fst_types.specs.Dependencies.{Needs}
 use Rattle.fst_types.specs.Gates.{IsOpenNumber}
 use Rattle.fst_types.specs.Grades.{Reaches}
-use Rattle.fst_heads.specs.declared.head.Head.{Head}
-use Rattle.fst_heads.specs.Marks.{Has, IsAbove}
+use Rattle.fst_heads.specs.Marks.{IsAbove}
 use Rattle.fst_heads.specs.Reaching.{IsHardIn}
 
 -- a number with P is in the row, or one in the row depends on it
 abbrev pub HasUnder : List Patch → List ℕ → (ℕ → Type 0) → Type 0
 HasUnder heads row P = (n : ℕ) × Contains row n × IsAbove heads P n
-
--- the marks of those with P are kept
-pub record KeepsMarks (heads : List Head) (P : ℕ → Type 0) (old new : List Bool) : Type 0 where
-  pub only : (n : ℕ) → Has heads new n → Has heads old n × P n
-  pub each : (n : ℕ) → Has heads old n → P n → Has heads new n
 
 -- n is the number of a live change off b, which has a live need on b
 pub record IsReturning (heads : List Patch) (b n : ℕ) : Type 0 where

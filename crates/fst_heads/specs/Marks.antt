@@ -1,10 +1,9 @@
 -- Marks on heads.
 use Rattle.std.specs.Prelude.{◌≡◌, ◌≢◌, ◌<◌, ◌⊎◌, ◌==◌, ◌&&◌, ◌||◌, ℕ, Bool, true, false, List, [], ◌∷◌, Option, None, Some, length, All, Contains, slice_index_or}
 use Rattle.fst_types.specs.Patches.{Patch}
-use Rattle.fst_types.specs.Dependencies.{DirectlyOn, DependsOn}
+use Rattle.fst_types.specs.Dependencies.{DependsOn}
 use Rattle.fst_heads.specs.declared.head.Head.{Head}
 use Rattle.fst_heads.specs.declared.test.Test.{Test}
-use Rattle.fst_heads.specs.Heads.{patches_of}
 use Rattle.fst_heads.specs.Tests.{passes}
 
 -- the head at the slot has this number
@@ -21,18 +20,6 @@ pub record Has (heads : List Head) (marks : List Bool) (n : ℕ) : Type 0 where
   pub at : HasSlot heads n slot
   pub marked : slice_index_or marks slot false ≡ true
 
--- the head with number n is marked besides if it directly depends on a marked one
-pub record SpreadsOne (heads : List Head) (n : ℕ) (old new : List Bool) : Type 0 where
-  pub kept : (m : ℕ) → Has heads old m → Has heads new m
-  pub only : (m : ℕ) → Has heads new m → Has heads old m ⊎ ((m ≡ n) × ((q : ℕ) × DirectlyOn (patches_of heads) n q × Has heads old q))
-  pub closed : (q : ℕ) → DirectlyOn (patches_of heads) n q → Has heads old q → Has heads new n
-
--- all that depend on a marked head are marked besides
-pub record Spreads (heads : List Head) (old new : List Bool) : Type 0 where
-  pub kept : (m : ℕ) → Has heads old m → Has heads new m
-  pub only : (m : ℕ) → Has heads new m → Has heads old m ⊎ ((q : ℕ) × DependsOn (patches_of heads) m q × Has heads old q)
-  pub above : (m q : ℕ) → DependsOn (patches_of heads) m q → Has heads old q → Has heads new m
-
 -- exactly the heads with P are marked
 pub record Shows (heads : List Head) (marks : List Bool) (P : ℕ → Type 0) : Type 0 where
   pub only : (n : ℕ) → Has heads marks n → P n
@@ -48,10 +35,6 @@ pub record PassesAt (t : Test) (patches : List Patch) (n : ℕ) : Type 0 where
 -- n has P, or depends on a number with P
 abbrev pub IsAbove : List Patch → (ℕ → Type 0) → ℕ → Type 0
 IsAbove patches P n = P n ⊎ ((q : ℕ) × DependsOn patches n q × P q)
-
--- n is the gate, or depends on it
-abbrev pub ReachesGate : List Patch → ℕ → ℕ → Type 0
-ReachesGate patches gate n = (n ≡ gate) ⊎ DependsOn patches n gate
 
 -- whether a marked head has number n
 abbrev pub mark_of : List Head → List Bool → ℕ → Bool

@@ -1,128 +1,65 @@
-use Rattle.std.proofs.Common.{◌≡◌, ◌∙◌, [], cond, count_by, ap, vec_len, subst, sym, arith}
-use Rattle.std.proofs.lemmas.List.{length-map, nil_from_length}
-use Rattle.fst_heads.specs.Heads.{IsRising}
-use Rattle.fst_heads.specs.Marks.{HasSlot, HasNone}
-use Rattle.fst_heads.specs.Nodes.{node_of, nodes_of}
-use Rattle.fst_types.proofs.Finite.{In-from_Contains}
-use Rattle.fst_heads.specs.declared.pending.Pending.TheVariants as pending
-use Rattle.fst_heads.specs.Pendings.{is_pending}
-use Rattle.fst_heads.specs.Spreading.{Spreading, is_waiting, now}
-use Rattle.fst_heads.specs.Standings.{AllStand}
-use Rattle.fst_heads.proofs.Living.{waits_untold, waiting_settles, waiting_heard}
+use Rattle.fst_heads.proofs.Basics.{◌≡◌, ◌∙◌, [], get_or, cond, count_by, ap, vec_len, subst, sym, arith, length-map, nil_from_length, rules}
+use Rattle.fst_heads.proofs.Patches.{In-from_Contains}
+use Rattle.fst_heads.proofs.Words.{IsRising, HasSlot, HasNone, node_of, nodes_of, is_pending, Spreading, is_waiting, now, AllStand}
+use Rattle.fst_heads.proofs.Words.pending
+use Rattle.fst_heads.proofs.Beside.{waits_untold, waiting_settles, waiting_heard}
 use Rattle.fst_heads.proofs.Popping.{fits_there, untold_there, rising_settled, after_is, once_after, live_after, hears_after, room_after, turned, cascaded_heads}
-use Rattle.fst_heads.proofs.Slotted.{rising_slots, none_of_number, node_is}
+use Rattle.fst_heads.proofs.Telling.{last_waits}
+use Rattle.fst_heads.proofs.Slotted.{rising_slots, none_of_number, node_in_slot, node_is}
 use Rattle.fst_heads.proofs.Stands.{stand_heard}
 use Rattle.fst_heads.proofs.Starting.{settled_spread}
 use Rattle.fst_heads.proofs.Carried.{spread_trans, length_spread}
-use Rattle.fst_heads.proofs.Telling.{last_waits}
 use Rattle.fst_heads.proofs.cascade.cascade.Goals as goal
 
 pub slot_of-requires : goal.slot_of-requires
 slot_of-requires c = subst IsRising (sym c.deref.ensures.value) (rising_slots c.loop-number.heads.items c.loop-number.invariant.spreading.rising)
 
-pub settle_slot-old-requires-clause-rising : goal.settle_slot-old-requires-clause-rising
-settle_slot-old-requires-clause-rising c = rising_slots c.loop-number.heads.items c.loop-number.invariant.spreading.rising
-
-pub settle_slot-old-requires-clause-fits : goal.settle_slot-old-requires-clause-fits
-settle_slot-old-requires-clause-fits c =
+pub settle_slot-old-requires : goal.settle_slot-old-requires
+settle_slot-old-requires c =
     let heads = c.loop-number.heads.items in
-    let nodes = nodes_of heads in
     let blocks = vec_len c.args.standings.now in
     let queue = c.pop.new.self.items in
     let q = c.in-Some.number in
     let s = c.in-Some-slot_of.slot in
-    let S = subst (Spreading nodes blocks) c.in-Some.ensures.items c.loop-number.invariant.spreading in
+    let S = subst (Spreading (nodes_of heads) blocks) c.in-Some.ensures.items c.loop-number.invariant.spreading in
     let found = subst (λ hs. HasSlot hs q s) c.deref.ensures.value c.in-Some-slot_of.ensures.found in
-    fits_there heads blocks queue q s c.requires.narrow S c.loop-number.invariant.linked c.loop-number.invariant.distinct found
+    record {
+      rising = rising_slots heads S.rising;
+      slot = omega (arith, found.0, c.loop-number.heads.ok.0);
+      fits = fits_there heads blocks queue q s c.requires.narrow S c.loop-number.invariant.linked c.loop-number.invariant.distinct found;
+      sinks = λ d. S.sinks (get_or (nodes_of heads) s d) (node_in_slot heads q s d found).0;
+      untold = untold_there heads blocks queue q s c.requires.narrow S c.loop-number.invariant.linked c.loop-number.invariant.distinct found;
+      inside = λ x b at len grade contained kind.
+          omega (arith, S.changes x b at len grade contained kind, c.loop-number.standings.ok.0, c.loop-number.invariant.standing.long);
+      standing = search rules;
+    }
 
-pub settle_slot-old-requires-clause-untold : goal.settle_slot-old-requires-clause-untold
-settle_slot-old-requires-clause-untold c =
+pub tell-requires : goal.tell-requires
+tell-requires c =
     let heads = c.loop-number.heads.items in
-    let nodes = nodes_of heads in
     let blocks = vec_len c.args.standings.now in
     let queue = c.pop.new.self.items in
     let q = c.in-Some.number in
     let s = c.in-Some-slot_of.slot in
-    let S = subst (Spreading nodes blocks) c.in-Some.ensures.items c.loop-number.invariant.spreading in
-    let found = subst (λ hs. HasSlot hs q s) c.deref.ensures.value c.in-Some-slot_of.ensures.found in
-    untold_there heads blocks queue q s c.requires.narrow S c.loop-number.invariant.linked c.loop-number.invariant.distinct found
-
-pub settle_slot-old-requires-clause-inside : goal.settle_slot-old-requires-clause-inside
-settle_slot-old-requires-clause-inside c x b at len grade contained kind =
-    let within = c.loop-number.invariant.spreading.changes x b at len grade contained kind in
-    omega (arith, within, c.loop-number.standings.ok.0, c.loop-number.invariant.standing.long)
-
-pub tell-requires-clause-rising : goal.tell-requires-clause-rising
-tell-requires-clause-rising c =
-    let heads = c.loop-number.heads.items in
-    let nodes = nodes_of heads in
-    let blocks = vec_len c.args.standings.now in
-    let queue = c.pop.new.self.items in
-    let q = c.in-Some.number in
-    let s = c.in-Some-slot_of.slot in
-    let S = subst (Spreading nodes blocks) c.in-Some.ensures.items c.loop-number.invariant.spreading in
+    let S = subst (Spreading (nodes_of heads) blocks) c.in-Some.ensures.items c.loop-number.invariant.spreading in
     let found = subst (λ hs. HasSlot hs q s) c.deref.ensures.value c.in-Some-slot_of.ensures.found in
     let settled = c.settle_slot-old.ensures in
+    let linked = c.loop-number.invariant.linked in
+    let distinct = c.loop-number.invariant.distinct in
+    let was = c.settle_slot-old.result.0 in
+    let is = c.settle_slot-old.result.1 in
     let after = nodes_of c.settle_slot-old.new.heads.items in
-    rising_settled q heads c.settle_slot-old.new.heads.items (after_is heads blocks queue q s c.requires.narrow S c.loop-number.invariant.linked c.loop-number.invariant.distinct found c.settle_slot-old.result.0 c.settle_slot-old.result.1 after settled.old settled.new settled.nodes) (rising_slots heads S.rising)
-
-pub tell-requires-clause-once : goal.tell-requires-clause-once
-tell-requires-clause-once c =
-    let heads = c.loop-number.heads.items in
-    let nodes = nodes_of heads in
-    let blocks = vec_len c.args.standings.now in
-    let queue = c.pop.new.self.items in
-    let q = c.in-Some.number in
-    let s = c.in-Some-slot_of.slot in
-    let S = subst (Spreading nodes blocks) c.in-Some.ensures.items c.loop-number.invariant.spreading in
-    let found = subst (λ hs. HasSlot hs q s) c.deref.ensures.value c.in-Some-slot_of.ensures.found in
-    let settled = c.settle_slot-old.ensures in
-    let after = nodes_of c.settle_slot-old.new.heads.items in
-    once_after heads blocks queue q s c.requires.narrow S c.loop-number.invariant.linked c.loop-number.invariant.distinct found c.settle_slot-old.result.0 c.settle_slot-old.result.1 after settled.old settled.new settled.nodes
-
-pub tell-requires-clause-hears : goal.tell-requires-clause-hears
-tell-requires-clause-hears c =
-    let heads = c.loop-number.heads.items in
-    let nodes = nodes_of heads in
-    let blocks = vec_len c.args.standings.now in
-    let queue = c.pop.new.self.items in
-    let q = c.in-Some.number in
-    let s = c.in-Some-slot_of.slot in
-    let S = subst (Spreading nodes blocks) c.in-Some.ensures.items c.loop-number.invariant.spreading in
-    let found = subst (λ hs. HasSlot hs q s) c.deref.ensures.value c.in-Some-slot_of.ensures.found in
-    let settled = c.settle_slot-old.ensures in
-    let after = nodes_of c.settle_slot-old.new.heads.items in
-    hears_after heads blocks queue q s c.requires.narrow S c.loop-number.invariant.linked c.loop-number.invariant.distinct found c.settle_slot-old.result.0 c.settle_slot-old.result.1 after settled.old settled.new settled.nodes
-
-pub tell-requires-clause-live : goal.tell-requires-clause-live
-tell-requires-clause-live c =
-    let heads = c.loop-number.heads.items in
-    let nodes = nodes_of heads in
-    let blocks = vec_len c.args.standings.now in
-    let queue = c.pop.new.self.items in
-    let q = c.in-Some.number in
-    let s = c.in-Some-slot_of.slot in
-    let S = subst (Spreading nodes blocks) c.in-Some.ensures.items c.loop-number.invariant.spreading in
-    let found = subst (λ hs. HasSlot hs q s) c.deref.ensures.value c.in-Some-slot_of.ensures.found in
-    let settled = c.settle_slot-old.ensures in
-    let after = nodes_of c.settle_slot-old.new.heads.items in
-    live_after heads blocks queue q s c.requires.narrow S c.loop-number.invariant.linked c.loop-number.invariant.distinct found c.settle_slot-old.result.0 c.settle_slot-old.result.1 after settled.old settled.new settled.nodes
-
-pub tell-requires-clause-room : goal.tell-requires-clause-room
-tell-requires-clause-room c d =
-    let heads = c.loop-number.heads.items in
-    let nodes = nodes_of heads in
-    let blocks = vec_len c.args.standings.now in
-    let queue = c.pop.new.self.items in
-    let q = c.in-Some.number in
-    let s = c.in-Some-slot_of.slot in
-    let S = subst (Spreading nodes blocks) c.in-Some.ensures.items c.loop-number.invariant.spreading in
-    let found = subst (λ hs. HasSlot hs q s) c.deref.ensures.value c.in-Some-slot_of.ensures.found in
-    let settled = c.settle_slot-old.ensures in
-    let after = nodes_of c.settle_slot-old.new.heads.items in
-    let room = room_after heads blocks queue q s c.requires.narrow S c.loop-number.invariant.linked c.loop-number.invariant.distinct found c.settle_slot-old.result.0 c.settle_slot-old.result.1 after settled.old settled.new settled.nodes d in
-    let long = length_spread (nodes_of c.args.heads.now.items) nodes c.loop-number.invariant.spread in
-    omega (arith, room, long, length-map heads node_of, length-map c.args.heads.now.items node_of, c.requires.room, c.loop-number.invariant.capacity, c.in-Some.ensures.capacity)
+    let long = length_spread (nodes_of c.args.heads.now.items) (nodes_of heads) c.loop-number.invariant.spread in
+    record {
+      rising = rising_settled q heads c.settle_slot-old.new.heads.items (after_is heads blocks queue q s c.requires.narrow S linked distinct found was is after settled.old settled.new settled.nodes) (rising_slots heads S.rising);
+      slot = omega (arith, found.0, c.loop-number.heads.ok.0, settled.len);
+      once = once_after heads blocks queue q s c.requires.narrow S linked distinct found was is after settled.old settled.new settled.nodes;
+      hears = hears_after heads blocks queue q s c.requires.narrow S linked distinct found was is after settled.old settled.new settled.nodes;
+      live = live_after heads blocks queue q s c.requires.narrow S linked distinct found was is after settled.old settled.new settled.nodes;
+      room = λ d.
+          let room = room_after heads blocks queue q s c.requires.narrow S linked distinct found was is after settled.old settled.new settled.nodes d in
+          omega (arith, room, long, length-map heads node_of, length-map c.args.heads.now.items node_of, c.requires.room, c.loop-number.invariant.capacity, c.in-Some.ensures.capacity);
+    }
 
 pub loop-number-smaller-in-Some-slot_of : goal.loop-number-smaller-in-Some-slot_of
 loop-number-smaller-in-Some-slot_of c =
@@ -160,12 +97,11 @@ loop-number-preserved-in-Some-slot_of c =
     let waits = waits_untold here.0 (S.sinks here.0 here.1) here.3 in
     let is = node_is heads q s here.0 d (rising_slots heads S.rising) found here.1 here.2 in
     let less = waiting_settles nodes q here.0 S.rising (In-from_Contains nodes here.0 here.1) here.2 waits in
-    let told = ap (count_by is_waiting) (c.tell.ensures.nodes d) ∙ waiting_heard _ _ _ after in
     let first = ap (count_by is_waiting) (after_is heads blocks queue q s c.requires.narrow S c.loop-number.invariant.linked c.loop-number.invariant.distinct found c.settle_slot-old.result.0 c.settle_slot-old.result.1 after settled.old settled.new settled.nodes) in
     let own : c.landings-landed.result ≡ cond (is_pending (now here.0) pending.Nothing) 1 0 =
     c.landings-landed.ensures ∙ ap (λ p. cond (is_pending p pending.Nothing) 1 0) (settled.new d ∙ ap now is) in
     record {
-      landed = omega (arith, c.loop-number.invariant.landed, told, first, less, own);
+      landed = omega (arith, c.loop-number.invariant.landed, ap (count_by is_waiting) (c.tell.ensures.nodes d) ∙ waiting_heard _ _ _ after, first, less, own);
       spreading = turn.spreading;
       linked = turn.are_linked;
       distinct = turn.are_distinct;
@@ -192,10 +128,7 @@ loop-number-preserved c = absurd (absent c)
 
 -- nothing waits where nothing was popped
 left : (c : goal.In_default) → Spreading (nodes_of c.loop-number.heads.items) (vec_len c.args.standings.now) []
-left c =
-    let long = c.loop-number.queue.ok.0 in
-    let none = c.in_default.ensures.cases.0 in
-    subst (Spreading (nodes_of c.loop-number.heads.items) (vec_len c.args.standings.now)) (nil_from_length c.loop-number.queue.items (omega (arith, long, none))) c.loop-number.invariant.spreading
+left c = grind (arith, nil_from_length)
 
 pub returns-clause-settled : goal.returns-clause-settled
 returns-clause-settled c = settled_spread (nodes_of c.loop-number.heads.items) (vec_len c.args.standings.now) (left c)

@@ -1,8 +1,5 @@
-use Rattle.std.proofs.Common.{◌≡◌, ◌+◌, count_by, vec_len, vec_capacity}
-use Rattle.fst_heads.specs.Frames.{frames_of}
-use Rattle.fst_heads.specs.Nodes.{nodes_of, AreLinked, AreDistinct}
-use Rattle.fst_heads.specs.Spreading.{Spreading, IsSpreadOf, heights, is_waiting}
-use Rattle.fst_heads.specs.Standings.{AllStand}
+use Rattle.fst_heads.proofs.Basics.{◌≡◌, ◌+◌, count_by, vec_len, vec_capacity}
+use Rattle.fst_heads.proofs.Words.{frames_of, nodes_of, AreLinked, AreDistinct, Spreading, IsSpreadOf, heights, is_waiting, AllStand}
 use Rattle.fst_heads.proofs.cascade.cascade.Given as goal
 
 abbrev pub invariant-loop-number : goal.invariant-loop-number

@@ -1,13 +1,10 @@
-use Rattle.std.proofs.Common.{◌∙◌, not, sym, ap, subst}
+use Rattle.fst_heads.proofs.Basics.{◌∙◌, not, sym, ap, subst, arith}
+use Rattle.fst_heads.proofs.Words.{frame_of, Node, node_of, Fits, is_told, seals}
 use Rattle.fst_heads.proofs.AtNumber.{at_slot}
 use Rattle.fst_heads.proofs.Framed.{frames_set}
 use Rattle.fst_heads.proofs.PendingAt.{node_in}
 use Rattle.fst_heads.proofs.Slotted.{rested_sums, stays_slot, waits_slot}
 use Rattle.fst_heads.specs.declared.head.Kind.TheVariants as kinds
-use Rattle.fst_heads.specs.Frames.{frame_of}
-use Rattle.fst_heads.specs.Nodes.{Node, node_of}
-use Rattle.fst_heads.specs.Pendings.{Fits}
-use Rattle.fst_heads.specs.Spreading.{is_told, seals}
 use Rattle.fst_heads.proofs.cascade.seal_slot.Goals as goal
 
 pub is_told-requires : goal.is_told-requires
@@ -16,9 +13,7 @@ is_told-requires c =
     subst Fits (sym (ap (λ (x : Node). x.sums) c.rest.ensures.node ∙ rested_sums (node_of (record head { kind = kinds.SealedGate })))) (c.requires.fits (node_of head) (node_in c.args.heads.now.items c.args.slot head c.requires.slot.0 c.index_mut-head.ensures.value))
 
 pub returns-then-not-is_told-clause-nodes : goal.returns-then-not-is_told-clause-nodes
-returns-then-not-is_told-clause-nodes c =
-    at_slot c.args.heads.now.items c.args.gate c.args.slot seals _ c.index_mut-head.result.now c.requires.rising c.requires.slot
-    (c.rest.ensures.node ∙ ap (λ h. seals (node_of h)) c.index_mut-head.ensures.value)
+returns-then-not-is_told-clause-nodes c = grind (arith, at_slot)
 
 pub returns-then-not-is_told-clause-queued : goal.returns-then-not-is_told-clause-queued
 returns-then-not-is_told-clause-queued c =
@@ -27,9 +22,7 @@ returns-then-not-is_told-clause-queued c =
     (sym (ap (λ h. not (is_told (seals (node_of h)))) c.index_mut-head.ensures.value) ∙ (ap (λ x. not (is_told x)) (sym c.rest.ensures.node) ∙ (ap not (sym c.is_told.ensures) ∙ ap not c.if-not-is_told.true)))
 
 pub returns-else-not-is_told-clause-nodes : goal.returns-else-not-is_told-clause-nodes
-returns-else-not-is_told-clause-nodes c =
-    at_slot c.args.heads.now.items c.args.gate c.args.slot seals _ c.index_mut-head.result.now c.requires.rising c.requires.slot
-    (c.rest.ensures.node ∙ ap (λ h. seals (node_of h)) c.index_mut-head.ensures.value)
+returns-else-not-is_told-clause-nodes c = grind (arith, at_slot)
 
 pub returns-else-not-is_told-clause-queued : goal.returns-else-not-is_told-clause-queued
 returns-else-not-is_told-clause-queued c =

@@ -1,70 +1,40 @@
-use Rattle.std.proofs.Common.{◌≡◌, ◌≢◌, ◌∙◌, ◌+◌, ◌<◌, ◌≤◌, ◌++◌, ◌∷◌, [], AllPairs, Contains, length, map, take, get_or, vec_capacity, append-nil, append_assoc, length-append, arith, ap, refl, sym, subst}
-use Rattle.std.proofs.lemmas.List.{length-map, take_all}
-use Rattle.fst_heads.specs.Nodes.{node_of, nodes_of, at_number}
-use Rattle.fst_heads.specs.Spreading.{CanHear, hears, heard, woken}
-use Rattle.fst_heads.proofs.Slotted.{row_at, row_is, at_row, row_now, length_heard, rising_heard, heard_none, heard_before, heard_more, woken_more, woken_room}
+use Rattle.fst_heads.proofs.Basics.{◌≡◌, ◌≢◌, ◌∙◌, ◌+◌, ◌<◌, ◌≤◌, ◌∷◌, [], AllPairs, Contains, length, map, take, get_or, vec_capacity, append-nil, append_assoc, length-append, arith, ap, sym, subst, length-map, take_all, rules}
+use Rattle.fst_heads.proofs.Words.{node_of, nodes_of, at_number, CanHear, hears, heard, woken}
+use Rattle.fst_heads.proofs.Slotted.{row_at, row_is, at_row, row_of, row_now, length_heard, rising_heard, heard_none, heard_before, heard_more, woken_more, woken_room}
 use Rattle.fst_heads.proofs.Slots.{any_default}
 use Rattle.fst_heads.proofs.cascade.tell.Goals as goal
 
 pub loop-at-init : goal.loop-at-init
-loop-at-init c = record {
-  nodes = sym (heard_none c.args.old c.args.new (nodes_of c.args.heads.now.items));
-  queued = sym (append-nil c.args.queue.now.items);
-  len = refl;
-  capacity = refl;
-  frames = refl;
-  places = refl;
-}
+loop-at-init c = grind (arith, heard_none, append-nil)
 
-pub hear_at-requires-clause-rising : goal.hear_at-requires-clause-rising
-hear_at-requires-clause-rising c =
-    rising_heard c.args.heads.now.items c.loop-at.heads.items (take c.loop-at.at (row_at (nodes_of c.args.heads.now.items) c.args.slot)) c.args.old c.args.new c.loop-at.invariant.nodes c.requires.rising
-
-pub hear_at-requires-clause-hears : goal.hear_at-requires-clause-hears
-hear_at-requires-clause-hears c x contained numbered =
+pub hear_at-requires : goal.hear_at-requires
+hear_at-requires c =
     let heads = c.args.heads.now.items in
     let start = nodes_of heads in
     let row = row_at start c.args.slot in
     let i = c.loop-at.at in
     let inside : c.args.slot < length start = omega (arith, c.requires.slot, length-map heads node_of) in
-    let slot : c.args.slot < length c.loop-at.heads.items = omega (arith, c.requires.slot, length_heard start c.loop-at.heads.items (take i row) c.args.old c.args.new c.loop-at.invariant.nodes, length-map heads node_of) in
-    let here = row_now start c.loop-at.heads.items (take i row) c.args.old c.args.new c.args.slot c.index.result.now slot c.loop-at.invariant.nodes c.index.ensures in
+    let here = row_of heads c.loop-at.heads.items (take i row) c.args.old c.args.new c.args.slot c.index.result.now (omega (arith, c.requires.slot)) c.loop-at.invariant.nodes c.index.ensures in
     let lt : i < length row = omega (arith, c.len.ensures.value, ap length here, c.loop-at-test.true) in
     let once = at_row (λ ms. AllPairs (λ m n. m ≢ n) ms) start c.args.slot inside c.requires.once in
-    let named = c.as_slice.ensures ∙ row_now start c.loop-at.heads.items (take i row) c.args.old c.args.new c.args.slot c.index-in-loop-at.result.now slot c.loop-at.invariant.nodes c.index-in-loop-at.ensures in
+    let named = c.as_slice.ensures ∙ row_of heads c.loop-at.heads.items (take i row) c.args.old c.args.new c.args.slot c.index-in-loop-at.result.now (omega (arith, c.requires.slot)) c.loop-at.invariant.nodes c.index-in-loop-at.ensures in
     let number = ap (λ ns. get_or ns i 0) named in
-    let was = heard_before row once i lt c.args.old c.args.new start x (subst (λ ns. Contains ns x) c.loop-at.invariant.nodes contained) (numbered ∙ number) in
-    let among : Contains row x.patch.number = (i, lt, any_default row i x.patch.number 0 lt ∙ sym (numbered ∙ number)) in
-    at_row (λ ms. Contains ms x.patch.number → CanHear c.args.old x) start c.args.slot inside (λ d. c.requires.hears x d was) among
-
-pub hear_at-requires-clause-room : goal.hear_at-requires-clause-room
-hear_at-requires-clause-room c x contained numbered wakes =
-    let heads = c.args.heads.now.items in
-    let start = nodes_of heads in
-    let row = row_at start c.args.slot in
-    let i = c.loop-at.at in
-    let inside : c.args.slot < length start = omega (arith, c.requires.slot, length-map heads node_of) in
-    let slot : c.args.slot < length c.loop-at.heads.items = omega (arith, c.requires.slot, length_heard start c.loop-at.heads.items (take i row) c.args.old c.args.new c.loop-at.invariant.nodes, length-map heads node_of) in
-    let here = row_now start c.loop-at.heads.items (take i row) c.args.old c.args.new c.args.slot c.index.result.now slot c.loop-at.invariant.nodes c.index.ensures in
-    let lt : i < length row = omega (arith, c.len.ensures.value, ap length here, c.loop-at-test.true) in
-    let once = at_row (λ ms. AllPairs (λ m n. m ≢ n) ms) start c.args.slot inside c.requires.once in
-    let named = c.as_slice.ensures ∙ row_now start c.loop-at.heads.items (take i row) c.args.old c.args.new c.args.slot c.index-in-loop-at.result.now slot c.loop-at.invariant.nodes c.index-in-loop-at.ensures in
-    let number = ap (λ ns. get_or ns i 0) named in
-    let fewer = woken_room row once i lt c.args.old c.args.new start x (subst (λ ns. Contains ns x) c.loop-at.invariant.nodes contained) (numbered ∙ number) wakes in
-    let room = at_row (λ ms. length c.args.queue.now.items + length (woken ms c.args.old c.args.new start) ≤ vec_capacity c.args.queue.now) start c.args.slot inside c.requires.room in
-    let long = ap length c.loop-at.invariant.queued ∙ length-append c.args.queue.now.items (woken (take i row) c.args.old c.args.new start) in
-    omega (arith, fewer, room, long, c.loop-at.invariant.capacity, c.loop-at.queue.ok.0)
+    record {
+      rising = rising_heard heads c.loop-at.heads.items (take i row) c.args.old c.args.new c.loop-at.invariant.nodes c.requires.rising;
+      hears = λ x contained numbered.
+          let was = heard_before row once i lt c.args.old c.args.new start x (subst (λ ns. Contains ns x) c.loop-at.invariant.nodes contained) (numbered ∙ number) in
+          let among : Contains row x.patch.number = (i, lt, any_default row i x.patch.number 0 lt ∙ sym (numbered ∙ number)) in
+          at_row (λ ms. Contains ms x.patch.number → CanHear c.args.old x) start c.args.slot inside (λ d. c.requires.hears x d was) among;
+      live = c.requires.live;
+      room = λ x contained numbered wakes.
+          let fewer = woken_room row once i lt c.args.old c.args.new start x (subst (λ ns. Contains ns x) c.loop-at.invariant.nodes contained) (numbered ∙ number) wakes in
+          let room = at_row (λ ms. length c.args.queue.now.items + length (woken ms c.args.old c.args.new start) ≤ vec_capacity c.args.queue.now) start c.args.slot inside c.requires.room in
+          let long = ap length c.loop-at.invariant.queued ∙ length-append c.args.queue.now.items (woken (take i row) c.args.old c.args.new start) in
+          omega (arith, fewer, room, long, c.loop-at.invariant.capacity, c.loop-at.queue.ok.0);
+    }
 
 pub loop-at-smaller : goal.loop-at-smaller
-loop-at-smaller c =
-    let heads = c.args.heads.now.items in
-    let start = nodes_of heads in
-    let row = row_at start c.args.slot in
-    let i = c.loop-at.at in
-    let inside : c.args.slot < length start = omega (arith, c.requires.slot, length-map heads node_of) in
-    let slot : c.args.slot < length c.loop-at.heads.items = omega (arith, c.requires.slot, length_heard start c.loop-at.heads.items (take i row) c.args.old c.args.new c.loop-at.invariant.nodes, length-map heads node_of) in
-    let here = row_now start c.loop-at.heads.items (take i row) c.args.old c.args.new c.args.slot c.index.result.now slot c.loop-at.invariant.nodes c.index.ensures in
-    omega (arith, c.len.ensures.value, ap length here, c.loop-at-test.true)
+loop-at-smaller c = grind (arith, length-map, length_heard, row_now)
 
 pub loop-at-preserved : goal.loop-at-preserved
 loop-at-preserved c =
@@ -73,11 +43,10 @@ loop-at-preserved c =
     let row = row_at start c.args.slot in
     let i = c.loop-at.at in
     let inside : c.args.slot < length start = omega (arith, c.requires.slot, length-map heads node_of) in
-    let slot : c.args.slot < length c.loop-at.heads.items = omega (arith, c.requires.slot, length_heard start c.loop-at.heads.items (take i row) c.args.old c.args.new c.loop-at.invariant.nodes, length-map heads node_of) in
-    let here = row_now start c.loop-at.heads.items (take i row) c.args.old c.args.new c.args.slot c.index.result.now slot c.loop-at.invariant.nodes c.index.ensures in
+    let here = row_of heads c.loop-at.heads.items (take i row) c.args.old c.args.new c.args.slot c.index.result.now (omega (arith, c.requires.slot)) c.loop-at.invariant.nodes c.index.ensures in
     let lt : i < length row = omega (arith, c.len.ensures.value, ap length here, c.loop-at-test.true) in
     let once = at_row (λ ms. AllPairs (λ m n. m ≢ n) ms) start c.args.slot inside c.requires.once in
-    let named = c.as_slice.ensures ∙ row_now start c.loop-at.heads.items (take i row) c.args.old c.args.new c.args.slot c.index-in-loop-at.result.now slot c.loop-at.invariant.nodes c.index-in-loop-at.ensures in
+    let named = c.as_slice.ensures ∙ row_of heads c.loop-at.heads.items (take i row) c.args.old c.args.new c.args.slot c.index-in-loop-at.result.now (omega (arith, c.requires.slot)) c.loop-at.invariant.nodes c.index-in-loop-at.ensures in
     let number = ap (λ ns. get_or ns i 0) named in
     let before = c.loop-at.invariant in
     let nodes : nodes_of c.hear_at.new.heads.items ≡ map (heard (take (i + 1) row) c.args.old c.args.new) start =
@@ -89,11 +58,7 @@ loop-at-preserved c =
     ∙ ap (woken (get_or row i 0 ∷ []) c.args.old c.args.new) before.nodes in
     record {
       nodes = nodes;
-      queued = c.hear_at.ensures.queued
-          ∙ (ap (λ ms. c.loop-at.queue.items ++ ms) woke
-          ∙ (ap (λ ms. ms ++ woken (get_or row i 0 ∷ []) c.args.old c.args.new (map (heard (take i row) c.args.old c.args.new) start)) before.queued
-          ∙ (append_assoc c.args.queue.now.items (woken (take i row) c.args.old c.args.new start) (woken (get_or row i 0 ∷ []) c.args.old c.args.new (map (heard (take i row) c.args.old c.args.new) start))
-          ∙ ap (λ ms. c.args.queue.now.items ++ ms) (woken_more row once i lt c.args.old c.args.new start))));
+      queued = grind (arith, append_assoc, woken_more);
       len = omega (arith, length_heard start c.hear_at.new.heads.items (take (i + 1) row) c.args.old c.args.new nodes, length-map heads node_of);
       capacity = c.hear_at.ensures.capacity ∙ before.capacity;
       frames = c.hear_at.ensures.frames ∙ before.frames;
@@ -101,25 +66,7 @@ loop-at-preserved c =
     }
 
 pub returns-clause-nodes : goal.returns-clause-nodes
-returns-clause-nodes c d =
-    let heads = c.args.heads.now.items in
-    let start = nodes_of heads in
-    let row = row_at start c.args.slot in
-    let i = c.loop-at.at in
-    let inside : c.args.slot < length start = omega (arith, c.requires.slot, length-map heads node_of) in
-    let slot : c.args.slot < length c.loop-at.heads.items = omega (arith, c.requires.slot, length_heard start c.loop-at.heads.items (take i row) c.args.old c.args.new c.loop-at.invariant.nodes, length-map heads node_of) in
-    let here = row_now start c.loop-at.heads.items (take i row) c.args.old c.args.new c.args.slot c.index.result.now slot c.loop-at.invariant.nodes c.index.ensures in
-    let all = take_all i row (omega (arith, c.len.ensures.value, ap length here, c.loop-at-test.false)) in
-    c.loop-at.invariant.nodes ∙ ap (λ ms. map (heard ms c.args.old c.args.new) start) (all ∙ sym (row_is start c.args.slot d inside))
+returns-clause-nodes c d = search (rules, length-map, length_heard, row_now, take_all, row_is)
 
 pub returns-clause-queued : goal.returns-clause-queued
-returns-clause-queued c d =
-    let heads = c.args.heads.now.items in
-    let start = nodes_of heads in
-    let row = row_at start c.args.slot in
-    let i = c.loop-at.at in
-    let inside : c.args.slot < length start = omega (arith, c.requires.slot, length-map heads node_of) in
-    let slot : c.args.slot < length c.loop-at.heads.items = omega (arith, c.requires.slot, length_heard start c.loop-at.heads.items (take i row) c.args.old c.args.new c.loop-at.invariant.nodes, length-map heads node_of) in
-    let here = row_now start c.loop-at.heads.items (take i row) c.args.old c.args.new c.args.slot c.index.result.now slot c.loop-at.invariant.nodes c.index.ensures in
-    let all = take_all i row (omega (arith, c.len.ensures.value, ap length here, c.loop-at-test.false)) in
-    c.loop-at.invariant.queued ∙ ap (λ ms. c.args.queue.now.items ++ woken ms c.args.old c.args.new start) (all ∙ sym (row_is start c.args.slot d inside))
+returns-clause-queued c d = grind (arith, length-map, length_heard, row_now, take_all, row_is)

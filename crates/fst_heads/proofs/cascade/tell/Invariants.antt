@@ -1,7 +1,5 @@
-use Rattle.std.proofs.Common.{◌≡◌, ◌-◌, ◌++◌, length, map, take, vec_len, vec_capacity}
-use Rattle.fst_heads.specs.Frames.{frames_of}
-use Rattle.fst_heads.specs.Nodes.{nodes_of}
-use Rattle.fst_heads.specs.Spreading.{heard, woken}
+use Rattle.fst_heads.proofs.Basics.{◌≡◌, ◌-◌, ◌++◌, length, map, take, vec_len, vec_capacity}
+use Rattle.fst_heads.proofs.Words.{frames_of, nodes_of, heard, woken}
 use Rattle.fst_heads.proofs.Slotted.{row_at}
 use Rattle.fst_heads.proofs.cascade.tell.Given as goal
 

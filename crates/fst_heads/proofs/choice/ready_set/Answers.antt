@@ -1,9 +1,5 @@
-use Rattle.std.proofs.Common.{option_map, ◌∙◌, ◌+◌, ◌++◌, ◌∷◌, ℕ, Bool, [], length, drop, get_or, append_assoc, length-append, ap, sym, refl, arith}
-use Rattle.fst_heads.specs.declared.lists.Listed.{Listed}
-use Rattle.fst_heads.specs.Ascending.{is_free_on}
-use Rattle.fst_heads.specs.Names.{numbers_of}
-use Rattle.fst_heads.specs.Marks.{mark_in}
-use Rattle.std.proofs.lemmas.List.{map_push}
+use Rattle.fst_heads.proofs.Basics.{option_map, ◌∙◌, ◌+◌, ◌++◌, ◌∷◌, ℕ, Bool, [], drop, get_or, append_assoc, length-append, ap, sym, arith, map_push}
+use Rattle.fst_heads.proofs.Words.{Listed, is_free_on, numbers_of, mark_in}
 use Rattle.fst_heads.proofs.Passing.{passing, passing_start, passing_found, passing_skip, passing_absent, free_at, free_listed}
 use Rattle.fst_heads.proofs.choice.ready_set.Goals as goal
 use Rattle.fst_heads.proofs.choice.ready_set.Goals.{in-Some+then-is_free+in-Ok, in-Some+else-is_free, in_default}
@@ -15,20 +11,7 @@ loop-listed-init c =
     rw c.new-numbers.ensures.items (passing_start b (is_free_on behind b) (free_listed behind b) c.args.heads.now c.args.list.now c.requires.rising c.requires.listed)
 
 pub returns-in_default-push-clause-refused : goal.returns-in_default-push-clause-refused
-returns-in_default-push-clause-refused c =
-    let b = c.args.block in
-    let heads = c.args.heads.now in
-    let list = c.args.list.now in
-    let i = c.loop-listed.listed-index in
-    let none : Listed = record { number = 0; span = record { at = 0; len = 0 } } in
-    let behind : ℕ → Bool = mark_in heads (option_map (λ m. m.now) c.args.marks) in
-    let found = c.in-Some.ensures.found in
-    let passes = free_at behind b c.index-heads-slot.result (get_or heads c.in-Some.slot c.index-heads-slot.result) (get_or list i none).number c.is_behind-behind.result c.is_free.result c.index-heads-slot.is (found.1 c.index-heads-slot.result) c.is_behind-behind.ensures c.is_free.ensures ∙ c.if-is_free.true in
-    let next = passing_found (is_free_on behind b) heads list i none c.loop-listed-test.true c.in-Some.slot c.index-heads-slot.result c.requires.rising found passes in
-    let whole = ap length c.loop-listed.invariant in
-    let parts = length-append (numbers_of c.loop-listed.numbers.items) (passing (is_free_on behind b) heads (drop i list)) in
-    let rest = ap length next in
-    (omega (arith, whole, parts, rest), refl)
+returns-in_default-push-clause-refused c = grind (arith, free_at, passing_found, length-append)
 
 pub loop-listed-preserved : goal.loop-listed-preserved
 loop-listed-preserved c =

@@ -1,8 +1,5 @@
-use Rattle.std.proofs.Common.{option_map, ◌≡◌, ◌++◌, drop}
-use Rattle.fst_heads.specs.Ascending.{is_free_on, free_on}
-use Rattle.fst_heads.specs.Names.{numbers_of}
-use Rattle.fst_heads.specs.Marks.{mark_in}
-use Rattle.fst_heads.specs.Nodes.{nodes_of}
+use Rattle.fst_heads.proofs.Basics.{option_map, ◌≡◌, ◌++◌, drop}
+use Rattle.fst_heads.proofs.Words.{is_free_on, free_on, numbers_of, mark_in, nodes_of}
 use Rattle.fst_heads.proofs.Passing.{passing}
 use Rattle.fst_heads.proofs.choice.ready_set.Given as goal
 

@@ -1,4 +1,4 @@
-use Rattle.std.proofs.Common.{◌≡◌, ◌≤◌, vec_len, vec_capacity}
+use Rattle.fst_heads.proofs.Basics.{◌≡◌, ◌≤◌, vec_len, vec_capacity}
 use Rattle.fst_heads.proofs.cover.empty_covers.Given as goal
 
 abbrev pub invariant-loop : goal.invariant-loop

@@ -1,10 +1,6 @@
-use Rattle.std.proofs.Common.{◌∙◌, sym}
-use Rattle.std.proofs.lemmas.Bool.{false≢true}
-use Rattle.fst_heads.specs.Heads.{patches_of}
-use Rattle.fst_heads.specs.Names.{numbers_of}
-use Rattle.fst_heads.specs.Rows.{IsMissing}
-use Rattle.fst_heads.proofs.Rows.{gathers_more, gathers_skip, gathers_all}
-use Rattle.fst_heads.proofs.Missing.{missing_list}
+use Rattle.fst_heads.proofs.Basics.{◌∙◌, sym, false≢true}
+use Rattle.fst_heads.proofs.Words.{patches_of, numbers_of, IsMissing}
+use Rattle.fst_heads.proofs.Rows.{gathers_more, gathers_skip, gathers_all, missing_list}
 use Rattle.fst_heads.proofs.growth.missing_names.Goals as goal
 use Rattle.fst_heads.proofs.growth.missing_names.Goals.{then-is_missing+in_ok-put, else-is_missing}
 

@@ -1,5 +1,4 @@
-use Rattle.fst_heads.specs.Heads.{patches_of}
-use Rattle.fst_heads.specs.Rows.{IsMissing}
+use Rattle.fst_heads.proofs.Words.{patches_of, IsMissing}
 use Rattle.fst_heads.proofs.Rows.{Gathers}
 use Rattle.fst_heads.proofs.growth.missing_names.Given as goal
 

@@ -1,35 +1,16 @@
-use Rattle.std.proofs.Common.{◌≡◌, ◌∙◌, get_or, map, ap, sym, subst, take, refl, arith}
-use Rattle.smallvec.specs.SmallVec.{HasRoomFor}
-use Rattle.fst_heads.specs.declared.head.Head.{Head}
-use Rattle.fst_heads.specs.Heads.{patch_of}
-use Rattle.fst_heads.specs.Marks.{HasSlot, HasNone}
-use Rattle.fst_heads.specs.Nodes.{node_of, nodes_of, at_number}
+use Rattle.fst_heads.proofs.Basics.{◌≡◌, ◌∙◌, get_or, map, ap, subst, take, arith, rules}
+use Rattle.fst_heads.proofs.Words.{Head, patch_of, HasSlot, node_of, nodes_of, at_number}
 use Rattle.fst_heads.proofs.AtNumber.{at_none, at_slot}
 use Rattle.fst_heads.proofs.Framed.{still_below}
-use Rattle.fst_heads.proofs.Linking.{adds, rising_linked, room_first, room_left, room_fewer, room_here, link_none, link_more}
+use Rattle.fst_heads.proofs.Linking.{adds, rising_linked, room_first, room_left, room_fewer, link_none, link_more}
 use Rattle.fst_heads.proofs.links.link.Goals as goal
 use Rattle.fst_heads.proofs.links.link.Goals.{in-Some, in_default}
 
 pub loop-other-init : goal.loop-other-init
-loop-other-init c = record {
-  nodes = sym (link_none (nodes_of c.args.heads.now.items) c.args.number);
-  room = room_first c.args.heads.now.items c.args.row.now c.requires.room;
-  below = λ n room. room;
-  len = refl;
-  capacity = refl;
-}
+loop-other-init c = search (rules, link_none, room_first)
 
 pub slot_of-requires : goal.slot_of-requires
 slot_of-requires c = rw c.deref.ensures.value (rising_linked c.loop-other.heads.items c.args.heads.now.items (take c.loop-other.other-index c.args.row.now) c.args.number c.loop-other.invariant.nodes c.requires.rising)
-
-pub push_reserved-requires : goal.push_reserved-requires
-push_reserved-requires c =
-    let heads = c.loop-other.heads.items in
-    let row = c.args.row.now in
-    let i = c.loop-other.other-index in
-    let slot = subst (λ hs. HasSlot hs (get_or row i 0) c.in-Some.slot) c.deref.ensures.value c.in-Some.ensures.found in
-    let room = room_here heads row i c.in-Some.slot c.index_mut.result.now c.loop-other-test.true slot c.loop-other.invariant.room in
-    (omega arith, subst (λ (h : Head). HasRoomFor h.dependants 1) (sym c.index_mut.ensures.value) room)
 
 pub loop-other-preserved : goal.loop-other-preserved
 loop-other-preserved c =
@@ -55,14 +36,5 @@ loop-other-preserved c =
             len = before.len;
             capacity = before.capacity;
           })
-      | in_default w ↦
-          let none = subst (λ hs. HasNone hs (get_or row i 0)) c.deref.ensures.value w.in_default.ensures.none in
-          rw w.heads-is
-          (record {
-            nodes = at_none heads (get_or row i 0) (adds n) none ∙ (ap (λ xs. map (at_number (get_or row i 0) (adds n)) xs) before.nodes ∙ more);
-            room = room_fewer heads row i before.room;
-            below = before.below;
-            len = before.len;
-            capacity = before.capacity;
-          })
+      | in_default w ↦ grind (arith, at_none, room_fewer)
     ]

@@ -1,6 +1,5 @@
-use Rattle.std.proofs.Common.{◌≡◌, ℕ, map, take, vec_len, vec_capacity}
-use Rattle.fst_heads.specs.Frames.{HasRoomBelow}
-use Rattle.fst_heads.specs.Nodes.{nodes_of, linked_to}
+use Rattle.fst_heads.proofs.Basics.{◌≡◌, ℕ, map, take, vec_len, vec_capacity}
+use Rattle.fst_heads.proofs.Words.{HasRoomBelow, nodes_of, linked_to}
 use Rattle.fst_heads.proofs.Linking.{HasRoomFrom}
 use Rattle.fst_heads.proofs.links.link.Given as goal
 

@@ -1,9 +1,6 @@
-use Rattle.std.proofs.Common.{◌≡◌, ◌∙◌, get_or, ap, subst}
-use Rattle.fst_heads.specs.declared.head.Head.{Head}
-use Rattle.fst_heads.specs.Heads.{patch_of}
-use Rattle.fst_heads.specs.Marks.{HasSlot, HasNone}
-use Rattle.fst_heads.specs.Nodes.{node_of}
-use Rattle.fst_heads.proofs.Linking.{rising_same, nodes_set, room_more, room_skip, room_all}
+use Rattle.fst_heads.proofs.Basics.{◌≡◌, ◌∙◌, get_or, ap, subst, arith}
+use Rattle.fst_heads.proofs.Words.{Head, patch_of, HasSlot, node_of}
+use Rattle.fst_heads.proofs.Linking.{rising_same, nodes_set, room_more, room_skip}
 use Rattle.fst_heads.proofs.links.reserve_above.Goals as goal
 use Rattle.fst_heads.proofs.links.reserve_above.Goals.{in-Some+in_ok-reserve, in_default}
 
@@ -30,15 +27,5 @@ loop-number-preserved c =
             len = before.len;
             capacity = before.capacity;
           })
-      | in_default w ↦
-          rw w.heads-is
-          (record {
-            nodes = before.nodes;
-            room = room_skip heads row i (subst (λ hs. HasNone hs (get_or row i 0)) c.deref.ensures.value w.in_default.ensures.none) before.room;
-            len = before.len;
-            capacity = before.capacity;
-          })
+      | in_default w ↦ grind (arith, room_skip)
     ]
-
-pub returns-clause-room : goal.returns-clause-room
-returns-clause-room c = room_all c.loop-number.heads.items c.args.row.now c.loop-number.number-index c.loop-number-test.false c.loop-number.invariant.room

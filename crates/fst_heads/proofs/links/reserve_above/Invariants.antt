@@ -1,5 +1,5 @@
-use Rattle.std.proofs.Common.{◌≡◌, vec_len, vec_capacity}
-use Rattle.fst_heads.specs.Nodes.{nodes_of}
+use Rattle.fst_heads.proofs.Basics.{◌≡◌, vec_len, vec_capacity}
+use Rattle.fst_heads.proofs.Words.{nodes_of}
 use Rattle.fst_heads.proofs.Linking.{HasRoomUpTo}
 use Rattle.fst_heads.proofs.links.reserve_above.Given as goal
 

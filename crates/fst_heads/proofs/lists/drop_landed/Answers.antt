@@ -1,9 +1,8 @@
-use Rattle.std.proofs.Common.{rules, not, ◌∙◌, ap}
-use Rattle.fst_types.specs.Tests.{is_among}
-use Rattle.fst_heads.specs.Lists.{entries_of}
-use Rattle.fst_heads.specs.declared.lists.Listed.{Listed}
+use Rattle.fst_heads.proofs.Basics.{rules, not, ◌∙◌, ap}
+use Rattle.fst_heads.proofs.Patches.{is_among}
+use Rattle.fst_heads.proofs.Words.{entries_of, Listed}
 use Rattle.fst_heads.proofs.Forgetting.{filter_from_test}
-use Rattle.fst_heads.proofs.Relisting.{entries_filter}
+use Rattle.fst_heads.proofs.Listing.{entries_filter}
 use Rattle.fst_heads.proofs.lists.drop_landed.Goals as goal
 
 pub returns : goal.returns

@@ -1,25 +1,14 @@
-use Rattle.std.proofs.Common.{◌≡◌, ◌∙◌, List, Vec, Global, not, map, filter, length, refl, sym, ap, subst, arith}
-use Rattle.std.proofs.lemmas.List.{map-set}
-use Rattle.std.proofs.lemmas.Bool.{false≢true}
-use Rattle.std.specs.List.Sorted.{IsStrictlyIncreasing}
-use Rattle.fst_types.specs.Tests.{is_among}
-use Rattle.fst_heads.specs.declared.lists.Listed.{Listed}
-use Rattle.fst_heads.specs.Heads.{patches_of}
-use Rattle.fst_heads.specs.Lists.{Entry, entries_of, entries_on}
-use Rattle.fst_heads.proofs.Relisting.{listed_landed, flying_rise}
-use Rattle.fst_heads.proofs.Listing.{listed_at, rising_patches, heads_landed, nothing_lands, nothing_flies, is_off}
+use Rattle.fst_heads.proofs.Basics.{◌≡◌, ◌∙◌, List, Vec, Global, not, map, filter, length, refl, sym, ap, arith, map-set, false≢true, rules}
+use Rattle.fst_heads.proofs.Patches.{is_among}
+use Rattle.fst_heads.proofs.Words.{Listed, patches_of, Entry, entries_of, entries_on}
+use Rattle.fst_heads.proofs.Listing.{listed_landed, flying_rise, listed_at, rising_patches, heads_landed, nothing_lands, nothing_flies, is_off}
 use Rattle.fst_heads.proofs.lists.land_block.Goals as goal
 
 pub land_listed-requires-clause-listed : goal.land_listed-requires-clause-listed
-land_listed-requires-clause-listed c =
-    let f : Vec Listed Global → List Entry = λ v. entries_of v.items in
-    let inside = c.in-Some.ensures.variant.0 refl in
-    ap entries_of c.deref.ensures.value ∙ listed_at f _ c.args.lists.now.items c.args.block c.in-Some.list.now (omega (arith, inside, c.args.lists.now.ok.0)) c.in-Some.ensures.value c.requires.listed
+land_listed-requires-clause-listed c = grind (arith, listed_at)
 
 pub drop_landed-requires : goal.drop_landed-requires
-drop_landed-requires c =
-    let heads = c.args.heads.now.items in
-    subst IsStrictlyIncreasing (sym (c.deref-in-Some.ensures.value ∙ c.land_listed.ensures.queued)) (flying_rise c.args.block (patches_of heads) (rising_patches heads c.requires.rising))
+drop_landed-requires c = search (rules, flying_rise, rising_patches)
 
 pub returns-in-Some-clause-listed : goal.returns-in-Some-clause-listed
 returns-in-Some-clause-listed c =

@@ -1,13 +1,7 @@
-use Rattle.std.proofs.Common.{◌≡◌, ◌∙◌, map, drop, get_or, refl, sym, ap, subst, arith}
-use Rattle.std.proofs.lemmas.List.{drop_more}
-use Rattle.fst_types.specs.declared.place.Place.TheVariants as place
-use Rattle.fst_types.specs.Tests.{is_change_at}
-use Rattle.fst_heads.specs.declared.lists.Listed.{Listed}
-use Rattle.fst_heads.specs.Heads.{patch_of, patches_of}
-use Rattle.fst_heads.specs.Lists.{entries_of, flying_on}
-use Rattle.fst_heads.specs.Nodes.{nodes_of}
-use Rattle.fst_heads.specs.Spreading.{lands}
-use Rattle.fst_heads.specs.Marks.{HasSlot, HasNone}
+use Rattle.fst_heads.proofs.Basics.{◌≡◌, ◌∙◌, map, get_or, refl, sym, ap, subst, arith, drop_more}
+use Rattle.fst_heads.proofs.Patches.{is_change_at}
+use Rattle.fst_heads.proofs.Patches.place
+use Rattle.fst_heads.proofs.Words.{Listed, patch_of, patches_of, entries_of, flying_on, nodes_of, lands, HasSlot, HasNone}
 use Rattle.fst_heads.proofs.Listing.{landing_none, landing_full, landing_absent, landing_skip, landing_disk, landing_room}
 use Rattle.fst_heads.proofs.lists.land_listed.Goals as goal
 use Rattle.fst_heads.proofs.lists.land_listed.Goals.{in-Some+then-is_change_at, in-Some+else-is_change_at, in_default}
@@ -20,9 +14,7 @@ loop-listed-init c = record {
 
 -- as many landed as fly
 all_landed : (c : goal.Then-len-flying) → (nodes_of c.loop-listed.heads.items ≡ map (lands c.args.block) (nodes_of c.args.heads.now.items)) × (c.loop-listed.queue.items ≡ flying_on c.args.block (patches_of c.args.heads.now.items))
-all_landed c =
-    landing_full c.args.block c.args.heads.now.items c.loop-listed.heads.items (map (λ e. e.number) (entries_of (drop c.loop-listed.listed-index c.args.list.now))) c.loop-listed.queue.items c.loop-listed.invariant.landing
-    (omega (arith, c.requires.flying, c.len.ensures, c.if-len-flying.true))
+all_landed c = grind (arith, landing_full)
 
 pub push_reserved-requires : goal.push_reserved-requires
 push_reserved-requires c =
@@ -65,6 +57,3 @@ loop-listed-preserved c =
 
 pub returns-then-len-flying-clause-nodes : goal.returns-then-len-flying-clause-nodes
 returns-then-len-flying-clause-nodes c = (all_landed c).0
-
-pub returns-then-len-flying-clause-queued : goal.returns-then-len-flying-clause-queued
-returns-then-len-flying-clause-queued c = (all_landed c).1

@@ -1,5 +1,5 @@
-use Rattle.std.proofs.Common.{◌≡◌, map, drop, vec_capacity}
-use Rattle.fst_heads.specs.Lists.{entries_of}
+use Rattle.fst_heads.proofs.Basics.{◌≡◌, map, drop, vec_capacity}
+use Rattle.fst_heads.proofs.Words.{entries_of}
 use Rattle.fst_heads.proofs.Listing.{Landing}
 use Rattle.fst_heads.proofs.lists.land_listed.Given as goal
 

@@ -1,5 +1,4 @@
-use Rattle.std.proofs.Common.{rules, refl}
-use Rattle.std.proofs.lemmas.List.Sorted.{answers_always}
+use Rattle.fst_heads.proofs.Basics.{rules, refl, answers_always}
 use Rattle.fst_heads.proofs.Slots.{searched}
 use Rattle.fst_heads.proofs.marks.slot_of.Goals as goal
 

@@ -1,8 +1,6 @@
-use Rattle.std.proofs.Common.{◌≡◌, ◌∙◌, ℕ, List, Contains, get_or, ap, sym, subst, inl, inr}
-use Rattle.fst_types.specs.Patches.{Patch, block_of_kind}
-use Rattle.fst_heads.specs.declared.head.Head.{Head}
-use Rattle.fst_heads.specs.Heads.{IsRising, kind_of, patches_of}
-use Rattle.fst_heads.specs.Marks.{HasSlot}
+use Rattle.fst_heads.proofs.Basics.{◌≡◌, ◌∙◌, ℕ, List, Contains, get_or, ap, sym, subst, inl, inr}
+use Rattle.fst_heads.proofs.Patches.{Patch, block_of_kind}
+use Rattle.fst_heads.proofs.Words.{Head, IsRising, kind_of, patches_of, HasSlot}
 use Rattle.fst_heads.proofs.Slots.{patch_is, slot_in, patch_slot, none_slot}
 use Rattle.fst_heads.proofs.places.block_of.Goals as goal
 

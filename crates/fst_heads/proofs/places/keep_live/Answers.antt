@@ -1,7 +1,5 @@
-use Rattle.std.proofs.Common.{rules, arith, ◌∙◌, ap}
-use Rattle.std.proofs.lemmas.List.Elements.{filter_from_retain}
-use Rattle.fst_heads.specs.Nodes.{nodes_of}
-use Rattle.fst_heads.specs.Tests.{is_live_place}
+use Rattle.fst_heads.proofs.Basics.{rules, arith, ◌∙◌, ap, filter_from_retain}
+use Rattle.fst_heads.proofs.Words.{nodes_of, is_live_place}
 use Rattle.fst_heads.proofs.Beside.{all_live}
 use Rattle.fst_heads.proofs.Forgetting.{live_heads}
 use Rattle.fst_heads.proofs.places.keep_live.Goals as goal
@@ -10,6 +8,4 @@ pub returns : goal.returns
 returns c = ap nodes_of (filter_from_retain _ (λ h. is_live_place h.place) (λ f x b g called. search rules) _ _ _ c.retain.ensures.filtered) ∙ live_heads c.args.heads.now.items
 
 pub returns-then-live-len : goal.returns-then-live-len
-returns-then-live-len c =
-    let heads = c.args.heads.now.items in
-    all_live heads (omega (arith, c.requires, c.if-live-len.true, c.len.ensures, c.args.heads.now.ok.0))
+returns-then-live-len c = grind (arith, all_live)

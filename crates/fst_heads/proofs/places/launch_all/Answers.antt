@@ -1,11 +1,6 @@
-use Rattle.std.proofs.Common.{◌∙◌, ◌∷◌, [], map, take, get_or, sym, ap}
-use Rattle.std.proofs.lemmas.List.{take_more}
-use Rattle.fst_types.specs.declared.number.PatchNo.{PatchNo}
-use Rattle.fst_heads.specs.Names.{numbers_of}
-use Rattle.fst_heads.specs.Nodes.{nodes_of}
-use Rattle.fst_heads.specs.Spreading.{launches}
-use Rattle.std.proofs.lemmas.List.{map_push}
-use Rattle.fst_heads.proofs.Launching.{launched_start, launched_more, rising_launched}
+use Rattle.fst_heads.proofs.Basics.{take, take_more, map_push, arith, common_steps}
+use Rattle.fst_heads.proofs.Words.{numbers_of, nodes_of}
+use Rattle.fst_heads.proofs.Placed.{launched_start, launched_more, rising_launched}
 use Rattle.fst_heads.proofs.places.launch_all.Goals as goal
 
 pub loop-no-init : goal.loop-no-init
@@ -15,12 +10,4 @@ pub launch_at-requires : goal.launch_at-requires
 launch_at-requires c = rising_launched c.loop-no.heads.items c.args.heads.now.items (numbers_of (take c.loop-no.no-index c.args.chosen.now)) c.loop-no.invariant c.requires
 
 pub loop-no-preserved : goal.loop-no-preserved
-loop-no-preserved c =
-    let chosen = c.args.chosen.now in
-    let i = c.loop-no.no-index in
-    let none : PatchNo = record { 0 = 0 } in
-    let more = ap numbers_of (take_more chosen i none c.loop-no-test.true) ∙ map_push (λ (n : PatchNo). n.0) (take i chosen) (get_or chosen i none) in
-    c.launch_at.ensures
-    ∙ (ap (λ xs. map (launches ((get_or chosen i none).0 ∷ [])) xs) c.loop-no.invariant
-    ∙ (launched_more (nodes_of c.args.heads.now.items) (numbers_of (take i chosen)) (get_or chosen i none).0
-    ∙ ap (λ ns. map (launches ns) (nodes_of c.args.heads.now.items)) (sym more)))
+loop-no-preserved c = grind (arith, common_steps, take_more, map_push, launched_more)

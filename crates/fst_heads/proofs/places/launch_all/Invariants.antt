@@ -1,7 +1,5 @@
-use Rattle.std.proofs.Common.{◌≡◌, map, take}
-use Rattle.fst_heads.specs.Names.{numbers_of}
-use Rattle.fst_heads.specs.Nodes.{nodes_of}
-use Rattle.fst_heads.specs.Spreading.{launches}
+use Rattle.fst_heads.proofs.Basics.{◌≡◌, map, take}
+use Rattle.fst_heads.proofs.Words.{numbers_of, nodes_of, launches}
 use Rattle.fst_heads.proofs.places.launch_all.Given as goal
 
 abbrev pub invariant-loop-no : goal.invariant-loop-no

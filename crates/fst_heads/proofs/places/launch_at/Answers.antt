@@ -1,7 +1,6 @@
-use Rattle.std.proofs.Common.{ap, subst}
-use Rattle.fst_heads.specs.Marks.{HasSlot, HasNone}
-use Rattle.fst_heads.specs.Nodes.{node_of}
-use Rattle.fst_heads.proofs.Launching.{flies, launched_none, launched_slot}
+use Rattle.fst_heads.proofs.Basics.{ap, subst}
+use Rattle.fst_heads.proofs.Words.{HasSlot, HasNone, node_of}
+use Rattle.fst_heads.proofs.Placed.{flies, launched_none, launched_slot}
 use Rattle.fst_heads.proofs.places.launch_at.Goals as goal
 
 pub returns-in-Some : goal.returns-in-Some

@@ -1,8 +1,5 @@
-use Rattle.std.proofs.Common.{◌∙◌, ◌+◌, get_or, drop, sym, ap}
-use Rattle.std.proofs.lemmas.List.{drop_more}
-use Rattle.fst_heads.specs.declared.lists.Listed.{Listed}
-use Rattle.fst_heads.specs.Heads.{patches_of}
-use Rattle.fst_heads.specs.Lists.{entry_of, entries_of}
+use Rattle.fst_heads.proofs.Basics.{◌∙◌, ◌+◌, get_or, drop, sym, ap, drop_more}
+use Rattle.fst_heads.proofs.Words.{Listed, patches_of, entry_of, entries_of}
 use Rattle.fst_heads.proofs.Touching.{touches_none, touches_more, touches_skip}
 use Rattle.fst_heads.proofs.row.dependencies_of.Goals as goal
 use Rattle.fst_heads.proofs.row.dependencies_of.Goals.{then-shares+in_ok-put, else-shares}

@@ -1,6 +1,5 @@
-use Rattle.std.proofs.Common.{drop}
-use Rattle.fst_heads.specs.Heads.{patches_of}
-use Rattle.fst_heads.specs.Lists.{entries_of}
+use Rattle.fst_heads.proofs.Basics.{drop}
+use Rattle.fst_heads.proofs.Words.{patches_of, entries_of}
 use Rattle.fst_heads.proofs.Touching.{Touches}
 use Rattle.fst_heads.proofs.row.dependencies_of.Given as goal
 

@@ -1,4 +1,4 @@
-use Rattle.std.proofs.Common.{◌∙◌, sym}
+use Rattle.fst_heads.proofs.Basics.{◌∙◌, sym}
 use Rattle.fst_heads.proofs.Slots.{live_at, not_live_none}
 use Rattle.fst_heads.proofs.row.is_live_number.Goals as goal
 

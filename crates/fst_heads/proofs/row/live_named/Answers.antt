@@ -1,7 +1,6 @@
-use Rattle.std.proofs.Common.{◌∙◌, sym}
-use Rattle.std.proofs.lemmas.Bool.{false≢true}
-use Rattle.fst_types.specs.Dependencies.{IsLiveNumber}
-use Rattle.fst_heads.specs.Heads.{patches_of}
+use Rattle.fst_heads.proofs.Basics.{◌∙◌, sym, false≢true}
+use Rattle.fst_heads.proofs.Patches.{IsLiveNumber}
+use Rattle.fst_heads.proofs.Words.{patches_of}
 use Rattle.fst_heads.proofs.Rows.{gathers_more, gathers_skip, gathers_all}
 use Rattle.fst_heads.proofs.row.live_named.Goals as goal
 use Rattle.fst_heads.proofs.row.live_named.Goals.{then-is_live_number+in_ok-put, else-is_live_number}

@@ -1,5 +1,5 @@
-use Rattle.fst_types.specs.Dependencies.{IsLiveNumber}
-use Rattle.fst_heads.specs.Heads.{patches_of}
+use Rattle.fst_heads.proofs.Patches.{IsLiveNumber}
+use Rattle.fst_heads.proofs.Words.{patches_of}
 use Rattle.fst_heads.proofs.Rows.{Gathers}
 use Rattle.fst_heads.proofs.row.live_named.Given as goal
 

@@ -1,4 +1,4 @@
-use Rattle.std.proofs.Common.{sym}
+use Rattle.fst_heads.proofs.Basics.{sym}
 use Rattle.fst_heads.proofs.PendingAt.{pending_slot, pending_none}
 use Rattle.fst_heads.proofs.row.pending_at.Goals as goal
 

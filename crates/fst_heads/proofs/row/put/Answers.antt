@@ -1,6 +1,4 @@
-use Rattle.std.proofs.Common.{subst, refl, Err}
-use Rattle.std.specs.List.Sorted.{IsBinarySearchResult}
-use Rattle.std.specs.Ordering.{nat_cmp}
+use Rattle.fst_heads.proofs.Basics.{subst, refl, Err, IsBinarySearchResult, nat_cmp}
 use Rattle.fst_heads.proofs.Rows.{gains_new}
 use Rattle.fst_heads.proofs.row.put.Goals as goal
 

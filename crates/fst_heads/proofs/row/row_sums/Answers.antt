@@ -1,6 +1,5 @@
-use Rattle.std.proofs.Common.{◌≡◌, ◌≤◌, ◌+◌, ◌∙◌, get_or, sym, ap}
-use Rattle.fst_heads.specs.Nodes.{nodes_of, pending_in}
-use Rattle.fst_heads.specs.Pendings.{plus}
+use Rattle.fst_heads.proofs.Basics.{◌≡◌, ◌≤◌, ◌+◌, ◌∙◌, get_or, sym, ap}
+use Rattle.fst_heads.proofs.Words.{nodes_of, pending_in, plus}
 use Rattle.fst_heads.proofs.Joining.{few_plus}
 use Rattle.fst_heads.proofs.PendingAt.{sums_more}
 use Rattle.fst_heads.proofs.row.row_sums.Goals as goal

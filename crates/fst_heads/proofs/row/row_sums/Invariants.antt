@@ -1,6 +1,5 @@
-use Rattle.std.proofs.Common.{◌≡◌, ◌≤◌, take}
-use Rattle.fst_heads.specs.Nodes.{nodes_of, pending_in}
-use Rattle.fst_heads.specs.Pendings.{Fits, sums_of}
+use Rattle.fst_heads.proofs.Basics.{◌≡◌, ◌≤◌, take}
+use Rattle.fst_heads.proofs.Words.{nodes_of, pending_in, Fits, sums_of}
 use Rattle.fst_heads.proofs.row.row_sums.Given as goal
 
 abbrev pub invariant-loop-number : goal.invariant-loop-number

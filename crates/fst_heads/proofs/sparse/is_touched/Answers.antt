@@ -1,6 +1,5 @@
-use Rattle.std.proofs.Common.{◌≡◌, ◌∙◌, get_or, sym, ap}
-use Rattle.fst_heads.specs.Heads.{patch_of}
-use Rattle.fst_heads.specs.Rows.{touches}
+use Rattle.fst_heads.proofs.Basics.{◌≡◌, ◌∙◌, get_or, sym, ap}
+use Rattle.fst_heads.proofs.Words.{patch_of, touches}
 use Rattle.fst_heads.proofs.Newest.{touched_at, touched_none}
 use Rattle.fst_heads.proofs.sparse.is_touched.Goals as goal
 

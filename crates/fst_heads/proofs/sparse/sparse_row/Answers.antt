@@ -1,6 +1,5 @@
-use Rattle.std.proofs.Common.{◌∙◌, sym, IfOk, Result, Ok, Err, arith}
-use Rattle.fst_heads.specs.Heads.{patches_of}
-use Rattle.fst_heads.specs.Names.{numbers_of}
+use Rattle.fst_heads.proofs.Basics.{◌∙◌, sym, IfOk, Result, Ok, Err, arith, rules}
+use Rattle.fst_heads.proofs.Words.{patches_of, numbers_of}
 use Rattle.fst_heads.proofs.Newest.{whole_is_sparse, newest_are_sparse}
 use Rattle.fst_heads.proofs.sparse.sparse_row.Goals as goal
 
@@ -9,9 +8,7 @@ weaker P Q f (Ok x) p = f x p
 weaker P Q f (Err e) p = p
 
 pub returns-then-span-eq0 : goal.returns-then-span-eq0
-returns-then-span-eq0 c =
-    let w = c.args.wanted.now in
-    weaker _ _ (λ row. whole_is_sparse (patches_of c.args.heads.now) (numbers_of w.names.now) w.block w.span.at w.span.len row.items) c.dependencies_of.result c.dependencies_of.ensures
+returns-then-span-eq0 c = search (rules, weaker, whole_is_sparse)
 
 pub returns : goal.returns
 returns c =

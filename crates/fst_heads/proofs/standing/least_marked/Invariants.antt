@@ -1,6 +1,5 @@
-use Rattle.std.proofs.Common.{◌≡◌, ◌<◌, ℕ, false, get_or}
-use Rattle.fst_heads.specs.declared.standing.Standing.{Standing}
-use Rattle.fst_heads.specs.Standings.{may_be_written}
+use Rattle.fst_heads.proofs.Basics.{◌≡◌, ◌<◌, ℕ, false, get_or}
+use Rattle.fst_heads.proofs.Words.{Standing, may_be_written}
 use Rattle.fst_heads.proofs.standing.least_marked.Given as goal
 
 abbrev pub invariant-loop-block : goal.invariant-loop-block

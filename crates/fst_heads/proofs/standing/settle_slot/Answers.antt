@@ -1,29 +1,18 @@
-use Rattle.std.proofs.Common.{◌≡◌, ◌<◌, ◌∙◌, ◌&&◌, ℕ, Bool, List, length, set, get_or, vec_len, Vec, Global, true, false, refl, sym, ap, subst, arith}
-use Rattle.std.proofs.lemmas.Bool.{and_right}
-use Rattle.fst_types.specs.declared.grade.Grade.{Grade}
-use Rattle.fst_types.specs.declared.place.Place.{Place}
-use Rattle.fst_types.specs.declared.place.Place.TheVariants as place
+use Rattle.fst_heads.proofs.Basics.{◌≡◌, ◌<◌, ◌∙◌, ◌&&◌, ℕ, Bool, List, length, set, get_or, vec_len, Vec, Global, true, false, refl, sym, ap, subst, arith, and_right, rules, common_steps}
 use Rattle.fst_types.specs.declared.span.Span.{Span}
-use Rattle.fst_types.specs.Tests.{is_at, is_on}
-use Rattle.fst_heads.specs.declared.head.Head.{Head}
+use Rattle.fst_heads.proofs.Patches.{Grade, Place, is_at, is_on}
+use Rattle.fst_heads.proofs.Patches.place
+use Rattle.fst_heads.proofs.Words.{Head, Standing, kind_of, Node, node_of, nodes_of, Pending, Fits, Sinks, is_pending, now, is_told, settles, AllStand}
+use Rattle.fst_heads.proofs.Words.pending
 use Rattle.fst_heads.specs.declared.head.Kind.{Kind}
 use Rattle.fst_heads.specs.declared.head.Kind.TheVariants as kinds
-use Rattle.fst_heads.specs.declared.standing.Standing.{Standing}
-use Rattle.fst_heads.specs.Heads.{kind_of}
-use Rattle.fst_heads.specs.Marks.{HasSlot}
-use Rattle.fst_heads.specs.Frames.{frame_of}
-use Rattle.fst_heads.specs.Nodes.{Node, node_of, nodes_of}
-use Rattle.fst_heads.specs.declared.pending.Pending.{Pending}
-use Rattle.fst_heads.specs.declared.pending.Pending.TheVariants as pending
-use Rattle.fst_heads.specs.Pendings.{Fits, Sinks, is_pending}
-use Rattle.fst_heads.specs.Spreading.{now, is_told, settles}
-use Rattle.fst_heads.specs.Standings.{AllStand}
 use Rattle.fst_heads.proofs.Framed.{frames_set}
 use Rattle.fst_heads.proofs.AtNumber.{at_slot}
-use Rattle.fst_heads.proofs.Releasing.{node_at, node_there, few_ready, some_held, stand_freed, stand_held, stand_told}
+use Rattle.fst_heads.proofs.Releasing.{node_at, few_ready, some_held, stand_freed, stand_held, stand_told}
 use Rattle.fst_heads.proofs.Slots.{slot_here}
 use Rattle.fst_heads.proofs.standing.settle_slot.Goals as goal
 use Rattle.fst_heads.proofs.standing.settle_slot.Goals.{in-Change+in-Memory+then-is_pending, in-Change+in-Memory+else-is_pending, in-Change+in_default-place, in_default}
+use Rattle.fst_heads.proofs.PendingAt.{node_in}
 
 pub pending_now-new-requires : goal.pending_now-new-requires
 pending_now-new-requires c =
@@ -34,7 +23,7 @@ pub index_mut-requires : goal.index_mut-requires
 index_mut-requires c =
     let h = c.index_mut-head.result.now in
     c.requires.inside (node_of h) c.in-Change.block c.in-Change.field-1.at c.in-Change.field-1.len c.in-Change.field-2
-    (node_there c.args.heads.now.items c.args.slot h (omega (arith, c.requires.slot, c.args.heads.now.ok.0)) c.index_mut-head.ensures.value) (ap kind_of c.in-Change.is)
+    (node_in c.args.heads.now.items c.args.slot h (omega (arith, c.requires.slot, c.args.heads.now.ok.0)) c.index_mut-head.ensures.value) (ap kind_of c.in-Change.is)
 
 -- the facts of the slot at the head that stands there
 slot_sinks : (heads : List Head) (s : ℕ) (h : Head) → get_or (nodes_of heads) s (node_of h) ≡ node_of h → ((d : Node) → Sinks (get_or (nodes_of heads) s d).pending (now (get_or (nodes_of heads) s d))) → Sinks h.pending (now (node_of h))
@@ -46,14 +35,11 @@ slot_untold heads s h at all = subst (λ (x : Node). is_told x ≡ false) at (al
 -- what is not in memory, or no change, is no change in memory
 off_memory : (p : Place) (on : Bool) → (p ≡ place.Memory → ⊥) → (is_at p place.Memory && on) ≡ false
 off_memory place.Memory on not = absurd (not refl)
-off_memory place.Flight on not = refl
-off_memory place.Disk on not = refl
+off_memory p on not = refl
 
 off_change : (b : ℕ) (k : Kind) (here : Bool) → ((block : ℕ) (span : Span) (grade : Grade) → k ≡ kinds.Change block span grade → ⊥) → (here && is_on b (kind_of k)) ≡ false
 off_change b (kinds.Change block span grade) here not = absurd (not block span grade refl)
-off_change b kinds.Empty here not = and_right here false refl
-off_change b kinds.OpenGate here not = and_right here false refl
-off_change b kinds.SealedGate here not = and_right here false refl
+off_change b k here not = and_right here false refl
 
 -- what the test says of the answer it says of what is pending now
 is_block_now : (h : Head) (p : Pending) (b : ℕ) → p ≡ now (node_of h) → is_pending p (pending.Block b) ≡ true → is_pending (now (node_of h)) (pending.Block b) ≡ true
@@ -62,47 +48,26 @@ is_block_now h p b e yes_it = ap (λ q. is_pending q (pending.Block b)) (sym e) 
 not_block_now : (h : Head) (p : Pending) (b : ℕ) → p ≡ now (node_of h) → is_pending p (pending.Block b) ≡ false → is_pending (now (node_of h)) (pending.Block b) ≡ false
 not_block_now h p b e no_it = ap (λ q. is_pending q (pending.Block b)) (sym e) ∙ no_it
 
-pub release-requires-clause-ready : goal.release-requires-clause-ready
-release-requires-clause-ready c =
+pub release-requires : goal.release-requires
+release-requires c =
     let heads = c.args.heads.now.items in
     let s = c.args.slot in
     let h = c.index_mut-head.result.now in
     let lt : s < length heads = omega (arith, c.requires.slot, c.args.heads.now.ok.0) in
     let e = c.index_mut-head.ensures.value in
     let at = node_at heads s h (node_of h) lt e in
-    let inside = c.requires.inside (node_of h) c.in-Change.block c.in-Change.field-1.at c.in-Change.field-1.len c.in-Change.field-2 (node_there heads s h lt e) (ap kind_of c.in-Change.is) in
+    let inside = c.requires.inside (node_of h) c.in-Change.block c.in-Change.field-1.at c.in-Change.field-1.len c.in-Change.field-2 (node_in heads s h lt e) (ap kind_of c.in-Change.is) in
     let few = few_ready heads s h lt e (vec_len c.args.standings.now) c.args.standings.now.items c.requires.standing
     c.in-Change.block c.in-Change.field-1.at c.in-Change.field-1.len c.in-Change.field-2 (ap kind_of c.in-Change.is) c.in-Memory.is
     (slot_sinks heads s h at c.requires.sinks) (slot_untold heads s h at c.requires.untold) inside c.index_mut.result.now c.index_mut.ensures.value
     (is_block_now h c.pending_now-new.result c.in-Change.block c.pending_now-new.ensures (sym c.is_pending.ensures ∙ c.if-is_pending.true)) in
-    omega (arith, few, c.args.heads.now.ok.0, c.args.heads.now.ok.1, c.args.heads.now.small)
-
-pub release-requires-clause-held : goal.release-requires-clause-held
-release-requires-clause-held c =
-    let heads = c.args.heads.now.items in
-    let s = c.args.slot in
-    let h = c.index_mut-head.result.now in
-    let lt : s < length heads = omega (arith, c.requires.slot, c.args.heads.now.ok.0) in
-    let e = c.index_mut-head.ensures.value in
-    let at = node_at heads s h (node_of h) lt e in
-    let inside = c.requires.inside (node_of h) c.in-Change.block c.in-Change.field-1.at c.in-Change.field-1.len c.in-Change.field-2 (node_there heads s h lt e) (ap kind_of c.in-Change.is) in
-    some_held heads s h lt e (vec_len c.args.standings.now) c.args.standings.now.items c.requires.standing
-    c.in-Change.block c.in-Change.field-1.at c.in-Change.field-1.len c.in-Change.field-2 (ap kind_of c.in-Change.is) c.in-Memory.is
-    (slot_sinks heads s h at c.requires.sinks) (slot_untold heads s h at c.requires.untold) inside c.index_mut.result.now c.index_mut.ensures.value
+    record {
+      ready = omega (arith, few, c.args.heads.now.ok.0, c.args.heads.now.ok.1, c.args.heads.now.small);
+      held = grind (arith, common_steps, some_held, slot_sinks, slot_untold);
+    }
 
 pub returns-clause-nodes : goal.returns-clause-nodes
-returns-clause-nodes c d =
-    let heads = c.args.heads.now.items in
-    let s = c.args.slot in
-    let h = c.index_mut-head.result.now in
-    let lt : s < length heads = omega (arith, c.requires.slot, c.args.heads.now.ok.0) in
-    let e = c.index_mut-head.ensures.value in
-    let at = node_at heads s h d lt e in
-    let number : (get_or heads s h).number ≡ (get_or (nodes_of heads) s d).patch.number = sym (ap (λ (x : Head). x.number) e) ∙ sym (ap (λ (x : Node). x.patch.number) at) in
-    let slot = subst (λ n. HasSlot heads n s) number (slot_here heads s h lt) in
-    let same : node_of (record h { pending = c.pending_now-new.result }) ≡ settles (node_of (get_or heads s h)) =
-    ap (λ p. node_of (record h { pending = p })) c.pending_now-new.ensures ∙ ap (λ (x : Head). settles (node_of x)) e in
-    at_slot heads (get_or (nodes_of heads) s d).patch.number s settles (record h { pending = c.pending_now-new.result }) h c.requires.rising slot same
+returns-clause-nodes c d = search (rules, node_at, slot_here, at_slot)
 
 pub returns-clause-standing : goal.returns-clause-standing
 returns-clause-standing c =
@@ -122,7 +87,7 @@ returns-clause-standing c =
           (slot_sinks heads s h at c.requires.sinks) (slot_untold heads s h at c.requires.untold)
           after same (not_block_now h c.pending_now-new.result w.in-Change.block c.pending_now-new.ensures (sym w.is_pending.ensures ∙ w.if-is_pending.false)))
       | in-Change+in-Memory+then-is_pending w ↦
-          let inside = c.requires.inside (node_of h) w.in-Change.block w.in-Change.field-1.at w.in-Change.field-1.len w.in-Change.field-2 (node_there heads s h lt e) (ap kind_of w.in-Change.is) in
+          let inside = c.requires.inside (node_of h) w.in-Change.block w.in-Change.field-1.at w.in-Change.field-1.len w.in-Change.field-2 (node_in heads s h lt e) (ap kind_of w.in-Change.is) in
           subst (λ (v : Vec Standing Global). AllStand (nodes_of (set heads s after)) (vec_len c.args.standings.now) v.items) (sym w.standings-is)
           (stand_freed heads s h lt e (vec_len c.args.standings.now) c.args.standings.now.items c.requires.standing
           w.in-Change.block w.in-Change.field-1.at w.in-Change.field-1.len w.in-Change.field-2 (ap kind_of w.in-Change.is) w.in-Memory.is
@@ -137,5 +102,4 @@ returns-clause-standing c =
     ]
 
 pub returns-clause-frames : goal.returns-clause-frames
-returns-clause-frames c =
-    frames_set c.args.heads.now.items c.args.slot _ c.index_mut-head.result.now (omega (arith, c.requires.slot, c.args.heads.now.ok.0)) (ap frame_of c.index_mut-head.ensures.value)
+returns-clause-frames c = grind (arith, frames_set)

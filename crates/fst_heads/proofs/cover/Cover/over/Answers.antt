@@ -1,6 +1,5 @@
-use Rattle.std.proofs.Common.{◌≡◌, ◌+◌, ◌-◌, ◌<◌, ◌≤◌, ℕ, List, length, get_or, take, drop, Contains, ap, subst, ◌∙◌, arith}
-use Rattle.std.proofs.lemmas.List.Edits.{length-between, get_or-between}
-use Rattle.fst_heads.specs.Covers.{newest_over}
+use Rattle.fst_heads.proofs.Basics.{◌≡◌, ◌+◌, ◌-◌, ◌<◌, ◌≤◌, ℕ, List, length, get_or, take, drop, Contains, ap, subst, ◌∙◌, arith, length-between, get_or-between}
+use Rattle.fst_heads.proofs.Words.{newest_over}
 use Rattle.fst_heads.proofs.Slots.{any_default}
 use Rattle.fst_heads.proofs.cover.Cover.over.Goals as goal
 
