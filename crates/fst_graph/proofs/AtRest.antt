@@ -2,23 +2,13 @@
 use Rattle.std.proofs.Common.{◌≡◌, ◌<◌, ◌∙◌, ◌↔◌, ◌&&◌, ℕ, Bool, true, List, Option, length, get_or, sym, ap, subst, arith}
 use Rattle.std.specs.Global.{Vec}
 use Rattle.fst_types.specs.Dependencies.{IsLiveNumber}
-use Rattle.fst_heads.specs.declared.head.Head.{Head}
-use Rattle.fst_heads.specs.declared.lists.Listed.{Listed}
-use Rattle.fst_heads.specs.declared.pending.Pending.TheVariants as pending
-use Rattle.fst_heads.specs.declared.standing.Standing.{Standing}
-use Rattle.fst_heads.specs.Ascending.{IsBehind}
-use Rattle.fst_heads.specs.Covers.{Covering}
-use Rattle.fst_heads.specs.Heads.{patches_of}
-use Rattle.fst_heads.specs.Lists.{entries_of, entries_on}
-use Rattle.fst_heads.specs.Marks.{mark_in, mark_of}
-use Rattle.fst_heads.specs.Nodes.{nodes_of, pending_in}
-use Rattle.fst_heads.specs.Standings.{standing_of}
-use Rattle.fst_heads.proofs.AtNumber.{patches_in_nodes}
+use Rattle.fst_heads.specs.{Ascending.IsBehind, Covers.Covering, Heads.patches_of, Lists.{entries_of, entries_on}, Marks.{mark_in, mark_of}, Nodes.{nodes_of, pending_in}}
+use Rattle.fst_heads.specs.{Standings.standing_of, declared.head.Head.Head, declared.lists.Listed.Listed, declared.standing.Standing.Standing}
 use Rattle.fst_walks.specs.declared.block_walk.BlockWalk.{BlockWalk}
-use Rattle.fst_walks.proofs.Behind.{pending_live}
-use Rattle.fst_walks.proofs.Resting.{listed_at, shelves}
-use Rattle.fst_graph.specs.declared.prepared.Prepared.{Prepared as Stored}
-use Rattle.fst_graph.specs.Sound.{AreSound}
+use Rattle.fst_graph.specs.{Sound.AreSound, declared.prepared.Prepared.Prepared as Stored}
+use Rattle.fst_heads.proofs.AtNumber.{patches_in_nodes}
+use Rattle.fst_walks.proofs.{Behind.pending_live, Resting.{listed_at, shelves}}
+use Rattle.fst_heads.specs.declared.pending.Pending.TheVariants as pending
 
 module _ {heads : Vec Head} {walks : BlockWalk} {lists : Vec (Vec Listed)} {covers : Vec Covering} {standings : Vec Standing} {queue : Vec ℕ} {live numbers blocks : ℕ} {o : Option Stored}
     (S : AreSound heads walks lists covers standings queue live numbers blocks o) where

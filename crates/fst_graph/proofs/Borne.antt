@@ -1,22 +1,11 @@
 -- What holds of the patches of heads, said of the patches of their nodes.
 use Rattle.std.proofs.Common.{◌≡◌, ◌<◌, ◌≤◌, ◌∙◌, ℕ, false, List, [], ◌∷◌, ◌++◌, Result, Ok, Err, OnOk, is_err, map, set, get_or, Contains, sym, subst, inl, inr, arith}
 use Rattle.std.proofs.lemmas.Bool.{cases_lt}
-use Rattle.fst_types.specs.Facts.{SparseAreLawful}
-use Rattle.fst_types.specs.Gates.{IsOpenNumber}
-use Rattle.fst_types.specs.Patches.{Patch}
-use Rattle.fst_heads.specs.declared.head.Head.{Head}
-use Rattle.fst_heads.specs.declared.standing.Standing.{Standing}
-use Rattle.fst_heads.specs.Heads.{patches_of}
-use Rattle.fst_heads.specs.Keeps.{IsInside}
+use Rattle.fst_types.specs.{Facts.SparseAreLawful, Gates.IsOpenNumber, Patches.Patch}
+use Rattle.fst_heads.specs.{Heads.patches_of, Keeps.IsInside, Nodes.{Node, nodes_of, patches_in, pending_in, AreSettled}, Pendings.{Fits, max_block}}
+use Rattle.fst_heads.specs.{Spreading.lands, Standings.AllStand, declared.head.Head.Head, declared.standing.Standing.Standing}
+use Rattle.fst_heads.proofs.{AtNumber.patches_in_nodes, PendingIn.found, Stands.{stand_landed, stand_landed_outside}, Sums.sums_fit}
 use Rattle.fst_heads.specs.declared.pending.Pending.TheVariants as pending
-use Rattle.fst_heads.specs.Nodes.{Node, nodes_of, patches_in, pending_in, AreSettled}
-use Rattle.fst_heads.specs.Pendings.{Fits, max_block}
-use Rattle.fst_heads.specs.Spreading.{lands}
-use Rattle.fst_heads.specs.Standings.{AllStand}
-use Rattle.fst_heads.proofs.AtNumber.{patches_in_nodes}
-use Rattle.fst_heads.proofs.PendingIn.{found}
-use Rattle.fst_heads.proofs.Stands.{stand_landed, stand_landed_outside}
-use Rattle.fst_heads.proofs.Sums.{sums_fit}
 
 -- the patches with a new one
 pub lawful_with : (heads : List Head) (p : Patch) (numbers : ℕ) → SparseAreLawful (patches_of heads ++ p ∷ []) numbers → SparseAreLawful (patches_in (nodes_of heads) ++ p ∷ []) numbers

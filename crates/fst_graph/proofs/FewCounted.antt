@@ -1,15 +1,10 @@
 -- The counts of a settled row, and those of heads.
 use Rattle.std.proofs.Common.{◌≡◌, ◌<◌, ◌≤◌, ◌∙◌, ℕ, Bool, List, Contains, length, count_by, sym, subst, inl, inr, arith}
-use Rattle.std.proofs.lemmas.List.{length-map}
-use Rattle.std.proofs.lemmas.List.Sums.{count_by-le-length}
+use Rattle.std.proofs.lemmas.{List.length-map, List.Sums.count_by-le-length}
 use Rattle.fst_types.specs.Limits.{max_heads}
-use Rattle.fst_heads.specs.declared.head.Head.{Head}
+use Rattle.fst_heads.specs.{Heads.{patch_of, patches_of}, Nodes.{Node, node_of, nodes_of, pending_in, AreSettled}, Pendings.{Fits, max_block}, declared.head.Head.Head}
+use Rattle.fst_heads.proofs.{PendingIn.found, Sums.{sums_fit, sums_few}}
 use Rattle.fst_heads.specs.declared.pending.Pending.TheVariants as pending
-use Rattle.fst_heads.specs.Heads.{patch_of, patches_of}
-use Rattle.fst_heads.specs.Nodes.{Node, node_of, nodes_of, pending_in, AreSettled}
-use Rattle.fst_heads.specs.Pendings.{Fits, max_block}
-use Rattle.fst_heads.proofs.PendingIn.{found}
-use Rattle.fst_heads.proofs.Sums.{sums_fit, sums_few}
 
 -- blocks are numbers of 32 bits
 narrow : (nodes : List Node) (blocks : ℕ) → blocks ≤ max_block → AreSettled nodes blocks → (n b : ℕ) → pending_in nodes n ≡ pending.Block b → b ≤ max_block

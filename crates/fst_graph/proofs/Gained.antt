@@ -1,18 +1,9 @@
 -- What the fields keep when a gate gains names.
 use Rattle.std.proofs.Common.{◌≡◌, ◌⊎◌, ℕ, ◌≤◌, Bool, List, length, map, Contains, sym, ap, subst, ◌∙◌, inl, inr, arith}
-use Rattle.fst_types.specs.Closure.{IsAcyclic}
-use Rattle.fst_types.specs.Patches.{Patch, block_of_kind}
-use Rattle.fst_types.specs.Dependencies.{DirectlyOn, DependsOn, IsLiveNumber}
-use Rattle.fst_types.specs.Gates.{IsOpenNumber}
-use Rattle.fst_types.specs.Lists.{Lists}
-use Rattle.fst_types.specs.Order.{depend_order}
-use Rattle.fst_types.specs.Refusals.{NoneHolds}
-use Rattle.fst_types.specs.Gating.{gains}
-use Rattle.fst_types.proofs.Finite.{In-from_Contains, Contains-from_In}
-use Rattle.fst_types.proofs.NewChange.{no_cycle}
-use Rattle.fst_types.proofs.GateGains.{In-unmap, direct_cases}
-use Rattle.fst_types.proofs.Depending.{Grown, grown, length_mapped, sparse_gained}
+use Rattle.fst_types.specs.{Closure.IsAcyclic, Dependencies.{DirectlyOn, DependsOn, IsLiveNumber}, Gates.IsOpenNumber}
+use Rattle.fst_types.specs.{Gating.gains, Lists.Lists, Order.depend_order, Patches.{Patch, block_of_kind}, Refusals.NoneHolds}
 use Rattle.fst_heads.specs.Keeps.{Keeps}
+use Rattle.fst_types.proofs.{Depending.{Grown, grown, length_mapped, sparse_gained}, Finite.{In-from_Contains, Contains-from_In}, GateGains.{In-unmap, direct_cases}, NewChange.no_cycle}
 
 module _ (old : List Patch) (numbers blocks g : ℕ) (marks : List Bool) (K : Keeps old numbers blocks marks) (gate : IsOpenNumber old g)
     (names : List ℕ) (live : (n : ℕ) → Contains names n → IsLiveNumber old n) (clear : (n : ℕ) → Contains names n → (n ≡ g) ⊎ DependsOn old n g → ⊥) where

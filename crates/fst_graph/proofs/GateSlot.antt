@@ -1,11 +1,7 @@
 -- What the head with a gate's number tells.
 use Rattle.std.proofs.Common.{◌≡◌, ℕ, List, get_or, Contains, sym, ap, subst, ◌∙◌, inl, inr}
-use Rattle.fst_types.specs.Patches.{Kind, Change, Empty, Patch, OpenGate, SealedGate}
-use Rattle.fst_types.specs.declared.grade.Grade.{Grade}
-use Rattle.fst_types.specs.Gates.{IsOpenNumber, IsSealedNumber, IsGateNumber}
-use Rattle.fst_heads.specs.declared.head.Head.{Head}
-use Rattle.fst_heads.specs.Heads.{IsRising, patch_of, patches_of}
-use Rattle.fst_heads.specs.Marks.{HasSlot, HasNone}
+use Rattle.fst_types.specs.{Gates.{IsOpenNumber, IsSealedNumber, IsGateNumber}, Patches.{Kind, Change, Empty, Patch, OpenGate, SealedGate}, declared.grade.Grade.Grade}
+use Rattle.fst_heads.specs.{Heads.{IsRising, patch_of, patches_of}, Marks.{HasSlot, HasNone}, declared.head.Head.Head}
 use Rattle.fst_heads.proofs.Slots.{patch_at, patch_is, slot_in, patch_slot, none_slot}
 
 pub open_not_sealed : (k : Kind) → k ≡ OpenGate → k ≡ SealedGate → ⊥

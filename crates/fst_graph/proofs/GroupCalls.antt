@@ -1,36 +1,17 @@
 -- What the calls of groups make, of what the calls of the patches make.
 use Rattle.std.proofs.Common.{◌≡◌, ◌+◌, ◌<◌, ◌≤◌, ℕ, false, List, [], ◌∷◌, length, get_or, All, Contains, Option, Some, None, refl, sym, ap, subst, ◌∙◌, inl, inr, arith}
 use Rattle.std.specs.Prelude.{IfSome, IfNone}
-use Rattle.std.proofs.lemmas.Bool.{cases_Bool}
-use Rattle.std.proofs.lemmas.List.{length-replicate}
-use Rattle.fst_types.specs.declared.fault.Fault.{Fault}
-use Rattle.fst_types.specs.Limits.{max_groups}
-use Rattle.fst_types.specs.Patches.{Patch}
-use Rattle.fst_types.specs.Dependencies.{DependsOn}
-use Rattle.fst_types.specs.Gates.{IsOpenNumber}
-use Rattle.fst_types.specs.Groups.{Group, IsGroup, IsGroupNumber}
-use Rattle.fst_types.specs.declared.grade.Grade.{Grade}
-use Rattle.fst_types.specs.Facts.{IsTied}
-use Rattle.fst_types.specs.Gating.{GateGains, GateIsSealed}
+use Rattle.std.proofs.lemmas.{Bool.cases_Bool, List.length-replicate}
+use Rattle.fst_types.specs.{Dependencies.DependsOn, Events.{Event, Reply, GroupNew, GroupAfter, GroupPatch, GroupClose}, Facts.IsTied, Gates.IsOpenNumber, Gating.{GateGains, GateIsSealed}}
 use Rattle.fst_types.specs.Grouping.{GroupIsPutAfter, MemberIsMade, GroupIsClosed, with_new, put_after, with_member, with_closed, MakesGroup, MakesMember, PutsAfter as PutsStateAfter, ClosesGroup as ClosesStateGroup}
-use Rattle.fst_types.specs.Events.{Event, Reply, GroupNew, GroupAfter, GroupPatch, GroupClose}
-use Rattle.fst_types.specs.Step.{Row, group, group_new, group_after, group_patch, group_close}
-use Rattle.fst_types.specs.Refusals.{Rule, IsFirst, NoneHolds}
-use Rattle.fst_types.specs.Order.{depend_order, group_after_order, group_patch_order, group_close_order}
-use Rattle.fst_types.proofs.Apart.{tail_no_head}
-use Rattle.fst_types.proofs.Finite.{In-from_Contains}
-use Rattle.fst_types.proofs.GroupsClear.{close_clear}
-use Rattle.fst_types.proofs.GroupsKept.{Spares, groups_row}
-use Rattle.fst_types.proofs.Heads.{heads_row}
-use Rattle.fst_types.proofs.Parts.{SealsIfOpen as SealsStateIfOpen, seals_if_open}
+use Rattle.fst_types.specs.{Groups.{Group, IsGroup, IsGroupNumber}, Limits.max_groups, Order.{depend_order, group_after_order, group_patch_order, group_close_order}, Patches.Patch}
+use Rattle.fst_types.specs.{Refusals.{Rule, IsFirst, NoneHolds}, Step.{Row, group, group_new, group_after, group_patch, group_close}, declared.fault.Fault.Fault, declared.grade.Grade.Grade}
 use Rattle.fst_graph.specs.Grouping.{unstarted_order, AddsPair, AddsGroup, PutsAfter, AddsMember, ForeseesMember, ClosesGroup, SealsIfOpen}
-use Rattle.fst_graph.specs.Membering.{ArePaired, GainsMember, Foretells, member_order}
-use Rattle.fst_graph.specs.Whole.{IsGrouped, IsUnclosed}
-use Rattle.fst_graph.specs.Known.{Known, Prepared, unprepared, with_groups, Refuses, DependsGate}
-use Rattle.fst_types.proofs.Loosened.{loosened}
-use Rattle.fst_graph.proofs.Grouped.{state_at, some_bytes}
+use Rattle.fst_graph.specs.{Known.{Known, Prepared, unprepared, with_groups, Refuses, DependsGate}, Membering.{ArePaired, GainsMember, Foretells, member_order}, Whole.{IsGrouped, IsUnclosed}}
+use Rattle.fst_types.proofs.{Apart.tail_no_head, Finite.In-from_Contains, GroupsClear.close_clear, GroupsKept.{Spares, groups_row}}
+use Rattle.fst_types.proofs.{Heads.heads_row, Loosened.loosened, Parts.{SealsIfOpen as SealsStateIfOpen, seals_if_open}}
 use Rattle.fst_heads.proofs.Slots.{any_default}
-use Rattle.fst_graph.proofs.SealedIf.{open_not_sealed}
+use Rattle.fst_graph.proofs.{Grouped.{state_at, some_bytes}, SealedIf.open_not_sealed}
 
 only_one : (x y : ℕ) → Contains (x ∷ []) y → y ≡ x
 only_one x y c = elim (In-from_Contains (x ∷ []) y c) [ inl e ↦ sym e | inr h ↦ absurd h ]

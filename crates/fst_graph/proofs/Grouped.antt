@@ -2,27 +2,14 @@
 use Rattle.std.proofs.Common.{◌≡◌, ℕ, List, [], ◌∷◌, map, replicate, false, Result, Ok, Err, Some, None, refl, sym, subst, inl, inr, arith}
 use Rattle.std.specs.Prelude.{IfOk, IfErr, IfSome, OnErr}
 use Rattle.std.proofs.lemmas.List.{length-replicate}
-use Rattle.fst_types.specs.declared.fault.Fault.{Fault}
-use Rattle.fst_types.specs.declared.grade.Grade.{Grade}
-use Rattle.fst_types.specs.Groups.{Group, IsGroupGate}
-use Rattle.fst_types.specs.State.{State}
-use Rattle.fst_types.specs.declared.fault.Fault.TheVariants as fault
-use Rattle.fst_types.specs.Refusals.{Rule, ◌when◌}
-use Rattle.fst_types.specs.Facts.{HeadsAreLawful}
-use Rattle.fst_types.specs.Events.{Event, Reply, MakeChange, MakeEmpty, MakeGate, Depend, Seal, Forget}
-use Rattle.fst_types.specs.Step.{Row, change, empty, gate, depend, seal, forget}
-use Rattle.fst_types.specs.Making.{ChangeIsMade, MakesChange, MakesEmpty, MakesGate}
-use Rattle.fst_types.specs.Gating.{Depends, Seals}
-use Rattle.fst_types.specs.Forgetting.{Forgets as ForgetsHeads}
-use Rattle.fst_types.specs.Writing.{landed}
-use Rattle.fst_types.proofs.Heads.{heads_row}
-use Rattle.fst_types.proofs.Heirs.{NoneShut, Heirs, heirs_cascade, heirs_launched, heirs_landed, passes}
-use Rattle.fst_types.proofs.GroupsHeld.{groups_same}
-use Rattle.fst_types.proofs.GroupsKept.{Spares, groups_row}
-use Rattle.fst_types.proofs.Issuing.{heads_launched}
-use Rattle.fst_types.proofs.Landing.{heads_landed}
-use Rattle.fst_graph.specs.Whole.{IsGrouped, IsUnclosed}
+use Rattle.fst_types.specs.{Events.{Event, Reply, MakeChange, MakeEmpty, MakeGate, Depend, Seal, Forget}, Facts.HeadsAreLawful, Forgetting.Forgets as ForgetsHeads}
+use Rattle.fst_types.specs.{Gating.{Depends, Seals}, Groups.{Group, IsGroupGate}, Making.{ChangeIsMade, MakesChange, MakesEmpty, MakesGate}, Refusals.{Rule, ◌when◌}}
+use Rattle.fst_types.specs.{State.State, Step.{Row, change, empty, gate, depend, seal, forget}, Writing.landed, declared.fault.Fault.Fault, declared.grade.Grade.Grade}
 use Rattle.fst_graph.specs.Known.{Known, Prepared, unprepared, with_groups, outside_groups, Foresees, Refuses, AddsGate, AddsEmpty, AddsChange, SealsGate, DependsGate, Launches, LandsBlock, MayLaunch, Forgets}
+use Rattle.fst_graph.specs.Whole.{IsGrouped, IsUnclosed}
+use Rattle.fst_types.proofs.{GroupsHeld.groups_same, GroupsKept.{Spares, groups_row}, Heads.heads_row}
+use Rattle.fst_types.proofs.{Heirs.{NoneShut, Heirs, heirs_cascade, heirs_launched, heirs_landed, passes}, Issuing.heads_launched, Landing.heads_landed}
+use Rattle.fst_types.specs.declared.fault.Fault.TheVariants as fault
 
 -- a state with these patches and groups, and nothing else
 abbrev pub state_at : Known → List Group → ℕ → List (ℕ × List ℕ) → State

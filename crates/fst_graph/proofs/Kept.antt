@@ -1,21 +1,9 @@
 -- What calls that change places leave of what the fields keep.
 use Rattle.std.proofs.Common.{◌≡◌, ◌<◌, ◌+◌, ◌++◌, ◌∷◌, [], ℕ, Bool, List, length, map, get_or, set, refl, sym, subst, ◌∙◌, arith}
-use Rattle.fst_types.specs.declared.grade.Grade.{Grade}
-use Rattle.fst_types.specs.Making.{fresh}
-use Rattle.fst_types.specs.Patches.{Change, Patch}
-use Rattle.fst_types.specs.Facts.{SparseAreLawful}
-use Rattle.fst_types.specs.Gates.{IsOpenNumber}
-use Rattle.fst_types.specs.Gating.{sealed}
-use Rattle.fst_types.specs.Writing.{landed, launched}
-use Rattle.fst_types.specs.Writable.{IsWritable, IsWritableSet}
-use Rattle.fst_types.specs.Cascade.{IsCascadeOf}
-use Rattle.fst_types.proofs.Alike.{Alike, back_alike, length_alike, on_back}
-use Rattle.fst_types.proofs.Landing.{alike_landed, sparse_landed}
-use Rattle.fst_types.proofs.Sealing.{alike_sealed, sparse_sealed}
-use Rattle.fst_types.proofs.Issuing.{alike_launched, sparse_launched}
-use Rattle.fst_heads.specs.Covers.{AreCovered, Covering, HasBytes, IsPut}
-use Rattle.fst_heads.specs.Keeps.{Keeps}
-use Rattle.fst_heads.specs.Rows.{IsSparseRow}
+use Rattle.fst_types.specs.{Cascade.IsCascadeOf, Facts.SparseAreLawful, Gates.IsOpenNumber, Gating.sealed, Making.fresh, Patches.{Change, Patch}}
+use Rattle.fst_types.specs.{Writable.{IsWritable, IsWritableSet}, Writing.{landed, launched}, declared.grade.Grade.Grade}
+use Rattle.fst_heads.specs.{Covers.{AreCovered, Covering, HasBytes, IsPut}, Keeps.Keeps, Rows.IsSparseRow}
+use Rattle.fst_types.proofs.{Alike.{Alike, back_alike, length_alike, on_back}, Issuing.{alike_launched, sparse_launched}, Landing.{alike_landed, sparse_landed}, Sealing.{alike_sealed, sparse_sealed}}
 use Rattle.fst_heads.proofs.Covering.{covered_alike, covered_put}
 
 module _ (old new : List Patch) (A : Alike old new) where

@@ -1,33 +1,14 @@
 -- What is prepared for a group: it is ready, and tells which number and grade a change would have.
 use Rattle.std.proofs.Common.{◌≡◌, ◌+◌, ◌<◌, ◌≤◌, ◌++◌, ℕ, Bool, List, [], ◌∷◌, Option, Some, None, IfSome, option_map, length, map, Contains, refl, sym, ap, subst, ◌∙◌, inl, inr, arith}
-use Rattle.fst_types.specs.declared.grade.Grade.{Grade}
-use Rattle.fst_types.specs.Cascade.{IsCascadeOf}
-use Rattle.fst_types.specs.declared.grade.Grade.TheVariants as grade
-use Rattle.fst_types.specs.Facts.{SparseAreLawful, IsTied}
-use Rattle.fst_types.specs.Gates.{IsOpenNumber}
-use Rattle.fst_types.specs.Gating.{sealed}
-use Rattle.fst_types.specs.Grades.{FollowsRule}
-use Rattle.fst_types.specs.Order.{make_order, room_order, NamesUnknown}
-use Rattle.fst_types.specs.Patches.{Patch}
-use Rattle.fst_types.specs.Refusals.{NoneHolds}
+use Rattle.fst_types.specs.{Cascade.IsCascadeOf, Facts.{SparseAreLawful, IsTied}, Gates.IsOpenNumber, Gating.sealed}
+use Rattle.fst_types.specs.{Grades.FollowsRule, Order.{make_order, room_order, NamesUnknown}, Patches.Patch, Refusals.NoneHolds}
+use Rattle.fst_heads.specs.{Frames.{frames_of, HasRoomBelow}, Grading.MayBeHard, Keeps.Keeps, Names.numbers_of, Rows.IsSparseRow, declared.head.Head.Head}
+use Rattle.fst_graph.specs.{Known.Known, Membering.{ArePaired, BeginsAs, OverlapReaches, member_order}, Ready.{change_of, IsReady, IsMemberReady, MayBePut, HasRoomAround, HasPlaces}}
+use Rattle.fst_graph.specs.{Sparse.ForetellsSparse, declared.prepared.Gates.Gates, declared.prepared.Prepared.Prepared as Stored}
 use Rattle.fst_types.proofs.Finite.{In-from_Contains}
-use Rattle.fst_graph.specs.declared.prepared.Gates.{Gates}
-use Rattle.fst_graph.specs.declared.prepared.Prepared.{Prepared as Stored}
-use Rattle.fst_heads.specs.declared.head.Head.{Head}
-use Rattle.fst_heads.specs.Frames.{frames_of, HasRoomBelow}
-use Rattle.fst_heads.specs.Grading.{MayBeHard}
-use Rattle.fst_heads.specs.Keeps.{Keeps}
-use Rattle.fst_graph.specs.Known.{Known}
-use Rattle.fst_heads.specs.Names.{numbers_of}
-use Rattle.fst_graph.specs.Sparse.{ForetellsSparse}
-use Rattle.fst_graph.specs.Membering.{ArePaired, BeginsAs, OverlapReaches, member_order}
-use Rattle.fst_graph.specs.Ready.{change_of, IsReady, IsMemberReady, MayBePut, HasRoomAround, HasPlaces}
-use Rattle.fst_heads.specs.Rows.{IsSparseRow}
-use Rattle.fst_heads.proofs.Framed.{room_above, room_below}
-use Rattle.fst_graph.proofs.Kept.{keeps_sealed}
-use Rattle.fst_graph.proofs.Readied.{ready_member, member_put}
-use Rattle.fst_graph.proofs.TakenAsSealed.{is, depends, open_was, open_is, stays, touched_was}
-use Rattle.fst_heads.proofs.Touching.{graded_change, touched_overlaps, overlaps_touched}
+use Rattle.fst_heads.proofs.{Framed.{room_above, room_below}, Touching.{graded_change, touched_overlaps, overlaps_touched}}
+use Rattle.fst_graph.proofs.{Kept.keeps_sealed, Readied.{ready_member, member_put}, TakenAsSealed.{is, depends, open_was, open_is, stays, touched_was}}
+use Rattle.fst_types.specs.declared.grade.Grade.TheVariants as grade
 
 module _ (old : List Patch) (n blocks : ℕ) (marks : List Bool) (K : Keeps old n blocks marks) (gates : Gates) (paired : ArePaired old n gates.head gates.tail) where
   -- the heads keep as much once the head is sealed

@@ -1,26 +1,11 @@
 -- What a change of a group depends on, and how it is graded, once the head is sealed.
 use Rattle.std.proofs.Common.{◌≡◌, ◌≢◌, ℕ, Bool, true, false, List, [], ◌∷◌, Option, Some, None, IfSome, IfNone, filter, length, count_by, is_some, get_or, eqb, refl, sym, subst, ◌∙◌, inl, inr, arith}
-use Rattle.std.proofs.lemmas.Bool.{cases_Bool, eqb-true, eqb-false, false≢true}
-use Rattle.std.proofs.lemmas.List.Sums.{length-filter}
-use Rattle.fst_types.specs.declared.grade.Grade.{Grade}
-use Rattle.fst_types.specs.Dependencies.{DirectlyOn, IsLiveNumber, IsOnDisk}
-use Rattle.fst_types.specs.Facts.{SparseAreLawful}
-use Rattle.fst_types.specs.Gates.{IsOpenNumber}
-use Rattle.fst_types.specs.Grades.{FollowsRule}
-use Rattle.fst_types.specs.Patches.{Patch}
-use Rattle.fst_types.proofs.Cascades.{place_decided}
-use Rattle.fst_types.proofs.Finite.{In, In-from_Contains, Contains-from_In}
-use Rattle.fst_heads.specs.declared.head.Head.{Head}
-use Rattle.fst_heads.specs.Grading.{MayBeHard}
-use Rattle.fst_heads.specs.Heads.{IsRising, patches_of}
-use Rattle.fst_heads.specs.Marks.{HasSlot}
+use Rattle.std.proofs.lemmas.{Bool.{cases_Bool, eqb-true, eqb-false, false≢true}, List.Sums.length-filter}
+use Rattle.fst_types.specs.{Dependencies.{DirectlyOn, IsLiveNumber, IsOnDisk}, Facts.SparseAreLawful, Gates.IsOpenNumber, Grades.FollowsRule, Patches.Patch, declared.grade.Grade.Grade}
+use Rattle.fst_heads.specs.{Grading.MayBeHard, Heads.{IsRising, patches_of}, Marks.HasSlot, Nodes.{node_of, nodes_of, is_live_in, AreCounted}, Rows.IsSparseRow, declared.head.Head.Head}
 use Rattle.fst_graph.specs.Membering.{BeginsAs}
-use Rattle.fst_heads.specs.Nodes.{node_of, nodes_of, is_live_in, AreCounted}
-use Rattle.fst_heads.specs.Rows.{IsSparseRow}
-use Rattle.fst_heads.proofs.AtNumber.{patches_in_nodes}
-use Rattle.fst_heads.proofs.Forgetting.{live_in, in_live}
-use Rattle.fst_heads.proofs.PendingAt.{node_in}
-use Rattle.fst_heads.proofs.Slots.{any_default, direct_at, named_at}
+use Rattle.fst_types.proofs.{Cascades.place_decided, Finite.{In, In-from_Contains, Contains-from_In}}
+use Rattle.fst_heads.proofs.{AtNumber.patches_in_nodes, Forgetting.{live_in, in_live}, PendingAt.node_in, Slots.{any_default, direct_at, named_at}}
 use Rattle.fst_graph.proofs.TakenAsSealed.{rule_sealed, gate_lives, gate_rests, row_named, row_unnamed}
 
 -- a count is 0 exactly where none passes

@@ -1,35 +1,16 @@
 -- What is kept of the two gates of a pair, and beside them.
 use Rattle.std.proofs.Common.{◌≡◌, ◌+◌, ◌≤◌, ◌++◌, ◌∷◌, ◌∙◌, [], ℕ, List, Contains, length, map, refl, sym, ap, subst, inl, inr, arith}
-use Rattle.std.proofs.lemmas.List.{length_push}
-use Rattle.std.proofs.lemmas.List.Elements.{Contains-push, Contains-push_cases}
 use Rattle.smallvec.specs.SmallVec.{HasRoomFor}
-use Rattle.fst_types.specs.declared.place.Place.{Place}
-use Rattle.fst_types.specs.declared.place.Place.TheVariants as place
-use Rattle.fst_types.specs.Dependencies.{IsLiveNumber}
-use Rattle.fst_types.specs.Facts.{SparseAreLawful}
-use Rattle.fst_types.specs.Making.{fresh}
-use Rattle.fst_types.specs.Patches.{Patch, OpenGate, IsRising as Rising}
+use Rattle.std.proofs.lemmas.{List.{length_push, map_push}, List.Elements.{Contains-push, Contains-push_cases}}
+use Rattle.fst_types.specs.{Dependencies.IsLiveNumber, Facts.SparseAreLawful, Making.fresh, Patches.{Patch, OpenGate, IsRising as Rising}, declared.place.Place.Place}
+use Rattle.fst_heads.specs.{Heads.{IsRising, patch_of, patches_of}, Keeps.Tallies, Lists.Entry, Nodes.{Node, node_of, nodes_of, patches_in, pending_in, linked_to, HasRoomAbove}}
+use Rattle.fst_heads.specs.{Pendings.{nothing, sums_of}, declared.head.Head.Head, declared.pending.Sums.Sums, declared.standing.Standing.Standing}
 use Rattle.fst_types.proofs.Finite.{In-from_Contains, Contains-from_In, In-map}
-use Rattle.fst_heads.specs.declared.head.Head.{Head}
+use Rattle.fst_heads.proofs.{Added.{new_node, with_node}, AtNumber.patches_in_nodes, Making.gate_lawful, Slots.rising_heads, Stands.stand_made}
+use Rattle.fst_walks.proofs.{Linked.{patches_made, with_gate}, Seen.{seen, lawful_nodes}}
+use Rattle.fst_graph.proofs.{Listed.listed_made, Paired.{head_lawful, paired, paired_lawful, with_head}, Tallied.tallies_made}
+use Rattle.fst_types.specs.declared.place.Place.TheVariants as place
 use Rattle.fst_heads.specs.declared.pending.Pending.TheVariants as pending
-use Rattle.fst_heads.specs.declared.pending.Sums.{Sums}
-use Rattle.fst_heads.specs.declared.standing.Standing.{Standing}
-use Rattle.fst_heads.specs.Heads.{IsRising, patch_of, patches_of}
-use Rattle.fst_heads.specs.Keeps.{Tallies}
-use Rattle.fst_heads.specs.Lists.{Entry}
-use Rattle.fst_heads.specs.Nodes.{Node, node_of, nodes_of, patches_in, pending_in, linked_to, HasRoomAbove}
-use Rattle.fst_heads.specs.Pendings.{nothing, sums_of}
-use Rattle.fst_heads.proofs.Added.{new_node, with_node}
-use Rattle.fst_heads.proofs.AtNumber.{patches_in_nodes}
-use Rattle.std.proofs.lemmas.List.{map_push}
-use Rattle.fst_walks.proofs.Linked.{patches_made, with_gate}
-use Rattle.fst_graph.proofs.Listed.{listed_made}
-use Rattle.fst_heads.proofs.Making.{gate_lawful}
-use Rattle.fst_graph.proofs.Paired.{head_lawful, paired, paired_lawful, with_head}
-use Rattle.fst_walks.proofs.Seen.{seen, lawful_nodes}
-use Rattle.fst_heads.proofs.Slots.{rising_heads}
-use Rattle.fst_heads.proofs.Stands.{stand_made}
-use Rattle.fst_graph.proofs.Tallied.{tallies_made}
 
 abbrev first_gate : ℕ → Patch
 first_gate n = fresh (n + 1) OpenGate []

@@ -1,27 +1,13 @@
 -- Two new gates, the second of which depends on the first.
 use Rattle.std.proofs.Common.{◌≡◌, ◌≢◌, ◌+◌, ◌≤◌, ℕ, List, [], ◌∷◌, ◌++◌, map, length, Contains, Bool, false, Some, None, refl, sym, ap, subst, inl, inr, arith}
-use Rattle.std.proofs.lemmas.List.{length_push}
-use Rattle.std.proofs.lemmas.List.Elements.{Contains-push, Contains-push_cases, Contains-append_left}
-use Rattle.std.proofs.lemmas.Bool.{ne_eqb, eq-eqb}
-use Rattle.fst_types.specs.declared.place.Place.{Place}
-use Rattle.fst_types.specs.declared.place.Place.TheVariants as place
-use Rattle.fst_types.specs.Limits.{max_heads}
-use Rattle.fst_types.specs.Lists.{Lists}
-use Rattle.fst_types.specs.Patches.{Kind, Patch, OpenGate, block_of_kind}
-use Rattle.fst_types.specs.Dependencies.{DirectlyOn, DependsOn, IsLiveNumber}
-use Rattle.fst_types.specs.Gates.{IsOpenNumber}
-use Rattle.fst_types.specs.Gating.{GateGains, gains}
-use Rattle.fst_types.specs.Facts.{SparseAreLawful}
-use Rattle.fst_types.specs.Making.{fresh}
-use Rattle.fst_types.specs.Order.{NamesAbove}
-use Rattle.fst_types.specs.Refusals.{NoneHolds}
-use Rattle.fst_types.proofs.Crash.{same_number}
-use Rattle.fst_types.proofs.Finite.{In, In-from_Contains, Contains-from_In, first_step}
-use Rattle.fst_types.proofs.Heads.{sparse_depended}
-use Rattle.fst_graph.specs.Grouping.{pair_order, AddsPair}
-use Rattle.fst_graph.specs.Known.{Known}
-use Rattle.fst_heads.proofs.Making.{gate_lawful, keeps_added, keeps_gate}
+use Rattle.std.proofs.lemmas.{Bool.{ne_eqb, eq-eqb}, List.length_push, List.Elements.{Contains-push, Contains-push_cases, Contains-append_left}}
+use Rattle.fst_types.specs.{Dependencies.{DirectlyOn, DependsOn, IsLiveNumber}, Facts.SparseAreLawful, Gates.IsOpenNumber, Gating.{GateGains, gains}, Limits.max_heads}
+use Rattle.fst_types.specs.{Lists.Lists, Making.fresh, Order.NamesAbove, Patches.{Kind, Patch, OpenGate, block_of_kind}, Refusals.NoneHolds, declared.place.Place.Place}
 use Rattle.fst_heads.specs.Keeps.{Keeps}
+use Rattle.fst_graph.specs.{Grouping.{pair_order, AddsPair}, Known.Known}
+use Rattle.fst_types.proofs.{Crash.same_number, Finite.{In, In-from_Contains, Contains-from_In, first_step}, Heads.sparse_depended}
+use Rattle.fst_heads.proofs.Making.{gate_lawful, keeps_added, keeps_gate}
+use Rattle.fst_types.specs.declared.place.Place.TheVariants as place
 
 only_one : (x y : ℕ) → Contains (x ∷ []) y → y ≡ x
 only_one x y c = elim (In-from_Contains (x ∷ []) y c) [ inl e ↦ sym e | inr h ↦ absurd h ]

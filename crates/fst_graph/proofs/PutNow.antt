@@ -2,19 +2,10 @@
 use Rattle.std.proofs.Common.{◌≡◌, ℕ, [], Option, Some, option_map, ap, subst, ◌∙◌}
 use Rattle.std.specs.Global.{Vec}
 use Rattle.fst_types.specs.Gates.{IsOpenNumber}
-use Rattle.fst_heads.specs.Covers.{Covering}
-use Rattle.fst_heads.specs.declared.head.Head.{Head}
-use Rattle.fst_heads.specs.declared.lists.Listed.{Listed}
-use Rattle.fst_heads.specs.declared.standing.Standing.{Standing}
-use Rattle.fst_heads.specs.Heads.{patches_of}
+use Rattle.fst_heads.specs.{Covers.Covering, Heads.patches_of, declared.head.Head.Head, declared.lists.Listed.Listed, declared.standing.Standing.Standing}
 use Rattle.fst_walks.specs.declared.block_walk.BlockWalk.{BlockWalk}
-use Rattle.fst_graph.specs.declared.prepared.Gates.{Gates}
-use Rattle.fst_graph.specs.declared.prepared.Prepared.{Prepared as Stored}
-use Rattle.fst_graph.specs.Known.{Known, Prepared}
-use Rattle.fst_graph.specs.Ready.{prepared_of, IsReady, IsMemberReady}
-use Rattle.fst_graph.specs.Sound.{AreSound, IsPrepared}
-use Rattle.fst_graph.proofs.Sound.{prepared_is}
-use Rattle.fst_graph.proofs.TailGains.{head_same, member_kept, ready_now}
+use Rattle.fst_graph.specs.{Known.{Known, Prepared}, Ready.{prepared_of, IsReady, IsMemberReady}, Sound.{AreSound, IsPrepared}, declared.prepared.Gates.Gates, declared.prepared.Prepared.Prepared as Stored}
+use Rattle.fst_graph.proofs.{Sound.prepared_is, TailGains.{head_same, member_kept, ready_now}}
 
 pub record IsPutNow (heads : Vec Head) (walks : BlockWalk) (lists : Vec (Vec Listed)) (covers : Vec Covering) (queue : Vec ℕ) (numbers blocks head : ℕ) (gates : Gates) (p : Stored) : Type 0 where
   pub prepared : IsPrepared heads walks lists covers queue numbers blocks p

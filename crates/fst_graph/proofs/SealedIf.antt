@@ -1,16 +1,9 @@
 -- A gate is sealed if it is open.
 use Rattle.std.proofs.Common.{◌≡◌, ℕ, List, Result, Ok, Err, None, refl, sym, ap, ◌∙◌, inl, inr, arith}
 use Rattle.std.specs.Prelude.{OnOk, OnErr, IfErr}
-use Rattle.fst_types.specs.declared.fault.Fault.{Fault}
-use Rattle.fst_types.specs.Facts.{SparseAreLawful}
-use Rattle.fst_types.specs.Groups.{Group}
-use Rattle.fst_types.specs.Gates.{IsOpenNumber, IsSealedNumber}
-use Rattle.fst_types.specs.Order.{seal_order}
-use Rattle.fst_types.specs.Patches.{Patch, Kind, OpenGate, SealedGate}
-use Rattle.fst_types.specs.Refusals.{IsFirst}
+use Rattle.fst_types.specs.{Facts.SparseAreLawful, Gates.{IsOpenNumber, IsSealedNumber}, Groups.Group, Order.seal_order, Patches.{Patch, Kind, OpenGate, SealedGate}, Refusals.IsFirst, declared.fault.Fault.Fault}
+use Rattle.fst_graph.specs.{Grouping.SealsIfOpen, Known.{Known, unprepared, SealsGate}}
 use Rattle.fst_types.proofs.Crash.{same_number}
-use Rattle.fst_graph.specs.Grouping.{SealsIfOpen}
-use Rattle.fst_graph.specs.Known.{Known, unprepared, SealsGate}
 
 not_both : (k : Kind) → k ≡ OpenGate → k ≡ SealedGate → ⊥
 not_both k a b = cc

@@ -1,32 +1,17 @@
 -- The tail of a group gains the change that was made for it.
 use Rattle.std.proofs.Common.{◌≡◌, ◌≢◌, ◌⊎◌, ◌+◌, ◌≤◌, ◌++◌, ℕ, Bool, List, [], ◌∷◌, Option, Some, None, IfSome, option_map, Contains, refl, sym, ap, subst, ◌∙◌, inl, inr, arith}
 use Rattle.std.proofs.lemmas.List.Elements.{Contains-append_left, Contains-push, Contains-push_cases}
-use Rattle.fst_types.specs.declared.grade.Grade.TheVariants as grade
-use Rattle.fst_types.specs.declared.place.Place.{Place}
-use Rattle.fst_types.specs.declared.place.Place.TheVariants as place
-use Rattle.fst_types.specs.Closure.{one, join}
-use Rattle.fst_types.specs.Dependencies.{DirectlyOn, DependsOn, IsLiveNumber}
-use Rattle.fst_types.specs.Facts.{SparseAreLawful}
-use Rattle.fst_types.specs.Gates.{IsOpenNumber}
-use Rattle.fst_types.specs.Lists.{Lists}
-use Rattle.fst_types.specs.Order.{depend_order, NamesUnknown, NamesAbove}
-use Rattle.fst_types.specs.Patches.{Patch}
-use Rattle.fst_types.specs.Refusals.{NoneHolds}
-use Rattle.fst_types.proofs.Finite.{In-from_Contains, Contains-from_In, In-map}
-use Rattle.fst_types.proofs.NewChange.{IsWithin}
-use Rattle.fst_graph.specs.declared.prepared.Gates.{Gates}
-use Rattle.fst_graph.specs.declared.prepared.Prepared.{Prepared as Stored}
-use Rattle.fst_heads.specs.declared.head.Head.{Head}
-use Rattle.fst_heads.specs.Heads.{patch_of, patches_of}
-use Rattle.fst_heads.specs.Keeps.{Keeps}
-use Rattle.fst_graph.specs.Known.{Prepared}
-use Rattle.fst_graph.specs.Membering.{member_order}
-use Rattle.fst_graph.specs.Ready.{prepared_of, change_of, IsReady, IsMemberReady, IsReadyFor, MayBePut}
-use Rattle.fst_heads.proofs.Graded.{depends_under}
+use Rattle.fst_types.specs.{Closure.{one, join}, Dependencies.{DirectlyOn, DependsOn, IsLiveNumber}, Facts.SparseAreLawful, Gates.IsOpenNumber}
+use Rattle.fst_types.specs.{Lists.Lists, Order.{depend_order, NamesUnknown, NamesAbove}, Patches.Patch, Refusals.NoneHolds, declared.place.Place.Place}
+use Rattle.fst_heads.specs.{Heads.{patch_of, patches_of}, Keeps.Keeps, declared.head.Head.Head}
+use Rattle.fst_graph.specs.{Known.Prepared, Membering.member_order, Ready.{prepared_of, change_of, IsReady, IsMemberReady, IsReadyFor, MayBePut}}
+use Rattle.fst_graph.specs.{declared.prepared.Gates.Gates, declared.prepared.Prepared.Prepared as Stored}
+use Rattle.fst_types.proofs.{Finite.{In-from_Contains, Contains-from_In, In-map}, NewChange.IsWithin}
+use Rattle.fst_heads.proofs.{Graded.depends_under, Touching.touched_overlaps}
 use Rattle.fst_walks.proofs.Overlapped.{touched_no_gate}
-use Rattle.fst_graph.proofs.Readied.{head_told, ready_member}
-use Rattle.fst_graph.proofs.SealedIf.{open_not_sealed}
-use Rattle.fst_heads.proofs.Touching.{touched_overlaps}
+use Rattle.fst_graph.proofs.{Readied.{head_told, ready_member}, SealedIf.open_not_sealed}
+use Rattle.fst_types.specs.declared.grade.Grade.TheVariants as grade
+use Rattle.fst_types.specs.declared.place.Place.TheVariants as place
 
 -- what is prepared is for the group with those gates
 pub head_same : (o : Option Stored) (n : ℕ) (q : Prepared) (head : ℕ) (p : Stored) (gates : Gates) → option_map (prepared_of n) o ≡ Some q → q.group ≡ Some head → o ≡ Some p → p.gates ≡ Some gates → gates.head ≡ head

@@ -1,29 +1,16 @@
 -- What a new change would depend on, and how it would be graded, once an open gate is sealed: told by the patches as they stand.
 use Rattle.std.proofs.Common.{◌≡◌, ◌≢◌, ◌⊎◌, ◌↔◌, ℕ, List, [], ◌∷◌, map, Contains, Some, None, refl, sym, ap, subst, ◌∙◌, inl, inr, arith}
 use Rattle.std.proofs.lemmas.Bool.{cases_eq}
-use Rattle.fst_types.specs.declared.place.Place.{Place}
-use Rattle.fst_types.specs.declared.place.Place.TheVariants as place
-use Rattle.fst_types.specs.declared.grade.Grade.{Grade}
-use Rattle.fst_types.specs.declared.grade.Grade.TheVariants as grade
-use Rattle.fst_types.specs.Cascade.{Follows, RestsOnDisk, IsCascadeOf}
-use Rattle.fst_types.specs.Closure.{one, join}
-use Rattle.fst_types.specs.Dependencies.{DirectlyOn, DependsOn, Needs, IsLiveNumber, IsOnDisk}
-use Rattle.fst_types.specs.Facts.{SparseAreLawful}
-use Rattle.fst_types.specs.Gates.{IsOpenNumber}
-use Rattle.fst_types.specs.Gating.{sealed}
-use Rattle.fst_types.specs.Grades.{FollowsRule}
-use Rattle.fst_types.specs.Patches.{SealedGate, Patch, IsOn, IsLive, IsOpenGate}
-use Rattle.fst_types.proofs.Alike.{back_alike}
-use Rattle.fst_types.proofs.Cascades.{kind_cases, place_decided, arrived}
-use Rattle.fst_types.proofs.Crash.{same_number}
+use Rattle.fst_types.specs.{Cascade.{Follows, RestsOnDisk, IsCascadeOf}, Closure.{one, join}, Dependencies.{DirectlyOn, DependsOn, Needs, IsLiveNumber, IsOnDisk}, Facts.SparseAreLawful}
+use Rattle.fst_types.specs.{Gates.IsOpenNumber, Gating.sealed, Grades.FollowsRule, Patches.{SealedGate, Patch, IsOn, IsLive, IsOpenGate}, declared.grade.Grade.Grade, declared.place.Place.Place}
+use Rattle.fst_heads.specs.{Grading.{HasUnder, IsReturning, IsLeading, IsOpenBut, MayBeHard}, Rows.{IsTouched, IsSparseRow}}
+use Rattle.fst_types.proofs.{Alike.back_alike, Cascades.{kind_cases, place_decided, arrived}, Crash.same_number}
 use Rattle.fst_types.proofs.Finite.{Decided, decided_not, decided_both, In-from_Contains, Contains-from_In, search_in, search_list, lowest}
-use Rattle.fst_types.proofs.SealedSame.{Twin, back, forth, depends_same, need_was, need_is, reaches_same}
-use Rattle.fst_types.proofs.Sealing.{alike_sealed, sparse_sealed}
-use Rattle.fst_heads.specs.Grading.{HasUnder, IsReturning, IsLeading, IsOpenBut, MayBeHard}
-use Rattle.fst_heads.specs.Rows.{IsTouched, IsSparseRow}
-use Rattle.fst_walks.proofs.Holding.{live_up}
-use Rattle.fst_walks.proofs.NearRow.{under_weaker}
+use Rattle.fst_types.proofs.{SealedSame.{Twin, back, forth, depends_same, need_was, need_is, reaches_same}, Sealing.{alike_sealed, sparse_sealed}}
 use Rattle.fst_heads.proofs.Touching.{touch_parts, touch_whole}
+use Rattle.fst_walks.proofs.{Holding.live_up, NearRow.under_weaker}
+use Rattle.fst_types.specs.declared.place.Place.TheVariants as place
+use Rattle.fst_types.specs.declared.grade.Grade.TheVariants as grade
 
 memory_live : (x : Place) → x ≡ place.Memory → x ≡ place.Disk → ⊥
 memory_live x a b = cc

@@ -1,20 +1,10 @@
 -- What walks over the patches want, and what they leave.
 use Rattle.std.proofs.Common.{◌≡◌, ◌∙◌, ℕ, Bool, List, Vec, Global, length, map, sym, subst}
 use Rattle.std.proofs.lemmas.List.{length-map}
-use Rattle.fst_heads.specs.declared.head.Head.{Head}
-use Rattle.fst_heads.specs.declared.lists.Listed.{Listed}
-use Rattle.fst_heads.specs.declared.standing.Standing.{Standing}
-use Rattle.fst_heads.specs.Covers.{AreCovered, Covering}
-use Rattle.fst_heads.specs.Heads.{patch_of, patches_of}
-use Rattle.fst_heads.specs.Keeps.{IsInside, Keeps, Tallies}
-use Rattle.fst_heads.specs.Lists.{entries_of, AreListed}
-use Rattle.fst_heads.specs.Nodes.{Node, nodes_of, AreSettled}
-use Rattle.fst_heads.specs.Standings.{AllStand}
-use Rattle.fst_heads.proofs.AtNumber.{patches_in_nodes}
-use Rattle.fst_heads.proofs.Slots.{rising_heads}
-use Rattle.fst_walks.specs.declared.sight.Sight.{Sight}
-use Rattle.fst_walks.specs.Searching.{TellsGates}
-use Rattle.fst_walks.specs.Sights.{Sees}
+use Rattle.fst_heads.specs.{Covers.{AreCovered, Covering}, Heads.{patch_of, patches_of}, Keeps.{IsInside, Keeps, Tallies}, Lists.{entries_of, AreListed}}
+use Rattle.fst_heads.specs.{Nodes.{Node, nodes_of, AreSettled}, Standings.AllStand, declared.head.Head.Head, declared.lists.Listed.Listed, declared.standing.Standing.Standing}
+use Rattle.fst_walks.specs.{Searching.TellsGates, Sights.Sees, declared.sight.Sight.Sight}
+use Rattle.fst_heads.proofs.{AtNumber.patches_in_nodes, Slots.rising_heads}
 use Rattle.fst_walks.proofs.Held.{heads_held, heads_live}
 
 -- a walk over the heads leaves a mark for each

@@ -1,36 +1,19 @@
 -- What each call of the patches with sparse rows is of those with whole rows.
-use Rattle.std.proofs.Common.{◌≡◌, ◌≢◌, ◌≤◌, ◌+◌, ◌==◌, ◌∷◌, [], ℕ, List, Option, Some, None, length, map, find, Contains, refl, sym, ap, subst, ◌∙◌, inl, inr, ◌↔◌}
-use Rattle.std.proofs.lemmas.Bool.{cases_Bool}
-use Rattle.std.proofs.lemmas.List.{length-map}
-use Rattle.fst_types.specs.declared.fault.Fault.{Fault}
-use Rattle.fst_types.specs.declared.grade.Grade.{Grade}
-use Rattle.fst_types.specs.declared.grade.Grade.TheVariants as grade
-use Rattle.fst_types.specs.declared.place.Place.{Place}
-use Rattle.fst_types.specs.declared.place.Place.TheVariants as place
-use Rattle.fst_types.specs.Dependencies.{IsBlocked, IsLiveNumber}
-use Rattle.fst_types.specs.Facts.{IsOnDiskWithAll}
-use Rattle.fst_types.specs.Gates.{IsGateNumber, IsOpenNumber, IsSealedNumber}
-use Rattle.fst_types.specs.Lists.{Lists}
-use Rattle.fst_types.specs.Looks.{IsPick, place_among, place_of}
-use Rattle.fst_types.specs.Making.{fresh}
-use Rattle.fst_types.specs.Order.{depend_order, seal_order, NamesAbove}
-use Rattle.fst_types.specs.Overlaps.{IsOverlapped, Overlaps}
-use Rattle.fst_types.specs.Patches.{Patch, Change, IsHard, IsLive, IsOn, IsOpenGate}
-use Rattle.fst_types.specs.Refusals.{IsFirst, NoneHolds}
-use Rattle.fst_types.specs.Writable.{InWritableSet, IsWritableSet, HasReady, IsHeld, IsLeastHeld, IsWritable, IsLeastWritable}
-use Rattle.std.proofs.lemmas.List.Elements.{Contains-push_cases}
-use Rattle.fst_types.specs.Grouping.{GateIsSealedIfOpen}
-use Rattle.fst_types.proofs.Alike.{back_alike, open_back}
-use Rattle.fst_types.proofs.Loosened.{loosened}
-use Rattle.fst_types.proofs.Sealing.{alike_sealed}
+use Rattle.std.proofs.Common.{◌≡◌, ◌≢◌, ◌≤◌, ◌+◌, ◌==◌, ◌∷◌, [], ℕ, List, Option, Some, None, length, map, Contains, refl, sym, ap, subst, ◌∙◌, inl, inr, ◌↔◌}
+use Rattle.std.proofs.lemmas.{Bool.cases_Bool, List.length-map, List.Elements.Contains-push_cases}
+use Rattle.fst_types.specs.{Dependencies.{IsBlocked, IsLiveNumber}, Facts.IsOnDiskWithAll, Gates.{IsGateNumber, IsOpenNumber, IsSealedNumber}, Grouping.GateIsSealedIfOpen, Looks.{IsPick, place_among, place_of}}
+use Rattle.fst_types.specs.{Making.fresh, Order.{depend_order, seal_order, NamesAbove}, Overlaps.{IsOverlapped, Overlaps}, Patches.{Patch, Change, IsHard, IsLive, IsOn, IsOpenGate}}
+use Rattle.fst_types.specs.{Refusals.{IsFirst, NoneHolds}, Writable.{InWritableSet, IsWritableSet, HasReady, IsHeld, IsLeastHeld, IsWritable}, declared.fault.Fault.Fault, declared.grade.Grade.Grade}
 use Rattle.fst_graph.specs.Grouping.{AddsPair, SealsIfOpen}
 use Rattle.fst_graph.specs.Known.{Known, unprepared, AddsChange, AddsEmpty, AddsGate, DependsGate, Foresees, Forgets, IsStuckByGates, LandsBlock, Launches, MayLaunch, Refuses, SealsGate}
-use Rattle.fst_graph.specs.Membering.{ArePaired, Foretells, GainsMember, OverlapReaches, member_order}
-use Rattle.fst_graph.specs.Rows.{AreWhole, whole, whole_known, with_row}
+use Rattle.fst_graph.specs.{Membering.{ArePaired, Foretells, GainsMember, OverlapReaches, member_order}, Rows.{AreWhole, whole, whole_known, with_row}}
 use Rattle.fst_graph.specs.Sparse.{AddsSparse, ForeseesSparse, ForetellsSparse, GainsSparse}
-use Rattle.fst_graph.proofs.Wholes.{memory_live, is, was, each_whole, on_disk, live_number, open_number, sealed_number, memory_is, memory_was, depends_up, depends_down, blocked, set_is, set_back, set_was}
-use Rattle.fst_graph.proofs.WholeRows.{live_or_disk, direct_gate, above_same, gated_over, gated_is, emptied_is, emptied_over, sealed_is, sealed_over, begun_is, begun_over, gains_is, gains_over, launched_is, launched_over, landed_is, landed_over, forgotten_is, forgotten_over, grouped_is}
+use Rattle.fst_types.proofs.{Alike.{back_alike, open_back}, Loosened.loosened, Sealing.alike_sealed}
 use Rattle.fst_graph.proofs.WholeMember.{changed_is, member_is, foretold_is}
+use Rattle.fst_graph.proofs.WholeRows.{live_or_disk, direct_gate, gated_over, gated_is, emptied_is, emptied_over, sealed_is, sealed_over, begun_is, begun_over, gains_is, gains_over, launched_is, launched_over, landed_is, landed_over, forgotten_is, forgotten_over, grouped_is}
+use Rattle.fst_graph.proofs.Wholes.{memory_live, is, was, each_whole, on_disk, live_number, open_number, sealed_number, memory_is, memory_was, depends_up, depends_down, blocked, set_is, set_back, set_was}
+use Rattle.fst_types.specs.declared.grade.Grade.TheVariants as grade
+use Rattle.fst_types.specs.declared.place.Place.TheVariants as place
 
 -- each number has its place
 place_same : (rows : List (ℕ × List ℕ)) (n : ℕ) (xs : List Patch) → place_among (map (whole rows) xs) n ≡ place_among xs n

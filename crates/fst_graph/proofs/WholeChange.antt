@@ -1,30 +1,15 @@
 -- A new change with a sparse row is one with its whole row, which is kept beside.
-use Rattle.std.proofs.Common.{◌≡◌, ◌≢◌, ◌⊎◌, ◌↔◌, ℕ, ◌==◌, ◌+◌, ◌≤◌, ◌<◌, true, List, [], ◌∷◌, ◌++◌, map, Contains, refl, sym, ap, subst, ◌∙◌, inl, inr, arith}
+use Rattle.std.proofs.Common.{◌≡◌, ◌≢◌, ◌⊎◌, ◌↔◌, ℕ, ◌+◌, ◌≤◌, true, List, [], ◌∷◌, ◌++◌, map, Contains, refl, sym, ap, subst, ◌∙◌, inl, inr, arith}
 use Rattle.std.proofs.lemmas.List.Elements.{Contains-push_cases}
-use Rattle.fst_types.specs.declared.place.Place.TheVariants as place
-use Rattle.fst_types.specs.declared.grade.Grade.{Grade}
-use Rattle.fst_types.specs.declared.grade.Grade.TheVariants as grades
-use Rattle.fst_types.specs.Closure.{one, join}
-use Rattle.fst_types.specs.Dependencies.{DirectlyOn, DependsOn, IsLiveNumber}
-use Rattle.fst_types.specs.Facts.{HeadsAreLawful, IsOnDiskWithAll}
-use Rattle.fst_types.specs.Grades.{FollowsRule, IsGraded, IsGradedHard}
-use Rattle.fst_types.specs.Lists.{Lists}
-use Rattle.fst_types.specs.Making.{fresh, ChangeIsMade}
-use Rattle.fst_types.specs.Patches.{Kind, Change, Empty, OpenGate, SealedGate, Patch}
-use Rattle.fst_types.proofs.Adding.{on_disk_with_all_added}
-use Rattle.fst_types.proofs.Alike.{closure_map}
-use Rattle.fst_types.proofs.Finite.{In, In-from_Contains, Contains-from_In, In-append_left, In-append_right}
-use Rattle.fst_types.proofs.Fits.{content_end}
-use Rattle.fst_types.proofs.Heads.{heads_changed}
-use Rattle.fst_types.proofs.Images.{content_more}
-use Rattle.fst_types.proofs.Loosened.{loosened}
+use Rattle.fst_types.specs.{Closure.{one, join}, Dependencies.{DirectlyOn, DependsOn, IsLiveNumber}, Facts.IsOnDiskWithAll, Grades.{FollowsRule, IsGradedHard}}
+use Rattle.fst_types.specs.{Lists.Lists, Making.{fresh, ChangeIsMade}, Patches.{Kind, Change, Empty, OpenGate, SealedGate, Patch}, declared.grade.Grade.Grade}
 use Rattle.fst_heads.specs.Rows.{touches, IsTouched, IsDependency}
+use Rattle.fst_graph.specs.{Rows.{row_of_kind, whole, IsSparseOf, AreWhole}, Sparse.SparseChangeIsMade}
+use Rattle.fst_types.proofs.{Adding.on_disk_with_all_added, Alike.closure_map, Finite.{In, In-from_Contains, Contains-from_In, In-append_left, In-append_right}}
+use Rattle.fst_types.proofs.{Fits.content_end, Heads.heads_changed, Images.content_more, Loosened.loosened}
 use Rattle.fst_heads.proofs.Touching.{depends_exactly}
-use Rattle.fst_graph.specs.Rows.{row_of_kind, whole, IsSparseOf, AreWhole}
-use Rattle.fst_graph.specs.Sparse.{SparseChangeIsMade}
-use Rattle.fst_graph.proofs.Wholes.{is, was, live_number, blocked, need_is, need_was, reaches, returns}
-use Rattle.fst_graph.proofs.WholeSteps.{swap_pushed}
-use Rattle.fst_graph.proofs.WholeRows.{named}
+use Rattle.fst_graph.proofs.{WholeRows.named, WholeSteps.swap_pushed, Wholes.{is, was, live_number, blocked, need_is, need_was, reaches, returns}}
+use Rattle.fst_types.specs.declared.grade.Grade.TheVariants as grades
 
 map_same : (f g : Patch → Patch) (xs : List Patch) → ((p : Patch) → In xs p → f p ≡ g p) → map f xs ≡ map g xs
 map_same f g [] same = refl

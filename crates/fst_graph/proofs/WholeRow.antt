@@ -1,25 +1,14 @@
 -- The whole row of a new change, as it is told by the patches once the change is among them.
-use Rattle.std.proofs.Common.{◌≡◌, ◌⊎◌, ◌↔◌, ℕ, ◌==◌, ◌&&◌, ◌+◌, ◌≤◌, ◌<◌, nat_lt, Bool, true, false, not, List, [], ◌∷◌, ◌++◌, map, filter, length, get_or, Contains, refl, sym, ap, subst, ◌∙◌, inl, inr, arith}
-use Rattle.std.specs.Prelude.{◌||◌, AllPairs}
-use Rattle.std.proofs.lemmas.Bool.{cases_Bool, false≢true}
-use Rattle.std.proofs.lemmas.Bool.Decides.{nat_tests}
-use Rattle.std.proofs.lemmas.List.{length-map, get_or-map}
-use Rattle.std.proofs.lemmas.List.Kept.{AllPairs-filter}
+use Rattle.std.proofs.Common.{◌≡◌, ◌⊎◌, ℕ, ◌==◌, ◌&&◌, ◌+◌, ◌<◌, nat_lt, Bool, true, false, not, List, [], ◌∷◌, ◌++◌, map, filter, Contains, refl, sym, ap, subst, inl, inr, arith}
+use Rattle.std.specs.Prelude.{◌||◌}
+use Rattle.std.proofs.lemmas.{Bool.{cases_Bool, false≢true}, Bool.Decides.nat_tests, List.{length-map, get_or-map}, List.Kept.AllPairs-filter}
 use Rattle.std.specs.List.Sorted.{IsStrictlyIncreasing}
-use Rattle.fst_types.specs.declared.place.Place.{Place}
-use Rattle.fst_types.specs.declared.place.Place.TheVariants as place
-use Rattle.fst_types.specs.Dependencies.{IsLiveNumber}
-use Rattle.fst_types.specs.Gating.{gains}
-use Rattle.fst_types.specs.Lists.{Lists}
-use Rattle.fst_types.specs.Patches.{Patch, IsRising}
-use Rattle.fst_types.specs.Tests.{is_at, is_live, is_among}
-use Rattle.fst_types.proofs.Dropping.{filter_in, in_filter}
-use Rattle.fst_types.proofs.Finite.{In, In-from_Contains, Contains-from_In, In-map}
-use Rattle.fst_types.proofs.GateGains.{In-unmap}
-use Rattle.fst_types.proofs.Issuing.{among_in, in_among}
-use Rattle.fst_heads.specs.Rows.{touches, IsTouched, IsDependency}
+use Rattle.fst_types.specs.{Gating.gains, Lists.Lists, Patches.{Patch, IsRising}, Tests.{is_at, is_live, is_among}, declared.place.Place.Place}
+use Rattle.fst_heads.specs.Rows.{touches, IsDependency}
 use Rattle.fst_graph.specs.Rows.{whole, whole_row, AreWhole}
+use Rattle.fst_types.proofs.{Dropping.{filter_in, in_filter}, Finite.{In-from_Contains, Contains-from_In, In-map}, GateGains.In-unmap, Issuing.{among_in, in_among}}
 use Rattle.fst_graph.proofs.Wholes.{is}
+use Rattle.fst_types.specs.declared.place.Place.TheVariants as place
 
 live_to : (x : Place) → (x ≡ place.Disk → ⊥) → not (is_at x place.Disk) ≡ true
 live_to place.Memory l = refl

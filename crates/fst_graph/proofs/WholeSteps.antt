@@ -1,22 +1,12 @@
 -- What a step makes of patches with sparse rows it makes of the same with whole rows.
-use Rattle.std.proofs.Common.{◌≡◌, ◌≢◌, ◌⊎◌, ◌↔◌, ℕ, ◌==◌, ◌+◌, ◌≤◌, ◌<◌, true, false, cond, List, [], ◌∷◌, ◌++◌, map, filter, Contains, Some, refl, sym, ap, subst, ◌∙◌, inl, inr, arith}
-use Rattle.std.proofs.lemmas.Bool.{cases_Bool, cases_eq, eqb-true}
-use Rattle.std.proofs.lemmas.List.Elements.{Contains-append_cases}
-use Rattle.fst_types.specs.declared.place.Place.{Place}
-use Rattle.fst_types.specs.declared.place.Place.TheVariants as place
-use Rattle.fst_types.specs.Cascade.{Follows, RestsOnDisk, placed_as, unsettled, IsCascadeOf}
-use Rattle.fst_types.specs.Closure.{one}
-use Rattle.fst_types.specs.Dependencies.{DirectlyOn, DependsOn, IsLiveNumber, IsOnDisk}
-use Rattle.fst_types.specs.Gating.{gains, sealed}
-use Rattle.fst_types.specs.Patches.{Kind, Change, Empty, OpenGate, SealedGate, Patch, IsOn, IsOpenGate, block_of_kind}
-use Rattle.fst_types.specs.Tests.{is_live, is_among, is_change_at}
-use Rattle.fst_types.specs.Writing.{launched, landed}
-use Rattle.fst_types.proofs.Alike.{closure_map}
-use Rattle.fst_types.proofs.Cascades.{Settled, settled_back, settled_on, no_follower_on}
-use Rattle.fst_types.proofs.Finite.{In, In-from_Contains, Contains-from_In, In-map, In-append_left}
-use Rattle.fst_types.proofs.GateGains.{In-unmap}
+use Rattle.std.proofs.Common.{◌≡◌, ◌⊎◌, ◌↔◌, ℕ, ◌==◌, ◌≤◌, List, [], ◌∷◌, ◌++◌, map, filter, Contains, Some, refl, sym, ap, subst, ◌∙◌, inl, inr, arith}
+use Rattle.std.proofs.lemmas.{Bool.{cases_Bool, eqb-true}, List.Elements.Contains-append_cases}
+use Rattle.fst_types.specs.{Cascade.{Follows, RestsOnDisk, placed_as, unsettled, IsCascadeOf}, Closure.one, Dependencies.{DirectlyOn, DependsOn, IsLiveNumber}, Gating.{gains, sealed}}
+use Rattle.fst_types.specs.{Patches.{Kind, Change, Empty, OpenGate, SealedGate, Patch, IsOn, block_of_kind}, Tests.{is_live, is_among, is_change_at}, Writing.{launched, landed}, declared.place.Place.Place}
 use Rattle.fst_graph.specs.Rows.{row_of_kind, whole, IsSparseOf}
+use Rattle.fst_types.proofs.{Alike.closure_map, Cascades.{Settled, settled_back, settled_on, no_follower_on}, Finite.{In, In-from_Contains, Contains-from_In, In-map, In-append_left}, GateGains.In-unmap}
 use Rattle.fst_graph.proofs.Wholes.{each_whole, on_disk}
+use Rattle.fst_types.specs.declared.place.Place.TheVariants as place
 
 -- two changes of each patch that can be made in either order
 pub map_swap : (f g : Patch → Patch) (xs : List Patch) → ((x : Patch) → In xs x → f (g x) ≡ g (f x)) → map f (map g xs) ≡ map g (map f xs)

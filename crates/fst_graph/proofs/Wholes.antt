@@ -1,20 +1,11 @@
 -- What patches with whole rows and the same with sparse ones have in common.
-use Rattle.std.proofs.Common.{◌≡◌, ◌⊎◌, ◌↔◌, ℕ, List, map, Contains, refl, sym, ap, subst, ◌∙◌, inl, inr}
-use Rattle.fst_types.specs.declared.place.Place.{Place}
-use Rattle.fst_types.specs.declared.place.Place.TheVariants as place
-use Rattle.fst_types.specs.Closure.{Closure, one, join}
-use Rattle.fst_types.specs.Dependencies.{DirectlyOn, DependsOn, Needs, IsBlocked, IsLiveNumber, IsOnDisk}
-use Rattle.fst_types.specs.Facts.{IsOnDiskWithAll}
-use Rattle.fst_types.specs.Gates.{IsOpenNumber, IsSealedNumber}
-use Rattle.fst_types.specs.Grades.{HasEdge, Reaches, Returns}
-use Rattle.fst_types.specs.Patches.{Patch, IsLive, IsOpenGate, grade_of_kind}
-use Rattle.fst_types.specs.Writable.{IsInMemoryOn, InWritableSet}
-use Rattle.fst_types.proofs.Alike.{closure_map}
-use Rattle.fst_types.proofs.Cascades.{place_decided}
-use Rattle.fst_types.proofs.Finite.{In-from_Contains, Contains-from_In, In-map}
-use Rattle.fst_types.proofs.GateGains.{In-unmap}
+use Rattle.std.proofs.Common.{◌≡◌, ◌↔◌, ℕ, List, map, Contains, refl, sym, ap, subst, ◌∙◌, inl, inr}
+use Rattle.fst_types.specs.{Closure.{one, join}, Dependencies.{DirectlyOn, DependsOn, Needs, IsBlocked, IsLiveNumber, IsOnDisk}, Facts.IsOnDiskWithAll, Gates.{IsOpenNumber, IsSealedNumber}}
+use Rattle.fst_types.specs.{Grades.{HasEdge, Reaches, Returns}, Patches.{Patch, IsLive, IsOpenGate, grade_of_kind}, Writable.{IsInMemoryOn, InWritableSet}, declared.place.Place.Place}
 use Rattle.fst_graph.specs.Rows.{whole, IsSparseOf}
+use Rattle.fst_types.proofs.{Alike.closure_map, Cascades.place_decided, Finite.{In-from_Contains, Contains-from_In, In-map}, GateGains.In-unmap}
 use Rattle.fst_walks.proofs.Holding.{live_up}
+use Rattle.fst_types.specs.declared.place.Place.TheVariants as place
 
 pub memory_live : (x : Place) → x ≡ place.Memory → x ≡ place.Disk → ⊥
 memory_live x a b = cc

@@ -1,6 +1,6 @@
 use Rattle.std.proofs.Common.{refl}
-use Rattle.fst_graph.specs.Known.{unprepared}
 use Rattle.fst_heads.specs.Names.{numbers_of}
+use Rattle.fst_graph.specs.Known.{unprepared}
 use Rattle.fst_graph.proofs.Grouped.{answered, fine, beside_change, grouped_change, grouped_unprepared}
 use Rattle.fst_graph.proofs.graph.Graph.add_data.Goals as goal
 

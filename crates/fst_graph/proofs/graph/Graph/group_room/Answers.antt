@@ -1,8 +1,6 @@
 use Rattle.std.proofs.Common.{inl}
-use Rattle.fst_graph.specs.Known.{member_for}
-use Rattle.fst_graph.specs.Whole.{IsUnclosed}
-use Rattle.fst_graph.proofs.Grouped.{answered, fine, failed, grouped_prepared, grouped_unprepared}
-use Rattle.fst_graph.proofs.GroupCalls.{pairs, tail_after, foretold, member_clear, member_refused, first_closed}
+use Rattle.fst_graph.specs.{Known.member_for, Whole.IsUnclosed}
+use Rattle.fst_graph.proofs.{GroupCalls.{pairs, tail_after, foretold, member_clear, member_refused, first_closed}, Grouped.{answered, fine, failed, grouped_prepared, grouped_unprepared}}
 use Rattle.fst_graph.proofs.graph.Graph.group_room.Goals as goal
 
 pub member_room-requires-clause-gates : goal.member_room-requires-clause-gates

@@ -1,5 +1,5 @@
-use Rattle.fst_graph.specs.Known.{prepared_for}
 use Rattle.fst_heads.specs.Names.{numbers_of}
+use Rattle.fst_graph.specs.Known.{prepared_for}
 use Rattle.fst_graph.proofs.Grouped.{answered, fine, beside_foreseen, grouped_prepared, grouped_unprepared}
 use Rattle.fst_graph.proofs.graph.Graph.room.Goals as goal
 

@@ -1,6 +1,5 @@
 use Rattle.fst_heads.specs.Names.{numbers_of}
-use Rattle.fst_graph.proofs.Grouped.{answered, fine}
-use Rattle.fst_graph.proofs.WholeCalls.{empty_over, empty_made, same_over}
+use Rattle.fst_graph.proofs.{Grouped.{answered, fine}, WholeCalls.{empty_over, empty_made, same_over}}
 use Rattle.fst_graph.proofs.patches.Patches.add_empty.Goals as goal
 
 pub invariant_of-self : goal.invariant_of-self

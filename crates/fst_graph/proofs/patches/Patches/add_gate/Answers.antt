@@ -1,5 +1,4 @@
-use Rattle.fst_graph.proofs.Grouped.{answered, fine}
-use Rattle.fst_graph.proofs.WholeCalls.{gate_over, gate_made, same_over}
+use Rattle.fst_graph.proofs.{Grouped.{answered, fine}, WholeCalls.{gate_over, gate_made, same_over}}
 use Rattle.fst_graph.proofs.patches.Patches.add_gate.Goals as goal
 
 pub invariant_of-self : goal.invariant_of-self

@@ -1,5 +1,4 @@
-use Rattle.fst_graph.proofs.Grouped.{answered, fine}
-use Rattle.fst_graph.proofs.WholeCalls.{pair_over, pair_made, same_over}
+use Rattle.fst_graph.proofs.{Grouped.{answered, fine}, WholeCalls.{pair_over, pair_made, same_over}}
 use Rattle.fst_graph.proofs.patches.Patches.add_pair.Goals as goal
 
 pub invariant_of-self : goal.invariant_of-self

@@ -1,6 +1,5 @@
 use Rattle.fst_heads.specs.Names.{numbers_of}
-use Rattle.fst_graph.proofs.Grouped.{fine, failed}
-use Rattle.fst_graph.proofs.WholeCalls.{choice_is, ready_is}
+use Rattle.fst_graph.proofs.{Grouped.{fine, failed}, WholeCalls.{choice_is, ready_is}}
 use Rattle.fst_graph.proofs.patches.Patches.chosen.Goals as goal
 
 pub returns-clause-ok : goal.returns-clause-ok

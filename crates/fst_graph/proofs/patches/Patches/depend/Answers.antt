@@ -1,6 +1,5 @@
 use Rattle.fst_heads.specs.Names.{numbers_of}
-use Rattle.fst_graph.proofs.Grouped.{answered, fine, failed}
-use Rattle.fst_graph.proofs.WholeCalls.{gains_over_known, gains_made, depend_refuses, same_over}
+use Rattle.fst_graph.proofs.{Grouped.{answered, fine, failed}, WholeCalls.{gains_over_known, gains_made, depend_refuses, same_over}}
 use Rattle.fst_graph.proofs.patches.Patches.depend.Goals as goal
 
 pub invariant_of-self : goal.invariant_of-self

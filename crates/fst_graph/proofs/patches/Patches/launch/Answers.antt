@@ -1,6 +1,6 @@
 use Rattle.std.proofs.Common.{sym, subst}
-use Rattle.fst_graph.specs.Known.{MayLaunch}
 use Rattle.fst_heads.specs.Names.{numbers_of}
+use Rattle.fst_graph.specs.Known.{MayLaunch}
 use Rattle.fst_graph.proofs.WholeCalls.{launch_over, launch_made, may_launch_was}
 use Rattle.fst_graph.proofs.patches.Patches.launch.Goals as goal
 

@@ -1,8 +1,6 @@
 use Rattle.std.proofs.Common.{sym, subst}
-use Rattle.fst_graph.specs.Known.{Known}
-use Rattle.fst_graph.specs.Membering.{ArePaired}
-use Rattle.fst_graph.proofs.Grouped.{fine, failed}
-use Rattle.fst_graph.proofs.WholeCalls.{paired_was, foretells_is, member_clear_is, member_refuses}
+use Rattle.fst_graph.specs.{Known.Known, Membering.ArePaired}
+use Rattle.fst_graph.proofs.{Grouped.{fine, failed}, WholeCalls.{paired_was, foretells_is, member_clear_is, member_refuses}}
 use Rattle.fst_graph.proofs.patches.Patches.member_room.Goals as goal
 
 pub member_room-requires-clause-gates : goal.member_room-requires-clause-gates

@@ -1,6 +1,5 @@
 use Rattle.fst_heads.specs.Names.{numbers_of}
-use Rattle.fst_graph.proofs.Grouped.{fine}
-use Rattle.fst_graph.proofs.WholeCalls.{foresees_is}
+use Rattle.fst_graph.proofs.{Grouped.fine, WholeCalls.foresees_is}
 use Rattle.fst_graph.proofs.patches.Patches.room.Goals as goal
 
 pub returns-clause-ok : goal.returns-clause-ok

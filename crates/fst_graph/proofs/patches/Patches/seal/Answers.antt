@@ -1,5 +1,4 @@
-use Rattle.fst_graph.proofs.Grouped.{answered, fine, failed}
-use Rattle.fst_graph.proofs.WholeCalls.{seal_over, seal_made, seal_first, same_over}
+use Rattle.fst_graph.proofs.{Grouped.{answered, fine, failed}, WholeCalls.{seal_over, seal_made, seal_first, same_over}}
 use Rattle.fst_graph.proofs.patches.Patches.seal.Goals as goal
 
 pub invariant_of-self : goal.invariant_of-self

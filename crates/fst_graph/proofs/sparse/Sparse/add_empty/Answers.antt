@@ -1,29 +1,11 @@
 use Rattle.std.proofs.Common.{◌≡◌, ◌+◌, ◌<◌, ◌∙◌, rules, Contains, arith, inl, sym, ap, subst, refl, length, None, []}
-use Rattle.std.proofs.lemmas.List.{length-map}
-use Rattle.fst_types.specs.Refusals.{NoneHolds}
-use Rattle.fst_types.specs.Order.{make_order}
-use Rattle.fst_types.specs.Limits.{max_heads}
-use Rattle.fst_types.specs.Lists.{Lists}
-use Rattle.fst_types.specs.Patches.{Empty, Patch}
-use Rattle.fst_types.specs.Dependencies.{IsLiveNumber}
-use Rattle.fst_heads.specs.Heads.{patches_of}
+use Rattle.std.proofs.lemmas.List.{length-map, map_push}
+use Rattle.fst_types.specs.{Dependencies.IsLiveNumber, Limits.max_heads, Lists.Lists, Order.make_order, Patches.{Empty, Patch}, Refusals.NoneHolds}
+use Rattle.fst_heads.specs.{Heads.patches_of, Names.numbers_of, Nodes.{node_of, nodes_of, patches_in, pending_in, HasRoomAbove}, Pendings.{joined, joined_sums, sums_of}}
 use Rattle.fst_graph.specs.Known.{rest_place}
-use Rattle.fst_heads.specs.Names.{numbers_of}
-use Rattle.fst_heads.specs.Nodes.{node_of, nodes_of, patches_in, pending_in, HasRoomAbove}
-use Rattle.fst_heads.specs.Pendings.{joined, joined_sums, sums_of}
-use Rattle.fst_heads.proofs.AtNumber.{patches_in_nodes}
-use Rattle.fst_heads.proofs.Slots.{rising_heads}
-use Rattle.fst_graph.proofs.Emptying.{keeps_empty, empty_cascade}
-use Rattle.std.proofs.lemmas.List.{map_push}
-use Rattle.fst_heads.proofs.Linking.{rising_same}
-use Rattle.fst_graph.proofs.Listed.{listed_made, listed_empty}
+use Rattle.fst_heads.proofs.{AtNumber.patches_in_nodes, Beside.{beside_made, one_live, weight_of, weighs}, Covering.covered_push, Linking.rising_same, Slots.rising_heads, Stands.stand_made, Sums.joined_exact}
 use Rattle.fst_walks.proofs.Seen.{same_patches, linked_patches, lawful_nodes, tallies_wider}
-use Rattle.fst_graph.proofs.Borne.{lawful_with}
-use Rattle.fst_heads.proofs.Stands.{stand_made}
-use Rattle.fst_heads.proofs.Sums.{joined_exact}
-use Rattle.fst_graph.proofs.Tallied.{tallies_made}
-use Rattle.fst_heads.proofs.Beside.{beside_made, one_live, weight_of, weighs}
-use Rattle.fst_heads.proofs.Covering.{covered_push}
+use Rattle.fst_graph.proofs.{Borne.lawful_with, Emptying.{keeps_empty, empty_cascade}, Listed.{listed_made, listed_empty}, Tallied.tallies_made}
 use Rattle.fst_graph.proofs.sparse.Sparse.add_empty.Goals as goal
 
 pub live_named-requires : goal.live_named-requires

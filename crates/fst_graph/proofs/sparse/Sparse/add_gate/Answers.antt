@@ -1,24 +1,10 @@
 use Rattle.std.proofs.Common.{◌<◌, ◌++◌, ◌∷◌, [], ◌+◌, rules, refl, ap, map, arith, subst, length}
-use Rattle.std.proofs.lemmas.List.{length-map}
-use Rattle.fst_types.specs.Limits.{max_heads}
-use Rattle.fst_types.specs.Making.{fresh}
-use Rattle.fst_types.specs.Patches.{OpenGate}
-use Rattle.fst_types.specs.Refusals.{NoneHolds}
-use Rattle.fst_types.specs.Order.{room_order}
-use Rattle.fst_heads.specs.Heads.{patches_of}
-use Rattle.fst_heads.specs.Keeps.{Tallies}
-use Rattle.fst_heads.specs.Lists.{entries_of}
-use Rattle.fst_heads.specs.Nodes.{node_of, nodes_of, patches_in}
-use Rattle.fst_heads.proofs.Added.{new_node}
-use Rattle.fst_heads.proofs.Making.{gate_lawful, keeps_gate}
-use Rattle.std.proofs.lemmas.List.{map_push}
-use Rattle.fst_walks.proofs.Linked.{with_gate}
-use Rattle.fst_graph.proofs.Listed.{listed_made}
-use Rattle.fst_walks.proofs.Seen.{lawful_nodes, tallies_wider}
-use Rattle.fst_heads.proofs.Stands.{stand_made}
-use Rattle.fst_graph.proofs.Tallied.{tallies_made}
-use Rattle.fst_heads.proofs.Beside.{beside_made}
-use Rattle.fst_heads.proofs.Covering.{covered_push}
+use Rattle.std.proofs.lemmas.List.{length-map, map_push}
+use Rattle.fst_types.specs.{Limits.max_heads, Making.fresh, Order.room_order, Patches.OpenGate, Refusals.NoneHolds}
+use Rattle.fst_heads.specs.{Heads.patches_of, Keeps.Tallies, Lists.entries_of, Nodes.{node_of, nodes_of, patches_in}}
+use Rattle.fst_heads.proofs.{Added.new_node, Beside.beside_made, Covering.covered_push, Making.{gate_lawful, keeps_gate}, Stands.stand_made}
+use Rattle.fst_walks.proofs.{Linked.with_gate, Seen.{lawful_nodes, tallies_wider}}
+use Rattle.fst_graph.proofs.{Listed.listed_made, Tallied.tallies_made}
 use Rattle.fst_graph.proofs.sparse.Sparse.add_gate.Goals as goal
 
 pub invariant_of-self-2 : goal.invariant_of-self-2

@@ -1,17 +1,10 @@
 use Rattle.std.proofs.Common.{◌≡◌, ◌+◌, ◌≤◌, ◌∙◌, ◌∷◌, [], length, refl, rules, ap, subst, inl, arith}
-use Rattle.fst_types.specs.Patches.{OpenGate}
-use Rattle.fst_types.specs.Making.{fresh}
-use Rattle.fst_heads.specs.Keeps.{Beside}
 use Rattle.std.proofs.lemmas.List.{length-map}
-use Rattle.fst_heads.specs.Heads.{patches_of}
-use Rattle.fst_heads.specs.Nodes.{node_of, nodes_of, pending_in}
-use Rattle.fst_heads.specs.Pendings.{sums_of}
-use Rattle.fst_heads.proofs.Beside.{beside_made}
-use Rattle.fst_graph.proofs.Paired.{adds_pair, keeps_pair, paired, with_head}
-use Rattle.fst_heads.proofs.Added.{with_node}
-use Rattle.fst_graph.proofs.PairTold.{gated, second_gate, first_put, second_put, patches_paired, rising_gated, room_gated, tallies_pair}
+use Rattle.fst_types.specs.{Making.fresh, Patches.OpenGate}
+use Rattle.fst_heads.specs.{Heads.patches_of, Keeps.Beside, Nodes.{node_of, nodes_of, pending_in}, Pendings.sums_of}
+use Rattle.fst_heads.proofs.{Added.with_node, Beside.beside_made, Covering.covered_push}
 use Rattle.fst_walks.proofs.Seen.{tallies_wider}
-use Rattle.fst_heads.proofs.Covering.{covered_push}
+use Rattle.fst_graph.proofs.{PairTold.{gated, second_gate, first_put, second_put, patches_paired, rising_gated, room_gated, tallies_pair}, Paired.{adds_pair, keeps_pair, paired, with_head}}
 use Rattle.fst_graph.proofs.sparse.Sparse.add_pair.Goals as goal
 
 pub row_sums-sums-requires : goal.row_sums-sums-requires

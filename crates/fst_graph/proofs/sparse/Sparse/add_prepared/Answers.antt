@@ -1,33 +1,12 @@
 use Rattle.std.proofs.Common.{◌≡◌, ◌<◌, ◌+◌, ◌++◌, ◌∷◌, ◌∙◌, [], Some, arith, sym, subst, refl, ap, length, get_or, Contains}
-use Rattle.std.proofs.lemmas.List.{length-map}
-use Rattle.fst_types.specs.Dependencies.{IsLiveNumber}
-use Rattle.fst_types.specs.Facts.{SparseAreLawful}
-use Rattle.fst_types.specs.Limits.{max_heads}
-use Rattle.fst_types.specs.Making.{fresh}
-use Rattle.fst_types.specs.Patches.{Change}
+use Rattle.std.proofs.lemmas.List.{length-map, map_push}
+use Rattle.fst_types.specs.{Dependencies.IsLiveNumber, Facts.SparseAreLawful, Limits.max_heads, Making.fresh, Patches.Change}
+use Rattle.fst_heads.specs.{Heads.patches_of, Names.numbers_of, Nodes.{node_of, nodes_of, patches_in, pending_in}}
+use Rattle.fst_heads.specs.{Pendings.{is_pending, joined, joined_sums, over_block, sums_of}, Standings.{is_ready_on, is_held_on, standing_of, entered}, Tests.is_hard_kind}
+use Rattle.fst_heads.proofs.{Added.new_node, AtNumber.patches_in_nodes, Beside.beside_made, Slots.rising_heads, Stands.stand_change, Sums.joined_exact, Touching.keeps_change}
+use Rattle.fst_walks.proofs.{Seen.{linked_patches, lawful_nodes}, Shelves.shelved_push}
+use Rattle.fst_graph.proofs.{FewCounted.few_counted, Kept.covered_made, Listed.{listed_change, live_dependency}, Readied.{hard_may, ready_alone}, Sound.prepared_is, Tallied.tallies_made}
 use Rattle.fst_heads.specs.declared.pending.Pending.TheVariants as pending
-use Rattle.fst_heads.specs.Heads.{patches_of}
-use Rattle.fst_heads.specs.Names.{numbers_of}
-use Rattle.fst_heads.specs.Nodes.{node_of, nodes_of, patches_in, pending_in}
-use Rattle.fst_heads.specs.Pendings.{is_pending, joined, joined_sums, over_block, sums_of}
-use Rattle.fst_heads.specs.Standings.{is_ready_on, is_held_on, standing_of, entered}
-use Rattle.fst_heads.specs.Tests.{is_hard_kind}
-use Rattle.fst_heads.proofs.Added.{new_node}
-use Rattle.fst_heads.proofs.AtNumber.{patches_in_nodes}
-use Rattle.std.proofs.lemmas.List.{map_push}
-use Rattle.fst_graph.proofs.FewCounted.{few_counted}
-use Rattle.fst_graph.proofs.Listed.{listed_change, live_dependency}
-use Rattle.fst_graph.proofs.Readied.{hard_may, ready_alone}
-use Rattle.fst_graph.proofs.Sound.{prepared_is}
-use Rattle.fst_walks.proofs.Seen.{linked_patches, lawful_nodes}
-use Rattle.fst_walks.proofs.Shelves.{shelved_push}
-use Rattle.fst_heads.proofs.Slots.{rising_heads}
-use Rattle.fst_heads.proofs.Stands.{stand_change}
-use Rattle.fst_heads.proofs.Sums.{joined_exact}
-use Rattle.fst_graph.proofs.Tallied.{tallies_made}
-use Rattle.fst_heads.proofs.Touching.{keeps_change}
-use Rattle.fst_heads.proofs.Beside.{beside_made}
-use Rattle.fst_graph.proofs.Kept.{covered_made}
 use Rattle.fst_graph.proofs.sparse.Sparse.add_prepared.Goals as goal
 
 pub row_sums-sums-requires : goal.row_sums-sums-requires

@@ -1,31 +1,14 @@
 use Rattle.std.proofs.Common.{◌≡◌, ◌∙◌, length, map, ap, subst, arith, refl, inl, inr}
 use Rattle.std.proofs.lemmas.List.{length-map}
-use Rattle.fst_types.specs.Cascade.{IsCascadeOf, unsettled}
-use Rattle.fst_types.specs.Gates.{IsOpenNumber}
-use Rattle.fst_types.specs.Gating.{sealed}
-use Rattle.fst_types.specs.Refusals.{IsFirst}
-use Rattle.fst_types.specs.Order.{seal_order}
-use Rattle.fst_heads.specs.Frames.{frame_of, frames_of}
-use Rattle.fst_heads.specs.Spreading.{IsSpreadOf, seals}
-use Rattle.fst_heads.specs.Heads.{patches_of}
-use Rattle.fst_heads.specs.Nodes.{nodes_of, at_number, AreSettled}
-use Rattle.fst_heads.specs.Standings.{AllStand}
-use Rattle.fst_heads.proofs.AtNumber.{patches_in_nodes}
-use Rattle.fst_heads.proofs.Beside.{beside_landed, landed_few, sealed_told}
-use Rattle.fst_graph.proofs.Borne.{inside_nodes, open_nodes, settled_fits}
-use Rattle.fst_graph.proofs.Kept.{covered_moved, keeps_sealed}
-use Rattle.fst_graph.proofs.MemberReady.{put_begun, around_kept, places_kept, shut_begun}
+use Rattle.fst_types.specs.{Cascade.{IsCascadeOf, unsettled}, Gates.IsOpenNumber, Gating.sealed, Order.seal_order, Refusals.IsFirst}
+use Rattle.fst_heads.specs.{Frames.{frame_of, frames_of}, Heads.patches_of, Nodes.{nodes_of, at_number, AreSettled}, Spreading.{IsSpreadOf, seals}, Standings.AllStand}
 use Rattle.fst_graph.specs.Sound.{IsPrepared}
-use Rattle.fst_graph.proofs.Readied.{head_told}
-use Rattle.fst_graph.proofs.SealedIf.{refused_closed}
-use Rattle.fst_graph.proofs.Sound.{if_prepared}
-use Rattle.fst_walks.proofs.Seen.{seen, one_each, lawful_nodes}
-use Rattle.fst_heads.proofs.Slots.{rising_heads}
-use Rattle.fst_heads.proofs.Stands.{stand_sealed}
-use Rattle.fst_heads.proofs.Starting.{starts_sealed, unsettled_sealed}
-use Rattle.fst_heads.proofs.Carried.{linked_sealed, distinct_sealed}
-use Rattle.fst_graph.proofs.Tallied.{tallies_sealed}
 use Rattle.fst_types.proofs.Sealing.{alike_sealed}
+use Rattle.fst_heads.proofs.{AtNumber.patches_in_nodes, Beside.{beside_landed, landed_few, sealed_told}, Carried.{linked_sealed, distinct_sealed}}
+use Rattle.fst_heads.proofs.{Slots.rising_heads, Stands.stand_sealed, Starting.{starts_sealed, unsettled_sealed}}
+use Rattle.fst_walks.proofs.Seen.{seen, one_each, lawful_nodes}
+use Rattle.fst_graph.proofs.{Borne.{inside_nodes, open_nodes, settled_fits}, Kept.{covered_moved, keeps_sealed}, MemberReady.{put_begun, around_kept, places_kept, shut_begun}}
+use Rattle.fst_graph.proofs.{Readied.head_told, SealedIf.refused_closed, Sound.if_prepared, Tallied.tallies_sealed}
 use Rattle.fst_graph.proofs.sparse.Sparse.begin_member.Goals as goal
 
 pub gate_slot-requires : goal.gate_slot-requires

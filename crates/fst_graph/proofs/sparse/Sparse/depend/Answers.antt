@@ -1,28 +1,9 @@
 use Rattle.std.proofs.Common.{◌≡◌, ◌≤◌, ◌∙◌, Contains, length, map, refl, sym, ap, subst, inl, inr, arith, None, []}
-use Rattle.fst_types.specs.Dependencies.{DirectlyOn, IsLiveNumber}
-use Rattle.fst_types.specs.Facts.{SparseAreLawful}
-use Rattle.fst_types.specs.Gates.{IsOpenNumber}
-use Rattle.fst_types.specs.Gating.{gains}
-use Rattle.fst_types.specs.Lists.{Lists}
-use Rattle.fst_types.specs.Order.{depend_order}
-use Rattle.fst_types.specs.Refusals.{NoneHolds}
-use Rattle.fst_heads.specs.Heads.{patches_of}
-use Rattle.fst_heads.specs.Names.{numbers_of}
-use Rattle.fst_heads.specs.Nodes.{nodes_of, at_number, gains_names, linked_to, pending_in, HasRoomAbove}
-use Rattle.fst_heads.specs.declared.pending.Sums.{Sums}
-use Rattle.fst_heads.specs.Pendings.{sums_of}
-use Rattle.fst_heads.proofs.AtNumber.{patches_in_nodes}
-use Rattle.fst_heads.proofs.Added.{with_names}
-use Rattle.fst_walks.proofs.Linked.{patches_named}
-use Rattle.fst_graph.proofs.FewCounted.{few}
-use Rattle.fst_graph.proofs.Tallied.{tallies_depends}
-use Rattle.fst_heads.proofs.Linking.{rising_as, rising_same}
-use Rattle.fst_walks.proofs.Seen.{seen, same_patches, lawful_nodes, gained_number}
-use Rattle.fst_heads.proofs.Slots.{rising_heads}
-use Rattle.fst_graph.proofs.Gained.{keeps_depends}
-use Rattle.fst_graph.proofs.Walked.{gates_told, still_marked}
-use Rattle.fst_heads.proofs.Beside.{beside_depends}
-use Rattle.fst_heads.proofs.Covering.{covered_gained}
+use Rattle.fst_types.specs.{Dependencies.{DirectlyOn, IsLiveNumber}, Facts.SparseAreLawful, Gates.IsOpenNumber, Gating.gains, Lists.Lists, Order.depend_order, Refusals.NoneHolds}
+use Rattle.fst_heads.specs.{Heads.patches_of, Names.numbers_of, Nodes.{nodes_of, at_number, gains_names, linked_to, pending_in, HasRoomAbove}, Pendings.sums_of, declared.pending.Sums.Sums}
+use Rattle.fst_heads.proofs.{Added.with_names, AtNumber.patches_in_nodes, Beside.beside_depends, Covering.covered_gained, Linking.{rising_as, rising_same}, Slots.rising_heads}
+use Rattle.fst_walks.proofs.{Linked.patches_named, Seen.{seen, same_patches, lawful_nodes, gained_number}}
+use Rattle.fst_graph.proofs.{FewCounted.few, Gained.keeps_depends, Tallied.tallies_depends, Walked.{gates_told, still_marked}}
 use Rattle.fst_graph.proofs.sparse.Sparse.depend.Goals as goal
 
 pub depend_fault-requires-clause-rising : goal.depend_fault-requires-clause-rising

@@ -1,17 +1,11 @@
 use Rattle.std.proofs.Common.{◌≡◌, ◌∙◌, ◌-◌, filter, count_by, length, sym, ap, subst, refl, arith}
 use Rattle.std.proofs.lemmas.List.{length-map}
-use Rattle.fst_types.specs.declared.place.Place.TheVariants as place
-use Rattle.fst_types.specs.Facts.{SparseAreLawful}
-use Rattle.fst_types.specs.Tests.{is_at, is_live}
-use Rattle.fst_heads.specs.Heads.{patch_of, patches_of}
-use Rattle.fst_heads.specs.Nodes.{nodes_of}
-use Rattle.fst_heads.proofs.AtNumber.{patches_in_nodes}
-use Rattle.fst_heads.proofs.Placed.{patches_dropped}
+use Rattle.fst_types.specs.{Facts.SparseAreLawful, Tests.{is_at, is_live}}
+use Rattle.fst_heads.specs.{Heads.{patch_of, patches_of}, Nodes.nodes_of}
+use Rattle.fst_heads.proofs.{AtNumber.patches_in_nodes, Beside.beside_dropped, Covering.covered_left, Forgetting.{counted, keeps_dropped}, Placed.patches_dropped}
 use Rattle.fst_walks.proofs.Seen.{seen, lawful_nodes}
 use Rattle.fst_graph.proofs.Tallied.{tallies_dropped}
-use Rattle.fst_heads.proofs.Forgetting.{counted, keeps_dropped}
-use Rattle.fst_heads.proofs.Beside.{beside_dropped}
-use Rattle.fst_heads.proofs.Covering.{covered_left}
+use Rattle.fst_types.specs.declared.place.Place.TheVariants as place
 use Rattle.fst_graph.proofs.sparse.Sparse.forget.Goals as goal
 
 pub overflow_sub-result : goal.overflow_sub-result

@@ -1,28 +1,12 @@
 use Rattle.std.proofs.Common.{◌≡◌, ◌≤◌, ◌∙◌, inl, inr, count_by, get_or, map, sym, ap, subst, length, arith, refl}
-use Rattle.std.proofs.lemmas.Bool.{cases_lt}
-use Rattle.std.proofs.lemmas.List.{length-map}
-use Rattle.fst_types.specs.Cascade.{IsCascadeOf}
-use Rattle.fst_types.specs.Writing.{landed}
-use Rattle.fst_heads.specs.Spreading.{IsSpreadOf, lands}
-use Rattle.fst_heads.specs.Heads.{patches_of}
-use Rattle.fst_heads.specs.Keeps.{IsInside}
-use Rattle.fst_heads.specs.Lists.{entries_of, AreListed}
-use Rattle.fst_heads.specs.Nodes.{node_of, nodes_of, patches_in, AreSettled}
-use Rattle.fst_heads.specs.Standings.{AllStand, is_flying_on}
-use Rattle.fst_heads.proofs.AtNumber.{patches_in_nodes}
-use Rattle.fst_graph.proofs.Borne.{inside_nodes, stand_land}
-use Rattle.fst_graph.proofs.Kept.{covered_moved, keeps_landed}
-use Rattle.fst_walks.proofs.Seen.{seen, lawful_nodes}
-use Rattle.fst_walks.proofs.Shelves.{shelved}
-use Rattle.fst_heads.proofs.Counts.{flying_counted}
-use Rattle.fst_heads.proofs.Listing.{nothing_flies, is_off}
-use Rattle.fst_walks.proofs.Resting.{none_yet}
-use Rattle.fst_heads.proofs.Slots.{rising_heads}
-use Rattle.fst_heads.proofs.Starting.{starts_landed, patches_landed}
-use Rattle.fst_heads.proofs.Carried.{linked_landed, distinct_landed}
-use Rattle.fst_graph.proofs.Tallied.{tallies_landed}
-use Rattle.fst_heads.proofs.Beside.{beside_landed, landed_few}
+use Rattle.std.proofs.lemmas.{Bool.cases_lt, List.length-map}
+use Rattle.fst_types.specs.{Cascade.IsCascadeOf, Writing.landed}
+use Rattle.fst_heads.specs.{Heads.patches_of, Keeps.IsInside, Lists.{entries_of, AreListed}, Nodes.{node_of, nodes_of, patches_in, AreSettled}, Spreading.{IsSpreadOf, lands}, Standings.{AllStand, is_flying_on}}
 use Rattle.fst_types.proofs.Landing.{alike_landed}
+use Rattle.fst_heads.proofs.{AtNumber.patches_in_nodes, Beside.{beside_landed, landed_few}, Carried.{linked_landed, distinct_landed}}
+use Rattle.fst_heads.proofs.{Counts.flying_counted, Listing.{nothing_flies, is_off}, Slots.rising_heads, Starting.{starts_landed, patches_landed}}
+use Rattle.fst_walks.proofs.{Resting.none_yet, Seen.{seen, lawful_nodes}, Shelves.shelved}
+use Rattle.fst_graph.proofs.{Borne.{inside_nodes, stand_land}, Kept.{covered_moved, keeps_landed}, Tallied.tallies_landed}
 use Rattle.fst_graph.proofs.sparse.Sparse.land.Goals as goal
 
 pub land_block-requires-clause-rising : goal.land_block-requires-clause-rising

@@ -1,23 +1,11 @@
 use Rattle.std.proofs.Common.{◌≡◌, ◌∙◌, Contains, map, sym, ap, subst, refl, arith}
-use Rattle.fst_types.specs.Facts.{SparseAreLawful}
-use Rattle.fst_types.specs.Writable.{IsWritable, IsWritableSet}
-use Rattle.fst_types.specs.Writing.{launched}
-use Rattle.fst_heads.specs.Heads.{patches_of}
+use Rattle.fst_types.specs.{Facts.SparseAreLawful, Writable.{IsWritable, IsWritableSet}, Writing.launched}
+use Rattle.fst_heads.specs.{Heads.patches_of, Names.numbers_of, Nodes.nodes_of, Spreading.launches}
 use Rattle.fst_graph.specs.Known.{Known}
-use Rattle.fst_heads.specs.Names.{numbers_of}
-use Rattle.fst_heads.specs.Nodes.{nodes_of}
-use Rattle.fst_heads.proofs.AtNumber.{patches_in_nodes}
-use Rattle.fst_graph.proofs.Borne.{inside_nodes}
-use Rattle.fst_graph.proofs.Kept.{covered_moved, keeps_launched}
-use Rattle.fst_graph.proofs.Launches.{some_chosen, first_named, none_first, block_found, block_some, tallies_chosen}
-use Rattle.fst_graph.proofs.Marking.{writable_rests}
-use Rattle.fst_heads.proofs.Placed.{patches_launched}
-use Rattle.fst_walks.proofs.Resting.{none_yet}
-use Rattle.fst_walks.proofs.Seen.{seen, lawful_nodes}
-use Rattle.fst_heads.proofs.Slots.{rising_heads}
-use Rattle.fst_heads.proofs.Beside.{beside_kept}
-use Rattle.fst_heads.specs.Spreading.{launches}
 use Rattle.fst_types.proofs.Issuing.{alike_launched}
+use Rattle.fst_heads.proofs.{AtNumber.patches_in_nodes, Beside.beside_kept, Placed.patches_launched, Slots.rising_heads}
+use Rattle.fst_walks.proofs.{Resting.none_yet, Seen.{seen, lawful_nodes}}
+use Rattle.fst_graph.proofs.{Borne.inside_nodes, Kept.{covered_moved, keeps_launched}, Launches.{some_chosen, first_named, none_first, block_found, block_some, tallies_chosen}, Marking.writable_rests}
 use Rattle.fst_graph.proofs.sparse.Sparse.launch.Goals as goal
 
 pub block_of-requires : goal.block_of-requires

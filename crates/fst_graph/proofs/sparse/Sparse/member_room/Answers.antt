@@ -1,25 +1,10 @@
-use Rattle.std.proofs.Common.{◌≡◌, ◌+◌, ◌∷◌, [], ◌<◌, ◌≤◌, ◌∙◌, List, rules, arith, length, vec_capacity, None, inl, ap, sym, subst, refl}
-use Rattle.std.proofs.lemmas.List.{length-map}
-use Rattle.fst_types.specs.Grades.{FollowsRule}
-use Rattle.fst_types.specs.Patches.{Patch}
-use Rattle.fst_types.specs.Refusals.{NoneHolds}
-use Rattle.fst_heads.specs.Frames.{HasRoomBelow}
-use Rattle.fst_heads.specs.Grading.{MayBeHard}
-use Rattle.fst_heads.specs.Heads.{patches_of}
-use Rattle.fst_graph.specs.Known.{Known}
-use Rattle.fst_heads.specs.Lists.{entries_of}
-use Rattle.fst_graph.specs.Membering.{ArePaired, BeginsAs, member_order}
-use Rattle.fst_heads.specs.Nodes.{nodes_of, HasRoomAbove}
-use Rattle.fst_graph.specs.Ready.{IsMemberReady}
-use Rattle.fst_heads.specs.Rows.{IsSparseRow}
-use Rattle.fst_graph.proofs.Borne.{ok_of}
-use Rattle.fst_heads.proofs.Linking.{rising_same}
-use Rattle.fst_graph.proofs.MemberReady.{member_ready, foretold}
-use Rattle.fst_graph.proofs.Readied.{member_put}
-use Rattle.fst_graph.proofs.Walked.{as_many_marks, gates_told, many_lists, sees_all, still_marked}
+use Rattle.std.proofs.Common.{◌≡◌, ◌∷◌, [], ◌<◌, ◌∙◌, List, rules, arith, length, vec_capacity, None, inl, ap, sym, subst, refl}
+use Rattle.fst_types.specs.{Grades.FollowsRule, Patches.Patch, Refusals.NoneHolds}
+use Rattle.fst_heads.specs.{Frames.HasRoomBelow, Grading.MayBeHard, Heads.patches_of, Nodes.{nodes_of, HasRoomAbove}, Rows.IsSparseRow}
+use Rattle.fst_graph.specs.{Known.Known, Membering.{ArePaired, BeginsAs, member_order}, Ready.IsMemberReady}
+use Rattle.fst_heads.proofs.{Linking.rising_same, Slots.rising_heads}
 use Rattle.fst_walks.proofs.Seen.{same_patches, tallies_wider}
-use Rattle.fst_heads.proofs.Slots.{rising_heads}
-use Rattle.fst_graph.proofs.Kept.{covered_on}
+use Rattle.fst_graph.proofs.{Borne.ok_of, Kept.covered_on, MemberReady.{member_ready, foretold}, Readied.member_put, Walked.{as_many_marks, gates_told, many_lists, sees_all, still_marked}}
 use Rattle.fst_graph.proofs.sparse.Sparse.member_room.Goals as goal
 
 pub member_fault-requires-clause-sees : goal.member_fault-requires-clause-sees

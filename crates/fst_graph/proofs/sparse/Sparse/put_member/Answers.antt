@@ -1,48 +1,15 @@
-use Rattle.std.proofs.Common.{◌≡◌, ◌<◌, ◌≤◌, ◌+◌, ◌++◌, ◌∷◌, ◌∙◌, ◌⊎◌, [], None, IfSome, arith, sym, subst, refl, ap, map, length, get_or, vec_len, vec_capacity, Contains}
-use Rattle.std.proofs.lemmas.List.{length-map, get_or-map}
-use Rattle.fst_types.specs.Dependencies.{DirectlyOn, IsLiveNumber}
-use Rattle.fst_types.specs.Facts.{SparseAreLawful}
-use Rattle.fst_types.specs.Gates.{IsOpenNumber}
-use Rattle.fst_types.specs.Gating.{gains}
-use Rattle.fst_types.specs.Limits.{max_heads}
-use Rattle.fst_heads.specs.Rows.{IsSparseRow}
-use Rattle.fst_types.specs.Lists.{Lists}
-use Rattle.fst_types.specs.Making.{fresh}
-use Rattle.fst_types.specs.Order.{make_order}
-use Rattle.fst_types.specs.Overlaps.{IsOverlapped}
-use Rattle.fst_types.specs.Patches.{Change}
-use Rattle.fst_types.specs.Refusals.{NoneHolds}
+use Rattle.std.proofs.Common.{◌≡◌, ◌<◌, ◌≤◌, ◌+◌, ◌++◌, ◌∷◌, ◌∙◌, [], None, IfSome, arith, sym, subst, refl, ap, map, length, get_or, vec_len, vec_capacity, Contains}
+use Rattle.std.proofs.lemmas.List.{length-map, get_or-map, map_push}
+use Rattle.fst_types.specs.{Dependencies.{DirectlyOn, IsLiveNumber}, Facts.SparseAreLawful, Gates.IsOpenNumber, Gating.gains}
+use Rattle.fst_types.specs.{Limits.max_heads, Lists.Lists, Making.fresh, Order.make_order, Patches.Change, Refusals.NoneHolds}
+use Rattle.fst_heads.specs.{Frames.HasRoomBelow, Heads.patches_of, Names.numbers_of, Nodes.{node_of, nodes_of, patches_in, pending_in, at_number, gains_names, linked_to}}
+use Rattle.fst_heads.specs.{Pendings.{is_pending, joined, joined_sums, over_block, sums_of}, Rows.IsSparseRow, Standings.{is_ready_on, is_held_on, standing_of, entered}, Tests.is_hard_kind}
+use Rattle.fst_heads.proofs.{Added.{new_node, with_node, with_names}, AtNumber.patches_in_nodes, Beside.{beside_made, beside_depends}, Covering.covered_gained}
+use Rattle.fst_heads.proofs.{Framed.{pushed_below, pushed_above}, Linking.rising_as, Slots.rising_heads, Stands.stand_change, Sums.joined_exact, Touching.keeps_change}
+use Rattle.fst_walks.proofs.{Linked.patches_named, Seen.{seen, linked_patches, lawful_nodes, gained_number}, Shelves.shelved_push}
+use Rattle.fst_graph.proofs.{FewCounted.{few_counted, few as few_of_settled}, Gained.keeps_depends, Kept.covered_made, Listed.{listed_change, live_dependency}, PutNow.put_now}
+use Rattle.fst_graph.proofs.{Readied.hard_may, Sound.prepared_is, TailGains.{tail_there, tail_clear, tail_gains, none_beyond}, Tallied.{tallies_made, tallies_depends}}
 use Rattle.fst_heads.specs.declared.pending.Pending.TheVariants as pending
-use Rattle.fst_heads.specs.Frames.{HasRoomBelow}
-use Rattle.fst_heads.specs.Heads.{patches_of}
-use Rattle.fst_heads.specs.Names.{numbers_of}
-use Rattle.fst_heads.specs.Nodes.{node_of, nodes_of, patches_in, pending_in, at_number, gains_names, linked_to}
-use Rattle.fst_heads.specs.Pendings.{is_pending, joined, joined_sums, over_block, sums_of}
-use Rattle.fst_heads.specs.Standings.{is_ready_on, is_held_on, standing_of, entered}
-use Rattle.fst_heads.specs.Tests.{is_hard_kind}
-use Rattle.fst_heads.proofs.Added.{new_node, with_node, with_names}
-use Rattle.fst_heads.proofs.AtNumber.{patches_in_nodes}
-use Rattle.fst_heads.proofs.Beside.{beside_made, beside_depends}
-use Rattle.std.proofs.lemmas.List.{map_push}
-use Rattle.fst_graph.proofs.FewCounted.{few_counted, few as few_of_settled}
-use Rattle.fst_heads.proofs.Framed.{pushed_below, pushed_above}
-use Rattle.fst_graph.proofs.Gained.{keeps_depends}
-use Rattle.fst_walks.proofs.Linked.{patches_named}
-use Rattle.fst_heads.proofs.Linking.{rising_as}
-use Rattle.fst_graph.proofs.Listed.{listed_change, live_dependency}
-use Rattle.fst_graph.proofs.Readied.{hard_may}
-use Rattle.fst_graph.proofs.PutNow.{put_now}
-use Rattle.fst_graph.proofs.Sound.{prepared_is}
-use Rattle.fst_walks.proofs.Seen.{seen, linked_patches, lawful_nodes, gained_number}
-use Rattle.fst_walks.proofs.Shelves.{shelved_push}
-use Rattle.fst_heads.proofs.Slots.{rising_heads}
-use Rattle.fst_heads.proofs.Stands.{stand_change}
-use Rattle.fst_heads.proofs.Sums.{joined_exact}
-use Rattle.fst_graph.proofs.Tallied.{tallies_made, tallies_depends}
-use Rattle.fst_graph.proofs.TailGains.{tail_there, tail_clear, tail_gains, none_beyond}
-use Rattle.fst_heads.proofs.Touching.{keeps_change}
-use Rattle.fst_heads.proofs.Covering.{covered_gained}
-use Rattle.fst_graph.proofs.Kept.{covered_made}
 use Rattle.fst_graph.proofs.sparse.Sparse.put_member.Goals as goal
 
 pub row_sums-sums-requires : goal.row_sums-sums-requires

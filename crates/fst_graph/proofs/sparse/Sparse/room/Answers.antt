@@ -1,23 +1,10 @@
-use Rattle.std.proofs.Common.{◌≡◌, ◌+◌, ◌++◌, ◌∷◌, [], ◌<◌, ◌≤◌, ◌∙◌, rules, arith, length, vec_capacity, None, inl, ap, sym, subst, refl}
-use Rattle.fst_types.specs.Grades.{FollowsRule}
-use Rattle.fst_types.specs.Refusals.{NoneHolds}
-use Rattle.fst_types.specs.Order.{make_order}
-use Rattle.fst_types.specs.Making.{fresh}
-use Rattle.fst_types.specs.Patches.{Change}
-use Rattle.fst_heads.specs.Grading.{MayBeHard}
-use Rattle.fst_heads.specs.Heads.{patches_of}
+use Rattle.std.proofs.Common.{◌≡◌, ◌+◌, ◌++◌, ◌∷◌, [], ◌<◌, ◌∙◌, rules, arith, length, vec_capacity, None, inl, ap, sym, subst, refl}
+use Rattle.fst_types.specs.{Grades.FollowsRule, Making.fresh, Order.make_order, Patches.Change, Refusals.NoneHolds}
+use Rattle.fst_heads.specs.{Grading.MayBeHard, Heads.patches_of, Names.numbers_of, Nodes.{nodes_of, HasRoomAbove}, Rows.IsSparseRow}
 use Rattle.fst_graph.specs.Known.{Known}
-use Rattle.fst_heads.specs.Names.{numbers_of}
-use Rattle.fst_heads.specs.Rows.{IsSparseRow}
-use Rattle.std.proofs.lemmas.List.{length-map}
-use Rattle.fst_heads.specs.Lists.{entries_of}
-use Rattle.fst_heads.specs.Nodes.{nodes_of, HasRoomAbove}
-use Rattle.fst_graph.proofs.Borne.{ok_of}
-use Rattle.fst_graph.proofs.Walked.{as_many_marks, many_lists, sees_all, still_marked}
+use Rattle.fst_heads.proofs.{Slots.rising_heads, Touching.graded_change}
 use Rattle.fst_walks.proofs.Seen.{same_patches, tallies_wider}
-use Rattle.fst_heads.proofs.Slots.{rising_heads}
-use Rattle.fst_heads.proofs.Touching.{graded_change}
-use Rattle.fst_graph.proofs.Kept.{covered_on}
+use Rattle.fst_graph.proofs.{Borne.ok_of, Kept.covered_on, Walked.{as_many_marks, many_lists, sees_all, still_marked}}
 use Rattle.fst_graph.proofs.sparse.Sparse.room.Goals as goal
 
 pub returns-in-Some-clause-refused : goal.returns-in-Some-clause-refused

@@ -1,24 +1,11 @@
 use Rattle.std.proofs.Common.{◌≡◌, ◌∙◌, map, ap, subst, arith, refl}
-use Rattle.fst_types.specs.Cascade.{IsCascadeOf, unsettled}
-use Rattle.fst_types.specs.Gates.{IsOpenNumber}
-use Rattle.fst_types.specs.Gating.{sealed}
-use Rattle.fst_types.specs.Refusals.{NoneHolds}
-use Rattle.fst_types.specs.Order.{seal_order}
-use Rattle.fst_heads.specs.Spreading.{IsSpreadOf, seals}
-use Rattle.fst_heads.specs.Heads.{patches_of}
-use Rattle.fst_heads.specs.Nodes.{nodes_of, at_number, AreSettled}
-use Rattle.fst_heads.specs.Standings.{AllStand}
-use Rattle.fst_heads.proofs.AtNumber.{patches_in_nodes}
-use Rattle.fst_graph.proofs.Borne.{inside_nodes, open_nodes, settled_fits}
-use Rattle.fst_graph.proofs.Kept.{covered_moved, keeps_sealed}
-use Rattle.fst_walks.proofs.Seen.{seen, one_each, lawful_nodes}
-use Rattle.fst_heads.proofs.Slots.{rising_heads}
-use Rattle.fst_heads.proofs.Stands.{stand_sealed}
-use Rattle.fst_heads.proofs.Starting.{starts_sealed, unsettled_sealed}
-use Rattle.fst_heads.proofs.Carried.{linked_sealed, distinct_sealed}
-use Rattle.fst_graph.proofs.Tallied.{tallies_sealed}
-use Rattle.fst_heads.proofs.Beside.{beside_landed, landed_few, sealed_told}
+use Rattle.fst_types.specs.{Cascade.{IsCascadeOf, unsettled}, Gates.IsOpenNumber, Gating.sealed, Order.seal_order, Refusals.NoneHolds}
+use Rattle.fst_heads.specs.{Heads.patches_of, Nodes.{nodes_of, at_number, AreSettled}, Spreading.{IsSpreadOf, seals}, Standings.AllStand}
 use Rattle.fst_types.proofs.Sealing.{alike_sealed}
+use Rattle.fst_heads.proofs.{AtNumber.patches_in_nodes, Beside.{beside_landed, landed_few, sealed_told}, Carried.{linked_sealed, distinct_sealed}}
+use Rattle.fst_heads.proofs.{Slots.rising_heads, Stands.stand_sealed, Starting.{starts_sealed, unsettled_sealed}}
+use Rattle.fst_walks.proofs.Seen.{seen, one_each, lawful_nodes}
+use Rattle.fst_graph.proofs.{Borne.{inside_nodes, open_nodes, settled_fits}, Kept.{covered_moved, keeps_sealed}, Tallied.tallies_sealed}
 use Rattle.fst_graph.proofs.sparse.Sparse.seal.Goals as goal
 
 pub gate_slot-requires : goal.gate_slot-requires
