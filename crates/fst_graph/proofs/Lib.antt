@@ -32,4 +32,3 @@ pub mod WholeRow
 pub mod WholeRows
 pub mod WholeSteps
 pub mod Wholes
-mod Walked

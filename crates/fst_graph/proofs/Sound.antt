@@ -1,14 +1,94 @@
--- What is known of a change that is prepared.
-use Rattle.std.proofs.Common.{◌≡◌, ℕ, Option, Some, None, IfSome, refl, subst}
+-- What holds of the fields that are sound: for a walk over them, for what is prepared, and after a call that leaves the patches as they are.
+use Rattle.std.proofs.Common.{◌≡◌, ◌≤◌, ◌∙◌, ℕ, List, Option, Some, None, IfSome, length, map, refl, sym, subst}
 use Rattle.std.specs.Global.{Vec}
-use Rattle.fst_heads.specs.{Covers.Covering, declared.head.Head.Head, declared.lists.Listed.Listed, declared.standing.Standing.Standing}
-use Rattle.fst_walks.specs.declared.block_walk.BlockWalk.{BlockWalk}
+use Rattle.std.proofs.lemmas.List.{length-map}
+use Rattle.fst_types.specs.Patches.{Patch}
+use Rattle.fst_heads.specs.{Covers.{AreCovered, Covering}, Heads.{patch_of, patches_of, IsRising}, Keeps.IsInside, Lists.{entries_of, AreListed}, Nodes.{nodes_of, AreSettled}, Standings.AllStand}
+use Rattle.fst_heads.specs.declared.{head.Head.Head, lists.Listed.Listed, standing.Standing.Standing}
+use Rattle.fst_walks.specs.{Searching.TellsGates, Sights.Sees, declared.block_walk.BlockWalk.BlockWalk, declared.sight.Sight.Sight}
 use Rattle.fst_graph.specs.{Sound.{AreSound, IsPrepared}, declared.prepared.Prepared.Prepared as Stored}
+use Rattle.fst_heads.proofs.{AtNumber.patches_in_nodes, Slots.{rising_heads}}
+use Rattle.fst_walks.proofs.{Held.{heads_held, heads_live}, Seen.{same_patches, tallies_wider}}
 
--- there is room for it, and nothing refuses it
-pub prepared_is : {heads : Vec Head} {walks : BlockWalk} {lists : Vec (Vec Listed)} {covers : Vec Covering} {standings : Vec Standing} {queue : Vec ℕ} {live numbers blocks : ℕ} {o : Option Stored}
-    → AreSound heads walks lists covers standings queue live numbers blocks o → (p : Stored) → o ≡ Some p → IsPrepared heads walks lists covers queue numbers blocks p
-prepared_is {heads} {walks} {lists} {covers} {standings} {queue} {live} {numbers} {blocks} {o} sound p is = subst (λ x. IfSome x (IsPrepared heads walks lists covers queue numbers blocks)) is sound.prepared
+module _ {heads : Vec Head} {walks : BlockWalk} {lists : Vec (Vec Listed)} {covers : Vec Covering} {standings : Vec Standing} {queue : Vec ℕ} {live numbers blocks : ℕ} {o : Option Stored}
+    (S : AreSound heads walks lists covers standings queue live numbers blocks o) where
+  pub rising_sound : IsRising heads.items
+  rising_sound = rising_heads heads.items S.keeps.lawful.one_place_each.rising
+
+  -- as many marks as heads, as many lists as blocks, and a place for each list
+  pub as_many_marks : length walks.walk.marks ≡ length heads.items
+  as_many_marks = S.keeps.marked ∙ length-map heads.items patch_of
+
+  pub as_many_lists : length lists.items ≡ blocks
+  as_many_lists = sym (length-map lists.items (λ l. entries_of l.items)) ∙ S.tallies.listed.long
+
+  pub as_many_places : length walks.crossed.items ≡ length lists.items
+  as_many_places = S.beside.places ∙ sym as_many_lists
+
+  -- what is pending tells of the open gates
+  pub gates_told : TellsGates heads.items
+  gates_told =
+      let L = S.keeps.lawful in
+      record { live = heads_live heads.items blocks rising_sound L.no_cycle L.on_disk_with_all S.tallies.settled; held = heads_held heads.items blocks rising_sound L.no_cycle L.on_disk_with_all S.tallies.settled }
+
+  -- what stands beside the patches is as walks want it
+  pub sees_all : (sight : Sight) → sight.heads.now ≡ heads.items → sight.lists.now ≡ lists.items → sight.covers.now ≡ covers.items → sight.standings.now ≡ standings.items → Sees sight
+  sees_all sight h l v s =
+      let K = S.keeps in
+      let T = S.tallies in
+      let entries = map (λ (x : Vec Listed). entries_of x.items) lists.items in
+      rw (h, l, v, s) (record {
+        rising = rising_sound;
+        inside = subst (IsInside (patches_of heads.items)) (sym as_many_lists) K.inside;
+        disk = K.lawful.on_disk_with_all;
+        hard = K.lawful.hard_never_hold;
+        acyclic = K.lawful.no_cycle;
+        linked = T.linked;
+        settled = subst (AreSettled (nodes_of heads.items)) (sym T.standing.long) T.settled;
+        listed = subst (λ n. AreListed (patches_of heads.items) n entries) (sym as_many_lists) (subst (λ ps. AreListed ps blocks entries) (patches_in_nodes heads.items) T.listed);
+        covered = subst (λ n. AreCovered (patches_of heads.items) n covers.items) (sym as_many_lists) S.covered;
+        standing = subst (λ n. AllStand (nodes_of heads.items) n standings.items) (sym T.standing.long) T.standing;
+      })
+
+  -- there is room for what is prepared, and nothing refuses it
+  pub prepared_is : (p : Stored) → o ≡ Some p → IsPrepared heads walks lists covers queue numbers blocks p
+  prepared_is p is = subst (λ x. IfSome x (IsPrepared heads walks lists covers queue numbers blocks)) is S.prepared
+
+  -- after a walk over the heads there is a mark for each still
+  pub walked_sound : {walked : BlockWalk} → length walked.walk.marks ≡ length heads.items → length walked.crossed.items ≡ length lists.items → AreSound heads walked lists covers standings queue live numbers blocks None
+  walked_sound marks places = record {
+    keeps = record { lawful = S.keeps.lawful; few = S.keeps.few; inside = S.keeps.inside; marked = marks ∙ sym (length-map heads.items patch_of) };
+    beside = record { places = places ∙ as_many_lists; counted = S.beside.counted };
+    tallies = S.tallies;
+    covered = S.covered;
+    prepared = tt;
+  }
+
+  -- there may be more room for heads, marks and what waits in the queue
+  pub roomier_sound : {roomier : Vec Head} {walked : BlockWalk} {wider : Vec ℕ} → nodes_of roomier.items ≡ nodes_of heads.items → walked.walk.marks ≡ walks.walk.marks → walked.crossed ≡ walks.crossed → wider.items ≡ queue.items → queue.cap ≤ wider.cap
+      → AreSound roomier walked lists covers standings wider live numbers blocks None
+  roomier_sound {roomier} {walked} {wider} same marks crossed waits wide =
+      let patches = same_patches roomier.items heads.items same in record {
+        keeps = rw (patches, marks) S.keeps;
+        beside = rw (patches, crossed) S.beside;
+        tallies = rw same (tallies_wider _ numbers blocks _ _ _ _ _ _ S.tallies waits wide);
+        covered = rw patches S.covered;
+        prepared = tt;
+      }
+
+  -- and for a change of a block
+  pub listed_sound : {longer : Vec (Vec Listed)} {wider : Vec Covering} → map (λ l. entries_of l.items) longer.items ≡ map (λ l. entries_of l.items) lists.items
+      → ((hs : List Patch) → AreCovered hs (length covers.items) covers.items → AreCovered hs (length covers.items) wider.items) → AreSound heads walks longer wider standings queue live numbers blocks None
+  listed_sound {wider = wider} entries covered = record {
+    keeps = S.keeps;
+    beside = S.beside;
+    tallies = rw entries S.tallies;
+    covered = let long = S.covered.long in subst (λ k. AreCovered (patches_of heads.items) k wider.items) long (covered (patches_of heads.items) (subst (λ k. AreCovered (patches_of heads.items) k covers.items) (sym long) S.covered));
+    prepared = tt;
+  }
+
+  pub with_prepared : {o' : Option Stored} → IfSome o' (IsPrepared heads walks lists covers queue numbers blocks) → AreSound heads walks lists covers standings queue live numbers blocks o'
+  with_prepared P = record { keeps = S.keeps; beside = S.beside; tallies = S.tallies; covered = S.covered; prepared = P }
 
 -- what follows from that holds of whatever is prepared
 pub if_prepared : {heads : Vec Head} {walks : BlockWalk} {lists : Vec (Vec Listed)} {covers : Vec Covering} {standings : Vec Standing} {queue : Vec ℕ} {live numbers blocks : ℕ} {o : Option Stored}

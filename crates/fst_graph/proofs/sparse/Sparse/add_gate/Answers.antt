@@ -3,8 +3,8 @@ use Rattle.std.proofs.lemmas.List.{length-map, map_push}
 use Rattle.fst_types.specs.{Limits.max_heads, Making.fresh, Order.room_order, Patches.OpenGate, Refusals.NoneHolds}
 use Rattle.fst_heads.specs.{Heads.patches_of, Keeps.Tallies, Lists.entries_of, Nodes.{node_of, nodes_of, patches_in}}
 use Rattle.fst_heads.proofs.{Added.new_node, Beside.beside_made, Covering.covered_push, Making.{gate_lawful, keeps_gate}, Stands.stand_made}
-use Rattle.fst_walks.proofs.{Linked.with_gate, Seen.{lawful_nodes, tallies_wider}}
-use Rattle.fst_graph.proofs.{Listed.listed_made, Tallied.tallies_made}
+use Rattle.fst_walks.proofs.{Linked.with_gate, Seen.{lawful_nodes}}
+use Rattle.fst_graph.proofs.{Listed.listed_made, Sound.roomier_sound, Tallied.tallies_made}
 use Rattle.fst_graph.proofs.sparse.Sparse.add_gate.Goals as goal
 
 pub invariant_of-self-2 : goal.invariant_of-self-2
@@ -39,11 +39,4 @@ invariant_of-self-2 c =
     }
 
 pub invariant_of-self-then-is_err : goal.invariant_of-self-then-is_err
-invariant_of-self-then-is_err c =
-    let K = c.self.invariant.keeps in record {
-      keeps = rw (c.reserve_one.ensures.heads, c.reserve_one.ensures.marks) K;
-      beside = rw c.reserve_one.ensures.heads c.self.invariant.beside;
-      tallies = rw c.reserve_one.ensures.heads (tallies_wider _ c.self.inside.numbers c.self.inside.blocks _ _ _ _ _ _ c.self.invariant.tallies c.reserve_one.ensures.queue c.reserve_one.ensures.wide);
-      covered = rw c.reserve_one.ensures.heads c.self.invariant.covered;
-      prepared = tt;
-    }
+invariant_of-self-then-is_err c = roomier_sound c.self.invariant (ap nodes_of c.reserve_one.ensures.heads) c.reserve_one.ensures.marks refl c.reserve_one.ensures.queue c.reserve_one.ensures.wide

@@ -3,17 +3,17 @@ use Rattle.std.proofs.lemmas.List.{length-map, map_push}
 use Rattle.fst_types.specs.{Dependencies.IsLiveNumber, Facts.SparseAreLawful, Limits.max_heads, Making.fresh, Patches.Change}
 use Rattle.fst_heads.specs.{Heads.patches_of, Names.numbers_of, Nodes.{node_of, nodes_of, patches_in, pending_in}}
 use Rattle.fst_heads.specs.{Pendings.{is_pending, joined, joined_sums, over_block, sums_of}, Standings.{is_ready_on, is_held_on, standing_of, entered}, Tests.is_hard_kind}
-use Rattle.fst_heads.proofs.{Added.new_node, AtNumber.patches_in_nodes, Beside.beside_made, Slots.rising_heads, Stands.stand_change, Sums.joined_exact, Touching.keeps_change}
+use Rattle.fst_heads.proofs.{Added.new_node, AtNumber.patches_in_nodes, Beside.beside_made, Stands.stand_change, Sums.joined_exact, Touching.keeps_change}
 use Rattle.fst_walks.proofs.{Seen.{linked_patches, lawful_nodes}, Shelves.shelved_push}
-use Rattle.fst_graph.proofs.{FewCounted.few_counted, Kept.covered_made, Listed.{listed_change, live_dependency}, Readied.{hard_may, ready_alone}, Sound.prepared_is, Tallied.tallies_made}
+use Rattle.fst_graph.proofs.{FewCounted.few_counted, Kept.covered_made, Listed.{listed_change, live_dependency}, Readied.{hard_may, ready_alone}, Sound.{prepared_is, rising_sound}, Tallied.tallies_made}
 use Rattle.fst_heads.specs.declared.pending.Pending.TheVariants as pending
 use Rattle.fst_graph.proofs.sparse.Sparse.add_prepared.Goals as goal
 
 pub row_sums-sums-requires : goal.row_sums-sums-requires
-row_sums-sums-requires c = rw c.deref.ensures.value (rising_heads c.self.inside.heads.items c.self.invariant.keeps.lawful.one_place_each.rising)
+row_sums-sums-requires c = rw c.deref.ensures.value (rising_sound c.self.invariant)
 
 pub link-requires-clause-rising : goal.link-requires-clause-rising
-link-requires-clause-rising c = rising_heads c.self.inside.heads.items c.self.invariant.keeps.lawful.one_place_each.rising
+link-requires-clause-rising c = rising_sound c.self.invariant
 
 -- the counts of the block are those of its changes before
 counted : (c : goal.After-is_pending) → c.index_mut-2.result.now ≡ standing_of (nodes_of c.self.inside.heads.items) c.in-Some.prepared.block

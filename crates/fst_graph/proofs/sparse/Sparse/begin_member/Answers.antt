@@ -5,17 +5,17 @@ use Rattle.fst_heads.specs.{Frames.{frame_of, frames_of}, Heads.patches_of, Node
 use Rattle.fst_graph.specs.Sound.{IsPrepared}
 use Rattle.fst_types.proofs.Sealing.{alike_sealed}
 use Rattle.fst_heads.proofs.{AtNumber.patches_in_nodes, Beside.{beside_landed, landed_few, sealed_told}, Carried.{linked_sealed, distinct_sealed}}
-use Rattle.fst_heads.proofs.{Slots.rising_heads, Stands.stand_sealed, Starting.{starts_sealed, unsettled_sealed}}
+use Rattle.fst_heads.proofs.{Stands.stand_sealed, Starting.{starts_sealed, unsettled_sealed}}
 use Rattle.fst_walks.proofs.Seen.{seen, one_each, lawful_nodes}
 use Rattle.fst_graph.proofs.{Borne.{inside_nodes, open_nodes, settled_fits}, Kept.{covered_moved, keeps_sealed}, MemberReady.{put_begun, around_kept, places_kept, shut_begun}}
-use Rattle.fst_graph.proofs.{Readied.head_told, SealedIf.refused_closed, Sound.if_prepared, Tallied.tallies_sealed}
+use Rattle.fst_graph.proofs.{Readied.head_told, SealedIf.refused_closed, Sound.{if_prepared, rising_sound}, Tallied.tallies_sealed}
 use Rattle.fst_graph.proofs.sparse.Sparse.begin_member.Goals as goal
 
 pub gate_slot-requires : goal.gate_slot-requires
-gate_slot-requires c = rw c.deref.ensures.value (rising_heads c.self.inside.heads.items c.self.invariant.keeps.lawful.one_place_each.rising)
+gate_slot-requires c = rw c.deref.ensures.value (rising_sound c.self.invariant)
 
 pub seal_slot-requires-clause-rising : goal.seal_slot-requires-clause-rising
-seal_slot-requires-clause-rising c = rising_heads c.self.inside.heads.items c.self.invariant.keeps.lawful.one_place_each.rising
+seal_slot-requires-clause-rising c = rising_sound c.self.invariant
 
 pub seal_slot-requires-clause-fits : goal.seal_slot-requires-clause-fits
 seal_slot-requires-clause-fits c =

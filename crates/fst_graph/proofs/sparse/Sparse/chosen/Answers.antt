@@ -1,12 +1,12 @@
 use Rattle.std.proofs.Common.{◌≡◌, ◌∙◌, length, count_by, IfSome, option_map, sym, ap, subst, arith}
 use Rattle.fst_heads.specs.{Heads.patches_of, Marks.mark_in, Nodes.nodes_of, Standings.is_ready_on}
-use Rattle.fst_heads.proofs.{Counts.free_few, Slots.rising_heads}
+use Rattle.fst_heads.proofs.{Counts.free_few}
 use Rattle.fst_walks.proofs.Resting.{empty_set, none_yet, chosen_ready, chosen_refused}
-use Rattle.fst_graph.proofs.AtRest.{many_lists, its_list, its_standing, waits_live, behind_marked}
+use Rattle.fst_graph.proofs.{AtRest.{many_lists, its_list, its_standing, waits_live, behind_marked}, Sound.rising_sound}
 use Rattle.fst_graph.proofs.sparse.Sparse.chosen.Goals as goal
 
 pub mark_flight-flying-requires-clause-rising : goal.mark_flight-flying-requires-clause-rising
-mark_flight-flying-requires-clause-rising c = rw c.deref-2.ensures.value (rising_heads c.self.inside.heads.items c.self.invariant.keeps.lawful.one_place_each.rising)
+mark_flight-flying-requires-clause-rising c = rw c.deref-2.ensures.value (rising_sound c.self.invariant)
 
 pub mark_flight-flying-requires-clause-listed : goal.mark_flight-flying-requires-clause-listed
 mark_flight-flying-requires-clause-listed c =
@@ -20,7 +20,7 @@ pub mark_flight-flying-requires-clause-linked : goal.mark_flight-flying-requires
 mark_flight-flying-requires-clause-linked c = rw c.deref-2.ensures.value c.self.invariant.tallies.linked
 
 pub ready_set-requires-clause-rising : goal.ready_set-requires-clause-rising
-ready_set-requires-clause-rising c = rw c.deref-6.ensures.value (rising_heads c.self.inside.heads.items c.self.invariant.keeps.lawful.one_place_each.rising)
+ready_set-requires-clause-rising c = rw c.deref-6.ensures.value (rising_sound c.self.invariant)
 
 pub ready_set-requires-clause-listed : goal.ready_set-requires-clause-listed
 ready_set-requires-clause-listed c =

@@ -1,12 +1,12 @@
 use Rattle.std.proofs.Common.{◌≡◌, ◌∙◌, ◌&&◌, ℕ, Bool, None, length, count_by, IfSome, option_map, sym, ap, subst, arith}
 use Rattle.fst_heads.specs.{Heads.patches_of, Marks.{mark_in, mark_of}, Nodes.nodes_of, Standings.is_held_on}
-use Rattle.fst_heads.proofs.{Counts.none_bound, Slots.rising_heads}
+use Rattle.fst_heads.proofs.{Counts.none_bound}
 use Rattle.fst_walks.proofs.Resting.{none_yet, none_there, none_held, least_held}
-use Rattle.fst_graph.proofs.AtRest.{many_lists, its_list, its_standing, waits_live, behind_marked}
+use Rattle.fst_graph.proofs.{AtRest.{many_lists, its_list, its_standing, waits_live, behind_marked}, Sound.rising_sound}
 use Rattle.fst_graph.proofs.sparse.Sparse.hard_held.Goals as goal
 
 pub mark_flight-flying-requires-clause-rising : goal.mark_flight-flying-requires-clause-rising
-mark_flight-flying-requires-clause-rising c = rw c.deref-2.ensures.value (rising_heads c.self.inside.heads.items c.self.invariant.keeps.lawful.one_place_each.rising)
+mark_flight-flying-requires-clause-rising c = rw c.deref-2.ensures.value (rising_sound c.self.invariant)
 
 pub mark_flight-flying-requires-clause-listed : goal.mark_flight-flying-requires-clause-listed
 mark_flight-flying-requires-clause-listed c =
@@ -20,7 +20,7 @@ pub mark_flight-flying-requires-clause-linked : goal.mark_flight-flying-requires
 mark_flight-flying-requires-clause-linked c = rw c.deref-2.ensures.value c.self.invariant.tallies.linked
 
 pub first_held-requires-clause-rising : goal.first_held-requires-clause-rising
-first_held-requires-clause-rising c = rw c.deref-5.ensures.value (rising_heads c.self.inside.heads.items c.self.invariant.keeps.lawful.one_place_each.rising)
+first_held-requires-clause-rising c = rw c.deref-5.ensures.value (rising_sound c.self.invariant)
 
 pub first_held-requires-clause-listed : goal.first_held-requires-clause-listed
 first_held-requires-clause-listed c =

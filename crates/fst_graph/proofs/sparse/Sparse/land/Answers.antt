@@ -4,13 +4,13 @@ use Rattle.fst_types.specs.{Cascade.IsCascadeOf, Writing.landed}
 use Rattle.fst_heads.specs.{Heads.patches_of, Keeps.IsInside, Lists.{entries_of, AreListed}, Nodes.{node_of, nodes_of, patches_in, AreSettled}, Spreading.{IsSpreadOf, lands}, Standings.{AllStand, is_flying_on}}
 use Rattle.fst_types.proofs.Landing.{alike_landed}
 use Rattle.fst_heads.proofs.{AtNumber.patches_in_nodes, Beside.{beside_landed, landed_few}, Carried.{linked_landed, distinct_landed}}
-use Rattle.fst_heads.proofs.{Counts.flying_counted, Listing.{nothing_flies, is_off}, Slots.rising_heads, Starting.{starts_landed, patches_landed}}
+use Rattle.fst_heads.proofs.{Counts.flying_counted, Listing.{nothing_flies, is_off}, Starting.{starts_landed, patches_landed}}
 use Rattle.fst_walks.proofs.{Resting.none_yet, Seen.{seen, lawful_nodes}, Shelves.shelved}
-use Rattle.fst_graph.proofs.{Borne.{inside_nodes, stand_land}, Kept.{covered_moved, keeps_landed}, Tallied.tallies_landed}
+use Rattle.fst_graph.proofs.{Borne.{inside_nodes, stand_land}, Kept.{covered_moved, keeps_landed}, Sound.rising_sound, Tallied.tallies_landed}
 use Rattle.fst_graph.proofs.sparse.Sparse.land.Goals as goal
 
 pub land_block-requires-clause-rising : goal.land_block-requires-clause-rising
-land_block-requires-clause-rising c = rising_heads c.self.inside.heads.items c.self.invariant.keeps.lawful.one_place_each.rising
+land_block-requires-clause-rising c = rising_sound c.self.invariant
 
 pub land_block-requires-clause-inside : goal.land_block-requires-clause-inside
 land_block-requires-clause-inside c =

@@ -3,16 +3,17 @@ use Rattle.fst_types.specs.{Facts.SparseAreLawful, Writable.{IsWritable, IsWrita
 use Rattle.fst_heads.specs.{Heads.patches_of, Names.numbers_of, Nodes.nodes_of, Spreading.launches}
 use Rattle.fst_graph.specs.Known.{Known}
 use Rattle.fst_types.proofs.Issuing.{alike_launched}
-use Rattle.fst_heads.proofs.{AtNumber.patches_in_nodes, Beside.beside_kept, Placed.patches_launched, Slots.rising_heads}
+use Rattle.fst_heads.proofs.{AtNumber.patches_in_nodes, Beside.beside_kept, Placed.patches_launched}
 use Rattle.fst_walks.proofs.{Resting.none_yet, Seen.{seen, lawful_nodes}}
-use Rattle.fst_graph.proofs.{Borne.inside_nodes, Kept.{covered_moved, keeps_launched}, Launches.{some_chosen, first_named, none_first, block_found, block_some, tallies_chosen}, Marking.writable_rests}
+use Rattle.fst_graph.proofs.{Borne.inside_nodes, Kept.{covered_moved, keeps_launched}}
+use Rattle.fst_graph.proofs.{Launches.{some_chosen, first_named, none_first, block_found, block_some, tallies_chosen}, Marking.writable_rests, Sound.rising_sound}
 use Rattle.fst_graph.proofs.sparse.Sparse.launch.Goals as goal
 
 pub block_of-requires : goal.block_of-requires
-block_of-requires c = rw c.deref.ensures.value (rising_heads c.self.inside.heads.items c.self.invariant.keeps.lawful.one_place_each.rising)
+block_of-requires c = rw c.deref.ensures.value (rising_sound c.self.invariant)
 
 pub launch_all-requires : goal.launch_all-requires
-launch_all-requires c = rising_heads c.self.inside.heads.items c.self.invariant.keeps.lawful.one_place_each.rising
+launch_all-requires c = rising_sound c.self.invariant
 
 pub returns-in_default-clause-launched : goal.returns-in_default-clause-launched
 returns-in_default-clause-launched c =

@@ -8,15 +8,15 @@ use Rattle.fst_heads.proofs.{Added.{new_node, with_node, with_names}, AtNumber.p
 use Rattle.fst_heads.proofs.{Framed.{pushed_below, pushed_above}, Linking.rising_as, Slots.rising_heads, Stands.stand_change, Sums.joined_exact, Touching.keeps_change}
 use Rattle.fst_walks.proofs.{Linked.patches_named, Seen.{seen, linked_patches, lawful_nodes, gained_number}, Shelves.shelved_push}
 use Rattle.fst_graph.proofs.{FewCounted.{few_counted, few as few_of_settled}, Gained.keeps_depends, Kept.covered_made, Listed.{listed_change, live_dependency}, PutNow.put_now}
-use Rattle.fst_graph.proofs.{Readied.hard_may, Sound.prepared_is, TailGains.{tail_there, tail_clear, tail_gains, none_beyond}, Tallied.{tallies_made, tallies_depends}}
+use Rattle.fst_graph.proofs.{Readied.hard_may, Sound.{prepared_is, rising_sound}, TailGains.{tail_there, tail_clear, tail_gains, none_beyond}, Tallied.{tallies_made, tallies_depends}}
 use Rattle.fst_heads.specs.declared.pending.Pending.TheVariants as pending
 use Rattle.fst_graph.proofs.sparse.Sparse.put_member.Goals as goal
 
 pub row_sums-sums-requires : goal.row_sums-sums-requires
-row_sums-sums-requires c = rw c.deref.ensures.value (rising_heads c.self.inside.heads.items c.self.invariant.keeps.lawful.one_place_each.rising)
+row_sums-sums-requires c = rw c.deref.ensures.value (rising_sound c.self.invariant)
 
 pub link-requires-clause-rising : goal.link-requires-clause-rising
-link-requires-clause-rising c = rising_heads c.self.inside.heads.items c.self.invariant.keeps.lawful.one_place_each.rising
+link-requires-clause-rising c = rising_sound c.self.invariant
 
 pub link-requires-clause-once : goal.link-requires-clause-once
 link-requires-clause-once c =
