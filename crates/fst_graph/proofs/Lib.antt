@@ -15,6 +15,7 @@ pub mod Listed
 pub mod Marking
 pub mod Settling
 pub mod Sound
+pub mod Shutting
 pub mod AtRest
 pub mod PutNow
 pub mod Tallied

@@ -1,12 +1,13 @@
 -- What is prepared may be put down as it is, for a group once its head is not open; and what the fields are then.
 use Rattle.std.proofs.Common.{◌≡◌, ◌<◌, ◌+◌, ◌++◌, ◌∷◌, [], ◌∙◌, ℕ, Option, Some, option_map, Contains, false, length, get_or, set, arith, refl, sym, ap, subst}
-use Rattle.std.specs.Global.{Vec}
 use Rattle.std.proofs.lemmas.List.{length-map}
+use Rattle.std.specs.Global.{Vec}
 use Rattle.fst_types.specs.{Dependencies.IsLiveNumber, Facts.SparseAreLawful, Gates.IsOpenNumber, Limits.max_heads}
 use Rattle.fst_heads.specs.{Covers.Covering, Heads.patches_of, Keeps.{Keeps, Tallies}, Lists.entry, Names.numbers_of, Nodes.{node_of, nodes_of, patches_in}, Pendings.is_pending}
 use Rattle.fst_heads.specs.{Standings.{entered, standing_of}, Tests.is_hard_kind, declared.head.Head.Head, declared.lists.Listed.Listed, declared.standing.Standing.Standing}
 use Rattle.fst_walks.specs.declared.block_walk.BlockWalk.{BlockWalk}
-use Rattle.fst_graph.specs.{Known.{Known, Prepared}, Ready.{change_of, prepared_of, IsReady, IsMemberReady}, Sound.{AreSound, IsPrepared}, declared.prepared.Gates.Gates, declared.prepared.Prepared.Prepared as Stored}
+use Rattle.fst_graph.specs.{Known.{Known, Prepared}, Ready.{change_of, prepared_of, IsReady, IsMemberReady}}
+use Rattle.fst_graph.specs.{Sound.{AreSound, IsPrepared}, declared.prepared.Gates.Gates, declared.prepared.Prepared.Prepared as Stored}
 use Rattle.fst_heads.proofs.{Added.{new_node, with_node}, AtNumber.patches_in_nodes, Stands.stand_change, Touching.keeps_change}
 use Rattle.fst_walks.proofs.{Seen.lawful_nodes, Shelves.shelved}
 use Rattle.fst_graph.proofs.{Listed.{listed_change, live_dependency}, Readied.hard_may, Sound.{as_many_lists, prepared_is}, TailGains.{head_same, member_kept, ready_now}, Tallied.tallies_made}

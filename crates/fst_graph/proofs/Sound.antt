@@ -1,13 +1,13 @@
 -- What holds of the fields that are sound: for a walk over them, for what is prepared, and after a call that leaves the patches as they are.
-use Rattle.std.proofs.Common.{◌≡◌, ◌≤◌, ◌∙◌, ℕ, List, Option, Some, None, IfSome, length, map, refl, sym, subst}
-use Rattle.std.specs.Global.{Vec}
+use Rattle.std.proofs.Common.{◌≡◌, ◌≤◌, ◌∙◌, ℕ, List, Option, Some, None, IfSome, length, map, refl, sym, subst, arith}
 use Rattle.std.proofs.lemmas.List.{length-map}
+use Rattle.std.specs.Global.{Vec}
 use Rattle.fst_types.specs.Patches.{Patch}
-use Rattle.fst_heads.specs.{Covers.{AreCovered, Covering}, Heads.{patch_of, patches_of, IsRising}, Keeps.IsInside, Lists.{entries_of, AreListed}, Nodes.{nodes_of, AreSettled}, Standings.AllStand}
-use Rattle.fst_heads.specs.declared.{head.Head.Head, lists.Listed.Listed, standing.Standing.Standing}
+use Rattle.fst_heads.specs.{Covers.{AreCovered, Covering}, Heads.{patch_of, patches_of, IsRising}, Keeps.IsInside, Lists.{entries_of, AreListed}}
+use Rattle.fst_heads.specs.{Nodes.{nodes_of, AreSettled}, Standings.AllStand, declared.head.Head.Head, declared.lists.Listed.Listed, declared.standing.Standing.Standing}
 use Rattle.fst_walks.specs.{Searching.TellsGates, Sights.Sees, declared.block_walk.BlockWalk.BlockWalk, declared.sight.Sight.Sight}
 use Rattle.fst_graph.specs.{Sound.{AreSound, IsPrepared}, declared.prepared.Prepared.Prepared as Stored}
-use Rattle.fst_heads.proofs.{AtNumber.patches_in_nodes, Slots.{rising_heads}}
+use Rattle.fst_heads.proofs.{AtNumber.patches_in_nodes, Slots.rising_heads}
 use Rattle.fst_walks.proofs.{Held.{heads_held, heads_live}, Seen.{same_patches, tallies_wider}}
 
 module _ {heads : Vec Head} {walks : BlockWalk} {lists : Vec (Vec Listed)} {covers : Vec Covering} {standings : Vec Standing} {queue : Vec ℕ} {live numbers blocks : ℕ} {o : Option Stored}
@@ -21,6 +21,9 @@ module _ {heads : Vec Head} {walks : BlockWalk} {lists : Vec (Vec Listed)} {cove
 
   pub as_many_lists : length lists.items ≡ blocks
   as_many_lists = sym (length-map lists.items (λ l. entries_of l.items)) ∙ S.tallies.listed.long
+
+  pub as_many_standings : standings.len ≡ blocks
+  as_many_standings = omega (arith, S.tallies.standing.long, standings.ok.0)
 
   pub as_many_places : length walks.crossed.items ≡ length lists.items
   as_many_places = S.beside.places ∙ sym as_many_lists

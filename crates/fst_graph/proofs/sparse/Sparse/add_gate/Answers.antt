@@ -3,7 +3,7 @@ use Rattle.std.proofs.lemmas.List.{length-map, map_push}
 use Rattle.fst_types.specs.{Limits.max_heads, Making.fresh, Order.room_order, Patches.OpenGate, Refusals.NoneHolds}
 use Rattle.fst_heads.specs.{Heads.patches_of, Keeps.Tallies, Lists.entries_of, Nodes.{node_of, nodes_of, patches_in}}
 use Rattle.fst_heads.proofs.{Added.new_node, Beside.beside_made, Covering.covered_push, Making.{gate_lawful, keeps_gate}, Stands.stand_made}
-use Rattle.fst_walks.proofs.{Linked.with_gate, Seen.{lawful_nodes}}
+use Rattle.fst_walks.proofs.{Linked.with_gate, Seen.lawful_nodes}
 use Rattle.fst_graph.proofs.{Listed.listed_made, Sound.roomier_sound, Tallied.tallies_made}
 use Rattle.fst_graph.proofs.sparse.Sparse.add_gate.Goals as goal
 

@@ -4,9 +4,9 @@ use Rattle.fst_heads.specs.{Heads.patches_of, Nodes.{nodes_of, pending_in}, Pend
 use Rattle.fst_graph.specs.Ready.{change_of}
 use Rattle.fst_heads.proofs.{Added.{new_node, with_node}, Beside.beside_made, Sums.joined_exact}
 use Rattle.fst_walks.proofs.{Seen.linked_patches, Shelves.shelved_push}
-use Rattle.fst_graph.proofs.{FewCounted.few_counted, Kept.covered_made, PutNow.{put_down, IsPutDown}, Readied.ready_alone, Sound.{prepared_is, rising_sound}}
+use Rattle.fst_graph.proofs.{FewCounted.few_counted, Kept.covered_made, PutNow.{put_down, IsPutDown}, Readied.ready_alone}
+use Rattle.fst_graph.proofs.{Sound.{prepared_is, rising_sound}, sparse.Sparse.add_prepared.Goals.{After-as_slice, After-push_reserved}}
 use Rattle.fst_heads.specs.declared.pending.Pending.TheVariants as pending
-use Rattle.fst_graph.proofs.sparse.Sparse.add_prepared.Goals.{After-as_slice, After-push_reserved}
 use Rattle.fst_graph.proofs.sparse.Sparse.add_prepared.Goals as goal
 
 pub row_sums-sums-requires : goal.row_sums-sums-requires

@@ -1,6 +1,6 @@
 use Rattle.std.proofs.Common.{◌≡◌, ◌∙◌, length, count_by, IfSome, option_map, sym, ap, subst, arith}
 use Rattle.fst_heads.specs.{Heads.patches_of, Marks.mark_in, Nodes.nodes_of, Standings.is_ready_on}
-use Rattle.fst_heads.proofs.{Counts.free_few}
+use Rattle.fst_heads.proofs.Counts.{free_few}
 use Rattle.fst_walks.proofs.Resting.{empty_set, none_yet, chosen_ready, chosen_refused}
 use Rattle.fst_graph.proofs.{AtRest.{many_lists, its_list, its_standing, waits_live, behind_marked}, Sound.rising_sound}
 use Rattle.fst_graph.proofs.sparse.Sparse.chosen.Goals as goal

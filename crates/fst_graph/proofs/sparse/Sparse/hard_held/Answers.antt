@@ -1,6 +1,6 @@
 use Rattle.std.proofs.Common.{◌≡◌, ◌∙◌, ◌&&◌, ℕ, Bool, None, length, count_by, IfSome, option_map, sym, ap, subst, arith}
 use Rattle.fst_heads.specs.{Heads.patches_of, Marks.{mark_in, mark_of}, Nodes.nodes_of, Standings.is_held_on}
-use Rattle.fst_heads.proofs.{Counts.none_bound}
+use Rattle.fst_heads.proofs.Counts.{none_bound}
 use Rattle.fst_walks.proofs.Resting.{none_yet, none_there, none_held, least_held}
 use Rattle.fst_graph.proofs.{AtRest.{many_lists, its_list, its_standing, waits_live, behind_marked}, Sound.rising_sound}
 use Rattle.fst_graph.proofs.sparse.Sparse.hard_held.Goals as goal

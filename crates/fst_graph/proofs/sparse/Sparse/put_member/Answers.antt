@@ -4,12 +4,13 @@ use Rattle.fst_types.specs.{Dependencies.{DirectlyOn, IsLiveNumber}, Facts.Spars
 use Rattle.fst_heads.specs.{Frames.HasRoomBelow, Heads.{patches_of, IsRising}, Names.numbers_of, Nodes.{nodes_of, patches_in, pending_in, at_number, gains_names, linked_to}}
 use Rattle.fst_heads.specs.{Pendings.{is_pending, joined_sums, over_block, sums_of}, Rows.IsSparseRow, Standings.{is_ready_on, is_held_on, entered}, Tests.is_hard_kind}
 use Rattle.fst_graph.specs.Ready.{change_of}
-use Rattle.fst_heads.proofs.{Added.{new_node, with_node, with_names}, Beside.{beside_made, beside_depends}, Covering.covered_gained, Framed.{pushed_below, pushed_above}, Linking.rising_as, Slots.rising_heads, Sums.joined_exact}
+use Rattle.fst_heads.proofs.{Added.{new_node, with_node, with_names}, Beside.{beside_made, beside_depends}, Covering.covered_gained}
+use Rattle.fst_heads.proofs.{Framed.{pushed_below, pushed_above}, Linking.rising_as, Slots.rising_heads, Sums.joined_exact}
 use Rattle.fst_walks.proofs.{Linked.patches_named, Seen.{seen, linked_patches, gained_number}, Shelves.shelved_push}
-use Rattle.fst_graph.proofs.{FewCounted.{few_counted, few as few_of_settled}, Gained.keeps_depends, Kept.covered_made, PutNow.{put_now, IsPutNow}, Sound.{rising_sound}}
+use Rattle.fst_graph.proofs.{FewCounted.{few_counted, few as few_of_settled}, Gained.keeps_depends, Kept.covered_made, PutNow.{put_now, IsPutNow}, Sound.rising_sound}
 use Rattle.fst_graph.proofs.{TailGains.{tail_there, tail_clear, tail_gains, none_beyond}, Tallied.tallies_depends}
-use Rattle.fst_heads.specs.declared.pending.Pending.TheVariants as pending
 use Rattle.fst_graph.proofs.sparse.Sparse.put_member.Goals.{After-as_slice, After-as_slice-3, After-push_reserved, After-drop-prepared}
+use Rattle.fst_heads.specs.declared.pending.Pending.TheVariants as pending
 use Rattle.fst_graph.proofs.sparse.Sparse.put_member.Goals as goal
 
 pub row_sums-sums-requires : goal.row_sums-sums-requires
