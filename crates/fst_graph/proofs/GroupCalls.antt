@@ -96,35 +96,19 @@ module _ (p q : Known) (gs : List Group) (G : IsGrouped p gs) where
 
     -- a cycle is all that can be refused past the first rules
     cycle_first : (f : Fault) → IsFirst (depend_order p.heads p.numbers n ((m + 1) ∷ [])) f → IsFirst (group_after_order p.heads gs n m) f
-    cycle_first f first =
-        let small = G.lawful.one_place_each.numbered head_gate.patch head_gate.head in
-        let here = head_gate.numbered in
+    cycle_first f (inl a) = let small = G.lawful.one_place_each.numbered head_gate.patch head_gate.head in let here = head_gate.numbered in absurd (a.0 (omega (arith, small, here), omega (arith, small, here)))
+    cycle_first f (inr (a, inl b)) = absurd (b.0 (inl head_gate))
+    cycle_first f (inr (a, inr (b, inl c))) = absurd (open_not_sealed p.heads p.numbers n (loosened G.lawful) head_gate c.0)
+    cycle_first f (inr (a, inr (b, inr (c, inl d)))) = let many = d.0 in absurd (omega (arith, many))
+    cycle_first f (inr (a, inr (b, inr (c, inr (d, inl e))))) =
         let tail = (G.grouped.each other.0 other.1.0).given.1 in
         let next = tail_is m other.0 other.1 in
-        elim first [
-          | inl a ↦ absurd (a.0 (omega (arith, small, here), omega (arith, small, here)))
-          | inr a ↦ elim a.1 [
-            | inl b ↦ absurd (b.0 (inl head_gate))
-            | inr b ↦ elim b.1 [
-              | inl c ↦ absurd (open_not_sealed p.heads p.numbers n (loosened G.lawful) head_gate c.0)
-              | inr c ↦ elim c.1 [
-                | inl d ↦ let many = d.0 in absurd (omega (arith, many))
-                | inr d ↦ elim d.1 [
-                  | inl e ↦ let k = only_one (m + 1) e.0.0 e.0.1 in absurd (e.0.2 (omega (arith, k), omega (arith, k, tail, next)))
-                  | inr e ↦ elim e.1 [
-                    | inl h ↦
-                        let k = only_one (m + 1) h.0.0 h.0.1 in
-                        elim h.0.2 [
-                          | inl same ↦ absurd (tail_no_head gs G.grouped.apart follows other.0 found.0 other.1.0 found.1.0 (next ∙ (sym k ∙ (same ∙ sym found.1.1))))
-                          | inr dep ↦ inr (u.0, inr (u.1.0, inr (u.1.1.0, inl ((other.0, other.1, subst (λ t. DependsOn p.heads t n) (k ∙ sym next) dep), h.1))))
-                        ]
-                    | inr h ↦ absurd h.1
-                  ]
-                ]
-              ]
-            ]
-          ]
-        ]
+        let k = only_one (m + 1) e.0.0 e.0.1 in absurd (e.0.2 (omega (arith, k), omega (arith, k, tail, next)))
+    cycle_first f (inr (a, inr (b, inr (c, inr (d, inr (e, inl ((x, named, inl same), h))))))) =
+        absurd (tail_no_head gs G.grouped.apart follows other.0 found.0 other.1.0 found.1.0 (tail_is m other.0 other.1 ∙ (sym (only_one (m + 1) x named) ∙ (same ∙ sym found.1.1))))
+    cycle_first f (inr (a, inr (b, inr (c, inr (d, inr (e, inl ((x, named, inr above), h))))))) =
+        inr (u.0, inr (u.1.0, inr (u.1.1.0, inl ((other.0, other.1, subst (λ t. DependsOn p.heads t n) (only_one (m + 1) x named ∙ sym (tail_is m other.0 other.1)) above), h))))
+    cycle_first f (inr (a, inr (b, inr (c, inr (d, inr (e, inr h)))))) = absurd h.1
 
     pub after_refused : (f : Fault) → Refuses (depend_order p.heads p.numbers n ((m + 1) ∷ [])) f → Refuses (group_after_order p.heads gs n m) f
     after_refused f refuses = elim refuses [

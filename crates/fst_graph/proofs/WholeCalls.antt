@@ -110,22 +110,10 @@ module _ (rows : List (ℕ × List ℕ)) (p : Known) (W : AreWhole rows p.heads 
   seal_clear g c = (c.0, (λ k. c.1.0 (λ t. k (gate_is g t)), (λ s. c.1.1.0 ((sealed_number rows T g).1 s), tt)))
 
   pub seal_first : (g : ℕ) (f : Fault) → IsFirst (seal_order T n g) f → IsFirst (seal_order F n g) f
-  seal_first g f x = elim x [
-    | inl a ↦ inl a
-    | inr a ↦ inr (
-      a.0,
-      elim a.1 [
-        | inl b ↦ inl (λ t. b.0 (gate_was g t), b.1)
-        | inr b ↦ inr (
-          λ k. b.0 (λ t. k (gate_is g t)),
-          elim b.1 [
-            | inl c ↦ inl ((sealed_number rows T g).0 c.0, c.1)
-            | inr c ↦ inr (λ s. c.0 ((sealed_number rows T g).1 s), c.1)
-          ],
-        )
-      ],
-    )
-  ]
+  seal_first g f (inl a) = inl a
+  seal_first g f (inr (a, inl b)) = inr (a, inl (λ t. b.0 (gate_was g t), b.1))
+  seal_first g f (inr (a, inr (b, inl c))) = inr (a, inr (λ k. b (λ t. k (gate_is g t)), inl ((sealed_number rows T g).0 c.0, c.1)))
+  seal_first g f (inr (a, inr (b, inr (c, d)))) = inr (a, inr (λ k. b (λ t. k (gate_is g t)), inr (λ s. c ((sealed_number rows T g).1 s), d)))
 
   above_up : (g : ℕ) (on : List ℕ) → NamesAbove T g on → NamesAbove F g on
   above_up g on a = (a.0, a.1, elim a.2 [ inl e ↦ inl e | inr d ↦ inr (depends_up rows T n W.sparse D a.0 g d) ])
@@ -154,34 +142,14 @@ module _ (rows : List (ℕ × List ℕ)) (p : Known) (W : AreWhole rows p.heads 
       (c.0, (λ k. c.1.0 (λ t. k (gate_is g t)), (λ s. c.1.1.0 ((sealed_number rows T g).1 s), (c.1.1.1.0, (c.1.1.1.1.0, (λ a. c.1.1.1.1.1.0 (above_down g on c.1.0 c.1.1.0 a), tt))))))
 
   depend_first : (g : ℕ) (on : List ℕ) (f : Fault) → IsFirst (depend_order T n g on) f → IsFirst (depend_order F n g on) f
-  depend_first g on f x = elim x [
-    | inl a ↦ inl a
-    | inr a ↦ inr (
-      a.0,
-      elim a.1 [
-        | inl b ↦ inl (λ t. b.0 (gate_was g t), b.1)
-        | inr b ↦ inr (
-          λ k. b.0 (λ t. k (gate_is g t)),
-          elim b.1 [
-            | inl c ↦ inl ((sealed_number rows T g).0 c.0, c.1)
-            | inr c ↦ inr (
-              λ s. c.0 ((sealed_number rows T g).1 s),
-              elim c.1 [
-                | inl d ↦ inl d
-                | inr d ↦ inr (
-                  d.0,
-                  elim d.1 [
-                    | inl e ↦ inl e
-                    | inr e ↦ inr (e.0, elim e.1 [ inl h ↦ inl (above_up g on h.0, h.1) | inr h ↦ absurd h.1 ])
-                  ],
-                )
-              ],
-            )
-          ],
-        )
-      ],
-    )
-  ]
+  depend_first g on f (inl a) = inl a
+  depend_first g on f (inr (a, inl b)) = inr (a, inl (λ t. b.0 (gate_was g t), b.1))
+  depend_first g on f (inr (a, inr (b, inl c))) = inr (a, inr (λ k. b (λ t. k (gate_is g t)), inl ((sealed_number rows T g).0 c.0, c.1)))
+  depend_first g on f (inr (a, inr (b, inr (c, inl d)))) = inr (a, inr (λ k. b (λ t. k (gate_is g t)), inr (λ s. c ((sealed_number rows T g).1 s), inl d)))
+  depend_first g on f (inr (a, inr (b, inr (c, inr (d, inl e))))) = inr (a, inr (λ k. b (λ t. k (gate_is g t)), inr (λ s. c ((sealed_number rows T g).1 s), inr (d, inl e))))
+  depend_first g on f (inr (a, inr (b, inr (c, inr (d, inr (e, inl h)))))) =
+      inr (a, inr (λ k. b (λ t. k (gate_is g t)), inr (λ s. c ((sealed_number rows T g).1 s), inr (d, inr (e, inl (above_up g on h.0, h.1))))))
+  depend_first g on f (inr (a, inr (b, inr (c, inr (d, inr (e, inr h)))))) = absurd h.1
 
   pub depend_refuses : (g : ℕ) (on : List ℕ) (f : Fault) → Refuses (depend_order T n g on) f → Refuses (depend_order F n g on) f
   depend_refuses g on f r = elim r [ inl x ↦ inl (depend_first g on f x) | inr m ↦ inr (depend_clear g on m.0, m.1) ]
