@@ -11,7 +11,7 @@ use Rattle.fst_graph.specs.{Known.{Known, Prepared, unprepared, with_groups, Ref
 use Rattle.fst_types.proofs.{Apart.tail_no_head, Finite.In-from_Contains, GroupsClear.close_clear, GroupsKept.{Spares, groups_row}}
 use Rattle.fst_types.proofs.{Heads.heads_row, Loosened.loosened, Parts.{SealsIfOpen as SealsStateIfOpen, seals_if_open}}
 use Rattle.fst_heads.proofs.Slots.{any_default}
-use Rattle.fst_graph.proofs.{Grouped.{state_at, some_bytes}, SealedIf.open_not_sealed}
+use Rattle.fst_graph.proofs.{Grouped.{by_group, state_at, some_bytes}, SealedIf.open_not_sealed}
 
 only_one : (x y : ℕ) → Contains (x ∷ []) y → y ≡ x
 only_one x y c = elim (In-from_Contains (x ∷ []) y c) [ inl e ↦ sym e | inr h ↦ absurd h ]
@@ -41,14 +41,6 @@ begun_if : (p q : Known) (gs : List Group) (g : ℕ) → SealsIfOpen p g q → S
 begun_if p q gs g s = subst (λ n. SealsStateIfOpen (state_at p gs 0 []) g (record (state_at q gs 0 []) { numbers = n })) (ap (λ k. k.numbers) (sym s.state)) (seals_if_open (state_at p gs 0 []) g q.heads s.row)
 
 module _ (p q : Known) (gs : List Group) (G : IsGrouped p gs) where
-  -- what a row of a group makes
-  by_group : (now : List Group) (made : ℕ) (contents : List (ℕ × List ℕ)) (e : Event) (r : Reply) → q.prepared ≡ None → Spares (state_at p gs 0 []) e → Row (state_at p gs 0 []) e r (state_at q now made contents) → IsGrouped q now
-  by_group now made contents e r none spares row =
-      let old = state_at p gs 0 [] in
-      let new = state_at q now made contents in
-      let K = heads_row old new e r row G.lawful in
-      record { lawful = K; grouped = groups_row old new e r spares row G.lawful K G.grouped; prepared = rw none tt }
-
   follows : (g : Group) → Contains gs g → g.tail ≡ g.head + 1
   follows g c = (G.grouped.each g c).tail_follows
 
@@ -64,7 +56,7 @@ module _ (p q : Known) (gs : List Group) (G : IsGrouped p gs) where
     pub grouped_new : IsGrouped q (with_new gs n)
     grouped_new =
         let made : MakesGroup (state_at p gs 0 []) n (state_at q (with_new gs n) 2 []) = record { row = a.row; state = ap (λ k. state_at k (with_new gs n) 2 []) a.state } in
-        by_group (with_new gs n) 2 [] (GroupNew 0) _ (ap (λ k. k.prepared) a.state) few (group (group_new made))
+        by_group p q gs G (with_new gs n) 2 [] (GroupNew 0) _ (ap (λ k. k.prepared) a.state) few (group (group_new made))
 
     -- its number is past all tails
     pub past_tails : All (λ g. g.tail < n) gs
@@ -92,7 +84,7 @@ module _ (p q : Known) (gs : List Group) (G : IsGrouped p gs) where
     pub grouped_after : DependsGate p n ((m + 1) ∷ []) q → IsGrouped q (put_after gs n m)
     grouped_after d =
         let put : PutsStateAfter (state_at p gs 0 []) n m (state_at q (put_after gs n m) 0 []) = record { row = puts_row d; state = rw d.numbers refl } in
-        by_group (put_after gs n m) 0 [] (GroupAfter n m) _ d.prepared tt (group (group_after put))
+        by_group p q gs G (put_after gs n m) 0 [] (GroupAfter n m) _ d.prepared tt (group (group_after put))
 
     -- a cycle is all that can be refused past the first rules
     cycle_first : (f : Fault) → IsFirst (depend_order p.heads p.numbers n ((m + 1) ∷ [])) f → IsFirst (group_after_order p.heads gs n m) f

@@ -31,12 +31,7 @@ keeps_launched old numbers blocks b chosen marks K writable choice =
 pub covered_moved : {old new : List Patch} {numbers blocks : ℕ} {marks : List Bool} {covers : List Covering} → Alike old new → Keeps new numbers blocks marks → AreCovered old blocks covers → AreCovered new blocks covers
 covered_moved {old} {new} {numbers} {blocks} {marks} {covers} A K C = covered_alike old new A K.lawful.on_disk_with_all K.lawful.one_place_each.rising blocks covers C
 
--- where there is room for one change more
-pub covered_on : {heads : List Patch} {blocks : ℕ} {covers covers' : List Covering} → AreCovered heads blocks covers
-    → ((hs : List Patch) → AreCovered hs (length covers) covers → AreCovered hs (length covers) covers') → AreCovered heads blocks covers'
-covered_on {heads} {blocks} {covers} {covers'} C same = subst (λ k. AreCovered heads k covers') C.long (same heads (subst (λ k. AreCovered heads k covers) (sym C.long) C))
-
--- and where a change was made
+-- where a change was made
 pub covered_made : {old : List Patch} {b at len : ℕ} {names row : List ℕ} {blocks : ℕ} {covers : List Covering} {own cover : Covering} (n : ℕ) (grade : Grade) → IsSparseRow old names b at len row
     → AreCovered old blocks covers → b < blocks → own ≡ get_or covers b own → ((d : Covering) → HasBytes (get_or covers b d) at len) → IsPut own at len (n + 1) cover
     → AreCovered (old ++ fresh (n + 1) (Change b at len grade) row ∷ []) blocks (set covers b cover)

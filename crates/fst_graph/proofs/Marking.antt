@@ -11,12 +11,7 @@ use Rattle.fst_walks.proofs.{Alone.{waits_in, waits_out}, Low.{is_block, block_i
 use Rattle.fst_walks.proofs.{Numbered.{rising_numbers, number_in, number_of, none_counted, counted_none, counted_some}, Obstacles.{hard_from, hard_to}}
 use Rattle.fst_types.specs.declared.place.Place.TheVariants as place
 use Rattle.fst_heads.specs.declared.pending.Pending.TheVariants as pending
-
--- two tests that follow from one another
-same_test : (s t : Bool) → (s ≡ true → t ≡ true) → (t ≡ true → s ≡ true) → s ≡ t
-same_test true t f g = sym (f refl)
-same_test false true f g = g refl
-same_test false false f g = refl
+use Rattle.fst_types.proofs.Writes.{same_test}
 
 -- tests that agree count the same
 count_agree : (f g : ℕ → Bool) → ((n : ℕ) → f n ≡ g n) → (ns : List ℕ) → count_by f ns ≡ count_by g ns

@@ -7,24 +7,15 @@ use Rattle.fst_graph.specs.Membering.{BeginsAs}
 use Rattle.fst_types.proofs.{Cascades.place_decided, Finite.{In, In-from_Contains, Contains-from_In}}
 use Rattle.fst_heads.proofs.{AtNumber.patches_in_nodes, Forgetting.{live_in, in_live}, PendingAt.node_in, Slots.{any_default, direct_at, named_at}}
 use Rattle.fst_graph.proofs.TakenAsSealed.{rule_sealed, gate_lives, gate_rests, row_named, row_unnamed}
+use Rattle.fst_heads.proofs.CountsAs.{count_none}
 
--- a count is 0 exactly where none passes
-none_left : (t : ℕ → Bool) (xs : List ℕ) (x : ℕ) → length (filter t xs) ≡ 0 → In xs x → t x ≡ false
-none_left t [] x e i = absurd i
-none_left t (y ∷ ys) x e i = elim (cases_Bool (t y)) [
-  | inl yes_y ↦ absurd (let f = rw yes_y at e in omega (arith, f))
-  | inr no_y ↦ elim i [ inl same ↦ subst (λ z. t z ≡ false) same no_y | inr j ↦ none_left t ys x (rw no_y at e) j ]
-]
-
+-- a count that is not 0 has one that passes
 one_left : (t : ℕ → Bool) (xs : List ℕ) → length (filter t xs) ≢ 0 → (x : ℕ) × In xs x × (t x ≡ true)
 one_left t [] e = absurd (e refl)
 one_left t (y ∷ ys) e = elim (cases_Bool (t y)) [
   | inl yes_y ↦ (y, inl refl, yes_y)
   | inr no_y ↦ let r = one_left t ys (λ f. e (rw no_y f)) in (r.0, inr r.1, r.2)
 ]
-
-none_passes : (t : ℕ → Bool) (xs : List ℕ) (x : ℕ) → count_by t xs ≡ 0 → In xs x → t x ≡ false
-none_passes t xs x e i = none_left t xs x (length-filter t xs ∙ e) i
 
 one_passes : (t : ℕ → Bool) (xs : List ℕ) → count_by t xs ≢ 0 → (x : ℕ) × In xs x × (t x ≡ true)
 one_passes t xs e = one_left t xs (λ f. e (sym (length-filter t xs) ∙ f))
@@ -48,7 +39,7 @@ module _ (heads : List Head) (n s : ℕ) (d : Head) (rising : IsRising heads) (c
     | inl disk ↦ disk
     | inr live ↦
         let passes = in_live (patches_of heads) q (record { patch = p; head = c; numbered = same; live = live }) in
-        absurd (false≢true (sym (none_passes (is_live_in (patches_of heads)) h.dependencies.items q (sym count ∙ eqb-true h.sums.count 0 e) (In-from_Contains h.dependencies.items q (named_at heads n q s d rising slot direct))) ∙ passes))
+        absurd (false≢true (sym (count_none (is_live_in (patches_of heads)) h.dependencies.items (sym count ∙ eqb-true h.sums.count 0 e) q (In-from_Contains h.dependencies.items q (named_at heads n q s d rising slot direct))) ∙ passes))
   ]
 
   pub waits_at : eqb h.sums.count 0 ≡ false → (q : ℕ) × DirectlyOn (patches_of heads) n q × IsLiveNumber (patches_of heads) q

@@ -8,6 +8,7 @@ use Rattle.fst_graph.specs.{Grouping.{pair_order, AddsPair}, Known.Known}
 use Rattle.fst_types.proofs.{Crash.same_number, Finite.{In, In-from_Contains, Contains-from_In, first_step}, Heads.sparse_depended}
 use Rattle.fst_heads.proofs.Making.{gate_lawful, keeps_added, keeps_gate}
 use Rattle.fst_types.specs.declared.place.Place.TheVariants as place
+use Rattle.fst_graph.proofs.Wholes.{memory_live}
 
 only_one : (x y : ℕ) → Contains (x ∷ []) y → y ≡ x
 only_one x y c = elim (In-from_Contains (x ∷ []) y c) [ inl e ↦ sym e | inr h ↦ absurd h ]
@@ -58,9 +59,6 @@ module _ (heads : List Patch) (n : ℕ) (H : SparseAreLawful heads n) where
 
   is_open : IsOpenNumber with_tail (n + 1 + 1)
   is_open = record { patch = tail_gate; head = tail_there; numbered = refl; is_open = refl }
-
-  memory_live : (x : Place) → x ≡ place.Memory → x ≡ place.Disk → ⊥
-  memory_live x a b = cc
 
   head_live : IsLiveNumber with_tail (n + 1)
   head_live = record { patch = head_gate; head = head_there; numbered = refl; live = λ d. memory_live place.Memory refl d }

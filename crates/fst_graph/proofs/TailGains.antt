@@ -12,6 +12,7 @@ use Rattle.fst_walks.proofs.Overlapped.{touched_no_gate}
 use Rattle.fst_graph.proofs.{Readied.{head_told, ready_member}, SealedIf.open_not_sealed}
 use Rattle.fst_types.specs.declared.grade.Grade.TheVariants as grade
 use Rattle.fst_types.specs.declared.place.Place.TheVariants as place
+use Rattle.fst_graph.proofs.Wholes.{memory_live}
 
 -- what is prepared is for the group with those gates
 pub head_same : (o : Option Stored) (n : ℕ) (q : Prepared) (head : ℕ) (p : Stored) (gates : Gates) → option_map (prepared_of n) o ≡ Some q → q.group ≡ Some head → o ≡ Some p → p.gates ≡ Some gates → gates.head ≡ head
@@ -25,9 +26,6 @@ member_kept p gates old n blocks there ready = subst (λ g. IsReadyFor g old n b
 
 only_one : (x y : ℕ) → Contains (x ∷ []) y → x ≡ y
 only_one x y c = elim (In-from_Contains (x ∷ []) y c) [ inl e ↦ e | inr h ↦ absurd h ]
-
-memory_live : (x : Place) → x ≡ place.Memory → x ≡ place.Disk → ⊥
-memory_live x a b = cc
 
 module _ (old : List Patch) (n blocks : ℕ) (marks : List Bool) (K : Keeps old n blocks marks) (gates : Gates) (p : Stored) (R : IsMemberReady old n blocks gates p) (closed : IsOpenNumber old gates.head → ⊥) where
   H : SparseAreLawful old n

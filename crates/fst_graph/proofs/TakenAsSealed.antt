@@ -11,9 +11,7 @@ use Rattle.fst_heads.proofs.Touching.{touch_parts, touch_whole}
 use Rattle.fst_walks.proofs.{Holding.live_up, NearRow.under_weaker}
 use Rattle.fst_types.specs.declared.place.Place.TheVariants as place
 use Rattle.fst_types.specs.declared.grade.Grade.TheVariants as grade
-
-memory_live : (x : Place) → x ≡ place.Memory → x ≡ place.Disk → ⊥
-memory_live x a b = cc
+use Rattle.fst_graph.proofs.Wholes.{memory_live}
 
 module _ (old new : List Patch) (numbers g : ℕ) (H : SparseAreLawful old numbers) (gate : IsOpenNumber old g) (cascade : IsCascadeOf (map (sealed g) old) new) where
   K : SparseAreLawful new numbers

@@ -9,16 +9,12 @@ use Rattle.fst_graph.specs.Rows.{whole, whole_row, AreWhole}
 use Rattle.fst_types.proofs.{Dropping.{filter_in, in_filter}, Finite.{In-from_Contains, Contains-from_In, In-map}, GateGains.In-unmap, Issuing.{among_in, in_among}}
 use Rattle.fst_graph.proofs.Wholes.{is}
 use Rattle.fst_types.specs.declared.place.Place.TheVariants as place
+use Rattle.fst_heads.proofs.Forgetting.{not_disk}
 
 live_to : (x : Place) → (x ≡ place.Disk → ⊥) → not (is_at x place.Disk) ≡ true
 live_to place.Memory l = refl
 live_to place.Flight l = refl
 live_to place.Disk l = absurd (l refl)
-
-live_from : (x : Place) → not (is_at x place.Disk) ≡ true → x ≡ place.Disk → ⊥
-live_from place.Memory e d = cc
-live_from place.Flight e d = cc
-live_from place.Disk e d = false≢true e
 
 numbers_rise : (ps : List Patch) → IsRising ps → IsStrictlyIncreasing (map (λ p. p.number) ps)
 numbers_rise [] pairs k lt = absurd (omega (arith, lt))
@@ -66,7 +62,7 @@ module _ (number : ℕ) (after : List ℕ) (b at len : ℕ) where
             | inl t ↦ inr (record { patch = p.0; head = h; numbered = p.2; shares = t })
             | inr l ↦
                 let m = and_parts (is_live p.0) (is_among after p.0.number) l in
-                inl (record { patch = p.0; head = h; numbered = p.2; live = live_from p.0.place m.0 }, subst (Contains after) p.2 (Contains-from_In after p.0.number (among_in after p.0.number m.1)))
+                inl (record { patch = p.0; head = h; numbered = p.2; live = not_disk p.0.place m.0 }, subst (Contains after) p.2 (Contains-from_In after p.0.number (among_in after p.0.number m.1)))
           ]
 
       has : (p : Patch) → Contains heads p → (touches b at len p || (is_live p && is_among after p.number)) ≡ true → Contains (whole_row heads number after b at len) p.number

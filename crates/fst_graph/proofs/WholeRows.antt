@@ -15,6 +15,7 @@ use Rattle.fst_walks.proofs.Holding.{live_up}
 use Rattle.fst_graph.proofs.WholeSteps.{whole_open, open_other, IsKept, kept_self, AreKept, kept_then, kept_map, kept_cascade, kept_pushed, sparse_kept, cascade_whole, swap_landed, swap_launched, swap_sealed, swap_gains, swap_filter, swap_pushed}
 use Rattle.fst_graph.proofs.Wholes.{memory_live, is, was, live_number, open_number, depends_up, depends_down}
 use Rattle.fst_types.specs.declared.place.Place.TheVariants as place
+use Rattle.fst_heads.proofs.Forgetting.{live_place_of, not_disk}
 
 -- where no patch with the number is live, it is on disk
 pub live_or_disk : (heads : List Patch) (n : ℕ) → IsLiveNumber heads n ⊎ IsOnDisk heads n
@@ -228,18 +229,10 @@ module _ (rows : List (ℕ × List ℕ)) (T : List Patch) (numbers : ℕ) (W : A
       stood : (p : Patch) → Contains (filter is_live T) p → Contains T p × IsLive p
       stood p h =
           let k = filter_in is_live T p (In-from_Contains (filter is_live T) p h) in
-          (Contains-from_In T p k.0, is_live_from p.place k.1)
-        where
-          is_live_from : (x : Place) → not (is_at x place.Disk) ≡ true → x ≡ place.Disk → ⊥
-          is_live_from x e d = let k : not (is_at place.Disk place.Disk) ≡ true = subst (λ y. not (is_at y place.Disk) ≡ true) d e in cc
+          (Contains-from_In T p k.0, not_disk p.place k.1)
 
       stays : (p : Patch) → Contains T p → IsLive p → Contains (filter is_live T) p
-      stays p h l = Contains-from_In (filter is_live T) p (in_filter is_live T p (In-from_Contains T p h) (is_live_to p.place l))
-        where
-          is_live_to : (x : Place) → (x ≡ place.Disk → ⊥) → not (is_at x place.Disk) ≡ true
-          is_live_to place.Memory l = refl
-          is_live_to place.Flight l = refl
-          is_live_to place.Disk l = absurd (l refl)
+      stays p h l = Contains-from_In (filter is_live T) p (in_filter is_live T p (In-from_Contains T p h) (live_place_of p.place l))
 
       lives : (n : ℕ) → IsLiveNumber (filter is_live T) n → IsLiveNumber T n
       lives n l = record { patch = l.patch; head = (stood l.patch l.head).0; numbered = l.numbered; live = l.live }
