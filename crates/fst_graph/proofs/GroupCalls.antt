@@ -11,7 +11,7 @@ use Rattle.fst_graph.specs.{Known.{Known, Prepared, unprepared, with_groups, Ref
 use Rattle.fst_types.proofs.{Apart.tail_no_head, Finite.In-from_Contains, GroupsClear.close_clear, GroupsKept.{Spares, groups_row}}
 use Rattle.fst_types.proofs.{Heads.heads_row, Loosened.loosened, Parts.{SealsIfOpen as SealsStateIfOpen, seals_if_open}}
 use Rattle.fst_heads.proofs.Slots.{any_default}
-use Rattle.fst_graph.proofs.{Grouped.{by_group, state_at, some_bytes}, SealedIf.open_not_sealed}
+use Rattle.fst_graph.proofs.{GateSlot.open_not_sealed, Grouped.{by_group, state_at, some_bytes}}
 
 only_one : (x y : ℕ) → Contains (x ∷ []) y → y ≡ x
 only_one x y c = elim (In-from_Contains (x ∷ []) y c) [ inl e ↦ sym e | inr h ↦ absurd h ]

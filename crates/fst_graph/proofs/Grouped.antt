@@ -1,7 +1,6 @@
 -- What each call leaves of what holds of the patches and their groups.
-use Rattle.std.proofs.Common.{◌≡◌, ℕ, List, [], ◌∷◌, map, replicate, false, Result, Ok, Err, Some, None, refl, sym, subst, inl, inr, arith}
+use Rattle.std.proofs.{Common.{◌≡◌, ℕ, List, [], ◌∷◌, map, replicate, false, Result, Ok, Err, Some, None, refl, sym, subst, inl, inr, arith}, lemmas.List.length-replicate}
 use Rattle.std.specs.Prelude.{IfOk, IfErr, IfSome, OnErr}
-use Rattle.std.proofs.lemmas.List.{length-replicate}
 use Rattle.fst_types.specs.{Events.{Event, Reply, MakeChange, MakeEmpty, MakeGate, Depend, Seal, Forget}, Facts.HeadsAreLawful, Forgetting.Forgets as ForgetsHeads}
 use Rattle.fst_types.specs.{Gating.{Depends, Seals}, Groups.{Group, IsGroupGate}, Making.{ChangeIsMade, MakesChange, MakesEmpty, MakesGate}, Refusals.{Rule, ◌when◌}}
 use Rattle.fst_types.specs.{State.State, Step.{Row, change, empty, gate, depend, seal, forget}, Writing.landed, declared.fault.Fault.Fault, declared.grade.Grade.Grade}

@@ -1,6 +1,5 @@
 pub mod Gathering
 pub mod Paired
-pub mod SealedIf
 pub mod PairTold
 pub mod GroupCalls
 pub mod Grouped
@@ -8,15 +7,12 @@ pub mod PlaceOf
 pub mod Emptying
 pub mod Kept
 pub mod GateSlot
-pub mod Picked
-pub mod Gained
 pub mod Readied
 pub mod Listed
 pub mod Marking
 pub mod Settling
 pub mod Sound
 pub mod Shutting
-pub mod AtRest
 pub mod PutNow
 pub mod Tallied
 pub mod Borne
@@ -24,7 +20,6 @@ pub mod Launches
 pub mod TakenAsSealed
 pub mod MemberRow
 pub mod MemberReady
-pub mod FewCounted
 pub mod TailGains
 pub mod WholeChange
 pub mod WholeMember

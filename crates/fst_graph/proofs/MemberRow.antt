@@ -5,9 +5,8 @@ use Rattle.fst_types.specs.{Dependencies.{DirectlyOn, IsLiveNumber, IsOnDisk}, F
 use Rattle.fst_heads.specs.{Grading.MayBeHard, Heads.{IsRising, patches_of}, Marks.HasSlot, Nodes.{node_of, nodes_of, is_live_in, AreCounted}, Rows.IsSparseRow, declared.head.Head.Head}
 use Rattle.fst_graph.specs.Membering.{BeginsAs}
 use Rattle.fst_types.proofs.{Cascades.place_decided, Finite.{In, In-from_Contains, Contains-from_In}}
-use Rattle.fst_heads.proofs.{AtNumber.patches_in_nodes, Forgetting.{live_in, in_live}, PendingAt.node_in, Slots.{any_default, direct_at, named_at}}
+use Rattle.fst_heads.proofs.{AtNumber.patches_in_nodes, CountsAs.count_none, Forgetting.{live_in, in_live}, PendingAt.node_in, Slots.{any_default, direct_at, named_at}}
 use Rattle.fst_graph.proofs.TakenAsSealed.{rule_sealed, gate_lives, gate_rests, row_named, row_unnamed}
-use Rattle.fst_heads.proofs.CountsAs.{count_none}
 
 -- a count that is not 0 has one that passes
 one_left : (t : ℕ → Bool) (xs : List ℕ) → length (filter t xs) ≢ 0 → (x : ℕ) × In xs x × (t x ≡ true)

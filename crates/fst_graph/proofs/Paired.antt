@@ -7,8 +7,8 @@ use Rattle.fst_heads.specs.Keeps.{Keeps}
 use Rattle.fst_graph.specs.{Grouping.{pair_order, AddsPair}, Known.Known}
 use Rattle.fst_types.proofs.{Crash.same_number, Finite.{In, In-from_Contains, Contains-from_In, first_step}, Heads.sparse_depended}
 use Rattle.fst_heads.proofs.Making.{gate_lawful, keeps_added, keeps_gate}
-use Rattle.fst_types.specs.declared.place.Place.TheVariants as place
 use Rattle.fst_graph.proofs.Wholes.{memory_live}
+use Rattle.fst_types.specs.declared.place.Place.TheVariants as place
 
 only_one : (x y : ℕ) → Contains (x ∷ []) y → y ≡ x
 only_one x y c = elim (In-from_Contains (x ∷ []) y c) [ inl e ↦ sym e | inr h ↦ absurd h ]

@@ -1,6 +1,5 @@
 -- The place of a number.
-use Rattle.std.proofs.Common.{◌≡◌, ℕ, ◌==◌, ◌&&◌, nat_le, true, List, Contains, Some, None, find, Option, IfNone, refl, subst, arith, IfSome}
-use Rattle.std.proofs.lemmas.Bool.Decides.{nat_tests}
+use Rattle.std.proofs.{Common.{◌≡◌, ℕ, ◌==◌, ◌&&◌, nat_le, true, List, Contains, Some, None, find, Option, IfNone, refl, subst, arith, IfSome}, lemmas.Bool.Decides.nat_tests}
 use Rattle.fst_types.specs.{Gates.IsGiven, Looks.place_of, Patches.{Patch, IsRising}}
 use Rattle.fst_heads.proofs.Slots.{find_patch, find_none}
 use Rattle.fst_types.specs.declared.place.Place.TheVariants as place

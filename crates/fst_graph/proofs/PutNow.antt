@@ -1,6 +1,5 @@
 -- What is prepared may be put down as it is, for a group once its head is not open; and what the fields are then.
-use Rattle.std.proofs.Common.{◌≡◌, ◌<◌, ◌+◌, ◌++◌, ◌∷◌, [], ◌∙◌, ℕ, Option, Some, option_map, Contains, false, length, get_or, set, arith, refl, sym, ap, subst}
-use Rattle.std.proofs.lemmas.List.{length-map}
+use Rattle.std.proofs.{Common.{◌≡◌, ◌<◌, ◌+◌, ◌++◌, ◌∷◌, [], ◌∙◌, ℕ, Option, Some, option_map, Contains, false, length, get_or, set, arith, refl, sym, ap, subst}, lemmas.List.length-map}
 use Rattle.std.specs.Global.{Vec}
 use Rattle.fst_types.specs.{Dependencies.IsLiveNumber, Facts.SparseAreLawful, Gates.IsOpenNumber, Limits.max_heads}
 use Rattle.fst_heads.specs.{Covers.Covering, Heads.patches_of, Keeps.{Keeps, Tallies}, Lists.entry, Names.numbers_of, Nodes.{node_of, nodes_of, patches_in}, Pendings.is_pending}

@@ -1,6 +1,5 @@
 -- What is prepared.
-use Rattle.std.proofs.Common.{◌≡◌, ℕ, ◌+◌, Bool, true, false, ◌&&◌, List, [], ◌∷◌, Option, Some, None, option_map, is_some, subst, refl, sym, ap, ◌∙◌, eqb}
-use Rattle.std.proofs.lemmas.{Bool.false≢true, Bool.Decides.Decides-eqb}
+use Rattle.std.proofs.{Common.{◌≡◌, ℕ, ◌+◌, Bool, true, false, ◌&&◌, List, [], ◌∷◌, Option, Some, None, option_map, is_some, subst, refl, sym, ap, ◌∙◌, eqb}, lemmas.Bool.false≢true, lemmas.Bool.Decides.Decides-eqb}
 use Rattle.std.specs.Bool.{Decides}
 use Rattle.fst_types.specs.{Grades.FollowsRule, Patches.Patch, declared.grade.Grade.Grade, declared.number.PatchNo.PatchNo, declared.span.Span.Span}
 use Rattle.fst_heads.specs.Names.{numbers_of}

@@ -1,14 +1,14 @@
 -- What holds of the fields that are sound: for a walk over them, for what is prepared, and after a call that leaves the patches as they are.
-use Rattle.std.proofs.Common.{◌≡◌, ◌≤◌, ◌∙◌, ℕ, List, Option, Some, None, IfSome, length, map, refl, sym, subst, arith}
-use Rattle.std.proofs.lemmas.List.{length-map}
+use Rattle.std.proofs.{Common.{◌≡◌, ◌≤◌, ◌∙◌, ℕ, List, Option, Some, None, IfSome, length, map, refl, sym, subst, arith, ◌<◌, ◌↔◌, ◌&&◌, Bool, true, get_or, ap}, lemmas.List.length-map}
 use Rattle.std.specs.Global.{Vec}
-use Rattle.fst_types.specs.Patches.{Patch}
-use Rattle.fst_heads.specs.{Covers.{AreCovered, Covering}, Heads.{patch_of, patches_of, IsRising}, Keeps.IsInside, Lists.{entries_of, AreListed}}
-use Rattle.fst_heads.specs.{Nodes.{nodes_of, AreSettled}, Standings.AllStand, declared.head.Head.Head, declared.lists.Listed.Listed, declared.standing.Standing.Standing}
+use Rattle.fst_types.specs.{Dependencies.IsLiveNumber, Patches.Patch}
+use Rattle.fst_heads.specs.{Ascending.IsBehind, Covers.{AreCovered, Covering}, Heads.{patch_of, patches_of, IsRising}, Keeps.IsInside, Lists.{entries_of, AreListed, entries_on}, Marks.{mark_in, mark_of}}
+use Rattle.fst_heads.specs.{Nodes.{nodes_of, AreSettled, pending_in}, Standings.{AllStand, standing_of}, declared.head.Head.Head, declared.lists.Listed.Listed, declared.standing.Standing.Standing}
 use Rattle.fst_walks.specs.{Searching.TellsGates, Sights.Sees, declared.block_walk.BlockWalk.BlockWalk, declared.sight.Sight.Sight}
 use Rattle.fst_graph.specs.{Sound.{AreSound, IsPrepared}, declared.prepared.Prepared.Prepared as Stored}
 use Rattle.fst_heads.proofs.{AtNumber.patches_in_nodes, Slots.rising_heads}
-use Rattle.fst_walks.proofs.{Held.{heads_held, heads_live}, Seen.{same_patches, tallies_wider}}
+use Rattle.fst_walks.proofs.{Behind.pending_live, Held.{heads_held, heads_live}, Resting.{listed_at, shelves}, Seen.{same_patches, tallies_wider}}
+use Rattle.fst_heads.specs.declared.pending.Pending.TheVariants as pending
 
 module _ {heads : Vec Head} {walks : BlockWalk} {lists : Vec (Vec Listed)} {covers : Vec Covering} {standings : Vec Standing} {queue : Vec ℕ} {live numbers blocks : ℕ} {o : Option Stored}
     (S : AreSound heads walks lists covers standings queue live numbers blocks o) where
@@ -93,8 +93,34 @@ module _ {heads : Vec Head} {walks : BlockWalk} {lists : Vec (Vec Listed)} {cove
   pub with_prepared : {o' : Option Stored} → IfSome o' (IsPrepared heads walks lists covers queue numbers blocks) → AreSound heads walks lists covers standings queue live numbers blocks o'
   with_prepared P = record { keeps = S.keeps; beside = S.beside; tallies = S.tallies; covered = S.covered; prepared = P }
 
+  -- there are as many lists as blocks
+  pub many_lists : (slice : List (Vec Listed)) → slice ≡ lists.items → length slice ≡ blocks
+  many_lists slice e = shelves (nodes_of heads.items) blocks lists.items slice S.tallies.listed e
+
+  pub its_list : (slice : List (Vec Listed)) → slice ≡ lists.items → (b : ℕ) → b < length slice → (list : Vec Listed) → list ≡ get_or slice b list → entries_of list.items ≡ entries_on b (patches_of heads.items)
+  its_list slice e b lt list there = listed_at heads.items blocks b lists.items list S.tallies.listed (omega (arith, lt, many_lists slice e)) (subst (λ ls. list ≡ get_or ls b list) e there)
+
+  pub its_standing : (slice : List (Vec Listed)) → slice ≡ lists.items → (b : ℕ) → b < length slice → (told : List Standing) → told ≡ standings.items
+      → (b < length told) × ((d : Standing) → get_or told b d ≡ standing_of (nodes_of heads.items) b)
+  its_standing slice e b lt told same =
+      let inside : b < blocks = omega (arith, lt, many_lists slice e) in
+      (omega (arith, inside, ap length same, S.tallies.standing.long), λ d. ap (λ xs. get_or xs b d) same ∙ S.tallies.standing.each b d inside)
+
+  -- what waits for the block alone is live
+  pub waits_live : (b n : ℕ) → pending_in (nodes_of heads.items) n ≡ pending.Block b → IsLiveNumber (patches_of heads.items) n
+  waits_live b n e = subst (λ ps. IsLiveNumber ps n) (patches_in_nodes heads.items) (pending_live (nodes_of heads.items) blocks b n S.tallies.settled e)
+
 -- what follows from that holds of whatever is prepared
 pub if_prepared : {heads : Vec Head} {walks : BlockWalk} {lists : Vec (Vec Listed)} {covers : Vec Covering} {standings : Vec Standing} {queue : Vec ℕ} {live numbers blocks : ℕ} {o : Option Stored}
     → AreSound heads walks lists covers standings queue live numbers blocks o → (P : Stored → Type 0) → ((p : Stored) → o ≡ Some p → IsPrepared heads walks lists covers queue numbers blocks p → P p) → IfSome o P
 if_prepared {o = None} sound P follows = tt
 if_prepared {o = Some p} sound P follows = follows p refl sound.prepared
+
+-- the marks that are handed on tell what a walk from what flies has met
+pub behind_marked : (heads seen : List Head) (b : ℕ) (flying : Bool) (marks walked : List Bool) (given : Option (List Bool)) → seen ≡ heads → marks ≡ walked
+    → ((n : ℕ) → ((flying && mark_of seen walked n) ≡ true) ↔ IsBehind (nodes_of seen) b n)
+    → ((hs : List Head) (n : ℕ) → mark_in hs given n ≡ (flying && mark_of hs marks n))
+    → (n : ℕ) → (mark_in heads given n ≡ true) ↔ IsBehind (nodes_of heads) b n
+behind_marked heads seen b flying marks walked given same back behind told n =
+    subst (λ t. (t ≡ true) ↔ IsBehind (nodes_of heads) b n) (sym (told heads n ∙ ap (λ k. flying && mark_of heads k n) back))
+    (subst (λ hs. ((flying && mark_of hs walked n) ≡ true) ↔ IsBehind (nodes_of hs) b n) same (behind n))

@@ -9,10 +9,9 @@ use Rattle.fst_graph.specs.{declared.prepared.Gates.Gates, declared.prepared.Pre
 use Rattle.fst_types.proofs.{Finite.{In-from_Contains, Contains-from_In, In-map}, NewChange.IsWithin}
 use Rattle.fst_heads.proofs.{Graded.depends_under, Touching.touched_overlaps}
 use Rattle.fst_walks.proofs.Overlapped.{touched_no_gate}
-use Rattle.fst_graph.proofs.{Readied.{head_told, ready_member}, SealedIf.open_not_sealed}
+use Rattle.fst_graph.proofs.{GateSlot.open_not_sealed, Readied.{head_told, ready_member}, Wholes.memory_live}
 use Rattle.fst_types.specs.declared.grade.Grade.TheVariants as grade
 use Rattle.fst_types.specs.declared.place.Place.TheVariants as place
-use Rattle.fst_graph.proofs.Wholes.{memory_live}
 
 -- what is prepared is for the group with those gates
 pub head_same : (o : Option Stored) (n : ℕ) (q : Prepared) (head : ℕ) (p : Stored) (gates : Gates) → option_map (prepared_of n) o ≡ Some q → q.group ≡ Some head → o ≡ Some p → p.gates ≡ Some gates → gates.head ≡ head

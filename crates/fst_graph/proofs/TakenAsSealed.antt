@@ -1,6 +1,5 @@
 -- What a new change would depend on, and how it would be graded, once an open gate is sealed: told by the patches as they stand.
-use Rattle.std.proofs.Common.{◌≡◌, ◌≢◌, ◌⊎◌, ◌↔◌, ℕ, List, [], ◌∷◌, map, Contains, Some, None, refl, sym, ap, subst, ◌∙◌, inl, inr, arith}
-use Rattle.std.proofs.lemmas.Bool.{cases_eq}
+use Rattle.std.proofs.{Common.{◌≡◌, ◌≢◌, ◌⊎◌, ◌↔◌, ℕ, List, [], ◌∷◌, map, Contains, Some, None, refl, sym, ap, subst, ◌∙◌, inl, inr, arith}, lemmas.Bool.cases_eq}
 use Rattle.fst_types.specs.{Cascade.{Follows, RestsOnDisk, IsCascadeOf}, Closure.{one, join}, Dependencies.{DirectlyOn, DependsOn, Needs, IsLiveNumber, IsOnDisk}, Facts.SparseAreLawful}
 use Rattle.fst_types.specs.{Gates.IsOpenNumber, Gating.sealed, Grades.FollowsRule, Patches.{SealedGate, Patch, IsOn, IsLive, IsOpenGate}, declared.grade.Grade.Grade, declared.place.Place.Place}
 use Rattle.fst_heads.specs.{Grading.{HasUnder, IsReturning, IsLeading, IsOpenBut, MayBeHard}, Rows.{IsTouched, IsSparseRow}}
@@ -9,9 +8,9 @@ use Rattle.fst_types.proofs.Finite.{Decided, decided_not, decided_both, In-from_
 use Rattle.fst_types.proofs.{SealedSame.{Twin, back, forth, depends_same, need_was, need_is, reaches_same}, Sealing.{alike_sealed, sparse_sealed}}
 use Rattle.fst_heads.proofs.Touching.{touch_parts, touch_whole}
 use Rattle.fst_walks.proofs.{Holding.live_up, NearRow.under_weaker}
+use Rattle.fst_graph.proofs.Wholes.{memory_live}
 use Rattle.fst_types.specs.declared.place.Place.TheVariants as place
 use Rattle.fst_types.specs.declared.grade.Grade.TheVariants as grade
-use Rattle.fst_graph.proofs.Wholes.{memory_live}
 
 module _ (old new : List Patch) (numbers g : ℕ) (H : SparseAreLawful old numbers) (gate : IsOpenNumber old g) (cascade : IsCascadeOf (map (sealed g) old) new) where
   K : SparseAreLawful new numbers

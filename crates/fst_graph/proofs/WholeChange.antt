@@ -1,6 +1,5 @@
 -- A new change with a sparse row is one with its whole row, which is kept beside.
-use Rattle.std.proofs.Common.{◌≡◌, ◌≢◌, ◌⊎◌, ◌↔◌, ℕ, ◌+◌, ◌≤◌, true, List, [], ◌∷◌, ◌++◌, map, Contains, refl, sym, ap, subst, ◌∙◌, inl, inr, arith}
-use Rattle.std.proofs.lemmas.List.Elements.{Contains-push_cases}
+use Rattle.std.proofs.{Common.{◌≡◌, ◌≢◌, ◌⊎◌, ◌↔◌, ℕ, ◌+◌, ◌≤◌, true, List, [], ◌∷◌, ◌++◌, map, Contains, refl, sym, ap, subst, ◌∙◌, inl, inr, arith}, lemmas.List.Elements.Contains-push_cases}
 use Rattle.fst_types.specs.{Closure.{one, join}, Dependencies.{DirectlyOn, DependsOn, IsLiveNumber}, Facts.IsOnDiskWithAll, Grades.{FollowsRule, IsGradedHard}}
 use Rattle.fst_types.specs.{Lists.Lists, Making.{fresh, ChangeIsMade}, Patches.{Kind, Change, Empty, OpenGate, SealedGate, Patch}, declared.grade.Grade.Grade}
 use Rattle.fst_heads.specs.Rows.{touches, IsTouched, IsDependency}

@@ -1,6 +1,5 @@
 -- A new change of a group with a sparse row is one with its whole row; and what it would be is foretold for both.
-use Rattle.std.proofs.Common.{◌≡◌, ℕ, ◌==◌, List, [], ◌∷◌, ◌++◌, map, Contains, find, unwrap_or, option_map, refl, sym, ap, subst, ◌∙◌, inl, inr}
-use Rattle.std.proofs.lemmas.Bool.{cases_Bool}
+use Rattle.std.proofs.{Common.{◌≡◌, ℕ, ◌==◌, List, [], ◌∷◌, ◌++◌, map, Contains, find, unwrap_or, option_map, refl, sym, ap, subst, ◌∙◌, inl, inr}, lemmas.Bool.cases_Bool}
 use Rattle.fst_types.specs.{Bytes.content_of, Cascade.IsCascadeOf, Events.MadeChange, Facts.HeadsAreLawful, Gating.{sealed, GateIsSealed}, Grouping.{GateIsSealedIfOpen, MemberIsMade}}
 use Rattle.fst_types.specs.{Making.ChangeIsMade, Patches.{Kind, Change, Empty, OpenGate, SealedGate, Patch, IsRising}, declared.grade.Grade.Grade}
 use Rattle.fst_graph.specs.{Rows.{row_of_kind, whole, whole_row, AreWhole, with_row}, Sparse.{SparseChangeIsMade, SparseMemberIsMade}}

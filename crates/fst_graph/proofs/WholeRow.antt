@@ -7,9 +7,9 @@ use Rattle.fst_types.specs.{Gating.gains, Lists.Lists, Patches.{Patch, IsRising}
 use Rattle.fst_heads.specs.Rows.{touches, IsDependency}
 use Rattle.fst_graph.specs.Rows.{whole, whole_row, AreWhole}
 use Rattle.fst_types.proofs.{Dropping.{filter_in, in_filter}, Finite.{In-from_Contains, Contains-from_In, In-map}, GateGains.In-unmap, Issuing.{among_in, in_among}}
+use Rattle.fst_heads.proofs.Forgetting.{not_disk}
 use Rattle.fst_graph.proofs.Wholes.{is}
 use Rattle.fst_types.specs.declared.place.Place.TheVariants as place
-use Rattle.fst_heads.proofs.Forgetting.{not_disk}
 
 live_to : (x : Place) → (x ≡ place.Disk → ⊥) → not (is_at x place.Disk) ≡ true
 live_to place.Memory l = refl

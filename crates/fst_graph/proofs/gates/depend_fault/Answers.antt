@@ -1,5 +1,4 @@
-use Rattle.std.proofs.Common.{◌<◌, ◌∙◌, length, refl, sym, inl, inr, arith}
-use Rattle.std.proofs.lemmas.{Bool.false≢true, List.length-map}
+use Rattle.std.proofs.{Common.{◌<◌, ◌∙◌, length, refl, sym, inl, inr, arith}, lemmas.Bool.false≢true, lemmas.List.length-map}
 use Rattle.fst_types.specs.{Limits.max_names, Order.NamesUnknown}
 use Rattle.fst_heads.specs.Names.{numbers_of}
 use Rattle.fst_graph.proofs.gates.depend_fault.Goals as goal

@@ -1,5 +1,4 @@
-use Rattle.std.proofs.Common.{◌<◌, ◌∙◌, arith, sym, length}
-use Rattle.std.proofs.lemmas.{Bool.false≢true, List.length-map}
+use Rattle.std.proofs.{Common.{◌<◌, ◌∙◌, arith, sym, length}, lemmas.Bool.false≢true, lemmas.List.length-map}
 use Rattle.fst_types.specs.{Limits.max_names, Order.NamesUnknown}
 use Rattle.fst_heads.specs.Names.{numbers_of}
 use Rattle.fst_graph.proofs.PlaceOf.{none_then}

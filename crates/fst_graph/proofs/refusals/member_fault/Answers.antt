@@ -1,5 +1,4 @@
-use Rattle.std.proofs.Common.{◌∙◌, [], refl, sym, inl, inr}
-use Rattle.std.proofs.lemmas.Bool.{false≢true}
+use Rattle.std.proofs.{Common.{◌∙◌, [], refl, sym, inl, inr}, lemmas.Bool.false≢true}
 use Rattle.fst_heads.specs.{Heads.patches_of, Lists.entries_of}
 use Rattle.fst_graph.specs.Membering.{OverlapReaches}
 use Rattle.fst_heads.proofs.{Listing.listed_at, Touching.{touched_overlaps, overlaps_touched}}

@@ -1,5 +1,4 @@
-use Rattle.std.proofs.Common.{refl, inl, sym, ◌∙◌}
-use Rattle.std.proofs.lemmas.Bool.{false≢true}
+use Rattle.std.proofs.{Common.{refl, inl, sym, ◌∙◌}, lemmas.Bool.false≢true}
 use Rattle.fst_types.specs.Order.{depend_order}
 use Rattle.fst_heads.specs.Names.{numbers_of}
 use Rattle.fst_graph.proofs.Grouped.{answered, fine, failed, beside_depend, past_front, grouped_depend, grouped_unprepared}

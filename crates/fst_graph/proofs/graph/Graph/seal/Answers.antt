@@ -1,5 +1,4 @@
-use Rattle.std.proofs.Common.{refl, inl, sym, ◌∙◌}
-use Rattle.std.proofs.lemmas.Bool.{false≢true}
+use Rattle.std.proofs.{Common.{refl, inl, sym, ◌∙◌}, lemmas.Bool.false≢true}
 use Rattle.fst_graph.proofs.Grouped.{answered, grouped_seal, grouped_unprepared}
 use Rattle.fst_graph.proofs.graph.Graph.seal.Goals as goal
 

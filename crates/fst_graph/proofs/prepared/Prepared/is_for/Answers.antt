@@ -1,5 +1,4 @@
-use Rattle.std.proofs.Common.{◌∙◌, sym}
-use Rattle.std.proofs.lemmas.{Bool.Decides.Decides-eqb, Slice.Eq.slice_eq-Decides}
+use Rattle.std.proofs.{Common.{◌∙◌, sym}, lemmas.Bool.Decides.Decides-eqb, lemmas.Slice.Eq.slice_eq-Decides}
 use Rattle.fst_graph.proofs.{Readied.{name_decides, span_tested, no_gates_left}, prepared.Prepared.is_for.Goals.{then-self-block, else-self-block}}
 use Rattle.fst_graph.proofs.prepared.Prepared.is_for.Goals as goal
 

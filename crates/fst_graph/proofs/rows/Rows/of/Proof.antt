@@ -1,5 +1,5 @@
 -- `of` makes the value of no bytes, whose items are those that its bound's member reads off the argument.
-use Rattle.std.proofs.Common.{[], ◌∷◌, refl}
+use Rattle.std.proofs.{Common.{[], ◌∷◌, refl}, raw_atomic.Walks.proved}
 use denote.Builtin.{RefOf}
 use denote.Exit.{yes}
 use denote.Param.{param, bounded}
@@ -17,7 +17,6 @@ use types.ByLocal.{alloc_all, pass_all, free_all, look_at, get, sets}
 use types.Kit.{‵, raw, ◌⊛◌, ◌$◌, ◌∵◌, !, qed, keep, move, split, join, suffices, done}
 use types.Part.{agg}
 use types.Run.{enter, no_more, and_then, returns}
-use Rattle.std.proofs.raw_atomic.Walks.{proved}
 use Rattle.fst_graph.proofs.rows.Rows.of.Statement.{statement}
 use Rattle.fst_graph.specs.contracts.rows.Rows as rows
 use Rattle.fst_graph.specs.contracts.rows.Rows.of as f

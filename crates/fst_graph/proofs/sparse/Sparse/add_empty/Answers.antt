@@ -1,5 +1,4 @@
-use Rattle.std.proofs.Common.{◌≡◌, ◌+◌, ◌<◌, ◌∙◌, rules, Contains, arith, inl, sym, ap, subst, refl, length}
-use Rattle.std.proofs.lemmas.List.{length-map, map_push}
+use Rattle.std.proofs.{Common.{◌≡◌, ◌+◌, ◌<◌, ◌∙◌, rules, Contains, arith, inl, sym, ap, subst, refl, length}, lemmas.List.{length-map, map_push}}
 use Rattle.fst_types.specs.{Dependencies.IsLiveNumber, Limits.max_heads, Lists.Lists, Order.make_order, Patches.{Empty, Patch}, Refusals.NoneHolds}
 use Rattle.fst_heads.specs.{Heads.patches_of, Names.numbers_of, Nodes.{node_of, nodes_of, patches_in, pending_in, HasRoomAbove}, Pendings.{joined, joined_sums, sums_of}}
 use Rattle.fst_graph.specs.Known.{rest_place}

@@ -1,5 +1,4 @@
-use Rattle.std.proofs.Common.{◌<◌, ◌++◌, ◌∷◌, [], ◌+◌, rules, refl, ap, map, arith, subst, length}
-use Rattle.std.proofs.lemmas.List.{length-map, map_push}
+use Rattle.std.proofs.{Common.{◌<◌, ◌++◌, ◌∷◌, [], ◌+◌, rules, refl, ap, map, arith, subst, length}, lemmas.List.{length-map, map_push}}
 use Rattle.fst_types.specs.{Limits.max_heads, Making.fresh, Order.room_order, Patches.OpenGate, Refusals.NoneHolds}
 use Rattle.fst_heads.specs.{Heads.patches_of, Keeps.Tallies, Lists.entries_of, Nodes.{node_of, nodes_of, patches_in}}
 use Rattle.fst_heads.proofs.{Added.new_node, Beside.beside_made, Covering.covered_push, Making.{gate_lawful, keeps_gate}, Stands.stand_made}

@@ -2,7 +2,7 @@ use Rattle.std.proofs.Common.{◌+◌, ◌∷◌, ◌∙◌, [], IfSome, ap, sub
 use Rattle.fst_types.specs.Refusals.{NoneHolds}
 use Rattle.fst_heads.specs.Heads.{patches_of}
 use Rattle.fst_graph.specs.{Known.{Known, unprepared, DependsGate}, Membering.member_order, Ready.MayBePut, Sparse.{AddsSparse, SparseChangeIsMade}}
-use Rattle.fst_graph.proofs.{SealedIf.known_is, Sound.if_prepared, TailGains.member_clear}
+use Rattle.fst_graph.proofs.{GateSlot.known_is, Sound.if_prepared, TailGains.member_clear}
 use Rattle.fst_graph.proofs.sparse.Sparse.add_member.Goals as goal
 
 pub returns-clause-added : goal.returns-clause-added

@@ -1,5 +1,4 @@
-use Rattle.std.proofs.Common.{◌≡◌, ◌+◌, ◌≤◌, ◌∙◌, ◌∷◌, [], length, refl, rules, ap, subst, inl, arith}
-use Rattle.std.proofs.lemmas.List.{length-map}
+use Rattle.std.proofs.{Common.{◌≡◌, ◌+◌, ◌≤◌, ◌∙◌, ◌∷◌, [], length, refl, rules, ap, subst, inl, arith}, lemmas.List.length-map}
 use Rattle.fst_types.specs.{Making.fresh, Patches.OpenGate}
 use Rattle.fst_heads.specs.{Heads.patches_of, Keeps.Beside, Nodes.{node_of, nodes_of, pending_in}, Pendings.sums_of}
 use Rattle.fst_heads.proofs.{Added.with_node, Beside.beside_made, Covering.covered_push}

@@ -1,10 +1,9 @@
-use Rattle.std.proofs.Common.{◌≡◌, ◌++◌, ◌∷◌, ◌∙◌, [], Some, sym, refl, ap, get_or}
-use Rattle.std.proofs.lemmas.List.{map_push}
+use Rattle.std.proofs.{Common.{◌≡◌, ◌++◌, ◌∷◌, ◌∙◌, [], Some, sym, refl, ap, get_or}, lemmas.List.map_push}
 use Rattle.fst_heads.specs.{Heads.patches_of, Nodes.{nodes_of, pending_in}, Pendings.{is_pending, joined_sums, over_block, sums_of}, Standings.{is_ready_on, is_held_on, entered}, Tests.is_hard_kind}
 use Rattle.fst_graph.specs.Ready.{change_of}
 use Rattle.fst_heads.proofs.{Added.{new_node, with_node}, Beside.beside_made, Sums.joined_exact}
 use Rattle.fst_walks.proofs.{Seen.linked_patches, Shelves.shelved_push}
-use Rattle.fst_graph.proofs.{FewCounted.few_counted, Kept.covered_made, PutNow.{put_down, IsPutDown}, Readied.ready_alone}
+use Rattle.fst_graph.proofs.{Borne.few_counted, Kept.covered_made, PutNow.{put_down, IsPutDown}, Readied.ready_alone}
 use Rattle.fst_graph.proofs.{Sound.{prepared_is, rising_sound}, sparse.Sparse.add_prepared.Goals.{After-as_slice, After-push_reserved}}
 use Rattle.fst_heads.specs.declared.pending.Pending.TheVariants as pending
 use Rattle.fst_graph.proofs.sparse.Sparse.add_prepared.Goals as goal

@@ -1,9 +1,8 @@
-use Rattle.std.proofs.Common.{◌≡◌, ◌∙◌, length, ap, subst, arith, refl, inl, inr}
-use Rattle.std.proofs.lemmas.List.{length-map}
+use Rattle.std.proofs.{Common.{◌≡◌, ◌∙◌, length, ap, subst, arith, refl, inl, inr}, lemmas.List.length-map}
 use Rattle.fst_types.specs.{Gates.IsOpenNumber, Order.seal_order, Refusals.IsFirst}
 use Rattle.fst_heads.specs.{Frames.{frame_of, frames_of}, Heads.patches_of, Nodes.nodes_of}
 use Rattle.fst_graph.specs.Sound.{IsPrepared}
-use Rattle.fst_graph.proofs.{Borne.settled_fits, MemberReady.{put_begun, around_kept, places_kept, shut_begun}, Readied.head_told, SealedIf.refused_closed}
+use Rattle.fst_graph.proofs.{Borne.settled_fits, GateSlot.refused_closed, MemberReady.{put_begun, around_kept, places_kept, shut_begun}, Readied.head_told}
 use Rattle.fst_graph.proofs.{Shutting.{shut_starts, shut_linked, shut_distinct, shut_standing, shut_few, shut_cascade, shut_sound}, Sound.{if_prepared, rising_sound, with_prepared}}
 use Rattle.fst_graph.proofs.sparse.Sparse.begin_member.Goals.{After-seal_slot}
 use Rattle.fst_graph.proofs.sparse.Sparse.begin_member.Goals as goal

@@ -1,10 +1,9 @@
 use Rattle.std.proofs.Common.{◌≡◌, ◌∙◌, length, count_by, IfSome, option_map, sym, ap, subst, arith, ◌↔◌, ℕ, true}
-use Rattle.fst_heads.specs.{Heads.patches_of, Marks.mark_in, Nodes.nodes_of, Standings.is_ready_on}
+use Rattle.fst_heads.specs.{Ascending.IsBehind, Heads.patches_of, Marks.mark_in, Nodes.nodes_of, Standings.is_ready_on}
 use Rattle.fst_heads.proofs.Counts.{free_few}
 use Rattle.fst_walks.proofs.Resting.{empty_set, none_yet, chosen_ready, chosen_refused}
-use Rattle.fst_graph.proofs.{AtRest.{many_lists, its_list, its_standing, waits_live, behind_marked}, Sound.rising_sound}
+use Rattle.fst_graph.proofs.Sound.{many_lists, its_list, its_standing, waits_live, behind_marked, rising_sound}
 use Rattle.fst_graph.proofs.sparse.Sparse.chosen.Goals as goal
-use Rattle.fst_heads.specs.Ascending.{IsBehind}
 
 pub mark_flight-flying-requires-clause-rising : goal.mark_flight-flying-requires-clause-rising
 mark_flight-flying-requires-clause-rising c = rw c.deref-2.ensures.value (rising_sound c.self.invariant)

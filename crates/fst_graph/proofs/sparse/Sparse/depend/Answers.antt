@@ -3,7 +3,7 @@ use Rattle.fst_types.specs.{Dependencies.{DirectlyOn, IsLiveNumber}, Facts.Spars
 use Rattle.fst_heads.specs.{Heads.patches_of, Names.numbers_of, Nodes.{nodes_of, at_number, gains_names, linked_to, pending_in, HasRoomAbove}, Pendings.sums_of, declared.pending.Sums.Sums}
 use Rattle.fst_heads.proofs.{Added.with_names, AtNumber.patches_in_nodes, Beside.beside_depends, Covering.covered_gained, Linking.{rising_as, rising_same}}
 use Rattle.fst_walks.proofs.{Linked.patches_named, Seen.{seen, same_patches, lawful_nodes, gained_number}}
-use Rattle.fst_graph.proofs.{FewCounted.few, Gained.keeps_depends, Sound.{rising_sound, roomier_sound, walked_sound, as_many_places, gates_told}, Tallied.tallies_depends}
+use Rattle.fst_graph.proofs.{Borne.few, Kept.keeps_depends, Sound.{rising_sound, roomier_sound, walked_sound, as_many_places, gates_told}, Tallied.tallies_depends}
 use Rattle.fst_graph.proofs.sparse.Sparse.depend.Goals as goal
 
 pub depend_fault-requires-clause-rising : goal.depend_fault-requires-clause-rising

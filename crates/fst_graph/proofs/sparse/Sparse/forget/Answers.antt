@@ -1,5 +1,4 @@
-use Rattle.std.proofs.Common.{◌≡◌, ◌∙◌, ◌-◌, filter, count_by, length, sym, ap, subst, refl, arith}
-use Rattle.std.proofs.lemmas.List.{length-map}
+use Rattle.std.proofs.{Common.{◌≡◌, ◌∙◌, ◌-◌, filter, count_by, length, sym, ap, subst, refl, arith}, lemmas.List.length-map}
 use Rattle.fst_types.specs.{Facts.SparseAreLawful, Tests.{is_at, is_live}}
 use Rattle.fst_heads.specs.{Heads.{patch_of, patches_of}, Nodes.nodes_of}
 use Rattle.fst_heads.proofs.{AtNumber.patches_in_nodes, Beside.beside_dropped, Covering.covered_left, Forgetting.{counted, keeps_dropped}, Placed.patches_dropped}

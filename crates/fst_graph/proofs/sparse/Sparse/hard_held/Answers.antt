@@ -1,10 +1,9 @@
 use Rattle.std.proofs.Common.{◌≡◌, ◌∙◌, ◌&&◌, ℕ, Bool, None, length, count_by, IfSome, option_map, sym, ap, subst, arith, ◌↔◌, true}
-use Rattle.fst_heads.specs.{Heads.patches_of, Marks.{mark_in, mark_of}, Nodes.nodes_of, Standings.is_held_on}
+use Rattle.fst_heads.specs.{Ascending.IsBehind, Heads.patches_of, Marks.{mark_in, mark_of}, Nodes.nodes_of, Standings.is_held_on}
 use Rattle.fst_heads.proofs.Counts.{none_bound}
 use Rattle.fst_walks.proofs.Resting.{none_yet, none_there, none_held, least_held}
-use Rattle.fst_graph.proofs.{AtRest.{many_lists, its_list, its_standing, waits_live, behind_marked}, Sound.rising_sound}
+use Rattle.fst_graph.proofs.Sound.{many_lists, its_list, its_standing, waits_live, behind_marked, rising_sound}
 use Rattle.fst_graph.proofs.sparse.Sparse.hard_held.Goals as goal
-use Rattle.fst_heads.specs.Ascending.{IsBehind}
 
 pub mark_flight-flying-requires-clause-rising : goal.mark_flight-flying-requires-clause-rising
 mark_flight-flying-requires-clause-rising c = rw c.deref-2.ensures.value (rising_sound c.self.invariant)

@@ -1,5 +1,4 @@
-use Rattle.std.proofs.Common.{◌≡◌, ◌≤◌, ◌∙◌, inl, inr, count_by, get_or, map, sym, ap, subst, length, arith, refl}
-use Rattle.std.proofs.lemmas.{Bool.cases_lt, List.length-map}
+use Rattle.std.proofs.{Common.{◌≡◌, ◌≤◌, ◌∙◌, inl, inr, count_by, get_or, map, sym, ap, subst, length, arith, refl}, lemmas.Bool.cases_lt, lemmas.List.length-map}
 use Rattle.fst_types.specs.{Cascade.IsCascadeOf, Writing.landed}
 use Rattle.fst_heads.specs.{Heads.patches_of, Keeps.IsInside, Lists.AreListed, Nodes.{node_of, nodes_of, patches_in, AreSettled}, Spreading.{IsSpreadOf, lands}, Standings.{AllStand, is_flying_on}}
 use Rattle.fst_types.proofs.Landing.{alike_landed}

@@ -2,7 +2,7 @@ use Rattle.std.proofs.Common.{◌≡◌, ◌<◌, ℕ, true, false, List, Option
 use Rattle.fst_types.specs.{Looks.IsPick, Patches.Patch, declared.number.BlockNo.BlockNo}
 use Rattle.fst_heads.specs.{Heads.patches_of, Keeps.IsInside, Standings.{AreMarked, may_be_written}, declared.standing.Standing.Standing}
 use Rattle.fst_heads.proofs.AtNumber.{patches_in_nodes}
-use Rattle.fst_graph.proofs.{Marking.{picked_none, picked_some}, Picked.stuck_by_gates}
+use Rattle.fst_graph.proofs.Marking.{picked_none, picked_some, stuck_by_gates}
 use Rattle.fst_graph.proofs.sparse.Sparse.pick.Goals as goal
 
 -- the least block whose mark is true is the pick

@@ -1,5 +1,4 @@
-use Rattle.std.proofs.Common.{◌≡◌, ◌+◌, ◌≤◌, ◌++◌, ◌∷◌, ◌∙◌, [], None, IfSome, arith, sym, subst, refl, ap, map, length, get_or, vec_len, vec_capacity, Contains}
-use Rattle.std.proofs.lemmas.List.{get_or-map, map_push}
+use Rattle.std.proofs.{Common.{◌≡◌, ◌+◌, ◌≤◌, ◌++◌, ◌∷◌, ◌∙◌, [], None, IfSome, arith, sym, subst, refl, ap, map, length, get_or, vec_len, vec_capacity, Contains}, lemmas.List.{get_or-map, map_push}}
 use Rattle.fst_types.specs.{Dependencies.{DirectlyOn, IsLiveNumber}, Facts.SparseAreLawful, Gates.IsOpenNumber, Gating.gains, Lists.Lists, Order.make_order, Refusals.NoneHolds}
 use Rattle.fst_heads.specs.{Frames.HasRoomBelow, Heads.{patches_of, IsRising}, Names.numbers_of, Nodes.{nodes_of, patches_in, pending_in, at_number, gains_names, linked_to}}
 use Rattle.fst_heads.specs.{Pendings.{is_pending, joined_sums, over_block, sums_of}, Rows.IsSparseRow, Standings.{is_ready_on, is_held_on, entered}, Tests.is_hard_kind}
@@ -7,7 +6,7 @@ use Rattle.fst_graph.specs.Ready.{change_of}
 use Rattle.fst_heads.proofs.{Added.{new_node, with_node, with_names}, Beside.{beside_made, beside_depends}, Covering.covered_gained}
 use Rattle.fst_heads.proofs.{Framed.{pushed_below, pushed_above}, Linking.rising_as, Slots.rising_heads, Sums.joined_exact}
 use Rattle.fst_walks.proofs.{Linked.patches_named, Seen.{seen, linked_patches, gained_number}, Shelves.shelved_push}
-use Rattle.fst_graph.proofs.{FewCounted.{few_counted, few as few_of_settled}, Gained.keeps_depends, Kept.covered_made, PutNow.{put_now, IsPutNow}, Sound.rising_sound}
+use Rattle.fst_graph.proofs.{Borne.{few_counted, few as few_of_settled}, Kept.{keeps_depends, covered_made}, PutNow.{put_now, IsPutNow}, Sound.rising_sound}
 use Rattle.fst_graph.proofs.{TailGains.{tail_there, tail_clear, tail_gains, none_beyond}, Tallied.tallies_depends}
 use Rattle.fst_graph.proofs.sparse.Sparse.put_member.Goals.{After-as_slice, After-as_slice-3, After-push_reserved, After-drop-prepared}
 use Rattle.fst_heads.specs.declared.pending.Pending.TheVariants as pending
