@@ -2,19 +2,15 @@
 use Rattle.std.proofs.Common.{◌≡◌, ◌+◌, ◌<◌, ◌≤◌, ℕ, false, List, [], ◌∷◌, length, get_or, All, Contains, Option, Some, None, refl, sym, ap, subst, ◌∙◌, inl, inr, arith}
 use Rattle.std.specs.Prelude.{IfSome, IfNone}
 use Rattle.std.proofs.lemmas.{Bool.cases_Bool, List.length-replicate}
-use Rattle.fst_types.specs.{Dependencies.DependsOn, Events.{Event, Reply, GroupNew, GroupAfter, GroupPatch, GroupClose}, Facts.IsTied, Gates.IsOpenNumber, Gating.{GateGains, GateIsSealed}}
+use Rattle.fst_types.specs.{Dependencies.DependsOn, Events.{GroupNew, GroupAfter, GroupPatch, GroupClose}, Facts.IsTied, Gates.IsOpenNumber, Gating.{GateGains, GateIsSealed}}
 use Rattle.fst_types.specs.Grouping.{GroupIsPutAfter, MemberIsMade, GroupIsClosed, with_new, put_after, with_member, with_closed, MakesGroup, MakesMember, PutsAfter as PutsStateAfter, ClosesGroup as ClosesStateGroup}
 use Rattle.fst_types.specs.{Groups.{Group, IsGroup, IsGroupNumber}, Limits.max_groups, Order.{depend_order, group_after_order, group_patch_order, group_close_order}, Patches.Patch}
-use Rattle.fst_types.specs.{Refusals.{Rule, IsFirst, NoneHolds}, Step.{Row, group, group_new, group_after, group_patch, group_close}, declared.fault.Fault.Fault, declared.grade.Grade.Grade}
+use Rattle.fst_types.specs.{Refusals.{Rule, IsFirst, NoneHolds}, Step.{group, group_new, group_after, group_patch, group_close}, declared.fault.Fault.Fault, declared.grade.Grade.Grade}
 use Rattle.fst_graph.specs.Grouping.{unstarted_order, AddsPair, AddsGroup, PutsAfter, AddsMember, ForeseesMember, ClosesGroup, SealsIfOpen}
 use Rattle.fst_graph.specs.{Known.{Known, Prepared, unprepared, with_groups, Refuses, DependsGate}, Membering.{ArePaired, GainsMember, Foretells, member_order}, Whole.{IsGrouped, IsUnclosed}}
-use Rattle.fst_types.proofs.{Apart.tail_no_head, Finite.In-from_Contains, GroupsClear.close_clear, GroupsKept.{Spares, groups_row}}
-use Rattle.fst_types.proofs.{Heads.heads_row, Loosened.loosened, Parts.{SealsIfOpen as SealsStateIfOpen, seals_if_open}}
+use Rattle.fst_types.proofs.{Apart.tail_no_head, GroupsClear.close_clear, Loosened.loosened, Parts.{SealsIfOpen as SealsStateIfOpen, seals_if_open}, SmallStates.only_in}
 use Rattle.fst_heads.proofs.Slots.{any_default}
 use Rattle.fst_graph.proofs.{GateSlot.open_not_sealed, Grouped.{by_group, state_at, some_bytes}}
-
-only_one : (x y : ℕ) → Contains (x ∷ []) y → y ≡ x
-only_one x y c = elim (In-from_Contains (x ∷ []) y c) [ inl e ↦ sym e | inr h ↦ absurd h ]
 
 empty_or_not : (xs : List ℕ) → (((m : ℕ) × Contains xs m) → ⊥) → xs ≡ []
 empty_or_not [] none = refl
@@ -95,11 +91,11 @@ module _ (p q : Known) (gs : List Group) (G : IsGrouped p gs) where
     cycle_first f (inr (a, inr (b, inr (c, inr (d, inl e))))) =
         let tail = (G.grouped.each other.0 other.1.0).given.1 in
         let next = tail_is m other.0 other.1 in
-        let k = only_one (m + 1) e.0.0 e.0.1 in absurd (e.0.2 (omega (arith, k), omega (arith, k, tail, next)))
+        let k = sym (only_in (m + 1) e.0.0 e.0.1) in absurd (e.0.2 (omega (arith, k), omega (arith, k, tail, next)))
     cycle_first f (inr (a, inr (b, inr (c, inr (d, inr (e, inl ((x, named, inl same), h))))))) =
-        absurd (tail_no_head gs G.grouped.apart follows other.0 found.0 other.1.0 found.1.0 (tail_is m other.0 other.1 ∙ (sym (only_one (m + 1) x named) ∙ (same ∙ sym found.1.1))))
+        absurd (tail_no_head gs G.grouped.apart follows other.0 found.0 other.1.0 found.1.0 (tail_is m other.0 other.1 ∙ (only_in (m + 1) x named ∙ (same ∙ sym found.1.1))))
     cycle_first f (inr (a, inr (b, inr (c, inr (d, inr (e, inl ((x, named, inr above), h))))))) =
-        inr (u.0, inr (u.1.0, inr (u.1.1.0, inl ((other.0, other.1, subst (λ t. DependsOn p.heads t n) (only_one (m + 1) x named ∙ sym (tail_is m other.0 other.1)) above), h))))
+        inr (u.0, inr (u.1.0, inr (u.1.1.0, inl ((other.0, other.1, subst (λ t. DependsOn p.heads t n) (sym (only_in (m + 1) x named) ∙ sym (tail_is m other.0 other.1)) above), h))))
     cycle_first f (inr (a, inr (b, inr (c, inr (d, inr (e, inr h)))))) = absurd h.1
 
     pub after_refused : (f : Fault) → Refuses (depend_order p.heads p.numbers n ((m + 1) ∷ [])) f → Refuses (group_after_order p.heads gs n m) f

@@ -5,7 +5,7 @@ use Rattle.fst_types.specs.{Grades.FollowsRule, Order.{make_order, room_order, N
 use Rattle.fst_heads.specs.{Frames.{frames_of, HasRoomBelow}, Grading.MayBeHard, Keeps.Keeps, Names.numbers_of, Rows.IsSparseRow, declared.head.Head.Head}
 use Rattle.fst_graph.specs.{Known.Known, Membering.{ArePaired, BeginsAs, OverlapReaches, member_order}, Ready.{change_of, IsReady, IsMemberReady, MayBePut, HasRoomAround, HasPlaces}}
 use Rattle.fst_graph.specs.{Sparse.ForetellsSparse, declared.prepared.Gates.Gates, declared.prepared.Prepared.Prepared as Stored}
-use Rattle.fst_types.proofs.Finite.{In-from_Contains}
+use Rattle.fst_types.proofs.SmallStates.{only_in}
 use Rattle.fst_heads.proofs.{Framed.{room_above, room_below}, Touching.{graded_change, touched_overlaps, overlaps_touched}}
 use Rattle.fst_graph.proofs.{Kept.keeps_sealed, Readied.{ready_member, member_put}, TakenAsSealed.{is, depends, open_was, open_is, stays, touched_was}}
 use Rattle.fst_types.specs.declared.grade.Grade.TheVariants as grade
@@ -16,16 +16,12 @@ module _ (old : List Patch) (n blocks : ℕ) (marks : List Bool) (K : Keeps old 
   keeps_begun begun (inl s) = keeps_sealed old begun n blocks gates.head marks marks K s.gate s.cascade refl
   keeps_begun begun (inr s) = subst (λ hs. Keeps hs n blocks marks) (sym s.1) K
 
-  -- the head alone is named
-  one_name : (x : ℕ) → Contains (gates.head ∷ []) x → gates.head ≡ x
-  one_name x c = elim (In-from_Contains (gates.head ∷ []) x c) [ inl e ↦ e | inr h ↦ absurd h ]
-
   clear_begun : (begun : List Patch) → BeginsAs old gates.head begun → NoneHolds (room_order old n) → NoneHolds (make_order begun n (gates.head ∷ []))
   clear_begun begun s room =
       let long : length begun ≡ length old = sym (keeps_begun begun s).marked ∙ K.marked in (
         λ many. omega (arith, many),
         (
-          λ (u : NamesUnknown n (gates.head ∷ [])). u.2 (subst (λ x. (1 ≤ x) × (x ≤ n)) (one_name u.0 u.1) paired.given),
+          λ (u : NamesUnknown n (gates.head ∷ [])). u.2 (subst (λ x. (1 ≤ x) × (x ≤ n)) (only_in gates.head u.0 u.1) paired.given),
           (λ full. room.0 (omega (arith, full, long)), room.1),
         ),
       )

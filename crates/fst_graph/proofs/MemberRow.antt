@@ -1,5 +1,5 @@
 -- What a change of a group depends on, and how it is graded, once the head is sealed.
-use Rattle.std.proofs.Common.{◌≡◌, ◌≢◌, ℕ, Bool, true, false, List, [], ◌∷◌, Option, Some, None, IfSome, IfNone, filter, length, count_by, is_some, get_or, eqb, refl, sym, subst, ◌∙◌, inl, inr, arith}
+use Rattle.std.proofs.Common.{◌≡◌, ◌≢◌, ℕ, Bool, true, false, List, [], ◌∷◌, Option, Some, None, IfSome, IfNone, filter, length, count_by, is_some, get_or, eqb, refl, sym, subst, ◌∙◌, inl, inr}
 use Rattle.std.proofs.lemmas.{Bool.{cases_Bool, eqb-true, eqb-false, false≢true}, List.Sums.length-filter}
 use Rattle.fst_types.specs.{Dependencies.{DirectlyOn, IsLiveNumber, IsOnDisk}, Facts.SparseAreLawful, Gates.IsOpenNumber, Grades.FollowsRule, Patches.Patch, declared.grade.Grade.Grade}
 use Rattle.fst_heads.specs.{Grading.MayBeHard, Heads.{IsRising, patches_of}, Marks.HasSlot, Nodes.{node_of, nodes_of, is_live_in, AreCounted}, Rows.IsSparseRow, declared.head.Head.Head}

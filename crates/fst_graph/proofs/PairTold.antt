@@ -1,14 +1,14 @@
 -- What is kept of the two gates of a pair, and beside them.
-use Rattle.std.proofs.Common.{◌≡◌, ◌+◌, ◌≤◌, ◌++◌, ◌∷◌, ◌∙◌, [], ℕ, List, Contains, length, map, refl, sym, ap, subst, inl, inr, arith}
+use Rattle.std.proofs.Common.{◌≡◌, ◌<◌, ◌+◌, ◌≤◌, ◌++◌, ◌∷◌, ◌∙◌, [], ℕ, List, Contains, length, map, refl, sym, ap, subst, inl, inr, arith}
 use Rattle.smallvec.specs.SmallVec.{HasRoomFor}
 use Rattle.std.proofs.lemmas.{List.{length_push, map_push}, List.Elements.{Contains-push, Contains-push_cases}}
-use Rattle.fst_types.specs.{Dependencies.IsLiveNumber, Facts.SparseAreLawful, Making.fresh, Patches.{Patch, OpenGate, IsRising as Rising}, declared.place.Place.Place}
+use Rattle.fst_types.specs.{Dependencies.IsLiveNumber, Facts.SparseAreLawful, Making.fresh, Patches.{Patch, OpenGate, IsRising as Rising}}
 use Rattle.fst_heads.specs.{Heads.{IsRising, patch_of, patches_of}, Keeps.Tallies, Lists.Entry, Nodes.{Node, node_of, nodes_of, patches_in, pending_in, linked_to, HasRoomAbove}}
 use Rattle.fst_heads.specs.{Pendings.{nothing, sums_of}, declared.head.Head.Head, declared.pending.Sums.Sums, declared.standing.Standing.Standing}
 use Rattle.fst_types.proofs.Finite.{In-from_Contains, Contains-from_In, In-map}
 use Rattle.fst_heads.proofs.{Added.{new_node, with_node}, AtNumber.patches_in_nodes, Making.gate_lawful, Slots.rising_heads, Stands.stand_made}
 use Rattle.fst_walks.proofs.{Linked.{patches_made, with_gate}, Seen.{seen, lawful_nodes}}
-use Rattle.fst_graph.proofs.{Listed.listed_made, Paired.{head_lawful, paired, paired_lawful, with_head}, Tallied.tallies_made}
+use Rattle.fst_graph.proofs.{Listed.listed_made, Paired.{head_lawful, paired, paired_lawful, with_head}, Tallied.tallies_made, Wholes.memory_live}
 use Rattle.fst_types.specs.declared.place.Place.TheVariants as place
 use Rattle.fst_heads.specs.declared.pending.Pending.TheVariants as pending
 
@@ -58,16 +58,15 @@ module _ (heads put : List Head) (n : ℕ) (H : SparseAreLawful (patches_of head
         | inr e ↦ subst (λ (y : Head). HasRoomFor y.dependants 1) e room
       ]
 
-module _ (heads : List Head) (n blocks : ℕ) (lists : List (List Entry)) (standings : List Standing) (queue : List ℕ) (cap cap' : ℕ) (H : SparseAreLawful (patches_of heads) n) (T : Tallies (nodes_of heads) n blocks lists standings queue cap)
-    (room : length (nodes_of heads) + 2 ≤ cap') where
+module _ (heads : List Head) (n blocks : ℕ) (lists : List (List Entry)) (standings : List Standing) (queue : List ℕ) (cap cap' : ℕ) (H : SparseAreLawful (patches_of heads) n) (T : Tallies (nodes_of heads) n blocks lists standings queue cap) where
   abbrev nodes : List Node
   nodes = nodes_of heads
 
   there : SparseAreLawful (patches_in nodes) n
   there = lawful_nodes heads n H
 
-  tallies_first : Tallies (gated nodes n) (n + 1) blocks lists standings queue cap'
-  tallies_first =
+  pub tallies_first : length nodes < cap' → Tallies (gated nodes n) (n + 1) blocks lists standings queue cap'
+  tallies_first room =
       subst (λ ns. Tallies (ns ++ new_node nodes (first_gate n) ∷ []) (n + 1) blocks lists standings queue cap') (with_gate nodes (n + 1))
       (tallies_made nodes n blocks lists lists standings standings queue cap cap' (first_gate n) there (gate_lawful (patches_in nodes) n there) T refl
       (λ i lt. absurd (omega (arith, lt)))
@@ -75,7 +74,7 @@ module _ (heads : List Head) (n blocks : ℕ) (lists : List (List Entry)) (stand
       (λ b on. absurd (cc))
       (listed_made nodes blocks lists (first_gate n) T.listed (λ b. refl))
       (stand_made nodes blocks standings (first_gate n) (λ b. refl) T.standing)
-      (omega (arith, room)))
+      room)
 
   gated_lawful : SparseAreLawful (patches_in (gated nodes n)) (n + 1)
   gated_lawful = subst (λ ps. SparseAreLawful ps (n + 1)) (sym (patches_gated heads n)) (head_lawful (patches_of heads) n H)
@@ -83,23 +82,21 @@ module _ (heads : List Head) (n blocks : ℕ) (lists : List (List Entry)) (stand
   both_lawful : SparseAreLawful (patches_in (gated nodes n) ++ second_gate n ∷ []) (n + 1 + 1)
   both_lawful = subst (λ ps. SparseAreLawful (ps ++ second_gate n ∷ []) (n + 1 + 1)) (sym (patches_gated heads n)) (paired_lawful (patches_of heads) n H)
 
-  in_memory : (x : Place) → x ≡ place.Memory → x ≡ place.Disk → ⊥
-  in_memory x a b = cc
-
   first_live : IsLiveNumber (patches_in (gated nodes n)) (n + 1)
   first_live = subst (λ ps. IsLiveNumber ps (n + 1)) (sym (patches_gated heads n)) (record {
     patch = first_gate n;
     head = Contains-push (patches_of heads) (first_gate n);
     numbered = refl;
-    live = λ d. in_memory place.Memory refl d;
+    live = λ d. memory_live place.Memory refl d;
   })
 
-  pub tallies_pair : Tallies (with_node (gated nodes n) (second_gate n)) (n + 1 + 1) blocks lists standings queue cap'
-  tallies_pair =
-      tallies_made (gated nodes n) (n + 1) blocks lists lists standings standings queue cap' cap' (second_gate n) gated_lawful both_lawful tallies_first refl
+  pub tallies_pair : length nodes + 2 ≤ cap' → Tallies (with_node (gated nodes n) (second_gate n)) (n + 1 + 1) blocks lists standings queue cap'
+  tallies_pair room =
+      let first = tallies_first (omega (arith, room)) in
+      tallies_made (gated nodes n) (n + 1) blocks lists lists standings standings queue cap' cap' (second_gate n) gated_lawful both_lawful first refl
       (λ i lt. absurd (omega (arith, lt)))
       (λ m h. elim (In-from_Contains ((n + 1) ∷ []) m h) [ inl e ↦ subst (IsLiveNumber (patches_in (gated nodes n))) e first_live | inr none ↦ absurd none ])
       (λ b on. absurd (cc))
-      (listed_made (gated nodes n) blocks lists (second_gate n) tallies_first.listed (λ b. refl))
-      (stand_made (gated nodes n) blocks standings (second_gate n) (λ b. refl) tallies_first.standing)
+      (listed_made (gated nodes n) blocks lists (second_gate n) first.listed (λ b. refl))
+      (stand_made (gated nodes n) blocks standings (second_gate n) (λ b. refl) first.standing)
       (let long = length_push nodes (new_node nodes (first_gate n)) in omega (arith, room, long))

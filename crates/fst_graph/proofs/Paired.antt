@@ -1,17 +1,15 @@
 -- Two new gates, the second of which depends on the first.
 use Rattle.std.proofs.Common.{◌≡◌, ◌≢◌, ◌+◌, ◌≤◌, ℕ, List, [], ◌∷◌, ◌++◌, map, length, Contains, Bool, false, Some, None, refl, sym, ap, subst, inl, inr, arith}
 use Rattle.std.proofs.lemmas.{Bool.{ne_eqb, eq-eqb}, List.length_push, List.Elements.{Contains-push, Contains-push_cases, Contains-append_left}}
-use Rattle.fst_types.specs.{Dependencies.{DirectlyOn, DependsOn, IsLiveNumber}, Facts.SparseAreLawful, Gates.IsOpenNumber, Gating.{GateGains, gains}, Limits.max_heads}
-use Rattle.fst_types.specs.{Lists.Lists, Making.fresh, Order.NamesAbove, Patches.{Kind, Patch, OpenGate, block_of_kind}, Refusals.NoneHolds, declared.place.Place.Place}
+use Rattle.fst_types.specs.{Dependencies.{DirectlyOn, DependsOn, IsLiveNumber}, Facts.SparseAreLawful, Gates.IsOpenNumber, Gating.{GateGains, gains}}
+use Rattle.fst_types.specs.{Limits.max_heads, Lists.Lists, Making.fresh, Order.NamesAbove, Patches.{Kind, Patch, OpenGate, block_of_kind}, Refusals.NoneHolds}
 use Rattle.fst_heads.specs.Keeps.{Keeps}
 use Rattle.fst_graph.specs.{Grouping.{pair_order, AddsPair}, Known.Known}
-use Rattle.fst_types.proofs.{Crash.same_number, Finite.{In, In-from_Contains, Contains-from_In, first_step}, Heads.sparse_depended}
+use Rattle.fst_types.proofs.{Crash.same_number, Finite.{In, Contains-from_In, first_step}, Heads.sparse_depended, SmallStates.only_in}
 use Rattle.fst_heads.proofs.Making.{gate_lawful, keeps_added, keeps_gate}
+use Rattle.fst_walks.proofs.Visiting.{none_in}
 use Rattle.fst_graph.proofs.Wholes.{memory_live}
 use Rattle.fst_types.specs.declared.place.Place.TheVariants as place
-
-only_one : (x y : ℕ) → Contains (x ∷ []) y → y ≡ x
-only_one x y c = elim (In-from_Contains (x ∷ []) y c) [ inl e ↦ sym e | inr h ↦ absurd h ]
 
 -- the patches with the first gate, and with both
 abbrev pub with_head : List Patch → ℕ → List Patch
@@ -63,9 +61,6 @@ module _ (heads : List Patch) (n : ℕ) (H : SparseAreLawful heads n) where
   head_live : IsLiveNumber with_tail (n + 1)
   head_live = record { patch = head_gate; head = head_there; numbered = refl; live = λ d. memory_live place.Memory refl d }
 
-  none_in : (x : ℕ) → Contains [] x → ⊥
-  none_in x c = omega (arith, c.1)
-
   none_direct : (m : ℕ) → DirectlyOn with_tail (n + 1) m → ⊥
   none_direct m d = none_in m (subst (λ (x : Patch). Contains x.dependencies m) (is_head d.patch d.head d.numbered) d.named)
 
@@ -76,12 +71,12 @@ module _ (heads : List Patch) (n : ℕ) (H : SparseAreLawful heads n) where
   none_above d = let f = first_step (n + 1) (n + 1 + 1) d in none_direct f.0 f.1
 
   none_named : NamesAbove with_tail (n + 1 + 1) ((n + 1) ∷ []) → ⊥
-  none_named a = let e = only_one (n + 1) a.0 a.1 in elim a.2 [ inl same ↦ omega (arith, same, e) | inr d ↦ none_above (subst (λ m. DependsOn with_tail m (n + 1 + 1)) e d) ]
+  none_named a = let e = sym (only_in (n + 1) a.0 a.1) in elim a.2 [ inl same ↦ omega (arith, same, e) | inr d ↦ none_above (subst (λ m. DependsOn with_tail m (n + 1 + 1)) e d) ]
 
   names : Lists (λ m. IsLiveNumber with_tail m × Contains ((n + 1) ∷ []) m × (DirectlyOn with_tail (n + 1 + 1) m → ⊥)) ((n + 1) ∷ [])
   names = record {
     rising = λ i lt. absurd (omega (arith, lt));
-    only = λ m c. (subst (IsLiveNumber with_tail) (sym (only_one (n + 1) m c)) head_live, c, none_yet m);
+    only = λ m c. (subst (IsLiveNumber with_tail) (only_in (n + 1) m c) head_live, c, none_yet m);
     each = λ m h. h.1;
   }
 

@@ -120,22 +120,14 @@ module _ (rows : List (ℕ × List ℕ)) (p : Known) (W : AreWhole rows p.heads 
 
   -- what is neither unknown, nor no gate, nor sealed is live
   above_down : (g : ℕ) (on : List ℕ) → ((IsGateNumber T g → ⊥) → ⊥) → (IsSealedNumber T g → ⊥) → NamesAbove F g on → NamesAbove T g on
-  above_down g on gate shut a = (
-    a.0,
-    a.1,
-    elim a.2 [
-      | inl e ↦ inl e
-      | inr d ↦ elim (live_or_disk T g) [
-        | inl l ↦ inr (depends_down rows T n W.sparse D a.0 g d l)
-        | inr disk ↦ absurd (gate (λ k. elim k [
-          | inl o ↦
-              let u = (open_number rows T g).0 o in
-              memory_live u.patch.place (D.open_gates u.patch u.head u.is_open) ((on_disk rows T g).0 disk u.patch u.head u.numbered)
-          | inr s ↦ shut s
-        ]))
-      ]
-    ],
-  )
+  above_down g on gate shut (a, c, inl e) = (a, c, inl e)
+  above_down g on gate shut (a, c, inr d) = elim (live_or_disk T g) [
+    | inl l ↦ (a, c, inr (depends_down rows T n W.sparse D a g d l))
+    | inr disk ↦ absurd (gate (λ k. elim k [
+      | inl o ↦ let u = (open_number rows T g).0 o in memory_live u.patch.place (D.open_gates u.patch u.head u.is_open) ((on_disk rows T g).0 disk u.patch u.head u.numbered)
+      | inr s ↦ shut s
+    ]))
+  ]
 
   depend_clear : (g : ℕ) (on : List ℕ) → NoneHolds (depend_order T n g on) → NoneHolds (depend_order F n g on)
   depend_clear g on c =
