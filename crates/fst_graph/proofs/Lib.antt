@@ -1,6 +1,5 @@
 pub mod Gathering
 pub mod Paired
-pub mod PairTold
 pub mod GroupCalls
 pub mod Grouped
 pub mod PlaceOf
@@ -18,13 +17,10 @@ pub mod Tallied
 pub mod Borne
 pub mod Launches
 pub mod TakenAsSealed
-pub mod MemberRow
 pub mod MemberReady
 pub mod TailGains
 pub mod WholeChange
 pub mod WholeMember
 pub mod WholeCalls
-pub mod WholeRow
 pub mod WholeRows
-pub mod WholeSteps
 pub mod Wholes

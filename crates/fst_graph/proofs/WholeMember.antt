@@ -5,8 +5,8 @@ use Rattle.fst_types.specs.{Making.ChangeIsMade, Patches.{Kind, Change, Empty, O
 use Rattle.fst_graph.specs.{Rows.{row_of_kind, whole, whole_row, AreWhole, with_row}, Sparse.{SparseChangeIsMade, SparseMemberIsMade}}
 use Rattle.fst_types.proofs.{Crash.same_number, Finite.{In, Contains-from_In}, Loosened.loosened, OneChange.changes_fixed, OneList.cascade_same, Sealing.heads_sealed}
 use Rattle.fst_heads.proofs.Slots.{find_patch}
-use Rattle.fst_graph.proofs.{WholeChange.{change_is, change_over}, WholeRow.{rising_whole, lawful_row, row_pushed, row_gained}}
-use Rattle.fst_graph.proofs.{WholeRows.{sealed_is, sealed_over, begun_is, begun_over, gains_is, gains_over}, WholeSteps.{cascade_whole, swap_sealed}, Wholes.open_number}
+use Rattle.fst_graph.proofs.WholeChange.{change_is, change_over, rising_whole, lawful_row, row_pushed, row_gained}
+use Rattle.fst_graph.proofs.{WholeRows.{sealed_is, sealed_over, begun_is, begun_over, gains_is, gains_over}, Wholes.{cascade_whole, swap_sealed, open_number}}
 
 -- the rows that are kept by these patches themselves
 abbrev pub own_rows : List Patch → List (ℕ × List ℕ)

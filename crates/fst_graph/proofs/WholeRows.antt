@@ -12,8 +12,7 @@ use Rattle.fst_types.proofs.{Heirs.{NoneShut, Heirs, heirs_pushed, heirs_cascade
 use Rattle.fst_types.proofs.Sealing.{heads_sealed}
 use Rattle.fst_heads.proofs.{CountsAs.count_map, Forgetting.{live_place_of, not_disk}}
 use Rattle.fst_walks.proofs.Holding.{live_up}
-use Rattle.fst_graph.proofs.WholeSteps.{whole_open, open_other, IsKept, kept_self, AreKept, kept_then, kept_map, kept_cascade, kept_pushed, sparse_kept, cascade_whole, swap_landed, swap_launched, swap_sealed, swap_gains, swap_filter, swap_pushed}
-use Rattle.fst_graph.proofs.Wholes.{memory_live, is, was, live_number, open_number, depends_up, depends_down}
+use Rattle.fst_graph.proofs.Wholes.{whole_open, open_other, IsKept, kept_self, AreKept, kept_then, kept_map, kept_cascade, kept_pushed, sparse_kept, cascade_whole, swap_landed, swap_launched, swap_sealed, swap_gains, swap_filter, swap_pushed, memory_live, is, was, live_number, open_number, depends_up, depends_down}
 use Rattle.fst_types.specs.declared.place.Place.TheVariants as place
 
 -- where no patch with the number is live, it is on disk

@@ -2,7 +2,7 @@ use Rattle.std.proofs.{Common.{◌<◌, [], ◌+◌, rules, refl, ap, arith, sub
 use Rattle.fst_types.specs.{Limits.max_heads, Making.fresh, Order.room_order, Patches.OpenGate, Refusals.NoneHolds}
 use Rattle.fst_heads.specs.{Heads.patches_of, Nodes.{node_of, nodes_of}}
 use Rattle.fst_heads.proofs.{Beside.beside_made, Covering.covered_push, Making.keeps_gate}
-use Rattle.fst_graph.proofs.{PairTold.tallies_first, Sound.roomier_sound}
+use Rattle.fst_graph.proofs.{Paired.tallies_first, Sound.roomier_sound}
 use Rattle.fst_graph.proofs.sparse.Sparse.add_gate.Goals as goal
 
 pub invariant_of-self-2 : goal.invariant_of-self-2

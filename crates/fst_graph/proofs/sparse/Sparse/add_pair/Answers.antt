@@ -2,7 +2,7 @@ use Rattle.std.proofs.{Common.{◌≡◌, ◌+◌, ◌≤◌, ◌∙◌, ◌∷�
 use Rattle.fst_types.specs.{Making.fresh, Patches.OpenGate}
 use Rattle.fst_heads.specs.{Heads.patches_of, Keeps.Beside, Nodes.{node_of, nodes_of, pending_in}, Pendings.sums_of}
 use Rattle.fst_heads.proofs.{Added.with_node, Beside.beside_made, Covering.covered_push}
-use Rattle.fst_graph.proofs.{PairTold.{gated, second_gate, first_put, second_put, patches_paired, rising_gated, room_gated, tallies_pair}, Paired.{adds_pair, keeps_pair, paired, with_head}, Sound.roomier_sound}
+use Rattle.fst_graph.proofs.{Paired.{gated, second_gate, first_put, second_put, patches_paired, rising_gated, room_gated, tallies_pair, adds_pair, keeps_pair, paired, with_head}, Sound.roomier_sound}
 use Rattle.fst_graph.proofs.sparse.Sparse.add_pair.Goals as goal
 
 pub row_sums-sums-requires : goal.row_sums-sums-requires
