@@ -1,4 +1,4 @@
--- What holds of the patches of heads, said of the patches of their nodes.
+-- What holds of the patches of heads, said of the patches of their nodes; and sums and counts that fit.
 use Rattle.std.proofs.Common.{◌≡◌, ◌<◌, ◌≤◌, ◌∙◌, ℕ, false, List, [], ◌∷◌, ◌++◌, Result, Ok, Err, OnOk, is_err, map, set, get_or, Contains, sym, subst, inl, inr, arith, Bool, length, count_by}
 use Rattle.std.proofs.lemmas.{Bool.cases_lt, List.length-map, List.Sums.count_by-le-length}
 use Rattle.fst_types.specs.{Facts.SparseAreLawful, Gates.IsOpenNumber, Limits.max_heads, Patches.Patch}

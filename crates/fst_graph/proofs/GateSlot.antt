@@ -1,4 +1,4 @@
--- What the head with a gate's number tells.
+-- What the head with the number of a gate tells, and what a seal that is refused says of it.
 use Rattle.std.proofs.Common.{◌≡◌, ℕ, List, get_or, Contains, sym, ap, subst, ◌∙◌, inl, inr, Result, Ok, Err, None, refl, arith}
 use Rattle.std.specs.Prelude.{OnOk, OnErr, IfErr}
 use Rattle.fst_types.specs.{Facts.SparseAreLawful, Gates.{IsOpenNumber, IsSealedNumber, IsGateNumber}, Groups.Group, Order.seal_order}

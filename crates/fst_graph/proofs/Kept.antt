@@ -1,4 +1,4 @@
--- What calls that change places leave of what the fields keep.
+-- What calls that change places, or let a gate gain names, leave of what the fields keep.
 use Rattle.std.proofs.Common.{◌≡◌, ◌<◌, ◌+◌, ◌++◌, ◌∷◌, [], ℕ, Bool, List, length, map, get_or, set, refl, sym, subst, ◌∙◌, arith, ◌⊎◌, ◌≤◌, Contains, ap, inl, inr}
 use Rattle.fst_types.specs.{Cascade.IsCascadeOf, Closure.IsAcyclic, Dependencies.{DirectlyOn, DependsOn, IsLiveNumber}, Facts.SparseAreLawful, Gates.IsOpenNumber, Gating.{sealed, gains}, Lists.Lists, Making.fresh}
 use Rattle.fst_types.specs.{Order.depend_order, Patches.{Change, Patch, block_of_kind}, Refusals.NoneHolds, Writable.{IsWritable, IsWritableSet}, Writing.{landed, launched}, declared.grade.Grade.Grade}

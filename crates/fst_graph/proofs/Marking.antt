@@ -1,4 +1,4 @@
--- What is pending of a change tells whether it is in the writable set of its block, and the counts of a block whether it is writable.
+-- What is pending of a change tells whether it is in the writable set of its block, the counts of a block whether it is writable, and its mark which is picked.
 use Rattle.std.proofs.Common.{◌≡◌, ◌<◌, ◌↔◌, ◌⊎◌, ◌==◌, ◌&&◌, ℕ, Bool, true, false, not, List, Some, None, length, get_or, count_by, Contains, refl, sym, ap, subst, ◌∙◌, inl, inr, arith, Option, IfNone, option_map}
 use Rattle.std.proofs.lemmas.Bool.{cases_Bool, cases_lt, and_parts, and_from, not_from_true, not_from_false, not-true, false≢true, eqb-true, eqb-false, eq-eqb, ne_eqb}
 use Rattle.std.proofs.lemmas.{List.Elements.filter_agree, List.Folds.{Any-from_list_any, list_any-from_Any}, List.Sums.length-filter}

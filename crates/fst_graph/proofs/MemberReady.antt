@@ -1,4 +1,4 @@
--- What is prepared for a group: it is ready, and tells which number and grade a change would have.
+-- What is prepared for a group: its row, by what the head waits for; that it is ready; and which number and grade a change would have.
 use Rattle.std.proofs.Common.{◌≡◌, ◌+◌, ◌<◌, ◌≤◌, ◌++◌, ℕ, Bool, List, [], ◌∷◌, Option, Some, None, IfSome, option_map, length, map, Contains, refl, sym, ap, subst, ◌∙◌, inl, inr, arith, ◌≢◌, true, false, IfNone, filter, count_by, is_some, get_or, eqb}
 use Rattle.std.proofs.lemmas.{Bool.{cases_Bool, eqb-true, eqb-false, false≢true}, List.Sums.length-filter}
 use Rattle.fst_types.specs.{Cascade.IsCascadeOf, Dependencies.{DirectlyOn, IsLiveNumber, IsOnDisk}, Facts.{SparseAreLawful, IsTied}, Gates.IsOpenNumber, Gating.sealed}

@@ -1,4 +1,4 @@
--- Two new gates, the second of which depends on the first.
+-- Two new gates, the second of which depends on the first, and what is kept of them and beside them.
 use Rattle.std.proofs.Common.{◌≡◌, ◌≢◌, ◌+◌, ◌≤◌, ℕ, List, [], ◌∷◌, ◌++◌, map, length, Contains, Bool, false, Some, None, refl, sym, ap, subst, inl, inr, arith, ◌<◌, ◌∙◌}
 use Rattle.smallvec.specs.SmallVec.{HasRoomFor}
 use Rattle.std.proofs.lemmas.{Bool.{ne_eqb, eq-eqb}, List.{length_push, map_push}, List.Elements.{Contains-push, Contains-push_cases, Contains-append_left}}

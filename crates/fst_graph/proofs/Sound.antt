@@ -1,4 +1,4 @@
--- What holds of the fields that are sound: for a walk over them, for what is prepared, and after a call that leaves the patches as they are.
+-- What holds of the fields that are sound: for a walk over them, of a block, for what is prepared, and after a call that leaves the patches as they are.
 use Rattle.std.proofs.{Common.{◌≡◌, ◌≤◌, ◌∙◌, ℕ, List, Option, Some, None, IfSome, length, map, refl, sym, subst, arith, ◌<◌, ◌↔◌, ◌&&◌, Bool, true, get_or, ap}, lemmas.List.length-map}
 use Rattle.std.specs.Global.{Vec}
 use Rattle.fst_types.specs.{Dependencies.IsLiveNumber, Patches.Patch}

@@ -1,4 +1,4 @@
--- A new change with a sparse row is one with its whole row, which is kept beside.
+-- A new change with a sparse row is one with its whole row, which is kept beside, and which the patches tell once the change is among them.
 use Rattle.std.proofs.Common.{◌≡◌, ◌≢◌, ◌⊎◌, ◌↔◌, ℕ, ◌+◌, ◌≤◌, true, List, [], ◌∷◌, ◌++◌, map, Contains, refl, sym, ap, subst, ◌∙◌, inl, inr, arith, ◌==◌, ◌&&◌, ◌<◌, nat_lt, Bool, false, not, filter}
 use Rattle.std.specs.Prelude.{◌||◌}
 use Rattle.std.proofs.lemmas.{Bool.{cases_Bool, false≢true}, Bool.Decides.nat_tests, List.{length-map, get_or-map}, List.Elements.Contains-push_cases, List.Kept.AllPairs-filter}

@@ -1,4 +1,4 @@
--- What patches with whole rows and the same with sparse ones have in common.
+-- What patches with whole rows and the same with sparse ones have in common, and that a step makes the same of both.
 use Rattle.std.proofs.Common.{◌≡◌, ◌↔◌, ℕ, List, map, Contains, refl, sym, ap, subst, ◌∙◌, inl, inr, ◌⊎◌, ◌==◌, ◌≤◌, [], ◌∷◌, ◌++◌, filter, Some, arith}
 use Rattle.std.proofs.lemmas.{Bool.{cases_Bool, eqb-true}, List.Elements.Contains-append_cases}
 use Rattle.fst_types.specs.{Cascade.{Follows, RestsOnDisk, placed_as, unsettled, IsCascadeOf}, Closure.{one, join}, Dependencies.{DirectlyOn, DependsOn, Needs, IsBlocked, IsLiveNumber, IsOnDisk}}

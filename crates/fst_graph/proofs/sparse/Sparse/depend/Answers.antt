@@ -100,6 +100,16 @@ new_patches c =
     let heads = c.self.inside.heads.items in
     seen c.link.new.heads.items _ (named c) ∙ (patches_named g names (added c) (nodes_of heads) ∙ ap (map (gains g names)) (patches_in_nodes heads))
 
+-- nothing refuses it, and the names are those that are live and not yet there
+gate : (c : goal.Joined-names-3) → IsOpenNumber (patches_of c.self.inside.heads.items) c.args.gate.0
+gate c = subst (λ hs. IsOpenNumber (patches_of hs) c.args.gate.0) c.deref.ensures.value c.in_default.ensures.is_open
+
+clear : (c : goal.Joined-names-3) → NoneHolds (depend_order (patches_of c.self.inside.heads.items) c.self.inside.numbers c.args.gate.0 (numbers_of c.args.on.now))
+clear c = subst (λ hs. NoneHolds (depend_order (patches_of hs) c.self.inside.numbers c.args.gate.0 (numbers_of c.args.on.now))) c.deref.ensures.value c.in_default.ensures.clear
+
+live : (c : goal.Joined-names-3) → Lists (λ n. IsLiveNumber (patches_of c.self.inside.heads.items) n × Contains (numbers_of c.args.on.now) n × (DirectlyOn (patches_of c.self.inside.heads.items) c.args.gate.0 n → ⊥)) c.in-Ok.names.items
+live c = subst (λ hs. Lists (λ n. IsLiveNumber (patches_of hs) n × Contains (numbers_of c.args.on.now) n × (DirectlyOn (patches_of hs) c.args.gate.0 n → ⊥)) c.in-Ok.names.items) c.deref-2.ensures.value c.in-Ok.ensures
+
 pub invariant_of-self-2 : goal.invariant_of-self-2
 invariant_of-self-2 c =
     let heads = c.self.inside.heads.items in
@@ -107,38 +117,26 @@ invariant_of-self-2 c =
     let g = c.args.gate.0 in
     let on = numbers_of c.args.on.now in
     let K = (walked_sound c.self.invariant {walked = record c.self.inside.walks { walk = c.depend_fault.new.walk }} (c.depend_fault.ensures.long ∙ ap length c.deref.ensures.value) (as_many_places c.self.invariant)).keeps in
-    let gate = subst (λ hs. IsOpenNumber (patches_of hs) g) c.deref.ensures.value c.in_default.ensures.is_open in
-    let none = subst (λ hs. NoneHolds (depend_order (patches_of hs) numbers g on)) c.deref.ensures.value c.in_default.ensures.clear in
-    let live = subst (λ hs. Lists (λ n. IsLiveNumber (patches_of hs) n × Contains on n × (DirectlyOn (patches_of hs) g n → ⊥)) c.in-Ok.names.items) c.deref-2.ensures.value c.in-Ok.ensures in
     let T = c.self.invariant.tallies in
     let back = sym (patches_in_nodes heads) in
-    let live_there = subst (λ ps. Lists (λ n. IsLiveNumber ps n × Contains on n × (DirectlyOn ps g n → ⊥)) c.in-Ok.names.items) back live in
-    let keeps = keeps_depends (patches_of heads) numbers c.self.inside.blocks g c.in-Ok.names.items on c.depend_fault.new.walk.marks _ K gate none live refl in
+    let live_there = subst (λ ps. Lists (λ n. IsLiveNumber ps n × Contains on n × (DirectlyOn ps g n → ⊥)) c.in-Ok.names.items) back (live c) in
+    let keeps = keeps_depends (patches_of heads) numbers c.self.inside.blocks g c.in-Ok.names.items on c.depend_fault.new.walk.marks _ K (gate c) (clear c) (live c) refl in
     let lawful = subst (λ ps. SparseAreLawful ps numbers) (sym (new_patches c) ∙ seen c.link.new.heads.items _ (named c)) keeps.lawful in record {
       keeps = rw (new_patches c) keeps;
       beside = rw (new_patches c) (beside_depends (patches_of heads) c.self.inside.blocks c.self.inside.live c.self.inside.walks.crossed.items g c.in-Ok.names.items c.self.invariant.beside);
       tallies = rw (named c)
-          (tallies_depends (nodes_of heads) numbers c.self.inside.blocks _ _ _ _ g on c.in-Ok.names.items (lawful_nodes heads numbers c.self.invariant.keeps.lawful) lawful T (subst (λ ps. IsOpenNumber ps g) back gate) live_there);
+          (tallies_depends (nodes_of heads) numbers c.self.inside.blocks _ _ _ _ g on c.in-Ok.names.items (lawful_nodes heads numbers c.self.invariant.keeps.lawful) lawful T (subst (λ ps. IsOpenNumber ps g) back (gate c)) live_there);
       covered = rw (new_patches c) (covered_gained (patches_of heads) g c.in-Ok.names.items c.self.inside.blocks c.self.inside.covers.items c.self.invariant.covered);
       prepared = tt;
     }
 
 pub returns-clause-ok : goal.returns-clause-ok
 returns-clause-ok c =
-    let heads = c.self.inside.heads.items in
-    let g = c.args.gate.0 in
-    let on = numbers_of c.args.on.now in
-    let clear = subst (λ hs. NoneHolds (depend_order (patches_of hs) c.self.inside.numbers g on)) c.deref.ensures.value c.in_default.ensures.clear in
+    let none = clear c in
     rw (← c.self.view_is)
     (record {
-      clear = clear;
-      row = record {
-        gate = subst (λ hs. IsOpenNumber (patches_of hs) g) c.deref.ensures.value c.in_default.ensures.is_open;
-        clear = clear.1.1.1.1.1.0;
-        names = c.in-Ok.names.items;
-        live = subst (λ hs. Lists (λ n. IsLiveNumber (patches_of hs) n × Contains on n × (DirectlyOn (patches_of hs) g n → ⊥)) c.in-Ok.names.items) c.deref-2.ensures.value c.in-Ok.ensures;
-        gained = new_patches c;
-      };
+      clear = none;
+      row = record { gate = gate c; clear = none.1.1.1.1.1.0; names = c.in-Ok.names.items; live = live c; gained = new_patches c };
       numbers = refl;
       blocks = refl;
       groups = refl;
