@@ -1,22 +1,12 @@
--- What holds of the patches of heads, said of the patches of their nodes.
-use Rattle.std.proofs.Common.{◌≡◌, ◌<◌, ◌≤◌, ◌∙◌, ℕ, false, List, [], ◌∷◌, ◌++◌, Result, Ok, Err, OnOk, is_err, map, set, get_or, Contains, sym, subst, inl, inr, arith}
-use Rattle.std.proofs.lemmas.Bool.{cases_lt}
-use Rattle.fst_types.specs.Facts.{SparseAreLawful}
-use Rattle.fst_types.specs.Gates.{IsOpenNumber}
-use Rattle.fst_types.specs.Patches.{Patch}
-use Rattle.fst_heads.specs.declared.head.Head.{Head}
-use Rattle.fst_heads.specs.declared.standing.Standing.{Standing}
-use Rattle.fst_heads.specs.Heads.{patches_of}
-use Rattle.fst_heads.specs.Keeps.{IsInside}
+-- What holds of the patches of heads, said of the patches of their nodes; and sums and counts that fit.
+use Rattle.std.proofs.Common.{◌≡◌, ◌<◌, ◌≤◌, ◌∙◌, ℕ, false, List, [], ◌∷◌, ◌++◌, Result, Ok, Err, OnOk, is_err, map, set, get_or, Contains, sym, subst, inl, inr, arith, Bool, length, count_by}
+use Rattle.std.proofs.lemmas.{Bool.cases_lt, List.length-map, List.Sums.count_by-le-length}
+use Rattle.fst_types.specs.{Facts.SparseAreLawful, Gates.IsOpenNumber, Limits.max_heads, Patches.Patch}
+use Rattle.fst_heads.specs.{Heads.{patches_of, patch_of}, Keeps.IsInside, Nodes.{Node, nodes_of, patches_in, pending_in, AreSettled, node_of}}
+use Rattle.fst_heads.specs.{Pendings.{Fits, max_block}, Spreading.lands, Standings.AllStand, declared.head.Head.Head, declared.standing.Standing.Standing}
+use Rattle.fst_heads.proofs.{AtNumber.patches_in_nodes, PendingIn.found, Stands.{stand_landed, stand_landed_outside}, Sums.{sums_fit, sums_few}}
 use Rattle.fst_heads.specs.declared.pending.Pending.TheVariants as pending
-use Rattle.fst_heads.specs.Nodes.{Node, nodes_of, patches_in, pending_in, AreSettled}
-use Rattle.fst_heads.specs.Pendings.{Fits, max_block}
-use Rattle.fst_heads.specs.Spreading.{lands}
-use Rattle.fst_heads.specs.Standings.{AllStand}
-use Rattle.fst_heads.proofs.AtNumber.{patches_in_nodes}
-use Rattle.fst_heads.proofs.PendingIn.{found}
-use Rattle.fst_heads.proofs.Stands.{stand_landed, stand_landed_outside}
-use Rattle.fst_heads.proofs.Sums.{sums_fit}
+use Rattle.fst_heads.specs.declared.pending.Pending.TheVariants as pending
 
 -- the patches with a new one
 pub lawful_with : (heads : List Head) (p : Patch) (numbers : ℕ) → SparseAreLawful (patches_of heads ++ p ∷ []) numbers → SparseAreLawful (patches_in (nodes_of heads) ++ p ∷ []) numbers
@@ -53,3 +43,22 @@ stand_land nodes blocks b old new inside S within outside = elim (cases_lt b blo
       subst (AllStand (map (lands b) nodes) blocks) (sym (within d lt)) (stand_landed nodes blocks b old d lt S)
   | inr past ↦ subst (AllStand (map (lands b) nodes) blocks) (sym (outside past)) (stand_landed_outside nodes blocks b old inside past S)
 ]
+
+-- blocks are numbers of 32 bits
+narrow : (nodes : List Node) (blocks : ℕ) → blocks ≤ max_block → AreSettled nodes blocks → (n b : ℕ) → pending_in nodes n ≡ pending.Block b → b ≤ max_block
+narrow nodes blocks small S n b e =
+    elim (found nodes n) [
+      | inl f ↦ let inside = S.inside f.node b f.head (sym f.told ∙ e) in omega (arith, inside, small)
+      | inr none ↦ let same : pending.Nothing ≡ pending.Block b = sym none ∙ e in absurd (cc)
+    ]
+
+-- no count is more than the row is long
+pub few : (nodes : List Node) (blocks : ℕ) → blocks ≤ max_block → AreSettled nodes blocks → (x : Node) → Contains nodes x → (x.sums.count ≤ length x.patch.dependencies) × Fits x.sums
+few nodes blocks small S x c = (
+  subst (λ s. s.count ≤ length x.patch.dependencies) (sym (S.summed x c)) (sums_few (pending_in nodes) x.patch.dependencies),
+  subst Fits (sym (S.summed x c)) (sums_fit (pending_in nodes) x.patch.dependencies (narrow nodes blocks small S)),
+)
+
+-- a count of heads is no more than there may be heads
+pub few_counted : (heads : List Head) (t : Node → Bool) (n : ℕ) → length (patches_of heads) ≤ max_heads → n ≡ count_by t (nodes_of heads) → n < 18446744073709551615
+few_counted heads t n few same = omega (arith, same, few, count_by-le-length t (nodes_of heads), length-map heads node_of, length-map heads patch_of)

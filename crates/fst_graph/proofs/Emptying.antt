@@ -1,21 +1,13 @@
 -- A new empty patch.
 use Rattle.std.proofs.Common.{◌≡◌, ◌⊎◌, ℕ, ◌+◌, ◌<◌, ◌≤◌, Bool, false, List, [], ◌∷◌, ◌++◌, length, Contains, refl, sym, ap, subst, ◌∙◌, inl, inr, arith}
-use Rattle.std.proofs.lemmas.List.{length_push, map_push}
-use Rattle.std.proofs.lemmas.List.Elements.{Contains-push_cases, Contains-append_left}
-use Rattle.fst_types.specs.declared.place.Place.{Place}
-use Rattle.fst_types.specs.declared.place.Place.TheVariants as place
-use Rattle.fst_types.specs.Limits.{max_heads}
-use Rattle.fst_types.specs.Lists.{Lists}
-use Rattle.fst_types.specs.Patches.{Patch, IsOn, Empty}
-use Rattle.fst_types.specs.Dependencies.{IsLiveNumber, IsOnDisk}
-use Rattle.fst_types.specs.Cascade.{Follows, RestsOnDisk, IsCascadeOf, unsettled}
-use Rattle.fst_types.specs.Facts.{SparseAreLawful}
-use Rattle.fst_types.specs.Making.{fresh}
-use Rattle.fst_types.proofs.Heads.{sparse_emptied}
-use Rattle.fst_types.proofs.Cascades.{no_follower_on}
-use Rattle.fst_graph.specs.Known.{rest_place}
+use Rattle.std.proofs.lemmas.{List.{length_push, map_push}, List.Elements.{Contains-push_cases, Contains-append_left}}
+use Rattle.fst_types.specs.{Cascade.{Follows, RestsOnDisk, IsCascadeOf, unsettled}, Dependencies.{IsLiveNumber, IsOnDisk}, Facts.SparseAreLawful}
+use Rattle.fst_types.specs.{Limits.max_heads, Lists.Lists, Making.fresh, Patches.{Patch, IsOn, Empty}, declared.place.Place.Place}
 use Rattle.fst_heads.specs.Keeps.{Keeps}
+use Rattle.fst_graph.specs.Known.{rest_place}
+use Rattle.fst_types.proofs.{Cascades.no_follower_on, Heads.sparse_emptied}
 use Rattle.fst_heads.proofs.Making.{keeps_added}
+use Rattle.fst_types.specs.declared.place.Place.TheVariants as place
 
 not_flight : (p : Place) → (p ≡ place.Flight → ⊥) → (p ≡ place.Memory) ⊎ (p ≡ place.Disk)
 not_flight place.Memory h = inl refl

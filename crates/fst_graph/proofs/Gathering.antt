@@ -1,17 +1,11 @@
 -- The slots of groups, and what is noted of one.
 use Rattle.std.proofs.Common.{◌≡◌, ◌⊎◌, ◌+◌, ◌<◌, ℕ, zero, suc, cond, eqb, true, false, List, [], ◌∷◌, ◌++◌, set, length, get_or, All, AllPairs, Contains, refl, sym, ap, ◌∙◌, inl, inr, arith}
 use Rattle.std.specs.Prelude.{◌↔◌}
-use Rattle.std.proofs.lemmas.Bool.{eq-eqb, ne_eqb}
-use Rattle.std.proofs.lemmas.List.{length-map, length-set, get_or-map}
-use Rattle.std.proofs.lemmas.List.Elements.{Contains-push}
-use Rattle.std.proofs.lemmas.List.Quantifiers.{all_pairs_push}
+use Rattle.std.proofs.lemmas.{Bool.{eq-eqb, ne_eqb}, List.{length-map, length-set, get_or-map}, List.Elements.Contains-push, List.Quantifiers.all_pairs_push}
 use Rattle.fst_types.specs.Groups.{Group, IsGroup, IsGroupNumber, IsGroupGate, with_group}
-use Rattle.fst_types.proofs.Apart.{same_group}
-use Rattle.fst_types.proofs.Finite.{In-from_Contains, Contains-from_In, In-map}
-use Rattle.fst_types.proofs.GateGains.{In-unmap}
+use Rattle.fst_graph.specs.{Gathered.{group_of, groups_of, HasGroupSlot, HasNoGroup}, declared.group.Group.Group as Kept}
+use Rattle.fst_types.proofs.{Apart.same_group, Finite.{In-from_Contains, Contains-from_In, In-map}, GateGains.In-unmap}
 use Rattle.fst_heads.proofs.Slots.{any_default, some_element}
-use Rattle.fst_graph.specs.declared.group.Group.{Group as Kept}
-use Rattle.fst_graph.specs.Gathered.{group_of, groups_of, HasGroupSlot, HasNoGroup}
 
 pub heads_rise : (gs : List Kept) → AllPairs (λ g h. g.head + 1 < h.head) gs → AllPairs (λ g h. g.head < h.head) gs
 heads_rise gs apart i j d lt inside = let r = apart i j d lt inside in omega (arith, r)

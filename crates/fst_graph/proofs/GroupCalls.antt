@@ -1,39 +1,16 @@
 -- What the calls of groups make, of what the calls of the patches make.
 use Rattle.std.proofs.Common.{◌≡◌, ◌+◌, ◌<◌, ◌≤◌, ℕ, false, List, [], ◌∷◌, length, get_or, All, Contains, Option, Some, None, refl, sym, ap, subst, ◌∙◌, inl, inr, arith}
 use Rattle.std.specs.Prelude.{IfSome, IfNone}
-use Rattle.std.proofs.lemmas.Bool.{cases_Bool}
-use Rattle.std.proofs.lemmas.List.{length-replicate}
-use Rattle.fst_types.specs.declared.fault.Fault.{Fault}
-use Rattle.fst_types.specs.Limits.{max_groups}
-use Rattle.fst_types.specs.Patches.{Patch}
-use Rattle.fst_types.specs.Dependencies.{DependsOn}
-use Rattle.fst_types.specs.Gates.{IsOpenNumber}
-use Rattle.fst_types.specs.Groups.{Group, IsGroup, IsGroupNumber}
-use Rattle.fst_types.specs.declared.grade.Grade.{Grade}
-use Rattle.fst_types.specs.Facts.{IsTied}
-use Rattle.fst_types.specs.Gating.{GateGains, GateIsSealed}
+use Rattle.std.proofs.lemmas.{Bool.cases_Bool, List.length-replicate}
+use Rattle.fst_types.specs.{Dependencies.DependsOn, Events.{GroupNew, GroupAfter, GroupPatch, GroupClose}, Facts.IsTied, Gates.IsOpenNumber, Gating.{GateGains, GateIsSealed}}
 use Rattle.fst_types.specs.Grouping.{GroupIsPutAfter, MemberIsMade, GroupIsClosed, with_new, put_after, with_member, with_closed, MakesGroup, MakesMember, PutsAfter as PutsStateAfter, ClosesGroup as ClosesStateGroup}
-use Rattle.fst_types.specs.Events.{Event, Reply, GroupNew, GroupAfter, GroupPatch, GroupClose}
-use Rattle.fst_types.specs.Step.{Row, group, group_new, group_after, group_patch, group_close}
-use Rattle.fst_types.specs.Refusals.{Rule, IsFirst, NoneHolds}
-use Rattle.fst_types.specs.Order.{depend_order, group_after_order, group_patch_order, group_close_order}
-use Rattle.fst_types.proofs.Apart.{tail_no_head}
-use Rattle.fst_types.proofs.Finite.{In-from_Contains}
-use Rattle.fst_types.proofs.GroupsClear.{close_clear}
-use Rattle.fst_types.proofs.GroupsKept.{Spares, groups_row}
-use Rattle.fst_types.proofs.Heads.{heads_row}
-use Rattle.fst_types.proofs.Parts.{SealsIfOpen as SealsStateIfOpen, seals_if_open}
+use Rattle.fst_types.specs.{Groups.{Group, IsGroup, IsGroupNumber}, Limits.max_groups, Order.{depend_order, group_after_order, group_patch_order, group_close_order}, Patches.Patch}
+use Rattle.fst_types.specs.{Refusals.{Rule, IsFirst, NoneHolds}, Step.{group, group_new, group_after, group_patch, group_close}, declared.fault.Fault.Fault, declared.grade.Grade.Grade}
 use Rattle.fst_graph.specs.Grouping.{unstarted_order, AddsPair, AddsGroup, PutsAfter, AddsMember, ForeseesMember, ClosesGroup, SealsIfOpen}
-use Rattle.fst_graph.specs.Membering.{ArePaired, GainsMember, Foretells, member_order}
-use Rattle.fst_graph.specs.Whole.{IsGrouped, IsUnclosed}
-use Rattle.fst_graph.specs.Known.{Known, Prepared, unprepared, with_groups, Refuses, DependsGate}
-use Rattle.fst_types.proofs.Loosened.{loosened}
-use Rattle.fst_graph.proofs.Grouped.{state_at, some_bytes}
+use Rattle.fst_graph.specs.{Known.{Known, Prepared, unprepared, with_groups, Refuses, DependsGate}, Membering.{ArePaired, GainsMember, Foretells, member_order}, Whole.{IsGrouped, IsUnclosed}}
+use Rattle.fst_types.proofs.{Apart.tail_no_head, GroupsClear.close_clear, Loosened.loosened, Parts.{SealsIfOpen as SealsStateIfOpen, seals_if_open}, SmallStates.only_in}
 use Rattle.fst_heads.proofs.Slots.{any_default}
-use Rattle.fst_graph.proofs.SealedIf.{open_not_sealed}
-
-only_one : (x y : ℕ) → Contains (x ∷ []) y → y ≡ x
-only_one x y c = elim (In-from_Contains (x ∷ []) y c) [ inl e ↦ sym e | inr h ↦ absurd h ]
+use Rattle.fst_graph.proofs.{GateSlot.open_not_sealed, Grouped.{by_group, state_at, some_bytes}}
 
 empty_or_not : (xs : List ℕ) → (((m : ℕ) × Contains xs m) → ⊥) → xs ≡ []
 empty_or_not [] none = refl
@@ -60,14 +37,6 @@ begun_if : (p q : Known) (gs : List Group) (g : ℕ) → SealsIfOpen p g q → S
 begun_if p q gs g s = subst (λ n. SealsStateIfOpen (state_at p gs 0 []) g (record (state_at q gs 0 []) { numbers = n })) (ap (λ k. k.numbers) (sym s.state)) (seals_if_open (state_at p gs 0 []) g q.heads s.row)
 
 module _ (p q : Known) (gs : List Group) (G : IsGrouped p gs) where
-  -- what a row of a group makes
-  by_group : (now : List Group) (made : ℕ) (contents : List (ℕ × List ℕ)) (e : Event) (r : Reply) → q.prepared ≡ None → Spares (state_at p gs 0 []) e → Row (state_at p gs 0 []) e r (state_at q now made contents) → IsGrouped q now
-  by_group now made contents e r none spares row =
-      let old = state_at p gs 0 [] in
-      let new = state_at q now made contents in
-      let K = heads_row old new e r row G.lawful in
-      record { lawful = K; grouped = groups_row old new e r spares row G.lawful K G.grouped; prepared = rw none tt }
-
   follows : (g : Group) → Contains gs g → g.tail ≡ g.head + 1
   follows g c = (G.grouped.each g c).tail_follows
 
@@ -83,7 +52,7 @@ module _ (p q : Known) (gs : List Group) (G : IsGrouped p gs) where
     pub grouped_new : IsGrouped q (with_new gs n)
     grouped_new =
         let made : MakesGroup (state_at p gs 0 []) n (state_at q (with_new gs n) 2 []) = record { row = a.row; state = ap (λ k. state_at k (with_new gs n) 2 []) a.state } in
-        by_group (with_new gs n) 2 [] (GroupNew 0) _ (ap (λ k. k.prepared) a.state) few (group (group_new made))
+        by_group p q gs G (with_new gs n) 2 [] (GroupNew 0) _ (ap (λ k. k.prepared) a.state) few (group (group_new made))
 
     -- its number is past all tails
     pub past_tails : All (λ g. g.tail < n) gs
@@ -111,39 +80,23 @@ module _ (p q : Known) (gs : List Group) (G : IsGrouped p gs) where
     pub grouped_after : DependsGate p n ((m + 1) ∷ []) q → IsGrouped q (put_after gs n m)
     grouped_after d =
         let put : PutsStateAfter (state_at p gs 0 []) n m (state_at q (put_after gs n m) 0 []) = record { row = puts_row d; state = rw d.numbers refl } in
-        by_group (put_after gs n m) 0 [] (GroupAfter n m) _ d.prepared tt (group (group_after put))
+        by_group p q gs G (put_after gs n m) 0 [] (GroupAfter n m) _ d.prepared tt (group (group_after put))
 
     -- a cycle is all that can be refused past the first rules
     cycle_first : (f : Fault) → IsFirst (depend_order p.heads p.numbers n ((m + 1) ∷ [])) f → IsFirst (group_after_order p.heads gs n m) f
-    cycle_first f first =
-        let small = G.lawful.one_place_each.numbered head_gate.patch head_gate.head in
-        let here = head_gate.numbered in
+    cycle_first f (inl a) = let small = G.lawful.one_place_each.numbered head_gate.patch head_gate.head in let here = head_gate.numbered in absurd (a.0 (omega (arith, small, here), omega (arith, small, here)))
+    cycle_first f (inr (a, inl b)) = absurd (b.0 (inl head_gate))
+    cycle_first f (inr (a, inr (b, inl c))) = absurd (open_not_sealed p.heads p.numbers n (loosened G.lawful) head_gate c.0)
+    cycle_first f (inr (a, inr (b, inr (c, inl d)))) = let many = d.0 in absurd (omega (arith, many))
+    cycle_first f (inr (a, inr (b, inr (c, inr (d, inl e))))) =
         let tail = (G.grouped.each other.0 other.1.0).given.1 in
         let next = tail_is m other.0 other.1 in
-        elim first [
-          | inl a ↦ absurd (a.0 (omega (arith, small, here), omega (arith, small, here)))
-          | inr a ↦ elim a.1 [
-            | inl b ↦ absurd (b.0 (inl head_gate))
-            | inr b ↦ elim b.1 [
-              | inl c ↦ absurd (open_not_sealed p.heads p.numbers n (loosened G.lawful) head_gate c.0)
-              | inr c ↦ elim c.1 [
-                | inl d ↦ let many = d.0 in absurd (omega (arith, many))
-                | inr d ↦ elim d.1 [
-                  | inl e ↦ let k = only_one (m + 1) e.0.0 e.0.1 in absurd (e.0.2 (omega (arith, k), omega (arith, k, tail, next)))
-                  | inr e ↦ elim e.1 [
-                    | inl h ↦
-                        let k = only_one (m + 1) h.0.0 h.0.1 in
-                        elim h.0.2 [
-                          | inl same ↦ absurd (tail_no_head gs G.grouped.apart follows other.0 found.0 other.1.0 found.1.0 (next ∙ (sym k ∙ (same ∙ sym found.1.1))))
-                          | inr dep ↦ inr (u.0, inr (u.1.0, inr (u.1.1.0, inl ((other.0, other.1, subst (λ t. DependsOn p.heads t n) (k ∙ sym next) dep), h.1))))
-                        ]
-                    | inr h ↦ absurd h.1
-                  ]
-                ]
-              ]
-            ]
-          ]
-        ]
+        let k = sym (only_in (m + 1) e.0.0 e.0.1) in absurd (e.0.2 (omega (arith, k), omega (arith, k, tail, next)))
+    cycle_first f (inr (a, inr (b, inr (c, inr (d, inr (e, inl ((x, named, inl same), h))))))) =
+        absurd (tail_no_head gs G.grouped.apart follows other.0 found.0 other.1.0 found.1.0 (tail_is m other.0 other.1 ∙ (only_in (m + 1) x named ∙ (same ∙ sym found.1.1))))
+    cycle_first f (inr (a, inr (b, inr (c, inr (d, inr (e, inl ((x, named, inr above), h))))))) =
+        inr (u.0, inr (u.1.0, inr (u.1.1.0, inl ((other.0, other.1, subst (λ t. DependsOn p.heads t n) (sym (only_in (m + 1) x named) ∙ sym (tail_is m other.0 other.1)) above), h))))
+    cycle_first f (inr (a, inr (b, inr (c, inr (d, inr (e, inr h)))))) = absurd h.1
 
     pub after_refused : (f : Fault) → Refuses (depend_order p.heads p.numbers n ((m + 1) ∷ [])) f → Refuses (group_after_order p.heads gs n m) f
     after_refused f refuses = elim refuses [

@@ -1,28 +1,14 @@
 -- What each call leaves of what holds of the patches and their groups.
-use Rattle.std.proofs.Common.{◌≡◌, ℕ, List, [], ◌∷◌, map, replicate, false, Result, Ok, Err, Some, None, refl, sym, subst, inl, inr, arith}
+use Rattle.std.proofs.{Common.{◌≡◌, ℕ, List, [], ◌∷◌, map, replicate, false, Result, Ok, Err, Some, None, refl, sym, subst, inl, inr, arith}, lemmas.List.length-replicate}
 use Rattle.std.specs.Prelude.{IfOk, IfErr, IfSome, OnErr}
-use Rattle.std.proofs.lemmas.List.{length-replicate}
-use Rattle.fst_types.specs.declared.fault.Fault.{Fault}
-use Rattle.fst_types.specs.declared.grade.Grade.{Grade}
-use Rattle.fst_types.specs.Groups.{Group, IsGroupGate}
-use Rattle.fst_types.specs.State.{State}
-use Rattle.fst_types.specs.declared.fault.Fault.TheVariants as fault
-use Rattle.fst_types.specs.Refusals.{Rule, ◌when◌}
-use Rattle.fst_types.specs.Facts.{HeadsAreLawful}
-use Rattle.fst_types.specs.Events.{Event, Reply, MakeChange, MakeEmpty, MakeGate, Depend, Seal, Forget}
-use Rattle.fst_types.specs.Step.{Row, change, empty, gate, depend, seal, forget}
-use Rattle.fst_types.specs.Making.{ChangeIsMade, MakesChange, MakesEmpty, MakesGate}
-use Rattle.fst_types.specs.Gating.{Depends, Seals}
-use Rattle.fst_types.specs.Forgetting.{Forgets as ForgetsHeads}
-use Rattle.fst_types.specs.Writing.{landed}
-use Rattle.fst_types.proofs.Heads.{heads_row}
-use Rattle.fst_types.proofs.Heirs.{NoneShut, Heirs, heirs_cascade, heirs_launched, heirs_landed, passes}
-use Rattle.fst_types.proofs.GroupsHeld.{groups_same}
-use Rattle.fst_types.proofs.GroupsKept.{Spares, groups_row}
-use Rattle.fst_types.proofs.Issuing.{heads_launched}
-use Rattle.fst_types.proofs.Landing.{heads_landed}
-use Rattle.fst_graph.specs.Whole.{IsGrouped, IsUnclosed}
+use Rattle.fst_types.specs.{Events.{Event, Reply, MakeChange, MakeEmpty, MakeGate, Depend, Seal, Forget}, Facts.HeadsAreLawful, Forgetting.Forgets as ForgetsHeads}
+use Rattle.fst_types.specs.{Gating.{Depends, Seals}, Groups.{Group, IsGroupGate}, Making.{ChangeIsMade, MakesChange, MakesEmpty, MakesGate}, Refusals.{Rule, ◌when◌}}
+use Rattle.fst_types.specs.{State.State, Step.{Row, change, empty, gate, depend, seal, forget}, Writing.landed, declared.fault.Fault.Fault, declared.grade.Grade.Grade}
 use Rattle.fst_graph.specs.Known.{Known, Prepared, unprepared, with_groups, outside_groups, Foresees, Refuses, AddsGate, AddsEmpty, AddsChange, SealsGate, DependsGate, Launches, LandsBlock, MayLaunch, Forgets}
+use Rattle.fst_graph.specs.Whole.{IsGrouped, IsUnclosed}
+use Rattle.fst_types.proofs.{GroupsHeld.groups_same, GroupsKept.{Spares, groups_row}, Heads.heads_row}
+use Rattle.fst_types.proofs.{Heirs.{NoneShut, Heirs, heirs_cascade, heirs_launched, heirs_landed, passes}, Issuing.heads_launched, Landing.heads_landed}
+use Rattle.fst_types.specs.declared.fault.Fault.TheVariants as fault
 
 -- a state with these patches and groups, and nothing else
 abbrev pub state_at : Known → List Group → ℕ → List (ℕ × List ℕ) → State
@@ -54,10 +40,10 @@ makes_change p q gs b at len n after grade a = record {
 
 module _ (p q : Known) (gs : List Group) (G : IsGrouped p gs) where
   -- what a row of the definitions makes
-  by_row : (made : ℕ) (contents : List (ℕ × List ℕ)) (e : Event) (r : Reply) → q.prepared ≡ None → Spares (state_at p gs 0 []) e → Row (state_at p gs 0 []) e r (state_at q gs made contents) → IsGrouped q gs
-  by_row made contents e r none spares row =
+  pub by_group : (now : List Group) (made : ℕ) (contents : List (ℕ × List ℕ)) (e : Event) (r : Reply) → q.prepared ≡ None → Spares (state_at p gs 0 []) e → Row (state_at p gs 0 []) e r (state_at q now made contents) → IsGrouped q now
+  by_group now made contents e r none spares row =
       let old = state_at p gs 0 [] in
-      let new = state_at q gs made contents in
+      let new = state_at q now made contents in
       let K = heads_row old new e r row G.lawful in
       record { lawful = K; grouped = groups_row old new e r spares row G.lawful K G.grouped; prepared = rw none tt }
 
@@ -69,24 +55,24 @@ module _ (p q : Known) (gs : List Group) (G : IsGrouped p gs) where
   grouped_prepared ready meant same = subst (λ k. IsGrouped k gs) (sym same) (record { lawful = G.lawful; grouped = G.grouped; prepared = meant })
 
   pub grouped_gate : (n : ℕ) → AddsGate p n q → IsGrouped q gs
-  grouped_gate n a = by_row 1 [] (MakeGate 0) _ a.prepared tt (gate (makes_gate p q gs n a))
+  grouped_gate n a = by_group gs 1 [] (MakeGate 0) _ a.prepared tt (gate (makes_gate p q gs n a))
 
   pub grouped_empty : (after : List ℕ) (n : ℕ) → AddsEmpty p after n q → IsGrouped q gs
-  grouped_empty after n a = by_row 1 [] (MakeEmpty 0 after) _ a.prepared tt (empty (makes_empty p q gs n after a))
+  grouped_empty after n a = by_group gs 1 [] (MakeEmpty 0 after) _ a.prepared tt (empty (makes_empty p q gs n after a))
 
   pub grouped_seal : (g : ℕ) → (IsGroupGate gs g → ⊥) → SealsGate p g q → IsGrouped q gs
-  grouped_seal g plain a = by_row 0 [] (Seal g) _ a.prepared plain (seal (seals_gate p q gs g a))
+  grouped_seal g plain a = by_group gs 0 [] (Seal g) _ a.prepared plain (seal (seals_gate p q gs g a))
 
   pub grouped_depend : (g : ℕ) (on : List ℕ) → DependsGate p g on q → IsGrouped q gs
-  grouped_depend g on a = by_row 0 [] (Depend g on) _ a.prepared tt (depend (depends_gate p q gs g on a))
+  grouped_depend g on a = by_group gs 0 [] (Depend g on) _ a.prepared tt (depend (depends_gate p q gs g on a))
 
   pub grouped_change : (b at len n : ℕ) (after : List ℕ) (grade : Grade) → AddsChange p b at len after n grade q → IsGrouped q gs
-  grouped_change b at len n after grade a = by_row 1 ((n, some_bytes len) ∷ []) (MakeChange 0 b at (some_bytes len) after false) _ a.prepared tt (change (makes_change p q gs b at len n after grade a))
+  grouped_change b at len n after grade a = by_group gs 1 ((n, some_bytes len) ∷ []) (MakeChange 0 b at (some_bytes len) after false) _ a.prepared tt (change (makes_change p q gs b at len n after grade a))
 
   pub grouped_forget : (dropped : ℕ) → Forgets p dropped q → IsGrouped q gs
   grouped_forget dropped a =
       let row : ForgetsHeads (state_at p gs 0 []) dropped (state_at q gs 0 []) = record { row = a.row; state = rw a.numbers refl } in
-      by_row 0 [] Forget _ a.prepared tt (forget row)
+      by_group gs 0 [] Forget _ a.prepared tt (forget row)
 
   -- no gate is sealed
   passed : HeadsAreLawful q.heads q.numbers → Heirs NoneShut p.numbers p.heads q.heads → q.numbers ≡ p.numbers → q.prepared ≡ None → IsGrouped q gs

@@ -1,21 +1,10 @@
--- What calls that change places leave of what the fields keep.
-use Rattle.std.proofs.Common.{◌≡◌, ◌<◌, ◌+◌, ◌++◌, ◌∷◌, [], ℕ, Bool, List, length, map, get_or, set, refl, sym, subst, ◌∙◌, arith}
-use Rattle.fst_types.specs.declared.grade.Grade.{Grade}
-use Rattle.fst_types.specs.Making.{fresh}
-use Rattle.fst_types.specs.Patches.{Change, Patch}
-use Rattle.fst_types.specs.Facts.{SparseAreLawful}
-use Rattle.fst_types.specs.Gates.{IsOpenNumber}
-use Rattle.fst_types.specs.Gating.{sealed}
-use Rattle.fst_types.specs.Writing.{landed, launched}
-use Rattle.fst_types.specs.Writable.{IsWritable, IsWritableSet}
-use Rattle.fst_types.specs.Cascade.{IsCascadeOf}
-use Rattle.fst_types.proofs.Alike.{Alike, back_alike, length_alike, on_back}
-use Rattle.fst_types.proofs.Landing.{alike_landed, sparse_landed}
-use Rattle.fst_types.proofs.Sealing.{alike_sealed, sparse_sealed}
-use Rattle.fst_types.proofs.Issuing.{alike_launched, sparse_launched}
-use Rattle.fst_heads.specs.Covers.{AreCovered, Covering, HasBytes, IsPut}
-use Rattle.fst_heads.specs.Keeps.{Keeps}
-use Rattle.fst_heads.specs.Rows.{IsSparseRow}
+-- What calls that change places, or let a gate gain names, leave of what the fields keep.
+use Rattle.std.proofs.Common.{◌≡◌, ◌<◌, ◌+◌, ◌++◌, ◌∷◌, [], ℕ, Bool, List, length, map, get_or, set, refl, sym, subst, ◌∙◌, arith, ◌⊎◌, ◌≤◌, Contains, ap, inl, inr}
+use Rattle.fst_types.specs.{Cascade.IsCascadeOf, Closure.IsAcyclic, Dependencies.{DirectlyOn, DependsOn, IsLiveNumber}, Facts.SparseAreLawful, Gates.IsOpenNumber, Gating.{sealed, gains}, Lists.Lists, Making.fresh}
+use Rattle.fst_types.specs.{Order.depend_order, Patches.{Change, Patch, block_of_kind}, Refusals.NoneHolds, Writable.{IsWritable, IsWritableSet}, Writing.{landed, launched}, declared.grade.Grade.Grade}
+use Rattle.fst_heads.specs.{Covers.{AreCovered, Covering, HasBytes, IsPut}, Keeps.Keeps, Rows.IsSparseRow}
+use Rattle.fst_types.proofs.{Alike.{Alike, back_alike, length_alike, on_back}, Depending.{Grown, grown, length_mapped, sparse_gained}, Finite.{In-from_Contains, Contains-from_In}}
+use Rattle.fst_types.proofs.{GateGains.{In-unmap, direct_cases}, Issuing.{alike_launched, sparse_launched}, Landing.{alike_landed, sparse_landed}, NewChange.no_cycle, Sealing.{alike_sealed, sparse_sealed}}
 use Rattle.fst_heads.proofs.Covering.{covered_alike, covered_put}
 
 module _ (old new : List Patch) (A : Alike old new) where
@@ -43,14 +32,42 @@ keeps_launched old numbers blocks b chosen marks K writable choice =
 pub covered_moved : {old new : List Patch} {numbers blocks : ℕ} {marks : List Bool} {covers : List Covering} → Alike old new → Keeps new numbers blocks marks → AreCovered old blocks covers → AreCovered new blocks covers
 covered_moved {old} {new} {numbers} {blocks} {marks} {covers} A K C = covered_alike old new A K.lawful.on_disk_with_all K.lawful.one_place_each.rising blocks covers C
 
--- where there is room for one change more
-pub covered_on : {heads : List Patch} {blocks : ℕ} {covers covers' : List Covering} → AreCovered heads blocks covers
-    → ((hs : List Patch) → AreCovered hs (length covers) covers → AreCovered hs (length covers) covers') → AreCovered heads blocks covers'
-covered_on {heads} {blocks} {covers} {covers'} C same = subst (λ k. AreCovered heads k covers') C.long (same heads (subst (λ k. AreCovered heads k covers) (sym C.long) C))
-
--- and where a change was made
+-- where a change was made
 pub covered_made : {old : List Patch} {b at len : ℕ} {names row : List ℕ} {blocks : ℕ} {covers : List Covering} {own cover : Covering} (n : ℕ) (grade : Grade) → IsSparseRow old names b at len row
     → AreCovered old blocks covers → b < blocks → own ≡ get_or covers b own → ((d : Covering) → HasBytes (get_or covers b d) at len) → IsPut own at len (n + 1) cover
     → AreCovered (old ++ fresh (n + 1) (Change b at len grade) row ∷ []) blocks (set covers b cover)
 covered_made {old} {b} {at} {len} {names} {row} {blocks} {covers} {own} {cover} n grade S C inside same room put =
     covered_put old (n + 1) b at len grade names row (omega arith) S blocks covers C inside own cover (room own) (subst (λ c. IsPut c at len (n + 1) cover) same put)
+
+module _ (old : List Patch) (numbers blocks g : ℕ) (marks : List Bool) (K : Keeps old numbers blocks marks) (gate : IsOpenNumber old g)
+    (names : List ℕ) (live : (n : ℕ) → Contains names n → IsLiveNumber old n) (clear : (n : ℕ) → Contains names n → (n ≡ g) ⊎ DependsOn old n g → ⊥) where
+  abbrev new : List Patch
+  new = map (gains g names) old
+
+  was : (p : Patch) → Contains new p → (o : Patch) × Contains old o × Grown g names o p
+  was p h =
+      let r = In-unmap (gains g names) old p (In-from_Contains new p h) in
+      (r.0, Contains-from_In old r.0 r.1, subst (Grown g names r.0) r.2 (grown g names r.0))
+
+  acyclic : IsAcyclic (DirectlyOn new)
+  acyclic = no_cycle (DirectlyOn old) (DirectlyOn new) g (Contains names) (direct_cases old g names) K.lawful.no_cycle (λ n c. (λ e. clear n c (inl e), λ d. clear n c (inr d)))
+
+  small : (n : ℕ) → Contains names n → n ≤ numbers
+  small n c = let l = live n c in subst (λ m. m ≤ numbers) l.numbered (K.lawful.one_place_each.numbered l.patch l.head).1
+
+  pub keeps_gained : (marks' : List Bool) → length marks' ≡ length marks → Keeps new numbers blocks marks'
+  keeps_gained marks' long = record {
+    lawful = sparse_gained old numbers g names K.lawful gate small acyclic;
+    few = let e = length_mapped (gains g names) old in omega (arith, e, K.few);
+    inside = λ p b c on. let o = was p c in K.inside o.0 b o.1 (sym (ap block_of_kind o.2.kind) ∙ on);
+    marked = long ∙ (K.marked ∙ sym (length_mapped (gains g names) old));
+  }
+
+-- the same, by the rules that refuse
+pub keeps_depends : (heads : List Patch) (numbers blocks g : ℕ) (names on : List ℕ) (marks marks' : List Bool) → Keeps heads numbers blocks marks → IsOpenNumber heads g
+    → NoneHolds (depend_order heads numbers g on)
+    → Lists (λ n. IsLiveNumber heads n × Contains on n × (DirectlyOn heads g n → ⊥)) names
+    → length marks' ≡ length marks
+    → Keeps (map (gains g names) heads) numbers blocks marks'
+keeps_depends heads numbers blocks g names on marks marks' K gate none live long =
+    keeps_gained heads numbers blocks g marks K gate names (λ n c. (live.only n c).0) (λ n c r. none.1.1.1.1.1.0 (n, (live.only n c).1, r)) marks' long

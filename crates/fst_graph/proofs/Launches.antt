@@ -1,22 +1,11 @@
 -- What is launched is what is ready of a block of which nothing is in flight.
 use Rattle.std.proofs.Common.{◌≡◌, ◌<◌, ◌≤◌, ◌∙◌, ℕ, suc, List, [], ◌∷◌, Some, None, slice_get, length, map, get_or, set, Contains, AllPairs, refl, sym, ap, subst, inl, inr, arith}
 use Rattle.std.proofs.lemmas.List.Kept.{AllPairs-from_increasing}
-use Rattle.fst_types.specs.declared.number.PatchNo.{PatchNo}
-use Rattle.fst_types.specs.Facts.{SparseAreLawful}
-use Rattle.fst_types.specs.Patches.{Patch, block_of_kind}
-use Rattle.fst_types.specs.Writable.{IsWritable, IsWritableSet}
-use Rattle.fst_types.specs.Writing.{launched}
+use Rattle.fst_types.specs.{Facts.SparseAreLawful, Patches.{Patch, block_of_kind}, Writable.{IsWritable, IsWritableSet}, Writing.launched, declared.number.PatchNo.PatchNo}
+use Rattle.fst_heads.specs.{Keeps.{IsInside, Tallies}, Lists.Entry, Names.numbers_of, Nodes.{Node, patches_in}, Spreading.launches, Standings.ready_on, declared.standing.Standing.Standing}
 use Rattle.fst_types.proofs.Finite.{In, In-from_Contains, Contains-from_In}
-use Rattle.fst_heads.specs.declared.standing.Standing.{Standing}
-use Rattle.fst_heads.specs.Keeps.{IsInside, Tallies}
-use Rattle.fst_heads.specs.Names.{numbers_of}
-use Rattle.fst_heads.specs.Lists.{Entry}
-use Rattle.fst_heads.specs.Nodes.{Node, patches_in}
-use Rattle.fst_heads.specs.Spreading.{launches}
-use Rattle.fst_heads.specs.Standings.{ready_on}
-use Rattle.fst_graph.proofs.Marking.{ready_exact, writable_rests}
 use Rattle.fst_heads.proofs.Placed.{patches_launched}
-use Rattle.fst_graph.proofs.Tallied.{tallies_launched}
+use Rattle.fst_graph.proofs.{Marking.{ready_exact, writable_rests}, Tallied.tallies_launched}
 
 -- two rising rows of the same numbers are the same row
 

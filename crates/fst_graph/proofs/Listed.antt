@@ -1,20 +1,13 @@
 -- The lists of the blocks where a patch is made.
 use Rattle.std.proofs.Common.{◌≡◌, ℕ, ◌<◌, ◌==◌, ◌&&◌, false, cond, List, [], ◌∷◌, ◌++◌, set, get_or, refl, sym, ap, subst, ◌∙◌, inl, inr, arith, get_or-set_same, get_or-set_other}
-use Rattle.std.proofs.Math.ListN.{length-set}
 use Rattle.std.proofs.Math.Bool.{and-false}
-use Rattle.std.proofs.lemmas.Bool.{cases_Bool, cases_eq, eq-eqb, ne_eqb}
-use Rattle.std.proofs.lemmas.List.{append-nil}
-use Rattle.fst_types.specs.declared.place.Place.TheVariants as place
-use Rattle.fst_types.specs.declared.grade.Grade.{Grade}
-use Rattle.fst_types.specs.Patches.{Change, Empty, Patch}
-use Rattle.fst_types.specs.Tests.{is_on, is_live}
-use Rattle.fst_heads.specs.Lists.{Entry, entry, entries_on, AreListed, is_live_on}
-use Rattle.fst_heads.specs.Nodes.{Node, patches_in}
-use Rattle.fst_types.specs.Dependencies.{IsLiveNumber}
-use Rattle.fst_heads.specs.Rows.{IsDependency}
-use Rattle.fst_heads.proofs.Touching.{touch_parts}
-use Rattle.fst_heads.proofs.Added.{with_node}
+use Rattle.std.proofs.Math.ListN.{length-set}
+use Rattle.std.proofs.lemmas.{Bool.{cases_Bool, cases_eq, eq-eqb, ne_eqb}, List.append-nil}
+use Rattle.fst_types.specs.{Dependencies.IsLiveNumber, Patches.{Change, Empty, Patch}, Tests.{is_on, is_live}, declared.grade.Grade.Grade}
+use Rattle.fst_heads.specs.{Lists.{Entry, entry, entries_on, AreListed, is_live_on}, Nodes.{Node, patches_in}, Rows.IsDependency}
+use Rattle.fst_heads.proofs.{Added.with_node, Touching.touch_parts}
 use Rattle.fst_walks.proofs.Linked.{patches_made}
+use Rattle.fst_types.specs.declared.place.Place.TheVariants as place
 
 -- the list of a block with one patch more
 entries_more : (b : ℕ) (ps : List Patch) (p : Patch) → entries_on b (ps ++ p ∷ []) ≡ entries_on b ps ++ cond (is_live_on b p) (entry p ∷ []) []

@@ -1,38 +1,18 @@
--- What is pending of a change tells whether it is in the writable set of its block, and the counts of a block whether it is writable.
-use Rattle.std.proofs.Common.{◌≡◌, ◌<◌, ◌↔◌, ◌⊎◌, ◌==◌, ◌&&◌, ℕ, Bool, true, false, not, List, Some, None, length, get_or, count_by, Contains, refl, sym, ap, subst, ◌∙◌, inl, inr, arith}
+-- What is pending of a change tells whether it is in the writable set of its block, the counts of a block whether it is writable, and its mark which is picked.
+use Rattle.std.proofs.Common.{◌≡◌, ◌<◌, ◌↔◌, ◌⊎◌, ◌==◌, ◌&&◌, ℕ, Bool, true, false, not, List, Some, None, length, get_or, count_by, Contains, refl, sym, ap, subst, ◌∙◌, inl, inr, arith, Option, IfNone, option_map}
 use Rattle.std.proofs.lemmas.Bool.{cases_Bool, cases_lt, and_parts, and_from, not_from_true, not_from_false, not-true, false≢true, eqb-true, eqb-false, eq-eqb, ne_eqb}
-use Rattle.std.proofs.lemmas.List.Elements.{filter_agree}
-use Rattle.std.proofs.lemmas.List.Folds.{Any-from_list_any, list_any-from_Any}
-use Rattle.std.proofs.lemmas.List.Sums.{length-filter}
+use Rattle.std.proofs.lemmas.{List.Elements.filter_agree, List.Folds.{Any-from_list_any, list_any-from_Any}, List.Sums.length-filter}
+use Rattle.fst_types.specs.{Closure.IsAcyclic, Dependencies.DirectlyOn, Facts.{SparseAreLawful, HardNeverHold}, Looks.IsPick, Patches.{Patch, IsRising, IsOn, IsHard}}
+use Rattle.fst_types.specs.{Tests.{is_change_at, is_live}, Writable.{IsInMemoryOn, InWritableSet, IsWritable, IsWritableSet, IsHeld}, declared.number.BlockNo.BlockNo}
+use Rattle.fst_heads.specs.{Keeps.IsInside, Nodes.{Node, patches_in, pending_in, AreSettled, AreCounted, is_live_in}, Pendings.is_pending}
+use Rattle.fst_heads.specs.{Standings.{AllStand, AreMarked, may_be_written, standing_of, is_ready_on, is_held_on, is_flying_on, ready_on}, Tests.is_hard_kind, declared.standing.Standing.Standing}
+use Rattle.fst_graph.specs.Known.{IsStuckByGates}
+use Rattle.fst_types.proofs.{Landing.{change_at, at_change}, Stuck.never_stuck_lem, Writes.same_test}
+use Rattle.fst_heads.proofs.{Forgetting.{live_place_of, not_disk}, PendingIn.{found, told_of}, Placed.{patch_in, node_of_patch}, Sums.sums_count}
+use Rattle.fst_walks.proofs.{Alone.{waits_in, waits_out}, Low.{is_block, block_is, is_nothing}}
+use Rattle.fst_walks.proofs.{Numbered.{rising_numbers, number_in, number_of, none_counted, counted_none, counted_some}, Obstacles.{hard_from, hard_to}}
 use Rattle.fst_types.specs.declared.place.Place.TheVariants as place
-use Rattle.fst_types.specs.Facts.{SparseAreLawful}
-use Rattle.fst_types.specs.Patches.{Patch, IsRising, IsOn, IsHard}
-use Rattle.fst_types.specs.Tests.{is_change_at, is_live}
-use Rattle.fst_types.specs.Writable.{IsInMemoryOn, InWritableSet, IsWritable, IsWritableSet, IsHeld}
-use Rattle.fst_types.specs.Looks.{IsPick}
-use Rattle.fst_types.proofs.Landing.{change_at, at_change}
 use Rattle.fst_heads.specs.declared.pending.Pending.TheVariants as pending
-use Rattle.fst_heads.specs.declared.standing.Standing.{Standing}
-use Rattle.fst_heads.specs.Keeps.{IsInside}
-use Rattle.fst_heads.specs.Nodes.{Node, patches_in, pending_in, AreSettled, AreCounted}
-use Rattle.fst_heads.specs.Nodes.{is_live_in}
-use Rattle.fst_heads.specs.Pendings.{is_pending}
-use Rattle.fst_heads.specs.Standings.{AllStand, AreMarked, may_be_written, standing_of, is_ready_on, is_held_on, is_flying_on, ready_on}
-use Rattle.fst_heads.specs.Tests.{is_hard_kind}
-use Rattle.fst_walks.proofs.Alone.{waits_in, waits_out}
-use Rattle.fst_heads.proofs.Forgetting.{live_place_of, not_disk}
-use Rattle.fst_walks.proofs.Low.{is_block, block_is, is_nothing}
-use Rattle.fst_walks.proofs.Numbered.{rising_numbers, number_in, number_of, none_counted, counted_none, counted_some}
-use Rattle.fst_walks.proofs.Obstacles.{hard_from, hard_to}
-use Rattle.fst_heads.proofs.PendingIn.{found, told_of}
-use Rattle.fst_heads.proofs.Placed.{patch_in, node_of_patch}
-use Rattle.fst_heads.proofs.Sums.{sums_count}
-
--- two tests that follow from one another
-same_test : (s t : Bool) → (s ≡ true → t ≡ true) → (t ≡ true → s ≡ true) → s ≡ t
-same_test true t f g = sym (f refl)
-same_test false true f g = g refl
-same_test false false f g = refl
 
 -- tests that agree count the same
 count_agree : (f g : ℕ → Bool) → ((n : ℕ) → f n ≡ g n) → (ns : List ℕ) → count_by f ns ≡ count_by g ns
@@ -189,3 +169,8 @@ picked_some patches blocks b standings M lt mark below =
         | inr le ↦ le
       ];
     }
+
+-- where there is no pick and nothing is in flight, each change in memory is blocked
+pub stuck_by_gates : (heads : List Patch) (r : Option BlockNo) → IsAcyclic (DirectlyOn heads) → HardNeverHold heads → IsPick heads (option_map (λ b. b.0) r) → IfNone r (IsStuckByGates heads)
+stuck_by_gates heads None acyclic sound none = λ landed p b m. never_stuck_lem heads acyclic sound none landed p b m
+stuck_by_gates heads (Some b) acyclic sound pick = tt

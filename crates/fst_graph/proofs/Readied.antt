@@ -1,19 +1,11 @@
 -- What is prepared.
-use Rattle.std.proofs.Common.{◌≡◌, ℕ, ◌+◌, Bool, true, false, ◌&&◌, List, [], ◌∷◌, Option, Some, None, option_map, is_some, subst, refl, sym, ap, ◌∙◌, eqb}
+use Rattle.std.proofs.{Common.{◌≡◌, ℕ, ◌+◌, Bool, true, false, ◌&&◌, List, [], ◌∷◌, Option, Some, None, option_map, is_some, subst, refl, sym, ap, ◌∙◌, eqb}, lemmas.Bool.false≢true, lemmas.Bool.Decides.Decides-eqb}
 use Rattle.std.specs.Bool.{Decides}
-use Rattle.std.proofs.lemmas.Bool.{false≢true}
-use Rattle.std.proofs.lemmas.Bool.Decides.{Decides-eqb}
-use Rattle.fst_types.specs.declared.number.PatchNo.{PatchNo}
-use Rattle.fst_types.specs.declared.span.Span.{Span}
-use Rattle.fst_types.specs.declared.grade.Grade.{Grade}
-use Rattle.fst_types.specs.declared.grade.Grade.TheVariants as grade
-use Rattle.fst_types.specs.Grades.{FollowsRule}
-use Rattle.fst_types.specs.Patches.{Patch}
-use Rattle.fst_graph.specs.declared.prepared.Gates.{Gates}
-use Rattle.fst_graph.specs.declared.prepared.Prepared.{Prepared as Stored}
-use Rattle.fst_graph.specs.Known.{Prepared, prepared_for, member_for}
+use Rattle.fst_types.specs.{Grades.FollowsRule, Patches.Patch, declared.grade.Grade.Grade, declared.number.PatchNo.PatchNo, declared.span.Span.Span}
 use Rattle.fst_heads.specs.Names.{numbers_of}
-use Rattle.fst_graph.specs.Ready.{prepared_of, IsReady, IsMemberReady, IsReadyFor, MayBePut}
+use Rattle.fst_graph.specs.{Known.{Prepared, prepared_for, member_for}, Ready.{prepared_of, IsReady, IsMemberReady, IsReadyFor, MayBePut}}
+use Rattle.fst_graph.specs.{declared.prepared.Gates.Gates, declared.prepared.Prepared.Prepared as Stored}
+use Rattle.fst_types.specs.declared.grade.Grade.TheVariants as grade
 
 -- what is graded hard may be hard
 pub hard_may : (g : Grade) (P : Type 0) → FollowsRule g P → Some g ≡ Some grade.Hard → P

@@ -1,36 +1,17 @@
 -- What is pending of each patch after a call that tells none of its dependants of anything.
 use Rattle.std.proofs.Common.{◌≡◌, ◌≢◌, ◌↔◌, ◌==◌, ℕ, suc, ◌+◌, ◌<◌, ◌≤◌, Bool, true, false, not, if◌then◌else◌, List, [], ◌∷◌, ◌++◌, map, filter, AllPairs, Contains, refl, sym, ap, subst, ◌∙◌, inl, inr, arith}
+use Rattle.std.proofs.lemmas.{Bool.{cases_Bool, cases_eq, eq-eqb, ne_eqb}, List.Elements.{Contains-append_left, Contains-push}}
 use Rattle.std.specs.List.Sorted.{IsStrictlyIncreasing}
-use Rattle.std.proofs.lemmas.Bool.{cases_Bool, cases_eq, eq-eqb, ne_eqb}
-use Rattle.std.proofs.lemmas.List.Elements.{Contains-append_left, Contains-push}
-use Rattle.fst_types.specs.declared.place.Place.{Place}
-use Rattle.fst_types.specs.declared.place.Place.TheVariants as place
-use Rattle.fst_types.specs.Cascade.{Follows}
-use Rattle.fst_types.specs.Dependencies.{IsLiveNumber}
-use Rattle.fst_types.specs.Facts.{SparseAreLawful}
-use Rattle.fst_types.specs.Gates.{IsOpenNumber}
-use Rattle.fst_types.specs.Patches.{Kind, Change, Empty, OpenGate, SealedGate, Patch, IsOn, block_of_kind}
-use Rattle.fst_types.specs.Tests.{is_at, is_live, is_among, is_change_at}
-use Rattle.fst_types.proofs.Crash.{same_number}
-use Rattle.fst_types.proofs.Dropping.{filter_in}
-use Rattle.fst_types.proofs.Finite.{In, In-from_Contains, Contains-from_In}
-use Rattle.fst_types.proofs.GateGains.{In-unmap}
-use Rattle.fst_types.proofs.Issuing.{among_in}
-use Rattle.fst_types.proofs.Landing.{change_at}
-use Rattle.fst_heads.specs.declared.pending.Pending.{Pending}
-use Rattle.fst_heads.specs.declared.pending.Pending.TheVariants as pending
-use Rattle.fst_heads.specs.declared.pending.Sums.{Sums}
-use Rattle.fst_heads.specs.Nodes.{Node, patches_in, pending_in, at_number, linked_to, gains_names, AreSettled}
-use Rattle.fst_heads.specs.Pendings.{joined, of_change, of_kind, over_block, sums_of, together}
-use Rattle.fst_heads.specs.Spreading.{launches}
-use Rattle.fst_heads.specs.Standings.{is_ready_on, ready_on}
-use Rattle.fst_heads.proofs.Added.{with_node, new_node, with_names}
-use Rattle.fst_heads.proofs.AtNumber.{at_same, at_other}
-use Rattle.fst_heads.proofs.Forgetting.{and_parts}
+use Rattle.fst_types.specs.{Cascade.Follows, Dependencies.IsLiveNumber, Facts.SparseAreLawful, Gates.IsOpenNumber}
+use Rattle.fst_types.specs.{Patches.{Kind, Change, Empty, OpenGate, SealedGate, Patch, IsOn, block_of_kind}, Tests.{is_at, is_live, is_among, is_change_at}, declared.place.Place.Place}
+use Rattle.fst_heads.specs.{Nodes.{Node, patches_in, pending_in, at_number, linked_to, gains_names, AreSettled}, Pendings.{joined, of_change, of_kind, over_block, sums_of, together}}
+use Rattle.fst_heads.specs.{Spreading.launches, Standings.{is_ready_on, ready_on}, declared.pending.Pending.Pending, declared.pending.Sums.Sums}
+use Rattle.fst_types.proofs.{Crash.same_number, Dropping.filter_in, Finite.{In, In-from_Contains, Contains-from_In}, GateGains.In-unmap, Issuing.among_in, Landing.change_at}
+use Rattle.fst_heads.proofs.{Added.{with_node, new_node, with_names}, AtNumber.{at_same, at_other}, Forgetting.and_parts, Linking.linked_patch}
+use Rattle.fst_heads.proofs.{Placed.{number_if, patch_in, node_of_patch, unmapped}, Sums.{joined_all_nothing, joined_nothing, joined_same, joined_some, sums_append, sums_same}}
 use Rattle.fst_walks.proofs.Linked.{made_was, both, both_nodes, both_number, named_was}
-use Rattle.fst_heads.proofs.Linking.{linked_patch}
-use Rattle.fst_heads.proofs.Placed.{number_if, patch_in, node_of_patch, unmapped}
-use Rattle.fst_heads.proofs.Sums.{joined_all_nothing, joined_nothing, joined_same, joined_some, sums_append, sums_same}
+use Rattle.fst_types.specs.declared.place.Place.TheVariants as place
+use Rattle.fst_heads.specs.declared.pending.Pending.TheVariants as pending
 
 -- what is pending of a number
 

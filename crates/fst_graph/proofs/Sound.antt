@@ -1,21 +1,126 @@
--- What is known of a change that is prepared.
-use Rattle.std.proofs.Common.{◌≡◌, ℕ, Option, Some, None, IfSome, refl, subst}
+-- What holds of the fields that are sound: for a walk over them, of a block, for what is prepared, and after a call that leaves the patches as they are.
+use Rattle.std.proofs.{Common.{◌≡◌, ◌≤◌, ◌∙◌, ℕ, List, Option, Some, None, IfSome, length, map, refl, sym, subst, arith, ◌<◌, ◌↔◌, ◌&&◌, Bool, true, get_or, ap}, lemmas.List.length-map}
 use Rattle.std.specs.Global.{Vec}
-use Rattle.fst_heads.specs.Covers.{Covering}
-use Rattle.fst_heads.specs.declared.head.Head.{Head}
-use Rattle.fst_heads.specs.declared.lists.Listed.{Listed}
-use Rattle.fst_heads.specs.declared.standing.Standing.{Standing}
-use Rattle.fst_walks.specs.declared.block_walk.BlockWalk.{BlockWalk}
-use Rattle.fst_graph.specs.declared.prepared.Prepared.{Prepared as Stored}
-use Rattle.fst_graph.specs.Sound.{AreSound, IsPrepared}
+use Rattle.fst_types.specs.{Dependencies.IsLiveNumber, Patches.Patch}
+use Rattle.fst_heads.specs.{Ascending.IsBehind, Covers.{AreCovered, Covering}, Heads.{patch_of, patches_of, IsRising}, Keeps.IsInside, Lists.{entries_of, AreListed, entries_on}, Marks.{mark_in, mark_of}}
+use Rattle.fst_heads.specs.{Nodes.{nodes_of, AreSettled, pending_in}, Standings.{AllStand, standing_of}, declared.head.Head.Head, declared.lists.Listed.Listed, declared.standing.Standing.Standing}
+use Rattle.fst_walks.specs.{Searching.TellsGates, Sights.Sees, declared.block_walk.BlockWalk.BlockWalk, declared.sight.Sight.Sight}
+use Rattle.fst_graph.specs.{Sound.{AreSound, IsPrepared}, declared.prepared.Prepared.Prepared as Stored}
+use Rattle.fst_heads.proofs.{AtNumber.patches_in_nodes, Slots.rising_heads}
+use Rattle.fst_walks.proofs.{Behind.pending_live, Held.{heads_held, heads_live}, Resting.{listed_at, shelves}, Seen.{same_patches, tallies_wider}}
+use Rattle.fst_heads.specs.declared.pending.Pending.TheVariants as pending
 
--- there is room for it, and nothing refuses it
-pub prepared_is : {heads : Vec Head} {walks : BlockWalk} {lists : Vec (Vec Listed)} {covers : Vec Covering} {standings : Vec Standing} {queue : Vec ℕ} {live numbers blocks : ℕ} {o : Option Stored}
-    → AreSound heads walks lists covers standings queue live numbers blocks o → (p : Stored) → o ≡ Some p → IsPrepared heads walks lists covers queue numbers blocks p
-prepared_is {heads} {walks} {lists} {covers} {standings} {queue} {live} {numbers} {blocks} {o} sound p is = subst (λ x. IfSome x (IsPrepared heads walks lists covers queue numbers blocks)) is sound.prepared
+module _ {heads : Vec Head} {walks : BlockWalk} {lists : Vec (Vec Listed)} {covers : Vec Covering} {standings : Vec Standing} {queue : Vec ℕ} {live numbers blocks : ℕ} {o : Option Stored}
+    (S : AreSound heads walks lists covers standings queue live numbers blocks o) where
+  pub rising_sound : IsRising heads.items
+  rising_sound = rising_heads heads.items S.keeps.lawful.one_place_each.rising
+
+  -- as many marks as heads, as many lists as blocks, and a place for each list
+  pub as_many_marks : length walks.walk.marks ≡ length heads.items
+  as_many_marks = S.keeps.marked ∙ length-map heads.items patch_of
+
+  pub as_many_lists : length lists.items ≡ blocks
+  as_many_lists = sym (length-map lists.items (λ l. entries_of l.items)) ∙ S.tallies.listed.long
+
+  pub as_many_standings : standings.len ≡ blocks
+  as_many_standings = omega (arith, S.tallies.standing.long, standings.ok.0)
+
+  pub as_many_places : length walks.crossed.items ≡ length lists.items
+  as_many_places = S.beside.places ∙ sym as_many_lists
+
+  -- what is pending tells of the open gates
+  pub gates_told : TellsGates heads.items
+  gates_told =
+      let L = S.keeps.lawful in
+      record { live = heads_live heads.items blocks rising_sound L.no_cycle L.on_disk_with_all S.tallies.settled; held = heads_held heads.items blocks rising_sound L.no_cycle L.on_disk_with_all S.tallies.settled }
+
+  -- what stands beside the patches is as walks want it
+  pub sees_all : (sight : Sight) → sight.heads.now ≡ heads.items → sight.lists.now ≡ lists.items → sight.covers.now ≡ covers.items → sight.standings.now ≡ standings.items → Sees sight
+  sees_all sight h l v s =
+      let K = S.keeps in
+      let T = S.tallies in
+      let entries = map (λ (x : Vec Listed). entries_of x.items) lists.items in
+      rw (h, l, v, s) (record {
+        rising = rising_sound;
+        inside = subst (IsInside (patches_of heads.items)) (sym as_many_lists) K.inside;
+        disk = K.lawful.on_disk_with_all;
+        hard = K.lawful.hard_never_hold;
+        acyclic = K.lawful.no_cycle;
+        linked = T.linked;
+        settled = subst (AreSettled (nodes_of heads.items)) (sym T.standing.long) T.settled;
+        listed = subst (λ n. AreListed (patches_of heads.items) n entries) (sym as_many_lists) (subst (λ ps. AreListed ps blocks entries) (patches_in_nodes heads.items) T.listed);
+        covered = subst (λ n. AreCovered (patches_of heads.items) n covers.items) (sym as_many_lists) S.covered;
+        standing = subst (λ n. AllStand (nodes_of heads.items) n standings.items) (sym T.standing.long) T.standing;
+      })
+
+  -- there is room for what is prepared, and nothing refuses it
+  pub prepared_is : (p : Stored) → o ≡ Some p → IsPrepared heads walks lists covers queue numbers blocks p
+  prepared_is p is = subst (λ x. IfSome x (IsPrepared heads walks lists covers queue numbers blocks)) is S.prepared
+
+  -- after a walk over the heads there is a mark for each still
+  pub walked_sound : {walked : BlockWalk} → length walked.walk.marks ≡ length heads.items → length walked.crossed.items ≡ length lists.items → AreSound heads walked lists covers standings queue live numbers blocks None
+  walked_sound marks places = record {
+    keeps = record { lawful = S.keeps.lawful; few = S.keeps.few; inside = S.keeps.inside; marked = marks ∙ sym (length-map heads.items patch_of) };
+    beside = record { places = places ∙ as_many_lists; counted = S.beside.counted };
+    tallies = S.tallies;
+    covered = S.covered;
+    prepared = tt;
+  }
+
+  -- there may be more room for heads, marks and what waits in the queue
+  pub roomier_sound : {roomier : Vec Head} {walked : BlockWalk} {wider : Vec ℕ} → nodes_of roomier.items ≡ nodes_of heads.items → walked.walk.marks ≡ walks.walk.marks → walked.crossed ≡ walks.crossed → wider.items ≡ queue.items → queue.cap ≤ wider.cap
+      → AreSound roomier walked lists covers standings wider live numbers blocks None
+  roomier_sound {roomier} {walked} {wider} same marks crossed waits wide =
+      let patches = same_patches roomier.items heads.items same in record {
+        keeps = rw (patches, marks) S.keeps;
+        beside = rw (patches, crossed) S.beside;
+        tallies = rw same (tallies_wider _ numbers blocks _ _ _ _ _ _ S.tallies waits wide);
+        covered = rw patches S.covered;
+        prepared = tt;
+      }
+
+  -- and for a change of a block
+  pub listed_sound : {longer : Vec (Vec Listed)} {wider : Vec Covering} → map (λ l. entries_of l.items) longer.items ≡ map (λ l. entries_of l.items) lists.items
+      → ((hs : List Patch) → AreCovered hs (length covers.items) covers.items → AreCovered hs (length covers.items) wider.items) → AreSound heads walks longer wider standings queue live numbers blocks None
+  listed_sound {wider = wider} entries covered = record {
+    keeps = S.keeps;
+    beside = S.beside;
+    tallies = rw entries S.tallies;
+    covered = let long = S.covered.long in subst (λ k. AreCovered (patches_of heads.items) k wider.items) long (covered (patches_of heads.items) (subst (λ k. AreCovered (patches_of heads.items) k covers.items) (sym long) S.covered));
+    prepared = tt;
+  }
+
+  pub with_prepared : {o' : Option Stored} → IfSome o' (IsPrepared heads walks lists covers queue numbers blocks) → AreSound heads walks lists covers standings queue live numbers blocks o'
+  with_prepared P = record { keeps = S.keeps; beside = S.beside; tallies = S.tallies; covered = S.covered; prepared = P }
+
+  -- there are as many lists as blocks
+  pub many_lists : (slice : List (Vec Listed)) → slice ≡ lists.items → length slice ≡ blocks
+  many_lists slice e = shelves (nodes_of heads.items) blocks lists.items slice S.tallies.listed e
+
+  pub its_list : (slice : List (Vec Listed)) → slice ≡ lists.items → (b : ℕ) → b < length slice → (list : Vec Listed) → list ≡ get_or slice b list → entries_of list.items ≡ entries_on b (patches_of heads.items)
+  its_list slice e b lt list there = listed_at heads.items blocks b lists.items list S.tallies.listed (omega (arith, lt, many_lists slice e)) (subst (λ ls. list ≡ get_or ls b list) e there)
+
+  pub its_standing : (slice : List (Vec Listed)) → slice ≡ lists.items → (b : ℕ) → b < length slice → (told : List Standing) → told ≡ standings.items
+      → (b < length told) × ((d : Standing) → get_or told b d ≡ standing_of (nodes_of heads.items) b)
+  its_standing slice e b lt told same =
+      let inside : b < blocks = omega (arith, lt, many_lists slice e) in
+      (omega (arith, inside, ap length same, S.tallies.standing.long), λ d. ap (λ xs. get_or xs b d) same ∙ S.tallies.standing.each b d inside)
+
+  -- what waits for the block alone is live
+  pub waits_live : (b n : ℕ) → pending_in (nodes_of heads.items) n ≡ pending.Block b → IsLiveNumber (patches_of heads.items) n
+  waits_live b n e = subst (λ ps. IsLiveNumber ps n) (patches_in_nodes heads.items) (pending_live (nodes_of heads.items) blocks b n S.tallies.settled e)
 
 -- what follows from that holds of whatever is prepared
 pub if_prepared : {heads : Vec Head} {walks : BlockWalk} {lists : Vec (Vec Listed)} {covers : Vec Covering} {standings : Vec Standing} {queue : Vec ℕ} {live numbers blocks : ℕ} {o : Option Stored}
     → AreSound heads walks lists covers standings queue live numbers blocks o → (P : Stored → Type 0) → ((p : Stored) → o ≡ Some p → IsPrepared heads walks lists covers queue numbers blocks p → P p) → IfSome o P
 if_prepared {o = None} sound P follows = tt
 if_prepared {o = Some p} sound P follows = follows p refl sound.prepared
+
+-- the marks that are handed on tell what a walk from what flies has met
+pub behind_marked : (heads seen : List Head) (b : ℕ) (flying : Bool) (marks walked : List Bool) (given : Option (List Bool)) → seen ≡ heads → marks ≡ walked
+    → ((n : ℕ) → ((flying && mark_of seen walked n) ≡ true) ↔ IsBehind (nodes_of seen) b n)
+    → ((hs : List Head) (n : ℕ) → mark_in hs given n ≡ (flying && mark_of hs marks n))
+    → (n : ℕ) → (mark_in heads given n ≡ true) ↔ IsBehind (nodes_of heads) b n
+behind_marked heads seen b flying marks walked given same back behind told n =
+    subst (λ t. (t ≡ true) ↔ IsBehind (nodes_of heads) b n) (sym (told heads n ∙ ap (λ k. flying && mark_of heads k n) back))
+    (subst (λ hs. ((flying && mark_of hs walked n) ≡ true) ↔ IsBehind (nodes_of hs) b n) same (behind n))

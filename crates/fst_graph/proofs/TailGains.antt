@@ -1,32 +1,16 @@
 -- The tail of a group gains the change that was made for it.
 use Rattle.std.proofs.Common.{◌≡◌, ◌≢◌, ◌⊎◌, ◌+◌, ◌≤◌, ◌++◌, ℕ, Bool, List, [], ◌∷◌, Option, Some, None, IfSome, option_map, Contains, refl, sym, ap, subst, ◌∙◌, inl, inr, arith}
 use Rattle.std.proofs.lemmas.List.Elements.{Contains-append_left, Contains-push, Contains-push_cases}
-use Rattle.fst_types.specs.declared.grade.Grade.TheVariants as grade
-use Rattle.fst_types.specs.declared.place.Place.{Place}
-use Rattle.fst_types.specs.declared.place.Place.TheVariants as place
-use Rattle.fst_types.specs.Closure.{one, join}
-use Rattle.fst_types.specs.Dependencies.{DirectlyOn, DependsOn, IsLiveNumber}
-use Rattle.fst_types.specs.Facts.{SparseAreLawful}
-use Rattle.fst_types.specs.Gates.{IsOpenNumber}
-use Rattle.fst_types.specs.Lists.{Lists}
-use Rattle.fst_types.specs.Order.{depend_order, NamesUnknown, NamesAbove}
-use Rattle.fst_types.specs.Patches.{Patch}
-use Rattle.fst_types.specs.Refusals.{NoneHolds}
-use Rattle.fst_types.proofs.Finite.{In-from_Contains, Contains-from_In, In-map}
-use Rattle.fst_types.proofs.NewChange.{IsWithin}
-use Rattle.fst_graph.specs.declared.prepared.Gates.{Gates}
-use Rattle.fst_graph.specs.declared.prepared.Prepared.{Prepared as Stored}
-use Rattle.fst_heads.specs.declared.head.Head.{Head}
-use Rattle.fst_heads.specs.Heads.{patch_of, patches_of}
-use Rattle.fst_heads.specs.Keeps.{Keeps}
-use Rattle.fst_graph.specs.Known.{Prepared}
-use Rattle.fst_graph.specs.Membering.{member_order}
-use Rattle.fst_graph.specs.Ready.{prepared_of, change_of, IsReady, IsMemberReady, IsReadyFor, MayBePut}
-use Rattle.fst_heads.proofs.Graded.{depends_under}
+use Rattle.fst_types.specs.{Closure.{one, join}, Dependencies.{DirectlyOn, DependsOn, IsLiveNumber}, Facts.SparseAreLawful, Gates.IsOpenNumber}
+use Rattle.fst_types.specs.{Lists.Lists, Order.{depend_order, NamesUnknown, NamesAbove}, Patches.Patch, Refusals.NoneHolds}
+use Rattle.fst_heads.specs.{Heads.{patch_of, patches_of}, Keeps.Keeps, declared.head.Head.Head}
+use Rattle.fst_graph.specs.{Known.Prepared, Membering.member_order, Ready.{prepared_of, change_of, IsReady, IsMemberReady, IsReadyFor, MayBePut}}
+use Rattle.fst_graph.specs.{declared.prepared.Gates.Gates, declared.prepared.Prepared.Prepared as Stored}
+use Rattle.fst_types.proofs.{Finite.{In-from_Contains, Contains-from_In, In-map}, NewChange.IsWithin, SmallStates.only_in}
+use Rattle.fst_heads.proofs.{Graded.depends_under, Touching.touched_overlaps}
 use Rattle.fst_walks.proofs.Overlapped.{touched_no_gate}
-use Rattle.fst_graph.proofs.Readied.{head_told, ready_member}
-use Rattle.fst_graph.proofs.SealedIf.{open_not_sealed}
-use Rattle.fst_heads.proofs.Touching.{touched_overlaps}
+use Rattle.fst_graph.proofs.{GateSlot.open_not_sealed, Readied.{head_told, ready_member}, Wholes.memory_live}
+use Rattle.fst_types.specs.declared.grade.Grade.TheVariants as grade
 
 -- what is prepared is for the group with those gates
 pub head_same : (o : Option Stored) (n : ℕ) (q : Prepared) (head : ℕ) (p : Stored) (gates : Gates) → option_map (prepared_of n) o ≡ Some q → q.group ≡ Some head → o ≡ Some p → p.gates ≡ Some gates → gates.head ≡ head
@@ -37,12 +21,6 @@ head_same o n q head p gates seen named kept there = some_head gates.head head (
 
 pub member_kept : (p : Stored) (gates : Gates) (old : List Patch) (n blocks : ℕ) → p.gates ≡ Some gates → MayBePut old n blocks p → IsMemberReady old n blocks gates p
 member_kept p gates old n blocks there ready = subst (λ g. IsReadyFor g old n blocks p) there ready
-
-only_one : (x y : ℕ) → Contains (x ∷ []) y → x ≡ y
-only_one x y c = elim (In-from_Contains (x ∷ []) y c) [ inl e ↦ e | inr h ↦ absurd h ]
-
-memory_live : (x : Place) → x ≡ place.Memory → x ≡ place.Disk → ⊥
-memory_live x a b = cc
 
 module _ (old : List Patch) (n blocks : ℕ) (marks : List Bool) (K : Keeps old n blocks marks) (gates : Gates) (p : Stored) (R : IsMemberReady old n blocks gates p) (closed : IsOpenNumber old gates.head → ⊥) where
   H : SparseAreLawful old n
@@ -86,7 +64,7 @@ module _ (old : List Patch) (n blocks : ℕ) (marks : List Bool) (K : Keeps old 
   row_apart : (y : ℕ) → Contains row y → (y ≡ gates.tail) ⊎ DependsOn old y gates.tail → ⊥
   row_apart y c reach = elim (ready_now.depends.only y c) [
     | inl l ↦
-        let own : gates.head ≡ y = only_one gates.head y (subst (λ ns. Contains ns y) R.names l.1) in
+        let own : gates.head ≡ y = only_in gates.head y (subst (λ ns. Contains ns y) R.names l.1) in
         elim reach [
           | inl same ↦ let f = R.paired.follows in absurd (omega (arith, own, same, f))
           | inr d ↦ head_apart (subst (IsLiveNumber old) (sym own) l.0) (subst (λ x. DependsOn old x gates.tail) (sym own) d)
@@ -112,10 +90,10 @@ module _ (old : List Patch) (n blocks : ℕ) (marks : List Bool) (K : Keeps old 
         (
           λ many. omega (arith, many),
           (
-            λ (u : NamesUnknown (n + 1) ((n + 1) ∷ [])). let e = only_one (n + 1) u.0 u.1 in u.2 (omega (arith, e), omega (arith, e)),
+            λ (u : NamesUnknown (n + 1) ((n + 1) ∷ [])). let e = only_in (n + 1) u.0 u.1 in u.2 (omega (arith, e), omega (arith, e)),
             (
               λ (a : NamesAbove with_made gates.tail ((n + 1) ∷ [])).
-                  let e = only_one (n + 1) a.0 a.1 in
+                  let e = only_in (n + 1) a.0 a.1 in
                   elim a.2 [
                     | inl same ↦ let s = tail_small in omega (arith, e, same, s)
                     | inr d ↦ change_apart (subst (λ x. DependsOn with_made x gates.tail) (sym e) d)
@@ -132,7 +110,7 @@ module _ (old : List Patch) (n blocks : ℕ) (marks : List Bool) (K : Keeps old 
   tail_gains = record {
     rising = λ k lt. absurd (omega (arith, lt));
     only = λ m c.
-        let e = only_one (n + 1) m c in (
+        let e = only_in (n + 1) m c in (
           record { patch = made; head = Contains-push old made; numbered = e; live = λ d. memory_live made.place refl d },
           c,
           λ d. elim (Contains-push_cases old made d.patch d.head) [

@@ -1,32 +1,15 @@
 -- What a new change would depend on, and how it would be graded, once an open gate is sealed: told by the patches as they stand.
-use Rattle.std.proofs.Common.{◌≡◌, ◌≢◌, ◌⊎◌, ◌↔◌, ℕ, List, [], ◌∷◌, map, Contains, Some, None, refl, sym, ap, subst, ◌∙◌, inl, inr, arith}
-use Rattle.std.proofs.lemmas.Bool.{cases_eq}
-use Rattle.fst_types.specs.declared.place.Place.{Place}
-use Rattle.fst_types.specs.declared.place.Place.TheVariants as place
-use Rattle.fst_types.specs.declared.grade.Grade.{Grade}
-use Rattle.fst_types.specs.declared.grade.Grade.TheVariants as grade
-use Rattle.fst_types.specs.Cascade.{Follows, RestsOnDisk, IsCascadeOf}
-use Rattle.fst_types.specs.Closure.{one, join}
-use Rattle.fst_types.specs.Dependencies.{DirectlyOn, DependsOn, Needs, IsLiveNumber, IsOnDisk}
-use Rattle.fst_types.specs.Facts.{SparseAreLawful}
-use Rattle.fst_types.specs.Gates.{IsOpenNumber}
-use Rattle.fst_types.specs.Gating.{sealed}
-use Rattle.fst_types.specs.Grades.{FollowsRule}
-use Rattle.fst_types.specs.Patches.{SealedGate, Patch, IsOn, IsLive, IsOpenGate}
-use Rattle.fst_types.proofs.Alike.{back_alike}
-use Rattle.fst_types.proofs.Cascades.{kind_cases, place_decided, arrived}
-use Rattle.fst_types.proofs.Crash.{same_number}
+use Rattle.std.proofs.{Common.{◌≡◌, ◌≢◌, ◌⊎◌, ◌↔◌, ℕ, List, [], ◌∷◌, map, Contains, Some, None, refl, sym, ap, subst, ◌∙◌, inl, inr, arith}, lemmas.Bool.cases_eq}
+use Rattle.fst_types.specs.{Cascade.{Follows, RestsOnDisk, IsCascadeOf}, Closure.{one, join}, Dependencies.{DirectlyOn, DependsOn, Needs, IsLiveNumber, IsOnDisk}, Facts.SparseAreLawful}
+use Rattle.fst_types.specs.{Gates.IsOpenNumber, Gating.sealed, Grades.FollowsRule, Patches.{SealedGate, Patch, IsOn, IsLive, IsOpenGate}, declared.grade.Grade.Grade}
+use Rattle.fst_heads.specs.{Grading.{HasUnder, IsReturning, IsLeading, IsOpenBut, MayBeHard}, Rows.{IsTouched, IsSparseRow}}
+use Rattle.fst_types.proofs.{Alike.back_alike, Cascades.{kind_cases, place_decided, arrived}, Crash.same_number}
 use Rattle.fst_types.proofs.Finite.{Decided, decided_not, decided_both, In-from_Contains, Contains-from_In, search_in, search_list, lowest}
-use Rattle.fst_types.proofs.SealedSame.{Twin, back, forth, depends_same, need_was, need_is, reaches_same}
-use Rattle.fst_types.proofs.Sealing.{alike_sealed, sparse_sealed}
-use Rattle.fst_heads.specs.Grading.{HasUnder, IsReturning, IsLeading, IsOpenBut, MayBeHard}
-use Rattle.fst_heads.specs.Rows.{IsTouched, IsSparseRow}
-use Rattle.fst_walks.proofs.Holding.{live_up}
-use Rattle.fst_walks.proofs.NearRow.{under_weaker}
+use Rattle.fst_types.proofs.{SealedSame.{Twin, back, forth, depends_same, need_was, need_is, reaches_same}, Sealing.{alike_sealed, sparse_sealed}, SmallStates.only_in}
 use Rattle.fst_heads.proofs.Touching.{touch_parts, touch_whole}
-
-memory_live : (x : Place) → x ≡ place.Memory → x ≡ place.Disk → ⊥
-memory_live x a b = cc
+use Rattle.fst_walks.proofs.{Holding.live_up, NearRow.under_weaker}
+use Rattle.fst_graph.proofs.Wholes.{memory_live}
+use Rattle.fst_types.specs.declared.grade.Grade.TheVariants as grade
 
 module _ (old new : List Patch) (numbers g : ℕ) (H : SparseAreLawful old numbers) (gate : IsOpenNumber old g) (cascade : IsCascadeOf (map (sealed g) old) new) where
   K : SparseAreLawful new numbers
@@ -262,14 +245,11 @@ module _ (old new : List Patch) (numbers g : ℕ) (H : SparseAreLawful old numbe
       }
 
   -- so the row is the same, where the gate is named exactly if it stays live
-  only_one : (x y : ℕ) → Contains (x ∷ []) y → x ≡ y
-  only_one x y c = elim (In-from_Contains (x ∷ []) y c) [ inl e ↦ e | inr h ↦ absurd h ]
-
   pub row_named : (b at len : ℕ) (row : List ℕ) → IsLiveNumber new g → IsSparseRow old (g ∷ []) b at len row → IsSparseRow new (g ∷ []) b at len row
   row_named b at len row live l = record {
     rising = l.rising;
-    only = λ n c. elim (l.only n c) [ inl k ↦ inl (subst (IsLiveNumber new) (only_one g n k.1) live, k.1) | inr t ↦ inr (touched_is b at len n t) ];
-    named = λ n k c. l.named n (subst (IsLiveNumber old) (only_one g n c) gate_live) c;
+    only = λ n c. elim (l.only n c) [ inl k ↦ inl (subst (IsLiveNumber new) (only_in g n k.1) live, k.1) | inr t ↦ inr (touched_is b at len n t) ];
+    named = λ n k c. l.named n (subst (IsLiveNumber old) (only_in g n c) gate_live) c;
     above = λ n t. elim (l.above n (touched_was b at len n t)) [ inl c ↦ inl c | inr m ↦ inr (m.0, m.1, (depends m.0 n).1 m.2) ];
   }
     where
@@ -280,6 +260,6 @@ module _ (old new : List Patch) (numbers g : ℕ) (H : SparseAreLawful old numbe
   row_unnamed b at len row rests l = record {
     rising = l.rising;
     only = λ n c. elim (l.only n c) [ inl k ↦ absurd (In-from_Contains [] n k.1) | inr t ↦ inr (touched_is b at len n t) ];
-    named = λ n k c. absurd (rests (subst (IsLiveNumber new) (sym (only_one g n c)) k));
+    named = λ n k c. absurd (rests (subst (IsLiveNumber new) (sym (only_in g n c)) k));
     above = λ n t. elim (l.above n (touched_was b at len n t)) [ inl c ↦ inl c | inr m ↦ inr (m.0, m.1, (depends m.0 n).1 m.2) ];
   }

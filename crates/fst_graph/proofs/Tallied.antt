@@ -1,37 +1,20 @@
 -- What stands beside the patches after each call.
 use Rattle.std.proofs.Common.{◌≡◌, ◌<◌, ◌≤◌, ◌==◌, ◌&&◌, ℕ, ◌+◌, Bool, true, false, if◌then◌else◌, List, [], ◌∷◌, ◌++◌, length, map, filter, get_or, set, Contains, refl, sym, ap, subst, ◌∙◌, inl, inr, arith}
-use Rattle.std.specs.List.Sorted.{IsStrictlyIncreasing}
 use Rattle.std.proofs.Math.Bool.{and-false}
-use Rattle.std.proofs.lemmas.Bool.{cases_Bool, cases_eq}
-use Rattle.std.proofs.lemmas.List.{length-map, length_push}
-use Rattle.std.proofs.lemmas.List.Sums.{length-filter, count_by-le-length}
-use Rattle.fst_types.specs.declared.place.Place.TheVariants as place
-use Rattle.fst_types.specs.Dependencies.{DirectlyOn, IsLiveNumber}
-use Rattle.fst_types.specs.Facts.{SparseAreLawful}
-use Rattle.fst_types.specs.Gates.{IsOpenNumber}
-use Rattle.fst_types.specs.Gating.{gains}
-use Rattle.fst_types.specs.Lists.{Lists}
-use Rattle.fst_types.specs.Patches.{Patch, IsOn, OpenGate, SealedGate}
-use Rattle.fst_types.specs.Tests.{is_live, is_on, is_change_at}
-use Rattle.fst_types.specs.Writing.{launched}
-use Rattle.fst_types.proofs.Crash.{same_number}
-use Rattle.fst_types.proofs.Dropping.{filter_in}
-use Rattle.fst_types.proofs.Finite.{In, In-from_Contains, Contains-from_In}
-use Rattle.fst_heads.specs.declared.standing.Standing.{Standing}
-use Rattle.fst_heads.specs.Keeps.{Tallies}
-use Rattle.fst_heads.specs.Lists.{Entry, entries_on, is_live_on, AreListed}
-use Rattle.fst_heads.specs.Nodes.{Node, patches_in, at_number, linked_to, pending_in, AreLinked, AreGiven, AreDistinct, AreSettled}
-use Rattle.fst_heads.specs.Pendings.{sums_of}
-use Rattle.fst_heads.specs.Spreading.{IsSpreadOf, launches, lands, seals}
-use Rattle.fst_heads.specs.Standings.{AllStand, ready_on}
-use Rattle.fst_heads.proofs.Added.{with_node, new_node, with_names}
-use Rattle.fst_heads.proofs.AtNumber.{at_same, at_other}
-use Rattle.fst_walks.proofs.Linked.{patches_made, made_linked, made_given, made_distinct, named_linked, named_given, named_distinct, patches_named, both, both_nodes, gain_stands}
-use Rattle.fst_graph.proofs.Marking.{counted_settled, marked_settled}
-use Rattle.fst_heads.proofs.Placed.{KeepLinks, SameLinks, patch_in, linked_kept, given_kept, distinct_kept, links_mapped, entries_mapped, launched_stands, launched_links, patches_launched, patches_dropped, entries_dropped, number_if, dependencies_if}
-use Rattle.fst_graph.proofs.Settling.{made_settled, depends_settled, launched_settled, dropped_settled, ready_memory}
-use Rattle.fst_heads.proofs.Stands.{stand_gained, stand_launched, stand_dropped}
+use Rattle.std.proofs.lemmas.{Bool.{cases_Bool, cases_eq}, List.{length-map, length_push}, List.Sums.{length-filter, count_by-le-length}}
+use Rattle.std.specs.List.Sorted.{IsStrictlyIncreasing}
+use Rattle.fst_types.specs.{Dependencies.{DirectlyOn, IsLiveNumber}, Facts.SparseAreLawful, Gates.IsOpenNumber, Gating.gains, Lists.Lists}
+use Rattle.fst_types.specs.{Patches.{Patch, IsOn, OpenGate, SealedGate}, Tests.{is_live, is_on, is_change_at}, Writing.launched}
+use Rattle.fst_heads.specs.{Keeps.Tallies, Lists.{Entry, entries_on, is_live_on, AreListed}, Nodes.{Node, patches_in, at_number, linked_to, pending_in, AreLinked, AreGiven, AreDistinct, AreSettled}}
+use Rattle.fst_heads.specs.{Pendings.sums_of, Spreading.{IsSpreadOf, launches, lands, seals}, Standings.{AllStand, ready_on}, declared.standing.Standing.Standing}
+use Rattle.fst_types.proofs.{Crash.same_number, Dropping.filter_in, Finite.{In, In-from_Contains, Contains-from_In}}
+use Rattle.fst_heads.proofs.{Added.{with_node, new_node, with_names}, AtNumber.{at_same, at_other}}
 use Rattle.fst_heads.proofs.Carried.{length_spread, linked_spread, given_spread, distinct_spread, listed_spread, linked_sealed, distinct_sealed, linked_landed, distinct_landed}
+use Rattle.fst_heads.proofs.Placed.{KeepLinks, SameLinks, patch_in, linked_kept, given_kept, distinct_kept, links_mapped, entries_mapped, launched_stands, launched_links, patches_launched, patches_dropped, entries_dropped, number_if, dependencies_if}
+use Rattle.fst_heads.proofs.Stands.{stand_gained, stand_launched, stand_dropped}
+use Rattle.fst_walks.proofs.Linked.{patches_made, made_linked, made_given, made_distinct, named_linked, named_given, named_distinct, patches_named, both, both_nodes, gain_stands}
+use Rattle.fst_graph.proofs.{Marking.{counted_settled, marked_settled}, Settling.{made_settled, depends_settled, launched_settled, dropped_settled, ready_memory}}
+use Rattle.fst_types.specs.declared.place.Place.TheVariants as place
 
 pub tallies_from : (nodes : List Node) (numbers given blocks : ℕ) (lists : List (List Entry)) (standings : List Standing) (queue : List ℕ) (cap : ℕ)
     → SparseAreLawful (patches_in nodes) numbers → AreLinked nodes → AreGiven nodes given → AreDistinct nodes → AreSettled nodes blocks

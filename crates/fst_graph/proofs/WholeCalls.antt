@@ -1,36 +1,19 @@
 -- What each call of the patches with sparse rows is of those with whole rows.
-use Rattle.std.proofs.Common.{◌≡◌, ◌≢◌, ◌≤◌, ◌+◌, ◌==◌, ◌∷◌, [], ℕ, List, Option, Some, None, length, map, find, Contains, refl, sym, ap, subst, ◌∙◌, inl, inr, ◌↔◌}
-use Rattle.std.proofs.lemmas.Bool.{cases_Bool}
-use Rattle.std.proofs.lemmas.List.{length-map}
-use Rattle.fst_types.specs.declared.fault.Fault.{Fault}
-use Rattle.fst_types.specs.declared.grade.Grade.{Grade}
-use Rattle.fst_types.specs.declared.grade.Grade.TheVariants as grade
-use Rattle.fst_types.specs.declared.place.Place.{Place}
-use Rattle.fst_types.specs.declared.place.Place.TheVariants as place
-use Rattle.fst_types.specs.Dependencies.{IsBlocked, IsLiveNumber}
-use Rattle.fst_types.specs.Facts.{IsOnDiskWithAll}
-use Rattle.fst_types.specs.Gates.{IsGateNumber, IsOpenNumber, IsSealedNumber}
-use Rattle.fst_types.specs.Lists.{Lists}
-use Rattle.fst_types.specs.Looks.{IsPick, place_among, place_of}
-use Rattle.fst_types.specs.Making.{fresh}
-use Rattle.fst_types.specs.Order.{depend_order, seal_order, NamesAbove}
-use Rattle.fst_types.specs.Overlaps.{IsOverlapped, Overlaps}
-use Rattle.fst_types.specs.Patches.{Patch, Change, IsHard, IsLive, IsOn, IsOpenGate}
-use Rattle.fst_types.specs.Refusals.{IsFirst, NoneHolds}
-use Rattle.fst_types.specs.Writable.{InWritableSet, IsWritableSet, HasReady, IsHeld, IsLeastHeld, IsWritable, IsLeastWritable}
-use Rattle.std.proofs.lemmas.List.Elements.{Contains-push_cases}
-use Rattle.fst_types.specs.Grouping.{GateIsSealedIfOpen}
-use Rattle.fst_types.proofs.Alike.{back_alike, open_back}
-use Rattle.fst_types.proofs.Loosened.{loosened}
-use Rattle.fst_types.proofs.Sealing.{alike_sealed}
+use Rattle.std.proofs.Common.{◌≡◌, ◌≢◌, ◌≤◌, ◌+◌, ◌==◌, ◌∷◌, [], ℕ, List, Option, Some, None, length, map, Contains, refl, sym, ap, subst, ◌∙◌, inl, inr, ◌↔◌}
+use Rattle.std.proofs.lemmas.{Bool.cases_Bool, List.length-map, List.Elements.Contains-push_cases}
+use Rattle.fst_types.specs.{Dependencies.{IsBlocked, IsLiveNumber}, Facts.IsOnDiskWithAll, Gates.{IsGateNumber, IsOpenNumber, IsSealedNumber}, Grouping.GateIsSealedIfOpen, Looks.{IsPick, place_among, place_of}}
+use Rattle.fst_types.specs.{Making.fresh, Order.{depend_order, seal_order, NamesAbove}, Overlaps.{IsOverlapped, Overlaps}, Patches.{Patch, Change, IsHard, IsLive, IsOn, IsOpenGate}}
+use Rattle.fst_types.specs.{Refusals.{IsFirst, NoneHolds}, Writable.{InWritableSet, IsWritableSet, HasReady, IsHeld, IsLeastHeld, IsWritable}, declared.fault.Fault.Fault, declared.grade.Grade.Grade}
 use Rattle.fst_graph.specs.Grouping.{AddsPair, SealsIfOpen}
 use Rattle.fst_graph.specs.Known.{Known, unprepared, AddsChange, AddsEmpty, AddsGate, DependsGate, Foresees, Forgets, IsStuckByGates, LandsBlock, Launches, MayLaunch, Refuses, SealsGate}
-use Rattle.fst_graph.specs.Membering.{ArePaired, Foretells, GainsMember, OverlapReaches, member_order}
-use Rattle.fst_graph.specs.Rows.{AreWhole, whole, whole_known, with_row}
+use Rattle.fst_graph.specs.{Membering.{ArePaired, Foretells, GainsMember, OverlapReaches, member_order}, Rows.{AreWhole, whole, whole_known, with_row}}
 use Rattle.fst_graph.specs.Sparse.{AddsSparse, ForeseesSparse, ForetellsSparse, GainsSparse}
-use Rattle.fst_graph.proofs.Wholes.{memory_live, is, was, each_whole, on_disk, live_number, open_number, sealed_number, memory_is, memory_was, depends_up, depends_down, blocked, set_is, set_back, set_was}
-use Rattle.fst_graph.proofs.WholeRows.{live_or_disk, direct_gate, above_same, gated_over, gated_is, emptied_is, emptied_over, sealed_is, sealed_over, begun_is, begun_over, gains_is, gains_over, launched_is, launched_over, landed_is, landed_over, forgotten_is, forgotten_over, grouped_is}
+use Rattle.fst_types.proofs.{Alike.{back_alike, open_back}, Loosened.loosened, Sealing.alike_sealed}
 use Rattle.fst_graph.proofs.WholeMember.{changed_is, member_is, foretold_is}
+use Rattle.fst_graph.proofs.WholeRows.{live_or_disk, direct_gate, gated_over, gated_is, emptied_is, emptied_over, sealed_is, sealed_over, begun_is, begun_over, gains_is, gains_over, launched_is, launched_over, landed_is, landed_over, forgotten_is, forgotten_over, grouped_is}
+use Rattle.fst_graph.proofs.Wholes.{memory_live, is, was, each_whole, on_disk, live_number, open_number, sealed_number, memory_is, memory_was, depends_up, depends_down, blocked, set_is, set_back, set_was}
+use Rattle.fst_types.specs.declared.grade.Grade.TheVariants as grade
+use Rattle.fst_types.specs.declared.place.Place.TheVariants as place
 
 -- each number has its place
 place_same : (rows : List (ℕ × List ℕ)) (n : ℕ) (xs : List Patch) → place_among (map (whole rows) xs) n ≡ place_among xs n
@@ -127,78 +110,38 @@ module _ (rows : List (ℕ × List ℕ)) (p : Known) (W : AreWhole rows p.heads 
   seal_clear g c = (c.0, (λ k. c.1.0 (λ t. k (gate_is g t)), (λ s. c.1.1.0 ((sealed_number rows T g).1 s), tt)))
 
   pub seal_first : (g : ℕ) (f : Fault) → IsFirst (seal_order T n g) f → IsFirst (seal_order F n g) f
-  seal_first g f x = elim x [
-    | inl a ↦ inl a
-    | inr a ↦ inr (
-      a.0,
-      elim a.1 [
-        | inl b ↦ inl (λ t. b.0 (gate_was g t), b.1)
-        | inr b ↦ inr (
-          λ k. b.0 (λ t. k (gate_is g t)),
-          elim b.1 [
-            | inl c ↦ inl ((sealed_number rows T g).0 c.0, c.1)
-            | inr c ↦ inr (λ s. c.0 ((sealed_number rows T g).1 s), c.1)
-          ],
-        )
-      ],
-    )
-  ]
+  seal_first g f (inl a) = inl a
+  seal_first g f (inr (a, inl b)) = inr (a, inl (λ t. b.0 (gate_was g t), b.1))
+  seal_first g f (inr (a, inr (b, inl c))) = inr (a, inr (λ k. b (λ t. k (gate_is g t)), inl ((sealed_number rows T g).0 c.0, c.1)))
+  seal_first g f (inr (a, inr (b, inr (c, d)))) = inr (a, inr (λ k. b (λ t. k (gate_is g t)), inr (λ s. c ((sealed_number rows T g).1 s), d)))
 
   above_up : (g : ℕ) (on : List ℕ) → NamesAbove T g on → NamesAbove F g on
   above_up g on a = (a.0, a.1, elim a.2 [ inl e ↦ inl e | inr d ↦ inr (depends_up rows T n W.sparse D a.0 g d) ])
 
   -- what is neither unknown, nor no gate, nor sealed is live
   above_down : (g : ℕ) (on : List ℕ) → ((IsGateNumber T g → ⊥) → ⊥) → (IsSealedNumber T g → ⊥) → NamesAbove F g on → NamesAbove T g on
-  above_down g on gate shut a = (
-    a.0,
-    a.1,
-    elim a.2 [
-      | inl e ↦ inl e
-      | inr d ↦ elim (live_or_disk T g) [
-        | inl l ↦ inr (depends_down rows T n W.sparse D a.0 g d l)
-        | inr disk ↦ absurd (gate (λ k. elim k [
-          | inl o ↦
-              let u = (open_number rows T g).0 o in
-              memory_live u.patch.place (D.open_gates u.patch u.head u.is_open) ((on_disk rows T g).0 disk u.patch u.head u.numbered)
-          | inr s ↦ shut s
-        ]))
-      ]
-    ],
-  )
+  above_down g on gate shut (a, c, inl e) = (a, c, inl e)
+  above_down g on gate shut (a, c, inr d) = elim (live_or_disk T g) [
+    | inl l ↦ (a, c, inr (depends_down rows T n W.sparse D a g d l))
+    | inr disk ↦ absurd (gate (λ k. elim k [
+      | inl o ↦ let u = (open_number rows T g).0 o in memory_live u.patch.place (D.open_gates u.patch u.head u.is_open) ((on_disk rows T g).0 disk u.patch u.head u.numbered)
+      | inr s ↦ shut s
+    ]))
+  ]
 
   depend_clear : (g : ℕ) (on : List ℕ) → NoneHolds (depend_order T n g on) → NoneHolds (depend_order F n g on)
   depend_clear g on c =
       (c.0, (λ k. c.1.0 (λ t. k (gate_is g t)), (λ s. c.1.1.0 ((sealed_number rows T g).1 s), (c.1.1.1.0, (c.1.1.1.1.0, (λ a. c.1.1.1.1.1.0 (above_down g on c.1.0 c.1.1.0 a), tt))))))
 
   depend_first : (g : ℕ) (on : List ℕ) (f : Fault) → IsFirst (depend_order T n g on) f → IsFirst (depend_order F n g on) f
-  depend_first g on f x = elim x [
-    | inl a ↦ inl a
-    | inr a ↦ inr (
-      a.0,
-      elim a.1 [
-        | inl b ↦ inl (λ t. b.0 (gate_was g t), b.1)
-        | inr b ↦ inr (
-          λ k. b.0 (λ t. k (gate_is g t)),
-          elim b.1 [
-            | inl c ↦ inl ((sealed_number rows T g).0 c.0, c.1)
-            | inr c ↦ inr (
-              λ s. c.0 ((sealed_number rows T g).1 s),
-              elim c.1 [
-                | inl d ↦ inl d
-                | inr d ↦ inr (
-                  d.0,
-                  elim d.1 [
-                    | inl e ↦ inl e
-                    | inr e ↦ inr (e.0, elim e.1 [ inl h ↦ inl (above_up g on h.0, h.1) | inr h ↦ absurd h.1 ])
-                  ],
-                )
-              ],
-            )
-          ],
-        )
-      ],
-    )
-  ]
+  depend_first g on f (inl a) = inl a
+  depend_first g on f (inr (a, inl b)) = inr (a, inl (λ t. b.0 (gate_was g t), b.1))
+  depend_first g on f (inr (a, inr (b, inl c))) = inr (a, inr (λ k. b (λ t. k (gate_is g t)), inl ((sealed_number rows T g).0 c.0, c.1)))
+  depend_first g on f (inr (a, inr (b, inr (c, inl d)))) = inr (a, inr (λ k. b (λ t. k (gate_is g t)), inr (λ s. c ((sealed_number rows T g).1 s), inl d)))
+  depend_first g on f (inr (a, inr (b, inr (c, inr (d, inl e))))) = inr (a, inr (λ k. b (λ t. k (gate_is g t)), inr (λ s. c ((sealed_number rows T g).1 s), inr (d, inl e))))
+  depend_first g on f (inr (a, inr (b, inr (c, inr (d, inr (e, inl h)))))) =
+      inr (a, inr (λ k. b (λ t. k (gate_is g t)), inr (λ s. c ((sealed_number rows T g).1 s), inr (d, inr (e, inl (above_up g on h.0, h.1))))))
+  depend_first g on f (inr (a, inr (b, inr (c, inr (d, inr (e, inr h)))))) = absurd h.1
 
   pub depend_refuses : (g : ℕ) (on : List ℕ) (f : Fault) → Refuses (depend_order T n g on) f → Refuses (depend_order F n g on) f
   depend_refuses g on f r = elim r [ inl x ↦ inl (depend_first g on f x) | inr m ↦ inr (depend_clear g on m.0, m.1) ]

@@ -1,30 +1,12 @@
 -- A new change of a group with a sparse row is one with its whole row; and what it would be is foretold for both.
-use Rattle.std.proofs.Common.{◌≡◌, ◌⊎◌, ℕ, ◌==◌, ◌+◌, List, [], ◌∷◌, ◌++◌, map, Contains, Some, find, unwrap_or, option_map, refl, sym, ap, subst, ◌∙◌, inl, inr, arith}
-use Rattle.std.proofs.lemmas.Bool.{cases_Bool}
-use Rattle.fst_types.specs.declared.grade.Grade.{Grade}
-use Rattle.fst_types.specs.Bytes.{content_of}
-use Rattle.fst_types.specs.Cascade.{IsCascadeOf}
-use Rattle.fst_types.specs.Events.{MadeChange}
-use Rattle.fst_types.specs.Facts.{HeadsAreLawful}
-use Rattle.fst_types.specs.Gates.{IsOpenNumber}
-use Rattle.fst_types.specs.Gating.{sealed, GateIsSealed}
-use Rattle.fst_types.specs.Grouping.{GateIsSealedIfOpen, MemberIsMade}
-use Rattle.fst_types.specs.Making.{ChangeIsMade}
-use Rattle.fst_types.specs.Patches.{Kind, Change, Empty, OpenGate, SealedGate, Patch, IsRising}
-use Rattle.fst_types.proofs.Crash.{same_number}
-use Rattle.fst_types.proofs.Finite.{In, Contains-from_In, In-from_Contains}
-use Rattle.fst_types.proofs.Loosened.{loosened}
-use Rattle.fst_types.proofs.OneChange.{changes_fixed}
-use Rattle.fst_types.proofs.OneList.{cascade_same}
-use Rattle.fst_types.proofs.Sealing.{heads_sealed}
+use Rattle.std.proofs.{Common.{◌≡◌, ℕ, ◌==◌, List, [], ◌∷◌, ◌++◌, map, Contains, find, unwrap_or, option_map, refl, sym, ap, subst, ◌∙◌, inl, inr}, lemmas.Bool.cases_Bool}
+use Rattle.fst_types.specs.{Bytes.content_of, Cascade.IsCascadeOf, Events.MadeChange, Facts.HeadsAreLawful, Gating.{sealed, GateIsSealed}, Grouping.{GateIsSealedIfOpen, MemberIsMade}}
+use Rattle.fst_types.specs.{Making.ChangeIsMade, Patches.{Kind, Change, Empty, OpenGate, SealedGate, Patch, IsRising}, declared.grade.Grade.Grade}
+use Rattle.fst_graph.specs.{Rows.{row_of_kind, whole, whole_row, AreWhole, with_row}, Sparse.{SparseChangeIsMade, SparseMemberIsMade}}
+use Rattle.fst_types.proofs.{Crash.same_number, Finite.{In, Contains-from_In}, Loosened.loosened, OneChange.changes_fixed, OneList.cascade_same, Sealing.heads_sealed}
 use Rattle.fst_heads.proofs.Slots.{find_patch}
-use Rattle.fst_graph.specs.Rows.{row_of_kind, whole, whole_row, AreWhole, with_row}
-use Rattle.fst_graph.specs.Sparse.{SparseChangeIsMade, SparseMemberIsMade}
-use Rattle.fst_graph.proofs.Wholes.{open_number}
-use Rattle.fst_graph.proofs.WholeSteps.{cascade_whole, swap_sealed}
-use Rattle.fst_graph.proofs.WholeRows.{sealed_is, sealed_over, begun_is, begun_over, gains_is, gains_over}
-use Rattle.fst_graph.proofs.WholeChange.{change_is, change_over}
-use Rattle.fst_graph.proofs.WholeRow.{rising_whole, lawful_row, row_pushed, row_gained}
+use Rattle.fst_graph.proofs.WholeChange.{change_is, change_over, rising_whole, lawful_row, row_pushed, row_gained}
+use Rattle.fst_graph.proofs.{WholeRows.{sealed_is, sealed_over, begun_is, begun_over, gains_is, gains_over}, Wholes.{cascade_whole, swap_sealed, open_number}}
 
 -- the rows that are kept by these patches themselves
 abbrev pub own_rows : List Patch → List (ℕ × List ℕ)

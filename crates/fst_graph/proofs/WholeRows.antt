@@ -1,38 +1,19 @@
 -- Each step over patches with sparse rows is one over the same with whole rows, of which these still keep a part.
-use Rattle.std.proofs.Common.{◌≡◌, ◌⊎◌, ◌↔◌, ℕ, ◌==◌, ◌+◌, ◌≤◌, true, not, Some, List, [], ◌∷◌, ◌++◌, map, filter, Contains, refl, sym, ap, subst, ◌∙◌, inl, inr, arith}
-use Rattle.std.proofs.lemmas.Bool.{cases_Bool, cases_eq, eqb-true}
-use Rattle.std.proofs.lemmas.List.Elements.{Contains-append_left}
-use Rattle.fst_types.specs.declared.place.Place.{Place}
-use Rattle.fst_types.specs.declared.place.Place.TheVariants as place
-use Rattle.fst_types.specs.Cascade.{IsCascadeOf}
-use Rattle.fst_types.specs.Closure.{Closure, one, join}
-use Rattle.fst_types.specs.Dependencies.{DirectlyOn, DependsOn, IsLiveNumber, IsOnDisk}
-use Rattle.fst_types.specs.Facts.{HeadsAreLawful, IsOnDiskWithAll, IsTied}
-use Rattle.fst_types.specs.Forgetting.{DiskIsForgotten}
-use Rattle.fst_types.specs.Gates.{IsOpenNumber}
-use Rattle.fst_types.specs.Gating.{gains, sealed, GateGains, GateIsSealed}
-use Rattle.fst_types.specs.Grouping.{GateIsSealedIfOpen, GroupIsMade}
-use Rattle.fst_types.specs.Lists.{Lists}
-use Rattle.fst_types.specs.Making.{fresh, EmptyIsMade, GateIsMade}
-use Rattle.fst_types.specs.Order.{NamesAbove}
-use Rattle.fst_types.specs.Patches.{Kind, Empty, OpenGate, SealedGate, Patch, IsOn, IsLive, block_of_kind}
-use Rattle.fst_types.specs.Tests.{is_at, is_live, is_among, is_change_at}
-use Rattle.fst_types.specs.Writable.{IsWritable, IsWritableSet}
-use Rattle.fst_types.specs.Writing.{launched, landed, WriteIsLaunched, WriteIsLanded}
-use Rattle.fst_types.proofs.Cascades.{place_decided}
-use Rattle.fst_types.proofs.Crash.{same_number}
-use Rattle.fst_types.proofs.Dropping.{filter_in, in_filter, heads_dropped}
-use Rattle.fst_types.proofs.Finite.{Decided, decided_both, decided_not, In-from_Contains, Contains-from_In, search_list}
+use Rattle.std.proofs.Common.{◌≡◌, ◌⊎◌, ◌↔◌, ℕ, ◌==◌, ◌+◌, ◌≤◌, Some, List, [], ◌∷◌, ◌++◌, map, filter, Contains, refl, sym, ap, subst, ◌∙◌, inl, inr, arith}
+use Rattle.std.proofs.lemmas.{Bool.{cases_Bool, cases_eq, eqb-true}, List.Elements.Contains-append_left}
+use Rattle.fst_types.specs.{Cascade.IsCascadeOf, Closure.{one, join}, Dependencies.{DirectlyOn, DependsOn, IsLiveNumber, IsOnDisk}, Facts.{HeadsAreLawful, IsOnDiskWithAll}}
+use Rattle.fst_types.specs.{Forgetting.DiskIsForgotten, Gates.IsOpenNumber, Gating.{gains, sealed, GateGains, GateIsSealed}, Grouping.{GateIsSealedIfOpen, GroupIsMade}}
+use Rattle.fst_types.specs.{Making.{fresh, EmptyIsMade, GateIsMade}, Order.NamesAbove, Patches.{Empty, OpenGate, SealedGate, Patch, IsLive, block_of_kind}}
+use Rattle.fst_types.specs.{Tests.{is_at, is_live, is_among, is_change_at}, Writable.{IsWritable, IsWritableSet}, Writing.{launched, landed, WriteIsLaunched, WriteIsLanded}}
+use Rattle.fst_graph.specs.Rows.{whole, AreWhole}
+use Rattle.fst_types.proofs.{Cascades.place_decided, Crash.same_number, Dropping.{filter_in, in_filter, heads_dropped}, Finite.{decided_both, decided_not, In-from_Contains, Contains-from_In, search_list}}
 use Rattle.fst_types.proofs.Heads.{heads_gated, heads_emptied, heads_depended}
-use Rattle.fst_types.proofs.Heirs.{NoneShut, Heirs, heirs_self, heirs_pushed, heirs_cascade, heirs_gained, heirs_sealed, heirs_launched, heirs_landed, passes}
-use Rattle.fst_types.proofs.Issuing.{heads_launched}
-use Rattle.fst_types.proofs.Landing.{heads_landed}
+use Rattle.fst_types.proofs.{Heirs.{NoneShut, Heirs, heirs_pushed, heirs_cascade, heirs_gained, heirs_sealed, heirs_launched, heirs_landed, passes}, Issuing.heads_launched, Landing.heads_landed}
 use Rattle.fst_types.proofs.Sealing.{heads_sealed}
-use Rattle.fst_heads.proofs.CountsAs.{count_map}
+use Rattle.fst_heads.proofs.{CountsAs.count_map, Forgetting.{live_place_of, not_disk}}
 use Rattle.fst_walks.proofs.Holding.{live_up}
-use Rattle.fst_graph.specs.Rows.{whole, IsSparseOf, AreWhole}
-use Rattle.fst_graph.proofs.Wholes.{memory_live, is, was, each_whole, on_disk, live_number, open_number, depends_up, depends_down}
-use Rattle.fst_graph.proofs.WholeSteps.{whole_open, open_other, IsKept, kept_self, AreKept, kept_then, kept_map, kept_cascade, kept_pushed, sparse_kept, cascade_whole, swap_landed, swap_launched, swap_sealed, swap_gains, swap_filter, swap_pushed}
+use Rattle.fst_graph.proofs.Wholes.{whole_open, open_other, IsKept, kept_self, AreKept, kept_then, kept_map, kept_cascade, kept_pushed, sparse_kept, cascade_whole, swap_landed, swap_launched, swap_sealed, swap_gains, swap_filter, swap_pushed, memory_live, is, was, live_number, open_number, depends_up, depends_down}
+use Rattle.fst_types.specs.declared.place.Place.TheVariants as place
 
 -- where no patch with the number is live, it is on disk
 pub live_or_disk : (heads : List Patch) (n : ℕ) → IsLiveNumber heads n ⊎ IsOnDisk heads n
@@ -246,18 +227,10 @@ module _ (rows : List (ℕ × List ℕ)) (T : List Patch) (numbers : ℕ) (W : A
       stood : (p : Patch) → Contains (filter is_live T) p → Contains T p × IsLive p
       stood p h =
           let k = filter_in is_live T p (In-from_Contains (filter is_live T) p h) in
-          (Contains-from_In T p k.0, is_live_from p.place k.1)
-        where
-          is_live_from : (x : Place) → not (is_at x place.Disk) ≡ true → x ≡ place.Disk → ⊥
-          is_live_from x e d = let k : not (is_at place.Disk place.Disk) ≡ true = subst (λ y. not (is_at y place.Disk) ≡ true) d e in cc
+          (Contains-from_In T p k.0, not_disk p.place k.1)
 
       stays : (p : Patch) → Contains T p → IsLive p → Contains (filter is_live T) p
-      stays p h l = Contains-from_In (filter is_live T) p (in_filter is_live T p (In-from_Contains T p h) (is_live_to p.place l))
-        where
-          is_live_to : (x : Place) → (x ≡ place.Disk → ⊥) → not (is_at x place.Disk) ≡ true
-          is_live_to place.Memory l = refl
-          is_live_to place.Flight l = refl
-          is_live_to place.Disk l = absurd (l refl)
+      stays p h l = Contains-from_In (filter is_live T) p (in_filter is_live T p (In-from_Contains T p h) (live_place_of p.place l))
 
       lives : (n : ℕ) → IsLiveNumber (filter is_live T) n → IsLiveNumber T n
       lives n l = record { patch = l.patch; head = (stood l.patch l.head).0; numbered = l.numbered; live = l.live }

@@ -1,15 +1,11 @@
 -- What the calls of groups make of what a graph knows.
 use Rattle.std.specs.Prelude.{◌≡◌, ◌+◌, ◌≤◌, ◌⊎◌, ℕ, length, List, [], ◌∷◌, None}
-use Rattle.fst_types.specs.declared.grade.Grade.{Grade}
+use Rattle.fst_types.specs.Grouping.{GateIsSealedIfOpen, GroupIsMade, GroupIsPutAfter, MemberIsMade, GroupIsClosed, with_new, put_after, with_member, with_closed}
+use Rattle.fst_types.specs.{Groups.{Group, IsGroup, IsGroupNumber}, Limits.{max_heads, max_number}, Order.{IsClosedGroup, HasMember, group_new_order, group_after_order, group_patch_order, group_close_order}}
+use Rattle.fst_types.specs.{Patches.Patch, Refusals.{Rule, ◌when◌, NoneHolds}, declared.grade.Grade.Grade}
+use Rattle.fst_graph.specs.Known.{Known}
 use Rattle.fst_types.specs.declared.fault.What.TheVariants as what
 use Rattle.fst_types.specs.declared.fault.Fault.TheVariants as fault
-use Rattle.fst_types.specs.Groups.{Group, IsGroup, IsGroupNumber}
-use Rattle.fst_types.specs.Grouping.{GateIsSealedIfOpen, GroupIsMade, GroupIsPutAfter, MemberIsMade, GroupIsClosed, with_new, put_after, with_member, with_closed}
-use Rattle.fst_types.specs.Limits.{max_heads, max_number}
-use Rattle.fst_types.specs.Patches.{Patch}
-use Rattle.fst_types.specs.Refusals.{Rule, ◌when◌, NoneHolds}
-use Rattle.fst_types.specs.Order.{IsClosedGroup, HasMember, group_new_order, group_after_order, group_patch_order, group_close_order}
-use Rattle.fst_graph.specs.Known.{Known}
 
 -- gate g is sealed, if it is open
 pub record SealsIfOpen (old : Known) (g : ℕ) (new : Known) : Type 0 where

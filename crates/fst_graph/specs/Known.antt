@@ -1,20 +1,10 @@
 -- What a graph knows, and what its calls make of it: a row of the definitions among the heads, where no rule refuses, and of the rest what is said here.
 use Rattle.std.specs.Prelude.{◌≡◌, ◌≢◌, ◌⊎◌, ℕ, List, [], ◌∷◌, Option, Some, None, Contains}
-use Rattle.fst_types.specs.declared.fault.Fault.{Fault}
+use Rattle.fst_types.specs.{Dependencies.IsBlocked, Forgetting.DiskIsForgotten, Gating.{GateGains, GateIsSealed}, Groups.{Group, IsGroupGate}, Making.{ChangeIsMade, EmptyIsMade, GateIsMade}}
+use Rattle.fst_types.specs.{Order.{room_order, make_order, seal_order, depend_order}, Patches.Patch, Refusals.{Rule, ◌when◌, IsFirst, NoneHolds}, Writable.{IsInMemoryOn, IsWritable, IsWritableSet}}
+use Rattle.fst_types.specs.{Writing.{WriteIsLaunched, WriteIsLanded}, declared.fault.Fault.Fault, declared.grade.Grade.Grade, declared.place.Place.Place}
 use Rattle.fst_types.specs.declared.fault.Fault.TheVariants as fault
-use Rattle.fst_types.specs.declared.place.Place.{Place}
 use Rattle.fst_types.specs.declared.place.Place.TheVariants as place
-use Rattle.fst_types.specs.declared.grade.Grade.{Grade}
-use Rattle.fst_types.specs.Patches.{Patch}
-use Rattle.fst_types.specs.Dependencies.{IsBlocked}
-use Rattle.fst_types.specs.Groups.{Group, IsGroupGate}
-use Rattle.fst_types.specs.Refusals.{Rule, ◌when◌, IsFirst, NoneHolds}
-use Rattle.fst_types.specs.Order.{room_order, make_order, seal_order, depend_order}
-use Rattle.fst_types.specs.Making.{ChangeIsMade, EmptyIsMade, GateIsMade}
-use Rattle.fst_types.specs.Gating.{GateGains, GateIsSealed}
-use Rattle.fst_types.specs.Writing.{WriteIsLaunched, WriteIsLanded}
-use Rattle.fst_types.specs.Forgetting.{DiskIsForgotten}
-use Rattle.fst_types.specs.Writable.{IsInMemoryOn, IsWritable, IsWritableSet}
 
 -- a change that there is room for: its block, its bytes and the names given, the number and the grade that it will have, and the group for which it is made, if there is one
 pub record Prepared : Type 0 where

@@ -1,18 +1,10 @@
 -- A new change of a group, of which the patches see the two gates.
 use Rattle.std.specs.Prelude.{◌≡◌, ◌+◌, ◌∷◌, [], ℕ, List, None}
-use Rattle.fst_types.specs.declared.grade.Grade.{Grade}
+use Rattle.fst_types.specs.{Dependencies.DependsOn, Facts.IsTied, Gates.{IsGiven, IsOpenNumber}, Grouping.{GateIsSealedIfOpen, MemberIsMade}, Making.fresh}
+use Rattle.fst_types.specs.{Order.room_order, Overlaps.IsOverlapped, Patches.{Change, Patch}, Refusals.{Rule, ◌when◌, NoneHolds}, declared.grade.Grade.Grade}
+use Rattle.fst_graph.specs.Known.{Known}
 use Rattle.fst_types.specs.declared.grade.Grade.TheVariants as grade
 use Rattle.fst_types.specs.declared.fault.Fault.TheVariants as fault
-use Rattle.fst_types.specs.Dependencies.{DependsOn}
-use Rattle.fst_types.specs.Facts.{IsTied}
-use Rattle.fst_types.specs.Gates.{IsGiven, IsOpenNumber}
-use Rattle.fst_types.specs.Grouping.{GateIsSealedIfOpen, MemberIsMade}
-use Rattle.fst_types.specs.Making.{fresh}
-use Rattle.fst_types.specs.Order.{room_order}
-use Rattle.fst_types.specs.Overlaps.{IsOverlapped}
-use Rattle.fst_types.specs.Patches.{Change, Patch}
-use Rattle.fst_types.specs.Refusals.{Rule, ◌when◌, NoneHolds}
-use Rattle.fst_graph.specs.Known.{Known}
 
 -- a live change that shares one of these bytes of block b depends on the tail
 abbrev pub OverlapReaches : List Patch → ℕ → (b at len : ℕ) → Type 0

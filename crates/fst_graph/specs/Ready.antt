@@ -1,19 +1,8 @@
 -- What is kept of a change that there is room for.
 use Rattle.std.specs.Prelude.{◌≡◌, ◌<◌, ◌+◌, ◌++◌, ◌∷◌, [], ℕ, List, Option, Some, None, IfSome, option_map}
-use Rattle.fst_types.specs.Patches.{Change, Patch}
-use Rattle.fst_types.specs.Grades.{IsGraded}
-use Rattle.fst_types.specs.Making.{fresh}
-use Rattle.fst_types.specs.Order.{make_order}
-use Rattle.fst_types.specs.Refusals.{NoneHolds}
-use Rattle.fst_heads.specs.declared.head.Head.{Head}
-use Rattle.fst_graph.specs.declared.prepared.Gates.{Gates}
-use Rattle.fst_graph.specs.declared.prepared.Prepared.{Prepared as Stored}
-use Rattle.fst_heads.specs.Frames.{HasRoomBelow}
-use Rattle.fst_graph.specs.Known.{Prepared}
-use Rattle.fst_heads.specs.Names.{numbers_of}
-use Rattle.fst_graph.specs.Membering.{ArePaired, BeginsAs, member_order}
-use Rattle.fst_heads.specs.Nodes.{HasRoomAbove}
-use Rattle.fst_heads.specs.Rows.{IsSparseRow}
+use Rattle.fst_types.specs.{Grades.IsGraded, Making.fresh, Order.make_order, Patches.{Change, Patch}, Refusals.NoneHolds}
+use Rattle.fst_heads.specs.{Frames.HasRoomBelow, Names.numbers_of, Nodes.HasRoomAbove, Rows.IsSparseRow, declared.head.Head.Head}
+use Rattle.fst_graph.specs.{Known.Prepared, Membering.{ArePaired, BeginsAs, member_order}, declared.prepared.Gates.Gates, declared.prepared.Prepared.Prepared as Stored}
 
 -- as contracts see it, its number being the next one
 abbrev pub prepared_of : ℕ → Stored → Prepared

@@ -1,10 +1,6 @@
 -- The whole rows of changes whose heads keep only a part of them, so that the rest is below that part.
 use Rattle.std.specs.Prelude.{◌&&◌, ◌||◌, ◌≤◌, ◌++◌, ◌∷◌, [], nat_lt, ℕ, List, Contains, map, filter}
-use Rattle.fst_types.specs.Bytes.{content_of}
-use Rattle.fst_types.specs.Dependencies.{DependsOn, IsLiveNumber}
-use Rattle.fst_types.specs.Facts.{HeadsAreLawful}
-use Rattle.fst_types.specs.Patches.{Kind, Change, Empty, OpenGate, SealedGate, Patch}
-use Rattle.fst_types.specs.Tests.{is_among, is_live}
+use Rattle.fst_types.specs.{Bytes.content_of, Dependencies.{DependsOn, IsLiveNumber}, Facts.HeadsAreLawful, Patches.{Kind, Change, Empty, OpenGate, SealedGate, Patch}, Tests.{is_among, is_live}}
 use Rattle.fst_heads.specs.Rows.{touches}
 use Rattle.fst_graph.specs.Known.{Known}
 

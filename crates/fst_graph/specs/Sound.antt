@@ -1,17 +1,10 @@
 -- What the patches keep of their fields between two calls.
 use Rattle.std.specs.Prelude.{ℕ, slice_index_or, Option, IfSome, length, map, vec_len, vec_capacity}
 use Rattle.std.specs.Global.{Vec}
-use Rattle.fst_heads.specs.declared.head.Head.{Head}
-use Rattle.fst_heads.specs.declared.lists.Listed.{Listed}
-use Rattle.fst_heads.specs.declared.standing.Standing.{Standing}
-use Rattle.fst_heads.specs.Covers.{AreCovered, Covering, HasBytes}
-use Rattle.fst_heads.specs.Heads.{patches_of}
-use Rattle.fst_heads.specs.Keeps.{Beside, Keeps, Tallies}
-use Rattle.fst_heads.specs.Lists.{entries_of, HasRoomInList}
-use Rattle.fst_heads.specs.Nodes.{nodes_of}
+use Rattle.fst_heads.specs.{Covers.{AreCovered, Covering, HasBytes}, Heads.patches_of, Keeps.{Beside, Keeps, Tallies}, Lists.{entries_of, HasRoomInList}}
+use Rattle.fst_heads.specs.{Nodes.nodes_of, declared.head.Head.Head, declared.lists.Listed.Listed, declared.standing.Standing.Standing}
 use Rattle.fst_walks.specs.declared.block_walk.BlockWalk.{BlockWalk}
-use Rattle.fst_graph.specs.declared.prepared.Prepared.{Prepared as Stored}
-use Rattle.fst_graph.specs.Ready.{MayBePut, HasPlaces, HasRoomAround}
+use Rattle.fst_graph.specs.{Ready.{MayBePut, HasPlaces, HasRoomAround}, declared.prepared.Prepared.Prepared as Stored}
 
 -- a change that is prepared is not refused, and whatever it is put into has a free place for it
 pub record IsPrepared (heads : Vec Head) (walks : BlockWalk) (lists : Vec (Vec Listed)) (covers : Vec Covering) (queue : Vec ℕ) (numbers blocks : ℕ) (p : Stored) : Type 0 where

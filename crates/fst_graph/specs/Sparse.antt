@@ -1,16 +1,8 @@
 -- New changes of which not the whole row is kept, but so much of it that the rest is below what is kept.
 use Rattle.std.specs.Prelude.{◌≡◌, ◌+◌, ◌++◌, ◌∷◌, [], ℕ, List, None}
-use Rattle.fst_types.specs.declared.grade.Grade.{Grade}
-use Rattle.fst_types.specs.Grades.{IsGraded}
-use Rattle.fst_types.specs.Grouping.{GateIsSealedIfOpen}
-use Rattle.fst_types.specs.Gating.{GateGains}
-use Rattle.fst_types.specs.Making.{fresh}
-use Rattle.fst_types.specs.Order.{make_order}
-use Rattle.fst_types.specs.Patches.{Change, Patch}
-use Rattle.fst_types.specs.Refusals.{NoneHolds}
+use Rattle.fst_types.specs.{Gating.GateGains, Grades.IsGraded, Grouping.GateIsSealedIfOpen, Making.fresh, Order.make_order, Patches.{Change, Patch}, Refusals.NoneHolds, declared.grade.Grade.Grade}
 use Rattle.fst_heads.specs.Rows.{IsSparseRow}
-use Rattle.fst_graph.specs.Known.{Known}
-use Rattle.fst_graph.specs.Membering.{member_order}
+use Rattle.fst_graph.specs.{Known.Known, Membering.member_order}
 
 -- a new change of block b among the heads with a sparse row, which is hard exactly if it may be
 pub record SparseChangeIsMade (heads : List Patch) (numbers b at len : ℕ) (after : List ℕ) (number : ℕ) (grade : Grade) (later : List Patch) : Type 0 where

@@ -1,9 +1,6 @@
 -- What a graph keeps of its patches and groups together.
 use Rattle.std.specs.Prelude.{ℕ, List, IfSome}
-use Rattle.fst_types.specs.Facts.{HeadsAreLawful, GroupsAreLawful}
-use Rattle.fst_types.specs.Groups.{Group, IsGroupNumber}
-use Rattle.fst_types.specs.Order.{group_close_order}
-use Rattle.fst_types.specs.Refusals.{NoneHolds}
+use Rattle.fst_types.specs.{Facts.{HeadsAreLawful, GroupsAreLawful}, Groups.{Group, IsGroupNumber}, Order.group_close_order, Refusals.NoneHolds}
 use Rattle.fst_graph.specs.Known.{Known}
 
 -- group n can get changes

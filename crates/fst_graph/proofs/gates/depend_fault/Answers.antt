@@ -1,8 +1,5 @@
-use Rattle.std.proofs.Common.{◌<◌, ◌∙◌, length, refl, sym, inl, inr, arith}
-use Rattle.std.proofs.lemmas.Bool.{false≢true}
-use Rattle.std.proofs.lemmas.List.{length-map}
-use Rattle.fst_types.specs.Limits.{max_names}
-use Rattle.fst_types.specs.Order.{NamesUnknown}
+use Rattle.std.proofs.{Common.{◌<◌, ◌∙◌, length, refl, sym, inl, inr, arith}, lemmas.Bool.false≢true, lemmas.List.length-map}
+use Rattle.fst_types.specs.{Limits.max_names, Order.NamesUnknown}
 use Rattle.fst_heads.specs.Names.{numbers_of}
 use Rattle.fst_graph.proofs.gates.depend_fault.Goals as goal
 

@@ -1,6 +1,6 @@
 use Rattle.std.proofs.Common.{inl, inr, refl, ap}
 use Rattle.fst_heads.specs.Heads.{kind_of}
-use Rattle.fst_graph.proofs.GateSlot.{open_number, sealed_number, sealed_kind, open_not_sealed, change_no_gate, empty_no_gate, no_gate}
+use Rattle.fst_graph.proofs.GateSlot.{open_number, sealed_number, sealed_kind, not_both, change_no_gate, empty_no_gate, no_gate}
 use Rattle.fst_graph.proofs.gates.gate_slot.Goals as goal
 
 pub returns-in_default-clause-refused : goal.returns-in_default-clause-refused
@@ -13,7 +13,7 @@ returns-in-OpenGate-clause-is_open c = open_number c.args.heads.now c.requires c
 pub returns-in-OpenGate-clause-clear : goal.returns-in-OpenGate-clause-clear
 returns-in-OpenGate-clause-clear c =
     let is_open = open_number c.args.heads.now c.requires c.args.gate c.in-Some.slot _ c.in-Some.ensures.found (ap kind_of c.in-OpenGate.is) in
-    ((λ n. n (c.is_given.ensures.0 c.if-not-is_given.false)), ((λ n. n (inl is_open)), ((λ s. open_not_sealed _ (ap kind_of c.in-OpenGate.is) (sealed_kind c.args.heads.now c.requires c.args.gate c.in-Some.slot _ c.in-Some.ensures.found s)), tt)))
+    ((λ n. n (c.is_given.ensures.0 c.if-not-is_given.false)), ((λ n. n (inl is_open)), ((λ s. not_both _ (ap kind_of c.in-OpenGate.is) (sealed_kind c.args.heads.now c.requires c.args.gate c.in-Some.slot _ c.in-Some.ensures.found s)), tt)))
 
 pub returns-in-SealedGate-clause-refused : goal.returns-in-SealedGate-clause-refused
 returns-in-SealedGate-clause-refused c =

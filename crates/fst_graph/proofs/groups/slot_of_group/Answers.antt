@@ -1,8 +1,7 @@
-use Rattle.std.proofs.Common.{rules, refl}
-use Rattle.std.proofs.lemmas.List.Sorted.{answers_always}
+use Rattle.std.proofs.{Common.{rules, refl}, lemmas.List.Sorted.answers_always}
 use Rattle.fst_graph.specs.declared.group.Group.{Group as Kept}
-use Rattle.fst_graph.proofs.Gathering.{heads_rise}
 use Rattle.fst_heads.proofs.Slots.{searched_by}
+use Rattle.fst_graph.proofs.Gathering.{heads_rise}
 use Rattle.fst_graph.proofs.groups.slot_of_group.Goals as goal
 
 pub returns-in-Ok-clause-found : goal.returns-in-Ok-clause-found

@@ -1,5 +1,4 @@
-use Rattle.std.proofs.Common.{◌∙◌, refl, sym}
-use Rattle.std.proofs.lemmas.Bool.{false≢true}
+use Rattle.std.proofs.{Common.{◌∙◌, refl, sym}, lemmas.Bool.false≢true}
 use Rattle.fst_heads.specs.Heads.{patches_of}
 use Rattle.fst_heads.proofs.Graded.{passes_open, open_passes}
 use Rattle.fst_graph.proofs.member.if_open.Goals as goal

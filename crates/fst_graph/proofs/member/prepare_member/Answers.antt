@@ -1,14 +1,10 @@
 use Rattle.std.proofs.Common.{Bor, List, sym, ap, subst}
-use Rattle.fst_types.specs.declared.number.PatchNo.{PatchNo}
-use Rattle.fst_types.specs.Grades.{FollowsRule}
-use Rattle.fst_heads.specs.Grading.{MayBeHard}
-use Rattle.fst_heads.specs.Heads.{patches_of}
-use Rattle.fst_heads.specs.Names.{numbers_of}
-use Rattle.fst_heads.specs.Lists.{entries_of}
+use Rattle.fst_types.specs.{Grades.FollowsRule, declared.number.PatchNo.PatchNo}
+use Rattle.fst_heads.specs.{Grading.MayBeHard, Heads.patches_of, Lists.entries_of, Names.numbers_of}
 use Rattle.fst_heads.proofs.Listing.{listed_at}
-use Rattle.fst_graph.proofs.MemberRow.{IsAfter, rests, waits, told_open, member_row, member_rule}
-use Rattle.fst_graph.proofs.member.prepare_member.Goals as goal
+use Rattle.fst_graph.proofs.MemberReady.{IsAfter, rests, waits, told_open, member_row, member_rule}
 use Rattle.fst_graph.proofs.member.prepare_member.Goals.{then-is_some+then-rests, else-is_some, else-is_some-via-then-is_some+else-rests, else-is_some-via-else-is_some}
+use Rattle.fst_graph.proofs.member.prepare_member.Goals as goal
 
 pub sparse_row-requires-clause-listed : goal.sparse_row-requires-clause-listed
 sparse_row-requires-clause-listed c =

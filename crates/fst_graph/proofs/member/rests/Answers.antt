@@ -1,5 +1,5 @@
-use Rattle.fst_graph.proofs.MemberRow.{rests_at, waits_at}
 use Rattle.fst_heads.proofs.Slots.{direct_slot, none_slot}
+use Rattle.fst_graph.proofs.MemberReady.{rests_at, waits_at}
 use Rattle.fst_graph.proofs.member.rests.Goals as goal
 
 pub returns-in-Some-clause-rests : goal.returns-in-Some-clause-rests

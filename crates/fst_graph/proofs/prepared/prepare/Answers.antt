@@ -1,5 +1,4 @@
-use Rattle.fst_heads.specs.Heads.{patches_of}
-use Rattle.fst_heads.specs.Lists.{entries_of}
+use Rattle.fst_heads.specs.{Heads.patches_of, Lists.entries_of}
 use Rattle.fst_heads.proofs.Listing.{listed_at}
 use Rattle.fst_graph.proofs.prepared.prepare.Goals as goal
 

@@ -1,4 +1,4 @@
-use Rattle.std.proofs.Common.{◌+◌, ◌≤◌, rules, arith, OnOk, Result, Ok, Err, subst, sym}
+use Rattle.std.proofs.Common.{◌+◌, ◌≤◌, rules, arith, OnOk, Result, Ok, Err, subst}
 use Rattle.fst_heads.specs.Covers.{IsLonger}
 use Rattle.fst_heads.proofs.Covering.{covered_longer}
 use Rattle.fst_walks.proofs.Shelves.{shelved_same, room_in_list}

@@ -1,10 +1,7 @@
-use Rattle.std.proofs.Common.{◌<◌, ◌∙◌, arith, sym, length}
-use Rattle.fst_graph.proofs.PlaceOf.{none_then}
-use Rattle.std.proofs.lemmas.List.{length-map}
-use Rattle.std.proofs.lemmas.Bool.{false≢true}
-use Rattle.fst_types.specs.Limits.{max_names}
-use Rattle.fst_types.specs.Order.{NamesUnknown}
+use Rattle.std.proofs.{Common.{◌<◌, ◌∙◌, arith, sym, length}, lemmas.Bool.false≢true, lemmas.List.length-map}
+use Rattle.fst_types.specs.{Limits.max_names, Order.NamesUnknown}
 use Rattle.fst_heads.specs.Names.{numbers_of}
+use Rattle.fst_graph.proofs.PlaceOf.{none_then}
 use Rattle.fst_graph.proofs.refusals.make_fault.Goals as goal
 
 pub returns-clause-clear : goal.returns-clause-clear

@@ -1,12 +1,9 @@
-use Rattle.std.proofs.Common.{◌∙◌, [], refl, sym, inl, inr}
-use Rattle.std.proofs.lemmas.Bool.{false≢true}
-use Rattle.fst_types.specs.declared.grade.Grade.TheVariants as grade
-use Rattle.fst_heads.specs.Heads.{patches_of}
+use Rattle.std.proofs.{Common.{◌∙◌, [], refl, sym, inl, inr}, lemmas.Bool.false≢true}
+use Rattle.fst_heads.specs.{Heads.patches_of, Lists.entries_of}
 use Rattle.fst_graph.specs.Membering.{OverlapReaches}
+use Rattle.fst_heads.proofs.{Listing.listed_at, Touching.{touched_overlaps, overlaps_touched}}
 use Rattle.fst_graph.proofs.PlaceOf.{none_then, some_then}
-use Rattle.fst_heads.proofs.Touching.{touched_overlaps, overlaps_touched}
-use Rattle.fst_heads.specs.Lists.{entries_of}
-use Rattle.fst_heads.proofs.Listing.{listed_at}
+use Rattle.fst_types.specs.declared.grade.Grade.TheVariants as grade
 use Rattle.fst_graph.proofs.refusals.member_fault.Goals as goal
 
 pub overlap_reaches-requires-clause-listed : goal.overlap_reaches-requires-clause-listed

@@ -1,6 +1,6 @@
 use Rattle.std.proofs.Common.{refl}
-use Rattle.fst_graph.specs.Known.{unprepared}
 use Rattle.fst_heads.specs.Names.{numbers_of}
+use Rattle.fst_graph.specs.Known.{unprepared}
 use Rattle.fst_graph.proofs.Grouped.{answered, fine, beside_change, grouped_change, grouped_unprepared}
 use Rattle.fst_graph.proofs.graph.Graph.add_data.Goals as goal
 
@@ -10,7 +10,7 @@ invariant_of-self c =
     let q = c.add_data.new.self in
     let gs = c.self.inside.groups.items in
     let G = c.self.invariant in
-    answered c.add_data.result c.add_data.ensures.ok c.add_data.ensures.same (λ made a. grouped_change (unprepared p) q gs (grouped_unprepared p (unprepared p) gs G refl) c.args.block.0 c.args.span.at c.args.span.len made.0.0 (numbers_of c.args.after.now) made.1 a) (λ same. grouped_unprepared p q gs G same)
+    answered c.add_data.result c.add_data.ensures.ok c.add_data.ensures.same (λ made a. grouped_change (unprepared p) q gs (grouped_unprepared p (unprepared p) gs G refl) c.args.block.0 c.args.span.at c.args.span.len made.0.0 (numbers_of c.args.after.now) made.1 a) (λ same. grouped_unprepared _ _ _ c.self.invariant same)
 
 pub returns-clause-ok : goal.returns-clause-ok
 returns-clause-ok c =

@@ -3,12 +3,7 @@ use Rattle.fst_graph.proofs.Grouped.{answered, fine, beside_empty, grouped_empty
 use Rattle.fst_graph.proofs.graph.Graph.add_empty.Goals as goal
 
 pub invariant_of-self : goal.invariant_of-self
-invariant_of-self c =
-    let p = c.self.inside.patches in
-    let q = c.add_empty.new.self in
-    let gs = c.self.inside.groups.items in
-    let G = c.self.invariant in
-    answered c.add_empty.result c.add_empty.ensures.ok c.add_empty.ensures.same (λ no a. grouped_empty p q gs G (numbers_of c.args.after.now) no.0 a) (λ same. grouped_unprepared p q gs G same)
+invariant_of-self c = answered c.add_empty.result c.add_empty.ensures.ok c.add_empty.ensures.same (λ no a. grouped_empty _ _ _ c.self.invariant (numbers_of c.args.after.now) no.0 a) (λ same. grouped_unprepared _ _ _ c.self.invariant same)
 
 pub returns-clause-ok : goal.returns-clause-ok
 returns-clause-ok c =

@@ -1,10 +1,9 @@
 use Rattle.std.proofs.Common.{◌≤◌, length, arith}
-use Rattle.fst_types.specs.declared.fault.What.TheVariants as what
-use Rattle.fst_types.specs.declared.fault.Fault.TheVariants as fault
-use Rattle.fst_types.specs.Limits.{max_groups}
-use Rattle.fst_types.specs.Refusals.{◌when◌}
+use Rattle.fst_types.specs.{Limits.max_groups, Refusals.◌when◌}
 use Rattle.fst_graph.specs.Grouping.{pair_order}
 use Rattle.fst_graph.proofs.GroupCalls.{first_past, none_past}
+use Rattle.fst_types.specs.declared.fault.What.TheVariants as what
+use Rattle.fst_types.specs.declared.fault.Fault.TheVariants as fault
 use Rattle.fst_graph.proofs.graph.Graph.new_fault.Goals as goal
 
 pub returns-clause-first : goal.returns-clause-first

@@ -1,5 +1,5 @@
-use Rattle.fst_graph.specs.Known.{prepared_for}
 use Rattle.fst_heads.specs.Names.{numbers_of}
+use Rattle.fst_graph.specs.Known.{prepared_for}
 use Rattle.fst_graph.proofs.Grouped.{answered, fine, beside_foreseen, grouped_prepared, grouped_unprepared}
 use Rattle.fst_graph.proofs.graph.Graph.room.Goals as goal
 
@@ -10,9 +10,6 @@ returns-clause-ok c =
 
 pub invariant_of-self : goal.invariant_of-self
 invariant_of-self c =
-    let p = c.self.inside.patches in
-    let q = c.room.new.self in
-    let gs = c.self.inside.groups.items in
     answered c.room.result c.room.ensures.prepared c.room.ensures.same
-    (λ made same. grouped_prepared p q gs c.self.invariant (prepared_for c.args.block.0 c.args.span.at c.args.span.len (numbers_of c.args.after.now) made.0.0 made.1) tt same)
-    (λ same. grouped_unprepared p q gs c.self.invariant same)
+    (λ made same. grouped_prepared _ _ _ c.self.invariant (prepared_for c.args.block.0 c.args.span.at c.args.span.len (numbers_of c.args.after.now) made.0.0 made.1) tt same)
+    (λ same. grouped_unprepared _ _ _ c.self.invariant same)

@@ -1,5 +1,4 @@
-use Rattle.std.proofs.Common.{refl, inl, sym, ◌∙◌}
-use Rattle.std.proofs.lemmas.Bool.{false≢true}
+use Rattle.std.proofs.{Common.{refl, inl, sym, ◌∙◌}, lemmas.Bool.false≢true}
 use Rattle.fst_graph.proofs.Grouped.{answered, grouped_seal, grouped_unprepared}
 use Rattle.fst_graph.proofs.graph.Graph.seal.Goals as goal
 
@@ -8,8 +7,4 @@ returns-then-has_gate-clause-refused c = rw (← c.self.view_is) (inl (c.has_gat
 
 pub invariant_of-self-2 : goal.invariant_of-self-2
 invariant_of-self-2 c =
-    let p = c.self.inside.patches in
-    let q = c.seal.new.self in
-    let gs = c.self.inside.groups.items in
-    let G = c.self.invariant in
-    answered c.seal.result c.seal.ensures.ok c.seal.ensures.same (λ u a. grouped_seal p q gs G c.args.gate.0 (λ h. false≢true (sym c.if-has_gate.false ∙ c.has_gate.ensures.1 h)) a) (λ same. grouped_unprepared p q gs G same)
+    answered c.seal.result c.seal.ensures.ok c.seal.ensures.same (λ u a. grouped_seal _ _ _ c.self.invariant c.args.gate.0 (λ h. false≢true (sym c.if-has_gate.false ∙ c.has_gate.ensures.1 h)) a) (λ same. grouped_unprepared _ _ _ c.self.invariant same)

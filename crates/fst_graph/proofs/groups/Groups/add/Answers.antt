@@ -1,7 +1,5 @@
-use Rattle.std.proofs.Common.{◌<◌, subst, sym, All}
-use Rattle.std.proofs.lemmas.List.Elements.{All-push}
-use Rattle.fst_graph.specs.declared.group.Group.{Group as Kept}
-use Rattle.fst_graph.specs.Gathered.{Gathered, IsToldBegun}
+use Rattle.std.proofs.{Common.{◌<◌, subst, sym, All}, lemmas.List.Elements.All-push}
+use Rattle.fst_graph.specs.{Gathered.{Gathered, IsToldBegun}, declared.group.Group.Group as Kept}
 use Rattle.fst_graph.proofs.Gathering.{apart_push, told_none}
 use Rattle.fst_graph.proofs.groups.Groups.add.Goals as goal
 

@@ -1,5 +1,4 @@
-use Rattle.std.proofs.Common.{sym, ap, subst, ◌∙◌, refl, inl, inr, Contains}
-use Rattle.std.proofs.lemmas.Bool.{false≢true}
+use Rattle.std.proofs.{Common.{sym, ap, subst, ◌∙◌, refl, inl, inr, Contains}, lemmas.Bool.false≢true}
 use Rattle.fst_types.specs.Groups.{Group}
 use Rattle.fst_graph.specs.Gathered.{group_of}
 use Rattle.fst_graph.proofs.groups.Groups.after_fault.Goals as goal

@@ -1,5 +1,4 @@
-use Rattle.std.proofs.Common.{sym, ap, ◌∙◌, refl, inl}
-use Rattle.std.proofs.lemmas.Bool.{false≢true}
+use Rattle.std.proofs.{Common.{sym, ap, ◌∙◌, refl, inl}, lemmas.Bool.false≢true}
 use Rattle.fst_types.specs.Groups.{Group}
 use Rattle.fst_graph.specs.Gathered.{group_of}
 use Rattle.fst_graph.proofs.groups.Groups.close_fault.Goals as goal

@@ -1,6 +1,4 @@
-use Rattle.std.proofs.Common.{◌≡◌, ◌-◌, ◌∙◌, true, sym, subst, inl, inr, arith}
-use Rattle.std.proofs.lemmas.Bool.{false≢true}
-use Rattle.std.proofs.lemmas.Bool.Decides.{nat_tests}
+use Rattle.std.proofs.{Common.{◌≡◌, ◌-◌, ◌∙◌, true, sym, subst, inl, inr, arith}, lemmas.Bool.false≢true, lemmas.Bool.Decides.nat_tests}
 use Rattle.fst_types.specs.Groups.{IsGroupNumber}
 use Rattle.fst_graph.specs.Gathered.{groups_of}
 use Rattle.fst_graph.proofs.Gathering.{gate_of, tail_gate}

@@ -1,6 +1,5 @@
 use Rattle.std.proofs.Common.{◌++◌, ◌∷◌, [], ◌∙◌, ap, subst}
-use Rattle.fst_graph.specs.declared.group.Group.{Group as Kept}
-use Rattle.fst_graph.specs.Gathered.{group_of, HasGroupSlot, HasNoGroup}
+use Rattle.fst_graph.specs.{Gathered.{group_of, HasGroupSlot, HasNoGroup}, declared.group.Group.Group as Kept}
 use Rattle.fst_graph.proofs.Gathering.{heads_rise, with_none, with_slot}
 use Rattle.fst_graph.proofs.groups.Groups.note_after.Goals as goal
 

@@ -1,7 +1,5 @@
-use Rattle.std.proofs.Common.{◌++◌, ◌∷◌, [], ◌∙◌, ◌<◌, ap, subst, refl}
-use Rattle.std.proofs.lemmas.List.Elements.{All-set}
-use Rattle.fst_graph.specs.declared.group.Group.{Group as Kept}
-use Rattle.fst_graph.specs.Gathered.{group_of, HasGroupSlot, HasNoGroup, IsToldBegun}
+use Rattle.std.proofs.{Common.{◌++◌, ◌∷◌, [], ◌∙◌, ◌<◌, ap, subst, refl}, lemmas.List.Elements.All-set}
+use Rattle.fst_graph.specs.{Gathered.{group_of, HasGroupSlot, HasNoGroup, IsToldBegun}, declared.group.Group.Group as Kept}
 use Rattle.fst_graph.proofs.Gathering.{heads_rise, with_none, with_slot, apart_set, told_member}
 use Rattle.fst_graph.proofs.groups.Groups.note_member.Goals as goal
 

@@ -1,7 +1,6 @@
 use Rattle.std.proofs.Common.{sym, subst}
-use Rattle.fst_graph.specs.Known.{unprepared, AddsChange}
-use Rattle.fst_graph.specs.Rows.{AreWhole, whole_known}
 use Rattle.fst_heads.specs.Names.{numbers_of}
+use Rattle.fst_graph.specs.{Known.{unprepared, AddsChange}, Rows.{AreWhole, whole_known}}
 use Rattle.fst_graph.proofs.WholeCalls.{change_over_known, change_made}
 use Rattle.fst_graph.proofs.patches.Patches.add_data.Goals as goal
 

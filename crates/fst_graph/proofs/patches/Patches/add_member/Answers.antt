@@ -1,8 +1,5 @@
 use Rattle.std.proofs.Common.{◌+◌, IfSome, sym, subst}
-use Rattle.fst_graph.specs.Known.{unprepared}
-use Rattle.fst_graph.specs.Membering.{GainsMember}
-use Rattle.fst_graph.specs.Rows.{AreWhole, whole_known}
-use Rattle.fst_graph.specs.Sparse.{GainsSparse}
+use Rattle.fst_graph.specs.{Known.unprepared, Membering.GainsMember, Rows.{AreWhole, whole_known}, Sparse.GainsSparse}
 use Rattle.fst_graph.proofs.WholeCalls.{member_over, member_made}
 use Rattle.fst_graph.proofs.patches.Patches.add_member.Goals as goal
 

@@ -13,15 +13,7 @@ none_is None f x = f x
 none_is (Some m) f x = x
 
 pub returns-clause-none : goal.returns-clause-none
-returns-clause-none c =
-    let rows = c.self.inside.rows.items in
-    let p = c.self.inside.sparse in
-    let W = c.self.invariant in
-    rw (← c.self.view_is) (none_is c.hard_held.result (λ none q h. let o = held_was rows p W c.args.block.0 q h in none o.0 o.1) c.hard_held.ensures.none)
+returns-clause-none c = rw (← c.self.view_is) (none_is c.hard_held.result (λ none q h. let o = held_was _ c.self.inside.sparse c.self.invariant c.args.block.0 q h in none o.0 o.1) c.hard_held.ensures.none)
 
 pub returns-clause-least : goal.returns-clause-least
-returns-clause-least c =
-    let rows = c.self.inside.rows.items in
-    let p = c.self.inside.sparse in
-    let W = c.self.invariant in
-    rw (← c.self.view_is) (some_is c.hard_held.result (λ no l. least_held_is rows p W c.args.block.0 no.0 l) c.hard_held.ensures.least)
+returns-clause-least c = rw (← c.self.view_is) (some_is c.hard_held.result (λ no l. least_held_is _ c.self.inside.sparse c.self.invariant c.args.block.0 no.0 l) c.hard_held.ensures.least)

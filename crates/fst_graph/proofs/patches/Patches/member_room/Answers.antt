@@ -1,8 +1,6 @@
 use Rattle.std.proofs.Common.{sym, subst}
-use Rattle.fst_graph.specs.Known.{Known}
-use Rattle.fst_graph.specs.Membering.{ArePaired}
-use Rattle.fst_graph.proofs.Grouped.{fine, failed}
-use Rattle.fst_graph.proofs.WholeCalls.{paired_was, foretells_is, member_clear_is, member_refuses}
+use Rattle.fst_graph.specs.{Known.Known, Membering.ArePaired}
+use Rattle.fst_graph.proofs.{Grouped.{fine, failed}, WholeCalls.{paired_was, foretells_is, member_clear_is, member_refuses}}
 use Rattle.fst_graph.proofs.patches.Patches.member_room.Goals as goal
 
 pub member_room-requires-clause-gates : goal.member_room-requires-clause-gates
@@ -10,23 +8,14 @@ member_room-requires-clause-gates c = paired_was c.self.inside.rows.items c.self
 
 pub returns-clause-ok : goal.returns-clause-ok
 returns-clause-ok c =
-    let rows = c.self.inside.rows.items in
-    let p = c.self.inside.sparse in
-    let W = c.self.invariant in
-    rw (← c.self.view_is) (fine c.member_room.result (λ made a. foretells_is rows p W c.args.gates.head c.args.gates.tail c.args.block.0 c.args.span.at c.args.span.len made.0.0 made.1 a) c.member_room.ensures.ok)
+    rw (← c.self.view_is) (fine c.member_room.result (λ made a. foretells_is _ c.self.inside.sparse c.self.invariant c.args.gates.head c.args.gates.tail c.args.block.0 c.args.span.at c.args.span.len made.0.0 made.1 a) c.member_room.ensures.ok)
 
 pub returns-clause-clear : goal.returns-clause-clear
 returns-clause-clear c =
-    let rows = c.self.inside.rows.items in
-    let p = c.self.inside.sparse in
-    let W = c.self.invariant in
-    let m = paired_was rows p W c.args.gates.head c.args.gates.tail (subst (λ (k : Known). ArePaired k.heads k.numbers c.args.gates.head c.args.gates.tail) (sym c.self.view_is) c.requires.gates) in
-    rw (← c.self.view_is) (fine c.member_room.result (λ made a. member_clear_is rows p W c.args.gates.tail c.args.block.0 c.args.span.at c.args.span.len m.tail_open a) c.member_room.ensures.clear)
+    let m = paired_was _ c.self.inside.sparse c.self.invariant c.args.gates.head c.args.gates.tail (subst (λ (k : Known). ArePaired k.heads k.numbers c.args.gates.head c.args.gates.tail) (sym c.self.view_is) c.requires.gates) in
+    rw (← c.self.view_is) (fine c.member_room.result (λ made a. member_clear_is _ c.self.inside.sparse c.self.invariant c.args.gates.tail c.args.block.0 c.args.span.at c.args.span.len m.tail_open a) c.member_room.ensures.clear)
 
 pub returns-clause-refused : goal.returns-clause-refused
 returns-clause-refused c =
-    let rows = c.self.inside.rows.items in
-    let p = c.self.inside.sparse in
-    let W = c.self.invariant in
-    let m = paired_was rows p W c.args.gates.head c.args.gates.tail (subst (λ (k : Known). ArePaired k.heads k.numbers c.args.gates.head c.args.gates.tail) (sym c.self.view_is) c.requires.gates) in
-    rw (← c.self.view_is) (failed c.member_room.result (λ f a. member_refuses rows p W c.args.gates.tail c.args.block.0 c.args.span.at c.args.span.len m.tail_open f a) c.member_room.ensures.refused)
+    let m = paired_was _ c.self.inside.sparse c.self.invariant c.args.gates.head c.args.gates.tail (subst (λ (k : Known). ArePaired k.heads k.numbers c.args.gates.head c.args.gates.tail) (sym c.self.view_is) c.requires.gates) in
+    rw (← c.self.view_is) (failed c.member_room.result (λ f a. member_refuses _ c.self.inside.sparse c.self.invariant c.args.gates.tail c.args.block.0 c.args.span.at c.args.span.len m.tail_open f a) c.member_room.ensures.refused)

@@ -8,15 +8,7 @@ none_is None f x = f x
 none_is (Some b) f x = x
 
 pub returns-clause-least : goal.returns-clause-least
-returns-clause-least c =
-    let rows = c.self.inside.rows.items in
-    let p = c.self.inside.sparse in
-    let W = c.self.invariant in
-    rw (← c.self.view_is) (pick_is rows p W _ c.pick.ensures.least)
+returns-clause-least c = rw (← c.self.view_is) (pick_is _ c.self.inside.sparse c.self.invariant _ c.pick.ensures.least)
 
 pub returns-clause-never_stuck : goal.returns-clause-never_stuck
-returns-clause-never_stuck c =
-    let rows = c.self.inside.rows.items in
-    let p = c.self.inside.sparse in
-    let W = c.self.invariant in
-    rw (← c.self.view_is) (none_is c.pick.result (stuck_is rows p W) c.pick.ensures.never_stuck)
+returns-clause-never_stuck c = rw (← c.self.view_is) (none_is c.pick.result (stuck_is _ c.self.inside.sparse c.self.invariant) c.pick.ensures.never_stuck)

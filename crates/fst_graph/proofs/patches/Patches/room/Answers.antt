@@ -1,11 +1,6 @@
 use Rattle.fst_heads.specs.Names.{numbers_of}
-use Rattle.fst_graph.proofs.Grouped.{fine}
-use Rattle.fst_graph.proofs.WholeCalls.{foresees_is}
+use Rattle.fst_graph.proofs.{Grouped.fine, WholeCalls.foresees_is}
 use Rattle.fst_graph.proofs.patches.Patches.room.Goals as goal
 
 pub returns-clause-ok : goal.returns-clause-ok
-returns-clause-ok c =
-    let rows = c.self.inside.rows.items in
-    let p = c.self.inside.sparse in
-    let W = c.self.invariant in
-    rw (← c.self.view_is) (fine c.room.result (λ made a. foresees_is rows p W c.args.block.0 c.args.span.at c.args.span.len (numbers_of c.args.after.now) made.0.0 made.1 a) c.room.ensures.ok)
+returns-clause-ok c = rw (← c.self.view_is) (fine c.room.result (λ made a. foresees_is _ c.self.inside.sparse c.self.invariant c.args.block.0 c.args.span.at c.args.span.len (numbers_of c.args.after.now) made.0.0 made.1 a) c.room.ensures.ok)

@@ -1,9 +1,6 @@
-use Rattle.std.proofs.Common.{◌∙◌, sym}
-use Rattle.std.proofs.lemmas.Bool.Decides.{Decides-eqb}
-use Rattle.std.proofs.lemmas.Slice.Eq.{slice_eq-Decides}
-use Rattle.fst_graph.proofs.Readied.{name_decides, span_tested, no_gates_left}
+use Rattle.std.proofs.{Common.{◌∙◌, sym}, lemmas.Bool.Decides.Decides-eqb, lemmas.Slice.Eq.slice_eq-Decides}
+use Rattle.fst_graph.proofs.{Readied.{name_decides, span_tested, no_gates_left}, prepared.Prepared.is_for.Goals.{then-self-block, else-self-block}}
 use Rattle.fst_graph.proofs.prepared.Prepared.is_for.Goals as goal
-use Rattle.fst_graph.proofs.prepared.Prepared.is_for.Goals.{then-self-block, else-self-block}
 
 pub returns-then-eq : goal.returns-then-eq
 returns-then-eq c =

@@ -1,26 +1,25 @@
 -- `of` makes the value of no bytes, whose items are those that its bound's member reads off the argument.
-use Rattle.std.proofs.Common.{[], ◌∷◌, refl}
-use Rattle.std.proofs.raw_atomic.Walks.{proved}
-use mir.Syntax.{a_type, named, dcons, dnil}
-use mir.MapTy.{inst_fn}
-use mir.Val.{Val, vstruct, vcons, vnil}
-use types.Kit.{‵, raw, ◌⊛◌, ◌$◌, ◌∵◌, !, qed, keep, move, split, join, suffices, done}
-use types.Run.{enter, no_more, and_then, returns}
-use types.Part.{agg}
-use types.ByLocal.{alloc_all, pass_all, free_all, look_at, get, sets}
-use denote.RattleType.{owns}
-use denote.Param.{param, bounded}
+use Rattle.std.proofs.{Common.{[], ◌∷◌, refl}, raw_atomic.Walks.proved}
 use denote.Builtin.{RefOf}
 use denote.Exit.{yes}
+use denote.Param.{param, bounded}
+use denote.RattleType.{owns}
 use denote.Ref.{shr_vals, shr_Tells}
 use denote.Shadow.{pure_i}
 use denote.Signature.{plain, types_at}
 use denote.Steps.{nothing}
 use denote.Triple.Entry.{alive}
 use denote.Triple.Walked.{walk_of, says, ends_at, Stays, stay_dropped, Goes-dropped}
+use mir.MapTy.{inst_fn}
+use mir.Syntax.{a_type, named, dcons, dnil}
+use mir.Val.{Val, vstruct, vcons, vnil}
+use types.ByLocal.{alloc_all, pass_all, free_all, look_at, get, sets}
+use types.Kit.{‵, raw, ◌⊛◌, ◌$◌, ◌∵◌, !, qed, keep, move, split, join, suffices, done}
+use types.Part.{agg}
+use types.Run.{enter, no_more, and_then, returns}
+use Rattle.fst_graph.proofs.rows.Rows.of.Statement.{statement}
 use Rattle.fst_graph.specs.contracts.rows.Rows as rows
 use Rattle.fst_graph.specs.contracts.rows.Rows.of as f
-use Rattle.fst_graph.proofs.rows.Rows.of.Statement.{statement}
 use Rattle.fst_graph.proofs.rows.Rows.of.Code as code
 
 pub of_spec : {M : Type 1} → statement M

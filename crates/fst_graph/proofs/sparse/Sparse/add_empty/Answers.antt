@@ -1,33 +1,14 @@
-use Rattle.std.proofs.Common.{◌≡◌, ◌+◌, ◌<◌, ◌∙◌, rules, Contains, arith, inl, sym, ap, subst, refl, length, None, []}
-use Rattle.std.proofs.lemmas.List.{length-map}
-use Rattle.fst_types.specs.Refusals.{NoneHolds}
-use Rattle.fst_types.specs.Order.{make_order}
-use Rattle.fst_types.specs.Limits.{max_heads}
-use Rattle.fst_types.specs.Lists.{Lists}
-use Rattle.fst_types.specs.Patches.{Empty, Patch}
-use Rattle.fst_types.specs.Dependencies.{IsLiveNumber}
-use Rattle.fst_heads.specs.Heads.{patches_of}
+use Rattle.std.proofs.{Common.{◌≡◌, ◌+◌, ◌<◌, ◌∙◌, rules, Contains, arith, inl, sym, ap, subst, refl, length}, lemmas.List.{length-map, map_push}}
+use Rattle.fst_types.specs.{Dependencies.IsLiveNumber, Limits.max_heads, Lists.Lists, Order.make_order, Patches.{Empty, Patch}, Refusals.NoneHolds}
+use Rattle.fst_heads.specs.{Heads.patches_of, Names.numbers_of, Nodes.{node_of, nodes_of, patches_in, pending_in, HasRoomAbove}, Pendings.{joined, joined_sums, sums_of}}
 use Rattle.fst_graph.specs.Known.{rest_place}
-use Rattle.fst_heads.specs.Names.{numbers_of}
-use Rattle.fst_heads.specs.Nodes.{node_of, nodes_of, patches_in, pending_in, HasRoomAbove}
-use Rattle.fst_heads.specs.Pendings.{joined, joined_sums, sums_of}
-use Rattle.fst_heads.proofs.AtNumber.{patches_in_nodes}
-use Rattle.fst_heads.proofs.Slots.{rising_heads}
-use Rattle.fst_graph.proofs.Emptying.{keeps_empty, empty_cascade}
-use Rattle.std.proofs.lemmas.List.{map_push}
-use Rattle.fst_heads.proofs.Linking.{rising_same}
-use Rattle.fst_graph.proofs.Listed.{listed_made, listed_empty}
-use Rattle.fst_walks.proofs.Seen.{same_patches, linked_patches, lawful_nodes, tallies_wider}
-use Rattle.fst_graph.proofs.Borne.{lawful_with}
-use Rattle.fst_heads.proofs.Stands.{stand_made}
-use Rattle.fst_heads.proofs.Sums.{joined_exact}
-use Rattle.fst_graph.proofs.Tallied.{tallies_made}
-use Rattle.fst_heads.proofs.Beside.{beside_made, one_live, weight_of, weighs}
-use Rattle.fst_heads.proofs.Covering.{covered_push}
+use Rattle.fst_heads.proofs.{AtNumber.patches_in_nodes, Beside.{beside_made, one_live, weight_of, weighs}, Covering.covered_push, Linking.rising_same, Stands.stand_made, Sums.joined_exact}
+use Rattle.fst_walks.proofs.Seen.{same_patches, linked_patches, lawful_nodes}
+use Rattle.fst_graph.proofs.{Borne.lawful_with, Emptying.{keeps_empty, empty_cascade}, Listed.{listed_made, listed_empty}, Sound.{roomier_sound, rising_sound}, Tallied.tallies_made}
 use Rattle.fst_graph.proofs.sparse.Sparse.add_empty.Goals as goal
 
 pub live_named-requires : goal.live_named-requires
-live_named-requires c = rw c.deref-2.ensures.value (rising_heads c.self.inside.heads.items c.self.invariant.keeps.lawful.one_place_each.rising)
+live_named-requires c = rw c.deref-2.ensures.value (rising_sound c.self.invariant)
 
 pub invariant_of-self-2 : goal.invariant_of-self-2
 invariant_of-self-2 c =
@@ -96,47 +77,28 @@ pub returns-in-Some-clause-refused : goal.returns-in-Some-clause-refused
 returns-in-Some-clause-refused c = rw (← c.self.view_is, ← c.deref.ensures.value) (inl c.in-Some.ensures.first)
 
 pub invariant_of-self-then-is_err : goal.invariant_of-self-then-is_err
-invariant_of-self-then-is_err c =
-    let K = c.self.invariant.keeps in record {
-      keeps = rw (c.reserve_one.ensures.heads, c.reserve_one.ensures.marks) K;
-      beside = rw c.reserve_one.ensures.heads c.self.invariant.beside;
-      tallies = rw c.reserve_one.ensures.heads (tallies_wider _ c.self.inside.numbers c.self.inside.blocks _ _ _ _ _ _ c.self.invariant.tallies c.reserve_one.ensures.queue c.reserve_one.ensures.wide);
-      covered = rw c.reserve_one.ensures.heads c.self.invariant.covered;
-      prepared = tt;
-    }
+invariant_of-self-then-is_err c = roomier_sound c.self.invariant (ap nodes_of c.reserve_one.ensures.heads) c.reserve_one.ensures.marks refl c.reserve_one.ensures.queue c.reserve_one.ensures.wide
 
 pub invariant_of-self-then-is_err-2 : goal.invariant_of-self-then-is_err-2
 invariant_of-self-then-is_err-2 c =
-    let K = c.self.invariant.keeps in
-    let heads = c.self.inside.heads.items in
-    let still : nodes_of c.reserve_above.new.heads.items ≡ nodes_of heads = c.reserve_above.ensures.nodes ∙ ap nodes_of c.reserve_one.ensures.heads in record {
-      keeps = rw (same_patches c.reserve_above.new.heads.items heads still, c.reserve_one.ensures.marks) K;
-      beside = rw (same_patches c.reserve_above.new.heads.items heads still) c.self.invariant.beside;
-      tallies = rw still (tallies_wider _ c.self.inside.numbers c.self.inside.blocks _ _ _ _ _ _ c.self.invariant.tallies c.reserve_one.ensures.queue c.reserve_one.ensures.wide);
-      covered = rw (same_patches c.reserve_above.new.heads.items heads still) c.self.invariant.covered;
-      prepared = tt;
-    }
+    roomier_sound c.self.invariant (c.reserve_above.ensures.nodes ∙ ap nodes_of c.reserve_one.ensures.heads) c.reserve_one.ensures.marks refl c.reserve_one.ensures.queue c.reserve_one.ensures.wide
 
 pub reserve_above-requires : goal.reserve_above-requires
-reserve_above-requires c = rw c.reserve_one.ensures.heads (rising_heads c.self.inside.heads.items c.self.invariant.keeps.lawful.one_place_each.rising)
+reserve_above-requires c = rw c.reserve_one.ensures.heads (rising_sound c.self.invariant)
 
 pub returns-then-is_err-2-clause-same : goal.returns-then-is_err-2-clause-same
-returns-then-is_err-2-clause-same c =
-    let heads = c.self.inside.heads.items in
-    let still : nodes_of c.reserve_above.new.heads.items ≡ nodes_of heads = c.reserve_above.ensures.nodes ∙ ap nodes_of c.reserve_one.ensures.heads in
-    rw (← c.self.view_is)
-    (ap (λ ps. record { heads = ps; numbers = c.self.inside.numbers; blocks = c.self.inside.blocks; groups = []; prepared = None }) (same_patches c.reserve_above.new.heads.items heads still))
+returns-then-is_err-2-clause-same c = rw (← c.self.view_is, same_patches c.reserve_above.new.heads.items c.self.inside.heads.items (c.reserve_above.ensures.nodes ∙ ap nodes_of c.reserve_one.ensures.heads)) refl
 
 pub row_sums-sums-requires : goal.row_sums-sums-requires
 row_sums-sums-requires c =
     let heads = c.self.inside.heads.items in
     rw c.deref-3.ensures.value
-    (rising_same c.reserve_above.new.heads.items heads (c.reserve_above.ensures.nodes ∙ ap nodes_of c.reserve_one.ensures.heads) (rising_heads heads c.self.invariant.keeps.lawful.one_place_each.rising))
+    (rising_same c.reserve_above.new.heads.items heads (c.reserve_above.ensures.nodes ∙ ap nodes_of c.reserve_one.ensures.heads) (rising_sound c.self.invariant))
 
 pub link-requires-clause-rising : goal.link-requires-clause-rising
 link-requires-clause-rising c =
     let heads = c.self.inside.heads.items in
-    rising_same c.reserve_above.new.heads.items heads (c.reserve_above.ensures.nodes ∙ ap nodes_of c.reserve_one.ensures.heads) (rising_heads heads c.self.invariant.keeps.lawful.one_place_each.rising)
+    rising_same c.reserve_above.new.heads.items heads (c.reserve_above.ensures.nodes ∙ ap nodes_of c.reserve_one.ensures.heads) (rising_sound c.self.invariant)
 
 pub link-requires-clause-room : goal.link-requires-clause-room
 link-requires-clause-room c =

@@ -1,13 +1,8 @@
 use Rattle.std.proofs.Common.{◌+◌, ◌∷◌, ◌∙◌, [], IfSome, ap, subst}
 use Rattle.fst_types.specs.Refusals.{NoneHolds}
 use Rattle.fst_heads.specs.Heads.{patches_of}
-use Rattle.fst_graph.specs.Known.{Known, unprepared, DependsGate}
-use Rattle.fst_graph.specs.Sparse.{AddsSparse, SparseChangeIsMade}
-use Rattle.fst_graph.specs.Membering.{member_order}
-use Rattle.fst_graph.specs.Ready.{MayBePut}
-use Rattle.fst_graph.proofs.SealedIf.{known_is}
-use Rattle.fst_graph.proofs.Sound.{if_prepared}
-use Rattle.fst_graph.proofs.TailGains.{member_clear}
+use Rattle.fst_graph.specs.{Known.{Known, unprepared, DependsGate}, Membering.member_order, Ready.MayBePut, Sparse.{AddsSparse, SparseChangeIsMade}}
+use Rattle.fst_graph.proofs.{GateSlot.known_is, Sound.if_prepared, TailGains.member_clear}
 use Rattle.fst_graph.proofs.sparse.Sparse.add_member.Goals as goal
 
 pub returns-clause-added : goal.returns-clause-added

@@ -1,17 +1,8 @@
-use Rattle.std.proofs.Common.{◌≡◌, ◌+◌, ◌≤◌, ◌∙◌, ◌∷◌, [], length, refl, rules, ap, subst, inl, arith}
-use Rattle.fst_types.specs.Patches.{OpenGate}
-use Rattle.fst_types.specs.Making.{fresh}
-use Rattle.fst_heads.specs.Keeps.{Beside}
-use Rattle.std.proofs.lemmas.List.{length-map}
-use Rattle.fst_heads.specs.Heads.{patches_of}
-use Rattle.fst_heads.specs.Nodes.{node_of, nodes_of, pending_in}
-use Rattle.fst_heads.specs.Pendings.{sums_of}
-use Rattle.fst_heads.proofs.Beside.{beside_made}
-use Rattle.fst_graph.proofs.Paired.{adds_pair, keeps_pair, paired, with_head}
-use Rattle.fst_heads.proofs.Added.{with_node}
-use Rattle.fst_graph.proofs.PairTold.{gated, second_gate, first_put, second_put, patches_paired, rising_gated, room_gated, tallies_pair}
-use Rattle.fst_walks.proofs.Seen.{tallies_wider}
-use Rattle.fst_heads.proofs.Covering.{covered_push}
+use Rattle.std.proofs.{Common.{◌≡◌, ◌+◌, ◌≤◌, ◌∙◌, ◌∷◌, [], length, refl, rules, ap, subst, inl, arith}, lemmas.List.length-map}
+use Rattle.fst_types.specs.{Making.fresh, Patches.OpenGate}
+use Rattle.fst_heads.specs.{Heads.patches_of, Keeps.Beside, Nodes.{node_of, nodes_of, pending_in}, Pendings.sums_of}
+use Rattle.fst_heads.proofs.{Added.with_node, Beside.beside_made, Covering.covered_push}
+use Rattle.fst_graph.proofs.{Paired.{gated, second_gate, first_put, second_put, patches_paired, rising_gated, room_gated, tallies_pair, adds_pair, keeps_pair, paired, with_head}, Sound.roomier_sound}
 use Rattle.fst_graph.proofs.sparse.Sparse.add_pair.Goals as goal
 
 pub row_sums-sums-requires : goal.row_sums-sums-requires
@@ -72,14 +63,7 @@ invariant_of-self-2 c =
     }
 
 pub invariant_of-self-then-is_err : goal.invariant_of-self-then-is_err
-invariant_of-self-then-is_err c =
-    let K = c.self.invariant.keeps in record {
-      keeps = rw (c.reserve_two.ensures.heads, c.reserve_two.ensures.marks) K;
-      beside = rw c.reserve_two.ensures.heads c.self.invariant.beside;
-      tallies = rw c.reserve_two.ensures.heads (tallies_wider _ c.self.inside.numbers c.self.inside.blocks _ _ _ _ _ _ c.self.invariant.tallies c.reserve_two.ensures.queue c.reserve_two.ensures.wide);
-      covered = rw c.reserve_two.ensures.heads c.self.invariant.covered;
-      prepared = tt;
-    }
+invariant_of-self-then-is_err c = roomier_sound c.self.invariant (ap nodes_of c.reserve_two.ensures.heads) c.reserve_two.ensures.marks refl c.reserve_two.ensures.queue c.reserve_two.ensures.wide
 
 pub returns-in-Some-clause-refused : goal.returns-in-Some-clause-refused
 returns-in-Some-clause-refused c = rw (← c.self.view_is) (inl c.in-Some.ensures.first)

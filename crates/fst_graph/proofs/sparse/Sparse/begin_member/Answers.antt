@@ -1,151 +1,79 @@
-use Rattle.std.proofs.Common.{◌≡◌, ◌∙◌, length, map, ap, subst, arith, refl, inl, inr}
-use Rattle.std.proofs.lemmas.List.{length-map}
-use Rattle.fst_types.specs.Cascade.{IsCascadeOf, unsettled}
-use Rattle.fst_types.specs.Gates.{IsOpenNumber}
-use Rattle.fst_types.specs.Gating.{sealed}
-use Rattle.fst_types.specs.Refusals.{IsFirst}
-use Rattle.fst_types.specs.Order.{seal_order}
-use Rattle.fst_heads.specs.Frames.{frame_of, frames_of}
-use Rattle.fst_heads.specs.Spreading.{IsSpreadOf, seals}
-use Rattle.fst_heads.specs.Heads.{patches_of}
-use Rattle.fst_heads.specs.Nodes.{nodes_of, at_number, AreSettled}
-use Rattle.fst_heads.specs.Standings.{AllStand}
-use Rattle.fst_heads.proofs.AtNumber.{patches_in_nodes}
-use Rattle.fst_heads.proofs.Beside.{beside_landed, landed_few, sealed_told}
-use Rattle.fst_graph.proofs.Borne.{inside_nodes, open_nodes, settled_fits}
-use Rattle.fst_graph.proofs.Kept.{covered_moved, keeps_sealed}
-use Rattle.fst_graph.proofs.MemberReady.{put_begun, around_kept, places_kept, shut_begun}
+use Rattle.std.proofs.{Common.{◌≡◌, ◌∙◌, length, ap, subst, arith, refl, inl, inr}, lemmas.List.length-map}
+use Rattle.fst_types.specs.{Gates.IsOpenNumber, Order.seal_order, Refusals.IsFirst}
+use Rattle.fst_heads.specs.{Frames.{frame_of, frames_of}, Heads.patches_of, Nodes.nodes_of}
 use Rattle.fst_graph.specs.Sound.{IsPrepared}
-use Rattle.fst_graph.proofs.Readied.{head_told}
-use Rattle.fst_graph.proofs.SealedIf.{refused_closed}
-use Rattle.fst_graph.proofs.Sound.{if_prepared}
-use Rattle.fst_walks.proofs.Seen.{seen, one_each, lawful_nodes}
-use Rattle.fst_heads.proofs.Slots.{rising_heads}
-use Rattle.fst_heads.proofs.Stands.{stand_sealed}
-use Rattle.fst_heads.proofs.Starting.{starts_sealed, unsettled_sealed}
-use Rattle.fst_heads.proofs.Carried.{linked_sealed, distinct_sealed}
-use Rattle.fst_graph.proofs.Tallied.{tallies_sealed}
-use Rattle.fst_types.proofs.Sealing.{alike_sealed}
+use Rattle.fst_graph.proofs.{Borne.settled_fits, GateSlot.refused_closed, MemberReady.{put_begun, around_kept, places_kept, shut_begun}, Readied.head_told}
+use Rattle.fst_graph.proofs.{Shutting.{shut_starts, shut_linked, shut_distinct, shut_standing, shut_few, shut_cascade, shut_sound}, Sound.{if_prepared, rising_sound, with_prepared}}
+use Rattle.fst_graph.proofs.sparse.Sparse.begin_member.Goals.{After-seal_slot}
 use Rattle.fst_graph.proofs.sparse.Sparse.begin_member.Goals as goal
 
 pub gate_slot-requires : goal.gate_slot-requires
-gate_slot-requires c = rw c.deref.ensures.value (rising_heads c.self.inside.heads.items c.self.invariant.keeps.lawful.one_place_each.rising)
+gate_slot-requires c = rw c.deref.ensures.value (rising_sound c.self.invariant)
 
 pub seal_slot-requires-clause-rising : goal.seal_slot-requires-clause-rising
-seal_slot-requires-clause-rising c = rising_heads c.self.inside.heads.items c.self.invariant.keeps.lawful.one_place_each.rising
+seal_slot-requires-clause-rising c = rising_sound c.self.invariant
 
 pub seal_slot-requires-clause-fits : goal.seal_slot-requires-clause-fits
 seal_slot-requires-clause-fits c =
     let T = c.self.invariant.tallies in
     settled_fits (nodes_of c.self.inside.heads.items) c.self.inside.blocks (omega (arith, c.self.ranges)) T.settled
 
+-- the gate is open among the patches
+gate : (c : After-seal_slot) → IsOpenNumber (patches_of c.self.inside.heads.items) c.args.head
+gate c = subst (λ hs. IsOpenNumber (patches_of hs) c.args.head) c.deref.ensures.value c.in-Ok.ensures.is_open
+
 pub cascade-landed-requires-clause-start : goal.cascade-landed-requires-clause-start
-cascade-landed-requires-clause-start c =
-    let heads = c.self.inside.heads.items in
-    let n = c.self.inside.numbers in
-    let blocks = c.self.inside.blocks in
-    let g = c.args.head in
-    let K = c.self.invariant.keeps in
-    let T = c.self.invariant.tallies in
-    let gate = open_nodes heads g (subst (λ hs. IsOpenNumber (patches_of hs) g) c.deref.ensures.value c.in-Ok.ensures.is_open) in
-    let long : c.self.inside.standings.len ≡ blocks = omega (arith, T.standing.long, c.self.inside.standings.ok.0) in
-    rw (c.seal_slot.ensures.nodes, c.seal_slot.ensures.queued, T.idle, long)
-    (starts_sealed (nodes_of heads) n blocks g (lawful_nodes heads n K.lawful) (inside_nodes heads blocks K.inside) T.settled gate)
+cascade-landed-requires-clause-start c = shut_starts c.self.invariant (gate (goal.at.cascade-landed-requires-clause-start c).After-seal_slot) c.seal_slot.new.heads c.seal_slot.ensures.nodes _ c.seal_slot.ensures.queued
 
 pub cascade-landed-requires-clause-linked : goal.cascade-landed-requires-clause-linked
-cascade-landed-requires-clause-linked c = rw c.seal_slot.ensures.nodes (linked_sealed (nodes_of c.self.inside.heads.items) c.args.head c.self.invariant.tallies.linked)
+cascade-landed-requires-clause-linked c = shut_linked c.self.invariant (gate (goal.at.cascade-landed-requires-clause-linked c).After-seal_slot) c.seal_slot.new.heads c.seal_slot.ensures.nodes
 
 pub cascade-landed-requires-clause-distinct : goal.cascade-landed-requires-clause-distinct
-cascade-landed-requires-clause-distinct c = rw c.seal_slot.ensures.nodes (distinct_sealed (nodes_of c.self.inside.heads.items) c.args.head c.self.invariant.tallies.distinct)
+cascade-landed-requires-clause-distinct c = shut_distinct c.self.invariant (gate (goal.at.cascade-landed-requires-clause-distinct c).After-seal_slot) c.seal_slot.new.heads c.seal_slot.ensures.nodes
 
 pub cascade-landed-requires-clause-standing : goal.cascade-landed-requires-clause-standing
-cascade-landed-requires-clause-standing c =
-    let heads = c.self.inside.heads.items in
-    let n = c.self.inside.numbers in
-    let blocks = c.self.inside.blocks in
-    let g = c.args.head in
-    let T = c.self.invariant.tallies in
-    let gate = open_nodes heads g (subst (λ hs. IsOpenNumber (patches_of hs) g) c.deref.ensures.value c.in-Ok.ensures.is_open) in
-    let long : c.self.inside.standings.len ≡ blocks = omega (arith, T.standing.long, c.self.inside.standings.ok.0) in
-    rw (c.seal_slot.ensures.nodes, long)
-    (stand_sealed (nodes_of heads) n blocks g c.self.inside.standings.items (one_each heads n c.self.invariant.keeps.lawful.one_place_each) gate T.standing)
+cascade-landed-requires-clause-standing c = shut_standing c.self.invariant (gate (goal.at.cascade-landed-requires-clause-standing c).After-seal_slot) c.seal_slot.new.heads c.seal_slot.ensures.nodes
 
 pub overflow_sub-self : goal.overflow_sub-self
 overflow_sub-self c =
-    let new = c.cascade-landed.new.heads.items in
-    let T = c.self.invariant.tallies in
-    let long : c.self.inside.standings.len ≡ c.self.inside.blocks = omega (arith, T.standing.long, c.self.inside.standings.ok.0) in
-    let settled = subst (AreSettled (nodes_of new)) long c.cascade-landed.ensures.settled in
-    landed_few c.self.inside.heads.items c.seal_slot.new.heads.items new (at_number c.args.head seals) c.self.inside.blocks c.self.inside.live c.cascade-landed.result c.self.inside.walks.crossed.items c.seal_slot.ensures.nodes (sealed_told c.args.head) T.settled settled
-    c.cascade-landed.ensures.landed c.self.invariant.beside
+    let C = c.cascade-landed.ensures in
+    shut_few c.self.invariant (gate (goal.at.overflow_sub-self c).After-seal_slot) c.seal_slot.new.heads c.seal_slot.ensures.nodes c.cascade-landed.new.heads C.placed c.cascade-landed.result C.settled C.landed
 
 pub invariant_of-self : goal.invariant_of-self
 invariant_of-self c =
-    let heads = c.self.inside.heads.items in
-    let nodes = nodes_of heads in
-    let old = patches_of heads in
-    let new = c.cascade-landed.new.heads.items in
-    let n = c.self.inside.numbers in
-    let blocks = c.self.inside.blocks in
+    let s = c.self.inside in
     let g = c.args.head in
-    let K = c.self.invariant.keeps in
-    let T = c.self.invariant.tallies in
-    let open_gate = subst (λ hs. IsOpenNumber (patches_of hs) g) c.deref.ensures.value c.in-Ok.ensures.is_open in
-    let gate = open_nodes heads g open_gate in
-    let long : c.self.inside.standings.len ≡ blocks = omega (arith, T.standing.long, c.self.inside.standings.ok.0) in
-    let placed = c.cascade-landed.ensures.placed in
-    let was : map unsettled (patches_of c.seal_slot.new.heads.items) ≡ map unsettled (map (sealed g) old) =
-    ap (map unsettled) (seen c.seal_slot.new.heads.items _ c.seal_slot.ensures.nodes) ∙ (unsettled_sealed nodes g ∙ ap (λ ps. map unsettled (map (sealed g) ps)) (patches_in_nodes heads)) in
-    let cascade : IsCascadeOf (map (sealed g) old) (patches_of new) = record { same = placed.same ∙ was; places = placed.places; settled = placed.settled } in
-    let spread : IsSpreadOf (map (at_number g seals) nodes) (nodes_of new) = subst (λ ns. IsSpreadOf ns (nodes_of new)) c.seal_slot.ensures.nodes c.cascade-landed.ensures.spread in
-    let kept = keeps_sealed old (patches_of new) n blocks g c.self.inside.walks.walk.marks c.self.inside.walks.walk.marks K open_gate cascade refl in
-    let settled = subst (AreSettled (nodes_of new)) long c.cascade-landed.ensures.settled in
-    let standing = subst (λ k. AllStand (nodes_of new) k c.cascade-landed.new.standings.items) long c.cascade-landed.ensures.standing in
-    let frames : frames_of new ≡ frames_of heads = c.cascade-landed.ensures.frames ∙ c.seal_slot.ensures.frames in
-    let heads_long : c.cascade-landed.new.heads.len ≡ c.self.inside.heads.len = omega (arith, ap length frames, length-map new frame_of, length-map heads frame_of, c.cascade-landed.new.heads.ok.0, c.self.inside.heads.ok.0) in record {
-      keeps = kept;
-      beside = beside_landed heads c.seal_slot.new.heads.items new (at_number g seals) blocks c.self.inside.live c.cascade-landed.result c.self.inside.walks.crossed.items c.seal_slot.ensures.nodes (sealed_told g) T.settled settled c.cascade-landed.ensures.landed c.self.invariant.beside;
-      tallies = rw (c.cascade-landed.ensures.empty, c.cascade-landed.ensures.capacity, c.seal_slot.ensures.capacity)
-          (tallies_sealed nodes (nodes_of new) n blocks _ _ _ _ _ g (lawful_nodes heads n K.lawful) (lawful_nodes new n kept.lawful) T gate spread settled standing);
-      covered = covered_moved (alike_sealed old (patches_of new) n g K.lawful open_gate cascade) kept c.self.invariant.covered;
-      prepared = if_prepared c.self.invariant (IsPrepared c.cascade-landed.new.heads c.self.inside.walks c.self.inside.lists c.self.inside.covers c.cascade-landed.new.queue n blocks) (λ p is k. record {
-        ready = put_begun old n blocks c.self.inside.walks.walk.marks K g (patches_of new) open_gate cascade p (head_told c.self.inside.prepared n c.requires.0 g p (ap (λ k. k.prepared) c.self.view_is ∙ c.requires.1) c.requires.2 is) k.ready;
-        places = places_kept _ _ _ _ _ _ _ _ heads_long (c.cascade-landed.ensures.places ∙ c.seal_slot.ensures.places) (c.cascade-landed.ensures.capacity ∙ c.seal_slot.ensures.capacity) k.places;
-        around = around_kept new heads frames p k.around;
-        bytes = k.bytes;
-        in_list = k.in_list;
-      });
-    }
+    let open_gate = gate (goal.at.invariant_of-self c).After-seal_slot in
+    let new = c.cascade-landed.new.heads in
+    let C = c.cascade-landed.ensures in
+    let cascade = shut_cascade c.self.invariant open_gate c.seal_slot.new.heads c.seal_slot.ensures.nodes new C.placed in
+    let frames : frames_of new.items ≡ frames_of s.heads.items = C.frames ∙ c.seal_slot.ensures.frames in
+    let heads_long : new.len ≡ s.heads.len = omega (arith, ap length frames, length-map new.items frame_of, length-map s.heads.items frame_of, new.ok.0, s.heads.ok.0) in
+    with_prepared
+    (shut_sound c.self.invariant open_gate c.seal_slot.new.heads c.seal_slot.ensures.nodes new C.placed c.cascade-landed.result C.settled C.landed {told = c.cascade-landed.new.standings} {emptied = c.cascade-landed.new.queue} C.spread C.standing C.empty (C.capacity ∙ c.seal_slot.ensures.capacity))
+    (if_prepared c.self.invariant (IsPrepared new s.walks s.lists s.covers c.cascade-landed.new.queue s.numbers s.blocks) (λ p is k. record {
+      ready = put_begun (patches_of s.heads.items) s.numbers s.blocks s.walks.walk.marks c.self.invariant.keeps g (patches_of new.items) open_gate cascade p (head_told s.prepared s.numbers c.requires.0 g p (ap (λ k. k.prepared) c.self.view_is ∙ c.requires.1) c.requires.2 is) k.ready;
+      places = places_kept _ _ _ _ _ _ _ _ heads_long (C.places ∙ c.seal_slot.ensures.places) (C.capacity ∙ c.seal_slot.ensures.capacity) k.places;
+      around = around_kept new.items s.heads.items frames p k.around;
+      bytes = k.bytes;
+      in_list = k.in_list;
+    }))
 
 pub returns-in-Ok-clause-begun : goal.returns-in-Ok-clause-begun
 returns-in-Ok-clause-begun c =
-    let heads = c.self.inside.heads.items in
-    let nodes = nodes_of heads in
-    let old = patches_of heads in
-    let g = c.args.head in
-    let placed = c.cascade-landed.ensures.placed in
-    let was : map unsettled (patches_of c.seal_slot.new.heads.items) ≡ map unsettled (map (sealed g) old) =
-    ap (map unsettled) (seen c.seal_slot.new.heads.items _ c.seal_slot.ensures.nodes) ∙ (unsettled_sealed nodes g ∙ ap (λ ps. map unsettled (map (sealed g) ps)) (patches_in_nodes heads)) in
+    let open_gate = gate (goal.at.returns-in-Ok-clause-begun c).After-seal_slot in
     rw (← c.self.view_is)
     (record {
-      row = inl (record {
-        gate = subst (λ hs. IsOpenNumber (patches_of hs) g) c.deref.ensures.value c.in-Ok.ensures.is_open;
-        cascade = record { same = placed.same ∙ was; places = placed.places; settled = placed.settled };
-      });
+      row = inl (record { gate = open_gate; cascade = shut_cascade c.self.invariant open_gate c.seal_slot.new.heads c.seal_slot.ensures.nodes c.cascade-landed.new.heads c.cascade-landed.ensures.placed });
       state = refl;
     })
 
 pub returns-in-Ok-clause-closed : goal.returns-in-Ok-clause-closed
 returns-in-Ok-clause-closed c =
-    let heads = c.self.inside.heads.items in
-    let nodes = nodes_of heads in
-    let old = patches_of heads in
-    let g = c.args.head in
-    let placed = c.cascade-landed.ensures.placed in
-    let was : map unsettled (patches_of c.seal_slot.new.heads.items) ≡ map unsettled (map (sealed g) old) =
-    ap (map unsettled) (seen c.seal_slot.new.heads.items _ c.seal_slot.ensures.nodes) ∙ (unsettled_sealed nodes g ∙ ap (λ ps. map unsettled (map (sealed g) ps)) (patches_in_nodes heads)) in
-    shut_begun old c.self.inside.numbers c.self.invariant.keeps.lawful g (patches_of c.cascade-landed.new.heads.items) (subst (λ hs. IsOpenNumber (patches_of hs) g) c.deref.ensures.value c.in-Ok.ensures.is_open)
-    (record { same = placed.same ∙ was; places = placed.places; settled = placed.settled })
+    let s = c.self.inside in
+    let open_gate = gate (goal.at.returns-in-Ok-clause-closed c).After-seal_slot in
+    shut_begun (patches_of s.heads.items) s.numbers c.self.invariant.keeps.lawful c.args.head (patches_of c.cascade-landed.new.heads.items) open_gate
+    (shut_cascade c.self.invariant open_gate c.seal_slot.new.heads c.seal_slot.ensures.nodes c.cascade-landed.new.heads c.cascade-landed.ensures.placed)
 
 pub returns-in-Err-clause-begun : goal.returns-in-Err-clause-begun
 returns-in-Err-clause-begun c =

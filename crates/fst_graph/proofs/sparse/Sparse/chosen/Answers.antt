@@ -1,16 +1,12 @@
-use Rattle.std.proofs.Common.{◌≡◌, ◌∙◌, length, count_by, IfSome, option_map, sym, ap, subst, arith}
-use Rattle.fst_heads.specs.Heads.{patches_of}
-use Rattle.fst_heads.specs.Marks.{mark_in}
-use Rattle.fst_heads.specs.Nodes.{nodes_of}
-use Rattle.fst_heads.specs.Standings.{is_ready_on}
+use Rattle.std.proofs.Common.{◌≡◌, ◌∙◌, length, count_by, IfSome, option_map, sym, ap, subst, arith, ◌↔◌, ℕ, true}
+use Rattle.fst_heads.specs.{Ascending.IsBehind, Heads.patches_of, Marks.mark_in, Nodes.nodes_of, Standings.is_ready_on}
 use Rattle.fst_heads.proofs.Counts.{free_few}
-use Rattle.fst_heads.proofs.Slots.{rising_heads}
 use Rattle.fst_walks.proofs.Resting.{empty_set, none_yet, chosen_ready, chosen_refused}
-use Rattle.fst_graph.proofs.AtRest.{many_lists, its_list, its_standing, waits_live, behind_marked}
+use Rattle.fst_graph.proofs.Sound.{many_lists, its_list, its_standing, waits_live, behind_marked, rising_sound}
 use Rattle.fst_graph.proofs.sparse.Sparse.chosen.Goals as goal
 
 pub mark_flight-flying-requires-clause-rising : goal.mark_flight-flying-requires-clause-rising
-mark_flight-flying-requires-clause-rising c = rw c.deref-2.ensures.value (rising_heads c.self.inside.heads.items c.self.invariant.keeps.lawful.one_place_each.rising)
+mark_flight-flying-requires-clause-rising c = rw c.deref-2.ensures.value (rising_sound c.self.invariant)
 
 pub mark_flight-flying-requires-clause-listed : goal.mark_flight-flying-requires-clause-listed
 mark_flight-flying-requires-clause-listed c =
@@ -24,7 +20,7 @@ pub mark_flight-flying-requires-clause-linked : goal.mark_flight-flying-requires
 mark_flight-flying-requires-clause-linked c = rw c.deref-2.ensures.value c.self.invariant.tallies.linked
 
 pub ready_set-requires-clause-rising : goal.ready_set-requires-clause-rising
-ready_set-requires-clause-rising c = rw c.deref-6.ensures.value (rising_heads c.self.inside.heads.items c.self.invariant.keeps.lawful.one_place_each.rising)
+ready_set-requires-clause-rising c = rw c.deref-6.ensures.value (rising_sound c.self.invariant)
 
 pub ready_set-requires-clause-listed : goal.ready_set-requires-clause-listed
 ready_set-requires-clause-listed c =
@@ -54,15 +50,18 @@ returns-in_default-clause-ok c =
     let many = many_lists c.self.invariant c.deref.result.now c.deref.ensures.value in
     rw (← c.self.view_is, c.new.ensures.items) (empty_set (patches_of s.heads.items) s.blocks c.args.block.0 c.self.invariant.keeps.inside (λ lt. omega (arith, lt, past, many)))
 
+-- the marks tell what waits behind what flies of the block
+exact : (c : goal.After-ready_set) (n : ℕ) → (mark_in c.self.inside.heads.items (option_map (λ m. m.now) c.marks_if-marks.result) n ≡ true) ↔ IsBehind (nodes_of c.self.inside.heads.items) c.args.block.0 n
+exact c = behind_marked c.self.inside.heads.items c.deref-2.result.now c.args.block.0 c.mark_flight-flying.result c.marks.result.now c.mark_flight-flying.new.walk.marks _ c.deref-2.ensures.value c.marks.ensures.marks c.mark_flight-flying.ensures.behind c.marks_if-marks.ensures.marks
+
 pub returns-clause-ok : goal.returns-clause-ok
 returns-clause-ok c =
     let s = c.self.inside in
     let heads = s.heads.items in
     let b = c.args.block.0 in
     let given = option_map (λ m. m.now) c.marks_if-marks.result in
-    let exact = behind_marked heads c.deref-2.result.now b c.mark_flight-flying.result c.marks.result.now c.mark_flight-flying.new.walk.marks given c.deref-2.ensures.value c.marks.ensures.marks c.mark_flight-flying.ensures.behind c.marks_if-marks.ensures.marks in
     rw (← c.self.view_is)
-    (chosen_ready heads s.numbers s.blocks s.walks.walk.marks _ s.standings.items s.queue.items s.queue.cap b c.self.invariant.keeps c.self.invariant.tallies (mark_in heads given) exact c.ready_set.result
+    (chosen_ready heads s.numbers s.blocks s.walks.walk.marks _ s.standings.items s.queue.items s.queue.cap b c.self.invariant.keeps c.self.invariant.tallies (mark_in heads given) (exact c) c.ready_set.result
     (rw (← c.deref-6.ensures.value) c.ready_set.ensures.ok))
 
 pub returns-clause-refused : goal.returns-clause-refused
@@ -71,7 +70,6 @@ returns-clause-refused c =
     let heads = s.heads.items in
     let b = c.args.block.0 in
     let given = option_map (λ m. m.now) c.marks_if-marks.result in
-    let exact = behind_marked heads c.deref-2.result.now b c.mark_flight-flying.result c.marks.result.now c.mark_flight-flying.new.walk.marks given c.deref-2.ensures.value c.marks.ensures.marks c.mark_flight-flying.ensures.behind c.marks_if-marks.ensures.marks in
     rw (← c.self.view_is)
-    (chosen_refused heads s.numbers s.blocks s.walks.walk.marks _ s.standings.items s.queue.items s.queue.cap b c.self.invariant.keeps c.self.invariant.tallies (mark_in heads given) exact c.ready_set.result
+    (chosen_refused heads s.numbers s.blocks s.walks.walk.marks _ s.standings.items s.queue.items s.queue.cap b c.self.invariant.keeps c.self.invariant.tallies (mark_in heads given) (exact c) c.ready_set.result
     (rw (← c.deref-6.ensures.value) c.ready_set.ensures.refused))

@@ -1,71 +1,45 @@
-use Rattle.std.proofs.Common.{◌≡◌, ◌≤◌, ◌∙◌, Contains, length, map, refl, sym, ap, subst, inl, inr, arith, None, []}
-use Rattle.fst_types.specs.Dependencies.{DirectlyOn, IsLiveNumber}
-use Rattle.fst_types.specs.Facts.{SparseAreLawful}
-use Rattle.fst_types.specs.Gates.{IsOpenNumber}
-use Rattle.fst_types.specs.Gating.{gains}
-use Rattle.fst_types.specs.Lists.{Lists}
-use Rattle.fst_types.specs.Order.{depend_order}
-use Rattle.fst_types.specs.Refusals.{NoneHolds}
-use Rattle.fst_heads.specs.Heads.{patches_of}
-use Rattle.fst_heads.specs.Names.{numbers_of}
-use Rattle.fst_heads.specs.Nodes.{nodes_of, at_number, gains_names, linked_to, pending_in, HasRoomAbove}
-use Rattle.fst_heads.specs.declared.pending.Sums.{Sums}
-use Rattle.fst_heads.specs.Pendings.{sums_of}
-use Rattle.fst_heads.proofs.AtNumber.{patches_in_nodes}
-use Rattle.fst_heads.proofs.Added.{with_names}
-use Rattle.fst_walks.proofs.Linked.{patches_named}
-use Rattle.fst_graph.proofs.FewCounted.{few}
-use Rattle.fst_graph.proofs.Tallied.{tallies_depends}
-use Rattle.fst_heads.proofs.Linking.{rising_as, rising_same}
-use Rattle.fst_walks.proofs.Seen.{seen, same_patches, lawful_nodes, gained_number}
-use Rattle.fst_heads.proofs.Slots.{rising_heads}
-use Rattle.fst_graph.proofs.Gained.{keeps_depends}
-use Rattle.fst_graph.proofs.Walked.{gates_told, still_marked}
-use Rattle.fst_heads.proofs.Beside.{beside_depends}
-use Rattle.fst_heads.proofs.Covering.{covered_gained}
+use Rattle.std.proofs.Common.{◌≡◌, ◌≤◌, ◌∙◌, Contains, length, map, refl, sym, ap, subst, inl, inr, arith}
+use Rattle.fst_types.specs.{Dependencies.{DirectlyOn, IsLiveNumber}, Facts.SparseAreLawful, Gates.IsOpenNumber, Gating.gains, Lists.Lists, Order.depend_order, Refusals.NoneHolds}
+use Rattle.fst_heads.specs.{Heads.patches_of, Names.numbers_of, Nodes.{nodes_of, at_number, gains_names, linked_to, pending_in, HasRoomAbove}, Pendings.sums_of, declared.pending.Sums.Sums}
+use Rattle.fst_heads.proofs.{Added.with_names, AtNumber.patches_in_nodes, Beside.beside_depends, Covering.covered_gained, Linking.{rising_as, rising_same}}
+use Rattle.fst_walks.proofs.{Linked.patches_named, Seen.{seen, same_patches, lawful_nodes, gained_number}}
+use Rattle.fst_graph.proofs.{Borne.few, Kept.keeps_depends, Sound.{rising_sound, roomier_sound, walked_sound, as_many_places, gates_told}, Tallied.tallies_depends}
 use Rattle.fst_graph.proofs.sparse.Sparse.depend.Goals as goal
 
 pub depend_fault-requires-clause-rising : goal.depend_fault-requires-clause-rising
-depend_fault-requires-clause-rising c = rw c.deref.ensures.value (rising_heads c.self.inside.heads.items c.self.invariant.keeps.lawful.one_place_each.rising)
+depend_fault-requires-clause-rising c = rw c.deref.ensures.value (rising_sound c.self.invariant)
 
 pub depend_fault-requires-clause-linked : goal.depend_fault-requires-clause-linked
 depend_fault-requires-clause-linked c = rw c.deref.ensures.value c.self.invariant.tallies.linked
 
 pub depend_fault-requires-clause-gates : goal.depend_fault-requires-clause-gates
-depend_fault-requires-clause-gates c = rw c.deref.ensures.value (gates_told c.self.inside.heads.items c.self.inside.numbers c.self.inside.blocks c.self.inside.walks.walk.marks c.self.invariant.keeps c.self.invariant.tallies.settled)
+depend_fault-requires-clause-gates c = rw c.deref.ensures.value (gates_told c.self.invariant)
 
 pub returns-in-Some-clause-refused : goal.returns-in-Some-clause-refused
 returns-in-Some-clause-refused c = rw (← c.self.view_is, ← c.deref.ensures.value) (inl c.in-Some.ensures.first)
 
 pub missing_names-requires : goal.missing_names-requires
-missing_names-requires c = rw c.deref-2.ensures.value (rising_heads c.self.inside.heads.items c.self.invariant.keeps.lawful.one_place_each.rising)
+missing_names-requires c = rw c.deref-2.ensures.value (rising_sound c.self.invariant)
 
 pub returns-in_default-missing_names-clause-refused : goal.returns-in_default-missing_names-clause-refused
 returns-in_default-missing_names-clause-refused c = rw (← c.self.view_is, ← c.deref.ensures.value) (inr (c.in_default.ensures.clear, refl))
 
 pub reserve_above-requires : goal.reserve_above-requires
-reserve_above-requires c = rising_heads c.self.inside.heads.items c.self.invariant.keeps.lawful.one_place_each.rising
+reserve_above-requires c = rising_sound c.self.invariant
 
 pub invariant_of-self-in_default-reserve_above : goal.invariant_of-self-in_default-reserve_above
 invariant_of-self-in_default-reserve_above c =
-    let heads = c.self.inside.heads.items in
-    let K = still_marked c.self.inside.heads.items c.self.inside.numbers c.self.inside.blocks c.self.inside.walks.walk.marks c.depend_fault.new.walk.marks c.self.invariant.keeps (c.depend_fault.ensures.long ∙ ap length c.deref.ensures.value) in record {
-      keeps = rw (same_patches c.reserve_above.new.heads.items heads c.reserve_above.ensures.nodes)
-          K;
-      beside = rw (same_patches c.reserve_above.new.heads.items heads c.reserve_above.ensures.nodes) c.self.invariant.beside;
-      tallies = rw c.reserve_above.ensures.nodes c.self.invariant.tallies;
-      covered = rw (same_patches c.reserve_above.new.heads.items heads c.reserve_above.ensures.nodes) c.self.invariant.covered;
-      prepared = tt;
-    }
+    let walked = walked_sound c.self.invariant {walked = record c.self.inside.walks { walk = c.depend_fault.new.walk }} (c.depend_fault.ensures.long ∙ ap length c.deref.ensures.value) (as_many_places c.self.invariant) in
+    roomier_sound walked c.reserve_above.ensures.nodes refl refl refl (omega arith)
 
 pub returns-in_default-reserve_above-clause-refused : goal.returns-in_default-reserve_above-clause-refused
 returns-in_default-reserve_above-clause-refused c = rw (← c.self.view_is, ← c.deref.ensures.value) (inr (c.in_default.ensures.clear, refl))
 
 pub row_sums-sums-requires : goal.row_sums-sums-requires
-row_sums-sums-requires c = rw c.deref-3.ensures.value (rising_same _ _ c.reserve_above.ensures.nodes (rising_heads c.self.inside.heads.items c.self.invariant.keeps.lawful.one_place_each.rising))
+row_sums-sums-requires c = rw c.deref-3.ensures.value (rising_same _ _ c.reserve_above.ensures.nodes (rising_sound c.self.invariant))
 
 pub gain-requires-clause-rising : goal.gain-requires-clause-rising
-gain-requires-clause-rising c = rising_same _ _ c.reserve_above.ensures.nodes (rising_heads c.self.inside.heads.items c.self.invariant.keeps.lawful.one_place_each.rising)
+gain-requires-clause-rising c = rising_same _ _ c.reserve_above.ensures.nodes (rising_sound c.self.invariant)
 
 pub gain-requires-clause-counted : goal.gain-requires-clause-counted
 gain-requires-clause-counted c = rw c.reserve_above.ensures.nodes (few (nodes_of c.self.inside.heads.items) c.self.inside.blocks (omega (arith, c.self.ranges)) c.self.invariant.tallies.settled)
@@ -75,16 +49,8 @@ gain-requires-clause-names c = subst (λ row. c.row_sums-sums.result.count ≤ l
 
 pub invariant_of-self-in_default-gain : goal.invariant_of-self-in_default-gain
 invariant_of-self-in_default-gain c =
-    let heads = c.self.inside.heads.items in
-    let still : nodes_of c.gain.new.heads.items ≡ nodes_of heads = c.in_default-gain.ensures.same ∙ c.reserve_above.ensures.nodes in
-    let K = still_marked c.self.inside.heads.items c.self.inside.numbers c.self.inside.blocks c.self.inside.walks.walk.marks c.depend_fault.new.walk.marks c.self.invariant.keeps (c.depend_fault.ensures.long ∙ ap length c.deref.ensures.value) in record {
-      keeps = rw (same_patches c.gain.new.heads.items heads still)
-          K;
-      beside = rw (same_patches c.gain.new.heads.items heads still) c.self.invariant.beside;
-      tallies = rw still c.self.invariant.tallies;
-      covered = rw (same_patches c.gain.new.heads.items heads still) c.self.invariant.covered;
-      prepared = tt;
-    }
+    let walked = walked_sound c.self.invariant {walked = record c.self.inside.walks { walk = c.depend_fault.new.walk }} (c.depend_fault.ensures.long ∙ ap length c.deref.ensures.value) (as_many_places c.self.invariant) in
+    roomier_sound walked (c.in_default-gain.ensures.same ∙ c.reserve_above.ensures.nodes) refl refl refl (omega arith)
 
 pub returns-in_default-gain-clause-refused : goal.returns-in_default-gain-clause-refused
 returns-in_default-gain-clause-refused c = rw (← c.self.view_is, ← c.deref.ensures.value) (inr (c.in_default.ensures.clear, refl))
@@ -92,7 +58,7 @@ returns-in_default-gain-clause-refused c = rw (← c.self.view_is, ← c.deref.e
 pub link-requires-clause-rising : goal.link-requires-clause-rising
 link-requires-clause-rising c =
     rising_as (at_number c.args.gate.0 (gains_names c.as_slice-3.result.now c.row_sums-sums.result)) (gained_number c.args.gate.0 c.as_slice-3.result.now c.row_sums-sums.result) _ _ c.in-Ok-gain.ensures.ok
-    (rising_same _ _ c.reserve_above.ensures.nodes (rising_heads c.self.inside.heads.items c.self.invariant.keeps.lawful.one_place_each.rising))
+    (rising_same _ _ c.reserve_above.ensures.nodes (rising_sound c.self.invariant))
 
 pub link-requires-clause-once : goal.link-requires-clause-once
 link-requires-clause-once c = rw c.as_slice-4.ensures c.in-Ok.ensures.rising
@@ -134,45 +100,43 @@ new_patches c =
     let heads = c.self.inside.heads.items in
     seen c.link.new.heads.items _ (named c) ∙ (patches_named g names (added c) (nodes_of heads) ∙ ap (map (gains g names)) (patches_in_nodes heads))
 
+-- nothing refuses it, and the names are those that are live and not yet there
+gate : (c : goal.Joined-names-3) → IsOpenNumber (patches_of c.self.inside.heads.items) c.args.gate.0
+gate c = subst (λ hs. IsOpenNumber (patches_of hs) c.args.gate.0) c.deref.ensures.value c.in_default.ensures.is_open
+
+clear : (c : goal.Joined-names-3) → NoneHolds (depend_order (patches_of c.self.inside.heads.items) c.self.inside.numbers c.args.gate.0 (numbers_of c.args.on.now))
+clear c = subst (λ hs. NoneHolds (depend_order (patches_of hs) c.self.inside.numbers c.args.gate.0 (numbers_of c.args.on.now))) c.deref.ensures.value c.in_default.ensures.clear
+
+live : (c : goal.Joined-names-3) → Lists (λ n. IsLiveNumber (patches_of c.self.inside.heads.items) n × Contains (numbers_of c.args.on.now) n × (DirectlyOn (patches_of c.self.inside.heads.items) c.args.gate.0 n → ⊥)) c.in-Ok.names.items
+live c = subst (λ hs. Lists (λ n. IsLiveNumber (patches_of hs) n × Contains (numbers_of c.args.on.now) n × (DirectlyOn (patches_of hs) c.args.gate.0 n → ⊥)) c.in-Ok.names.items) c.deref-2.ensures.value c.in-Ok.ensures
+
 pub invariant_of-self-2 : goal.invariant_of-self-2
 invariant_of-self-2 c =
     let heads = c.self.inside.heads.items in
     let numbers = c.self.inside.numbers in
     let g = c.args.gate.0 in
     let on = numbers_of c.args.on.now in
-    let K = still_marked c.self.inside.heads.items c.self.inside.numbers c.self.inside.blocks c.self.inside.walks.walk.marks c.depend_fault.new.walk.marks c.self.invariant.keeps (c.depend_fault.ensures.long ∙ ap length c.deref.ensures.value) in
-    let gate = subst (λ hs. IsOpenNumber (patches_of hs) g) c.deref.ensures.value c.in_default.ensures.is_open in
-    let none = subst (λ hs. NoneHolds (depend_order (patches_of hs) numbers g on)) c.deref.ensures.value c.in_default.ensures.clear in
-    let live = subst (λ hs. Lists (λ n. IsLiveNumber (patches_of hs) n × Contains on n × (DirectlyOn (patches_of hs) g n → ⊥)) c.in-Ok.names.items) c.deref-2.ensures.value c.in-Ok.ensures in
+    let K = (walked_sound c.self.invariant {walked = record c.self.inside.walks { walk = c.depend_fault.new.walk }} (c.depend_fault.ensures.long ∙ ap length c.deref.ensures.value) (as_many_places c.self.invariant)).keeps in
     let T = c.self.invariant.tallies in
     let back = sym (patches_in_nodes heads) in
-    let live_there = subst (λ ps. Lists (λ n. IsLiveNumber ps n × Contains on n × (DirectlyOn ps g n → ⊥)) c.in-Ok.names.items) back live in
-    let keeps = keeps_depends (patches_of heads) numbers c.self.inside.blocks g c.in-Ok.names.items on c.depend_fault.new.walk.marks _ K gate none live refl in
+    let live_there = subst (λ ps. Lists (λ n. IsLiveNumber ps n × Contains on n × (DirectlyOn ps g n → ⊥)) c.in-Ok.names.items) back (live c) in
+    let keeps = keeps_depends (patches_of heads) numbers c.self.inside.blocks g c.in-Ok.names.items on c.depend_fault.new.walk.marks _ K (gate c) (clear c) (live c) refl in
     let lawful = subst (λ ps. SparseAreLawful ps numbers) (sym (new_patches c) ∙ seen c.link.new.heads.items _ (named c)) keeps.lawful in record {
       keeps = rw (new_patches c) keeps;
       beside = rw (new_patches c) (beside_depends (patches_of heads) c.self.inside.blocks c.self.inside.live c.self.inside.walks.crossed.items g c.in-Ok.names.items c.self.invariant.beside);
       tallies = rw (named c)
-          (tallies_depends (nodes_of heads) numbers c.self.inside.blocks _ _ _ _ g on c.in-Ok.names.items (lawful_nodes heads numbers c.self.invariant.keeps.lawful) lawful T (subst (λ ps. IsOpenNumber ps g) back gate) live_there);
+          (tallies_depends (nodes_of heads) numbers c.self.inside.blocks _ _ _ _ g on c.in-Ok.names.items (lawful_nodes heads numbers c.self.invariant.keeps.lawful) lawful T (subst (λ ps. IsOpenNumber ps g) back (gate c)) live_there);
       covered = rw (new_patches c) (covered_gained (patches_of heads) g c.in-Ok.names.items c.self.inside.blocks c.self.inside.covers.items c.self.invariant.covered);
       prepared = tt;
     }
 
 pub returns-clause-ok : goal.returns-clause-ok
 returns-clause-ok c =
-    let heads = c.self.inside.heads.items in
-    let g = c.args.gate.0 in
-    let on = numbers_of c.args.on.now in
-    let clear = subst (λ hs. NoneHolds (depend_order (patches_of hs) c.self.inside.numbers g on)) c.deref.ensures.value c.in_default.ensures.clear in
+    let none = clear c in
     rw (← c.self.view_is)
     (record {
-      clear = clear;
-      row = record {
-        gate = subst (λ hs. IsOpenNumber (patches_of hs) g) c.deref.ensures.value c.in_default.ensures.is_open;
-        clear = clear.1.1.1.1.1.0;
-        names = c.in-Ok.names.items;
-        live = subst (λ hs. Lists (λ n. IsLiveNumber (patches_of hs) n × Contains on n × (DirectlyOn (patches_of hs) g n → ⊥)) c.in-Ok.names.items) c.deref-2.ensures.value c.in-Ok.ensures;
-        gained = new_patches c;
-      };
+      clear = none;
+      row = record { gate = gate c; clear = none.1.1.1.1.1.0; names = c.in-Ok.names.items; live = live c; gained = new_patches c };
       numbers = refl;
       blocks = refl;
       groups = refl;
@@ -180,11 +144,7 @@ returns-clause-ok c =
     })
 
 pub returns-in_default-reserve_above-clause-same : goal.returns-in_default-reserve_above-clause-same
-returns-in_default-reserve_above-clause-same c =
-    rw (← c.self.view_is)
-    (ap (λ ps. record { heads = ps; numbers = c.self.inside.numbers; blocks = c.self.inside.blocks; groups = []; prepared = None }) (same_patches c.reserve_above.new.heads.items c.self.inside.heads.items c.reserve_above.ensures.nodes))
+returns-in_default-reserve_above-clause-same c = rw (← c.self.view_is, same_patches c.reserve_above.new.heads.items c.self.inside.heads.items c.reserve_above.ensures.nodes) refl
 
 pub returns-in_default-gain-clause-same : goal.returns-in_default-gain-clause-same
-returns-in_default-gain-clause-same c =
-    rw (← c.self.view_is)
-    (ap (λ ps. record { heads = ps; numbers = c.self.inside.numbers; blocks = c.self.inside.blocks; groups = []; prepared = None }) (same_patches c.gain.new.heads.items c.self.inside.heads.items (c.in_default-gain.ensures.same ∙ c.reserve_above.ensures.nodes)))
+returns-in_default-gain-clause-same c = rw (← c.self.view_is, same_patches c.gain.new.heads.items c.self.inside.heads.items (c.in_default-gain.ensures.same ∙ c.reserve_above.ensures.nodes)) refl

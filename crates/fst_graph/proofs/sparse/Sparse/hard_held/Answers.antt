@@ -1,16 +1,12 @@
-use Rattle.std.proofs.Common.{◌≡◌, ◌∙◌, ◌&&◌, ℕ, Bool, None, length, count_by, IfSome, option_map, sym, ap, subst, arith}
-use Rattle.fst_heads.specs.Heads.{patches_of}
-use Rattle.fst_heads.specs.Marks.{mark_in, mark_of}
-use Rattle.fst_heads.specs.Nodes.{nodes_of}
-use Rattle.fst_heads.specs.Standings.{is_held_on}
+use Rattle.std.proofs.Common.{◌≡◌, ◌∙◌, ◌&&◌, ℕ, Bool, None, length, count_by, IfSome, option_map, sym, ap, subst, arith, ◌↔◌, true}
+use Rattle.fst_heads.specs.{Ascending.IsBehind, Heads.patches_of, Marks.{mark_in, mark_of}, Nodes.nodes_of, Standings.is_held_on}
 use Rattle.fst_heads.proofs.Counts.{none_bound}
-use Rattle.fst_heads.proofs.Slots.{rising_heads}
 use Rattle.fst_walks.proofs.Resting.{none_yet, none_there, none_held, least_held}
-use Rattle.fst_graph.proofs.AtRest.{many_lists, its_list, its_standing, waits_live, behind_marked}
+use Rattle.fst_graph.proofs.Sound.{many_lists, its_list, its_standing, waits_live, behind_marked, rising_sound}
 use Rattle.fst_graph.proofs.sparse.Sparse.hard_held.Goals as goal
 
 pub mark_flight-flying-requires-clause-rising : goal.mark_flight-flying-requires-clause-rising
-mark_flight-flying-requires-clause-rising c = rw c.deref-2.ensures.value (rising_heads c.self.inside.heads.items c.self.invariant.keeps.lawful.one_place_each.rising)
+mark_flight-flying-requires-clause-rising c = rw c.deref-2.ensures.value (rising_sound c.self.invariant)
 
 pub mark_flight-flying-requires-clause-listed : goal.mark_flight-flying-requires-clause-listed
 mark_flight-flying-requires-clause-listed c =
@@ -24,7 +20,7 @@ pub mark_flight-flying-requires-clause-linked : goal.mark_flight-flying-requires
 mark_flight-flying-requires-clause-linked c = rw c.deref-2.ensures.value c.self.invariant.tallies.linked
 
 pub first_held-requires-clause-rising : goal.first_held-requires-clause-rising
-first_held-requires-clause-rising c = rw c.deref-5.ensures.value (rising_heads c.self.inside.heads.items c.self.invariant.keeps.lawful.one_place_each.rising)
+first_held-requires-clause-rising c = rw c.deref-5.ensures.value (rising_sound c.self.invariant)
 
 pub first_held-requires-clause-listed : goal.first_held-requires-clause-listed
 first_held-requires-clause-listed c =
@@ -58,15 +54,18 @@ returns-then-held_count-eq0-clause-none c =
     (none_held heads s.numbers s.blocks s.walks.walk.marks _ s.standings.items s.queue.items s.queue.cap b c.self.invariant.keeps c.self.invariant.tallies behind
     (λ n. rw (← c.deref-2.ensures.value) (c.mark_flight-flying.ensures.behind n)) None none)
 
+-- the marks tell what waits behind what flies of the block
+exact : (c : goal.After-first_held) (n : ℕ) → (mark_in c.self.inside.heads.items (option_map (λ m. m.now) c.marks_if-marks.result) n ≡ true) ↔ IsBehind (nodes_of c.self.inside.heads.items) c.args.block.0 n
+exact c = behind_marked c.self.inside.heads.items c.deref-2.result.now c.args.block.0 c.mark_flight-flying.result c.marks.result.now c.mark_flight-flying.new.walk.marks _ c.deref-2.ensures.value c.marks.ensures.marks c.mark_flight-flying.ensures.behind c.marks_if-marks.ensures.marks
+
 pub returns-clause-none : goal.returns-clause-none
 returns-clause-none c =
     let s = c.self.inside in
     let heads = s.heads.items in
     let b = c.args.block.0 in
     let given = option_map (λ m. m.now) c.marks_if-marks.result in
-    let exact = behind_marked heads c.deref-2.result.now b c.mark_flight-flying.result c.marks.result.now c.mark_flight-flying.new.walk.marks given c.deref-2.ensures.value c.marks.ensures.marks c.mark_flight-flying.ensures.behind c.marks_if-marks.ensures.marks in
     rw (← c.self.view_is)
-    (none_held heads s.numbers s.blocks s.walks.walk.marks _ s.standings.items s.queue.items s.queue.cap b c.self.invariant.keeps c.self.invariant.tallies (mark_in heads given) exact c.first_held.result
+    (none_held heads s.numbers s.blocks s.walks.walk.marks _ s.standings.items s.queue.items s.queue.cap b c.self.invariant.keeps c.self.invariant.tallies (mark_in heads given) (exact c) c.first_held.result
     (rw (← c.deref-5.ensures.value) c.first_held.ensures.none))
 
 pub returns-clause-least : goal.returns-clause-least
@@ -75,7 +74,6 @@ returns-clause-least c =
     let heads = s.heads.items in
     let b = c.args.block.0 in
     let given = option_map (λ m. m.now) c.marks_if-marks.result in
-    let exact = behind_marked heads c.deref-2.result.now b c.mark_flight-flying.result c.marks.result.now c.mark_flight-flying.new.walk.marks given c.deref-2.ensures.value c.marks.ensures.marks c.mark_flight-flying.ensures.behind c.marks_if-marks.ensures.marks in
     rw (← c.self.view_is)
-    (least_held heads s.numbers s.blocks s.walks.walk.marks _ s.standings.items s.queue.items s.queue.cap b c.self.invariant.keeps c.self.invariant.tallies (mark_in heads given) exact c.first_held.result
+    (least_held heads s.numbers s.blocks s.walks.walk.marks _ s.standings.items s.queue.items s.queue.cap b c.self.invariant.keeps c.self.invariant.tallies (mark_in heads given) (exact c) c.first_held.result
     (rw (← c.deref-5.ensures.value) c.first_held.ensures.least))

@@ -1,7 +1,6 @@
 use Rattle.std.proofs.Common.{◌+◌}
 use Rattle.fst_heads.specs.Heads.{patches_of}
-use Rattle.fst_graph.proofs.Readied.{seen_member, member_seen, ready_member}
-use Rattle.fst_graph.proofs.Sound.{prepared_is}
+use Rattle.fst_graph.proofs.{Readied.{seen_member, member_seen, ready_member}, Sound.prepared_is}
 use Rattle.fst_graph.proofs.sparse.Sparse.is_member_prepared.Goals as goal
 
 pub returns-in-Some : goal.returns-in-Some

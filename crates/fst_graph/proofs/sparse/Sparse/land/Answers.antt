@@ -1,42 +1,24 @@
-use Rattle.std.proofs.Common.{◌≡◌, ◌≤◌, ◌∙◌, inl, inr, count_by, get_or, map, sym, ap, subst, length, arith, refl}
-use Rattle.std.proofs.lemmas.Bool.{cases_lt}
-use Rattle.std.proofs.lemmas.List.{length-map}
-use Rattle.fst_types.specs.Cascade.{IsCascadeOf}
-use Rattle.fst_types.specs.Writing.{landed}
-use Rattle.fst_heads.specs.Spreading.{IsSpreadOf, lands}
-use Rattle.fst_heads.specs.Heads.{patches_of}
-use Rattle.fst_heads.specs.Keeps.{IsInside}
-use Rattle.fst_heads.specs.Lists.{entries_of, AreListed}
-use Rattle.fst_heads.specs.Nodes.{node_of, nodes_of, patches_in, AreSettled}
-use Rattle.fst_heads.specs.Standings.{AllStand, is_flying_on}
-use Rattle.fst_heads.proofs.AtNumber.{patches_in_nodes}
-use Rattle.fst_graph.proofs.Borne.{inside_nodes, stand_land}
-use Rattle.fst_graph.proofs.Kept.{covered_moved, keeps_landed}
-use Rattle.fst_walks.proofs.Seen.{seen, lawful_nodes}
-use Rattle.fst_walks.proofs.Shelves.{shelved}
-use Rattle.fst_heads.proofs.Counts.{flying_counted}
-use Rattle.fst_heads.proofs.Listing.{nothing_flies, is_off}
-use Rattle.fst_walks.proofs.Resting.{none_yet}
-use Rattle.fst_heads.proofs.Slots.{rising_heads}
-use Rattle.fst_heads.proofs.Starting.{starts_landed, patches_landed}
-use Rattle.fst_heads.proofs.Carried.{linked_landed, distinct_landed}
-use Rattle.fst_graph.proofs.Tallied.{tallies_landed}
-use Rattle.fst_heads.proofs.Beside.{beside_landed, landed_few}
+use Rattle.std.proofs.{Common.{◌≡◌, ◌≤◌, ◌∙◌, inl, inr, count_by, get_or, map, sym, ap, subst, length, arith, refl}, lemmas.Bool.cases_lt, lemmas.List.length-map}
+use Rattle.fst_types.specs.{Cascade.IsCascadeOf, Writing.landed}
+use Rattle.fst_heads.specs.{Heads.patches_of, Keeps.IsInside, Lists.AreListed, Nodes.{node_of, nodes_of, patches_in, AreSettled}, Spreading.{IsSpreadOf, lands}, Standings.{AllStand, is_flying_on}}
 use Rattle.fst_types.proofs.Landing.{alike_landed}
+use Rattle.fst_heads.proofs.{AtNumber.patches_in_nodes, Beside.{beside_landed, landed_few}, Carried.{linked_landed, distinct_landed}}
+use Rattle.fst_heads.proofs.{Counts.flying_counted, Listing.{nothing_flies, is_off}, Starting.{starts_landed, patches_landed}}
+use Rattle.fst_walks.proofs.{Resting.none_yet, Seen.{seen, lawful_nodes}, Shelves.shelved}
+use Rattle.fst_graph.proofs.{Borne.{inside_nodes, stand_land}, Kept.{covered_moved, keeps_landed}, Sound.{rising_sound, as_many_lists, as_many_standings}}
+use Rattle.fst_graph.proofs.{Tallied.tallies_landed, sparse.Sparse.land.Goals.After-cascade-landed}
 use Rattle.fst_graph.proofs.sparse.Sparse.land.Goals as goal
 
 pub land_block-requires-clause-rising : goal.land_block-requires-clause-rising
-land_block-requires-clause-rising c = rising_heads c.self.inside.heads.items c.self.invariant.keeps.lawful.one_place_each.rising
+land_block-requires-clause-rising c = rising_sound c.self.invariant
 
 pub land_block-requires-clause-inside : goal.land_block-requires-clause-inside
-land_block-requires-clause-inside c =
-    let long : c.self.inside.blocks ≡ length c.self.inside.lists.items = sym c.self.invariant.tallies.listed.long ∙ length-map c.self.inside.lists.items (λ l. entries_of l.items) in
-    subst (IsInside (patches_of c.self.inside.heads.items)) long c.self.invariant.keeps.inside
+land_block-requires-clause-inside c = subst (IsInside (patches_of c.self.inside.heads.items)) (sym (as_many_lists c.self.invariant)) c.self.invariant.keeps.inside
 
 pub land_block-requires-clause-listed : goal.land_block-requires-clause-listed
 land_block-requires-clause-listed c =
     let lists = c.self.inside.lists.items in
-    let long : c.self.inside.blocks ≡ length lists = sym c.self.invariant.tallies.listed.long ∙ length-map lists (λ l. entries_of l.items) in
+    let long = sym (as_many_lists c.self.invariant) in
     subst (λ ps. AreListed ps (length lists) (shelved lists)) (patches_in_nodes c.self.inside.heads.items) (subst (λ n. AreListed (patches_in (nodes_of c.self.inside.heads.items)) n (shelved lists)) long c.self.invariant.tallies.listed)
 
 pub land_block-requires-clause-idle : goal.land_block-requires-clause-idle
@@ -68,8 +50,7 @@ cascade-landed-requires-clause-start c =
     let blocks = c.self.inside.blocks in
     let K = c.self.invariant.keeps in
     let T = c.self.invariant.tallies in
-    let long : c.self.inside.standings.len ≡ blocks = omega (arith, T.standing.long, c.self.inside.standings.ok.0) in
-    rw (c.land_block.ensures.nodes, c.land_block.ensures.queued, ← patches_in_nodes heads, c.land_at.ensures.len, long)
+    rw (c.land_block.ensures.nodes, c.land_block.ensures.queued, ← patches_in_nodes heads, c.land_at.ensures.len, as_many_standings c.self.invariant)
     (starts_landed (nodes_of heads) n blocks c.args.block.0 (lawful_nodes heads n K.lawful) (inside_nodes heads blocks K.inside) T.settled)
 
 pub cascade-landed-requires-clause-distinct : goal.cascade-landed-requires-clause-distinct
@@ -80,10 +61,9 @@ cascade-landed-requires-clause-standing c =
     let heads = c.self.inside.heads.items in
     let blocks = c.self.inside.blocks in
     let T = c.self.invariant.tallies in
-    let long : c.self.inside.standings.len ≡ blocks = omega (arith, T.standing.long, c.self.inside.standings.ok.0) in
-    rw (c.land_block.ensures.nodes, c.land_at.ensures.len, long)
+    rw (c.land_block.ensures.nodes, c.land_at.ensures.len, as_many_standings c.self.invariant)
     (stand_land (nodes_of heads) blocks c.args.block.0 c.self.inside.standings.items c.land_at.new.standings.items (inside_nodes heads blocks c.self.invariant.keeps.inside) T.standing
-    (λ d lt. c.land_at.ensures.inside d (omega (arith, lt, long))) (λ le. c.land_at.ensures.outside (omega (arith, le, long))))
+    (λ d lt. c.land_at.ensures.inside d (omega (arith, lt, as_many_standings c.self.invariant))) (λ le. c.land_at.ensures.outside (omega (arith, le, as_many_standings c.self.invariant))))
 
 pub cascade-landed-requires-clause-linked : goal.cascade-landed-requires-clause-linked
 cascade-landed-requires-clause-linked c = rw c.land_block.ensures.nodes (linked_landed (nodes_of c.self.inside.heads.items) c.args.block.0 c.self.invariant.tallies.linked)
@@ -93,13 +73,23 @@ cascade-landed-requires-clause-room c =
     let same = ap length c.land_block.ensures.nodes in
     omega (arith, same, length-map c.land_block.new.heads.items node_of, length-map (nodes_of c.self.inside.heads.items) (lands c.args.block.0), c.self.invariant.tallies.room, c.land_block.ensures.capacity)
 
+-- the patches whose write landed, and what came to rest by that
+cascade : (c : After-cascade-landed) → IsCascadeOf (map (landed c.args.block.0) (patches_of c.self.inside.heads.items)) (patches_of c.cascade-landed.new.heads.items)
+cascade c =
+    let heads = c.self.inside.heads.items in
+    let b = c.args.block.0 in
+    let was : patches_of c.land_block.new.heads.items ≡ map (landed b) (patches_of heads) =
+    seen c.land_block.new.heads.items _ c.land_block.ensures.nodes ∙ (patches_landed (nodes_of heads) b ∙ ap (map (landed b)) (patches_in_nodes heads)) in
+    subst (λ ps. IsCascadeOf ps (patches_of c.cascade-landed.new.heads.items)) was c.cascade-landed.ensures.placed
+
+settled : (c : After-cascade-landed) → AreSettled (nodes_of c.cascade-landed.new.heads.items) c.self.inside.blocks
+settled c = subst (AreSettled (nodes_of c.cascade-landed.new.heads.items)) (c.land_at.ensures.len ∙ as_many_standings c.self.invariant) c.cascade-landed.ensures.settled
+
 pub overflow_sub-self : goal.overflow_sub-self
 overflow_sub-self c =
     let new = c.cascade-landed.new.heads.items in
     let T = c.self.invariant.tallies in
-    let wide : c.self.inside.standings.len ≡ c.self.inside.blocks = omega (arith, T.standing.long, c.self.inside.standings.ok.0) in
-    let settled = subst (AreSettled (nodes_of new)) (c.land_at.ensures.len ∙ wide) c.cascade-landed.ensures.settled in
-    landed_few c.self.inside.heads.items c.land_block.new.heads.items new (lands c.args.block.0) c.self.inside.blocks c.self.inside.live c.cascade-landed.result c.self.inside.walks.crossed.items c.land_block.ensures.nodes (λ x. refl) T.settled settled
+    landed_few c.self.inside.heads.items c.land_block.new.heads.items new (lands c.args.block.0) c.self.inside.blocks c.self.inside.live c.cascade-landed.result c.self.inside.walks.crossed.items c.land_block.ensures.nodes (λ x. refl) T.settled (settled c)
     c.cascade-landed.ensures.landed c.self.invariant.beside
 
 pub invariant_of-self : goal.invariant_of-self
@@ -114,29 +104,21 @@ invariant_of-self c =
     let b = c.args.block.0 in
     let lists = c.self.inside.lists.items in
     let T = c.self.invariant.tallies in
-    let long : length lists ≡ blocks = sym (length-map lists (λ l. entries_of l.items)) ∙ T.listed.long in
-    let was : patches_of mid ≡ map (landed b) old = seen mid _ c.land_block.ensures.nodes ∙ (patches_landed nodes b ∙ ap (map (landed b)) (patches_in_nodes heads)) in
-    let cascade = subst (λ ps. IsCascadeOf ps (patches_of new)) was c.cascade-landed.ensures.placed in
-    let wide : c.self.inside.standings.len ≡ blocks = omega (arith, T.standing.long, c.self.inside.standings.ok.0) in
+    let long = as_many_lists c.self.invariant in
+    let at = (goal.at.invariant_of-self c).After-cascade-landed in
     let spread : IsSpreadOf (map (lands b) nodes) (nodes_of new) = subst (λ ns. IsSpreadOf ns (nodes_of new)) c.land_block.ensures.nodes c.cascade-landed.ensures.spread in
-    let settled = subst (AreSettled (nodes_of new)) (c.land_at.ensures.len ∙ wide) c.cascade-landed.ensures.settled in
-    let standing = subst (λ k. AllStand (nodes_of new) k c.cascade-landed.new.standings.items) (c.land_at.ensures.len ∙ wide) c.cascade-landed.ensures.standing in
-    let kept = keeps_landed old (patches_of new) n blocks b c.self.inside.walks.walk.marks c.self.inside.walks.walk.marks c.self.invariant.keeps cascade refl in
+    let standing = subst (λ k. AllStand (nodes_of new) k c.cascade-landed.new.standings.items) (c.land_at.ensures.len ∙ as_many_standings c.self.invariant) c.cascade-landed.ensures.standing in
+    let kept = keeps_landed old (patches_of new) n blocks b c.self.inside.walks.walk.marks c.self.inside.walks.walk.marks c.self.invariant.keeps (cascade at) refl in
     let listed : AreListed (patches_in (map (lands b) nodes)) blocks (shelved c.land_block.new.lists.items) =
     subst (λ k. AreListed (patches_in (map (lands b) nodes)) k (shelved c.land_block.new.lists.items)) long
     (subst (λ ps. AreListed ps (length lists) (shelved c.land_block.new.lists.items)) (seen mid _ c.land_block.ensures.nodes) c.land_block.ensures.listed) in record {
       keeps = kept;
-      beside = beside_landed heads mid new (lands b) blocks c.self.inside.live c.cascade-landed.result c.self.inside.walks.crossed.items c.land_block.ensures.nodes (λ x. refl) T.settled settled c.cascade-landed.ensures.landed c.self.invariant.beside;
+      beside = beside_landed heads mid new (lands b) blocks c.self.inside.live c.cascade-landed.result c.self.inside.walks.crossed.items c.land_block.ensures.nodes (λ x. refl) T.settled (settled at) c.cascade-landed.ensures.landed c.self.invariant.beside;
       tallies = rw (c.cascade-landed.ensures.empty, c.cascade-landed.ensures.capacity, c.land_block.ensures.capacity)
-          (tallies_landed nodes (nodes_of new) n blocks b _ _ _ _ _ _ (lawful_nodes new n kept.lawful) T listed spread settled standing);
-      covered = covered_moved (alike_landed old (patches_of new) n b c.self.invariant.keeps.lawful cascade) kept c.self.invariant.covered;
+          (tallies_landed nodes (nodes_of new) n blocks b _ _ _ _ _ _ (lawful_nodes new n kept.lawful) T listed spread (settled at) standing);
+      covered = covered_moved (alike_landed old (patches_of new) n b c.self.invariant.keeps.lawful (cascade at)) kept c.self.invariant.covered;
       prepared = tt;
     }
 
 pub returns-clause-landed : goal.returns-clause-landed
-returns-clause-landed c =
-    let heads = c.self.inside.heads.items in
-    let b = c.args.block.0 in
-    let mid = c.land_block.new.heads.items in
-    let was = seen mid _ c.land_block.ensures.nodes ∙ (patches_landed (nodes_of heads) b ∙ ap (map (landed b)) (patches_in_nodes heads)) in
-    rw (← c.self.view_is) (record { row = subst (λ ps. IsCascadeOf ps (patches_of c.cascade-landed.new.heads.items)) was c.cascade-landed.ensures.placed; numbers = refl; blocks = refl; groups = refl; prepared = refl })
+returns-clause-landed c = rw (← c.self.view_is) (record { row = cascade (goal.at.returns-clause-landed c).After-cascade-landed; numbers = refl; blocks = refl; groups = refl; prepared = refl })

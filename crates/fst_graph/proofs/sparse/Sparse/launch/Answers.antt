@@ -1,30 +1,26 @@
 use Rattle.std.proofs.Common.{◌≡◌, ◌∙◌, Contains, map, sym, ap, subst, refl, arith}
-use Rattle.fst_types.specs.Facts.{SparseAreLawful}
-use Rattle.fst_types.specs.Writable.{IsWritable, IsWritableSet}
-use Rattle.fst_types.specs.Writing.{launched}
-use Rattle.fst_heads.specs.Heads.{patches_of}
+use Rattle.fst_types.specs.{Facts.SparseAreLawful, Writable.{IsWritable, IsWritableSet}, Writing.launched}
+use Rattle.fst_heads.specs.{Heads.patches_of, Names.numbers_of, Nodes.nodes_of, Spreading.launches}
 use Rattle.fst_graph.specs.Known.{Known}
-use Rattle.fst_heads.specs.Names.{numbers_of}
-use Rattle.fst_heads.specs.Nodes.{nodes_of}
-use Rattle.fst_heads.proofs.AtNumber.{patches_in_nodes}
-use Rattle.fst_graph.proofs.Borne.{inside_nodes}
-use Rattle.fst_graph.proofs.Kept.{covered_moved, keeps_launched}
-use Rattle.fst_graph.proofs.Launches.{some_chosen, first_named, none_first, block_found, block_some, tallies_chosen}
-use Rattle.fst_graph.proofs.Marking.{writable_rests}
-use Rattle.fst_heads.proofs.Placed.{patches_launched}
-use Rattle.fst_walks.proofs.Resting.{none_yet}
-use Rattle.fst_walks.proofs.Seen.{seen, lawful_nodes}
-use Rattle.fst_heads.proofs.Slots.{rising_heads}
-use Rattle.fst_heads.proofs.Beside.{beside_kept}
-use Rattle.fst_heads.specs.Spreading.{launches}
 use Rattle.fst_types.proofs.Issuing.{alike_launched}
+use Rattle.fst_heads.proofs.{AtNumber.patches_in_nodes, Beside.beside_kept, Placed.patches_launched}
+use Rattle.fst_walks.proofs.{Resting.none_yet, Seen.{seen, lawful_nodes}}
+use Rattle.fst_graph.proofs.{Borne.inside_nodes, Kept.{covered_moved, keeps_launched}, Launches.{some_chosen, first_named, none_first, block_found, block_some, tallies_chosen}}
+use Rattle.fst_graph.proofs.{Marking.writable_rests, Sound.{as_many_standings, rising_sound}, sparse.Sparse.launch.Goals.{After-deref, After-index_mut-arg-1}}
 use Rattle.fst_graph.proofs.sparse.Sparse.launch.Goals as goal
 
 pub block_of-requires : goal.block_of-requires
-block_of-requires c = rw c.deref.ensures.value (rising_heads c.self.inside.heads.items c.self.invariant.keeps.lawful.one_place_each.rising)
+block_of-requires c = rw c.deref.ensures.value (rising_sound c.self.invariant)
 
 pub launch_all-requires : goal.launch_all-requires
-launch_all-requires c = rising_heads c.self.inside.heads.items c.self.invariant.keeps.lawful.one_place_each.rising
+launch_all-requires c = rising_sound c.self.invariant
+
+-- what is chosen may be written
+writable : (c : After-deref) → IsWritable (patches_of c.self.inside.heads.items) c.requires.block
+writable c = subst (λ (v : Known). IsWritable v.heads c.requires.block) (sym c.self.view_is) c.requires.writable
+
+choice : (c : After-deref) → IsWritableSet (patches_of c.self.inside.heads.items) c.requires.block (numbers_of c.args.chosen.now)
+choice c = subst (λ (v : Known). IsWritableSet v.heads c.requires.block (numbers_of c.args.chosen.now)) (sym c.self.view_is) c.requires.choice
 
 pub returns-in_default-clause-launched : goal.returns-in_default-clause-launched
 returns-in_default-clause-launched c =
@@ -32,28 +28,26 @@ returns-in_default-clause-launched c =
 
 pub returns-in_default-block_of-clause-launched : goal.returns-in_default-block_of-clause-launched
 returns-in_default-block_of-clause-launched c =
-    let heads = c.self.inside.heads.items in
-    let chosen = numbers_of c.args.chosen.now in
-    let b = c.requires.block in
-    let choice = subst (λ (v : Known). IsWritableSet v.heads b chosen) (sym c.self.view_is) c.requires.choice in
     let item = c.in-Some.ensures.item in
     let named = first_named c.args.chosen.now c.in-Some.first.now item.3.0 item.3.1 in
-    absurd (block_some (patches_of heads) b chosen c.in-Some.first.now.0 choice named (λ p h e. c.in_default-block_of.ensures p (subst (λ hs. Contains (patches_of hs) p) (sym c.deref.ensures.value) h) e))
+    let chosen = choice (goal.at.returns-in_default-block_of-clause-launched c).After-deref in
+    absurd (block_some (patches_of c.self.inside.heads.items) c.requires.block (numbers_of c.args.chosen.now) c.in-Some.first.now.0 chosen named (λ p h e. c.in_default-block_of.ensures p (subst (λ hs. Contains (patches_of hs) p) (sym c.deref.ensures.value) h) e))
+
+-- it is of the block of the first
+here : (c : After-index_mut-arg-1) → c.in-Some-block_of.block ≡ c.requires.block
+here c =
+    let item = c.in-Some.ensures.item in
+    let named = first_named c.args.chosen.now c.in-Some.first.now item.3.0 item.3.1 in
+    block_found (patches_of c.self.inside.heads.items) c.requires.block c.in-Some-block_of.block (numbers_of c.args.chosen.now) c.in-Some.first.now.0 (choice (goal.at.index_mut-requires c).After-deref) named
+    (λ p h e. c.in-Some-block_of.ensures p (subst (λ hs. Contains (patches_of hs) p) (sym c.deref.ensures.value) h) e)
 
 pub index_mut-requires : goal.index_mut-requires
 index_mut-requires c =
-    let heads = c.self.inside.heads.items in
-    let chosen = numbers_of c.args.chosen.now in
-    let b = c.requires.block in
-    let T = c.self.invariant.tallies in
-    let writable = subst (λ (v : Known). IsWritable v.heads b) (sym c.self.view_is) c.requires.writable in
-    let choice = subst (λ (v : Known). IsWritableSet v.heads b chosen) (sym c.self.view_is) c.requires.choice in
-    let item = c.in-Some.ensures.item in
-    let named = first_named c.args.chosen.now c.in-Some.first.now item.3.0 item.3.1 in
-    let here = block_found (patches_of heads) b c.in-Some-block_of.block chosen c.in-Some.first.now.0 choice named (λ p h e. c.in-Some-block_of.ensures p (subst (λ hs. Contains (patches_of hs) p) (sym c.deref.ensures.value) h) e) in
-    let rests = writable_rests (nodes_of heads) c.self.inside.blocks b c.self.inside.standings.items none_yet (inside_nodes heads c.self.inside.blocks c.self.invariant.keeps.inside) T.standing (subst (λ ps. IsWritable ps b) (sym (patches_in_nodes heads)) writable) in
-    let lt = rests.0 in
-    omega (arith, here, lt, T.standing.long, c.self.inside.standings.ok.0)
+    let s = c.self.inside in
+    let there = here c in
+    let chosen = subst (λ ps. IsWritable ps c.requires.block) (sym (patches_in_nodes s.heads.items)) (writable (goal.at.index_mut-requires c).After-deref) in
+    let lt = (writable_rests (nodes_of s.heads.items) s.blocks c.requires.block s.standings.items none_yet (inside_nodes s.heads.items s.blocks c.self.invariant.keeps.inside) c.self.invariant.tallies.standing chosen).0 in
+    omega (arith, there, lt, as_many_standings c.self.invariant)
 
 pub invariant_of-self-2 : goal.invariant_of-self-2
 invariant_of-self-2 c =
@@ -64,22 +58,18 @@ invariant_of-self-2 c =
     let b = c.requires.block in
     let K = c.self.invariant.keeps in
     let same = patches_in_nodes heads in
-    let writable = subst (λ (v : Known). IsWritable v.heads b) (sym c.self.view_is) c.requires.writable in
-    let choice = subst (λ (v : Known). IsWritableSet v.heads b chosen) (sym c.self.view_is) c.requires.choice in
-    let item = c.in-Some.ensures.item in
-    let named = first_named c.args.chosen.now c.in-Some.first.now item.3.0 item.3.1 in
-    let here = block_found (patches_of heads) b c.in-Some-block_of.block chosen c.in-Some.first.now.0 choice named (λ p h e. c.in-Some-block_of.ensures p (subst (λ hs. Contains (patches_of hs) p) (sym c.deref.ensures.value) h) e) in
+    let W = writable (goal.at.invariant_of-self-2 c).After-deref in
+    let C = choice (goal.at.invariant_of-self-2 c).After-deref in
     let new : patches_of c.launch_all.new.heads.items ≡ map (launched chosen) (patches_of heads) =
     seen c.launch_all.new.heads.items _ c.launch_all.ensures ∙ (patches_launched (nodes_of heads) chosen ∙ ap (map (launched chosen)) same) in
-    let kept = keeps_launched _ n blocks b chosen c.self.inside.walks.walk.marks K writable choice in
+    let kept = keeps_launched _ n blocks b chosen c.self.inside.walks.walk.marks K W C in
     let lawful = subst (λ ps. SparseAreLawful (map (launched chosen) ps) n) (sym same) kept.lawful in
     let tallies = tallies_chosen (nodes_of heads) n blocks b c.in-Some-block_of.block _ c.self.inside.standings.items _ _ chosen c.index_mut.result.now c.launch.new.self (lawful_nodes heads n K.lawful) lawful (inside_nodes heads blocks K.inside) c.self.invariant.tallies
-    (subst (λ ps. IsWritable ps b) (sym same) writable) (subst (λ ps. IsWritableSet ps b chosen) (sym same) choice) here c.index_mut.ensures.value c.launch.ensures in record {
+    (subst (λ ps. IsWritable ps b) (sym same) W) (subst (λ ps. IsWritableSet ps b chosen) (sym same) C) (here (goal.at.invariant_of-self-2 c).After-index_mut-arg-1) c.index_mut.ensures.value c.launch.ensures in record {
       keeps = rw new kept;
       beside = beside_kept heads c.launch_all.new.heads.items (launches chosen) blocks c.self.inside.live c.self.inside.walks.crossed.items c.launch_all.ensures (λ x. refl) c.self.invariant.tallies.settled (rw c.launch_all.ensures tallies.settled) c.self.invariant.beside;
-      tallies = rw c.launch_all.ensures
-          tallies;
-      covered = rw new (covered_moved (alike_launched (patches_of heads) n b chosen K.lawful writable choice) kept c.self.invariant.covered);
+      tallies = rw c.launch_all.ensures tallies;
+      covered = rw new (covered_moved (alike_launched (patches_of heads) n b chosen K.lawful W C) kept c.self.invariant.covered);
       prepared = tt;
     }
 

@@ -1,14 +1,8 @@
 use Rattle.std.proofs.Common.{◌≡◌, ◌<◌, ℕ, true, false, List, Option, Some, None, MatchOption, length, get_or, option_map, subst, arith}
-use Rattle.fst_types.specs.declared.number.BlockNo.{BlockNo}
-use Rattle.fst_types.specs.Looks.{IsPick}
-use Rattle.fst_types.specs.Patches.{Patch}
-use Rattle.fst_heads.specs.declared.standing.Standing.{Standing}
-use Rattle.fst_heads.specs.Heads.{patches_of}
-use Rattle.fst_heads.specs.Keeps.{IsInside}
-use Rattle.fst_heads.specs.Standings.{AreMarked, may_be_written}
+use Rattle.fst_types.specs.{Looks.IsPick, Patches.Patch, declared.number.BlockNo.BlockNo}
+use Rattle.fst_heads.specs.{Heads.patches_of, Keeps.IsInside, Standings.{AreMarked, may_be_written}, declared.standing.Standing.Standing}
 use Rattle.fst_heads.proofs.AtNumber.{patches_in_nodes}
-use Rattle.fst_graph.proofs.Marking.{picked_none, picked_some}
-use Rattle.fst_graph.proofs.Picked.{stuck_by_gates}
+use Rattle.fst_graph.proofs.Marking.{picked_none, picked_some, stuck_by_gates}
 use Rattle.fst_graph.proofs.sparse.Sparse.pick.Goals as goal
 
 -- the least block whose mark is true is the pick

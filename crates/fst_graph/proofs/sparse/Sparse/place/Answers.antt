@@ -1,11 +1,11 @@
 use Rattle.std.proofs.Common.{subst}
 use Rattle.fst_heads.specs.Marks.{HasSlot, HasNone}
-use Rattle.fst_heads.proofs.Slots.{rising_heads, patch_at, none_slot, slot_in, patch_slot}
-use Rattle.fst_graph.proofs.PlaceOf.{place_found, place_lost}
+use Rattle.fst_heads.proofs.Slots.{patch_at, none_slot, slot_in, patch_slot}
+use Rattle.fst_graph.proofs.{PlaceOf.{place_found, place_lost}, Sound.rising_sound}
 use Rattle.fst_graph.proofs.sparse.Sparse.place.Goals as goal
 
 pub slot_of-requires : goal.slot_of-requires
-slot_of-requires c = rw c.deref.ensures.value (rising_heads c.self.inside.heads.items c.self.invariant.keeps.lawful.one_place_each.rising)
+slot_of-requires c = rw c.deref.ensures.value (rising_sound c.self.invariant)
 
 pub returns-in-Some : goal.returns-in-Some
 returns-in-Some c =

@@ -1,220 +1,107 @@
-use Rattle.std.proofs.Common.{◌≡◌, ◌<◌, ◌≤◌, ◌+◌, ◌++◌, ◌∷◌, ◌∙◌, ◌⊎◌, [], None, IfSome, arith, sym, subst, refl, ap, map, length, get_or, vec_len, vec_capacity, Contains}
-use Rattle.std.proofs.lemmas.List.{length-map, get_or-map}
-use Rattle.fst_types.specs.Dependencies.{DirectlyOn, IsLiveNumber}
-use Rattle.fst_types.specs.Facts.{SparseAreLawful}
-use Rattle.fst_types.specs.Gates.{IsOpenNumber}
-use Rattle.fst_types.specs.Gating.{gains}
-use Rattle.fst_types.specs.Limits.{max_heads}
-use Rattle.fst_heads.specs.Rows.{IsSparseRow}
-use Rattle.fst_types.specs.Lists.{Lists}
-use Rattle.fst_types.specs.Making.{fresh}
-use Rattle.fst_types.specs.Order.{make_order}
-use Rattle.fst_types.specs.Overlaps.{IsOverlapped}
-use Rattle.fst_types.specs.Patches.{Change}
-use Rattle.fst_types.specs.Refusals.{NoneHolds}
+use Rattle.std.proofs.{Common.{◌≡◌, ◌+◌, ◌≤◌, ◌++◌, ◌∷◌, ◌∙◌, [], None, IfSome, arith, sym, subst, refl, ap, map, length, get_or, vec_len, vec_capacity, Contains}, lemmas.List.{get_or-map, map_push}}
+use Rattle.fst_types.specs.{Dependencies.{DirectlyOn, IsLiveNumber}, Facts.SparseAreLawful, Gates.IsOpenNumber, Gating.gains, Lists.Lists, Order.make_order, Refusals.NoneHolds}
+use Rattle.fst_heads.specs.{Frames.HasRoomBelow, Heads.{patches_of, IsRising}, Names.numbers_of, Nodes.{nodes_of, patches_in, pending_in, at_number, gains_names, linked_to}}
+use Rattle.fst_heads.specs.{Pendings.{is_pending, joined_sums, over_block, sums_of}, Rows.IsSparseRow, Standings.{is_ready_on, is_held_on, entered}, Tests.is_hard_kind}
+use Rattle.fst_graph.specs.Ready.{change_of}
+use Rattle.fst_heads.proofs.{Added.{new_node, with_node, with_names}, Beside.{beside_made, beside_depends}, Covering.covered_gained}
+use Rattle.fst_heads.proofs.{Framed.{pushed_below, pushed_above}, Linking.rising_as, Slots.rising_heads, Sums.joined_exact}
+use Rattle.fst_walks.proofs.{Linked.patches_named, Seen.{seen, linked_patches, gained_number}, Shelves.shelved_push}
+use Rattle.fst_graph.proofs.{Borne.{few_counted, few as few_of_settled}, Kept.{keeps_depends, covered_made}, PutNow.{put_now, IsPutNow}, Sound.rising_sound}
+use Rattle.fst_graph.proofs.{TailGains.{tail_there, tail_clear, tail_gains, none_beyond}, Tallied.tallies_depends}
+use Rattle.fst_graph.proofs.sparse.Sparse.put_member.Goals.{After-as_slice, After-as_slice-3, After-push_reserved, After-drop-prepared}
 use Rattle.fst_heads.specs.declared.pending.Pending.TheVariants as pending
-use Rattle.fst_heads.specs.Frames.{HasRoomBelow}
-use Rattle.fst_heads.specs.Heads.{patches_of}
-use Rattle.fst_heads.specs.Names.{numbers_of}
-use Rattle.fst_heads.specs.Nodes.{node_of, nodes_of, patches_in, pending_in, at_number, gains_names, linked_to}
-use Rattle.fst_heads.specs.Pendings.{is_pending, joined, joined_sums, over_block, sums_of}
-use Rattle.fst_heads.specs.Standings.{is_ready_on, is_held_on, standing_of, entered}
-use Rattle.fst_heads.specs.Tests.{is_hard_kind}
-use Rattle.fst_heads.proofs.Added.{new_node, with_node, with_names}
-use Rattle.fst_heads.proofs.AtNumber.{patches_in_nodes}
-use Rattle.fst_heads.proofs.Beside.{beside_made, beside_depends}
-use Rattle.std.proofs.lemmas.List.{map_push}
-use Rattle.fst_graph.proofs.FewCounted.{few_counted, few as few_of_settled}
-use Rattle.fst_heads.proofs.Framed.{pushed_below, pushed_above}
-use Rattle.fst_graph.proofs.Gained.{keeps_depends}
-use Rattle.fst_walks.proofs.Linked.{patches_named}
-use Rattle.fst_heads.proofs.Linking.{rising_as}
-use Rattle.fst_graph.proofs.Listed.{listed_change, live_dependency}
-use Rattle.fst_graph.proofs.Readied.{hard_may}
-use Rattle.fst_graph.proofs.PutNow.{put_now}
-use Rattle.fst_graph.proofs.Sound.{prepared_is}
-use Rattle.fst_walks.proofs.Seen.{seen, linked_patches, lawful_nodes, gained_number}
-use Rattle.fst_walks.proofs.Shelves.{shelved_push}
-use Rattle.fst_heads.proofs.Slots.{rising_heads}
-use Rattle.fst_heads.proofs.Stands.{stand_change}
-use Rattle.fst_heads.proofs.Sums.{joined_exact}
-use Rattle.fst_graph.proofs.Tallied.{tallies_made, tallies_depends}
-use Rattle.fst_graph.proofs.TailGains.{tail_there, tail_clear, tail_gains, none_beyond}
-use Rattle.fst_heads.proofs.Touching.{keeps_change}
-use Rattle.fst_heads.proofs.Covering.{covered_gained}
-use Rattle.fst_graph.proofs.Kept.{covered_made}
 use Rattle.fst_graph.proofs.sparse.Sparse.put_member.Goals as goal
 
 pub row_sums-sums-requires : goal.row_sums-sums-requires
-row_sums-sums-requires c = rw c.deref.ensures.value (rising_heads c.self.inside.heads.items c.self.invariant.keeps.lawful.one_place_each.rising)
+row_sums-sums-requires c = rw c.deref.ensures.value (rising_sound c.self.invariant)
 
 pub link-requires-clause-rising : goal.link-requires-clause-rising
-link-requires-clause-rising c = rising_heads c.self.inside.heads.items c.self.invariant.keeps.lawful.one_place_each.rising
+link-requires-clause-rising c = rising_sound c.self.invariant
+
+-- what is prepared may be put down
+now : (c : After-as_slice)
+    → IsPutNow c.self.inside.heads c.self.inside.walks c.self.inside.lists c.self.inside.covers c.self.inside.standings c.self.inside.queue c.self.inside.numbers c.self.inside.blocks c.args.head c.in-Some-gates.gates c.in-Some.prepared
+now c = put_now c.self.invariant c.in-Some.prepared c.in-Some-gates.gates c.args.head c.args.self.now c.self.view_is c.requires.prepared c.requires.closed (sym c.take.ensures.value ∙ c.in-Some.is) c.in-Some-gates.is
 
 pub link-requires-clause-once : goal.link-requires-clause-once
-link-requires-clause-once c =
-    let p = c.in-Some.prepared in
-    let gates = c.in-Some-gates.gates in
-    let P = put_now c.self.invariant p gates c.args.head c.args.self.now c.self.view_is c.requires.prepared c.requires.closed (sym c.take.ensures.value ∙ c.in-Some.is) c.in-Some-gates.is in
-    let ready = P.ready in
-    rw c.as_slice-2.ensures ready.depends.rising
+link-requires-clause-once c = let P = now (goal.at.link-requires-clause-once c).After-as_slice in rw c.as_slice-2.ensures P.down.ready.depends.rising
 
 pub link-requires-clause-room : goal.link-requires-clause-room
-link-requires-clause-room c = rw c.as_slice-2.ensures (prepared_is c.self.invariant c.in-Some.prepared (sym c.take.ensures.value ∙ c.in-Some.is)).around.0
+link-requires-clause-room c = rw c.as_slice-2.ensures (now (goal.at.link-requires-clause-room c).After-as_slice).down.prepared.around.0
 
 pub push_reserved-requires-2 : goal.push_reserved-requires-2
 push_reserved-requires-2 c =
-    let blocks = c.self.inside.blocks in
-    let p = c.in-Some.prepared in
-    let gates = c.in-Some-gates.gates in
-    let P = put_now c.self.invariant p gates c.args.head c.args.self.now c.self.view_is c.requires.prepared c.requires.closed (sym c.take.ensures.value ∙ c.in-Some.is) c.in-Some-gates.is in
-    let T = c.self.invariant.tallies in
-    let ready = P.ready in
+    let D = (now (goal.at.push_reserved-requires-2 c).After-as_slice).down in
     let lists = c.self.inside.lists.items in
-    let long : length lists ≡ blocks = sym (length-map lists _) ∙ T.listed.long in
-    let room = P.prepared.in_list in
-    let inside : p.block < length lists = let i = ready.inside in omega (arith, i, long) in
     let v = c.index_mut.result.now in
-    let lens = get_or-map (λ l. vec_len l) lists p.block v 0 inside in
-    let capacities = get_or-map (λ l. vec_capacity l) lists p.block v 0 inside in
+    let room = D.prepared.in_list in
+    let lens = get_or-map (λ l. vec_len l) lists c.in-Some.prepared.block v 0 D.shelf in
+    let capacities = get_or-map (λ l. vec_capacity l) lists c.in-Some.prepared.block v 0 D.shelf in
     omega (arith, room, lens, capacities, ap (λ l. vec_len l) c.index_mut.ensures.value, ap (λ l. vec_capacity l) c.index_mut.ensures.value)
 
 pub index_mut-requires-2 : goal.index_mut-requires-2
 index_mut-requires-2 c =
-    let p = c.in-Some.prepared in
-    let gates = c.in-Some-gates.gates in
-    let P = put_now c.self.invariant p gates c.args.head c.args.self.now c.self.view_is c.requires.prepared c.requires.closed (sym c.take.ensures.value ∙ c.in-Some.is) c.in-Some-gates.is in
-    let T = c.self.invariant.tallies in
-    let ready = P.ready in
-    let inside = ready.inside in omega (arith, inside, T.standing.long, c.self.inside.standings.ok.0)
+    let inside = (now (goal.at.index_mut-requires-2 c).After-as_slice).down.ready.inside in
+    omega (arith, inside, c.self.invariant.tallies.standing.long, c.self.inside.standings.ok.0)
 
 pub enter-requires-clause-ready : goal.enter-requires-clause-ready
 enter-requires-clause-ready c =
-    let heads = c.self.inside.heads.items in
-    let nodes = nodes_of heads in
-    let p = c.in-Some.prepared in
-    let gates = c.in-Some-gates.gates in
-    let P = put_now c.self.invariant p gates c.args.head c.args.self.now c.self.view_is c.requires.prepared c.requires.closed (sym c.take.ensures.value ∙ c.in-Some.is) c.in-Some-gates.is in
-    let K = c.self.invariant.keeps in
-    let T = c.self.invariant.tallies in
-    let ready = P.ready in
-    let counted : c.index_mut-2.result.now ≡ standing_of nodes p.block = c.index_mut-2.ensures.value ∙ T.standing.each p.block c.index_mut-2.result.now ready.inside in
-    few_counted heads (is_ready_on p.block) _ K.few (ap (λ s. s.ready) counted)
+    let D = (now (goal.at.enter-requires-clause-ready c).After-as_slice).down in
+    few_counted c.self.inside.heads.items (is_ready_on c.in-Some.prepared.block) _ c.self.invariant.keeps.few (ap (λ s. s.ready) (D.counted c.index_mut-2.result.now c.index_mut-2.ensures.value))
 
 pub enter-requires-clause-held : goal.enter-requires-clause-held
 enter-requires-clause-held c =
-    let heads = c.self.inside.heads.items in
-    let nodes = nodes_of heads in
-    let p = c.in-Some.prepared in
-    let gates = c.in-Some-gates.gates in
-    let P = put_now c.self.invariant p gates c.args.head c.args.self.now c.self.view_is c.requires.prepared c.requires.closed (sym c.take.ensures.value ∙ c.in-Some.is) c.in-Some-gates.is in
-    let K = c.self.invariant.keeps in
-    let T = c.self.invariant.tallies in
-    let ready = P.ready in
-    let counted : c.index_mut-2.result.now ≡ standing_of nodes p.block = c.index_mut-2.ensures.value ∙ T.standing.each p.block c.index_mut-2.result.now ready.inside in
-    few_counted heads (is_held_on p.block) _ K.few (ap (λ s. s.held) counted)
+    let D = (now (goal.at.enter-requires-clause-held c).After-as_slice).down in
+    few_counted c.self.inside.heads.items (is_held_on c.in-Some.prepared.block) _ c.self.invariant.keeps.few (ap (λ s. s.held) (D.counted c.index_mut-2.result.now c.index_mut-2.ensures.value))
+
+-- what is pending of the change, and the nodes and the patches with it
+sums : (c : After-push_reserved) → c.row_sums-sums.result ≡ sums_of (pending_in (nodes_of c.self.inside.heads.items)) c.in-Some.prepared.dependencies.items
+sums c = c.row_sums-sums.ensures.sums ∙ (ap (λ hs. sums_of (pending_in (nodes_of hs)) c.as_slice.result.now) c.deref.ensures.value ∙ ap (sums_of (pending_in (nodes_of c.self.inside.heads.items))) c.as_slice.ensures)
+
+over : (c : After-push_reserved) → c.over_block-pending.result ≡ (new_node (nodes_of c.self.inside.heads.items) (change_of c.self.inside.numbers c.in-Some.prepared)).pending
+over c =
+    c.over_block-pending.ensures ∙ ap (over_block c.in-Some.prepared.block) (c.joined.ensures ∙ (ap joined_sums (sums c) ∙ joined_exact (pending_in (nodes_of c.self.inside.heads.items)) c.in-Some.prepared.dependencies.items))
+
+pushed : (c : After-push_reserved) → nodes_of c.push_reserved.new.self.items ≡ with_node (nodes_of c.self.inside.heads.items) (change_of c.self.inside.numbers c.in-Some.prepared)
+pushed c = rw (c.push_reserved.ensures.items, map_push, c.link.ensures.nodes, c.as_slice-2.ensures, over c, sums c, c.new.ensures.items) refl
+
+added : (c : After-push_reserved) → patches_of c.push_reserved.new.self.items ≡ patches_of c.self.inside.heads.items ++ change_of c.self.inside.numbers c.in-Some.prepared ∷ []
+added c = rw (c.push_reserved.ensures.items, map_push, linked_patches c.link.new.heads.items c.self.inside.heads.items _ _ c.link.ensures.nodes) refl
+
+rising : (c : After-as_slice-3) → IsRising c.push_reserved.new.self.items
+rising c =
+    let at = (goal.at.row_sums-gained-requires c).After-push_reserved in
+    rising_heads c.push_reserved.new.self.items (rw (added at) (now (goal.at.row_sums-gained-requires c).After-as_slice).down.keeps.lawful.one_place_each.rising)
 
 pub row_sums-gained-requires : goal.row_sums-gained-requires
-row_sums-gained-requires c =
-    let heads = c.self.inside.heads.items in
-    let old = patches_of heads in
-    let n = c.self.inside.numbers in
-    let blocks = c.self.inside.blocks in
-    let p = c.in-Some.prepared in
-    let gates = c.in-Some-gates.gates in
-    let P = put_now c.self.invariant p gates c.args.head c.args.self.now c.self.view_is c.requires.prepared c.requires.closed (sym c.take.ensures.value ∙ c.in-Some.is) c.in-Some-gates.is in
-    let K = c.self.invariant.keeps in
-    let ready = P.ready in
-    let row = p.dependencies.items in
-    let few : length old < max_heads = let full = ready.clear.1.1.0 in omega (arith, full) in
-    let patches = linked_patches c.link.new.heads.items heads _ _ c.link.ensures.nodes in
-    let made = fresh (n + 1) (Change p.block p.span.at p.span.len p.grade) row in
-    let keeps = keeps_change old n blocks c.self.inside.walks.walk.marks K p.block p.span.at p.span.len (numbers_of p.names.items) p.grade row ready.depends ready.inside few (hard_may p.grade _ ready.graded) in
-    let seen1 : patches_of c.push_reserved.new.self.items ≡ old ++ made ∷ [] = rw (c.push_reserved.ensures.items, map_push, patches) refl in
-    rw c.deref-2.ensures.value (rising_heads c.push_reserved.new.self.items (rw seen1 keeps.lawful.one_place_each.rising))
+row_sums-gained-requires c = rw c.deref-2.ensures.value (rising c)
 
 pub gain_one-requires-clause-rising : goal.gain_one-requires-clause-rising
-gain_one-requires-clause-rising c =
-    let heads = c.self.inside.heads.items in
-    let old = patches_of heads in
-    let n = c.self.inside.numbers in
-    let blocks = c.self.inside.blocks in
-    let p = c.in-Some.prepared in
-    let gates = c.in-Some-gates.gates in
-    let P = put_now c.self.invariant p gates c.args.head c.args.self.now c.self.view_is c.requires.prepared c.requires.closed (sym c.take.ensures.value ∙ c.in-Some.is) c.in-Some-gates.is in
-    let K = c.self.invariant.keeps in
-    let ready = P.ready in
-    let row = p.dependencies.items in
-    let few : length old < max_heads = let full = ready.clear.1.1.0 in omega (arith, full) in
-    let patches = linked_patches c.link.new.heads.items heads _ _ c.link.ensures.nodes in
-    let made = fresh (n + 1) (Change p.block p.span.at p.span.len p.grade) row in
-    let keeps = keeps_change old n blocks c.self.inside.walks.walk.marks K p.block p.span.at p.span.len (numbers_of p.names.items) p.grade row ready.depends ready.inside few (hard_may p.grade _ ready.graded) in
-    let seen1 : patches_of c.push_reserved.new.self.items ≡ old ++ made ∷ [] = rw (c.push_reserved.ensures.items, map_push, patches) refl in
-    rising_heads c.push_reserved.new.self.items (rw seen1 keeps.lawful.one_place_each.rising)
+gain_one-requires-clause-rising c = rising (goal.at.gain_one-requires-clause-rising c).After-as_slice-3
 
 pub gain_one-requires-clause-counted : goal.gain_one-requires-clause-counted
 gain_one-requires-clause-counted c =
-    let heads = c.self.inside.heads.items in
-    let nodes = nodes_of heads in
-    let old = patches_of heads in
-    let n = c.self.inside.numbers in
-    let blocks = c.self.inside.blocks in
-    let p = c.in-Some.prepared in
-    let gates = c.in-Some-gates.gates in
-    let P = put_now c.self.invariant p gates c.args.head c.args.self.now c.self.view_is c.requires.prepared c.requires.closed (sym c.take.ensures.value ∙ c.in-Some.is) c.in-Some-gates.is in
-    let K = c.self.invariant.keeps in
-    let T = c.self.invariant.tallies in
-    let ready = P.ready in
-    let row = p.dependencies.items in
-    let few : length old < max_heads = let full = ready.clear.1.1.0 in omega (arith, full) in
-    let made = fresh (n + 1) (Change p.block p.span.at p.span.len p.grade) row in
-    let keeps = keeps_change old n blocks c.self.inside.walks.walk.marks K p.block p.span.at p.span.len (numbers_of p.names.items) p.grade row ready.depends ready.inside few (hard_may p.grade _ ready.graded) in
-    let told = pending_in nodes in
-    let sums : c.row_sums-sums.result ≡ sums_of told row =
-    c.row_sums-sums.ensures.sums ∙ (ap (λ hs. sums_of (pending_in (nodes_of hs)) c.as_slice.result.now) c.deref.ensures.value ∙ ap (sums_of told) c.as_slice.ensures) in
-    let below : c.joined.result ≡ joined told row = c.joined.ensures ∙ (ap joined_sums sums ∙ joined_exact told row) in
-    let over : c.over_block-pending.result ≡ (new_node nodes made).pending = c.over_block-pending.ensures ∙ ap (over_block p.block) below in
-    let nodes1 = with_node nodes made in
-    let at1 : nodes_of c.push_reserved.new.self.items ≡ nodes1 = rw (c.push_reserved.ensures.items, map_push, c.link.ensures.nodes, c.as_slice-2.ensures, over, sums, c.new.ensures.items) refl in
-    let room : length nodes < c.self.inside.queue.cap = let free = P.prepared.places.queue_free in omega (arith, free, c.self.inside.heads.ok.0, length-map heads node_of) in
-    let live : (m : _) → Contains row m → IsLiveNumber (patches_in nodes) m = λ m h. subst (λ ps. IsLiveNumber ps m) (sym (patches_in_nodes heads)) (live_dependency old (numbers_of p.names.items) p.block p.span.at p.span.len m (ready.depends.only m h)) in
-    let lawful = subst (λ ps. SparseAreLawful (ps ++ made ∷ []) (n + 1)) (sym (patches_in_nodes heads)) keeps.lawful in
-    let own_counts = c.index_mut-2.result.now in
-    let tallies = tallies_made nodes n blocks _ _ _ _ _ _ c.self.inside.queue.cap made (lawful_nodes heads n K.lawful) lawful T refl ready.depends.rising live
-    (λ b on. let same : p.block ≡ b = cc in subst (λ m. m < blocks) same ready.inside)
-    (listed_change nodes blocks _ made p.block p.span.at p.span.len p.grade [] T.listed refl refl ready.inside)
-    (stand_change nodes blocks c.self.inside.standings.items made p.block p.span.at p.span.len p.grade own_counts refl refl ready.inside T.standing)
-    room in
-    rw at1 (few_of_settled nodes1 blocks (omega (arith, c.self.ranges)) tallies.settled)
+    let s = c.self.inside in
+    let D = (now (goal.at.gain_one-requires-clause-counted c).After-as_slice).down in
+    rw (pushed (goal.at.gain_one-requires-clause-counted c).After-push_reserved)
+    (few_of_settled (with_node (nodes_of s.heads.items) (change_of s.numbers c.in-Some.prepared)) s.blocks (omega (arith, c.self.ranges)) (D.tallies c.index_mut-2.result.now).settled)
 
 pub gain_one-requires-clause-room : goal.gain_one-requires-clause-room
 gain_one-requires-clause-room c =
     let heads = c.self.inside.heads.items in
-    let p = c.in-Some.prepared in
     let gates = c.in-Some-gates.gates in
-    let P = put_now c.self.invariant p gates c.args.head c.args.self.now c.self.view_is c.requires.prepared c.requires.closed (sym c.take.ensures.value ∙ c.in-Some.is) c.in-Some-gates.is in
-    let K = c.self.invariant.keeps in
-    let below_tail : HasRoomBelow heads gates.tail = subst (λ g. IfSome g (λ x. HasRoomBelow heads x.tail)) c.in-Some-gates.is P.prepared.around.1 in
-    rw c.push_reserved.ensures.items (pushed_below c.link.new.heads.items _ gates.tail (λ e. let t = P.member.paired.tail_open in let k = (K.lawful.one_place_each.numbered t.patch t.head).1 in let f = t.numbered in omega (arith, e, k, f)) (c.link.ensures.below gates.tail below_tail))
+    let P = now (goal.at.gain_one-requires-clause-room c).After-as_slice in
+    let below_tail : HasRoomBelow heads gates.tail = subst (λ g. IfSome g (λ x. HasRoomBelow heads x.tail)) c.in-Some-gates.is P.down.prepared.around.1 in
+    rw c.push_reserved.ensures.items (pushed_below c.link.new.heads.items _ gates.tail (λ e.
+    let t = P.member.paired.tail_open in
+    let k = (c.self.invariant.keeps.lawful.one_place_each.numbered t.patch t.head).1 in
+    let f = t.numbered in omega (arith, e, k, f)) (c.link.ensures.below gates.tail below_tail))
 
 pub link-requires-2-clause-rising : goal.link-requires-2-clause-rising
 link-requires-2-clause-rising c =
-    let heads = c.self.inside.heads.items in
-    let old = patches_of heads in
-    let n = c.self.inside.numbers in
-    let blocks = c.self.inside.blocks in
-    let p = c.in-Some.prepared in
-    let gates = c.in-Some-gates.gates in
-    let P = put_now c.self.invariant p gates c.args.head c.args.self.now c.self.view_is c.requires.prepared c.requires.closed (sym c.take.ensures.value ∙ c.in-Some.is) c.in-Some-gates.is in
-    let K = c.self.invariant.keeps in
-    let ready = P.ready in
-    let row = p.dependencies.items in
-    let few : length old < max_heads = let full = ready.clear.1.1.0 in omega (arith, full) in
-    let patches = linked_patches c.link.new.heads.items heads _ _ c.link.ensures.nodes in
-    let made = fresh (n + 1) (Change p.block p.span.at p.span.len p.grade) row in
-    let keeps = keeps_change old n blocks c.self.inside.walks.walk.marks K p.block p.span.at p.span.len (numbers_of p.names.items) p.grade row ready.depends ready.inside few (hard_may p.grade _ ready.graded) in
-    let seen1 : patches_of c.push_reserved.new.self.items ≡ old ++ made ∷ [] = rw (c.push_reserved.ensures.items, map_push, patches) refl in
-    rising_as (at_number gates.tail (gains_names ((n + 1) ∷ []) c.row_sums-gained.result)) (gained_number gates.tail ((n + 1) ∷ []) c.row_sums-gained.result) _ _ c.gain_one.ensures.nodes (rising_heads c.push_reserved.new.self.items (rw seen1 keeps.lawful.one_place_each.rising))
+    let tail = c.in-Some-gates.gates.tail in
+    let names = (c.self.inside.numbers + 1) ∷ [] in
+    rising_as (at_number tail (gains_names names c.row_sums-gained.result)) (gained_number tail names c.row_sums-gained.result) _ _ c.gain_one.ensures.nodes (rising (goal.at.link-requires-2-clause-rising c).After-as_slice-3)
 
 pub link-requires-2-clause-room : goal.link-requires-2-clause-room
 link-requires-2-clause-room c =
@@ -226,128 +113,90 @@ link-requires-2-clause-room c =
     let fresh_room : length c.new.result.items + 1 ≤ c.new.result.capacity = omega (arith, ap length c.new.ensures.items, c.new.ensures.capacity) in
     rw (c.as_slice-4.ensures, c.row_of-row.ensures) (c.gain_one.ensures.above ((n + 1) ∷ []) (rw c.push_reserved.ensures.items (pushed_above c.link.new.heads.items _ (n + 1) (none_beyond c.link.new.heads.items old n patches K.lawful) fresh_room)))
 
-pub invariant_of-self : goal.invariant_of-self
-invariant_of-self c =
-    let heads = c.self.inside.heads.items in
-    let nodes = nodes_of heads in
-    let old = patches_of heads in
-    let n = c.self.inside.numbers in
-    let blocks = c.self.inside.blocks in
-    let p = c.in-Some.prepared in
-    let gates = c.in-Some-gates.gates in
-    let P = put_now c.self.invariant p gates c.args.head c.args.self.now c.self.view_is c.requires.prepared c.requires.closed (sym c.take.ensures.value ∙ c.in-Some.is) c.in-Some-gates.is in
-    let K = c.self.invariant.keeps in
-    let T = c.self.invariant.tallies in
-    let ready = P.ready in
-    let row = p.dependencies.items in
-    let few : length old < max_heads = let full = ready.clear.1.1.0 in omega (arith, full) in
-    let patches = linked_patches c.link.new.heads.items heads _ _ c.link.ensures.nodes in
-    let made = fresh (n + 1) (Change p.block p.span.at p.span.len p.grade) row in
-    let keeps = keeps_change old n blocks c.self.inside.walks.walk.marks K p.block p.span.at p.span.len (numbers_of p.names.items) p.grade row ready.depends ready.inside few (hard_may p.grade _ ready.graded) in
-    let told = pending_in nodes in
-    let sums : c.row_sums-sums.result ≡ sums_of told row =
-    c.row_sums-sums.ensures.sums ∙ (ap (λ hs. sums_of (pending_in (nodes_of hs)) c.as_slice.result.now) c.deref.ensures.value ∙ ap (sums_of told) c.as_slice.ensures) in
-    let below : c.joined.result ≡ joined told row = c.joined.ensures ∙ (ap joined_sums sums ∙ joined_exact told row) in
-    let over : c.over_block-pending.result ≡ (new_node nodes made).pending = c.over_block-pending.ensures ∙ ap (over_block p.block) below in
-    let nodes1 = with_node nodes made in
-    let at1 : nodes_of c.push_reserved.new.self.items ≡ nodes1 = rw (c.push_reserved.ensures.items, map_push, c.link.ensures.nodes, c.as_slice-2.ensures, over, sums, c.new.ensures.items) refl in
-    let seen1 : patches_of c.push_reserved.new.self.items ≡ old ++ made ∷ [] = rw (c.push_reserved.ensures.items, map_push, patches) refl in
-    let room : length nodes < c.self.inside.queue.cap = let free = P.prepared.places.queue_free in omega (arith, free, c.self.inside.heads.ok.0, length-map heads node_of) in
-    let live : (m : _) → Contains row m → IsLiveNumber (patches_in nodes) m = λ m h. subst (λ ps. IsLiveNumber ps m) (sym (patches_in_nodes heads)) (live_dependency old (numbers_of p.names.items) p.block p.span.at p.span.len m (ready.depends.only m h)) in
-    let lawful = subst (λ ps. SparseAreLawful (ps ++ made ∷ []) (n + 1)) (sym (patches_in_nodes heads)) keeps.lawful in
-    let own_counts = c.index_mut-2.result.now in
-    let tallies = tallies_made nodes n blocks _ _ _ _ _ _ c.self.inside.queue.cap made (lawful_nodes heads n K.lawful) lawful T refl ready.depends.rising live
-    (λ b on. let same : p.block ≡ b = cc in subst (λ m. m < blocks) same ready.inside)
-    (listed_change nodes blocks _ made p.block p.span.at p.span.len p.grade [] T.listed refl refl ready.inside)
-    (stand_change nodes blocks c.self.inside.standings.items made p.block p.span.at p.span.len p.grade own_counts refl refl ready.inside T.standing)
-    room in
-    let tail = gates.tail in
-    let names = (n + 1) ∷ [] in
+-- the nodes and the patches once the tail depends on the change
+tied : (c : After-drop-prepared) → nodes_of c.link-2.new.heads.items
+    ≡ with_names (with_node (nodes_of c.self.inside.heads.items) (change_of c.self.inside.numbers c.in-Some.prepared)) c.in-Some-gates.gates.tail ((c.self.inside.numbers + 1) ∷ [])
+    (sums_of (pending_in (with_node (nodes_of c.self.inside.heads.items) (change_of c.self.inside.numbers c.in-Some.prepared))) ((c.self.inside.numbers + 1) ∷ []))
+tied c =
+    let nodes = with_node (nodes_of c.self.inside.heads.items) (change_of c.self.inside.numbers c.in-Some.prepared) in
+    let at = pushed (goal.at.invariant_of-self c).After-push_reserved in
+    let tail = c.in-Some-gates.gates.tail in
+    let names = (c.self.inside.numbers + 1) ∷ [] in
     let rowed : c.row_of-row.result.items ≡ names = c.row_of-row.ensures in
-    let gained : c.row_sums-gained.result ≡ sums_of (pending_in nodes1) names =
-    c.row_sums-gained.ensures.sums ∙ (ap (λ hs. sums_of (pending_in (nodes_of hs)) c.as_slice-3.result.now) c.deref-2.ensures.value ∙ (ap (λ ns. sums_of (pending_in ns) c.as_slice-3.result.now) at1 ∙ ap (sums_of (pending_in nodes1)) (c.as_slice-3.ensures ∙ rowed))) in
-    let at2 : nodes_of c.link-2.new.heads.items ≡ with_names nodes1 tail names (sums_of (pending_in nodes1) names) =
+    let gained : c.row_sums-gained.result ≡ sums_of (pending_in nodes) names =
+    c.row_sums-gained.ensures.sums
+    ∙ (ap (λ hs. sums_of (pending_in (nodes_of hs)) c.as_slice-3.result.now) c.deref-2.ensures.value ∙ (ap (λ ns. sums_of (pending_in ns) c.as_slice-3.result.now) at ∙ ap (sums_of (pending_in nodes)) (c.as_slice-3.ensures ∙ rowed))) in
     c.link-2.ensures.nodes
     ∙ (ap (λ r. map (linked_to r tail) (nodes_of c.gain_one.new.heads.items)) (c.as_slice-4.ensures ∙ rowed)
-    ∙ ap (map (linked_to names tail)) (c.gain_one.ensures.nodes ∙ (ap (λ s. map (at_number tail (gains_names names s)) (nodes_of c.push_reserved.new.self.items)) gained ∙ ap (map (at_number tail (gains_names names (sums_of (pending_in nodes1) names)))) at1))) in
-    let seen2 : patches_of c.link-2.new.heads.items ≡ map (gains tail names) (old ++ made ∷ []) =
-    seen c.link-2.new.heads.items _ at2 ∙ (patches_named tail names (sums_of (pending_in nodes1) names) nodes1 ∙ ap (map (gains tail names)) (sym (seen c.push_reserved.new.self.items nodes1 at1) ∙ seen1)) in
-    let marks = c.self.inside.walks.walk.marks in
-    let gate = tail_there old n blocks marks K gates p P.member P.closed in
-    let none = tail_clear old n blocks marks K gates p P.member P.closed keeps.lawful in
-    let gain = tail_gains old n blocks marks K gates p P.member P.closed in
-    let counts = c.index_mut-2.result.now in
-    let entering : c.enter.new.self ≡ entered (is_hard_kind made.kind) (is_pending (new_node nodes made).pending (pending.Block p.block)) (get_or c.self.inside.standings.items p.block counts) =
+    ∙ ap (map (linked_to names tail)) (c.gain_one.ensures.nodes ∙ (ap (λ s. map (at_number tail (gains_names names s)) (nodes_of c.push_reserved.new.self.items)) gained ∙ ap (map (at_number tail (gains_names names (sums_of (pending_in nodes) names)))) at)))
+
+with_tie : (c : After-drop-prepared) → patches_of c.link-2.new.heads.items ≡ map (gains c.in-Some-gates.gates.tail ((c.self.inside.numbers + 1) ∷ [])) (patches_of c.self.inside.heads.items ++ change_of c.self.inside.numbers c.in-Some.prepared ∷ [])
+with_tie c =
+    let nodes = with_node (nodes_of c.self.inside.heads.items) (change_of c.self.inside.numbers c.in-Some.prepared) in
+    let at = (goal.at.invariant_of-self c).After-push_reserved in
+    let tail = c.in-Some-gates.gates.tail in
+    let names = (c.self.inside.numbers + 1) ∷ [] in
+    seen c.link-2.new.heads.items _ (tied c) ∙ (patches_named tail names (sums_of (pending_in nodes) names) nodes ∙ ap (map (gains tail names)) (sym (seen c.push_reserved.new.self.items nodes (pushed at)) ∙ added at))
+
+pub invariant_of-self : goal.invariant_of-self
+invariant_of-self c =
+    let s = c.self.inside in
+    let old = patches_of s.heads.items in
+    let p = c.in-Some.prepared in
+    let made = change_of s.numbers p in
+    let own = c.index_mut-2.result.now in
+    let at = (goal.at.invariant_of-self c).After-push_reserved in
+    let P = now (goal.at.invariant_of-self c).After-as_slice in
+    let D = P.down in
+    let told = is_pending (new_node (nodes_of s.heads.items) made).pending (pending.Block p.block) in
+    let entering : c.enter.new.self ≡ entered (is_hard_kind made.kind) told (get_or s.standings.items p.block own) =
     c.enter.ensures
-    ∙ (ap (λ t. entered (is_hard_kind made.kind) t counts) (c.is_pending.ensures ∙ ap (λ x. is_pending x (pending.Block p.block)) over)
-    ∙ ap (entered (is_hard_kind made.kind) (is_pending (new_node nodes made).pending (pending.Block p.block))) c.index_mut-2.ensures.value) in
-    let long : length c.self.inside.lists.items ≡ blocks = sym (length-map c.self.inside.lists.items _) ∙ T.listed.long in
-    let keeps2 = keeps_depends (old ++ made ∷ []) (n + 1) blocks tail names names _ _ keeps gate none gain refl in
-    let back : old ++ made ∷ [] ≡ patches_in nodes1 = sym seen1 ∙ seen c.push_reserved.new.self.items nodes1 at1 in
-    let lawful1 = subst (λ ps. SparseAreLawful ps (n + 1)) back keeps.lawful in
-    let lawful2 = subst (λ ps. SparseAreLawful ps (n + 1)) (sym seen2 ∙ seen c.link-2.new.heads.items _ at2) keeps2.lawful in
-    let tallies2 = tallies_depends nodes1 (n + 1) blocks _ _ _ c.self.inside.queue.cap tail names names lawful1 lawful2 tallies (subst (λ ps. IsOpenNumber ps tail) back gate)
+    ∙ (ap (λ t. entered (is_hard_kind made.kind) t own) (c.is_pending.ensures ∙ ap (λ q. is_pending q (pending.Block p.block)) (over at)) ∙ ap (entered (is_hard_kind made.kind) told) c.index_mut-2.ensures.value) in
+    let shelved = shelved_push s.lists.items p.block c.index_mut.result.now c.push_reserved-2.new.self _ D.shelf c.index_mut.ensures.value c.push_reserved-2.ensures.items in
+    let K = c.self.invariant.keeps in
+    let gates = c.in-Some-gates.gates in
+    let tail = gates.tail in
+    let names = (s.numbers + 1) ∷ [] in
+    let nodes = with_node (nodes_of s.heads.items) made in
+    let gate = tail_there old s.numbers s.blocks s.walks.walk.marks K gates p P.member P.closed in
+    let none = tail_clear old s.numbers s.blocks s.walks.walk.marks K gates p P.member P.closed D.keeps.lawful in
+    let gain = tail_gains old s.numbers s.blocks s.walks.walk.marks K gates p P.member P.closed in
+    let keeps = keeps_depends (old ++ made ∷ []) (s.numbers + 1) s.blocks tail names names _ _ D.keeps gate none gain refl in
+    let back : old ++ made ∷ [] ≡ patches_in nodes = sym (added at) ∙ seen c.push_reserved.new.self.items nodes (pushed at) in
+    let before = subst (λ ps. SparseAreLawful ps (s.numbers + 1)) back D.keeps.lawful in
+    let after = subst (λ ps. SparseAreLawful ps (s.numbers + 1)) (sym (with_tie c) ∙ seen c.link-2.new.heads.items _ (tied c)) keeps.lawful in
+    let tallies = tallies_depends nodes (s.numbers + 1) s.blocks _ _ _ s.queue.cap tail names names before after (D.tallies own) (subst (λ ps. IsOpenNumber ps tail) back gate)
     (subst (λ ps. Lists (λ m. IsLiveNumber ps m × Contains names m × (DirectlyOn ps tail m → ⊥)) names) back gain) in
     rw c.take.ensures.after (record {
-      keeps = rw (seen2, c.grow.ensures.marks) keeps2;
-      beside = rw seen2 (beside_depends (old ++ made ∷ []) blocks (c.self.inside.live + 1) c.self.inside.walks.crossed.items tail names (beside_made old blocks c.self.inside.live 1 c.self.inside.walks.crossed.items made refl c.self.invariant.beside));
-      tallies = rw (at2, entering, shelved_push c.self.inside.lists.items p.block c.index_mut.result.now c.push_reserved-2.new.self _ (let inside = ready.inside in omega (arith, inside, long)) c.index_mut.ensures.value c.push_reserved-2.ensures.items)
-          tallies2;
-      covered = rw seen2 (covered_gained (old ++ made ∷ []) tail names blocks _ (covered_made n p.grade ready.depends c.self.invariant.covered ready.inside c.index_mut-3.ensures.value P.prepared.bytes c.put.ensures));
+      keeps = rw (with_tie c, c.grow.ensures.marks) keeps;
+      beside = rw (with_tie c) (beside_depends (old ++ made ∷ []) s.blocks (s.live + 1) s.walks.crossed.items tail names (beside_made old s.blocks s.live 1 s.walks.crossed.items made refl c.self.invariant.beside));
+      tallies = rw (tied c, entering, shelved) tallies;
+      covered = rw (with_tie c) (covered_gained (old ++ made ∷ []) tail names s.blocks _ (covered_made s.numbers p.grade D.ready.depends c.self.invariant.covered D.ready.inside c.index_mut-3.ensures.value D.prepared.bytes c.put.ensures));
       prepared = tt;
     })
 
 pub returns-clause-made : goal.returns-clause-made
 returns-clause-made c =
-    let heads = c.self.inside.heads.items in
-    let nodes = nodes_of heads in
-    let old = patches_of heads in
-    let n = c.self.inside.numbers in
-    let blocks = c.self.inside.blocks in
+    let s = c.self.inside in
+    let old = patches_of s.heads.items in
     let p = c.in-Some.prepared in
     let gates = c.in-Some-gates.gates in
-    let P = put_now c.self.invariant p gates c.args.head c.args.self.now c.self.view_is c.requires.prepared c.requires.closed (sym c.take.ensures.value ∙ c.in-Some.is) c.in-Some-gates.is in
     let K = c.self.invariant.keeps in
-    let ready = P.ready in
+    let P = now (goal.at.returns-clause-made c).After-as_slice in
+    let D = P.down in
     let row = p.dependencies.items in
-    let few : length old < max_heads = let full = ready.clear.1.1.0 in omega (arith, full) in
-    let patches = linked_patches c.link.new.heads.items heads _ _ c.link.ensures.nodes in
-    let made = fresh (n + 1) (Change p.block p.span.at p.span.len p.grade) row in
-    let keeps = keeps_change old n blocks c.self.inside.walks.walk.marks K p.block p.span.at p.span.len (numbers_of p.names.items) p.grade row ready.depends ready.inside few (hard_may p.grade _ ready.graded) in
-    let told = pending_in nodes in
-    let sums : c.row_sums-sums.result ≡ sums_of told row =
-    c.row_sums-sums.ensures.sums ∙ (ap (λ hs. sums_of (pending_in (nodes_of hs)) c.as_slice.result.now) c.deref.ensures.value ∙ ap (sums_of told) c.as_slice.ensures) in
-    let below : c.joined.result ≡ joined told row = c.joined.ensures ∙ (ap joined_sums sums ∙ joined_exact told row) in
-    let over : c.over_block-pending.result ≡ (new_node nodes made).pending = c.over_block-pending.ensures ∙ ap (over_block p.block) below in
-    let nodes1 = with_node nodes made in
-    let at1 : nodes_of c.push_reserved.new.self.items ≡ nodes1 = rw (c.push_reserved.ensures.items, map_push, c.link.ensures.nodes, c.as_slice-2.ensures, over, sums, c.new.ensures.items) refl in
-    let seen1 : patches_of c.push_reserved.new.self.items ≡ old ++ made ∷ [] = rw (c.push_reserved.ensures.items, map_push, patches) refl in
-    let tail = gates.tail in
-    let names = (n + 1) ∷ [] in
-    let rowed : c.row_of-row.result.items ≡ names = c.row_of-row.ensures in
-    let gained : c.row_sums-gained.result ≡ sums_of (pending_in nodes1) names =
-    c.row_sums-gained.ensures.sums ∙ (ap (λ hs. sums_of (pending_in (nodes_of hs)) c.as_slice-3.result.now) c.deref-2.ensures.value ∙ (ap (λ ns. sums_of (pending_in ns) c.as_slice-3.result.now) at1 ∙ ap (sums_of (pending_in nodes1)) (c.as_slice-3.ensures ∙ rowed))) in
-    let at2 : nodes_of c.link-2.new.heads.items ≡ with_names nodes1 tail names (sums_of (pending_in nodes1) names) =
-    c.link-2.ensures.nodes
-    ∙ (ap (λ r. map (linked_to r tail) (nodes_of c.gain_one.new.heads.items)) (c.as_slice-4.ensures ∙ rowed)
-    ∙ ap (map (linked_to names tail)) (c.gain_one.ensures.nodes ∙ (ap (λ s. map (at_number tail (gains_names names s)) (nodes_of c.push_reserved.new.self.items)) gained ∙ ap (map (at_number tail (gains_names names (sums_of (pending_in nodes1) names)))) at1))) in
-    let seen2 : patches_of c.link-2.new.heads.items ≡ map (gains tail names) (old ++ made ∷ []) =
-    seen c.link-2.new.heads.items _ at2 ∙ (patches_named tail names (sums_of (pending_in nodes1) names) nodes1 ∙ ap (map (gains tail names)) (sym (seen c.push_reserved.new.self.items nodes1 at1) ∙ seen1)) in
-    let marks = c.self.inside.walks.walk.marks in
-    let gate = tail_there old n blocks marks K gates p P.member P.closed in
-    let none = tail_clear old n blocks marks K gates p P.member P.closed keeps.lawful in
-    let gain = tail_gains old n blocks marks K gates p P.member P.closed in
+    let none = tail_clear old s.numbers s.blocks s.walks.walk.marks K gates p P.member P.closed D.keeps.lawful in
     let names_head = subst (λ h. numbers_of p.names.items ≡ h ∷ []) P.own P.member.names in
     rw (← c.self.view_is, sym c.take.ensures.value ∙ c.in-Some.is) (
-      record { heads = old ++ made ∷ []; numbers = n + 1; blocks = blocks; groups = []; prepared = None },
+      record { heads = old ++ change_of s.numbers p ∷ []; numbers = s.numbers + 1; blocks = s.blocks; groups = []; prepared = None },
       record {
-        clear = subst (λ ns. NoneHolds (make_order old n ns)) names_head ready.clear;
+        clear = subst (λ ns. NoneHolds (make_order old s.numbers ns)) names_head D.ready.clear;
         row = record {
           next = refl;
           dependencies = row;
-          sparse = subst (λ ns. IsSparseRow old ns p.block p.span.at p.span.len row) names_head ready.depends;
+          sparse = subst (λ ns. IsSparseRow old ns p.block p.span.at p.span.len row) names_head D.ready.depends;
           added = refl;
-          graded = ready.graded;
+          graded = D.ready.graded;
         };
         numbers = refl;
         blocks = refl;
@@ -356,7 +205,13 @@ returns-clause-made c =
       },
       rw (← P.own, ← P.member.paired.follows) record {
         clear = none;
-        row = record { gate = gate; clear = none.1.1.1.1.1.0; names = names; live = gain; gained = seen2 };
+        row = record {
+          gate = tail_there old s.numbers s.blocks s.walks.walk.marks K gates p P.member P.closed;
+          clear = none.1.1.1.1.1.0;
+          names = (s.numbers + 1) ∷ [];
+          live = tail_gains old s.numbers s.blocks s.walks.walk.marks K gates p P.member P.closed;
+          gained = with_tie c;
+        };
         numbers = refl;
         blocks = refl;
         groups = refl;

@@ -1,7 +1,7 @@
 use Rattle.std.proofs.Common.{subst}
 use Rattle.fst_types.specs.Facts.{SparseAreLawful}
 use Rattle.fst_graph.specs.Known.{Known}
-use Rattle.fst_graph.proofs.SealedIf.{seals_if_open}
+use Rattle.fst_graph.proofs.GateSlot.{seals_if_open}
 use Rattle.fst_graph.proofs.sparse.Sparse.seal_if_open.Goals as goal
 
 pub returns-clause-sealed : goal.returns-clause-sealed

@@ -1,0 +1,63 @@
+-- What the fields are once an open gate is sealed, and what came to rest by that is on disk.
+use Rattle.std.proofs.Common.{◌≡◌, ◌≤◌, ◌+◌, ◌-◌, ◌++◌, ◌∙◌, ℕ, List, [], Option, None, map, count_by, arith, refl, ap, subst}
+use Rattle.std.specs.Global.{Vec}
+use Rattle.fst_types.specs.{Cascade.{IsCascadeOf, unsettled}, Gates.IsOpenNumber, Gating.sealed}
+use Rattle.fst_heads.specs.{Covers.Covering, Heads.patches_of, Nodes.{nodes_of, at_number, AreDistinct, AreLinked, AreSettled}, Spreading.{is_waiting, seals, wakes_sealed, IsSpreadOf, Spreading}}
+use Rattle.fst_heads.specs.{Standings.AllStand, declared.head.Head.Head, declared.lists.Listed.Listed, declared.standing.Standing.Standing}
+use Rattle.fst_walks.specs.declared.block_walk.BlockWalk.{BlockWalk}
+use Rattle.fst_graph.specs.{Sound.AreSound, declared.prepared.Prepared.Prepared as Stored}
+use Rattle.fst_types.proofs.Sealing.{alike_sealed}
+use Rattle.fst_heads.proofs.{AtNumber.patches_in_nodes, Beside.{beside_landed, landed_few, sealed_told}, Carried.{linked_sealed, distinct_sealed}, Stands.stand_sealed, Starting.{starts_sealed, unsettled_sealed}}
+use Rattle.fst_walks.proofs.Seen.{seen, one_each, lawful_nodes, tallies_wider}
+use Rattle.fst_graph.proofs.{Borne.{inside_nodes, open_nodes}, Kept.{covered_moved, keeps_sealed}, Sound.as_many_standings, Tallied.tallies_sealed}
+
+module _ {heads : Vec Head} {walks : BlockWalk} {lists : Vec (Vec Listed)} {covers : Vec Covering} {standings : Vec Standing} {queue : Vec ℕ} {live numbers blocks : ℕ} {o : Option Stored}
+    (S : AreSound heads walks lists covers standings queue live numbers blocks o) {g : ℕ} (gate : IsOpenNumber (patches_of heads.items) g)
+    (mid : Vec Head) (shut : nodes_of mid.items ≡ map (at_number g seals) (nodes_of heads.items)) where
+  -- what comes to rest may be told from there
+  pub shut_starts : (waits : List ℕ) → waits ≡ queue.items ++ wakes_sealed g (nodes_of heads.items) → Spreading (nodes_of mid.items) standings.len waits
+  shut_starts waits queued =
+      rw (shut, queued, S.tallies.idle, as_many_standings S)
+      (starts_sealed (nodes_of heads.items) numbers blocks g (lawful_nodes heads.items numbers S.keeps.lawful) (inside_nodes heads.items blocks S.keeps.inside) S.tallies.settled (open_nodes heads.items g gate))
+
+  pub shut_linked : AreLinked (nodes_of mid.items)
+  shut_linked = rw shut (linked_sealed (nodes_of heads.items) g S.tallies.linked)
+
+  pub shut_distinct : AreDistinct (nodes_of mid.items)
+  shut_distinct = rw shut (distinct_sealed (nodes_of heads.items) g S.tallies.distinct)
+
+  pub shut_standing : AllStand (nodes_of mid.items) standings.len standings.items
+  shut_standing =
+      rw (shut, as_many_standings S)
+      (stand_sealed (nodes_of heads.items) numbers blocks g standings.items (one_each heads.items numbers S.keeps.lawful.one_place_each) (open_nodes heads.items g gate) S.tallies.standing)
+
+  module _ (new : Vec Head) (placed : IsCascadeOf (patches_of mid.items) (patches_of new.items)) where
+    pub shut_cascade : IsCascadeOf (map (sealed g) (patches_of heads.items)) (patches_of new.items)
+    shut_cascade =
+        let was : map unsettled (patches_of mid.items) ≡ map unsettled (map (sealed g) (patches_of heads.items)) =
+        ap (map unsettled) (seen mid.items _ shut) ∙ (unsettled_sealed (nodes_of heads.items) g ∙ ap (λ ps. map unsettled (map (sealed g) ps)) (patches_in_nodes heads.items)) in
+        record { same = placed.same ∙ was; places = placed.places; settled = placed.settled }
+
+    module _ (landed : ℕ) (settled : AreSettled (nodes_of new.items) standings.len) (counted : count_by is_waiting (nodes_of new.items) + landed ≡ count_by is_waiting (nodes_of mid.items)) where
+      still_settled : AreSettled (nodes_of new.items) blocks
+      still_settled = subst (AreSettled (nodes_of new.items)) (as_many_standings S) settled
+
+      -- no more came to rest than are not on disk
+      pub shut_few : landed ≤ live
+      shut_few = landed_few heads.items mid.items new.items (at_number g seals) blocks live landed walks.crossed.items shut (sealed_told g) S.tallies.settled still_settled counted S.beside
+
+      pub shut_sound : {told : Vec Standing} {emptied : Vec ℕ} → IsSpreadOf (nodes_of mid.items) (nodes_of new.items) → AllStand (nodes_of new.items) standings.len told.items → emptied.items ≡ [] → emptied.cap ≡ queue.cap
+          → AreSound new walks lists covers told emptied (live - landed) numbers blocks None
+      shut_sound {told} {emptied} spread stand empty capacity =
+          let kept = keeps_sealed (patches_of heads.items) (patches_of new.items) numbers blocks g walks.walk.marks walks.walk.marks S.keeps gate shut_cascade refl in
+          let spread_from = subst (λ ns. IsSpreadOf ns (nodes_of new.items)) shut spread in
+          let standing = subst (λ k. AllStand (nodes_of new.items) k told.items) (as_many_standings S) stand in
+          record {
+            keeps = kept;
+            beside = beside_landed heads.items mid.items new.items (at_number g seals) blocks live landed walks.crossed.items shut (sealed_told g) S.tallies.settled still_settled counted S.beside;
+            tallies = tallies_wider _ numbers blocks _ _ _ _ _ _
+                (tallies_sealed (nodes_of heads.items) (nodes_of new.items) numbers blocks _ _ _ _ _ g (lawful_nodes heads.items numbers S.keeps.lawful) (lawful_nodes new.items numbers kept.lawful) S.tallies
+                (open_nodes heads.items g gate) spread_from still_settled standing) empty (omega (arith, capacity));
+            covered = covered_moved (alike_sealed (patches_of heads.items) (patches_of new.items) numbers g S.keeps.lawful gate shut_cascade) kept S.covered;
+            prepared = tt;
+          }
