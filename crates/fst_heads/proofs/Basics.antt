@@ -1,7 +1,8 @@
 -- What the proofs of this crate cite of std, from one place: numbers, tests and lists. It declares nothing.
 pub use Rattle.std.proofs.lemmas.Grind.{common_steps}
 pub use Rattle.smallvec.specs.SmallVec.{HasRoomFor, SmallVec}
-pub use Rattle.std.proofs.Common.{ℕ, List, [], ◌∷◌, ◌++◌, map, ◌≡◌, ◌≢◌, zero, suc, get_or, set, refl, sym, ◌∙◌, arith, eq-eqb, ne_eqb, ◌⊎◌, ◌↔◌, ◌<◌, true, false, length, AllPairs, Contains, ap, subst, inl, inr, ◌+◌, ◌-◌, ◌≤◌, ◌==◌, Bool, cond, if◌then◌else◌, filter, count_by, ◌&&◌, ◌||◌, not, get_or-set_same}
+pub use Rattle.std.proofs.Common.{ℕ, List, [], ◌∷◌, ◌++◌, map, ◌≡◌, ◌≢◌, zero, suc, get_or, set, refl, sym, ◌∙◌, arith, eq-eqb, ne_eqb, ◌⊎◌, ◌↔◌, ◌<◌}
+pub use Rattle.std.proofs.Common.{true, false, length, AllPairs, Contains, ap, subst, inl, inr, ◌+◌, ◌-◌, ◌≤◌, ◌==◌, Bool, cond, if◌then◌else◌, filter, count_by, ◌&&◌, ◌||◌, not, get_or-set_same}
 pub use Rattle.std.proofs.Common.{get_or-set_other, length-set, eqb-true, Some, eqb, None, ◌*◌, mul-add, mul-le-mul, MatchBool, take, append_assoc, append-nil, length-append, lit≤, drop, Result, Ok, Err, is_ok, insert, nat_cmp, find, All, take-append-drop, add-mul, mul_comm, mul_left_comm, ◌/◌, mul-div_cancel}
 pub use Rattle.std.proofs.Common.{nat_lt, vec_len, vec_capacity, take_all, option_map, rules, Vec, Global, IfOk}
 pub use Rattle.std.proofs.Math.Bool.{or-false, or-true, and-false, and-true}
