@@ -22,7 +22,6 @@ pub mod WalkingBack
 pub mod CrossingBack
 pub mod Overlapped
 pub mod HeldBelow
-pub mod Descended
 pub mod Crossing
 pub mod Beneath
 pub mod Trails

@@ -129,9 +129,6 @@ may_but heads but b row may = record { free = λ u. may.free (u.0, u.1, elim u.2
     is_open (Some gate) n e = e.0
 
 -- an open gate in the row is under it
-pub names_under : (heads : List Patch) (row : List ℕ) → ((n : ℕ) × Contains row n × IsOpenNumber heads n) → HasUnder heads row (IsOpenNumber heads)
-names_under heads row g = (g.0, g.1, inl g.2)
-
 -- what is under a row
 module _ (heads : List Patch) (row : List ℕ) where
   abbrev under : (ℕ → Type 0) → Type 0
@@ -161,9 +158,6 @@ IsAwayAbove heads b n m = PassesAt (test.LiveOff b) heads m × DependsOn heads m
 pub record IsOnPath (heads : List Patch) (b : ℕ) (row : List ℕ) (away : Bool) (n : ℕ) : Type 0 where
   pub under : HasUnder heads row (λ m. m ≡ n)
   pub off : away ≡ true → HasUnder heads row (IsAwayAbove heads b n)
-
-pub path_start : (heads : List Patch) (b : ℕ) (row : List ℕ) (n : ℕ) → Contains row n → IsOnPath heads b row false n
-path_start heads b row n c = record { under = under_first heads row n c; off = λ e. absurd (false≢true e) }
 
 pub path_next : (heads : List Patch) (b : ℕ) (row : List ℕ) (was now : Bool) (n q : ℕ) → IsOnPath heads b row was n → DirectlyOn heads n q → (now ≡ true → (was ≡ true) ⊎ PassesAt (test.LiveOff b) heads n) → IsOnPath heads b row now q
 path_next heads b row was now n q x d said = record {

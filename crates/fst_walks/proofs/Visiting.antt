@@ -123,9 +123,6 @@ visits_same P Q old new to from v = record {
 }
 
 -- of a list of numbers those with P, one after the other
-pub visits_start : (P : ℕ → Type 0) (queue : List ℕ) → Visits (λ n. Contains {X = ℕ} [] n × P n) queue queue
-visits_start P queue = visits_none (λ n. Contains {X = ℕ} [] n × P n) queue (λ n k. absurd (none_in n k.0))
-
 pub visits_next : (P L : ℕ → Type 0) (done : List ℕ) (n : ℕ) (old mid new : List ℕ) → ((m : ℕ) → P m → L m) → (L n → P n) → Visits (λ m. Contains done m × P m) old mid → Visits (λ m. (m ≡ n) × L m) mid new → Visits (λ m. Contains (done ++ n ∷ []) m × P m) old new
 visits_next P L done n old mid new to from v w =
     visits_both (λ m. Contains done m × P m) (λ m. (m ≡ n) × L m) (λ m. Contains (done ++ n ∷ []) m × P m) old mid new
