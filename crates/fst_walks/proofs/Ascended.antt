@@ -1,12 +1,11 @@
 -- A walk whose steps are told by a relation: what it has met so far, and that in the end it has met all.
 use Rattle.std.proofs.Common.{◌≡◌, ◌≤◌, ◌<◌, ◌+◌, ◌↔◌, ◌⊎◌, ℕ, Bool, false, List, ◌++◌, length, get_or, Contains, sym, ap, subst, ◌∙◌, inl, inr, arith}
-use Rattle.std.proofs.lemmas.Bool.{cases_Bool, cases_lt, false≢true}
-use Rattle.std.proofs.lemmas.List.{append_assoc, get_or_append_left}
+use Rattle.std.proofs.{lemmas.Bool.{cases_Bool, cases_lt, false≢true}, lemmas.List.{append_assoc, get_or_append_left}}
 use Rattle.std.proofs.lemmas.List.Elements.{Contains-append_left, Contains-get_or}
 use Rattle.fst_types.specs.Closure.{Closure, one, join}
-use Rattle.fst_walks.specs.Descending.{IsLedFrom, Visits}
 use Rattle.fst_heads.specs.Reaching.{IsReached}
 use Rattle.fst_heads.proofs.Slots.{any_default}
+use Rattle.fst_walks.specs.Descending.{IsLedFrom, Visits}
 use Rattle.fst_walks.proofs.Visiting.{visits_old}
 
 -- all that steps lead to from the first `at` in the queue is there

@@ -1,18 +1,11 @@
 -- What a patch depends on has no more pending than it has: where nothing or one block alone is pending of the patch, so it is of all below it.
 use Rattle.std.proofs.Common.{◌≡◌, ℕ, List, Contains, sym, ap, subst, ◌∙◌, inl, inr}
-use Rattle.fst_types.specs.declared.place.Place.TheVariants as place
-use Rattle.fst_types.specs.Closure.{one, join}
-use Rattle.fst_types.specs.Dependencies.{DirectlyOn, DependsOn}
-use Rattle.fst_types.specs.Facts.{IsOnDiskWithAll}
-use Rattle.fst_types.specs.Patches.{Patch, IsRising, IsOpenGate}
-use Rattle.fst_heads.specs.declared.pending.Pending.{Pending}
-use Rattle.fst_heads.specs.declared.pending.Pending.TheVariants as pending
-use Rattle.fst_heads.specs.Nodes.{Node, patches_in, pending_in, AreSettled}
-use Rattle.fst_heads.specs.Pendings.{joined, of_kind}
+use Rattle.fst_types.specs.{Closure.{one, join}, Dependencies.{DirectlyOn, DependsOn}, Facts.IsOnDiskWithAll, Patches.{Patch, IsRising, IsOpenGate}}
+use Rattle.fst_heads.specs.{Nodes.{Node, patches_in, pending_in, AreSettled}, Pendings.{joined, of_kind}, declared.pending.Pending.Pending}
+use Rattle.fst_heads.proofs.{PendingIn.{found, told_of}, Placed.{patch_in, node_of_patch}, Sums.{joined_nothing, joined_block}}
 use Rattle.fst_walks.proofs.Low.{IsLow, low_below}
-use Rattle.fst_heads.proofs.PendingIn.{found, told_of}
-use Rattle.fst_heads.proofs.Placed.{patch_in, node_of_patch}
-use Rattle.fst_heads.proofs.Sums.{joined_nothing, joined_block}
+use Rattle.fst_types.specs.declared.place.Place.TheVariants as place
+use Rattle.fst_heads.specs.declared.pending.Pending.TheVariants as pending
 
 module _ (nodes : List Node) (blocks : ℕ) (rising : IsRising (patches_in nodes)) (D : IsOnDiskWithAll (patches_in nodes)) (S : AreSettled nodes blocks) (b : ℕ) where
   abbrev told : ℕ → Pending

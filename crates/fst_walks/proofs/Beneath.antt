@@ -1,17 +1,10 @@
 -- Where the walk crosses no block, it meets what is not on disk of the row and below it.
 use Rattle.std.proofs.Common.{◌↔◌, ◌<◌, ℕ, Bool, List, [], Contains, refl, subst, inl, inr}
-use Rattle.fst_types.specs.Closure.{Closure, one, join}
-use Rattle.fst_types.specs.Dependencies.{DirectlyOn, DependsOn, IsLiveNumber}
-use Rattle.fst_types.specs.Facts.{IsOnDiskWithAll}
-use Rattle.fst_types.specs.Patches.{Patch}
-use Rattle.fst_walks.specs.Descending.{Visits}
-use Rattle.fst_walks.specs.WayDown.{StepsTo, IsLiveUnder, Meets}
-use Rattle.fst_heads.specs.Keeps.{IsInside}
-use Rattle.fst_heads.specs.Reaching.{IsReached}
+use Rattle.fst_types.specs.{Closure.{Closure, one, join}, Dependencies.{DirectlyOn, DependsOn, IsLiveNumber}, Facts.IsOnDiskWithAll, Patches.Patch}
+use Rattle.fst_heads.specs.{Keeps.IsInside, Reaching.IsReached}
 use Rattle.fst_heads.proofs.Graded.{on_from}
-use Rattle.fst_walks.proofs.HeldBelow.{goes_down}
-use Rattle.fst_walks.proofs.Holding.{live_up}
-use Rattle.fst_walks.proofs.Visiting.{none_in}
+use Rattle.fst_walks.specs.{Descending.Visits, WayDown.{StepsTo, IsLiveUnder, Meets}}
+use Rattle.fst_walks.proofs.{HeldBelow.goes_down, Holding.live_up, Visiting.none_in}
 
 module _ (heads : List Patch) (disk : IsOnDiskWithAll heads) (row : List ℕ) (blocks : ℕ) (inside : IsInside heads blocks) (crossed : List Bool) (all : (c : ℕ) → c < blocks → IsReached crossed c) (start met : List ℕ)
     (starts : Visits (λ n. Contains row n × IsLiveNumber heads n) [] start) (meets : Meets heads crossed start met) where

@@ -1,20 +1,14 @@
 -- The walk up from the changes of a block meets a direct dependency of a new change of the block exactly where that may not be hard.
 use Rattle.std.proofs.Common.{◌≡◌, ◌≢◌, ◌↔◌, ◌⊎◌, ℕ, Bool, List, Contains, refl, sym, subst, ◌∙◌, inl, inr}
 use Rattle.std.proofs.lemmas.Bool.{cases_eq}
-use Rattle.fst_types.specs.Closure.{Closure, one, join}
-use Rattle.fst_types.specs.Dependencies.{DependsOn, IsLiveNumber}
-use Rattle.fst_types.specs.Facts.{IsOnDiskWithAll}
-use Rattle.fst_types.specs.Grades.{HasEdge, Reaches}
+use Rattle.fst_types.specs.{Closure.{Closure, one, join}, Dependencies.{DependsOn, IsLiveNumber}, Facts.IsOnDiskWithAll, Grades.{HasEdge, Reaches}}
 use Rattle.fst_types.specs.Patches.{Patch, IsRising, IsOn, IsLive}
 use Rattle.fst_types.proofs.Crash.{same_number}
-use Rattle.fst_heads.specs.declared.test.Test.TheVariants as test
-use Rattle.fst_heads.specs.Grading.{HasUnder, IsReturning, IsLeading, LeadsNowhere, IsHardNumber}
-use Rattle.fst_heads.specs.Marks.{PassesAt}
-use Rattle.fst_heads.specs.Reaching.{ShowsBlocks}
+use Rattle.fst_heads.specs.{Grading.{HasUnder, IsReturning, IsLeading, LeadsNowhere, IsHardNumber}, Marks.PassesAt, Reaching.ShowsBlocks}
+use Rattle.fst_heads.proofs.{Graded.{on_from, on_to, off_from, off_to}, Leading.one_block}
 use Rattle.fst_walks.specs.WayBack.{StepsUp, IsMet, Meets, IsLiveOver}
-use Rattle.fst_heads.proofs.Graded.{on_from, on_to, off_from, off_to}
 use Rattle.fst_walks.proofs.Holding.{live_up}
-use Rattle.fst_heads.proofs.Leading.{one_block}
+use Rattle.fst_heads.specs.declared.test.Test.TheVariants as test
 
 -- p is q, or depends on it
 abbrev IsOver : List Patch → ℕ → ℕ → Type 0

@@ -1,27 +1,15 @@
 -- From a change across its block, to the hard changes of it in memory.
 use Rattle.std.proofs.Common.{◌≡◌, ◌<◌, ℕ, Bool, true, false, List, Some, length, map, get_or, set, Contains, refl, sym, ap, subst, ◌∙◌, inl, inr, get_or-set_same, get_or-set_other}
 use Rattle.std.proofs.lemmas.Bool.{cases_eq}
+use Rattle.fst_types.specs.{Dependencies.IsLiveNumber, Patches.{Patch, IsOn, block_of_kind}, declared.grade.Grade.Grade}
+use Rattle.fst_heads.specs.{Grading.IsHardNumber, Heads.{IsRising, kind_of, patch_of, patches_of}, Lists.{entries_of, entries_on}, Marks.{HasSlot, PassesAt}}
+use Rattle.fst_heads.specs.{Reaching.IsReached, declared.head.Head.Head, declared.head.Kind.Kind, declared.lists.Listed.Listed}
+use Rattle.fst_heads.proofs.{Graded.{on_from, on_to}, Leading.{one_block, reached_more}, Slots.{patch_at, patch_is}}
+use Rattle.fst_walks.specs.{Descending.Visits, WayDown.{Crosses, ShowsBlockOf}}
+use Rattle.fst_walks.proofs.{CrossingBack.change_listed, Visiting.visits_none}
 use Rattle.fst_types.specs.declared.place.Place.TheVariants as place
-use Rattle.fst_types.specs.Dependencies.{IsLiveNumber}
-use Rattle.fst_types.specs.Patches.{Patch, IsOn, block_of_kind}
-use Rattle.fst_types.specs.declared.grade.Grade.{Grade}
-use Rattle.fst_heads.specs.declared.head.Kind.{Kind}
 use Rattle.fst_heads.specs.declared.head.Kind.TheVariants as kinds
-use Rattle.fst_heads.specs.declared.head.Head.{Head}
-use Rattle.fst_heads.specs.declared.lists.Listed.{Listed}
 use Rattle.fst_heads.specs.declared.test.Test.TheVariants as test
-use Rattle.fst_walks.specs.Descending.{Visits}
-use Rattle.fst_walks.specs.WayDown.{Crosses, ShowsBlockOf}
-use Rattle.fst_heads.specs.Grading.{IsHardNumber}
-use Rattle.fst_heads.specs.Heads.{IsRising, kind_of, patch_of, patches_of}
-use Rattle.fst_heads.specs.Lists.{entries_of, entries_on}
-use Rattle.fst_heads.specs.Marks.{HasSlot, PassesAt}
-use Rattle.fst_heads.specs.Reaching.{IsReached}
-use Rattle.fst_heads.proofs.Graded.{on_from, on_to}
-use Rattle.fst_heads.proofs.Leading.{one_block, reached_more}
-use Rattle.fst_heads.proofs.Slots.{patch_at, patch_is}
-use Rattle.fst_walks.proofs.CrossingBack.{change_listed}
-use Rattle.fst_walks.proofs.Visiting.{visits_none}
 
 -- a hard change in memory is not on disk
 pub hard_live : (patches : List Patch) (b n : ℕ) → IsHardNumber patches b n → IsLiveNumber patches n

@@ -1,26 +1,15 @@
 -- What is in flight of a block, by its heads and by its list.
 use Rattle.std.proofs.Common.{◌≡◌, ◌↔◌, ◌&&◌, ℕ, Bool, true, not, List, [], map, filter, get_or, Contains, refl, sym, ap, subst, ◌∙◌, inl, inr}
 use Rattle.std.proofs.lemmas.Bool.{false≢true}
-use Rattle.fst_types.specs.declared.place.Place.{Place}
-use Rattle.fst_types.specs.declared.place.Place.TheVariants as place
-use Rattle.fst_types.specs.Dependencies.{IsLiveNumber}
-use Rattle.fst_types.specs.Patches.{Patch}
-use Rattle.fst_types.specs.Tests.{is_at, is_on, is_change_at}
-use Rattle.fst_types.proofs.Dropping.{in_filter}
-use Rattle.fst_types.proofs.Finite.{In, In-from_Contains, Contains-from_In, In-map}
-use Rattle.fst_types.proofs.Landing.{change_at, at_change}
-use Rattle.fst_heads.specs.declared.head.Head.{Head}
-use Rattle.fst_heads.specs.declared.lists.Listed.{Listed}
-use Rattle.fst_heads.specs.Ascending.{IsFlyingNumber, IsNextBehind, IsBehind}
+use Rattle.fst_types.specs.{Dependencies.IsLiveNumber, Patches.Patch, Tests.{is_at, is_on, is_change_at}, declared.place.Place.Place}
+use Rattle.fst_types.proofs.{Dropping.in_filter, Finite.{In, In-from_Contains, Contains-from_In, In-map}, Landing.{change_at, at_change}}
+use Rattle.fst_heads.specs.{Ascending.{IsFlyingNumber, IsNextBehind, IsBehind}, Heads.{IsRising, patch_of, patches_of}}
+use Rattle.fst_heads.specs.{Lists.{Entry, entry, entry_of, entries_of, entries_on, is_live_on}, Marks.{HasSlot, Shows}, Nodes.{nodes_of, patches_in}}
+use Rattle.fst_heads.specs.{declared.head.Head.Head, declared.lists.Listed.Listed}
+use Rattle.fst_heads.proofs.{AtNumber.patches_in_nodes, Slots.{patch_at, patch_is}, Waiting.map_twice}
 use Rattle.fst_walks.specs.Descending.{IsLedFrom, Visits}
-use Rattle.fst_heads.specs.Heads.{IsRising, patch_of, patches_of}
-use Rattle.fst_heads.specs.Lists.{Entry, entry, entry_of, entries_of, entries_on, is_live_on}
-use Rattle.fst_heads.specs.Marks.{HasSlot, Shows}
-use Rattle.fst_heads.specs.Nodes.{nodes_of, patches_in}
-use Rattle.fst_heads.proofs.AtNumber.{patches_in_nodes}
-use Rattle.fst_heads.proofs.Slots.{patch_at, patch_is}
 use Rattle.fst_walks.proofs.Visiting.{none_in}
-use Rattle.fst_heads.proofs.Waiting.{map_twice}
+use Rattle.fst_types.specs.declared.place.Place.TheVariants as place
 
 -- what is in flight is not on disk
 pub flying_live : (patches : List Patch) (b n : ℕ) → IsFlyingNumber patches b n → IsLiveNumber patches n

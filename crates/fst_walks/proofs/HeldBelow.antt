@@ -1,20 +1,14 @@
 -- The walk down from the row of a new change of a block meets what the grade turns on.
 use Rattle.std.proofs.Common.{◌≡◌, ◌≢◌, ◌↔◌, ◌⊎◌, ℕ, Bool, List, Contains, refl, sym, subst, ◌∙◌, inl, inr}
 use Rattle.std.proofs.lemmas.Bool.{cases_eq}
-use Rattle.fst_types.specs.Closure.{Closure, one, join}
-use Rattle.fst_types.specs.Dependencies.{DirectlyOn, DependsOn, Needs, IsLiveNumber}
-use Rattle.fst_types.specs.Facts.{IsOnDiskWithAll}
-use Rattle.fst_types.specs.Grades.{HasEdge, Reaches}
-use Rattle.fst_types.specs.Patches.{Patch, IsRising, IsOn, IsLive}
+use Rattle.fst_types.specs.{Closure.{Closure, one, join}, Dependencies.{DirectlyOn, DependsOn, Needs, IsLiveNumber}, Facts.IsOnDiskWithAll}
+use Rattle.fst_types.specs.{Grades.{HasEdge, Reaches}, Patches.{Patch, IsRising, IsOn, IsLive}}
 use Rattle.fst_types.proofs.Crash.{same_number}
-use Rattle.fst_heads.specs.declared.test.Test.TheVariants as test
+use Rattle.fst_heads.specs.{Grading.{HasUnder, IsReturning, IsLeading, LeadsNowhere, IsHardNumber}, Marks.PassesAt, Reaching.ShowsBlocks}
+use Rattle.fst_heads.proofs.{Graded.{on_from, on_to, off_from, off_to}, Leading.one_block}
 use Rattle.fst_walks.specs.WayDown.{Crosses, StepsTo, IsLiveUnder, Meets}
-use Rattle.fst_heads.specs.Grading.{HasUnder, IsReturning, IsLeading, LeadsNowhere, IsHardNumber}
-use Rattle.fst_heads.specs.Marks.{PassesAt}
-use Rattle.fst_heads.specs.Reaching.{ShowsBlocks}
-use Rattle.fst_heads.proofs.Graded.{on_from, on_to, off_from, off_to}
 use Rattle.fst_walks.proofs.Holding.{live_up}
-use Rattle.fst_heads.proofs.Leading.{one_block}
+use Rattle.fst_heads.specs.declared.test.Test.TheVariants as test
 
 -- something in the list is a change of b that is not on disk
 abbrev pub HasOn : List Patch → ℕ → List ℕ → Type 0

@@ -1,13 +1,11 @@
 -- Nothing is pending, or changes of one block alone.
 use Rattle.std.proofs.Common.{◌≡◌, ◌⊎◌, ◌==◌, ℕ, true, Some, refl, sym, ap, subst, ◌∙◌, inl, inr}
 use Rattle.std.proofs.lemmas.Bool.{cases_Bool, cases_eq, eqb-true, eq-eqb, false≢true, cond-true, cond-false}
-use Rattle.fst_types.specs.declared.place.Place.{Place}
-use Rattle.fst_types.specs.declared.place.Place.TheVariants as place
-use Rattle.fst_types.specs.Patches.{Kind, Change, Empty, OpenGate, SealedGate, block_of_kind}
+use Rattle.fst_types.specs.{Patches.{Kind, Change, Empty, OpenGate, SealedGate, block_of_kind}, declared.place.Place.Place}
 use Rattle.fst_types.proofs.Finite.{Decided}
-use Rattle.fst_heads.specs.declared.pending.Pending.{Pending}
+use Rattle.fst_heads.specs.{Pendings.{is_pending, over_block, of_kind}, declared.pending.Pending.Pending}
+use Rattle.fst_types.specs.declared.place.Place.TheVariants as place
 use Rattle.fst_heads.specs.declared.pending.Pending.TheVariants as pending
-use Rattle.fst_heads.specs.Pendings.{is_pending, over_block, of_kind}
 
 abbrev pub IsLow : ℕ → Pending → Type 0
 IsLow b p = (p ≡ pending.Nothing) ⊎ (p ≡ pending.Block b)

@@ -1,27 +1,17 @@
 -- What is near a row, and the grade that it tells.
 use Rattle.std.proofs.Common.{◌≡◌, ◌⊎◌, ◌&&◌, ℕ, Bool, true, false, List, get_or, Contains, Some, None, Option, IfSome, refl, sym, ap, subst, ◌∙◌, inl, inr}
 use Rattle.std.proofs.lemmas.Bool.{false≢true}
+use Rattle.fst_types.specs.{Closure.{one, join}, Dependencies.{DirectlyOn, DependsOn}, Facts.HardNeverHold, Gates.IsOpenNumber}
+use Rattle.fst_types.specs.{Patches.{Kind, OpenGate, Patch, IsOn, grade_of_kind}, Tests.is_change_at}
+use Rattle.fst_types.proofs.Landing.{change_at, at_change}
+use Rattle.fst_heads.specs.{Grading.{HasUnder, IsReturning, IsOpenBut, MayBeHard, IsHardNumber, RestsOnHard}, Heads.{IsRising, patch_of, patches_of}}
+use Rattle.fst_heads.specs.{Marks.{HasSlot, HasNone, PassesAt}, Reaching.IsHardIn, Tests.{passes, is_hard_kind}, declared.head.Head.Head}
+use Rattle.fst_heads.specs.declared.test.Test.{Test}
+use Rattle.fst_heads.proofs.{Graded.{on_from, off_from}, Leading.{one_block, same_patch}, Slots.{direct_at, patch_at, patch_is, patch_slot, slot_in, none_slot}}
+use Rattle.fst_walks.proofs.Obstacles.{hard_from, hard_to}
 use Rattle.fst_types.specs.declared.place.Place.TheVariants as place
 use Rattle.fst_types.specs.declared.grade.Grade.TheVariants as grade
-use Rattle.fst_types.specs.Closure.{one, join}
-use Rattle.fst_types.specs.Patches.{Kind, OpenGate, Patch, IsOn, grade_of_kind}
-use Rattle.fst_types.specs.Dependencies.{DirectlyOn, DependsOn}
-use Rattle.fst_types.specs.Facts.{HardNeverHold}
-use Rattle.fst_types.specs.Gates.{IsOpenNumber}
-use Rattle.fst_types.specs.Tests.{is_change_at}
-use Rattle.fst_types.proofs.Landing.{change_at, at_change}
-use Rattle.fst_heads.specs.declared.test.Test.{Test}
 use Rattle.fst_heads.specs.declared.test.Test.TheVariants as test
-use Rattle.fst_heads.specs.declared.head.Head.{Head}
-use Rattle.fst_heads.specs.Heads.{IsRising, patch_of, patches_of}
-use Rattle.fst_heads.specs.Marks.{HasSlot, HasNone, PassesAt}
-use Rattle.fst_heads.specs.Tests.{passes, is_hard_kind}
-use Rattle.fst_heads.specs.Reaching.{IsHardIn}
-use Rattle.fst_heads.specs.Grading.{HasUnder, IsReturning, IsOpenBut, MayBeHard, IsHardNumber, RestsOnHard}
-use Rattle.fst_heads.proofs.Slots.{direct_at, patch_at, patch_is, patch_slot, slot_in, none_slot}
-use Rattle.fst_heads.proofs.Leading.{one_block, same_patch}
-use Rattle.fst_walks.proofs.Obstacles.{hard_from, hard_to}
-use Rattle.fst_heads.proofs.Graded.{on_from, off_from}
 
 -- a number that no head has is no patch's
 pub no_patch : (heads : List Head) (n : ℕ) → HasNone heads n → (p : Patch) → Contains (patches_of heads) p → p.number ≡ n → ⊥

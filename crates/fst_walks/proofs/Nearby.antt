@@ -1,9 +1,7 @@
 -- What is near a row tells what the row does.
 use Rattle.std.proofs.Common.{◌≡◌, ℕ, List, ◌∷◌, [], ◌++◌, Contains, refl, sym, subst, inl, inr}
 use Rattle.std.proofs.lemmas.List.Elements.{Contains-push_cases}
-use Rattle.fst_types.specs.Closure.{one, join}
-use Rattle.fst_types.specs.Dependencies.{DirectlyOn, DependsOn}
-use Rattle.fst_types.specs.Patches.{Patch}
+use Rattle.fst_types.specs.{Closure.{one, join}, Dependencies.{DirectlyOn, DependsOn}, Patches.Patch}
 use Rattle.fst_heads.specs.Grading.{HasUnder, IsReturning, IsLeading, LeadsNowhere}
 use Rattle.fst_walks.specs.Nearby.{Deepens}
 

@@ -1,12 +1,9 @@
 -- What a walk has met and marked.
 use Rattle.std.proofs.Common.{◌≡◌, ◌≢◌, ◌≤◌, ◌<◌, ℕ, zero, suc, Bool, true, false, List, [], ◌∷◌, ◌++◌, length, take, filter, get_or, set, Contains, AllPairs, refl, sym, subst, ◌∙◌, inl, inr, arith, get_or-set_same, get_or-set_other, length-append}
-use Rattle.std.proofs.lemmas.Bool.{cases_eq, false≢true}
+use Rattle.std.proofs.{lemmas.Bool.{cases_eq, false≢true}, lemmas.List.{take-append-le, take_all}}
 use Rattle.std.proofs.lemmas.List.Elements.{Contains-append_left, Contains-push, Contains-push_cases}
-use Rattle.std.proofs.lemmas.List.{take-append-le, take_all}
-use Rattle.fst_types.proofs.Dropping.{filter_in}
-use Rattle.fst_types.proofs.Finite.{In, In-from_Contains, Contains-from_In}
-use Rattle.fst_heads.proofs.Slots.{any_default}
-use Rattle.fst_heads.proofs.Waiting.{once_fits, once_append}
+use Rattle.fst_types.proofs.{Dropping.filter_in, Finite.{In, In-from_Contains, Contains-from_In}}
+use Rattle.fst_heads.proofs.{Slots.any_default, Waiting.{once_fits, once_append}}
 use Rattle.fst_walks.specs.Walks.{AreMarked}
 
 -- a mark stands in one of the slots

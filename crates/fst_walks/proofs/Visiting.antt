@@ -3,14 +3,9 @@ use Rattle.std.proofs.Common.{◌≡◌, ◌⊎◌, ◌<◌, ℕ, List, [], ◌�
 use Rattle.std.proofs.lemmas.List.{append-nil, append_assoc, get_or-map, length-map, map_push}
 use Rattle.std.proofs.lemmas.List.Elements.{Contains-append_left, Contains-push, Contains-push_cases}
 use Rattle.fst_types.specs.Dependencies.{IsLiveNumber}
-use Rattle.fst_heads.specs.declared.head.Head.{Head}
-use Rattle.fst_walks.specs.Descending.{Visited, Visits}
-use Rattle.fst_walks.specs.Walks.{Trail, AreMarked, Meets, number_at, numbers_met}
-use Rattle.fst_heads.specs.Heads.{IsRising, patches_of}
-use Rattle.fst_heads.specs.Marks.{HasSlot, Shows}
-use Rattle.fst_heads.proofs.Placed.{unmapped}
-use Rattle.fst_heads.proofs.Slots.{slot_unique, some_element}
-use Rattle.fst_heads.proofs.Waiting.{mapped}
+use Rattle.fst_heads.specs.{Heads.{IsRising, patches_of}, Marks.{HasSlot, Shows}, declared.head.Head.Head}
+use Rattle.fst_heads.proofs.{Placed.unmapped, Slots.{slot_unique, some_element}, Waiting.mapped}
+use Rattle.fst_walks.specs.{Descending.{Visited, Visits}, Walks.{Trail, AreMarked, Meets, number_at, numbers_met}}
 use Rattle.fst_walks.proofs.Trails.{met_inside}
 
 pub none_in : (n : ℕ) → Contains {X = ℕ} [] n → ⊥

@@ -1,23 +1,13 @@
 -- The walk up to all from which a way leads back to a block, where it crosses none.
 use Rattle.std.proofs.Common.{◌≡◌, ◌≤◌, ◌<◌, ◌+◌, ◌↔◌, ℕ, Bool, false, List, [], ◌++◌, length, get_or, Contains, refl, sym, ap, subst, ◌∙◌, inl, inr, arith}
-use Rattle.std.proofs.lemmas.Bool.{cases_Bool, cases_lt, false≢true}
-use Rattle.std.proofs.lemmas.List.{append-nil, append_assoc, get_or_append_left}
+use Rattle.std.proofs.{lemmas.Bool.{cases_Bool, cases_lt, false≢true}, lemmas.List.{append-nil, append_assoc, get_or_append_left}}
 use Rattle.std.proofs.lemmas.List.Elements.{Contains-append_left, Contains-get_or}
-use Rattle.fst_types.specs.Closure.{Closure, one, join}
-use Rattle.fst_types.specs.Dependencies.{DirectlyOn, DependsOn, IsLiveNumber}
-use Rattle.fst_types.specs.Facts.{IsOnDiskWithAll}
-use Rattle.fst_types.specs.Patches.{Patch}
+use Rattle.fst_types.specs.{Closure.{Closure, one, join}, Dependencies.{DirectlyOn, DependsOn, IsLiveNumber}, Facts.IsOnDiskWithAll, Patches.Patch}
+use Rattle.fst_heads.specs.{Grading.IsHardNumber, Keeps.IsInside, Marks.PassesAt, Reaching.IsReached}
+use Rattle.fst_heads.proofs.{Graded.on_from, Slots.any_default}
+use Rattle.fst_walks.specs.{Descending.Visits, WayBack.{Crosses, StepsUp, IsMet, ShowsBlockOf, Meets, IsLiveOver}}
+use Rattle.fst_walks.proofs.{Holding.live_up, Visiting.{none_in, visits_old}}
 use Rattle.fst_heads.specs.declared.test.Test.TheVariants as test
-use Rattle.fst_walks.specs.Descending.{Visits}
-use Rattle.fst_heads.specs.Grading.{IsHardNumber}
-use Rattle.fst_heads.specs.Keeps.{IsInside}
-use Rattle.fst_heads.specs.Marks.{PassesAt}
-use Rattle.fst_heads.specs.Reaching.{IsReached}
-use Rattle.fst_walks.specs.WayBack.{Crosses, StepsUp, IsMet, ShowsBlockOf, Meets, IsLiveOver}
-use Rattle.fst_heads.proofs.Graded.{on_from}
-use Rattle.fst_walks.proofs.Holding.{live_up}
-use Rattle.fst_heads.proofs.Slots.{any_default}
-use Rattle.fst_walks.proofs.Visiting.{none_in, visits_old}
 
 -- where no block is crossed, the walk meets what is not on disk of what it starts from and of what depends on that
 module _ (heads : List Patch) (disk : IsOnDiskWithAll heads) (b blocks : ℕ) (inside : IsInside heads blocks) (crossed : List Bool) (all : (c : ℕ) → c < blocks → IsReached crossed c) (start : List ℕ)

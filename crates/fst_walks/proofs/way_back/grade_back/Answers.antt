@@ -1,14 +1,11 @@
 use Rattle.std.proofs.Common.{◌↔◌, ◌∙◌, ℕ, Contains, sym, subst}
 use Rattle.std.proofs.lemmas.Bool.{false≢true}
 use Rattle.fst_types.specs.Facts.{IsOnDiskWithAll}
-use Rattle.fst_heads.specs.declared.test.Test.TheVariants as test
-use Rattle.fst_heads.specs.Heads.{patches_of}
-use Rattle.fst_heads.specs.Marks.{PassesAt}
-use Rattle.fst_walks.specs.Walks.{numbers_met}
-use Rattle.fst_walks.specs.WayBack.{IsLiveOver}
-use Rattle.fst_walks.proofs.ComesBack.{met_soft, none_hard, over_soft}
+use Rattle.fst_heads.specs.{Heads.patches_of, Marks.PassesAt}
 use Rattle.fst_heads.proofs.Listing.{rising_patches}
-use Rattle.fst_walks.proofs.Away.{kept_with}
+use Rattle.fst_walks.specs.{Walks.numbers_met, WayBack.IsLiveOver}
+use Rattle.fst_walks.proofs.{Away.kept_with, ComesBack.{met_soft, none_hard, over_soft}}
+use Rattle.fst_heads.specs.declared.test.Test.TheVariants as test
 use Rattle.fst_walks.proofs.way_back.grade_back.Goals as goal
 
 -- a change of another block that depends on one of the block was met

@@ -1,18 +1,10 @@
 use Rattle.std.proofs.Common.{◌≡◌, ◌≤◌, ◌<◌, length, get_or, Contains, sym, subst, arith}
 use Rattle.fst_types.specs.Dependencies.{DirectlyOn, IsLiveNumber}
-use Rattle.fst_heads.specs.declared.head.Head.{Head}
-use Rattle.fst_walks.specs.Descending.{Visits}
-use Rattle.fst_walks.specs.Walks.{numbers_met}
-use Rattle.fst_heads.specs.Heads.{patches_of}
-use Rattle.fst_walks.specs.WayBack.{Crosses, StepsUp, ShowsBlockOf}
+use Rattle.fst_heads.specs.{Grading.IsHardNumber, Heads.patches_of, Marks.PassesAt, declared.head.Head.Head}
+use Rattle.fst_heads.proofs.{PendingAt.node_in, Slots.{any_default, slot_here}}
+use Rattle.fst_walks.specs.{Descending.Visits, Walks.numbers_met, WayBack.{Crosses, StepsUp, ShowsBlockOf}}
+use Rattle.fst_walks.proofs.{Ascended.{walking_more, climbing_all}, CrossingBack.{above_from, above_to}, Visiting.{long_met, slot_met, visits_same}}
 use Rattle.fst_heads.specs.declared.test.Test.TheVariants as test
-use Rattle.fst_heads.specs.Grading.{IsHardNumber}
-use Rattle.fst_heads.specs.Marks.{PassesAt}
-use Rattle.fst_walks.proofs.CrossingBack.{above_from, above_to}
-use Rattle.fst_heads.proofs.PendingAt.{node_in}
-use Rattle.fst_heads.proofs.Slots.{any_default, slot_here}
-use Rattle.fst_walks.proofs.Visiting.{long_met, slot_met, visits_same}
-use Rattle.fst_walks.proofs.Ascended.{walking_more, climbing_all}
 use Rattle.fst_walks.proofs.way_back.walk_back.Goals as goal
 
 pub cross-requires-clause-slot : goal.cross-requires-clause-slot

@@ -1,11 +1,8 @@
 use Rattle.std.proofs.Common.{◌-◌, length}
-use Rattle.fst_walks.specs.Walks.{numbers_met}
-use Rattle.fst_walks.specs.Descending.{Visited}
-use Rattle.fst_heads.specs.Heads.{patches_of}
-use Rattle.fst_walks.specs.WayBack.{StepsUp}
-use Rattle.fst_heads.specs.declared.test.Test.TheVariants as test
-use Rattle.fst_heads.specs.Marks.{PassesAt}
+use Rattle.fst_heads.specs.{Heads.patches_of, Marks.PassesAt}
+use Rattle.fst_walks.specs.{Descending.Visited, Walks.numbers_met, WayBack.StepsUp}
 use Rattle.fst_walks.proofs.Ascended.{Walking}
+use Rattle.fst_heads.specs.declared.test.Test.TheVariants as test
 use Rattle.fst_walks.proofs.way_back.walk_back.Given as goal
 
 abbrev pub invariant-loop-at : goal.invariant-loop-at

@@ -1,17 +1,11 @@
 use Rattle.std.proofs.Common.{◌≡◌, ◌≤◌, ◌<◌, length, get_or, Contains, sym, subst, arith}
 use Rattle.std.proofs.lemmas.List.Elements.{Contains-get_or}
 use Rattle.fst_types.specs.Dependencies.{DirectlyOn, IsLiveNumber}
-use Rattle.fst_heads.specs.declared.head.Head.{Head}
-use Rattle.fst_walks.specs.Descending.{Visits}
-use Rattle.fst_walks.specs.Walks.{numbers_met}
-use Rattle.fst_walks.specs.WayDown.{Crosses, StepsTo, ShowsBlockOf}
-use Rattle.fst_heads.specs.declared.test.Test.TheVariants as test
-use Rattle.fst_heads.specs.Grading.{IsHardNumber}
-use Rattle.fst_heads.specs.Marks.{PassesAt}
-use Rattle.fst_heads.specs.Heads.{patches_of}
-use Rattle.fst_walks.proofs.Ascended.{walking_more, climbing_all}
+use Rattle.fst_heads.specs.{Grading.IsHardNumber, Heads.patches_of, Marks.PassesAt, declared.head.Head.Head}
 use Rattle.fst_heads.proofs.Slots.{direct_at, named_at, slot_here}
-use Rattle.fst_walks.proofs.Visiting.{long_met, slot_met, visits_same}
+use Rattle.fst_walks.specs.{Descending.Visits, Walks.numbers_met, WayDown.{Crosses, StepsTo, ShowsBlockOf}}
+use Rattle.fst_walks.proofs.{Ascended.{walking_more, climbing_all}, Visiting.{long_met, slot_met, visits_same}}
+use Rattle.fst_heads.specs.declared.test.Test.TheVariants as test
 use Rattle.fst_walks.proofs.way_down.walk_down.Goals as goal
 
 pub cross-requires-clause-live : goal.cross-requires-clause-live

@@ -1,9 +1,6 @@
 use Rattle.std.proofs.Common.{◌-◌, length}
-use Rattle.fst_walks.specs.Walks.{numbers_met}
-use Rattle.fst_walks.specs.Descending.{Visited}
-use Rattle.fst_heads.specs.Heads.{patches_of}
-use Rattle.fst_walks.specs.WayDown.{StepsTo}
-use Rattle.fst_heads.specs.Grading.{IsHardNumber}
+use Rattle.fst_heads.specs.{Grading.IsHardNumber, Heads.patches_of}
+use Rattle.fst_walks.specs.{Descending.Visited, Walks.numbers_met, WayDown.StepsTo}
 use Rattle.fst_walks.proofs.Ascended.{Walking}
 use Rattle.fst_walks.proofs.way_down.walk_down.Given as goal
 
