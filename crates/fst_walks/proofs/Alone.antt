@@ -5,7 +5,7 @@ use Rattle.fst_types.specs.{Patches.{Patch, IsOn, IsOpenGate, block_of_kind}, Wr
 use Rattle.fst_types.proofs.Finite.{In-from_Contains, decided_not, search_list, lowest}
 use Rattle.fst_heads.specs.{Nodes.{Node, patches_in, pending_in, AreSettled}, Pendings.joined, declared.pending.Pending.Pending}
 use Rattle.fst_heads.proofs.{PendingIn.{found, told_of}, Placed.patch_in, Sums.joined_all_block}
-use Rattle.fst_walks.proofs.{Below.{low_node, low_depends, gate_high}, Low.{IsLow, low_decided, low_above, low_change, some_same}}
+use Rattle.fst_walks.proofs.Low.{low_node, low_depends, gate_high, IsLow, low_decided, low_above, low_change, some_same}
 use Rattle.fst_types.specs.declared.place.Place.TheVariants as place
 use Rattle.fst_heads.specs.declared.pending.Pending.TheVariants as pending
 

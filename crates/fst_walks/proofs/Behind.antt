@@ -3,15 +3,15 @@ use Rattle.std.proofs.Common.{◌≡◌, ◌<◌, ◌≤◌, ◌↔◌, ◌⊎�
 use Rattle.std.specs.List.Sorted.{IsStrictlyIncreasing}
 use Rattle.std.proofs.lemmas.Bool.{cases_Bool, and_parts, and_from, or_cases, not_from_true, not_from_false, not-true, false≢true}
 use Rattle.std.proofs.lemmas.List.Kept.{AllPairs-from_increasing}
+use Rattle.fst_heads.specs.Ascending.{IsFlyingNumber, IsNextBehind, IsBehind, is_free_on, is_bound_on, free_on, bound_on}
+use Rattle.fst_walks.proofs.{Alone.{waits_in, waits_out}, Holding.live_up, Low.{low_depends, IsLow, is_block, block_is}}
+use Rattle.fst_walks.proofs.{Numbered.{rising_numbers, number_in, number_of, number_some, none_counted}, Obstacles.{hard_from, hard_to}}
 use Rattle.fst_types.specs.{Closure.{Closure, one, join}, Dependencies.{DependsOn, IsLiveNumber}, Facts.SparseAreLawful, Patches.{Patch, IsOn}}
 use Rattle.fst_types.specs.{Tests.is_change_at, Writable.{IsInMemoryOn, InWritableSet, IsWritableSet, HasReady, IsHeld, IsLeastHeld}}
 use Rattle.fst_types.proofs.{Crash.same_number, Finite.{In, Contains-from_In, In-from_Contains}, Landing.{change_at, at_change}}
-use Rattle.fst_heads.specs.Ascending.{IsFlyingNumber, IsNextBehind, IsBehind, is_free_on, is_bound_on, free_on, bound_on}
 use Rattle.fst_heads.specs.{Nodes.{Node, patches_in, pending_in, AreLinked, AreSettled}, Pendings.is_pending, Standings.{is_flying_on, standing_of}}
 use Rattle.fst_heads.specs.{Tests.is_hard_kind, declared.pending.Pending.Pending}
 use Rattle.fst_heads.proofs.{PendingIn.{found, told_of}, Placed.{patch_in, node_of_patch}, Waiting.{times_some, some_times}}
-use Rattle.fst_walks.proofs.{Alone.{waits_in, waits_out}, Below.low_depends, Holding.live_up, Low.{IsLow, is_block, block_is}}
-use Rattle.fst_walks.proofs.{Numbered.{rising_numbers, number_in, number_of, number_some, none_counted}, Obstacles.{hard_from, hard_to}}
 use Rattle.fst_types.specs.declared.place.Place.TheVariants as place
 use Rattle.fst_heads.specs.declared.pending.Pending.TheVariants as pending
 

@@ -1,8 +1,8 @@
 use Rattle.std.proofs.Common.{length, subst, sym}
 use Rattle.fst_types.specs.Facts.{IsOnDiskWithAll}
+use Rattle.fst_walks.proofs.{ComesBack.{is_over, met_over}, Visiting.none_met}
 use Rattle.fst_heads.specs.{Heads.patches_of, Keeps.IsInside, Marks.PassesAt}
 use Rattle.fst_walks.specs.{Descending.Visits, Walks.numbers_met}
-use Rattle.fst_walks.proofs.{Visiting.none_met, WalkingBack.{is_over, met_over}}
 use Rattle.fst_heads.specs.declared.test.Test.TheVariants as test
 use Rattle.fst_walks.proofs.way_back.visit_over.Goals as goal
 

@@ -1,4 +1,4 @@
-use Rattle.std.proofs.Common.{◌≡◌, ◌∙◌, ℕ, sym, ap, arith}
+use Rattle.std.proofs.Common.{◌∙◌, sym, ap, arith}
 use Rattle.std.proofs.lemmas.Bool.{false≢true}
 use Rattle.fst_types.specs.Patches.{block_of_kind}
 use Rattle.fst_heads.specs.{Grading.IsHardNumber, Heads.{kind_of, patches_of}, Lists.entries_of, Reaching.IsReached}
