@@ -15,7 +15,6 @@ pub mod Holding
 pub mod Away
 pub mod Ascended
 pub mod Behind
-pub mod Flight
 pub mod ComesBack
 pub mod CrossingBack
 pub mod Overlapped
