@@ -1,22 +1,13 @@
 -- A change that waits for its block alone, and for nothing in flight, is in the writable set of the block.
 use Rattle.std.proofs.Common.{◌≡◌, ◌⊎◌, ℕ, List, Contains, refl, sym, ap, subst, ◌∙◌, inl, inr}
-use Rattle.fst_types.specs.declared.place.Place.{Place}
-use Rattle.fst_types.specs.declared.place.Place.TheVariants as place
-use Rattle.fst_types.specs.Closure.{one, join}
-use Rattle.fst_types.specs.Dependencies.{DirectlyOn, DependsOn, Needs}
-use Rattle.fst_types.specs.Facts.{SparseAreLawful}
-use Rattle.fst_types.specs.Patches.{Patch, IsOn, IsOpenGate, block_of_kind}
-use Rattle.fst_types.specs.Writable.{IsInMemoryOn, InWritableSet}
+use Rattle.fst_types.specs.{Closure.{one, join}, Dependencies.{DirectlyOn, DependsOn, Needs}, Facts.SparseAreLawful}
+use Rattle.fst_types.specs.{Patches.{Patch, IsOn, IsOpenGate, block_of_kind}, Writable.{IsInMemoryOn, InWritableSet}, declared.place.Place.Place}
 use Rattle.fst_types.proofs.Finite.{In-from_Contains, decided_not, search_list, lowest}
-use Rattle.fst_heads.specs.declared.pending.Pending.{Pending}
+use Rattle.fst_heads.specs.{Nodes.{Node, patches_in, pending_in, AreSettled}, Pendings.joined, declared.pending.Pending.Pending}
+use Rattle.fst_heads.proofs.{PendingIn.{found, told_of}, Placed.patch_in, Sums.joined_all_block}
+use Rattle.fst_walks.proofs.Low.{low_node, low_depends, gate_high, IsLow, low_decided, low_above, low_change, some_same}
+use Rattle.fst_types.specs.declared.place.Place.TheVariants as place
 use Rattle.fst_heads.specs.declared.pending.Pending.TheVariants as pending
-use Rattle.fst_heads.specs.Nodes.{Node, patches_in, pending_in, AreSettled}
-use Rattle.fst_heads.specs.Pendings.{joined}
-use Rattle.fst_walks.proofs.Below.{low_node, low_depends, gate_high}
-use Rattle.fst_walks.proofs.Low.{IsLow, low_decided, low_above, low_change, some_same}
-use Rattle.fst_heads.proofs.PendingIn.{found, told_of}
-use Rattle.fst_heads.proofs.Placed.{patch_in}
-use Rattle.fst_heads.proofs.Sums.{joined_all_block}
 
 in_memory_else : (p : Place) → (p ≡ place.Disk → ⊥) → (p ≡ place.Flight → ⊥) → p ≡ place.Memory
 in_memory_else place.Memory d f = refl

@@ -1,11 +1,11 @@
 -- A walk whose steps are told by a relation: what it has met so far, and that in the end it has met all.
-use Rattle.std.proofs.Common.{◌≡◌, ◌≤◌, ◌<◌, ◌+◌, ◌↔◌, ℕ, List, [], ◌++◌, length, get_or, Contains, sym, ap, subst, ◌∙◌, inl, inr, arith}
-use Rattle.std.proofs.lemmas.Bool.{cases_lt}
-use Rattle.std.proofs.lemmas.List.{append-nil, append_assoc, get_or_append_left}
+use Rattle.std.proofs.Common.{◌≡◌, ◌≤◌, ◌<◌, ◌+◌, ◌↔◌, ◌⊎◌, ℕ, Bool, false, List, ◌++◌, length, get_or, Contains, sym, ap, subst, ◌∙◌, inl, inr, arith}
+use Rattle.std.proofs.{lemmas.Bool.{cases_Bool, cases_lt, false≢true}, lemmas.List.{append_assoc, get_or_append_left}}
 use Rattle.std.proofs.lemmas.List.Elements.{Contains-append_left, Contains-get_or}
 use Rattle.fst_types.specs.Closure.{Closure, one, join}
-use Rattle.fst_walks.specs.Descending.{IsLedFrom, Visits}
+use Rattle.fst_heads.specs.Reaching.{IsReached}
 use Rattle.fst_heads.proofs.Slots.{any_default}
+use Rattle.fst_walks.specs.Descending.{IsLedFrom, Visits}
 use Rattle.fst_walks.proofs.Visiting.{visits_old}
 
 -- all that steps lead to from the first `at` in the queue is there
@@ -13,9 +13,6 @@ pub record Climbing (Steps : ℕ → ℕ → Type 0) (start : List ℕ) (at : �
   pub grown : (rest : List ℕ) × (queue ≡ start ++ rest)
   pub only : (n : ℕ) → Contains queue n → IsLedFrom Steps start n
   pub done : (i q : ℕ) → i < at → i < length queue → Steps (get_or queue i 0) q → Contains queue q
-
-pub climbing_none : (Steps : ℕ → ℕ → Type 0) (start : List ℕ) → Climbing Steps start 0 start
-climbing_none Steps start = record { grown = ([], sym (append-nil start)); only = λ n c. inl c; done = λ i q lt. absurd (omega (arith, lt)) }
 
 pub led_on : (Steps : ℕ → ℕ → Type 0) (start : List ℕ) (n q : ℕ) → IsLedFrom Steps start n → Steps n q → IsLedFrom Steps start q
 led_on Steps start n q m s = elim m [
@@ -56,3 +53,53 @@ climbing_all Steps start at queue past x n = (x.only n, λ m. elim m [ inl c ↦
     on : (p q : ℕ) → Closure Steps p q → Contains queue p → Contains queue q
     on p q (one s) c = x.done c.0 q (omega (arith, c.1, past)) c.1 (subst (λ m. Steps m q) (sym (any_default queue c.0 0 p c.1 ∙ c.2)) s)
     on p q (join {q = r} d e) c = on r q e (on p r d c)
+
+-- a walk that crosses blocks too: besides, all across each block that is crossed since it began is there
+pub record Walking (Steps To : ℕ → ℕ → Type 0) (crossed : List Bool) (start : List ℕ) (at : ℕ) (now : List Bool) (queue : List ℕ) : Type 0 where
+  pub climbing : Climbing Steps start at queue
+  pub kept : (c : ℕ) → IsReached crossed c → IsReached now c
+  pub shut : (c q : ℕ) → IsReached now c → (IsReached crossed c → ⊥) → To c q → Contains queue q
+
+-- one more of the queue: what is near it, then what is across its block. One leads across c from what has From, to all that has To
+module _ (Near From To : ℕ → ℕ → Type 0) (Across : List Bool → ℕ → ℕ → Type 0)
+    (over : (old : List Bool) (p q c : ℕ) → From c p → (IsReached old c → ⊥) → To c q → Across old p q)
+    (parts : (old : List Bool) (p q : ℕ) → Across old p q → (c : ℕ) × From c p × (IsReached old c → ⊥) × To c q)
+    (crossed : List Bool) (start : List ℕ) (at : ℕ) (now after : List Bool) (queue mid new : List ℕ) (inside : at < length queue)
+    (x : Walking (λ p q. Near p q ⊎ Across crossed p q) To crossed start at now queue)
+    (v : Visits (Near (get_or queue at 0)) queue mid) (w : Visits (Across now (get_or queue at 0)) mid new)
+    (kept : (c : ℕ) → IsReached now c → IsReached after c) (only : (c : ℕ) → IsReached after c → IsReached now c ⊎ From c (get_or queue at 0)) where
+  abbrev n : ℕ
+  n = get_or queue at 0
+
+  mid_new : (q : ℕ) → Contains mid q → Contains new q
+  mid_new q c = visits_old (Across now n) mid new w q c
+
+  old_new : (q : ℕ) → Contains queue q → Contains new q
+  old_new q c = mid_new q (visits_old (Near n) queue mid v q c)
+
+  -- a block that was not crossed at first is by now, or is crossed here
+  across : (c q : ℕ) → From c n → (IsReached crossed c → ⊥) → To c q → Contains new q
+  across c q from fresh to = elim (cases_Bool (get_or now c false)) [
+    | inl shown ↦ old_new q (x.shut c q shown fresh to)
+    | inr not ↦ w.each q (over now n q c from (λ r. false≢true (sym not ∙ r)) to)
+  ]
+
+  both : Visits (λ q. Near n q ⊎ Across crossed n q) queue new
+  both = record {
+    kept = (v.kept.0 ++ w.kept.0, w.kept.1 ∙ (ap (λ q. q ++ w.kept.0) v.kept.1 ∙ append_assoc queue v.kept.0 w.kept.0));
+    only = λ q c. elim (w.only q c) [
+      | inl m ↦ elim (v.only q m) [ inl old ↦ inl old | inr near ↦ inr (inl near) ]
+      | inr k ↦ let p = parts now n q k in inr (inr (over crossed n q p.0 p.1 (λ r. p.2 (x.kept p.0 r)) p.3))
+    ];
+    each = λ q s. elim s [
+      | inl near ↦ mid_new q (v.each q near)
+      | inr k ↦ let p = parts crossed n q k in across p.0 q p.1 p.2 p.3
+    ];
+  }
+
+  pub walking_more : Walking (λ p q. Near p q ⊎ Across crossed p q) To crossed start (at + 1) after new
+  walking_more = record {
+    climbing = climbing_more (λ p q. Near p q ⊎ Across crossed p q) start at queue new inside x.climbing both;
+    kept = λ c r. kept c (x.kept c r);
+    shut = λ c q r fresh to. elim (only c r) [ inl old ↦ old_new q (x.shut c q old fresh to) | inr from ↦ across c q from fresh to ];
+  }

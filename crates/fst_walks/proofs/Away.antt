@@ -1,18 +1,11 @@
 -- Of what was met, what passes a test.
 use Rattle.std.proofs.Common.{◌≡◌, ◌↔◌, ◌<◌, ℕ, List, false, true, filter, length, get_or, Contains, sym, subst, ◌∙◌}
 use Rattle.std.proofs.lemmas.List.{get_or-map}
-use Rattle.fst_types.proofs.Dropping.{filter_in, in_filter}
-use Rattle.fst_types.proofs.Finite.{In-from_Contains, Contains-from_In}
-use Rattle.fst_heads.specs.declared.head.Head.{Head}
-use Rattle.fst_heads.specs.declared.test.Test.{Test}
-use Rattle.fst_heads.specs.Heads.{IsRising, patch_of, patches_of}
-use Rattle.fst_heads.specs.Marks.{PassesAt, HasSlot}
-use Rattle.fst_heads.specs.Tests.{passes}
-use Rattle.fst_heads.proofs.Placed.{unmapped}
-use Rattle.fst_heads.proofs.Slots.{some_element}
+use Rattle.fst_types.proofs.{Dropping.{filter_in, in_filter}, Finite.{In-from_Contains, Contains-from_In}}
+use Rattle.fst_heads.specs.{Heads.{IsRising, patch_of, patches_of}, Marks.{PassesAt, HasSlot}, Tests.passes, declared.head.Head.Head, declared.test.Test.Test}
+use Rattle.fst_heads.proofs.{Placed.unmapped, Slots.some_element}
 use Rattle.fst_walks.specs.Walks.{Trail, number_at, numbers_met, passes_in}
-use Rattle.fst_walks.proofs.NearRow.{passes_here, here_passes}
-use Rattle.fst_walks.proofs.Visiting.{slot_at, number_of_met}
+use Rattle.fst_walks.proofs.{NearRow.{passes_here, here_passes}, Visiting.{slot_at, number_of_met}}
 
 module _ (t : Test) (heads : List Head) (rising : IsRising heads) (n s : ℕ) (slot : HasSlot heads n s) where
   in_slot : passes_in t heads s ≡ passes t (patch_of (get_or heads s (some_element heads s slot.0)))

@@ -1,20 +1,15 @@
 -- The walk up from the changes of a block meets a direct dependency of a new change of the block exactly where that may not be hard.
-use Rattle.std.proofs.Common.{◌≡◌, ◌≢◌, ◌↔◌, ◌⊎◌, ℕ, Bool, List, Contains, refl, sym, subst, ◌∙◌, inl, inr}
+use Rattle.std.proofs.Common.{◌≡◌, ◌≢◌, ◌↔◌, ◌⊎◌, ℕ, Bool, List, Contains, refl, sym, subst, ◌∙◌, inl, inr, ◌<◌, []}
 use Rattle.std.proofs.lemmas.Bool.{cases_eq}
-use Rattle.fst_types.specs.Closure.{Closure, one, join}
-use Rattle.fst_types.specs.Dependencies.{DependsOn, IsLiveNumber}
-use Rattle.fst_types.specs.Facts.{IsOnDiskWithAll}
-use Rattle.fst_types.specs.Grades.{HasEdge, Reaches}
+use Rattle.fst_types.specs.{Closure.{Closure, one, join}, Dependencies.{DependsOn, IsLiveNumber, DirectlyOn}, Facts.IsOnDiskWithAll, Grades.{HasEdge, Reaches}}
 use Rattle.fst_types.specs.Patches.{Patch, IsRising, IsOn, IsLive}
 use Rattle.fst_types.proofs.Crash.{same_number}
+use Rattle.fst_heads.specs.{Grading.{HasUnder, IsReturning, IsLeading, LeadsNowhere, IsHardNumber}, Keeps.IsInside, Marks.PassesAt}
+use Rattle.fst_heads.specs.Reaching.{ShowsBlocks, IsReached}
+use Rattle.fst_heads.proofs.{Graded.{on_from, on_to, off_from, off_to}, Leading.one_block}
+use Rattle.fst_walks.specs.{Descending.Visits, WayBack.{StepsUp, IsMet, Meets, IsLiveOver}}
+use Rattle.fst_walks.proofs.{Holding.live_up, Visiting.none_in}
 use Rattle.fst_heads.specs.declared.test.Test.TheVariants as test
-use Rattle.fst_heads.specs.Grading.{HasUnder, IsReturning, IsLeading, LeadsNowhere, IsHardNumber}
-use Rattle.fst_heads.specs.Marks.{PassesAt}
-use Rattle.fst_heads.specs.Reaching.{ShowsBlocks}
-use Rattle.fst_walks.specs.WayBack.{StepsUp, IsMet, Meets, IsLiveOver}
-use Rattle.fst_heads.proofs.Graded.{on_from, on_to, off_from, off_to}
-use Rattle.fst_walks.proofs.Holding.{live_up}
-use Rattle.fst_heads.proofs.Leading.{one_block}
 
 -- p is q, or depends on it
 abbrev IsOver : List Patch → ℕ → ℕ → Type 0
@@ -240,3 +235,44 @@ module _ (heads : List Patch) (rising : IsRising heads) (disk : IsOnDiskWithAll 
           live_number heads rising b l.block n x,
         )) u);
   }
+
+-- The walk up to all from which a way leads back to a block, where it crosses none.
+
+-- where no block is crossed, the walk meets what is not on disk of what it starts from and of what depends on that
+module _ (heads : List Patch) (disk : IsOnDiskWithAll heads) (b blocks : ℕ) (inside : IsInside heads blocks) (crossed : List Bool) (all : (c : ℕ) → c < blocks → IsReached crossed c) (start : List ℕ)
+    (starts : Visits (PassesAt (test.LiveOn b) heads) [] start) where
+  -- each step goes up
+  step_up : (p q : ℕ) → StepsUp heads crossed p q → DirectlyOn heads q p × IsLiveNumber heads q
+  step_up p q s = elim s [
+    | inl up ↦ up
+    | inr over ↦
+        let h = over.hard in
+        absurd (over.fresh (all over.block (inside h.patch over.block h.head h.hard.change)))
+  ]
+
+  steps_up : (p q : ℕ) → Closure (StepsUp heads crossed) p q → DependsOn heads q p × IsLiveNumber heads q
+  steps_up p q (one s) = let d = step_up p q s in (one d.0, d.1)
+  steps_up p q (join {q = r} c d) = let k = steps_up r q d in (join k.0 (steps_up p r c).0, k.1)
+
+  goes_up : (m n : ℕ) → DependsOn heads m n → IsLiveNumber heads n → Closure (StepsUp heads crossed) n m
+  goes_up m n (one d) l = one (inl (d, live_up heads disk m n (one d) l))
+  goes_up m n (join {q = k} c d) l = join (goes_up k n d l) (goes_up m k c (live_up heads disk k n d l))
+
+  started : (n : ℕ) → Contains start n → PassesAt (test.LiveOn b) heads n
+  started n c = elim (starts.only n c) [ inl none ↦ absurd (none_in n none) | inr k ↦ k ]
+
+  base_live : (n : ℕ) → PassesAt (test.LiveOn b) heads n → IsLiveNumber heads n
+  base_live n x = record { patch = x.patch; head = x.head; numbered = x.numbered; live = (on_from b x.patch.number x.patch.kind x.patch.place x.passed).0 }
+
+  pub is_over : (n : ℕ) → IsMet heads crossed start n → IsLiveOver heads b n
+  is_over n (inl first) = let x = started n first in record { live = base_live n x; base = n; change = x; over = inl refl }
+  is_over n (inr r) = let k = steps_up r.0 n r.2 in record { live = k.1; base = r.0; change = started r.0 r.1; over = inr k.0 }
+
+  pub met_over : (met : List ℕ) → Meets heads crossed start met → (n : ℕ) → Contains met n ↔ IsLiveOver heads b n
+  met_over met meets n = (
+    λ c. is_over n (meets.only n c),
+    λ o. meets.each n (elim o.over [
+      | inl e ↦ inl (subst (Contains start) (sym e) (starts.each o.base o.change))
+      | inr path ↦ inr (o.base, starts.each o.base o.change, goes_up n o.base path (base_live o.base o.change))
+    ]),
+  )

@@ -1,29 +1,15 @@
 -- From a change across its block, to the hard changes of it in memory.
-use Rattle.std.proofs.Common.{◌≡◌, ◌<◌, ℕ, Bool, true, false, List, length, map, filter, get_or, set, Contains, refl, sym, ap, subst, ◌∙◌, inl, inr, get_or-set_same, get_or-set_other}
+use Rattle.std.proofs.Common.{◌≡◌, ◌<◌, ℕ, Bool, true, false, List, Some, length, map, get_or, set, Contains, refl, sym, ap, subst, ◌∙◌, inl, inr, get_or-set_same, get_or-set_other}
 use Rattle.std.proofs.lemmas.Bool.{cases_eq}
+use Rattle.fst_types.specs.{Dependencies.IsLiveNumber, Patches.{Patch, IsOn, block_of_kind}, declared.grade.Grade.Grade}
+use Rattle.fst_heads.specs.{Grading.IsHardNumber, Heads.{IsRising, kind_of, patch_of, patches_of}, Lists.{entries_of, entries_on}, Marks.{HasSlot, PassesAt}}
+use Rattle.fst_heads.specs.{Reaching.IsReached, declared.head.Head.Head, declared.head.Kind.Kind, declared.lists.Listed.Listed}
+use Rattle.fst_heads.proofs.{Graded.{on_from, on_to}, Leading.{one_block, reached_more}, Slots.{patch_at, patch_is}}
+use Rattle.fst_walks.specs.{Descending.Visits, WayDown.{Crosses, ShowsBlockOf}}
+use Rattle.fst_walks.proofs.{CrossingBack.change_listed, Visiting.visits_none}
 use Rattle.fst_types.specs.declared.place.Place.TheVariants as place
-use Rattle.fst_types.specs.Dependencies.{IsLiveNumber}
-use Rattle.fst_types.specs.Patches.{Patch, IsOn}
-use Rattle.fst_types.proofs.Landing.{at_change}
-use Rattle.fst_types.specs.Tests.{is_on}
-use Rattle.fst_types.proofs.Dropping.{in_filter}
-use Rattle.fst_types.proofs.Finite.{In, In-from_Contains, Contains-from_In, In-map}
-use Rattle.fst_heads.specs.declared.head.Head.{Head}
-use Rattle.fst_heads.specs.declared.lists.Listed.{Listed}
+use Rattle.fst_heads.specs.declared.head.Kind.TheVariants as kinds
 use Rattle.fst_heads.specs.declared.test.Test.TheVariants as test
-use Rattle.fst_walks.specs.Descending.{Visits}
-use Rattle.fst_walks.specs.WayDown.{Crosses, ShowsBlockOf}
-use Rattle.fst_heads.specs.Grading.{IsHardNumber}
-use Rattle.fst_heads.specs.Heads.{IsRising, patch_of, patches_of}
-use Rattle.fst_heads.specs.Lists.{Entry, entry, entry_of, entries_of, entries_on, is_live_on}
-use Rattle.fst_heads.specs.Marks.{HasSlot, PassesAt}
-use Rattle.fst_heads.specs.Reaching.{IsReached, IsHardIn}
-use Rattle.fst_heads.proofs.Graded.{on_from, on_to}
-use Rattle.fst_heads.proofs.Leading.{one_block, reached_more}
-use Rattle.fst_heads.proofs.Passing.{memory_live}
-use Rattle.fst_heads.proofs.Slots.{patch_at, patch_is}
-use Rattle.fst_walks.proofs.Visiting.{visits_none}
-use Rattle.fst_heads.proofs.Waiting.{map_twice}
 
 -- a hard change in memory is not on disk
 pub hard_live : (patches : List Patch) (b n : ℕ) → IsHardNumber patches b n → IsLiveNumber patches n
@@ -87,11 +73,16 @@ module _ (heads : List Head) (rising : IsRising heads) (n s : ℕ) (d : Head) (s
     shows_none = record { kept = λ c r. r; only = λ c r. inl r; each = λ c x. absurd (none c (on_here c x)) }
 
 -- the list of a block names its hard changes in memory
-memory_listed : (b : ℕ) (p : Patch) → IsHardIn p b → is_live_on b p ≡ true
-memory_listed b p h = memory_live p.place (is_on b p.kind) (at_change place.Memory b p h.change h.memory)
-
 pub hard_listed : (patches : List Patch) (list : List Listed) (b n : ℕ) → entries_of list ≡ entries_on b patches → IsHardNumber patches b n → Contains (map (λ (l : Listed). l.number) list) n
+unfolding hard_live
 hard_listed patches list b n same h =
-    let kept = in_filter (is_live_on b) patches h.patch (In-from_Contains patches h.patch h.head) (memory_listed b h.patch h.hard) in
-    let numbered = In-map (λ (e : Entry). e.number) (entries_on b patches) (entry h.patch) n (In-map entry (filter (is_live_on b) patches) h.patch (entry h.patch) kept refl) h.numbered in
-    Contains-from_In (map (λ (l : Listed). l.number) list) n (subst (λ ns. In ns n) (ap (map (λ (e : Entry). e.number)) (sym same) ∙ map_twice (λ (e : Entry). e.number) entry_of list) numbered)
+    let live = hard_live patches b n h in
+    let passed = on_to b h.patch.number h.patch.kind h.patch.place live.live h.hard.change in
+    change_listed patches list b n same (record { patch = h.patch; head = h.head; numbered = h.numbered; passed = passed })
+
+-- what is no change is on no block
+pub no_change : (k : Kind) → ((block : ℕ) (span : _) (grade : Grade) → k ≡ kinds.Change block span grade → ⊥) → (c : ℕ) → block_of_kind (kind_of k) ≡ Some c → ⊥
+no_change (kinds.Change block span grade) none c e = none block span grade refl
+no_change kinds.Empty none c e = cc
+no_change kinds.OpenGate none c e = cc
+no_change kinds.SealedGate none c e = cc

@@ -1,35 +1,19 @@
 -- Up from a patch to those that directly depend on it, and from a hard change in memory across its block to all changes of it that are not on disk.
 use Rattle.std.proofs.Common.{◌≡◌, ◌<◌, ◌≤◌, ℕ, Bool, true, false, not, List, length, map, filter, get_or, set, Contains, Some, refl, sym, ap, subst, ◌∙◌, inl, inr, arith, get_or-set_same, get_or-set_other}
 use Rattle.std.proofs.lemmas.Bool.{cases_eq, and_parts, and_from, eqb-true, eq-eqb, false≢true}
-use Rattle.std.proofs.lemmas.List.{length-map}
-use Rattle.std.proofs.lemmas.List.Sums.{length-filter, count_by-le-length}
-use Rattle.fst_types.specs.declared.place.Place.TheVariants as place
-use Rattle.fst_types.specs.Dependencies.{DirectlyOn, IsLiveNumber}
-use Rattle.fst_types.specs.Patches.{Kind, Change, Empty, OpenGate, SealedGate, Patch, IsOn, block_of_kind}
+use Rattle.std.proofs.lemmas.List.{length-map, Sums.{length-filter, count_by-le-length}}
+use Rattle.fst_types.specs.{Dependencies.{DirectlyOn, IsLiveNumber}, Patches.{Kind, Change, Empty, OpenGate, SealedGate, Patch, IsOn, block_of_kind}}
 use Rattle.fst_types.specs.Tests.{is_at, is_on}
-use Rattle.fst_types.proofs.Dropping.{in_filter, filter_in}
-use Rattle.fst_types.proofs.Finite.{In, In-from_Contains, Contains-from_In, In-map}
-use Rattle.fst_heads.specs.declared.head.Head.{Head}
-use Rattle.fst_heads.specs.declared.lists.Listed.{Listed}
+use Rattle.fst_types.proofs.{Dropping.{in_filter, filter_in}, Finite.{In, In-from_Contains, Contains-from_In, In-map}, GateGains.In-unmap}
+use Rattle.fst_heads.specs.{Grading.IsHardNumber, Heads.{IsRising, patch_of, patches_of}, Lists.{Entry, entry, entry_of, entries_of, entries_on, is_live_on}}
+use Rattle.fst_heads.specs.{Marks.{HasSlot, PassesAt}, Nodes.{Node, node_of, nodes_of, patches_in, AreLinked}, Reaching.{IsReached, IsHardIn}}
+use Rattle.fst_heads.specs.{declared.head.Head.Head, declared.lists.Listed.Listed}
+use Rattle.fst_heads.proofs.{AtNumber.patches_in_nodes, Forgetting.{live_place_of, not_disk}, Graded.{on_from, on_to}, Leading.{one_block, reached_more}}
+use Rattle.fst_heads.proofs.{Placed.{patch_in, node_of_patch}, Slots.patch_is, Waiting.{map_twice, times_some, some_times}}
+use Rattle.fst_walks.specs.{Descending.Visits, WayBack.{Crosses, ShowsBlockOf}}
+use Rattle.fst_walks.proofs.{Low.some_same, Visiting.visits_none}
+use Rattle.fst_types.specs.declared.place.Place.TheVariants as place
 use Rattle.fst_heads.specs.declared.test.Test.TheVariants as test
-use Rattle.fst_walks.specs.Descending.{Visits}
-use Rattle.fst_heads.specs.Grading.{IsHardNumber}
-use Rattle.fst_heads.specs.Heads.{IsRising, patch_of, patches_of}
-use Rattle.fst_heads.specs.Lists.{Entry, entry, entry_of, entries_of, entries_on, is_live_on}
-use Rattle.fst_heads.specs.Marks.{HasSlot, PassesAt}
-use Rattle.fst_heads.specs.Nodes.{Node, node_of, nodes_of, patches_in, AreLinked}
-use Rattle.fst_heads.specs.Reaching.{IsReached, IsHardIn}
-use Rattle.fst_walks.specs.WayBack.{Crosses, ShowsBlockOf}
-use Rattle.fst_heads.proofs.AtNumber.{patches_in_nodes}
-use Rattle.fst_types.proofs.GateGains.{In-unmap}
-use Rattle.fst_heads.proofs.Forgetting.{live_place_of, not_disk}
-use Rattle.fst_heads.proofs.Graded.{on_from, on_to}
-use Rattle.fst_heads.proofs.Leading.{one_block, reached_more}
-use Rattle.fst_walks.proofs.Low.{some_same}
-use Rattle.fst_heads.proofs.Placed.{patch_in, node_of_patch}
-use Rattle.fst_heads.proofs.Slots.{patch_is}
-use Rattle.fst_walks.proofs.Visiting.{visits_none}
-use Rattle.fst_heads.proofs.Waiting.{map_twice, times_some, some_times}
 
 -- up from a node to those that directly depend on it
 module _ (nodes : List Node) (linked : AreLinked nodes) (x : Node) (c : Contains nodes x) where

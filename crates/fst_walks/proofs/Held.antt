@@ -1,27 +1,16 @@
 -- What waits for an open gate: the gate, and what depends on it. It is told of each patch of its row whether it does.
 use Rattle.std.proofs.Common.{◌≡◌, ◌⊎◌, ℕ, List, [], ◌∷◌, Contains, refl, sym, ap, subst, ◌∙◌, inl, inr}
-use Rattle.fst_types.specs.declared.place.Place.{Place}
-use Rattle.fst_types.specs.declared.place.Place.TheVariants as place
-use Rattle.fst_types.specs.Closure.{IsAcyclic, one, join}
-use Rattle.fst_types.specs.Dependencies.{DirectlyOn, DependsOn, IsLiveNumber}
-use Rattle.fst_types.specs.Facts.{IsOnDiskWithAll}
-use Rattle.fst_types.specs.Gates.{IsOpenNumber}
-use Rattle.fst_types.specs.Patches.{Kind, Change, Empty, OpenGate, SealedGate, IsRising, IsOpenGate}
+use Rattle.fst_types.specs.{Closure.{IsAcyclic, one, join}, Dependencies.{DirectlyOn, DependsOn, IsLiveNumber}, Facts.IsOnDiskWithAll, Gates.IsOpenNumber}
+use Rattle.fst_types.specs.{Patches.{Kind, Change, Empty, OpenGate, SealedGate, IsRising, IsOpenGate}, declared.place.Place.Place}
 use Rattle.fst_types.proofs.Finite.{In, In-from_Contains, Contains-from_In, lowest}
+use Rattle.fst_heads.specs.{Grading.HasUnder, Heads.{IsRising as HeadsRise, patches_of}, Marks.IsAbove}
+use Rattle.fst_heads.specs.{Nodes.{Node, nodes_of, patches_in, pending_in, AreSettled}, Pendings.{join as together, joined, of_kind}, declared.head.Head.Head}
 use Rattle.fst_heads.specs.declared.pending.Pending.{Pending}
-use Rattle.fst_heads.specs.declared.pending.Pending.TheVariants as pending
-use Rattle.fst_heads.specs.declared.head.Head.{Head}
-use Rattle.fst_heads.specs.Grading.{HasUnder}
-use Rattle.fst_heads.specs.Heads.{IsRising as HeadsRise, patches_of}
-use Rattle.fst_heads.specs.Marks.{IsAbove}
-use Rattle.fst_heads.specs.Nodes.{Node, nodes_of, patches_in, pending_in, AreSettled}
-use Rattle.fst_heads.specs.Pendings.{join as together, joined, of_kind}
-use Rattle.fst_walks.specs.Searching.{AreHeldByGates}
-use Rattle.fst_heads.proofs.AtNumber.{patches_in_nodes}
-use Rattle.fst_heads.proofs.Joining.{join_held, held_join}
-use Rattle.fst_heads.proofs.Listing.{rising_patches}
-use Rattle.fst_heads.proofs.PendingIn.{found, told_of}
+use Rattle.fst_heads.proofs.{AtNumber.patches_in_nodes, Joining.{join_held, held_join}, Listing.rising_patches, PendingIn.{found, told_of}}
 use Rattle.fst_heads.proofs.Placed.{patch_in, node_of_patch}
+use Rattle.fst_walks.specs.Searching.{AreHeldByGates}
+use Rattle.fst_types.specs.declared.place.Place.TheVariants as place
+use Rattle.fst_heads.specs.declared.pending.Pending.TheVariants as pending
 
 -- a row waits for an open gate exactly where one in it does
 row_held : (told : ℕ → Pending) (row : List ℕ) → joined told row ≡ pending.Held → (n : ℕ) × In row n × (told n ≡ pending.Held)

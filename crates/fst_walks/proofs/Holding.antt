@@ -1,9 +1,6 @@
 -- What depends on a live patch is live.
 use Rattle.std.proofs.Common.{ℕ, List}
-use Rattle.fst_types.specs.Closure.{one, join}
-use Rattle.fst_types.specs.Dependencies.{DependsOn, IsLiveNumber}
-use Rattle.fst_types.specs.Facts.{IsOnDiskWithAll}
-use Rattle.fst_types.specs.Patches.{Patch}
+use Rattle.fst_types.specs.{Closure.{one, join}, Dependencies.{DependsOn, IsLiveNumber}, Facts.IsOnDiskWithAll, Patches.Patch}
 
 -- on disk with all that it depends on
 module _ (heads : List Patch) (disk : IsOnDiskWithAll heads) where

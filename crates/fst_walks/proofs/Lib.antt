@@ -4,7 +4,6 @@ pub mod Seen
 pub mod Shelves
 pub mod Linked
 pub mod Low
-pub mod Below
 pub mod Searched
 pub mod Alone
 pub mod Numbered
@@ -16,14 +15,9 @@ pub mod Holding
 pub mod Away
 pub mod Ascended
 pub mod Behind
-pub mod Flight
 pub mod ComesBack
-pub mod WalkingBack
 pub mod CrossingBack
 pub mod Overlapped
 pub mod HeldBelow
-pub mod Descended
 pub mod Crossing
-pub mod Beneath
 pub mod Trails
-pub mod Nearby

@@ -1,25 +1,13 @@
 -- What stands beside the patches where one is made or gains names.
 use Rattle.std.proofs.Common.{◌≡◌, ◌≢◌, ◌⊎◌, ◌==◌, ℕ, zero, suc, ◌+◌, ◌<◌, ◌≤◌, Bool, true, false, cond, if◌then◌else◌, List, [], ◌∷◌, ◌++◌, map, get_or, AllPairs, Contains, refl, sym, ap, subst, ◌∙◌, inl, inr, arith}
 use Rattle.std.specs.List.Sorted.{IsStrictlyIncreasing}
-use Rattle.std.proofs.lemmas.Bool.{cases_eq, eq-eqb, ne_eqb}
-use Rattle.std.proofs.lemmas.List.{map-append}
-use Rattle.std.proofs.lemmas.List.Elements.{Contains-push_cases, Contains-append_cases, Contains-get_or}
-use Rattle.std.proofs.lemmas.List.Kept.{AllPairs-from_increasing}
-use Rattle.std.proofs.lemmas.List.Quantifiers.{all_pairs_push}
-use Rattle.std.proofs.lemmas.List.Sums.{sum_by-cons, sum_by-append}
-use Rattle.fst_types.specs.Patches.{Patch}
-use Rattle.fst_types.specs.Dependencies.{DirectlyOn, IsLiveNumber}
-use Rattle.fst_types.specs.Facts.{HasOnePlaceEach}
-use Rattle.fst_types.specs.Gates.{IsOpenNumber}
-use Rattle.fst_types.specs.Gating.{gains}
-use Rattle.fst_types.specs.Tests.{is_among}
-use Rattle.fst_types.proofs.Finite.{In, In-from_Contains, Contains-from_In}
-use Rattle.fst_types.proofs.Issuing.{among_in}
-use Rattle.fst_heads.specs.declared.pending.Sums.{Sums}
-use Rattle.fst_heads.specs.Nodes.{Node, patches_in, times, at_number, linked_to, gains_names, AreLinked, AreGiven, AreDistinct}
-use Rattle.fst_heads.proofs.Added.{with_node, new_node, with_names}
-use Rattle.fst_heads.proofs.AtNumber.{at_other, at_same}
-use Rattle.fst_heads.proofs.Linking.{linked_patch, link_none, map_twice}
+use Rattle.std.proofs.{lemmas.Bool.{cases_eq, eq-eqb, ne_eqb}, lemmas.List.map-append}
+use Rattle.std.proofs.{lemmas.List.Elements.{Contains-push_cases, Contains-append_cases, Contains-get_or}, lemmas.List.Kept.AllPairs-from_increasing}
+use Rattle.std.proofs.{lemmas.List.Quantifiers.all_pairs_push, lemmas.List.Sums.{sum_by-cons, sum_by-append}}
+use Rattle.fst_types.specs.{Dependencies.{DirectlyOn, IsLiveNumber}, Facts.HasOnePlaceEach, Gates.IsOpenNumber, Gating.gains, Patches.Patch, Tests.is_among}
+use Rattle.fst_types.proofs.{Finite.{In, In-from_Contains, Contains-from_In}, Issuing.among_in}
+use Rattle.fst_heads.specs.{Nodes.{Node, patches_in, times, at_number, linked_to, gains_names, AreLinked, AreGiven, AreDistinct}, declared.pending.Sums.Sums}
+use Rattle.fst_heads.proofs.{Added.{with_node, new_node, with_names}, AtNumber.{at_other, at_same}, Linking.{linked_patch, link_none, map_twice}}
 use Rattle.fst_heads.proofs.Placed.{StandsFor, unmapped, patch_in, node_of_patch}
 
 pub with_gate : (nodes : List Node) (n : ℕ) → map (linked_to [] n) nodes ≡ nodes

@@ -1,13 +1,9 @@
 -- The numbers of the nodes that pass a test, and whether any does.
 use Rattle.std.proofs.Common.{◌≡◌, ◌<◌, ◌+◌, ℕ, zero, suc, Bool, true, List, [], ◌∷◌, length, map, filter, get_or, count_by, Contains, refl, sym, ap, ◌∙◌, inl, arith}
-use Rattle.std.specs.List.{AllPairs}
-use Rattle.std.specs.List.Sorted.{IsStrictlyIncreasing}
-use Rattle.std.proofs.lemmas.List.{length-map, get_or-map}
-use Rattle.std.proofs.lemmas.List.Kept.{AllPairs-filter}
-use Rattle.std.proofs.lemmas.List.Sums.{length-filter}
+use Rattle.std.specs.{List.AllPairs, List.Sorted.IsStrictlyIncreasing}
+use Rattle.std.proofs.{lemmas.List.{length-map, get_or-map}, lemmas.List.Kept.AllPairs-filter, lemmas.List.Sums.length-filter}
 use Rattle.fst_types.specs.Patches.{IsRising}
-use Rattle.fst_types.proofs.Dropping.{filter_in, in_filter}
-use Rattle.fst_types.proofs.Finite.{In-from_Contains, Contains-from_In, In-map}
+use Rattle.fst_types.proofs.{Dropping.{filter_in, in_filter}, Finite.{In-from_Contains, Contains-from_In, In-map}}
 use Rattle.fst_heads.specs.Nodes.{Node, patches_in}
 use Rattle.fst_heads.proofs.Placed.{unmapped}
 

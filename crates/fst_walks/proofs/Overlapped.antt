@@ -1,15 +1,11 @@
 -- The changes of a block's list that share a byte with a span.
 use Rattle.std.proofs.Common.{◌≡◌, ◌⊎◌, ℕ, true, false, List, [], ◌∷◌, ◌++◌, Contains, Some, sym, ap, subst, ◌∙◌, inl, inr}
-use Rattle.std.proofs.lemmas.Bool.{false≢true}
-use Rattle.std.proofs.lemmas.List.Elements.{Contains-append_left, Contains-push, Contains-push_cases}
-use Rattle.fst_types.specs.Gates.{IsOpenNumber}
-use Rattle.fst_types.specs.Patches.{Kind, OpenGate, Patch, IsRising, block_of_kind}
-use Rattle.fst_types.proofs.Crash.{same_number}
-use Rattle.fst_types.proofs.Finite.{In-from_Contains, Contains-from_In}
-use Rattle.fst_walks.specs.Descending.{Visits}
-use Rattle.fst_heads.specs.Lists.{Entry, entry, entries_on}
-use Rattle.fst_heads.specs.Rows.{shares, IsTouched}
+use Rattle.std.proofs.{lemmas.Bool.false≢true, lemmas.List.Elements.{Contains-append_left, Contains-push, Contains-push_cases}}
+use Rattle.fst_types.specs.{Gates.IsOpenNumber, Patches.{Kind, OpenGate, Patch, IsRising, block_of_kind}}
+use Rattle.fst_types.proofs.{Crash.same_number, Finite.{In-from_Contains, Contains-from_In}}
+use Rattle.fst_heads.specs.{Lists.{Entry, entry, entries_on}, Rows.{shares, IsTouched}}
 use Rattle.fst_heads.proofs.Touching.{in_entries, entries_in, touch_entry, entry_touch, touch_parts}
+use Rattle.fst_walks.specs.Descending.{Visits}
 use Rattle.fst_walks.proofs.Visiting.{visits_none, visits_both, visits_same}
 
 -- n is the number of an entry that shares a byte

@@ -1,32 +1,18 @@
 -- A change over changes of one block alone, from which no edge of the block graph leads away, may be hard.
 use Rattle.std.proofs.Common.{◌≡◌, ◌⊎◌, ◌<◌, ℕ, true, List, length, get_or, count_by, Contains, refl, sym, ap, subst, ◌∙◌, inl, inr, None}
 use Rattle.std.proofs.lemmas.Bool.{cases_Bool}
-use Rattle.fst_types.specs.declared.place.Place.TheVariants as place
-use Rattle.fst_types.specs.Closure.{one, join}
-use Rattle.fst_types.specs.Facts.{IsOnDiskWithAll}
-use Rattle.fst_types.specs.Gates.{IsOpenNumber}
-use Rattle.fst_types.specs.Grades.{HasEdge, Reaches}
 use Rattle.fst_types.specs.Patches.{Patch, IsRising, IsOn, IsLive, grade_of_kind}
 use Rattle.fst_types.proofs.Landing.{at_change}
-use Rattle.fst_heads.specs.declared.head.Head.{Head}
-use Rattle.fst_heads.specs.declared.pending.Pending.{Pending}
-use Rattle.fst_heads.specs.declared.pending.Pending.TheVariants as pending
-use Rattle.fst_heads.specs.declared.pending.Sums.{Sums}
 use Rattle.fst_heads.specs.declared.standing.Standing.{Standing}
-use Rattle.fst_heads.specs.Grading.{HasUnder, IsReturning, IsLeading, MayBeHard}
-use Rattle.fst_heads.specs.Heads.{IsRising as HeadsRise, patches_of}
-use Rattle.fst_heads.specs.Nodes.{Node, nodes_of, patches_in, pending_in, AreSettled}
-use Rattle.fst_heads.specs.Pendings.{is_pending, joined, joined_sums, sums_of}
-use Rattle.fst_heads.specs.Standings.{AllStand, is_held_on}
-use Rattle.fst_heads.proofs.AtNumber.{patches_in_nodes}
-use Rattle.fst_walks.proofs.Below.{low_node, low_depends, gate_high}
-use Rattle.fst_heads.proofs.Listing.{rising_patches}
-use Rattle.fst_walks.proofs.Low.{IsLow, low_change, is_block}
-use Rattle.fst_walks.proofs.Numbered.{none_counted}
-use Rattle.fst_walks.proofs.Obstacles.{hard_to}
-use Rattle.fst_heads.proofs.PendingIn.{found, told_of}
-use Rattle.fst_heads.proofs.Placed.{node_of_patch}
 use Rattle.fst_heads.proofs.Sums.{joined_exact, joined_nothing, joined_block, joined_some}
+use Rattle.fst_walks.proofs.{Low.{low_node, low_depends, gate_high, IsLow, low_change, is_block}, Numbered.none_counted, Obstacles.hard_to}
+use Rattle.fst_types.specs.{Closure.{one, join}, Facts.IsOnDiskWithAll, Gates.IsOpenNumber, Grades.{HasEdge, Reaches}}
+use Rattle.fst_heads.specs.{Grading.{HasUnder, IsReturning, IsLeading, MayBeHard}, Heads.{IsRising as HeadsRise, patches_of}}
+use Rattle.fst_heads.specs.{Nodes.{Node, nodes_of, patches_in, pending_in, AreSettled}, Pendings.{is_pending, joined, joined_sums, sums_of}}
+use Rattle.fst_heads.specs.{Standings.{AllStand, is_held_on}, declared.head.Head.Head, declared.pending.Pending.Pending, declared.pending.Sums.Sums}
+use Rattle.fst_heads.proofs.{AtNumber.patches_in_nodes, Listing.rising_patches, PendingIn.{found, told_of}, Placed.node_of_patch}
+use Rattle.fst_types.specs.declared.place.Place.TheVariants as place
+use Rattle.fst_heads.specs.declared.pending.Pending.TheVariants as pending
 
 module _ (nodes : List Node) (blocks : ℕ) (rising : IsRising (patches_in nodes)) (D : IsOnDiskWithAll (patches_in nodes)) (S : AreSettled nodes blocks) where
   abbrev patches : List Patch

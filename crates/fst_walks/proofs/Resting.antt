@@ -1,24 +1,14 @@
 -- What the list of a block tells of the patches of the heads, where it is known what is behind a flight.
 use Rattle.std.proofs.Common.{◌≡◌, ◌<◌, ◌↔◌, ◌∙◌, ℕ, Bool, true, List, [], ◌∷◌, Option, Some, None, IfOk, IfErr, IfSome, IfNone, Ok, Err, Result, Vec, Global, length, get_or, sym, ap, subst, arith}
 use Rattle.std.proofs.lemmas.List.{length-map, get_or-map}
-use Rattle.fst_types.specs.declared.fault.Fault.{Fault}
-use Rattle.fst_types.specs.declared.fault.Fault.TheVariants as fault
+use Rattle.fst_types.specs.{Patches.Patch, Writable.{IsInMemoryOn, IsWritableSet, HasReady, IsHeld, IsLeastHeld}, declared.fault.Fault.Fault}
 use Rattle.fst_types.specs.declared.number.PatchNo.{PatchNo}
-use Rattle.fst_types.specs.Patches.{Patch}
-use Rattle.fst_types.specs.Writable.{IsInMemoryOn, IsWritableSet, HasReady, IsHeld, IsLeastHeld}
-use Rattle.fst_heads.specs.Ascending.{IsBehind, free_on, bound_on}
-use Rattle.fst_heads.specs.declared.head.Head.{Head}
-use Rattle.fst_heads.specs.declared.lists.Listed.{Listed}
-use Rattle.fst_heads.specs.declared.standing.Standing.{Standing}
-use Rattle.fst_heads.specs.Heads.{patches_of}
-use Rattle.fst_heads.specs.Keeps.{IsInside, Keeps, Tallies}
-use Rattle.fst_heads.specs.Names.{numbers_of}
-use Rattle.fst_heads.specs.Lists.{Entry, entries_of, entries_on, AreListed}
-use Rattle.fst_heads.specs.Nodes.{Node, nodes_of, patches_in}
+use Rattle.fst_heads.specs.{Ascending.{IsBehind, free_on, bound_on}, Heads.patches_of, Keeps.{IsInside, Keeps, Tallies}}
+use Rattle.fst_heads.specs.{Lists.{Entry, entries_of, entries_on, AreListed}, Names.numbers_of, Nodes.{Node, nodes_of, patches_in}, declared.head.Head.Head}
+use Rattle.fst_heads.specs.{declared.lists.Listed.Listed, declared.standing.Standing.Standing}
 use Rattle.fst_heads.proofs.AtNumber.{patches_in_nodes}
-use Rattle.fst_walks.proofs.Behind.{free_exact, free_some, bound_none, bound_first}
-use Rattle.fst_walks.proofs.Seen.{lawful_nodes}
-use Rattle.fst_walks.proofs.Shelves.{shelved}
+use Rattle.fst_walks.proofs.{Behind.{free_exact, free_some, bound_none, bound_first}, Seen.lawful_nodes, Shelves.shelved}
+use Rattle.fst_types.specs.declared.fault.Fault.TheVariants as fault
 
 -- the list of one block
 pub listed_at : (heads : List Head) (blocks b : ℕ) (lists : List (Vec Listed Global)) (l : Vec Listed Global) → AreListed (patches_in (nodes_of heads)) blocks (shelved lists) → b < blocks

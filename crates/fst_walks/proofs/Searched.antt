@@ -1,25 +1,13 @@
 -- What the search for a cycle finds.
 use Rattle.std.proofs.Common.{◌≡◌, ◌⊎◌, ◌↔◌, ◌<◌, ℕ, List, [], ◌∷◌, length, get_or, Contains, refl, sym, ap, subst, inl, inr, arith}
-use Rattle.fst_types.specs.Closure.{Closure, one, join}
-use Rattle.fst_types.specs.Dependencies.{DependsOn}
-use Rattle.fst_types.specs.Gates.{IsOpenNumber}
-use Rattle.fst_types.specs.Patches.{Patch}
+use Rattle.fst_types.specs.{Closure.{Closure, one, join}, Dependencies.DependsOn, Gates.IsOpenNumber, Patches.Patch}
 use Rattle.fst_types.proofs.Finite.{In-from_Contains, last_step}
+use Rattle.fst_heads.specs.{Heads.patches_of, Marks.{IsAbove, HasSlot}, Nodes.{Node, node_of, nodes_of, patches_in, times, AreLinked}, declared.head.Head.Head}
 use Rattle.fst_heads.specs.declared.pending.Pending.{Pending}
-use Rattle.fst_heads.specs.declared.pending.Pending.TheVariants as pending
-use Rattle.fst_walks.specs.Descending.{IsLedFrom, Visits}
-use Rattle.fst_heads.specs.Marks.{IsAbove}
-use Rattle.fst_heads.specs.declared.head.Head.{Head}
-use Rattle.fst_heads.specs.Heads.{patches_of}
-use Rattle.fst_heads.specs.Marks.{HasSlot}
-use Rattle.fst_heads.specs.Nodes.{Node, node_of, nodes_of, patches_in, times, AreLinked}
-use Rattle.fst_heads.proofs.AtNumber.{patches_in_nodes}
-use Rattle.fst_heads.proofs.PendingAt.{node_in}
-use Rattle.fst_heads.proofs.Slots.{any_default}
-use Rattle.fst_walks.specs.Searching.{AreHeldByGates, IsNextHeld}
-use Rattle.fst_heads.proofs.Placed.{node_of_patch}
+use Rattle.fst_heads.proofs.{AtNumber.patches_in_nodes, PendingAt.node_in, Placed.node_of_patch, Slots.any_default, Waiting.times_some}
+use Rattle.fst_walks.specs.{Descending.{IsLedFrom, Visits}, Searching.{AreHeldByGates, IsNextHeld}}
 use Rattle.fst_walks.proofs.Visiting.{none_in}
-use Rattle.fst_heads.proofs.Waiting.{times_some}
+use Rattle.fst_heads.specs.declared.pending.Pending.TheVariants as pending
 
 module _ (patches : List Patch) (told : ℕ → Pending) (held : AreHeldByGates patches told) (gate : ℕ) (is_open : IsOpenNumber patches gate) where
   -- what depends on the gate waits for an open gate

@@ -2,13 +2,8 @@
 use Rattle.std.proofs.Common.{◌≡◌, ◌≤◌, ◌∙◌, ℕ, List, map, sym, ap, subst, arith, cond, eqb, inl, inr}
 use Rattle.std.proofs.lemmas.Bool.{cases_Bool}
 use Rattle.fst_types.specs.Facts.{HasOnePlaceEach, SparseAreLawful}
-use Rattle.fst_heads.specs.declared.head.Head.{Head}
-use Rattle.fst_heads.specs.declared.pending.Sums.{Sums}
-use Rattle.fst_heads.specs.declared.standing.Standing.{Standing}
-use Rattle.fst_heads.specs.Heads.{patches_of}
-use Rattle.fst_heads.specs.Keeps.{Tallies}
-use Rattle.fst_heads.specs.Lists.{Entry}
-use Rattle.fst_heads.specs.Nodes.{Node, nodes_of, patches_in, linked_to, at_number, gains_names}
+use Rattle.fst_heads.specs.{Heads.patches_of, Keeps.Tallies, Lists.Entry, Nodes.{Node, nodes_of, patches_in, linked_to, at_number, gains_names}}
+use Rattle.fst_heads.specs.{declared.head.Head.Head, declared.pending.Sums.Sums, declared.standing.Standing.Standing}
 use Rattle.fst_heads.proofs.AtNumber.{patches_in_nodes}
 use Rattle.fst_walks.proofs.Linked.{patches_linked}
 

@@ -1,10 +1,7 @@
 -- The vectors that hold the lists of the blocks.
 use Rattle.std.proofs.Common.{◌≡◌, ◌<◌, ◌∙◌, ℕ, arith, get_or-set_same, ◌++◌, ◌∷◌, [], List, Vec, Global, length, map, get_or, set, sym, ap}
-use Rattle.std.proofs.lemmas.List.{map-set, get_or-map, length-set}
-use Rattle.std.proofs.Math.Seq.{map-set_same}
-use Rattle.fst_heads.specs.declared.lists.Listed.{Listed}
-use Rattle.fst_heads.specs.Lists.{Entry, entry_of, entries_of, HasRoomInList}
-use Rattle.std.proofs.lemmas.List.{map_push}
+use Rattle.std.proofs.{Math.Seq.map-set_same, lemmas.List.{map-set, get_or-map, length-set, map_push}}
+use Rattle.fst_heads.specs.{Lists.{Entry, entry_of, entries_of, HasRoomInList}, declared.lists.Listed.Listed}
 
 abbrev pub shelved : List (Vec Listed Global) → List (List Entry)
 shelved lists = map (λ l. entries_of l.items) lists

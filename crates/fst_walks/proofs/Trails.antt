@@ -1,12 +1,9 @@
 -- What a walk has met and marked.
 use Rattle.std.proofs.Common.{◌≡◌, ◌≢◌, ◌≤◌, ◌<◌, ℕ, zero, suc, Bool, true, false, List, [], ◌∷◌, ◌++◌, length, take, filter, get_or, set, Contains, AllPairs, refl, sym, subst, ◌∙◌, inl, inr, arith, get_or-set_same, get_or-set_other, length-append}
-use Rattle.std.proofs.lemmas.Bool.{cases_eq, false≢true}
+use Rattle.std.proofs.{lemmas.Bool.{cases_eq, false≢true}, lemmas.List.{take-append-le, take_all}}
 use Rattle.std.proofs.lemmas.List.Elements.{Contains-append_left, Contains-push, Contains-push_cases}
-use Rattle.std.proofs.lemmas.List.{take-append-le, take_all}
-use Rattle.fst_types.proofs.Dropping.{filter_in}
-use Rattle.fst_types.proofs.Finite.{In, In-from_Contains, Contains-from_In}
-use Rattle.fst_heads.proofs.Slots.{any_default}
-use Rattle.fst_heads.proofs.Waiting.{once_fits, once_append}
+use Rattle.fst_types.proofs.{Dropping.filter_in, Finite.{In, In-from_Contains, Contains-from_In}}
+use Rattle.fst_heads.proofs.{Slots.any_default, Waiting.{once_fits, once_append}}
 use Rattle.fst_walks.specs.Walks.{AreMarked}
 
 -- a mark stands in one of the slots
@@ -94,23 +91,10 @@ grown_mark (m ∷ ms) (suc s) = grown_mark ms s
 pub marked_grown : (marks : List Bool) (met : List ℕ) → AreMarked marks met → AreMarked (marks ++ false ∷ []) met
 marked_grown marks met m = record { only = λ s e. m.only s (sym (grown_mark marks s) ∙ e); each = λ s c. grown_mark marks s ∙ m.each s c }
 
-taken_mark : (n : ℕ) (marks : List Bool) (s : ℕ) → get_or (take n marks) s false ≡ true → get_or marks s false ≡ true
-taken_mark zero marks s e = absurd (false≢true e)
-taken_mark (suc n) [] s e = absurd (false≢true e)
-taken_mark (suc n) (m ∷ ms) zero e = e
-taken_mark (suc n) (m ∷ ms) (suc s) e = taken_mark n ms s e
-
--- fewer heads, none of which is marked
-pub marked_taken : (n : ℕ) (marks : List Bool) → AreMarked marks [] → AreMarked (take n marks) []
-marked_taken n marks m = record { only = λ s e. m.only s (taken_mark n marks s e); each = λ s c. absurd (none_in s c) }
-
 -- marks are taken back, so far of the first of those that were met
 pub record Unmarking (old new : List Bool) (done : List ℕ) : Type 0 where
   pub only : (s : ℕ) → get_or new s false ≡ true → get_or old s false ≡ true
   pub gone : (s : ℕ) → Contains done s → get_or new s false ≡ false
-
-pub unmarking_none : (old : List Bool) → Unmarking old old []
-unmarking_none old = record { only = λ s e. e; gone = λ s c. absurd (none_in s c) }
 
 pub unmarking_more : (old new : List Bool) (done : List ℕ) (n : ℕ) → n < length new → Unmarking old new done → Unmarking old (set new n false) (done ++ n ∷ [])
 unmarking_more old new done n lt u = record {
@@ -128,9 +112,6 @@ pub unmarking_all : (old new : List Bool) (met : List ℕ) → AreMarked old met
 unmarking_all old new met m u = record { only = λ s e. absurd (false≢true (sym (u.gone s (m.only s (u.only s e))) ∙ e)); each = λ s c. absurd (none_in s c) }
 
 -- no two are the same where there is none
-pub once_none : AllPairs {X = ℕ} (λ s t. s ≢ t) []
-once_none i j d lt inside = absurd (omega (arith, inside))
-
 -- what was met and passes a test
 pub kept_inside : (t : ℕ → Bool) (met : List ℕ) (s : ℕ) → Contains (filter t met) s → Contains met s
 kept_inside t met s c = Contains-from_In met s (filter_in t met s (In-from_Contains (filter t met) s c)).0

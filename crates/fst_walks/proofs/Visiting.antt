@@ -3,14 +3,9 @@ use Rattle.std.proofs.Common.{◌≡◌, ◌⊎◌, ◌<◌, ℕ, List, [], ◌�
 use Rattle.std.proofs.lemmas.List.{append-nil, append_assoc, get_or-map, length-map, map_push}
 use Rattle.std.proofs.lemmas.List.Elements.{Contains-append_left, Contains-push, Contains-push_cases}
 use Rattle.fst_types.specs.Dependencies.{IsLiveNumber}
-use Rattle.fst_heads.specs.declared.head.Head.{Head}
-use Rattle.fst_walks.specs.Descending.{Visited, Visits}
-use Rattle.fst_walks.specs.Walks.{Trail, AreMarked, Meets, number_at, numbers_met}
-use Rattle.fst_heads.specs.Heads.{IsRising, patches_of}
-use Rattle.fst_heads.specs.Marks.{HasSlot, Shows}
-use Rattle.fst_heads.proofs.Placed.{unmapped}
-use Rattle.fst_heads.proofs.Slots.{slot_unique, some_element}
-use Rattle.fst_heads.proofs.Waiting.{mapped}
+use Rattle.fst_heads.specs.{Heads.{IsRising, patches_of}, Marks.{HasSlot, Shows}, declared.head.Head.Head}
+use Rattle.fst_heads.proofs.{Placed.unmapped, Slots.{slot_unique, some_element}, Waiting.mapped}
+use Rattle.fst_walks.specs.{Descending.{Visited, Visits}, Walks.{Trail, AreMarked, Meets, number_at, numbers_met}}
 use Rattle.fst_walks.proofs.Trails.{met_inside}
 
 pub none_in : (n : ℕ) → Contains {X = ℕ} [] n → ⊥
@@ -123,9 +118,6 @@ visits_same P Q old new to from v = record {
 }
 
 -- of a list of numbers those with P, one after the other
-pub visits_start : (P : ℕ → Type 0) (queue : List ℕ) → Visits (λ n. Contains {X = ℕ} [] n × P n) queue queue
-visits_start P queue = visits_none (λ n. Contains {X = ℕ} [] n × P n) queue (λ n k. absurd (none_in n k.0))
-
 pub visits_next : (P L : ℕ → Type 0) (done : List ℕ) (n : ℕ) (old mid new : List ℕ) → ((m : ℕ) → P m → L m) → (L n → P n) → Visits (λ m. Contains done m × P m) old mid → Visits (λ m. (m ≡ n) × L m) mid new → Visits (λ m. Contains (done ++ n ∷ []) m × P m) old new
 visits_next P L done n old mid new to from v w =
     visits_both (λ m. Contains done m × P m) (λ m. (m ≡ n) × L m) (λ m. Contains (done ++ n ∷ []) m × P m) old mid new

@@ -1,9 +1,7 @@
 -- What walks visit: patches that are not on disk, each once, along steps that a relation tells.
 use Rattle.std.specs.Prelude.{◌≡◌, ◌⊎◌, ◌++◌, ℕ, List, length, Contains}
-use Rattle.fst_types.specs.Closure.{Closure}
-use Rattle.fst_types.specs.Dependencies.{IsLiveNumber}
-use Rattle.fst_heads.specs.declared.head.Head.{Head}
-use Rattle.fst_heads.specs.Heads.{patches_of}
+use Rattle.fst_types.specs.{Closure.Closure, Dependencies.IsLiveNumber}
+use Rattle.fst_heads.specs.{Heads.patches_of, declared.head.Head.Head}
 use Rattle.fst_walks.specs.Walks.{Trail, numbers_met}
 
 -- n is one of those from which a walk with these steps starts, or steps lead from one of them to it

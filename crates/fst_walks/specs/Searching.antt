@@ -1,15 +1,9 @@
 -- The search for a cycle: down from names to an open gate, through what waits for an open gate.
 use Rattle.std.specs.Prelude.{◌≡◌, ◌↔◌, ℕ, List}
-use Rattle.fst_types.specs.Dependencies.{DirectlyOn, DependsOn, IsLiveNumber}
-use Rattle.fst_types.specs.Gates.{IsOpenNumber}
-use Rattle.fst_types.specs.Patches.{Patch}
-use Rattle.fst_heads.specs.declared.head.Head.{Head}
+use Rattle.fst_types.specs.{Dependencies.{DirectlyOn, DependsOn, IsLiveNumber}, Gates.IsOpenNumber, Patches.Patch}
+use Rattle.fst_heads.specs.{Heads.patches_of, Marks.IsAbove, Nodes.{nodes_of, pending_in}, Rows.IsTouched, declared.head.Head.Head}
 use Rattle.fst_heads.specs.declared.pending.Pending.{Pending}
 use Rattle.fst_heads.specs.declared.pending.Pending.TheVariants as pending
-use Rattle.fst_heads.specs.Heads.{patches_of}
-use Rattle.fst_heads.specs.Marks.{IsAbove}
-use Rattle.fst_heads.specs.Nodes.{nodes_of, pending_in}
-use Rattle.fst_heads.specs.Rows.{IsTouched}
 
 -- an open gate is pending of exactly the open gates and of what depends on one
 abbrev pub AreHeldByGates : List Patch → (ℕ → Pending) → Type 0

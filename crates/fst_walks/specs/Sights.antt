@@ -1,14 +1,8 @@
 -- What walks look at is as it should be.
 use Rattle.std.specs.Prelude.{length, map}
-use Rattle.fst_types.specs.Closure.{IsAcyclic}
-use Rattle.fst_types.specs.Dependencies.{DirectlyOn}
-use Rattle.fst_types.specs.Facts.{IsOnDiskWithAll, HardNeverHold}
-use Rattle.fst_heads.specs.Covers.{AreCovered}
-use Rattle.fst_heads.specs.Heads.{IsRising, patches_of}
-use Rattle.fst_heads.specs.Keeps.{IsInside}
-use Rattle.fst_heads.specs.Lists.{entries_of, AreListed}
-use Rattle.fst_heads.specs.Nodes.{nodes_of, AreLinked, AreSettled}
-use Rattle.fst_heads.specs.Standings.{AllStand}
+use Rattle.fst_types.specs.{Closure.IsAcyclic, Dependencies.DirectlyOn, Facts.{IsOnDiskWithAll, HardNeverHold}}
+use Rattle.fst_heads.specs.{Covers.AreCovered, Heads.{IsRising, patches_of}, Keeps.IsInside, Lists.{entries_of, AreListed}}
+use Rattle.fst_heads.specs.{Nodes.{nodes_of, AreLinked, AreSettled}, Standings.AllStand}
 use Rattle.fst_walks.specs.declared.sight.Sight.{Sight}
 
 -- the patches are as the definitions want them, and what stands beside them tells of them

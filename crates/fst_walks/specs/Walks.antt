@@ -1,9 +1,6 @@
 -- What a walk keeps beside the heads.
 use Rattle.std.specs.Prelude.{◌≡◌, ◌≢◌, ◌⊎◌, ◌≤◌, ◌++◌, ◌∷◌, [], ℕ, Bool, true, false, List, length, map, Contains, AllPairs, slice_index_or}
-use Rattle.fst_heads.specs.declared.head.Head.{Head}
-use Rattle.fst_heads.specs.declared.test.Test.{Test}
-use Rattle.fst_heads.specs.Heads.{patch_of}
-use Rattle.fst_heads.specs.Tests.{passes}
+use Rattle.fst_heads.specs.{Heads.patch_of, Tests.passes, declared.head.Head.Head, declared.test.Test.Test}
 
 -- a mark for each head, the slots of the heads that were met, in the order in which they were met, and for how many heads there is room
 pub record Trail : Type 0 where

@@ -1,12 +1,9 @@
 -- The ways back to a block: from a patch up to those that directly depend on it, and from a hard change in memory to all changes of its block that are not on disk, since the block is not written without it.
 use Rattle.std.specs.Prelude.{◌≡◌, ◌⊎◌, ℕ, Bool, List, Contains}
-use Rattle.fst_types.specs.Dependencies.{DirectlyOn, DependsOn, IsLiveNumber}
-use Rattle.fst_types.specs.Patches.{Patch}
-use Rattle.fst_heads.specs.declared.test.Test.TheVariants as test
+use Rattle.fst_types.specs.{Dependencies.{DirectlyOn, DependsOn, IsLiveNumber}, Patches.Patch}
+use Rattle.fst_heads.specs.{Grading.IsHardNumber, Marks.PassesAt, Reaching.IsReached}
 use Rattle.fst_walks.specs.Descending.{IsLedFrom}
-use Rattle.fst_heads.specs.Grading.{IsHardNumber}
-use Rattle.fst_heads.specs.Marks.{PassesAt}
-use Rattle.fst_heads.specs.Reaching.{IsReached}
+use Rattle.fst_heads.specs.declared.test.Test.TheVariants as test
 
 -- from the hard change p in memory to the change q of the same block that is not on disk; the block is not shown as crossed
 pub record Crosses (patches : List Patch) (crossed : List Bool) (p q : ℕ) : Type 0 where

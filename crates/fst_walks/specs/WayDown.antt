@@ -1,13 +1,9 @@
 -- The walk down to all that may keep a change where it is: from a patch to what it directly depends on, and from a change to the hard changes of its block, without which the block is not written.
 use Rattle.std.specs.Prelude.{◌≡◌, ◌⊎◌, ℕ, Bool, List, Contains}
-use Rattle.fst_types.specs.Closure.{Closure}
-use Rattle.fst_types.specs.Dependencies.{DirectlyOn, IsLiveNumber}
-use Rattle.fst_types.specs.Patches.{Patch}
-use Rattle.fst_heads.specs.declared.test.Test.TheVariants as test
+use Rattle.fst_types.specs.{Closure.Closure, Dependencies.{DirectlyOn, IsLiveNumber}, Patches.Patch}
+use Rattle.fst_heads.specs.{Grading.IsHardNumber, Marks.PassesAt, Reaching.IsReached}
 use Rattle.fst_walks.specs.Descending.{IsLedFrom}
-use Rattle.fst_heads.specs.Grading.{IsHardNumber}
-use Rattle.fst_heads.specs.Marks.{PassesAt}
-use Rattle.fst_heads.specs.Reaching.{IsReached}
+use Rattle.fst_heads.specs.declared.test.Test.TheVariants as test
 
 -- from the change p, which is not on disk, to the hard change q in memory of the same block, which is not shown as crossed
 pub record Crosses (patches : List Patch) (crossed : List Bool) (p q : ℕ) : Type 0 where

@@ -1,10 +1,8 @@
 use Rattle.std.proofs.Common.{◌≡◌, ◌∙◌, get_or, sym, ap}
-use Rattle.fst_types.specs.declared.place.Place.TheVariants as place
 use Rattle.fst_types.specs.Tests.{is_change_at}
-use Rattle.fst_heads.specs.declared.head.Head.{Head}
-use Rattle.fst_heads.specs.Heads.{patch_of}
-use Rattle.fst_walks.proofs.Flight.{flying_here, here_flying}
-use Rattle.fst_walks.proofs.NearRow.{no_patch}
+use Rattle.fst_walks.proofs.{Behind.{flying_here, here_flying}, NearRow.no_patch}
+use Rattle.fst_heads.specs.{Heads.patch_of, declared.head.Head.Head}
+use Rattle.fst_types.specs.declared.place.Place.TheVariants as place
 use Rattle.fst_walks.proofs.ascent.is_flying_number.Goals as goal
 
 pub returns-in-Some : goal.returns-in-Some

@@ -1,10 +1,7 @@
 use Rattle.std.proofs.Common.{subst}
-use Rattle.fst_heads.specs.Ascending.{IsFlyingNumber}
-use Rattle.fst_walks.specs.Walks.{AreMarked, numbers_met}
-use Rattle.fst_walks.specs.Descending.{Visits}
-use Rattle.fst_heads.specs.Heads.{patches_of}
-use Rattle.fst_walks.proofs.Flight.{shows_behind}
-use Rattle.fst_walks.proofs.Visiting.{none_met, shows_met}
+use Rattle.fst_walks.proofs.{Behind.shows_behind, Visiting.{none_met, shows_met}}
+use Rattle.fst_heads.specs.{Ascending.IsFlyingNumber, Heads.patches_of}
+use Rattle.fst_walks.specs.{Descending.Visits, Walks.{AreMarked, numbers_met}}
 use Rattle.fst_walks.proofs.ascent.mark_behind.Goals as goal
 
 pub returns-clause-marked : goal.returns-clause-marked

@@ -1,9 +1,7 @@
 use Rattle.std.proofs.Common.{◌∙◌, sym, ap}
-use Rattle.fst_heads.specs.declared.standing.Standing.{Standing}
-use Rattle.fst_heads.specs.Nodes.{nodes_of}
-use Rattle.fst_walks.proofs.Behind.{rests_none}
+use Rattle.fst_heads.specs.{Nodes.nodes_of, declared.standing.Standing.Standing}
 use Rattle.fst_heads.proofs.Marked.{mark_has, has_mark}
-use Rattle.fst_walks.proofs.Resting.{none_yet}
+use Rattle.fst_walks.proofs.{Behind.rests_none, Resting.none_yet}
 use Rattle.fst_walks.proofs.ascent.mark_flight.Goals as goal
 
 pub returns-then-is_resting-clause-behind : goal.returns-then-is_resting-clause-behind

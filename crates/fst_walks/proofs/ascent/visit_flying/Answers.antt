@@ -1,17 +1,11 @@
 use Rattle.std.proofs.Common.{◌∙◌, map, take, get_or, Contains, subst, sym, ap, arith}
-use Rattle.std.proofs.lemmas.Bool.{false≢true}
-use Rattle.std.proofs.lemmas.List.{take_all, take_more}
 use Rattle.fst_types.specs.Dependencies.{IsLiveNumber}
-use Rattle.fst_heads.specs.declared.lists.Listed.{Listed}
-use Rattle.fst_walks.specs.Walks.{numbers_met}
-use Rattle.fst_walks.specs.Descending.{Visits}
-use Rattle.fst_heads.specs.Ascending.{IsFlyingNumber}
-use Rattle.fst_heads.specs.Heads.{patches_of}
-use Rattle.fst_walks.proofs.Flight.{flying_live, flying_listed}
-use Rattle.std.proofs.lemmas.List.{map_push}
-use Rattle.fst_walks.proofs.Visiting.{visits_next, visits_same, visits_skip}
-use Rattle.fst_walks.proofs.ascent.visit_flying.Goals as goal
+use Rattle.fst_walks.proofs.{Behind.{flying_live, flying_listed}, Visiting.{visits_next, visits_same, visits_skip}}
 use Rattle.fst_walks.proofs.ascent.visit_flying.Goals.{then-is_flying_number, else-is_flying_number}
+use Rattle.std.proofs.{lemmas.Bool.false≢true, lemmas.List.{take_all, take_more, map_push}}
+use Rattle.fst_heads.specs.{Ascending.IsFlyingNumber, Heads.patches_of, declared.lists.Listed.Listed}
+use Rattle.fst_walks.specs.{Descending.Visits, Walks.numbers_met}
+use Rattle.fst_walks.proofs.ascent.visit_flying.Goals as goal
 
 pub loop-listed-preserved : goal.loop-listed-preserved
 loop-listed-preserved c =

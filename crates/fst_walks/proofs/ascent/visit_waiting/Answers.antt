@@ -1,17 +1,11 @@
 use Rattle.std.proofs.Common.{◌≡◌, ◌∙◌, ℕ, take, get_or, Contains, subst, sym, ap, arith}
-use Rattle.std.proofs.lemmas.Bool.{false≢true}
-use Rattle.std.proofs.lemmas.List.{take_all, take_more}
+use Rattle.std.proofs.{lemmas.Bool.false≢true, lemmas.List.{take_all, take_more}}
 use Rattle.fst_types.specs.Dependencies.{IsLiveNumber}
+use Rattle.fst_heads.specs.{Heads.patches_of, Nodes.{nodes_of, pending_in}, Pendings.is_pending}
+use Rattle.fst_walks.specs.{Descending.Visits, Walks.numbers_met}
+use Rattle.fst_walks.proofs.{Low.{is_block, block_is}, Visiting.{visits_next, visits_skip}, ascent.visit_waiting.Goals.{then-is_pending, else-is_pending}}
 use Rattle.fst_heads.specs.declared.pending.Pending.TheVariants as pending
-use Rattle.fst_walks.specs.Walks.{numbers_met}
-use Rattle.fst_walks.specs.Descending.{Visits}
-use Rattle.fst_heads.specs.Heads.{patches_of}
-use Rattle.fst_heads.specs.Nodes.{nodes_of, pending_in}
-use Rattle.fst_heads.specs.Pendings.{is_pending}
-use Rattle.fst_walks.proofs.Low.{is_block, block_is}
-use Rattle.fst_walks.proofs.Visiting.{visits_next, visits_skip}
 use Rattle.fst_walks.proofs.ascent.visit_waiting.Goals as goal
-use Rattle.fst_walks.proofs.ascent.visit_waiting.Goals.{then-is_pending, else-is_pending}
 
 pub loop-number-preserved : goal.loop-number-preserved
 loop-number-preserved c =

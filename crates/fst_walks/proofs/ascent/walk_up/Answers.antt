@@ -1,14 +1,8 @@
 use Rattle.std.proofs.Common.{◌≡◌, ◌<◌, length, get_or, Contains, sym, subst, arith}
-use Rattle.fst_heads.specs.declared.head.Head.{Head}
-use Rattle.fst_heads.specs.Ascending.{IsNextBehind}
-use Rattle.fst_walks.specs.Descending.{Visits}
-use Rattle.fst_walks.specs.Walks.{numbers_met}
-use Rattle.fst_heads.specs.Nodes.{node_of, nodes_of}
-use Rattle.fst_walks.proofs.Ascended.{climbing_more, climbing_all}
-use Rattle.fst_walks.proofs.Behind.{next_from, next_to}
-use Rattle.fst_heads.proofs.PendingAt.{node_in}
-use Rattle.fst_heads.proofs.Slots.{any_default}
-use Rattle.fst_walks.proofs.Visiting.{long_met, slot_met, visits_same}
+use Rattle.fst_heads.specs.{Ascending.IsNextBehind, Nodes.{node_of, nodes_of}, declared.head.Head.Head}
+use Rattle.fst_heads.proofs.{PendingAt.node_in, Slots.any_default}
+use Rattle.fst_walks.specs.{Descending.Visits, Walks.numbers_met}
+use Rattle.fst_walks.proofs.{Ascended.{climbing_more, climbing_all}, Behind.{next_from, next_to}, Visiting.{long_met, slot_met, visits_same}}
 use Rattle.fst_walks.proofs.ascent.walk_up.Goals as goal
 
 pub loop-at-smaller : goal.loop-at-smaller

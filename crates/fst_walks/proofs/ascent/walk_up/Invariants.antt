@@ -1,8 +1,6 @@
 use Rattle.std.proofs.Common.{◌-◌, length}
-use Rattle.fst_heads.specs.Ascending.{IsNextBehind}
-use Rattle.fst_walks.specs.Walks.{numbers_met}
-use Rattle.fst_walks.specs.Descending.{Visited}
-use Rattle.fst_heads.specs.Nodes.{nodes_of}
+use Rattle.fst_heads.specs.{Ascending.IsNextBehind, Nodes.nodes_of}
+use Rattle.fst_walks.specs.{Descending.Visited, Walks.numbers_met}
 use Rattle.fst_walks.proofs.Ascended.{Climbing}
 use Rattle.fst_walks.proofs.ascent.walk_up.Given as goal
 

@@ -1,8 +1,7 @@
 use Rattle.std.proofs.Common.{◌∙◌, length, Contains, refl, sym, ap, subst, inl, inr}
 use Rattle.std.proofs.lemmas.Bool.{eqb-true, false≢true}
 use Rattle.fst_types.specs.Gates.{IsOpenNumber}
-use Rattle.fst_heads.specs.Heads.{patches_of}
-use Rattle.fst_heads.specs.Names.{numbers_of}
+use Rattle.fst_heads.specs.{Heads.patches_of, Names.numbers_of}
 use Rattle.fst_walks.proofs.Searched.{none_depend, named_held}
 use Rattle.fst_walks.proofs.cycle.closes_cycle.Goals as goal
 

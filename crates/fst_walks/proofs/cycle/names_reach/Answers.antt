@@ -1,14 +1,9 @@
 use Rattle.std.proofs.Common.{◌≡◌, ℕ, Contains, subst}
 use Rattle.fst_types.specs.Gates.{IsOpenNumber}
-use Rattle.fst_heads.specs.declared.pending.Pending.{Pending}
+use Rattle.fst_heads.specs.{Heads.patches_of, Names.numbers_of, Nodes.{nodes_of, pending_in}, declared.pending.Pending.Pending}
+use Rattle.fst_walks.specs.{Descending.Visits, Walks.numbers_met}
+use Rattle.fst_walks.proofs.{Searched.searched, Visiting.none_met}
 use Rattle.fst_heads.specs.declared.pending.Pending.TheVariants as pending
-use Rattle.fst_walks.specs.Walks.{numbers_met}
-use Rattle.fst_walks.specs.Descending.{Visits}
-use Rattle.fst_heads.specs.Heads.{patches_of}
-use Rattle.fst_heads.specs.Names.{numbers_of}
-use Rattle.fst_heads.specs.Nodes.{nodes_of, pending_in}
-use Rattle.fst_walks.proofs.Searched.{searched}
-use Rattle.fst_walks.proofs.Visiting.{none_met}
 use Rattle.fst_walks.proofs.cycle.names_reach.Goals as goal
 
 pub returns-clause-reaches : goal.returns-clause-reaches

@@ -1,14 +1,8 @@
 use Rattle.std.proofs.Common.{◌<◌, ℕ, length, get_or, Contains, sym, subst, arith}
-use Rattle.fst_heads.specs.declared.head.Head.{Head}
-use Rattle.fst_heads.specs.declared.pending.Pending.{Pending}
-use Rattle.fst_walks.specs.Descending.{Visits}
-use Rattle.fst_walks.specs.Walks.{numbers_met}
-use Rattle.fst_heads.specs.Heads.{patches_of}
-use Rattle.fst_heads.specs.Nodes.{nodes_of, pending_in}
-use Rattle.fst_walks.specs.Searching.{IsNextHeld}
-use Rattle.fst_walks.proofs.Ascended.{climbing_more, climbing_all}
+use Rattle.fst_heads.specs.{Heads.patches_of, Nodes.{nodes_of, pending_in}, declared.head.Head.Head, declared.pending.Pending.Pending}
 use Rattle.fst_heads.proofs.Slots.{direct_at, named_at}
-use Rattle.fst_walks.proofs.Visiting.{long_met, slot_met, visits_same}
+use Rattle.fst_walks.specs.{Descending.Visits, Searching.IsNextHeld, Walks.numbers_met}
+use Rattle.fst_walks.proofs.{Ascended.{climbing_more, climbing_all}, Visiting.{long_met, slot_met, visits_same}}
 use Rattle.fst_walks.proofs.cycle.search_down.Goals as goal
 
 pub loop-at-smaller : goal.loop-at-smaller

@@ -1,9 +1,6 @@
 use Rattle.std.proofs.Common.{◌-◌, length}
-use Rattle.fst_walks.specs.Descending.{Visited}
-use Rattle.fst_walks.specs.Walks.{numbers_met}
-use Rattle.fst_heads.specs.Heads.{patches_of}
-use Rattle.fst_heads.specs.Nodes.{nodes_of, pending_in}
-use Rattle.fst_walks.specs.Searching.{IsNextHeld}
+use Rattle.fst_heads.specs.{Heads.patches_of, Nodes.{nodes_of, pending_in}}
+use Rattle.fst_walks.specs.{Descending.Visited, Searching.IsNextHeld, Walks.numbers_met}
 use Rattle.fst_walks.proofs.Ascended.{Climbing}
 use Rattle.fst_walks.proofs.cycle.search_down.Given as goal
 

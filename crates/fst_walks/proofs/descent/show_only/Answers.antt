@@ -1,6 +1,5 @@
 use Rattle.std.proofs.Common.{◌≡◌, ◌∙◌, ℕ, true, false, length, get_or, set, sym, subst, inl, inr, arith, get_or-set_same, get_or-set_other}
-use Rattle.std.proofs.lemmas.Bool.{cases_eq, cases_lt, false≢true}
-use Rattle.std.proofs.lemmas.List.{get_or_past}
+use Rattle.std.proofs.{lemmas.Bool.{cases_eq, cases_lt, false≢true}, lemmas.List.get_or_past}
 use Rattle.fst_heads.specs.Reaching.{IsReached}
 use Rattle.fst_walks.proofs.descent.show_only.Goals as goal
 

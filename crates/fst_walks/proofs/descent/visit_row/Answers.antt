@@ -1,9 +1,8 @@
 use Rattle.std.proofs.Common.{take, get_or, Contains, subst, arith}
 use Rattle.std.proofs.lemmas.List.{take_all, take_more}
 use Rattle.fst_types.specs.Dependencies.{IsLiveNumber}
-use Rattle.fst_walks.specs.Walks.{numbers_met}
-use Rattle.fst_walks.specs.Descending.{Visits}
 use Rattle.fst_heads.specs.Heads.{patches_of}
+use Rattle.fst_walks.specs.{Descending.Visits, Walks.numbers_met}
 use Rattle.fst_walks.proofs.Visiting.{visits_next}
 use Rattle.fst_walks.proofs.descent.visit_row.Goals as goal
 

@@ -1,10 +1,8 @@
 use Rattle.std.proofs.Common.{◌<◌, ℕ, Option, Some, None, IfSome, IfNone, length, arith}
 use Rattle.std.specs.Option.{unwrap_or}
-use Rattle.fst_types.specs.declared.grade.Grade.{Grade}
+use Rattle.fst_types.specs.{Grades.FollowsRule, declared.grade.Grade.Grade}
+use Rattle.fst_heads.specs.{Grading.LeadsNowhere, Heads.patches_of}
 use Rattle.fst_types.specs.declared.grade.Grade.TheVariants as grade
-use Rattle.fst_types.specs.Grades.{FollowsRule}
-use Rattle.fst_heads.specs.Grading.{LeadsNowhere}
-use Rattle.fst_heads.specs.Heads.{patches_of}
 use Rattle.fst_walks.proofs.grade.grade_by_walks.Goals as goal
 
 -- a walk that may meet all heads answers

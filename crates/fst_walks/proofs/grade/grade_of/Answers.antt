@@ -1,16 +1,12 @@
 use Rattle.std.proofs.Common.{◌∙◌, sym, subst}
 use Rattle.std.proofs.lemmas.Bool.{false≢true}
-use Rattle.fst_types.specs.declared.grade.Grade.{Grade}
-use Rattle.fst_types.specs.declared.grade.Grade.TheVariants as grade
-use Rattle.fst_types.specs.Facts.{HardNeverHold}
-use Rattle.fst_types.specs.Grades.{FollowsRule}
-use Rattle.fst_heads.specs.Grading.{LeadsNowhere, MayBeHard}
-use Rattle.fst_heads.specs.Heads.{patches_of}
+use Rattle.fst_types.specs.{Facts.HardNeverHold, Grades.FollowsRule, declared.grade.Grade.Grade}
+use Rattle.fst_heads.specs.{Grading.{LeadsNowhere, MayBeHard}, Heads.patches_of}
 use Rattle.fst_walks.specs.Nearby.{Deepens}
-use Rattle.fst_walks.proofs.Nearby.{nowhere_near, nowhere_row}
-use Rattle.fst_walks.proofs.NearRow.{rests_may, may_but}
-use Rattle.fst_walks.proofs.grade.grade_of.Goals as goal
+use Rattle.fst_walks.proofs.NearRow.{rests_may, may_but, nowhere_near, nowhere_row}
 use Rattle.fst_walks.proofs.grade.grade_of.Goals.{then-rests_on_hard-via-then-rests_on_hard, then-rests_on_hard-via-else-rests_on_hard+then-waits_for_quiet_block, then-is_blocked-via-then-is_blocked, then-is_blocked-via-else-is_blocked+then-comes_back}
+use Rattle.fst_types.specs.declared.grade.Grade.TheVariants as grade
+use Rattle.fst_walks.proofs.grade.grade_of.Goals as goal
 
 pub returns-then-rests_on_hard-clause-graded : goal.returns-then-rests_on_hard-clause-graded
 returns-then-rests_on_hard-clause-graded c =

@@ -1,11 +1,9 @@
 use Rattle.std.proofs.Common.{get_or, Contains}
 use Rattle.std.proofs.lemmas.List.Elements.{Contains-get_or}
+use Rattle.fst_walks.proofs.{NearRow.push_all, near.away_of.Goals.{then-not-is_full+then-passes_at, else-not-is_full}}
+use Rattle.fst_heads.specs.{Heads.patches_of, Marks.PassesAt}
 use Rattle.fst_heads.specs.declared.test.Test.TheVariants as test
-use Rattle.fst_heads.specs.Heads.{patches_of}
-use Rattle.fst_heads.specs.Marks.{PassesAt}
-use Rattle.fst_walks.proofs.Nearby.{push_all}
 use Rattle.fst_walks.proofs.near.away_of.Goals as goal
-use Rattle.fst_walks.proofs.near.away_of.Goals.{then-not-is_full+then-passes_at, else-not-is_full}
 
 pub loop-number-preserved : goal.loop-number-preserved
 loop-number-preserved c = elim c.if-not-is_full.branch [

@@ -1,7 +1,6 @@
 use Rattle.std.proofs.Common.{ℕ, Contains}
+use Rattle.fst_heads.specs.{Heads.patches_of, Marks.PassesAt}
 use Rattle.fst_heads.specs.declared.test.Test.TheVariants as test
-use Rattle.fst_heads.specs.Heads.{patches_of}
-use Rattle.fst_heads.specs.Marks.{PassesAt}
 use Rattle.fst_walks.proofs.near.away_of.Given as goal
 
 abbrev pub invariant-loop-number : goal.invariant-loop-number

@@ -1,8 +1,7 @@
 use Rattle.std.proofs.Common.{◌⊎◌, get_or, Contains, sym, subst, inr}
 use Rattle.std.proofs.lemmas.List.Elements.{Contains-append_left, Contains-get_or}
-use Rattle.fst_walks.proofs.Nearby.{push_all}
+use Rattle.fst_walks.proofs.{NearRow.push_all, near.gather.Goals.{then-not-contains, else-not-contains}}
 use Rattle.fst_walks.proofs.near.gather.Goals as goal
-use Rattle.fst_walks.proofs.near.gather.Goals.{then-not-contains, else-not-contains}
 
 pub loop-number-preserved : goal.loop-number-preserved
 loop-number-preserved c = elim c.if-not-contains.branch [

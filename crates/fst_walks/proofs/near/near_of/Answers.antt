@@ -1,7 +1,7 @@
 use Rattle.std.proofs.Common.{length, get_or, Contains, ap, subst, inl, inr, arith}
 use Rattle.std.proofs.lemmas.List.Elements.{Contains-get_or}
 use Rattle.fst_heads.specs.Heads.{patches_of}
-use Rattle.fst_walks.proofs.Nearby.{one_below}
+use Rattle.fst_walks.proofs.NearRow.{one_below}
 use Rattle.fst_walks.proofs.near.near_of.Goals as goal
 
 pub loop-at-preserved : goal.loop-at-preserved

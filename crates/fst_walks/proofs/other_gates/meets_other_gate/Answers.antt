@@ -1,19 +1,13 @@
 use Rattle.std.proofs.Common.{◌≡◌, ◌∙◌, ◌<◌, get_or, length, Some, refl, sym, inl, inr, ap, subst, arith}
+use Rattle.std.proofs.{lemmas.Bool.{cases_eq, false≢true}, lemmas.List.Elements.Contains-get_or}
 use Rattle.fst_types.specs.Gates.{IsOpenNumber}
-use Rattle.fst_heads.specs.Grading.{IsOpenBut}
-use Rattle.std.proofs.lemmas.Bool.{cases_eq, false≢true}
-use Rattle.std.proofs.lemmas.List.Elements.{Contains-get_or}
-use Rattle.fst_heads.specs.declared.head.Head.{Head}
-use Rattle.fst_heads.specs.declared.test.Test.TheVariants as test
-use Rattle.fst_heads.specs.Heads.{patch_of, patches_of}
-use Rattle.fst_heads.specs.Tests.{passes}
-use Rattle.fst_heads.proofs.Graded.{passes_open, open_passes}
-use Rattle.fst_heads.proofs.Slots.{any_default}
+use Rattle.fst_heads.specs.{Grading.IsOpenBut, Heads.{patch_of, patches_of}, Tests.passes, declared.head.Head.Head}
+use Rattle.fst_heads.proofs.{Graded.{passes_open, open_passes}, Slots.any_default}
 use Rattle.fst_walks.specs.Walks.{numbers_met}
-use Rattle.fst_walks.proofs.NearRow.{passes_here, here_passes}
-use Rattle.fst_walks.proofs.Visiting.{long_met, slot_met}
-use Rattle.fst_walks.proofs.other_gates.meets_other_gate.Goals as goal
+use Rattle.fst_walks.proofs.{NearRow.{passes_here, here_passes}, Visiting.{long_met, slot_met}}
 use Rattle.fst_walks.proofs.other_gates.meets_other_gate.Goals.{else-head-gate-via-then-head-gate+else-passes, else-head-gate-via-else-head-gate}
+use Rattle.fst_heads.specs.declared.test.Test.TheVariants as test
+use Rattle.fst_walks.proofs.other_gates.meets_other_gate.Goals as goal
 
 pub returns-then-passes : goal.returns-then-passes
 returns-then-passes c =

@@ -1,6 +1,5 @@
 use Rattle.std.proofs.Common.{ℕ, ◌<◌, get_or, Some}
-use Rattle.fst_heads.specs.Grading.{IsOpenBut}
-use Rattle.fst_heads.specs.Heads.{patches_of}
+use Rattle.fst_heads.specs.{Grading.IsOpenBut, Heads.patches_of}
 use Rattle.fst_walks.specs.Walks.{numbers_met}
 use Rattle.fst_walks.proofs.other_gates.meets_other_gate.Given as goal
 

@@ -1,15 +1,9 @@
 use Rattle.std.proofs.Common.{◌≡◌, ◌↔◌, ℕ, Contains, Some, refl, sym, subst, inl, inr}
-use Rattle.fst_types.specs.Gates.{IsOpenNumber}
-use Rattle.fst_types.specs.Order.{NamesAbove}
-use Rattle.fst_heads.specs.declared.pending.Pending.{Pending}
+use Rattle.fst_types.specs.{Gates.IsOpenNumber, Order.NamesAbove}
+use Rattle.fst_heads.specs.{Grading.IsOpenBut, Heads.patches_of, Nodes.{nodes_of, pending_in}, declared.pending.Pending.Pending}
+use Rattle.fst_walks.specs.{Descending.Visits, Walks.numbers_met}
+use Rattle.fst_walks.proofs.{Searched.searched, Visiting.none_met}
 use Rattle.fst_heads.specs.declared.pending.Pending.TheVariants as pending
-use Rattle.fst_walks.specs.Walks.{numbers_met}
-use Rattle.fst_walks.specs.Descending.{Visits}
-use Rattle.fst_heads.specs.Grading.{IsOpenBut}
-use Rattle.fst_heads.specs.Heads.{patches_of}
-use Rattle.fst_heads.specs.Nodes.{nodes_of, pending_in}
-use Rattle.fst_walks.proofs.Searched.{searched}
-use Rattle.fst_walks.proofs.Visiting.{none_met}
 use Rattle.fst_walks.proofs.other_gates.waits_for_another.Goals as goal
 
 pub returns-clause-waits : goal.returns-clause-waits

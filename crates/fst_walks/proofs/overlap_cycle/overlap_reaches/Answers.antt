@@ -1,17 +1,11 @@
 use Rattle.std.proofs.Common.{◌≡◌, ◌∙◌, ℕ, sym, subst, inl, inr}
 use Rattle.std.proofs.lemmas.Bool.{false≢true}
 use Rattle.fst_types.specs.Gates.{IsOpenNumber}
-use Rattle.fst_heads.specs.declared.pending.Pending.{Pending}
-use Rattle.fst_heads.specs.declared.pending.Pending.TheVariants as pending
-use Rattle.fst_walks.specs.Walks.{numbers_met}
-use Rattle.fst_walks.specs.Descending.{Visits}
-use Rattle.fst_heads.specs.Heads.{patches_of}
-use Rattle.fst_heads.specs.Nodes.{nodes_of, pending_in}
-use Rattle.fst_heads.specs.Rows.{IsTouched}
+use Rattle.fst_heads.specs.{Heads.patches_of, Nodes.{nodes_of, pending_in}, Rows.IsTouched, declared.pending.Pending.Pending}
 use Rattle.fst_heads.proofs.Listing.{rising_patches}
-use Rattle.fst_walks.proofs.Overlapped.{touched_no_gate}
-use Rattle.fst_walks.proofs.Searched.{searched}
-use Rattle.fst_walks.proofs.Visiting.{none_met}
+use Rattle.fst_walks.specs.{Descending.Visits, Walks.numbers_met}
+use Rattle.fst_walks.proofs.{Overlapped.touched_no_gate, Searched.searched, Visiting.none_met}
+use Rattle.fst_heads.specs.declared.pending.Pending.TheVariants as pending
 use Rattle.fst_walks.proofs.overlap_cycle.overlap_reaches.Goals as goal
 
 pub returns-then-not-has_dependants-clause-reaches : goal.returns-then-not-has_dependants-clause-reaches

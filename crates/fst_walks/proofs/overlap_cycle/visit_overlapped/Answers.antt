@@ -1,18 +1,11 @@
 use Rattle.std.proofs.Common.{◌≡◌, ◌∙◌, ℕ, get_or, take, ap, subst, sym, arith}
-use Rattle.std.proofs.lemmas.List.{take_all, take_more}
-use Rattle.fst_heads.specs.declared.lists.Listed.{Listed}
-use Rattle.fst_heads.specs.declared.pending.Pending.TheVariants as pending
-use Rattle.fst_walks.specs.Walks.{numbers_met}
-use Rattle.fst_walks.specs.Descending.{Visits}
-use Rattle.fst_heads.specs.Heads.{patches_of}
-use Rattle.fst_heads.specs.Lists.{entry_of, entries_of}
-use Rattle.fst_heads.specs.Nodes.{nodes_of, pending_in}
-use Rattle.fst_heads.specs.Rows.{IsTouched}
-use Rattle.std.proofs.lemmas.List.{map_push}
-use Rattle.fst_walks.proofs.Overlapped.{IsSharing, sharing_none, sharing_more, sharing_skip, sharing_touched, touched_sharing}
-use Rattle.fst_walks.proofs.Visiting.{visits_same}
-use Rattle.fst_walks.proofs.overlap_cycle.visit_overlapped.Goals as goal
+use Rattle.std.proofs.lemmas.List.{take_all, take_more, map_push}
+use Rattle.fst_heads.specs.{Heads.patches_of, Lists.{entry_of, entries_of}, Nodes.{nodes_of, pending_in}, Rows.IsTouched, declared.lists.Listed.Listed}
+use Rattle.fst_walks.specs.{Descending.Visits, Walks.numbers_met}
+use Rattle.fst_walks.proofs.{Overlapped.{IsSharing, sharing_none, sharing_more, sharing_skip, sharing_touched, touched_sharing}, Visiting.visits_same}
 use Rattle.fst_walks.proofs.overlap_cycle.visit_overlapped.Goals.{then-shares, else-shares}
+use Rattle.fst_heads.specs.declared.pending.Pending.TheVariants as pending
+use Rattle.fst_walks.proofs.overlap_cycle.visit_overlapped.Goals as goal
 
 pub loop-listed-init : goal.loop-listed-init
 loop-listed-init c = record { visited = c.requires.visited; visits = sharing_none (λ n. pending_in (nodes_of c.args.heads.now) n ≡ pending.Held) c.args.span.at c.args.span.len (numbers_met c.args.heads.now c.args.walk.now) }

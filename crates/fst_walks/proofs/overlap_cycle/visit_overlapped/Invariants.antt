@@ -1,10 +1,8 @@
 use Rattle.std.proofs.Common.{◌≡◌, take}
-use Rattle.fst_heads.specs.declared.pending.Pending.TheVariants as pending
-use Rattle.fst_walks.specs.Walks.{numbers_met}
-use Rattle.fst_walks.specs.Descending.{Visited, Visits}
-use Rattle.fst_heads.specs.Lists.{entries_of}
-use Rattle.fst_heads.specs.Nodes.{nodes_of, pending_in}
+use Rattle.fst_heads.specs.{Lists.entries_of, Nodes.{nodes_of, pending_in}}
+use Rattle.fst_walks.specs.{Descending.{Visited, Visits}, Walks.numbers_met}
 use Rattle.fst_walks.proofs.Overlapped.{IsSharing}
+use Rattle.fst_heads.specs.declared.pending.Pending.TheVariants as pending
 use Rattle.fst_walks.proofs.overlap_cycle.visit_overlapped.Given as goal
 
 abbrev pub invariant-loop-listed : goal.invariant-loop-listed

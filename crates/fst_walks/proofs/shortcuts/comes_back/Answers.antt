@@ -1,10 +1,8 @@
 use Rattle.std.proofs.Common.{◌≡◌, ◌⊎◌, ◌∙◌, true, IfSome, sym, subst, inl, inr}
+use Rattle.fst_heads.specs.{Heads.patches_of, Marks.PassesAt}
+use Rattle.fst_walks.proofs.{NearRow.{IsOnPath, path_next, path_further, path_back}, shortcuts.comes_back.Goals.{then-away, else-away}}
 use Rattle.fst_heads.specs.declared.test.Test.TheVariants as test
-use Rattle.fst_heads.specs.Heads.{patches_of}
-use Rattle.fst_heads.specs.Marks.{PassesAt}
-use Rattle.fst_walks.proofs.NearRow.{IsOnPath, path_next, path_further, path_back}
 use Rattle.fst_walks.proofs.shortcuts.comes_back.Goals as goal
-use Rattle.fst_walks.proofs.shortcuts.comes_back.Goals.{then-away, else-away}
 
 pub returns-then-has_change : goal.returns-then-has_change
 returns-then-has_change c e =

@@ -1,10 +1,8 @@
 use Rattle.std.proofs.Common.{◌≡◌, ◌∙◌, ◌&&◌, get_or, sym, ap}
-use Rattle.fst_types.specs.declared.place.Place.TheVariants as place
 use Rattle.fst_types.specs.Tests.{is_change_at}
-use Rattle.fst_heads.specs.declared.head.Head.{Head}
-use Rattle.fst_heads.specs.Heads.{kind_of, patch_of}
-use Rattle.fst_heads.specs.Tests.{is_hard_kind}
+use Rattle.fst_heads.specs.{Heads.{kind_of, patch_of}, Tests.is_hard_kind, declared.head.Head.Head}
 use Rattle.fst_walks.proofs.NearRow.{no_patch, hard_here, here_hard}
+use Rattle.fst_types.specs.declared.place.Place.TheVariants as place
 use Rattle.fst_walks.proofs.shortcuts.is_hard_number.Goals as goal
 
 pub returns-in-Some : goal.returns-in-Some

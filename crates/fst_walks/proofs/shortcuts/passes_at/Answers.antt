@@ -1,7 +1,5 @@
 use Rattle.std.proofs.Common.{◌≡◌, ◌∙◌, get_or, sym, ap}
-use Rattle.fst_heads.specs.declared.head.Head.{Head}
-use Rattle.fst_heads.specs.Heads.{patch_of}
-use Rattle.fst_heads.specs.Tests.{passes}
+use Rattle.fst_heads.specs.{Heads.patch_of, Tests.passes, declared.head.Head.Head}
 use Rattle.fst_walks.proofs.NearRow.{no_patch, passes_here, here_passes}
 use Rattle.fst_walks.proofs.shortcuts.passes_at.Goals as goal
 

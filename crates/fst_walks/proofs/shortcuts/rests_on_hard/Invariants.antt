@@ -1,6 +1,5 @@
 use Rattle.std.proofs.Common.{ℕ, ◌<◌, get_or}
-use Rattle.fst_heads.specs.Heads.{patches_of}
-use Rattle.fst_heads.specs.Grading.{IsHardNumber}
+use Rattle.fst_heads.specs.{Grading.IsHardNumber, Heads.patches_of}
 use Rattle.fst_walks.proofs.shortcuts.rests_on_hard.Given as goal
 
 abbrev pub invariant-loop-number : goal.invariant-loop-number

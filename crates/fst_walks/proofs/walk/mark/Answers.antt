@@ -1,6 +1,5 @@
 use Rattle.std.proofs.Common.{take, get_or, subst, arith}
-use Rattle.std.proofs.lemmas.List.{take_all, take_more}
-use Rattle.std.proofs.lemmas.List.Elements.{Contains-get_or}
+use Rattle.std.proofs.{lemmas.List.{take_all, take_more}, lemmas.List.Elements.Contains-get_or}
 use Rattle.fst_walks.specs.Walks.{AreMarked}
 use Rattle.fst_walks.proofs.Trails.{marked_push}
 use Rattle.fst_walks.proofs.walk.mark.Goals as goal

@@ -1,6 +1,5 @@
 use Rattle.std.proofs.Common.{take, get_or, subst, arith}
-use Rattle.std.proofs.lemmas.List.{take_all, take_more}
-use Rattle.std.proofs.lemmas.List.Elements.{Contains-get_or}
+use Rattle.std.proofs.{lemmas.List.{take_all, take_more}, lemmas.List.Elements.Contains-get_or}
 use Rattle.fst_walks.proofs.Trails.{Unmarking, met_inside, unmarking_more, unmarking_all}
 use Rattle.fst_walks.proofs.walk.unmark.Goals as goal
 

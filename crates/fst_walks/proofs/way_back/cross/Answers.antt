@@ -1,30 +1,15 @@
-use Rattle.std.proofs.Common.{◌≡◌, ◌∙◌, ◌&&◌, ℕ, Some, refl, sym, ap, get_or, arith}
+use Rattle.std.proofs.Common.{◌≡◌, ◌∙◌, ◌&&◌, ℕ, sym, ap, get_or, arith}
 use Rattle.std.proofs.lemmas.Bool.{false≢true}
-use Rattle.fst_types.specs.declared.grade.Grade.{Grade}
-use Rattle.fst_types.specs.declared.place.Place.TheVariants as place
-use Rattle.fst_types.specs.Patches.{block_of_kind}
-use Rattle.fst_types.specs.Tests.{is_change_at}
-use Rattle.fst_heads.specs.declared.head.Kind.{Kind}
-use Rattle.fst_heads.specs.declared.head.Kind.TheVariants as kinds
-use Rattle.fst_heads.specs.declared.test.Test.TheVariants as test
-use Rattle.fst_walks.specs.Walks.{numbers_met}
-use Rattle.fst_walks.specs.WayBack.{Crosses}
-use Rattle.fst_heads.specs.Grading.{IsHardNumber}
-use Rattle.fst_heads.specs.Heads.{kind_of, patch_of, patches_of}
-use Rattle.fst_heads.specs.Marks.{PassesAt}
-use Rattle.fst_heads.specs.Reaching.{IsReached}
-use Rattle.fst_heads.specs.Tests.{is_hard_kind}
-use Rattle.fst_walks.proofs.CrossingBack.{hard_on_here, hard_same, crosses_from, crosses_to, shows_more, shows_same, crosses_none, shows_none}
-use Rattle.fst_walks.proofs.NearRow.{hard_here, here_hard}
+use Rattle.fst_types.specs.{Patches.block_of_kind, Tests.is_change_at}
+use Rattle.fst_heads.specs.{Grading.IsHardNumber, Heads.{kind_of, patch_of, patches_of}, Marks.PassesAt, Reaching.IsReached, Tests.is_hard_kind}
 use Rattle.fst_heads.proofs.Slots.{patch_at}
-use Rattle.fst_walks.proofs.Visiting.{visits_none, visits_same}
+use Rattle.fst_walks.specs.{Walks.numbers_met, WayBack.Crosses}
+use Rattle.fst_walks.proofs.Crossing.{no_change}
+use Rattle.fst_walks.proofs.CrossingBack.{hard_on_here, hard_same, crosses_from, crosses_to, shows_more, shows_same, crosses_none, shows_none}
+use Rattle.fst_walks.proofs.{NearRow.{hard_here, here_hard}, Visiting.{visits_none, visits_same}}
+use Rattle.fst_types.specs.declared.place.Place.TheVariants as place
+use Rattle.fst_heads.specs.declared.test.Test.TheVariants as test
 use Rattle.fst_walks.proofs.way_back.cross.Goals as goal
-
-no_change : (k : Kind) → ((block : ℕ) (span : _) (grade : Grade) → k ≡ kinds.Change block span grade → ⊥) → (c : ℕ) → block_of_kind (kind_of k) ≡ Some c → ⊥
-no_change (kinds.Change block span grade) none c e = none block span grade refl
-no_change kinds.Empty none c e = cc
-no_change kinds.OpenGate none c e = cc
-no_change kinds.SealedGate none c e = cc
 
 pub bounds-crossed-block : goal.bounds-crossed-block
 bounds-crossed-block c =

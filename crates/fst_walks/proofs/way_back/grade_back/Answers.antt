@@ -1,16 +1,11 @@
 use Rattle.std.proofs.Common.{◌↔◌, ◌∙◌, ℕ, Contains, sym, ap, subst, vec_len, arith}
 use Rattle.std.proofs.lemmas.Bool.{false≢true}
 use Rattle.fst_types.specs.Facts.{IsOnDiskWithAll}
-use Rattle.fst_heads.specs.declared.test.Test.TheVariants as test
-use Rattle.fst_heads.specs.Heads.{patches_of}
-use Rattle.fst_heads.specs.Marks.{PassesAt}
-use Rattle.fst_walks.specs.Walks.{numbers_met}
-use Rattle.fst_walks.specs.WayBack.{IsLiveOver}
-use Rattle.fst_walks.proofs.ComesBack.{met_soft, none_hard, over_soft}
-use Rattle.fst_heads.specs.Lists.{entries_of}
+use Rattle.fst_heads.specs.{Heads.patches_of, Lists.entries_of, Marks.PassesAt}
 use Rattle.fst_heads.proofs.Listing.{listed_at, rising_patches}
-use Rattle.fst_walks.proofs.CrossingBack.{few_listed}
-use Rattle.fst_walks.proofs.Away.{kept_with}
+use Rattle.fst_walks.specs.{Walks.numbers_met, WayBack.IsLiveOver}
+use Rattle.fst_walks.proofs.{Away.kept_with, ComesBack.{met_soft, none_hard, over_soft}, CrossingBack.few_listed}
+use Rattle.fst_heads.specs.declared.test.Test.TheVariants as test
 use Rattle.fst_walks.proofs.way_back.grade_back.Goals as goal
 
 pub returns-then-most-len-clause-ended : goal.returns-then-most-len-clause-ended

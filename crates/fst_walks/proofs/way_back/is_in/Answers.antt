@@ -1,6 +1,5 @@
 use Rattle.std.proofs.Common.{◌∙◌, sym}
-use Rattle.fst_types.proofs.Finite.{Contains-from_In}
-use Rattle.fst_types.proofs.Issuing.{among_in}
+use Rattle.fst_types.proofs.{Finite.Contains-from_In, Issuing.among_in}
 use Rattle.fst_walks.proofs.way_back.is_in.Goals as goal
 
 pub returns-then-row-le-SHORT : goal.returns-then-row-le-SHORT

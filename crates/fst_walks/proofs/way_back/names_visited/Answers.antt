@@ -1,6 +1,5 @@
 use Rattle.std.proofs.Common.{◌∙◌, ◌<◌, get_or, Contains, refl, sym, ap, subst, inl, inr, arith}
-use Rattle.std.proofs.lemmas.Bool.{cases_eq, false≢true}
-use Rattle.std.proofs.lemmas.List.Elements.{Contains-get_or}
+use Rattle.std.proofs.{lemmas.Bool.{cases_eq, false≢true}, lemmas.List.Elements.Contains-get_or}
 use Rattle.fst_heads.proofs.Slots.{any_default}
 use Rattle.fst_walks.specs.Walks.{numbers_met}
 use Rattle.fst_walks.proofs.way_back.names_visited.Goals as goal

@@ -1,17 +1,11 @@
 use Rattle.std.proofs.Common.{◌≡◌, ◌∙◌, map, take, get_or, Contains, subst, sym, ap, arith}
-use Rattle.std.proofs.lemmas.List.{take_all, take_more}
+use Rattle.std.proofs.lemmas.List.{take_all, take_more, map_push}
 use Rattle.fst_types.specs.Dependencies.{IsLiveNumber}
-use Rattle.fst_heads.specs.declared.lists.Listed.{Listed}
-use Rattle.fst_heads.specs.declared.test.Test.TheVariants as test
-use Rattle.fst_walks.specs.Walks.{numbers_met}
-use Rattle.fst_walks.specs.Descending.{Visits}
-use Rattle.fst_heads.specs.Heads.{patches_of}
-use Rattle.fst_heads.specs.Lists.{entries_of, entries_on}
-use Rattle.fst_heads.specs.Marks.{PassesAt}
-use Rattle.std.proofs.lemmas.List.{map_push}
-use Rattle.fst_walks.proofs.CrossingBack.{change_listed, listed_change, change_live}
+use Rattle.fst_heads.specs.{Heads.patches_of, Lists.{entries_of, entries_on}, Marks.PassesAt, declared.lists.Listed.Listed}
 use Rattle.fst_heads.proofs.Listing.{listed_at}
-use Rattle.fst_walks.proofs.Visiting.{visits_next, visits_same}
+use Rattle.fst_walks.specs.{Descending.Visits, Walks.numbers_met}
+use Rattle.fst_walks.proofs.{CrossingBack.{change_listed, listed_change, change_live}, Visiting.{visits_next, visits_same}}
+use Rattle.fst_heads.specs.declared.test.Test.TheVariants as test
 use Rattle.fst_walks.proofs.way_back.visit_changes.Goals as goal
 
 pub loop-listed-preserved : goal.loop-listed-preserved

@@ -1,8 +1,7 @@
 use Rattle.std.proofs.Common.{map, take, Contains}
 use Rattle.fst_types.specs.Dependencies.{IsLiveNumber}
-use Rattle.fst_walks.specs.Walks.{numbers_met}
-use Rattle.fst_walks.specs.Descending.{Visited, Visits}
 use Rattle.fst_heads.specs.Heads.{patches_of}
+use Rattle.fst_walks.specs.{Descending.{Visited, Visits}, Walks.numbers_met}
 use Rattle.fst_walks.proofs.way_back.visit_changes.Given as goal
 
 abbrev pub invariant-loop-listed : goal.invariant-loop-listed

@@ -1,13 +1,9 @@
 use Rattle.std.proofs.Common.{length, subst, sym}
 use Rattle.fst_types.specs.Facts.{IsOnDiskWithAll}
+use Rattle.fst_walks.proofs.{ComesBack.{is_over, met_over}, Visiting.none_met}
+use Rattle.fst_heads.specs.{Heads.patches_of, Keeps.IsInside, Marks.PassesAt}
+use Rattle.fst_walks.specs.{Descending.Visits, Walks.numbers_met}
 use Rattle.fst_heads.specs.declared.test.Test.TheVariants as test
-use Rattle.fst_walks.specs.Walks.{numbers_met}
-use Rattle.fst_walks.specs.Descending.{Visits}
-use Rattle.fst_heads.specs.Heads.{patches_of}
-use Rattle.fst_heads.specs.Marks.{PassesAt}
-use Rattle.fst_heads.specs.Keeps.{IsInside}
-use Rattle.fst_walks.proofs.Visiting.{none_met}
-use Rattle.fst_walks.proofs.WalkingBack.{is_over, met_over}
 use Rattle.fst_walks.proofs.way_back.visit_over.Goals as goal
 
 pub returns-clause-only : goal.returns-clause-only

@@ -1,15 +1,10 @@
-use Rattle.std.proofs.Common.{◌≡◌, ◌<◌, length, get_or, Contains, sym, subst, arith}
+use Rattle.std.proofs.Common.{◌≡◌, ◌≤◌, ◌<◌, length, get_or, Contains, sym, subst, arith}
 use Rattle.fst_types.specs.Dependencies.{DirectlyOn, IsLiveNumber}
-use Rattle.fst_heads.specs.declared.head.Head.{Head}
-use Rattle.fst_walks.specs.Descending.{Visits}
-use Rattle.fst_walks.specs.Walks.{numbers_met}
-use Rattle.fst_heads.specs.Heads.{patches_of}
-use Rattle.fst_walks.specs.WayBack.{Crosses, ShowsBlockOf}
-use Rattle.fst_walks.proofs.CrossingBack.{above_from, above_to}
-use Rattle.fst_heads.proofs.PendingAt.{node_in}
-use Rattle.fst_heads.proofs.Slots.{any_default, slot_here}
-use Rattle.fst_walks.proofs.Visiting.{long_met, slot_met, visits_same}
-use Rattle.fst_walks.proofs.WalkingBack.{walking_more, walking_all}
+use Rattle.fst_heads.specs.{Grading.IsHardNumber, Heads.patches_of, Marks.PassesAt, declared.head.Head.Head}
+use Rattle.fst_heads.proofs.{PendingAt.node_in, Slots.{any_default, slot_here}}
+use Rattle.fst_walks.specs.{Descending.Visits, Walks.numbers_met, WayBack.{Crosses, StepsUp, ShowsBlockOf}}
+use Rattle.fst_walks.proofs.{Ascended.{walking_more, climbing_all}, CrossingBack.{above_from, above_to}, Visiting.{long_met, slot_met, visits_same}}
+use Rattle.fst_heads.specs.declared.test.Test.TheVariants as test
 use Rattle.fst_walks.proofs.way_back.walk_back.Goals as goal
 
 pub cross-requires-clause-slot : goal.cross-requires-clause-slot
@@ -45,7 +40,10 @@ loop-at-preserved c =
     let shown = subst (λ m. ShowsBlockOf patches m now c.cross.new.crossed) number c.cross.ensures.crossed in
     record {
       visited = c.cross.ensures.visited;
-      walking = walking_more patches c.args.crossed.now (numbers_met heads c.args.walk.now) at now c.cross.new.crossed met mid new (omega (arith, lt, long_met heads walk)) c.loop-at.invariant.walking above across shown;
+      walking = walking_more (λ p q. DirectlyOn patches q p × IsLiveNumber patches q) (IsHardNumber patches) (λ b q. PassesAt (test.LiveOn b) patches q) (Crosses patches)
+          (λ old p q b hard fresh change. record { block = b; hard = hard; fresh = fresh; change = change })
+          (λ old p q k. (k.block, k.hard, k.fresh, k.change))
+          c.args.crossed.now (numbers_met heads c.args.walk.now) at now c.cross.new.crossed met mid new (omega (arith, lt, long_met heads walk)) c.loop-at.invariant.walking above across shown.kept shown.only;
     }
 
 -- one of the row was met
@@ -53,16 +51,17 @@ pub returns-then-meets_one-clause-meets : goal.returns-then-meets_one-clause-mee
 returns-then-meets_one-clause-meets c yes_it none = let met = c.meets_one.ensures c.if-meets_one.true in absurd (none met.0 met.1 met.2)
 
 pub returns-then-meets_one-clause-only : goal.returns-then-meets_one-clause-only
-returns-then-meets_one-clause-only c = c.loop-at.invariant.walking.only
+returns-then-meets_one-clause-only c = c.loop-at.invariant.walking.climbing.only
 
 pub returns-then-len-most-clause-only : goal.returns-then-len-most-clause-only
-returns-then-len-most-clause-only c = c.loop-at.invariant.walking.only
+returns-then-len-most-clause-only c = c.loop-at.invariant.walking.climbing.only
 
 pub returns-clause-only : goal.returns-clause-only
-returns-clause-only c = c.loop-at.invariant.walking.only
+returns-clause-only c = c.loop-at.invariant.walking.climbing.only
 
 pub returns-clause-meets : goal.returns-clause-meets
 returns-clause-meets c yes_it none =
     let heads = c.args.sight.now.heads.now in
-    walking_all (patches_of heads) c.args.crossed.now (numbers_met heads c.args.walk.now) c.loop-at.at c.loop-at.crossed (numbers_met heads c.loop-at.walk)
-    (omega (arith, c.loop-at-test.false, c.len.ensures.long, long_met heads c.loop-at.walk)) c.loop-at.invariant.walking
+    let walking = c.loop-at.invariant.walking in
+    let past : length (numbers_met heads c.loop-at.walk) ≤ c.loop-at.at = omega (arith, c.loop-at-test.false, c.len.ensures.long, long_met heads c.loop-at.walk) in
+    record { only = walking.climbing.only; each = λ n. (climbing_all (StepsUp (patches_of heads) c.args.crossed.now) (numbers_met heads c.args.walk.now) c.loop-at.at (numbers_met heads c.loop-at.walk) past walking.climbing n).1 }

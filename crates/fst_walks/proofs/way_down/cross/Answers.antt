@@ -1,26 +1,12 @@
-use Rattle.std.proofs.Common.{◌≡◌, ◌∙◌, ℕ, Some, refl, sym, ap, arith}
+use Rattle.std.proofs.Common.{◌∙◌, sym, ap, arith}
 use Rattle.std.proofs.lemmas.Bool.{false≢true}
-use Rattle.fst_types.specs.declared.grade.Grade.{Grade}
 use Rattle.fst_types.specs.Patches.{block_of_kind}
-use Rattle.fst_heads.specs.declared.head.Kind.{Kind}
-use Rattle.fst_heads.specs.declared.head.Kind.TheVariants as kinds
-use Rattle.fst_walks.specs.Walks.{numbers_met}
-use Rattle.fst_walks.specs.WayDown.{Crosses}
-use Rattle.fst_heads.specs.Grading.{IsHardNumber}
-use Rattle.fst_heads.specs.Heads.{kind_of, patches_of}
-use Rattle.fst_heads.specs.Lists.{entries_of}
-use Rattle.fst_heads.specs.Reaching.{IsReached}
-use Rattle.fst_walks.proofs.Crossing.{crosses_from, crosses_to, shows_more, shows_same, crosses_none, shows_none}
-use Rattle.fst_heads.proofs.Listing.{listed_at}
-use Rattle.fst_heads.proofs.Slots.{patch_at}
+use Rattle.fst_heads.specs.{Grading.IsHardNumber, Heads.{kind_of, patches_of}, Lists.entries_of, Reaching.IsReached}
+use Rattle.fst_heads.proofs.{Listing.listed_at, Slots.patch_at}
+use Rattle.fst_walks.specs.{Walks.numbers_met, WayDown.Crosses}
+use Rattle.fst_walks.proofs.Crossing.{no_change, crosses_from, crosses_to, shows_more, shows_same, crosses_none, shows_none}
 use Rattle.fst_walks.proofs.Visiting.{visits_none, visits_same}
 use Rattle.fst_walks.proofs.way_down.cross.Goals as goal
-
-no_change : (k : Kind) → ((block : ℕ) (span : _) (grade : Grade) → k ≡ kinds.Change block span grade → ⊥) → (c : ℕ) → block_of_kind (kind_of k) ≡ Some c → ⊥
-no_change (kinds.Change block span grade) none c e = none block span grade refl
-no_change kinds.Empty none c e = cc
-no_change kinds.OpenGate none c e = cc
-no_change kinds.SealedGate none c e = cc
 
 pub bounds-crossed-block : goal.bounds-crossed-block
 bounds-crossed-block c =

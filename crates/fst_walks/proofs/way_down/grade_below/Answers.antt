@@ -1,14 +1,11 @@
 use Rattle.std.proofs.Common.{◌↔◌, ◌∙◌, ℕ, Contains, sym}
 use Rattle.std.proofs.lemmas.Bool.{false≢true}
 use Rattle.fst_types.specs.Facts.{IsOnDiskWithAll}
-use Rattle.fst_heads.specs.declared.test.Test.TheVariants as test
-use Rattle.fst_walks.specs.Walks.{numbers_met}
-use Rattle.fst_walks.specs.WayDown.{IsLiveUnder}
-use Rattle.fst_heads.specs.Heads.{patches_of}
-use Rattle.fst_heads.specs.Marks.{PassesAt}
-use Rattle.fst_walks.proofs.HeldBelow.{met_leads, unmet_nowhere}
+use Rattle.fst_heads.specs.{Heads.patches_of, Marks.PassesAt}
 use Rattle.fst_heads.proofs.Listing.{rising_patches}
-use Rattle.fst_walks.proofs.Away.{kept_with}
+use Rattle.fst_walks.specs.{Walks.numbers_met, WayDown.IsLiveUnder}
+use Rattle.fst_walks.proofs.{Away.kept_with, HeldBelow.{met_leads, unmet_nowhere}}
+use Rattle.fst_heads.specs.declared.test.Test.TheVariants as test
 use Rattle.fst_walks.proofs.way_down.grade_below.Goals as goal
 
 pub returns-then-meets_change-clause-graded : goal.returns-then-meets_change-clause-graded

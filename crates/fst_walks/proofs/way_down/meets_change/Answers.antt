@@ -1,16 +1,10 @@
 use Rattle.std.proofs.Common.{◌≡◌, ◌∙◌, ◌<◌, get_or, length, refl, sym, ap, subst, inl, inr, arith}
-use Rattle.std.proofs.lemmas.Bool.{cases_eq, false≢true}
-use Rattle.std.proofs.lemmas.List.Elements.{Contains-get_or}
-use Rattle.fst_heads.specs.declared.head.Head.{Head}
-use Rattle.fst_heads.specs.declared.test.Test.{Test}
-use Rattle.fst_heads.specs.declared.test.Test.TheVariants as test
-use Rattle.fst_heads.specs.Heads.{patch_of, patches_of}
-use Rattle.fst_heads.specs.Marks.{PassesAt}
-use Rattle.fst_heads.specs.Tests.{passes}
+use Rattle.std.proofs.{lemmas.Bool.{cases_eq, false≢true}, lemmas.List.Elements.Contains-get_or}
+use Rattle.fst_heads.specs.{Heads.{patch_of, patches_of}, Marks.PassesAt, Tests.passes, declared.head.Head.Head, declared.test.Test.Test}
 use Rattle.fst_heads.proofs.Slots.{any_default}
 use Rattle.fst_walks.specs.Walks.{numbers_met}
-use Rattle.fst_walks.proofs.NearRow.{passes_here, here_passes}
-use Rattle.fst_walks.proofs.Visiting.{long_met, slot_met}
+use Rattle.fst_walks.proofs.{NearRow.{passes_here, here_passes}, Visiting.{long_met, slot_met}}
+use Rattle.fst_heads.specs.declared.test.Test.TheVariants as test
 use Rattle.fst_walks.proofs.way_down.meets_change.Goals as goal
 
 pub returns-then-passes : goal.returns-then-passes

@@ -1,8 +1,7 @@
 use Rattle.std.proofs.Common.{ℕ, ◌<◌, get_or}
-use Rattle.fst_heads.specs.declared.test.Test.TheVariants as test
-use Rattle.fst_heads.specs.Heads.{patches_of}
-use Rattle.fst_heads.specs.Marks.{PassesAt}
+use Rattle.fst_heads.specs.{Heads.patches_of, Marks.PassesAt}
 use Rattle.fst_walks.specs.Walks.{numbers_met}
+use Rattle.fst_heads.specs.declared.test.Test.TheVariants as test
 use Rattle.fst_walks.proofs.way_down.meets_change.Given as goal
 
 abbrev pub invariant-loop-at : goal.invariant-loop-at

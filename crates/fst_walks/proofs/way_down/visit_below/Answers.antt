@@ -1,12 +1,8 @@
 use Rattle.std.proofs.Common.{Contains, length, sym, subst}
-use Rattle.fst_types.specs.Dependencies.{IsLiveNumber}
-use Rattle.fst_types.specs.Facts.{IsOnDiskWithAll}
-use Rattle.fst_walks.specs.Walks.{numbers_met}
-use Rattle.fst_walks.specs.Descending.{Visits}
-use Rattle.fst_heads.specs.Heads.{patches_of}
-use Rattle.fst_heads.specs.Keeps.{IsInside}
-use Rattle.fst_walks.proofs.Beneath.{met_under}
-use Rattle.fst_walks.proofs.Visiting.{none_met}
+use Rattle.fst_walks.proofs.{HeldBelow.met_under, Visiting.none_met}
+use Rattle.fst_types.specs.{Dependencies.IsLiveNumber, Facts.IsOnDiskWithAll}
+use Rattle.fst_heads.specs.{Heads.patches_of, Keeps.IsInside}
+use Rattle.fst_walks.specs.{Descending.Visits, Walks.numbers_met}
 use Rattle.fst_walks.proofs.way_down.visit_below.Goals as goal
 
 pub returns-clause-below : goal.returns-clause-below

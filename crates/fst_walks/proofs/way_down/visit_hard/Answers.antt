@@ -1,17 +1,11 @@
 use Rattle.std.proofs.Common.{◌∙◌, map, take, get_or, Contains, subst, sym, ap, arith}
-use Rattle.std.proofs.lemmas.Bool.{false≢true}
-use Rattle.std.proofs.lemmas.List.{take_all, take_more}
+use Rattle.std.proofs.{lemmas.Bool.false≢true, lemmas.List.{take_all, take_more, map_push}}
 use Rattle.fst_types.specs.Dependencies.{IsLiveNumber}
-use Rattle.fst_heads.specs.declared.lists.Listed.{Listed}
-use Rattle.fst_walks.specs.Walks.{numbers_met}
-use Rattle.fst_walks.specs.Descending.{Visits}
-use Rattle.fst_heads.specs.Grading.{IsHardNumber}
-use Rattle.fst_heads.specs.Heads.{patches_of}
-use Rattle.fst_walks.proofs.Crossing.{hard_live, hard_listed}
-use Rattle.std.proofs.lemmas.List.{map_push}
-use Rattle.fst_walks.proofs.Visiting.{visits_next, visits_same, visits_skip}
-use Rattle.fst_walks.proofs.way_down.visit_hard.Goals as goal
+use Rattle.fst_heads.specs.{Grading.IsHardNumber, Heads.patches_of, declared.lists.Listed.Listed}
+use Rattle.fst_walks.specs.{Descending.Visits, Walks.numbers_met}
+use Rattle.fst_walks.proofs.{Crossing.{hard_live, hard_listed}, Visiting.{visits_next, visits_same, visits_skip}}
 use Rattle.fst_walks.proofs.way_down.visit_hard.Goals.{then-is_hard_number, else-is_hard_number}
+use Rattle.fst_walks.proofs.way_down.visit_hard.Goals as goal
 
 pub loop-listed-preserved : goal.loop-listed-preserved
 loop-listed-preserved c =

@@ -1,14 +1,11 @@
-use Rattle.std.proofs.Common.{◌≡◌, ◌<◌, length, get_or, Contains, sym, subst, arith}
+use Rattle.std.proofs.Common.{◌≡◌, ◌≤◌, ◌<◌, length, get_or, Contains, sym, subst, arith}
 use Rattle.std.proofs.lemmas.List.Elements.{Contains-get_or}
 use Rattle.fst_types.specs.Dependencies.{DirectlyOn, IsLiveNumber}
-use Rattle.fst_heads.specs.declared.head.Head.{Head}
-use Rattle.fst_walks.specs.Descending.{Visits}
-use Rattle.fst_walks.specs.Walks.{numbers_met}
-use Rattle.fst_walks.specs.WayDown.{Crosses, ShowsBlockOf}
-use Rattle.fst_heads.specs.Heads.{patches_of}
-use Rattle.fst_walks.proofs.Descended.{walking_more, walking_all}
+use Rattle.fst_heads.specs.{Grading.IsHardNumber, Heads.patches_of, Marks.PassesAt, declared.head.Head.Head}
 use Rattle.fst_heads.proofs.Slots.{direct_at, named_at, slot_here}
-use Rattle.fst_walks.proofs.Visiting.{long_met, slot_met, visits_same}
+use Rattle.fst_walks.specs.{Descending.Visits, Walks.numbers_met, WayDown.{Crosses, StepsTo, ShowsBlockOf}}
+use Rattle.fst_walks.proofs.{Ascended.{walking_more, climbing_all}, Visiting.{long_met, slot_met, visits_same}}
+use Rattle.fst_heads.specs.declared.test.Test.TheVariants as test
 use Rattle.fst_walks.proofs.way_down.walk_down.Goals as goal
 
 pub cross-requires-clause-live : goal.cross-requires-clause-live
@@ -53,11 +50,15 @@ loop-at-preserved c =
     let shown = subst (λ m. ShowsBlockOf patches m now c.cross.new.crossed) same c.cross.ensures.crossed in
     record {
       visited = c.cross.ensures.visited;
-      walking = walking_more patches c.args.crossed.now (numbers_met heads c.args.walk.now) at now c.cross.new.crossed met mid new (omega (arith, lt, long_met heads walk)) c.loop-at.invariant.walking direct across shown;
+      walking = walking_more (λ p q. DirectlyOn patches p q × IsLiveNumber patches q) (λ b p. PassesAt (test.LiveOn b) patches p) (IsHardNumber patches) (Crosses patches)
+          (λ old p q b change fresh hard. record { block = b; change = change; fresh = fresh; hard = hard })
+          (λ old p q k. (k.block, k.change, k.fresh, k.hard))
+          c.args.crossed.now (numbers_met heads c.args.walk.now) at now c.cross.new.crossed met mid new (omega (arith, lt, long_met heads walk)) c.loop-at.invariant.walking direct across shown.kept shown.only;
     }
 
 pub returns-clause-meets : goal.returns-clause-meets
 returns-clause-meets c all =
     let heads = c.args.sight.now.heads.now in
-    walking_all (patches_of heads) c.args.crossed.now (numbers_met heads c.args.walk.now) c.loop-at.at c.loop-at.crossed (numbers_met heads c.loop-at.walk)
-    (omega (arith, c.loop-at-test.false, c.len.ensures.long, long_met heads c.loop-at.walk)) c.loop-at.invariant.walking
+    let walking = c.loop-at.invariant.walking in
+    let past : length (numbers_met heads c.loop-at.walk) ≤ c.loop-at.at = omega (arith, c.loop-at-test.false, c.len.ensures.long, long_met heads c.loop-at.walk) in
+    record { only = walking.climbing.only; each = λ n. (climbing_all (StepsTo (patches_of heads) c.args.crossed.now) (numbers_met heads c.args.walk.now) c.loop-at.at (numbers_met heads c.loop-at.walk) past walking.climbing n).1 }
