@@ -11,6 +11,7 @@ the script is.
 import json
 import math
 import os
+import random
 import subprocess
 import sys
 import tempfile
@@ -68,6 +69,62 @@ def overlaps(lines):
         yield patch(0, i * 61 % 4033, "41" * 64)
 
 
+def ring(lines):
+    """Over 64 blocks in turn, each patch after the newest of the next block: the blocks hold one another back in a ring."""
+    for i in range(lines):
+        block = i % 64
+        newest = i - 63 if block < 63 else i - 126
+        yield patch(block, i // 64 % 4096, "41", [newest + 1] if newest >= 0 else [])
+
+
+def ladder(lines):
+    """Over 64 blocks in turn, a patch that waits for none, and one that waits for such a patch of the block before."""
+    free, made, step = {}, 0, 0
+    while made < lines:
+        block = step % 64
+        yield patch(block, 2 * (step // 64) % 4096, "41")
+        made += 1
+        before = free.get((block - 1) % 64)
+        free[block] = made
+        if before and made < lines:
+            yield patch(block, (2 * (step // 64) + 1) % 4096, "42", [before])
+            made += 1
+        step += 1
+
+
+def random_rows(lines):
+    """Over 256 blocks, each patch after up to three of the 600 before it; none is written."""
+    rng = random.Random(5)
+    for i in range(lines):
+        names = [rng.randrange(max(1, i - 600), i + 1) for _ in range(rng.choice((1, 2, 3)))] if i > 2 else []
+        yield patch(rng.randrange(256), rng.randrange(4096), "41", names)
+
+
+def soft_below(lines):
+    """A chain over two blocks in turn, and three times as many patches on 100 others, each after one of the chain."""
+    rng = random.Random(6)
+    chained = lines // 4
+    for i in range(lines):
+        if i < chained:
+            yield patch(i % 2, i // 2 % 4096, "41", [i] if i else [])
+        else:
+            yield patch(2 + i % 100, i // 100 % 4096, "42", [rng.randrange(1, chained)])
+
+
+def wide_gate(lines):
+    """Half of the patches below one gate, half above it, over two halves of 128 blocks; then the gate is sealed."""
+    half = (lines - 2) * 32 // 65
+    for i in range(half):
+        yield patch(i % 64, i // 64 % 4096, "41")
+    gate = half + 1
+    yield {"do": "gate"}
+    for i in range(0, half, 64):
+        yield {"do": "depend", "gate": gate, "on": list(range(i + 1, min(i + 65, half + 1)))}
+    for i in range(half):
+        yield patch(64 + i % 64, i // 64 % 4096, "42", [gate])
+    yield {"do": "seal", "gate": gate}
+
+
 def short(lines):
     """Lines that ask for nothing but the least writable block."""
     for _ in range(lines):
@@ -80,6 +137,11 @@ WORKLOADS = [
     (fan, 15000),
     (churn, 15000),
     (overlaps, 5000),
+    (ring, 2500),
+    (ladder, 2500),
+    (random_rows, 2500),
+    (soft_below, 2500),
+    (wide_gate, 15000),
     (short, 15000),
 ]
 
