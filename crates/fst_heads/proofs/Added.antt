@@ -1,6 +1,5 @@
 -- The nodes where a patch is made, and where a gate gains names.
-use Rattle.fst_heads.proofs.Basics.{ℕ, List, [], ◌∷◌, ◌++◌, map}
-use Rattle.fst_heads.proofs.Patches.{Patch}
+use Rattle.fst_heads.proofs.{Basics.{ℕ, List, [], ◌∷◌, ◌++◌, map}, Patches.Patch}
 use Rattle.fst_heads.proofs.Words.{Sums, Node, at_number, linked_to, gains_names, pending_in, joined, of_kind, sums_of}
 
 -- the node of a new patch

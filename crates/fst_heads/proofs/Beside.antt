@@ -2,8 +2,7 @@
 use Rattle.fst_heads.proofs.Basics.{◌≡◌, ℕ, ◌+◌, ◌-◌, ◌≤◌, ◌==◌, Bool, true, false, cond, if◌then◌else◌, List, [], ◌∷◌, ◌++◌, map, filter, length, count_by, refl, sym, ap, subst, ◌∙◌, inl, inr, arith, cases_Bool, length-map, count_by-le-length, rules, suc, ◌<◌, not, AllPairs, cases_eq, false≢true, common_steps}
 use Rattle.fst_heads.proofs.Patches.{Place, gains, Patch, is_at, is_live, SealedGate, In, In-from_Contains, Contains-from_In}
 use Rattle.fst_heads.proofs.Words.{Head, patch_of, patches_of, Beside, Node, node_of, nodes_of, at_number, AreSettled, is_waiting, seals, Pending, patches_in, is_pending, Sinks, is_told, now, settles, heard}
-use Rattle.fst_heads.proofs.AtNumber.{patches_in_nodes, at_same, at_other}
-use Rattle.fst_heads.proofs.CountsAs.{count_append, count_cons, count_kept, count_map}
+use Rattle.fst_heads.proofs.{AtNumber.{patches_in_nodes, at_same, at_other}, CountsAs.{count_append, count_cons, count_kept, count_map}}
 use Rattle.fst_heads.proofs.Forgetting.{live_place_of}
 use Rattle.fst_heads.proofs.Patches.place
 use Rattle.fst_heads.proofs.Words.pending

@@ -1,6 +1,5 @@
 -- What a spread, a seal and a landing keep: links, what was given, and the lists.
-use Rattle.fst_heads.proofs.Basics.{◌≡◌, ℕ, List, length, map, sym, ap, ◌∙◌, length-map, rules}
-use Rattle.fst_heads.proofs.Patches.{all_settled}
+use Rattle.fst_heads.proofs.{Basics.{◌≡◌, ℕ, List, length, map, sym, ap, ◌∙◌, length-map, rules}, Patches.all_settled}
 use Rattle.fst_heads.proofs.Words.{Entry, AreListed, Node, patches_in, at_number, AreLinked, AreGiven, AreDistinct, IsSpreadOf, unspread, seals, lands}
 use Rattle.fst_heads.proofs.Placed.{links_mapped, linked_kept, given_kept, distinct_kept, links_spread, unsettled_spread, entries_settled}
 use Rattle.fst_heads.proofs.Starting.{seal_same, land_same}

@@ -1,16 +1,13 @@
 -- What the covers of the blocks keep from call to call.
 use Rattle.fst_heads.proofs.Basics.{◌≡◌, ◌⊎◌, ◌<◌, ◌≤◌, ◌+◌, ◌++◌, ◌∷◌, ◌∙◌, [], ℕ, true, List, map, filter, get_or, set, Contains, refl, sym, ap, subst, inl, inr, arith, cases_lt, cases_eq, eqb-false, length-set, or_parts, rules, get_or-set_other, Contains-push_cases, common_steps, Contains-append_left}
 use Rattle.fst_heads.proofs.Basics.{Contains-append_right}
+use Rattle.fst_heads.proofs.{Words.{Covering, IsOver, IsCovered, AreCovered, Covers, IsLonger, IsPut, HasBytes, newest_over, IsSparseRow}, Newest.over_touched}
+use Rattle.fst_heads.proofs.{Leading.some_injective, Forgetting.live_place_of}
 use Rattle.std.proofs.lemmas.Grind.{get_or-set_at}
 use Rattle.fst_types.specs.Closure.{one, join}
-use Rattle.fst_types.proofs.Depending.{Grown, grown}
-use Rattle.fst_types.proofs.Alike.{Alike, at_same, len_same, on_back, on_forth, back_alike, forth_alike, closure_map}
+use Rattle.fst_types.proofs.{Depending.{Grown, grown}, Alike.{Alike, at_same, len_same, on_back, on_forth, back_alike, forth_alike, closure_map}}
 use Rattle.fst_heads.proofs.Patches.{Grade, DirectlyOn, DependsOn, IsLiveNumber, IsOnDiskWithAll, gains, fresh, Patch, Change, IsOn, at_of, len_of, IsLive, Rising as IsRising, block_of_kind, is_live, filter_in, in_filter, same_number, In-from_Contains, Contains-from_In, In-map, In-unmap}
 use Rattle.fst_heads.proofs.Patches.place
-use Rattle.fst_heads.proofs.Words.{Covering, IsOver, IsCovered, AreCovered, Covers, IsLonger, IsPut, HasBytes, newest_over, IsSparseRow}
-use Rattle.fst_heads.proofs.Newest.{over_touched}
-use Rattle.fst_heads.proofs.Leading.{some_injective}
-use Rattle.fst_heads.proofs.Forgetting.{live_place_of}
 
 -- each live change of the new heads was one of the old ones, and what is over a byte, and is or depends on what is live there, still does
 module _ (old new : List Patch)

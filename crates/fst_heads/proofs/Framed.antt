@@ -1,9 +1,7 @@
 -- A head that was changed but for its number and its rows.
 use Rattle.fst_heads.proofs.Basics.{◌≡◌, ◌≢◌, ◌++◌, ℕ, zero, suc, ◌<◌, List, [], ◌∷◌, length, get_or, set, Contains, refl, sym, ap, subst, ◌∙◌, inl, inr, arith, Contains-push_cases, HasRoomFor, rules}
-use Rattle.fst_heads.proofs.Patches.{In, In-from_Contains, Contains-from_In}
-use Rattle.fst_heads.proofs.Words.{Head, frame_of, frames_of, HasRoomBelow, IsRising, HasSlot, HasRoomAbove}
-use Rattle.fst_heads.proofs.Linking.{set_cases}
-use Rattle.fst_heads.proofs.Slots.{any_default, slot_unique}
+use Rattle.fst_heads.proofs.{Patches.{In, In-from_Contains, Contains-from_In}, Words.{Head, frame_of, frames_of, HasRoomBelow, IsRising, HasSlot, HasRoomAbove}}
+use Rattle.fst_heads.proofs.{Linking.set_cases, Slots.{any_default, slot_unique}}
 
 pub frames_set : (heads : List Head) (s : ℕ) (y d : Head) → s < length heads → frame_of y ≡ frame_of (get_or heads s d) → frames_of (set heads s y) ≡ frames_of heads
 frames_set [] s y d lt e = absurd (omega (arith, lt))

@@ -1,9 +1,8 @@
 -- Marks by blocks that are reached, and how blocks come to be reached.
 use Rattle.fst_heads.proofs.Basics.{◌≡◌, ◌⊎◌, ℕ, ◌<◌, Bool, true, false, List, length, get_or, set, Contains, Some, MatchBool, sym, subst, ◌∙◌, arith, get_or-set_same, get_or-set_other, cases_Bool, cases_eq, sum_by-set}
-use Rattle.fst_heads.proofs.Patches.{Patch, IsOn}
-use Rattle.fst_heads.proofs.Words.{Head, IsRising, patch_of, patches_of, HasSlot, Has}
-use Rattle.fst_heads.specs.Reaching.{IsReached, unreached, IsHardIn}
+use Rattle.fst_heads.proofs.{Patches.{Patch, IsOn}, Words.{Head, IsRising, patch_of, patches_of, HasSlot, Has}}
 use Rattle.fst_heads.proofs.Slots.{some_element, slot_in, patch_slot, patch_is}
+use Rattle.fst_heads.specs.Reaching.{IsReached, unreached, IsHardIn}
 
 pub some_injective : (a b : ℕ) → Some a ≡ Some b → a ≡ b
 some_injective a b e = cc

@@ -1,10 +1,8 @@
 -- Loops along a row that change the head of each of its numbers.
 use Rattle.fst_heads.proofs.Basics.{◌≡◌, ◌≢◌, ◌⊎◌, ℕ, zero, suc, ◌+◌, ◌<◌, ◌≤◌, Bool, true, false, List, [], ◌∷◌, ◌++◌, take, length, map, get_or, set, Contains, if◌then◌else◌, refl, sym, ap, subst, ◌∙◌, inl, inr, arith, get_or-set_same, get_or-set_other, IsStrictlyIncreasing, or-true, AllPairs, length-set}
-use Rattle.fst_heads.proofs.Basics.{cases_eq, eq-eqb, ne_eqb, take_more, AllPairs-from_increasing, HasRoomFor}
-use Rattle.fst_heads.proofs.Patches.{is_among, In}
+use Rattle.fst_heads.proofs.{Basics.{cases_eq, eq-eqb, ne_eqb, take_more, AllPairs-from_increasing, HasRoomFor}, Patches.{is_among, In}}
 use Rattle.fst_heads.proofs.Words.{Head, IsRising, HasSlot, HasNone, Node, node_of, nodes_of, at_number, linked_to, HasRoomAbove}
-use Rattle.fst_heads.proofs.AtNumber.{at_other, at_same}
-use Rattle.fst_heads.proofs.Slots.{any_default, slot_unique, rising_map, rising_back}
+use Rattle.fst_heads.proofs.{AtNumber.{at_other, at_same}, Slots.{any_default, slot_unique, rising_map, rising_back}}
 
 -- and rise as they did
 pub rising_as : (f : Node → Node) → ((x : Node) → (f x).patch.number ≡ x.patch.number) → (new old : List Head) → nodes_of new ≡ map f (nodes_of old) → IsRising old → IsRising new

@@ -3,11 +3,8 @@ use Rattle.fst_heads.proofs.Basics.{◌≡◌, ◌≢◌, ◌==◌, ◌&&◌, �
 use Rattle.fst_heads.proofs.Basics.{length-append, get_or-map, ◌+◌, filter, subst, get_or-set_same, get_or-set_other, length-set, AllPairs, IsStrictlyIncreasing, AllPairs-filter, and_parts, cases_eq, false≢true, length-map}
 use Rattle.fst_heads.proofs.Patches.{Place, Kind, Change, Patch, Rising, block_of_kind, is_at, is_on, is_change_at, landed, In, In-from_Contains, Contains-from_In, is_among, is_live, In-map, same_number, filter_in, in_filter, among_in, in_among}
 use Rattle.fst_heads.proofs.Words.{Head, lands, IsRising, patch_of, patches_of, Entry, is_live_on, entries_on, flying_on, AreListed, HasSlot, HasNone, Node, node_of, nodes_of, patches_in, at_number, Listed, entry, entries_of}
-use Rattle.fst_heads.proofs.Slots.{any_default, rising_map}
-use Rattle.fst_heads.proofs.Starting.{patches_landed}
-use Rattle.fst_heads.proofs.Linking.{rising_as}
-use Rattle.fst_heads.proofs.AtNumber.{patches_in_nodes, at_other, at_same, at_none, at_slot}
-use Rattle.fst_heads.proofs.Placed.{unmapped}
+use Rattle.fst_heads.proofs.{Slots.{any_default, rising_map}, Starting.patches_landed, Linking.rising_as}
+use Rattle.fst_heads.proofs.{AtNumber.{patches_in_nodes, at_other, at_same, at_none, at_slot}, Placed.unmapped}
 use Rattle.fst_heads.proofs.Patches.place
 
 -- whether a node with number n passes

@@ -1,10 +1,7 @@
 -- What a new patch leaves of what the fields keep.
 use Rattle.fst_heads.proofs.Basics.{◌≡◌, ℕ, ◌+◌, ◌<◌, ◌≤◌, Bool, false, List, [], ◌∷◌, ◌++◌, length, refl, sym, subst, inl, inr, arith, lit≤, length_push, Contains-push_cases, rules}
-use Rattle.fst_types.proofs.Heads.{sparse_gated}
-use Rattle.fst_types.proofs.Loosened.{loosened}
-use Rattle.fst_types.proofs.Opened.{opening_is_lawful}
-use Rattle.fst_heads.proofs.Patches.{max_heads, max_number, Patch, IsOn, OpenGate, SparseAreLawful, fresh}
-use Rattle.fst_heads.proofs.Words.{Keeps, IsInside}
+use Rattle.fst_heads.proofs.{Patches.{max_heads, max_number, Patch, IsOn, OpenGate, SparseAreLawful, fresh}, Words.{Keeps, IsInside}}
+use Rattle.fst_types.proofs.{Heads.sparse_gated, Loosened.loosened, Opened.opening_is_lawful}
 
 module _ (heads : List Patch) (numbers blocks : ℕ) (marks : List Bool) (K : Keeps heads numbers blocks marks) where
   pub keeps_added : (new : List Patch) → SparseAreLawful new (numbers + 1) → length new ≡ length heads + 1 → IsInside new blocks → length heads < max_heads → Keeps new (numbers + 1) blocks (marks ++ false ∷ [])

@@ -2,8 +2,7 @@
 use Rattle.fst_heads.proofs.Basics.{◌≡◌, ◌⊎◌, ℕ, ◌+◌, ◌<◌, ◌≤◌, true, false, List, length, get_or, Contains, refl, sym, subst, ◌∙◌, inl, inr, arith, cases_lt, IsStrictlyIncreasing, rules}
 use Rattle.fst_heads.proofs.Patches.{DependsOn, IsLiveNumber, Lists, Patch, at_of, len_of}
 use Rattle.fst_heads.proofs.Words.{Head, Covering, newest_over, IsOver, IsCovered, GainsTouched, IsRising, patch_of, patches_of, HasSlot, HasNone, Gains, touches, IsTouched, IsDependency, IsSparseRow}
-use Rattle.fst_heads.proofs.Slots.{any_default, none_slot, patch_at, patch_is, patch_slot, slot_in}
-use Rattle.fst_heads.proofs.Touching.{touch_parts, touch_whole}
+use Rattle.fst_heads.proofs.{Slots.{any_default, none_slot, patch_at, patch_is, patch_slot, slot_in}, Touching.{touch_parts, touch_whole}}
 
 -- a number is touched as the head at its slot is
 module _ (heads : List Head) (b at len n : ℕ) where

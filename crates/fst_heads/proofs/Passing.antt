@@ -1,11 +1,10 @@
 -- The walk along the list of a block for those of its patches that pass a test.
 use Rattle.fst_heads.proofs.Basics.{◌≡◌, ◌==◌, ◌&&◌, ◌||◌, ℕ, ◌<◌, ◌+◌, Bool, true, false, not, List, [], ◌∷◌, map, filter, drop, length, get_or, refl, sym, ap, ◌∙◌, inr, list_any, cases_Bool, false≢true, drop_more, and_parts, arith}
 use Rattle.fst_heads.proofs.Patches.{In, Contains-from_In, Place, is_at, is_change_at}
-use Rattle.fst_heads.proofs.Patches.place
 use Rattle.fst_heads.proofs.Words.{is_free_on, is_bound_on, Head, Listed, IsRising, kind_of, patch_of, patches_of, entries_of, entries_on, is_live_on, HasSlot, HasNone, Node, node_of, nodes_of, is_pending, is_ready_on, is_hard_kind}
+use Rattle.fst_heads.proofs.{Listing.{any_none, any_slot, numbers_on}, Slots.any_default}
+use Rattle.fst_heads.proofs.Patches.place
 use Rattle.fst_heads.proofs.Words.pending
-use Rattle.fst_heads.proofs.Listing.{any_none, any_slot, numbers_on}
-use Rattle.fst_heads.proofs.Slots.{any_default}
 
 -- the node with number n passes
 abbrev pub passes_at : (Node → Bool) → List Node → ℕ → Bool

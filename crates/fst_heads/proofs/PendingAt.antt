@@ -2,9 +2,8 @@
 use Rattle.fst_heads.proofs.Basics.{◌≡◌, ◌<◌, ◌+◌, ◌++◌, ◌∷◌, [], ℕ, zero, suc, List, length, get_or, take, Contains, refl, sym, ap, ◌∙◌, arith, eq-eqb, ne_eqb, take_more, SmallVec}
 use Rattle.fst_heads.proofs.Patches.{Contains-from_In, In-map}
 use Rattle.fst_heads.proofs.Words.{Head, Pending, Sums, IsRising, HasSlot, HasNone, node_of, nodes_of, pending_in, gains_names, plus, sums_of, together}
+use Rattle.fst_heads.proofs.{Slots.slot_head, Sums.sums_push}
 use Rattle.fst_heads.proofs.Words.pending
-use Rattle.fst_heads.proofs.Slots.{slot_head}
-use Rattle.fst_heads.proofs.Sums.{sums_push}
 
 -- where no head has the number nothing is pending
 pub pending_none : (heads : List Head) (n : ℕ) → HasNone heads n → pending_in (nodes_of heads) n ≡ pending.Nothing

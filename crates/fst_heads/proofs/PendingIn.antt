@@ -1,9 +1,8 @@
 -- What is pending of a number is what is pending of the node that has it.
 use Rattle.fst_heads.proofs.Basics.{◌≡◌, ◌⊎◌, ◌<◌, ◌==◌, ℕ, suc, List, [], ◌∷◌, Contains, refl, subst, ◌∙◌, inl, inr, arith, cases_Bool, eqb-true, eq-eqb, ne_eqb, cond-true, cond-false}
+use Rattle.fst_heads.proofs.{Words.{Node, patches_in, pending_in}, Placed.patch_in}
 use Rattle.fst_heads.proofs.Patches.{Patch, Rising as IsRising, In, In-from_Contains, Contains-from_In}
-use Rattle.fst_heads.proofs.Words.{Node, patches_in, pending_in}
 use Rattle.fst_heads.proofs.Words.pending
-use Rattle.fst_heads.proofs.Placed.{patch_in}
 
 -- the node with the number
 pub record Found (nodes : List Node) (n : ℕ) : Type 0 where

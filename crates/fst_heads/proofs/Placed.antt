@@ -2,9 +2,7 @@
 use Rattle.fst_heads.proofs.Basics.{◌≡◌, ◌≢◌, ℕ, Bool, true, false, cond, List, [], ◌∷◌, map, filter, AllPairs, Contains, refl, sym, ap, subst, ◌∙◌, inl, inr, cases_Bool, rules, arith, ◌==◌, ◌||◌, ◌++◌, if◌then◌else◌, get_or, set, cases_eq, eq-eqb, ne_eqb}
 use Rattle.fst_heads.proofs.Patches.{Patch, IsLiveNumber, HasOnePlaceEach, is_live, is_among, launched, same_number, In, In-from_Contains, Contains-from_In, In-unmap, among_in, unsettled, Settled, AllSettled, more, all_settled, In-map}
 use Rattle.fst_heads.proofs.Words.{launches, entry, entries_on, is_live_on, Node, patches_in, times, AreLinked, AreGiven, AreDistinct, IsSpreadOf, unspread, Head, IsRising, HasSlot, HasNone, node_of, nodes_of, at_number}
-use Rattle.fst_heads.proofs.Forgetting.{live_place_of}
-use Rattle.fst_heads.proofs.AtNumber.{at_none, at_slot, at_same, at_other}
-use Rattle.fst_heads.proofs.Linking.{map_twice, rising_as}
+use Rattle.fst_heads.proofs.{Forgetting.live_place_of, AtNumber.{at_none, at_slot, at_same, at_other}, Linking.{map_twice, rising_as}}
 use Rattle.fst_heads.proofs.Patches.place
 
 -- y has the number, the direct dependencies and the dependants of x

@@ -2,14 +2,10 @@
 use Rattle.fst_heads.proofs.Basics.{◌≡◌, ◌≢◌, ◌+◌, ◌<◌, ◌≤◌, ◌==◌, ℕ, Bool, true, false, if◌then◌else◌, List, [], ◌∷◌, ◌++◌, length, map, get_or, Contains, AllPairs, length-append, refl, sym, ap, subst, ◌∙◌, arith, length-map, get_or-map}
 use Rattle.fst_heads.proofs.Patches.{IsCascadeOf}
 use Rattle.fst_heads.proofs.Words.{Head, Pending, IsRising, patches_of, HasSlot, Node, node_of, nodes_of, patches_in, at_number, AreLinked, AreDistinct, Fits, max_block, Spreading, IsSpreadOf, CanHear, now, is_told, settles, heard, woken, heights}
-use Rattle.fst_heads.proofs.Words.pending
-use Rattle.fst_heads.proofs.AtNumber.{at_same, patches_in_nodes}
-use Rattle.fst_heads.proofs.Linking.{rising_as}
-use Rattle.fst_heads.proofs.Slots.{some_element}
-use Rattle.fst_heads.proofs.Slotted.{node_in_slot, node_is, rising_slots}
-use Rattle.fst_heads.proofs.Starting.{cascaded_spread}
-use Rattle.fst_heads.proofs.Carried.{linked_spread, distinct_spread}
+use Rattle.fst_heads.proofs.{AtNumber.{at_same, patches_in_nodes}, Linking.rising_as, Slots.some_element, Slotted.{node_in_slot, node_is, rising_slots}}
+use Rattle.fst_heads.proofs.{Starting.cascaded_spread, Carried.{linked_spread, distinct_spread}}
 use Rattle.fst_heads.proofs.Telling.{spreading_fits, queue_fits, last_waits, live, can_hear, spreads_on, spread_of, lower}
+use Rattle.fst_heads.proofs.Words.pending
 
 -- what is settled keeps its number
 settles_either : (b : Bool) (x : Node) → (if b then settles x else x).patch.number ≡ x.patch.number

@@ -1,13 +1,10 @@
 -- What becomes of the counts of each block where what is pending of one patch is settled.
 use Rattle.fst_heads.proofs.Basics.{◌≡◌, ◌≢◌, ℕ, ◌+◌, ◌<◌, ◌&&◌, Bool, true, false, cond, List, length, count_by, set, get_or, refl, sym, ap, subst, ◌∙◌, arith, length-set, cases_eq, eq-eqb, ne_eqb, false≢true, length-map, get_or-map, rules, map-set, common_steps}
-use Rattle.fst_heads.proofs.Basics.{sum_by-set, get_or-le-sum_by, count_by-le-length}
-use Rattle.fst_heads.proofs.Patches.{Grade, Change, is_at, is_on, is_change_at}
-use Rattle.fst_heads.proofs.Patches.place
+use Rattle.fst_heads.proofs.{Basics.{sum_by-set, get_or-le-sum_by, count_by-le-length}, Patches.{Grade, Change, is_at, is_on, is_change_at}}
 use Rattle.fst_heads.proofs.Words.{Head, kind_of, patch_of, Standing, Node, node_of, nodes_of, is_pending, Sinks, now, is_told, settles, AllStand, is_ready_on, is_held_on, is_flying_on, standing_of, released, is_hard_kind}
+use Rattle.fst_heads.proofs.{CountsAs.{CountsAs, standing_same, stand_set, off_as}, Turning.is_itself, Beside.one_if}
+use Rattle.fst_heads.proofs.Patches.place
 use Rattle.fst_heads.proofs.Words.pending
-use Rattle.fst_heads.proofs.CountsAs.{CountsAs, standing_same, stand_set, off_as}
-use Rattle.fst_heads.proofs.Turning.{is_itself}
-use Rattle.fst_heads.proofs.Beside.{one_if}
 
 -- the node of the head in a slot
 pub node_at : (heads : List Head) (s : ℕ) (h : Head) (d : Node) → s < length heads → h ≡ get_or heads s h → get_or (nodes_of heads) s d ≡ node_of h

@@ -1,10 +1,9 @@
 -- Rising rows, and names as calls give them.
 use Rattle.fst_heads.proofs.Basics.{◌≡◌, ℕ, ◌+◌, ◌-◌, ◌<◌, ◌≤◌, List, ◌∷◌, length, get_or, Contains, Result, Ok, Err, is_ok, refl, sym, subst, ◌∙◌, inl, inr, arith, insert, IsStrictlyIncreasing, IsBinarySearchResult, nat_cmp, rules, common_steps, cases_Bool, cases_lt, cases_eq, AllPairs-from_increasing, searched}
 use Rattle.fst_heads.proofs.Basics.{IsPermutation-insert, IsPermutation-sym, Contains-permutation, length-insert, get_or-insert_below, get_or-insert_at, get_or-insert_above, true}
-use Rattle.fst_types.specs.Order.{NamesUnknown}
 use Rattle.fst_heads.proofs.Patches.{is_among, among_in, in_among, PatchNo, Lists, IsGiven, In, In-get_or, In-from_Contains, Contains-from_In, In-map, DirectlyOn, IsLiveNumber, Patch}
-use Rattle.fst_heads.proofs.Words.{numbers_of, Gains, Head, IsRising, patches_of, HasSlot, IsMissing}
-use Rattle.fst_heads.proofs.Slots.{any_default, some_element, direct_at, named_at}
+use Rattle.fst_heads.proofs.{Words.{numbers_of, Gains, Head, IsRising, patches_of, HasSlot, IsMissing}, Slots.{any_default, some_element, direct_at, named_at}}
+use Rattle.fst_types.specs.Order.{NamesUnknown}
 
 -- what a gate does not have yet
 

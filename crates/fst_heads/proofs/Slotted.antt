@@ -2,12 +2,11 @@
 use Rattle.fst_heads.proofs.Basics.{◌≡◌, ◌≢◌, ℕ, zero, suc, ◌+◌, ◌<◌, ◌==◌, ◌&&◌, Bool, true, false, if◌then◌else◌, List, [], ◌∷◌, ◌++◌, length, map, take, drop, get_or, Contains, AllPairs, append-nil, length-append, refl, sym, ap, subst, ◌∙◌, inl, inr, arith, list_any, cases_eq, and_from, rules, eq-eqb, ne_eqb}
 use Rattle.fst_heads.proofs.Basics.{common_steps, length-map, get_or-map, take_more, take-append-drop, filter-append, list_any-from_Any}
 use Rattle.fst_heads.proofs.Patches.{is_among, In, In-from_Contains, Contains-from_In, In-map, In-unmap}
-use Rattle.fst_heads.proofs.Patches.place
 use Rattle.fst_heads.proofs.Words.{Head, Pending, IsRising, HasSlot, HasNone, Node, node_of, nodes_of, at_number, plus, minus, follows, rested, hears, wakes, heard, woken}
-use Rattle.fst_heads.proofs.AtNumber.{at_same, at_other}
-use Rattle.fst_heads.proofs.Listing.{any_none, any_slot}
+use Rattle.fst_heads.proofs.{AtNumber.{at_same, at_other}, Listing.{any_none, any_slot}}
 use Rattle.fst_heads.proofs.Linking.{map_twice, rising_as, none_among, among_push_other, among_push_same}
 use Rattle.fst_heads.proofs.Slots.{any_default, some_element, slot_head, slot_unique, rising_back}
+use Rattle.fst_heads.proofs.Patches.place
 
 -- what rests keeps all but its place
 module _ (x : Node) where

@@ -1,18 +1,14 @@
 -- How a spread begins, and what it leaves.
 use Rattle.fst_heads.proofs.Basics.{◌≡◌, ◌≢◌, ◌⊎◌, ◌↔◌, ◌==◌, ◌&&◌, ◌<◌, ℕ, Bool, true, false, not, cond, List, [], ◌∷◌, Some, length, map, filter, AllPairs, Contains, refl, sym, ap, subst, ◌∙◌, inl, inr, arith, list_any, cases_Bool, cases_eq, eq-eqb, ne_eqb, eqb-true, both_ways, not-true, and_parts, rules}
 use Rattle.fst_heads.proofs.Basics.{common_steps, length-map, get_or-map, AllPairs-filter, get_or}
-use Rattle.fst_types.proofs.Landing.{landed_cases, change_at, at_change}
 use Rattle.fst_heads.proofs.Patches.{Place, IsCascadeOf, Follows, RestsOnDisk, unsettled, IsOnDisk, SparseAreLawful, IsOpenNumber, sealed, Kind, Change, Empty, OpenGate, SealedGate, Patch, block_of_kind, is_change_at, landed, no_follower_on, same_number, filter_in, in_filter, In, In-from_Contains}
-use Rattle.fst_heads.proofs.Patches.{Contains-from_In, In-map, In-unmap, Grade, Rising as IsRising}
 use Rattle.fst_heads.proofs.Words.{Pending, IsInside, flying_on, Node, patches_in, pending_in, at_number, AreSettled, is_pending, joined, joined_sums, of_kind, Spreading, IsSpreadOf, now, is_told, seals, lands, wakes_sealed, Sinks, sums_of}
-use Rattle.fst_heads.proofs.AtNumber.{at_same, at_other}
-use Rattle.fst_heads.proofs.Joining.{held_sinks, sinks_to_nothing}
-use Rattle.fst_heads.proofs.Pended.{now_row, told_now, now_at_rest}
-use Rattle.fst_heads.proofs.PendingIn.{found}
+use Rattle.fst_heads.proofs.{AtNumber.{at_same, at_other}, Joining.{held_sinks, sinks_to_nothing}, Pended.{now_row, told_now, now_at_rest}, PendingIn.found}
 use Rattle.fst_heads.proofs.Waiting.{pending_of, pending_mapped}
-use Rattle.fst_heads.proofs.Placed.{SameLinks, patch_in, node_of_patch, number_if, dependencies_if, unsettled_spread, unmapped}
-use Rattle.fst_heads.proofs.Slots.{some_element}
+use Rattle.fst_heads.proofs.{Placed.{SameLinks, patch_in, node_of_patch, number_if, dependencies_if, unsettled_spread, unmapped}, Slots.some_element}
 use Rattle.fst_heads.proofs.Sums.{joined_nothing, joined_all_nothing, sums_same}
+use Rattle.fst_types.proofs.Landing.{landed_cases, change_at, at_change}
+use Rattle.fst_heads.proofs.Patches.{Contains-from_In, In-map, In-unmap, Grade, Rising as IsRising}
 use Rattle.fst_heads.proofs.Turning.{counted_nothing, nothing_counted, told_now as told_from}
 use Rattle.fst_heads.proofs.Patches.place
 use Rattle.fst_heads.proofs.Words.pending

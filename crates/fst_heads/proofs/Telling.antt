@@ -1,16 +1,14 @@
 -- One step of a spread: what is pending of one patch now is told to its dependants.
 use Rattle.fst_heads.proofs.Basics.{◌≡◌, ◌≢◌, ◌⊎◌, ◌↔◌, ◌<◌, ◌≤◌, ℕ, true, false, List, [], ◌∷◌, ◌++◌, length, map, Contains, AllPairs, refl, sym, ap, subst, ◌∙◌, inl, inr, arith, cases_Bool, cases_eq, both_ways, length-map, Contains-push, Contains-push_cases, Contains-append_left, rules, Contains-append_right}
-use Rattle.fst_heads.proofs.Basics.{Contains-append_cases, AllPairs-filter}
-use Rattle.fst_heads.proofs.Patches.{Follows, In, In-map, In_decided, In-from_Contains, Contains-from_In}
-use Rattle.fst_heads.proofs.Patches.place
+use Rattle.fst_heads.proofs.{Basics.{Contains-append_cases, AllPairs-filter}, Patches.{Follows, In, In-map, In_decided, In-from_Contains, Contains-from_In}}
 use Rattle.fst_heads.proofs.Words.{Pending, Node, pending_in, at_number, AreLinked, AreDistinct, Fits, HasIn, Sinks, joined, joined_sums, of_kind, plus, minus, sums_of, height, max_block, Spreading, IsSpreadOf, CanHear, now, is_told, settles, heard, woken, heights, unspread}
-use Rattle.fst_heads.proofs.Words.pending
-use Rattle.fst_heads.proofs.AtNumber.{at_same, at_other}
-use Rattle.fst_heads.proofs.Placed.{unmapped}
+use Rattle.fst_heads.proofs.{AtNumber.{at_same, at_other}, Placed.unmapped}
 use Rattle.fst_heads.proofs.Sums.{joined_exact, joined_some, joined_sinks, sums_fit, sums_has, sums_moved, sums_same}
 use Rattle.fst_heads.proofs.Turning.{Turns, turned, turns, untold, not_told, told_now, sinks_nothing, never_back, lower_sinks, block_of}
 use Rattle.fst_heads.proofs.Waiting.{mapped, map_twice, same_node, pending_of, pending_node, pending_mapped, rising_mapped, heights_lower, times_some, some_times, once_fits, once_append, once_front, once_last, set_number, set_sums, woken_from, woken_to}
 use Rattle.fst_heads.proofs.Joining.{sinks_of_kind, sinks_trans}
+use Rattle.fst_heads.proofs.Patches.place
+use Rattle.fst_heads.proofs.Words.pending
 
 -- blocks that are pending fit
 narrow_in : (nodes : List Node) (blocks : ℕ) (queue : List ℕ) → blocks ≤ max_block → Spreading nodes blocks queue → (n b : ℕ) → pending_in nodes n ≡ pending.Block b → b ≤ max_block

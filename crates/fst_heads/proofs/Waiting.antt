@@ -1,15 +1,11 @@
 -- The nodes of a spread, found by their numbers, and the numbers that wait in its queue.
 use Rattle.fst_heads.proofs.Basics.{◌≡◌, ◌≢◌, ◌<◌, ◌≤◌, ◌==◌, ◌&&◌, ◌+◌, ℕ, zero, suc, Bool, true, false, not, cond, List, [], ◌∷◌, ◌++◌, length, map, get_or, Contains, AllPairs, length-append, refl, sym, ap, subst, ◌∙◌, inl, inr, arith, list_any, cases_eq, cases_order, and_parts, and_from, eqb-true, eq-eqb}
 use Rattle.fst_heads.proofs.Basics.{common_steps, ne_eqb, not-true, not_from_false, get_or_append_left, Contains-get_or, Contains-append_cases, Any-from_list_any, list_any-from_Any, AllPairs-cons, sum_by-cons}
-use Rattle.std.proofs.Math.Seq.{get_or-append_seam}
 use Rattle.fst_heads.proofs.Patches.{filter_in, in_filter, In, In-map, In-from_Contains, Contains-from_In, pull}
 use Rattle.fst_heads.proofs.Words.{Pending, height, Node, pending_in, times, at_number, is_told, settles, hears, heard, wakes, woken, heights}
+use Rattle.fst_heads.proofs.{AtNumber.{at_same, at_other}, PendingIn.found, Placed.unmapped, Slots.{any_default, rising_map}, Turning.{turned, is_heard}}
+use Rattle.std.proofs.Math.Seq.{get_or-append_seam}
 use Rattle.fst_heads.proofs.Words.pending
-use Rattle.fst_heads.proofs.AtNumber.{at_same, at_other}
-use Rattle.fst_heads.proofs.PendingIn.{found}
-use Rattle.fst_heads.proofs.Placed.{unmapped}
-use Rattle.fst_heads.proofs.Slots.{any_default, rising_map}
-use Rattle.fst_heads.proofs.Turning.{turned, is_heard}
 
 pub mapped : {X Y : Type 0} (f : X → Y) (xs : List X) (x : X) → Contains xs x → Contains (map f xs) (f x)
 mapped f xs x c = Contains-from_In (map f xs) (f x) (In-map f xs x (f x) (In-from_Contains xs x c) refl)

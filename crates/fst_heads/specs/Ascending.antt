@@ -1,15 +1,9 @@
 -- The walk up from what is in flight of a block to what waits behind it.
 use Rattle.std.specs.Prelude.{◌≡◌, ◌⊎◌, ◌&&◌, ◌||◌, ℕ, Bool, not, List, map, filter, Contains}
 use Rattle.fst_types.specs.declared.place.Place.TheVariants as place
-use Rattle.fst_types.specs.Closure.{Closure}
-use Rattle.fst_types.specs.Dependencies.{DirectlyOn}
-use Rattle.fst_types.specs.Patches.{Patch, IsOn}
-use Rattle.fst_types.specs.Tests.{is_change_at}
+use Rattle.fst_types.specs.{Closure.Closure, Dependencies.DirectlyOn, Patches.{Patch, IsOn}, Tests.is_change_at}
 use Rattle.fst_heads.specs.declared.pending.Pending.TheVariants as pending
-use Rattle.fst_heads.specs.Nodes.{Node, patches_in, pending_in}
-use Rattle.fst_heads.specs.Pendings.{is_pending}
-use Rattle.fst_heads.specs.Standings.{is_ready_on}
-use Rattle.fst_heads.specs.Tests.{is_hard_kind}
+use Rattle.fst_heads.specs.{Nodes.{Node, patches_in, pending_in}, Pendings.is_pending, Standings.is_ready_on, Tests.is_hard_kind}
 
 -- n is the number of a change of block b in flight
 pub record IsFlyingNumber (patches : List Patch) (b n : ℕ) : Type 0 where

@@ -1,8 +1,7 @@
 -- The newest change over each byte of a block.
 use Rattle.std.specs.Prelude.{◌≡◌, ◌⊎◌, ◌<◌, ◌≤◌, ◌+◌, ◌==◌, ◌||◌, ℕ, Bool, false, List, length, Contains, slice_index_or}
 use Rattle.std.specs.List.Sorted.{IsStrictlyIncreasing}
-use Rattle.fst_types.specs.Dependencies.{DependsOn}
-use Rattle.fst_types.specs.Patches.{Patch, IsOn, IsLive, at_of, len_of}
+use Rattle.fst_types.specs.{Dependencies.DependsOn, Patches.{Patch, IsOn, IsLive, at_of, len_of}}
 use Rattle.fst_heads.specs.Rows.{IsTouched}
 
 -- by byte the number of the newest change that was made over it, 0 for none; and whether a change without a byte was made

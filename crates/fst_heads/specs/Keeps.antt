@@ -1,13 +1,9 @@
 -- What a graph's fields keep.
 use Rattle.std.specs.Prelude.{◌≡◌, ◌≤◌, ◌<◌, ℕ, Bool, List, [], length, count_by, Contains}
-use Rattle.fst_types.specs.Limits.{max_heads}
-use Rattle.fst_types.specs.Patches.{Patch, IsOn}
-use Rattle.fst_types.specs.Facts.{SparseAreLawful}
-use Rattle.fst_types.specs.Tests.{is_live}
-use Rattle.fst_heads.specs.Nodes.{Node, patches_in, AreLinked, AreGiven, AreDistinct, AreSettled, AreCounted}
-use Rattle.fst_heads.specs.declared.standing.Standing.{Standing}
-use Rattle.fst_heads.specs.Lists.{Entry, AreListed}
+use Rattle.fst_types.specs.{Limits.max_heads, Patches.{Patch, IsOn}, Facts.SparseAreLawful, Tests.is_live}
+use Rattle.fst_heads.specs.{Nodes.{Node, patches_in, AreLinked, AreGiven, AreDistinct, AreSettled, AreCounted}, Lists.{Entry, AreListed}}
 use Rattle.fst_heads.specs.Standings.{AllStand, AreMarked}
+use Rattle.fst_heads.specs.declared.standing.Standing.{Standing}
 
 -- each change lies in one of the blocks
 abbrev pub IsInside : List Patch → ℕ → Type 0

@@ -1,8 +1,7 @@
 -- The changes that are not on disk, block by block.
 use Rattle.std.specs.Prelude.{◌≡◌, ◌<◌, ◌&&◌, ℕ, Bool, List, map, filter, length, slice_index_or}
 use Rattle.fst_types.specs.declared.place.Place.TheVariants as place
-use Rattle.fst_types.specs.Patches.{Patch, at_of, len_of}
-use Rattle.fst_types.specs.Tests.{is_live, is_on, is_change_at}
+use Rattle.fst_types.specs.{Patches.{Patch, at_of, len_of}, Tests.{is_live, is_on, is_change_at}}
 use Rattle.fst_heads.specs.declared.lists.Listed.{Listed}
 
 pub record Entry : Type 0 where

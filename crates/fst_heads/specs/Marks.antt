@@ -1,7 +1,6 @@
 -- Marks on heads.
 use Rattle.std.specs.Prelude.{◌≡◌, ◌≢◌, ◌<◌, ◌⊎◌, ◌==◌, ◌&&◌, ◌||◌, ℕ, Bool, true, false, List, [], ◌∷◌, Option, None, Some, length, All, Contains, slice_index_or}
-use Rattle.fst_types.specs.Patches.{Patch}
-use Rattle.fst_types.specs.Dependencies.{DependsOn}
+use Rattle.fst_types.specs.{Patches.Patch, Dependencies.DependsOn}
 use Rattle.fst_heads.specs.declared.head.Head.{Head}
 use Rattle.fst_heads.specs.declared.test.Test.{Test}
 use Rattle.fst_heads.specs.Tests.{passes}

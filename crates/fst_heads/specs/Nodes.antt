@@ -3,14 +3,12 @@ use Rattle.std.specs.Prelude.{◌≡◌, ◌≢◌, ◌≤◌, ◌<◌, ◌==◌
 use Rattle.std.specs.List.{list_any}
 use Rattle.smallvec.specs.SmallVec.{HasRoomFor}
 use Rattle.fst_types.specs.declared.place.Place.TheVariants as place
-use Rattle.fst_types.specs.Patches.{Patch}
-use Rattle.fst_types.specs.Tests.{is_among, is_live}
+use Rattle.fst_types.specs.{Patches.Patch, Tests.{is_among, is_live}}
 use Rattle.fst_heads.specs.declared.head.Head.{Head}
 use Rattle.fst_heads.specs.declared.pending.Pending.{Pending}
 use Rattle.fst_heads.specs.declared.pending.Pending.TheVariants as pending
 use Rattle.fst_heads.specs.declared.pending.Sums.{Sums}
-use Rattle.fst_heads.specs.Heads.{patch_of}
-use Rattle.fst_heads.specs.Pendings.{joined, of_kind, sums_of, together}
+use Rattle.fst_heads.specs.{Heads.patch_of, Pendings.{joined, of_kind, sums_of, together}}
 
 pub record Node : Type 0 where
   pub patch : Patch

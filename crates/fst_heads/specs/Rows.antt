@@ -1,8 +1,7 @@
 -- Rising rows of numbers.
 use Rattle.std.specs.Prelude.{◌≡◌, ◌⊎◌, ◌==◌, ◌&&◌, ◌+◌, nat_lt, ℕ, Bool, true, false, List, Contains}
 use Rattle.fst_types.specs.declared.place.Place.{Place}
-use Rattle.fst_types.specs.Patches.{Kind, Change, Empty, OpenGate, SealedGate, Patch}
-use Rattle.fst_types.specs.Dependencies.{DependsOn, DirectlyOn, IsLiveNumber}
+use Rattle.fst_types.specs.{Patches.{Kind, Change, Empty, OpenGate, SealedGate, Patch}, Dependencies.{DependsOn, DirectlyOn, IsLiveNumber}}
 use Rattle.fst_heads.specs.Tests.{is_live_place}
 use Rattle.std.specs.List.Sorted.{IsStrictlyIncreasing}
 

@@ -2,14 +2,10 @@
 use Rattle.std.specs.Prelude.{◌≡◌, ◌≢◌, ◌⊎◌, ◌<◌, ◌==◌, ◌&&◌, ◌↔◌, ℕ, Bool, true, false, not, List, [], ◌∷◌, map, filter, sum_by, Contains, AllPairs, if◌then◌else◌}
 use Rattle.std.specs.List.{list_any}
 use Rattle.fst_types.specs.declared.place.Place.TheVariants as place
-use Rattle.fst_types.specs.Patches.{Kind, Change, Empty, OpenGate, SealedGate}
-use Rattle.fst_types.specs.Cascade.{Follows, unsettled}
-use Rattle.fst_types.specs.Tests.{is_among}
-use Rattle.fst_types.specs.Writing.{launched, landed}
+use Rattle.fst_types.specs.{Patches.{Kind, Change, Empty, OpenGate, SealedGate}, Cascade.{Follows, unsettled}, Tests.is_among, Writing.{launched, landed}}
 use Rattle.fst_heads.specs.declared.pending.Pending.{Pending}
 use Rattle.fst_heads.specs.declared.pending.Pending.TheVariants as pending
-use Rattle.fst_heads.specs.Pendings.{Sinks, HasIn, Fits, is_pending, of_kind, joined_sums, nothing, plus, minus, sums_of, height}
-use Rattle.fst_heads.specs.Nodes.{Node, pending_in}
+use Rattle.fst_heads.specs.{Pendings.{Sinks, HasIn, Fits, is_pending, of_kind, joined_sums, nothing, plus, minus, sums_of, height}, Nodes.{Node, pending_in}}
 
 -- an empty patch or a sealed gate
 abbrev pub follows : Kind → Bool

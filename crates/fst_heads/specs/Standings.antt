@@ -1,14 +1,10 @@
 -- How each block stands.
 use Rattle.std.specs.Prelude.{◌≡◌, ◌<◌, ◌==◌, ◌&&◌, ◌↔◌, ◌+◌, ◌-◌, ℕ, Bool, true, false, not, List, map, filter, length, count_by, IsTrue, slice_index_or}
 use Rattle.fst_types.specs.declared.place.Place.TheVariants as place
-use Rattle.fst_types.specs.Patches.{Patch}
-use Rattle.fst_types.specs.Tests.{is_change_at}
-use Rattle.fst_types.specs.Writable.{IsWritable}
+use Rattle.fst_types.specs.{Patches.Patch, Tests.is_change_at, Writable.IsWritable}
 use Rattle.fst_heads.specs.declared.pending.Pending.TheVariants as pending
 use Rattle.fst_heads.specs.declared.standing.Standing.{Standing}
-use Rattle.fst_heads.specs.Nodes.{Node}
-use Rattle.fst_heads.specs.Pendings.{is_pending}
-use Rattle.fst_heads.specs.Tests.{is_hard_kind}
+use Rattle.fst_heads.specs.{Nodes.Node, Pendings.is_pending, Tests.is_hard_kind}
 
 -- a change of b in memory that waits for changes of b alone
 abbrev pub is_ready_on : ℕ → Node → Bool

@@ -1,14 +1,10 @@
 use Rattle.fst_heads.proofs.Basics.{◌≡◌, ◌∙◌, [], get_or, cond, count_by, ap, vec_len, subst, sym, arith, length-map, nil_from_length, rules}
-use Rattle.fst_heads.proofs.Patches.{In-from_Contains}
-use Rattle.fst_heads.proofs.Words.{IsRising, HasSlot, HasNone, node_of, nodes_of, is_pending, Spreading, is_waiting, now, AllStand}
-use Rattle.fst_heads.proofs.Words.pending
+use Rattle.fst_heads.proofs.{Patches.In-from_Contains, Words.{IsRising, HasSlot, HasNone, node_of, nodes_of, is_pending, Spreading, is_waiting, now, AllStand}}
 use Rattle.fst_heads.proofs.Beside.{waits_untold, waiting_settles, waiting_heard}
 use Rattle.fst_heads.proofs.Popping.{fits_there, untold_there, rising_settled, after_is, once_after, live_after, hears_after, room_after, turned, cascaded_heads}
-use Rattle.fst_heads.proofs.Telling.{last_waits}
-use Rattle.fst_heads.proofs.Slotted.{rising_slots, none_of_number, node_in_slot, node_is}
-use Rattle.fst_heads.proofs.Stands.{stand_heard}
-use Rattle.fst_heads.proofs.Starting.{settled_spread}
+use Rattle.fst_heads.proofs.{Telling.last_waits, Slotted.{rising_slots, none_of_number, node_in_slot, node_is}, Stands.stand_heard, Starting.settled_spread}
 use Rattle.fst_heads.proofs.Carried.{spread_trans, length_spread}
+use Rattle.fst_heads.proofs.Words.pending
 use Rattle.fst_heads.proofs.cascade.cascade.Goals as goal
 
 pub slot_of-requires : goal.slot_of-requires

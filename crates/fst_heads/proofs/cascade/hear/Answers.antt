@@ -1,6 +1,4 @@
-use Rattle.fst_heads.proofs.Basics.{◌∙◌, sym, ap, subst}
-use Rattle.fst_heads.proofs.Words.{Node, Fits}
-use Rattle.fst_heads.proofs.Slotted.{rested_sums}
+use Rattle.fst_heads.proofs.{Basics.{◌∙◌, sym, ap, subst}, Words.{Node, Fits}, Slotted.rested_sums}
 use Rattle.fst_heads.proofs.cascade.hear.Goals as goal
 
 pub is_told-requires : goal.is_told-requires

@@ -1,9 +1,5 @@
-use Rattle.fst_heads.proofs.Basics.{◌∙◌, sym, ap, subst, rules, arith}
-use Rattle.fst_heads.proofs.Words.{HasSlot, HasNone, node_of, hears, wakes}
-use Rattle.fst_heads.proofs.AtNumber.{at_slot, at_none}
-use Rattle.fst_heads.proofs.Framed.{frames_set}
-use Rattle.fst_heads.proofs.PendingAt.{node_in}
-use Rattle.fst_heads.proofs.Slotted.{waits_none, stays_slot, waits_slot, number_in}
+use Rattle.fst_heads.proofs.{Basics.{◌∙◌, sym, ap, subst, rules, arith}, Words.{HasSlot, HasNone, node_of, hears, wakes}, AtNumber.{at_slot, at_none}}
+use Rattle.fst_heads.proofs.{Framed.frames_set, PendingAt.node_in, Slotted.{waits_none, stays_slot, waits_slot, number_in}}
 use Rattle.fst_heads.proofs.cascade.hear_at.Goals as goal
 
 pub hear-requires-clause-hears : goal.hear-requires-clause-hears

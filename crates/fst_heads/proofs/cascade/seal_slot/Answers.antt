@@ -1,9 +1,5 @@
-use Rattle.fst_heads.proofs.Basics.{◌∙◌, not, sym, ap, subst, arith}
-use Rattle.fst_heads.proofs.Words.{frame_of, Node, node_of, Fits, is_told, seals}
-use Rattle.fst_heads.proofs.AtNumber.{at_slot}
-use Rattle.fst_heads.proofs.Framed.{frames_set}
-use Rattle.fst_heads.proofs.PendingAt.{node_in}
-use Rattle.fst_heads.proofs.Slotted.{rested_sums, stays_slot, waits_slot}
+use Rattle.fst_heads.proofs.{Basics.{◌∙◌, not, sym, ap, subst, arith}, Words.{frame_of, Node, node_of, Fits, is_told, seals}, AtNumber.at_slot}
+use Rattle.fst_heads.proofs.{Framed.frames_set, PendingAt.node_in, Slotted.{rested_sums, stays_slot, waits_slot}}
 use Rattle.fst_heads.specs.declared.head.Kind.TheVariants as kinds
 use Rattle.fst_heads.proofs.cascade.seal_slot.Goals as goal
 

@@ -1,6 +1,4 @@
-use Rattle.fst_heads.proofs.Basics.{◌≡◌, ◌-◌, ◌++◌, length, map, take, vec_len, vec_capacity}
-use Rattle.fst_heads.proofs.Words.{frames_of, nodes_of, heard, woken}
-use Rattle.fst_heads.proofs.Slotted.{row_at}
+use Rattle.fst_heads.proofs.{Basics.{◌≡◌, ◌-◌, ◌++◌, length, map, take, vec_len, vec_capacity}, Words.{frames_of, nodes_of, heard, woken}, Slotted.row_at}
 use Rattle.fst_heads.proofs.cascade.tell.Given as goal
 
 abbrev pub invariant-loop-at : goal.invariant-loop-at

@@ -1,5 +1,4 @@
-use Rattle.fst_heads.proofs.Basics.{option_map, ◌∙◌, ◌+◌, ℕ, Bool, drop, get_or, sym}
-use Rattle.fst_heads.proofs.Words.{Listed, is_bound_on, mark_in}
+use Rattle.fst_heads.proofs.{Basics.{option_map, ◌∙◌, ◌+◌, ℕ, Bool, drop, get_or, sym}, Words.{Listed, is_bound_on, mark_in}}
 use Rattle.fst_heads.proofs.Passing.{passing, passing_start, passing_found, passing_skip, passing_absent, bound_at, bound_listed}
 use Rattle.fst_heads.proofs.choice.first_held.Goals as goal
 use Rattle.fst_heads.proofs.choice.first_held.Goals.{in-Some+else-is_bound, in_default}

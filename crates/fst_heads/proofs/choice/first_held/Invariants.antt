@@ -1,6 +1,4 @@
-use Rattle.fst_heads.proofs.Basics.{option_map, ◌≡◌, drop}
-use Rattle.fst_heads.proofs.Words.{is_bound_on, bound_on, mark_in, nodes_of}
-use Rattle.fst_heads.proofs.Passing.{passing}
+use Rattle.fst_heads.proofs.{Basics.{option_map, ◌≡◌, drop}, Words.{is_bound_on, bound_on, mark_in, nodes_of}, Passing.passing}
 use Rattle.fst_heads.proofs.choice.first_held.Given as goal
 
 abbrev pub invariant-loop-listed : goal.invariant-loop-listed

@@ -1,6 +1,4 @@
-use Rattle.fst_heads.proofs.Basics.{option_map, ◌≡◌, ◌++◌, drop}
-use Rattle.fst_heads.proofs.Words.{is_free_on, free_on, numbers_of, mark_in, nodes_of}
-use Rattle.fst_heads.proofs.Passing.{passing}
+use Rattle.fst_heads.proofs.{Basics.{option_map, ◌≡◌, ◌++◌, drop}, Words.{is_free_on, free_on, numbers_of, mark_in, nodes_of}, Passing.passing}
 use Rattle.fst_heads.proofs.choice.ready_set.Given as goal
 
 abbrev pub invariant-loop-listed : goal.invariant-loop-listed

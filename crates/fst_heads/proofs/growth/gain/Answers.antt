@@ -1,6 +1,4 @@
-use Rattle.fst_heads.proofs.Basics.{arith, subst, length-append, rules}
-use Rattle.fst_heads.proofs.Words.{HasSlot, node_of}
-use Rattle.fst_heads.proofs.AtNumber.{at_slot, at_none}
+use Rattle.fst_heads.proofs.{Basics.{arith, subst, length-append, rules}, Words.{HasSlot, node_of}, AtNumber.{at_slot, at_none}}
 use Rattle.fst_heads.proofs.PendingAt.{node_in, gained_node}
 use Rattle.fst_heads.proofs.growth.gain.Goals as goal
 

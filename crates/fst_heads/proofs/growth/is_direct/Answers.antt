@@ -1,7 +1,4 @@
-use Rattle.fst_heads.proofs.Basics.{◌≡◌, ◌∙◌, get_or, sym, ap}
-use Rattle.fst_heads.proofs.Patches.{is_among}
-use Rattle.fst_heads.proofs.Slots.{direct_slot, none_slot}
-use Rattle.fst_heads.proofs.Rows.{direct_from, direct_to}
+use Rattle.fst_heads.proofs.{Basics.{◌≡◌, ◌∙◌, get_or, sym, ap}, Patches.is_among, Slots.{direct_slot, none_slot}, Rows.{direct_from, direct_to}}
 use Rattle.fst_heads.proofs.growth.is_direct.Goals as goal
 
 pub returns-in-Some : goal.returns-in-Some

@@ -1,5 +1,4 @@
-use Rattle.fst_heads.proofs.Basics.{◌∙◌, sym, false≢true}
-use Rattle.fst_heads.proofs.Words.{patches_of, numbers_of, IsMissing}
+use Rattle.fst_heads.proofs.{Basics.{◌∙◌, sym, false≢true}, Words.{patches_of, numbers_of, IsMissing}}
 use Rattle.fst_heads.proofs.Rows.{gathers_more, gathers_skip, gathers_all, missing_list}
 use Rattle.fst_heads.proofs.growth.missing_names.Goals as goal
 use Rattle.fst_heads.proofs.growth.missing_names.Goals.{then-is_missing+in_ok-put, else-is_missing}

@@ -1,5 +1,4 @@
-use Rattle.fst_heads.proofs.Words.{patches_of, IsMissing}
-use Rattle.fst_heads.proofs.Rows.{Gathers}
+use Rattle.fst_heads.proofs.{Words.{patches_of, IsMissing}, Rows.Gathers}
 use Rattle.fst_heads.proofs.growth.missing_names.Given as goal
 
 abbrev pub invariant-loop-name : goal.invariant-loop-name

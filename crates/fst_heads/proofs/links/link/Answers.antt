@@ -1,7 +1,5 @@
-use Rattle.fst_heads.proofs.Basics.{◌≡◌, ◌∙◌, get_or, map, ap, subst, take, arith, rules}
-use Rattle.fst_heads.proofs.Words.{Head, patch_of, HasSlot, node_of, nodes_of, at_number}
-use Rattle.fst_heads.proofs.AtNumber.{at_none, at_slot}
-use Rattle.fst_heads.proofs.Framed.{still_below}
+use Rattle.fst_heads.proofs.{Basics.{◌≡◌, ◌∙◌, get_or, map, ap, subst, take, arith, rules}, Words.{Head, patch_of, HasSlot, node_of, nodes_of, at_number}}
+use Rattle.fst_heads.proofs.{AtNumber.{at_none, at_slot}, Framed.still_below}
 use Rattle.fst_heads.proofs.Linking.{adds, rising_linked, room_first, room_left, room_fewer, link_none, link_more}
 use Rattle.fst_heads.proofs.links.link.Goals as goal
 use Rattle.fst_heads.proofs.links.link.Goals.{in-Some, in_default}

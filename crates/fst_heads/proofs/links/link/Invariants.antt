@@ -1,6 +1,4 @@
-use Rattle.fst_heads.proofs.Basics.{◌≡◌, ℕ, map, take, vec_len, vec_capacity}
-use Rattle.fst_heads.proofs.Words.{HasRoomBelow, nodes_of, linked_to}
-use Rattle.fst_heads.proofs.Linking.{HasRoomFrom}
+use Rattle.fst_heads.proofs.{Basics.{◌≡◌, ℕ, map, take, vec_len, vec_capacity}, Words.{HasRoomBelow, nodes_of, linked_to}, Linking.HasRoomFrom}
 use Rattle.fst_heads.proofs.links.link.Given as goal
 
 abbrev pub invariant-loop-other : goal.invariant-loop-other

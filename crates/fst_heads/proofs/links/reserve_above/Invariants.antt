@@ -1,6 +1,4 @@
-use Rattle.fst_heads.proofs.Basics.{◌≡◌, vec_len, vec_capacity}
-use Rattle.fst_heads.proofs.Words.{nodes_of}
-use Rattle.fst_heads.proofs.Linking.{HasRoomUpTo}
+use Rattle.fst_heads.proofs.{Basics.{◌≡◌, vec_len, vec_capacity}, Words.nodes_of, Linking.HasRoomUpTo}
 use Rattle.fst_heads.proofs.links.reserve_above.Given as goal
 
 abbrev pub invariant-loop-number : goal.invariant-loop-number

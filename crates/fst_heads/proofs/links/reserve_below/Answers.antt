@@ -1,7 +1,4 @@
-use Rattle.fst_heads.proofs.Basics.{subst, arith}
-use Rattle.fst_heads.proofs.Words.{HasSlot}
-use Rattle.fst_heads.proofs.Framed.{below_set}
-use Rattle.fst_heads.proofs.Linking.{nodes_set}
+use Rattle.fst_heads.proofs.{Basics.{subst, arith}, Words.HasSlot, Framed.below_set, Linking.nodes_set}
 use Rattle.fst_heads.proofs.links.reserve_below.Goals as goal
 
 pub returns-in_ok-reserve-clause-nodes : goal.returns-in_ok-reserve-clause-nodes

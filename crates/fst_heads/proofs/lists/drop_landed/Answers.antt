@@ -1,8 +1,4 @@
-use Rattle.fst_heads.proofs.Basics.{rules, not, ◌∙◌, ap}
-use Rattle.fst_heads.proofs.Patches.{is_among}
-use Rattle.fst_heads.proofs.Words.{entries_of, Listed}
-use Rattle.fst_heads.proofs.Forgetting.{filter_from_test}
-use Rattle.fst_heads.proofs.Listing.{entries_filter}
+use Rattle.fst_heads.proofs.{Basics.{rules, not, ◌∙◌, ap}, Patches.is_among, Words.{entries_of, Listed}, Forgetting.filter_from_test, Listing.entries_filter}
 use Rattle.fst_heads.proofs.lists.drop_landed.Goals as goal
 
 pub returns : goal.returns

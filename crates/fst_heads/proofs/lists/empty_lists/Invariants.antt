@@ -1,5 +1,4 @@
-use Rattle.fst_heads.proofs.Basics.{◌≡◌, ◌≤◌, ℕ, [], map, get_or, vec_len, vec_capacity}
-use Rattle.fst_heads.proofs.Words.{entries_of}
+use Rattle.fst_heads.proofs.{Basics.{◌≡◌, ◌≤◌, ℕ, [], map, get_or, vec_len, vec_capacity}, Words.entries_of}
 use Rattle.fst_heads.proofs.lists.empty_lists.Given as goal
 
 abbrev pub invariant-loop : goal.invariant-loop

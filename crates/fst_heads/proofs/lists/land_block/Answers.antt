@@ -1,5 +1,4 @@
-use Rattle.fst_heads.proofs.Basics.{◌≡◌, ◌∙◌, List, Vec, Global, not, map, filter, length, refl, sym, ap, arith, map-set, false≢true, rules}
-use Rattle.fst_heads.proofs.Patches.{is_among}
+use Rattle.fst_heads.proofs.{Basics.{◌≡◌, ◌∙◌, List, Vec, Global, not, map, filter, length, refl, sym, ap, arith, map-set, false≢true, rules}, Patches.is_among}
 use Rattle.fst_heads.proofs.Words.{Listed, patches_of, Entry, entries_of, entries_on}
 use Rattle.fst_heads.proofs.Listing.{listed_landed, flying_rise, listed_at, rising_patches, heads_landed, nothing_lands, nothing_flies, is_off}
 use Rattle.fst_heads.proofs.lists.land_block.Goals as goal

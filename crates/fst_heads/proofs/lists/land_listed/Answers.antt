@@ -1,8 +1,7 @@
-use Rattle.fst_heads.proofs.Basics.{◌≡◌, ◌∙◌, map, get_or, refl, sym, ap, subst, arith, drop_more}
-use Rattle.fst_heads.proofs.Patches.{is_change_at}
-use Rattle.fst_heads.proofs.Patches.place
+use Rattle.fst_heads.proofs.{Basics.{◌≡◌, ◌∙◌, map, get_or, refl, sym, ap, subst, arith, drop_more}, Patches.is_change_at}
 use Rattle.fst_heads.proofs.Words.{Listed, patch_of, patches_of, entries_of, flying_on, nodes_of, lands, HasSlot, HasNone}
 use Rattle.fst_heads.proofs.Listing.{landing_none, landing_full, landing_absent, landing_skip, landing_disk, landing_room}
+use Rattle.fst_heads.proofs.Patches.place
 use Rattle.fst_heads.proofs.lists.land_listed.Goals as goal
 use Rattle.fst_heads.proofs.lists.land_listed.Goals.{in-Some+then-is_change_at, in-Some+else-is_change_at, in_default}
 

@@ -1,6 +1,4 @@
-use Rattle.fst_heads.proofs.Basics.{◌≡◌, map, drop, vec_capacity}
-use Rattle.fst_heads.proofs.Words.{entries_of}
-use Rattle.fst_heads.proofs.Listing.{Landing}
+use Rattle.fst_heads.proofs.{Basics.{◌≡◌, map, drop, vec_capacity}, Words.entries_of, Listing.Landing}
 use Rattle.fst_heads.proofs.lists.land_listed.Given as goal
 
 abbrev pub invariant-loop-listed : goal.invariant-loop-listed

@@ -1,5 +1,4 @@
-use Rattle.fst_heads.proofs.Basics.{rules, refl, answers_always}
-use Rattle.fst_heads.proofs.Slots.{searched}
+use Rattle.fst_heads.proofs.{Basics.{rules, refl, answers_always}, Slots.searched}
 use Rattle.fst_heads.proofs.marks.slot_of.Goals as goal
 
 pub returns-in-Ok-clause-found : goal.returns-in-Ok-clause-found

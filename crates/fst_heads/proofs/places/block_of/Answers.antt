@@ -1,7 +1,5 @@
-use Rattle.fst_heads.proofs.Basics.{◌≡◌, ◌∙◌, ℕ, List, Contains, get_or, ap, sym, subst, inl, inr}
-use Rattle.fst_heads.proofs.Patches.{Patch, block_of_kind}
-use Rattle.fst_heads.proofs.Words.{Head, IsRising, kind_of, patches_of, HasSlot}
-use Rattle.fst_heads.proofs.Slots.{patch_is, slot_in, patch_slot, none_slot}
+use Rattle.fst_heads.proofs.{Basics.{◌≡◌, ◌∙◌, ℕ, List, Contains, get_or, ap, sym, subst, inl, inr}, Patches.{Patch, block_of_kind}}
+use Rattle.fst_heads.proofs.{Words.{Head, IsRising, kind_of, patches_of, HasSlot}, Slots.{patch_is, slot_in, patch_slot, none_slot}}
 use Rattle.fst_heads.proofs.places.block_of.Goals as goal
 
 -- the block of the patch at the slot

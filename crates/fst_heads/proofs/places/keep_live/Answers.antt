@@ -1,7 +1,4 @@
-use Rattle.fst_heads.proofs.Basics.{rules, arith, ◌∙◌, ap, filter_from_retain}
-use Rattle.fst_heads.proofs.Words.{nodes_of, is_live_place}
-use Rattle.fst_heads.proofs.Beside.{all_live}
-use Rattle.fst_heads.proofs.Forgetting.{live_heads}
+use Rattle.fst_heads.proofs.{Basics.{rules, arith, ◌∙◌, ap, filter_from_retain}, Words.{nodes_of, is_live_place}, Beside.all_live, Forgetting.live_heads}
 use Rattle.fst_heads.proofs.places.keep_live.Goals as goal
 
 pub returns : goal.returns

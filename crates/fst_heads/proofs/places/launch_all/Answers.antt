@@ -1,5 +1,4 @@
-use Rattle.fst_heads.proofs.Basics.{take, take_more, map_push, arith, common_steps}
-use Rattle.fst_heads.proofs.Words.{numbers_of, nodes_of}
+use Rattle.fst_heads.proofs.{Basics.{take, take_more, map_push, arith, common_steps}, Words.{numbers_of, nodes_of}}
 use Rattle.fst_heads.proofs.Placed.{launched_start, launched_more, rising_launched}
 use Rattle.fst_heads.proofs.places.launch_all.Goals as goal
 

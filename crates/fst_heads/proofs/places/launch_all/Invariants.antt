@@ -1,5 +1,4 @@
-use Rattle.fst_heads.proofs.Basics.{◌≡◌, map, take}
-use Rattle.fst_heads.proofs.Words.{numbers_of, nodes_of, launches}
+use Rattle.fst_heads.proofs.{Basics.{◌≡◌, map, take}, Words.{numbers_of, nodes_of, launches}}
 use Rattle.fst_heads.proofs.places.launch_all.Given as goal
 
 abbrev pub invariant-loop-no : goal.invariant-loop-no

@@ -1,6 +1,4 @@
-use Rattle.fst_heads.proofs.Basics.{ap, subst}
-use Rattle.fst_heads.proofs.Words.{HasSlot, HasNone, node_of}
-use Rattle.fst_heads.proofs.Placed.{flies, launched_none, launched_slot}
+use Rattle.fst_heads.proofs.{Basics.{ap, subst}, Words.{HasSlot, HasNone, node_of}, Placed.{flies, launched_none, launched_slot}}
 use Rattle.fst_heads.proofs.places.launch_at.Goals as goal
 
 pub returns-in-Some : goal.returns-in-Some

@@ -1,6 +1,4 @@
-use Rattle.fst_heads.proofs.Basics.{drop}
-use Rattle.fst_heads.proofs.Words.{patches_of, entries_of}
-use Rattle.fst_heads.proofs.Touching.{Touches}
+use Rattle.fst_heads.proofs.{Basics.drop, Words.{patches_of, entries_of}, Touching.Touches}
 use Rattle.fst_heads.proofs.row.dependencies_of.Given as goal
 
 abbrev pub invariant-loop-listed : goal.invariant-loop-listed

@@ -1,5 +1,4 @@
-use Rattle.fst_heads.proofs.Basics.{◌∙◌}
-use Rattle.fst_heads.proofs.Rows.{row_found}
+use Rattle.fst_heads.proofs.{Basics.{◌∙◌}, Rows.row_found}
 use Rattle.fst_heads.proofs.row.has_number.Goals as goal
 
 pub returns : goal.returns

@@ -1,5 +1,4 @@
-use Rattle.fst_heads.proofs.Basics.{◌∙◌, sym}
-use Rattle.fst_heads.proofs.Slots.{live_at, not_live_none}
+use Rattle.fst_heads.proofs.{Basics.{◌∙◌, sym}, Slots.{live_at, not_live_none}}
 use Rattle.fst_heads.proofs.row.is_live_number.Goals as goal
 
 pub returns-in-Some : goal.returns-in-Some

@@ -1,7 +1,4 @@
-use Rattle.fst_heads.proofs.Basics.{◌∙◌, sym, false≢true}
-use Rattle.fst_heads.proofs.Patches.{IsLiveNumber}
-use Rattle.fst_heads.proofs.Words.{patches_of}
-use Rattle.fst_heads.proofs.Rows.{gathers_more, gathers_skip, gathers_all}
+use Rattle.fst_heads.proofs.{Basics.{◌∙◌, sym, false≢true}, Patches.IsLiveNumber, Words.patches_of, Rows.{gathers_more, gathers_skip, gathers_all}}
 use Rattle.fst_heads.proofs.row.live_named.Goals as goal
 use Rattle.fst_heads.proofs.row.live_named.Goals.{then-is_live_number+in_ok-put, else-is_live_number}
 

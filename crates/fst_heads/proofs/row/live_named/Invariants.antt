@@ -1,6 +1,4 @@
-use Rattle.fst_heads.proofs.Patches.{IsLiveNumber}
-use Rattle.fst_heads.proofs.Words.{patches_of}
-use Rattle.fst_heads.proofs.Rows.{Gathers}
+use Rattle.fst_heads.proofs.{Patches.IsLiveNumber, Words.patches_of, Rows.Gathers}
 use Rattle.fst_heads.proofs.row.live_named.Given as goal
 
 abbrev pub invariant-loop-name : goal.invariant-loop-name

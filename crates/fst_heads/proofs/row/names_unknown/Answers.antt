@@ -1,5 +1,4 @@
-use Rattle.fst_heads.proofs.Basics.{◌∙◌, refl, sym, false≢true}
-use Rattle.fst_heads.proofs.Rows.{name_in, none_unknown}
+use Rattle.fst_heads.proofs.{Basics.{◌∙◌, refl, sym, false≢true}, Rows.{name_in, none_unknown}}
 use Rattle.fst_heads.proofs.row.names_unknown.Goals as goal
 
 pub returns-then-not-is_given : goal.returns-then-not-is_given

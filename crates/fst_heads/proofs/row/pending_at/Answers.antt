@@ -1,5 +1,4 @@
-use Rattle.fst_heads.proofs.Basics.{sym}
-use Rattle.fst_heads.proofs.PendingAt.{pending_slot, pending_none}
+use Rattle.fst_heads.proofs.{Basics.sym, PendingAt.{pending_slot, pending_none}}
 use Rattle.fst_heads.proofs.row.pending_at.Goals as goal
 
 pub returns-in-Some : goal.returns-in-Some

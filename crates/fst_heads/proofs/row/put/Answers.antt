@@ -1,5 +1,4 @@
-use Rattle.fst_heads.proofs.Basics.{subst, refl, Err, IsBinarySearchResult, nat_cmp}
-use Rattle.fst_heads.proofs.Rows.{gains_new}
+use Rattle.fst_heads.proofs.{Basics.{subst, refl, Err, IsBinarySearchResult, nat_cmp}, Rows.gains_new}
 use Rattle.fst_heads.proofs.row.put.Goals as goal
 
 pub returns-in_ok-insert-in-Err : goal.returns-in_ok-insert-in-Err

@@ -1,7 +1,4 @@
-use Rattle.fst_heads.proofs.Basics.{◌≡◌, ◌≤◌, ◌+◌, ◌∙◌, get_or, sym, ap}
-use Rattle.fst_heads.proofs.Words.{nodes_of, pending_in, plus}
-use Rattle.fst_heads.proofs.Joining.{few_plus}
-use Rattle.fst_heads.proofs.PendingAt.{sums_more}
+use Rattle.fst_heads.proofs.{Basics.{◌≡◌, ◌≤◌, ◌+◌, ◌∙◌, get_or, sym, ap}, Words.{nodes_of, pending_in, plus}, Joining.few_plus, PendingAt.sums_more}
 use Rattle.fst_heads.proofs.row.row_sums.Goals as goal
 
 pub loop-number-preserved : goal.loop-number-preserved

@@ -1,5 +1,4 @@
-use Rattle.fst_heads.proofs.Basics.{◌≡◌, ◌≤◌, take}
-use Rattle.fst_heads.proofs.Words.{nodes_of, pending_in, Fits, sums_of}
+use Rattle.fst_heads.proofs.{Basics.{◌≡◌, ◌≤◌, take}, Words.{nodes_of, pending_in, Fits, sums_of}}
 use Rattle.fst_heads.proofs.row.row_sums.Given as goal
 
 abbrev pub invariant-loop-number : goal.invariant-loop-number

@@ -1,6 +1,4 @@
-use Rattle.fst_heads.proofs.Basics.{◌∙◌, sym, false≢true}
-use Rattle.fst_heads.proofs.Words.{patches_of}
-use Rattle.fst_heads.proofs.Newest.{gains_same, gains_more, gains_skip, gains_all}
+use Rattle.fst_heads.proofs.{Basics.{◌∙◌, sym, false≢true}, Words.patches_of, Newest.{gains_same, gains_more, gains_skip, gains_all}}
 use Rattle.fst_heads.proofs.sparse.gain_touched.Goals as goal
 use Rattle.fst_heads.proofs.sparse.gain_touched.Goals.{then-number-last+then-is_touched+in_ok-put, then-number-last+else-is_touched, else-number-last}
 

@@ -1,5 +1,4 @@
-use Rattle.fst_heads.proofs.Words.{patches_of}
-use Rattle.fst_heads.proofs.Newest.{GainsUpTo}
+use Rattle.fst_heads.proofs.{Words.patches_of, Newest.GainsUpTo}
 use Rattle.fst_heads.proofs.sparse.gain_touched.Given as goal
 
 abbrev pub invariant-loop-number : goal.invariant-loop-number

@@ -1,6 +1,4 @@
-use Rattle.fst_heads.proofs.Basics.{◌≡◌, ◌∙◌, get_or, sym, ap}
-use Rattle.fst_heads.proofs.Words.{patch_of, touches}
-use Rattle.fst_heads.proofs.Newest.{touched_at, touched_none}
+use Rattle.fst_heads.proofs.{Basics.{◌≡◌, ◌∙◌, get_or, sym, ap}, Words.{patch_of, touches}, Newest.{touched_at, touched_none}}
 use Rattle.fst_heads.proofs.sparse.is_touched.Goals as goal
 
 pub returns-in-Some : goal.returns-in-Some

@@ -1,5 +1,4 @@
-use Rattle.fst_heads.proofs.Basics.{◌∙◌, sym, IfOk, Result, Ok, Err, arith, rules}
-use Rattle.fst_heads.proofs.Words.{patches_of, numbers_of}
+use Rattle.fst_heads.proofs.{Basics.{◌∙◌, sym, IfOk, Result, Ok, Err, arith, rules}, Words.{patches_of, numbers_of}}
 use Rattle.fst_heads.proofs.Newest.{whole_is_sparse, newest_are_sparse}
 use Rattle.fst_heads.proofs.sparse.sparse_row.Goals as goal
 

@@ -1,5 +1,4 @@
-use Rattle.fst_heads.proofs.Basics.{◌≡◌, ◌<◌, ℕ, false, get_or}
-use Rattle.fst_heads.proofs.Words.{Standing, may_be_written}
+use Rattle.fst_heads.proofs.{Basics.{◌≡◌, ◌<◌, ℕ, false, get_or}, Words.{Standing, may_be_written}}
 use Rattle.fst_heads.proofs.standing.least_marked.Given as goal
 
 abbrev pub invariant-loop-block : goal.invariant-loop-block

@@ -1,18 +1,15 @@
 use Rattle.fst_heads.proofs.Basics.{◌≡◌, ◌<◌, ◌∙◌, ◌&&◌, ℕ, Bool, List, length, set, get_or, vec_len, Vec, Global, true, false, refl, sym, ap, subst, arith, and_right, rules, common_steps}
-use Rattle.fst_types.specs.declared.span.Span.{Span}
 use Rattle.fst_heads.proofs.Patches.{Grade, Place, is_at, is_on}
-use Rattle.fst_heads.proofs.Patches.place
 use Rattle.fst_heads.proofs.Words.{Head, Standing, kind_of, Node, node_of, nodes_of, Pending, Fits, Sinks, is_pending, now, is_told, settles, AllStand}
+use Rattle.fst_heads.proofs.{Framed.frames_set, AtNumber.at_slot, Releasing.{node_at, few_ready, some_held, stand_freed, stand_held, stand_told}}
+use Rattle.fst_heads.proofs.{Slots.slot_here, PendingAt.node_in}
+use Rattle.fst_types.specs.declared.span.Span.{Span}
+use Rattle.fst_heads.proofs.Patches.place
 use Rattle.fst_heads.proofs.Words.pending
 use Rattle.fst_heads.specs.declared.head.Kind.{Kind}
 use Rattle.fst_heads.specs.declared.head.Kind.TheVariants as kinds
-use Rattle.fst_heads.proofs.Framed.{frames_set}
-use Rattle.fst_heads.proofs.AtNumber.{at_slot}
-use Rattle.fst_heads.proofs.Releasing.{node_at, few_ready, some_held, stand_freed, stand_held, stand_told}
-use Rattle.fst_heads.proofs.Slots.{slot_here}
 use Rattle.fst_heads.proofs.standing.settle_slot.Goals as goal
 use Rattle.fst_heads.proofs.standing.settle_slot.Goals.{in-Change+in-Memory+then-is_pending, in-Change+in-Memory+else-is_pending, in-Change+in_default-place, in_default}
-use Rattle.fst_heads.proofs.PendingAt.{node_in}
 
 pub pending_now-new-requires : goal.pending_now-new-requires
 pending_now-new-requires c =

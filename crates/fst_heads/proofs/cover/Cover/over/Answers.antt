@@ -1,6 +1,5 @@
 use Rattle.fst_heads.proofs.Basics.{◌≡◌, ◌+◌, ◌-◌, ◌<◌, ◌≤◌, ℕ, List, length, get_or, take, drop, Contains, ap, subst, ◌∙◌, arith, length-between, get_or-between}
-use Rattle.fst_heads.proofs.Words.{newest_over}
-use Rattle.fst_heads.proofs.Slots.{any_default}
+use Rattle.fst_heads.proofs.{Words.newest_over, Slots.any_default}
 use Rattle.fst_heads.proofs.cover.Cover.over.Goals as goal
 
 -- an element of a list is in the part of it that has its place
