@@ -1,7 +1,7 @@
 -- What each call of the patches with sparse rows is of those with whole rows.
 use Rattle.std.proofs.Common.{◌≡◌, ◌≢◌, ◌≤◌, ◌+◌, ◌==◌, ◌∷◌, [], ℕ, List, Option, Some, None, length, map, Contains, refl, sym, ap, subst, ◌∙◌, inl, inr, ◌↔◌}
 use Rattle.std.proofs.lemmas.{Bool.cases_Bool, List.length-map, List.Elements.Contains-push_cases}
-use Rattle.fst_types.specs.{Dependencies.{IsBlocked, IsLiveNumber}, Facts.IsOnDiskWithAll, Gates.{IsGateNumber, IsOpenNumber, IsSealedNumber}, Grouping.GateIsSealedIfOpen, Looks.{IsPick, place_among, place_of}}
+use Rattle.fst_types.specs.{Dependencies.{IsBlocked}, Facts.IsOnDiskWithAll, Gates.{IsGateNumber, IsOpenNumber, IsSealedNumber}, Grouping.GateIsSealedIfOpen, Looks.{IsPick, place_among, place_of}}
 use Rattle.fst_types.specs.{Making.fresh, Order.{depend_order, seal_order, NamesAbove}, Overlaps.{IsOverlapped, Overlaps}, Patches.{Patch, Change, IsHard, IsLive, IsOn, IsOpenGate}}
 use Rattle.fst_types.specs.{Refusals.{IsFirst, NoneHolds}, Writable.{InWritableSet, IsWritableSet, HasReady, IsHeld, IsLeastHeld, IsWritable}, declared.fault.Fault.Fault, declared.grade.Grade.Grade}
 use Rattle.fst_graph.specs.Grouping.{AddsPair, SealsIfOpen}
@@ -10,8 +10,8 @@ use Rattle.fst_graph.specs.{Membering.{ArePaired, Foretells, GainsMember, Overla
 use Rattle.fst_graph.specs.Sparse.{AddsSparse, ForeseesSparse, ForetellsSparse, GainsSparse}
 use Rattle.fst_types.proofs.{Alike.{back_alike, open_back}, Loosened.loosened, Sealing.alike_sealed}
 use Rattle.fst_graph.proofs.WholeMember.{changed_is, member_is, foretold_is}
-use Rattle.fst_graph.proofs.WholeRows.{live_or_disk, direct_gate, gated_whole, emptied_whole, sealed_whole, begun_whole, gains_whole, launched_is, launched_over, landed_whole, forgotten_is, forgotten_over, grouped_is}
-use Rattle.fst_graph.proofs.Wholes.{memory_live, is, was, each_whole, on_disk, live_number, open_number, sealed_number, memory_is, memory_was, depends_up, depends_down, blocked, set_is, set_back, set_was}
+use Rattle.fst_graph.proofs.WholeRows.{gate_live, live_or_disk, direct_gate, gated_whole, emptied_whole, sealed_whole, begun_whole, gains_whole, launched_is, launched_over, landed_whole, forgotten_is, forgotten_over, grouped_is}
+use Rattle.fst_graph.proofs.Wholes.{memory_live, is, was, each_whole, on_disk, open_number, sealed_number, memory_is, memory_was, depends_up, depends_down, blocked, set_is, set_back, set_was}
 use Rattle.fst_types.specs.declared.grade.Grade.TheVariants as grade
 use Rattle.fst_types.specs.declared.place.Place.TheVariants as place
 
@@ -170,13 +170,8 @@ module _ (rows : List (ℕ × List ℕ)) (p : Known) (W : AreWhole rows p.heads 
   overlap_reaches : (tail b at len : ℕ) → IsOpenNumber T tail → OverlapReaches T tail b at len ↔ OverlapReaches F tail b at len
   overlap_reaches tail b at len o = (
     λ r. (r.0, (overlapped b at len r.0).0 r.1, depends_up rows T n W.sparse D r.0 tail r.2),
-    λ r. (r.0, (overlapped b at len r.0).1 r.1, depends_down rows T n W.sparse D r.0 tail r.2 (open_live tail o)),
+    λ r. (r.0, (overlapped b at len r.0).1 r.1, depends_down rows T n W.sparse D r.0 tail r.2 (gate_live rows T n W tail o)),
   )
-    where
-      open_live : (g : ℕ) → IsOpenNumber T g → IsLiveNumber T g
-      open_live g k =
-          let u = (open_number rows T g).0 k in
-          (live_number rows T g).1 (record { patch = u.patch; head = u.head; numbered = u.numbered; live = λ e. memory_live u.patch.place (D.open_gates u.patch u.head u.is_open) e })
 
   pub member_clear_is : (tail b at len : ℕ) → IsOpenNumber T tail → NoneHolds (member_order T n tail b at len) → NoneHolds (member_order F n tail b at len)
   member_clear_is tail b at len o c = (λ r. c.0 ((overlap_reaches tail b at len o).1 r), rw long c.1)
@@ -243,19 +238,11 @@ module _ (rows : List (ℕ × List ℕ)) (p : Known) (W : AreWhole rows p.heads 
         let k = grouped_is rows T n number q.heads W a.row in
         (record { clear = rw long a.clear; row = k.0; state = ap (whole_known rows) a.state }, at_numbers (number + 1) (ap (λ (k : Known). k.numbers) a.state) k.1)
 
-    pub change_over_known : (b at len : ℕ) (after : List ℕ) (number : ℕ) (g : Grade) → AddsSparse (unprepared p) b at len after number g q → AreWhole (with_row rows q.heads number after b at len) q.heads q.numbers
-    change_over_known b at len after number g a = subst (AreWhole (with_row rows q.heads number after b at len) q.heads) (sym a.numbers) (changed_is rows T n W b at len after number g q.heads a.row).1
-
-    pub change_made : (b at len : ℕ) (after : List ℕ) (number : ℕ) (g : Grade) → AddsSparse (unprepared p) b at len after number g q
-        → AddsChange (unprepared (whole_known rows p)) b at len after number g (whole_known (with_row rows q.heads number after b at len) q)
-    change_made b at len after number g a = record {
-      clear = (a.clear.0, (a.clear.1.0, rw long a.clear.1.1));
-      row = (changed_is rows T n W b at len after number g q.heads a.row).0;
-      numbers = a.numbers;
-      blocks = a.blocks;
-      groups = a.groups;
-      prepared = a.prepared;
-    }
+    pub change_known : (b at len : ℕ) (after : List ℕ) (number : ℕ) (g : Grade) → AddsSparse (unprepared p) b at len after number g q
+        → AddsChange (unprepared (whole_known rows p)) b at len after number g (whole_known (with_row rows q.heads number after b at len) q) × AreWhole (with_row rows q.heads number after b at len) q.heads q.numbers
+    change_known b at len after number g a =
+        let k = changed_is rows T n W b at len after number g q.heads a.row in
+        (record { clear = (a.clear.0, (a.clear.1.0, rw long a.clear.1.1)); row = k.0; numbers = a.numbers; blocks = a.blocks; groups = a.groups; prepared = a.prepared }, subst (AreWhole (with_row rows q.heads number after b at len) q.heads) (sym a.numbers) k.1)
 
     -- the tail of the group is open before the call too
     tail_open : (head tail b at len number : ℕ) (g : Grade) → GainsSparse (unprepared p) head tail b at len number g q → IsOpenNumber T tail
@@ -278,17 +265,13 @@ module _ (rows : List (ℕ × List ℕ)) (p : Known) (W : AreWhole rows p.heads 
             let w = back_alike F (map (whole rows) begun) (alike_sealed F (map (whole rows) begun) n head (loosened W.lawful) s.gate s.cascade) k.patch k.head in
             (open_number rows T tail).1 (record { patch = w.0; head = w.1; numbered = sym w.2.number ∙ k.numbered; is_open = open_back w.0 k.patch w.2 k.is_open })
 
-    pub member_over : (head tail b at len number : ℕ) (g : Grade) → GainsSparse (unprepared p) head tail b at len number g q → AreWhole (with_row rows q.heads number (head ∷ []) b at len) q.heads q.numbers
-    member_over head tail b at len number g a =
-        subst (AreWhole (with_row rows q.heads number (head ∷ []) b at len) q.heads) (sym (ap (λ (k : Known). k.numbers) a.state)) (member_is rows T n W head tail b at len number g q.heads a.row).1
-
-    pub member_made : (head tail b at len number : ℕ) (g : Grade) → GainsSparse (unprepared p) head tail b at len number g q
-        → GainsMember (unprepared (whole_known rows p)) head tail b at len number g (whole_known (with_row rows q.heads number (head ∷ []) b at len) q)
-    member_made head tail b at len number g a = record {
-      clear = member_clear_is tail b at len (tail_open head tail b at len number g a) a.clear;
-      row = (member_is rows T n W head tail b at len number g q.heads a.row).0;
-      state = ap (whole_known (with_row rows q.heads number (head ∷ []) b at len)) a.state;
-    }
+    pub member_known : (head tail b at len number : ℕ) (g : Grade) → GainsSparse (unprepared p) head tail b at len number g q
+        → GainsMember (unprepared (whole_known rows p)) head tail b at len number g (whole_known (with_row rows q.heads number (head ∷ []) b at len) q) × AreWhole (with_row rows q.heads number (head ∷ []) b at len) q.heads q.numbers
+    member_known head tail b at len number g a =
+        let more = with_row rows q.heads number (head ∷ []) b at len in
+        let k = member_is rows T n W head tail b at len number g q.heads a.row in
+        let clear = member_clear_is tail b at len (tail_open head tail b at len number g a) a.clear in
+        (record { clear = clear; row = k.0; state = ap (whole_known more) a.state }, subst (AreWhole more q.heads) (sym (ap (λ (k : Known). k.numbers) a.state)) k.1)
 
   pub foresees_is : (b at len : ℕ) (after : List ℕ) (number : ℕ) (g : Grade) → ForeseesSparse (unprepared p) b at len after number g → Foresees (unprepared (whole_known rows p)) b at len after number g
-  foresees_is b at len after number g x = (whole_known (with_row rows x.0.heads number after b at len) x.0, change_made x.0 b at len after number g x.1)
+  foresees_is b at len after number g x = (whole_known (with_row rows x.0.heads number after b at len) x.0, (change_known x.0 b at len after number g x.1).0)

@@ -1,10 +1,10 @@
 -- Each step over patches with sparse rows is one over the same with whole rows, of which these still keep a part.
-use Rattle.std.proofs.Common.{◌≡◌, ◌⊎◌, ◌↔◌, ℕ, ◌==◌, ◌+◌, ◌≤◌, Some, List, [], ◌∷◌, ◌++◌, map, filter, Contains, refl, sym, ap, subst, ◌∙◌, inl, inr, arith}
+use Rattle.std.proofs.Common.{Bool, true, false, if◌then◌else◌, ◌≡◌, ◌⊎◌, ◌↔◌, ℕ, ◌==◌, ◌+◌, ◌≤◌, Some, List, [], ◌∷◌, ◌++◌, map, filter, Contains, refl, sym, ap, subst, ◌∙◌, inl, inr, arith}
 use Rattle.std.proofs.lemmas.{Bool.{cases_Bool, cases_eq, eqb-true}, List.Elements.Contains-append_left}
 use Rattle.fst_types.specs.{Cascade.IsCascadeOf, Closure.{one, join}, Dependencies.{DirectlyOn, DependsOn, IsLiveNumber, IsOnDisk}, Facts.{HeadsAreLawful, IsOnDiskWithAll}}
 use Rattle.fst_types.specs.{Forgetting.DiskIsForgotten, Gates.IsOpenNumber, Gating.{gains, sealed, GateGains, GateIsSealed}, Grouping.{GateIsSealedIfOpen, GroupIsMade}}
 use Rattle.fst_types.specs.{Making.{fresh, EmptyIsMade, GateIsMade}, Order.NamesAbove, Patches.{Empty, OpenGate, SealedGate, Patch, IsLive, block_of_kind}}
-use Rattle.fst_types.specs.{Tests.{is_at, is_live, is_among, is_change_at}, Writable.{IsWritable, IsWritableSet}, Writing.{launched, landed, WriteIsLaunched, WriteIsLanded}}
+use Rattle.fst_types.specs.{Tests.{is_at, is_live, is_among, is_change_at}, Writable.{IsWritable, IsWritableSet}, Writing.{launched, landed, WriteIsLaunched, WriteIsLanded}, declared.place.Place.Place}
 use Rattle.fst_graph.specs.Rows.{whole, AreWhole}
 use Rattle.fst_types.proofs.{Cascades.place_decided, Crash.same_number, Dropping.{filter_in, in_filter, heads_dropped}, Finite.{decided_both, decided_not, In-from_Contains, Contains-from_In, search_list}}
 use Rattle.fst_types.proofs.Heads.{heads_gated, heads_emptied, heads_depended}
@@ -12,7 +12,7 @@ use Rattle.fst_types.proofs.{Heirs.{NoneShut, Heirs, heirs_pushed, heirs_cascade
 use Rattle.fst_types.proofs.Sealing.{heads_sealed}
 use Rattle.fst_heads.proofs.{CountsAs.count_map, Forgetting.{live_place_of, not_disk}}
 use Rattle.fst_walks.proofs.Holding.{live_up}
-use Rattle.fst_graph.proofs.Wholes.{whole_open, open_other, IsKept, kept_self, AreKept, kept_then, kept_map, kept_cascade, kept_pushed, sparse_kept, cascade_whole, swap_landed, swap_launched, swap_sealed, swap_gains, swap_filter, swap_pushed, memory_live, is, was, live_number, open_number, depends_up, depends_down}
+use Rattle.fst_graph.proofs.Wholes.{whole_open, open_other, IsKept, kept_self, AreKept, kept_then, kept_map, kept_cascade, kept_pushed, sparse_kept, cascade_whole, swap_landed, swap_launched, swap_sealed, swap_gains, swap_filter, swap_pushed, open_lives, is, was, live_number, open_number, depends_up, depends_down}
 use Rattle.fst_types.specs.declared.place.Place.TheVariants as place
 
 -- where no patch with the number is live, it is on disk
@@ -84,11 +84,9 @@ module _ (rows : List (ℕ × List ℕ)) (T : List Patch) (numbers : ℕ) (W : A
   ]
 
   -- what was in flight of a block is on disk
-  kept_landed : (b : ℕ) (p : Patch) → IsKept p (landed b p)
-  kept_landed b p = elim (cases_Bool (is_change_at place.Flight b p)) [
-    | inl t ↦ rw t (record { number = refl; more = λ q c. c; change = λ c on. (refl, refl) })
-    | inr f ↦ rw f (kept_self p)
-  ]
+  kept_placed : (t : Bool) (x : Place) (p : Patch) → IsKept p (if t then record p { place = x } else p)
+  kept_placed true x p = record { number = refl; more = λ q c. c; change = λ c on. (refl, refl) }
+  kept_placed false x p = kept_self p
 
   pub landed_whole : (b : ℕ) (new : List Patch) → WriteIsLanded T b new → WriteIsLanded F b (map (whole rows) new) × AreWhole rows new numbers
   landed_whole b new s =
@@ -96,25 +94,19 @@ module _ (rows : List (ℕ × List ℕ)) (T : List Patch) (numbers : ℕ) (W : A
         r,
         over NoneShut new numbers (heads_landed F (map (whole rows) new) numbers b W.lawful r)
             (heirs_cascade NoneShut numbers F (map (landed b) F) (map (whole rows) new) (heirs_landed numbers b F) r)
-            (kept_then T (map (landed b) T) new (kept_map (landed b) T (λ p h. kept_landed b p)) (kept_cascade (map (landed b) T) new s)) (omega arith),
+            (kept_then T (map (landed b) T) new (kept_map (landed b) T (λ p h. kept_placed (is_change_at place.Flight b p) place.Disk p)) (kept_cascade (map (landed b) T) new s)) (omega arith),
       )
 
   -- the chosen are in flight
   pub launched_is : (chosen : List ℕ) (new : List Patch) → WriteIsLaunched T chosen new → WriteIsLaunched F chosen (map (whole rows) new)
   launched_is chosen new s = ap (map (whole rows)) s ∙ sym (swap_launched rows chosen T)
 
-  kept_launched : (chosen : List ℕ) (p : Patch) → IsKept p (launched chosen p)
-  kept_launched chosen p = elim (cases_Bool (is_among chosen p.number)) [
-    | inl t ↦ rw t (record { number = refl; more = λ q c. c; change = λ c on. (refl, refl) })
-    | inr f ↦ rw f (kept_self p)
-  ]
-
   pub launched_over : (b : ℕ) (chosen : List ℕ) (new : List Patch) → IsWritable F b → IsWritableSet F b chosen → WriteIsLaunched T chosen new → AreWhole rows new numbers
   launched_over b chosen new writable choice s =
       let r = sym (launched_is chosen new s) in
       over NoneShut new numbers (subst (λ heads. HeadsAreLawful heads numbers) r (heads_launched F numbers b chosen W.lawful writable choice))
       (subst (Heirs NoneShut numbers F) r (heirs_launched numbers b chosen F W.lawful writable choice))
-      (subst (AreKept T) (sym s) (kept_map (launched chosen) T (λ p h. kept_launched chosen p))) (omega arith)
+      (subst (AreKept T) (sym s) (kept_map (launched chosen) T (λ p h. kept_placed (is_among chosen p.number) place.Flight p))) (omega arith)
 
   -- an open gate gains named patches
   pub direct_gate : (g : ℕ) → IsOpenNumber T g → (n : ℕ) → DirectlyOn T g n ↔ DirectlyOn F g n
@@ -131,10 +123,8 @@ module _ (rows : List (ℕ × List ℕ)) (T : List Patch) (numbers : ℕ) (W : A
         },
   )
 
-  gate_live : (g : ℕ) → IsOpenNumber T g → IsLiveNumber T g
-  gate_live g o =
-      let k = (open_number rows T g).0 o in
-      (live_number rows T g).1 (record { patch = k.patch; head = k.head; numbered = k.numbered; live = λ e. memory_live k.patch.place (D.open_gates k.patch k.head k.is_open) e })
+  pub gate_live : (g : ℕ) → IsOpenNumber T g → IsLiveNumber T g
+  gate_live g o = (live_number rows T g).1 (open_lives F D g ((open_number rows T g).0 o))
 
   pub above_same : (g : ℕ) (on : List ℕ) → IsOpenNumber T g → NamesAbove T g on ↔ NamesAbove F g on
   above_same g on o = (
