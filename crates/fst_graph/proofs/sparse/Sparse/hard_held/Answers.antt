@@ -19,19 +19,17 @@ mark_flight-flying-requires-clause-live c = rw c.deref-2.ensures.value (waits_li
 pub mark_flight-flying-requires-clause-linked : goal.mark_flight-flying-requires-clause-linked
 mark_flight-flying-requires-clause-linked c = rw c.deref-2.ensures.value c.self.invariant.tallies.linked
 
-pub first_held-requires-clause-rising : goal.first_held-requires-clause-rising
-first_held-requires-clause-rising c = rw c.deref-5.ensures.value (rising_sound c.self.invariant)
-
-pub first_held-requires-clause-listed : goal.first_held-requires-clause-listed
-first_held-requires-clause-listed c =
-    rw (c.deref-6.ensures.value, c.deref-5.ensures.value)
-    (its_list c.self.invariant c.deref.result.now c.deref.ensures.value c.args.block.0 c.in-Some.ensures.lookup.3.0 c.in-Some.list.now c.in-Some.ensures.lookup.1)
-
-pub first_held-requires-clause-long : goal.first_held-requires-clause-long
-first_held-requires-clause-long c =
-    let same : length c.marks.result.now ≡ length c.deref-5.result.now =
-    ap length c.marks.ensures.marks ∙ (c.mark_flight-flying.ensures.long ∙ ap length (c.deref-2.ensures.value ∙ sym c.deref-5.ensures.value)) in
-    subst (λ k. IfSome c.marks_if-marks.result (λ m. length m.now ≡ k)) same c.marks_if-marks.ensures.long
+pub first_held-requires : goal.first_held-requires
+first_held-requires c = record {
+  rising = rw c.deref-5.ensures.value (rising_sound c.self.invariant);
+  long =
+      let same : length c.marks.result.now ≡ length c.deref-5.result.now =
+      ap length c.marks.ensures.marks ∙ (c.mark_flight-flying.ensures.long ∙ ap length (c.deref-2.ensures.value ∙ sym c.deref-5.ensures.value)) in
+      subst (λ k. IfSome c.marks_if-marks.result (λ m. length m.now ≡ k)) same c.marks_if-marks.ensures.long;
+  listed =
+      rw (c.deref-6.ensures.value, c.deref-5.ensures.value)
+      (its_list c.self.invariant c.deref.result.now c.deref.ensures.value c.args.block.0 c.in-Some.ensures.lookup.3.0 c.in-Some.list.now c.in-Some.ensures.lookup.1);
+}
 
 pub returns-in_default-clause-none : goal.returns-in_default-clause-none
 returns-in_default-clause-none c =

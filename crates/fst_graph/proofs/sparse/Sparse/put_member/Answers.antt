@@ -15,19 +15,17 @@ use Rattle.fst_graph.proofs.sparse.Sparse.put_member.Goals as goal
 pub row_sums-sums-requires : goal.row_sums-sums-requires
 row_sums-sums-requires c = rw c.deref.ensures.value (rising_sound c.self.invariant)
 
-pub link-requires-clause-rising : goal.link-requires-clause-rising
-link-requires-clause-rising c = rising_sound c.self.invariant
-
 -- what is prepared may be put down
 now : (c : After-as_slice)
     → IsPutNow c.self.inside.heads c.self.inside.walks c.self.inside.lists c.self.inside.covers c.self.inside.standings c.self.inside.queue c.self.inside.numbers c.self.inside.blocks c.args.head c.in-Some-gates.gates c.in-Some.prepared
 now c = put_now c.self.invariant c.in-Some.prepared c.in-Some-gates.gates c.args.head c.args.self.now c.self.view_is c.requires.prepared c.requires.closed (sym c.take.ensures.value ∙ c.in-Some.is) c.in-Some-gates.is
 
-pub link-requires-clause-once : goal.link-requires-clause-once
-link-requires-clause-once c = let P = now (goal.at.link-requires-clause-once c).After-as_slice in rw c.as_slice-2.ensures P.down.ready.depends.rising
-
-pub link-requires-clause-room : goal.link-requires-clause-room
-link-requires-clause-room c = rw c.as_slice-2.ensures (now (goal.at.link-requires-clause-room c).After-as_slice).down.prepared.around.0
+pub link-requires : goal.link-requires
+link-requires c = record {
+  rising = rising_sound c.self.invariant;
+  once = let P = now (goal.at.link-requires c).After-as_slice in rw c.as_slice-2.ensures P.down.ready.depends.rising;
+  room = rw c.as_slice-2.ensures (now (goal.at.link-requires c).After-as_slice).down.prepared.around.0;
+}
 
 pub push_reserved-requires-2 : goal.push_reserved-requires-2
 push_reserved-requires-2 c =
