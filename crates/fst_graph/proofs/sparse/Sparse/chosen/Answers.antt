@@ -1,4 +1,4 @@
-use Rattle.std.proofs.Common.{◌≡◌, ◌∙◌, length, count_by, IfSome, option_map, sym, ap, subst, arith, ◌↔◌, ℕ, true}
+use Rattle.std.proofs.Common.{refl, ◌≡◌, ◌∙◌, length, count_by, IfSome, option_map, sym, ap, subst, arith, ◌↔◌, ℕ, true}
 use Rattle.fst_heads.specs.{Ascending.IsBehind, Heads.patches_of, Marks.mark_in, Nodes.nodes_of, Standings.is_ready_on}
 use Rattle.fst_heads.proofs.Counts.{free_few}
 use Rattle.fst_walks.proofs.Resting.{empty_set, none_yet, chosen_ready, chosen_refused}
@@ -50,22 +50,18 @@ returns-in_default-clause-ok c =
 exact : (c : goal.After-ready_set) (n : ℕ) → (mark_in c.self.inside.heads.items (option_map (λ m. m.now) c.marks_if-marks.result) n ≡ true) ↔ IsBehind (nodes_of c.self.inside.heads.items) c.args.block.0 n
 exact c = behind_marked c.self.inside.heads.items c.deref-2.result.now c.args.block.0 c.mark_flight-flying.result c.marks.result.now c.mark_flight-flying.new.walk.marks _ c.deref-2.ensures.value c.marks.ensures.marks c.mark_flight-flying.ensures.behind c.marks_if-marks.ensures.marks
 
-pub returns-clause-ok : goal.returns-clause-ok
-returns-clause-ok c =
+pub returns : goal.returns
+returns c =
     let s = c.self.inside in
     let heads = s.heads.items in
     let b = c.args.block.0 in
     let given = option_map (λ m. m.now) c.marks_if-marks.result in
-    rw (← c.self.view_is)
-    (chosen_ready heads s.numbers s.blocks s.walks.walk.marks _ s.standings.items s.queue.items s.queue.cap b c.self.invariant.keeps c.self.invariant.tallies (mark_in heads given) (exact c) c.ready_set.result
-    (rw (← c.deref-6.ensures.value) c.ready_set.ensures.ok))
-
-pub returns-clause-refused : goal.returns-clause-refused
-returns-clause-refused c =
-    let s = c.self.inside in
-    let heads = s.heads.items in
-    let b = c.args.block.0 in
-    let given = option_map (λ m. m.now) c.marks_if-marks.result in
-    rw (← c.self.view_is)
-    (chosen_refused heads s.numbers s.blocks s.walks.walk.marks _ s.standings.items s.queue.items s.queue.cap b c.self.invariant.keeps c.self.invariant.tallies (mark_in heads given) (exact c) c.ready_set.result
-    (rw (← c.deref-6.ensures.value) c.ready_set.ensures.refused))
+    record {
+      ok =
+          rw (← c.self.view_is) (chosen_ready heads s.numbers s.blocks s.walks.walk.marks _ s.standings.items s.queue.items s.queue.cap b c.self.invariant.keeps c.self.invariant.tallies (mark_in heads given) (exact c) c.ready_set.result
+          (rw (← c.deref-6.ensures.value) c.ready_set.ensures.ok));
+      refused =
+          rw (← c.self.view_is) (chosen_refused heads s.numbers s.blocks s.walks.walk.marks _ s.standings.items s.queue.items s.queue.cap b c.self.invariant.keeps c.self.invariant.tallies (mark_in heads given) (exact c) c.ready_set.result
+          (rw (← c.deref-6.ensures.value) c.ready_set.ensures.refused));
+      same = rw (← c.self.view_is) refl;
+    }

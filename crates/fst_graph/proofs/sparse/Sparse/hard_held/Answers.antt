@@ -1,4 +1,4 @@
-use Rattle.std.proofs.Common.{◌≡◌, ◌∙◌, ◌&&◌, ℕ, Bool, None, length, count_by, IfSome, option_map, sym, ap, subst, arith, ◌↔◌, true}
+use Rattle.std.proofs.Common.{refl, ◌≡◌, ◌∙◌, ◌&&◌, ℕ, Bool, None, length, count_by, IfSome, option_map, sym, ap, subst, arith, ◌↔◌, true}
 use Rattle.fst_heads.specs.{Ascending.IsBehind, Heads.patches_of, Marks.{mark_in, mark_of}, Nodes.nodes_of, Standings.is_held_on}
 use Rattle.fst_heads.proofs.Counts.{none_bound}
 use Rattle.fst_walks.proofs.Resting.{none_yet, none_there, none_held, least_held}
@@ -56,22 +56,18 @@ returns-then-held_count-eq0-clause-none c =
 exact : (c : goal.After-first_held) (n : ℕ) → (mark_in c.self.inside.heads.items (option_map (λ m. m.now) c.marks_if-marks.result) n ≡ true) ↔ IsBehind (nodes_of c.self.inside.heads.items) c.args.block.0 n
 exact c = behind_marked c.self.inside.heads.items c.deref-2.result.now c.args.block.0 c.mark_flight-flying.result c.marks.result.now c.mark_flight-flying.new.walk.marks _ c.deref-2.ensures.value c.marks.ensures.marks c.mark_flight-flying.ensures.behind c.marks_if-marks.ensures.marks
 
-pub returns-clause-none : goal.returns-clause-none
-returns-clause-none c =
+pub returns : goal.returns
+returns c =
     let s = c.self.inside in
     let heads = s.heads.items in
     let b = c.args.block.0 in
     let given = option_map (λ m. m.now) c.marks_if-marks.result in
-    rw (← c.self.view_is)
-    (none_held heads s.numbers s.blocks s.walks.walk.marks _ s.standings.items s.queue.items s.queue.cap b c.self.invariant.keeps c.self.invariant.tallies (mark_in heads given) (exact c) c.first_held.result
-    (rw (← c.deref-5.ensures.value) c.first_held.ensures.none))
-
-pub returns-clause-least : goal.returns-clause-least
-returns-clause-least c =
-    let s = c.self.inside in
-    let heads = s.heads.items in
-    let b = c.args.block.0 in
-    let given = option_map (λ m. m.now) c.marks_if-marks.result in
-    rw (← c.self.view_is)
-    (least_held heads s.numbers s.blocks s.walks.walk.marks _ s.standings.items s.queue.items s.queue.cap b c.self.invariant.keeps c.self.invariant.tallies (mark_in heads given) (exact c) c.first_held.result
-    (rw (← c.deref-5.ensures.value) c.first_held.ensures.least))
+    record {
+      none =
+          rw (← c.self.view_is) (none_held heads s.numbers s.blocks s.walks.walk.marks _ s.standings.items s.queue.items s.queue.cap b c.self.invariant.keeps c.self.invariant.tallies (mark_in heads given) (exact c) c.first_held.result
+          (rw (← c.deref-5.ensures.value) c.first_held.ensures.none));
+      least =
+          rw (← c.self.view_is) (least_held heads s.numbers s.blocks s.walks.walk.marks _ s.standings.items s.queue.items s.queue.cap b c.self.invariant.keeps c.self.invariant.tallies (mark_in heads given) (exact c) c.first_held.result
+          (rw (← c.deref-5.ensures.value) c.first_held.ensures.least));
+      same = rw (← c.self.view_is) refl;
+    }

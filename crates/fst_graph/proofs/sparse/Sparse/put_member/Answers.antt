@@ -42,15 +42,13 @@ index_mut-requires-2 c =
     let inside = (now (goal.at.index_mut-requires-2 c).After-as_slice).down.ready.inside in
     omega (arith, inside, c.self.invariant.tallies.standing.long, c.self.inside.standings.ok.0)
 
-pub enter-requires-clause-ready : goal.enter-requires-clause-ready
-enter-requires-clause-ready c =
-    let D = (now (goal.at.enter-requires-clause-ready c).After-as_slice).down in
-    few_counted c.self.inside.heads.items (is_ready_on c.in-Some.prepared.block) _ c.self.invariant.keeps.few (ap (λ s. s.ready) (D.counted c.index_mut-2.result.now c.index_mut-2.ensures.value))
-
-pub enter-requires-clause-held : goal.enter-requires-clause-held
-enter-requires-clause-held c =
-    let D = (now (goal.at.enter-requires-clause-held c).After-as_slice).down in
-    few_counted c.self.inside.heads.items (is_held_on c.in-Some.prepared.block) _ c.self.invariant.keeps.few (ap (λ s. s.held) (D.counted c.index_mut-2.result.now c.index_mut-2.ensures.value))
+pub enter-requires : goal.enter-requires
+enter-requires c =
+    let D = (now (goal.at.enter-requires c).After-as_slice).down in
+    record {
+      ready = few_counted c.self.inside.heads.items (is_ready_on c.in-Some.prepared.block) _ c.self.invariant.keeps.few (ap (λ s. s.ready) (D.counted c.index_mut-2.result.now c.index_mut-2.ensures.value));
+      held = few_counted c.self.inside.heads.items (is_held_on c.in-Some.prepared.block) _ c.self.invariant.keeps.few (ap (λ s. s.held) (D.counted c.index_mut-2.result.now c.index_mut-2.ensures.value));
+    }
 
 -- what is pending of the change, and the nodes and the patches with it
 sums : (c : After-push_reserved) → c.row_sums-sums.result ≡ sums_of (pending_in (nodes_of c.self.inside.heads.items)) c.in-Some.prepared.dependencies.items
