@@ -3,7 +3,7 @@ use Rattle.std.proofs.Common.{◌≡◌, ◌+◌, ◌<◌, ◌≤◌, ℕ, false
 use Rattle.std.specs.Prelude.{IfSome, IfNone}
 use Rattle.std.proofs.lemmas.{Bool.cases_Bool, List.length-replicate}
 use Rattle.fst_types.specs.{Dependencies.DependsOn, Events.{GroupNew, GroupAfter, GroupPatch, GroupClose}, Facts.IsTied, Gates.IsOpenNumber, Gating.{GateGains, GateIsSealed}}
-use Rattle.fst_types.specs.Grouping.{GroupIsPutAfter, MemberIsMade, GroupIsClosed, with_new, put_after, with_member, with_closed, MakesGroup, MakesMember, PutsAfter as PutsStateAfter, ClosesGroup as ClosesStateGroup}
+use Rattle.fst_types.specs.Grouping.{GroupIsPutAfter, MemberIsMade, GroupIsClosed, with_new, put_after, with_member, with_closed, MakesGroup, MakesMember, ClosesGroup as ClosesStateGroup}
 use Rattle.fst_types.specs.{Groups.{Group, IsGroup, IsGroupNumber}, Limits.max_groups, Order.{depend_order, group_after_order, group_patch_order, group_close_order}, Patches.Patch}
 use Rattle.fst_types.specs.{Refusals.{Rule, IsFirst, NoneHolds}, Step.{group, group_new, group_after, group_patch, group_close}, declared.fault.Fault.Fault, declared.grade.Grade.Grade}
 use Rattle.fst_graph.specs.Grouping.{unstarted_order, AddsPair, AddsGroup, PutsAfter, AddsMember, ForeseesMember, ClosesGroup, SealsIfOpen}
@@ -46,13 +46,10 @@ module _ (p q : Known) (gs : List Group) (G : IsGrouped p gs) where
 
   -- a new group
   module _ (n : ℕ) (a : AddsPair p n q) (few : max_groups ≤ length gs → ⊥) where
-    pub adds_group : AddsGroup (with_groups p gs) n (with_groups q (with_new gs n))
-    adds_group = record { clear = (few, a.clear); row = a.row; state = ap (λ k. with_groups k (with_new gs n)) a.state }
-
-    pub grouped_new : IsGrouped q (with_new gs n)
-    grouped_new =
+    pub new_group : AddsGroup (with_groups p gs) n (with_groups q (with_new gs n)) × IsGrouped q (with_new gs n)
+    new_group =
         let made : MakesGroup (state_at p gs 0 []) n (state_at q (with_new gs n) 2 []) = record { row = a.row; state = ap (λ k. state_at k (with_new gs n) 2 []) a.state } in
-        by_group p q gs G (with_new gs n) 2 [] (GroupNew 0) _ (ap (λ k. k.prepared) a.state) few (group (group_new made))
+        (record { clear = (few, a.clear); row = a.row; state = ap (λ k. with_groups k (with_new gs n)) a.state }, by_group p q gs G (with_new gs n) 2 [] (GroupNew 0) _ (ap (λ k. k.prepared) a.state) few (group (group_new made)))
 
     -- its number is past all tails
     pub past_tails : All (λ g. g.tail < n) gs
@@ -70,17 +67,14 @@ module _ (p q : Known) (gs : List Group) (G : IsGrouped p gs) where
     puts_row : DependsGate p n ((m + 1) ∷ []) q → GroupIsPutAfter p.heads gs n m q.heads
     puts_row d = record { before = other.0; named = other.1; tie = subst (λ t. GateGains p.heads n (t ∷ []) q.heads) (sym (tail_is m other.0 other.1)) d.row }
 
-    pub puts_after : DependsGate p n ((m + 1) ∷ []) q → PutsAfter (with_groups p gs) n m (with_groups q (put_after gs n m))
-    puts_after d = record {
-      clear = (u.0, (u.1.0, (u.1.1.0, (λ r. d.row.clear (m + 1, (0, omega arith, refl), inr (subst (λ t. DependsOn p.heads t n) (tail_is m r.0 r.1) r.2)), tt))));
-      row = puts_row d;
-      state = rw (d.numbers, d.blocks, d.prepared) refl;
-    }
-
-    pub grouped_after : DependsGate p n ((m + 1) ∷ []) q → IsGrouped q (put_after gs n m)
-    grouped_after d =
-        let put : PutsStateAfter (state_at p gs 0 []) n m (state_at q (put_after gs n m) 0 []) = record { row = puts_row d; state = rw d.numbers refl } in
-        by_group p q gs G (put_after gs n m) 0 [] (GroupAfter n m) _ d.prepared tt (group (group_after put))
+    pub puts_after : DependsGate p n ((m + 1) ∷ []) q → PutsAfter (with_groups p gs) n m (with_groups q (put_after gs n m)) × IsGrouped q (put_after gs n m)
+    puts_after d =
+        let added : PutsAfter (with_groups p gs) n m (with_groups q (put_after gs n m)) = record {
+          clear = (u.0, (u.1.0, (u.1.1.0, (λ r. d.row.clear (m + 1, (0, omega arith, refl), inr (subst (λ t. DependsOn p.heads t n) (tail_is m r.0 r.1) r.2)), tt))));
+          row = puts_row d;
+          state = rw (d.numbers, d.blocks, d.prepared) refl;
+        } in
+        (added, by_group p q gs G (put_after gs n m) 0 [] (GroupAfter n m) _ d.prepared tt (group (group_after (record { row = puts_row d; state = rw d.numbers refl }))))
 
     -- a cycle is all that can be refused past the first rules
     cycle_first : (f : Fault) → IsFirst (depend_order p.heads p.numbers n ((m + 1) ∷ [])) f → IsFirst (group_after_order p.heads gs n m) f
@@ -221,15 +215,13 @@ module _ (p r q : Known) (gs : List Group) (G : IsGrouped p gs) (n : ℕ) (none 
   still : q ≡ record p { heads = q.heads; prepared = None }
   still = end.state ∙ ap (λ (k : Known). record k { heads = q.heads; prepared = None }) begin.state
 
-  pub closes_group : ClosesGroup (with_groups p gs) n (with_groups q (with_closed gs n))
-  closes_group = record { clear = none; group = found.0; named = found.1; row = closed_row; state = ap (λ k. with_groups k (with_closed gs n)) still }
-
-  pub grouped_close : IsGrouped q (with_closed gs n)
-  grouped_close =
+  pub closes_group : ClosesGroup (with_groups p gs) n (with_groups q (with_closed gs n)) × IsGrouped q (with_closed gs n)
+  closes_group =
       let closes : ClosesStateGroup (state_at p gs 0 []) n (state_at q (with_closed gs n) 0 []) = record {
         group = found.0;
         named = found.1;
         row = closed_row;
         state = ap (λ k. state_at k (with_closed gs n) 0 []) still;
       } in
-      by_group p q gs G (with_closed gs n) 0 [] (GroupClose n) _ (ap (λ k. k.prepared) still) tt (group (group_close closes))
+      let added : ClosesGroup (with_groups p gs) n (with_groups q (with_closed gs n)) = record { clear = none; group = found.0; named = found.1; row = closed_row; state = ap (λ k. with_groups k (with_closed gs n)) still } in
+      (added, by_group p q gs G (with_closed gs n) 0 [] (GroupClose n) _ (ap (λ k. k.prepared) still) tt (group (group_close closes)))

@@ -1,8 +1,8 @@
 -- What each call leaves of what holds of the patches and their groups.
 use Rattle.std.proofs.{Common.{◌≡◌, ℕ, List, [], ◌∷◌, map, replicate, false, Result, Ok, Err, Some, None, refl, sym, subst, inl, inr, arith}, lemmas.List.length-replicate}
 use Rattle.std.specs.Prelude.{IfOk, IfErr, IfSome, OnErr}
-use Rattle.fst_types.specs.{Events.{Event, Reply, MakeChange, MakeEmpty, MakeGate, Depend, Seal, Forget}, Facts.HeadsAreLawful, Forgetting.Forgets as ForgetsHeads}
-use Rattle.fst_types.specs.{Gating.{Depends, Seals}, Groups.{Group, IsGroupGate}, Making.{ChangeIsMade, MakesChange, MakesEmpty, MakesGate}, Refusals.{Rule, ◌when◌}}
+use Rattle.fst_types.specs.{Events.{Event, Reply, MakeChange, MakeEmpty, MakeGate, Depend, Seal, Forget}, Facts.HeadsAreLawful}
+use Rattle.fst_types.specs.{Groups.{Group, IsGroupGate}, Making.{ChangeIsMade}, Refusals.{Rule, ◌when◌}}
 use Rattle.fst_types.specs.{State.State, Step.{Row, change, empty, gate, depend, seal, forget}, Writing.landed, declared.fault.Fault.Fault, declared.grade.Grade.Grade}
 use Rattle.fst_graph.specs.Known.{Known, Prepared, unprepared, with_groups, outside_groups, Foresees, Refuses, AddsGate, AddsEmpty, AddsChange, SealsGate, DependsGate, Launches, LandsBlock, MayLaunch, Forgets}
 use Rattle.fst_graph.specs.Whole.{IsGrouped, IsUnclosed}
@@ -14,29 +14,9 @@ use Rattle.fst_types.specs.declared.fault.Fault.TheVariants as fault
 abbrev pub state_at : Known → List Group → ℕ → List (ℕ × List ℕ) → State
 state_at k gs made contents = record { size = 0; resident = 0; numbers = k.numbers; tickets = 0; made = made; heads = k.heads; contents = contents; blocks = []; groups = gs }
 
--- what the patches gain is a row of such a state
-makes_gate : (p q : Known) (gs : List Group) (n : ℕ) → AddsGate p n q → MakesGate (state_at p gs 0 []) n (state_at q gs 1 [])
-makes_gate p q gs n a = record { row = a.row; state = rw a.numbers refl }
-
-makes_empty : (p q : Known) (gs : List Group) (n : ℕ) (after : List ℕ) → AddsEmpty p after n q → MakesEmpty (state_at p gs 0 []) after n (state_at q gs 1 [])
-makes_empty p q gs n after a = record { row = a.row; state = rw a.numbers refl }
-
-seals_gate : (p q : Known) (gs : List Group) (g : ℕ) → SealsGate p g q → Seals (state_at p gs 0 []) g (state_at q gs 0 [])
-seals_gate p q gs g a = record { row = a.row; state = rw a.numbers refl }
-
-depends_gate : (p q : Known) (gs : List Group) (g : ℕ) (on : List ℕ) → DependsGate p g on q → Depends (state_at p gs 0 []) g on (state_at q gs 0 [])
-depends_gate p q gs g on a = record { row = a.row; state = rw a.numbers refl }
-
 -- bytes for a change, which the patches do not have
 abbrev pub some_bytes : ℕ → List ℕ
 some_bytes len = replicate len 0
-
-makes_change : (p q : Known) (gs : List Group) (b at len n : ℕ) (after : List ℕ) (grade : Grade) → AddsChange p b at len after n grade q
-    → MakesChange (state_at p gs 0 []) b at (some_bytes len) after n grade (state_at q gs 1 ((n, some_bytes len) ∷ []))
-makes_change p q gs b at len n after grade a = record {
-  row = subst (λ k. ChangeIsMade p.heads p.numbers b at k after n grade q.heads) (sym (length-replicate len 0)) a.row;
-  state = rw a.numbers refl;
-}
 
 module _ (p q : Known) (gs : List Group) (G : IsGrouped p gs) where
   -- what a row of the definitions makes
@@ -55,24 +35,24 @@ module _ (p q : Known) (gs : List Group) (G : IsGrouped p gs) where
   grouped_prepared ready meant same = subst (λ k. IsGrouped k gs) (sym same) (record { lawful = G.lawful; grouped = G.grouped; prepared = meant })
 
   pub grouped_gate : (n : ℕ) → AddsGate p n q → IsGrouped q gs
-  grouped_gate n a = by_group gs 1 [] (MakeGate 0) _ a.prepared tt (gate (makes_gate p q gs n a))
+  grouped_gate n a = by_group gs 1 [] (MakeGate 0) _ a.prepared tt (gate (record { row = a.row; state = rw a.numbers refl }))
 
   pub grouped_empty : (after : List ℕ) (n : ℕ) → AddsEmpty p after n q → IsGrouped q gs
-  grouped_empty after n a = by_group gs 1 [] (MakeEmpty 0 after) _ a.prepared tt (empty (makes_empty p q gs n after a))
+  grouped_empty after n a = by_group gs 1 [] (MakeEmpty 0 after) _ a.prepared tt (empty (record { row = a.row; state = rw a.numbers refl }))
 
   pub grouped_seal : (g : ℕ) → (IsGroupGate gs g → ⊥) → SealsGate p g q → IsGrouped q gs
-  grouped_seal g plain a = by_group gs 0 [] (Seal g) _ a.prepared plain (seal (seals_gate p q gs g a))
+  grouped_seal g plain a = by_group gs 0 [] (Seal g) _ a.prepared plain (seal (record { row = a.row; state = rw a.numbers refl }))
 
   pub grouped_depend : (g : ℕ) (on : List ℕ) → DependsGate p g on q → IsGrouped q gs
-  grouped_depend g on a = by_group gs 0 [] (Depend g on) _ a.prepared tt (depend (depends_gate p q gs g on a))
+  grouped_depend g on a = by_group gs 0 [] (Depend g on) _ a.prepared tt (depend (record { row = a.row; state = rw a.numbers refl }))
 
   pub grouped_change : (b at len n : ℕ) (after : List ℕ) (grade : Grade) → AddsChange p b at len after n grade q → IsGrouped q gs
-  grouped_change b at len n after grade a = by_group gs 1 ((n, some_bytes len) ∷ []) (MakeChange 0 b at (some_bytes len) after false) _ a.prepared tt (change (makes_change p q gs b at len n after grade a))
+  grouped_change b at len n after grade a =
+      by_group gs 1 ((n, some_bytes len) ∷ []) (MakeChange 0 b at (some_bytes len) after false) _ a.prepared tt
+      (change (record { row = subst (λ k. ChangeIsMade p.heads p.numbers b at k after n grade q.heads) (sym (length-replicate len 0)) a.row; state = rw a.numbers refl }))
 
   pub grouped_forget : (dropped : ℕ) → Forgets p dropped q → IsGrouped q gs
-  grouped_forget dropped a =
-      let row : ForgetsHeads (state_at p gs 0 []) dropped (state_at q gs 0 []) = record { row = a.row; state = rw a.numbers refl } in
-      by_group gs 0 [] Forget _ a.prepared tt (forget row)
+  grouped_forget dropped a = by_group gs 0 [] Forget _ a.prepared tt (forget (record { row = a.row; state = rw a.numbers refl }))
 
   -- no gate is sealed
   passed : HeadsAreLawful q.heads q.numbers → Heirs NoneShut p.numbers p.heads q.heads → q.numbers ≡ p.numbers → q.prepared ≡ None → IsGrouped q gs

@@ -8,7 +8,7 @@ use Rattle.fst_types.proofs.Finite.{Decided, decided_not, decided_both, In-from_
 use Rattle.fst_types.proofs.{SealedSame.{Twin, back, forth, depends_same, need_was, need_is, reaches_same}, Sealing.{alike_sealed, sparse_sealed}, SmallStates.only_in}
 use Rattle.fst_heads.proofs.Touching.{touch_parts, touch_whole}
 use Rattle.fst_walks.proofs.{Holding.live_up, NearRow.under_weaker}
-use Rattle.fst_graph.proofs.Wholes.{memory_live}
+use Rattle.fst_graph.proofs.Wholes.{memory_live, open_lives}
 use Rattle.fst_types.specs.declared.grade.Grade.TheVariants as grade
 
 module _ (old new : List Patch) (numbers g : ℕ) (H : SparseAreLawful old numbers) (gate : IsOpenNumber old g) (cascade : IsCascadeOf (map (sealed g) old) new) where
@@ -187,9 +187,7 @@ module _ (old new : List Patch) (numbers g : ℕ) (H : SparseAreLawful old numbe
     where
       root_lives : (x : Patch) → IsAside x → IsRoot x → IsLiveNumber new x.number
       root_lives x k (inl on) = let y = is x k.head in record { patch = y.0; head = y.1; numbered = y.2.number; live = λ e. k.live (sym (y.2.place on.0 on.1) ∙ e) }
-      root_lives x k (inr open_gate) =
-          let y = is x k.head in
-          record { patch = y.0; head = y.1; numbered = y.2.number; live = λ e. memory_live y.0.place (K.on_disk_with_all.open_gates y.0 y.1 (y.2.stays_open open_gate k.other)) e }
+      root_lives x k (inr open_gate) = let y = is x k.head in open_lives new K.on_disk_with_all x.number (record { patch = y.0; head = y.1; numbered = y.2.number; is_open = y.2.stays_open open_gate k.other })
 
   -- the gate is live exactly where something live is directly below it
   pub gate_lives : (q : ℕ) → DirectlyOn old g q → IsLiveNumber old q → IsLiveNumber new g
@@ -249,12 +247,9 @@ module _ (old new : List Patch) (numbers g : ℕ) (H : SparseAreLawful old numbe
   row_named b at len row live l = record {
     rising = l.rising;
     only = λ n c. elim (l.only n c) [ inl k ↦ inl (subst (IsLiveNumber new) (only_in g n k.1) live, k.1) | inr t ↦ inr (touched_is b at len n t) ];
-    named = λ n k c. l.named n (subst (IsLiveNumber old) (only_in g n c) gate_live) c;
+    named = λ n k c. l.named n (subst (IsLiveNumber old) (only_in g n c) (open_lives old H.on_disk_with_all g gate)) c;
     above = λ n t. elim (l.above n (touched_was b at len n t)) [ inl c ↦ inl c | inr m ↦ inr (m.0, m.1, (depends m.0 n).1 m.2) ];
   }
-    where
-      gate_live : IsLiveNumber old g
-      gate_live = record { patch = gate.patch; head = gate.head; numbered = gate.numbered; live = λ e. memory_live gate.patch.place (H.on_disk_with_all.open_gates gate.patch gate.head gate.is_open) e }
 
   pub row_unnamed : (b at len : ℕ) (row : List ℕ) → (IsLiveNumber new g → ⊥) → IsSparseRow old [] b at len row → IsSparseRow new (g ∷ []) b at len row
   row_unnamed b at len row rests l = record {

@@ -1,7 +1,7 @@
 -- What each call of the patches with sparse rows is of those with whole rows.
 use Rattle.std.proofs.Common.{◌≡◌, ◌≢◌, ◌≤◌, ◌+◌, ◌==◌, ◌∷◌, [], ℕ, List, Option, Some, None, length, map, Contains, refl, sym, ap, subst, ◌∙◌, inl, inr, ◌↔◌}
 use Rattle.std.proofs.lemmas.{Bool.cases_Bool, List.length-map, List.Elements.Contains-push_cases}
-use Rattle.fst_types.specs.{Dependencies.{IsBlocked, IsLiveNumber}, Facts.IsOnDiskWithAll, Gates.{IsGateNumber, IsOpenNumber, IsSealedNumber}, Grouping.GateIsSealedIfOpen, Looks.{IsPick, place_among, place_of}}
+use Rattle.fst_types.specs.{Dependencies.{IsBlocked}, Facts.IsOnDiskWithAll, Gates.{IsGateNumber, IsOpenNumber, IsSealedNumber}, Grouping.GateIsSealedIfOpen, Looks.{IsPick, place_among, place_of}}
 use Rattle.fst_types.specs.{Making.fresh, Order.{depend_order, seal_order, NamesAbove}, Overlaps.{IsOverlapped, Overlaps}, Patches.{Patch, Change, IsHard, IsLive, IsOn, IsOpenGate}}
 use Rattle.fst_types.specs.{Refusals.{IsFirst, NoneHolds}, Writable.{InWritableSet, IsWritableSet, HasReady, IsHeld, IsLeastHeld, IsWritable}, declared.fault.Fault.Fault, declared.grade.Grade.Grade}
 use Rattle.fst_graph.specs.Grouping.{AddsPair, SealsIfOpen}
@@ -10,8 +10,8 @@ use Rattle.fst_graph.specs.{Membering.{ArePaired, Foretells, GainsMember, Overla
 use Rattle.fst_graph.specs.Sparse.{AddsSparse, ForeseesSparse, ForetellsSparse, GainsSparse}
 use Rattle.fst_types.proofs.{Alike.{back_alike, open_back}, Loosened.loosened, Sealing.alike_sealed}
 use Rattle.fst_graph.proofs.WholeMember.{changed_is, member_is, foretold_is}
-use Rattle.fst_graph.proofs.WholeRows.{live_or_disk, direct_gate, gated_over, gated_is, emptied_is, emptied_over, sealed_is, sealed_over, begun_is, begun_over, gains_is, gains_over, launched_is, launched_over, landed_is, landed_over, forgotten_is, forgotten_over, grouped_is}
-use Rattle.fst_graph.proofs.Wholes.{memory_live, is, was, each_whole, on_disk, live_number, open_number, sealed_number, memory_is, memory_was, depends_up, depends_down, blocked, set_is, set_back, set_was}
+use Rattle.fst_graph.proofs.WholeRows.{gate_live, live_or_disk, direct_gate, gated_whole, emptied_whole, sealed_whole, begun_whole, gains_whole, launched_is, launched_over, landed_whole, forgotten_is, forgotten_over, grouped_is}
+use Rattle.fst_graph.proofs.Wholes.{memory_live, is, was, each_whole, on_disk, open_number, sealed_number, memory_is, memory_was, depends_up, depends_down, blocked, set_is, set_back, set_was}
 use Rattle.fst_types.specs.declared.grade.Grade.TheVariants as grade
 use Rattle.fst_types.specs.declared.place.Place.TheVariants as place
 
@@ -170,13 +170,8 @@ module _ (rows : List (ℕ × List ℕ)) (p : Known) (W : AreWhole rows p.heads 
   overlap_reaches : (tail b at len : ℕ) → IsOpenNumber T tail → OverlapReaches T tail b at len ↔ OverlapReaches F tail b at len
   overlap_reaches tail b at len o = (
     λ r. (r.0, (overlapped b at len r.0).0 r.1, depends_up rows T n W.sparse D r.0 tail r.2),
-    λ r. (r.0, (overlapped b at len r.0).1 r.1, depends_down rows T n W.sparse D r.0 tail r.2 (open_live tail o)),
+    λ r. (r.0, (overlapped b at len r.0).1 r.1, depends_down rows T n W.sparse D r.0 tail r.2 (gate_live rows T n W tail o)),
   )
-    where
-      open_live : (g : ℕ) → IsOpenNumber T g → IsLiveNumber T g
-      open_live g k =
-          let u = (open_number rows T g).0 k in
-          (live_number rows T g).1 (record { patch = u.patch; head = u.head; numbered = u.numbered; live = λ e. memory_live u.patch.place (D.open_gates u.patch u.head u.is_open) e })
 
   pub member_clear_is : (tail b at len : ℕ) → IsOpenNumber T tail → NoneHolds (member_order T n tail b at len) → NoneHolds (member_order F n tail b at len)
   member_clear_is tail b at len o c = (λ r. c.0 ((overlap_reaches tail b at len o).1 r), rw long c.1)
@@ -198,35 +193,30 @@ module _ (rows : List (ℕ × List ℕ)) (p : Known) (W : AreWhole rows p.heads 
     at_numbers : (number : ℕ) → q.numbers ≡ number → AreWhole rows q.heads number → AreWhole rows q.heads q.numbers
     at_numbers number e V = subst (AreWhole rows q.heads) (sym e) V
 
-    pub gate_over : (number : ℕ) → AddsGate p number q → AreWhole rows q.heads q.numbers
-    gate_over number a = at_numbers number a.numbers (gated_over rows T n W number q.heads a.row)
+    pub gate_known : (number : ℕ) → AddsGate p number q → AddsGate (whole_known rows p) number (whole_known rows q) × AreWhole rows q.heads q.numbers
+    gate_known number a =
+        let k = gated_whole rows T n W number q.heads a.row in
+        (record { clear = rw long a.clear; row = k.0; numbers = a.numbers; blocks = a.blocks; groups = a.groups; prepared = a.prepared }, at_numbers number a.numbers k.1)
 
-    pub gate_made : (number : ℕ) → AddsGate p number q → AddsGate (whole_known rows p) number (whole_known rows q)
-    gate_made number a = record { clear = rw long a.clear; row = gated_is rows T n W number q.heads a.row; numbers = a.numbers; blocks = a.blocks; groups = a.groups; prepared = a.prepared }
+    pub empty_known : (after : List ℕ) (number : ℕ) → AddsEmpty p after number q → AddsEmpty (whole_known rows p) after number (whole_known rows q) × AreWhole rows q.heads q.numbers
+    empty_known after number a =
+        let k = emptied_whole rows T n W after number q.heads a.row in
+        (record { clear = (a.clear.0, (a.clear.1.0, rw long a.clear.1.1)); row = k.0; numbers = a.numbers; blocks = a.blocks; groups = a.groups; prepared = a.prepared }, at_numbers number a.numbers k.1)
 
-    pub empty_over : (after : List ℕ) (number : ℕ) → AddsEmpty p after number q → AreWhole rows q.heads q.numbers
-    empty_over after number a = at_numbers number a.numbers (emptied_over rows T n W after number q.heads a.row)
+    pub seal_known : (g : ℕ) → SealsGate p g q → SealsGate (whole_known rows p) g (whole_known rows q) × AreWhole rows q.heads q.numbers
+    seal_known g a =
+        let k = sealed_whole rows T n W g q.heads a.row in
+        (record { clear = seal_clear g a.clear; row = k.0; numbers = a.numbers; blocks = a.blocks; groups = a.groups; prepared = a.prepared }, at_numbers n a.numbers k.1)
 
-    pub empty_made : (after : List ℕ) (number : ℕ) → AddsEmpty p after number q → AddsEmpty (whole_known rows p) after number (whole_known rows q)
-    empty_made after number a = record { clear = (a.clear.0, (a.clear.1.0, rw long a.clear.1.1)); row = emptied_is rows T n W after number q.heads a.row; numbers = a.numbers; blocks = a.blocks; groups = a.groups; prepared = a.prepared }
+    pub begun_known : (g : ℕ) → SealsIfOpen p g q → SealsIfOpen (whole_known rows p) g (whole_known rows q) × AreWhole rows q.heads q.numbers
+    begun_known g s =
+        let k = begun_whole rows T n W g q.heads s.row in
+        (record { row = k.0; state = ap (whole_known rows) s.state }, at_numbers n (ap (λ (k : Known). k.numbers) s.state) k.1)
 
-    pub seal_over : (g : ℕ) → SealsGate p g q → AreWhole rows q.heads q.numbers
-    seal_over g a = at_numbers n a.numbers (sealed_over rows T n W g q.heads a.row)
-
-    pub seal_made : (g : ℕ) → SealsGate p g q → SealsGate (whole_known rows p) g (whole_known rows q)
-    seal_made g a = record { clear = seal_clear g a.clear; row = sealed_is rows T n W g q.heads a.row; numbers = a.numbers; blocks = a.blocks; groups = a.groups; prepared = a.prepared }
-
-    pub begun_over_known : (g : ℕ) → SealsIfOpen p g q → AreWhole rows q.heads q.numbers
-    begun_over_known g s = at_numbers n (ap (λ (k : Known). k.numbers) s.state) (begun_over rows T n W g q.heads s.row)
-
-    pub begun_made : (g : ℕ) → SealsIfOpen p g q → SealsIfOpen (whole_known rows p) g (whole_known rows q)
-    begun_made g s = record { row = begun_is rows T n W g q.heads s.row; state = ap (whole_known rows) s.state }
-
-    pub gains_over_known : (g : ℕ) (on : List ℕ) → DependsGate p g on q → AreWhole rows q.heads q.numbers
-    gains_over_known g on a = at_numbers n a.numbers (gains_over rows T n W g on q.heads a.row)
-
-    pub gains_made : (g : ℕ) (on : List ℕ) → DependsGate p g on q → DependsGate (whole_known rows p) g on (whole_known rows q)
-    gains_made g on a = record { clear = depend_clear g on a.clear; row = gains_is rows T n W g on q.heads a.row; numbers = a.numbers; blocks = a.blocks; groups = a.groups; prepared = a.prepared }
+    pub gains_known : (g : ℕ) (on : List ℕ) → DependsGate p g on q → DependsGate (whole_known rows p) g on (whole_known rows q) × AreWhole rows q.heads q.numbers
+    gains_known g on a =
+        let k = gains_whole rows T n W g on q.heads a.row in
+        (record { clear = depend_clear g on a.clear; row = k.0; numbers = a.numbers; blocks = a.blocks; groups = a.groups; prepared = a.prepared }, at_numbers n a.numbers k.1)
 
     pub launch_over : (chosen : List ℕ) → MayLaunch (whole_known rows p) chosen → Launches p chosen q → AreWhole rows q.heads q.numbers
     launch_over chosen m a = at_numbers n a.numbers (launched_over rows T n W m.block chosen q.heads m.writable m.choice a.row)
@@ -234,37 +224,25 @@ module _ (rows : List (ℕ × List ℕ)) (p : Known) (W : AreWhole rows p.heads 
     pub launch_made : (chosen : List ℕ) → Launches p chosen q → Launches (whole_known rows p) chosen (whole_known rows q)
     launch_made chosen a = record { row = launched_is rows T n W chosen q.heads a.row; numbers = a.numbers; blocks = a.blocks; groups = a.groups; prepared = a.prepared }
 
-    pub land_over : (b : ℕ) → LandsBlock p b q → AreWhole rows q.heads q.numbers
-    land_over b a = at_numbers n a.numbers (landed_over rows T n W b q.heads a.row)
+    pub land_known : (b : ℕ) → LandsBlock p b q → LandsBlock (whole_known rows p) b (whole_known rows q) × AreWhole rows q.heads q.numbers
+    land_known b a =
+        let k = landed_whole rows T n W b q.heads a.row in
+        (record { row = k.0; numbers = a.numbers; blocks = a.blocks; groups = a.groups; prepared = a.prepared }, at_numbers n a.numbers k.1)
 
-    pub land_made : (b : ℕ) → LandsBlock p b q → LandsBlock (whole_known rows p) b (whole_known rows q)
-    land_made b a = record { row = landed_is rows T n W b q.heads a.row; numbers = a.numbers; blocks = a.blocks; groups = a.groups; prepared = a.prepared }
+    pub forget_known : (dropped : ℕ) → Forgets p dropped q → Forgets (whole_known rows p) dropped (whole_known rows q) × AreWhole rows q.heads q.numbers
+    forget_known dropped a =
+        (record { row = forgotten_is rows T n W dropped q.heads a.row; numbers = a.numbers; blocks = a.blocks; groups = a.groups; prepared = a.prepared }, at_numbers n a.numbers (forgotten_over rows T n W dropped q.heads a.row))
 
-    pub forget_over : (dropped : ℕ) → Forgets p dropped q → AreWhole rows q.heads q.numbers
-    forget_over dropped a = at_numbers n a.numbers (forgotten_over rows T n W dropped q.heads a.row)
+    pub pair_known : (number : ℕ) → AddsPair p number q → AddsPair (whole_known rows p) number (whole_known rows q) × AreWhole rows q.heads q.numbers
+    pair_known number a =
+        let k = grouped_is rows T n number q.heads W a.row in
+        (record { clear = rw long a.clear; row = k.0; state = ap (whole_known rows) a.state }, at_numbers (number + 1) (ap (λ (k : Known). k.numbers) a.state) k.1)
 
-    pub forget_made : (dropped : ℕ) → Forgets p dropped q → Forgets (whole_known rows p) dropped (whole_known rows q)
-    forget_made dropped a = record { row = forgotten_is rows T n W dropped q.heads a.row; numbers = a.numbers; blocks = a.blocks; groups = a.groups; prepared = a.prepared }
-
-    pub pair_over : (number : ℕ) → AddsPair p number q → AreWhole rows q.heads q.numbers
-    pair_over number a = at_numbers (number + 1) (ap (λ (k : Known). k.numbers) a.state) (grouped_is rows T n number q.heads W a.row).1
-
-    pub pair_made : (number : ℕ) → AddsPair p number q → AddsPair (whole_known rows p) number (whole_known rows q)
-    pair_made number a = record { clear = rw long a.clear; row = (grouped_is rows T n number q.heads W a.row).0; state = ap (whole_known rows) a.state }
-
-    pub change_over_known : (b at len : ℕ) (after : List ℕ) (number : ℕ) (g : Grade) → AddsSparse (unprepared p) b at len after number g q → AreWhole (with_row rows q.heads number after b at len) q.heads q.numbers
-    change_over_known b at len after number g a = subst (AreWhole (with_row rows q.heads number after b at len) q.heads) (sym a.numbers) (changed_is rows T n W b at len after number g q.heads a.row).1
-
-    pub change_made : (b at len : ℕ) (after : List ℕ) (number : ℕ) (g : Grade) → AddsSparse (unprepared p) b at len after number g q
-        → AddsChange (unprepared (whole_known rows p)) b at len after number g (whole_known (with_row rows q.heads number after b at len) q)
-    change_made b at len after number g a = record {
-      clear = (a.clear.0, (a.clear.1.0, rw long a.clear.1.1));
-      row = (changed_is rows T n W b at len after number g q.heads a.row).0;
-      numbers = a.numbers;
-      blocks = a.blocks;
-      groups = a.groups;
-      prepared = a.prepared;
-    }
+    pub change_known : (b at len : ℕ) (after : List ℕ) (number : ℕ) (g : Grade) → AddsSparse (unprepared p) b at len after number g q
+        → AddsChange (unprepared (whole_known rows p)) b at len after number g (whole_known (with_row rows q.heads number after b at len) q) × AreWhole (with_row rows q.heads number after b at len) q.heads q.numbers
+    change_known b at len after number g a =
+        let k = changed_is rows T n W b at len after number g q.heads a.row in
+        (record { clear = (a.clear.0, (a.clear.1.0, rw long a.clear.1.1)); row = k.0; numbers = a.numbers; blocks = a.blocks; groups = a.groups; prepared = a.prepared }, subst (AreWhole (with_row rows q.heads number after b at len) q.heads) (sym a.numbers) k.1)
 
     -- the tail of the group is open before the call too
     tail_open : (head tail b at len number : ℕ) (g : Grade) → GainsSparse (unprepared p) head tail b at len number g q → IsOpenNumber T tail
@@ -282,22 +260,18 @@ module _ (rows : List (ℕ × List ℕ)) (p : Known) (W : AreWhole rows p.heads 
         opened : (head tail : ℕ) (begun : List Patch) → GateIsSealedIfOpen T head begun → IsOpenNumber begun tail → IsOpenNumber T tail
         opened head tail begun (inr same) o = subst (λ hs. IsOpenNumber hs tail) same.1 o
         opened head tail begun (inl seal) o =
-            let s = sealed_is rows T n W head begun seal in
+            let s = (sealed_whole rows T n W head begun seal).0 in
             let k = (open_number rows begun tail).0 o in
             let w = back_alike F (map (whole rows) begun) (alike_sealed F (map (whole rows) begun) n head (loosened W.lawful) s.gate s.cascade) k.patch k.head in
             (open_number rows T tail).1 (record { patch = w.0; head = w.1; numbered = sym w.2.number ∙ k.numbered; is_open = open_back w.0 k.patch w.2 k.is_open })
 
-    pub member_over : (head tail b at len number : ℕ) (g : Grade) → GainsSparse (unprepared p) head tail b at len number g q → AreWhole (with_row rows q.heads number (head ∷ []) b at len) q.heads q.numbers
-    member_over head tail b at len number g a =
-        subst (AreWhole (with_row rows q.heads number (head ∷ []) b at len) q.heads) (sym (ap (λ (k : Known). k.numbers) a.state)) (member_is rows T n W head tail b at len number g q.heads a.row).1
-
-    pub member_made : (head tail b at len number : ℕ) (g : Grade) → GainsSparse (unprepared p) head tail b at len number g q
-        → GainsMember (unprepared (whole_known rows p)) head tail b at len number g (whole_known (with_row rows q.heads number (head ∷ []) b at len) q)
-    member_made head tail b at len number g a = record {
-      clear = member_clear_is tail b at len (tail_open head tail b at len number g a) a.clear;
-      row = (member_is rows T n W head tail b at len number g q.heads a.row).0;
-      state = ap (whole_known (with_row rows q.heads number (head ∷ []) b at len)) a.state;
-    }
+    pub member_known : (head tail b at len number : ℕ) (g : Grade) → GainsSparse (unprepared p) head tail b at len number g q
+        → GainsMember (unprepared (whole_known rows p)) head tail b at len number g (whole_known (with_row rows q.heads number (head ∷ []) b at len) q) × AreWhole (with_row rows q.heads number (head ∷ []) b at len) q.heads q.numbers
+    member_known head tail b at len number g a =
+        let more = with_row rows q.heads number (head ∷ []) b at len in
+        let k = member_is rows T n W head tail b at len number g q.heads a.row in
+        let clear = member_clear_is tail b at len (tail_open head tail b at len number g a) a.clear in
+        (record { clear = clear; row = k.0; state = ap (whole_known more) a.state }, subst (AreWhole more q.heads) (sym (ap (λ (k : Known). k.numbers) a.state)) k.1)
 
   pub foresees_is : (b at len : ℕ) (after : List ℕ) (number : ℕ) (g : Grade) → ForeseesSparse (unprepared p) b at len after number g → Foresees (unprepared (whole_known rows p)) b at len after number g
-  foresees_is b at len after number g x = (whole_known (with_row rows x.0.heads number after b at len) x.0, change_made x.0 b at len after number g x.1)
+  foresees_is b at len after number g x = (whole_known (with_row rows x.0.heads number after b at len) x.0, (change_known x.0 b at len after number g x.1).0)

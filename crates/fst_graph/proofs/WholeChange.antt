@@ -1,19 +1,17 @@
 -- A new change with a sparse row is one with its whole row, which is kept beside, and which the patches tell once the change is among them.
-use Rattle.std.proofs.Common.{◌≡◌, ◌≢◌, ◌⊎◌, ◌↔◌, ℕ, ◌+◌, ◌≤◌, true, List, [], ◌∷◌, ◌++◌, map, Contains, refl, sym, ap, subst, ◌∙◌, inl, inr, arith, ◌==◌, ◌&&◌, ◌<◌, nat_lt, Bool, false, not, filter}
+use Rattle.std.proofs.Common.{◌≡◌, ◌≢◌, ◌⊎◌, ◌↔◌, ℕ, ◌+◌, ◌≤◌, true, List, [], ◌∷◌, ◌++◌, map, Contains, refl, sym, ap, subst, ◌∙◌, inl, inr, arith, ◌==◌, ◌&&◌, ◌<◌, nat_lt, Bool, false, filter}
 use Rattle.std.specs.Prelude.{◌||◌}
-use Rattle.std.proofs.lemmas.{Bool.{cases_Bool, false≢true}, Bool.Decides.nat_tests, List.{length-map, get_or-map}, List.Elements.Contains-push_cases, List.Kept.AllPairs-filter}
+use Rattle.std.proofs.lemmas.{Bool.{and_parts, cases_Bool, or_cases, or_right}, Bool.Decides.nat_tests, List.{length-map, get_or-map}, List.Elements.Contains-push_cases, List.Kept.AllPairs-filter}
 use Rattle.std.specs.List.Sorted.{IsStrictlyIncreasing}
 use Rattle.fst_types.specs.{Closure.{one, join}, Dependencies.{DirectlyOn, DependsOn, IsLiveNumber}, Facts.IsOnDiskWithAll, Gating.gains, Grades.{FollowsRule, IsGradedHard}, Lists.Lists}
-use Rattle.fst_types.specs.{Making.{fresh, ChangeIsMade}, Patches.{Kind, Change, Empty, OpenGate, SealedGate, Patch, IsRising}, Tests.{is_at, is_live, is_among}, declared.grade.Grade.Grade}
-use Rattle.fst_types.specs.declared.place.Place.{Place}
+use Rattle.fst_types.specs.{Making.{fresh, ChangeIsMade}, Patches.{Kind, Change, Empty, OpenGate, SealedGate, Patch, IsRising}, Tests.{is_live, is_among}, declared.grade.Grade.Grade}
 use Rattle.fst_heads.specs.Rows.{touches, IsTouched, IsDependency}
 use Rattle.fst_graph.specs.{Rows.{row_of_kind, whole, IsSparseOf, AreWhole, whole_row}, Sparse.SparseChangeIsMade}
 use Rattle.fst_types.proofs.{Adding.on_disk_with_all_added, Alike.closure_map, Dropping.{filter_in, in_filter}, Finite.{In, In-from_Contains, Contains-from_In, In-append_left, In-append_right, In-map}}
 use Rattle.fst_types.proofs.{Fits.content_end, GateGains.In-unmap, Heads.heads_changed, Images.content_more, Issuing.{among_in, in_among}, Loosened.loosened}
-use Rattle.fst_heads.proofs.{Forgetting.not_disk, Touching.depends_exactly}
+use Rattle.fst_heads.proofs.{Forgetting.{live_place_of, not_disk}, Touching.depends_exactly}
 use Rattle.fst_graph.proofs.{WholeRows.named, Wholes.{swap_pushed, is, was, live_number, blocked, need_is, need_was, reaches, returns}}
 use Rattle.fst_types.specs.declared.grade.Grade.TheVariants as grades
-use Rattle.fst_types.specs.declared.place.Place.TheVariants as place
 
 map_same : (f g : Patch → Patch) (xs : List Patch) → ((p : Patch) → In xs p → f p ≡ g p) → map f xs ≡ map g xs
 map_same f g [] same = refl
@@ -168,11 +166,6 @@ module _ (rows : List (ℕ × List ℕ)) (T : List Patch) (numbers : ℕ) (W : A
   pub change_over : AreWhole more new number
   change_over = record { lawful = heads_changed F (map (whole more) new) numbers b at len after number grade change_is W.lawful; sparse = sparse_over }
 
-live_to : (x : Place) → (x ≡ place.Disk → ⊥) → not (is_at x place.Disk) ≡ true
-live_to place.Memory l = refl
-live_to place.Flight l = refl
-live_to place.Disk l = absurd (l refl)
-
 numbers_rise : (ps : List Patch) → IsRising ps → IsStrictlyIncreasing (map (λ p. p.number) ps)
 numbers_rise [] pairs k lt = absurd (omega (arith, lt))
 numbers_rise (p ∷ ps) pairs k lt =
@@ -191,14 +184,6 @@ rising_whole rows heads rising i j d lt inside =
     let f = ap (λ x. x.number) (get_or-map (whole rows) heads j d (whole rows d) inside) in
     omega (arith, r, e, f)
 
-and_parts : (x y : Bool) → (x && y) ≡ true → (x ≡ true) × (y ≡ true)
-and_parts true y e = (refl, e)
-and_parts false y e = absurd (false≢true e)
-
-or_parts : (x y : Bool) → (x || y) ≡ true → (x ≡ true) ⊎ (y ≡ true)
-or_parts true y e = inl refl
-or_parts false y e = inr e
-
 module _ (number : ℕ) (after : List ℕ) (b at len : ℕ) where
   abbrev listed : Patch → Bool
   listed p = nat_lt p.number number && (touches b at len p || (is_live p && is_among after p.number))
@@ -215,7 +200,7 @@ module _ (number : ℕ) (after : List ℕ) (b at len : ℕ) where
           let p = In-unmap (λ (x : Patch). x.number) (filter listed heads) n (In-from_Contains (whole_row heads number after b at len) n c) in
           let k = filter_in listed heads p.0 p.1 in
           let h = Contains-from_In heads p.0 k.0 in
-          elim (or_parts (touches b at len p.0) (is_live p.0 && is_among after p.0.number) (and_parts (nat_lt p.0.number number) _ k.1).1) [
+          elim (or_cases (touches b at len p.0) (is_live p.0 && is_among after p.0.number) (and_parts (nat_lt p.0.number number) _ k.1).1) [
             | inl t ↦ inr (record { patch = p.0; head = h; numbered = p.2; shares = t })
             | inr l ↦
                 let m = and_parts (is_live p.0) (is_among after p.0.number) l in
@@ -228,14 +213,10 @@ module _ (number : ℕ) (after : List ℕ) (b at len : ℕ) where
           let lt : nat_lt p.number number ≡ true = grind (arith, nat_tests, few) in
           Contains-from_In (whole_row heads number after b at len) p.number (In-map (λ (x : Patch). x.number) (filter listed heads) p p.number (in_filter listed heads p (In-from_Contains heads p h) (rw (lt, e) refl)) refl)
 
-      or_right : (x y : Bool) → y ≡ true → (x || y) ≡ true
-      or_right true y e = refl
-      or_right false y e = e
-
       each : (n : ℕ) → IsDependency heads after b at len n → Contains (whole_row heads number after b at len) n
       each n (inl k) =
           let p = k.0.patch in
-          let live = live_to p.place k.0.live in
+          let live = live_place_of p.place k.0.live in
           let among = in_among after p.number (In-from_Contains after p.number (subst (Contains after) (sym k.0.numbered) k.1)) in
           subst (Contains (whole_row heads number after b at len)) k.0.numbered (has p k.0.head (or_right (touches b at len p) (is_live p && is_among after p.number) (rw (live, among) refl)))
       each n (inr t) = subst (Contains (whole_row heads number after b at len)) t.numbered (has t.patch t.head (rw t.shares refl))

@@ -6,7 +6,7 @@ use Rattle.fst_graph.specs.{Rows.{row_of_kind, whole, whole_row, AreWhole, with_
 use Rattle.fst_types.proofs.{Crash.same_number, Finite.{In, Contains-from_In}, Loosened.loosened, OneChange.changes_fixed, OneList.cascade_same, Sealing.heads_sealed}
 use Rattle.fst_heads.proofs.Slots.{find_patch}
 use Rattle.fst_graph.proofs.WholeChange.{change_is, change_over, rising_whole, lawful_row, row_pushed, row_gained}
-use Rattle.fst_graph.proofs.{WholeRows.{sealed_is, sealed_over, begun_is, begun_over, gains_is, gains_over}, Wholes.{cascade_whole, swap_sealed, open_number}}
+use Rattle.fst_graph.proofs.{WholeRows.{sealed_whole, begun_whole, gains_whole}, Wholes.{cascade_whole, swap_sealed, open_number}}
 
 -- the rows that are kept by these patches themselves
 abbrev pub own_rows : List Patch → List (ℕ × List ℕ)
@@ -61,11 +61,11 @@ module _ (rows : List (ℕ × List ℕ)) (T : List Patch) (numbers : ℕ) (W : A
         gate = gate;
         cascade = subst (λ mid. IsCascadeOf mid heads) (sym swapped ∙ ap (map (sealed g)) back) (cascade_whole mine (map (sealed g) F) begun s.cascade);
       } in
-      let there = sealed_is rows T numbers W g heads again in (
+      let there = sealed_whole rows T numbers W g heads again in (
         heads,
         again,
-        cascade_same (map (sealed g) F) (map (whole rows) heads) begun numbers there.cascade s.cascade
-            (loosened (sealed_over rows T numbers W g heads again).lawful) (loosened (heads_sealed F begun numbers g W.lawful s.gate s.cascade)),
+        cascade_same (map (sealed g) F) (map (whole rows) heads) begun numbers there.0.cascade s.cascade
+            (loosened there.1.lawful) (loosened (heads_sealed F begun numbers g W.lawful s.gate s.cascade)),
       )
 
   pub unbegun : (g : ℕ) (begun : List Patch) → GateIsSealedIfOpen F g begun → (heads : List Patch) × GateIsSealedIfOpen T g heads × (map (whole rows) heads ≡ begun)
@@ -79,22 +79,15 @@ pub member_is : (rows : List (ℕ × List ℕ)) (T : List Patch) (numbers : ℕ)
     → MemberIsMade (map (whole rows) T) numbers head tail b at len number grade (map (whole (with_row rows new number (head ∷ []) b at len)) new)
     × AreWhole (with_row rows new number (head ∷ []) b at len) new number
 member_is rows T numbers W head tail b at len number grade new s =
-    let V = begun_over rows T numbers W head s.begun s.begin in
-    let made = changed_is rows s.begun numbers V b at len (head ∷ []) number grade s.with_change s.change in
+    let V = begun_whole rows T numbers W head s.begun s.begin in
+    let made = changed_is rows s.begun numbers V.1 b at len (head ∷ []) number grade s.with_change s.change in
     let more = rows ++ (number, whole_row s.with_change number (head ∷ []) b at len) ∷ [] in
     let same : whole_row new number (head ∷ []) b at len ≡ whole_row s.with_change number (head ∷ []) b at len =
     ap (λ heads. whole_row heads number (head ∷ []) b at len) s.tie.gained ∙ row_gained number (head ∷ []) b at len tail s.tie.names s.with_change in
+    let k = gains_whole more s.with_change number made.1 tail (number ∷ []) new s.tie in
     subst
-    (λ r. MemberIsMade (map (whole rows) T) numbers head tail b at len number grade (map (whole (rows ++ (number, r) ∷ [])) new) × AreWhole (rows ++ (number, r) ∷ []) new number) (sym same) (
-      record {
-        begun = map (whole rows) s.begun;
-        begin = begun_is rows T numbers W head s.begun s.begin;
-        with_change = map (whole more) s.with_change;
-        change = made.0;
-        tie = gains_is more s.with_change number made.1 tail (number ∷ []) new s.tie;
-      },
-      gains_over more s.with_change number made.1 tail (number ∷ []) new s.tie,
-    )
+    (λ r. MemberIsMade (map (whole rows) T) numbers head tail b at len number grade (map (whole (rows ++ (number, r) ∷ [])) new) × AreWhole (rows ++ (number, r) ∷ []) new number) (sym same)
+    (record { begun = map (whole rows) s.begun; begin = V.0; with_change = map (whole more) s.with_change; change = made.0; tie = k.0 }, k.1)
 
 -- two changes that follow from the same have one number and one grade
 pub one_change : (number other : ℕ) (g h : Grade) → MadeChange number g ≡ MadeChange other h → (number ≡ other) × (g ≡ h)
@@ -105,7 +98,7 @@ pub foretold_is : (rows : List (ℕ × List ℕ)) (T : List Patch) (numbers : �
     → MemberIsMade (map (whole rows) T) numbers head tail b at len n g new → (n ≡ number) × (g ≡ grade)
 foretold_is rows T numbers W head tail b at len number n grade g new told m =
     let u = unbegun rows T numbers W head m.begun m.begin in
-    let V = begun_over rows T numbers W head u.0 u.1 in
+    let V = (begun_whole rows T numbers W head u.0 u.1).1 in
     let t = told u.0 u.1 in
     let made = (changed_is rows u.0 numbers V b at len (head ∷ []) number grade t.0 t.1).0 in
     let K = subst (λ heads. HeadsAreLawful heads numbers) u.2 V.lawful in

@@ -1,10 +1,10 @@
 -- Each step over patches with sparse rows is one over the same with whole rows, of which these still keep a part.
-use Rattle.std.proofs.Common.{◌≡◌, ◌⊎◌, ◌↔◌, ℕ, ◌==◌, ◌+◌, ◌≤◌, Some, List, [], ◌∷◌, ◌++◌, map, filter, Contains, refl, sym, ap, subst, ◌∙◌, inl, inr, arith}
+use Rattle.std.proofs.Common.{Bool, true, false, if◌then◌else◌, ◌≡◌, ◌⊎◌, ◌↔◌, ℕ, ◌==◌, ◌+◌, ◌≤◌, Some, List, [], ◌∷◌, ◌++◌, map, filter, Contains, refl, sym, ap, subst, ◌∙◌, inl, inr, arith}
 use Rattle.std.proofs.lemmas.{Bool.{cases_Bool, cases_eq, eqb-true}, List.Elements.Contains-append_left}
 use Rattle.fst_types.specs.{Cascade.IsCascadeOf, Closure.{one, join}, Dependencies.{DirectlyOn, DependsOn, IsLiveNumber, IsOnDisk}, Facts.{HeadsAreLawful, IsOnDiskWithAll}}
 use Rattle.fst_types.specs.{Forgetting.DiskIsForgotten, Gates.IsOpenNumber, Gating.{gains, sealed, GateGains, GateIsSealed}, Grouping.{GateIsSealedIfOpen, GroupIsMade}}
 use Rattle.fst_types.specs.{Making.{fresh, EmptyIsMade, GateIsMade}, Order.NamesAbove, Patches.{Empty, OpenGate, SealedGate, Patch, IsLive, block_of_kind}}
-use Rattle.fst_types.specs.{Tests.{is_at, is_live, is_among, is_change_at}, Writable.{IsWritable, IsWritableSet}, Writing.{launched, landed, WriteIsLaunched, WriteIsLanded}}
+use Rattle.fst_types.specs.{Tests.{is_at, is_live, is_among, is_change_at}, Writable.{IsWritable, IsWritableSet}, Writing.{launched, landed, WriteIsLaunched, WriteIsLanded}, declared.place.Place.Place}
 use Rattle.fst_graph.specs.Rows.{whole, AreWhole}
 use Rattle.fst_types.proofs.{Cascades.place_decided, Crash.same_number, Dropping.{filter_in, in_filter, heads_dropped}, Finite.{decided_both, decided_not, In-from_Contains, Contains-from_In, search_list}}
 use Rattle.fst_types.proofs.Heads.{heads_gated, heads_emptied, heads_depended}
@@ -12,7 +12,7 @@ use Rattle.fst_types.proofs.{Heirs.{NoneShut, Heirs, heirs_pushed, heirs_cascade
 use Rattle.fst_types.proofs.Sealing.{heads_sealed}
 use Rattle.fst_heads.proofs.{CountsAs.count_map, Forgetting.{live_place_of, not_disk}}
 use Rattle.fst_walks.proofs.Holding.{live_up}
-use Rattle.fst_graph.proofs.Wholes.{whole_open, open_other, IsKept, kept_self, AreKept, kept_then, kept_map, kept_cascade, kept_pushed, sparse_kept, cascade_whole, swap_landed, swap_launched, swap_sealed, swap_gains, swap_filter, swap_pushed, memory_live, is, was, live_number, open_number, depends_up, depends_down}
+use Rattle.fst_graph.proofs.Wholes.{whole_open, open_other, IsKept, kept_self, AreKept, kept_then, kept_map, kept_cascade, kept_pushed, sparse_kept, cascade_whole, swap_landed, swap_launched, swap_sealed, swap_gains, swap_filter, swap_pushed, open_lives, is, was, live_number, open_number, depends_up, depends_down}
 use Rattle.fst_types.specs.declared.place.Place.TheVariants as place
 
 -- where no patch with the number is live, it is on disk
@@ -56,12 +56,6 @@ module _ (rows : List (ℕ × List ℕ)) (T : List Patch) (numbers : ℕ) (W : A
       ap (λ x. x.kind) (same_number F (whole rows p) (whole rows o.patch) W.lawful.one_place_each.rising (is rows T p h) (is rows T o.patch o.head) (e ∙ sym o.numbered)) ∙ o.is_open
 
   -- a gate is sealed
-  pub sealed_is : (g : ℕ) (new : List Patch) → GateIsSealed T g new → GateIsSealed F g (map (whole rows) new)
-  sealed_is g new s = record {
-    gate = (open_number rows T g).0 s.gate;
-    cascade = subst (λ mid. IsCascadeOf mid (map (whole rows) new)) (sym (swap_sealed rows g T (gate_only g s.gate))) (cascade_whole rows (map (sealed g) T) new s.cascade);
-  }
-
   kept_sealed : (g : ℕ) (p : Patch) → IsKept p (sealed g p)
   kept_sealed g p = elim (cases_Bool (p.number == g)) [
     | inl t ↦ rw t (record { number = refl; more = λ q c. c; change = λ b on. absurd (shut b on) })
@@ -71,52 +65,48 @@ module _ (rows : List (ℕ × List ℕ)) (T : List Patch) (numbers : ℕ) (W : A
       shut : (b : ℕ) → block_of_kind SealedGate ≡ Some b → ⊥
       shut b e = cc
 
-  pub sealed_over : (g : ℕ) (new : List Patch) → GateIsSealed T g new → AreWhole rows new numbers
-  sealed_over g new s =
-      let r = sealed_is g new s in
-      over (λ n. n ≡ g) new numbers (heads_sealed F (map (whole rows) new) numbers g W.lawful r.gate r.cascade)
-      (heirs_cascade (λ n. n ≡ g) numbers F (map (sealed g) F) (map (whole rows) new) (heirs_sealed numbers g F W.lawful r.gate) r.cascade)
-      (kept_then T (map (sealed g) T) new (kept_map (sealed g) T (λ p h. kept_sealed g p)) (kept_cascade (map (sealed g) T) new s.cascade)) (omega arith)
+  pub sealed_whole : (g : ℕ) (new : List Patch) → GateIsSealed T g new → GateIsSealed F g (map (whole rows) new) × AreWhole rows new numbers
+  sealed_whole g new s =
+      let r : GateIsSealed F g (map (whole rows) new) = record {
+        gate = (open_number rows T g).0 s.gate;
+        cascade = subst (λ mid. IsCascadeOf mid (map (whole rows) new)) (sym (swap_sealed rows g T (gate_only g s.gate))) (cascade_whole rows (map (sealed g) T) new s.cascade);
+      } in (
+        r,
+        over (λ n. n ≡ g) new numbers (heads_sealed F (map (whole rows) new) numbers g W.lawful r.gate r.cascade)
+            (heirs_cascade (λ n. n ≡ g) numbers F (map (sealed g) F) (map (whole rows) new) (heirs_sealed numbers g F W.lawful r.gate) r.cascade)
+            (kept_then T (map (sealed g) T) new (kept_map (sealed g) T (λ p h. kept_sealed g p)) (kept_cascade (map (sealed g) T) new s.cascade)) (omega arith),
+      )
 
-  pub begun_is : (g : ℕ) (new : List Patch) → GateIsSealedIfOpen T g new → GateIsSealedIfOpen F g (map (whole rows) new)
-  begun_is g new s = elim s [ inl seal ↦ inl (sealed_is g new seal) | inr shut ↦ inr (λ o. shut.0 ((open_number rows T g).1 o), ap (map (whole rows)) shut.1) ]
-
-  pub begun_over : (g : ℕ) (new : List Patch) → GateIsSealedIfOpen T g new → AreWhole rows new numbers
-  begun_over g new s = elim s [ inl seal ↦ sealed_over g new seal | inr shut ↦ subst (λ heads. AreWhole rows heads numbers) (sym shut.1) W ]
-
-  -- what was in flight of a block is on disk
-  pub landed_is : (b : ℕ) (new : List Patch) → WriteIsLanded T b new → WriteIsLanded F b (map (whole rows) new)
-  landed_is b new s = subst (λ mid. IsCascadeOf mid (map (whole rows) new)) (sym (swap_landed rows b T)) (cascade_whole rows (map (landed b) T) new s)
-
-  kept_landed : (b : ℕ) (p : Patch) → IsKept p (landed b p)
-  kept_landed b p = elim (cases_Bool (is_change_at place.Flight b p)) [
-    | inl t ↦ rw t (record { number = refl; more = λ q c. c; change = λ c on. (refl, refl) })
-    | inr f ↦ rw f (kept_self p)
+  pub begun_whole : (g : ℕ) (new : List Patch) → GateIsSealedIfOpen T g new → GateIsSealedIfOpen F g (map (whole rows) new) × AreWhole rows new numbers
+  begun_whole g new s = elim s [
+    | inl seal ↦ let k = sealed_whole g new seal in (inl k.0, k.1)
+    | inr shut ↦ (inr (λ o. shut.0 ((open_number rows T g).1 o), ap (map (whole rows)) shut.1), subst (λ heads. AreWhole rows heads numbers) (sym shut.1) W)
   ]
 
-  pub landed_over : (b : ℕ) (new : List Patch) → WriteIsLanded T b new → AreWhole rows new numbers
-  landed_over b new s =
-      let r = landed_is b new s in
-      over NoneShut new numbers (heads_landed F (map (whole rows) new) numbers b W.lawful r)
-      (heirs_cascade NoneShut numbers F (map (landed b) F) (map (whole rows) new) (heirs_landed numbers b F) r)
-      (kept_then T (map (landed b) T) new (kept_map (landed b) T (λ p h. kept_landed b p)) (kept_cascade (map (landed b) T) new s)) (omega arith)
+  -- what was in flight of a block is on disk
+  kept_placed : (t : Bool) (x : Place) (p : Patch) → IsKept p (if t then record p { place = x } else p)
+  kept_placed true x p = record { number = refl; more = λ q c. c; change = λ c on. (refl, refl) }
+  kept_placed false x p = kept_self p
+
+  pub landed_whole : (b : ℕ) (new : List Patch) → WriteIsLanded T b new → WriteIsLanded F b (map (whole rows) new) × AreWhole rows new numbers
+  landed_whole b new s =
+      let r : WriteIsLanded F b (map (whole rows) new) = subst (λ mid. IsCascadeOf mid (map (whole rows) new)) (sym (swap_landed rows b T)) (cascade_whole rows (map (landed b) T) new s) in (
+        r,
+        over NoneShut new numbers (heads_landed F (map (whole rows) new) numbers b W.lawful r)
+            (heirs_cascade NoneShut numbers F (map (landed b) F) (map (whole rows) new) (heirs_landed numbers b F) r)
+            (kept_then T (map (landed b) T) new (kept_map (landed b) T (λ p h. kept_placed (is_change_at place.Flight b p) place.Disk p)) (kept_cascade (map (landed b) T) new s)) (omega arith),
+      )
 
   -- the chosen are in flight
   pub launched_is : (chosen : List ℕ) (new : List Patch) → WriteIsLaunched T chosen new → WriteIsLaunched F chosen (map (whole rows) new)
   launched_is chosen new s = ap (map (whole rows)) s ∙ sym (swap_launched rows chosen T)
-
-  kept_launched : (chosen : List ℕ) (p : Patch) → IsKept p (launched chosen p)
-  kept_launched chosen p = elim (cases_Bool (is_among chosen p.number)) [
-    | inl t ↦ rw t (record { number = refl; more = λ q c. c; change = λ c on. (refl, refl) })
-    | inr f ↦ rw f (kept_self p)
-  ]
 
   pub launched_over : (b : ℕ) (chosen : List ℕ) (new : List Patch) → IsWritable F b → IsWritableSet F b chosen → WriteIsLaunched T chosen new → AreWhole rows new numbers
   launched_over b chosen new writable choice s =
       let r = sym (launched_is chosen new s) in
       over NoneShut new numbers (subst (λ heads. HeadsAreLawful heads numbers) r (heads_launched F numbers b chosen W.lawful writable choice))
       (subst (Heirs NoneShut numbers F) r (heirs_launched numbers b chosen F W.lawful writable choice))
-      (subst (AreKept T) (sym s) (kept_map (launched chosen) T (λ p h. kept_launched chosen p))) (omega arith)
+      (subst (AreKept T) (sym s) (kept_map (launched chosen) T (λ p h. kept_placed (is_among chosen p.number) place.Flight p))) (omega arith)
 
   -- an open gate gains named patches
   pub direct_gate : (g : ℕ) → IsOpenNumber T g → (n : ℕ) → DirectlyOn T g n ↔ DirectlyOn F g n
@@ -133,10 +123,8 @@ module _ (rows : List (ℕ × List ℕ)) (T : List Patch) (numbers : ℕ) (W : A
         },
   )
 
-  gate_live : (g : ℕ) → IsOpenNumber T g → IsLiveNumber T g
-  gate_live g o =
-      let k = (open_number rows T g).0 o in
-      (live_number rows T g).1 (record { patch = k.patch; head = k.head; numbered = k.numbered; live = λ e. memory_live k.patch.place (D.open_gates k.patch k.head k.is_open) e })
+  pub gate_live : (g : ℕ) → IsOpenNumber T g → IsLiveNumber T g
+  gate_live g o = (live_number rows T g).1 (open_lives F D g ((open_number rows T g).0 o))
 
   pub above_same : (g : ℕ) (on : List ℕ) → IsOpenNumber T g → NamesAbove T g on ↔ NamesAbove F g on
   above_same g on o = (
@@ -144,26 +132,24 @@ module _ (rows : List (ℕ × List ℕ)) (T : List Patch) (numbers : ℕ) (W : A
     λ a. (a.0, a.1, elim a.2 [ inl e ↦ inl e | inr d ↦ inr (depends_down rows T numbers W.sparse D a.0 g d (gate_live g o)) ]),
   )
 
-  pub gains_is : (g : ℕ) (on : List ℕ) (new : List Patch) → GateGains T g on new → GateGains F g on (map (whole rows) new)
-  gains_is g on new s = record {
-    gate = (open_number rows T g).0 s.gate;
-    clear = λ a. s.clear ((above_same g on s.gate).1 a);
-    names = s.names;
-    live = record {
-      rising = s.live.rising;
-      only = λ n c. let k = s.live.only n c in ((live_number rows T n).0 k.0, k.1, λ d. k.2 ((direct_gate g s.gate n).1 d));
-      each = λ n k. s.live.each n ((live_number rows T n).1 k.0, k.1, λ d. k.2 ((direct_gate g s.gate n).0 d));
-    };
-    gained = ap (map (whole rows)) s.gained ∙ sym (swap_gains rows g s.names T (gate_only g s.gate));
-  }
-
-  pub gains_over : (g : ℕ) (on : List ℕ) (new : List Patch) → GateGains T g on new → AreWhole rows new numbers
-  unfolding gains_is
-  gains_over g on new s =
-      let r = gains_is g on new s in
-      over NoneShut new numbers (heads_depended F (map (whole rows) new) numbers g on r W.lawful)
-      (subst (Heirs NoneShut numbers F) (sym r.gained) (heirs_gained numbers g s.names F W.lawful r.gate))
-      (subst (AreKept T) (sym s.gained) (kept_map (gains g s.names) T (λ p h. kept_gains p h))) (omega arith)
+  pub gains_whole : (g : ℕ) (on : List ℕ) (new : List Patch) → GateGains T g on new → GateGains F g on (map (whole rows) new) × AreWhole rows new numbers
+  gains_whole g on new s =
+      let r : GateGains F g on (map (whole rows) new) = record {
+        gate = (open_number rows T g).0 s.gate;
+        clear = λ a. s.clear ((above_same g on s.gate).1 a);
+        names = s.names;
+        live = record {
+          rising = s.live.rising;
+          only = λ n c. let k = s.live.only n c in ((live_number rows T n).0 k.0, k.1, λ d. k.2 ((direct_gate g s.gate n).1 d));
+          each = λ n k. s.live.each n ((live_number rows T n).1 k.0, k.1, λ d. k.2 ((direct_gate g s.gate n).0 d));
+        };
+        gained = ap (map (whole rows)) s.gained ∙ sym (swap_gains rows g s.names T (gate_only g s.gate));
+      } in (
+        r,
+        over NoneShut new numbers (heads_depended F (map (whole rows) new) numbers g on r W.lawful)
+            (subst (Heirs NoneShut numbers F) (sym r.gained) (heirs_gained numbers g s.names F W.lawful r.gate))
+            (subst (AreKept T) (sym s.gained) (kept_map (gains g s.names) T (λ p h. kept_gains p h))) (omega arith),
+      )
     where
       kept_gains : (p : Patch) → Contains T p → IsKept p (gains g s.names p)
       kept_gains p h = elim (cases_Bool (p.number == g)) [
@@ -176,39 +162,36 @@ module _ (rows : List (ℕ × List ℕ)) (T : List Patch) (numbers : ℕ) (W : A
       ]
 
   -- a new gate
-  pub gated_is : (number : ℕ) (new : List Patch) → GateIsMade T numbers number new → GateIsMade F numbers number (map (whole rows) new)
-  gated_is number new s = record { next = s.next; added = ap (map (whole rows)) s.added ∙ swap_pushed rows T (fresh number OpenGate []) }
-
-  pub gated_over : (number : ℕ) (new : List Patch) → GateIsMade T numbers number new → AreWhole rows new number
-  gated_over number new s =
-      let r = gated_is number new s in
-      let next = s.next in
-      over NoneShut new number (heads_gated F (map (whole rows) new) numbers number r W.lawful)
-      (subst (Heirs NoneShut numbers F) (sym r.added) (heirs_pushed numbers F (fresh number OpenGate []) s.next))
-      (subst (AreKept T) (sym s.added) (kept_pushed T (fresh number OpenGate []) (λ b e. cc))) (omega (arith, next))
+  pub gated_whole : (number : ℕ) (new : List Patch) → GateIsMade T numbers number new → GateIsMade F numbers number (map (whole rows) new) × AreWhole rows new number
+  gated_whole number new s =
+      let r : GateIsMade F numbers number (map (whole rows) new) = record { next = s.next; added = ap (map (whole rows)) s.added ∙ swap_pushed rows T (fresh number OpenGate []) } in
+      let next = s.next in (
+        r,
+        over NoneShut new number (heads_gated F (map (whole rows) new) numbers number r W.lawful)
+            (subst (Heirs NoneShut numbers F) (sym r.added) (heirs_pushed numbers F (fresh number OpenGate []) s.next))
+            (subst (AreKept T) (sym s.added) (kept_pushed T (fresh number OpenGate []) (λ b e. cc))) (omega (arith, next)),
+      )
 
   -- a new empty patch
-  pub emptied_is : (after : List ℕ) (number : ℕ) (new : List Patch) → EmptyIsMade T numbers after number new → EmptyIsMade F numbers after number (map (whole rows) new)
-  emptied_is after number new s = record {
-    next = s.next;
-    dependencies = s.dependencies;
-    depends = record {
-      rising = s.depends.rising;
-      only = λ n c. let k = s.depends.only n c in ((live_number rows T n).0 k.0, k.1);
-      each = λ n k. s.depends.each n ((live_number rows T n).1 k.0, k.1);
-    };
-    cascade = subst (λ mid. IsCascadeOf mid (map (whole rows) new)) (swap_pushed rows T (fresh number Empty s.dependencies)) (cascade_whole rows (T ++ fresh number Empty s.dependencies ∷ []) new s.cascade);
-  }
-
-  pub emptied_over : (after : List ℕ) (number : ℕ) (new : List Patch) → EmptyIsMade T numbers after number new → AreWhole rows new number
-  unfolding emptied_is
-  emptied_over after number new s =
-      let r = emptied_is after number new s in
+  pub emptied_whole : (after : List ℕ) (number : ℕ) (new : List Patch) → EmptyIsMade T numbers after number new → EmptyIsMade F numbers after number (map (whole rows) new) × AreWhole rows new number
+  emptied_whole after number new s =
       let next = s.next in
       let p = fresh number Empty s.dependencies in
-      over NoneShut new number (heads_emptied F (map (whole rows) new) numbers after number r W.lawful)
-      (heirs_cascade NoneShut numbers F (F ++ p ∷ []) (map (whole rows) new) (heirs_pushed numbers F p s.next) r.cascade)
-      (kept_then T (T ++ p ∷ []) new (kept_pushed T p (λ b e. cc)) (kept_cascade (T ++ p ∷ []) new s.cascade)) (omega (arith, next))
+      let r : EmptyIsMade F numbers after number (map (whole rows) new) = record {
+        next = next;
+        dependencies = s.dependencies;
+        depends = record {
+          rising = s.depends.rising;
+          only = λ n c. let k = s.depends.only n c in ((live_number rows T n).0 k.0, k.1);
+          each = λ n k. s.depends.each n ((live_number rows T n).1 k.0, k.1);
+        };
+        cascade = subst (λ mid. IsCascadeOf mid (map (whole rows) new)) (swap_pushed rows T p) (cascade_whole rows (T ++ p ∷ []) new s.cascade);
+      } in (
+        r,
+        over NoneShut new number (heads_emptied F (map (whole rows) new) numbers after number r W.lawful)
+            (heirs_cascade NoneShut numbers F (F ++ p ∷ []) (map (whole rows) new) (heirs_pushed numbers F p s.next) r.cascade)
+            (kept_then T (T ++ p ∷ []) new (kept_pushed T p (λ b e. cc)) (kept_cascade (T ++ p ∷ []) new s.cascade)) (omega (arith, next)),
+      )
 
   -- what is on disk is forgotten
   pub forgotten_is : (dropped : ℕ) (new : List Patch) → DiskIsForgotten T dropped new → DiskIsForgotten F dropped (map (whole rows) new)
@@ -253,14 +236,7 @@ module _ (rows : List (ℕ × List ℕ)) (T : List Patch) (numbers : ℕ) (W : A
 pub grouped_is : (rows : List (ℕ × List ℕ)) (T : List Patch) (numbers number : ℕ) (new : List Patch) → AreWhole rows T numbers → GroupIsMade T numbers number new
     → GroupIsMade (map (whole rows) T) numbers number (map (whole rows) new) × AreWhole rows new (number + 1)
 grouped_is rows T numbers number new W s =
-    let V = gated_over rows T numbers W number s.with_head s.head in
-    let U = gated_over rows s.with_head number V (number + 1) s.with_tail s.tail in (
-      record {
-        with_head = map (whole rows) s.with_head;
-        head = gated_is rows T numbers W number s.with_head s.head;
-        with_tail = map (whole rows) s.with_tail;
-        tail = gated_is rows s.with_head number V (number + 1) s.with_tail s.tail;
-        tie = gains_is rows s.with_tail (number + 1) U (number + 1) (number ∷ []) new s.tie;
-      },
-      gains_over rows s.with_tail (number + 1) U (number + 1) (number ∷ []) new s.tie,
-    )
+    let V = gated_whole rows T numbers W number s.with_head s.head in
+    let U = gated_whole rows s.with_head number V.1 (number + 1) s.with_tail s.tail in
+    let k = gains_whole rows s.with_tail (number + 1) U.1 (number + 1) (number ∷ []) new s.tie in
+    (record { with_head = map (whole rows) s.with_head; head = V.0; with_tail = map (whole rows) s.with_tail; tail = U.0; tie = k.0 }, k.1)

@@ -10,10 +10,12 @@ use Rattle.fst_types.proofs.{Alike.closure_map, Cascades.{place_decided, Settled
 use Rattle.fst_types.proofs.{Finite.{In-from_Contains, Contains-from_In, In-map, In, In-append_left}, GateGains.In-unmap}
 use Rattle.fst_walks.proofs.Holding.{live_up}
 use Rattle.fst_types.specs.declared.place.Place.TheVariants as place
-use Rattle.fst_types.specs.declared.place.Place.TheVariants as place
 
 pub memory_live : (x : Place) → x ≡ place.Memory → x ≡ place.Disk → ⊥
 memory_live x a b = cc
+
+pub open_lives : (heads : List Patch) → IsOnDiskWithAll heads → (g : ℕ) → IsOpenNumber heads g → IsLiveNumber heads g
+open_lives heads D g o = record { patch = o.patch; head = o.head; numbered = o.numbered; live = λ e. memory_live o.patch.place (D.open_gates o.patch o.head o.is_open) e }
 
 -- a patch and the same with its whole row
 module _ (rows : List (ℕ × List ℕ)) (T : List Patch) where

@@ -1,4 +1,4 @@
-use Rattle.fst_graph.proofs.GroupCalls.{adds_group, grouped_new, past_tails}
+use Rattle.fst_graph.proofs.GroupCalls.{new_group, past_tails}
 use Rattle.fst_graph.proofs.graph.Graph.group_new.Goals as goal
 
 pub add-requires-clause-past : goal.add-requires-clause-past
@@ -9,9 +9,9 @@ add-requires-clause-past c =
 pub invariant_of-self-in-Ok : goal.invariant_of-self-in-Ok
 invariant_of-self-in-Ok c =
     let clear = rw (← c.self.view_is) at c.in_default.ensures.clear in
-    rw (c.add.ensures, c.reserve.ensures.items) (grouped_new c.self.inside.patches c.add_pair.new.self c.self.inside.groups.items c.self.invariant c.in-Ok.head.0 c.in-Ok.ensures.ok clear.0)
+    rw (c.add.ensures, c.reserve.ensures.items) (new_group c.self.inside.patches c.add_pair.new.self c.self.inside.groups.items c.self.invariant c.in-Ok.head.0 c.in-Ok.ensures.ok clear.0).1
 
 pub returns-in-Ok-clause-ok : goal.returns-in-Ok-clause-ok
 returns-in-Ok-clause-ok c =
     let clear = rw (← c.self.view_is) at c.in_default.ensures.clear in
-    rw (← c.self.view_is, c.add.ensures, c.reserve.ensures.items) (adds_group c.self.inside.patches c.add_pair.new.self c.self.inside.groups.items c.self.invariant c.in-Ok.head.0 c.in-Ok.ensures.ok clear.0)
+    rw (← c.self.view_is, c.add.ensures, c.reserve.ensures.items) (new_group c.self.inside.patches c.add_pair.new.self c.self.inside.groups.items c.self.invariant c.in-Ok.head.0 c.in-Ok.ensures.ok clear.0).0

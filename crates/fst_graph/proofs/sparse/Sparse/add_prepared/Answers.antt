@@ -22,15 +22,13 @@ down c =
     let kept : s.prepared ≡ Some p = sym c.take.ensures.value ∙ c.in-Some.is in
     put_down c.self.invariant p kept (ready_alone s.numbers s.prepared p c.requires.0 (patches_of s.heads.items) s.numbers s.blocks kept (ap (λ k. k.prepared) c.self.view_is ∙ c.requires.1) c.requires.2 (prepared_is c.self.invariant p kept).ready)
 
-pub enter-requires-clause-ready : goal.enter-requires-clause-ready
-enter-requires-clause-ready c =
-    let D = down (goal.at.enter-requires-clause-ready c).After-as_slice in
-    few_counted c.self.inside.heads.items (is_ready_on c.in-Some.prepared.block) _ c.self.invariant.keeps.few (ap (λ s. s.ready) (D.counted c.index_mut-2.result.now c.index_mut-2.ensures.value))
-
-pub enter-requires-clause-held : goal.enter-requires-clause-held
-enter-requires-clause-held c =
-    let D = down (goal.at.enter-requires-clause-held c).After-as_slice in
-    few_counted c.self.inside.heads.items (is_held_on c.in-Some.prepared.block) _ c.self.invariant.keeps.few (ap (λ s. s.held) (D.counted c.index_mut-2.result.now c.index_mut-2.ensures.value))
+pub enter-requires : goal.enter-requires
+enter-requires c =
+    let D = down (goal.at.enter-requires c).After-as_slice in
+    record {
+      ready = few_counted c.self.inside.heads.items (is_ready_on c.in-Some.prepared.block) _ c.self.invariant.keeps.few (ap (λ s. s.ready) (D.counted c.index_mut-2.result.now c.index_mut-2.ensures.value));
+      held = few_counted c.self.inside.heads.items (is_held_on c.in-Some.prepared.block) _ c.self.invariant.keeps.few (ap (λ s. s.held) (D.counted c.index_mut-2.result.now c.index_mut-2.ensures.value));
+    }
 
 -- what is pending of the change, and the nodes and the patches with it
 sums : (c : After-push_reserved) → c.row_sums-sums.result ≡ sums_of (pending_in (nodes_of c.self.inside.heads.items)) c.in-Some.prepared.dependencies.items

@@ -1,4 +1,4 @@
-use Rattle.std.proofs.Common.{◌≡◌, ◌∙◌, length, count_by, IfSome, option_map, sym, ap, subst, arith, ◌↔◌, ℕ, true}
+use Rattle.std.proofs.Common.{refl, ◌≡◌, ◌∙◌, length, count_by, IfSome, option_map, sym, ap, subst, arith, ◌↔◌, ℕ, true}
 use Rattle.fst_heads.specs.{Ascending.IsBehind, Heads.patches_of, Marks.mark_in, Nodes.nodes_of, Standings.is_ready_on}
 use Rattle.fst_heads.proofs.Counts.{free_few}
 use Rattle.fst_walks.proofs.Resting.{empty_set, none_yet, chosen_ready, chosen_refused}
@@ -19,29 +19,25 @@ mark_flight-flying-requires-clause-live c = rw c.deref-2.ensures.value (waits_li
 pub mark_flight-flying-requires-clause-linked : goal.mark_flight-flying-requires-clause-linked
 mark_flight-flying-requires-clause-linked c = rw c.deref-2.ensures.value c.self.invariant.tallies.linked
 
-pub ready_set-requires-clause-rising : goal.ready_set-requires-clause-rising
-ready_set-requires-clause-rising c = rw c.deref-6.ensures.value (rising_sound c.self.invariant)
-
-pub ready_set-requires-clause-listed : goal.ready_set-requires-clause-listed
-ready_set-requires-clause-listed c =
-    rw (c.deref-7.ensures.value, c.deref-6.ensures.value)
-    (its_list c.self.invariant c.deref.result.now c.deref.ensures.value c.args.block.0 c.in-Some.ensures.lookup.3.0 c.in-Some.list.now c.in-Some.ensures.lookup.1)
-
-pub ready_set-requires-clause-long : goal.ready_set-requires-clause-long
-ready_set-requires-clause-long c =
-    let same : length c.marks.result.now ≡ length c.deref-6.result.now =
-    ap length c.marks.ensures.marks ∙ (c.mark_flight-flying.ensures.long ∙ ap length (c.deref-2.ensures.value ∙ sym c.deref-6.ensures.value)) in
-    subst (λ k. IfSome c.marks_if-marks.result (λ m. length m.now ≡ k)) same c.marks_if-marks.ensures.long
-
-pub ready_set-requires-clause-most : goal.ready_set-requires-clause-most
-ready_set-requires-clause-most c =
-    let b = c.args.block.0 in
-    let heads = c.deref-6.result.now in
-    let few = free_few (mark_in heads (option_map (λ m. m.now) c.marks_if-marks.result)) b (nodes_of heads) in
-    let stands = its_standing c.self.invariant c.deref.result.now c.deref.ensures.value b c.in-Some.ensures.lookup.3.0 c.deref-5.result.now c.deref-5.ensures.value in
-    let most : c.ready_count-most.result ≡ count_by (is_ready_on b) (nodes_of heads) =
-    c.ready_count-most.ensures none_yet stands.0 ∙ (ap (λ t. t.ready) (stands.1 none_yet) ∙ ap (λ hs. count_by (is_ready_on b) (nodes_of hs)) (sym c.deref-6.ensures.value)) in
-    omega (arith, few, most)
+pub ready_set-requires : goal.ready_set-requires
+ready_set-requires c = record {
+  rising = rw c.deref-6.ensures.value (rising_sound c.self.invariant);
+  long =
+      let same : length c.marks.result.now ≡ length c.deref-6.result.now =
+      ap length c.marks.ensures.marks ∙ (c.mark_flight-flying.ensures.long ∙ ap length (c.deref-2.ensures.value ∙ sym c.deref-6.ensures.value)) in
+      subst (λ k. IfSome c.marks_if-marks.result (λ m. length m.now ≡ k)) same c.marks_if-marks.ensures.long;
+  listed =
+      rw (c.deref-7.ensures.value, c.deref-6.ensures.value)
+      (its_list c.self.invariant c.deref.result.now c.deref.ensures.value c.args.block.0 c.in-Some.ensures.lookup.3.0 c.in-Some.list.now c.in-Some.ensures.lookup.1);
+  most =
+      let b = c.args.block.0 in
+      let heads = c.deref-6.result.now in
+      let few = free_few (mark_in heads (option_map (λ m. m.now) c.marks_if-marks.result)) b (nodes_of heads) in
+      let stands = its_standing c.self.invariant c.deref.result.now c.deref.ensures.value b c.in-Some.ensures.lookup.3.0 c.deref-5.result.now c.deref-5.ensures.value in
+      let most : c.ready_count-most.result ≡ count_by (is_ready_on b) (nodes_of heads) =
+      c.ready_count-most.ensures none_yet stands.0 ∙ (ap (λ t. t.ready) (stands.1 none_yet) ∙ ap (λ hs. count_by (is_ready_on b) (nodes_of hs)) (sym c.deref-6.ensures.value)) in
+      omega (arith, few, most);
+}
 
 pub returns-in_default-clause-ok : goal.returns-in_default-clause-ok
 returns-in_default-clause-ok c =
@@ -54,22 +50,18 @@ returns-in_default-clause-ok c =
 exact : (c : goal.After-ready_set) (n : ℕ) → (mark_in c.self.inside.heads.items (option_map (λ m. m.now) c.marks_if-marks.result) n ≡ true) ↔ IsBehind (nodes_of c.self.inside.heads.items) c.args.block.0 n
 exact c = behind_marked c.self.inside.heads.items c.deref-2.result.now c.args.block.0 c.mark_flight-flying.result c.marks.result.now c.mark_flight-flying.new.walk.marks _ c.deref-2.ensures.value c.marks.ensures.marks c.mark_flight-flying.ensures.behind c.marks_if-marks.ensures.marks
 
-pub returns-clause-ok : goal.returns-clause-ok
-returns-clause-ok c =
+pub returns : goal.returns
+returns c =
     let s = c.self.inside in
     let heads = s.heads.items in
     let b = c.args.block.0 in
     let given = option_map (λ m. m.now) c.marks_if-marks.result in
-    rw (← c.self.view_is)
-    (chosen_ready heads s.numbers s.blocks s.walks.walk.marks _ s.standings.items s.queue.items s.queue.cap b c.self.invariant.keeps c.self.invariant.tallies (mark_in heads given) (exact c) c.ready_set.result
-    (rw (← c.deref-6.ensures.value) c.ready_set.ensures.ok))
-
-pub returns-clause-refused : goal.returns-clause-refused
-returns-clause-refused c =
-    let s = c.self.inside in
-    let heads = s.heads.items in
-    let b = c.args.block.0 in
-    let given = option_map (λ m. m.now) c.marks_if-marks.result in
-    rw (← c.self.view_is)
-    (chosen_refused heads s.numbers s.blocks s.walks.walk.marks _ s.standings.items s.queue.items s.queue.cap b c.self.invariant.keeps c.self.invariant.tallies (mark_in heads given) (exact c) c.ready_set.result
-    (rw (← c.deref-6.ensures.value) c.ready_set.ensures.refused))
+    record {
+      ok =
+          rw (← c.self.view_is) (chosen_ready heads s.numbers s.blocks s.walks.walk.marks _ s.standings.items s.queue.items s.queue.cap b c.self.invariant.keeps c.self.invariant.tallies (mark_in heads given) (exact c) c.ready_set.result
+          (rw (← c.deref-6.ensures.value) c.ready_set.ensures.ok));
+      refused =
+          rw (← c.self.view_is) (chosen_refused heads s.numbers s.blocks s.walks.walk.marks _ s.standings.items s.queue.items s.queue.cap b c.self.invariant.keeps c.self.invariant.tallies (mark_in heads given) (exact c) c.ready_set.result
+          (rw (← c.deref-6.ensures.value) c.ready_set.ensures.refused));
+      same = rw (← c.self.view_is) refl;
+    }

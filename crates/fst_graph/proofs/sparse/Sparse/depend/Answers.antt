@@ -55,18 +55,16 @@ invariant_of-self-in_default-gain c =
 pub returns-in_default-gain-clause-refused : goal.returns-in_default-gain-clause-refused
 returns-in_default-gain-clause-refused c = rw (← c.self.view_is, ← c.deref.ensures.value) (inr (c.in_default.ensures.clear, refl))
 
-pub link-requires-clause-rising : goal.link-requires-clause-rising
-link-requires-clause-rising c =
-    rising_as (at_number c.args.gate.0 (gains_names c.as_slice-3.result.now c.row_sums-sums.result)) (gained_number c.args.gate.0 c.as_slice-3.result.now c.row_sums-sums.result) _ _ c.in-Ok-gain.ensures.ok
-    (rising_same _ _ c.reserve_above.ensures.nodes (rising_sound c.self.invariant))
-
-pub link-requires-clause-once : goal.link-requires-clause-once
-link-requires-clause-once c = rw c.as_slice-4.ensures c.in-Ok.ensures.rising
-
-pub link-requires-clause-room : goal.link-requires-clause-room
-link-requires-clause-room c =
-    let above = subst (HasRoomAbove c.reserve_above.new.heads.items) (c.as_slice.ensures ∙ sym c.as_slice-3.ensures) c.in-Ok-reserve_above.ensures.room in
-    subst (HasRoomAbove c.gain.new.heads.items) (c.as_slice-3.ensures ∙ sym c.as_slice-4.ensures) (c.in-Ok-gain.ensures.room above)
+pub link-requires : goal.link-requires
+link-requires c = record {
+  rising =
+      rising_as (at_number c.args.gate.0 (gains_names c.as_slice-3.result.now c.row_sums-sums.result)) (gained_number c.args.gate.0 c.as_slice-3.result.now c.row_sums-sums.result) _ _ c.in-Ok-gain.ensures.ok
+      (rising_same _ _ c.reserve_above.ensures.nodes (rising_sound c.self.invariant));
+  once = rw c.as_slice-4.ensures c.in-Ok.ensures.rising;
+  room =
+      let above = subst (HasRoomAbove c.reserve_above.new.heads.items) (c.as_slice.ensures ∙ sym c.as_slice-3.ensures) c.in-Ok-reserve_above.ensures.room in
+      subst (HasRoomAbove c.gain.new.heads.items) (c.as_slice-3.ensures ∙ sym c.as_slice-4.ensures) (c.in-Ok-gain.ensures.room above);
+}
 
 -- what the names add up to
 abbrev added : (c : goal.Joined-names-3) → Sums

@@ -1,4 +1,4 @@
-use Rattle.std.proofs.Common.{◌≡◌, ◌∙◌, ◌&&◌, ℕ, Bool, None, length, count_by, IfSome, option_map, sym, ap, subst, arith, ◌↔◌, true}
+use Rattle.std.proofs.Common.{refl, ◌≡◌, ◌∙◌, ◌&&◌, ℕ, Bool, None, length, count_by, IfSome, option_map, sym, ap, subst, arith, ◌↔◌, true}
 use Rattle.fst_heads.specs.{Ascending.IsBehind, Heads.patches_of, Marks.{mark_in, mark_of}, Nodes.nodes_of, Standings.is_held_on}
 use Rattle.fst_heads.proofs.Counts.{none_bound}
 use Rattle.fst_walks.proofs.Resting.{none_yet, none_there, none_held, least_held}
@@ -19,19 +19,17 @@ mark_flight-flying-requires-clause-live c = rw c.deref-2.ensures.value (waits_li
 pub mark_flight-flying-requires-clause-linked : goal.mark_flight-flying-requires-clause-linked
 mark_flight-flying-requires-clause-linked c = rw c.deref-2.ensures.value c.self.invariant.tallies.linked
 
-pub first_held-requires-clause-rising : goal.first_held-requires-clause-rising
-first_held-requires-clause-rising c = rw c.deref-5.ensures.value (rising_sound c.self.invariant)
-
-pub first_held-requires-clause-listed : goal.first_held-requires-clause-listed
-first_held-requires-clause-listed c =
-    rw (c.deref-6.ensures.value, c.deref-5.ensures.value)
-    (its_list c.self.invariant c.deref.result.now c.deref.ensures.value c.args.block.0 c.in-Some.ensures.lookup.3.0 c.in-Some.list.now c.in-Some.ensures.lookup.1)
-
-pub first_held-requires-clause-long : goal.first_held-requires-clause-long
-first_held-requires-clause-long c =
-    let same : length c.marks.result.now ≡ length c.deref-5.result.now =
-    ap length c.marks.ensures.marks ∙ (c.mark_flight-flying.ensures.long ∙ ap length (c.deref-2.ensures.value ∙ sym c.deref-5.ensures.value)) in
-    subst (λ k. IfSome c.marks_if-marks.result (λ m. length m.now ≡ k)) same c.marks_if-marks.ensures.long
+pub first_held-requires : goal.first_held-requires
+first_held-requires c = record {
+  rising = rw c.deref-5.ensures.value (rising_sound c.self.invariant);
+  long =
+      let same : length c.marks.result.now ≡ length c.deref-5.result.now =
+      ap length c.marks.ensures.marks ∙ (c.mark_flight-flying.ensures.long ∙ ap length (c.deref-2.ensures.value ∙ sym c.deref-5.ensures.value)) in
+      subst (λ k. IfSome c.marks_if-marks.result (λ m. length m.now ≡ k)) same c.marks_if-marks.ensures.long;
+  listed =
+      rw (c.deref-6.ensures.value, c.deref-5.ensures.value)
+      (its_list c.self.invariant c.deref.result.now c.deref.ensures.value c.args.block.0 c.in-Some.ensures.lookup.3.0 c.in-Some.list.now c.in-Some.ensures.lookup.1);
+}
 
 pub returns-in_default-clause-none : goal.returns-in_default-clause-none
 returns-in_default-clause-none c =
@@ -58,22 +56,18 @@ returns-then-held_count-eq0-clause-none c =
 exact : (c : goal.After-first_held) (n : ℕ) → (mark_in c.self.inside.heads.items (option_map (λ m. m.now) c.marks_if-marks.result) n ≡ true) ↔ IsBehind (nodes_of c.self.inside.heads.items) c.args.block.0 n
 exact c = behind_marked c.self.inside.heads.items c.deref-2.result.now c.args.block.0 c.mark_flight-flying.result c.marks.result.now c.mark_flight-flying.new.walk.marks _ c.deref-2.ensures.value c.marks.ensures.marks c.mark_flight-flying.ensures.behind c.marks_if-marks.ensures.marks
 
-pub returns-clause-none : goal.returns-clause-none
-returns-clause-none c =
+pub returns : goal.returns
+returns c =
     let s = c.self.inside in
     let heads = s.heads.items in
     let b = c.args.block.0 in
     let given = option_map (λ m. m.now) c.marks_if-marks.result in
-    rw (← c.self.view_is)
-    (none_held heads s.numbers s.blocks s.walks.walk.marks _ s.standings.items s.queue.items s.queue.cap b c.self.invariant.keeps c.self.invariant.tallies (mark_in heads given) (exact c) c.first_held.result
-    (rw (← c.deref-5.ensures.value) c.first_held.ensures.none))
-
-pub returns-clause-least : goal.returns-clause-least
-returns-clause-least c =
-    let s = c.self.inside in
-    let heads = s.heads.items in
-    let b = c.args.block.0 in
-    let given = option_map (λ m. m.now) c.marks_if-marks.result in
-    rw (← c.self.view_is)
-    (least_held heads s.numbers s.blocks s.walks.walk.marks _ s.standings.items s.queue.items s.queue.cap b c.self.invariant.keeps c.self.invariant.tallies (mark_in heads given) (exact c) c.first_held.result
-    (rw (← c.deref-5.ensures.value) c.first_held.ensures.least))
+    record {
+      none =
+          rw (← c.self.view_is) (none_held heads s.numbers s.blocks s.walks.walk.marks _ s.standings.items s.queue.items s.queue.cap b c.self.invariant.keeps c.self.invariant.tallies (mark_in heads given) (exact c) c.first_held.result
+          (rw (← c.deref-5.ensures.value) c.first_held.ensures.none));
+      least =
+          rw (← c.self.view_is) (least_held heads s.numbers s.blocks s.walks.walk.marks _ s.standings.items s.queue.items s.queue.cap b c.self.invariant.keeps c.self.invariant.tallies (mark_in heads given) (exact c) c.first_held.result
+          (rw (← c.deref-5.ensures.value) c.first_held.ensures.least));
+      same = rw (← c.self.view_is) refl;
+    }

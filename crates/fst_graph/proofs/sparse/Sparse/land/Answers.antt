@@ -1,4 +1,4 @@
-use Rattle.std.proofs.{Common.{◌≡◌, ◌≤◌, ◌∙◌, inl, inr, count_by, get_or, map, sym, ap, subst, length, arith, refl}, lemmas.Bool.cases_lt, lemmas.List.length-map}
+use Rattle.std.proofs.{Common.{rules, ◌≡◌, ◌≤◌, ◌∙◌, inl, inr, count_by, get_or, map, sym, ap, subst, length, arith, refl}, lemmas.Bool.cases_lt, lemmas.List.length-map}
 use Rattle.fst_types.specs.{Cascade.IsCascadeOf, Writing.landed}
 use Rattle.fst_heads.specs.{Heads.patches_of, Keeps.IsInside, Lists.AreListed, Nodes.{node_of, nodes_of, patches_in, AreSettled}, Spreading.{IsSpreadOf, lands}, Standings.{AllStand, is_flying_on}}
 use Rattle.fst_types.proofs.Landing.{alike_landed}
@@ -9,69 +9,56 @@ use Rattle.fst_graph.proofs.{Borne.{inside_nodes, stand_land}, Kept.{covered_mov
 use Rattle.fst_graph.proofs.{Tallied.tallies_landed, sparse.Sparse.land.Goals.After-cascade-landed}
 use Rattle.fst_graph.proofs.sparse.Sparse.land.Goals as goal
 
-pub land_block-requires-clause-rising : goal.land_block-requires-clause-rising
-land_block-requires-clause-rising c = rising_sound c.self.invariant
+pub land_block-requires : goal.land_block-requires
+land_block-requires c = record {
+  rising = rising_sound c.self.invariant;
+  inside = subst (IsInside (patches_of c.self.inside.heads.items)) (sym (as_many_lists c.self.invariant)) c.self.invariant.keeps.inside;
+  listed =
+      let lists = c.self.inside.lists.items in
+      let long = sym (as_many_lists c.self.invariant) in
+      subst (λ ps. AreListed ps (length lists) (shelved lists)) (patches_in_nodes c.self.inside.heads.items) (subst (λ n. AreListed (patches_in (nodes_of c.self.inside.heads.items)) n (shelved lists)) long c.self.invariant.tallies.listed);
+  flying =
+      let s = c.self.inside in
+      let heads = s.heads.items in
+      let b = c.args.block.0 in
+      let T = c.self.invariant.tallies in
+      elim (cases_lt b s.blocks) [
+        | inl inside ↦
+            let told = c.flying_count-flying.ensures none_yet (rw c.deref.ensures.value (omega (arith, inside, T.standing.long))) in
+            let most : c.flying_count-flying.result ≡ count_by (is_flying_on b) (nodes_of heads) = told ∙ (ap (λ xs. (get_or xs b none_yet).flying) c.deref.ensures.value ∙ ap (λ t. t.flying) (T.standing.each b none_yet inside)) in
+            omega (arith, flying_counted b heads, most)
+        | inr past ↦
+            let none = nothing_flies b heads (λ p h. is_off b p.kind (λ on. let lt = c.self.invariant.keeps.inside p b h on in omega (arith, lt, past))) in
+            subst (λ ns. length ns ≤ c.flying_count-flying.result) (sym none) (omega arith)
+      ];
+  idle = c.self.invariant.tallies.idle;
+  room = omega (arith, c.self.invariant.tallies.room, length-map c.self.inside.heads.items node_of);
+}
 
-pub land_block-requires-clause-inside : goal.land_block-requires-clause-inside
-land_block-requires-clause-inside c = subst (IsInside (patches_of c.self.inside.heads.items)) (sym (as_many_lists c.self.invariant)) c.self.invariant.keeps.inside
-
-pub land_block-requires-clause-listed : goal.land_block-requires-clause-listed
-land_block-requires-clause-listed c =
-    let lists = c.self.inside.lists.items in
-    let long = sym (as_many_lists c.self.invariant) in
-    subst (λ ps. AreListed ps (length lists) (shelved lists)) (patches_in_nodes c.self.inside.heads.items) (subst (λ n. AreListed (patches_in (nodes_of c.self.inside.heads.items)) n (shelved lists)) long c.self.invariant.tallies.listed)
-
-pub land_block-requires-clause-idle : goal.land_block-requires-clause-idle
-land_block-requires-clause-idle c = c.self.invariant.tallies.idle
-
-pub land_block-requires-clause-room : goal.land_block-requires-clause-room
-land_block-requires-clause-room c = omega (arith, c.self.invariant.tallies.room, length-map c.self.inside.heads.items node_of)
-
-pub land_block-requires-clause-flying : goal.land_block-requires-clause-flying
-land_block-requires-clause-flying c =
-    let s = c.self.inside in
-    let heads = s.heads.items in
-    let b = c.args.block.0 in
-    let T = c.self.invariant.tallies in
-    elim (cases_lt b s.blocks) [
-      | inl inside ↦
-          let told = c.flying_count-flying.ensures none_yet (rw c.deref.ensures.value (omega (arith, inside, T.standing.long))) in
-          let most : c.flying_count-flying.result ≡ count_by (is_flying_on b) (nodes_of heads) = told ∙ (ap (λ xs. (get_or xs b none_yet).flying) c.deref.ensures.value ∙ ap (λ t. t.flying) (T.standing.each b none_yet inside)) in
-          omega (arith, flying_counted b heads, most)
-      | inr past ↦
-          let none = nothing_flies b heads (λ p h. is_off b p.kind (λ on. let lt = c.self.invariant.keeps.inside p b h on in omega (arith, lt, past))) in
-          subst (λ ns. length ns ≤ c.flying_count-flying.result) (sym none) (omega arith)
-    ]
-
-pub cascade-landed-requires-clause-start : goal.cascade-landed-requires-clause-start
-cascade-landed-requires-clause-start c =
-    let heads = c.self.inside.heads.items in
-    let n = c.self.inside.numbers in
-    let blocks = c.self.inside.blocks in
-    let K = c.self.invariant.keeps in
-    let T = c.self.invariant.tallies in
-    rw (c.land_block.ensures.nodes, c.land_block.ensures.queued, ← patches_in_nodes heads, c.land_at.ensures.len, as_many_standings c.self.invariant)
-    (starts_landed (nodes_of heads) n blocks c.args.block.0 (lawful_nodes heads n K.lawful) (inside_nodes heads blocks K.inside) T.settled)
-
-pub cascade-landed-requires-clause-distinct : goal.cascade-landed-requires-clause-distinct
-cascade-landed-requires-clause-distinct c = rw c.land_block.ensures.nodes (distinct_landed (nodes_of c.self.inside.heads.items) c.args.block.0 c.self.invariant.tallies.distinct)
-
-pub cascade-landed-requires-clause-standing : goal.cascade-landed-requires-clause-standing
-cascade-landed-requires-clause-standing c =
-    let heads = c.self.inside.heads.items in
-    let blocks = c.self.inside.blocks in
-    let T = c.self.invariant.tallies in
-    rw (c.land_block.ensures.nodes, c.land_at.ensures.len, as_many_standings c.self.invariant)
-    (stand_land (nodes_of heads) blocks c.args.block.0 c.self.inside.standings.items c.land_at.new.standings.items (inside_nodes heads blocks c.self.invariant.keeps.inside) T.standing
-    (λ d lt. c.land_at.ensures.inside d (omega (arith, lt, as_many_standings c.self.invariant))) (λ le. c.land_at.ensures.outside (omega (arith, le, as_many_standings c.self.invariant))))
-
-pub cascade-landed-requires-clause-linked : goal.cascade-landed-requires-clause-linked
-cascade-landed-requires-clause-linked c = rw c.land_block.ensures.nodes (linked_landed (nodes_of c.self.inside.heads.items) c.args.block.0 c.self.invariant.tallies.linked)
-
-pub cascade-landed-requires-clause-room : goal.cascade-landed-requires-clause-room
-cascade-landed-requires-clause-room c =
-    let same = ap length c.land_block.ensures.nodes in
-    omega (arith, same, length-map c.land_block.new.heads.items node_of, length-map (nodes_of c.self.inside.heads.items) (lands c.args.block.0), c.self.invariant.tallies.room, c.land_block.ensures.capacity)
+pub cascade-landed-requires : goal.cascade-landed-requires
+cascade-landed-requires c = record {
+  start =
+      let heads = c.self.inside.heads.items in
+      let n = c.self.inside.numbers in
+      let blocks = c.self.inside.blocks in
+      let K = c.self.invariant.keeps in
+      let T = c.self.invariant.tallies in
+      rw (c.land_block.ensures.nodes, c.land_block.ensures.queued, ← patches_in_nodes heads, c.land_at.ensures.len, as_many_standings c.self.invariant)
+      (starts_landed (nodes_of heads) n blocks c.args.block.0 (lawful_nodes heads n K.lawful) (inside_nodes heads blocks K.inside) T.settled);
+  linked = rw c.land_block.ensures.nodes (linked_landed (nodes_of c.self.inside.heads.items) c.args.block.0 c.self.invariant.tallies.linked);
+  distinct = rw c.land_block.ensures.nodes (distinct_landed (nodes_of c.self.inside.heads.items) c.args.block.0 c.self.invariant.tallies.distinct);
+  standing =
+      let heads = c.self.inside.heads.items in
+      let blocks = c.self.inside.blocks in
+      let T = c.self.invariant.tallies in
+      rw (c.land_block.ensures.nodes, c.land_at.ensures.len, as_many_standings c.self.invariant)
+      (stand_land (nodes_of heads) blocks c.args.block.0 c.self.inside.standings.items c.land_at.new.standings.items (inside_nodes heads blocks c.self.invariant.keeps.inside) T.standing
+      (λ d lt. c.land_at.ensures.inside d (omega (arith, lt, as_many_standings c.self.invariant))) (λ le. c.land_at.ensures.outside (omega (arith, le, as_many_standings c.self.invariant))));
+  narrow = search rules;
+  room =
+      let same = ap length c.land_block.ensures.nodes in
+      omega (arith, same, length-map c.land_block.new.heads.items node_of, length-map (nodes_of c.self.inside.heads.items) (lands c.args.block.0), c.self.invariant.tallies.room, c.land_block.ensures.capacity);
+}
 
 -- the patches whose write landed, and what came to rest by that
 cascade : (c : After-cascade-landed) → IsCascadeOf (map (landed c.args.block.0) (patches_of c.self.inside.heads.items)) (patches_of c.cascade-landed.new.heads.items)

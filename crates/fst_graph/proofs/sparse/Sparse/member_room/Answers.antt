@@ -9,21 +9,18 @@ use Rattle.fst_graph.proofs.Sound.{as_many_lists, as_many_marks, as_many_places,
 use Rattle.fst_graph.proofs.sparse.Sparse.member_room.Goals.{After-deref, After-reserve_below}
 use Rattle.fst_graph.proofs.sparse.Sparse.member_room.Goals as goal
 
-pub member_fault-requires-clause-sees : goal.member_fault-requires-clause-sees
-member_fault-requires-clause-sees c = sees_all c.self.invariant _ c.deref.ensures.value c.deref-2.ensures.value c.deref-3.ensures.value c.deref-4.ensures.value
-
-pub member_fault-requires-clause-gates : goal.member_fault-requires-clause-gates
-member_fault-requires-clause-gates c = rw c.deref.ensures.value (gates_told c.self.invariant)
-
-pub member_fault-requires-clause-long : goal.member_fault-requires-clause-long
-member_fault-requires-clause-long c = as_many_marks c.self.invariant ∙ sym (ap length c.deref.ensures.value)
-
 -- the block is one of those that there are
 inside : (c : After-deref) → c.args.block.0 < c.self.inside.blocks
 inside c = subst (λ (v : Known). c.args.block.0 < v.blocks) (sym c.self.view_is) c.requires.block
 
-pub member_fault-requires-clause-block : goal.member_fault-requires-clause-block
-member_fault-requires-clause-block c = omega (arith, inside (goal.at.member_fault-requires-clause-block c).After-deref, as_many_lists c.self.invariant, ap length c.deref-2.ensures.value)
+pub member_fault-requires : goal.member_fault-requires
+member_fault-requires c = record {
+  sees = sees_all c.self.invariant _ c.deref.ensures.value c.deref-2.ensures.value c.deref-3.ensures.value c.deref-4.ensures.value;
+  gates = rw c.deref.ensures.value (gates_told c.self.invariant);
+  long = as_many_marks c.self.invariant ∙ sym (ap length c.deref.ensures.value);
+  block = omega (arith, inside (goal.at.member_fault-requires c).After-deref, as_many_lists c.self.invariant, ap length c.deref-2.ensures.value);
+  is_open = search rules;
+}
 
 pub returns-in-Some-clause-refused : goal.returns-in-Some-clause-refused
 returns-in-Some-clause-refused c = rw (← c.self.view_is, ← c.deref.ensures.value) (inl c.in-Some.ensures.first)

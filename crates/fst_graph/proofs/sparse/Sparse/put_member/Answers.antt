@@ -15,19 +15,17 @@ use Rattle.fst_graph.proofs.sparse.Sparse.put_member.Goals as goal
 pub row_sums-sums-requires : goal.row_sums-sums-requires
 row_sums-sums-requires c = rw c.deref.ensures.value (rising_sound c.self.invariant)
 
-pub link-requires-clause-rising : goal.link-requires-clause-rising
-link-requires-clause-rising c = rising_sound c.self.invariant
-
 -- what is prepared may be put down
 now : (c : After-as_slice)
     → IsPutNow c.self.inside.heads c.self.inside.walks c.self.inside.lists c.self.inside.covers c.self.inside.standings c.self.inside.queue c.self.inside.numbers c.self.inside.blocks c.args.head c.in-Some-gates.gates c.in-Some.prepared
 now c = put_now c.self.invariant c.in-Some.prepared c.in-Some-gates.gates c.args.head c.args.self.now c.self.view_is c.requires.prepared c.requires.closed (sym c.take.ensures.value ∙ c.in-Some.is) c.in-Some-gates.is
 
-pub link-requires-clause-once : goal.link-requires-clause-once
-link-requires-clause-once c = let P = now (goal.at.link-requires-clause-once c).After-as_slice in rw c.as_slice-2.ensures P.down.ready.depends.rising
-
-pub link-requires-clause-room : goal.link-requires-clause-room
-link-requires-clause-room c = rw c.as_slice-2.ensures (now (goal.at.link-requires-clause-room c).After-as_slice).down.prepared.around.0
+pub link-requires : goal.link-requires
+link-requires c = record {
+  rising = rising_sound c.self.invariant;
+  once = let P = now (goal.at.link-requires c).After-as_slice in rw c.as_slice-2.ensures P.down.ready.depends.rising;
+  room = rw c.as_slice-2.ensures (now (goal.at.link-requires c).After-as_slice).down.prepared.around.0;
+}
 
 pub push_reserved-requires-2 : goal.push_reserved-requires-2
 push_reserved-requires-2 c =
@@ -44,15 +42,13 @@ index_mut-requires-2 c =
     let inside = (now (goal.at.index_mut-requires-2 c).After-as_slice).down.ready.inside in
     omega (arith, inside, c.self.invariant.tallies.standing.long, c.self.inside.standings.ok.0)
 
-pub enter-requires-clause-ready : goal.enter-requires-clause-ready
-enter-requires-clause-ready c =
-    let D = (now (goal.at.enter-requires-clause-ready c).After-as_slice).down in
-    few_counted c.self.inside.heads.items (is_ready_on c.in-Some.prepared.block) _ c.self.invariant.keeps.few (ap (λ s. s.ready) (D.counted c.index_mut-2.result.now c.index_mut-2.ensures.value))
-
-pub enter-requires-clause-held : goal.enter-requires-clause-held
-enter-requires-clause-held c =
-    let D = (now (goal.at.enter-requires-clause-held c).After-as_slice).down in
-    few_counted c.self.inside.heads.items (is_held_on c.in-Some.prepared.block) _ c.self.invariant.keeps.few (ap (λ s. s.held) (D.counted c.index_mut-2.result.now c.index_mut-2.ensures.value))
+pub enter-requires : goal.enter-requires
+enter-requires c =
+    let D = (now (goal.at.enter-requires c).After-as_slice).down in
+    record {
+      ready = few_counted c.self.inside.heads.items (is_ready_on c.in-Some.prepared.block) _ c.self.invariant.keeps.few (ap (λ s. s.ready) (D.counted c.index_mut-2.result.now c.index_mut-2.ensures.value));
+      held = few_counted c.self.inside.heads.items (is_held_on c.in-Some.prepared.block) _ c.self.invariant.keeps.few (ap (λ s. s.held) (D.counted c.index_mut-2.result.now c.index_mut-2.ensures.value));
+    }
 
 -- what is pending of the change, and the nodes and the patches with it
 sums : (c : After-push_reserved) → c.row_sums-sums.result ≡ sums_of (pending_in (nodes_of c.self.inside.heads.items)) c.in-Some.prepared.dependencies.items

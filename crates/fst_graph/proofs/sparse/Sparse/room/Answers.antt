@@ -43,21 +43,17 @@ returns-clause-ok c =
       },
     )
 
-pub prepare-requires-clause-sees : goal.prepare-requires-clause-sees
-prepare-requires-clause-sees c = sees_all c.self.invariant _ c.deref-2.ensures.value c.deref-3.ensures.value c.deref-4.ensures.value c.deref-5.ensures.value
-
-pub prepare-requires-clause-long : goal.prepare-requires-clause-long
-prepare-requires-clause-long c = as_many_marks c.self.invariant ∙ sym (ap length c.deref-2.ensures.value)
-
-pub prepare-requires-clause-crossed : goal.prepare-requires-clause-crossed
-prepare-requires-clause-crossed c = as_many_places c.self.invariant ∙ sym (ap length c.deref-3.ensures.value)
-
 -- the block is one of those that there are
 inside : (c : After-deref) → c.args.block.0 < c.self.inside.blocks
 inside c = subst (λ (v : Known). c.args.block.0 < v.blocks) (sym c.self.view_is) c.requires
 
-pub prepare-requires-clause-block : goal.prepare-requires-clause-block
-prepare-requires-clause-block c = omega (arith, inside (goal.at.prepare-requires-clause-block c).After-deref, as_many_lists c.self.invariant, ap length c.deref-3.ensures.value)
+pub prepare-requires : goal.prepare-requires
+prepare-requires c = record {
+  sees = sees_all c.self.invariant _ c.deref-2.ensures.value c.deref-3.ensures.value c.deref-4.ensures.value c.deref-5.ensures.value;
+  long = as_many_marks c.self.invariant ∙ sym (ap length c.deref-2.ensures.value);
+  crossed = as_many_places c.self.invariant ∙ sym (ap length c.deref-3.ensures.value);
+  block = omega (arith, inside (goal.at.prepare-requires c).After-deref, as_many_lists c.self.invariant, ap length c.deref-3.ensures.value);
+}
 
 pub invariant_of-self-then-is_err : goal.invariant_of-self-then-is_err
 invariant_of-self-then-is_err c =
