@@ -1,11 +1,12 @@
 -- What calls that change places, or let a gate gain names, leave of what the fields keep.
-use Rattle.std.proofs.Common.{◌≡◌, ◌<◌, ◌+◌, ◌++◌, ◌∷◌, [], ℕ, Bool, List, length, map, get_or, set, refl, sym, subst, ◌∙◌, arith, ◌⊎◌, ◌≤◌, Contains, ap, inl, inr}
+use Rattle.std.proofs.Common.{◌≡◌, ◌<◌, true, false, ◌&&◌, eqb, get_or-set_same, get_or-set_other, ◌+◌, ◌++◌, ◌∷◌, [], ℕ, Bool, List, length, map, get_or, set, refl, sym, subst, ◌∙◌, arith, ◌⊎◌, ◌≤◌, Contains, ap, inl, inr}
 use Rattle.fst_types.specs.{Cascade.IsCascadeOf, Closure.IsAcyclic, Dependencies.{DirectlyOn, DependsOn, IsLiveNumber}, Facts.SparseAreLawful, Gates.IsOpenNumber, Gating.{sealed, gains}, Lists.Lists, Making.fresh}
 use Rattle.fst_types.specs.{Order.depend_order, Patches.{Change, Patch, block_of_kind}, Refusals.NoneHolds, Writable.{IsWritable, IsWritableSet}, Writing.{landed, launched}, declared.grade.Grade.Grade}
-use Rattle.fst_heads.specs.{Covers.{AreCovered, Covering, HasBytes, IsPut}, Keeps.Keeps, Rows.IsSparseRow}
+use Rattle.fst_heads.specs.{Covers.{AreCovered, Covering, HasBytes, IsPut}, Keeps.Keeps, Rows.IsSparseRow, Standings.{NoneBelow, may_be_written}, declared.standing.Standing.Standing}
 use Rattle.fst_types.proofs.{Alike.{Alike, back_alike, length_alike, on_back}, Depending.{Grown, grown, length_mapped, sparse_gained}, Finite.{In-from_Contains, Contains-from_In}}
 use Rattle.fst_types.proofs.{GateGains.{In-unmap, direct_cases}, Issuing.{alike_launched, sparse_launched}, Landing.{alike_landed, sparse_landed}, NewChange.no_cycle, Sealing.{alike_sealed, sparse_sealed}}
 use Rattle.fst_heads.proofs.Covering.{covered_alike, covered_put}
+use Rattle.std.proofs.lemmas.{Bool.{cases_eq, cases_lt}, List.set_past}
 
 module _ (old new : List Patch) (A : Alike old new) where
   pub keeps_alike : (numbers blocks : ℕ) (marks marks' : List Bool) → Keeps old numbers blocks marks → SparseAreLawful new numbers → length marks' ≡ length marks → Keeps new numbers blocks marks'
@@ -71,3 +72,27 @@ pub keeps_depends : (heads : List Patch) (numbers blocks g : ℕ) (names on : Li
     → Keeps (map (gains g names) heads) numbers blocks marks'
 keeps_depends heads numbers blocks g names on marks marks' K gate none live long =
     keeps_gained heads numbers blocks g marks K gate names (λ n c. (live.only n c).0) (λ n c r. none.1.1.1.1.1.0 (n, (live.only n c).1, r)) marks' long
+
+-- blocks below the one that stands otherwise now have the marks that they had
+pub none_below_set : (standings : List Standing) (least k b : ℕ) (new : Standing) → NoneBelow standings least → k ≤ least → k ≤ b → NoneBelow (set standings b new) k
+none_below_set standings least k b new none low here c d lt =
+    ap may_be_written (get_or-set_other standings b c new d (λ e. absurd (omega (arith, e, lt, here)))) ∙ none c d (omega (arith, lt, low))
+
+-- a block of which nothing is ready may not be written
+neither : (a b : Bool) → (a && b && false) ≡ false
+neither true true = refl
+neither true false = refl
+neither false true = refl
+neither false false = refl
+
+none_ready : (held flying : ℕ) → may_be_written (record { ready = 0; held = held; flying = flying }) ≡ false
+none_ready held flying = neither (eqb flying 0) (eqb held 0)
+
+pub none_below_launched : (standings : List Standing) (least b held flying : ℕ) → NoneBelow standings least → NoneBelow (set standings b (record { ready = 0; held = held; flying = flying })) least
+none_below_launched standings least b held flying none c d lt = elim (cases_eq c b) [
+  | inl same ↦ elim (cases_lt b (length standings)) [
+    | inl inside ↦ ap may_be_written (ap (λ k. get_or (set standings b (record { ready = 0; held = held; flying = flying })) k d) same ∙ get_or-set_same standings b (record { ready = 0; held = held; flying = flying }) d inside) ∙ none_ready held flying
+    | inr past ↦ ap may_be_written (ap (λ xs. get_or xs c d) (set_past standings b (record { ready = 0; held = held; flying = flying }) past)) ∙ none c d lt
+  ]
+  | inr other ↦ ap may_be_written (get_or-set_other standings b c (record { ready = 0; held = held; flying = flying }) d other) ∙ none c d lt
+]

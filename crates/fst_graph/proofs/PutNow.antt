@@ -24,8 +24,8 @@ pub record IsPutDown (heads : Vec Head) (walks : BlockWalk) (lists : Vec (Vec Li
       (set standings.items p.block (entered (is_hard_kind (change_of numbers p).kind) (is_pending (new_node (nodes_of heads.items) (change_of numbers p)).pending (pending.Block p.block)) (get_or standings.items p.block own)))
       queue.items queue.cap
 
-module _ {heads : Vec Head} {walks : BlockWalk} {lists : Vec (Vec Listed)} {covers : Vec Covering} {standings : Vec Standing} {queue : Vec ℕ} {live numbers blocks : ℕ} {o : Option Stored}
-    (S : AreSound heads walks lists covers standings queue live numbers blocks o) where
+module _ {heads : Vec Head} {walks : BlockWalk} {lists : Vec (Vec Listed)} {covers : Vec Covering} {standings : Vec Standing} {queue : Vec ℕ} {live unmarked numbers blocks : ℕ} {o : Option Stored}
+    (S : AreSound heads walks lists covers standings queue live unmarked numbers blocks o) where
   pub put_down : (p : Stored) → o ≡ Some p → IsReady (patches_of heads.items) numbers blocks p → IsPutDown heads walks lists covers standings queue numbers blocks p
   put_down p kept ready =
       let old = patches_of heads.items in
@@ -58,12 +58,12 @@ pub record IsPutNow (heads : Vec Head) (walks : BlockWalk) (lists : Vec (Vec Lis
   pub own : gates.head ≡ head
   pub closed : IsOpenNumber (patches_of heads.items) gates.head → ⊥
 
-pub put_now : {heads : Vec Head} {walks : BlockWalk} {lists : Vec (Vec Listed)} {covers : Vec Covering} {standings : Vec Standing} {queue : Vec ℕ} {live numbers blocks : ℕ} {o : Option Stored}
-    → AreSound heads walks lists covers standings queue live numbers blocks o → (p : Stored) (gates : Gates) (head : ℕ) (known : Known)
+pub put_now : {heads : Vec Head} {walks : BlockWalk} {lists : Vec (Vec Listed)} {covers : Vec Covering} {standings : Vec Standing} {queue : Vec ℕ} {live unmarked numbers blocks : ℕ} {o : Option Stored}
+    → AreSound heads walks lists covers standings queue live unmarked numbers blocks o → (p : Stored) (gates : Gates) (head : ℕ) (known : Known)
     → record { heads = patches_of heads.items; numbers = numbers; blocks = blocks; groups = []; prepared = option_map (prepared_of numbers) o } ≡ known
     → ((q : Prepared) × (known.prepared ≡ Some q) × (q.group ≡ Some head)) → (IsOpenNumber known.heads head → ⊥) → o ≡ Some p → p.gates ≡ Some gates
     → IsPutNow heads walks lists covers standings queue numbers blocks head gates p
-put_now {heads} {walks} {lists} {covers} {standings} {queue} {live} {numbers} {blocks} {o} S p gates head known seen q shut kept there =
+put_now {heads} {walks} {lists} {covers} {standings} {queue} {live} {unmarked} {numbers} {blocks} {o} S p gates head known seen q shut kept there =
     let old = patches_of heads.items in
     let R = member_kept p gates old numbers blocks there (prepared_is S p kept).ready in
     let own = head_same o numbers q.0 head p gates (ap (λ (k : Known). k.prepared) seen ∙ q.1) q.2 kept there in

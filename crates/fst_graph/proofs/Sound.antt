@@ -10,8 +10,8 @@ use Rattle.fst_heads.proofs.{AtNumber.patches_in_nodes, Slots.rising_heads}
 use Rattle.fst_walks.proofs.{Behind.pending_live, Held.{heads_held, heads_live}, Resting.{listed_at, shelves}, Seen.{same_patches, tallies_wider}}
 use Rattle.fst_heads.specs.declared.pending.Pending.TheVariants as pending
 
-module _ {heads : Vec Head} {walks : BlockWalk} {lists : Vec (Vec Listed)} {covers : Vec Covering} {standings : Vec Standing} {queue : Vec ℕ} {live numbers blocks : ℕ} {o : Option Stored}
-    (S : AreSound heads walks lists covers standings queue live numbers blocks o) where
+module _ {heads : Vec Head} {walks : BlockWalk} {lists : Vec (Vec Listed)} {covers : Vec Covering} {standings : Vec Standing} {queue : Vec ℕ} {live unmarked numbers blocks : ℕ} {o : Option Stored}
+    (S : AreSound heads walks lists covers standings queue live unmarked numbers blocks o) where
   pub rising_sound : IsRising heads.items
   rising_sound = rising_heads heads.items S.keeps.lawful.one_place_each.rising
 
@@ -58,40 +58,43 @@ module _ {heads : Vec Head} {walks : BlockWalk} {lists : Vec (Vec Listed)} {cove
   prepared_is p is = subst (λ x. IfSome x (IsPrepared heads walks lists covers queue numbers blocks)) is S.prepared
 
   -- after a walk over the heads there is a mark for each still
-  pub walked_sound : {walked : BlockWalk} → length walked.walk.marks ≡ length heads.items → length walked.crossed.items ≡ length lists.items → AreSound heads walked lists covers standings queue live numbers blocks None
+  pub walked_sound : {walked : BlockWalk} → length walked.walk.marks ≡ length heads.items → length walked.crossed.items ≡ length lists.items → AreSound heads walked lists covers standings queue live unmarked numbers blocks None
   walked_sound marks places = record {
     keeps = record { lawful = S.keeps.lawful; few = S.keeps.few; inside = S.keeps.inside; marked = marks ∙ sym (length-map heads.items patch_of) };
     beside = record { places = places ∙ as_many_lists; counted = S.beside.counted };
     tallies = S.tallies;
     covered = S.covered;
+    none_below = S.none_below;
     prepared = tt;
   }
 
   -- there may be more room for heads, marks and what waits in the queue
   pub roomier_sound : {roomier : Vec Head} {walked : BlockWalk} {wider : Vec ℕ} → nodes_of roomier.items ≡ nodes_of heads.items → walked.walk.marks ≡ walks.walk.marks → walked.crossed ≡ walks.crossed → wider.items ≡ queue.items → queue.cap ≤ wider.cap
-      → AreSound roomier walked lists covers standings wider live numbers blocks None
+      → AreSound roomier walked lists covers standings wider live unmarked numbers blocks None
   roomier_sound {roomier} {walked} {wider} same marks crossed waits wide =
       let patches = same_patches roomier.items heads.items same in record {
         keeps = rw (patches, marks) S.keeps;
         beside = rw (patches, crossed) S.beside;
         tallies = rw same (tallies_wider _ numbers blocks _ _ _ _ _ _ S.tallies waits wide);
         covered = rw patches S.covered;
+        none_below = S.none_below;
         prepared = tt;
       }
 
   -- and for a change of a block
   pub listed_sound : {longer : Vec (Vec Listed)} {wider : Vec Covering} → map (λ l. entries_of l.items) longer.items ≡ map (λ l. entries_of l.items) lists.items
-      → ((hs : List Patch) → AreCovered hs (length covers.items) covers.items → AreCovered hs (length covers.items) wider.items) → AreSound heads walks longer wider standings queue live numbers blocks None
+      → ((hs : List Patch) → AreCovered hs (length covers.items) covers.items → AreCovered hs (length covers.items) wider.items) → AreSound heads walks longer wider standings queue live unmarked numbers blocks None
   listed_sound {wider = wider} entries covered = record {
     keeps = S.keeps;
     beside = S.beside;
     tallies = rw entries S.tallies;
     covered = let long = S.covered.long in subst (λ k. AreCovered (patches_of heads.items) k wider.items) long (covered (patches_of heads.items) (subst (λ k. AreCovered (patches_of heads.items) k covers.items) (sym long) S.covered));
+    none_below = S.none_below;
     prepared = tt;
   }
 
-  pub with_prepared : {o' : Option Stored} → IfSome o' (IsPrepared heads walks lists covers queue numbers blocks) → AreSound heads walks lists covers standings queue live numbers blocks o'
-  with_prepared P = record { keeps = S.keeps; beside = S.beside; tallies = S.tallies; covered = S.covered; prepared = P }
+  pub with_prepared : {o' : Option Stored} → IfSome o' (IsPrepared heads walks lists covers queue numbers blocks) → AreSound heads walks lists covers standings queue live unmarked numbers blocks o'
+  with_prepared P = record { keeps = S.keeps; beside = S.beside; tallies = S.tallies; covered = S.covered; none_below = S.none_below; prepared = P }
 
   -- there are as many lists as blocks
   pub many_lists : (slice : List (Vec Listed)) → slice ≡ lists.items → length slice ≡ blocks
@@ -111,8 +114,8 @@ module _ {heads : Vec Head} {walks : BlockWalk} {lists : Vec (Vec Listed)} {cove
   waits_live b n e = subst (λ ps. IsLiveNumber ps n) (patches_in_nodes heads.items) (pending_live (nodes_of heads.items) blocks b n S.tallies.settled e)
 
 -- what follows from that holds of whatever is prepared
-pub if_prepared : {heads : Vec Head} {walks : BlockWalk} {lists : Vec (Vec Listed)} {covers : Vec Covering} {standings : Vec Standing} {queue : Vec ℕ} {live numbers blocks : ℕ} {o : Option Stored}
-    → AreSound heads walks lists covers standings queue live numbers blocks o → (P : Stored → Type 0) → ((p : Stored) → o ≡ Some p → IsPrepared heads walks lists covers queue numbers blocks p → P p) → IfSome o P
+pub if_prepared : {heads : Vec Head} {walks : BlockWalk} {lists : Vec (Vec Listed)} {covers : Vec Covering} {standings : Vec Standing} {queue : Vec ℕ} {live unmarked numbers blocks : ℕ} {o : Option Stored}
+    → AreSound heads walks lists covers standings queue live unmarked numbers blocks o → (P : Stored → Type 0) → ((p : Stored) → o ≡ Some p → IsPrepared heads walks lists covers queue numbers blocks p → P p) → IfSome o P
 if_prepared {o = None} sound P follows = tt
 if_prepared {o = Some p} sound P follows = follows p refl sound.prepared
 

@@ -2,7 +2,7 @@
 use Rattle.std.specs.Prelude.{ℕ, slice_index_or, Option, IfSome, length, map, vec_len, vec_capacity}
 use Rattle.std.specs.Global.{Vec}
 use Rattle.fst_heads.specs.{Covers.{AreCovered, Covering, HasBytes}, Heads.patches_of, Keeps.{Beside, Keeps, Tallies}, Lists.{entries_of, HasRoomInList}}
-use Rattle.fst_heads.specs.{Nodes.nodes_of, declared.head.Head.Head, declared.lists.Listed.Listed, declared.standing.Standing.Standing}
+use Rattle.fst_heads.specs.{Nodes.nodes_of, declared.head.Head.Head, declared.lists.Listed.Listed, Standings.NoneBelow, declared.standing.Standing.Standing}
 use Rattle.fst_walks.specs.declared.block_walk.BlockWalk.{BlockWalk}
 use Rattle.fst_graph.specs.{Ready.{MayBePut, HasPlaces, HasRoomAround}, declared.prepared.Prepared.Prepared as Stored}
 
@@ -15,9 +15,10 @@ pub record IsPrepared (heads : Vec Head) (walks : BlockWalk) (lists : Vec (Vec L
   pub in_list : HasRoomInList (map (λ l. vec_len l) lists.items) (map (λ l. vec_capacity l) lists.items) p.block
 
 -- the heads are lawful patches, what stands beside them tells of them, and there is room for what is prepared
-pub record AreSound (heads : Vec Head) (walks : BlockWalk) (lists : Vec (Vec Listed)) (covers : Vec Covering) (standings : Vec Standing) (queue : Vec ℕ) (live numbers blocks : ℕ) (stored : Option Stored) : Type 0 where
+pub record AreSound (heads : Vec Head) (walks : BlockWalk) (lists : Vec (Vec Listed)) (covers : Vec Covering) (standings : Vec Standing) (queue : Vec ℕ) (live unmarked numbers blocks : ℕ) (stored : Option Stored) : Type 0 where
   pub keeps : Keeps (patches_of heads.items) numbers blocks walks.walk.marks
   pub beside : Beside (patches_of heads.items) blocks live walks.crossed.items
   pub tallies : Tallies (nodes_of heads.items) numbers blocks (map (λ l. entries_of l.items) lists.items) standings.items queue.items (vec_capacity queue)
   pub covered : AreCovered (patches_of heads.items) blocks covers.items
+  pub none_below : NoneBelow standings.items unmarked
   pub prepared : IfSome stored (IsPrepared heads walks lists covers queue numbers blocks)

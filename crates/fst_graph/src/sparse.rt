@@ -44,7 +44,8 @@ use std::marker::Model;
 /// The heads, which are the patches not forgotten, in order of number. `walks` has a mark for each, and a place for each
 /// block, for the walks that find grades and cycles. `lists` has for each block its changes that are not on disk, and
 /// `standings` has the mark of each. `queue` has a place for each head, for those of which their dependants are to be told.
-/// Where a change is prepared, there is a free place for it in each. `live` is how many of the patches are not on disk.
+/// Where a change is prepared, there is a free place for it in each. `live` is how many of the patches are not on disk, and no block
+/// below `unmarked` may be written.
 #[derive(Drop)]
 pub struct Sparse {
     alloc: Global,
@@ -55,6 +56,7 @@ pub struct Sparse {
     standings: Vec<Standing>,
     queue: Vec<u32>,
     live: usize,
+    unmarked: usize,
     numbers: u32,
     blocks: u32,
     prepared: Option<Prepared>,
@@ -71,7 +73,7 @@ impl Model for Sparse {
 
     ghost view = { λ g. record { heads = patches_of g.heads.items; numbers = g.numbers; blocks = g.blocks; groups = []; prepared = option_map (prepared_of g.numbers) g.prepared } };
 
-    ghost invariant = { λ g. AreSound g.heads g.walks g.lists g.covers g.standings g.queue g.live g.numbers g.blocks g.prepared };
+    ghost invariant = { λ g. AreSound g.heads g.walks g.lists g.covers g.standings g.queue g.live g.unmarked g.numbers g.blocks g.prepared };
 }
 
 // Room for one more head.
@@ -133,6 +135,7 @@ impl Sparse {
             standings,
             queue: Vec::new(alloc),
             live: 0,
+            unmarked: 0,
             numbers,
             blocks: shape.blocks,
             prepared: None,
@@ -271,6 +274,7 @@ impl Sparse {
         seal_slot(&mut self.heads, &mut self.queue, gate.0, slot);
         let landed = cascade(&mut self.heads, &mut self.queue, &mut self.standings);
         self.live -= landed;
+        self.unmarked = 0;
         Ok(())
     }
 
@@ -342,6 +346,7 @@ impl Sparse {
         land_at(&mut self.standings, block.0);
         let landed = cascade(&mut self.heads, &mut self.queue, &mut self.standings);
         self.live -= landed;
+        self.unmarked = 0;
     }
 
     /// Forgets the patches on disk, and answers how many they were. It takes no memory.
@@ -375,13 +380,23 @@ impl Sparse {
     }
 
     /// The least writable block, or none where no block is writable. Where nothing is in flight either, each change in
-    /// memory then waits for an open gate. It takes no memory, and looks at one mark a block.
+    /// memory then waits for an open gate. It takes no memory, and looks at one mark a block, from where
+    /// the last look found one; after a landing or a seal from the first block on.
     pub fn pick(&mut self) -> Option<BlockNo>
         ensures least { IsPick self.old.heads (option_map (λ b. b.0) result) }
         ensures never_stuck { IfNone result (IsStuckByGates self.old.heads) }
         ensures same { self.new ≡ unprepared self.old }
     {
         self.prepared = None;
-        least_marked(&self.standings)
+        match least_marked(&self.standings, self.unmarked) {
+            Some(block) => {
+                self.unmarked = block.0 as usize;
+                Some(block)
+            }
+            None => {
+                self.unmarked = self.standings.len();
+                None
+            }
+        }
     }
 }

@@ -37,6 +37,10 @@ pub record AllStand (nodes : List Node) (blocks : ℕ) (standings : List Standin
 abbrev pub may_be_written : Standing → Bool
 may_be_written s = (s.flying == 0) && (s.held == 0) && not (s.ready == 0)
 
+-- no block below this one has a true mark
+abbrev pub NoneBelow : List Standing → ℕ → Type 0
+NoneBelow standings least = (b : ℕ) (d : Standing) → b < least → may_be_written (slice_index_or standings b d) ≡ false
+
 -- the mark of each block is true exactly where it is writable
 abbrev pub AreMarked : List Patch → ℕ → List Standing → Type 0
 AreMarked patches blocks standings = (b : ℕ) (d : Standing) → b < blocks → IsTrue (may_be_written (slice_index_or standings b d)) ↔ IsWritable patches b

@@ -8,7 +8,7 @@ ghost use Rattle.fst_heads.specs.Heads.{IsRising, kind_of};
 ghost use Rattle.fst_heads.specs.Nodes.{Node, nodes_of, at_number};
 ghost use Rattle.fst_heads.specs.Pendings.{Fits, Sinks};
 ghost use Rattle.fst_heads.specs.Spreading.{now, is_told, settles};
-ghost use Rattle.fst_heads.specs.Standings.{AllStand, may_be_written, released, entered};
+ghost use Rattle.fst_heads.specs.Standings.{AllStand, NoneBelow, may_be_written, released, entered};
 ghost use Rattle.fst_heads.specs.Tests.{is_hard_kind};
 
 use crate::cascade::pending_now;
@@ -116,15 +116,16 @@ pub fn flying_count(standings: &[Standing], block: u32) -> usize
     }
 }
 
-/// The least block whose mark is true.
-pub fn least_marked(standings: &[Standing]) -> Option<BlockNo>
-    requires { length standings.now ≤ 4294967296 }
+/// The least block whose mark is true, none of the first so many being such.
+pub fn least_marked(standings: &[Standing], unmarked: usize) -> Option<BlockNo>
+    requires few { length standings.now ≤ 4294967296 }
+    requires none_below { NoneBelow standings.now unmarked }
     ensures { MatchOption result
         ((b : ℕ) (d : Standing) → b < length standings.now → may_be_written (slice_index_or standings.now b d) ≡ false)
         (λ no. (no.0 < length standings.now) × ((d : Standing) → may_be_written (slice_index_or standings.now no.0 d) ≡ true) × ((b : ℕ) (d : Standing) → b < no.0 → may_be_written (slice_index_or standings.now b d) ≡ false)) }
 {
-    for (block, standing) in standings.iter().enumerate() {
-        if standing.may_be_written() {
+    for block in unmarked..standings.len() {
+        if standings[block].may_be_written() {
             return Some(BlockNo(block as u32));
         }
     }

@@ -112,6 +112,7 @@ impl Sparse {
                 seal_slot(&mut self.heads, &mut self.queue, head, slot);
                 let landed = cascade(&mut self.heads, &mut self.queue, &mut self.standings);
                 self.live -= landed;
+                self.unmarked = 0;
             }
             Err(_) => {}
         }
@@ -149,6 +150,7 @@ impl Sparse {
         });
         self.lists[block as usize].push_reserved(Listed { number, span });
         self.standings[block as usize].enter(kind, is_pending(pending, Pending::Block(block)));
+        self.unmarked = self.unmarked.min(block as usize);
         self.covers[block as usize].put(span, number);
         self.walks.walk.grow();
         self.live += 1;

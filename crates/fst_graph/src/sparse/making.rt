@@ -102,6 +102,7 @@ impl Sparse {
         });
         self.lists[block as usize].push_reserved(Listed { number, span });
         self.standings[block as usize].enter(kind, is_pending(pending, Pending::Block(block)));
+        self.unmarked = self.unmarked.min(block as usize);
         self.covers[block as usize].put(span, number);
         self.walks.walk.grow();
         self.live += 1;

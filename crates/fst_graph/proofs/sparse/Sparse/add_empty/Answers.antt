@@ -47,6 +47,7 @@ invariant_of-self-2 c =
           (beside_made (patches_of heads) c.self.inside.blocks c.self.inside.live _ c.self.inside.walks.crossed.items p own c.self.invariant.beside);
       tallies = rw (c.push_reserved.ensures.items, map_push, c.link.ensures.nodes, still, c.as_slice-4.ensures, below, sums, place, c.new.ensures.items, c.reserve_one.ensures.queue) made;
       covered = rw (c.push_reserved.ensures.items, map_push, patches, place) (covered_push (patches_of heads) _ (λ b on. cc) c.self.inside.blocks c.self.inside.covers.items c.self.invariant.covered);
+      none_below = c.self.invariant.none_below;
       prepared = tt;
     }
 

@@ -23,6 +23,7 @@ invariant_of-self-2 c =
       tallies = rw (c.push_reserved.ensures.items, c.reserve_one.ensures.heads, map_push, c.no_sums.ensures, c.new.ensures.items, c.new-2.ensures.items, c.reserve_one.ensures.queue)
           (tallies_first heads n blocks _ _ _ _ c.reserve_one.new.queue.cap c.self.invariant.keeps.lawful c.self.invariant.tallies room);
       covered = rw (c.push_reserved.ensures.items, c.reserve_one.ensures.heads, map_push, c.new.ensures.items) (covered_push (patches_of c.self.inside.heads.items) (fresh (c.self.inside.numbers + 1) OpenGate []) (λ b on. cc) c.self.inside.blocks c.self.inside.covers.items c.self.invariant.covered);
+      none_below = c.self.invariant.none_below;
       prepared = tt;
     }
 

@@ -59,6 +59,7 @@ invariant_of-self-2 c =
       covered = rw (patches_paired heads c.push_reserved-2.new.self.items n (second c))
           (covered_push (with_head (patches_of heads) n) (fresh (n + 1 + 1) OpenGate ((n + 1) ∷ [])) (λ b on. cc) blocks c.self.inside.covers.items
           (covered_push (patches_of heads) (fresh (n + 1) OpenGate []) (λ b on. cc) blocks c.self.inside.covers.items c.self.invariant.covered));
+      none_below = c.self.invariant.none_below;
       prepared = tt;
     }
 

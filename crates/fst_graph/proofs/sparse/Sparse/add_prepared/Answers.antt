@@ -1,9 +1,9 @@
-use Rattle.std.proofs.{Common.{◌≡◌, ◌++◌, ◌∷◌, ◌∙◌, [], Some, sym, refl, ap, get_or}, lemmas.List.map_push}
+use Rattle.std.proofs.{Common.{◌≡◌, arith, ◌++◌, ◌∷◌, ◌∙◌, [], Some, sym, refl, ap, get_or}, lemmas.List.map_push}
 use Rattle.fst_heads.specs.{Heads.patches_of, Nodes.{nodes_of, pending_in}, Pendings.{is_pending, joined_sums, over_block, sums_of}, Standings.{is_ready_on, is_held_on, entered}, Tests.is_hard_kind}
 use Rattle.fst_graph.specs.Ready.{change_of}
 use Rattle.fst_heads.proofs.{Added.{new_node, with_node}, Beside.beside_made, Sums.joined_exact}
 use Rattle.fst_walks.proofs.{Seen.linked_patches, Shelves.shelved_push}
-use Rattle.fst_graph.proofs.{Borne.few_counted, Kept.covered_made, PutNow.{put_down, IsPutDown}, Readied.ready_alone}
+use Rattle.fst_graph.proofs.{Borne.few_counted, Kept.{covered_made, none_below_set}, PutNow.{put_down, IsPutDown}, Readied.ready_alone}
 use Rattle.fst_graph.proofs.{Sound.{prepared_is, rising_sound}, sparse.Sparse.add_prepared.Goals.{After-as_slice, After-push_reserved}}
 use Rattle.fst_heads.specs.declared.pending.Pending.TheVariants as pending
 use Rattle.fst_graph.proofs.sparse.Sparse.add_prepared.Goals as goal
@@ -62,6 +62,7 @@ invariant_of-self c =
       beside = rw (added at) (beside_made (patches_of s.heads.items) s.blocks s.live 1 s.walks.crossed.items made refl c.self.invariant.beside);
       tallies = rw (pushed at, entering, shelved) (D.tallies own);
       covered = rw (added at) (covered_made s.numbers p.grade D.ready.depends c.self.invariant.covered D.ready.inside c.index_mut-3.ensures.value D.prepared.bytes c.put.ensures);
+      none_below = let least = c.min-self-inside.ensures in none_below_set s.standings.items s.unmarked c.min-self-inside.result p.block _ c.self.invariant.none_below (omega (arith, least)) (omega (arith, least));
       prepared = tt;
     })
 

@@ -125,6 +125,7 @@ invariant_of-self-2 c =
       tallies = rw (named c)
           (tallies_depends (nodes_of heads) numbers c.self.inside.blocks _ _ _ _ g on c.in-Ok.names.items (lawful_nodes heads numbers c.self.invariant.keeps.lawful) lawful T (subst (λ ps. IsOpenNumber ps g) back (gate c)) live_there);
       covered = rw (new_patches c) (covered_gained (patches_of heads) g c.in-Ok.names.items c.self.inside.blocks c.self.inside.covers.items c.self.invariant.covered);
+      none_below = c.self.invariant.none_below;
       prepared = tt;
     }
 

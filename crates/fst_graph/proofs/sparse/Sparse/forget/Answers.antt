@@ -36,6 +36,7 @@ invariant_of-self c =
       beside = rw (left at) (beside_dropped (patches_of heads) c.self.inside.blocks c.self.inside.live c.self.inside.walks.crossed.items c.self.invariant.beside);
       tallies = rw c.keep_live.ensures (tallies_dropped (nodes_of heads) n c.self.inside.blocks _ _ _ _ (lawful_nodes heads n c.self.invariant.keeps.lawful) lawful c.self.invariant.tallies);
       covered = rw (left at) (covered_left (patches_of heads) c.self.invariant.keeps.lawful.on_disk_with_all c.self.inside.blocks c.self.inside.covers.items c.self.invariant.covered);
+      none_below = c.self.invariant.none_below;
       prepared = tt;
     }
 

@@ -104,6 +104,7 @@ invariant_of-self c =
       tallies = rw (c.cascade-landed.ensures.empty, c.cascade-landed.ensures.capacity, c.land_block.ensures.capacity)
           (tallies_landed nodes (nodes_of new) n blocks b _ _ _ _ _ _ (lawful_nodes new n kept.lawful) T listed spread (settled at) standing);
       covered = covered_moved (alike_landed old (patches_of new) n b c.self.invariant.keeps.lawful (cascade at)) kept c.self.invariant.covered;
+      none_below = λ b d lt. absurd (omega (arith, lt));
       prepared = tt;
     }
 

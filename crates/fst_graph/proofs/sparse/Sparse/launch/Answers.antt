@@ -5,7 +5,7 @@ use Rattle.fst_graph.specs.Known.{Known}
 use Rattle.fst_types.proofs.Issuing.{alike_launched}
 use Rattle.fst_heads.proofs.{AtNumber.patches_in_nodes, Beside.beside_kept, Placed.patches_launched}
 use Rattle.fst_walks.proofs.{Resting.none_yet, Seen.{seen, lawful_nodes}}
-use Rattle.fst_graph.proofs.{Borne.inside_nodes, Kept.{covered_moved, keeps_launched}, Launches.{some_chosen, first_named, none_first, block_found, block_some, tallies_chosen}}
+use Rattle.fst_graph.proofs.{Borne.inside_nodes, Kept.{covered_moved, keeps_launched, none_below_launched}, Launches.{some_chosen, first_named, none_first, block_found, block_some, tallies_chosen}}
 use Rattle.fst_graph.proofs.{Marking.writable_rests, Sound.{as_many_standings, rising_sound}, sparse.Sparse.launch.Goals.{After-deref, After-index_mut-arg-1}}
 use Rattle.fst_graph.proofs.sparse.Sparse.launch.Goals as goal
 
@@ -70,6 +70,7 @@ invariant_of-self-2 c =
       beside = beside_kept heads c.launch_all.new.heads.items (launches chosen) blocks c.self.inside.live c.self.inside.walks.crossed.items c.launch_all.ensures (λ x. refl) c.self.invariant.tallies.settled (rw c.launch_all.ensures tallies.settled) c.self.invariant.beside;
       tallies = rw c.launch_all.ensures tallies;
       covered = rw new (covered_moved (alike_launched (patches_of heads) n b chosen K.lawful W C) kept c.self.invariant.covered);
+      none_below = rw c.launch.ensures (none_below_launched c.self.inside.standings.items c.self.inside.unmarked c.in-Some-block_of.block _ _ c.self.invariant.none_below);
       prepared = tt;
     }
 

@@ -20,5 +20,6 @@ invariant_of-result c =
           refl
           (omega arith));
       covered = rw c.new.ensures.items c.in-Ok-empty_covers.ensures;
+      none_below = λ b d lt. absurd (omega (arith, lt));
       prepared = tt;
     }

@@ -6,7 +6,7 @@ use Rattle.fst_graph.specs.Ready.{change_of}
 use Rattle.fst_heads.proofs.{Added.{new_node, with_node, with_names}, Beside.{beside_made, beside_depends}, Covering.covered_gained}
 use Rattle.fst_heads.proofs.{Framed.{pushed_below, pushed_above}, Linking.rising_as, Slots.rising_heads, Sums.joined_exact}
 use Rattle.fst_walks.proofs.{Linked.patches_named, Seen.{seen, linked_patches, gained_number}, Shelves.shelved_push}
-use Rattle.fst_graph.proofs.{Borne.{few_counted, few as few_of_settled}, Kept.{keeps_depends, covered_made}, PutNow.{put_now, IsPutNow}, Sound.rising_sound}
+use Rattle.fst_graph.proofs.{Borne.{few_counted, few as few_of_settled}, Kept.{keeps_depends, covered_made, none_below_set}, PutNow.{put_now, IsPutNow}, Sound.rising_sound}
 use Rattle.fst_graph.proofs.{TailGains.{tail_there, tail_clear, tail_gains, none_beyond}, Tallied.tallies_depends}
 use Rattle.fst_graph.proofs.sparse.Sparse.put_member.Goals.{After-as_slice, After-as_slice-3, After-push_reserved, After-drop-prepared}
 use Rattle.fst_heads.specs.declared.pending.Pending.TheVariants as pending
@@ -168,6 +168,7 @@ invariant_of-self c =
       beside = rw (with_tie c) (beside_depends (old ++ made ∷ []) s.blocks (s.live + 1) s.walks.crossed.items tail names (beside_made old s.blocks s.live 1 s.walks.crossed.items made refl c.self.invariant.beside));
       tallies = rw (tied c, entering, shelved) tallies;
       covered = rw (with_tie c) (covered_gained (old ++ made ∷ []) tail names s.blocks _ (covered_made s.numbers p.grade D.ready.depends c.self.invariant.covered D.ready.inside c.index_mut-3.ensures.value D.prepared.bytes c.put.ensures));
+      none_below = let least = c.min-self-inside.ensures in none_below_set s.standings.items s.unmarked c.min-self-inside.result p.block _ c.self.invariant.none_below (omega (arith, least)) (omega (arith, least));
       prepared = tt;
     })
 
