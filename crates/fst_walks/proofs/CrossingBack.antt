@@ -7,7 +7,9 @@ use Rattle.fst_types.specs.Tests.{is_at, is_on}
 use Rattle.fst_types.proofs.{Dropping.{in_filter, filter_in}, Finite.{In, In-from_Contains, Contains-from_In, In-map}, GateGains.In-unmap}
 use Rattle.fst_heads.specs.{Grading.IsHardNumber, Heads.{IsRising, patch_of, patches_of}, Lists.{Entry, entry, entry_of, entries_of, entries_on, is_live_on}}
 use Rattle.fst_heads.specs.{Marks.{HasSlot, PassesAt}, Nodes.{Node, node_of, nodes_of, patches_in, AreLinked}, Reaching.{IsReached, IsHardIn}}
-use Rattle.fst_heads.specs.{declared.head.Head.Head, declared.lists.Listed.Listed}
+use Rattle.fst_heads.specs.{declared.head.Head.Head, declared.head.Kind.{Kind as HeadKind}, declared.lists.Listed.Listed, Heads.kind_of}
+use Rattle.fst_types.specs.declared.grade.Grade.{Grade}
+use Rattle.fst_heads.specs.declared.head.Kind.TheVariants as kinds
 use Rattle.fst_heads.proofs.{AtNumber.patches_in_nodes, Forgetting.{live_place_of, not_disk}, Graded.{on_from, on_to}, Leading.{one_block, reached_more}}
 use Rattle.fst_heads.proofs.{Placed.{patch_in, node_of_patch}, Slots.patch_is, Waiting.{map_twice, times_some, some_times}}
 use Rattle.fst_walks.specs.{Descending.Visits, WayBack.{Crosses, ShowsBlockOf}}
@@ -133,3 +135,10 @@ module _ (patches : List Patch) (n : ℕ) (none : (c : ℕ) → IsHardNumber pat
 
   pub shows_none : ShowsBlockOf patches n crossed crossed
   shows_none = record { kept = λ c r. r; only = λ c r. inl r; each = λ c x. absurd (none c x) }
+
+-- what is no change is on no block
+pub no_change : (k : HeadKind) → ((block : ℕ) (span : _) (grade : Grade) → k ≡ kinds.Change block span grade → ⊥) → (c : ℕ) → block_of_kind (kind_of k) ≡ Some c → ⊥
+no_change (kinds.Change block span grade) none c e = none block span grade refl
+no_change kinds.Empty none c e = cc
+no_change kinds.OpenGate none c e = cc
+no_change kinds.SealedGate none c e = cc

@@ -18,6 +18,4 @@ pub mod Behind
 pub mod ComesBack
 pub mod CrossingBack
 pub mod Overlapped
-pub mod HeldBelow
-pub mod Crossing
 pub mod Trails

@@ -2,7 +2,7 @@
 use Rattle.std.proofs.Common.{◌≡◌, ◌⊎◌, ◌&&◌, ℕ, Bool, true, false, List, get_or, Contains, Some, None, Option, IfSome, refl, sym, ap, subst, ◌∙◌, inl, inr, ◌∷◌, [], ◌++◌}
 use Rattle.std.proofs.{lemmas.Bool.false≢true, lemmas.List.Elements.Contains-push_cases}
 use Rattle.fst_types.specs.{Closure.{one, join}, Dependencies.{DirectlyOn, DependsOn}, Facts.HardNeverHold, Gates.IsOpenNumber}
-use Rattle.fst_types.specs.{Patches.{Kind, OpenGate, Patch, IsOn, grade_of_kind}, Tests.is_change_at}
+use Rattle.fst_types.specs.{Grades.FollowsRule, Patches.{Kind, OpenGate, Patch, IsOn, grade_of_kind}, Tests.is_change_at, declared.grade.Grade.Grade}
 use Rattle.fst_types.proofs.Landing.{change_at, at_change}
 use Rattle.fst_heads.specs.Grading.{HasUnder, IsReturning, IsOpenBut, MayBeHard, IsHardNumber, RestsOnHard, IsLeading, LeadsNowhere}
 use Rattle.fst_heads.specs.{Heads.{IsRising, patch_of, patches_of}, Marks.{HasSlot, HasNone, PassesAt}, Reaching.IsHardIn, Tests.{passes, is_hard_kind}}
@@ -231,3 +231,12 @@ module _ (patches : List Patch) (row : List ℕ) where
 
     pub nowhere_near : (b : ℕ) → LeadsNowhere patches b row → LeadsNowhere patches b near
     nowhere_near b leads = record { straight = λ u. leads.straight (under_row (IsReturning patches b) u); open_ended = λ u. leads.open_ended (under_row (IsLeading patches b) u) }
+
+-- what a grade tells of one thing it tells of another that is so exactly where the first is
+pub follows_same : (g : Grade) (First Second : Type 0) → (Second → First) → (First → Second) → FollowsRule g First → FollowsRule g Second
+follows_same grade.Hard First Second to from told = from told
+follows_same grade.Soft First Second to from told = λ second. told (to second)
+
+-- a row is near itself
+pub deepens_self : (patches : List Patch) (row : List ℕ) → Deepens patches row row
+deepens_self patches row = record { each = λ n c. c; only = λ n c. (n, c, inl refl) }

@@ -1,7 +1,6 @@
 pub mod Searching
 pub mod Descending
 pub mod WayBack
-pub mod WayDown
 pub mod Walks
 pub mod Sights
 pub mod Nearby

@@ -27,6 +27,10 @@ use fst_heads::standing::Standing;
 use fst_heads::test::{Test, passes};
 use fst_types::Place;
 
+// How far a chain of newest dependencies is followed. A chain over all blocks comes back within as many steps as there are
+// blocks.
+const MOST_STEPS: u32 = 4_096;
+
 // How many patches beside a chain are looked at in all.
 const MOST_LOOKS: usize = 8_192;
 
@@ -150,16 +154,16 @@ fn has_change(heads: &[Head], block: u32, row: &[u32]) -> bool
 }
 
 /// Whether the newest of the row, the newest that it depends on, and so on, come over a change of another block back to
-/// one of the block, or to a patch that directly depends on one, none being on disk, within so many steps. A change of the
+/// one of the block, or to a patch that directly depends on one, none being on disk, within 4,096 steps. A change of the
 /// block with that row is soft. Where they do not, another path may.
-pub fn comes_back(heads: &[Head], block: u32, row: &[u32], steps: u32) -> bool
+pub fn comes_back(heads: &[Head], block: u32, row: &[u32]) -> bool
     requires { IsRising heads.now }
     ensures { IsTrue result → HasUnder (patches_of heads.now) row.now (IsReturning (patches_of heads.now) block) }
 {
     let mut next = newest(row);
     let mut away = false;
     let mut looks = MOST_LOOKS;
-    for _ in 0..steps {
+    for _ in 0..MOST_STEPS {
         let Some(number) = next else {
             return false;
         };

@@ -4,8 +4,7 @@ use Rattle.fst_types.specs.{Patches.block_of_kind, Tests.is_change_at}
 use Rattle.fst_heads.specs.{Grading.IsHardNumber, Heads.{kind_of, patch_of, patches_of}, Marks.PassesAt, Reaching.IsReached, Tests.is_hard_kind}
 use Rattle.fst_heads.proofs.Slots.{patch_at}
 use Rattle.fst_walks.specs.{Walks.numbers_met, WayBack.Crosses}
-use Rattle.fst_walks.proofs.Crossing.{no_change}
-use Rattle.fst_walks.proofs.CrossingBack.{hard_on_here, hard_same, crosses_from, crosses_to, shows_more, shows_same, crosses_none, shows_none}
+use Rattle.fst_walks.proofs.CrossingBack.{no_change, hard_on_here, hard_same, crosses_from, crosses_to, shows_more, shows_same, crosses_none, shows_none}
 use Rattle.fst_walks.proofs.{NearRow.{hard_here, here_hard}, Visiting.{visits_none, visits_same}}
 use Rattle.fst_types.specs.declared.place.Place.TheVariants as place
 use Rattle.fst_heads.specs.declared.test.Test.TheVariants as test
