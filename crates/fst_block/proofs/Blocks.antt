@@ -1,5 +1,5 @@
 -- A block keeps what it has to, call by call.
-use Rattle.std.proofs.Common.{◌≡◌, ℕ, suc, ◌+◌, ◌-◌, ◌*◌, ◌^◌, ◌<◌, ◌≤◌, Bool, List, [], ◌∷◌, ◌++◌, length, take, drop, All, refl, sym, ap, subst, ◌∙◌, arith, Result, Ok, Err, IfOk, MatchResult, IsErrAnd}
+use Rattle.std.proofs.Common.{◌≡◌, ℕ, suc, ◌+◌, ◌-◌, ◌*◌, ◌^◌, ◌<◌, ◌≤◌, List, [], ◌∷◌, ◌++◌, length, take, drop, All, refl, sym, ap, subst, ◌∙◌, arith}
 use Rattle.std.proofs.lemmas.List.{map-append, length-map, take_at}
 use Rattle.std.proofs.lemmas.List.Elements.{All-head, All-tail}
 use Rattle.std.proofs.lemmas.List.Sums.{sum_by_push}
@@ -9,11 +9,11 @@ use Rattle.fst_types.specs.declared.grade.Grade.TheVariants as grade
 use Rattle.fst_types.specs.Fold.{written}
 use Rattle.fst_block.specs.BlockView.{BlockPatch, write_of, fold_of, len_if_soft, soft_lengths}
 use Rattle.fst_block.specs.Choices.{is_chosen, chosen_of, others_of}
-use Rattle.fst_block.specs.Swaps.{Entry, patches_of, entries_left, FitsIn, swapped_out, swapped_in}
+use Rattle.fst_block.specs.Swaps.{Entry, patches_of, entries_left, FitsIn}
 use Rattle.fst_block.specs.Kept.{undo_of, KeepsUndo, IsPlaced, ArePlaced, IsKept}
 use Rattle.fst_block.proofs.Takes.{soft_lengths-cons}
 use Rattle.fst_block.proofs.Apart.{length-fold_of}
-use Rattle.fst_block.proofs.Undo.{IsClosed, all_fit, all_fit-filter, fits-entries, fold_of-parts, undoes-parts, placed-others, patches_of-entries, soft_lengths-parts, swapped_out_patches, swapped_out_length, swapped_out_fits, swapped_back}
+use Rattle.fst_block.proofs.Undo.{IsClosed, all_fit, all_fit-filter, fits-entries, fold_of-parts, undoes-parts, placed-others, patches_of-entries, soft_lengths-parts}
 
 fold_of_push : (base : List ℕ) (ps : List BlockPatch) (p : BlockPatch) → fold_of base (ps ++ p ∷ []) ≡ written (fold_of base ps) (write_of p)
 fold_of_push base [] p = refl
@@ -100,36 +100,5 @@ module _ (base bytes : List ℕ) (es : List Entry) (undo : ℕ) (kept : IsKept b
 pub written_through : (n : ℕ) (new old : List ℕ) → length new ≡ n → take n (new ++ drop (length new) old) ≡ new
 written_through n new old e = take_at new (drop (length new) old) n e
 
--- what was swapped out can be swapped in again, and is then as before
-module _ (chosen : BlockPatch → Bool) (bytes : List ℕ) (es : List Entry) (room : FitsIn (length bytes) es) (b : List ℕ) (out : List Entry)
-    (is_bytes : b ≡ (swapped_out chosen bytes es).0) (is_out : out ≡ (swapped_out chosen bytes es).1) where
-  pub fits_back : FitsIn (length b) out
-  fits_back =
-      let size = ap length is_bytes ∙ swapped_out_length chosen bytes es room in
-      subst (λ n. FitsIn n out) (sym size) (subst (FitsIn (length bytes)) (sym is_out) (swapped_out_fits chosen bytes es room))
-
-  pub same_patches : patches_of out ≡ patches_of es
-  same_patches = ap patches_of is_out ∙ swapped_out_patches chosen bytes es
-
-  pub comes_back : swapped_in chosen b out ≡ (bytes, es)
-  comes_back = ap (λ c. swapped_in chosen c out) is_bytes ∙ (ap (swapped_in chosen (swapped_out chosen bytes es).0) is_out ∙ swapped_back chosen bytes es room)
-
 pub same_kept : {base : List ℕ} (bytes bytes' : List ℕ) (es es' : List Entry) (undo undo' : ℕ) → bytes ≡ bytes' → es ≡ es' → undo ≡ undo' → IsKept base bytes es undo → IsKept base bytes' es' undo'
 same_kept {base} bytes bytes' es es' undo undo' b e u kept = subst (IsKept base bytes' es') u (subst (λ xs. IsKept base bytes' xs undo) e (subst (λ bs. IsKept base bs es undo) b kept))
-
--- the value is passed on
-pub IfOk-map_err : {T E F : Type 0} (P : T → Type 0) (Q : E → F → Type 0) (r : Result T E) (s : Result T F) → MatchResult r (λ x. s ≡ Ok x) (λ e. IsErrAnd s (Q e)) → IfOk r P → IfOk s P
-IfOk-map_err P Q (Ok x) s h k = subst (λ t. IfOk t P) (sym h) k
-IfOk-map_err P Q (Err e) (Ok y) h k = absurd h
-IfOk-map_err P Q (Err e) (Err f) h k = tt
-
--- the block's vector after the first walk
-pub first_walk : (chosen : BlockPatch → Bool) (bytes : List ℕ) (es : List Entry) (n : ℕ) (seen walked end : List ℕ) (out : List Entry)
-    → seen ≡ bytes → walked ≡ (swapped_out chosen seen es).0 → out ≡ (swapped_out chosen seen es).1 → length walked ≡ n → end ≡ take n (walked ++ drop (length walked) bytes)
-    → (end ≡ (swapped_out chosen bytes es).0) × (out ≡ (swapped_out chosen bytes es).1)
-first_walk chosen bytes es n seen walked end out same is_walked is_out size is_end =
-    (is_end ∙ (written_through n walked bytes size ∙ (is_walked ∙ ap (λ b. (swapped_out chosen b es).0) same)), is_out ∙ ap (λ b. (swapped_out chosen b es).1) same)
-
-pub IfOk-weaker : {T E : Type 0} (P Q : T → Type 0) (r : Result T E) → ((x : T) → P x → Q x) → IfOk r P → IfOk r Q
-IfOk-weaker P Q (Ok x) f k = f x k
-IfOk-weaker P Q (Err e) f k = tt

@@ -1,8 +1,8 @@
 -- The entry at a place of the list.
-use Rattle.std.proofs.Common.{◌≡◌, ℕ, zero, suc, ◌-◌, ◌<◌, List, [], ◌∷◌, ◌++◌, length, take, drop, get_or, refl, sym, ap, arith}
+use Rattle.std.proofs.Common.{◌≡◌, ℕ, zero, suc, ◌-◌, ◌<◌, List, [], ◌∷◌, ◌++◌, length, take, drop, get_or, sym, ap, arith}
 use Rattle.std.specs.Prelude.{◌==◌, if◌then◌else◌}
 use Rattle.std.proofs.lemmas.Bool.Decides.{nat_tests}
-use Rattle.fst_chain.specs.Records.{payload_at, set_payload}
+use Rattle.fst_chain.specs.Records.{payload_at}
 use Rattle.fst_block.specs.BlockView.{BlockPatch}
 use Rattle.fst_block.specs.Swaps.{Entry}
 
@@ -15,31 +15,6 @@ pub take_at_place : (es : List Entry) (k : ℕ) (p : BlockPatch) → k < length 
 take_at_place [] k p here read = absurd (omega arith)
 take_at_place (e ∷ es) zero p here read = ap (λ q. (q, e.1) ∷ []) (sym read)
 take_at_place (e ∷ es) (suc k) p here read = ap (λ xs. e ∷ xs) (take_at_place es k p (omega arith) read)
-
-pub length-set_payload : (es : List Entry) (k : ℕ) (q : List ℕ) → length (set_payload es k q) ≡ length es
-length-set_payload [] k q = refl
-length-set_payload (e ∷ es) zero q = refl
-length-set_payload (e ∷ es) (suc k) q = ap suc (length-set_payload es k q)
-
-pub take-set_payload : (es : List Entry) (k : ℕ) (q : List ℕ) → take k (set_payload es k q) ≡ take k es
-take-set_payload [] k q = refl
-take-set_payload (e ∷ es) zero q = refl
-take-set_payload (e ∷ es) (suc k) q = ap (λ xs. e ∷ xs) (take-set_payload es k q)
-
-pub drop-set_payload : (es : List Entry) (k : ℕ) (q : List ℕ) → drop (suc k) (set_payload es k q) ≡ drop (suc k) es
-drop-set_payload [] k q = refl
-drop-set_payload (e ∷ es) zero q = refl
-drop-set_payload (e ∷ es) (suc k) q = drop-set_payload es k q
-
-pub take_more-set_payload : (es : List Entry) (k : ℕ) (p : BlockPatch) (q : List ℕ) → k < length es → p ≡ (get_or es k (p, [])).0 → take (suc k) (set_payload es k q) ≡ take k es ++ (p, q) ∷ []
-take_more-set_payload [] k p q here read = absurd (omega arith)
-take_more-set_payload (e ∷ es) zero p q here read = ap (λ r. (r, q) ∷ []) (sym read)
-take_more-set_payload (e ∷ es) (suc k) p q here read = ap (λ xs. e ∷ xs) (take_more-set_payload es k p q (omega arith) read)
-
-pub drop_less-set_payload : (es : List Entry) (k : ℕ) (p : BlockPatch) (q : List ℕ) → k < length es → p ≡ (get_or es k (p, [])).0 → drop k (set_payload es k q) ≡ (p, q) ∷ drop (suc k) es
-drop_less-set_payload [] k p q here read = absurd (omega arith)
-drop_less-set_payload (e ∷ es) zero p q here read = ap (λ r. (r, q) ∷ es) (sym read)
-drop_less-set_payload (e ∷ es) (suc k) p q here read = drop_less-set_payload es k p q (omega arith) read
 
 -- one place before one that is not the first
 pub place_before : (len m p : ℕ) → p ≡ (if m == 0 then len else m - 1) → 0 < m → p ≡ m - 1

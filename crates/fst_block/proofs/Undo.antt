@@ -1,4 +1,4 @@
--- What swapping and launching mean for a block that keeps what each patch's span held before it.
+-- What reverting and launching mean for a block that keeps what each patch's span held before it.
 use Rattle.std.proofs.Common.{◌≡◌, ℕ, suc, ◌+◌, ◌≤◌, Bool, true, false, not, cond, List, [], ◌∷◌, ◌++◌, length, take, drop, filter, refl, sym, ap, subst, ◌∙◌, inl, inr, arith}
 use Rattle.std.proofs.lemmas.Bool.{cases_Bool}
 use Rattle.fst_types.specs.declared.grade.Grade.{Grade}
@@ -6,11 +6,11 @@ use Rattle.fst_types.specs.declared.grade.Grade.TheVariants as grade
 use Rattle.fst_types.specs.declared.span.Span.{Span}
 use Rattle.fst_types.specs.Fold.{written}
 use Rattle.fst_block.specs.BlockView.{BlockPatch, write_of, fold_of, len_if_soft, soft_lengths}
-use Rattle.fst_block.specs.Swaps.{Entry, Swaps, patches_of, bytes_after, kept_after, swapped_in, swapped_out, FitsIn}
+use Rattle.fst_block.specs.Swaps.{Entry, patches_of, bytes_after, reverted, FitsIn}
 use Rattle.fst_block.specs.Kept.{undo_of, KeepsUndo, IsPlaced, ArePlaced}
-use Rattle.fst_block.proofs.Walks.{swap_length}
+use Rattle.fst_block.proofs.Walks.{put_length}
 use Rattle.fst_block.proofs.Takes.{soft_lengths-cons}
-use Rattle.fst_block.proofs.Apart.{range_of, length-range_of, range-over, undone, Fits, AllFit, fit_along, NoneShares, written_keeps_length, fold_apart, range-fold_of}
+use Rattle.fst_block.proofs.Apart.{range_of, length-range_of, undone, Fits, AllFit, fit_along, NoneShares, written_keeps_length, fold_apart, range-fold_of}
 
 -- a patch that is left out is soft, and shares no byte with a later one that is chosen
 abbrev pub IsClosed : (BlockPatch → Bool) → List BlockPatch → Type 0
@@ -30,63 +30,16 @@ all_fit-filter n chosen (p ∷ ps) fs =
     let rest = all_fit-filter n chosen ps fs.1 in
     elim (chosen p) as (λ b. AllFit n (cond b (p ∷ filter chosen ps) (filter chosen ps))) [ true ↦ (fs.0, rest) | false ↦ rest ]
 
--- a swap has the same number of bytes in it
-swapped_length : (b : List ℕ) (at : ℕ) (q : List ℕ) → at + length q ≤ length b → length (range_of b at (length q)) ≡ length q
-swapped_length b at q h = length-range_of b at (length q) h
-
 module _ (chosen : BlockPatch → Bool) where
-  pub swapped_out_patches : (bytes : List ℕ) (es : List Entry) → patches_of (swapped_out chosen bytes es).1 ≡ patches_of es
-  swapped_out_patches bytes [] = refl
-  swapped_out_patches bytes (e ∷ es) = ap (λ ps. e.0 ∷ ps) (swapped_out_patches bytes es)
-
   bytes_after_length : (t : Bool) (b : List ℕ) (e : Entry) → e.0.span.at + length e.1 ≤ length b → length (bytes_after t b e) ≡ length b
   bytes_after_length true b e h = refl
-  bytes_after_length false b e h = swap_length b e h
+  bytes_after_length false b e h = put_length b e h
 
-  kept_after_length : (t : Bool) (b : List ℕ) (e : Entry) → e.0.span.at + length e.1 ≤ length b → length (kept_after t b e) ≡ length e.1
-  kept_after_length true b e h = refl
-  kept_after_length false b e h = swapped_length b e.0.span.at e.1 h
-
-  pub swapped_out_length : (bytes : List ℕ) (es : List Entry) → FitsIn (length bytes) es → length (swapped_out chosen bytes es).0 ≡ length bytes
-  swapped_out_length bytes [] fits = refl
-  swapped_out_length bytes (e ∷ es) fits =
-      let same = swapped_out_length bytes es fits.1 in
-      bytes_after_length (chosen e.0) (swapped_out chosen bytes es).0 e (omega (arith, same, fits.0)) ∙ same
-
-  pub swapped_out_fits : (bytes : List ℕ) (es : List Entry) → FitsIn (length bytes) es → FitsIn (length bytes) (swapped_out chosen bytes es).1
-  swapped_out_fits bytes [] fits = tt
-  swapped_out_fits bytes (e ∷ es) fits =
-      let same = swapped_out_length bytes es fits.1 in
-      let kept = kept_after_length (chosen e.0) (swapped_out chosen bytes es).0 e (omega (arith, same, fits.0)) in
-      (omega (arith, kept, fits.0), swapped_out_fits bytes es fits.1)
-
-  -- a swap made twice is none
-  bytes_back : (t : Bool) (b : List ℕ) (e : Entry) → e.0.span.at + length e.1 ≤ length b → bytes_after t (bytes_after t b e) (e.0, kept_after t b e) ≡ b
-  bytes_back true b e h = refl
-  bytes_back false b e h =
-      let size = swapped_length b e.0.span.at e.1 h in
-      ap (λ n. take e.0.span.at (bytes_after false b e) ++ range_of b e.0.span.at (length e.1) ++ drop (e.0.span.at + n) (bytes_after false b e)) size
-      ∙ undone b e.1 e.0.span.at (length e.1) h refl
-
-  kept_back : (t : Bool) (b : List ℕ) (e : Entry) → e.0.span.at + length e.1 ≤ length b → kept_after t (bytes_after t b e) (e.0, kept_after t b e) ≡ e.1
-  kept_back true b e h = refl
-  kept_back false b e h =
-      let size = swapped_length b e.0.span.at e.1 h in
-      ap (λ n. range_of (bytes_after false b e) e.0.span.at n) size ∙ range-over b e.1 e.0.span.at (length e.1) h refl
-
-  -- what was swapped out and in again is as it was
-  pub swapped_back : (bytes : List ℕ) (es : List Entry) → FitsIn (length bytes) es → swapped_in chosen (swapped_out chosen bytes es).0 (swapped_out chosen bytes es).1 ≡ (bytes, es)
-  swapped_back bytes [] fits = refl
-  swapped_back bytes (e ∷ es) fits =
-      let below = swapped_out chosen bytes es in
-      let same = swapped_out_length bytes es fits.1 in
-      let room : e.0.span.at + length e.1 ≤ length below.0 = omega (arith, same, fits.0) in
-      let first = bytes_back (chosen e.0) below.0 e room in
-      let kept = kept_back (chosen e.0) below.0 e room in
-      let rest = swapped_back bytes es fits.1 in
-      ap (λ b. ((swapped_in chosen b below.1).0, (e.0, kept_after (chosen e.0) (bytes_after (chosen e.0) below.0 e) (e.0, kept_after (chosen e.0) below.0 e)) ∷ (swapped_in chosen b below.1).1)) first
-      ∙ (ap (λ q. ((swapped_in chosen below.0 below.1).0, (e.0, q) ∷ (swapped_in chosen below.0 below.1).1)) kept
-      ∙ ap (λ (s : Swaps). (s.0, e ∷ s.1)) rest)
+  pub reverted_length : (bytes : List ℕ) (es : List Entry) → FitsIn (length bytes) es → length (reverted chosen bytes es) ≡ length bytes
+  reverted_length bytes [] fits = refl
+  reverted_length bytes (e ∷ es) fits =
+      let same = reverted_length bytes es fits.1 in
+      bytes_after_length (chosen e.0) (reverted chosen bytes es) e (omega (arith, same, fits.0)) ∙ same
 
   chosen_first : (p : BlockPatch) (ps : List BlockPatch) → chosen p ≡ true → filter chosen (p ∷ ps) ≡ p ∷ filter chosen ps
   chosen_first p ps h = rw h refl
@@ -111,9 +64,9 @@ module _ (chosen : BlockPatch → Bool) where
       sym (fold_apart base' still qs (omega (arith, same, fp.0), size) (fit_along (length base) (length base') qs (sym same) fs) none)
       ∙ ap (λ b. fold_of b qs) back
 
-  -- the block with what is not chosen swapped out is the base with what is chosen
+  -- the block's bytes with what is not chosen reverted are the base with what is chosen
   pub image_is : (base bytes : List ℕ) (least : ℕ) (es : List Entry) → bytes ≡ fold_of base (patches_of es) → KeepsUndo base es → ArePlaced (length base) least (patches_of es) → IsClosed chosen (patches_of es)
-      → (swapped_out chosen bytes es).0 ≡ fold_of base (filter chosen (patches_of es))
+      → reverted chosen bytes es ≡ fold_of base (filter chosen (patches_of es))
   image_is base bytes least [] stands undoes placed closed = stands
   image_is base bytes least (e ∷ es) stands undoes placed closed =
       let base' = written base (write_of e.0) in
@@ -122,11 +75,11 @@ module _ (chosen : BlockPatch → Bool) where
       let placed' = subst (λ n. ArePlaced n (suc e.0.number) (patches_of es)) (sym same) placed.1 in
       let rest = image_is base' bytes (suc e.0.number) es stands undoes.1 placed' closed.1 in
       elim (cases_Bool (chosen e.0)) [
-        | inl taken ↦ ap (λ t. bytes_after t (swapped_out chosen bytes es).0 e) taken ∙ (rest ∙ ap (fold_of base) (sym (chosen_first e.0 (patches_of es) taken)))
+        | inl taken ↦ ap (λ t. bytes_after t (reverted chosen bytes es) e) taken ∙ (rest ∙ ap (fold_of base) (sym (chosen_first e.0 (patches_of es) taken)))
         | inr stays ↦
             let soft = closed.0 stays in
             let kept : e.1 ≡ range_of base e.0.span.at e.0.span.len = undoes.0 ∙ ap (λ g. range_of base e.0.span.at (len_if_soft g e.0.span.len)) soft.0 in
-            ap (λ t. bytes_after t (swapped_out chosen bytes es).0 e) stays
+            ap (λ t. bytes_after t (reverted chosen bytes es) e) stays
             ∙ (ap (λ b. bytes_after false b e) rest
             ∙ (ap (λ q. bytes_after false (fold_of base' (filter chosen (patches_of es))) (e.0, q)) kept
             ∙ (left_out base e.0 (filter chosen (patches_of es)) fits (all_fit-filter (length base) chosen (patches_of es) (all_fit (length base) (suc e.0.number) (patches_of es) placed.1)) soft.1

@@ -1,13 +1,13 @@
 //! A block: its bytes as they stand in memory, and its patches that are not launched.
 
 ghost use Rattle.std.specs.Prelude.{◌≡◌, ◌<◌, ◌+◌, ◌≤◌, ◌↔◌, [], ◌∷◌, ◌++◌, length, All, IsTrue, IfOk, IfErr, OnOk, OnErr};
-ghost use Rattle.fst_types.specs.Fold.{written};
 ghost use Rattle.fst_block.specs.BlockView.{fold_of, soft_lengths};
 ghost use Rattle.fst_block.specs.Choices.{IsChoice, chosen_of, others_of};
 
 use crate::change::{Change, kept_len};
 use crate::launched::take_out;
-use crate::swaps::{swap_in, swap_out};
+use crate::put::put;
+use crate::reverts::revert;
 use fst_chain::Chain;
 use fst_types::{Fault, Grade, Items, Noted, PatchNo, Span};
 use std::alloc::Global;
@@ -92,8 +92,8 @@ impl Block {
         Ok(())
     }
 
-    /// The base with the chosen patches alone. What is left out is reverted, newest first, the bytes are copied, and
-    /// then it is put back, oldest first. Takes memory for the copy alone.
+    /// The base with the chosen patches alone. The bytes are copied, and in the copy what is left out is reverted, newest
+    /// first. Takes memory for the copy alone.
     ///
     /// Refuses with `Memory` where there is none, and only then. The block is as before in either case.
     pub fn image(&mut self, chosen: &[PatchNo]) -> Result<Vec<u8>, Fault>
@@ -103,10 +103,11 @@ impl Block {
         ensures unchanged { self.new ≡ self.old }
         ensures only_memory { IfErr result (λ fault. fault ≡ Fault.Memory) }
     {
-        swap_out(&mut self.bytes, &mut self.patches, chosen);
-        let image = Vec::from_slice(self.alloc, &self.bytes);
-        swap_in(&mut self.bytes, &mut self.patches, chosen);
-        image.map_err(|_| Fault::Memory)
+        let Ok(mut image) = Vec::from_slice(self.alloc, &self.bytes) else {
+            return Err(Fault::Memory);
+        };
+        revert(&mut image, &mut self.patches, chosen);
+        Ok(image)
     }
 
     /// Takes the chosen patches out of the list. The bytes stay, and the base has the patches' bytes from now on.
@@ -139,12 +140,4 @@ impl Block {
     {
         self.bytes.as_slice()
     }
-}
-
-// Writes the bytes at their place.
-fn put(block: &mut [u8], at: usize, bytes: &[u8])
-    requires { at + length bytes.now ≤ length block.old }
-    ensures { block.new ≡ written block.old (record { at = at; bytes = bytes.now }) }
-{
-    block[at..at + bytes.len()].copy_from_slice(bytes);
 }
