@@ -36,3 +36,4 @@ pub mod SettleFound
 pub mod SettleLanded
 pub mod SettleSeat
 pub mod Counted
+pub mod CountedUndo

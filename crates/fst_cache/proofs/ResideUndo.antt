@@ -16,7 +16,7 @@ use Rattle.fst_types.specs.Counts.{undo_bytes}
 use Rattle.fst_types.proofs.Finite.{In, Contains-from_In}
 use Rattle.fst_block.specs.BlockView.{BlockPatch, BlockView, len_if_soft, soft_lengths}
 use Rattle.fst_graph.specs.Known.{Known}
-use Rattle.fst_cache.specs.Seats.{SeatView, blocks}
+use Rattle.fst_cache.specs.Seats.{SeatView, blocks, undo_of}
 use Rattle.fst_cache.specs.Kept.{IsKept, grade_in, block_patch, block_patches}
 use Rattle.fst_cache.proofs.ResideCounts.{sum_below, sum_by_places, below_add, below_none, below_same, below_one}
 use Rattle.fst_cache.proofs.ResideSeats.{clean, no_changes}
@@ -96,13 +96,10 @@ short_kind OpenGate short = omega arith
 short_kind SealedGate short = omega arith
 
 module _ (s : State) (graph : Known) (seats : List SeatView) (K : IsKept s graph seats) (same : s.blocks ≡ blocks seats) where
-  abbrev seat_undo : SeatView → ℕ
-  seat_undo seat = option_map_or (λ (l : BlockView). soft_lengths l.patches) seat.loaded 0
-
   view_undo : (b : ℕ) → soft_lengths (block_patches s b) ≡ counts_on s.heads b
   view_undo b = sum_mapped (λ (q : BlockPatch). len_if_soft q.grade q.span.len) (block_patch s.contents) (changes_at s place.Memory b)
 
-  at_seat : (b : ℕ) (seat : SeatView) → slice_get seats b ≡ Some seat → seat_undo seat ≡ counts_on s.heads b
+  at_seat : (b : ℕ) (seat : SeatView) → slice_get seats b ≡ Some seat → undo_of seat ≡ counts_on s.heads b
   at_seat b seat at_b = by_loaded seat.loaded refl
     where
       by_loaded : (o : Option BlockView) → seat.loaded ≡ o → option_map_or (λ (l : BlockView). soft_lengths l.patches) o 0 ≡ counts_on s.heads b
@@ -110,9 +107,9 @@ module _ (s : State) (graph : Known) (seats : List SeatView) (K : IsKept s graph
       by_loaded (Some l) is = ap (λ (v : BlockView). soft_lengths v.patches) ((K.seat b seat at_b).loaded l is) ∙ view_undo b
 
   -- the seats' undo bytes are the state's
-  pub undo_is : sum_by (λ (seat : SeatView). option_map_or (λ (l : BlockView). soft_lengths l.patches) seat.loaded 0) seats ≡ undo_bytes s
+  pub undo_is : sum_by undo_of seats ≡ undo_bytes s
   undo_is =
-      sum_by_places seat_undo (counts_on s.heads) seats at_seat
+      sum_by_places undo_of (counts_on s.heads) seats at_seat
       ∙ (ap (sum_below (counts_on s.heads)) (sym (ap length same ∙ length-map seats (λ (t : SeatView). t.block)))
       ∙ all_blocks (length s.blocks) s.heads (λ p b h on. (K.lawful.changes_fit.inside p b (Contains-from_In s.heads p h) on).0))
 

@@ -1,5 +1,5 @@
 -- What the cache's type keeps.
-use Rattle.std.specs.Prelude.{◌≡◌, ◌≤◌, ℕ, true, List, Some, IsSome, is_some, map, length, count_by, slice_get}
+use Rattle.std.specs.Prelude.{◌≡◌, ◌≤◌, ℕ, true, List, Some, IsSome, is_some, map, length, count_by, sum_by, slice_get}
 use Rattle.fst_types.specs.declared.place.Place.TheVariants as place
 use Rattle.fst_types.specs.declared.span.Span.{Span}
 use Rattle.fst_types.specs.declared.grade.Grade.{Grade}
@@ -12,7 +12,7 @@ use Rattle.fst_types.specs.Facts.{IsLawful}
 use Rattle.fst_block.specs.BlockView.{BlockPatch, BlockView}
 use Rattle.fst_graph.specs.Known.{Known}
 use Rattle.fst_cache.specs.Views.{CacheView, home_of}
-use Rattle.fst_cache.specs.Seats.{SeatView, blocks}
+use Rattle.fst_cache.specs.Seats.{SeatView, blocks, undo_of}
 
 -- the grade of a change, and soft for other kinds
 abbrev pub grade_in : Kind → Grade
@@ -79,10 +79,11 @@ pub record IsKept (s : State) (graph : Known) (seats : List SeatView) : Type 0 w
   pub loaded : count_by (λ seat. is_some seat.loaded) seats ≤ s.resident
   pub seat : (b : ℕ) (seat : SeatView) → slice_get seats b ≡ Some seat → IsKeptSeat s b seat
 
--- that, and the count of the blocks in flight that is kept is the state's
-pub record IsCounted (count : ℕ) (s : State) (graph : Known) (seats : List SeatView) : Type 0 where
+-- that, and the counts that are kept are right: of the blocks in flight, and of the undo bytes of all blocks
+pub record IsCounted (count undo : ℕ) (s : State) (graph : Known) (seats : List SeatView) : Type 0 where
   pub kept : IsKept s graph seats
   pub flying : count ≡ flights s
+  pub undoing : undo ≡ sum_by undo_of seats
 
 -- block b, its changes and whether it is dirty are in both states the same
 pub record IsSameAt (s t : State) (b : ℕ) : Type 0 where

@@ -3,7 +3,7 @@ use Rattle.std.specs.Prelude.{◌&&◌, nat_lt, ℕ, Bool, true, false, List, []
 use Rattle.std.specs.Option.{option_map_or}
 use Rattle.fst_types.specs.Limits.{max_tries}
 use Rattle.fst_types.specs.State.{Flight, BlockState}
-use Rattle.fst_block.specs.BlockView.{BlockPatch, BlockView}
+use Rattle.fst_block.specs.BlockView.{BlockPatch, BlockView, soft_lengths}
 use Rattle.fst_cache.specs.Views.{Back}
 
 -- one block: what is committed and in flight, its number, its bytes and patches where they are in memory, the patches in flight, what its slot holds where it is at home, its slot's faults, and what came back of a write that failed
@@ -53,3 +53,7 @@ is_dirty_with (Some f) loaded = true
 -- whether the block has a change in memory or in flight
 abbrev pub is_dirty_seat : SeatView → Bool
 is_dirty_seat seat = is_dirty_with seat.block.flight seat.loaded
+
+-- how many undo bytes the block keeps: none where it is not in memory
+abbrev pub undo_of : SeatView → ℕ
+undo_of seat = option_map_or (λ (l : BlockView). soft_lengths l.patches) seat.loaded 0

@@ -5,7 +5,7 @@
 //!
 //! All that every call needs and keeps is in the type's invariant: the state is lawful, a block in memory is as the state
 //! says, a block with a change that is not on disk is in memory, no more blocks are in memory than may be, and the blocks in
-//! flight are as many as are counted.
+//! flight and the undo bytes are as many as are counted.
 
 mod gates;
 mod groups;
@@ -31,6 +31,7 @@ pub struct Cache<S: BlockSlot> {
     tickets: u64,
     made: u64,
     flights: usize,
+    undo: u64,
     graph: Graph,
     contents: Contents,
     seats: Vec<Seat<S>>,
@@ -44,5 +45,5 @@ impl<S: BlockSlot> Model for Cache<S> {
 
     ghost view = { λ a. view_of (state_of a.size a.resident a.tickets a.made a.graph a.contents.items a.seats.items) a.seats.items };
 
-    ghost invariant = { λ a. IsCounted a.flights (state_of a.size a.resident a.tickets a.made a.graph a.contents.items a.seats.items) a.graph a.seats.items };
+    ghost invariant = { λ a. IsCounted a.flights a.undo (state_of a.size a.resident a.tickets a.made a.graph a.contents.items a.seats.items) a.graph a.seats.items };
 }

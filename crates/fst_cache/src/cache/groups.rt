@@ -9,7 +9,7 @@ ghost use Rattle.fst_cache.specs.Views.{IsSameBeside};
 ghost use Rattle.fst_cache.specs.Faults.{IsOneFaultMore};
 
 use crate::cache::Cache;
-use crate::cache::making::put;
+use crate::cache::making::{put, undo_bytes};
 use crate::share::Share;
 use fst_device::BlockSlot;
 use fst_types::{BlockNo, Fault, Grade, GroupNo, PatchNo, Span, What};
@@ -113,6 +113,7 @@ impl<S: BlockSlot> Cache<S> {
             unreachable!()
         };
         self.contents = self.contents.with(no, bytes);
+        self.undo += undo_bytes(grade, span);
         self.made += 1;
         share.rise();
         Ok((no, grade))

@@ -132,6 +132,7 @@ impl<S: BlockSlot> Cache<S> {
             tickets,
             made: 0,
             flights: 0,
+            undo: 0,
             graph,
             contents: Contents::none(),
             seats: seated(slots, seats),

@@ -28,6 +28,7 @@ invariant_of-self g c =
     record {
       kept = kept_still i.size i.resident i.tickets i.made i.graph c.chosen-chosen.new.self i.contents.items i.seats.items c.chosen-chosen.ensures.same c.self.invariant.kept;
       flying = c.self.invariant.flying;
+      undoing = c.self.invariant.undoing;
     }
 
 pub invariant_of-self-2 : goal.invariant_of-self-2
@@ -37,6 +38,7 @@ invariant_of-self-2 g c =
       kept = kept_still i.size i.resident i.tickets i.made c.chosen-chosen.new.self c.hard_held-held.new.self i.contents.items i.seats.items c.hard_held-held.ensures.same
           (kept_still i.size i.resident i.tickets i.made i.graph c.chosen-chosen.new.self i.contents.items i.seats.items c.chosen-chosen.ensures.same c.self.invariant.kept);
       flying = c.self.invariant.flying;
+      undoing = c.self.invariant.undoing;
     }
 
 pub returns-then-is_none-clause-refused : goal.returns-then-is_none-clause-refused

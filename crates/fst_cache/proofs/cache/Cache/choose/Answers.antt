@@ -16,6 +16,7 @@ invariant_of-self g c =
     record {
       kept = kept_still i.size i.resident i.tickets i.made i.graph c.chosen.new.self i.contents.items i.seats.items c.chosen.ensures.same c.self.invariant.kept;
       flying = c.self.invariant.flying;
+      undoing = c.self.invariant.undoing;
     }
 
 pub returns-clause-step : goal.returns-clause-step

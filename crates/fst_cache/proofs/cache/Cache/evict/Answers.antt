@@ -1,4 +1,4 @@
-use Rattle.std.proofs.Common.{ap, is_some, ◌≡◌, ◌<◌, Some, None, refl, ◌∙◌, slice_get, length, inl}
+use Rattle.std.proofs.Common.{ap, is_some, ◌≡◌, ◌<◌, Some, None, refl, sym, ◌∙◌, slice_get, length, inl}
 use Rattle.std.proofs.lemmas.Bool.{false_from_ne_true}
 use Rattle.std.proofs.lemmas.Option.{slice_get_read}
 use Rattle.std.proofs.lemmas.List.{length-map}
@@ -6,12 +6,13 @@ use Rattle.fst_types.specs.Events.{Evict}
 use Rattle.fst_types.specs.Order.{order}
 use Rattle.fst_types.specs.Refusals.{NoneHolds}
 use Rattle.fst_types.specs.Step.{accepted, refused, evict}
-use Rattle.fst_cache.specs.Seats.{SeatView}
+use Rattle.fst_cache.specs.Seats.{SeatView, undo_of}
 use Rattle.fst_cache.specs.Kept.{state_of}
 use Rattle.fst_cache.proofs.Kept.{same_listed}
 use Rattle.fst_cache.proofs.ResideSeats.{dirty_is}
 use Rattle.fst_cache.proofs.ResideLoading.{unloaded, view_unloaded, within_of}
 use Rattle.fst_cache.proofs.Counted.{flying_same}
+use Rattle.fst_cache.proofs.CountedUndo.{undo_same, undo_clean}
 use Rattle.fst_cache.proofs.cache.Cache.evict.Goals as goal
 
 pub returns-in-Some-clause-step : goal.returns-in-Some-clause-step
@@ -29,6 +30,7 @@ invariant_of-self g c =
       kept = rw (c.unload.ensures, same_listed i.seats.items c.args.block.0 _ seated (λ (t : SeatView). t.block) (record c.index_mut.result.now { loaded = None }) refl)
           (unloaded s i.graph i.seats.items c.self.invariant.kept refl _ _ seated clean);
       flying = flying_same i.seats.items c.args.block.0 _ _ seated i.flights (ap (λ (t : SeatView). is_some t.block.flight) c.unload.ensures) c.self.invariant.flying;
+      undoing = undo_same i.seats.items c.args.block.0 _ _ seated i.undo (ap undo_of c.unload.ensures ∙ sym (undo_clean c.index_mut.result.now clean)) c.self.invariant.undoing;
     }
 
 pub returns-clause-step : goal.returns-clause-step

@@ -7,6 +7,7 @@ invariant_of-self g c =
     record {
       kept = kept_forget i.size i.resident i.tickets i.made c.forget-dropped.result i.graph c.forget-dropped.new.self i.contents.items c.of_heads-self-inside.result.items i.seats.items c.self.invariant.kept c.forget-dropped.ensures c.of_heads-self-inside.ensures;
       flying = c.self.invariant.flying;
+      undoing = c.self.invariant.undoing;
     }
 
 pub returns-clause-step : goal.returns-clause-step

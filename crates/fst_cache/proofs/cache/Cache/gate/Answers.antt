@@ -18,6 +18,7 @@ invariant_of-self g c =
     record {
       kept = kept_unprepared i.size i.resident i.tickets i.made i.graph c.add_gate.new.self i.contents.items i.seats.items c.in_err-no.ensures.same c.self.invariant.kept;
       flying = c.self.invariant.flying;
+      undoing = c.self.invariant.undoing;
     }
 
 pub returns-in_err-no-clause-step : goal.returns-in_err-no-clause-step
@@ -34,6 +35,7 @@ invariant_of-self-2 g c =
     record {
       kept = kept_gate i.size i.resident i.tickets i.made i.graph c.add_gate.new.self i.contents.items i.seats.items c.self.invariant.kept c.args.share.now _ (λ h. omega arith) c.in_ok-no.ensures.ok;
       flying = c.self.invariant.flying;
+      undoing = c.self.invariant.undoing;
     }
 
 pub returns-clause-step : goal.returns-clause-step

@@ -15,6 +15,7 @@ invariant_of-self g c =
           (kept_close i.size i.resident i.tickets i.made i.graph c.group_close.new.self i.contents.items i.seats.items c.self.invariant.kept c.args.group.0)
           (λ same. kept_unprepared i.size i.resident i.tickets i.made i.graph c.group_close.new.self i.contents.items i.seats.items same c.self.invariant.kept);
       flying = c.self.invariant.flying;
+      undoing = c.self.invariant.undoing;
     }
 
 pub returns-clause-step : goal.returns-clause-step

@@ -17,6 +17,7 @@ invariant_of-self g c =
     record {
       kept = kept_unprepared i.size i.resident i.tickets i.made i.graph c.group_new.new.self i.contents.items i.seats.items c.in_err-group.ensures.same c.self.invariant.kept;
       flying = c.self.invariant.flying;
+      undoing = c.self.invariant.undoing;
     }
 
 pub returns-in_err-group-clause-step : goal.returns-in_err-group-clause-step
@@ -33,6 +34,7 @@ invariant_of-self-2 g c =
     record {
       kept = kept_new i.size i.resident i.tickets i.made i.graph c.group_new.new.self i.contents.items i.seats.items c.self.invariant.kept c.args.share.now _ (λ h. omega arith) c.in_ok-group.ensures.ok;
       flying = c.self.invariant.flying;
+      undoing = c.self.invariant.undoing;
     }
 
 pub returns-clause-step : goal.returns-clause-step

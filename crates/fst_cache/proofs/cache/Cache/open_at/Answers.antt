@@ -4,6 +4,7 @@ use Rattle.fst_types.specs.Order.{open_order}
 use Rattle.fst_types.specs.Refusals.{IsFirst, NoneHolds}
 use Rattle.fst_cache.proofs.Opened.{opened_kept, opened_view}
 use Rattle.fst_cache.proofs.Counted.{none_flying}
+use Rattle.fst_cache.proofs.CountedUndo.{none_undo}
 use Rattle.fst_cache.proofs.cache.Cache.open_at.Goals as goal
 
 pub returns-in-Some-clause-refused : goal.returns-in-Some-clause-refused
@@ -29,6 +30,7 @@ invariant_of-result g c =
           (opened_kept g.S.BlockSlot.held g.S.BlockSlot.index g.S.BlockSlot.size g.S.BlockSlot.faults g.met.S.BlockSlot.held_fills c.args.slots.items c.args.shape.blocks c.args.shape.size c.args.shape.resident c.args.numbers c.args.tickets
           c.args.shape.within.few_blocks c.args.shape.within.few_bytes given sent free);
       flying = rw c.seated.ensures (none_flying g.S.BlockSlot.held g.S.BlockSlot.index g.S.BlockSlot.faults c.args.slots.items);
+      undoing = rw c.seated.ensures (none_undo g.S.BlockSlot.held g.S.BlockSlot.index g.S.BlockSlot.faults c.args.slots.items);
     }
 
 pub returns-clause-opened : goal.returns-clause-opened

@@ -1,4 +1,4 @@
-use Rattle.std.proofs.Common.{◌≡◌, ◌≤◌, ◌<◌, ◌+◌, length, refl, ap, inl, inr, arith, drop}
+use Rattle.std.proofs.Common.{◌≡◌, ◌≤◌, ◌<◌, ◌+◌, length, refl, ap, inl, inr, arith, drop, ◌∙◌, sym}
 use Rattle.fst_types.specs.Order.{make_order}
 use Rattle.fst_types.specs.Step.{refused}
 use Rattle.fst_graph.specs.Known.{Known}
@@ -12,6 +12,8 @@ use Rattle.fst_cache.proofs.MakeReady.{as_long, newest, kept_ready, loaded}
 use Rattle.fst_cache.proofs.MakeWhole.{step_refused, step_made, kept_made, load_fault, load_here, puts_here, rose_here, adds_prepared}
 use Rattle.fst_cache.proofs.MakeBeside.{blocks_made, faults_made, homes_made, back_made}
 use Rattle.fst_cache.proofs.Counted.{flying_still}
+use Rattle.fst_cache.proofs.CountedUndo.{undo_load, undo_puts}
+use Rattle.fst_cache.proofs.ResideUndo.{undo_is, undo_short}
 use Rattle.fst_cache.proofs.cache.Cache.patch.Goals as goal
 use Rattle.fst_cache.proofs.MakeCounted.{counted_here, quiet_here}
 use Rattle.fst_cache.proofs.ResideShowing.{told, not_failed}
@@ -33,6 +35,7 @@ invariant_of-self g c =
     record {
       kept = kept_unprepared i.size i.resident i.tickets i.made i.graph c.room.new.self i.contents.items i.seats.items c.in-Err.ensures.same c.self.invariant.kept;
       flying = c.self.invariant.flying;
+      undoing = c.self.invariant.undoing;
     }
 
 pub returns-in-Err-clause-step : goal.returns-in-Err-clause-step
@@ -76,6 +79,7 @@ invariant_of-self-in-Err-put g c =
     record {
       kept = kept_ready i.size i.resident i.tickets i.made i.graph c.room.new.self _ c.in-Ok.ensures.prepared i.contents.items i.seats.items _ c.self.invariant.kept c.args.block.0 load;
       flying = flying_still i.flights i.seats.items _ (loaded i.size i.resident i.tickets i.made i.graph c.room.new.self _ c.in-Ok.ensures.prepared i.contents.items i.seats.items _ c.self.invariant.kept c.args.block.0 load).blocks c.self.invariant.flying;
+      undoing = c.self.invariant.undoing ∙ sym (undo_load i.resident i.seats.items c.args.block.0 _ load);
     }
 
 pub returns-in-Err-put-clause-step : goal.returns-in-Err-put-clause-step
@@ -110,6 +114,14 @@ returns-in-Err-put-clause-back g c =
     let load = load_here i.resident i.seats.items c.deref_mut.result.now c.put.new.seats c.args.block.0 i.seats.len (drop (length c.put.new.seats) i.seats.items) c.deref_mut.ensures.value long (c.in-Err-put.ensures.refused refl) in
     rw (← c.self.view_is) (loaded i.size i.resident i.tickets i.made i.graph c.room.new.self _ c.in-Ok.ensures.prepared i.contents.items i.seats.items _ c.self.invariant.kept c.args.block.0 load).back
 
+pub overflow_add-self : goal.overflow_add-self
+overflow_add-self g c =
+    let i = c.self.inside in
+    let s = state_of i.size i.resident i.tickets i.made i.graph i.contents.items i.seats.items in
+    let same = undo_is s i.graph i.seats.items c.self.invariant.kept refl in
+    let short = undo_short s i.graph i.seats.items c.self.invariant.kept refl in
+    omega (arith, same, short, c.undo_bytes.ensures.within, c.self.invariant.undoing)
+
 pub invariant_of-self-2 : goal.invariant_of-self-2
 invariant_of-self-2 g c =
     let i = c.self.inside in
@@ -120,6 +132,7 @@ invariant_of-self-2 g c =
     record {
       kept = rw c.with-self-inside.ensures (kept_made i.size i.resident i.tickets i.made i.graph c.room.new.self _ c.in-Ok.ensures.prepared i.contents.items i.seats.items _ c.self.invariant.kept c.args.share.now c.args.block.0 c.args.at c.args.bytes.now (numbers_of c.args.after.now) c.in-Ok.made.0.0 c.in-Ok.made.1 may puts c.add_data.new.self adds);
       flying = flying_still i.flights i.seats.items _ (blocks_made i.size i.resident i.tickets i.made i.graph c.room.new.self _ c.in-Ok.ensures.prepared i.contents.items i.seats.items _ c.self.invariant.kept c.args.block.0 _ puts) c.self.invariant.flying;
+      undoing = let r = undo_puts i.resident i.seats.items c.args.block.0 _ _ puts in omega (arith, r, c.undo_bytes.ensures.value, c.self.invariant.undoing);
     }
 
 pub returns-clause-step : goal.returns-clause-step

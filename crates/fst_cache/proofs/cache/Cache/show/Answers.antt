@@ -12,6 +12,7 @@ use Rattle.fst_cache.proofs.ResideSeats.{at_rest, room_for}
 use Rattle.fst_cache.proofs.ResideLoading.{load_keeps, written_back, within_of}
 use Rattle.fst_cache.proofs.ResideShowing.{load_fault, step_not_loaded, told, not_failed}
 use Rattle.fst_cache.proofs.Counted.{flying_still}
+use Rattle.fst_cache.proofs.CountedUndo.{undo_load}
 use Rattle.fst_cache.proofs.cache.Cache.show.Goals as goal
 
 pub returns-in-Some : goal.returns-in-Some
@@ -40,6 +41,7 @@ invariant_of-self g c =
     record {
       kept = rw (back, L.blocks) L.kept;
       flying = rw back (flying_still i.flights i.seats.items c.load.new.seats L.blocks c.self.invariant.flying);
+      undoing = rw back (c.self.invariant.undoing ∙ sym (undo_load i.resident i.seats.items c.args.block.0 c.load.new.seats (rw c.deref_mut.ensures.value at c.load.ensures.seats)));
     }
 
 pub invariant_of-self-2 : goal.invariant_of-self-2
@@ -51,6 +53,7 @@ invariant_of-self-2 g c =
     record {
       kept = rw (back, L.blocks) L.kept;
       flying = rw back (flying_still i.flights i.seats.items c.load.new.seats L.blocks c.self.invariant.flying);
+      undoing = rw back (c.self.invariant.undoing ∙ sym (undo_load i.resident i.seats.items c.args.block.0 c.load.new.seats (rw c.deref_mut.ensures.value at c.load.ensures.seats)));
     }
 
 pub bytes-requires-clause-within : goal.bytes-requires-clause-within
