@@ -1,18 +1,21 @@
 -- What a short line means, from its tokens.
-use Rattle.std.proofs.Common.{◌≡◌, ℕ, ◌≤◌, List, [], ◌∷◌, length, Option, Some, None, Ok, refl, ap, ◌∙◌, codes, option_map, option_and_then, IfSome}
+use Rattle.std.proofs.Common.{◌≡◌, ℕ, zero, suc, ◌≤◌, List, [], ◌∷◌, length, Option, Some, None, Ok, refl, sym, ap, ◌∙◌, inl, inr, codes, option_map, option_and_then, IfSome, le_refl, arith}
+use Rattle.std.proofs.lemmas.Option.{none-some, same_Some}
 use Rattle.std.specs.Str.{IsUtf8}
+use Rattle.hex.specs.Hex.{decode_of}
 use Rattle.json.specs.Token.{Token}
 use Rattle.json.specs.Lex.{tokens}
 use Rattle.json.specs.Json as json
-use Rattle.json.specs.Json.{items, members, value, if_last}
-use Rattle.serde_json.specs.Data.{Data, Num, unsigned, number, string, object, no_members, put}
-use Rattle.serde_json.specs.Read.{read, number_of, of_json}
-use Rattle.fst_lines.specs.Commands.{Command, max_line, command_in, or_field, command_of_value, command_of}
+use Rattle.json.specs.Json.{items, members, value, if_last, parse_map}
+use Rattle.serde_json.specs.Data.{Data, Num, unsigned, number, string, array, object, Items, no_items, item, Members, no_members, put}
+use Rattle.serde_json.specs.Read.{read, number_of, of_json, of_items, of_members}
+use Rattle.fst_lines.specs.Members.{number_in, numbers_of, if_ok}
+use Rattle.fst_lines.specs.Commands.{Command, patch, max_line, command_in, or_field, command_of_value, command_of}
 use Rattle.fst_lines.specs.Parsing.{command}
 use Rattle.fst_lines.specs.declared.command.Command.{Command as Parsed}
 use Rattle.fst_lines.specs.declared.short.Short.{Short}
 use Rattle.fst_lines.specs.declared.short.Short.TheVariants.{Alone, Numbered}
-use Rattle.fst_lines.specs.Short.{short_data, data_of, IsShort}
+use Rattle.fst_lines.specs.Short.{short_data, data_of, IsShort, small_number, list_of, NamesAtEnd, AsksShort, AsksPatch, Asks}
 use Rattle.fst_lines.proofs.CommandLemmas.{value_of-text, command_of-short}
 
 abbrev document : Option (json.Json × List Token) → Option Data
@@ -42,8 +45,152 @@ asks : (s : Short) (c : Command) → command_in (data_of s) ≡ Some c → comma
 asks (Alone name) c e = ap or_field e
 asks (Numbered name key n) c e = ap or_field e
 
-pub short_asks : (line : List ℕ) (s : Short) (r : Option Parsed) → length line ≤ max_line → IsUtf8 line → IsShort (tokens line) s
-    → IfSome r (λ c. command_in (data_of s) ≡ Some (command c)) → IfSome r (λ c. command_of line ≡ Ok (command c))
-short_asks line s None few text is asked = asked
-short_asks line s (Some c) few text is asked =
-    command_of-short line few ∙ (ap command_of_value (value_of-text line text ∙ read_is line s is) ∙ asks s (command c) asked)
+short_asks : (line : List ℕ) (c : Command) → AsksShort (tokens line) c → command_of_value (read line) ≡ Ok c
+short_asks line c h = ap command_of_value (read_is line h.0 h.1) ∙ asks h.0 c h.2
+
+-- ---- a change
+
+-- a list of numbers, as it is read
+abbrev ReadsList : Option (json.Items × List Token) → List ℕ → List Token → Type 0
+ReadsList found ns rest =
+    (js : json.Items) × (ds : Items) × (found ≡ Some (js, rest)) × (of_items js ≡ Some ds) × (numbers_of ds ≡ Some ns)
+
+small_data : (text : List ℕ) (o : Option Num) (n : ℕ) → option_and_then number_in (option_map number o) ≡ Some n
+    → (d : Data) × (option_map number o ≡ Some d) × (number_in d ≡ Some n)
+small_data text None n h = absurd (none-some _ h)
+small_data text (Some m) n h = (number m, refl, h)
+
+abbrev pair : List ℕ → List Token → List ℕ × List Token
+pair ns ts = (ns, ts)
+
+list_end : (n : ℕ) (ts rest : List Token) (ns : List ℕ) → Some (pair [] ts) ≡ Some (pair ns rest) → ReadsList (items (value 125) (suc n) (Token.end_array ∷ ts)) ns rest
+unfolding items
+list_end n ts rest ns h =
+    let same : pair [] ts ≡ pair ns rest = same_Some _ _ h in
+    (json.no_items, no_items, ap (λ (q : List ℕ × List Token). Some (json.no_items, q.1)) same, refl, ap (λ (q : List ℕ × List Token). Some q.0) same)
+
+list_item : (n : ℕ) (text : List ℕ) (ts rest : List Token) (ns : List ℕ) (o : Option ℕ) (more : Option (List ℕ × List Token))
+    → ((ms : List ℕ) → more ≡ Some (ms, rest) → ReadsList (items (value 125) n ts) ms rest)
+    → small_number text ≡ o → option_and_then (λ n. option_map (λ p. pair (n ∷ p.0) p.1) more) o ≡ Some (pair ns rest)
+    → ReadsList (items (value 125) (suc n) (Token.number text ∷ ts)) ns rest
+unfolding items value
+list_item n text ts rest ns None more ind small h = absurd (none-some _ h)
+list_item n text ts rest ns (Some k) None ind small h = absurd (none-some _ h)
+list_item n text ts rest ns (Some k) (Some p) ind small h =
+    let same : pair (k ∷ p.0) p.1 ≡ pair ns rest = same_Some _ _ h in
+    let below = ind p.0 (ap (λ r. Some (p.0, r)) (ap (λ (q : List ℕ × List Token). q.1) same)) in
+    let found = small_data text (number_of text) k small in (
+      json.item (json.number text) below.0,
+      item found.0 below.1,
+      ap (λ r. parse_map (json.item (json.number text)) r) below.2,
+      ap (λ (m : Option Data). option_and_then (λ d. option_map (item d) (of_items below.0)) m) found.1 ∙ ap (λ (m : Option Items). option_map (item found.0) m) below.3,
+      ap (λ (m : Option ℕ). option_and_then (λ n. option_map (λ ns. n ∷ ns) (numbers_of below.1)) m) found.2
+          ∙ (ap (λ (m : Option (List ℕ)). option_map (λ ns. k ∷ ns) m) below.4 ∙ ap Some (ap (λ (q : List ℕ × List Token). q.0) same)),
+    )
+
+list_reads : (ts rest : List Token) (ns : List ℕ) (n : ℕ) → length ts ≤ n → list_of ts ≡ Some (ns, rest) → ReadsList (items (value 125) n ts) ns rest
+list_reads [] rest ns n few h = absurd (none-some _ h)
+list_reads (Token.end_array ∷ ts) rest ns zero few h = absurd (omega (arith, few))
+list_reads (Token.end_array ∷ ts) rest ns (suc n) few h = list_end n ts rest ns h
+list_reads (Token.number s ∷ ts) rest ns zero few h = absurd (omega (arith, few))
+list_reads (Token.number s ∷ ts) rest ns (suc n) few h =
+    list_item n s ts rest ns (small_number s) (list_of ts) (λ ms e. list_reads ts rest ms n (omega (arith, few)) e) refl h
+list_reads (Token.begin_object ∷ ts) rest ns n few h = absurd (none-some _ h)
+list_reads (Token.end_object ∷ ts) rest ns n few h = absurd (none-some _ h)
+list_reads (Token.begin_array ∷ ts) rest ns n few h = absurd (none-some _ h)
+list_reads (Token.key s ∷ ts) rest ns n few h = absurd (none-some _ h)
+list_reads (Token.string s ∷ ts) rest ns n few h = absurd (none-some _ h)
+list_reads (Token.boolean b ∷ ts) rest ns n few h = absurd (none-some _ h)
+list_reads (Token.null ∷ ts) rest ns n few h = absurd (none-some _ h)
+list_reads (Token.bad ∷ ts) rest ns n few h = absurd (none-some _ h)
+
+-- the tokens before the names
+abbrev head_tokens : (block at bytes : List ℕ) → List Token → List Token
+head_tokens block at bytes ts =
+    Token.begin_object ∷ Token.key (codes "do") ∷ Token.string (codes "patch") ∷ Token.key (codes "block") ∷ Token.number block
+    ∷ Token.key (codes "at") ∷ Token.number at ∷ Token.key (codes "data") ∷ Token.string bytes ∷ ts
+
+abbrev head_members : (block at bytes : List ℕ) → json.Members → json.Json
+head_members block at bytes ms =
+    json.object (json.member (codes "do") (json.string (codes "patch")) (json.member (codes "block") (json.number block)
+    (json.member (codes "at") (json.number at) (json.member (codes "data") (json.string bytes) ms))))
+
+no_names_value : (block at bytes : List ℕ) → value 127 (head_tokens block at bytes (Token.end_object ∷ [])) ≡ Some (head_members block at bytes json.no_members, [])
+unfolding items members value
+no_names_value block at bytes = refl
+
+names_value : (depth : ℕ) (block at bytes : List ℕ) (rest : List Token) (js : json.Items) → items (value depth) (length rest) rest ≡ Some (js, Token.end_object ∷ [])
+    → value (suc (suc depth)) (head_tokens block at bytes (Token.key (codes "after") ∷ Token.begin_array ∷ rest))
+    ≡ Some (head_members block at bytes (json.member (codes "after") (json.array js) json.no_members), [])
+unfolding members value
+names_value depth block at bytes rest js h =
+    ap (λ (r : Option (json.Items × List Token)).
+    parse_map json.object (parse_map (json.member (codes "do") (json.string (codes "patch"))) (parse_map (json.member (codes "block") (json.number block))
+    (parse_map (json.member (codes "at") (json.number at)) (parse_map (json.member (codes "data") (json.string bytes))
+    (option_and_then (λ p. parse_map (json.member (codes "after") p.0) (members (value (suc depth)) (suc (suc (suc (suc (suc (length rest)))))) p.1)) (parse_map json.array r)))))))
+    h
+
+-- the members before the names
+abbrev found : Data → Data → List ℕ → Members
+found block at bytes = put (codes "data") (string bytes) (put (codes "at") at (put (codes "block") block (put (codes "do") (string (codes "patch")) no_members)))
+
+head_data : (block at bytes : List ℕ) (ms : json.Members) (d e : Data) → option_map number (number_of block) ≡ Some d → option_map number (number_of at) ≡ Some e
+    → of_json (head_members block at bytes ms) ≡ option_map object (of_members ms (found d e bytes))
+head_data block at bytes ms d e h k =
+    ap (λ (o : Option Data). option_map object (option_and_then (λ b. option_and_then (λ a. of_members ms (found b a bytes)) (option_map number (number_of at))) o)) h
+    ∙ ap (λ (o : Option Data). option_map object (option_and_then (λ a. of_members ms (found d a bytes)) o)) k
+
+names_data : (js : json.Items) (ds : Items) (ms : Members) → of_items js ≡ Some ds → of_members (json.member (codes "after") (json.array js) json.no_members) ms ≡ Some (put (codes "after") (array ds) ms)
+names_data js ds ms h = ap (λ (o : Option Items). option_and_then (λ d. Some (put (codes "after") d ms)) (option_map array o)) h
+
+abbrev joined : Option ℕ → Option ℕ → Option (List ℕ) → Option (List ℕ) → Option Command
+joined block at bytes after = option_and_then (λ b. option_and_then (λ a. option_and_then (λ d. option_map (patch b a d) after) bytes) at) block
+
+joined_is : (o p : Option ℕ) (q r : Option (List ℕ)) (block at : ℕ) (bytes after : List ℕ) → o ≡ Some block → p ≡ Some at → q ≡ Some bytes → r ≡ Some after
+    → joined o p q r ≡ Some (patch block at bytes after)
+joined_is o p q r block at bytes after h i j k = rw (h, i, j, k)
+
+no_names_asked : (d e : Data) (bytes : List ℕ) → command_in (object (found d e bytes)) ≡ joined (number_in d) (number_in e) (if_ok (decode_of bytes)) (Some [])
+no_names_asked d e bytes = refl
+
+names_asked : (d e : Data) (bytes : List ℕ) (ds : Items)
+    → command_in (object (put (codes "after") (array ds) (found d e bytes))) ≡ joined (number_in d) (number_in e) (if_ok (decode_of bytes)) (numbers_of ds)
+names_asked d e bytes ds = refl
+
+change_asks : (c : Command) (block at : ℕ) (b a t bytes after : List ℕ) (ts : List Token) → small_number b ≡ Some block → small_number a ≡ Some at → decode_of t ≡ Ok bytes
+    → NamesAtEnd ts after → c ≡ patch block at bytes after → command_of_value (document (value 127 (head_tokens b a t ts))) ≡ Ok c
+change_asks c block at b a t bytes after ts hb ha ht (inl h) is =
+    let d = small_data b (number_of b) block hb in
+    let e = small_data a (number_of a) at ha in
+    ap (λ x. command_of_value (document (value 127 (head_tokens b a t x)))) h.0
+    ∙ (ap (λ x. command_of_value (document x)) (no_names_value b a t)
+    ∙ (ap command_of_value (head_data b a t json.no_members d.0 e.0 d.1 e.1)
+    ∙ ap or_field (no_names_asked d.0 e.0 t ∙ (joined_is _ _ _ _ block at bytes after d.2 e.2 (ap if_ok ht) (ap Some (sym h.1)) ∙ ap Some (sym is)))))
+change_asks c block at b a t bytes after ts hb ha ht (inr h) is =
+    let d = small_data b (number_of b) block hb in
+    let e = small_data a (number_of a) at ha in
+    let l = list_reads h.0 (Token.end_object ∷ []) after (length h.0) (le_refl (length h.0)) h.2 in
+    ap (λ x. command_of_value (document (value 127 (head_tokens b a t x)))) h.1
+    ∙ (ap (λ x. command_of_value (document x)) (names_value 125 b a t h.0 l.0 l.2)
+    ∙ (ap command_of_value (head_data b a t (json.member (codes "after") (json.array l.0) json.no_members) d.0 e.0 d.1 e.1 ∙ ap (option_map object) (names_data l.0 l.1 (found d.0 e.0 t) l.3))
+    ∙ ap or_field (names_asked d.0 e.0 t l.1 ∙ (joined_is _ _ _ _ block at bytes after d.2 e.2 (ap if_ok ht) l.4 ∙ ap Some (sym is)))))
+
+patch_tokens : (ts rest p q r : List Token) (b a t : List ℕ) → ts ≡ Token.begin_object ∷ Token.key (codes "do") ∷ Token.string (codes "patch") ∷ rest
+    → rest ≡ Token.key (codes "block") ∷ Token.number b ∷ p → p ≡ Token.key (codes "at") ∷ Token.number a ∷ q → q ≡ Token.key (codes "data") ∷ Token.string t ∷ r
+    → ts ≡ head_tokens b a t r
+patch_tokens ts rest p q r b a t h i j k = rw (h, i, j, k)
+
+patch_asks : (line : List ℕ) (c : Command) → AsksPatch (tokens line) c → command_of_value (read line) ≡ Ok c
+patch_asks line c (rest, starts, (block, at, bytes, after, p, q, r, is, (b, pb, nb), (a, pa, na), (t, pt, nt), names)) =
+    ap (λ ts. command_of_value (document (value 127 ts))) (patch_tokens (tokens line) rest p q r b a t starts pb pa pt)
+    ∙ change_asks c block at b a t bytes after r nb na nt names is
+
+either_asks : (line : List ℕ) (c : Command) → Asks (tokens line) c → command_of_value (read line) ≡ Ok c
+either_asks line c (inl h) = short_asks line c h
+either_asks line c (inr h) = patch_asks line c h
+
+pub line_asks : (line : List ℕ) (r : Option Parsed) → length line ≤ max_line → IsUtf8 line
+    → IfSome r (λ c. Asks (tokens line) (command c)) → IfSome r (λ c. command_of line ≡ Ok (command c))
+line_asks line None few text asked = asked
+line_asks line (Some c) few text asked =
+    command_of-short line few ∙ (ap command_of_value (value_of-text line text) ∙ either_asks line (command c) asked)

@@ -1,8 +1,11 @@
--- Short lines: the values that they are.
-use Rattle.std.specs.Prelude.{◌≡◌, ℕ, List, [], ◌∷◌, Some, codes}
+-- Short lines: the values that they are, and what the lines of a change ask.
+use Rattle.std.specs.Prelude.{◌≡◌, ◌⊎◌, ℕ, List, [], ◌∷◌, Option, Some, None, Ok, option_map, option_and_then, codes}
 use Rattle.json.specs.Token.{Token}
 use Rattle.serde_json.specs.Data.{Data, unsigned, number, string, object, no_members, put}
 use Rattle.serde_json.specs.Read.{number_of}
+use Rattle.hex.specs.Hex.{decode_of}
+use Rattle.fst_lines.specs.Members.{number_in}
+use Rattle.fst_lines.specs.Commands.{Command, patch, command_in}
 use Rattle.fst_lines.specs.declared.short.Short.{Short}
 use Rattle.fst_lines.specs.declared.short.Short.TheVariants.{Alone, Numbered}
 
@@ -24,3 +27,51 @@ IsShort tokens (Alone name) = tokens ≡ Token.begin_object ∷ Token.key (codes
 IsShort tokens (Numbered name key n) =
     (text : List ℕ) × (tokens ≡ Token.begin_object ∷ Token.key (codes "do") ∷ Token.string name.now ∷ Token.key key.now ∷ Token.number text ∷ Token.end_object ∷ [])
     × (number_of text ≡ Some (unsigned n))
+
+-- a number of 32 bits
+abbrev pub small_number : List ℕ → Option ℕ
+small_number text = option_and_then number_in (option_map number (number_of text))
+
+-- the numbers of a list after the bracket that opens it, and the tokens after the one that closes it
+abbrev pub list_of : List Token → Option (List ℕ × List Token)
+list_of [] = None
+list_of (Token.begin_object ∷ ts) = None
+list_of (Token.end_object ∷ ts) = None
+list_of (Token.begin_array ∷ ts) = None
+list_of (Token.end_array ∷ ts) = Some ([], ts)
+list_of (Token.key s ∷ ts) = None
+list_of (Token.string s ∷ ts) = None
+list_of (Token.number s ∷ ts) = option_and_then (λ n. option_map (λ p. (n ∷ p.0, p.1)) (list_of ts)) (small_number s)
+list_of (Token.boolean b ∷ ts) = None
+list_of (Token.null ∷ ts) = None
+list_of (Token.bad ∷ ts) = None
+
+-- a member at the front of the tokens, and the tokens after it
+abbrev pub NumberUnder : (name : List ℕ) → ℕ → (before after : List Token) → Type 0
+NumberUnder name n before after = (text : List ℕ) × (before ≡ Token.key name ∷ Token.number text ∷ after) × (small_number text ≡ Some n)
+
+abbrev pub BytesUnder : (name bytes : List ℕ) (before after : List Token) → Type 0
+BytesUnder name bytes before after = (text : List ℕ) × (before ≡ Token.key name ∷ Token.string text ∷ after) × (decode_of text ≡ Ok bytes)
+
+-- the line ends with the names of patches, or with none
+abbrev pub NamesAtEnd : List Token → List ℕ → Type 0
+NamesAtEnd tokens names =
+    ((tokens ≡ Token.end_object ∷ []) × (names ≡ []))
+    ⊎ ((rest : List Token) × (tokens ≡ Token.key (codes "after") ∷ Token.begin_array ∷ rest) × (list_of rest ≡ Some (names, Token.end_object ∷ [])))
+
+-- what follows the name of a change is that change
+abbrev pub IsPatch : List Token → Command → Type 0
+IsPatch tokens c =
+    (block at : ℕ) × (bytes after : List ℕ) × (past_block past_at past_bytes : List Token) × (c ≡ patch block at bytes after)
+    × NumberUnder (codes "block") block tokens past_block × NumberUnder (codes "at") at past_block past_at
+    × BytesUnder (codes "data") bytes past_at past_bytes × NamesAtEnd past_bytes after
+
+-- the tokens of a line that asks for the command
+abbrev pub AsksShort : List Token → Command → Type 0
+AsksShort tokens c = (short : Short) × IsShort tokens short × (command_in (data_of short) ≡ Some c)
+
+abbrev pub AsksPatch : List Token → Command → Type 0
+AsksPatch tokens c = (rest : List Token) × (tokens ≡ Token.begin_object ∷ Token.key (codes "do") ∷ Token.string (codes "patch") ∷ rest) × IsPatch rest c
+
+abbrev pub Asks : List Token → Command → Type 0
+Asks tokens c = AsksShort tokens c ⊎ AsksPatch tokens c

@@ -1,105 +1,30 @@
-//! Short lines: what a command does, and one number or no other member.
+//! Short lines: what a command does, and one number or no other member, or the members of a change (`patch_line`).
 //!
-//! They come as often as the long ones, and a tree of values would cost more than the command. So the members are taken
-//! from the tokens of `json`, in memory that is kept from line to line. A line that is anything else, or is written in
-//! another order, is left to `serde_json`; both agree on what a line means.
+//! Nearly all lines of a script are such ones, and a tree of values would cost more than the command. So the members are
+//! taken from the tokens of `json`, in memory that is kept from line to line. A line that is anything else, or is written
+//! in another order, is left to `serde_json`; both agree on what a line means.
 
-ghost use Rattle.std.specs.Prelude.{◌≡◌, ◌==◌, ◌∷◌, [], List, ℕ, false, Some, Ok, IsTrue, IfSome, codes, slice_index};
-ghost use Rattle.json.specs.Token.{begin_object, end_object, key, string, number};
-ghost use Rattle.serde_json.specs.Data.{unsigned};
-ghost use Rattle.serde_json.specs.Read.{number_of, number_from};
+ghost use Rattle.std.specs.Prelude.{◌≡◌, ◌∷◌, Some, Ok, IfSome, codes};
+ghost use Rattle.json.specs.Token.{begin_object, key, string, number};
 ghost use Rattle.fst_lines.specs.Commands.{command_in, command_of};
 ghost use Rattle.fst_lines.specs.Parsing.{command};
-ghost use Rattle.fst_lines.specs.Short.{alone_data, short_data, data_of, IsShort};
+ghost use Rattle.fst_lines.specs.Short.{alone_data, short_data, data_of, IsShort, AsksShort, Asks};
 
 use crate::command::Command;
-use fast_float::Numeral;
+use crate::patch_line::take_patch;
+use crate::taking::{is, take_key, take_number, take_text, takes_begin, takes_end};
 use fst_types::{BlockNo, GroupNo, PatchNo, Ticket};
 use json::{Reader, Scratch, Token};
 use std::alloc::Global;
 
-// No line of one number is longer.
-const LONGEST: usize = 48;
+// Enough for a change of 64 bytes and its names.
+const LONGEST: usize = 256;
 
 /// What a line does, and its number under a name where it has one.
 #[derive(Drop)]
 enum Short<'a> {
     Alone(&'a str),
     Numbered(&'a str, &'a str, u64),
-}
-
-fn is(text: &str, other: &str) -> bool
-    ensures { IsTrue result → text.now ≡ other.now }
-{
-    text == other
-}
-
-fn takes_begin(reader: &mut Reader<'_>) -> bool
-    ensures { IsTrue result → reader.old ≡ begin_object ∷ reader.new }
-{
-    match reader.next() {
-        Some(Token::BeginObject) => true,
-        _ => false,
-    }
-}
-
-fn takes_end(reader: &mut Reader<'_>) -> bool
-    ensures { IsTrue result → reader.old ≡ end_object ∷ [] }
-{
-    match reader.next() {
-        Some(Token::EndObject) => reader.next().is_none(),
-        _ => false,
-    }
-}
-
-fn take_key<'a>(reader: &mut Reader<'a>) -> Option<&'a str>
-    ensures { IfSome result (λ name. reader.old ≡ key name.now ∷ reader.new) }
-{
-    match reader.next() {
-        Some(Token::Key(name)) => Some(name),
-        _ => None,
-    }
-}
-
-fn take_text<'a>(reader: &mut Reader<'a>) -> Option<&'a str>
-    ensures { IfSome result (λ text. reader.old ≡ string text.now ∷ reader.new) }
-{
-    match reader.next() {
-        Some(Token::String(text)) => Some(text),
-        _ => None,
-    }
-}
-
-fn has_minus(bytes: &[u8]) -> bool
-    ensures { result ≡ (slice_index bytes.now 0 == 45) }
-{
-    !bytes.is_empty() && bytes[0] == b'-'
-}
-
-fn whole(numeral: &Numeral<'_>) -> Option<u64>
-    ensures { IfSome result (λ n. number_from false numeral.now ≡ Some (unsigned n)) }
-{
-    numeral.to_u64()
-}
-
-// The number that a text is, where it is one of 64 bits.
-fn unsigned(text: &str) -> Option<u64>
-    ensures { IfSome result (λ n. number_of text.now ≡ Some (unsigned n)) }
-{
-    let bytes = text.as_bytes();
-    if has_minus(bytes) {
-        return None;
-    }
-    whole(&Numeral::scan(bytes))
-}
-
-fn take_number(reader: &mut Reader<'_>) -> Option<u64>
-    ensures { IfSome result (λ n. (text : List ℕ) × (reader.old ≡ number text ∷ reader.new) × (number_of text ≡ Some (unsigned n))) }
-{
-    match reader.next() {
-        Some(Token::Number(text)) => unsigned(text),
-        _ => None,
-    }
 }
 
 // What follows the name of a command, to the end of the line.
@@ -122,8 +47,9 @@ fn take_rest<'a>(reader: &mut Reader<'a>, name: &'a str) -> Option<Short<'a>>
     }
 }
 
-fn take_members<'a>(reader: &mut Reader<'a>) -> Option<Short<'a>>
-    ensures { IfSome result (λ s. IsShort reader.old s) }
+// The name of a command, which the line begins with.
+fn take_name<'a>(reader: &mut Reader<'a>) -> Option<&'a str>
+    ensures { IfSome result (λ name. reader.old ≡ begin_object ∷ key (codes "do") ∷ string name.now ∷ reader.new) }
 {
     if !takes_begin(reader) {
         return None;
@@ -131,8 +57,7 @@ fn take_members<'a>(reader: &mut Reader<'a>) -> Option<Short<'a>>
     if !is(take_key(reader)?, "do") {
         return None;
     }
-    let name = take_text(reader)?;
-    take_rest(reader, name)
+    take_text(reader)
 }
 
 // A command that has no member, or names no patches.
@@ -228,6 +153,24 @@ fn asked(alloc: Global, short: Short<'_>) -> Option<Command>
     }
 }
 
+fn take_short<'a>(alloc: Global, reader: &mut Reader<'a>, name: &'a str) -> Option<Command>
+    ensures { IfSome result (λ c. AsksShort (begin_object ∷ key (codes "do") ∷ string name.now ∷ reader.old) (command c)) }
+{
+    let short = take_rest(reader, name)?;
+    asked(alloc, short)
+}
+
+fn take_command(alloc: Global, reader: &mut Reader<'_>) -> Option<Command>
+    ensures { IfSome result (λ c. Asks reader.old (command c)) }
+{
+    let name = take_name(reader)?;
+    if is(name, "patch") {
+        take_patch(alloc, reader)
+    } else {
+        take_short(alloc, reader, name)
+    }
+}
+
 /// The command of a line, where it is a short one. It takes what memory the scratch lacks, and answers nothing where that
 /// is refused.
 pub fn read_short(alloc: Global, scratch: &mut Scratch, line: &[u8]) -> Option<Command>
@@ -242,8 +185,5 @@ pub fn read_short(alloc: Global, scratch: &mut Scratch, line: &[u8]) -> Option<C
     let Ok(mut reader) = Reader::new(text, scratch) else {
         return None;
     };
-    match take_members(&mut reader) {
-        Some(short) => asked(alloc, short),
-        None => None,
-    }
+    take_command(alloc, &mut reader)
 }

@@ -2,7 +2,7 @@ use Rattle.std.proofs.Common.{◌≡◌, get_or, false, ◌==◌, Some, IfSome, 
 use Rattle.fast_float.specs.Text.{scan}
 use Rattle.serde_json.specs.Data.{unsigned}
 use Rattle.serde_json.specs.Read.{number_of, number_from}
-use Rattle.fst_lines.proofs.short.unsigned.Goals as goal
+use Rattle.fst_lines.proofs.taking.unsigned.Goals as goal
 
 pub returns : goal.returns
 unfolding number_of
