@@ -1,6 +1,6 @@
 //! Reverting, in a copy of a block's bytes, the patches that stay behind.
 //!
-//! Only chosen patches lie below a chosen one, so none lies over bytes that are put back, and what the patches keep is
+//! Only chosen patches lie below a chosen one, so no chosen one lies over bytes that are put back. What the patches keep is
 //! read where it lies: the block itself stays as it is.
 
 ghost use Rattle.std.specs.Prelude.{◌≡◌, length};
