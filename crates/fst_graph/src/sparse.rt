@@ -44,8 +44,8 @@ use std::marker::Model;
 /// The heads, which are the patches not forgotten, in order of number. `walks` has a mark for each, and a place for each
 /// block, for the walks that find grades and cycles. `lists` has for each block its changes that are not on disk, and
 /// `standings` has the mark of each. `queue` has a place for each head, for those of which their dependants are to be told.
-/// Where a change is prepared, there is a free place for it in each. `live` is how many of the patches are not on disk, and no block
-/// below `unmarked` may be written.
+/// Where a change is prepared, there is a free place for it in each. `live` is how many of the patches are not on disk, and
+/// no block below `unmarked` may be written.
 #[derive(Drop)]
 pub struct Sparse {
     alloc: Global,
@@ -380,23 +380,19 @@ impl Sparse {
     }
 
     /// The least writable block, or none where no block is writable. Where nothing is in flight either, each change in
-    /// memory then waits for an open gate. It takes no memory, and looks at one mark a block, from where
-    /// the last look found one; after a landing or a seal from the first block on.
+    /// memory then waits for an open gate. It takes no memory, and looks at one mark a block, from where the last look found
+    /// one; after a landing or a seal from the first block on.
     pub fn pick(&mut self) -> Option<BlockNo>
         ensures least { IsPick self.old.heads (option_map (λ b. b.0) result) }
         ensures never_stuck { IfNone result (IsStuckByGates self.old.heads) }
         ensures same { self.new ≡ unprepared self.old }
     {
         self.prepared = None;
-        match least_marked(&self.standings, self.unmarked) {
-            Some(block) => {
-                self.unmarked = block.0 as usize;
-                Some(block)
-            }
-            None => {
-                self.unmarked = self.standings.len();
-                None
-            }
-        }
+        let Some(block) = least_marked(&self.standings, self.unmarked) else {
+            self.unmarked = self.standings.len();
+            return None;
+        };
+        self.unmarked = block.0 as usize;
+        Some(block)
     }
 }

@@ -14,25 +14,25 @@ picked : (patches : List Patch) (standings : List Standing) (blocks : ℕ) (r : 
 picked patches standings blocks None long inside M none = picked_none patches blocks standings inside M (λ b d lt. none b d (omega (arith, lt, long)))
 picked patches standings blocks (Some b) long inside M some = picked_some patches blocks b.0 standings M (omega (arith, some.0, long)) some.1 some.2
 
-pub returns-in-Some-clause-least : goal.returns-in-Some-clause-least
-returns-in-Some-clause-least c =
+pub returns-clause-least : goal.returns-clause-least
+returns-clause-least c =
     let heads = c.self.inside.heads.items in
     let T = c.self.invariant.tallies in
     let M = subst (λ ps. AreMarked ps c.self.inside.blocks c.self.inside.standings.items) (patches_in_nodes heads) T.marked in
     rw (← c.self.view_is) (picked (patches_of heads) c.self.inside.standings.items c.self.inside.blocks (Some c.in-Some.block) T.standing.long c.self.invariant.keeps.inside M (rw (← c.deref.ensures.value) c.in-Some.ensures))
 
-pub returns-in-None-clause-least : goal.returns-in-None-clause-least
-returns-in-None-clause-least c =
+pub returns-in_default-clause-least : goal.returns-in_default-clause-least
+returns-in_default-clause-least c =
     let heads = c.self.inside.heads.items in
     let T = c.self.invariant.tallies in
     let M = subst (λ ps. AreMarked ps c.self.inside.blocks c.self.inside.standings.items) (patches_in_nodes heads) T.marked in
-    rw (← c.self.view_is) (picked (patches_of heads) c.self.inside.standings.items c.self.inside.blocks None T.standing.long c.self.invariant.keeps.inside M (rw (← c.deref.ensures.value) c.in-None.ensures))
+    rw (← c.self.view_is) (picked (patches_of heads) c.self.inside.standings.items c.self.inside.blocks None T.standing.long c.self.invariant.keeps.inside M (rw (← c.deref.ensures.value) c.in_default.ensures))
 
-pub returns-in-None-clause-never_stuck : goal.returns-in-None-clause-never_stuck
-returns-in-None-clause-never_stuck c =
+pub returns-in_default-clause-never_stuck : goal.returns-in_default-clause-never_stuck
+returns-in_default-clause-never_stuck c =
     let heads = c.self.inside.heads.items in
     let T = c.self.invariant.tallies in
     let K = c.self.invariant.keeps in
     let M = subst (λ ps. AreMarked ps c.self.inside.blocks c.self.inside.standings.items) (patches_in_nodes heads) T.marked in
-    let pick = picked (patches_of heads) c.self.inside.standings.items c.self.inside.blocks None T.standing.long K.inside M (rw (← c.deref.ensures.value) c.in-None.ensures) in
+    let pick = picked (patches_of heads) c.self.inside.standings.items c.self.inside.blocks None T.standing.long K.inside M (rw (← c.deref.ensures.value) c.in_default.ensures) in
     rw (← c.self.view_is) (stuck_by_gates (patches_of heads) None K.lawful.no_cycle K.lawful.hard_never_hold pick)
