@@ -9,7 +9,7 @@ use Rattle.fst_types.specs.declared.grade.Grade.TheVariants as grade
 use Rattle.fst_types.specs.Fold.{written}
 use Rattle.fst_block.specs.BlockView.{BlockPatch, write_of, fold_of, len_if_soft, soft_lengths}
 use Rattle.fst_block.specs.Choices.{is_chosen, chosen_of, others_of}
-use Rattle.fst_block.specs.Swaps.{Entry, patches_of, entries_left, FitsIn}
+use Rattle.fst_block.specs.Reverts.{Entry, patches_of, entries_left, FitsIn}
 use Rattle.fst_block.specs.Kept.{undo_of, KeepsUndo, IsPlaced, ArePlaced, IsKept}
 use Rattle.fst_block.proofs.Takes.{soft_lengths-cons}
 use Rattle.fst_block.proofs.Apart.{length-fold_of}

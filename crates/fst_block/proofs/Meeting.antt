@@ -10,7 +10,7 @@ use Rattle.fst_types.proofs.Finite.{In}
 use Rattle.fst_types.proofs.Issuing.{in_among}
 use Rattle.fst_block.specs.BlockView.{BlockPatch}
 use Rattle.fst_block.specs.Choices.{numbers_of, is_chosen, chosen_of}
-use Rattle.fst_block.specs.Swaps.{Entry, patches_of}
+use Rattle.fst_block.specs.Reverts.{Entry, patches_of}
 
 -- the numbers of the chosen patches
 abbrev pub chosen_numbers : List PatchNo → List Entry → List ℕ

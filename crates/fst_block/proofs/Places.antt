@@ -4,7 +4,7 @@ use Rattle.std.specs.Prelude.{◌==◌, if◌then◌else◌}
 use Rattle.std.proofs.lemmas.Bool.Decides.{nat_tests}
 use Rattle.fst_chain.specs.Records.{payload_at}
 use Rattle.fst_block.specs.BlockView.{BlockPatch}
-use Rattle.fst_block.specs.Swaps.{Entry}
+use Rattle.fst_block.specs.Reverts.{Entry}
 
 pub drop_at_place : (es : List Entry) (k : ℕ) (p : BlockPatch) → k < length es → p ≡ (get_or es k (p, [])).0 → drop k es ≡ (p, payload_at es k) ∷ drop (suc k) es
 drop_at_place [] k p here read = absurd (omega arith)

@@ -7,7 +7,7 @@ use Rattle.fst_types.specs.declared.number.PatchNo.{PatchNo}
 use Rattle.fst_types.specs.Fold.{written}
 use Rattle.fst_block.specs.BlockView.{BlockPatch, write_of, fold_of, len_if_soft, soft_lengths}
 use Rattle.fst_block.specs.Choices.{numbers_of, is_chosen, chosen_of}
-use Rattle.fst_block.specs.Swaps.{Entry, patches_of, entries_left}
+use Rattle.fst_block.specs.Reverts.{Entry, patches_of, entries_left}
 use Rattle.fst_block.proofs.Places.{drop_at_place, take_at_place}
 use Rattle.fst_block.proofs.Meeting.{chosen_numbers, is_chosen_next, is_left_next}
 

@@ -6,7 +6,7 @@ use Rattle.fst_types.specs.declared.grade.Grade.TheVariants as grade
 use Rattle.fst_types.specs.declared.span.Span.{Span}
 use Rattle.fst_types.specs.Fold.{written}
 use Rattle.fst_block.specs.BlockView.{BlockPatch, write_of, fold_of, len_if_soft, soft_lengths}
-use Rattle.fst_block.specs.Swaps.{Entry, patches_of, bytes_after, reverted, FitsIn}
+use Rattle.fst_block.specs.Reverts.{Entry, patches_of, bytes_after, reverted, FitsIn}
 use Rattle.fst_block.specs.Kept.{undo_of, KeepsUndo, IsPlaced, ArePlaced}
 use Rattle.fst_block.proofs.Walks.{put_length}
 use Rattle.fst_block.proofs.Takes.{soft_lengths-cons}

@@ -6,7 +6,7 @@ use Rattle.fst_chain.specs.Records.{payload_at}
 use Rattle.fst_types.specs.declared.number.PatchNo.{PatchNo}
 use Rattle.fst_block.specs.BlockView.{BlockPatch}
 use Rattle.fst_block.specs.Choices.{numbers_of, is_chosen}
-use Rattle.fst_block.specs.Swaps.{Entry, bytes_after, reverted, FitsIn}
+use Rattle.fst_block.specs.Reverts.{Entry, bytes_after, reverted, FitsIn}
 use Rattle.fst_block.proofs.Places.{take_at_place}
 use Rattle.fst_block.proofs.Meeting.{chosen_numbers, numbers_chosen, numbers_left, is_chosen_last, is_left_last}
 

@@ -2,7 +2,7 @@
 use Rattle.std.specs.Prelude.{◌≡◌, ◌+◌, ◌≤◌, ◌<◌, ◌^◌, ℕ, suc, List, [], ◌∷◌, length, take, drop}
 use Rattle.fst_types.specs.Fold.{written}
 use Rattle.fst_block.specs.BlockView.{BlockPatch, write_of, fold_of, len_if_soft, soft_lengths}
-use Rattle.fst_block.specs.Swaps.{Entry, patches_of}
+use Rattle.fst_block.specs.Reverts.{Entry, patches_of}
 
 -- what a soft patch's span held before it; a hard one keeps nothing
 abbrev pub undo_of : List ℕ → BlockPatch → List ℕ

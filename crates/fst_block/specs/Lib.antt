@@ -1,5 +1,5 @@
 pub mod BlockView
 pub mod Choices
-pub mod Swaps
+pub mod Reverts
 pub mod Kept
 pub mod Tested

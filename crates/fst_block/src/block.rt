@@ -29,7 +29,7 @@ pub struct Block {
 impl Model for Block {
     ghost use Rattle.fst_chain.specs.Records.{chain_list};
     ghost use Rattle.fst_block.specs.BlockView.{BlockView};
-    ghost use Rattle.fst_block.specs.Swaps.{patches_of};
+    ghost use Rattle.fst_block.specs.Reverts.{patches_of};
     ghost use Rattle.fst_block.specs.Kept.{IsKept};
 
     ghost Value = { BlockView };

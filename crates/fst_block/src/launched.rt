@@ -4,7 +4,7 @@ ghost use Rattle.std.specs.Prelude.{◌≡◌, ◌<◌, ◌^◌};
 ghost use Rattle.fst_chain.specs.Records.{chain_list};
 ghost use Rattle.fst_block.specs.BlockView.{fold_of, soft_lengths};
 ghost use Rattle.fst_block.specs.Choices.{chosen_of};
-ghost use Rattle.fst_block.specs.Swaps.{patches_of, entries_left, MeetsInOrder};
+ghost use Rattle.fst_block.specs.Reverts.{patches_of, entries_left, MeetsInOrder};
 
 use crate::change::{Change, kept_len};
 use crate::choice::is_at;

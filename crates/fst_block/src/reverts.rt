@@ -6,7 +6,7 @@
 ghost use Rattle.std.specs.Prelude.{◌≡◌, length};
 ghost use Rattle.fst_chain.specs.Records.{chain_list};
 ghost use Rattle.fst_block.specs.Choices.{is_chosen};
-ghost use Rattle.fst_block.specs.Swaps.{reverted, FitsIn, MeetsInOrder};
+ghost use Rattle.fst_block.specs.Reverts.{reverted, FitsIn, MeetsInOrder};
 
 use crate::change::Change;
 use crate::choice::is_last;

@@ -3,7 +3,7 @@ use Rattle.std.proofs.lemmas.Bool.{false≢true}
 use Rattle.fst_chain.specs.Cursors.{cursor_list, cursor_place}
 use Rattle.fst_types.specs.Fold.{written}
 use Rattle.fst_block.specs.BlockView.{BlockPatch, write_of}
-use Rattle.fst_block.specs.Swaps.{patches_of}
+use Rattle.fst_block.specs.Reverts.{patches_of}
 use Rattle.fst_block.proofs.Takes.{with_one_out, past_one, counts_within, same_takes, length-without, soft_lengths-chosen}
 use Rattle.fst_block.proofs.launched.take_out.Goals as goal
 

@@ -2,7 +2,7 @@ use Rattle.std.proofs.Common.{◌≡◌, ◌-◌, ◌<◌, ◌^◌, length}
 use Rattle.fst_chain.specs.Cursors.{cursor_list, cursor_place, cursor_lender}
 use Rattle.fst_block.specs.BlockView.{fold_of, soft_lengths}
 use Rattle.fst_block.specs.Choices.{chosen_of}
-use Rattle.fst_block.specs.Swaps.{patches_of, entries_left}
+use Rattle.fst_block.specs.Reverts.{patches_of, entries_left}
 use Rattle.fst_block.proofs.Takes.{TakesOut}
 use Rattle.fst_block.proofs.launched.take_out.Given as goal
 

@@ -5,7 +5,7 @@ use Rattle.fst_chain.specs.Records.{payload_at}
 use Rattle.fst_types.specs.Fold.{written}
 use Rattle.fst_block.specs.BlockView.{BlockPatch}
 use Rattle.fst_block.specs.Choices.{is_chosen}
-use Rattle.fst_block.specs.Swaps.{Entry, reverted}
+use Rattle.fst_block.specs.Reverts.{Entry, reverted}
 use Rattle.fst_block.proofs.Places.{place_before}
 use Rattle.fst_block.proofs.Walks.{fits_last, before_chosen, before_left, same_walk, walk_done}
 use Rattle.fst_block.proofs.reverts.revert.Goals as goal

@@ -1,7 +1,7 @@
 use Rattle.std.proofs.Common.{◌≡◌, ◌-◌, ◌<◌}
 use Rattle.fst_chain.specs.Cursors.{cursor_list, cursor_place, cursor_lender}
 use Rattle.fst_block.specs.Choices.{is_chosen}
-use Rattle.fst_block.specs.Swaps.{reverted}
+use Rattle.fst_block.specs.Reverts.{reverted}
 use Rattle.fst_block.proofs.Walks.{Reverts}
 use Rattle.fst_block.proofs.reverts.revert.Given as goal
 

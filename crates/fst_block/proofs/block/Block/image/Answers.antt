@@ -2,7 +2,7 @@ use Rattle.std.proofs.Common.{◌≡◌, ◌∙◌, List, ℕ, length, ap, subst
 use Rattle.fst_chain.specs.Records.{chain_list}
 use Rattle.fst_block.specs.BlockView.{BlockView, fold_of}
 use Rattle.fst_block.specs.Choices.{IsChoice, is_chosen, chosen_of}
-use Rattle.fst_block.specs.Swaps.{reverted, FitsIn}
+use Rattle.fst_block.specs.Reverts.{reverted, FitsIn}
 use Rattle.fst_block.proofs.Undo.{image_is, reverted_length}
 use Rattle.fst_block.proofs.Choosing.{meets_in_order, choice_is_closed}
 use Rattle.fst_block.proofs.Blocks.{same_size, fits, written_through}

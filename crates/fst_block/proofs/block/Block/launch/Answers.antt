@@ -1,7 +1,7 @@
 use Rattle.std.proofs.Common.{ap, subst, sym, ◌∙◌, arith}
 use Rattle.fst_chain.specs.Records.{chain_list}
 use Rattle.fst_block.specs.Choices.{IsChoice, others_of}
-use Rattle.fst_block.specs.Swaps.{patches_of}
+use Rattle.fst_block.specs.Reverts.{patches_of}
 use Rattle.fst_block.proofs.Takes.{soft_lengths-chosen}
 use Rattle.fst_block.proofs.Undo.{patches_of-entries}
 use Rattle.fst_block.proofs.Choosing.{meets_in_order, choice_is_closed}
