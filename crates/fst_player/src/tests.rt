@@ -16,11 +16,18 @@ use crate::play::play;
 use fst_types::Shape;
 use std::alloc::Global;
 use std::process::Abort;
-use std::test::Fail;
 
 // Four blocks of four bytes, of which so many may be in memory at once.
 fn shape_of(rt: &impl Abort, resident: u32) -> Shape {
     Shape::new(4, 4, resident).expect(rt, "the shape is within its limits")
+}
+
+// What is replied to a script over four blocks of four bytes, of which so many may be in memory.
+fn replies_to(rt: &impl Abort, alloc: Global, resident: u32, script: &[u8]) -> Vec<u8> {
+    let mut reader = script;
+    let mut writer = Vec::new(alloc);
+    assert!(rt; play(alloc, &mut reader, &mut writer, shape_of(rt, resident)).is_ok());
+    writer
 }
 
 // Plays a script over blocks of this shape, and compares all the replies.
@@ -41,21 +48,25 @@ fn plays_text(rt: &impl Abort, alloc: Global, resident: u32, script: &str, repli
     plays_to(rt, alloc, resident, script.as_bytes(), replies.as_bytes());
 }
 
+// Puts bytes behind a text. Nothing here answers with a `Result`: after each `?` a test's proof has one more path, on
+// which all that the test holds is dropped.
+fn put(rt: &impl Abort, text: &mut Vec<u8>, more: &[u8]) {
+    text.extend_from_slice(more).expect(rt, "there is memory");
+}
+
+// Puts a line and its end behind a text.
+fn put_line(rt: &impl Abort, text: &mut Vec<u8>, line: &str) {
+    put(rt, text, line.as_bytes());
+    put(rt, text, b"\n");
+}
+
 // Plays lines, each with its reply.
-fn plays_rows(
-    rt: &impl Abort,
-    alloc: Global,
-    resident: u32,
-    rows: &[(&str, &str)],
-) -> Result<(), Fail> {
+fn plays_rows(rt: &impl Abort, alloc: Global, resident: u32, rows: &[(&str, &str)]) {
     let mut script = Vec::new(alloc);
     let mut replies = Vec::new(alloc);
     for (line, reply) in rows {
-        script.extend_from_slice(line.as_bytes())?;
-        script.push(b'\n')?;
-        replies.extend_from_slice(reply.as_bytes())?;
-        replies.push(b'\n')?;
+        put_line(rt, &mut script, line);
+        put_line(rt, &mut replies, reply);
     }
     plays_to(rt, alloc, resident, &script, &replies);
-    Ok(())
 }

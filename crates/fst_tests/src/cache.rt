@@ -1,335 +1,242 @@
 //! Each public call once, and what no clause says of failures and strangers.
-ghost use Rattle.std.specs.Prelude.{◌≡◌, IfOk, length};
+ghost use Rattle.std.specs.Prelude.{◌≡◌, length};
 
+mod checked;
 mod limits;
 mod strangers;
 
-use fst_cache::{Cache, Share, Stat};
+use crate::cache::checked::Checked;
+use crate::same::{same_block, same_bytes, same_count, same_patches, same_ticket};
+use fst_cache::Stat;
 use fst_device::{Arm, Done, Job, MemorySlot, carry};
 use fst_types::{BlockNo, Fault, Grade, PatchNo, Place, Settled, Shape, Ticket, What};
 use std::alloc::Global;
 use std::process::Abort;
-use std::test::Fail;
 
-fn zero_slot(alloc: Global, block: u32) -> Result<MemorySlot, Fail>
-    ensures { IfOk result (λ slot. (slot.index ≡ block) × (length slot.bytes ≡ 4)) }
+// A slot of four zeros.
+fn zero_slot(rt: &impl Abort, alloc: Global, block: u32) -> MemorySlot
+    ensures at { result.index ≡ block }
+    ensures size { length result.bytes ≡ 4 }
 {
-    Ok(MemorySlot::new(BlockNo(block), vec![in alloc; 0u8; 4]?))
+    let bytes = vec![in alloc; 0u8; 4].expect(rt, "there is memory");
+    MemorySlot::new(BlockNo(block), bytes)
 }
 
-// A cache over these slots of four bytes.
-fn over(alloc: Global, slots: Vec<MemorySlot>) -> Result<Cache<MemorySlot>, Fail> {
-    keeping(alloc, slots, 2)
-}
-
-// The same, of which so many blocks may be in memory at once.
-fn keeping(
-    alloc: Global,
-    slots: Vec<MemorySlot>,
-    resident: u32,
-) -> Result<Cache<MemorySlot>, Fail> {
-    let Ok(shape) = Shape::new(2, 4, resident) else {
-        return Err("shape")?;
-    };
-    let Ok(cache) = Cache::open(alloc, shape, slots) else {
-        return Err("open")?;
-    };
-    Ok(cache)
+// These two slots.
+fn both(rt: &impl Abort, alloc: Global, first: MemorySlot, second: MemorySlot) -> Vec<MemorySlot> {
+    let mut slots = Vec::new(alloc);
+    slots.push(first).expect(rt, "there is memory");
+    slots.push(second).expect(rt, "there is memory");
+    slots
 }
 
 // A slot of zeros for each of two blocks.
-fn zero_slots(alloc: Global) -> Result<Vec<MemorySlot>, Fail> {
-    let mut slots = Vec::new(alloc);
-    slots.push(zero_slot(alloc, 0)?)?;
-    slots.push(zero_slot(alloc, 1)?)?;
-    Ok(slots)
+fn zero_slots(rt: &impl Abort, alloc: Global) -> Vec<MemorySlot> {
+    both(rt, alloc, zero_slot(rt, alloc, 0), zero_slot(rt, alloc, 1))
+}
+
+// A cache over two slots of four bytes, of which so many may be in memory at once.
+fn keeping(rt: &impl Abort, alloc: Global, slots: Vec<MemorySlot>, resident: u32) -> Checked {
+    Checked::open(rt, alloc, Shape::new(2, 4, resident).ok(), slots)
 }
 
 // A cache of two blocks of zeros.
-fn zeros(alloc: Global) -> Result<Cache<MemorySlot>, Fail> {
-    over(alloc, zero_slots(alloc)?)
-}
-
-// A change that is accepted.
-fn patched(
-    cache: &mut Cache<MemorySlot>,
-    share: &mut Share,
-    block: u32,
-    at: u32,
-    bytes: &[u8],
-    after: &[PatchNo],
-) -> Result<(PatchNo, Grade), Fail> {
-    let Ok(made) = cache.patch(share, BlockNo(block), at, bytes, after) else {
-        return Err("patch")?;
-    };
-    Ok(made)
-}
-
-// A write that is sent out.
-fn issued(cache: &mut Cache<MemorySlot>, block: u32) -> Result<Job<MemorySlot>, Fail> {
-    let Ok(job) = cache.issue(BlockNo(block)) else {
-        return Err("issue")?;
-    };
-    Ok(job)
-}
-
-// Why a write is not sent out.
-fn issue_refused(cache: &mut Cache<MemorySlot>, block: u32) -> Result<Fault, Fail> {
-    match cache.issue(BlockNo(block)) {
-        Ok(_) => Err("it went out")?,
-        Err(fault) => Ok(fault),
-    }
-}
-
-// What comes of a job of the cache, once it is carried.
-fn settled(cache: &mut Cache<MemorySlot>, job: Job<MemorySlot>) -> Result<Settled, Fail> {
-    match cache.settle(carry(job)) {
-        Ok(settled) => Ok(settled),
-        Err(_) => Err("settle")?,
-    }
-}
-
-// A completion that the cache hands back, and why.
-fn handed_back(
-    cache: &mut Cache<MemorySlot>,
-    done: Done<MemorySlot>,
-) -> Result<(Done<MemorySlot>, Fault), Fail> {
-    match cache.settle(done) {
-        Ok(_) => Err("a stranger was accepted")?,
-        Err(back) => Ok(back),
-    }
-}
-
-// Whether the block has these bytes.
-fn shows(cache: &mut Cache<MemorySlot>, block: u32, want: &[u8]) -> Result<bool, Fail> {
-    match cache.show(BlockNo(block)) {
-        Ok(bytes) => Ok(bytes == want),
-        Err(_) => Err("show")?,
-    }
-}
-
-// Why a block is not shown.
-fn show_refused(cache: &mut Cache<MemorySlot>, block: u32) -> Result<Fault, Fail> {
-    match cache.show(BlockNo(block)) {
-        Ok(_) => Err("it was shown")?,
-        Err(fault) => Ok(fault),
-    }
+fn zeros(rt: &impl Abort, alloc: Global) -> Checked {
+    keeping(rt, alloc, zero_slots(rt, alloc), 2)
 }
 
 // A cache whose block 0 is out with this byte at its start, and the job.
-fn sent(alloc: Global, byte: u8) -> Result<(Cache<MemorySlot>, Job<MemorySlot>), Fail> {
-    let mut cache = zeros(alloc)?;
-    let mut share = cache.share();
-    patched(&mut cache, &mut share, 0, 0, &[byte], &[])?;
-    let job = issued(&mut cache, 0)?;
-    Ok((cache, job))
+fn sent(rt: &impl Abort, alloc: Global, byte: u8) -> (Checked, Job<MemorySlot>) {
+    let mut cache = zeros(rt, alloc);
+    cache.patch(rt, 0, 0, &[byte], &[], Ok((PatchNo(1), Grade::Hard)));
+    let job = cache.issue(rt, 0);
+    (cache, job)
 }
 
-// A completion of ticket 1 on block 0 that no cache sent out.
-fn forged(alloc: Global, byte: u8) -> Result<Done<MemorySlot>, Fail> {
-    let mut image = vec![in alloc; 0u8; 4]?;
-    image[0] = byte;
-    Ok(carry(Job::new(Ticket(1), BlockNo(0), image, zero_slot(alloc, 0)?)))
+// A completion that no cache sent out, of an image with these two bytes at its start.
+fn forged(
+    rt: &impl Abort,
+    alloc: Global,
+    ticket: u64,
+    block: u32,
+    bytes: [u8; 2],
+) -> Done<MemorySlot> {
+    let mut image = vec![in alloc; 0u8; 4].expect(rt, "there is memory");
+    image[0] = bytes[0];
+    image[1] = bytes[1];
+    let slot = zero_slot(rt, alloc, block);
+    carry(Job::new(Ticket(ticket), BlockNo(block), image, slot))
+}
+
+// The ticket, the block and the image of a job.
+fn is_job(rt: &impl Abort, job: &Job<MemorySlot>, ticket: u64, block: u32, image: &[u8]) {
+    same_ticket(rt, job.ticket(), ticket);
+    same_block(rt, Some(job.block()), Some(BlockNo(block)));
+    same_bytes(rt, job.image(), image);
 }
 
 // The flight of block 1 under the first ticket, of the first patch.
-fn compare_flight(rt: &impl Abort, cache: &Cache<MemorySlot>, image: &[u8]) -> Result<(), Fail> {
-    match cache.flight(BlockNo(1)) {
-        Some(flight) => {
-            assert_eq!(rt; flight.ticket, Ticket(1));
-            assert!(rt; flight.patches == [PatchNo(1)].as_slice());
-            assert!(rt; flight.image == image);
-            assert!(rt; !flight.stalled);
-        }
-        None => return Err("flight")?,
-    }
-    Ok(())
-}
-
-fn compare_chosen(
-    rt: &impl Abort,
-    cache: &mut Cache<MemorySlot>,
-    block: u32,
-    chosen: &[PatchNo],
-) -> Result<(), Fail> {
-    match cache.choose(BlockNo(block)) {
-        Ok(numbers) => assert!(rt; numbers.as_slice() == chosen),
-        Err(_) => return Err("choose")?,
-    }
-    Ok(())
+fn compare_flight(rt: &impl Abort, cache: &Checked, image: &[u8]) {
+    let flight = cache.flight(rt, 1);
+    same_ticket(rt, flight.ticket, 1);
+    same_patches(rt, BlockNo(1), flight.patches, &[PatchNo(1)]);
+    same_bytes(rt, flight.image, image);
+    assert!(rt; !flight.stalled);
 }
 
 // Makes the first patch, on block 1.
-fn make_first(rt: &impl Abort, cache: &mut Cache<MemorySlot>) {
+fn make_first(rt: &impl Abort, cache: &mut Checked) {
     cache.headline();
-    let mut share = cache.share();
-    let made = cache.patch(&mut share, BlockNo(1), 1, b"AB", &[]);
-    assert!(rt; made == Ok((PatchNo(1), Grade::Hard)));
-    assert_eq!(rt; share.made(), 1);
-    assert_eq!(rt; cache.place(PatchNo(1)), Some(Place::Memory));
-    assert_eq!(rt; cache.place(PatchNo(2)), None);
+    cache.patch(rt, 1, 1, b"AB", &[], Ok((PatchNo(1), Grade::Hard)));
+    cache.made(rt, 1);
+    cache.place(rt, 1, Some(Place::Memory));
+    cache.place(rt, 2, None);
+    cache.chosen(rt, 1, &[PatchNo(1)]);
 }
 
 // Writes block 1 back, the first patch being all that it has.
-fn write_first(rt: &impl Abort, cache: &mut Cache<MemorySlot>) -> Result<(), Fail> {
-    let job = issued(cache, 1)?;
-    assert_eq!(rt; (job.ticket(), job.block()), (Ticket(1), BlockNo(1)));
-    assert!(rt; job.image() == b"\0AB\0".as_slice());
-    compare_flight(rt, cache, b"\0AB\0")?;
-    assert_eq!(rt; cache.stalled(), None);
-    assert_eq!(rt; settled(cache, job)?, Settled::Landed);
-    Ok(())
+fn write_first(rt: &impl Abort, cache: &mut Checked) {
+    let job = cache.issue(rt, 1);
+    is_job(rt, &job, 1, 1, b"\0AB\0");
+    compare_flight(rt, cache, b"\0AB\0");
+    cache.stalled(rt, None);
+    cache.settle(rt, job, Settled::Landed);
 }
 
 #[test]
-fn each_call_once(rt: HostRuntime) -> Result<(), Fail> {
-    let mut cache = zeros(rt.alloc())?;
+fn each_call_once(rt: HostRuntime) {
+    let mut cache = zeros(&rt, rt.alloc());
     make_first(&rt, &mut cache);
-    compare_chosen(&rt, &mut cache, 1, &[PatchNo(1)])?;
-    write_first(&rt, &mut cache)?;
-    assert_eq!(rt; cache.place(PatchNo(1)), Some(Place::Disk));
-    assert!(rt; shows(&mut cache, 1, b"\0AB\0")?);
-    Ok(())
+    write_first(&rt, &mut cache);
+    cache.place(&rt, 1, Some(Place::Disk));
+    cache.shows(&rt, 1, b"\0AB\0");
 }
 
 // A cache whose write of block 0 failed after the bytes changed.
-fn stalled(rt: &impl Abort, alloc: Global) -> Result<Cache<MemorySlot>, Fail> {
-    let (mut cache, mut job) = sent(alloc, b'A')?;
+fn stalled(rt: &impl Abort, alloc: Global) -> Checked {
+    let (mut cache, mut job) = sent(rt, alloc, b'A');
     job.arm(Arm::WriteFailsAfter);
-    assert_eq!(rt; settled(&mut cache, job)?, Settled::Stalled);
-    assert_eq!(rt; cache.stalled(), Some(BlockNo(0)));
-    assert_eq!(rt; cache.place(PatchNo(1)), Some(Place::Flight));
-    Ok(cache)
+    cache.settle(rt, job, Settled::Stalled);
+    cache.stalled(rt, Some(BlockNo(0)));
+    cache.place(rt, 1, Some(Place::Flight));
+    cache
 }
 
 #[test]
-fn a_failed_write_is_tried_again(rt: HostRuntime) -> Result<(), Fail> {
-    let mut cache = stalled(&rt, rt.alloc())?;
-    let Ok(job) = cache.retry(BlockNo(0)) else {
-        return Err("retry")?;
-    };
-    assert_eq!(rt; job.ticket(), Ticket(2));
-    assert!(rt; job.image() == b"A\0\0\0".as_slice());
-    let (_, fault) = handed_back(&mut cache, forged(rt.alloc(), b'A')?)?;
-    assert_eq!(rt; fault, Fault::Stranger);
-    assert_eq!(rt; settled(&mut cache, job)?, Settled::Landed);
-    Ok(())
+fn a_failed_write_is_tried_again(rt: HostRuntime) {
+    let mut cache = stalled(&rt, rt.alloc());
+    let job = cache.retry(&rt, 0);
+    is_job(&rt, &job, 2, 0, b"A\0\0\0");
+    let stranger = forged(&rt, rt.alloc(), 1, 0, [b'A', 0]);
+    cache.hand_back(&rt, stranger, 1, 0, b"A\0\0\0");
+    cache.settle(&rt, job, Settled::Landed);
+}
+
+// A job of another cache is carried and settled here, while block 0 is out with other bytes.
+fn settle_another(rt: &impl Abort, alloc: Global, cache: &mut Checked) {
+    let (_other, job) = sent(rt, alloc, b'B');
+    cache.hand_back(rt, carry(job), 1, 0, b"B\0\0\0");
 }
 
 #[test]
-fn stranger_is_handed_back(rt: HostRuntime) -> Result<(), Fail> {
-    let (mut first, own) = sent(rt.alloc(), b'A')?;
-    let (_second, other) = sent(rt.alloc(), b'B')?;
-    let (done, fault) = handed_back(&mut first, carry(other))?;
-    assert_eq!(rt; fault.number(), 14);
-    assert_eq!(rt; (done.ticket(), done.block()), (Ticket(1), BlockNo(0)));
-    assert!(rt; done.image() == b"B\0\0\0".as_slice());
-    assert_eq!(rt; settled(&mut first, own)?, Settled::Landed);
-    let (done, fault) = handed_back(&mut first, forged(rt.alloc(), b'A')?)?;
-    assert_eq!(rt; fault.number(), 14);
-    assert!(rt; done.image() == b"A\0\0\0".as_slice());
-    Ok(())
+fn stranger_is_handed_back(rt: HostRuntime) {
+    let (mut cache, job) = sent(&rt, rt.alloc(), b'A');
+    settle_another(&rt, rt.alloc(), &mut cache);
+    cache.settle(&rt, job, Settled::Landed);
+    let landed = forged(&rt, rt.alloc(), 1, 0, [b'A', 0]);
+    cache.hand_back(&rt, landed, 1, 0, b"A\0\0\0");
 }
 
-#[test]
-fn a_failed_read_is_told_once(rt: HostRuntime) -> Result<(), Fail> {
-    let mut slot = zero_slot(rt.alloc(), 0)?;
+// Two slots, of which the first fails at its first read.
+fn failing_slots(rt: &impl Abort, alloc: Global) -> Vec<MemorySlot> {
+    let mut slot = zero_slot(rt, alloc, 0);
     slot.arm(Arm::ReadFails);
-    let mut slots = Vec::new(rt.alloc());
-    slots.push(slot)?;
-    slots.push(zero_slot(rt.alloc(), 1)?)?;
-    let mut cache = over(rt.alloc(), slots)?;
-    assert_eq!(rt; show_refused(&mut cache, 0)?.number(), 15);
-    assert!(rt; shows(&mut cache, 0, b"\0\0\0\0")?);
-    Ok(())
+    both(rt, alloc, slot, zero_slot(rt, alloc, 1))
+}
+
+#[test]
+fn a_failed_read_is_told_once(rt: HostRuntime) {
+    same_count(&rt, Fault::Device.number() as usize, 15);
+    let mut cache = keeping(&rt, rt.alloc(), failing_slots(&rt, rt.alloc()), 2);
+    cache.show_refused(&rt, 0, Fault::Device);
+    cache.shows(&rt, 0, b"\0\0\0\0");
 }
 
 // The guide's example: data that comes after a journal waits until the journal is on disk.
 #[test]
-fn journal_before_data(rt: HostRuntime) -> Result<(), Fail> {
-    let mut cache = zeros(rt.alloc())?;
-    let mut share = cache.share();
-    let (journal, _) = patched(&mut cache, &mut share, 0, 0, b"J", &[])?;
-    let made = cache.patch(&mut share, BlockNo(1), 0, b"D", &[journal]);
-    assert!(rt; made.is_ok());
-    assert_eq!(rt; issue_refused(&mut cache, 1)?, Fault::NothingReady);
-    let job = issued(&mut cache, 0)?;
-    assert_eq!(rt; settled(&mut cache, job)?, Settled::Landed);
-    assert_eq!(rt; cache.place(journal), Some(Place::Disk));
-    assert!(rt; cache.issue(BlockNo(1)).is_ok());
-    Ok(())
+fn journal_before_data(rt: HostRuntime) {
+    let mut cache = zeros(&rt, rt.alloc());
+    cache.patch(&rt, 0, 0, b"J", &[], Ok((PatchNo(1), Grade::Hard)));
+    cache.patch(
+        &rt,
+        1,
+        0,
+        b"D",
+        &[PatchNo(1)],
+        Ok((PatchNo(2), Grade::Hard)),
+    );
+    cache.issue_refused(&rt, 1, Fault::NothingReady);
+    let job = cache.issue(&rt, 0);
+    cache.settle(&rt, job, Settled::Landed);
+    cache.place(&rt, 1, Some(Place::Disk));
+    cache.issue(&rt, 1);
 }
 
 // Makes a gate, a change behind it, an empty patch behind that, and a change that stands alone.
-fn make_each(rt: &impl Abort, cache: &mut Cache<MemorySlot>) -> Result<(), Fail> {
-    let mut share = cache.share();
-    assert!(rt; cache.gate(&mut share) == Ok(PatchNo(1)));
-    let made = patched(cache, &mut share, 0, 0, b"A", &[PatchNo(1)])?;
-    assert!(rt; made == (PatchNo(2), Grade::Soft));
-    assert!(rt; cache.empty(&mut share, &[PatchNo(2)]) == Ok(PatchNo(3)));
-    assert!(rt; cache.depend(PatchNo(1), &[PatchNo(3)]) == Err(Fault::Cycle));
-    assert!(rt; cache.depend(PatchNo(2), &[]) == Err(Fault::NotGate));
-    let made = patched(cache, &mut share, 1, 0, b"B", &[])?;
-    assert!(rt; made == (PatchNo(4), Grade::Hard));
-    assert_eq!(rt; share.made(), 4);
-    Ok(())
+fn make_each(rt: &impl Abort, cache: &mut Checked) {
+    cache.gate(rt, Ok(PatchNo(1)));
+    cache.patch(rt, 0, 0, b"A", &[PatchNo(1)], Ok((PatchNo(2), Grade::Soft)));
+    cache.empty(rt, &[PatchNo(2)], Ok(PatchNo(3)));
+    cache.depend(rt, 1, &[PatchNo(3)], Err(Fault::Cycle));
+    cache.depend(rt, 2, &[], Err(Fault::NotGate));
+    cache.patch(rt, 1, 0, b"B", &[], Ok((PatchNo(4), Grade::Hard)));
+    cache.made(rt, 4);
 }
 
 #[test]
-fn gates_and_empty_patches(rt: HostRuntime) -> Result<(), Fail> {
-    let mut cache = zeros(rt.alloc())?;
-    make_each(&rt, &mut cache)?;
-    assert!(rt; cache.depend(PatchNo(1), &[PatchNo(4)]).is_ok());
-    assert!(rt; cache.seal(PatchNo(1)).is_ok());
-    assert!(rt; cache.seal(PatchNo(1)) == Err(Fault::Sealed));
-    assert_eq!(rt; cache.pick(), Some(BlockNo(1)));
+fn gates_and_empty_patches(rt: HostRuntime) {
+    let mut cache = zeros(&rt, rt.alloc());
+    make_each(&rt, &mut cache);
+    cache.depend(&rt, 1, &[PatchNo(4)], Ok(()));
+    cache.seal(&rt, 1, Ok(()));
+    cache.seal(&rt, 1, Err(Fault::Sealed));
+    cache.pick(&rt, Some(BlockNo(1)));
     let counted = Stat {
         made: 4,
         live: 4,
         undo: 1,
         flights: 0,
     };
-    assert_eq!(rt; cache.stat(), counted);
-    assert_eq!(rt; cache.blocks(), 2);
-    assert_eq!(rt; cache.forget(), 0);
-    Ok(())
+    cache.counts(&rt, counted);
+    cache.blocks(&rt, 2);
+    cache.forget(&rt, 0);
 }
 
 #[test]
-fn a_clean_block_gives_up_its_place(rt: HostRuntime) -> Result<(), Fail> {
-    let mut cache = keeping(rt.alloc(), zero_slots(rt.alloc())?, 1)?;
-    let mut share = cache.share();
-    assert!(rt; cache.show(BlockNo(0)).is_ok());
-    let made = cache.patch(&mut share, BlockNo(1), 0, b"B", &[]);
-    assert!(rt; made.is_ok());
-    assert_eq!(rt; show_refused(&mut cache, 0)?, Fault::Full(What::Resident));
-    assert!(rt; cache.evict(BlockNo(1)) == Err(Fault::Dirty));
-    assert!(rt; cache.evict(BlockNo(0)).is_ok());
-    Ok(())
+fn a_clean_block_gives_up_its_place(rt: HostRuntime) {
+    let mut cache = keeping(&rt, rt.alloc(), zero_slots(&rt, rt.alloc()), 1);
+    cache.shows(&rt, 0, b"\0\0\0\0");
+    cache.patch(&rt, 1, 0, b"B", &[], Ok((PatchNo(1), Grade::Hard)));
+    cache.show_refused(&rt, 0, Fault::Full(What::Resident));
+    cache.evict(&rt, 1, Err(Fault::Dirty));
+    cache.evict(&rt, 0, Ok(()));
 }
 
 // A cache of one block over which so many numbers and tickets are used.
-fn used(alloc: Global, numbers: u32, tickets: u64) -> Result<Cache<MemorySlot>, Fail> {
-    let Ok(shape) = Shape::new(1, 4, 1) else {
-        return Err("shape")?;
-    };
+fn used(rt: &impl Abort, alloc: Global, numbers: u32, tickets: u64) -> Checked {
     let mut slots = Vec::new(alloc);
-    slots.push(zero_slot(alloc, 0)?)?;
-    let Ok(cache) = Cache::open_at(alloc, shape, slots, numbers, tickets) else {
-        return Err("open")?;
-    };
-    Ok(cache)
+    slots
+        .push(zero_slot(rt, alloc, 0))
+        .expect(rt, "there is memory");
+    Checked::open_at(rt, alloc, Shape::new(1, 4, 1).ok(), slots, numbers, tickets)
 }
 
 // Numbers and tickets that are used up.
 #[test]
-fn numbers_and_tickets_end(rt: HostRuntime) -> Result<(), Fail> {
-    let mut numbered = used(rt.alloc(), u32::MAX, 0)?;
-    let mut share = numbered.share();
-    assert!(rt; numbered.gate(&mut share) == Err(Fault::Full(What::Numbers)));
-    let mut sent = used(rt.alloc(), 0, u64::MAX)?;
-    let mut share = sent.share();
-    assert!(rt; sent.patch(&mut share, BlockNo(0), 0, b"A", &[]).is_ok());
-    assert_eq!(rt; issue_refused(&mut sent, 0)?, Fault::Full(What::Tickets));
-    Ok(())
+fn numbers_and_tickets_end(rt: HostRuntime) {
+    let mut numbered = used(&rt, rt.alloc(), u32::MAX, 0);
+    numbered.gate(&rt, Err(Fault::Full(What::Numbers)));
+    let mut sent = used(&rt, rt.alloc(), 0, u64::MAX);
+    sent.patch(&rt, 0, 0, b"A", &[], Ok((PatchNo(1), Grade::Hard)));
+    sent.issue_refused(&rt, 0, Fault::Full(What::Tickets));
 }

@@ -11,3 +11,5 @@
 mod cache;
 #[cfg(test)]
 mod graph;
+#[cfg(test)]
+mod same;

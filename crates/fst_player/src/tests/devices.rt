@@ -2,11 +2,9 @@
 //! the disk at the end is the same; and after each line, whichever writes are finished, a crash leaves what a plain list
 //! of the changes says.
 
-use crate::play::play;
-use crate::tests::{plays_to, shape_of};
+use crate::tests::{plays_to, put, put_line, replies_to};
 use std::alloc::{AllocError, Global};
 use std::process::Abort;
-use std::test::Fail;
 
 // A change of one byte of the disk.
 #[derive(Clone, Copy)]
@@ -267,53 +265,78 @@ impl Plain {
     }
 }
 
-fn add_line(text: &mut Vec<u8>, line: &str) -> Result<(), AllocError> {
-    text.extend_from_slice(line.as_bytes())?;
-    text.push(b'\n')?;
-    Ok(())
+// Puts a crash that finishes these blocks' writes, and the reply that tells what it is to leave.
+fn put_crash(
+    rt: &impl Abort,
+    alloc: Global,
+    lines: &mut Vec<u8>,
+    replies: &mut Vec<u8>,
+    plain: &Plain,
+    finished: Option<u32>,
+) {
+    match finished {
+        None => put_line(rt, lines, r#"{"do":"crash","finish":[]}"#),
+        Some(block) => {
+            let crash = format!(in alloc; "{{\"do\":\"crash\",\"finish\":[{block}]}}");
+            put_line(rt, lines, &crash.expect(rt, "there is memory"));
+        }
+    }
+    let told = plain.told(alloc, finished.is_some());
+    put(rt, replies, &told.expect(rt, "there is memory"));
 }
 
 // The script with a crash after each line for each set of writes that may be finished, and the replies.
-pub fn crashes(rt: &impl Abort, alloc: Global, script: &Script) -> Result<(), Fail> {
+pub fn crashes(rt: &impl Abort, alloc: Global, script: &Script) {
     let mut lines = Vec::new(alloc);
     let mut replies = Vec::new(alloc);
     let mut plain = Plain::new(alloc);
     for (line, reply, does) in script.rows {
-        add_line(&mut lines, line)?;
-        add_line(&mut replies, reply)?;
-        plain.take(*does)?;
+        put_line(rt, &mut lines, line);
+        put_line(rt, &mut replies, reply);
+        plain.take(*does).expect(rt, "there is memory");
         assert!(rt; plain.is_closed(false, script.needs), "after {line}");
-        add_line(&mut lines, r#"{"do":"crash","finish":[]}"#)?;
-        replies.extend_from_slice(&plain.told(alloc, false)?)?;
+        put_crash(rt, alloc, &mut lines, &mut replies, &plain, None);
         if let Some((block, _)) = plain.out {
             assert!(rt; plain.is_closed(true, script.needs), "after {line}");
-            let crash = format!(in alloc; "{{\"do\":\"crash\",\"finish\":[{block}]}}")?;
-            add_line(&mut lines, &crash)?;
-            replies.extend_from_slice(&plain.told(alloc, true)?)?;
+            put_crash(rt, alloc, &mut lines, &mut replies, &plain, Some(block));
         }
     }
     plays_to(rt, alloc, 4, &lines, &replies);
-    Ok(())
 }
 
 #[test]
-fn every_crash_leaves_a_closed_set(rt: HostRuntime) -> Result<(), Fail> {
+fn every_crash_leaves_a_closed_set(rt: HostRuntime) {
     for script in &SCRIPTS {
-        crashes(&rt, rt.alloc(), script)?;
+        crashes(&rt, rt.alloc(), script);
     }
-    Ok(())
+}
+
+// Puts a completion that fails this way, and a retry of the block.
+fn put_failure(
+    rt: &impl Abort,
+    alloc: Global,
+    lines: &mut Vec<u8>,
+    ticket: u32,
+    block: u32,
+    how: &str,
+) {
+    let done = format!(in alloc; "{{\"do\":\"done\",\"ticket\":{ticket},\"fail\":\"{how}\"}}");
+    put_line(rt, lines, &done.expect(rt, "there is memory"));
+    let retry = format!(in alloc; "{{\"do\":\"retry\",\"block\":{block}}}");
+    put_line(rt, lines, &retry.expect(rt, "there is memory"));
+}
+
+// Puts a completion that works.
+fn put_done(rt: &impl Abort, alloc: Global, lines: &mut Vec<u8>, ticket: u32) {
+    let done = format!(in alloc; "{{\"do\":\"done\",\"ticket\":{ticket}}}");
+    put_line(rt, lines, &done.expect(rt, "there is memory"));
 }
 
 // Plays the script with its nth write failing once, and being tried again: each ticket from there on is one more. The disk
 // at the end is that of all the changes that landed.
-fn fails_once(
-    rt: &impl Abort,
-    alloc: Global,
-    script: &Script,
-    nth: u32,
-    how: &str,
-) -> Result<(), Fail> {
+fn fails_once(rt: &impl Abort, alloc: Global, script: &Script, nth: u32, how: &str) {
     let mut lines = Vec::new(alloc);
+    let mut want = Vec::new(alloc);
     let mut plain = Plain::new(alloc);
     let mut ticket = 0u32;
     let mut landed = 0u32;
@@ -322,42 +345,31 @@ fn fails_once(
             (Does::Lands, Some((block, _))) => {
                 ticket = ticket.saturating_add(1);
                 if landed == nth {
-                    let done = format!(in alloc;
-                        "{{\"do\":\"done\",\"ticket\":{ticket},\"fail\":\"{how}\"}}"
-                    )?;
-                    add_line(&mut lines, &done)?;
-                    let retry = format!(in alloc; "{{\"do\":\"retry\",\"block\":{block}}}")?;
-                    add_line(&mut lines, &retry)?;
+                    put_failure(rt, alloc, &mut lines, ticket, block, how);
                     ticket = ticket.saturating_add(1);
                 }
-                let done = format!(in alloc; "{{\"do\":\"done\",\"ticket\":{ticket}}}")?;
-                add_line(&mut lines, &done)?;
+                put_done(rt, alloc, &mut lines, ticket);
                 landed = landed.saturating_add(1);
             }
-            _ => add_line(&mut lines, line)?,
+            _ => put_line(rt, &mut lines, line),
         }
-        plain.take(*does)?;
+        plain.take(*does).expect(rt, "there is memory");
     }
     assert!(rt; nth < landed);
-    add_line(&mut lines, r#"{"do":"crash","finish":[]}"#)?;
-    let want = plain.told(alloc, false)?;
-    let mut reader = lines.as_slice();
-    let mut writer = Vec::new(alloc);
-    assert!(rt; play(alloc, &mut reader, &mut writer, shape_of(rt, 4)).is_ok());
+    put_crash(rt, alloc, &mut lines, &mut want, &plain, None);
+    let replies = replies_to(rt, alloc, 4, &lines);
     assert!(rt;
-        writer.ends_with(&want),
+        replies.ends_with(&want),
         "write {nth} fails {how} the bytes change"
     );
-    Ok(())
 }
 
 #[test]
-fn each_write_fails_once_and_is_tried_again(rt: HostRuntime) -> Result<(), Fail> {
+fn each_write_fails_once_and_is_tried_again(rt: HostRuntime) {
     for (script, writes) in SCRIPTS.iter().zip([1, 2, 2, 3]) {
         for nth in 0..writes {
-            fails_once(&rt, rt.alloc(), script, nth, "before")?;
-            fails_once(&rt, rt.alloc(), script, nth, "after")?;
+            fails_once(&rt, rt.alloc(), script, nth, "before");
+            fails_once(&rt, rt.alloc(), script, nth, "after");
         }
     }
-    Ok(())
 }

@@ -4,99 +4,103 @@
 mod order;
 mod scripts;
 
-use crate::play::play;
 use crate::tests::groups::order::Plain;
 use crate::tests::groups::scripts::{
     FORGOTTEN_CHANGES, LOST_CHANGE, OWN_TAIL, Row, THROUGH_AN_EMPTY_GROUP, TWO_GROUPS,
 };
-use crate::tests::{plays_rows, shape_of};
-use std::alloc::{AllocError, Global};
+use crate::tests::{plays_rows, put_line, replies_to};
+use std::alloc::Global;
 use std::process::Abort;
-use std::test::Fail;
+
+// Puts a crash for each set of the writes that are out behind a script.
+fn put_crashes(rt: &impl Abort, alloc: Global, script: &mut Vec<u8>, plain: &Plain) {
+    for set in plain.sets(rt, alloc) {
+        let crash = format!(in alloc; "{{\"do\":\"crash\",\"finish\":[{set}]}}");
+        put_line(rt, script, &crash.expect(rt, "there is memory"));
+    }
+}
 
 // The lines, with a crash after each one for each set of the writes that are out.
-fn with_crashes(alloc: Global, rows: &[Row]) -> Result<Vec<u8>, AllocError> {
+fn with_crashes(rt: &impl Abort, alloc: Global, rows: &[Row]) -> Vec<u8> {
     let mut script = Vec::new(alloc);
     let mut plain = Plain::new(alloc);
     for (line, _, does) in rows {
-        script.extend_from_slice(line.as_bytes())?;
-        script.push(b'\n')?;
-        plain.take(alloc, *does)?;
-        for set in plain.sets(alloc)? {
-            let crash = format!(in alloc; "{{\"do\":\"crash\",\"finish\":[{set}]}}\n")?;
-            script.extend_from_slice(crash.as_bytes())?;
-        }
+        put_line(rt, &mut script, line);
+        plain.take(alloc, *does).expect(rt, "there is memory");
+        put_crashes(rt, alloc, &mut script, &plain);
     }
-    Ok(script)
+    script
+}
+
+// Judges the reply to a crash after a line, the writes of this set being finished. Whether the crash leaves all changes.
+fn is_whole(rt: &impl Abort, plain: &Plain, line: &str, set: &str, crash: &str) -> bool {
+    assert!(rt; crash.starts_with("crash "), "after {line}");
+    assert!(rt;
+        plain.is_in_order(crash),
+        "{crash} after {line}, [{set}] being finished"
+    );
+    plain.is_whole(crash)
+}
+
+// The reply is this one.
+fn same_reply(rt: &impl Abort, line: &str, reply: Option<&str>, expected: Option<&str>) {
+    assert_eq!(rt; reply, expected, "to {line}");
 }
 
 // Judges the replies to the lines and to the crashes. Whether the last crash leaves all changes.
-fn judge(rt: &impl Abort, alloc: Global, rows: &[Row], replies: &str) -> Result<bool, Fail> {
+fn judge(rt: &impl Abort, alloc: Global, rows: &[Row], replies: &str) -> bool {
     let mut told = replies.lines();
     let mut plain = Plain::new(alloc);
-    let mut is_whole = true;
+    let mut whole = true;
     for (line, reply, does) in rows {
-        assert_eq!(rt; told.next(), Some(*reply), "to {line}");
-        plain.take(alloc, *does)?;
-        for set in plain.sets(alloc)? {
-            let crash = told.next().unwrap_or("");
-            assert!(rt; crash.starts_with("crash "), "after {line}");
-            assert!(rt;
-                plain.is_in_order(crash),
-                "{crash} after {line}, [{set}] being finished"
-            );
-            is_whole = plain.is_whole(crash);
+        same_reply(rt, line, told.next(), Some(*reply));
+        plain.take(alloc, *does).expect(rt, "there is memory");
+        for set in plain.sets(rt, alloc) {
+            whole = is_whole(rt, &plain, line, &set, told.next().unwrap_or(""));
         }
     }
-    assert!(rt; told.next().is_none());
-    Ok(is_whole)
+    same_reply(rt, "the end", told.next(), None);
+    whole
 }
 
 // Plays the rows with all crashes. Whether the last one, which finishes all writes, leaves all changes.
-fn ends_whole(rt: &impl Abort, alloc: Global, rows: &[Row]) -> Result<bool, Fail> {
-    let script = with_crashes(alloc, rows)?;
-    let mut reader = script.as_slice();
-    let mut writer = Vec::new(alloc);
-    assert!(rt; play(alloc, &mut reader, &mut writer, shape_of(rt, 4)).is_ok());
-    let Ok(replies) = std::str::from_utf8(&writer) else {
-        return Err("the replies are text")?;
-    };
+fn ends_whole(rt: &impl Abort, alloc: Global, rows: &[Row]) -> bool {
+    let replies = replies_to(rt, alloc, 4, &with_crashes(rt, alloc, rows));
+    let replies = std::str::from_utf8(&replies).expect(rt, "the replies are text");
     judge(rt, alloc, rows, replies)
 }
 
 #[test]
-fn every_crash_leaves_groups_in_order(rt: HostRuntime) -> Result<(), Fail> {
+fn every_crash_leaves_groups_in_order(rt: HostRuntime) {
     for rows in [
         TWO_GROUPS,
         OWN_TAIL,
         THROUGH_AN_EMPTY_GROUP,
         FORGOTTEN_CHANGES,
     ] {
-        assert!(rt; ends_whole(&rt, rt.alloc(), rows)?);
+        assert!(rt; ends_whole(&rt, rt.alloc(), rows));
     }
-    assert!(rt; !ends_whole(&rt, rt.alloc(), LOST_CHANGE)?);
-    Ok(())
+    assert!(rt; !ends_whole(&rt, rt.alloc(), LOST_CHANGE));
 }
 
 // What the judge refuses: a change of the second group without one of the first, or with an open first group.
 #[test]
-fn groups_out_of_order(rt: HostRuntime) -> Result<(), Fail> {
+fn groups_out_of_order(rt: HostRuntime) {
     let mut plain = Plain::new(rt.alloc());
     for (_, reply, does) in TWO_GROUPS {
         if *reply == "group_close 1" {
             assert!(rt; !plain.is_in_order("crash 41000000 42000000 43000000 00000000"));
         }
-        plain.take(rt.alloc(), *does)?;
+        plain.take(rt.alloc(), *does).expect(&rt, "there is memory");
     }
     assert!(rt; plain.is_in_order("crash 41000000 42000000 43000000 00000000"));
     assert!(rt; !plain.is_in_order("crash 41000000 42000000 00000000 00000000"));
     assert!(rt; plain.is_in_order("crash 41000000 00000000 00000000 00000000"));
-    Ok(())
 }
 
 // Groups without changes, each after the one before it: the first cannot come after the last.
 #[test]
-fn groups_without_changes(rt: HostRuntime) -> Result<(), Fail> {
+fn groups_without_changes(rt: HostRuntime) {
     plays_rows(
         &rt,
         rt.alloc(),
@@ -115,12 +119,12 @@ fn groups_without_changes(rt: HostRuntime) -> Result<(), Fail> {
             (r#"{"do":"group_close","group":1}"#, "group_close 1"),
             (r#"{"do":"stat"}"#, "stat made 6 live 0 undo 0 flights 0"),
         ],
-    )
+    );
 }
 
 // What waits for a lost block waits for good, and with a hard change all of its block and what waits for that.
 #[test]
-fn behind_a_lost_block(rt: HostRuntime) -> Result<(), Fail> {
+fn behind_a_lost_block(rt: HostRuntime) {
     plays_rows(
         &rt,
         rt.alloc(),
@@ -194,5 +198,5 @@ fn behind_a_lost_block(rt: HostRuntime) -> Result<(), Fail> {
                 "crash 41000000 00000000 00000000 45000000",
             ),
         ],
-    )
+    );
 }

@@ -1,11 +1,10 @@
 //! Lines that are refused before any call, and lines at their limits.
 
-use crate::tests::{plays_rows, plays_to};
-use std::test::Fail;
+use crate::tests::{plays_rows, plays_to, put};
 
 // Lines that are no command, or name what is not there.
 #[test]
-fn hostile_table(rt: HostRuntime) -> Result<(), Fail> {
+fn hostile_table(rt: HostRuntime) {
     plays_rows(
         &rt,
         rt.alloc(),
@@ -32,12 +31,12 @@ fn hostile_table(rt: HostRuntime) -> Result<(), Fail> {
                 "refused 14",
             ),
         ],
-    )
+    );
 }
 
 // Members that are missing, not given for the line, or of the wrong kind; their order does not matter.
 #[test]
-fn members_of_the_lines(rt: HostRuntime) -> Result<(), Fail> {
+fn members_of_the_lines(rt: HostRuntime) {
     plays_rows(
         &rt,
         rt.alloc(),
@@ -56,7 +55,7 @@ fn members_of_the_lines(rt: HostRuntime) -> Result<(), Fail> {
             (r#"{"do":"place","patch":true}"#, "refused 2"),
             (r#"{"on":[],"gate":1,"do":"depend"}"#, "refused 5"),
         ],
-    )
+    );
 }
 
 // The last line has no end.
@@ -91,17 +90,17 @@ fn bytes_round_a_line(rt: HostRuntime) {
 
 // A line of the greatest length is read as JSON, with white space after its object; of a longer one nothing is kept.
 #[test]
-fn long_lines(rt: HostRuntime) -> Result<(), Fail> {
-    let line = br#"{"do":"pick"}"#;
+fn long_lines(rt: HostRuntime) {
+    let line = r#"{"do":"pick"}"#;
     let mut script = Vec::new(rt.alloc());
     for length in [65_536usize, 65_537] {
-        script.extend_from_slice(line)?;
+        put(&rt, &mut script, line.as_bytes());
         for _ in line.len()..length {
-            script.push(b' ')?;
+            put(&rt, &mut script, b" ");
         }
-        script.push(b'\n')?;
+        put(&rt, &mut script, b"\n");
     }
-    script.extend_from_slice(line)?;
+    put(&rt, &mut script, line.as_bytes());
     plays_to(
         &rt,
         rt.alloc(),
@@ -109,5 +108,4 @@ fn long_lines(rt: HostRuntime) -> Result<(), Fail> {
         &script,
         b"pick none\nrefused 1\npick none\n",
     );
-    Ok(())
 }

@@ -1,40 +1,58 @@
 //! How many patches a line may name, and how many the cache keeps.
 
-use crate::tests::plays_to;
+use crate::tests::{plays_to, put, put_line};
 use std::alloc::Global;
-use std::test::Fail;
+use std::process::Abort;
 
-// A line that names patch 1 so many times.
-fn names(alloc: Global, count: usize) -> Result<Vec<u8>, Fail> {
-    let mut line = Vec::from_slice(alloc, br#"{"do":"empty","after":[1"#)?;
+// Puts a line that names patch 1 so many times.
+fn put_names(rt: &impl Abort, script: &mut Vec<u8>, count: usize) {
+    put(rt, script, br#"{"do":"empty","after":[1"#);
     for _ in 1..count {
-        line.extend_from_slice(b",1")?;
+        put(rt, script, b",1");
     }
-    line.extend_from_slice(b"]}\n")?;
-    Ok(line)
+    put(rt, script, b"]}\n");
 }
 
 #[test]
-fn named_patches(rt: HostRuntime) -> Result<(), Fail> {
-    let mut script = Vec::from_slice(rt.alloc(), b"{\"do\":\"gate\"}\n")?;
+fn named_patches(rt: HostRuntime) {
+    let mut script = Vec::new(rt.alloc());
+    put_line(&rt, &mut script, r#"{"do":"gate"}"#);
     for count in [64, 65] {
-        script.extend_from_slice(&names(rt.alloc(), count)?)?;
+        put_names(&rt, &mut script, count);
     }
     plays_to(&rt, rt.alloc(), 4, &script, b"gate 1\nempty 2\nrefused 2\n");
-    Ok(())
+}
+
+// Puts an empty patch, and its reply.
+fn put_empty(
+    rt: &impl Abort,
+    alloc: Global,
+    script: &mut Vec<u8>,
+    replies: &mut Vec<u8>,
+    number: u32,
+) {
+    put_line(rt, script, r#"{"do":"empty"}"#);
+    let reply = format!(in alloc; "empty {number}");
+    put_line(rt, replies, &reply.expect(rt, "there is memory"));
 }
 
 // As many patches as may stand, one more, and another once they were forgotten.
 #[test]
-fn standing_patches(rt: HostRuntime) -> Result<(), Fail> {
+fn standing_patches(rt: HostRuntime) {
     let mut script = Vec::new(rt.alloc());
     let mut replies = Vec::new(rt.alloc());
-    for number in 1..65_536u32 {
-        script.extend_from_slice(b"{\"do\":\"empty\"}\n")?;
-        replies.extend_from_slice(format!(in rt.alloc(); "empty {number}\n")?.as_bytes())?;
+    for number in 1..65_536 {
+        put_empty(&rt, rt.alloc(), &mut script, &mut replies, number);
     }
-    script.extend_from_slice(b"{\"do\":\"empty\"}\n{\"do\":\"forget\"}\n{\"do\":\"empty\"}\n")?;
-    replies.extend_from_slice(b"refused 16 heads\nforget 65535\nempty 65536\n")?;
+    put(
+        &rt,
+        &mut script,
+        b"{\"do\":\"empty\"}\n{\"do\":\"forget\"}\n{\"do\":\"empty\"}\n",
+    );
+    put(
+        &rt,
+        &mut replies,
+        b"refused 16 heads\nforget 65535\nempty 65536\n",
+    );
     plays_to(&rt, rt.alloc(), 4, &script, &replies);
-    Ok(())
 }

@@ -1,11 +1,9 @@
 //! A thousand lines, good ones of every command, each once as it is and once nearly right: with a byte that is another,
 //! left out, or there twice. Each gets one reply of those that there are, and the player counts what was accepted.
 
-use crate::play::play;
-use crate::tests::shape_of;
+use crate::tests::{put, put_line, replies_to};
 use std::alloc::{AllocError, Global};
 use std::process::Abort;
-use std::test::Fail;
 
 const GOOD: &[&str] = &[
     r#"{"do":"patch","block":0,"at":0,"data":"41"}"#,
@@ -163,20 +161,25 @@ fn made_by(reply: &str) -> u32 {
     0
 }
 
+// The reply to `stat` counts what was made so far.
+fn counts(rt: &impl Abort, alloc: Global, reply: &str, made: u32) {
+    let told = format!(in alloc; "stat made {made} ").expect(rt, "there is memory");
+    assert!(rt;
+        reply.starts_with(told.as_str()),
+        "{reply}, and {made} were made"
+    );
+}
+
 // Each line has a reply, each `stat` counts what was made so far, and many lines of both kinds are there: such as made
 // a patch, and such as are no line.
-fn judge(rt: &impl Abort, alloc: Global, lines: u32, replies: &str) -> Result<(), Fail> {
+fn judge(rt: &impl Abort, alloc: Global, lines: u32, replies: &str) {
     let mut made = 0u32;
     let mut count = 0u32;
     let mut bad = 0u32;
     for reply in replies.lines() {
         assert!(rt; is_reply(reply), "{reply}");
         if reply.starts_with("stat ") {
-            let told = format!(in alloc; "stat made {made} ")?;
-            assert!(rt;
-                reply.starts_with(told.as_str()),
-                "{reply}, and {made} were made"
-            );
+            counts(rt, alloc, reply, made);
         }
         made = made.saturating_add(made_by(reply));
         if reply == "refused 1" {
@@ -187,28 +190,31 @@ fn judge(rt: &impl Abort, alloc: Global, lines: u32, replies: &str) -> Result<()
     assert_eq!(rt; count, lines);
     assert!(rt; made > 100, "{made} were made");
     assert!(rt; bad > 200, "{bad} were no lines");
-    Ok(())
+}
+
+// The good lines, each once as it is and once nearly right.
+fn put_round(rt: &impl Abort, alloc: Global, dice: &mut Dice, script: &mut Vec<u8>) {
+    for line in GOOD {
+        put_line(rt, script, line);
+        put(
+            rt,
+            script,
+            &nearly(alloc, dice, line).expect(rt, "there is memory"),
+        );
+    }
 }
 
 #[test]
-fn nearly_right(rt: HostRuntime) -> Result<(), Fail> {
+fn nearly_right(rt: HostRuntime) {
     let mut dice = Dice { state: 2007 };
     let mut script = Vec::new(rt.alloc());
     let mut lines = 1u32;
     for _ in 0..ROUNDS {
-        for line in GOOD {
-            script.extend_from_slice(line.as_bytes())?;
-            script.push(b'\n')?;
-            script.extend_from_slice(&nearly(rt.alloc(), &mut dice, line)?)?;
-            lines = lines.saturating_add(2);
-        }
+        put_round(&rt, rt.alloc(), &mut dice, &mut script);
+        lines = lines.saturating_add(2 * GOOD.len() as u32);
     }
-    script.extend_from_slice(br#"{"do":"stat"}"#)?;
-    let mut reader = script.as_slice();
-    let mut writer = Vec::new(rt.alloc());
-    assert!(rt; play(rt.alloc(), &mut reader, &mut writer, shape_of(&rt, 2)).is_ok());
-    let Ok(replies) = std::str::from_utf8(&writer) else {
-        return Err("the replies are text")?;
-    };
-    judge(&rt, rt.alloc(), lines, replies)
+    put(&rt, &mut script, br#"{"do":"stat"}"#);
+    let replies = replies_to(&rt, rt.alloc(), 2, &script);
+    let replies = std::str::from_utf8(&replies).expect(&rt, "the replies are text");
+    judge(&rt, rt.alloc(), lines, replies);
 }

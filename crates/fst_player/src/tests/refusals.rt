@@ -1,12 +1,13 @@
 //! Each refusal of each line that a script can meet, in the order of the lines.
 
-use crate::tests::{plays_over, plays_rows};
+use crate::tests::{plays_over, plays_rows, put, put_line};
 use fst_types::Shape;
-use std::test::Fail;
+use std::alloc::Global;
+use std::process::Abort;
 
 // A block that is not there, in each line that names one. A line whose block is not there is refused so before all else.
 #[test]
-fn no_such_block(rt: HostRuntime) -> Result<(), Fail> {
+fn no_such_block(rt: HostRuntime) {
     plays_rows(
         &rt,
         rt.alloc(),
@@ -24,12 +25,12 @@ fn no_such_block(rt: HostRuntime) -> Result<(), Fail> {
             (r#"{"do":"crash","finish":[4]}"#, "refused 3"),
             (r#"{"do":"crash","finish":[4294967295]}"#, "refused 3"),
         ],
-    )
+    );
 }
 
 // A patch that was never made, in each line that names one.
 #[test]
-fn no_such_patch(rt: HostRuntime) -> Result<(), Fail> {
+fn no_such_patch(rt: HostRuntime) {
     plays_rows(
         &rt,
         rt.alloc(),
@@ -47,12 +48,12 @@ fn no_such_patch(rt: HostRuntime) -> Result<(), Fail> {
             (r#"{"do":"depend","gate":1,"on":[2]}"#, "refused 5"),
             (r#"{"do":"stat"}"#, "stat made 1 live 1 undo 0 flights 0"),
         ],
-    )
+    );
 }
 
 // A number that is no gate's, and one that is forgotten; both say so before the gate's being sealed.
 #[test]
-fn no_gate(rt: HostRuntime) -> Result<(), Fail> {
+fn no_gate(rt: HostRuntime) {
     plays_rows(
         &rt,
         rt.alloc(),
@@ -73,12 +74,12 @@ fn no_gate(rt: HostRuntime) -> Result<(), Fail> {
             (r#"{"do":"seal","gate":3}"#, "refused 6"),
             (r#"{"do":"depend","gate":3,"on":[2]}"#, "refused 6"),
         ],
-    )
+    );
 }
 
 // Of a block: nothing is ready, a write is out, it has not failed, it has a change that is not on disk.
 #[test]
-fn state_of_a_block(rt: HostRuntime) -> Result<(), Fail> {
+fn state_of_a_block(rt: HostRuntime) {
     plays_rows(
         &rt,
         rt.alloc(),
@@ -105,38 +106,61 @@ fn state_of_a_block(rt: HostRuntime) -> Result<(), Fail> {
             (r#"{"do":"crash","finish":[1,4]}"#, "refused 14"),
             (r#"{"do":"crash","finish":[4,1]}"#, "refused 3"),
         ],
-    )
+    );
+}
+
+// A change of the first byte of a block, and its reply.
+fn put_change(
+    rt: &impl Abort,
+    alloc: Global,
+    script: &mut Vec<u8>,
+    replies: &mut Vec<u8>,
+    block: u32,
+) {
+    let number = block.saturating_add(1);
+    let line = format!(in alloc; "{{\"do\":\"patch\",\"block\":{block},\"at\":0,\"data\":\"41\"}}");
+    put_line(rt, script, &line.expect(rt, "there is memory"));
+    let reply = format!(in alloc; "patch {number} hard");
+    put_line(rt, replies, &reply.expect(rt, "there is memory"));
+}
+
+// A write of a block of one byte, and its reply.
+fn put_write(
+    rt: &impl Abort,
+    alloc: Global,
+    script: &mut Vec<u8>,
+    replies: &mut Vec<u8>,
+    block: u32,
+) {
+    let number = block.saturating_add(1);
+    let line = format!(in alloc; "{{\"do\":\"write\",\"block\":{block}}}");
+    put_line(rt, script, &line.expect(rt, "there is memory"));
+    let reply = format!(in alloc; "flight {number} block {block} patches {number} image 41");
+    put_line(rt, replies, &reply.expect(rt, "there is memory"));
 }
 
 // 64 writes are out, and the block of another may be written.
 #[test]
-fn all_flights(rt: HostRuntime) -> Result<(), Fail> {
+fn all_flights(rt: HostRuntime) {
     let alloc = rt.alloc();
     let mut script = Vec::new(alloc);
     let mut replies = Vec::new(alloc);
-    for block in 0..65u32 {
-        let number = block + 1;
-        script.extend_from_slice(format!(in alloc;
-            "{{\"do\":\"patch\",\"block\":{block},\"at\":0,\"data\":\"41\"}}\n"
-        )?.as_bytes())?;
-        replies.extend_from_slice(format!(in alloc; "patch {number} hard\n")?.as_bytes())?;
+    for block in 0..65 {
+        put_change(&rt, alloc, &mut script, &mut replies, block);
     }
-    for block in 0..64u32 {
-        let number = block + 1;
-        script.extend_from_slice(format!(in alloc;
-            "{{\"do\":\"write\",\"block\":{block}}}\n"
-        )?.as_bytes())?;
-        replies.extend_from_slice(format!(in alloc;
-            "flight {number} block {block} patches {number} image 41\n"
-        )?.as_bytes())?;
+    for block in 0..64 {
+        put_write(&rt, alloc, &mut script, &mut replies, block);
     }
-    script.extend_from_slice(
+    put(
+        &rt,
+        &mut script,
         b"{\"do\":\"pick\"}\n{\"do\":\"write\",\"block\":64}\n{\"do\":\"done\",\"ticket\":1}\n{\"do\":\"write\",\"block\":64}\n",
-    )?;
-    replies.extend_from_slice(
+    );
+    put(
+        &rt,
+        &mut replies,
         b"pick 64\nrefused 16 flights\ndone 1 block 0\nflight 65 block 64 patches 65 image 41\n",
-    )?;
+    );
     let shape = Shape::new(65, 1, 65).expect(&rt, "the shape is within its limits");
     plays_over(&rt, alloc, shape, &script, &replies);
-    Ok(())
 }

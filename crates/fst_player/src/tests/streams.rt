@@ -4,11 +4,11 @@ ghost use Rattle.std.specs.Prelude.{◌≡◌, Some};
 
 use crate::play::{PlayFault, play};
 use crate::tests::rows::CYCLE_OF_BLOCKS;
-use crate::tests::{plays_to, shape_of};
+use crate::tests::{plays_to, put, put_line, shape_of};
 use std::alloc::Global;
 use std::io;
 use std::io::{BufWriter, Read, Write};
-use std::test::Fail;
+use std::process::Abort;
 
 const SCRIPT: &[u8] =
     b"{\"do\":\"pat\n{\"do\":\"fly\"}\n{\"do\":\"patch\",\"block\":0,\"at\":0,\"data\":\"4\"}\n\n{\"do\":";
@@ -135,17 +135,16 @@ impl Write for Counting {
 }
 
 #[test]
-fn no_input(rt: HostRuntime) -> Result<(), Fail> {
+fn no_input(rt: HostRuntime) {
     let mut reader: &[u8] = b"";
     let mut writer = Vec::new(rt.alloc());
     let shape = shape_of(&rt, 4);
     assert!(rt; play(rt.alloc(), &mut reader, &mut writer, shape).is_ok());
     assert!(rt; writer.is_empty());
-    Ok(())
 }
 
 #[test]
-fn one_piece_or_many(rt: HostRuntime) -> Result<(), Fail> {
+fn one_piece_or_many(rt: HostRuntime) {
     let shape = shape_of(&rt, 4);
     let mut whole = SCRIPT;
     let mut writer = Vec::new(rt.alloc());
@@ -162,11 +161,10 @@ fn one_piece_or_many(rt: HostRuntime) -> Result<(), Fail> {
     assert!(rt; play(rt.alloc(), &mut single, &mut narrow, shape).is_ok());
     let Narrow { held, room: _ } = narrow;
     assert_eq!(rt; held.as_slice(), REPLIES);
-    Ok(())
 }
 
 #[test]
-fn failing_reader(rt: HostRuntime) -> Result<(), Fail> {
+fn failing_reader(rt: HostRuntime) {
     let mut reader = Single {
         rest: SCRIPT,
         fails: true,
@@ -180,11 +178,10 @@ fn failing_reader(rt: HostRuntime) -> Result<(), Fail> {
         )
     );
     assert_eq!(rt; writer.as_slice(), &REPLIES[..40]);
-    Ok(())
 }
 
 #[test]
-fn failing_writer(rt: HostRuntime) -> Result<(), Fail> {
+fn failing_writer(rt: HostRuntime) {
     let shape = shape_of(&rt, 4);
     for room in 0..REPLIES.len() {
         let mut reader = Single {
@@ -204,74 +201,83 @@ fn failing_writer(rt: HostRuntime) -> Result<(), Fail> {
         let Narrow { held, room: _ } = writer;
         assert_eq!(rt; held.as_slice(), &REPLIES[..room]);
     }
-    Ok(())
+}
+
+// Plays whole lines and a part of one, which is no JSON.
+fn plays_part(rt: &impl Abort, alloc: Global, script: &[u8], replies: &[u8], part: &[u8]) {
+    let mut cut = Vec::new(alloc);
+    put(rt, &mut cut, script);
+    put(rt, &mut cut, part);
+    let mut told = Vec::new(alloc);
+    put(rt, &mut told, replies);
+    put(rt, &mut told, b"refused 1\n");
+    plays_to(rt, alloc, 4, &cut, &told);
 }
 
 // A script cut at each byte: its whole lines are answered as they were, and a part of a line is no JSON.
 #[test]
-fn cut_at_each_byte(rt: HostRuntime) -> Result<(), Fail> {
+fn cut_at_each_byte(rt: HostRuntime) {
     let mut script = Vec::new(rt.alloc());
     let mut replies = Vec::new(rt.alloc());
     for (line, reply) in CYCLE_OF_BLOCKS {
         for end in 1..line.len() {
-            let mut part = script.clone()?;
-            part.extend_from_slice(&line.as_bytes()[..end])?;
-            let mut told = replies.clone()?;
-            told.extend_from_slice(b"refused 1\n")?;
-            plays_to(&rt, rt.alloc(), 4, &part, &told);
+            plays_part(&rt, rt.alloc(), &script, &replies, &line.as_bytes()[..end]);
         }
-        script.extend_from_slice(line.as_bytes())?;
-        replies.extend_from_slice(reply.as_bytes())?;
-        replies.push(b'\n')?;
+        put(&rt, &mut script, line.as_bytes());
+        put_line(&rt, &mut replies, reply);
         plays_to(&rt, rt.alloc(), 4, &script, &replies);
-        script.push(b'\n')?;
+        put(&rt, &mut script, b"\n");
     }
-    Ok(())
 }
 
 // What the script that makes a cycle of two blocks has, and its replies.
-fn cycle_of_blocks(alloc: Global) -> Result<(Vec<u8>, Vec<u8>), Fail> {
+fn cycle_of_blocks(rt: &impl Abort, alloc: Global) -> (Vec<u8>, Vec<u8>) {
     let mut script = Vec::new(alloc);
     let mut replies = Vec::new(alloc);
     for (line, reply) in CYCLE_OF_BLOCKS {
-        script.extend_from_slice(line.as_bytes())?;
-        script.push(b'\n')?;
-        replies.extend_from_slice(reply.as_bytes())?;
-        replies.push(b'\n')?;
+        put_line(rt, &mut script, line);
+        put_line(rt, &mut replies, reply);
     }
-    Ok((script, replies))
+    (script, replies)
+}
+
+// A writer that stops after so many bytes has these, and nothing more.
+fn stops(rt: &impl Abort, alloc: Global, script: &[u8], then: NoRoom, written: &[u8]) {
+    let mut reader = script;
+    let mut writer = Stopping {
+        held: Vec::new(alloc),
+        room: written.len(),
+        then,
+    };
+    let played = play(alloc, &mut reader, &mut writer, shape_of(rt, 4));
+    assert!(rt; matches!(played, Err(PlayFault::Write)));
+    assert_eq!(rt; writer.held.as_slice(), written);
 }
 
 // After one error of the writer, or a write of no byte, nothing more is written.
 #[test]
-fn writer_that_stops_once(rt: HostRuntime) -> Result<(), Fail> {
-    let (script, replies) = cycle_of_blocks(rt.alloc())?;
+fn writer_that_stops_once(rt: HostRuntime) {
+    let (script, replies) = cycle_of_blocks(&rt, rt.alloc());
     for then in [NoRoom::TakesNothing, NoRoom::FailsOnce] {
         for room in 0..replies.len() {
-            let mut reader = script.as_slice();
-            let mut writer = Stopping {
-                held: Vec::new(rt.alloc()),
-                room,
-                then,
-            };
-            let played = play(rt.alloc(), &mut reader, &mut writer, shape_of(&rt, 4));
-            assert!(rt; matches!(played, Err(PlayFault::Write)));
-            assert_eq!(rt; writer.held.as_slice(), &replies[..room]);
+            stops(&rt, rt.alloc(), &script, then, &replies[..room]);
         }
     }
-    Ok(())
 }
 
 // Wherever the reader fails, a buffer before the writer holds nothing back: the next line may wait for the replies.
 #[test]
-fn replies_before_the_next_read(rt: HostRuntime) -> Result<(), Fail> {
+fn replies_before_the_next_read(rt: HostRuntime) {
     let mut ended = 0;
     for (end, byte) in SCRIPT.iter().enumerate() {
         let mut reader = Single {
             rest: &SCRIPT[..end],
             fails: true,
         };
-        let mut writer = BufWriter::new(rt.alloc(), Vec::new(rt.alloc()))?;
+        let mut writer = BufWriter::new(rt.alloc(), Vec::new(rt.alloc())).expect(
+            &rt,
+            "there is memory",
+        );
         let played = play(rt.alloc(), &mut reader, &mut writer, shape_of(&rt, 4));
         assert!(rt; matches!(played, Err(PlayFault::Read)));
         assert!(rt; writer.buffer().is_empty());
@@ -280,29 +286,27 @@ fn replies_before_the_next_read(rt: HostRuntime) -> Result<(), Fail> {
             ended = ended.saturating_add(b"refused 1\n".len());
         }
     }
-    Ok(())
 }
 
 // Behind a buffer, one write for the lines of a piece, and one for a last line without an end.
 #[test]
-fn one_write_a_piece(rt: HostRuntime) -> Result<(), Fail> {
+fn one_write_a_piece(rt: HostRuntime) {
     let counting = Counting {
         held: Vec::new(rt.alloc()),
         writes: 0,
         fails_to_flush: false,
     };
     let mut reader = SCRIPT;
-    let mut writer = BufWriter::new(rt.alloc(), counting)?;
+    let mut writer = BufWriter::new(rt.alloc(), counting).expect(&rt, "there is memory");
     assert!(rt; play(rt.alloc(), &mut reader, &mut writer, shape_of(&rt, 4)).is_ok());
     assert!(rt; writer.buffer().is_empty());
     assert_eq!(rt; writer.get_ref().held.as_slice(), REPLIES);
     assert_eq!(rt; writer.get_ref().writes, 2);
-    Ok(())
 }
 
 // A writer that took the replies and can not be flushed has failed.
 #[test]
-fn failing_flush(rt: HostRuntime) -> Result<(), Fail> {
+fn failing_flush(rt: HostRuntime) {
     let mut reader = SCRIPT;
     let mut writer = Counting {
         held: Vec::new(rt.alloc()),
@@ -312,5 +316,4 @@ fn failing_flush(rt: HostRuntime) -> Result<(), Fail> {
     let played = play(rt.alloc(), &mut reader, &mut writer, shape_of(&rt, 4));
     assert!(rt; matches!(played, Err(PlayFault::Write)));
     assert_eq!(rt; writer.held.as_slice(), &REPLIES[..40]);
-    Ok(())
 }

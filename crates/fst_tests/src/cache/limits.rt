@@ -1,79 +1,85 @@
 //! The limits, where memory is ample: what may be had is had, and what is past a limit is refused for it.
 
-use crate::cache::{issue_refused, issued, patched, settled};
-use fst_cache::Cache;
-use fst_device::MemorySlot;
+use crate::cache::checked::Checked;
+use crate::same::same_count;
+use fst_device::{Job, MemorySlot};
 use fst_types::{BlockNo, Fault, Grade, PatchNo, Settled, Shape, What};
 use std::alloc::Global;
-use std::test::Fail;
+use std::process::Abort;
+
+const FIRST: PatchNo = PatchNo(1);
 
 // A cache of so many blocks of so many bytes, all of which may be in memory.
-fn cache_of(alloc: Global, blocks: u32, size: u32) -> Result<Cache<MemorySlot>, Fail> {
-    let Ok(shape) = Shape::new(blocks, size, blocks) else {
-        return Err("shape")?;
-    };
+fn cache_of(rt: &impl Abort, alloc: Global, blocks: u32, size: u32) -> Checked {
     let mut slots = Vec::new(alloc);
     for block in 0..blocks {
-        let bytes = vec![in alloc; 0u8; size as usize]?;
-        slots.push(MemorySlot::new(BlockNo(block), bytes))?;
+        let bytes = vec![in alloc; 0u8; size as usize].expect(rt, "there is memory");
+        let slot = MemorySlot::new(BlockNo(block), bytes);
+        slots.push(slot).expect(rt, "there is memory");
     }
-    let Ok(cache) = Cache::open(alloc, shape, slots) else {
-        return Err("open")?;
-    };
-    Ok(cache)
+    Checked::open(rt, alloc, Shape::new(blocks, size, blocks).ok(), slots)
+}
+
+// A change of each block.
+fn change_each(rt: &impl Abort, cache: &mut Checked, blocks: u32) {
+    for block in 0..blocks {
+        let no = PatchNo(block.saturating_add(1));
+        cache.patch(rt, block, 0, b"A", &[], Ok((no, Grade::Hard)));
+    }
+}
+
+// Sends out so many blocks.
+fn send_each(
+    rt: &impl Abort,
+    alloc: Global,
+    cache: &mut Checked,
+    blocks: u32,
+) -> Vec<Job<MemorySlot>> {
+    let mut jobs = Vec::new(alloc);
+    for block in 0..blocks {
+        jobs.push(cache.issue(rt, block))
+            .expect(rt, "there is memory");
+    }
+    jobs
 }
 
 #[test]
-fn flights_at_once(rt: HostRuntime) -> Result<(), Fail> {
-    let mut cache = cache_of(rt.alloc(), 65, 1)?;
-    let mut share = cache.share();
-    for block in 0..65 {
-        patched(&mut cache, &mut share, block, 0, b"A", &[])?;
-    }
-    let mut jobs = Vec::new(rt.alloc());
-    for block in 0..64 {
-        jobs.push(issued(&mut cache, block)?)?;
-    }
-    assert_eq!(rt; issue_refused(&mut cache, 64)?, Fault::Full(What::Flights));
-    assert_eq!(rt; cache.stat().flights, 64);
-    let Some(job) = jobs.pop() else {
-        return Err("no job")?;
-    };
-    assert_eq!(rt; settled(&mut cache, job)?, Settled::Landed);
-    assert!(rt; cache.issue(BlockNo(64)).is_ok());
-    Ok(())
+fn flights_at_once(rt: HostRuntime) {
+    let mut cache = cache_of(&rt, rt.alloc(), 65, 1);
+    change_each(&rt, &mut cache, 65);
+    let mut jobs = send_each(&rt, rt.alloc(), &mut cache, 64);
+    cache.issue_refused(&rt, 64, Fault::Full(What::Flights));
+    same_count(&rt, cache.stat().flights as usize, 64);
+    let job = jobs.pop().expect(&rt, "a job");
+    cache.settle(&rt, job, Settled::Landed);
+    cache.issue(&rt, 64);
 }
 
 #[test]
-fn greatest_shape(rt: HostRuntime) -> Result<(), Fail> {
-    let mut cache = cache_of(rt.alloc(), 4096, 4096)?;
-    let mut share = cache.share();
-    let bytes = vec![in rt.alloc(); 65u8; 4096]?;
-    let gate = cache.gate(&mut share);
-    assert!(rt; gate == Ok(PatchNo(1)));
-    let made = patched(&mut cache, &mut share, 4095, 0, &bytes, &[PatchNo(1)])?;
-    assert!(rt; made == (PatchNo(2), Grade::Soft));
-    assert_eq!(rt; cache.stat().undo, 4096);
-    match cache.show(BlockNo(4095)) {
-        Ok(shown) => assert!(rt; shown == bytes.as_slice()),
-        Err(_) => return Err("show")?,
-    }
-    Ok(())
+fn greatest_shape(rt: HostRuntime) {
+    let mut cache = cache_of(&rt, rt.alloc(), 4096, 4096);
+    let bytes = vec![in rt.alloc(); 65u8; 4096].expect(&rt, "there is memory");
+    cache.gate(&rt, Ok(FIRST));
+    cache.patch(
+        &rt,
+        4095,
+        0,
+        &bytes,
+        &[FIRST],
+        Ok((PatchNo(2), Grade::Soft)),
+    );
+    same_count(&rt, cache.stat().undo as usize, 4096);
+    cache.shows(&rt, 4095, &bytes);
 }
 
 #[test]
-fn names_at_once(rt: HostRuntime) -> Result<(), Fail> {
-    let mut cache = cache_of(rt.alloc(), 1, 1)?;
-    let mut share = cache.share();
-    assert!(rt; cache.gate(&mut share) == Ok(PatchNo(1)));
-    let names = [PatchNo(1); 65];
-    let made = patched(&mut cache, &mut share, 0, 0, b"A", &names[..64])?;
-    assert!(rt; made == (PatchNo(2), Grade::Soft));
-    let refused = cache.patch(&mut share, BlockNo(0), 0, b"B", &names);
-    assert!(rt; refused == Err(Fault::BadField));
-    assert!(rt; cache.empty(&mut share, &names) == Err(Fault::BadField));
-    assert!(rt; cache.depend(PatchNo(1), &names) == Err(Fault::BadField));
-    assert!(rt; cache.empty(&mut share, &names[..64]) == Ok(PatchNo(3)));
-    assert_eq!(rt; share.made(), 3);
-    Ok(())
+fn names_at_once(rt: HostRuntime) {
+    let mut cache = cache_of(&rt, rt.alloc(), 1, 1);
+    cache.gate(&rt, Ok(FIRST));
+    cache.patch(&rt, 0, 0, b"A", &[FIRST; 64], Ok((PatchNo(2), Grade::Soft)));
+    cache.patch(&rt, 0, 0, b"B", &[FIRST; 65], Err(Fault::BadField));
+    cache.empty(&rt, &[FIRST; 65], Err(Fault::BadField));
+    cache.depend(&rt, 1, &[FIRST; 65], Err(Fault::BadField));
+    cache.empty(&rt, &[FIRST; 64], Ok(PatchNo(3)));
+    cache.made(&rt, 3);
 }

@@ -1,102 +1,102 @@
 //! Completions that are of no write that is out: each is handed back as it was, and nothing changes.
 
-use crate::cache::{handed_back, issued, patched, settled, zero_slot, zeros};
-use fst_cache::{Cache, Stat};
-use fst_device::{Arm, Done, Job, MemorySlot, carry};
-use fst_types::{BlockNo, Fault, Settled, Ticket};
+use crate::cache::checked::Checked;
+use crate::cache::{forged, zeros};
+use crate::same::{same_stat, same_ticket};
+use fst_cache::Stat;
+use fst_device::{Arm, Job, MemorySlot};
+use fst_types::{Grade, PatchNo, Settled};
 use std::alloc::Global;
 use std::process::Abort;
-use std::test::Fail;
-
-// A completion that no cache sent out, of an image with these two bytes at its start.
-fn forged(
-    alloc: Global,
-    ticket: u64,
-    block: u32,
-    bytes: [u8; 2],
-) -> Result<Done<MemorySlot>, Fail> {
-    let mut image = vec![in alloc; 0u8; 4]?;
-    image[0] = bytes[0];
-    image[1] = bytes[1];
-    let slot = zero_slot(alloc, block)?;
-    Ok(carry(Job::new(Ticket(ticket), BlockNo(block), image, slot)))
-}
 
 // The cache hands such a completion back as it came, and counts what it counted.
 fn is_handed_back(
     rt: &impl Abort,
     alloc: Global,
-    cache: &mut Cache<MemorySlot>,
+    cache: &mut Checked,
     ticket: u64,
     block: u32,
     bytes: [u8; 2],
-) -> Result<(), Fail> {
+) {
     let before = cache.stat();
-    let (done, fault) = handed_back(cache, forged(alloc, ticket, block, bytes)?)?;
-    assert_eq!(rt; fault, Fault::Stranger);
-    assert_eq!(rt; fault.number(), 14);
-    assert_eq!(rt;
-        (done.ticket(), done.block()),
-        (Ticket(ticket), BlockNo(block))
-    );
-    assert!(rt; done.image() == [bytes[0], bytes[1], 0, 0].as_slice());
-    assert_eq!(rt; cache.stat(), before);
-    Ok(())
+    let done = forged(rt, alloc, ticket, block, bytes);
+    cache.hand_back(rt, done, ticket, block, &[bytes[0], bytes[1], 0, 0]);
+    same_stat(rt, cache.stat(), before);
+}
+
+// The same of each of some, by ticket, block and bytes.
+fn are_handed_back(
+    rt: &impl Abort,
+    alloc: Global,
+    cache: &mut Checked,
+    forgeries: &[(u64, u32, [u8; 2])],
+) {
+    for (ticket, block, bytes) in forgeries {
+        is_handed_back(rt, alloc, cache, *ticket, *block, *bytes);
+    }
 }
 
 // Both blocks are out: block 0 under ticket 1 with A, block 1 under ticket 2 with B.
-fn both_out(alloc: Global) -> Result<(Cache<MemorySlot>, Job<MemorySlot>, Job<MemorySlot>), Fail> {
-    let mut cache = zeros(alloc)?;
-    let mut share = cache.share();
-    patched(&mut cache, &mut share, 0, 0, b"A", &[])?;
-    patched(&mut cache, &mut share, 1, 0, b"B", &[])?;
-    let first = issued(&mut cache, 0)?;
-    let second = issued(&mut cache, 1)?;
-    Ok((cache, first, second))
+fn both_out(rt: &impl Abort, alloc: Global) -> (Checked, Job<MemorySlot>, Job<MemorySlot>) {
+    let mut cache = zeros(rt, alloc);
+    cache.patch(rt, 0, 0, b"A", &[], Ok((PatchNo(1), Grade::Hard)));
+    cache.patch(rt, 1, 0, b"B", &[], Ok((PatchNo(2), Grade::Hard)));
+    let first = cache.issue(rt, 0);
+    let second = cache.issue(rt, 1);
+    (cache, first, second)
 }
 
+// Ticket 0, a ticket of another block, another block's image, another image, a slot of another index.
+const STRANGERS: [(u64, u32, [u8; 2]); 7] = [
+    (0, 0, [b'A', 0]),
+    (2, 0, [b'A', 0]),
+    (1, 0, [b'B', 0]),
+    (1, 0, [b'A', b'A']),
+    (1, 1, [b'A', 0]),
+    (1, 4_294_967_295, [b'A', 0]),
+    (u64::MAX, 1, [b'B', 0]),
+];
+
 #[test]
-fn strangers(rt: HostRuntime) -> Result<(), Fail> {
-    let alloc = rt.alloc();
-    let (mut cache, first, second) = both_out(alloc)?;
+fn strangers(rt: HostRuntime) {
+    let (mut cache, first, second) = both_out(&rt, rt.alloc());
     let out = Stat {
         made: 2,
         live: 2,
         undo: 0,
         flights: 2,
     };
-    assert_eq!(rt; cache.stat(), out);
-    // Ticket 0, a ticket of another block, another block's image, another image, a slot of another index.
-    is_handed_back(&rt, alloc, &mut cache, 0, 0, [b'A', 0])?;
-    is_handed_back(&rt, alloc, &mut cache, 2, 0, [b'A', 0])?;
-    is_handed_back(&rt, alloc, &mut cache, 1, 0, [b'B', 0])?;
-    is_handed_back(&rt, alloc, &mut cache, 1, 0, [b'A', b'A'])?;
-    is_handed_back(&rt, alloc, &mut cache, 1, 1, [b'A', 0])?;
-    is_handed_back(&rt, alloc, &mut cache, 1, 4_294_967_295, [b'A', 0])?;
-    is_handed_back(&rt, alloc, &mut cache, u64::MAX, 1, [b'B', 0])?;
-    assert_eq!(rt; settled(&mut cache, first)?, Settled::Landed);
+    cache.counts(&rt, out);
+    are_handed_back(&rt, rt.alloc(), &mut cache, &STRANGERS);
+    cache.settle(&rt, first, Settled::Landed);
     // A ticket that landed.
-    is_handed_back(&rt, alloc, &mut cache, 1, 0, [b'A', 0])?;
-    assert_eq!(rt; settled(&mut cache, second)?, Settled::Landed);
-    is_handed_back(&rt, alloc, &mut cache, 2, 1, [b'B', 0])
+    is_handed_back(&rt, rt.alloc(), &mut cache, 1, 0, [b'A', 0]);
+    cache.settle(&rt, second, Settled::Landed);
+    is_handed_back(&rt, rt.alloc(), &mut cache, 2, 1, [b'B', 0]);
+}
+
+// A cache whose block 0 is out again, under ticket 3, after its first write failed, and both jobs.
+fn sent_again(rt: &impl Abort, alloc: Global) -> (Checked, Job<MemorySlot>, Job<MemorySlot>) {
+    let (mut cache, mut first, second) = both_out(rt, alloc);
+    first.arm(Arm::WriteFailsBefore);
+    cache.settle(rt, first, Settled::Stalled);
+    // The completion came back, so there is none to come.
+    is_handed_back(rt, alloc, &mut cache, 1, 0, [b'A', 0]);
+    let again = cache.retry(rt, 0);
+    same_ticket(rt, again.ticket(), 3);
+    (cache, again, second)
 }
 
 #[test]
-fn old_ticket_after_a_retry(rt: HostRuntime) -> Result<(), Fail> {
-    let alloc = rt.alloc();
-    let (mut cache, mut first, second) = both_out(alloc)?;
-    first.arm(Arm::WriteFailsBefore);
-    assert_eq!(rt; settled(&mut cache, first)?, Settled::Stalled);
-    // The completion came back, so there is none to come.
-    is_handed_back(&rt, alloc, &mut cache, 1, 0, [b'A', 0])?;
-    let Ok(again) = cache.retry(BlockNo(0)) else {
-        return Err("retry")?;
-    };
-    assert_eq!(rt; again.ticket(), Ticket(3));
-    is_handed_back(&rt, alloc, &mut cache, 1, 0, [b'A', 0])?;
-    is_handed_back(&rt, alloc, &mut cache, 4, 0, [b'A', 0])?;
-    assert_eq!(rt; settled(&mut cache, again)?, Settled::Landed);
-    is_handed_back(&rt, alloc, &mut cache, 3, 0, [b'A', 0])?;
-    assert_eq!(rt; settled(&mut cache, second)?, Settled::Landed);
-    Ok(())
+fn old_ticket_after_a_retry(rt: HostRuntime) {
+    let (mut cache, again, second) = sent_again(&rt, rt.alloc());
+    are_handed_back(
+        &rt,
+        rt.alloc(),
+        &mut cache,
+        &[(1, 0, [b'A', 0]), (4, 0, [b'A', 0])],
+    );
+    cache.settle(&rt, again, Settled::Landed);
+    is_handed_back(&rt, rt.alloc(), &mut cache, 3, 0, [b'A', 0]);
+    cache.settle(&rt, second, Settled::Landed);
 }

@@ -4,7 +4,7 @@
 
 ghost use Rattle.std.specs.Prelude.{◌≡◌, ◌<◌};
 
-use crate::graph::same::{
+use crate::same::{
     same_answer, same_block, same_change, same_count, same_group, same_held, same_number,
     same_patches, same_place,
 };
@@ -12,6 +12,14 @@ use fst_graph::Graph;
 use fst_types::{BlockNo, Fault, Grade, GroupNo, PatchNo, Place, Shape, Span};
 use std::alloc::Global;
 use std::process::Abort;
+
+// The number of one of the four blocks.
+fn one_of_four(rt: &impl Abort, block: u32) -> BlockNo
+    ensures { result.0 < 4 }
+{
+    assert!(rt; block < 4);
+    BlockNo(block)
+}
 
 /// A graph over four blocks.
 #[derive(Drop)]
@@ -50,12 +58,10 @@ impl Checked {
         span: Span,
         after: &[PatchNo],
         expected: Result<(PatchNo, Grade), Fault>,
-    )
-        requires { block < 4 }
-    {
+    ) {
         same_change(
             rt,
-            self.graph.add_data(BlockNo(block), span, after),
+            self.graph.add_data(one_of_four(rt, block), span, after),
             expected,
         );
     }
@@ -68,9 +74,7 @@ impl Checked {
         at: u32,
         after: &[PatchNo],
         expected: Result<(PatchNo, Grade), Fault>,
-    )
-        requires { block < 4 }
-    {
+    ) {
         self.change(rt, block, Span { at, len: 1 }, after, expected);
     }
 
@@ -82,10 +86,12 @@ impl Checked {
         span: Span,
         after: &[PatchNo],
         expected: Result<(PatchNo, Grade), Fault>,
-    )
-        requires { block < 4 }
-    {
-        same_change(rt, self.graph.room(BlockNo(block), span, after), expected);
+    ) {
+        same_change(
+            rt,
+            self.graph.room(one_of_four(rt, block), span, after),
+            expected,
+        );
     }
 
     /// Seals a gate.
@@ -128,13 +134,11 @@ impl Checked {
         block: u32,
         at: u32,
         expected: Result<(PatchNo, Grade), Fault>,
-    )
-        requires { block < 4 }
-    {
+    ) {
         let span = Span { at, len: 1 };
         same_change(
             rt,
-            self.graph.group_patch(group, BlockNo(block), span),
+            self.graph.group_patch(group, one_of_four(rt, block), span),
             expected,
         );
     }
@@ -147,13 +151,11 @@ impl Checked {
         block: u32,
         at: u32,
         expected: Result<(PatchNo, Grade), Fault>,
-    )
-        requires { block < 4 }
-    {
+    ) {
         let span = Span { at, len: 1 };
         same_change(
             rt,
-            self.graph.group_room(group, BlockNo(block), span),
+            self.graph.group_room(group, one_of_four(rt, block), span),
             expected,
         );
     }

@@ -3,11 +3,11 @@
 
 ghost use Rattle.std.specs.Prelude.{◌≡◌, ◌<◌, ◌≤◌};
 
-use crate::graph::same::{
+use crate::graph::twin::Twin;
+use crate::same::{
     same_answer, same_block, same_change, same_count, same_group, same_held, same_number,
     same_patches, same_place,
 };
-use crate::graph::twin::Twin;
 use fst_graph::Graph;
 use fst_types::{BlockNo, Fault, Grade, GroupNo, PatchNo, Shape, Span};
 use std::alloc::{AllocError, Global};

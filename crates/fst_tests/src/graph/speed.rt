@@ -163,17 +163,51 @@ fn time_of_forgetting(rt: &impl Clock, wide: &mut Wide) -> Result<(u32, u128), F
     Ok((dropped, start.elapsed(rt)?.as_micros()))
 }
 
-// Prints what so many patches take, and answers whether it was long.
-fn measure(rt: &(impl Clock + Print), alloc: Global, form: Form, count: u32) -> Result<bool, Fail> {
-    let mut wide = Wide::new(alloc)?;
-    let made = time_of_making(rt, &mut wide, form, count)?;
-    let picked = time_of_picking(rt, &mut wide)?;
-    let written = time_of_writing(rt, &mut wide)?;
-    let (dropped, forgot) = time_of_forgetting(rt, &mut wide)?;
+/// What a graph took, in milliseconds, and in microseconds where it is told once.
+#[derive(Clone, Copy)]
+struct Times {
+    made: u128,
+    picked: u128,
+    written: u128,
+    dropped: u32,
+    forgot: u128,
+}
+
+// What a graph without patches takes for so many.
+fn times_of(rt: &impl Clock, wide: &mut Wide, form: Form, count: u32) -> Result<Times, Fail> {
+    let made = time_of_making(rt, wide, form, count)?;
+    let picked = time_of_picking(rt, wide)?;
+    let written = time_of_writing(rt, wide)?;
+    let (dropped, forgot) = time_of_forgetting(rt, wide)?;
+    Ok(Times {
+        made,
+        picked,
+        written,
+        dropped,
+        forgot,
+    })
+}
+
+fn print(rt: &impl Print, form: Form, count: u32, times: Times) -> Result<(), Fail> {
+    let Times {
+        made,
+        picked,
+        written,
+        dropped,
+        forgot,
+    } = times;
     println!(rt;
         "{form:?} of {count}: made in {made} ms, a pick {picked} us, written in {written} ms, {dropped} forgotten in {forgot} us"
     )?;
-    Ok(made > MOST || written > MOST)
+    Ok(())
+}
+
+// Prints what so many patches take, and answers whether it was long.
+fn measure(rt: &(impl Clock + Print), alloc: Global, form: Form, count: u32) -> Result<bool, Fail> {
+    let mut wide = Wide::new(alloc)?;
+    let times = times_of(rt, &mut wide, form, count)?;
+    print(rt, form, count, times)?;
+    Ok(times.made > MOST || times.written > MOST)
 }
 
 // Count after count, until one takes long.

@@ -2,6 +2,7 @@
 //! group is left, each group that it comes after is closed, and all its changes are left.
 
 use std::alloc::{AllocError, Global};
+use std::process::Abort;
 
 /// A change of a group, of one byte of a block; the text is that byte's.
 #[derive(Clone, Copy)]
@@ -42,6 +43,25 @@ pub struct Plain {
     // Which group comes after which one, in one call or through other groups.
     order: Vec<(u32, u32)>,
     out: Vec<u32>,
+}
+
+// Puts a list to the others.
+fn keep(rt: &impl Abort, sets: &mut Vec<String>, set: Result<String, AllocError>) {
+    sets.push(set.expect(rt, "there is memory"))
+        .expect(rt, "there is memory");
+}
+
+// Each list, and then each with the block behind it.
+fn with_block(rt: &impl Abort, alloc: Global, sets: &[String], block: u32) -> Vec<String> {
+    let mut more = Vec::new(alloc);
+    for set in sets {
+        keep(rt, &mut more, format!(in alloc; "{set}"));
+    }
+    for set in sets {
+        let comma = if set.is_empty() { "" } else { "," };
+        keep(rt, &mut more, format!(in alloc; "{set}{comma}{block}"));
+    }
+    more
 }
 
 impl Plain {
@@ -110,21 +130,13 @@ impl Plain {
     }
 
     /// The lists of blocks, as a line has them, of each set of writes that are out: the last set has them all.
-    pub fn sets(&self, alloc: Global) -> Result<Vec<String>, AllocError> {
+    pub fn sets(&self, rt: &impl Abort, alloc: Global) -> Vec<String> {
         let mut sets = Vec::new(alloc);
-        sets.push(format!(in alloc; "")?)?;
+        keep(rt, &mut sets, format!(in alloc; ""));
         for block in &self.out {
-            let mut more = Vec::new(alloc);
-            for set in &sets {
-                more.push(format!(in alloc; "{set}")?)?;
-            }
-            for set in &sets {
-                let comma = if set.is_empty() { "" } else { "," };
-                more.push(format!(in alloc; "{set}{comma}{block}")?)?;
-            }
-            sets = more;
+            sets = with_block(rt, alloc, &sets, *block);
         }
-        Ok(sets)
+        sets
     }
 
     // Whether the crash leaves any change of the group.

@@ -1,7 +1,8 @@
 //! One comparison for each type of answer. An `assert_eq!` in a test is proved with all that the test knows so far, and
 //! for a type such as `Result<(PatchNo, Grade), Fault>` that is long: here it is proved once.
 
-use fst_types::{BlockNo, Fault, Grade, GroupNo, PatchNo, Place};
+use fst_cache::Stat;
+use fst_types::{BlockNo, Fault, Grade, GroupNo, PatchNo, Place, Settled, Ticket};
 use std::process::Abort;
 
 /// The number of a new patch.
@@ -60,4 +61,29 @@ pub fn same_place(rt: &impl Abort, no: PatchNo, place: Option<Place>, expected: 
 /// How many there are.
 pub fn same_count(rt: &impl Abort, count: usize, expected: usize) {
     assert_eq!(rt; count, expected);
+}
+
+/// Why a call was refused.
+pub fn same_fault(rt: &impl Abort, fault: Option<Fault>, expected: Fault) {
+    assert_eq!(rt; fault, Some(expected));
+}
+
+/// Some bytes.
+pub fn same_bytes(rt: &impl Abort, bytes: &[u8], expected: &[u8]) {
+    assert_eq!(rt; bytes, expected);
+}
+
+/// A ticket.
+pub fn same_ticket(rt: &impl Abort, ticket: Ticket, expected: u64) {
+    assert_eq!(rt; ticket.0, expected);
+}
+
+/// What came of a write.
+pub fn same_settled(rt: &impl Abort, settled: Option<Settled>, expected: Settled) {
+    assert_eq!(rt; settled, Some(expected));
+}
+
+/// What a cache counts.
+pub fn same_stat(rt: &impl Abort, stat: Stat, expected: Stat) {
+    assert_eq!(rt; stat, expected);
 }
