@@ -2,7 +2,7 @@
 use Rattle.std.proofs.Common.{◌≡◌, ◌<◌, true, false, ◌&&◌, eqb, get_or-set_same, get_or-set_other, ◌+◌, ◌++◌, ◌∷◌, [], ℕ, Bool, List, length, map, get_or, set, refl, sym, subst, ◌∙◌, arith, ◌⊎◌, ◌≤◌, Contains, ap, inl, inr}
 use Rattle.fst_types.specs.{Cascade.IsCascadeOf, Closure.IsAcyclic, Dependencies.{DirectlyOn, DependsOn, IsLiveNumber}, Facts.SparseAreLawful, Gates.IsOpenNumber, Gating.{sealed, gains}, Lists.Lists, Making.fresh}
 use Rattle.fst_types.specs.{Order.depend_order, Patches.{Change, Patch, block_of_kind}, Refusals.NoneHolds, Writable.{IsWritable, IsWritableSet}, Writing.{landed, launched}, declared.grade.Grade.Grade}
-use Rattle.fst_heads.specs.{Covers.{AreCovered, Covering, HasBytes, IsPut}, Keeps.Keeps, Rows.IsSparseRow, Standings.{NoneBelow, may_be_written}, declared.standing.Standing.Standing}
+use Rattle.fst_heads.specs.{Covers.{AreCovered, Covering, HasBytes, IsPut}, Keeps.{Beside, Keeps}, Rows.IsSparseRow, Standings.{NoneBelow, may_be_written}, declared.standing.Standing.Standing}
 use Rattle.fst_types.proofs.{Alike.{Alike, back_alike, length_alike, on_back}, Depending.{Grown, grown, length_mapped, sparse_gained}, Finite.{In-from_Contains, Contains-from_In}}
 use Rattle.fst_types.proofs.{GateGains.{In-unmap, direct_cases}, Issuing.{alike_launched, sparse_launched}, Landing.{alike_landed, sparse_landed}, NewChange.no_cycle, Sealing.{alike_sealed, sparse_sealed}}
 use Rattle.fst_heads.proofs.Covering.{covered_alike, covered_put}
@@ -16,6 +16,13 @@ module _ (old new : List Patch) (A : Alike old new) where
     inside = λ p b c on. let o = back_alike old new A p c in K.inside o.0 b o.1 (on_back o.0 p o.2 b on);
     marked = long ∙ (K.marked ∙ sym (length_alike old new A));
   }
+
+-- the walks may have other marks, as many of them
+pub keeps_walked : {heads : List Patch} {numbers blocks : ℕ} {marks marks' : List Bool} → length marks' ≡ length marks → Keeps heads numbers blocks marks → Keeps heads numbers blocks marks'
+keeps_walked long K = record { lawful = K.lawful; few = K.few; inside = K.inside; marked = long ∙ K.marked }
+
+pub beside_walked : {heads : List Patch} {blocks live : ℕ} {places places' : List Bool} → length places' ≡ length places → Beside heads blocks live places → Beside heads blocks live places'
+beside_walked long B = record { places = long ∙ B.places; counted = B.counted }
 
 pub keeps_sealed : (old new : List Patch) (numbers blocks g : ℕ) (marks marks' : List Bool) → Keeps old numbers blocks marks → IsOpenNumber old g → IsCascadeOf (map (sealed g) old) new → length marks' ≡ length marks → Keeps new numbers blocks marks'
 keeps_sealed old new numbers blocks g marks marks' K gate cascade long =

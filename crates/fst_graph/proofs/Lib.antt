@@ -10,6 +10,7 @@ pub mod Readied
 pub mod Listed
 pub mod Marking
 pub mod Settling
+pub mod Ranks
 pub mod Sound
 pub mod Shutting
 pub mod PutNow

@@ -120,9 +120,9 @@ around_kept new old e p room = (room_above new old e p.dependencies.items room.0
     below None r = tt
     below (Some x) r = room_below new old e x.tail r
 
-pub places_kept : (heads heads' capacity capacity' marks marks_capacity queue queue' : ℕ) → heads' ≡ heads → capacity' ≡ capacity → queue' ≡ queue
-    → HasPlaces heads capacity marks marks_capacity queue → HasPlaces heads' capacity' marks marks_capacity queue'
-places_kept heads heads' capacity capacity' marks marks_capacity queue queue' e f g room = rw (e, f, g) room
+pub places_kept : (heads heads' capacity capacity' marks marks_capacity below below_capacity ranks ranks_capacity queue queue' : ℕ) → heads' ≡ heads → capacity' ≡ capacity → queue' ≡ queue
+    → HasPlaces heads capacity marks marks_capacity below below_capacity ranks ranks_capacity queue → HasPlaces heads' capacity' marks marks_capacity below below_capacity ranks ranks_capacity queue'
+places_kept heads heads' capacity capacity' marks marks_capacity below below_capacity ranks ranks_capacity queue queue' e f g room = rw (e, f, g) room
 
 -- a count that is not 0 has one that passes
 one_left : (t : ℕ → Bool) (xs : List ℕ) → length (filter t xs) ≢ 0 → (x : ℕ) × In xs x × (t x ≡ true)

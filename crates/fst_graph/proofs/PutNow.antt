@@ -1,10 +1,10 @@
 -- What is prepared may be put down as it is, for a group once its head is not open; and what the fields are then.
-use Rattle.std.proofs.{Common.{◌≡◌, ◌<◌, ◌+◌, ◌++◌, ◌∷◌, [], ◌∙◌, ℕ, Option, Some, option_map, Contains, false, length, get_or, set, arith, refl, sym, ap, subst}, lemmas.List.length-map}
+use Rattle.std.proofs.{Common.{◌≡◌, ◌≤◌, ◌<◌, ◌+◌, ◌++◌, ◌∷◌, [], ◌∙◌, ℕ, Option, Some, option_map, Contains, false, length, get_or, set, arith, refl, sym, ap, subst}, lemmas.List.length-map}
 use Rattle.std.specs.Global.{Vec}
 use Rattle.fst_types.specs.{Dependencies.IsLiveNumber, Facts.SparseAreLawful, Gates.IsOpenNumber, Limits.max_heads}
 use Rattle.fst_heads.specs.{Covers.Covering, Heads.patches_of, Keeps.{Keeps, Tallies}, Lists.entry, Names.numbers_of, Nodes.{node_of, nodes_of, patches_in}, Pendings.is_pending}
 use Rattle.fst_heads.specs.{Standings.{entered, standing_of}, Tests.is_hard_kind, declared.head.Head.Head, declared.lists.Listed.Listed, declared.standing.Standing.Standing}
-use Rattle.fst_walks.specs.declared.block_walk.BlockWalk.{BlockWalk}
+use Rattle.fst_walks.specs.{Leveling.Leveling, declared.ends.Ends.Ends}
 use Rattle.fst_graph.specs.{Known.{Known, Prepared}, Ready.{change_of, prepared_of, IsReady, IsMemberReady}}
 use Rattle.fst_graph.specs.{Sound.{AreSound, IsPrepared}, declared.prepared.Gates.Gates, declared.prepared.Prepared.Prepared as Stored}
 use Rattle.fst_heads.proofs.{Added.{new_node, with_node}, AtNumber.patches_in_nodes, Stands.stand_change, Touching.keeps_change}
@@ -13,20 +13,21 @@ use Rattle.fst_graph.proofs.{Listed.{listed_change, live_dependency}, Readied.ha
 use Rattle.fst_heads.specs.declared.pending.Pending.TheVariants as pending
 
 -- the patches with the change, and what stands beside them then
-pub record IsPutDown (heads : Vec Head) (walks : BlockWalk) (lists : Vec (Vec Listed)) (covers : Vec Covering) (standings : Vec Standing) (queue : Vec ℕ) (numbers blocks : ℕ) (p : Stored) : Type 0 where
-  pub prepared : IsPrepared heads walks lists covers queue numbers blocks p
+pub record IsPutDown (heads : Vec Head) (ends : Ends) (levels : Leveling) (lists : Vec (Vec Listed)) (covers : Vec Covering) (standings : Vec Standing) (queue : Vec ℕ) (numbers blocks : ℕ) (p : Stored) : Type 0 where
+  pub prepared : IsPrepared heads ends levels lists covers queue numbers blocks p
   pub ready : IsReady (patches_of heads.items) numbers blocks p
   pub shelf : p.block < length lists.items
-  pub keeps : Keeps (patches_of heads.items ++ change_of numbers p ∷ []) (numbers + 1) blocks (walks.walk.marks ++ false ∷ [])
+  pub given : (q : ℕ) → Contains p.dependencies.items q → q ≤ numbers
+  pub keeps : Keeps (patches_of heads.items ++ change_of numbers p ∷ []) (numbers + 1) blocks (ends.up.walk.marks ++ false ∷ [])
   pub counted : (own : Standing) → own ≡ get_or standings.items p.block own → own ≡ standing_of (nodes_of heads.items) p.block
   pub tallies : (own : Standing) → Tallies (with_node (nodes_of heads.items) (change_of numbers p)) (numbers + 1) blocks
       (set (shelved lists.items) p.block (get_or (shelved lists.items) p.block [] ++ entry (change_of numbers p) ∷ []))
       (set standings.items p.block (entered (is_hard_kind (change_of numbers p).kind) (is_pending (new_node (nodes_of heads.items) (change_of numbers p)).pending (pending.Block p.block)) (get_or standings.items p.block own)))
       queue.items queue.cap
 
-module _ {heads : Vec Head} {walks : BlockWalk} {lists : Vec (Vec Listed)} {covers : Vec Covering} {standings : Vec Standing} {queue : Vec ℕ} {live unmarked numbers blocks : ℕ} {o : Option Stored}
-    (S : AreSound heads walks lists covers standings queue live unmarked numbers blocks o) where
-  pub put_down : (p : Stored) → o ≡ Some p → IsReady (patches_of heads.items) numbers blocks p → IsPutDown heads walks lists covers standings queue numbers blocks p
+module _ {heads : Vec Head} {ends : Ends} {levels : Leveling} {lists : Vec (Vec Listed)} {covers : Vec Covering} {standings : Vec Standing} {queue : Vec ℕ} {live unmarked numbers blocks : ℕ} {o : Option Stored}
+    (S : AreSound heads ends levels lists covers standings queue live unmarked numbers blocks o) where
+  pub put_down : (p : Stored) → o ≡ Some p → IsReady (patches_of heads.items) numbers blocks p → IsPutDown heads ends levels lists covers standings queue numbers blocks p
   put_down p kept ready =
       let old = patches_of heads.items in
       let nodes = nodes_of heads.items in
@@ -34,7 +35,7 @@ module _ {heads : Vec Head} {walks : BlockWalk} {lists : Vec (Vec Listed)} {cove
       let T = S.tallies in
       let free = (prepared_is S p kept).places.queue_free in
       let few : length old < max_heads = let full = ready.clear.1.1.0 in omega (arith, full) in
-      let keeps = keeps_change old numbers blocks walks.walk.marks S.keeps p.block p.span.at p.span.len (numbers_of p.names.items) p.grade p.dependencies.items ready.depends ready.inside few (hard_may p.grade _ ready.graded) in
+      let keeps = keeps_change old numbers blocks ends.up.walk.marks S.keeps p.block p.span.at p.span.len (numbers_of p.names.items) p.grade p.dependencies.items ready.depends ready.inside few (hard_may p.grade _ ready.graded) in
       let lawful = subst (λ ps. SparseAreLawful (ps ++ made ∷ []) (numbers + 1)) (sym (patches_in_nodes heads.items)) keeps.lawful in
       let live : (m : ℕ) → Contains p.dependencies.items m → IsLiveNumber (patches_in nodes) m =
       λ m h. subst (λ ps. IsLiveNumber ps m) (sym (patches_in_nodes heads.items)) (live_dependency old (numbers_of p.names.items) p.block p.span.at p.span.len m (ready.depends.only m h)) in
@@ -42,6 +43,11 @@ module _ {heads : Vec Head} {walks : BlockWalk} {lists : Vec (Vec Listed)} {cove
         prepared = prepared_is S p kept;
         ready = ready;
         shelf = let lt = ready.inside in omega (arith, lt, as_many_lists S);
+        given = λ q h.
+            let l = live_dependency old (numbers_of p.names.items) p.block p.span.at p.span.len q (ready.depends.only q h) in
+            let k = (S.keeps.lawful.one_place_each.numbered l.patch l.head).1 in
+            let e = l.numbered in
+            omega (arith, k, e);
         keeps = keeps;
         counted = λ own there. there ∙ T.standing.each p.block own ready.inside;
         tallies = λ own. tallies_made nodes numbers blocks _ _ _ _ _ _ queue.cap made (lawful_nodes heads.items numbers S.keeps.lawful) lawful T refl ready.depends.rising live
@@ -52,20 +58,20 @@ module _ {heads : Vec Head} {walks : BlockWalk} {lists : Vec (Vec Listed)} {cove
       }
 
 -- and for a group
-pub record IsPutNow (heads : Vec Head) (walks : BlockWalk) (lists : Vec (Vec Listed)) (covers : Vec Covering) (standings : Vec Standing) (queue : Vec ℕ) (numbers blocks head : ℕ) (gates : Gates) (p : Stored) : Type 0 where
-  pub down : IsPutDown heads walks lists covers standings queue numbers blocks p
+pub record IsPutNow (heads : Vec Head) (ends : Ends) (levels : Leveling) (lists : Vec (Vec Listed)) (covers : Vec Covering) (standings : Vec Standing) (queue : Vec ℕ) (numbers blocks head : ℕ) (gates : Gates) (p : Stored) : Type 0 where
+  pub down : IsPutDown heads ends levels lists covers standings queue numbers blocks p
   pub member : IsMemberReady (patches_of heads.items) numbers blocks gates p
   pub own : gates.head ≡ head
   pub closed : IsOpenNumber (patches_of heads.items) gates.head → ⊥
 
-pub put_now : {heads : Vec Head} {walks : BlockWalk} {lists : Vec (Vec Listed)} {covers : Vec Covering} {standings : Vec Standing} {queue : Vec ℕ} {live unmarked numbers blocks : ℕ} {o : Option Stored}
-    → AreSound heads walks lists covers standings queue live unmarked numbers blocks o → (p : Stored) (gates : Gates) (head : ℕ) (known : Known)
+pub put_now : {heads : Vec Head} {ends : Ends} {levels : Leveling} {lists : Vec (Vec Listed)} {covers : Vec Covering} {standings : Vec Standing} {queue : Vec ℕ} {live unmarked numbers blocks : ℕ} {o : Option Stored}
+    → AreSound heads ends levels lists covers standings queue live unmarked numbers blocks o → (p : Stored) (gates : Gates) (head : ℕ) (known : Known)
     → record { heads = patches_of heads.items; numbers = numbers; blocks = blocks; groups = []; prepared = option_map (prepared_of numbers) o } ≡ known
     → ((q : Prepared) × (known.prepared ≡ Some q) × (q.group ≡ Some head)) → (IsOpenNumber known.heads head → ⊥) → o ≡ Some p → p.gates ≡ Some gates
-    → IsPutNow heads walks lists covers standings queue numbers blocks head gates p
-put_now {heads} {walks} {lists} {covers} {standings} {queue} {live} {unmarked} {numbers} {blocks} {o} S p gates head known seen q shut kept there =
+    → IsPutNow heads ends levels lists covers standings queue numbers blocks head gates p
+put_now {heads} {ends} {levels} {lists} {covers} {standings} {queue} {live} {unmarked} {numbers} {blocks} {o} S p gates head known seen q shut kept there =
     let old = patches_of heads.items in
     let R = member_kept p gates old numbers blocks there (prepared_is S p kept).ready in
     let own = head_same o numbers q.0 head p gates (ap (λ (k : Known). k.prepared) seen ∙ q.1) q.2 kept there in
     let closed : IsOpenNumber old gates.head → ⊥ = λ t. shut (subst (λ (v : Known). IsOpenNumber v.heads head) seen (subst (IsOpenNumber old) own t)) in
-    record { down = put_down S p kept (ready_now old numbers blocks walks.walk.marks S.keeps gates p R closed); member = R; own = own; closed = closed }
+    record { down = put_down S p kept (ready_now old numbers blocks ends.up.walk.marks S.keeps gates p R closed); member = R; own = own; closed = closed }

@@ -4,19 +4,20 @@ use Rattle.std.specs.Global.{Vec}
 use Rattle.fst_types.specs.{Dependencies.IsLiveNumber, Patches.Patch}
 use Rattle.fst_heads.specs.{Ascending.IsBehind, Covers.{AreCovered, Covering}, Heads.{patch_of, patches_of, IsRising}, Keeps.IsInside, Lists.{entries_of, AreListed, entries_on}, Marks.{mark_in, mark_of}}
 use Rattle.fst_heads.specs.{Nodes.{nodes_of, AreSettled, pending_in}, Standings.{AllStand, standing_of}, declared.head.Head.Head, declared.lists.Listed.Listed, declared.standing.Standing.Standing}
-use Rattle.fst_walks.specs.{Searching.TellsGates, Sights.Sees, declared.block_walk.BlockWalk.BlockWalk, declared.sight.Sight.Sight}
+use Rattle.fst_walks.specs.{BothEnds.IsOver, Leveling.{IsLeveled, Leveling}, Searching.TellsGates, Sights.Sees, declared.block_walk.BlockWalk.BlockWalk, declared.ends.Ends.Ends, declared.sight.Sight.Sight}
 use Rattle.fst_graph.specs.{Sound.{AreSound, IsPrepared}, declared.prepared.Prepared.Prepared as Stored}
 use Rattle.fst_heads.proofs.{AtNumber.patches_in_nodes, Slots.rising_heads}
 use Rattle.fst_walks.proofs.{Behind.pending_live, Held.{heads_held, heads_live}, Resting.{listed_at, shelves}, Seen.{same_patches, tallies_wider}}
+use Rattle.fst_graph.proofs.Ranks.{along_as, leveled_as}
 use Rattle.fst_heads.specs.declared.pending.Pending.TheVariants as pending
 
-module _ {heads : Vec Head} {walks : BlockWalk} {lists : Vec (Vec Listed)} {covers : Vec Covering} {standings : Vec Standing} {queue : Vec ℕ} {live unmarked numbers blocks : ℕ} {o : Option Stored}
-    (S : AreSound heads walks lists covers standings queue live unmarked numbers blocks o) where
+module _ {heads : Vec Head} {ends : Ends} {levels : Leveling} {lists : Vec (Vec Listed)} {covers : Vec Covering} {standings : Vec Standing} {queue : Vec ℕ} {live unmarked numbers blocks : ℕ} {o : Option Stored}
+    (S : AreSound heads ends levels lists covers standings queue live unmarked numbers blocks o) where
   pub rising_sound : IsRising heads.items
   rising_sound = rising_heads heads.items S.keeps.lawful.one_place_each.rising
 
   -- as many marks as heads, as many lists as blocks, and a place for each list
-  pub as_many_marks : length walks.walk.marks ≡ length heads.items
+  pub as_many_marks : length ends.up.walk.marks ≡ length heads.items
   as_many_marks = S.keeps.marked ∙ length-map heads.items patch_of
 
   pub as_many_lists : length lists.items ≡ blocks
@@ -25,7 +26,7 @@ module _ {heads : Vec Head} {walks : BlockWalk} {lists : Vec (Vec Listed)} {cove
   pub as_many_standings : standings.len ≡ blocks
   as_many_standings = omega (arith, S.tallies.standing.long, standings.ok.0)
 
-  pub as_many_places : length walks.crossed.items ≡ length lists.items
+  pub as_many_places : length ends.up.crossed.items ≡ length lists.items
   as_many_places = S.beside.places ∙ sym as_many_lists
 
   -- what is pending tells of the open gates
@@ -35,12 +36,12 @@ module _ {heads : Vec Head} {walks : BlockWalk} {lists : Vec (Vec Listed)} {cove
       record { live = heads_live heads.items blocks rising_sound L.no_cycle L.on_disk_with_all S.tallies.settled; held = heads_held heads.items blocks rising_sound L.no_cycle L.on_disk_with_all S.tallies.settled }
 
   -- what stands beside the patches is as walks want it
-  pub sees_all : (sight : Sight) → sight.heads.now ≡ heads.items → sight.lists.now ≡ lists.items → sight.covers.now ≡ covers.items → sight.standings.now ≡ standings.items → Sees sight
-  sees_all sight h l v s =
+  pub sees_all : (sight : Sight) → sight.heads.now ≡ heads.items → sight.lists.now ≡ lists.items → sight.covers.now ≡ covers.items → sight.standings.now ≡ standings.items → sight.levels.now ≡ levels → Sees sight
+  sees_all sight h l v s r =
       let K = S.keeps in
       let T = S.tallies in
       let entries = map (λ (x : Vec Listed). entries_of x.items) lists.items in
-      rw (h, l, v, s) (record {
+      rw (h, l, v, s, r) (record {
         rising = rising_sound;
         inside = subst (IsInside (patches_of heads.items)) (sym as_many_lists) K.inside;
         disk = K.lawful.on_disk_with_all;
@@ -51,50 +52,64 @@ module _ {heads : Vec Head} {walks : BlockWalk} {lists : Vec (Vec Listed)} {cove
         listed = subst (λ n. AreListed (patches_of heads.items) n entries) (sym as_many_lists) (subst (λ ps. AreListed ps blocks entries) (patches_in_nodes heads.items) T.listed);
         covered = subst (λ n. AreCovered (patches_of heads.items) n covers.items) (sym as_many_lists) S.covered;
         standing = subst (λ n. AllStand (nodes_of heads.items) n standings.items) (sym T.standing.long) T.standing;
+        leveled = subst (λ n. IsLeveled (patches_of heads.items) n levels) (sym as_many_lists) S.leveled;
       })
 
   -- there is room for what is prepared, and nothing refuses it
-  pub prepared_is : (p : Stored) → o ≡ Some p → IsPrepared heads walks lists covers queue numbers blocks p
-  prepared_is p is = subst (λ x. IfSome x (IsPrepared heads walks lists covers queue numbers blocks)) is S.prepared
+  pub prepared_is : (p : Stored) → o ≡ Some p → IsPrepared heads ends levels lists covers queue numbers blocks p
+  prepared_is p is = subst (λ x. IfSome x (IsPrepared heads ends levels lists covers queue numbers blocks)) is S.prepared
 
-  -- after a walk over the heads there is a mark for each still
-  pub walked_sound : {walked : BlockWalk} → length walked.walk.marks ≡ length heads.items → length walked.crossed.items ≡ length lists.items → AreSound heads walked lists covers standings queue live unmarked numbers blocks None
-  walked_sound marks places = record {
-    keeps = record { lawful = S.keeps.lawful; few = S.keeps.few; inside = S.keeps.inside; marked = marks ∙ sym (length-map heads.items patch_of) };
-    beside = record { places = places ∙ as_many_lists; counted = S.beside.counted };
+  -- both walks are over the heads and the blocks
+  pub over_up : IsOver heads.items (length lists.items) ends.up
+  over_up = record { long = as_many_marks; crossed = as_many_places }
+
+  pub over_down : IsOver heads.items (length lists.items) ends.down
+  over_down = record { long = S.along.marks ∙ as_many_marks; crossed = S.along.places ∙ as_many_places }
+
+  -- after walks over the heads there are marks for each still
+  pub walked_sound : {walked : Ends} → IsOver heads.items (length lists.items) walked.up → IsOver heads.items (length lists.items) walked.down → AreSound heads walked levels lists covers standings queue live unmarked numbers blocks None
+  walked_sound up down = record {
+    keeps = record { lawful = S.keeps.lawful; few = S.keeps.few; inside = S.keeps.inside; marked = up.long ∙ sym (length-map heads.items patch_of) };
+    beside = record { places = up.crossed ∙ as_many_lists; counted = S.beside.counted };
     tallies = S.tallies;
     covered = S.covered;
+    along = record { marks = down.long ∙ sym up.long; places = down.crossed ∙ sym up.crossed };
+    leveled = S.leveled;
     none_below = S.none_below;
     prepared = tt;
   }
 
   -- there may be more room for heads, marks and what waits in the queue
-  pub roomier_sound : {roomier : Vec Head} {walked : BlockWalk} {wider : Vec ℕ} → nodes_of roomier.items ≡ nodes_of heads.items → walked.walk.marks ≡ walks.walk.marks → walked.crossed ≡ walks.crossed → wider.items ≡ queue.items → queue.cap ≤ wider.cap
-      → AreSound roomier walked lists covers standings wider live unmarked numbers blocks None
-  roomier_sound {roomier} {walked} {wider} same marks crossed waits wide =
+  pub roomier_sound : {roomier : Vec Head} {walked : Ends} {ranked : Leveling} {wider : Vec ℕ} → nodes_of roomier.items ≡ nodes_of heads.items → (walked.up.walk.marks ≡ ends.up.walk.marks) × (walked.down.walk.marks ≡ ends.down.walk.marks) → (walked.up.crossed ≡ ends.up.crossed) × (walked.down.crossed ≡ ends.down.crossed) → ranked.ranks ≡ levels.ranks → ranked.floors ≡ levels.floors → wider.items ≡ queue.items → queue.cap ≤ wider.cap
+      → AreSound roomier walked ranked lists covers standings wider live unmarked numbers blocks None
+  roomier_sound {roomier} {walked} {ranked} {wider} same marks crossed ranks floors waits wide =
       let patches = same_patches roomier.items heads.items same in record {
-        keeps = rw (patches, marks) S.keeps;
-        beside = rw (patches, crossed) S.beside;
+        keeps = rw (patches, marks.0) S.keeps;
+        beside = rw (patches, crossed.0) S.beside;
         tallies = rw same (tallies_wider _ numbers blocks _ _ _ _ _ _ S.tallies waits wide);
         covered = rw patches S.covered;
+        along = along_as marks crossed S.along;
+        leveled = rw patches (leveled_as ranks floors S.leveled);
         none_below = S.none_below;
         prepared = tt;
       }
 
   -- and for a change of a block
   pub listed_sound : {longer : Vec (Vec Listed)} {wider : Vec Covering} → map (λ l. entries_of l.items) longer.items ≡ map (λ l. entries_of l.items) lists.items
-      → ((hs : List Patch) → AreCovered hs (length covers.items) covers.items → AreCovered hs (length covers.items) wider.items) → AreSound heads walks longer wider standings queue live unmarked numbers blocks None
+      → ((hs : List Patch) → AreCovered hs (length covers.items) covers.items → AreCovered hs (length covers.items) wider.items) → AreSound heads ends levels longer wider standings queue live unmarked numbers blocks None
   listed_sound {wider = wider} entries covered = record {
     keeps = S.keeps;
     beside = S.beside;
     tallies = rw entries S.tallies;
     covered = let long = S.covered.long in subst (λ k. AreCovered (patches_of heads.items) k wider.items) long (covered (patches_of heads.items) (subst (λ k. AreCovered (patches_of heads.items) k covers.items) (sym long) S.covered));
+    along = S.along;
+    leveled = S.leveled;
     none_below = S.none_below;
     prepared = tt;
   }
 
-  pub with_prepared : {o' : Option Stored} → IfSome o' (IsPrepared heads walks lists covers queue numbers blocks) → AreSound heads walks lists covers standings queue live unmarked numbers blocks o'
-  with_prepared P = record { keeps = S.keeps; beside = S.beside; tallies = S.tallies; covered = S.covered; none_below = S.none_below; prepared = P }
+  pub with_prepared : {o' : Option Stored} → IfSome o' (IsPrepared heads ends levels lists covers queue numbers blocks) → AreSound heads ends levels lists covers standings queue live unmarked numbers blocks o'
+  with_prepared P = record { keeps = S.keeps; beside = S.beside; tallies = S.tallies; covered = S.covered; along = S.along; leveled = S.leveled; none_below = S.none_below; prepared = P }
 
   -- there are as many lists as blocks
   pub many_lists : (slice : List (Vec Listed)) → slice ≡ lists.items → length slice ≡ blocks
@@ -113,9 +128,16 @@ module _ {heads : Vec Head} {walks : BlockWalk} {lists : Vec (Vec Listed)} {cove
   pub waits_live : (b n : ℕ) → pending_in (nodes_of heads.items) n ≡ pending.Block b → IsLiveNumber (patches_of heads.items) n
   waits_live b n e = subst (λ ps. IsLiveNumber ps n) (patches_in_nodes heads.items) (pending_live (nodes_of heads.items) blocks b n S.tallies.settled e)
 
+-- a walk over the heads and lists that are handed on is one over those that are kept
+pub over_now : {heads seen : List Head} {lists shelves : List (Vec Listed)} {walk : BlockWalk} → seen ≡ heads → shelves ≡ lists → IsOver seen (length shelves) walk → IsOver heads (length lists) walk
+over_now h l x = record { long = x.long ∙ ap length h; crossed = x.crossed ∙ ap length l }
+
+pub over_then : {heads seen : List Head} {lists shelves : List (Vec Listed)} {walk : BlockWalk} → seen ≡ heads → shelves ≡ lists → IsOver heads (length lists) walk → IsOver seen (length shelves) walk
+over_then h l x = record { long = x.long ∙ sym (ap length h); crossed = x.crossed ∙ sym (ap length l) }
+
 -- what follows from that holds of whatever is prepared
-pub if_prepared : {heads : Vec Head} {walks : BlockWalk} {lists : Vec (Vec Listed)} {covers : Vec Covering} {standings : Vec Standing} {queue : Vec ℕ} {live unmarked numbers blocks : ℕ} {o : Option Stored}
-    → AreSound heads walks lists covers standings queue live unmarked numbers blocks o → (P : Stored → Type 0) → ((p : Stored) → o ≡ Some p → IsPrepared heads walks lists covers queue numbers blocks p → P p) → IfSome o P
+pub if_prepared : {heads : Vec Head} {ends : Ends} {levels : Leveling} {lists : Vec (Vec Listed)} {covers : Vec Covering} {standings : Vec Standing} {queue : Vec ℕ} {live unmarked numbers blocks : ℕ} {o : Option Stored}
+    → AreSound heads ends levels lists covers standings queue live unmarked numbers blocks o → (P : Stored → Type 0) → ((p : Stored) → o ≡ Some p → IsPrepared heads ends levels lists covers queue numbers blocks p → P p) → IfSome o P
 if_prepared {o = None} sound P follows = tt
 if_prepared {o = Some p} sound P follows = follows p refl sound.prepared
 

@@ -1,7 +1,7 @@
 //! The change of a group that `group_room` makes room for. The head of the group is sealed with the change, if it is open,
 //! and not before; so what the change will depend on and be graded is found here with the head taken as sealed.
 
-ghost use Rattle.std.specs.Prelude.{◌≡◌, ◌↔◌, ◌<◌, ◌∷◌, [], false, ℕ, List, IsTrue, IfOk, IfSome, IfNone, length};
+ghost use Rattle.std.specs.Prelude.{◌≡◌, ◌<◌, ◌∷◌, [], false, ℕ, List, IsTrue, IfOk, IfSome, IfNone, length};
 ghost use Rattle.fst_types.specs.Dependencies.{DirectlyOn, IsLiveNumber, IsOnDisk};
 ghost use Rattle.fst_types.specs.Facts.{SparseAreLawful};
 ghost use Rattle.fst_types.specs.Gates.{IsOpenNumber};
@@ -13,6 +13,7 @@ ghost use Rattle.fst_heads.specs.Names.{numbers_of};
 ghost use Rattle.fst_graph.specs.Membering.{BeginsAs};
 ghost use Rattle.fst_heads.specs.Nodes.{nodes_of, AreCounted};
 ghost use Rattle.fst_heads.specs.Rows.{IsSparseRow};
+ghost use Rattle.fst_walks.specs.BothEnds.{IsOver};
 ghost use Rattle.fst_walks.specs.Sights.{Sees};
 
 use crate::prepared::{Gates, Prepared, copy_of};
@@ -21,7 +22,7 @@ use fst_heads::marks::slot_of;
 use fst_heads::sparse::{Wanted, sparse_row};
 use fst_heads::test::Test;
 use fst_types::{PatchNo, Span};
-use fst_walks::block_walk::BlockWalk;
+use fst_walks::ends::Ends;
 use fst_walks::grade::grade_of;
 use fst_walks::shortcuts::passes_at;
 use fst_walks::sight::Sight;
@@ -57,7 +58,7 @@ fn rests(heads: &[Head], number: u32) -> bool
 pub fn prepare_member(
     alloc: Global,
     sight: &Sight<'_>,
-    walks: &mut BlockWalk,
+    ends: &mut Ends,
     block: u32,
     span: Span,
     gates: Gates,
@@ -65,8 +66,8 @@ pub fn prepare_member(
     requires lawful { (numbers : ℕ) × SparseAreLawful (patches_of sight.now.heads.now) numbers }
     requires counted { AreCounted (nodes_of sight.now.heads.now) }
     requires sees { Sees sight.now }
-    requires long { length walks.old.walk.marks ≡ length sight.now.heads.now }
-    requires crossed { length walks.old.crossed.items ≡ length sight.now.lists.now }
+    requires up { IsOver sight.now.heads.now (length sight.now.lists.now) ends.old.up }
+    requires down { IsOver sight.now.heads.now (length sight.now.lists.now) ends.old.down }
     requires block { block < length sight.now.lists.now }
     ensures block { IfOk result (λ p. p.block ≡ block) }
     ensures span { IfOk result (λ p. p.span ≡ span) }
@@ -74,8 +75,8 @@ pub fn prepare_member(
     ensures gates { IfOk result (λ p. p.gates ≡ Some gates) }
     ensures depends { IfOk result (λ p. (begun : List Patch) → BeginsAs (patches_of sight.now.heads.now) gates.head begun → IsSparseRow begun (gates.head ∷ []) block span.at span.len p.dependencies.items) }
     ensures graded { IfOk result (λ p. (begun : List Patch) → BeginsAs (patches_of sight.now.heads.now) gates.head begun → FollowsRule p.grade (MayBeHard begun None block p.dependencies.items)) }
-    ensures long { length walks.new.walk.marks ≡ length sight.now.heads.now }
-    ensures crossed { length walks.new.crossed.items ≡ length sight.now.lists.now }
+    ensures up { IsOver sight.now.heads.now (length sight.now.lists.now) ends.new.up }
+    ensures down { IsOver sight.now.heads.now (length sight.now.lists.now) ends.new.down }
 {
     let heads = sight.heads;
     let names = [PatchNo(gates.head)];
@@ -96,14 +97,7 @@ pub fn prepare_member(
     let dependencies = sparse_row(alloc, heads, list, cover, &wanted)?;
     let names = copy_of(alloc, &names)?;
     let row = dependencies.as_slice();
-    let grade = grade_of(
-        sight,
-        &mut walks.walk,
-        &mut walks.crossed,
-        block,
-        row,
-        opened,
-    );
+    let grade = grade_of(sight, ends, block, row, opened);
     Ok(Prepared {
         block,
         span,

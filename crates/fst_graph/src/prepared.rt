@@ -1,7 +1,7 @@
 //! The change that `room` made room for. It is kept whole, so that `add_data` with the same arguments only puts it
 //! down, which takes no memory and is not refused.
 
-ghost use Rattle.std.specs.Prelude.{◌≡◌, ◌↔◌, ◌<◌, List, option_map, IsTrue, IfOk, OnOk, true, length, map, slice_index_or, vec_len, vec_capacity};
+ghost use Rattle.std.specs.Prelude.{◌≡◌, ◌↔◌, ◌<◌, List, option_map, IsTrue, IfOk, OnOk, length, map, slice_index_or, vec_len, vec_capacity};
 ghost use Rattle.fst_types.specs.Grades.{FollowsRule};
 ghost use Rattle.fst_types.specs.Patches.{Patch};
 ghost use Rattle.fst_heads.specs.Covers.{AreCovered, Covering, HasBytes};
@@ -10,6 +10,7 @@ ghost use Rattle.fst_heads.specs.Heads.{patches_of};
 ghost use Rattle.fst_heads.specs.Lists.{entries_of, HasRoomInList};
 ghost use Rattle.fst_heads.specs.Names.{numbers_of};
 ghost use Rattle.fst_heads.specs.Rows.{IsSparseRow};
+ghost use Rattle.fst_walks.specs.BothEnds.{IsOver};
 ghost use Rattle.fst_walks.specs.Sights.{Sees};
 
 use fst_heads::cover::Cover;
@@ -17,7 +18,7 @@ use fst_heads::lists::Listed;
 use fst_heads::row::Row;
 use fst_heads::sparse::{Wanted, sparse_row};
 use fst_types::{Grade, PatchNo, Span};
-use fst_walks::block_walk::BlockWalk;
+use fst_walks::ends::Ends;
 use fst_walks::grade::grade_of;
 use fst_walks::sight::Sight;
 use std::alloc::{AllocError, Global};
@@ -76,14 +77,14 @@ pub fn copy_of(alloc: Global, names: &[PatchNo]) -> Result<Vec<PatchNo>, AllocEr
 pub fn prepare(
     alloc: Global,
     sight: &Sight<'_>,
-    walks: &mut BlockWalk,
+    ends: &mut Ends,
     block: u32,
     span: Span,
     names: &[PatchNo],
 ) -> Result<Prepared, AllocError>
     requires sees { Sees sight.now }
-    requires long { length walks.old.walk.marks ≡ length sight.now.heads.now }
-    requires crossed { length walks.old.crossed.items ≡ length sight.now.lists.now }
+    requires up { IsOver sight.now.heads.now (length sight.now.lists.now) ends.old.up }
+    requires down { IsOver sight.now.heads.now (length sight.now.lists.now) ends.old.down }
     requires block { block < length sight.now.lists.now }
     ensures block { IfOk result (λ p. p.block ≡ block) }
     ensures span { IfOk result (λ p. p.span ≡ span) }
@@ -91,8 +92,8 @@ pub fn prepare(
     ensures depends { IfOk result (λ p. IsSparseRow (patches_of sight.now.heads.now) (numbers_of names.now) block span.at span.len p.dependencies.items) }
     ensures graded { IfOk result (λ p. FollowsRule p.grade (MayBeHard (patches_of sight.now.heads.now) None block p.dependencies.items)) }
     ensures gates { IfOk result (λ p. p.gates ≡ None) }
-    ensures long { length walks.new.walk.marks ≡ length sight.now.heads.now }
-    ensures crossed { length walks.new.crossed.items ≡ length sight.now.lists.now }
+    ensures up { IsOver sight.now.heads.now (length sight.now.lists.now) ends.new.up }
+    ensures down { IsOver sight.now.heads.now (length sight.now.lists.now) ends.new.down }
 {
     let list = &sight.lists[block as usize];
     let cover = &sight.covers[block as usize];
@@ -100,7 +101,7 @@ pub fn prepare(
     let dependencies = sparse_row(alloc, sight.heads, list, cover, &wanted)?;
     let names = copy_of(alloc, names)?;
     let row = dependencies.as_slice();
-    let grade = grade_of(sight, &mut walks.walk, &mut walks.crossed, block, row, None);
+    let grade = grade_of(sight, ends, block, row, None);
     Ok(Prepared {
         block,
         span,

@@ -2,47 +2,46 @@
 //! calls look at the patches that they touch, and at those that depend on these. Between two calls of its own a call of a
 //! group has no group as it should be, so that the groups and what holds of them stand a layer above, in the graph.
 
-ghost use Rattle.std.specs.Prelude.{◌≡◌, ◌<◌, ◌≤◌, [], None, IfOk, IfErr, OnErr, IfSome, IfNone, OnOk, option_map, MatchResult, length, vec_len, vec_capacity, ℕ, count_by};
+ghost use Rattle.std.specs.Prelude.{◌≡◌, ◌<◌, ◌≤◌, [], None, IfOk, IfErr, OnErr, IfSome, IfNone, OnOk, option_map, MatchResult, length, vec_len, vec_capacity, count_by};
 ghost use Rattle.fst_types.specs.Patches.{Patch};
 ghost use Rattle.fst_types.specs.Looks.{place_of, IsPick};
-ghost use Rattle.fst_types.specs.Order.{room_order, make_order, seal_order, depend_order};
-ghost use Rattle.fst_types.specs.Refusals.{IsFirst, NoneHolds};
+ghost use Rattle.fst_types.specs.Order.{seal_order, depend_order};
+ghost use Rattle.fst_types.specs.Refusals.{IsFirst};
 ghost use Rattle.fst_types.specs.Writable.{IsWritableSet, HasReady, IsHeld, IsLeastHeld};
 ghost use Rattle.fst_types.specs.Tests.{is_live};
-ghost use Rattle.fst_graph.specs.Known.{unprepared, rest_place, Refuses, AddsGate, AddsEmpty, SealsGate, DependsGate, Launches, IsStuckByGates, LandsBlock, MayLaunch, Forgets};
+ghost use Rattle.fst_graph.specs.Known.{unprepared, Refuses, SealsGate, DependsGate, Launches, IsStuckByGates, LandsBlock, MayLaunch, Forgets};
 ghost use Rattle.fst_heads.specs.Names.{numbers_of};
 
+mod adding;
 mod grouping;
 mod making;
 mod pairs;
 
 use crate::gates::{depend_fault, gate_slot};
 use crate::prepared::Prepared;
-use crate::refusals::{make_fault, room_fault};
 use fst_heads::cascade::{cascade, seal_slot};
 use fst_heads::choice::{first_held, ready_set};
 use fst_heads::cover::{Cover, empty_covers};
 use fst_heads::growth::{gain, missing_names};
-use fst_heads::head::{Head, Kind};
+use fst_heads::head::Head;
 use fst_heads::links::{link, reserve_above};
 use fst_heads::lists::{Listed, empty_lists, land_block};
 use fst_heads::marks::{marks_if, slot_of};
-use fst_heads::pending::{Pending, no_sums};
-use fst_heads::places::{block_of, keep_live, launch_all, weight};
-use fst_heads::row::{is_given, live_named, row_sums};
+use fst_heads::places::{block_of, keep_live, launch_all};
+use fst_heads::row::{is_given, row_sums};
 use fst_heads::standing::{
     Standing, empty_standings, flying_count, held_count, land_at, least_marked, ready_count,
 };
 use fst_types::{BlockNo, Fault, PatchNo, Place, Shape};
 use fst_walks::ascent::mark_flight;
-use fst_walks::block_walk::BlockWalk;
-use fst_walks::walk::Walk;
-use smallvec::SmallVec;
+use fst_walks::ends::Ends;
+use fst_walks::levels::Levels;
 use std::alloc::{AllocError, Global};
 use std::marker::Model;
 
-/// The heads, which are the patches not forgotten, in order of number. `walks` has a mark for each, and a place for each
-/// block, for the walks that find grades and cycles. `lists` has for each block its changes that are not on disk, and
+/// The heads, which are the patches not forgotten, in order of number. `ends` has two marks for each, and two places
+/// for each block, for the walks that find grades and cycles; `levels` has a level for each, and a floor for each block.
+/// `lists` has for each block its changes that are not on disk, and
 /// `standings` has the mark of each. `queue` has a place for each head, for those of which their dependants are to be told.
 /// Where a change is prepared, there is a free place for it in each. `live` is how many of the patches are not on disk, and
 /// no block below `unmarked` may be written.
@@ -50,7 +49,8 @@ use std::marker::Model;
 pub struct Sparse {
     alloc: Global,
     heads: Vec<Head>,
-    walks: BlockWalk,
+    ends: Ends,
+    levels: Levels,
     lists: Vec<Vec<Listed>>,
     covers: Vec<Cover>,
     standings: Vec<Standing>,
@@ -73,36 +73,33 @@ impl Model for Sparse {
 
     ghost view = { λ g. record { heads = patches_of g.heads.items; numbers = g.numbers; blocks = g.blocks; groups = []; prepared = option_map (prepared_of g.numbers) g.prepared } };
 
-    ghost invariant = { λ g. AreSound g.heads g.walks g.lists g.covers g.standings g.queue g.live g.unmarked g.numbers g.blocks g.prepared };
+    ghost invariant = { λ g. AreSound g.heads g.ends g.levels g.lists g.covers g.standings g.queue g.live g.unmarked g.numbers g.blocks g.prepared };
 }
 
 // Room for one more head.
 fn reserve_one(
     heads: &mut Vec<Head>,
-    walk: &mut Walk,
+    ends: &mut Ends,
+    levels: &mut Levels,
     queue: &mut Vec<u32>,
 ) -> Result<(), AllocError>
     ensures heads { heads.new.items ≡ heads.old.items }
-    ensures marks { walk.new.marks ≡ walk.old.marks }
+    ensures marks { (ends.new.up.walk.marks ≡ ends.old.up.walk.marks) × (ends.new.down.walk.marks ≡ ends.old.down.walk.marks) }
+    ensures crossed { (ends.new.up.crossed ≡ ends.old.up.crossed) × (ends.new.down.crossed ≡ ends.old.down.crossed) }
     ensures room_heads { OnOk result (vec_len heads.new < vec_capacity heads.new) }
-    ensures room_marks { OnOk result (length walk.new.marks < walk.new.room) }
+    ensures room_up { OnOk result (length ends.new.up.walk.marks < ends.new.up.walk.room) }
+    ensures room_down { OnOk result (length ends.new.down.walk.marks < ends.new.down.walk.room) }
+    ensures ranks { levels.new.ranks ≡ levels.old.ranks }
+    ensures floors { levels.new.floors ≡ levels.old.floors }
+    ensures room_ranks { OnOk result (length levels.new.ranks < levels.new.room) }
     ensures queue { queue.new.items ≡ queue.old.items }
     ensures room_queue { OnOk result (vec_len heads.new < vec_capacity queue.new) }
     ensures wide { vec_capacity queue.old ≤ vec_capacity queue.new }
 {
     heads.reserve(1)?;
-    walk.reserve(1)?;
+    ends.reserve(1)?;
+    levels.reserve(1)?;
     queue.reserve(heads.len() + 1)
-}
-
-// Where a new empty patch is: on disk where it depends on nothing live.
-fn resting_place(row: &[u32]) -> Place
-    ensures { result ≡ rest_place row.now }
-{
-    match row {
-        [] => Place::Disk,
-        _ => Place::Memory,
-    }
 }
 
 impl Sparse {
@@ -111,7 +108,10 @@ impl Sparse {
     pub fn new(alloc: Global, shape: Shape, numbers: u32) -> Result<Sparse, Fault>
         ensures { MatchResult result (λ g. g ≡ record { heads = []; numbers = numbers; blocks = shape.blocks; groups = []; prepared = None }) (λ f. f ≡ Fault.Memory) }
     {
-        let Ok(crossed) = vec![in alloc; false; shape.blocks as usize] else {
+        let Ok(ends) = Ends::new(alloc, shape.blocks) else {
+            return Err(Fault::Memory);
+        };
+        let Ok(levels) = Levels::new(alloc, shape.blocks) else {
             return Err(Fault::Memory);
         };
         let Ok(lists) = empty_lists(alloc, shape.blocks) else {
@@ -126,10 +126,8 @@ impl Sparse {
         Ok(Sparse {
             alloc,
             heads: Vec::new(alloc),
-            walks: BlockWalk {
-                walk: Walk::new(alloc),
-                crossed,
-            },
+            ends,
+            levels,
             lists,
             covers,
             standings,
@@ -169,78 +167,6 @@ impl Sparse {
         }
     }
 
-    /// A new gate, open, without dependencies. It is refused as `Full(Heads)` where 65,535 patches are not forgotten, as
-    /// `Full(Numbers)` where the last number was given, and as `Memory`.
-    pub fn add_gate(&mut self) -> Result<PatchNo, Fault>
-        ensures ok { IfOk result (λ no. AddsGate self.old no.0 self.new) }
-        ensures refused { IfErr result (Refuses (room_order self.old.heads self.old.numbers)) }
-        ensures same { OnErr result (self.new ≡ unprepared self.old) }
-        ensures blocks { self.new.blocks ≡ self.old.blocks }
-    {
-        self.prepared = None;
-        if let Some(fault) = room_fault(&self.heads, self.numbers) {
-            return Err(fault);
-        }
-        if reserve_one(&mut self.heads, &mut self.walks.walk, &mut self.queue).is_err() {
-            return Err(Fault::Memory);
-        }
-        let number = self.numbers + 1;
-        self.heads.push_reserved(Head {
-            number,
-            kind: Kind::OpenGate,
-            place: Place::Memory,
-            dependencies: SmallVec::new(self.alloc),
-            sums: no_sums(),
-            pending: Pending::Held,
-            dependants: SmallVec::new(self.alloc),
-        });
-        self.walks.walk.grow();
-        self.live += 1;
-        self.numbers = number;
-        Ok(PatchNo(number))
-    }
-
-    /// A new empty patch, which depends on the named patches that are not on disk. It is on disk at once where none is.
-    /// It is refused as `BadField` where more than 64 are named, as `NoPatch` where one was never given, as `Full(Heads)`
-    /// and `Full(Numbers)`, and as `Memory`.
-    pub fn add_empty(&mut self, after: &[PatchNo]) -> Result<PatchNo, Fault>
-        ensures ok { IfOk result (λ no. AddsEmpty self.old (numbers_of after.now) no.0 self.new) }
-        ensures refused { IfErr result (Refuses (make_order self.old.heads self.old.numbers (numbers_of after.now))) }
-        ensures same { OnErr result (self.new ≡ unprepared self.old) }
-        ensures blocks { self.new.blocks ≡ self.old.blocks }
-    {
-        self.prepared = None;
-        if let Some(fault) = make_fault(&self.heads, self.numbers, after) {
-            return Err(fault);
-        }
-        let Ok(dependencies) = live_named(self.alloc, &self.heads, after) else {
-            return Err(Fault::Memory);
-        };
-        if reserve_one(&mut self.heads, &mut self.walks.walk, &mut self.queue).is_err() {
-            return Err(Fault::Memory);
-        }
-        if reserve_above(&mut self.heads, dependencies.as_slice()).is_err() {
-            return Err(Fault::Memory);
-        }
-        let number = self.numbers + 1;
-        let place = resting_place(dependencies.as_slice());
-        let sums = row_sums(&self.heads, dependencies.as_slice());
-        link(&mut self.heads, dependencies.as_slice(), number);
-        self.heads.push_reserved(Head {
-            number,
-            kind: Kind::Empty,
-            place,
-            dependencies,
-            sums,
-            pending: sums.joined(),
-            dependants: SmallVec::new(self.alloc),
-        });
-        self.walks.walk.grow();
-        self.live += weight(place);
-        self.numbers = number;
-        Ok(PatchNo(number))
-    }
-
     /// The writable set of the block, in order of number. `Memory` is answered only where it is not empty.
     pub fn chosen(&mut self, block: BlockNo) -> Result<Vec<PatchNo>, Fault>
         ensures ok { IfOk result (λ numbers. IsWritableSet self.old.heads block.0 (numbers_of numbers.items)) }
@@ -251,9 +177,9 @@ impl Sparse {
         let Some(list) = self.lists.get(block.0 as usize) else {
             return Ok(Vec::new(self.alloc));
         };
-        let walk = &mut self.walks.walk;
+        let walk = &mut self.ends.up.walk;
         let flying = mark_flight(&self.heads, list, &self.standings, walk, block.0);
-        let marks = marks_if(flying, self.walks.walk.marks());
+        let marks = marks_if(flying, self.ends.up.walk.marks());
         let most = ready_count(&self.standings, block.0);
         ready_set(self.alloc, &self.heads, list, marks, most, block.0)
     }
@@ -291,7 +217,7 @@ impl Sparse {
         self.prepared = None;
         if let Some(fault) = depend_fault(
             &self.heads,
-            &mut self.walks.walk,
+            &mut self.ends.up.walk,
             self.numbers,
             gate.0,
             on,
@@ -356,7 +282,8 @@ impl Sparse {
         self.prepared = None;
         let before = self.heads.len();
         keep_live(&mut self.heads, self.live);
-        self.walks.walk.shrink(self.heads.len());
+        self.ends.shrink(self.heads.len());
+        self.levels.forget(&self.heads);
         (before - self.heads.len()) as u32
     }
 
@@ -370,12 +297,12 @@ impl Sparse {
         let Some(list) = self.lists.get(block.0 as usize) else {
             return None;
         };
-        let walk = &mut self.walks.walk;
+        let walk = &mut self.ends.up.walk;
         let flying = mark_flight(&self.heads, list, &self.standings, walk, block.0);
         if !flying && held_count(&self.standings, block.0) == 0 {
             return None;
         }
-        let marks = marks_if(flying, self.walks.walk.marks());
+        let marks = marks_if(flying, self.ends.up.walk.marks());
         first_held(&self.heads, list, marks, block.0)
     }
 

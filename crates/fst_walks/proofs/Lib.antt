@@ -1,5 +1,6 @@
 pub mod Obstacles
 pub mod NearRow
+pub mod Ranked
 pub mod Seen
 pub mod Shelves
 pub mod Linked
@@ -19,3 +20,17 @@ pub mod ComesBack
 pub mod CrossingBack
 pub mod Overlapped
 pub mod Trails
+pub mod Leveled
+pub mod Lifted
+pub mod LeveledKept
+pub mod Raised
+pub mod Raising
+pub mod RanksLeft
+pub mod Releveled
+pub mod Floored
+pub mod BothEnds
+pub mod Meeting
+pub mod Stepping
+pub mod CrossingDown
+pub mod MetLow
+pub mod Highest

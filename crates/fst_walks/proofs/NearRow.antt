@@ -1,14 +1,13 @@
 -- What is near a row, and the grade that it tells.
-use Rattle.std.proofs.Common.{◌≡◌, ◌⊎◌, ◌&&◌, ℕ, Bool, true, false, List, get_or, Contains, Some, None, Option, IfSome, refl, sym, ap, subst, ◌∙◌, inl, inr, ◌∷◌, [], ◌++◌}
-use Rattle.std.proofs.{lemmas.Bool.false≢true, lemmas.List.Elements.Contains-push_cases}
+use Rattle.std.proofs.Common.{◌≡◌, ◌⊎◌, ◌&&◌, ℕ, Bool, true, false, List, get_or, Contains, Some, None, Option, IfSome, refl, sym, ap, subst, ◌∙◌, inl, inr}
+use Rattle.std.proofs.{lemmas.Bool.false≢true}
 use Rattle.fst_types.specs.{Closure.{one, join}, Dependencies.{DirectlyOn, DependsOn}, Facts.HardNeverHold, Gates.IsOpenNumber}
 use Rattle.fst_types.specs.{Grades.FollowsRule, Patches.{Kind, OpenGate, Patch, IsOn, grade_of_kind}, Tests.is_change_at, declared.grade.Grade.Grade}
 use Rattle.fst_types.proofs.Landing.{change_at, at_change}
-use Rattle.fst_heads.specs.Grading.{HasUnder, IsReturning, IsOpenBut, MayBeHard, IsHardNumber, RestsOnHard, IsLeading, LeadsNowhere}
+use Rattle.fst_heads.specs.Grading.{HasUnder, IsReturning, IsOpenBut, MayBeHard, IsHardNumber, RestsOnHard}
 use Rattle.fst_heads.specs.{Heads.{IsRising, patch_of, patches_of}, Marks.{HasSlot, HasNone, PassesAt}, Reaching.IsHardIn, Tests.{passes, is_hard_kind}}
 use Rattle.fst_heads.specs.{declared.head.Head.Head, declared.test.Test.Test}
 use Rattle.fst_heads.proofs.{Graded.{on_from, off_from}, Leading.{one_block, same_patch}, Slots.{direct_at, patch_at, patch_is, patch_slot, slot_in, none_slot}}
-use Rattle.fst_walks.specs.Nearby.{Deepens}
 use Rattle.fst_walks.proofs.Obstacles.{hard_from, hard_to}
 use Rattle.fst_types.specs.declared.place.Place.TheVariants as place
 use Rattle.fst_types.specs.declared.grade.Grade.TheVariants as grade
@@ -184,59 +183,7 @@ path_back heads b row n x p = under_weaker heads row (IsAwayAbove heads b n) (Is
       back_live = on.0;
     }) (x.off refl)
 
--- What is near a row tells what the row does.
-
--- one more, which has P as all have
-pub push_all : (P : ℕ → Type 0) (xs ys : List ℕ) (x : ℕ) → ys ≡ xs ++ x ∷ [] → ((n : ℕ) → Contains xs n → P n) → P x → (n : ℕ) → Contains ys n → P n
-push_all P xs ys x e all here n c = elim (Contains-push_cases xs x n (subst (λ zs. Contains zs n) e c)) [ inl old ↦ all n old | inr same ↦ subst P same here ]
-
-module _ (patches : List Patch) (row : List ℕ) where
-  -- what one near the row directly depends on is near it too
-  pub one_below : (n q : ℕ) → HasUnder patches row (λ m. m ≡ n) → DirectlyOn patches n q → HasUnder patches row (λ m. m ≡ q)
-  one_below n q u d = (
-    u.0,
-    u.1,
-    inr (
-      q,
-      elim u.2 [
-        | inl e ↦ subst (λ k. DependsOn patches k q) (sym e) (one d)
-        | inr low ↦ join (subst (DependsOn patches u.0) low.2 low.1) (one d)
-      ],
-      refl,
-    ),
-  )
-
-  module _ (near : List ℕ) (deep : Deepens patches row near) where
-    -- what is under the one is under the other
-    under_row : (P : ℕ → Type 0) → HasUnder patches near P → HasUnder patches row P
-    under_row P u = let r = deep.only u.0 u.1 in (
-      r.0,
-      r.1,
-      elim r.2 [
-        | inl e ↦ elim u.2 [
-          | inl here ↦ inl (subst P (sym e) here)
-          | inr low ↦ inr (low.0, subst (λ k. DependsOn patches k low.0) (sym e) low.1, low.2)
-        ]
-        | inr path ↦
-            let down = subst (DependsOn patches r.0) path.2 path.1 in
-            elim u.2 [ inl here ↦ inr (u.0, down, here) | inr low ↦ inr (low.0, join down low.1, low.2) ]
-      ],
-    )
-
-    under_near : (P : ℕ → Type 0) → HasUnder patches row P → HasUnder patches near P
-    under_near P u = (u.0, deep.each u.0 u.1, u.2)
-
-    pub nowhere_row : (b : ℕ) → LeadsNowhere patches b near → LeadsNowhere patches b row
-    nowhere_row b leads = record { straight = λ u. leads.straight (under_near (IsReturning patches b) u); open_ended = λ u. leads.open_ended (under_near (IsLeading patches b) u) }
-
-    pub nowhere_near : (b : ℕ) → LeadsNowhere patches b row → LeadsNowhere patches b near
-    nowhere_near b leads = record { straight = λ u. leads.straight (under_row (IsReturning patches b) u); open_ended = λ u. leads.open_ended (under_row (IsLeading patches b) u) }
-
 -- what a grade tells of one thing it tells of another that is so exactly where the first is
 pub follows_same : (g : Grade) (First Second : Type 0) → (Second → First) → (First → Second) → FollowsRule g First → FollowsRule g Second
 follows_same grade.Hard First Second to from told = from told
 follows_same grade.Soft First Second to from told = λ second. told (to second)
-
--- a row is near itself
-pub deepens_self : (patches : List Patch) (row : List ℕ) → Deepens patches row row
-deepens_self patches row = record { each = λ n c. c; only = λ n c. (n, c, inl refl) }

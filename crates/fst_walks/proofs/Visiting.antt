@@ -1,10 +1,10 @@
 -- What was visited, and what is visited besides.
-use Rattle.std.proofs.Common.{◌≡◌, ◌⊎◌, ◌<◌, ℕ, List, [], ◌∷◌, ◌++◌, length, map, get_or, Contains, refl, sym, ap, subst, ◌∙◌, inl, inr, arith}
-use Rattle.std.proofs.lemmas.List.{append-nil, append_assoc, get_or-map, length-map, map_push}
+use Rattle.std.proofs.Common.{◌≡◌, ◌⊎◌, ◌<◌, ◌≤◌, ℕ, List, [], ◌∷◌, ◌++◌, length, map, get_or, Contains, refl, sym, ap, subst, ◌∙◌, inl, inr, arith}
+use Rattle.std.proofs.lemmas.{Bool.cases_lt, List.{append-nil, append_assoc, get_or_append_left, get_or-map, length-map, map_push}}
 use Rattle.std.proofs.lemmas.List.Elements.{Contains-append_left, Contains-push, Contains-push_cases}
 use Rattle.fst_types.specs.Dependencies.{IsLiveNumber}
 use Rattle.fst_heads.specs.{Heads.{IsRising, patches_of}, Marks.{HasSlot, Shows}, declared.head.Head.Head}
-use Rattle.fst_heads.proofs.{Placed.unmapped, Slots.{slot_unique, some_element}, Waiting.mapped}
+use Rattle.fst_heads.proofs.{Placed.unmapped, Slots.{any_default, slot_unique, some_element}, Waiting.mapped}
 use Rattle.fst_walks.specs.{Descending.{Visited, Visits}, Walks.{Trail, AreMarked, Meets, number_at, numbers_met}}
 use Rattle.fst_walks.proofs.Trails.{met_inside}
 
@@ -38,6 +38,14 @@ pub met_of_number : (heads : List Head) (walk : Trail) → IsRising heads → le
 met_of_number heads walk rising long m n s slot c =
     let r = unmapped (number_at heads) walk.met n c in
     let lt = met_inside walk.marks walk.met m r.0 r.1 in
+    let own : HasSlot heads n r.0 = subst (λ k. HasSlot heads k r.0) r.2 (slot_at heads r.0 (omega (arith, lt, long))) in
+    subst (Contains walk.met) (slot_unique heads n r.0 s rising own slot) r.1
+
+-- the same, where it is known that what was met is inside
+pub met_slot : (heads : List Head) (walk : Trail) → IsRising heads → length walk.marks ≡ length heads → ((s : ℕ) → Contains walk.met s → s < length walk.marks) → (n s : ℕ) → HasSlot heads n s → Contains (numbers_met heads walk) n → Contains walk.met s
+met_slot heads walk rising long inside n s slot c =
+    let r = unmapped (number_at heads) walk.met n c in
+    let lt = inside r.0 r.1 in
     let own : HasSlot heads n r.0 = subst (λ k. HasSlot heads k r.0) r.2 (slot_at heads r.0 (omega (arith, lt, long))) in
     subst (Contains walk.met) (slot_unique heads n r.0 s rising own slot) r.1
 
@@ -132,3 +140,16 @@ visits_skip P done n old new none v =
     (λ m k. (Contains-append_left done (n ∷ []) m k.0, k.1))
     (λ m k. elim (Contains-push_cases done n m k.0) [ inl c ↦ (c, k.1) | inr e ↦ absurd (none (subst P (sym e) k.1)) ])
     v
+
+-- what is visited besides is not in another list, nor was what there was before
+pub still_apart : (P : ℕ → Type 0) (old new other : List ℕ) (from : ℕ) → Visits P old new → from ≡ length old → ((n : ℕ) → Contains old n → Contains other n → ⊥)
+    → ((at : ℕ) → from ≤ at → at < length new → Contains other (get_or new at 0) → ⊥) → (n : ℕ) → Contains new n → Contains other n → ⊥
+still_apart P old new other from v begun apart fresh n here there = elim (cases_lt here.0 from) [
+  | inl before ↦
+      let lt : here.0 < length old = omega (arith, before, begun) in
+      let same = sym (get_or_append_left old v.kept.0 n here.0 lt) ∙ (ap (λ q. get_or q here.0 n) (sym v.kept.1) ∙ here.2) in
+      apart n (here.0, lt, same) there
+  | inr after ↦
+      let same = any_default new here.0 0 n here.1 ∙ here.2 in
+      fresh here.0 after here.1 (subst (Contains other) (sym same) there)
+]

@@ -3,4 +3,6 @@ pub mod Descending
 pub mod WayBack
 pub mod Walks
 pub mod Sights
-pub mod Nearby
+pub mod Leveling
+pub mod Lifting
+pub mod BothEnds

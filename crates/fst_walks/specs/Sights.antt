@@ -3,7 +3,7 @@ use Rattle.std.specs.Prelude.{length, map}
 use Rattle.fst_types.specs.{Closure.IsAcyclic, Dependencies.DirectlyOn, Facts.{IsOnDiskWithAll, HardNeverHold}}
 use Rattle.fst_heads.specs.{Covers.AreCovered, Heads.{IsRising, patches_of}, Keeps.IsInside, Lists.{entries_of, AreListed}}
 use Rattle.fst_heads.specs.{Nodes.{nodes_of, AreLinked, AreSettled}, Standings.AllStand}
-use Rattle.fst_walks.specs.declared.sight.Sight.{Sight}
+use Rattle.fst_walks.specs.{Leveling.IsLeveled, declared.sight.Sight.Sight}
 
 -- the patches are as the definitions want them, and what stands beside them tells of them
 pub record Sees (sight : Sight) : Type 0 where
@@ -17,3 +17,4 @@ pub record Sees (sight : Sight) : Type 0 where
   pub listed : AreListed (patches_of sight.heads.now) (length sight.lists.now) (map (λ l. entries_of l.items) sight.lists.now)
   pub covered : AreCovered (patches_of sight.heads.now) (length sight.lists.now) sight.covers.now
   pub standing : AllStand (nodes_of sight.heads.now) (length sight.standings.now) sight.standings.now
+  pub leveled : IsLeveled (patches_of sight.heads.now) (length sight.lists.now) sight.levels.now

@@ -24,6 +24,7 @@ pub record IsSound (trail : Trail) (marks_capacity met_capacity : ℕ) : Type 0 
 -- the slot was met besides, if it was not met before
 pub record Meets (slot : ℕ) (old new : Trail) : Type 0 where
   pub long : length new.marks ≡ length old.marks
+  pub room : new.room ≡ old.room
   pub met : (Contains old.met slot × (new.met ≡ old.met)) ⊎ (new.met ≡ old.met ++ slot ∷ [])
 
 -- the number of the head in the slot

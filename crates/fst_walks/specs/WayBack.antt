@@ -1,8 +1,7 @@
 -- The ways back to a block: from a patch up to those that directly depend on it, and from a hard change in memory to all changes of its block that are not on disk, since the block is not written without it.
-use Rattle.std.specs.Prelude.{◌≡◌, ◌⊎◌, ℕ, Bool, List, Contains}
+use Rattle.std.specs.Prelude.{◌≡◌, ◌⊎◌, ℕ, Bool, List}
 use Rattle.fst_types.specs.{Dependencies.{DirectlyOn, DependsOn, IsLiveNumber}, Patches.Patch}
 use Rattle.fst_heads.specs.{Grading.IsHardNumber, Marks.PassesAt, Reaching.IsReached}
-use Rattle.fst_walks.specs.Descending.{IsLedFrom}
 use Rattle.fst_heads.specs.declared.test.Test.TheVariants as test
 
 -- from the hard change p in memory to the change q of the same block that is not on disk; the block is not shown as crossed
@@ -16,20 +15,11 @@ pub record Crosses (patches : List Patch) (crossed : List Bool) (p q : ℕ) : Ty
 abbrev pub StepsUp : List Patch → List Bool → ℕ → ℕ → Type 0
 StepsUp patches crossed p q = (DirectlyOn patches q p × IsLiveNumber patches q) ⊎ Crosses patches crossed p q
 
--- the walk meets n
-abbrev pub IsMet : List Patch → List Bool → List ℕ → ℕ → Type 0
-IsMet patches crossed start n = IsLedFrom (StepsUp patches crossed) start n
-
 -- the block of the hard change with number n, which is in memory, is shown besides
 pub record ShowsBlockOf (patches : List Patch) (n : ℕ) (old new : List Bool) : Type 0 where
   pub kept : (c : ℕ) → IsReached old c → IsReached new c
   pub only : (c : ℕ) → IsReached new c → IsReached old c ⊎ IsHardNumber patches c n
   pub each : (c : ℕ) → IsHardNumber patches c n → IsReached new c
-
--- exactly what the walk meets is in the queue
-pub record Meets (patches : List Patch) (crossed : List Bool) (start queue : List ℕ) : Type 0 where
-  pub only : (n : ℕ) → Contains queue n → IsMet patches crossed start n
-  pub each : (n : ℕ) → IsMet patches crossed start n → Contains queue n
 
 -- n is not on disk, and is a change of b that is not on disk or depends on one
 pub record IsLiveOver (patches : List Patch) (b n : ℕ) : Type 0 where

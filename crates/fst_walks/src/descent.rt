@@ -7,7 +7,7 @@ ghost use Rattle.fst_walks.specs.Descending.{Visited, Visits};
 ghost use Rattle.fst_heads.specs.Heads.{IsRising, patches_of};
 ghost use Rattle.fst_walks.specs.Walks.{numbers_met};
 ghost use Rattle.fst_heads.specs.Marks.{PassesAt};
-ghost use Rattle.fst_heads.specs.Reaching.{IsReached, ShowsBlocks};
+ghost use Rattle.fst_heads.specs.Reaching.{ShowsBlocks};
 
 use crate::walk::Walk;
 use fst_heads::head::Head;
@@ -50,15 +50,6 @@ pub fn is_visited(heads: &[Head], walk: &Walk, number: u32) -> bool
     match slot_of(heads, number) {
         Some(slot) => marks[slot],
         None => false,
-    }
-}
-
-/// All blocks are shown as crossed.
-pub fn cross_all(crossed: &mut [bool])
-    ensures { (c : ℕ) → c < length crossed.old → IsReached crossed.new c }
-{
-    for shown in crossed.iter_mut() {
-        *shown = true;
     }
 }
 

@@ -2,7 +2,7 @@
 //! where none of this does: a change behind a gate, a chain on one block, a chain over a few blocks and a change over a
 //! block that holds nothing back need none.
 
-ghost use Rattle.std.specs.Prelude.{◌≡◌, ◌↔◌, ◌&&◌, ℕ, IsTrue, IfSome, Contains, length};
+ghost use Rattle.std.specs.Prelude.{◌≡◌, ◌<◌, ◌↔◌, ◌&&◌, ℕ, IsTrue, IfSome, Contains, length};
 ghost use Rattle.fst_types.specs.Closure.{IsAcyclic};
 ghost use Rattle.fst_types.specs.Dependencies.{DirectlyOn};
 ghost use Rattle.fst_types.specs.Facts.{IsOnDiskWithAll};
@@ -13,10 +13,12 @@ ghost use Rattle.fst_heads.specs.declared.test.Test.TheVariants as test;
 ghost use Rattle.fst_heads.specs.Heads.{IsRising, kind_of, patch_of, patches_of};
 ghost use Rattle.fst_heads.specs.Marks.{PassesAt};
 ghost use Rattle.fst_heads.specs.Tests.{is_hard_kind};
-ghost use Rattle.fst_heads.specs.Grading.{HasUnder, IsReturning, IsHardNumber, RestsOnHard, MayBeHard};
+ghost use Rattle.fst_heads.specs.Grading.{HasUnder, IsReturning, IsHardNumber, LeadsNowhere, RestsOnHard, MayBeHard};
+ghost use Rattle.fst_walks.specs.Sights.{Sees};
 ghost use Rattle.fst_heads.specs.Nodes.{nodes_of, AreSettled};
 ghost use Rattle.fst_heads.specs.Standings.{AllStand};
 
+use crate::sight::Sight;
 use fst_heads::choice::is_hard;
 use fst_heads::head::Head;
 use fst_heads::marks::slot_of;
@@ -182,4 +184,22 @@ pub fn comes_back(heads: &[Head], block: u32, row: &[u32]) -> bool
         next = newest(below);
     }
     false
+}
+
+/// Whether each of the row is a hard change of the block in memory, or lower than the floor of the block. A change of the
+/// block with that row is hard but for open gates.
+pub fn stays_below(sight: &Sight<'_>, block: u32, row: &[u32]) -> bool
+    requires sees { Sees sight.now }
+    requires block { block < length sight.now.lists.now }
+    ensures { IsTrue result → LeadsNowhere (patches_of sight.now.heads.now) block row.now }
+{
+    let floor = sight.levels.floor(block);
+    for number in row {
+        if sight.levels.of(sight.heads, *number) >= floor
+            && !is_hard_number(sight.heads, block, *number)
+        {
+            return false;
+        }
+    }
+    true
 }

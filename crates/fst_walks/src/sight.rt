@@ -1,16 +1,18 @@
 //! What walks look at, as one value.
 
+use crate::levels::Levels;
 use fst_heads::cover::Cover;
 use fst_heads::head::Head;
 use fst_heads::lists::Listed;
 use fst_heads::standing::Standing;
 
-/// The heads, for each block the list of its changes that are not on disk and the newest change over each byte, and how
-/// each block stands.
+/// The heads, for each block the list of its changes that are not on disk and the newest change over each byte, how each
+/// block stands, and the levels.
 #[derive(Clone, Copy)]
 pub struct Sight<'a> {
     pub heads: &'a [Head],
     pub lists: &'a [Vec<Listed>],
     pub covers: &'a [Cover],
     pub standings: &'a [Standing],
+    pub levels: &'a Levels,
 }

@@ -2,7 +2,7 @@
 //! it. What is marked is what was met, so that each patch is looked at once, and a walk begins by taking back the marks of
 //! what the one before it met, which takes no longer than that walk did.
 
-ghost use Rattle.std.specs.Prelude.{◌≡◌, ◌≤◌, ◌<◌, ◌+◌, ◌++◌, ◌∷◌, [], ℕ, false, filter, length, Contains, IfSome, IfNone, IsTrue, OnOk, slice_index_or};
+ghost use Rattle.std.specs.Prelude.{◌≡◌, ◌↔◌, ◌≤◌, ◌<◌, ◌+◌, ◌++◌, ◌∷◌, [], ℕ, false, filter, length, Contains, IfSome, IfNone, IsTrue, OnOk, slice_index_or};
 ghost use Rattle.fst_heads.specs.Heads.{IsRising};
 ghost use Rattle.fst_heads.specs.Marks.{HasSlot, HasNone};
 ghost use Rattle.fst_walks.specs.Walks.{AreMarked, Meets, passes_in};
@@ -184,6 +184,15 @@ impl Walk {
         ensures marked { AreMarked result.now self.now.met }
     {
         self.marks.as_slice()
+    }
+
+    /// Whether the head in the slot was met.
+    pub fn has_met(&self, slot: usize) -> bool
+        requires { slot < length self.now.marks }
+        ensures met { IsTrue result ↔ Contains self.now.met slot }
+        ensures inside { (s : ℕ) → Contains self.now.met s → s < length self.now.marks }
+    {
+        self.marks[slot]
     }
 
     /// Meets the head in the slot, unless it was met before.

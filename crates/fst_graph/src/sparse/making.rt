@@ -16,6 +16,7 @@ use fst_heads::lists::Listed;
 use fst_heads::pending::{Pending, is_pending, over_block};
 use fst_heads::row::row_sums;
 use fst_types::{BlockNo, Fault, Grade, PatchNo, Place, Span};
+use fst_walks::lift::rise_of;
 use fst_walks::sight::Sight;
 use smallvec::SmallVec;
 
@@ -46,11 +47,19 @@ impl Sparse {
             lists: &self.lists,
             covers: &self.covers,
             standings: &self.standings,
+            levels: &self.levels,
         };
-        let Ok(prepared) = prepare(self.alloc, &sight, &mut self.walks, block.0, span, after) else {
+        let Ok(prepared) = prepare(self.alloc, &sight, &mut self.ends, block.0, span, after) else {
             return Err(Fault::Memory);
         };
-        if reserve_one(&mut self.heads, &mut self.walks.walk, &mut self.queue).is_err() {
+        if reserve_one(
+            &mut self.heads,
+            &mut self.ends,
+            &mut self.levels,
+            &mut self.queue,
+        )
+        .is_err()
+        {
             return Err(Fault::Memory);
         }
         if reserve_above(&mut self.heads, prepared.dependencies.as_slice()).is_err() {
@@ -88,6 +97,23 @@ impl Sparse {
         let span = prepared.span;
         let block = prepared.block;
         let kind = Kind::Change(block, span, grade);
+        let sight = Sight {
+            heads: &self.heads,
+            lists: &self.lists,
+            covers: &self.covers,
+            standings: &self.standings,
+            levels: &self.levels,
+        };
+        let rise = rise_of(
+            &sight,
+            &mut self.ends.up.walk,
+            &mut self.ends.up.crossed,
+            block,
+            prepared.dependencies.as_slice(),
+            grade,
+        );
+        self.levels
+            .lift(&self.heads, &self.ends.up.walk, block, rise);
         let sums = row_sums(&self.heads, prepared.dependencies.as_slice());
         let pending = over_block(block, sums.joined());
         link(&mut self.heads, prepared.dependencies.as_slice(), number);
@@ -104,7 +130,8 @@ impl Sparse {
         self.standings[block as usize].enter(kind, is_pending(pending, Pending::Block(block)));
         self.unmarked = self.unmarked.min(block as usize);
         self.covers[block as usize].put(span, number);
-        self.walks.walk.grow();
+        self.ends.grow();
+        self.levels.grow(number, rise.level);
         self.live += 1;
         self.numbers = number;
         (PatchNo(number), grade)

@@ -16,26 +16,34 @@ use fst_heads::links::link;
 use fst_heads::pending::{Pending, Sums, no_sums};
 use fst_heads::row::{Row, row_sums};
 use fst_types::{Fault, MAX_HEADS, MAX_NUMBER, PatchNo, Place, What};
-use fst_walks::walk::Walk;
+use fst_walks::ends::Ends;
+use fst_walks::levels::{Levels, TOP};
 use smallvec::SmallVec;
 use std::alloc::{AllocError, Global};
 
 // Room for two more heads.
 fn reserve_two(
     heads: &mut Vec<Head>,
-    walk: &mut Walk,
+    ends: &mut Ends,
+    levels: &mut Levels,
     queue: &mut Vec<u32>,
 ) -> Result<(), AllocError>
     ensures heads { heads.new.items ≡ heads.old.items }
     ensures room_heads { OnOk result (vec_len heads.new + 2 ≤ vec_capacity heads.new) }
-    ensures marks { walk.new.marks ≡ walk.old.marks }
-    ensures room_marks { OnOk result (length walk.new.marks + 2 ≤ walk.new.room) }
+    ensures marks { (ends.new.up.walk.marks ≡ ends.old.up.walk.marks) × (ends.new.down.walk.marks ≡ ends.old.down.walk.marks) }
+    ensures crossed { (ends.new.up.crossed ≡ ends.old.up.crossed) × (ends.new.down.crossed ≡ ends.old.down.crossed) }
+    ensures room_up { OnOk result (length ends.new.up.walk.marks + 2 ≤ ends.new.up.walk.room) }
+    ensures room_down { OnOk result (length ends.new.down.walk.marks + 2 ≤ ends.new.down.walk.room) }
+    ensures ranks { levels.new.ranks ≡ levels.old.ranks }
+    ensures floors { levels.new.floors ≡ levels.old.floors }
+    ensures room_ranks { OnOk result (length levels.new.ranks + 2 ≤ levels.new.room) }
     ensures queue { queue.new.items ≡ queue.old.items }
     ensures room_queue { OnOk result (vec_len heads.new + 2 ≤ vec_capacity queue.new) }
     ensures wide { vec_capacity queue.old ≤ vec_capacity queue.new }
 {
     heads.reserve(2)?;
-    walk.reserve(2)?;
+    ends.reserve(2)?;
+    levels.reserve(2)?;
     queue.reserve(heads.len() + 2)
 }
 
@@ -90,7 +98,14 @@ impl Sparse {
         if let Some(fault) = self.pair_fault() {
             return Err(fault);
         }
-        if reserve_two(&mut self.heads, &mut self.walks.walk, &mut self.queue).is_err() {
+        if reserve_two(
+            &mut self.heads,
+            &mut self.ends,
+            &mut self.levels,
+            &mut self.queue,
+        )
+        .is_err()
+        {
             return Err(Fault::Memory);
         }
         let number = self.numbers + 1;
@@ -102,8 +117,10 @@ impl Sparse {
         link(&mut self.heads, row.as_slice(), number + 1);
         self.heads
             .push_reserved(new_gate(self.alloc, number + 1, row, sums));
-        self.walks.walk.grow();
-        self.walks.walk.grow();
+        self.ends.grow();
+        self.ends.grow();
+        self.levels.grow(number, TOP);
+        self.levels.grow(number + 1, TOP);
         self.live += 2;
         self.numbers = number + 1;
         Ok(PatchNo(number))

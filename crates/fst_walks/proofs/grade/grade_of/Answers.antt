@@ -1,9 +1,8 @@
-use Rattle.std.proofs.Common.{◌∙◌, ℕ, List, Option, sym, subst}
+use Rattle.std.proofs.Common.{◌∙◌, ℕ, List, Option, sym}
 use Rattle.std.proofs.lemmas.Bool.{false≢true}
 use Rattle.fst_types.specs.{Facts.HardNeverHold, Grades.FollowsRule, Patches.Patch, declared.grade.Grade.Grade}
 use Rattle.fst_heads.specs.{Grading.{HasUnder, IsOpenBut, LeadsNowhere, MayBeHard}, Heads.patches_of}
-use Rattle.fst_walks.specs.Nearby.{Deepens}
-use Rattle.fst_walks.proofs.NearRow.{deepens_self, follows_same, rests_may, may_but}
+use Rattle.fst_walks.proofs.NearRow.{follows_same, rests_may, may_but}
 use Rattle.fst_walks.proofs.grade.grade_of.Goals.{then-rests_on_hard-via-then-rests_on_hard, then-rests_on_hard-via-else-rests_on_hard+then-waits_for_quiet_block}
 use Rattle.fst_walks.proofs.grade.grade_of.Goals as goal
 
@@ -26,4 +25,4 @@ decided patches but b row g free told = follows_same g (LeadsNowhere patches b r
 
 pub returns-clause-graded : goal.returns-clause-graded
 returns-clause-graded c =
-    decided (patches_of c.args.sight.now.heads.now) c.args.but c.args.block c.args.row.now c.grade_by_walks-2.result (λ u. false≢true (sym c.if-is_blocked.false ∙ c.is_blocked.ensures.blocked.1 u)) c.grade_by_walks-2.ensures.graded
+    decided (patches_of c.args.sight.now.heads.now) c.args.but c.args.block c.args.row.now c.grade_by_ways.result (λ u. false≢true (sym c.if-is_blocked.false ∙ c.is_blocked.ensures.blocked.1 u)) c.grade_by_ways.ensures.graded

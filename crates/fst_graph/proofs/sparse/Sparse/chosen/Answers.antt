@@ -58,10 +58,10 @@ returns c =
     let given = option_map (λ m. m.now) c.marks_if-marks.result in
     record {
       ok =
-          rw (← c.self.view_is) (chosen_ready heads s.numbers s.blocks s.walks.walk.marks _ s.standings.items s.queue.items s.queue.cap b c.self.invariant.keeps c.self.invariant.tallies (mark_in heads given) (exact c) c.ready_set.result
+          rw (← c.self.view_is) (chosen_ready heads s.numbers s.blocks s.ends.up.walk.marks _ s.standings.items s.queue.items s.queue.cap b c.self.invariant.keeps c.self.invariant.tallies (mark_in heads given) (exact c) c.ready_set.result
           (rw (← c.deref-6.ensures.value) c.ready_set.ensures.ok));
       refused =
-          rw (← c.self.view_is) (chosen_refused heads s.numbers s.blocks s.walks.walk.marks _ s.standings.items s.queue.items s.queue.cap b c.self.invariant.keeps c.self.invariant.tallies (mark_in heads given) (exact c) c.ready_set.result
+          rw (← c.self.view_is) (chosen_refused heads s.numbers s.blocks s.ends.up.walk.marks _ s.standings.items s.queue.items s.queue.cap b c.self.invariant.keeps c.self.invariant.tallies (mark_in heads given) (exact c) c.ready_set.result
           (rw (← c.deref-6.ensures.value) c.ready_set.ensures.refused));
       same = rw (← c.self.view_is) refl;
     }

@@ -3,7 +3,8 @@ use Rattle.fst_types.specs.{Dependencies.{DirectlyOn, IsLiveNumber}, Facts.Spars
 use Rattle.fst_heads.specs.{Heads.patches_of, Names.numbers_of, Nodes.{nodes_of, at_number, gains_names, linked_to, pending_in, HasRoomAbove}, Pendings.sums_of, declared.pending.Sums.Sums}
 use Rattle.fst_heads.proofs.{Added.with_names, AtNumber.patches_in_nodes, Beside.beside_depends, Covering.covered_gained, Linking.{rising_as, rising_same}}
 use Rattle.fst_walks.proofs.{Linked.patches_named, Seen.{seen, same_patches, lawful_nodes, gained_number}}
-use Rattle.fst_graph.proofs.{Borne.few, Kept.keeps_depends, Sound.{rising_sound, roomier_sound, walked_sound, as_many_places, gates_told}, Tallied.tallies_depends}
+use Rattle.fst_walks.proofs.Releveled.{gained_is_leveled}
+use Rattle.fst_graph.proofs.{Borne.few, Kept.keeps_depends, Sound.{rising_sound, roomier_sound, walked_sound, as_many_places, gates_told, over_down}, Tallied.tallies_depends}
 use Rattle.fst_graph.proofs.sparse.Sparse.depend.Goals as goal
 
 pub depend_fault-requires-clause-rising : goal.depend_fault-requires-clause-rising
@@ -29,8 +30,8 @@ reserve_above-requires c = rising_sound c.self.invariant
 
 pub invariant_of-self-in_default-reserve_above : goal.invariant_of-self-in_default-reserve_above
 invariant_of-self-in_default-reserve_above c =
-    let walked = walked_sound c.self.invariant {walked = record c.self.inside.walks { walk = c.depend_fault.new.walk }} (c.depend_fault.ensures.long ∙ ap length c.deref.ensures.value) (as_many_places c.self.invariant) in
-    roomier_sound walked c.reserve_above.ensures.nodes refl refl refl (omega arith)
+    let walked = walked_sound c.self.invariant {walked = record c.self.inside.ends { up = record c.self.inside.ends.up { walk = c.depend_fault.new.walk } }} (record { long = c.depend_fault.ensures.long ∙ ap length c.deref.ensures.value; crossed = as_many_places c.self.invariant }) (over_down c.self.invariant) in
+    roomier_sound walked c.reserve_above.ensures.nodes (refl, refl) (refl, refl) refl refl refl (omega arith)
 
 pub returns-in_default-reserve_above-clause-refused : goal.returns-in_default-reserve_above-clause-refused
 returns-in_default-reserve_above-clause-refused c = rw (← c.self.view_is, ← c.deref.ensures.value) (inr (c.in_default.ensures.clear, refl))
@@ -49,8 +50,8 @@ gain-requires-clause-names c = subst (λ row. c.row_sums-sums.result.count ≤ l
 
 pub invariant_of-self-in_default-gain : goal.invariant_of-self-in_default-gain
 invariant_of-self-in_default-gain c =
-    let walked = walked_sound c.self.invariant {walked = record c.self.inside.walks { walk = c.depend_fault.new.walk }} (c.depend_fault.ensures.long ∙ ap length c.deref.ensures.value) (as_many_places c.self.invariant) in
-    roomier_sound walked (c.in_default-gain.ensures.same ∙ c.reserve_above.ensures.nodes) refl refl refl (omega arith)
+    let walked = walked_sound c.self.invariant {walked = record c.self.inside.ends { up = record c.self.inside.ends.up { walk = c.depend_fault.new.walk } }} (record { long = c.depend_fault.ensures.long ∙ ap length c.deref.ensures.value; crossed = as_many_places c.self.invariant }) (over_down c.self.invariant) in
+    roomier_sound walked (c.in_default-gain.ensures.same ∙ c.reserve_above.ensures.nodes) (refl, refl) (refl, refl) refl refl refl (omega arith)
 
 pub returns-in_default-gain-clause-refused : goal.returns-in_default-gain-clause-refused
 returns-in_default-gain-clause-refused c = rw (← c.self.view_is, ← c.deref.ensures.value) (inr (c.in_default.ensures.clear, refl))
@@ -114,17 +115,20 @@ invariant_of-self-2 c =
     let numbers = c.self.inside.numbers in
     let g = c.args.gate.0 in
     let on = numbers_of c.args.on.now in
-    let K = (walked_sound c.self.invariant {walked = record c.self.inside.walks { walk = c.depend_fault.new.walk }} (c.depend_fault.ensures.long ∙ ap length c.deref.ensures.value) (as_many_places c.self.invariant)).keeps in
+    let walked = walked_sound c.self.invariant {walked = record c.self.inside.ends { up = record c.self.inside.ends.up { walk = c.depend_fault.new.walk } }} (record { long = c.depend_fault.ensures.long ∙ ap length c.deref.ensures.value; crossed = as_many_places c.self.invariant }) (over_down c.self.invariant) in
+    let K = walked.keeps in
     let T = c.self.invariant.tallies in
     let back = sym (patches_in_nodes heads) in
     let live_there = subst (λ ps. Lists (λ n. IsLiveNumber ps n × Contains on n × (DirectlyOn ps g n → ⊥)) c.in-Ok.names.items) back (live c) in
     let keeps = keeps_depends (patches_of heads) numbers c.self.inside.blocks g c.in-Ok.names.items on c.depend_fault.new.walk.marks _ K (gate c) (clear c) (live c) refl in
     let lawful = subst (λ ps. SparseAreLawful ps numbers) (sym (new_patches c) ∙ seen c.link.new.heads.items _ (named c)) keeps.lawful in record {
       keeps = rw (new_patches c) keeps;
-      beside = rw (new_patches c) (beside_depends (patches_of heads) c.self.inside.blocks c.self.inside.live c.self.inside.walks.crossed.items g c.in-Ok.names.items c.self.invariant.beside);
+      beside = rw (new_patches c) (beside_depends (patches_of heads) c.self.inside.blocks c.self.inside.live c.self.inside.ends.up.crossed.items g c.in-Ok.names.items c.self.invariant.beside);
       tallies = rw (named c)
           (tallies_depends (nodes_of heads) numbers c.self.inside.blocks _ _ _ _ g on c.in-Ok.names.items (lawful_nodes heads numbers c.self.invariant.keeps.lawful) lawful T (subst (λ ps. IsOpenNumber ps g) back (gate c)) live_there);
       covered = rw (new_patches c) (covered_gained (patches_of heads) g c.in-Ok.names.items c.self.inside.blocks c.self.inside.covers.items c.self.invariant.covered);
+      along = walked.along;
+      leveled = rw (new_patches c) (gained_is_leveled (patches_of heads) g c.in-Ok.names.items (gate c) c.self.inside.blocks c.self.inside.levels c.self.invariant.leveled);
       none_below = c.self.invariant.none_below;
       prepared = tt;
     }

@@ -49,7 +49,7 @@ returns-then-held_count-eq0-clause-none c =
     let held : c.held_count.result ≡ count_by (is_held_on b) (nodes_of heads) = c.held_count.ensures none_yet stands.0 ∙ ap (λ t. t.held) (stands.1 none_yet) in
     let none = none_bound behind b (nodes_of heads) (λ n. ap (λ t. t && mark n) c.if-not-flying.true) (omega (arith, held, c.if-held_count-eq0.true)) in
     rw (← c.self.view_is)
-    (none_held heads s.numbers s.blocks s.walks.walk.marks _ s.standings.items s.queue.items s.queue.cap b c.self.invariant.keeps c.self.invariant.tallies behind
+    (none_held heads s.numbers s.blocks s.ends.up.walk.marks _ s.standings.items s.queue.items s.queue.cap b c.self.invariant.keeps c.self.invariant.tallies behind
     (λ n. rw (← c.deref-2.ensures.value) (c.mark_flight-flying.ensures.behind n)) None none)
 
 -- the marks tell what waits behind what flies of the block
@@ -64,10 +64,10 @@ returns c =
     let given = option_map (λ m. m.now) c.marks_if-marks.result in
     record {
       none =
-          rw (← c.self.view_is) (none_held heads s.numbers s.blocks s.walks.walk.marks _ s.standings.items s.queue.items s.queue.cap b c.self.invariant.keeps c.self.invariant.tallies (mark_in heads given) (exact c) c.first_held.result
+          rw (← c.self.view_is) (none_held heads s.numbers s.blocks s.ends.up.walk.marks _ s.standings.items s.queue.items s.queue.cap b c.self.invariant.keeps c.self.invariant.tallies (mark_in heads given) (exact c) c.first_held.result
           (rw (← c.deref-5.ensures.value) c.first_held.ensures.none));
       least =
-          rw (← c.self.view_is) (least_held heads s.numbers s.blocks s.walks.walk.marks _ s.standings.items s.queue.items s.queue.cap b c.self.invariant.keeps c.self.invariant.tallies (mark_in heads given) (exact c) c.first_held.result
+          rw (← c.self.view_is) (least_held heads s.numbers s.blocks s.ends.up.walk.marks _ s.standings.items s.queue.items s.queue.cap b c.self.invariant.keeps c.self.invariant.tallies (mark_in heads given) (exact c) c.first_held.result
           (rw (← c.deref-5.ensures.value) c.first_held.ensures.least));
       same = rw (← c.self.view_is) refl;
     }

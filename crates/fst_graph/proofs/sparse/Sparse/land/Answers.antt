@@ -5,7 +5,7 @@ use Rattle.fst_types.proofs.Landing.{alike_landed}
 use Rattle.fst_heads.proofs.{AtNumber.patches_in_nodes, Beside.{beside_landed, landed_few}, Carried.{linked_landed, distinct_landed}}
 use Rattle.fst_heads.proofs.{Counts.flying_counted, Listing.{nothing_flies, is_off}, Starting.{starts_landed, patches_landed}}
 use Rattle.fst_walks.proofs.{Resting.none_yet, Seen.{seen, lawful_nodes}, Shelves.shelved}
-use Rattle.fst_graph.proofs.{Borne.{inside_nodes, stand_land}, Kept.{covered_moved, keeps_landed}, Sound.{rising_sound, as_many_lists, as_many_standings}}
+use Rattle.fst_graph.proofs.{Borne.{inside_nodes, stand_land}, Kept.{covered_moved, keeps_landed}, Ranks.leveled_moved, Sound.{rising_sound, as_many_lists, as_many_standings}}
 use Rattle.fst_graph.proofs.{Tallied.tallies_landed, sparse.Sparse.land.Goals.After-cascade-landed}
 use Rattle.fst_graph.proofs.sparse.Sparse.land.Goals as goal
 
@@ -76,7 +76,7 @@ pub overflow_sub-self : goal.overflow_sub-self
 overflow_sub-self c =
     let new = c.cascade-landed.new.heads.items in
     let T = c.self.invariant.tallies in
-    landed_few c.self.inside.heads.items c.land_block.new.heads.items new (lands c.args.block.0) c.self.inside.blocks c.self.inside.live c.cascade-landed.result c.self.inside.walks.crossed.items c.land_block.ensures.nodes (λ x. refl) T.settled (settled c)
+    landed_few c.self.inside.heads.items c.land_block.new.heads.items new (lands c.args.block.0) c.self.inside.blocks c.self.inside.live c.cascade-landed.result c.self.inside.ends.up.crossed.items c.land_block.ensures.nodes (λ x. refl) T.settled (settled c)
     c.cascade-landed.ensures.landed c.self.invariant.beside
 
 pub invariant_of-self : goal.invariant_of-self
@@ -95,15 +95,17 @@ invariant_of-self c =
     let at = (goal.at.invariant_of-self c).After-cascade-landed in
     let spread : IsSpreadOf (map (lands b) nodes) (nodes_of new) = subst (λ ns. IsSpreadOf ns (nodes_of new)) c.land_block.ensures.nodes c.cascade-landed.ensures.spread in
     let standing = subst (λ k. AllStand (nodes_of new) k c.cascade-landed.new.standings.items) (c.land_at.ensures.len ∙ as_many_standings c.self.invariant) c.cascade-landed.ensures.standing in
-    let kept = keeps_landed old (patches_of new) n blocks b c.self.inside.walks.walk.marks c.self.inside.walks.walk.marks c.self.invariant.keeps (cascade at) refl in
+    let kept = keeps_landed old (patches_of new) n blocks b c.self.inside.ends.up.walk.marks c.self.inside.ends.up.walk.marks c.self.invariant.keeps (cascade at) refl in
     let listed : AreListed (patches_in (map (lands b) nodes)) blocks (shelved c.land_block.new.lists.items) =
     subst (λ k. AreListed (patches_in (map (lands b) nodes)) k (shelved c.land_block.new.lists.items)) long
     (subst (λ ps. AreListed ps (length lists) (shelved c.land_block.new.lists.items)) (seen mid _ c.land_block.ensures.nodes) c.land_block.ensures.listed) in record {
       keeps = kept;
-      beside = beside_landed heads mid new (lands b) blocks c.self.inside.live c.cascade-landed.result c.self.inside.walks.crossed.items c.land_block.ensures.nodes (λ x. refl) T.settled (settled at) c.cascade-landed.ensures.landed c.self.invariant.beside;
+      beside = beside_landed heads mid new (lands b) blocks c.self.inside.live c.cascade-landed.result c.self.inside.ends.up.crossed.items c.land_block.ensures.nodes (λ x. refl) T.settled (settled at) c.cascade-landed.ensures.landed c.self.invariant.beside;
       tallies = rw (c.cascade-landed.ensures.empty, c.cascade-landed.ensures.capacity, c.land_block.ensures.capacity)
           (tallies_landed nodes (nodes_of new) n blocks b _ _ _ _ _ _ (lawful_nodes new n kept.lawful) T listed spread (settled at) standing);
       covered = covered_moved (alike_landed old (patches_of new) n b c.self.invariant.keeps.lawful (cascade at)) kept c.self.invariant.covered;
+      along = c.self.invariant.along;
+      leveled = leveled_moved (alike_landed old (patches_of new) n b c.self.invariant.keeps.lawful (cascade at)) c.self.invariant.leveled;
       none_below = λ b d lt. absurd (omega (arith, lt));
       prepared = tt;
     }

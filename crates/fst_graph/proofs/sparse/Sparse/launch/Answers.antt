@@ -6,7 +6,7 @@ use Rattle.fst_types.proofs.Issuing.{alike_launched}
 use Rattle.fst_heads.proofs.{AtNumber.patches_in_nodes, Beside.beside_kept, Placed.patches_launched}
 use Rattle.fst_walks.proofs.{Resting.none_yet, Seen.{seen, lawful_nodes}}
 use Rattle.fst_graph.proofs.{Borne.inside_nodes, Kept.{covered_moved, keeps_launched, none_below_launched}, Launches.{some_chosen, first_named, none_first, block_found, block_some, tallies_chosen}}
-use Rattle.fst_graph.proofs.{Marking.writable_rests, Sound.{as_many_standings, rising_sound}, sparse.Sparse.launch.Goals.{After-deref, After-index_mut-arg-1}}
+use Rattle.fst_graph.proofs.{Marking.writable_rests, Ranks.leveled_moved, Sound.{as_many_standings, rising_sound}, sparse.Sparse.launch.Goals.{After-deref, After-index_mut-arg-1}}
 use Rattle.fst_graph.proofs.sparse.Sparse.launch.Goals as goal
 
 pub block_of-requires : goal.block_of-requires
@@ -62,14 +62,16 @@ invariant_of-self-2 c =
     let C = choice (goal.at.invariant_of-self-2 c).After-deref in
     let new : patches_of c.launch_all.new.heads.items ≡ map (launched chosen) (patches_of heads) =
     seen c.launch_all.new.heads.items _ c.launch_all.ensures ∙ (patches_launched (nodes_of heads) chosen ∙ ap (map (launched chosen)) same) in
-    let kept = keeps_launched _ n blocks b chosen c.self.inside.walks.walk.marks K W C in
+    let kept = keeps_launched _ n blocks b chosen c.self.inside.ends.up.walk.marks K W C in
     let lawful = subst (λ ps. SparseAreLawful (map (launched chosen) ps) n) (sym same) kept.lawful in
     let tallies = tallies_chosen (nodes_of heads) n blocks b c.in-Some-block_of.block _ c.self.inside.standings.items _ _ chosen c.index_mut.result.now c.launch.new.self (lawful_nodes heads n K.lawful) lawful (inside_nodes heads blocks K.inside) c.self.invariant.tallies
     (subst (λ ps. IsWritable ps b) (sym same) W) (subst (λ ps. IsWritableSet ps b chosen) (sym same) C) (here (goal.at.invariant_of-self-2 c).After-index_mut-arg-1) c.index_mut.ensures.value c.launch.ensures in record {
       keeps = rw new kept;
-      beside = beside_kept heads c.launch_all.new.heads.items (launches chosen) blocks c.self.inside.live c.self.inside.walks.crossed.items c.launch_all.ensures (λ x. refl) c.self.invariant.tallies.settled (rw c.launch_all.ensures tallies.settled) c.self.invariant.beside;
+      beside = beside_kept heads c.launch_all.new.heads.items (launches chosen) blocks c.self.inside.live c.self.inside.ends.up.crossed.items c.launch_all.ensures (λ x. refl) c.self.invariant.tallies.settled (rw c.launch_all.ensures tallies.settled) c.self.invariant.beside;
       tallies = rw c.launch_all.ensures tallies;
       covered = rw new (covered_moved (alike_launched (patches_of heads) n b chosen K.lawful W C) kept c.self.invariant.covered);
+      along = c.self.invariant.along;
+      leveled = rw new (leveled_moved (alike_launched (patches_of heads) n b chosen K.lawful W C) c.self.invariant.leveled);
       none_below = rw c.launch.ensures (none_below_launched c.self.inside.standings.items c.self.inside.unmarked c.in-Some-block_of.block _ _ c.self.invariant.none_below);
       prepared = tt;
     }

@@ -5,7 +5,7 @@ use Rattle.fst_graph.specs.{Known.Known, Membering.{ArePaired, BeginsAs, member_
 use Rattle.fst_heads.proofs.Linking.{rising_same}
 use Rattle.fst_walks.proofs.Seen.{same_patches}
 use Rattle.fst_graph.proofs.{Borne.ok_of, MemberReady.{member_ready, foretold}, Readied.member_put}
-use Rattle.fst_graph.proofs.Sound.{as_many_lists, as_many_marks, as_many_places, gates_told, listed_sound, rising_sound, roomier_sound, sees_all, walked_sound, with_prepared}
+use Rattle.fst_graph.proofs.Sound.{as_many_lists, as_many_marks, as_many_places, gates_told, listed_sound, over_down, over_now, over_then, rising_sound, roomier_sound, sees_all, walked_sound, with_prepared}
 use Rattle.fst_graph.proofs.sparse.Sparse.member_room.Goals.{After-deref, After-reserve_below}
 use Rattle.fst_graph.proofs.sparse.Sparse.member_room.Goals as goal
 
@@ -15,7 +15,7 @@ inside c = subst (λ (v : Known). c.args.block.0 < v.blocks) (sym c.self.view_is
 
 pub member_fault-requires : goal.member_fault-requires
 member_fault-requires c = record {
-  sees = sees_all c.self.invariant _ c.deref.ensures.value c.deref-2.ensures.value c.deref-3.ensures.value c.deref-4.ensures.value;
+  sees = sees_all c.self.invariant _ c.deref.ensures.value c.deref-2.ensures.value c.deref-3.ensures.value c.deref-4.ensures.value refl;
   gates = rw c.deref.ensures.value (gates_told c.self.invariant);
   long = as_many_marks c.self.invariant ∙ sym (ap length c.deref.ensures.value);
   block = omega (arith, inside (goal.at.member_fault-requires c).After-deref, as_many_lists c.self.invariant, ap length c.deref-2.ensures.value);
@@ -26,13 +26,16 @@ pub returns-in-Some-clause-refused : goal.returns-in-Some-clause-refused
 returns-in-Some-clause-refused c = rw (← c.self.view_is, ← c.deref.ensures.value) (inl c.in-Some.ensures.first)
 
 pub prepare_member-requires-clause-sees : goal.prepare_member-requires-clause-sees
-prepare_member-requires-clause-sees c = sees_all c.self.invariant _ c.deref.ensures.value c.deref-2.ensures.value c.deref-3.ensures.value c.deref-4.ensures.value
+prepare_member-requires-clause-sees c = sees_all c.self.invariant _ c.deref.ensures.value c.deref-2.ensures.value c.deref-3.ensures.value c.deref-4.ensures.value refl
 
 pub prepare_member-requires-clause-counted : goal.prepare_member-requires-clause-counted
 prepare_member-requires-clause-counted c = rw c.deref.ensures.value c.self.invariant.tallies.counted
 
-pub prepare_member-requires-clause-crossed : goal.prepare_member-requires-clause-crossed
-prepare_member-requires-clause-crossed c = as_many_places c.self.invariant ∙ sym (ap length c.deref-2.ensures.value)
+pub prepare_member-requires-clause-up : goal.prepare_member-requires-clause-up
+prepare_member-requires-clause-up c = record { long = c.member_fault.ensures.long; crossed = as_many_places c.self.invariant ∙ sym (ap length c.deref-2.ensures.value) }
+
+pub prepare_member-requires-clause-down : goal.prepare_member-requires-clause-down
+prepare_member-requires-clause-down c = over_then c.deref.ensures.value c.deref-2.ensures.value (over_down c.self.invariant)
 
 pub prepare_member-requires-clause-block : goal.prepare_member-requires-clause-block
 prepare_member-requires-clause-block c =
@@ -41,13 +44,13 @@ prepare_member-requires-clause-block c =
 
 pub invariant_of-self-then-is_err : goal.invariant_of-self-then-is_err
 invariant_of-self-then-is_err c =
-    let walked = walked_sound c.self.invariant {walked = c.prepare_member.new.walks} (c.prepare_member.ensures.long ∙ ap length c.deref.ensures.value) (c.prepare_member.ensures.crossed ∙ ap length c.deref-2.ensures.value) in
-    roomier_sound walked (ap nodes_of c.reserve_one.ensures.heads) c.reserve_one.ensures.marks refl c.reserve_one.ensures.queue c.reserve_one.ensures.wide
+    let walked = walked_sound c.self.invariant {walked = c.prepare_member.new.ends} (over_now c.deref.ensures.value c.deref-2.ensures.value c.prepare_member.ensures.up) (over_now c.deref.ensures.value c.deref-2.ensures.value c.prepare_member.ensures.down) in
+    roomier_sound walked (ap nodes_of c.reserve_one.ensures.heads) c.reserve_one.ensures.marks c.reserve_one.ensures.crossed c.reserve_one.ensures.ranks c.reserve_one.ensures.floors c.reserve_one.ensures.queue c.reserve_one.ensures.wide
 
 pub invariant_of-self-then-is_err-2 : goal.invariant_of-self-then-is_err-2
 invariant_of-self-then-is_err-2 c =
-    let walked = walked_sound c.self.invariant {walked = c.prepare_member.new.walks} (c.prepare_member.ensures.long ∙ ap length c.deref.ensures.value) (c.prepare_member.ensures.crossed ∙ ap length c.deref-2.ensures.value) in
-    roomier_sound walked (c.reserve_above.ensures.nodes ∙ ap nodes_of c.reserve_one.ensures.heads) c.reserve_one.ensures.marks refl c.reserve_one.ensures.queue c.reserve_one.ensures.wide
+    let walked = walked_sound c.self.invariant {walked = c.prepare_member.new.ends} (over_now c.deref.ensures.value c.deref-2.ensures.value c.prepare_member.ensures.up) (over_now c.deref.ensures.value c.deref-2.ensures.value c.prepare_member.ensures.down) in
+    roomier_sound walked (c.reserve_above.ensures.nodes ∙ ap nodes_of c.reserve_one.ensures.heads) c.reserve_one.ensures.marks c.reserve_one.ensures.crossed c.reserve_one.ensures.ranks c.reserve_one.ensures.floors c.reserve_one.ensures.queue c.reserve_one.ensures.wide
 
 -- the nodes are as they were
 still : (c : After-reserve_below) → nodes_of c.reserve_below.new.heads.items ≡ nodes_of c.self.inside.heads.items
@@ -55,14 +58,14 @@ still c = c.reserve_below.ensures.nodes ∙ (c.reserve_above.ensures.nodes ∙ a
 
 pub invariant_of-self-then-is_err-3 : goal.invariant_of-self-then-is_err-3
 invariant_of-self-then-is_err-3 c =
-    let walked = walked_sound c.self.invariant {walked = c.prepare_member.new.walks} (c.prepare_member.ensures.long ∙ ap length c.deref.ensures.value) (c.prepare_member.ensures.crossed ∙ ap length c.deref-2.ensures.value) in
-    roomier_sound walked (still (goal.at.invariant_of-self-then-is_err-3 c).After-reserve_below) c.reserve_one.ensures.marks refl c.reserve_one.ensures.queue c.reserve_one.ensures.wide
+    let walked = walked_sound c.self.invariant {walked = c.prepare_member.new.ends} (over_now c.deref.ensures.value c.deref-2.ensures.value c.prepare_member.ensures.up) (over_now c.deref.ensures.value c.deref-2.ensures.value c.prepare_member.ensures.down) in
+    roomier_sound walked (still (goal.at.invariant_of-self-then-is_err-3 c).After-reserve_below) c.reserve_one.ensures.marks c.reserve_one.ensures.crossed c.reserve_one.ensures.ranks c.reserve_one.ensures.floors c.reserve_one.ensures.queue c.reserve_one.ensures.wide
 
 pub invariant_of-self-then-is_err-4 : goal.invariant_of-self-then-is_err-4
 invariant_of-self-then-is_err-4 c =
-    let walked = walked_sound c.self.invariant {walked = c.prepare_member.new.walks} (c.prepare_member.ensures.long ∙ ap length c.deref.ensures.value) (c.prepare_member.ensures.crossed ∙ ap length c.deref-2.ensures.value) in
+    let walked = walked_sound c.self.invariant {walked = c.prepare_member.new.ends} (over_now c.deref.ensures.value c.deref-2.ensures.value c.prepare_member.ensures.up) (over_now c.deref.ensures.value c.deref-2.ensures.value c.prepare_member.ensures.down) in
     let same = still (goal.at.invariant_of-self-then-is_err-4 c).After-reserve_below in
-    listed_sound (roomier_sound walked same c.reserve_one.ensures.marks refl c.reserve_one.ensures.queue c.reserve_one.ensures.wide) c.reserve_on.ensures.entries c.reserve_on.ensures.covered
+    listed_sound (roomier_sound walked same c.reserve_one.ensures.marks c.reserve_one.ensures.crossed c.reserve_one.ensures.ranks c.reserve_one.ensures.floors c.reserve_one.ensures.queue c.reserve_one.ensures.wide) c.reserve_on.ensures.entries c.reserve_on.ensures.covered
 
 pub reserve_above-requires : goal.reserve_above-requires
 reserve_above-requires c = rw c.reserve_one.ensures.heads (rising_sound c.self.invariant)
@@ -98,19 +101,19 @@ prepared c =
     rw (made.block, made.span) (subst (λ hs. (begun : List Patch) → BeginsAs (patches_of hs) gates.head begun → IsSparseRow begun (gates.head ∷ []) c.args.block.0 c.args.span.at c.args.span.len p.dependencies.items) c.deref.ensures.value made.depends) in
     let follows : (begun : List Patch) → BeginsAs old gates.head begun → FollowsRule p.grade (MayBeHard begun None p.block p.dependencies.items) =
     rw made.block (subst (λ hs. (begun : List Patch) → BeginsAs (patches_of hs) gates.head begun → FollowsRule p.grade (MayBeHard begun None c.args.block.0 p.dependencies.items)) c.deref.ensures.value made.graded) in
-    member_ready old n c.self.inside.blocks c.self.inside.walks.walk.marks c.self.invariant.keeps gates paired p made.names there clear depends follows
+    member_ready old n c.self.inside.blocks c.self.inside.ends.up.walk.marks c.self.invariant.keeps gates paired p made.names there clear depends follows
 
 pub invariant_of-self-2 : goal.invariant_of-self-2
 invariant_of-self-2 c =
     let heads = c.self.inside.heads.items in
     let made = c.in-Ok.ensures in
-    let walked = walked_sound c.self.invariant {walked = c.prepare_member.new.walks} (c.prepare_member.ensures.long ∙ ap length c.deref.ensures.value) (c.prepare_member.ensures.crossed ∙ ap length c.deref-2.ensures.value) in
+    let walked = walked_sound c.self.invariant {walked = c.prepare_member.new.ends} (over_now c.deref.ensures.value c.deref-2.ensures.value c.prepare_member.ensures.up) (over_now c.deref.ensures.value c.deref-2.ensures.value c.prepare_member.ensures.down) in
     let same = still (goal.at.invariant_of-self-2 c).After-reserve_below in
     let above = ok_of c.reserve_above.result _ c.reserve_above.ensures.room (sym c.is_err-2.ensures.value ∙ c.if-is_err-2.false) in
     let below = ok_of c.reserve_below.result _ c.reserve_below.ensures.room (sym c.is_err-3.ensures.value ∙ c.if-is_err-3.false) in
-    with_prepared (listed_sound (roomier_sound walked same c.reserve_one.ensures.marks refl c.reserve_one.ensures.queue c.reserve_one.ensures.wide) c.reserve_on.ensures.entries c.reserve_on.ensures.covered) (record {
+    with_prepared (listed_sound (roomier_sound walked same c.reserve_one.ensures.marks c.reserve_one.ensures.crossed c.reserve_one.ensures.ranks c.reserve_one.ensures.floors c.reserve_one.ensures.queue c.reserve_one.ensures.wide) c.reserve_on.ensures.entries c.reserve_on.ensures.covered) (record {
       ready = rw (same_patches c.reserve_below.new.heads.items heads same) (member_put c.in-Ok.prepared c.args.gates (patches_of heads) c.self.inside.numbers c.self.inside.blocks made.gates (prepared c));
-      places = rw (c.reserve_below.ensures.len, c.reserve_below.ensures.capacity, c.reserve_above.ensures.len, c.reserve_above.ensures.capacity) (record { heads_free = search rules; marks_free = search rules; queue_free = search rules });
+      places = rw (c.reserve_below.ensures.len, c.reserve_below.ensures.capacity, c.reserve_above.ensures.len, c.reserve_above.ensures.capacity) (record { heads_free = search rules; marks_free = search rules; queue_free = search rules; below_free = search rules; ranks_free = search rules });
       around = (rw (← c.as_slice.ensures) (c.reserve_below.ensures.above c.as_slice.result.now above), rw made.gates below);
       in_list = rw made.block (ok_of c.reserve_on.result _ c.reserve_on.ensures.in_list (sym c.is_err-4.ensures.value ∙ c.if-is_err-4.false));
       bytes = rw (made.block, made.span) (ok_of c.reserve_on.result _ c.reserve_on.ensures.bytes (sym c.is_err-4.ensures.value ∙ c.if-is_err-4.false));
@@ -120,7 +123,7 @@ pub returns-clause-ok : goal.returns-clause-ok
 returns-clause-ok c =
     let s = c.self.inside in
     rw (← c.self.view_is, ← c.in-Ok.ensures.block, ← c.in-Ok.ensures.span)
-    (foretold (record { heads = patches_of s.heads.items; numbers = s.numbers; blocks = s.blocks; groups = []; prepared = None }) s.blocks s.walks.walk.marks c.self.invariant.keeps c.args.gates c.in-Ok.prepared (prepared c))
+    (foretold (record { heads = patches_of s.heads.items; numbers = s.numbers; blocks = s.blocks; groups = []; prepared = None }) s.blocks s.ends.up.walk.marks c.self.invariant.keeps c.args.gates c.in-Ok.prepared (prepared c))
 
 pub returns-clause-prepared : goal.returns-clause-prepared
 returns-clause-prepared c =

@@ -1,16 +1,16 @@
-use Rattle.std.proofs.Common.{◌≡◌, [], length, refl, arith}
+use Rattle.std.proofs.Common.{◌∙◌, [], refl, sym, arith}
 use Rattle.fst_heads.proofs.Making.{keeps_none}
-use Rattle.fst_graph.proofs.Tallied.{tallies_from}
+use Rattle.fst_graph.proofs.{Kept.keeps_walked, Tallied.tallies_from}
 use Rattle.fst_graph.proofs.sparse.Sparse.new.Goals as goal
 
 pub invariant_of-result : goal.invariant_of-result
 invariant_of-result c =
-    let places : length c.in-Ok.crossed.items ≡ c.args.shape.blocks = omega (arith, c.in-Ok.crossed.ok.0, c.in-Ok.ensures.len) in
+    let ends = c.in-Ok.ensures in
     let K = keeps_none c.args.numbers c.args.shape.blocks (omega (arith, c.ranges.numbers.fits)) in
     record {
-      keeps = rw (c.new.ensures.items, c.new-2.ensures) K;
-      beside = rw c.new.ensures.items (record { places = places; counted = refl });
-      tallies = rw (c.new.ensures.items, c.new-3.ensures.items) (tallies_from [] c.args.numbers c.args.numbers c.args.shape.blocks _ _ [] _ K.lawful
+      keeps = rw c.new-3.ensures.items (keeps_walked ends.0.long K);
+      beside = rw c.new-3.ensures.items (record { places = ends.0.crossed; counted = refl });
+      tallies = rw (c.new-3.ensures.items, c.new-4.ensures.items) (tallies_from [] c.args.numbers c.args.numbers c.args.shape.blocks _ _ [] _ K.lawful
           (λ p q h. absurd (omega (arith, h.1)))
           (λ x n h. absurd (omega (arith, h.1)))
           (λ x h. absurd (omega (arith, h.1)))
@@ -19,7 +19,9 @@ invariant_of-result c =
           c.in-Ok-empty_standings.ensures
           refl
           (omega arith));
-      covered = rw c.new.ensures.items c.in-Ok-empty_covers.ensures;
+      covered = rw c.new-3.ensures.items c.in-Ok-empty_covers.ensures;
+      along = record { marks = ends.1.long ∙ sym ends.0.long; places = ends.1.crossed ∙ sym ends.0.crossed };
+      leveled = rw c.new-3.ensures.items c.in-Ok-new.ensures;
       none_below = λ b d lt. absurd (omega (arith, lt));
       prepared = tt;
     }

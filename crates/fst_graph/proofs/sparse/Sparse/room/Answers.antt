@@ -4,7 +4,7 @@ use Rattle.fst_heads.specs.{Grading.MayBeHard, Heads.patches_of, Names.numbers_o
 use Rattle.fst_graph.specs.Known.{Known}
 use Rattle.fst_heads.proofs.Touching.{graded_change}
 use Rattle.fst_walks.proofs.Seen.{same_patches}
-use Rattle.fst_graph.proofs.{Borne.ok_of, Sound.{as_many_lists, as_many_marks, as_many_places, listed_sound, rising_sound, roomier_sound, sees_all, walked_sound, with_prepared}}
+use Rattle.fst_graph.proofs.{Borne.ok_of, Sound.{as_many_lists, listed_sound, over_down, over_now, over_then, over_up, rising_sound, roomier_sound, sees_all, walked_sound, with_prepared}}
 use Rattle.fst_graph.proofs.sparse.Sparse.room.Goals.{After-deref, After-reserve_above}
 use Rattle.fst_graph.proofs.sparse.Sparse.room.Goals as goal
 
@@ -34,7 +34,7 @@ returns-clause-ok c =
           dependencies = row;
           sparse = depends;
           added = refl;
-          graded = graded_change old n blocks c.self.inside.walks.walk.marks c.self.invariant.keeps b at len names p.grade row depends follows;
+          graded = graded_change old n blocks c.self.inside.ends.up.walk.marks c.self.invariant.keeps b at len names p.grade row depends follows;
         };
         numbers = refl;
         blocks = refl;
@@ -49,16 +49,16 @@ inside c = subst (λ (v : Known). c.args.block.0 < v.blocks) (sym c.self.view_is
 
 pub prepare-requires : goal.prepare-requires
 prepare-requires c = record {
-  sees = sees_all c.self.invariant _ c.deref-2.ensures.value c.deref-3.ensures.value c.deref-4.ensures.value c.deref-5.ensures.value;
-  long = as_many_marks c.self.invariant ∙ sym (ap length c.deref-2.ensures.value);
-  crossed = as_many_places c.self.invariant ∙ sym (ap length c.deref-3.ensures.value);
+  sees = sees_all c.self.invariant _ c.deref-2.ensures.value c.deref-3.ensures.value c.deref-4.ensures.value c.deref-5.ensures.value refl;
+  up = over_then c.deref-2.ensures.value c.deref-3.ensures.value (over_up c.self.invariant);
+  down = over_then c.deref-2.ensures.value c.deref-3.ensures.value (over_down c.self.invariant);
   block = omega (arith, inside (goal.at.prepare-requires c).After-deref, as_many_lists c.self.invariant, ap length c.deref-3.ensures.value);
 }
 
 pub invariant_of-self-then-is_err : goal.invariant_of-self-then-is_err
 invariant_of-self-then-is_err c =
-    let walked = walked_sound c.self.invariant {walked = c.prepare.new.walks} (c.prepare.ensures.long ∙ ap length c.deref-2.ensures.value) (c.prepare.ensures.crossed ∙ ap length c.deref-3.ensures.value) in
-    roomier_sound walked (ap nodes_of c.reserve_one.ensures.heads) c.reserve_one.ensures.marks refl c.reserve_one.ensures.queue c.reserve_one.ensures.wide
+    let walked = walked_sound c.self.invariant {walked = c.prepare.new.ends} (over_now c.deref-2.ensures.value c.deref-3.ensures.value c.prepare.ensures.up) (over_now c.deref-2.ensures.value c.deref-3.ensures.value c.prepare.ensures.down) in
+    roomier_sound walked (ap nodes_of c.reserve_one.ensures.heads) c.reserve_one.ensures.marks c.reserve_one.ensures.crossed c.reserve_one.ensures.ranks c.reserve_one.ensures.floors c.reserve_one.ensures.queue c.reserve_one.ensures.wide
 
 -- the nodes are as they were
 still : (c : After-reserve_above) → nodes_of c.reserve_above.new.heads.items ≡ nodes_of c.self.inside.heads.items
@@ -66,14 +66,14 @@ still c = c.reserve_above.ensures.nodes ∙ ap nodes_of c.reserve_one.ensures.he
 
 pub invariant_of-self-then-is_err-2 : goal.invariant_of-self-then-is_err-2
 invariant_of-self-then-is_err-2 c =
-    let walked = walked_sound c.self.invariant {walked = c.prepare.new.walks} (c.prepare.ensures.long ∙ ap length c.deref-2.ensures.value) (c.prepare.ensures.crossed ∙ ap length c.deref-3.ensures.value) in
-    roomier_sound walked (still (goal.at.invariant_of-self-then-is_err-2 c).After-reserve_above) c.reserve_one.ensures.marks refl c.reserve_one.ensures.queue c.reserve_one.ensures.wide
+    let walked = walked_sound c.self.invariant {walked = c.prepare.new.ends} (over_now c.deref-2.ensures.value c.deref-3.ensures.value c.prepare.ensures.up) (over_now c.deref-2.ensures.value c.deref-3.ensures.value c.prepare.ensures.down) in
+    roomier_sound walked (still (goal.at.invariant_of-self-then-is_err-2 c).After-reserve_above) c.reserve_one.ensures.marks c.reserve_one.ensures.crossed c.reserve_one.ensures.ranks c.reserve_one.ensures.floors c.reserve_one.ensures.queue c.reserve_one.ensures.wide
 
 pub invariant_of-self-then-is_err-3 : goal.invariant_of-self-then-is_err-3
 invariant_of-self-then-is_err-3 c =
-    let walked = walked_sound c.self.invariant {walked = c.prepare.new.walks} (c.prepare.ensures.long ∙ ap length c.deref-2.ensures.value) (c.prepare.ensures.crossed ∙ ap length c.deref-3.ensures.value) in
+    let walked = walked_sound c.self.invariant {walked = c.prepare.new.ends} (over_now c.deref-2.ensures.value c.deref-3.ensures.value c.prepare.ensures.up) (over_now c.deref-2.ensures.value c.deref-3.ensures.value c.prepare.ensures.down) in
     let same = still (goal.at.invariant_of-self-then-is_err-3 c).After-reserve_above in
-    listed_sound (roomier_sound walked same c.reserve_one.ensures.marks refl c.reserve_one.ensures.queue c.reserve_one.ensures.wide) c.reserve_on.ensures.entries c.reserve_on.ensures.covered
+    listed_sound (roomier_sound walked same c.reserve_one.ensures.marks c.reserve_one.ensures.crossed c.reserve_one.ensures.ranks c.reserve_one.ensures.floors c.reserve_one.ensures.queue c.reserve_one.ensures.wide) c.reserve_on.ensures.entries c.reserve_on.ensures.covered
 
 pub invariant_of-self-2 : goal.invariant_of-self-2
 invariant_of-self-2 c =
@@ -83,18 +83,18 @@ invariant_of-self-2 c =
     let made = c.in-Ok.ensures in
     let names = numbers_of p.names.items in
     let row = p.dependencies.items in
-    let walked = walked_sound c.self.invariant {walked = c.prepare.new.walks} (c.prepare.ensures.long ∙ ap length c.deref-2.ensures.value) (c.prepare.ensures.crossed ∙ ap length c.deref-3.ensures.value) in
+    let walked = walked_sound c.self.invariant {walked = c.prepare.new.ends} (over_now c.deref-2.ensures.value c.deref-3.ensures.value c.prepare.ensures.up) (over_now c.deref-2.ensures.value c.deref-3.ensures.value c.prepare.ensures.down) in
     let same = still (goal.at.invariant_of-self-2 c).After-reserve_above in
     let clear : NoneHolds (make_order old s.numbers names) = rw made.names (subst (λ hs. NoneHolds (make_order (patches_of hs) s.numbers (numbers_of c.args.after.now))) c.deref.ensures.value c.in_default.ensures.clear) in
     let there : p.block < s.blocks = rw made.block (inside (goal.at.invariant_of-self-2 c).After-deref) in
     let depends : IsSparseRow old names p.block p.span.at p.span.len row =
     rw (made.names, made.block, made.span) (subst (λ hs. IsSparseRow (patches_of hs) (numbers_of c.args.after.now) c.args.block.0 c.args.span.at c.args.span.len row) c.deref-2.ensures.value made.depends) in
     let follows : FollowsRule p.grade (MayBeHard old None p.block row) = rw made.block (subst (λ hs. FollowsRule p.grade (MayBeHard (patches_of hs) None c.args.block.0 row)) c.deref-2.ensures.value made.graded) in
-    let graded = graded_change old s.numbers s.blocks s.walks.walk.marks c.self.invariant.keeps p.block p.span.at p.span.len names p.grade row depends follows in
+    let graded = graded_change old s.numbers s.blocks s.ends.up.walk.marks c.self.invariant.keeps p.block p.span.at p.span.len names p.grade row depends follows in
     let above : HasRoomAbove c.reserve_above.new.heads.items c.as_slice.result.now = ok_of c.reserve_above.result _ c.reserve_above.ensures.room (sym c.is_err-2.ensures.value ∙ c.if-is_err-2.false) in
-    with_prepared (listed_sound (roomier_sound walked same c.reserve_one.ensures.marks refl c.reserve_one.ensures.queue c.reserve_one.ensures.wide) c.reserve_on.ensures.entries c.reserve_on.ensures.covered) (record {
+    with_prepared (listed_sound (roomier_sound walked same c.reserve_one.ensures.marks c.reserve_one.ensures.crossed c.reserve_one.ensures.ranks c.reserve_one.ensures.floors c.reserve_one.ensures.queue c.reserve_one.ensures.wide) c.reserve_on.ensures.entries c.reserve_on.ensures.covered) (record {
       ready = rw (same_patches c.reserve_above.new.heads.items s.heads.items same, made.gates) (record { clear = clear; inside = there; depends = depends; graded = graded });
-      places = rw (c.reserve_above.ensures.len, c.reserve_above.ensures.capacity) (record { heads_free = search rules; marks_free = search rules; queue_free = search rules });
+      places = rw (c.reserve_above.ensures.len, c.reserve_above.ensures.capacity) (record { heads_free = search rules; marks_free = search rules; queue_free = search rules; below_free = search rules; ranks_free = search rules });
       around = (rw (← c.as_slice.ensures) above, rw made.gates tt);
       in_list = rw made.block (ok_of c.reserve_on.result _ c.reserve_on.ensures.in_list (sym c.is_err-3.ensures.value ∙ c.if-is_err-3.false));
       bytes = rw (made.block, made.span) (ok_of c.reserve_on.result _ c.reserve_on.ensures.bytes (sym c.is_err-3.ensures.value ∙ c.if-is_err-3.false));

@@ -34,4 +34,4 @@ returns-else-not-index c =
     let marks = c.self.inside.marks.items in
     let lt = subst (λ (t : Trail). c.args.slot < length t.marks) (sym c.self.view_is) c.requires in
     let some = mark_of_slot marks c.args.slot c.index.result.now lt c.index.ensures c.if-not-index.false in
-    rw (← c.self.view_is) record { long = refl; met = inl (s.marked.only c.args.slot some, refl) }
+    rw (← c.self.view_is) record { long = refl; room = refl; met = inl (s.marked.only c.args.slot some, refl) }

@@ -1,0 +1,257 @@
+-- A walk up from the live changes of a block and one down from the first changes of other blocks below a row: where they meet, a new change of the block over the row may not be hard; where one is at its end and they do not, it may be.
+use Rattle.std.proofs.Common.{◌≡◌, ◌≤◌, ◌↔◌, ◌⊎◌, ◌∷◌, [], ℕ, Bool, List, Contains, refl, sym, ap, subst, ◌∙◌, inl, inr, arith}
+use Rattle.std.proofs.lemmas.Bool.{cases_Bool, false≢true}
+use Rattle.std.proofs.lemmas.List.Elements.{Contains-push}
+use Rattle.fst_types.specs.{Closure.{Closure, one, join}, Dependencies.{DependsOn, IsLiveNumber}, Facts.{IsOnDiskWithAll, HardNeverHold}}
+use Rattle.fst_types.specs.{Patches.{Patch, IsOn, IsRising}}
+use Rattle.fst_types.proofs.Crash.{same_number}
+use Rattle.fst_heads.specs.{Grading.{HasUnder, LeadsNowhere, IsHardNumber}, Heads.{IsRising as AreRising, patches_of}, Marks.PassesAt}
+use Rattle.fst_heads.specs.{Reaching.{ShowsBlocks}, Tests.passes, declared.head.Head.Head}
+use Rattle.fst_heads.proofs.{Graded.off_from, Leading.one_block, Listing.rising_patches}
+use Rattle.fst_walks.specs.{BothEnds.{AreApart, EndApart, IsFirstAway, IsLowChange, LeadTogether, StepsAway, StepsDown, StepsLow}, Descending.{IsLedFrom, Visits}, Leveling.AreLeveled, WayBack.{StepsUp}}
+use Rattle.fst_walks.proofs.{BothEnds.{Leads, leads_on, led_leads, leads_led, LeadsBack, only_one, goes_up, back_leads, none_leads, off_live}, ComesBack.{live_number, live_on}, Holding.live_up, NearRow.rests_may, Visiting.none_in}
+use Rattle.fst_heads.specs.declared.test.Test.TheVariants as test
+
+-- whether the patch passes is known
+pub passes_or : (patches : List Patch) → IsRising patches → (t : _) (p : Patch) (n : ℕ) → Contains patches p → p.number ≡ n → PassesAt t patches n ⊎ (PassesAt t patches n → ⊥)
+passes_or patches rising t p n head numbered = elim (cases_Bool (passes t p)) [
+  | inl said ↦ inl (record { patch = p; head = head; numbered = numbered; passed = said })
+  | inr denied ↦ inr (λ x. let same = same_number patches x.patch p rising x.head head (x.numbered ∙ sym numbered) in false≢true (sym denied ∙ (ap (passes t) (sym same) ∙ x.passed)))
+]
+
+-- the way down from what depends on a live change of another block, from which a way leads back to b, leads to a first one
+module _ (heads : List Head) (rising : AreRising heads) (disk : IsOnDiskWithAll (patches_of heads)) (hard : HardNeverHold (patches_of heads)) (b : ℕ) where
+  abbrev patches : List Patch
+  patches = patches_of heads
+
+  -- a way leads back to b from what is at or below n
+  abbrev ReturnsFrom : ℕ → Type 0
+  ReturnsFrom n = LeadsNowhere patches b (n ∷ []) → ⊥
+
+  returns_up : (m n : ℕ) → DependsOn patches m n → ReturnsFrom n → ReturnsFrom m
+  returns_up m n d back may = back (record {
+    straight = λ u. may.straight (m, Contains-push [] m, inr (below u));
+    open_ended = λ u. may.open_ended (m, Contains-push [] m, inr (below u));
+  })
+    where
+      below : {P : ℕ → Type 0} → HasUnder patches (n ∷ []) P → (q : ℕ) × DependsOn patches m q × P q
+      below {P} u =
+          let e = only_one n u.0 u.1 in
+          elim u.2 [
+            | inl has ↦ (n, d, subst P (sym e) has)
+            | inr low ↦ (low.0, join d (subst (λ k. DependsOn patches k low.0) (sym e) low.1), low.2)
+          ]
+
+  -- a first one on the way from m to n, above n
+  record HasFirst (m n : ℕ) : Type 0 where
+    found : ℕ
+    away : PassesAt (test.LiveOff b) patches found
+    path : Leads (StepsAway patches b) m found
+    over : DependsOn patches found n
+
+  goes_down : (m n : ℕ) → DependsOn patches m n → IsLiveNumber patches n → ReturnsFrom n → HasFirst m n ⊎ Closure (StepsAway patches b) m n
+  goes_down m n (one d) live back = elim (passes_or patches (rising_patches heads rising) (test.LiveOff b) d.patch m d.head d.numbered) [
+    | inl away ↦ inl (record { found = m; away = away; path = inl refl; over = one d })
+    | inr own ↦
+        let soft : IsHardNumber patches b m → ⊥ = λ h.
+        let may = rests_may heads rising b (m ∷ []) hard (λ k c. subst (IsHardNumber patches b) (only_one m k c) h) in
+        returns_up m n (one d) back (record { straight = may.straight; open_ended = may.open_ended }) in
+        inr (one (record { own = own; soft = soft }, d, live))
+  ]
+  goes_down m n (join {q = k} c d) live back =
+      let mid = live_up patches disk k n d live in
+      elim (goes_down m k c mid (returns_up k n d back)) [
+        | inl f ↦ inl (record { found = f.found; away = f.away; path = f.path; over = join f.over d })
+        | inr path ↦ elim (goes_down k n d live back) [
+          | inl f ↦ inl (record { found = f.found; away = f.away; path = leads_on (StepsAway patches b) m k f.found (inr path) f.path; over = f.over })
+          | inr more ↦ inr (join path more)
+        ]
+      ]
+
+  module _ (crossed : List Bool) (shown : ShowsBlocks crossed (λ c. c ≡ b)) (row : List ℕ) where
+    -- where steps lead up from a live change of b to the row, they lead to a first one
+    pub first_back : LeadsBack patches crossed b row → (n : ℕ) × (x : ℕ) × IsFirstAway patches b row n × PassesAt (test.LiveOn b) patches x × Leads (StepsUp patches crossed) x n
+    first_back l =
+        let up = rising_patches heads rising in
+        let last = l.last in
+        let live = off_live patches up disk b crossed shown last l.away in
+        let back : ReturnsFrom last = back_leads patches up disk b crossed shown (last ∷ []) (record { first = l.first; last = last; change = l.change; away = l.away; under = (last, Contains-push [] last, inl refl); path = l.path }) in
+        let u = l.under in
+        elim u.2 [
+          | inl e ↦ (
+            last,
+            l.first,
+            record { away = l.away; top = u.0; named = u.1; live = subst (IsLiveNumber patches) (sym e) live; path = inl e },
+            l.change,
+            l.path,
+          )
+          | inr low ↦
+              let down = subst (DependsOn patches u.0) low.2 low.1 in
+              let top = live_up patches disk u.0 last down live in
+              elim (goes_down u.0 last down live back) [
+                | inl f ↦ (
+                  f.found,
+                  l.first,
+                  record { away = f.away; top = u.0; named = u.1; live = top; path = f.path },
+                  l.change,
+                  leads_on (StepsUp patches crossed) l.first last f.found l.path (inr (goes_up patches disk crossed f.found last f.over live)),
+                )
+                | inr path ↦ (last, l.first, record { away = l.away; top = u.0; named = u.1; live = top; path = inr path }, l.change, l.path)
+              ]
+        ]
+
+-- a first one is at or below the row
+first_under : (patches : List Patch) (b : ℕ) (row : List ℕ) (n : ℕ) → IsFirstAway patches b row n → HasUnder patches row (λ m. m ≡ n)
+first_under patches b row n f = (f.top, f.named, elim f.path [ inl e ↦ inl e | inr path ↦ inr (n, down f.top n path, refl) ])
+  where
+    down : (p q : ℕ) → Closure (StepsAway patches b) p q → DependsOn patches p q
+    down p q (one s) = one s.1
+    down p q (join {q = k} c d) = join (down p k c) (down k q d)
+
+-- what the way down from the row leads to, and of it the changes of other blocks
+pub first_from : (patches : List Patch) (b : ℕ) (row start met kept : List ℕ) → Visits (λ n. Contains row n × IsLiveNumber patches n) [] start → ((n : ℕ) → Contains met n ↔ IsLedFrom (StepsAway patches b) start n)
+    → ((n : ℕ) → Contains kept n ↔ (Contains met n × PassesAt (test.LiveOff b) patches n)) → (n : ℕ) → Contains kept n ↔ IsFirstAway patches b row n
+first_from patches b row start met kept starts led keeps n = (
+  λ c.
+      let k = (keeps n).0 c in
+      let s = led_leads (StepsAway patches b) start n ((led n).0 k.0) in
+      let top = started s.0 s.1 in
+      record { away = k.1; top = s.0; named = top.0; live = top.1; path = s.2 },
+  λ f. (keeps n).1 ((led n).1 (leads_led (StepsAway patches b) start f.top n (starts.each f.top (f.named, f.live)) f.path), f.away),
+)
+  where
+    started : (m : ℕ) → Contains start m → Contains row m × IsLiveNumber patches m
+    started m c = elim (starts.only m c) [ inl none ↦ absurd (none_in m none) | inr k ↦ k ]
+
+-- no way up falls
+module _ (patches : List Patch) (level floor : ℕ → ℕ) (leveled : AreLeveled patches level floor) (crossed : List Bool) where
+  up_rises : (p q : ℕ) → StepsUp patches crossed p q → level p ≤ level q
+  up_rises p q s = elim s [
+    | inl up ↦ leveled.direct q p up.0
+    | inr k ↦ let first = leveled.hard k.block p k.hard in let last = leveled.change k.block q k.change in omega (arith, first, last)
+  ]
+
+  -- so all on the way to what is low is low
+  pub low_ups : (most p q : ℕ) → Closure (StepsUp patches crossed) p q → level q ≤ most → (level p ≤ most) × Closure (StepsLow patches level most crossed) p q
+  low_ups most p q (one s) low = let r = up_rises p q s in (omega (arith, r, low), one (elim s [ inl up ↦ inl (up.0, (up.1, low)) | inr k ↦ inr (k, low) ]))
+  low_ups most p q (join {q = k} c d) low = let e = low_ups most k q d low in let f = low_ups most p k c e.0 in (f.0, join f.1 e.1)
+
+  pub low_leads : (most p q : ℕ) → Leads (StepsUp patches crossed) p q → level q ≤ most → (level p ≤ most) × Leads (StepsLow patches level most crossed) p q
+  low_leads most p q (inl e) low = (subst (λ k. level k ≤ most) (sym e) low, inl e)
+  low_leads most p q (inr path) low = let r = low_ups most p q path low in (r.0, inr r.1)
+
+  low_up : (most p q : ℕ) → Closure (StepsLow patches level most crossed) p q → Closure (StepsUp patches crossed) p q
+  low_up most p q (one s) = one (elim s [ inl up ↦ inl (up.0, up.1.0) | inr k ↦ inr k.0 ])
+  low_up most p q (join {q = k} c d) = join (low_up most p k c) (low_up most k q d)
+
+  pub leads_up : (most p q : ℕ) → Leads (StepsLow patches level most crossed) p q → Leads (StepsUp patches crossed) p q
+  leads_up most p q (inl e) = inl e
+  leads_up most p q (inr path) = inr (low_up most p q path)
+
+-- the steps up and down are the same, the other way about
+module _ (patches : List Patch) (b : ℕ) (up down : List Bool) (shows_up : ShowsBlocks up (λ c. c ≡ b)) (shows_down : ShowsBlocks down (λ c. c ≡ b)) where
+  turned_up : (p q : ℕ) → StepsDown patches down p q → IsLiveNumber patches p → StepsUp patches up q p
+  turned_up p q s live = elim s [
+    | inl d ↦ inl (d.0, live)
+    | inr k ↦ inr (record { block = k.block; hard = k.hard; fresh = λ r. k.fresh (shows_down.each k.block (shows_up.only k.block r)); change = k.change })
+  ]
+
+  turned_down : (p q : ℕ) → StepsUp patches up p q → IsLiveNumber patches p → StepsDown patches down q p
+  turned_down p q s live = elim s [
+    | inl d ↦ inl (d.0, live)
+    | inr k ↦ inr (record { block = k.block; change = k.change; fresh = λ r. k.fresh (shows_up.each k.block (shows_down.only k.block r)); hard = k.hard })
+  ]
+
+  module _ (rising : IsRising patches) where
+    up_live : (p q : ℕ) → StepsUp patches up p q → IsLiveNumber patches q
+    up_live p q s = elim s [ inl d ↦ d.1 | inr k ↦ live_number patches rising b k.block q k.change ]
+
+    down_live : (p q : ℕ) → StepsDown patches down p q → IsLiveNumber patches q
+    down_live p q s = elim s [
+      | inl d ↦ d.1
+      | inr k ↦ let h = k.hard in record { patch = h.patch; head = h.head; numbered = h.numbered; live = λ e. let memory = h.hard.memory in cc }
+    ]
+
+    ups : (p q : ℕ) → Closure (StepsDown patches down) p q → IsLiveNumber patches p → Closure (StepsUp patches up) q p × IsLiveNumber patches q
+    ups p q (one s) live = (one (turned_up p q s live), down_live p q s)
+    ups p q (join {q = k} c d) live = let e = ups p k c live in let f = ups k q d e.1 in (join f.0 e.0, f.1)
+
+    downs : (p q : ℕ) → Closure (StepsUp patches up) p q → IsLiveNumber patches p → Closure (StepsDown patches down) q p × IsLiveNumber patches q
+    downs p q (one s) live = (one (turned_down p q s live), up_live p q s)
+    downs p q (join {q = k} c d) live = let e = downs p k c live in let f = downs k q d e.1 in (join f.0 e.0, f.1)
+
+    pub leads_ups : (p q : ℕ) → Leads (StepsDown patches down) p q → IsLiveNumber patches p → Leads (StepsUp patches up) q p
+    leads_ups p q (inl e) live = inl (sym e)
+    leads_ups p q (inr path) live = inr (ups p q path live).0
+
+    pub leads_downs : (p q : ℕ) → Leads (StepsUp patches up) p q → IsLiveNumber patches p → Leads (StepsDown patches down) q p
+    leads_downs p q (inl e) live = inl (sym e)
+    leads_downs p q (inr path) live = inr (downs p q path live).0
+
+-- with no first one no way leads back
+pub none_first : (heads : List Head) (rising : AreRising heads) (disk : IsOnDiskWithAll (patches_of heads)) (hard : HardNeverHold (patches_of heads)) (b : ℕ) (crossed : List Bool) (shown : ShowsBlocks crossed (λ c. c ≡ b)) (row : List ℕ)
+    → ((n : ℕ) → IsFirstAway (patches_of heads) b row n → ⊥) → LeadsNowhere (patches_of heads) b row
+none_first heads rising disk hard b crossed shown row none =
+    none_leads (patches_of heads) (rising_patches heads rising) disk b crossed shown row (λ l. let f = first_back heads rising disk hard b crossed shown row l in none f.0 f.2)
+
+-- exactly those with P were visited where nothing was before
+pub visited_all : (P : ℕ → Type 0) (queue : List ℕ) → Visits P [] queue → (n : ℕ) → Contains queue n ↔ P n
+visited_all P queue v n = (λ c. elim (v.only n c) [ inl none ↦ absurd (none_in n none) | inr p ↦ p ], v.each n)
+
+-- the walks start from the low live changes of b and from the first changes of other blocks at or below a row, which are low, and never cross b
+pub record AreEnds (patches : List Patch) (level : ℕ → ℕ) (most b : ℕ) (row : List ℕ) (up down : List Bool) (bottoms tops : List ℕ) : Type 0 where
+  pub low : (n : ℕ) → Contains tops n → level n ≤ most
+  pub shows_up : ShowsBlocks up (λ c. c ≡ b)
+  pub shows_down : ShowsBlocks down (λ c. c ≡ b)
+  pub changes : (n : ℕ) → Contains bottoms n ↔ IsLowChange patches level most b n
+  pub first : (n : ℕ) → Contains tops n ↔ IsFirstAway patches b row n
+
+module _ (heads : List Head) (rising : AreRising heads) (disk : IsOnDiskWithAll (patches_of heads)) (hard : HardNeverHold (patches_of heads)) (level floor : ℕ → ℕ) (leveled : AreLeveled (patches_of heads) level floor)
+    (most b : ℕ) (row : List ℕ) (up down : List Bool) (bottoms tops : List ℕ) (ends : AreEnds (patches_of heads) level most b row up down bottoms tops) where
+  abbrev all : List Patch
+  all = patches_of heads
+
+  abbrev ordered : IsRising all
+  ordered = rising_patches heads rising
+
+  -- at first nothing was met by both
+  pub begin_apart : AreApart bottoms tops
+  begin_apart n above below =
+      let x = ((ends.changes n).0 above).0 in
+      let a = ((ends.first n).0 below).away in
+      let off = off_from b a.patch.number a.patch.kind a.patch.place a.passed in
+      let same = same_number all a.patch x.patch ordered a.head x.head (a.numbered ∙ sym x.numbered) in
+      off.3 (one_block x.patch off.1 b (subst (λ p. IsOn p off.1) same off.2) (live_on all ordered b b n x).1)
+
+  -- where the walks lead to the same, a way leads back
+  pub together_soft : LeadTogether all level most up down bottoms tops → LeadsNowhere all b row → ⊥
+  together_soft met =
+      let n = met.at in
+      let x = led_leads (StepsLow all level most up) bottoms n met.over in
+      let a = led_leads (StepsDown all down) tops n met.under in
+      let first = (ends.first a.0).0 a.1 in
+      let live = off_live all ordered disk b up ends.shows_up a.0 first.away in
+      back_leads all ordered disk b up ends.shows_up row (record {
+        first = x.0;
+        last = a.0;
+        change = ((ends.changes x.0).0 x.1).0;
+        away = first.away;
+        under = first_under all b row a.0 first;
+        path = leads_on (StepsUp all up) x.0 n a.0 (leads_up all level floor leveled up most x.0 n x.2) (leads_ups all b up down ends.shows_up ends.shows_down ordered a.0 n a.2 live);
+      })
+
+  -- where one has met all and nothing was met by both, none does
+  pub apart_hard : (over under : List ℕ) → EndApart all level most up down bottoms tops over under → LeadsNowhere all b row
+  apart_hard over under met = none_leads all ordered disk b up ends.shows_up row (λ l.
+      let f = first_back heads rising disk hard b up ends.shows_up row l in
+      let n = f.0 in
+      let x = f.1 in
+      let top = (ends.first n).1 f.2 in
+      let path = low_leads all level floor leveled up most x n f.4 (ends.low n top) in
+      let bottom = (ends.changes x).1 (f.3, path.0) in
+      elim met.ended [
+        | inl each ↦ met.apart n (each n (leads_led (StepsLow all level most up) bottoms x n bottom path.1)) (met.under_begun n top)
+        | inr each ↦
+            let back = leads_downs all b up down ends.shows_up ends.shows_down ordered x n f.4 (live_number all ordered b b x f.3) in
+            met.apart x (met.over_begun x bottom) (each x (leads_led (StepsDown all down) tops n x top back))
+      ])

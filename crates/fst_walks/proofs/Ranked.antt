@@ -1,0 +1,82 @@
+-- The level that is kept under a number: at a head's slot, and where a rank is added or some are left out.
+use Rattle.std.proofs.Common.{◌≡◌, ◌≢◌, ◌<◌, ◌++◌, ◌∷◌, [], ℕ, zero, suc, List, map, length, get_or, AllPairs, Contains, refl, sym, ap, subst, ◌∙◌, inl, inr, arith, eq-eqb, ne_eqb}
+use Rattle.std.proofs.lemmas.{Bool.{cases_eq}, List.{length-map, get_or-map}}
+use Rattle.fst_types.specs.Patches.{Patch}
+use Rattle.fst_types.proofs.Finite.{In, In-from_Contains, Contains-from_In}
+use Rattle.fst_heads.specs.{declared.head.Head.Head, Heads.{IsRising, patch_of, patches_of}, Marks.HasSlot}
+use Rattle.fst_heads.proofs.Slots.{some_element, rising_map, rising_back}
+use Rattle.fst_walks.specs.{Leveling.level_of, declared.levels.Rank.Rank}
+
+-- the number of a rank
+abbrev pub number_of : Rank → ℕ
+number_of r = r.number
+
+-- one rank more: of another number the level stays
+pub level_other : (ranks : List Rank) (r : Rank) (n : ℕ) → n ≢ r.number → level_of (ranks ++ r ∷ []) n ≡ level_of ranks n
+level_other [] r n other = rw (ne_eqb r.number n (λ e. other (sym e))) refl
+level_other (x ∷ xs) r n other = elim (cases_eq x.number n) [
+  | inl e ↦ rw (eq-eqb x.number n e) refl
+  | inr o ↦ rw (ne_eqb x.number n o) (level_other xs r n other)
+]
+
+-- so does that of a number that was there
+level_in : (ranks : List Rank) (r : Rank) (n : ℕ) → In (map number_of ranks) n → level_of (ranks ++ r ∷ []) n ≡ level_of ranks n
+level_in [] r n h = absurd h
+level_in (x ∷ xs) r n (inl e) = rw (eq-eqb x.number n e) refl
+level_in (x ∷ xs) r n (inr h) = elim (cases_eq x.number n) [
+  | inl e ↦ rw (eq-eqb x.number n e) refl
+  | inr o ↦ rw (ne_eqb x.number n o) (level_in xs r n h)
+]
+
+-- the same, where the number is said to be contained
+pub level_old : (ranks : List Rank) (r : Rank) (n : ℕ) → Contains (map (λ x. x.number) ranks) n → level_of (ranks ++ r ∷ []) n ≡ level_of ranks n
+level_old ranks r n c = level_in ranks r n (In-from_Contains (map number_of ranks) n c)
+
+-- and a new number has the level that came with it
+level_pushed : (ranks : List Rank) (r : Rank) → (In (map number_of ranks) r.number → ⊥) → level_of (ranks ++ r ∷ []) r.number ≡ r.level
+level_pushed [] r none = rw (eq-eqb r.number r.number refl) refl
+level_pushed (x ∷ xs) r none = rw (ne_eqb x.number r.number (λ e. none (inl e))) (level_pushed xs r (λ h. none (inr h)))
+
+-- said likewise
+pub level_new : (ranks : List Rank) (r : Rank) → (Contains (map (λ x. x.number) ranks) r.number → ⊥) → level_of (ranks ++ r ∷ []) r.number ≡ r.level
+level_new ranks r none = level_pushed ranks r (λ h. none (Contains-from_In (map number_of ranks) r.number h))
+
+-- ranks whose numbers rise
+level_rising : (ranks : List Rank) → AllPairs (λ x y. x.number < y.number) ranks → (slot : ℕ) → slot < length ranks → (d : Rank) → level_of ranks (get_or ranks slot d).number ≡ (get_or ranks slot d).level
+level_rising [] rising slot lt d = absurd (omega (arith, lt))
+level_rising (x ∷ xs) rising zero lt d = rw (eq-eqb x.number x.number refl) refl
+level_rising (x ∷ xs) rising (suc slot) lt d =
+    let apart = rising 0 (suc slot) d (omega arith) lt in
+    rw (ne_eqb x.number (get_or xs slot d).number (λ e. omega (arith, apart, e))) (level_rising xs (λ i j e l b. rising (suc i) (suc j) e (omega (arith, l)) (omega (arith, b))) slot (omega (arith, lt)) d)
+
+-- ranks that stand in the order of the heads
+module _ (heads : List Head) (ranks : List Rank) (rising : IsRising heads) (aligned : map (λ r. r.number) ranks ≡ map (λ p. p.number) (patches_of heads)) where
+  numbers_rise : AllPairs (λ a b. a < b) (map number_of ranks)
+  numbers_rise = subst (λ (xs : List ℕ). AllPairs (λ a b. a < b) xs) (sym aligned)
+      (rising_map (λ (p : Patch). p.number) (patches_of heads) (λ p. p.number) (λ n. n) (λ p. refl) (rising_map patch_of heads (λ h. h.number) (λ p. p.number) (λ h. refl) rising))
+
+  -- their numbers rise
+  pub ranks_rise : AllPairs (λ x y. x.number < y.number) ranks
+  ranks_rise = rising_back number_of ranks number_of (λ n. n) (λ r. refl) numbers_rise
+
+  -- there are as many
+  pub ranks_long : length ranks ≡ length heads
+  ranks_long = sym (length-map ranks number_of) ∙ (ap length aligned ∙ (length-map (patches_of heads) (λ p. p.number) ∙ length-map heads patch_of))
+
+  -- there is a rank at a head's slot, with its number
+  module _ (n slot : ℕ) (at : HasSlot heads n slot) where
+    pub slot_ranked : slot < length ranks
+    slot_ranked = omega (arith, ranks_long, at.0)
+
+    pub rank_number : (d : Rank) → (get_or ranks slot d).number ≡ n
+    rank_number d =
+        let h = some_element heads slot at.0 in
+        let within : slot < length (patches_of heads) = omega (arith, at.0, length-map heads patch_of) in
+        sym (get_or-map number_of ranks slot d 0 slot_ranked)
+        ∙ (ap (λ xs. get_or xs slot 0) aligned
+        ∙ (get_or-map (λ (p : Patch). p.number) (patches_of heads) slot (patch_of h) 0 within
+        ∙ (ap (λ (p : Patch). p.number) (get_or-map patch_of heads slot h (patch_of h) at.0) ∙ at.1 h)))
+
+    -- the level in the slot is the one under the number
+    pub rank_level : (d : Rank) → (get_or ranks slot d).level ≡ level_of ranks n
+    rank_level d = sym (level_rising ranks ranks_rise slot slot_ranked d) ∙ ap (level_of ranks) (rank_number d)

@@ -1,0 +1,143 @@
+-- What forgetting leaves of the levels: the ranks of the patches that are left.
+use Rattle.std.proofs.Common.{◌≡◌, ◌≤◌, ◌∷◌, [], ℕ, Bool, true, false, List, filter, map, Contains, refl, sym, ap, subst, ◌∙◌, inl, inr, arith, eq-eqb, ne_eqb}
+use Rattle.std.proofs.lemmas.{Bool.{cases_Bool, cases_eq, false≢true}}
+use Rattle.fst_types.specs.{Patches.{Patch, IsRising}, Tests.{has_number, is_live}}
+use Rattle.fst_types.proofs.{Crash.same_number, Dropping.{filter_in, in_filter}, Finite.{In, In-from_Contains, Contains-from_In}}
+use Rattle.fst_heads.specs.{Heads.patches_of, Marks.{HasNone, HasSlot}, Nodes.is_live_in, declared.head.Head.Head}
+use Rattle.fst_heads.proofs.Slots.{none_slot, patch_at, patch_slot, slot_in, some_element}
+use Rattle.fst_walks.specs.{Leveling.{IsLeveled, Leveling, level_of, floor_of}, declared.levels.Rank.Rank}
+use Rattle.fst_walks.proofs.{LeveledKept.fewer_leveled, Ranked.number_of}
+
+-- whether some head has the number
+pub has_told : (heads : List Patch) (n : ℕ) → has_number heads n ≡ true → (p : Patch) × Contains heads p × (p.number ≡ n)
+has_told [] n e = absurd (false≢true e)
+has_told (p ∷ ps) n e = elim (cases_eq p.number n) [
+  | inl same ↦ (p, (0, omega arith, refl), same)
+  | inr other ↦
+      let r = has_told ps n (rw (ne_eqb p.number n other) at e) in
+      (r.0, Contains-from_In (p ∷ ps) r.0 (inr (In-from_Contains ps r.0 r.1)), r.2)
+]
+
+told_in : (heads : List Patch) (p : Patch) → In heads p → has_number heads p.number ≡ true
+told_in [] p h = absurd h
+told_in (x ∷ xs) p (inl e) = rw (eq-eqb x.number p.number (ap (λ (y : Patch). y.number) e)) refl
+told_in (x ∷ xs) p (inr h) = elim (cases_eq x.number p.number) [
+  | inl e ↦ rw (eq-eqb x.number p.number e) refl
+  | inr o ↦ rw (ne_eqb x.number p.number o) (told_in xs p h)
+]
+
+-- each head's number is told
+pub told_has : (heads : List Patch) (p : Patch) → Contains heads p → has_number heads p.number ≡ true
+told_has heads p c = told_in heads p (In-from_Contains heads p c)
+
+-- so a search for the slot tells it
+pub slot_has : (heads : List Head) (n slot : ℕ) → HasSlot heads n slot → has_number (patches_of heads) n ≡ true
+slot_has heads n slot at =
+    let d = some_element heads slot at.0 in
+    subst (λ m. has_number (patches_of heads) m ≡ true) (at.1 d) (told_has (patches_of heads) _ (patch_at heads slot d at.0))
+
+-- and where it finds none, no head has the number
+pub none_has : (heads : List Head) (n : ℕ) → HasNone heads n → has_number (patches_of heads) n ≡ false
+none_has heads n none = elim (cases_Bool (has_number (patches_of heads) n)) [
+  | inl told ↦
+      let k = has_told (patches_of heads) n told in
+      let s = slot_in heads k.0 k.1 in
+      absurd (none_slot heads n s.0 none (subst (λ m. HasSlot heads m s.0) k.2 (patch_slot heads k.0 s.0 s.1 s.2)))
+  | inr untold ↦ untold
+]
+
+-- the ranks whose numbers pass a test
+module _ (t : ℕ → Bool) where
+  abbrev pub passing : List Rank → List Rank
+  passing ranks = filter (λ r. t r.number) ranks
+
+  -- a number that passes has the level that it had
+  pub level_passing : (ranks : List Rank) (n : ℕ) → t n ≡ true → level_of (passing ranks) n ≡ level_of ranks n
+  level_passing [] n e = refl
+  level_passing (x ∷ xs) n e = elim (cases_Bool (t x.number)) [
+    | inl told ↦ rw told (elim (cases_eq x.number n) [
+      | inl s ↦ rw (eq-eqb x.number n s) refl
+      | inr o ↦ rw (ne_eqb x.number n o) (level_passing xs n e)
+    ])
+    | inr untold ↦ rw (untold, ne_eqb x.number n (λ s. false≢true (sym untold ∙ (ap t s ∙ e)))) (level_passing xs n e)
+  ]
+
+  level_failing : (ranks : List Rank) (n : ℕ) → t n ≡ false → level_of (passing ranks) n ≡ 0
+  level_failing [] n e = refl
+  level_failing (x ∷ xs) n e = elim (cases_Bool (t x.number)) [
+    | inl told ↦ rw (told, ne_eqb x.number n (λ s. false≢true (sym e ∙ (ap t (sym s) ∙ told)))) (level_failing xs n e)
+    | inr untold ↦ rw untold (level_failing xs n e)
+  ]
+
+  -- no level rises
+  pub level_fewer : (ranks : List Rank) (n : ℕ) → level_of (passing ranks) n ≤ level_of ranks n
+  level_fewer ranks n = elim (cases_Bool (t n)) [
+    | inl told ↦ let e = level_passing ranks n told in omega (arith, e)
+    | inr untold ↦ let e = level_failing ranks n untold in omega (arith, e)
+  ]
+
+  mapped_passing : {X : Type 0} (f : X → ℕ) (xs : List X) → map f (filter (λ x. t (f x)) xs) ≡ filter t (map f xs)
+  mapped_passing f [] = refl
+  mapped_passing f (x ∷ xs) = elim (cases_Bool (t (f x))) [
+    | inl told ↦ rw (told, mapped_passing f xs) refl
+    | inr untold ↦ rw (untold, mapped_passing f xs) refl
+  ]
+
+passed_same : {X : Type 0} (f g : X → Bool) (xs : List X) → ((x : X) → In xs x → f x ≡ g x) → filter f xs ≡ filter g xs
+passed_same f g [] same = refl
+passed_same f g (x ∷ xs) same = elim (cases_Bool (g x)) [
+  | inl told ↦ rw (same x (inl refl), told, passed_same f g xs (λ y h. same y (inr h))) refl
+  | inr untold ↦ rw (same x (inl refl), untold, passed_same f g xs (λ y h. same y (inr h))) refl
+]
+
+-- what is on disk is forgotten, and the ranks of the heads that are left stay
+module _ (old : List Patch) (rising : IsRising old) where
+  abbrev left : List Patch
+  left = filter is_live old
+
+  abbrev is_left : ℕ → Bool
+  is_left n = has_number left n
+
+  was_left : (p : Patch) → Contains left p → Contains old p × (is_live p ≡ true)
+  was_left p c = let k = filter_in is_live old p (In-from_Contains left p c) in (Contains-from_In old p k.0, k.1)
+
+  left_number : (p : Patch) → In old p → is_left p.number ≡ is_live p
+  left_number p h = elim (cases_Bool (is_live p)) [
+    | inl live ↦ told_in left p (in_filter is_live old p h live) ∙ sym live
+    | inr dead ↦ elim (cases_Bool (is_left p.number)) [
+      | inl told ↦
+          let k = has_told left p.number told in
+          let w = was_left k.0 k.1 in
+          let same = same_number old k.0 p rising w.0 (Contains-from_In old p h) k.2 in
+          absurd (false≢true (sym dead ∙ subst (λ x. is_live x ≡ true) same w.1))
+      | inr untold ↦ untold ∙ sym dead
+    ]
+  ]
+
+  abbrev number : Patch → ℕ
+  number p = p.number
+
+  numbers_left : (ranks : List Rank) → map number_of ranks ≡ map number old → map number_of (passing is_left ranks) ≡ map number left
+  numbers_left ranks aligned =
+      mapped_passing is_left number_of ranks
+      ∙ (ap (filter is_left) aligned
+      ∙ (sym (mapped_passing is_left number old)
+      ∙ ap (map number) (passed_same (λ p. is_left p.number) is_live old left_number)))
+
+  -- so the levels stay as they should be
+  pub left_is_leveled : (blocks : ℕ) (levels : Leveling) → IsLeveled old blocks levels
+      → IsLeveled (filter is_live old) blocks (record levels { ranks = filter (λ r. has_number (filter is_live old) r.number) levels.ranks })
+  left_is_leveled blocks levels x = record {
+    aligned = numbers_left levels.ranks x.aligned;
+    long = x.long;
+    leveled = fewer_leveled old left (level_of levels.ranks) (level_of (passing is_left levels.ranks)) (floor_of levels.floors) (λ p c. (was_left p c).0)
+        (level_fewer is_left levels.ranks) (λ p c. level_passing is_left levels.ranks p.number (told_has left p c)) x.leveled;
+  }
+
+-- a number is left exactly if a live patch has it
+pub left_live : (old : List Patch) (n : ℕ) → has_number (filter is_live old) n ≡ is_live_in old n
+left_live [] n = refl
+left_live (p ∷ ps) n = elim (cases_Bool (is_live p)) [
+  | inl told ↦ rw (told, left_live ps n) refl
+  | inr untold ↦ rw (untold, left_live ps n) refl
+]

@@ -1,0 +1,79 @@
+-- One step more of a walk that crosses blocks: what is near the one that is next and what is across its block, told at once.
+use Rattle.std.proofs.Common.{◌<◌, ◌≤◌, ◌+◌, ◌⊎◌, ℕ, Bool, false, List, length, get_or, Contains, sym, subst, ◌∙◌, inl, inr}
+use Rattle.std.proofs.lemmas.{Bool.{cases_Bool, false≢true}, List.Elements.Contains-append_left}
+use Rattle.fst_types.specs.{Dependencies.{DirectlyOn, IsLiveNumber}, Patches.Patch}
+use Rattle.fst_heads.specs.{Grading.IsHardNumber, Marks.PassesAt, Reaching.IsReached}
+use Rattle.fst_walks.specs.{BothEnds.{CrossesDown, IsLow, IsLowChange, ShowsBlockUnder, StepsDown, StepsLow}, Descending.Visits, WayBack.{Crosses, ShowsBlockOf}}
+use Rattle.fst_walks.proofs.{Ascended.{Climbing, Walking, climbing_more}, Visiting.visits_old}
+use Rattle.fst_heads.specs.declared.test.Test.TheVariants as test
+
+-- where the walk begins nothing was done
+pub walking_begun : (Steps To : ℕ → ℕ → Type 0) (crossed : List Bool) (start : List ℕ) → Climbing Steps start 0 start → Walking Steps To crossed start 0 crossed start
+walking_begun Steps To crossed start x = record { climbing = x; kept = λ c r. r; shut = λ c q r fresh to. absurd (fresh r) }
+
+module _ (Near From To : ℕ → ℕ → Type 0) (Across : List Bool → ℕ → ℕ → Type 0)
+    (over : (old : List Bool) (p q c : ℕ) → From c p → (IsReached old c → ⊥) → To c q → Across old p q)
+    (parts : (old : List Bool) (p q : ℕ) → Across old p q → (c : ℕ) × From c p × (IsReached old c → ⊥) × To c q)
+    (crossed : List Bool) (start : List ℕ) (at : ℕ) (now after : List Bool) (queue new : List ℕ) (inside : at < length queue)
+    (x : Walking (λ p q. Near p q ⊎ Across crossed p q) To crossed start at now queue)
+    (v : Visits (λ q. Near (get_or queue at 0) q ⊎ Across now (get_or queue at 0) q) queue new)
+    (kept : (c : ℕ) → IsReached now c → IsReached after c) (only : (c : ℕ) → IsReached after c → IsReached now c ⊎ From c (get_or queue at 0)) where
+  abbrev n : ℕ
+  n = get_or queue at 0
+
+  old_new : (q : ℕ) → Contains queue q → Contains new q
+  old_new q c = visits_old (λ m. Near n m ⊎ Across now n m) queue new v q c
+
+  -- a block that was not crossed at first is by now, or is crossed here
+  across : (c q : ℕ) → From c n → (IsReached crossed c → ⊥) → To c q → Contains new q
+  across c q from fresh to = elim (cases_Bool (get_or now c false)) [
+    | inl shown ↦ old_new q (x.shut c q shown fresh to)
+    | inr not ↦ v.each q (inr (over now n q c from (λ r. false≢true (sym not ∙ r)) to))
+  ]
+
+  both : Visits (λ q. Near n q ⊎ Across crossed n q) queue new
+  both = record {
+    kept = v.kept;
+    only = λ q c. elim (v.only q c) [
+      | inl old ↦ inl old
+      | inr s ↦ elim s [
+        | inl near ↦ inr (inl near)
+        | inr k ↦ let p = parts now n q k in inr (inr (over crossed n q p.0 p.1 (λ r. p.2 (x.kept p.0 r)) p.3))
+      ]
+    ];
+    each = λ q s. elim s [
+      | inl near ↦ v.each q (inl near)
+      | inr k ↦ let p = parts crossed n q k in across p.0 q p.1 p.2 p.3
+    ];
+  }
+
+  pub walking_step : Walking (λ p q. Near p q ⊎ Across crossed p q) To crossed start (at + 1) after new
+  walking_step = record {
+    climbing = climbing_more (λ p q. Near p q ⊎ Across crossed p q) start at queue new inside x.climbing both;
+    kept = λ c r. kept c (x.kept c r);
+    shut = λ c q r fresh to. elim (only c r) [ inl old ↦ old_new q (x.shut c q old fresh to) | inr from ↦ across c q from fresh to ];
+  }
+
+-- what the walk starts from stays in the queue
+pub walking_kept : (Steps To : ℕ → ℕ → Type 0) (crossed : List Bool) (start : List ℕ) (at : ℕ) (now : List Bool) (queue : List ℕ) → Walking Steps To crossed start at now queue → (n : ℕ) → Contains start n → Contains queue n
+walking_kept Steps To crossed start at now queue x n c = let g = x.climbing.grown in subst (λ q. Contains q n) (sym g.1) (Contains-append_left start g.0 n c)
+
+-- a step up through what is low
+module _ (patches : List Patch) (level : ℕ → ℕ) (most : ℕ) (crossed : List Bool) (start : List ℕ) (at : ℕ) (now after : List Bool) (queue new : List ℕ) (inside : at < length queue) where
+  pub low_step : Walking (StepsLow patches level most crossed) (IsLowChange patches level most) crossed start at now queue → Visits (StepsLow patches level most now (get_or queue at 0)) queue new → ShowsBlockOf patches (get_or queue at 0) now after
+      → Walking (StepsLow patches level most crossed) (IsLowChange patches level most) crossed start (at + 1) after new
+  low_step x v shown =
+      walking_step (λ p q. DirectlyOn patches q p × IsLow patches level most q) (IsHardNumber patches) (IsLowChange patches level most) (λ old p q. Crosses patches old p q × (level q ≤ most))
+      (λ old p q c hard fresh to. (record { block = c; hard = hard; fresh = fresh; change = to.0 }, to.1))
+      (λ old p q k. (k.0.block, k.0.hard, k.0.fresh, (k.0.change, k.1)))
+      crossed start at now after queue new inside x v shown.kept shown.only
+
+-- a step down
+module _ (patches : List Patch) (crossed : List Bool) (start : List ℕ) (at : ℕ) (now after : List Bool) (queue new : List ℕ) (inside : at < length queue) where
+  pub down_step : Walking (StepsDown patches crossed) (IsHardNumber patches) crossed start at now queue → Visits (StepsDown patches now (get_or queue at 0)) queue new → ShowsBlockUnder patches (get_or queue at 0) now after
+      → Walking (StepsDown patches crossed) (IsHardNumber patches) crossed start (at + 1) after new
+  down_step x v shown =
+      walking_step (λ p q. DirectlyOn patches p q × IsLiveNumber patches q) (λ b p. PassesAt (test.LiveOn b) patches p) (IsHardNumber patches) (CrossesDown patches)
+      (λ old p q c change fresh hard. record { block = c; change = change; fresh = fresh; hard = hard })
+      (λ old p q k. (k.block, k.change, k.fresh, k.hard))
+      crossed start at now after queue new inside x v shown.kept shown.only

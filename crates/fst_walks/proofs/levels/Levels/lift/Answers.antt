@@ -1,0 +1,18 @@
+use Rattle.std.proofs.Common.{ap, length, subst}
+use Rattle.fst_heads.specs.{Heads.patches_of, Marks.HasSlot}
+use Rattle.fst_heads.proofs.Slots.{patch_slot, slot_in}
+use Rattle.fst_walks.specs.{Walks.numbers_met}
+use Rattle.fst_walks.proofs.{Floored.floored, Raising.hard_told}
+use Rattle.fst_walks.proofs.levels.Levels.lift.Goals as goal
+
+pub returns-then-rise-clause-leveled : goal.returns-then-rise-clause-leveled
+returns-then-rise-clause-leveled c =
+    let heads = c.args.heads.now in
+    let may = c.requires.may c.if-rise.true in
+    rw (ap (λ v. v.ranks) c.self.view_is, ap (λ v. v.floors) c.self.view_is, ap (λ v. v.room) c.self.view_is)
+    (floored (patches_of heads) c.requires.disk (length c.args.self.now.floors) c.args.block c.args.rise.level (numbers_met heads c.args.walk.now) c.args.self.now c.lift_all.new.self c.requires.leveled may c.requires.inside.0
+    (λ n k.
+    let live = may.meets.live n k in
+    let at = slot_in heads live.patch live.head in
+    hard_told heads c.requires.rising n at.0 (subst (λ m. HasSlot heads m at.0) live.numbered (patch_slot heads live.patch at.0 at.1 at.2)))
+    c.lift_all.ensures)

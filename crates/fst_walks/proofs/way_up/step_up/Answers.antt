@@ -1,0 +1,34 @@
+use Rattle.std.proofs.Common.{◌≡◌, ◌≤◌, get_or, Contains, sym, subst, inl, inr}
+use Rattle.fst_types.specs.Dependencies.{DirectlyOn}
+use Rattle.fst_heads.specs.{Heads.patches_of, declared.head.Head.Head}
+use Rattle.fst_heads.proofs.{PendingAt.node_in, Slots.{any_default}}
+use Rattle.fst_walks.specs.{BothEnds.{IsLow, StepsLow}, Descending.Visits, Leveling.level_of, Walks.numbers_met, WayBack.{Crosses}}
+use Rattle.fst_walks.proofs.{CrossingBack.{above_from, above_to}, Visiting.{slot_met, visits_both, visits_same}}
+use Rattle.fst_walks.proofs.way_up.step_up.Goals as goal
+
+pub returns-clause-visits : goal.returns-clause-visits
+returns-clause-visits c =
+    let sight = c.args.sight.now in
+    let heads = sight.heads.now in
+    let patches = patches_of heads in
+    let level = level_of sight.levels.now.ranks in
+    let most = c.args.most in
+    let walk = c.args.walk.now in
+    let met = numbers_met heads walk in
+    let now = c.args.crossed.now in
+    let n = get_or met c.args.at 0 in
+    let s = c.slot-slot.result in
+    let d : Head = c.index-sight-slot.result in
+    let slot = slot_met heads walk c.args.at s c.requires.visited.long c.requires.at c.slot-slot.ensures.slot c.slot-slot.ensures.inside in
+    let x : Head = get_or heads s d in
+    let mid = numbers_met heads c.visit_low_row.new.walk in
+    let new = numbers_met heads c.cross-across.new.walk in
+    let here = node_in heads s x slot.0 (any_default heads s d x slot.0) in
+    let number : x.number ≡ n = slot.1 d in
+    let above : Visits (λ q. DirectlyOn patches q n × IsLow patches level most q) met mid =
+    visits_same _ (λ q. DirectlyOn patches q n × IsLow patches level most q) met mid
+    (λ q k. (subst (DirectlyOn patches q) number (above_from heads c.requires.sees.linked x here q (subst (λ row. Contains row q) c.as_slice-above.ensures k.0) k.1.0), k.1))
+    (λ q k. (subst (λ row. Contains row q) (sym c.as_slice-above.ensures) (above_to heads c.requires.sees.linked x here q (subst (DirectlyOn patches q) (sym number) k.0)), k.1))
+    c.visit_low_row.ensures.visits in
+    let across = subst (λ m. Visits (λ q. Crosses patches now m q × (level q ≤ most)) mid new) number c.cross-across.ensures.visits in
+    visits_both (λ q. DirectlyOn patches q n × IsLow patches level most q) (λ q. Crosses patches now n q × (level q ≤ most)) (StepsLow patches level most now n) met mid new (λ q k. k) (λ q k. inl k) (λ q k. inr k) above across

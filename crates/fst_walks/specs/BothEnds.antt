@@ -1,0 +1,74 @@
+-- A way back to a block, looked for from both its ends: down from the first changes of other blocks that are at or below the row, and up from the changes of the block, through what is no higher than those.
+use Rattle.std.specs.Prelude.{◌≡◌, ◌≤◌, ◌⊎◌, ℕ, Bool, List, length, Contains}
+use Rattle.fst_types.specs.{Closure.Closure, Dependencies.{DirectlyOn, IsLiveNumber}, Patches.Patch}
+use Rattle.fst_heads.specs.{Grading.IsHardNumber, Marks.PassesAt, Reaching.IsReached, declared.head.Head.Head}
+use Rattle.fst_walks.specs.{Descending.IsLedFrom, WayBack.Crosses, declared.block_walk.BlockWalk.BlockWalk}
+use Rattle.fst_heads.specs.declared.test.Test.TheVariants as test
+
+-- the way down to the first changes of other blocks goes through p: it is none, nor a hard change of b in memory, below which nothing leads back to b
+pub record GoesThrough (patches : List Patch) (b p : ℕ) : Type 0 where
+  pub own : PassesAt (test.LiveOff b) patches p → ⊥
+  pub soft : IsHardNumber patches b p → ⊥
+
+-- a step of that way: to a direct dependency that is not on disk
+abbrev pub StepsAway : List Patch → ℕ → ℕ → ℕ → Type 0
+StepsAway patches b p q = GoesThrough patches b p × DirectlyOn patches p q × IsLiveNumber patches q
+
+-- n is a change of another block, not on disk, and in the row, or that way leads from one of the row to it
+pub record IsFirstAway (patches : List Patch) (b : ℕ) (row : List ℕ) (n : ℕ) : Type 0 where
+  pub away : PassesAt (test.LiveOff b) patches n
+  pub top : ℕ
+  pub named : Contains row top
+  pub live : IsLiveNumber patches top
+  pub path : (top ≡ n) ⊎ Closure (StepsAway patches b) top n
+
+-- from the change p, which is not on disk, to the hard change q in memory of the same block, which is not shown as crossed
+pub record CrossesDown (patches : List Patch) (crossed : List Bool) (p q : ℕ) : Type 0 where
+  pub block : ℕ
+  pub change : PassesAt (test.LiveOn block) patches p
+  pub fresh : IsReached crossed block → ⊥
+  pub hard : IsHardNumber patches block q
+
+-- a step of the walk down: to a direct dependency that is not on disk, or across a block
+abbrev pub StepsDown : List Patch → List Bool → ℕ → ℕ → Type 0
+StepsDown patches crossed p q = (DirectlyOn patches p q × IsLiveNumber patches q) ⊎ CrossesDown patches crossed p q
+
+-- the block of the change with number n, which is not on disk, is shown besides
+pub record ShowsBlockUnder (patches : List Patch) (n : ℕ) (old new : List Bool) : Type 0 where
+  pub kept : (c : ℕ) → IsReached old c → IsReached new c
+  pub only : (c : ℕ) → IsReached new c → IsReached old c ⊎ PassesAt (test.LiveOn c) patches n
+  pub each : (c : ℕ) → PassesAt (test.LiveOn c) patches n → IsReached new c
+
+-- n is not on disk, and no higher than `most`
+abbrev pub IsLow : List Patch → (ℕ → ℕ) → ℕ → ℕ → Type 0
+IsLow patches level most n = IsLiveNumber patches n × (level n ≤ most)
+
+-- n is a change of b, not on disk, and no higher than `most`
+abbrev pub IsLowChange : List Patch → (ℕ → ℕ) → ℕ → ℕ → ℕ → Type 0
+IsLowChange patches level most b n = PassesAt (test.LiveOn b) patches n × (level n ≤ most)
+
+-- a step of the walk up, to what is no higher than `most`: to one that directly depends on it, or across a block
+abbrev pub StepsLow : List Patch → (ℕ → ℕ) → ℕ → List Bool → ℕ → ℕ → Type 0
+StepsLow patches level most crossed p q = (DirectlyOn patches q p × IsLow patches level most q) ⊎ (Crosses patches crossed p q × (level q ≤ most))
+
+-- the walk is over these heads and that many blocks
+pub record IsOver (heads : List Head) (blocks : ℕ) (walk : BlockWalk) : Type 0 where
+  pub long : length walk.walk.marks ≡ length heads
+  pub crossed : length walk.crossed.items ≡ blocks
+
+-- nothing was met by both walks
+abbrev pub AreApart : List ℕ → List ℕ → Type 0
+AreApart over under = (n : ℕ) → Contains over n → Contains under n → ⊥
+
+-- from where they start, the two walks lead to the same
+pub record LeadTogether (patches : List Patch) (level : ℕ → ℕ) (most : ℕ) (up down : List Bool) (bottoms tops : List ℕ) : Type 0 where
+  pub at : ℕ
+  pub over : IsLedFrom (StepsLow patches level most up) bottoms at
+  pub under : IsLedFrom (StepsDown patches down) tops at
+
+-- one of the two walks has met all that it leads to, and nothing was met by both
+pub record EndApart (patches : List Patch) (level : ℕ → ℕ) (most : ℕ) (up down : List Bool) (bottoms tops over under : List ℕ) : Type 0 where
+  pub over_begun : (n : ℕ) → Contains bottoms n → Contains over n
+  pub under_begun : (n : ℕ) → Contains tops n → Contains under n
+  pub apart : AreApart over under
+  pub ended : ((n : ℕ) → IsLedFrom (StepsLow patches level most up) bottoms n → Contains over n) ⊎ ((n : ℕ) → IsLedFrom (StepsDown patches down) tops n → Contains under n)

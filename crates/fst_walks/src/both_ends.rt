@@ -1,0 +1,181 @@
+//! The way back to a block, looked for from both its ends at once: by a walk up from the changes of the block and one down
+//! from the first changes of other blocks at or below a row. A new change of the block over the row is soft exactly where
+//! such a way is there, and the walks meet where it is; it is hard where one of them comes to its end and they have not
+//! met. The one that has looked at less takes the next step, since mostly one end has far less around it than the other.
+
+ghost use Rattle.std.specs.Prelude.{◌≡◌, ◌≤◌, ◌<◌, ℕ, false, length, Contains, IfNone, IfSome, IsTrue, slice_index_or};
+ghost use Rattle.fst_types.specs.Grades.{FollowsRule};
+ghost use Rattle.fst_heads.specs.Grading.{LeadsNowhere};
+ghost use Rattle.fst_heads.specs.Heads.{IsRising, patches_of};
+ghost use Rattle.fst_walks.specs.BothEnds.{AreApart, EndApart, IsOver, LeadTogether, ShowsBlockUnder, StepsDown, StepsLow};
+ghost use Rattle.fst_walks.specs.Descending.{Visited, Visits};
+ghost use Rattle.fst_walks.specs.Leveling.{level_of};
+ghost use Rattle.fst_walks.specs.Sights.{Sees};
+ghost use Rattle.fst_walks.specs.Walks.{numbers_met};
+ghost use Rattle.fst_walks.specs.WayBack.{ShowsBlockOf};
+
+use crate::ends::Ends;
+use crate::first_away::visit_first_away;
+use crate::sight::Sight;
+use crate::walk::Walk;
+use crate::way_down::step_down;
+use crate::way_up::{step_up, visit_low_changes};
+use fst_heads::head::Head;
+use fst_types::Grade;
+
+/// How many patches each of the two has looked at.
+#[derive(Clone, Copy)]
+struct Looked {
+    up: usize,
+    down: usize,
+}
+
+// The greatest level of what the walk has met.
+fn highest(sight: &Sight<'_>, walk: &Walk) -> u32
+    requires sees { Sees sight.now }
+    requires visited { Visited sight.now.heads.now walk.now }
+    ensures { (n : ℕ) → Contains (numbers_met sight.now.heads.now walk.now) n → level_of sight.now.levels.now.ranks n ≤ result }
+{
+    let mut most = 0;
+    for at in 0..walk.len() {
+        most = most.max(sight.levels.level(walk.slot(at)));
+    }
+    most
+}
+
+// Whether the other walk has met what the walk met at that turn or later.
+fn meets(heads: &[Head], walk: &Walk, other: &Walk, from: usize) -> bool
+    requires walk { length walk.now.marks ≡ length heads.now }
+    requires other { Visited heads.now other.now }
+    requires rising { IsRising heads.now }
+    ensures met { IsTrue result → (n : ℕ) × Contains (numbers_met heads.now walk.now) n × Contains (numbers_met heads.now other.now) n }
+    ensures apart { result ≡ false → (at : ℕ) → from ≤ at → at < length walk.now.met → Contains (numbers_met heads.now other.now) (slice_index_or (numbers_met heads.now walk.now) at 0) → ⊥ }
+{
+    for at in from..walk.len() {
+        if other.has_met(walk.slot(at)) {
+            return true;
+        }
+    }
+    false
+}
+
+// A step of the walk up from what it met there in turn. Answers whether it met what the walk down has.
+fn turn_up(sight: &Sight<'_>, ends: &mut Ends, at: usize, most: u32, looked: &mut Looked) -> bool
+    requires sees { Sees sight.now }
+    requires up { IsOver sight.now.heads.now (length sight.now.lists.now) ends.old.up }
+    requires visited_up { Visited sight.now.heads.now ends.old.up.walk }
+    requires visited_down { Visited sight.now.heads.now ends.old.down.walk }
+    requires apart { AreApart (numbers_met sight.now.heads.now ends.old.up.walk) (numbers_met sight.now.heads.now ends.old.down.walk) }
+    requires at { at < length ends.old.up.walk.met }
+    ensures up { IsOver sight.now.heads.now (length sight.now.lists.now) ends.new.up }
+    ensures visited { Visited sight.now.heads.now ends.new.up.walk }
+    ensures visits { Visits (StepsLow (patches_of sight.now.heads.now) (level_of sight.now.levels.now.ranks) most ends.old.up.crossed.items (slice_index_or (numbers_met sight.now.heads.now ends.old.up.walk) at 0)) (numbers_met sight.now.heads.now ends.old.up.walk) (numbers_met sight.now.heads.now ends.new.up.walk) }
+    ensures crossed { ShowsBlockOf (patches_of sight.now.heads.now) (slice_index_or (numbers_met sight.now.heads.now ends.old.up.walk) at 0) ends.old.up.crossed.items ends.new.up.crossed.items }
+    ensures down { ends.new.down ≡ ends.old.down }
+    ensures met { IsTrue result → (n : ℕ) × Contains (numbers_met sight.now.heads.now ends.new.up.walk) n × Contains (numbers_met sight.now.heads.now ends.old.down.walk) n }
+    ensures apart { result ≡ false → AreApart (numbers_met sight.now.heads.now ends.new.up.walk) (numbers_met sight.now.heads.now ends.old.down.walk) }
+{
+    let from = ends.up.walk.len();
+    let more = step_up(sight, &mut ends.up.walk, &mut ends.up.crossed, at, most);
+    looked.up = looked.up.saturating_add(more);
+    meets(sight.heads, &ends.up.walk, &ends.down.walk, from)
+}
+
+// A step of the walk down from what it met there in turn. Answers whether it met what the walk up has.
+fn turn_down(sight: &Sight<'_>, ends: &mut Ends, at: usize, looked: &mut Looked) -> bool
+    requires sees { Sees sight.now }
+    requires down { IsOver sight.now.heads.now (length sight.now.lists.now) ends.old.down }
+    requires visited_up { Visited sight.now.heads.now ends.old.up.walk }
+    requires visited_down { Visited sight.now.heads.now ends.old.down.walk }
+    requires apart { AreApart (numbers_met sight.now.heads.now ends.old.up.walk) (numbers_met sight.now.heads.now ends.old.down.walk) }
+    requires at { at < length ends.old.down.walk.met }
+    ensures down { IsOver sight.now.heads.now (length sight.now.lists.now) ends.new.down }
+    ensures visited { Visited sight.now.heads.now ends.new.down.walk }
+    ensures visits { Visits (StepsDown (patches_of sight.now.heads.now) ends.old.down.crossed.items (slice_index_or (numbers_met sight.now.heads.now ends.old.down.walk) at 0)) (numbers_met sight.now.heads.now ends.old.down.walk) (numbers_met sight.now.heads.now ends.new.down.walk) }
+    ensures crossed { ShowsBlockUnder (patches_of sight.now.heads.now) (slice_index_or (numbers_met sight.now.heads.now ends.old.down.walk) at 0) ends.old.down.crossed.items ends.new.down.crossed.items }
+    ensures up { ends.new.up ≡ ends.old.up }
+    ensures met { IsTrue result → (n : ℕ) × Contains (numbers_met sight.now.heads.now ends.old.up.walk) n × Contains (numbers_met sight.now.heads.now ends.new.down.walk) n }
+    ensures apart { result ≡ false → AreApart (numbers_met sight.now.heads.now ends.old.up.walk) (numbers_met sight.now.heads.now ends.new.down.walk) }
+{
+    let from = ends.down.walk.len();
+    let more = step_down(sight, &mut ends.down.walk, &mut ends.down.crossed, at);
+    looked.down = looked.down.saturating_add(more);
+    meets(sight.heads, &ends.down.walk, &ends.up.walk, from)
+}
+
+// Takes steps by turns until one walk has met what the other has, which it answers, or one is at its end. Gives up where
+// they have looked at more than `most` in all.
+fn meet_between(
+    sight: &Sight<'_>,
+    ends: &mut Ends,
+    level: u32,
+    begun: Looked,
+    most: usize,
+) -> Option<bool>
+    requires sees { Sees sight.now }
+    requires up { IsOver sight.now.heads.now (length sight.now.lists.now) ends.old.up }
+    requires down { IsOver sight.now.heads.now (length sight.now.lists.now) ends.old.down }
+    requires visited_up { Visited sight.now.heads.now ends.old.up.walk }
+    requires visited_down { Visited sight.now.heads.now ends.old.down.walk }
+    requires apart { AreApart (numbers_met sight.now.heads.now ends.old.up.walk) (numbers_met sight.now.heads.now ends.old.down.walk) }
+    ensures up { IsOver sight.now.heads.now (length sight.now.lists.now) ends.new.up }
+    ensures down { IsOver sight.now.heads.now (length sight.now.lists.now) ends.new.down }
+    ensures together { IfSome result (λ met. IsTrue met → LeadTogether (patches_of sight.now.heads.now) (level_of sight.now.levels.now.ranks) level ends.old.up.crossed.items ends.old.down.crossed.items (numbers_met sight.now.heads.now ends.old.up.walk) (numbers_met sight.now.heads.now ends.old.down.walk)) }
+    ensures apart { IfSome result (λ met. met ≡ false → EndApart (patches_of sight.now.heads.now) (level_of sight.now.levels.now.ranks) level ends.old.up.crossed.items ends.old.down.crossed.items (numbers_met sight.now.heads.now ends.old.up.walk) (numbers_met sight.now.heads.now ends.old.down.walk) (numbers_met sight.now.heads.now ends.new.up.walk) (numbers_met sight.now.heads.now ends.new.down.walk)) }
+    ensures ended { IfNone result (most < 18446744073709551615) }
+{
+    let mut looked = begun;
+    let mut up_at = 0;
+    let mut down_at = 0;
+    while up_at < ends.up.walk.len() && down_at < ends.down.walk.len() {
+        if most < looked.up.saturating_add(looked.down) {
+            return None;
+        }
+        if looked.up <= looked.down {
+            if turn_up(sight, ends, up_at, level, &mut looked) {
+                return Some(true);
+            }
+            up_at += 1;
+        } else {
+            if turn_down(sight, ends, down_at, &mut looked) {
+                return Some(true);
+            }
+            down_at += 1;
+        }
+    }
+    Some(false)
+}
+
+/// What keeps a new change of the block with that row soft but for open gates, if looks at so many patches tell it: soft
+/// where a way leads from the row back to the block, else hard. What was met and crossed before does not matter.
+pub fn grade_between(
+    sight: &Sight<'_>,
+    ends: &mut Ends,
+    block: u32,
+    row: &[u32],
+    most: usize,
+) -> Option<Grade>
+    requires sees { Sees sight.now }
+    requires up { IsOver sight.now.heads.now (length sight.now.lists.now) ends.old.up }
+    requires down { IsOver sight.now.heads.now (length sight.now.lists.now) ends.old.down }
+    requires block { block < length sight.now.lists.now }
+    ensures graded { IfSome result (λ grade. FollowsRule grade (LeadsNowhere (patches_of sight.now.heads.now) block row.now)) }
+    ensures ended { IfNone result (most < 18446744073709551615) }
+    ensures up { IsOver sight.now.heads.now (length sight.now.lists.now) ends.new.up }
+    ensures down { IsOver sight.now.heads.now (length sight.now.lists.now) ends.new.down }
+{
+    ends.down.cross_only(block);
+    let down = visit_first_away(sight.heads, &mut ends.down.walk, block, row, most)?;
+    if ends.down.walk.len() == 0 {
+        return Some(Grade::Hard);
+    }
+    // No way up falls, so none to what is met now goes through what is higher.
+    let level = highest(sight, &ends.down.walk);
+    ends.up.cross_only(block);
+    ends.up.walk.clear();
+    let up = visit_low_changes(sight, &mut ends.up.walk, block, level);
+    match meet_between(sight, ends, level, Looked { up, down }, most)? {
+        true => Some(Grade::Soft),
+        false => Some(Grade::Hard),
+    }
+}

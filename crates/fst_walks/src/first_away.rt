@@ -1,0 +1,87 @@
+//! The first changes of other blocks at or below a row. A way back to a block comes down from the row to one of them, so
+//! that a walk that looks for such a way from its lower end begins at them. What lies below another block's change is left
+//! to that walk; and what lies below a hard change of the block in memory leads nowhere, as for each hard change.
+
+ghost use Rattle.std.specs.Prelude.{◌≡◌, ◌<◌, ◌↔◌, ℕ, length, Contains, IfSome, IfNone, IsTrue, slice_index_or};
+ghost use Rattle.fst_heads.specs.Heads.{IsRising, patches_of};
+ghost use Rattle.fst_heads.specs.Marks.{HasSlot};
+ghost use Rattle.fst_walks.specs.BothEnds.{GoesThrough, IsFirstAway, StepsAway};
+ghost use Rattle.fst_walks.specs.Descending.{IsLedFrom, Visited, Visits};
+ghost use Rattle.fst_walks.specs.Walks.{numbers_met};
+
+use crate::descent::{keep_away, visit_row};
+use crate::shortcuts::is_hard_in;
+use crate::walk::Walk;
+use fst_heads::head::Head;
+use fst_heads::test::{Test, passes};
+
+// Whether the way down goes through the patch in the slot.
+fn goes_through(heads: &[Head], slot: usize, block: u32) -> bool
+    requires rising { IsRising heads.now }
+    requires inside { slot < length heads.now }
+    ensures { (number : ℕ) → HasSlot heads.now number slot → IsTrue result ↔ GoesThrough (patches_of heads.now) block number }
+{
+    let head = &heads[slot];
+    !passes(Test::LiveOff(block), head) && !is_hard_in(head, block)
+}
+
+// Visits what the patch that was met there in turn directly depends on, if the way goes through it. Answers how many
+// patches it looked at.
+fn step_away(heads: &[Head], walk: &mut Walk, at: usize, block: u32) -> usize
+    requires rising { IsRising heads.now }
+    requires visited { Visited heads.now walk.old }
+    requires at { at < length walk.old.met }
+    ensures visited { Visited heads.now walk.new }
+    ensures visits { Visits (StepsAway (patches_of heads.now) block (slice_index_or (numbers_met heads.now walk.old) at 0)) (numbers_met heads.now walk.old) (numbers_met heads.now walk.new) }
+{
+    let slot = walk.slot(at);
+    if !goes_through(heads, slot, block) {
+        return 0;
+    }
+    let below = heads[slot].dependencies.as_slice();
+    visit_row(heads, walk, below);
+    below.len()
+}
+
+// Visits all that the way down leads to from what was visited. Answers how many patches it looked at, or nothing where it
+// gave up, having looked at more than `most`.
+fn walk_away(heads: &[Head], walk: &mut Walk, block: u32, most: usize) -> Option<usize>
+    requires rising { IsRising heads.now }
+    requires visited { Visited heads.now walk.old }
+    ensures visited { Visited heads.now walk.new }
+    ensures led { IfSome result (λ looked. (n : ℕ) → Contains (numbers_met heads.now walk.new) n ↔ IsLedFrom (StepsAway (patches_of heads.now) block) (numbers_met heads.now walk.old) n) }
+    ensures ended { IfNone result (most < 18446744073709551615) }
+{
+    let mut at = 0;
+    let mut looked: usize = 0;
+    while at < walk.len() {
+        if most < looked {
+            return None;
+        }
+        looked = looked.saturating_add(step_away(heads, walk, at, block));
+        at += 1;
+    }
+    Some(looked)
+}
+
+/// Visits the first changes of other blocks at or below the row, and nothing else. Answers how many patches it looked at,
+/// or nothing where it gave up, having looked at more than `most`. What was met before does not matter.
+pub fn visit_first_away(
+    heads: &[Head],
+    walk: &mut Walk,
+    block: u32,
+    row: &[u32],
+    most: usize,
+) -> Option<usize>
+    requires rising { IsRising heads.now }
+    requires long { length walk.old.marks ≡ length heads.now }
+    ensures visited { Visited heads.now walk.new }
+    ensures first { IfSome result (λ looked. (n : ℕ) → Contains (numbers_met heads.now walk.new) n ↔ IsFirstAway (patches_of heads.now) block row.now n) }
+    ensures ended { IfNone result (most < 18446744073709551615) }
+{
+    walk.clear();
+    visit_row(heads, walk, row);
+    let looked = walk_away(heads, walk, block, most)?;
+    keep_away(heads, walk, block);
+    Some(looked.saturating_add(row.len()))
+}

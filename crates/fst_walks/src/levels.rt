@@ -1,0 +1,233 @@
+//! Levels: what tells without a walk that a way leads nowhere. Each head has a level and each block a floor, so that no way
+//! down rises: what a patch depends on is no higher than it is, a change is no lower than the floor of its block, and a hard
+//! change in memory is no higher. So what lies below a floor can come to wait for nothing of that block.
+
+ghost use Rattle.std.specs.Prelude.{vec_capacity, ◌≡◌, ◌≢◌, ◌≤◌, ◌<◌, ◌+◌, ◌++◌, ◌∷◌, [], ℕ, false, IsTrue, length, map, filter, Contains, AllPairs, IfOk, OnOk, slice_index_or};
+ghost use Rattle.fst_types.specs.Tests.{has_number};
+ghost use Rattle.fst_types.specs.Patches.{IsOn};
+ghost use Rattle.fst_heads.specs.Heads.{IsRising, patch_of, patches_of};
+ghost use Rattle.fst_heads.specs.Reaching.{IsHardIn};
+ghost use Rattle.fst_heads.specs.Keeps.{IsInside};
+ghost use Rattle.fst_types.specs.Facts.{IsOnDiskWithAll};
+ghost use Rattle.fst_walks.specs.Leveling.{IsLeveled, floor_of, level_of};
+ghost use Rattle.fst_walks.specs.Lifting.{IsLifted, MayLift};
+ghost use Rattle.fst_walks.specs.Walks.{number_at, numbers_met};
+
+use crate::shortcuts::is_hard_in;
+use crate::walk::Walk;
+use fst_heads::head::{Head, Kind};
+use fst_heads::marks::slot_of;
+use std::alloc::{AllocError, Global};
+use std::marker::Model;
+
+/// The greatest level, at which each open gate stands.
+pub const TOP: u32 = 4_294_967_295;
+
+/// A head's number and its level.
+#[derive(Clone, Copy, Debug, PartialEq, Eq)]
+pub struct Rank {
+    pub number: u32,
+    pub level: u32,
+}
+
+/// What a new change does to the levels.
+#[derive(Clone, Copy, Debug, PartialEq, Eq)]
+pub struct Rise {
+    /// The level of the change.
+    pub level: u32,
+    /// Whether what was met goes up to it, with the floor of its block.
+    pub lifts: bool,
+}
+
+/// The levels of the heads, in their order, and the floors of the blocks. It takes 8 bytes for each head and 4 for each
+/// block.
+#[derive(Drop)]
+pub struct Levels {
+    ranks: Vec<Rank>,
+    floors: Vec<u32>,
+    room: usize,
+}
+
+impl Model for Levels {
+    ghost use Rattle.std.specs.Prelude.{vec_capacity, ◌≤◌, length};
+    ghost use Rattle.fst_walks.specs.Leveling.{Leveling};
+
+    ghost Value = { Leveling };
+
+    ghost view = { λ l. record { ranks = l.ranks.items; floors = l.floors.items; room = l.room } };
+
+    ghost invariant = { λ l. l.room ≤ vec_capacity l.ranks };
+}
+
+// A floor of 0 for each block.
+fn empty_floors(alloc: Global, blocks: u32) -> Result<Vec<u32>, AllocError>
+    ensures { IfOk result (λ floors. length floors.items ≡ blocks) }
+{
+    vec![in alloc; 0; blocks as usize]
+}
+
+// The head in the slot is at that level.
+fn raise(ranks: &mut Vec<Rank>, slot: usize, to: u32)
+    requires slot { slot < length ranks.old.items }
+    requires rising { AllPairs (λ r q. r.number < q.number) ranks.old.items }
+    ensures numbers { map (λ r. r.number) ranks.new.items ≡ map (λ r. r.number) ranks.old.items }
+    ensures raised { (d : Rank) → level_of ranks.new.items (slice_index_or ranks.old.items slot d).number ≡ to }
+    ensures rest { (d : Rank) (n : ℕ) → n ≢ (slice_index_or ranks.old.items slot d).number → level_of ranks.new.items n ≡ level_of ranks.old.items n }
+    ensures capacity { vec_capacity ranks.new ≡ vec_capacity ranks.old }
+{
+    ranks[slot].level = to;
+}
+
+// Where the patch is a hard change in memory, the floor of its block is there.
+fn raise_floor(floors: &mut Vec<u32>, head: &Head, to: u32)
+    requires { (c : ℕ) → IsOn (patch_of head.now) c → c < length floors.old.items }
+    ensures long { length floors.new.items ≡ length floors.old.items }
+    ensures raised { (c : ℕ) → IsHardIn (patch_of head.now) c → floor_of floors.new.items c ≡ to }
+    ensures rest { (c : ℕ) → (IsHardIn (patch_of head.now) c → ⊥) → floor_of floors.new.items c ≡ floor_of floors.old.items c }
+{
+    if let Kind::Change(block, _, _) = head.kind {
+        if is_hard_in(head, block) {
+            floors[block as usize] = to;
+        }
+    }
+}
+
+// Whether a head has the number.
+fn is_head(heads: &[Head], number: u32) -> bool
+    requires { IsRising heads.now }
+    ensures { result ≡ has_number (patches_of heads.now) number }
+{
+    slot_of(heads, number).is_some()
+}
+
+impl Levels {
+    /// The levels of no head, where each block's floor is 0.
+    pub fn new(alloc: Global, blocks: u32) -> Result<Levels, AllocError>
+        ensures { IfOk result (λ l. IsLeveled [] blocks l) }
+    {
+        let floors = empty_floors(alloc, blocks)?;
+        Ok(Levels {
+            ranks: Vec::new(alloc),
+            floors,
+            room: 0,
+        })
+    }
+
+    /// Room for so many heads more.
+    pub fn reserve(&mut self, more: u32) -> Result<(), AllocError>
+        ensures ranks { self.new.ranks ≡ self.old.ranks }
+        ensures floors { self.new.floors ≡ self.old.floors }
+        ensures room { OnOk result (length self.new.ranks + more ≤ self.new.room) }
+    {
+        let room = self.ranks.len() + more as usize;
+        self.ranks.reserve(more as usize)?;
+        self.room = room;
+        Ok(())
+    }
+
+    /// One head more, for which there is room.
+    pub fn grow(&mut self, number: u32, level: u32)
+        requires { length self.old.ranks < self.old.room }
+        ensures ranks { self.new.ranks ≡ self.old.ranks ++ record { number = number; level = level } ∷ [] }
+        ensures floors { self.new.floors ≡ self.old.floors }
+        ensures room { self.new.room ≡ self.old.room }
+    {
+        self.ranks.push_reserved(Rank { number, level });
+    }
+
+    /// The level of the head in the slot.
+    pub fn level(&self, slot: usize) -> u32
+        requires { slot < length self.now.ranks }
+        ensures { (d : Rank) → result ≡ (slice_index_or self.now.ranks slot d).level }
+    {
+        self.ranks[slot].level
+    }
+
+    /// The floor of the block.
+    pub fn floor(&self, block: u32) -> u32
+        requires { block < length self.now.floors }
+        ensures { result ≡ floor_of self.now.floors block }
+    {
+        self.floors[block as usize]
+    }
+
+    /// The level of the patch with the number, and 0 where it is forgotten.
+    pub fn of(&self, heads: &[Head], number: u32) -> u32
+        requires rising { IsRising heads.now }
+        requires aligned { map (λ r. r.number) self.now.ranks ≡ map (λ p. p.number) (patches_of heads.now) }
+        ensures { result ≡ level_of self.now.ranks number }
+    {
+        match slot_of(heads, number) {
+            Some(slot) => self.level(slot),
+            None => 0,
+        }
+    }
+
+    /// The greatest level of the row.
+    pub fn greatest(&self, heads: &[Head], row: &[u32]) -> u32
+        requires rising { IsRising heads.now }
+        requires aligned { map (λ r. r.number) self.now.ranks ≡ map (λ p. p.number) (patches_of heads.now) }
+        ensures { (q : ℕ) → Contains row.now q → level_of self.now.ranks q ≤ result }
+    {
+        let mut most = 0;
+        for number in row {
+            most = self.of(heads, *number).max(most);
+        }
+        most
+    }
+
+    /// Only the heads that are left keep their levels.
+    pub fn forget(&mut self, heads: &[Head])
+        requires { IsRising heads.now }
+        ensures ranks { self.new.ranks ≡ filter (λ r. has_number (patches_of heads.now) r.number) self.old.ranks }
+        ensures floors { self.new.floors ≡ self.old.floors }
+        ensures room { self.new.room ≡ self.old.room }
+    {
+        self.ranks.retain(|rank| is_head(heads, rank.number));
+    }
+
+    // The head in the slot goes up to that level, and where it is a hard change in memory so does the floor of its block.
+    fn lift_one(&mut self, heads: &[Head], slot: usize, to: u32)
+        requires rising { IsRising heads.now }
+        requires slot { slot < length heads.now }
+        requires aligned { map (λ r. r.number) self.old.ranks ≡ map (λ p. p.number) (patches_of heads.now) }
+        requires inside { IsInside (patches_of heads.now) (length self.old.floors) }
+        ensures { IsLifted (patches_of heads.now) (number_at heads.now slot ∷ []) to self.old self.new }
+    {
+        raise(&mut self.ranks, slot, to);
+        raise_floor(&mut self.floors, &heads[slot], to);
+    }
+
+    // What was met goes up to that level.
+    fn lift_all(&mut self, heads: &[Head], walk: &Walk, to: u32)
+        requires rising { IsRising heads.now }
+        requires long { length walk.now.marks ≡ length heads.now }
+        requires aligned { map (λ r. r.number) self.old.ranks ≡ map (λ p. p.number) (patches_of heads.now) }
+        requires inside { IsInside (patches_of heads.now) (length self.old.floors) }
+        ensures { IsLifted (patches_of heads.now) (numbers_met heads.now walk.now) to self.old self.new }
+    {
+        for at in 0..walk.len() {
+            self.lift_one(heads, walk.slot(at), to);
+        }
+    }
+
+    /// Where the rise says so, what was met goes up to its level, and so does the floor of the block.
+    pub fn lift(&mut self, heads: &[Head], walk: &Walk, block: u32, rise: Rise)
+        requires rising { IsRising heads.now }
+        requires disk { IsOnDiskWithAll (patches_of heads.now) }
+        requires long { length walk.now.marks ≡ length heads.now }
+        requires inside { block < length self.old.floors × IsInside (patches_of heads.now) (length self.old.floors) }
+        requires leveled { IsLeveled (patches_of heads.now) (length self.old.floors) self.old }
+        requires may { IsTrue rise.lifts → MayLift (patches_of heads.now) self.old block rise.level (numbers_met heads.now walk.now) }
+        ensures leveled { IsLeveled (patches_of heads.now) (length self.old.floors) self.new }
+        ensures below { (n : ℕ) → level_of self.old.ranks n ≤ rise.level → level_of self.new.ranks n ≤ rise.level }
+        ensures lifted { IsTrue rise.lifts → floor_of self.new.floors block ≡ rise.level }
+        ensures still { rise.lifts ≡ false → self.new ≡ self.old }
+        ensures room { (length self.new.ranks ≡ length self.old.ranks) × (self.new.room ≡ self.old.room) }
+    {
+        if rise.lifts {
+            self.lift_all(heads, walk, rise.level);
+            self.floors[block as usize] = rise.level;
+        }
+    }
+}
