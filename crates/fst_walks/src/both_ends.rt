@@ -164,6 +164,9 @@ pub fn grade_between(
     ensures up { IsOver sight.now.heads.now (length sight.now.lists.now) ends.new.up }
     ensures down { IsOver sight.now.heads.now (length sight.now.lists.now) ends.new.down }
 {
+    if most < sight.lists[block as usize].len() {
+        return None;
+    }
     ends.down.cross_only(block);
     let down = visit_first_away(sight.heads, &mut ends.down.walk, block, row, most)?;
     if ends.down.walk.len() == 0 {

@@ -75,5 +75,5 @@ returns-in-false-clause-graded c =
 pub returns-then-len-eq0-clause-graded : goal.returns-then-len-eq0-clause-graded
 returns-then-len-eq0-clause-graded c =
     let heads = c.args.sight.now.heads.now in
-    let none : (n : ℕ) → Contains (numbers_met heads c.visit_first_away.new.walk) n → ⊥ = λ n k. absurd (omega (arith, k.1, long_met heads c.visit_first_away.new.walk, c.len.ensures.long, c.if-len-eq0.true)) in
+    let none : (n : ℕ) → Contains (numbers_met heads c.visit_first_away.new.walk) n → ⊥ = λ n k. absurd (omega (arith, k.1, long_met heads c.visit_first_away.new.walk, c.len-2.ensures.long, c.if-len-eq0.true)) in
     none_first heads c.requires.sees.rising c.requires.sees.disk c.requires.sees.hard c.args.block c.cross_only.new.self.crossed.items c.cross_only.ensures.shown c.args.row.now (λ n f. none n ((c.in_ok-down.ensures.first n).1 f))
