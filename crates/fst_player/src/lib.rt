@@ -21,6 +21,4 @@ mod line;
 pub mod play;
 mod player;
 mod session;
-#[cfg(test)]
-mod tests;
 pub mod zeros;

@@ -1,6 +1,6 @@
 use Rattle.std.proofs.Common.{◌<◌, ℕ, List, ◌++◌, length, sym, ap, ◌∙◌, arith, rules}
 use Rattle.std.proofs.lemmas.List.{take_more_set}
-use Rattle.fst_player.proofs.tests.streams.SingleRead.read.Goals as goal
+use Rattle.fst_scripts.proofs.tests.streams.SingleRead.read.Goals as goal
 
 pub returns-clause-bytes : goal.returns-clause-bytes
 returns-clause-bytes c =

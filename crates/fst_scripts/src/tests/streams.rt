@@ -2,9 +2,9 @@
 
 ghost use Rattle.std.specs.Prelude.{◌≡◌, Some};
 
-use crate::play::{PlayFault, play};
 use crate::tests::rows::CYCLE_OF_BLOCKS;
 use crate::tests::{plays_to, put, put_line, shape_of};
+use fst_player::play::{PlayFault, play};
 use std::alloc::Global;
 use std::io;
 use std::io::{BufWriter, Read, Write};

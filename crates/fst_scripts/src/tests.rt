@@ -12,7 +12,7 @@ mod refusals;
 mod rows;
 mod streams;
 
-use crate::play::play;
+use fst_player::play::play;
 use fst_types::Shape;
 use std::alloc::Global;
 use std::process::Abort;
