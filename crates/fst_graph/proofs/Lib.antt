@@ -11,6 +11,7 @@ pub mod Listed
 pub mod Marking
 pub mod Settling
 pub mod Ranks
+pub mod NeedsNow
 pub mod Sound
 pub mod Shutting
 pub mod PutNow

@@ -4,7 +4,7 @@ use Rattle.std.specs.Global.{Vec}
 use Rattle.fst_types.specs.{Dependencies.IsLiveNumber, Facts.SparseAreLawful, Gates.IsOpenNumber, Limits.max_heads}
 use Rattle.fst_heads.specs.{Covers.Covering, Heads.patches_of, Keeps.{Keeps, Tallies}, Lists.entry, Names.numbers_of, Nodes.{node_of, nodes_of, patches_in}, Pendings.is_pending}
 use Rattle.fst_heads.specs.{Standings.{entered, standing_of}, Tests.is_hard_kind, declared.head.Head.Head, declared.lists.Listed.Listed, declared.standing.Standing.Standing}
-use Rattle.fst_walks.specs.{Leveling.Leveling, declared.ends.Ends.Ends}
+use Rattle.fst_walks.specs.{Leveling.Leveling, Needing.Needing, declared.ends.Ends.Ends}
 use Rattle.fst_graph.specs.{Known.{Known, Prepared}, Ready.{change_of, prepared_of, IsReady, IsMemberReady}}
 use Rattle.fst_graph.specs.{Sound.{AreSound, IsPrepared}, declared.prepared.Gates.Gates, declared.prepared.Prepared.Prepared as Stored}
 use Rattle.fst_heads.proofs.{Added.{new_node, with_node}, AtNumber.patches_in_nodes, Stands.stand_change, Touching.keeps_change}
@@ -13,8 +13,8 @@ use Rattle.fst_graph.proofs.{Listed.{listed_change, live_dependency}, Readied.ha
 use Rattle.fst_heads.specs.declared.pending.Pending.TheVariants as pending
 
 -- the patches with the change, and what stands beside them then
-pub record IsPutDown (heads : Vec Head) (ends : Ends) (levels : Leveling) (lists : Vec (Vec Listed)) (covers : Vec Covering) (standings : Vec Standing) (queue : Vec ℕ) (numbers blocks : ℕ) (p : Stored) : Type 0 where
-  pub prepared : IsPrepared heads ends levels lists covers queue numbers blocks p
+pub record IsPutDown (heads : Vec Head) (ends : Ends) (levels : Leveling) (needs : Needing) (lists : Vec (Vec Listed)) (covers : Vec Covering) (standings : Vec Standing) (queue : Vec ℕ) (numbers blocks : ℕ) (p : Stored) : Type 0 where
+  pub prepared : IsPrepared heads ends levels needs lists covers queue numbers blocks p
   pub ready : IsReady (patches_of heads.items) numbers blocks p
   pub shelf : p.block < length lists.items
   pub given : (q : ℕ) → Contains p.dependencies.items q → q ≤ numbers
@@ -25,9 +25,9 @@ pub record IsPutDown (heads : Vec Head) (ends : Ends) (levels : Leveling) (lists
       (set standings.items p.block (entered (is_hard_kind (change_of numbers p).kind) (is_pending (new_node (nodes_of heads.items) (change_of numbers p)).pending (pending.Block p.block)) (get_or standings.items p.block own)))
       queue.items queue.cap
 
-module _ {heads : Vec Head} {ends : Ends} {levels : Leveling} {lists : Vec (Vec Listed)} {covers : Vec Covering} {standings : Vec Standing} {queue : Vec ℕ} {live unmarked numbers blocks : ℕ} {o : Option Stored}
-    (S : AreSound heads ends levels lists covers standings queue live unmarked numbers blocks o) where
-  pub put_down : (p : Stored) → o ≡ Some p → IsReady (patches_of heads.items) numbers blocks p → IsPutDown heads ends levels lists covers standings queue numbers blocks p
+module _ {heads : Vec Head} {ends : Ends} {levels : Leveling} {needs : Needing} {lists : Vec (Vec Listed)} {covers : Vec Covering} {standings : Vec Standing} {queue : Vec ℕ} {live unmarked numbers blocks : ℕ} {o : Option Stored}
+    (S : AreSound heads ends levels needs lists covers standings queue live unmarked numbers blocks o) where
+  pub put_down : (p : Stored) → o ≡ Some p → IsReady (patches_of heads.items) numbers blocks p → IsPutDown heads ends levels needs lists covers standings queue numbers blocks p
   put_down p kept ready =
       let old = patches_of heads.items in
       let nodes = nodes_of heads.items in
@@ -58,18 +58,18 @@ module _ {heads : Vec Head} {ends : Ends} {levels : Leveling} {lists : Vec (Vec 
       }
 
 -- and for a group
-pub record IsPutNow (heads : Vec Head) (ends : Ends) (levels : Leveling) (lists : Vec (Vec Listed)) (covers : Vec Covering) (standings : Vec Standing) (queue : Vec ℕ) (numbers blocks head : ℕ) (gates : Gates) (p : Stored) : Type 0 where
-  pub down : IsPutDown heads ends levels lists covers standings queue numbers blocks p
+pub record IsPutNow (heads : Vec Head) (ends : Ends) (levels : Leveling) (needs : Needing) (lists : Vec (Vec Listed)) (covers : Vec Covering) (standings : Vec Standing) (queue : Vec ℕ) (numbers blocks head : ℕ) (gates : Gates) (p : Stored) : Type 0 where
+  pub down : IsPutDown heads ends levels needs lists covers standings queue numbers blocks p
   pub member : IsMemberReady (patches_of heads.items) numbers blocks gates p
   pub own : gates.head ≡ head
   pub closed : IsOpenNumber (patches_of heads.items) gates.head → ⊥
 
-pub put_now : {heads : Vec Head} {ends : Ends} {levels : Leveling} {lists : Vec (Vec Listed)} {covers : Vec Covering} {standings : Vec Standing} {queue : Vec ℕ} {live unmarked numbers blocks : ℕ} {o : Option Stored}
-    → AreSound heads ends levels lists covers standings queue live unmarked numbers blocks o → (p : Stored) (gates : Gates) (head : ℕ) (known : Known)
+pub put_now : {heads : Vec Head} {ends : Ends} {levels : Leveling} {needs : Needing} {lists : Vec (Vec Listed)} {covers : Vec Covering} {standings : Vec Standing} {queue : Vec ℕ} {live unmarked numbers blocks : ℕ} {o : Option Stored}
+    → AreSound heads ends levels needs lists covers standings queue live unmarked numbers blocks o → (p : Stored) (gates : Gates) (head : ℕ) (known : Known)
     → record { heads = patches_of heads.items; numbers = numbers; blocks = blocks; groups = []; prepared = option_map (prepared_of numbers) o } ≡ known
     → ((q : Prepared) × (known.prepared ≡ Some q) × (q.group ≡ Some head)) → (IsOpenNumber known.heads head → ⊥) → o ≡ Some p → p.gates ≡ Some gates
-    → IsPutNow heads ends levels lists covers standings queue numbers blocks head gates p
-put_now {heads} {ends} {levels} {lists} {covers} {standings} {queue} {live} {unmarked} {numbers} {blocks} {o} S p gates head known seen q shut kept there =
+    → IsPutNow heads ends levels needs lists covers standings queue numbers blocks head gates p
+put_now {heads} {ends} {levels} {needs} {lists} {covers} {standings} {queue} {live} {unmarked} {numbers} {blocks} {o} S p gates head known seen q shut kept there =
     let old = patches_of heads.items in
     let R = member_kept p gates old numbers blocks there (prepared_is S p kept).ready in
     let own = head_same o numbers q.0 head p gates (ap (λ (k : Known). k.prepared) seen ∙ q.1) q.2 kept there in

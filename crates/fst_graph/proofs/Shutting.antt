@@ -4,15 +4,15 @@ use Rattle.std.specs.Global.{Vec}
 use Rattle.fst_types.specs.{Cascade.{IsCascadeOf, unsettled}, Gates.IsOpenNumber, Gating.sealed}
 use Rattle.fst_heads.specs.{Covers.Covering, Heads.patches_of, Nodes.{nodes_of, at_number, AreDistinct, AreLinked, AreSettled}, Spreading.{is_waiting, seals, wakes_sealed, IsSpreadOf, Spreading}}
 use Rattle.fst_heads.specs.{Standings.AllStand, declared.head.Head.Head, declared.lists.Listed.Listed, declared.standing.Standing.Standing}
-use Rattle.fst_walks.specs.{Leveling.Leveling, declared.ends.Ends.Ends}
+use Rattle.fst_walks.specs.{Leveling.Leveling, Needing.Needing, declared.ends.Ends.Ends}
 use Rattle.fst_graph.specs.{Sound.AreSound, declared.prepared.Prepared.Prepared as Stored}
 use Rattle.fst_types.proofs.Sealing.{alike_sealed}
 use Rattle.fst_heads.proofs.{AtNumber.patches_in_nodes, Beside.{beside_landed, landed_few, sealed_told}, Carried.{linked_sealed, distinct_sealed}, Stands.stand_sealed, Starting.{starts_sealed, unsettled_sealed}}
 use Rattle.fst_walks.proofs.Seen.{seen, one_each, lawful_nodes, tallies_wider}
-use Rattle.fst_graph.proofs.{Borne.{inside_nodes, open_nodes}, Kept.{covered_moved, keeps_sealed}, Ranks.leveled_moved, Sound.as_many_standings, Tallied.tallies_sealed}
+use Rattle.fst_graph.proofs.{Borne.{inside_nodes, open_nodes}, Kept.{covered_moved, keeps_sealed}, NeedsNow.needing_sealed, Ranks.leveled_moved, Sound.as_many_standings, Tallied.tallies_sealed}
 
-module _ {heads : Vec Head} {ends : Ends} {levels : Leveling} {lists : Vec (Vec Listed)} {covers : Vec Covering} {standings : Vec Standing} {queue : Vec ℕ} {live unmarked numbers blocks : ℕ} {o : Option Stored}
-    (S : AreSound heads ends levels lists covers standings queue live unmarked numbers blocks o) {g : ℕ} (gate : IsOpenNumber (patches_of heads.items) g)
+module _ {heads : Vec Head} {ends : Ends} {levels : Leveling} {needs : Needing} {lists : Vec (Vec Listed)} {covers : Vec Covering} {standings : Vec Standing} {queue : Vec ℕ} {live unmarked numbers blocks : ℕ} {o : Option Stored}
+    (S : AreSound heads ends levels needs lists covers standings queue live unmarked numbers blocks o) {g : ℕ} (gate : IsOpenNumber (patches_of heads.items) g)
     (mid : Vec Head) (shut : nodes_of mid.items ≡ map (at_number g seals) (nodes_of heads.items)) where
   -- what comes to rest may be told from there
   pub shut_starts : (waits : List ℕ) → waits ≡ queue.items ++ wakes_sealed g (nodes_of heads.items) → Spreading (nodes_of mid.items) standings.len waits
@@ -47,7 +47,7 @@ module _ {heads : Vec Head} {ends : Ends} {levels : Leveling} {lists : Vec (Vec 
       shut_few = landed_few heads.items mid.items new.items (at_number g seals) blocks live landed ends.up.crossed.items shut (sealed_told g) S.tallies.settled still_settled counted S.beside
 
       pub shut_sound : {told : Vec Standing} {emptied : Vec ℕ} → IsSpreadOf (nodes_of mid.items) (nodes_of new.items) → AllStand (nodes_of new.items) standings.len told.items → emptied.items ≡ [] → emptied.cap ≡ queue.cap
-          → AreSound new ends levels lists covers told emptied (live - landed) 0 numbers blocks None
+          → AreSound new ends levels needs lists covers told emptied (live - landed) 0 numbers blocks None
       shut_sound {told} {emptied} spread stand empty capacity =
           let kept = keeps_sealed (patches_of heads.items) (patches_of new.items) numbers blocks g ends.up.walk.marks ends.up.walk.marks S.keeps gate shut_cascade refl in
           let spread_from = subst (λ ns. IsSpreadOf ns (nodes_of new.items)) shut spread in
@@ -61,6 +61,7 @@ module _ {heads : Vec Head} {ends : Ends} {levels : Leveling} {lists : Vec (Vec 
             covered = covered_moved (alike_sealed (patches_of heads.items) (patches_of new.items) numbers g S.keeps.lawful gate shut_cascade) kept S.covered;
             along = S.along;
             leveled = leveled_moved (alike_sealed (patches_of heads.items) (patches_of new.items) numbers g S.keeps.lawful gate shut_cascade) S.leveled;
+            needing = needing_sealed (patches_of heads.items) (patches_of new.items) numbers g S.keeps.lawful gate shut_cascade S.needing;
             none_below = λ b d lt. absurd (omega (arith, lt));
             prepared = tt;
           }

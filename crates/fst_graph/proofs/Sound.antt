@@ -4,15 +4,15 @@ use Rattle.std.specs.Global.{Vec}
 use Rattle.fst_types.specs.{Dependencies.IsLiveNumber, Patches.Patch}
 use Rattle.fst_heads.specs.{Ascending.IsBehind, Covers.{AreCovered, Covering}, Heads.{patch_of, patches_of, IsRising}, Keeps.IsInside, Lists.{entries_of, AreListed, entries_on}, Marks.{mark_in, mark_of}}
 use Rattle.fst_heads.specs.{Nodes.{nodes_of, AreSettled, pending_in}, Standings.{AllStand, standing_of}, declared.head.Head.Head, declared.lists.Listed.Listed, declared.standing.Standing.Standing}
-use Rattle.fst_walks.specs.{BothEnds.IsOver, Leveling.{IsLeveled, Leveling}, Searching.TellsGates, Sights.Sees, declared.block_walk.BlockWalk.BlockWalk, declared.ends.Ends.Ends, declared.sight.Sight.Sight}
+use Rattle.fst_walks.specs.{BothEnds.IsOver, Leveling.{IsLeveled, Leveling}, Needing.{IsNeeding, Needing}, Searching.TellsGates, Sights.Sees, declared.block_walk.BlockWalk.BlockWalk, declared.ends.Ends.Ends, declared.sight.Sight.Sight}
 use Rattle.fst_graph.specs.{Sound.{AreSound, IsPrepared}, declared.prepared.Prepared.Prepared as Stored}
 use Rattle.fst_heads.proofs.{AtNumber.patches_in_nodes, Slots.rising_heads}
 use Rattle.fst_walks.proofs.{Behind.pending_live, Held.{heads_held, heads_live}, Resting.{listed_at, shelves}, Seen.{same_patches, tallies_wider}}
-use Rattle.fst_graph.proofs.Ranks.{along_as, leveled_as}
+use Rattle.fst_graph.proofs.{NeedsNow.needing_as, Ranks.{along_as, leveled_as}}
 use Rattle.fst_heads.specs.declared.pending.Pending.TheVariants as pending
 
-module _ {heads : Vec Head} {ends : Ends} {levels : Leveling} {lists : Vec (Vec Listed)} {covers : Vec Covering} {standings : Vec Standing} {queue : Vec ℕ} {live unmarked numbers blocks : ℕ} {o : Option Stored}
-    (S : AreSound heads ends levels lists covers standings queue live unmarked numbers blocks o) where
+module _ {heads : Vec Head} {ends : Ends} {levels : Leveling} {needs : Needing} {lists : Vec (Vec Listed)} {covers : Vec Covering} {standings : Vec Standing} {queue : Vec ℕ} {live unmarked numbers blocks : ℕ} {o : Option Stored}
+    (S : AreSound heads ends levels needs lists covers standings queue live unmarked numbers blocks o) where
   pub rising_sound : IsRising heads.items
   rising_sound = rising_heads heads.items S.keeps.lawful.one_place_each.rising
 
@@ -36,15 +36,16 @@ module _ {heads : Vec Head} {ends : Ends} {levels : Leveling} {lists : Vec (Vec 
       record { live = heads_live heads.items blocks rising_sound L.no_cycle L.on_disk_with_all S.tallies.settled; held = heads_held heads.items blocks rising_sound L.no_cycle L.on_disk_with_all S.tallies.settled }
 
   -- what stands beside the patches is as walks want it
-  pub sees_all : (sight : Sight) → sight.heads.now ≡ heads.items → sight.lists.now ≡ lists.items → sight.covers.now ≡ covers.items → sight.standings.now ≡ standings.items → sight.levels.now ≡ levels → Sees sight
-  sees_all sight h l v s r =
+  pub sees_all : (sight : Sight) → sight.heads.now ≡ heads.items → sight.lists.now ≡ lists.items → sight.covers.now ≡ covers.items → sight.standings.now ≡ standings.items → sight.levels.now ≡ levels → sight.needs.now ≡ needs → Sees sight
+  sees_all sight h l v s r d =
       let K = S.keeps in
       let T = S.tallies in
       let entries = map (λ (x : Vec Listed). entries_of x.items) lists.items in
-      rw (h, l, v, s, r) (record {
+      rw (h, l, v, s, r, d) (record {
         rising = rising_sound;
         inside = subst (IsInside (patches_of heads.items)) (sym as_many_lists) K.inside;
         disk = K.lawful.on_disk_with_all;
+        flights = K.lawful.flights_stand_alone;
         hard = K.lawful.hard_never_hold;
         acyclic = K.lawful.no_cycle;
         linked = T.linked;
@@ -53,11 +54,12 @@ module _ {heads : Vec Head} {ends : Ends} {levels : Leveling} {lists : Vec (Vec 
         covered = subst (λ n. AreCovered (patches_of heads.items) n covers.items) (sym as_many_lists) S.covered;
         standing = subst (λ n. AllStand (nodes_of heads.items) n standings.items) (sym T.standing.long) T.standing;
         leveled = subst (λ n. IsLeveled (patches_of heads.items) n levels) (sym as_many_lists) S.leveled;
+        needing = subst (λ n. IsNeeding (patches_of heads.items) n needs) (sym as_many_lists) S.needing;
       })
 
   -- there is room for what is prepared, and nothing refuses it
-  pub prepared_is : (p : Stored) → o ≡ Some p → IsPrepared heads ends levels lists covers queue numbers blocks p
-  prepared_is p is = subst (λ x. IfSome x (IsPrepared heads ends levels lists covers queue numbers blocks)) is S.prepared
+  pub prepared_is : (p : Stored) → o ≡ Some p → IsPrepared heads ends levels needs lists covers queue numbers blocks p
+  prepared_is p is = subst (λ x. IfSome x (IsPrepared heads ends levels needs lists covers queue numbers blocks)) is S.prepared
 
   -- both walks are over the heads and the blocks
   pub over_up : IsOver heads.items (length lists.items) ends.up
@@ -67,7 +69,7 @@ module _ {heads : Vec Head} {ends : Ends} {levels : Leveling} {lists : Vec (Vec 
   over_down = record { long = S.along.marks ∙ as_many_marks; crossed = S.along.places ∙ as_many_places }
 
   -- after walks over the heads there are marks for each still
-  pub walked_sound : {walked : Ends} → IsOver heads.items (length lists.items) walked.up → IsOver heads.items (length lists.items) walked.down → AreSound heads walked levels lists covers standings queue live unmarked numbers blocks None
+  pub walked_sound : {walked : Ends} → IsOver heads.items (length lists.items) walked.up → IsOver heads.items (length lists.items) walked.down → AreSound heads walked levels needs lists covers standings queue live unmarked numbers blocks None
   walked_sound up down = record {
     keeps = record { lawful = S.keeps.lawful; few = S.keeps.few; inside = S.keeps.inside; marked = up.long ∙ sym (length-map heads.items patch_of) };
     beside = record { places = up.crossed ∙ as_many_lists; counted = S.beside.counted };
@@ -75,13 +77,14 @@ module _ {heads : Vec Head} {ends : Ends} {levels : Leveling} {lists : Vec (Vec 
     covered = S.covered;
     along = record { marks = down.long ∙ sym up.long; places = down.crossed ∙ sym up.crossed };
     leveled = S.leveled;
+    needing = S.needing;
     none_below = S.none_below;
     prepared = tt;
   }
 
   -- there may be more room for heads, marks and what waits in the queue
   pub roomier_sound : {roomier : Vec Head} {walked : Ends} {ranked : Leveling} {wider : Vec ℕ} → nodes_of roomier.items ≡ nodes_of heads.items → (walked.up.walk.marks ≡ ends.up.walk.marks) × (walked.down.walk.marks ≡ ends.down.walk.marks) → (walked.up.crossed ≡ ends.up.crossed) × (walked.down.crossed ≡ ends.down.crossed) → ranked.ranks ≡ levels.ranks → ranked.floors ≡ levels.floors → wider.items ≡ queue.items → queue.cap ≤ wider.cap
-      → AreSound roomier walked ranked lists covers standings wider live unmarked numbers blocks None
+      → AreSound roomier walked ranked needs lists covers standings wider live unmarked numbers blocks None
   roomier_sound {roomier} {walked} {ranked} {wider} same marks crossed ranks floors waits wide =
       let patches = same_patches roomier.items heads.items same in record {
         keeps = rw (patches, marks.0) S.keeps;
@@ -90,13 +93,14 @@ module _ {heads : Vec Head} {ends : Ends} {levels : Leveling} {lists : Vec (Vec 
         covered = rw patches S.covered;
         along = along_as marks crossed S.along;
         leveled = rw patches (leveled_as ranks floors S.leveled);
+        needing = rw patches S.needing;
         none_below = S.none_below;
         prepared = tt;
       }
 
   -- and for a change of a block
   pub listed_sound : {longer : Vec (Vec Listed)} {wider : Vec Covering} → map (λ l. entries_of l.items) longer.items ≡ map (λ l. entries_of l.items) lists.items
-      → ((hs : List Patch) → AreCovered hs (length covers.items) covers.items → AreCovered hs (length covers.items) wider.items) → AreSound heads ends levels longer wider standings queue live unmarked numbers blocks None
+      → ((hs : List Patch) → AreCovered hs (length covers.items) covers.items → AreCovered hs (length covers.items) wider.items) → AreSound heads ends levels needs longer wider standings queue live unmarked numbers blocks None
   listed_sound {wider = wider} entries covered = record {
     keeps = S.keeps;
     beside = S.beside;
@@ -104,12 +108,27 @@ module _ {heads : Vec Head} {ends : Ends} {levels : Leveling} {lists : Vec (Vec 
     covered = let long = S.covered.long in subst (λ k. AreCovered (patches_of heads.items) k wider.items) long (covered (patches_of heads.items) (subst (λ k. AreCovered (patches_of heads.items) k covers.items) (sym long) S.covered));
     along = S.along;
     leveled = S.leveled;
+    needing = S.needing;
     none_below = S.none_below;
     prepared = tt;
   }
 
-  pub with_prepared : {o' : Option Stored} → IfSome o' (IsPrepared heads ends levels lists covers queue numbers blocks) → AreSound heads ends levels lists covers standings queue live unmarked numbers blocks o'
-  with_prepared P = record { keeps = S.keeps; beside = S.beside; tallies = S.tallies; covered = S.covered; along = S.along; leveled = S.leveled; none_below = S.none_below; prepared = P }
+  -- and for what the block of the change needs
+  pub reserved_sound : {kept : Needing} → kept.lists ≡ needs.lists → AreSound heads ends levels kept lists covers standings queue live unmarked numbers blocks None
+  reserved_sound same = record {
+    keeps = S.keeps;
+    beside = S.beside;
+    tallies = S.tallies;
+    covered = S.covered;
+    along = S.along;
+    leveled = S.leveled;
+    needing = needing_as same S.needing;
+    none_below = S.none_below;
+    prepared = tt;
+  }
+
+  pub with_prepared : {o' : Option Stored} → IfSome o' (IsPrepared heads ends levels needs lists covers queue numbers blocks) → AreSound heads ends levels needs lists covers standings queue live unmarked numbers blocks o'
+  with_prepared P = record { keeps = S.keeps; beside = S.beside; tallies = S.tallies; covered = S.covered; along = S.along; leveled = S.leveled; needing = S.needing; none_below = S.none_below; prepared = P }
 
   -- there are as many lists as blocks
   pub many_lists : (slice : List (Vec Listed)) → slice ≡ lists.items → length slice ≡ blocks
@@ -136,8 +155,8 @@ pub over_then : {heads seen : List Head} {lists shelves : List (Vec Listed)} {wa
 over_then h l x = record { long = x.long ∙ sym (ap length h); crossed = x.crossed ∙ sym (ap length l) }
 
 -- what follows from that holds of whatever is prepared
-pub if_prepared : {heads : Vec Head} {ends : Ends} {levels : Leveling} {lists : Vec (Vec Listed)} {covers : Vec Covering} {standings : Vec Standing} {queue : Vec ℕ} {live unmarked numbers blocks : ℕ} {o : Option Stored}
-    → AreSound heads ends levels lists covers standings queue live unmarked numbers blocks o → (P : Stored → Type 0) → ((p : Stored) → o ≡ Some p → IsPrepared heads ends levels lists covers queue numbers blocks p → P p) → IfSome o P
+pub if_prepared : {heads : Vec Head} {ends : Ends} {levels : Leveling} {needs : Needing} {lists : Vec (Vec Listed)} {covers : Vec Covering} {standings : Vec Standing} {queue : Vec ℕ} {live unmarked numbers blocks : ℕ} {o : Option Stored}
+    → AreSound heads ends levels needs lists covers standings queue live unmarked numbers blocks o → (P : Stored → Type 0) → ((p : Stored) → o ≡ Some p → IsPrepared heads ends levels needs lists covers queue numbers blocks p → P p) → IfSome o P
 if_prepared {o = None} sound P follows = tt
 if_prepared {o = Some p} sound P follows = follows p refl sound.prepared
 

@@ -1,18 +1,19 @@
 -- What the patches keep of their fields between two calls.
-use Rattle.std.specs.Prelude.{◌≡◌, ℕ, slice_index_or, Option, IfSome, length, map, vec_len, vec_capacity}
+use Rattle.std.specs.Prelude.{◌≡◌, ◌≤◌, ℕ, slice_index_or, Option, IfSome, length, map, vec_len, vec_capacity}
 use Rattle.std.specs.Global.{Vec}
 use Rattle.fst_heads.specs.{Covers.{AreCovered, Covering, HasBytes}, Heads.patches_of, Keeps.{Beside, Keeps, Tallies}, Lists.{entries_of, HasRoomInList}}
 use Rattle.fst_heads.specs.{Nodes.nodes_of, declared.head.Head.Head, declared.lists.Listed.Listed, Standings.NoneBelow, declared.standing.Standing.Standing}
-use Rattle.fst_walks.specs.{Leveling.{IsLeveled, Leveling}, declared.ends.Ends.Ends}
+use Rattle.fst_walks.specs.{Leveling.{IsLeveled, Leveling}, Needing.{IsNeeding, Needing}, declared.ends.Ends.Ends}
 use Rattle.fst_graph.specs.{Ready.{MayBePut, HasPlaces, HasRoomAround}, declared.prepared.Prepared.Prepared as Stored}
 
 -- a change that is prepared is not refused, and whatever it is put into has a free place for it
-pub record IsPrepared (heads : Vec Head) (ends : Ends) (levels : Leveling) (lists : Vec (Vec Listed)) (covers : Vec Covering) (queue : Vec ℕ) (numbers blocks : ℕ) (p : Stored) : Type 0 where
+pub record IsPrepared (heads : Vec Head) (ends : Ends) (levels : Leveling) (needs : Needing) (lists : Vec (Vec Listed)) (covers : Vec Covering) (queue : Vec ℕ) (numbers blocks : ℕ) (p : Stored) : Type 0 where
   pub ready : MayBePut (patches_of heads.items) numbers blocks p
   pub places : HasPlaces (vec_len heads) (vec_capacity heads) (length ends.up.walk.marks) ends.up.walk.room (length ends.down.walk.marks) ends.down.walk.room (length levels.ranks) levels.room (vec_capacity queue)
   pub around : HasRoomAround heads.items p
   pub bytes : (d : Covering) → HasBytes (slice_index_or covers.items p.block d) p.span.at p.span.len
   pub in_list : HasRoomInList (map (λ l. vec_len l) lists.items) (map (λ l. vec_capacity l) lists.items) p.block
+  pub needed : (needs.block ≡ p.block) × (length p.dependencies.items ≤ needs.room)
 
 -- the walk down is over the same heads and blocks as the walk up
 pub record AreAlong (ends : Ends) : Type 0 where
@@ -20,12 +21,13 @@ pub record AreAlong (ends : Ends) : Type 0 where
   pub places : length ends.down.crossed.items ≡ length ends.up.crossed.items
 
 -- the heads are lawful patches, what stands beside them tells of them, and there is room for what is prepared
-pub record AreSound (heads : Vec Head) (ends : Ends) (levels : Leveling) (lists : Vec (Vec Listed)) (covers : Vec Covering) (standings : Vec Standing) (queue : Vec ℕ) (live unmarked numbers blocks : ℕ) (stored : Option Stored) : Type 0 where
+pub record AreSound (heads : Vec Head) (ends : Ends) (levels : Leveling) (needs : Needing) (lists : Vec (Vec Listed)) (covers : Vec Covering) (standings : Vec Standing) (queue : Vec ℕ) (live unmarked numbers blocks : ℕ) (stored : Option Stored) : Type 0 where
   pub keeps : Keeps (patches_of heads.items) numbers blocks ends.up.walk.marks
   pub beside : Beside (patches_of heads.items) blocks live ends.up.crossed.items
   pub tallies : Tallies (nodes_of heads.items) numbers blocks (map (λ l. entries_of l.items) lists.items) standings.items queue.items (vec_capacity queue)
   pub covered : AreCovered (patches_of heads.items) blocks covers.items
   pub along : AreAlong ends
   pub leveled : IsLeveled (patches_of heads.items) blocks levels
+  pub needing : IsNeeding (patches_of heads.items) blocks needs
   pub none_below : NoneBelow standings.items unmarked
-  pub prepared : IfSome stored (IsPrepared heads ends levels lists covers queue numbers blocks)
+  pub prepared : IfSome stored (IsPrepared heads ends levels needs lists covers queue numbers blocks)

@@ -36,11 +36,13 @@ use fst_types::{BlockNo, Fault, PatchNo, Place, Shape};
 use fst_walks::ascent::mark_flight;
 use fst_walks::ends::Ends;
 use fst_walks::levels::Levels;
+use fst_walks::needs::Needs;
 use std::alloc::{AllocError, Global};
 use std::marker::Model;
 
 /// The heads, which are the patches not forgotten, in order of number. `ends` has two marks for each, and two places
-/// for each block, for the walks that find grades and cycles; `levels` has a level for each, and a floor for each block.
+/// for each block, for the walks that find grades and cycles; `levels` has a level for each, and a floor for each block, and
+/// `needs` what each block needs.
 /// `lists` has for each block its changes that are not on disk, and
 /// `standings` has the mark of each. `queue` has a place for each head, for those of which their dependants are to be told.
 /// Where a change is prepared, there is a free place for it in each. `live` is how many of the patches are not on disk, and
@@ -51,6 +53,7 @@ pub struct Sparse {
     heads: Vec<Head>,
     ends: Ends,
     levels: Levels,
+    needs: Needs,
     lists: Vec<Vec<Listed>>,
     covers: Vec<Cover>,
     standings: Vec<Standing>,
@@ -73,7 +76,7 @@ impl Model for Sparse {
 
     ghost view = { λ g. record { heads = patches_of g.heads.items; numbers = g.numbers; blocks = g.blocks; groups = []; prepared = option_map (prepared_of g.numbers) g.prepared } };
 
-    ghost invariant = { λ g. AreSound g.heads g.ends g.levels g.lists g.covers g.standings g.queue g.live g.unmarked g.numbers g.blocks g.prepared };
+    ghost invariant = { λ g. AreSound g.heads g.ends g.levels g.needs g.lists g.covers g.standings g.queue g.live g.unmarked g.numbers g.blocks g.prepared };
 }
 
 // Room for one more head.
@@ -114,6 +117,9 @@ impl Sparse {
         let Ok(levels) = Levels::new(alloc, shape.blocks) else {
             return Err(Fault::Memory);
         };
+        let Ok(needs) = Needs::new(alloc, shape.blocks) else {
+            return Err(Fault::Memory);
+        };
         let Ok(lists) = empty_lists(alloc, shape.blocks) else {
             return Err(Fault::Memory);
         };
@@ -128,6 +134,7 @@ impl Sparse {
             heads: Vec::new(alloc),
             ends,
             levels,
+            needs,
             lists,
             covers,
             standings,
@@ -253,6 +260,7 @@ impl Sparse {
         };
         launch_all(&mut self.heads, chosen);
         self.standings[block as usize].launch();
+        self.needs.clear(block);
     }
 
     /// Puts on disk what is in flight of the block, and what now rests there. It takes no memory.

@@ -83,6 +83,12 @@ pub record Spreading (nodes : List Node) (blocks : ℕ) (queue : List ℕ) : Typ
   pub waits : (x : Node) → Contains nodes x → is_told x ≡ false → Contains queue x.patch.number
   pub once : AllPairs (λ m n. m ≢ n) queue
 
+-- other is pending of x than its dependants were told, which only sinks, and its sums fit
+pub record IsUntold (x : Node) : Type 0 where
+  pub fits : Fits x.sums
+  pub sinks : Sinks x.pending (now x)
+  pub untold : is_told x ≡ false
+
 -- how far all have still to sink
 abbrev pub heights : List Node → ℕ
 heights nodes = sum_by (λ x. height x.pending) nodes

@@ -6,8 +6,7 @@ ghost use Rattle.fst_types.specs.declared.grade.Grade.{Grade};
 ghost use Rattle.fst_heads.specs.Frames.{frames_of};
 ghost use Rattle.fst_heads.specs.Heads.{IsRising, kind_of};
 ghost use Rattle.fst_heads.specs.Nodes.{Node, nodes_of, at_number};
-ghost use Rattle.fst_heads.specs.Pendings.{Fits, Sinks};
-ghost use Rattle.fst_heads.specs.Spreading.{now, is_told, settles};
+ghost use Rattle.fst_heads.specs.Spreading.{now, IsUntold, settles};
 ghost use Rattle.fst_heads.specs.Standings.{AllStand, NoneBelow, may_be_written, released, entered};
 ghost use Rattle.fst_heads.specs.Tests.{is_hard_kind};
 
@@ -152,9 +151,7 @@ pub fn settle_slot(
 ) -> (Pending, Pending)
     requires rising { IsRising heads.old.items }
     requires slot { slot < vec_len heads.old }
-    requires fits { (d : Node) → Fits (slice_index_or (nodes_of heads.old.items) slot d).sums }
-    requires sinks { (d : Node) → Sinks (slice_index_or (nodes_of heads.old.items) slot d).pending (now (slice_index_or (nodes_of heads.old.items) slot d)) }
-    requires untold { (d : Node) → is_told (slice_index_or (nodes_of heads.old.items) slot d) ≡ false }
+    requires untold { (d : Node) → IsUntold (slice_index_or (nodes_of heads.old.items) slot d) }
     requires inside { (x : Node) (b at len : ℕ) (grade : Grade) → Contains (nodes_of heads.old.items) x → x.patch.kind ≡ Change b at len grade → b < vec_len standings.old }
     requires standing { AllStand (nodes_of heads.old.items) (vec_len standings.old) standings.old.items }
     ensures old { (d : Node) → result.0 ≡ (slice_index_or (nodes_of heads.old.items) slot d).pending }

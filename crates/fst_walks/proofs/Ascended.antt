@@ -1,6 +1,6 @@
 -- A walk whose steps are told by a relation: what it has met so far, and that in the end it has met all.
-use Rattle.std.proofs.Common.{◌≡◌, ◌≤◌, ◌<◌, ◌+◌, ◌↔◌, ◌⊎◌, ℕ, Bool, false, List, ◌++◌, length, get_or, Contains, sym, ap, subst, ◌∙◌, inl, inr, arith}
-use Rattle.std.proofs.{lemmas.Bool.{cases_Bool, cases_lt, false≢true}, lemmas.List.{append_assoc, get_or_append_left}}
+use Rattle.std.proofs.Common.{◌≡◌, ◌≤◌, ◌<◌, ◌+◌, ◌↔◌, ℕ, Bool, List, ◌++◌, length, get_or, Contains, sym, ap, subst, ◌∙◌, inl, inr, arith}
+use Rattle.std.proofs.{lemmas.Bool.{cases_lt}, lemmas.List.{append_assoc, get_or_append_left}}
 use Rattle.std.proofs.lemmas.List.Elements.{Contains-append_left, Contains-get_or}
 use Rattle.fst_types.specs.Closure.{Closure, one, join}
 use Rattle.fst_heads.specs.Reaching.{IsReached}
@@ -59,47 +59,3 @@ pub record Walking (Steps To : ℕ → ℕ → Type 0) (crossed : List Bool) (st
   pub climbing : Climbing Steps start at queue
   pub kept : (c : ℕ) → IsReached crossed c → IsReached now c
   pub shut : (c q : ℕ) → IsReached now c → (IsReached crossed c → ⊥) → To c q → Contains queue q
-
--- one more of the queue: what is near it, then what is across its block. One leads across c from what has From, to all that has To
-module _ (Near From To : ℕ → ℕ → Type 0) (Across : List Bool → ℕ → ℕ → Type 0)
-    (over : (old : List Bool) (p q c : ℕ) → From c p → (IsReached old c → ⊥) → To c q → Across old p q)
-    (parts : (old : List Bool) (p q : ℕ) → Across old p q → (c : ℕ) × From c p × (IsReached old c → ⊥) × To c q)
-    (crossed : List Bool) (start : List ℕ) (at : ℕ) (now after : List Bool) (queue mid new : List ℕ) (inside : at < length queue)
-    (x : Walking (λ p q. Near p q ⊎ Across crossed p q) To crossed start at now queue)
-    (v : Visits (Near (get_or queue at 0)) queue mid) (w : Visits (Across now (get_or queue at 0)) mid new)
-    (kept : (c : ℕ) → IsReached now c → IsReached after c) (only : (c : ℕ) → IsReached after c → IsReached now c ⊎ From c (get_or queue at 0)) where
-  abbrev n : ℕ
-  n = get_or queue at 0
-
-  mid_new : (q : ℕ) → Contains mid q → Contains new q
-  mid_new q c = visits_old (Across now n) mid new w q c
-
-  old_new : (q : ℕ) → Contains queue q → Contains new q
-  old_new q c = mid_new q (visits_old (Near n) queue mid v q c)
-
-  -- a block that was not crossed at first is by now, or is crossed here
-  across : (c q : ℕ) → From c n → (IsReached crossed c → ⊥) → To c q → Contains new q
-  across c q from fresh to = elim (cases_Bool (get_or now c false)) [
-    | inl shown ↦ old_new q (x.shut c q shown fresh to)
-    | inr not ↦ w.each q (over now n q c from (λ r. false≢true (sym not ∙ r)) to)
-  ]
-
-  both : Visits (λ q. Near n q ⊎ Across crossed n q) queue new
-  both = record {
-    kept = (v.kept.0 ++ w.kept.0, w.kept.1 ∙ (ap (λ q. q ++ w.kept.0) v.kept.1 ∙ append_assoc queue v.kept.0 w.kept.0));
-    only = λ q c. elim (w.only q c) [
-      | inl m ↦ elim (v.only q m) [ inl old ↦ inl old | inr near ↦ inr (inl near) ]
-      | inr k ↦ let p = parts now n q k in inr (inr (over crossed n q p.0 p.1 (λ r. p.2 (x.kept p.0 r)) p.3))
-    ];
-    each = λ q s. elim s [
-      | inl near ↦ mid_new q (v.each q near)
-      | inr k ↦ let p = parts crossed n q k in across p.0 q p.1 p.2 p.3
-    ];
-  }
-
-  pub walking_more : Walking (λ p q. Near p q ⊎ Across crossed p q) To crossed start (at + 1) after new
-  walking_more = record {
-    climbing = climbing_more (λ p q. Near p q ⊎ Across crossed p q) start at queue new inside x.climbing both;
-    kept = λ c r. kept c (x.kept c r);
-    shut = λ c q r fresh to. elim (only c r) [ inl old ↦ old_new q (x.shut c q old fresh to) | inr from ↦ across c q from fresh to ];
-  }

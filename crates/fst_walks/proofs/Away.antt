@@ -33,7 +33,3 @@ kept_numbers t heads rising old new long inside same n = (
       let kept = Contains-from_In (filter (passes_in t heads) old.met) r.0 (in_filter (passes_in t heads) old.met r.0 (In-from_Contains old.met r.0 r.1) (to_slot t heads rising n r.0 slot k.1)) in
       number_of_met heads new n r.0 slot (subst (λ ms. Contains ms r.0) (sym same) kept),
 )
-
--- what is kept of exactly those with P
-pub kept_with : (P Q : ℕ → Type 0) (old new : List ℕ) → ((n : ℕ) → Contains old n ↔ P n) → ((n : ℕ) → Contains new n ↔ (Contains old n × Q n)) → (n : ℕ) → Contains new n ↔ (P n × Q n)
-kept_with P Q old new all kept n = (λ c. let k = (kept n).0 c in ((all n).0 k.0, k.1), λ k. (kept n).1 ((all n).1 k.0, k.1))

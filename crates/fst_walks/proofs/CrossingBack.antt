@@ -1,7 +1,6 @@
 -- Up from a patch to those that directly depend on it, and from a hard change in memory across its block to all changes of it that are not on disk.
-use Rattle.std.proofs.Common.{◌≡◌, ◌<◌, ◌≤◌, ℕ, Bool, true, false, not, List, length, map, filter, get_or, set, Contains, Some, refl, sym, ap, subst, ◌∙◌, inl, inr, arith, get_or-set_same, get_or-set_other}
+use Rattle.std.proofs.Common.{◌≡◌, ◌<◌, ℕ, Bool, true, false, not, List, length, map, filter, get_or, set, Contains, Some, refl, sym, ap, subst, ◌∙◌, inl, inr, get_or-set_same, get_or-set_other}
 use Rattle.std.proofs.lemmas.Bool.{cases_eq, and_parts, and_from, eqb-true, eq-eqb, false≢true}
-use Rattle.std.proofs.lemmas.List.{length-map, Sums.{length-filter, count_by-le-length}}
 use Rattle.fst_types.specs.{Dependencies.{DirectlyOn, IsLiveNumber}, Patches.{Kind, Change, Empty, OpenGate, SealedGate, Patch, IsOn, block_of_kind}}
 use Rattle.fst_types.specs.Tests.{is_at, is_on}
 use Rattle.fst_types.proofs.{Dropping.{in_filter, filter_in}, Finite.{In, In-from_Contains, Contains-from_In, In-map}, GateGains.In-unmap}
@@ -64,11 +63,6 @@ change_listed patches list b n same x =
     let kept = in_filter (is_live_on b) patches x.patch (In-from_Contains patches x.patch x.head) live in
     let numbered = In-map (λ (e : Entry). e.number) (entries_on b patches) (entry x.patch) n (In-map entry (filter (is_live_on b) patches) x.patch (entry x.patch) kept refl) x.numbered in
     Contains-from_In (map (λ (l : Listed). l.number) list) n (subst (λ ns. In ns n) (ap (map (λ (e : Entry). e.number)) (sym same) ∙ map_twice (λ (e : Entry). e.number) entry_of list) numbered)
-
--- a block lists no more than there are heads
-pub few_listed : (heads : List Head) (list : List Listed) (b : ℕ) → entries_of list ≡ entries_on b (patches_of heads) → length list ≤ length heads
-few_listed heads list b same =
-    omega (arith, length-map list entry_of, ap length same, length-map (filter (is_live_on b) (patches_of heads)) entry, length-filter (is_live_on b) (patches_of heads), count_by-le-length (is_live_on b) (patches_of heads), length-map heads patch_of)
 
 -- such a change is not on disk
 pub change_live : (patches : List Patch) (b n : ℕ) → PassesAt (test.LiveOn b) patches n → IsLiveNumber patches n

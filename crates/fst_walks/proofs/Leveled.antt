@@ -17,10 +17,6 @@ live_passes heads b p h live on = record { patch = p; head = h; numbered = refl;
 pub passed_on : (heads : List Patch) (b n : ℕ) (x : PassesAt (test.LiveOn b) heads n) → (x.patch.number ≡ n) × IsLive x.patch × IsOn x.patch b
 passed_on heads b n x = let k = on_from b x.patch.number x.patch.kind x.patch.place x.passed in (x.numbered, k.0, k.1)
 
--- and live
-pub passed_live : (heads : List Patch) (b n : ℕ) → PassesAt (test.LiveOn b) heads n → IsLiveNumber heads n
-passed_live heads b n x = record { patch = x.patch; head = x.head; numbered = x.numbered; live = (passed_on heads b n x).1 }
-
 module _ (heads : List Patch) (level floor : ℕ → ℕ) (L : AreLeveled heads level floor) where
   -- what a patch depends on is no higher
   pub level_path : (p q : ℕ) → DependsOn heads p q → level q ≤ level p

@@ -25,10 +25,17 @@ pub mod Lifted
 pub mod LeveledKept
 pub mod Raised
 pub mod Raising
+pub mod OneOfMany
+pub mod StoodFor
+pub mod PutMore
 pub mod RanksLeft
 pub mod Releveled
 pub mod Floored
 pub mod BothEnds
+pub mod NeedsKept
+pub mod NeedsMoved
+pub mod NeedsGrown
+pub mod Needed
 pub mod Meeting
 pub mod Stepping
 pub mod CrossingDown

@@ -2,14 +2,14 @@
 use Rattle.std.proofs.Common.{◌≡◌, ◌≤◌, ◌↔◌, ◌⊎◌, ◌∷◌, [], ℕ, Bool, List, Contains, refl, sym, ap, subst, ◌∙◌, inl, inr, arith}
 use Rattle.std.proofs.lemmas.Bool.{cases_Bool, false≢true}
 use Rattle.std.proofs.lemmas.List.Elements.{Contains-push}
-use Rattle.fst_types.specs.{Closure.{Closure, one, join}, Dependencies.{DependsOn, IsLiveNumber}, Facts.{IsOnDiskWithAll, HardNeverHold}}
+use Rattle.fst_types.specs.{Closure.{Closure, one, join}, Dependencies.{DependsOn, IsLiveNumber}, Facts.{FlightsStandAlone, IsOnDiskWithAll, HardNeverHold}}
 use Rattle.fst_types.specs.{Patches.{Patch, IsOn, IsRising}}
 use Rattle.fst_types.proofs.Crash.{same_number}
 use Rattle.fst_heads.specs.{Grading.{HasUnder, LeadsNowhere, IsHardNumber}, Heads.{IsRising as AreRising, patches_of}, Marks.PassesAt}
 use Rattle.fst_heads.specs.{Reaching.{ShowsBlocks}, Tests.passes, declared.head.Head.Head}
 use Rattle.fst_heads.proofs.{Graded.off_from, Leading.one_block, Listing.rising_patches}
-use Rattle.fst_walks.specs.{BothEnds.{AreApart, EndApart, IsFirstAway, IsLowChange, LeadTogether, StepsAway, StepsDown, StepsLow}, Descending.{IsLedFrom, Visits}, Leveling.AreLeveled, WayBack.{StepsUp}}
-use Rattle.fst_walks.proofs.{BothEnds.{Leads, leads_on, led_leads, leads_led, LeadsBack, only_one, goes_up, back_leads, none_leads, off_live}, ComesBack.{live_number, live_on}, Holding.live_up, NearRow.rests_may, Visiting.none_in}
+use Rattle.fst_walks.specs.{BothEnds.{AreApart, EndApart, IsFirstAway, IsLowChange, LeadTogether, StepsAway, StepsDown, StepsLow}, Descending.{IsLedFrom, Visits}, Leveling.AreLeveled, Needing.AreNeeded, WayBack.{StepsUp}}
+use Rattle.fst_walks.proofs.{BothEnds.{Leads, leads_on, led_leads, leads_led, LeadsBack, only_one, goes_up, back_leads, none_leads, off_live}, ComesBack.{live_number, live_on}, Holding.live_up, NearRow.rests_may, Needed.{StepsWhole, steps_whole, whole_met}, Visiting.none_in}
 use Rattle.fst_heads.specs.declared.test.Test.TheVariants as test
 
 -- whether the patch passes is known
@@ -150,13 +150,13 @@ module _ (patches : List Patch) (level floor : ℕ → ℕ) (leveled : AreLevele
 
 -- the steps up and down are the same, the other way about
 module _ (patches : List Patch) (b : ℕ) (up down : List Bool) (shows_up : ShowsBlocks up (λ c. c ≡ b)) (shows_down : ShowsBlocks down (λ c. c ≡ b)) where
-  turned_up : (p q : ℕ) → StepsDown patches down p q → IsLiveNumber patches p → StepsUp patches up q p
+  turned_up : (p q : ℕ) → StepsWhole patches down p q → IsLiveNumber patches p → StepsUp patches up q p
   turned_up p q s live = elim s [
     | inl d ↦ inl (d.0, live)
     | inr k ↦ inr (record { block = k.block; hard = k.hard; fresh = λ r. k.fresh (shows_down.each k.block (shows_up.only k.block r)); change = k.change })
   ]
 
-  turned_down : (p q : ℕ) → StepsUp patches up p q → IsLiveNumber patches p → StepsDown patches down q p
+  turned_down : (p q : ℕ) → StepsUp patches up p q → IsLiveNumber patches p → StepsWhole patches down q p
   turned_down p q s live = elim s [
     | inl d ↦ inl (d.0, live)
     | inr k ↦ inr (record { block = k.block; change = k.change; fresh = λ r. k.fresh (shows_up.each k.block (shows_down.only k.block r)); hard = k.hard })
@@ -166,25 +166,25 @@ module _ (patches : List Patch) (b : ℕ) (up down : List Bool) (shows_up : Show
     up_live : (p q : ℕ) → StepsUp patches up p q → IsLiveNumber patches q
     up_live p q s = elim s [ inl d ↦ d.1 | inr k ↦ live_number patches rising b k.block q k.change ]
 
-    down_live : (p q : ℕ) → StepsDown patches down p q → IsLiveNumber patches q
+    down_live : (p q : ℕ) → StepsWhole patches down p q → IsLiveNumber patches q
     down_live p q s = elim s [
       | inl d ↦ d.1
       | inr k ↦ let h = k.hard in record { patch = h.patch; head = h.head; numbered = h.numbered; live = λ e. let memory = h.hard.memory in cc }
     ]
 
-    ups : (p q : ℕ) → Closure (StepsDown patches down) p q → IsLiveNumber patches p → Closure (StepsUp patches up) q p × IsLiveNumber patches q
+    ups : (p q : ℕ) → Closure (StepsWhole patches down) p q → IsLiveNumber patches p → Closure (StepsUp patches up) q p × IsLiveNumber patches q
     ups p q (one s) live = (one (turned_up p q s live), down_live p q s)
     ups p q (join {q = k} c d) live = let e = ups p k c live in let f = ups k q d e.1 in (join f.0 e.0, f.1)
 
-    downs : (p q : ℕ) → Closure (StepsUp patches up) p q → IsLiveNumber patches p → Closure (StepsDown patches down) q p × IsLiveNumber patches q
+    downs : (p q : ℕ) → Closure (StepsUp patches up) p q → IsLiveNumber patches p → Closure (StepsWhole patches down) q p × IsLiveNumber patches q
     downs p q (one s) live = (one (turned_down p q s live), up_live p q s)
     downs p q (join {q = k} c d) live = let e = downs p k c live in let f = downs k q d e.1 in (join f.0 e.0, f.1)
 
-    pub leads_ups : (p q : ℕ) → Leads (StepsDown patches down) p q → IsLiveNumber patches p → Leads (StepsUp patches up) q p
+    pub leads_ups : (p q : ℕ) → Leads (StepsWhole patches down) p q → IsLiveNumber patches p → Leads (StepsUp patches up) q p
     leads_ups p q (inl e) live = inl (sym e)
     leads_ups p q (inr path) live = inr (ups p q path live).0
 
-    pub leads_downs : (p q : ℕ) → Leads (StepsUp patches up) p q → IsLiveNumber patches p → Leads (StepsDown patches down) q p
+    pub leads_downs : (p q : ℕ) → Leads (StepsUp patches up) p q → IsLiveNumber patches p → Leads (StepsWhole patches down) q p
     leads_downs p q (inl e) live = inl (sym e)
     leads_downs p q (inr path) live = inr (downs p q path live).0
 
@@ -206,7 +206,8 @@ pub record AreEnds (patches : List Patch) (level : ℕ → ℕ) (most b : ℕ) (
   pub changes : (n : ℕ) → Contains bottoms n ↔ IsLowChange patches level most b n
   pub first : (n : ℕ) → Contains tops n ↔ IsFirstAway patches b row n
 
-module _ (heads : List Head) (rising : AreRising heads) (disk : IsOnDiskWithAll (patches_of heads)) (hard : HardNeverHold (patches_of heads)) (level floor : ℕ → ℕ) (leveled : AreLeveled (patches_of heads) level floor)
+module _ (heads : List Head) (rising : AreRising heads) (disk : IsOnDiskWithAll (patches_of heads)) (hard : HardNeverHold (patches_of heads)) (flights : FlightsStandAlone (patches_of heads))
+    (level floor : ℕ → ℕ) (leveled : AreLeveled (patches_of heads) level floor) (needs : ℕ → List ℕ) (needed : AreNeeded (patches_of heads) needs)
     (most b : ℕ) (row : List ℕ) (up down : List Bool) (bottoms tops : List ℕ) (ends : AreEnds (patches_of heads) level most b row up down bottoms tops) where
   abbrev all : List Patch
   all = patches_of heads
@@ -223,25 +224,37 @@ module _ (heads : List Head) (rising : AreRising heads) (disk : IsOnDiskWithAll 
       let same = same_number all a.patch x.patch ordered a.head x.head (a.numbered ∙ sym x.numbered) in
       off.3 (one_block x.patch off.1 b (subst (λ p. IsOn p off.1) same off.2) (live_on all ordered b b n x).1)
 
+  -- a walk down leads to what a way leads up from
+  under_up : (top n : ℕ) → Contains tops top → Leads (StepsDown all needs down) top n → Leads (StepsUp all up) n top
+  under_up top n c path =
+      let first = (ends.first top).0 c in
+      let whole : Leads (StepsWhole all down) top n = elim path [ inl e ↦ inl e | inr steps ↦ inr (steps_whole all ordered flights needs needed b down ends.shows_down top n steps) ] in
+      leads_ups all b up down ends.shows_up ends.shows_down ordered top n whole (off_live all ordered disk b up ends.shows_up top first.away)
+
   -- where the walks lead to the same, a way leads back
-  pub together_soft : LeadTogether all level most up down bottoms tops → LeadsNowhere all b row → ⊥
+  pub together_soft : LeadTogether all level needs most up down bottoms tops → LeadsNowhere all b row → ⊥
   together_soft met =
       let n = met.at in
       let x = led_leads (StepsLow all level most up) bottoms n met.over in
-      let a = led_leads (StepsDown all down) tops n met.under in
+      let a = led_leads (StepsDown all needs down) tops n met.under in
       let first = (ends.first a.0).0 a.1 in
-      let live = off_live all ordered disk b up ends.shows_up a.0 first.away in
       back_leads all ordered disk b up ends.shows_up row (record {
         first = x.0;
         last = a.0;
         change = ((ends.changes x.0).0 x.1).0;
         away = first.away;
         under = first_under all b row a.0 first;
-        path = leads_on (StepsUp all up) x.0 n a.0 (leads_up all level floor leveled up most x.0 n x.2) (leads_ups all b up down ends.shows_up ends.shows_down ordered a.0 n a.2 live);
+        path = leads_on (StepsUp all up) x.0 n a.0 (leads_up all level floor leveled up most x.0 n x.2) (under_up a.0 n a.1 a.2);
       })
 
+  -- a change of b that the walk down leads to is one that the walk up starts from
+  under_bottom : (n : ℕ) → IsLedFrom (StepsDown all needs down) tops n → PassesAt (test.LiveOn b) all n → Contains bottoms n
+  under_bottom n led x =
+      let a = led_leads (StepsDown all needs down) tops n led in
+      (ends.changes n).1 (x, (low_leads all level floor leveled up most n a.0 (under_up a.0 n a.1 a.2) (ends.low a.0 a.1)).0)
+
   -- where one has met all and nothing was met by both, none does
-  pub apart_hard : (over under : List ℕ) → EndApart all level most up down bottoms tops over under → LeadsNowhere all b row
+  pub apart_hard : (over under : List ℕ) → EndApart all level needs most up down bottoms tops over under → LeadsNowhere all b row
   apart_hard over under met = none_leads all ordered disk b up ends.shows_up row (λ l.
       let f = first_back heads rising disk hard b up ends.shows_up row l in
       let n = f.0 in
@@ -253,5 +266,6 @@ module _ (heads : List Head) (rising : AreRising heads) (disk : IsOnDiskWithAll 
         | inl each ↦ met.apart n (each n (leads_led (StepsLow all level most up) bottoms x n bottom path.1)) (met.under_begun n top)
         | inr each ↦
             let back = leads_downs all b up down ends.shows_up ends.shows_down ordered x n f.4 (live_number all ordered b b x f.3) in
-            met.apart x (met.over_begun x bottom) (each x (leads_led (StepsDown all down) tops n x top back))
+            let y = whole_met all ordered flights needs needed b down ends.shows_down tops n x top back f.3 in
+            met.apart y.0 (met.over_begun y.0 (under_bottom y.0 y.1 y.2)) (each y.0 y.1)
       ])

@@ -127,9 +127,6 @@ module _ (heads : List Patch) (row : List ℕ) where
   pub under_weaker : (P Q : ℕ → Type 0) → ((n : ℕ) → P n → Q n) → under P → under Q
   under_weaker P Q to u = (u.0, u.1, elim u.2 [ inl p ↦ inl (to u.0 p) | inr r ↦ inr (r.0, r.1, to r.0 r.2) ])
 
-  under_first : (n : ℕ) → Contains row n → under (λ m. m ≡ n)
-  under_first n c = (n, c, inl refl)
-
   under_next : (n q : ℕ) → DirectlyOn heads n q → under (λ m. m ≡ n) → under (λ m. m ≡ q)
   under_next n q d u = (
     u.0,

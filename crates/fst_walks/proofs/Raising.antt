@@ -1,5 +1,5 @@
 -- One head more at another level, with the floor of its block, and all that were met.
-use Rattle.std.proofs.Common.{◌≡◌, ◌≢◌, ◌<◌, ◌⊎◌, ◌&&◌, ◌++◌, ◌∷◌, ◌∙◌, [], ℕ, List, length, map, get_or, Contains, sym, ap, subst, inl, inr, arith, refl}
+use Rattle.std.proofs.Common.{◌≡◌, ◌≢◌, ◌<◌, ◌⊎◌, ◌&&◌, ◌++◌, ◌∷◌, ◌∙◌, [], ℕ, List, length, map, get_or, Contains, sym, ap, subst, inl, inr, arith}
 use Rattle.std.proofs.lemmas.Bool.{cases_Bool, cases_eq, false≢true}
 use Rattle.std.proofs.lemmas.List.{Elements.{Contains-push, Contains-push_cases, Contains-append_left}}
 use Rattle.fst_heads.specs.{Grading.IsHardNumber, Heads.{IsRising, kind_of, patch_of, patches_of}, Marks.HasSlot, Reaching.IsHardIn, Tests.is_hard_kind, declared.head.Head.Head}
@@ -10,7 +10,7 @@ use Rattle.fst_types.specs.{Patches.Patch, Tests.is_change_at}
 use Rattle.fst_types.specs.declared.place.Place.TheVariants as place
 
 -- the only number of a list of one
-only_one : (n m : ℕ) → Contains (n ∷ []) m → m ≡ n
+pub only_one : (n m : ℕ) → Contains (n ∷ []) m → m ≡ n
 only_one n m c = elim (Contains-push_cases [] n m c) [ inl none ↦ absurd (omega (arith, none.1)) | inr e ↦ sym e ]
 
 module _ (heads : List Head) (rising : IsRising heads) (s : ℕ) (lt : s < length heads) (to : ℕ) (old new : Leveling)
@@ -51,18 +51,6 @@ module _ (heads : List Head) (rising : IsRising heads) (s : ℕ) (lt : s < lengt
     floors = λ c m k h. floor_raised c (hard_one c m (only_one n m k) h);
     other_floors = λ c none. floor_rest c (λ h. none n (Contains-push [] n) (one_hard c h));
   }
-
--- nothing was met
-pub lifted_none : (heads : List Patch) (to : ℕ) (levels : Leveling) → IsLifted heads [] to levels levels
-lifted_none heads to levels = record {
-  numbers = refl;
-  long = refl;
-  room = refl;
-  raised = λ n c. absurd (omega (arith, c.1));
-  rest = λ n none. refl;
-  floors = λ c n k h. absurd (omega (arith, k.1));
-  other_floors = λ c none. refl;
-}
 
 -- whether a head is a hard change of c in memory
 pub hard_told : (heads : List Head) → IsRising heads → (n s : ℕ) → HasSlot heads n s → (c : ℕ) → IsHardNumber (patches_of heads) c n ⊎ (IsHardNumber (patches_of heads) c n → ⊥)

@@ -2,7 +2,7 @@
 use Rattle.std.proofs.Common.{◌≡◌, ◌≢◌, ◌<◌, ◌++◌, ◌∷◌, [], ℕ, zero, suc, List, map, length, get_or, AllPairs, Contains, refl, sym, ap, subst, ◌∙◌, inl, inr, arith, eq-eqb, ne_eqb}
 use Rattle.std.proofs.lemmas.{Bool.{cases_eq}, List.{length-map, get_or-map}}
 use Rattle.fst_types.specs.Patches.{Patch}
-use Rattle.fst_types.proofs.Finite.{In, In-from_Contains, Contains-from_In}
+use Rattle.fst_types.proofs.Finite.{In, Contains-from_In}
 use Rattle.fst_heads.specs.{declared.head.Head.Head, Heads.{IsRising, patch_of, patches_of}, Marks.HasSlot}
 use Rattle.fst_heads.proofs.Slots.{some_element, rising_map, rising_back}
 use Rattle.fst_walks.specs.{Leveling.level_of, declared.levels.Rank.Rank}
@@ -18,19 +18,6 @@ level_other (x ∷ xs) r n other = elim (cases_eq x.number n) [
   | inl e ↦ rw (eq-eqb x.number n e) refl
   | inr o ↦ rw (ne_eqb x.number n o) (level_other xs r n other)
 ]
-
--- so does that of a number that was there
-level_in : (ranks : List Rank) (r : Rank) (n : ℕ) → In (map number_of ranks) n → level_of (ranks ++ r ∷ []) n ≡ level_of ranks n
-level_in [] r n h = absurd h
-level_in (x ∷ xs) r n (inl e) = rw (eq-eqb x.number n e) refl
-level_in (x ∷ xs) r n (inr h) = elim (cases_eq x.number n) [
-  | inl e ↦ rw (eq-eqb x.number n e) refl
-  | inr o ↦ rw (ne_eqb x.number n o) (level_in xs r n h)
-]
-
--- the same, where the number is said to be contained
-pub level_old : (ranks : List Rank) (r : Rank) (n : ℕ) → Contains (map (λ x. x.number) ranks) n → level_of (ranks ++ r ∷ []) n ≡ level_of ranks n
-level_old ranks r n c = level_in ranks r n (In-from_Contains (map number_of ranks) n c)
 
 -- and a new number has the level that came with it
 level_pushed : (ranks : List Rank) (r : Rank) → (In (map number_of ranks) r.number → ⊥) → level_of (ranks ++ r ∷ []) r.number ≡ r.level

@@ -3,13 +3,9 @@ use Rattle.std.proofs.Common.{◌<◌, ◌≤◌, ◌+◌, ◌⊎◌, ℕ, Bool,
 use Rattle.std.proofs.lemmas.{Bool.{cases_Bool, false≢true}, List.Elements.Contains-append_left}
 use Rattle.fst_types.specs.{Dependencies.{DirectlyOn, IsLiveNumber}, Patches.Patch}
 use Rattle.fst_heads.specs.{Grading.IsHardNumber, Marks.PassesAt, Reaching.IsReached}
-use Rattle.fst_walks.specs.{BothEnds.{CrossesDown, IsLow, IsLowChange, ShowsBlockUnder, StepsDown, StepsLow}, Descending.Visits, WayBack.{Crosses, ShowsBlockOf}}
-use Rattle.fst_walks.proofs.{Ascended.{Climbing, Walking, climbing_more}, Visiting.visits_old}
+use Rattle.fst_walks.specs.{BothEnds.{CrossesDown, IsLow, IsLowChange, IsNeed, ShowsBlockUnder, StepsDown, StepsLow}, Descending.Visits, WayBack.{Crosses, ShowsBlockOf}}
+use Rattle.fst_walks.proofs.{Ascended.{Walking, climbing_more}, Visiting.visits_old}
 use Rattle.fst_heads.specs.declared.test.Test.TheVariants as test
-
--- where the walk begins nothing was done
-pub walking_begun : (Steps To : ℕ → ℕ → Type 0) (crossed : List Bool) (start : List ℕ) → Climbing Steps start 0 start → Walking Steps To crossed start 0 crossed start
-walking_begun Steps To crossed start x = record { climbing = x; kept = λ c r. r; shut = λ c q r fresh to. absurd (fresh r) }
 
 module _ (Near From To : ℕ → ℕ → Type 0) (Across : List Bool → ℕ → ℕ → Type 0)
     (over : (old : List Bool) (p q c : ℕ) → From c p → (IsReached old c → ⊥) → To c q → Across old p q)
@@ -69,11 +65,11 @@ module _ (patches : List Patch) (level : ℕ → ℕ) (most : ℕ) (crossed : Li
       crossed start at now after queue new inside x v shown.kept shown.only
 
 -- a step down
-module _ (patches : List Patch) (crossed : List Bool) (start : List ℕ) (at : ℕ) (now after : List Bool) (queue new : List ℕ) (inside : at < length queue) where
-  pub down_step : Walking (StepsDown patches crossed) (IsHardNumber patches) crossed start at now queue → Visits (StepsDown patches now (get_or queue at 0)) queue new → ShowsBlockUnder patches (get_or queue at 0) now after
-      → Walking (StepsDown patches crossed) (IsHardNumber patches) crossed start (at + 1) after new
+module _ (patches : List Patch) (needs : ℕ → List ℕ) (crossed : List Bool) (start : List ℕ) (at : ℕ) (now after : List Bool) (queue new : List ℕ) (inside : at < length queue) where
+  pub down_step : Walking (StepsDown patches needs crossed) (IsNeed patches needs) crossed start at now queue → Visits (StepsDown patches needs now (get_or queue at 0)) queue new → ShowsBlockUnder patches (get_or queue at 0) now after
+      → Walking (StepsDown patches needs crossed) (IsNeed patches needs) crossed start (at + 1) after new
   down_step x v shown =
-      walking_step (λ p q. DirectlyOn patches p q × IsLiveNumber patches q) (λ b p. PassesAt (test.LiveOn b) patches p) (IsHardNumber patches) (CrossesDown patches)
-      (λ old p q c change fresh hard. record { block = c; change = change; fresh = fresh; hard = hard })
-      (λ old p q k. (k.block, k.change, k.fresh, k.hard))
+      walking_step (λ p q. DirectlyOn patches p q × IsLiveNumber patches q) (λ b p. PassesAt (test.LiveOn b) patches p) (IsNeed patches needs) (CrossesDown patches needs)
+      (λ old p q c change fresh need. record { block = c; change = change; fresh = fresh; need = need })
+      (λ old p q k. (k.block, k.change, k.fresh, k.need))
       crossed start at now after queue new inside x v shown.kept shown.only

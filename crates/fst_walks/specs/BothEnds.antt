@@ -22,16 +22,20 @@ pub record IsFirstAway (patches : List Patch) (b : ℕ) (row : List ℕ) (n : �
   pub live : IsLiveNumber patches top
   pub path : (top ≡ n) ⊎ Closure (StepsAway patches b) top n
 
--- from the change p, which is not on disk, to the hard change q in memory of the same block, which is not shown as crossed
-pub record CrossesDown (patches : List Patch) (crossed : List Bool) (p q : ℕ) : Type 0 where
+-- q is not on disk, and is kept as needed by block c
+abbrev pub IsNeed : List Patch → (ℕ → List ℕ) → ℕ → ℕ → Type 0
+IsNeed patches needs c q = Contains (needs c) q × IsLiveNumber patches q
+
+-- from the change p, which is not on disk, to a need of its block, which is not shown as crossed
+pub record CrossesDown (patches : List Patch) (needs : ℕ → List ℕ) (crossed : List Bool) (p q : ℕ) : Type 0 where
   pub block : ℕ
   pub change : PassesAt (test.LiveOn block) patches p
   pub fresh : IsReached crossed block → ⊥
-  pub hard : IsHardNumber patches block q
+  pub need : IsNeed patches needs block q
 
--- a step of the walk down: to a direct dependency that is not on disk, or across a block
-abbrev pub StepsDown : List Patch → List Bool → ℕ → ℕ → Type 0
-StepsDown patches crossed p q = (DirectlyOn patches p q × IsLiveNumber patches q) ⊎ CrossesDown patches crossed p q
+-- a step of the walk down: to a direct dependency that is not on disk, or across a block to what this needs
+abbrev pub StepsDown : List Patch → (ℕ → List ℕ) → List Bool → ℕ → ℕ → Type 0
+StepsDown patches needs crossed p q = (DirectlyOn patches p q × IsLiveNumber patches q) ⊎ CrossesDown patches needs crossed p q
 
 -- the block of the change with number n, which is not on disk, is shown besides
 pub record ShowsBlockUnder (patches : List Patch) (n : ℕ) (old new : List Bool) : Type 0 where
@@ -61,14 +65,14 @@ abbrev pub AreApart : List ℕ → List ℕ → Type 0
 AreApart over under = (n : ℕ) → Contains over n → Contains under n → ⊥
 
 -- from where they start, the two walks lead to the same
-pub record LeadTogether (patches : List Patch) (level : ℕ → ℕ) (most : ℕ) (up down : List Bool) (bottoms tops : List ℕ) : Type 0 where
+pub record LeadTogether (patches : List Patch) (level : ℕ → ℕ) (needs : ℕ → List ℕ) (most : ℕ) (up down : List Bool) (bottoms tops : List ℕ) : Type 0 where
   pub at : ℕ
   pub over : IsLedFrom (StepsLow patches level most up) bottoms at
-  pub under : IsLedFrom (StepsDown patches down) tops at
+  pub under : IsLedFrom (StepsDown patches needs down) tops at
 
 -- one of the two walks has met all that it leads to, and nothing was met by both
-pub record EndApart (patches : List Patch) (level : ℕ → ℕ) (most : ℕ) (up down : List Bool) (bottoms tops over under : List ℕ) : Type 0 where
+pub record EndApart (patches : List Patch) (level : ℕ → ℕ) (needs : ℕ → List ℕ) (most : ℕ) (up down : List Bool) (bottoms tops over under : List ℕ) : Type 0 where
   pub over_begun : (n : ℕ) → Contains bottoms n → Contains over n
   pub under_begun : (n : ℕ) → Contains tops n → Contains under n
   pub apart : AreApart over under
-  pub ended : ((n : ℕ) → IsLedFrom (StepsLow patches level most up) bottoms n → Contains over n) ⊎ ((n : ℕ) → IsLedFrom (StepsDown patches down) tops n → Contains under n)
+  pub ended : ((n : ℕ) → IsLedFrom (StepsLow patches level most up) bottoms n → Contains over n) ⊎ ((n : ℕ) → IsLedFrom (StepsDown patches needs down) tops n → Contains under n)

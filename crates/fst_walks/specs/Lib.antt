@@ -6,3 +6,4 @@ pub mod Sights
 pub mod Leveling
 pub mod Lifting
 pub mod BothEnds
+pub mod Needing

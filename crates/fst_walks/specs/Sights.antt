@@ -1,15 +1,16 @@
 -- What walks look at is as it should be.
 use Rattle.std.specs.Prelude.{length, map}
-use Rattle.fst_types.specs.{Closure.IsAcyclic, Dependencies.DirectlyOn, Facts.{IsOnDiskWithAll, HardNeverHold}}
+use Rattle.fst_types.specs.{Closure.IsAcyclic, Dependencies.DirectlyOn, Facts.{FlightsStandAlone, IsOnDiskWithAll, HardNeverHold}}
 use Rattle.fst_heads.specs.{Covers.AreCovered, Heads.{IsRising, patches_of}, Keeps.IsInside, Lists.{entries_of, AreListed}}
 use Rattle.fst_heads.specs.{Nodes.{nodes_of, AreLinked, AreSettled}, Standings.AllStand}
-use Rattle.fst_walks.specs.{Leveling.IsLeveled, declared.sight.Sight.Sight}
+use Rattle.fst_walks.specs.{Leveling.IsLeveled, Needing.IsNeeding, declared.sight.Sight.Sight}
 
 -- the patches are as the definitions want them, and what stands beside them tells of them
 pub record Sees (sight : Sight) : Type 0 where
   pub rising : IsRising sight.heads.now
   pub inside : IsInside (patches_of sight.heads.now) (length sight.lists.now)
   pub disk : IsOnDiskWithAll (patches_of sight.heads.now)
+  pub flights : FlightsStandAlone (patches_of sight.heads.now)
   pub hard : HardNeverHold (patches_of sight.heads.now)
   pub acyclic : IsAcyclic (DirectlyOn (patches_of sight.heads.now))
   pub linked : AreLinked (nodes_of sight.heads.now)
@@ -18,3 +19,4 @@ pub record Sees (sight : Sight) : Type 0 where
   pub covered : AreCovered (patches_of sight.heads.now) (length sight.lists.now) sight.covers.now
   pub standing : AllStand (nodes_of sight.heads.now) (length sight.standings.now) sight.standings.now
   pub leveled : IsLeveled (patches_of sight.heads.now) (length sight.lists.now) sight.levels.now
+  pub needing : IsNeeding (patches_of sight.heads.now) (length sight.lists.now) sight.needs.now

@@ -3,13 +3,14 @@
 //! such a way is there, and the walks meet where it is; it is hard where one of them comes to its end and they have not
 //! met. The one that has looked at less takes the next step, since mostly one end has far less around it than the other.
 
-ghost use Rattle.std.specs.Prelude.{◌≡◌, ◌≤◌, ◌<◌, ℕ, false, length, Contains, IfNone, IfSome, IsTrue, slice_index_or};
+ghost use Rattle.std.specs.Prelude.{◌≡◌, ◌≤◌, ◌<◌, ℕ, false, length, Contains, IsTrue, slice_index_or};
 ghost use Rattle.fst_types.specs.Grades.{FollowsRule};
 ghost use Rattle.fst_heads.specs.Grading.{LeadsNowhere};
 ghost use Rattle.fst_heads.specs.Heads.{IsRising, patches_of};
 ghost use Rattle.fst_walks.specs.BothEnds.{AreApart, EndApart, IsOver, LeadTogether, ShowsBlockUnder, StepsDown, StepsLow};
 ghost use Rattle.fst_walks.specs.Descending.{Visited, Visits};
 ghost use Rattle.fst_walks.specs.Leveling.{level_of};
+ghost use Rattle.fst_walks.specs.Needing.{needs_of};
 ghost use Rattle.fst_walks.specs.Sights.{Sees};
 ghost use Rattle.fst_walks.specs.Walks.{numbers_met};
 ghost use Rattle.fst_walks.specs.WayBack.{ShowsBlockOf};
@@ -91,7 +92,7 @@ fn turn_down(sight: &Sight<'_>, ends: &mut Ends, at: usize, looked: &mut Looked)
     requires at { at < length ends.old.down.walk.met }
     ensures down { IsOver sight.now.heads.now (length sight.now.lists.now) ends.new.down }
     ensures visited { Visited sight.now.heads.now ends.new.down.walk }
-    ensures visits { Visits (StepsDown (patches_of sight.now.heads.now) ends.old.down.crossed.items (slice_index_or (numbers_met sight.now.heads.now ends.old.down.walk) at 0)) (numbers_met sight.now.heads.now ends.old.down.walk) (numbers_met sight.now.heads.now ends.new.down.walk) }
+    ensures visits { Visits (StepsDown (patches_of sight.now.heads.now) (needs_of sight.now.needs.now.lists) ends.old.down.crossed.items (slice_index_or (numbers_met sight.now.heads.now ends.old.down.walk) at 0)) (numbers_met sight.now.heads.now ends.old.down.walk) (numbers_met sight.now.heads.now ends.new.down.walk) }
     ensures crossed { ShowsBlockUnder (patches_of sight.now.heads.now) (slice_index_or (numbers_met sight.now.heads.now ends.old.down.walk) at 0) ends.old.down.crossed.items ends.new.down.crossed.items }
     ensures up { ends.new.up ≡ ends.old.up }
     ensures met { IsTrue result → (n : ℕ) × Contains (numbers_met sight.now.heads.now ends.old.up.walk) n × Contains (numbers_met sight.now.heads.now ends.new.down.walk) n }
@@ -103,15 +104,8 @@ fn turn_down(sight: &Sight<'_>, ends: &mut Ends, at: usize, looked: &mut Looked)
     meets(sight.heads, &ends.down.walk, &ends.up.walk, from)
 }
 
-// Takes steps by turns until one walk has met what the other has, which it answers, or one is at its end. Gives up where
-// they have looked at more than `most` in all.
-fn meet_between(
-    sight: &Sight<'_>,
-    ends: &mut Ends,
-    level: u32,
-    begun: Looked,
-    most: usize,
-) -> Option<bool>
+// Takes steps by turns until one walk has met what the other has, which it answers, or one is at its end.
+fn meet_between(sight: &Sight<'_>, ends: &mut Ends, level: u32, begun: Looked) -> bool
     requires sees { Sees sight.now }
     requires up { IsOver sight.now.heads.now (length sight.now.lists.now) ends.old.up }
     requires down { IsOver sight.now.heads.now (length sight.now.lists.now) ends.old.down }
@@ -120,65 +114,51 @@ fn meet_between(
     requires apart { AreApart (numbers_met sight.now.heads.now ends.old.up.walk) (numbers_met sight.now.heads.now ends.old.down.walk) }
     ensures up { IsOver sight.now.heads.now (length sight.now.lists.now) ends.new.up }
     ensures down { IsOver sight.now.heads.now (length sight.now.lists.now) ends.new.down }
-    ensures together { IfSome result (λ met. IsTrue met → LeadTogether (patches_of sight.now.heads.now) (level_of sight.now.levels.now.ranks) level ends.old.up.crossed.items ends.old.down.crossed.items (numbers_met sight.now.heads.now ends.old.up.walk) (numbers_met sight.now.heads.now ends.old.down.walk)) }
-    ensures apart { IfSome result (λ met. met ≡ false → EndApart (patches_of sight.now.heads.now) (level_of sight.now.levels.now.ranks) level ends.old.up.crossed.items ends.old.down.crossed.items (numbers_met sight.now.heads.now ends.old.up.walk) (numbers_met sight.now.heads.now ends.old.down.walk) (numbers_met sight.now.heads.now ends.new.up.walk) (numbers_met sight.now.heads.now ends.new.down.walk)) }
-    ensures ended { IfNone result (most < 18446744073709551615) }
+    ensures together { IsTrue result → LeadTogether (patches_of sight.now.heads.now) (level_of sight.now.levels.now.ranks) (needs_of sight.now.needs.now.lists) level ends.old.up.crossed.items ends.old.down.crossed.items (numbers_met sight.now.heads.now ends.old.up.walk) (numbers_met sight.now.heads.now ends.old.down.walk) }
+    ensures apart { result ≡ false → EndApart (patches_of sight.now.heads.now) (level_of sight.now.levels.now.ranks) (needs_of sight.now.needs.now.lists) level ends.old.up.crossed.items ends.old.down.crossed.items (numbers_met sight.now.heads.now ends.old.up.walk) (numbers_met sight.now.heads.now ends.old.down.walk) (numbers_met sight.now.heads.now ends.new.up.walk) (numbers_met sight.now.heads.now ends.new.down.walk) }
 {
     let mut looked = begun;
     let mut up_at = 0;
     let mut down_at = 0;
     while up_at < ends.up.walk.len() && down_at < ends.down.walk.len() {
-        if most < looked.up.saturating_add(looked.down) {
-            return None;
-        }
         if looked.up <= looked.down {
             if turn_up(sight, ends, up_at, level, &mut looked) {
-                return Some(true);
+                return true;
             }
             up_at += 1;
         } else {
             if turn_down(sight, ends, down_at, &mut looked) {
-                return Some(true);
+                return true;
             }
             down_at += 1;
         }
     }
-    Some(false)
+    false
 }
 
-/// What keeps a new change of the block with that row soft but for open gates, if looks at so many patches tell it: soft
-/// where a way leads from the row back to the block, else hard. What was met and crossed before does not matter.
-pub fn grade_between(
-    sight: &Sight<'_>,
-    ends: &mut Ends,
-    block: u32,
-    row: &[u32],
-    most: usize,
-) -> Option<Grade>
+/// What keeps a new change of the block with that row soft but for open gates: it is soft where a way leads from the row
+/// back to the block, else hard. What was met and crossed before does not matter.
+pub fn grade_between(sight: &Sight<'_>, ends: &mut Ends, block: u32, row: &[u32]) -> Grade
     requires sees { Sees sight.now }
     requires up { IsOver sight.now.heads.now (length sight.now.lists.now) ends.old.up }
     requires down { IsOver sight.now.heads.now (length sight.now.lists.now) ends.old.down }
     requires block { block < length sight.now.lists.now }
-    ensures graded { IfSome result (λ grade. FollowsRule grade (LeadsNowhere (patches_of sight.now.heads.now) block row.now)) }
-    ensures ended { IfNone result (most < 18446744073709551615) }
+    ensures graded { FollowsRule result (LeadsNowhere (patches_of sight.now.heads.now) block row.now) }
     ensures up { IsOver sight.now.heads.now (length sight.now.lists.now) ends.new.up }
     ensures down { IsOver sight.now.heads.now (length sight.now.lists.now) ends.new.down }
 {
-    if most < sight.lists[block as usize].len() {
-        return None;
-    }
     ends.down.cross_only(block);
-    let down = visit_first_away(sight.heads, &mut ends.down.walk, block, row, most)?;
+    let down = visit_first_away(sight.heads, &mut ends.down.walk, block, row);
     if ends.down.walk.len() == 0 {
-        return Some(Grade::Hard);
+        return Grade::Hard;
     }
     // No way up falls, so none to what is met now goes through what is higher.
     let level = highest(sight, &ends.down.walk);
     ends.up.cross_only(block);
     ends.up.walk.clear();
     let up = visit_low_changes(sight, &mut ends.up.walk, block, level);
-    match meet_between(sight, ends, level, Looked { up, down }, most)? {
-        true => Some(Grade::Soft),
-        false => Some(Grade::Hard),
+    match meet_between(sight, ends, level, Looked { up, down }) {
+        true => Grade::Soft,
+        false => Grade::Hard,
     }
 }

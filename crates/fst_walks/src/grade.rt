@@ -1,10 +1,9 @@
 //! The grade of a new change. A block is written only with all its hard changes, so a change is hard only where nothing
 //! that it depends on can come to wait for its block: no open gate, no change of another block that needs one of its
 //! block, and no block from which the block graph leads to its block. What is near the change mostly tells it, and their
-//! levels do where all that it depends on is below the floor of its block. Else a way back to the block is looked for from
-//! both ends. Where that is long, a long chain down from what the change depends on may come back to the block, and only
-//! where it does not one walks to the end. A gate that is sealed with the change is taken as sealed already: that sets free
-//! what it alone blocks, and moves no change and no dependency.
+//! levels do where all that it depends on is below the floor of its block. Else a chain down from what the change depends on
+//! may come back to the block, and only where it does not a way back is looked for from both ends. A gate that is sealed
+//! with the change is taken as sealed already: that sets free what it alone blocks, and moves no change and no dependency.
 
 ghost use Rattle.std.specs.Prelude.{◌<◌, length};
 ghost use Rattle.fst_types.specs.Grades.{FollowsRule};
@@ -20,9 +19,6 @@ use crate::shortcuts::{comes_back, rests_on_hard, stays_below, waits_for_quiet_b
 use crate::sight::Sight;
 use fst_types::Grade;
 
-// How many patches the walks from both ends look at at first before they give up.
-const FEW: usize = 256;
-
 // What keeps a new change of the block with that row soft but for open gates. What was met and crossed before does not
 // matter.
 fn grade_by_ways(sight: &Sight<'_>, ends: &mut Ends, block: u32, row: &[u32]) -> Grade
@@ -37,14 +33,10 @@ fn grade_by_ways(sight: &Sight<'_>, ends: &mut Ends, block: u32, row: &[u32]) ->
     if stays_below(sight, block, row) {
         return Grade::Hard;
     }
-    if let Some(grade) = grade_between(sight, ends, block, row, FEW) {
-        return grade;
-    }
     if comes_back(sight.heads, block, row) {
         return Grade::Soft;
     }
-    // Walks that may look at all that there is come to an end.
-    grade_between(sight, ends, block, row, usize::MAX).unwrap_or(Grade::Soft)
+    grade_between(sight, ends, block, row)
 }
 
 /// The grade of a new change of the block that directly depends on the row, where that gate is taken as sealed. What was

@@ -1,51 +1,21 @@
 //! A step of the walk down, from what may keep a new change where it is, to all that this may wait for: from a patch to
-//! what it directly depends on, and from a change to the hard changes of its block, without which the block is not
-//! written. Each block is crossed once.
+//! what it directly depends on, and from a change to what its block needs, without which the block is not written. Each
+//! block is crossed once.
 
 ghost use Rattle.std.specs.Prelude.{◌≡◌, ◌<◌, length, slice_index_or};
 ghost use Rattle.fst_types.specs.Dependencies.{IsLiveNumber};
-ghost use Rattle.fst_heads.specs.Grading.{IsHardNumber};
-ghost use Rattle.fst_heads.specs.Heads.{IsRising, patches_of};
-ghost use Rattle.fst_heads.specs.Lists.{entries_of, entries_on};
+ghost use Rattle.fst_heads.specs.Heads.{patches_of};
 ghost use Rattle.fst_heads.specs.Marks.{HasSlot};
 ghost use Rattle.fst_walks.specs.BothEnds.{CrossesDown, ShowsBlockUnder, StepsDown};
 ghost use Rattle.fst_walks.specs.Descending.{Visited, Visits};
+ghost use Rattle.fst_walks.specs.Needing.{needs_of};
 ghost use Rattle.fst_walks.specs.Sights.{Sees};
 ghost use Rattle.fst_walks.specs.Walks.{numbers_met};
 
 use crate::descent::visit_row;
-use crate::shortcuts::is_hard_in;
 use crate::sight::Sight;
 use crate::walk::Walk;
-use fst_heads::head::{Head, Kind};
-use fst_heads::lists::Listed;
-
-// Visits the patch with the number, if it is a hard change of the block in memory.
-fn visit_if_hard(heads: &[Head], walk: &mut Walk, number: u32, block: u32)
-    requires rising { IsRising heads.now }
-    requires visited { Visited heads.now walk.old }
-    ensures visited { Visited heads.now walk.new }
-    ensures visits { Visits (λ n. (n ≡ number) × IsHardNumber (patches_of heads.now) block n) (numbers_met heads.now walk.old) (numbers_met heads.now walk.new) }
-{
-    if let Some(slot) = walk.find(heads, number) {
-        if is_hard_in(&heads[slot], block) {
-            walk.meet(slot);
-        }
-    }
-}
-
-// Visits the hard changes of the block in memory, which its list has.
-fn visit_hard(heads: &[Head], walk: &mut Walk, list: &[Listed], block: u32)
-    requires rising { IsRising heads.now }
-    requires visited { Visited heads.now walk.old }
-    requires listed { entries_of list.now ≡ entries_on block (patches_of heads.now) }
-    ensures visited { Visited heads.now walk.new }
-    ensures visits { Visits (IsHardNumber (patches_of heads.now) block) (numbers_met heads.now walk.old) (numbers_met heads.now walk.new) }
-{
-    for listed in list {
-        visit_if_hard(heads, walk, listed.number, block);
-    }
-}
+use fst_heads::head::Kind;
 
 // From the patch with the number, if it is a change, across its block, unless that was crossed before. Answers how many
 // patches it looked at.
@@ -62,15 +32,15 @@ fn cross(
     requires slot { HasSlot sight.now.heads.now number slot }
     requires live { IsLiveNumber (patches_of sight.now.heads.now) number }
     ensures visited { Visited sight.now.heads.now walk.new }
-    ensures visits { Visits (CrossesDown (patches_of sight.now.heads.now) crossed.old number) (numbers_met sight.now.heads.now walk.old) (numbers_met sight.now.heads.now walk.new) }
+    ensures visits { Visits (CrossesDown (patches_of sight.now.heads.now) (needs_of sight.now.needs.now.lists) crossed.old number) (numbers_met sight.now.heads.now walk.old) (numbers_met sight.now.heads.now walk.new) }
     ensures crossed { ShowsBlockUnder (patches_of sight.now.heads.now) number crossed.old crossed.new }
 {
     if let Kind::Change(block, _, _) = sight.heads[slot].kind {
         if !crossed[block as usize] {
             crossed[block as usize] = true;
-            let list = sight.lists[block as usize].as_slice();
-            visit_hard(sight.heads, walk, list, block);
-            return list.len();
+            let row = sight.needs.of(block);
+            visit_row(sight.heads, walk, row);
+            return row.len();
         }
     }
     0
@@ -83,7 +53,7 @@ pub fn step_down(sight: &Sight<'_>, walk: &mut Walk, crossed: &mut [bool], at: u
     requires visited { Visited sight.now.heads.now walk.old }
     requires at { at < length walk.old.met }
     ensures visited { Visited sight.now.heads.now walk.new }
-    ensures visits { Visits (StepsDown (patches_of sight.now.heads.now) crossed.old (slice_index_or (numbers_met sight.now.heads.now walk.old) at 0)) (numbers_met sight.now.heads.now walk.old) (numbers_met sight.now.heads.now walk.new) }
+    ensures visits { Visits (StepsDown (patches_of sight.now.heads.now) (needs_of sight.now.needs.now.lists) crossed.old (slice_index_or (numbers_met sight.now.heads.now walk.old) at 0)) (numbers_met sight.now.heads.now walk.old) (numbers_met sight.now.heads.now walk.new) }
     ensures crossed { ShowsBlockUnder (patches_of sight.now.heads.now) (slice_index_or (numbers_met sight.now.heads.now walk.old) at 0) crossed.old crossed.new }
 {
     let slot = walk.slot(at);

@@ -54,6 +54,7 @@ impl Sparse {
             covers: &self.covers,
             standings: &self.standings,
             levels: &self.levels,
+            needs: &self.needs,
         };
         let walk = &mut self.ends.up.walk;
         if let Some(fault) = member_fault(&sight, walk, self.numbers, gates.tail, block.0, span) {
@@ -80,6 +81,10 @@ impl Sparse {
             return Err(Fault::Memory);
         }
         if reserve_on(&mut self.lists, &mut self.covers, block.0, span).is_err() {
+            return Err(Fault::Memory);
+        }
+        let row = prepared.dependencies.as_slice();
+        if self.needs.reserve(block.0, row.len()).is_err() {
             return Err(Fault::Memory);
         }
         let grade = prepared.grade;
@@ -151,6 +156,7 @@ impl Sparse {
             covers: &self.covers,
             standings: &self.standings,
             levels: &self.levels,
+            needs: &self.needs,
         };
         let rise = rise_of(
             &sight,
@@ -162,6 +168,8 @@ impl Sparse {
         );
         self.levels
             .lift(&self.heads, &self.ends.up.walk, block, rise);
+        self.needs
+            .put(&self.heads, prepared.dependencies.as_slice(), grade);
         let sums = row_sums(&self.heads, prepared.dependencies.as_slice());
         let pending = over_block(block, sums.joined());
         link(&mut self.heads, prepared.dependencies.as_slice(), number);

@@ -22,9 +22,11 @@ settle_slot-old-requires c =
     record {
       rising = rising_slots heads S.rising;
       slot = omega (arith, found.0, c.loop-number.heads.ok.0);
-      fits = fits_there heads blocks queue q s c.requires.narrow S c.loop-number.invariant.linked c.loop-number.invariant.distinct found;
-      sinks = λ d. S.sinks (get_or (nodes_of heads) s d) (node_in_slot heads q s d found).0;
-      untold = untold_there heads blocks queue q s c.requires.narrow S c.loop-number.invariant.linked c.loop-number.invariant.distinct found;
+      untold = λ d. record {
+        fits = fits_there heads blocks queue q s c.requires.narrow S c.loop-number.invariant.linked c.loop-number.invariant.distinct found d;
+        sinks = S.sinks (get_or (nodes_of heads) s d) (node_in_slot heads q s d found).0;
+        untold = untold_there heads blocks queue q s c.requires.narrow S c.loop-number.invariant.linked c.loop-number.invariant.distinct found d;
+      };
       inside = λ x b at len grade contained kind.
           omega (arith, S.changes x b at len grade contained kind, c.loop-number.standings.ok.0, c.loop-number.invariant.standing.long);
       standing = search rules;

@@ -14,7 +14,7 @@ use Rattle.fst_heads.proofs.standing.settle_slot.Goals.{in-Change+in-Memory+then
 pub pending_now-new-requires : goal.pending_now-new-requires
 pending_now-new-requires c =
     let h = c.index_mut-head.result.now in
-    subst (λ (x : Node). Fits x.sums) (node_at c.args.heads.now.items c.args.slot h (node_of h) (omega (arith, c.requires.slot, c.args.heads.now.ok.0)) c.index_mut-head.ensures.value) (c.requires.fits (node_of h))
+    subst (λ (x : Node). Fits x.sums) (node_at c.args.heads.now.items c.args.slot h (node_of h) (omega (arith, c.requires.slot, c.args.heads.now.ok.0)) c.index_mut-head.ensures.value) (c.requires.untold (node_of h)).fits
 
 pub index_mut-requires : goal.index_mut-requires
 index_mut-requires c =
@@ -56,7 +56,7 @@ release-requires c =
     let inside = c.requires.inside (node_of h) c.in-Change.block c.in-Change.field-1.at c.in-Change.field-1.len c.in-Change.field-2 (node_in heads s h lt e) (ap kind_of c.in-Change.is) in
     let few = few_ready heads s h lt e (vec_len c.args.standings.now) c.args.standings.now.items c.requires.standing
     c.in-Change.block c.in-Change.field-1.at c.in-Change.field-1.len c.in-Change.field-2 (ap kind_of c.in-Change.is) c.in-Memory.is
-    (slot_sinks heads s h at c.requires.sinks) (slot_untold heads s h at c.requires.untold) inside c.index_mut.result.now c.index_mut.ensures.value
+    (slot_sinks heads s h at (λ d. (c.requires.untold d).sinks)) (slot_untold heads s h at (λ d. (c.requires.untold d).untold)) inside c.index_mut.result.now c.index_mut.ensures.value
     (is_block_now h c.pending_now-new.result c.in-Change.block c.pending_now-new.ensures (sym c.is_pending.ensures ∙ c.if-is_pending.true)) in
     record {
       ready = omega (arith, few, c.args.heads.now.ok.0, c.args.heads.now.ok.1, c.args.heads.now.small);
@@ -81,14 +81,14 @@ returns-clause-standing c =
           subst (λ (v : Vec Standing Global). AllStand (nodes_of (set heads s after)) (vec_len c.args.standings.now) v.items) (sym w.standings-is)
           (stand_held heads s h lt e (vec_len c.args.standings.now) c.args.standings.now.items c.requires.standing
           w.in-Change.block w.in-Change.field-1.at w.in-Change.field-1.len w.in-Change.field-2 (ap kind_of w.in-Change.is) w.in-Memory.is
-          (slot_sinks heads s h at c.requires.sinks) (slot_untold heads s h at c.requires.untold)
+          (slot_sinks heads s h at (λ d. (c.requires.untold d).sinks)) (slot_untold heads s h at (λ d. (c.requires.untold d).untold))
           after same (not_block_now h c.pending_now-new.result w.in-Change.block c.pending_now-new.ensures (sym w.is_pending.ensures ∙ w.if-is_pending.false)))
       | in-Change+in-Memory+then-is_pending w ↦
           let inside = c.requires.inside (node_of h) w.in-Change.block w.in-Change.field-1.at w.in-Change.field-1.len w.in-Change.field-2 (node_in heads s h lt e) (ap kind_of w.in-Change.is) in
           subst (λ (v : Vec Standing Global). AllStand (nodes_of (set heads s after)) (vec_len c.args.standings.now) v.items) (sym w.standings-is)
           (stand_freed heads s h lt e (vec_len c.args.standings.now) c.args.standings.now.items c.requires.standing
           w.in-Change.block w.in-Change.field-1.at w.in-Change.field-1.len w.in-Change.field-2 (ap kind_of w.in-Change.is) w.in-Memory.is
-          (slot_sinks heads s h at c.requires.sinks) (slot_untold heads s h at c.requires.untold) inside w.index_mut.result.now w.index_mut.ensures.value
+          (slot_sinks heads s h at (λ d. (c.requires.untold d).sinks)) (slot_untold heads s h at (λ d. (c.requires.untold d).untold)) inside w.index_mut.result.now w.index_mut.ensures.value
           (is_block_now h c.pending_now-new.result w.in-Change.block c.pending_now-new.ensures (sym w.is_pending.ensures ∙ w.if-is_pending.true)) after same w.release.new.self w.release.ensures)
       | in-Change+in_default-place w ↦
           subst (λ (v : Vec Standing Global). AllStand (nodes_of (set heads s after)) (vec_len c.args.standings.now) v.items) (sym w.standings-is)

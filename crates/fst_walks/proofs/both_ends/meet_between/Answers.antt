@@ -1,6 +1,6 @@
 use Rattle.std.proofs.Common.{◌<◌, length, inl, inr, arith}
-use Rattle.fst_heads.specs.{Grading.IsHardNumber, Heads.patches_of}
-use Rattle.fst_walks.specs.{BothEnds.{IsLowChange, StepsDown, StepsLow}, Leveling.level_of, Walks.numbers_met}
+use Rattle.fst_heads.specs.{Heads.patches_of}
+use Rattle.fst_walks.specs.{BothEnds.{IsLowChange, IsNeed, StepsDown, StepsLow}, Leveling.level_of, Needing.needs_of, Walks.numbers_met}
 use Rattle.fst_walks.proofs.{Ascended.climbing_all, Stepping.{down_step, low_step, walking_kept}, Visiting.long_met}
 use Rattle.fst_walks.proofs.both_ends.meet_between.Goals as goal
 
@@ -42,7 +42,7 @@ returns-then-turn_down-clause-together c e =
     let ends = c.loop-up_at.ends in
     let inside : c.loop-up_at.down_at < length (numbers_met heads ends.down.walk) = omega (arith, c.if-down_at-len.true, c.len-in-loop-up_at.ensures.long, long_met heads ends.down.walk) in
     let met = c.turn_down.ensures.met c.if-turn_down.true in
-    let descends = down_step (patches_of heads) begun.down.crossed.items (numbers_met heads begun.down.walk) c.loop-up_at.down_at ends.down.crossed.items c.turn_down.new.ends.down.crossed.items (numbers_met heads ends.down.walk) (numbers_met heads c.turn_down.new.ends.down.walk) inside c.loop-up_at.invariant.descends c.turn_down.ensures.visits c.turn_down.ensures.crossed in
+    let descends = down_step (patches_of heads) (needs_of c.args.sight.now.needs.now.lists) begun.down.crossed.items (numbers_met heads begun.down.walk) c.loop-up_at.down_at ends.down.crossed.items c.turn_down.new.ends.down.crossed.items (numbers_met heads ends.down.walk) (numbers_met heads c.turn_down.new.ends.down.walk) inside c.loop-up_at.invariant.descends c.turn_down.ensures.visits c.turn_down.ensures.crossed in
     record { at = met.0; over = c.loop-up_at.invariant.climbs.climbing.only met.0 met.1; under = descends.climbing.only met.0 met.2 }
 
 pub loop-up_at-preserved : goal.loop-up_at-preserved
@@ -59,7 +59,7 @@ loop-up_at-preserved c =
       visited_down = c.turn_down.ensures.visited;
       apart = c.turn_down.ensures.apart c.if-turn_down.false;
       climbs = known.climbs;
-      descends = down_step (patches_of heads) begun.down.crossed.items (numbers_met heads begun.down.walk) c.loop-up_at.down_at ends.down.crossed.items c.turn_down.new.ends.down.crossed.items (numbers_met heads ends.down.walk) (numbers_met heads c.turn_down.new.ends.down.walk) inside known.descends c.turn_down.ensures.visits c.turn_down.ensures.crossed;
+      descends = down_step (patches_of heads) (needs_of c.args.sight.now.needs.now.lists) begun.down.crossed.items (numbers_met heads begun.down.walk) c.loop-up_at.down_at ends.down.crossed.items c.turn_down.new.ends.down.crossed.items (numbers_met heads ends.down.walk) (numbers_met heads c.turn_down.new.ends.down.walk) inside known.descends c.turn_down.ensures.visits c.turn_down.ensures.crossed;
       few_up = known.few_up;
       few_down = omega (arith, c.if-down_at-len.true, c.len-in-loop-up_at.ensures.few, known.down.long);
     }
@@ -71,6 +71,7 @@ returns-else-down_at-len-clause-apart c e =
     let heads = sight.heads.now in
     let patches = patches_of heads in
     let level = level_of sight.levels.now.ranks in
+    let needs = needs_of sight.needs.now.lists in
     let begun = c.args.ends.now in
     let ends = c.loop-up_at.ends in
     let known = c.loop-up_at.invariant in
@@ -78,9 +79,9 @@ returns-else-down_at-len-clause-apart c e =
     let tops = numbers_met heads begun.down.walk in
     record {
       over_begun = walking_kept (StepsLow patches level c.args.level begun.up.crossed.items) (IsLowChange patches level c.args.level) begun.up.crossed.items (numbers_met heads begun.up.walk) c.loop-up_at.up_at ends.up.crossed.items (numbers_met heads ends.up.walk) known.climbs;
-      under_begun = walking_kept (StepsDown patches down) (IsHardNumber patches) down tops c.loop-up_at.down_at ends.down.crossed.items (numbers_met heads ends.down.walk) known.descends;
+      under_begun = walking_kept (StepsDown patches needs down) (IsNeed patches needs) down tops c.loop-up_at.down_at ends.down.crossed.items (numbers_met heads ends.down.walk) known.descends;
       apart = known.apart;
-      ended = inr (λ n. (climbing_all (StepsDown patches down) tops c.loop-up_at.down_at (numbers_met heads ends.down.walk) (omega (arith, c.if-down_at-len.false, c.len-in-loop-up_at.ensures.long, long_met heads ends.down.walk)) known.descends.climbing n).1);
+      ended = inr (λ n. (climbing_all (StepsDown patches needs down) tops c.loop-up_at.down_at (numbers_met heads ends.down.walk) (omega (arith, c.if-down_at-len.false, c.len-in-loop-up_at.ensures.long, long_met heads ends.down.walk)) known.descends.climbing n).1);
     }
 
 -- the walk up is at its end
@@ -90,6 +91,7 @@ returns-after-loop-up_at-clause-apart c e =
     let heads = sight.heads.now in
     let patches = patches_of heads in
     let level = level_of sight.levels.now.ranks in
+    let needs = needs_of sight.needs.now.lists in
     let begun = c.args.ends.now in
     let ends = c.loop-up_at.ends in
     let known = c.loop-up_at.invariant in
@@ -97,7 +99,7 @@ returns-after-loop-up_at-clause-apart c e =
     let bottoms = numbers_met heads begun.up.walk in
     record {
       over_begun = walking_kept (StepsLow patches level c.args.level up) (IsLowChange patches level c.args.level) up bottoms c.loop-up_at.up_at ends.up.crossed.items (numbers_met heads ends.up.walk) known.climbs;
-      under_begun = walking_kept (StepsDown patches begun.down.crossed.items) (IsHardNumber patches) begun.down.crossed.items (numbers_met heads begun.down.walk) c.loop-up_at.down_at ends.down.crossed.items (numbers_met heads ends.down.walk) known.descends;
+      under_begun = walking_kept (StepsDown patches needs begun.down.crossed.items) (IsNeed patches needs) begun.down.crossed.items (numbers_met heads begun.down.walk) c.loop-up_at.down_at ends.down.crossed.items (numbers_met heads ends.down.walk) known.descends;
       apart = known.apart;
       ended = inl (λ n. (climbing_all (StepsLow patches level c.args.level up) bottoms c.loop-up_at.up_at (numbers_met heads ends.up.walk) (omega (arith, c.loop-up_at-test.false, c.len.ensures.long, long_met heads ends.up.walk)) known.climbs.climbing n).1);
     }

@@ -10,4 +10,4 @@ returns-clause-first c =
     let heads = c.args.heads.now in
     let patches = patches_of heads in
     let starts = subst (λ q. Visits (λ n. Contains c.args.row.now n × IsLiveNumber patches n) q (numbers_met heads c.visit_row.new.walk)) (none_met heads c.clear.new.self c.clear.ensures.met) c.visit_row.ensures.visits in
-    first_from patches c.args.block c.args.row.now (numbers_met heads c.visit_row.new.walk) (numbers_met heads c.walk_away.new.walk) (numbers_met heads c.keep_away.new.walk) starts c.in_ok-looked.ensures.led c.keep_away.ensures.kept
+    first_from patches c.args.block c.args.row.now (numbers_met heads c.visit_row.new.walk) (numbers_met heads c.walk_away-looked.new.walk) (numbers_met heads c.keep_away.new.walk) starts c.walk_away-looked.ensures.led c.keep_away.ensures.kept

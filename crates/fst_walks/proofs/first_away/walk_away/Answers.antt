@@ -7,9 +7,6 @@ use Rattle.fst_walks.proofs.first_away.walk_away.Goals as goal
 pub loop-at-smaller : goal.loop-at-smaller
 loop-at-smaller c = omega (arith, c.len.ensures.few, c.loop-at-test.true, c.loop-at.invariant.visited.long)
 
-pub returns-then-most-looked-clause-ended : goal.returns-then-most-looked-clause-ended
-returns-then-most-looked-clause-ended c = omega (arith, c.loop-at.invariant.few, c.if-most-looked.true)
-
 pub loop-at-preserved : goal.loop-at-preserved
 loop-at-preserved c =
     let heads = c.args.heads.now in
@@ -19,7 +16,6 @@ loop-at-preserved c =
     record {
       visited = c.step_away.ensures.visited;
       climbing = climbing_more (StepsAway (patches_of heads) c.args.block) (numbers_met heads c.args.walk.now) at (numbers_met heads walk) (numbers_met heads c.step_away.new.walk) (omega (arith, lt, long_met heads walk)) c.loop-at.invariant.climbing c.step_away.ensures.visits;
-      few = omega (arith, c.saturating_add-looked.type_inv);
     }
 
 pub returns-clause-led : goal.returns-clause-led

@@ -1,4 +1,4 @@
-use Rattle.std.proofs.Common.{◌-◌, ◌≤◌, length}
+use Rattle.std.proofs.Common.{◌-◌, length}
 use Rattle.fst_heads.specs.Heads.{patches_of}
 use Rattle.fst_walks.specs.{BothEnds.StepsAway, Descending.Visited, Walks.numbers_met}
 use Rattle.fst_walks.proofs.Ascended.{Climbing}
@@ -8,7 +8,6 @@ abbrev pub invariant-loop-at : goal.invariant-loop-at
 invariant-loop-at l = record {
   visited : Visited l.heads l.walk;
   climbing : Climbing (StepsAway (patches_of l.heads) l.block) (numbers_met l.heads l.initial.walk) l.at (numbers_met l.heads l.walk);
-  few : l.looked ≤ 18446744073709551615;
 }
 
 abbrev pub decreases-loop-at : goal.decreases-loop-at

@@ -1,9 +1,9 @@
-use Rattle.std.proofs.Common.{◌∙◌, sym, ap, arith}
+use Rattle.std.proofs.Common.{◌∙◌, sym, ap, subst, Contains, arith}
 use Rattle.std.proofs.lemmas.Bool.{false≢true}
 use Rattle.fst_types.specs.Patches.{block_of_kind}
-use Rattle.fst_heads.specs.{Grading.IsHardNumber, Heads.{kind_of, patches_of}, Lists.entries_of, Reaching.IsReached}
-use Rattle.fst_heads.proofs.{Listing.listed_at, Slots.patch_at}
-use Rattle.fst_walks.specs.{Walks.numbers_met, BothEnds.CrossesDown}
+use Rattle.fst_heads.specs.{Heads.{kind_of, patches_of}, Reaching.IsReached}
+use Rattle.fst_heads.proofs.{Slots.patch_at}
+use Rattle.fst_walks.specs.{Walks.numbers_met, BothEnds.{CrossesDown}, Needing.needs_of}
 use Rattle.fst_walks.proofs.CrossingDown.{no_change, crosses_from, crosses_to, shows_more, shows_same, crosses_none, shows_none}
 use Rattle.fst_walks.proofs.Visiting.{visits_none, visits_same}
 use Rattle.fst_walks.proofs.way_down.cross.Goals as goal
@@ -18,53 +18,52 @@ bounds-crossed-block-then-not-crossed-block c =
     let inside = c.requires.sees.inside _ c.in-Change.block (patch_at c.args.sight.now.heads.now c.args.slot _ c.requires.slot.0) (ap (λ k. block_of_kind (kind_of k)) c.in-Change.is) in
     omega (arith, inside, c.requires.crossed)
 
-pub bounds-sight-block : goal.bounds-sight-block
-bounds-sight-block c = c.requires.sees.inside _ c.in-Change.block (patch_at c.args.sight.now.heads.now c.args.slot _ c.requires.slot.0) (ap (λ k. block_of_kind (kind_of k)) c.in-Change.is)
-
-pub visit_hard-requires-clause-listed : goal.visit_hard-requires-clause-listed
-visit_hard-requires-clause-listed c =
-    let sight = c.args.sight.now in
-    let inside = c.requires.sees.inside _ c.in-Change.block (patch_at sight.heads.now c.args.slot _ c.requires.slot.0) (ap (λ k. block_of_kind (kind_of k)) c.in-Change.is) in
-    rw (c.as_slice-list.ensures.value, ← c.index-sight-block.is) (listed_at (λ l. entries_of l.items) (patches_of sight.heads.now) sight.lists.now c.in-Change.block c.index-sight-block.result inside c.index-sight-block.is c.requires.sees.listed)
+pub of-row-requires : goal.of-row-requires
+of-row-requires c =
+    let inside = c.requires.sees.inside _ c.in-Change.block (patch_at c.args.sight.now.heads.now c.args.slot _ c.requires.slot.0) (ap (λ k. block_of_kind (kind_of k)) c.in-Change.is) in
+    omega (arith, inside, c.requires.sees.needing.long)
 
 pub returns-then-not-crossed-block-clause-visits : goal.returns-then-not-crossed-block-clause-visits
 returns-then-not-crossed-block-clause-visits c =
     let heads = c.args.sight.now.heads.now in
+    let needs = needs_of c.args.sight.now.needs.now.lists in
     let n = c.args.number in
     let b = c.in-Change.block in
     let crossed = c.args.crossed.now in
     let on = ap (λ k. block_of_kind (kind_of k)) c.in-Change.is in
     let fresh : IsReached crossed b → ⊥ = λ r. false≢true (sym c.if-not-crossed-block.true ∙ r) in
-    visits_same (IsHardNumber (patches_of heads) b) (CrossesDown (patches_of heads) crossed n) (numbers_met c.args.sight.now.heads.now c.args.walk.now) (numbers_met c.args.sight.now.heads.now c.visit_hard.new.walk)
-    (λ q h. crosses_from heads c.requires.sees.rising n c.args.slot _ c.requires.slot c.requires.live b on crossed q fresh h)
-    (λ q x. (crosses_to heads c.requires.sees.rising n c.args.slot _ c.requires.slot c.requires.live b on crossed q x).1)
-    c.visit_hard.ensures.visits
+    visits_same _ (CrossesDown (patches_of heads) needs crossed n) (numbers_met heads c.args.walk.now) (numbers_met heads c.visit_row.new.walk)
+    (λ q k. crosses_from heads c.requires.sees.rising needs n c.args.slot _ c.requires.slot c.requires.live b on crossed q fresh (subst (λ row. Contains row q) c.of-row.ensures k.0, k.1))
+    (λ q x. let k = (crosses_to heads c.requires.sees.rising needs n c.args.slot _ c.requires.slot c.requires.live b on crossed q x).1 in (subst (λ row. Contains row q) (sym c.of-row.ensures) k.0, k.1))
+    c.visit_row.ensures.visits
 
 pub returns-then-not-crossed-block-clause-crossed : goal.returns-then-not-crossed-block-clause-crossed
 returns-then-not-crossed-block-clause-crossed c =
     let on = ap (λ k. block_of_kind (kind_of k)) c.in-Change.is in
     let inside = c.requires.sees.inside _ c.in-Change.block (patch_at c.args.sight.now.heads.now c.args.slot _ c.requires.slot.0) on in
-    shows_more c.args.sight.now.heads.now c.requires.sees.rising c.args.number c.args.slot _ c.requires.slot c.requires.live c.in-Change.block on c.args.crossed.now (omega (arith, inside, c.requires.crossed))
+    shows_more c.args.sight.now.heads.now c.requires.sees.rising (needs_of c.args.sight.now.needs.now.lists) c.args.number c.args.slot _ c.requires.slot c.requires.live c.in-Change.block on c.args.crossed.now (omega (arith, inside, c.requires.crossed))
 
 pub returns-else-not-crossed-block-clause-visits : goal.returns-else-not-crossed-block-clause-visits
 returns-else-not-crossed-block-clause-visits c =
     let heads = c.args.sight.now.heads.now in
+    let needs = needs_of c.args.sight.now.needs.now.lists in
     let n = c.args.number in
     let b = c.in-Change.block in
     let crossed = c.args.crossed.now in
     let on = ap (λ k. block_of_kind (kind_of k)) c.in-Change.is in
-    visits_none (CrossesDown (patches_of heads) crossed n) (numbers_met c.args.sight.now.heads.now c.args.walk.now) (λ q x. absurd ((crosses_to heads c.requires.sees.rising n c.args.slot _ c.requires.slot c.requires.live b on crossed q x).0 c.if-not-crossed-block.false))
+    visits_none (CrossesDown (patches_of heads) needs crossed n) (numbers_met heads c.args.walk.now) (λ q x. absurd ((crosses_to heads c.requires.sees.rising needs n c.args.slot _ c.requires.slot c.requires.live b on crossed q x).0 c.if-not-crossed-block.false))
 
 pub returns-else-not-crossed-block-clause-crossed : goal.returns-else-not-crossed-block-clause-crossed
 returns-else-not-crossed-block-clause-crossed c =
     let on = ap (λ k. block_of_kind (kind_of k)) c.in-Change.is in
-    shows_same c.args.sight.now.heads.now c.requires.sees.rising c.args.number c.args.slot _ c.requires.slot c.requires.live c.in-Change.block on c.args.crossed.now c.if-not-crossed-block.false
+    shows_same c.args.sight.now.heads.now c.requires.sees.rising (needs_of c.args.sight.now.needs.now.lists) c.args.number c.args.slot _ c.requires.slot c.requires.live c.in-Change.block on c.args.crossed.now c.if-not-crossed-block.false
 
 pub returns-in_default : goal.returns-in_default
 returns-in_default c =
     let none = no_change _ c.in_default.not-Change in
+    let needs = needs_of c.args.sight.now.needs.now.lists in
     record {
       visited = c.requires.visited;
-      visits = crosses_none c.args.sight.now.heads.now c.requires.sees.rising c.args.number c.args.slot _ c.requires.slot c.requires.live none c.args.crossed.now (numbers_met c.args.sight.now.heads.now c.args.walk.now);
-      crossed = shows_none c.args.sight.now.heads.now c.requires.sees.rising c.args.number c.args.slot _ c.requires.slot c.requires.live none c.args.crossed.now;
+      visits = crosses_none c.args.sight.now.heads.now c.requires.sees.rising needs c.args.number c.args.slot _ c.requires.slot c.requires.live none c.args.crossed.now (numbers_met c.args.sight.now.heads.now c.args.walk.now);
+      crossed = shows_none c.args.sight.now.heads.now c.requires.sees.rising needs c.args.number c.args.slot _ c.requires.slot c.requires.live none c.args.crossed.now;
     }

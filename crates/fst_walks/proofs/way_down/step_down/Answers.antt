@@ -3,7 +3,7 @@ use Rattle.std.proofs.lemmas.List.Elements.{Contains-get_or}
 use Rattle.fst_types.specs.Dependencies.{DirectlyOn, IsLiveNumber}
 use Rattle.fst_heads.specs.{Heads.patches_of, declared.head.Head.Head}
 use Rattle.fst_heads.proofs.Slots.{direct_at, named_at, slot_here}
-use Rattle.fst_walks.specs.{BothEnds.{CrossesDown, ShowsBlockUnder, StepsDown}, Descending.Visits, Walks.numbers_met}
+use Rattle.fst_walks.specs.{BothEnds.{CrossesDown, ShowsBlockUnder, StepsDown}, Descending.Visits, Needing.needs_of, Walks.numbers_met}
 use Rattle.fst_walks.proofs.Visiting.{long_met, slot_met, visits_both, visits_same}
 use Rattle.fst_walks.proofs.way_down.step_down.Goals as goal
 
@@ -39,8 +39,9 @@ returns-clause-visits c =
     (λ q k. (direct_at heads n q s d slot (subst (λ row. Contains row q) c.as_slice-below.ensures k.0), k.1))
     (λ q k. (subst (λ row. Contains row q) (sym c.as_slice-below.ensures) (named_at heads n q s d c.requires.sees.rising slot k.0), k.1))
     c.visit_row.ensures.visits in
-    let across = subst (λ m. Visits (CrossesDown patches now m) mid new) same c.cross-across.ensures.visits in
-    visits_both (λ q. DirectlyOn patches n q × IsLiveNumber patches q) (CrossesDown patches now n) (StepsDown patches now n) met mid new (λ q s. s) (λ q k. inl k) (λ q k. inr k) direct across
+    let needs = needs_of c.args.sight.now.needs.now.lists in
+    let across = subst (λ m. Visits (CrossesDown patches needs now m) mid new) same c.cross-across.ensures.visits in
+    visits_both (λ q. DirectlyOn patches n q × IsLiveNumber patches q) (CrossesDown patches needs now n) (StepsDown patches needs now n) met mid new (λ q s. s) (λ q k. inl k) (λ q k. inr k) direct across
 
 pub returns-clause-crossed : goal.returns-clause-crossed
 returns-clause-crossed c =

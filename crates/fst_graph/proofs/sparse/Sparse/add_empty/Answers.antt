@@ -5,7 +5,7 @@ use Rattle.fst_graph.specs.Known.{rest_place}
 use Rattle.fst_walks.specs.Leveling.{level_of}
 use Rattle.fst_heads.proofs.{AtNumber.patches_in_nodes, Beside.{beside_made, one_live, weight_of, weighs}, Covering.covered_push, Linking.rising_same, Stands.stand_made, Sums.joined_exact}
 use Rattle.fst_walks.proofs.Seen.{same_patches, linked_patches, lawful_nodes}
-use Rattle.fst_graph.proofs.{Borne.lawful_with, Emptying.{keeps_empty, empty_cascade}, Listed.{listed_made, listed_empty}, Ranks.{along_as, along_grown, leveled_put}, Sound.{roomier_sound, rising_sound}, Tallied.tallies_made}
+use Rattle.fst_graph.proofs.{Borne.lawful_with, Emptying.{keeps_empty, empty_cascade}, Listed.{listed_made, listed_empty}, NeedsNow.needing_put, Ranks.{along_as, along_grown, leveled_put}, Sound.{roomier_sound, rising_sound}, Tallied.tallies_made}
 use Rattle.fst_graph.proofs.sparse.Sparse.add_empty.Goals as goal
 
 pub live_named-requires : goal.live_named-requires
@@ -53,6 +53,7 @@ invariant_of-self-2 c =
           (leveled_put p c.greatest-level.result K.lawful.one_place_each refl (λ q h. let l = (depends.only q h).0 in let k = (K.lawful.one_place_each.numbered l.patch l.head).1 in let e = l.numbered in omega (arith, k, e)) (c.grow-2.ensures.ranks ∙ ap (λ rs. rs ++ record { number = n + 1; level = c.greatest-level.result } ∷ []) c.reserve_one.ensures.ranks)
           (c.grow-2.ensures.floors ∙ c.reserve_one.ensures.floors)
           (λ q h. let most = c.greatest-level.ensures q (subst (λ ns. Contains ns q) (sym c.as_slice-4.ensures) h) in omega (arith, most, ap (λ rs. level_of rs q) c.reserve_one.ensures.ranks)) (omega (arith, c.greatest-level.type_inv)) c.self.invariant.leveled (λ b on. cc) (λ b on. cc) (λ e. cc));
+      needing = rw (c.push_reserved.ensures.items, map_push, patches, place) (needing_put p K.lawful.one_place_each refl (λ b on. cc) c.self.invariant.needing);
       none_below = c.self.invariant.none_below;
       prepared = tt;
     }

@@ -3,7 +3,7 @@ use Rattle.fst_types.specs.{Limits.max_heads, Making.fresh, Order.room_order, Pa
 use Rattle.fst_heads.specs.{Heads.patches_of, Nodes.{node_of, nodes_of}}
 use Rattle.fst_heads.proofs.{Beside.beside_made, Covering.covered_push, Making.keeps_gate}
 use Rattle.fst_walks.specs.Leveling.{top_level}
-use Rattle.fst_graph.proofs.{Paired.tallies_first, Ranks.{along_as, along_grown, leveled_gate}, Sound.roomier_sound}
+use Rattle.fst_graph.proofs.{NeedsNow.needing_put, Paired.tallies_first, Ranks.{along_as, along_grown, leveled_gate}, Sound.roomier_sound}
 use Rattle.fst_graph.proofs.sparse.Sparse.add_gate.Goals as goal
 
 pub invariant_of-self-2 : goal.invariant_of-self-2
@@ -28,6 +28,7 @@ invariant_of-self-2 c =
       leveled = rw (c.push_reserved.ensures.items, c.reserve_one.ensures.heads, map_push, c.new.ensures.items)
           (leveled_gate [] c.self.invariant.keeps.lawful.one_place_each (λ q h. absurd (omega (arith, h.1))) (c.grow-2.ensures.ranks ∙ ap (λ rs. rs ++ record { number = n + 1; level = top_level } ∷ []) c.reserve_one.ensures.ranks)
           (c.grow-2.ensures.floors ∙ c.reserve_one.ensures.floors) c.self.invariant.leveled);
+      needing = rw (c.push_reserved.ensures.items, c.reserve_one.ensures.heads, map_push, c.new.ensures.items) (needing_put (fresh (n + 1) OpenGate []) c.self.invariant.keeps.lawful.one_place_each refl (λ b on. cc) c.self.invariant.needing);
       none_below = c.self.invariant.none_below;
       prepared = tt;
     }

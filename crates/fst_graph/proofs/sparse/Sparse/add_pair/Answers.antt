@@ -4,7 +4,7 @@ use Rattle.fst_heads.specs.{Heads.patches_of, Keeps.Beside, Nodes.{node_of, node
 use Rattle.fst_heads.proofs.{Added.with_node, Beside.beside_made, Covering.covered_push, Making.gate_lawful}
 use Rattle.fst_walks.specs.Leveling.{top_level}
 use Rattle.fst_walks.proofs.BothEnds.{only_one}
-use Rattle.fst_graph.proofs.{Paired.{gated, second_gate, first_put, second_put, patches_paired, rising_gated, room_gated, tallies_pair, adds_pair, keeps_pair, paired, with_head}, Ranks.{along_as, along_grown, leveled_gate}, Sound.roomier_sound}
+use Rattle.fst_graph.proofs.{NeedsNow.needing_put, Paired.{gated, second_gate, first_put, second_put, patches_paired, rising_gated, room_gated, tallies_pair, adds_pair, keeps_pair, paired, with_head}, Ranks.{along_as, along_grown, leveled_gate}, Sound.roomier_sound}
 use Rattle.fst_graph.proofs.sparse.Sparse.add_pair.Goals as goal
 
 pub row_sums-sums-requires : goal.row_sums-sums-requires
@@ -66,6 +66,9 @@ invariant_of-self-2 c =
           (leveled_gate {levels = c.grow-3.new.self} ((n + 1) ∷ []) (gate_lawful (patches_of heads) n K.lawful).one_place_each (λ q h. let e = only_one (n + 1) q h in omega (arith, e)) c.grow-4.ensures.ranks c.grow-4.ensures.floors
           (leveled_gate [] K.lawful.one_place_each (λ q h. absurd (omega (arith, h.1))) (c.grow-3.ensures.ranks ∙ ap (λ rs. rs ++ record { number = n + 1; level = top_level } ∷ []) c.reserve_two.ensures.ranks)
           (c.grow-3.ensures.floors ∙ c.reserve_two.ensures.floors) c.self.invariant.leveled));
+      needing = rw (patches_paired heads c.push_reserved-2.new.self.items n (second c))
+          (needing_put (fresh (n + 1 + 1) OpenGate ((n + 1) ∷ [])) (gate_lawful (patches_of heads) n K.lawful).one_place_each refl (λ b on. cc)
+          (needing_put (fresh (n + 1) OpenGate []) K.lawful.one_place_each refl (λ b on. cc) c.self.invariant.needing));
       none_below = c.self.invariant.none_below;
       prepared = tt;
     }

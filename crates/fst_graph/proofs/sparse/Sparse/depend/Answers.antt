@@ -4,7 +4,7 @@ use Rattle.fst_heads.specs.{Heads.patches_of, Names.numbers_of, Nodes.{nodes_of,
 use Rattle.fst_heads.proofs.{Added.with_names, AtNumber.patches_in_nodes, Beside.beside_depends, Covering.covered_gained, Linking.{rising_as, rising_same}}
 use Rattle.fst_walks.proofs.{Linked.patches_named, Seen.{seen, same_patches, lawful_nodes, gained_number}}
 use Rattle.fst_walks.proofs.Releveled.{gained_is_leveled}
-use Rattle.fst_graph.proofs.{Borne.few, Kept.keeps_depends, Sound.{rising_sound, roomier_sound, walked_sound, as_many_places, gates_told, over_down}, Tallied.tallies_depends}
+use Rattle.fst_graph.proofs.{Borne.few, Kept.keeps_depends, NeedsNow.needing_gained, Sound.{rising_sound, roomier_sound, walked_sound, as_many_places, gates_told, over_down}, Tallied.tallies_depends}
 use Rattle.fst_graph.proofs.sparse.Sparse.depend.Goals as goal
 
 pub depend_fault-requires-clause-rising : goal.depend_fault-requires-clause-rising
@@ -129,6 +129,7 @@ invariant_of-self-2 c =
       covered = rw (new_patches c) (covered_gained (patches_of heads) g c.in-Ok.names.items c.self.inside.blocks c.self.inside.covers.items c.self.invariant.covered);
       along = walked.along;
       leveled = rw (new_patches c) (gained_is_leveled (patches_of heads) g c.in-Ok.names.items (gate c) c.self.inside.blocks c.self.inside.levels c.self.invariant.leveled);
+      needing = rw (new_patches c) (needing_gained (patches_of heads) g c.in-Ok.names.items c.self.invariant.keeps.lawful.one_place_each.rising (gate c) c.self.invariant.needing);
       none_below = c.self.invariant.none_below;
       prepared = tt;
     }

@@ -3,7 +3,7 @@ use Rattle.fst_types.specs.{Facts.SparseAreLawful, Tests.{has_number, is_at, is_
 use Rattle.fst_heads.specs.{Heads.{patch_of, patches_of}, Nodes.nodes_of}
 use Rattle.fst_heads.proofs.{AtNumber.patches_in_nodes, Beside.beside_dropped, Covering.covered_left, Forgetting.{counted, keeps_dropped}, Patches.sparse_dropped, Placed.patches_dropped, Slots.rising_heads}
 use Rattle.fst_walks.proofs.{RanksLeft.left_is_leveled, Seen.{seen, lawful_nodes}}
-use Rattle.fst_graph.proofs.{Ranks.leveled_as, Tallied.tallies_dropped, sparse.Sparse.forget.Goals.After-keep_live}
+use Rattle.fst_graph.proofs.{NeedsNow.needing_left, Ranks.leveled_as, Tallied.tallies_dropped, sparse.Sparse.forget.Goals.After-keep_live}
 use Rattle.fst_types.specs.declared.place.Place.TheVariants as place
 use Rattle.fst_graph.proofs.sparse.Sparse.forget.Goals as goal
 
@@ -44,6 +44,7 @@ invariant_of-self c =
       covered = rw (left at) (covered_left (patches_of heads) c.self.invariant.keeps.lawful.on_disk_with_all c.self.inside.blocks c.self.inside.covers.items c.self.invariant.covered);
       along = record { marks = c.shrink.ensures.marks.1 ∙ sym c.shrink.ensures.marks.0; places = rw (c.shrink.ensures.crossed.0, c.shrink.ensures.crossed.1) c.self.invariant.along.places };
       leveled = rw (left at) (leveled_as (c.forget.ensures.ranks ∙ ap (λ ps. filter (λ r. has_number ps r.number) c.self.inside.levels.ranks) (ap patches_of c.deref.ensures.value ∙ left at)) c.forget.ensures.floors (left_is_leveled (patches_of heads) c.self.invariant.keeps.lawful.one_place_each.rising c.self.inside.blocks c.self.inside.levels c.self.invariant.leveled));
+      needing = rw (left at) (needing_left (patches_of heads) c.self.invariant.keeps.lawful.one_place_each.rising c.self.invariant.needing);
       none_below = c.self.invariant.none_below;
       prepared = tt;
     }

@@ -5,7 +5,7 @@ use Rattle.fst_types.proofs.Landing.{alike_landed}
 use Rattle.fst_heads.proofs.{AtNumber.patches_in_nodes, Beside.{beside_landed, landed_few}, Carried.{linked_landed, distinct_landed}}
 use Rattle.fst_heads.proofs.{Counts.flying_counted, Listing.{nothing_flies, is_off}, Starting.{starts_landed, patches_landed}}
 use Rattle.fst_walks.proofs.{Resting.none_yet, Seen.{seen, lawful_nodes}, Shelves.shelved}
-use Rattle.fst_graph.proofs.{Borne.{inside_nodes, stand_land}, Kept.{covered_moved, keeps_landed}, Ranks.leveled_moved, Sound.{rising_sound, as_many_lists, as_many_standings}}
+use Rattle.fst_graph.proofs.{Borne.{inside_nodes, stand_land}, Kept.{covered_moved, keeps_landed}, NeedsNow.needing_landed, Ranks.leveled_moved, Sound.{rising_sound, as_many_lists, as_many_standings}}
 use Rattle.fst_graph.proofs.{Tallied.tallies_landed, sparse.Sparse.land.Goals.After-cascade-landed}
 use Rattle.fst_graph.proofs.sparse.Sparse.land.Goals as goal
 
@@ -106,6 +106,7 @@ invariant_of-self c =
       covered = covered_moved (alike_landed old (patches_of new) n b c.self.invariant.keeps.lawful (cascade at)) kept c.self.invariant.covered;
       along = c.self.invariant.along;
       leveled = leveled_moved (alike_landed old (patches_of new) n b c.self.invariant.keeps.lawful (cascade at)) c.self.invariant.leveled;
+      needing = needing_landed old (patches_of new) b (cascade at) c.self.invariant.needing;
       none_below = λ b d lt. absurd (omega (arith, lt));
       prepared = tt;
     }

@@ -6,7 +6,7 @@ use Rattle.fst_types.proofs.Issuing.{alike_launched}
 use Rattle.fst_heads.proofs.{AtNumber.patches_in_nodes, Beside.beside_kept, Placed.patches_launched}
 use Rattle.fst_walks.proofs.{Resting.none_yet, Seen.{seen, lawful_nodes}}
 use Rattle.fst_graph.proofs.{Borne.inside_nodes, Kept.{covered_moved, keeps_launched, none_below_launched}, Launches.{some_chosen, first_named, none_first, block_found, block_some, tallies_chosen}}
-use Rattle.fst_graph.proofs.{Marking.writable_rests, Ranks.leveled_moved, Sound.{as_many_standings, rising_sound}, sparse.Sparse.launch.Goals.{After-deref, After-index_mut-arg-1}}
+use Rattle.fst_graph.proofs.{Marking.writable_rests, NeedsNow.needing_launched, Ranks.leveled_moved, Sound.{as_many_standings, rising_sound}, sparse.Sparse.launch.Goals.{After-deref, After-index_mut-arg-1}}
 use Rattle.fst_graph.proofs.sparse.Sparse.launch.Goals as goal
 
 pub block_of-requires : goal.block_of-requires
@@ -49,6 +49,14 @@ index_mut-requires c =
     let lt = (writable_rests (nodes_of s.heads.items) s.blocks c.requires.block s.standings.items none_yet (inside_nodes s.heads.items s.blocks c.self.invariant.keeps.inside) c.self.invariant.tallies.standing chosen).0 in
     omega (arith, there, lt, as_many_standings c.self.invariant)
 
+pub clear-requires : goal.clear-requires
+clear-requires c =
+    let s = c.self.inside in
+    let there = here (goal.at.clear-requires c).After-index_mut-arg-1 in
+    let chosen = subst (λ ps. IsWritable ps c.requires.block) (sym (patches_in_nodes s.heads.items)) (writable (goal.at.clear-requires c).After-deref) in
+    let lt = (writable_rests (nodes_of s.heads.items) s.blocks c.requires.block s.standings.items none_yet (inside_nodes s.heads.items s.blocks c.self.invariant.keeps.inside) c.self.invariant.tallies.standing chosen).0 in
+    omega (arith, there, lt, c.self.invariant.needing.long)
+
 pub invariant_of-self-2 : goal.invariant_of-self-2
 invariant_of-self-2 c =
     let heads = c.self.inside.heads.items in
@@ -72,6 +80,7 @@ invariant_of-self-2 c =
       covered = rw new (covered_moved (alike_launched (patches_of heads) n b chosen K.lawful W C) kept c.self.invariant.covered);
       along = c.self.invariant.along;
       leveled = rw new (leveled_moved (alike_launched (patches_of heads) n b chosen K.lawful W C) c.self.invariant.leveled);
+      needing = rw new (needing_launched {cleared = c.clear.new.self} (patches_of heads) n b c.in-Some-block_of.block chosen K.lawful W C (here (goal.at.invariant_of-self-2 c).After-index_mut-arg-1) c.clear.ensures.long c.clear.ensures.others c.clear.ensures.cleared c.self.invariant.needing);
       none_below = rw c.launch.ensures (none_below_launched c.self.inside.standings.items c.self.inside.unmarked c.in-Some-block_of.block _ _ c.self.invariant.none_below);
       prepared = tt;
     }

@@ -5,7 +5,7 @@ use Rattle.fst_graph.specs.{Known.Known, Membering.{ArePaired, BeginsAs, member_
 use Rattle.fst_heads.proofs.Linking.{rising_same}
 use Rattle.fst_walks.proofs.Seen.{same_patches}
 use Rattle.fst_graph.proofs.{Borne.ok_of, MemberReady.{member_ready, foretold}, Readied.member_put}
-use Rattle.fst_graph.proofs.Sound.{as_many_lists, as_many_marks, as_many_places, gates_told, listed_sound, over_down, over_now, over_then, rising_sound, roomier_sound, sees_all, walked_sound, with_prepared}
+use Rattle.fst_graph.proofs.Sound.{as_many_lists, as_many_marks, as_many_places, gates_told, listed_sound, over_down, over_now, over_then, reserved_sound, rising_sound, roomier_sound, sees_all, walked_sound, with_prepared}
 use Rattle.fst_graph.proofs.sparse.Sparse.member_room.Goals.{After-deref, After-reserve_below}
 use Rattle.fst_graph.proofs.sparse.Sparse.member_room.Goals as goal
 
@@ -15,7 +15,7 @@ inside c = subst (λ (v : Known). c.args.block.0 < v.blocks) (sym c.self.view_is
 
 pub member_fault-requires : goal.member_fault-requires
 member_fault-requires c = record {
-  sees = sees_all c.self.invariant _ c.deref.ensures.value c.deref-2.ensures.value c.deref-3.ensures.value c.deref-4.ensures.value refl;
+  sees = sees_all c.self.invariant _ c.deref.ensures.value c.deref-2.ensures.value c.deref-3.ensures.value c.deref-4.ensures.value refl refl;
   gates = rw c.deref.ensures.value (gates_told c.self.invariant);
   long = as_many_marks c.self.invariant ∙ sym (ap length c.deref.ensures.value);
   block = omega (arith, inside (goal.at.member_fault-requires c).After-deref, as_many_lists c.self.invariant, ap length c.deref-2.ensures.value);
@@ -26,7 +26,7 @@ pub returns-in-Some-clause-refused : goal.returns-in-Some-clause-refused
 returns-in-Some-clause-refused c = rw (← c.self.view_is, ← c.deref.ensures.value) (inl c.in-Some.ensures.first)
 
 pub prepare_member-requires-clause-sees : goal.prepare_member-requires-clause-sees
-prepare_member-requires-clause-sees c = sees_all c.self.invariant _ c.deref.ensures.value c.deref-2.ensures.value c.deref-3.ensures.value c.deref-4.ensures.value refl
+prepare_member-requires-clause-sees c = sees_all c.self.invariant _ c.deref.ensures.value c.deref-2.ensures.value c.deref-3.ensures.value c.deref-4.ensures.value refl refl
 
 pub prepare_member-requires-clause-counted : goal.prepare_member-requires-clause-counted
 prepare_member-requires-clause-counted c = rw c.deref.ensures.value c.self.invariant.tallies.counted
@@ -67,6 +67,12 @@ invariant_of-self-then-is_err-4 c =
     let same = still (goal.at.invariant_of-self-then-is_err-4 c).After-reserve_below in
     listed_sound (roomier_sound walked same c.reserve_one.ensures.marks c.reserve_one.ensures.crossed c.reserve_one.ensures.ranks c.reserve_one.ensures.floors c.reserve_one.ensures.queue c.reserve_one.ensures.wide) c.reserve_on.ensures.entries c.reserve_on.ensures.covered
 
+pub invariant_of-self-then-is_err-5 : goal.invariant_of-self-then-is_err-5
+invariant_of-self-then-is_err-5 c =
+    let walked = walked_sound c.self.invariant {walked = c.prepare_member.new.ends} (over_now c.deref.ensures.value c.deref-2.ensures.value c.prepare_member.ensures.up) (over_now c.deref.ensures.value c.deref-2.ensures.value c.prepare_member.ensures.down) in
+    let same = still (goal.at.invariant_of-self-then-is_err-5 c).After-reserve_below in
+    reserved_sound (listed_sound (roomier_sound walked same c.reserve_one.ensures.marks c.reserve_one.ensures.crossed c.reserve_one.ensures.ranks c.reserve_one.ensures.floors c.reserve_one.ensures.queue c.reserve_one.ensures.wide) c.reserve_on.ensures.entries c.reserve_on.ensures.covered) c.reserve.ensures.lists
+
 pub reserve_above-requires : goal.reserve_above-requires
 reserve_above-requires c = rw c.reserve_one.ensures.heads (rising_sound c.self.invariant)
 
@@ -83,6 +89,10 @@ returns-then-is_err-3-clause-same c =
 pub returns-then-is_err-4-clause-same : goal.returns-then-is_err-4-clause-same
 returns-then-is_err-4-clause-same c =
     rw (← c.self.view_is, same_patches c.reserve_below.new.heads.items c.self.inside.heads.items (still (goal.at.returns-then-is_err-4-clause-same c).After-reserve_below)) refl
+
+pub returns-then-is_err-5-clause-same : goal.returns-then-is_err-5-clause-same
+returns-then-is_err-5-clause-same c =
+    rw (← c.self.view_is, same_patches c.reserve_below.new.heads.items c.self.inside.heads.items (still (goal.at.returns-then-is_err-5-clause-same c).After-reserve_below)) refl
 
 -- the change that is prepared may be put, as the patches stood before
 prepared : (c : goal.Joined-self-3) → IsMemberReady (patches_of c.self.inside.heads.items) c.self.inside.numbers c.self.inside.blocks c.args.gates c.in-Ok.prepared
@@ -111,11 +121,13 @@ invariant_of-self-2 c =
     let same = still (goal.at.invariant_of-self-2 c).After-reserve_below in
     let above = ok_of c.reserve_above.result _ c.reserve_above.ensures.room (sym c.is_err-2.ensures.value ∙ c.if-is_err-2.false) in
     let below = ok_of c.reserve_below.result _ c.reserve_below.ensures.room (sym c.is_err-3.ensures.value ∙ c.if-is_err-3.false) in
-    with_prepared (listed_sound (roomier_sound walked same c.reserve_one.ensures.marks c.reserve_one.ensures.crossed c.reserve_one.ensures.ranks c.reserve_one.ensures.floors c.reserve_one.ensures.queue c.reserve_one.ensures.wide) c.reserve_on.ensures.entries c.reserve_on.ensures.covered) (record {
+    let needed = ok_of c.reserve.result _ c.reserve.ensures.room (sym c.is_err-5.ensures.value ∙ c.if-is_err-5.false) in
+    with_prepared (reserved_sound (listed_sound (roomier_sound walked same c.reserve_one.ensures.marks c.reserve_one.ensures.crossed c.reserve_one.ensures.ranks c.reserve_one.ensures.floors c.reserve_one.ensures.queue c.reserve_one.ensures.wide) c.reserve_on.ensures.entries c.reserve_on.ensures.covered) {kept = c.reserve.new.self} c.reserve.ensures.lists) (record {
       ready = rw (same_patches c.reserve_below.new.heads.items heads same) (member_put c.in-Ok.prepared c.args.gates (patches_of heads) c.self.inside.numbers c.self.inside.blocks made.gates (prepared c));
       places = rw (c.reserve_below.ensures.len, c.reserve_below.ensures.capacity, c.reserve_above.ensures.len, c.reserve_above.ensures.capacity) (record { heads_free = search rules; marks_free = search rules; queue_free = search rules; below_free = search rules; ranks_free = search rules });
       around = (rw (← c.as_slice.ensures) (c.reserve_below.ensures.above c.as_slice.result.now above), rw made.gates below);
       in_list = rw made.block (ok_of c.reserve_on.result _ c.reserve_on.ensures.in_list (sym c.is_err-4.ensures.value ∙ c.if-is_err-4.false));
+      needed = (needed.0 ∙ sym made.block, omega (arith, needed.1, ap length c.as_slice-row.ensures));
       bytes = rw (made.block, made.span) (ok_of c.reserve_on.result _ c.reserve_on.ensures.bytes (sym c.is_err-4.ensures.value ∙ c.if-is_err-4.false));
     })
 

@@ -8,9 +8,9 @@ invariant_of-result c =
     let ends = c.in-Ok.ensures in
     let K = keeps_none c.args.numbers c.args.shape.blocks (omega (arith, c.ranges.numbers.fits)) in
     record {
-      keeps = rw c.new-3.ensures.items (keeps_walked ends.0.long K);
-      beside = rw c.new-3.ensures.items (record { places = ends.0.crossed; counted = refl });
-      tallies = rw (c.new-3.ensures.items, c.new-4.ensures.items) (tallies_from [] c.args.numbers c.args.numbers c.args.shape.blocks _ _ [] _ K.lawful
+      keeps = rw c.new-4.ensures.items (keeps_walked ends.0.long K);
+      beside = rw c.new-4.ensures.items (record { places = ends.0.crossed; counted = refl });
+      tallies = rw (c.new-4.ensures.items, c.new-5.ensures.items) (tallies_from [] c.args.numbers c.args.numbers c.args.shape.blocks _ _ [] _ K.lawful
           (λ p q h. absurd (omega (arith, h.1)))
           (λ x n h. absurd (omega (arith, h.1)))
           (λ x h. absurd (omega (arith, h.1)))
@@ -19,9 +19,10 @@ invariant_of-result c =
           c.in-Ok-empty_standings.ensures
           refl
           (omega arith));
-      covered = rw c.new-3.ensures.items c.in-Ok-empty_covers.ensures;
+      covered = rw c.new-4.ensures.items c.in-Ok-empty_covers.ensures;
       along = record { marks = ends.1.long ∙ sym ends.0.long; places = ends.1.crossed ∙ sym ends.0.crossed };
-      leveled = rw c.new-3.ensures.items c.in-Ok-new.ensures;
+      leveled = rw c.new-4.ensures.items c.in-Ok-new.ensures;
+      needing = rw c.new-4.ensures.items c.in-Ok-new-2.ensures;
       none_below = λ b d lt. absurd (omega (arith, lt));
       prepared = tt;
     }

@@ -4,7 +4,7 @@ use Rattle.fst_heads.specs.{Grading.MayBeHard, Heads.patches_of, Names.numbers_o
 use Rattle.fst_graph.specs.Known.{Known}
 use Rattle.fst_heads.proofs.Touching.{graded_change}
 use Rattle.fst_walks.proofs.Seen.{same_patches}
-use Rattle.fst_graph.proofs.{Borne.ok_of, Sound.{as_many_lists, listed_sound, over_down, over_now, over_then, over_up, rising_sound, roomier_sound, sees_all, walked_sound, with_prepared}}
+use Rattle.fst_graph.proofs.{Borne.ok_of, Sound.{as_many_lists, listed_sound, over_down, over_now, over_then, over_up, reserved_sound, rising_sound, roomier_sound, sees_all, walked_sound, with_prepared}}
 use Rattle.fst_graph.proofs.sparse.Sparse.room.Goals.{After-deref, After-reserve_above}
 use Rattle.fst_graph.proofs.sparse.Sparse.room.Goals as goal
 
@@ -49,7 +49,7 @@ inside c = subst (λ (v : Known). c.args.block.0 < v.blocks) (sym c.self.view_is
 
 pub prepare-requires : goal.prepare-requires
 prepare-requires c = record {
-  sees = sees_all c.self.invariant _ c.deref-2.ensures.value c.deref-3.ensures.value c.deref-4.ensures.value c.deref-5.ensures.value refl;
+  sees = sees_all c.self.invariant _ c.deref-2.ensures.value c.deref-3.ensures.value c.deref-4.ensures.value c.deref-5.ensures.value refl refl;
   up = over_then c.deref-2.ensures.value c.deref-3.ensures.value (over_up c.self.invariant);
   down = over_then c.deref-2.ensures.value c.deref-3.ensures.value (over_down c.self.invariant);
   block = omega (arith, inside (goal.at.prepare-requires c).After-deref, as_many_lists c.self.invariant, ap length c.deref-3.ensures.value);
@@ -75,6 +75,12 @@ invariant_of-self-then-is_err-3 c =
     let same = still (goal.at.invariant_of-self-then-is_err-3 c).After-reserve_above in
     listed_sound (roomier_sound walked same c.reserve_one.ensures.marks c.reserve_one.ensures.crossed c.reserve_one.ensures.ranks c.reserve_one.ensures.floors c.reserve_one.ensures.queue c.reserve_one.ensures.wide) c.reserve_on.ensures.entries c.reserve_on.ensures.covered
 
+pub invariant_of-self-then-is_err-4 : goal.invariant_of-self-then-is_err-4
+invariant_of-self-then-is_err-4 c =
+    let walked = walked_sound c.self.invariant {walked = c.prepare.new.ends} (over_now c.deref-2.ensures.value c.deref-3.ensures.value c.prepare.ensures.up) (over_now c.deref-2.ensures.value c.deref-3.ensures.value c.prepare.ensures.down) in
+    let same = still (goal.at.invariant_of-self-then-is_err-4 c).After-reserve_above in
+    reserved_sound (listed_sound (roomier_sound walked same c.reserve_one.ensures.marks c.reserve_one.ensures.crossed c.reserve_one.ensures.ranks c.reserve_one.ensures.floors c.reserve_one.ensures.queue c.reserve_one.ensures.wide) c.reserve_on.ensures.entries c.reserve_on.ensures.covered) c.reserve.ensures.lists
+
 pub invariant_of-self-2 : goal.invariant_of-self-2
 invariant_of-self-2 c =
     let s = c.self.inside in
@@ -92,11 +98,13 @@ invariant_of-self-2 c =
     let follows : FollowsRule p.grade (MayBeHard old None p.block row) = rw made.block (subst (λ hs. FollowsRule p.grade (MayBeHard (patches_of hs) None c.args.block.0 row)) c.deref-2.ensures.value made.graded) in
     let graded = graded_change old s.numbers s.blocks s.ends.up.walk.marks c.self.invariant.keeps p.block p.span.at p.span.len names p.grade row depends follows in
     let above : HasRoomAbove c.reserve_above.new.heads.items c.as_slice.result.now = ok_of c.reserve_above.result _ c.reserve_above.ensures.room (sym c.is_err-2.ensures.value ∙ c.if-is_err-2.false) in
-    with_prepared (listed_sound (roomier_sound walked same c.reserve_one.ensures.marks c.reserve_one.ensures.crossed c.reserve_one.ensures.ranks c.reserve_one.ensures.floors c.reserve_one.ensures.queue c.reserve_one.ensures.wide) c.reserve_on.ensures.entries c.reserve_on.ensures.covered) (record {
+    let needed = ok_of c.reserve.result _ c.reserve.ensures.room (sym c.is_err-4.ensures.value ∙ c.if-is_err-4.false) in
+    with_prepared (reserved_sound (listed_sound (roomier_sound walked same c.reserve_one.ensures.marks c.reserve_one.ensures.crossed c.reserve_one.ensures.ranks c.reserve_one.ensures.floors c.reserve_one.ensures.queue c.reserve_one.ensures.wide) c.reserve_on.ensures.entries c.reserve_on.ensures.covered) {kept = c.reserve.new.self} c.reserve.ensures.lists) (record {
       ready = rw (same_patches c.reserve_above.new.heads.items s.heads.items same, made.gates) (record { clear = clear; inside = there; depends = depends; graded = graded });
       places = rw (c.reserve_above.ensures.len, c.reserve_above.ensures.capacity) (record { heads_free = search rules; marks_free = search rules; queue_free = search rules; below_free = search rules; ranks_free = search rules });
       around = (rw (← c.as_slice.ensures) above, rw made.gates tt);
       in_list = rw made.block (ok_of c.reserve_on.result _ c.reserve_on.ensures.in_list (sym c.is_err-3.ensures.value ∙ c.if-is_err-3.false));
+      needed = (needed.0 ∙ sym made.block, omega (arith, needed.1, ap length c.as_slice-row.ensures));
       bytes = rw (made.block, made.span) (ok_of c.reserve_on.result _ c.reserve_on.ensures.bytes (sym c.is_err-3.ensures.value ∙ c.if-is_err-3.false));
     })
 
@@ -110,6 +118,10 @@ returns-then-is_err-2-clause-same c =
 pub returns-then-is_err-3-clause-same : goal.returns-then-is_err-3-clause-same
 returns-then-is_err-3-clause-same c =
     rw (← c.self.view_is, same_patches c.reserve_above.new.heads.items c.self.inside.heads.items (still (goal.at.returns-then-is_err-3-clause-same c).After-reserve_above)) refl
+
+pub returns-then-is_err-4-clause-same : goal.returns-then-is_err-4-clause-same
+returns-then-is_err-4-clause-same c =
+    rw (← c.self.view_is, same_patches c.reserve_above.new.heads.items c.self.inside.heads.items (still (goal.at.returns-then-is_err-4-clause-same c).After-reserve_above)) refl
 
 pub returns-clause-prepared : goal.returns-clause-prepared
 returns-clause-prepared c =

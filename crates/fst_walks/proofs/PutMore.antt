@@ -1,0 +1,51 @@
+-- What a block needs grows by one number and by a row.
+use Rattle.std.proofs.Common.{◌≡◌, ◌≢◌, ◌++◌, ◌∷◌, ◌∙◌, [], ℕ, List, length, Contains, refl, sym, subst, inl, inr}
+use Rattle.std.proofs.lemmas.List.Elements.{Contains-push_cases, Contains-push, Contains-append_left}
+use Rattle.fst_types.specs.{Patches.Patch}
+use Rattle.fst_types.specs.declared.grade.Grade.TheVariants as grade
+use Rattle.fst_walks.specs.Needing.{IsPut, IsStoodFor, needs_of}
+use Rattle.fst_walks.proofs.Raising.{only_one}
+
+-- what stands for a number in a row does so in a longer one
+pub stood_longer : {patches : List Patch} {b q : ℕ} {row longer : List ℕ} → ((n : ℕ) → Contains row n → Contains longer n) → IsStoodFor patches b row q → IsStoodFor patches b longer q
+stood_longer more s = record { at = s.at; block = s.block; hard = s.hard; by = elim s.by [ inl own ↦ inl own | inr n ↦ inr (n.0, more n.0 n.1, n.2) ] }
+
+module _ (patches : List Patch) (b : ℕ) where
+  -- one number that is stood for
+  pub put_stood : (n : ℕ) (lists : List (List ℕ)) → IsStoodFor patches b (needs_of lists b) n → IsPut patches b (n ∷ []) grade.Hard lists lists
+  put_stood n lists stood = record {
+    long = refl;
+    others = λ c other. refl;
+    kept = λ m k. k;
+    only = λ m k. inl k;
+    told = λ hard q k. inr (subst (IsStoodFor patches b (needs_of lists b)) (sym (only_one n q k)) stood);
+  }
+
+  -- one number that joins the list
+  pub put_joins : (n : ℕ) (old new : List (List ℕ)) → length new ≡ length old → ((c : ℕ) → c ≢ b → needs_of new c ≡ needs_of old c) → needs_of new b ≡ needs_of old b ++ n ∷ [] → IsPut patches b (n ∷ []) grade.Hard old new
+  put_joins n old new long others grown = record {
+    long = long;
+    others = others;
+    kept = λ m k. subst (λ ns. Contains ns m) (sym grown) (Contains-append_left (needs_of old b) (n ∷ []) m k);
+    only = λ m k. elim (Contains-push_cases (needs_of old b) n m (subst (λ ns. Contains ns m) grown k)) [
+      | inl was ↦ inl was
+      | inr e ↦ inr (refl, subst (Contains (n ∷ [])) e (Contains-push [] n))
+    ];
+    told = λ hard q k. inl (subst (λ ns. Contains ns q) (sym grown) (subst (Contains (needs_of old b ++ n ∷ [])) (sym (only_one n q k)) (Contains-push (needs_of old b) n)));
+  }
+
+  -- a row, and one number more
+  pub put_more : (row : List ℕ) (n : ℕ) (old mid new : List (List ℕ)) → IsPut patches b row grade.Hard old mid → IsPut patches b (n ∷ []) grade.Hard mid new → IsPut patches b (row ++ n ∷ []) grade.Hard old new
+  put_more row n old mid new A B = record {
+    long = B.long ∙ A.long;
+    others = λ c other. B.others c other ∙ A.others c other;
+    kept = λ m k. B.kept m (A.kept m k);
+    only = λ m k. elim (B.only m k) [
+      | inl was ↦ elim (A.only m was) [ inl older ↦ inl older | inr here ↦ inr (refl, Contains-append_left row (n ∷ []) m here.1) ]
+      | inr here ↦ inr (refl, subst (Contains (row ++ n ∷ [])) (sym (only_one n m here.1)) (Contains-push row n))
+    ];
+    told = λ hard q k. elim (Contains-push_cases row n q k) [
+      | inl was ↦ elim (A.told refl q was) [ inl c ↦ inl (B.kept q c) | inr s ↦ inr (stood_longer B.kept s) ]
+      | inr e ↦ B.told refl q (subst (Contains (n ∷ [])) e (Contains-push [] n))
+    ];
+  }

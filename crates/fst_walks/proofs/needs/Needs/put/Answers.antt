@@ -1,0 +1,23 @@
+use Rattle.std.proofs.{Common.{◌∙◌, ◌∷◌, [], take, get_or, arith, sym, subst}, lemmas.List.take_more}
+use Rattle.fst_heads.specs.Heads.{patches_of}
+use Rattle.fst_types.specs.declared.grade.Grade.TheVariants as grade
+use Rattle.fst_walks.specs.Needing.{IsPut}
+use Rattle.fst_walks.proofs.PutMore.{put_more}
+use Rattle.fst_walks.proofs.needs.Needs.put.Goals as goal
+
+pub loop-number-preserved : goal.loop-number-preserved
+loop-number-preserved c =
+    let patches = patches_of c.args.heads.now in
+    let b = c.args.self.now.block in
+    let row = c.args.row.now in
+    let at = c.loop-number.number-index in
+    let inv = c.loop-number.invariant in
+    let mid = c.loop-number.self.lists in
+    let new = c.put_one.new.self.lists in
+    record {
+      block = c.put_one.ensures.block ∙ inv.block;
+      room = omega (arith, inv.room, c.put_one.ensures.room);
+      put = subst (λ ns. IsPut patches b ns grade.Hard c.args.self.now.lists new) (sym (take_more row at 0 c.loop-number-test.true))
+          (put_more patches b (take at row) (get_or row at 0) c.args.self.now.lists mid new inv.put
+          (subst (λ k. IsPut patches k (get_or row at 0 ∷ []) grade.Hard mid new) inv.block c.put_one.ensures.put));
+    }

@@ -1,0 +1,44 @@
+use Rattle.std.proofs.{Common.{◌∙◌, ◌<◌, ◌++◌, ◌∷◌, [], map, set, length, ap, arith, sym, subst}, lemmas.List.{length-map, length-set}, Math.Seq.map-set_same}
+use Rattle.fst_heads.specs.Heads.{patches_of}
+use Rattle.fst_walks.specs.Needing.{IsStoodFor, Needing}
+use Rattle.fst_walks.proofs.{OneOfMany.{told_here, told_beside, told_was}, PutMore.{put_stood, put_joins}}
+use Rattle.fst_walks.proofs.needs.Needs.put_one.Goals as goal
+
+pub invariant_of-self : goal.invariant_of-self
+invariant_of-self c =
+    let s = c.self.inside in
+    let ls = s.lists.items in
+    let was = c.index_mut-list.result.now in
+    let new = c.push_reserved.new.self in
+    let lt : s.block < length ls = omega (arith, c.requires.block, ap (λ (v : Needing). v.block) c.self.view_is, ap (λ (v : Needing). length v.lists) c.self.view_is, length-map ls (λ l. l.items)) in
+    let len = told_here (λ l. l.len) ls s.block new 0 lt in
+    let cap = told_here (λ l. l.cap) ls s.block new 0 lt in
+    let was_len = told_was (λ l. l.len) ls s.block was 0 lt c.index_mut-list.ensures.value in
+    let was_cap = told_was (λ l. l.cap) ls s.block was 0 lt c.index_mut-list.ensures.value in
+    let one = ap (λ (v : Needing). v.room) c.self.view_is in
+    omega (arith, len, cap, was_len, was_cap, one, c.requires.room, c.self.invariant, c.push_reserved.ensures.len, c.push_reserved.ensures.capacity)
+
+pub returns-then-not-is_stood_for-clause-put : goal.returns-then-not-is_stood_for-clause-put
+returns-then-not-is_stood_for-clause-put c =
+    let s = c.self.inside in
+    let ls = s.lists.items in
+    let was = c.index_mut-list.result.now in
+    let new = c.push_reserved.new.self in
+    let lt : s.block < length ls = omega (arith, c.requires.block, ap (λ (v : Needing). v.block) c.self.view_is, ap (λ (v : Needing). length v.lists) c.self.view_is, length-map ls (λ l. l.items)) in
+    rw (← c.self.view_is)
+    (put_joins (patches_of c.args.heads.now) s.block c.args.number (map (λ l. l.items) ls) (map (λ l. l.items) (set ls s.block new))
+    (length-map (set ls s.block new) (λ l. l.items) ∙ (length-set ls s.block new ∙ sym (length-map ls (λ l. l.items))))
+    (λ k other. told_beside (λ l. l.items) ls s.block new k [] other)
+    (told_here (λ l. l.items) ls s.block new [] lt ∙ (c.push_reserved.ensures.items ∙ ap (λ ns. ns ++ c.args.number ∷ []) (sym (told_was (λ l. l.items) ls s.block was [] lt c.index_mut-list.ensures.value)))))
+
+pub returns-else-not-is_stood_for-clause-put : goal.returns-else-not-is_stood_for-clause-put
+returns-else-not-is_stood_for-clause-put c =
+    let s = c.self.inside in
+    let ls = s.lists.items in
+    let was = c.index_mut-list.result.now in
+    let lt : s.block < length ls = omega (arith, c.requires.block, ap (λ (v : Needing). v.block) c.self.view_is, ap (λ (v : Needing). length v.lists) c.self.view_is, length-map ls (λ l. l.items)) in
+    let same = map-set_same (λ l. l.items) ls s.block was was (ap (λ l. l.items) c.index_mut-list.ensures.value) in
+    let row = c.deref.ensures.value ∙ sym (told_was (λ l. l.items) ls s.block was [] lt c.index_mut-list.ensures.value) in
+    rw (← c.self.view_is, same)
+    (put_stood (patches_of c.args.heads.now) s.block c.args.number (map (λ l. l.items) ls)
+    (subst (λ ns. IsStoodFor (patches_of c.args.heads.now) s.block ns c.args.number) row (c.is_stood_for.ensures c.if-not-is_stood_for.false)))

@@ -1,0 +1,49 @@
+-- What blocks need: for each block, of what its hard changes in memory directly depend on, as much as a walk down has to go on from where it crosses the block. Hard changes of a block are written together, so one of them stands for all that are at the same place.
+use Rattle.std.specs.Prelude.{◌≡◌, ◌≢◌, ◌⊎◌, ℕ, List, [], length, Contains, slice_index_or}
+use Rattle.fst_types.specs.{Dependencies.DirectlyOn, Patches.{Patch, IsOn, IsHard}, declared.grade.Grade.Grade, declared.place.Place.Place}
+use Rattle.fst_types.specs.declared.grade.Grade.TheVariants as grade
+use Rattle.fst_heads.specs.{Grading.IsHardNumber}
+
+-- n is the number of a hard change of block d at that place
+pub record IsHardAt (patches : List Patch) (at : Place) (d n : ℕ) : Type 0 where
+  pub patch : Patch
+  pub head : Contains patches patch
+  pub numbered : patch.number ≡ n
+  pub change : IsOn patch d
+  pub hard : IsHard patch
+  pub place : patch.place ≡ at
+
+-- q is a hard change of block c, or one of the row is a hard change of the same block as q, at the same place
+pub record IsStoodFor (patches : List Patch) (c : ℕ) (row : List ℕ) (q : ℕ) : Type 0 where
+  pub at : Place
+  pub block : ℕ
+  pub hard : IsHardAt patches at block q
+  pub by : (block ≡ c) ⊎ ((n : ℕ) × Contains row n × IsHardAt patches at block n)
+
+-- each number that is kept for a block is what a hard change of it in memory directly depends on, and whatever such a change directly depends on, if it is not forgotten, is kept or stood for
+pub record AreNeeded (patches : List Patch) (needs : ℕ → List ℕ) : Type 0 where
+  pub named : (c n : ℕ) → Contains (needs c) n → (h : ℕ) × IsHardNumber patches c h × DirectlyOn patches h n
+  pub whole : (c h : ℕ) (q : Patch) → IsHardNumber patches c h → Contains patches q → DirectlyOn patches h q.number → Contains (needs c) q.number ⊎ IsStoodFor patches c (needs c) q.number
+
+-- the numbers that are kept for block c
+abbrev pub needs_of : List (List ℕ) → ℕ → List ℕ
+needs_of lists c = slice_index_or lists c []
+
+-- the numbers for each block, and for how many more of one block there is room
+pub record Needing : Type 0 where
+  pub lists : List (List ℕ)
+  pub block : ℕ
+  pub room : ℕ
+
+-- what is kept for block b grew by a new change of it with that row and grade: where it is hard, by what of the row is not stood for
+pub record IsPut (patches : List Patch) (b : ℕ) (row : List ℕ) (g : Grade) (old new : List (List ℕ)) : Type 0 where
+  pub long : length new ≡ length old
+  pub others : (c : ℕ) → c ≢ b → needs_of new c ≡ needs_of old c
+  pub kept : (n : ℕ) → Contains (needs_of old b) n → Contains (needs_of new b) n
+  pub only : (n : ℕ) → Contains (needs_of new b) n → Contains (needs_of old b) n ⊎ ((g ≡ grade.Hard) × Contains row n)
+  pub told : g ≡ grade.Hard → (q : ℕ) → Contains row q → Contains (needs_of new b) q ⊎ IsStoodFor patches b (needs_of new b) q
+
+-- each block has its numbers, and they are as they should be
+pub record IsNeeding (patches : List Patch) (blocks : ℕ) (needs : Needing) : Type 0 where
+  pub long : length needs.lists ≡ blocks
+  pub needed : AreNeeded patches (needs_of needs.lists)

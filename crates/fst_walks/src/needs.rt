@@ -1,0 +1,144 @@
+//! What blocks need: where a walk down goes on when it crosses a block. Of each block the numbers are kept of what its hard
+//! changes in memory directly depend on, but of the hard changes of one block one for all, since they are written together.
+//! So a walk looks at each block that the block needs once, and not at each of its changes.
+
+ghost use Rattle.std.specs.Prelude.{◌≡◌, ◌≢◌, ◌≤◌, ◌<◌, ◌+◌, ◌∷◌, [], ℕ, IsTrue, length, Contains, IfOk, OnOk};
+ghost use Rattle.fst_types.specs.declared.grade.Grade.TheVariants as grade;
+ghost use Rattle.fst_heads.specs.Grading.{IsHardNumber};
+ghost use Rattle.fst_heads.specs.Heads.{IsRising, patches_of};
+ghost use Rattle.fst_walks.specs.Needing.{IsNeeding, IsPut, IsStoodFor, needs_of};
+
+use crate::shortcuts::{is_hard_in, is_hard_number};
+use fst_heads::head::{Head, Kind};
+use fst_heads::marks::slot_of;
+use fst_types::Grade;
+use std::alloc::{AllocError, Global};
+use std::marker::Model;
+
+/// The numbers for each block. Of one block there is room for so many more. It takes a list for each block, and 4 bytes for
+/// each number.
+#[derive(Drop)]
+pub struct Needs {
+    lists: Vec<Vec<u32>>,
+    block: u32,
+    room: usize,
+}
+
+impl Model for Needs {
+    ghost use Rattle.std.specs.Prelude.{vec_len, vec_capacity, ◌≤◌, ◌+◌, map, slice_index_or};
+    ghost use Rattle.fst_walks.specs.Needing.{Needing};
+
+    ghost Value = { Needing };
+
+    ghost view = { λ n. record { lists = map (λ l. l.items) n.lists.items; block = n.block; room = n.room } };
+
+    ghost invariant = { λ n. slice_index_or (map (λ l. vec_len l) n.lists.items) n.block 0 + n.room ≤ slice_index_or (map (λ l. vec_capacity l) n.lists.items) n.block 0 };
+}
+
+// Whether one of the row is a hard change of the block in memory.
+fn has_hard(heads: &[Head], row: &[u32], block: u32) -> bool
+    requires { IsRising heads.now }
+    ensures { IsTrue result → (n : ℕ) × Contains row.now n × IsHardNumber (patches_of heads.now) block n }
+{
+    for number in row {
+        if is_hard_number(heads, block, *number) {
+            return true;
+        }
+    }
+    false
+}
+
+// Whether the patch with the number is a hard change in memory for which one of the row stands, or of that block itself.
+fn is_stood_for(heads: &[Head], row: &[u32], block: u32, number: u32) -> bool
+    requires { IsRising heads.now }
+    ensures { IsTrue result → IsStoodFor (patches_of heads.now) block row.now number }
+{
+    let Some(slot) = slot_of(heads, number) else {
+        return false;
+    };
+    let head = &heads[slot];
+    let Kind::Change(of, _, _) = head.kind else {
+        return false;
+    };
+    if !is_hard_in(head, of) {
+        return false;
+    }
+    of == block || has_hard(heads, row, of)
+}
+
+impl Needs {
+    /// Of no head no block needs anything.
+    pub fn new(alloc: Global, blocks: u32) -> Result<Needs, AllocError>
+        ensures { IfOk result (IsNeeding [] blocks) }
+    {
+        let mut lists = Vec::with_capacity(alloc, blocks as usize)?;
+        for _ in 0..blocks {
+            lists.push_reserved(Vec::new(alloc));
+        }
+        Ok(Needs {
+            lists,
+            block: 0,
+            room: 0,
+        })
+    }
+
+    /// What the block needs.
+    pub fn of(&self, block: u32) -> &[u32]
+        requires { block < length self.now.lists }
+        ensures { result.now ≡ needs_of self.now.lists block }
+    {
+        self.lists[block as usize].as_slice()
+    }
+
+    /// Room for so many more of the block.
+    pub fn reserve(&mut self, block: u32, more: usize) -> Result<(), AllocError>
+        requires { block < length self.old.lists }
+        ensures lists { self.new.lists ≡ self.old.lists }
+        ensures room { OnOk result ((self.new.block ≡ block) × (self.new.room ≡ more)) }
+    {
+        self.lists[block as usize].reserve(more)?;
+        self.block = block;
+        self.room = more;
+        Ok(())
+    }
+
+    // The block needs the patch with the number besides, unless one stands for it.
+    fn put_one(&mut self, heads: &[Head], number: u32)
+        requires rising { IsRising heads.now }
+        requires block { self.old.block < length self.old.lists }
+        requires room { 1 ≤ self.old.room }
+        ensures room { self.old.room ≤ self.new.room + 1 }
+        ensures block { self.new.block ≡ self.old.block }
+        ensures put { IsPut (patches_of heads.now) self.old.block (number ∷ []) grade.Hard self.old.lists self.new.lists }
+    {
+        let list = &mut self.lists[self.block as usize];
+        if !is_stood_for(heads, list, self.block, number) {
+            list.push_reserved(number);
+            self.room -= 1;
+        }
+    }
+
+    /// A new change of the block for which there is room directly depends on the row.
+    pub fn put(&mut self, heads: &[Head], row: &[u32], grade: Grade)
+        requires rising { IsRising heads.now }
+        requires block { self.old.block < length self.old.lists }
+        requires room { length row.now ≤ self.old.room }
+        ensures { IsPut (patches_of heads.now) self.old.block row.now grade self.old.lists self.new.lists }
+    {
+        if grade == Grade::Hard {
+            for number in row {
+                self.put_one(heads, *number);
+            }
+        }
+    }
+
+    /// Nothing of the block is hard and in memory any more.
+    pub fn clear(&mut self, block: u32)
+        requires { block < length self.old.lists }
+        ensures long { length self.new.lists ≡ length self.old.lists }
+        ensures others { (c : ℕ) → c ≢ block → needs_of self.new.lists c ≡ needs_of self.old.lists c }
+        ensures cleared { needs_of self.new.lists block ≡ [] }
+    {
+        self.lists[block as usize].clear();
+    }
+}
