@@ -7,17 +7,27 @@ use fst_types::BlockNo;
 use std::alloc::Global;
 use std::io::Write;
 
-/// Transfers between accounts, on a device of which every other write fails.
-pub fn transfers<W: Write>(alloc: Global, out: &mut W) -> Result<(), StoreFault> {
+// A slot for each block of a new store.
+fn flaky_slots(alloc: Global) -> Result<Vec<FlakySlot>, StoreFault> {
     let mut slots = Vec::new(alloc);
     for block in 0..BLOCKS {
         let bytes = Vec::from_slice(alloc, &new_block(block))?;
         slots.push(FlakySlot::new(BlockNo(block), bytes))?;
     }
-    let mut accounts = Accounts::open(alloc, slots)?;
+    Ok(slots)
+}
+
+// Two transfers, of which the second needs what the first brings.
+fn make<W: Write>(accounts: &mut Accounts<FlakySlot>, out: &mut W) -> Result<(), StoreFault> {
     accounts.transfer(0, 1, 30)?;
     let done = accounts.transfer(1, 2, 130)?;
     accounts.sync(done)?;
     writeln!(out, "transfer {} is on disk", accounts.transfers())?;
     Ok(())
+}
+
+/// Transfers between accounts, on a device of which every other write fails.
+pub fn transfers<W: Write>(alloc: Global, out: &mut W) -> Result<(), StoreFault> {
+    let mut accounts = Accounts::open(alloc, flaky_slots(alloc)?)?;
+    make(&mut accounts, out)
 }

@@ -148,32 +148,39 @@ fn refusals<W: Write>(
 }
 
 /// Plays a transaction and a rename, each in two groups, and tells what comes of them.
-pub fn groups<W: Write>(alloc: Global, out: &mut W) -> Result<(), StoreFault> {
+fn play<W: Write>(
+    cache: &mut Cache<MemorySlot>,
+    share: &mut Share,
+    out: &mut W,
+) -> Result<(), StoreFault> {
+    let done = transaction(cache, share)?;
+    tell(out, "a home block", cache.issue(FIRST_HOME))?;
+    write!(out, "the blocks of the transaction, as written:")?;
+    write_all(cache, out)?;
+    let place = cache.place(done);
+    writeln!(out, "\nthe gate behind the transaction: {place:?}")?;
+
+    let renamed = rename(cache, share)?;
+    write!(out, "the blocks of the rename, as written:")?;
+    write_all(cache, out)?;
+    let place = cache.place(renamed);
+    writeln!(out, "\nthe gate behind the rename: {place:?}")?;
+    Ok(())
+}
+
+/// A slot of eight zero bytes for each of four blocks.
+fn zeros(alloc: Global) -> Result<Vec<MemorySlot>, StoreFault> {
     let mut slots = Vec::new(alloc);
     for block in 0..4 {
         slots.push(MemorySlot::new(BlockNo(block), vec![in alloc; 0u8; 8]?))?;
     }
-    let mut cache = Cache::open(alloc, Shape::new(4, 8, 4)?, slots)?;
+    Ok(slots)
+}
+
+/// Plays what there is of groups over a cache of four blocks of eight bytes, and tells what is refused of them.
+pub fn groups<W: Write>(alloc: Global, out: &mut W) -> Result<(), StoreFault> {
+    let mut cache = Cache::open(alloc, Shape::new(4, 8, 4)?, zeros(alloc)?)?;
     let mut share = cache.share();
-
-    let done = transaction(&mut cache, &mut share)?;
-    tell(out, "a home block", cache.issue(FIRST_HOME))?;
-    write!(out, "the blocks of the transaction, as written:")?;
-    write_all(&mut cache, out)?;
-    writeln!(
-        out,
-        "\nthe gate behind the transaction: {:?}",
-        cache.place(done)
-    )?;
-
-    let renamed = rename(&mut cache, &mut share)?;
-    write!(out, "the blocks of the rename, as written:")?;
-    write_all(&mut cache, out)?;
-    writeln!(
-        out,
-        "\nthe gate behind the rename: {:?}",
-        cache.place(renamed)
-    )?;
-
+    play(&mut cache, &mut share, out)?;
     refusals(&mut cache, &mut share, out)
 }

@@ -57,24 +57,28 @@ fn write_homes(cache: &mut Cache<MemorySlot>) -> Result<(), Fault> {
     Ok(())
 }
 
-/// Plays one transaction, and tells what comes of it.
-pub fn guide<W: Write>(alloc: Global, out: &mut W) -> Result<(), StoreFault> {
-    // four blocks of four bytes, of which all may be in memory
-    let mut cache = Cache::open(alloc, Shape::new(4, 4, 4)?, zeros(alloc)?)?;
-    let done = transaction(&mut cache)?;
+/// Plays one transaction over four blocks, and tells what comes of it.
+fn play<W: Write>(cache: &mut Cache<MemorySlot>, out: &mut W) -> Result<(), StoreFault> {
+    let done = transaction(cache)?;
 
     // only the record may be written yet: the others wait for it
     if let Err(fault) = cache.issue(COMMIT) {
         writeln!(out, "the commit record: {fault}")?;
     }
-    let (failed, again) = write_journal(&mut cache)?;
+    let (failed, again) = write_journal(cache)?;
     writeln!(out, "the record: {failed:?}, and then {again:?}")?;
 
     // is it durable? where the patch is on disk, all that it comes after is
     writeln!(out, "before the home blocks: {:?}", cache.place(done))?;
-    write_homes(&mut cache)?;
+    write_homes(cache)?;
     if cache.place(done) == Some(Place::Disk) {
         writeln!(out, "durable; {} patches forgotten", cache.forget())?;
     }
     Ok(())
+}
+
+/// Plays one transaction over a cache of four blocks of four bytes, of which all may be in memory.
+pub fn guide<W: Write>(alloc: Global, out: &mut W) -> Result<(), StoreFault> {
+    let mut cache = Cache::open(alloc, Shape::new(4, 4, 4)?, zeros(alloc)?)?;
+    play(&mut cache, out)
 }

@@ -65,6 +65,29 @@ fn transfer_of(line: &str) -> Option<(u16, u16, u32)> {
     Some((from, to, amount))
 }
 
+// Makes the transfer of a line, and tells of it once it is on disk.
+fn make<R: Print>(rt: &R, accounts: &mut Accounts<FileSlot>, line: &str) -> Result<(), StoreFault> {
+    let Some((from, to, amount)) = transfer_of(line) else {
+        return Err(StoreFault::NoTransfer);
+    };
+    let done = accounts.transfer(from, to, amount)?;
+    accounts.sync(done)?;
+    println!(rt; "done {}", accounts.transfers())?;
+    Ok(())
+}
+
+// Tells what there is, and makes each transfer of standard input.
+fn play<R: Input + Print + AllocGlobal>(
+    rt: &R,
+    accounts: &mut Accounts<FileSlot>,
+) -> Result<(), StoreFault> {
+    tell(rt, accounts)?;
+    for line in rt.lines(rt.alloc()) {
+        make(rt, accounts, line?.as_str())?;
+    }
+    tell(rt, accounts)
+}
+
 /// Keeps accounts in a file: makes the newest committed transfer good, tells what there is, and makes each transfer of
 /// standard input, telling of each once it is on disk.
 pub fn keep<R: Files<File = File> + Input + Print + AllocGlobal>(
@@ -72,15 +95,5 @@ pub fn keep<R: Files<File = File> + Input + Print + AllocGlobal>(
     name: &str,
 ) -> Result<(), StoreFault> {
     let mut accounts = Accounts::open(rt.alloc(), slots(rt, name)?)?;
-    tell(rt, &mut accounts)?;
-    for line in rt.lines(rt.alloc()) {
-        let line = line?;
-        let Some((from, to, amount)) = transfer_of(line.as_str()) else {
-            return Err(StoreFault::NoTransfer);
-        };
-        let done = accounts.transfer(from, to, amount)?;
-        accounts.sync(done)?;
-        println!(rt; "done {}", accounts.transfers())?;
-    }
-    tell(rt, &mut accounts)
+    play(rt, &mut accounts)
 }

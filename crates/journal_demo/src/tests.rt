@@ -2,6 +2,7 @@
 //! after a transfer.
 
 use crate::accounts::Accounts;
+use crate::fault::StoreFault;
 use crate::file_slot::FileSlot;
 use crate::groups::groups;
 use crate::guide::guide;
@@ -11,6 +12,7 @@ use crate::record::{Balance, Record};
 use fst_cache::Cache;
 use fst_device::MemorySlot;
 use fst_types::{BlockNo, Fault, Place, Shape, What};
+use std::alloc::Global;
 use std::fs;
 use std::process::Abort;
 use std::test::Fail;
@@ -64,25 +66,32 @@ fn a_record_is_read_as_it_was_written(rt: HostRuntime) {
     assert_eq!(rt; Record::from_bytes(&[1; 15]), None);
 }
 
-#[test]
-fn a_transaction_refused_half_way_goes_on(rt: HostRuntime) -> Result<(), Fail> {
-    let mut zeros = Vec::new(rt.alloc());
+// Of three blocks of four zero bytes, of which two may be in memory.
+fn cache_of_two(alloc: Global) -> Result<Cache<MemorySlot>, StoreFault> {
+    let mut zeros = Vec::new(alloc);
     for block in 0..3 {
-        zeros.push(MemorySlot::new(BlockNo(block), vec![in rt.alloc(); 0u8; 4]?))?;
+        zeros.push(MemorySlot::new(BlockNo(block), vec![in alloc; 0u8; 4]?))?;
     }
-    let Ok(mut cache) = Cache::open(rt.alloc(), Shape::new(3, 4, 2)?, zeros) else {
-        return Err("open")?;
-    };
+    Ok(Cache::open(alloc, Shape::new(3, 4, 2)?, zeros)?)
+}
+
+fn goes_on(rt: &impl Abort, cache: &mut Cache<MemorySlot>) -> Result<(), Fail> {
     let mut share = cache.share();
     let (record, _) = cache.patch(&mut share, BlockNo(2), 0, b"r", &[])?;
     let (commit, _) = cache.patch(&mut share, BlockNo(1), 0, b"c", &[record])?;
     let refused = cache.patch(&mut share, BlockNo(0), 0, b"h", &[commit]);
     assert_eq!(rt; refused, Err(Fault::Full(What::Resident)));
-    let home = patch_or_write(&mut cache, &mut share, BlockNo(0), 0, b"h", &[commit])?;
+    let home = patch_or_write(cache, &mut share, BlockNo(0), 0, b"h", &[commit])?;
     assert_eq!(rt; cache.place(record), Some(Place::Disk));
     assert_eq!(rt; cache.place(commit), Some(Place::Memory));
     assert_eq!(rt; cache.place(home), Some(Place::Memory));
     Ok(())
+}
+
+#[test]
+fn a_transaction_refused_half_way_goes_on(rt: HostRuntime) -> Result<(), Fail> {
+    let mut cache = cache_of_two(rt.alloc())?;
+    goes_on(&rt, &mut cache)
 }
 
 // What two accounts have.
@@ -93,15 +102,21 @@ fn compare(rt: &impl Abort, accounts: &mut Accounts<FileSlot>, first: u32, secon
     assert_eq!(rt; has, Some(second));
 }
 
+// Two transfers, of which the first is synced.
+fn transfers(rt: &impl Abort, accounts: &mut Accounts<FileSlot>) -> Result<(), Fail> {
+    let done = accounts.transfer(0, 1, 30)?;
+    accounts.sync(done)?;
+    accounts.transfer(0, 1, 70)?;
+    compare(rt, accounts, 0, 200);
+    Ok(())
+}
+
 #[test]
 fn a_file_has_what_was_synced(rt: HostRuntime) -> Result<(), Fail> {
     let name = "accounts-of-a-test";
     let _ = fs::remove_file(&rt, name);
     let mut accounts = Accounts::open(rt.alloc(), slots(&rt, name)?)?;
-    let done = accounts.transfer(0, 1, 30)?;
-    accounts.sync(done)?;
-    accounts.transfer(0, 1, 70)?;
-    compare(&rt, &mut accounts, 0, 200);
+    transfers(&rt, &mut accounts)?;
     let mut accounts = Accounts::open(rt.alloc(), slots(&rt, name)?)?;
     compare(&rt, &mut accounts, 70, 130);
     fs::remove_file(&rt, name)?;

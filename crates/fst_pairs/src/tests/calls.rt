@@ -1,12 +1,11 @@
 //! Every call of a desk once, with what it answers.
 
 use crate::Desk;
-use crate::tests::{only, submits, with_one, write_one};
+use crate::tests::{closes, submits, with_one, write_one};
 use fst_cache::{Share, Stat};
 use fst_device::MemorySlot;
 use fst_types::{BlockNo, Fault, Grade, PatchNo, Place, Ticket};
 use std::process::Abort;
-use std::test::Fail;
 
 // A gate, a change, an empty patch after the change, after which the gate is put before it is sealed.
 fn makes(rt: &impl Abort, desk: &mut Desk<MemorySlot>, share: &mut Share) {
@@ -22,21 +21,17 @@ fn makes(rt: &impl Abort, desk: &mut Desk<MemorySlot>, share: &mut Share) {
 }
 
 // What is told of them.
-fn looks(rt: &impl Abort, desk: &mut Desk<MemorySlot>) -> Result<(), Fail> {
+fn looks(rt: &impl Abort, desk: &mut Desk<MemorySlot>) {
     assert!(rt; desk.place(PatchNo(1)) == Some(Place::Memory));
-    match desk.choose(BlockNo(0)) {
-        Ok(numbers) => assert!(rt; numbers.as_slice() == [PatchNo(2)].as_slice()),
-        Err(_) => return Err("choose")?,
-    }
+    let numbers = desk.choose(BlockNo(0)).expect(rt, "there is memory");
+    assert!(rt; numbers.as_slice() == [PatchNo(2)].as_slice());
     assert_eq!(rt; desk.pick(), Some(BlockNo(0)));
     assert_eq!(rt; desk.stalled(), None);
     assert!(rt; desk.flight(BlockNo(0)).is_none());
     assert!(rt; desk.evict(BlockNo(0)) == Err(Fault::Dirty));
     assert!(rt; desk.evict(BlockNo(1)) == Ok(()));
-    match desk.show(BlockNo(0)) {
-        Ok(bytes) => assert!(rt; bytes == b"A\0\0\0".as_slice()),
-        Err(_) => return Err("show")?,
-    }
+    let bytes = desk.show(BlockNo(0)).expect(rt, "it is shown");
+    assert!(rt; bytes == b"A\0\0\0".as_slice());
     let counted = Stat {
         made: 3,
         live: 3,
@@ -46,31 +41,30 @@ fn looks(rt: &impl Abort, desk: &mut Desk<MemorySlot>) -> Result<(), Fail> {
     assert_eq!(rt; desk.stat(), counted);
     desk.headline();
     desk.keeps_order();
-    Ok(())
+}
+
+// The write of the first block that is out.
+fn looks_at_flight(rt: &impl Abort, desk: &Desk<MemorySlot>) {
+    let flight = desk
+        .flight(BlockNo(0))
+        .expect(rt, "a write of the block is out");
+    assert_eq!(rt; flight.ticket, Ticket(1));
+    assert!(rt; flight.image == b"A\0\0\0".as_slice());
 }
 
 #[test]
-fn each_call_answers(rt: HostRuntime) -> Result<(), Fail> {
-    let (mut desk, mut worker) = with_one(rt.alloc(), 2)?;
+fn each_call_answers(rt: HostRuntime) {
+    let (mut desk, mut worker) = with_one(&rt, rt.alloc(), 2);
     let mut share = desk.share();
     makes(&rt, &mut desk, &mut share);
-    looks(&rt, &mut desk)?;
+    looks(&rt, &mut desk);
     submits(&rt, &mut desk, Some(1));
-    match desk.flight(BlockNo(0)) {
-        Some(flight) => {
-            assert_eq!(rt; flight.ticket, Ticket(1));
-            assert!(rt; flight.image == b"A\0\0\0".as_slice());
-        }
-        None => return Err("flight")?,
-    }
+    looks_at_flight(&rt, &desk);
     assert!(rt; desk.resubmit(BlockNo(0)) == Err(Fault::NotStalled));
     write_one(&rt, &mut desk, &mut worker, 1);
     worker.keeps_order();
     assert_eq!(rt; desk.forget(), 3);
     submits(&rt, &mut desk, None);
-    match desk.close(only(rt.alloc(), share)?) {
-        Ok(totals) => assert_eq!(rt; totals.made, 3),
-        Err(_) => return Err("close")?,
-    }
-    Ok(())
+    let totals = closes(&rt, rt.alloc(), desk, share);
+    assert_eq!(rt; totals.made, 3);
 }

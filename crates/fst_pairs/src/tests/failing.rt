@@ -1,46 +1,41 @@
 //! Writes that fail: stalled, sent again, and lost.
 
 use crate::Desk;
-use crate::tests::{only, over, patch_all, submits, with_worker, write_one, zero_slot};
+use crate::tests::{add, closes, over, patch_all, submits, with_worker, write_one, zero_slot};
 use crate::worker::Worker;
 use fst_device::{Arm, BlockSlot, MemorySlot, SlotFault};
 use fst_types::{BlockNo, Fault, Ticket};
 use std::alloc::Global;
-use std::test::Fail;
+use std::process::Abort;
 
 // A desk with one worker over one block, the next write of which fails so.
-fn armed(alloc: Global, arm: Arm) -> Result<(Desk<MemorySlot>, Worker<MemorySlot>), Fail> {
-    let mut slot = zero_slot(alloc, 0)?;
+fn armed(rt: &impl Abort, alloc: Global, arm: Arm) -> (Desk<MemorySlot>, Worker<MemorySlot>) {
+    let mut slot = zero_slot(rt, alloc, 0);
     slot.arm(arm);
     let mut slots = Vec::new(alloc);
-    slots.push(slot)?;
-    with_worker(alloc, over(alloc, slots, 1)?)
+    add(rt, &mut slots, slot);
+    with_worker(rt, alloc, over(rt, alloc, slots, 1))
 }
 
 // A stalled write counts as settled: the desk closes.
 #[test]
-fn only_write_stalls(rt: HostRuntime) -> Result<(), Fail> {
-    let (mut desk, mut worker) = armed(rt.alloc(), Arm::WriteFailsBefore)?;
+fn only_write_stalls(rt: HostRuntime) {
+    let (mut desk, mut worker) = armed(&rt, rt.alloc(), Arm::WriteFailsBefore);
     let mut share = desk.share();
     patch_all(&rt, &mut desk, &mut share, 1);
     submits(&rt, &mut desk, Some(1));
     write_one(&rt, &mut desk, &mut worker, 1);
-    match desk.close(only(rt.alloc(), share)?) {
-        Ok(totals) => {
-            assert_eq!(rt; totals.sent, 1);
-            assert_eq!(rt; totals.landed, 0);
-            assert_eq!(rt; totals.stalled, 1);
-            assert_eq!(rt; totals.cache.stalled(), Some(BlockNo(0)));
-        }
-        Err(_) => return Err("close")?,
-    }
-    Ok(())
+    let totals = closes(&rt, rt.alloc(), desk, share);
+    assert_eq!(rt; totals.sent, 1);
+    assert_eq!(rt; totals.landed, 0);
+    assert_eq!(rt; totals.stalled, 1);
+    assert_eq!(rt; totals.cache.stalled(), Some(BlockNo(0)));
 }
 
 // A write that failed is sent again under a new ticket.
 #[test]
-fn stalled_write_goes_again(rt: HostRuntime) -> Result<(), Fail> {
-    let (mut desk, mut worker) = armed(rt.alloc(), Arm::WriteFailsAfter)?;
+fn stalled_write_goes_again(rt: HostRuntime) {
+    let (mut desk, mut worker) = armed(&rt, rt.alloc(), Arm::WriteFailsAfter);
     let mut share = desk.share();
     patch_all(&rt, &mut desk, &mut share, 1);
     submits(&rt, &mut desk, Some(1));
@@ -50,15 +45,10 @@ fn stalled_write_goes_again(rt: HostRuntime) -> Result<(), Fail> {
     assert!(rt; desk.resubmit(BlockNo(1)) == Err(Fault::NoBlock));
     assert!(rt; desk.resubmit(BlockNo(0)) == Ok(Some(Ticket(2))));
     write_one(&rt, &mut desk, &mut worker, 2);
-    match desk.close(only(rt.alloc(), share)?) {
-        Ok(totals) => {
-            assert_eq!(rt; totals.sent, 2);
-            assert_eq!(rt; totals.landed, 1);
-            assert_eq!(rt; totals.stalled, 1);
-        }
-        Err(_) => return Err("close")?,
-    }
-    Ok(())
+    let totals = closes(&rt, rt.alloc(), desk, share);
+    assert_eq!(rt; totals.sent, 2);
+    assert_eq!(rt; totals.landed, 1);
+    assert_eq!(rt; totals.stalled, 1);
 }
 
 // A slot in memory whose writes all fail.
@@ -99,19 +89,18 @@ impl BlockSlot for Broken {
 }
 
 // A desk with one worker over one block whose writes all fail.
-fn all_fail(alloc: Global) -> Result<(Desk<Broken>, Worker<Broken>), Fail> {
+fn all_fail(rt: &impl Abort, alloc: Global) -> (Desk<Broken>, Worker<Broken>) {
     let mut slots = Vec::new(alloc);
-    slots.push(Broken {
-        inner: zero_slot(alloc, 0)?,
-    })?;
-    with_worker(alloc, over(alloc, slots, 1)?)
+    let inner = zero_slot(rt, alloc, 0);
+    add(rt, &mut slots, Broken { inner });
+    with_worker(rt, alloc, over(rt, alloc, slots, 1))
 }
 
 // A write that fails at each of three tries: its block is lost, and counts as stalled where the desk is closed. Another
 // desk may be opened over it.
 #[test]
-fn lost_write_counts_as_stalled(rt: HostRuntime) -> Result<(), Fail> {
-    let (mut desk, mut worker) = all_fail(rt.alloc())?;
+fn lost_write_counts_as_stalled(rt: HostRuntime) {
+    let (mut desk, mut worker) = all_fail(&rt, rt.alloc());
     let mut share = desk.share();
     patch_all(&rt, &mut desk, &mut share, 1);
     submits(&rt, &mut desk, Some(1));
@@ -126,14 +115,9 @@ fn lost_write_counts_as_stalled(rt: HostRuntime) -> Result<(), Fail> {
     assert!(rt; desk.resubmit(BlockNo(0)) == Err(Fault::Lost));
     let more = desk.patch(&mut share, BlockNo(0), 0, b"B", &[]);
     assert!(rt; more == Err(Fault::Lost));
-    match desk.close(only(rt.alloc(), share)?) {
-        Ok(totals) => {
-            assert_eq!(rt; totals.sent, 3);
-            assert_eq!(rt; totals.landed, 0);
-            assert_eq!(rt; totals.stalled, 3);
-            assert!(rt; Desk::open(rt.alloc(), totals.cache, 1).is_ok());
-        }
-        Err(_) => return Err("close")?,
-    }
-    Ok(())
+    let totals = closes(&rt, rt.alloc(), desk, share);
+    assert_eq!(rt; totals.sent, 3);
+    assert_eq!(rt; totals.landed, 0);
+    assert_eq!(rt; totals.stalled, 3);
+    assert!(rt; Desk::open(rt.alloc(), totals.cache, 1).is_ok());
 }
