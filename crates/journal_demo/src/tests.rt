@@ -13,8 +13,9 @@ use fst_cache::Cache;
 use fst_device::MemorySlot;
 use fst_types::{BlockNo, Fault, Place, Shape, What};
 use std::alloc::Global;
-use std::fs;
+use std::fs::{self, File};
 use std::process::Abort;
+use std::rt::Files;
 use std::test::Fail;
 
 // What the page says that the guide prints.
@@ -111,14 +112,29 @@ fn transfers(rt: &impl Abort, accounts: &mut Accounts<FileSlot>) -> Result<(), F
     Ok(())
 }
 
+fn first_opening<R: Abort + Files<File = File> + AllocGlobal>(
+    rt: &R,
+    name: &str,
+) -> Result<(), Fail> {
+    let mut accounts = Accounts::open(rt.alloc(), slots(rt, name)?)?;
+    transfers(rt, &mut accounts)
+}
+
+fn second_opening<R: Abort + Files<File = File> + AllocGlobal>(
+    rt: &R,
+    name: &str,
+) -> Result<(), Fail> {
+    let mut accounts = Accounts::open(rt.alloc(), slots(rt, name)?)?;
+    compare(rt, &mut accounts, 70, 130);
+    Ok(())
+}
+
 #[test]
 fn a_file_has_what_was_synced(rt: HostRuntime) -> Result<(), Fail> {
     let name = "accounts-of-a-test";
     let _ = fs::remove_file(&rt, name);
-    let mut accounts = Accounts::open(rt.alloc(), slots(&rt, name)?)?;
-    transfers(&rt, &mut accounts)?;
-    let mut accounts = Accounts::open(rt.alloc(), slots(&rt, name)?)?;
-    compare(&rt, &mut accounts, 70, 130);
+    first_opening(&rt, name)?;
+    second_opening(&rt, name)?;
     fs::remove_file(&rt, name)?;
     Ok(())
 }
