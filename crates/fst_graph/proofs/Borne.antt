@@ -6,7 +6,6 @@ use Rattle.fst_heads.specs.{Heads.{patches_of, patch_of}, Keeps.IsInside, Nodes.
 use Rattle.fst_heads.specs.{Pendings.{Fits, max_block}, Spreading.lands, Standings.AllStand, declared.head.Head.Head, declared.standing.Standing.Standing}
 use Rattle.fst_heads.proofs.{AtNumber.patches_in_nodes, PendingIn.found, Stands.{stand_landed, stand_landed_outside}, Sums.{sums_fit, sums_few}}
 use Rattle.fst_heads.specs.declared.pending.Pending.TheVariants as pending
-use Rattle.fst_heads.specs.declared.pending.Pending.TheVariants as pending
 
 -- the patches with a new one
 pub lawful_with : (heads : List Head) (p : Patch) (numbers : ℕ) → SparseAreLawful (patches_of heads ++ p ∷ []) numbers → SparseAreLawful (patches_in (nodes_of heads) ++ p ∷ []) numbers

@@ -1,12 +1,11 @@
 -- A new empty patch.
-use Rattle.std.proofs.Common.{◌≡◌, ◌⊎◌, ℕ, ◌+◌, ◌<◌, ◌≤◌, Bool, false, List, [], ◌∷◌, ◌++◌, length, Contains, refl, sym, ap, subst, ◌∙◌, inl, inr, arith}
-use Rattle.std.proofs.lemmas.{List.{length_push, map_push}, List.Elements.{Contains-push_cases, Contains-append_left}}
+use Rattle.std.proofs.Common.{◌≡◌, ◌⊎◌, ℕ, ◌+◌, ◌≤◌, Bool, List, [], ◌∷◌, ◌++◌, Contains, refl, sym, ap, subst, ◌∙◌, inl, inr, arith}
+use Rattle.std.proofs.lemmas.{List.{map_push}, List.Elements.{Contains-push_cases, Contains-append_left}}
 use Rattle.fst_types.specs.{Cascade.{Follows, RestsOnDisk, IsCascadeOf, unsettled}, Dependencies.{IsLiveNumber, IsOnDisk}, Facts.SparseAreLawful}
-use Rattle.fst_types.specs.{Limits.max_heads, Lists.Lists, Making.fresh, Patches.{Patch, IsOn, Empty}, declared.place.Place.Place}
+use Rattle.fst_types.specs.{Lists.Lists, Making.fresh, Patches.{Patch, Empty}, declared.place.Place.Place}
 use Rattle.fst_heads.specs.Keeps.{Keeps}
 use Rattle.fst_graph.specs.Known.{rest_place}
 use Rattle.fst_types.proofs.{Cascades.no_follower_on, Heads.sparse_emptied}
-use Rattle.fst_heads.proofs.Making.{keeps_added}
 use Rattle.fst_types.specs.declared.place.Place.TheVariants as place
 
 not_flight : (p : Place) → (p ≡ place.Flight → ⊥) → (p ≡ place.Memory) ⊎ (p ≡ place.Disk)
@@ -75,14 +74,5 @@ module _ (heads : List Patch) (numbers blocks : ℕ) (marks : List Bool) (K : Ke
     settled = λ x h f. (follows_on_disk x h f, on_disk_follows x h f);
   }
 
-  empty_lawful : SparseAreLawful new (numbers + 1)
+  pub empty_lawful : SparseAreLawful new (numbers + 1)
   empty_lawful = sparse_emptied heads new numbers after (numbers + 1) (record { next = refl; dependencies = deps; depends = depends; cascade = empty_cascade }) K.lawful
-
-  none_on : (b : ℕ) → IsOn p b → ⊥
-  none_on b on = cc
-
-  pub keeps_empty : length heads < max_heads → Keeps new (numbers + 1) blocks (marks ++ false ∷ [])
-  keeps_empty few =
-      keeps_added heads numbers blocks marks K new empty_lawful (length_push heads p)
-      (λ x b h on. elim (newest x h) [ inl o ↦ K.inside x b o on | inr e ↦ absurd (none_on b (subst (λ y. IsOn y b) (sym e) on)) ])
-      few

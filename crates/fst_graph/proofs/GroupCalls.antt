@@ -1,11 +1,11 @@
 -- What the calls of groups make, of what the calls of the patches make.
-use Rattle.std.proofs.Common.{◌≡◌, ◌+◌, ◌<◌, ◌≤◌, ℕ, false, List, [], ◌∷◌, length, get_or, All, Contains, Option, Some, None, refl, sym, ap, subst, ◌∙◌, inl, inr, arith}
-use Rattle.std.specs.Prelude.{IfSome, IfNone}
+use Rattle.std.proofs.Common.{◌≡◌, ◌+◌, ◌<◌, ◌≤◌, ℕ, false, List, [], ◌∷◌, length, get_or, All, Contains, Some, None, refl, sym, ap, subst, ◌∙◌, inl, inr, arith}
+use Rattle.std.specs.Prelude.{IfSome}
 use Rattle.std.proofs.lemmas.{Bool.cases_Bool, List.length-replicate}
 use Rattle.fst_types.specs.{Dependencies.DependsOn, Events.{GroupNew, GroupAfter, GroupPatch, GroupClose}, Facts.IsTied, Gates.IsOpenNumber, Gating.{GateGains, GateIsSealed}}
 use Rattle.fst_types.specs.Grouping.{GroupIsPutAfter, MemberIsMade, GroupIsClosed, with_new, put_after, with_member, with_closed, MakesGroup, MakesMember, ClosesGroup as ClosesStateGroup}
 use Rattle.fst_types.specs.{Groups.{Group, IsGroup, IsGroupNumber}, Limits.max_groups, Order.{depend_order, group_after_order, group_patch_order, group_close_order}, Patches.Patch}
-use Rattle.fst_types.specs.{Refusals.{Rule, IsFirst, NoneHolds}, Step.{group, group_new, group_after, group_patch, group_close}, declared.fault.Fault.Fault, declared.grade.Grade.Grade}
+use Rattle.fst_types.specs.{Refusals.{IsFirst, NoneHolds}, Step.{group, group_new, group_after, group_patch, group_close}, declared.fault.Fault.Fault, declared.grade.Grade.Grade}
 use Rattle.fst_graph.specs.Grouping.{unstarted_order, AddsPair, AddsGroup, PutsAfter, AddsMember, ForeseesMember, ClosesGroup, SealsIfOpen}
 use Rattle.fst_graph.specs.{Known.{Known, Prepared, unprepared, with_groups, Refuses, DependsGate}, Membering.{ArePaired, GainsMember, Foretells, member_order}, Whole.{IsGrouped, IsUnclosed}}
 use Rattle.fst_types.proofs.{Apart.tail_no_head, GroupsClear.close_clear, Loosened.loosened, Parts.{SealsIfOpen as SealsStateIfOpen, seals_if_open}, SmallStates.only_in}
@@ -15,15 +15,6 @@ use Rattle.fst_graph.proofs.{GateSlot.open_not_sealed, Grouped.{by_group, state_
 empty_or_not : (xs : List ℕ) → (((m : ℕ) × Contains xs m) → ⊥) → xs ≡ []
 empty_or_not [] none = refl
 empty_or_not (x ∷ xs) none = absurd (none (x, (0, omega arith, refl)))
-
--- the first rule that holds, where one before does not
-pub first_past : (r : Rule) (rules : List Rule) → (r.holds → ⊥) → (f : Option Fault) → IfSome f (IsFirst rules) → IfSome f (IsFirst (r ∷ rules))
-first_past r rules out None first = first
-first_past r rules out (Some f) first = inr (out, first)
-
-pub none_past : (r : Rule) (rules : List Rule) → (r.holds → ⊥) → (f : Option Fault) → IfNone f (NoneHolds rules) → IfNone f (NoneHolds (r ∷ rules))
-none_past r rules out None none = (out, none)
-none_past r rules out (Some f) none = none
 
 -- the first rules of a group that is put after another decide before its cycle
 pub first_unstarted : (heads : List Patch) (gs : List Group) (n m : ℕ) (f : Fault) → IsFirst (unstarted_order gs n m) f → IsFirst (group_after_order heads gs n m) f

@@ -1,11 +1,12 @@
 -- What calls that change places, or let a gate gain names, leave of what the fields keep.
-use Rattle.std.proofs.Common.{◌≡◌, ◌<◌, true, false, ◌&&◌, eqb, get_or-set_same, get_or-set_other, ◌+◌, ◌++◌, ◌∷◌, [], ℕ, Bool, List, length, map, get_or, set, refl, sym, subst, ◌∙◌, arith, ◌⊎◌, ◌≤◌, Contains, ap, inl, inr}
+use Rattle.std.proofs.Common.{◌≡◌, ◌<◌, false, get_or-set_same, get_or-set_other, ◌+◌, ◌++◌, ◌∷◌, [], ℕ, Bool, List, length, map, get_or, set, refl, sym, subst, ◌∙◌, arith, ◌⊎◌, ◌≤◌, Contains, ap, inl, inr}
 use Rattle.fst_types.specs.{Cascade.IsCascadeOf, Closure.IsAcyclic, Dependencies.{DirectlyOn, DependsOn, IsLiveNumber}, Facts.SparseAreLawful, Gates.IsOpenNumber, Gating.{sealed, gains}, Lists.Lists, Making.fresh}
 use Rattle.fst_types.specs.{Order.depend_order, Patches.{Change, Patch, block_of_kind}, Refusals.NoneHolds, Writable.{IsWritable, IsWritableSet}, Writing.{landed, launched}, declared.grade.Grade.Grade}
-use Rattle.fst_heads.specs.{Covers.{AreCovered, Covering, HasBytes, IsPut}, Keeps.{Beside, Keeps}, Rows.IsSparseRow, Standings.{NoneBelow, may_be_written}, declared.standing.Standing.Standing}
-use Rattle.fst_types.proofs.{Alike.{Alike, back_alike, length_alike, on_back}, Depending.{Grown, grown, length_mapped, sparse_gained}, Finite.{In-from_Contains, Contains-from_In}}
-use Rattle.fst_types.proofs.{GateGains.{In-unmap, direct_cases}, Issuing.{alike_launched, sparse_launched}, Landing.{alike_landed, sparse_landed}, NewChange.no_cycle, Sealing.{alike_sealed, sparse_sealed}}
-use Rattle.fst_heads.proofs.Covering.{covered_alike, covered_put}
+use Rattle.fst_heads.specs.{Covers.{AreCovered, Covering, HasBytes, IsPut}, Keeps.{Keeps}, Rows.IsSparseRow, Standings.{NoneBelow, may_be_written}, declared.standing.Standing.Standing}
+use Rattle.fst_types.proofs.{Alike.{Alike, back_alike, length_alike, on_back}, Depending.{length_mapped, sparse_gained}}
+use Rattle.fst_types.proofs.{GateGains.{direct_cases}, Issuing.{alike_launched, sparse_launched}, Landing.{alike_landed, sparse_landed}, NewChange.no_cycle, Sealing.{alike_sealed, sparse_sealed}}
+use Rattle.fst_heads.proofs.Covering.{was_gained, covered_alike, covered_put}
+use Rattle.std.proofs.Math.Bool.{and-false}
 use Rattle.std.proofs.lemmas.{Bool.{cases_eq, cases_lt}, List.set_past}
 
 module _ (old new : List Patch) (A : Alike old new) where
@@ -20,9 +21,6 @@ module _ (old new : List Patch) (A : Alike old new) where
 -- the walks may have other marks, as many of them
 pub keeps_walked : {heads : List Patch} {numbers blocks : ℕ} {marks marks' : List Bool} → length marks' ≡ length marks → Keeps heads numbers blocks marks → Keeps heads numbers blocks marks'
 keeps_walked long K = record { lawful = K.lawful; few = K.few; inside = K.inside; marked = long ∙ K.marked }
-
-pub beside_walked : {heads : List Patch} {blocks live : ℕ} {places places' : List Bool} → length places' ≡ length places → Beside heads blocks live places → Beside heads blocks live places'
-beside_walked long B = record { places = long ∙ B.places; counted = B.counted }
 
 pub keeps_sealed : (old new : List Patch) (numbers blocks g : ℕ) (marks marks' : List Bool) → Keeps old numbers blocks marks → IsOpenNumber old g → IsCascadeOf (map (sealed g) old) new → length marks' ≡ length marks → Keeps new numbers blocks marks'
 keeps_sealed old new numbers blocks g marks marks' K gate cascade long =
@@ -52,11 +50,6 @@ module _ (old : List Patch) (numbers blocks g : ℕ) (marks : List Bool) (K : Ke
   abbrev new : List Patch
   new = map (gains g names) old
 
-  was : (p : Patch) → Contains new p → (o : Patch) × Contains old o × Grown g names o p
-  was p h =
-      let r = In-unmap (gains g names) old p (In-from_Contains new p h) in
-      (r.0, Contains-from_In old r.0 r.1, subst (Grown g names r.0) r.2 (grown g names r.0))
-
   acyclic : IsAcyclic (DirectlyOn new)
   acyclic = no_cycle (DirectlyOn old) (DirectlyOn new) g (Contains names) (direct_cases old g names) K.lawful.no_cycle (λ n c. (λ e. clear n c (inl e), λ d. clear n c (inr d)))
 
@@ -67,7 +60,7 @@ module _ (old : List Patch) (numbers blocks g : ℕ) (marks : List Bool) (K : Ke
   keeps_gained marks' long = record {
     lawful = sparse_gained old numbers g names K.lawful gate small acyclic;
     few = let e = length_mapped (gains g names) old in omega (arith, e, K.few);
-    inside = λ p b c on. let o = was p c in K.inside o.0 b o.1 (sym (ap block_of_kind o.2.kind) ∙ on);
+    inside = λ p b c on. let o = was_gained old g names p c in K.inside o.0 b o.1 (sym (ap block_of_kind o.2.kind) ∙ on);
     marked = long ∙ (K.marked ∙ sym (length_mapped (gains g names) old));
   }
 
@@ -86,14 +79,8 @@ none_below_set standings least k b new none low here c d lt =
     ap may_be_written (get_or-set_other standings b c new d (λ e. absurd (omega (arith, e, lt, here)))) ∙ none c d (omega (arith, lt, low))
 
 -- a block of which nothing is ready may not be written
-neither : (a b : Bool) → (a && b && false) ≡ false
-neither true true = refl
-neither true false = refl
-neither false true = refl
-neither false false = refl
-
 none_ready : (held flying : ℕ) → may_be_written (record { ready = 0; held = held; flying = flying }) ≡ false
-none_ready held flying = neither (eqb flying 0) (eqb held 0)
+none_ready held flying = grind (arith, and-false)
 
 pub none_below_launched : (standings : List Standing) (least b held flying : ℕ) → NoneBelow standings least → NoneBelow (set standings b (record { ready = 0; held = held; flying = flying })) least
 none_below_launched standings least b held flying none c d lt = elim (cases_eq c b) [

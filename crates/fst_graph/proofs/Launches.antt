@@ -1,50 +1,14 @@
 -- What is launched is what is ready of a block of which nothing is in flight.
-use Rattle.std.proofs.Common.{◌≡◌, ◌<◌, ◌≤◌, ◌∙◌, ℕ, suc, List, [], ◌∷◌, Some, None, slice_get, length, map, get_or, set, Contains, AllPairs, refl, sym, ap, subst, inl, inr, arith}
-use Rattle.std.proofs.lemmas.List.Kept.{AllPairs-from_increasing}
+use Rattle.std.proofs.Common.{◌≡◌, ◌<◌, ◌∙◌, ℕ, List, [], ◌∷◌, Some, None, slice_get, length, map, get_or, set, Contains, refl, sym, ap, subst, arith}
 use Rattle.fst_types.specs.{Facts.SparseAreLawful, Patches.{Patch, block_of_kind}, Writable.{IsWritable, IsWritableSet}, Writing.launched, declared.number.PatchNo.PatchNo}
 use Rattle.fst_heads.specs.{Keeps.{IsInside, Tallies}, Lists.Entry, Names.numbers_of, Nodes.{Node, patches_in}, Spreading.launches, Standings.ready_on, declared.standing.Standing.Standing}
-use Rattle.fst_types.proofs.Finite.{In, In-from_Contains, Contains-from_In}
+use Rattle.fst_types.proofs.OneList.{lists_same}
 use Rattle.fst_heads.proofs.Placed.{patches_launched}
 use Rattle.fst_graph.proofs.{Marking.{ready_exact, writable_rests}, Tallied.tallies_launched}
 
--- two rising rows of the same numbers are the same row
-
-abbrev IsRow : List ℕ → Type 0
-IsRow xs = AllPairs (λ x y. x < y) xs
-
-above_first : (x : ℕ) (xs : List ℕ) (n : ℕ) → IsRow (x ∷ xs) → In xs n → x < n
-above_first x xs n rising h =
-    let c = Contains-from_In xs n h in
-    let r = rising 0 (suc c.0) n (omega arith) (omega (arith, c.1)) in
-    let here = c.2 in
-    omega (arith, r, here)
-
-least_first : (x : ℕ) (xs : List ℕ) (n : ℕ) → IsRow (x ∷ xs) → In (x ∷ xs) n → x ≤ n
-least_first x xs n rising (inl e) = omega (arith, e)
-least_first x xs n rising (inr h) = let lt = above_first x xs n rising h in omega (arith, lt)
-
-rest_rises : (x : ℕ) (xs : List ℕ) → IsRow (x ∷ xs) → IsRow xs
-rest_rises x xs rising i j d lt b = rising (suc i) (suc j) d (omega (arith, lt)) (omega (arith, b))
-
-same_row : (xs ys : List ℕ) → IsRow xs → IsRow ys → ((n : ℕ) → In xs n → In ys n) → ((n : ℕ) → In ys n → In xs n) → xs ≡ ys
-same_row [] [] rx ry to back = refl
-same_row [] (y ∷ ys) rx ry to back = absurd (back y (inl refl))
-same_row (x ∷ xs) [] rx ry to back = absurd (to x (inl refl))
-same_row (x ∷ xs) (y ∷ ys) rx ry to back =
-    let le = least_first y ys x ry (to x (inl refl)) in
-    let ge = least_first x xs y rx (back y (inl refl)) in
-    let first : x ≡ y = omega (arith, le, ge) in
-    let rest = same_row xs ys (rest_rises x xs rx) (rest_rises y ys ry)
-    (λ n h. elim (to n (inr h)) [ inl e ↦ let a = above_first x xs n rx h in absurd (omega (arith, a, e, first)) | inr k ↦ k ])
-    (λ n h. elim (back n (inr h)) [ inl e ↦ let a = above_first y ys n ry h in absurd (omega (arith, a, e, first)) | inr k ↦ k ]) in
-    cc
-
 -- of one block there is one writable set
 same_set : (patches : List Patch) (b : ℕ) (xs ys : List ℕ) → IsWritableSet patches b xs → IsWritableSet patches b ys → xs ≡ ys
-same_set patches b xs ys X Y =
-    same_row xs ys (AllPairs-from_increasing xs X.rising) (AllPairs-from_increasing ys Y.rising)
-    (λ n h. In-from_Contains ys n (Y.each n (X.only n (Contains-from_In xs n h))))
-    (λ n h. In-from_Contains xs n (X.each n (Y.only n (Contains-from_In ys n h))))
+same_set patches b xs ys X Y = lists_same _ _ xs ys X Y (λ n w. w) (λ n w. w)
 
 -- a writable block has something to launch
 pub some_chosen : (patches : List Patch) (b : ℕ) (chosen : List ℕ) → IsWritable patches b → IsWritableSet patches b chosen → length chosen ≡ 0 → ⊥

@@ -15,6 +15,7 @@ pub mod NeedsNow
 pub mod Sound
 pub mod Shutting
 pub mod PutNow
+pub mod Made
 pub mod Tallied
 pub mod Borne
 pub mod Launches

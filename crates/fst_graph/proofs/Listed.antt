@@ -3,7 +3,7 @@ use Rattle.std.proofs.Common.{◌≡◌, ℕ, ◌<◌, ◌==◌, ◌&&◌, false
 use Rattle.std.proofs.Math.Bool.{and-false}
 use Rattle.std.proofs.Math.ListN.{length-set}
 use Rattle.std.proofs.lemmas.{Bool.{cases_Bool, cases_eq, eq-eqb, ne_eqb}, List.append-nil}
-use Rattle.fst_types.specs.{Dependencies.IsLiveNumber, Patches.{Change, Empty, Patch}, Tests.{is_on, is_live}, declared.grade.Grade.Grade}
+use Rattle.fst_types.specs.{Dependencies.IsLiveNumber, Patches.{Change, Patch}, Tests.{is_on, is_live}, declared.grade.Grade.Grade}
 use Rattle.fst_heads.specs.{Lists.{Entry, entry, entries_on, AreListed, is_live_on}, Nodes.{Node, patches_in}, Rows.IsDependency}
 use Rattle.fst_heads.proofs.{Added.with_node, Touching.touch_parts}
 use Rattle.fst_walks.proofs.Linked.{patches_made}
@@ -15,11 +15,11 @@ entries_more b [] p = elim (cases_Bool (is_live_on b p)) [ inl e ↦ rw e refl |
 entries_more b (q ∷ qs) p = let rest = entries_more b qs p in elim (cases_Bool (is_live_on b q)) [ inl e ↦ rw (e, rest) refl | inr e ↦ rw (e, rest) refl ]
 
 pub listed_made : (nodes : List Node) (blocks : ℕ) (lists : List (List Entry)) (p : Patch)
-    → AreListed (patches_in nodes) blocks lists → ((b : ℕ) → is_live_on b p ≡ false)
+    → AreListed (patches_in nodes) blocks lists → ((b : ℕ) → is_on b p.kind ≡ false)
     → AreListed (patches_in (with_node nodes p)) blocks lists
 listed_made nodes blocks lists p L other = record {
   long = L.long;
-  each = λ b d inside. L.each b d inside ∙ sym (ap (entries_on b) (patches_made nodes p) ∙ (entries_more b (patches_in nodes) p ∙ (ap (λ t. entries_on b (patches_in nodes) ++ cond t (entry p ∷ []) []) (other b) ∙ append-nil (entries_on b (patches_in nodes)))));
+  each = λ b d inside. L.each b d inside ∙ sym (ap (entries_on b) (patches_made nodes p) ∙ (entries_more b (patches_in nodes) p ∙ (ap (λ t. entries_on b (patches_in nodes) ++ cond t (entry p ∷ []) []) (ap (λ t. is_live p && t) (other b) ∙ and-false (is_live p)) ∙ append-nil (entries_on b (patches_in nodes)))));
 }
 
 -- a change in memory is live on its block alone
@@ -45,10 +45,6 @@ listed_change nodes blocks lists p b at len grade d L kind memory inside = recor
             ∙ (L.each c e within ∙ (sym (append-nil (entries_on c (patches_in nodes))) ∙ (ap (λ t. entries_on c (patches_in nodes) ++ cond t (entry p ∷ []) []) (sym (ne_eqb b c (λ o. ne (sym o)))) ∙ here)))
       ];
 }
-
--- an empty patch is on no block
-pub listed_empty : (p : Patch) → p.kind ≡ Empty → (b : ℕ) → is_live_on b p ≡ false
-listed_empty p e b = ap (λ k. is_live p && is_on b k) e ∙ and-false (is_live p)
 
 -- what a new change depends on is live
 pub live_dependency : (heads : List Patch) (names : List ℕ) (b at len n : ℕ) → IsDependency heads names b at len n → IsLiveNumber heads n

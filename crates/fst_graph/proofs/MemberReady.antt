@@ -1,16 +1,16 @@
 -- What is prepared for a group: its row, by what the head waits for; that it is ready; and which number and grade a change would have.
-use Rattle.std.proofs.Common.{◌≡◌, ◌+◌, ◌<◌, ◌≤◌, ◌++◌, ℕ, Bool, List, [], ◌∷◌, Option, Some, None, IfSome, option_map, length, map, Contains, refl, sym, ap, subst, ◌∙◌, inl, inr, arith, ◌≢◌, true, false, IfNone, filter, count_by, is_some, get_or, eqb}
-use Rattle.std.proofs.lemmas.{Bool.{cases_Bool, eqb-true, eqb-false, false≢true}, List.Sums.length-filter}
+use Rattle.std.proofs.Common.{◌≡◌, ◌+◌, ◌<◌, ◌≤◌, ◌++◌, ℕ, Bool, List, [], ◌∷◌, Option, Some, None, IfSome, option_map, length, map, Contains, refl, sym, ap, subst, ◌∙◌, inl, inr, arith, ◌≢◌, true, false, IfNone, count_by, is_some, get_or, eqb}
+use Rattle.std.proofs.lemmas.{Bool.{cases_Bool, eqb-true, eqb-false, false≢true}}
 use Rattle.fst_types.specs.{Cascade.IsCascadeOf, Dependencies.{DirectlyOn, IsLiveNumber, IsOnDisk}, Facts.{SparseAreLawful, IsTied}, Gates.IsOpenNumber, Gating.sealed}
 use Rattle.fst_types.specs.{Grades.FollowsRule, Order.{make_order, room_order, NamesUnknown}, Patches.Patch, Refusals.NoneHolds, declared.grade.Grade.Grade}
 use Rattle.fst_heads.specs.{Frames.{frames_of, HasRoomBelow}, Grading.MayBeHard, Heads.{IsRising, patches_of}, Keeps.Keeps, Marks.HasSlot}
 use Rattle.fst_heads.specs.{Names.numbers_of, Nodes.{node_of, nodes_of, is_live_in, AreCounted}, Rows.IsSparseRow, declared.head.Head.Head}
 use Rattle.fst_graph.specs.{Known.Known, Membering.{ArePaired, BeginsAs, OverlapReaches, member_order}, Ready.{change_of, IsReady, IsMemberReady, MayBePut, HasRoomAround, HasPlaces}}
-use Rattle.fst_graph.specs.{Sparse.ForetellsSparse, declared.prepared.Gates.Gates, declared.prepared.Prepared.Prepared as Stored}
+use Rattle.fst_graph.specs.{Sparse.{ForetellsSparse, SparseChangeIsMade}, declared.prepared.Gates.Gates, declared.prepared.Prepared.Prepared as Stored}
 use Rattle.fst_types.proofs.{Cascades.place_decided, Finite.{In, In-from_Contains, Contains-from_In}, SmallStates.only_in}
-use Rattle.fst_heads.proofs.{AtNumber.patches_in_nodes, CountsAs.count_none, Forgetting.{live_in, in_live}, Framed.{room_above, room_below}}
+use Rattle.fst_heads.proofs.{AtNumber.patches_in_nodes, Beside.one_if, CountsAs.{count_cons, count_none}, Forgetting.{live_in, in_live}, Framed.{room_above, room_below}, Leading.some_injective}
 use Rattle.fst_heads.proofs.{PendingAt.node_in, Slots.{any_default, direct_at, named_at}, Touching.{graded_change, touched_overlaps, overlaps_touched}}
-use Rattle.fst_graph.proofs.{Kept.keeps_sealed, Readied.{ready_member, member_put}, TakenAsSealed.{is, depends, open_was, open_is, stays, touched_was, rule_sealed, gate_lives, gate_rests, row_named, row_unnamed}}
+use Rattle.fst_graph.proofs.{Kept.keeps_sealed, Readied.{ready_made, ready_member, member_put}, TakenAsSealed.{is, depends, open_was, open_is, stays, touched_was, rule_sealed, gate_lives, gate_rests, row_named, row_unnamed}}
 use Rattle.fst_types.specs.declared.grade.Grade.TheVariants as grade
 
 module _ (old : List Patch) (n blocks : ℕ) (marks : List Bool) (K : Keeps old n blocks marks) (gates : Gates) (paired : ArePaired old n gates.head gates.tail) where
@@ -49,16 +49,7 @@ module _ (old : List Patch) (n blocks : ℕ) (marks : List Bool) (K : Keeps old 
 module _ (old : Known) (blocks : ℕ) (marks : List Bool) (K : Keeps old.heads old.numbers blocks marks) (gates : Gates) (p : Stored) (R : IsMemberReady old.heads old.numbers blocks gates p) where
   pub foretold : ForetellsSparse old gates.head p.block p.span.at p.span.len (old.numbers + 1) p.grade
   foretold begun begin =
-      let ready = R.made begun begin in (
-        begun ++ change_of old.numbers p ∷ [],
-        record {
-          next = refl;
-          dependencies = p.dependencies.items;
-          sparse = subst (λ ns. IsSparseRow begun ns p.block p.span.at p.span.len p.dependencies.items) R.names ready.depends;
-          added = refl;
-          graded = ready.graded;
-        },
-      )
+      (begun ++ change_of old.numbers p ∷ [], subst (λ ns. SparseChangeIsMade begun old.numbers p.block p.span.at p.span.len ns (old.numbers + 1) p.grade (begun ++ change_of old.numbers p ∷ [])) R.names (ready_made (R.made begun begin)))
 
 -- a gate that was sealed is not open
 pub shut_begun : (old : List Patch) (n : ℕ) → SparseAreLawful old n → (g : ℕ) (begun : List Patch) → IsOpenNumber old g → IsCascadeOf (map (sealed g) old) begun → IsOpenNumber begun g → ⊥
@@ -106,11 +97,8 @@ module _ (old : List Patch) (n blocks : ℕ) (marks : List Bool) (K : Keeps old 
   pub put_begun : (p : Stored) → option_map (λ (g : Gates). g.head) p.gates ≡ Some head → MayBePut old n blocks p → MayBePut begun n blocks p
   put_begun p told ready =
       let r = ready_member n p head old n blocks told ready in
-      let own : r.0.head ≡ head = some_head r.0.head head (sym (ap (option_map (λ (g : Gates). g.head)) r.1) ∙ told) in
+      let own : r.0.head ≡ head = some_injective r.0.head head (sym (ap (option_map (λ (g : Gates). g.head)) r.1) ∙ told) in
       member_put p r.0 begun n blocks r.1 (ready_begun old n blocks marks K r.0 p r.2 begun (subst (IsOpenNumber old) (sym own) is_open) (subst (λ g. IsCascadeOf (map (sealed g) old) begun) (sym own) cascade))
-    where
-      some_head : (x y : ℕ) → Some x ≡ Some y → x ≡ y
-      some_head x y e = cc
 
 -- and the room for it
 pub around_kept : (new old : List Head) → frames_of new ≡ frames_of old → (p : Stored) → HasRoomAround old p → HasRoomAround new p
@@ -125,15 +113,12 @@ pub places_kept : (heads heads' capacity capacity' marks marks_capacity below be
 places_kept heads heads' capacity capacity' marks marks_capacity below below_capacity ranks ranks_capacity queue queue' e f g room = rw (e, f, g) room
 
 -- a count that is not 0 has one that passes
-one_left : (t : ℕ → Bool) (xs : List ℕ) → length (filter t xs) ≢ 0 → (x : ℕ) × In xs x × (t x ≡ true)
-one_left t [] e = absurd (e refl)
-one_left t (y ∷ ys) e = elim (cases_Bool (t y)) [
-  | inl yes_y ↦ (y, inl refl, yes_y)
-  | inr no_y ↦ let r = one_left t ys (λ f. e (rw no_y f)) in (r.0, inr r.1, r.2)
-]
-
 one_passes : (t : ℕ → Bool) (xs : List ℕ) → count_by t xs ≢ 0 → (x : ℕ) × In xs x × (t x ≡ true)
-one_passes t xs e = one_left t xs (λ f. e (sym (length-filter t xs) ∙ f))
+one_passes t [] e = absurd (e refl)
+one_passes t (y ∷ ys) e = elim (cases_Bool (t y)) [
+  | inl yes_y ↦ (y, inl refl, yes_y)
+  | inr no_y ↦ let r = one_passes t ys (λ none. e (omega (arith, count_cons t y ys, ap one_if no_y, none))) in (r.0, inr r.1, r.2)
+]
 
 -- whether a gate was found open
 pub told_open : (heads : List Patch) (head : ℕ) (o : Option ℕ) (t : Bool) → t ≡ is_some o → IfSome o (λ n. (n ≡ head) × IsOpenNumber heads head) → IfNone o (IsOpenNumber heads head → ⊥)

@@ -1,5 +1,5 @@
 -- The place of a number.
-use Rattle.std.proofs.{Common.{◌≡◌, ℕ, ◌==◌, ◌&&◌, nat_le, true, List, Contains, Some, None, find, Option, IfNone, refl, subst, arith, IfSome}, lemmas.Bool.Decides.nat_tests}
+use Rattle.std.proofs.{Common.{◌≡◌, ℕ, ◌==◌, ◌&&◌, nat_le, true, List, Contains, Some, None, find, Option, IfNone, refl, subst, arith}, lemmas.Bool.Decides.nat_tests}
 use Rattle.fst_types.specs.{Gates.IsGiven, Looks.place_of, Patches.{Patch, IsRising}}
 use Rattle.fst_heads.proofs.Slots.{find_patch, find_none}
 use Rattle.fst_types.specs.declared.place.Place.TheVariants as place
@@ -17,8 +17,3 @@ place_lost heads numbers n none g = rw (given_test numbers n g) (rw (find_none h
 pub none_then : {X : Type 0} (r : Option X) {P Q : Type 0} → (P → Q) → IfNone r P → IfNone r Q
 none_then None f p = f p
 none_then (Some x) f p = tt
-
--- and where it is some
-pub some_then : {X : Type 0} (r : Option X) {P Q : X → Type 0} → ((x : X) → P x → Q x) → IfSome r P → IfSome r Q
-some_then None f p = tt
-some_then (Some x) f p = f x p

@@ -25,6 +25,13 @@ pub record IsPutDown (heads : Vec Head) (ends : Ends) (levels : Leveling) (needs
       (set standings.items p.block (entered (is_hard_kind (change_of numbers p).kind) (is_pending (new_node (nodes_of heads.items) (change_of numbers p)).pending (pending.Block p.block)) (get_or standings.items p.block own)))
       queue.items queue.cap
 
+-- and for a group
+pub record IsPutNow (heads : Vec Head) (ends : Ends) (levels : Leveling) (needs : Needing) (lists : Vec (Vec Listed)) (covers : Vec Covering) (standings : Vec Standing) (queue : Vec ℕ) (numbers blocks head : ℕ) (gates : Gates) (p : Stored) : Type 0 where
+  pub down : IsPutDown heads ends levels needs lists covers standings queue numbers blocks p
+  pub member : IsMemberReady (patches_of heads.items) numbers blocks gates p
+  pub own : gates.head ≡ head
+  pub closed : IsOpenNumber (patches_of heads.items) gates.head → ⊥
+
 module _ {heads : Vec Head} {ends : Ends} {levels : Leveling} {needs : Needing} {lists : Vec (Vec Listed)} {covers : Vec Covering} {standings : Vec Standing} {queue : Vec ℕ} {live unmarked numbers blocks : ℕ} {o : Option Stored}
     (S : AreSound heads ends levels needs lists covers standings queue live unmarked numbers blocks o) where
   pub put_down : (p : Stored) → o ≡ Some p → IsReady (patches_of heads.items) numbers blocks p → IsPutDown heads ends levels needs lists covers standings queue numbers blocks p
@@ -57,21 +64,13 @@ module _ {heads : Vec Head} {ends : Ends} {levels : Leveling} {needs : Needing} 
             (omega (arith, free, heads.ok.0, length-map heads.items node_of));
       }
 
--- and for a group
-pub record IsPutNow (heads : Vec Head) (ends : Ends) (levels : Leveling) (needs : Needing) (lists : Vec (Vec Listed)) (covers : Vec Covering) (standings : Vec Standing) (queue : Vec ℕ) (numbers blocks head : ℕ) (gates : Gates) (p : Stored) : Type 0 where
-  pub down : IsPutDown heads ends levels needs lists covers standings queue numbers blocks p
-  pub member : IsMemberReady (patches_of heads.items) numbers blocks gates p
-  pub own : gates.head ≡ head
-  pub closed : IsOpenNumber (patches_of heads.items) gates.head → ⊥
-
-pub put_now : {heads : Vec Head} {ends : Ends} {levels : Leveling} {needs : Needing} {lists : Vec (Vec Listed)} {covers : Vec Covering} {standings : Vec Standing} {queue : Vec ℕ} {live unmarked numbers blocks : ℕ} {o : Option Stored}
-    → AreSound heads ends levels needs lists covers standings queue live unmarked numbers blocks o → (p : Stored) (gates : Gates) (head : ℕ) (known : Known)
-    → record { heads = patches_of heads.items; numbers = numbers; blocks = blocks; groups = []; prepared = option_map (prepared_of numbers) o } ≡ known
-    → ((q : Prepared) × (known.prepared ≡ Some q) × (q.group ≡ Some head)) → (IsOpenNumber known.heads head → ⊥) → o ≡ Some p → p.gates ≡ Some gates
-    → IsPutNow heads ends levels needs lists covers standings queue numbers blocks head gates p
-put_now {heads} {ends} {levels} {needs} {lists} {covers} {standings} {queue} {live} {unmarked} {numbers} {blocks} {o} S p gates head known seen q shut kept there =
-    let old = patches_of heads.items in
-    let R = member_kept p gates old numbers blocks there (prepared_is S p kept).ready in
-    let own = head_same o numbers q.0 head p gates (ap (λ (k : Known). k.prepared) seen ∙ q.1) q.2 kept there in
-    let closed : IsOpenNumber old gates.head → ⊥ = λ t. shut (subst (λ (v : Known). IsOpenNumber v.heads head) seen (subst (IsOpenNumber old) own t)) in
-    record { down = put_down S p kept (ready_now old numbers blocks ends.up.walk.marks S.keeps gates p R closed); member = R; own = own; closed = closed }
+  pub put_now : (p : Stored) (gates : Gates) (head : ℕ) (known : Known)
+      → record { heads = patches_of heads.items; numbers = numbers; blocks = blocks; groups = []; prepared = option_map (prepared_of numbers) o } ≡ known
+      → ((q : Prepared) × (known.prepared ≡ Some q) × (q.group ≡ Some head)) → (IsOpenNumber known.heads head → ⊥) → o ≡ Some p → p.gates ≡ Some gates
+      → IsPutNow heads ends levels needs lists covers standings queue numbers blocks head gates p
+  put_now p gates head known seen q shut kept there =
+      let old = patches_of heads.items in
+      let R = member_kept p gates old numbers blocks there (prepared_is S p kept).ready in
+      let own = head_same o numbers q.0 head p gates (ap (λ (k : Known). k.prepared) seen ∙ q.1) q.2 kept there in
+      let closed : IsOpenNumber old gates.head → ⊥ = λ t. shut (subst (λ (v : Known). IsOpenNumber v.heads head) seen (subst (IsOpenNumber old) own t)) in
+      record { down = put_down p kept (ready_now old numbers blocks ends.up.walk.marks S.keeps gates p R closed); member = R; own = own; closed = closed }

@@ -1,7 +1,7 @@
 -- What calls leave of the levels: more room, patches that moved on, and a patch more.
 use Rattle.std.proofs.Common.{◌≡◌, ◌≤◌, ◌+◌, ◌++◌, ◌∷◌, ◌∙◌, [], ℕ, true, false, List, length, Contains, ap, arith, sym, inl, inr, subst, refl}
 use Rattle.std.proofs.lemmas.Bool.{cases_Bool}
-use Rattle.fst_types.specs.{Facts.HasOnePlaceEach, Making.fresh, Patches.{OpenGate, Patch, IsOn, IsHard, IsOpenGate}}
+use Rattle.fst_types.specs.{Facts.HasOnePlaceEach, Patches.{Patch, IsOn, IsHard, IsOpenGate}}
 use Rattle.fst_types.specs.declared.grade.Grade.TheVariants as grade
 use Rattle.fst_types.proofs.Alike.{Alike}
 use Rattle.std.proofs.lemmas.List.{length_push}
@@ -23,12 +23,6 @@ module _ {old : List Patch} {numbers blocks : ℕ} {levels grown : Leveling} (p 
     (row : (q : ℕ) → Contains p.dependencies q → level_of levels.ranks q ≤ l) (few : l ≤ top_level) (L : IsLeveled old blocks levels) where
   pub leveled_put : ((b : ℕ) → IsOn p b → floor_of levels.floors b ≤ l) → ((b : ℕ) → IsOn p b → IsHard p → l ≤ floor_of levels.floors b) → (IsOpenGate p → l ≡ top_level) → IsLeveled (old ++ p ∷ []) blocks grown
   leveled_put above below gate = leveled_as ranks floors (fresh_is_leveled old numbers blocks p H next given levels l row above below gate few L)
-
--- a new gate is at the top
-pub leveled_gate : {old : List Patch} {numbers blocks : ℕ} {levels grown : Leveling} (row : List ℕ) → HasOnePlaceEach old numbers → ((q : ℕ) → Contains row q → q ≤ numbers)
-    → grown.ranks ≡ levels.ranks ++ record { number = numbers + 1; level = top_level } ∷ [] → grown.floors ≡ levels.floors → IsLeveled old blocks levels → IsLeveled (old ++ fresh (numbers + 1) OpenGate row ∷ []) blocks grown
-leveled_gate {numbers = numbers} row H given ranks floors L =
-    leveled_put (fresh (numbers + 1) OpenGate row) top_level H refl given ranks floors (λ q c. L.leveled.few q) (omega arith) L (λ b on. cc) (λ b on. cc) (λ e. refl)
 
 -- a change more, that rises so
 module _ {old : List Patch} {numbers blocks : ℕ} {levels lifted : Leveling} (p : Stored) (rise : Rise) (met : List ℕ) (H : HasOnePlaceEach old numbers)

@@ -1,10 +1,12 @@
 -- What is prepared.
-use Rattle.std.proofs.{Common.{◌≡◌, ℕ, ◌+◌, Bool, true, false, ◌&&◌, List, [], ◌∷◌, Option, Some, None, option_map, is_some, subst, refl, sym, ap, ◌∙◌, eqb}, lemmas.Bool.false≢true, lemmas.Bool.Decides.Decides-eqb}
+use Rattle.std.proofs.{Common.{◌≡◌, ℕ, ◌+◌, ◌++◌, true, false, ◌&&◌, List, [], ◌∷◌, Option, Some, None, option_map, is_some, subst, refl, sym, ap, ◌∙◌, eqb}, lemmas.Bool.false≢true, lemmas.Bool.Decides.Decides-eqb}
 use Rattle.std.specs.Bool.{Decides}
 use Rattle.fst_types.specs.{Grades.FollowsRule, Patches.Patch, declared.grade.Grade.Grade, declared.number.PatchNo.PatchNo, declared.span.Span.Span}
 use Rattle.fst_heads.specs.Names.{numbers_of}
-use Rattle.fst_graph.specs.{Known.{Prepared, prepared_for, member_for}, Ready.{prepared_of, IsReady, IsMemberReady, IsReadyFor, MayBePut}}
+use Rattle.fst_graph.specs.{Known.{Prepared, prepared_for, member_for}, Ready.{change_of, prepared_of, IsReady, IsMemberReady, IsReadyFor, MayBePut}, Sparse.{AddsSparse, SparseChangeIsMade}}
 use Rattle.fst_graph.specs.{declared.prepared.Gates.Gates, declared.prepared.Prepared.Prepared as Stored}
+use Rattle.fst_types.proofs.Numbers.{both}
+use Rattle.fst_heads.proofs.Leading.{some_injective}
 use Rattle.fst_types.specs.declared.grade.Grade.TheVariants as grade
 
 -- what is graded hard may be hard
@@ -19,11 +21,6 @@ name_decides a b = (λ e. ap (λ n. record { 0 = n }) ((Decides-eqb a.0 b.0).0 e
 -- a span is where it starts and how long it is
 pub same_span : (a b : Span) → a.at ≡ b.at → a.len ≡ b.len → a ≡ b
 same_span a b at len = ap (λ n. record { at = n; len = a.len }) at ∙ ap (λ n. record { at = b.at; len = n }) len
-
-both : (a b : Bool) → (a && b) ≡ true → (a ≡ true) × (b ≡ true)
-both true true e = (refl, refl)
-both true false e = absurd (false≢true e)
-both false b e = absurd (false≢true e)
 
 pub span_tested : (a b : Span) → (eqb a.at b.at && eqb a.len b.len) ≡ true → a ≡ b
 span_tested a b e =
@@ -71,15 +68,20 @@ ready_alone numbers o p q heads n blocks kept seen alone ready =
     some_same : (x y : Prepared) → Some x ≡ Some y → x ≡ y
     some_same x y e = cc
 
+-- put down, it is the change that was foreseen
+pub ready_made : {heads : List Patch} {numbers blocks : ℕ} {p : Stored} → IsReady heads numbers blocks p → SparseChangeIsMade heads numbers p.block p.span.at p.span.len (numbers_of p.names.items) (numbers + 1) p.grade (heads ++ change_of numbers p ∷ [])
+ready_made {p = p} R = record { next = refl; dependencies = p.dependencies.items; sparse = R.depends; added = refl; graded = R.graded }
+
+pub ready_adds : {heads : List Patch} {numbers blocks : ℕ} {p : Stored} → IsReady heads numbers blocks p → AddsSparse (record { heads = heads; numbers = numbers; blocks = blocks; groups = []; prepared = None })
+    p.block p.span.at p.span.len (numbers_of p.names.items) (numbers + 1) p.grade (record { heads = heads ++ change_of numbers p ∷ []; numbers = numbers + 1; blocks = blocks; groups = []; prepared = None })
+ready_adds R = record { clear = R.clear; row = ready_made R; numbers = refl; blocks = refl; groups = refl; prepared = refl }
+
 -- what is kept is seen as what is prepared for a group
 module _ (numbers : ℕ) (p : Stored) (gates : Gates) (heads : List Patch) (n blocks : ℕ) (ready : IsMemberReady heads n blocks gates p) (kept : p.gates ≡ Some gates) (head b : ℕ) (span : Span) where
   pub seen_member : (p.block ≡ b) × (p.span ≡ span) × (option_map (λ (g : Gates). g.head) p.gates ≡ Some head) → Some (prepared_of numbers p) ≡ Some (member_for head b span.at span.len (numbers + 1) p.grade)
   seen_member h =
-      let own : gates.head ≡ head = some_head gates.head head (sym (ap (option_map (λ (g : Gates). g.head)) kept) ∙ h.2) in
+      let own : gates.head ≡ head = some_injective gates.head head (sym (ap (option_map (λ (g : Gates). g.head)) kept) ∙ h.2) in
       rw (ready.names, own, ← h.0, ← h.1, h.2) refl
-    where
-      some_head : (x y : ℕ) → Some x ≡ Some y → x ≡ y
-      some_head x y e = cc
 
 pub member_seen : (numbers : ℕ) (p : Stored) (head b : ℕ) (span : Span) (number : ℕ) (grade : Grade) → Some (prepared_of numbers p) ≡ Some (member_for head b span.at span.len number grade) → (p.block ≡ b) × (p.span ≡ span) × (option_map (λ (g : Gates). g.head) p.gates ≡ Some head)
 member_seen numbers p head b span number grade e =

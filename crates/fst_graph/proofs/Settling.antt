@@ -1,6 +1,6 @@
 -- What is pending of each patch after a call that tells none of its dependants of anything.
-use Rattle.std.proofs.Common.{◌≡◌, ◌≢◌, ◌↔◌, ◌==◌, ℕ, suc, ◌+◌, ◌<◌, ◌≤◌, Bool, true, false, not, if◌then◌else◌, List, [], ◌∷◌, ◌++◌, map, filter, AllPairs, Contains, refl, sym, ap, subst, ◌∙◌, inl, inr, arith}
-use Rattle.std.proofs.lemmas.{Bool.{cases_Bool, cases_eq, eq-eqb, ne_eqb}, List.Elements.{Contains-append_left, Contains-push}}
+use Rattle.std.proofs.Common.{◌≡◌, ◌≢◌, ◌↔◌, ◌==◌, ℕ, ◌+◌, ◌<◌, ◌≤◌, Bool, true, false, not, if◌then◌else◌, List, [], ◌∷◌, ◌++◌, map, filter, AllPairs, Contains, refl, sym, ap, subst, ◌∙◌, inl, inr, arith}
+use Rattle.std.proofs.lemmas.{Bool.{cond_both, cases_Bool, cases_eq, eq-eqb, ne_eqb}, List.Elements.{Contains-append_left, Contains-push}}
 use Rattle.std.specs.List.Sorted.{IsStrictlyIncreasing}
 use Rattle.fst_types.specs.{Cascade.Follows, Dependencies.IsLiveNumber, Facts.SparseAreLawful, Gates.IsOpenNumber}
 use Rattle.fst_types.specs.{Patches.{Kind, Change, Empty, OpenGate, SealedGate, Patch, IsOn, block_of_kind}, Tests.{is_at, is_live, is_among, is_change_at}, declared.place.Place.Place}
@@ -8,16 +8,13 @@ use Rattle.fst_heads.specs.{Nodes.{Node, patches_in, pending_in, at_number, link
 use Rattle.fst_heads.specs.{Spreading.launches, Standings.{is_ready_on, ready_on}, declared.pending.Pending.Pending, declared.pending.Sums.Sums}
 use Rattle.fst_types.proofs.{Crash.same_number, Dropping.filter_in, Finite.{In, In-from_Contains, Contains-from_In}, GateGains.In-unmap, Issuing.among_in, Landing.change_at}
 use Rattle.fst_heads.proofs.{Added.{with_node, new_node, with_names}, AtNumber.{at_same, at_other}, Forgetting.and_parts, Linking.linked_patch}
+use Rattle.fst_heads.proofs.{PendingIn.{later_number, rising_tail, told_of}, Waiting.pending_mapped}
 use Rattle.fst_heads.proofs.{Placed.{number_if, patch_in, node_of_patch, unmapped}, Sums.{joined_all_nothing, joined_nothing, joined_same, joined_some, sums_append, sums_same}}
 use Rattle.fst_walks.proofs.Linked.{made_was, both, both_nodes, both_number, named_was}
 use Rattle.fst_types.specs.declared.place.Place.TheVariants as place
 use Rattle.fst_heads.specs.declared.pending.Pending.TheVariants as pending
 
 -- what is pending of a number
-
-pub pending_mapped : (f : Node → Node) (nodes : List Node) → ((x : Node) → (f x).patch.number ≡ x.patch.number) → ((x : Node) → (f x).pending ≡ x.pending) → (n : ℕ) → pending_in (map f nodes) n ≡ pending_in nodes n
-pending_mapped f [] number stays n = refl
-pending_mapped f (x ∷ xs) number stays n = let r = pending_mapped f xs number stays n in rw (number x, stays x, r) refl
 
 pub pending_push : (nodes : List Node) (y : Node) (n : ℕ) → y.patch.number ≢ n → pending_in (nodes ++ y ∷ []) n ≡ pending_in nodes n
 pending_push [] y n ne = rw (ne_eqb y.patch.number n ne) refl
@@ -27,38 +24,19 @@ pending_none : (nodes : List Node) (n : ℕ) → ((x : Node) → In nodes x → 
 pending_none [] n none = refl
 pending_none (x ∷ xs) n none = rw (ne_eqb x.patch.number n (none x (inl refl))) (pending_none xs n (λ y h. none y (inr h)))
 
--- the numbers behind the first are above it
-above_first : (x : Node) (xs : List Node) → AllPairs (λ p q. p.number < q.number) (patches_in (x ∷ xs)) → (y : Node) → In xs y → x.patch.number < y.patch.number
-above_first x xs rising y h =
-    let c = patch_in xs y (Contains-from_In xs y h) in
-    let r = rising 0 (suc c.0) y.patch (omega arith) (omega (arith, c.1)) in
-    subst (λ (p : Patch). x.patch.number < p.number) c.2 r
-
-behind : (x : Node) (xs : List Node) → AllPairs (λ p q. p.number < q.number) (patches_in (x ∷ xs)) → AllPairs (λ p q. p.number < q.number) (patches_in xs)
-behind x xs rising i j d lt inside = rising (suc i) (suc j) d (omega (arith, lt)) (omega (arith, inside))
-
--- the one patch with the number has it
-pub pending_at : (nodes : List Node) (x : Node) → AllPairs (λ p q. p.number < q.number) (patches_in nodes) → Contains nodes x → pending_in nodes x.patch.number ≡ x.pending
-pending_at nodes x rising c = go nodes rising (In-from_Contains nodes x c)
-  where
-    go : (ys : List Node) → AllPairs (λ p q. p.number < q.number) (patches_in ys) → In ys x → pending_in ys x.patch.number ≡ x.pending
-    go [] r h = absurd h
-    go (y ∷ ys) r (inl e) = rw (eq-eqb y.patch.number x.patch.number (ap (λ z. z.patch.number) e)) (ap (λ z. z.pending) e)
-    go (y ∷ ys) r (inr h) = let lt = above_first y ys r x h in rw (ne_eqb y.patch.number x.patch.number (λ e. omega (arith, lt, e))) (go ys (behind y ys r) h)
-
 -- what was forgotten had nothing pending
 pub pending_dropped : (nodes : List Node) → AllPairs (λ p q. p.number < q.number) (patches_in nodes) → ((x : Node) → In nodes x → is_live x.patch ≡ false → x.pending ≡ pending.Nothing)
     → (n : ℕ) → pending_in (filter (λ x. is_live x.patch) nodes) n ≡ pending_in nodes n
 pending_dropped [] rising none n = refl
 pending_dropped (x ∷ xs) rising none n =
-    let r = pending_dropped xs (behind x xs rising) (λ y h. none y (inr h)) n in
+    let r = pending_dropped xs (rising_tail x xs rising) (λ y h. none y (inr h)) n in
     elim (cases_Bool (is_live x.patch)) [
       | inl e ↦ rw (e, r) refl
       | inr e ↦
           elim (cases_eq x.patch.number n) [
             | inl same ↦
                 rw (e, r, eq-eqb x.patch.number n same)
-                (pending_none xs n (λ y h same_y. let lt = above_first x xs rising y h in omega (arith, lt, same, same_y)) ∙ sym (none x (inl refl) e))
+                (pending_none xs n (λ y h same_y. let lt = later_number x xs rising y h in omega (arith, lt, same, same_y)) ∙ sym (none x (inl refl) e))
             | inr other ↦ rw (e, r, ne_eqb x.patch.number n other) refl
           ]
     ]
@@ -90,21 +68,17 @@ settled_told told other blocks x same s = record {
   inside = s.inside;
 }
 
-linked_either : (told : ℕ → Pending) (blocks : ℕ) (b : Bool) (n : ℕ) (x : Node) → SettledAt told blocks x → SettledAt told blocks (if b then record x { dependants = x.dependants ++ n ∷ [] } else x)
-linked_either told blocks true n x s = record { summed = s.summed; settled = s.settled; placed = s.placed; inside = s.inside }
-linked_either told blocks false n x s = s
-
 -- dependants do not matter
 pub settled_linked : (told : ℕ → Pending) (blocks : ℕ) (row : List ℕ) (n : ℕ) (x : Node) → SettledAt told blocks x → SettledAt told blocks (linked_to row n x)
-settled_linked told blocks row n x s = linked_either told blocks (is_among row x.patch.number) n x s
+settled_linked told blocks row n x s =
+    cond_both (is_among row x.patch.number) _ _ (SettledAt told blocks) (λ t. record { summed = s.summed; settled = s.settled; placed = s.placed; inside = s.inside }) (λ f. s)
 
-pending_either : (b : Bool) (n : ℕ) (x : Node) → (if b then record x { dependants = x.dependants ++ n ∷ [] } else x).pending ≡ x.pending
-pending_either true n x = refl
-pending_either false n x = refl
+linked_pending : (row : List ℕ) (n : ℕ) (x : Node) → (linked_to row n x).pending ≡ x.pending
+linked_pending row n x = cond_both (is_among row x.patch.number) _ _ (λ (y : Node). y.pending ≡ x.pending) (λ t. refl) (λ f. refl)
 
 pub pending_linked : (nodes : List Node) (row : List ℕ) (n m : ℕ) → pending_in (map (linked_to row n) nodes) m ≡ pending_in nodes m
 pending_linked nodes row n m =
-    pending_mapped (linked_to row n) nodes (λ x. ap (λ p. p.number) (linked_patch row n x)) (λ x. pending_either (is_among row x.patch.number) n x) m
+    pending_mapped (linked_to row n) nodes m (λ x. ap (λ p. p.number) (linked_patch row n x)) (λ x _. linked_pending row n x)
 
 -- a new patch
 
@@ -114,8 +88,7 @@ over_same c b (pending.Block o) e = elim (cases_Bool (o == c)) [
   | inl t ↦ let f : pending.Block c ≡ pending.Block b = rw t at e in cc
   | inr t ↦ let f : pending.Apart ≡ pending.Block b = rw t at e in cc
 ]
-over_same c b pending.Apart e = cc
-over_same c b pending.Held e = cc
+over_same c b below e = cc
 
 over_some : (c : ℕ) (below : Pending) → over_block c below ≢ pending.Nothing
 over_some c pending.Nothing e = cc
@@ -123,8 +96,7 @@ over_some c (pending.Block o) e = elim (cases_Bool (o == c)) [
   | inl t ↦ let f : pending.Block c ≡ pending.Nothing = rw t at e in cc
   | inr t ↦ let f : pending.Apart ≡ pending.Nothing = rw t at e in cc
 ]
-over_some c pending.Apart e = cc
-over_some c pending.Held e = cc
+over_some c below e = cc
 
 module _ (nodes : List Node) (numbers blocks : ℕ) (p : Patch) (H : SparseAreLawful (patches_in nodes) numbers) (H' : SparseAreLawful (patches_in nodes ++ p ∷ []) (numbers + 1))
     (S : AreSettled nodes blocks) (next : p.number ≡ numbers + 1) (rising : IsStrictlyIncreasing p.dependencies)
@@ -138,7 +110,7 @@ module _ (nodes : List Node) (numbers blocks : ℕ) (p : Patch) (H : SparseAreLa
   live_node n c =
       let l = live n c in
       let x = node_of_patch nodes l.patch l.head in
-      (x.0, x.1, λ d. l.live (sym (ap (λ q. q.place) x.2) ∙ d), ap (pending_in nodes) (sym (ap (λ q. q.number) x.2 ∙ l.numbered)) ∙ pending_at nodes x.0 H.one_place_each.rising x.1)
+      (x.0, x.1, λ d. l.live (sym (ap (λ q. q.place) x.2) ∙ d), ap (pending_in nodes) (sym (ap (λ q. q.number) x.2 ∙ l.numbered)) ∙ told_of nodes x.0 H.one_place_each.rising x.1)
 
   named_small : (n : ℕ) → Contains p.dependencies n → n ≤ numbers
   named_small n c = let l = live n c in let k = (H.one_place_each.numbered l.patch l.head).1 in let e = l.numbered in omega (arith, k, e)
@@ -171,9 +143,8 @@ module _ (nodes : List Node) (numbers blocks : ℕ) (p : Patch) (H : SparseAreLa
   )
 
   change_placed : (b : ℕ) (q : Place) → (of_change b q below ≡ pending.Nothing) ↔ (q ≡ place.Disk)
-  change_placed b place.Memory = (λ e. absurd (over_some b below e), λ d. cc)
-  change_placed b place.Flight = (λ e. absurd (over_some b below e), λ d. cc)
   change_placed b place.Disk = (λ e. refl, λ d. refl)
+  change_placed b q = (λ e. absurd (over_some b below e), λ d. cc)
 
   kind_placed : (k : Kind) → p.kind ≡ k → (of_kind k p.place below ≡ pending.Nothing) ↔ (p.place ≡ place.Disk)
   kind_placed (Change b at len grade) e = change_placed b p.place
@@ -182,9 +153,8 @@ module _ (nodes : List Node) (numbers blocks : ℕ) (p : Patch) (H : SparseAreLa
   kind_placed SealedGate e = follower_placed (subst Follows (sym e) tt)
 
   change_inside : (c b : ℕ) (q : Place) → c < blocks → of_change c q below ≡ pending.Block b → b < blocks
-  change_inside c b place.Memory lt e = subst (λ k. k < blocks) (over_same c b below e) lt
-  change_inside c b place.Flight lt e = subst (λ k. k < blocks) (over_same c b below e) lt
   change_inside c b place.Disk lt e = cc
+  change_inside c b q lt e = subst (λ k. k < blocks) (over_same c b below e) lt
 
   kind_inside : (k : Kind) (b : ℕ) → p.kind ≡ k → of_kind k p.place below ≡ pending.Block b → b < blocks
   kind_inside (Change c at len grade) b e same = change_inside c b p.place (on c (ap block_of_kind e)) same
@@ -223,10 +193,6 @@ gate_settled told blocks names x gate s = record {
   inside = s.inside;
 }
 
-gained_pending : (b : Bool) (names : List ℕ) (sums : Sums) (x : Node) → (if b then gains_names names sums x else x).pending ≡ x.pending
-gained_pending true names sums x = refl
-gained_pending false names sums x = refl
-
 module _ (nodes : List Node) (numbers blocks g : ℕ) (names : List ℕ) (H : SparseAreLawful (patches_in nodes) numbers) (S : AreSettled nodes blocks) (gate : IsOpenNumber (patches_in nodes) g) where
   abbrev sums : Sums
   sums = sums_of (pending_in nodes) names
@@ -234,7 +200,7 @@ module _ (nodes : List Node) (numbers blocks g : ℕ) (names : List ℕ) (H : Sp
   names_told : (n : ℕ) → pending_in (with_names nodes g names sums) n ≡ pending_in nodes n
   names_told n =
       ap (λ xs. pending_in xs n) (both_nodes g names sums nodes)
-      ∙ pending_mapped (both g names sums) nodes (both_number g names sums) (λ x. pending_either (is_among names (at_number g (gains_names names sums) x).patch.number) g (at_number g (gains_names names sums) x) ∙ gained_pending (x.patch.number == g) names sums x) n
+      ∙ pending_mapped (both g names sums) nodes n (both_number g names sums) (λ x _. linked_pending names g (at_number g (gains_names names sums) x) ∙ cond_both (x.patch.number == g) _ _ (λ (y : Node). y.pending ≡ x.pending) (λ t. refl) (λ f. refl))
 
   gained_settled : (x : Node) → Contains nodes x → SettledAt (pending_in nodes) blocks (at_number g (gains_names names sums) x)
   gained_settled x c =
@@ -258,9 +224,7 @@ module _ (nodes : List Node) (numbers blocks g : ℕ) (names : List ℕ) (H : Sp
 -- in flight as much is pending as in memory
 flight_same : (k : Kind) (q : Pending) → of_kind k place.Memory q ≡ of_kind k place.Flight q
 flight_same (Change b at len grade) q = refl
-flight_same Empty q = refl
-flight_same OpenGate q = refl
-flight_same SealedGate q = refl
+flight_same k q = refl
 
 flight_settled : (told : ℕ → Pending) (blocks : ℕ) (x : Node) → x.patch.place ≡ place.Memory → SettledAt told blocks x → SettledAt told blocks (record x { patch = record x.patch { place = place.Flight } })
 flight_settled told blocks x memory s = record {
@@ -288,7 +252,7 @@ launched_settled nodes numbers blocks b H S =
     settled_all (map f nodes) blocks (λ a ca.
     let x = unmapped f nodes a ca in
     settled_told (pending_in nodes) (pending_in (map f nodes)) blocks a
-    (λ n c. pending_mapped f nodes (λ y. number_if (is_among (ready_on b nodes) y.patch.number) y.patch _ refl) (λ y. refl) n)
+    (λ n c. pending_mapped f nodes n (λ y. number_if (is_among (ready_on b nodes) y.patch.number) y.patch _ refl) (λ y _. refl))
     (subst (SettledAt (pending_in nodes) blocks) x.2
     (launched_either (pending_in nodes) blocks (is_among (ready_on b nodes) x.0.patch.number) x.0
     (λ t.
@@ -300,9 +264,8 @@ launched_settled nodes numbers blocks b H S =
 -- patches that are forgotten
 
 on_disk : (p : Place) → not (is_at p place.Disk) ≡ false → p ≡ place.Disk
-on_disk place.Memory e = cc
-on_disk place.Flight e = cc
 on_disk place.Disk e = refl
+on_disk p e = cc
 
 pub dropped_settled : (nodes : List Node) (numbers blocks : ℕ) → SparseAreLawful (patches_in nodes) numbers → AreSettled nodes blocks → AreSettled (filter (λ x. is_live x.patch) nodes) blocks
 dropped_settled nodes numbers blocks H S =

@@ -1,8 +1,9 @@
 -- What the fields are once an open gate is sealed, and what came to rest by that is on disk.
-use Rattle.std.proofs.Common.{◌≡◌, ◌≤◌, ◌+◌, ◌-◌, ◌++◌, ◌∙◌, ℕ, List, [], Option, None, map, count_by, arith, refl, ap, subst}
+use Rattle.std.proofs.Common.{length, ◌≡◌, ◌≤◌, ◌+◌, ◌-◌, ◌++◌, ◌∙◌, ℕ, List, [], Option, None, map, count_by, arith, refl, ap, subst}
+use Rattle.std.proofs.lemmas.List.{length-map}
 use Rattle.std.specs.Global.{Vec}
 use Rattle.fst_types.specs.{Cascade.{IsCascadeOf, unsettled}, Gates.IsOpenNumber, Gating.sealed}
-use Rattle.fst_heads.specs.{Covers.Covering, Heads.patches_of, Nodes.{nodes_of, at_number, AreDistinct, AreLinked, AreSettled}, Spreading.{is_waiting, seals, wakes_sealed, IsSpreadOf, Spreading}}
+use Rattle.fst_heads.specs.{Covers.Covering, Heads.patches_of, Nodes.{node_of, nodes_of, at_number, AreDistinct, AreLinked, AreSettled}, Spreading.{is_waiting, seals, wakes_sealed, IsSpreadOf, Spreading}}
 use Rattle.fst_heads.specs.{Standings.AllStand, declared.head.Head.Head, declared.lists.Listed.Listed, declared.standing.Standing.Standing}
 use Rattle.fst_walks.specs.{Leveling.Leveling, Needing.Needing, declared.ends.Ends.Ends}
 use Rattle.fst_graph.specs.{Sound.AreSound, declared.prepared.Prepared.Prepared as Stored}
@@ -15,21 +16,27 @@ module _ {heads : Vec Head} {ends : Ends} {levels : Leveling} {needs : Needing} 
     (S : AreSound heads ends levels needs lists covers standings queue live unmarked numbers blocks o) {g : ℕ} (gate : IsOpenNumber (patches_of heads.items) g)
     (mid : Vec Head) (shut : nodes_of mid.items ≡ map (at_number g seals) (nodes_of heads.items)) where
   -- what comes to rest may be told from there
-  pub shut_starts : (waits : List ℕ) → waits ≡ queue.items ++ wakes_sealed g (nodes_of heads.items) → Spreading (nodes_of mid.items) standings.len waits
-  shut_starts waits queued =
-      rw (shut, queued, S.tallies.idle, as_many_standings S)
-      (starts_sealed (nodes_of heads.items) numbers blocks g (lawful_nodes heads.items numbers S.keeps.lawful) (inside_nodes heads.items blocks S.keeps.inside) S.tallies.settled (open_nodes heads.items g gate))
-
-  pub shut_linked : AreLinked (nodes_of mid.items)
-  shut_linked = rw shut (linked_sealed (nodes_of heads.items) g S.tallies.linked)
-
-  pub shut_distinct : AreDistinct (nodes_of mid.items)
-  shut_distinct = rw shut (distinct_sealed (nodes_of heads.items) g S.tallies.distinct)
-
-  pub shut_standing : AllStand (nodes_of mid.items) standings.len standings.items
-  shut_standing =
-      rw (shut, as_many_standings S)
-      (stand_sealed (nodes_of heads.items) numbers blocks g standings.items (one_each heads.items numbers S.keeps.lawful.one_place_each) (open_nodes heads.items g gate) S.tallies.standing)
+  pub shut_ready : {waits : List ℕ} {cap : ℕ} → waits ≡ queue.items ++ wakes_sealed g (nodes_of heads.items) → cap ≡ queue.cap → standings.len ≤ 4294967295
+      → record {
+        start : Spreading (nodes_of mid.items) standings.len waits;
+        linked : AreLinked (nodes_of mid.items);
+        distinct : AreDistinct (nodes_of mid.items);
+        standing : AllStand (nodes_of mid.items) standings.len standings.items;
+        narrow : standings.len ≤ 4294967295;
+        room : length mid.items ≤ cap;
+      }
+  shut_ready queued capacity narrow =
+      let nodes = nodes_of heads.items in
+      let T = S.tallies in
+      let there = open_nodes heads.items g gate in
+      record {
+        start = rw (shut, queued, T.idle, as_many_standings S) (starts_sealed nodes numbers blocks g (lawful_nodes heads.items numbers S.keeps.lawful) (inside_nodes heads.items blocks S.keeps.inside) T.settled there);
+        linked = rw shut (linked_sealed nodes g T.linked);
+        distinct = rw shut (distinct_sealed nodes g T.distinct);
+        standing = rw (shut, as_many_standings S) (stand_sealed nodes numbers blocks g standings.items (one_each heads.items numbers S.keeps.lawful.one_place_each) there T.standing);
+        narrow = narrow;
+        room = omega (arith, ap length shut, length-map mid.items node_of, length-map nodes (at_number g seals), T.room, capacity);
+      }
 
   module _ (new : Vec Head) (placed : IsCascadeOf (patches_of mid.items) (patches_of new.items)) where
     pub shut_cascade : IsCascadeOf (map (sealed g) (patches_of heads.items)) (patches_of new.items)

@@ -3,7 +3,7 @@ use Rattle.std.proofs.{Common.{◌≡◌, ◌≤◌, ◌∙◌, ℕ, List, Optio
 use Rattle.std.specs.Global.{Vec}
 use Rattle.fst_types.specs.{Dependencies.IsLiveNumber, Patches.Patch}
 use Rattle.fst_heads.specs.{Ascending.IsBehind, Covers.{AreCovered, Covering}, Heads.{patch_of, patches_of, IsRising}, Keeps.IsInside, Lists.{entries_of, AreListed, entries_on}, Marks.{mark_in, mark_of}}
-use Rattle.fst_heads.specs.{Nodes.{nodes_of, AreSettled, pending_in}, Standings.{AllStand, standing_of}, declared.head.Head.Head, declared.lists.Listed.Listed, declared.standing.Standing.Standing}
+use Rattle.fst_heads.specs.{Nodes.{nodes_of, AreLinked, AreSettled, pending_in}, Standings.{AllStand, standing_of}, declared.head.Head.Head, declared.lists.Listed.Listed, declared.standing.Standing.Standing}
 use Rattle.fst_walks.specs.{BothEnds.IsOver, Leveling.{IsLeveled, Leveling}, Needing.{IsNeeding, Needing}, Searching.TellsGates, Sights.Sees, declared.block_walk.BlockWalk.BlockWalk, declared.ends.Ends.Ends, declared.sight.Sight.Sight}
 use Rattle.fst_graph.specs.{Sound.{AreSound, IsPrepared}, declared.prepared.Prepared.Prepared as Stored}
 use Rattle.fst_heads.proofs.{AtNumber.patches_in_nodes, Slots.rising_heads}
@@ -143,9 +143,25 @@ module _ {heads : Vec Head} {ends : Ends} {levels : Leveling} {needs : Needing} 
       let inside : b < blocks = omega (arith, lt, many_lists slice e) in
       (omega (arith, inside, ap length same, S.tallies.standing.long), λ d. ap (λ xs. get_or xs b d) same ∙ S.tallies.standing.each b d inside)
 
-  -- what waits for the block alone is live
-  pub waits_live : (b n : ℕ) → pending_in (nodes_of heads.items) n ≡ pending.Block b → IsLiveNumber (patches_of heads.items) n
-  waits_live b n e = subst (λ ps. IsLiveNumber ps n) (patches_in_nodes heads.items) (pending_live (nodes_of heads.items) blocks b n S.tallies.settled e)
+  -- the walk behind what flies of a block may begin
+  pub may_mark : (slice : List (Vec Listed)) → slice ≡ lists.items → (b : ℕ) → b < length slice → (list : Vec Listed) → list ≡ get_or slice b list
+      → {hs : List Head} {items : List Listed} {told : List Standing} → hs ≡ heads.items → items ≡ list.items → told ≡ standings.items
+      → record {
+        rising : IsRising hs;
+        long : length ends.up.walk.marks ≡ length hs;
+        listed : entries_of items ≡ entries_on b (patches_of hs);
+        live : (n : ℕ) → pending_in (nodes_of hs) n ≡ pending.Block b → IsLiveNumber (patches_of hs) n;
+        linked : AreLinked (nodes_of hs);
+        standing : AllStand (nodes_of hs) (length told) told;
+      }
+  may_mark slice e b lt list there h l s = rw (h, l, s) (record {
+    rising = rising_sound;
+    long = as_many_marks;
+    listed = its_list slice e b lt list there;
+    live = λ n e. subst (λ ps. IsLiveNumber ps n) (patches_in_nodes heads.items) (pending_live (nodes_of heads.items) blocks b n S.tallies.settled e);
+    linked = S.tallies.linked;
+    standing = subst (λ n. AllStand (nodes_of heads.items) n standings.items) (sym S.tallies.standing.long) S.tallies.standing;
+  })
 
 -- a walk over the heads and lists that are handed on is one over those that are kept
 pub over_now : {heads seen : List Head} {lists shelves : List (Vec Listed)} {walk : BlockWalk} → seen ≡ heads → shelves ≡ lists → IsOver seen (length shelves) walk → IsOver heads (length lists) walk
@@ -153,6 +169,15 @@ over_now h l x = record { long = x.long ∙ ap length h; crossed = x.crossed ∙
 
 pub over_then : {heads seen : List Head} {lists shelves : List (Vec Listed)} {walk : BlockWalk} → seen ≡ heads → shelves ≡ lists → IsOver heads (length lists) walk → IsOver seen (length shelves) walk
 over_then h l x = record { long = x.long ∙ sym (ap length h); crossed = x.crossed ∙ sym (ap length l) }
+
+module _ {heads : Vec Head} {ends : Ends} {levels : Leveling} {needs : Needing} {lists : Vec (Vec Listed)} {covers : Vec Covering} {standings : Vec Standing} {queue : Vec ℕ} {live unmarked numbers blocks : ℕ} {o : Option Stored}
+    (S : AreSound heads ends levels needs lists covers standings queue live unmarked numbers blocks o) where
+  -- more room, after walks over what is handed on
+  pub readied_sound : {seen : List Head} {shelves : List (Vec Listed)} {over walked : Ends} {roomier : Vec Head} {ranked : Leveling} {wider : Vec ℕ} → seen ≡ heads.items → shelves ≡ lists.items → IsOver seen (length shelves) over.up → IsOver seen (length shelves) over.down
+      → nodes_of roomier.items ≡ nodes_of heads.items → (walked.up.walk.marks ≡ over.up.walk.marks) × (walked.down.walk.marks ≡ over.down.walk.marks) → (walked.up.crossed ≡ over.up.crossed) × (walked.down.crossed ≡ over.down.crossed)
+      → ranked.ranks ≡ levels.ranks → ranked.floors ≡ levels.floors → wider.items ≡ queue.items → queue.cap ≤ wider.cap
+      → AreSound roomier walked ranked needs lists covers standings wider live unmarked numbers blocks None
+  readied_sound h l up down = roomier_sound (walked_sound S (over_now h l up) (over_now h l down))
 
 -- what follows from that holds of whatever is prepared
 pub if_prepared : {heads : Vec Head} {ends : Ends} {levels : Leveling} {needs : Needing} {lists : Vec (Vec Listed)} {covers : Vec Covering} {standings : Vec Standing} {queue : Vec ℕ} {live unmarked numbers blocks : ℕ} {o : Option Stored}

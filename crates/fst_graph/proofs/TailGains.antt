@@ -7,17 +7,14 @@ use Rattle.fst_heads.specs.{Heads.{patch_of, patches_of}, Keeps.Keeps, declared.
 use Rattle.fst_graph.specs.{Known.Prepared, Membering.member_order, Ready.{prepared_of, change_of, IsReady, IsMemberReady, IsReadyFor, MayBePut}}
 use Rattle.fst_graph.specs.{declared.prepared.Gates.Gates, declared.prepared.Prepared.Prepared as Stored}
 use Rattle.fst_types.proofs.{Finite.{In-from_Contains, Contains-from_In, In-map}, NewChange.IsWithin, SmallStates.only_in}
-use Rattle.fst_heads.proofs.{Graded.depends_under, Touching.touched_overlaps}
+use Rattle.fst_heads.proofs.{Graded.depends_under, Leading.some_injective, Touching.touched_overlaps}
 use Rattle.fst_walks.proofs.Overlapped.{touched_no_gate}
 use Rattle.fst_graph.proofs.{GateSlot.open_not_sealed, Readied.{head_told, ready_member}, Wholes.memory_live}
 use Rattle.fst_types.specs.declared.grade.Grade.TheVariants as grade
 
 -- what is prepared is for the group with those gates
 pub head_same : (o : Option Stored) (n : ℕ) (q : Prepared) (head : ℕ) (p : Stored) (gates : Gates) → option_map (prepared_of n) o ≡ Some q → q.group ≡ Some head → o ≡ Some p → p.gates ≡ Some gates → gates.head ≡ head
-head_same o n q head p gates seen named kept there = some_head gates.head head (sym (ap (option_map (λ (g : Gates). g.head)) there) ∙ head_told o n q head p seen named kept)
-  where
-    some_head : (x y : ℕ) → Some x ≡ Some y → x ≡ y
-    some_head x y e = cc
+head_same o n q head p gates seen named kept there = some_injective gates.head head (sym (ap (option_map (λ (g : Gates). g.head)) there) ∙ head_told o n q head p seen named kept)
 
 pub member_kept : (p : Stored) (gates : Gates) (old : List Patch) (n blocks : ℕ) → p.gates ≡ Some gates → MayBePut old n blocks p → IsMemberReady old n blocks gates p
 member_kept p gates old n blocks there ready = subst (λ g. IsReadyFor g old n blocks p) there ready

@@ -1,14 +1,14 @@
 -- What a new change would depend on, and how it would be graded, once an open gate is sealed: told by the patches as they stand.
-use Rattle.std.proofs.{Common.{◌≡◌, ◌≢◌, ◌⊎◌, ◌↔◌, ℕ, List, [], ◌∷◌, map, Contains, Some, None, refl, sym, ap, subst, ◌∙◌, inl, inr, arith}, lemmas.Bool.cases_eq}
+use Rattle.std.proofs.{Common.{◌≡◌, ◌≢◌, ◌⊎◌, ◌↔◌, ℕ, List, [], ◌∷◌, map, Contains, Some, None, refl, sym, ap, subst, ◌∙◌, inl, inr, arith}}
 use Rattle.fst_types.specs.{Cascade.{Follows, RestsOnDisk, IsCascadeOf}, Closure.{one, join}, Dependencies.{DirectlyOn, DependsOn, Needs, IsLiveNumber, IsOnDisk}, Facts.SparseAreLawful}
 use Rattle.fst_types.specs.{Gates.IsOpenNumber, Gating.sealed, Grades.FollowsRule, Patches.{SealedGate, Patch, IsOn, IsLive, IsOpenGate}, declared.grade.Grade.Grade}
 use Rattle.fst_heads.specs.{Grading.{HasUnder, IsReturning, IsLeading, IsOpenBut, MayBeHard}, Rows.{IsTouched, IsSparseRow}}
-use Rattle.fst_types.proofs.{Alike.back_alike, Cascades.{kind_cases, place_decided, arrived}, Crash.same_number}
-use Rattle.fst_types.proofs.Finite.{Decided, decided_not, decided_both, In-from_Contains, Contains-from_In, search_in, search_list, lowest}
+use Rattle.fst_types.proofs.{Alike.back_alike, Cascades.{kind_cases, arrived}, Crash.same_number}
+use Rattle.fst_types.proofs.Finite.{In-from_Contains, Contains-from_In, search_in, lowest}
 use Rattle.fst_types.proofs.{SealedSame.{Twin, back, forth, depends_same, need_was, need_is, reaches_same}, Sealing.{alike_sealed, sparse_sealed}, SmallStates.only_in}
 use Rattle.fst_heads.proofs.Touching.{touch_parts, touch_whole}
 use Rattle.fst_walks.proofs.{Holding.live_up, NearRow.under_weaker}
-use Rattle.fst_graph.proofs.Wholes.{memory_live, open_lives}
+use Rattle.fst_graph.proofs.{WholeRows.live_or_disk, Wholes.{memory_live, open_lives}}
 use Rattle.fst_types.specs.declared.grade.Grade.TheVariants as grade
 
 module _ (old new : List Patch) (numbers g : ℕ) (H : SparseAreLawful old numbers) (gate : IsOpenNumber old g) (cascade : IsCascadeOf (map (sealed g) old) new) where
@@ -145,17 +145,10 @@ module _ (old new : List Patch) (numbers g : ℕ) (H : SparseAreLawful old numbe
   -- it has a live one below, or rests on disk
   one_below : (p : Patch) → ((q : Patch) × Contains old q × Contains p.dependencies q.number × IsLive q) ⊎ RestsOnDisk old p
   one_below p =
-      elim (search_in (λ n. (q : Patch) × Contains old q × (q.number ≡ n) × IsLive q) p.dependencies live_of) [
-        | inl f ↦ inl (f.2.0, f.2.1, subst (Contains p.dependencies) (sym f.2.2) (Contains-from_In p.dependencies f.0 f.1), f.2.3)
-        | inr m ↦ inr (λ n c q h e. elim (place_decided q.place) [ inl d ↦ d | inr l ↦ absurd (m n (In-from_Contains p.dependencies n c) (q, h, e, l)) ])
+      elim (search_in (IsLiveNumber old) p.dependencies (λ n. elim (live_or_disk old n) [ inl l ↦ inl l | inr disk ↦ inr (λ l. l.live (disk l.patch l.head l.numbered)) ])) [
+        | inl f ↦ inl (f.2.patch, f.2.head, subst (Contains p.dependencies) (sym f.2.numbered) (Contains-from_In p.dependencies f.0 f.1), f.2.live)
+        | inr m ↦ inr (λ n c. elim (live_or_disk old n) [ inl l ↦ absurd (m n (In-from_Contains p.dependencies n c) l) | inr disk ↦ disk ])
       ]
-    where
-      live_of : (n : ℕ) → Decided ((q : Patch) × Contains old q × (q.number ≡ n) × IsLive q)
-      live_of n =
-          elim (search_list (λ q. (q.number ≡ n) × IsLive q) old (λ q. decided_both (cases_eq q.number n) (decided_not (place_decided q.place)))) [
-            | inl f ↦ inl (f.0, f.1, f.2.0, f.2.1)
-            | inr m ↦ inr (λ a. m a.0 a.1 (a.2, a.3))
-          ]
 
   -- a change or an open gate
   abbrev IsRoot : Patch → Type 0

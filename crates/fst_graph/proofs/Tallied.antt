@@ -1,10 +1,10 @@
 -- What stands beside the patches after each call.
-use Rattle.std.proofs.Common.{◌≡◌, ◌<◌, ◌≤◌, ◌==◌, ◌&&◌, ℕ, ◌+◌, Bool, true, false, if◌then◌else◌, List, [], ◌∷◌, ◌++◌, length, map, filter, get_or, set, Contains, refl, sym, ap, subst, ◌∙◌, inl, inr, arith}
+use Rattle.std.proofs.Common.{◌≡◌, ◌<◌, ◌≤◌, ◌==◌, ◌&&◌, ℕ, ◌+◌, false, List, [], ◌∷◌, ◌++◌, length, map, filter, get_or, set, Contains, refl, sym, ap, subst, ◌∙◌, inl, inr, arith}
 use Rattle.std.proofs.Math.Bool.{and-false}
-use Rattle.std.proofs.lemmas.{Bool.{cases_Bool, cases_eq}, List.{length-map, length_push}, List.Sums.{length-filter, count_by-le-length}}
+use Rattle.std.proofs.lemmas.{Bool.{cond_both, cases_Bool, cases_eq}, List.{length-map, length_push}, List.Sums.{length-filter, count_by-le-length}}
 use Rattle.std.specs.List.Sorted.{IsStrictlyIncreasing}
 use Rattle.fst_types.specs.{Dependencies.{DirectlyOn, IsLiveNumber}, Facts.SparseAreLawful, Gates.IsOpenNumber, Gating.gains, Lists.Lists}
-use Rattle.fst_types.specs.{Patches.{Patch, IsOn, OpenGate, SealedGate}, Tests.{is_live, is_on, is_change_at}, Writing.launched}
+use Rattle.fst_types.specs.{Patches.{Patch, IsOn, OpenGate}, Tests.{is_live, is_on, is_change_at}, Writing.launched}
 use Rattle.fst_heads.specs.{Keeps.Tallies, Lists.{Entry, entries_on, is_live_on, AreListed}, Nodes.{Node, patches_in, at_number, linked_to, pending_in, AreLinked, AreGiven, AreDistinct, AreSettled}}
 use Rattle.fst_heads.specs.{Pendings.sums_of, Spreading.{IsSpreadOf, launches, lands, seals}, Standings.{AllStand, ready_on}, declared.standing.Standing.Standing}
 use Rattle.fst_types.proofs.{Crash.same_number, Dropping.filter_in, Finite.{In, In-from_Contains, Contains-from_In}}
@@ -119,13 +119,9 @@ tallies_dropped nodes numbers blocks lists standings queue cap H H' T =
 
 -- a seal and a landing leave numbers, direct dependencies and dependants
 
-rest_links : (t : Bool) (x : Node) → SameLinks x (if t then record x { patch = record x.patch { kind = SealedGate; place = place.Disk } } else record x { patch = record x.patch { kind = SealedGate } })
-rest_links true x = record { number = refl; dependencies = refl; dependants = refl }
-rest_links false x = record { number = refl; dependencies = refl; dependants = refl }
-
 sealed_links : (g : ℕ) (x : Node) → SameLinks x (at_number g seals x)
 sealed_links g x = elim (cases_eq x.patch.number g) [
-  | inl e ↦ subst (SameLinks x) (sym (at_same g seals x e)) (rest_links (x.sums.count == 0) x)
+  | inl e ↦ subst (SameLinks x) (sym (at_same g seals x e)) (cond_both (x.sums.count == 0) _ _ (SameLinks x) (λ t. record { number = refl; dependencies = refl; dependants = refl }) (λ f. record { number = refl; dependencies = refl; dependants = refl }))
   | inr ne ↦ subst (SameLinks x) (sym (at_other g seals x ne)) (record { number = refl; dependencies = refl; dependants = refl })
 ]
 
@@ -137,10 +133,6 @@ landed_links b x = record {
 }
 
 -- a gate is in no list, open or sealed
-rest_off : (t : Bool) (c : ℕ) (x : Node) → is_live_on c (if t then record x { patch = record x.patch { kind = SealedGate; place = place.Disk } } else record x { patch = record x.patch { kind = SealedGate } }).patch ≡ false
-rest_off true c x = refl
-rest_off false c x = and-false (is_live x.patch)
-
 module _ (g : ℕ) where
   entries_sealed : (c : ℕ) (nodes : List Node) → ((x : Node) → In nodes x → x.patch.number ≡ g → x.patch.kind ≡ OpenGate) → entries_on c (patches_in (map (at_number g seals) nodes)) ≡ entries_on c (patches_in nodes)
   entries_sealed c [] gate = refl
@@ -149,7 +141,7 @@ module _ (g : ℕ) where
       elim (cases_eq x.patch.number g) [
         | inl e ↦
             let old : is_live_on c x.patch ≡ false = ap (λ k. is_live x.patch && is_on c k) (gate x (inl refl) e) ∙ and-false (is_live x.patch) in
-            let new : is_live_on c (at_number g seals x).patch ≡ false = ap (λ y. is_live_on c y.patch) (at_same g seals x e) ∙ rest_off (x.sums.count == 0) c x in
+            let new : is_live_on c (at_number g seals x).patch ≡ false = ap (λ y. is_live_on c y.patch) (at_same g seals x e) ∙ cond_both (x.sums.count == 0) _ _ (λ (y : Node). is_live_on c y.patch ≡ false) (λ t. refl) (λ f. and-false (is_live x.patch)) in
             rw (old, new) r
         | inr ne ↦ rw (at_other g seals x ne) (elim (cases_Bool (is_live_on c x.patch)) [ inl t ↦ rw (t, r) refl | inr t ↦ rw (t, r) refl ])
       ]

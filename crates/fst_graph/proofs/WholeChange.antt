@@ -2,20 +2,15 @@
 use Rattle.std.proofs.Common.{◌≡◌, ◌≢◌, ◌⊎◌, ◌↔◌, ℕ, ◌+◌, ◌≤◌, true, List, [], ◌∷◌, ◌++◌, map, Contains, refl, sym, ap, subst, ◌∙◌, inl, inr, arith, ◌==◌, ◌&&◌, ◌<◌, nat_lt, Bool, false, filter}
 use Rattle.std.specs.Prelude.{◌||◌}
 use Rattle.std.proofs.lemmas.{Bool.{and_parts, cases_Bool, or_cases, or_right}, Bool.Decides.nat_tests, List.{length-map, get_or-map}, List.Elements.Contains-push_cases, List.Kept.AllPairs-filter}
-use Rattle.std.specs.List.Sorted.{IsStrictlyIncreasing}
 use Rattle.fst_types.specs.{Closure.{one, join}, Dependencies.{DirectlyOn, DependsOn, IsLiveNumber}, Facts.IsOnDiskWithAll, Gating.gains, Grades.{FollowsRule, IsGradedHard}, Lists.Lists}
-use Rattle.fst_types.specs.{Making.{fresh, ChangeIsMade}, Patches.{Kind, Change, Empty, OpenGate, SealedGate, Patch, IsRising}, Tests.{is_live, is_among}, declared.grade.Grade.Grade}
+use Rattle.fst_types.specs.{Making.{fresh, ChangeIsMade}, Patches.{Kind, Change, Patch, IsRising}, Tests.{is_live, is_among}, declared.grade.Grade.Grade}
 use Rattle.fst_heads.specs.Rows.{touches, IsTouched, IsDependency}
 use Rattle.fst_graph.specs.{Rows.{row_of_kind, whole, IsSparseOf, AreWhole, whole_row}, Sparse.SparseChangeIsMade}
-use Rattle.fst_types.proofs.{Adding.on_disk_with_all_added, Alike.closure_map, Dropping.{filter_in, in_filter}, Finite.{In, In-from_Contains, Contains-from_In, In-append_left, In-append_right, In-map}}
+use Rattle.fst_types.proofs.{Adding.on_disk_with_all_added, Alike.closure_map, Dropping.{filter_in, in_filter}, Finite.{In-from_Contains, Contains-from_In, In-append_left, In-append_right, In-map}}
 use Rattle.fst_types.proofs.{Fits.content_end, GateGains.In-unmap, Heads.heads_changed, Images.content_more, Issuing.{among_in, in_among}, Loosened.loosened}
-use Rattle.fst_heads.proofs.{Forgetting.{live_place_of, not_disk}, Touching.depends_exactly}
+use Rattle.fst_heads.proofs.{Placed.map_alike, Listing.numbers_rise, Forgetting.{live_place_of, not_disk}, Touching.depends_exactly}
 use Rattle.fst_graph.proofs.{WholeRows.named, Wholes.{swap_pushed, is, was, live_number, blocked, need_is, need_was, reaches, returns}}
 use Rattle.fst_types.specs.declared.grade.Grade.TheVariants as grades
-
-map_same : (f g : Patch → Patch) (xs : List Patch) → ((p : Patch) → In xs p → f p ≡ g p) → map f xs ≡ map g xs
-map_same f g [] same = refl
-map_same f g (x ∷ xs) same = let head = same x (inl refl) in let rest = map_same f g xs (λ y h. same y (inr h)) in cc
 
 rule_same : (g : Grade) (P Q : Type 0) → (P ↔ Q) → FollowsRule g P → FollowsRule g Q
 rule_same grades.Hard P Q k r = k.0 r
@@ -24,9 +19,7 @@ rule_same grades.Soft P Q k r = λ q. r (k.1 q)
 -- a row more is that of its number alone
 kind_more : (rows : List (ℕ × List ℕ)) (number : ℕ) (row : List ℕ) (k : Kind) (n : ℕ) (own : List ℕ) → number ≢ n → row_of_kind (rows ++ (number, row) ∷ []) k n own ≡ row_of_kind rows k n own
 kind_more rows number row (Change block at len grade) n own other = content_more rows number n row other
-kind_more rows number row Empty n own other = refl
-kind_more rows number row OpenGate n own other = refl
-kind_more rows number row SealedGate n own other = refl
+kind_more rows number row k n own other = refl
 
 -- what a change of those bytes touches does not depend on rows
 pub touched_whole : (rows : List (ℕ × List ℕ)) (heads : List Patch) (b at len n : ℕ) → IsTouched heads b at len n ↔ IsTouched (map (whole rows) heads) b at len n
@@ -75,7 +68,7 @@ module _ (rows : List (ℕ × List ℕ)) (T : List Patch) (numbers : ℕ) (W : A
 
   later_is : map (whole more) new ≡ F ++ made ∷ []
   later_is =
-      let old = map_same (whole more) (whole rows) T (λ p h. old_row p (Contains-from_In T p h)) in
+      let old = map_alike (whole more) (whole rows) T (λ p h. old_row p (Contains-from_In T p h)) in
       let pushed = ap (map (whole more)) s.added ∙ swap_pushed more T kept in
       let same = new_row in
       cc
@@ -165,15 +158,6 @@ module _ (rows : List (ℕ × List ℕ)) (T : List Patch) (numbers : ℕ) (W : A
 
   pub change_over : AreWhole more new number
   change_over = record { lawful = heads_changed F (map (whole more) new) numbers b at len after number grade change_is W.lawful; sparse = sparse_over }
-
-numbers_rise : (ps : List Patch) → IsRising ps → IsStrictlyIncreasing (map (λ p. p.number) ps)
-numbers_rise [] pairs k lt = absurd (omega (arith, lt))
-numbers_rise (p ∷ ps) pairs k lt =
-    let long = length-map (p ∷ ps) (λ (q : Patch). q.number) in
-    let r = pairs k (k + 1) p (omega arith) (omega (arith, lt, long)) in
-    let e = get_or-map (λ (q : Patch). q.number) (p ∷ ps) k p 0 (omega (arith, lt, long)) in
-    let f = get_or-map (λ (q : Patch). q.number) (p ∷ ps) (k + 1) p 0 (omega (arith, lt, long)) in
-    omega (arith, r, e, f)
 
 -- patches stand in the same order with whole rows and with sparse ones
 pub rising_whole : (rows : List (ℕ × List ℕ)) (heads : List Patch) → IsRising (map (whole rows) heads) → IsRising heads

@@ -1,7 +1,7 @@
 -- A new change of a group with a sparse row is one with its whole row; and what it would be is foretold for both.
 use Rattle.std.proofs.{Common.{◌≡◌, ℕ, ◌==◌, List, [], ◌∷◌, ◌++◌, map, Contains, find, unwrap_or, option_map, refl, sym, ap, subst, ◌∙◌, inl, inr}, lemmas.Bool.cases_Bool}
 use Rattle.fst_types.specs.{Bytes.content_of, Cascade.IsCascadeOf, Events.MadeChange, Facts.HeadsAreLawful, Gating.{sealed, GateIsSealed}, Grouping.{GateIsSealedIfOpen, MemberIsMade}}
-use Rattle.fst_types.specs.{Making.ChangeIsMade, Patches.{Kind, Change, Empty, OpenGate, SealedGate, Patch, IsRising}, declared.grade.Grade.Grade}
+use Rattle.fst_types.specs.{Making.ChangeIsMade, Patches.{Kind, Change, Patch, IsRising}, declared.grade.Grade.Grade}
 use Rattle.fst_graph.specs.{Rows.{row_of_kind, whole, whole_row, AreWhole, with_row}, Sparse.{SparseChangeIsMade, SparseMemberIsMade}}
 use Rattle.fst_types.proofs.{Crash.same_number, Finite.{In, Contains-from_In}, Loosened.loosened, OneChange.changes_fixed, OneList.cascade_same, Sealing.heads_sealed}
 use Rattle.fst_heads.proofs.Slots.{find_patch}
@@ -21,9 +21,7 @@ own_under heads p rising h = own_found heads p.number ∙ rw (find_patch heads p
 
 own_kind : (heads : List Patch) (rows : List (ℕ × List ℕ)) (k : Kind) (n : ℕ) (own : List ℕ) → content_of (own_rows heads) n ≡ own → row_of_kind (own_rows heads) k n (row_of_kind rows k n own) ≡ own
 own_kind heads rows (Change block at len grade) n own e = e
-own_kind heads rows Empty n own e = refl
-own_kind heads rows OpenGate n own e = refl
-own_kind heads rows SealedGate n own e = refl
+own_kind heads rows k n own e = refl
 
 -- they lead back from whole rows
 narrowed : (rows : List (ℕ × List ℕ)) (heads : List Patch) → IsRising heads → map (whole (own_rows heads)) (map (whole rows) heads) ≡ heads

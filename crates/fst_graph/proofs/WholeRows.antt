@@ -1,15 +1,15 @@
 -- Each step over patches with sparse rows is one over the same with whole rows, of which these still keep a part.
 use Rattle.std.proofs.Common.{Bool, true, false, if◌then◌else◌, ◌≡◌, ◌⊎◌, ◌↔◌, ℕ, ◌==◌, ◌+◌, ◌≤◌, Some, List, [], ◌∷◌, ◌++◌, map, filter, Contains, refl, sym, ap, subst, ◌∙◌, inl, inr, arith}
-use Rattle.std.proofs.lemmas.{Bool.{cases_Bool, cases_eq, eqb-true}, List.Elements.Contains-append_left}
+use Rattle.std.proofs.lemmas.{Bool.{cases_Bool, eqb-true}, List.Elements.Contains-append_left}
 use Rattle.fst_types.specs.{Cascade.IsCascadeOf, Closure.{one, join}, Dependencies.{DirectlyOn, DependsOn, IsLiveNumber, IsOnDisk}, Facts.{HeadsAreLawful, IsOnDiskWithAll}}
 use Rattle.fst_types.specs.{Forgetting.DiskIsForgotten, Gates.IsOpenNumber, Gating.{gains, sealed, GateGains, GateIsSealed}, Grouping.{GateIsSealedIfOpen, GroupIsMade}}
 use Rattle.fst_types.specs.{Making.{fresh, EmptyIsMade, GateIsMade}, Order.NamesAbove, Patches.{Empty, OpenGate, SealedGate, Patch, IsLive, block_of_kind}}
 use Rattle.fst_types.specs.{Tests.{is_at, is_live, is_among, is_change_at}, Writable.{IsWritable, IsWritableSet}, Writing.{launched, landed, WriteIsLaunched, WriteIsLanded}, declared.place.Place.Place}
 use Rattle.fst_graph.specs.Rows.{whole, AreWhole}
-use Rattle.fst_types.proofs.{Cascades.place_decided, Crash.same_number, Dropping.{filter_in, in_filter, heads_dropped}, Finite.{decided_both, decided_not, In-from_Contains, Contains-from_In, search_list}}
+use Rattle.fst_types.proofs.{Crash.same_number, Dropping.{filter_in, in_filter, heads_dropped}, Finite.{In-from_Contains, Contains-from_In}}
 use Rattle.fst_types.proofs.Heads.{heads_gated, heads_emptied, heads_depended}
 use Rattle.fst_types.proofs.{Heirs.{NoneShut, Heirs, heirs_pushed, heirs_cascade, heirs_gained, heirs_sealed, heirs_launched, heirs_landed, passes}, Issuing.heads_launched, Landing.heads_landed}
-use Rattle.fst_types.proofs.Sealing.{heads_sealed}
+use Rattle.fst_types.proofs.{Numbers.live_cases, Sealing.heads_sealed}
 use Rattle.fst_heads.proofs.{CountsAs.count_map, Forgetting.{live_place_of, not_disk}}
 use Rattle.fst_walks.proofs.Holding.{live_up}
 use Rattle.fst_graph.proofs.Wholes.{whole_open, open_other, IsKept, kept_self, AreKept, kept_then, kept_map, kept_cascade, kept_pushed, sparse_kept, cascade_whole, swap_landed, swap_launched, swap_sealed, swap_gains, swap_filter, swap_pushed, open_lives, is, was, live_number, open_number, depends_up, depends_down}
@@ -17,11 +17,7 @@ use Rattle.fst_types.specs.declared.place.Place.TheVariants as place
 
 -- where no patch with the number is live, it is on disk
 pub live_or_disk : (heads : List Patch) (n : ℕ) → IsLiveNumber heads n ⊎ IsOnDisk heads n
-live_or_disk heads n =
-    elim (search_list (λ p. (p.number ≡ n) × IsLive p) heads (λ p. decided_both (cases_eq p.number n) (decided_not (place_decided p.place)))) [
-      | inl f ↦ inl (record { patch = f.0; head = f.1; numbered = f.2.0; live = f.2.1 })
-      | inr m ↦ inr (λ p h e. elim (place_decided p.place) [ inl d ↦ d | inr l ↦ absurd (m p h (e, l)) ])
-    ]
+live_or_disk heads n = elim (live_cases heads n) [ inl l ↦ inl (record { patch = l.0; head = l.1; numbered = l.2; live = l.3 }) | inr disk ↦ inr disk.0 ]
 
 -- what is live later was live
 pub lived : (Shut : ℕ → Type 0) (old new : List Patch) (numbers later : ℕ) → HeadsAreLawful old numbers → HeadsAreLawful new later → Heirs Shut numbers old new → (n : ℕ) → n ≤ numbers → IsLiveNumber new n → IsLiveNumber old n

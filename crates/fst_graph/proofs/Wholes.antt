@@ -3,7 +3,7 @@ use Rattle.std.proofs.Common.{◌≡◌, ◌↔◌, ℕ, List, map, Contains, re
 use Rattle.std.proofs.lemmas.{Bool.{cases_Bool, eqb-true}, List.Elements.Contains-append_cases}
 use Rattle.fst_types.specs.{Cascade.{Follows, RestsOnDisk, placed_as, unsettled, IsCascadeOf}, Closure.{one, join}, Dependencies.{DirectlyOn, DependsOn, Needs, IsBlocked, IsLiveNumber, IsOnDisk}}
 use Rattle.fst_types.specs.{Facts.IsOnDiskWithAll, Gates.{IsOpenNumber, IsSealedNumber}, Gating.{gains, sealed}, Grades.{HasEdge, Reaches, Returns}}
-use Rattle.fst_types.specs.{Patches.{Patch, IsLive, IsOpenGate, grade_of_kind, Kind, Change, Empty, OpenGate, SealedGate, IsOn, block_of_kind}, Tests.{is_live, is_among, is_change_at}}
+use Rattle.fst_types.specs.{Patches.{Patch, IsLive, IsOpenGate, grade_of_kind, Kind, Change, OpenGate, SealedGate, IsOn, block_of_kind}, Tests.{is_live, is_among, is_change_at}}
 use Rattle.fst_types.specs.{Writable.{IsInMemoryOn, InWritableSet}, Writing.{launched, landed}, declared.place.Place.Place}
 use Rattle.fst_graph.specs.Rows.{whole, IsSparseOf, row_of_kind}
 use Rattle.fst_types.proofs.{Alike.closure_map, Cascades.{place_decided, Settled, settled_back, settled_on, no_follower_on}}
@@ -263,9 +263,7 @@ module _ (rows : List (ℕ × List ℕ)) where
   -- a patch that is no change has its own row
   own_row : (k : Kind) (n : ℕ) (own : List ℕ) → ((b : ℕ) → block_of_kind k ≡ Some b → ⊥) → row_of_kind rows k n own ≡ own
   own_row (Change block at len grade) n own off = absurd (off block refl)
-  own_row Empty n own off = refl
-  own_row OpenGate n own off = refl
-  own_row SealedGate n own off = refl
+  own_row k n own off = refl
 
   pub whole_other : (p : Patch) → ((b : ℕ) → IsOn p b → ⊥) → (whole rows p).dependencies ≡ p.dependencies
   whole_other p off = own_row p.kind p.number p.dependencies off
@@ -284,9 +282,7 @@ module _ (rows : List (ℕ × List ℕ)) where
     where
       change_or_not : (k : Kind) → ((b : ℕ) × (block_of_kind k ≡ Some b)) ⊎ ((b : ℕ) → block_of_kind k ≡ Some b → ⊥)
       change_or_not (Change block at len grade) = inl (block, refl)
-      change_or_not Empty = inr (λ b e. cc)
-      change_or_not OpenGate = inr (λ b e. cc)
-      change_or_not SealedGate = inr (λ b e. cc)
+      change_or_not k = inr (λ b e. cc)
 
       before : (p : Patch) (b : ℕ) → Contains new p → IsOn p b → (o : Patch) × Contains old o × IsKept o p
       before p b h on = elim (K.back p h) [ inl off ↦ absurd (off b on) | inr o ↦ o ]
@@ -309,9 +305,7 @@ module _ (rows : List (ℕ × List ℕ)) where
   -- followers settle as they do with sparse rows
   settle_kind : (k : Kind) (n : ℕ) (at : Place) (own : List ℕ) → let p : Patch = record { number = n; kind = k; place = at; dependencies = own } in placed_as k (whole rows p) ≡ whole rows (placed_as k p)
   settle_kind (Change block from len grade) n at own = refl
-  settle_kind Empty n at own = refl
-  settle_kind OpenGate n at own = refl
-  settle_kind SealedGate n at own = refl
+  settle_kind k n at own = refl
 
   follower_other : (p : Patch) → Follows p.kind → (b : ℕ) → IsOn p b → ⊥
   follower_other p f b on = no_follower_on p.kind b on f
@@ -337,13 +331,7 @@ module _ (rows : List (ℕ × List ℕ)) where
   swap_launched chosen heads = map_swap (launched chosen) (whole rows) heads (λ p h. elim (cases_Bool (is_among chosen p.number)) [ inl t ↦ rw t refl | inr f ↦ rw f refl ])
 
   pub open_other : (p : Patch) → p.kind ≡ OpenGate → (b : ℕ) → IsOn p b → ⊥
-  open_other p e b on = gate_off p.kind e on
-    where
-      gate_off : (k : Kind) → k ≡ OpenGate → block_of_kind k ≡ Some b → ⊥
-      gate_off (Change block at len grade) e on = cc
-      gate_off Empty e on = cc
-      gate_off OpenGate e on = cc
-      gate_off SealedGate e on = cc
+  open_other p e b on = let none = subst (λ (k : Kind). block_of_kind k ≡ Some b) e on in cc
 
   pub whole_open : (p : Patch) → p.kind ≡ OpenGate → (whole rows p).dependencies ≡ p.dependencies
   whole_open p e = whole_other p (open_other p e)

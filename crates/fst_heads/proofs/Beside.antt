@@ -1,6 +1,6 @@
 -- What calls leave of the count of patches that are not on disk.
-use Rattle.fst_heads.proofs.Basics.{◌≡◌, ℕ, ◌+◌, ◌-◌, ◌≤◌, ◌==◌, Bool, true, false, cond, if◌then◌else◌, List, [], ◌∷◌, ◌++◌, map, filter, length, count_by, refl, sym, ap, subst, ◌∙◌, inl, inr, arith, cases_Bool, length-map, count_by-le-length, rules, suc, ◌<◌, not, AllPairs, cases_eq, false≢true, common_steps}
-use Rattle.fst_heads.proofs.Patches.{Place, gains, Patch, is_at, is_live, SealedGate, In, In-from_Contains, Contains-from_In}
+use Rattle.fst_heads.proofs.Basics.{cond_both, ◌≡◌, ℕ, ◌+◌, ◌-◌, ◌≤◌, ◌==◌, Bool, true, false, cond, List, [], ◌∷◌, ◌++◌, map, filter, length, count_by, refl, sym, ap, subst, ◌∙◌, inl, inr, arith, cases_Bool, length-map, count_by-le-length, rules, suc, ◌<◌, not, AllPairs, cases_eq, false≢true, common_steps}
+use Rattle.fst_heads.proofs.Patches.{Place, gains, Patch, is_at, is_live, In, In-from_Contains, Contains-from_In}
 use Rattle.fst_heads.proofs.Words.{Head, patch_of, patches_of, Beside, Node, node_of, nodes_of, at_number, AreSettled, is_waiting, seals, Pending, patches_in, is_pending, Sinks, is_told, now, settles, heard}
 use Rattle.fst_heads.proofs.{AtNumber.{patches_in_nodes, at_same, at_other}, CountsAs.{count_append, count_cons, count_kept, count_map}}
 use Rattle.fst_heads.proofs.Forgetting.{live_place_of}
@@ -99,13 +99,9 @@ all_live (h ∷ hs) same =
       | inr e ↦ let none = ap (λ t. one_if t) e in absurd (omega (arith, same, first, none, count_by-le-length is_live (patches_of hs), length-map hs patch_of))
     ]
 
-sealed_rest : (t : Bool) (x : Node) → (if t then record x { patch = record x.patch { kind = SealedGate; place = place.Disk } } else record x { patch = record x.patch { kind = SealedGate } }).pending ≡ x.pending
-sealed_rest true x = refl
-sealed_rest false x = refl
-
 -- a seal tells nobody by itself
 pub sealed_told : (g : ℕ) (x : Node) → (at_number g seals x).pending ≡ x.pending
-sealed_told g x = at_number_told g seals x (sealed_rest (x.sums.count == 0) x)
+sealed_told g x = at_number_told g seals x (cond_both (x.sums.count == 0) _ _ (λ (y : Node). y.pending ≡ x.pending) (λ t. refl) (λ f. refl))
 
 module _ (heads mid new : List Head) (f : Node → Node) (blocks live landed : ℕ) (reached : List Bool) (made : nodes_of mid ≡ map f (nodes_of heads)) (told : (x : Node) → (f x).pending ≡ x.pending)
     (old_settled : AreSettled (nodes_of heads) blocks) (new_settled : AreSettled (nodes_of new) blocks) where

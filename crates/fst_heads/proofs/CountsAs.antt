@@ -2,7 +2,6 @@
 use Rattle.fst_heads.proofs.Basics.{◌≡◌, ◌≢◌, ℕ, ◌+◌, ◌<◌, Bool, true, false, cond, List, [], ◌∷◌, ◌++◌, map, filter, count_by, set, get_or, refl, sym, ap, subst, ◌∙◌, inl, inr, arith, get_or-set_same, get_or-set_other, length-set, cases_Bool, cases_eq, and_parts, and_right, rules, eqb-true, ne_eqb}
 use Rattle.fst_heads.proofs.{Basics.{sum_by-cons, sum_by-append}, Patches.{Place, Kind, Change, is_at, is_on, is_change_at, In}}
 use Rattle.fst_heads.proofs.Words.{Standing, Node, rested, AllStand, is_ready_on, is_held_on, is_flying_on, standing_of}
-use Rattle.fst_heads.proofs.Patches.place
 
 -- y counts for block b as x does
 pub record CountsAs (b : ℕ) (y x : Node) : Type 0 where

@@ -7,7 +7,6 @@ use Rattle.std.proofs.lemmas.Grind.{get_or-set_at}
 use Rattle.fst_types.specs.Closure.{one, join}
 use Rattle.fst_types.proofs.{Depending.{Grown, grown}, Alike.{Alike, at_same, len_same, on_back, on_forth, back_alike, forth_alike, closure_map}}
 use Rattle.fst_heads.proofs.Patches.{Grade, DirectlyOn, DependsOn, IsLiveNumber, IsOnDiskWithAll, gains, fresh, Patch, Change, IsOn, at_of, len_of, IsLive, Rising as IsRising, block_of_kind, is_live, filter_in, in_filter, same_number, In-from_Contains, Contains-from_In, In-map, In-unmap}
-use Rattle.fst_heads.proofs.Patches.place
 
 -- each live change of the new heads was one of the old ones, and what is over a byte, and is or depends on what is live there, still does
 module _ (old new : List Patch)
@@ -74,7 +73,7 @@ module _ (old : List Patch) (g : ℕ) (names : List ℕ) where
   abbrev gained : List Patch
   gained = map (gains g names) old
 
-  was_gained : (p : Patch) → Contains gained p → (o : Patch) × Contains old o × Grown g names o p
+  pub was_gained : (p : Patch) → Contains gained p → (o : Patch) × Contains old o × Grown g names o p
   was_gained p h =
       let r = In-unmap (gains g names) old p (In-from_Contains gained p h) in
       (r.0, Contains-from_In old r.0 r.1, subst (Grown g names r.0) r.2 (grown g names r.0))

@@ -1,5 +1,5 @@
 -- Loops along a row that change the head of each of its numbers.
-use Rattle.fst_heads.proofs.Basics.{◌≡◌, ◌≢◌, ◌⊎◌, ℕ, zero, suc, ◌+◌, ◌<◌, ◌≤◌, Bool, true, false, List, [], ◌∷◌, ◌++◌, take, length, map, get_or, set, Contains, if◌then◌else◌, refl, sym, ap, subst, ◌∙◌, inl, inr, arith, get_or-set_same, get_or-set_other, IsStrictlyIncreasing, or-true, AllPairs, length-set}
+use Rattle.fst_heads.proofs.Basics.{cond_both, map-id, ◌≡◌, ◌≢◌, ◌⊎◌, ℕ, zero, suc, ◌+◌, ◌<◌, ◌≤◌, true, false, List, [], ◌∷◌, ◌++◌, take, length, map, get_or, set, Contains, refl, sym, ap, subst, ◌∙◌, inl, inr, arith, get_or-set_same, get_or-set_other, IsStrictlyIncreasing, or-true, AllPairs, length-set}
 use Rattle.fst_heads.proofs.{Basics.{cases_eq, eq-eqb, ne_eqb, take_more, AllPairs-from_increasing, HasRoomFor}, Patches.{is_among, In}}
 use Rattle.fst_heads.proofs.Words.{Head, IsRising, HasSlot, HasNone, Node, node_of, nodes_of, at_number, linked_to, HasRoomAbove}
 use Rattle.fst_heads.proofs.{AtNumber.{at_other, at_same}, Slots.{any_default, slot_unique, rising_map, rising_back}}
@@ -11,20 +11,12 @@ rising_as f keeps new old e rising =
     let after = rising_map f (nodes_of old) (λ x. x.patch.number) (λ x. x.patch.number) keeps before in
     rising_back node_of new (λ h. h.number) (λ x. x.patch.number) (λ h. refl) (subst (λ ns. AllPairs (λ x y. x.patch.number < y.patch.number) ns) (sym e) after)
 
-map_self : (xs : List Node) → map (λ x. x) xs ≡ xs
-map_self [] = refl
-map_self (x ∷ xs) = ap (λ ys. x ∷ ys) (map_self xs)
-
 pub rising_same : (new old : List Head) → nodes_of new ≡ nodes_of old → IsRising old → IsRising new
-rising_same new old e rising = rising_as (λ x. x) (λ x. refl) new old (e ∙ sym (map_self (nodes_of old))) rising
-
-linked_either : (b : Bool) (n : ℕ) (x : Node) → (if b then record x { dependants = x.dependants ++ n ∷ [] } else x).patch ≡ x.patch
-linked_either true n x = refl
-linked_either false n x = refl
+rising_same new old e rising = rising_as (λ x. x) (λ x. refl) new old (e ∙ sym (map-id (nodes_of old))) rising
 
 -- a link leaves the patch
 pub linked_patch : (row : List ℕ) (n : ℕ) (x : Node) → (linked_to row n x).patch ≡ x.patch
-linked_patch row n x = linked_either (is_among row x.patch.number) n x
+linked_patch row n x = cond_both (is_among row x.patch.number) _ _ (λ (y : Node). y.patch ≡ x.patch) (λ t. refl) (λ f. refl)
 
 pub rising_linked : (new old : List Head) (row : List ℕ) (n : ℕ) → nodes_of new ≡ map (linked_to row n) (nodes_of old) → IsRising old → IsRising new
 rising_linked new old row n e rising = rising_as (linked_to row n) (λ x. ap (λ p. p.number) (linked_patch row n x)) new old e rising

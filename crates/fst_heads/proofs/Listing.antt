@@ -273,7 +273,7 @@ and_on false t e = refl
 abbrev IsBelow : Patch → Patch → Type 0
 IsBelow p q = p.number < q.number
 
-numbers_rise : (ps : List Patch) → AllPairs IsBelow ps → IsStrictlyIncreasing (map (λ p. p.number) ps)
+pub numbers_rise : (ps : List Patch) → AllPairs IsBelow ps → IsStrictlyIncreasing (map (λ p. p.number) ps)
 numbers_rise [] pairs k lt = absurd (omega (arith, lt))
 numbers_rise (p ∷ ps) pairs k lt =
     let long = length-map (p ∷ ps) (λ (q : Patch). q.number) in

@@ -1,7 +1,6 @@
 -- What is pending of the patch with a number, and which patches are told.
 use Rattle.fst_heads.proofs.Basics.{◌≡◌, ℕ, true, List, Contains, sym, ◌∙◌, arith}
 use Rattle.fst_heads.proofs.{Words.{Pending, Node, pending_in, AreSettled, joined, of_kind, sums_of, now, is_told}, Sums.joined_exact}
-use Rattle.fst_heads.proofs.Words.pending
 pub use Rattle.fst_heads.proofs.Turning.{same_pending as pending_same}
 
 pub told_now : (x : Node) → is_told x ≡ true → now x ≡ x.pending

@@ -1,5 +1,5 @@
 -- What stands beside the patches where some are launched or forgotten.
-use Rattle.fst_heads.proofs.Basics.{◌≡◌, ◌≢◌, ℕ, Bool, true, false, cond, List, [], ◌∷◌, map, filter, AllPairs, Contains, refl, sym, ap, subst, ◌∙◌, inl, inr, cases_Bool, rules, arith, ◌==◌, ◌||◌, ◌++◌, if◌then◌else◌, get_or, set, cases_eq, eq-eqb, ne_eqb}
+use Rattle.fst_heads.proofs.Basics.{or-false, ◌≡◌, ◌≢◌, ℕ, Bool, true, false, cond, List, [], ◌∷◌, map, filter, AllPairs, Contains, refl, sym, ap, subst, ◌∙◌, inl, inr, cases_Bool, rules, arith, ◌==◌, ◌||◌, ◌++◌, if◌then◌else◌, get_or, set, cases_eq, eq-eqb, ne_eqb}
 use Rattle.fst_heads.proofs.Patches.{Patch, IsLiveNumber, HasOnePlaceEach, is_live, is_among, launched, same_number, In, In-from_Contains, Contains-from_In, In-unmap, among_in, unsettled, Settled, AllSettled, more, all_settled, In-map}
 use Rattle.fst_heads.proofs.Words.{launches, entry, entries_on, is_live_on, Node, patches_in, times, AreLinked, AreGiven, AreDistinct, IsSpreadOf, unspread, Head, IsRising, HasSlot, HasNone, node_of, nodes_of, at_number}
 use Rattle.fst_heads.proofs.{Forgetting.live_place_of, AtNumber.{at_none, at_slot, at_same, at_other}, Linking.{map_twice, rising_as}}
@@ -158,16 +158,16 @@ flies x = record x { patch = record x.patch { place = place.Flight } }
 one_launched : (n : ℕ) (x : Node) → at_number n flies x ≡ launches (n ∷ []) x
 one_launched n x = grind (arith, cases_eq, at_same, eq-eqb, at_other, ne_eqb)
 
-map_alike : (f g : Node → Node) → ((x : Node) → f x ≡ g x) → (xs : List Node) → map f xs ≡ map g xs
-map_alike f g same [] = refl
-map_alike f g same (x ∷ xs) = let first = same x in let rest = map_alike f g same xs in cc
+pub map_alike : {X Y : Type 0} (f g : X → Y) (xs : List X) → ((x : X) → In xs x → f x ≡ g x) → map f xs ≡ map g xs
+map_alike f g [] same = refl
+map_alike f g (x ∷ xs) same = let first = same x (inl refl) in let rest = map_alike f g xs (λ y h. same y (inr h)) in cc
 
 pub launched_none : (heads : List Head) (n : ℕ) → HasNone heads n → nodes_of heads ≡ map (launches (n ∷ [])) (nodes_of heads)
-launched_none heads n none = at_none heads n flies none ∙ map_alike (at_number n flies) (launches (n ∷ [])) (one_launched n) (nodes_of heads)
+launched_none heads n none = at_none heads n flies none ∙ map_alike (at_number n flies) (launches (n ∷ [])) (nodes_of heads) (λ x _. one_launched n x)
 
 pub launched_slot : (heads : List Head) (n s : ℕ) (y d : Head) → IsRising heads → HasSlot heads n s → node_of y ≡ flies (node_of (get_or heads s d))
     → nodes_of (set heads s y) ≡ map (launches (n ∷ [])) (nodes_of heads)
-launched_slot heads n s y d rising slot e = at_slot heads n s flies y d rising slot e ∙ map_alike (at_number n flies) (launches (n ∷ [])) (one_launched n) (nodes_of heads)
+launched_slot heads n s y d rising slot e = at_slot heads n s flies y d rising slot e ∙ map_alike (at_number n flies) (launches (n ∷ [])) (nodes_of heads) (λ x _. one_launched n x)
 
 -- of no number none
 pub launched_start : (nodes : List Node) → nodes ≡ map (launches []) nodes
@@ -181,8 +181,7 @@ among_append (k ∷ ks) n m = elim (cases_Bool (k == m)) [ inl t ↦ rw t refl |
 launched_either : (a b : Bool) (x : Node) → (if b || false then flies (if a then flies x else x) else (if a then flies x else x)) ≡ (if a || b then flies x else x)
 launched_either true true x = refl
 launched_either true false x = refl
-launched_either false true x = refl
-launched_either false false x = refl
+launched_either false b x = rw (or-false b) refl
 
 -- a launch as a choice between two nodes
 chosen : (a : Bool) (x : Node) → record x { patch = if a then record x.patch { place = place.Flight } else x.patch } ≡ (if a then flies x else x)

@@ -1,5 +1,5 @@
 -- A number is taken from the queue of a cascade: its head is settled, and its dependants are told.
-use Rattle.fst_heads.proofs.Basics.{◌≡◌, ◌≢◌, ◌+◌, ◌<◌, ◌≤◌, ◌==◌, ℕ, Bool, true, false, if◌then◌else◌, List, [], ◌∷◌, ◌++◌, length, map, get_or, Contains, AllPairs, length-append, refl, sym, ap, subst, ◌∙◌, arith, length-map, get_or-map}
+use Rattle.fst_heads.proofs.Basics.{cond_both, ◌≡◌, ◌≢◌, ◌+◌, ◌<◌, ◌≤◌, ◌==◌, ℕ, false, List, [], ◌∷◌, ◌++◌, length, map, get_or, Contains, AllPairs, length-append, refl, sym, ap, subst, ◌∙◌, arith, length-map, get_or-map}
 use Rattle.fst_heads.proofs.Patches.{IsCascadeOf}
 use Rattle.fst_heads.proofs.Words.{Head, Pending, IsRising, patches_of, HasSlot, Node, node_of, nodes_of, patches_in, at_number, AreLinked, AreDistinct, Fits, max_block, Spreading, IsSpreadOf, CanHear, now, is_told, settles, heard, woken, heights}
 use Rattle.fst_heads.proofs.{AtNumber.{at_same, patches_in_nodes}, Linking.rising_as, Slots.some_element, Slotted.{node_in_slot, node_is, rising_slots}}
@@ -7,14 +7,9 @@ use Rattle.fst_heads.proofs.{Starting.cascaded_spread, Carried.{linked_spread, d
 use Rattle.fst_heads.proofs.Telling.{spreading_fits, queue_fits, last_waits, live, can_hear, spreads_on, spread_of, lower}
 use Rattle.fst_heads.proofs.Words.pending
 
--- what is settled keeps its number
-settles_either : (b : Bool) (x : Node) → (if b then settles x else x).patch.number ≡ x.patch.number
-settles_either true x = refl
-settles_either false x = refl
-
 -- the heads rise where one was settled
 pub rising_settled : (q : ℕ) (old new : List Head) → nodes_of new ≡ map (at_number q settles) (nodes_of old) → IsRising old → IsRising new
-rising_settled q old new e rising = rising_as (at_number q settles) (λ x. settles_either (x.patch.number == q) x) new old e rising
+rising_settled q old new e rising = rising_as (at_number q settles) (λ x. cond_both (x.patch.number == q) _ _ (λ (y : Node). y.patch.number ≡ x.patch.number) (λ t. refl) (λ f. refl)) new old e rising
 
 module _ (heads : List Head) (blocks : ℕ) (queue : List ℕ) (q s : ℕ) (narrow : blocks ≤ max_block)
     (S : Spreading (nodes_of heads) blocks (queue ++ q ∷ [])) (linked : AreLinked (nodes_of heads)) (distinct : AreDistinct (nodes_of heads)) (found : HasSlot heads q s) where

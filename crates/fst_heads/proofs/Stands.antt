@@ -62,13 +62,10 @@ stand_landed nodes blocks b standings d lt S = stand_set (map (lands b) nodes) n
     none_flies : (x : Node) → is_flying_on b (lands b x) ≡ false
     none_flies x = elim (cases_Bool (is_flying_on b x)) [ inl e ↦ rw e refl | inr e ↦ rw e e ]
 
-    at_b : get_or standings b d ≡ standing_of nodes b
-    at_b = grind arith
-
     own : record { ready = (get_or standings b d).ready; held = (get_or standings b d).held; flying = 0 } ≡ standing_of (map (lands b) nodes) b
     own = standing_same _ _ _ _ _ _
-        (ap (λ (s : Standing). s.ready) at_b ∙ sym (count_map (is_ready_on b) (is_ready_on b) (lands b) nodes (λ x i. ready_stays x)))
-        (ap (λ (s : Standing). s.held) at_b ∙ sym (count_map (is_held_on b) (is_held_on b) (lands b) nodes (λ x i. held_stays x)))
+        (ap (λ (s : Standing). s.ready) (S.each b d lt) ∙ sym (count_map (is_ready_on b) (is_ready_on b) (lands b) nodes (λ x i. ready_stays x)))
+        (ap (λ (s : Standing). s.held) (S.each b d lt) ∙ sym (count_map (is_held_on b) (is_held_on b) (lands b) nodes (λ x i. held_stays x)))
         (sym (count_map (is_flying_on b) (λ x. false) (lands b) nodes (λ x i. none_flies x) ∙ count_nothing (λ x. false) nodes (λ x i. refl)))
 
 -- one number, one node
@@ -118,17 +115,14 @@ stand_launched nodes numbers blocks b standings d H lt rest S = stand_set (map (
     rising : AllPairs (λ x y. x.patch.number < y.patch.number) nodes
     rising = grind (arith, rising_in)
 
-    at_b : get_or standings b d ≡ standing_of nodes b
-    at_b = grind arith
-
     resting : (x : Node) → In nodes x → is_flying_on b x ≡ false
-    resting x i = count_none (is_flying_on b) nodes (sym (ap (λ (s : Standing). s.flying) at_b) ∙ rest) x i
+    resting x i = count_none (is_flying_on b) nodes (sym (ap (λ (s : Standing). s.flying) (S.each b d lt)) ∙ rest) x i
 
     own : record { ready = 0; held = (get_or standings b d).held; flying = (get_or standings b d).ready } ≡ standing_of (map (launches (ready_on b nodes)) nodes) b
     own = standing_same _ _ _ _ _ _
         (sym (count_map (is_ready_on b) (λ x. false) (launches (ready_on b nodes)) nodes (λ x i. none_ready nodes rising b x i) ∙ count_nothing (λ x. false) nodes (λ x i. refl)))
-        (ap (λ (s : Standing). s.held) at_b ∙ sym (count_map (is_held_on b) (is_held_on b) (launches (ready_on b nodes)) nodes (λ x i. held_as nodes rising b x i)))
-        (ap (λ (s : Standing). s.ready) at_b ∙ sym (count_map (is_flying_on b) (is_ready_on b) (launches (ready_on b nodes)) nodes (λ x i. flies_as nodes rising b x i (resting x i))))
+        (ap (λ (s : Standing). s.held) (S.each b d lt) ∙ sym (count_map (is_held_on b) (is_held_on b) (launches (ready_on b nodes)) nodes (λ x i. held_as nodes rising b x i)))
+        (ap (λ (s : Standing). s.ready) (S.each b d lt) ∙ sym (count_map (is_flying_on b) (is_ready_on b) (launches (ready_on b nodes)) nodes (λ x i. flies_as nodes rising b x i (resting x i))))
 
 -- what is dropped was on disk, and counts for no block
 pub stand_dropped : (nodes : List Node) (blocks : ℕ) (standings : List Standing) → AllStand nodes blocks standings → AllStand (filter (λ x. is_live x.patch) nodes) blocks standings

@@ -1,11 +1,11 @@
 -- How a spread begins, and what it leaves.
 use Rattle.fst_heads.proofs.Basics.{◌≡◌, ◌≢◌, ◌⊎◌, ◌↔◌, ◌==◌, ◌&&◌, ◌<◌, ℕ, Bool, true, false, not, cond, List, [], ◌∷◌, Some, length, map, filter, AllPairs, Contains, refl, sym, ap, subst, ◌∙◌, inl, inr, arith, list_any, cases_Bool, cases_eq, eq-eqb, ne_eqb, eqb-true, both_ways, not-true, and_parts, rules}
-use Rattle.fst_heads.proofs.Basics.{common_steps, length-map, get_or-map, AllPairs-filter, get_or}
+use Rattle.fst_heads.proofs.Basics.{Any-from_list_any, list_any-from_Any, common_steps, length-map, get_or-map, AllPairs-filter}
 use Rattle.fst_heads.proofs.Patches.{Place, IsCascadeOf, Follows, RestsOnDisk, unsettled, IsOnDisk, SparseAreLawful, IsOpenNumber, sealed, Kind, Change, Empty, OpenGate, SealedGate, Patch, block_of_kind, is_change_at, landed, no_follower_on, same_number, filter_in, in_filter, In, In-from_Contains}
 use Rattle.fst_heads.proofs.Words.{Pending, IsInside, flying_on, Node, patches_in, pending_in, at_number, AreSettled, is_pending, joined, joined_sums, of_kind, Spreading, IsSpreadOf, now, is_told, seals, lands, wakes_sealed, Sinks, sums_of}
 use Rattle.fst_heads.proofs.{AtNumber.{at_same, at_other}, Joining.{held_sinks, sinks_to_nothing}, Pended.{now_row, told_now, now_at_rest}, PendingIn.found}
 use Rattle.fst_heads.proofs.Waiting.{pending_of, pending_mapped}
-use Rattle.fst_heads.proofs.{Placed.{SameLinks, patch_in, node_of_patch, number_if, dependencies_if, unsettled_spread, unmapped}, Slots.some_element}
+use Rattle.fst_heads.proofs.{Placed.{SameLinks, patch_in, node_of_patch, number_if, dependencies_if, unsettled_spread, unmapped}, Slots.{rising_back, rising_map, some_element}}
 use Rattle.fst_heads.proofs.Sums.{joined_nothing, joined_all_nothing, sums_same}
 use Rattle.fst_types.proofs.Landing.{landed_cases, change_at, at_change}
 use Rattle.fst_heads.proofs.Patches.{Contains-from_In, In-map, In-unmap, Grade, Rising as IsRising}
@@ -64,12 +64,8 @@ module _ (nodes : List Node) (blocks : ℕ) (f : Node → Node) (queue : List �
   sound y c = let x = was y c in subst (λ z. Sound z blocks) x.2 (B.sound x.0 x.1)
 
   rising_nodes : IsRising (patches_in nodes) → AllPairs (λ x y. x.patch.number < y.patch.number) (map f nodes)
-  rising_nodes rising i j d lt within =
-      let inside : j < length nodes = omega (arith, within, length-map nodes f) in
-      let r = rising i j d.patch lt (omega (arith, inside, length-map nodes (λ (x : Node). x.patch))) in
-      let at = λ (k : ℕ) (up : k < length nodes). ap (λ (p : Patch). p.number) (get_or-map (λ (x : Node). x.patch) nodes k d d.patch up) in
-      let new = λ (k : ℕ) (up : k < length nodes). ap (λ (y : Node). y.patch.number) (get_or-map f nodes k d d up) ∙ (B.links (get_or nodes k d)).number in
-      omega (arith, r, at i (omega (arith, lt, inside)), at j inside, new i (omega (arith, lt, inside)), new j inside)
+  rising_nodes rising =
+      rising_map f nodes (λ y. y.patch.number) (λ y. y.patch.number) (λ y. (B.links y).number) (rising_back (λ (x : Node). x.patch) nodes (λ x. x.patch.number) (λ p. p.number) (λ x. refl) rising)
 
   summed : AreSettled nodes blocks → (x : Node) → Contains nodes x → (f x).sums ≡ sums_of (pending_in (map f nodes)) (f x).patch.dependencies
   summed S x c =
@@ -100,17 +96,8 @@ pub stays_told : (nodes : List Node) (blocks : ℕ) → AreSettled nodes blocks 
 stays_told nodes blocks S x c = told_from x (now_at_rest nodes blocks S x c)
 
 -- what passes a test among the elements
-any_found : {X : Type 0} (t : X → Bool) (xs : List X) → list_any t xs ≡ true → (x : X) × In xs x × (t x ≡ true)
-any_found t [] e = cc
-any_found t (x ∷ xs) e = elim (cases_Bool (t x)) [
-  | inl yes_x ↦ (x, inl refl, yes_x)
-  | inr no_x ↦ let r = any_found t xs (rw no_x at e) in (r.0, inr r.1, r.2)
-]
-
 any_fails : {X : Type 0} (t : X → Bool) (xs : List X) (x : X) → In xs x → t x ≡ true → list_any t xs ≡ true
-any_fails t [] x h e = absurd h
-any_fails t (y ∷ ys) x (inl s) e = rw (subst (λ z. t z ≡ true) (sym s) e) refl
-any_fails t (y ∷ ys) x (inr h) e = elim (cases_Bool (t y)) [ inl yes_y ↦ rw yes_y refl | inr no_y ↦ rw no_y (any_fails t ys x h e) ]
+any_fails t xs x h e = let c = Contains-from_In xs x h in list_any-from_Any t xs (c.0, x, c.1, c.2, e)
 
 -- a sealed gate is on disk where its row has none that is not there
 pub sealed_cases : (x : Node) → ((x.sums.count ≡ 0) × (seals x ≡ record x { patch = record x.patch { kind = SealedGate; place = place.Disk } })) ⊎ ((x.sums.count ≢ 0) × (seals x ≡ record x { patch = record x.patch { kind = SealedGate } }))
@@ -161,9 +148,9 @@ module _ (nodes : List Node) (numbers blocks g : ℕ) (H : SparseAreLawful (patc
       let t = λ (x : Node). (x.patch.number == g) && not (is_told (seals x)) in
       elim (cases_Bool (list_any t nodes)) [
         | inl e ↦
-            let r = any_found t nodes e in
-            let both = and_parts (r.0.patch.number == g) (not (is_told (seals r.0))) r.2 in
-            inl (r.0, Contains-from_In nodes r.0 r.1, eqb-true r.0.patch.number g both.0, not-true (is_told (seals r.0)) both.1, ap (λ b. cond b (g ∷ []) []) e)
+            let r = Any-from_list_any t nodes e in
+            let both = and_parts (r.1.patch.number == g) (not (is_told (seals r.1))) r.4 in
+            inl (r.1, (r.0, r.2, r.3), eqb-true r.1.patch.number g both.0, not-true (is_told (seals r.1)) both.1, ap (λ b. cond b (g ∷ []) []) e)
         | inr e ↦ grind (arith, common_steps, found, any_fails, eq-eqb, both_ways)
       ]
 

@@ -63,15 +63,11 @@ sums_same_in : (told other : ℕ → Pending) (row : List ℕ) → ((n : ℕ) �
 sums_same_in told other [] same = refl
 sums_same_in told other (n ∷ ns) same = rw (same n (inl refl), sums_same_in told other ns (λ m i. same m (inr i))) refl
 
-joined_same_in : (told other : ℕ → Pending) (row : List ℕ) → ((n : ℕ) → In row n → other n ≡ told n) → joined other row ≡ joined told row
-joined_same_in told other [] same = refl
-joined_same_in told other (n ∷ ns) same = rw (same n (inl refl), joined_same_in told other ns (λ m i. same m (inr i))) refl
-
 pub sums_same : (told other : ℕ → Pending) (row : List ℕ) → ((n : ℕ) → Contains row n → other n ≡ told n) → sums_of other row ≡ sums_of told row
 sums_same told other row same = sums_same_in told other row (λ n i. same n (Contains-from_In row n i))
 
 pub joined_same : (told other : ℕ → Pending) (row : List ℕ) → ((n : ℕ) → Contains row n → other n ≡ told n) → joined other row ≡ joined told row
-joined_same told other row same = joined_same_in told other row (λ n i. same n (Contains-from_In row n i))
+joined_same told other row same = sym (joined_exact other row) ∙ (ap joined_sums (sums_same told other row same) ∙ joined_exact told row)
 
 has_plus : (p q : Pending) (s : Sums) → ((b : ℕ) → p ≡ pending.Block b → b ≤ max_block) → HasIn q s → HasIn q (plus p s)
 has_plus p q s narrow has = (plus p has.0, fits_plus p has.0 narrow has.1, ap (plus p) has.2 ∙ plus_swap p q has.0)

@@ -1,9 +1,9 @@
 -- The nodes of a spread, found by their numbers, and the numbers that wait in its queue.
-use Rattle.fst_heads.proofs.Basics.{◌≡◌, ◌≢◌, ◌<◌, ◌≤◌, ◌==◌, ◌&&◌, ◌+◌, ℕ, zero, suc, Bool, true, false, not, cond, List, [], ◌∷◌, ◌++◌, length, map, get_or, Contains, AllPairs, length-append, refl, sym, ap, subst, ◌∙◌, inl, inr, arith, list_any, cases_eq, cases_order, and_parts, and_from, eqb-true, eq-eqb}
+use Rattle.fst_heads.proofs.Basics.{◌≡◌, ◌≢◌, ◌<◌, ◌≤◌, ◌==◌, ◌&&◌, ◌+◌, ℕ, suc, Bool, true, false, not, cond, List, [], ◌∷◌, ◌++◌, length, map, get_or, Contains, AllPairs, length-append, refl, sym, ap, subst, ◌∙◌, inl, inr, arith, list_any, cases_eq, cases_order, and_parts, and_from, eqb-true, eq-eqb}
 use Rattle.fst_heads.proofs.Basics.{common_steps, ne_eqb, not-true, not_from_false, get_or_append_left, Contains-get_or, Contains-append_cases, Any-from_list_any, list_any-from_Any, AllPairs-cons, sum_by-cons}
 use Rattle.fst_heads.proofs.Patches.{filter_in, in_filter, In, In-map, In-from_Contains, Contains-from_In, pull}
 use Rattle.fst_heads.proofs.Words.{Pending, height, Node, pending_in, times, at_number, is_told, settles, hears, heard, wakes, woken, heights}
-use Rattle.fst_heads.proofs.{AtNumber.{at_same, at_other}, PendingIn.found, Placed.unmapped, Slots.{any_default, rising_map}, Turning.{turned, is_heard}}
+use Rattle.fst_heads.proofs.{AtNumber.{at_same, at_other}, PendingIn.{found, told_of}, Placed.unmapped, Slots.{any_default, rising_map}, Turning.{turned, is_heard}}
 use Rattle.std.proofs.Math.Seq.{get_or-append_seam}
 use Rattle.fst_heads.proofs.Words.pending
 
@@ -30,15 +30,8 @@ same_node nodes x y rising a b e =
 
 -- what is pending at a number
 
-pending_at : (nodes : List Node) (x : Node) → ((y : Node) → In nodes y → y.patch.number ≡ x.patch.number → y ≡ x) → In nodes x → pending_in nodes x.patch.number ≡ x.pending
-pending_at [] x one h = absurd h
-pending_at (y ∷ ys) x one h = elim (cases_eq y.patch.number x.patch.number) [
-  | inl e ↦ rw (eq-eqb y.patch.number x.patch.number e) (ap (λ (z : Node). z.pending) (one y (inl refl) e))
-  | inr ne ↦ rw (ne_eqb y.patch.number x.patch.number ne) (pending_at ys x (λ z i. one z (inr i)) (elim h [ inl same ↦ absurd (ne (ap (λ (z : Node). z.patch.number) same)) | inr there ↦ there ]))
-]
-
 pub pending_of : (nodes : List Node) (x : Node) → AllPairs (λ a b. a.patch.number < b.patch.number) nodes → Contains nodes x → pending_in nodes x.patch.number ≡ x.pending
-pending_of nodes x rising c = pending_at nodes x (λ y i e. same_node nodes y x rising (Contains-from_In nodes y i) c e) (In-from_Contains nodes x c)
+pending_of nodes x rising c = told_of nodes x (rising_map (λ (y : Node). y.patch) nodes (λ y. y.patch.number) (λ p. p.number) (λ y. refl) rising) c
 
 -- where one block is pending at a number, it is pending of a node
 pub pending_node : (nodes : List Node) (n b : ℕ) → pending_in nodes n ≡ pending.Block b → (y : Node) × Contains nodes y × (y.pending ≡ pending.Block b)
@@ -115,15 +108,10 @@ once_append (x ∷ xs) ys one two apart =
     let later = λ (n : ℕ) (c : Contains xs n). Contains-from_In (x ∷ xs) n (inr (In-from_Contains xs n c)) in
     AllPairs-cons (λ a b. a ≢ b) x (xs ++ ys)
     (λ k d lt e. elim (Contains-append_cases xs ys (get_or (xs ++ ys) k d) (Contains-get_or (xs ++ ys) k d lt)) [
-      | inl c ↦ one 0 (suc c.0) d (omega arith) (omega (arith, c.1)) (e ∙ (sym c.2 ∙ any_number xs c.0 (get_or (xs ++ ys) k d) d c.1))
+      | inl c ↦ one 0 (suc c.0) d (omega arith) (omega (arith, c.1)) (e ∙ (sym c.2 ∙ any_default xs c.0 (get_or (xs ++ ys) k d) d c.1))
       | inr c ↦ apart x here (subst (Contains ys) (sym e) c)
     ])
     (once_append xs ys tail two (λ n a b. apart n (later n a) b))
-  where
-    any_number : (ns : List ℕ) (i : ℕ) (a b : ℕ) → i < length ns → get_or ns i a ≡ get_or ns i b
-    any_number [] i a b lt = absurd (omega (arith, lt))
-    any_number (n ∷ ns) zero a b lt = refl
-    any_number (n ∷ ns) (suc i) a b lt = any_number ns i a b (omega (arith, lt))
 
 pub once_front : (queue : List ℕ) (q : ℕ) → AllPairs (λ a b. a ≢ b) (queue ++ q ∷ []) → AllPairs (λ a b. a ≢ b) queue
 once_front queue q once i j d lt inside e = grind (arith, length-append, get_or_append_left)

@@ -15,7 +15,7 @@ use Rattle.fst_heads.proofs.{AtNumber.patches_in_nodes, PendingIn.{found, told_o
 use Rattle.fst_heads.proofs.Waiting.{times_some, some_times, map_twice}
 use Rattle.fst_walks.specs.Descending.{IsLedFrom, Visits}
 use Rattle.fst_walks.proofs.{Alone.{waits_in, waits_out}, Holding.live_up, Low.{low_depends, IsLow, is_block, block_is}}
-use Rattle.fst_walks.proofs.{Numbered.{rising_numbers, number_in, number_of, number_some, none_counted}, Obstacles.{hard_from, hard_to}, Visiting.none_in}
+use Rattle.fst_walks.proofs.{Numbered.{rising_numbers, number_in, number_of, number_some, none_counted}, Obstacles.{hard_from, hard_to}, Trails.none_in}
 use Rattle.fst_types.specs.declared.place.Place.TheVariants as place
 use Rattle.fst_heads.specs.declared.pending.Pending.TheVariants as pending
 

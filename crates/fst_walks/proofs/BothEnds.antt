@@ -1,14 +1,15 @@
 -- A way leads from a row back to a block exactly where a walk up from the changes of the block and one down from the first changes of other blocks below the row meet.
 use Rattle.std.proofs.Common.{◌≡◌, ◌≢◌, ◌⊎◌, ◌∷◌, [], ℕ, Bool, List, Contains, refl, sym, subst, inl, inr}
 use Rattle.std.proofs.lemmas.Bool.{cases_eq}
-use Rattle.std.proofs.lemmas.List.Elements.{Contains-push_cases, Contains-push}
+use Rattle.std.proofs.lemmas.List.Elements.{Contains-push}
 use Rattle.fst_types.specs.{Closure.{Closure, one, join}, Dependencies.{DependsOn, IsLiveNumber}, Facts.{IsOnDiskWithAll}}
 use Rattle.fst_types.specs.{Grades.{HasEdge, Reaches}, Patches.{Patch, IsLive, IsRising}}
+use Rattle.fst_types.proofs.SmallStates.{only_in}
 use Rattle.fst_heads.specs.{Grading.{HasUnder, IsReturning, IsLeading, LeadsNowhere, IsHardNumber}, Marks.PassesAt}
 use Rattle.fst_heads.specs.{Reaching.{ShowsBlocks}}
 use Rattle.fst_heads.proofs.{Graded.{off_from, off_to}}
 use Rattle.fst_walks.specs.{Descending.IsLedFrom, WayBack.{StepsUp, IsLiveOver}}
-use Rattle.fst_walks.proofs.{ComesBack.{ComesBack, on_live, live_number, step_back, back_soft, over_back}, Holding.live_up, Visiting.none_in}
+use Rattle.fst_walks.proofs.{ComesBack.{ComesBack, on_live, live_number, step_back, back_soft, over_back}, Holding.live_up}
 use Rattle.fst_heads.specs.declared.test.Test.TheVariants as test
 
 -- p is q, or steps lead from it to q
@@ -28,9 +29,6 @@ led_leads E start n (inr r) = (r.0, r.1, inr r.2)
 pub leads_led : (E : ℕ → ℕ → Type 0) (start : List ℕ) (s n : ℕ) → Contains start s → Leads E s n → IsLedFrom E start n
 leads_led E start s n c (inl e) = inl (subst (Contains start) e c)
 leads_led E start s n c (inr path) = inr (s, c, path)
-
-pub only_one : (n m : ℕ) → Contains (n ∷ []) m → n ≡ m
-only_one n m c = elim (Contains-push_cases [] n m c) [ inl none ↦ absurd (none_in m none) | inr e ↦ e ]
 
 -- steps lead up from a live change of b to a live change of another block, at or below the row
 pub record LeadsBack (patches : List Patch) (crossed : List Bool) (b : ℕ) (row : List ℕ) : Type 0 where
@@ -78,7 +76,7 @@ module _ (patches : List Patch) (rising : IsRising patches) (disk : IsOnDiskWith
     -- what is at or below one under the row is under the row
     under_one : (n : ℕ) (P : ℕ → Type 0) → HasUnder patches row (λ m. m ≡ n) → HasUnder patches (n ∷ []) P → HasUnder patches row P
     under_one n P u v =
-        let e = only_one n v.0 v.1 in (
+        let e = only_in n v.0 v.1 in (
           u.0,
           u.1,
           elim v.2 [

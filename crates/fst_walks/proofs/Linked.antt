@@ -1,14 +1,14 @@
 -- What stands beside the patches where one is made or gains names.
-use Rattle.std.proofs.Common.{◌≡◌, ◌≢◌, ◌⊎◌, ◌==◌, ℕ, zero, suc, ◌+◌, ◌<◌, ◌≤◌, Bool, true, false, cond, if◌then◌else◌, List, [], ◌∷◌, ◌++◌, map, get_or, AllPairs, Contains, refl, sym, ap, subst, ◌∙◌, inl, inr, arith}
+use Rattle.std.proofs.Common.{◌≡◌, ◌≢◌, ◌⊎◌, ◌==◌, ℕ, suc, ◌+◌, ◌<◌, ◌≤◌, Bool, true, false, cond, if◌then◌else◌, List, [], ◌∷◌, ◌++◌, map, get_or, AllPairs, Contains, refl, sym, ap, subst, ◌∙◌, inl, inr, arith}
 use Rattle.std.specs.List.Sorted.{IsStrictlyIncreasing}
 use Rattle.std.proofs.{lemmas.Bool.{cases_eq, eq-eqb, ne_eqb}, lemmas.List.map-append}
-use Rattle.std.proofs.{lemmas.List.Elements.{Contains-push_cases, Contains-append_cases, Contains-get_or}, lemmas.List.Kept.AllPairs-from_increasing}
+use Rattle.std.proofs.{lemmas.List.Elements.{Contains-push_cases, Contains-get_or}, lemmas.List.Kept.AllPairs-from_increasing}
 use Rattle.std.proofs.{lemmas.List.Quantifiers.all_pairs_push, lemmas.List.Sums.{sum_by-cons, sum_by-append}}
 use Rattle.fst_types.specs.{Dependencies.{DirectlyOn, IsLiveNumber}, Facts.HasOnePlaceEach, Gates.IsOpenNumber, Gating.gains, Patches.Patch, Tests.is_among}
 use Rattle.fst_types.proofs.{Finite.{In, In-from_Contains, Contains-from_In}, Issuing.among_in}
 use Rattle.fst_heads.specs.{Nodes.{Node, patches_in, times, at_number, linked_to, gains_names, AreLinked, AreGiven, AreDistinct}, declared.pending.Sums.Sums}
 use Rattle.fst_heads.proofs.{Added.{with_node, new_node, with_names}, AtNumber.{at_other, at_same}, Linking.{linked_patch, link_none, map_twice}}
-use Rattle.fst_heads.proofs.Placed.{StandsFor, unmapped, patch_in, node_of_patch}
+use Rattle.fst_heads.proofs.{Placed.{StandsFor, unmapped, patch_in, node_of_patch}, Waiting.once_append}
 
 pub with_gate : (nodes : List Node) (n : ℕ) → map (linked_to [] n) nodes ≡ nodes
 with_gate nodes n = link_none nodes n
@@ -81,20 +81,6 @@ apart_either false n x once new = once
 -- no number stands twice in a row that rises
 pub rising_distinct : (row : List ℕ) → IsStrictlyIncreasing row → AllPairs (λ k m. k ≢ m) row
 rising_distinct row once i j d lt inside same = let r = AllPairs-from_increasing row once i j d lt inside in omega (arith, r, same)
-
--- nor in two rows that share none
-pairs_append : (xs ys : List ℕ) → AllPairs (λ k m. k ≢ m) xs → AllPairs (λ k m. k ≢ m) ys → ((x : ℕ) → Contains xs x → Contains ys x → ⊥) → AllPairs (λ k m. k ≢ m) (xs ++ ys)
-pairs_append [] ys a b apart i j d lt inside = b i j d lt inside
-pairs_append (x ∷ xs) ys a b apart zero zero d lt inside = absurd (omega (arith, lt))
-pairs_append (x ∷ xs) ys a b apart zero (suc j) d lt inside =
-    elim (Contains-append_cases xs ys (get_or (xs ++ ys) j d) (Contains-get_or (xs ++ ys) j d (omega (arith, inside)))) [
-      | inl c ↦ λ e. a 0 (suc c.0) (get_or (xs ++ ys) j d) (omega arith) (omega (arith, c.1)) (e ∙ sym c.2)
-      | inr c ↦ λ e. apart x (0, omega arith, refl) (subst (Contains ys) (sym e) c)
-    ]
-pairs_append (x ∷ xs) ys a b apart (suc i) zero d lt inside = absurd (omega (arith, lt))
-pairs_append (x ∷ xs) ys a b apart (suc i) (suc j) d lt inside =
-    pairs_append xs ys (λ k m e l h. a (suc k) (suc m) e (omega (arith, l)) (omega (arith, h))) b
-    (λ y c. apart y (Contains-from_In (x ∷ xs) y (inr (In-from_Contains xs y c)))) i j d (omega (arith, lt)) (omega (arith, inside))
 
 -- the number stands among the dependants as often as before, and as often as the row has the node
 pub linked_times : (row : List ℕ) (n : ℕ) (x : Node) → IsStrictlyIncreasing row → times (linked_to row n x).dependants n ≡ times x.dependants n + times row x.patch.number
@@ -307,7 +293,7 @@ module _ (g : ℕ) (names : List ℕ) (sums : Sums) where
             elim (cases_eq x.patch.number g) [
               | inl same ↦
                   subst (λ ns. AllPairs (λ m n. m ≢ n) ns) (sym (row_same x same))
-                  (pairs_append x.patch.dependencies names apart.0 (rising_distinct names once) (λ n c named.
+                  (once_append x.patch.dependencies names apart.0 (rising_distinct names once) (λ n c named.
                   new n named (record { patch = x.patch; head = patch_in nodes x cx; numbered = same; named = c })))
               | inr other ↦ subst (λ ns. AllPairs (λ m n. m ≢ n) ns) (sym (row_other x other)) apart.0
             ],

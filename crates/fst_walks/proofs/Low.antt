@@ -93,9 +93,7 @@ block_is b p e = ap (λ q. is_pending q (pending.Block b)) e ∙ eq-eqb b b refl
 -- the test tells whether nothing is pending
 pub is_nothing : (p : Pending) → is_pending p pending.Nothing ≡ true → p ≡ pending.Nothing
 is_nothing pending.Nothing e = refl
-is_nothing (pending.Block c) e = absurd (false≢true e)
-is_nothing pending.Apart e = absurd (false≢true e)
-is_nothing pending.Held e = absurd (false≢true e)
+is_nothing p e = absurd (false≢true e)
 
 -- What a patch depends on has no more pending than it has: where nothing or one block alone is pending of the patch, so it is of all below it.
 

@@ -4,12 +4,12 @@ use Rattle.std.proofs.lemmas.Bool.{cases_Bool, false≢true}
 use Rattle.std.proofs.lemmas.List.Elements.{Contains-push}
 use Rattle.fst_types.specs.{Closure.{Closure, one, join}, Dependencies.{DependsOn, IsLiveNumber}, Facts.{FlightsStandAlone, IsOnDiskWithAll, HardNeverHold}}
 use Rattle.fst_types.specs.{Patches.{Patch, IsOn, IsRising}}
-use Rattle.fst_types.proofs.Crash.{same_number}
+use Rattle.fst_types.proofs.{Crash.same_number, SmallStates.only_in}
 use Rattle.fst_heads.specs.{Grading.{HasUnder, LeadsNowhere, IsHardNumber}, Heads.{IsRising as AreRising, patches_of}, Marks.PassesAt}
 use Rattle.fst_heads.specs.{Reaching.{ShowsBlocks}, Tests.passes, declared.head.Head.Head}
 use Rattle.fst_heads.proofs.{Graded.off_from, Leading.one_block, Listing.rising_patches}
-use Rattle.fst_walks.specs.{BothEnds.{AreApart, EndApart, IsFirstAway, IsLowChange, LeadTogether, StepsAway, StepsDown, StepsLow}, Descending.{IsLedFrom, Visits}, Leveling.AreLeveled, Needing.AreNeeded, WayBack.{StepsUp}}
-use Rattle.fst_walks.proofs.{BothEnds.{Leads, leads_on, led_leads, leads_led, LeadsBack, only_one, goes_up, back_leads, none_leads, off_live}, ComesBack.{live_number, live_on}, Holding.live_up, NearRow.rests_may, Needed.{StepsWhole, steps_whole, whole_met}, Visiting.none_in}
+use Rattle.fst_walks.specs.{BothEnds.{AreApart, ComesTo, EndApart, IsFirstAway, IsLowChange, LeadTogether, StepsAway, StepsDown, StepsLow}, Descending.{IsLedFrom, Visits}, Leveling.AreLeveled, Needing.AreNeeded, WayBack.{StepsUp}}
+use Rattle.fst_walks.proofs.{BothEnds.{Leads, leads_on, led_leads, leads_led, LeadsBack, goes_up, back_leads, none_leads, off_live}, ComesBack.{live_number, live_on}, Holding.live_up, NearRow.rests_may, Needed.{StepsWhole, steps_whole, whole_met}, Trails.none_in}
 use Rattle.fst_heads.specs.declared.test.Test.TheVariants as test
 
 -- whether the patch passes is known
@@ -18,6 +18,13 @@ passes_or patches rising t p n head numbered = elim (cases_Bool (passes t p)) [
   | inl said ↦ inl (record { patch = p; head = head; numbered = numbered; passed = said })
   | inr denied ↦ inr (λ x. let same = same_number patches x.patch p rising x.head head (x.numbered ∙ sym numbered) in false≢true (sym denied ∙ (ap (passes t) (sym same) ∙ x.passed)))
 ]
+
+-- no change of another block is one of b
+pub off_not_on : (patches : List Patch) → IsRising patches → (b n : ℕ) → PassesAt (test.LiveOff b) patches n → PassesAt (test.LiveOn b) patches n → ⊥
+off_not_on patches rising b n a x =
+    let off = off_from b a.patch.number a.patch.kind a.patch.place a.passed in
+    let same = same_number patches a.patch x.patch rising a.head x.head (a.numbered ∙ sym x.numbered) in
+    off.3 (one_block x.patch off.1 b (subst (λ p. IsOn p off.1) same off.2) (live_on patches rising b b n x).1)
 
 -- the way down from what depends on a live change of another block, from which a way leads back to b, leads to a first one
 module _ (heads : List Head) (rising : AreRising heads) (disk : IsOnDiskWithAll (patches_of heads)) (hard : HardNeverHold (patches_of heads)) (b : ℕ) where
@@ -36,7 +43,7 @@ module _ (heads : List Head) (rising : AreRising heads) (disk : IsOnDiskWithAll 
     where
       below : {P : ℕ → Type 0} → HasUnder patches (n ∷ []) P → (q : ℕ) × DependsOn patches m q × P q
       below {P} u =
-          let e = only_one n u.0 u.1 in
+          let e = only_in n u.0 u.1 in
           elim u.2 [
             | inl has ↦ (n, d, subst P (sym e) has)
             | inr low ↦ (low.0, join d (subst (λ k. DependsOn patches k low.0) (sym e) low.1), low.2)
@@ -54,7 +61,7 @@ module _ (heads : List Head) (rising : AreRising heads) (disk : IsOnDiskWithAll 
     | inl away ↦ inl (record { found = m; away = away; path = inl refl; over = one d })
     | inr own ↦
         let soft : IsHardNumber patches b m → ⊥ = λ h.
-        let may = rests_may heads rising b (m ∷ []) hard (λ k c. subst (IsHardNumber patches b) (only_one m k c) h) in
+        let may = rests_may heads rising b (m ∷ []) hard (λ k c. subst (IsHardNumber patches b) (only_in m k c) h) in
         returns_up m n (one d) back (record { straight = may.straight; open_ended = may.open_ended }) in
         inr (one (record { own = own; soft = soft }, d, live))
   ]
@@ -198,6 +205,36 @@ none_first heads rising disk hard b crossed shown row none =
 pub visited_all : (P : ℕ → Type 0) (queue : List ℕ) → Visits P [] queue → (n : ℕ) → Contains queue n ↔ P n
 visited_all P queue v n = (λ c. elim (v.only n c) [ inl none ↦ absurd (none_in n none) | inr p ↦ p ], v.each n)
 
+-- a walk down starts from the first changes of other blocks at or below a row, and never crosses b
+module _ (heads : List Head) (rising : AreRising heads) (disk : IsOnDiskWithAll (patches_of heads)) (hard : HardNeverHold (patches_of heads)) (flights : FlightsStandAlone (patches_of heads)) (needs : ℕ → List ℕ) (needed : AreNeeded (patches_of heads) needs)
+    (b : ℕ) (row : List ℕ) (up down : List Bool) (shows_up : ShowsBlocks up (λ c. c ≡ b)) (shows_down : ShowsBlocks down (λ c. c ≡ b)) (tops : List ℕ) (first : (n : ℕ) → Contains tops n ↔ IsFirstAway (patches_of heads) b row n) where
+  abbrev now : List Patch
+  now = patches_of heads
+
+  abbrev in_order : IsRising now
+  in_order = rising_patches heads rising
+
+  -- it leads to what a way leads up from
+  pub under_up : (top n : ℕ) → Contains tops top → Leads (StepsDown now needs down) top n → Leads (StepsUp now up) n top
+  under_up top n c path =
+      let whole : Leads (StepsWhole now down) top n = elim path [ inl e ↦ inl e | inr steps ↦ inr (steps_whole now in_order flights needs needed b down shows_down top n steps) ] in
+      leads_ups now b up down shows_up shows_down in_order top n whole (off_live now in_order disk b up shows_up top ((first top).0 c).away)
+
+  -- where it comes to a change of b, a way leads back
+  pub comes_soft : ComesTo now needs down b tops → LeadsNowhere now b row → ⊥
+  comes_soft met =
+      let a = led_leads (StepsDown now needs down) tops met.at met.under in
+      let top = (first a.0).0 a.1 in
+      back_leads now in_order disk b up shows_up row (record { first = met.at; last = a.0; change = met.change; away = top.away; under = first_under now b row a.0 top; path = under_up a.0 met.at a.1 a.2 })
+
+  -- where it comes to none, none does
+  pub comes_hard : (ComesTo now needs down b tops → ⊥) → LeadsNowhere now b row
+  comes_hard none = none_leads now in_order disk b up shows_up row (λ l.
+      let f = first_back heads rising disk hard b up shows_up row l in
+      let back = leads_downs now b up down shows_up shows_down in_order f.1 f.0 f.4 (live_number now in_order b b f.1 f.3) in
+      let y = whole_met now in_order flights needs needed b down shows_down tops f.0 f.1 ((first f.0).1 f.2) back f.3 in
+      none (record { at = y.0; under = y.1; change = y.2 }))
+
 -- the walks start from the low live changes of b and from the first changes of other blocks at or below a row, which are low, and never cross b
 pub record AreEnds (patches : List Patch) (level : ℕ → ℕ) (most b : ℕ) (row : List ℕ) (up down : List Bool) (bottoms tops : List ℕ) : Type 0 where
   pub low : (n : ℕ) → Contains tops n → level n ≤ most
@@ -217,19 +254,10 @@ module _ (heads : List Head) (rising : AreRising heads) (disk : IsOnDiskWithAll 
 
   -- at first nothing was met by both
   pub begin_apart : AreApart bottoms tops
-  begin_apart n above below =
-      let x = ((ends.changes n).0 above).0 in
-      let a = ((ends.first n).0 below).away in
-      let off = off_from b a.patch.number a.patch.kind a.patch.place a.passed in
-      let same = same_number all a.patch x.patch ordered a.head x.head (a.numbered ∙ sym x.numbered) in
-      off.3 (one_block x.patch off.1 b (subst (λ p. IsOn p off.1) same off.2) (live_on all ordered b b n x).1)
+  begin_apart n above below = off_not_on all ordered b n ((ends.first n).0 below).away ((ends.changes n).0 above).0
 
-  -- a walk down leads to what a way leads up from
-  under_up : (top n : ℕ) → Contains tops top → Leads (StepsDown all needs down) top n → Leads (StepsUp all up) n top
-  under_up top n c path =
-      let first = (ends.first top).0 c in
-      let whole : Leads (StepsWhole all down) top n = elim path [ inl e ↦ inl e | inr steps ↦ inr (steps_whole all ordered flights needs needed b down ends.shows_down top n steps) ] in
-      leads_ups all b up down ends.shows_up ends.shows_down ordered top n whole (off_live all ordered disk b up ends.shows_up top first.away)
+  goes_up_to : (top n : ℕ) → Contains tops top → Leads (StepsDown all needs down) top n → Leads (StepsUp all up) n top
+  goes_up_to = under_up heads rising disk hard flights needs needed b row up down ends.shows_up ends.shows_down tops ends.first
 
   -- where the walks lead to the same, a way leads back
   pub together_soft : LeadTogether all level needs most up down bottoms tops → LeadsNowhere all b row → ⊥
@@ -244,28 +272,25 @@ module _ (heads : List Head) (rising : AreRising heads) (disk : IsOnDiskWithAll 
         change = ((ends.changes x.0).0 x.1).0;
         away = first.away;
         under = first_under all b row a.0 first;
-        path = leads_on (StepsUp all up) x.0 n a.0 (leads_up all level floor leveled up most x.0 n x.2) (under_up a.0 n a.1 a.2);
+        path = leads_on (StepsUp all up) x.0 n a.0 (leads_up all level floor leveled up most x.0 n x.2) (goes_up_to a.0 n a.1 a.2);
       })
 
   -- a change of b that the walk down leads to is one that the walk up starts from
   under_bottom : (n : ℕ) → IsLedFrom (StepsDown all needs down) tops n → PassesAt (test.LiveOn b) all n → Contains bottoms n
   under_bottom n led x =
       let a = led_leads (StepsDown all needs down) tops n led in
-      (ends.changes n).1 (x, (low_leads all level floor leveled up most n a.0 (under_up a.0 n a.1 a.2) (ends.low a.0 a.1)).0)
+      (ends.changes n).1 (x, (low_leads all level floor leveled up most n a.0 (goes_up_to a.0 n a.1 a.2) (ends.low a.0 a.1)).0)
 
   -- where one has met all and nothing was met by both, none does
   pub apart_hard : (over under : List ℕ) → EndApart all level needs most up down bottoms tops over under → LeadsNowhere all b row
-  apart_hard over under met = none_leads all ordered disk b up ends.shows_up row (λ l.
-      let f = first_back heads rising disk hard b up ends.shows_up row l in
-      let n = f.0 in
-      let x = f.1 in
-      let top = (ends.first n).1 f.2 in
-      let path = low_leads all level floor leveled up most x n f.4 (ends.low n top) in
-      let bottom = (ends.changes x).1 (f.3, path.0) in
-      elim met.ended [
-        | inl each ↦ met.apart n (each n (leads_led (StepsLow all level most up) bottoms x n bottom path.1)) (met.under_begun n top)
-        | inr each ↦
-            let back = leads_downs all b up down ends.shows_up ends.shows_down ordered x n f.4 (live_number all ordered b b x f.3) in
-            let y = whole_met all ordered flights needs needed b down ends.shows_down tops n x top back f.3 in
-            met.apart y.0 (met.over_begun y.0 (under_bottom y.0 y.1 y.2)) (each y.0 y.1)
-      ])
+  apart_hard over under met = elim met.ended [
+    | inl each ↦ none_leads all ordered disk b up ends.shows_up row (λ l.
+        let f = first_back heads rising disk hard b up ends.shows_up row l in
+        let n = f.0 in
+        let x = f.1 in
+        let top = (ends.first n).1 f.2 in
+        let path = low_leads all level floor leveled up most x n f.4 (ends.low n top) in
+        met.apart n (each n (leads_led (StepsLow all level most up) bottoms x n ((ends.changes x).1 (f.3, path.0)) path.1)) (met.under_begun n top))
+    | inr each ↦
+        comes_hard heads rising disk hard flights needs needed b row up down ends.shows_up ends.shows_down tops ends.first (λ x. met.apart x.at (met.over_begun x.at (under_bottom x.at x.under x.change)) (each x.at x.under))
+  ]

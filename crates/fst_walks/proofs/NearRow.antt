@@ -1,9 +1,8 @@
 -- What is near a row, and the grade that it tells.
-use Rattle.std.proofs.Common.{◌≡◌, ◌⊎◌, ◌&&◌, ℕ, Bool, true, false, List, get_or, Contains, Some, None, Option, IfSome, refl, sym, ap, subst, ◌∙◌, inl, inr}
-use Rattle.std.proofs.{lemmas.Bool.false≢true}
+use Rattle.std.proofs.Common.{◌≡◌, ◌⊎◌, ◌&&◌, ℕ, Bool, true, List, get_or, Contains, Some, None, Option, IfSome, refl, sym, ap, subst, ◌∙◌, inl, inr}
 use Rattle.fst_types.specs.{Closure.{one, join}, Dependencies.{DirectlyOn, DependsOn}, Facts.HardNeverHold, Gates.IsOpenNumber}
 use Rattle.fst_types.specs.{Grades.FollowsRule, Patches.{Kind, OpenGate, Patch, IsOn, grade_of_kind}, Tests.is_change_at, declared.grade.Grade.Grade}
-use Rattle.fst_types.proofs.Landing.{change_at, at_change}
+use Rattle.fst_types.proofs.{Landing.{change_at, at_change}, Numbers.both}
 use Rattle.fst_heads.specs.Grading.{HasUnder, IsReturning, IsOpenBut, MayBeHard, IsHardNumber, RestsOnHard}
 use Rattle.fst_heads.specs.{Heads.{IsRising, patch_of, patches_of}, Marks.{HasSlot, HasNone, PassesAt}, Reaching.IsHardIn, Tests.{passes, is_hard_kind}}
 use Rattle.fst_heads.specs.{declared.head.Head.Head, declared.test.Test.Test}
@@ -16,11 +15,6 @@ use Rattle.fst_heads.specs.declared.test.Test.TheVariants as test
 -- a number that no head has is no patch's
 pub no_patch : (heads : List Head) (n : ℕ) → HasNone heads n → (p : Patch) → Contains (patches_of heads) p → p.number ≡ n → ⊥
 no_patch heads n none p c e = let t = slot_in heads p c in none_slot heads n t.0 none (subst (λ m. HasSlot heads m t.0) e (patch_slot heads p t.0 t.1 t.2))
-
-both : (x y : Bool) → (x && y) ≡ true → (x ≡ true) × (y ≡ true)
-both true true e = (refl, refl)
-both true false e = absurd (false≢true e)
-both false y e = absurd (false≢true e)
 
 -- the head at the slot of a number tells what its patch is
 module _ (heads : List Head) (rising : IsRising heads) (n s : ℕ) (d : Head) (slot : HasSlot heads n s) where

@@ -3,10 +3,11 @@ use Rattle.std.proofs.Common.{◌≡◌, true, not, ◌+◌, ◌++◌, ◌∷◌
 use Rattle.std.proofs.lemmas.{Bool.cases_eq, List.Elements.{Contains-push, Contains-push_cases, Contains-append_left}}
 use Rattle.fst_types.specs.{Dependencies.DirectlyOn, Facts.HasOnePlaceEach, Gates.{IsOpenNumber}, Gating.gains, Patches.{Patch, IsOn, IsHard, IsOpenGate, IsRising, block_of_kind, grade_of_kind}, Tests.{is_at, is_live}}
 use Rattle.fst_types.specs.{declared.grade.Grade.Grade, declared.place.Place.Place}
-use Rattle.fst_types.proofs.{Crash.same_number, Dropping.{filter_in, in_filter}, Depending.{Grown, grown}, Finite.{In-from_Contains, Contains-from_In, In-map}, GateGains.{In-unmap, direct_cases}}
+use Rattle.fst_types.proofs.{Crash.same_number, Dropping.{filter_in, in_filter}, Depending.{grown}, Finite.{In-from_Contains, Contains-from_In, In-map}, GateGains.{direct_cases}}
 use Rattle.fst_heads.specs.{Grading.IsHardNumber}
+use Rattle.fst_heads.proofs.Covering.{was_gained}
 use Rattle.fst_walks.specs.Needing.{AreNeeded, IsHardAt, IsPut, IsStoodFor, needs_of}
-use Rattle.fst_walks.proofs.NeedsKept.{at_hard, goes_on, hard_at}
+use Rattle.fst_walks.proofs.{NeedsKept.{at_hard, goes_on, hard_at}, Releveled.{hard_was}}
 use Rattle.fst_types.specs.declared.grade.Grade.TheVariants as grade
 use Rattle.fst_types.specs.declared.place.Place.TheVariants as place
 
@@ -14,11 +15,6 @@ use Rattle.fst_types.specs.declared.place.Place.TheVariants as place
 module _ (old : List Patch) (rising : IsRising old) (g : ℕ) (names : List ℕ) (gate : IsOpenNumber old g) where
   abbrev gained : List Patch
   gained = map (gains g names) old
-
-  was : (p : Patch) → Contains gained p → (o : Patch) × Contains old o × Grown g names o p
-  was p h =
-      let r = In-unmap (gains g names) old p (In-from_Contains gained p h) in
-      (r.0, Contains-from_In old r.0 r.1, subst (Grown g names r.0) r.2 (grown g names r.0))
 
   now_in : (o : Patch) → Contains old o → Contains gained (gains g names o)
   now_in o h = Contains-from_In gained (gains g names o) (In-map (gains g names) old o (gains g names o) (In-from_Contains old o h) refl)
@@ -35,16 +31,6 @@ module _ (old : List Patch) (rising : IsRising old) (g : ℕ) (names : List ℕ)
         place = k.place ∙ h.place;
       }
 
-  hard_was : (c h : ℕ) → IsHardNumber gained c h → IsHardNumber old c h
-  hard_was c h x =
-      let o = was x.patch x.head in
-      record {
-        patch = o.0;
-        head = o.1;
-        numbered = sym o.2.number ∙ x.numbered;
-        hard = record { change = sym (ap block_of_kind o.2.kind) ∙ x.hard.change; memory = sym o.2.place ∙ x.hard.memory; hard = sym (ap grade_of_kind o.2.kind) ∙ x.hard.hard };
-      }
-
   -- no change is the gate
   no_gate : (c h : ℕ) → IsHardNumber old c h → h ≡ g → ⊥
   no_gate c h x e =
@@ -56,9 +42,9 @@ module _ (old : List Patch) (rising : IsRising old) (g : ℕ) (names : List ℕ)
 
   pub gained_needed : (needs : ℕ → List ℕ) → AreNeeded old needs → AreNeeded (map (gains g names) old) needs
   gained_needed needs = goes_on old gained needs needs (record {
-    was = hard_was;
-    direct = λ c h q hard d. elim (direct_cases old g names h q d) [ inl before ↦ before | inr more ↦ absurd (no_gate c h (hard_was c h hard) more.0) ];
-    headed = λ q h. let o = was q h in (o.0, o.1, sym o.2.number);
+    was = hard_was old g names gate;
+    direct = λ c h q hard d. elim (direct_cases old g names h q d) [ inl before ↦ before | inr more ↦ absurd (no_gate c h (hard_was old g names gate c h hard) more.0) ];
+    headed = λ q h. let o = was_gained old g names q h in (o.0, o.1, sym o.2.number);
     fewer = λ c n k. k;
     stays = λ c n h k hard d. (
       at_hard gained c h (at_gained place.Memory c h (hard_at old c h hard)),

@@ -5,7 +5,7 @@ use Rattle.fst_types.specs.{Cascade.IsCascadeOf, Facts.SparseAreLawful, Gates.Is
 use Rattle.fst_types.specs.{Writable.{IsWritable, IsWritableSet}, Writing.{landed, launched}, declared.place.Place.Place}
 use Rattle.fst_types.proofs.{Cascades.{Settled, no_follower_on, settled_back, settled_on}, Finite.{In-from_Contains, Contains-from_In, In-map}, GateGains.In-unmap, Issuing.launched_cases, Landing.landed_cases, Sealing.sealed_cases}
 use Rattle.fst_walks.specs.Needing.{AreNeeded}
-use Rattle.fst_walks.proofs.{NeedsKept.{GoesAs, moved_needed}, Visiting.none_in}
+use Rattle.fst_walks.proofs.{NeedsKept.{GoesAs, moved_needed}, Trails.none_in}
 use Rattle.fst_types.specs.declared.place.Place.TheVariants as place
 
 -- after a cascade what moved as a function says moved so

@@ -4,7 +4,7 @@ use Rattle.std.proofs.lemmas.List.Elements.{Contains-push_cases, Contains-push, 
 use Rattle.fst_types.specs.{Patches.Patch}
 use Rattle.fst_types.specs.declared.grade.Grade.TheVariants as grade
 use Rattle.fst_walks.specs.Needing.{IsPut, IsStoodFor, needs_of}
-use Rattle.fst_walks.proofs.Raising.{only_one}
+use Rattle.fst_types.proofs.SmallStates.{only_in}
 
 -- what stands for a number in a row does so in a longer one
 pub stood_longer : {patches : List Patch} {b q : ℕ} {row longer : List ℕ} → ((n : ℕ) → Contains row n → Contains longer n) → IsStoodFor patches b row q → IsStoodFor patches b longer q
@@ -18,7 +18,7 @@ module _ (patches : List Patch) (b : ℕ) where
     others = λ c other. refl;
     kept = λ m k. k;
     only = λ m k. inl k;
-    told = λ hard q k. inr (subst (IsStoodFor patches b (needs_of lists b)) (sym (only_one n q k)) stood);
+    told = λ hard q k. inr (subst (IsStoodFor patches b (needs_of lists b)) (only_in n q k) stood);
   }
 
   -- one number that joins the list
@@ -31,7 +31,7 @@ module _ (patches : List Patch) (b : ℕ) where
       | inl was ↦ inl was
       | inr e ↦ inr (refl, subst (Contains (n ∷ [])) e (Contains-push [] n))
     ];
-    told = λ hard q k. inl (subst (λ ns. Contains ns q) (sym grown) (subst (Contains (needs_of old b ++ n ∷ [])) (sym (only_one n q k)) (Contains-push (needs_of old b) n)));
+    told = λ hard q k. inl (subst (λ ns. Contains ns q) (sym grown) (subst (Contains (needs_of old b ++ n ∷ [])) (only_in n q k) (Contains-push (needs_of old b) n)));
   }
 
   -- a row, and one number more
@@ -42,7 +42,7 @@ module _ (patches : List Patch) (b : ℕ) where
     kept = λ m k. B.kept m (A.kept m k);
     only = λ m k. elim (B.only m k) [
       | inl was ↦ elim (A.only m was) [ inl older ↦ inl older | inr here ↦ inr (refl, Contains-append_left row (n ∷ []) m here.1) ]
-      | inr here ↦ inr (refl, subst (Contains (row ++ n ∷ [])) (sym (only_one n m here.1)) (Contains-push row n))
+      | inr here ↦ inr (refl, subst (Contains (row ++ n ∷ [])) (only_in n m here.1) (Contains-push row n))
     ];
     told = λ hard q k. elim (Contains-push_cases row n q k) [
       | inl was ↦ elim (A.told refl q was) [ inl c ↦ inl (B.kept q c) | inr s ↦ inr (stood_longer B.kept s) ]

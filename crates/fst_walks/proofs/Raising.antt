@@ -1,5 +1,5 @@
 -- One head more at another level, with the floor of its block, and all that were met.
-use Rattle.std.proofs.Common.{◌≡◌, ◌≢◌, ◌<◌, ◌⊎◌, ◌&&◌, ◌++◌, ◌∷◌, ◌∙◌, [], ℕ, List, length, map, get_or, Contains, sym, ap, subst, inl, inr, arith}
+use Rattle.std.proofs.Common.{◌≡◌, ◌≢◌, ◌<◌, ◌⊎◌, ◌&&◌, ◌++◌, ◌∷◌, ◌∙◌, [], ℕ, List, length, map, get_or, Contains, sym, ap, subst, inl, inr}
 use Rattle.std.proofs.lemmas.Bool.{cases_Bool, cases_eq, false≢true}
 use Rattle.std.proofs.lemmas.List.{Elements.{Contains-push, Contains-push_cases, Contains-append_left}}
 use Rattle.fst_heads.specs.{Grading.IsHardNumber, Heads.{IsRising, kind_of, patch_of, patches_of}, Marks.HasSlot, Reaching.IsHardIn, Tests.is_hard_kind, declared.head.Head.Head}
@@ -7,12 +7,10 @@ use Rattle.fst_heads.proofs.Slots.{patch_at, some_element}
 use Rattle.fst_walks.specs.{Leveling.{Leveling, level_of, floor_of}, Lifting.IsLifted, Walks.number_at, declared.levels.Rank.Rank}
 use Rattle.fst_walks.proofs.{CrossingBack.hard_on_here, NearRow.{hard_here, here_hard}, Ranked.rank_number, Visiting.slot_at}
 use Rattle.fst_types.specs.{Patches.Patch, Tests.is_change_at}
+use Rattle.fst_types.proofs.SmallStates.{only_in}
 use Rattle.fst_types.specs.declared.place.Place.TheVariants as place
 
 -- the only number of a list of one
-pub only_one : (n m : ℕ) → Contains (n ∷ []) m → m ≡ n
-only_one n m c = elim (Contains-push_cases [] n m c) [ inl none ↦ absurd (omega (arith, none.1)) | inr e ↦ sym e ]
-
 module _ (heads : List Head) (rising : IsRising heads) (s : ℕ) (lt : s < length heads) (to : ℕ) (old new : Leveling)
     (aligned : map (λ r. r.number) old.ranks ≡ map (λ p. p.number) (patches_of heads))
     (numbers : map (λ r. r.number) new.ranks ≡ map (λ r. r.number) old.ranks) (long : length new.floors ≡ length old.floors) (room : new.room ≡ old.room)
@@ -46,9 +44,9 @@ module _ (heads : List Head) (rising : IsRising heads) (s : ℕ) (lt : s < lengt
     numbers = numbers;
     long = long;
     room = room;
-    raised = λ m c. ap (level_of new.ranks) (only_one n m c ∙ sym own) ∙ raised no_rank;
+    raised = λ m c. ap (level_of new.ranks) (sym (only_in n m c) ∙ sym own) ∙ raised no_rank;
     rest = λ m none. rest no_rank m (λ e. none (subst (Contains (n ∷ [])) (sym (e ∙ own)) (Contains-push [] n)));
-    floors = λ c m k h. floor_raised c (hard_one c m (only_one n m k) h);
+    floors = λ c m k h. floor_raised c (hard_one c m (sym (only_in n m k)) h);
     other_floors = λ c none. floor_rest c (λ h. none n (Contains-push [] n) (one_hard c h));
   }
 
@@ -75,7 +73,7 @@ lifted_more heads met n to old mid new told A B = record {
   floors = λ c m k h. elim (told c) [
     | inl own ↦ B.floors c n (Contains-push [] n) own
     | inr not ↦ elim (Contains-push_cases met n m k) [
-      | inl old ↦ B.other_floors c (λ x y z. not (subst (IsHardNumber heads c) (only_one n x y) z)) ∙ A.floors c m old h
+      | inl old ↦ B.other_floors c (λ x y z. not (subst (IsHardNumber heads c) (sym (only_in n x y)) z)) ∙ A.floors c m old h
       | inr e ↦ absurd (not (subst (IsHardNumber heads c) (sym e) h))
     ]
   ];
@@ -83,7 +81,7 @@ lifted_more heads met n to old mid new told A B = record {
 }
   where
     pushed : (m : ℕ) → Contains (n ∷ []) m → Contains (met ++ n ∷ []) m
-    pushed m c = subst (Contains (met ++ n ∷ [])) (sym (only_one n m c)) (Contains-push met n)
+    pushed m c = subst (Contains (met ++ n ∷ [])) (only_in n m c) (Contains-push met n)
 
     was : (m : ℕ) → Contains (n ∷ []) m ⊎ (Contains (n ∷ []) m → ⊥)
-    was m = elim (cases_eq m n) [ inl e ↦ inl (subst (Contains (n ∷ [])) (sym e) (Contains-push [] n)) | inr other ↦ inr (λ c. other (only_one n m c)) ]
+    was m = elim (cases_eq m n) [ inl e ↦ inl (subst (Contains (n ∷ [])) (sym e) (Contains-push [] n)) | inr other ↦ inr (λ c. other (sym (only_in n m c))) ]

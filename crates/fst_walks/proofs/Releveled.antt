@@ -1,8 +1,9 @@
 -- A gate among leveled patches that gains names is at the top already.
-use Rattle.std.proofs.Common.{◌≡◌, ◌∷◌, [], ℕ, List, map, Contains, refl, sym, ap, subst, ◌∙◌, inl, inr, arith}
+use Rattle.std.proofs.Common.{◌≡◌, ◌∷◌, [], ℕ, List, map, refl, sym, ap, subst, ◌∙◌, inl, inr, arith}
 use Rattle.fst_types.specs.{Gates.IsOpenNumber, Gating.gains, Patches.{Patch, block_of_kind, grade_of_kind}}
-use Rattle.fst_types.proofs.{Depending.{Grown, grown}, Finite.{In-from_Contains, Contains-from_In}, GateGains.{In-unmap, direct_cases, gained}}
+use Rattle.fst_types.proofs.{GateGains.{direct_cases, gained}}
 use Rattle.fst_heads.specs.{Grading.IsHardNumber, Marks.{PassesAt}}
+use Rattle.fst_heads.proofs.Covering.{was_gained}
 use Rattle.fst_walks.specs.{Leveling.{AreLeveled, IsLeveled, Leveling, level_of, floor_of}}
 use Rattle.fst_walks.proofs.{Leveled.{live_passes, passed_on}}
 use Rattle.fst_heads.specs.declared.test.Test.TheVariants as test
@@ -16,20 +17,15 @@ module _ (old : List Patch) (g : ℕ) (names : List ℕ) (gate : IsOpenNumber ol
   abbrev new : List Patch
   new = map (gains g names) old
 
-  was : (p : Patch) → Contains new p → (o : Patch) × Contains old o × Grown g names o p
-  was p h =
-      let r = In-unmap (gains g names) old p (In-from_Contains new p h) in
-      (r.0, Contains-from_In old r.0 r.1, subst (Grown g names r.0) r.2 (grown g names r.0))
-
   change_was : (b n : ℕ) → PassesAt (test.LiveOn b) new n → PassesAt (test.LiveOn b) old n
   change_was b n x =
       let k = passed_on new b n x in
-      let o = was x.patch x.head in
+      let o = was_gained old g names x.patch x.head in
       subst (PassesAt (test.LiveOn b) old) (sym o.2.number ∙ x.numbered) (live_passes old b o.0 o.1 (λ e. k.1 (o.2.place ∙ e)) (sym (ap block_of_kind o.2.kind) ∙ k.2))
 
-  hard_was : (b n : ℕ) → IsHardNumber new b n → IsHardNumber old b n
+  pub hard_was : (b n : ℕ) → IsHardNumber new b n → IsHardNumber old b n
   hard_was b n h =
-      let o = was h.patch h.head in
+      let o = was_gained old g names h.patch h.head in
       record {
         patch = o.0;
         head = o.1;
@@ -38,7 +34,7 @@ module _ (old : List Patch) (g : ℕ) (names : List ℕ) (gate : IsOpenNumber ol
       }
 
   open_was : (n : ℕ) → IsOpenNumber new n → IsOpenNumber old n
-  open_was n x = let o = was x.patch x.head in record { patch = o.0; head = o.1; numbered = sym o.2.number ∙ x.numbered; is_open = sym o.2.kind ∙ x.is_open }
+  open_was n x = let o = was_gained old g names x.patch x.head in record { patch = o.0; head = o.1; numbered = sym o.2.number ∙ x.numbered; is_open = sym o.2.kind ∙ x.is_open }
 
   -- it is at the top, so nothing that it gains is higher
   pub gained_leveled : (level floor : ℕ → ℕ) → AreLeveled old level floor → AreLeveled (map (gains g names) old) level floor

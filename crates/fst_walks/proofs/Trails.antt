@@ -2,7 +2,7 @@
 use Rattle.std.proofs.Common.{◌≡◌, ◌≢◌, ◌≤◌, ◌<◌, ℕ, zero, suc, Bool, true, false, List, [], ◌∷◌, ◌++◌, length, take, filter, get_or, set, Contains, AllPairs, refl, sym, subst, ◌∙◌, inl, inr, arith, get_or-set_same, get_or-set_other, length-append}
 use Rattle.std.proofs.{lemmas.Bool.{cases_eq, false≢true}, lemmas.List.{take-append-le, take_all}}
 use Rattle.std.proofs.lemmas.List.Elements.{Contains-append_left, Contains-push, Contains-push_cases}
-use Rattle.fst_types.proofs.{Dropping.filter_in, Finite.{In, In-from_Contains, Contains-from_In}}
+use Rattle.fst_types.proofs.{Dropping.filter_in, Finite.{In, In-from_Contains, Contains-from_In}, SmallStates.only_in}
 use Rattle.fst_heads.proofs.{Slots.any_default, Waiting.{once_fits, once_append}}
 use Rattle.fst_walks.specs.Walks.{AreMarked}
 
@@ -29,11 +29,8 @@ in_below : (n s : ℕ) → s < n → In (below n) s
 in_below zero s lt = absurd (omega (arith, lt))
 in_below (suc n) s lt = elim (cases_eq n s) [ inl e ↦ inl e | inr ne ↦ inr (in_below n s (omega (arith, lt, ne))) ]
 
-none_in : (n : ℕ) → Contains {X = ℕ} [] n → ⊥
+pub none_in : (n : ℕ) → Contains {X = ℕ} [] n → ⊥
 none_in n c = absurd (omega (arith, c.1))
-
-only_one : (n m : ℕ) → Contains (n ∷ []) m → n ≡ m
-only_one n m c = elim (Contains-push_cases [] n m c) [ inl none ↦ absurd (none_in m none) | inr e ↦ e ]
 
 contains_of : (ns : List ℕ) (n : ℕ) → In ns n → Contains ns n
 contains_of ns n h = Contains-from_In ns n h
@@ -67,7 +64,7 @@ module _ (marks : List Bool) (met : List ℕ) (m : AreMarked marks met) where
   pub once_push : (s : ℕ) → get_or marks s false ≡ false → AllPairs (λ s t. s ≢ t) met → AllPairs (λ s t. s ≢ t) (met ++ s ∷ [])
   once_push s none once =
       once_append met (s ∷ []) once (λ i j d lt inside. absurd (omega (arith, lt, inside)))
-      (λ t c d. fresh s none (subst (Contains met) (sym (only_one s t d)) c))
+      (λ t c d. fresh s none (subst (Contains met) (sym (only_in s t d)) c))
 
   -- and there is room for it
   pub room_to_meet : (s : ℕ) → s < length marks → get_or marks s false ≡ false → AllPairs (λ s t. s ≢ t) met → length met < length marks

@@ -8,9 +8,6 @@ use Rattle.fst_heads.proofs.{Placed.unmapped, Slots.{any_default, slot_unique, s
 use Rattle.fst_walks.specs.{Descending.{Visited, Visits}, Walks.{Trail, AreMarked, Meets, number_at, numbers_met}}
 use Rattle.fst_walks.proofs.Trails.{met_inside}
 
-pub none_in : (n : ℕ) → Contains {X = ℕ} [] n → ⊥
-none_in n c = absurd (omega (arith, c.1))
-
 -- the number of a slot
 pub slot_number : (heads : List Head) (n s : ℕ) → HasSlot heads n s → number_at heads s ≡ n
 slot_number heads n s slot = let d = some_element heads s slot.0 in get_or-map (λ (h : Head). h.number) heads s d 0 slot.0 ∙ slot.1 d
@@ -141,15 +138,15 @@ visits_skip P done n old new none v =
     (λ m k. elim (Contains-push_cases done n m k.0) [ inl c ↦ (c, k.1) | inr e ↦ absurd (none (subst P (sym e) k.1)) ])
     v
 
--- what is visited besides is not in another list, nor was what there was before
-pub still_apart : (P : ℕ → Type 0) (old new other : List ℕ) (from : ℕ) → Visits P old new → from ≡ length old → ((n : ℕ) → Contains old n → Contains other n → ⊥)
-    → ((at : ℕ) → from ≤ at → at < length new → Contains other (get_or new at 0) → ⊥) → (n : ℕ) → Contains new n → Contains other n → ⊥
-still_apart P old new other from v begun apart fresh n here there = elim (cases_lt here.0 from) [
+-- what is visited besides has no Q, nor had what there was before
+pub still_apart : (P Q : ℕ → Type 0) (old new : List ℕ) (from : ℕ) → Visits P old new → from ≡ length old → ((n : ℕ) → Contains old n → Q n → ⊥)
+    → ((at : ℕ) → from ≤ at → at < length new → Q (get_or new at 0) → ⊥) → (n : ℕ) → Contains new n → Q n → ⊥
+still_apart P Q old new from v begun apart fresh n here there = elim (cases_lt here.0 from) [
   | inl before ↦
       let lt : here.0 < length old = omega (arith, before, begun) in
       let same = sym (get_or_append_left old v.kept.0 n here.0 lt) ∙ (ap (λ q. get_or q here.0 n) (sym v.kept.1) ∙ here.2) in
       apart n (here.0, lt, same) there
   | inr after ↦
       let same = any_default new here.0 0 n here.1 ∙ here.2 in
-      fresh here.0 after here.1 (subst (Contains other) (sym same) there)
+      fresh here.0 after here.1 (subst Q (sym same) there)
 ]

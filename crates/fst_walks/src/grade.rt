@@ -12,6 +12,7 @@ ghost use Rattle.fst_heads.specs.Heads.{patches_of};
 ghost use Rattle.fst_walks.specs.BothEnds.{IsOver};
 ghost use Rattle.fst_walks.specs.Sights.{Sees};
 
+use crate::below::grade_below;
 use crate::both_ends::grade_between;
 use crate::ends::Ends;
 use crate::other_gates::is_blocked;
@@ -33,8 +34,11 @@ fn grade_by_ways(sight: &Sight<'_>, ends: &mut Ends, block: u32, row: &[u32]) ->
     if stays_below(sight, block, row) {
         return Grade::Hard;
     }
-    if comes_back(sight.heads, block, row) {
+    if comes_back(sight, block, row) {
         return Grade::Soft;
+    }
+    if let Some(grade) = grade_below(sight, &mut ends.down, block, row) {
+        return grade;
     }
     grade_between(sight, ends, block, row)
 }

@@ -21,6 +21,7 @@
 #![tactic(auto)]
 
 pub mod ascent;
+pub mod below;
 pub mod block_walk;
 pub mod both_ends;
 pub mod cycle;

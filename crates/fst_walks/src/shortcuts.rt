@@ -114,6 +114,15 @@ pub fn waits_for_quiet_block(
     }
 }
 
+// Which of a row a chain goes on with.
+#[derive(Clone, Copy)]
+enum Chain {
+    // The newest.
+    Newest,
+    // The oldest that is not older than the patch with the number: it goes down to that as fast as it can.
+    Toward(u32),
+}
+
 // The last of the row.
 fn newest(row: &[u32]) -> Option<u32>
     ensures { IfSome result (Contains row.now) }
@@ -121,6 +130,28 @@ fn newest(row: &[u32]) -> Option<u32>
     match row {
         [.., last] => Some(*last),
         [] => None,
+    }
+}
+
+// The first of the row that is not before the number.
+fn not_before(row: &[u32], number: u32) -> Option<u32>
+    ensures { IfSome result (Contains row.now) }
+{
+    for named in row {
+        if *named >= number {
+            return Some(*named);
+        }
+    }
+    None
+}
+
+// Where the chain goes on.
+fn next_of(chain: Chain, row: &[u32]) -> Option<u32>
+    ensures { IfSome result (Contains row.now) }
+{
+    match chain {
+        Chain::Newest => newest(row),
+        Chain::Toward(number) => not_before(row, number),
     }
 }
 
@@ -155,14 +186,13 @@ fn has_change(heads: &[Head], block: u32, row: &[u32]) -> bool
     false
 }
 
-/// Whether the newest of the row, the newest that it depends on, and so on, come over a change of another block back to
-/// one of the block, or to a patch that directly depends on one, none being on disk, within 4,096 steps. A change of the
-/// block with that row is soft. Where they do not, another path may.
-pub fn comes_back(heads: &[Head], block: u32, row: &[u32]) -> bool
+// Whether the chain from one of the row to one that it depends on, and so on, comes over a change of another block back
+// to one of the block, or to a patch that directly depends on one, none being on disk, within 4,096 steps.
+fn chain_back(heads: &[Head], block: u32, row: &[u32], chain: Chain) -> bool
     requires { IsRising heads.now }
     ensures { IsTrue result → HasUnder (patches_of heads.now) row.now (IsReturning (patches_of heads.now) block) }
 {
-    let mut next = newest(row);
+    let mut next = next_of(chain, row);
     let mut away = false;
     let mut looks = MOST_LOOKS;
     for _ in 0..MOST_STEPS {
@@ -181,9 +211,35 @@ pub fn comes_back(heads: &[Head], block: u32, row: &[u32]) -> bool
             }
             looks -= few.len();
         }
-        next = newest(below);
+        next = next_of(chain, below);
     }
     false
+}
+
+// The number of the newest change of the block that is not on disk, or one that no patch has.
+fn newest_change(sight: &Sight<'_>, block: u32) -> u32
+    requires { block < length sight.now.lists.now }
+{
+    match sight.lists[block as usize].last() {
+        Some(listed) => listed.number,
+        None => u32::MAX,
+    }
+}
+
+/// Whether one of two chains, along the newest or toward the newest change of the block, comes from the row over a change
+/// of another block back to the block. A change of the block with that row is soft. Where neither does, another path may.
+pub fn comes_back(sight: &Sight<'_>, block: u32, row: &[u32]) -> bool
+    requires rising { IsRising sight.now.heads.now }
+    requires block { block < length sight.now.lists.now }
+    ensures { IsTrue result → HasUnder (patches_of sight.now.heads.now) row.now (IsReturning (patches_of sight.now.heads.now) block) }
+{
+    chain_back(sight.heads, block, row, Chain::Newest)
+        || chain_back(
+            sight.heads,
+            block,
+            row,
+            Chain::Toward(newest_change(sight, block)),
+        )
 }
 
 /// Whether each of the row is a hard change of the block in memory, or lower than the floor of the block. A change of the

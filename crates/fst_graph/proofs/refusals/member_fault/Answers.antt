@@ -2,7 +2,8 @@ use Rattle.std.proofs.{Common.{◌∙◌, [], refl, sym, inl, inr}, lemmas.Bool.
 use Rattle.fst_heads.specs.{Heads.patches_of, Lists.entries_of}
 use Rattle.fst_graph.specs.Membering.{OverlapReaches}
 use Rattle.fst_heads.proofs.{Listing.listed_at, Touching.{touched_overlaps, overlaps_touched}}
-use Rattle.fst_graph.proofs.PlaceOf.{none_then, some_then}
+use Rattle.std.proofs.lemmas.Option.{IfSome_then}
+use Rattle.fst_graph.proofs.PlaceOf.{none_then}
 use Rattle.fst_types.specs.declared.grade.Grade.TheVariants as grade
 use Rattle.fst_graph.proofs.refusals.member_fault.Goals as goal
 
@@ -21,7 +22,7 @@ none_reaches c o =
     false≢true (sym c.if-overlap_reaches.false ∙ c.overlap_reaches.ensures.reaches.1 (o.0, overlaps_touched (patches_of c.args.sight.now.heads.now) c.args.block c.args.span.at c.args.span.len 0 grade.Soft [] o.0 o.1, o.2))
 
 pub returns-clause-first : goal.returns-clause-first
-returns-clause-first c = some_then c.room_fault.result (λ f first. inr (none_reaches c, first)) c.room_fault.ensures.first
+returns-clause-first c = IfSome_then c.room_fault.result c.room_fault.ensures.first (λ f first. inr (none_reaches c, first))
 
 pub returns-clause-clear : goal.returns-clause-clear
 returns-clause-clear c = none_then c.room_fault.result (λ clear. (none_reaches c, clear)) c.room_fault.ensures.clear

@@ -1,4 +1,4 @@
-use Rattle.fst_heads.proofs.{Basics.{◌∙◌, sym, ap, subst, rules, arith}, Words.{HasSlot, HasNone, node_of, hears, wakes}, AtNumber.{at_slot, at_none}}
+use Rattle.fst_heads.proofs.{Basics.{◌∙◌, sym, ap, subst, rules, arith}, Words.{HasSlot, HasNone, node_of, wakes}, AtNumber.{at_slot, at_none}}
 use Rattle.fst_heads.proofs.{Framed.frames_set, PendingAt.node_in, Slotted.{waits_none, stays_slot, waits_slot, number_in}}
 use Rattle.fst_heads.proofs.cascade.hear_at.Goals as goal
 

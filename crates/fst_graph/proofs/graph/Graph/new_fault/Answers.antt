@@ -1,23 +1,14 @@
-use Rattle.std.proofs.Common.{◌≤◌, length, arith}
-use Rattle.fst_types.specs.{Limits.max_groups, Refusals.◌when◌}
-use Rattle.fst_graph.specs.Grouping.{pair_order}
-use Rattle.fst_graph.proofs.GroupCalls.{first_past, none_past}
-use Rattle.fst_types.specs.declared.fault.What.TheVariants as what
-use Rattle.fst_types.specs.declared.fault.Fault.TheVariants as fault
+use Rattle.std.proofs.{Common.{◌≤◌, inr, length, arith}, lemmas.Option.IfSome_then}
+use Rattle.fst_types.specs.Limits.{max_groups}
+use Rattle.fst_graph.proofs.{PlaceOf.none_then, graph.Graph.new_fault.Goals.After-pair_fault}
 use Rattle.fst_graph.proofs.graph.Graph.new_fault.Goals as goal
 
+-- there is room for one more group
+few : (c : After-pair_fault) → max_groups ≤ length c.self.inside.groups.items → ⊥
+few c full = let many = c.len.ensures in let less = c.if-len-ge-MAX_GROUPS.false in omega (arith, full, many, less)
+
 pub returns-clause-first : goal.returns-clause-first
-returns-clause-first c =
-    let p = c.self.inside.patches in
-    let gs = c.self.inside.groups.items in
-    let many = c.len.ensures in
-    let few = c.if-len-ge-MAX_GROUPS.false in
-    rw (← c.self.view_is) (first_past (fault.Full what.Groups when (max_groups ≤ length gs)) (pair_order p.heads p.numbers) (λ full. omega (arith, full, many, few)) c.pair_fault.result c.pair_fault.ensures.first)
+returns-clause-first c = rw (← c.self.view_is) (IfSome_then c.pair_fault.result c.pair_fault.ensures.first (λ f first. inr (few (goal.at.returns-clause-first c).After-pair_fault, first)))
 
 pub returns-clause-clear : goal.returns-clause-clear
-returns-clause-clear c =
-    let p = c.self.inside.patches in
-    let gs = c.self.inside.groups.items in
-    let many = c.len.ensures in
-    let few = c.if-len-ge-MAX_GROUPS.false in
-    rw (← c.self.view_is) (none_past (fault.Full what.Groups when (max_groups ≤ length gs)) (pair_order p.heads p.numbers) (λ full. omega (arith, full, many, few)) c.pair_fault.result c.pair_fault.ensures.clear)
+returns-clause-clear c = rw (← c.self.view_is) (none_then c.pair_fault.result (λ clear. (few (goal.at.returns-clause-clear c).After-pair_fault, clear)) c.pair_fault.ensures.clear)

@@ -1,10 +1,10 @@
-use Rattle.std.proofs.{Common.{◌≡◌, ◌∙◌, length, ap, subst, arith, refl, inl, inr}, lemmas.List.length-map}
+use Rattle.std.proofs.{Common.{rules, ◌≡◌, ◌∙◌, length, ap, subst, arith, refl, inl, inr}, lemmas.List.length-map}
 use Rattle.fst_types.specs.{Gates.IsOpenNumber, Order.seal_order, Refusals.IsFirst}
 use Rattle.fst_heads.specs.{Frames.{frame_of, frames_of}, Heads.patches_of, Nodes.nodes_of}
 use Rattle.fst_graph.specs.Sound.{IsPrepared}
 use Rattle.fst_graph.proofs.{Borne.settled_fits, GateSlot.refused_closed, MemberReady.{put_begun, around_kept, places_kept, shut_begun}, Readied.head_told}
-use Rattle.fst_graph.proofs.{Shutting.{shut_starts, shut_linked, shut_distinct, shut_standing, shut_few, shut_cascade, shut_sound}, Sound.{if_prepared, rising_sound, with_prepared}}
-use Rattle.fst_graph.proofs.sparse.Sparse.begin_member.Goals.{After-seal_slot}
+use Rattle.fst_graph.proofs.{Shutting.{shut_ready, shut_few, shut_cascade, shut_sound}, Sound.{if_prepared, rising_sound, with_prepared}}
+use Rattle.fst_graph.proofs.sparse.Sparse.begin_member.Goals.{After-seal_slot, In-Err}
 use Rattle.fst_graph.proofs.sparse.Sparse.begin_member.Goals as goal
 
 pub gate_slot-requires : goal.gate_slot-requires
@@ -14,25 +14,14 @@ pub seal_slot-requires-clause-rising : goal.seal_slot-requires-clause-rising
 seal_slot-requires-clause-rising c = rising_sound c.self.invariant
 
 pub seal_slot-requires-clause-fits : goal.seal_slot-requires-clause-fits
-seal_slot-requires-clause-fits c =
-    let T = c.self.invariant.tallies in
-    settled_fits (nodes_of c.self.inside.heads.items) c.self.inside.blocks (omega (arith, c.self.ranges)) T.settled
+seal_slot-requires-clause-fits c = settled_fits (nodes_of c.self.inside.heads.items) c.self.inside.blocks (omega (arith, c.self.ranges)) c.self.invariant.tallies.settled
 
 -- the gate is open among the patches
 gate : (c : After-seal_slot) → IsOpenNumber (patches_of c.self.inside.heads.items) c.args.head
 gate c = subst (λ hs. IsOpenNumber (patches_of hs) c.args.head) c.deref.ensures.value c.in-Ok.ensures.is_open
 
-pub cascade-landed-requires-clause-start : goal.cascade-landed-requires-clause-start
-cascade-landed-requires-clause-start c = shut_starts c.self.invariant (gate (goal.at.cascade-landed-requires-clause-start c).After-seal_slot) c.seal_slot.new.heads c.seal_slot.ensures.nodes _ c.seal_slot.ensures.queued
-
-pub cascade-landed-requires-clause-linked : goal.cascade-landed-requires-clause-linked
-cascade-landed-requires-clause-linked c = shut_linked c.self.invariant (gate (goal.at.cascade-landed-requires-clause-linked c).After-seal_slot) c.seal_slot.new.heads c.seal_slot.ensures.nodes
-
-pub cascade-landed-requires-clause-distinct : goal.cascade-landed-requires-clause-distinct
-cascade-landed-requires-clause-distinct c = shut_distinct c.self.invariant (gate (goal.at.cascade-landed-requires-clause-distinct c).After-seal_slot) c.seal_slot.new.heads c.seal_slot.ensures.nodes
-
-pub cascade-landed-requires-clause-standing : goal.cascade-landed-requires-clause-standing
-cascade-landed-requires-clause-standing c = shut_standing c.self.invariant (gate (goal.at.cascade-landed-requires-clause-standing c).After-seal_slot) c.seal_slot.new.heads c.seal_slot.ensures.nodes
+pub cascade-landed-requires : goal.cascade-landed-requires
+cascade-landed-requires c = shut_ready c.self.invariant (gate (goal.at.cascade-landed-requires c).After-seal_slot) c.seal_slot.new.heads c.seal_slot.ensures.nodes c.seal_slot.ensures.queued c.seal_slot.ensures.capacity (search rules)
 
 pub overflow_sub-self : goal.overflow_sub-self
 overflow_sub-self c =
@@ -76,20 +65,12 @@ returns-in-Ok-clause-closed c =
     shut_begun (patches_of s.heads.items) s.numbers c.self.invariant.keeps.lawful c.args.head (patches_of c.cascade-landed.new.heads.items) open_gate
     (shut_cascade c.self.invariant open_gate c.seal_slot.new.heads c.seal_slot.ensures.nodes c.cascade-landed.new.heads c.cascade-landed.ensures.placed)
 
+-- the gate is not open, if it can't be sealed
+shut : (c : In-Err) → IsOpenNumber (patches_of c.self.inside.heads.items) c.args.head → ⊥
+shut c = refused_closed (patches_of c.self.inside.heads.items) c.self.inside.numbers c.args.head c.in-Err.field-0 c.self.invariant.keeps.lawful (subst (λ hs. IsFirst (seal_order (patches_of hs) c.self.inside.numbers c.args.head) c.in-Err.field-0) c.deref.ensures.value c.in-Err.ensures.refused)
+
 pub returns-in-Err-clause-begun : goal.returns-in-Err-clause-begun
-returns-in-Err-clause-begun c =
-    let heads = c.self.inside.heads.items in
-    rw (← c.self.view_is)
-    (record {
-      row = inr (
-        refused_closed (patches_of heads) c.self.inside.numbers c.args.head c.in-Err.field-0 c.self.invariant.keeps.lawful (subst (λ hs. IsFirst (seal_order (patches_of hs) c.self.inside.numbers c.args.head) c.in-Err.field-0) c.deref.ensures.value c.in-Err.ensures.refused),
-        refl,
-      );
-      state = refl;
-    })
+returns-in-Err-clause-begun c = rw (← c.self.view_is) (record { row = inr (shut (goal.at.returns-in-Err-clause-begun c).In-Err, refl); state = refl })
 
 pub returns-in-Err-clause-closed : goal.returns-in-Err-clause-closed
-returns-in-Err-clause-closed c =
-    let heads = c.self.inside.heads.items in
-    rw (← c.self.view_is)
-    (refused_closed (patches_of heads) c.self.inside.numbers c.args.head c.in-Err.field-0 c.self.invariant.keeps.lawful (subst (λ hs. IsFirst (seal_order (patches_of hs) c.self.inside.numbers c.args.head) c.in-Err.field-0) c.deref.ensures.value c.in-Err.ensures.refused))
+returns-in-Err-clause-closed c = rw (← c.self.view_is) (shut (goal.at.returns-in-Err-clause-closed c).In-Err)

@@ -1,10 +1,9 @@
 use Rattle.std.proofs.Common.{◌≡◌, ◌≤◌, ◌∙◌, Contains, length, map, refl, sym, ap, subst, inl, inr, arith}
-use Rattle.fst_types.specs.{Dependencies.{DirectlyOn, IsLiveNumber}, Facts.SparseAreLawful, Gates.IsOpenNumber, Gating.gains, Lists.Lists, Order.depend_order, Refusals.NoneHolds}
-use Rattle.fst_heads.specs.{Heads.patches_of, Names.numbers_of, Nodes.{nodes_of, at_number, gains_names, linked_to, pending_in, HasRoomAbove}, Pendings.sums_of, declared.pending.Sums.Sums}
-use Rattle.fst_heads.proofs.{Added.with_names, AtNumber.patches_in_nodes, Beside.beside_depends, Covering.covered_gained, Linking.{rising_as, rising_same}}
-use Rattle.fst_walks.proofs.{Linked.patches_named, Seen.{seen, same_patches, lawful_nodes, gained_number}}
-use Rattle.fst_walks.proofs.Releveled.{gained_is_leveled}
-use Rattle.fst_graph.proofs.{Borne.few, Kept.keeps_depends, NeedsNow.needing_gained, Sound.{rising_sound, roomier_sound, walked_sound, as_many_places, gates_told, over_down}, Tallied.tallies_depends}
+use Rattle.fst_types.specs.{Dependencies.{DirectlyOn, IsLiveNumber}, Gates.IsOpenNumber, Lists.Lists, Order.depend_order, Refusals.NoneHolds}
+use Rattle.fst_heads.specs.{Heads.patches_of, Names.numbers_of, Nodes.{nodes_of, at_number, gains_names, pending_in, HasRoomAbove}, Pendings.sums_of}
+use Rattle.fst_heads.proofs.{Added.with_names, Linking.{rising_as, rising_same}}
+use Rattle.fst_walks.proofs.{Seen.{same_patches, gained_number}}
+use Rattle.fst_graph.proofs.{Borne.few, Made.{gained_sound, named_nodes, named_patches, summed}, Sound.{rising_sound, roomier_sound, walked_sound, as_many_places, gates_told, over_down}}
 use Rattle.fst_graph.proofs.sparse.Sparse.depend.Goals as goal
 
 pub depend_fault-requires-clause-rising : goal.depend_fault-requires-clause-rising
@@ -67,37 +66,12 @@ link-requires c = record {
       subst (HasRoomAbove c.gain.new.heads.items) (c.as_slice-3.ensures ∙ sym c.as_slice-4.ensures) (c.in-Ok-gain.ensures.room above);
 }
 
--- what the names add up to
-abbrev added : (c : goal.Joined-names-3) → Sums
-added c = sums_of (pending_in (nodes_of c.self.inside.heads.items)) c.in-Ok.names.items
-
-adds_up : (c : goal.Joined-names-3) → c.row_sums-sums.result ≡ added c
-adds_up c =
-    let there : nodes_of c.deref-3.result.now ≡ nodes_of c.self.inside.heads.items = ap nodes_of c.deref-3.ensures.value ∙ c.reserve_above.ensures.nodes in
-    c.row_sums-sums.ensures.sums
-    ∙ (ap (λ ns. sums_of (pending_in ns) c.as_slice-2.result.now) there ∙ ap (sums_of (pending_in (nodes_of c.self.inside.heads.items))) c.as_slice-2.ensures)
-
 -- the nodes where the gate has the names
-named : (c : goal.Joined-names-3) → nodes_of c.link.new.heads.items ≡ with_names (nodes_of c.self.inside.heads.items) c.args.gate.0 c.in-Ok.names.items (added c)
+named : (c : goal.Joined-names-3) → nodes_of c.link.new.heads.items ≡ with_names (nodes_of c.self.inside.heads.items) c.args.gate.0 c.in-Ok.names.items (sums_of (pending_in (nodes_of c.self.inside.heads.items)) c.in-Ok.names.items)
 named c =
-    let g = c.args.gate.0 in
-    let names = c.in-Ok.names.items in
-    let s = c.row_sums-sums.result in
-    c.link.ensures.nodes
-    ∙ (ap (λ row. map (linked_to row g) (nodes_of c.gain.new.heads.items)) c.as_slice-4.ensures
-    ∙ ap (map (linked_to names g))
-    (c.in-Ok-gain.ensures.ok
-    ∙ (ap (λ row. map (at_number g (gains_names row s)) (nodes_of c.reserve_above.new.heads.items)) c.as_slice-3.ensures
-    ∙ (ap (map (at_number g (gains_names names s))) c.reserve_above.ensures.nodes
-    ∙ ap (λ t. map (at_number g (gains_names names t)) (nodes_of c.self.inside.heads.items)) (adds_up c)))))
-
--- the patches where the gate has the names
-new_patches : (c : goal.Joined-names-3) → patches_of c.link.new.heads.items ≡ map (gains c.args.gate.0 c.in-Ok.names.items) (patches_of c.self.inside.heads.items)
-new_patches c =
-    let g = c.args.gate.0 in
-    let names = c.in-Ok.names.items in
-    let heads = c.self.inside.heads.items in
-    seen c.link.new.heads.items _ (named c) ∙ (patches_named g names (added c) (nodes_of heads) ∙ ap (map (gains g names)) (patches_in_nodes heads))
+    let sums = summed _ c.self.inside.heads.items c.row_sums-sums.ensures.sums (ap nodes_of c.deref-3.ensures.value ∙ c.reserve_above.ensures.nodes) c.as_slice-2.ensures in
+    let gained = c.in-Ok-gain.ensures.ok ∙ ap (map (at_number c.args.gate.0 (gains_names c.as_slice-3.result.now c.row_sums-sums.result))) c.reserve_above.ensures.nodes in
+    named_nodes c.self.inside.heads.items c.gain.new.heads.items _ c.args.gate.0 sums gained c.as_slice-3.ensures c.link.ensures.nodes c.as_slice-4.ensures
 
 -- nothing refuses it, and the names are those that are live and not yet there
 gate : (c : goal.Joined-names-3) → IsOpenNumber (patches_of c.self.inside.heads.items) c.args.gate.0
@@ -111,28 +85,8 @@ live c = subst (λ hs. Lists (λ n. IsLiveNumber (patches_of hs) n × Contains (
 
 pub invariant_of-self-2 : goal.invariant_of-self-2
 invariant_of-self-2 c =
-    let heads = c.self.inside.heads.items in
-    let numbers = c.self.inside.numbers in
-    let g = c.args.gate.0 in
-    let on = numbers_of c.args.on.now in
     let walked = walked_sound c.self.invariant {walked = record c.self.inside.ends { up = record c.self.inside.ends.up { walk = c.depend_fault.new.walk } }} (record { long = c.depend_fault.ensures.long ∙ ap length c.deref.ensures.value; crossed = as_many_places c.self.invariant }) (over_down c.self.invariant) in
-    let K = walked.keeps in
-    let T = c.self.invariant.tallies in
-    let back = sym (patches_in_nodes heads) in
-    let live_there = subst (λ ps. Lists (λ n. IsLiveNumber ps n × Contains on n × (DirectlyOn ps g n → ⊥)) c.in-Ok.names.items) back (live c) in
-    let keeps = keeps_depends (patches_of heads) numbers c.self.inside.blocks g c.in-Ok.names.items on c.depend_fault.new.walk.marks _ K (gate c) (clear c) (live c) refl in
-    let lawful = subst (λ ps. SparseAreLawful ps numbers) (sym (new_patches c) ∙ seen c.link.new.heads.items _ (named c)) keeps.lawful in record {
-      keeps = rw (new_patches c) keeps;
-      beside = rw (new_patches c) (beside_depends (patches_of heads) c.self.inside.blocks c.self.inside.live c.self.inside.ends.up.crossed.items g c.in-Ok.names.items c.self.invariant.beside);
-      tallies = rw (named c)
-          (tallies_depends (nodes_of heads) numbers c.self.inside.blocks _ _ _ _ g on c.in-Ok.names.items (lawful_nodes heads numbers c.self.invariant.keeps.lawful) lawful T (subst (λ ps. IsOpenNumber ps g) back (gate c)) live_there);
-      covered = rw (new_patches c) (covered_gained (patches_of heads) g c.in-Ok.names.items c.self.inside.blocks c.self.inside.covers.items c.self.invariant.covered);
-      along = walked.along;
-      leveled = rw (new_patches c) (gained_is_leveled (patches_of heads) g c.in-Ok.names.items (gate c) c.self.inside.blocks c.self.inside.levels c.self.invariant.leveled);
-      needing = rw (new_patches c) (needing_gained (patches_of heads) g c.in-Ok.names.items c.self.invariant.keeps.lawful.one_place_each.rising (gate c) c.self.invariant.needing);
-      none_below = c.self.invariant.none_below;
-      prepared = tt;
-    }
+    gained_sound walked c.args.gate.0 c.in-Ok.names.items (numbers_of c.args.on.now) (gate c) (clear c) (live c) (named c)
 
 pub returns-clause-ok : goal.returns-clause-ok
 returns-clause-ok c =
@@ -140,7 +94,7 @@ returns-clause-ok c =
     rw (← c.self.view_is)
     (record {
       clear = none;
-      row = record { gate = gate c; clear = none.1.1.1.1.1.0; names = c.in-Ok.names.items; live = live c; gained = new_patches c };
+      row = record { gate = gate c; clear = none.1.1.1.1.1.0; names = c.in-Ok.names.items; live = live c; gained = named_patches c.self.inside.heads.items c.link.new.heads.items c.args.gate.0 c.in-Ok.names.items (named c) };
       numbers = refl;
       blocks = refl;
       groups = refl;

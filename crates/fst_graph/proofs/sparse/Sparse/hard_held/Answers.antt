@@ -2,22 +2,12 @@ use Rattle.std.proofs.Common.{refl, ◌≡◌, ◌∙◌, ◌&&◌, ℕ, Bool, N
 use Rattle.fst_heads.specs.{Ascending.IsBehind, Heads.patches_of, Marks.{mark_in, mark_of}, Nodes.nodes_of, Standings.is_held_on}
 use Rattle.fst_heads.proofs.Counts.{none_bound}
 use Rattle.fst_walks.proofs.Resting.{none_yet, none_there, none_held, least_held}
-use Rattle.fst_graph.proofs.Sound.{many_lists, its_list, its_standing, waits_live, behind_marked, rising_sound}
+use Rattle.fst_graph.proofs.Sound.{many_lists, its_list, its_standing, may_mark, behind_marked, rising_sound}
 use Rattle.fst_graph.proofs.sparse.Sparse.hard_held.Goals as goal
 
-pub mark_flight-flying-requires-clause-rising : goal.mark_flight-flying-requires-clause-rising
-mark_flight-flying-requires-clause-rising c = rw c.deref-2.ensures.value (rising_sound c.self.invariant)
-
-pub mark_flight-flying-requires-clause-listed : goal.mark_flight-flying-requires-clause-listed
-mark_flight-flying-requires-clause-listed c =
-    rw (c.deref-3.ensures.value, c.deref-2.ensures.value)
-    (its_list c.self.invariant c.deref.result.now c.deref.ensures.value c.args.block.0 c.in-Some.ensures.lookup.3.0 c.in-Some.list.now c.in-Some.ensures.lookup.1)
-
-pub mark_flight-flying-requires-clause-live : goal.mark_flight-flying-requires-clause-live
-mark_flight-flying-requires-clause-live c = rw c.deref-2.ensures.value (waits_live c.self.invariant c.args.block.0)
-
-pub mark_flight-flying-requires-clause-linked : goal.mark_flight-flying-requires-clause-linked
-mark_flight-flying-requires-clause-linked c = rw c.deref-2.ensures.value c.self.invariant.tallies.linked
+pub mark_flight-flying-requires : goal.mark_flight-flying-requires
+mark_flight-flying-requires c =
+    may_mark c.self.invariant c.deref.result.now c.deref.ensures.value c.args.block.0 c.in-Some.ensures.lookup.3.0 c.in-Some.list.now c.in-Some.ensures.lookup.1 c.deref-2.ensures.value c.deref-3.ensures.value c.deref-4.ensures.value
 
 pub first_held-requires : goal.first_held-requires
 first_held-requires c = record {

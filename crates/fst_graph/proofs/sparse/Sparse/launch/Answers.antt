@@ -1,4 +1,4 @@
-use Rattle.std.proofs.Common.{◌≡◌, ◌∙◌, Contains, map, sym, ap, subst, refl, arith}
+use Rattle.std.proofs.Common.{◌≡◌, ◌<◌, ◌∙◌, Contains, map, sym, ap, subst, refl, arith}
 use Rattle.fst_types.specs.{Facts.SparseAreLawful, Writable.{IsWritable, IsWritableSet}, Writing.launched}
 use Rattle.fst_heads.specs.{Heads.patches_of, Names.numbers_of, Nodes.nodes_of, Spreading.launches}
 use Rattle.fst_graph.specs.Known.{Known}
@@ -41,21 +41,19 @@ here c =
     block_found (patches_of c.self.inside.heads.items) c.requires.block c.in-Some-block_of.block (numbers_of c.args.chosen.now) c.in-Some.first.now.0 (choice (goal.at.index_mut-requires c).After-deref) named
     (λ p h e. c.in-Some-block_of.ensures p (subst (λ hs. Contains (patches_of hs) p) (sym c.deref.ensures.value) h) e)
 
-pub index_mut-requires : goal.index_mut-requires
-index_mut-requires c =
+inside : (c : After-index_mut-arg-1) → c.in-Some-block_of.block < c.self.inside.blocks
+inside c =
     let s = c.self.inside in
     let there = here c in
     let chosen = subst (λ ps. IsWritable ps c.requires.block) (sym (patches_in_nodes s.heads.items)) (writable (goal.at.index_mut-requires c).After-deref) in
     let lt = (writable_rests (nodes_of s.heads.items) s.blocks c.requires.block s.standings.items none_yet (inside_nodes s.heads.items s.blocks c.self.invariant.keeps.inside) c.self.invariant.tallies.standing chosen).0 in
-    omega (arith, there, lt, as_many_standings c.self.invariant)
+    omega (arith, there, lt)
+
+pub index_mut-requires : goal.index_mut-requires
+index_mut-requires c = omega (arith, inside c, as_many_standings c.self.invariant)
 
 pub clear-requires : goal.clear-requires
-clear-requires c =
-    let s = c.self.inside in
-    let there = here (goal.at.clear-requires c).After-index_mut-arg-1 in
-    let chosen = subst (λ ps. IsWritable ps c.requires.block) (sym (patches_in_nodes s.heads.items)) (writable (goal.at.clear-requires c).After-deref) in
-    let lt = (writable_rests (nodes_of s.heads.items) s.blocks c.requires.block s.standings.items none_yet (inside_nodes s.heads.items s.blocks c.self.invariant.keeps.inside) c.self.invariant.tallies.standing chosen).0 in
-    omega (arith, there, lt, c.self.invariant.needing.long)
+clear-requires c = omega (arith, inside (goal.at.clear-requires c).After-index_mut-arg-1, c.self.invariant.needing.long)
 
 pub invariant_of-self-2 : goal.invariant_of-self-2
 invariant_of-self-2 c =

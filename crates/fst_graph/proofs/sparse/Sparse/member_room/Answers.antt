@@ -1,11 +1,11 @@
 use Rattle.std.proofs.Common.{◌≡◌, ◌∷◌, [], ◌<◌, ◌∙◌, List, rules, arith, length, None, inl, ap, sym, subst, refl}
 use Rattle.fst_types.specs.{Grades.FollowsRule, Patches.Patch, Refusals.NoneHolds}
 use Rattle.fst_heads.specs.{Grading.MayBeHard, Heads.patches_of, Nodes.nodes_of, Rows.IsSparseRow}
-use Rattle.fst_graph.specs.{Known.Known, Membering.{ArePaired, BeginsAs, member_order}, Ready.IsMemberReady}
+use Rattle.fst_graph.specs.{Known.Known, Membering.{ArePaired, BeginsAs, member_order}, Ready.IsMemberReady, Sound.AreSound}
 use Rattle.fst_heads.proofs.Linking.{rising_same}
 use Rattle.fst_walks.proofs.Seen.{same_patches}
 use Rattle.fst_graph.proofs.{Borne.ok_of, MemberReady.{member_ready, foretold}, Readied.member_put}
-use Rattle.fst_graph.proofs.Sound.{as_many_lists, as_many_marks, as_many_places, gates_told, listed_sound, over_down, over_now, over_then, reserved_sound, rising_sound, roomier_sound, sees_all, walked_sound, with_prepared}
+use Rattle.fst_graph.proofs.Sound.{as_many_lists, as_many_marks, as_many_places, gates_told, listed_sound, over_down, over_then, reserved_sound, rising_sound, readied_sound, sees_all, with_prepared}
 use Rattle.fst_graph.proofs.sparse.Sparse.member_room.Goals.{After-deref, After-reserve_below}
 use Rattle.fst_graph.proofs.sparse.Sparse.member_room.Goals as goal
 
@@ -25,53 +25,48 @@ member_fault-requires c = record {
 pub returns-in-Some-clause-refused : goal.returns-in-Some-clause-refused
 returns-in-Some-clause-refused c = rw (← c.self.view_is, ← c.deref.ensures.value) (inl c.in-Some.ensures.first)
 
-pub prepare_member-requires-clause-sees : goal.prepare_member-requires-clause-sees
-prepare_member-requires-clause-sees c = sees_all c.self.invariant _ c.deref.ensures.value c.deref-2.ensures.value c.deref-3.ensures.value c.deref-4.ensures.value refl refl
+pub prepare_member-requires : goal.prepare_member-requires
+prepare_member-requires c =
+    let S = c.self.invariant in
+    record {
+      lawful = (c.self.inside.numbers, rw c.deref.ensures.value S.keeps.lawful);
+      counted = rw c.deref.ensures.value S.tallies.counted;
+      sees = sees_all S _ c.deref.ensures.value c.deref-2.ensures.value c.deref-3.ensures.value c.deref-4.ensures.value refl refl;
+      up = record { long = c.member_fault.ensures.long; crossed = as_many_places S ∙ sym (ap length c.deref-2.ensures.value) };
+      down = over_then c.deref.ensures.value c.deref-2.ensures.value (over_down S);
+      block = omega (arith, inside (goal.at.prepare_member-requires c).After-deref, as_many_lists S, ap length c.deref-2.ensures.value);
+    }
 
-pub prepare_member-requires-clause-counted : goal.prepare_member-requires-clause-counted
-prepare_member-requires-clause-counted c = rw c.deref.ensures.value c.self.invariant.tallies.counted
-
-pub prepare_member-requires-clause-up : goal.prepare_member-requires-clause-up
-prepare_member-requires-clause-up c = record { long = c.member_fault.ensures.long; crossed = as_many_places c.self.invariant ∙ sym (ap length c.deref-2.ensures.value) }
-
-pub prepare_member-requires-clause-down : goal.prepare_member-requires-clause-down
-prepare_member-requires-clause-down c = over_then c.deref.ensures.value c.deref-2.ensures.value (over_down c.self.invariant)
-
-pub prepare_member-requires-clause-block : goal.prepare_member-requires-clause-block
-prepare_member-requires-clause-block c =
-    let there = inside (goal.at.prepare_member-requires-clause-block c).After-deref in
-    omega (arith, there, as_many_lists c.self.invariant, ap length c.deref-2.ensures.value)
-
-pub invariant_of-self-then-is_err : goal.invariant_of-self-then-is_err
-invariant_of-self-then-is_err c =
-    let walked = walked_sound c.self.invariant {walked = c.prepare_member.new.ends} (over_now c.deref.ensures.value c.deref-2.ensures.value c.prepare_member.ensures.up) (over_now c.deref.ensures.value c.deref-2.ensures.value c.prepare_member.ensures.down) in
-    roomier_sound walked (ap nodes_of c.reserve_one.ensures.heads) c.reserve_one.ensures.marks c.reserve_one.ensures.crossed c.reserve_one.ensures.ranks c.reserve_one.ensures.floors c.reserve_one.ensures.queue c.reserve_one.ensures.wide
-
-pub invariant_of-self-then-is_err-2 : goal.invariant_of-self-then-is_err-2
-invariant_of-self-then-is_err-2 c =
-    let walked = walked_sound c.self.invariant {walked = c.prepare_member.new.ends} (over_now c.deref.ensures.value c.deref-2.ensures.value c.prepare_member.ensures.up) (over_now c.deref.ensures.value c.deref-2.ensures.value c.prepare_member.ensures.down) in
-    roomier_sound walked (c.reserve_above.ensures.nodes ∙ ap nodes_of c.reserve_one.ensures.heads) c.reserve_one.ensures.marks c.reserve_one.ensures.crossed c.reserve_one.ensures.ranks c.reserve_one.ensures.floors c.reserve_one.ensures.queue c.reserve_one.ensures.wide
-
--- the nodes are as they were
+-- the nodes are as they were, and there is more room
 still : (c : After-reserve_below) → nodes_of c.reserve_below.new.heads.items ≡ nodes_of c.self.inside.heads.items
 still c = c.reserve_below.ensures.nodes ∙ (c.reserve_above.ensures.nodes ∙ ap nodes_of c.reserve_one.ensures.heads)
 
+same : (c : After-reserve_below) → patches_of c.reserve_below.new.heads.items ≡ patches_of c.self.inside.heads.items
+same c = same_patches c.reserve_below.new.heads.items c.self.inside.heads.items (still c)
+
+roomier : (c : After-reserve_below)
+    → AreSound c.reserve_below.new.heads c.reserve_one.new.ends c.reserve_one.new.levels c.self.inside.needs c.self.inside.lists c.self.inside.covers c.self.inside.standings c.reserve_one.new.queue
+    c.self.inside.live c.self.inside.unmarked c.self.inside.numbers c.self.inside.blocks None
+roomier c =
+    readied_sound c.self.invariant c.deref.ensures.value c.deref-2.ensures.value c.prepare_member.ensures.up c.prepare_member.ensures.down (still c)
+    c.reserve_one.ensures.marks c.reserve_one.ensures.crossed c.reserve_one.ensures.ranks c.reserve_one.ensures.floors c.reserve_one.ensures.queue c.reserve_one.ensures.wide
+
+pub invariant_of-self-then-is_err : goal.invariant_of-self-then-is_err
+invariant_of-self-then-is_err c =
+    readied_sound c.self.invariant c.deref.ensures.value c.deref-2.ensures.value c.prepare_member.ensures.up c.prepare_member.ensures.down
+    (ap nodes_of c.reserve_one.ensures.heads) c.reserve_one.ensures.marks c.reserve_one.ensures.crossed c.reserve_one.ensures.ranks c.reserve_one.ensures.floors c.reserve_one.ensures.queue c.reserve_one.ensures.wide
+
+pub invariant_of-self-then-is_err-2 : goal.invariant_of-self-then-is_err-2
+invariant_of-self-then-is_err-2 c = readied_sound c.self.invariant c.deref.ensures.value c.deref-2.ensures.value c.prepare_member.ensures.up c.prepare_member.ensures.down (c.reserve_above.ensures.nodes ∙ ap nodes_of c.reserve_one.ensures.heads) c.reserve_one.ensures.marks c.reserve_one.ensures.crossed c.reserve_one.ensures.ranks c.reserve_one.ensures.floors c.reserve_one.ensures.queue c.reserve_one.ensures.wide
+
 pub invariant_of-self-then-is_err-3 : goal.invariant_of-self-then-is_err-3
-invariant_of-self-then-is_err-3 c =
-    let walked = walked_sound c.self.invariant {walked = c.prepare_member.new.ends} (over_now c.deref.ensures.value c.deref-2.ensures.value c.prepare_member.ensures.up) (over_now c.deref.ensures.value c.deref-2.ensures.value c.prepare_member.ensures.down) in
-    roomier_sound walked (still (goal.at.invariant_of-self-then-is_err-3 c).After-reserve_below) c.reserve_one.ensures.marks c.reserve_one.ensures.crossed c.reserve_one.ensures.ranks c.reserve_one.ensures.floors c.reserve_one.ensures.queue c.reserve_one.ensures.wide
+invariant_of-self-then-is_err-3 c = roomier (goal.at.invariant_of-self-then-is_err-3 c).After-reserve_below
 
 pub invariant_of-self-then-is_err-4 : goal.invariant_of-self-then-is_err-4
-invariant_of-self-then-is_err-4 c =
-    let walked = walked_sound c.self.invariant {walked = c.prepare_member.new.ends} (over_now c.deref.ensures.value c.deref-2.ensures.value c.prepare_member.ensures.up) (over_now c.deref.ensures.value c.deref-2.ensures.value c.prepare_member.ensures.down) in
-    let same = still (goal.at.invariant_of-self-then-is_err-4 c).After-reserve_below in
-    listed_sound (roomier_sound walked same c.reserve_one.ensures.marks c.reserve_one.ensures.crossed c.reserve_one.ensures.ranks c.reserve_one.ensures.floors c.reserve_one.ensures.queue c.reserve_one.ensures.wide) c.reserve_on.ensures.entries c.reserve_on.ensures.covered
+invariant_of-self-then-is_err-4 c = listed_sound (roomier (goal.at.invariant_of-self-then-is_err-4 c).After-reserve_below) c.reserve_on.ensures.entries c.reserve_on.ensures.covered
 
 pub invariant_of-self-then-is_err-5 : goal.invariant_of-self-then-is_err-5
-invariant_of-self-then-is_err-5 c =
-    let walked = walked_sound c.self.invariant {walked = c.prepare_member.new.ends} (over_now c.deref.ensures.value c.deref-2.ensures.value c.prepare_member.ensures.up) (over_now c.deref.ensures.value c.deref-2.ensures.value c.prepare_member.ensures.down) in
-    let same = still (goal.at.invariant_of-self-then-is_err-5 c).After-reserve_below in
-    reserved_sound (listed_sound (roomier_sound walked same c.reserve_one.ensures.marks c.reserve_one.ensures.crossed c.reserve_one.ensures.ranks c.reserve_one.ensures.floors c.reserve_one.ensures.queue c.reserve_one.ensures.wide) c.reserve_on.ensures.entries c.reserve_on.ensures.covered) c.reserve.ensures.lists
+invariant_of-self-then-is_err-5 c = reserved_sound (listed_sound (roomier (goal.at.invariant_of-self-then-is_err-5 c).After-reserve_below) c.reserve_on.ensures.entries c.reserve_on.ensures.covered) c.reserve.ensures.lists
 
 pub reserve_above-requires : goal.reserve_above-requires
 reserve_above-requires c = rw c.reserve_one.ensures.heads (rising_sound c.self.invariant)
@@ -83,16 +78,13 @@ pub returns-then-is_err-2-clause-same : goal.returns-then-is_err-2-clause-same
 returns-then-is_err-2-clause-same c = rw (← c.self.view_is, same_patches c.reserve_above.new.heads.items c.self.inside.heads.items (c.reserve_above.ensures.nodes ∙ ap nodes_of c.reserve_one.ensures.heads)) refl
 
 pub returns-then-is_err-3-clause-same : goal.returns-then-is_err-3-clause-same
-returns-then-is_err-3-clause-same c =
-    rw (← c.self.view_is, same_patches c.reserve_below.new.heads.items c.self.inside.heads.items (still (goal.at.returns-then-is_err-3-clause-same c).After-reserve_below)) refl
+returns-then-is_err-3-clause-same c = rw (← c.self.view_is, same (goal.at.returns-then-is_err-3-clause-same c).After-reserve_below) refl
 
 pub returns-then-is_err-4-clause-same : goal.returns-then-is_err-4-clause-same
-returns-then-is_err-4-clause-same c =
-    rw (← c.self.view_is, same_patches c.reserve_below.new.heads.items c.self.inside.heads.items (still (goal.at.returns-then-is_err-4-clause-same c).After-reserve_below)) refl
+returns-then-is_err-4-clause-same c = rw (← c.self.view_is, same (goal.at.returns-then-is_err-4-clause-same c).After-reserve_below) refl
 
 pub returns-then-is_err-5-clause-same : goal.returns-then-is_err-5-clause-same
-returns-then-is_err-5-clause-same c =
-    rw (← c.self.view_is, same_patches c.reserve_below.new.heads.items c.self.inside.heads.items (still (goal.at.returns-then-is_err-5-clause-same c).After-reserve_below)) refl
+returns-then-is_err-5-clause-same c = rw (← c.self.view_is, same (goal.at.returns-then-is_err-5-clause-same c).After-reserve_below) refl
 
 -- the change that is prepared may be put, as the patches stood before
 prepared : (c : goal.Joined-self-3) → IsMemberReady (patches_of c.self.inside.heads.items) c.self.inside.numbers c.self.inside.blocks c.args.gates c.in-Ok.prepared
@@ -115,15 +107,14 @@ prepared c =
 
 pub invariant_of-self-2 : goal.invariant_of-self-2
 invariant_of-self-2 c =
+    let at = goal.at.invariant_of-self-2 c in
     let heads = c.self.inside.heads.items in
     let made = c.in-Ok.ensures in
-    let walked = walked_sound c.self.invariant {walked = c.prepare_member.new.ends} (over_now c.deref.ensures.value c.deref-2.ensures.value c.prepare_member.ensures.up) (over_now c.deref.ensures.value c.deref-2.ensures.value c.prepare_member.ensures.down) in
-    let same = still (goal.at.invariant_of-self-2 c).After-reserve_below in
     let above = ok_of c.reserve_above.result _ c.reserve_above.ensures.room (sym c.is_err-2.ensures.value ∙ c.if-is_err-2.false) in
     let below = ok_of c.reserve_below.result _ c.reserve_below.ensures.room (sym c.is_err-3.ensures.value ∙ c.if-is_err-3.false) in
     let needed = ok_of c.reserve.result _ c.reserve.ensures.room (sym c.is_err-5.ensures.value ∙ c.if-is_err-5.false) in
-    with_prepared (reserved_sound (listed_sound (roomier_sound walked same c.reserve_one.ensures.marks c.reserve_one.ensures.crossed c.reserve_one.ensures.ranks c.reserve_one.ensures.floors c.reserve_one.ensures.queue c.reserve_one.ensures.wide) c.reserve_on.ensures.entries c.reserve_on.ensures.covered) {kept = c.reserve.new.self} c.reserve.ensures.lists) (record {
-      ready = rw (same_patches c.reserve_below.new.heads.items heads same) (member_put c.in-Ok.prepared c.args.gates (patches_of heads) c.self.inside.numbers c.self.inside.blocks made.gates (prepared c));
+    with_prepared (reserved_sound (listed_sound (roomier at.After-reserve_below) c.reserve_on.ensures.entries c.reserve_on.ensures.covered) {kept = c.reserve.new.self} c.reserve.ensures.lists) (record {
+      ready = rw (same at.After-reserve_below) (member_put c.in-Ok.prepared c.args.gates (patches_of heads) c.self.inside.numbers c.self.inside.blocks made.gates (prepared c));
       places = rw (c.reserve_below.ensures.len, c.reserve_below.ensures.capacity, c.reserve_above.ensures.len, c.reserve_above.ensures.capacity) (record { heads_free = search rules; marks_free = search rules; queue_free = search rules; below_free = search rules; ranks_free = search rules });
       around = (rw (← c.as_slice.ensures) (c.reserve_below.ensures.above c.as_slice.result.now above), rw made.gates below);
       in_list = rw made.block (ok_of c.reserve_on.result _ c.reserve_on.ensures.in_list (sym c.is_err-4.ensures.value ∙ c.if-is_err-4.false));
@@ -140,5 +131,4 @@ returns-clause-ok c =
 pub returns-clause-prepared : goal.returns-clause-prepared
 returns-clause-prepared c =
     let made = c.in-Ok.ensures in
-    let same = still (goal.at.returns-clause-prepared c).After-reserve_below in
-    rw (← c.self.view_is, same_patches c.reserve_below.new.heads.items c.self.inside.heads.items same, made.block, made.span, made.names, made.gates) refl
+    rw (← c.self.view_is, same (goal.at.returns-clause-prepared c).After-reserve_below, made.block, made.span, made.names, made.gates) refl

@@ -1,7 +1,7 @@
-use Rattle.std.proofs.Common.{◌∙◌, subst, arith, refl}
+use Rattle.std.proofs.Common.{rules, ◌∙◌, subst, arith, refl}
 use Rattle.fst_types.specs.{Gates.IsOpenNumber, Order.seal_order, Refusals.NoneHolds}
 use Rattle.fst_heads.specs.{Heads.patches_of, Nodes.nodes_of}
-use Rattle.fst_graph.proofs.{Borne.settled_fits, Shutting.{shut_starts, shut_linked, shut_distinct, shut_standing, shut_few, shut_cascade, shut_sound}, Sound.rising_sound, sparse.Sparse.seal.Goals.After-seal_slot}
+use Rattle.fst_graph.proofs.{Borne.settled_fits, Shutting.{shut_ready, shut_few, shut_cascade, shut_sound}, Sound.rising_sound, sparse.Sparse.seal.Goals.After-seal_slot}
 use Rattle.fst_graph.proofs.sparse.Sparse.seal.Goals as goal
 
 pub gate_slot-requires : goal.gate_slot-requires
@@ -14,25 +14,14 @@ pub seal_slot-requires-clause-rising : goal.seal_slot-requires-clause-rising
 seal_slot-requires-clause-rising c = rising_sound c.self.invariant
 
 pub seal_slot-requires-clause-fits : goal.seal_slot-requires-clause-fits
-seal_slot-requires-clause-fits c =
-    let T = c.self.invariant.tallies in
-    settled_fits (nodes_of c.self.inside.heads.items) c.self.inside.blocks (omega (arith, c.self.ranges)) T.settled
+seal_slot-requires-clause-fits c = settled_fits (nodes_of c.self.inside.heads.items) c.self.inside.blocks (omega (arith, c.self.ranges)) c.self.invariant.tallies.settled
 
 -- the gate is open among the patches
 gate : (c : After-seal_slot) → IsOpenNumber (patches_of c.self.inside.heads.items) c.args.gate.0
 gate c = subst (λ hs. IsOpenNumber (patches_of hs) c.args.gate.0) c.deref.ensures.value c.in-Ok.ensures.is_open
 
-pub cascade-landed-requires-clause-start : goal.cascade-landed-requires-clause-start
-cascade-landed-requires-clause-start c = shut_starts c.self.invariant (gate (goal.at.cascade-landed-requires-clause-start c).After-seal_slot) c.seal_slot.new.heads c.seal_slot.ensures.nodes _ c.seal_slot.ensures.queued
-
-pub cascade-landed-requires-clause-linked : goal.cascade-landed-requires-clause-linked
-cascade-landed-requires-clause-linked c = shut_linked c.self.invariant (gate (goal.at.cascade-landed-requires-clause-linked c).After-seal_slot) c.seal_slot.new.heads c.seal_slot.ensures.nodes
-
-pub cascade-landed-requires-clause-distinct : goal.cascade-landed-requires-clause-distinct
-cascade-landed-requires-clause-distinct c = shut_distinct c.self.invariant (gate (goal.at.cascade-landed-requires-clause-distinct c).After-seal_slot) c.seal_slot.new.heads c.seal_slot.ensures.nodes
-
-pub cascade-landed-requires-clause-standing : goal.cascade-landed-requires-clause-standing
-cascade-landed-requires-clause-standing c = shut_standing c.self.invariant (gate (goal.at.cascade-landed-requires-clause-standing c).After-seal_slot) c.seal_slot.new.heads c.seal_slot.ensures.nodes
+pub cascade-landed-requires : goal.cascade-landed-requires
+cascade-landed-requires c = shut_ready c.self.invariant (gate (goal.at.cascade-landed-requires c).After-seal_slot) c.seal_slot.new.heads c.seal_slot.ensures.nodes c.seal_slot.ensures.queued c.seal_slot.ensures.capacity (search rules)
 
 pub overflow_sub-self : goal.overflow_sub-self
 overflow_sub-self c =

@@ -1,0 +1,212 @@
+-- What the fields are once a change, a gate or an empty patch is put down, and once an open gate has more names.
+use Rattle.std.proofs.Common.{inl, inr, ◌≡◌, ◌<◌, ◌≤◌, ◌+◌, ◌++◌, ◌∷◌, ◌∙◌, [], ℕ, true, false, Bool, List, Option, None, Contains, length, vec_len, vec_capacity, map, get_or, set, arith, refl, sym, ap, subst}
+use Rattle.std.proofs.lemmas.{List.{get_or-map, length-map, length_push, map_push}, List.Elements.Contains-push_cases}
+use Rattle.std.specs.{Global.Vec, Vec.with_items}
+use Rattle.fst_types.specs.{Dependencies.{DirectlyOn, IsLiveNumber}, Facts.{IsOnDiskWithAll, SparseAreLawful}, Gates.IsOpenNumber, Gating.gains, Limits.max_heads, Lists.Lists, Making.fresh, Order.depend_order}
+use Rattle.fst_types.specs.{Patches.{Patch, IsOn, IsOpenGate, OpenGate}, Refusals.NoneHolds, Tests.is_on}
+use Rattle.std.specs.List.Sorted.{IsStrictlyIncreasing}
+use Rattle.fst_heads.specs.{Covers.{Covering, IsPut as IsCovered}, Heads.{patches_of, IsRising}, Keeps.IsInside, Nodes.{node_of, nodes_of, at_number, gains_names, linked_to, pending_in}}
+use Rattle.fst_heads.specs.{Pendings.{is_pending, joined_sums, over_block, sums_of}, Standings.{entered, is_held_on, is_ready_on}, Tests.is_hard_kind, declared.head.Head.Head}
+use Rattle.fst_heads.specs.{declared.lists.Listed.Listed, declared.pending.{Pending.Pending, Sums.Sums}, declared.standing.Standing.Standing}
+use Rattle.fst_walks.specs.{Leveling.{IsLeveled, Leveling, level_of, floor_of, top_level}, Lifting.{IsRise, MayLift}, Needing.{IsPut, Needing}, Sights.Sees, Walks.{Trail, numbers_met}, declared.{ends.Ends.Ends, levels.Rise.Rise, sight.Sight.Sight}}
+use Rattle.fst_graph.specs.{Ready.change_of, Sound.AreSound, declared.prepared.Prepared.Prepared as Stored}
+use Rattle.fst_heads.proofs.{Added.{new_node, with_node, with_names}, AtNumber.patches_in_nodes, Beside.{beside_made, beside_depends, one_live}, Covering.{covered_gained, covered_push}, Making.keeps_added, Slots.rising_heads, Stands.stand_made, Sums.joined_exact}
+use Rattle.fst_walks.proofs.{Linked.{patches_made, patches_named, with_gate}, Releveled.gained_is_leveled, Seen.{seen, lawful_nodes}, Shelves.shelved_push}
+use Rattle.fst_graph.proofs.{Borne.{few_counted, lawful_with, open_nodes}, Kept.{covered_made, keeps_depends, keeps_walked, none_below_set}, Listed.listed_made, NeedsNow.{needing_change, needing_gained, needing_put}}
+use Rattle.fst_graph.proofs.{PutNow.IsPutDown, Ranks.{along_grown, leveled_change, leveled_put}, Sound.{as_many_lists, as_many_marks, as_many_places, over_down, rising_sound, sees_all, walked_sound}, Tallied.{tallies_depends, tallies_made}}
+use Rattle.fst_heads.specs.declared.pending.Pending.TheVariants as pending
+
+-- the sums of a row, as they were read of the heads
+pub summed : (hs heads : List Head) {row names : List ℕ} {s : Sums} → s ≡ sums_of (pending_in (nodes_of hs)) row → nodes_of hs ≡ nodes_of heads → row ≡ names → s ≡ sums_of (pending_in (nodes_of heads)) names
+summed hs heads s same names = rw (← same, ← names) s
+
+-- the nodes and the patches with a new one
+pub put_nodes : (heads linked : List Head) {new : List Head} {row : List ℕ} (h : Head) (p : Patch) → nodes_of linked ≡ map (linked_to row p.number) (nodes_of heads) → row ≡ p.dependencies → new ≡ linked ++ h ∷ [] → node_of h ≡ new_node (nodes_of heads) p
+    → nodes_of new ≡ with_node (nodes_of heads) p
+put_nodes heads linked h p links named put made = rw (put, map_push, links, named, made) refl
+
+pub put_patches : (heads new : List Head) (p : Patch) → nodes_of new ≡ with_node (nodes_of heads) p → patches_of new ≡ patches_of heads ++ p ∷ []
+put_patches heads new p put = seen new _ put ∙ (patches_made (nodes_of heads) p ∙ ap (λ ps. ps ++ p ∷ []) (patches_in_nodes heads))
+
+-- the nodes and the patches where a gate has more names
+pub named_nodes : (heads gained linked : List Head) (g : ℕ) {row row' names : List ℕ} {s : Sums} → s ≡ sums_of (pending_in (nodes_of heads)) names → nodes_of gained ≡ map (at_number g (gains_names row s)) (nodes_of heads) → row ≡ names
+    → nodes_of linked ≡ map (linked_to row' g) (nodes_of gained) → row' ≡ names → nodes_of linked ≡ with_names (nodes_of heads) g names (sums_of (pending_in (nodes_of heads)) names)
+named_nodes heads gained linked g sums gain named links named' = rw (links, gain, named, named', sums) refl
+
+pub named_patches : (heads new : List Head) (g : ℕ) (names : List ℕ) → nodes_of new ≡ with_names (nodes_of heads) g names (sums_of (pending_in (nodes_of heads)) names) → patches_of new ≡ map (gains g names) (patches_of heads)
+named_patches heads new g names named = seen new _ named ∙ (patches_named g names (sums_of (pending_in (nodes_of heads)) names) (nodes_of heads) ∙ ap (map (gains g names)) (patches_in_nodes heads))
+
+-- a gate without dependencies
+pub gate_nodes : (heads : List Head) {new : List Head} (h : Head) (n : ℕ) → new ≡ heads ++ h ∷ [] → node_of h ≡ new_node (nodes_of heads) (fresh n OpenGate []) → nodes_of new ≡ with_node (nodes_of heads) (fresh n OpenGate [])
+gate_nodes heads h n put made = put_nodes heads heads h (fresh n OpenGate []) (sym (with_gate (nodes_of heads) n)) refl put made
+
+pub put_rising : (heads new : List Head) (p : Patch) (numbers : ℕ) → nodes_of new ≡ with_node (nodes_of heads) p → SparseAreLawful (patches_of heads ++ p ∷ []) numbers → IsRising new
+put_rising heads new p numbers put H = rising_heads new (rw (put_patches heads new p put) H.one_place_each.rising)
+
+module _ {heads : Vec Head} {ends : Ends} {levels : Leveling} {needs : Needing} {lists : Vec (Vec Listed)} {covers : Vec Covering} {standings : Vec Standing} {queue : Vec ℕ} {live unmarked numbers blocks : ℕ} {o : Option Stored}
+    (S : AreSound heads ends levels needs lists covers standings queue live unmarked numbers blocks o) where
+  abbrev old : List Patch
+  old = patches_of heads.items
+
+  -- an open gate has more names
+  pub gained_sound : {new : Vec Head} (g : ℕ) (names on : List ℕ) → IsOpenNumber old g → NoneHolds (depend_order old numbers g on) → Lists (λ n. IsLiveNumber old n × Contains on n × (DirectlyOn old g n → ⊥)) names
+      → nodes_of new.items ≡ with_names (nodes_of heads.items) g names (sums_of (pending_in (nodes_of heads.items)) names) → AreSound new ends levels needs lists covers standings queue live unmarked numbers blocks None
+  gained_sound {new} g names on gate clear lists_live named =
+      let patches = named_patches heads.items new.items g names named in
+      let keeps = keeps_depends old numbers blocks g names on _ _ S.keeps gate clear lists_live refl in
+      let lawful = subst (λ ps. SparseAreLawful ps numbers) (sym patches ∙ seen new.items _ named) keeps.lawful in
+      let there = subst (λ ps. Lists (λ n. IsLiveNumber ps n × Contains on n × (DirectlyOn ps g n → ⊥)) names) (sym (patches_in_nodes heads.items)) lists_live in
+      record {
+        keeps = rw patches keeps;
+        beside = rw patches (beside_depends old blocks live ends.up.crossed.items g names S.beside);
+        tallies = rw named (tallies_depends (nodes_of heads.items) numbers blocks _ _ _ _ g on names (lawful_nodes heads.items numbers S.keeps.lawful) lawful S.tallies (open_nodes heads.items g gate) there);
+        covered = rw patches (covered_gained old g names blocks covers.items S.covered);
+        along = S.along;
+        leveled = rw patches (gained_is_leveled old g names gate blocks levels S.leveled);
+        needing = rw patches (needing_gained old g names S.keeps.lawful.one_place_each.rising gate S.needing);
+        none_below = S.none_below;
+        prepared = tt;
+      }
+
+  -- a patch that is no change is put down, at that level
+  pub put_sound : (p : Patch) → p.number ≡ numbers + 1 → ((b : ℕ) → is_on b p.kind ≡ false) → ((b : ℕ) → IsOn p b → ⊥)
+      → SparseAreLawful (old ++ p ∷ []) (numbers + 1) → length old < max_heads → IsStrictlyIncreasing p.dependencies → ((m : ℕ) → Contains p.dependencies m → IsLiveNumber old m)
+      → {new : Vec Head} → nodes_of new.items ≡ with_node (nodes_of heads.items) p → heads.len < queue.cap → {all : ℕ} → all ≡ live + one_live p
+      → {grown : Ends} → (grown.up.walk.marks ≡ ends.up.walk.marks ++ false ∷ []) × (grown.down.walk.marks ≡ ends.down.walk.marks ++ false ∷ []) → (grown.up.crossed ≡ ends.up.crossed) × (grown.down.crossed ≡ ends.down.crossed)
+      → {ranked : Leveling} (level : ℕ) → ranked.ranks ≡ levels.ranks ++ record { number = p.number; level = level } ∷ [] → ranked.floors ≡ levels.floors
+      → ((q : ℕ) → Contains p.dependencies q → level_of levels.ranks q ≤ level) → level ≤ top_level → (IsOpenGate p → level ≡ top_level)
+      → AreSound new grown ranked needs lists covers standings queue all unmarked (numbers + 1) blocks None
+  put_sound p next no_block off lawful few rising lives {new} nodes free weighs {grown} marks crossed level ranks floors over most top =
+      let patches = put_patches heads.items new.items p nodes in
+      let H = S.keeps.lawful.one_place_each in
+      let given : (q : ℕ) → Contains p.dependencies q → q ≤ numbers = λ q h. let l = lives q h in let k = (H.numbered l.patch l.head).1 in let e = l.numbered in omega (arith, k, e) in
+      record {
+        keeps = rw (patches, marks.0) (
+            keeps_added old numbers blocks ends.up.walk.marks S.keeps (old ++ p ∷ []) lawful (length_push old p)
+            (λ x b h on. elim (Contains-push_cases old p x h) [ inl o ↦ S.keeps.inside x b o on | inr e ↦ absurd (off b (subst (λ y. IsOn y b) (sym e) on)) ]) few
+            );
+        beside = rw (patches, crossed.0, weighs) (beside_made old blocks live (one_live p) ends.up.crossed.items p refl S.beside);
+        tallies = rw nodes (
+            tallies_made (nodes_of heads.items) numbers blocks _ _ _ _ _ _ queue.cap p (lawful_nodes heads.items numbers S.keeps.lawful) (lawful_with heads.items p (numbers + 1) lawful) S.tallies next rising
+            (λ m h. subst (λ ps. IsLiveNumber ps m) (sym (patches_in_nodes heads.items)) (lives m h)) (λ b on. absurd (off b on))
+            (listed_made (nodes_of heads.items) blocks _ p S.tallies.listed no_block) (stand_made (nodes_of heads.items) blocks standings.items p no_block S.tallies.standing)
+            (omega (arith, free, heads.ok.0, length-map heads.items node_of))
+            );
+        covered = rw patches (covered_push old p off blocks covers.items S.covered);
+        along = along_grown {old = ends} marks crossed S.along;
+        leveled = rw patches (leveled_put p level H next given ranks floors over most S.leveled (λ b on. absurd (off b on)) (λ b on. absurd (off b on)) top);
+        needing = rw patches (needing_put p H next off S.needing);
+        none_below = S.none_below;
+        prepared = tt;
+      }
+
+  -- a gate is at the top
+  pub gate_sound : {new : Vec Head} {grown : Ends} {ranked : Leveling} {all : ℕ} (row : List ℕ) → SparseAreLawful (old ++ fresh (numbers + 1) OpenGate row ∷ []) (numbers + 1) → length old < max_heads → IsStrictlyIncreasing row → ((m : ℕ) → Contains row m → IsLiveNumber old m)
+      → nodes_of new.items ≡ with_node (nodes_of heads.items) (fresh (numbers + 1) OpenGate row) → heads.len < queue.cap → all ≡ live + 1
+      → (grown.up.walk.marks ≡ ends.up.walk.marks ++ false ∷ []) × (grown.down.walk.marks ≡ ends.down.walk.marks ++ false ∷ []) → (grown.up.crossed ≡ ends.up.crossed) × (grown.down.crossed ≡ ends.down.crossed)
+      → ranked.ranks ≡ levels.ranks ++ record { number = numbers + 1; level = top_level } ∷ [] → ranked.floors ≡ levels.floors
+      → AreSound new grown ranked needs lists covers standings queue all unmarked (numbers + 1) blocks None
+  gate_sound row lawful few rising lives nodes free more marks crossed ranks floors =
+      put_sound (fresh (numbers + 1) OpenGate row) refl (λ b. refl) (λ b on. cc) lawful few rising lives nodes free more marks crossed top_level ranks floors (λ q c. S.leveled.leveled.few q) (omega arith) (λ e. refl)
+
+  module _ {p : Stored} (D : IsPutDown heads ends levels needs lists covers standings queue numbers blocks p) where
+    abbrev made : Patch
+    made = change_of numbers p
+
+    abbrev node : Pending
+    node = (new_node (nodes_of heads.items) made).pending
+
+    -- the nodes with the change, and what is pending of it
+    pub change_nodes : (linked : List Head) (h : Head) {hs new : List Head} {row row' : List ℕ} {s : Sums} {below over : Pending} → s ≡ sums_of (pending_in (nodes_of hs)) row → hs ≡ heads.items → row ≡ p.dependencies.items → below ≡ joined_sums s → over ≡ over_block p.block below
+        → nodes_of linked ≡ map (linked_to row' made.number) (nodes_of heads.items) → row' ≡ p.dependencies.items → new ≡ linked ++ h ∷ [] → node_of h ≡ record { patch = made; sums = s; pending = over; dependants = [] }
+        → (nodes_of new ≡ with_node (nodes_of heads.items) made) × (over ≡ node)
+    change_nodes linked h {hs} s same named below over links named' put told =
+        let sums = summed hs heads.items s (ap nodes_of same) named in
+        let pends = over ∙ ap (over_block p.block) (below ∙ (ap joined_sums sums ∙ joined_exact (pending_in (nodes_of heads.items)) p.dependencies.items)) in
+        (put_nodes heads.items linked h made links named' put (rw (told, sums, pends) refl), pends)
+
+    -- the walk up may begin, and what it told may be written
+    pub may_rise : (sight : Sight) {places : List Bool} → sight.heads.now ≡ heads.items → sight.lists.now ≡ lists.items → sight.covers.now ≡ covers.items → sight.standings.now ≡ standings.items → sight.levels.now ≡ levels → sight.needs.now ≡ needs → places ≡ ends.up.crossed.items
+        → record { sees : Sees sight; long : length ends.up.walk.marks ≡ length sight.heads.now; crossed : length places ≡ length sight.lists.now; block : p.block < length sight.lists.now }
+    may_rise sight h l v s r d places = record {
+      sees = sees_all S sight h l v s r d;
+      long = as_many_marks S ∙ sym (ap length h);
+      crossed = ap length places ∙ (as_many_places S ∙ sym (ap length l));
+      block = omega (arith, D.ready.inside, as_many_lists S, ap length l);
+    }
+
+    risen : (walk : Trail) {hs : List Head} {row : List ℕ} {rise : Rise} → hs ≡ heads.items → row ≡ p.dependencies.items → IsRise (patches_of hs) levels p.block row p.grade (numbers_met hs walk) rise
+        → IsRise old levels p.block p.dependencies.items p.grade (numbers_met heads.items walk) rise
+    risen walk same named R = rw (← same, ← named) R
+
+    pub may_lift : (walk : Trail) {hs gs : List Head} {row : List ℕ} {rise : Rise} → hs ≡ heads.items → row ≡ p.dependencies.items → IsRise (patches_of hs) levels p.block row p.grade (numbers_met hs walk) rise → length walk.marks ≡ length hs → gs ≡ heads.items
+        → record {
+          rising : IsRising gs;
+          disk : IsOnDiskWithAll (patches_of gs);
+          long : length walk.marks ≡ length gs;
+          inside : (p.block < length levels.floors) × IsInside (patches_of gs) (length levels.floors);
+          leveled : IsLeveled (patches_of gs) (length levels.floors) levels;
+          may : rise.lifts ≡ true → MayLift (patches_of gs) levels p.block rise.level (numbers_met gs walk);
+        }
+    may_lift walk same named R long there = rw there record {
+      rising = rising_sound S;
+      disk = S.keeps.lawful.on_disk_with_all;
+      long = long ∙ ap length same;
+      inside = (omega (arith, D.ready.inside, S.leveled.long), λ q b h on. let k = S.keeps.inside q b h on in omega (arith, k, S.leveled.long));
+      leveled = subst (λ n. IsLeveled old n levels) (sym S.leveled.long) S.leveled;
+      may = (risen walk same named R).lifts;
+    }
+
+    pub may_need : {hs : List Head} {row : List ℕ} → hs ≡ heads.items → row ≡ p.dependencies.items → record { rising : IsRising hs; block : needs.block < length needs.lists; room : length row ≤ needs.room }
+    may_need same named =
+        let needed = D.prepared.needed in
+        rw same record { rising = rising_sound S; block = omega (arith, D.ready.inside, needed.0, S.needing.long); room = omega (arith, needed.1, ap length named) }
+
+    -- there is room for it in the list of its block, among the counts, and in the walks
+    pub may_list : (list : Vec Listed) → list ≡ get_or lists.items p.block list → vec_len list < vec_capacity list
+    may_list list there =
+        let room = D.prepared.in_list in
+        let len = get_or-map (λ l. vec_len l) lists.items p.block list 0 D.shelf in
+        let capacity = get_or-map (λ l. vec_capacity l) lists.items p.block list 0 D.shelf in
+        omega (arith, room, len, capacity, ap (λ l. vec_len l) there, ap (λ l. vec_capacity l) there)
+
+    pub may_enter : (own : Standing) → own ≡ get_or standings.items p.block own → record { ready : own.ready < 18446744073709551615; held : own.held < 18446744073709551615 }
+    may_enter own there = record {
+      ready = few_counted heads.items (is_ready_on p.block) _ S.keeps.few (ap (λ s. s.ready) (D.counted own there));
+      held = few_counted heads.items (is_held_on p.block) _ S.keeps.few (ap (λ s. s.held) (D.counted own there));
+    }
+
+    pub may_grow : (walk : Trail) {hs : List Head} → length walk.marks ≡ length hs → hs ≡ heads.items → walk.room ≡ ends.up.walk.room → record { up : length walk.marks < walk.room; down : length ends.down.walk.marks < ends.down.walk.room }
+    may_grow walk long same room =
+        let up = D.prepared.places.marks_free in
+        record { up = omega (arith, up, long, ap length same, as_many_marks S, room); down = D.prepared.places.below_free }
+
+    -- the change stands as it rises, beside what its block has already
+    pub change_sound : {new : Vec Head} {over : Pending} → (nodes_of new.items ≡ with_node (nodes_of heads.items) made) × (over ≡ node)
+        → (walk : Trail) (places : List Bool) {hs : List Head} {row : List ℕ} {rise : Rise} {grown : Ends} → hs ≡ heads.items → row ≡ p.dependencies.items → IsRise (patches_of hs) levels p.block row p.grade (numbers_met hs walk) rise → length walk.marks ≡ length hs
+        → (grown.up.walk.marks ≡ walk.marks ++ false ∷ []) × (grown.down.walk.marks ≡ ends.down.walk.marks ++ false ∷ []) → (grown.up.crossed ≡ with_items ends.up.crossed places) × (grown.down.crossed ≡ ends.down.crossed)
+        → {hs : List Head} {lifted ranked : Leveling} → hs ≡ heads.items → IsLeveled (patches_of hs) (length levels.floors) lifted
+        → ((n : ℕ) → level_of levels.ranks n ≤ rise.level → level_of lifted.ranks n ≤ rise.level) → (rise.lifts ≡ true → floor_of lifted.floors p.block ≡ rise.level) → (rise.lifts ≡ false → lifted ≡ levels)
+        → ranked.ranks ≡ lifted.ranks ++ record { number = numbers + 1; level = rise.level } ∷ [] → ranked.floors ≡ lifted.floors
+        → {gs : List Head} {row : List ℕ} {put : Needing} → gs ≡ heads.items → row ≡ p.dependencies.items → IsPut (patches_of gs) needs.block row p.grade needs.lists put.lists
+        → {list : Vec Listed} (list' : Vec Listed) {lists' : Vec (Vec Listed)} → list ≡ get_or lists.items p.block list → list'.items ≡ list.items ++ record { number = numbers + 1; span = p.span } ∷ [] → lists'.items ≡ set lists.items p.block list'
+        → {cover cover' : Covering} {covers' : Vec Covering} → cover ≡ get_or covers.items p.block cover → IsCovered cover p.span.at p.span.len (numbers + 1) cover' → covers'.items ≡ set covers.items p.block cover'
+        → {own own' : Standing} {told : Bool} {standings' : Vec Standing} → own ≡ get_or standings.items p.block own → told ≡ is_pending over (pending.Block p.block) → own' ≡ entered (is_hard_kind made.kind) told own → standings'.items ≡ set standings.items p.block own'
+        → {least : ℕ} → least ≤ unmarked → least ≤ p.block
+        → AreSound new grown ranked put lists' covers' standings' queue (live + 1) least (numbers + 1) blocks None
+    change_sound {new} (nodes, pends) walk places {rise = rise} {grown} same named R long marks crossed at leveled below lifted still ranks floors gs row put {list} list' list_is pushed lists_are cover_is covered covers_are {own} own_is told enters standings_are {least} low here =
+        let walked : Ends = record ends { up = record { walk = walk; crossed = with_items ends.up.crossed places } } in
+        let W = walked_sound S {walked = walked} (record { long = long ∙ ap length same; crossed = omega (arith, walked.up.crossed.ok.0, ends.up.crossed.ok.0, as_many_places S) }) (over_down S) in
+        let patches = put_patches heads.items new.items made nodes in
+        let as_long : length walk.marks ≡ length ends.up.walk.marks = omega (arith, long, ap length same, as_many_marks S) in
+        record {
+          keeps = rw (patches, marks.0) (keeps_walked (omega (arith, as_long, length_push walk.marks false, length_push ends.up.walk.marks false)) D.keeps);
+          beside = rw (patches, crossed.0) (beside_made old blocks live 1 (with_items ends.up.crossed places).items made refl W.beside);
+          tallies = rw (nodes, lists_are, standings_are, enters, told, pends, own_is, shelved_push lists.items p.block list list' _ D.shelf list_is pushed) (D.tallies own);
+          covered = rw (patches, covers_are) (covered_made numbers p.grade D.ready.depends S.covered D.ready.inside cover_is D.prepared.bytes covered);
+          along = along_grown {old = walked} marks crossed W.along;
+          leveled = rw patches (leveled_change p rise (numbers_met heads.items walk) S.keeps.lawful.one_place_each D.given (risen walk same named R) (rw (← at, ← S.leveled.long) leveled) below lifted still ranks floors);
+          needing = rw patches (needing_change p S.keeps.lawful.one_place_each S.needing (rw (← D.prepared.needed.0, ← gs, ← row) put));
+          none_below = rw standings_are (none_below_set standings.items unmarked least p.block _ S.none_below low here);
+          prepared = tt;
+        }
