@@ -10,6 +10,7 @@ pub mod Alone
 pub mod Numbered
 pub mod Held
 pub mod Quiet
+pub mod Clean
 pub mod Resting
 pub mod Visiting
 pub mod Holding

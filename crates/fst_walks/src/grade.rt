@@ -16,7 +16,7 @@ use crate::below::grade_below;
 use crate::both_ends::grade_between;
 use crate::ends::Ends;
 use crate::other_gates::is_blocked;
-use crate::shortcuts::{comes_back, rests_on_hard, stays_below, waits_for_quiet_block};
+use crate::shortcuts::{comes_back, is_clean, rests_on_hard, stays_below, waits_for_quiet_block};
 use crate::sight::Sight;
 use fst_types::Grade;
 
@@ -31,6 +31,9 @@ fn grade_by_ways(sight: &Sight<'_>, ends: &mut Ends, block: u32, row: &[u32]) ->
     ensures up { IsOver sight.now.heads.now (length sight.now.lists.now) ends.new.up }
     ensures down { IsOver sight.now.heads.now (length sight.now.lists.now) ends.new.down }
 {
+    if is_clean(sight, block) {
+        return Grade::Hard;
+    }
     if stays_below(sight, block, row) {
         return Grade::Hard;
     }

@@ -2,7 +2,7 @@
 //! where none of this does: a change behind a gate, a chain on one block, a chain over a few blocks and a change over a
 //! block that holds nothing back need none.
 
-ghost use Rattle.std.specs.Prelude.{◌≡◌, ◌<◌, ◌↔◌, ◌&&◌, ℕ, IsTrue, IfSome, Contains, length};
+ghost use Rattle.std.specs.Prelude.{◌≡◌, ◌<◌, ◌↔◌, ◌&&◌, ℕ, List, IsTrue, IfSome, Contains, length};
 ghost use Rattle.fst_types.specs.Closure.{IsAcyclic};
 ghost use Rattle.fst_types.specs.Dependencies.{DirectlyOn};
 ghost use Rattle.fst_types.specs.Facts.{IsOnDiskWithAll};
@@ -214,6 +214,17 @@ fn chain_back(heads: &[Head], block: u32, row: &[u32], chain: Chain) -> bool
         next = next_of(chain, below);
     }
     false
+}
+
+/// Whether all changes of the block are on disk. Nothing leads back to the block then, so a change of it is hard but for
+/// open gates.
+pub fn is_clean(sight: &Sight<'_>, block: u32) -> bool
+    requires sees { Sees sight.now }
+    requires block { block < length sight.now.lists.now }
+    ensures { IsTrue result → (row : List ℕ) → LeadsNowhere (patches_of sight.now.heads.now) block row }
+{
+    let list = sight.lists[block as usize].as_slice();
+    list.is_empty()
 }
 
 // The number of the newest change of the block that is not on disk, or one that no patch has.

@@ -5,3 +5,6 @@ returns-then-comes_back-clause-graded c leads = leads.straight (c.comes_back.ens
 
 pub returns-then-stays_below-clause-graded : goal.returns-then-stays_below-clause-graded
 returns-then-stays_below-clause-graded c = c.stays_below.ensures c.if-stays_below.true
+
+pub returns-then-is_clean-clause-graded : goal.returns-then-is_clean-clause-graded
+returns-then-is_clean-clause-graded c = c.is_clean.ensures c.if-is_clean.true c.args.row.now
