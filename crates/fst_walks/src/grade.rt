@@ -2,7 +2,8 @@
 //! that it depends on can come to wait for its block: no open gate, no change of another block that needs one of its
 //! block, and no block from which the block graph leads to its block. What is near the change mostly tells it, and their
 //! levels do where all that it depends on is below the floor of its block. Else a chain down from what the change depends on
-//! may come back to the block, and only where it does not a way back is looked for from both ends. A gate that is sealed
+//! may come back to the block, or a short walk down may tell, and only where neither does a way back is looked for from
+//! both ends. Over a block whose changes are all on disk no search is needed. A gate that is sealed
 //! with the change is taken as sealed already: that sets free what it alone blocks, and moves no change and no dependency.
 
 ghost use Rattle.std.specs.Prelude.{◌<◌, length};

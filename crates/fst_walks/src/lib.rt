@@ -3,8 +3,8 @@
 //! Three questions need them. *Is a new change hard?* A block is written only with all its hard changes, so a change may
 //! be hard only where nothing that it depends on can come to wait for its block. Mostly the patches near it tell
 //! (`shortcuts`), or their levels do (`levels`): each patch has one and each block a floor, so that no way down rises,
-//! and what lies below the floor of a block leads nowhere. Else a way back is looked for from both ends at once
-//! (`both_ends`): up from the changes of the block (`way_up`), and down (`way_down`) from the first changes of other
+//! and what lies below the floor of a block leads nowhere. Else a way back is looked for down alone for a while
+//! (`below`) and then from both ends at once (`both_ends`): up from the changes of the block (`way_up`), and down (`way_down`) from the first changes of other
 //! blocks at or below what the new change depends on (`first_away`), which goes on from a block to what its hard changes
 //! need (`needs`). Where a new hard change would stand over the floor of its block, the floor goes up, with all that
 //! stands over the block (`lift`). *May a gate gain these names, and may a group have this change?* A search goes down
