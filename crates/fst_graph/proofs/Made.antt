@@ -5,10 +5,10 @@ use Rattle.std.specs.{Global.Vec, Vec.with_items}
 use Rattle.fst_types.specs.{Dependencies.{DirectlyOn, IsLiveNumber}, Facts.{IsOnDiskWithAll, SparseAreLawful}, Gates.IsOpenNumber, Gating.gains, Limits.max_heads, Lists.Lists, Making.fresh, Order.depend_order}
 use Rattle.fst_types.specs.{Patches.{Patch, IsOn, IsOpenGate, OpenGate}, Refusals.NoneHolds, Tests.is_on}
 use Rattle.std.specs.List.Sorted.{IsStrictlyIncreasing}
-use Rattle.fst_heads.specs.{Covers.{Covering, IsPut as IsCovered}, Heads.{patches_of, IsRising}, Keeps.IsInside, Nodes.{node_of, nodes_of, at_number, gains_names, linked_to, pending_in}}
+use Rattle.fst_heads.specs.{Covers.{Covering, IsPut as IsCovered}, Heads.{patches_of, IsRising}, Keeps.IsInside, Nodes.{AreLinked, node_of, nodes_of, at_number, gains_names, linked_to, pending_in}}
 use Rattle.fst_heads.specs.{Pendings.{is_pending, joined_sums, over_block, sums_of}, Standings.{entered, is_held_on, is_ready_on}, Tests.is_hard_kind, declared.head.Head.Head}
 use Rattle.fst_heads.specs.{declared.lists.Listed.Listed, declared.pending.{Pending.Pending, Sums.Sums}, declared.standing.Standing.Standing}
-use Rattle.fst_walks.specs.{Leveling.{IsLeveled, Leveling, level_of, floor_of, top_level}, Lifting.{IsRise, MayLift}, Needing.{IsPut, Needing}, Sights.Sees, Walks.{Trail, numbers_met}, declared.{ends.Ends.Ends, levels.Rise.Rise, sight.Sight.Sight}}
+use Rattle.fst_walks.specs.{Leveling.{IsLeveled, Leveling, level_of, strand_of, floor_of, top_level}, Lifting.{IsRise, MayLift}, Needing.{IsPut, Needing}, Sights.Sees, Strands.GoesOn, Walks.{Trail, numbers_met}, declared.{ends.Ends.Ends, levels.Rise.Rise, sight.Sight.Sight}}
 use Rattle.fst_graph.specs.{Ready.change_of, Sound.AreSound, declared.prepared.Prepared.Prepared as Stored}
 use Rattle.fst_heads.proofs.{Added.{new_node, with_node, with_names}, AtNumber.patches_in_nodes, Beside.{beside_made, beside_depends, one_live}, Covering.{covered_gained, covered_push}, Making.keeps_added, Slots.rising_heads, Stands.stand_made, Sums.joined_exact}
 use Rattle.fst_walks.proofs.{Linked.{patches_made, patches_named, with_gate}, Releveled.gained_is_leveled, Seen.{seen, lawful_nodes}, Shelves.shelved_push}
@@ -73,7 +73,7 @@ module _ {heads : Vec Head} {ends : Ends} {levels : Leveling} {needs : Needing} 
       → SparseAreLawful (old ++ p ∷ []) (numbers + 1) → length old < max_heads → IsStrictlyIncreasing p.dependencies → ((m : ℕ) → Contains p.dependencies m → IsLiveNumber old m)
       → {new : Vec Head} → nodes_of new.items ≡ with_node (nodes_of heads.items) p → heads.len < queue.cap → {all : ℕ} → all ≡ live + one_live p
       → {grown : Ends} → (grown.up.walk.marks ≡ ends.up.walk.marks ++ false ∷ []) × (grown.down.walk.marks ≡ ends.down.walk.marks ++ false ∷ []) → (grown.up.crossed ≡ ends.up.crossed) × (grown.down.crossed ≡ ends.down.crossed)
-      → {ranked : Leveling} (level : ℕ) → ranked.ranks ≡ levels.ranks ++ record { number = p.number; level = level } ∷ [] → ranked.floors ≡ levels.floors
+      → {ranked : Leveling} (level : ℕ) → ranked.ranks ≡ levels.ranks ++ record { number = p.number; level = level; strand = p.number } ∷ [] → ranked.floors ≡ levels.floors
       → ((q : ℕ) → Contains p.dependencies q → level_of levels.ranks q ≤ level) → level ≤ top_level → (IsOpenGate p → level ≡ top_level)
       → AreSound new grown ranked needs lists covers standings queue all unmarked (numbers + 1) blocks None
   put_sound p next no_block off lawful few rising lives {new} nodes free weighs {grown} marks crossed level ranks floors over most top =
@@ -94,7 +94,7 @@ module _ {heads : Vec Head} {ends : Ends} {levels : Leveling} {needs : Needing} 
             );
         covered = rw patches (covered_push old p off blocks covers.items S.covered);
         along = along_grown {old = ends} marks crossed S.along;
-        leveled = rw patches (leveled_put p level H next given ranks floors over most S.leveled (λ b on. absurd (off b on)) (λ b on. absurd (off b on)) top);
+        leveled = rw patches (leveled_put p level p.number H next given ranks floors over most (inl refl) S.leveled (λ b on. absurd (off b on)) (λ b on. absurd (off b on)) top);
         needing = rw patches (needing_put p H next off S.needing);
         none_below = S.none_below;
         prepared = tt;
@@ -104,7 +104,7 @@ module _ {heads : Vec Head} {ends : Ends} {levels : Leveling} {needs : Needing} 
   pub gate_sound : {new : Vec Head} {grown : Ends} {ranked : Leveling} {all : ℕ} (row : List ℕ) → SparseAreLawful (old ++ fresh (numbers + 1) OpenGate row ∷ []) (numbers + 1) → length old < max_heads → IsStrictlyIncreasing row → ((m : ℕ) → Contains row m → IsLiveNumber old m)
       → nodes_of new.items ≡ with_node (nodes_of heads.items) (fresh (numbers + 1) OpenGate row) → heads.len < queue.cap → all ≡ live + 1
       → (grown.up.walk.marks ≡ ends.up.walk.marks ++ false ∷ []) × (grown.down.walk.marks ≡ ends.down.walk.marks ++ false ∷ []) → (grown.up.crossed ≡ ends.up.crossed) × (grown.down.crossed ≡ ends.down.crossed)
-      → ranked.ranks ≡ levels.ranks ++ record { number = numbers + 1; level = top_level } ∷ [] → ranked.floors ≡ levels.floors
+      → ranked.ranks ≡ levels.ranks ++ record { number = numbers + 1; level = top_level; strand = numbers + 1 } ∷ [] → ranked.floors ≡ levels.floors
       → AreSound new grown ranked needs lists covers standings queue all unmarked (numbers + 1) blocks None
   gate_sound row lawful few rising lives nodes free more marks crossed ranks floors =
       put_sound (fresh (numbers + 1) OpenGate row) refl (λ b. refl) (λ b on. cc) lawful few rising lives nodes free more marks crossed top_level ranks floors (λ q c. S.leveled.leveled.few q) (omega arith) (λ e. refl)
@@ -157,6 +157,10 @@ module _ {heads : Vec Head} {ends : Ends} {levels : Leveling} {needs : Needing} 
       may = (risen walk same named R).lifts;
     }
 
+    pub may_go_on : {hs gs : List Head} {lifted : Leveling} → hs ≡ heads.items → IsLeveled (patches_of hs) (length levels.floors) lifted → gs ≡ heads.items
+        → record { rising : IsRising gs; aligned : map (λ r. r.number) lifted.ranks ≡ map (λ p. p.number) (patches_of gs); linked : AreLinked (nodes_of gs) }
+    may_go_on at leveled same = rw same record { rising = rising_sound S; aligned = rw (← at) leveled.aligned; linked = S.tallies.linked }
+
     pub may_need : {hs : List Head} {row : List ℕ} → hs ≡ heads.items → row ≡ p.dependencies.items → record { rising : IsRising hs; block : needs.block < length needs.lists; room : length row ≤ needs.room }
     may_need same named =
         let needed = D.prepared.needed in
@@ -187,14 +191,15 @@ module _ {heads : Vec Head} {ends : Ends} {levels : Leveling} {needs : Needing} 
         → (grown.up.walk.marks ≡ walk.marks ++ false ∷ []) × (grown.down.walk.marks ≡ ends.down.walk.marks ++ false ∷ []) → (grown.up.crossed ≡ with_items ends.up.crossed places) × (grown.down.crossed ≡ ends.down.crossed)
         → {hs : List Head} {lifted ranked : Leveling} → hs ≡ heads.items → IsLeveled (patches_of hs) (length levels.floors) lifted
         → ((n : ℕ) → level_of levels.ranks n ≤ rise.level → level_of lifted.ranks n ≤ rise.level) → (rise.lifts ≡ true → floor_of lifted.floors p.block ≡ rise.level) → (rise.lifts ≡ false → lifted ≡ levels)
-        → ranked.ranks ≡ lifted.ranks ++ record { number = numbers + 1; level = rise.level } ∷ [] → ranked.floors ≡ lifted.floors
+        → {hs : List Head} {row : List ℕ} {s : ℕ} → hs ≡ heads.items → row ≡ p.dependencies.items → GoesOn (patches_of hs) (strand_of lifted.ranks) (numbers + 1) row s
+        → ranked.ranks ≡ lifted.ranks ++ record { number = numbers + 1; level = rise.level; strand = s } ∷ [] → ranked.floors ≡ lifted.floors
         → {gs : List Head} {row : List ℕ} {put : Needing} → gs ≡ heads.items → row ≡ p.dependencies.items → IsPut (patches_of gs) needs.block row p.grade needs.lists put.lists
         → {list : Vec Listed} (list' : Vec Listed) {lists' : Vec (Vec Listed)} → list ≡ get_or lists.items p.block list → list'.items ≡ list.items ++ record { number = numbers + 1; span = p.span } ∷ [] → lists'.items ≡ set lists.items p.block list'
         → {cover cover' : Covering} {covers' : Vec Covering} → cover ≡ get_or covers.items p.block cover → IsCovered cover p.span.at p.span.len (numbers + 1) cover' → covers'.items ≡ set covers.items p.block cover'
         → {own own' : Standing} {told : Bool} {standings' : Vec Standing} → own ≡ get_or standings.items p.block own → told ≡ is_pending over (pending.Block p.block) → own' ≡ entered (is_hard_kind made.kind) told own → standings'.items ≡ set standings.items p.block own'
         → {least : ℕ} → least ≤ unmarked → least ≤ p.block
         → AreSound new grown ranked put lists' covers' standings' queue (live + 1) least (numbers + 1) blocks None
-    change_sound {new} (nodes, pends) walk places {rise = rise} {grown} same named R long marks crossed at leveled below lifted still ranks floors gs row put {list} list' list_is pushed lists_are cover_is covered covers_are {own} own_is told enters standings_are {least} low here =
+    change_sound {new} (nodes, pends) walk places {rise = rise} {grown} same named R long marks crossed at leveled below lifted still there after on ranks floors gs row put {list} list' list_is pushed lists_are cover_is covered covers_are {own} own_is told enters standings_are {least} low here =
         let walked : Ends = record ends { up = record { walk = walk; crossed = with_items ends.up.crossed places } } in
         let W = walked_sound S {walked = walked} (record { long = long ∙ ap length same; crossed = omega (arith, walked.up.crossed.ok.0, ends.up.crossed.ok.0, as_many_places S) }) (over_down S) in
         let patches = put_patches heads.items new.items made nodes in
@@ -205,7 +210,7 @@ module _ {heads : Vec Head} {ends : Ends} {levels : Leveling} {needs : Needing} 
           tallies = rw (nodes, lists_are, standings_are, enters, told, pends, own_is, shelved_push lists.items p.block list list' _ D.shelf list_is pushed) (D.tallies own);
           covered = rw (patches, covers_are) (covered_made numbers p.grade D.ready.depends S.covered D.ready.inside cover_is D.prepared.bytes covered);
           along = along_grown {old = walked} marks crossed W.along;
-          leveled = rw patches (leveled_change p rise (numbers_met heads.items walk) S.keeps.lawful.one_place_each D.given (risen walk same named R) (rw (← at, ← S.leveled.long) leveled) below lifted still ranks floors);
+          leveled = rw patches (leveled_change p rise (numbers_met heads.items walk) S.keeps.lawful.one_place_each D.given (risen walk same named R) (rw (← at, ← S.leveled.long) leveled) below lifted still (rw (← there, ← after) on) ranks floors);
           needing = rw patches (needing_change p S.keeps.lawful.one_place_each S.needing (rw (← D.prepared.needed.0, ← gs, ← row) put));
           none_below = rw standings_are (none_below_set standings.items unmarked least p.block _ S.none_below low here);
           prepared = tt;

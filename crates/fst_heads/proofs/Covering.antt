@@ -39,15 +39,16 @@ over_as : (b x q : ℕ) (heads other : List Patch) (o : IsOver heads b x q) (p :
 over_as b x q heads other o p h number live on at len = search rules
 
 -- patches moved on, with the rows that they had
-module _ (old new : List Patch) (A : Alike old new) (disk : IsOnDiskWithAll new) (rising : IsRising new) where
+module _ (old new : List Patch) (A : Alike old new) where
   direct_forth : (a b : ℕ) → DirectlyOn old a b → DirectlyOn new a b
   direct_forth a b d =
       let r = forth_alike old new A d.patch d.head in
       record { patch = r.0; head = r.1; numbered = r.2.number ∙ d.numbered; named = subst (λ ds. Contains ds b) (sym r.2.dependencies) d.named }
 
-  depends_forth : (a b : ℕ) → DependsOn old a b → DependsOn new a b
+  pub depends_forth : (a b : ℕ) → DependsOn old a b → DependsOn new a b
   depends_forth = closure_map (DirectlyOn old) (DirectlyOn new) direct_forth
 
+module _ (old new : List Patch) (A : Alike old new) (disk : IsOnDiskWithAll new) (rising : IsRising new) where
   over_back : (b x q : ℕ) → IsOver new b x q → IsOver old b x q
   over_back b x q o =
       let r = back_alike old new A o.patch o.head in
@@ -58,10 +59,11 @@ module _ (old new : List Patch) (A : Alike old new) (disk : IsOnDiskWithAll new)
   over_forth b x c q o n (inl same) = (subst (IsOver new b x) (sym same) n, inl same)
   over_forth b x c q o n (inr d) =
       let r = forth_alike old new A o.patch o.head in
-      let l = live_over new disk c q (depends_forth c q d) (over_live new b x q n) in
+      let path = depends_forth old new A c q d in
+      let l = live_over new disk c q path (over_live new b x q n) in
       let same = same_number new l.patch r.0 rising l.head r.1 (l.numbered ∙ (sym o.numbered ∙ sym r.2.number)) in
       let live = subst IsLive same l.live in
-      (over_as b x c old new o r.0 r.1 r.2.number live (on_forth o.patch r.0 r.2 b o.change) (at_same o.patch r.0 r.2) (len_same o.patch r.0 r.2), inr (depends_forth c q d))
+      (over_as b x c old new o r.0 r.1 r.2.number live (on_forth o.patch r.0 r.2 b o.change) (at_same o.patch r.0 r.2) (len_same o.patch r.0 r.2), inr path)
 
   pub covered_alike : (blocks : ℕ) (covers : List Covering) → AreCovered old blocks covers → AreCovered new blocks covers
   covered_alike = covered_by old new over_back over_forth (λ p b h live on.
@@ -81,7 +83,7 @@ module _ (old : List Patch) (g : ℕ) (names : List ℕ) where
   is_gained : (o : Patch) → Contains old o → (p : Patch) × Contains gained p × Grown g names o p
   is_gained o h = (gains g names o, Contains-from_In gained (gains g names o) (In-map (gains g names) old o (gains g names o) (In-from_Contains old o h) refl), grown g names o)
 
-  depends_gained : (a b : ℕ) → DependsOn old a b → DependsOn gained a b
+  pub depends_gained : (a b : ℕ) → DependsOn old a b → DependsOn gained a b
   depends_gained = closure_map (DirectlyOn old) (DirectlyOn gained) (λ a b d.
       let r = is_gained d.patch d.head in
       record { patch = r.0; head = r.1; numbered = r.2.number ∙ d.numbered; named = r.2.kept b d.named })
@@ -100,7 +102,7 @@ module _ (old : List Patch) (p : Patch) where
   abbrev with_one : List Patch
   with_one = old ++ p ∷ []
 
-  depends_with : (a b : ℕ) → DependsOn old a b → DependsOn with_one a b
+  pub depends_with : (a b : ℕ) → DependsOn old a b → DependsOn with_one a b
   depends_with = closure_map (DirectlyOn old) (DirectlyOn with_one) (λ a b d. record { patch = d.patch; head = Contains-append_left old (p ∷ []) d.patch d.head; numbered = d.numbered; named = d.named })
 
   over_with : (b x q : ℕ) → IsOver old b x q → IsOver with_one b x q
@@ -138,7 +140,7 @@ module _ (old : List Patch) (disk : IsOnDiskWithAll old) where
   is_left : (p : Patch) → Contains old p → IsLive p → Contains left p
   is_left p h live = Contains-from_In left p (in_filter is_live old p (In-from_Contains old p h) (live_told p live))
 
-  depends_left : (m n : ℕ) → DependsOn old m n → IsLiveNumber old n → DependsOn left m n
+  pub depends_left : (m n : ℕ) → DependsOn old m n → IsLiveNumber old n → DependsOn left m n
   depends_left m n (one d) l =
       one (record { patch = d.patch; head = is_left d.patch d.head (λ e. l.live (disk.disk d.patch d.head e n d.named l.patch l.head l.numbered)); numbered = d.numbered; named = d.named })
   depends_left m n (join {q = k} c d) l = join (depends_left m k c (live_over old disk k n d l)) (depends_left k n d l)

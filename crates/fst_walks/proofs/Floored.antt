@@ -4,8 +4,8 @@ use Rattle.std.proofs.lemmas.Bool.{cases_eq}
 use Rattle.fst_types.specs.{Facts.IsOnDiskWithAll, Patches.Patch}
 use Rattle.fst_types.proofs.Finite.{In, In-from_Contains, Contains-from_In}
 use Rattle.fst_heads.specs.{Grading.IsHardNumber}
-use Rattle.fst_walks.specs.{Leveling.{IsLeveled, Leveling, level_of, floor_of}, Lifting.{IsLifted, MayLift}}
-use Rattle.fst_walks.proofs.Lifted.{lifted}
+use Rattle.fst_walks.specs.{Leveling.{IsLeveled, Leveling, level_of, strand_of, floor_of}, Lifting.{IsLifted, MayLift}}
+use Rattle.fst_walks.proofs.{Lifted.lifted, StrandsKept.stranded_as}
 
 -- whether a number is in a list
 in_or_not : (ns : List ℕ) (n : ℕ) → In ns n ⊎ (In ns n → ⊥)
@@ -65,4 +65,5 @@ module _ (heads : List Patch) (disk : IsOnDiskWithAll heads) (blocks b to : ℕ)
         may.meets.live may.meets.low met_or_not may.above may.at_most may.few may.at_least
         (level_of raised.ranks) (floor_of floors) L.raised L.rest own_floor crossed_floor
         (λ c other none. other_floor c other ∙ L.other_floors c none) crossed_or_not;
+    stranded = stranded_as heads (strand_of levels.ranks) (strand_of raised.ranks) L.strands x.stranded;
   }

@@ -4,8 +4,8 @@ use Rattle.std.proofs.lemmas.{Bool.{cases_eq}, List.{map-append}, List.Elements.
 use Rattle.fst_types.specs.{Dependencies.DirectlyOn, Facts.HasOnePlaceEach, Gates.IsOpenNumber, Patches.{Patch, IsOn, IsHard, IsOpenGate}}
 use Rattle.fst_types.proofs.{Alike.{Alike, Like, like_self, back_alike, numbers_alike, direct_back, on_back, grade_same, open_back}, Finite.{In-from_Contains, Contains-from_In}, GateGains.In-unmap}
 use Rattle.fst_heads.specs.{Grading.IsHardNumber, Marks.PassesAt}
-use Rattle.fst_walks.specs.{Leveling.{AreLeveled, IsLeveled, Leveling, level_of, floor_of, top_level}, declared.levels.Rank.Rank}
-use Rattle.fst_walks.proofs.{Leveled.{live_passes, passed_on}, Ranked.{level_other, level_new, number_of}}
+use Rattle.fst_walks.specs.{Leveling.{AreLeveled, IsLeveled, Leveling, level_of, strand_of, floor_of, top_level}, Strands.GoesOn, declared.levels.Rank.Rank}
+use Rattle.fst_walks.proofs.{Leveled.{live_passes, passed_on}, Ranked.{kept_other, kept_new, number_of}, StrandsKept.{fresh_stranded, stranded_alike}}
 use Rattle.fst_heads.specs.declared.test.Test.TheVariants as test
 
 -- each new patch was one of the old ones, perhaps at another place, and has the level that it had
@@ -55,6 +55,7 @@ alike_is_leveled old new A blocks levels x = record {
   aligned = x.aligned ∙ sym (numbers_alike old new A);
   long = x.long;
   leveled = alike_leveled old new A (level_of levels.ranks) (floor_of levels.floors) x.leveled;
+  stranded = stranded_alike old new A (strand_of levels.ranks) x.stranded;
 }
 
 -- some of the patches
@@ -134,12 +135,12 @@ module _ (old : List Patch) (p : Patch) (level level' floor : ℕ → ℕ)
 
 -- the next number is no head's yet, and no head names it; the new rank comes last
 module _ (old : List Patch) (numbers blocks : ℕ) (p : Patch) (H : HasOnePlaceEach old numbers) (next : p.number ≡ numbers + 1)
-    (given : (q : ℕ) → Contains p.dependencies q → q ≤ numbers) (levels : Leveling) (l : ℕ)
+    (given : (q : ℕ) → Contains p.dependencies q → q ≤ numbers) (levels : Leveling) (l s : ℕ)
     (row : (q : ℕ) → Contains p.dependencies q → level_of levels.ranks q ≤ l)
     (above : (b : ℕ) → IsOn p b → floor_of levels.floors b ≤ l) (below : (b : ℕ) → IsOn p b → IsHard p → l ≤ floor_of levels.floors b)
-    (gate : IsOpenGate p → l ≡ top_level) (few : l ≤ top_level) (x : IsLeveled old blocks levels) where
+    (gate : IsOpenGate p → l ≡ top_level) (few : l ≤ top_level) (on : GoesOn old (strand_of levels.ranks) p.number p.dependencies s) (x : IsLeveled old blocks levels) where
   abbrev rank : Rank
-  rank = record { number = p.number; level = l }
+  rank = record { number = p.number; level = l; strand = s }
 
   abbrev level' : ℕ → ℕ
   level' = level_of (levels.ranks ++ rank ∷ [])
@@ -153,19 +154,25 @@ module _ (old : List Patch) (numbers blocks : ℕ) (p : Patch) (H : HasOnePlaceE
       new_number o.0 (Contains-from_In old o.0 o.1) o.2
 
   here : level' p.number ≡ l
-  here = level_new levels.ranks rank unranked
+  here = kept_new (λ r. r.level) levels.ranks rank unranked
+
+  strand_here : strand_of (levels.ranks ++ rank ∷ []) p.number ≡ s
+  strand_here = kept_new (λ r. r.strand) levels.ranks rank unranked
 
   -- the levels that are kept go on so
-  pub fresh_is_leveled : IsLeveled (old ++ p ∷ []) blocks (record levels { ranks = levels.ranks ++ record { number = p.number; level = l } ∷ [] })
+  pub fresh_is_leveled : IsLeveled (old ++ p ∷ []) blocks (record levels { ranks = levels.ranks ++ rank ∷ [] })
   fresh_is_leveled = record {
     aligned = map-append number_of levels.ranks (rank ∷ []) ∙ (ap (λ ns. ns ++ p.number ∷ []) x.aligned ∙ sym (map-append (λ (q : Patch). q.number) old (p ∷ [])));
     long = x.long;
     leveled = fresh_leveled old p (level_of levels.ranks) level' (floor_of levels.floors) new_number
         (λ q h c. let k = H.named q p.number h c in omega (arith, k, next))
         (λ c. let k = given p.number c in omega (arith, k, next))
-        (λ n other. level_other levels.ranks rank n other)
+        (λ n other. kept_other (λ r. r.level) levels.ranks rank n other)
         (λ q c. let k = row q c in omega (arith, here, k))
         (λ b on. let k = above b on in omega (arith, here, k))
         (λ b on hard. let k = below b on hard in omega (arith, here, k))
         (λ o. here ∙ gate o) (omega (arith, here, few)) x.leveled;
+    stranded = fresh_stranded old numbers p H next (strand_of levels.ranks) (strand_of (levels.ranks ++ rank ∷ []))
+        (λ n other. kept_other (λ r. r.strand) levels.ranks rank n other)
+        (subst (GoesOn old (strand_of levels.ranks) p.number p.dependencies) (sym strand_here) on) x.stranded;
   }

@@ -154,9 +154,9 @@ pub path_further : (heads : List Patch) (b : ℕ) (row below : List ℕ) (was no
 path_further heads b row below was now n (Some q) x d said c = path_next heads b row was now n q x (d q c) said
 path_further heads b row below was now n None x d said c = tt
 
--- a live change of b that is below one of another block is what it returns to
-pub path_back : (heads : List Patch) (b : ℕ) (row : List ℕ) (n : ℕ) → IsOnPath heads b row true n → PassesAt (test.LiveOn b) heads n → HasUnder heads row (IsReturning heads b)
-path_back heads b row n x p = under_weaker heads row (IsAwayAbove heads b n) (IsReturning heads b) (λ m a.
+-- a live change of b that is below one of another block is what that returns to
+pub away_back : (heads : List Patch) (b n m : ℕ) → IsAwayAbove heads b n m → PassesAt (test.LiveOn b) heads n → IsReturning heads b m
+away_back heads b n m a p =
     let away = a.0.patch in
     let back = p.patch in
     let off = off_from b away.number away.kind away.place a.0.passed in
@@ -172,7 +172,10 @@ path_back heads b row n x p = under_weaker heads row (IsAwayAbove heads b n) (Is
       away_live = off.0;
       back_needed = record { head = p.head; change = on.1; depends = subst (λ k. DependsOn heads k back.number) (sym a.0.numbered) (subst (DependsOn heads m) (sym p.numbered) a.1) };
       back_live = on.0;
-    }) (x.off refl)
+    }
+
+pub path_back : (heads : List Patch) (b : ℕ) (row : List ℕ) (n : ℕ) → IsOnPath heads b row true n → PassesAt (test.LiveOn b) heads n → HasUnder heads row (IsReturning heads b)
+path_back heads b row n x p = under_weaker heads row (IsAwayAbove heads b n) (IsReturning heads b) (λ m a. away_back heads b n m a p) (x.off refl)
 
 -- what a grade tells of one thing it tells of another that is so exactly where the first is
 pub follows_same : (g : Grade) (First Second : Type 0) → (Second → First) → (First → Second) → FollowsRule g First → FollowsRule g Second

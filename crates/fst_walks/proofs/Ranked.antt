@@ -1,40 +1,46 @@
--- The level that is kept under a number: at a head's slot, and where a rank is added or some are left out.
+-- What is kept under a number: at a head's slot, and where a rank is added.
 use Rattle.std.proofs.Common.{◌≡◌, ◌≢◌, ◌<◌, ◌++◌, ◌∷◌, [], ℕ, zero, suc, List, map, length, get_or, AllPairs, Contains, refl, sym, ap, subst, ◌∙◌, inl, inr, arith, eq-eqb, ne_eqb}
 use Rattle.std.proofs.lemmas.{Bool.{cases_eq}, List.{length-map, get_or-map}}
 use Rattle.fst_types.specs.Patches.{Patch}
 use Rattle.fst_types.proofs.Finite.{In, Contains-from_In}
 use Rattle.fst_heads.specs.{declared.head.Head.Head, Heads.{IsRising, patch_of, patches_of}, Marks.HasSlot}
 use Rattle.fst_heads.proofs.Slots.{some_element, rising_map, rising_back}
-use Rattle.fst_walks.specs.{Leveling.level_of, declared.levels.Rank.Rank}
+use Rattle.fst_walks.specs.{Leveling.{kept_under, level_of, strand_of}, declared.levels.Rank.Rank}
 
 -- the number of a rank
 abbrev pub number_of : Rank → ℕ
 number_of r = r.number
 
--- one rank more: of another number the level stays
-pub level_other : (ranks : List Rank) (r : Rank) (n : ℕ) → n ≢ r.number → level_of (ranks ++ r ∷ []) n ≡ level_of ranks n
-level_other [] r n other = rw (ne_eqb r.number n (λ e. other (sym e))) refl
-level_other (x ∷ xs) r n other = elim (cases_eq x.number n) [
-  | inl e ↦ rw (eq-eqb x.number n e) refl
-  | inr o ↦ rw (ne_eqb x.number n o) (level_other xs r n other)
-]
+-- what stands for a rank where there is none
+pub no_rank : Rank
+no_rank = record { number = 0; level = 0; strand = 0 }
 
--- and a new number has the level that came with it
-level_pushed : (ranks : List Rank) (r : Rank) → (In (map number_of ranks) r.number → ⊥) → level_of (ranks ++ r ∷ []) r.number ≡ r.level
-level_pushed [] r none = rw (eq-eqb r.number r.number refl) refl
-level_pushed (x ∷ xs) r none = rw (ne_eqb x.number r.number (λ e. none (inl e))) (level_pushed xs r (λ h. none (inr h)))
+-- what is kept of a rank
+module _ (kept : Rank → ℕ) where
+  -- one rank more: under another number the same is kept
+  pub kept_other : (ranks : List Rank) (r : Rank) (n : ℕ) → n ≢ r.number → kept_under kept (ranks ++ r ∷ []) n ≡ kept_under kept ranks n
+  kept_other [] r n other = rw (ne_eqb r.number n (λ e. other (sym e))) refl
+  kept_other (x ∷ xs) r n other = elim (cases_eq x.number n) [
+    | inl e ↦ rw (eq-eqb x.number n e) refl
+    | inr o ↦ rw (ne_eqb x.number n o) (kept_other xs r n other)
+  ]
 
--- said likewise
-pub level_new : (ranks : List Rank) (r : Rank) → (Contains (map (λ x. x.number) ranks) r.number → ⊥) → level_of (ranks ++ r ∷ []) r.number ≡ r.level
-level_new ranks r none = level_pushed ranks r (λ h. none (Contains-from_In (map number_of ranks) r.number h))
+  -- and under a new number what came with it
+  kept_pushed : (ranks : List Rank) (r : Rank) → (In (map number_of ranks) r.number → ⊥) → kept_under kept (ranks ++ r ∷ []) r.number ≡ kept r
+  kept_pushed [] r none = rw (eq-eqb r.number r.number refl) refl
+  kept_pushed (x ∷ xs) r none = rw (ne_eqb x.number r.number (λ e. none (inl e))) (kept_pushed xs r (λ h. none (inr h)))
 
--- ranks whose numbers rise
-level_rising : (ranks : List Rank) → AllPairs (λ x y. x.number < y.number) ranks → (slot : ℕ) → slot < length ranks → (d : Rank) → level_of ranks (get_or ranks slot d).number ≡ (get_or ranks slot d).level
-level_rising [] rising slot lt d = absurd (omega (arith, lt))
-level_rising (x ∷ xs) rising zero lt d = rw (eq-eqb x.number x.number refl) refl
-level_rising (x ∷ xs) rising (suc slot) lt d =
-    let apart = rising 0 (suc slot) d (omega arith) lt in
-    rw (ne_eqb x.number (get_or xs slot d).number (λ e. omega (arith, apart, e))) (level_rising xs (λ i j e l b. rising (suc i) (suc j) e (omega (arith, l)) (omega (arith, b))) slot (omega (arith, lt)) d)
+  -- said likewise
+  pub kept_new : (ranks : List Rank) (r : Rank) → (Contains (map (λ x. x.number) ranks) r.number → ⊥) → kept_under kept (ranks ++ r ∷ []) r.number ≡ kept r
+  kept_new ranks r none = kept_pushed ranks r (λ h. none (Contains-from_In (map number_of ranks) r.number h))
+
+  -- ranks whose numbers rise
+  kept_rising : (ranks : List Rank) → AllPairs (λ x y. x.number < y.number) ranks → (slot : ℕ) → slot < length ranks → (d : Rank) → kept_under kept ranks (get_or ranks slot d).number ≡ kept (get_or ranks slot d)
+  kept_rising [] rising slot lt d = absurd (omega (arith, lt))
+  kept_rising (x ∷ xs) rising zero lt d = rw (eq-eqb x.number x.number refl) refl
+  kept_rising (x ∷ xs) rising (suc slot) lt d =
+      let apart = rising 0 (suc slot) d (omega arith) lt in
+      rw (ne_eqb x.number (get_or xs slot d).number (λ e. omega (arith, apart, e))) (kept_rising xs (λ i j e l b. rising (suc i) (suc j) e (omega (arith, l)) (omega (arith, b))) slot (omega (arith, lt)) d)
 
 -- ranks that stand in the order of the heads
 module _ (heads : List Head) (ranks : List Rank) (rising : IsRising heads) (aligned : map (λ r. r.number) ranks ≡ map (λ p. p.number) (patches_of heads)) where
@@ -64,6 +70,12 @@ module _ (heads : List Head) (ranks : List Rank) (rising : IsRising heads) (alig
         ∙ (get_or-map (λ (p : Patch). p.number) (patches_of heads) slot (patch_of h) 0 within
         ∙ (ap (λ (p : Patch). p.number) (get_or-map patch_of heads slot h (patch_of h) at.0) ∙ at.1 h)))
 
-    -- the level in the slot is the one under the number
+    -- what is kept in the slot is what is under the number
+    rank_kept : (kept : Rank → ℕ) (d : Rank) → kept (get_or ranks slot d) ≡ kept_under kept ranks n
+    rank_kept kept d = sym (kept_rising kept ranks ranks_rise slot slot_ranked d) ∙ ap (kept_under kept ranks) (rank_number d)
+
     pub rank_level : (d : Rank) → (get_or ranks slot d).level ≡ level_of ranks n
-    rank_level d = sym (level_rising ranks ranks_rise slot slot_ranked d) ∙ ap (level_of ranks) (rank_number d)
+    rank_level = rank_kept (λ r. r.level)
+
+    pub rank_strand : (d : Rank) → (get_or ranks slot d).strand ≡ strand_of ranks n
+    rank_strand = rank_kept (λ r. r.strand)

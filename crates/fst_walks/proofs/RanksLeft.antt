@@ -1,12 +1,12 @@
 -- What forgetting leaves of the levels: the ranks of the patches that are left.
 use Rattle.std.proofs.Common.{◌≡◌, ◌≤◌, ◌∷◌, [], ℕ, Bool, true, false, List, filter, map, Contains, refl, sym, ap, subst, ◌∙◌, inl, inr, arith, eq-eqb, ne_eqb}
 use Rattle.std.proofs.lemmas.{Bool.{cases_Bool, cases_eq, false≢true}}
-use Rattle.fst_types.specs.{Patches.{Patch, IsRising}, Tests.{has_number, is_live}}
+use Rattle.fst_types.specs.{Facts.IsOnDiskWithAll, Patches.{Patch, IsRising}, Tests.{has_number, is_live}}
 use Rattle.fst_types.proofs.{Crash.same_number, Dropping.{filter_in, in_filter}, Finite.{In, In-from_Contains, Contains-from_In}}
 use Rattle.fst_heads.specs.{Heads.patches_of, Marks.{HasNone, HasSlot}, Nodes.is_live_in, declared.head.Head.Head}
 use Rattle.fst_heads.proofs.Slots.{none_slot, patch_at, patch_slot, slot_in, some_element}
-use Rattle.fst_walks.specs.{Leveling.{IsLeveled, Leveling, level_of, floor_of}, declared.levels.Rank.Rank}
-use Rattle.fst_walks.proofs.{LeveledKept.fewer_leveled, Ranked.number_of}
+use Rattle.fst_walks.specs.{Leveling.{IsLeveled, Leveling, kept_under, level_of, strand_of, floor_of}, declared.levels.Rank.Rank}
+use Rattle.fst_walks.proofs.{LeveledKept.fewer_leveled, Ranked.number_of, StrandsKept.left_stranded}
 
 -- whether some head has the number
 pub has_told : (heads : List Patch) (n : ℕ) → has_number heads n ≡ true → (p : Patch) × Contains heads p × (p.number ≡ n)
@@ -51,15 +51,15 @@ module _ (t : ℕ → Bool) where
   abbrev pub passing : List Rank → List Rank
   passing ranks = filter (λ r. t r.number) ranks
 
-  -- a number that passes has the level that it had
-  pub level_passing : (ranks : List Rank) (n : ℕ) → t n ≡ true → level_of (passing ranks) n ≡ level_of ranks n
-  level_passing [] n e = refl
-  level_passing (x ∷ xs) n e = elim (cases_Bool (t x.number)) [
+  -- under a number that passes the same is kept
+  pub kept_passing : (kept : Rank → ℕ) (ranks : List Rank) (n : ℕ) → t n ≡ true → kept_under kept (passing ranks) n ≡ kept_under kept ranks n
+  kept_passing kept [] n e = refl
+  kept_passing kept (x ∷ xs) n e = elim (cases_Bool (t x.number)) [
     | inl told ↦ rw told (elim (cases_eq x.number n) [
       | inl s ↦ rw (eq-eqb x.number n s) refl
-      | inr o ↦ rw (ne_eqb x.number n o) (level_passing xs n e)
+      | inr o ↦ rw (ne_eqb x.number n o) (kept_passing kept xs n e)
     ])
-    | inr untold ↦ rw (untold, ne_eqb x.number n (λ s. false≢true (sym untold ∙ (ap t s ∙ e)))) (level_passing xs n e)
+    | inr untold ↦ rw (untold, ne_eqb x.number n (λ s. false≢true (sym untold ∙ (ap t s ∙ e)))) (kept_passing kept xs n e)
   ]
 
   level_failing : (ranks : List Rank) (n : ℕ) → t n ≡ false → level_of (passing ranks) n ≡ 0
@@ -72,7 +72,7 @@ module _ (t : ℕ → Bool) where
   -- no level rises
   pub level_fewer : (ranks : List Rank) (n : ℕ) → level_of (passing ranks) n ≤ level_of ranks n
   level_fewer ranks n = elim (cases_Bool (t n)) [
-    | inl told ↦ let e = level_passing ranks n told in omega (arith, e)
+    | inl told ↦ let e = kept_passing (λ r. r.level) ranks n told in omega (arith, e)
     | inr untold ↦ let e = level_failing ranks n untold in omega (arith, e)
   ]
 
@@ -91,7 +91,7 @@ passed_same f g (x ∷ xs) same = elim (cases_Bool (g x)) [
 ]
 
 -- what is on disk is forgotten, and the ranks of the heads that are left stay
-module _ (old : List Patch) (rising : IsRising old) where
+module _ (old : List Patch) (rising : IsRising old) (disk : IsOnDiskWithAll old) where
   abbrev left : List Patch
   left = filter is_live old
 
@@ -131,7 +131,8 @@ module _ (old : List Patch) (rising : IsRising old) where
     aligned = numbers_left levels.ranks x.aligned;
     long = x.long;
     leveled = fewer_leveled old left (level_of levels.ranks) (level_of (passing is_left levels.ranks)) (floor_of levels.floors) (λ p c. (was_left p c).0)
-        (level_fewer is_left levels.ranks) (λ p c. level_passing is_left levels.ranks p.number (told_has left p c)) x.leveled;
+        (level_fewer is_left levels.ranks) (λ p c. kept_passing is_left (λ r. r.level) levels.ranks p.number (told_has left p c)) x.leveled;
+    stranded = left_stranded old disk (strand_of levels.ranks) (strand_of (passing is_left levels.ranks)) (λ p c. kept_passing is_left (λ r. r.strand) levels.ranks p.number (told_has left p c)) x.stranded;
   }
 
 -- a number is left exactly if a live patch has it

@@ -3,6 +3,7 @@ pub mod Descending
 pub mod WayBack
 pub mod Walks
 pub mod Sights
+pub mod Strands
 pub mod Leveling
 pub mod Lifting
 pub mod BothEnds

@@ -1,6 +1,7 @@
 //! Levels: what tells without a walk that a way leads nowhere. Each head has a level and each block a floor, so that no way
 //! down rises: what a patch depends on is no higher than it is, a change is no lower than the floor of its block, and a hard
-//! change in memory is no higher. So what lies below a floor can come to wait for nothing of that block.
+//! change in memory is no higher. So what lies below a floor can come to wait for nothing of that block. Beside its level the
+//! strand of each head is kept (`strands`).
 
 ghost use Rattle.std.specs.Prelude.{vec_capacity, ◌≡◌, ◌≢◌, ◌≤◌, ◌<◌, ◌+◌, ◌++◌, ◌∷◌, [], ℕ, false, IsTrue, length, map, filter, Contains, AllPairs, IfOk, OnOk, slice_index_or};
 ghost use Rattle.fst_types.specs.Tests.{has_number};
@@ -9,7 +10,7 @@ ghost use Rattle.fst_heads.specs.Heads.{IsRising, patch_of, patches_of};
 ghost use Rattle.fst_heads.specs.Reaching.{IsHardIn};
 ghost use Rattle.fst_heads.specs.Keeps.{IsInside};
 ghost use Rattle.fst_types.specs.Facts.{IsOnDiskWithAll};
-ghost use Rattle.fst_walks.specs.Leveling.{IsLeveled, floor_of, level_of};
+ghost use Rattle.fst_walks.specs.Leveling.{IsLeveled, floor_of, level_of, strand_of};
 ghost use Rattle.fst_walks.specs.Lifting.{IsLifted, MayLift};
 ghost use Rattle.fst_walks.specs.Walks.{number_at, numbers_met};
 
@@ -23,11 +24,12 @@ use std::marker::Model;
 /// The greatest level, at which each open gate stands.
 pub const TOP: u32 = 4_294_967_295;
 
-/// A head's number and its level.
+/// A head's number, its level and its strand.
 #[derive(Clone, Copy, Debug, PartialEq, Eq)]
 pub struct Rank {
     pub number: u32,
     pub level: u32,
+    pub strand: u32,
 }
 
 /// What a new change does to the levels.
@@ -39,8 +41,8 @@ pub struct Rise {
     pub lifts: bool,
 }
 
-/// The levels of the heads, in their order, and the floors of the blocks. It takes 8 bytes for each head and 4 for each
-/// block.
+/// The levels and strands of the heads, in their order, and the floors of the blocks. It takes 12 bytes for each head and 4
+/// for each block.
 #[derive(Drop)]
 pub struct Levels {
     ranks: Vec<Rank>,
@@ -73,6 +75,7 @@ fn raise(ranks: &mut Vec<Rank>, slot: usize, to: u32)
     ensures numbers { map (λ r. r.number) ranks.new.items ≡ map (λ r. r.number) ranks.old.items }
     ensures raised { (d : Rank) → level_of ranks.new.items (slice_index_or ranks.old.items slot d).number ≡ to }
     ensures rest { (d : Rank) (n : ℕ) → n ≢ (slice_index_or ranks.old.items slot d).number → level_of ranks.new.items n ≡ level_of ranks.old.items n }
+    ensures strands { (n : ℕ) → strand_of ranks.new.items n ≡ strand_of ranks.old.items n }
     ensures capacity { vec_capacity ranks.new ≡ vec_capacity ranks.old }
 {
     ranks[slot].level = to;
@@ -126,13 +129,17 @@ impl Levels {
     }
 
     /// One head more, for which there is room.
-    pub fn grow(&mut self, number: u32, level: u32)
+    pub fn grow(&mut self, number: u32, level: u32, strand: u32)
         requires { length self.old.ranks < self.old.room }
-        ensures ranks { self.new.ranks ≡ self.old.ranks ++ record { number = number; level = level } ∷ [] }
+        ensures ranks { self.new.ranks ≡ self.old.ranks ++ record { number = number; level = level; strand = strand } ∷ [] }
         ensures floors { self.new.floors ≡ self.old.floors }
         ensures room { self.new.room ≡ self.old.room }
     {
-        self.ranks.push_reserved(Rank { number, level });
+        self.ranks.push_reserved(Rank {
+            number,
+            level,
+            strand,
+        });
     }
 
     /// The level of the head in the slot.
@@ -141,6 +148,14 @@ impl Levels {
         ensures { (d : Rank) → result ≡ (slice_index_or self.now.ranks slot d).level }
     {
         self.ranks[slot].level
+    }
+
+    /// The strand of the head in the slot.
+    pub fn strand(&self, slot: usize) -> u32
+        requires { slot < length self.now.ranks }
+        ensures { (d : Rank) → result ≡ (slice_index_or self.now.ranks slot d).strand }
+    {
+        self.ranks[slot].strand
     }
 
     /// The floor of the block.
@@ -159,6 +174,18 @@ impl Levels {
     {
         match slot_of(heads, number) {
             Some(slot) => self.level(slot),
+            None => 0,
+        }
+    }
+
+    /// The strand of the patch with the number, and 0 where it is forgotten.
+    pub fn strand_of(&self, heads: &[Head], number: u32) -> u32
+        requires rising { IsRising heads.now }
+        requires aligned { map (λ r. r.number) self.now.ranks ≡ map (λ p. p.number) (patches_of heads.now) }
+        ensures { result ≡ strand_of self.now.ranks number }
+    {
+        match slot_of(heads, number) {
+            Some(slot) => self.strand(slot),
             None => 0,
         }
     }

@@ -60,7 +60,7 @@ impl Sparse {
             dependants: SmallVec::new(self.alloc),
         });
         self.ends.grow();
-        self.levels.grow(number, TOP);
+        self.levels.grow(number, TOP, number);
         self.live += 1;
         self.numbers = number;
         Ok(PatchNo(number))
@@ -110,7 +110,7 @@ impl Sparse {
             dependants: SmallVec::new(self.alloc),
         });
         self.ends.grow();
-        self.levels.grow(number, level);
+        self.levels.grow(number, level, number);
         self.live += weight(place);
         self.numbers = number;
         Ok(PatchNo(number))

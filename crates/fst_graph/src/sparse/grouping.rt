@@ -25,6 +25,7 @@ use fst_heads::row::row_sums;
 use fst_types::{BlockNo, Fault, Grade, PatchNo, Place, Span};
 use fst_walks::lift::rise_of;
 use fst_walks::sight::Sight;
+use fst_walks::strands::strand_after;
 use smallvec::SmallVec;
 
 impl Sparse {
@@ -170,6 +171,8 @@ impl Sparse {
             .lift(&self.heads, &self.ends.up.walk, block, rise);
         self.needs
             .put(&self.heads, prepared.dependencies.as_slice(), grade);
+        let row = prepared.dependencies.as_slice();
+        let strand = strand_after(&self.levels, &self.heads, row, number);
         let sums = row_sums(&self.heads, prepared.dependencies.as_slice());
         let pending = over_block(block, sums.joined());
         link(&mut self.heads, prepared.dependencies.as_slice(), number);
@@ -187,7 +190,7 @@ impl Sparse {
         self.unmarked = self.unmarked.min(block as usize);
         self.covers[block as usize].put(span, number);
         self.ends.grow();
-        self.levels.grow(number, rise.level);
+        self.levels.grow(number, rise.level, strand);
         self.live += 1;
         self.numbers = number;
         let row = row_of(self.alloc, number);

@@ -119,8 +119,8 @@ impl Sparse {
             .push_reserved(new_gate(self.alloc, number + 1, row, sums));
         self.ends.grow();
         self.ends.grow();
-        self.levels.grow(number, TOP);
-        self.levels.grow(number + 1, TOP);
+        self.levels.grow(number, TOP, number);
+        self.levels.grow(number + 1, TOP, number + 1);
         self.live += 2;
         self.numbers = number + 1;
         Ok(PatchNo(number))

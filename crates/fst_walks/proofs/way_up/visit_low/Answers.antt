@@ -2,8 +2,8 @@ use Rattle.std.proofs.Common.{◌≡◌, ◌≤◌, ◌∙◌, refl, sym, subst,
 use Rattle.std.proofs.lemmas.Bool.{false≢true}
 use Rattle.fst_heads.specs.Heads.{patches_of}
 use Rattle.fst_heads.proofs.Slots.{live_at, not_live_none}
-use Rattle.fst_walks.specs.{BothEnds.IsLow, Leveling.level_of, Walks.{Meets, numbers_met}, declared.levels.Rank.Rank}
-use Rattle.fst_walks.proofs.{Ranked.rank_level, Visiting.{visits_none, visits_meet, visited_meet}}
+use Rattle.fst_walks.specs.{BothEnds.IsLow, Leveling.level_of, Walks.{Meets, numbers_met}}
+use Rattle.fst_walks.proofs.{Ranked.{no_rank, rank_level}, Visiting.{visits_none, visits_meet, visited_meet}}
 use Rattle.fst_walks.proofs.way_up.visit_low.Goals.{else-level-most-via-then-level-most+else-is_live, else-level-most-via-else-level-most}
 use Rattle.fst_walks.proofs.way_up.visit_low.Goals as goal
 
@@ -21,9 +21,8 @@ returns-then-is_live-clause-visits c =
     let ranks = sight.levels.now.ranks in
     let n = c.args.number in
     let slot = c.in-Some.ensures.found in
-    let none : Rank = record { number = 0; level = 0 } in
     let live = (live_at heads n c.in-Some.slot c.index-sight-slot.result c.requires.sees.rising slot).0 (sym c.is_live.ensures ∙ c.if-is_live.true) in
-    let low : level_of ranks n ≤ c.args.most = subst (λ l. l ≤ c.args.most) (c.level.ensures none ∙ rank_level heads ranks c.requires.sees.rising c.requires.sees.leveled.aligned n c.in-Some.slot slot none) c.if-level-most.true in
+    let low : level_of ranks n ≤ c.args.most = subst (λ l. l ≤ c.args.most) (c.level.ensures no_rank ∙ rank_level heads ranks c.requires.sees.rising c.requires.sees.leveled.aligned n c.in-Some.slot slot no_rank) c.if-level-most.true in
     visits_meet heads n c.in-Some.slot slot c.args.walk.now c.meet.new.self (subst (λ w. Meets c.in-Some.slot w c.meet.new.self) c.find.ensures.same c.meet.ensures) (λ m. (m ≡ n) × IsLow (patches_of heads) (level_of ranks) c.args.most m) (refl, (live, low)) (λ m k. k.0)
 
 pub returns-else-level-most-clause-visits : goal.returns-else-level-most-clause-visits
@@ -33,7 +32,6 @@ returns-else-level-most-clause-visits c =
     let ranks = sight.levels.now.ranks in
     let n = c.args.number in
     let slot = c.in-Some.ensures.found in
-    let none : Rank = record { number = 0; level = 0 } in
     rw c.find.ensures.same (visits_none (λ m. (m ≡ n) × IsLow (patches_of heads) (level_of ranks) c.args.most m) (numbers_met heads c.args.walk.now) (λ m k.
     let low = subst (IsLow (patches_of heads) (level_of ranks) c.args.most) k.0 k.1 in
     elim c.else-level-most.branch [
@@ -41,7 +39,7 @@ returns-else-level-most-clause-visits c =
           let alive = (live_at heads n c.in-Some.slot w.index-sight-slot.result c.requires.sees.rising slot).1 low.0 in
           absurd (false≢true (sym w.if-is_live.false ∙ (w.is_live.ensures ∙ alive)))
       | else-level-most-via-else-level-most w ↦
-          let same = c.level.ensures none ∙ rank_level heads ranks c.requires.sees.rising c.requires.sees.leveled.aligned n c.in-Some.slot slot none in
+          let same = c.level.ensures no_rank ∙ rank_level heads ranks c.requires.sees.rising c.requires.sees.leveled.aligned n c.in-Some.slot slot no_rank in
           absurd (omega (arith, same, low.1, w.if-level-most.false))
     ]))
 

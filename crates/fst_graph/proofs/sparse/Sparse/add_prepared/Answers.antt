@@ -2,12 +2,12 @@ use Rattle.std.proofs.{Common.{◌≡◌, arith, ◌∙◌, Some, sym, refl, ap}
 use Rattle.fst_heads.specs.{Heads.patches_of, Nodes.{nodes_of}}
 use Rattle.fst_graph.specs.Ready.{change_of}
 use Rattle.fst_heads.proofs.{Added.{new_node, with_node}}
-use Rattle.fst_graph.proofs.{Made.{change_nodes, change_sound, may_enter, may_grow, may_lift, may_list, may_need, may_rise, put_patches}, PutNow.{put_down, IsPutDown}, Readied.{ready_adds, ready_alone}}
+use Rattle.fst_graph.proofs.{Made.{change_nodes, change_sound, may_enter, may_go_on, may_grow, may_lift, may_list, may_need, may_rise, put_patches}, PutNow.{put_down, IsPutDown}, Readied.{ready_adds, ready_alone}}
 use Rattle.fst_graph.proofs.{Sound.{prepared_is, rising_sound}, sparse.Sparse.add_prepared.Goals.{After-as_slice, After-index_mut}}
 use Rattle.fst_graph.proofs.sparse.Sparse.add_prepared.Goals as goal
 
 pub row_sums-sums-requires : goal.row_sums-sums-requires
-row_sums-sums-requires c = rw c.deref-7.ensures.value (rising_sound c.self.invariant)
+row_sums-sums-requires c = rw c.deref-8.ensures.value (rising_sound c.self.invariant)
 
 pub link-requires-clause-rising : goal.link-requires-clause-rising
 link-requires-clause-rising c = rising_sound c.self.invariant
@@ -30,6 +30,9 @@ lift-requires c = may_lift c.self.invariant (down (goal.at.lift-requires c).Afte
 pub put-requires : goal.put-requires
 put-requires c = may_need c.self.invariant (down (goal.at.put-requires c).After-as_slice) c.deref-6.ensures.value c.as_slice-2.ensures
 
+pub strand_after-strand-requires : goal.strand_after-strand-requires
+strand_after-strand-requires c = may_go_on c.self.invariant (down (goal.at.strand_after-strand-requires c).After-as_slice) c.deref-5.ensures.value c.lift.ensures.leveled c.deref-7.ensures.value
+
 pub push_reserved-requires-2 : goal.push_reserved-requires-2
 push_reserved-requires-2 c = may_list c.self.invariant (down (goal.at.push_reserved-requires-2 c).After-as_slice) _ c.index_mut.ensures.value
 
@@ -44,7 +47,7 @@ made : (c : goal.After-index_mut)
     → (nodes_of c.push_reserved.new.self.items ≡ with_node (nodes_of c.self.inside.heads.items) (change_of c.self.inside.numbers c.in-Some.prepared))
     × (c.over_block-pending.result ≡ (new_node (nodes_of c.self.inside.heads.items) (change_of c.self.inside.numbers c.in-Some.prepared)).pending)
 made c =
-    change_nodes c.self.invariant (down (goal.at.push_reserved-requires-2 c).After-as_slice) _ _ c.row_sums-sums.ensures.sums c.deref-7.ensures.value c.as_slice-3.ensures c.joined.ensures c.over_block-pending.ensures
+    change_nodes c.self.invariant (down (goal.at.push_reserved-requires-2 c).After-as_slice) _ _ c.row_sums-sums.ensures.sums c.deref-8.ensures.value c.as_slice-3.ensures c.joined.ensures c.over_block-pending.ensures
     c.link.ensures.nodes c.as_slice-4.ensures c.push_reserved.ensures.items (rw c.new.ensures.items refl)
 
 pub invariant_of-self : goal.invariant_of-self
@@ -54,7 +57,8 @@ invariant_of-self c =
     rw c.take.ensures.after (
     change_sound c.self.invariant (down at.After-as_slice) (made at.After-index_mut)
     c.rise_of-rise.new.walk c.rise_of-rise.new.crossed c.deref.ensures.value c.as_slice.ensures c.rise_of-rise.ensures.rise c.rise_of-rise.ensures.long c.grow.ensures.marks c.grow.ensures.crossed
-    c.deref-5.ensures.value c.lift.ensures.leveled c.lift.ensures.below c.lift.ensures.lifted c.lift.ensures.still c.grow-2.ensures.ranks c.grow-2.ensures.floors
+    c.deref-5.ensures.value c.lift.ensures.leveled c.lift.ensures.below c.lift.ensures.lifted c.lift.ensures.still
+    c.deref-7.ensures.value c.as_slice-row.ensures c.strand_after-strand.ensures c.grow-2.ensures.ranks c.grow-2.ensures.floors
     c.deref-6.ensures.value c.as_slice-2.ensures c.put.ensures
     c.push_reserved-2.new.self c.index_mut.ensures.value c.push_reserved-2.ensures.items refl
     c.index_mut-3.ensures.value c.put-2.ensures refl

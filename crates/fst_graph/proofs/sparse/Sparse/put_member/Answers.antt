@@ -7,13 +7,13 @@ use Rattle.fst_graph.specs.{Ready.change_of, Sound.AreSound}
 use Rattle.fst_heads.proofs.{Added.{new_node, with_node, with_names}}
 use Rattle.fst_heads.proofs.{Framed.{pushed_below, pushed_above}, Linking.rising_as}
 use Rattle.fst_walks.proofs.{Seen.{linked_patches, gained_number}}
-use Rattle.fst_graph.proofs.{Borne.few, Made.{change_nodes, change_sound, gained_sound, may_enter, may_grow, may_lift, may_list, may_need, may_rise, named_nodes, named_patches, put_patches, summed}, PutNow.{put_now, IsPutNow}, Readied.ready_adds, Sound.{rising_sound}}
+use Rattle.fst_graph.proofs.{Borne.few, Made.{change_nodes, change_sound, gained_sound, may_enter, may_go_on, may_grow, may_lift, may_list, may_need, may_rise, named_nodes, named_patches, put_patches, summed}, PutNow.{put_now, IsPutNow}, Readied.ready_adds, Sound.{rising_sound}}
 use Rattle.fst_graph.proofs.{TailGains.{tail_there, tail_clear, tail_gains, none_beyond}}
 use Rattle.fst_graph.proofs.sparse.Sparse.put_member.Goals.{After-as_slice, After-as_slice-5, After-index_mut, After-drop-prepared}
 use Rattle.fst_graph.proofs.sparse.Sparse.put_member.Goals as goal
 
 pub row_sums-sums-requires : goal.row_sums-sums-requires
-row_sums-sums-requires c = rw c.deref-7.ensures.value (rising_sound c.self.invariant)
+row_sums-sums-requires c = rw c.deref-8.ensures.value (rising_sound c.self.invariant)
 
 -- what is prepared may be put down
 now : (c : After-as_slice)
@@ -46,6 +46,9 @@ lift-requires c =
 pub put-requires : goal.put-requires
 put-requires c = may_need c.self.invariant (now (goal.at.put-requires c).After-as_slice).down c.deref-6.ensures.value c.as_slice-2.ensures
 
+pub strand_after-strand-requires : goal.strand_after-strand-requires
+strand_after-strand-requires c = may_go_on c.self.invariant (now (goal.at.strand_after-strand-requires c).After-as_slice).down c.deref-5.ensures.value c.lift.ensures.leveled c.deref-7.ensures.value
+
 pub enter-requires : goal.enter-requires
 enter-requires c = may_enter c.self.invariant (now (goal.at.enter-requires c).After-as_slice).down _ c.index_mut-2.ensures.value
 
@@ -57,7 +60,7 @@ made : (c : goal.After-index_mut)
     → (nodes_of c.push_reserved.new.self.items ≡ with_node (nodes_of c.self.inside.heads.items) (change_of c.self.inside.numbers c.in-Some.prepared))
     × (c.over_block-pending.result ≡ (new_node (nodes_of c.self.inside.heads.items) (change_of c.self.inside.numbers c.in-Some.prepared)).pending)
 made c =
-    change_nodes c.self.invariant (now (goal.at.push_reserved-requires-2 c).After-as_slice).down _ _ c.row_sums-sums.ensures.sums c.deref-7.ensures.value c.as_slice-3.ensures c.joined.ensures c.over_block-pending.ensures
+    change_nodes c.self.invariant (now (goal.at.push_reserved-requires-2 c).After-as_slice).down _ _ c.row_sums-sums.ensures.sums c.deref-8.ensures.value c.as_slice-3.ensures c.joined.ensures c.over_block-pending.ensures
     c.link.ensures.nodes c.as_slice-4.ensures c.push_reserved.ensures.items (rw c.new.ensures.items refl)
 
 -- the fields with the change, of which the tail has not the name yet
@@ -69,7 +72,8 @@ sound c =
     let least = c.min-self-inside.ensures in
     change_sound c.self.invariant (now at.After-as_slice).down (made at.After-index_mut)
     c.rise_of-rise.new.walk c.rise_of-rise.new.crossed c.deref.ensures.value c.as_slice.ensures c.rise_of-rise.ensures.rise c.rise_of-rise.ensures.long c.grow.ensures.marks c.grow.ensures.crossed
-    c.deref-5.ensures.value c.lift.ensures.leveled c.lift.ensures.below c.lift.ensures.lifted c.lift.ensures.still c.grow-2.ensures.ranks c.grow-2.ensures.floors
+    c.deref-5.ensures.value c.lift.ensures.leveled c.lift.ensures.below c.lift.ensures.lifted c.lift.ensures.still
+    c.deref-7.ensures.value c.as_slice-row.ensures c.strand_after-strand.ensures c.grow-2.ensures.ranks c.grow-2.ensures.floors
     c.deref-6.ensures.value c.as_slice-2.ensures c.put.ensures
     c.push_reserved-2.new.self c.index_mut.ensures.value c.push_reserved-2.ensures.items refl
     c.index_mut-3.ensures.value c.put-2.ensures refl
@@ -77,7 +81,7 @@ sound c =
     (omega (arith, least)) (omega (arith, least))
 
 pub row_sums-gained-requires : goal.row_sums-gained-requires
-row_sums-gained-requires c = rw c.deref-8.ensures.value (rising_sound (sound c))
+row_sums-gained-requires c = rw c.deref-9.ensures.value (rising_sound (sound c))
 
 pub gain_one-requires-clause-rising : goal.gain_one-requires-clause-rising
 gain_one-requires-clause-rising c = rising_sound (sound (goal.at.gain_one-requires-clause-rising c).After-as_slice-5)
@@ -117,7 +121,7 @@ link-requires-2-clause-room c =
 tied : (c : After-drop-prepared) → nodes_of c.link-2.new.heads.items
     ≡ with_names (nodes_of c.push_reserved.new.self.items) c.in-Some-gates.gates.tail ((c.self.inside.numbers + 1) ∷ []) (sums_of (pending_in (nodes_of c.push_reserved.new.self.items)) ((c.self.inside.numbers + 1) ∷ []))
 tied c =
-    let sums = summed _ c.push_reserved.new.self.items c.row_sums-gained.ensures.sums (ap nodes_of c.deref-8.ensures.value) (c.as_slice-5.ensures ∙ c.row_of-row.ensures) in
+    let sums = summed _ c.push_reserved.new.self.items c.row_sums-gained.ensures.sums (ap nodes_of c.deref-9.ensures.value) (c.as_slice-5.ensures ∙ c.row_of-row.ensures) in
     named_nodes c.push_reserved.new.self.items c.gain_one.new.heads.items _ c.in-Some-gates.gates.tail sums c.gain_one.ensures.nodes refl c.link-2.ensures.nodes (c.as_slice-6.ensures ∙ c.row_of-row.ensures)
 
 added : (c : After-drop-prepared) → patches_of c.push_reserved.new.self.items ≡ patches_of c.self.inside.heads.items ++ change_of c.self.inside.numbers c.in-Some.prepared ∷ []
