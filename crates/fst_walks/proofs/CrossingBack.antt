@@ -1,7 +1,7 @@
 -- Up from a patch to those that directly depend on it, and from a hard change in memory across its block to all changes of it that are not on disk.
 use Rattle.std.proofs.Common.{◌≡◌, ◌<◌, ℕ, Bool, true, false, not, List, length, map, filter, get_or, set, Contains, Some, refl, sym, ap, subst, ◌∙◌, inl, inr, get_or-set_same, get_or-set_other}
 use Rattle.std.proofs.lemmas.Bool.{cases_eq, and_parts, and_from, eqb-true, eq-eqb, false≢true}
-use Rattle.fst_types.specs.{Dependencies.{DirectlyOn, IsLiveNumber}, Patches.{Kind, Change, Empty, OpenGate, SealedGate, Patch, IsOn, block_of_kind}}
+use Rattle.fst_types.specs.{Dependencies.{DirectlyOn, IsLiveNumber}, Patches.{Kind, Change, Empty, OpenGate, SealedGate, Patch, IsLive, IsOn, block_of_kind}}
 use Rattle.fst_types.specs.Tests.{is_at, is_on}
 use Rattle.fst_types.proofs.{Dropping.{in_filter, filter_in}, Finite.{In, In-from_Contains, Contains-from_In, In-map}, GateGains.In-unmap}
 use Rattle.fst_heads.specs.{Grading.IsHardNumber, Heads.{IsRising, patch_of, patches_of}, Lists.{Entry, entry, entry_of, entries_of, entries_on, is_live_on}}
@@ -9,19 +9,19 @@ use Rattle.fst_heads.specs.{Marks.{HasSlot, PassesAt}, Nodes.{Node, node_of, nod
 use Rattle.fst_heads.specs.{declared.head.Head.Head, declared.head.Kind.{Kind as HeadKind}, declared.lists.Listed.Listed, Heads.kind_of}
 use Rattle.fst_types.specs.declared.grade.Grade.{Grade}
 use Rattle.fst_heads.specs.declared.head.Kind.TheVariants as kinds
-use Rattle.fst_heads.proofs.{AtNumber.patches_in_nodes, Forgetting.{live_place_of, not_disk}, Graded.{on_from, on_to}, Leading.{one_block, reached_more}}
+use Rattle.fst_heads.proofs.{AtNumber.patches_in_nodes, Forgetting.{live_place_of, not_disk}, Graded.{on_from, on_to}, Leading.{one_block, reached_more, same_patch}}
 use Rattle.fst_heads.proofs.{Placed.{patch_in, node_of_patch}, Slots.patch_is, Waiting.{map_twice, times_some, some_times}}
-use Rattle.fst_walks.specs.{Descending.Visits, WayBack.{Crosses, ShowsBlockOf}}
+use Rattle.fst_walks.specs.{BothEnds.IsOffDisk, Descending.Visits, WayBack.{Crosses, ShowsBlockOf}}
 use Rattle.fst_walks.proofs.{Low.some_same, Visiting.visits_none}
 use Rattle.fst_types.specs.declared.place.Place.TheVariants as place
 use Rattle.fst_heads.specs.declared.test.Test.TheVariants as test
 
 -- up from a node to those that directly depend on it
 module _ (nodes : List Node) (linked : AreLinked nodes) (x : Node) (c : Contains nodes x) where
-  node_above : (n : ℕ) → Contains x.dependants n → IsLiveNumber (patches_in nodes) n → DirectlyOn (patches_in nodes) n x.patch.number
-  node_above n named l =
-      let y = node_of_patch nodes l.patch l.head in
-      let number : y.0.patch.number ≡ n = ap (λ (p : Patch). p.number) y.2 ∙ l.numbered in
+  node_above : (p : Patch) (n : ℕ) → Contains (patches_in nodes) p → p.number ≡ n → Contains x.dependants n → DirectlyOn (patches_in nodes) n x.patch.number
+  node_above p n h numbered named =
+      let y = node_of_patch nodes p h in
+      let number : y.0.patch.number ≡ n = ap (λ (p : Patch). p.number) y.2 ∙ numbered in
       let there = times_some x.dependants y.0.patch.number (subst (In x.dependants) (sym number) (In-from_Contains x.dependants n named)) in
       let here = some_times y.0.patch.dependencies x.patch.number (subst (λ k. 0 < k) (linked y.0 x y.1 c) there) in
       record { patch = y.0.patch; head = patch_in nodes y.0 y.1; numbered = number; named = Contains-from_In y.0.patch.dependencies x.patch.number here }
@@ -34,10 +34,13 @@ module _ (nodes : List Node) (linked : AreLinked nodes) (x : Node) (c : Contains
       subst (Contains x.dependants) (ap (λ (p : Patch). p.number) y.2 ∙ d.numbered) (Contains-from_In x.dependants y.0.patch.number (some_times x.dependants y.0.patch.number there))
 
 module _ (heads : List Head) (linked : AreLinked (nodes_of heads)) (x : Head) (c : Contains (nodes_of heads) (node_of x)) where
-  pub above_from : (n : ℕ) → Contains x.dependants.items n → IsLiveNumber (patches_of heads) n → DirectlyOn (patches_of heads) n x.number
-  above_from n named l =
+  pub above_there : (p : Patch) (n : ℕ) → Contains (patches_of heads) p → p.number ≡ n → Contains x.dependants.items n → DirectlyOn (patches_of heads) n x.number
+  above_there p n h numbered named =
       subst (λ ps. DirectlyOn ps n x.number) (patches_in_nodes heads)
-      (node_above (nodes_of heads) linked (node_of x) c n named (subst (λ ps. IsLiveNumber ps n) (sym (patches_in_nodes heads)) l))
+      (node_above (nodes_of heads) linked (node_of x) c p n (subst (λ ps. Contains ps p) (sym (patches_in_nodes heads)) h) numbered named)
+
+  pub above_from : (n : ℕ) → Contains x.dependants.items n → IsLiveNumber (patches_of heads) n → DirectlyOn (patches_of heads) n x.number
+  above_from n named l = above_there l.patch n l.head l.numbered named
 
   pub above_to : (n : ℕ) → DirectlyOn (patches_of heads) n x.number → Contains x.dependants.items n
   above_to n d = above_node (nodes_of heads) linked (node_of x) c n (subst (λ ps. DirectlyOn ps n x.number) (sym (patches_in_nodes heads)) d)
@@ -136,3 +139,7 @@ no_change (kinds.Change block span grade) none c e = none block span grade refl
 no_change kinds.Empty none c e = cc
 no_change kinds.OpenGate none c e = cc
 no_change kinds.SealedGate none c e = cc
+
+-- a patch with the number of one that is not on disk is not on disk
+pub off_disk : (heads : List Head) → IsRising heads → (n : ℕ) → IsLiveNumber (patches_of heads) n → IsOffDisk (patches_of heads) n
+off_disk heads rising n l p h e = subst IsLive (same_patch heads l.patch p rising l.head h (l.numbered ∙ sym e)) l.live

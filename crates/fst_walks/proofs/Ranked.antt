@@ -4,7 +4,7 @@ use Rattle.std.proofs.lemmas.{Bool.{cases_eq}, List.{length-map, get_or-map}}
 use Rattle.fst_types.specs.Patches.{Patch}
 use Rattle.fst_types.proofs.Finite.{In, Contains-from_In}
 use Rattle.fst_heads.specs.{declared.head.Head.Head, Heads.{IsRising, patch_of, patches_of}, Marks.HasSlot}
-use Rattle.fst_heads.proofs.Slots.{some_element, rising_map, rising_back}
+use Rattle.fst_heads.proofs.Slots.{some_element, rising_map, rising_back, slot_here}
 use Rattle.fst_walks.specs.{Leveling.{kept_under, level_of, strand_of}, declared.levels.Rank.Rank}
 
 -- the number of a rank
@@ -79,3 +79,9 @@ module _ (heads : List Head) (ranks : List Rank) (rising : IsRising heads) (alig
 
     pub rank_strand : (d : Rank) → (get_or ranks slot d).strand ≡ strand_of ranks n
     rank_strand = rank_kept (λ r. r.strand)
+
+  -- the head in a rank's slot has its number
+  pub ranked_slot : (n slot : ℕ) → slot < length ranks → ((d : Rank) → (get_or ranks slot d).number ≡ n) → HasSlot heads n slot
+  ranked_slot n slot lt is =
+      let inside : slot < length heads = omega (arith, lt, ranks_long) in
+      (inside, λ d. sym (rank_number (get_or heads slot d).number slot (slot_here heads slot d inside) no_rank) ∙ is no_rank)

@@ -1,6 +1,6 @@
 -- A way back to a block, looked for from both its ends: down from the first changes of other blocks that are at or below the row, and up from the changes of the block, through what is no higher than those.
 use Rattle.std.specs.Prelude.{◌≡◌, ◌≤◌, ◌⊎◌, ℕ, Bool, List, length, Contains}
-use Rattle.fst_types.specs.{Closure.Closure, Dependencies.{DirectlyOn, IsLiveNumber}, Patches.Patch}
+use Rattle.fst_types.specs.{Closure.Closure, Dependencies.{DirectlyOn, IsLiveNumber}, Patches.{Patch, IsLive}}
 use Rattle.fst_heads.specs.{Grading.IsHardNumber, Marks.PassesAt, Reaching.IsReached, declared.head.Head.Head}
 use Rattle.fst_walks.specs.{Descending.IsLedFrom, WayBack.Crosses, declared.block_walk.BlockWalk.BlockWalk}
 use Rattle.fst_heads.specs.declared.test.Test.TheVariants as test
@@ -52,6 +52,10 @@ pub record ShowsBlockUnder (patches : List Patch) (n : ℕ) (old new : List Bool
   pub kept : (c : ℕ) → IsReached old c → IsReached new c
   pub only : (c : ℕ) → IsReached new c → IsReached old c ⊎ PassesAt (test.LiveOn c) patches n
   pub each : (c : ℕ) → PassesAt (test.LiveOn c) patches n → IsReached new c
+
+-- a patch with the number n, if there is one, is not on disk
+abbrev pub IsOffDisk : List Patch → ℕ → Type 0
+IsOffDisk patches n = (p : Patch) → Contains patches p → p.number ≡ n → IsLive p
 
 -- n is not on disk, and no higher than `most`
 abbrev pub IsLow : List Patch → (ℕ → ℕ) → ℕ → ℕ → Type 0

@@ -3,10 +3,11 @@
 //! change in memory is no higher. So what lies below a floor can come to wait for nothing of that block. Beside its level the
 //! strand of each head is kept (`strands`).
 
-ghost use Rattle.std.specs.Prelude.{vec_capacity, ◌≡◌, ◌≢◌, ◌≤◌, ◌<◌, ◌+◌, ◌++◌, ◌∷◌, [], ℕ, false, IsTrue, length, map, filter, Contains, AllPairs, IfOk, OnOk, slice_index_or};
+ghost use Rattle.std.specs.Prelude.{vec_capacity, ◌≡◌, ◌≢◌, ◌≤◌, ◌<◌, ◌+◌, ◌++◌, ◌∷◌, [], ℕ, false, IsTrue, length, map, filter, Contains, AllPairs, IfOk, IfSome, IfNone, OnOk, slice_index_or};
 ghost use Rattle.fst_types.specs.Tests.{has_number};
 ghost use Rattle.fst_types.specs.Patches.{IsOn};
 ghost use Rattle.fst_heads.specs.Heads.{IsRising, patch_of, patches_of};
+ghost use Rattle.fst_heads.specs.Marks.{HasNone, HasSlot};
 ghost use Rattle.fst_heads.specs.Reaching.{IsHardIn};
 ghost use Rattle.fst_heads.specs.Keeps.{IsInside};
 ghost use Rattle.fst_types.specs.Facts.{IsOnDiskWithAll};
@@ -95,6 +96,27 @@ fn raise_floor(floors: &mut Vec<u32>, head: &Head, to: u32)
     }
 }
 
+// The slot of the rank with the number, where none of those behind it is missing: then it is as far from the last slot as its
+// number is from the last number.
+fn rank_from_end(ranks: &[Rank], number: u32) -> Option<usize>
+    ensures { IfSome result (λ slot. (slot < length ranks.now) × ((d : Rank) → (slice_index_or ranks.now slot d).number ≡ number)) }
+{
+    let last = ranks.last()?.number;
+    if last < number {
+        return None;
+    }
+    let back = (last - number) as usize;
+    if ranks.len() <= back {
+        return None;
+    }
+    let slot = ranks.len() - back - 1;
+    if ranks[slot].number == number {
+        Some(slot)
+    } else {
+        None
+    }
+}
+
 // Whether a head has the number.
 fn is_head(heads: &[Head], number: u32) -> bool
     requires { IsRising heads.now }
@@ -142,6 +164,19 @@ impl Levels {
         });
     }
 
+    /// The slot of the head with the number. Ranks are far smaller than heads, so it is looked for among them first.
+    pub fn find(&self, heads: &[Head], number: u32) -> Option<usize>
+        requires rising { IsRising heads.now }
+        requires aligned { map (λ r. r.number) self.now.ranks ≡ map (λ p. p.number) (patches_of heads.now) }
+        ensures found { IfSome result (HasSlot heads.now number) }
+        ensures none { IfNone result (HasNone heads.now number) }
+    {
+        match rank_from_end(self.ranks.as_slice(), number) {
+            Some(slot) => Some(slot),
+            None => slot_of(heads, number),
+        }
+    }
+
     /// The level of the head in the slot.
     pub fn level(&self, slot: usize) -> u32
         requires { slot < length self.now.ranks }
@@ -172,7 +207,7 @@ impl Levels {
         requires aligned { map (λ r. r.number) self.now.ranks ≡ map (λ p. p.number) (patches_of heads.now) }
         ensures { result ≡ level_of self.now.ranks number }
     {
-        match slot_of(heads, number) {
+        match self.find(heads, number) {
             Some(slot) => self.level(slot),
             None => 0,
         }
@@ -184,7 +219,7 @@ impl Levels {
         requires aligned { map (λ r. r.number) self.now.ranks ≡ map (λ p. p.number) (patches_of heads.now) }
         ensures { result ≡ strand_of self.now.ranks number }
     {
-        match slot_of(heads, number) {
+        match self.find(heads, number) {
             Some(slot) => self.strand(slot),
             None => 0,
         }

@@ -2,10 +2,10 @@
 //! directly depend on it, and from a hard change in memory to all changes of its block. Each block is crossed once. No way
 //! up falls, so what is higher than what the walk looks for is left out.
 
-ghost use Rattle.std.specs.Prelude.{◌≡◌, ◌≤◌, ◌<◌, length, Contains, slice_index_or};
+ghost use Rattle.std.specs.Prelude.{◌≡◌, ◌≤◌, ◌<◌, ℕ, length, Contains, slice_index_or};
 ghost use Rattle.fst_heads.specs.Heads.{patches_of};
 ghost use Rattle.fst_heads.specs.Marks.{HasSlot};
-ghost use Rattle.fst_walks.specs.BothEnds.{IsLow, IsLowChange, StepsLow};
+ghost use Rattle.fst_walks.specs.BothEnds.{IsLow, IsLowChange, IsOffDisk, StepsLow};
 ghost use Rattle.fst_walks.specs.Descending.{Visited, Visits};
 ghost use Rattle.fst_walks.specs.Leveling.{level_of};
 ghost use Rattle.fst_walks.specs.Sights.{Sees};
@@ -16,27 +16,29 @@ use crate::shortcuts::is_hard_in;
 use crate::sight::Sight;
 use crate::walk::Walk;
 use fst_heads::head::Kind;
-use fst_heads::test::is_live;
 
-// Visits the patch with the number, unless it is on disk, is higher than `most` or was visited before.
+// Visits the patch with the number, which is not on disk, unless it is higher than `most` or was visited before. So it looks
+// at no head.
 fn visit_low(sight: &Sight<'_>, walk: &mut Walk, number: u32, most: u32)
     requires sees { Sees sight.now }
     requires visited { Visited sight.now.heads.now walk.old }
+    requires live { IsOffDisk (patches_of sight.now.heads.now) number }
     ensures visited { Visited sight.now.heads.now walk.new }
     ensures room { walk.new.room ≡ walk.old.room }
     ensures visits { Visits (λ n. (n ≡ number) × IsLow (patches_of sight.now.heads.now) (level_of sight.now.levels.now.ranks) most n) (numbers_met sight.now.heads.now walk.old) (numbers_met sight.now.heads.now walk.new) }
 {
-    if let Some(slot) = walk.find(sight.heads, number) {
-        if sight.levels.level(slot) <= most && is_live(sight.heads[slot].place) {
+    if let Some(slot) = sight.levels.find(sight.heads, number) {
+        if sight.levels.level(slot) <= most {
             walk.meet(slot);
         }
     }
 }
 
-// Visits those of the row that are not on disk and no higher than `most`.
+// Visits those of the row, none of which is on disk, that are no higher than `most`.
 fn visit_low_row(sight: &Sight<'_>, walk: &mut Walk, row: &[u32], most: u32)
     requires sees { Sees sight.now }
     requires visited { Visited sight.now.heads.now walk.old }
+    requires live { (n : ℕ) → Contains row.now n → IsOffDisk (patches_of sight.now.heads.now) n }
     ensures visited { Visited sight.now.heads.now walk.new }
     ensures room { walk.new.room ≡ walk.old.room }
     ensures visits { Visits (λ n. Contains row.now n × IsLow (patches_of sight.now.heads.now) (level_of sight.now.levels.now.ranks) most n) (numbers_met sight.now.heads.now walk.old) (numbers_met sight.now.heads.now walk.new) }

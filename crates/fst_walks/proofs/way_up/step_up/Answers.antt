@@ -1,10 +1,27 @@
-use Rattle.std.proofs.Common.{◌≡◌, ◌≤◌, get_or, Contains, sym, subst, inl, inr}
-use Rattle.fst_types.specs.Dependencies.{DirectlyOn}
+use Rattle.std.proofs.Common.{◌≡◌, ◌≤◌, get_or, Contains, sym, subst, inl, inr, arith}
+use Rattle.std.proofs.lemmas.List.Elements.{Contains-get_or}
+use Rattle.fst_types.specs.{Closure.one, Dependencies.{DirectlyOn, IsLiveNumber}}
 use Rattle.fst_heads.specs.{Heads.patches_of, declared.head.Head.Head}
 use Rattle.fst_heads.proofs.{PendingAt.node_in, Slots.{any_default}}
 use Rattle.fst_walks.specs.{BothEnds.{IsLow, StepsLow}, Descending.Visits, Leveling.level_of, Walks.numbers_met, WayBack.{Crosses}}
-use Rattle.fst_walks.proofs.{CrossingBack.{above_from, above_to}, Visiting.{slot_met, visits_both, visits_same}}
+use Rattle.fst_walks.proofs.{CrossingBack.{above_from, above_there, above_to, off_disk}, Holding.live_up, Visiting.{long_met, slot_met, visits_both, visits_same}}
 use Rattle.fst_walks.proofs.way_up.step_up.Goals as goal
+
+pub visit_low_row-requires-clause-live : goal.visit_low_row-requires-clause-live
+visit_low_row-requires-clause-live c n named p h e =
+    let sight = c.args.sight.now in
+    let heads = sight.heads.now in
+    let patches = patches_of heads in
+    let walk = c.args.walk.now in
+    let met = numbers_met heads walk in
+    let s = c.slot-slot.result in
+    let d : Head = c.index-sight-slot.result in
+    let slot = slot_met heads walk c.args.at s c.requires.visited.long c.requires.at c.slot-slot.ensures.slot c.slot-slot.ensures.inside in
+    let x : Head = get_or heads s d in
+    let here = node_in heads s x slot.0 (any_default heads s d x slot.0) in
+    let below = subst (IsLiveNumber patches) (sym (slot.1 d)) (c.requires.visited.live (get_or met c.args.at 0) (Contains-get_or met c.args.at 0 (omega (arith, c.requires.at, long_met heads walk)))) in
+    let over = above_there heads c.requires.sees.linked x here p n h e (subst (λ row. Contains row n) c.as_slice-above.ensures named) in
+    off_disk heads c.requires.sees.rising n (live_up patches c.requires.sees.disk n x.number (one over) below) p h e
 
 pub returns-clause-visits : goal.returns-clause-visits
 returns-clause-visits c =

@@ -1,9 +1,15 @@
 use Rattle.std.proofs.Common.{◌∙◌, take, get_or, Contains, subst, arith}
-use Rattle.std.proofs.lemmas.List.{take_all, take_more}
+use Rattle.std.proofs.lemmas.List.{Elements.Contains-get_or, take_all, take_more}
 use Rattle.fst_heads.specs.Heads.{patches_of}
 use Rattle.fst_walks.specs.{BothEnds.IsLow, Descending.Visits, Leveling.level_of, Walks.numbers_met}
 use Rattle.fst_walks.proofs.Visiting.{visits_next}
 use Rattle.fst_walks.proofs.way_up.visit_low_row.Goals as goal
+
+pub visit_low-requires-clause-live : goal.visit_low-requires-clause-live
+visit_low-requires-clause-live c =
+    let row = c.args.row.now in
+    let i = c.loop-number.number-index in
+    c.requires.live (get_or row i 0) (Contains-get_or row i 0 c.loop-number-test.true)
 
 pub loop-number-preserved : goal.loop-number-preserved
 loop-number-preserved c =
