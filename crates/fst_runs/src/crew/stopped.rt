@@ -2,12 +2,9 @@
 
 ghost use Rattle.std.specs.Prelude.{◌≡◌, length};
 
-use crate::crews::stacks::Stacks;
-use crate::crews::taking::without_stray;
-use crate::crews::{closed, crew_on};
-use crate::tests::{ROW, plain_slots, plan_of};
-use crate::{CrewFault, crew};
+use crate::crew::{ROW, plain_slots, plan_of};
 use fst_cache::{Cache, Share};
+use fst_crew::{CrewFault, Stacks, closed, crew, crew_on, without_stray};
 use fst_device::{MemorySlot, carry};
 use fst_pairs::{Collected, Desk, Worker};
 use fst_types::{BlockNo, Fault, Shape, Ticket};

@@ -1,4 +1,4 @@
-//! Two writes at once, failing writes, a lost block, refusals, and what is printed.
+//! Crews: two writes at once, failing writes, a lost block, refusals, and what is printed.
 ghost use Rattle.std.specs.Prelude.{◌≡◌, ◌+◌, ◌⊎◌, length, refl, OnOk, OnErr, IsOkUnless, IfOk};
 ghost use Rattle.fst_device.specs.declared.slot.SlotFault.{SlotFault};
 
@@ -6,10 +6,10 @@ mod failing;
 mod meeting;
 mod stopped;
 
-use crate::plan::Crew;
-use crate::tests::failing::{Failing, Habit};
-use crate::tests::meeting::Meeting;
-use crate::{CrewFault, crew};
+use crate::crew::failing::{Failing, Habit};
+use crate::crew::meeting::Meeting;
+use fst_crew::plan::Crew;
+use fst_crew::{CrewFault, crew};
 use fst_device::{Arm, MemorySlot};
 use fst_types::{BlockNo, Fault};
 use std::io;
