@@ -1,15 +1,10 @@
 //! The program: `feather play` plays a script from standard input to standard output; `feather crew` has threads change
 //! blocks while others write them.
 //!
-//! `status` says what it does with its words, and with which status it ends.
+//! `fst_program` says what it does with its words, and with which status it ends.
 #![tactic(auto)]
 
-mod arguments;
-mod status;
-#[cfg(test)]
-mod tests;
-
-use status::{carry_out, stopped};
+use fst_program::status::{carry_out, stopped};
 use std::io::BufWriter;
 use std::process::ExitCode;
 use std::{env, io};

@@ -10,8 +10,8 @@ ghost use Rattle.fst_crew.specs.declared.fault.CrewFault.{CrewFault};
 mod drain;
 mod files;
 mod report;
-pub(crate) mod stacks;
-pub(crate) mod taking;
+pub mod stacks;
+pub mod taking;
 mod threads;
 
 use crate::crews::report::report;
@@ -29,10 +29,7 @@ use std::sync::Wait;
 use std::thread::Threads;
 
 /// Closes the desk, or tells why it cannot be closed.
-pub(crate) fn closed<S: BlockSlot>(
-    desk: Desk<S>,
-    shares: Vec<Share>,
-) -> Result<Totals<S>, CrewFault>
+pub fn closed<S: BlockSlot>(desk: Desk<S>, shares: Vec<Share>) -> Result<Totals<S>, CrewFault>
     ensures made { IfOk result (λ totals. totals.made ≡ sum_by (λ share. share) shares.items) }
     ensures refused { IfErr result (λ told. (fault : Fault) × (told ≡ CrewFault.Cache fault) × IsCloseRefused desk shares.items fault) }
 {
@@ -93,7 +90,7 @@ pub fn crew<S: BlockSlot + Send, R: Threads + Wait + Sync, W: Write>(
 }
 
 /// As `crew`, on these stacks.
-pub(crate) fn crew_on<S: BlockSlot + Send, R: Threads + Wait + Sync, W: Write>(
+pub fn crew_on<S: BlockSlot + Send, R: Threads + Wait + Sync, W: Write>(
     rt: &R,
     alloc: Global,
     slots: Vec<S>,

@@ -8,8 +8,8 @@
 mod crews;
 mod fault;
 pub mod plan;
-#[cfg(test)]
-mod tests;
 
-pub use crews::crew;
+pub use crews::stacks::Stacks;
+pub use crews::taking::without_stray;
+pub use crews::{closed, crew, crew_on};
 pub use fault::CrewFault;

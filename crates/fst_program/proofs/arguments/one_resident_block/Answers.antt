@@ -1,0 +1,18 @@
+use Rattle.std.proofs.Common.{Some, refl, rules, ◌∷◌, []}
+use Rattle.clap.proofs.OnLiterals.{clap_on_literals}
+use Rattle.fst_program.specs.Arguments.{IsNumber}
+use Rattle.fst_program.proofs.arguments.one_resident_block.Goals as goal
+
+one : IsNumber (49 ∷ [])
+one = search rules
+
+four : IsNumber (52 ∷ [])
+four = search rules
+
+pub returns-clause-taken : goal.returns-clause-taken
+unfolding clap_on_literals
+returns-clause-taken c = refl
+
+pub returns-clause-asked : goal.returns-clause-asked
+unfolding clap_on_literals
+returns-clause-asked c = (refl, ((Some 4, (four, refl), refl), (Some 4, (four, refl), refl), (one, refl)))

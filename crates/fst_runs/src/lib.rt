@@ -1,0 +1,10 @@
+//! Tests of whole runs, by public calls: of crews, and of what the program does with its words.
+//!
+//! They stand in a crate above those, as the tests of the graph and the cache do in `fst_tests`: beside their code, the
+//! tests' proofs would take a second proof of all of it.
+#![tactic(auto)]
+
+#[cfg(test)]
+mod crew;
+#[cfg(test)]
+mod program;
