@@ -12,9 +12,10 @@ mod refusals;
 mod rows;
 mod streams;
 
-use fst_player::play::play;
+use fst_player::play::{PlayFault, play};
 use fst_types::Shape;
 use std::alloc::Global;
+use std::io::{Read, Write};
 use std::process::Abort;
 
 // Four blocks of four bytes, of which so many may be in memory at once.
@@ -22,20 +23,66 @@ fn shape_of(rt: &impl Abort, resident: u32) -> Shape {
     Shape::new(4, 4, resident).expect(rt, "the shape is within its limits")
 }
 
-// What is replied to a script over four blocks of four bytes, of which so many may be in memory.
-fn replies_to(rt: &impl Abort, alloc: Global, resident: u32, script: &[u8]) -> Vec<u8> {
+// Plays what a reader gives over blocks of this shape. The contract says nothing: a test that called `play` itself would
+// be proved with all that `play` promises.
+fn played_over<R: Read, W: Write>(
+    alloc: Global,
+    reader: &mut R,
+    writer: &mut W,
+    shape: Shape,
+) -> Option<PlayFault> {
+    match play(alloc, reader, writer, shape) {
+        Ok(()) => None,
+        Err(fault) => Some(fault),
+    }
+}
+
+// Plays what a reader gives over four blocks of four bytes.
+fn played<R: Read, W: Write>(
+    rt: &impl Abort,
+    alloc: Global,
+    reader: &mut R,
+    writer: &mut W,
+) -> Option<PlayFault> {
+    played_over(alloc, reader, writer, shape_of(rt, 4))
+}
+
+// The play came to its end.
+fn is_done(rt: &impl Abort, ended: Option<PlayFault>) {
+    assert!(rt; ended.is_none());
+}
+
+// The reader failed.
+fn is_unread(rt: &impl Abort, ended: Option<PlayFault>) {
+    assert!(rt; matches!(ended, Some(PlayFault::Read)));
+}
+
+// The writer failed.
+fn is_unwritten(rt: &impl Abort, ended: Option<PlayFault>) {
+    assert!(rt; matches!(ended, Some(PlayFault::Write)));
+}
+
+// The replies are these.
+fn same_replies(rt: &impl Abort, replies: &[u8], expected: &[u8]) {
+    assert_eq!(rt; replies, expected);
+}
+
+// What is replied to a script over blocks of this shape.
+fn replies_over(rt: &impl Abort, alloc: Global, shape: Shape, script: &[u8]) -> Vec<u8> {
     let mut reader = script;
     let mut writer = Vec::new(alloc);
-    assert!(rt; play(alloc, &mut reader, &mut writer, shape_of(rt, resident)).is_ok());
+    is_done(rt, played_over(alloc, &mut reader, &mut writer, shape));
     writer
+}
+
+// What is replied to a script over four blocks of four bytes, of which so many may be in memory.
+fn replies_to(rt: &impl Abort, alloc: Global, resident: u32, script: &[u8]) -> Vec<u8> {
+    replies_over(rt, alloc, shape_of(rt, resident), script)
 }
 
 // Plays a script over blocks of this shape, and compares all the replies.
 fn plays_over(rt: &impl Abort, alloc: Global, shape: Shape, script: &[u8], replies: &[u8]) {
-    let mut reader = script;
-    let mut writer = Vec::new(alloc);
-    assert!(rt; play(alloc, &mut reader, &mut writer, shape).is_ok());
-    assert_eq!(rt; writer.as_slice(), replies);
+    same_replies(rt, &replies_over(rt, alloc, shape, script), replies);
 }
 
 // Plays a script over four blocks of four bytes, of which so many may be in memory, and compares all the replies.
@@ -60,13 +107,18 @@ fn put_line(rt: &impl Abort, text: &mut Vec<u8>, line: &str) {
     put(rt, text, b"\n");
 }
 
+// Puts lines behind a script, and the reply of each behind the replies.
+fn put_rows(rt: &impl Abort, script: &mut Vec<u8>, replies: &mut Vec<u8>, rows: &[(&str, &str)]) {
+    for (line, reply) in rows {
+        put_line(rt, script, line);
+        put_line(rt, replies, reply);
+    }
+}
+
 // Plays lines, each with its reply.
 fn plays_rows(rt: &impl Abort, alloc: Global, resident: u32, rows: &[(&str, &str)]) {
     let mut script = Vec::new(alloc);
     let mut replies = Vec::new(alloc);
-    for (line, reply) in rows {
-        put_line(rt, &mut script, line);
-        put_line(rt, &mut replies, reply);
-    }
+    put_rows(rt, &mut script, &mut replies, rows);
     plays_to(rt, alloc, resident, &script, &replies);
 }

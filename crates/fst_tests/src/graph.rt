@@ -363,9 +363,7 @@ fn limit_of_names(rt: HostRuntime) {
 #[test]
 fn limit_of_heads(rt: HostRuntime) {
     let mut graph = Checked::new(&rt, rt.alloc(), 0);
-    for number in 1..=65_535 {
-        graph.empty(&rt, &[], Ok(PatchNo(number)));
-    }
+    graph.empties(&rt, 65_535);
     let full = Fault::Full(What::Heads);
     graph.empty(&rt, &[], Err(full));
     graph.gate(&rt, Err(full));

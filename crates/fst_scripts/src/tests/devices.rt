@@ -285,6 +285,29 @@ fn put_crash(
     put(rt, replies, &told.expect(rt, "there is memory"));
 }
 
+// With each change that a crash after the line leaves, all that it needs is left.
+fn is_closed(rt: &impl Abort, plain: &Plain, finished: bool, needs: &[(u32, u32)], line: &str) {
+    assert!(rt; plain.is_closed(finished, needs), "after {line}");
+}
+
+// Puts a crash after the line for each set of writes that may be finished, and the replies.
+fn put_crashes(
+    rt: &impl Abort,
+    alloc: Global,
+    lines: &mut Vec<u8>,
+    replies: &mut Vec<u8>,
+    plain: &Plain,
+    needs: &[(u32, u32)],
+    line: &str,
+) {
+    is_closed(rt, plain, false, needs, line);
+    put_crash(rt, alloc, lines, replies, plain, None);
+    if let Some((block, _)) = plain.out {
+        is_closed(rt, plain, true, needs, line);
+        put_crash(rt, alloc, lines, replies, plain, Some(block));
+    }
+}
+
 // The script with a crash after each line for each set of writes that may be finished, and the replies.
 pub fn crashes(rt: &impl Abort, alloc: Global, script: &Script) {
     let mut lines = Vec::new(alloc);
@@ -294,12 +317,15 @@ pub fn crashes(rt: &impl Abort, alloc: Global, script: &Script) {
         put_line(rt, &mut lines, line);
         put_line(rt, &mut replies, reply);
         plain.take(*does).expect(rt, "there is memory");
-        assert!(rt; plain.is_closed(false, script.needs), "after {line}");
-        put_crash(rt, alloc, &mut lines, &mut replies, &plain, None);
-        if let Some((block, _)) = plain.out {
-            assert!(rt; plain.is_closed(true, script.needs), "after {line}");
-            put_crash(rt, alloc, &mut lines, &mut replies, &plain, Some(block));
-        }
+        put_crashes(
+            rt,
+            alloc,
+            &mut lines,
+            &mut replies,
+            &plain,
+            script.needs,
+            line,
+        );
     }
     plays_to(rt, alloc, 4, &lines, &replies);
 }
@@ -332,36 +358,82 @@ fn put_done(rt: &impl Abort, alloc: Global, lines: &mut Vec<u8>, ticket: u32) {
     put_line(rt, lines, &done.expect(rt, "there is memory"));
 }
 
-// Plays the script with its nth write failing once, and being tried again: each ticket from there on is one more. The disk
-// at the end is that of all the changes that landed.
-fn fails_once(rt: &impl Abort, alloc: Global, script: &Script, nth: u32, how: &str) {
-    let mut lines = Vec::new(alloc);
-    let mut want = Vec::new(alloc);
-    let mut plain = Plain::new(alloc);
-    let mut ticket = 0u32;
-    let mut landed = 0u32;
+// A script so far of which one write fails once: the last ticket, and how many writes were settled.
+#[derive(Drop)]
+struct Failing {
+    lines: Vec<u8>,
+    ticket: u32,
+    landed: u32,
+}
+
+impl Failing {
+    // Puts the completion of a write of the block, which fails first and is tried again if it is the nth.
+    fn land(&mut self, rt: &impl Abort, alloc: Global, nth: u32, block: u32, how: &str) {
+        self.ticket = self.ticket.saturating_add(1);
+        if self.landed == nth {
+            put_failure(rt, alloc, &mut self.lines, self.ticket, block, how);
+            self.ticket = self.ticket.saturating_add(1);
+        }
+        put_done(rt, alloc, &mut self.lines, self.ticket);
+        self.landed = self.landed.saturating_add(1);
+    }
+}
+
+// The block whose write the line settles, if it settles one.
+fn settled_by(does: Does, plain: &Plain) -> Option<u32> {
+    match (does, plain.out) {
+        (Does::Lands, Some((block, _))) => Some(block),
+        _ => None,
+    }
+}
+
+// The script's lines with its nth write failing once, and being tried again: each ticket from there on is one more. Puts
+// all changes to the list.
+fn failing_once(
+    rt: &impl Abort,
+    alloc: Global,
+    script: &Script,
+    plain: &mut Plain,
+    nth: u32,
+    how: &str,
+) -> Vec<u8> {
+    let mut failing = Failing {
+        lines: Vec::new(alloc),
+        ticket: 0,
+        landed: 0,
+    };
     for (line, _, does) in script.rows {
-        match (does, plain.out) {
-            (Does::Lands, Some((block, _))) => {
-                ticket = ticket.saturating_add(1);
-                if landed == nth {
-                    put_failure(rt, alloc, &mut lines, ticket, block, how);
-                    ticket = ticket.saturating_add(1);
-                }
-                put_done(rt, alloc, &mut lines, ticket);
-                landed = landed.saturating_add(1);
-            }
-            _ => put_line(rt, &mut lines, line),
+        match settled_by(*does, plain) {
+            Some(block) => failing.land(rt, alloc, nth, block, how),
+            None => put_line(rt, &mut failing.lines, line),
         }
         plain.take(*does).expect(rt, "there is memory");
     }
-    assert!(rt; nth < landed);
-    put_crash(rt, alloc, &mut lines, &mut want, &plain, None);
-    let replies = replies_to(rt, alloc, 4, &lines);
+    assert!(rt; nth < failing.landed);
+    let Failing {
+        lines,
+        ticket: _,
+        landed: _,
+    } = failing;
+    lines
+}
+
+// The replies end with these.
+fn end_with(rt: &impl Abort, replies: &[u8], want: &[u8], nth: u32, how: &str) {
     assert!(rt;
-        replies.ends_with(&want),
+        replies.ends_with(want),
         "write {nth} fails {how} the bytes change"
     );
+}
+
+// Plays the script with its nth write failing once, and being tried again. The disk at the end is that of all the changes
+// that landed.
+fn fails_once(rt: &impl Abort, alloc: Global, script: &Script, nth: u32, how: &str) {
+    let mut plain = Plain::new(alloc);
+    let mut lines = failing_once(rt, alloc, script, &mut plain, nth, how);
+    let mut want = Vec::new(alloc);
+    put_crash(rt, alloc, &mut lines, &mut want, &plain, None);
+    end_with(rt, &replies_to(rt, alloc, 4, &lines), &want, nth, how);
 }
 
 #[test]

@@ -3,8 +3,9 @@
 ghost use Rattle.std.specs.Prelude.{◌≡◌, Some};
 
 use crate::tests::rows::CYCLE_OF_BLOCKS;
-use crate::tests::{plays_to, put, put_line, shape_of};
-use fst_player::play::{PlayFault, play};
+use crate::tests::{
+    is_done, is_unread, is_unwritten, played, plays_to, put, put_line, put_rows, same_replies,
+};
 use std::alloc::Global;
 use std::io;
 use std::io::{BufWriter, Read, Write};
@@ -136,70 +137,57 @@ impl Write for Counting {
 
 #[test]
 fn no_input(rt: HostRuntime) {
-    let mut reader: &[u8] = b"";
-    let mut writer = Vec::new(rt.alloc());
-    let shape = shape_of(&rt, 4);
-    assert!(rt; play(rt.alloc(), &mut reader, &mut writer, shape).is_ok());
-    assert!(rt; writer.is_empty());
+    plays_to(&rt, rt.alloc(), 4, b"", b"");
+}
+
+// A byte of the script at a time, and at its end an error, if it fails.
+fn bytewise(fails: bool) -> Single<'static> {
+    Single {
+        rest: SCRIPT,
+        fails,
+    }
+}
+
+// Takes so many bytes.
+fn with_room(alloc: Global, room: usize) -> Narrow {
+    Narrow {
+        held: Vec::new(alloc),
+        room,
+    }
+}
+
+// From a reader of single bytes to a writer of such, which has room for all replies.
+fn plays_bytewise(rt: &impl Abort, alloc: Global) {
+    let mut writer = with_room(alloc, REPLIES.len());
+    is_done(rt, played(rt, alloc, &mut bytewise(false), &mut writer));
+    same_replies(rt, &writer.held, REPLIES);
 }
 
 #[test]
 fn one_piece_or_many(rt: HostRuntime) {
-    let shape = shape_of(&rt, 4);
-    let mut whole = SCRIPT;
-    let mut writer = Vec::new(rt.alloc());
-    assert!(rt; play(rt.alloc(), &mut whole, &mut writer, shape).is_ok());
-    assert_eq!(rt; writer.as_slice(), REPLIES);
-    let mut single = Single {
-        rest: SCRIPT,
-        fails: false,
-    };
-    let mut narrow = Narrow {
-        held: Vec::new(rt.alloc()),
-        room: REPLIES.len(),
-    };
-    assert!(rt; play(rt.alloc(), &mut single, &mut narrow, shape).is_ok());
-    let Narrow { held, room: _ } = narrow;
-    assert_eq!(rt; held.as_slice(), REPLIES);
+    plays_to(&rt, rt.alloc(), 4, SCRIPT, REPLIES);
+    plays_bytewise(&rt, rt.alloc());
 }
 
 #[test]
 fn failing_reader(rt: HostRuntime) {
-    let mut reader = Single {
-        rest: SCRIPT,
-        fails: true,
-    };
     let mut writer = Vec::new(rt.alloc());
-    let shape = shape_of(&rt, 4);
-    assert!(rt;
-        matches!(
-            play(rt.alloc(), &mut reader, &mut writer, shape),
-            Err(PlayFault::Read)
-        )
-    );
-    assert_eq!(rt; writer.as_slice(), &REPLIES[..40]);
+    let ended = played(&rt, rt.alloc(), &mut bytewise(true), &mut writer);
+    is_unread(&rt, ended);
+    same_replies(&rt, &writer, &REPLIES[..40]);
+}
+
+// The writer takes these bytes, and then fails.
+fn fails_after(rt: &impl Abort, alloc: Global, written: &[u8]) {
+    let mut writer = with_room(alloc, written.len());
+    is_unwritten(rt, played(rt, alloc, &mut bytewise(false), &mut writer));
+    same_replies(rt, &writer.held, written);
 }
 
 #[test]
 fn failing_writer(rt: HostRuntime) {
-    let shape = shape_of(&rt, 4);
     for room in 0..REPLIES.len() {
-        let mut reader = Single {
-            rest: SCRIPT,
-            fails: false,
-        };
-        let mut writer = Narrow {
-            held: Vec::new(rt.alloc()),
-            room,
-        };
-        assert!(rt;
-            matches!(
-                play(rt.alloc(), &mut reader, &mut writer, shape),
-                Err(PlayFault::Write)
-            )
-        );
-        let Narrow { held, room: _ } = writer;
-        assert_eq!(rt; held.as_slice(), &REPLIES[..room]);
+        fails_after(&rt, rt.alloc(), &REPLIES[..room]);
     }
 }
 
@@ -234,10 +222,7 @@ fn cut_at_each_byte(rt: HostRuntime) {
 fn cycle_of_blocks(rt: &impl Abort, alloc: Global) -> (Vec<u8>, Vec<u8>) {
     let mut script = Vec::new(alloc);
     let mut replies = Vec::new(alloc);
-    for (line, reply) in CYCLE_OF_BLOCKS {
-        put_line(rt, &mut script, line);
-        put_line(rt, &mut replies, reply);
-    }
+    put_rows(rt, &mut script, &mut replies, CYCLE_OF_BLOCKS);
     (script, replies)
 }
 
@@ -249,9 +234,8 @@ fn stops(rt: &impl Abort, alloc: Global, script: &[u8], then: NoRoom, written: &
         room: written.len(),
         then,
     };
-    let played = play(alloc, &mut reader, &mut writer, shape_of(rt, 4));
-    assert!(rt; matches!(played, Err(PlayFault::Write)));
-    assert_eq!(rt; writer.held.as_slice(), written);
+    is_unwritten(rt, played(rt, alloc, &mut reader, &mut writer));
+    same_replies(rt, &writer.held, written);
 }
 
 // After one error of the writer, or a write of no byte, nothing more is written.
@@ -265,23 +249,24 @@ fn writer_that_stops_once(rt: HostRuntime) {
     }
 }
 
+// The reader fails behind the script, and a buffer before the writer holds none of these replies back.
+fn holds_nothing_back(rt: &impl Abort, alloc: Global, script: &[u8], replies: Option<&[u8]>) {
+    let mut reader = Single {
+        rest: script,
+        fails: true,
+    };
+    let mut writer = BufWriter::new(alloc, Vec::new(alloc)).expect(rt, "there is memory");
+    is_unread(rt, played(rt, alloc, &mut reader, &mut writer));
+    assert!(rt; writer.buffer().is_empty());
+    same_replies(rt, writer.get_ref(), replies.expect(rt, "a beginning"));
+}
+
 // Wherever the reader fails, a buffer before the writer holds nothing back: the next line may wait for the replies.
 #[test]
 fn replies_before_the_next_read(rt: HostRuntime) {
     let mut ended = 0;
     for (end, byte) in SCRIPT.iter().enumerate() {
-        let mut reader = Single {
-            rest: &SCRIPT[..end],
-            fails: true,
-        };
-        let mut writer = BufWriter::new(rt.alloc(), Vec::new(rt.alloc())).expect(
-            &rt,
-            "there is memory",
-        );
-        let played = play(rt.alloc(), &mut reader, &mut writer, shape_of(&rt, 4));
-        assert!(rt; matches!(played, Err(PlayFault::Read)));
-        assert!(rt; writer.buffer().is_empty());
-        assert_eq!(rt; Some(writer.get_ref().as_slice()), REPLIES.get(..ended));
+        holds_nothing_back(&rt, rt.alloc(), &SCRIPT[..end], REPLIES.get(..ended));
         if *byte == b'\n' {
             ended = ended.saturating_add(b"refused 1\n".len());
         }
@@ -298,10 +283,10 @@ fn one_write_a_piece(rt: HostRuntime) {
     };
     let mut reader = SCRIPT;
     let mut writer = BufWriter::new(rt.alloc(), counting).expect(&rt, "there is memory");
-    assert!(rt; play(rt.alloc(), &mut reader, &mut writer, shape_of(&rt, 4)).is_ok());
+    is_done(&rt, played(&rt, rt.alloc(), &mut reader, &mut writer));
     assert!(rt; writer.buffer().is_empty());
-    assert_eq!(rt; writer.get_ref().held.as_slice(), REPLIES);
-    assert_eq!(rt; writer.get_ref().writes, 2);
+    same_replies(&rt, &writer.get_ref().held, REPLIES);
+    assert!(rt; writer.get_ref().writes == 2);
 }
 
 // A writer that took the replies and can not be flushed has failed.
@@ -313,7 +298,6 @@ fn failing_flush(rt: HostRuntime) {
         writes: 0,
         fails_to_flush: true,
     };
-    let played = play(rt.alloc(), &mut reader, &mut writer, shape_of(&rt, 4));
-    assert!(rt; matches!(played, Err(PlayFault::Write)));
-    assert_eq!(rt; writer.held.as_slice(), &REPLIES[..40]);
+    is_unwritten(&rt, played(&rt, rt.alloc(), &mut reader, &mut writer));
+    same_replies(&rt, &writer.held, &REPLIES[..40]);
 }

@@ -1,6 +1,6 @@
-//! A graph over four blocks of four bytes, each call of which is compared with the answer that the test names. The
-//! contracts here say nothing of the graph but its count of blocks, so that a long test carries no facts from call to
-//! call.
+//! A graph over blocks of four bytes, each call of which is compared with the answer that the test names. The contracts
+//! here say nothing, so that a long test carries no facts from call to call, and nothing here answers with a `Result`:
+//! after each `?` a test's proof has one more path, on which all that the test holds is dropped.
 
 ghost use Rattle.std.specs.Prelude.{◌≡◌, ◌<◌};
 
@@ -13,31 +13,37 @@ use fst_types::{BlockNo, Fault, Grade, GroupNo, PatchNo, Place, Shape, Span};
 use std::alloc::Global;
 use std::process::Abort;
 
-// The number of one of the four blocks.
-fn one_of_four(rt: &impl Abort, block: u32) -> BlockNo
-    ensures { result.0 < 4 }
+// The number of one of so many blocks.
+fn one_of(rt: &impl Abort, blocks: u32, block: u32) -> BlockNo
+    ensures { result.0 < blocks }
 {
-    assert!(rt; block < 4);
+    assert!(rt; block < blocks);
     BlockNo(block)
 }
 
-/// A graph over four blocks.
+/// A graph over some blocks.
 #[derive(Drop)]
 pub struct Checked {
     graph: Graph,
-    ghost four: { graph.blocks ≡ 4 },
+    blocks: u32,
+    ghost same: { graph.blocks ≡ blocks },
 }
 
 impl Checked {
-    /// No patch, the numbers up to the given one counting as on disk and forgotten.
+    /// No patch, over four blocks, the numbers up to the given one counting as on disk and forgotten.
     pub fn new(rt: &impl Abort, alloc: Global, numbers: u32) -> Checked {
-        Checked::made(alloc, numbers).expect(rt, "there is memory")
+        Checked::made(alloc, 4, numbers).expect(rt, "there is memory")
     }
 
-    fn made(alloc: Global, numbers: u32) -> Result<Checked, Fault> {
-        let shape = Shape::new(4, 4, 4)?;
+    /// No patch, over so many blocks.
+    pub fn over(rt: &impl Abort, alloc: Global, blocks: u32) -> Checked {
+        Checked::made(alloc, blocks, 0).expect(rt, "there is memory")
+    }
+
+    fn made(alloc: Global, blocks: u32, numbers: u32) -> Result<Checked, Fault> {
+        let shape = Shape::new(blocks, 4, blocks)?;
         let graph = Graph::new(alloc, shape, numbers)?;
-        Ok(Checked { graph })
+        Ok(Checked { graph, blocks })
     }
 
     /// A new gate.
@@ -50,6 +56,13 @@ impl Checked {
         same_number(rt, self.graph.add_empty(after), expected);
     }
 
+    /// So many empty patches, the first of all.
+    pub fn empties(&mut self, rt: &impl Abort, count: u32) {
+        for before in 0..count {
+            self.empty(rt, &[], Ok(PatchNo(before.saturating_add(1))));
+        }
+    }
+
     /// A change of some bytes.
     pub fn change(
         &mut self,
@@ -59,23 +72,8 @@ impl Checked {
         after: &[PatchNo],
         expected: Result<(PatchNo, Grade), Fault>,
     ) {
-        same_change(
-            rt,
-            self.graph.add_data(one_of_four(rt, block), span, after),
-            expected,
-        );
-    }
-
-    /// A change of one byte.
-    pub fn byte(
-        &mut self,
-        rt: &impl Abort,
-        block: u32,
-        at: u32,
-        after: &[PatchNo],
-        expected: Result<(PatchNo, Grade), Fault>,
-    ) {
-        self.change(rt, block, Span { at, len: 1 }, after, expected);
+        let block = one_of(rt, self.blocks, block);
+        same_change(rt, self.graph.add_data(block, span, after), expected);
     }
 
     /// What `room` foresees.
@@ -87,11 +85,8 @@ impl Checked {
         after: &[PatchNo],
         expected: Result<(PatchNo, Grade), Fault>,
     ) {
-        same_change(
-            rt,
-            self.graph.room(one_of_four(rt, block), span, after),
-            expected,
-        );
+        let block = one_of(rt, self.blocks, block);
+        same_change(rt, self.graph.room(block, span, after), expected);
     }
 
     /// Seals a gate.
@@ -115,6 +110,14 @@ impl Checked {
         same_group(rt, self.graph.group_new(), expected);
     }
 
+    /// So many groups, the first of all.
+    pub fn groups(&mut self, rt: &impl Abort, count: u32) {
+        for before in 0..count {
+            let head = before.saturating_mul(2).saturating_add(1);
+            self.group(rt, Ok(GroupNo(head)));
+        }
+    }
+
     /// A group comes after another.
     pub fn group_after(
         &mut self,
@@ -126,38 +129,30 @@ impl Checked {
         same_answer(rt, self.graph.group_after(group, on), expected);
     }
 
-    /// A change of one byte for a group.
+    /// A change of some bytes for a group.
     pub fn member(
         &mut self,
         rt: &impl Abort,
         group: GroupNo,
         block: u32,
-        at: u32,
+        span: Span,
         expected: Result<(PatchNo, Grade), Fault>,
     ) {
-        let span = Span { at, len: 1 };
-        same_change(
-            rt,
-            self.graph.group_patch(group, one_of_four(rt, block), span),
-            expected,
-        );
+        let block = one_of(rt, self.blocks, block);
+        same_change(rt, self.graph.group_patch(group, block, span), expected);
     }
 
-    /// What `group_room` foresees of a change of one byte for a group.
+    /// What `group_room` foresees of a change for a group.
     pub fn group_room(
         &mut self,
         rt: &impl Abort,
         group: GroupNo,
         block: u32,
-        at: u32,
+        span: Span,
         expected: Result<(PatchNo, Grade), Fault>,
     ) {
-        let span = Span { at, len: 1 };
-        same_change(
-            rt,
-            self.graph.group_room(group, one_of_four(rt, block), span),
-            expected,
-        );
+        let block = one_of(rt, self.blocks, block);
+        same_change(rt, self.graph.group_room(group, block, span), expected);
     }
 
     /// Closes a group.
@@ -201,6 +196,12 @@ impl Checked {
         same_patches(rt, BlockNo(block), &chosen, expected);
     }
 
+    /// The least hard patch that the block holds.
+    pub fn held(&mut self, rt: &impl Abort, block: u32, expected: Option<PatchNo>) {
+        let block = BlockNo(block);
+        same_held(rt, block, self.graph.hard_held(block), expected);
+    }
+
     /// The block's writable set, and the least hard patch that it holds.
     pub fn choice(
         &mut self,
@@ -210,27 +211,22 @@ impl Checked {
         held: Option<PatchNo>,
     ) {
         self.chosen(rt, block, expected);
-        same_held(
-            rt,
-            BlockNo(block),
-            self.graph.hard_held(BlockNo(block)),
-            held,
-        );
+        self.held(rt, block, held);
     }
 
-    // Puts the least writable block in flight, and answers which it is.
-    fn launch_next(&mut self) -> Result<Option<BlockNo>, Fault> {
+    /// Puts the least writable block in flight, and answers which it is, and with which patches.
+    pub fn launch_next(&mut self, rt: &impl Abort) -> Option<(BlockNo, Vec<PatchNo>)> {
         let Some(block) = self.graph.pick() else {
-            return Ok(None);
+            return None;
         };
-        let chosen = self.graph.chosen(block)?;
+        let chosen = self.graph.chosen(block).expect(rt, "there is memory");
         self.graph.launch(&chosen);
-        Ok(Some(block))
+        Some((block, chosen))
     }
 
     /// Puts the least writable block in flight, which is this one.
     pub fn launch(&mut self, rt: &impl Abort, expected: u32) {
-        let launched = self.launch_next().expect(rt, "there is memory");
+        let launched = self.launch_next(rt).map(|(block, _)| block);
         same_block(rt, launched, Some(BlockNo(expected)));
     }
 

@@ -188,9 +188,7 @@ fn refusals_of_groups(rt: HostRuntime) {
 #[test]
 fn limit_of_groups(rt: HostRuntime) {
     let mut graph = Checked::new(&rt, rt.alloc(), 0);
-    for index in 0..4_096 {
-        graph.group(&rt, Ok(GroupNo(2 * index + 1)));
-    }
+    graph.groups(&rt, 4_096);
     graph.group(&rt, Err(Fault::Full(What::Groups)));
     graph.gate(&rt, Ok(PatchNo(8_193)));
 }
@@ -207,9 +205,7 @@ fn limits_of_what_a_group_takes(rt: HostRuntime) {
     walk_from(&rt, rt.alloc(), 4_294_967_293, TWO_NUMBERS_LEFT);
     walk_from(&rt, rt.alloc(), 4_294_967_294, ONE_NUMBER_LEFT);
     let mut graph = Checked::new(&rt, rt.alloc(), 0);
-    for number in 1..=65_534 {
-        graph.empty(&rt, &[], Ok(PatchNo(number)));
-    }
+    graph.empties(&rt, 65_534);
     graph.group(&rt, Err(Fault::Full(What::Heads)));
     graph.forget(&rt, 65_534);
     graph.group(&rt, Ok(GroupNo(65_535)));

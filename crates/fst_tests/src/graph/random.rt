@@ -1,18 +1,13 @@
 //! Random graphs beside their plain twins: after each call every answer is compared, with the twin's and with the graph's
 //! own by a walk over all patches.
 
-ghost use Rattle.std.specs.Prelude.{◌≡◌, ◌<◌, ◌≤◌};
+ghost use Rattle.std.specs.Prelude.{◌<◌};
 
+use crate::graph::checked::Checked;
 use crate::graph::twin::Twin;
-use crate::same::{
-    same_answer, same_block, same_change, same_count, same_group, same_held, same_number,
-    same_patches, same_place,
-};
-use fst_graph::Graph;
-use fst_types::{BlockNo, Fault, Grade, GroupNo, PatchNo, Shape, Span};
+use fst_types::{BlockNo, Fault, Grade, GroupNo, PatchNo, Span};
 use std::alloc::{AllocError, Global};
 use std::process::Abort;
-use std::test::Fail;
 
 /// A small generator of numbers, the same at each run.
 #[derive(Drop)]
@@ -42,7 +37,24 @@ impl Dice {
         PatchNo(numbers.saturating_sub(self.roll(back.min(numbers).max(1))))
     }
 
-    fn names(&mut self, alloc: Global, numbers: u32) -> Result<Vec<PatchNo>, AllocError> {
+    // Whether a coin shows its head.
+    fn flip(&mut self) -> bool {
+        self.roll(2) == 0
+    }
+
+    // One of so many blocks, of which there are some.
+    fn block(&mut self, blocks: u32) -> BlockNo {
+        BlockNo(self.roll(blocks.max(1)))
+    }
+
+    // Some bytes of a block.
+    fn span(&mut self) -> Span {
+        let at = self.roll(4);
+        let len = 1 + self.roll(4 - at);
+        Span { at, len }
+    }
+
+    fn try_names(&mut self, alloc: Global, numbers: u32) -> Result<Vec<PatchNo>, AllocError> {
         let mut names = Vec::new(alloc);
         if numbers == 0 {
             return Ok(names);
@@ -52,111 +64,81 @@ impl Dice {
         }
         Ok(names)
     }
+
+    // Some numbers.
+    fn names(&mut self, rt: &impl Abort, alloc: Global, numbers: u32) -> Vec<PatchNo> {
+        self.try_names(alloc, numbers).expect(rt, "there is memory")
+    }
 }
 
-// What the graph answers to a change, which `room` may have foreseen.
-fn answer_to(
-    rt: &impl Abort,
-    graph: &mut Graph,
-    block: BlockNo,
-    span: Span,
-    names: &[PatchNo],
-    is_foreseen: bool,
-) -> Result<(PatchNo, Grade), Fault>
-    requires { block.0 < graph.old.blocks }
-    ensures { graph.new.blocks ≡ graph.old.blocks }
-{
-    if !is_foreseen {
-        return graph.add_data(block, span, names);
-    }
-    let foreseen = graph.room(block, span, names);
-    let made = graph.add_data(block, span, names);
-    same_change(rt, foreseen, made);
-    made
-}
-
-// What the graph answers to a change for a group, which `group_room` may have foreseen.
-fn answer_to_member(
-    rt: &impl Abort,
-    graph: &mut Graph,
-    group: GroupNo,
-    block: BlockNo,
-    span: Span,
-    is_foreseen: bool,
-) -> Result<(PatchNo, Grade), Fault>
-    requires { block.0 < graph.old.blocks }
-    ensures { graph.new.blocks ≡ graph.old.blocks }
-{
-    if !is_foreseen {
-        return graph.group_patch(group, block, span);
-    }
-    let foreseen = graph.group_room(group, block, span);
-    let made = graph.group_patch(group, block, span);
-    same_change(rt, foreseen, made);
-    made
+// What a twin answers, for which there is memory.
+fn ample<T>(rt: &impl Abort, answer: Result<T, AllocError>) -> T {
+    answer.expect(rt, "there is memory")
 }
 
 /// A graph and its twin.
 #[derive(Drop)]
 struct Pair {
     alloc: Global,
-    graph: Graph,
+    graph: Checked,
     twin: Twin,
     blocks: u32,
-    ghost same: { graph.blocks ≡ blocks },
-    ghost some: { 0 < blocks },
 }
 
 impl Pair {
-    fn new(alloc: Global, blocks: u32) -> Result<Pair, Fault>
-        requires { 0 < blocks }
-    {
-        let shape = Shape::new(blocks, 4, blocks)?;
-        let graph = Graph::new(alloc, shape, 0)?;
-        Ok(Pair {
+    fn new(rt: &impl Abort, alloc: Global, blocks: u32) -> Pair {
+        Pair {
             alloc,
-            graph,
+            graph: Checked::over(rt, alloc, blocks),
             twin: Twin::new(alloc, blocks),
             blocks,
-        })
+        }
     }
 
-    fn change(&mut self, rt: &impl Abort, dice: &mut Dice) -> Result<(), Fail> {
-        let block = BlockNo(dice.roll(self.blocks));
-        let at = dice.roll(4);
-        let len = 1 + dice.roll(4 - at);
-        let span = Span { at, len };
-        let names = dice.names(self.alloc, self.twin.numbers())?;
-        let is_foreseen = dice.roll(2) == 0;
-        let made = answer_to(rt, &mut self.graph, block, span, &names, is_foreseen);
-        same_change(rt, made, self.twin.try_data(block, span, &names)?);
-        Ok(())
+    // Some numbers of patches.
+    fn names(&self, rt: &impl Abort, dice: &mut Dice) -> Vec<PatchNo> {
+        dice.names(rt, self.alloc, self.twin.numbers())
     }
 
-    fn empty(&mut self, rt: &impl Abort, dice: &mut Dice) -> Result<(), Fail> {
-        let names = dice.names(self.alloc, self.twin.numbers())?;
-        let made = self.graph.add_empty(&names);
-        same_number(rt, made, self.twin.try_empty(&names)?);
-        Ok(())
+    // A change, which `room` may foresee.
+    fn change(&mut self, rt: &impl Abort, dice: &mut Dice) {
+        let block = dice.block(self.blocks);
+        let span = dice.span();
+        let names = self.names(rt, dice);
+        let is_foreseen = dice.flip();
+        let answer = ample(rt, self.twin.try_data(block, span, &names));
+        if is_foreseen {
+            self.graph.room(rt, block.0, span, &names, answer);
+        }
+        self.graph.change(rt, block.0, span, &names, answer);
     }
 
-    fn gate(&mut self, rt: &impl Abort) -> Result<(), Fail> {
-        let made = self.graph.add_gate();
-        same_number(rt, made, self.twin.try_gate()?);
-        Ok(())
+    fn empty(&mut self, rt: &impl Abort, dice: &mut Dice) {
+        let names = self.names(rt, dice);
+        let answer = ample(rt, self.twin.try_empty(&names));
+        self.graph.empty(rt, &names, answer);
     }
 
-    fn depend(&mut self, rt: &impl Abort, dice: &mut Dice) -> Result<(), Fail> {
+    fn gate(&mut self, rt: &impl Abort) {
+        let answer = ample(rt, self.twin.try_gate());
+        self.graph.gate(rt, answer);
+    }
+
+    fn depend(&mut self, rt: &impl Abort, dice: &mut Dice) {
         let gate = dice.name(self.twin.numbers());
-        let names = dice.names(self.alloc, self.twin.numbers())?;
-        let answer = self.graph.depend(gate, &names);
-        same_answer(rt, answer, self.twin.try_depend(gate, &names)?);
-        Ok(())
+        let names = self.names(rt, dice);
+        let answer = ample(rt, self.twin.try_depend(gate, &names));
+        self.graph.depend(rt, gate, &names, answer);
     }
 
     fn seal(&mut self, rt: &impl Abort, gate: PatchNo) {
-        let answer = self.graph.seal(gate);
-        same_answer(rt, answer, self.twin.try_seal(gate));
+        let answer = self.twin.try_seal(gate);
+        self.graph.seal(rt, gate, answer);
+    }
+
+    fn seal_one(&mut self, rt: &impl Abort, dice: &mut Dice) {
+        let gate = dice.name(self.twin.numbers());
+        self.seal(rt, gate);
     }
 
     // A group, of the last ones more often, and at times a number that is none.
@@ -169,119 +151,105 @@ impl Pair {
         }
     }
 
-    fn group(&mut self, rt: &impl Abort) -> Result<(), Fail> {
-        let made = self.graph.group_new();
-        same_group(rt, made, self.twin.try_group_new()?);
-        Ok(())
+    fn group(&mut self, rt: &impl Abort) {
+        let answer = ample(rt, self.twin.try_group_new());
+        self.graph.group(rt, answer);
     }
 
-    fn group_after(&mut self, rt: &impl Abort, dice: &mut Dice) -> Result<(), Fail> {
+    fn group_after(&mut self, rt: &impl Abort, dice: &mut Dice) {
         let late = self.group_name(dice);
         let early = self.group_name(dice);
-        let answer = self.graph.group_after(late, early);
-        same_answer(rt, answer, self.twin.try_group_after(late, early)?);
-        Ok(())
+        let answer = ample(rt, self.twin.try_group_after(late, early));
+        self.graph.group_after(rt, late, early, answer);
     }
 
-    // A change for a group, which `group_room` may have foreseen.
-    fn member(&mut self, rt: &impl Abort, dice: &mut Dice) -> Result<(), Fail> {
+    // A change for a group, which `group_room` may foresee.
+    fn member(&mut self, rt: &impl Abort, dice: &mut Dice) {
         let group = self.group_name(dice);
-        let block = BlockNo(dice.roll(self.blocks));
-        let at = dice.roll(4);
-        let len = 1 + dice.roll(4 - at);
-        let span = Span { at, len };
-        let is_foreseen = dice.roll(2) == 0;
-        let made = answer_to_member(rt, &mut self.graph, group, block, span, is_foreseen);
-        same_change(rt, made, self.twin.try_member(group, block, span)?);
-        Ok(())
+        let block = dice.block(self.blocks);
+        let span = dice.span();
+        let is_foreseen = dice.flip();
+        let answer = ample(rt, self.twin.try_member(group, block, span));
+        if is_foreseen {
+            self.graph.group_room(rt, group, block.0, span, answer);
+        }
+        self.graph.member(rt, group, block.0, span, answer);
     }
 
     fn group_close(&mut self, rt: &impl Abort, group: GroupNo) {
-        let answer = self.graph.group_close(group);
-        same_answer(rt, answer, self.twin.try_group_close(group));
+        let answer = self.twin.try_group_close(group);
+        self.graph.group_close(rt, group, answer);
+    }
+
+    fn close_one(&mut self, rt: &impl Abort, dice: &mut Dice) {
+        let group = self.group_name(dice);
+        self.group_close(rt, group);
     }
 
     // Puts the least writable block in flight, and answers which it is.
-    fn launch(&mut self) -> Result<Option<BlockNo>, Fault> {
-        let Some(block) = self.graph.pick() else {
-            return Ok(None);
+    fn launch(&mut self, rt: &impl Abort) -> Option<BlockNo> {
+        let Some((block, chosen)) = self.graph.launch_next(rt) else {
+            return None;
         };
-        let chosen = self.graph.chosen(block)?;
-        self.graph.launch(&chosen);
         self.twin.launch(&chosen);
-        Ok(Some(block))
+        Some(block)
     }
 
     fn land(&mut self, block: BlockNo) {
-        self.graph.land(block);
+        self.graph.land(block.0);
         self.twin.land(block);
     }
 
     fn forget(&mut self, rt: &impl Abort) {
-        let dropped = self.graph.forget();
-        same_count(rt, dropped as usize, self.twin.forget());
+        let count = self.twin.forget();
+        self.graph.forget(rt, count);
     }
 
     // One random call.
-    fn step(&mut self, rt: &impl Abort, dice: &mut Dice) -> Result<(), Fail> {
+    fn step(&mut self, rt: &impl Abort, dice: &mut Dice) {
         match dice.roll(40) {
-            0..=10 => self.change(rt, dice)?,
-            11 | 12 => self.empty(rt, dice)?,
-            13 | 14 => self.gate(rt)?,
-            15..=17 => self.depend(rt, dice)?,
-            18 | 19 => {
-                let gate = dice.name(self.twin.numbers());
-                self.seal(rt, gate);
-            }
+            0..=10 => self.change(rt, dice),
+            11 | 12 => self.empty(rt, dice),
+            13 | 14 => self.gate(rt),
+            15..=17 => self.depend(rt, dice),
+            18 | 19 => self.seal_one(rt, dice),
             20 | 21 => {
-                self.launch()?;
+                self.launch(rt);
             }
-            22 | 23 => self.group(rt)?,
-            24..=27 => self.group_after(rt, dice)?,
-            28 => {
-                let group = self.group_name(dice);
-                self.group_close(rt, group);
-            }
-            29..=36 => self.member(rt, dice)?,
-            37 | 38 => self.land(BlockNo(dice.roll(self.blocks))),
+            22 | 23 => self.group(rt),
+            24..=27 => self.group_after(rt, dice),
+            28 => self.close_one(rt, dice),
+            29..=36 => self.member(rt, dice),
+            37 | 38 => self.land(dice.block(self.blocks)),
             _ => self.forget(rt),
         }
-        Ok(())
     }
 
     fn compare_places(&self, rt: &impl Abort) {
         for number in 0..=self.twin.numbers().saturating_add(1) {
             let no = PatchNo(number);
-            same_place(rt, no, self.graph.place(no), self.twin.place(no));
+            self.graph.place(rt, no, self.twin.place(no));
         }
-        same_count(rt, self.graph.live() as usize, self.twin.live());
+        self.graph.live(rt, self.twin.live());
     }
 
-    fn compare_chosen(&mut self, rt: &impl Abort, block: BlockNo) -> Result<(), Fail> {
-        let chosen = self.graph.chosen(block)?;
-        same_patches(rt, block, &chosen, &self.twin.chosen(block)?);
-        Ok(())
+    fn compare_block(&mut self, rt: &impl Abort, block: BlockNo) {
+        let chosen = ample(rt, self.twin.chosen(block));
+        let held = ample(rt, self.twin.hard_held(block));
+        self.graph.choice(rt, block.0, &chosen, held);
     }
 
-    fn compare_held(&mut self, rt: &impl Abort, block: BlockNo) -> Result<(), Fail> {
-        let held = self.graph.hard_held(block);
-        same_held(rt, block, held, self.twin.hard_held(block)?);
-        Ok(())
+    fn compare_pick(&mut self, rt: &impl Abort) {
+        let picked = ample(rt, self.twin.pick());
+        self.graph.pick(rt, picked);
     }
 
-    fn compare_pick(&mut self, rt: &impl Abort) -> Result<(), Fail> {
-        let picked = self.graph.pick();
-        same_block(rt, picked, self.twin.pick()?);
-        Ok(())
-    }
-
-    fn compare(&mut self, rt: &impl Abort) -> Result<(), Fail> {
+    fn compare(&mut self, rt: &impl Abort) {
         self.compare_places(rt);
         for block in 0..self.blocks {
-            self.compare_chosen(rt, BlockNo(block))?;
-            self.compare_held(rt, BlockNo(block))?;
+            self.compare_block(rt, BlockNo(block));
         }
-        self.compare_pick(rt)
+        self.compare_pick(rt);
     }
 
     fn seal_all(&mut self, rt: &impl Abort) {
@@ -305,44 +273,41 @@ impl Pair {
     }
 
     // Writes block after block, once for each number that was given.
-    fn write_all(&mut self) -> Result<(), Fault> {
+    fn write_all(&mut self, rt: &impl Abort) {
         for _ in 0..=self.twin.numbers() {
-            if let Some(block) = self.launch()? {
+            if let Some(block) = self.launch(rt) {
                 self.land(block);
             }
         }
-        Ok(())
     }
 
     // With every gate sealed, and block after block written, nothing is left that is not on disk.
-    fn finish(&mut self, rt: &impl Abort) -> Result<(), Fail> {
+    fn finish(&mut self, rt: &impl Abort) {
         self.seal_all(rt);
         self.close_all(rt);
         self.land_all();
-        self.compare(rt)?;
-        self.write_all()?;
+        self.compare(rt);
+        self.write_all(rt);
         self.compare_places(rt);
-        same_count(rt, self.graph.live() as usize, 0);
-        Ok(())
+        self.graph.live(rt, 0);
     }
 }
 
 // A graph of three or four blocks beside its twin, over random calls.
-fn play(rt: &impl Abort, alloc: Global, dice: &mut Dice) -> Result<(), Fail> {
+fn play(rt: &impl Abort, alloc: Global, dice: &mut Dice) {
     let blocks = 3 + dice.roll(2);
-    let mut pair = Pair::new(alloc, blocks)?;
+    let mut pair = Pair::new(rt, alloc, blocks);
     for _ in 0..40 {
-        pair.step(rt, dice)?;
-        pair.compare(rt)?;
+        pair.step(rt, dice);
+        pair.compare(rt);
     }
-    pair.finish(rt)
+    pair.finish(rt);
 }
 
 #[test]
-fn random_graphs(rt: HostRuntime) -> Result<(), Fail> {
+fn random_graphs(rt: HostRuntime) {
     let mut dice = Dice { state: 1 };
     for _ in 0..200 {
-        play(&rt, rt.alloc(), &mut dice)?;
+        play(&rt, rt.alloc(), &mut dice);
     }
-    Ok(())
 }

@@ -43,17 +43,28 @@ pub enum Step {
     Write(u32, Names),
 }
 
+// One byte.
+fn byte(at: u32) -> Span {
+    Span { at, len: 1 }
+}
+
 // A call that makes a patch or tells what would be made.
 fn make(rt: &impl Abort, graph: &mut Checked, step: Step) {
     match step {
         Step::Gate(answer) => graph.gate(rt, answer),
         Step::Empty(after, answer) => graph.empty(rt, after, answer),
-        Step::Byte(block, at, after, answer) => graph.byte(rt, block, at, after, answer),
+        Step::Byte(block, at, after, answer) => {
+            graph.change(rt, block, byte(at), after, answer);
+        }
         Step::Change(block, span, after, answer) => graph.change(rt, block, span, after, answer),
         Step::Room(block, span, after, answer) => graph.room(rt, block, span, after, answer),
         Step::Group(answer) => graph.group(rt, answer),
-        Step::Member(group, block, at, answer) => graph.member(rt, group, block, at, answer),
-        Step::GroupRoom(group, block, at, answer) => graph.group_room(rt, group, block, at, answer),
+        Step::Member(group, block, at, answer) => {
+            graph.member(rt, group, block, byte(at), answer);
+        }
+        Step::GroupRoom(group, block, at, answer) => {
+            graph.group_room(rt, group, block, byte(at), answer);
+        }
         _ => order(rt, graph, step),
     }
 }
