@@ -1,17 +1,12 @@
-//! What no clause says of the journal: what the guides tell, records, a transaction refused half way, and what a file has
-//! after a transfer.
+//! The tests.
 
-use crate::accounts::Accounts;
-use crate::fault::StoreFault;
-use crate::file_slot::FileSlot;
-use crate::groups::groups;
-use crate::guide::guide;
-use crate::ledger::slots;
-use crate::patching::patch_or_write;
-use crate::record::{Balance, Record};
 use fst_cache::Cache;
 use fst_device::MemorySlot;
 use fst_types::{BlockNo, Fault, Place, Shape, What};
+use journal_calls::patch_or_write;
+use journal_parts::groups::groups;
+use journal_parts::guide::guide;
+use journal_parts::{Accounts, Balance, FileSlot, Record, StoreFault, slots};
 use std::alloc::Global;
 use std::fs::{self, File};
 use std::process::Abort;
