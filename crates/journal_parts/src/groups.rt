@@ -146,7 +146,8 @@ fn play<W: Write>(
 fn zeros(alloc: Global) -> Result<Vec<MemorySlot>, StoreFault> {
     let mut slots = Vec::new(alloc);
     for block in 0..4 {
-        slots.push(MemorySlot::new(BlockNo(block), vec![in alloc; 0u8; 8]?))?;
+        let bytes = Vec::from_slice(alloc, &[0; 8])?;
+        slots.push(MemorySlot::new(BlockNo(block), bytes))?;
     }
     Ok(slots)
 }

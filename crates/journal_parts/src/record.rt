@@ -21,42 +21,42 @@ pub struct Balance {
 
 /// The number at the start of a block, or 0 where it has no four bytes.
 pub fn number_of(bytes: &[u8]) -> u32 {
-    match bytes {
-        [a, b, c, d, ..] => u32::from_le_bytes([*a, *b, *c, *d]),
-        _ => 0,
+    match bytes.first_chunk::<4>() {
+        Some(number) => u32::from_le_bytes(*number),
+        None => 0,
     }
 }
 
 impl Record {
     /// The record as bytes of the journal block.
     pub fn to_bytes(&self) -> [u8; 16] {
-        let [a, b, c, d] = self.number.to_le_bytes();
-        let [e, f] = self.from.block.to_le_bytes();
-        let [g, h] = self.to.block.to_le_bytes();
-        let [i, j, k, l] = self.from.amount.to_le_bytes();
-        let [m, n, o, p] = self.to.amount.to_le_bytes();
-        [a, b, c, d, e, f, g, h, i, j, k, l, m, n, o, p]
+        let mut bytes = [0; 16];
+        bytes[..4].copy_from_slice(&self.number.to_le_bytes());
+        bytes[4..6].copy_from_slice(&self.from.block.to_le_bytes());
+        bytes[6..8].copy_from_slice(&self.to.block.to_le_bytes());
+        bytes[8..12].copy_from_slice(&self.from.amount.to_le_bytes());
+        bytes[12..].copy_from_slice(&self.to.amount.to_le_bytes());
+        bytes
     }
 
     /// The record in a journal block, or none where no transfer was journalled there.
     pub fn from_bytes(bytes: &[u8]) -> Option<Record> {
-        let [a, b, c, d, e, f, g, h, i, j, k, l, m, n, o, p] = bytes else {
-            return None;
-        };
-        let number = u32::from_le_bytes([*a, *b, *c, *d]);
-        if number == 0 {
-            return None;
-        }
-        Some(Record {
-            number,
+        let (number, rest) = bytes.split_first_chunk::<4>()?;
+        let (from, rest) = rest.split_first_chunk::<2>()?;
+        let (to, amounts) = rest.split_first_chunk::<2>()?;
+        let (left, sum) = amounts.split_first_chunk::<4>()?;
+        let sum = <[u8; 4]>::try_from(sum).ok()?;
+        let record = Record {
+            number: u32::from_le_bytes(*number),
             from: Balance {
-                block: u16::from_le_bytes([*e, *f]),
-                amount: u32::from_le_bytes([*i, *j, *k, *l]),
+                block: u16::from_le_bytes(*from),
+                amount: u32::from_le_bytes(*left),
             },
             to: Balance {
-                block: u16::from_le_bytes([*g, *h]),
-                amount: u32::from_le_bytes([*m, *n, *o, *p]),
+                block: u16::from_le_bytes(*to),
+                amount: u32::from_le_bytes(sum),
             },
-        })
+        };
+        (record.number != 0).then_some(record)
     }
 }

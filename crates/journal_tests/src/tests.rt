@@ -66,7 +66,8 @@ fn a_record_is_read_as_it_was_written(rt: HostRuntime) {
 fn cache_of_two(alloc: Global) -> Result<Cache<MemorySlot>, StoreFault> {
     let mut zeros = Vec::new(alloc);
     for block in 0..3 {
-        zeros.push(MemorySlot::new(BlockNo(block), vec![in alloc; 0u8; 4]?))?;
+        let bytes = Vec::from_slice(alloc, &[0; 4])?;
+        zeros.push(MemorySlot::new(BlockNo(block), bytes))?;
     }
     Ok(Cache::open(alloc, Shape::new(3, 4, 2)?, zeros)?)
 }
