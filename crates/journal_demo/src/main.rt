@@ -2,23 +2,12 @@
 //!
 //! With no word the program plays the guides, over slots in memory, and transfers over slots that fail. With the name of a
 //! file it keeps accounts there, and makes the transfers that it reads from standard input: a line `FROM TO AMOUNT` each.
+//!
+//! Its parts stand in `journal_parts` and `journal_calls`, so that neither their planted bugs nor their tests take another
+//! proof of the whole.
 #![tactic(auto)]
 
-mod accounts;
-mod failing;
-mod fault;
-mod file_slot;
-mod flaky_slot;
-mod groups;
-mod guide;
-mod ledger;
-mod patching;
-mod record;
-#[cfg(test)]
-mod tests;
-mod writing;
-
-use fault::StoreFault;
+use journal_parts::{StoreFault, groups, guide, keep, transfers};
 use std::{env, io};
 
 fn main(rt: HostRuntime) -> Result<(), StoreFault> {
@@ -28,8 +17,8 @@ fn main(rt: HostRuntime) -> Result<(), StoreFault> {
             let mut out = io::writer(&rt);
             guide::guide(rt.alloc(), &mut out)?;
             groups::groups(rt.alloc(), &mut out)?;
-            failing::transfers(rt.alloc(), &mut out)
+            transfers(rt.alloc(), &mut out)
         }
-        Some(name) => ledger::keep(&rt, name.as_str()),
+        Some(name) => keep(&rt, name.as_str()),
     }
 }

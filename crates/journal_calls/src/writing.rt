@@ -5,7 +5,7 @@
 
 ghost use Rattle.std.specs.Prelude.{◌≡◌, ◌+◌, ◌≤◌, ◌↔◌, IsTrue, IfOk, IfErr, IfSome, IfNone, OnOk, OnErr};
 ghost use Rattle.fst_types.specs.Flights.{IsOut};
-ghost use Rattle.journal_demo.specs.Exhausted.{IsDurable, IsExhausted, IsWriteRefused};
+ghost use Rattle.journal_calls.specs.Exhausted.{IsDurable, IsExhausted, IsWriteRefused};
 
 use fst_cache::Cache;
 use fst_device::{BlockSlot, Job, carry};

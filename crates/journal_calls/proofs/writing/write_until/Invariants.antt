@@ -1,5 +1,5 @@
 use Rattle.std.proofs.Common.{◌≡◌, ◌+◌}
-use Rattle.journal_demo.proofs.writing.write_until.Given as goal
+use Rattle.journal_calls.proofs.writing.write_until.Given as goal
 
 -- each round made one write
 abbrev pub invariant-loop : goal.invariant-loop

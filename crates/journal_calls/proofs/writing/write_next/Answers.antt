@@ -1,7 +1,7 @@
 use Rattle.std.proofs.Common.{subst, ◌≡◌, ◌∙◌, ◌+◌, IfSome}
 use Rattle.fst_types.specs.Flights.{IsOut}
-use Rattle.journal_demo.proofs.Sends.{carried_settles, settle_keeps}
-use Rattle.journal_demo.proofs.writing.write_next.Goals as goal
+use Rattle.journal_calls.proofs.Sends.{carried_settles, settle_keeps}
+use Rattle.journal_calls.proofs.writing.write_next.Goals as goal
 
 pub unreachable-requires : goal.unreachable-requires
 unreachable-requires g c =

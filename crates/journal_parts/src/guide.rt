@@ -19,7 +19,8 @@ const SECOND_HOME: BlockNo = BlockNo(3);
 fn zeros(alloc: Global) -> Result<Vec<MemorySlot>, StoreFault> {
     let mut slots = Vec::new(alloc);
     for block in 0..4 {
-        slots.push(MemorySlot::new(BlockNo(block), vec![in alloc; 0u8; 4]?))?;
+        let bytes = Vec::from_slice(alloc, &[0; 4])?;
+        slots.push(MemorySlot::new(BlockNo(block), bytes))?;
     }
     Ok(slots)
 }

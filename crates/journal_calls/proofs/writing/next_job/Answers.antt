@@ -1,8 +1,8 @@
 use Rattle.std.proofs.Common.{ap, ◌∙◌, ◌+◌}
 use Rattle.std.proofs.lemmas.Result.{err_from_is_err_and}
 use Rattle.fst_cache.specs.Views.{CacheView}
-use Rattle.journal_demo.proofs.Sends.{exhausted, issue_sends, retry_sends, issue_refused, retry_refused}
-use Rattle.journal_demo.proofs.writing.next_job.Goals as goal
+use Rattle.journal_calls.proofs.Sends.{exhausted, issue_sends, retry_sends, issue_refused, retry_refused}
+use Rattle.journal_calls.proofs.writing.next_job.Goals as goal
 
 pub returns-in_err-retry-clause-refused : goal.returns-in_err-retry-clause-refused
 returns-in_err-retry-clause-refused g c =

@@ -7,15 +7,14 @@
 //! good on opening.
 
 ghost use Rattle.std.specs.Prelude.{OnOk};
-ghost use Rattle.journal_demo.specs.Exhausted.{IsDurable};
+ghost use Rattle.journal_calls.specs.Exhausted.{IsDurable};
 
 use crate::fault::StoreFault;
-use crate::patching::patch_or_write;
 use crate::record::{Balance, Record, SIZE, number_of};
-use crate::writing::{ALL_WRITES, Written, write_until};
 use fst_cache::{Cache, Share};
 use fst_device::BlockSlot;
 use fst_types::{BlockNo, Fault, PatchNo, Shape};
+use journal_calls::{ALL_WRITES, Written, patch_or_write, write_until};
 use std::alloc::Global;
 
 /// How many accounts there are.

@@ -1,6 +1,6 @@
 use Rattle.std.proofs.Common.{arith}
-use Rattle.journal_demo.proofs.Pairs.{tail_has_number, made_group, put_after}
-use Rattle.journal_demo.proofs.groups.two_groups.Goals as goal
+use Rattle.journal_calls.proofs.Pairs.{tail_has_number, made_group, put_after}
+use Rattle.journal_calls.proofs.pair.two_groups.Goals as goal
 
 pub overflow_add-tail : goal.overflow_add-tail
 overflow_add-tail g c = omega (arith, tail_has_number _ _ _ _ c.in_ok-second.ensures.step)

@@ -3,13 +3,11 @@
 //! A group is for changes of which none has to come before another, as the blocks of a journal record. Of a group that was
 //! put after it nothing is written before all of it is on disk, or goes in the same write.
 
-ghost use Rattle.std.specs.Prelude.{IfOk};
-ghost use Rattle.journal_demo.specs.Pairing.{IsPair};
-
 use crate::fault::StoreFault;
 use fst_cache::{Cache, Share};
 use fst_device::{BlockSlot, MemorySlot, carry};
 use fst_types::{BlockNo, Fault, GroupNo, PatchNo, Place, Shape};
+use journal_calls::two_groups;
 use std::alloc::Global;
 use std::io::Write;
 
@@ -28,30 +26,6 @@ const OLD_DIRECTORY: BlockNo = BlockNo(0);
 const NEW_DIRECTORY: BlockNo = BlockNo(1);
 
 const NODE: BlockNo = BlockNo(2);
-
-/// Two groups, of which the second comes after the first, and the gate behind both.
-#[derive(Clone, Copy)]
-pub struct Pair {
-    pub first: GroupNo,
-    pub second: GroupNo,
-    pub tail: PatchNo,
-}
-
-/// Makes two groups, and puts the second after the first.
-pub fn two_groups<S: BlockSlot>(cache: &mut Cache<S>, share: &mut Share) -> Result<Pair, Fault>
-    ensures { IfOk result (λ pair. IsPair cache.new.state.groups pair.first.0 pair.second.0 pair.tail.0) }
-{
-    let first = cache.group_new(share)?;
-    let second = cache.group_new(share)?;
-    // a group has two gates: its head, which has the group's number, and its tail, which has the next
-    let tail = PatchNo(second.0 + 1);
-    cache.group_after(second, first)?;
-    Ok(Pair {
-        first,
-        second,
-        tail,
-    })
-}
 
 /// Makes these changes for a group, each from the start of its block on, and closes the group.
 fn fill<S: BlockSlot>(
@@ -172,7 +146,8 @@ fn play<W: Write>(
 fn zeros(alloc: Global) -> Result<Vec<MemorySlot>, StoreFault> {
     let mut slots = Vec::new(alloc);
     for block in 0..4 {
-        slots.push(MemorySlot::new(BlockNo(block), vec![in alloc; 0u8; 8]?))?;
+        let bytes = Vec::from_slice(alloc, &[0; 8])?;
+        slots.push(MemorySlot::new(BlockNo(block), bytes))?;
     }
     Ok(slots)
 }

@@ -1,17 +1,12 @@
-//! What no clause says of the journal: what the guides tell, records, a transaction refused half way, and what a file has
-//! after a transfer.
+//! The tests.
 
-use crate::accounts::Accounts;
-use crate::fault::StoreFault;
-use crate::file_slot::FileSlot;
-use crate::groups::groups;
-use crate::guide::guide;
-use crate::ledger::slots;
-use crate::patching::patch_or_write;
-use crate::record::{Balance, Record};
 use fst_cache::Cache;
 use fst_device::MemorySlot;
 use fst_types::{BlockNo, Fault, Place, Shape, What};
+use journal_calls::patch_or_write;
+use journal_parts::groups::groups;
+use journal_parts::guide::guide;
+use journal_parts::{Accounts, Balance, FileSlot, Record, StoreFault, slots};
 use std::alloc::Global;
 use std::fs::{self, File};
 use std::process::Abort;
@@ -71,7 +66,8 @@ fn a_record_is_read_as_it_was_written(rt: HostRuntime) {
 fn cache_of_two(alloc: Global) -> Result<Cache<MemorySlot>, StoreFault> {
     let mut zeros = Vec::new(alloc);
     for block in 0..3 {
-        zeros.push(MemorySlot::new(BlockNo(block), vec![in alloc; 0u8; 4]?))?;
+        let bytes = Vec::from_slice(alloc, &[0; 4])?;
+        zeros.push(MemorySlot::new(BlockNo(block), bytes))?;
     }
     Ok(Cache::open(alloc, Shape::new(3, 4, 2)?, zeros)?)
 }

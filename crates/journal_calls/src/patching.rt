@@ -5,7 +5,7 @@
 
 ghost use Rattle.std.specs.Prelude.{◌≡◌, ◌+◌, IfOk, MatchResult};
 ghost use Rattle.fst_cache.specs.Names.{numbers_of};
-ghost use Rattle.journal_demo.specs.Making.{IsJustMade};
+ghost use Rattle.journal_calls.specs.Making.{IsJustMade};
 
 use crate::writing::{ALL_WRITES, write_next};
 use fst_cache::{Cache, Share};

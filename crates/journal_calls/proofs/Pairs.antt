@@ -10,7 +10,7 @@ use Rattle.fst_types.specs.Events.{GroupNew, GroupAfter, Made, Accepted}
 use Rattle.fst_types.specs.Step.{Step, accepted, group, group_new, group_after}
 use Rattle.fst_types.proofs.Numbers.{equal_test}
 use Rattle.fst_types.proofs.Finite.{In-map, In-from_Contains, Contains-from_In}
-use Rattle.journal_demo.specs.Pairing.{IsPair}
+use Rattle.journal_calls.specs.Pairing.{IsPair}
 
 -- the number of a new group is not the last
 pub tail_has_number : (old new : State) (share n : ℕ) → Step old (GroupNew share) (Made n) new → n + 1 ≤ max_number

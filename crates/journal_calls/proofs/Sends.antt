@@ -15,7 +15,7 @@ use Rattle.fst_types.specs.Step.{Step, accepted, refused, Row, pick, issue, retr
 use Rattle.fst_types.proofs.Moves.{flight_out, put_at, has_block, same_some}
 use Rattle.fst_cache.specs.Views.{CacheView}
 use Rattle.fst_cache.specs.Replies.{settled_reply, IsStuck}
-use Rattle.journal_demo.specs.Exhausted.{IsExhausted, IsWriteRefused, no_flight_left, no_ticket_left, no_memory}
+use Rattle.journal_calls.specs.Exhausted.{IsExhausted, IsWriteRefused, no_flight_left, no_ticket_left, no_memory}
 
 -- the write of block b is out under the next ticket
 pub record IsSent (old : State) (ticket b : ℕ) (image : List ℕ) (new : State) : Type 0 where
