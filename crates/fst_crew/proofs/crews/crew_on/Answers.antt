@@ -1,4 +1,4 @@
-use Rattle.std.proofs.Common.{map, refl, sym, ap, subst, ◌∙◌}
+use Rattle.std.proofs.Common.{map, refl, ap, subst, ◌∙◌}
 use Rattle.std.specs.Io.KnownBytes.{Appends}
 use Rattle.std.specs.List.{range_with_len}
 use Rattle.fst_types.specs.Bytes.{bytes_of}
