@@ -17,8 +17,8 @@ use crate::sight::Sight;
 use crate::walk::Walk;
 use fst_heads::head::Kind;
 
-// Visits the patch with the number, which is not on disk, unless it is higher than `most` or was visited before. So it looks
-// at no head.
+// Visits the patch with the number, which is not on disk, unless it is higher than `most` or was visited before. It looks
+// at heads only where numbers are missing among the newest ranks.
 fn visit_low(sight: &Sight<'_>, walk: &mut Walk, number: u32, most: u32)
     requires sees { Sees sight.now }
     requires visited { Visited sight.now.heads.now walk.old }
