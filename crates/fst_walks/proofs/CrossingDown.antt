@@ -58,8 +58,8 @@ module _ (heads : List Head) (rising : IsRising heads) (needs : ℕ → List ℕ
 
   -- it is none
   module _ (none : (c : ℕ) → IsOn here c → ⊥) (crossed : List Bool) where
-    pub crosses_none : (queue : List ℕ) → Visits (CrossesDown patches needs crossed n) queue queue
-    crosses_none queue = visits_none (CrossesDown patches needs crossed n) queue (λ q x. absurd (none x.block (on_here x.block x.change)))
+    pub crosses_none : (P : ℕ → Type 0) (queue : List ℕ) → Visits (λ q. CrossesDown patches needs crossed n q × P q) queue queue
+    crosses_none P queue = visits_none (λ q. CrossesDown patches needs crossed n q × P q) queue (λ q x. absurd (none x.0.block (on_here x.0.block x.0.change)))
 
     pub shows_none : ShowsBlockUnder patches n crossed crossed
     shows_none = record { kept = λ c r. r; only = λ c r. inl r; each = λ c x. absurd (none c (on_here c x)) }

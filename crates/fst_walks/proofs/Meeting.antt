@@ -8,8 +8,8 @@ use Rattle.fst_types.proofs.{Crash.same_number, SmallStates.only_in}
 use Rattle.fst_heads.specs.{Grading.{HasUnder, LeadsNowhere, IsHardNumber}, Heads.{IsRising as AreRising, patches_of}, Marks.PassesAt}
 use Rattle.fst_heads.specs.{Reaching.{ShowsBlocks}, Tests.passes, declared.head.Head.Head}
 use Rattle.fst_heads.proofs.{Graded.off_from, Leading.one_block, Listing.rising_patches}
-use Rattle.fst_walks.specs.{BothEnds.{AreApart, ComesTo, EndApart, IsFirstAway, IsLowChange, LeadTogether, StepsAway, StepsDown, StepsLow}, Descending.{IsLedFrom, Visits}, Leveling.AreLeveled, Needing.AreNeeded, WayBack.{StepsUp}}
-use Rattle.fst_walks.proofs.{BothEnds.{Leads, leads_on, led_leads, leads_led, LeadsBack, goes_up, back_leads, none_leads, off_live}, ComesBack.{live_number, live_on}, Holding.live_up, NearRow.rests_may, Needed.{StepsWhole, steps_whole, whole_met}, Trails.none_in}
+use Rattle.fst_walks.specs.{BothEnds.{AreApart, ComesTo, EndApart, IsFirstAway, IsLowChange, LeadTogether, StepsAway, StepsHigh, StepsLow}, Descending.{IsLedFrom, Visits}, Leveling.AreLeveled, Needing.AreNeeded, WayBack.{StepsUp}}
+use Rattle.fst_walks.proofs.{BothEnds.{Leads, leads_on, led_leads, leads_led, LeadsBack, goes_up, back_leads, none_leads, off_live}, ComesBack.{live_number, live_on}, Holding.live_up, NearRow.rests_may, Needed.{StepsDown, StepsWhole, steps_whole, whole_met}, Trails.none_in}
 use Rattle.fst_heads.specs.declared.test.Test.TheVariants as test
 
 -- whether the patch passes is known
@@ -155,6 +155,36 @@ module _ (patches : List Patch) (level floor : ℕ → ℕ) (leveled : AreLevele
   leads_up most p q (inl e) = inl e
   leads_up most p q (inr path) = inr (low_up most p q path)
 
+-- no way down rises
+module _ (patches : List Patch) (level floor : ℕ → ℕ) (leveled : AreLeveled patches level floor) (needs : ℕ → List ℕ) (needed : AreNeeded patches needs) (crossed : List Bool) (least : ℕ) where
+  down_falls : (p q : ℕ) → StepsDown patches needs crossed p q → level q ≤ level p
+  down_falls p q s = elim s [
+    | inl d ↦ leveled.direct p q d.0
+    | inr k ↦
+        let n = needed.named k.block q k.need.0 in
+        let first = leveled.change k.block p k.change in
+        let hard = leveled.hard k.block n.0 n.1 in
+        let last = leveled.direct n.0 q n.2 in
+        omega (arith, first, hard, last)
+  ]
+
+  -- so all on the way to what is high is high
+  high_downs : (p q : ℕ) → Closure (StepsDown patches needs crossed) p q → least ≤ level q → (least ≤ level p) × Closure (StepsHigh patches level least needs crossed) p q
+  high_downs p q (one s) high = let f = down_falls p q s in (omega (arith, f, high), one (elim s [ inl d ↦ inl (d.0, (d.1, high)) | inr k ↦ inr (k, high) ]))
+  high_downs p q (join {q = k} c d) high = let e = high_downs k q d high in let f = high_downs p k c e.0 in (f.0, join f.1 e.1)
+
+  pub high_led : (start : List ℕ) (n : ℕ) → IsLedFrom (StepsDown patches needs crossed) start n → least ≤ level n → IsLedFrom (StepsHigh patches level least needs crossed) start n
+  high_led start n (inl c) high = inl c
+  high_led start n (inr r) high = inr (r.0, r.1, (high_downs r.0 n r.2 high).1)
+
+  high_down : (p q : ℕ) → Closure (StepsHigh patches level least needs crossed) p q → Closure (StepsDown patches needs crossed) p q
+  high_down p q (one s) = one (elim s [ inl d ↦ inl (d.0, d.1.0) | inr k ↦ inr k.0 ])
+  high_down p q (join {q = k} c d) = join (high_down p k c) (high_down k q d)
+
+  pub leads_down : (p q : ℕ) → Leads (StepsHigh patches level least needs crossed) p q → Leads (StepsDown patches needs crossed) p q
+  leads_down p q (inl e) = inl e
+  leads_down p q (inr path) = inr (high_down p q path)
+
 -- the steps up and down are the same, the other way about
 module _ (patches : List Patch) (b : ℕ) (up down : List Bool) (shows_up : ShowsBlocks up (λ c. c ≡ b)) (shows_down : ShowsBlocks down (λ c. c ≡ b)) where
   turned_up : (p q : ℕ) → StepsWhole patches down p q → IsLiveNumber patches p → StepsUp patches up q p
@@ -206,8 +236,9 @@ pub visited_all : (P : ℕ → Type 0) (queue : List ℕ) → Visits P [] queue 
 visited_all P queue v n = (λ c. elim (v.only n c) [ inl none ↦ absurd (none_in n none) | inr p ↦ p ], v.each n)
 
 -- a walk down starts from the first changes of other blocks at or below a row, and never crosses b
-module _ (heads : List Head) (rising : AreRising heads) (disk : IsOnDiskWithAll (patches_of heads)) (hard : HardNeverHold (patches_of heads)) (flights : FlightsStandAlone (patches_of heads)) (needs : ℕ → List ℕ) (needed : AreNeeded (patches_of heads) needs)
-    (b : ℕ) (row : List ℕ) (up down : List Bool) (shows_up : ShowsBlocks up (λ c. c ≡ b)) (shows_down : ShowsBlocks down (λ c. c ≡ b)) (tops : List ℕ) (first : (n : ℕ) → Contains tops n ↔ IsFirstAway (patches_of heads) b row n) where
+module _ (heads : List Head) (rising : AreRising heads) (disk : IsOnDiskWithAll (patches_of heads)) (hard : HardNeverHold (patches_of heads)) (flights : FlightsStandAlone (patches_of heads))
+    (level floor : ℕ → ℕ) (leveled : AreLeveled (patches_of heads) level floor) (needs : ℕ → List ℕ) (needed : AreNeeded (patches_of heads) needs)
+    (b least : ℕ) (low : least ≤ floor b) (row : List ℕ) (up down : List Bool) (shows_up : ShowsBlocks up (λ c. c ≡ b)) (shows_down : ShowsBlocks down (λ c. c ≡ b)) (tops : List ℕ) (first : (n : ℕ) → Contains tops n ↔ IsFirstAway (patches_of heads) b row n) where
   abbrev now : List Patch
   now = patches_of heads
 
@@ -221,19 +252,20 @@ module _ (heads : List Head) (rising : AreRising heads) (disk : IsOnDiskWithAll 
       leads_ups now b up down shows_up shows_down in_order top n whole (off_live now in_order disk b up shows_up top ((first top).0 c).away)
 
   -- where it comes to a change of b, a way leads back
-  pub comes_soft : ComesTo now needs down b tops → LeadsNowhere now b row → ⊥
+  pub comes_soft : ComesTo now level least needs down b tops → LeadsNowhere now b row → ⊥
   comes_soft met =
-      let a = led_leads (StepsDown now needs down) tops met.at met.under in
+      let a = led_leads (StepsHigh now level least needs down) tops met.at met.under in
       let top = (first a.0).0 a.1 in
-      back_leads now in_order disk b up shows_up row (record { first = met.at; last = a.0; change = met.change; away = top.away; under = first_under now b row a.0 top; path = under_up a.0 met.at a.1 a.2 })
+      back_leads now in_order disk b up shows_up row (record { first = met.at; last = a.0; change = met.change; away = top.away; under = first_under now b row a.0 top; path = under_up a.0 met.at a.1 (leads_down now level floor leveled needs needed down least a.0 met.at a.2) })
 
   -- where it comes to none, none does
-  pub comes_hard : (ComesTo now needs down b tops → ⊥) → LeadsNowhere now b row
+  pub comes_hard : (ComesTo now level least needs down b tops → ⊥) → LeadsNowhere now b row
   comes_hard none = none_leads now in_order disk b up shows_up row (λ l.
       let f = first_back heads rising disk hard b up shows_up row l in
       let back = leads_downs now b up down shows_up shows_down in_order f.1 f.0 f.4 (live_number now in_order b b f.1 f.3) in
       let y = whole_met now in_order flights needs needed b down shows_down tops f.0 f.1 ((first f.0).1 f.2) back f.3 in
-      none (record { at = y.0; under = y.1; change = y.2 }))
+      let over = leveled.change b y.0 y.2 in
+      none (record { at = y.0; under = high_led now level floor leveled needs needed down least tops y.0 y.1 (omega (arith, low, over)); change = y.2 }))
 
 -- the walks start from the low live changes of b and from the first changes of other blocks at or below a row, which are low, and never cross b
 pub record AreEnds (patches : List Patch) (level : ℕ → ℕ) (most b : ℕ) (row : List ℕ) (up down : List Bool) (bottoms tops : List ℕ) : Type 0 where
@@ -245,7 +277,7 @@ pub record AreEnds (patches : List Patch) (level : ℕ → ℕ) (most b : ℕ) (
 
 module _ (heads : List Head) (rising : AreRising heads) (disk : IsOnDiskWithAll (patches_of heads)) (hard : HardNeverHold (patches_of heads)) (flights : FlightsStandAlone (patches_of heads))
     (level floor : ℕ → ℕ) (leveled : AreLeveled (patches_of heads) level floor) (needs : ℕ → List ℕ) (needed : AreNeeded (patches_of heads) needs)
-    (most b : ℕ) (row : List ℕ) (up down : List Bool) (bottoms tops : List ℕ) (ends : AreEnds (patches_of heads) level most b row up down bottoms tops) where
+    (most least b : ℕ) (floored : least ≤ floor b) (row : List ℕ) (up down : List Bool) (bottoms tops : List ℕ) (ends : AreEnds (patches_of heads) level most b row up down bottoms tops) where
   abbrev all : List Patch
   all = patches_of heads
 
@@ -256,15 +288,15 @@ module _ (heads : List Head) (rising : AreRising heads) (disk : IsOnDiskWithAll 
   pub begin_apart : AreApart bottoms tops
   begin_apart n above below = off_not_on all ordered b n ((ends.first n).0 below).away ((ends.changes n).0 above).0
 
-  goes_up_to : (top n : ℕ) → Contains tops top → Leads (StepsDown all needs down) top n → Leads (StepsUp all up) n top
-  goes_up_to = under_up heads rising disk hard flights needs needed b row up down ends.shows_up ends.shows_down tops ends.first
+  down_to : (top n : ℕ) → Contains tops top → Leads (StepsHigh all level least needs down) top n → Leads (StepsUp all up) n top
+  down_to top n c path = under_up heads rising disk hard flights level floor leveled needs needed b least floored row up down ends.shows_up ends.shows_down tops ends.first top n c (leads_down all level floor leveled needs needed down least top n path)
 
   -- where the walks lead to the same, a way leads back
-  pub together_soft : LeadTogether all level needs most up down bottoms tops → LeadsNowhere all b row → ⊥
+  pub together_soft : LeadTogether all level needs most least up down bottoms tops → LeadsNowhere all b row → ⊥
   together_soft met =
       let n = met.at in
       let x = led_leads (StepsLow all level most up) bottoms n met.over in
-      let a = led_leads (StepsDown all needs down) tops n met.under in
+      let a = led_leads (StepsHigh all level least needs down) tops n met.under in
       let first = (ends.first a.0).0 a.1 in
       back_leads all ordered disk b up ends.shows_up row (record {
         first = x.0;
@@ -272,17 +304,17 @@ module _ (heads : List Head) (rising : AreRising heads) (disk : IsOnDiskWithAll 
         change = ((ends.changes x.0).0 x.1).0;
         away = first.away;
         under = first_under all b row a.0 first;
-        path = leads_on (StepsUp all up) x.0 n a.0 (leads_up all level floor leveled up most x.0 n x.2) (goes_up_to a.0 n a.1 a.2);
+        path = leads_on (StepsUp all up) x.0 n a.0 (leads_up all level floor leveled up most x.0 n x.2) (down_to a.0 n a.1 a.2);
       })
 
   -- a change of b that the walk down leads to is one that the walk up starts from
-  under_bottom : (n : ℕ) → IsLedFrom (StepsDown all needs down) tops n → PassesAt (test.LiveOn b) all n → Contains bottoms n
+  under_bottom : (n : ℕ) → IsLedFrom (StepsHigh all level least needs down) tops n → PassesAt (test.LiveOn b) all n → Contains bottoms n
   under_bottom n led x =
-      let a = led_leads (StepsDown all needs down) tops n led in
-      (ends.changes n).1 (x, (low_leads all level floor leveled up most n a.0 (goes_up_to a.0 n a.1 a.2) (ends.low a.0 a.1)).0)
+      let a = led_leads (StepsHigh all level least needs down) tops n led in
+      (ends.changes n).1 (x, (low_leads all level floor leveled up most n a.0 (down_to a.0 n a.1 a.2) (ends.low a.0 a.1)).0)
 
   -- where one has met all and nothing was met by both, none does
-  pub apart_hard : (over under : List ℕ) → EndApart all level needs most up down bottoms tops over under → LeadsNowhere all b row
+  pub apart_hard : (over under : List ℕ) → EndApart all level needs most least up down bottoms tops over under → LeadsNowhere all b row
   apart_hard over under met = elim met.ended [
     | inl each ↦ none_leads all ordered disk b up ends.shows_up row (λ l.
         let f = first_back heads rising disk hard b up ends.shows_up row l in
@@ -292,5 +324,5 @@ module _ (heads : List Head) (rising : AreRising heads) (disk : IsOnDiskWithAll 
         let path = low_leads all level floor leveled up most x n f.4 (ends.low n top) in
         met.apart n (each n (leads_led (StepsLow all level most up) bottoms x n ((ends.changes x).1 (f.3, path.0)) path.1)) (met.under_begun n top))
     | inr each ↦
-        comes_hard heads rising disk hard flights needs needed b row up down ends.shows_up ends.shows_down tops ends.first (λ x. met.apart x.at (met.over_begun x.at (under_bottom x.at x.under x.change)) (each x.at x.under))
+        comes_hard heads rising disk hard flights level floor leveled needs needed b least floored row up down ends.shows_up ends.shows_down tops ends.first (λ x. met.apart x.at (met.over_begun x.at (under_bottom x.at x.under x.change)) (each x.at x.under))
   ]

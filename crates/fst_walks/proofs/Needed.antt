@@ -6,7 +6,7 @@ use Rattle.fst_types.specs.{Patches.{Patch, IsOn, IsRising}, declared.place.Plac
 use Rattle.fst_types.proofs.Crash.{same_number}
 use Rattle.fst_heads.specs.{Grading.IsHardNumber, Marks.PassesAt, Reaching.{IsReached, ShowsBlocks}}
 use Rattle.fst_heads.proofs.{Graded.{on_to}, Leading.one_block}
-use Rattle.fst_walks.specs.{BothEnds.{StepsDown}, Descending.IsLedFrom, Needing.{AreNeeded, IsHardAt, IsStoodFor}}
+use Rattle.fst_walks.specs.{BothEnds.{CrossesDown}, Descending.IsLedFrom, Needing.{AreNeeded, IsHardAt, IsStoodFor}}
 use Rattle.fst_walks.proofs.{ComesBack.{live_number, live_on}}
 use Rattle.fst_types.specs.declared.place.Place.TheVariants as place
 use Rattle.fst_heads.specs.declared.test.Test.TheVariants as test
@@ -21,6 +21,10 @@ pub record CrossesToHard (patches : List Patch) (crossed : List Bool) (p q : ℕ
 -- a step down: to a direct dependency that is not on disk, or across a block
 abbrev pub StepsWhole : List Patch → List Bool → ℕ → ℕ → Type 0
 StepsWhole patches crossed p q = (DirectlyOn patches p q × IsLiveNumber patches q) ⊎ CrossesToHard patches crossed p q
+
+-- a step down, however low it leads: to a direct dependency that is not on disk, or across a block to what this needs
+abbrev pub StepsDown : List Patch → (ℕ → List ℕ) → List Bool → ℕ → ℕ → Type 0
+StepsDown patches needs crossed p q = (DirectlyOn patches p q × IsLiveNumber patches q) ⊎ CrossesDown patches needs crossed p q
 
 module _ (patches : List Patch) (rising : IsRising patches) (flights : FlightsStandAlone patches) (needs : ℕ → List ℕ) (needed : AreNeeded patches needs)
     (b : ℕ) (crossed : List Bool) (shown : ShowsBlocks crossed (λ c. c ≡ b)) where

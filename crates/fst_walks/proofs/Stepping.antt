@@ -1,9 +1,9 @@
 -- One step more of a walk that crosses blocks: what is near the one that is next and what is across its block, told at once.
 use Rattle.std.proofs.Common.{◌<◌, ◌≤◌, ◌+◌, ◌⊎◌, ℕ, Bool, false, List, length, get_or, Contains, sym, subst, ◌∙◌, inl, inr}
 use Rattle.std.proofs.lemmas.{Bool.{cases_Bool, false≢true}, List.Elements.Contains-append_left}
-use Rattle.fst_types.specs.{Dependencies.{DirectlyOn, IsLiveNumber}, Patches.Patch}
+use Rattle.fst_types.specs.{Dependencies.DirectlyOn, Patches.Patch}
 use Rattle.fst_heads.specs.{Grading.IsHardNumber, Marks.PassesAt, Reaching.IsReached}
-use Rattle.fst_walks.specs.{BothEnds.{CrossesDown, IsLow, IsLowChange, IsNeed, ShowsBlockUnder, StepsDown, StepsLow}, Descending.Visits, WayBack.{Crosses, ShowsBlockOf}}
+use Rattle.fst_walks.specs.{BothEnds.{CrossesDown, IsHigh, IsHighNeed, IsLow, IsLowChange, ShowsBlockUnder, StepsHigh, StepsLow}, Descending.Visits, WayBack.{Crosses, ShowsBlockOf}}
 use Rattle.fst_walks.proofs.{Ascended.{Walking, climbing_more}, Visiting.visits_old}
 use Rattle.fst_heads.specs.declared.test.Test.TheVariants as test
 
@@ -64,12 +64,12 @@ module _ (patches : List Patch) (level : ℕ → ℕ) (most : ℕ) (crossed : Li
       (λ old p q k. (k.0.block, k.0.hard, k.0.fresh, (k.0.change, k.1)))
       crossed start at now after queue new inside x v shown.kept shown.only
 
--- a step down
-module _ (patches : List Patch) (needs : ℕ → List ℕ) (crossed : List Bool) (start : List ℕ) (at : ℕ) (now after : List Bool) (queue new : List ℕ) (inside : at < length queue) where
-  pub down_step : Walking (StepsDown patches needs crossed) (IsNeed patches needs) crossed start at now queue → Visits (StepsDown patches needs now (get_or queue at 0)) queue new → ShowsBlockUnder patches (get_or queue at 0) now after
-      → Walking (StepsDown patches needs crossed) (IsNeed patches needs) crossed start (at + 1) after new
-  down_step x v shown =
-      walking_step (λ p q. DirectlyOn patches p q × IsLiveNumber patches q) (λ b p. PassesAt (test.LiveOn b) patches p) (IsNeed patches needs) (CrossesDown patches needs)
-      (λ old p q c change fresh need. record { block = c; change = change; fresh = fresh; need = need })
-      (λ old p q k. (k.block, k.change, k.fresh, k.need))
+-- a step down through what is high
+module _ (patches : List Patch) (level : ℕ → ℕ) (least : ℕ) (needs : ℕ → List ℕ) (crossed : List Bool) (start : List ℕ) (at : ℕ) (now after : List Bool) (queue new : List ℕ) (inside : at < length queue) where
+  pub high_step : Walking (StepsHigh patches level least needs crossed) (IsHighNeed patches level least needs) crossed start at now queue → Visits (StepsHigh patches level least needs now (get_or queue at 0)) queue new → ShowsBlockUnder patches (get_or queue at 0) now after
+      → Walking (StepsHigh patches level least needs crossed) (IsHighNeed patches level least needs) crossed start (at + 1) after new
+  high_step x v shown =
+      walking_step (λ p q. DirectlyOn patches p q × IsHigh patches level least q) (λ b p. PassesAt (test.LiveOn b) patches p) (IsHighNeed patches level least needs) (λ old p q. CrossesDown patches needs old p q × (least ≤ level q))
+      (λ old p q c change fresh need. (record { block = c; change = change; fresh = fresh; need = need.0 }, need.1))
+      (λ old p q k. (k.0.block, k.0.change, k.0.fresh, (k.0.need, k.1)))
       crossed start at now after queue new inside x v shown.kept shown.only

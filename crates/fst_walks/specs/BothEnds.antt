@@ -1,4 +1,4 @@
--- A way back to a block, looked for from both its ends: down from the first changes of other blocks that are at or below the row, and up from the changes of the block, through what is no higher than those.
+-- A way back to a block, looked for from both its ends: down from the first changes of other blocks that are at or below the row, and up from the changes of the block, through what is no higher than those and no lower than the floor of the block.
 use Rattle.std.specs.Prelude.{◌≡◌, ◌≤◌, ◌⊎◌, ℕ, Bool, List, length, Contains}
 use Rattle.fst_types.specs.{Closure.Closure, Dependencies.{DirectlyOn, IsLiveNumber}, Patches.{Patch, IsLive}}
 use Rattle.fst_heads.specs.{Grading.IsHardNumber, Marks.PassesAt, Reaching.IsReached, declared.head.Head.Head}
@@ -33,18 +33,26 @@ pub record CrossesDown (patches : List Patch) (needs : ℕ → List ℕ) (crosse
   pub fresh : IsReached crossed block → ⊥
   pub need : IsNeed patches needs block q
 
--- a step of the walk down: to a direct dependency that is not on disk, or across a block to what this needs
-abbrev pub StepsDown : List Patch → (ℕ → List ℕ) → List Bool → ℕ → ℕ → Type 0
-StepsDown patches needs crossed p q = (DirectlyOn patches p q × IsLiveNumber patches q) ⊎ CrossesDown patches needs crossed p q
+-- n is not on disk, and no lower than `least`
+abbrev pub IsHigh : List Patch → (ℕ → ℕ) → ℕ → ℕ → Type 0
+IsHigh patches level least n = IsLiveNumber patches n × (least ≤ level n)
+
+-- n is a need of block c, and no lower than `least`
+abbrev pub IsHighNeed : List Patch → (ℕ → ℕ) → ℕ → (ℕ → List ℕ) → ℕ → ℕ → Type 0
+IsHighNeed patches level least needs c n = IsNeed patches needs c n × (least ≤ level n)
+
+-- a step of the walk down, to what is no lower than `least`: to a direct dependency, or across a block to what this needs
+abbrev pub StepsHigh : List Patch → (ℕ → ℕ) → ℕ → (ℕ → List ℕ) → List Bool → ℕ → ℕ → Type 0
+StepsHigh patches level least needs crossed p q = (DirectlyOn patches p q × IsHigh patches level least q) ⊎ (CrossesDown patches needs crossed p q × (least ≤ level q))
 
 -- none of them is a change of b that is not on disk
 abbrev pub IsAwayFrom : List Patch → ℕ → List ℕ → Type 0
 IsAwayFrom patches b met = (n : ℕ) → Contains met n → PassesAt (test.LiveOn b) patches n → ⊥
 
 -- steps down lead from one of the tops to a change of b that is not on disk
-pub record ComesTo (patches : List Patch) (needs : ℕ → List ℕ) (crossed : List Bool) (b : ℕ) (tops : List ℕ) : Type 0 where
+pub record ComesTo (patches : List Patch) (level : ℕ → ℕ) (least : ℕ) (needs : ℕ → List ℕ) (crossed : List Bool) (b : ℕ) (tops : List ℕ) : Type 0 where
   pub at : ℕ
-  pub under : IsLedFrom (StepsDown patches needs crossed) tops at
+  pub under : IsLedFrom (StepsHigh patches level least needs crossed) tops at
   pub change : PassesAt (test.LiveOn b) patches at
 
 -- the block of the change with number n, which is not on disk, is shown besides
@@ -79,14 +87,14 @@ abbrev pub AreApart : List ℕ → List ℕ → Type 0
 AreApart over under = (n : ℕ) → Contains over n → Contains under n → ⊥
 
 -- from where they start, the two walks lead to the same
-pub record LeadTogether (patches : List Patch) (level : ℕ → ℕ) (needs : ℕ → List ℕ) (most : ℕ) (up down : List Bool) (bottoms tops : List ℕ) : Type 0 where
+pub record LeadTogether (patches : List Patch) (level : ℕ → ℕ) (needs : ℕ → List ℕ) (most least : ℕ) (up down : List Bool) (bottoms tops : List ℕ) : Type 0 where
   pub at : ℕ
   pub over : IsLedFrom (StepsLow patches level most up) bottoms at
-  pub under : IsLedFrom (StepsDown patches needs down) tops at
+  pub under : IsLedFrom (StepsHigh patches level least needs down) tops at
 
 -- one of the two walks has met all that it leads to, and nothing was met by both
-pub record EndApart (patches : List Patch) (level : ℕ → ℕ) (needs : ℕ → List ℕ) (most : ℕ) (up down : List Bool) (bottoms tops over under : List ℕ) : Type 0 where
+pub record EndApart (patches : List Patch) (level : ℕ → ℕ) (needs : ℕ → List ℕ) (most least : ℕ) (up down : List Bool) (bottoms tops over under : List ℕ) : Type 0 where
   pub over_begun : (n : ℕ) → Contains bottoms n → Contains over n
   pub under_begun : (n : ℕ) → Contains tops n → Contains under n
   pub apart : AreApart over under
-  pub ended : ((n : ℕ) → IsLedFrom (StepsLow patches level most up) bottoms n → Contains over n) ⊎ ((n : ℕ) → IsLedFrom (StepsDown patches needs down) tops n → Contains under n)
+  pub ended : ((n : ℕ) → IsLedFrom (StepsLow patches level most up) bottoms n → Contains over n) ⊎ ((n : ℕ) → IsLedFrom (StepsHigh patches level least needs down) tops n → Contains under n)

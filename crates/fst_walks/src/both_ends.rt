@@ -7,7 +7,7 @@ ghost use Rattle.std.specs.Prelude.{◌≡◌, ◌≤◌, ◌<◌, ℕ, false, l
 ghost use Rattle.fst_types.specs.Grades.{FollowsRule};
 ghost use Rattle.fst_heads.specs.Grading.{LeadsNowhere};
 ghost use Rattle.fst_heads.specs.Heads.{IsRising, patches_of};
-ghost use Rattle.fst_walks.specs.BothEnds.{AreApart, EndApart, IsOver, LeadTogether, ShowsBlockUnder, StepsDown, StepsLow};
+ghost use Rattle.fst_walks.specs.BothEnds.{AreApart, EndApart, IsOver, LeadTogether, ShowsBlockUnder, StepsHigh, StepsLow};
 ghost use Rattle.fst_walks.specs.Descending.{Visited, Visits};
 ghost use Rattle.fst_walks.specs.Leveling.{level_of};
 ghost use Rattle.fst_walks.specs.Needing.{needs_of};
@@ -83,7 +83,7 @@ fn turn_up(sight: &Sight<'_>, ends: &mut Ends, at: usize, most: u32, looked: &mu
 }
 
 // A step of the walk down from what it met there in turn. Answers whether it met what the walk up has.
-fn turn_down(sight: &Sight<'_>, ends: &mut Ends, at: usize, looked: &mut Looked) -> bool
+fn turn_down(sight: &Sight<'_>, ends: &mut Ends, at: usize, least: u32, looked: &mut Looked) -> bool
     requires sees { Sees sight.now }
     requires down { IsOver sight.now.heads.now (length sight.now.lists.now) ends.old.down }
     requires visited_up { Visited sight.now.heads.now ends.old.up.walk }
@@ -92,20 +92,27 @@ fn turn_down(sight: &Sight<'_>, ends: &mut Ends, at: usize, looked: &mut Looked)
     requires at { at < length ends.old.down.walk.met }
     ensures down { IsOver sight.now.heads.now (length sight.now.lists.now) ends.new.down }
     ensures visited { Visited sight.now.heads.now ends.new.down.walk }
-    ensures visits { Visits (StepsDown (patches_of sight.now.heads.now) (needs_of sight.now.needs.now.lists) ends.old.down.crossed.items (slice_index_or (numbers_met sight.now.heads.now ends.old.down.walk) at 0)) (numbers_met sight.now.heads.now ends.old.down.walk) (numbers_met sight.now.heads.now ends.new.down.walk) }
+    ensures visits { Visits (StepsHigh (patches_of sight.now.heads.now) (level_of sight.now.levels.now.ranks) least (needs_of sight.now.needs.now.lists) ends.old.down.crossed.items (slice_index_or (numbers_met sight.now.heads.now ends.old.down.walk) at 0)) (numbers_met sight.now.heads.now ends.old.down.walk) (numbers_met sight.now.heads.now ends.new.down.walk) }
     ensures crossed { ShowsBlockUnder (patches_of sight.now.heads.now) (slice_index_or (numbers_met sight.now.heads.now ends.old.down.walk) at 0) ends.old.down.crossed.items ends.new.down.crossed.items }
     ensures up { ends.new.up ≡ ends.old.up }
     ensures met { IsTrue result → (n : ℕ) × Contains (numbers_met sight.now.heads.now ends.old.up.walk) n × Contains (numbers_met sight.now.heads.now ends.new.down.walk) n }
     ensures apart { result ≡ false → AreApart (numbers_met sight.now.heads.now ends.old.up.walk) (numbers_met sight.now.heads.now ends.new.down.walk) }
 {
     let from = ends.down.walk.len();
-    let more = step_down(sight, &mut ends.down.walk, &mut ends.down.crossed, at);
+    let more = step_down(
+        sight,
+        &mut ends.down.walk,
+        &mut ends.down.crossed,
+        at,
+        least,
+    );
     looked.down = looked.down.saturating_add(more);
     meets(sight.heads, &ends.down.walk, &ends.up.walk, from)
 }
 
-// Takes steps by turns until one walk has met what the other has, which it answers, or one is at its end.
-fn meet_between(sight: &Sight<'_>, ends: &mut Ends, level: u32, begun: Looked) -> bool
+// Takes steps by turns, through what is no higher than `most` and no lower than `least`, until one walk has met what the
+// other has, which it answers, or one is at its end.
+fn meet_between(sight: &Sight<'_>, ends: &mut Ends, most: u32, least: u32, begun: Looked) -> bool
     requires sees { Sees sight.now }
     requires up { IsOver sight.now.heads.now (length sight.now.lists.now) ends.old.up }
     requires down { IsOver sight.now.heads.now (length sight.now.lists.now) ends.old.down }
@@ -114,20 +121,20 @@ fn meet_between(sight: &Sight<'_>, ends: &mut Ends, level: u32, begun: Looked) -
     requires apart { AreApart (numbers_met sight.now.heads.now ends.old.up.walk) (numbers_met sight.now.heads.now ends.old.down.walk) }
     ensures up { IsOver sight.now.heads.now (length sight.now.lists.now) ends.new.up }
     ensures down { IsOver sight.now.heads.now (length sight.now.lists.now) ends.new.down }
-    ensures together { IsTrue result → LeadTogether (patches_of sight.now.heads.now) (level_of sight.now.levels.now.ranks) (needs_of sight.now.needs.now.lists) level ends.old.up.crossed.items ends.old.down.crossed.items (numbers_met sight.now.heads.now ends.old.up.walk) (numbers_met sight.now.heads.now ends.old.down.walk) }
-    ensures apart { result ≡ false → EndApart (patches_of sight.now.heads.now) (level_of sight.now.levels.now.ranks) (needs_of sight.now.needs.now.lists) level ends.old.up.crossed.items ends.old.down.crossed.items (numbers_met sight.now.heads.now ends.old.up.walk) (numbers_met sight.now.heads.now ends.old.down.walk) (numbers_met sight.now.heads.now ends.new.up.walk) (numbers_met sight.now.heads.now ends.new.down.walk) }
+    ensures together { IsTrue result → LeadTogether (patches_of sight.now.heads.now) (level_of sight.now.levels.now.ranks) (needs_of sight.now.needs.now.lists) most least ends.old.up.crossed.items ends.old.down.crossed.items (numbers_met sight.now.heads.now ends.old.up.walk) (numbers_met sight.now.heads.now ends.old.down.walk) }
+    ensures apart { result ≡ false → EndApart (patches_of sight.now.heads.now) (level_of sight.now.levels.now.ranks) (needs_of sight.now.needs.now.lists) most least ends.old.up.crossed.items ends.old.down.crossed.items (numbers_met sight.now.heads.now ends.old.up.walk) (numbers_met sight.now.heads.now ends.old.down.walk) (numbers_met sight.now.heads.now ends.new.up.walk) (numbers_met sight.now.heads.now ends.new.down.walk) }
 {
     let mut looked = begun;
     let mut up_at = 0;
     let mut down_at = 0;
     while up_at < ends.up.walk.len() && down_at < ends.down.walk.len() {
         if looked.up <= looked.down {
-            if turn_up(sight, ends, up_at, level, &mut looked) {
+            if turn_up(sight, ends, up_at, most, &mut looked) {
                 return true;
             }
             up_at += 1;
         } else {
-            if turn_down(sight, ends, down_at, &mut looked) {
+            if turn_down(sight, ends, down_at, least, &mut looked) {
                 return true;
             }
             down_at += 1;
@@ -152,12 +159,13 @@ pub fn grade_between(sight: &Sight<'_>, ends: &mut Ends, block: u32, row: &[u32]
     if ends.down.walk.len() == 0 {
         return Grade::Hard;
     }
-    // No way up falls, so none to what is met now goes through what is higher.
-    let level = highest(sight, &ends.down.walk);
+    // No way up falls, so none to what is met now goes through what is higher, nor through what is lower than the floor.
+    let most = highest(sight, &ends.down.walk);
+    let least = sight.levels.floor(block);
     ends.up.cross_only(block);
     ends.up.walk.clear();
-    let up = visit_low_changes(sight, &mut ends.up.walk, block, level);
-    match meet_between(sight, ends, level, Looked { up, down }) {
+    let up = visit_low_changes(sight, &mut ends.up.walk, block, most);
+    match meet_between(sight, ends, most, least, Looked { up, down }) {
         true => Grade::Soft,
         false => Grade::Hard,
     }

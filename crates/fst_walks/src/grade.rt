@@ -42,11 +42,11 @@ fn grade_by_ways(sight: &Sight<'_>, ends: &mut Ends, block: u32, row: &[u32]) ->
     if leads_along_strand(sight, block, row) {
         return Grade::Soft;
     }
-    if comes_back(sight, block, row) {
-        return Grade::Soft;
-    }
     if let Some(grade) = grade_below(sight, &mut ends.down, block, row) {
         return grade;
+    }
+    if comes_back(sight, block, row) {
+        return Grade::Soft;
     }
     grade_between(sight, ends, block, row)
 }

@@ -1,21 +1,68 @@
 //! A step of the walk down, from what may keep a new change where it is, to all that this may wait for: from a patch to
 //! what it directly depends on, and from a change to what its block needs, without which the block is not written. Each
-//! block is crossed once.
+//! block is crossed once. No way down rises, so what is lower than what the walk looks for is left out.
 
-ghost use Rattle.std.specs.Prelude.{◌≡◌, ◌<◌, length, slice_index_or};
+ghost use Rattle.std.specs.Prelude.{◌≡◌, ◌<◌, ◌≤◌, length, slice_index_or, Contains};
 ghost use Rattle.fst_types.specs.Dependencies.{IsLiveNumber};
 ghost use Rattle.fst_heads.specs.Heads.{patches_of};
 ghost use Rattle.fst_heads.specs.Marks.{HasSlot};
-ghost use Rattle.fst_walks.specs.BothEnds.{CrossesDown, ShowsBlockUnder, StepsDown};
+ghost use Rattle.fst_walks.specs.BothEnds.{CrossesDown, IsHigh, IsHighNeed, ShowsBlockUnder, StepsHigh};
 ghost use Rattle.fst_walks.specs.Descending.{Visited, Visits};
+ghost use Rattle.fst_walks.specs.Leveling.{level_of};
 ghost use Rattle.fst_walks.specs.Needing.{needs_of};
 ghost use Rattle.fst_walks.specs.Sights.{Sees};
 ghost use Rattle.fst_walks.specs.Walks.{numbers_met};
 
-use crate::descent::visit_row;
 use crate::sight::Sight;
 use crate::walk::Walk;
 use fst_heads::head::Kind;
+use fst_heads::test::is_live;
+
+// Visits the patch with the number, unless it is on disk, lower than `least` or was visited before. It looks at the head
+// only where that is high enough.
+fn visit_high(sight: &Sight<'_>, walk: &mut Walk, number: u32, least: u32)
+    requires sees { Sees sight.now }
+    requires visited { Visited sight.now.heads.now walk.old }
+    ensures visited { Visited sight.now.heads.now walk.new }
+    ensures visits { Visits (λ n. (n ≡ number) × IsHigh (patches_of sight.now.heads.now) (level_of sight.now.levels.now.ranks) least n) (numbers_met sight.now.heads.now walk.old) (numbers_met sight.now.heads.now walk.new) }
+{
+    if let Some(slot) = sight.levels.find(sight.heads, number) {
+        if sight.levels.level(slot) >= least {
+            if is_live(sight.heads[slot].place) {
+                walk.meet(slot);
+            }
+        }
+    }
+}
+
+// Visits what is not on disk of the row, as far as it is no lower than `least`.
+fn visit_high_row(sight: &Sight<'_>, walk: &mut Walk, row: &[u32], least: u32)
+    requires sees { Sees sight.now }
+    requires visited { Visited sight.now.heads.now walk.old }
+    ensures visited { Visited sight.now.heads.now walk.new }
+    ensures visits { Visits (λ n. Contains row.now n × IsHigh (patches_of sight.now.heads.now) (level_of sight.now.levels.now.ranks) least n) (numbers_met sight.now.heads.now walk.old) (numbers_met sight.now.heads.now walk.new) }
+{
+    for number in row {
+        visit_high(sight, walk, *number, least);
+    }
+}
+
+// Visits what the block needs, as far as it is no lower than `least`. Answers how many patches it looked at.
+fn visit_high_needs(sight: &Sight<'_>, walk: &mut Walk, block: u32, least: u32) -> usize
+    requires sees { Sees sight.now }
+    requires visited { Visited sight.now.heads.now walk.old }
+    requires block { block < length sight.now.lists.now }
+    ensures visited { Visited sight.now.heads.now walk.new }
+    ensures visits { Visits (IsHighNeed (patches_of sight.now.heads.now) (level_of sight.now.levels.now.ranks) least (needs_of sight.now.needs.now.lists) block) (numbers_met sight.now.heads.now walk.old) (numbers_met sight.now.heads.now walk.new) }
+{
+    // None is higher than the floor of the block.
+    if sight.levels.floor(block) < least {
+        return 0;
+    }
+    let row = sight.needs.of(block);
+    visit_high_row(sight, walk, row, least);
+    row.len()
+}
 
 // From the patch with the number, if it is a change, across its block, unless that was crossed before. Answers how many
 // patches it looked at.
@@ -25,6 +72,7 @@ fn cross(
     crossed: &mut [bool],
     slot: usize,
     number: u32,
+    least: u32,
 ) -> usize
     requires sees { Sees sight.now }
     requires crossed { length crossed.old ≡ length sight.now.lists.now }
@@ -32,34 +80,39 @@ fn cross(
     requires slot { HasSlot sight.now.heads.now number slot }
     requires live { IsLiveNumber (patches_of sight.now.heads.now) number }
     ensures visited { Visited sight.now.heads.now walk.new }
-    ensures visits { Visits (CrossesDown (patches_of sight.now.heads.now) (needs_of sight.now.needs.now.lists) crossed.old number) (numbers_met sight.now.heads.now walk.old) (numbers_met sight.now.heads.now walk.new) }
+    ensures visits { Visits (λ q. CrossesDown (patches_of sight.now.heads.now) (needs_of sight.now.needs.now.lists) crossed.old number q × (least ≤ level_of sight.now.levels.now.ranks q)) (numbers_met sight.now.heads.now walk.old) (numbers_met sight.now.heads.now walk.new) }
     ensures crossed { ShowsBlockUnder (patches_of sight.now.heads.now) number crossed.old crossed.new }
 {
     if let Kind::Change(block, _, _) = sight.heads[slot].kind {
         if !crossed[block as usize] {
             crossed[block as usize] = true;
-            let row = sight.needs.of(block);
-            visit_row(sight.heads, walk, row);
-            return row.len();
+            return visit_high_needs(sight, walk, block, least);
         }
     }
     0
 }
 
-/// Visits what a step leads down to from the patch that was met there in turn. Answers how many patches it looked at.
-pub fn step_down(sight: &Sight<'_>, walk: &mut Walk, crossed: &mut [bool], at: usize) -> usize
+/// Visits what a step leads down to from the patch that was met there in turn, as far as it is no lower than `least`. Answers
+/// how many patches it looked at.
+pub fn step_down(
+    sight: &Sight<'_>,
+    walk: &mut Walk,
+    crossed: &mut [bool],
+    at: usize,
+    least: u32,
+) -> usize
     requires sees { Sees sight.now }
     requires crossed { length crossed.old ≡ length sight.now.lists.now }
     requires visited { Visited sight.now.heads.now walk.old }
     requires at { at < length walk.old.met }
     ensures visited { Visited sight.now.heads.now walk.new }
-    ensures visits { Visits (StepsDown (patches_of sight.now.heads.now) (needs_of sight.now.needs.now.lists) crossed.old (slice_index_or (numbers_met sight.now.heads.now walk.old) at 0)) (numbers_met sight.now.heads.now walk.old) (numbers_met sight.now.heads.now walk.new) }
+    ensures visits { Visits (StepsHigh (patches_of sight.now.heads.now) (level_of sight.now.levels.now.ranks) least (needs_of sight.now.needs.now.lists) crossed.old (slice_index_or (numbers_met sight.now.heads.now walk.old) at 0)) (numbers_met sight.now.heads.now walk.old) (numbers_met sight.now.heads.now walk.new) }
     ensures crossed { ShowsBlockUnder (patches_of sight.now.heads.now) (slice_index_or (numbers_met sight.now.heads.now walk.old) at 0) crossed.old crossed.new }
 {
     let slot = walk.slot(at);
     let head = &sight.heads[slot];
     let below = head.dependencies.as_slice();
-    visit_row(sight.heads, walk, below);
-    let across = cross(sight, walk, crossed, slot, head.number);
+    visit_high_row(sight, walk, below, least);
+    let across = cross(sight, walk, crossed, slot, head.number, least);
     below.len().saturating_add(across)
 }

@@ -1,8 +1,8 @@
-use Rattle.std.proofs.Common.{◌∙◌, sym}
+use Rattle.std.proofs.Common.{◌∙◌, sym, arith}
 use Rattle.std.proofs.lemmas.Bool.{false≢true}
 use Rattle.fst_heads.specs.Heads.{patches_of}
 use Rattle.fst_heads.proofs.Listing.{rising_patches}
-use Rattle.fst_walks.specs.{Needing.needs_of, Walks.numbers_met}
+use Rattle.fst_walks.specs.{Leveling.{floor_of, level_of}, Needing.needs_of, Walks.numbers_met}
 use Rattle.fst_walks.proofs.Meeting.{comes_hard, comes_soft, off_not_on}
 use Rattle.fst_walks.proofs.below.grade_below.Goals as goal
 
@@ -17,7 +17,8 @@ returns-in-true-clause-graded c =
     let sees = c.requires.sees in
     let crossed = c.cross_only.new.self.crossed.items in
     let shown = c.cross_only.ensures.shown in
-    comes_soft sight.heads.now sees.rising sees.disk sees.hard sees.flights (needs_of sight.needs.now.lists) sees.needing.needed c.args.block c.args.row.now crossed crossed shown shown
+    comes_soft sight.heads.now sees.rising sees.disk sees.hard sees.flights (level_of sight.levels.now.ranks) (floor_of sight.levels.now.floors) sees.leveled.leveled (needs_of sight.needs.now.lists) sees.needing.needed
+    c.args.block c.floor-least.result (omega (arith, c.floor-least.ensures)) c.args.row.now crossed crossed shown shown
     (numbers_met sight.heads.now c.visit_first_away.new.walk) c.visit_first_away.ensures.first (c.in_ok-descend.ensures.met.0 c.in-true.is)
 
 pub returns-in-false-clause-graded : goal.returns-in-false-clause-graded
@@ -26,5 +27,6 @@ returns-in-false-clause-graded c =
     let sees = c.requires.sees in
     let crossed = c.cross_only.new.self.crossed.items in
     let shown = c.cross_only.ensures.shown in
-    comes_hard sight.heads.now sees.rising sees.disk sees.hard sees.flights (needs_of sight.needs.now.lists) sees.needing.needed c.args.block c.args.row.now crossed crossed shown shown
+    comes_hard sight.heads.now sees.rising sees.disk sees.hard sees.flights (level_of sight.levels.now.ranks) (floor_of sight.levels.now.floors) sees.leveled.leveled (needs_of sight.needs.now.lists) sees.needing.needed
+    c.args.block c.floor-least.result (omega (arith, c.floor-least.ensures)) c.args.row.now crossed crossed shown shown
     (numbers_met sight.heads.now c.visit_first_away.new.walk) c.visit_first_away.ensures.first (λ x. false≢true (sym c.in-false.is ∙ c.in_ok-descend.ensures.met.1 x))

@@ -1,7 +1,7 @@
 use Rattle.std.proofs.Common.{get_or, subst, arith}
 use Rattle.fst_heads.specs.{Heads.patches_of, Marks.PassesAt}
 use Rattle.fst_heads.specs.declared.test.Test.TheVariants as test
-use Rattle.fst_walks.specs.{BothEnds.StepsDown, Descending.Visits, Needing.needs_of, Walks.numbers_met}
+use Rattle.fst_walks.specs.{BothEnds.StepsHigh, Descending.Visits, Leveling.level_of, Needing.needs_of, Walks.numbers_met}
 use Rattle.fst_walks.proofs.Visiting.{long_met, still_apart}
 use Rattle.fst_walks.proofs.below.turn.Goals as goal
 
@@ -12,6 +12,6 @@ returns-clause-away c none =
     let down = c.args.down.now in
     let old = numbers_met heads down.walk in
     let new = numbers_met heads c.step_down-looked.new.walk in
-    still_apart (StepsDown (patches_of heads) (needs_of sight.needs.now.lists) down.crossed.items (get_or old c.args.at 0)) (PassesAt (test.LiveOn c.args.block) (patches_of heads)) old new c.len-from.result
-    (subst (λ shown. Visits (StepsDown (patches_of heads) (needs_of sight.needs.now.lists) shown (get_or old c.args.at 0)) old new) c.deref_mut.ensures.value c.step_down-looked.ensures.visits)
+    still_apart (StepsHigh (patches_of heads) (level_of sight.levels.now.ranks) c.args.least (needs_of sight.needs.now.lists) down.crossed.items (get_or old c.args.at 0)) (PassesAt (test.LiveOn c.args.block) (patches_of heads)) old new c.len-from.result
+    (subst (λ shown. Visits (StepsHigh (patches_of heads) (level_of sight.levels.now.ranks) c.args.least (needs_of sight.needs.now.lists) shown (get_or old c.args.at 0)) old new) c.deref_mut.ensures.value c.step_down-looked.ensures.visits)
     (omega (arith, c.len-from.ensures.long, long_met heads down.walk)) c.requires.away (λ at past lt there. c.meets_change.ensures.none none at past (omega (arith, lt, long_met heads c.step_down-looked.new.walk)) there)

@@ -7,15 +7,15 @@ use Rattle.fst_walks.proofs.both_ends.grade_between.Goals as goal
 
 -- the two walks start as they should
 starts : (c : After-visit_low_changes-up)
-    → AreEnds (patches_of c.args.sight.now.heads.now) (level_of c.args.sight.now.levels.now.ranks) c.highest-level.result c.args.block c.args.row.now c.cross_only-2.new.self.crossed.items c.cross_only.new.self.crossed.items
+    → AreEnds (patches_of c.args.sight.now.heads.now) (level_of c.args.sight.now.levels.now.ranks) c.highest-most.result c.args.block c.args.row.now c.cross_only-2.new.self.crossed.items c.cross_only.new.self.crossed.items
     (numbers_met c.args.sight.now.heads.now c.visit_low_changes-up.new.walk) (numbers_met c.args.sight.now.heads.now c.visit_first_away-down.new.walk)
 starts c =
     let sight = c.args.sight.now in
     let heads = sight.heads.now in
     let bottoms = numbers_met heads c.visit_low_changes-up.new.walk in
-    let low = IsLowChange (patches_of heads) (level_of sight.levels.now.ranks) c.highest-level.result c.args.block in
+    let low = IsLowChange (patches_of heads) (level_of sight.levels.now.ranks) c.highest-most.result c.args.block in
     record {
-      low = c.highest-level.ensures;
+      low = c.highest-most.ensures;
       shows_up = c.cross_only-2.ensures.shown;
       shows_down = c.cross_only.ensures.shown;
       changes = visited_all low bottoms (subst (λ q. Visits low q bottoms) (none_met heads c.clear.new.self c.clear.ensures.met) c.visit_low_changes-up.ensures.visits);
@@ -27,21 +27,21 @@ meet_between-requires-clause-apart c =
     let sight = c.args.sight.now in
     let sees = c.requires.sees in
     begin_apart sight.heads.now sees.rising sees.disk sees.hard sees.flights (level_of sight.levels.now.ranks) (floor_of sight.levels.now.floors) sees.leveled.leveled (needs_of sight.needs.now.lists) sees.needing.needed
-    c.highest-level.result c.args.block c.args.row.now _ _ _ _ (starts (goal.at.meet_between-requires-clause-apart c).After-visit_low_changes-up)
+    c.highest-most.result c.floor-least.result c.args.block (omega (arith, c.floor-least.ensures)) c.args.row.now _ _ _ _ (starts (goal.at.meet_between-requires-clause-apart c).After-visit_low_changes-up)
 
 pub returns-in-true-clause-graded : goal.returns-in-true-clause-graded
 returns-in-true-clause-graded c =
     let sight = c.args.sight.now in
     let sees = c.requires.sees in
     together_soft sight.heads.now sees.rising sees.disk sees.hard sees.flights (level_of sight.levels.now.ranks) (floor_of sight.levels.now.floors) sees.leveled.leveled (needs_of sight.needs.now.lists) sees.needing.needed
-    c.highest-level.result c.args.block c.args.row.now _ _ _ _ (starts (goal.at.returns-in-true-clause-graded c).After-visit_low_changes-up) (c.meet_between.ensures.together c.in-true.is)
+    c.highest-most.result c.floor-least.result c.args.block (omega (arith, c.floor-least.ensures)) c.args.row.now _ _ _ _ (starts (goal.at.returns-in-true-clause-graded c).After-visit_low_changes-up) (c.meet_between.ensures.together c.in-true.is)
 
 pub returns-in-false-clause-graded : goal.returns-in-false-clause-graded
 returns-in-false-clause-graded c =
     let sight = c.args.sight.now in
     let sees = c.requires.sees in
     apart_hard sight.heads.now sees.rising sees.disk sees.hard sees.flights (level_of sight.levels.now.ranks) (floor_of sight.levels.now.floors) sees.leveled.leveled (needs_of sight.needs.now.lists) sees.needing.needed
-    c.highest-level.result c.args.block c.args.row.now _ _ _ _ (starts (goal.at.returns-in-false-clause-graded c).After-visit_low_changes-up)
+    c.highest-most.result c.floor-least.result c.args.block (omega (arith, c.floor-least.ensures)) c.args.row.now _ _ _ _ (starts (goal.at.returns-in-false-clause-graded c).After-visit_low_changes-up)
     (numbers_met sight.heads.now c.meet_between.new.ends.up.walk) (numbers_met sight.heads.now c.meet_between.new.ends.down.walk) (c.meet_between.ensures.apart c.in-false.is)
 
 -- there is nothing that could lead back

@@ -1,7 +1,7 @@
 use Rattle.std.proofs.Common.{◌<◌, length, inl, inr, arith}
 use Rattle.fst_heads.specs.{Heads.patches_of}
-use Rattle.fst_walks.specs.{BothEnds.{IsLowChange, IsNeed, StepsDown, StepsLow}, Leveling.level_of, Needing.needs_of, Walks.numbers_met}
-use Rattle.fst_walks.proofs.{Ascended.climbing_all, Stepping.{down_step, low_step, walking_kept}, Visiting.long_met}
+use Rattle.fst_walks.specs.{BothEnds.{IsHighNeed, IsLowChange, StepsHigh, StepsLow}, Leveling.level_of, Needing.needs_of, Walks.numbers_met}
+use Rattle.fst_walks.proofs.{Ascended.climbing_all, Stepping.{high_step, low_step, walking_kept}, Visiting.long_met}
 use Rattle.fst_walks.proofs.both_ends.meet_between.Goals as goal
 
 pub returns-then-turn_up-clause-together : goal.returns-then-turn_up-clause-together
@@ -12,7 +12,7 @@ returns-then-turn_up-clause-together c e =
     let ends = c.loop-up_at.ends in
     let inside : c.loop-up_at.up_at < length (numbers_met heads ends.up.walk) = omega (arith, c.loop-up_at-test.true, c.len.ensures.long, long_met heads ends.up.walk) in
     let met = c.turn_up.ensures.met c.if-turn_up.true in
-    let climbs = low_step (patches_of heads) (level_of sight.levels.now.ranks) c.args.level begun.up.crossed.items (numbers_met heads begun.up.walk) c.loop-up_at.up_at ends.up.crossed.items c.turn_up.new.ends.up.crossed.items (numbers_met heads ends.up.walk) (numbers_met heads c.turn_up.new.ends.up.walk) inside c.loop-up_at.invariant.climbs c.turn_up.ensures.visits c.turn_up.ensures.crossed in
+    let climbs = low_step (patches_of heads) (level_of sight.levels.now.ranks) c.args.most begun.up.crossed.items (numbers_met heads begun.up.walk) c.loop-up_at.up_at ends.up.crossed.items c.turn_up.new.ends.up.crossed.items (numbers_met heads ends.up.walk) (numbers_met heads c.turn_up.new.ends.up.walk) inside c.loop-up_at.invariant.climbs c.turn_up.ensures.visits c.turn_up.ensures.crossed in
     record { at = met.0; over = climbs.climbing.only met.0 met.1; under = c.loop-up_at.invariant.descends.climbing.only met.0 met.2 }
 
 pub loop-up_at-preserved-then-looked : goal.loop-up_at-preserved-then-looked
@@ -29,7 +29,7 @@ loop-up_at-preserved-then-looked c =
       visited_up = c.turn_up.ensures.visited;
       visited_down = known.visited_down;
       apart = c.turn_up.ensures.apart c.if-turn_up.false;
-      climbs = low_step (patches_of heads) (level_of sight.levels.now.ranks) c.args.level begun.up.crossed.items (numbers_met heads begun.up.walk) c.loop-up_at.up_at ends.up.crossed.items c.turn_up.new.ends.up.crossed.items (numbers_met heads ends.up.walk) (numbers_met heads c.turn_up.new.ends.up.walk) inside known.climbs c.turn_up.ensures.visits c.turn_up.ensures.crossed;
+      climbs = low_step (patches_of heads) (level_of sight.levels.now.ranks) c.args.most begun.up.crossed.items (numbers_met heads begun.up.walk) c.loop-up_at.up_at ends.up.crossed.items c.turn_up.new.ends.up.crossed.items (numbers_met heads ends.up.walk) (numbers_met heads c.turn_up.new.ends.up.walk) inside known.climbs c.turn_up.ensures.visits c.turn_up.ensures.crossed;
       descends = known.descends;
       few_up = omega (arith, c.loop-up_at-test.true, c.len.ensures.few, known.up.long);
       few_down = known.few_down;
@@ -42,7 +42,7 @@ returns-then-turn_down-clause-together c e =
     let ends = c.loop-up_at.ends in
     let inside : c.loop-up_at.down_at < length (numbers_met heads ends.down.walk) = omega (arith, c.if-down_at-len.true, c.len-in-loop-up_at.ensures.long, long_met heads ends.down.walk) in
     let met = c.turn_down.ensures.met c.if-turn_down.true in
-    let descends = down_step (patches_of heads) (needs_of c.args.sight.now.needs.now.lists) begun.down.crossed.items (numbers_met heads begun.down.walk) c.loop-up_at.down_at ends.down.crossed.items c.turn_down.new.ends.down.crossed.items (numbers_met heads ends.down.walk) (numbers_met heads c.turn_down.new.ends.down.walk) inside c.loop-up_at.invariant.descends c.turn_down.ensures.visits c.turn_down.ensures.crossed in
+    let descends = high_step (patches_of heads) (level_of c.args.sight.now.levels.now.ranks) c.args.least (needs_of c.args.sight.now.needs.now.lists) begun.down.crossed.items (numbers_met heads begun.down.walk) c.loop-up_at.down_at ends.down.crossed.items c.turn_down.new.ends.down.crossed.items (numbers_met heads ends.down.walk) (numbers_met heads c.turn_down.new.ends.down.walk) inside c.loop-up_at.invariant.descends c.turn_down.ensures.visits c.turn_down.ensures.crossed in
     record { at = met.0; over = c.loop-up_at.invariant.climbs.climbing.only met.0 met.1; under = descends.climbing.only met.0 met.2 }
 
 pub loop-up_at-preserved : goal.loop-up_at-preserved
@@ -59,7 +59,7 @@ loop-up_at-preserved c =
       visited_down = c.turn_down.ensures.visited;
       apart = c.turn_down.ensures.apart c.if-turn_down.false;
       climbs = known.climbs;
-      descends = down_step (patches_of heads) (needs_of c.args.sight.now.needs.now.lists) begun.down.crossed.items (numbers_met heads begun.down.walk) c.loop-up_at.down_at ends.down.crossed.items c.turn_down.new.ends.down.crossed.items (numbers_met heads ends.down.walk) (numbers_met heads c.turn_down.new.ends.down.walk) inside known.descends c.turn_down.ensures.visits c.turn_down.ensures.crossed;
+      descends = high_step (patches_of heads) (level_of c.args.sight.now.levels.now.ranks) c.args.least (needs_of c.args.sight.now.needs.now.lists) begun.down.crossed.items (numbers_met heads begun.down.walk) c.loop-up_at.down_at ends.down.crossed.items c.turn_down.new.ends.down.crossed.items (numbers_met heads ends.down.walk) (numbers_met heads c.turn_down.new.ends.down.walk) inside known.descends c.turn_down.ensures.visits c.turn_down.ensures.crossed;
       few_up = known.few_up;
       few_down = omega (arith, c.if-down_at-len.true, c.len-in-loop-up_at.ensures.few, known.down.long);
     }
@@ -78,10 +78,10 @@ returns-else-down_at-len-clause-apart c e =
     let down = begun.down.crossed.items in
     let tops = numbers_met heads begun.down.walk in
     record {
-      over_begun = walking_kept (StepsLow patches level c.args.level begun.up.crossed.items) (IsLowChange patches level c.args.level) begun.up.crossed.items (numbers_met heads begun.up.walk) c.loop-up_at.up_at ends.up.crossed.items (numbers_met heads ends.up.walk) known.climbs;
-      under_begun = walking_kept (StepsDown patches needs down) (IsNeed patches needs) down tops c.loop-up_at.down_at ends.down.crossed.items (numbers_met heads ends.down.walk) known.descends;
+      over_begun = walking_kept (StepsLow patches level c.args.most begun.up.crossed.items) (IsLowChange patches level c.args.most) begun.up.crossed.items (numbers_met heads begun.up.walk) c.loop-up_at.up_at ends.up.crossed.items (numbers_met heads ends.up.walk) known.climbs;
+      under_begun = walking_kept (StepsHigh patches level c.args.least needs down) (IsHighNeed patches level c.args.least needs) down tops c.loop-up_at.down_at ends.down.crossed.items (numbers_met heads ends.down.walk) known.descends;
       apart = known.apart;
-      ended = inr (λ n. (climbing_all (StepsDown patches needs down) tops c.loop-up_at.down_at (numbers_met heads ends.down.walk) (omega (arith, c.if-down_at-len.false, c.len-in-loop-up_at.ensures.long, long_met heads ends.down.walk)) known.descends.climbing n).1);
+      ended = inr (λ n. (climbing_all (StepsHigh patches level c.args.least needs down) tops c.loop-up_at.down_at (numbers_met heads ends.down.walk) (omega (arith, c.if-down_at-len.false, c.len-in-loop-up_at.ensures.long, long_met heads ends.down.walk)) known.descends.climbing n).1);
     }
 
 -- the walk up is at its end
@@ -98,8 +98,8 @@ returns-after-loop-up_at-clause-apart c e =
     let up = begun.up.crossed.items in
     let bottoms = numbers_met heads begun.up.walk in
     record {
-      over_begun = walking_kept (StepsLow patches level c.args.level up) (IsLowChange patches level c.args.level) up bottoms c.loop-up_at.up_at ends.up.crossed.items (numbers_met heads ends.up.walk) known.climbs;
-      under_begun = walking_kept (StepsDown patches needs begun.down.crossed.items) (IsNeed patches needs) begun.down.crossed.items (numbers_met heads begun.down.walk) c.loop-up_at.down_at ends.down.crossed.items (numbers_met heads ends.down.walk) known.descends;
+      over_begun = walking_kept (StepsLow patches level c.args.most up) (IsLowChange patches level c.args.most) up bottoms c.loop-up_at.up_at ends.up.crossed.items (numbers_met heads ends.up.walk) known.climbs;
+      under_begun = walking_kept (StepsHigh patches level c.args.least needs begun.down.crossed.items) (IsHighNeed patches level c.args.least needs) begun.down.crossed.items (numbers_met heads begun.down.walk) c.loop-up_at.down_at ends.down.crossed.items (numbers_met heads ends.down.walk) known.descends;
       apart = known.apart;
-      ended = inl (λ n. (climbing_all (StepsLow patches level c.args.level up) bottoms c.loop-up_at.up_at (numbers_met heads ends.up.walk) (omega (arith, c.loop-up_at-test.false, c.len.ensures.long, long_met heads ends.up.walk)) known.climbs.climbing n).1);
+      ended = inl (λ n. (climbing_all (StepsLow patches level c.args.most up) bottoms c.loop-up_at.up_at (numbers_met heads ends.up.walk) (omega (arith, c.loop-up_at-test.false, c.len.ensures.long, long_met heads ends.up.walk)) known.climbs.climbing n).1);
     }

@@ -1,6 +1,6 @@
 use Rattle.std.proofs.Common.{◌≤◌, ◌+◌, ◌-◌, length}
 use Rattle.fst_heads.specs.{Heads.patches_of}
-use Rattle.fst_walks.specs.{BothEnds.{AreApart, IsLowChange, IsNeed, IsOver, StepsDown, StepsLow}, Descending.Visited, Leveling.level_of, Needing.needs_of, Walks.numbers_met}
+use Rattle.fst_walks.specs.{BothEnds.{AreApart, IsHighNeed, IsLowChange, IsOver, StepsHigh, StepsLow}, Descending.Visited, Leveling.level_of, Needing.needs_of, Walks.numbers_met}
 use Rattle.fst_walks.proofs.Ascended.{Walking}
 use Rattle.fst_walks.proofs.both_ends.meet_between.Given as goal
 
@@ -11,8 +11,8 @@ invariant-loop-up_at l = record {
   visited_up : Visited l.sight.heads.now l.ends.up.walk;
   visited_down : Visited l.sight.heads.now l.ends.down.walk;
   apart : AreApart (numbers_met l.sight.heads.now l.ends.up.walk) (numbers_met l.sight.heads.now l.ends.down.walk);
-  climbs : Walking (StepsLow (patches_of l.sight.heads.now) (level_of l.sight.levels.now.ranks) l.level l.initial.ends.up.crossed.items) (IsLowChange (patches_of l.sight.heads.now) (level_of l.sight.levels.now.ranks) l.level) l.initial.ends.up.crossed.items (numbers_met l.sight.heads.now l.initial.ends.up.walk) l.up_at l.ends.up.crossed.items (numbers_met l.sight.heads.now l.ends.up.walk);
-  descends : Walking (StepsDown (patches_of l.sight.heads.now) (needs_of l.sight.needs.now.lists) l.initial.ends.down.crossed.items) (IsNeed (patches_of l.sight.heads.now) (needs_of l.sight.needs.now.lists)) l.initial.ends.down.crossed.items (numbers_met l.sight.heads.now l.initial.ends.down.walk) l.down_at l.ends.down.crossed.items (numbers_met l.sight.heads.now l.ends.down.walk);
+  climbs : Walking (StepsLow (patches_of l.sight.heads.now) (level_of l.sight.levels.now.ranks) l.most l.initial.ends.up.crossed.items) (IsLowChange (patches_of l.sight.heads.now) (level_of l.sight.levels.now.ranks) l.most) l.initial.ends.up.crossed.items (numbers_met l.sight.heads.now l.initial.ends.up.walk) l.up_at l.ends.up.crossed.items (numbers_met l.sight.heads.now l.ends.up.walk);
+  descends : Walking (StepsHigh (patches_of l.sight.heads.now) (level_of l.sight.levels.now.ranks) l.least (needs_of l.sight.needs.now.lists) l.initial.ends.down.crossed.items) (IsHighNeed (patches_of l.sight.heads.now) (level_of l.sight.levels.now.ranks) l.least (needs_of l.sight.needs.now.lists)) l.initial.ends.down.crossed.items (numbers_met l.sight.heads.now l.initial.ends.down.walk) l.down_at l.ends.down.crossed.items (numbers_met l.sight.heads.now l.ends.down.walk);
   few_up : l.up_at ≤ length l.sight.heads.now;
   few_down : l.down_at ≤ length l.sight.heads.now;
 }

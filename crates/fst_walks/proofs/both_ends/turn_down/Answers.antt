@@ -1,6 +1,6 @@
 use Rattle.std.proofs.Common.{Contains, get_or, subst, arith}
 use Rattle.fst_heads.specs.Heads.{patches_of}
-use Rattle.fst_walks.specs.{BothEnds.StepsDown, Descending.Visits, Needing.needs_of, Walks.numbers_met}
+use Rattle.fst_walks.specs.{BothEnds.StepsHigh, Descending.Visits, Leveling.level_of, Needing.needs_of, Walks.numbers_met}
 use Rattle.fst_walks.proofs.Visiting.{long_met, still_apart}
 use Rattle.fst_walks.proofs.both_ends.turn_down.Goals as goal
 
@@ -11,6 +11,6 @@ returns-clause-apart c none n above below =
     let down = c.args.ends.now.down in
     let old = numbers_met heads down.walk in
     let new = numbers_met heads c.step_down-more.new.walk in
-    still_apart (StepsDown (patches_of heads) (needs_of sight.needs.now.lists) down.crossed.items (get_or old c.args.at 0)) (Contains (numbers_met heads c.args.ends.now.up.walk)) old new c.len-from.result
-    (subst (λ shown. Visits (StepsDown (patches_of heads) (needs_of sight.needs.now.lists) shown (get_or old c.args.at 0)) old new) c.deref_mut.ensures.value c.step_down-more.ensures.visits)
+    still_apart (StepsHigh (patches_of heads) (level_of sight.levels.now.ranks) c.args.least (needs_of sight.needs.now.lists) down.crossed.items (get_or old c.args.at 0)) (Contains (numbers_met heads c.args.ends.now.up.walk)) old new c.len-from.result
+    (subst (λ shown. Visits (StepsHigh (patches_of heads) (level_of sight.levels.now.ranks) c.args.least (needs_of sight.needs.now.lists) shown (get_or old c.args.at 0)) old new) c.deref_mut.ensures.value c.step_down-more.ensures.visits)
     (omega (arith, c.len-from.ensures.long, long_met heads down.walk)) (λ m there over. c.requires.apart m over there) (λ at past lt there. c.meets.ensures.apart none at past (omega (arith, lt, long_met heads c.step_down-more.new.walk)) there) n below above

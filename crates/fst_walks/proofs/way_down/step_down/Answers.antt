@@ -1,9 +1,9 @@
-use Rattle.std.proofs.Common.{◌≡◌, get_or, Contains, sym, subst, inl, inr, arith}
+use Rattle.std.proofs.Common.{◌≡◌, ◌≤◌, get_or, Contains, sym, subst, inl, inr, arith}
 use Rattle.std.proofs.lemmas.List.Elements.{Contains-get_or}
 use Rattle.fst_types.specs.Dependencies.{DirectlyOn, IsLiveNumber}
 use Rattle.fst_heads.specs.{Heads.patches_of, declared.head.Head.Head}
 use Rattle.fst_heads.proofs.Slots.{direct_at, named_at, slot_here}
-use Rattle.fst_walks.specs.{BothEnds.{CrossesDown, ShowsBlockUnder, StepsDown}, Descending.Visits, Needing.needs_of, Walks.numbers_met}
+use Rattle.fst_walks.specs.{BothEnds.{CrossesDown, IsHigh, ShowsBlockUnder, StepsHigh}, Descending.Visits, Leveling.level_of, Needing.needs_of, Walks.numbers_met}
 use Rattle.fst_walks.proofs.Visiting.{long_met, slot_met, visits_both, visits_same}
 use Rattle.fst_walks.proofs.way_down.step_down.Goals as goal
 
@@ -32,16 +32,18 @@ returns-clause-visits c =
     let d : Head = c.index-sight-slot.result in
     let slot = slot_met heads walk c.args.at s c.requires.visited.long c.requires.at c.slot-slot.ensures.slot c.slot-slot.ensures.inside in
     let same : (get_or heads s d).number ≡ n = slot.1 d in
-    let mid = numbers_met heads c.visit_row.new.walk in
+    let level = level_of c.args.sight.now.levels.now.ranks in
+    let least = c.args.least in
+    let mid = numbers_met heads c.visit_high_row.new.walk in
     let new = numbers_met heads c.cross-across.new.walk in
-    let direct : Visits (λ q. DirectlyOn patches n q × IsLiveNumber patches q) met mid =
-    visits_same _ (λ q. DirectlyOn patches n q × IsLiveNumber patches q) met mid
+    let direct : Visits (λ q. DirectlyOn patches n q × IsHigh patches level least q) met mid =
+    visits_same _ (λ q. DirectlyOn patches n q × IsHigh patches level least q) met mid
     (λ q k. (direct_at heads n q s d slot (subst (λ row. Contains row q) c.as_slice-below.ensures k.0), k.1))
     (λ q k. (subst (λ row. Contains row q) (sym c.as_slice-below.ensures) (named_at heads n q s d c.requires.sees.rising slot k.0), k.1))
-    c.visit_row.ensures.visits in
+    c.visit_high_row.ensures.visits in
     let needs = needs_of c.args.sight.now.needs.now.lists in
-    let across = subst (λ m. Visits (CrossesDown patches needs now m) mid new) same c.cross-across.ensures.visits in
-    visits_both (λ q. DirectlyOn patches n q × IsLiveNumber patches q) (CrossesDown patches needs now n) (StepsDown patches needs now n) met mid new (λ q s. s) (λ q k. inl k) (λ q k. inr k) direct across
+    let across = subst (λ m. Visits (λ q. CrossesDown patches needs now m q × (least ≤ level q)) mid new) same c.cross-across.ensures.visits in
+    visits_both (λ q. DirectlyOn patches n q × IsHigh patches level least q) (λ q. CrossesDown patches needs now n q × (least ≤ level q)) (StepsHigh patches level least needs now n) met mid new (λ q s. s) (λ q k. inl k) (λ q k. inr k) direct across
 
 pub returns-clause-crossed : goal.returns-clause-crossed
 returns-clause-crossed c =
