@@ -1,10 +1,10 @@
 //! The grade of a new change. A block is written only with all its hard changes, so a change is hard only where nothing
 //! that it depends on can come to wait for its block: no open gate, no change of another block that needs one of its
 //! block, and no block from which the block graph leads to its block. What is near the change mostly tells it, and their
-//! levels do where all that it depends on is below the floor of its block. Else a strand or a chain down from what the change depends on
-//! may come back to the block, or a short walk down may tell, and only where neither does a way back is looked for from
-//! both ends. Over a block whose changes are all on disk no search is needed. A gate that is sealed
-//! with the change is taken as sealed already: that sets free what it alone blocks, and moves no change and no dependency.
+//! levels do where all that it depends on is below the floor of its block. Else a strand down from what the change depends
+//! on may come back to the block, or a short walk down may tell, or a chain, and only where none does a way back is looked
+//! for from both ends. Over a block whose changes are all on disk no search is needed. A gate that is sealed with the change
+//! is taken as sealed already: that sets free what it alone blocks, and moves no change and no dependency.
 
 ghost use Rattle.std.specs.Prelude.{◌<◌, length};
 ghost use Rattle.fst_types.specs.Grades.{FollowsRule};
