@@ -110,10 +110,11 @@ pub fn grade_below(
     ensures down { IsOver sight.now.heads.now (length sight.now.lists.now) down.new }
 {
     down.cross_only(block);
-    visit_first_away(sight.heads, &mut down.walk, block, row);
-    let least = sight.levels.floor(block);
     let most = sight.lists[block as usize].len().saturating_mul(LOOKS);
-    match descend(sight, down, block, least, most)? {
+    let looked = visit_first_away(sight.heads, &mut down.walk, block, row, most);
+    let left = most.checked_sub(looked)?;
+    let least = sight.levels.floor(block);
+    match descend(sight, down, block, least, left)? {
         true => Some(Grade::Soft),
         false => Some(Grade::Hard),
     }

@@ -155,7 +155,7 @@ pub fn grade_between(sight: &Sight<'_>, ends: &mut Ends, block: u32, row: &[u32]
     ensures down { IsOver sight.now.heads.now (length sight.now.lists.now) ends.new.down }
 {
     ends.down.cross_only(block);
-    let down = visit_first_away(sight.heads, &mut ends.down.walk, block, row);
+    let down = visit_first_away(sight.heads, &mut ends.down.walk, block, row, usize::MAX);
     if ends.down.walk.len() == 0 {
         return Grade::Hard;
     }

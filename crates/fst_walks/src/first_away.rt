@@ -2,7 +2,7 @@
 //! that a walk that looks for such a way from its lower end begins at them. What lies below another block's change is left
 //! to that walk; and what lies below a hard change of the block in memory leads nowhere, as for each hard change.
 
-ghost use Rattle.std.specs.Prelude.{◌≡◌, ◌<◌, ◌↔◌, ℕ, length, Contains, IsTrue, slice_index_or};
+ghost use Rattle.std.specs.Prelude.{◌≡◌, ◌≤◌, ◌<◌, ◌↔◌, ℕ, length, Contains, IsTrue, slice_index_or};
 ghost use Rattle.fst_heads.specs.Heads.{IsRising, patches_of};
 ghost use Rattle.fst_heads.specs.Marks.{HasSlot};
 ghost use Rattle.fst_walks.specs.BothEnds.{GoesThrough, IsFirstAway, StepsAway};
@@ -43,33 +43,43 @@ fn step_away(heads: &[Head], walk: &mut Walk, at: usize, block: u32) -> usize
     below.len()
 }
 
-// Visits all that the way down leads to from what was visited. Answers how many patches it looked at.
-fn walk_away(heads: &[Head], walk: &mut Walk, block: u32) -> usize
+// Visits all that the way down leads to from what was visited, or stops once it has looked at more patches than `most`.
+// Answers at how many it looked.
+fn walk_away(heads: &[Head], walk: &mut Walk, block: u32, most: usize) -> usize
     requires rising { IsRising heads.now }
     requires visited { Visited heads.now walk.old }
     ensures visited { Visited heads.now walk.new }
-    ensures led { (n : ℕ) → Contains (numbers_met heads.now walk.new) n ↔ IsLedFrom (StepsAway (patches_of heads.now) block) (numbers_met heads.now walk.old) n }
+    ensures led { result ≤ most → (n : ℕ) → Contains (numbers_met heads.now walk.new) n ↔ IsLedFrom (StepsAway (patches_of heads.now) block) (numbers_met heads.now walk.old) n }
 {
     let mut at = 0;
     let mut looked: usize = 0;
     while at < walk.len() {
         looked = looked.saturating_add(step_away(heads, walk, at, block));
+        if looked > most {
+            return looked;
+        }
         at += 1;
     }
     looked
 }
 
-/// Visits the first changes of other blocks at or below the row, and nothing else. Answers how many patches it looked at.
-/// What was met before does not matter.
-pub fn visit_first_away(heads: &[Head], walk: &mut Walk, block: u32, row: &[u32]) -> usize
+/// Visits the first changes of other blocks at or below the row, and nothing else, or stops once it has looked at more
+/// patches below the row than `most`. Answers at how many it looked. What was met before does not matter.
+pub fn visit_first_away(
+    heads: &[Head],
+    walk: &mut Walk,
+    block: u32,
+    row: &[u32],
+    most: usize,
+) -> usize
     requires rising { IsRising heads.now }
     requires long { length walk.old.marks ≡ length heads.now }
     ensures visited { Visited heads.now walk.new }
-    ensures first { (n : ℕ) → Contains (numbers_met heads.now walk.new) n ↔ IsFirstAway (patches_of heads.now) block row.now n }
+    ensures first { result ≤ most → (n : ℕ) → Contains (numbers_met heads.now walk.new) n ↔ IsFirstAway (patches_of heads.now) block row.now n }
 {
     walk.clear();
     visit_row(heads, walk, row);
-    let looked = walk_away(heads, walk, block);
+    let looked = walk_away(heads, walk, block, most);
     keep_away(heads, walk, block);
-    looked.saturating_add(row.len())
+    looked
 }

@@ -2,9 +2,10 @@
 //! that it depends on can come to wait for its block: no open gate, no change of another block that needs one of its
 //! block, and no block from which the block graph leads to its block. What is near the change mostly tells it, and their
 //! levels do where all that it depends on is below the floor of its block. Else a strand down from what the change depends
-//! on may come back to the block, or a short walk down may tell, or a chain, and only where none does a way back is looked
-//! for from both ends. Over a block whose changes are all on disk no search is needed. A gate that is sealed with the change
-//! is taken as sealed already: that sets free what it alone blocks, and moves no change and no dependency.
+//! on may come back to the block, or a chain within a few steps; or a short walk down may tell, or a longer chain, and
+//! only where none does a way back is looked for from both ends. Over a block whose changes are all on disk no search is
+//! needed. A gate that is sealed with the change is taken as sealed already: that sets free what it alone blocks, and moves
+//! no change and no dependency.
 
 ghost use Rattle.std.specs.Prelude.{◌<◌, length};
 ghost use Rattle.fst_types.specs.Grades.{FollowsRule};
@@ -17,7 +18,9 @@ use crate::below::grade_below;
 use crate::both_ends::grade_between;
 use crate::ends::Ends;
 use crate::other_gates::is_blocked;
-use crate::shortcuts::{comes_back, is_clean, rests_on_hard, stays_below, waits_for_quiet_block};
+use crate::shortcuts::{
+    comes_back, comes_back_soon, is_clean, rests_on_hard, stays_below, waits_for_quiet_block,
+};
 use crate::sight::Sight;
 use crate::strands::leads_along_strand;
 use fst_types::Grade;
@@ -40,6 +43,9 @@ fn grade_by_ways(sight: &Sight<'_>, ends: &mut Ends, block: u32, row: &[u32]) ->
         return Grade::Hard;
     }
     if leads_along_strand(sight, block, row) {
+        return Grade::Soft;
+    }
+    if comes_back_soon(sight, block, row) {
         return Grade::Soft;
     }
     if let Some(grade) = grade_below(sight, &mut ends.down, block, row) {

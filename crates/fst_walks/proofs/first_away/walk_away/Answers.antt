@@ -19,7 +19,7 @@ loop-at-preserved c =
     }
 
 pub returns-clause-led : goal.returns-clause-led
-returns-clause-led c =
+returns-clause-led c few =
     let heads = c.args.heads.now in
     climbing_all (StepsAway (patches_of heads) c.args.block) (numbers_met heads c.args.walk.now) c.loop-at.at (numbers_met heads c.loop-at.walk)
     (omega (arith, c.loop-at-test.false, c.len.ensures.long, long_met heads c.loop-at.walk)) c.loop-at.invariant.climbing
