@@ -20,6 +20,3 @@ pub use job::Job;
 pub use memory_slot::MemorySlot;
 pub use outcome::Outcome;
 pub use slot::{BlockSlot, Held, SlotFault};
-
-#[cfg(test)]
-mod tests;

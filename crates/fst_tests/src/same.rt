@@ -87,3 +87,8 @@ pub fn same_settled(rt: &impl Abort, settled: Option<Settled>, expected: Settled
 pub fn same_stat(rt: &impl Abort, stat: Stat, expected: Stat) {
     assert_eq!(rt; stat, expected);
 }
+
+/// A number, or none.
+pub fn same_record(rt: &impl Abort, record: Option<u32>, expected: Option<u32>) {
+    assert_eq!(rt; record, expected);
+}

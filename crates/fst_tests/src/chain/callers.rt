@@ -2,7 +2,7 @@
 ghost use Rattle.std.specs.Prelude.{◌≡◌, ◌+◌, ◌^◌, ◌<◌, length, IsTrue};
 ghost use Rattle.fst_chain.specs.Records.{without, payload_at, set_payload, set_item, chain_list};
 
-use crate::Chain;
+use fst_chain::Chain;
 
 #[derive(Clone, Copy, Debug, PartialEq)]
 pub enum Kind {
