@@ -2,7 +2,7 @@
 use Rattle.std.proofs.Common.{◌≡◌, ◌+◌, ◌<◌, ◌≤◌, ◌++◌, ℕ, Bool, List, [], ◌∷◌, Option, Some, None, IfSome, option_map, length, map, Contains, refl, sym, ap, subst, ◌∙◌, inl, inr, arith, ◌≢◌, true, false, IfNone, count_by, is_some, get_or, eqb}
 use Rattle.std.proofs.lemmas.{Bool.{cases_Bool, eqb-true, eqb-false, false≢true}}
 use Rattle.fst_types.specs.{Cascade.IsCascadeOf, Dependencies.{DirectlyOn, IsLiveNumber, IsOnDisk}, Facts.{SparseAreLawful, IsTied}, Gates.IsOpenNumber, Gating.sealed}
-use Rattle.fst_types.specs.{Grades.FollowsRule, Order.{make_order, room_order, NamesUnknown}, Patches.Patch, Refusals.NoneHolds, declared.grade.Grade.Grade}
+use Rattle.fst_types.specs.{Grades.FollowsRule, Order.{make_order, room_order, NamesUnknown}, Patches.Patch, Refusals.NoneHolds, declared.{grade.Grade.Grade, span.Span.Span}}
 use Rattle.fst_heads.specs.{Frames.{frames_of, HasRoomBelow}, Grading.MayBeHard, Heads.{IsRising, patches_of}, Keeps.Keeps, Marks.HasSlot}
 use Rattle.fst_heads.specs.{Names.numbers_of, Nodes.{node_of, nodes_of, is_live_in, AreCounted}, Rows.IsSparseRow, declared.head.Head.Head}
 use Rattle.fst_graph.specs.{Known.Known, Membering.{ArePaired, BeginsAs, OverlapReaches, member_order}, Ready.{change_of, IsReady, IsMemberReady, MayBePut, HasRoomAround, HasPlaces}}
@@ -44,6 +44,23 @@ module _ (old : List Patch) (n blocks : ℕ) (marks : List Bool) (K : Keeps old 
     clear = clear;
     paired = paired;
   }
+
+-- what was found for it, as the heads were read
+pub member_found : {heads read : List Head} {numbers blocks b : ℕ} {marks : List Bool} {span : Span} → Keeps (patches_of heads) numbers blocks marks → (gates : Gates) → ArePaired (patches_of heads) numbers gates.head gates.tail → (p : Stored) → numbers_of p.names.items ≡ gates.head ∷ [] → p.block ≡ b → p.span ≡ span → b < blocks
+    → read ≡ heads → NoneHolds (member_order (patches_of read) numbers gates.tail b span.at span.len)
+    → ((begun : List Patch) → BeginsAs (patches_of read) gates.head begun → IsSparseRow begun (gates.head ∷ []) b span.at span.len p.dependencies.items)
+    → ((begun : List Patch) → BeginsAs (patches_of read) gates.head begun → FollowsRule p.grade (MayBeHard begun None b p.dependencies.items))
+    → IsMemberReady (patches_of heads) numbers blocks gates p
+member_found {heads} {numbers = n} {blocks = blocks} {b = b} {marks = marks} {span = span} K gates paired p named on at inside read clear depends follows =
+    let old = patches_of heads in
+    let row = p.dependencies.items in
+    let sparse : (begun : List Patch) → BeginsAs old gates.head begun → IsSparseRow begun (gates.head ∷ []) p.block p.span.at p.span.len row =
+    rw (on, at) (subst (λ hs. (begun : List Patch) → BeginsAs (patches_of hs) gates.head begun → IsSparseRow begun (gates.head ∷ []) b span.at span.len row) read depends) in
+    let rule : (begun : List Patch) → BeginsAs old gates.head begun → FollowsRule p.grade (MayBeHard begun None p.block row) =
+    rw on (subst (λ hs. (begun : List Patch) → BeginsAs (patches_of hs) gates.head begun → FollowsRule p.grade (MayBeHard begun None b row)) read follows) in
+    let free : NoneHolds (member_order old n gates.tail p.block p.span.at p.span.len) = rw (on, at) (subst (λ hs. NoneHolds (member_order (patches_of hs) n gates.tail b span.at span.len)) read clear) in
+    let there : p.block < blocks = rw on inside in
+    member_ready old n blocks marks K gates paired p named there free sparse rule
 
 -- and which number and grade it would have
 module _ (old : Known) (blocks : ℕ) (marks : List Bool) (K : Keeps old.heads old.numbers blocks marks) (gates : Gates) (p : Stored) (R : IsMemberReady old.heads old.numbers blocks gates p) where

@@ -1,15 +1,15 @@
 -- What is prepared may be put down as it is, for a group once its head is not open; and what the fields are then.
-use Rattle.std.proofs.{Common.{◌≡◌, ◌≤◌, ◌<◌, ◌+◌, ◌++◌, ◌∷◌, [], ◌∙◌, ℕ, Option, Some, option_map, Contains, false, length, get_or, set, arith, refl, sym, ap, subst}, lemmas.List.length-map}
+use Rattle.std.proofs.{Common.{◌≡◌, ◌≤◌, ◌<◌, ◌+◌, ◌++◌, ◌∷◌, [], ◌∙◌, ℕ, List, Option, Some, None, IfSome, inr, option_map, Contains, false, length, get_or, set, arith, refl, sym, ap, subst}, lemmas.List.length-map}
 use Rattle.std.specs.Global.{Vec}
-use Rattle.fst_types.specs.{Dependencies.IsLiveNumber, Facts.SparseAreLawful, Gates.IsOpenNumber, Limits.max_heads}
+use Rattle.fst_types.specs.{Dependencies.IsLiveNumber, Facts.SparseAreLawful, Gates.IsOpenNumber, Limits.max_heads, Patches.Patch}
 use Rattle.fst_heads.specs.{Covers.Covering, Heads.patches_of, Keeps.{Keeps, Tallies}, Lists.entry, Names.numbers_of, Nodes.{node_of, nodes_of, patches_in}, Pendings.is_pending}
 use Rattle.fst_heads.specs.{Standings.{entered, standing_of}, Tests.is_hard_kind, declared.head.Head.Head, declared.lists.Listed.Listed, declared.standing.Standing.Standing}
 use Rattle.fst_walks.specs.{Leveling.Leveling, Needing.Needing, declared.ends.Ends.Ends}
-use Rattle.fst_graph.specs.{Known.{Known, Prepared}, Ready.{change_of, prepared_of, IsReady, IsMemberReady}}
+use Rattle.fst_graph.specs.{Known.{Known, Prepared}, Ready.{change_of, prepared_of, IsReady, IsReadyFor, MayBePut}}
 use Rattle.fst_graph.specs.{Sound.{AreSound, IsPrepared}, declared.prepared.Gates.Gates, declared.prepared.Prepared.Prepared as Stored}
 use Rattle.fst_heads.proofs.{Added.{new_node, with_node}, AtNumber.patches_in_nodes, Stands.stand_change, Touching.keeps_change}
 use Rattle.fst_walks.proofs.{Seen.lawful_nodes, Shelves.shelved}
-use Rattle.fst_graph.proofs.{Listed.{listed_change, live_dependency}, Readied.hard_may, Sound.{as_many_lists, prepared_is}, TailGains.{head_same, member_kept, ready_now}, Tallied.tallies_made}
+use Rattle.fst_graph.proofs.{Listed.{listed_change, live_dependency}, Readied.hard_may, Sound.{as_many_lists, prepared_is}, Tallied.tallies_made}
 use Rattle.fst_heads.specs.declared.pending.Pending.TheVariants as pending
 
 -- the patches with the change, and what stands beside them then
@@ -25,12 +25,32 @@ pub record IsPutDown (heads : Vec Head) (ends : Ends) (levels : Leveling) (needs
       (set standings.items p.block (entered (is_hard_kind (change_of numbers p).kind) (is_pending (new_node (nodes_of heads.items) (change_of numbers p)).pending (pending.Block p.block)) (get_or standings.items p.block own)))
       queue.items queue.cap
 
--- and for a group
-pub record IsPutNow (heads : Vec Head) (ends : Ends) (levels : Leveling) (needs : Needing) (lists : Vec (Vec Listed)) (covers : Vec Covering) (standings : Vec Standing) (queue : Vec ℕ) (numbers blocks head : ℕ) (gates : Gates) (p : Stored) : Type 0 where
+-- and where it is for a group, its head is not open
+pub record IsPutNow (heads : Vec Head) (ends : Ends) (levels : Leveling) (needs : Needing) (lists : Vec (Vec Listed)) (covers : Vec Covering) (standings : Vec Standing) (queue : Vec ℕ) (numbers blocks : ℕ) (p : Stored) : Type 0 where
   pub down : IsPutDown heads ends levels needs lists covers standings queue numbers blocks p
-  pub member : IsMemberReady (patches_of heads.items) numbers blocks gates p
-  pub own : gates.head ≡ head
-  pub closed : IsOpenNumber (patches_of heads.items) gates.head → ⊥
+  pub closed : IfSome p.gates (λ g. IsOpenNumber (patches_of heads.items) g.head → ⊥)
+
+-- what may be put for a group whose head is not open is ready as it is
+ready_shut : (p : Stored) (old : List Patch) (n blocks : ℕ) → MayBePut old n blocks p → IfSome p.gates (λ g. IsOpenNumber old g.head → ⊥) → IsReady old n blocks p
+ready_shut p old n blocks = by_gates p.gates
+  where
+    by_gates : (g : Option Gates) → IsReadyFor g old n blocks p → IfSome g (λ x. IsOpenNumber old x.head → ⊥) → IsReady old n blocks p
+    by_gates None ready closed = ready
+    by_gates (Some gates) ready closed = ready.made old (inr (closed, refl))
+
+-- what contracts see of the gates is their head
+head_shut : (o : Option Stored) (n : ℕ) (q : Prepared) (p : Stored) (old : List Patch) → option_map (prepared_of n) o ≡ Some q → o ≡ Some p → IfSome q.group (λ head. IsOpenNumber old head → ⊥) → IfSome p.gates (λ g. IsOpenNumber old g.head → ⊥)
+head_shut o n q p old seen kept shut = by_gates p.gates (subst (λ g. IfSome g (λ head. IsOpenNumber old head → ⊥)) (sym (ap (λ x. x.group) shown)) shut)
+  where
+    shown : prepared_of n p ≡ q
+    shown = same (prepared_of n p) q (sym (ap (option_map (prepared_of n)) kept) ∙ seen)
+      where
+        same : (x y : Prepared) → Some x ≡ Some y → x ≡ y
+        same x y e = cc
+
+    by_gates : (g : Option Gates) → IfSome (option_map (λ x. x.head) g) (λ head. IsOpenNumber old head → ⊥) → IfSome g (λ x. IsOpenNumber old x.head → ⊥)
+    by_gates None s = tt
+    by_gates (Some gates) s = s
 
 module _ {heads : Vec Head} {ends : Ends} {levels : Leveling} {needs : Needing} {lists : Vec (Vec Listed)} {covers : Vec Covering} {standings : Vec Standing} {queue : Vec ℕ} {live unmarked numbers blocks : ℕ} {o : Option Stored}
     (S : AreSound heads ends levels needs lists covers standings queue live unmarked numbers blocks o) where
@@ -64,13 +84,12 @@ module _ {heads : Vec Head} {ends : Ends} {levels : Leveling} {needs : Needing} 
             (omega (arith, free, heads.ok.0, length-map heads.items node_of));
       }
 
-  pub put_now : (p : Stored) (gates : Gates) (head : ℕ) (known : Known)
+  pub put_now : (p : Stored) (known : Known)
       → record { heads = patches_of heads.items; numbers = numbers; blocks = blocks; groups = []; prepared = option_map (prepared_of numbers) o } ≡ known
-      → ((q : Prepared) × (known.prepared ≡ Some q) × (q.group ≡ Some head)) → (IsOpenNumber known.heads head → ⊥) → o ≡ Some p → p.gates ≡ Some gates
-      → IsPutNow heads ends levels needs lists covers standings queue numbers blocks head gates p
-  put_now p gates head known seen q shut kept there =
+      → ((q : Prepared) × (known.prepared ≡ Some q) × IfSome q.group (λ head. IsOpenNumber known.heads head → ⊥)) → o ≡ Some p
+      → IsPutNow heads ends levels needs lists covers standings queue numbers blocks p
+  put_now p known seen q kept =
       let old = patches_of heads.items in
-      let R = member_kept p gates old numbers blocks there (prepared_is S p kept).ready in
-      let own = head_same o numbers q.0 head p gates (ap (λ (k : Known). k.prepared) seen ∙ q.1) q.2 kept there in
-      let closed : IsOpenNumber old gates.head → ⊥ = λ t. shut (subst (λ (v : Known). IsOpenNumber v.heads head) seen (subst (IsOpenNumber old) own t)) in
-      record { down = put_down p kept (ready_now old numbers blocks ends.up.walk.marks S.keeps gates p R closed); member = R; own = own; closed = closed }
+      let shut = subst (λ (v : Known). IfSome q.0.group (λ head. IsOpenNumber v.heads head → ⊥)) (sym seen) q.2 in
+      let closed = head_shut o numbers q.0 p old (ap (λ (k : Known). k.prepared) seen ∙ q.1) kept shut in
+      record { down = put_down p kept (ready_shut p old numbers blocks (prepared_is S p kept).ready closed); closed = closed }

@@ -1,12 +1,12 @@
 -- What is prepared.
-use Rattle.std.proofs.{Common.{◌≡◌, ℕ, ◌+◌, ◌++◌, true, false, ◌&&◌, List, [], ◌∷◌, Option, Some, None, option_map, is_some, subst, refl, sym, ap, ◌∙◌, eqb}, lemmas.Bool.false≢true, lemmas.Bool.Decides.Decides-eqb}
+use Rattle.std.proofs.{Common.{◌≡◌, ◌<◌, ℕ, Bool, ◌+◌, ◌++◌, true, false, ◌&&◌, List, [], ◌∷◌, Option, Some, None, option_map, is_some, subst, refl, sym, ap, ◌∙◌, eqb}, lemmas.Bool.false≢true, lemmas.Bool.Decides.Decides-eqb}
 use Rattle.std.specs.Bool.{Decides}
-use Rattle.fst_types.specs.{Grades.FollowsRule, Patches.Patch, declared.grade.Grade.Grade, declared.number.PatchNo.PatchNo, declared.span.Span.Span}
-use Rattle.fst_heads.specs.Names.{numbers_of}
+use Rattle.fst_types.specs.{Grades.FollowsRule, Order.make_order, Patches.Patch, Refusals.NoneHolds, declared.grade.Grade.Grade, declared.number.PatchNo.PatchNo, declared.span.Span.Span}
+use Rattle.fst_heads.specs.{Grading.MayBeHard, Heads.patches_of, Keeps.Keeps, Names.numbers_of, Rows.IsSparseRow, declared.head.Head.Head}
 use Rattle.fst_graph.specs.{Known.{Prepared, prepared_for, member_for}, Ready.{change_of, prepared_of, IsReady, IsMemberReady, IsReadyFor, MayBePut}, Sparse.{AddsSparse, SparseChangeIsMade}}
 use Rattle.fst_graph.specs.{declared.prepared.Gates.Gates, declared.prepared.Prepared.Prepared as Stored}
 use Rattle.fst_types.proofs.Numbers.{both}
-use Rattle.fst_heads.proofs.Leading.{some_injective}
+use Rattle.fst_heads.proofs.{Leading.some_injective, Touching.graded_change}
 use Rattle.fst_types.specs.declared.grade.Grade.TheVariants as grade
 
 -- what is graded hard may be hard
@@ -67,6 +67,21 @@ ready_alone numbers o p q heads n blocks kept seen alone ready =
   where
     some_same : (x y : Prepared) → Some x ≡ Some y → x ≡ y
     some_same x y e = cc
+
+-- what was found for a change, as the heads were read
+pub ready_found : {heads seen read : List Head} {numbers blocks b : ℕ} {marks : List Bool} {names : List PatchNo} {span : Span} → Keeps (patches_of heads) numbers blocks marks → (p : Stored) → p.names.items ≡ names → p.block ≡ b → p.span ≡ span → b < blocks → seen ≡ heads → NoneHolds (make_order (patches_of seen) numbers (numbers_of names)) → read ≡ heads → IsSparseRow (patches_of read) (numbers_of names) b span.at span.len p.dependencies.items
+    → FollowsRule p.grade (MayBeHard (patches_of read) None b p.dependencies.items) → IsReady (patches_of heads) numbers blocks p
+ready_found {heads} {numbers = n} {blocks = blocks} {b = b} {marks = marks} {names = names} {span = span} K p named on at inside seen clear read depends follows =
+    let old = patches_of heads in
+    let row = p.dependencies.items in
+    let sparse : IsSparseRow old (numbers_of p.names.items) p.block p.span.at p.span.len row = rw (named, on, at) (subst (λ hs. IsSparseRow (patches_of hs) (numbers_of names) b span.at span.len row) read depends) in
+    let rule : FollowsRule p.grade (MayBeHard old None p.block row) = rw on (subst (λ hs. FollowsRule p.grade (MayBeHard (patches_of hs) None b row)) read follows) in
+    record {
+      clear = rw named (subst (λ hs. NoneHolds (make_order (patches_of hs) n (numbers_of names))) seen clear);
+      inside = rw on inside;
+      depends = sparse;
+      graded = graded_change old n blocks marks K p.block p.span.at p.span.len (numbers_of p.names.items) p.grade row sparse rule;
+    }
 
 -- put down, it is the change that was foreseen
 pub ready_made : {heads : List Patch} {numbers blocks : ℕ} {p : Stored} → IsReady heads numbers blocks p → SparseChangeIsMade heads numbers p.block p.span.at p.span.len (numbers_of p.names.items) (numbers + 1) p.grade (heads ++ change_of numbers p ∷ [])

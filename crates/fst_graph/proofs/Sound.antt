@@ -163,21 +163,9 @@ module _ {heads : Vec Head} {ends : Ends} {levels : Leveling} {needs : Needing} 
     standing = subst (λ n. AllStand (nodes_of heads.items) n standings.items) (sym S.tallies.standing.long) S.tallies.standing;
   })
 
--- a walk over the heads and lists that are handed on is one over those that are kept
-pub over_now : {heads seen : List Head} {lists shelves : List (Vec Listed)} {walk : BlockWalk} → seen ≡ heads → shelves ≡ lists → IsOver seen (length shelves) walk → IsOver heads (length lists) walk
-over_now h l x = record { long = x.long ∙ ap length h; crossed = x.crossed ∙ ap length l }
-
+-- a walk over the heads and lists that are kept is one over those that are handed on
 pub over_then : {heads seen : List Head} {lists shelves : List (Vec Listed)} {walk : BlockWalk} → seen ≡ heads → shelves ≡ lists → IsOver heads (length lists) walk → IsOver seen (length shelves) walk
 over_then h l x = record { long = x.long ∙ sym (ap length h); crossed = x.crossed ∙ sym (ap length l) }
-
-module _ {heads : Vec Head} {ends : Ends} {levels : Leveling} {needs : Needing} {lists : Vec (Vec Listed)} {covers : Vec Covering} {standings : Vec Standing} {queue : Vec ℕ} {live unmarked numbers blocks : ℕ} {o : Option Stored}
-    (S : AreSound heads ends levels needs lists covers standings queue live unmarked numbers blocks o) where
-  -- more room, after walks over what is handed on
-  pub readied_sound : {seen : List Head} {shelves : List (Vec Listed)} {over walked : Ends} {roomier : Vec Head} {ranked : Leveling} {wider : Vec ℕ} → seen ≡ heads.items → shelves ≡ lists.items → IsOver seen (length shelves) over.up → IsOver seen (length shelves) over.down
-      → nodes_of roomier.items ≡ nodes_of heads.items → (walked.up.walk.marks ≡ over.up.walk.marks) × (walked.down.walk.marks ≡ over.down.walk.marks) → (walked.up.crossed ≡ over.up.crossed) × (walked.down.crossed ≡ over.down.crossed)
-      → ranked.ranks ≡ levels.ranks → ranked.floors ≡ levels.floors → wider.items ≡ queue.items → queue.cap ≤ wider.cap
-      → AreSound roomier walked ranked needs lists covers standings wider live unmarked numbers blocks None
-  readied_sound h l up down = roomier_sound (walked_sound S (over_now h l up) (over_now h l down))
 
 -- what follows from that holds of whatever is prepared
 pub if_prepared : {heads : Vec Head} {ends : Ends} {levels : Leveling} {needs : Needing} {lists : Vec (Vec Listed)} {covers : Vec Covering} {standings : Vec Standing} {queue : Vec ℕ} {live unmarked numbers blocks : ℕ} {o : Option Stored}

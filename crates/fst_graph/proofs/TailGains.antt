@@ -3,7 +3,7 @@ use Rattle.std.proofs.Common.{◌≡◌, ◌≢◌, ◌⊎◌, ◌+◌, ◌≤�
 use Rattle.std.proofs.lemmas.List.Elements.{Contains-append_left, Contains-push, Contains-push_cases}
 use Rattle.fst_types.specs.{Closure.{one, join}, Dependencies.{DirectlyOn, DependsOn, IsLiveNumber}, Facts.SparseAreLawful, Gates.IsOpenNumber}
 use Rattle.fst_types.specs.{Lists.Lists, Order.{depend_order, NamesUnknown, NamesAbove}, Patches.Patch, Refusals.NoneHolds}
-use Rattle.fst_heads.specs.{Heads.{patch_of, patches_of}, Keeps.Keeps, declared.head.Head.Head}
+use Rattle.fst_heads.specs.{Heads.{patch_of, patches_of}, Keeps.Keeps, Names.numbers_of, declared.head.Head.Head}
 use Rattle.fst_graph.specs.{Known.Prepared, Membering.member_order, Ready.{prepared_of, change_of, IsReady, IsMemberReady, IsReadyFor, MayBePut}}
 use Rattle.fst_graph.specs.{declared.prepared.Gates.Gates, declared.prepared.Prepared.Prepared as Stored}
 use Rattle.fst_types.proofs.{Finite.{In-from_Contains, Contains-from_In, In-map}, NewChange.IsWithin, SmallStates.only_in}
@@ -19,11 +19,23 @@ head_same o n q head p gates seen named kept there = some_injective gates.head h
 pub member_kept : (p : Stored) (gates : Gates) (old : List Patch) (n blocks : ℕ) → p.gates ≡ Some gates → MayBePut old n blocks p → IsMemberReady old n blocks gates p
 member_kept p gates old n blocks there ready = subst (λ g. IsReadyFor g old n blocks p) there ready
 
+-- the tail is one of the patches that there are
+pub tail_small : (old : List Patch) (n : ℕ) {blocks : ℕ} {gates : Gates} {p : Stored} → SparseAreLawful old n → IsMemberReady old n blocks gates p → gates.tail ≤ n
+tail_small old n H R = let t = R.paired.tail_open in let k = (H.one_place_each.numbered t.patch t.head).1 in let e = t.numbered in omega (arith, k, e)
+
+-- the tail may gain the change
+pub record MayGain (old : List Patch) (n : ℕ) (gates : Gates) (p : Stored) : Type 0 where
+  pub there : IsOpenNumber (old ++ change_of n p ∷ []) gates.tail
+  pub clear : NoneHolds (depend_order (old ++ change_of n p ∷ []) (n + 1) gates.tail ((n + 1) ∷ []))
+  pub gains : Lists (λ m. IsLiveNumber (old ++ change_of n p ∷ []) m × Contains ((n + 1) ∷ []) m × (DirectlyOn (old ++ change_of n p ∷ []) gates.tail m → ⊥)) ((n + 1) ∷ [])
+  pub follows : gates.tail ≡ gates.head + 1
+  pub names : numbers_of p.names.items ≡ gates.head ∷ []
+
 module _ (old : List Patch) (n blocks : ℕ) (marks : List Bool) (K : Keeps old n blocks marks) (gates : Gates) (p : Stored) (R : IsMemberReady old n blocks gates p) (closed : IsOpenNumber old gates.head → ⊥) where
   H : SparseAreLawful old n
   H = K.lawful
 
-  pub ready_now : IsReady old n blocks p
+  ready_now : IsReady old n blocks p
   ready_now = R.made old (inr (closed, refl))
 
   abbrev made : Patch
@@ -35,10 +47,10 @@ module _ (old : List Patch) (n blocks : ℕ) (marks : List Bool) (K : Keeps old 
   abbrev row : List ℕ
   row = p.dependencies.items
 
-  tail_small : gates.tail ≤ n
-  tail_small = let t = R.paired.tail_open in let k = (H.one_place_each.numbered t.patch t.head).1 in let e = t.numbered in omega (arith, k, e)
+  small : gates.tail ≤ n
+  small = tail_small old n H R
 
-  pub tail_there : IsOpenNumber with_made gates.tail
+  tail_there : IsOpenNumber with_made gates.tail
   tail_there = let t = R.paired.tail_open in record { patch = t.patch; head = Contains-append_left old (made ∷ []) t.patch t.head; numbered = t.numbered; is_open = t.is_open }
 
   named : (q : ℕ) → Contains row q → q ≤ n
@@ -77,9 +89,9 @@ module _ (old : List Patch) (n blocks : ℕ) (marks : List Bool) (K : Keeps old 
       let u = depends_under old n within p.block p.span.at p.span.len p.grade row named (λ m. m ≡ gates.tail) gates.tail refl d in
       row_apart u.0 u.1 (elim u.2 [ inl e ↦ inl e | inr r ↦ inr (subst (DependsOn old u.0) r.2 r.1) ])
 
-  pub tail_clear : SparseAreLawful with_made (n + 1) → NoneHolds (depend_order with_made (n + 1) gates.tail ((n + 1) ∷ []))
+  tail_clear : SparseAreLawful with_made (n + 1) → NoneHolds (depend_order with_made (n + 1) gates.tail ((n + 1) ∷ []))
   tail_clear L = (
-    λ unknown. let t = R.paired.tail_open in let k = (H.one_place_each.numbered t.patch t.head).0 in let e = t.numbered in let s = tail_small in unknown (omega (arith, k, e), omega (arith, s)),
+    λ unknown. let t = R.paired.tail_open in let k = (H.one_place_each.numbered t.patch t.head).0 in let e = t.numbered in let s = small in unknown (omega (arith, k, e), omega (arith, s)),
     (
       λ none. none (inl tail_there),
       (
@@ -92,7 +104,7 @@ module _ (old : List Patch) (n blocks : ℕ) (marks : List Bool) (K : Keeps old 
               λ (a : NamesAbove with_made gates.tail ((n + 1) ∷ [])).
                   let e = only_in (n + 1) a.0 a.1 in
                   elim a.2 [
-                    | inl same ↦ let s = tail_small in omega (arith, e, same, s)
+                    | inl same ↦ let s = small in omega (arith, e, same, s)
                     | inr d ↦ change_apart (subst (λ x. DependsOn with_made x gates.tail) (sym e) d)
                   ],
               tt,
@@ -103,7 +115,7 @@ module _ (old : List Patch) (n blocks : ℕ) (marks : List Bool) (K : Keeps old 
     ),
   )
 
-  pub tail_gains : Lists (λ m. IsLiveNumber with_made m × Contains ((n + 1) ∷ []) m × (DirectlyOn with_made gates.tail m → ⊥)) ((n + 1) ∷ [])
+  tail_gains : Lists (λ m. IsLiveNumber with_made m × Contains ((n + 1) ∷ []) m × (DirectlyOn with_made gates.tail m → ⊥)) ((n + 1) ∷ [])
   tail_gains = record {
     rising = λ k lt. absurd (omega (arith, lt));
     only = λ m c.
@@ -112,11 +124,17 @@ module _ (old : List Patch) (n blocks : ℕ) (marks : List Bool) (K : Keeps old 
           c,
           λ d. elim (Contains-push_cases old made d.patch d.head) [
             | inl o ↦ let k = H.one_place_each.named d.patch m o d.named in omega (arith, k, e)
-            | inr same ↦ let s = tail_small in let f = ap (λ (x : Patch). x.number) same in let g = d.numbered in omega (arith, s, f, g)
+            | inr same ↦ let s = small in let f = ap (λ (x : Patch). x.number) same in let g = d.numbered in omega (arith, s, f, g)
           ],
         );
     each = λ m k. k.1;
   }
+
+  tail_gain : SparseAreLawful with_made (n + 1) → MayGain old n gates p
+  tail_gain L = record { there = tail_there; clear = tail_clear L; gains = tail_gains; follows = R.paired.follows; names = R.names }
+
+pub tail_may : (old : List Patch) (n blocks : ℕ) (marks : List Bool) → Keeps old n blocks marks → (gates : Gates) (p : Stored) → p.gates ≡ Some gates → MayBePut old n blocks p → IfSome p.gates (λ g. IsOpenNumber old g.head → ⊥) → SparseAreLawful (old ++ change_of n p ∷ []) (n + 1) → MayGain old n gates p
+tail_may old n blocks marks K gates p there ready shut = tail_gain old n blocks marks K gates p (member_kept p gates old n blocks there ready) (subst (λ g. IfSome g (λ x. IsOpenNumber old x.head → ⊥)) there shut)
 
 -- no head has the next number
 pub none_beyond : (heads : List Head) (old : List Patch) (n : ℕ) → patches_of heads ≡ old → SparseAreLawful old n → (h : Head) → Contains heads h → h.number ≢ n + 1

@@ -16,6 +16,7 @@ mod adding;
 mod grouping;
 mod making;
 mod pairs;
+mod reserving;
 
 use crate::gates::{depend_fault, gate_slot};
 use crate::prepared::Prepared;

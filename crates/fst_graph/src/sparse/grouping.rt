@@ -1,32 +1,22 @@
 //! Making a change of a group: first room for it, while its head stays as it is, then the change itself.
 
-ghost use Rattle.std.specs.Prelude.{◌≡◌, ◌↔◌, ◌<◌, ◌+◌, ◌∷◌, [], ℕ, Some, None, IfOk, IfErr, IfSome, IfNone, OnOk, OnErr, IsTrue};
+ghost use Rattle.std.specs.Prelude.{◌≡◌, ◌↔◌, ◌<◌, ◌+◌, ℕ, Some, None, IfOk, IfErr, IfSome, IfNone, OnOk, OnErr, IsTrue};
 ghost use Rattle.fst_types.specs.declared.grade.Grade.{Grade};
 ghost use Rattle.fst_types.specs.Gates.{IsOpenNumber};
 ghost use Rattle.fst_types.specs.Refusals.{NoneHolds};
 ghost use Rattle.fst_graph.specs.Grouping.{SealsIfOpen};
-ghost use Rattle.fst_graph.specs.Known.{Known, Prepared, unprepared, member_for, Refuses, DependsGate};
+ghost use Rattle.fst_graph.specs.Known.{Prepared, unprepared, member_for, Refuses};
 ghost use Rattle.fst_graph.specs.Membering.{ArePaired, member_order};
-ghost use Rattle.fst_graph.specs.Sparse.{AddsSparse, ForetellsSparse, GainsSparse};
+ghost use Rattle.fst_graph.specs.Sparse.{ForetellsSparse, GainsSparse};
 
 use crate::gates::gate_slot;
 use crate::member::prepare_member;
-use crate::prepared::{Gates, reserve_on};
+use crate::prepared::Gates;
 use crate::refusals::member_fault;
-use crate::sparse::pairs::row_of;
-use crate::sparse::{Sparse, reserve_one};
+use crate::sparse::Sparse;
 use fst_heads::cascade::{cascade, seal_slot};
-use fst_heads::growth::gain_one;
-use fst_heads::head::{Head, Kind};
-use fst_heads::links::{link, reserve_above, reserve_below};
-use fst_heads::lists::Listed;
-use fst_heads::pending::{Pending, is_pending, over_block};
-use fst_heads::row::row_sums;
-use fst_types::{BlockNo, Fault, Grade, PatchNo, Place, Span};
-use fst_walks::lift::rise_of;
+use fst_types::{BlockNo, Fault, Grade, PatchNo, Span};
 use fst_walks::sight::Sight;
-use fst_walks::strands::strand_after;
-use smallvec::SmallVec;
 
 impl Sparse {
     /// Makes room for a new change of the group with these gates, and answers the number and the grade that it will have.
@@ -65,32 +55,9 @@ impl Sparse {
         else {
             return Err(Fault::Memory);
         };
-        if reserve_one(
-            &mut self.heads,
-            &mut self.ends,
-            &mut self.levels,
-            &mut self.queue,
-        )
-        .is_err()
-        {
-            return Err(Fault::Memory);
-        }
-        if reserve_above(&mut self.heads, prepared.dependencies.as_slice()).is_err() {
-            return Err(Fault::Memory);
-        }
-        if reserve_below(&mut self.heads, gates.tail).is_err() {
-            return Err(Fault::Memory);
-        }
-        if reserve_on(&mut self.lists, &mut self.covers, block.0, span).is_err() {
-            return Err(Fault::Memory);
-        }
-        let row = prepared.dependencies.as_slice();
-        if self.needs.reserve(block.0, row.len()).is_err() {
-            return Err(Fault::Memory);
-        }
-        let grade = prepared.grade;
-        self.prepared = Some(prepared);
-        Ok((PatchNo(self.numbers + 1), grade))
+        let made = (PatchNo(self.numbers + 1), prepared.grade);
+        self.make_room(prepared)?;
+        Ok(made)
     }
 
     /// Whether a change of the group with that head and these arguments is prepared.
@@ -133,73 +100,6 @@ impl Sparse {
         }
     }
 
-    // Puts down the change that is prepared for a group, whose head is not open, and the tail gains it.
-    fn put_member(&mut self, head: u32) -> (PatchNo, Grade)
-        requires prepared { (p : Prepared) × (self.old.prepared ≡ Some p) × (p.group ≡ Some head) }
-        requires closed { IsOpenNumber self.old.heads head → ⊥ }
-        ensures made { IfSome self.old.prepared (λ p. (with_change : Known) × AddsSparse (unprepared self.old) p.block p.at p.len (head ∷ []) result.0.0 result.1 with_change × DependsGate with_change (head + 1) (result.0.0 ∷ []) self.new) }
-        ensures foreseen { IfSome self.old.prepared (λ p. (result.0.0 ≡ p.number) × (result.1 ≡ p.grade)) }
-    {
-        let Some(prepared) = self.prepared.take() else {
-            unreachable!();
-        };
-        let Some(gates) = prepared.gates else {
-            unreachable!();
-        };
-        let number = self.numbers + 1;
-        let grade = prepared.grade;
-        let span = prepared.span;
-        let block = prepared.block;
-        let kind = Kind::Change(block, span, grade);
-        let sight = Sight {
-            heads: &self.heads,
-            lists: &self.lists,
-            covers: &self.covers,
-            standings: &self.standings,
-            levels: &self.levels,
-            needs: &self.needs,
-        };
-        let rise = rise_of(
-            &sight,
-            &mut self.ends.up.walk,
-            &mut self.ends.up.crossed,
-            block,
-            prepared.dependencies.as_slice(),
-            grade,
-        );
-        self.levels
-            .lift(&self.heads, &self.ends.up.walk, block, rise);
-        self.needs
-            .put(&self.heads, prepared.dependencies.as_slice(), grade);
-        let row = prepared.dependencies.as_slice();
-        let strand = strand_after(&self.levels, &self.heads, row, number);
-        let sums = row_sums(&self.heads, prepared.dependencies.as_slice());
-        let pending = over_block(block, sums.joined());
-        link(&mut self.heads, prepared.dependencies.as_slice(), number);
-        self.heads.push_reserved(Head {
-            number,
-            kind,
-            place: Place::Memory,
-            dependencies: prepared.dependencies,
-            sums,
-            pending,
-            dependants: SmallVec::new(self.alloc),
-        });
-        self.lists[block as usize].push_reserved(Listed { number, span });
-        self.standings[block as usize].enter(kind, is_pending(pending, Pending::Block(block)));
-        self.unmarked = self.unmarked.min(block as usize);
-        self.covers[block as usize].put(span, number);
-        self.ends.grow();
-        self.levels.grow(number, rise.level, strand);
-        self.live += 1;
-        self.numbers = number;
-        let row = row_of(self.alloc, number);
-        let gained = row_sums(&self.heads, row.as_slice());
-        gain_one(&mut self.heads, gates.tail, number, gained);
-        link(&mut self.heads, row.as_slice(), gates.tail);
-        (PatchNo(number), grade)
-    }
-
     /// Puts down the change that is prepared for the group with that head, which is sealed if it is open; then the tail
     /// depends on the change. It takes no memory.
     pub fn add_member(&mut self, head: u32) -> (PatchNo, Grade)
@@ -210,6 +110,6 @@ impl Sparse {
     {
         let _ = &self.heads;
         self.begin_member(head);
-        self.put_member(head)
+        self.put()
     }
 }

@@ -1,17 +1,24 @@
 //! Making a change: first room for it, then the change itself.
 
-ghost use Rattle.std.specs.Prelude.{◌≡◌, ◌↔◌, ◌<◌, ℕ, Some, IfOk, IfErr, OnErr, IfSome, MatchResult, IsTrue};
+ghost use Rattle.std.specs.Prelude.{◌≡◌, ◌↔◌, ◌<◌, ◌≤◌, ◌+◌, ◌∷◌, [], ℕ, Some, IfOk, IfErr, OnErr, IfSome, IfNone, MatchResult, IsTrue, Contains, length, map};
+ghost use Rattle.fst_types.specs.Gates.{IsOpenNumber};
 ghost use Rattle.fst_types.specs.Order.{make_order};
 ghost use Rattle.fst_types.specs.declared.grade.Grade.{Grade};
-ghost use Rattle.fst_graph.specs.Known.{Prepared, unprepared, prepared_for, Refuses};
+ghost use Rattle.fst_graph.specs.Known.{Known, Prepared, unprepared, prepared_for, Refuses, DependsGate};
 ghost use Rattle.fst_graph.specs.Sparse.{AddsSparse, ForeseesSparse};
+ghost use Rattle.fst_heads.specs.Heads.{IsRising};
 ghost use Rattle.fst_heads.specs.Names.{numbers_of};
+ghost use Rattle.fst_heads.specs.Frames.{HasRoomBelow};
+ghost use Rattle.fst_heads.specs.Nodes.{Node, nodes_of, pending_in, at_number, gains_names, linked_to, HasRoomAbove};
+ghost use Rattle.fst_heads.specs.Pendings.{Fits, sums_of};
 
-use crate::prepared::{prepare, reserve_on};
+use crate::prepared::prepare;
 use crate::refusals::make_fault;
-use crate::sparse::{Sparse, reserve_one};
+use crate::sparse::Sparse;
+use crate::sparse::pairs::row_of;
+use fst_heads::growth::gain_one;
 use fst_heads::head::{Head, Kind};
-use fst_heads::links::{link, reserve_above};
+use fst_heads::links::link;
 use fst_heads::lists::Listed;
 use fst_heads::pending::{Pending, is_pending, over_block};
 use fst_heads::row::row_sums;
@@ -20,6 +27,21 @@ use fst_walks::lift::rise_of;
 use fst_walks::sight::Sight;
 use fst_walks::strands::strand_after;
 use smallvec::SmallVec;
+use std::alloc::Global;
+
+// The gate gains the number, which is that of the newest patch.
+fn tie(alloc: Global, heads: &mut Vec<Head>, gate: u32, number: u32)
+    requires rising { IsRising heads.old.items }
+    requires counted { (x : Node) → Contains (nodes_of heads.old.items) x → (x.sums.count ≤ length x.patch.dependencies) × Fits x.sums }
+    requires below { HasRoomBelow heads.old.items gate }
+    requires above { HasRoomAbove heads.old.items (number ∷ []) }
+    ensures { nodes_of heads.new.items ≡ map (linked_to (number ∷ []) gate) (map (at_number gate (gains_names (number ∷ []) (sums_of (pending_in (nodes_of heads.old.items)) (number ∷ [])))) (nodes_of heads.old.items)) }
+{
+    let row = row_of(alloc, number);
+    let sums = row_sums(heads, row.as_slice());
+    gain_one(heads, gate, number, sums);
+    link(heads, row.as_slice(), gate);
+}
 
 impl Sparse {
     /// Makes room for a new change, and answers the number and the grade that `add_data` with these arguments will answer.
@@ -54,29 +76,9 @@ impl Sparse {
         let Ok(prepared) = prepare(self.alloc, &sight, &mut self.ends, block.0, span, after) else {
             return Err(Fault::Memory);
         };
-        if reserve_one(
-            &mut self.heads,
-            &mut self.ends,
-            &mut self.levels,
-            &mut self.queue,
-        )
-        .is_err()
-        {
-            return Err(Fault::Memory);
-        }
-        if reserve_above(&mut self.heads, prepared.dependencies.as_slice()).is_err() {
-            return Err(Fault::Memory);
-        }
-        if reserve_on(&mut self.lists, &mut self.covers, block.0, span).is_err() {
-            return Err(Fault::Memory);
-        }
-        let row = prepared.dependencies.as_slice();
-        if self.needs.reserve(block.0, row.len()).is_err() {
-            return Err(Fault::Memory);
-        }
-        let grade = prepared.grade;
-        self.prepared = Some(prepared);
-        Ok((PatchNo(self.numbers + 1), grade))
+        let made = (PatchNo(self.numbers + 1), prepared.grade);
+        self.make_room(prepared)?;
+        Ok(made)
     }
 
     // Whether a change with these arguments is prepared.
@@ -89,15 +91,17 @@ impl Sparse {
         }
     }
 
-    // Puts down the change that is prepared.
-    fn add_prepared(&mut self) -> (PatchNo, Grade)
-        requires { (p : Prepared) × (self.old.prepared ≡ Some p) × (p.group ≡ None) }
-        ensures added { IfSome self.old.prepared (λ p. AddsSparse (unprepared self.old) p.block p.at p.len p.after result.0.0 result.1 self.new) }
+    /// Puts down the change that is prepared. Where it is for a group, whose head is not open, the tail gains it.
+    pub fn put(&mut self) -> (PatchNo, Grade)
+        requires { (p : Prepared) × (self.old.prepared ≡ Some p) × IfSome p.group (λ head. IsOpenNumber self.old.heads head → ⊥) }
+        ensures alone { IfSome self.old.prepared (λ p. IfNone p.group (AddsSparse (unprepared self.old) p.block p.at p.len p.after result.0.0 result.1 self.new)) }
+        ensures tied { IfSome self.old.prepared (λ p. IfSome p.group (λ head. (with_change : Known) × AddsSparse (unprepared self.old) p.block p.at p.len (head ∷ []) result.0.0 result.1 with_change × DependsGate with_change (head + 1) (result.0.0 ∷ []) self.new)) }
         ensures foreseen { IfSome self.old.prepared (λ p. (result.0.0 ≡ p.number) × (result.1 ≡ p.grade)) }
     {
         let Some(prepared) = self.prepared.take() else {
             unreachable!();
         };
+        let gates = prepared.gates;
         let number = self.numbers + 1;
         let grade = prepared.grade;
         let span = prepared.span;
@@ -145,7 +149,13 @@ impl Sparse {
         self.levels.grow(number, rise.level, strand);
         self.live += 1;
         self.numbers = number;
-        (PatchNo(number), grade)
+        match gates {
+            Some(gates) => {
+                tie(self.alloc, &mut self.heads, gates.tail, number);
+                (PatchNo(number), grade)
+            }
+            None => (PatchNo(number), grade),
+        }
     }
 
     /// A new change of the block, which depends on the named patches that are not on disk and on the changes not on disk
@@ -165,9 +175,9 @@ impl Sparse {
         ensures blocks { self.new.blocks ≡ self.old.blocks }
     {
         if self.is_prepared(block, span, after) {
-            return Ok(self.add_prepared());
+            return Ok(self.put());
         }
         self.room(block, span, after)?;
-        Ok(self.add_prepared())
+        Ok(self.put())
     }
 }

@@ -9,9 +9,10 @@ pub returns-clause-added : goal.returns-clause-added
 returns-clause-added c =
     let q = c.requires in
     let head = c.args.head in
-    let r = c.put_member.result in
+    let r = c.put.result in
     let between = c.begin_member.new.self in
-    let made = subst (λ o. IfSome o (λ p. (w : Known) × AddsSparse (unprepared between) p.block p.at p.len (head ∷ []) r.0.0 r.1 w × DependsGate w (head + 1) (r.0.0 ∷ []) c.put_member.new.self)) (c.begin_member.ensures.prepared ∙ q.1) c.put_member.ensures.made in
+    let tied = subst (λ o. IfSome o (λ p. IfSome p.group (λ h. (w : Known) × AddsSparse (unprepared between) p.block p.at p.len (h ∷ []) r.0.0 r.1 w × DependsGate w (h + 1) (r.0.0 ∷ []) c.put.new.self))) (c.begin_member.ensures.prepared ∙ q.1) c.put.ensures.tied in
+    let made = subst (λ g. IfSome g (λ h. (w : Known) × AddsSparse (unprepared between) q.0.block q.0.at q.0.len (h ∷ []) r.0.0 r.1 w × DependsGate w (h + 1) (r.0.0 ∷ []) c.put.new.self)) q.2 tied in
     let clear = member_clear c.self.inside.prepared c.self.inside.numbers q.0 head (patches_of c.self.inside.heads.items) c.self.inside.blocks (ap (λ k. k.prepared) c.self.view_is ∙ q.1) q.2 (if_prepared c.self.invariant (MayBePut (patches_of c.self.inside.heads.items) c.self.inside.numbers c.self.inside.blocks) (λ p is k. k.ready)) in
     let begun = c.begin_member.ensures.begun in
     let numbers = ap (λ (k : Known). k.numbers) begun.state in
@@ -26,5 +27,5 @@ returns-clause-added c =
         change = subst (λ k. SparseChangeIsMade between.heads k q.0.block q.0.at q.0.len (head ∷ []) r.0.0 r.1 made.0.heads) numbers made.1.row;
         tie = made.2.row;
       };
-      state = known_is c.put_member.new.self _ _ _ (made.2.numbers ∙ made.1.numbers) blocks groups made.2.prepared;
+      state = known_is c.put.new.self _ _ _ (made.2.numbers ∙ made.1.numbers) blocks groups made.2.prepared;
     })
