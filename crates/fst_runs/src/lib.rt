@@ -8,3 +8,7 @@
 mod crew;
 #[cfg(test)]
 mod program;
+#[cfg(test)]
+mod same;
+#[cfg(test)]
+mod slots;

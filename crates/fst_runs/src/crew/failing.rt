@@ -7,7 +7,7 @@ use fst_device::{Arm, BlockSlot, MemorySlot, SlotFault};
 use fst_types::BlockNo;
 
 /// Which writes fail, and whether the bytes change then.
-#[derive(Drop)]
+#[derive(Clone, Copy)]
 pub enum Habit {
     Never,
     EveryThirdAfter,

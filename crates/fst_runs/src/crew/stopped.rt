@@ -1,17 +1,16 @@
 //! What stops a crew: a thread that cannot be made, a stray, a desk that cannot be closed, refused memory.
 
-ghost use Rattle.std.specs.Prelude.{◌≡◌, length};
-
-use crate::crew::{ROW, plain_slots, plan_of};
+use crate::crew::{Ended, ROW, is_cache_fault, is_refused, is_silent, plan_of, prints, ran, room};
+use crate::same::same_answer;
+use crate::slots::{first_job, over, zero_slots};
 use fst_cache::{Cache, Share};
-use fst_crew::{CrewFault, Stacks, closed, crew, crew_on, without_stray};
-use fst_device::{MemorySlot, carry};
+use fst_crew::{CrewFault, Stacks, closed, crew_on, without_stray};
+use fst_device::{Done, MemorySlot, carry};
 use fst_pairs::{Collected, Desk, Worker};
-use fst_types::{BlockNo, Fault, Shape, Ticket};
+use fst_types::{BlockNo, Fault, Ticket};
 use std::alloc::Global;
 use std::process::Abort;
 use std::sync::Wait;
-use std::test::Fail;
 use std::thread::Threads;
 
 // More than the system has, so a thread that asks for it cannot be made.
@@ -19,146 +18,145 @@ const TOO_LARGE: usize = 1 << 60;
 
 const SMALL: usize = 1 << 20;
 
-// A crew of two file threads and two workers on these stacks answers that a thread cannot be made, and prints nothing.
-fn is_stopped<R: Threads + Wait + Sync + Abort>(
-    rt: &R,
-    alloc: Global,
-    slots: Vec<MemorySlot>,
-    stacks: Stacks<'_>,
-) {
-    let mut out = Vec::new(alloc);
-    let ended = crew_on(rt, alloc, slots, plan_of(rt, 2, 2, 10), stacks, &mut out);
-    assert!(rt; matches!(ended, Err(CrewFault::Thread)));
-    assert!(rt; out.is_empty());
+// A crew of two file threads and two workers on these stacks, over zeros.
+fn ran_on<R: Threads + Wait + Sync + Abort>(rt: &R, alloc: Global, stacks: Stacks<'_>) -> Ended {
+    let mut printed = room(rt, alloc);
+    let slots = zero_slots(rt, alloc, 8, 8);
+    let fault = crew_on(
+        rt,
+        alloc,
+        slots,
+        plan_of(rt, 2, 2, 10),
+        stacks,
+        &mut printed,
+    )
+    .err();
+    Ended { fault, printed }
+}
+
+// A thread could not be made, and nothing was printed.
+fn is_stopped(rt: &impl Abort, ended: &Ended) {
+    assert!(rt; matches!(ended.fault, Some(CrewFault::Thread)));
+    is_silent(rt, ended);
 }
 
 // The first worker, then the second, of which the first then ends.
 #[test]
-fn worker_that_cannot_be_made(rt: HostRuntime) -> Result<(), Fail> {
+fn worker_that_cannot_be_made(rt: HostRuntime) {
     for workers in [[TOO_LARGE, SMALL], [SMALL, TOO_LARGE]] {
         let stacks = Stacks {
             workers: &workers,
             files: &[],
         };
-        is_stopped(&rt, rt.alloc(), plain_slots(&rt, 8, 8)?, stacks);
+        is_stopped(&rt, &ran_on(&rt, rt.alloc(), stacks));
     }
-    Ok(())
 }
 
 // The first file thread, then the second, of which the first then makes all its changes; the workers end.
 #[test]
-fn file_thread_that_cannot_be_made(rt: HostRuntime) -> Result<(), Fail> {
+fn file_thread_that_cannot_be_made(rt: HostRuntime) {
     for files in [[TOO_LARGE, SMALL], [SMALL, TOO_LARGE]] {
         let stacks = Stacks {
             workers: &[],
             files: &files,
         };
-        is_stopped(&rt, rt.alloc(), plain_slots(&rt, 8, 8)?, stacks);
+        is_stopped(&rt, &ran_on(&rt, rt.alloc(), stacks));
     }
-    Ok(())
 }
 
 // Stacks that are large enough stop nothing.
 #[test]
-fn small_stacks(rt: HostRuntime) -> Result<(), Fail> {
+fn small_stacks(rt: HostRuntime) {
     let stacks = Stacks {
         workers: &[SMALL, SMALL],
         files: &[SMALL, SMALL],
     };
-    let slots = plain_slots(&rt, 8, 8)?;
-    let mut out = Vec::new(rt.alloc());
-    assert!(rt;
-        crew_on(
-            &rt,
-            rt.alloc(),
-            slots,
-            plan_of(&rt, 2, 2, 10),
-            stacks,
-            &mut out
-        )
-        .is_ok()
-    );
-    assert_eq!(rt; out.as_slice(), ROW);
-    Ok(())
+    prints(&rt, &ran_on(&rt, rt.alloc(), stacks), ROW);
 }
 
-fn cache_of(alloc: Global, slots: Vec<MemorySlot>) -> Result<Cache<MemorySlot>, Fail> {
-    let Ok(shape) = Shape::new(8, 8, 8) else {
-        return Err("shape")?;
-    };
-    let Ok(cache) = Cache::open(alloc, shape, slots) else {
-        return Err("open")?;
-    };
-    Ok(cache)
+// A cache of eight blocks of eight zeros.
+fn zeros(rt: &impl Abort, alloc: Global) -> Cache<MemorySlot> {
+    over(rt, alloc, zero_slots(rt, alloc, 8, 8), 8, 8)
 }
 
-// A desk over such slots with a change of the first block, the share of whoever made it, and the desk's worker.
-fn changed(
-    alloc: Global,
-    slots: Vec<MemorySlot>,
-) -> Result<(Desk<MemorySlot>, Share, Vec<Worker<MemorySlot>>), Fail> {
-    let Ok((mut desk, workers)) = Desk::open(alloc, cache_of(alloc, slots)?, 1) else {
-        return Err("desk")?;
-    };
-    let mut share = desk.share();
-    let Ok(_) = desk.patch(&mut share, BlockNo(0), 0, b"A", &[]) else {
-        return Err("patch")?;
-    };
-    Ok((desk, share, workers))
+// A change of the first block.
+fn change(rt: &impl Abort, desk: &mut Desk<MemorySlot>, share: &mut Share) {
+    let made = desk.patch(share, BlockNo(0), 0, b"A", &[]);
+    assert!(rt; made.is_ok(), "the block has a change");
+}
+
+// The write of that change is out.
+fn submit(rt: &impl Abort, desk: &mut Desk<MemorySlot>) {
+    let sent = desk.submit();
+    assert!(rt; sent == Ok(Some(Ticket(1))));
+}
+
+// A desk over zeros, and its worker.
+fn opened(rt: &impl Abort, alloc: Global) -> (Desk<MemorySlot>, Vec<Worker<MemorySlot>>) {
+    Desk::open(alloc, zeros(rt, alloc), 1)
+        .ok()
+        .expect(rt, "the desk opens")
+}
+
+// The desk is not closed with these shares.
+fn stays_open(rt: &impl Abort, desk: Desk<MemorySlot>, shares: Vec<Share>, expected: Fault) {
+    is_cache_fault(rt, &closed(desk, shares).err(), expected);
+}
+
+// This share, in a list.
+fn only(rt: &impl Abort, alloc: Global, share: Share) -> Vec<Share> {
+    let mut shares = Vec::new(alloc);
+    let added = shares.push(share);
+    assert!(rt; added.is_ok(), "there is memory");
+    shares
 }
 
 // A write that is out.
 #[test]
-fn busy_at_close(rt: HostRuntime) -> Result<(), Fail> {
-    let (mut desk, share, _workers) = changed(rt.alloc(), plain_slots(&rt, 8, 8)?)?;
-    assert!(rt; desk.submit() == Ok(Some(Ticket(1))));
-    let mut shares = Vec::new(rt.alloc());
-    shares.push(share)?;
-    assert!(rt; matches!(closed(desk, shares), Err(CrewFault::Cache(Fault::Busy))));
-    Ok(())
+fn busy_at_close(rt: HostRuntime) {
+    let (mut desk, _workers) = opened(&rt, rt.alloc());
+    let mut share = desk.share();
+    change(&rt, &mut desk, &mut share);
+    submit(&rt, &mut desk);
+    stays_open(&rt, desk, only(&rt, rt.alloc(), share), Fault::Busy);
 }
 
 // A share that is missing.
 #[test]
-fn stranger_at_close(rt: HostRuntime) -> Result<(), Fail> {
-    let (desk, _share, _workers) = changed(rt.alloc(), plain_slots(&rt, 8, 8)?)?;
-    let ended = closed(desk, Vec::new(rt.alloc()));
-    assert!(rt; matches!(ended, Err(CrewFault::Cache(Fault::Stranger))));
-    Ok(())
+fn stranger_at_close(rt: HostRuntime) {
+    let (mut desk, _workers) = opened(&rt, rt.alloc());
+    let mut share = desk.share();
+    change(&rt, &mut desk, &mut share);
+    stays_open(&rt, desk, Vec::new(rt.alloc()), Fault::Stranger);
+}
+
+// What a thread makes of two writes that were settled, and of this stray.
+fn meets(rt: &impl Abort, stray: Option<Done<MemorySlot>>, expected: Result<(), Fault>) {
+    let met = Collected { settled: 2, stray };
+    same_answer(rt, without_stray(met), expected);
 }
 
 // No completion of a crew's own is a stray, so one is put where `collect` hands it out.
 #[test]
-fn stray_stops_a_thread(rt: HostRuntime) -> Result<(), Fail> {
-    let mut cache = cache_of(rt.alloc(), plain_slots(&rt, 8, 8)?)?;
-    let mut share = cache.share();
-    assert!(rt; cache.patch(&mut share, BlockNo(0), 0, b"A", &[]).is_ok());
-    let Ok(job) = cache.issue(BlockNo(0)) else {
-        return Err("issue")?;
-    };
-    let met = Collected {
-        settled: 2,
-        stray: Some(carry(job)),
-    };
-    assert!(rt; without_stray(met) == Err(Fault::Stranger));
-    let none: Collected<MemorySlot> = Collected {
-        settled: 2,
-        stray: None,
-    };
-    assert!(rt; without_stray(none) == Ok(()));
-    Ok(())
+fn stray_stops_a_thread(rt: HostRuntime) {
+    let mut cache = zeros(&rt, rt.alloc());
+    let job = first_job(&rt, &mut cache, b"A");
+    meets(&rt, Some(carry(job)), Err(Fault::Stranger));
+    meets(&rt, None, Ok(()));
 }
 
-// Whichever allocation is refused, nothing is printed. In a plain run none is: `rt try --test --fail-alloc N` refuses the
-// N-th.
-#[test]
-fn refused_in_turn_fst_crew(rt: HostRuntime) -> Result<(), Fail> {
-    let slots = plain_slots(&rt, 8, 8)?;
-    let mut out = Vec::with_capacity(rt.alloc(), 1024)?;
-    match crew(&rt, rt.alloc(), slots, plan_of(&rt, 2, 2, 10), &mut out) {
-        Ok(()) => assert_eq!(rt; out.as_slice(), ROW),
-        Err(CrewFault::Cache(Fault::Memory)) => assert!(rt; out.is_empty()),
-        Err(_) => assert!(rt; false, "another fault than that of memory"),
+// Whichever allocation of a crew is refused, nothing is printed.
+fn prints_all_or_nothing(rt: &impl Abort, ended: &Ended) {
+    if ended.fault.is_none() {
+        prints(rt, ended, ROW);
+    } else {
+        is_refused(rt, ended, Fault::Memory);
     }
-    Ok(())
+}
+
+// In a plain run none is refused: `rt try --test --fail-alloc N` refuses the N-th.
+#[test]
+fn refused_in_turn_fst_crew(rt: HostRuntime) {
+    let slots = zero_slots(&rt, rt.alloc(), 8, 8);
+    prints_all_or_nothing(&rt, &ran(&rt, rt.alloc(), slots, 2, 2, 10));
 }
