@@ -1,21 +1,27 @@
 //! Gates, as calls name them.
 
-ghost use Rattle.std.specs.Prelude.{◌≡◌, length, IfOk, IfErr, IfSome, IfNone};
+ghost use Rattle.std.specs.Prelude.{◌≡◌, ◌≤◌, ℕ, List, length, map, Contains, IfOk, IfErr, IfSome, IfNone, OnOk, OnErr};
+ghost use Rattle.fst_types.specs.Dependencies.{DirectlyOn, IsLiveNumber};
+ghost use Rattle.fst_types.specs.Lists.{Lists};
 ghost use Rattle.fst_types.specs.Order.{seal_order, depend_order};
 ghost use Rattle.fst_types.specs.Refusals.{IsFirst, NoneHolds};
 ghost use Rattle.fst_types.specs.Gates.{IsOpenNumber};
 ghost use Rattle.fst_heads.specs.Heads.{IsRising, patches_of};
 ghost use Rattle.fst_heads.specs.Names.{numbers_of};
 ghost use Rattle.fst_heads.specs.Marks.{HasSlot};
-ghost use Rattle.fst_heads.specs.Nodes.{AreLinked, nodes_of};
+ghost use Rattle.fst_heads.specs.Nodes.{Node, AreLinked, nodes_of, pending_in, at_number, gains_names, linked_to};
+ghost use Rattle.fst_heads.specs.Pendings.{Fits, sums_of};
 ghost use Rattle.fst_walks.specs.Searching.{TellsGates};
 
+use fst_heads::growth::{gain, missing_names};
 use fst_heads::head::{Head, Kind};
+use fst_heads::links::{link, reserve_above};
 use fst_heads::marks::slot_of;
-use fst_heads::row::{is_given, names_unknown};
+use fst_heads::row::{is_given, names_unknown, row_sums};
 use fst_types::{Fault, MAX_NAMES, PatchNo};
 use fst_walks::cycle::closes_cycle;
 use fst_walks::walk::Walk;
+use std::alloc::{AllocError, Global};
 
 /// The slot of an open gate, or why it is none: the number was not given, it is no gate's, or the gate is sealed.
 pub fn gate_slot(heads: &[Head], numbers: u32, gate: u32) -> Result<usize, Fault>
@@ -70,4 +76,24 @@ pub fn depend_fault(
         return Some(Fault::Cycle);
     }
     None
+}
+
+/// The gate gains the named patches that are not on disk and that it does not have yet.
+pub fn gain_names(
+    alloc: Global,
+    heads: &mut Vec<Head>,
+    gate: u32,
+    on: &[PatchNo],
+) -> Result<(), AllocError>
+    requires rising { IsRising heads.old.items }
+    requires counted { (x : Node) → Contains (nodes_of heads.old.items) x → (x.sums.count ≤ length x.patch.dependencies) × Fits x.sums }
+    ensures gained { OnOk result ((names : List ℕ) × Lists (λ n. IsLiveNumber (patches_of heads.old.items) n × Contains (numbers_of on.now) n × (DirectlyOn (patches_of heads.old.items) gate n → ⊥)) names × (nodes_of heads.new.items ≡ map (linked_to names gate) (map (at_number gate (gains_names names (sums_of (pending_in (nodes_of heads.old.items)) names))) (nodes_of heads.old.items)))) }
+    ensures same { OnErr result (nodes_of heads.new.items ≡ nodes_of heads.old.items) }
+{
+    let names = missing_names(alloc, heads, gate, on)?;
+    reserve_above(heads, names.as_slice())?;
+    let sums = row_sums(heads, names.as_slice());
+    gain(heads, gate, names.as_slice(), sums)?;
+    link(heads, names.as_slice(), gate);
+    Ok(())
 }

@@ -18,18 +18,16 @@ mod making;
 mod pairs;
 mod reserving;
 
-use crate::gates::{depend_fault, gate_slot};
+use crate::gates::{depend_fault, gain_names, gate_slot};
 use crate::prepared::Prepared;
 use fst_heads::cascade::{cascade, seal_slot};
 use fst_heads::choice::{first_held, ready_set};
 use fst_heads::cover::{Cover, empty_covers};
-use fst_heads::growth::{gain, missing_names};
 use fst_heads::head::Head;
-use fst_heads::links::{link, reserve_above};
 use fst_heads::lists::{Listed, empty_lists, land_block};
 use fst_heads::marks::{marks_if, slot_of};
 use fst_heads::places::{block_of, keep_live, launch_all};
-use fst_heads::row::{is_given, row_sums};
+use fst_heads::row::is_given;
 use fst_heads::standing::{
     Standing, empty_standings, flying_count, held_count, land_at, least_marked, ready_count,
 };
@@ -232,17 +230,9 @@ impl Sparse {
         ) {
             return Err(fault);
         }
-        let Ok(names) = missing_names(self.alloc, &self.heads, gate.0, on) else {
+        let Ok(()) = gain_names(self.alloc, &mut self.heads, gate.0, on) else {
             return Err(Fault::Memory);
         };
-        let Ok(()) = reserve_above(&mut self.heads, names.as_slice()) else {
-            return Err(Fault::Memory);
-        };
-        let sums = row_sums(&self.heads, names.as_slice());
-        let Ok(()) = gain(&mut self.heads, gate.0, names.as_slice(), sums) else {
-            return Err(Fault::Memory);
-        };
-        link(&mut self.heads, names.as_slice(), gate.0);
         Ok(())
     }
 
