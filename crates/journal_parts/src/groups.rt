@@ -4,6 +4,7 @@
 //! put after it nothing is written before all of it is on disk, or goes in the same write.
 
 use crate::fault::StoreFault;
+use crate::guide::zeros;
 use fst_cache::{Cache, Share};
 use fst_device::{BlockSlot, MemorySlot, carry};
 use fst_types::{BlockNo, Fault, GroupNo, PatchNo, Place, Shape};
@@ -142,19 +143,9 @@ fn play<W: Write>(
     Ok(())
 }
 
-/// A slot of eight zero bytes for each of four blocks.
-fn zeros(alloc: Global) -> Result<Vec<MemorySlot>, StoreFault> {
-    let mut slots = Vec::new(alloc);
-    for block in 0..4 {
-        let bytes = Vec::from_slice(alloc, &[0; 8])?;
-        slots.push(MemorySlot::new(BlockNo(block), bytes))?;
-    }
-    Ok(slots)
-}
-
 /// Plays what there is of groups over a cache of four blocks of eight bytes, and tells what is refused of them.
 pub fn groups<W: Write>(alloc: Global, out: &mut W) -> Result<(), StoreFault> {
-    let mut cache = Cache::open(alloc, Shape::new(4, 8, 4)?, zeros(alloc)?)?;
+    let mut cache = Cache::open(alloc, Shape::new(4, 8, 4)?, zeros(alloc, 4, 8)?)?;
     let mut share = cache.share();
     play(&mut cache, &mut share, out)?;
     refusals(&mut cache, &mut share, out)

@@ -4,7 +4,7 @@ use crate::fault::StoreFault;
 use fst_cache::Cache;
 use fst_device::{Arm, MemorySlot, carry};
 use fst_types::{BlockNo, Fault, PatchNo, Place, Settled, Shape};
-use std::alloc::Global;
+use std::alloc::{AllocError, Global};
 use std::io::Write;
 
 const JOURNAL: BlockNo = BlockNo(0);
@@ -15,11 +15,11 @@ const FIRST_HOME: BlockNo = BlockNo(2);
 
 const SECOND_HOME: BlockNo = BlockNo(3);
 
-/// A slot of four zero bytes for each of four blocks.
-fn zeros(alloc: Global) -> Result<Vec<MemorySlot>, StoreFault> {
+/// A slot of so many zero bytes for each of so many blocks.
+pub fn zeros(alloc: Global, blocks: u32, size: u32) -> Result<Vec<MemorySlot>, AllocError> {
     let mut slots = Vec::new(alloc);
-    for block in 0..4 {
-        let bytes = Vec::from_slice(alloc, &[0; 4])?;
+    for block in 0..blocks {
+        let bytes = vec![in alloc; 0u8; size as usize]?;
         slots.push(MemorySlot::new(BlockNo(block), bytes))?;
     }
     Ok(slots)
@@ -80,6 +80,6 @@ fn play<W: Write>(cache: &mut Cache<MemorySlot>, out: &mut W) -> Result<(), Stor
 
 /// Plays one transaction over a cache of four blocks of four bytes, of which all may be in memory.
 pub fn guide<W: Write>(alloc: Global, out: &mut W) -> Result<(), StoreFault> {
-    let mut cache = Cache::open(alloc, Shape::new(4, 4, 4)?, zeros(alloc)?)?;
+    let mut cache = Cache::open(alloc, Shape::new(4, 4, 4)?, zeros(alloc, 4, 4)?)?;
     play(&mut cache, out)
 }

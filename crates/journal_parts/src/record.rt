@@ -21,9 +21,19 @@ pub struct Balance {
 
 /// The number at the start of a block, or 0 where it has no four bytes.
 pub fn number_of(bytes: &[u8]) -> u32 {
-    match bytes.first_chunk::<4>() {
-        Some(number) => u32::from_le_bytes(*number),
-        None => 0,
+    match bytes {
+        [first, second, third, fourth, ..] => {
+            u32::from_le_bytes([*first, *second, *third, *fourth])
+        }
+        _ => 0,
+    }
+}
+
+// The block that two bytes name, or 0 where they are fewer.
+fn block_of(bytes: &[u8]) -> u16 {
+    match bytes {
+        [first, second, ..] => u16::from_le_bytes([*first, *second]),
+        _ => 0,
     }
 }
 
@@ -41,20 +51,18 @@ impl Record {
 
     /// The record in a journal block, or none where no transfer was journalled there.
     pub fn from_bytes(bytes: &[u8]) -> Option<Record> {
-        let (number, rest) = bytes.split_first_chunk::<4>()?;
-        let (from, rest) = rest.split_first_chunk::<2>()?;
-        let (to, amounts) = rest.split_first_chunk::<2>()?;
-        let (left, sum) = amounts.split_first_chunk::<4>()?;
-        let sum = <[u8; 4]>::try_from(sum).ok()?;
+        if bytes.len() != 16 {
+            return None;
+        }
         let record = Record {
-            number: u32::from_le_bytes(*number),
+            number: number_of(&bytes[..4]),
             from: Balance {
-                block: u16::from_le_bytes(*from),
-                amount: u32::from_le_bytes(*left),
+                block: block_of(&bytes[4..6]),
+                amount: number_of(&bytes[8..12]),
             },
             to: Balance {
-                block: u16::from_le_bytes(*to),
-                amount: u32::from_le_bytes(sum),
+                block: block_of(&bytes[6..8]),
+                amount: number_of(&bytes[12..]),
             },
         };
         (record.number != 0).then_some(record)
