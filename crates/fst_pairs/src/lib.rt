@@ -18,8 +18,6 @@ pub use law::{
     no_stray, nothing_lost, one_crash_tells_all_slots, rings_in_order,
     slots_hold_what_a_crash_leaves,
 };
+pub use rising::{DonesRise, JobsRise};
 pub use totals::{Collected, Refused, Totals};
-pub use worker::{Step, Worker};
-
-#[cfg(test)]
-mod tests;
+pub use worker::{FarEnds, Step, Worker};

@@ -1,13 +1,14 @@
 //! What stops a crew: a thread that cannot be made, a stray, a desk that cannot be closed, refused memory.
 
 use crate::crew::{Ended, ROW, is_cache_fault, is_refused, is_silent, plan_of, prints, ran, room};
+use crate::pairs::{only, opened, patch_all, submits};
 use crate::same::same_answer;
 use crate::slots::{first_job, over, zero_slots};
 use fst_cache::{Cache, Share};
 use fst_crew::{CrewFault, Stacks, closed, crew_on, without_stray};
 use fst_device::{Done, MemorySlot, carry};
 use fst_pairs::{Collected, Desk, Worker};
-use fst_types::{BlockNo, Fault, Ticket};
+use fst_types::Fault;
 use std::alloc::Global;
 use std::process::Abort;
 use std::sync::Wait;
@@ -79,23 +80,14 @@ fn zeros(rt: &impl Abort, alloc: Global) -> Cache<MemorySlot> {
     over(rt, alloc, zero_slots(rt, alloc, 8, 8), 8, 8)
 }
 
-// A change of the first block.
-fn change(rt: &impl Abort, desk: &mut Desk<MemorySlot>, share: &mut Share) {
-    let made = desk.patch(share, BlockNo(0), 0, b"A", &[]);
-    assert!(rt; made.is_ok(), "the block has a change");
-}
+// A desk over zeros with a change of its first block, its worker, and the share of whoever made the change.
+type Changed = (Desk<MemorySlot>, Vec<Worker<MemorySlot>>, Share);
 
-// The write of that change is out.
-fn submit(rt: &impl Abort, desk: &mut Desk<MemorySlot>) {
-    let sent = desk.submit();
-    assert!(rt; sent == Ok(Some(Ticket(1))));
-}
-
-// A desk over zeros, and its worker.
-fn opened(rt: &impl Abort, alloc: Global) -> (Desk<MemorySlot>, Vec<Worker<MemorySlot>>) {
-    Desk::open(alloc, zeros(rt, alloc), 1)
-        .ok()
-        .expect(rt, "the desk opens")
+fn changed(rt: &impl Abort, alloc: Global) -> Changed {
+    let (mut desk, workers) = opened(rt, alloc, zeros(rt, alloc), 1);
+    let mut share = desk.share();
+    patch_all(rt, &mut desk, &mut share, 1);
+    (desk, workers, share)
 }
 
 // The desk is not closed with these shares.
@@ -103,30 +95,18 @@ fn stays_open(rt: &impl Abort, desk: Desk<MemorySlot>, shares: Vec<Share>, expec
     is_cache_fault(rt, &closed(desk, shares).err(), expected);
 }
 
-// This share, in a list.
-fn only(rt: &impl Abort, alloc: Global, share: Share) -> Vec<Share> {
-    let mut shares = Vec::new(alloc);
-    let added = shares.push(share);
-    assert!(rt; added.is_ok(), "there is memory");
-    shares
-}
-
 // A write that is out.
 #[test]
 fn busy_at_close(rt: HostRuntime) {
-    let (mut desk, _workers) = opened(&rt, rt.alloc());
-    let mut share = desk.share();
-    change(&rt, &mut desk, &mut share);
-    submit(&rt, &mut desk);
+    let (mut desk, _workers, share) = changed(&rt, rt.alloc());
+    submits(&rt, &mut desk, Some(1));
     stays_open(&rt, desk, only(&rt, rt.alloc(), share), Fault::Busy);
 }
 
 // A share that is missing.
 #[test]
 fn stranger_at_close(rt: HostRuntime) {
-    let (mut desk, _workers) = opened(&rt, rt.alloc());
-    let mut share = desk.share();
-    change(&rt, &mut desk, &mut share);
+    let (desk, _workers, _share) = changed(&rt, rt.alloc());
     stays_open(&rt, desk, Vec::new(rt.alloc()), Fault::Stranger);
 }
 

@@ -1,11 +1,12 @@
 //! What opening and closing a desk ask.
 
-use crate::Desk;
-use crate::tests::{closes, only, patch_all, steps, submits, with_one, write_one, zeros};
-use crate::worker::Step;
-use fst_cache::{Cache, Share};
-use fst_device::{BlockSlot, MemorySlot, carry};
-use fst_types::{BlockNo, Fault, Ticket};
+use crate::pairs::checked::Checked;
+use crate::pairs::{collects, only, submits, with_one, zeros};
+use crate::slots::{change, first_job};
+use fst_cache::{Cache, Share, Stat};
+use fst_device::{BlockSlot, Job, MemorySlot, carry};
+use fst_pairs::{Desk, Step};
+use fst_types::{Fault, Ticket};
 use linked_list_allocator::LocalHeap;
 use std::alloc::Global;
 use std::process::Abort;
@@ -13,19 +14,14 @@ use std::process::Abort;
 // What was made, sent and landed.
 #[test]
 fn closing_adds_up(rt: HostRuntime) {
-    let (mut desk, mut worker) = with_one(&rt, rt.alloc(), 2);
-    let mut share = desk.share();
-    patch_all(&rt, &mut desk, &mut share, 2);
+    let mut desk = with_one(&rt, rt.alloc(), 2);
+    desk.patch_all(&rt, 2);
     for ticket in 1..3 {
-        submits(&rt, &mut desk, Some(ticket));
-        write_one(&rt, &mut desk, &mut worker, ticket);
+        desk.submits(&rt, Some(ticket));
+        desk.write_one(&rt, ticket);
     }
-    let totals = closes(&rt, rt.alloc(), desk, share);
-    assert_eq!(rt; totals.made, 2);
-    assert_eq!(rt; totals.sent, 2);
-    assert_eq!(rt; totals.landed, 2);
-    assert_eq!(rt; totals.stalled, 0);
-    assert_eq!(rt; totals.cache.stat().live, 0);
+    let cache = desk.closes(&rt, rt.alloc(), (2, 2, 2, 0));
+    assert_eq!(rt; cache.stat().live, 0);
 }
 
 // A desk that does not close, and its shares, come back.
@@ -43,22 +39,36 @@ fn refuses<S: BlockSlot>(
     (refused.desk, refused.shares)
 }
 
-// A desk whose write was sent and made, but not collected, is not closed, nor one whose shares do not add up; both times
-// the desk and the shares come back, and it goes on.
+// A desk closes with these shares.
+fn closes<S: BlockSlot>(rt: &impl Abort, desk: Desk<S>, shares: Vec<Share>) {
+    assert!(rt; desk.close(shares).is_ok());
+}
+
+// A desk whose write was sent and made, but not collected, and its share.
+fn not_collected(rt: &impl Abort, alloc: Global) -> (Desk<MemorySlot>, Share) {
+    let mut checked = with_one(rt, alloc, 1);
+    checked.patch_all(rt, 1);
+    checked.submits(rt, Some(1));
+    checked.steps(rt, Step::Wrote(Ticket(1)));
+    let Checked {
+        desk,
+        worker: _,
+        share,
+    } = checked;
+    (desk, share)
+}
+
+// Such a one is not closed, nor one whose shares do not add up; both times the desk and the shares come back, and it goes
+// on.
 #[test]
 fn sent_and_not_collected(rt: HostRuntime) {
-    let (mut desk, mut worker) = with_one(&rt, rt.alloc(), 1);
-    let mut share = desk.share();
-    patch_all(&rt, &mut desk, &mut share, 1);
-    submits(&rt, &mut desk, Some(1));
-    steps(&rt, &mut worker, Step::Wrote(Ticket(1)));
+    let (desk, share) = not_collected(&rt, rt.alloc());
     let shares = only(&rt, rt.alloc(), share);
     let (mut desk, shares) = refuses(&rt, desk, shares, Fault::Busy);
     assert_eq!(rt; shares.len(), 1);
-    assert_eq!(rt; desk.collect().settled, 1);
+    collects(&rt, &mut desk, 1);
     let (desk, _) = refuses(&rt, desk, Vec::new(rt.alloc()), Fault::Stranger);
-    let closed = desk.close(shares);
-    assert!(rt; closed.is_ok());
+    closes(&rt, desk, shares);
 }
 
 // A cache over which no desk opens comes back.
@@ -76,25 +86,43 @@ fn stays_shut(
     cache
 }
 
+// A desk opens over a cache, with so many workers.
+fn opens<S: BlockSlot>(rt: &impl Abort, alloc: Global, cache: Cache<S>, workers: u32) {
+    assert!(rt; Desk::open(alloc, cache, workers).is_ok());
+}
+
 // No worker, or more than 8.
 #[test]
 fn so_many_workers(rt: HostRuntime) {
     let cache = zeros(&rt, rt.alloc(), 1);
     let cache = stays_shut(&rt, rt.alloc(), cache, 0, Fault::BadField);
     let cache = stays_shut(&rt, rt.alloc(), cache, 9, Fault::BadField);
-    assert!(rt; Desk::open(rt.alloc(), cache, 8).is_ok());
+    opens(&rt, rt.alloc(), cache, 8);
+}
+
+// The write of a job is made, and the cache settles it.
+fn settles(rt: &impl Abort, cache: &mut Cache<MemorySlot>, job: Job<MemorySlot>) {
+    assert!(rt; cache.settle(carry(job)).is_ok());
 }
 
 // A cache with a write out comes back, and goes on.
 #[test]
 fn opens_over_no_write_that_is_out(rt: HostRuntime) {
     let mut cache = zeros(&rt, rt.alloc(), 1);
-    let mut share = cache.share();
-    assert!(rt; cache.patch(&mut share, BlockNo(0), 0, b"A", &[]).is_ok());
-    let job = cache.issue(BlockNo(0)).ok().expect(&rt, "it goes out");
+    let job = first_job(&rt, &mut cache, b"A");
     let mut cache = stays_shut(&rt, rt.alloc(), cache, 1, Fault::Busy);
-    assert!(rt; cache.settle(carry(job)).is_ok());
-    assert!(rt; Desk::open(rt.alloc(), cache, 1).is_ok());
+    settles(&rt, &mut cache, job);
+    opens(&rt, rt.alloc(), cache, 1);
+}
+
+// The cache counts this.
+fn counts(rt: &impl Abort, cache: &Cache<MemorySlot>, expected: Stat) {
+    assert_eq!(rt; cache.stat(), expected);
+}
+
+// Nothing of the heap is taken.
+fn is_empty(rt: &impl Abort, heap: &LocalHeap) {
+    assert_eq!(rt; heap.used(), 0);
 }
 
 // With less room than the rings take the cache comes back as it was, and the heap is empty again; with room enough the
@@ -113,19 +141,24 @@ fn opens_within(
         }
         Err((back, fault)) => {
             assert!(rt; fault == Fault::Memory);
-            assert_eq!(rt; back.stat(), before);
-            assert_eq!(rt; heap.used(), 0);
+            counts(rt, &back, before);
+            is_empty(rt, heap);
             Some(back)
         }
     }
 }
 
+// A cache of one block with a change.
+fn changed(rt: &impl Abort, alloc: Global) -> Cache<MemorySlot> {
+    let mut cache = zeros(rt, alloc, 1);
+    change(rt, &mut cache, b"A");
+    cache
+}
+
 // Heaps with ever more room refuse each allocation of the rings in turn.
 #[test]
 fn refused_in_turn_fst_pairs(rt: HostRuntime) {
-    let mut cache = zeros(&rt, rt.alloc(), 1);
-    let mut share = cache.share();
-    assert!(rt; cache.patch(&mut share, BlockNo(0), 0, b"A", &[]).is_ok());
+    let mut cache = changed(&rt, rt.alloc());
     for room in 1..4096usize {
         let heap = LocalHeap::new(rt.alloc(), 64 * room).expect(&rt, "there is memory");
         match opens_within(&rt, &heap, cache) {

@@ -1,9 +1,10 @@
 //! Every call of a desk once, with what it answers.
 
-use crate::Desk;
-use crate::tests::{closes, submits, with_one, write_one};
+use crate::pairs::checked::Checked;
+use crate::pairs::with_one;
 use fst_cache::{Share, Stat};
 use fst_device::MemorySlot;
+use fst_pairs::Desk;
 use fst_types::{BlockNo, Fault, Grade, PatchNo, Place, Ticket};
 use std::process::Abort;
 
@@ -52,19 +53,22 @@ fn looks_at_flight(rt: &impl Abort, desk: &Desk<MemorySlot>) {
     assert!(rt; flight.image == b"A\0\0\0".as_slice());
 }
 
+// What the worker and the desk keep is at hand, and all patches are forgotten.
+fn forgets(rt: &impl Abort, checked: &mut Checked<MemorySlot>) {
+    checked.worker.keeps_order();
+    assert_eq!(rt; checked.desk.forget(), 3);
+}
+
 #[test]
 fn each_call_answers(rt: HostRuntime) {
-    let (mut desk, mut worker) = with_one(&rt, rt.alloc(), 2);
-    let mut share = desk.share();
-    makes(&rt, &mut desk, &mut share);
-    looks(&rt, &mut desk);
-    submits(&rt, &mut desk, Some(1));
-    looks_at_flight(&rt, &desk);
-    assert!(rt; desk.resubmit(BlockNo(0)) == Err(Fault::NotStalled));
-    write_one(&rt, &mut desk, &mut worker, 1);
-    worker.keeps_order();
-    assert_eq!(rt; desk.forget(), 3);
-    submits(&rt, &mut desk, None);
-    let totals = closes(&rt, rt.alloc(), desk, share);
-    assert_eq!(rt; totals.made, 3);
+    let mut checked = with_one(&rt, rt.alloc(), 2);
+    makes(&rt, &mut checked.desk, &mut checked.share);
+    looks(&rt, &mut checked.desk);
+    checked.submits(&rt, Some(1));
+    looks_at_flight(&rt, &checked.desk);
+    checked.resubmits(&rt, 0, Err(Fault::NotStalled));
+    checked.write_one(&rt, 1);
+    forgets(&rt, &mut checked);
+    checked.submits(&rt, None);
+    checked.closes(&rt, rt.alloc(), (3, 1, 1, 0));
 }

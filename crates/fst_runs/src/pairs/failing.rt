@@ -1,0 +1,123 @@
+//! Writes that fail: stalled, sent again, and lost.
+
+use crate::pairs::checked::Checked;
+use crate::pairs::opened;
+use crate::slots::{add, over, zero_slot};
+use fst_cache::Cache;
+use fst_device::{Arm, BlockSlot, MemorySlot, SlotFault};
+use fst_types::{BlockNo, Fault, Ticket};
+use std::alloc::Global;
+use std::process::Abort;
+
+// A cache of one block, over this slot.
+fn alone<S: BlockSlot>(rt: &impl Abort, alloc: Global, slot: S) -> Cache<S> {
+    let mut slots = Vec::new(alloc);
+    add(rt, &mut slots, slot);
+    over(rt, alloc, slots, 1, 4)
+}
+
+// A desk with one worker over one block, the next write of which fails so.
+fn armed(rt: &impl Abort, alloc: Global, arm: Arm) -> Checked<MemorySlot> {
+    let mut slot = zero_slot(rt, alloc, 0, 4);
+    slot.arm(arm);
+    Checked::open(rt, alloc, alone(rt, alloc, slot))
+}
+
+// The block of this cache waits for a retry.
+fn is_stalled(rt: &impl Abort, cache: &Cache<MemorySlot>) {
+    assert_eq!(rt; cache.stalled(), Some(BlockNo(0)));
+}
+
+// A stalled write counts as settled: the desk closes.
+#[test]
+fn only_write_stalls(rt: HostRuntime) {
+    let mut desk = armed(&rt, rt.alloc(), Arm::WriteFailsBefore);
+    desk.patch_all(&rt, 1);
+    desk.submits(&rt, Some(1));
+    desk.write_one(&rt, 1);
+    let cache = desk.closes(&rt, rt.alloc(), (1, 1, 0, 1));
+    is_stalled(&rt, &cache);
+}
+
+// A write that failed is sent again under a new ticket.
+#[test]
+fn stalled_write_goes_again(rt: HostRuntime) {
+    let mut desk = armed(&rt, rt.alloc(), Arm::WriteFailsAfter);
+    desk.patch_all(&rt, 1);
+    desk.submits(&rt, Some(1));
+    desk.resubmits(&rt, 0, Err(Fault::NotStalled));
+    desk.write_one(&rt, 1);
+    desk.stalled(&rt, Some(BlockNo(0)));
+    desk.resubmits(&rt, 1, Err(Fault::NoBlock));
+    desk.resubmits(&rt, 0, Ok(Some(Ticket(2))));
+    desk.write_one(&rt, 2);
+    desk.closes(&rt, rt.alloc(), (1, 2, 1, 1));
+}
+
+// A slot in memory whose writes all fail.
+#[derive(Drop)]
+struct Broken {
+    inner: MemorySlot,
+}
+
+impl BlockSlot for Broken {
+    ghost use Rattle.std.specs.Prelude.{refl, length};
+
+    ghost held = { λ slot. slot.inner.bytes };
+
+    ghost faults = { λ slot. slot.inner.faults };
+
+    ghost index = { λ slot. slot.inner.index };
+
+    ghost size = { λ slot. length slot.inner.bytes };
+
+    ghost held_fills = { λ slot. refl };
+
+    fn index(&self) -> BlockNo {
+        self.inner.index()
+    }
+
+    fn size(&self) -> u32 {
+        self.inner.size()
+    }
+
+    fn read(&mut self, into: &mut [u8]) -> Result<(), SlotFault> {
+        self.inner.read(into)
+    }
+
+    fn write(&mut self, from: &[u8]) -> Result<(), SlotFault> {
+        self.inner.arm(Arm::WriteFailsBefore);
+        self.inner.write(from)
+    }
+}
+
+// A desk with one worker over one block whose writes all fail.
+fn all_fail(rt: &impl Abort, alloc: Global) -> Checked<Broken> {
+    let inner = zero_slot(rt, alloc, 0, 4);
+    Checked::open(rt, alloc, alone(rt, alloc, Broken { inner }))
+}
+
+// A write that fails at each of three tries.
+fn tries(rt: &impl Abort, desk: &mut Checked<Broken>) {
+    for ticket in 1..4 {
+        desk.write_one(rt, ticket);
+        if ticket < 3 {
+            desk.stalled(rt, Some(BlockNo(0)));
+            desk.resubmits(rt, 0, Ok(Some(Ticket(ticket + 1))));
+        }
+    }
+}
+
+// Its block is lost, and counts as stalled where the desk is closed. Another desk may be opened over it.
+#[test]
+fn lost_write_counts_as_stalled(rt: HostRuntime) {
+    let mut desk = all_fail(&rt, rt.alloc());
+    desk.patch_all(&rt, 1);
+    desk.submits(&rt, Some(1));
+    tries(&rt, &mut desk);
+    desk.stalled(&rt, None);
+    desk.resubmits(&rt, 0, Err(Fault::Lost));
+    desk.patch_refused(&rt, 0, Fault::Lost);
+    let cache = desk.closes(&rt, rt.alloc(), (1, 3, 0, 3));
+    opened(&rt, rt.alloc(), cache, 1);
+}
