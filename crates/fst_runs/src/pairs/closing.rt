@@ -1,7 +1,7 @@
 //! What opening and closing a desk ask.
 
 use crate::pairs::checked::Checked;
-use crate::pairs::{collects, only, submits, with_one, zeros};
+use crate::pairs::{collects, only, opened, submits, with_one, zeros};
 use crate::slots::{change, first_job};
 use fst_cache::{Cache, Share, Stat};
 use fst_device::{BlockSlot, Job, MemorySlot, carry};
@@ -10,6 +10,11 @@ use fst_types::{Fault, Ticket};
 use linked_list_allocator::LocalHeap;
 use std::alloc::Global;
 use std::process::Abort;
+
+// The cache counts so many live patches.
+fn has_live(rt: &impl Abort, cache: &Cache<MemorySlot>, expected: u32) {
+    assert_eq!(rt; cache.stat().live, expected);
+}
 
 // What was made, sent and landed.
 #[test]
@@ -21,7 +26,7 @@ fn closing_adds_up(rt: HostRuntime) {
         desk.write_one(&rt, ticket);
     }
     let cache = desk.closes(&rt, rt.alloc(), (2, 2, 2, 0));
-    assert_eq!(rt; cache.stat().live, 0);
+    has_live(&rt, &cache, 0);
 }
 
 // A desk that does not close, and its shares, come back.
@@ -41,7 +46,7 @@ fn refuses<S: BlockSlot>(
 
 // A desk closes with these shares.
 fn closes<S: BlockSlot>(rt: &impl Abort, desk: Desk<S>, shares: Vec<Share>) {
-    assert!(rt; desk.close(shares).is_ok());
+    desk.close(shares).ok().expect(rt, "the desk closes");
 }
 
 // A desk whose write was sent and made, but not collected, and its share.
@@ -86,18 +91,13 @@ fn stays_shut(
     cache
 }
 
-// A desk opens over a cache, with so many workers.
-fn opens<S: BlockSlot>(rt: &impl Abort, alloc: Global, cache: Cache<S>, workers: u32) {
-    assert!(rt; Desk::open(alloc, cache, workers).is_ok());
-}
-
 // No worker, or more than 8.
 #[test]
 fn so_many_workers(rt: HostRuntime) {
     let cache = zeros(&rt, rt.alloc(), 1);
     let cache = stays_shut(&rt, rt.alloc(), cache, 0, Fault::BadField);
     let cache = stays_shut(&rt, rt.alloc(), cache, 9, Fault::BadField);
-    opens(&rt, rt.alloc(), cache, 8);
+    opened(&rt, rt.alloc(), cache, 8);
 }
 
 // The write of a job is made, and the cache settles it.
@@ -112,7 +112,7 @@ fn opens_over_no_write_that_is_out(rt: HostRuntime) {
     let job = first_job(&rt, &mut cache, b"A");
     let mut cache = stays_shut(&rt, rt.alloc(), cache, 1, Fault::Busy);
     settles(&rt, &mut cache, job);
-    opens(&rt, rt.alloc(), cache, 1);
+    opened(&rt, rt.alloc(), cache, 1);
 }
 
 // The cache counts this.
