@@ -2,7 +2,7 @@
 use Rattle.std.proofs.Common.{◌≡◌, ◌<◌, false, get_or-set_same, get_or-set_other, ◌+◌, ◌++◌, ◌∷◌, [], ℕ, Bool, List, length, map, get_or, set, refl, sym, subst, ◌∙◌, arith, ◌⊎◌, ◌≤◌, Contains, ap, inl, inr}
 use Rattle.fst_types.specs.{Cascade.IsCascadeOf, Closure.IsAcyclic, Dependencies.{DirectlyOn, DependsOn, IsLiveNumber}, Facts.SparseAreLawful, Gates.IsOpenNumber, Gating.{sealed, gains}, Lists.Lists, Making.fresh}
 use Rattle.fst_types.specs.{Order.depend_order, Patches.{Change, Patch, block_of_kind}, Refusals.NoneHolds, Writable.{IsWritable, IsWritableSet}, Writing.{landed, launched}, declared.grade.Grade.Grade}
-use Rattle.fst_heads.specs.{Covers.{AreCovered, Covering, HasBytes, IsPut}, Keeps.{Keeps}, Rows.IsSparseRow, Standings.{NoneBelow, may_be_written}, declared.standing.Standing.Standing}
+use Rattle.fst_heads.specs.{Covers.{AreCovered, Covering, IsPut}, Keeps.{Keeps}, Rows.IsSparseRow, Standings.{NoneBelow, may_be_written}, declared.standing.Standing.Standing}
 use Rattle.fst_types.proofs.{Alike.{Alike, back_alike, length_alike, on_back}, Depending.{length_mapped, sparse_gained}}
 use Rattle.fst_types.proofs.{GateGains.{direct_cases}, Issuing.{alike_launched, sparse_launched}, Landing.{alike_landed, sparse_landed}, NewChange.no_cycle, Sealing.{alike_sealed, sparse_sealed}}
 use Rattle.fst_heads.proofs.Covering.{was_gained, covered_alike, covered_put}
@@ -40,10 +40,10 @@ covered_moved {old} {new} {numbers} {blocks} {marks} {covers} A K C = covered_al
 
 -- where a change was made
 pub covered_made : {old : List Patch} {b at len : ℕ} {names row : List ℕ} {blocks : ℕ} {covers : List Covering} {own cover : Covering} (n : ℕ) (grade : Grade) → IsSparseRow old names b at len row
-    → AreCovered old blocks covers → b < blocks → own ≡ get_or covers b own → ((d : Covering) → HasBytes (get_or covers b d) at len) → IsPut own at len (n + 1) cover
+    → AreCovered old blocks covers → b < blocks → own ≡ get_or covers b own → IsPut own at len (n + 1) cover
     → AreCovered (old ++ fresh (n + 1) (Change b at len grade) row ∷ []) blocks (set covers b cover)
-covered_made {old} {b} {at} {len} {names} {row} {blocks} {covers} {own} {cover} n grade S C inside same room put =
-    covered_put old (n + 1) b at len grade names row (omega arith) S blocks covers C inside own cover (room own) (subst (λ c. IsPut c at len (n + 1) cover) same put)
+covered_made {old} {b} {at} {len} {names} {row} {blocks} {covers} {own} {cover} n grade S C inside same put =
+    covered_put old (n + 1) b at len grade names row (omega arith) S blocks covers C inside own cover (subst (λ c. IsPut c at len (n + 1) cover) same put)
 
 module _ (old : List Patch) (numbers blocks g : ℕ) (marks : List Bool) (K : Keeps old numbers blocks marks) (gate : IsOpenNumber old g)
     (names : List ℕ) (live : (n : ℕ) → Contains names n → IsLiveNumber old n) (clear : (n : ℕ) → Contains names n → (n ≡ g) ⊎ DependsOn old n g → ⊥) where

@@ -208,7 +208,7 @@ module _ {heads : Vec Head} {ends : Ends} {levels : Leveling} {needs : Needing} 
           keeps = rw (patches, marks.0) (keeps_walked (omega (arith, as_long, length_push walk.marks false, length_push ends.up.walk.marks false)) D.keeps);
           beside = rw (patches, crossed.0) (beside_made old blocks live 1 (with_items ends.up.crossed places).items made refl W.beside);
           tallies = rw (nodes, lists_are, standings_are, enters, told, pends, own_is, shelved_push lists.items p.block list list' _ D.shelf list_is pushed) (D.tallies own);
-          covered = rw (patches, covers_are) (covered_made numbers p.grade D.ready.depends S.covered D.ready.inside cover_is D.prepared.bytes covered);
+          covered = rw (patches, covers_are) (covered_made numbers p.grade D.ready.depends S.covered D.ready.inside cover_is covered);
           along = along_grown {old = walked} marks crossed W.along;
           leveled = rw patches (leveled_change p rise (numbers_met heads.items walk) S.keeps.lawful.one_place_each D.given (risen walk same named R) (rw (← at, ← S.leveled.long) leveled) below lifted still (rw (← there, ← after) on) ranks floors);
           needing = rw patches (needing_change p S.keeps.lawful.one_place_each S.needing (rw (← D.prepared.needed.0, ← gs, ← row) put));

@@ -1,7 +1,7 @@
 -- What the patches keep of their fields between two calls.
 use Rattle.std.specs.Prelude.{◌≡◌, ◌≤◌, ℕ, slice_index_or, Option, IfSome, length, map, vec_len, vec_capacity}
 use Rattle.std.specs.Global.{Vec}
-use Rattle.fst_heads.specs.{Covers.{AreCovered, Covering, HasBytes}, Heads.patches_of, Keeps.{Beside, Keeps, Tallies}, Lists.{entries_of, HasRoomInList}}
+use Rattle.fst_heads.specs.{Covers.{AreCovered, Covering, HasRoomForRuns}, Heads.patches_of, Keeps.{Beside, Keeps, Tallies}, Lists.{entries_of, HasRoomInList}}
 use Rattle.fst_heads.specs.{Nodes.nodes_of, declared.head.Head.Head, declared.lists.Listed.Listed, Standings.NoneBelow, declared.standing.Standing.Standing}
 use Rattle.fst_walks.specs.{Leveling.{IsLeveled, Leveling}, Needing.{IsNeeding, Needing}, declared.ends.Ends.Ends}
 use Rattle.fst_graph.specs.{Ready.{MayBePut, HasPlaces, HasRoomAround}, declared.prepared.Prepared.Prepared as Stored}
@@ -11,7 +11,7 @@ pub record IsPrepared (heads : Vec Head) (ends : Ends) (levels : Leveling) (need
   pub ready : MayBePut (patches_of heads.items) numbers blocks p
   pub places : HasPlaces (vec_len heads) (vec_capacity heads) (length ends.up.walk.marks) ends.up.walk.room (length ends.down.walk.marks) ends.down.walk.room (length levels.ranks) levels.room (vec_capacity queue)
   pub around : HasRoomAround heads.items p
-  pub bytes : (d : Covering) → HasBytes (slice_index_or covers.items p.block d) p.span.at p.span.len
+  pub runs : (d : Covering) → HasRoomForRuns (slice_index_or covers.items p.block d)
   pub in_list : HasRoomInList (map (λ l. vec_len l) lists.items) (map (λ l. vec_capacity l) lists.items) p.block
   pub needed : (needs.block ≡ p.block) × (length p.dependencies.items ≤ needs.room)
 

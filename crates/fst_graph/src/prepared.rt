@@ -4,7 +4,7 @@
 ghost use Rattle.std.specs.Prelude.{◌≡◌, ◌↔◌, ◌<◌, List, option_map, IsTrue, IfOk, OnOk, length, map, slice_index_or, vec_len, vec_capacity};
 ghost use Rattle.fst_types.specs.Grades.{FollowsRule};
 ghost use Rattle.fst_types.specs.Patches.{Patch};
-ghost use Rattle.fst_heads.specs.Covers.{AreCovered, Covering, HasBytes};
+ghost use Rattle.fst_heads.specs.Covers.{AreCovered, Covering, HasRoomForRuns};
 ghost use Rattle.fst_heads.specs.Grading.{MayBeHard};
 ghost use Rattle.fst_heads.specs.Heads.{patches_of};
 ghost use Rattle.fst_heads.specs.Lists.{entries_of, HasRoomInList};
@@ -112,20 +112,19 @@ pub fn prepare(
     })
 }
 
-/// Room for one more change of the block, with that span.
+/// Room for one more change of the block.
 pub fn reserve_on(
     lists: &mut Vec<Vec<Listed>>,
     covers: &mut Vec<Cover>,
     block: u32,
-    span: Span,
 ) -> Result<(), AllocError>
     requires list { block < length lists.old.items }
     requires cover { block < length covers.old.items }
     ensures entries { map (λ l. entries_of l.items) lists.new.items ≡ map (λ l. entries_of l.items) lists.old.items }
     ensures covered { (heads : List Patch) → AreCovered heads (length covers.old.items) covers.old.items → AreCovered heads (length covers.old.items) covers.new.items }
     ensures in_list { OnOk result (HasRoomInList (map (λ l. vec_len l) lists.new.items) (map (λ l. vec_capacity l) lists.new.items) block) }
-    ensures bytes { OnOk result ((d : Covering) → HasBytes (slice_index_or covers.new.items block d) span.at span.len) }
+    ensures runs { OnOk result ((d : Covering) → HasRoomForRuns (slice_index_or covers.new.items block d)) }
 {
     lists[block as usize].reserve(1)?;
-    covers[block as usize].reserve(span)
+    covers[block as usize].reserve()
 }

@@ -1,7 +1,7 @@
 -- What the covers of the blocks keep from call to call.
 use Rattle.fst_heads.proofs.Basics.{◌≡◌, ◌⊎◌, ◌<◌, ◌≤◌, ◌+◌, ◌++◌, ◌∷◌, ◌∙◌, [], ℕ, true, List, map, filter, get_or, set, Contains, refl, sym, ap, subst, inl, inr, arith, cases_lt, cases_eq, eqb-false, length-set, or_parts, rules, get_or-set_other, Contains-push_cases, common_steps, Contains-append_left}
 use Rattle.fst_heads.proofs.Basics.{Contains-append_right}
-use Rattle.fst_heads.proofs.{Words.{Covering, IsOver, IsCovered, AreCovered, Covers, IsLonger, IsPut, HasBytes, newest_over, IsSparseRow}, Newest.over_touched}
+use Rattle.fst_heads.proofs.{Words.{Covering, IsOver, IsCovered, AreCovered, Covers, SaysTheSame, IsPut, newest_over, newest_in, IsSparseRow}, Newest.over_touched}
 use Rattle.fst_heads.proofs.{Leading.some_injective, Forgetting.live_place_of}
 use Rattle.std.proofs.lemmas.Grind.{get_or-set_at}
 use Rattle.fst_types.specs.Closure.{one, join}
@@ -18,7 +18,7 @@ module _ (old new : List Patch)
     each = λ q x o.
         let k = C.each q x (back b x q o) in
         let n = forth b x (newest_over cover x) q k.over o k.above in
-        record { inside = k.inside; some = k.some; over = n.0; above = n.1 };
+        record { some = k.some; over = n.0; above = n.1 };
     bytes = λ none p h live on. let o = bytes p b h live on in subst (λ n. 1 ≤ n) o.4 (C.bytes none o.0 o.1 o.2 o.3);
   }
 
@@ -117,7 +117,7 @@ module _ (old : List Patch) (p : Patch) where
     each = λ q x o. elim (over_cases b x q o) [
       | inl was ↦
           let k = C.each q x was in
-          record { inside = k.inside; some = k.some; over = over_with b x (newest_over cover x) k.over; above = elim k.above [ inl e ↦ inl e | inr d ↦ inr (depends_with (newest_over cover x) q d) ] }
+          record { some = k.some; over = over_with b x (newest_over cover x) k.over; above = elim k.above [ inl e ↦ inl e | inr d ↦ inr (depends_with (newest_over cover x) q d) ] }
       | inr own ↦ absurd (off (subst (λ y. IsOn y b) (sym own) o.change))
     ];
     bytes = λ none y h live on. elim (Contains-push_cases old p y h) [ inl was ↦ C.bytes none y was live on | inr own ↦ absurd (off (subst (λ z. IsOn z b) (sym own) on)) ];
@@ -156,17 +156,17 @@ module _ (old : List Patch) (disk : IsOnDiskWithAll old) where
       ))
       (λ p b h live on. (p, was_left p h, live, on, refl))
 
--- a cover is longer, perhaps, and means the same
-module _ (heads : List Patch) (blocks : ℕ) (covers : List Covering) (A : AreCovered heads blocks covers) (b : ℕ) (cover d : Covering) (inside : b < blocks) (L : IsLonger (get_or covers b d) cover) where
-  longer_cover : IsCovered heads b cover
-  longer_cover =
+-- a cover that means the same stands in its place
+module _ (heads : List Patch) (blocks : ℕ) (covers : List Covering) (A : AreCovered heads blocks covers) (b : ℕ) (cover d : Covering) (inside : b < blocks) (L : SaysTheSame (get_or covers b d) cover) where
+  same_cover : IsCovered heads b cover
+  same_cover =
       let C = A.each b d inside in
+      let over : (x : ℕ) → newest_over cover x ≡ newest_over (get_or covers b d) x = λ x. ap (λ rs. newest_in 0 rs x) L.runs in
       record {
         each = λ q x o.
             let k = C.each q x o in
-            let same = L.same x k.inside in
+            let same = over x in
             record {
-              inside = let i = k.inside in let l = L.long in omega (arith, i, l);
               some = subst (λ n. 1 ≤ n) (sym same) k.some;
               over = subst (IsOver heads b x) (sym same) k.over;
               above = subst (λ n. (n ≡ q) ⊎ DependsOn heads n q) (sym same) k.above;
@@ -174,11 +174,11 @@ module _ (heads : List Patch) (blocks : ℕ) (covers : List Covering) (A : AreCo
         bytes = λ none. C.bytes (sym L.points ∙ none);
       }
 
-  pub covered_longer : AreCovered heads blocks (set covers b cover)
-  covered_longer = record {
+  pub covered_same : AreCovered heads blocks (set covers b cover)
+  covered_same = record {
     long = length-set covers b cover ∙ A.long;
     each = λ c e within. elim (cases_eq c b) [
-      | inl here ↦ subst (IsCovered heads c) (sym (get_or-set_at covers b c cover e here (let l = A.long in omega (arith, inside, l)))) (subst (λ k. IsCovered heads k cover) (sym here) longer_cover)
+      | inl here ↦ subst (IsCovered heads c) (sym (get_or-set_at covers b c cover e here (let l = A.long in omega (arith, inside, l)))) (subst (λ k. IsCovered heads k cover) (sym here) same_cover)
       | inr away ↦ subst (IsCovered heads c) (sym (get_or-set_other covers b c cover e away)) (A.each c e within)
     ];
   }
@@ -186,7 +186,7 @@ module _ (heads : List Patch) (blocks : ℕ) (covers : List Covering) (A : AreCo
 -- a new change with a sparse row, which is the newest over its bytes
 module _ (old : List Patch) (n b at len : ℕ) (grade : Grade) (names row : List ℕ) (some : 1 ≤ n) (S : IsSparseRow old names b at len row)
     (blocks : ℕ) (covers : List Covering) (A : AreCovered old blocks covers) (inside : b < blocks) (d : Covering) (cover : Covering)
-    (room : HasBytes (get_or covers b d) at len) (put : IsPut (get_or covers b d) at len n cover) where
+    (put : IsPut (get_or covers b d) at len n cover) where
   abbrev p : Patch
   p = fresh n (Change b at len grade) row
 
@@ -215,9 +215,7 @@ module _ (old : List Patch) (n b at len : ℕ) (grade : Grade) (names row : List
   own : (x q : ℕ) → at ≤ x → x < at + len → IsOver new b x q → Covers new b cover x q
   own x q lo hi o =
       let same = put.own x lo hi in
-      let fits = room (omega (arith, lo, hi)) in
       record {
-        inside = omega (arith, hi, fits, put.long);
         some = subst (λ k. 1 ≤ k) (sym same) some;
         over = subst (IsOver new b x) (sym same) (record { patch = p; head = there; numbered = refl; live = λ e. cc; change = refl; starts = lo; ends = hi });
         above = subst (λ k. (k ≡ q) ⊎ DependsOn new k q) (sym same) (elim (over_cases old p b x q o) [
@@ -232,7 +230,6 @@ module _ (old : List Patch) (n b at len : ℕ) (grade : Grade) (names row : List
         let k = C.each q x w in
         let same = put.beside x off in
         record {
-          inside = omega (arith, k.inside, put.long);
           some = subst (λ m. 1 ≤ m) (sym same) k.some;
           over = subst (IsOver new b x) (sym same) (over_with old p b x (newest_over was x) k.over);
           above = subst (λ m. (m ≡ q) ⊎ DependsOn new m q) (sym same) (elim k.above [ inl e ↦ inl e | inr e ↦ inr (depends_with old p (newest_over was x) q e) ]);

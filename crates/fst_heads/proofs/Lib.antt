@@ -4,6 +4,7 @@ pub mod Words
 pub mod Slots
 pub mod Rows
 pub mod Making
+pub mod Runs
 pub mod Newest
 pub mod Covering
 pub mod Touching

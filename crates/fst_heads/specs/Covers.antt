@@ -1,17 +1,39 @@
 -- The newest change over each byte of a block.
-use Rattle.std.specs.Prelude.{◌≡◌, ◌⊎◌, ◌<◌, ◌≤◌, ◌+◌, ◌==◌, ◌||◌, ℕ, Bool, false, List, length, Contains, slice_index_or}
+use Rattle.std.specs.Prelude.{◌≡◌, ◌⊎◌, ◌<◌, ◌≤◌, ◌+◌, ◌==◌, ◌||◌, if◌then◌else◌, nat_lt, ℕ, Bool, false, List, [], ◌∷◌, length, take, drop, All, AllPairs, Contains, Vec, vec_len, vec_capacity, slice_index_or}
+use Rattle.std.specs.Global.{Global}
 use Rattle.std.specs.List.Sorted.{IsStrictlyIncreasing}
 use Rattle.fst_types.specs.{Dependencies.DependsOn, Patches.{Patch, IsOn, IsLive, at_of, len_of}}
 use Rattle.fst_heads.specs.Rows.{IsTouched}
+use Rattle.fst_heads.specs.declared.cover.Run.{Run}
 
--- by byte the number of the newest change that was made over it, 0 for none; and whether a change without a byte was made
+-- the runs of a block, by the bytes that they begin at, each of which tells the number of the newest change from there on, 0 for none; and whether a change without a byte was made
 pub record Covering : Type 0 where
-  pub newest : List ℕ
+  pub runs : Vec Run Global
   pub points : Bool
 
--- the number that the cover has for byte x
+-- each run begins after the one before
+abbrev pub AreRising : List Run → Type 0
+AreRising = AllPairs (λ a b. a.from < b.from)
+
+-- the first n of the runs begin before the byte, and the others do not
+pub record AreParted (runs : List Run) (byte n : ℕ) : Type 0 where
+  pub few : n ≤ length runs
+  pub before : All (λ r. r.from < byte) (take n runs)
+  pub from : All (λ r. byte ≤ r.from) (drop n runs)
+
+-- the number that the last of the runs tells, and `so` where there is none
+unfoldable pub last_in : ℕ → List Run → ℕ
+last_in so [] = so
+last_in so (run ∷ runs) = last_in run.number runs
+
+-- the number that the last of the runs tells that does not begin after byte x, and `so` where there is none
+unfoldable pub newest_in : ℕ → List Run → ℕ → ℕ
+newest_in so [] x = so
+newest_in so (run ∷ runs) x = if nat_lt x run.from then so else newest_in run.number runs x
+
+-- the number of the newest change over byte x, 0 for none
 abbrev pub newest_over : Covering → ℕ → ℕ
-newest_over cover x = slice_index_or cover.newest x 0
+newest_over cover x = newest_in 0 cover.runs.items x
 
 -- n is the number of a live change of b over byte x
 pub record IsOver (heads : List Patch) (b x n : ℕ) : Type 0 where
@@ -25,7 +47,6 @@ pub record IsOver (heads : List Patch) (b x n : ℕ) : Type 0 where
 
 -- over byte x the cover names a live change of b, which is q or depends on it
 pub record Covers (heads : List Patch) (b : ℕ) (cover : Covering) (x q : ℕ) : Type 0 where
-  pub inside : x < length cover.newest
   pub some : 1 ≤ newest_over cover x
   pub over : IsOver heads b x (newest_over cover x)
   pub above : (newest_over cover x ≡ q) ⊎ DependsOn heads (newest_over cover x) q
@@ -40,20 +61,18 @@ pub record AreCovered (heads : List Patch) (blocks : ℕ) (covers : List Coverin
   pub long : length covers ≡ blocks
   pub each : (b : ℕ) (d : Covering) → b < blocks → IsCovered heads b (slice_index_or covers b d)
 
--- the cover is long enough for len bytes from at on
-abbrev pub HasBytes : Covering → (at len : ℕ) → Type 0
-HasBytes cover at len = 0 < len → at + len ≤ length cover.newest
+-- there is room for the two runs of one more change
+abbrev pub HasRoomForRuns : Covering → Type 0
+HasRoomForRuns cover = vec_len cover.runs + 2 ≤ vec_capacity cover.runs
 
--- the cover is longer, perhaps, and means the same
-pub record IsLonger (old new : Covering) : Type 0 where
+-- the cover means the same
+pub record SaysTheSame (old new : Covering) : Type 0 where
   pub points : new.points ≡ old.points
-  pub long : length old.newest ≤ length new.newest
-  pub same : (x : ℕ) → x < length old.newest → newest_over new x ≡ newest_over old x
+  pub runs : new.runs.items ≡ old.runs.items
 
 -- the number is the newest over len bytes from at on, and the other bytes stay
 pub record IsPut (old : Covering) (at len number : ℕ) (new : Covering) : Type 0 where
   pub points : new.points ≡ (old.points || (len == 0))
-  pub long : length new.newest ≡ length old.newest
   pub own : (x : ℕ) → at ≤ x → x < at + len → newest_over new x ≡ number
   pub beside : (x : ℕ) → (x < at) ⊎ (at + len ≤ x) → newest_over new x ≡ newest_over old x
 

@@ -2,37 +2,48 @@
 //! it, and of those over one byte it is enough to name the newest, since the others are below it. So a row is found by a
 //! look at the bytes of the new change alone, however many changes lie under it.
 
-ghost use Rattle.std.specs.Prelude.{◌≡◌, ◌≤◌, ◌<◌, ◌+◌, [], ℕ, false, length, Contains, IfOk, OnOk};
-ghost use Rattle.fst_heads.specs.Covers.{AreCovered, HasBytes, IsLonger, IsPut, newest_over};
+ghost use Rattle.std.specs.Prelude.{◌≡◌, ◌≤◌, ◌<◌, ◌+◌, [], ℕ, false, length, map, take, Contains, IfOk, OnOk};
+ghost use Rattle.fst_heads.specs.Covers.{AreCovered, AreParted, HasRoomForRuns, IsPut, SaysTheSame, last_in, newest_over};
 
 use fst_types::Span;
 use std::alloc::{AllocError, Global};
 use std::marker::Model;
 
-/// By byte of the block the number of the newest change that was made over it, 0 for none. It is not cleared when a change
-/// lands: who reads a number looks whether it is live. `points` is set for good where a change without a byte was made of
-/// the block, of which the bytes do not tell.
+/// From this byte on, up to where the next run begins, the newest change has this number, 0 for none.
+#[derive(Clone, Copy, Debug)]
+pub struct Run {
+    pub from: u64,
+    pub number: u32,
+}
+
+/// The runs of a block, by the bytes that they begin at; before the first one no change was made. So it takes 32 bytes for
+/// each change at most, and no more than 16 for each byte of the block. A run is not taken out when its change lands: who
+/// reads a number looks whether it is live. `points` is set for good where a change without a byte was made of the block,
+/// of which the runs do not tell.
 #[derive(Drop)]
 pub struct Cover {
-    newest: Vec<u32>,
+    runs: Vec<Run>,
     points: bool,
 }
 
 impl Model for Cover {
-    ghost use Rattle.fst_heads.specs.Covers.{Covering};
+    ghost use Rattle.fst_heads.specs.Covers.{AreRising, Covering};
 
     ghost Value = { Covering };
 
-    ghost view = { λ c. record { newest = c.newest.items; points = c.points } };
+    ghost view = { λ c. record { runs = c.runs; points = c.points } };
+
+    ghost invariant = { λ c. AreRising c.runs.items };
 }
 
 impl Cover {
     /// No change was made of the block. It takes no memory.
     pub fn new(alloc: Global) -> Cover
-        ensures { result ≡ record { newest = []; points = false } }
+        ensures runs { result.runs.items ≡ [] }
+        ensures points { result.points ≡ false }
     {
         Cover {
-            newest: Vec::new(alloc),
+            runs: Vec::new(alloc),
             points: false,
         }
     }
@@ -44,40 +55,70 @@ impl Cover {
         self.points
     }
 
-    /// Makes it long enough for the span: four bytes for each byte of the block up to its end. It means the same after it,
-    /// also where there is no memory.
-    pub fn reserve(&mut self, span: Span) -> Result<(), AllocError>
-        ensures longer { IsLonger self.old self.new }
-        ensures long { OnOk result (HasBytes self.new span.at span.len) }
+    /// Makes room for one more change. It means the same after it, also where there is no memory.
+    pub fn reserve(&mut self) -> Result<(), AllocError>
+        ensures same { SaysTheSame self.old self.new }
+        ensures room { OnOk result (HasRoomForRuns self.new) }
     {
-        let end = (u64::from(span.at) + u64::from(span.len)) as usize;
-        if 0 < span.len && self.newest.len() < end {
-            self.newest.resize(end, 0)?;
+        self.runs.reserve(2)
+    }
+
+    // How many runs begin before the byte.
+    fn before(&self, byte: u64) -> usize
+        ensures { AreParted self.now.runs.items byte result }
+    {
+        match self.runs.binary_search_by_key(&byte, |run| run.from) {
+            Ok(at) => at,
+            Err(at) => at,
         }
-        Ok(())
+    }
+
+    // The number that the last of so many runs tells.
+    fn number_after(&self, runs: usize) -> u32
+        requires { runs ≤ length self.now.runs.items }
+        ensures { result ≡ last_in 0 (take runs self.now.runs.items) }
+    {
+        if runs == 0 {
+            return 0;
+        }
+        self.runs[runs - 1].number
     }
 
     /// The number is that of the newest change, which has the span. It takes no memory.
     pub fn put(&mut self, span: Span, number: u32)
-        requires { HasBytes self.old span.at span.len }
+        requires { HasRoomForRuns self.old }
         ensures { IsPut self.old span.at span.len number self.new }
     {
         if span.len == 0 {
             self.points = true;
             return;
         }
-        let at = span.at as usize;
-        let end = at + span.len as usize;
-        self.newest[at..end].fill(number);
+        let from = u64::from(span.at);
+        let end = from + u64::from(span.len);
+        let first = self.before(from);
+        let past = self.before(end + 1);
+        // What was over the byte at the end stays over what follows.
+        let after = self.number_after(past);
+        drop(self.runs.drain(first..past));
+        // There is room for both.
+        let _ = self.runs.insert(
+            first,
+            Run {
+                from: end,
+                number: after,
+            },
+        );
+        let _ = self.runs.insert(first, Run { from, number });
     }
 
-    /// The numbers over the bytes of the span, as far as it is long.
-    pub fn over(&self, span: Span) -> &[u32]
-        ensures { (x : ℕ) → span.at ≤ x → x < span.at + span.len → x < length self.now.newest → Contains result.now (newest_over self.now x) }
+    /// The runs over the bytes of the span, with the one that it begins in.
+    pub fn over(&self, span: Span) -> &[Run]
+        ensures { (x : ℕ) → span.at ≤ x → x < span.at + span.len → 1 ≤ newest_over self.now x → Contains (map (λ r. r.number) result.now) (newest_over self.now x) }
     {
-        let at = (span.at as usize).min(self.newest.len());
-        let end = (u64::from(span.at) + u64::from(span.len)) as usize;
-        &self.newest[at..end.min(self.newest.len())]
+        let at = u64::from(span.at);
+        let first = self.before(at + 1).saturating_sub(1);
+        let past = self.before(at + u64::from(span.len));
+        &self.runs[first.min(past)..past]
     }
 }
 

@@ -1,6 +1,6 @@
 //! The row of a new change: the named patches, and the newest change over each of its bytes.
 
-ghost use Rattle.std.specs.Prelude.{◌≡◌, ◌↔◌, IsTrue, IfOk, OnOk};
+ghost use Rattle.std.specs.Prelude.{◌≡◌, ◌↔◌, map, IsTrue, IfOk, OnOk};
 ghost use Rattle.std.specs.List.Sorted.{IsStrictlyIncreasing};
 ghost use Rattle.fst_heads.specs.Covers.{GainsTouched, IsCovered};
 ghost use Rattle.fst_heads.specs.Heads.{IsRising, patch_of, patches_of};
@@ -8,7 +8,7 @@ ghost use Rattle.fst_heads.specs.Lists.{entries_of, entries_on};
 ghost use Rattle.fst_heads.specs.Names.{numbers_of};
 ghost use Rattle.fst_heads.specs.Rows.{IsSparseRow, IsTouched, touches};
 
-use crate::cover::Cover;
+use crate::cover::{Cover, Run};
 use crate::head::{Head, Kind};
 use crate::lists::Listed;
 use crate::marks::slot_of;
@@ -46,22 +46,22 @@ fn is_touched(heads: &[Head], number: u32, block: u32, span: Span) -> bool
     }
 }
 
-// Puts those of the numbers into the row that share a byte with the span. Equal ones mostly stand side by side.
+// Puts those of the runs' numbers into the row that share a byte with the span. Equal ones mostly stand side by side.
 fn gain_touched(
     heads: &[Head],
-    numbers: &[u32],
+    runs: &[Run],
     block: u32,
     span: Span,
     row: &mut Row,
 ) -> Result<(), AllocError>
     requires heads { IsRising heads.now }
     requires row { IsStrictlyIncreasing row.old.items }
-    ensures { OnOk result (GainsTouched (patches_of heads.now) numbers.now block span.at span.len row.old.items row.new.items) }
+    ensures { OnOk result (GainsTouched (patches_of heads.now) (map (λ r. r.number) runs.now) block span.at span.len row.old.items row.new.items) }
 {
     let mut last = 0;
-    for number in numbers {
-        if *number != last {
-            last = *number;
+    for run in runs {
+        if run.number != last {
+            last = run.number;
             if is_touched(heads, last, block, span) {
                 put(row, last)?;
             }

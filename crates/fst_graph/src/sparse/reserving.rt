@@ -52,7 +52,7 @@ impl Sparse {
         if reserve_around(&mut self.heads, &prepared).is_err() {
             return Err(Fault::Memory);
         }
-        if reserve_on(&mut self.lists, &mut self.covers, block, prepared.span).is_err() {
+        if reserve_on(&mut self.lists, &mut self.covers, block).is_err() {
             return Err(Fault::Memory);
         }
         let row = prepared.dependencies.as_slice();

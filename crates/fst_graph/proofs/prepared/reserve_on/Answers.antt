@@ -1,6 +1,6 @@
 use Rattle.std.proofs.Common.{◌+◌, ◌≤◌, rules, arith, OnOk, Result, Ok, Err, subst}
-use Rattle.fst_heads.specs.Covers.{IsLonger}
-use Rattle.fst_heads.proofs.Covering.{covered_longer}
+use Rattle.fst_heads.specs.Covers.{SaysTheSame}
+use Rattle.fst_heads.proofs.Covering.{covered_same}
 use Rattle.fst_walks.proofs.Shelves.{shelved_same, room_in_list}
 use Rattle.fst_graph.proofs.prepared.reserve_on.Goals as goal
 
@@ -12,7 +12,7 @@ returns-clause-entries c = shelved_same c.args.lists.now.items c.args.block c.in
 
 pub returns-clause-covered : goal.returns-clause-covered
 returns-clause-covered c heads C =
-    covered_longer heads _ c.args.covers.now.items C c.args.block c.reserve-2.new.self c.index_mut-2.result.now c.requires.cover (subst (λ d. IsLonger d c.reserve-2.new.self) c.index_mut-2.ensures.value c.reserve-2.ensures.longer)
+    covered_same heads _ c.args.covers.now.items C c.args.block c.reserve-2.new.self c.index_mut-2.result.now c.requires.cover (subst (λ d. SaysTheSame d c.reserve-2.new.self) c.index_mut-2.ensures.value c.reserve-2.ensures.same)
 
 pub returns-clause-in_list : goal.returns-clause-in_list
 returns-clause-in_list c =

@@ -44,7 +44,7 @@ invariant_of-self c =
       ready = put_begun (patches_of s.heads.items) s.numbers s.blocks s.ends.up.walk.marks c.self.invariant.keeps g (patches_of new.items) open_gate cascade p (head_told s.prepared s.numbers c.requires.0 g p (ap (λ k. k.prepared) c.self.view_is ∙ c.requires.1) c.requires.2 is) k.ready;
       places = places_kept _ _ _ _ _ _ _ _ _ _ _ _ heads_long (C.places ∙ c.seal_slot.ensures.places) (C.capacity ∙ c.seal_slot.ensures.capacity) k.places;
       around = around_kept new.items s.heads.items frames p k.around;
-      bytes = k.bytes;
+      runs = k.runs;
       in_list = k.in_list;
       needed = k.needed;
     }))

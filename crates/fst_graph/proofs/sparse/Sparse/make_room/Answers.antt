@@ -66,7 +66,7 @@ invariant_of-self-2 c =
       around = ok_of c.reserve_around.result _ c.reserve_around.ensures.room (sym c.is_err-2.ensures.value ∙ c.if-is_err-2.false);
       in_list = ok_of c.reserve_on.result _ c.reserve_on.ensures.in_list (sym c.is_err-3.ensures.value ∙ c.if-is_err-3.false);
       needed = (needed.0, omega (arith, needed.1, ap length c.as_slice-row.ensures));
-      bytes = ok_of c.reserve_on.result _ c.reserve_on.ensures.bytes (sym c.is_err-3.ensures.value ∙ c.if-is_err-3.false);
+      runs = ok_of c.reserve_on.result _ c.reserve_on.ensures.runs (sym c.is_err-3.ensures.value ∙ c.if-is_err-3.false);
     })
 
 pub returns-clause-prepared : goal.returns-clause-prepared
