@@ -4,6 +4,7 @@ pub mod GroupCalls
 pub mod Grouped
 pub mod PlaceOf
 pub mod Emptying
+pub mod Adding
 pub mod Kept
 pub mod GateSlot
 pub mod Readied

@@ -2,16 +2,15 @@
 use Rattle.std.proofs.Common.{inl, inr, ◌≡◌, ◌<◌, ◌≤◌, ◌+◌, ◌++◌, ◌∷◌, ◌∙◌, [], ℕ, true, false, Bool, List, Option, None, Contains, length, vec_len, vec_capacity, map, get_or, set, arith, refl, sym, ap, subst}
 use Rattle.std.proofs.lemmas.{List.{get_or-map, length-map, length_push, map_push}, List.Elements.Contains-push_cases}
 use Rattle.std.specs.{Global.Vec, Vec.with_items}
-use Rattle.fst_types.specs.{Dependencies.{DirectlyOn, IsLiveNumber}, Facts.{IsOnDiskWithAll, SparseAreLawful}, Gates.IsOpenNumber, Gating.gains, Limits.max_heads, Lists.Lists, Making.fresh, Order.depend_order}
-use Rattle.fst_types.specs.{Patches.{Patch, IsOn, IsOpenGate, OpenGate}, Refusals.NoneHolds, Tests.is_on}
-use Rattle.std.specs.List.Sorted.{IsStrictlyIncreasing}
+use Rattle.fst_types.specs.{Dependencies.{DirectlyOn, IsLiveNumber}, Facts.{IsOnDiskWithAll, SparseAreLawful}, Gates.IsOpenNumber, Gating.gains, Lists.Lists, Making.fresh, Order.depend_order}
+use Rattle.fst_types.specs.{Patches.{Patch, IsOn, OpenGate}, Refusals.NoneHolds}
 use Rattle.fst_heads.specs.{Covers.{Covering, IsPut as IsCovered}, Heads.{patches_of, IsRising}, Keeps.IsInside, Nodes.{AreLinked, node_of, nodes_of, at_number, gains_names, linked_to, pending_in}}
 use Rattle.fst_heads.specs.{Pendings.{is_pending, joined_sums, over_block, sums_of}, Standings.{entered, is_held_on, is_ready_on}, Tests.is_hard_kind, declared.head.Head.Head}
 use Rattle.fst_heads.specs.{declared.lists.Listed.Listed, declared.pending.{Pending.Pending, Sums.Sums}, declared.standing.Standing.Standing}
-use Rattle.fst_walks.specs.{Leveling.{IsLeveled, Leveling, level_of, strand_of, floor_of, top_level}, Lifting.{IsRise, MayLift}, Needing.{IsPut, Needing}, Sights.Sees, Strands.GoesOn, Walks.{Trail, numbers_met}, declared.{ends.Ends.Ends, levels.Rise.Rise, sight.Sight.Sight}}
-use Rattle.fst_graph.specs.{Ready.change_of, Sound.AreSound, declared.prepared.Prepared.Prepared as Stored}
+use Rattle.fst_walks.specs.{Leveling.{IsLeveled, Leveling, level_of, strand_of, floor_of, top_level}, Lifting.{IsRise, MayLift}, Needing.{IsPut, Needing}, Sights.Sees, Strands.GoesOn, Walks.{Trail, numbers_met}, declared.{ends.Ends.Ends, levels.{Rank.Rank, Rise.Rise}, sight.Sight.Sight}}
+use Rattle.fst_graph.specs.{Fresh.{HasOneMore, IsAdded, IsRoomier, MayAdd}, Ready.change_of, Sound.AreSound, declared.prepared.Prepared.Prepared as Stored}
 use Rattle.fst_heads.proofs.{Added.{new_node, with_node, with_names}, AtNumber.patches_in_nodes, Beside.{beside_made, beside_depends, one_live}, Covering.{covered_gained, covered_push}, Making.keeps_added, Slots.rising_heads, Stands.stand_made, Sums.joined_exact}
-use Rattle.fst_walks.proofs.{Linked.{patches_made, patches_named, with_gate}, Releveled.gained_is_leveled, Seen.{seen, lawful_nodes}, Shelves.shelved_push}
+use Rattle.fst_walks.proofs.{Linked.{patches_made, patches_named}, Releveled.gained_is_leveled, Seen.{seen, lawful_nodes, tallies_wider}, Shelves.shelved_push}
 use Rattle.fst_graph.proofs.{Borne.{few_counted, lawful_with, open_nodes}, Kept.{covered_made, keeps_depends, keeps_walked, none_below_set}, Listed.listed_made, NeedsNow.{needing_change, needing_gained, needing_put}}
 use Rattle.fst_graph.proofs.{PutNow.IsPutDown, Ranks.{along_grown, leveled_change, leveled_put}, Sound.{as_many_lists, as_many_marks, as_many_places, over_down, rising_sound, sees_all, walked_sound}, Tallied.{tallies_depends, tallies_made}}
 use Rattle.fst_heads.specs.declared.pending.Pending.TheVariants as pending
@@ -36,9 +35,23 @@ named_nodes heads gained linked g sums gain named links named' = rw (links, gain
 pub named_patches : (heads new : List Head) (g : ℕ) (names : List ℕ) → nodes_of new ≡ with_names (nodes_of heads) g names (sums_of (pending_in (nodes_of heads)) names) → patches_of new ≡ map (gains g names) (patches_of heads)
 named_patches heads new g names named = seen new _ named ∙ (patches_named g names (sums_of (pending_in (nodes_of heads)) names) (nodes_of heads) ∙ ap (map (gains g names)) (patches_in_nodes heads))
 
--- a gate without dependencies
-pub gate_nodes : (heads : List Head) {new : List Head} (h : Head) (n : ℕ) → new ≡ heads ++ h ∷ [] → node_of h ≡ new_node (nodes_of heads) (fresh n OpenGate []) → nodes_of new ≡ with_node (nodes_of heads) (fresh n OpenGate [])
-gate_nodes heads h n put made = put_nodes heads heads h (fresh n OpenGate []) (sym (with_gate (nodes_of heads) n)) refl put made
+-- a head more after room was made is one more than there was
+pub more_after : {heads roomier new : Vec Head} {ends walked grown : Ends} {levels ranked lifted : Leveling} {queue wider : Vec ℕ} {p : Patch} {rank : Rank} → IsRoomier heads ends levels queue roomier walked ranked wider → HasOneMore p rank roomier walked ranked new grown lifted → HasOneMore p rank heads ends levels new grown lifted
+more_after R P = record {
+  nodes = rw (← R.nodes) P.nodes;
+  marks = rw (← R.marks.0, ← R.marks.1) P.marks;
+  crossed = rw (← R.crossed.0, ← R.crossed.1) P.crossed;
+  ranks = rw (← R.ranks) P.ranks;
+  floors = P.floors ∙ R.floors;
+}
+
+pub more_as : {heads new : Vec Head} {ends grown : Ends} {levels lifted : Leveling} {p q : Patch} {rank own : Rank} → p ≡ q → rank ≡ own → HasOneMore p rank heads ends levels new grown lifted → HasOneMore q own heads ends levels new grown lifted
+more_as same at P = rw (← same, ← at) P
+
+-- a gate that is put down is added
+pub gate_added : {heads new : Vec Head} {ends grown : Ends} {levels ranked : Leveling} (queue : Vec ℕ) {wider : Vec ℕ} {n : ℕ} {row : List ℕ} → HasOneMore (fresh n OpenGate row) (record { number = n; level = top_level; strand = n }) heads ends levels new grown ranked → wider.items ≡ queue.items → vec_len heads < vec_capacity wider
+    → IsAdded (fresh n OpenGate row) heads ends levels queue new grown ranked wider
+gate_added queue P waits free = record { level = top_level; head = P; over = λ q c few. few; most = omega arith; top = λ e. refl; waiting = waits; free = free }
 
 pub put_rising : (heads new : List Head) (p : Patch) (numbers : ℕ) → nodes_of new ≡ with_node (nodes_of heads) p → SparseAreLawful (patches_of heads ++ p ∷ []) numbers → IsRising new
 put_rising heads new p numbers put H = rising_heads new (rw (put_patches heads new p put) H.one_place_each.rising)
@@ -68,46 +81,34 @@ module _ {heads : Vec Head} {ends : Ends} {levels : Leveling} {needs : Needing} 
         prepared = tt;
       }
 
-  -- a patch that is no change is put down, at that level
-  pub put_sound : (p : Patch) → p.number ≡ numbers + 1 → ((b : ℕ) → is_on b p.kind ≡ false) → ((b : ℕ) → IsOn p b → ⊥)
-      → SparseAreLawful (old ++ p ∷ []) (numbers + 1) → length old < max_heads → IsStrictlyIncreasing p.dependencies → ((m : ℕ) → Contains p.dependencies m → IsLiveNumber old m)
-      → {new : Vec Head} → nodes_of new.items ≡ with_node (nodes_of heads.items) p → heads.len < queue.cap → {all : ℕ} → all ≡ live + one_live p
-      → {grown : Ends} → (grown.up.walk.marks ≡ ends.up.walk.marks ++ false ∷ []) × (grown.down.walk.marks ≡ ends.down.walk.marks ++ false ∷ []) → (grown.up.crossed ≡ ends.up.crossed) × (grown.down.crossed ≡ ends.down.crossed)
-      → {ranked : Leveling} (level : ℕ) → ranked.ranks ≡ levels.ranks ++ record { number = p.number; level = level; strand = p.number } ∷ [] → ranked.floors ≡ levels.floors
-      → ((q : ℕ) → Contains p.dependencies q → level_of levels.ranks q ≤ level) → level ≤ top_level → (IsOpenGate p → level ≡ top_level)
-      → AreSound new grown ranked needs lists covers standings queue all unmarked (numbers + 1) blocks None
-  put_sound p next no_block off lawful few rising lives {new} nodes free weighs {grown} marks crossed level ranks floors over most top =
-      let patches = put_patches heads.items new.items p nodes in
+  -- a patch that is no change is added
+  pub added_sound : {p : Patch} → MayAdd old numbers p → {new : Vec Head} {grown : Ends} {ranked : Leveling} {wider : Vec ℕ} → IsAdded p heads ends levels queue new grown ranked wider → {all : ℕ} → all ≡ live + one_live p
+      → AreSound new grown ranked needs lists covers standings wider all unmarked (numbers + 1) blocks None
+  added_sound {p} M {new} {wider = wider} A weighs =
+      let P = A.head in
+      let free = A.free in
+      let patches = put_patches heads.items new.items p P.nodes in
       let H = S.keeps.lawful.one_place_each in
-      let given : (q : ℕ) → Contains p.dependencies q → q ≤ numbers = λ q h. let l = lives q h in let k = (H.numbered l.patch l.head).1 in let e = l.numbered in omega (arith, k, e) in
+      let given : (q : ℕ) → Contains p.dependencies q → q ≤ numbers = λ q h. let l = M.live q h in let k = (H.numbered l.patch l.head).1 in let e = l.numbered in omega (arith, k, e) in
       record {
-        keeps = rw (patches, marks.0) (
-            keeps_added old numbers blocks ends.up.walk.marks S.keeps (old ++ p ∷ []) lawful (length_push old p)
-            (λ x b h on. elim (Contains-push_cases old p x h) [ inl o ↦ S.keeps.inside x b o on | inr e ↦ absurd (off b (subst (λ y. IsOn y b) (sym e) on)) ]) few
+        keeps = rw (patches, P.marks.0) (
+            keeps_added old numbers blocks ends.up.walk.marks S.keeps (old ++ p ∷ []) M.lawful (length_push old p)
+            (λ x b h on. elim (Contains-push_cases old p x h) [ inl o ↦ S.keeps.inside x b o on | inr e ↦ absurd (M.off b (subst (λ y. IsOn y b) (sym e) on)) ]) M.few
             );
-        beside = rw (patches, crossed.0, weighs) (beside_made old blocks live (one_live p) ends.up.crossed.items p refl S.beside);
-        tallies = rw nodes (
-            tallies_made (nodes_of heads.items) numbers blocks _ _ _ _ _ _ queue.cap p (lawful_nodes heads.items numbers S.keeps.lawful) (lawful_with heads.items p (numbers + 1) lawful) S.tallies next rising
-            (λ m h. subst (λ ps. IsLiveNumber ps m) (sym (patches_in_nodes heads.items)) (lives m h)) (λ b on. absurd (off b on))
-            (listed_made (nodes_of heads.items) blocks _ p S.tallies.listed no_block) (stand_made (nodes_of heads.items) blocks standings.items p no_block S.tallies.standing)
+        beside = rw (patches, P.crossed.0, weighs) (beside_made old blocks live (one_live p) ends.up.crossed.items p refl S.beside);
+        tallies = rw P.nodes (tallies_wider _ (numbers + 1) blocks _ _ _ _ _ _ (
+            tallies_made (nodes_of heads.items) numbers blocks _ _ _ _ _ _ wider.cap p (lawful_nodes heads.items numbers S.keeps.lawful) (lawful_with heads.items p (numbers + 1) M.lawful) S.tallies M.next M.rising
+            (λ m h. subst (λ ps. IsLiveNumber ps m) (sym (patches_in_nodes heads.items)) (M.live m h)) (λ b on. absurd (M.off b on))
+            (listed_made (nodes_of heads.items) blocks _ p S.tallies.listed M.plain) (stand_made (nodes_of heads.items) blocks standings.items p M.plain S.tallies.standing)
             (omega (arith, free, heads.ok.0, length-map heads.items node_of))
-            );
-        covered = rw patches (covered_push old p off blocks covers.items S.covered);
-        along = along_grown {old = ends} marks crossed S.along;
-        leveled = rw patches (leveled_put p level p.number H next given ranks floors over most (inl refl) S.leveled (λ b on. absurd (off b on)) (λ b on. absurd (off b on)) top);
-        needing = rw patches (needing_put p H next off S.needing);
+            ) A.waiting (omega arith));
+        covered = rw patches (covered_push old p M.off blocks covers.items S.covered);
+        along = along_grown {old = ends} P.marks P.crossed S.along;
+        leveled = rw patches (leveled_put p A.level p.number H M.next given P.ranks P.floors (λ q c. A.over q c (S.leveled.leveled.few q)) A.most (inl refl) S.leveled (λ b on. absurd (M.off b on)) (λ b on. absurd (M.off b on)) A.top);
+        needing = rw patches (needing_put p H M.next M.off S.needing);
         none_below = S.none_below;
         prepared = tt;
       }
-
-  -- a gate is at the top
-  pub gate_sound : {new : Vec Head} {grown : Ends} {ranked : Leveling} {all : ℕ} (row : List ℕ) → SparseAreLawful (old ++ fresh (numbers + 1) OpenGate row ∷ []) (numbers + 1) → length old < max_heads → IsStrictlyIncreasing row → ((m : ℕ) → Contains row m → IsLiveNumber old m)
-      → nodes_of new.items ≡ with_node (nodes_of heads.items) (fresh (numbers + 1) OpenGate row) → heads.len < queue.cap → all ≡ live + 1
-      → (grown.up.walk.marks ≡ ends.up.walk.marks ++ false ∷ []) × (grown.down.walk.marks ≡ ends.down.walk.marks ++ false ∷ []) → (grown.up.crossed ≡ ends.up.crossed) × (grown.down.crossed ≡ ends.down.crossed)
-      → ranked.ranks ≡ levels.ranks ++ record { number = numbers + 1; level = top_level; strand = numbers + 1 } ∷ [] → ranked.floors ≡ levels.floors
-      → AreSound new grown ranked needs lists covers standings queue all unmarked (numbers + 1) blocks None
-  gate_sound row lawful few rising lives nodes free more marks crossed ranks floors =
-      put_sound (fresh (numbers + 1) OpenGate row) refl (λ b. refl) (λ b on. cc) lawful few rising lives nodes free more marks crossed top_level ranks floors (λ q c. S.leveled.leveled.few q) (omega arith) (λ e. refl)
 
   module _ {p : Stored} (D : IsPutDown heads ends levels needs lists covers standings queue numbers blocks p) where
     abbrev made : Patch
@@ -182,8 +183,8 @@ module _ {heads : Vec Head} {ends : Ends} {levels : Leveling} {needs : Needing} 
 
     pub may_grow : (walk : Trail) {hs : List Head} → length walk.marks ≡ length hs → hs ≡ heads.items → walk.room ≡ ends.up.walk.room → record { up : length walk.marks < walk.room; down : length ends.down.walk.marks < ends.down.walk.room }
     may_grow walk long same room =
-        let up = D.prepared.places.marks_free in
-        record { up = omega (arith, up, long, ap length same, as_many_marks S, room); down = D.prepared.places.below_free }
+        let P = D.prepared.places in
+        record { up = omega (arith, P.marks_free, long, ap length same, as_many_marks S, room); down = omega (arith, P.below_free) }
 
     -- the change stands as it rises, beside what its block has already
     pub change_sound : {new : Vec Head} {over : Pending} → (nodes_of new.items ≡ with_node (nodes_of heads.items) made) × (over ≡ node)

@@ -1,16 +1,18 @@
 -- What is prepared for a group: its row, by what the head waits for; that it is ready; and which number and grade a change would have.
 use Rattle.std.proofs.Common.{◌≡◌, ◌+◌, ◌<◌, ◌≤◌, ◌++◌, ℕ, Bool, List, [], ◌∷◌, Option, Some, None, IfSome, option_map, length, map, Contains, refl, sym, ap, subst, ◌∙◌, inl, inr, arith, ◌≢◌, true, false, IfNone, count_by, is_some, get_or, eqb}
 use Rattle.std.proofs.lemmas.{Bool.{cases_Bool, eqb-true, eqb-false, false≢true}}
+use Rattle.std.specs.Global.{Vec}
 use Rattle.fst_types.specs.{Cascade.IsCascadeOf, Dependencies.{DirectlyOn, IsLiveNumber, IsOnDisk}, Facts.{SparseAreLawful, IsTied}, Gates.IsOpenNumber, Gating.sealed}
 use Rattle.fst_types.specs.{Grades.FollowsRule, Order.{make_order, room_order, NamesUnknown}, Patches.Patch, Refusals.NoneHolds, declared.{grade.Grade.Grade, span.Span.Span}}
 use Rattle.fst_heads.specs.{Frames.{frames_of, HasRoomBelow}, Grading.MayBeHard, Heads.{IsRising, patches_of}, Keeps.Keeps, Marks.HasSlot}
 use Rattle.fst_heads.specs.{Names.numbers_of, Nodes.{node_of, nodes_of, is_live_in, AreCounted}, Rows.IsSparseRow, declared.head.Head.Head}
-use Rattle.fst_graph.specs.{Known.Known, Membering.{ArePaired, BeginsAs, OverlapReaches, member_order}, Ready.{change_of, IsReady, IsMemberReady, MayBePut, HasRoomAround, HasPlaces}}
+use Rattle.fst_graph.specs.{Fresh.HasPlaces, Known.Known, Membering.{ArePaired, BeginsAs, OverlapReaches, member_order}, Ready.{change_of, IsReady, IsMemberReady, MayBePut, HasRoomAround}}
 use Rattle.fst_graph.specs.{Sparse.{ForetellsSparse, SparseChangeIsMade}, declared.prepared.Gates.Gates, declared.prepared.Prepared.Prepared as Stored}
 use Rattle.fst_types.proofs.{Cascades.place_decided, Finite.{In, In-from_Contains, Contains-from_In}, SmallStates.only_in}
 use Rattle.fst_heads.proofs.{AtNumber.patches_in_nodes, Beside.one_if, CountsAs.{count_cons, count_none}, Forgetting.{live_in, in_live}, Framed.{room_above, room_below}, Leading.some_injective}
 use Rattle.fst_heads.proofs.{PendingAt.node_in, Slots.{any_default, direct_at, named_at}, Touching.{graded_change, touched_overlaps, overlaps_touched}}
 use Rattle.fst_graph.proofs.{Kept.keeps_sealed, Readied.{ready_made, ready_member, member_put}, TakenAsSealed.{is, depends, open_was, open_is, stays, touched_was, rule_sealed, gate_lives, gate_rests, row_named, row_unnamed}}
+use Rattle.fst_walks.specs.{Leveling.Leveling, declared.ends.Ends.Ends}
 use Rattle.fst_types.specs.declared.grade.Grade.TheVariants as grade
 
 module _ (old : List Patch) (n blocks : ℕ) (marks : List Bool) (K : Keeps old n blocks marks) (gates : Gates) (paired : ArePaired old n gates.head gates.tail) where
@@ -125,9 +127,8 @@ around_kept new old e p room = (room_above new old e p.dependencies.items room.0
     below None r = tt
     below (Some x) r = room_below new old e x.tail r
 
-pub places_kept : (heads heads' capacity capacity' marks marks_capacity below below_capacity ranks ranks_capacity queue queue' : ℕ) → heads' ≡ heads → capacity' ≡ capacity → queue' ≡ queue
-    → HasPlaces heads capacity marks marks_capacity below below_capacity ranks ranks_capacity queue → HasPlaces heads' capacity' marks marks_capacity below below_capacity ranks ranks_capacity queue'
-places_kept heads heads' capacity capacity' marks marks_capacity below below_capacity ranks ranks_capacity queue queue' e f g room = rw (e, f, g) room
+pub places_kept : {new old : Vec Head} {ends : Ends} {levels : Leveling} → new.len ≡ old.len → new.cap ≡ old.cap → HasPlaces 1 old ends levels → HasPlaces 1 new ends levels
+places_kept len cap room = record { heads_free = omega (arith, len, cap, room.heads_free); marks_free = room.marks_free; below_free = room.below_free; ranks_free = room.ranks_free }
 
 -- a count that is not 0 has one that passes
 one_passes : (t : ℕ → Bool) (xs : List ℕ) → count_by t xs ≢ 0 → (x : ℕ) × In xs x × (t x ≡ true)

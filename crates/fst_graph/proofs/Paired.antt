@@ -1,9 +1,10 @@
 -- Two new gates, the second of which depends on the first, and what is kept of them and beside them.
-use Rattle.std.proofs.Common.{◌≡◌, ◌≢◌, ◌+◌, ℕ, List, [], ◌∷◌, ◌++◌, map, Contains, None, refl, sym, subst, inl, inr, arith}
+use Rattle.std.proofs.Common.{◌≡◌, ◌≢◌, ◌<◌, length, ◌+◌, ℕ, List, [], ◌∷◌, ◌++◌, map, Contains, None, refl, sym, subst, inl, inr, arith}
+use Rattle.std.proofs.lemmas.List.{length_push}
 use Rattle.std.proofs.lemmas.{Bool.{ne_eqb, eq-eqb}, List.Elements.{Contains-push, Contains-append_left}}
-use Rattle.fst_types.specs.{Dependencies.{DirectlyOn, DependsOn, IsLiveNumber}, Facts.SparseAreLawful, Gates.IsOpenNumber, Gating.{GateGains, gains}}
+use Rattle.fst_types.specs.{Dependencies.{DirectlyOn, DependsOn, IsLiveNumber}, Facts.SparseAreLawful, Gates.IsOpenNumber, Gating.{GateGains, gains}, Limits.max_heads}
 use Rattle.fst_types.specs.{Lists.Lists, Making.fresh, Order.NamesAbove, Patches.{Patch, OpenGate}, Refusals.NoneHolds}
-use Rattle.fst_graph.specs.{Grouping.{pair_order, AddsPair}, Known.Known}
+use Rattle.fst_graph.specs.{Fresh.MayAdd, Grouping.{pair_order, AddsPair}, Known.Known}
 use Rattle.fst_types.proofs.{Crash.same_number, Finite.{In, Contains-from_In, first_step}, Heads.sparse_depended, SmallStates.only_in}
 use Rattle.fst_heads.proofs.{Making.{gate_lawful}}
 use Rattle.fst_walks.proofs.Trails.{none_in}
@@ -113,3 +114,15 @@ module _ (heads : List Patch) (n : ℕ) (H : SparseAreLawful heads n) where
   -- what the second depends on is live
   pub tie_live : (m : ℕ) → Contains ((n + 1) ∷ []) m → IsLiveNumber one m
   tie_live m c = subst (IsLiveNumber one) (only_in (n + 1) m c) (record { patch = head_gate; head = Contains-push heads head_gate; numbered = refl; live = λ d. memory_live place.Memory refl d })
+
+  -- it may be added over the first
+  pub pair_may : length heads + 1 < max_heads → MayAdd one (n + 1) tied_tail
+  pair_may few = record {
+    next = refl;
+    plain = λ b. refl;
+    off = λ b on. cc;
+    few = omega (arith, few, length_push heads head_gate);
+    rising = λ k lt. absurd (omega (arith, lt));
+    live = tie_live;
+    lawful = paired_lawful;
+  }

@@ -60,7 +60,7 @@ module _ {heads : Vec Head} {ends : Ends} {levels : Leveling} {needs : Needing} 
       let nodes = nodes_of heads.items in
       let made = change_of numbers p in
       let T = S.tallies in
-      let free = (prepared_is S p kept).places.queue_free in
+      let free = (prepared_is S p kept).waits in
       let few : length old < max_heads = let full = ready.clear.1.1.0 in omega (arith, full) in
       let keeps = keeps_change old numbers blocks ends.up.walk.marks S.keeps p.block p.span.at p.span.len (numbers_of p.names.items) p.grade p.dependencies.items ready.depends ready.inside few (hard_may p.grade _ ready.graded) in
       let lawful = subst (λ ps. SparseAreLawful (ps ++ made ∷ []) (numbers + 1)) (sym (patches_in_nodes heads.items)) keeps.lawful in

@@ -1,11 +1,11 @@
 -- What holds of the fields that are sound: for a walk over them, of a block, for what is prepared, and after a call that leaves the patches as they are.
-use Rattle.std.proofs.{Common.{◌≡◌, ◌≤◌, ◌∙◌, ℕ, List, Option, Some, None, IfSome, length, map, refl, sym, subst, arith, ◌<◌, ◌↔◌, ◌&&◌, Bool, true, get_or, ap}, lemmas.List.length-map}
+use Rattle.std.proofs.{Common.{◌≡◌, ◌∙◌, ℕ, List, Option, Some, None, IfSome, length, map, refl, sym, subst, arith, ◌<◌, ◌↔◌, ◌&&◌, Bool, true, get_or, ap}, lemmas.List.length-map}
 use Rattle.std.specs.Global.{Vec}
 use Rattle.fst_types.specs.{Dependencies.IsLiveNumber, Patches.Patch}
 use Rattle.fst_heads.specs.{Ascending.IsBehind, Covers.{AreCovered, Covering}, Heads.{patch_of, patches_of, IsRising}, Keeps.IsInside, Lists.{entries_of, AreListed, entries_on}, Marks.{mark_in, mark_of}}
 use Rattle.fst_heads.specs.{Nodes.{nodes_of, AreLinked, AreSettled, pending_in}, Standings.{AllStand, standing_of}, declared.head.Head.Head, declared.lists.Listed.Listed, declared.standing.Standing.Standing}
 use Rattle.fst_walks.specs.{BothEnds.IsOver, Leveling.{IsLeveled, Leveling}, Needing.{IsNeeding, Needing}, Searching.TellsGates, Sights.Sees, declared.block_walk.BlockWalk.BlockWalk, declared.ends.Ends.Ends, declared.sight.Sight.Sight}
-use Rattle.fst_graph.specs.{Sound.{AreSound, IsPrepared}, declared.prepared.Prepared.Prepared as Stored}
+use Rattle.fst_graph.specs.{Fresh.IsRoomier, Sound.{AreSound, IsPrepared}, declared.prepared.Prepared.Prepared as Stored}
 use Rattle.fst_heads.proofs.{AtNumber.patches_in_nodes, Slots.rising_heads}
 use Rattle.fst_walks.proofs.{Behind.pending_live, Held.{heads_held, heads_live}, Resting.{listed_at, shelves}, Seen.{same_patches, tallies_wider}}
 use Rattle.fst_graph.proofs.{NeedsNow.needing_as, Ranks.{along_as, leveled_as}}
@@ -83,16 +83,15 @@ module _ {heads : Vec Head} {ends : Ends} {levels : Leveling} {needs : Needing} 
   }
 
   -- there may be more room for heads, marks and what waits in the queue
-  pub roomier_sound : {roomier : Vec Head} {walked : Ends} {ranked : Leveling} {wider : Vec ℕ} → nodes_of roomier.items ≡ nodes_of heads.items → (walked.up.walk.marks ≡ ends.up.walk.marks) × (walked.down.walk.marks ≡ ends.down.walk.marks) → (walked.up.crossed ≡ ends.up.crossed) × (walked.down.crossed ≡ ends.down.crossed) → ranked.ranks ≡ levels.ranks → ranked.floors ≡ levels.floors → wider.items ≡ queue.items → queue.cap ≤ wider.cap
-      → AreSound roomier walked ranked needs lists covers standings wider live unmarked numbers blocks None
-  roomier_sound {roomier} {walked} {ranked} {wider} same marks crossed ranks floors waits wide =
-      let patches = same_patches roomier.items heads.items same in record {
-        keeps = rw (patches, marks.0) S.keeps;
-        beside = rw (patches, crossed.0) S.beside;
-        tallies = rw same (tallies_wider _ numbers blocks _ _ _ _ _ _ S.tallies waits wide);
+  pub roomier_sound : {heads' : Vec Head} {ends' : Ends} {levels' : Leveling} {queue' : Vec ℕ} → IsRoomier heads ends levels queue heads' ends' levels' queue' → AreSound heads' ends' levels' needs lists covers standings queue' live unmarked numbers blocks None
+  roomier_sound {heads'} {queue' = queue'} R =
+      let patches = same_patches heads'.items heads.items R.nodes in record {
+        keeps = rw (patches, R.marks.0) S.keeps;
+        beside = rw (patches, R.crossed.0) S.beside;
+        tallies = rw R.nodes (tallies_wider _ numbers blocks _ _ _ _ _ _ S.tallies R.waiting R.wide);
         covered = rw patches S.covered;
-        along = along_as marks crossed S.along;
-        leveled = rw patches (leveled_as ranks floors S.leveled);
+        along = along_as R.marks R.crossed S.along;
+        leveled = rw patches (leveled_as R.ranks R.floors S.leveled);
         needing = rw patches S.needing;
         none_below = S.none_below;
         prepared = tt;

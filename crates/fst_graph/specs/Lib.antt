@@ -5,5 +5,6 @@ pub mod Whole
 pub mod Membering
 pub mod Ready
 pub mod Rows
+pub mod Fresh
 pub mod Sound
 pub mod Sparse

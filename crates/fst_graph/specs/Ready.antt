@@ -38,11 +38,3 @@ MayBePut heads numbers blocks p = IsReadyFor p.gates heads numbers blocks p
 -- each patch of its row has room for one more dependant, and the tail of its group for one more direct dependency
 abbrev pub HasRoomAround : List Head → Stored → Type 0
 HasRoomAround heads p = HasRoomAbove heads p.dependencies.items × IfSome p.gates (λ g. HasRoomBelow heads g.tail)
-
--- each of the five rows has a free place for one more head
-pub record HasPlaces (heads heads_capacity marks marks_capacity below below_capacity ranks ranks_capacity queue_capacity : ℕ) : Type 0 where
-  pub heads_free : heads < heads_capacity
-  pub marks_free : marks < marks_capacity
-  pub below_free : below < below_capacity
-  pub ranks_free : ranks < ranks_capacity
-  pub queue_free : heads < queue_capacity

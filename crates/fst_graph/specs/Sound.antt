@@ -1,15 +1,16 @@
 -- What the patches keep of their fields between two calls.
-use Rattle.std.specs.Prelude.{◌≡◌, ◌≤◌, ℕ, slice_index_or, Option, IfSome, length, map, vec_len, vec_capacity}
+use Rattle.std.specs.Prelude.{◌≡◌, ◌≤◌, ◌<◌, ℕ, slice_index_or, Option, IfSome, length, map, vec_len, vec_capacity}
 use Rattle.std.specs.Global.{Vec}
 use Rattle.fst_heads.specs.{Covers.{AreCovered, Covering, HasRoomForRuns}, Heads.patches_of, Keeps.{Beside, Keeps, Tallies}, Lists.{entries_of, HasRoomInList}}
 use Rattle.fst_heads.specs.{Nodes.nodes_of, declared.head.Head.Head, declared.lists.Listed.Listed, Standings.NoneBelow, declared.standing.Standing.Standing}
 use Rattle.fst_walks.specs.{Leveling.{IsLeveled, Leveling}, Needing.{IsNeeding, Needing}, declared.ends.Ends.Ends}
-use Rattle.fst_graph.specs.{Ready.{MayBePut, HasPlaces, HasRoomAround}, declared.prepared.Prepared.Prepared as Stored}
+use Rattle.fst_graph.specs.{Fresh.HasPlaces, Ready.{MayBePut, HasRoomAround}, declared.prepared.Prepared.Prepared as Stored}
 
 -- a change that is prepared is not refused, and whatever it is put into has a free place for it
 pub record IsPrepared (heads : Vec Head) (ends : Ends) (levels : Leveling) (needs : Needing) (lists : Vec (Vec Listed)) (covers : Vec Covering) (queue : Vec ℕ) (numbers blocks : ℕ) (p : Stored) : Type 0 where
   pub ready : MayBePut (patches_of heads.items) numbers blocks p
-  pub places : HasPlaces (vec_len heads) (vec_capacity heads) (length ends.up.walk.marks) ends.up.walk.room (length ends.down.walk.marks) ends.down.walk.room (length levels.ranks) levels.room (vec_capacity queue)
+  pub places : HasPlaces 1 heads ends levels
+  pub waits : vec_len heads < vec_capacity queue
   pub around : HasRoomAround heads.items p
   pub runs : (d : Covering) → HasRoomForRuns (slice_index_or covers.items p.block d)
   pub in_list : HasRoomInList (map (λ l. vec_len l) lists.items) (map (λ l. vec_capacity l) lists.items) p.block

@@ -15,6 +15,7 @@
 //! patches are as the definitions want them. `Graph` stands over it with the groups, and keeps what holds of those.
 #![tactic(auto)]
 
+mod fresh;
 mod gates;
 mod graph;
 mod group;

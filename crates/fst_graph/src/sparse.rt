@@ -2,7 +2,7 @@
 //! calls look at the patches that they touch, and at those that depend on these. Between two calls of its own a call of a
 //! group has no group as it should be, so that the groups and what holds of them stand a layer above, in the graph.
 
-ghost use Rattle.std.specs.Prelude.{◌≡◌, ◌<◌, ◌≤◌, [], None, IfOk, IfErr, OnErr, IfSome, IfNone, OnOk, option_map, MatchResult, length, vec_len, vec_capacity, count_by};
+ghost use Rattle.std.specs.Prelude.{◌≡◌, [], None, IfOk, IfErr, OnErr, IfSome, IfNone, OnOk, option_map, MatchResult, count_by};
 ghost use Rattle.fst_types.specs.Patches.{Patch};
 ghost use Rattle.fst_types.specs.Looks.{place_of, IsPick};
 ghost use Rattle.fst_types.specs.Order.{seal_order, depend_order};
@@ -76,32 +76,6 @@ impl Model for Sparse {
     ghost view = { λ g. record { heads = patches_of g.heads.items; numbers = g.numbers; blocks = g.blocks; groups = []; prepared = option_map (prepared_of g.numbers) g.prepared } };
 
     ghost invariant = { λ g. AreSound g.heads g.ends g.levels g.needs g.lists g.covers g.standings g.queue g.live g.unmarked g.numbers g.blocks g.prepared };
-}
-
-// Room for one more head.
-fn reserve_one(
-    heads: &mut Vec<Head>,
-    ends: &mut Ends,
-    levels: &mut Levels,
-    queue: &mut Vec<u32>,
-) -> Result<(), AllocError>
-    ensures heads { heads.new.items ≡ heads.old.items }
-    ensures marks { (ends.new.up.walk.marks ≡ ends.old.up.walk.marks) × (ends.new.down.walk.marks ≡ ends.old.down.walk.marks) }
-    ensures crossed { (ends.new.up.crossed ≡ ends.old.up.crossed) × (ends.new.down.crossed ≡ ends.old.down.crossed) }
-    ensures room_heads { OnOk result (vec_len heads.new < vec_capacity heads.new) }
-    ensures room_up { OnOk result (length ends.new.up.walk.marks < ends.new.up.walk.room) }
-    ensures room_down { OnOk result (length ends.new.down.walk.marks < ends.new.down.walk.room) }
-    ensures ranks { levels.new.ranks ≡ levels.old.ranks }
-    ensures floors { levels.new.floors ≡ levels.old.floors }
-    ensures room_ranks { OnOk result (length levels.new.ranks < levels.new.room) }
-    ensures queue { queue.new.items ≡ queue.old.items }
-    ensures room_queue { OnOk result (vec_len heads.new < vec_capacity queue.new) }
-    ensures wide { vec_capacity queue.old ≤ vec_capacity queue.new }
-{
-    heads.reserve(1)?;
-    ends.reserve(1)?;
-    levels.reserve(1)?;
-    queue.reserve(heads.len() + 1)
 }
 
 impl Sparse {

@@ -1,20 +1,25 @@
 //! New gates and empty patches.
 
-ghost use Rattle.std.specs.Prelude.{◌≡◌, IfOk, IfErr, OnErr};
+ghost use Rattle.std.specs.Prelude.{◌≡◌, ◌+◌, ◌++◌, ◌∷◌, [], None, IfOk, IfErr, OnErr, OnOk, Contains};
+ghost use Rattle.fst_types.specs.Dependencies.{IsLiveNumber};
+ghost use Rattle.fst_types.specs.Lists.{Lists};
 ghost use Rattle.fst_types.specs.Order.{room_order, make_order};
+ghost use Rattle.fst_types.specs.Patches.{Empty};
+ghost use Rattle.fst_types.specs.Refusals.{NoneHolds};
+ghost use Rattle.fst_graph.specs.Fresh.{patch_from, MayAdd};
 ghost use Rattle.fst_graph.specs.Known.{unprepared, rest_place, Refuses, AddsGate, AddsEmpty};
+ghost use Rattle.fst_heads.specs.Heads.{IsRising, patches_of};
 ghost use Rattle.fst_heads.specs.Names.{numbers_of};
 
+use crate::fresh::{Fresh, add_one, gate};
 use crate::refusals::{make_fault, room_fault};
-use crate::sparse::{Sparse, reserve_one};
+use crate::sparse::Sparse;
 use fst_heads::head::{Head, Kind};
-use fst_heads::links::{link, reserve_above};
-use fst_heads::pending::{Pending, no_sums};
 use fst_heads::places::weight;
-use fst_heads::row::{live_named, row_sums};
+use fst_heads::row::live_named;
 use fst_types::{Fault, PatchNo, Place};
-use fst_walks::levels::TOP;
 use smallvec::SmallVec;
+use std::alloc::Global;
 
 // Where a new empty patch is: on disk where it depends on nothing live.
 fn resting_place(row: &[u32]) -> Place
@@ -26,7 +31,54 @@ fn resting_place(row: &[u32]) -> Place
     }
 }
 
+// A new empty patch, which depends on the named patches that are not on disk.
+fn new_empty(alloc: Global, heads: &[Head], numbers: u32, after: &[PatchNo]) -> Result<Fresh, Fault>
+    requires { IsRising heads.now }
+    ensures clear { OnOk result (NoneHolds (make_order (patches_of heads.now) numbers (numbers_of after.now))) }
+    ensures depends { IfOk result (λ f. Lists (λ n. IsLiveNumber (patches_of heads.now) n × Contains (numbers_of after.now) n) f.dependencies.items) }
+    ensures empty { IfOk result (λ f. patch_from f ≡ record { number = numbers + 1; kind = Empty; place = rest_place f.dependencies.items; dependencies = f.dependencies.items }) }
+    ensures refused { IfErr result (Refuses (make_order (patches_of heads.now) numbers (numbers_of after.now))) }
+{
+    if let Some(fault) = make_fault(heads, numbers, after) {
+        return Err(fault);
+    }
+    let Ok(dependencies) = live_named(alloc, heads, after) else {
+        return Err(Fault::Memory);
+    };
+    Ok(Fresh {
+        number: numbers + 1,
+        kind: Kind::Empty,
+        place: resting_place(dependencies.as_slice()),
+        dependencies,
+    })
+}
+
 impl Sparse {
+    // Adds a new patch that is no change. It is refused as `Memory`.
+    fn add_fresh(&mut self, fresh: Fresh) -> Result<PatchNo, Fault>
+        requires { MayAdd self.old.heads self.old.numbers (patch_from fresh) }
+        ensures ok { IfOk result (λ no. (no.0 ≡ fresh.number) × (self.new ≡ record self.old { heads = self.old.heads ++ patch_from fresh ∷ []; numbers = fresh.number; prepared = None })) }
+        ensures refused { IfErr result (λ f. f ≡ Fault.Memory) }
+        ensures same { OnErr result (self.new ≡ unprepared self.old) }
+    {
+        self.prepared = None;
+        let number = fresh.number;
+        let live = weight(fresh.place);
+        let Ok(()) = add_one(
+            self.alloc,
+            &mut self.heads,
+            &mut self.ends,
+            &mut self.levels,
+            &mut self.queue,
+            fresh,
+        ) else {
+            return Err(Fault::Memory);
+        };
+        self.live += live;
+        self.numbers = number;
+        Ok(PatchNo(number))
+    }
+
     /// A new gate, open, without dependencies. It is refused as `Full(Heads)` where 65,535 patches are not forgotten, as
     /// `Full(Numbers)` where the last number was given, and as `Memory`.
     pub fn add_gate(&mut self) -> Result<PatchNo, Fault>
@@ -39,31 +91,8 @@ impl Sparse {
         if let Some(fault) = room_fault(&self.heads, self.numbers) {
             return Err(fault);
         }
-        if reserve_one(
-            &mut self.heads,
-            &mut self.ends,
-            &mut self.levels,
-            &mut self.queue,
-        )
-        .is_err()
-        {
-            return Err(Fault::Memory);
-        }
-        let number = self.numbers + 1;
-        self.heads.push_reserved(Head {
-            number,
-            kind: Kind::OpenGate,
-            place: Place::Memory,
-            dependencies: SmallVec::new(self.alloc),
-            sums: no_sums(),
-            pending: Pending::Held,
-            dependants: SmallVec::new(self.alloc),
-        });
-        self.ends.grow();
-        self.levels.grow(number, TOP, number);
-        self.live += 1;
-        self.numbers = number;
-        Ok(PatchNo(number))
+        let fresh = gate(self.numbers + 1, SmallVec::new(self.alloc));
+        self.add_fresh(fresh)
     }
 
     /// A new empty patch, which depends on the named patches that are not on disk. It is on disk at once where none is.
@@ -76,43 +105,7 @@ impl Sparse {
         ensures blocks { self.new.blocks ≡ self.old.blocks }
     {
         self.prepared = None;
-        if let Some(fault) = make_fault(&self.heads, self.numbers, after) {
-            return Err(fault);
-        }
-        let Ok(dependencies) = live_named(self.alloc, &self.heads, after) else {
-            return Err(Fault::Memory);
-        };
-        if reserve_one(
-            &mut self.heads,
-            &mut self.ends,
-            &mut self.levels,
-            &mut self.queue,
-        )
-        .is_err()
-        {
-            return Err(Fault::Memory);
-        }
-        if reserve_above(&mut self.heads, dependencies.as_slice()).is_err() {
-            return Err(Fault::Memory);
-        }
-        let number = self.numbers + 1;
-        let place = resting_place(dependencies.as_slice());
-        let sums = row_sums(&self.heads, dependencies.as_slice());
-        let level = self.levels.greatest(&self.heads, dependencies.as_slice());
-        link(&mut self.heads, dependencies.as_slice(), number);
-        self.heads.push_reserved(Head {
-            number,
-            kind: Kind::Empty,
-            place,
-            dependencies,
-            sums,
-            pending: sums.joined(),
-            dependants: SmallVec::new(self.alloc),
-        });
-        self.ends.grow();
-        self.levels.grow(number, level, number);
-        self.live += weight(place);
-        self.numbers = number;
-        Ok(PatchNo(number))
+        let fresh = new_empty(self.alloc, &self.heads, self.numbers, after)?;
+        self.add_fresh(fresh)
     }
 }

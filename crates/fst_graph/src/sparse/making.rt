@@ -12,10 +12,10 @@ ghost use Rattle.fst_heads.specs.Frames.{HasRoomBelow};
 ghost use Rattle.fst_heads.specs.Nodes.{Node, nodes_of, pending_in, at_number, gains_names, linked_to, HasRoomAbove};
 ghost use Rattle.fst_heads.specs.Pendings.{Fits, sums_of};
 
+use crate::fresh::row_of;
 use crate::prepared::prepare;
 use crate::refusals::make_fault;
 use crate::sparse::Sparse;
-use crate::sparse::pairs::row_of;
 use fst_heads::growth::gain_one;
 use fst_heads::head::{Head, Kind};
 use fst_heads::links::link;

@@ -6,8 +6,9 @@ ghost use Rattle.fst_graph.specs.Ready.{prepared_of, HasRoomAround, MayBePut};
 ghost use Rattle.fst_heads.specs.Heads.{IsRising};
 ghost use Rattle.fst_heads.specs.Nodes.{nodes_of};
 
+use crate::fresh::reserve_heads;
 use crate::prepared::{Prepared, reserve_on};
-use crate::sparse::{Sparse, reserve_one};
+use crate::sparse::Sparse;
 use fst_heads::head::Head;
 use fst_heads::links::{reserve_above, reserve_below};
 use fst_types::Fault;
@@ -39,11 +40,12 @@ impl Sparse {
     {
         self.prepared = None;
         let block = prepared.block;
-        if reserve_one(
+        if reserve_heads(
             &mut self.heads,
             &mut self.ends,
             &mut self.levels,
             &mut self.queue,
+            1,
         )
         .is_err()
         {

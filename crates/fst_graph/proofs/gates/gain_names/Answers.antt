@@ -1,4 +1,4 @@
-use Rattle.std.proofs.Common.{◌≡◌, ◌∙◌, Contains, map, ap, subst}
+use Rattle.std.proofs.Common.{◌∙◌, Contains, map, ap, subst}
 use Rattle.fst_types.specs.{Dependencies.{DirectlyOn, IsLiveNumber}, Lists.Lists}
 use Rattle.fst_heads.specs.{Heads.patches_of, Names.numbers_of, Nodes.{nodes_of, at_number, gains_names}}
 use Rattle.fst_heads.proofs.Linking.{rising_as, rising_same}

@@ -1,4 +1,4 @@
-use Rattle.std.proofs.Common.{refl, ap}
+use Rattle.std.proofs.Common.{ap}
 use Rattle.fst_graph.proofs.sparse.Sparse.add_data.Goals as goal
 
 pub put-requires-2 : goal.put-requires-2

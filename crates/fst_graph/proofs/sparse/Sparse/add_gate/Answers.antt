@@ -1,23 +1,25 @@
-use Rattle.std.proofs.{Common.{sym, [], ◌+◌, ◌∙◌, rules, refl, ap, arith, subst}}
-use Rattle.fst_types.specs.{Order.room_order, Refusals.NoneHolds}
-use Rattle.fst_heads.specs.{Heads.patches_of, Nodes.{nodes_of}}
-use Rattle.fst_heads.proofs.Making.{gate_lawful}
-use Rattle.fst_graph.proofs.Made.{gate_nodes, gate_sound}
-use Rattle.fst_graph.proofs.{Sound.roomier_sound}
+use Rattle.std.proofs.Common.{◌≡◌, ◌+◌, ◌∙◌, [], ap, arith, subst}
+use Rattle.fst_types.specs.{Making.fresh, Order.room_order, Patches.OpenGate, Refusals.NoneHolds}
+use Rattle.fst_heads.specs.Heads.{patches_of}
+use Rattle.fst_graph.specs.Fresh.{patch_from}
+use Rattle.fst_graph.proofs.{Adding.{gate_adds, gate_may}, Grouped.fine}
+use Rattle.fst_graph.proofs.sparse.Sparse.add_gate.Goals.{After-gate-fresh}
 use Rattle.fst_graph.proofs.sparse.Sparse.add_gate.Goals as goal
 
-pub invariant_of-self-then-is_err : goal.invariant_of-self-then-is_err
-invariant_of-self-then-is_err c =
-    roomier_sound c.self.invariant (ap nodes_of c.reserve_one.ensures.heads) c.reserve_one.ensures.marks c.reserve_one.ensures.crossed c.reserve_one.ensures.ranks c.reserve_one.ensures.floors c.reserve_one.ensures.queue c.reserve_one.ensures.wide
+-- nothing refuses the gate
+clear : (c : After-gate-fresh) → NoneHolds (room_order (patches_of c.self.inside.heads.items) c.self.inside.numbers)
+clear c = subst (λ hs. NoneHolds (room_order (patches_of hs) c.self.inside.numbers)) c.deref.ensures.value c.in_default.ensures.clear
 
-pub invariant_of-self-2 : goal.invariant_of-self-2
-invariant_of-self-2 c =
-    let n = c.self.inside.numbers in
-    let reserved = c.reserve_one.new.heads.items in
-    let S =
-    roomier_sound c.self.invariant {roomier = c.reserve_one.new.heads} {walked = c.reserve_one.new.ends} {ranked = c.reserve_one.new.levels} {wider = c.reserve_one.new.queue}
-    (ap nodes_of c.reserve_one.ensures.heads) c.reserve_one.ensures.marks c.reserve_one.ensures.crossed c.reserve_one.ensures.ranks c.reserve_one.ensures.floors c.reserve_one.ensures.queue c.reserve_one.ensures.wide in
-    let full = (subst (λ hs. NoneHolds (room_order (patches_of hs) n)) (c.deref.ensures.value ∙ sym c.reserve_one.ensures.heads) c.in_default.ensures.clear).0 in
-    gate_sound S [] (gate_lawful (patches_of reserved) n S.keeps.lawful) (omega (arith, full)) (λ k lt. absurd (omega (arith, lt))) (λ m h. absurd (omega (arith, h.1)))
-    (gate_nodes reserved _ (n + 1) c.push_reserved.ensures.items (rw (c.no_sums.ensures, c.new.ensures.items, c.new-2.ensures.items) refl)) (search rules) refl
-    c.grow.ensures.marks c.grow.ensures.crossed c.grow-2.ensures.ranks c.grow-2.ensures.floors
+gate : (c : After-gate-fresh) → patch_from c.gate-fresh.result ≡ fresh (c.self.inside.numbers + 1) OpenGate []
+gate c = c.gate-fresh.ensures ∙ ap (fresh (c.self.inside.numbers + 1) OpenGate) c.new.ensures.items
+
+pub add_fresh-requires : goal.add_fresh-requires
+add_fresh-requires c =
+    let at = (goal.at.add_fresh-requires c).After-gate-fresh in
+    let full = (clear at).0 in
+    gate_may (patches_of c.self.inside.heads.items) c.self.inside.numbers _ (gate at) c.self.invariant.keeps.lawful (omega (arith, full))
+
+pub returns-clause-ok : goal.returns-clause-ok
+returns-clause-ok c =
+    let at = (goal.at.returns-clause-ok c).After-gate-fresh in
+    rw (← c.self.view_is) (fine c.add_fresh.result (λ no made. gate_adds _ c.add_fresh.new.self no.0 _ (gate at) (clear at) made) c.add_fresh.ensures.ok)

@@ -42,7 +42,8 @@ invariant_of-self c =
     (shut_sound c.self.invariant open_gate c.seal_slot.new.heads c.seal_slot.ensures.nodes new C.placed c.cascade-landed.result C.settled C.landed {told = c.cascade-landed.new.standings} {emptied = c.cascade-landed.new.queue} C.spread C.standing C.empty (C.capacity ∙ c.seal_slot.ensures.capacity))
     (if_prepared c.self.invariant (IsPrepared new s.ends s.levels s.needs s.lists s.covers c.cascade-landed.new.queue s.numbers s.blocks) (λ p is k. record {
       ready = put_begun (patches_of s.heads.items) s.numbers s.blocks s.ends.up.walk.marks c.self.invariant.keeps g (patches_of new.items) open_gate cascade p (head_told s.prepared s.numbers c.requires.0 g p (ap (λ k. k.prepared) c.self.view_is ∙ c.requires.1) c.requires.2 is) k.ready;
-      places = places_kept _ _ _ _ _ _ _ _ _ _ _ _ heads_long (C.places ∙ c.seal_slot.ensures.places) (C.capacity ∙ c.seal_slot.ensures.capacity) k.places;
+      places = places_kept heads_long (C.places ∙ c.seal_slot.ensures.places) k.places;
+      waits = omega (arith, heads_long, C.capacity, c.seal_slot.ensures.capacity, k.waits);
       around = around_kept new.items s.heads.items frames p k.around;
       runs = k.runs;
       in_list = k.in_list;

@@ -1,4 +1,4 @@
-use Rattle.std.proofs.Common.{◌≡◌, ◌∙◌, length, refl, ap, subst, None, inl, inr, arith}
+use Rattle.std.proofs.Common.{◌∙◌, length, refl, ap, subst, None, inl, inr, arith}
 use Rattle.fst_types.specs.{Gates.IsOpenNumber, Order.depend_order, Refusals.NoneHolds}
 use Rattle.fst_heads.specs.{Heads.patches_of, Names.numbers_of, Nodes.nodes_of}
 use Rattle.fst_walks.proofs.Seen.{same_patches}
@@ -36,7 +36,7 @@ clear c = subst (λ hs. NoneHolds (depend_order (patches_of hs) c.self.inside.nu
 
 pub invariant_of-self-in_default-gain_names : goal.invariant_of-self-in_default-gain_names
 invariant_of-self-in_default-gain_names c =
-    roomier_sound (walked (goal.at.invariant_of-self-in_default-gain_names c).After-depend_fault) c.in_default-gain_names.ensures.same (refl, refl) (refl, refl) refl refl refl (omega arith)
+    roomier_sound (walked (goal.at.invariant_of-self-in_default-gain_names c).After-depend_fault) (record { nodes = c.in_default-gain_names.ensures.same; marks = (refl, refl); crossed = (refl, refl); ranks = refl; floors = refl; waiting = refl; wide = omega arith })
 
 pub returns-in_default-gain_names-clause-refused : goal.returns-in_default-gain_names-clause-refused
 returns-in_default-gain_names-clause-refused c = rw (← c.self.view_is, ← c.deref.ensures.value) (inr (c.in_default.ensures.clear, refl))

@@ -1,8 +1,8 @@
-use Rattle.std.proofs.Common.{◌≡◌, ◌<◌, ◌∙◌, rules, arith, length, None, refl, ap, sym, subst}
+use Rattle.std.proofs.Common.{◌≡◌, ◌<◌, ◌∙◌, arith, length, None, refl, ap, sym, subst}
 use Rattle.fst_heads.specs.{Heads.patches_of, Nodes.nodes_of}
-use Rattle.fst_graph.specs.{Known.Known, Ready.{IsReadyFor, MayBePut}, Sound.AreSound}
+use Rattle.fst_graph.specs.{Known.Known, Ready.{MayBePut}, Sound.AreSound}
 use Rattle.fst_walks.proofs.Seen.{same_patches}
-use Rattle.fst_graph.proofs.{Borne.ok_of, Sound.{as_many_lists, listed_sound, reserved_sound, rising_sound, roomier_sound, with_prepared}}
+use Rattle.fst_graph.proofs.{Borne.ok_of, MemberReady.places_kept, Sound.{as_many_lists, listed_sound, reserved_sound, rising_sound, roomier_sound, with_prepared}}
 use Rattle.fst_graph.proofs.sparse.Sparse.make_room.Goals.{After-is_err, After-reserve_around}
 use Rattle.fst_graph.proofs.sparse.Sparse.make_room.Goals as goal
 
@@ -15,22 +15,21 @@ inside c = subst (λ (v : Known). c.args.prepared.block < v.blocks) (sym c.self.
 
 -- the nodes are as they were, and there is more room
 still : (c : After-reserve_around) → nodes_of c.reserve_around.new.heads.items ≡ nodes_of c.self.inside.heads.items
-still c = c.reserve_around.ensures.nodes ∙ ap nodes_of c.reserve_one.ensures.heads
+still c = c.reserve_around.ensures.nodes ∙ c.reserve_heads.ensures.roomier.nodes
 
 same : (c : After-reserve_around) → patches_of c.reserve_around.new.heads.items ≡ patches_of c.self.inside.heads.items
 same c = same_patches c.reserve_around.new.heads.items c.self.inside.heads.items (still c)
 
 roomier : (c : After-reserve_around)
-    → AreSound c.reserve_around.new.heads c.reserve_one.new.ends c.reserve_one.new.levels c.self.inside.needs c.self.inside.lists c.self.inside.covers c.self.inside.standings c.reserve_one.new.queue
+    → AreSound c.reserve_around.new.heads c.reserve_heads.new.ends c.reserve_heads.new.levels c.self.inside.needs c.self.inside.lists c.self.inside.covers c.self.inside.standings c.reserve_heads.new.queue
     c.self.inside.live c.self.inside.unmarked c.self.inside.numbers c.self.inside.blocks None
-roomier c = roomier_sound c.self.invariant (still c) c.reserve_one.ensures.marks c.reserve_one.ensures.crossed c.reserve_one.ensures.ranks c.reserve_one.ensures.floors c.reserve_one.ensures.queue c.reserve_one.ensures.wide
+roomier c = let R = c.reserve_heads.ensures.roomier in roomier_sound c.self.invariant (record { nodes = still c; marks = R.marks; crossed = R.crossed; ranks = R.ranks; floors = R.floors; waiting = R.waiting; wide = R.wide })
 
 pub invariant_of-self : goal.invariant_of-self
-invariant_of-self c =
-    roomier_sound c.self.invariant (ap nodes_of c.reserve_one.ensures.heads) c.reserve_one.ensures.marks c.reserve_one.ensures.crossed c.reserve_one.ensures.ranks c.reserve_one.ensures.floors c.reserve_one.ensures.queue c.reserve_one.ensures.wide
+invariant_of-self c = roomier_sound c.self.invariant c.reserve_heads.ensures.roomier
 
 pub reserve_around-requires : goal.reserve_around-requires
-reserve_around-requires c = rw c.reserve_one.ensures.heads (rising_sound c.self.invariant)
+reserve_around-requires c = rw c.reserve_heads.ensures.same (rising_sound c.self.invariant)
 
 pub invariant_of-self-then-is_err-2 : goal.invariant_of-self-then-is_err-2
 invariant_of-self-then-is_err-2 c = roomier (goal.at.invariant_of-self-then-is_err-2 c).After-reserve_around
@@ -59,10 +58,12 @@ pub invariant_of-self-2 : goal.invariant_of-self-2
 invariant_of-self-2 c =
     let at = goal.at.invariant_of-self-2 c in
     let s = c.self.inside in
+    let failed = sym c.is_err.ensures.value ∙ c.if-is_err.false in
     let needed = ok_of c.reserve.result _ c.reserve.ensures.room (sym c.is_err-4.ensures.value ∙ c.if-is_err-4.false) in
     with_prepared (reserved_sound (listed_sound (roomier at.After-reserve_around) c.reserve_on.ensures.entries c.reserve_on.ensures.covered) {kept = c.reserve.new.self} c.reserve.ensures.lists) (record {
       ready = rw (same at.After-reserve_around) (ready at.After-is_err);
-      places = rw (c.reserve_around.ensures.len, c.reserve_around.ensures.capacity) (record { heads_free = search rules; marks_free = search rules; queue_free = search rules; below_free = search rules; ranks_free = search rules });
+      places = places_kept c.reserve_around.ensures.len c.reserve_around.ensures.capacity (ok_of c.reserve_heads.result _ c.reserve_heads.ensures.places failed);
+      waits = omega (arith, ok_of c.reserve_heads.result _ c.reserve_heads.ensures.queue failed, c.reserve_around.ensures.len);
       around = ok_of c.reserve_around.result _ c.reserve_around.ensures.room (sym c.is_err-2.ensures.value ∙ c.if-is_err-2.false);
       in_list = ok_of c.reserve_on.result _ c.reserve_on.ensures.in_list (sym c.is_err-3.ensures.value ∙ c.if-is_err-3.false);
       needed = (needed.0, omega (arith, needed.1, ap length c.as_slice-row.ensures));

@@ -1,9 +1,8 @@
-use Rattle.std.proofs.Common.{◌≡◌, ◌∷◌, [], ◌<◌, ◌∙◌, List, rules, arith, length, None, inl, ap, sym, subst, refl}
-use Rattle.fst_types.specs.{Grades.FollowsRule, Patches.Patch, Refusals.NoneHolds}
-use Rattle.fst_heads.specs.{Grading.MayBeHard, Heads.patches_of, Rows.IsSparseRow}
-use Rattle.fst_graph.specs.{Known.Known, Membering.{ArePaired, BeginsAs, member_order}}
+use Rattle.std.proofs.Common.{[], ◌<◌, ◌∙◌, rules, arith, length, None, inl, ap, sym, subst, refl}
+use Rattle.fst_heads.specs.{Heads.patches_of}
+use Rattle.fst_graph.specs.{Known.Known, Membering.{ArePaired}}
 use Rattle.fst_graph.proofs.{MemberReady.{member_found, foretold}, Readied.member_put}
-use Rattle.fst_graph.proofs.Sound.{as_many_lists, as_many_marks, as_many_places, gates_told, over_down, over_then, rising_sound, sees_all}
+use Rattle.fst_graph.proofs.Sound.{as_many_lists, as_many_marks, as_many_places, gates_told, over_down, over_then, sees_all}
 use Rattle.fst_graph.proofs.sparse.Sparse.member_room.Goals.{After-deref}
 use Rattle.fst_graph.proofs.sparse.Sparse.member_room.Goals as goal
 

@@ -1,4 +1,4 @@
-use Rattle.std.proofs.Common.{◌≡◌, ◌+◌, ◌++◌, ◌∷◌, [], ◌<◌, arith, length, None, inl, ap, sym, subst, refl}
+use Rattle.std.proofs.Common.{◌+◌, ◌++◌, ◌∷◌, [], ◌<◌, arith, length, None, inl, ap, sym, subst, refl}
 use Rattle.fst_heads.specs.Heads.{patches_of}
 use Rattle.fst_graph.specs.{Known.Known, Ready.{change_of, IsReadyFor}}
 use Rattle.fst_graph.proofs.{Readied.{ready_adds, ready_found}, Sound.{as_many_lists, over_down, over_then, over_up, sees_all}}

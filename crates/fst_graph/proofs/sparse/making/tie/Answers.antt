@@ -1,8 +1,7 @@
-use Rattle.std.proofs.Common.{◌∷◌, ◌∙◌, [], ap}
-use Rattle.fst_heads.specs.Nodes.{nodes_of, at_number, gains_names}
+use Rattle.std.proofs.Common.{◌∷◌, []}
+use Rattle.fst_heads.specs.Nodes.{at_number, gains_names}
 use Rattle.fst_heads.proofs.Linking.{rising_as}
 use Rattle.fst_walks.proofs.Seen.{gained_number}
-use Rattle.fst_graph.proofs.Made.{named_nodes, summed}
 use Rattle.fst_graph.proofs.sparse.making.tie.Goals as goal
 
 pub link-requires-clause-rising : goal.link-requires-clause-rising

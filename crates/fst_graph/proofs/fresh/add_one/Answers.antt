@@ -1,0 +1,43 @@
+use Rattle.std.proofs.Common.{◌≡◌, ◌∙◌, arith, ap, length}
+use Rattle.fst_heads.specs.{Heads.IsRising, Nodes.nodes_of}
+use Rattle.fst_graph.specs.Fresh.{IsRoomier}
+use Rattle.fst_heads.proofs.Linking.{rising_same}
+use Rattle.fst_walks.proofs.Seen.{same_patches}
+use Rattle.fst_graph.proofs.Made.{more_after}
+use Rattle.fst_graph.proofs.fresh.add_one.Goals.{After-reserve_above}
+use Rattle.fst_graph.proofs.fresh.add_one.Goals as goal
+
+-- the nodes are as they were
+still : (c : After-reserve_above) → nodes_of c.reserve_above.new.heads.items ≡ nodes_of c.args.heads.now.items
+still c = c.reserve_above.ensures.nodes ∙ c.reserve_heads.ensures.roomier.nodes
+
+rising : (c : After-reserve_above) → IsRising c.reserve_above.new.heads.items
+rising c = rising_same _ c.args.heads.now.items (still c) c.requires.rising
+
+pub level_over-requires-clause-rising : goal.level_over-requires-clause-rising
+level_over-requires-clause-rising c = rw c.deref.ensures.value (rising (goal.at.level_over-requires-clause-rising c).After-reserve_above)
+
+pub level_over-requires-clause-aligned : goal.level_over-requires-clause-aligned
+level_over-requires-clause-aligned c =
+    let at = (goal.at.level_over-requires-clause-aligned c).After-reserve_above in
+    rw (c.deref.ensures.value, same_patches c.reserve_above.new.heads.items c.args.heads.now.items (still at), c.reserve_heads.ensures.roomier.ranks) c.requires.aligned
+
+pub put_down-requires-clause-rising : goal.put_down-requires-clause-rising
+put_down-requires-clause-rising c = rising (goal.at.put_down-requires-clause-rising c).After-reserve_above
+
+pub returns-clause-added : goal.returns-clause-added
+returns-clause-added c =
+    let R = c.reserve_heads.ensures.roomier in
+    let at = (goal.at.returns-clause-added c).After-reserve_above in
+    let wide = c.in_ok-reserve_heads.ensures.queue in
+    let roomier : IsRoomier c.args.heads.now c.args.ends.now c.args.levels.now c.args.queue.now c.reserve_above.new.heads c.reserve_heads.new.ends c.reserve_heads.new.levels c.reserve_heads.new.queue =
+    record { nodes = still at; marks = R.marks; crossed = R.crossed; ranks = R.ranks; floors = R.floors; waiting = R.waiting; wide = R.wide } in
+    record {
+      level = c.level_over.result;
+      head = more_after roomier c.put_down.ensures.put;
+      over = rw (← R.ranks) c.level_over.ensures.over;
+      most = omega arith;
+      top = c.level_over.ensures.top;
+      waiting = R.waiting;
+      free = omega (arith, wide, ap length c.reserve_heads.ensures.same, c.args.heads.now.ok.0, c.reserve_heads.new.heads.ok.0);
+    }

@@ -1,0 +1,52 @@
+use Rattle.std.proofs.Common.{◌≡◌, ◌+◌, ◌∷◌, [], ◌∙◌, arith, subst, sym, refl, ap, length}
+use Rattle.fst_types.specs.{Facts.SparseAreLawful, Making.fresh, Patches.{Patch, OpenGate}}
+use Rattle.fst_heads.specs.{Heads.patches_of, Nodes.{nodes_of, HasRoomAbove}}
+use Rattle.fst_graph.specs.Fresh.{patch_from}
+use Rattle.fst_heads.proofs.{Added.with_node, Making.gate_lawful, Slots.rising_heads}
+use Rattle.fst_graph.proofs.{Made.{gate_added, more_after, more_as, put_rising}}
+use Rattle.fst_graph.proofs.fresh.add_two.Goals.{After-reserve_heads, After-put_down}
+use Rattle.fst_graph.proofs.fresh.add_two.Goals as goal
+
+lawful : (c : After-reserve_heads) → SparseAreLawful (patches_of c.reserve_heads.new.heads.items) c.args.numbers
+lawful c = rw c.reserve_heads.ensures.same c.requires.lawful
+
+-- the first gate, and the nodes with it
+head : (c : After-put_down) → patch_from c.gate-head.result ≡ fresh (c.args.numbers + 1) OpenGate []
+head c = c.gate-head.ensures ∙ ap (fresh (c.args.numbers + 1) OpenGate) c.new.ensures.items
+
+first : (c : After-put_down) → nodes_of c.put_down.new.heads.items ≡ with_node (nodes_of c.reserve_heads.new.heads.items) (fresh (c.args.numbers + 1) OpenGate [])
+first c = c.put_down.ensures.put.nodes ∙ ap (with_node (nodes_of c.reserve_heads.new.heads.items)) (head c)
+
+pub put_down-requires-clause-rising : goal.put_down-requires-clause-rising
+put_down-requires-clause-rising c = rising_heads c.reserve_heads.new.heads.items (lawful (goal.at.put_down-requires-clause-rising c).After-reserve_heads).one_place_each.rising
+
+pub put_down-requires-2-clause-rising : goal.put_down-requires-2-clause-rising
+put_down-requires-2-clause-rising c =
+    let at = goal.at.put_down-requires-2-clause-rising c in
+    put_rising c.reserve_heads.new.heads.items _ _ (c.args.numbers + 1) (first at.After-put_down) (gate_lawful (patches_of c.reserve_heads.new.heads.items) c.args.numbers (lawful at.After-reserve_heads))
+
+pub put_down-requires-2-clause-above : goal.put_down-requires-2-clause-above
+put_down-requires-2-clause-above c =
+    let at = goal.at.put_down-requires-2-clause-above c in
+    let own : c.gate-head.result.number ≡ c.args.numbers + 1 = ap (λ (p : Patch). p.number) c.gate-head.ensures in
+    let row : c.gate-tail.result.dependencies.items ≡ (c.args.numbers + 1) ∷ [] = ap (λ (p : Patch). p.dependencies) c.gate-tail.ensures ∙ c.row_of.ensures in
+    let above = c.put_down.ensures.above (λ p h e. let k = ((lawful at.After-reserve_heads).one_place_each.numbered p h).1 in omega (arith, k, e, own)) in
+    subst (HasRoomAbove c.put_down.new.heads.items) (ap (λ m. m ∷ []) own ∙ sym row) above
+
+pub put_down-requires-2-clause-places : goal.put_down-requires-2-clause-places
+put_down-requires-2-clause-places c = c.put_down.ensures.places 1 c.in_ok-reserve_heads.ensures.places
+
+pub returns-clause-added : goal.returns-clause-added
+returns-clause-added c =
+    let R = c.reserve_heads.ensures.roomier in
+    let at = goal.at.returns-clause-added c in
+    let wide = c.in_ok-reserve_heads.ensures.queue in
+    let tail : patch_from c.gate-tail.result ≡ fresh (c.args.numbers + 1 + 1) OpenGate ((c.args.numbers + 1) ∷ []) = c.gate-tail.ensures ∙ ap (fresh (c.args.numbers + 1 + 1) OpenGate) c.row_of.ensures in
+    let same = ap length c.reserve_heads.ensures.same in
+    record {
+      between = c.put_down.new.heads;
+      grown = c.put_down.new.ends;
+      ranked = c.put_down.new.levels;
+      head = gate_added c.args.queue.now (more_as (head at.After-put_down) c.at_the_top.ensures (more_after R c.put_down.ensures.put)) R.waiting (omega (arith, wide, same, c.args.heads.now.ok.0, c.reserve_heads.new.heads.ok.0));
+      tail = gate_added c.reserve_heads.new.queue (more_as tail c.at_the_top-2.ensures c.put_down-2.ensures.put) refl (omega (arith, wide, c.put_down.ensures.len));
+    }

@@ -1,0 +1,35 @@
+use Rattle.std.proofs.Common.{◌≡◌, ◌∙◌, Contains, arith, length, refl, ap, subst}
+use Rattle.fst_heads.specs.{Heads.{kind_of, patch_of, patches_of}, Nodes.{nodes_of, pending_in}, Pendings.{joined, joined_sums, of_kind, sums_of}}
+use Rattle.fst_graph.specs.Fresh.{patch_from}
+use Rattle.fst_types.proofs.Finite.{In-from_Contains, Contains-from_In, In-map}
+use Rattle.fst_heads.proofs.{Framed.pushed_above, Sums.joined_exact}
+use Rattle.fst_walks.proofs.Seen.{linked_patches}
+use Rattle.fst_graph.proofs.Made.{put_nodes, summed}
+use Rattle.fst_graph.proofs.fresh.put_down.Goals as goal
+
+-- the sums of its row, and what is pending of it
+sums : (c : goal.After-grow-2) → c.row_sums-sums.result ≡ sums_of (pending_in (nodes_of c.args.heads.now.items)) c.args.fresh.dependencies.items
+sums c = summed c.deref.result.now c.args.heads.now.items c.row_sums-sums.ensures.sums (ap nodes_of c.deref.ensures.value) c.as_slice-row.ensures
+
+pending : (c : goal.After-grow-2) → c.pending_over-pending.result ≡ of_kind (kind_of c.args.fresh.kind) c.args.fresh.place (joined (pending_in (nodes_of c.args.heads.now.items)) c.args.fresh.dependencies.items)
+pending c =
+    let told = pending_in (nodes_of c.args.heads.now.items) in
+    let row = c.args.fresh.dependencies.items in
+    c.pending_over-pending.ensures ∙ ap (of_kind (kind_of c.args.fresh.kind) c.args.fresh.place) (c.joined.ensures ∙ (ap joined_sums (sums c) ∙ joined_exact told row))
+
+pub returns-clause-put : goal.returns-clause-put
+returns-clause-put c =
+    record {
+      nodes = put_nodes c.args.heads.now.items c.link.new.heads.items _ (patch_from c.args.fresh) c.link.ensures.nodes c.as_slice-row.ensures c.push_reserved.ensures.items (rw (pending c, sums c, c.new.ensures.items) refl);
+      marks = c.grow.ensures.marks;
+      crossed = c.grow.ensures.crossed;
+      ranks = c.grow-2.ensures.ranks;
+      floors = c.grow-2.ensures.floors;
+    }
+
+pub returns-clause-pending : goal.returns-clause-pending
+returns-clause-pending c = pending c
+
+pub returns-clause-above : goal.returns-clause-above
+returns-clause-above c none =
+    rw c.push_reserved.ensures.items (pushed_above c.link.new.heads.items _ c.args.fresh.number (λ h there same. none (patch_of h) (subst (λ ps. Contains ps (patch_of h)) (linked_patches c.link.new.heads.items c.args.heads.now.items _ _ c.link.ensures.nodes) (Contains-from_In (patches_of c.link.new.heads.items) (patch_of h) (In-map patch_of c.link.new.heads.items h (patch_of h) (In-from_Contains c.link.new.heads.items h there) refl))) same) (omega (arith, ap length c.new.ensures.items, c.new.ensures.capacity)))

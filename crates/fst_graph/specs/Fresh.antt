@@ -1,0 +1,71 @@
+-- Room for new heads, and what a new head makes of the others and of what has a place for each head.
+use Rattle.std.specs.Prelude.{◌≡◌, ◌≤◌, ◌<◌, ◌+◌, ◌++◌, ◌∷◌, [], ℕ, false, List, length, map, vec_len, vec_capacity, Contains}
+use Rattle.std.specs.Global.{Vec}
+use Rattle.std.specs.List.Sorted.{IsStrictlyIncreasing}
+use Rattle.fst_types.specs.{Dependencies.IsLiveNumber, Facts.SparseAreLawful, Limits.max_heads, Making.fresh, Patches.{Patch, IsOn, IsOpenGate, OpenGate}, Tests.is_on}
+use Rattle.fst_heads.specs.{Heads.kind_of, Nodes.{Node, nodes_of, linked_to, pending_in}, Pendings.{joined, of_kind, sums_of}, declared.head.Head.Head}
+use Rattle.fst_walks.specs.{Leveling.{Leveling, level_of, top_level}, declared.{ends.Ends.Ends, levels.Rank.Rank}}
+use Rattle.fst_graph.specs.declared.fresh.Fresh.{Fresh}
+
+-- the patch that it becomes
+abbrev pub patch_from : Fresh → Patch
+patch_from f = record { number = f.number; kind = kind_of f.kind; place = f.place; dependencies = f.dependencies.items }
+
+-- the nodes with a new patch, which is a dependant of those that it depends on
+abbrev pub nodes_with : List Node → Patch → List Node
+nodes_with nodes p =
+    map (linked_to p.dependencies p.number) nodes
+    ++ record { patch = p; sums = sums_of (pending_in nodes) p.dependencies; pending = of_kind p.kind p.place (joined (pending_in nodes) p.dependencies); dependants = [] } ∷ []
+
+-- patch p, which is no change, may be the next
+pub record MayAdd (heads : List Patch) (numbers : ℕ) (p : Patch) : Type 0 where
+  pub next : p.number ≡ numbers + 1
+  pub plain : (b : ℕ) → is_on b p.kind ≡ false
+  pub off : (b : ℕ) → IsOn p b → ⊥
+  pub few : length heads < max_heads
+  pub rising : IsStrictlyIncreasing p.dependencies
+  pub live : (m : ℕ) → Contains p.dependencies m → IsLiveNumber heads m
+  pub lawful : SparseAreLawful (heads ++ p ∷ []) (numbers + 1)
+
+-- so many more heads have a place, but in the queue
+pub record HasPlaces (more : ℕ) (heads : Vec Head) (ends : Ends) (levels : Leveling) : Type 0 where
+  pub heads_free : vec_len heads + more ≤ vec_capacity heads
+  pub marks_free : length ends.up.walk.marks + more ≤ ends.up.walk.room
+  pub below_free : length ends.down.walk.marks + more ≤ ends.down.walk.room
+  pub ranks_free : length levels.ranks + more ≤ levels.room
+
+-- nothing but room changes, and the queue gets no less
+pub record IsRoomier (heads : Vec Head) (ends : Ends) (levels : Leveling) (queue : Vec ℕ) (heads' : Vec Head) (ends' : Ends) (levels' : Leveling) (queue' : Vec ℕ) : Type 0 where
+  pub nodes : nodes_of heads'.items ≡ nodes_of heads.items
+  pub marks : (ends'.up.walk.marks ≡ ends.up.walk.marks) × (ends'.down.walk.marks ≡ ends.down.walk.marks)
+  pub crossed : (ends'.up.crossed ≡ ends.up.crossed) × (ends'.down.crossed ≡ ends.down.crossed)
+  pub ranks : levels'.ranks ≡ levels.ranks
+  pub floors : levels'.floors ≡ levels.floors
+  pub waiting : queue'.items ≡ queue.items
+  pub wide : vec_capacity queue ≤ vec_capacity queue'
+
+-- patch p comes last, with that rank
+pub record HasOneMore (p : Patch) (rank : Rank) (heads : Vec Head) (ends : Ends) (levels : Leveling) (heads' : Vec Head) (ends' : Ends) (levels' : Leveling) : Type 0 where
+  pub nodes : nodes_of heads'.items ≡ nodes_with (nodes_of heads.items) p
+  pub marks : (ends'.up.walk.marks ≡ ends.up.walk.marks ++ false ∷ []) × (ends'.down.walk.marks ≡ ends.down.walk.marks ++ false ∷ [])
+  pub crossed : (ends'.up.crossed ≡ ends.up.crossed) × (ends'.down.crossed ≡ ends.down.crossed)
+  pub ranks : levels'.ranks ≡ levels.ranks ++ rank ∷ []
+  pub floors : levels'.floors ≡ levels.floors
+
+-- patch p, which is no change, is put down on a strand of its own: an open gate at the top, and another no lower than what it depends on. The queue has a place for it
+pub record IsAdded (p : Patch) (heads : Vec Head) (ends : Ends) (levels : Leveling) (queue : Vec ℕ) (heads' : Vec Head) (ends' : Ends) (levels' : Leveling) (queue' : Vec ℕ) : Type 0 where
+  pub level : ℕ
+  pub head : HasOneMore p (record { number = p.number; level = level; strand = p.number }) heads ends levels heads' ends' levels'
+  pub over : (q : ℕ) → Contains p.dependencies q → level_of levels.ranks q ≤ top_level → level_of levels.ranks q ≤ level
+  pub most : level ≤ top_level
+  pub top : IsOpenGate p → level ≡ top_level
+  pub waiting : queue'.items ≡ queue.items
+  pub free : vec_len heads < vec_capacity queue'
+
+-- two gates are added, the second of which depends on the first
+pub record AddsTwo (numbers : ℕ) (heads : Vec Head) (ends : Ends) (levels : Leveling) (queue : Vec ℕ) (heads' : Vec Head) (ends' : Ends) (levels' : Leveling) (queue' : Vec ℕ) : Type 0 where
+  pub between : Vec Head
+  pub grown : Ends
+  pub ranked : Leveling
+  pub head : IsAdded (fresh (numbers + 1) OpenGate []) heads ends levels queue between grown ranked queue'
+  pub tail : IsAdded (fresh (numbers + 1 + 1) OpenGate ((numbers + 1) ∷ [])) between grown ranked queue' heads' ends' levels' queue'
