@@ -7,7 +7,7 @@ use Rattle.fst_types.specs.declared.grade.Grade.{Grade}
 use Rattle.fst_types.specs.Grouping.{MakesMember}
 use Rattle.fst_graph.specs.Known.{Known, unprepared}
 use Rattle.fst_graph.specs.Grouping.{AddsMember}
-use Rattle.fst_cache.specs.Seats.{SeatView, blocks}
+use Rattle.fst_seat.specs.Seats.{SeatView, blocks}
 use Rattle.fst_cache.specs.Kept.{state_of}
 
 pub member_row : (size resident tickets made : ℕ) (graph graph' : Known) (contents : List (ℕ × List ℕ)) (seats seats' : List SeatView) → blocks seats' ≡ blocks seats

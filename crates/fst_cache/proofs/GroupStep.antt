@@ -8,7 +8,7 @@ use Rattle.fst_types.specs.Step.{Step, accepted, group, group_new, group_after, 
 use Rattle.fst_types.proofs.Bounds.{step_keeps_lawful}
 use Rattle.fst_graph.specs.Known.{Known}
 use Rattle.fst_graph.specs.Grouping as grouped
-use Rattle.fst_cache.specs.Seats.{SeatView}
+use Rattle.fst_seat.specs.Seats.{SeatView}
 use Rattle.fst_cache.specs.Kept.{IsKept, state_of}
 use Rattle.fst_cache.proofs.Kept.{all_moved}
 use Rattle.fst_cache.proofs.GroupSame.{same_new, same_after, same_close}

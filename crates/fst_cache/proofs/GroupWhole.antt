@@ -11,10 +11,12 @@ use Rattle.fst_types.specs.Step.{Step, accepted, refused, group, group_patch}
 use Rattle.fst_types.proofs.Bounds.{step_keeps_lawful}
 use Rattle.fst_graph.specs.Known.{Known, Prepared}
 use Rattle.fst_graph.specs.Grouping.{AddsMember}
-use Rattle.fst_cache.specs.Seats.{SeatView, blocks}
+use Rattle.fst_seat.specs.Seats.{SeatView, blocks}
 use Rattle.fst_cache.specs.Kept.{IsKept, state_of, span_of}
-use Rattle.fst_cache.specs.Making.{MayHold, MayLoad, Puts}
-use Rattle.fst_cache.proofs.Kept.{one_moved, same_listed}
+use Rattle.fst_seat.specs.Residing.{MayLoad, Puts}
+use Rattle.fst_cache.specs.Making.{MayHold}
+use Rattle.fst_seat.proofs.Seated.{same_listed}
+use Rattle.fst_cache.proofs.Kept.{one_moved}
 use Rattle.fst_cache.proofs.MakeRefused.{none_refuses_member, member_refused_by_load}
 use Rattle.fst_cache.proofs.MakeReady.{same_state, kept_ready}
 use Rattle.fst_cache.proofs.MakeWhole.{has_risen, read_clean}

@@ -7,18 +7,15 @@ pub mod Kept
 pub mod MakeBeside
 pub mod MakeChanged
 pub mod MakeCounted
-pub mod MakePut
 pub mod MakeReady
 pub mod MakeRefused
 pub mod MakeStep
 pub mod MakeWhole
 pub mod OpenPlaced
 pub mod Opened
-pub mod ResideCounts
 pub mod ResideDirty
 pub mod ResideLoading
 pub mod ResideLooking
-pub mod ResideReading
 pub mod ResideSeats
 pub mod ResideShowing
 pub mod ResideUndo
@@ -35,5 +32,3 @@ pub mod SendState
 pub mod SettleFound
 pub mod SettleLanded
 pub mod SettleSeat
-pub mod Counted
-pub mod CountedUndo

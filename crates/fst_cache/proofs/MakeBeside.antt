@@ -4,10 +4,10 @@ use Rattle.std.proofs.Common.{◌≡◌, ℕ, List, map, Option, refl, sym, ap, 
 use Rattle.std.specs.Prelude.{slice_index}
 use Rattle.fst_block.specs.BlockView.{BlockPatch}
 use Rattle.fst_graph.specs.Known.{Known, Prepared}
-use Rattle.fst_cache.specs.Seats.{SeatView, blocks}
+use Rattle.fst_seat.specs.Seats.{SeatView, blocks}
 use Rattle.fst_cache.specs.Kept.{IsKept, state_of}
-use Rattle.fst_cache.specs.Making.{Puts}
-use Rattle.fst_cache.proofs.Kept.{same_listed}
+use Rattle.fst_seat.specs.Residing.{Puts}
+use Rattle.fst_seat.proofs.Seated.{same_listed}
 use Rattle.fst_cache.proofs.ResideLoading.{Loaded}
 use Rattle.fst_cache.proofs.MakeReady.{loaded}
 

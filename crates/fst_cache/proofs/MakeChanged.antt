@@ -15,7 +15,7 @@ use Rattle.fst_types.proofs.Writes.{filter_pushed}
 use Rattle.fst_types.proofs.Images.{content_more}
 use Rattle.fst_types.proofs.Fits.{content_end}
 use Rattle.fst_block.specs.BlockView.{BlockPatch, BlockView}
-use Rattle.fst_cache.specs.Seats.{SeatView}
+use Rattle.fst_seat.specs.Seats.{SeatView}
 use Rattle.fst_cache.specs.Kept.{IsKeptSeat, IsSameAt, block_patch, block_patches, block_view, in_flight, span_of}
 
 -- a patch that passes comes at the end

@@ -1,7 +1,7 @@
 -- The counts of faults, as a load leaves them and a patch that is put after it.
 use Rattle.std.proofs.Common.{◌≡◌, ◌∙◌, ℕ, List, ◌++◌, map, sym, ap, subst, length, take}
-use Rattle.fst_cache.specs.Seats.{SeatView}
-use Rattle.fst_cache.specs.Faults.{IsOneFaultMore}
+use Rattle.fst_seat.specs.Seats.{SeatView}
+use Rattle.fst_seat.specs.Faults.{IsOneFaultMore}
 use Rattle.fst_cache.proofs.MakeWhole.{taken}
 
 -- what is said of the slice of a list is said of the list

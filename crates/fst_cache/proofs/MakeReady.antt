@@ -11,8 +11,8 @@ use Rattle.fst_types.specs.State.{State, BlockState}
 use Rattle.fst_types.proofs.Finite.{In, Contains-from_In}
 use Rattle.fst_block.specs.BlockView.{BlockPatch, BlockView}
 use Rattle.fst_graph.specs.Known.{Known, Prepared}
-use Rattle.fst_cache.specs.Seats.{SeatView, blocks}
-use Rattle.fst_cache.specs.Residing.{Loads, IsLoadedAt}
+use Rattle.fst_seat.specs.Seats.{SeatView, blocks}
+use Rattle.fst_seat.specs.Residing.{Loads, IsLoadedAt}
 use Rattle.fst_cache.specs.Kept.{IsKept, state_of, block_patch, block_view}
 use Rattle.fst_cache.proofs.ResideSeats.{block_is}
 use Rattle.fst_cache.proofs.ResideLoading.{Loaded, load_keeps}

@@ -8,10 +8,11 @@ use Rattle.fst_types.specs.Step.{Step, accepted, change}
 use Rattle.fst_types.proofs.Bounds.{step_keeps_lawful}
 use Rattle.fst_block.specs.BlockView.{BlockPatch, BlockView}
 use Rattle.fst_graph.specs.Known.{Known, AddsChange}
-use Rattle.fst_cache.specs.Seats.{SeatView, blocks}
+use Rattle.fst_seat.specs.Seats.{SeatView, blocks}
 use Rattle.fst_cache.specs.Kept.{IsKept, IsKeptSeat, state_of, span_of}
 use Rattle.fst_cache.specs.Making.{MayHold}
-use Rattle.fst_cache.proofs.Kept.{one_moved, same_listed}
+use Rattle.fst_seat.proofs.Seated.{same_listed}
+use Rattle.fst_cache.proofs.Kept.{one_moved}
 use Rattle.fst_cache.proofs.MakeChanged.{numbered, seat_put, same_else}
 use Rattle.fst_cache.proofs.MakeRefused.{none_refuses}
 

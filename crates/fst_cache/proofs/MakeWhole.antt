@@ -15,9 +15,10 @@ use Rattle.fst_types.specs.Refusals.{NoneHolds}
 use Rattle.fst_types.specs.Step.{Step, refused}
 use Rattle.fst_block.specs.BlockView.{BlockPatch}
 use Rattle.fst_graph.specs.Known.{Known, unprepared, Prepared, AddsChange}
-use Rattle.fst_cache.specs.Seats.{SeatView}
+use Rattle.fst_seat.specs.Seats.{SeatView}
 use Rattle.fst_cache.specs.Kept.{IsKept, state_of, span_of}
-use Rattle.fst_cache.specs.Making.{MayHold, MayLoad, Puts}
+use Rattle.fst_seat.specs.Residing.{MayLoad, Puts}
+use Rattle.fst_cache.specs.Making.{MayHold}
 use Rattle.fst_cache.proofs.ResideLoading.{loads_clean}
 use Rattle.fst_cache.proofs.MakeRefused.{refused_by_load}
 use Rattle.fst_cache.proofs.MakeReady.{same_state, kept_ready}

@@ -11,7 +11,7 @@ use Rattle.fst_types.specs.Refusals.{NoneHolds}
 use Rattle.fst_types.specs.Facts.{IsLawful}
 use Rattle.fst_types.proofs.Opened.{opening_is_lawful}
 use Rattle.fst_graph.specs.Known.{Known}
-use Rattle.fst_cache.specs.Seats.{SeatView, seat_of, seats_of, blocks}
+use Rattle.fst_seat.specs.Seats.{SeatView, seat_of, seats_of, blocks}
 use Rattle.fst_cache.specs.Kept.{IsKeptSeat, IsKept, state_of, view_of}
 use Rattle.fst_cache.proofs.OpenPlaced.{map-twice, placed_each, sized_each, found}
 

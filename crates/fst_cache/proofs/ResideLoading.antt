@@ -9,10 +9,10 @@ use Rattle.fst_types.specs.State.{State}
 use Rattle.fst_types.specs.Counts.{is_dirty}
 use Rattle.fst_block.specs.BlockView.{BlockView}
 use Rattle.fst_graph.specs.Known.{Known}
-use Rattle.fst_cache.specs.Seats.{SeatView, blocks, is_dirty_seat}
-use Rattle.fst_cache.specs.Residing.{count_loaded, IsReadOf, IsLeastClean, MakesPlace, Loads, IsLoadedAt}
+use Rattle.fst_seat.specs.Seats.{SeatView, blocks, is_dirty_seat}
+use Rattle.fst_seat.specs.Residing.{count_loaded, IsReadOf, IsLeastClean, MakesPlace, Loads, IsLoadedAt}
 use Rattle.fst_cache.specs.Kept.{IsKept, IsKeptSeat, state_of, view_of}
-use Rattle.fst_cache.proofs.Kept.{get-set, listed_new, listed_set, same_listed}
+use Rattle.fst_seat.proofs.Seated.{get-set, listed_new, listed_set, same_listed}
 use Rattle.fst_cache.proofs.ResideSeats.{clean, clean_view, dirty_is}
 
 pub within_of : (n b : ℕ) → (n ≤ b → ⊥) → b < n

@@ -16,11 +16,11 @@ use Rattle.fst_types.proofs.Landing.{change_at, at_change}
 use Rattle.fst_block.specs.BlockView.{BlockView}
 use Rattle.fst_block.specs.BlockView as block
 use Rattle.fst_graph.specs.Known.{Known}
-use Rattle.fst_cache.specs.Seats.{SeatView, blocks, has_patches, is_dirty_with, is_dirty_seat}
-use Rattle.fst_cache.specs.Residing.{IsAtRestWhereAway}
+use Rattle.fst_seat.specs.Seats.{SeatView, blocks, has_patches, is_dirty_with, is_dirty_seat}
+use Rattle.fst_seat.specs.Residing.{IsAtRestWhereAway}
 use Rattle.fst_cache.specs.Kept.{IsKept, block_patch, block_view}
-use Rattle.fst_cache.proofs.Kept.{block_here}
-use Rattle.fst_cache.proofs.ResideCounts.{count_by_places, count_lt}
+use Rattle.fst_seat.proofs.Seated.{block_here}
+use Rattle.fst_seat.proofs.Counts.{count_by_places, count_lt}
 use Rattle.fst_cache.proofs.ResideDirty.{dirty_from, dirty_patch, flight_disk, memory_disk, some_in, none_in, in_filter}
 
 map-twice : {X Y Z : Type 0} (f : Y → Z) (h : X → Y) (xs : List X) → map f (map h xs) ≡ map (λ (x : X). f (h x)) xs

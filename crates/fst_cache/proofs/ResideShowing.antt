@@ -1,5 +1,5 @@
 -- Why a block that has room is not shown: its load was refused.
-use Rattle.std.proofs.Common.{◌≡◌, ◌⊎◌, ℕ, Bool, true, false, List, map, refl, sym, ap, ◌∙◌, subst, inl, inr, Result, Ok, Err, IsErr}
+use Rattle.std.proofs.Common.{◌≡◌, ◌⊎◌, ℕ, Bool, true, false, List, map, refl, sym, ap, ◌∙◌, subst, inl, inr, Result, Err, IsErr}
 use Rattle.std.specs.Prelude.{IsErrOf}
 use Rattle.std.proofs.lemmas.Bool.{both_ways}
 use Rattle.fst_types.specs.declared.fault.Fault.{Fault}
@@ -12,8 +12,8 @@ use Rattle.fst_types.specs.Order.{order, IsLoadFault}
 use Rattle.fst_types.specs.Refusals.{NoneHolds}
 use Rattle.fst_types.specs.Step.{Step, refused}
 use Rattle.fst_graph.specs.Known.{Known}
-use Rattle.fst_cache.specs.Seats.{SeatView, blocks}
-use Rattle.fst_cache.specs.Residing.{Loads}
+use Rattle.fst_seat.specs.Seats.{SeatView, blocks}
+use Rattle.fst_seat.specs.Residing.{Loads}
 use Rattle.fst_cache.specs.Kept.{IsKept}
 use Rattle.fst_cache.proofs.ResideLoading.{loads_clean}
 
@@ -31,10 +31,6 @@ load_fault r f rose is kinds device =
 -- a call that answers with another's fault answers Device where that does
 pub told : {T U : Type 0} (f g : Fault) → f ≡ g → ◌≡◌ {A = Result T Fault} (Err g) (Err fault.Device) → ◌≡◌ {A = Result U Fault} (Err f) (Err fault.Device)
 told f g same e = ap (λ (x : Fault). Err x) (same ∙ same_fault e)
-
--- what answers Ok has no fault
-pub not_failed : {T : Type 0} {x : T} {f : Fault} → ◌≡◌ {A = Result T Fault} (Ok x) (Err f) → ⊥
-not_failed e = cc
 
 abbrev faults_of : List SeatView → List ℕ
 faults_of seats = map (λ (t : SeatView). t.faults) seats

@@ -16,9 +16,9 @@ use Rattle.fst_types.specs.Counts.{undo_bytes}
 use Rattle.fst_types.proofs.Finite.{In, Contains-from_In}
 use Rattle.fst_block.specs.BlockView.{BlockPatch, BlockView, len_if_soft, soft_lengths}
 use Rattle.fst_graph.specs.Known.{Known}
-use Rattle.fst_cache.specs.Seats.{SeatView, blocks, undo_of}
+use Rattle.fst_seat.specs.Seats.{SeatView, blocks, undo_of}
 use Rattle.fst_cache.specs.Kept.{IsKept, grade_in, block_patch, block_patches}
-use Rattle.fst_cache.proofs.ResideCounts.{sum_below, sum_by_places, below_add, below_none, below_same, below_one}
+use Rattle.fst_seat.proofs.Counts.{sum_below, sum_by_places, below_add, below_none, below_same, below_one}
 use Rattle.fst_cache.proofs.ResideSeats.{clean, no_changes}
 
 sum_mapped : {X Y : Type 0} (f : Y → ℕ) (h : X → Y) (xs : List X) → sum_by f (map h xs) ≡ sum_by (λ (x : X). f (h x)) xs

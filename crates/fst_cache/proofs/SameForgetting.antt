@@ -17,7 +17,7 @@ use Rattle.fst_types.proofs.Images.{content_kept, has_in}
 use Rattle.fst_types.proofs.Landing.{change_at}
 use Rattle.fst_types.proofs.Writes.{filter_twice}
 use Rattle.fst_graph.specs.Known.{Known, Forgets}
-use Rattle.fst_cache.specs.Seats.{SeatView}
+use Rattle.fst_seat.specs.Seats.{SeatView}
 use Rattle.fst_cache.specs.Kept.{IsSameAt, IsKept, block_patch, state_of}
 use Rattle.fst_cache.proofs.Kept.{all_moved}
 use Rattle.fst_cache.proofs.SameCascade.{lives_on}

@@ -9,7 +9,7 @@ use Rattle.fst_types.specs.Making.{fresh, MakesGate}
 use Rattle.fst_types.specs.Step.{Step, accepted, empty, gate}
 use Rattle.fst_types.proofs.Bounds.{step_keeps_lawful}
 use Rattle.fst_graph.specs.Known.{Known, AddsEmpty, AddsGate}
-use Rattle.fst_cache.specs.Seats.{SeatView}
+use Rattle.fst_seat.specs.Seats.{SeatView}
 use Rattle.fst_cache.specs.Kept.{IsKept, state_of}
 use Rattle.fst_cache.proofs.Kept.{all_moved}
 use Rattle.fst_cache.proofs.SameAdding.{same_added}

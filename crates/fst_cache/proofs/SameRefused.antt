@@ -7,7 +7,7 @@ use Rattle.fst_types.specs.Events.{Event, Refused}
 use Rattle.fst_types.specs.Order.{IsRefusal}
 use Rattle.fst_types.specs.Step.{Step, refused}
 use Rattle.fst_graph.specs.Known.{Known, Refuses, unprepared}
-use Rattle.fst_cache.specs.Seats.{SeatView}
+use Rattle.fst_seat.specs.Seats.{SeatView}
 use Rattle.fst_cache.specs.Kept.{IsKept, state_of}
 
 -- a rule before the others does not hold

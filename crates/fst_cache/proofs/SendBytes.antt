@@ -25,11 +25,11 @@ use Rattle.fst_types.proofs.Numbers.{both}
 use Rattle.fst_block.specs.BlockView.{BlockView, fold_of, write_of as block_write}
 use Rattle.fst_block.specs.Choices.{IsChoice, chosen_of}
 use Rattle.fst_graph.specs.Known.{Known}
-use Rattle.fst_cache.specs.Names.{numbers_of}
+use Rattle.fst_seat.specs.Names.{numbers_of}
 use Rattle.fst_cache.specs.Views.{CacheView}
-use Rattle.fst_cache.specs.Seats.{SeatView, blocks}
+use Rattle.fst_seat.specs.Seats.{SeatView, blocks}
 use Rattle.fst_cache.specs.Kept.{IsKept, state_of, view_of, block_patch, block_patches, block_view}
-use Rattle.fst_cache.proofs.Kept.{block_here}
+use Rattle.fst_seat.proofs.Seated.{block_here}
 use Rattle.fst_cache.proofs.SendSet.{early_in_set, chosen_part, at_home, there, ready, is_choice}
 
 -- the block's writes are those of its changes

@@ -16,11 +16,11 @@ use Rattle.fst_types.proofs.Finite.{In, In-from_Contains}
 use Rattle.fst_types.specs.Looks.{IsPick}
 use Rattle.fst_types.proofs.Stuck.{never_stuck_state}
 use Rattle.fst_graph.specs.Known.{Known, unprepared}
-use Rattle.fst_cache.specs.Seats.{SeatView, blocks}
+use Rattle.fst_seat.specs.Seats.{SeatView, blocks}
 use Rattle.fst_cache.specs.Kept.{IsKept, state_of}
 use Rattle.fst_cache.specs.Sending.{sending_order}
 use Rattle.fst_cache.specs.Replies.{IsStuck}
-use Rattle.fst_cache.proofs.Kept.{block_here, within}
+use Rattle.fst_seat.proofs.Seated.{block_here, within}
 
 -- the graph has nothing prepared any more: the rest is as it was
 module _ (size resident tickets made : ℕ) (graph graph' : Known) (contents : List (ℕ × List ℕ)) (seats : List SeatView) (same : graph' ≡ unprepared graph) where

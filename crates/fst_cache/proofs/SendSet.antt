@@ -27,7 +27,7 @@ use Rattle.fst_types.proofs.Landing.{change_at, at_change}
 use Rattle.fst_types.proofs.Numbers.{clash, memory_disk}
 use Rattle.fst_block.specs.BlockView.{BlockPatch}
 use Rattle.fst_block.specs.Choices.{ShareByte, IsChoice, chosen_of, others_of, is_chosen}
-use Rattle.fst_cache.specs.Names.{numbers_of}
+use Rattle.fst_seat.specs.Names.{numbers_of}
 use Rattle.fst_cache.specs.Kept.{grade_in, block_patch, block_patches}
 
 -- a test of mapped items

@@ -25,8 +25,8 @@ use Rattle.fst_types.proofs.Numbers.{both}
 use Rattle.fst_block.specs.BlockView.{BlockView, fold_of}
 use Rattle.fst_block.specs.Choices.{chosen_of, others_of}
 use Rattle.fst_graph.specs.Known.{Known, Launches}
-use Rattle.fst_cache.specs.Names.{numbers_of}
-use Rattle.fst_cache.specs.Seats.{SeatView, flight_view}
+use Rattle.fst_seat.specs.Names.{numbers_of}
+use Rattle.fst_seat.specs.Seats.{SeatView, flight_view}
 use Rattle.fst_cache.specs.Kept.{IsKept, IsKeptSeat, IsSameAt, state_of, block_patch, block_patches, block_view, in_flight}
 use Rattle.fst_cache.proofs.Kept.{one_moved}
 use Rattle.fst_cache.proofs.SameCascade.{filter_mapped, IsStill, still_self, same_moved}

@@ -12,7 +12,7 @@ use Rattle.fst_types.specs.Facts.{IsLawful}
 use Rattle.fst_block.specs.BlockView.{BlockPatch, BlockView}
 use Rattle.fst_graph.specs.Known.{Known}
 use Rattle.fst_cache.specs.Views.{CacheView, home_of}
-use Rattle.fst_cache.specs.Seats.{SeatView, blocks, undo_of}
+use Rattle.fst_seat.specs.Seats.{SeatView, blocks, undo_of}
 
 -- the grade of a change, and soft for other kinds
 abbrev pub grade_in : Kind → Grade

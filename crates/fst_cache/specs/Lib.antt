@@ -3,7 +3,5 @@ pub mod Views
 pub mod Replies
 pub mod Seats
 pub mod Kept
-pub mod Residing
 pub mod Making
 pub mod Sending
-pub mod Faults

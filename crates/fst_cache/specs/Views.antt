@@ -1,12 +1,7 @@
 -- What a cache is to its callers.
 use Rattle.std.specs.Prelude.{◌≡◌, ℕ, Bool, List, Option, Some, None, map}
 use Rattle.fst_types.specs.State.{Flight, BlockState, State}
-
--- of a write that failed: what the slot held when the write was first sent out, what it holds now, and how many of its calls have failed
-pub record Back : Type 0 where
-  pub before : List ℕ
-  pub held : List ℕ
-  pub faults : ℕ
+use Rattle.fst_seat.specs.Seats.{Back}
 
 -- the state; what each slot at home holds; each slot's count of faults, 0 while the slot is away; which blocks are in memory; and of each write that failed, what came back
 pub record CacheView : Type 0 where

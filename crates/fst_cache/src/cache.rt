@@ -16,9 +16,9 @@ mod residence;
 mod write;
 
 use crate::contents::Contents;
-use crate::seat::Seat;
 use fst_device::BlockSlot;
 use fst_graph::Graph;
+use fst_seat::seat::Seat;
 use std::alloc::Global;
 use std::marker::Model;
 

@@ -6,13 +6,10 @@
 
 mod cache;
 mod contents;
-mod flight;
-mod residence;
-mod seat;
 mod share;
 mod stat;
 
 pub use cache::Cache;
-pub use flight::Flight;
+pub use fst_seat::flight::Flight;
 pub use share::Share;
 pub use stat::Stat;

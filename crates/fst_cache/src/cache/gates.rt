@@ -3,7 +3,7 @@
 ghost use Rattle.std.specs.Prelude.{◌≡◌, OnErr, MatchResult};
 ghost use Rattle.fst_types.specs.Events.{Depend, Seal, Forget, Accepted, Forgot, Refused};
 ghost use Rattle.fst_types.specs.Step.{Step};
-ghost use Rattle.fst_cache.specs.Names.{numbers_of};
+ghost use Rattle.fst_seat.specs.Names.{numbers_of};
 ghost use Rattle.fst_cache.specs.Views.{IsSameBeside};
 
 use crate::cache::Cache;

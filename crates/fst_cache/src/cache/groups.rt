@@ -6,12 +6,13 @@ ghost use Rattle.fst_types.specs.Residence.{faults_rose};
 ghost use Rattle.fst_types.specs.Events.{GroupNew, GroupAfter, GroupPatch, GroupClose, Made, MadeChange, Accepted, Refused};
 ghost use Rattle.fst_types.specs.Step.{Step};
 ghost use Rattle.fst_cache.specs.Views.{IsSameBeside};
-ghost use Rattle.fst_cache.specs.Faults.{IsOneFaultMore};
+ghost use Rattle.fst_seat.specs.Faults.{IsOneFaultMore};
 
 use crate::cache::Cache;
-use crate::cache::making::{put, undo_bytes};
+use crate::cache::making::undo_bytes;
 use crate::share::Share;
 use fst_device::BlockSlot;
+use fst_seat::residence::put;
 use fst_types::{BlockNo, Fault, Grade, GroupNo, PatchNo, Span, What};
 
 impl<S: BlockSlot> Cache<S> {

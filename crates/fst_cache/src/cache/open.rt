@@ -5,14 +5,14 @@ ghost use Rattle.fst_types.specs.declared.fault.Fault.{Fault};
 ghost use Rattle.fst_types.specs.Order.{IsMisplaced, IsMissized, open_order};
 ghost use Rattle.fst_types.specs.Refusals.{IsFirst, NoneHolds};
 ghost use Rattle.fst_types.specs.Opening.{opening};
-ghost use Rattle.fst_cache.specs.Seats.{seat_of, seats_of};
+ghost use Rattle.fst_seat.specs.Seats.{seat_of, seats_of};
 
 use crate::cache::Cache;
 use crate::contents::Contents;
-use crate::seat::Seat;
 use crate::share::Share;
 use fst_device::BlockSlot;
 use fst_graph::Graph;
+use fst_seat::seat::Seat;
 use fst_types::{BlockNo, Fault, Shape};
 use std::alloc::Global;
 

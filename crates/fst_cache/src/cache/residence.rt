@@ -8,8 +8,8 @@ ghost use Rattle.fst_types.specs.Refusals.{IsFirst, NoneHolds};
 ghost use Rattle.fst_types.specs.Step.{Step};
 
 use crate::cache::Cache;
-use crate::residence::dirty;
 use fst_device::BlockSlot;
+use fst_seat::residence::dirty;
 use fst_types::{BlockNo, Fault};
 
 impl<S: BlockSlot> Cache<S> {

@@ -2,8 +2,8 @@ use Rattle.std.proofs.Common.{◌≡◌, Some, is_some, false, refl, sym, ◌∙
 use Rattle.std.proofs.lemmas.Option.{slice_get_read}
 use Rattle.std.proofs.lemmas.List.{length-map}
 use Rattle.fst_cache.specs.Kept.{state_of}
-use Rattle.fst_cache.specs.Seats.{SeatView}
-use Rattle.fst_cache.proofs.Kept.{listed}
+use Rattle.fst_seat.specs.Seats.{SeatView}
+use Rattle.fst_seat.proofs.Seated.{listed}
 use Rattle.fst_cache.proofs.ResideSeats.{bytes_there}
 use Rattle.fst_cache.proofs.cache.Cache.bytes.Goals as goal
 

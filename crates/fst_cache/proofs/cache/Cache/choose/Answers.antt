@@ -1,7 +1,7 @@
 use Rattle.std.proofs.Common.{◌≤◌, length, refl, inl, arith}
 use Rattle.std.proofs.lemmas.List.{length-map}
 use Rattle.fst_types.specs.Step.{refused}
-use Rattle.fst_cache.specs.Names.{numbers_of}
+use Rattle.fst_seat.specs.Names.{numbers_of}
 use Rattle.fst_cache.proofs.SendRefused.{kept_still, step_choose}
 use Rattle.fst_cache.proofs.cache.Cache.choose.Goals as goal
 

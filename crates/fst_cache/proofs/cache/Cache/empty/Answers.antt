@@ -4,7 +4,7 @@ use Rattle.fst_types.specs.Limits.{max_share}
 use Rattle.fst_types.specs.Events.{MakeEmpty}
 use Rattle.fst_types.specs.Order.{make_order}
 use Rattle.fst_types.specs.Step.{refused}
-use Rattle.fst_cache.specs.Names.{numbers_of}
+use Rattle.fst_seat.specs.Names.{numbers_of}
 use Rattle.fst_cache.proofs.SameRefused.{refuses_past, kept_unprepared, step_unprepared}
 use Rattle.fst_cache.proofs.SameMaking.{kept_empty, step_empty}
 use Rattle.fst_cache.proofs.cache.Cache.empty.Goals as goal

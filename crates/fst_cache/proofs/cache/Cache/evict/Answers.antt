@@ -6,13 +6,13 @@ use Rattle.fst_types.specs.Events.{Evict}
 use Rattle.fst_types.specs.Order.{order}
 use Rattle.fst_types.specs.Refusals.{NoneHolds}
 use Rattle.fst_types.specs.Step.{accepted, refused, evict}
-use Rattle.fst_cache.specs.Seats.{SeatView, undo_of}
+use Rattle.fst_seat.specs.Seats.{SeatView, undo_of}
 use Rattle.fst_cache.specs.Kept.{state_of}
-use Rattle.fst_cache.proofs.Kept.{same_listed}
+use Rattle.fst_seat.proofs.Seated.{same_listed}
 use Rattle.fst_cache.proofs.ResideSeats.{dirty_is}
 use Rattle.fst_cache.proofs.ResideLoading.{unloaded, view_unloaded, within_of}
-use Rattle.fst_cache.proofs.Counted.{flying_same}
-use Rattle.fst_cache.proofs.CountedUndo.{undo_same, undo_clean}
+use Rattle.fst_seat.proofs.Flying.{flying_same}
+use Rattle.fst_seat.proofs.Undo.{undo_same, undo_clean}
 use Rattle.fst_cache.proofs.cache.Cache.evict.Goals as goal
 
 pub returns-in-Some-clause-step : goal.returns-in-Some-clause-step

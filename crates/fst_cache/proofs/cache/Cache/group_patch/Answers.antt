@@ -12,12 +12,13 @@ use Rattle.fst_cache.proofs.MakeWhole.{load_fault, load_here, puts_here, rose_he
 use Rattle.fst_cache.proofs.GroupJoining.{member_prepared}
 use Rattle.fst_cache.proofs.GroupWhole.{step_not_joined, step_joined, kept_joined}
 use Rattle.fst_cache.proofs.MakeBeside.{blocks_made, faults_made, homes_made, back_made}
-use Rattle.fst_cache.proofs.Counted.{flying_still}
-use Rattle.fst_cache.proofs.CountedUndo.{undo_load, undo_puts}
+use Rattle.fst_seat.proofs.Flying.{flying_still}
+use Rattle.fst_seat.proofs.Undo.{undo_load, undo_puts}
 use Rattle.fst_cache.proofs.ResideUndo.{undo_is, undo_short}
 use Rattle.fst_cache.proofs.cache.Cache.group_patch.Goals as goal
 use Rattle.fst_cache.proofs.MakeCounted.{counted_here, quiet_here}
-use Rattle.fst_cache.proofs.ResideShowing.{told, not_failed}
+use Rattle.fst_seat.proofs.Putting.{not_failed}
+use Rattle.fst_cache.proofs.ResideShowing.{told}
 
 pub returns-in-Some-clause-step : goal.returns-in-Some-clause-step
 returns-in-Some-clause-step g c = refused (inl (first_append (span_order c.args.self.now.state c.args.share.now c.args.block.0 c.args.at c.args.bytes.now) (group_patch_order c.args.self.now.state.heads c.args.self.now.state.numbers c.args.self.now.state.groups c.args.group.0 c.args.block.0 c.args.at (length c.args.bytes.now)) c.in-Some.fault c.in-Some.ensures))

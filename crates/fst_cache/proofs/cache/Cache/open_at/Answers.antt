@@ -3,8 +3,8 @@ use Rattle.fst_types.specs.Limits.{max_number, max_ticket}
 use Rattle.fst_types.specs.Order.{open_order}
 use Rattle.fst_types.specs.Refusals.{IsFirst, NoneHolds}
 use Rattle.fst_cache.proofs.Opened.{opened_kept, opened_view}
-use Rattle.fst_cache.proofs.Counted.{none_flying}
-use Rattle.fst_cache.proofs.CountedUndo.{none_undo}
+use Rattle.fst_seat.proofs.Flying.{none_flying}
+use Rattle.fst_seat.proofs.Undo.{none_undo}
 use Rattle.fst_cache.proofs.cache.Cache.open_at.Goals as goal
 
 pub returns-in-Some-clause-refused : goal.returns-in-Some-clause-refused

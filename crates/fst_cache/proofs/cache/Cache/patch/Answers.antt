@@ -2,7 +2,7 @@ use Rattle.std.proofs.Common.{◌≡◌, ◌≤◌, ◌<◌, ◌+◌, length, re
 use Rattle.fst_types.specs.Order.{make_order}
 use Rattle.fst_types.specs.Step.{refused}
 use Rattle.fst_graph.specs.Known.{Known}
-use Rattle.fst_cache.specs.Names.{numbers_of}
+use Rattle.fst_seat.specs.Names.{numbers_of}
 use Rattle.fst_cache.specs.Kept.{state_of}
 use Rattle.fst_cache.specs.Making.{span_order, MayHold}
 use Rattle.fst_cache.proofs.SameRefused.{kept_unprepared, step_unprepared}
@@ -11,12 +11,13 @@ use Rattle.fst_cache.proofs.MakeRefused.{first_append, refused_by_graph}
 use Rattle.fst_cache.proofs.MakeReady.{as_long, newest, kept_ready, loaded}
 use Rattle.fst_cache.proofs.MakeWhole.{step_refused, step_made, kept_made, load_fault, load_here, puts_here, rose_here, adds_prepared}
 use Rattle.fst_cache.proofs.MakeBeside.{blocks_made, faults_made, homes_made, back_made}
-use Rattle.fst_cache.proofs.Counted.{flying_still}
-use Rattle.fst_cache.proofs.CountedUndo.{undo_load, undo_puts}
+use Rattle.fst_seat.proofs.Flying.{flying_still}
+use Rattle.fst_seat.proofs.Undo.{undo_load, undo_puts}
 use Rattle.fst_cache.proofs.ResideUndo.{undo_is, undo_short}
 use Rattle.fst_cache.proofs.cache.Cache.patch.Goals as goal
 use Rattle.fst_cache.proofs.MakeCounted.{counted_here, quiet_here}
-use Rattle.fst_cache.proofs.ResideShowing.{told, not_failed}
+use Rattle.fst_seat.proofs.Putting.{not_failed}
+use Rattle.fst_cache.proofs.ResideShowing.{told}
 
 pub returns-in-Some-clause-step : goal.returns-in-Some-clause-step
 returns-in-Some-clause-step g c = refused (inl (first_append (span_order c.args.self.now.state c.args.share.now c.args.block.0 c.args.at c.args.bytes.now) (make_order c.args.self.now.state.heads c.args.self.now.state.numbers (numbers_of c.args.after.now)) c.in-Some.fault c.in-Some.ensures))

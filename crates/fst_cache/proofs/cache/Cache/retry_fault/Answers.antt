@@ -2,9 +2,9 @@ use Rattle.std.proofs.Common.{arith, ◌≡◌, ◌∙◌, ◌<◌, true, false,
 use Rattle.std.proofs.lemmas.Option.{slice_get_read}
 use Rattle.std.proofs.lemmas.List.{length-map}
 use Rattle.fst_types.specs.Flights.{IsStalled, IsLost}
-use Rattle.fst_cache.specs.Seats.{SeatView}
+use Rattle.fst_seat.specs.Seats.{SeatView}
 use Rattle.fst_cache.specs.Kept.{state_of}
-use Rattle.fst_cache.proofs.Kept.{listed}
+use Rattle.fst_seat.proofs.Seated.{listed}
 use Rattle.fst_cache.proofs.SettleFound.{stalled_at, lost_at, not_lost_at}
 use Rattle.fst_cache.proofs.cache.Cache.retry_fault.Goals.{After-is_stalled}
 use Rattle.fst_cache.proofs.cache.Cache.retry_fault.Goals as goal

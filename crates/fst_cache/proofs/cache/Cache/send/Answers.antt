@@ -1,20 +1,20 @@
-use Rattle.std.proofs.Common.{◌≡◌, ◌≤◌, ◌∙◌, arith, is_some, refl, sym, ap, length}
+use Rattle.std.proofs.Common.{◌≡◌, ◌∙◌, arith, is_some, refl, sym, ap, length}
 use Rattle.std.proofs.lemmas.List.{map-set}
 use Rattle.fst_types.specs.Bytes.{image_of}
 use Rattle.fst_types.specs.Writable.{IsWritableSet}
 use Rattle.fst_types.specs.Events.{Issue}
 use Rattle.fst_types.specs.Order.{order}
 use Rattle.fst_types.specs.Refusals.{NoneHolds}
-use Rattle.fst_cache.specs.Names.{numbers_of}
+use Rattle.fst_seat.specs.Names.{numbers_of}
 use Rattle.fst_graph.specs.Known.{Launches}
-use Rattle.fst_cache.specs.Seats.{SeatView, undo_of}
+use Rattle.fst_seat.specs.Seats.{SeatView, undo_of}
 use Rattle.fst_cache.specs.Kept.{state_of}
-use Rattle.fst_cache.proofs.Kept.{same_listed, listed}
+use Rattle.fst_seat.proofs.Seated.{same_listed, listed}
 use Rattle.fst_cache.proofs.SendSet.{writable}
 use Rattle.fst_cache.proofs.SendBytes.{may_send, loaded_is, idle, chosen_here, folded_here, image_sized}
 use Rattle.fst_cache.proofs.SendState.{seat_is, sent_loaded, step_sent, kept_sent, state_sent}
-use Rattle.fst_cache.proofs.Counted.{flying_more}
-use Rattle.fst_cache.proofs.CountedUndo.{undo_put, undo_within, undo_left}
+use Rattle.fst_seat.proofs.Flying.{flying_more}
+use Rattle.fst_seat.proofs.Undo.{undo_put, undo_within, undo_left}
 use Rattle.fst_cache.proofs.cache.Cache.send.Goals as goal
 
 pub launch-requires : goal.launch-requires

@@ -5,14 +5,15 @@ use Rattle.fst_types.specs.Events.{Show}
 use Rattle.fst_types.specs.Order.{order}
 use Rattle.fst_types.specs.Refusals.{NoneHolds}
 use Rattle.fst_types.specs.Step.{accepted, refused, show}
-use Rattle.fst_cache.specs.Seats.{SeatView}
+use Rattle.fst_seat.specs.Seats.{SeatView}
 use Rattle.fst_cache.specs.Kept.{state_of}
-use Rattle.fst_cache.proofs.Kept.{listed}
+use Rattle.fst_seat.proofs.Seated.{listed}
 use Rattle.fst_cache.proofs.ResideSeats.{at_rest, room_for}
 use Rattle.fst_cache.proofs.ResideLoading.{load_keeps, written_back, within_of}
-use Rattle.fst_cache.proofs.ResideShowing.{load_fault, step_not_loaded, told, not_failed}
-use Rattle.fst_cache.proofs.Counted.{flying_still}
-use Rattle.fst_cache.proofs.CountedUndo.{undo_load}
+use Rattle.fst_seat.proofs.Putting.{not_failed}
+use Rattle.fst_cache.proofs.ResideShowing.{load_fault, step_not_loaded, told}
+use Rattle.fst_seat.proofs.Flying.{flying_still}
+use Rattle.fst_seat.proofs.Undo.{undo_load}
 use Rattle.fst_cache.proofs.cache.Cache.show.Goals as goal
 
 pub returns-in-Some : goal.returns-in-Some

@@ -2,9 +2,9 @@ use Rattle.std.proofs.Common.{◌≡◌, ◌∙◌, Some, true, false, length, s
 use Rattle.std.specs.Option.{option_map_or}
 use Rattle.std.proofs.lemmas.Bool.{both_ways}
 use Rattle.std.proofs.lemmas.Option.{slice_get_read}
-use Rattle.fst_cache.specs.Seats.{SeatView}
+use Rattle.fst_seat.specs.Seats.{SeatView}
 use Rattle.fst_cache.specs.Kept.{state_of}
-use Rattle.fst_cache.proofs.ResideCounts.{one_more}
+use Rattle.fst_seat.proofs.Counts.{one_more}
 use Rattle.fst_cache.proofs.ResideLooking.{none_below, stalled_at, stalled_within}
 use Rattle.fst_cache.proofs.cache.Cache.stalled.Goals as goal
 

@@ -1,6 +1,6 @@
 use Rattle.std.proofs.Common.{ℕ, ◌≡◌, ◌<◌, Some, true, false, slice_get}
 use Rattle.std.specs.Option.{option_map_or}
-use Rattle.fst_cache.specs.Seats.{SeatView}
+use Rattle.fst_seat.specs.Seats.{SeatView}
 use Rattle.fst_cache.proofs.cache.Cache.stalled.Given as goal
 
 abbrev pub invariant-loop-at : goal.invariant-loop-at

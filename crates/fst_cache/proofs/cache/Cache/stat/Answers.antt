@@ -1,4 +1,4 @@
-use Rattle.std.proofs.Common.{refl, ◌∙◌}
+use Rattle.std.proofs.Common.{refl}
 use Rattle.fst_cache.specs.Kept.{state_of}
 use Rattle.fst_cache.proofs.ResideUndo.{undo_is}
 use Rattle.fst_cache.proofs.cache.Cache.stat.Goals as goal

@@ -1,5 +1,5 @@
 use Rattle.std.proofs.Common.{◌≡◌, List, [], ◌∷◌, ◌++◌, length, sym, ap, ◌∙◌, append-nil, arith}
-use Rattle.fst_cache.specs.Seats.{seats_of}
+use Rattle.fst_seat.specs.Seats.{seats_of}
 use Rattle.fst_cache.proofs.cache.open.seated.Goals as goal
 
 -- nothing is left

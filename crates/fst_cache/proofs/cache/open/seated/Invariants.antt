@@ -1,5 +1,5 @@
 use Rattle.std.proofs.Common.{◌≡◌, ◌++◌, ◌+◌, ◌≤◌, vec_len, vec_capacity}
-use Rattle.fst_cache.specs.Seats.{seats_of}
+use Rattle.fst_seat.specs.Seats.{seats_of}
 use Rattle.fst_cache.proofs.cache.open.seated.Given as goal
 
 abbrev pub invariant-loop-slot : goal.invariant-loop-slot

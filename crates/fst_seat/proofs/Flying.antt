@@ -4,8 +4,8 @@ use Rattle.std.proofs.lemmas.List.{length-map}
 use Rattle.std.proofs.lemmas.List.Sums.{sum_by-set, count_by-le-length}
 use Rattle.std.proofs.lemmas.Option.{get_or_from_slice_get, slice_get_within}
 use Rattle.fst_types.specs.State.{Flight, BlockState}
-use Rattle.fst_cache.specs.Seats.{SeatView, blocks, seats_of}
-use Rattle.fst_cache.proofs.ResideLooking.{count_mapped}
+use Rattle.fst_seat.specs.Seats.{SeatView, blocks, seats_of}
+use Rattle.fst_seat.proofs.Counts.{count_mapped}
 
 abbrev pub flying_in : List SeatView → ℕ
 flying_in seats = count_by (λ (v : BlockState). is_some v.flight) (blocks seats)

@@ -8,11 +8,11 @@ use Rattle.fst_types.specs.declared.fault.Fault.{Fault}
 use Rattle.fst_types.specs.declared.fault.Fault.TheVariants as fault
 use Rattle.fst_types.specs.State.{BlockState}
 use Rattle.fst_block.specs.BlockView.{BlockPatch, BlockView}
-use Rattle.fst_cache.specs.Seats.{SeatView}
-use Rattle.fst_cache.specs.Residing.{IsReadOf, MakesPlace, IsLoadedAt}
-use Rattle.fst_cache.specs.Making.{MayLoad, Puts}
-use Rattle.fst_cache.specs.Faults.{IsOneFaultMore}
-use Rattle.fst_cache.proofs.Kept.{get-set, same_seat, same_listed}
+use Rattle.fst_seat.specs.Seats.{SeatView}
+use Rattle.fst_seat.specs.Residing.{IsReadOf, MakesPlace, IsLoadedAt}
+use Rattle.fst_seat.specs.Residing.{MayLoad, Puts}
+use Rattle.fst_seat.specs.Faults.{IsOneFaultMore}
+use Rattle.fst_seat.proofs.Seated.{get-set, same_seat, same_listed}
 
 -- what a call did that refused
 pub on_refusal : {T E P : Type 0} (r : Result T E) → IsErr r → OnErr r P → P
@@ -23,6 +23,10 @@ on_refusal (Err x) e p = p
 pub memory_kind : {T : Type 0} (r : Result T Fault) → IfErr r (λ f. f ≡ fault.Memory) → IsErr r → IsErrOf r fault.Device ⊎ IsErrOf r fault.Memory
 memory_kind (Ok x) only e = absurd (false≢true e)
 memory_kind (Err f) only e = inr (ap (λ (x : Fault). Err x) only)
+
+-- what answers Ok has no fault
+pub not_failed : {T : Type 0} {x : T} {f : Fault} → ◌≡◌ {A = Result T Fault} (Ok x) (Err f) → ⊥
+not_failed e = cc
 
 -- the same block, with the patches that it had or none
 record IsOfSeat (old new : SeatView) : Type 0 where

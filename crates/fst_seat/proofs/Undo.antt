@@ -1,7 +1,6 @@
 -- How many undo bytes all blocks keep, as seats change.
-use Rattle.std.proofs.Common.{◌≡◌, ◌≤◌, ◌+◌, ℕ, Bool, not, true, false, List, [], ◌∷◌, ◌++◌, Option, Some, None, refl, sym, ap, ◌∙◌, inl, inr, arith, slice_get, slice_set, sum_by}
+use Rattle.std.proofs.Common.{◌≡◌, ◌≤◌, ◌+◌, ℕ, not, false, List, [], ◌∷◌, ◌++◌, Option, Some, None, refl, sym, ap, ◌∙◌, inl, inr, arith, slice_get, slice_set, sum_by}
 use Rattle.std.specs.Option.{option_map_or}
-use Rattle.std.specs.Prelude.{IfSome}
 use Rattle.std.proofs.lemmas.Bool.{true≢false}
 use Rattle.std.proofs.lemmas.List.Sums.{sum_by-set, sum_by-append}
 use Rattle.std.proofs.lemmas.List.Filters.{sum_by-filter_both}
@@ -9,10 +8,10 @@ use Rattle.std.proofs.lemmas.Option.{get_or_from_slice_get, slice_get_within}
 use Rattle.fst_types.specs.State.{Flight}
 use Rattle.fst_types.specs.declared.number.PatchNo.{PatchNo}
 use Rattle.fst_block.specs.BlockView.{BlockPatch, BlockView, len_if_soft, soft_lengths}
-use Rattle.fst_block.specs.Choices.{is_chosen, chosen_of, others_of}
-use Rattle.fst_cache.specs.Seats.{SeatView, undo_of, has_patches, is_dirty_with, is_dirty_seat, seats_of}
-use Rattle.fst_cache.specs.Residing.{IsReadOf, MakesPlace, Loads}
-use Rattle.fst_cache.specs.Making.{MayLoad, Puts}
+use Rattle.fst_block.specs.Choices.{is_chosen, others_of}
+use Rattle.fst_seat.specs.Seats.{SeatView, undo_of, has_patches, is_dirty_with, is_dirty_seat, seats_of}
+use Rattle.fst_seat.specs.Residing.{IsReadOf, MakesPlace}
+use Rattle.fst_seat.specs.Residing.{MayLoad, Puts}
 
 abbrev undo_with : Option BlockView → ℕ
 undo_with loaded = option_map_or (λ (l : BlockView). soft_lengths l.patches) loaded 0

@@ -1,5 +1,5 @@
 -- Counts and sums over a list, by the places of its items.
-use Rattle.std.proofs.Common.{◌≡◌, ◌<◌, ◌≤◌, ◌+◌, ℕ, zero, suc, Bool, true, false, cond, List, [], ◌∷◌, Some, refl, sym, ap, subst, ◌∙◌, inl, inr, arith, length, slice_get, count_by, sum_by}
+use Rattle.std.proofs.Common.{◌≡◌, ◌<◌, ◌≤◌, ◌+◌, ℕ, zero, suc, Bool, true, false, cond, List, [], ◌∷◌, map, Some, refl, sym, ap, subst, ◌∙◌, inl, inr, arith, length, slice_get, count_by, sum_by}
 use Rattle.std.proofs.lemmas.Bool.{cases_Bool, cases_eq}
 use Rattle.std.proofs.lemmas.List.Sums.{sum_by-cons}
 use Rattle.std.proofs.lemmas.Option.{same_Some}
@@ -10,6 +10,13 @@ ones f x = cond (f x) 1 0
 
 counted : {X : Type 0} (f : X → Bool) (x : X) (xs : List X) → count_by f (x ∷ xs) ≡ cond (f x) 1 0 + count_by f xs
 counted f x xs = sum_by-cons (ones f) x xs
+
+-- items that stand for others
+pub count_mapped : {X Y : Type 0} (f : Y → Bool) (h : X → Y) (xs : List X) → count_by f (map h xs) ≡ count_by (λ (x : X). f (h x)) xs
+count_mapped f h [] = refl
+count_mapped f h (x ∷ xs) =
+    sum_by-cons (λ y. cond (f y) 1 0) (h x) (map h xs)
+    ∙ (ap (λ (n : ℕ). cond (f (h x)) 1 0 + n) (count_mapped f h xs) ∙ sym (sum_by-cons (λ y. cond (f (h y)) 1 0) x xs))
 
 -- the numbers below n, each by its worth
 abbrev pub sum_below : (ℕ → ℕ) → ℕ → ℕ

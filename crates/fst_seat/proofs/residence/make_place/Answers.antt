@@ -1,8 +1,8 @@
 use Rattle.std.proofs.Common.{arith}
-use Rattle.fst_cache.specs.Seats.{SeatView}
-use Rattle.fst_cache.specs.Residing.{IsLeastClean}
-use Rattle.fst_cache.proofs.ResideReading.{none_clean, leaves_by}
-use Rattle.fst_cache.proofs.residence.make_place.Goals as goal
+use Rattle.fst_seat.specs.Seats.{SeatView}
+use Rattle.fst_seat.specs.Residing.{IsLeastClean}
+use Rattle.fst_seat.proofs.Loading.{none_clean, leaves_by}
+use Rattle.fst_seat.proofs.residence.make_place.Goals as goal
 
 pub unreachable-requires : goal.unreachable-requires
 unreachable-requires g c = omega (arith, none_clean c.args.seats.now c.in_default.ensures.least, c.requires, c.loaded.ensures, c.if-loaded-resident.false)

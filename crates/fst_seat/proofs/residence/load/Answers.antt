@@ -1,7 +1,7 @@
 use Rattle.std.proofs.Common.{◌<◌, ◌∙◌, length, sym, inr, arith}
 use Rattle.std.proofs.lemmas.Result.{on_ok_weaker}
-use Rattle.fst_cache.proofs.ResideReading.{rest_placed, length_placed, seat_read, loads_by, there_by, rose_by, quiet_by, counted_by}
-use Rattle.fst_cache.proofs.residence.load.Goals as goal
+use Rattle.fst_seat.proofs.Loading.{rest_placed, length_placed, seat_read, loads_by, there_by, rose_by, quiet_by, counted_by}
+use Rattle.fst_seat.proofs.residence.load.Goals as goal
 
 pub load-requires : goal.load-requires
 load-requires g c =

@@ -1,10 +1,10 @@
 use Rattle.std.proofs.Common.{◌≡◌, Some, refl, sym, ◌∙◌, slice_get, arith}
 use Rattle.std.proofs.lemmas.Bool.{both_ways}
 use Rattle.std.proofs.lemmas.Option.{slice_get_read, slice_get_within}
-use Rattle.fst_cache.specs.Residing.{IsCleanLoaded}
-use Rattle.fst_cache.proofs.ResideCounts.{one_more}
-use Rattle.fst_cache.proofs.residence.least_clean.Goals as goal
-use Rattle.fst_cache.proofs.residence.least_clean.Goals.{else-is_loaded-via-then-is_loaded+else-not-is_dirty, else-is_loaded-via-else-is_loaded}
+use Rattle.fst_seat.specs.Residing.{IsCleanLoaded}
+use Rattle.fst_seat.proofs.Counts.{one_more}
+use Rattle.fst_seat.proofs.residence.least_clean.Goals as goal
+use Rattle.fst_seat.proofs.residence.least_clean.Goals.{else-is_loaded-via-then-is_loaded+else-not-is_dirty, else-is_loaded-via-else-is_loaded}
 
 pub loop-at-preserved : goal.loop-at-preserved
 loop-at-preserved g c =

@@ -1,20 +1,20 @@
 //! Which blocks are in memory: at most as many as the shape says, and those with a change that is not on disk always.
 //! A block that comes into memory takes a free place, or that of the first block that has no such change.
 
-ghost use Rattle.std.specs.Prelude.{◌≡◌, ◌⊎◌, ◌<◌, ◌≤◌, ℕ, true, None, Some, IfSome, IsErr, IsErrOf, OnOk, MatchOption, length, count_by, map, slice_get};
+ghost use Rattle.std.specs.Prelude.{◌≡◌, ◌⊎◌, ◌<◌, ◌≤◌, ◌+◌, ℕ, true, All, None, Some, IfSome, IsErr, IsErrOf, OnOk, MatchOption, length, count_by, map, slice_get};
 ghost use Rattle.fst_types.specs.declared.fault.Fault.{Fault};
 ghost use Rattle.fst_types.specs.Residence.{faults_rose};
-ghost use Rattle.fst_cache.specs.Seats.{SeatView, is_dirty_seat};
-ghost use Rattle.fst_cache.specs.Faults.{IsOneFaultMore};
-ghost use Rattle.fst_cache.specs.Residing.{count_loaded, IsCleanLoaded, IsLeastClean, MakesPlace, Loads, IsLoadedAt, IsAtRestWhereAway};
+ghost use Rattle.fst_seat.specs.Seats.{SeatView, is_dirty_seat};
+ghost use Rattle.fst_seat.specs.Faults.{IsOneFaultMore};
+ghost use Rattle.fst_seat.specs.Residing.{count_loaded, IsCleanLoaded, IsLeastClean, MakesPlace, Loads, MayLoad, Puts, IsLoadedAt, IsAtRestWhereAway};
 
 use crate::seat::Seat;
 use fst_device::BlockSlot;
-use fst_types::{BlockNo, Fault};
+use fst_types::{BlockNo, Fault, Grade, PatchNo, Span};
 use std::alloc::Global;
 
 /// How many blocks have a change in memory or in flight.
-pub(crate) fn dirty<S: BlockSlot>(seats: &[Seat<S>]) -> usize
+pub fn dirty<S: BlockSlot>(seats: &[Seat<S>]) -> usize
     ensures { result ≡ count_by is_dirty_seat seats.now }
 {
     seats.iter().filter(|seat| seat.is_dirty()).count()
@@ -57,7 +57,7 @@ fn make_place<S: BlockSlot>(seats: &mut [Seat<S>], resident: u32)
 }
 
 /// Reads a block from its slot, where it is not in memory.
-pub(crate) fn load<S: BlockSlot>(
+pub fn load<S: BlockSlot>(
     seats: &mut [Seat<S>],
     alloc: Global,
     resident: u32,
@@ -79,4 +79,32 @@ pub(crate) fn load<S: BlockSlot>(
     }
     make_place(seats, resident);
     seats[block.0 as usize].load(alloc)
+}
+
+/// Puts the bytes at the span of a block, as its newest patch. The block is read first where it is not in memory.
+pub fn put<S: BlockSlot>(
+    seats: &mut [Seat<S>],
+    alloc: Global,
+    resident: u32,
+    block: BlockNo,
+    no: PatchNo,
+    span: Span,
+    bytes: &[u8],
+    grade: Grade,
+) -> Result<(), Fault>
+    requires within { block.0 < length seats.old }
+    requires rest { IsAtRestWhereAway seats.old }
+    requires room { (seat : SeatView) → slice_get seats.old block.0 ≡ Some seat → seat.loaded ≡ None → count_by is_dirty_seat seats.old < resident }
+    requires inside { (seat : SeatView) → slice_get seats.old block.0 ≡ Some seat → span.at + span.len ≤ length seat.block.committed }
+    requires same_length { length bytes.now ≡ span.len }
+    requires newest { (seat : SeatView) → slice_get seats.old block.0 ≡ Some seat → IfSome seat.loaded (λ l. All (λ p. p.number < no.0) l.patches) }
+    ensures put { OnOk result (Puts resident seats.old block.0 (record { number = no.0; span = span; grade = grade; bytes = bytes.now }) seats.new) }
+    ensures refused { IsErr result → MayLoad resident seats.old block.0 seats.new }
+    ensures device { IsErrOf result Fault.Device → faults_rose (map (λ seat. seat.faults) seats.old) (map (λ seat. seat.faults) seats.new) block.0 ≡ true }
+    ensures one_fault { IsOneFaultMore (map (λ seat. seat.faults) seats.old) block.0 (map (λ seat. seat.faults) seats.new) }
+    ensures no_fault { (IsErrOf result Fault.Device → ⊥) → map (λ seat. seat.faults) seats.new ≡ map (λ seat. seat.faults) seats.old }
+    ensures kinds { IsErr result → IsErrOf result Fault.Device ⊎ IsErrOf result Fault.Memory }
+{
+    load(seats, alloc, resident, block)?;
+    seats[block.0 as usize].apply(no, span, bytes, grade)
 }

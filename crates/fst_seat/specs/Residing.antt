@@ -1,7 +1,7 @@
 -- Which blocks are in memory.
-use Rattle.std.specs.Prelude.{◌≡◌, ◌<◌, ◌≤◌, ◌⊎◌, ℕ, false, List, [], Option, Some, None, IsSome, is_some, slice_get, slice_set, count_by}
-use Rattle.fst_block.specs.BlockView.{BlockView}
-use Rattle.fst_cache.specs.Seats.{SeatView, is_dirty_seat}
+use Rattle.std.specs.Prelude.{◌≡◌, ◌<◌, ◌≤◌, ◌⊎◌, ◌++◌, ◌∷◌, ℕ, false, List, [], Option, Some, None, IsSome, is_some, slice_get, slice_set, count_by}
+use Rattle.fst_block.specs.BlockView.{BlockPatch, BlockView}
+use Rattle.fst_seat.specs.Seats.{SeatView, is_dirty_seat}
 
 -- how many blocks are in memory
 abbrev pub count_loaded : List SeatView → ℕ
@@ -49,3 +49,17 @@ pub record IsLoadedAt (seats : List SeatView) (b : ℕ) : Type 0 where
 -- a block that is not in memory has no flight
 abbrev pub IsAtRestWhereAway : List SeatView → Type 0
 IsAtRestWhereAway seats = (b : ℕ) (seat : SeatView) → slice_get seats b ≡ Some seat → seat.loaded ≡ None → seat.block.flight ≡ None
+
+-- block b was in memory, or was read
+abbrev pub MayLoad : (resident : ℕ) (old : List SeatView) (b : ℕ) (new : List SeatView) → Type 0
+MayLoad resident old b new = (IsLoadedAt old b × (new ≡ old)) ⊎ Loads resident old b new
+
+-- then block b has one patch more, its newest
+pub record Puts (resident : ℕ) (old : List SeatView) (b : ℕ) (patch : BlockPatch) (new : List SeatView) : Type 0 where
+  pub read : List SeatView
+  pub load : MayLoad resident old b read
+  pub seat : SeatView
+  pub at : slice_get read b ≡ Some seat
+  pub view : BlockView
+  pub there : seat.loaded ≡ Some view
+  pub seats : new ≡ slice_set read b (record seat { loaded = Some (record view { patches = view.patches ++ patch ∷ [] }) })

@@ -1,8 +1,8 @@
 use Rattle.std.proofs.Common.{◌∙◌}
 use Rattle.std.proofs.lemmas.Result.{on_ok_weaker, err_from_is_err_and}
-use Rattle.fst_cache.proofs.MakePut.{on_refusal, memory_kind, inside_of, newest_of, puts_of, same_load, read_at, same_counts, counts_after}
-use Rattle.fst_cache.proofs.ResideShowing.{not_failed}
-use Rattle.fst_cache.proofs.cache.making.put.Goals as goal
+use Rattle.fst_seat.proofs.Putting.{on_refusal, memory_kind, inside_of, newest_of, puts_of, same_load, read_at, same_counts, counts_after}
+use Rattle.fst_seat.proofs.Putting.{not_failed}
+use Rattle.fst_seat.proofs.residence.put.Goals as goal
 
 pub returns-in_err-load-clause-kinds : goal.returns-in_err-load-clause-kinds
 returns-in_err-load-clause-kinds g c = let p = err_from_is_err_and c.from_residual.result c.from_residual.ensures.1 in rw (p.1, p.2) c.in_err-load.ensures.kinds

@@ -7,11 +7,11 @@ use Rattle.std.proofs.lemmas.List.{get_or-set_same}
 use Rattle.fst_types.specs.State.{Flight}
 use Rattle.fst_types.specs.Residence.{faults_rose}
 use Rattle.fst_block.specs.BlockView.{BlockView}
-use Rattle.fst_cache.specs.Seats.{SeatView, is_dirty_with, is_dirty_seat}
-use Rattle.fst_cache.specs.Faults.{IsOneFaultMore}
-use Rattle.fst_cache.specs.Residing.{count_loaded, IsCleanLoaded, IsLeastClean, MakesPlace, Loads, IsLoadedAt, IsAtRestWhereAway}
-use Rattle.fst_cache.proofs.Kept.{get-set, listed, listed_new, listed_set, same_listed}
-use Rattle.fst_cache.proofs.ResideCounts.{count_le}
+use Rattle.fst_seat.specs.Seats.{SeatView, is_dirty_with, is_dirty_seat}
+use Rattle.fst_seat.specs.Faults.{IsOneFaultMore}
+use Rattle.fst_seat.specs.Residing.{count_loaded, IsCleanLoaded, IsLeastClean, MakesPlace, Loads, IsLoadedAt, IsAtRestWhereAway}
+use Rattle.fst_seat.proofs.Seated.{get-set, listed, listed_new, listed_set, same_listed}
+use Rattle.fst_seat.proofs.Counts.{count_le}
 
 -- where no clean block is in memory, all that are there are dirty
 pub none_clean : (seats : List SeatView) → ((d : ℕ) (other : SeatView) → slice_get seats d ≡ Some other → IsCleanLoaded other → ⊥) → count_loaded seats ≤ count_by is_dirty_seat seats

@@ -1,0 +1,5 @@
+pub mod Names
+pub mod Seen
+pub mod Seats
+pub mod Faults
+pub mod Residing
