@@ -24,7 +24,7 @@ use fst_walks::sight::Sight;
 use std::alloc::{AllocError, Global};
 
 /// The gates of a group.
-#[derive(Clone, Copy, Debug, PartialEq, Eq)]
+#[derive(Clone, Copy)]
 pub struct Gates {
     pub head: u32,
     pub tail: u32,

@@ -5,7 +5,7 @@ use fst_types::{Grade, Place, Span};
 use smallvec::SmallVec;
 
 /// What a patch is. A change names its block, the bytes that it writes and its grade.
-#[derive(Clone, Copy, Debug, PartialEq, Eq)]
+#[derive(Clone, Copy)]
 pub enum Kind {
     Change(u32, Span, Grade),
     Empty,

@@ -17,7 +17,7 @@ use fst_types::{Place, Span};
 use std::alloc::{AllocError, Global};
 
 /// A change as its block lists it.
-#[derive(Clone, Copy, Debug, PartialEq, Eq)]
+#[derive(Clone, Copy)]
 pub struct Listed {
     pub number: u32,
     pub span: Span,

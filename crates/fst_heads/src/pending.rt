@@ -5,7 +5,7 @@ ghost use Rattle.fst_heads.specs.declared.pending.Pending.TheVariants as pending
 ghost use Rattle.fst_heads.specs.Pendings.{is_pending, over_block, nothing, plus, minus, together, joined_sums, Fits, HasIn};
 
 /// What has still to reach the disk of a patch and of all that it depends on.
-#[derive(Clone, Copy, Debug, PartialEq, Eq)]
+#[derive(Clone, Copy)]
 pub enum Pending {
     /// It is on disk.
     Nothing,
@@ -60,7 +60,7 @@ pub fn over_block(block: u32, below: Pending) -> Pending
 /// How many patches of a row are not on disk, how many of these wait for an open gate, and how many of the others for
 /// more than one block, and the sums of the blocks of the rest and of the squares of those blocks. The two sums tell
 /// whether all those blocks are the same, and follow where one patch of the row changes, without a look at the others.
-#[derive(Clone, Copy, Debug, PartialEq, Eq)]
+#[derive(Clone, Copy)]
 pub struct Sums {
     pub count: usize,
     pub held: usize,

@@ -18,7 +18,7 @@ use fst_types::{PatchNo, Span};
 use std::alloc::{AllocError, Global};
 
 /// A change that is to be made: its block, its bytes, and the patches that it is to depend on.
-#[derive(Clone, Copy, Debug)]
+#[derive(Clone, Copy)]
 pub struct Wanted<'a> {
     pub block: u32,
     pub span: Span,

@@ -19,7 +19,7 @@ use std::alloc::{AllocError, Global};
 
 /// How many changes of a block in memory have nothing pending but changes of the block, how many hard ones in memory have
 /// more, and how many changes are in flight.
-#[derive(Clone, Copy, Debug, PartialEq, Eq)]
+#[derive(Clone, Copy)]
 pub struct Standing {
     pub ready: usize,
     pub held: usize,

@@ -8,7 +8,7 @@ use crate::head::{Head, Kind};
 use fst_types::Place;
 
 /// A question about one patch.
-#[derive(Clone, Copy, Debug, PartialEq, Eq)]
+#[derive(Clone, Copy)]
 pub enum Test {
     /// It has the number.
     Numbered(u32),

@@ -26,7 +26,7 @@ use std::marker::Model;
 pub const TOP: u32 = 4_294_967_295;
 
 /// A head's number, its level and its strand.
-#[derive(Clone, Copy, Debug, PartialEq, Eq)]
+#[derive(Clone, Copy)]
 pub struct Rank {
     pub number: u32,
     pub level: u32,
@@ -34,7 +34,7 @@ pub struct Rank {
 }
 
 /// What a new change does to the levels.
-#[derive(Clone, Copy, Debug, PartialEq, Eq)]
+#[derive(Clone, Copy)]
 pub struct Rise {
     /// The level of the change.
     pub level: u32,
