@@ -1,10 +1,8 @@
 -- The runs of a cover: which number they tell over a byte.
-use Rattle.fst_heads.proofs.Basics.{◌≡◌, ◌⊎◌, ◌<◌, ◌≤◌, ◌+◌, ◌-◌, ◌++◌, ◌∷◌, ◌∙◌, [], ℕ, zero, suc, List, All, true, false, Bool, cond, map, get_or, take, drop, length, length-append, insert, is_ok, false≢true, Contains, refl, sym, ap, subst, inl, inr, arith, nat_lt, nat_tests, cond_both, cases_lt, take-append-drop, AllPairs-cons, Contains-append_right, Result, Ok, Err, IsSearchInRange, IsBinarySearchResult, IsNonDecreasingBy, ordering_index, nat_cmp}
+use Rattle.fst_heads.proofs.Basics.{◌≡◌, ◌⊎◌, ◌<◌, ◌≤◌, ◌+◌, ◌-◌, ◌++◌, ◌∷◌, ◌∙◌, [], ℕ, zero, suc, List, All, true, false, cond, map, get_or, take, drop, length, Contains, refl, sym, ap, subst, inl, inr, arith, nat_lt, nat_tests, cond_both, cases_lt, take-append-drop, AllPairs-cons, Contains-append_right, Result, Ok, Err, IsSearchInRange, IsBinarySearchResult, IsNonDecreasingBy, ordering_index, nat_cmp}
 use Rattle.std.proofs.Common.{get_or-take, get_or-drop, length-take-le, length-drop}
-use Rattle.std.proofs.lemmas.List.Edits.{insert-append_right}
 use Rattle.std.proofs.lemmas.List.Elements.{All-append, All-cons}
-use Rattle.std.specs.List.{remove_range}
-use Rattle.std.specs.Prelude.{IsOk, min}
+use Rattle.std.specs.Prelude.{min}
 use Rattle.std.proofs.lemmas.Cmp.{ranked}
 use Rattle.fst_heads.proofs.Slots.{some_element}
 use Rattle.fst_heads.proofs.Words.{Run, AreRising, AreParted}
@@ -174,27 +172,6 @@ module _ (xs : List Run) (at len n first past : ℕ) (rising : AreRising xs) (so
       (All-cons (λ r. r.from ≤ x) own_run (end_run ∷ []) (omega (arith, hi)) (All-cons (λ r. r.from ≤ x) end_run [] hi (λ k d lt. absurd (omega (arith, lt)))))
       ∙ sym (ap (λ rs. newest_in 0 rs x) (whole_at past) ∙ newest_past (take past xs) (drop past xs) 0 x (λ k d lt. let b = N.before k d lt in omega (arith, b, hi)))
 
-  sub-self : (i : ℕ) → i - i ≡ 0
-  sub-self i = omega arith
-
-  insert_at : (ys zs : List Run) (i : ℕ) (y : Run) → length ys ≡ i → insert (ys ++ zs) i y ≡ ys ++ y ∷ zs
-  insert_at ys zs i y long =
-      insert-append_right ys zs i i y long (omega arith) ∙ ap (λ k. ys ++ insert zs k y) (sub-self i)
-
-  put_by_two : insert (insert (remove_range xs first past) first end_run) first own_run ≡ put_in
-  put_by_two =
-      let l = length-take-le first xs M.few in
-      ap (λ rs. insert rs first own_run) (insert_at (take first xs) (drop past xs) first end_run l) ∙ insert_at (take first xs) (end_run ∷ drop past xs) first own_run l
-
-  -- as they are put in: what lies between goes, and each of the two is inserted, which is not refused
-  pub put_is : {E F : Type 0} (left once twice : List Run) (after : ℕ) (r : Result (Unit {0}) E) (q : Result (Unit {0}) F) → after ≡ last_in 0 (take past xs) → left ≡ remove_range xs first past
-      → once ≡ cond (is_ok r) (insert left first (record { from = at + len; number = after })) left → IsOk r
-      → twice ≡ cond (is_ok q) (insert once first own_run) once → IsOk q → twice ≡ put_in
-  put_is left once twice after (Ok u) (Ok v) number drained one fine two good =
-      two ∙ ap (λ rs. insert rs first own_run) (one ∙ ap (λ k. insert left first (record { from = at + len; number = k })) number ∙ ap (λ rs. insert rs first end_run) drained) ∙ put_by_two
-  put_is left once twice after (Err e) q number drained one fine two good = absurd (false≢true fine)
-  put_is left once twice after (Ok u) (Err e) number drained one fine two good = absurd (false≢true good)
-
 -- a search among the runs by what they begin at
 module _ (xs : List Run) (rising : AreRising xs) (n : ℕ) where
   compared : (e : Run) → IsNonDecreasingBy (λ r. ordering_index (nat_cmp r.from n)) xs
@@ -315,16 +292,3 @@ module _ (xs : List Run) (at len m n x : ℕ) (M : AreParted xs (at + 1) m) (N :
       | inr c ↦ c
     ]
   ])
-
--- what is left where some go is no longer
-pub left_is_few : (xs : List Run) (first past : ℕ) → first ≤ past → past ≤ length xs → length (remove_range xs first past) ≤ length xs
-left_is_few xs first past le few =
-    let a = length-append (take first xs) (drop past xs) in
-    let b = length-take-le first xs (omega (arith, le, few)) in
-    let c = length-drop past xs in
-    omega (arith, a, b, c, le, few)
-
--- one more at most
-pub one_more : (b : Bool) (n : ℕ) → cond b (n + 1) n ≤ n + 1
-one_more true n = omega arith
-one_more false n = omega arith

@@ -2,7 +2,7 @@
 //! it, and of those over one byte it is enough to name the newest, since the others are below it. So a row is found by a
 //! look at the bytes of the new change alone, however many changes lie under it.
 
-ghost use Rattle.std.specs.Prelude.{◌≡◌, ◌≤◌, ◌<◌, ◌+◌, [], ℕ, false, length, map, take, Contains, IfOk, OnOk};
+ghost use Rattle.std.specs.Prelude.{◌≡◌, ◌≤◌, ◌<◌, ◌+◌, ◌++◌, ◌∷◌, [], ℕ, false, length, map, take, drop, vec_len, vec_capacity, Contains, IfOk, OnOk};
 ghost use Rattle.fst_heads.specs.Covers.{AreCovered, AreParted, HasRoomForRuns, IsPut, SaysTheSame, last_in, newest_over};
 
 use fst_types::Span;
@@ -14,6 +14,31 @@ use std::marker::Model;
 pub struct Run {
     pub from: u64,
     pub number: u32,
+}
+
+// Puts two runs in the place of those from the first on up to past. There is room for them.
+fn lay(runs: &mut Vec<Run>, first: usize, past: usize, own: Run, end: Run)
+    requires ordered { first ≤ past }
+    requires within { past ≤ length runs.old.items }
+    requires room { vec_len runs.old + 2 ≤ vec_capacity runs.old }
+    ensures { runs.new.items ≡ take first runs.old.items ++ own ∷ end ∷ drop past runs.old.items }
+{
+    if past < first + 2 {
+        if past == first {
+            let _ = runs.insert(first, end);
+        } else {
+            runs[first] = end;
+        }
+        let _ = runs.insert(first, own);
+        return;
+    }
+    runs[first] = own;
+    runs[first + 1] = end;
+    let len = runs.len();
+    if first + 2 < past {
+        runs.copy_within(past..len, first + 2);
+        runs.truncate(first + 2 + (len - past));
+    }
 }
 
 /// The runs of a block, by the bytes that they begin at; before the first one no change was made. So it takes 32 bytes for
@@ -99,16 +124,16 @@ impl Cover {
         let past = self.before(end + 1);
         // What was over the byte at the end stays over what follows.
         let after = self.number_after(past);
-        drop(self.runs.drain(first..past));
-        // There is room for both.
-        let _ = self.runs.insert(
+        lay(
+            &mut self.runs,
             first,
+            past,
+            Run { from, number },
             Run {
                 from: end,
                 number: after,
             },
         );
-        let _ = self.runs.insert(first, Run { from, number });
     }
 
     /// The runs over the bytes of the span, with the one that it begins in.
