@@ -1,7 +1,7 @@
 -- The runs of a cover: which number they tell over a byte.
 use Rattle.fst_heads.proofs.Basics.{◌≡◌, ◌⊎◌, ◌<◌, ◌≤◌, ◌+◌, ◌-◌, ◌++◌, ◌∷◌, ◌∙◌, [], ℕ, zero, suc, List, All, true, false, cond, map, get_or, take, drop, length, Contains, refl, sym, ap, subst, inl, inr, arith, nat_lt, nat_tests, cond_both, cases_lt, take-append-drop, AllPairs-cons, Contains-append_right, Result, Ok, Err, IsSearchInRange, IsBinarySearchResult, IsNonDecreasingBy, ordering_index, nat_cmp}
 use Rattle.std.proofs.Common.{get_or-take, get_or-drop, length-take-le, length-drop}
-use Rattle.std.proofs.lemmas.List.Elements.{All-append, All-cons}
+use Rattle.std.proofs.lemmas.List.Elements.{All-append, All-cons, All-head, All-tail}
 use Rattle.std.specs.Prelude.{min}
 use Rattle.std.proofs.lemmas.Cmp.{ranked}
 use Rattle.fst_heads.proofs.Slots.{some_element}
@@ -10,12 +10,6 @@ use Rattle.fst_heads.specs.Covers.{last_in, newest_in}
 
 abbrev pub numbers_in : List Run → List ℕ
 numbers_in = map (λ r. r.number)
-
-first_of : {X : Type 0} (P : X → Type 0) (x : X) (xs : List X) → All P (x ∷ xs) → P x
-first_of P x xs h = h 0 x (omega arith)
-
-rest_of : {X : Type 0} (P : X → Type 0) (x : X) (xs : List X) → All P (x ∷ xs) → All P xs
-rest_of P x xs h k d lt = h (suc k) d (omega (arith, lt))
 
 lt_true : (a b : ℕ) → a < b → nat_lt a b ≡ true
 lt_true a b lt = grind (arith, nat_tests)
@@ -28,14 +22,14 @@ pub newest_past : (xs ys : List Run) (so x : ℕ) → All (λ r. r.from ≤ x) x
 unfolding newest_in last_in
 newest_past [] ys so x h = refl
 newest_past (r ∷ rs) ys so x h =
-    ap (λ b. cond b so (newest_in r.number (rs ++ ys) x)) (lt_false x r.from (first_of (λ r. r.from ≤ x) r rs h))
-    ∙ newest_past rs ys r.number x (rest_of (λ r. r.from ≤ x) r rs h)
+    ap (λ b. cond b so (newest_in r.number (rs ++ ys) x)) (lt_false x r.from (All-head (λ r. r.from ≤ x) r rs h))
+    ∙ newest_past rs ys r.number x (All-tail (λ r. r.from ≤ x) r rs h)
 
 -- and those that begin after it tell nothing of it
 pub newest_stops : (ys : List Run) (so x : ℕ) → All (λ r. x < r.from) ys → newest_in so ys x ≡ so
 unfolding newest_in last_in
 newest_stops [] so x h = refl
-newest_stops (r ∷ rs) so x h = ap (λ b. cond b so (newest_in r.number rs x)) (lt_true x r.from (first_of (λ r. x < r.from) r rs h))
+newest_stops (r ∷ rs) so x h = ap (λ b. cond b so (newest_in r.number rs x)) (lt_true x r.from (All-head (λ r. x < r.from) r rs h))
 
 pub newest_before : (xs ys : List Run) (so x : ℕ) → All (λ r. x < r.from) ys → newest_in so (xs ++ ys) x ≡ newest_in so xs x
 unfolding newest_in last_in
@@ -109,8 +103,8 @@ rise_joined : (xs ys : List Run) → AreRising xs → AreRising ys → All (λ a
 rise_joined [] ys first other across = other
 rise_joined (x ∷ xs) ys first other across =
     AllPairs-cons (λ a b. a.from < b.from) x (xs ++ ys)
-    (All-append (λ b. x.from < b.from) xs ys (λ k d lt. first 0 (suc k) d (omega arith) (omega (arith, lt))) (first_of (λ a. All (λ b. a.from < b.from) ys) x xs across))
-    (rise_joined xs ys (λ i j d lt within. first (suc i) (suc j) d (omega (arith, lt)) (omega (arith, within))) other (rest_of (λ a. All (λ b. a.from < b.from) ys) x xs across))
+    (All-append (λ b. x.from < b.from) xs ys (λ k d lt. first 0 (suc k) d (omega arith) (omega (arith, lt))) (All-head (λ a. All (λ b. a.from < b.from) ys) x xs across))
+    (rise_joined xs ys (λ i j d lt within. first (suc i) (suc j) d (omega (arith, lt)) (omega (arith, within))) other (All-tail (λ a. All (λ b. a.from < b.from) ys) x xs across))
 
 -- the runs after one more change of len bytes from at on, whose number is n
 module _ (xs : List Run) (at len n first past : ℕ) (rising : AreRising xs) (some : 1 ≤ len) (M : AreParted xs at first) (N : AreParted xs (at + len + 1) past) where
