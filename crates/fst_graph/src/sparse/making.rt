@@ -13,7 +13,7 @@ ghost use Rattle.fst_heads.specs.Nodes.{Node, nodes_of, pending_in, at_number, g
 ghost use Rattle.fst_heads.specs.Pendings.{Fits, sums_of};
 
 use crate::fresh::row_of;
-use crate::prepared::prepare;
+use crate::prepared::{let_go, prepare};
 use crate::refusals::make_fault;
 use crate::sparse::Sparse;
 use fst_heads::growth::gain_one;
@@ -61,7 +61,7 @@ impl Sparse {
         ensures same { OnErr result (self.new ≡ unprepared self.old) }
         ensures blocks { self.new.blocks ≡ self.old.blocks }
     {
-        self.prepared = None;
+        let_go(&mut self.prepared);
         if let Some(fault) = make_fault(&self.heads, self.numbers, after) {
             return Err(fault);
         }
