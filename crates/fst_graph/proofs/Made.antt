@@ -1,16 +1,16 @@
 -- What the fields are once a change, a gate or an empty patch is put down, and once an open gate has more names.
 use Rattle.std.proofs.Common.{inl, inr, ◌≡◌, ◌<◌, ◌≤◌, ◌+◌, ◌++◌, ◌∷◌, ◌∙◌, [], ℕ, true, false, Bool, List, Option, None, Contains, length, vec_len, vec_capacity, map, get_or, set, arith, refl, sym, ap, subst}
-use Rattle.std.proofs.lemmas.{List.{get_or-map, length-map, length_push, map_push}, List.Elements.Contains-push_cases}
+use Rattle.std.proofs.lemmas.{List.{length-map, length_push, map_push}, List.Elements.Contains-push_cases}
 use Rattle.std.specs.{Global.Vec, Vec.with_items}
 use Rattle.fst_types.specs.{Dependencies.{DirectlyOn, IsLiveNumber}, Facts.{IsOnDiskWithAll, SparseAreLawful}, Gates.IsOpenNumber, Gating.gains, Lists.Lists, Making.fresh, Order.depend_order}
 use Rattle.fst_types.specs.{Patches.{Patch, IsOn, OpenGate}, Refusals.NoneHolds}
-use Rattle.fst_heads.specs.{Covers.{Covering, IsPut as IsCovered}, Heads.{patches_of, IsRising}, Keeps.IsInside, Nodes.{AreLinked, node_of, nodes_of, at_number, gains_names, linked_to, pending_in}}
-use Rattle.fst_heads.specs.{Pendings.{is_pending, joined_sums, over_block, sums_of}, Standings.{entered, is_held_on, is_ready_on}, Tests.is_hard_kind, declared.head.Head.Head}
+use Rattle.fst_heads.specs.{Covers.{Covering, IsPut as IsCovered}, Heads.{patches_of, IsRising}, Keeps.IsInside, Lists.{entry_of, HasRoomInList}, Nodes.{AreLinked, node_of, nodes_of, at_number, gains_names, linked_to, pending_in}}
+use Rattle.fst_heads.specs.{Pendings.{is_pending, sums_of}, Standings.{entered, is_held_on, is_ready_on}, Tests.is_hard_kind, declared.head.Head.Head}
 use Rattle.fst_heads.specs.{declared.lists.Listed.Listed, declared.pending.{Pending.Pending, Sums.Sums}, declared.standing.Standing.Standing}
 use Rattle.fst_walks.specs.{Leveling.{IsLeveled, Leveling, level_of, strand_of, floor_of, top_level}, Lifting.{IsRise, MayLift}, Needing.{IsPut, Needing}, Sights.Sees, Strands.GoesOn, Walks.{Trail, numbers_met}, declared.{ends.Ends.Ends, levels.{Rank.Rank, Rise.Rise}, sight.Sight.Sight}}
-use Rattle.fst_graph.specs.{Fresh.{HasOneMore, IsAdded, IsRoomier, MayAdd}, Ready.change_of, Sound.AreSound, declared.prepared.Prepared.Prepared as Stored}
-use Rattle.fst_heads.proofs.{Added.{new_node, with_node, with_names}, AtNumber.patches_in_nodes, Beside.{beside_made, beside_depends, one_live}, Covering.{covered_gained, covered_push}, Making.keeps_added, Slots.rising_heads, Stands.stand_made, Sums.joined_exact}
-use Rattle.fst_walks.proofs.{Linked.{patches_made, patches_named}, Releveled.gained_is_leveled, Seen.{seen, lawful_nodes, tallies_wider}, Shelves.shelved_push}
+use Rattle.fst_graph.specs.{Fresh.{HasOneMore, HasPlaces, IsAdded, IsRoomier, MayAdd}, Ready.change_of, Sound.AreSound, declared.prepared.Prepared.Prepared as Stored}
+use Rattle.fst_heads.proofs.{Added.{new_node, with_node, with_names}, AtNumber.patches_in_nodes, Beside.{beside_made, beside_depends, one_live}, Covering.{covered_gained, covered_push}, Making.keeps_added, Slots.rising_heads, Stands.stand_made}
+use Rattle.fst_walks.proofs.{Linked.{patches_made, patches_named}, Releveled.gained_is_leveled, Seen.{seen, lawful_nodes, tallies_wider}, Shelves.shelved}
 use Rattle.fst_graph.proofs.{Borne.{few_counted, lawful_with, open_nodes}, Kept.{covered_made, keeps_depends, keeps_walked, none_below_set}, Listed.listed_made, NeedsNow.{needing_change, needing_gained, needing_put}}
 use Rattle.fst_graph.proofs.{PutNow.IsPutDown, Ranks.{along_grown, leveled_change, leveled_put}, Sound.{as_many_lists, as_many_marks, as_many_places, over_down, rising_sound, sees_all, walked_sound}, Tallied.{tallies_depends, tallies_made}}
 use Rattle.fst_heads.specs.declared.pending.Pending.TheVariants as pending
@@ -117,15 +117,6 @@ module _ {heads : Vec Head} {ends : Ends} {levels : Leveling} {needs : Needing} 
     abbrev node : Pending
     node = (new_node (nodes_of heads.items) made).pending
 
-    -- the nodes with the change, and what is pending of it
-    pub change_nodes : (linked : List Head) (h : Head) {hs new : List Head} {row row' : List ℕ} {s : Sums} {below over : Pending} → s ≡ sums_of (pending_in (nodes_of hs)) row → hs ≡ heads.items → row ≡ p.dependencies.items → below ≡ joined_sums s → over ≡ over_block p.block below
-        → nodes_of linked ≡ map (linked_to row' made.number) (nodes_of heads.items) → row' ≡ p.dependencies.items → new ≡ linked ++ h ∷ [] → node_of h ≡ record { patch = made; sums = s; pending = over; dependants = [] }
-        → (nodes_of new ≡ with_node (nodes_of heads.items) made) × (over ≡ node)
-    change_nodes linked h {hs} s same named below over links named' put told =
-        let sums = summed hs heads.items s (ap nodes_of same) named in
-        let pends = over ∙ ap (over_block p.block) (below ∙ (ap joined_sums sums ∙ joined_exact (pending_in (nodes_of heads.items)) p.dependencies.items)) in
-        (put_nodes heads.items linked h made links named' put (rw (told, sums, pends) refl), pends)
-
     -- the walk up may begin, and what it told may be written
     pub may_rise : (sight : Sight) {places : List Bool} → sight.heads.now ≡ heads.items → sight.lists.now ≡ lists.items → sight.covers.now ≡ covers.items → sight.standings.now ≡ standings.items → sight.levels.now ≡ levels → sight.needs.now ≡ needs → places ≡ ends.up.crossed.items
         → record { sees : Sees sight; long : length ends.up.walk.marks ≡ length sight.heads.now; crossed : length places ≡ length sight.lists.now; block : p.block < length sight.lists.now }
@@ -168,51 +159,60 @@ module _ {heads : Vec Head} {ends : Ends} {levels : Leveling} {needs : Needing} 
         rw same record { rising = rising_sound S; block = omega (arith, D.ready.inside, needed.0, S.needing.long); room = omega (arith, needed.1, ap length named) }
 
     -- there is room for it in the list of its block, among the counts, and in the walks
-    pub may_list : (list : Vec Listed) → list ≡ get_or lists.items p.block list → vec_len list < vec_capacity list
-    may_list list there =
-        let room = D.prepared.in_list in
-        let len = get_or-map (λ l. vec_len l) lists.items p.block list 0 D.shelf in
-        let capacity = get_or-map (λ l. vec_capacity l) lists.items p.block list 0 D.shelf in
-        omega (arith, room, len, capacity, ap (λ l. vec_len l) there, ap (λ l. vec_capacity l) there)
-
-    pub may_enter : (own : Standing) → own ≡ get_or standings.items p.block own → record { ready : own.ready < 18446744073709551615; held : own.held < 18446744073709551615 }
-    may_enter own there = record {
-      ready = few_counted heads.items (is_ready_on p.block) _ S.keeps.few (ap (λ s. s.ready) (D.counted own there));
-      held = few_counted heads.items (is_held_on p.block) _ S.keeps.few (ap (λ s. s.held) (D.counted own there));
+    pub may_enlist : record {
+      list : p.block < length lists.items;
+      standing : p.block < length standings.items;
+      room : HasRoomInList (map (λ l. vec_len l) lists.items) (map (λ l. vec_capacity l) lists.items) p.block;
+      few : (own : Standing) → own ≡ get_or standings.items p.block own → (own.ready < 18446744073709551615) × (own.held < 18446744073709551615);
+    }
+    may_enlist = record {
+      list = D.shelf;
+      standing = omega (arith, D.ready.inside, S.tallies.standing.long);
+      room = D.prepared.in_list;
+      few = λ own there. (
+        few_counted heads.items (is_ready_on p.block) _ S.keeps.few (ap (λ s. s.ready) (D.counted own there)),
+        few_counted heads.items (is_held_on p.block) _ S.keeps.few (ap (λ s. s.held) (D.counted own there)),
+      );
     }
 
-    pub may_grow : (walk : Trail) {hs : List Head} → length walk.marks ≡ length hs → hs ≡ heads.items → walk.room ≡ ends.up.walk.room → record { up : length walk.marks < walk.room; down : length ends.down.walk.marks < ends.down.walk.room }
-    may_grow walk long same room =
-        let P = D.prepared.places in
-        record { up = omega (arith, P.marks_free, long, ap length same, as_many_marks S, room); down = omega (arith, P.below_free) }
+    abbrev walked : Trail → List Bool → Ends
+    walked walk places = record ends { up = record { walk = walk; crossed = with_items ends.up.crossed places } }
+
+    pub may_put : (walk : Trail) (places : List Bool) {hs : List Head} {lifted : Leveling} → length walk.marks ≡ length hs → hs ≡ heads.items → walk.room ≡ ends.up.walk.room → (length lifted.ranks ≡ length levels.ranks) × (lifted.room ≡ levels.room) → HasPlaces 1 heads (walked walk places) lifted
+    may_put walk places long same room lifted =
+        let P = D.prepared.places in record {
+          heads_free = P.heads_free;
+          marks_free = omega (arith, P.marks_free, long, ap length same, as_many_marks S, room);
+          below_free = P.below_free;
+          ranks_free = omega (arith, P.ranks_free, lifted.0, lifted.1);
+        }
 
     -- the change stands as it rises, beside what its block has already
-    pub change_sound : {new : Vec Head} {over : Pending} → (nodes_of new.items ≡ with_node (nodes_of heads.items) made) × (over ≡ node)
-        → (walk : Trail) (places : List Bool) {hs : List Head} {row : List ℕ} {rise : Rise} {grown : Ends} → hs ≡ heads.items → row ≡ p.dependencies.items → IsRise (patches_of hs) levels p.block row p.grade (numbers_met hs walk) rise → length walk.marks ≡ length hs
-        → (grown.up.walk.marks ≡ walk.marks ++ false ∷ []) × (grown.down.walk.marks ≡ ends.down.walk.marks ++ false ∷ []) → (grown.up.crossed ≡ with_items ends.up.crossed places) × (grown.down.crossed ≡ ends.down.crossed)
-        → {hs : List Head} {lifted ranked : Leveling} → hs ≡ heads.items → IsLeveled (patches_of hs) (length levels.floors) lifted
+    pub change_sound : (walk : Trail) (places : List Bool) {rise : Rise} {s : ℕ} {new : Vec Head} {grown : Ends} {lifted ranked : Leveling} → HasOneMore made (record { number = numbers + 1; level = rise.level; strand = s }) heads (walked walk places) lifted new grown ranked
+        → {over : Pending} → over ≡ node → {hs : List Head} {row : List ℕ} → hs ≡ heads.items → row ≡ p.dependencies.items → IsRise (patches_of hs) levels p.block row p.grade (numbers_met hs walk) rise → length walk.marks ≡ length hs
+        → {hs : List Head} → hs ≡ heads.items → IsLeveled (patches_of hs) (length levels.floors) lifted
         → ((n : ℕ) → level_of levels.ranks n ≤ rise.level → level_of lifted.ranks n ≤ rise.level) → (rise.lifts ≡ true → floor_of lifted.floors p.block ≡ rise.level) → (rise.lifts ≡ false → lifted ≡ levels)
-        → {hs : List Head} {row : List ℕ} {s : ℕ} → hs ≡ heads.items → row ≡ p.dependencies.items → GoesOn (patches_of hs) (strand_of lifted.ranks) (numbers + 1) row s
-        → ranked.ranks ≡ lifted.ranks ++ record { number = numbers + 1; level = rise.level; strand = s } ∷ [] → ranked.floors ≡ lifted.floors
+        → {hs : List Head} {row : List ℕ} → hs ≡ heads.items → row ≡ p.dependencies.items → GoesOn (patches_of hs) (strand_of lifted.ranks) (numbers + 1) row s
         → {gs : List Head} {row : List ℕ} {put : Needing} → gs ≡ heads.items → row ≡ p.dependencies.items → IsPut (patches_of gs) needs.block row p.grade needs.lists put.lists
-        → {list : Vec Listed} (list' : Vec Listed) {lists' : Vec (Vec Listed)} → list ≡ get_or lists.items p.block list → list'.items ≡ list.items ++ record { number = numbers + 1; span = p.span } ∷ [] → lists'.items ≡ set lists.items p.block list'
+        → {lists' : Vec (Vec Listed)} → shelved lists'.items ≡ set (shelved lists.items) p.block (get_or (shelved lists.items) p.block [] ++ entry_of (record { number = numbers + 1; span = p.span }) ∷ [])
         → {cover cover' : Covering} {covers' : Vec Covering} → cover ≡ get_or covers.items p.block cover → IsCovered cover p.span.at p.span.len (numbers + 1) cover' → covers'.items ≡ set covers.items p.block cover'
-        → {own own' : Standing} {told : Bool} {standings' : Vec Standing} → own ≡ get_or standings.items p.block own → told ≡ is_pending over (pending.Block p.block) → own' ≡ entered (is_hard_kind made.kind) told own → standings'.items ≡ set standings.items p.block own'
+        → {standings' : Vec Standing} → ((d : Standing) → standings'.items ≡ set standings.items p.block (entered (is_hard_kind made.kind) (is_pending over (pending.Block p.block)) (get_or standings.items p.block d)))
         → {least : ℕ} → least ≤ unmarked → least ≤ p.block
         → AreSound new grown ranked put lists' covers' standings' queue (live + 1) least (numbers + 1) blocks None
-    change_sound {new} (nodes, pends) walk places {rise = rise} {grown} same named R long marks crossed at leveled below lifted still there after on ranks floors gs row put {list} list' list_is pushed lists_are cover_is covered covers_are {own} own_is told enters standings_are {least} low here =
-        let walked : Ends = record ends { up = record { walk = walk; crossed = with_items ends.up.crossed places } } in
-        let W = walked_sound S {walked = walked} (record { long = long ∙ ap length same; crossed = omega (arith, walked.up.crossed.ok.0, ends.up.crossed.ok.0, as_many_places S) }) (over_down S) in
+    change_sound walk places {rise = rise} {new = new} P pends same named R long at leveled below lifted still there after on gs row put listed cover_is covered covers_are enters {least} low here =
+        let W = walked_sound S {walked = walked walk places} (record { long = long ∙ ap length same; crossed = omega (arith, (walked walk places).up.crossed.ok.0, ends.up.crossed.ok.0, as_many_places S) }) (over_down S) in
+        let nodes = P.nodes in
+        let none : Standing = record { ready = 0; held = 0; flying = 0 } in
         let patches = put_patches heads.items new.items made nodes in
         let as_long : length walk.marks ≡ length ends.up.walk.marks = omega (arith, long, ap length same, as_many_marks S) in
         record {
-          keeps = rw (patches, marks.0) (keeps_walked (omega (arith, as_long, length_push walk.marks false, length_push ends.up.walk.marks false)) D.keeps);
-          beside = rw (patches, crossed.0) (beside_made old blocks live 1 (with_items ends.up.crossed places).items made refl W.beside);
-          tallies = rw (nodes, lists_are, standings_are, enters, told, pends, own_is, shelved_push lists.items p.block list list' _ D.shelf list_is pushed) (D.tallies own);
+          keeps = rw (patches, P.marks.0) (keeps_walked (omega (arith, as_long, length_push walk.marks false, length_push ends.up.walk.marks false)) D.keeps);
+          beside = rw (patches, P.crossed.0) (beside_made old blocks live 1 (with_items ends.up.crossed places).items made refl W.beside);
+          tallies = rw (nodes, listed, enters none, pends) (D.tallies none);
           covered = rw (patches, covers_are) (covered_made numbers p.grade D.ready.depends S.covered D.ready.inside cover_is covered);
-          along = along_grown {old = walked} marks crossed W.along;
-          leveled = rw patches (leveled_change p rise (numbers_met heads.items walk) S.keeps.lawful.one_place_each D.given (risen walk same named R) (rw (← at, ← S.leveled.long) leveled) below lifted still (rw (← there, ← after) on) ranks floors);
+          along = along_grown {old = walked walk places} P.marks P.crossed W.along;
+          leveled = rw patches (leveled_change p rise (numbers_met heads.items walk) S.keeps.lawful.one_place_each D.given (risen walk same named R) (rw (← at, ← S.leveled.long) leveled) below lifted still (rw (← there, ← after) on) P.ranks P.floors);
           needing = rw patches (needing_change p S.keeps.lawful.one_place_each S.needing (rw (← D.prepared.needed.0, ← gs, ← row) put));
-          none_below = rw standings_are (none_below_set standings.items unmarked least p.block _ S.none_below low here);
+          none_below = rw (enters none) (none_below_set standings.items unmarked least p.block _ S.none_below low here);
           prepared = tt;
         }

@@ -1,12 +1,12 @@
 -- The tail of a group gains the change that was made for it.
-use Rattle.std.proofs.Common.{◌≡◌, ◌≢◌, ◌⊎◌, ◌+◌, ◌≤◌, ◌++◌, ℕ, Bool, List, [], ◌∷◌, Option, Some, None, IfSome, option_map, Contains, refl, sym, ap, subst, ◌∙◌, inl, inr, arith}
+use Rattle.std.proofs.Common.{◌≡◌, ◌⊎◌, ◌+◌, ◌≤◌, ◌++◌, ℕ, Bool, List, [], ◌∷◌, Option, Some, None, IfSome, option_map, Contains, refl, sym, ap, subst, ◌∙◌, inl, inr, arith}
 use Rattle.std.proofs.lemmas.List.Elements.{Contains-append_left, Contains-push, Contains-push_cases}
 use Rattle.fst_types.specs.{Closure.{one, join}, Dependencies.{DirectlyOn, DependsOn, IsLiveNumber}, Facts.SparseAreLawful, Gates.IsOpenNumber}
 use Rattle.fst_types.specs.{Lists.Lists, Order.{depend_order, NamesUnknown, NamesAbove}, Patches.Patch, Refusals.NoneHolds}
-use Rattle.fst_heads.specs.{Heads.{patch_of, patches_of}, Keeps.Keeps, Names.numbers_of, declared.head.Head.Head}
+use Rattle.fst_heads.specs.{Keeps.Keeps, Names.numbers_of}
 use Rattle.fst_graph.specs.{Known.Prepared, Membering.member_order, Ready.{prepared_of, change_of, IsReady, IsMemberReady, IsReadyFor, MayBePut}}
 use Rattle.fst_graph.specs.{declared.prepared.Gates.Gates, declared.prepared.Prepared.Prepared as Stored}
-use Rattle.fst_types.proofs.{Finite.{In-from_Contains, Contains-from_In, In-map}, NewChange.IsWithin, SmallStates.only_in}
+use Rattle.fst_types.proofs.{NewChange.IsWithin, SmallStates.only_in}
 use Rattle.fst_heads.proofs.{Graded.depends_under, Leading.some_injective, Touching.touched_overlaps}
 use Rattle.fst_walks.proofs.Overlapped.{touched_no_gate}
 use Rattle.fst_graph.proofs.{GateSlot.open_not_sealed, Readied.{head_told, ready_member}, Wholes.memory_live}
@@ -136,19 +136,13 @@ module _ (old : List Patch) (n blocks : ℕ) (marks : List Bool) (K : Keeps old 
 pub tail_may : (old : List Patch) (n blocks : ℕ) (marks : List Bool) → Keeps old n blocks marks → (gates : Gates) (p : Stored) → p.gates ≡ Some gates → MayBePut old n blocks p → IfSome p.gates (λ g. IsOpenNumber old g.head → ⊥) → SparseAreLawful (old ++ change_of n p ∷ []) (n + 1) → MayGain old n gates p
 tail_may old n blocks marks K gates p there ready shut = tail_gain old n blocks marks K gates p (member_kept p gates old n blocks there ready) (subst (λ g. IfSome g (λ x. IsOpenNumber old x.head → ⊥)) there shut)
 
--- no head has the next number
-pub none_beyond : (heads : List Head) (old : List Patch) (n : ℕ) → patches_of heads ≡ old → SparseAreLawful old n → (h : Head) → Contains heads h → h.number ≢ n + 1
-none_beyond heads old n same H h c e =
-    let there = Contains-from_In (patches_of heads) (patch_of h) (In-map patch_of heads h (patch_of h) (In-from_Contains heads h c) refl) in
-    let k = (H.one_place_each.numbered (patch_of h) (subst (λ ps. Contains ps (patch_of h)) same there)).1 in
-    omega (arith, k, e)
-
 -- nothing refuses it
 pub member_clear : (o : Option Stored) (n : ℕ) (q : Prepared) (head : ℕ) (old : List Patch) (blocks : ℕ) → option_map (prepared_of n) o ≡ Some q → q.group ≡ Some head → IfSome o (MayBePut old n blocks) → NoneHolds (member_order old n (head + 1) q.block q.at q.len)
 member_clear None n q head old blocks seen named ready = absurd (cc)
 member_clear (Some p) n q head old blocks seen named ready =
     let shown : prepared_of n p ≡ q = cc in
-    let r = ready_member n p head old n blocks (ap (λ x. x.group) shown ∙ named) ready in
+    let group : option_map (λ (g : Gates). g.head) p.gates ≡ Some head = subst (λ (x : Prepared). x.group ≡ Some head) (sym shown) named in
+    let r = ready_member n p head old n blocks group ready in
     let own = head_same (Some p) n q head p r.0 seen named refl r.1 in
     let tail : r.0.tail ≡ head + 1 = r.2.paired.follows ∙ ap (λ x. x + 1) own in
     rw (← shown, ← tail) r.2.clear

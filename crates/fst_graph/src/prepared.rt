@@ -1,7 +1,7 @@
 //! The change that `room` made room for. It is kept whole, so that `add_data` with the same arguments only puts it
 //! down, which takes no memory and is not refused.
 
-ghost use Rattle.std.specs.Prelude.{◌≡◌, ◌↔◌, ◌<◌, List, option_map, IsTrue, IfOk, OnOk, length, map, slice_index_or, vec_len, vec_capacity};
+ghost use Rattle.std.specs.Prelude.{◌≡◌, ◌↔◌, ◌<◌, List, Some, None, option_map, IsTrue, IfOk, OnOk, length, map, slice_index_or, vec_len, vec_capacity};
 ghost use Rattle.fst_types.specs.Grades.{FollowsRule};
 ghost use Rattle.fst_types.specs.Patches.{Patch};
 ghost use Rattle.fst_heads.specs.Covers.{AreCovered, Covering, HasRoomForRuns};
@@ -17,7 +17,7 @@ use fst_heads::cover::Cover;
 use fst_heads::lists::Listed;
 use fst_heads::row::Row;
 use fst_heads::sparse::{Wanted, sparse_row};
-use fst_types::{Grade, PatchNo, Span};
+use fst_types::{Fault, Grade, PatchNo, Span};
 use fst_walks::ends::Ends;
 use fst_walks::grade::grade_of;
 use fst_walks::sight::Sight;
@@ -62,6 +62,28 @@ impl Prepared {
             None => false,
         }
     }
+}
+
+/// Nothing is prepared any more. What was is let go of here, and so nowhere else.
+pub fn let_go(prepared: &mut Option<Prepared>)
+    ensures { prepared.new ≡ None }
+{
+    *prepared = None;
+}
+
+/// That change is prepared.
+pub fn keep(prepared: &mut Option<Prepared>, change: Prepared)
+    ensures { prepared.new ≡ Some change }
+{
+    *prepared = Some(change);
+}
+
+/// The change is given up for want of memory.
+pub fn given_up(change: Prepared) -> Fault
+    ensures { result ≡ Fault.Memory }
+{
+    let _ = &change;
+    Fault::Memory
 }
 
 /// The same names.

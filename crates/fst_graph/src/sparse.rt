@@ -19,7 +19,7 @@ mod pairs;
 mod reserving;
 
 use crate::gates::{depend_fault, gain_names, gate_slot};
-use crate::prepared::Prepared;
+use crate::prepared::{Prepared, let_go};
 use fst_heads::cascade::{cascade, seal_slot};
 use fst_heads::choice::{first_held, ready_set};
 use fst_heads::cover::{Cover, empty_covers};
@@ -124,7 +124,7 @@ impl Sparse {
     pub fn unprepare(&mut self)
         ensures { self.new ≡ unprepared self.old }
     {
-        self.prepared = None;
+        let_go(&mut self.prepared);
     }
 
     /// How many patches are not on disk. It takes no memory.
@@ -153,7 +153,7 @@ impl Sparse {
         ensures refused { IfErr result (λ f. HasReady self.old.heads block.0 × (f ≡ Fault.Memory)) }
         ensures same { self.new ≡ unprepared self.old }
     {
-        self.prepared = None;
+        let_go(&mut self.prepared);
         let Some(list) = self.lists.get(block.0 as usize) else {
             return Ok(Vec::new(self.alloc));
         };
@@ -172,7 +172,7 @@ impl Sparse {
         ensures same { OnErr result (self.new ≡ unprepared self.old) }
         ensures blocks { self.new.blocks ≡ self.old.blocks }
     {
-        self.prepared = None;
+        let_go(&mut self.prepared);
         let slot = match gate_slot(&self.heads, self.numbers, gate.0) {
             Ok(slot) => slot,
             Err(fault) => return Err(fault),
@@ -194,7 +194,7 @@ impl Sparse {
         ensures same { OnErr result (self.new ≡ unprepared self.old) }
         ensures blocks { self.new.blocks ≡ self.old.blocks }
     {
-        self.prepared = None;
+        let_go(&mut self.prepared);
         if let Some(fault) = depend_fault(
             &self.heads,
             &mut self.ends.up.walk,
@@ -216,7 +216,7 @@ impl Sparse {
         ensures launched { Launches self.old (numbers_of chosen.now) self.new }
         ensures blocks { self.new.blocks ≡ self.old.blocks }
     {
-        self.prepared = None;
+        let_go(&mut self.prepared);
         let Some(first) = chosen.first() else {
             return;
         };
@@ -233,7 +233,7 @@ impl Sparse {
         ensures landed { LandsBlock self.old block.0 self.new }
         ensures blocks { self.new.blocks ≡ self.old.blocks }
     {
-        self.prepared = None;
+        let_go(&mut self.prepared);
         let flying = flying_count(&self.standings, block.0);
         land_block(
             &mut self.heads,
@@ -252,7 +252,7 @@ impl Sparse {
     pub fn forget(&mut self) -> u32
         ensures { Forgets self.old result self.new }
     {
-        self.prepared = None;
+        let_go(&mut self.prepared);
         let before = self.heads.len();
         keep_live(&mut self.heads, self.live);
         self.ends.shrink(self.heads.len());
@@ -266,7 +266,7 @@ impl Sparse {
         ensures least { IfSome result (λ no. IsLeastHeld self.old.heads block.0 no.0) }
         ensures same { self.new ≡ unprepared self.old }
     {
-        self.prepared = None;
+        let_go(&mut self.prepared);
         let Some(list) = self.lists.get(block.0 as usize) else {
             return None;
         };
@@ -287,7 +287,7 @@ impl Sparse {
         ensures never_stuck { IfNone result (IsStuckByGates self.old.heads) }
         ensures same { self.new ≡ unprepared self.old }
     {
-        self.prepared = None;
+        let_go(&mut self.prepared);
         let Some(block) = least_marked(&self.standings, self.unmarked) else {
             self.unmarked = self.standings.len();
             return None;

@@ -12,6 +12,7 @@ ghost use Rattle.fst_heads.specs.Heads.{IsRising, patches_of};
 ghost use Rattle.fst_heads.specs.Names.{numbers_of};
 
 use crate::fresh::{Fresh, add_one, gate};
+use crate::prepared::let_go;
 use crate::refusals::{make_fault, room_fault};
 use crate::sparse::Sparse;
 use fst_heads::head::{Head, Kind};
@@ -61,7 +62,7 @@ impl Sparse {
         ensures refused { IfErr result (λ f. f ≡ Fault.Memory) }
         ensures same { OnErr result (self.new ≡ unprepared self.old) }
     {
-        self.prepared = None;
+        let_go(&mut self.prepared);
         let number = fresh.number;
         let live = weight(fresh.place);
         let Ok(()) = add_one(
@@ -87,7 +88,7 @@ impl Sparse {
         ensures same { OnErr result (self.new ≡ unprepared self.old) }
         ensures blocks { self.new.blocks ≡ self.old.blocks }
     {
-        self.prepared = None;
+        let_go(&mut self.prepared);
         if let Some(fault) = room_fault(&self.heads, self.numbers) {
             return Err(fault);
         }
@@ -104,7 +105,7 @@ impl Sparse {
         ensures same { OnErr result (self.new ≡ unprepared self.old) }
         ensures blocks { self.new.blocks ≡ self.old.blocks }
     {
-        self.prepared = None;
+        let_go(&mut self.prepared);
         let fresh = new_empty(self.alloc, &self.heads, self.numbers, after)?;
         self.add_fresh(fresh)
     }

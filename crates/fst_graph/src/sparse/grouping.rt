@@ -11,7 +11,7 @@ ghost use Rattle.fst_graph.specs.Sparse.{ForetellsSparse, GainsSparse};
 
 use crate::gates::gate_slot;
 use crate::member::prepare_member;
-use crate::prepared::Gates;
+use crate::prepared::{Gates, let_go};
 use crate::refusals::member_fault;
 use crate::sparse::Sparse;
 use fst_heads::cascade::{cascade, seal_slot};
@@ -38,7 +38,7 @@ impl Sparse {
         ensures same { OnErr result (self.new ≡ unprepared self.old) }
         ensures blocks { self.new.blocks ≡ self.old.blocks }
     {
-        self.prepared = None;
+        let_go(&mut self.prepared);
         let sight = Sight {
             heads: &self.heads,
             lists: &self.lists,

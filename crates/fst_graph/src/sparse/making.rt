@@ -1,32 +1,38 @@
 //! Making a change: first room for it, then the change itself.
 
-ghost use Rattle.std.specs.Prelude.{◌≡◌, ◌↔◌, ◌<◌, ◌≤◌, ◌+◌, ◌∷◌, [], ℕ, Some, IfOk, IfErr, OnErr, IfSome, IfNone, MatchResult, IsTrue, Contains, length, map};
+ghost use Rattle.std.specs.Prelude.{◌≡◌, ◌↔◌, ◌<◌, ◌≤◌, ◌+◌, ◌∷◌, [], ℕ, Some, IfOk, IfErr, OnErr, IfSome, IfNone, MatchResult, IsTrue, Contains, length, map, slice_index_or, slice_set, vec_len, vec_capacity, ◌++◌};
 ghost use Rattle.fst_types.specs.Gates.{IsOpenNumber};
 ghost use Rattle.fst_types.specs.Order.{make_order};
 ghost use Rattle.fst_types.specs.declared.grade.Grade.{Grade};
 ghost use Rattle.fst_graph.specs.Known.{Known, Prepared, unprepared, prepared_for, Refuses, DependsGate};
 ghost use Rattle.fst_graph.specs.Sparse.{AddsSparse, ForeseesSparse};
-ghost use Rattle.fst_heads.specs.Heads.{IsRising};
+ghost use Rattle.fst_heads.specs.Heads.{IsRising, kind_of};
+ghost use Rattle.fst_heads.specs.Lists.{entries_of, entry_of, HasRoomInList};
 ghost use Rattle.fst_heads.specs.Names.{numbers_of};
 ghost use Rattle.fst_heads.specs.Frames.{HasRoomBelow};
 ghost use Rattle.fst_heads.specs.Nodes.{Node, nodes_of, pending_in, at_number, gains_names, linked_to, HasRoomAbove};
-ghost use Rattle.fst_heads.specs.Pendings.{Fits, sums_of};
+ghost use Rattle.fst_heads.specs.Pendings.{Fits, is_pending, sums_of};
+ghost use Rattle.fst_heads.specs.Standings.{entered};
+ghost use Rattle.fst_heads.specs.Tests.{is_hard_kind};
+ghost use Rattle.fst_heads.specs.declared.standing.Standing.{Standing as Counts};
+ghost use Rattle.fst_heads.specs.declared.pending.Pending.TheVariants as pending_as;
 
-use crate::fresh::row_of;
-use crate::prepared::prepare;
+use crate::fresh::{Fresh, put_down, row_of};
+use crate::prepared::{let_go, prepare};
 use crate::refusals::make_fault;
 use crate::sparse::Sparse;
 use fst_heads::growth::gain_one;
 use fst_heads::head::{Head, Kind};
 use fst_heads::links::link;
 use fst_heads::lists::Listed;
-use fst_heads::pending::{Pending, is_pending, over_block};
+use fst_heads::pending::{Pending, is_pending};
 use fst_heads::row::row_sums;
+use fst_heads::standing::Standing;
 use fst_types::{BlockNo, Fault, Grade, PatchNo, Place, Span};
+use fst_walks::levels::Rank;
 use fst_walks::lift::rise_of;
 use fst_walks::sight::Sight;
 use fst_walks::strands::strand_after;
-use smallvec::SmallVec;
 use std::alloc::Global;
 
 // The gate gains the number, which is that of the newest patch.
@@ -41,6 +47,26 @@ fn tie(alloc: Global, heads: &mut Vec<Head>, gate: u32, number: u32)
     let sums = row_sums(heads, row.as_slice());
     gain_one(heads, gate, number, sums);
     link(heads, row.as_slice(), gate);
+}
+
+// A new change stands last in the list of its block, and is counted where it is pending of that block alone or is hard.
+fn enlist(
+    lists: &mut Vec<Vec<Listed>>,
+    standings: &mut Vec<Standing>,
+    block: u32,
+    listed: Listed,
+    kind: Kind,
+    pending: Pending,
+)
+    requires list { block < length lists.old.items }
+    requires standing { block < length standings.old.items }
+    requires room { HasRoomInList (map (λ l. vec_len l) lists.old.items) (map (λ l. vec_capacity l) lists.old.items) block }
+    requires few { (own : Counts) → own ≡ slice_index_or standings.old.items block own → (own.ready < 18446744073709551615) × (own.held < 18446744073709551615) }
+    ensures listed { map (λ l. entries_of l.items) lists.new.items ≡ slice_set (map (λ l. entries_of l.items) lists.old.items) block (slice_index_or (map (λ l. entries_of l.items) lists.old.items) block [] ++ entry_of listed ∷ []) }
+    ensures entered { (d : Counts) → standings.new.items ≡ slice_set standings.old.items block (entered (is_hard_kind (kind_of kind)) (is_pending pending (pending_as.Block block)) (slice_index_or standings.old.items block d)) }
+{
+    lists[block as usize].push_reserved(listed);
+    standings[block as usize].enter(kind, is_pending(pending, Pending::Block(block)));
 }
 
 impl Sparse {
@@ -61,7 +87,7 @@ impl Sparse {
         ensures same { OnErr result (self.new ≡ unprepared self.old) }
         ensures blocks { self.new.blocks ≡ self.old.blocks }
     {
-        self.prepared = None;
+        let_go(&mut self.prepared);
         if let Some(fault) = make_fault(&self.heads, self.numbers, after) {
             return Err(fault);
         }
@@ -107,6 +133,7 @@ impl Sparse {
         let span = prepared.span;
         let block = prepared.block;
         let kind = Kind::Change(block, span, grade);
+        let row = prepared.dependencies.as_slice();
         let sight = Sight {
             heads: &self.heads,
             lists: &self.lists,
@@ -120,33 +147,42 @@ impl Sparse {
             &mut self.ends.up.walk,
             &mut self.ends.up.crossed,
             block,
-            prepared.dependencies.as_slice(),
+            row,
             grade,
         );
         self.levels
             .lift(&self.heads, &self.ends.up.walk, block, rise);
-        self.needs
-            .put(&self.heads, prepared.dependencies.as_slice(), grade);
-        let row = prepared.dependencies.as_slice();
-        let strand = strand_after(&self.levels, &self.heads, row, number);
-        let sums = row_sums(&self.heads, prepared.dependencies.as_slice());
-        let pending = over_block(block, sums.joined());
-        link(&mut self.heads, prepared.dependencies.as_slice(), number);
-        self.heads.push_reserved(Head {
+        self.needs.put(&self.heads, row, grade);
+        let rank = Rank {
+            number,
+            level: rise.level,
+            strand: strand_after(&self.levels, &self.heads, row, number),
+        };
+        let fresh = Fresh {
             number,
             kind,
             place: Place::Memory,
             dependencies: prepared.dependencies,
-            sums,
+        };
+        let pending = put_down(
+            self.alloc,
+            &mut self.heads,
+            &mut self.ends,
+            &mut self.levels,
+            fresh,
+            rank,
+        );
+        let listed = Listed { number, span };
+        enlist(
+            &mut self.lists,
+            &mut self.standings,
+            block,
+            listed,
+            kind,
             pending,
-            dependants: SmallVec::new(self.alloc),
-        });
-        self.lists[block as usize].push_reserved(Listed { number, span });
-        self.standings[block as usize].enter(kind, is_pending(pending, Pending::Block(block)));
+        );
         self.unmarked = self.unmarked.min(block as usize);
         self.covers[block as usize].put(span, number);
-        self.ends.grow();
-        self.levels.grow(number, rise.level, strand);
         self.live += 1;
         self.numbers = number;
         match gates {

@@ -6,6 +6,7 @@ ghost use Rattle.fst_graph.specs.Grouping.{pair_order, AddsPair, SealsIfOpen};
 ghost use Rattle.fst_graph.specs.Known.{unprepared, Refuses};
 
 use crate::fresh::add_two;
+use crate::prepared::let_go;
 use crate::sparse::Sparse;
 use fst_types::{Fault, MAX_HEADS, MAX_NUMBER, PatchNo, What};
 
@@ -31,7 +32,7 @@ impl Sparse {
         ensures same { OnErr result (self.new ≡ unprepared self.old) }
         ensures blocks { self.new.blocks ≡ self.old.blocks }
     {
-        self.prepared = None;
+        let_go(&mut self.prepared);
         if let Some(fault) = self.pair_fault() {
             return Err(fault);
         }

@@ -1,27 +1,37 @@
 //! Room for a change: every growth that putting it down takes.
 
 ghost use Rattle.std.specs.Prelude.{◌≡◌, ◌<◌, Some, IfErr, OnOk, OnErr, vec_len, vec_capacity};
+ghost use Rattle.fst_graph.specs.Fresh.{HasPlaces, IsRoomier};
 ghost use Rattle.fst_graph.specs.Known.{unprepared};
 ghost use Rattle.fst_graph.specs.Ready.{prepared_of, HasRoomAround, MayBePut};
 ghost use Rattle.fst_heads.specs.Heads.{IsRising};
-ghost use Rattle.fst_heads.specs.Nodes.{nodes_of};
 
 use crate::fresh::reserve_heads;
-use crate::prepared::{Prepared, reserve_on};
+use crate::prepared::{Prepared, given_up, keep, let_go, reserve_on};
 use crate::sparse::Sparse;
 use fst_heads::head::Head;
 use fst_heads::links::{reserve_above, reserve_below};
 use fst_types::Fault;
+use fst_walks::ends::Ends;
+use fst_walks::levels::Levels;
 use std::alloc::AllocError;
 
-// Room around the change: for one more dependant of each patch of its row, and for one more name of the tail of its group.
-fn reserve_around(heads: &mut Vec<Head>, prepared: &Prepared) -> Result<(), AllocError>
+// Room for the head of the change, and around it: for one more dependant of each patch of its row, and for one more name of
+// the tail of its group.
+fn reserve_around(
+    heads: &mut Vec<Head>,
+    ends: &mut Ends,
+    levels: &mut Levels,
+    queue: &mut Vec<u32>,
+    prepared: &Prepared,
+) -> Result<(), AllocError>
     requires { IsRising heads.old.items }
-    ensures nodes { nodes_of heads.new.items ≡ nodes_of heads.old.items }
-    ensures len { vec_len heads.new ≡ vec_len heads.old }
-    ensures capacity { vec_capacity heads.new ≡ vec_capacity heads.old }
-    ensures room { OnOk result (HasRoomAround heads.new.items prepared.now) }
+    ensures roomier { IsRoomier heads.old ends.old levels.old queue.old heads.new ends.new levels.new queue.new }
+    ensures places { OnOk result (HasPlaces 1 heads.new ends.new levels.new) }
+    ensures waits { OnOk result (vec_len heads.new < vec_capacity queue.new) }
+    ensures around { OnOk result (HasRoomAround heads.new.items prepared.now) }
 {
+    reserve_heads(heads, ends, levels, queue, 1)?;
     reserve_above(heads, prepared.dependencies.as_slice())?;
     match prepared.gates {
         Some(gates) => reserve_below(heads, gates.tail),
@@ -38,30 +48,25 @@ impl Sparse {
         ensures refused { IfErr result (λ f. f ≡ Fault.Memory) }
         ensures same { OnErr result (self.new ≡ unprepared self.old) }
     {
-        self.prepared = None;
+        let_go(&mut self.prepared);
         let block = prepared.block;
-        if reserve_heads(
+        let Ok(()) = reserve_around(
             &mut self.heads,
             &mut self.ends,
             &mut self.levels,
             &mut self.queue,
-            1,
-        )
-        .is_err()
-        {
-            return Err(Fault::Memory);
-        }
-        if reserve_around(&mut self.heads, &prepared).is_err() {
-            return Err(Fault::Memory);
-        }
+            &prepared,
+        ) else {
+            return Err(given_up(prepared));
+        };
         if reserve_on(&mut self.lists, &mut self.covers, block).is_err() {
-            return Err(Fault::Memory);
+            return Err(given_up(prepared));
         }
         let row = prepared.dependencies.as_slice();
         if self.needs.reserve(block, row.len()).is_err() {
-            return Err(Fault::Memory);
+            return Err(given_up(prepared));
         }
-        self.prepared = Some(prepared);
+        keep(&mut self.prepared, prepared);
         Ok(())
     }
 }

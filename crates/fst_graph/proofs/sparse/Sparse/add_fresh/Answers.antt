@@ -14,15 +14,15 @@ may : (c : After-weight-live) → MayAdd (patches_of c.self.inside.heads.items) 
 may c = subst (λ (v : Known). MayAdd v.heads v.numbers (patch_from c.args.fresh)) (sym c.self.view_is) c.requires
 
 pub invariant_of-self : goal.invariant_of-self
-invariant_of-self c = roomier_sound c.self.invariant c.in_default.ensures.roomier
+invariant_of-self c = rw c.let_go.ensures (roomier_sound c.self.invariant c.in_default.ensures.roomier)
 
 pub returns-in_default-clause-same : goal.returns-in_default-clause-same
-returns-in_default-clause-same c = rw (← c.self.view_is, same_patches c.add_one.new.heads.items c.self.inside.heads.items c.in_default.ensures.roomier.nodes) refl
+returns-in_default-clause-same c = rw (← c.self.view_is, c.let_go.ensures, same_patches c.add_one.new.heads.items c.self.inside.heads.items c.in_default.ensures.roomier.nodes) refl
 
 pub invariant_of-self-2 : goal.invariant_of-self-2
 invariant_of-self-2 c =
     let M = may (goal.at.invariant_of-self-2 c).After-weight-live in
-    rw M.next (added_sound c.self.invariant M c.in-Ok.ensures.added (ap (λ w. c.self.inside.live + w) (c.weight-live.ensures ∙ weighs (patch_from c.args.fresh))))
+    rw c.let_go.ensures (rw M.next (added_sound c.self.invariant M c.in-Ok.ensures.added (ap (λ w. c.self.inside.live + w) (c.weight-live.ensures ∙ weighs (patch_from c.args.fresh)))))
 
 pub returns-clause-ok : goal.returns-clause-ok
-returns-clause-ok c = rw (← c.self.view_is, put_patches c.self.inside.heads.items c.add_one.new.heads.items (patch_from c.args.fresh) c.in-Ok.ensures.added.head.nodes) (refl, refl)
+returns-clause-ok c = rw (← c.self.view_is, c.let_go.ensures, put_patches c.self.inside.heads.items c.add_one.new.heads.items (patch_from c.args.fresh) c.in-Ok.ensures.added.head.nodes) (refl, refl)

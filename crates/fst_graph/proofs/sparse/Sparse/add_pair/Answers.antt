@@ -13,10 +13,10 @@ pub add_two-requires-clause-given : goal.add_two-requires-clause-given
 add_two-requires-clause-given c = let full = c.in_default.ensures.clear.1.0 in omega (arith, full)
 
 pub invariant_of-self-in_default-add_two : goal.invariant_of-self-in_default-add_two
-invariant_of-self-in_default-add_two c = roomier_sound c.self.invariant c.in_default-add_two.ensures.roomier
+invariant_of-self-in_default-add_two c = rw c.let_go.ensures (roomier_sound c.self.invariant c.in_default-add_two.ensures.roomier)
 
 pub returns-in_default-add_two-clause-same : goal.returns-in_default-add_two-clause-same
-returns-in_default-add_two-clause-same c = rw (← c.self.view_is, same_patches c.add_two.new.heads.items c.self.inside.heads.items c.in_default-add_two.ensures.roomier.nodes) refl
+returns-in_default-add_two-clause-same c = rw (← c.self.view_is, c.let_go.ensures, same_patches c.add_two.new.heads.items c.self.inside.heads.items c.in_default-add_two.ensures.roomier.nodes) refl
 
 pub invariant_of-self-2 : goal.invariant_of-self-2
 invariant_of-self-2 c =
@@ -28,7 +28,7 @@ invariant_of-self-2 c =
     let head = fresh (n + 1) OpenGate [] in
     let patches : patches_of A.between.items ≡ with_head old n = put_patches c.self.inside.heads.items A.between.items head A.head.head.nodes in
     let one = added_sound S (gate_may old n head refl S.keeps.lawful (omega (arith, full))) A.head {all = c.self.inside.live + 1} refl in
-    added_sound one (subst (λ ps. MayAdd ps (n + 1) (fresh (n + 1 + 1) OpenGate ((n + 1) ∷ []))) (sym patches) (pair_may old n S.keeps.lawful (omega (arith, full)))) A.tail (omega arith)
+    rw c.let_go.ensures (added_sound one (subst (λ ps. MayAdd ps (n + 1) (fresh (n + 1 + 1) OpenGate ((n + 1) ∷ []))) (sym patches) (pair_may old n S.keeps.lawful (omega (arith, full)))) A.tail (omega arith))
 
 pub returns-clause-ok : goal.returns-clause-ok
 returns-clause-ok c =
@@ -38,4 +38,4 @@ returns-clause-ok c =
     let tail = fresh (n + 1 + 1) OpenGate ((n + 1) ∷ []) in
     let both : patches_of c.add_two.new.heads.items ≡ paired (patches_of old) n =
     put_patches A.between.items c.add_two.new.heads.items tail A.tail.head.nodes ∙ ap (λ ps. ps ++ tail ∷ []) (put_patches old A.between.items (fresh (n + 1) OpenGate []) A.head.head.nodes) in
-    rw (← c.self.view_is, both) (adds_pair (patches_of old) n c.self.invariant.keeps.lawful c.self.inside.blocks _ refl refl refl c.in_default.ensures.clear)
+    rw (← c.self.view_is, c.let_go.ensures, both) (adds_pair (patches_of old) n c.self.invariant.keeps.lawful c.self.inside.blocks _ refl refl refl c.in_default.ensures.clear)

@@ -53,5 +53,5 @@ returns c =
       refused =
           rw (← c.self.view_is) (chosen_refused heads s.numbers s.blocks s.ends.up.walk.marks _ s.standings.items s.queue.items s.queue.cap b c.self.invariant.keeps c.self.invariant.tallies (mark_in heads given) (exact c) c.ready_set.result
           (rw (← c.deref-6.ensures.value) c.ready_set.ensures.refused));
-      same = rw (← c.self.view_is) refl;
+      same = rw (← c.self.view_is, c.let_go.ensures) refl;
     }

@@ -35,27 +35,26 @@ clear : (c : After-gain_names) → NoneHolds (depend_order (patches_of c.self.in
 clear c = subst (λ hs. NoneHolds (depend_order (patches_of hs) c.self.inside.numbers c.args.gate.0 (numbers_of c.args.on.now))) c.deref.ensures.value c.in_default.ensures.clear
 
 pub invariant_of-self-in_default-gain_names : goal.invariant_of-self-in_default-gain_names
-invariant_of-self-in_default-gain_names c =
-    roomier_sound (walked (goal.at.invariant_of-self-in_default-gain_names c).After-depend_fault) (record { nodes = c.in_default-gain_names.ensures.same; marks = (refl, refl); crossed = (refl, refl); ranks = refl; floors = refl; waiting = refl; wide = omega arith })
+invariant_of-self-in_default-gain_names c = rw c.let_go.ensures (roomier_sound (walked (goal.at.invariant_of-self-in_default-gain_names c).After-depend_fault) (record { nodes = c.in_default-gain_names.ensures.same; marks = (refl, refl); crossed = (refl, refl); ranks = refl; floors = refl; waiting = refl; wide = omega arith }))
 
 pub returns-in_default-gain_names-clause-refused : goal.returns-in_default-gain_names-clause-refused
 returns-in_default-gain_names-clause-refused c = rw (← c.self.view_is, ← c.deref.ensures.value) (inr (c.in_default.ensures.clear, refl))
 
 pub returns-in_default-gain_names-clause-same : goal.returns-in_default-gain_names-clause-same
-returns-in_default-gain_names-clause-same c = rw (← c.self.view_is, same_patches c.gain_names.new.heads.items c.self.inside.heads.items c.in_default-gain_names.ensures.same) refl
+returns-in_default-gain_names-clause-same c = rw (← c.self.view_is, c.let_go.ensures, same_patches c.gain_names.new.heads.items c.self.inside.heads.items c.in_default-gain_names.ensures.same) refl
 
 pub invariant_of-self-2 : goal.invariant_of-self-2
 invariant_of-self-2 c =
     let at = goal.at.invariant_of-self-2 c in
     let G = c.in-Ok.ensures.gained in
-    gained_sound (walked at.After-depend_fault) c.args.gate.0 G.0 (numbers_of c.args.on.now) (gate at.After-gain_names) (clear at.After-gain_names) G.1 G.2
+    rw c.let_go.ensures (gained_sound (walked at.After-depend_fault) c.args.gate.0 G.0 (numbers_of c.args.on.now) (gate at.After-gain_names) (clear at.After-gain_names) G.1 G.2)
 
 pub returns-clause-ok : goal.returns-clause-ok
 returns-clause-ok c =
     let at = goal.at.returns-clause-ok c in
     let none = clear at.After-gain_names in
     let G = c.in-Ok.ensures.gained in
-    rw (← c.self.view_is)
+    rw (← c.self.view_is, c.let_go.ensures)
     (record {
       clear = none;
       row = record { gate = gate at.After-gain_names; clear = none.1.1.1.1.1.0; names = G.0; live = G.1; gained = named_patches c.self.inside.heads.items c.gain_names.new.heads.items c.args.gate.0 G.0 G.2 };

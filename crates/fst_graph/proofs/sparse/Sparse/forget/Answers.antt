@@ -46,7 +46,7 @@ invariant_of-self c =
       leveled = rw (left at) (leveled_as (c.forget.ensures.ranks ∙ ap (λ ps. filter (λ r. has_number ps r.number) c.self.inside.levels.ranks) (ap patches_of c.deref.ensures.value ∙ left at)) c.forget.ensures.floors (left_is_leveled (patches_of heads) c.self.invariant.keeps.lawful.one_place_each.rising c.self.invariant.keeps.lawful.on_disk_with_all c.self.inside.blocks c.self.inside.levels c.self.invariant.leveled));
       needing = rw (left at) (needing_left (patches_of heads) c.self.invariant.keeps.lawful.one_place_each.rising c.self.invariant.needing);
       none_below = c.self.invariant.none_below;
-      prepared = tt;
+      prepared = rw c.let_go.ensures tt;
     }
 
 pub returns : goal.returns
@@ -55,7 +55,7 @@ returns c =
     let at = (goal.at.returns c).After-keep_live in
     let count : c.len-before.result - c.len-2.result ≡ count_by (λ p. is_at p.place place.Disk) (patches_of heads) =
     omega (arith, counted (patches_of heads), left_long at, length-map heads patch_of, c.len-2.ensures, c.len-before.ensures, c.self.inside.heads.ok.0) in
-    rw (← c.self.view_is) (record { row = record { counted = count; kept = left at }; numbers = refl; blocks = refl; groups = refl; prepared = refl })
+    rw (← c.self.view_is, c.let_go.ensures) (record { row = record { counted = count; kept = left at }; numbers = refl; blocks = refl; groups = refl; prepared = refl })
 
 pub forget-requires : goal.forget-requires
 forget-requires c =

@@ -59,5 +59,5 @@ returns c =
       least =
           rw (← c.self.view_is) (least_held heads s.numbers s.blocks s.ends.up.walk.marks _ s.standings.items s.queue.items s.queue.cap b c.self.invariant.keeps c.self.invariant.tallies (mark_in heads given) (exact c) c.first_held.result
           (rw (← c.deref-5.ensures.value) c.first_held.ensures.least));
-      same = rw (← c.self.view_is) refl;
+      same = rw (← c.self.view_is, c.let_go.ensures) refl;
     }

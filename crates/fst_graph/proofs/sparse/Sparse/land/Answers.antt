@@ -108,8 +108,8 @@ invariant_of-self c =
       leveled = leveled_moved (alike_landed old (patches_of new) n b c.self.invariant.keeps.lawful (cascade at)) c.self.invariant.leveled;
       needing = needing_landed old (patches_of new) b (cascade at) c.self.invariant.needing;
       none_below = λ b d lt. absurd (omega (arith, lt));
-      prepared = tt;
+      prepared = rw c.let_go.ensures tt;
     }
 
 pub returns-clause-landed : goal.returns-clause-landed
-returns-clause-landed c = rw (← c.self.view_is) (record { row = cascade (goal.at.returns-clause-landed c).After-cascade-landed; numbers = refl; blocks = refl; groups = refl; prepared = refl })
+returns-clause-landed c = rw (← c.self.view_is, c.let_go.ensures) (record { row = cascade (goal.at.returns-clause-landed c).After-cascade-landed; numbers = refl; blocks = refl; groups = refl; prepared = refl })

@@ -80,7 +80,7 @@ invariant_of-self-2 c =
       leveled = rw new (leveled_moved (alike_launched (patches_of heads) n b chosen K.lawful W C) c.self.invariant.leveled);
       needing = rw new (needing_launched {cleared = c.clear.new.self} (patches_of heads) n b c.in-Some-block_of.block chosen K.lawful W C (here (goal.at.invariant_of-self-2 c).After-index_mut-arg-1) c.clear.ensures.long c.clear.ensures.others c.clear.ensures.cleared c.self.invariant.needing);
       none_below = rw c.launch.ensures (none_below_launched c.self.inside.standings.items c.self.inside.unmarked c.in-Some-block_of.block _ _ c.self.invariant.none_below);
-      prepared = tt;
+      prepared = rw c.let_go.ensures tt;
     }
 
 pub returns-clause-launched : goal.returns-clause-launched
@@ -88,4 +88,4 @@ returns-clause-launched c =
     let heads = c.self.inside.heads.items in
     let chosen = numbers_of c.args.chosen.now in
     let new = seen c.launch_all.new.heads.items _ c.launch_all.ensures ∙ (patches_launched (nodes_of heads) chosen ∙ ap (map (launched chosen)) (patches_in_nodes heads)) in
-    rw (← c.self.view_is) (record { row = new; numbers = refl; blocks = refl; groups = refl; prepared = refl })
+    rw (← c.self.view_is, c.let_go.ensures) (record { row = new; numbers = refl; blocks = refl; groups = refl; prepared = refl })

@@ -31,12 +31,12 @@ overflow_sub-self c =
 pub invariant_of-self-2 : goal.invariant_of-self-2
 invariant_of-self-2 c =
     let C = c.cascade-landed.ensures in
-    shut_sound c.self.invariant (gate (goal.at.invariant_of-self-2 c).After-seal_slot) c.seal_slot.new.heads c.seal_slot.ensures.nodes c.cascade-landed.new.heads C.placed c.cascade-landed.result C.settled C.landed C.spread C.standing C.empty (C.capacity ∙ c.seal_slot.ensures.capacity)
+    rw c.let_go.ensures (shut_sound c.self.invariant (gate (goal.at.invariant_of-self-2 c).After-seal_slot) c.seal_slot.new.heads c.seal_slot.ensures.nodes c.cascade-landed.new.heads C.placed c.cascade-landed.result C.settled C.landed C.spread C.standing C.empty (C.capacity ∙ c.seal_slot.ensures.capacity))
 
 pub returns-clause-ok : goal.returns-clause-ok
 returns-clause-ok c =
     let open_gate = gate (goal.at.returns-clause-ok c).After-seal_slot in
-    rw (← c.self.view_is)
+    rw (← c.self.view_is, c.let_go.ensures)
     (record {
       clear = subst (λ hs. NoneHolds (seal_order (patches_of hs) c.self.inside.numbers c.args.gate.0)) c.deref.ensures.value c.in-Ok.ensures.clear;
       row = record { gate = open_gate; cascade = shut_cascade c.self.invariant open_gate c.seal_slot.new.heads c.seal_slot.ensures.nodes c.cascade-landed.new.heads c.cascade-landed.ensures.placed };
