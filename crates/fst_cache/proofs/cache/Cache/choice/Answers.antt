@@ -77,3 +77,6 @@ returns-clause-refused g c =
     (sending_clear i.size i.resident i.tickets i.made i.graph i.contents.items i.seats.items c.args.block.0 c.index.result.now (seated g before) (idle g before) (ready g before c.if-is_none.false)
     c.chosen-chosen.new.self c.hard_held-held.new.self c.chosen-chosen.ensures.same c.hard_held-held.ensures.same c.in_default.ensures)
     c.chosen-chosen.ensures.refused)
+
+pub index-requires : goal.index-requires
+index-requires g c = omega (arith, c.if-block-len.false, c.len.ensures)

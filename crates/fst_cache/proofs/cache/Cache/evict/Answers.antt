@@ -1,4 +1,4 @@
-use Rattle.std.proofs.Common.{ap, is_some, ◌≡◌, ◌<◌, Some, None, refl, sym, ◌∙◌, slice_get, length, inl}
+use Rattle.std.proofs.Common.{ap, is_some, ◌≡◌, ◌<◌, Some, None, refl, sym, ◌∙◌, slice_get, length, inl, ◌≤◌, arith}
 use Rattle.std.proofs.lemmas.Bool.{false_from_ne_true}
 use Rattle.std.proofs.lemmas.Option.{slice_get_read}
 use Rattle.std.proofs.lemmas.List.{length-map}
@@ -49,3 +49,9 @@ returns-clause-evicted g c =
     let lt : c.args.block.0 < length i.seats.items = within_of (length i.seats.items) c.args.block.0 (rw (← c.self.view_is, length-map) at clear.0) in
     let seated : slice_get i.seats.items c.args.block.0 ≡ Some c.index_mut.result.now = slice_get_read i.seats.items _ _ _ refl lt c.index_mut.ensures.value in
     rw (← c.self.view_is) (view_unloaded i.size i.resident i.tickets i.made i.graph i.contents.items i.seats.items c.args.block.0 c.index_mut.result.now seated c.unload.new.self c.unload.ensures)
+
+pub index_mut-requires : goal.index_mut-requires
+index_mut-requires g c =
+    let there : length c.args.self.now.state.blocks ≤ c.args.block.0 → ⊥ = c.in_default.ensures.0 in
+    let seated : length c.self.inside.seats.items ≤ c.args.block.0 → ⊥ = rw (← c.self.view_is, length-map) at there in
+    omega (arith, c.self.inside.seats.ok.0, seated)

@@ -1,4 +1,4 @@
-use Rattle.std.proofs.Common.{◌≡◌, Some, refl, sym, ◌∙◌, slice_get}
+use Rattle.std.proofs.Common.{◌≡◌, Some, refl, sym, ◌∙◌, slice_get, ◌<◌, arith, length}
 use Rattle.std.proofs.lemmas.Option.{slice_get_read}
 use Rattle.std.proofs.lemmas.List.{length-map}
 use Rattle.fst_cache.specs.Kept.{state_of}
@@ -18,3 +18,8 @@ returns-else-is_loaded g c =
     let seated : slice_get i.seats.items c.args.block.0 ≡ Some c.index.result.now =
     slice_get_read i.seats.items _ _ _ i.seats.ok.0 (rw (← c.self.view_is, length-map, ← i.seats.ok.0) at c.requires) c.index.ensures in
     rw (← c.self.view_is, c.dirty.ensures, c.deref.ensures.value) (room_else (state_of i.size i.resident i.tickets i.made i.graph i.contents.items i.seats.items) i.graph i.seats.items c.self.invariant.kept refl _ _ seated (sym c.is_loaded.ensures ∙ c.if-is_loaded.false))
+
+pub index-requires : goal.index-requires
+index-requires g c =
+    let lt : c.args.block.0 < length c.self.inside.seats.items = rw (← c.self.view_is, length-map) at c.requires in
+    omega (arith, c.self.inside.seats.ok.0, lt)

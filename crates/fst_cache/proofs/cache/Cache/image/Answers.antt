@@ -1,4 +1,5 @@
-use Rattle.std.proofs.Common.{refl}
+use Rattle.std.proofs.lemmas.List.{length-map}
+use Rattle.std.proofs.Common.{refl, ◌≤◌, arith, length}
 use Rattle.fst_cache.specs.Kept.{state_of}
 use Rattle.fst_cache.proofs.SendBytes.{may_send, loaded_is, chosen_here, image_is}
 use Rattle.fst_cache.proofs.cache.Cache.image.Goals as goal
@@ -22,3 +23,9 @@ returns-clause-image g c =
     let loaded = loaded_is (state_of i.size i.resident i.tickets i.made i.graph i.contents.items i.seats.items) i.graph i.seats.items c.args.block.0 c.index_mut-seat.result.now c.args.chosen.now S in
     let image = image_is (state_of i.size i.resident i.tickets i.made i.graph i.contents.items i.seats.items) i.graph i.seats.items c.args.block.0 c.index_mut-seat.result.now c.args.chosen.now S in
     rw (← c.self.view_is, ← image) (rw loaded at c.image.ensures.image)
+
+pub index_mut-seat-requires : goal.index_mut-seat-requires
+index_mut-seat-requires g c =
+    let there : length c.args.self.now.state.blocks ≤ c.args.block.0 → ⊥ = c.requires.clear.0 in
+    let seated : length c.self.inside.seats.items ≤ c.args.block.0 → ⊥ = rw (← c.self.view_is, length-map) at there in
+    omega (arith, c.self.inside.seats.ok.0, seated)

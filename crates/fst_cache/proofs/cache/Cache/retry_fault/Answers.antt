@@ -58,3 +58,6 @@ pub returns-clause-back : goal.returns-clause-back
 returns-clause-back g c =
     let at_b = seated g (goal.at.returns-clause-back g c).After-is_stalled in
     rw (← c.self.view_is) (λ none. rw (listed c.self.inside.seats.items _ _ at_b (λ (s : SeatView). s.back) None) (c.is_stalled.ensures.back c.if-not-is_stalled.false))
+
+pub index-seat-requires : goal.index-seat-requires
+index-seat-requires g c = omega (arith, c.if-block-len.false, c.len.ensures)

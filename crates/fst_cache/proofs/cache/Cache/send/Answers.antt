@@ -1,5 +1,5 @@
-use Rattle.std.proofs.Common.{◌≡◌, ◌∙◌, arith, is_some, refl, sym, ap, length}
-use Rattle.std.proofs.lemmas.List.{map-set}
+use Rattle.std.proofs.Common.{◌≡◌, ◌∙◌, arith, is_some, refl, sym, ap, length, ◌≤◌}
+use Rattle.std.proofs.lemmas.List.{map-set, length-map}
 use Rattle.fst_types.specs.Bytes.{image_of}
 use Rattle.fst_types.specs.Writable.{IsWritableSet}
 use Rattle.fst_types.specs.Events.{Issue}
@@ -135,3 +135,9 @@ returns-clause-slot_faults g c =
     let i = c.self.inside in
     let S = may_send i.size i.resident i.tickets i.made i.graph i.contents.items i.seats.items c.args.self.now c.self.view_is c.self.invariant.kept c.args.block.0 c.index_mut-seat.result.now c.args.chosen.items c.requires.clear c.requires.chosen c.index_mut-seat.ensures.value in
     rw (← c.self.view_is) (c.launch-job.ensures.faults ∙ sym (listed i.seats.items c.args.block.0 c.index_mut-seat.result.now S.at_b (λ (t : SeatView). t.faults) 0))
+
+pub index_mut-seat-requires : goal.index_mut-seat-requires
+index_mut-seat-requires g c =
+    let there : length c.args.self.now.state.blocks ≤ c.args.block.0 → ⊥ = c.requires.clear.0 in
+    let seated : length c.self.inside.seats.items ≤ c.args.block.0 → ⊥ = rw (← c.self.view_is, length-map) at there in
+    omega (arith, c.self.inside.seats.ok.0, seated)

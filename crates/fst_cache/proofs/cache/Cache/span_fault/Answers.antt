@@ -30,3 +30,12 @@ returns-then-not-has_room g c =
     let no_room = room_of c.args.self.now.state c.args.block.0 (λ free. true≢false (sym (c.has_room.ensures.1 free) ∙ c.if-not-has_room.true)) in
     let fits : (length c.args.bytes.now ≡ 0) ⊎ (i.size < c.args.at + length c.args.bytes.now) → ⊥ = λ h. elim h [ inl e ↦ grind (arith, e, c.is_empty.ensures, c.if-is_empty.false) | inr l ↦ omega (arith, l) ] in
     rw (← c.self.view_is, length-map) (inr ((λ h. omega arith), inr ((λ h. omega arith), inr (kept, inr (fits, inl (rw (← c.self.view_is) at no_room, refl))))))
+
+pub index-requires : goal.index-requires
+index-requires g c = omega (arith, c.if-block-len.false, c.len.ensures)
+
+pub has_room-requires : goal.has_room-requires
+has_room-requires g c = rw (← c.self.view_is, length-map) (omega (arith, c.self.inside.seats.ok.0, c.if-block-len.false, c.len.ensures))
+
+pub overflow_sub-size : goal.overflow_sub-size
+overflow_sub-size g c = c.if-bytes-size.false
