@@ -10,3 +10,5 @@ pub mod LeftLemmas
 pub mod ZeroLemmas
 pub mod ScriptRuns
 pub mod CrashTold
+pub mod ChangeLemmas
+pub mod GivenLemmas

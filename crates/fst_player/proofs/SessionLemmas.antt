@@ -165,6 +165,10 @@ pub Feeds-err : {T E : Type 0} (Q : E → Type 0) (s t : Session) (p : List ℕ)
 Feeds-err Q s t p a b (Ok u) e h = absurd e
 Feeds-err Q s t p a b (Err x) e h = h
 
+-- the player that a session started with was one just opened
+pub from_opened : (shape : Shape) (first : PlayerState) (given sent : List ℕ) (s : Session) → first ≡ opened shape → IsAt first given sent s → IsAt (opened shape) given sent s
+from_opened shape first given sent s fresh at = subst (λ (p : PlayerState). IsAt p given sent s) fresh at
+
 -- the writer stopped: what was taken begins the replies to all lines
 pub stopped_plays : (T : Type 0) (shape : Shape) (given sent : List ℕ) (a b c : Option (List ℕ)) → Appends a b sent → StopsIn (opened shape) given sent b c → (taken : List ℕ) × Appends a c taken × Plays {T = T} shape given taken (Err Write)
 stopped_plays T shape given sent a b c p stop =

@@ -1,14 +1,22 @@
 -- Slots of zero bytes are those that a cache is opened over.
-use Rattle.std.proofs.Common.{◌≡◌, ◌⊎◌, ℕ, zero, suc, ◌+◌, List, ◌∷◌, length, map, get_or, refl, ap, ◌∙◌, inl, inr, arith, zero-add}
-use Rattle.std.specs.Prelude.{replicate}
+use Rattle.std.proofs.Common.{◌≡◌, ◌≢◌, ◌⊎◌, ℕ, zero, suc, ◌+◌, List, [], ◌∷◌, length, map, get_or, refl, sym, ap, ◌∙◌, inl, inr, arith, zero-add}
+use Rattle.std.specs.Prelude.{All, AllPairs, None, replicate}
 use Rattle.std.specs.List.{range_with_len}
-use Rattle.std.proofs.lemmas.List.{length-replicate, get_or-replicate}
+use Rattle.std.proofs.lemmas.List.{length-map, length-replicate, get_or-replicate}
+use Rattle.std.proofs.lemmas.List.Elements.{All-nil}
 use Rattle.std.proofs.lemmas.List.FromFn.{length-range_with_len, get_or-range_with_len}
+use Rattle.fst_types.specs.declared.shape.Shape.{Shape}
 use Rattle.fst_types.specs.declared.fault.Fault.{Fault}
 use Rattle.fst_types.specs.declared.fault.Fault.TheVariants as fault
+use Rattle.fst_types.specs.State.{State, BlockState}
+use Rattle.fst_types.specs.Flights.{IsOut}
+use Rattle.fst_types.specs.Opening.{opening}
 use Rattle.fst_types.specs.Order.{open_order}
 use Rattle.fst_types.specs.Refusals.{IsFirst, NoneHolds}
+use Rattle.fst_device.specs.JobView.{JobView}
 use Rattle.fst_device.specs.MemoryView.{MemoryView}
+use Rattle.fst_player.specs.declared.accepted.Accepted.{Accepted}
+use Rattle.fst_player.specs.Kept.{IsKept, IsInside}
 use Rattle.fst_player.specs.Zeros.{zero_slot}
 
 pub indices_are : (size a n : ℕ) → map (λ (s : MemoryView). s.index) (map (zero_slot size) (range_with_len a n)) ≡ range_with_len a n
@@ -41,3 +49,20 @@ open_fault n size indices sizes f at of (inl first) =
         | inr none ↦ absurd none.1
       ]
     ]
+
+-- what is kept at the start: no job, and no change
+none_kept : (shape : Shape) (bytes : List (List ℕ)) → length bytes ≡ shape.blocks → IsKept shape 0 (opening shape.size shape.resident 0 0 bytes) [] []
+none_kept shape bytes long =
+    let s = opening shape.size shape.resident 0 0 bytes in
+    record {
+      counted = refl;
+      blocks = sym (length-map bytes (λ (b : List ℕ). let x : BlockState = record { committed = b; flight = None } in x) ∙ long);
+      size = refl;
+      out = All-nil (λ j. IsOut s j.ticket j.block j.image);
+      apart = λ i j d below inside. absurd (omega (arith, inside));
+      inside = All-nil (IsInside s.size);
+    }
+
+pub opened_kept : (shape : Shape) (share : ℕ) (s : State) (bytes : List (List ℕ)) (jobs : List (JobView MemoryView)) (made : List Accepted)
+    → share ≡ 0 → s ≡ opening shape.size shape.resident 0 0 bytes → length bytes ≡ shape.blocks → jobs ≡ [] → made ≡ [] → IsKept shape share s jobs made
+opened_kept shape share s bytes jobs made none same long no_jobs no_changes = rw (none, same, no_jobs, no_changes) (none_kept shape bytes long)

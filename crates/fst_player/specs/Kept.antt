@@ -1,6 +1,9 @@
 -- What the program keeps of a player, in the script's words.
 use Rattle.std.specs.Prelude.{◌≡◌, ◌≢◌, ◌<◌, ◌≤◌, ◌+◌, ℕ, List, Some, All, AllPairs, map, length, slice_index_or}
+use Rattle.std.specs.Global.{Vec}
 use Rattle.std.specs.List.{remove}
+use Rattle.fst_types.specs.declared.number.PatchNo.{PatchNo}
+use Rattle.fst_types.specs.declared.number.BlockNo.{BlockNo}
 use Rattle.fst_types.specs.declared.shape.Shape.{Shape}
 use Rattle.fst_types.specs.State.{State}
 use Rattle.fst_types.specs.Flights.{IsOut}
@@ -21,6 +24,10 @@ jobs_kept jobs = map job_kept jobs
 
 abbrev pub change_made : Accepted → ChangeMade
 change_made a = record { number = a.number.0; block = a.block.0; write = record { at = a.at; bytes = a.bytes.items } }
+
+-- a change of that number, as it is kept
+abbrev pub kept_change : PatchNo → BlockNo → ℕ → Vec ℕ → Accepted
+kept_change number block at bytes = record { number = number; block = block; at = at; bytes = bytes }
 
 abbrev pub changes_made : List Accepted → List ChangeMade
 changes_made made = map change_made made

@@ -4,10 +4,11 @@ ghost use Rattle.std.specs.Prelude.{◌≡◌};
 ghost use Rattle.fst_lines.specs.Commands as script;
 ghost use Rattle.fst_player.specs.Answering.{Obeyed};
 
-use crate::accepted::Accepted;
+use crate::accepted::keep;
 use crate::player::Player;
+use crate::player::patch::send_made;
 use fst_lines::output::Stopped;
-use fst_lines::reply::{send_numbered, send_patch, send_refusal};
+use fst_lines::reply::{send_numbered, send_refusal};
 use fst_types::{BlockNo, Fault, GroupNo};
 use std::io::Write;
 
@@ -60,21 +61,11 @@ impl Player {
         if self.made.try_reserve(1).is_err() {
             return send_refusal(writer, calls, Fault::Memory);
         }
-        match self
+        let answer = self
             .cache
-            .group_patch(&mut self.share, group, block, at, &bytes)
-        {
-            Ok((number, grade)) => {
-                self.made.push_reserved(Accepted {
-                    number,
-                    block,
-                    at,
-                    bytes,
-                });
-                send_patch(writer, calls, number, grade)
-            }
-            Err(fault) => send_refusal(writer, calls, fault),
-        }
+            .group_patch(&mut self.share, group, block, at, &bytes);
+        keep(&mut self.made, &answer, block, at, bytes);
+        send_made(writer, calls, answer)
     }
 
     // Closes a group.

@@ -1,9 +1,9 @@
 //! Writes: what may be written of a block now, and jobs, which are kept until `done` names them.
 
-ghost use Rattle.std.specs.Prelude.{◌≡◌, ◌++◌, ◌∷◌, []};
+ghost use Rattle.std.specs.Prelude.{◌≡◌, ◌<◌, ◌++◌, ◌∷◌, [], IfOk, MatchResult, vec_len, vec_capacity};
 ghost use Rattle.fst_types.specs.Flights.{IsOut};
 ghost use Rattle.fst_lines.specs.Commands as script;
-ghost use Rattle.fst_lines.specs.Replies.{flight_text};
+ghost use Rattle.fst_lines.specs.Replies.{flight_text, refusal};
 ghost use Rattle.fst_player.specs.Script.{in_flight};
 ghost use Rattle.fst_lines.specs.Sending.{Sends};
 ghost use Rattle.fst_player.specs.Answering.{Obeyed};
@@ -38,6 +38,32 @@ fn send_job<W: Write>(
         flight.patches,
         job.image(),
     )
+}
+
+// Keeps a job, where one was given just now and there is a place for it, and tells of it or why none was.
+fn keep_job<W: Write>(
+    writer: &mut W,
+    calls: &mut u64,
+    cache: &Cache<MemorySlot>,
+    jobs: &mut Vec<Job<MemorySlot>>,
+    given: Result<Job<MemorySlot>, Fault>,
+) -> Result<(), Stopped>
+    requires room { vec_len jobs.old < vec_capacity jobs.old }
+    requires out { IfOk given (λ job. IsOut cache.now.state job.ticket job.block job.image) }
+    ensures kept { MatchResult given (λ job. jobs.new.items ≡ jobs.old.items ++ job ∷ []) (λ fault. jobs.new.items ≡ jobs.old.items) }
+    ensures told { MatchResult given
+        (λ job. Sends (W.contents writer.old) (W.contents writer.new) result
+            (flight_text job.ticket job.block (in_flight cache.now.state job.block) job.image ++ 10 ∷ []))
+        (λ fault. Sends (W.contents writer.old) (W.contents writer.new) result (refusal fault ++ 10 ∷ [])) }
+{
+    match given {
+        Ok(job) => {
+            let told = send_job(writer, calls, cache, &job);
+            jobs.push_reserved(job);
+            told
+        }
+        Err(fault) => send_refusal(writer, calls, fault),
+    }
 }
 
 impl Player {
@@ -79,14 +105,8 @@ impl Player {
         if self.jobs.try_reserve(1).is_err() {
             return send_refusal(writer, calls, Fault::Memory);
         }
-        match self.cache.issue(block) {
-            Ok(job) => {
-                let told = send_job(writer, calls, &self.cache, &job);
-                self.jobs.push_reserved(job);
-                told
-            }
-            Err(fault) => send_refusal(writer, calls, fault),
-        }
+        let given = self.cache.issue(block);
+        keep_job(writer, calls, &self.cache, &mut self.jobs, given)
     }
 
     // Sends a stalled write out again, and keeps its job.
@@ -102,13 +122,7 @@ impl Player {
         if self.jobs.try_reserve(1).is_err() {
             return send_refusal(writer, calls, Fault::Memory);
         }
-        match self.cache.retry(block) {
-            Ok(again) => {
-                let told = send_job(writer, calls, &self.cache, &again);
-                self.jobs.push_reserved(again);
-                told
-            }
-            Err(fault) => send_refusal(writer, calls, fault),
-        }
+        let given = self.cache.retry(block);
+        keep_job(writer, calls, &self.cache, &mut self.jobs, given)
     }
 }

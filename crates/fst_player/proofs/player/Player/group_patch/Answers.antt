@@ -1,36 +1,30 @@
 use Rattle.std.proofs.Common.{refl}
+use Rattle.fst_types.specs.declared.number.PatchNo.{PatchNo}
 use Rattle.fst_types.specs.Residence.{faults_rose}
-use Rattle.fst_player.specs.declared.accepted.Accepted.{Accepted}
+use Rattle.fst_player.specs.Kept.{kept_change}
 use Rattle.fst_player.proofs.AnswerLemmas.{Obeyed-memory}
+use Rattle.fst_player.proofs.ChangeLemmas.{asked_kept, Obeyed-asked}
 use Rattle.fst_player.proofs.GroupLemmas.{group_patch_kept}
-use Rattle.fst_player.proofs.KeptLemmas.{refused_same}
-use Rattle.fst_player.proofs.TellLemmas.{Obeyed-called, one_change_more}
 use Rattle.fst_player.proofs.player.Player.group_patch.Goals as goal
 
 pub returns-then-is_err : goal.returns-then-is_err
 returns-then-is_err g c = rw (← c.self.view_is, c.try_reserve.ensures.items) (Obeyed-memory _ _ _ _ _ c.send_refusal.ensures)
 
-pub invariant_of-self-in-Ok : goal.invariant_of-self-in-Ok
-invariant_of-self-in-Ok g c =
-    let a : Accepted = record { number = c.in-Ok.number; block = c.args.block; at = c.args.at; bytes = c.args.bytes } in
-    rw (c.push_reserved.ensures.items, c.try_reserve.ensures.items, c.in-Ok.ensures.share)
-    (group_patch_kept _ _ _ _ _ _ a _ _ _ _ c.self.invariant (rw c.deref.ensures.value at c.in-Ok.ensures.step))
+pub invariant_of-self : goal.invariant_of-self
+invariant_of-self g c = rw c.try_reserve.ensures.items c.self.invariant
 
-pub invariant_of-self-in-Err-1 : goal.invariant_of-self-in-Err-1
-invariant_of-self-in-Err-1 g c =
-    let same = refused_same _ _ _ _ c.in-Err.ensures.step in
-    rw (c.try_reserve.ensures.items, c.in-Err.ensures.share, same) c.self.invariant
+pub invariant_of-self-2 : goal.invariant_of-self-2
+invariant_of-self-2 g c =
+    let change = λ (number : PatchNo). kept_change number c.args.block c.args.at c.args.bytes in
+    let step = rw c.deref.ensures.value at c.group_patch-answer.ensures.step in
+    asked_kept c.group_patch-answer.result _ _ _ _ _ _ _ _ _ change step c.group_patch-answer.ensures.share (rw c.try_reserve.ensures.items at c.keep.ensures) c.self.invariant
+    (λ number grade one. group_patch_kept _ _ _ _ _ _ (change number) _ _ _ grade c.self.invariant one)
 
-pub returns-in-Ok : goal.returns-in-Ok
-returns-in-Ok g c =
+pub returns : goal.returns
+returns g c =
     let i = c.self.inside in
-    let a : Accepted = record { number = c.in-Ok.number; block = c.args.block; at = c.args.at; bytes = c.args.bytes } in
-    rw (← c.self.view_is, c.push_reserved.ensures.items, c.try_reserve.ensures.items)
-    (Obeyed-called _ _ _ (faults_rose i.cache.faults c.group_patch.new.self.faults c.args.block.0) _ _ _ _ _ _ refl (rw (c.deref.ensures.value, c.self.invariant.counted) at c.in-Ok.ensures.step)
-    (one_change_more _ i.jobs.items i.made.items a) c.send_patch.ensures)
-
-pub returns-in-Err : goal.returns-in-Err
-returns-in-Err g c =
-    let i = c.self.inside in
-    rw (← c.self.view_is, c.try_reserve.ensures.items)
-    (Obeyed-called _ _ _ (faults_rose i.cache.faults c.group_patch.new.self.faults c.args.block.0) _ _ _ _ _ _ refl (rw (c.deref.ensures.value, c.self.invariant.counted) at c.in-Err.ensures.step) refl c.send_refusal-in-Err.ensures)
+    let change = λ (number : PatchNo). kept_change number c.args.block c.args.at c.args.bytes in
+    let step = rw (c.deref.ensures.value, c.self.invariant.counted) at c.group_patch-answer.ensures.step in
+    rw (← c.self.view_is)
+    (Obeyed-asked c.group_patch-answer.result i.cache.state _ _ (faults_rose i.cache.faults c.group_patch-answer.new.self.faults c.args.block.0) _ i.jobs.items i.made.items _ change _ _ _ refl step (rw c.try_reserve.ensures.items at c.keep.ensures) c.send_made.ensures
+    (λ number grade. refl) (λ fault. refl))
