@@ -83,6 +83,13 @@ ready_found {heads} {numbers = n} {blocks = blocks} {b = b} {marks = marks} {nam
       graded = graded_change old n blocks marks K p.block p.span.at p.span.len (numbers_of p.names.items) p.grade row sparse rule;
     }
 
+-- and as contracts see it
+pub found_as : (p : Stored) (numbers : ℕ) {b : ℕ} {span : Span} {names : List PatchNo} → p.block ≡ b → p.span ≡ span → p.names.items ≡ names → p.gates ≡ None → prepared_of numbers p ≡ prepared_for b span.at span.len (numbers_of names) (numbers + 1) p.grade
+found_as p numbers on at named alone = rw (← on, ← at, ← named, alone) refl
+
+pub member_found_as : (p : Stored) (numbers : ℕ) (gates : Gates) {b : ℕ} {span : Span} → p.block ≡ b → p.span ≡ span → numbers_of p.names.items ≡ gates.head ∷ [] → p.gates ≡ Some gates → prepared_of numbers p ≡ member_for gates.head b span.at span.len (numbers + 1) p.grade
+member_found_as p numbers gates on at named grouped = rw (← on, ← at, named, grouped) refl
+
 -- put down, it is the change that was foreseen
 pub ready_made : {heads : List Patch} {numbers blocks : ℕ} {p : Stored} → IsReady heads numbers blocks p → SparseChangeIsMade heads numbers p.block p.span.at p.span.len (numbers_of p.names.items) (numbers + 1) p.grade (heads ++ change_of numbers p ∷ [])
 ready_made {p = p} R = record { next = refl; dependencies = p.dependencies.items; sparse = R.depends; added = refl; graded = R.graded }

@@ -106,7 +106,10 @@ impl Sparse {
         ensures blocks { self.new.blocks ≡ self.old.blocks }
     {
         let_go(&mut self.prepared);
-        let fresh = new_empty(self.alloc, &self.heads, self.numbers, after)?;
+        let fresh = match new_empty(self.alloc, &self.heads, self.numbers, after) {
+            Ok(fresh) => fresh,
+            Err(fault) => return Err(fault),
+        };
         self.add_fresh(fresh)
     }
 }

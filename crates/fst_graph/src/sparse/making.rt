@@ -103,7 +103,9 @@ impl Sparse {
             return Err(Fault::Memory);
         };
         let made = (PatchNo(self.numbers + 1), prepared.grade);
-        self.make_room(prepared)?;
+        let Ok(()) = self.make_room(prepared) else {
+            return Err(Fault::Memory);
+        };
         Ok(made)
     }
 

@@ -1,8 +1,9 @@
-use Rattle.std.proofs.Common.{◌≡◌, ◌∙◌, Contains, arith, length, refl, ap, subst}
+use Rattle.std.proofs.Common.{◌≡◌, ◌∙◌, Contains, arith, false, length, sym, refl, ap, subst}
+use Rattle.std.proofs.lemmas.List.{length_push}
 use Rattle.fst_heads.specs.{Heads.{kind_of, patch_of, patches_of}, Nodes.{nodes_of, pending_in}, Pendings.{joined, joined_sums, of_kind, sums_of}}
 use Rattle.fst_graph.specs.Fresh.{patch_from}
 use Rattle.fst_types.proofs.Finite.{In-from_Contains, Contains-from_In, In-map}
-use Rattle.fst_heads.proofs.{Framed.pushed_above, Sums.joined_exact}
+use Rattle.fst_heads.proofs.{Framed.{pushed_above, pushed_below}, Sums.joined_exact}
 use Rattle.fst_walks.proofs.Seen.{linked_patches}
 use Rattle.fst_graph.proofs.Made.{put_nodes, summed}
 use Rattle.fst_graph.proofs.fresh.put_down.Goals as goal
@@ -33,3 +34,17 @@ returns-clause-pending c = pending c
 pub returns-clause-above : goal.returns-clause-above
 returns-clause-above c none =
     rw c.push_reserved.ensures.items (pushed_above c.link.new.heads.items _ c.args.fresh.number (λ h there same. none (patch_of h) (subst (λ ps. Contains ps (patch_of h)) (linked_patches c.link.new.heads.items c.args.heads.now.items _ _ c.link.ensures.nodes) (Contains-from_In (patches_of c.link.new.heads.items) (patch_of h) (In-map patch_of c.link.new.heads.items h (patch_of h) (In-from_Contains c.link.new.heads.items h there) refl))) same) (omega (arith, ap length c.new.ensures.items, c.new.ensures.capacity)))
+
+pub returns-clause-below : goal.returns-clause-below
+returns-clause-below c n other room = rw c.push_reserved.ensures.items (pushed_below c.link.new.heads.items _ n (λ e. other (sym e)) (c.link.ensures.below n room))
+
+pub returns-clause-places : goal.returns-clause-places
+returns-clause-places c more P =
+    let marks = c.args.ends.now.up.walk.marks in
+    let below = c.args.ends.now.down.walk.marks in
+    record {
+      heads_free = omega (arith, P.heads_free, c.push_reserved.ensures.len, c.push_reserved.ensures.capacity, c.link.ensures.len, c.link.ensures.capacity);
+      marks_free = omega (arith, P.marks_free, ap length c.grow.ensures.marks.0, length_push marks false, c.grow.ensures.room.0);
+      below_free = omega (arith, P.below_free, ap length c.grow.ensures.marks.1, length_push below false, c.grow.ensures.room.1);
+      ranks_free = omega (arith, P.ranks_free, ap length c.grow-2.ensures.ranks, length_push c.args.levels.now.ranks c.args.rank, c.grow-2.ensures.room);
+    }

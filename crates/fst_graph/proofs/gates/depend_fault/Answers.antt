@@ -1,7 +1,27 @@
-use Rattle.std.proofs.{Common.{◌<◌, ◌∙◌, length, refl, sym, inl, inr, arith}, lemmas.Bool.false≢true, lemmas.List.length-map}
-use Rattle.fst_types.specs.{Limits.max_names, Order.NamesUnknown}
+use Rattle.std.proofs.{Common.{◌∷◌, [], List, refl, sym, inl, inr, arith, length, ◌<◌, ◌∙◌}, lemmas.Bool.false≢true, lemmas.List.length-map}
+use Rattle.fst_types.specs.{Limits.max_names, Order.{NamesUnknown, depend_order, seal_order}, Patches.Patch, Refusals.IsFirst, declared.fault.Fault.Fault}
+use Rattle.std.proofs.Common.{ℕ}
 use Rattle.fst_heads.specs.Names.{numbers_of}
 use Rattle.fst_graph.proofs.gates.depend_fault.Goals as goal
+
+-- what refuses the seal comes first here too
+seal_first : (heads : List Patch) (numbers gate : ℕ) (on : List ℕ) (f : Fault) → IsFirst (seal_order heads numbers gate) f → IsFirst (depend_order heads numbers gate on) f
+seal_first heads numbers gate on f (inl h) = inl h
+seal_first heads numbers gate on f (inr r) = inr (r.0, elim r.1 [ inl h ↦ inl h | inr s ↦ inr (s.0, elim s.1 [ inl h ↦ inl h | inr t ↦ absurd t.1 ]) ])
+
+pub returns-in-Err-clause-first : goal.returns-in-Err-clause-first
+returns-in-Err-clause-first c = seal_first _ c.args.numbers c.args.gate (numbers_of c.args.on.now) c.in-Err.fault c.in-Err.ensures.refused
+
+pub returns-then-on-gt-MAX_NAMES-clause-first : goal.returns-then-on-gt-MAX_NAMES-clause-first
+returns-then-on-gt-MAX_NAMES-clause-first c =
+    let gate = c.in-Ok.ensures.clear in
+    inr (gate.0, inr (gate.1.0, inr (gate.1.1.0, inl (omega (arith, length-map c.args.on.now (λ n. n.0), c.if-on-gt-MAX_NAMES.true), refl))))
+
+pub returns-then-names_unknown-clause-first : goal.returns-then-names_unknown-clause-first
+returns-then-names_unknown-clause-first c =
+    let gate = c.in-Ok.ensures.clear in
+    let few : max_names < length (numbers_of c.args.on.now) → ⊥ = λ lt. omega (arith, lt, length-map c.args.on.now (λ n. n.0), c.if-on-gt-MAX_NAMES.false) in
+    inr (gate.0, inr (gate.1.0, inr (gate.1.1.0, inr (few, inl (c.names_unknown.ensures.0 c.if-names_unknown.true, refl)))))
 
 pub returns-then-closes_cycle-clause-first : goal.returns-then-closes_cycle-clause-first
 returns-then-closes_cycle-clause-first c =

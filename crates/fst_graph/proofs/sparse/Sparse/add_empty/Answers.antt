@@ -10,8 +10,8 @@ new_empty-requires c = rw c.deref.ensures.value (rising_sound c.self.invariant)
 pub add_fresh-requires : goal.add_fresh-requires
 add_fresh-requires c =
     let s = c.self.inside in
-    let E = c.in_ok-fresh.ensures in
-    let row = c.in_ok-fresh.fresh.dependencies.items in
+    let E = c.in-Ok.ensures in
+    let row = c.in-Ok.fresh.dependencies.items in
     let names = numbers_of c.args.after.now in
     empty_may (patches_of s.heads.items) s.numbers s.blocks s.ends.up.walk.marks c.self.invariant.keeps names row
     (subst (λ hs. Lists (λ n. IsLiveNumber (patches_of hs) n × Contains names n) row) c.deref.ensures.value E.depends) (subst (λ hs. NoneHolds (make_order (patches_of hs) s.numbers names)) c.deref.ensures.value E.clear) _ E.empty
@@ -19,8 +19,8 @@ add_fresh-requires c =
 pub returns-clause-ok : goal.returns-clause-ok
 returns-clause-ok c =
     let s = c.self.inside in
-    let E = c.in_ok-fresh.ensures in
-    let row = c.in_ok-fresh.fresh.dependencies.items in
+    let E = c.in-Ok.ensures in
+    let row = c.in-Ok.fresh.dependencies.items in
     let names = numbers_of c.args.after.now in
     rw (← c.self.view_is) (
     fine c.add_fresh.result (λ no made. empty_adds (patches_of s.heads.items) s.numbers s.blocks s.ends.up.walk.marks c.self.invariant.keeps names row

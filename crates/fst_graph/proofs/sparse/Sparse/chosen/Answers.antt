@@ -2,7 +2,7 @@ use Rattle.std.proofs.Common.{refl, ◌≡◌, ◌∙◌, length, count_by, IfSo
 use Rattle.fst_heads.specs.{Ascending.IsBehind, Heads.patches_of, Marks.mark_in, Nodes.nodes_of, Standings.is_ready_on}
 use Rattle.fst_heads.proofs.Counts.{free_few}
 use Rattle.fst_walks.proofs.Resting.{empty_set, none_yet, chosen_ready, chosen_refused}
-use Rattle.fst_graph.proofs.Sound.{many_lists, its_list, its_standing, may_mark, behind_marked, rising_sound}
+use Rattle.fst_graph.proofs.Sound.{as_many_places, behind_marked, its_list, its_standing, many_lists, may_mark, over_down, rising_sound, walked_sound, with_prepared}
 use Rattle.fst_graph.proofs.sparse.Sparse.chosen.Goals as goal
 
 pub mark_flight-flying-requires : goal.mark_flight-flying-requires
@@ -55,3 +55,11 @@ returns c =
           (rw (← c.deref-6.ensures.value) c.ready_set.ensures.refused));
       same = rw (← c.self.view_is, c.let_go.ensures) refl;
     }
+
+pub invariant_of-self : goal.invariant_of-self
+invariant_of-self c = rw c.let_go.ensures (with_prepared c.self.invariant tt)
+
+pub invariant_of-self-2 : goal.invariant_of-self-2
+invariant_of-self-2 c =
+    let S = c.self.invariant in
+    rw c.let_go.ensures (walked_sound S (record { long = c.mark_flight-flying.ensures.long ∙ ap length c.deref-2.ensures.value; crossed = as_many_places S }) (over_down S))

@@ -1,9 +1,9 @@
-use Rattle.std.proofs.Common.{◌∙◌, length, refl, ap, subst, None, inl, inr, arith}
+use Rattle.std.proofs.Common.{◌∙◌, length, refl, sym, ap, subst, None, inl, inr, arith}
 use Rattle.fst_types.specs.{Gates.IsOpenNumber, Order.depend_order, Refusals.NoneHolds}
 use Rattle.fst_heads.specs.{Heads.patches_of, Names.numbers_of, Nodes.nodes_of}
 use Rattle.fst_walks.proofs.Seen.{same_patches}
 use Rattle.fst_graph.specs.Sound.{AreSound}
-use Rattle.fst_graph.proofs.{Borne.few, Made.{gained_sound, named_patches}, Sound.{rising_sound, roomier_sound, walked_sound, as_many_places, gates_told, over_down}}
+use Rattle.fst_graph.proofs.{Borne.few, Made.{gained_sound, named_patches}, Sound.{rising_sound, roomier_sound, walked_sound, as_many_marks, as_many_places, gates_told, over_down}}
 use Rattle.fst_graph.proofs.sparse.Sparse.depend.Goals.{After-depend_fault, After-gain_names}
 use Rattle.fst_graph.proofs.sparse.Sparse.depend.Goals as goal
 
@@ -63,3 +63,9 @@ returns-clause-ok c =
       groups = refl;
       prepared = refl;
     })
+
+pub depend_fault-requires-clause-long : goal.depend_fault-requires-clause-long
+depend_fault-requires-clause-long c = as_many_marks c.self.invariant ∙ sym (ap length c.deref.ensures.value)
+
+pub invariant_of-self : goal.invariant_of-self
+invariant_of-self c = rw c.let_go.ensures (walked (goal.at.invariant_of-self c).After-depend_fault)

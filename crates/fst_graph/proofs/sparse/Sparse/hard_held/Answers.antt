@@ -2,7 +2,7 @@ use Rattle.std.proofs.Common.{refl, ◌≡◌, ◌∙◌, ◌&&◌, ℕ, Bool, N
 use Rattle.fst_heads.specs.{Ascending.IsBehind, Heads.patches_of, Marks.{mark_in, mark_of}, Nodes.nodes_of, Standings.is_held_on}
 use Rattle.fst_heads.proofs.Counts.{none_bound}
 use Rattle.fst_walks.proofs.Resting.{none_yet, none_there, none_held, least_held}
-use Rattle.fst_graph.proofs.Sound.{many_lists, its_list, its_standing, may_mark, behind_marked, rising_sound}
+use Rattle.fst_graph.proofs.Sound.{as_many_places, behind_marked, its_list, its_standing, many_lists, may_mark, over_down, rising_sound, walked_sound, with_prepared}
 use Rattle.fst_graph.proofs.sparse.Sparse.hard_held.Goals as goal
 
 pub mark_flight-flying-requires : goal.mark_flight-flying-requires
@@ -61,3 +61,16 @@ returns c =
           (rw (← c.deref-5.ensures.value) c.first_held.ensures.least));
       same = rw (← c.self.view_is, c.let_go.ensures) refl;
     }
+
+pub invariant_of-self : goal.invariant_of-self
+invariant_of-self c = rw c.let_go.ensures (with_prepared c.self.invariant tt)
+
+pub invariant_of-self-2 : goal.invariant_of-self-2
+invariant_of-self-2 c =
+    let S = c.self.invariant in
+    rw c.let_go.ensures (walked_sound S (record { long = c.mark_flight-flying.ensures.long ∙ ap length c.deref-2.ensures.value; crossed = as_many_places S }) (over_down S))
+
+pub invariant_of-self-then-held_count-eq0 : goal.invariant_of-self-then-held_count-eq0
+invariant_of-self-then-held_count-eq0 c =
+    let S = c.self.invariant in
+    rw c.let_go.ensures (walked_sound S (record { long = c.mark_flight-flying.ensures.long ∙ ap length c.deref-2.ensures.value; crossed = as_many_places S }) (over_down S))

@@ -1,8 +1,10 @@
-use Rattle.std.proofs.Common.{[], ◌<◌, ◌∙◌, rules, arith, length, None, inl, ap, sym, subst, refl}
+use Rattle.std.proofs.Common.{◌≡◌, [], ◌<◌, ◌∙◌, arith, length, None, Some, inl, inr, ap, sym, subst, refl}
+use Rattle.fst_types.specs.{Refusals.NoneHolds}
 use Rattle.fst_heads.specs.{Heads.patches_of}
-use Rattle.fst_graph.specs.{Known.Known, Membering.{ArePaired}}
-use Rattle.fst_graph.proofs.{MemberReady.{member_found, foretold}, Readied.member_put}
-use Rattle.fst_graph.proofs.Sound.{as_many_lists, as_many_marks, as_many_places, gates_told, over_down, over_then, sees_all}
+use Rattle.fst_types.specs.declared.fault.Fault.TheVariants as fault
+use Rattle.fst_graph.specs.{Known.{Known, Refuses}, Membering.{ArePaired, member_order}}
+use Rattle.fst_graph.proofs.{MemberReady.{member_found, foretold}, Readied.{member_found_as, member_put}}
+use Rattle.fst_graph.proofs.Sound.{as_many_lists, as_many_marks, as_many_places, gates_told, over_down, over_then, sees_all, walked_sound}
 use Rattle.fst_graph.proofs.sparse.Sparse.member_room.Goals.{After-deref}
 use Rattle.fst_graph.proofs.sparse.Sparse.member_room.Goals as goal
 
@@ -21,7 +23,7 @@ member_fault-requires c = record {
   gates = rw c.deref.ensures.value (gates_told c.self.invariant);
   long = as_many_marks c.self.invariant ∙ sym (ap length c.deref.ensures.value);
   block = omega (arith, inside (goal.at.member_fault-requires c).After-deref, as_many_lists c.self.invariant, ap length c.deref-2.ensures.value);
-  is_open = search rules;
+  is_open = rw c.deref.ensures.value (paired (goal.at.member_fault-requires c).After-deref).tail_open;
 }
 
 pub returns-in-Some-clause-refused : goal.returns-in-Some-clause-refused
@@ -55,3 +57,54 @@ returns-clause-ok c =
     rw (← c.self.view_is, ← made.block, ← made.span)
     (foretold (record { heads = patches_of s.heads.items; numbers = s.numbers; blocks = s.blocks; groups = []; prepared = None }) s.blocks s.ends.up.walk.marks c.self.invariant.keeps c.args.gates c.in-Ok.prepared
     (member_found c.self.invariant.keeps c.args.gates (paired d) c.in-Ok.prepared made.names made.block made.span (inside d) c.deref.ensures.value c.in_default.ensures.clear made.depends made.graded))
+
+-- memory was refused, and nothing else refuses it
+short : (c : After-deref) → NoneHolds (member_order (patches_of c.deref.result.now) c.self.inside.numbers c.args.gates.tail c.args.block.0 c.args.span.at c.args.span.len)
+    → Refuses (member_order c.args.self.now.heads c.args.self.now.numbers c.args.gates.tail c.args.block.0 c.args.span.at c.args.span.len) fault.Memory
+short c clear = rw (← c.self.view_is, ← c.deref.ensures.value) (inr (clear, refl))
+
+pub returns-in_default-prepare_member-clause-refused : goal.returns-in_default-prepare_member-clause-refused
+returns-in_default-prepare_member-clause-refused c = short (goal.at.returns-in_default-prepare_member-clause-refused c).After-deref c.in_default.ensures.clear
+
+pub returns-in_default-make_room-clause-refused : goal.returns-in_default-make_room-clause-refused
+returns-in_default-make_room-clause-refused c = short (goal.at.returns-in_default-make_room-clause-refused c).After-deref c.in_default.ensures.clear
+
+pub returns-in_default-make_room-clause-same : goal.returns-in_default-make_room-clause-same
+returns-in_default-make_room-clause-same c = rw (← c.self.view_is) c.in_default-make_room.ensures.same
+
+pub make_room-requires-clause-block : goal.make_room-requires-clause-block
+make_room-requires-clause-block c = rw c.in-Ok.ensures.block (inside (goal.at.make_room-requires-clause-block c).After-deref)
+
+pub returns-clause-clear : goal.returns-clause-clear
+returns-clause-clear c = rw (← c.self.view_is, ← c.deref.ensures.value) c.in_default.ensures.clear
+
+pub returns-clause-next : goal.returns-clause-next
+returns-clause-next c = rw (← c.self.view_is) refl
+
+pub returns-clause-prepared : goal.returns-clause-prepared
+returns-clause-prepared c =
+    let s = c.self.inside in
+    let made = c.in-Ok.ensures in
+    rw (← c.self.view_is) (
+    subst (λ q. c.make_room.new.self ≡ record { heads = patches_of s.heads.items; numbers = s.numbers; blocks = s.blocks; groups = []; prepared = Some q }) (member_found_as c.in-Ok.prepared s.numbers c.args.gates made.block made.span made.names made.gates) c.in-Ok-make_room.ensures.prepared
+    )
+
+-- the fields after the walks
+pub invariant_of-self : goal.invariant_of-self
+invariant_of-self c =
+    let S = c.self.invariant in
+    rw c.let_go.ensures (walked_sound S (record { long = c.member_fault.ensures.long ∙ ap length c.deref.ensures.value; crossed = as_many_places S }) (over_down S))
+
+pub invariant_of-self-in_default-prepare_member : goal.invariant_of-self-in_default-prepare_member
+invariant_of-self-in_default-prepare_member c =
+    let E = c.prepare_member.ensures in
+    let h = sym c.deref.ensures.value in
+    let l = sym c.deref-2.ensures.value in
+    rw c.let_go.ensures (walked_sound c.self.invariant {walked = c.prepare_member.new.ends} (over_then h l E.up) (over_then h l E.down))
+
+pub invariant_of-self-2 : goal.invariant_of-self-2
+invariant_of-self-2 c =
+    let E = c.prepare_member.ensures in
+    let h = sym c.deref.ensures.value in
+    let l = sym c.deref-2.ensures.value in
+    rw c.let_go.ensures (walked_sound c.self.invariant {walked = c.prepare_member.new.ends} (over_then h l E.up) (over_then h l E.down))

@@ -1,4 +1,4 @@
-use Rattle.std.proofs.{Common.{◌≡◌, ◌+◌, ◌++◌, ◌∷◌, ◌∙◌, [], None, IfSome, IfNone, option_map, arith, sym, subst, refl, ap, map}}
+use Rattle.std.proofs.{Common.{◌≡◌, ◌+◌, ◌++◌, ◌∷◌, ◌∙◌, [], ℕ, Option, None, Some, IfSome, IfNone, option_map, arith, sym, subst, refl, ap, map}}
 use Rattle.std.specs.Vec.{with_item}
 use Rattle.fst_types.specs.{Gating.gains}
 use Rattle.fst_heads.specs.{Frames.HasRoomBelow, Heads.patches_of, Names.numbers_of, Nodes.nodes_of}
@@ -137,3 +137,23 @@ returns-clause-alone c =
     rw (← c.self.view_is, sym c.take.ensures.value ∙ c.in-Some.is, c.take.ensures.after, added at.After-put_down-pending) (
     subst (λ g. IfNone (option_map (λ (x : Gates). x.head) g) (AddsSparse before p.block p.span.at p.span.len (numbers_of p.names.items) n p.grade after)) (sym c.in-None.is) (ready_adds (now at.After-as_slice-row).down.ready)
     )
+
+-- what was prepared had that number and grade
+pub returns-clause-foreseen : goal.returns-clause-foreseen
+returns-clause-foreseen c = rw (← c.self.view_is, sym c.take.ensures.value ∙ c.in-Some.is) (refl, refl)
+
+pub returns-in-Some-gates-clause-foreseen : goal.returns-in-Some-gates-clause-foreseen
+returns-in-Some-gates-clause-foreseen c = rw (← c.self.view_is, sym c.take.ensures.value ∙ c.in-Some.is) (refl, refl)
+
+-- it was for a group or for none
+for_none : (g : Option Gates) (P : ℕ → Type 0) → g ≡ None → IfSome (option_map (λ x. x.head) g) P
+for_none g P e = rw e tt
+
+for_group : (g : Option Gates) (gates : Gates) (P : Type 0) → g ≡ Some gates → IfNone (option_map (λ x. x.head) g) P
+for_group g gates P e = rw e tt
+
+pub returns-clause-tied : goal.returns-clause-tied
+returns-clause-tied c = rw (← c.self.view_is, sym c.take.ensures.value ∙ c.in-Some.is) (for_none c.in-Some.prepared.gates _ c.in-None.is)
+
+pub returns-in-Some-gates-clause-alone : goal.returns-in-Some-gates-clause-alone
+returns-in-Some-gates-clause-alone c = rw (← c.self.view_is, sym c.take.ensures.value ∙ c.in-Some.is) (for_group c.in-Some.prepared.gates _ _ c.in-Some-gates.is)
