@@ -1,4 +1,5 @@
-use Rattle.std.proofs.Common.{◌≡◌, ◌∙◌, Some, slice_get, is_some, Bool, true, false, sym, arith}
+use Rattle.std.proofs.lemmas.List.{length-map}
+use Rattle.std.proofs.Common.{◌≡◌, ◌∙◌, Some, slice_get, is_some, Bool, true, false, sym, arith, ◌≤◌, length, inl, refl}
 use Rattle.std.proofs.lemmas.Option.{slice_get_read}
 use Rattle.fst_types.specs.Writable.{HasReady}
 use Rattle.fst_cache.specs.Kept.{state_of}
@@ -80,3 +81,26 @@ returns-clause-refused g c =
 
 pub index-requires : goal.index-requires
 index-requires g c = omega (arith, c.if-block-len.false, c.len.ensures)
+
+pub returns-then-block-len-clause-refused : goal.returns-then-block-len-clause-refused
+returns-then-block-len-clause-refused g c =
+    let past : length c.args.self.now.state.blocks ≤ c.args.block.0 = rw (← c.self.view_is, length-map) (omega (arith, c.self.inside.seats.ok.0, c.if-block-len.true, c.len.ensures)) in
+    inl (inl (past, refl))
+
+pub sending_fault-requires-clause-least : goal.sending_fault-requires-clause-least
+sending_fault-requires-clause-least g c = rw c.hard_held-held.ensures.same c.hard_held-held.ensures.least
+
+pub returns-then-block-len-clause-same : goal.returns-then-block-len-clause-same
+returns-then-block-len-clause-same g c = refl
+
+pub returns-then-is_busy-clause-same : goal.returns-then-is_busy-clause-same
+returns-then-is_busy-clause-same g c = refl
+
+pub returns-then-is_none-clause-same : goal.returns-then-is_none-clause-same
+returns-then-is_none-clause-same g c = rw c.chosen-chosen.ensures.same c.self.view_is
+
+pub returns-in-Some-clause-same : goal.returns-in-Some-clause-same
+returns-in-Some-clause-same g c = rw (c.hard_held-held.ensures.same, c.chosen-chosen.ensures.same) c.self.view_is
+
+pub returns-clause-same : goal.returns-clause-same
+returns-clause-same g c = rw (c.hard_held-held.ensures.same, c.chosen-chosen.ensures.same) c.self.view_is

@@ -29,3 +29,6 @@ index_mut-seat-requires g c =
     let there : length c.args.self.now.state.blocks ≤ c.args.block.0 → ⊥ = c.requires.clear.0 in
     let seated : length c.self.inside.seats.items ≤ c.args.block.0 → ⊥ = rw (← c.self.view_is, length-map) at there in
     omega (arith, c.self.inside.seats.ok.0, seated)
+
+pub returns-clause-only_memory : goal.returns-clause-only_memory
+returns-clause-only_memory g c = c.image.ensures.only_memory

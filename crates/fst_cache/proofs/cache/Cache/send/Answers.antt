@@ -1,3 +1,6 @@
+use Rattle.fst_cache.proofs.ResideSeats.{block_is}
+use Rattle.fst_types.specs.State.{BlockState}
+use Rattle.fst_types.specs.Limits.{max_ticket}
 use Rattle.std.proofs.Common.{◌≡◌, ◌∙◌, arith, is_some, refl, sym, ap, length, ◌≤◌}
 use Rattle.std.proofs.lemmas.List.{map-set, length-map}
 use Rattle.fst_types.specs.Bytes.{image_of}
@@ -141,3 +144,29 @@ index_mut-seat-requires g c =
     let there : length c.args.self.now.state.blocks ≤ c.args.block.0 → ⊥ = c.requires.clear.0 in
     let seated : length c.self.inside.seats.items ≤ c.args.block.0 → ⊥ = rw (← c.self.view_is, length-map) at there in
     omega (arith, c.self.inside.seats.ok.0, seated)
+
+pub overflow_add-self : goal.overflow_add-self
+overflow_add-self g c =
+    let clear : NoneHolds (order (state_of c.self.inside.size c.self.inside.resident c.self.inside.tickets c.self.inside.made c.self.inside.graph c.self.inside.contents.items c.self.inside.seats.items) (Issue c.args.block.0)) = rw (← c.self.view_is) at c.requires.clear in
+    let full : max_ticket ≤ c.self.inside.tickets → ⊥ = clear.1.1.1.1.1.0 in
+    omega (arith, full)
+
+pub overflow_add-self-2 : goal.overflow_add-self-2
+overflow_add-self-2 g c =
+    let flying = c.self.invariant.flying in
+    let limits = c.self.invariant.kept.lawful.limits in
+    let few = limits.flights in
+    omega (arith, flying, few)
+
+pub launch-job-requires-clause-kept : goal.launch-job-requires-clause-kept
+launch-job-requires-clause-kept g c = c.requires.kept
+
+pub returns-clause-held : goal.returns-clause-held
+returns-clause-held g c =
+    let S = may_send c.self.inside.size c.self.inside.resident c.self.inside.tickets c.self.inside.made c.self.inside.graph c.self.inside.contents.items c.self.inside.seats.items c.args.self.now c.self.view_is c.self.invariant.kept c.args.block.0 c.index_mut-seat.result.now c.args.chosen.items c.requires.clear c.requires.chosen c.index_mut-seat.ensures.value in
+    rw (← c.self.view_is) (c.launch-job.ensures.held ∙ sym (ap (λ (v : BlockState). v.committed) (block_is (state_of c.self.inside.size c.self.inside.resident c.self.inside.tickets c.self.inside.made c.self.inside.graph c.self.inside.contents.items c.self.inside.seats.items) c.self.inside.graph c.self.inside.seats.items c.self.invariant.kept refl c.args.block.0 c.index_mut-seat.result.now S.at_b)))
+
+pub returns-clause-before : goal.returns-clause-before
+returns-clause-before g c =
+    let S = may_send c.self.inside.size c.self.inside.resident c.self.inside.tickets c.self.inside.made c.self.inside.graph c.self.inside.contents.items c.self.inside.seats.items c.args.self.now c.self.view_is c.self.invariant.kept c.args.block.0 c.index_mut-seat.result.now c.args.chosen.items c.requires.clear c.requires.chosen c.index_mut-seat.ensures.value in
+    rw (← c.self.view_is) (c.launch-job.ensures.before ∙ sym (ap (λ (v : BlockState). v.committed) (block_is (state_of c.self.inside.size c.self.inside.resident c.self.inside.tickets c.self.inside.made c.self.inside.graph c.self.inside.contents.items c.self.inside.seats.items) c.self.inside.graph c.self.inside.seats.items c.self.invariant.kept refl c.args.block.0 c.index_mut-seat.result.now S.at_b)))

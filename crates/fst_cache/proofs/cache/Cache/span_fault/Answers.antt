@@ -1,4 +1,4 @@
-use Rattle.std.proofs.Common.{arith, ◌≡◌, ◌∙◌, ◌<◌, ◌+◌, ◌⊎◌, ℕ, Some, length, slice_get, refl, sym, inl, inr}
+use Rattle.std.proofs.Common.{arith, ◌≡◌, ◌∙◌, ◌<◌, ◌+◌, ◌⊎◌, ℕ, Some, length, slice_get, refl, sym, inl, inr, ◌≤◌}
 use Rattle.std.proofs.lemmas.Bool.{cases_lt, true≢false}
 use Rattle.std.proofs.lemmas.List.{length-map}
 use Rattle.std.proofs.lemmas.Option.{slice_get_read}
@@ -39,3 +39,17 @@ has_room-requires g c = rw (← c.self.view_is, length-map) (omega (arith, c.sel
 
 pub overflow_sub-size : goal.overflow_sub-size
 overflow_sub-size g c = c.if-bytes-size.false
+
+pub returns : goal.returns
+returns g c =
+    let i = c.self.inside in
+    let seated : slice_get i.seats.items c.args.block.0 ≡ Some c.index.result.now = slice_get_read i.seats.items _ _ _ i.seats.ok.0 (omega (arith, c.if-block-len.false, c.len.ensures)) c.index.ensures in
+    let room = rw (← c.self.view_is) at (c.has_room.ensures.0 c.if-not-has_room.false) in
+    rw (← c.self.view_is)
+    (record {
+      counts = λ h. omega (arith, h, c.made.ensures, c.if-made-eq18446744073709551615.false);
+      there = λ h. let past : length i.seats.items ≤ c.args.block.0 = rw length-map at h in omega (arith, past, i.seats.ok.0, c.if-block-len.false, c.len.ensures);
+      kept = not_lost_at i.size i.resident i.tickets i.made i.graph i.contents.items i.seats.items _ _ seated (sym c.is_lost.ensures ∙ c.if-is_lost.false);
+      fits = λ h. elim h [ inl e ↦ grind (arith, e, c.is_empty.ensures, c.if-is_empty.false) | inr l ↦ omega (arith, l) ];
+      room = room;
+    })
