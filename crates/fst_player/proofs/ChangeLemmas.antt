@@ -14,15 +14,11 @@ use Rattle.fst_lines.specs.Commands.{Command}
 use Rattle.fst_lines.specs.Sending.{Sends}
 use Rattle.fst_lines.specs.Replies.{refusal, patch_text}
 use Rattle.fst_player.specs.declared.accepted.Accepted.{Accepted}
-use Rattle.fst_player.specs.Script.{PlayerState, call_of, text_of, after_call}
-use Rattle.fst_player.specs.Kept.{IsKept, change_made, changes_made, jobs_kept}
+use Rattle.fst_player.specs.Script.{call_of, after_call}
+use Rattle.fst_player.specs.Kept.{IsKept, change_made, changes_made}
 use Rattle.fst_player.specs.Answering.{Obeyed}
 use Rattle.fst_player.proofs.KeptLemmas.{refused_same}
-use Rattle.fst_player.proofs.TellLemmas.{Obeyed-called, one_change_more}
-
--- what contracts see of a player
-abbrev player_at : State → List (JobView MemoryView) → List Accepted → PlayerState
-player_at s jobs made = record { cache = s; jobs = jobs_kept jobs; made = changes_made made }
+use Rattle.fst_player.proofs.TellLemmas.{player_at, Obeyed-called, one_change_more}
 
 -- what was answered to a change that was asked for, and whether it is among those that are kept
 abbrev pub Answers : Result (PatchNo × Grade) Fault → State → Event → State → Type 0

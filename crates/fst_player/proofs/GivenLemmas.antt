@@ -1,5 +1,5 @@
 -- A job that was asked for: what is kept then, and what is told, whether it was given or refused.
-use Rattle.std.proofs.Common.{◌≡◌, ℕ, Bool, false, List, [], ◌∷◌, ◌++◌, Option, Some, Result, Ok, Err, sym, ◌∙◌}
+use Rattle.std.proofs.Common.{◌≡◌, ℕ, false, List, [], ◌∷◌, ◌++◌, Option, Some, Result, Ok, Err, sym, ◌∙◌}
 use Rattle.std.specs.Prelude.{IfOk, MatchResult}
 use Rattle.fst_types.specs.declared.shape.Shape.{Shape}
 use Rattle.fst_types.specs.declared.fault.Fault.{Fault}
@@ -13,15 +13,11 @@ use Rattle.fst_lines.specs.Commands.{Command}
 use Rattle.fst_lines.specs.Sending.{Sends}
 use Rattle.fst_lines.specs.Replies.{refusal, flight_text}
 use Rattle.fst_player.specs.declared.accepted.Accepted.{Accepted}
-use Rattle.fst_player.specs.Script.{PlayerState, call_of, in_flight, after_call}
-use Rattle.fst_player.specs.Kept.{IsKept, changes_made, job_kept, jobs_kept}
+use Rattle.fst_player.specs.Script.{call_of, in_flight, after_call}
+use Rattle.fst_player.specs.Kept.{IsKept, job_kept, jobs_kept}
 use Rattle.fst_player.specs.Answering.{Obeyed}
 use Rattle.fst_player.proofs.KeptLemmas.{refused_same, issue_out, issue_kept, retry_out, retry_kept}
-use Rattle.fst_player.proofs.TellLemmas.{Obeyed-called, one_job_more}
-
--- what contracts see of a player
-abbrev player_at : State → List (JobView MemoryView) → List Accepted → PlayerState
-player_at s jobs made = record { cache = s; jobs = jobs_kept jobs; made = changes_made made }
+use Rattle.fst_player.proofs.TellLemmas.{player_at, Obeyed-called, one_job_more}
 
 -- what was answered to the call, and whether the job is among those that are kept
 abbrev pub Gives : Result (JobView MemoryView) Fault → State → Event → State → Type 0

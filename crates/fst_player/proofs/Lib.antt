@@ -12,3 +12,4 @@ pub mod ScriptRuns
 pub mod CrashTold
 pub mod ChangeLemmas
 pub mod GivenLemmas
+pub mod AcceptedLemmas

@@ -21,6 +21,10 @@ use Rattle.fst_player.specs.Script.{PlayerState, JobKept, Obeys, call_of, text_o
 use Rattle.fst_player.specs.Kept.{job_kept, jobs_kept, change_made, changes_made, settled_text}
 use Rattle.fst_player.specs.Answering.{Obeyed}
 
+-- what contracts see of a player
+abbrev pub player_at : State → List (JobView MemoryView) → List Accepted → PlayerState
+player_at s jobs made = record { cache = s; jobs = jobs_kept jobs; made = changes_made made }
+
 -- the command makes a call, which was answered so
 pub Obeyed-called : {T E : Type 0} (p q : PlayerState) (c : Command) (faulted : Bool) (e : Event) (r : Reply) (s : State) (a b : Option (List ℕ)) (told : Result T E)
     → call_of p faulted c ≡ Some e → Step p.cache e r s → q ≡ after_call p e r s → Sends a b told (text_of s e r ++ 10 ∷ []) → Obeyed p c a b told q

@@ -9,6 +9,7 @@ mod group;
 mod heads;
 mod open;
 mod patch;
+mod told;
 mod write;
 
 ghost use Rattle.std.specs.Prelude.{◌≡◌, List, ℕ, ◌++◌, ◌∷◌, []};

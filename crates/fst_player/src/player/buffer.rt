@@ -5,8 +5,9 @@ ghost use Rattle.fst_lines.specs.Commands as script;
 ghost use Rattle.fst_player.specs.Answering.{Obeyed};
 
 use crate::player::Player;
+use crate::player::told::send_accepted;
 use fst_lines::output::Stopped;
-use fst_lines::reply::{send_numbered, send_refusal, send_show};
+use fst_lines::reply::{send_refusal, send_show};
 use fst_types::BlockNo;
 use std::io::Write;
 
@@ -37,9 +38,7 @@ impl Player {
         ensures { Obeyed self.old (script.evict block.0) (W.contents writer.old)
             (W.contents writer.new) result self.new }
     {
-        match self.cache.evict(block) {
-            Ok(()) => send_numbered(writer, calls, "evict", block.0),
-            Err(fault) => send_refusal(writer, calls, fault),
-        }
+        let answer = self.cache.evict(block);
+        send_accepted(writer, calls, "evict", block.0, answer)
     }
 }

@@ -6,6 +6,7 @@ ghost use Rattle.fst_lines.specs.Parsing.{patch_numbers};
 ghost use Rattle.fst_player.specs.Answering.{Obeyed};
 
 use crate::player::Player;
+use crate::player::told::send_accepted;
 use fst_lines::output::Stopped;
 use fst_lines::reply::{send_numbered, send_refusal};
 use fst_types::PatchNo;
@@ -34,10 +35,8 @@ impl Player {
         ensures { Obeyed self.old (script.depend gate.0 (patch_numbers on.now))
             (W.contents writer.old) (W.contents writer.new) result self.new }
     {
-        match self.cache.depend(gate, on) {
-            Ok(()) => send_numbered(writer, calls, "depend", gate.0),
-            Err(fault) => send_refusal(writer, calls, fault),
-        }
+        let answer = self.cache.depend(gate, on);
+        send_accepted(writer, calls, "depend", gate.0, answer)
     }
 
     // Seals a gate.
@@ -50,9 +49,7 @@ impl Player {
         ensures { Obeyed self.old (script.seal gate.0) (W.contents writer.old)
             (W.contents writer.new) result self.new }
     {
-        match self.cache.seal(gate) {
-            Ok(()) => send_numbered(writer, calls, "seal", gate.0),
-            Err(fault) => send_refusal(writer, calls, fault),
-        }
+        let answer = self.cache.seal(gate);
+        send_accepted(writer, calls, "seal", gate.0, answer)
     }
 }

@@ -6,7 +6,7 @@ ghost use Rattle.fst_player.specs.Answering.{Obeyed};
 
 use crate::accepted::keep;
 use crate::player::Player;
-use crate::player::patch::send_made;
+use crate::player::told::{send_accepted, send_made};
 use fst_lines::output::Stopped;
 use fst_lines::reply::{send_numbered, send_refusal};
 use fst_types::{BlockNo, Fault, GroupNo};
@@ -39,10 +39,8 @@ impl Player {
         ensures { Obeyed self.old (script.group_after group.0 on.0) (W.contents writer.old)
             (W.contents writer.new) result self.new }
     {
-        match self.cache.group_after(group, on) {
-            Ok(()) => send_numbered(writer, calls, "group_after", group.0),
-            Err(fault) => send_refusal(writer, calls, fault),
-        }
+        let answer = self.cache.group_after(group, on);
+        send_accepted(writer, calls, "group_after", group.0, answer)
     }
 
     // Makes a change for a group, and keeps it where it is accepted.
@@ -78,9 +76,7 @@ impl Player {
         ensures { Obeyed self.old (script.group_close group.0) (W.contents writer.old)
             (W.contents writer.new) result self.new }
     {
-        match self.cache.group_close(group) {
-            Ok(()) => send_numbered(writer, calls, "group_close", group.0),
-            Err(fault) => send_refusal(writer, calls, fault),
-        }
+        let answer = self.cache.group_close(group);
+        send_accepted(writer, calls, "group_close", group.0, answer)
     }
 }

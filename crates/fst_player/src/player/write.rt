@@ -53,7 +53,7 @@ fn keep_job<W: Write>(
     ensures kept { MatchResult given (λ job. jobs.new.items ≡ jobs.old.items ++ job ∷ []) (λ fault. jobs.new.items ≡ jobs.old.items) }
     ensures told { MatchResult given
         (λ job. Sends (W.contents writer.old) (W.contents writer.new) result
-            (flight_text job.ticket job.block (in_flight cache.now.state job.block) job.image ++ 10 ∷ []))
+        (flight_text job.ticket job.block (in_flight cache.now.state job.block) job.image ++ 10 ∷ []))
         (λ fault. Sends (W.contents writer.old) (W.contents writer.new) result (refusal fault ++ 10 ∷ [])) }
 {
     match given {

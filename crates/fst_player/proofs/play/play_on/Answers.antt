@@ -1,7 +1,6 @@
-use Rattle.std.proofs.Common.{[], ◌++◌, refl, subst}
+use Rattle.std.proofs.Common.{[], ◌++◌, refl}
 use Rattle.std.proofs.KnownBytes.{Appends-nil, Appends-trans, Consumes-kept, Consumes-nil, Consumes-trans}
-use Rattle.fst_player.specs.Script.{opened, PlayerState}
-use Rattle.fst_player.specs.Session.{IsAt}
+use Rattle.fst_player.specs.Script.{opened}
 use Rattle.fst_player.proofs.SessionLemmas.{Consumes-none, from_opened, stopped_plays, unfinished_plays}
 use Rattle.fst_player.proofs.play.play_on.Goals as goal
 

@@ -1,20 +1,12 @@
-use Rattle.std.proofs.Common.{false, refl}
+use Rattle.std.proofs.Common.{refl}
+use Rattle.fst_player.proofs.AcceptedLemmas.{accepted_kept, Obeyed-accepted}
 use Rattle.fst_player.proofs.GroupLemmas.{group_close_kept}
-use Rattle.fst_player.proofs.KeptLemmas.{refused_same}
-use Rattle.fst_player.proofs.TellLemmas.{Obeyed-called}
 use Rattle.fst_player.proofs.player.Player.group_close.Goals as goal
-use Rattle.fst_player.proofs.player.Player.group_close.Goals.{in-Ok, in-Err}
 
 pub invariant_of-self : goal.invariant_of-self
-invariant_of-self g c =
-    elim c.match-group_close.branch [
-      | in-Ok w ↦ group_close_kept _ _ _ _ _ _ _ c.self.invariant w.in-Ok.ensures.step
-      | in-Err w ↦ rw (refused_same _ _ _ _ w.in-Err.ensures.step) c.self.invariant
-    ]
+invariant_of-self g c = accepted_kept c.group_close-answer.result _ _ _ _ _ _ _ c.group_close-answer.ensures.step c.self.invariant (λ step. group_close_kept _ _ _ _ _ _ _ c.self.invariant step)
 
 pub returns : goal.returns
 returns g c =
-    elim c.match-group_close.branch [
-      | in-Ok w ↦ rw (← c.self.view_is, w.writer-is, w.result-is) (Obeyed-called _ _ _ false _ _ _ _ _ _ refl w.in-Ok.ensures.step refl w.send_numbered.ensures)
-      | in-Err w ↦ rw (← c.self.view_is, w.writer-is, w.result-is) (Obeyed-called _ _ _ false _ _ _ _ _ _ refl w.in-Err.ensures.step refl w.send_refusal.ensures)
-    ]
+    let i = c.self.inside in
+    rw (← c.self.view_is) (Obeyed-accepted c.group_close-answer.result i.cache.state _ _ _ i.jobs.items i.made.items _ _ _ refl c.group_close-answer.ensures.step c.send_accepted.ensures refl (λ fault. refl))
