@@ -6,4 +6,3 @@ pub mod Apart
 pub mod Undo
 pub mod Choosing
 pub mod Blocks
-pub mod Tested

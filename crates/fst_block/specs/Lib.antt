@@ -2,4 +2,3 @@ pub mod BlockView
 pub mod Choices
 pub mod Reverts
 pub mod Kept
-pub mod Tested

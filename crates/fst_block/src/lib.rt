@@ -10,7 +10,5 @@ mod choice;
 mod launched;
 mod put;
 mod reverts;
-#[cfg(test)]
-mod tests;
 
 pub use block::Block;

@@ -110,6 +110,7 @@ fn each_call_once(rt: HostRuntime) {
     write_first(&rt, &mut cache);
     cache.place(&rt, 1, Some(Place::Disk));
     cache.shows(&rt, 1, b"\0AB\0");
+    cache.end();
 }
 
 // A cache whose write of block 0 failed after the bytes changed.
@@ -130,12 +131,14 @@ fn a_failed_write_is_tried_again(rt: HostRuntime) {
     let stranger = forged(&rt, rt.alloc(), 1, 0, [b'A', 0]);
     cache.hand_back(&rt, stranger, 1, 0, b"A\0\0\0");
     cache.settle(&rt, job, Settled::Landed);
+    cache.end();
 }
 
 // A job of another cache is carried and settled here, while block 0 is out with other bytes.
 fn settle_another(rt: &impl Abort, alloc: Global, cache: &mut Checked) {
-    let (_other, job) = sent(rt, alloc, b'B');
+    let (other, job) = sent(rt, alloc, b'B');
     cache.hand_back(rt, carry(job), 1, 0, b"B\0\0\0");
+    other.end();
 }
 
 #[test]
@@ -145,6 +148,7 @@ fn stranger_is_handed_back(rt: HostRuntime) {
     cache.settle(&rt, job, Settled::Landed);
     let landed = forged(&rt, rt.alloc(), 1, 0, [b'A', 0]);
     cache.hand_back(&rt, landed, 1, 0, b"A\0\0\0");
+    cache.end();
 }
 
 // Two slots, of which the first fails at its first read.
@@ -160,6 +164,7 @@ fn a_failed_read_is_told_once(rt: HostRuntime) {
     let mut cache = keeping(&rt, rt.alloc(), failing_slots(&rt, rt.alloc()), 2);
     cache.show_refused(&rt, 0, Fault::Device);
     cache.shows(&rt, 0, b"\0\0\0\0");
+    cache.end();
 }
 
 // The guide's example: data that comes after a journal waits until the journal is on disk.
@@ -180,6 +185,7 @@ fn journal_before_data(rt: HostRuntime) {
     cache.settle(&rt, job, Settled::Landed);
     cache.place(&rt, 1, Some(Place::Disk));
     cache.issue(&rt, 1);
+    cache.end();
 }
 
 // Makes a gate, a change behind it, an empty patch behind that, and a change that stands alone.
@@ -210,6 +216,7 @@ fn gates_and_empty_patches(rt: HostRuntime) {
     cache.counts(&rt, counted);
     cache.blocks(&rt, 2);
     cache.forget(&rt, 0);
+    cache.end();
 }
 
 #[test]
@@ -220,6 +227,7 @@ fn a_clean_block_gives_up_its_place(rt: HostRuntime) {
     cache.show_refused(&rt, 0, Fault::Full(What::Resident));
     cache.evict(&rt, 1, Err(Fault::Dirty));
     cache.evict(&rt, 0, Ok(()));
+    cache.end();
 }
 
 // A cache of one block over which so many numbers and tickets are used.
@@ -239,4 +247,6 @@ fn numbers_and_tickets_end(rt: HostRuntime) {
     let mut sent = used(&rt, rt.alloc(), 0, u64::MAX);
     sent.patch(&rt, 0, 0, b"A", &[], Ok((PatchNo(1), Grade::Hard)));
     sent.issue_refused(&rt, 0, Fault::Full(What::Tickets));
+    numbered.end();
+    sent.end();
 }

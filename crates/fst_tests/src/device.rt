@@ -10,6 +10,7 @@ use fst_device::{Arm, BlockSlot, Done, FaultCount, Job, MemorySlot, Outcome, Slo
 use fst_types::{BlockNo, Ticket};
 use read_only::ReadOnly;
 use std::alloc::Global;
+use std::marker::Model;
 use std::process::Abort;
 use std::thread;
 use std::thread::Threads;
@@ -40,6 +41,12 @@ fn write_and_read<S: BlockSlot>(
 #[derive(Drop)]
 struct Checked {
     slot: MemorySlot,
+}
+
+impl Model for Checked {
+    ghost Value = { Unit {0} };
+
+    ghost view = { λ _. tt };
 }
 
 impl Checked {

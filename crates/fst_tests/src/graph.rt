@@ -370,6 +370,7 @@ fn limit_of_heads(rt: HostRuntime) {
     graph.empty(&rt, &[PatchNo(65_536)], Err(Fault::NoPatch));
     graph.forget(&rt, 65_535);
     graph.empty(&rt, &[], Ok(PatchNo(65_536)));
+    graph.end();
 }
 
 const NUMBERS: Fault = Fault::Full(What::Numbers);

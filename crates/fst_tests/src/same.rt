@@ -1,9 +1,20 @@
-//! One comparison for each type of answer. An `assert_eq!` in a test is proved with all that the test knows so far, and
-//! for a type such as `Result<(PatchNo, Grade), Fault>` that is long: here it is proved once.
+//! One comparison for each type of answer, over one that is proved once for all types. An `assert_eq!` in a test is proved
+//! with all that the test knows so far, and for a type such as `Result<(PatchNo, Grade), Fault>` that is long.
 
 use fst_cache::Stat;
 use fst_types::{BlockNo, Fault, Grade, GroupNo, PatchNo, Place, Settled, Ticket};
+use std::fmt::Debug;
 use std::process::Abort;
+
+// The same answer.
+fn same<T: PartialEq + Debug>(rt: &impl Abort, answer: &T, expected: &T) {
+    assert_eq!(rt; answer, expected);
+}
+
+// The same answer of a patch or a block.
+fn same_of<L: Debug, T: PartialEq + Debug>(rt: &impl Abort, of: &L, answer: &T, expected: &T) {
+    assert_eq!(rt; answer, expected, "{of:?}");
+}
 
 /// The number of a new patch.
 pub fn same_number(
@@ -11,12 +22,12 @@ pub fn same_number(
     made: Result<PatchNo, Fault>,
     expected: Result<PatchNo, Fault>,
 ) {
-    assert_eq!(rt; made, expected);
+    same(rt, &made, &expected);
 }
 
 /// The number of a new group.
 pub fn same_group(rt: &impl Abort, made: Result<GroupNo, Fault>, expected: Result<GroupNo, Fault>) {
-    assert_eq!(rt; made, expected);
+    same(rt, &made, &expected);
 }
 
 /// The number and the grade of a new change.
@@ -25,17 +36,17 @@ pub fn same_change(
     made: Result<(PatchNo, Grade), Fault>,
     expected: Result<(PatchNo, Grade), Fault>,
 ) {
-    assert_eq!(rt; made, expected);
+    same(rt, &made, &expected);
 }
 
 /// What `seal` or `depend` answers.
 pub fn same_answer(rt: &impl Abort, answer: Result<(), Fault>, expected: Result<(), Fault>) {
-    assert_eq!(rt; answer, expected);
+    same(rt, &answer, &expected);
 }
 
 /// The writable set of a block.
 pub fn same_patches(rt: &impl Abort, block: BlockNo, chosen: &[PatchNo], expected: &[PatchNo]) {
-    assert_eq!(rt; chosen, expected, "{block:?}");
+    same_of(rt, &block, &chosen, &expected);
 }
 
 /// The least hard patch that a block holds.
@@ -45,50 +56,55 @@ pub fn same_held(
     held: Option<PatchNo>,
     expected: Option<PatchNo>,
 ) {
-    assert_eq!(rt; held, expected, "{block:?}");
+    same_of(rt, &block, &held, &expected);
 }
 
 /// A block, or none.
 pub fn same_block(rt: &impl Abort, block: Option<BlockNo>, expected: Option<BlockNo>) {
-    assert_eq!(rt; block, expected);
+    same(rt, &block, &expected);
 }
 
 /// Where a patch is.
 pub fn same_place(rt: &impl Abort, no: PatchNo, place: Option<Place>, expected: Option<Place>) {
-    assert_eq!(rt; place, expected, "{no:?}");
+    same_of(rt, &no, &place, &expected);
 }
 
 /// How many there are.
 pub fn same_count(rt: &impl Abort, count: usize, expected: usize) {
-    assert_eq!(rt; count, expected);
+    same(rt, &count, &expected);
 }
 
 /// Why a call was refused.
 pub fn same_fault(rt: &impl Abort, fault: Option<Fault>, expected: Fault) {
-    assert_eq!(rt; fault, Some(expected));
+    same(rt, &fault, &Some(expected));
 }
 
 /// Some bytes.
 pub fn same_bytes(rt: &impl Abort, bytes: &[u8], expected: &[u8]) {
-    assert_eq!(rt; bytes, expected);
+    same(rt, &bytes, &expected);
 }
 
 /// A ticket.
 pub fn same_ticket(rt: &impl Abort, ticket: Ticket, expected: u64) {
-    assert_eq!(rt; ticket.0, expected);
+    same(rt, &ticket.0, &expected);
 }
 
 /// What came of a write.
 pub fn same_settled(rt: &impl Abort, settled: Option<Settled>, expected: Settled) {
-    assert_eq!(rt; settled, Some(expected));
+    same(rt, &settled, &Some(expected));
 }
 
 /// What a cache counts.
 pub fn same_stat(rt: &impl Abort, stat: Stat, expected: Stat) {
-    assert_eq!(rt; stat, expected);
+    same(rt, &stat, &expected);
 }
 
 /// A number, or none.
 pub fn same_record(rt: &impl Abort, record: Option<u32>, expected: Option<u32>) {
-    assert_eq!(rt; record, expected);
+    same(rt, &record, &expected);
+}
+
+/// A sum.
+pub fn same_sum(rt: &impl Abort, sum: u64, expected: u64) {
+    same(rt, &sum, &expected);
 }

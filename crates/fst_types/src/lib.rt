@@ -33,6 +33,3 @@ pub use place::Place;
 pub use settled::Settled;
 pub use shape::Shape;
 pub use span::Span;
-
-#[cfg(test)]
-mod tests;

@@ -10,6 +10,7 @@ use fst_cache::{Cache, Flight, Share, Stat};
 use fst_device::{Done, Job, MemorySlot, carry};
 use fst_types::{BlockNo, Fault, Grade, PatchNo, Place, Settled, Shape};
 use std::alloc::Global;
+use std::marker::Model;
 use std::process::Abort;
 
 /// A cache, and the share of the one thread that makes its patches.
@@ -17,6 +18,12 @@ use std::process::Abort;
 pub struct Checked {
     cache: Cache<MemorySlot>,
     share: Share,
+}
+
+impl Model for Checked {
+    ghost Value = { Unit {0} };
+
+    ghost view = { λ _. tt };
 }
 
 impl Checked {
@@ -52,6 +59,9 @@ impl Checked {
             Cache::open_at(alloc, shape, slots, numbers, tickets).ok(),
         )
     }
+
+    /// Lets go of it. What that takes is proved here, and not in each test.
+    pub fn end(self) {}
 
     /// What the cache's type keeps is at hand.
     pub fn headline(&self) {

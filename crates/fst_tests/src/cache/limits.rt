@@ -53,6 +53,7 @@ fn flights_at_once(rt: HostRuntime) {
     let job = jobs.pop().expect(&rt, "a job");
     cache.settle(&rt, job, Settled::Landed);
     cache.issue(&rt, 64);
+    cache.end();
 }
 
 #[test]
@@ -70,6 +71,7 @@ fn greatest_shape(rt: HostRuntime) {
     );
     same_count(&rt, cache.stat().undo as usize, 4096);
     cache.shows(&rt, 4095, &bytes);
+    cache.end();
 }
 
 #[test]
@@ -82,4 +84,5 @@ fn names_at_once(rt: HostRuntime) {
     cache.depend(&rt, 1, &[FIRST; 65], Err(Fault::BadField));
     cache.empty(&rt, &[FIRST; 64], Ok(PatchNo(3)));
     cache.made(&rt, 3);
+    cache.end();
 }

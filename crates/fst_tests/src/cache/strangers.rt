@@ -73,6 +73,7 @@ fn strangers(rt: HostRuntime) {
     is_handed_back(&rt, rt.alloc(), &mut cache, 1, 0, [b'A', 0]);
     cache.settle(&rt, second, Settled::Landed);
     is_handed_back(&rt, rt.alloc(), &mut cache, 2, 1, [b'B', 0]);
+    cache.end();
 }
 
 // A cache whose block 0 is out again, under ticket 3, after its first write failed, and both jobs.
@@ -99,4 +100,5 @@ fn old_ticket_after_a_retry(rt: HostRuntime) {
     cache.settle(&rt, again, Settled::Landed);
     is_handed_back(&rt, rt.alloc(), &mut cache, 3, 0, [b'A', 0]);
     cache.settle(&rt, second, Settled::Landed);
+    cache.end();
 }

@@ -4,6 +4,7 @@
 use crate::same::{same_bytes, same_count, same_record};
 use fst_chain::{Chain, Cursor};
 use std::alloc::Allocator;
+use std::marker::Model;
 use std::process::Abort;
 
 /// What a cursor is asked to do.
@@ -25,6 +26,12 @@ pub enum Go {
 #[derive(Drop)]
 pub struct Numbers<A: Allocator> {
     chain: Chain<u32, A>,
+}
+
+impl<A: Allocator> Model for Numbers<A> {
+    ghost Value = { Unit {0} };
+
+    ghost view = { λ _. tt };
 }
 
 impl<A: Allocator> Numbers<A> {

@@ -11,6 +11,7 @@ use crate::same::{
 use fst_graph::Graph;
 use fst_types::{BlockNo, Fault, Grade, GroupNo, PatchNo, Place, Shape, Span};
 use std::alloc::Global;
+use std::marker::Model;
 use std::process::Abort;
 
 // The number of one of so many blocks.
@@ -26,7 +27,16 @@ fn one_of(rt: &impl Abort, blocks: u32, block: u32) -> BlockNo
 pub struct Checked {
     graph: Graph,
     blocks: u32,
-    ghost same: { graph.blocks ≡ blocks },
+}
+
+impl Model for Checked {
+    ghost use Rattle.std.specs.Prelude.{◌≡◌};
+
+    ghost Value = { Unit {0} };
+
+    ghost view = { λ _. tt };
+
+    ghost invariant = { λ c. c.graph.blocks ≡ c.blocks };
 }
 
 impl Checked {
@@ -45,6 +55,9 @@ impl Checked {
         let graph = Graph::new(alloc, shape, numbers)?;
         Ok(Checked { graph, blocks })
     }
+
+    /// Lets go of it. What that takes is proved here, and not in each test.
+    pub fn end(self) {}
 
     /// A new gate.
     pub fn gate(&mut self, rt: &impl Abort, expected: Result<PatchNo, Fault>) {

@@ -191,6 +191,7 @@ fn limit_of_groups(rt: HostRuntime) {
     graph.groups(&rt, 4_096);
     graph.group(&rt, Err(Fault::Full(What::Groups)));
     graph.gate(&rt, Ok(PatchNo(8_193)));
+    graph.end();
 }
 
 const NUMBERS: Fault = Fault::Full(What::Numbers);
@@ -209,4 +210,5 @@ fn limits_of_what_a_group_takes(rt: HostRuntime) {
     graph.group(&rt, Err(Fault::Full(What::Heads)));
     graph.forget(&rt, 65_534);
     graph.group(&rt, Ok(GroupNo(65_535)));
+    graph.end();
 }

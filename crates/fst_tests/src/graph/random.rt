@@ -1,32 +1,15 @@
 //! Random graphs beside their plain twins: after each call every answer is compared, with the twin's and with the graph's
 //! own by a walk over all patches.
 
-ghost use Rattle.std.specs.Prelude.{◌<◌};
-
+use crate::dice::Dice;
 use crate::graph::checked::Checked;
 use crate::graph::twin::Twin;
 use fst_types::{BlockNo, Fault, Grade, GroupNo, PatchNo, Span};
 use std::alloc::{AllocError, Global};
+use std::marker::Model;
 use std::process::Abort;
 
-/// A small generator of numbers, the same at each run.
-#[derive(Drop)]
-struct Dice {
-    state: u32,
-}
-
 impl Dice {
-    fn roll(&mut self, sides: u32) -> u32
-        requires { 0 < sides }
-        ensures { result < sides }
-    {
-        self.state = self
-            .state
-            .wrapping_mul(1_664_525)
-            .wrapping_add(1_013_904_223);
-        (self.state >> 8) % sides
-    }
-
     // A number that was given, of the last ones more often, and at times one that was not.
     fn name(&mut self, numbers: u32) -> PatchNo {
         let back = match self.roll(32) {
@@ -83,6 +66,12 @@ struct Pair {
     graph: Checked,
     twin: Twin,
     blocks: u32,
+}
+
+impl Model for Pair {
+    ghost Value = { Unit {0} };
+
+    ghost view = { λ _. tt };
 }
 
 impl Pair {
@@ -207,6 +196,7 @@ impl Pair {
 
     // One random call.
     fn step(&mut self, rt: &impl Abort, dice: &mut Dice) {
+        let blocks = self.blocks;
         match dice.roll(40) {
             0..=10 => self.change(rt, dice),
             11 | 12 => self.empty(rt, dice),
@@ -220,7 +210,7 @@ impl Pair {
             24..=27 => self.group_after(rt, dice),
             28 => self.close_one(rt, dice),
             29..=36 => self.member(rt, dice),
-            37 | 38 => self.land(dice.block(self.blocks)),
+            37 | 38 => self.land(dice.block(blocks)),
             _ => self.forget(rt),
         }
     }

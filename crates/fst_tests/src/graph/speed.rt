@@ -1,11 +1,12 @@
 //! What large graphs take: seconds for a chain of changes on one block, a chain over 64 blocks, a fan behind a gate, pairs
 //! of which one change waits for one of another block, and two in which blocks hold one another back: a ring and a ladder.
 
-ghost use Rattle.std.specs.Prelude.{◌≡◌, ◌<◌};
+ghost use Rattle.std.specs.Prelude.{◌<◌};
 
 use fst_graph::Graph;
 use fst_types::{BlockNo, Fault, PatchNo, Shape, Span};
 use std::alloc::Global;
+use std::marker::Model;
 use std::rt::Clock;
 use std::test::Fail;
 use std::time::Instant;
@@ -24,7 +25,16 @@ const WRITES: u32 = 8;
 #[derive(Drop)]
 struct Wide {
     graph: Graph,
-    ghost wide: { graph.blocks ≡ 64 },
+}
+
+impl Model for Wide {
+    ghost use Rattle.std.specs.Prelude.{◌≡◌};
+
+    ghost Value = { Unit {0} };
+
+    ghost view = { λ _. tt };
+
+    ghost invariant = { λ w. w.graph.blocks ≡ 64 };
 }
 
 impl Wide {

@@ -103,6 +103,7 @@ pub fn walk_from(rt: &impl Abort, alloc: Global, numbers: u32, steps: &[Step]) {
     for step in steps {
         make(rt, &mut graph, *step);
     }
+    graph.end();
 }
 
 /// Takes each step of a row, over a new graph.

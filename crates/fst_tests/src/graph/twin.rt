@@ -9,6 +9,7 @@ use fst_types::{
     BlockNo, Fault, Grade, MAX_HEADS, MAX_NAMES, MAX_NUMBER, PatchNo, Place, Span, What,
 };
 use std::alloc::{AllocError, Global};
+use std::marker::Model;
 
 #[derive(Clone, Copy, Debug, PartialEq, Eq)]
 enum Kind {
@@ -76,6 +77,12 @@ pub struct Twin {
     groups: Vec<Group>,
     numbers: u32,
     blocks: u32,
+}
+
+impl Model for Twin {
+    ghost Value = { Unit {0} };
+
+    ghost view = { λ _. tt };
 }
 
 impl Twin {

@@ -1,6 +1,6 @@
-//! Each plain function once, on its happy path.
+//! Each plain function of the types once, on its happy path.
 
-use crate::{Fault, Items, Noted, PatchNo, Shape, What, Write, fold_over, write_over};
+use fst_types::{Fault, Items, Noted, PatchNo, Shape, What, Write, fold_over, write_over};
 use std::alloc::AllocError;
 use std::test::Fail;
 

@@ -1,8 +1,8 @@
 use Rattle.std.proofs.Common.{◌≤◌, length, subst, arith, below_more, refl}
 use Rattle.std.proofs.lemmas.List.{get_or_default}
 use Rattle.fst_types.specs.declared.number.PatchNo.{PatchNo}
-use Rattle.fst_block.specs.Tested.{IsKnown}
-use Rattle.fst_block.proofs.tests.are_known.Goals as goal
+use Rattle.fst_tests.specs.Tested.{IsKnown}
+use Rattle.fst_tests.proofs.block.choice.are_known.Goals as goal
 
 pub loop-no-preserved : goal.loop-no-preserved
 loop-no-preserved c = below_more _ _ c.loop-no.invariant (c.if-not-is_known.ensures refl)

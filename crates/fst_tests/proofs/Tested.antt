@@ -12,7 +12,7 @@ use Rattle.fst_types.specs.declared.number.PatchNo.{PatchNo}
 use Rattle.fst_types.specs.declared.grade.Grade.TheVariants as grade
 use Rattle.fst_types.proofs.Finite.{In, In-from_Contains, Contains-from_In, In-map, In-get_or}
 use Rattle.fst_block.specs.BlockView.{BlockPatch}
-use Rattle.fst_block.specs.Tested.{IsKnown, IsNamed, HasEarlier}
+use Rattle.fst_tests.specs.Tested.{IsKnown, IsNamed, HasEarlier}
 use Rattle.fst_block.specs.Choices.{is_chosen, others_of, numbers_of, ShareByte, IsChoice}
 
 module _ {X : Type 0} (f : X → ℕ) where

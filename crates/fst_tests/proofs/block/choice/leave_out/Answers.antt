@@ -1,8 +1,8 @@
 use Rattle.std.proofs.Common.{◌≡◌, List, get_or, subst, sym, arith}
 use Rattle.fst_block.specs.BlockView.{BlockPatch}
 use Rattle.fst_block.specs.Choices.{others_of}
-use Rattle.fst_block.proofs.Tested.{Leaves, leaves_one, passes_one}
-use Rattle.fst_block.proofs.tests.leave_out.Goals as goal
+use Rattle.fst_tests.proofs.Tested.{Leaves, leaves_one, passes_one}
+use Rattle.fst_tests.proofs.block.choice.leave_out.Goals as goal
 
 pub loop-at-preserved-then-is_named : goal.loop-at-preserved-then-is_named
 loop-at-preserved-then-is_named c =

@@ -1,7 +1,7 @@
 use Rattle.std.proofs.Common.{ℕ, ◌<◌, get_or}
 use Rattle.fst_types.specs.declared.number.PatchNo.{PatchNo}
-use Rattle.fst_block.specs.Tested.{IsKnown}
-use Rattle.fst_block.proofs.tests.are_known.Given as goal
+use Rattle.fst_tests.specs.Tested.{IsKnown}
+use Rattle.fst_tests.proofs.block.choice.are_known.Given as goal
 
 abbrev pub invariant-loop-no : goal.invariant-loop-no
 invariant-loop-no l =

@@ -1,0 +1,122 @@
+//! A block, and the list of its patches beside it. What a call asks of its caller is tested on the list, so the contracts
+//! here say nothing.
+
+ghost use Rattle.std.specs.Prelude.{◌≡◌};
+ghost use Rattle.fst_block.specs.Choices.{IsChoice};
+
+use crate::block::choice::{Change, is_choice, is_newest, leave_out};
+use crate::same::{same_bytes, same_sum};
+use fst_block::Block;
+use fst_types::{Grade, Noted, PatchNo, Span};
+use std::alloc::Global;
+use std::marker::Model;
+use std::process::Abort;
+use std::rt::Clock;
+use std::time::Instant;
+
+// Makes the image so many times.
+fn make_images(rt: &impl Abort, block: &mut Block, chosen: &[PatchNo], times: u32)
+    requires { IsChoice block.old.patches chosen.now }
+    ensures { block.new ≡ block.old }
+{
+    for _ in 0..times {
+        let image = block.image(chosen).expect(rt, "there is memory");
+        drop(image);
+    }
+}
+
+/// A block, and the list of its patches.
+#[derive(Drop)]
+pub struct Twin {
+    block: Block,
+    changes: Vec<Change>,
+}
+
+impl Model for Twin {
+    ghost use Rattle.std.specs.Prelude.{◌≡◌};
+
+    ghost Value = { Unit {0} };
+
+    ghost view = { λ _. tt };
+
+    ghost invariant = { λ t. t.block.patches ≡ t.changes.items };
+}
+
+impl Twin {
+    /// So many bytes of one value, and no patch.
+    pub fn load(rt: &impl Abort, alloc: Global, size: usize, fill: u8) -> Twin {
+        let bytes = vec![in alloc; fill; size].expect(rt, "there is memory");
+        Twin {
+            block: Block::load(alloc, bytes),
+            changes: Vec::new(alloc),
+        }
+    }
+
+    /// The patches, in order of number.
+    pub fn changes(&self) -> &[Change] {
+        &self.changes
+    }
+
+    /// Puts the bytes at this place, as the newest patch.
+    pub fn apply(&mut self, rt: &impl Abort, no: u32, at: u32, bytes: &[u8], grade: Grade) {
+        assert!(rt; bytes.len() <= 64);
+        assert!(rt; at as usize + bytes.len() <= self.block.bytes().len());
+        assert!(rt; is_newest(&self.changes, PatchNo(no)));
+        let no = PatchNo(no);
+        let span = Span {
+            at,
+            len: bytes.len() as u32,
+        };
+        let applied = self.block.apply(no, span, bytes, grade);
+        assert!(rt; applied.is_ok());
+        let change = Change {
+            no,
+            span,
+            grade,
+            bytes: Noted::of_bytes(bytes),
+        };
+        let kept = self.changes.push(change);
+        assert!(rt; kept.is_ok());
+    }
+
+    /// The image of these patches alone.
+    pub fn image(&mut self, rt: &impl Abort, chosen: &[PatchNo]) -> Vec<u8> {
+        assert!(rt; is_choice(&self.changes, chosen));
+        self.block.image(chosen).expect(rt, "there is memory")
+    }
+
+    /// How many microseconds so many images of these patches take.
+    pub fn time_of_images(
+        &mut self,
+        rt: &(impl Abort + Clock),
+        chosen: &[PatchNo],
+        times: u32,
+    ) -> u128 {
+        assert!(rt; is_choice(&self.changes, chosen));
+        let start = Instant::now(rt).expect(rt, "a clock");
+        make_images(rt, &mut self.block, chosen, times);
+        start.elapsed(rt).expect(rt, "a clock").as_micros()
+    }
+
+    /// Takes these patches out.
+    pub fn launch(&mut self, rt: &impl Abort, chosen: &[PatchNo]) {
+        assert!(rt; is_choice(&self.changes, chosen));
+        self.block.launch(chosen);
+        leave_out(&mut self.changes, chosen);
+    }
+
+    /// The bytes as they stand.
+    pub fn has(&self, rt: &impl Abort, expected: &[u8]) {
+        same_bytes(rt, self.block.bytes(), expected);
+    }
+
+    /// How many undo bytes there are.
+    pub fn keeps(&self, rt: &impl Abort, expected: u64) {
+        same_sum(rt, self.block.undo_bytes(), expected);
+    }
+
+    /// Whether there is no patch.
+    pub fn is_clean(&self, rt: &impl Abort, expected: bool) {
+        assert!(rt; self.block.is_clean() == expected);
+    }
+}
