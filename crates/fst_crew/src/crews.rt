@@ -1,7 +1,9 @@
 //! A run of a crew, from its slots to what it prints.
 
-ghost use Rattle.std.specs.Prelude.{◌≡◌, ◌*◌, ◌⊎◌, ℕ, List, IfOk, IfErr, OnOk, length, sum_by};
+ghost use Rattle.std.specs.Prelude.{◌≡◌, ◌*◌, ◌⊎◌, ℕ, List, IfOk, IfErr, OnOk, length, map, sum_by};
 ghost use Rattle.std.specs.Io.KnownBytes.{Appends};
+ghost use Rattle.std.specs.List.{range_with_len};
+ghost use Rattle.fst_types.specs.Bytes.{bytes_of};
 ghost use Rattle.fst_crew.specs.Crewing.{told};
 ghost use Rattle.fst_types.specs.declared.fault.Fault.{Fault};
 ghost use Rattle.fst_pairs.specs.Desking.{IsCloseRefused};
@@ -66,6 +68,23 @@ fn worked<S: BlockSlot + Send, R: Threads + Wait + Sync>(
     closed(shop.into_desk(), shares)
 }
 
+// Prints what a closed desk left. The totals stay with the caller: what holds them drops the cache at each way out.
+fn tell<S: BlockSlot, W: Write>(
+    alloc: Global,
+    totals: &mut Totals<S>,
+    writer: &mut W,
+) -> Result<(), CrewFault>
+    ensures made { OnOk result (Appends (W.contents writer.old) (W.contents writer.new)
+        (told totals.old.made (map (bytes_of totals.old.cache.state) (range_with_len 0 8)))) }
+    ensures silent { IfErr result (λ fault. (fault ≡ CrewFault.Write) ⊎ (W.contents writer.new ≡ W.contents writer.old)) }
+{
+    let text = report(alloc, totals.made, &mut totals.cache)?;
+    match writer.write_all(text.as_bytes()) {
+        Ok(()) => Ok(()),
+        Err(_) => Err(CrewFault::Write),
+    }
+}
+
 /// Runs file threads and workers over one desk and these slots, 8 of 8 bytes, until nothing is live. It then prints
 /// `made N`, how many changes were made, and a line `block B HEX` for each block.
 ///
@@ -103,9 +122,5 @@ pub fn crew_on<S: BlockSlot + Send, R: Threads + Wait + Sync, W: Write>(
     ensures silent { IfErr result (λ fault. (fault ≡ CrewFault.Write) ⊎ (W.contents writer.new ≡ W.contents writer.old)) }
 {
     let mut totals = worked(rt, alloc, slots, plan, stacks)?;
-    let text = report(alloc, totals.made, &mut totals.cache)?;
-    match writer.write_all(text.as_bytes()) {
-        Ok(()) => Ok(()),
-        Err(_) => Err(CrewFault::Write),
-    }
+    tell(alloc, &mut totals, writer)
 }

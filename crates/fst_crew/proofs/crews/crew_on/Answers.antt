@@ -1,13 +1,16 @@
-use Rattle.std.proofs.Common.{map, refl, ap, subst, ◌∙◌}
+use Rattle.std.proofs.Common.{Result, Ok, Err, List, ℕ, ◌≡◌, ◌*◌, map, length, refl, subst}
+use Rattle.std.specs.Prelude.{OnOk, Option}
 use Rattle.std.specs.Io.KnownBytes.{Appends}
 use Rattle.std.specs.List.{range_with_len}
 use Rattle.fst_types.specs.Bytes.{bytes_of}
 use Rattle.fst_crew.specs.Crewing.{told}
 use Rattle.fst_crew.proofs.crews.crew_on.Goals as goal
 
--- the blocks are what the cache shows of them, and the text that is written tells them
-pub returns-in-Ok-clause-made : goal.returns-in-Ok-clause-made
-returns-in-Ok-clause-made g c =
-    let blocks = map (bytes_of c.in_ok-totals.totals.cache.state) (range_with_len 0 8) in
-    let text = c.as_bytes.ensures.value ∙ (c.in_ok-text.ensures ∙ ap (λ n. told n blocks) c.in_ok-totals.ensures) in
-    (blocks, refl, subst (λ bytes. Appends (g.W.Write.contents c.args.writer.now) (g.W.Write.contents c.write_all.new.self) bytes) text c.in-Ok.ensures.bytes)
+-- the blocks are what the cache shows of them, and as many changes were made as were planned
+blocks_told : {T E : Type 0} (r : Result T E) (a b : Option (List ℕ)) (made planned : ℕ) (blocks : List (List ℕ))
+    → made ≡ planned → length blocks ≡ 8 → OnOk r (Appends a b (told made blocks)) → OnOk r ((shown : List (List ℕ)) × (length shown ≡ 8) × Appends a b (told planned shown))
+blocks_told (Ok u) a b made planned blocks same eight sent = (blocks, eight, subst (λ n. Appends a b (told n blocks)) same sent)
+blocks_told (Err e) a b made planned blocks same eight sent = sent
+
+pub returns-clause-made : goal.returns-clause-made
+returns-clause-made g c = blocks_told c.tell.result _ _ _ _ (map (bytes_of c.in_ok-totals.totals.cache.state) (range_with_len 0 8)) c.in_ok-totals.ensures refl c.tell.ensures.made
