@@ -59,15 +59,6 @@ module _ (numbers : ℕ) (p : Stored) (b : ℕ) (span : Span) (after : List Patc
       let len : p.span.len ≡ span.len = ap (λ q. q.len) same in
       (ap (λ q. q.block) same, same_span p.span span at len, same_names p.names.items after (ap (λ q. q.after) same), no_gates p.gates (ap (λ q. q.group) same))
 
--- what is prepared for no group is ready as it is
-pub ready_alone : (numbers : ℕ) (o : Option Stored) (p : Stored) (q : Prepared) (heads : List Patch) (n blocks : ℕ) → o ≡ Some p → option_map (prepared_of numbers) o ≡ Some q → q.group ≡ None → MayBePut heads n blocks p → IsReady heads n blocks p
-ready_alone numbers o p q heads n blocks kept seen alone ready =
-    let same : prepared_of numbers p ≡ q = some_same (prepared_of numbers p) q (sym (ap (option_map (prepared_of numbers)) kept) ∙ seen) in
-    subst (λ g. IsReadyFor g heads n blocks p) (no_gates p.gates (ap (λ x. x.group) same ∙ alone)) ready
-  where
-    some_same : (x y : Prepared) → Some x ≡ Some y → x ≡ y
-    some_same x y e = cc
-
 -- what was found for a change, as the heads were read
 pub ready_found : {heads seen read : List Head} {numbers blocks b : ℕ} {marks : List Bool} {names : List PatchNo} {span : Span} → Keeps (patches_of heads) numbers blocks marks → (p : Stored) → p.names.items ≡ names → p.block ≡ b → p.span ≡ span → b < blocks → seen ≡ heads → NoneHolds (make_order (patches_of seen) numbers (numbers_of names)) → read ≡ heads → IsSparseRow (patches_of read) (numbers_of names) b span.at span.len p.dependencies.items
     → FollowsRule p.grade (MayBeHard (patches_of read) None b p.dependencies.items) → IsReady (patches_of heads) numbers blocks p

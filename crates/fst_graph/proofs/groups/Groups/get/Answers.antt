@@ -1,10 +1,21 @@
-use Rattle.std.proofs.Common.{subst, arith}
-use Rattle.fst_graph.specs.Gathered.{group_of, HasGroupSlot, HasNoGroup}
+use Rattle.std.proofs.Common.{subst, sym, arith}
+use Rattle.fst_graph.specs.Gathered.{group_of, HasGroupSlot, HasNoGroup, IsToldBegun}
 use Rattle.fst_graph.proofs.Gathering.{no_group, only_group, slot_group}
 use Rattle.fst_graph.proofs.groups.Groups.get.Goals as goal
 
 pub returns-in-None-clause-none : goal.returns-in-None-clause-none
 returns-in-None-clause-none c = rw (← c.self.view_is) (no_group c.self.inside.items.items c.args.number (subst (λ gs. HasNoGroup gs c.args.number) c.deref.ensures.value c.in-None.ensures.none))
+
+pub returns-in-Some-clause-some : goal.returns-in-Some-clause-some
+returns-in-Some-clause-some c =
+    let gs = c.self.inside.items.items in
+    let slot = subst (λ hs. HasGroupSlot hs c.args.number c.in-Some.slot) c.deref.ensures.value c.in-Some.ensures.found in
+    rw (← c.self.view_is) (slot_group gs c.args.number c.in-Some.slot c.index.result.now slot c.index.ensures)
+
+pub returns-in-Some-clause-begun : goal.returns-in-Some-clause-begun
+returns-in-Some-clause-begun c =
+    let slot = subst (λ hs. HasGroupSlot hs c.args.number c.in-Some.slot) c.deref.ensures.value c.in-Some.ensures.found in
+    subst IsToldBegun (sym c.index.ensures) (c.self.invariant.begun c.in-Some.slot c.index.result.now slot.0)
 
 pub returns-in-Some-clause-only : goal.returns-in-Some-clause-only
 returns-in-Some-clause-only c =

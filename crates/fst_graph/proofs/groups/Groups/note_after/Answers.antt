@@ -1,7 +1,18 @@
-use Rattle.std.proofs.Common.{◌++◌, ◌∷◌, [], ◌∙◌, ap, subst}
-use Rattle.fst_graph.specs.{Gathered.{group_of, HasGroupSlot, HasNoGroup}, declared.group.Group.Group as Kept}
-use Rattle.fst_graph.proofs.Gathering.{heads_rise, with_none, with_slot}
+use Rattle.std.proofs.{Common.{◌++◌, ◌∷◌, [], ◌∙◌, ◌<◌, ap, subst, refl}, lemmas.List.Elements.All-set}
+use Rattle.fst_graph.specs.{Gathered.{group_of, HasGroupSlot, HasNoGroup, IsToldBegun}, declared.group.Group.Group as Kept}
+use Rattle.fst_graph.proofs.Gathering.{apart_set, heads_rise, with_none, with_slot}
 use Rattle.fst_graph.proofs.groups.Groups.note_after.Goals as goal
+
+pub invariant_of-self : goal.invariant_of-self
+invariant_of-self c =
+    let gs = c.self.inside.items.items in
+    let own = c.index_mut-group.result.now in
+    let slot = subst (λ hs. HasGroupSlot hs c.args.group c.in-Some.slot) c.deref.ensures.value c.in-Some.ensures.found in
+    record {
+      apart = apart_set gs c.in-Some.slot _ own c.index_mut-group.ensures.value refl c.self.invariant.apart;
+      begun = All-set IsToldBegun gs c.in-Some.slot _ (rw c.index_mut-group.ensures.value (c.self.invariant.begun c.in-Some.slot own slot.0)) c.self.invariant.begun;
+      narrow = All-set (λ (g : Kept). g.head < 4294967295) gs c.in-Some.slot _ (rw c.index_mut-group.ensures.value (c.self.invariant.narrow c.in-Some.slot own slot.0)) c.self.invariant.narrow;
+    }
 
 pub returns-in-Some : goal.returns-in-Some
 returns-in-Some c =
