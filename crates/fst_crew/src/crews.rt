@@ -23,7 +23,7 @@ use crate::fault::CrewFault;
 use crate::plan::{CREW_BLOCKS, Crew};
 use fst_cache::{Cache, Share};
 use fst_device::BlockSlot;
-use fst_pairs::{Desk, Totals};
+use fst_pairs::{Desk, Totals, Worker};
 use fst_types::Shape;
 use std::alloc::Global;
 use std::io::Write;
@@ -41,6 +41,25 @@ pub fn closed<S: BlockSlot>(desk: Desk<S>, shares: Vec<Share>) -> Result<Totals<
     }
 }
 
+// A desk over these slots, and its workers.
+fn opened<S: BlockSlot>(
+    alloc: Global,
+    slots: Vec<S>,
+    workers: u32,
+) -> Result<(Desk<S>, Vec<Worker<S>>), CrewFault> {
+    let Ok(shape) = Shape::new(CREW_BLOCKS, CREW_BLOCKS, CREW_BLOCKS) else {
+        unreachable!()
+    };
+    let cache = match Cache::open(alloc, shape, slots) {
+        Ok(cache) => cache,
+        Err((_, fault)) => return Err(CrewFault::Cache(fault)),
+    };
+    match Desk::open(alloc, cache, workers) {
+        Ok(ends) => Ok(ends),
+        Err((_, fault)) => Err(CrewFault::Cache(fault)),
+    }
+}
+
 // Runs all threads over one desk, and closes it.
 fn worked<S: BlockSlot + Send, R: Threads + Wait + Sync>(
     rt: &R,
@@ -51,17 +70,7 @@ fn worked<S: BlockSlot + Send, R: Threads + Wait + Sync>(
 ) -> Result<Totals<S>, CrewFault>
     ensures { IfOk result (λ totals. totals.made ≡ plan.files * plan.rounds) }
 {
-    let Ok(shape) = Shape::new(CREW_BLOCKS, CREW_BLOCKS, CREW_BLOCKS) else {
-        unreachable!()
-    };
-    let cache = match Cache::open(alloc, shape, slots) {
-        Ok(cache) => cache,
-        Err((_, fault)) => return Err(CrewFault::Cache(fault)),
-    };
-    let (desk, workers) = match Desk::open(alloc, cache, plan.workers) {
-        Ok(ends) => ends,
-        Err((_, fault)) => return Err(CrewFault::Cache(fault)),
-    };
+    let (desk, workers) = opened(alloc, slots, plan.workers)?;
     let shop = Shop::new(desk, stacks);
     let ended = in_scope(rt, alloc, &shop, workers, plan);
     let shares = ended?;
