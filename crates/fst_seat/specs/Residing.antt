@@ -7,6 +7,14 @@ use Rattle.fst_seat.specs.Seats.{SeatView, is_dirty_seat}
 abbrev pub count_loaded : List SeatView → ℕ
 count_loaded seats = count_by (λ seat. is_some seat.loaded) seats
 
+-- one of the blocks is not in memory, and no write of it is out
+pub record HasOneAway (seats : List SeatView) : Type 0 where
+  pub block : ℕ
+  pub seat : SeatView
+  pub at : slice_get seats block ≡ Some seat
+  pub away : seat.loaded ≡ None
+  pub rest : seat.block.flight ≡ None
+
 -- the block is in memory and has no change that is not on disk
 pub record IsCleanLoaded (seat : SeatView) : Type 0 where
   pub there : IsSome seat.loaded

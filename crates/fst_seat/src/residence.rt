@@ -1,12 +1,12 @@
 //! Which blocks are in memory: at most as many as the shape says, and those with a change that is not on disk always.
 //! A block that comes into memory takes a free place, or that of the first block that has no such change.
 
-ghost use Rattle.std.specs.Prelude.{◌≡◌, ◌⊎◌, ◌<◌, ◌≤◌, ◌+◌, ℕ, true, All, None, Some, IfSome, IsErr, IsErrOf, OnOk, MatchOption, length, count_by, map, slice_get};
+ghost use Rattle.std.specs.Prelude.{◌≡◌, ◌⊎◌, ◌<◌, ◌≤◌, ◌+◌, nat_lt, ℕ, true, All, None, Some, IfSome, IsErr, IsErrOf, OnOk, MatchOption, length, count_by, map, slice_get};
 ghost use Rattle.fst_types.specs.declared.fault.Fault.{Fault};
 ghost use Rattle.fst_types.specs.Residence.{faults_rose};
 ghost use Rattle.fst_seat.specs.Seats.{SeatView, is_dirty_seat};
 ghost use Rattle.fst_seat.specs.Faults.{IsOneFaultMore};
-ghost use Rattle.fst_seat.specs.Residing.{count_loaded, IsCleanLoaded, IsLeastClean, MakesPlace, Loads, MayLoad, Puts, IsLoadedAt, IsAtRestWhereAway};
+ghost use Rattle.fst_seat.specs.Residing.{count_loaded, HasOneAway, IsCleanLoaded, IsLeastClean, MakesPlace, Loads, MayLoad, Puts, IsLoadedAt, IsAtRestWhereAway};
 
 use crate::seat::Seat;
 use fst_device::BlockSlot;
@@ -14,7 +14,7 @@ use fst_types::{BlockNo, Fault, Grade, PatchNo, Span};
 use std::alloc::Global;
 
 /// How many blocks have a change in memory or in flight.
-pub fn dirty<S: BlockSlot>(seats: &[Seat<S>]) -> usize
+fn dirty<S: BlockSlot>(seats: &[Seat<S>]) -> usize
     ensures { result ≡ count_by is_dirty_seat seats.now }
 {
     seats.iter().filter(|seat| seat.is_dirty()).count()
@@ -25,6 +25,28 @@ fn loaded<S: BlockSlot>(seats: &[Seat<S>]) -> usize
     ensures { result ≡ count_loaded seats.now }
 {
     seats.iter().filter(|seat| seat.is_loaded()).count()
+}
+
+/// Whether there is a free place in memory, where one block is not there. With a place for each block none is counted.
+fn has_place<S: BlockSlot>(seats: &[Seat<S>], resident: u32) -> bool
+    requires { HasOneAway seats.now }
+    ensures { result ≡ nat_lt (count_loaded seats.now) resident }
+{
+    if seats.len() <= resident as usize {
+        return true;
+    }
+    loaded(seats) < resident as usize
+}
+
+/// Whether one more block may become dirty, where this one is not in memory. With a place for each block none is counted.
+pub fn has_room<S: BlockSlot>(seats: &[Seat<S>], resident: u32) -> bool
+    requires { HasOneAway seats.now }
+    ensures { result ≡ nat_lt (count_by is_dirty_seat seats.now) resident }
+{
+    if seats.len() <= resident as usize {
+        return true;
+    }
+    dirty(seats) < resident as usize
 }
 
 /// The first block that is in memory and not dirty.
@@ -44,10 +66,11 @@ fn least_clean<S: BlockSlot>(seats: &[Seat<S>]) -> Option<usize>
 
 /// Makes a place in memory for one more block, where some are not dirty.
 fn make_place<S: BlockSlot>(seats: &mut [Seat<S>], resident: u32)
-    requires { count_by is_dirty_seat seats.old < resident }
+    requires away { HasOneAway seats.old }
+    requires room { count_by is_dirty_seat seats.old < resident }
     ensures { MakesPlace resident seats.old seats.new }
 {
-    if loaded(seats) < resident as usize {
+    if has_place(seats, resident) {
         return;
     }
     let Some(at) = least_clean(seats) else {

@@ -1,6 +1,6 @@
 use Rattle.std.proofs.Common.{◌<◌, ◌∙◌, length, sym, inr, arith}
 use Rattle.std.proofs.lemmas.Result.{on_ok_weaker}
-use Rattle.fst_seat.proofs.Loading.{rest_placed, length_placed, seat_read, loads_by, there_by, rose_by, quiet_by, counted_by}
+use Rattle.fst_seat.proofs.Loading.{none_of, rest_placed, length_placed, seat_read, loads_by, there_by, rose_by, quiet_by, counted_by}
 use Rattle.fst_seat.proofs.residence.load.Goals as goal
 
 pub load-requires : goal.load-requires
@@ -57,3 +57,14 @@ returns-clause-no_fault g c =
     let lt : c.args.block.0 < length placed = omega (arith, length_placed _ _ _ c.make_place.ensures, c.requires.within) in
     let at_b = seat_read placed c.args.block.0 c.index-seats-block-2.result lt in
     λ fine. quiet_by c.args.resident c.args.seats.now placed c.make_place.ensures c.args.block.0 _ was (sym c.is_loaded.ensures ∙ c.if-is_loaded.false) _ at_b c.load.new.self (c.load.ensures.no_fault fine)
+
+pub make_place-requires-clause-away : goal.make_place-requires-clause-away
+make_place-requires-clause-away g c =
+    let was = seat_read c.args.seats.now c.args.block.0 c.index-seats-block.result c.requires.within in
+    let away = none_of _ (sym c.is_loaded.ensures ∙ c.if-is_loaded.false) in
+    record { block = c.args.block.0; seat = _; at = was; away = away; rest = c.requires.rest c.args.block.0 _ was away }
+
+pub make_place-requires-clause-room : goal.make_place-requires-clause-room
+make_place-requires-clause-room g c =
+    let was = seat_read c.args.seats.now c.args.block.0 c.index-seats-block.result c.requires.within in
+    c.requires.room _ was (none_of _ (sym c.is_loaded.ensures ∙ c.if-is_loaded.false))
