@@ -1,4 +1,4 @@
-use Rattle.std.proofs.Common.{◌≤◌, ◌∙◌, sym, arith}
+use Rattle.std.proofs.Common.{◌∙◌, sym, arith}
 use Rattle.std.proofs.lemmas.Bool.{ltb-false}
 use Rattle.fst_seat.specs.Seats.{SeatView}
 use Rattle.fst_seat.specs.Residing.{count_loaded, IsLeastClean}
