@@ -14,3 +14,5 @@ mod program;
 mod same;
 #[cfg(test)]
 mod slots;
+#[cfg(test)]
+mod store;

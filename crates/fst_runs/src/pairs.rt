@@ -1,14 +1,14 @@
 //! A desk and its workers on one thread: who gets a job, and rings that are full.
 
 mod calls;
-mod checked;
+pub mod checked;
 mod closing;
 mod failing;
 mod strange;
 
 use crate::pairs::checked::Checked;
-use crate::slots::{over, zero_slots};
-use fst_cache::{Cache, Share};
+use crate::store::Store;
+use fst_cache::Share;
 use fst_device::{BlockSlot, MemorySlot};
 use fst_pairs::{Desk, Step, Worker};
 use fst_types::{BlockNo, Ticket};
@@ -16,20 +16,25 @@ use std::alloc::{Allocator, Global};
 use std::process::Abort;
 
 // A cache of so many blocks of four zeros.
-fn zeros(rt: &impl Abort, alloc: Global, blocks: u32) -> Cache<MemorySlot> {
-    over(rt, alloc, zero_slots(rt, alloc, blocks, 4), blocks, 4)
+fn zeros(rt: &impl Abort, alloc: Global, blocks: u32) -> Store<MemorySlot> {
+    Store::zeros(rt, alloc, blocks, 4)
 }
 
 // A desk over this cache, and its workers.
 pub fn opened<S: BlockSlot>(
     rt: &impl Abort,
     alloc: Global,
-    cache: Cache<S>,
+    store: Store<S>,
     workers: u32,
 ) -> (Desk<S>, Vec<Worker<S>>) {
-    Desk::open(alloc, cache, workers)
+    Desk::open(alloc, store.into_cache(), workers)
         .ok()
         .expect(rt, "the desk opens")
+}
+
+// A desk opens over this cache. It is let go of here, and not in each test.
+fn opens<S: BlockSlot>(rt: &impl Abort, alloc: Global, store: Store<S>, workers: u32) {
+    opened(rt, alloc, store, workers);
 }
 
 // The last of these workers.
@@ -103,6 +108,7 @@ fn held_completion(rt: HostRuntime) {
     desk.submits(&rt, Some(17));
     desk.collects(&rt, 8);
     desk.steps(&rt, Step::Wrote(Ticket(9)));
+    desk.end();
 }
 
 // Two workers make the writes of three tickets, and the desk takes them in.
@@ -125,8 +131,8 @@ fn share_three<S: BlockSlot>(
 // The second worker gets the second job, and the first the third.
 #[test]
 fn jobs_go_to_the_roomiest(rt: HostRuntime) {
-    let cache = zeros(&rt, rt.alloc(), 3);
-    let (mut desk, mut workers) = opened(&rt, rt.alloc(), cache, 2);
+    let store = zeros(&rt, rt.alloc(), 3);
+    let (mut desk, mut workers) = opened(&rt, rt.alloc(), store, 2);
     let mut second = last(&rt, &mut workers);
     let mut first = last(&rt, &mut workers);
     share_three(&rt, &mut desk, &mut first, &mut second);

@@ -1,13 +1,14 @@
 //! What stops a crew: a thread that cannot be made, a stray, a desk that cannot be closed, refused memory.
 
 use crate::crew::{Ended, ROW, is_cache_fault, is_refused, is_silent, plan_of, prints, ran, room};
-use crate::pairs::{only, opened, patch_all, submits};
+use crate::pairs::checked::Checked;
+use crate::pairs::only;
 use crate::same::same_answer;
-use crate::slots::{first_job, over, zero_slots};
-use fst_cache::{Cache, Share};
+use crate::slots::zero_slots;
+use crate::store::Store;
 use fst_crew::{CrewFault, Stacks, closed, crew_on, without_stray};
 use fst_device::{Done, MemorySlot, carry};
-use fst_pairs::{Collected, Desk, Worker};
+use fst_pairs::Collected;
 use fst_types::Fault;
 use std::alloc::Global;
 use std::process::Abort;
@@ -76,38 +77,50 @@ fn small_stacks(rt: HostRuntime) {
 }
 
 // A cache of eight blocks of eight zeros.
-fn zeros(rt: &impl Abort, alloc: Global) -> Cache<MemorySlot> {
-    over(rt, alloc, zero_slots(rt, alloc, 8, 8), 8, 8)
+fn zeros(rt: &impl Abort, alloc: Global) -> Store<MemorySlot> {
+    Store::zeros(rt, alloc, 8, 8)
 }
 
-// A desk over zeros with a change of its first block, its worker, and the share of whoever made the change.
-type Changed = (Desk<MemorySlot>, Vec<Worker<MemorySlot>>, Share);
-
-fn changed(rt: &impl Abort, alloc: Global) -> Changed {
-    let (mut desk, workers) = opened(rt, alloc, zeros(rt, alloc), 1);
-    let mut share = desk.share();
-    patch_all(rt, &mut desk, &mut share, 1);
-    (desk, workers, share)
+// A desk over zeros with a change of its first block.
+fn changed(rt: &impl Abort, alloc: Global) -> Checked<MemorySlot> {
+    let mut checked = Checked::open(rt, alloc, zeros(rt, alloc));
+    checked.patch_all(rt, 1);
+    checked
 }
 
-// The desk is not closed with these shares.
-fn stays_open(rt: &impl Abort, desk: Desk<MemorySlot>, shares: Vec<Share>, expected: Fault) {
+// The desk is not closed with its share, or without, for this reason.
+fn stays_open(
+    rt: &impl Abort,
+    alloc: Global,
+    checked: Checked<MemorySlot>,
+    is_shared: bool,
+    expected: Fault,
+) {
+    let Checked {
+        desk,
+        worker: _worker,
+        share,
+    } = checked;
+    let mut shares = only(rt, alloc, share);
+    if !is_shared {
+        shares.clear();
+    }
     is_cache_fault(rt, &closed(desk, shares).err(), expected);
 }
 
 // A write that is out.
 #[test]
 fn busy_at_close(rt: HostRuntime) {
-    let (mut desk, _workers, share) = changed(&rt, rt.alloc());
-    submits(&rt, &mut desk, Some(1));
-    stays_open(&rt, desk, only(&rt, rt.alloc(), share), Fault::Busy);
+    let mut checked = changed(&rt, rt.alloc());
+    checked.submits(&rt, Some(1));
+    stays_open(&rt, rt.alloc(), checked, true, Fault::Busy);
 }
 
 // A share that is missing.
 #[test]
 fn stranger_at_close(rt: HostRuntime) {
-    let (desk, _workers, _share) = changed(&rt, rt.alloc());
-    stays_open(&rt, desk, Vec::new(rt.alloc()), Fault::Stranger);
+    let checked = changed(&rt, rt.alloc());
+    stays_open(&rt, rt.alloc(), checked, false, Fault::Stranger);
 }
 
 // What a thread makes of two writes that were settled, and of this stray.
@@ -119,8 +132,9 @@ fn meets(rt: &impl Abort, stray: Option<Done<MemorySlot>>, expected: Result<(), 
 // No completion of a crew's own is a stray, so one is put where `collect` hands it out.
 #[test]
 fn stray_stops_a_thread(rt: HostRuntime) {
-    let mut cache = zeros(&rt, rt.alloc());
-    let job = first_job(&rt, &mut cache, b"A");
+    let mut store = zeros(&rt, rt.alloc());
+    let job = store.first_job(&rt, b"A");
+    store.end();
     meets(&rt, Some(carry(job)), Err(Fault::Stranger));
     meets(&rt, None, Ok(()));
 }

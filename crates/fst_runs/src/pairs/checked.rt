@@ -1,12 +1,14 @@
-//! A desk with one worker, each call of which is compared with the answer that the test names. The contracts here say
-//! nothing, so that a long test carries no facts from call to call.
+//! A desk with one worker, each call of which is compared with the answer that the test names. Contracts see nothing of it,
+//! so that a long test carries no facts from call to call.
 
 use crate::pairs::{collects, last, only, opened, patch_all, steps, submits, submits_each};
-use fst_cache::{Cache, Share};
+use crate::store::Store;
+use fst_cache::Share;
 use fst_device::BlockSlot;
 use fst_pairs::{Desk, Step, Totals, Worker};
 use fst_types::{BlockNo, Fault, Ticket};
 use std::alloc::Global;
+use std::marker::Model;
 use std::process::Abort;
 
 /// A desk, its worker, and the share of the one thread that makes its patches.
@@ -15,6 +17,12 @@ pub struct Checked<S: BlockSlot> {
     pub desk: Desk<S>,
     pub worker: Worker<S>,
     pub share: Share,
+}
+
+impl<S: BlockSlot> Model for Checked<S> {
+    ghost Value = { Unit {0} };
+
+    ghost view = { λ _. tt };
 }
 
 // What was made, sent and landed, and what stalled or was lost.
@@ -32,8 +40,8 @@ fn closed<S: BlockSlot>(rt: &impl Abort, alloc: Global, desk: Desk<S>, share: Sh
 
 impl<S: BlockSlot> Checked<S> {
     /// Over this cache.
-    pub fn open(rt: &impl Abort, alloc: Global, cache: Cache<S>) -> Checked<S> {
-        let (mut desk, mut workers) = opened(rt, alloc, cache, 1);
+    pub fn open(rt: &impl Abort, alloc: Global, store: Store<S>) -> Checked<S> {
+        let (mut desk, mut workers) = opened(rt, alloc, store, 1);
         let worker = last(rt, &mut workers);
         let share = desk.share();
         Checked {
@@ -42,6 +50,9 @@ impl<S: BlockSlot> Checked<S> {
             share,
         }
     }
+
+    /// Lets go of it. What that takes is proved here, and not in each test.
+    pub fn end(self) {}
 
     /// A change of the first byte of each of the first blocks.
     pub fn patch_all(&mut self, rt: &impl Abort, blocks: u32) {
@@ -110,7 +121,7 @@ impl<S: BlockSlot> Checked<S> {
         rt: &impl Abort,
         alloc: Global,
         expected: (u64, u64, u64, u64),
-    ) -> Cache<S> {
+    ) -> Store<S> {
         let Checked {
             desk,
             worker: _,
@@ -118,6 +129,6 @@ impl<S: BlockSlot> Checked<S> {
         } = self;
         let totals = closed(rt, alloc, desk, share);
         counts(rt, &totals, expected);
-        totals.cache
+        Store::new(totals.cache)
     }
 }

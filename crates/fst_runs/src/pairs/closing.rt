@@ -1,20 +1,16 @@
 //! What opening and closing a desk ask.
 
 use crate::pairs::checked::Checked;
-use crate::pairs::{collects, only, opened, submits, with_one, zeros};
-use crate::slots::{change, first_job};
-use fst_cache::{Cache, Share, Stat};
-use fst_device::{BlockSlot, Job, MemorySlot, carry};
-use fst_pairs::{Desk, Step};
+use crate::pairs::{collects, only, opens, submits, with_one, zeros};
+use crate::store::Store;
+use fst_cache::Share;
+use fst_device::MemorySlot;
+use fst_pairs::{Desk, Step, Worker};
 use fst_types::{Fault, Ticket};
 use linked_list_allocator::LocalHeap;
 use std::alloc::Global;
+use std::marker::Model;
 use std::process::Abort;
-
-// The cache counts so many live patches.
-fn has_live(rt: &impl Abort, cache: &Cache<MemorySlot>, expected: u32) {
-    assert_eq!(rt; cache.stat().live, expected);
-}
 
 // What was made, sent and landed.
 #[test]
@@ -25,32 +21,70 @@ fn closing_adds_up(rt: HostRuntime) {
         desk.submits(&rt, Some(ticket));
         desk.write_one(&rt, ticket);
     }
-    let cache = desk.closes(&rt, rt.alloc(), (2, 2, 2, 0));
-    has_live(&rt, &cache, 0);
+    let store = desk.closes(&rt, rt.alloc(), (2, 2, 2, 0));
+    store.has_live(&rt, 0);
+    store.end();
 }
 
-// A desk that does not close, and its shares, come back.
-fn refuses<S: BlockSlot>(
-    rt: &impl Abort,
-    desk: Desk<S>,
+// A desk, and the shares with which it is closed. Contracts see nothing of it.
+#[derive(Drop)]
+struct Shared {
+    desk: Desk<MemorySlot>,
     shares: Vec<Share>,
-    expected: Fault,
-) -> (Desk<S>, Vec<Share>) {
-    let refused = desk
-        .close(shares)
-        .err()
-        .expect(rt, "the desk does not close");
-    assert!(rt; refused.fault == expected);
-    (refused.desk, refused.shares)
 }
 
-// A desk closes with these shares.
-fn closes<S: BlockSlot>(rt: &impl Abort, desk: Desk<S>, shares: Vec<Share>) {
-    desk.close(shares).ok().expect(rt, "the desk closes");
+impl Model for Shared {
+    ghost Value = { Unit {0} };
+
+    ghost view = { λ _. tt };
+}
+
+impl Shared {
+    // It is not closed, for this reason, and comes back with its shares.
+    fn refuses(self, rt: &impl Abort, expected: Fault) -> Shared {
+        let refused = self
+            .desk
+            .close(self.shares)
+            .err()
+            .expect(rt, "the desk does not close");
+        assert!(rt; refused.fault == expected);
+        Shared {
+            desk: refused.desk,
+            shares: refused.shares,
+        }
+    }
+
+    // It is not closed with these shares in place of its own, for this reason, and comes back.
+    fn refuses_with(self, rt: &impl Abort, shares: Vec<Share>, expected: Fault) -> Shared {
+        let Shared { desk, shares: own } = self;
+        let refused = Shared { desk, shares }.refuses(rt, expected);
+        Shared {
+            desk: refused.desk,
+            shares: own,
+        }
+    }
+
+    // It is closed.
+    fn closes(self, rt: &impl Abort) {
+        self.desk
+            .close(self.shares)
+            .ok()
+            .expect(rt, "the desk closes");
+    }
+
+    // How many shares there are.
+    fn has_shares(&self, rt: &impl Abort, expected: usize) {
+        assert_eq!(rt; self.shares.len(), expected);
+    }
+
+    // It takes in so many completions, and no stray.
+    fn collects(&mut self, rt: &impl Abort, settled: u32) {
+        collects(rt, &mut self.desk, settled);
+    }
 }
 
 // A desk whose write was sent and made, but not collected, and its share.
-fn not_collected(rt: &impl Abort, alloc: Global) -> (Desk<MemorySlot>, Share) {
+fn not_collected(rt: &impl Abort, alloc: Global) -> Shared {
     let mut checked = with_one(rt, alloc, 1);
     checked.patch_all(rt, 1);
     checked.submits(rt, Some(1));
@@ -60,64 +94,53 @@ fn not_collected(rt: &impl Abort, alloc: Global) -> (Desk<MemorySlot>, Share) {
         worker: _,
         share,
     } = checked;
-    (desk, share)
+    let shares = only(rt, alloc, share);
+    Shared { desk, shares }
 }
 
 // Such a one is not closed, nor one whose shares do not add up; both times the desk and the shares come back, and it goes
 // on.
 #[test]
 fn sent_and_not_collected(rt: HostRuntime) {
-    let (desk, share) = not_collected(&rt, rt.alloc());
-    let shares = only(&rt, rt.alloc(), share);
-    let (mut desk, shares) = refuses(&rt, desk, shares, Fault::Busy);
-    assert_eq!(rt; shares.len(), 1);
-    collects(&rt, &mut desk, 1);
-    let (desk, _) = refuses(&rt, desk, Vec::new(rt.alloc()), Fault::Stranger);
-    closes(&rt, desk, shares);
+    let mut desk = not_collected(&rt, rt.alloc()).refuses(&rt, Fault::Busy);
+    desk.has_shares(&rt, 1);
+    desk.collects(&rt, 1);
+    desk.refuses_with(&rt, Vec::new(rt.alloc()), Fault::Stranger)
+        .closes(&rt);
 }
 
 // A cache over which no desk opens comes back.
 fn stays_shut(
     rt: &impl Abort,
     alloc: Global,
-    cache: Cache<MemorySlot>,
+    store: Store<MemorySlot>,
     workers: u32,
     expected: Fault,
-) -> Cache<MemorySlot> {
-    let (cache, fault) = Desk::open(alloc, cache, workers)
+) -> Store<MemorySlot> {
+    let (cache, fault) = Desk::open(alloc, store.into_cache(), workers)
         .err()
         .expect(rt, "the desk does not open");
     assert!(rt; fault == expected);
-    cache
+    Store::new(cache)
 }
 
 // No worker, or more than 8.
 #[test]
 fn so_many_workers(rt: HostRuntime) {
-    let cache = zeros(&rt, rt.alloc(), 1);
-    let cache = stays_shut(&rt, rt.alloc(), cache, 0, Fault::BadField);
-    let cache = stays_shut(&rt, rt.alloc(), cache, 9, Fault::BadField);
-    opened(&rt, rt.alloc(), cache, 8);
-}
-
-// The write of a job is made, and the cache settles it.
-fn settles(rt: &impl Abort, cache: &mut Cache<MemorySlot>, job: Job<MemorySlot>) {
-    assert!(rt; cache.settle(carry(job)).is_ok());
+    let store = zeros(&rt, rt.alloc(), 1);
+    let store = stays_shut(&rt, rt.alloc(), store, 0, Fault::BadField);
+    let store = stays_shut(&rt, rt.alloc(), store, 9, Fault::BadField);
+    opens(&rt, rt.alloc(), store, 8);
 }
 
 // A cache with a write out comes back, and goes on.
 #[test]
 fn opens_over_no_write_that_is_out(rt: HostRuntime) {
-    let mut cache = zeros(&rt, rt.alloc(), 1);
-    let job = first_job(&rt, &mut cache, b"A");
-    let mut cache = stays_shut(&rt, rt.alloc(), cache, 1, Fault::Busy);
-    settles(&rt, &mut cache, job);
-    opened(&rt, rt.alloc(), cache, 1);
-}
-
-// The cache counts this.
-fn counts(rt: &impl Abort, cache: &Cache<MemorySlot>, expected: Stat) {
-    assert_eq!(rt; cache.stat(), expected);
+    let mut store = zeros(&rt, rt.alloc(), 1);
+    let job = store.first_job(&rt, b"A");
+    let mut store = stays_shut(&rt, rt.alloc(), store, 1, Fault::Busy);
+    store.settles(&rt, job);
+    opens(&rt, rt.alloc(), store, 1);
 }
 
 // Nothing of the heap is taken.
@@ -125,44 +148,64 @@ fn is_empty(rt: &impl Abort, heap: &LocalHeap) {
     assert_eq!(rt; heap.used(), 0);
 }
 
+// A desk with its rings in a heap, and its workers: it sends a write.
+fn sends_one<'a>(
+    rt: &impl Abort,
+    desk: Desk<MemorySlot, &'a LocalHeap>,
+    workers: Vec<Worker<MemorySlot, &'a LocalHeap>, &'a LocalHeap>,
+) {
+    let mut desk = desk;
+    assert!(rt; workers.len() == 8);
+    submits(rt, &mut desk, Some(1));
+}
+
+// Opens a desk with its rings in this heap. Where there is no memory, and only then, the cache comes back.
+fn opened_within(
+    rt: &impl Abort,
+    heap: &LocalHeap,
+    store: Store<MemorySlot>,
+) -> Option<Store<MemorySlot>> {
+    match Desk::open(heap, store.into_cache(), 8) {
+        Ok((desk, workers)) => {
+            sends_one(rt, desk, workers);
+            None
+        }
+        Err((back, fault)) => {
+            assert!(rt; fault == Fault::Memory);
+            Some(Store::new(back))
+        }
+    }
+}
+
 // With less room than the rings take the cache comes back as it was, and the heap is empty again; with room enough the
 // desk opens.
 fn opens_within(
     rt: &impl Abort,
     heap: &LocalHeap,
-    cache: Cache<MemorySlot>,
-) -> Option<Cache<MemorySlot>> {
-    let before = cache.stat();
-    match Desk::open(heap, cache, 8) {
-        Ok((mut desk, workers)) => {
-            assert_eq!(rt; workers.len(), 8);
-            submits(rt, &mut desk, Some(1));
-            None
-        }
-        Err((back, fault)) => {
-            assert!(rt; fault == Fault::Memory);
-            counts(rt, &back, before);
-            is_empty(rt, heap);
-            Some(back)
-        }
-    }
+    store: Store<MemorySlot>,
+) -> Option<Store<MemorySlot>> {
+    let before = store.stat();
+    let back = opened_within(rt, heap, store)?;
+    back.counts(rt, before);
+    is_empty(rt, heap);
+    Some(back)
 }
 
 // A cache of one block with a change.
-fn changed(rt: &impl Abort, alloc: Global) -> Cache<MemorySlot> {
-    let mut cache = zeros(rt, alloc, 1);
-    change(rt, &mut cache, b"A");
-    cache
+fn changed(rt: &impl Abort, alloc: Global) -> Store<MemorySlot> {
+    let mut store = zeros(rt, alloc, 1);
+    store.change(rt, b"A");
+    store
 }
 
 // Heaps with ever more room refuse each allocation of the rings in turn.
 #[test]
 fn refused_in_turn_fst_pairs(rt: HostRuntime) {
-    let mut cache = changed(&rt, rt.alloc());
+    let mut store = changed(&rt, rt.alloc());
     for room in 1..4096usize {
         let heap = LocalHeap::new(rt.alloc(), 64 * room).expect(&rt, "there is memory");
-        match opens_within(&rt, &heap, cache) {
-            Some(back) => cache = back,
+        match opens_within(&rt, &heap, store) {
+            Some(back) => store = back,
             None => {
                 assert!(rt;
                     room > 16,

@@ -1,19 +1,19 @@
 //! Writes that fail: stalled, sent again, and lost.
 
 use crate::pairs::checked::Checked;
-use crate::pairs::opened;
-use crate::slots::{add, over, zero_slot};
-use fst_cache::Cache;
+use crate::pairs::opens;
+use crate::slots::{add, zero_slot};
+use crate::store::Store;
 use fst_device::{Arm, BlockSlot, MemorySlot, SlotFault};
 use fst_types::{BlockNo, Fault, Ticket};
 use std::alloc::Global;
 use std::process::Abort;
 
 // A cache of one block, over this slot.
-fn alone<S: BlockSlot>(rt: &impl Abort, alloc: Global, slot: S) -> Cache<S> {
+fn alone<S: BlockSlot>(rt: &impl Abort, alloc: Global, slot: S) -> Store<S> {
     let mut slots = Vec::new(alloc);
     add(rt, &mut slots, slot);
-    over(rt, alloc, slots, 1, 4)
+    Store::over(rt, alloc, slots, 1, 4)
 }
 
 // A desk with one worker over one block, the next write of which fails so.
@@ -23,11 +23,6 @@ fn armed(rt: &impl Abort, alloc: Global, arm: Arm) -> Checked<MemorySlot> {
     Checked::open(rt, alloc, alone(rt, alloc, slot))
 }
 
-// The block of this cache waits for a retry.
-fn is_stalled(rt: &impl Abort, cache: &Cache<MemorySlot>) {
-    assert_eq!(rt; cache.stalled(), Some(BlockNo(0)));
-}
-
 // A stalled write counts as settled: the desk closes.
 #[test]
 fn only_write_stalls(rt: HostRuntime) {
@@ -35,8 +30,9 @@ fn only_write_stalls(rt: HostRuntime) {
     desk.patch_all(&rt, 1);
     desk.submits(&rt, Some(1));
     desk.write_one(&rt, 1);
-    let cache = desk.closes(&rt, rt.alloc(), (1, 1, 0, 1));
-    is_stalled(&rt, &cache);
+    let store = desk.closes(&rt, rt.alloc(), (1, 1, 0, 1));
+    store.is_stalled(&rt, 0);
+    store.end();
 }
 
 // A write that failed is sent again under a new ticket.
@@ -51,7 +47,7 @@ fn stalled_write_goes_again(rt: HostRuntime) {
     desk.resubmits(&rt, 1, Err(Fault::NoBlock));
     desk.resubmits(&rt, 0, Ok(Some(Ticket(2))));
     desk.write_one(&rt, 2);
-    desk.closes(&rt, rt.alloc(), (1, 2, 1, 1));
+    desk.closes(&rt, rt.alloc(), (1, 2, 1, 1)).end();
 }
 
 // A slot in memory whose writes all fail.
@@ -118,6 +114,6 @@ fn lost_write_counts_as_stalled(rt: HostRuntime) {
     desk.stalled(&rt, None);
     desk.resubmits(&rt, 0, Err(Fault::Lost));
     desk.patch_refused(&rt, 0, Fault::Lost);
-    let cache = desk.closes(&rt, rt.alloc(), (1, 3, 0, 3));
-    opened(&rt, rt.alloc(), cache, 1);
+    let store = desk.closes(&rt, rt.alloc(), (1, 3, 0, 3));
+    opens(&rt, rt.alloc(), store, 1);
 }

@@ -4,7 +4,6 @@ ghost use Rattle.std.specs.Prelude.{◌≡◌};
 ghost use Rattle.fst_pairs.specs.Desking.{new_worker};
 
 use crate::pairs::zeros;
-use crate::slots::first_job;
 use fst_device::{Done, MemorySlot, carry};
 use fst_pairs::{Desk, Worker};
 use fst_types::{Fault, Ticket};
@@ -14,14 +13,16 @@ use std::process::Abort;
 // The completion of ticket 1 of another cache, with another image.
 fn stranger(rt: &impl Abort, alloc: Global) -> Done<MemorySlot> {
     let mut other = zeros(rt, alloc, 1);
-    carry(first_job(rt, &mut other, b"B"))
+    let job = other.first_job(rt, b"B");
+    other.end();
+    carry(job)
 }
 
 // A desk over one block, and its worker, which has sent nothing.
 fn fresh(rt: &impl Abort, alloc: Global) -> (Desk<MemorySlot>, Worker<MemorySlot>)
     ensures { result.1 ≡ new_worker }
 {
-    let Ok((desk, mut workers)) = Desk::open(alloc, zeros(rt, alloc, 1), 1) else {
+    let Ok((desk, mut workers)) = Desk::open(alloc, zeros(rt, alloc, 1).into_cache(), 1) else {
         rt.panic("the desk opens")
     };
     let Some(worker) = workers.pop() else {
