@@ -82,7 +82,7 @@ pub fn keep(prepared: &mut Option<Prepared>, change: Prepared)
 pub fn given_up(change: Prepared) -> Fault
     ensures { result ≡ Fault.Memory }
 {
-    let _ = &change;
+    drop(change);
     Fault::Memory
 }
 
