@@ -191,11 +191,15 @@ fn has_change(heads: &[Head], block: u32, row: &[u32]) -> bool
 }
 
 // Whether the chain from one of the row to one that it depends on, and so on, comes over a change of another block back
-// to one of the block, or to a patch that directly depends on one, none being on disk, within so many steps.
-fn chain_back(heads: &[Head], block: u32, row: &[u32], chain: Chain, steps: u32) -> bool
-    requires { IsRising heads.now }
-    ensures { IsTrue result → HasUnder (patches_of heads.now) row.now (IsReturning (patches_of heads.now) block) }
+// to one of the block, or to a patch that directly depends on one, none being on disk, within so many steps. It ends below
+// the floor of the block, where nothing leads back.
+fn chain_back(sight: &Sight<'_>, block: u32, row: &[u32], chain: Chain, steps: u32) -> bool
+    requires sees { Sees sight.now }
+    requires block { block < length sight.now.lists.now }
+    ensures { IsTrue result → HasUnder (patches_of sight.now.heads.now) row.now (IsReturning (patches_of sight.now.heads.now) block) }
 {
+    let heads = sight.heads;
+    let floor = sight.levels.floor(block);
     let mut next = next_of(chain, row);
     let mut away = false;
     let mut looks = MOST_LOOKS;
@@ -203,6 +207,9 @@ fn chain_back(heads: &[Head], block: u32, row: &[u32], chain: Chain, steps: u32)
         let Some(number) = next else {
             return false;
         };
+        if sight.levels.of(heads, number) < floor {
+            return false;
+        }
         away = away || passes_at(heads, Test::LiveOff(block), number);
         let below = row_below(heads, number);
         if away {
@@ -244,22 +251,23 @@ fn newest_change(sight: &Sight<'_>, block: u32) -> u32
 /// Whether the chain along the newest comes from the row, within a few steps, over a change of another block back to the
 /// block. A change of the block with that row is soft. Where it does not, the chain may lead there further on.
 pub fn comes_back_soon(sight: &Sight<'_>, block: u32, row: &[u32]) -> bool
-    requires rising { IsRising sight.now.heads.now }
+    requires sees { Sees sight.now }
+    requires block { block < length sight.now.lists.now }
     ensures { IsTrue result → HasUnder (patches_of sight.now.heads.now) row.now (IsReturning (patches_of sight.now.heads.now) block) }
 {
-    chain_back(sight.heads, block, row, Chain::Newest, NEAR_STEPS)
+    chain_back(sight, block, row, Chain::Newest, NEAR_STEPS)
 }
 
 /// Whether one of two chains, along the newest or toward the newest change of the block, comes from the row over a change
 /// of another block back to the block. A change of the block with that row is soft. Where neither does, another path may.
 pub fn comes_back(sight: &Sight<'_>, block: u32, row: &[u32]) -> bool
-    requires rising { IsRising sight.now.heads.now }
+    requires sees { Sees sight.now }
     requires block { block < length sight.now.lists.now }
     ensures { IsTrue result → HasUnder (patches_of sight.now.heads.now) row.now (IsReturning (patches_of sight.now.heads.now) block) }
 {
     let toward = Chain::Toward(newest_change(sight, block));
-    chain_back(sight.heads, block, row, Chain::Newest, MOST_STEPS)
-        || chain_back(sight.heads, block, row, toward, MOST_STEPS)
+    chain_back(sight, block, row, Chain::Newest, MOST_STEPS)
+        || chain_back(sight, block, row, toward, MOST_STEPS)
 }
 
 /// Whether each of the row is a hard change of the block in memory, or lower than the floor of the block. A change of the

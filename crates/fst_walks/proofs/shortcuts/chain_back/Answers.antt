@@ -6,7 +6,7 @@ use Rattle.fst_walks.proofs.shortcuts.chain_back.Goals as goal
 
 pub returns-then-has_change : goal.returns-then-has_change
 returns-then-has_change c e =
-    let patches = patches_of c.args.heads.now in
+    let patches = patches_of c.args.sight.now.heads.now in
     let b = c.args.block in
     let row = c.args.row.now in
     let n = c.in-Some.number in
@@ -21,7 +21,7 @@ returns-then-has_change c e =
 
 pub loop-preserved : goal.loop-preserved
 loop-preserved c =
-    let patches = patches_of c.args.heads.now in
+    let patches = patches_of c.args.sight.now.heads.now in
     let b = c.args.block in
     let row = c.args.row.now in
     let n = c.in-Some.number in

@@ -4,4 +4,4 @@ use Rattle.fst_walks.proofs.NearRow.{IsOnPath}
 use Rattle.fst_walks.proofs.shortcuts.chain_back.Given as goal
 
 abbrev pub invariant-loop : goal.invariant-loop
-invariant-loop l = IfSome l.next (IsOnPath (patches_of l.heads) l.block l.row l.away)
+invariant-loop l = IfSome l.next (IsOnPath (patches_of l.sight.heads.now) l.block l.row l.away)
