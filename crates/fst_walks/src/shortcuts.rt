@@ -29,9 +29,9 @@ use fst_heads::standing::Standing;
 use fst_heads::test::{Test, passes};
 use fst_types::Place;
 
-// How far a chain of newest dependencies is followed. A chain over all blocks comes back within as many steps as there are
-// blocks.
-const MOST_STEPS: u32 = 4_096;
+// How far a chain is followed. Behind gates in a long chain it never comes back, and each new patch would follow it all the
+// way; where it does come back it mostly takes fewer steps.
+const MOST_STEPS: u32 = 512;
 
 // How far it is followed before a walk is tried. Where groups or chains come one after the other it comes back within a few
 // steps, over which a walk would meet all their members.
