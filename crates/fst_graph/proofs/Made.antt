@@ -7,7 +7,7 @@ use Rattle.fst_types.specs.{Patches.{Patch, IsOn, OpenGate}, Refusals.NoneHolds}
 use Rattle.fst_heads.specs.{Covers.{Covering, IsPut as IsCovered}, Heads.{patches_of, IsRising}, Keeps.IsInside, Lists.{entry_of, HasRoomInList}, Nodes.{AreLinked, node_of, nodes_of, at_number, gains_names, linked_to, pending_in}}
 use Rattle.fst_heads.specs.{Pendings.{is_pending, sums_of}, Standings.{entered, is_held_on, is_ready_on}, Tests.is_hard_kind, declared.head.Head.Head}
 use Rattle.fst_heads.specs.{declared.lists.Listed.Listed, declared.pending.{Pending.Pending, Sums.Sums}, declared.standing.Standing.Standing}
-use Rattle.fst_walks.specs.{Leveling.{IsLeveled, Leveling, level_of, strand_of, floor_of, top_level}, Lifting.{IsRise, MayLift}, Needing.{IsPut, Needing}, Sights.Sees, Strands.GoesOn, Walks.{Trail, numbers_met}, declared.{ends.Ends.Ends, levels.{Rank.Rank, Rise.Rise}, sight.Sight.Sight}}
+use Rattle.fst_walks.specs.{Ancestors.{AreOver, GoesUnder}, Leveling.{IsLeveled, Leveling, jump_of, level_of, no_ancestry, floor_of, top_level}, Lifting.{IsRise, MayLift}, Needing.{IsPut, Needing}, Sights.Sees, Walks.{Trail, numbers_met}, declared.{ends.Ends.Ends, levels.{Ancestry.Ancestry, Rank.Rank, Rise.Rise}, sight.Sight.Sight}}
 use Rattle.fst_graph.specs.{Fresh.{HasOneMore, HasPlaces, IsAdded, IsRoomier, MayAdd}, Ready.change_of, Sound.AreSound, declared.prepared.Prepared.Prepared as Stored}
 use Rattle.fst_heads.proofs.{Added.{new_node, with_node, with_names}, AtNumber.patches_in_nodes, Beside.{beside_made, beside_depends, one_live}, Covering.{covered_gained, covered_push}, Making.keeps_added, Slots.rising_heads, Stands.stand_made}
 use Rattle.fst_walks.proofs.{Linked.{patches_made, patches_named}, Releveled.gained_is_leveled, Seen.{seen, lawful_nodes, tallies_wider}, Shelves.shelved}
@@ -49,9 +49,9 @@ pub more_as : {heads new : Vec Head} {ends grown : Ends} {levels lifted : Leveli
 more_as same at P = rw (← same, ← at) P
 
 -- a gate that is put down is added
-pub gate_added : {heads new : Vec Head} {ends grown : Ends} {levels ranked : Leveling} (queue : Vec ℕ) {wider : Vec ℕ} {n : ℕ} {row : List ℕ} → HasOneMore (fresh n OpenGate row) (record { number = n; level = top_level; strand = n }) heads ends levels new grown ranked → wider.items ≡ queue.items → vec_len heads < vec_capacity wider
+pub gate_added : {heads new : Vec Head} {ends grown : Ends} {levels ranked : Leveling} (queue : Vec ℕ) {wider : Vec ℕ} {n : ℕ} {row : List ℕ} → HasOneMore (fresh n OpenGate row) (record { number = n; level = top_level; ancestry = no_ancestry }) heads ends levels new grown ranked → GoesUnder (patches_of heads.items) n row no_ancestry → wider.items ≡ queue.items → vec_len heads < vec_capacity wider
     → IsAdded (fresh n OpenGate row) heads ends levels queue new grown ranked wider
-gate_added queue P waits free = record { level = top_level; head = P; over = λ q c few. few; most = omega arith; top = λ e. refl; waiting = waits; free = free }
+gate_added queue P under waits free = record { level = top_level; ancestry = no_ancestry; under = under; head = P; over = λ q c few. few; most = omega arith; top = λ e. refl; waiting = waits; free = free }
 
 pub put_rising : (heads new : List Head) (p : Patch) (numbers : ℕ) → nodes_of new ≡ with_node (nodes_of heads) p → SparseAreLawful (patches_of heads ++ p ∷ []) numbers → IsRising new
 put_rising heads new p numbers put H = rising_heads new (rw (put_patches heads new p put) H.one_place_each.rising)
@@ -104,7 +104,7 @@ module _ {heads : Vec Head} {ends : Ends} {levels : Leveling} {needs : Needing} 
             ) A.waiting (omega arith));
         covered = rw patches (covered_push old p M.off blocks covers.items S.covered);
         along = along_grown {old = ends} P.marks P.crossed S.along;
-        leveled = rw patches (leveled_put p A.level p.number H M.next given P.ranks P.floors (λ q c. A.over q c (S.leveled.leveled.few q)) A.most (inl refl) S.leveled (λ b on. absurd (M.off b on)) (λ b on. absurd (M.off b on)) A.top);
+        leveled = rw patches (leveled_put p A.level A.ancestry H M.next given P.ranks P.floors (λ q c. A.over q c (S.leveled.leveled.few q)) A.most A.under S.leveled (λ b on. absurd (M.off b on)) (λ b on. absurd (M.off b on)) A.top);
         needing = rw patches (needing_put p H M.next M.off S.needing);
         none_below = S.none_below;
         prepared = tt;
@@ -150,8 +150,8 @@ module _ {heads : Vec Head} {ends : Ends} {levels : Leveling} {needs : Needing} 
     }
 
     pub may_go_on : {hs gs : List Head} {lifted : Leveling} → hs ≡ heads.items → IsLeveled (patches_of hs) (length levels.floors) lifted → gs ≡ heads.items
-        → record { rising : IsRising gs; aligned : map (λ r. r.number) lifted.ranks ≡ map (λ p. p.number) (patches_of gs); linked : AreLinked (nodes_of gs) }
-    may_go_on at leveled same = rw same record { rising = rising_sound S; aligned = rw (← at) leveled.aligned; linked = S.tallies.linked }
+        → record { rising : IsRising gs; aligned : map (λ r. r.number) lifted.ranks ≡ map (λ p. p.number) (patches_of gs); jumps : AreOver (patches_of gs) (jump_of lifted.ranks); given : 0 < numbers + 1 }
+    may_go_on at leveled same = rw same record { rising = rising_sound S; aligned = rw (← at) leveled.aligned; jumps = rw (← at) leveled.jumps; given = omega arith }
 
     pub may_need : {hs : List Head} {row : List ℕ} → hs ≡ heads.items → row ≡ p.dependencies.items → record { rising : IsRising hs; block : needs.block < length needs.lists; room : length row ≤ needs.room }
     may_need same named =
@@ -188,18 +188,18 @@ module _ {heads : Vec Head} {ends : Ends} {levels : Leveling} {needs : Needing} 
         }
 
     -- the change stands as it rises, beside what its block has already
-    pub change_sound : (walk : Trail) (places : List Bool) {rise : Rise} {s : ℕ} {new : Vec Head} {grown : Ends} {lifted ranked : Leveling} → HasOneMore made (record { number = numbers + 1; level = rise.level; strand = s }) heads (walked walk places) lifted new grown ranked
+    pub change_sound : (walk : Trail) (places : List Bool) {rise : Rise} {a : Ancestry} {new : Vec Head} {grown : Ends} {lifted ranked : Leveling} → HasOneMore made (record { number = numbers + 1; level = rise.level; ancestry = a }) heads (walked walk places) lifted new grown ranked
         → {over : Pending} → over ≡ node → {hs : List Head} {row : List ℕ} → hs ≡ heads.items → row ≡ p.dependencies.items → IsRise (patches_of hs) levels p.block row p.grade (numbers_met hs walk) rise → length walk.marks ≡ length hs
         → {hs : List Head} → hs ≡ heads.items → IsLeveled (patches_of hs) (length levels.floors) lifted
         → ((n : ℕ) → level_of levels.ranks n ≤ rise.level → level_of lifted.ranks n ≤ rise.level) → (rise.lifts ≡ true → floor_of lifted.floors p.block ≡ rise.level) → (rise.lifts ≡ false → lifted ≡ levels)
-        → {hs : List Head} {row : List ℕ} → hs ≡ heads.items → row ≡ p.dependencies.items → GoesOn (patches_of hs) (strand_of lifted.ranks) (numbers + 1) row s
+        → {hs : List Head} {row : List ℕ} → hs ≡ heads.items → row ≡ p.dependencies.items → GoesUnder (patches_of hs) (numbers + 1) row a
         → {gs : List Head} {row : List ℕ} {put : Needing} → gs ≡ heads.items → row ≡ p.dependencies.items → IsPut (patches_of gs) needs.block row p.grade needs.lists put.lists
         → {lists' : Vec (Vec Listed)} → shelved lists'.items ≡ set (shelved lists.items) p.block (get_or (shelved lists.items) p.block [] ++ entry_of (record { number = numbers + 1; span = p.span }) ∷ [])
         → {cover cover' : Covering} {covers' : Vec Covering} → cover ≡ get_or covers.items p.block cover → IsCovered cover p.span.at p.span.len (numbers + 1) cover' → covers'.items ≡ set covers.items p.block cover'
         → {standings' : Vec Standing} → ((d : Standing) → standings'.items ≡ set standings.items p.block (entered (is_hard_kind made.kind) (is_pending over (pending.Block p.block)) (get_or standings.items p.block d)))
         → {least : ℕ} → least ≤ unmarked → least ≤ p.block
         → AreSound new grown ranked put lists' covers' standings' queue (live + 1) least (numbers + 1) blocks None
-    change_sound walk places {rise = rise} {new = new} P pends same named R long at leveled below lifted still there after on gs row put listed cover_is covered covers_are enters {least} low here =
+    change_sound walk places {rise = rise} {new = new} P pends same named R long at leveled below lifted still there after under gs row put listed cover_is covered covers_are enters {least} low here =
         let W = walked_sound S {walked = walked walk places} (record { long = long ∙ ap length same; crossed = omega (arith, (walked walk places).up.crossed.ok.0, ends.up.crossed.ok.0, as_many_places S) }) (over_down S) in
         let nodes = P.nodes in
         let none : Standing = record { ready = 0; held = 0; flying = 0 } in
@@ -211,7 +211,7 @@ module _ {heads : Vec Head} {ends : Ends} {levels : Leveling} {needs : Needing} 
           tallies = rw (nodes, listed, enters none, pends) (D.tallies none);
           covered = rw (patches, covers_are) (covered_made numbers p.grade D.ready.depends S.covered D.ready.inside cover_is covered);
           along = along_grown {old = walked walk places} P.marks P.crossed W.along;
-          leveled = rw patches (leveled_change p rise (numbers_met heads.items walk) S.keeps.lawful.one_place_each D.given (risen walk same named R) (rw (← at, ← S.leveled.long) leveled) below lifted still (rw (← there, ← after) on) P.ranks P.floors);
+          leveled = rw patches (leveled_change p rise (numbers_met heads.items walk) S.keeps.lawful.one_place_each D.given (risen walk same named R) (rw (← at, ← S.leveled.long) leveled) below lifted still (rw (← there, ← after) under) P.ranks P.floors);
           needing = rw patches (needing_change p S.keeps.lawful.one_place_each S.needing (rw (← D.prepared.needed.0, ← gs, ← row) put));
           none_below = rw (enters none) (none_below_set standings.items unmarked least p.block _ S.none_below low here);
           prepared = tt;

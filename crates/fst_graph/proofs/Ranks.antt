@@ -6,23 +6,23 @@ use Rattle.fst_types.specs.declared.grade.Grade.TheVariants as grade
 use Rattle.fst_types.proofs.Alike.{Alike}
 use Rattle.std.proofs.lemmas.List.{length_push}
 use Rattle.fst_graph.specs.{Ready.change_of, Sound.AreAlong, declared.prepared.Prepared.Prepared as Stored}
-use Rattle.fst_walks.specs.{Leveling.{IsLeveled, Leveling, level_of, strand_of, floor_of, top_level}, Lifting.IsRise, Strands.GoesOn, declared.ends.Ends.Ends, declared.levels.Rise.Rise}
+use Rattle.fst_walks.specs.{Ancestors.GoesUnder, Leveling.{IsLeveled, Leveling, level_of, floor_of, top_level}, Lifting.IsRise, declared.ends.Ends.Ends, declared.levels.{Ancestry.Ancestry, Rise.Rise}}
 use Rattle.fst_walks.proofs.LeveledKept.{alike_is_leveled, fresh_is_leveled}
 
 -- the same levels, perhaps with more room
 pub leveled_as : {patches : List Patch} {blocks : ℕ} {levels ranked : Leveling} → ranked.ranks ≡ levels.ranks → ranked.floors ≡ levels.floors → IsLeveled patches blocks levels → IsLeveled patches blocks ranked
-leveled_as ranks floors L = record { aligned = rw ranks L.aligned; long = rw floors L.long; leveled = rw (ranks, floors) L.leveled; stranded = rw ranks L.stranded }
+leveled_as ranks floors L = record { aligned = rw ranks L.aligned; long = rw floors L.long; leveled = rw (ranks, floors) L.leveled; parents = rw ranks L.parents; jumps = rw ranks L.jumps }
 
 pub leveled_moved : {old new : List Patch} {blocks : ℕ} {levels : Leveling} → Alike old new → IsLeveled old blocks levels → IsLeveled new blocks levels
 leveled_moved {old} {new} {blocks} {levels} A L = alike_is_leveled old new A blocks levels L
 
 -- a patch more, whose rank comes last
-module _ {old : List Patch} {numbers blocks : ℕ} {levels grown : Leveling} (p : Patch) (l s : ℕ) (H : HasOnePlaceEach old numbers) (next : p.number ≡ numbers + 1)
+module _ {old : List Patch} {numbers blocks : ℕ} {levels grown : Leveling} (p : Patch) (l : ℕ) (a : Ancestry) (H : HasOnePlaceEach old numbers) (next : p.number ≡ numbers + 1)
     (given : (q : ℕ) → Contains p.dependencies q → q ≤ numbers)
-    (ranks : grown.ranks ≡ levels.ranks ++ record { number = p.number; level = l; strand = s } ∷ []) (floors : grown.floors ≡ levels.floors)
-    (row : (q : ℕ) → Contains p.dependencies q → level_of levels.ranks q ≤ l) (few : l ≤ top_level) (on : GoesOn old (strand_of levels.ranks) p.number p.dependencies s) (L : IsLeveled old blocks levels) where
+    (ranks : grown.ranks ≡ levels.ranks ++ record { number = p.number; level = l; ancestry = a } ∷ []) (floors : grown.floors ≡ levels.floors)
+    (row : (q : ℕ) → Contains p.dependencies q → level_of levels.ranks q ≤ l) (few : l ≤ top_level) (under : GoesUnder old p.number p.dependencies a) (L : IsLeveled old blocks levels) where
   pub leveled_put : ((b : ℕ) → IsOn p b → floor_of levels.floors b ≤ l) → ((b : ℕ) → IsOn p b → IsHard p → l ≤ floor_of levels.floors b) → (IsOpenGate p → l ≡ top_level) → IsLeveled (old ++ p ∷ []) blocks grown
-  leveled_put above below gate = leveled_as ranks floors (fresh_is_leveled old numbers blocks p H next given levels l s row above below gate few on L)
+  leveled_put above below gate = leveled_as ranks floors (fresh_is_leveled old numbers blocks p H next given levels l a row above below gate few under L)
 
 -- a change more, that rises so
 module _ {old : List Patch} {numbers blocks : ℕ} {levels lifted : Leveling} (p : Stored) (rise : Rise) (met : List ℕ) (H : HasOnePlaceEach old numbers)
@@ -48,9 +48,9 @@ module _ {old : List Patch} {numbers blocks : ℕ} {levels lifted : Leveling} (p
   same_grade : IsHard (change_of numbers p) → p.grade ≡ grade.Hard
   same_grade hard = cc
 
-  pub leveled_change : {grown : Leveling} {s : ℕ} → GoesOn old (strand_of lifted.ranks) (numbers + 1) p.dependencies.items s → grown.ranks ≡ lifted.ranks ++ record { number = numbers + 1; level = rise.level; strand = s } ∷ [] → grown.floors ≡ lifted.floors → IsLeveled (old ++ change_of numbers p ∷ []) blocks grown
-  leveled_change {s = s} on ranks floors =
-      leveled_put (change_of numbers p) rise.level s H refl given ranks floors (λ q c. below q (R.over q c)) R.few on L
+  pub leveled_change : {grown : Leveling} {a : Ancestry} → GoesUnder old (numbers + 1) p.dependencies.items a → grown.ranks ≡ lifted.ranks ++ record { number = numbers + 1; level = rise.level; ancestry = a } ∷ [] → grown.floors ≡ lifted.floors → IsLeveled (old ++ change_of numbers p ∷ []) blocks grown
+  leveled_change {a = a} under ranks floors =
+      leveled_put (change_of numbers p) rise.level a H refl given ranks floors (λ q c. below q (R.over q c)) R.few under L
       (λ b on. subst (λ k. floor_of lifted.floors k ≤ rise.level) (same_block b on) floor_under)
       (λ b on hard. subst (λ k. rise.level ≤ floor_of lifted.floors k) (same_block b on) (floor_over (same_grade hard)))
       (λ is_open. absurd (cc))

@@ -126,6 +126,10 @@ module _ {heads : Vec Head} {ends : Ends} {levels : Leveling} {needs : Needing} 
     prepared = tt;
   }
 
+  -- with other levels that are as they should be
+  pub leveled_sound : {levels' : Leveling} → IsLeveled (patches_of heads.items) blocks levels' → AreSound heads ends levels' needs lists covers standings queue live unmarked numbers blocks None
+  leveled_sound L = record { keeps = S.keeps; beside = S.beside; tallies = S.tallies; covered = S.covered; along = S.along; leveled = L; needing = S.needing; none_below = S.none_below; prepared = tt }
+
   pub with_prepared : {o' : Option Stored} → IfSome o' (IsPrepared heads ends levels needs lists covers queue numbers blocks) → AreSound heads ends levels needs lists covers standings queue live unmarked numbers blocks o'
   with_prepared P = record { keeps = S.keeps; beside = S.beside; tallies = S.tallies; covered = S.covered; along = S.along; leveled = S.leveled; needing = S.needing; none_below = S.none_below; prepared = P }
 

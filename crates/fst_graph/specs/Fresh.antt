@@ -3,8 +3,8 @@ use Rattle.std.specs.Prelude.{◌≡◌, ◌≤◌, ◌<◌, ◌+◌, ◌++◌, 
 use Rattle.std.specs.Global.{Vec}
 use Rattle.std.specs.List.Sorted.{IsStrictlyIncreasing}
 use Rattle.fst_types.specs.{Dependencies.IsLiveNumber, Facts.SparseAreLawful, Limits.max_heads, Making.fresh, Patches.{Patch, IsOn, IsOpenGate, OpenGate}, Tests.is_on}
-use Rattle.fst_heads.specs.{Heads.kind_of, Nodes.{Node, nodes_of, linked_to, pending_in}, Pendings.{joined, of_kind, sums_of}, declared.head.Head.Head}
-use Rattle.fst_walks.specs.{Leveling.{Leveling, level_of, top_level}, declared.{ends.Ends.Ends, levels.Rank.Rank}}
+use Rattle.fst_heads.specs.{Heads.{kind_of, patches_of}, Nodes.{Node, nodes_of, linked_to, pending_in}, Pendings.{joined, of_kind, sums_of}, declared.head.Head.Head}
+use Rattle.fst_walks.specs.{Ancestors.GoesUnder, Leveling.{Leveling, level_of, top_level}, declared.{ends.Ends.Ends, levels.{Ancestry.Ancestry, Rank.Rank}}}
 use Rattle.fst_graph.specs.declared.fresh.Fresh.{Fresh}
 
 -- the patch that it becomes
@@ -52,10 +52,12 @@ pub record HasOneMore (p : Patch) (rank : Rank) (heads : Vec Head) (ends : Ends)
   pub ranks : levels'.ranks ≡ levels.ranks ++ rank ∷ []
   pub floors : levels'.floors ≡ levels.floors
 
--- patch p, which is no change, is put down on a strand of its own: an open gate at the top, and another no lower than what it depends on. The queue has a place for it
+-- patch p, which is no change, is put down: an open gate at the top, and another no lower than what it depends on. Its ancestors are among that or below. The queue has a place for it
 pub record IsAdded (p : Patch) (heads : Vec Head) (ends : Ends) (levels : Leveling) (queue : Vec ℕ) (heads' : Vec Head) (ends' : Ends) (levels' : Leveling) (queue' : Vec ℕ) : Type 0 where
   pub level : ℕ
-  pub head : HasOneMore p (record { number = p.number; level = level; strand = p.number }) heads ends levels heads' ends' levels'
+  pub ancestry : Ancestry
+  pub under : GoesUnder (patches_of heads.items) p.number p.dependencies ancestry
+  pub head : HasOneMore p (record { number = p.number; level = level; ancestry = ancestry }) heads ends levels heads' ends' levels'
   pub over : (q : ℕ) → Contains p.dependencies q → level_of levels.ranks q ≤ top_level → level_of levels.ranks q ≤ level
   pub most : level ≤ top_level
   pub top : IsOpenGate p → level ≡ top_level

@@ -1,7 +1,7 @@
 //! New heads: room for them, and putting them down. This is over the heads alone, and what has a place for each head: the
 //! marks of both walks, the levels and the queue. It knows no block and no refusal.
 
-ghost use Rattle.std.specs.Prelude.{◌≡◌, ◌≢◌, ◌≤◌, ◌+◌, ◌∷◌, [], ℕ, Contains, OnOk, OnErr, map, vec_len, vec_capacity};
+ghost use Rattle.std.specs.Prelude.{◌≡◌, ◌≢◌, ◌≤◌, ◌<◌, ◌+◌, ◌∷◌, [], ℕ, Contains, OnOk, OnErr, length, map, vec_len, vec_capacity};
 ghost use Rattle.std.specs.List.Sorted.{IsStrictlyIncreasing};
 ghost use Rattle.fst_types.specs.Facts.{SparseAreLawful};
 ghost use Rattle.fst_types.specs.Limits.{max_number};
@@ -12,15 +12,16 @@ ghost use Rattle.fst_heads.specs.Heads.{IsRising, kind_of, patches_of};
 ghost use Rattle.fst_heads.specs.Nodes.{HasRoomAbove, nodes_of, pending_in};
 ghost use Rattle.fst_heads.specs.Pendings.{joined, of_kind};
 ghost use Rattle.fst_graph.specs.Fresh.{patch_from, HasPlaces, AddsTwo, HasOneMore, IsAdded, IsRoomier};
-ghost use Rattle.fst_walks.specs.Leveling.{level_of, top_level};
+ghost use Rattle.fst_walks.specs.Leveling.{IsLeveled, level_of, no_ancestry, top_level};
 
 use fst_heads::head::{Head, Kind};
 use fst_heads::links::{link, reserve_above};
 use fst_heads::pending::{Pending, over_block};
 use fst_heads::row::{Row, row_sums};
 use fst_types::Place;
+use fst_walks::ancestors::ancestry_over;
 use fst_walks::ends::Ends;
-use fst_walks::levels::{Levels, Rank, TOP};
+use fst_walks::levels::{Levels, Rank, TOP, no_ancestry};
 use smallvec::SmallVec;
 use std::alloc::{AllocError, Global};
 
@@ -121,18 +122,18 @@ pub fn put_down(
         dependants: SmallVec::new(alloc),
     });
     ends.grow();
-    levels.grow(rank.number, rank.level, rank.strand);
+    levels.grow(rank);
     pending
 }
 
-// The rank of a gate.
+// The rank of a new gate.
 fn at_the_top(number: u32) -> Rank
-    ensures { result ≡ record { number = number; level = top_level; strand = number } }
+    ensures { result ≡ record { number = number; level = top_level; ancestry = no_ancestry } }
 {
     Rank {
         number,
         level: TOP,
-        strand: number,
+        ancestry: no_ancestry(),
     }
 }
 
@@ -162,7 +163,8 @@ pub fn add_one(
 ) -> Result<(), AllocError>
     requires rising { IsRising heads.old.items }
     requires once { IsStrictlyIncreasing fresh.dependencies.items }
-    requires aligned { map (λ r. r.number) levels.old.ranks ≡ map (λ p. p.number) (patches_of heads.old.items) }
+    requires leveled { IsLeveled (patches_of heads.old.items) (length levels.old.floors) levels.old }
+    requires given { 0 < fresh.number }
     ensures added { OnOk result (IsAdded (patch_from fresh) heads.old ends.old levels.old queue.old heads.new ends.new levels.new queue.new) }
     ensures roomier { OnErr result (IsRoomier heads.old ends.old levels.old queue.old heads.new ends.new levels.new queue.new) }
 {
@@ -171,7 +173,7 @@ pub fn add_one(
     let rank = Rank {
         number: fresh.number,
         level: level_over(levels, heads, &fresh),
-        strand: fresh.number,
+        ancestry: ancestry_over(levels, heads, fresh.dependencies.as_slice(), fresh.number),
     };
     put_down(alloc, heads, ends, levels, fresh, rank);
     Ok(())

@@ -32,6 +32,7 @@ use fst_heads::standing::{
     Standing, empty_standings, flying_count, held_count, land_at, least_marked, ready_count,
 };
 use fst_types::{BlockNo, Fault, PatchNo, Place, Shape};
+use fst_walks::ancestors::renew;
 use fst_walks::ascent::mark_flight;
 use fst_walks::ends::Ends;
 use fst_walks::levels::Levels;
@@ -207,6 +208,7 @@ impl Sparse {
         let Ok(()) = gain_names(self.alloc, &mut self.heads, gate.0, on) else {
             return Err(Fault::Memory);
         };
+        renew(&mut self.levels, &self.heads, gate.0);
         Ok(())
     }
 

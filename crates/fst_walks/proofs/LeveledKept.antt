@@ -4,8 +4,8 @@ use Rattle.std.proofs.lemmas.{Bool.{cases_eq}, List.{map-append}, List.Elements.
 use Rattle.fst_types.specs.{Dependencies.DirectlyOn, Facts.HasOnePlaceEach, Gates.IsOpenNumber, Patches.{Patch, IsOn, IsHard, IsOpenGate}}
 use Rattle.fst_types.proofs.{Alike.{Alike, Like, like_self, back_alike, numbers_alike, direct_back, on_back, grade_same, open_back}, Finite.{In-from_Contains, Contains-from_In}, GateGains.In-unmap}
 use Rattle.fst_heads.specs.{Grading.IsHardNumber, Marks.PassesAt}
-use Rattle.fst_walks.specs.{Leveling.{AreLeveled, IsLeveled, Leveling, level_of, strand_of, floor_of, top_level}, Strands.GoesOn, declared.levels.Rank.Rank}
-use Rattle.fst_walks.proofs.{Leveled.{live_passes, passed_on}, Ranked.{kept_other, kept_new, number_of}, StrandsKept.{fresh_stranded, stranded_alike}}
+use Rattle.fst_walks.specs.{Leveling.{AreLeveled, IsLeveled, Leveling, jump_of, level_of, parent_of, floor_of, top_level}, Ancestors.{GoesUnder, MayStandUnder}, declared.levels.{Ancestry.Ancestry, Rank.Rank}}
+use Rattle.fst_walks.proofs.{Leveled.{live_passes, passed_on}, Ranked.{kept_other, kept_new, number_of}, AncestorsKept.{fresh_over, over_alike}}
 use Rattle.fst_heads.specs.declared.test.Test.TheVariants as test
 
 -- each new patch was one of the old ones, perhaps at another place, and has the level that it had
@@ -55,7 +55,8 @@ alike_is_leveled old new A blocks levels x = record {
   aligned = x.aligned ∙ sym (numbers_alike old new A);
   long = x.long;
   leveled = alike_leveled old new A (level_of levels.ranks) (floor_of levels.floors) x.leveled;
-  stranded = stranded_alike old new A (strand_of levels.ranks) x.stranded;
+  parents = over_alike old new A (parent_of levels.ranks) x.parents;
+  jumps = over_alike old new A (jump_of levels.ranks) x.jumps;
 }
 
 -- some of the patches
@@ -135,12 +136,12 @@ module _ (old : List Patch) (p : Patch) (level level' floor : ℕ → ℕ)
 
 -- the next number is no head's yet, and no head names it; the new rank comes last
 module _ (old : List Patch) (numbers blocks : ℕ) (p : Patch) (H : HasOnePlaceEach old numbers) (next : p.number ≡ numbers + 1)
-    (given : (q : ℕ) → Contains p.dependencies q → q ≤ numbers) (levels : Leveling) (l s : ℕ)
+    (given : (q : ℕ) → Contains p.dependencies q → q ≤ numbers) (levels : Leveling) (l : ℕ) (a : Ancestry)
     (row : (q : ℕ) → Contains p.dependencies q → level_of levels.ranks q ≤ l)
     (above : (b : ℕ) → IsOn p b → floor_of levels.floors b ≤ l) (below : (b : ℕ) → IsOn p b → IsHard p → l ≤ floor_of levels.floors b)
-    (gate : IsOpenGate p → l ≡ top_level) (few : l ≤ top_level) (on : GoesOn old (strand_of levels.ranks) p.number p.dependencies s) (x : IsLeveled old blocks levels) where
+    (gate : IsOpenGate p → l ≡ top_level) (few : l ≤ top_level) (under : GoesUnder old p.number p.dependencies a) (x : IsLeveled old blocks levels) where
   abbrev rank : Rank
-  rank = record { number = p.number; level = l; strand = s }
+  rank = record { number = p.number; level = l; ancestry = a }
 
   abbrev level' : ℕ → ℕ
   level' = level_of (levels.ranks ++ rank ∷ [])
@@ -156,8 +157,11 @@ module _ (old : List Patch) (numbers blocks : ℕ) (p : Patch) (H : HasOnePlaceE
   here : level' p.number ≡ l
   here = kept_new (λ r. r.level) levels.ranks rank unranked
 
-  strand_here : strand_of (levels.ranks ++ rank ∷ []) p.number ≡ s
-  strand_here = kept_new (λ r. r.strand) levels.ranks rank unranked
+  parent_here : parent_of (levels.ranks ++ rank ∷ []) p.number ≡ a.parent
+  parent_here = kept_new (λ r. r.ancestry.parent) levels.ranks rank unranked
+
+  jump_here : jump_of (levels.ranks ++ rank ∷ []) p.number ≡ a.jump
+  jump_here = kept_new (λ r. r.ancestry.jump) levels.ranks rank unranked
 
   -- the levels that are kept go on so
   pub fresh_is_leveled : IsLeveled (old ++ p ∷ []) blocks (record levels { ranks = levels.ranks ++ rank ∷ [] })
@@ -172,7 +176,10 @@ module _ (old : List Patch) (numbers blocks : ℕ) (p : Patch) (H : HasOnePlaceE
         (λ b on. let k = above b on in omega (arith, here, k))
         (λ b on hard. let k = below b on hard in omega (arith, here, k))
         (λ o. here ∙ gate o) (omega (arith, here, few)) x.leveled;
-    stranded = fresh_stranded old numbers p H next (strand_of levels.ranks) (strand_of (levels.ranks ++ rank ∷ []))
-        (λ n other. kept_other (λ r. r.strand) levels.ranks rank n other)
-        (subst (GoesOn old (strand_of levels.ranks) p.number p.dependencies) (sym strand_here) on) x.stranded;
+    parents = fresh_over old numbers p H next (parent_of levels.ranks) (parent_of (levels.ranks ++ rank ∷ []))
+        (λ n other. kept_other (λ r. r.ancestry.parent) levels.ranks rank n other)
+        (subst (MayStandUnder old p.number p.dependencies) (sym parent_here) under.parent) x.parents;
+    jumps = fresh_over old numbers p H next (jump_of levels.ranks) (jump_of (levels.ranks ++ rank ∷ []))
+        (λ n other. kept_other (λ r. r.ancestry.jump) levels.ranks rank n other)
+        (subst (MayStandUnder old p.number p.dependencies) (sym jump_here) under.jump) x.jumps;
   }

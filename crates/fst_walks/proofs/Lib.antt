@@ -23,7 +23,7 @@ pub mod Overlapped
 pub mod Trails
 pub mod Leveled
 pub mod Lifted
-pub mod StrandsKept
+pub mod AncestorsKept
 pub mod LeveledKept
 pub mod Raised
 pub mod Raising
@@ -31,6 +31,8 @@ pub mod OneOfMany
 pub mod StoodFor
 pub mod PutMore
 pub mod RanksLeft
+pub mod Renewed
+pub mod Ancestral
 pub mod Releveled
 pub mod Floored
 pub mod BothEnds

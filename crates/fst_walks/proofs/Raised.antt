@@ -4,7 +4,7 @@ use Rattle.std.proofs.lemmas.Bool.{cases_Bool}
 use Rattle.std.proofs.lemmas.List.{Elements.All-tail}
 use Rattle.fst_types.specs.{Tests.has_number}
 use Rattle.fst_heads.specs.{Heads.{IsRising, patches_of}, Marks.{HasSlot, HasNone}, declared.head.Head.Head}
-use Rattle.fst_walks.specs.{Leveling.{kept_under, level_of, strand_of}, declared.levels.Rank.Rank}
+use Rattle.fst_walks.specs.{Leveling.kept_under, declared.levels.Rank.Rank}
 use Rattle.fst_heads.proofs.Slots.{slot_here, some_element}
 use Rattle.fst_walks.proofs.{Ranked.{rank_number, ranks_long}, RanksLeft.{none_has, slot_has}}
 
@@ -20,39 +20,46 @@ AreRanked ranks = AllPairs (λ r q. r.number < q.number) ranks
 ranked_rest : (r : Rank) (rs : List Rank) → AreRanked (r ∷ rs) → AreRanked rs
 ranked_rest r rs rising i j d lt inside = rising (suc i) (suc j) d (omega (arith, lt)) (omega (arith, inside))
 
--- the rank in the slot, at another level
-abbrev pub raised_to : List Rank → ℕ → ℕ → Rank → List Rank
-raised_to ranks s to d = set ranks s (record { number = (get_or ranks s d).number; level = to; strand = (get_or ranks s d).strand })
+-- another rank with the same number in the slot
+module _ (kept : Rank → ℕ) (new : Rank) where
+  -- under its number is kept what it has
+  pub kept_here : (ranks : List Rank) (s : ℕ) (d : Rank) → AreRanked ranks → s < length ranks → (get_or ranks s d).number ≡ new.number → kept_under kept (set ranks s new) (get_or ranks s d).number ≡ kept new
+  kept_here [] s d rising lt same = absurd (omega (arith, lt))
+  kept_here (r ∷ rs) zero d rising lt same = rw (eq-eqb new.number r.number (sym same)) refl
+  kept_here (r ∷ rs) (suc s) d rising lt same =
+      rw (ne_eqb r.number (get_or rs s d).number (λ e. let k = rising 0 (suc s) d (omega arith) (omega (arith, lt)) in omega (arith, k, e)))
+      (kept_here rs s d (ranked_rest r rs rising) (omega (arith, lt)) same)
 
-pub level_raised : (ranks : List Rank) (s to : ℕ) (d : Rank) → AreRanked ranks → s < length ranks → level_of (raised_to ranks s to d) (get_or ranks s d).number ≡ to
-level_raised [] s to d rising lt = absurd (omega (arith, lt))
-level_raised (r ∷ rs) zero to d rising lt = rw (eq-eqb r.number r.number refl) refl
-level_raised (r ∷ rs) (suc s) to d rising lt =
-    rw (ne_eqb r.number (get_or rs s d).number (λ e. let k = rising 0 (suc s) d (omega arith) (omega (arith, lt)) in omega (arith, k, e)))
-    (level_raised rs s to d (ranked_rest r rs rising) (omega (arith, lt)))
+  -- and under another what was kept
+  pub kept_beside : (ranks : List Rank) (s : ℕ) (d : Rank) (n : ℕ) → (get_or ranks s d).number ≡ new.number → n ≢ (get_or ranks s d).number → kept_under kept (set ranks s new) n ≡ kept_under kept ranks n
+  kept_beside [] s d n same other = refl
+  kept_beside (r ∷ rs) zero d n same other =
+      let e = ne_eqb r.number n (λ e. other (sym e)) in
+      let f = ne_eqb new.number n (λ e. other (sym (same ∙ e))) in
+      rw (e, f) refl
+  kept_beside (r ∷ rs) (suc s) d n same other = elim (cases_Bool (eqb r.number n)) [
+    | inl here ↦ rw here refl
+    | inr away ↦ rw away (kept_beside rs s d n same other)
+  ]
 
-pub level_beside : (ranks : List Rank) (s to : ℕ) (d : Rank) (n : ℕ) → n ≢ (get_or ranks s d).number → level_of (raised_to ranks s to d) n ≡ level_of ranks n
-level_beside [] s to d n other = refl
-level_beside (r ∷ rs) zero to d n other = let e = ne_eqb r.number n (λ e. other (sym e)) in rw e refl
-level_beside (r ∷ rs) (suc s) to d n other = elim (cases_Bool (eqb r.number n)) [
-  | inl here ↦ rw here refl
-  | inr away ↦ rw away (level_beside rs s to d n other)
-]
-
--- no strand changes
-pub strand_raised : (ranks : List Rank) (s to : ℕ) (d : Rank) (n : ℕ) → s < length ranks → strand_of (raised_to ranks s to d) n ≡ strand_of ranks n
-strand_raised [] s to d n lt = absurd (omega (arith, lt))
-strand_raised (r ∷ rs) zero to d n lt = refl
-strand_raised (r ∷ rs) (suc s) to d n lt = elim (cases_Bool (eqb r.number n)) [
-  | inl here ↦ rw here refl
-  | inr away ↦ rw away (strand_raised rs s to d n (omega (arith, lt)))
-]
+-- ranks with the same numbers, and alike in something, have the same of it under each number
+module _ {X : Type 0} (part : Rank → X) (of : X → ℕ) where
+  pub kept_as : (old new : List Rank) → map (λ r. r.number) new ≡ map (λ r. r.number) old → map part new ≡ map part old → (n : ℕ) → kept_under (λ r. of (part r)) new n ≡ kept_under (λ r. of (part r)) old n
+  kept_as [] [] numbers parts n = refl
+  kept_as [] (r ∷ rs) numbers parts n = absurd (cc)
+  kept_as (q ∷ qs) [] numbers parts n = absurd (cc)
+  kept_as (q ∷ qs) (r ∷ rs) numbers parts n =
+      let same : r.number ≡ q.number = cc in
+      let own : part r ≡ part q = cc in
+      let rest : map (λ (x : Rank). x.number) rs ≡ map (λ (x : Rank). x.number) qs = cc in
+      let all : map part rs ≡ map part qs = cc in
+      rw (own, same, kept_as qs rs rest all n) refl
 
 kept_none : (kept : Rank → ℕ) (ranks : List Rank) (n : ℕ) → All (λ r. r.number ≢ n) ranks → kept_under kept ranks n ≡ 0
 kept_none kept [] n none = refl
 kept_none kept (r ∷ rs) n none = rw (ne_eqb r.number n (none 0 r (omega arith))) (kept_none kept rs n (All-tail (λ x. x.number ≢ n) r rs none))
 
--- a number without a head has the level 0, and the strand 0
+-- under a number without a head nothing is kept
 module _ (heads : List Head) (ranks : List Rank) (rising : IsRising heads) (aligned : map (λ r. r.number) ranks ≡ map (λ p. p.number) (patches_of heads)) where
   pub none_kept : (kept : Rank → ℕ) (n : ℕ) → HasNone heads n → kept_under kept ranks n ≡ 0
   none_kept kept n none =

@@ -5,7 +5,7 @@ use Rattle.fst_types.specs.Patches.{Patch}
 use Rattle.fst_types.proofs.Finite.{In, Contains-from_In}
 use Rattle.fst_heads.specs.{declared.head.Head.Head, Heads.{IsRising, patch_of, patches_of}, Marks.HasSlot}
 use Rattle.fst_heads.proofs.Slots.{some_element, rising_map, rising_back, slot_here}
-use Rattle.fst_walks.specs.{Leveling.{kept_under, level_of, strand_of}, declared.levels.Rank.Rank}
+use Rattle.fst_walks.specs.{Leveling.{kept_under, level_of, no_ancestry}, declared.levels.Rank.Rank}
 
 -- the number of a rank
 abbrev pub number_of : Rank → ℕ
@@ -13,7 +13,7 @@ number_of r = r.number
 
 -- what stands for a rank where there is none
 pub no_rank : Rank
-no_rank = record { number = 0; level = 0; strand = 0 }
+no_rank = record { number = 0; level = 0; ancestry = no_ancestry }
 
 -- what is kept of a rank
 module _ (kept : Rank → ℕ) where
@@ -71,14 +71,11 @@ module _ (heads : List Head) (ranks : List Rank) (rising : IsRising heads) (alig
         ∙ (ap (λ (p : Patch). p.number) (get_or-map patch_of heads slot h (patch_of h) at.0) ∙ at.1 h)))
 
     -- what is kept in the slot is what is under the number
-    rank_kept : (kept : Rank → ℕ) (d : Rank) → kept (get_or ranks slot d) ≡ kept_under kept ranks n
+    pub rank_kept : (kept : Rank → ℕ) (d : Rank) → kept (get_or ranks slot d) ≡ kept_under kept ranks n
     rank_kept kept d = sym (kept_rising kept ranks ranks_rise slot slot_ranked d) ∙ ap (kept_under kept ranks) (rank_number d)
 
     pub rank_level : (d : Rank) → (get_or ranks slot d).level ≡ level_of ranks n
     rank_level = rank_kept (λ r. r.level)
-
-    pub rank_strand : (d : Rank) → (get_or ranks slot d).strand ≡ strand_of ranks n
-    rank_strand = rank_kept (λ r. r.strand)
 
   -- the head in a rank's slot has its number
   pub ranked_slot : (n slot : ℕ) → slot < length ranks → ((d : Rank) → (get_or ranks slot d).number ≡ n) → HasSlot heads n slot

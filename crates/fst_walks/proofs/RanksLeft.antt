@@ -5,8 +5,8 @@ use Rattle.fst_types.specs.{Facts.IsOnDiskWithAll, Patches.{Patch, IsRising}, Te
 use Rattle.fst_types.proofs.{Crash.same_number, Dropping.{filter_in, in_filter}, Finite.{In, In-from_Contains, Contains-from_In}}
 use Rattle.fst_heads.specs.{Heads.patches_of, Marks.{HasNone, HasSlot}, Nodes.is_live_in, declared.head.Head.Head}
 use Rattle.fst_heads.proofs.Slots.{none_slot, patch_at, patch_slot, slot_in, some_element}
-use Rattle.fst_walks.specs.{Leveling.{IsLeveled, Leveling, kept_under, level_of, strand_of, floor_of}, declared.levels.Rank.Rank}
-use Rattle.fst_walks.proofs.{LeveledKept.fewer_leveled, Ranked.number_of, StrandsKept.left_stranded}
+use Rattle.fst_walks.specs.{Leveling.{IsLeveled, Leveling, jump_of, kept_under, level_of, parent_of, floor_of}, declared.levels.Rank.Rank}
+use Rattle.fst_walks.proofs.{LeveledKept.fewer_leveled, Ranked.number_of, AncestorsKept.left_over}
 
 -- whether some head has the number
 pub has_told : (heads : List Patch) (n : ℕ) → has_number heads n ≡ true → (p : Patch) × Contains heads p × (p.number ≡ n)
@@ -132,7 +132,8 @@ module _ (old : List Patch) (rising : IsRising old) (disk : IsOnDiskWithAll old)
     long = x.long;
     leveled = fewer_leveled old left (level_of levels.ranks) (level_of (passing is_left levels.ranks)) (floor_of levels.floors) (λ p c. (was_left p c).0)
         (level_fewer is_left levels.ranks) (λ p c. kept_passing is_left (λ r. r.level) levels.ranks p.number (told_has left p c)) x.leveled;
-    stranded = left_stranded old disk (strand_of levels.ranks) (strand_of (passing is_left levels.ranks)) (λ p c. kept_passing is_left (λ r. r.strand) levels.ranks p.number (told_has left p c)) x.stranded;
+    parents = left_over old disk (parent_of levels.ranks) (parent_of (passing is_left levels.ranks)) (λ p c. kept_passing is_left (λ r. r.ancestry.parent) levels.ranks p.number (told_has left p c)) x.parents;
+    jumps = left_over old disk (jump_of levels.ranks) (jump_of (passing is_left levels.ranks)) (λ p c. kept_passing is_left (λ r. r.ancestry.jump) levels.ranks p.number (told_has left p c)) x.jumps;
   }
 
 -- a number is left exactly if a live patch has it

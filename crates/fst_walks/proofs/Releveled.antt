@@ -4,8 +4,8 @@ use Rattle.fst_types.specs.{Gates.IsOpenNumber, Gating.gains, Patches.{Patch, bl
 use Rattle.fst_types.proofs.{GateGains.{direct_cases, gained}}
 use Rattle.fst_heads.specs.{Grading.IsHardNumber, Marks.{PassesAt}}
 use Rattle.fst_heads.proofs.Covering.{was_gained}
-use Rattle.fst_walks.specs.{Leveling.{AreLeveled, IsLeveled, Leveling, level_of, strand_of, floor_of}}
-use Rattle.fst_walks.proofs.{Leveled.{live_passes, passed_on}, StrandsKept.stranded_gained}
+use Rattle.fst_walks.specs.{Leveling.{AreLeveled, IsLeveled, Leveling, jump_of, level_of, parent_of, floor_of}}
+use Rattle.fst_walks.proofs.{Leveled.{live_passes, passed_on}, AncestorsKept.over_gained}
 use Rattle.fst_heads.specs.declared.test.Test.TheVariants as test
 
 numbers_gained : (g : ℕ) (names : List ℕ) (heads : List Patch) → map (λ p. p.number) (map (gains g names) heads) ≡ map (λ p. p.number) heads
@@ -55,5 +55,6 @@ module _ (old : List Patch) (g : ℕ) (names : List ℕ) (gate : IsOpenNumber ol
     aligned = x.aligned ∙ sym (numbers_gained g names old);
     long = x.long;
     leveled = gained_leveled (level_of levels.ranks) (floor_of levels.floors) x.leveled;
-    stranded = stranded_gained old g names (strand_of levels.ranks) x.stranded;
+    parents = over_gained old g names (parent_of levels.ranks) x.parents;
+    jumps = over_gained old g names (jump_of levels.ranks) x.jumps;
   }

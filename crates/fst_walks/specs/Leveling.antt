@@ -3,7 +3,7 @@ use Rattle.std.specs.Prelude.{◌≡◌, ◌≤◌, ◌==◌, ℕ, List, [], ◌
 use Rattle.fst_types.specs.{Dependencies.DirectlyOn, Gates.IsOpenNumber, Patches.Patch}
 use Rattle.fst_heads.specs.{Grading.IsHardNumber, Marks.PassesAt}
 use Rattle.fst_heads.specs.declared.test.Test.TheVariants as test
-use Rattle.fst_walks.specs.{Strands.AreStranded, declared.levels.Rank.{Rank}}
+use Rattle.fst_walks.specs.{Ancestors.AreOver, declared.levels.{Ancestry.Ancestry, Rank.Rank}}
 
 -- the greatest level
 abbrev pub top_level : ℕ
@@ -25,21 +25,29 @@ kept_under kept (r ∷ rs) n = if r.number == n then kept r else kept_under kept
 abbrev pub level_of : List Rank → ℕ → ℕ
 level_of = kept_under (λ r. r.level)
 
-abbrev pub strand_of : List Rank → ℕ → ℕ
-strand_of = kept_under (λ r. r.strand)
+abbrev pub parent_of : List Rank → ℕ → ℕ
+parent_of = kept_under (λ r. r.ancestry.parent)
+
+abbrev pub jump_of : List Rank → ℕ → ℕ
+jump_of = kept_under (λ r. r.ancestry.jump)
+
+-- no ancestor
+abbrev pub no_ancestry : Ancestry
+no_ancestry = record { parent = 0; jump = 0; depth = 0 }
 
 abbrev pub floor_of : List ℕ → ℕ → ℕ
 floor_of floors b = slice_index_or floors b 0
 
--- the levels and strands of the heads in their order, the floors of the blocks, and for how many heads there is room
+-- the levels and ancestors of the heads in their order, the floors of the blocks, and for how many heads there is room
 pub record Leveling : Type 0 where
   pub ranks : List Rank
   pub floors : List ℕ
   pub room : ℕ
 
--- each head has its level and its strand and each block its floor, and they are as they should be
+-- each head has its level and its ancestors and each block its floor, and they are as they should be
 pub record IsLeveled (patches : List Patch) (blocks : ℕ) (levels : Leveling) : Type 0 where
   pub aligned : map (λ r. r.number) levels.ranks ≡ map (λ p. p.number) patches
   pub long : length levels.floors ≡ blocks
   pub leveled : AreLeveled patches (level_of levels.ranks) (floor_of levels.floors)
-  pub stranded : AreStranded patches (strand_of levels.ranks)
+  pub parents : AreOver patches (parent_of levels.ranks)
+  pub jumps : AreOver patches (jump_of levels.ranks)

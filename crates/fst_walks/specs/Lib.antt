@@ -3,7 +3,7 @@ pub mod Descending
 pub mod WayBack
 pub mod Walks
 pub mod Sights
-pub mod Strands
+pub mod Ancestors
 pub mod Leveling
 pub mod Lifting
 pub mod BothEnds

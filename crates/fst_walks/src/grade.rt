@@ -1,8 +1,8 @@
 //! The grade of a new change. A block is written only with all its hard changes, so a change is hard only where nothing
 //! that it depends on can come to wait for its block: no open gate, no change of another block that needs one of its
 //! block, and no block from which the block graph leads to its block. What is near the change mostly tells it, and their
-//! levels do where all that it depends on is below the floor of its block. Else a strand down from what the change depends
-//! on may come back to the block, or a chain within a few steps; or a short walk down may tell, or a longer chain, and
+//! levels do where all that it depends on is below the floor of its block. Else the ancestors of what the change depends
+//! on may lead back to the block, or a chain within a few steps; or a short walk down may tell, or a longer chain, and
 //! only where none does a way back is looked for from both ends. Over a block whose changes are all on disk no search is
 //! needed. A gate that is sealed with the change is taken as sealed already: that sets free what it alone blocks, and moves
 //! no change and no dependency.
@@ -14,6 +14,7 @@ ghost use Rattle.fst_heads.specs.Heads.{patches_of};
 ghost use Rattle.fst_walks.specs.BothEnds.{IsOver};
 ghost use Rattle.fst_walks.specs.Sights.{Sees};
 
+use crate::ancestors::leads_to_block;
 use crate::below::grade_below;
 use crate::both_ends::grade_between;
 use crate::ends::Ends;
@@ -22,7 +23,6 @@ use crate::shortcuts::{
     comes_back, comes_back_soon, is_clean, rests_on_hard, stays_below, waits_for_quiet_block,
 };
 use crate::sight::Sight;
-use crate::strands::leads_along_strand;
 use fst_types::Grade;
 
 // What keeps a new change of the block with that row soft but for open gates. What was met and crossed before does not
@@ -42,7 +42,7 @@ fn grade_by_ways(sight: &Sight<'_>, ends: &mut Ends, block: u32, row: &[u32]) ->
     if stays_below(sight, block, row) {
         return Grade::Hard;
     }
-    if leads_along_strand(sight, block, row) {
+    if leads_to_block(sight, block, row) {
         return Grade::Soft;
     }
     if comes_back_soon(sight, block, row) {

@@ -1,7 +1,7 @@
 //! Levels: what tells without a walk that a way leads nowhere. Each head has a level and each block a floor, so that no way
 //! down rises: what a patch depends on is no higher than it is, a change is no lower than the floor of its block, and a hard
 //! change in memory is no higher. So what lies below a floor can come to wait for nothing of that block. Beside its level the
-//! strand of each head is kept (`strands`).
+//! ancestry of each head is kept (`ancestors`).
 
 ghost use Rattle.std.specs.Prelude.{vec_capacity, ◌≡◌, ◌≢◌, ◌≤◌, ◌<◌, ◌+◌, ◌++◌, ◌∷◌, [], ℕ, false, IsTrue, length, map, filter, Contains, AllPairs, IfOk, IfSome, IfNone, OnOk, slice_index_or};
 ghost use Rattle.fst_types.specs.Tests.{has_number};
@@ -11,7 +11,7 @@ ghost use Rattle.fst_heads.specs.Marks.{HasNone, HasSlot};
 ghost use Rattle.fst_heads.specs.Reaching.{IsHardIn};
 ghost use Rattle.fst_heads.specs.Keeps.{IsInside};
 ghost use Rattle.fst_types.specs.Facts.{IsOnDiskWithAll};
-ghost use Rattle.fst_walks.specs.Leveling.{IsLeveled, floor_of, level_of, strand_of};
+ghost use Rattle.fst_walks.specs.Leveling.{IsLeveled, floor_of, jump_of, level_of, no_ancestry, parent_of};
 ghost use Rattle.fst_walks.specs.Lifting.{IsLifted, MayLift};
 ghost use Rattle.fst_walks.specs.Walks.{number_at, numbers_met};
 
@@ -25,12 +25,21 @@ use std::marker::Model;
 /// The greatest level, at which each open gate stands.
 pub const TOP: u32 = 4_294_967_295;
 
-/// A head's number, its level and its strand.
+/// Two ancestors of a patch by their numbers, 0 for none: its parent, and one further up. The depth says how many are above
+/// it, parent over parent.
+#[derive(Clone, Copy)]
+pub struct Ancestry {
+    pub parent: u32,
+    pub jump: u32,
+    pub depth: u32,
+}
+
+/// A head's number, its level and its ancestry.
 #[derive(Clone, Copy)]
 pub struct Rank {
     pub number: u32,
     pub level: u32,
-    pub strand: u32,
+    pub ancestry: Ancestry,
 }
 
 /// What a new change does to the levels.
@@ -42,7 +51,7 @@ pub struct Rise {
     pub lifts: bool,
 }
 
-/// The levels and strands of the heads, in their order, and the floors of the blocks. It takes 12 bytes for each head and 4
+/// The levels and ancestries of the heads, in their order, and the floors of the blocks. It takes 20 bytes for each head and 4
 /// for each block.
 #[derive(Drop)]
 pub struct Levels {
@@ -62,6 +71,17 @@ impl Model for Levels {
     ghost invariant = { λ l. l.room ≤ vec_capacity l.ranks };
 }
 
+/// No ancestor.
+pub fn no_ancestry() -> Ancestry
+    ensures { result ≡ no_ancestry }
+{
+    Ancestry {
+        parent: 0,
+        jump: 0,
+        depth: 0,
+    }
+}
+
 // A floor of 0 for each block.
 fn empty_floors(alloc: Global, blocks: u32) -> Result<Vec<u32>, AllocError>
     ensures { IfOk result (λ floors. length floors.items ≡ blocks) }
@@ -76,7 +96,7 @@ fn raise(ranks: &mut Vec<Rank>, slot: usize, to: u32)
     ensures numbers { map (λ r. r.number) ranks.new.items ≡ map (λ r. r.number) ranks.old.items }
     ensures raised { (d : Rank) → level_of ranks.new.items (slice_index_or ranks.old.items slot d).number ≡ to }
     ensures rest { (d : Rank) (n : ℕ) → n ≢ (slice_index_or ranks.old.items slot d).number → level_of ranks.new.items n ≡ level_of ranks.old.items n }
-    ensures strands { (n : ℕ) → strand_of ranks.new.items n ≡ strand_of ranks.old.items n }
+    ensures ancestries { map (λ r. r.ancestry) ranks.new.items ≡ map (λ r. r.ancestry) ranks.old.items }
     ensures capacity { vec_capacity ranks.new ≡ vec_capacity ranks.old }
 {
     ranks[slot].level = to;
@@ -151,17 +171,13 @@ impl Levels {
     }
 
     /// One head more, for which there is room.
-    pub fn grow(&mut self, number: u32, level: u32, strand: u32)
+    pub fn grow(&mut self, rank: Rank)
         requires { length self.old.ranks < self.old.room }
-        ensures ranks { self.new.ranks ≡ self.old.ranks ++ record { number = number; level = level; strand = strand } ∷ [] }
+        ensures ranks { self.new.ranks ≡ self.old.ranks ++ rank ∷ [] }
         ensures floors { self.new.floors ≡ self.old.floors }
         ensures room { self.new.room ≡ self.old.room }
     {
-        self.ranks.push_reserved(Rank {
-            number,
-            level,
-            strand,
-        });
+        self.ranks.push_reserved(rank);
     }
 
     /// The slot of the head with the number. Ranks are far smaller than heads, so it is looked for among them first.
@@ -185,12 +201,12 @@ impl Levels {
         self.ranks[slot].level
     }
 
-    /// The strand of the head in the slot.
-    pub fn strand(&self, slot: usize) -> u32
+    // The rank of the head in the slot.
+    fn rank(&self, slot: usize) -> Rank
         requires { slot < length self.now.ranks }
-        ensures { (d : Rank) → result ≡ (slice_index_or self.now.ranks slot d).strand }
+        ensures { (d : Rank) → result ≡ slice_index_or self.now.ranks slot d }
     {
-        self.ranks[slot].strand
+        self.ranks[slot]
     }
 
     /// The floor of the block.
@@ -213,15 +229,21 @@ impl Levels {
         }
     }
 
-    /// The strand of the patch with the number, and 0 where it is forgotten.
-    pub fn strand_of(&self, heads: &[Head], number: u32) -> u32
+    /// The rank of the patch with the number. Where it is forgotten its level is 0, and it has no ancestor.
+    pub fn rank_of(&self, heads: &[Head], number: u32) -> Rank
         requires rising { IsRising heads.now }
         requires aligned { map (λ r. r.number) self.now.ranks ≡ map (λ p. p.number) (patches_of heads.now) }
-        ensures { result ≡ strand_of self.now.ranks number }
+        ensures level { result.level ≡ level_of self.now.ranks number }
+        ensures parent { result.ancestry.parent ≡ parent_of self.now.ranks number }
+        ensures jump { result.ancestry.jump ≡ jump_of self.now.ranks number }
     {
         match self.find(heads, number) {
-            Some(slot) => self.strand(slot),
-            None => 0,
+            Some(slot) => self.rank(slot),
+            None => Rank {
+                number,
+                level: 0,
+                ancestry: no_ancestry(),
+            },
         }
     }
 
@@ -236,6 +258,21 @@ impl Levels {
             most = self.of(heads, *number).max(most);
         }
         most
+    }
+
+    /// The head in the slot has this ancestry.
+    pub fn put_ancestry(&mut self, slot: usize, ancestry: Ancestry)
+        requires slot { slot < length self.old.ranks }
+        requires rising { AllPairs (λ r q. r.number < q.number) self.old.ranks }
+        ensures numbers { map (λ r. r.number) self.new.ranks ≡ map (λ r. r.number) self.old.ranks }
+        ensures levels { map (λ r. r.level) self.new.ranks ≡ map (λ r. r.level) self.old.ranks }
+        ensures parent { (d : Rank) → parent_of self.new.ranks (slice_index_or self.old.ranks slot d).number ≡ ancestry.parent }
+        ensures jump { (d : Rank) → jump_of self.new.ranks (slice_index_or self.old.ranks slot d).number ≡ ancestry.jump }
+        ensures rest { (d : Rank) (n : ℕ) → n ≢ (slice_index_or self.old.ranks slot d).number → (parent_of self.new.ranks n ≡ parent_of self.old.ranks n) × (jump_of self.new.ranks n ≡ jump_of self.old.ranks n) }
+        ensures floors { self.new.floors ≡ self.old.floors }
+        ensures room { self.new.room ≡ self.old.room }
+    {
+        self.ranks[slot].ancestry = ancestry;
     }
 
     /// Only the heads that are left keep their levels.

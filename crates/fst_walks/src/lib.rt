@@ -3,8 +3,8 @@
 //! Three questions need them. *Is a new change hard?* A block is written only with all its hard changes, so a change may
 //! be hard only where nothing that it depends on can come to wait for its block. Mostly the patches near it tell
 //! (`shortcuts`), or their levels do (`levels`): each patch has one and each block a floor, so that no way down rises,
-//! and what lies below the floor of a block leads nowhere. Or their strands tell (`strands`): of two patches of one strand
-//! the later depends on the earlier. Else a way back is looked for down alone for a while (`below`) and then from both
+//! and what lies below the floor of a block leads nowhere. Or their ancestors tell (`ancestors`): each patch has
+//! two that it depends on, a near one and a far one. Else a way back is looked for down alone for a while (`below`) and then from both
 //! ends at once (`both_ends`): up from the changes of the block (`way_up`), and down (`way_down`) from the first changes
 //! of other blocks at or below what the new change depends on (`first_away`), which goes on from a block to what its hard
 //! changes need (`needs`). Where a new hard change would stand over the floor of its block, the floor goes up, with all that
@@ -14,13 +14,14 @@
 //!
 //! A walk is a value of its own (`walk`), which keeps what it has met, so that each patch is looked at once; it can be
 //! used for walk after walk, each of which begins where nothing was met. What walks look at is one value too (`sight`):
-//! the heads, the lists of the blocks, how the blocks stand, the levels and strands, and what the blocks need. A walk that crosses
+//! the heads, the lists of the blocks, how the blocks stand, the levels and ancestors, and what the blocks need. A walk that crosses
 //! blocks keeps besides which it has crossed (`block_walk`), and a search from both ends has two such (`ends`).
 //!
 //! All of it only reads the heads, and the levels but for lifting. Each answer is that of the definition, exactly: a walk
 //! that gives up says so.
 #![tactic(auto)]
 
+pub mod ancestors;
 pub mod ascent;
 pub mod below;
 pub mod block_walk;
@@ -37,7 +38,6 @@ pub mod other_gates;
 pub mod overlap_cycle;
 pub mod shortcuts;
 pub mod sight;
-pub mod strands;
 pub mod walk;
 pub mod way_down;
 pub mod way_up;

@@ -127,8 +127,8 @@ enum Chain {
     Toward(u32),
 }
 
-// The last of the row.
-fn newest(row: &[u32]) -> Option<u32>
+/// The last of the row.
+pub fn newest(row: &[u32]) -> Option<u32>
     ensures { IfSome result (Contains row.now) }
 {
     match row {
@@ -170,11 +170,11 @@ pub fn row_below(heads: &[Head], number: u32) -> &[u32]
     }
 }
 
-// The newest of the row, as many as are looked at.
-fn newest_few(row: &[u32]) -> &[u32]
+/// The newest of the row, no more than `most`.
+pub fn newest_few(row: &[u32], most: usize) -> &[u32]
     ensures { (q : ℕ) → Contains result.now q → Contains row.now q }
 {
-    &row[row.len().saturating_sub(WIDTH)..]
+    &row[row.len().saturating_sub(most)..]
 }
 
 // Whether one of the row is a change of the block that is not on disk.
@@ -213,7 +213,7 @@ fn chain_back(sight: &Sight<'_>, block: u32, row: &[u32], chain: Chain, steps: u
         away = away || passes_at(heads, Test::LiveOff(block), number);
         let below = row_below(heads, number);
         if away {
-            let few = newest_few(below);
+            let few = newest_few(below, WIDTH);
             if looks < few.len() {
                 return false;
             }

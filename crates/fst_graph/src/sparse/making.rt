@@ -29,10 +29,10 @@ use fst_heads::pending::{Pending, is_pending};
 use fst_heads::row::row_sums;
 use fst_heads::standing::Standing;
 use fst_types::{BlockNo, Fault, Grade, PatchNo, Place, Span};
+use fst_walks::ancestors::ancestry_over;
 use fst_walks::levels::Rank;
 use fst_walks::lift::rise_of;
 use fst_walks::sight::Sight;
-use fst_walks::strands::strand_after;
 use std::alloc::Global;
 
 // The gate gains the number, which is that of the newest patch.
@@ -158,7 +158,7 @@ impl Sparse {
         let rank = Rank {
             number,
             level: rise.level,
-            strand: strand_after(&self.levels, &self.heads, row, number),
+            ancestry: ancestry_over(&self.levels, &self.heads, row, number),
         };
         let fresh = Fresh {
             number,

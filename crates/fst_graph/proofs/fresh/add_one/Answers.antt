@@ -1,9 +1,10 @@
-use Rattle.std.proofs.Common.{◌≡◌, ◌∙◌, arith, ap, length}
-use Rattle.fst_heads.specs.{Heads.IsRising, Nodes.nodes_of}
+use Rattle.std.proofs.Common.{◌≡◌, ◌∙◌, arith, ap, length, subst}
+use Rattle.fst_heads.specs.{Heads.{IsRising, patches_of}, Nodes.nodes_of}
+use Rattle.fst_walks.specs.{Ancestors.GoesUnder, Leveling.IsLeveled}
 use Rattle.fst_graph.specs.Fresh.{IsRoomier}
 use Rattle.fst_heads.proofs.Linking.{rising_same}
 use Rattle.fst_walks.proofs.Seen.{same_patches}
-use Rattle.fst_graph.proofs.Made.{more_after}
+use Rattle.fst_graph.proofs.{Made.more_after, Ranks.leveled_as}
 use Rattle.fst_graph.proofs.fresh.add_one.Goals.{After-reserve_above}
 use Rattle.fst_graph.proofs.fresh.add_one.Goals as goal
 
@@ -20,7 +21,20 @@ level_over-requires-clause-rising c = rw c.deref.ensures.value (rising (goal.at.
 pub level_over-requires-clause-aligned : goal.level_over-requires-clause-aligned
 level_over-requires-clause-aligned c =
     let at = (goal.at.level_over-requires-clause-aligned c).After-reserve_above in
-    rw (c.deref.ensures.value, same_patches c.reserve_above.new.heads.items c.args.heads.now.items (still at), c.reserve_heads.ensures.roomier.ranks) c.requires.aligned
+    rw (c.deref.ensures.value, same_patches c.reserve_above.new.heads.items c.args.heads.now.items (still at), c.reserve_heads.ensures.roomier.ranks) c.requires.leveled.aligned
+
+-- the levels are over the patches still
+leveled : (c : After-reserve_above) → IsLeveled (patches_of c.reserve_above.new.heads.items) (length c.args.levels.now.floors) c.reserve_heads.new.levels
+leveled c = rw (same_patches c.reserve_above.new.heads.items c.args.heads.now.items (still c)) (leveled_as c.reserve_heads.ensures.roomier.ranks c.reserve_heads.ensures.roomier.floors c.requires.leveled)
+
+pub ancestry_over-requires-clause-rising : goal.ancestry_over-requires-clause-rising
+ancestry_over-requires-clause-rising c = rw c.deref-2.ensures.value (rising (goal.at.ancestry_over-requires-clause-rising c).After-reserve_above)
+
+pub ancestry_over-requires-clause-aligned : goal.ancestry_over-requires-clause-aligned
+ancestry_over-requires-clause-aligned c = rw c.deref-2.ensures.value (leveled (goal.at.ancestry_over-requires-clause-aligned c).After-reserve_above).aligned
+
+pub ancestry_over-requires-clause-jumps : goal.ancestry_over-requires-clause-jumps
+ancestry_over-requires-clause-jumps c = rw c.deref-2.ensures.value (leveled (goal.at.ancestry_over-requires-clause-jumps c).After-reserve_above).jumps
 
 pub put_down-requires-clause-rising : goal.put_down-requires-clause-rising
 put_down-requires-clause-rising c = rising (goal.at.put_down-requires-clause-rising c).After-reserve_above
@@ -34,6 +48,8 @@ returns-clause-added c =
     record { nodes = still at; marks = R.marks; crossed = R.crossed; ranks = R.ranks; floors = R.floors; waiting = R.waiting; wide = R.wide } in
     record {
       level = c.level_over.result;
+      ancestry = c.ancestry_over.result;
+      under = subst (λ ps. GoesUnder ps c.args.fresh.number c.args.fresh.dependencies.items c.ancestry_over.result) (ap patches_of c.deref-2.ensures.value ∙ same_patches c.reserve_above.new.heads.items c.args.heads.now.items (still at)) (rw (← c.as_slice-2.ensures) c.ancestry_over.ensures);
       head = more_after roomier c.put_down.ensures.put;
       over = rw (← R.ranks) c.level_over.ensures.over;
       most = omega arith;

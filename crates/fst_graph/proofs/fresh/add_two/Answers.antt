@@ -3,7 +3,8 @@ use Rattle.fst_types.specs.{Facts.SparseAreLawful, Making.fresh, Patches.{Patch,
 use Rattle.fst_heads.specs.{Heads.patches_of, Nodes.{nodes_of, HasRoomAbove}}
 use Rattle.fst_graph.specs.Fresh.{patch_from}
 use Rattle.fst_heads.proofs.{Added.with_node, Making.gate_lawful, Slots.rising_heads}
-use Rattle.fst_graph.proofs.{Made.{gate_added, more_after, more_as, put_rising}}
+use Rattle.fst_walks.proofs.Ancestral.{none_goes_under}
+use Rattle.fst_graph.proofs.{Made.{gate_added, more_after, more_as, put_patches, put_rising}}
 use Rattle.fst_graph.proofs.fresh.add_two.Goals.{After-reserve_heads, After-put_down}
 use Rattle.fst_graph.proofs.fresh.add_two.Goals as goal
 
@@ -43,10 +44,11 @@ returns-clause-added c =
     let wide = c.in_ok-reserve_heads.ensures.queue in
     let tail : patch_from c.gate-tail.result ≡ fresh (c.args.numbers + 1 + 1) OpenGate ((c.args.numbers + 1) ∷ []) = c.gate-tail.ensures ∙ ap (fresh (c.args.numbers + 1 + 1) OpenGate) c.row_of.ensures in
     let same = ap length c.reserve_heads.ensures.same in
+    let with_first = subst (λ ps. SparseAreLawful ps (c.args.numbers + 1)) (sym (put_patches c.reserve_heads.new.heads.items c.put_down.new.heads.items (fresh (c.args.numbers + 1) OpenGate []) (first at.After-put_down))) (gate_lawful (patches_of c.reserve_heads.new.heads.items) c.args.numbers (lawful at.After-reserve_heads)) in
     record {
       between = c.put_down.new.heads;
       grown = c.put_down.new.ends;
       ranked = c.put_down.new.levels;
-      head = gate_added c.args.queue.now (more_as (head at.After-put_down) c.at_the_top.ensures (more_after R c.put_down.ensures.put)) R.waiting (omega (arith, wide, same, c.args.heads.now.ok.0, c.reserve_heads.new.heads.ok.0));
-      tail = gate_added c.reserve_heads.new.queue (more_as tail c.at_the_top-2.ensures c.put_down-2.ensures.put) refl (omega (arith, wide, c.put_down.ensures.len));
+      head = gate_added c.args.queue.now (more_as (head at.After-put_down) c.at_the_top.ensures (more_after R c.put_down.ensures.put)) (none_goes_under (patches_of c.args.heads.now.items) (λ q h. (c.requires.lawful.one_place_each.numbered q h).0) (c.args.numbers + 1) [] (omega arith)) R.waiting (omega (arith, wide, same, c.args.heads.now.ok.0, c.reserve_heads.new.heads.ok.0));
+      tail = gate_added c.reserve_heads.new.queue (more_as tail c.at_the_top-2.ensures c.put_down-2.ensures.put) (none_goes_under (patches_of c.put_down.new.heads.items) (λ q h. (with_first.one_place_each.numbered q h).0) (c.args.numbers + 1 + 1) ((c.args.numbers + 1) ∷ []) (omega arith)) refl (omega (arith, wide, c.put_down.ensures.len));
     }

@@ -6,8 +6,8 @@ returns-then-comes_back-clause-graded c leads = leads.straight (c.comes_back.ens
 pub returns-then-comes_back_soon-clause-graded : goal.returns-then-comes_back_soon-clause-graded
 returns-then-comes_back_soon-clause-graded c leads = leads.straight (c.comes_back_soon.ensures c.if-comes_back_soon.true)
 
-pub returns-then-leads_along_strand-clause-graded : goal.returns-then-leads_along_strand-clause-graded
-returns-then-leads_along_strand-clause-graded c leads = leads.straight (c.leads_along_strand.ensures c.if-leads_along_strand.true)
+pub returns-then-leads_to_block-clause-graded : goal.returns-then-leads_to_block-clause-graded
+returns-then-leads_to_block-clause-graded c leads = leads.straight (c.leads_to_block.ensures c.if-leads_to_block.true)
 
 pub returns-then-stays_below-clause-graded : goal.returns-then-stays_below-clause-graded
 returns-then-stays_below-clause-graded c = c.stays_below.ensures c.if-stays_below.true

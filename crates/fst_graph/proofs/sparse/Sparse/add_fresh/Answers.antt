@@ -1,7 +1,8 @@
-use Rattle.std.proofs.Common.{◌+◌, ◌∙◌, refl, sym, ap, subst}
+use Rattle.std.proofs.Common.{◌+◌, ◌∙◌, refl, sym, ap, subst, arith}
 use Rattle.fst_heads.specs.{Heads.patches_of}
 use Rattle.fst_heads.proofs.Beside.{weighs}
 use Rattle.fst_walks.proofs.Seen.{same_patches}
+use Rattle.fst_walks.specs.Leveling.{IsLeveled}
 use Rattle.fst_graph.specs.{Fresh.{patch_from, MayAdd}, Known.Known}
 use Rattle.fst_graph.proofs.{Made.{added_sound, put_patches}, Sound.{roomier_sound, rising_sound}}
 use Rattle.fst_graph.proofs.sparse.Sparse.add_fresh.Goals.{After-weight-live}
@@ -9,6 +10,9 @@ use Rattle.fst_graph.proofs.sparse.Sparse.add_fresh.Goals as goal
 
 pub add_one-requires-clause-rising : goal.add_one-requires-clause-rising
 add_one-requires-clause-rising c = rising_sound c.self.invariant
+
+pub add_one-requires-clause-leveled : goal.add_one-requires-clause-leveled
+add_one-requires-clause-leveled c = let L = c.self.invariant.leveled in subst (λ n. IsLeveled (patches_of c.self.inside.heads.items) n c.self.inside.levels) (sym L.long) L
 
 may : (c : After-weight-live) → MayAdd (patches_of c.self.inside.heads.items) c.self.inside.numbers (patch_from c.args.fresh)
 may c = subst (λ (v : Known). MayAdd v.heads v.numbers (patch_from c.args.fresh)) (sym c.self.view_is) c.requires
@@ -26,3 +30,6 @@ invariant_of-self-2 c =
 
 pub returns-clause-ok : goal.returns-clause-ok
 returns-clause-ok c = rw (← c.self.view_is, c.let_go.ensures, put_patches c.self.inside.heads.items c.add_one.new.heads.items (patch_from c.args.fresh) c.in-Ok.ensures.added.head.nodes) (refl, refl)
+
+pub add_one-requires-clause-given : goal.add_one-requires-clause-given
+add_one-requires-clause-given c = let next = (may (goal.at.add_one-requires-clause-given c).After-weight-live).next in omega (arith, next)

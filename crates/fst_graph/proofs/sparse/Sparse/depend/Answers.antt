@@ -2,8 +2,9 @@ use Rattle.std.proofs.Common.{◌∙◌, length, refl, sym, ap, subst, None, inl
 use Rattle.fst_types.specs.{Gates.IsOpenNumber, Order.depend_order, Refusals.NoneHolds}
 use Rattle.fst_heads.specs.{Heads.patches_of, Names.numbers_of, Nodes.nodes_of}
 use Rattle.fst_walks.proofs.Seen.{same_patches}
+use Rattle.fst_walks.specs.Leveling.{IsLeveled}
 use Rattle.fst_graph.specs.Sound.{AreSound}
-use Rattle.fst_graph.proofs.{Borne.few, Made.{gained_sound, named_patches}, Sound.{rising_sound, roomier_sound, walked_sound, as_many_marks, as_many_places, gates_told, over_down}}
+use Rattle.fst_graph.proofs.{Borne.few, Made.{gained_sound, named_patches}, Sound.{leveled_sound, rising_sound, roomier_sound, walked_sound, as_many_marks, as_many_places, gates_told, over_down}}
 use Rattle.fst_graph.proofs.sparse.Sparse.depend.Goals.{After-depend_fault, After-gain_names}
 use Rattle.fst_graph.proofs.sparse.Sparse.depend.Goals as goal
 
@@ -43,11 +44,33 @@ returns-in_default-gain_names-clause-refused c = rw (← c.self.view_is, ← c.d
 pub returns-in_default-gain_names-clause-same : goal.returns-in_default-gain_names-clause-same
 returns-in_default-gain_names-clause-same c = rw (← c.self.view_is, c.let_go.ensures, same_patches c.gain_names.new.heads.items c.self.inside.heads.items c.in_default-gain_names.ensures.same) refl
 
+pub renew-requires-clause-rising : goal.renew-requires-clause-rising
+renew-requires-clause-rising c =
+    let at = goal.at.renew-requires-clause-rising c in
+    let G = c.in-Ok.ensures.gained in
+    rw c.deref-2.ensures.value (rising_sound (gained_sound (walked at.After-depend_fault) {new = c.gain_names.new.heads} c.args.gate.0 G.0 (numbers_of c.args.on.now) (gate at.After-gain_names) (clear at.After-gain_names) G.1 G.2))
+
+pub renew-requires-clause-leveled : goal.renew-requires-clause-leveled
+renew-requires-clause-leveled c =
+    let at = goal.at.renew-requires-clause-leveled c in
+    let G = c.in-Ok.ensures.gained in
+    let L = (gained_sound (walked at.After-depend_fault) {new = c.gain_names.new.heads} c.args.gate.0 G.0 (numbers_of c.args.on.now) (gate at.After-gain_names) (clear at.After-gain_names) G.1 G.2).leveled in
+    rw c.deref-2.ensures.value (subst (λ n. IsLeveled (patches_of c.gain_names.new.heads.items) n c.self.inside.levels) (sym L.long) L)
+
+pub renew-requires-clause-given : goal.renew-requires-clause-given
+renew-requires-clause-given c =
+    let g = gate (goal.at.renew-requires-clause-given c).After-gain_names in
+    let k = (c.self.invariant.keeps.lawful.one_place_each.numbered g.patch g.head).0 in
+    omega (arith, k, g.numbered)
+
 pub invariant_of-self-2 : goal.invariant_of-self-2
 invariant_of-self-2 c =
     let at = goal.at.invariant_of-self-2 c in
     let G = c.in-Ok.ensures.gained in
-    rw c.let_go.ensures (gained_sound (walked at.After-depend_fault) c.args.gate.0 G.0 (numbers_of c.args.on.now) (gate at.After-gain_names) (clear at.After-gain_names) G.1 G.2)
+    let S = gained_sound (walked at.After-depend_fault) {new = c.gain_names.new.heads} c.args.gate.0 G.0 (numbers_of c.args.on.now) (gate at.After-gain_names) (clear at.After-gain_names) G.1 G.2 in
+    let heads = c.gain_names.new.heads.items in
+    let L = subst (λ hs. IsLeveled (patches_of hs) (length c.renew.new.levels.floors) c.renew.new.levels) c.deref-2.ensures.value c.renew.ensures.leveled in
+    rw c.let_go.ensures (leveled_sound S (subst (λ n. IsLeveled (patches_of heads) n c.renew.new.levels) (ap length c.renew.ensures.floors ∙ S.leveled.long) L))
 
 pub returns-clause-ok : goal.returns-clause-ok
 returns-clause-ok c =

@@ -27,8 +27,8 @@ lift-requires c =
 pub put-requires : goal.put-requires
 put-requires c = may_need c.self.invariant (now (goal.at.put-requires c).After-as_slice-row).down c.deref-6.ensures.value c.as_slice-row.ensures
 
-pub strand_after-requires : goal.strand_after-requires
-strand_after-requires c = may_go_on c.self.invariant (now (goal.at.strand_after-requires c).After-as_slice-row).down c.deref-5.ensures.value c.lift.ensures.leveled c.deref-7.ensures.value
+pub ancestry_over-requires : goal.ancestry_over-requires
+ancestry_over-requires c = may_go_on c.self.invariant (now (goal.at.ancestry_over-requires c).After-as_slice-row).down c.deref-5.ensures.value c.lift.ensures.leveled c.deref-7.ensures.value
 
 pub put_down-pending-requires : goal.put_down-pending-requires
 put_down-pending-requires c =
@@ -56,7 +56,7 @@ sound c D =
     change_sound c.self.invariant D
     c.rise_of-rise.new.walk c.rise_of-rise.new.crossed c.put_down-pending.ensures.put c.put_down-pending.ensures.pending c.deref.ensures.value c.as_slice-row.ensures c.rise_of-rise.ensures.rise c.rise_of-rise.ensures.long
     c.deref-5.ensures.value c.lift.ensures.leveled c.lift.ensures.below c.lift.ensures.lifted c.lift.ensures.still
-    c.deref-7.ensures.value c.as_slice-row.ensures c.strand_after.ensures
+    c.deref-7.ensures.value c.as_slice-row.ensures c.ancestry_over.ensures
     c.deref-6.ensures.value c.as_slice-row.ensures c.put.ensures
     c.enlist.ensures.listed
     c.index_mut.ensures.value c.put-2.ensures refl

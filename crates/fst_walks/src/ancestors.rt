@@ -1,0 +1,185 @@
+//! Ancestors: what tells in few steps that a way leads down from one patch to another, however long it is. Each head knows
+//! its parent, the newest of what it directly depended on when it was made or last gained names, and one ancestor further
+//! down that way, its jump. The jumps are those of Myers ("An applicative random-access stack", 1983): two of equal length
+//! are joined to one, so that the ancestor at a depth is some dozens of steps away, whatever lies between. An ancestor is
+//! older than its patch; one that was forgotten is none.
+
+ghost use Rattle.std.specs.Prelude.{◌≡◌, ◌<◌, ◌⊎◌, ℕ, IsTrue, IfSome, Contains, length, map};
+ghost use Rattle.fst_types.specs.Dependencies.{DependsOn};
+ghost use Rattle.fst_heads.specs.declared.test.Test.TheVariants as test;
+ghost use Rattle.fst_heads.specs.Grading.{HasUnder, IsReturning};
+ghost use Rattle.fst_heads.specs.Heads.{IsRising, patches_of};
+ghost use Rattle.fst_heads.specs.Marks.{PassesAt};
+ghost use Rattle.fst_walks.specs.Ancestors.{AreOver, GoesUnder, LeadsTo};
+ghost use Rattle.fst_walks.specs.Leveling.{IsLeveled, jump_of, parent_of};
+ghost use Rattle.fst_walks.specs.Sights.{Sees};
+
+use crate::levels::{Ancestry, Levels, no_ancestry};
+use crate::shortcuts::{newest, newest_few, passes_at};
+use crate::sight::Sight;
+use fst_heads::head::Head;
+use fst_heads::lists::Listed;
+use fst_heads::test::Test;
+
+// How many of the newest changes of a block are looked for.
+const NEWEST: usize = 32;
+
+// From how many of a row they are looked for.
+const WIDTH: usize = 4;
+
+// How far above one of the row the first change of another block may be: gates and empty patches stand between.
+const FEW: u32 = 8;
+
+// More steps than the way to any ancestor has: of 65,535 patches none is more than three times sixteen away.
+const MOST_STEPS: u32 = 64;
+
+// The jump of a patch with that parent: where the parent's jump is as long as the next one, over both, else to the parent.
+fn jump_under(levels: &Levels, heads: &[Head], parent: u32) -> u32
+    requires rising { IsRising heads.now }
+    requires aligned { map (λ r. r.number) levels.now.ranks ≡ map (λ p. p.number) (patches_of heads.now) }
+    ensures { (result ≡ parent) ⊎ (result ≡ jump_of levels.now.ranks (jump_of levels.now.ranks parent)) }
+{
+    let first = levels.rank_of(heads, parent).ancestry;
+    let second = levels.rank_of(heads, first.jump).ancestry;
+    let third = levels.rank_of(heads, second.jump).ancestry;
+    if second.depth < first.depth
+        && first.depth.abs_diff(second.depth) == second.depth.abs_diff(third.depth)
+    {
+        second.jump
+    } else {
+        parent
+    }
+}
+
+/// The ancestry of the patch with the number, which directly depends on the row.
+pub fn ancestry_over(levels: &Levels, heads: &[Head], row: &[u32], number: u32) -> Ancestry
+    requires rising { IsRising heads.now }
+    requires aligned { map (λ r. r.number) levels.now.ranks ≡ map (λ p. p.number) (patches_of heads.now) }
+    requires jumps { AreOver (patches_of heads.now) (jump_of levels.now.ranks) }
+    requires given { 0 < number }
+    ensures { GoesUnder (patches_of heads.now) number row.now result }
+{
+    let Some(parent) = newest(row) else {
+        return no_ancestry();
+    };
+    if parent >= number {
+        return no_ancestry();
+    }
+    let above = levels.rank_of(heads, parent).ancestry.depth;
+    Ancestry {
+        parent,
+        jump: jump_under(levels, heads, parent),
+        depth: above.saturating_add(1),
+    }
+}
+
+/// The patch with the number has the ancestry of what it directly depends on now.
+pub fn renew(levels: &mut Levels, heads: &[Head], number: u32)
+    requires rising { IsRising heads.now }
+    requires leveled { IsLeveled (patches_of heads.now) (length levels.old.floors) levels.old }
+    requires given { 0 < number }
+    ensures leveled { IsLeveled (patches_of heads.now) (length levels.new.floors) levels.new }
+    ensures floors { levels.new.floors ≡ levels.old.floors }
+    ensures room { (length levels.new.ranks ≡ length levels.old.ranks) × (levels.new.room ≡ levels.old.room) }
+{
+    let Some(slot) = levels.find(heads, number) else {
+        return;
+    };
+    let row = heads[slot].dependencies.as_slice();
+    let ancestry = ancestry_over(levels, heads, row, number);
+    levels.put_ancestry(slot, ancestry);
+}
+
+// The next ancestor on the way to one at that depth: the jump, unless that goes past it.
+fn toward(sight: &Sight<'_>, own: Ancestry, depth: u32) -> u32
+    requires sees { Sees sight.now }
+    ensures { (result ≡ own.parent) ⊎ (result ≡ own.jump) }
+{
+    let further = sight.levels.rank_of(sight.heads, own.jump).ancestry;
+    if further.depth >= depth {
+        own.jump
+    } else {
+        own.parent
+    }
+}
+
+// Whether a patch is the other one, which is at that depth, or has it among its ancestors.
+fn comes_to(sight: &Sight<'_>, from: u32, to: u32, depth: u32) -> bool
+    requires sees { Sees sight.now }
+    ensures { IsTrue result → LeadsTo (patches_of sight.now.heads.now) from to }
+{
+    let mut at = from;
+    for _ in 0..MOST_STEPS {
+        if at == to {
+            return true;
+        }
+        let own = sight.levels.rank_of(sight.heads, at).ancestry;
+        if own.depth <= depth {
+            return false;
+        }
+        at = toward(sight, own, depth);
+    }
+    false
+}
+
+// The first change of another block that is not on disk among the patch and its next ancestors.
+fn first_off(sight: &Sight<'_>, block: u32, number: u32) -> Option<u32>
+    requires sees { Sees sight.now }
+    ensures off { IfSome result (PassesAt (test.LiveOff block) (patches_of sight.now.heads.now)) }
+    ensures under { IfSome result (LeadsTo (patches_of sight.now.heads.now) number) }
+{
+    let mut at = number;
+    for _ in 0..FEW {
+        if passes_at(sight.heads, Test::LiveOff(block), at) {
+            return Some(at);
+        }
+        at = sight.levels.rank_of(sight.heads, at).ancestry.parent;
+    }
+    None
+}
+
+// The newest changes of the block that are not on disk, as many as are looked for.
+fn newest_changes<'a>(sight: &Sight<'a>, block: u32) -> &'a [Listed]
+    requires sees { Sees sight.now }
+    requires block { block < length sight.now.lists.now }
+    ensures { (n : ℕ) → Contains (map (λ l. l.number) result.now) n → PassesAt (test.LiveOn block) (patches_of sight.now.heads.now) n }
+{
+    let list = sight.lists[block as usize].as_slice();
+    &list[list.len().saturating_sub(NEWEST)..]
+}
+
+// Whether one of these changes is an ancestor of the patch with the number. What a patch depends on is no higher than it is.
+fn leads_to_one(sight: &Sight<'_>, number: u32, changes: &[Listed]) -> bool
+    requires sees { Sees sight.now }
+    ensures { IsTrue result → (n : ℕ) × Contains (map (λ l. l.number) changes.now) n × LeadsTo (patches_of sight.now.heads.now) number n }
+{
+    let own = sight.levels.rank_of(sight.heads, number);
+    for change in changes {
+        let rank = sight.levels.rank_of(sight.heads, change.number);
+        if rank.level <= own.level
+            && rank.ancestry.depth < own.ancestry.depth
+            && comes_to(sight, number, change.number, rank.ancestry.depth)
+        {
+            return true;
+        }
+    }
+    false
+}
+
+/// Whether the ancestors of one of the row lead over a change of another block down to one of the newest changes of the
+/// block. A change of the block with that row is soft. Where none do, another way may.
+pub fn leads_to_block(sight: &Sight<'_>, block: u32, row: &[u32]) -> bool
+    requires sees { Sees sight.now }
+    requires block { block < length sight.now.lists.now }
+    ensures { IsTrue result → HasUnder (patches_of sight.now.heads.now) row.now (IsReturning (patches_of sight.now.heads.now) block) }
+{
+    let changes = newest_changes(sight, block);
+    for number in newest_few(row, WIDTH) {
+        if let Some(off) = first_off(sight, block, *number) {
+            if leads_to_one(sight, off, changes) {
+                return true;
+            }
+        }
+    }
+    false
+}
