@@ -2,10 +2,10 @@
 //! that it depends on can come to wait for its block: no open gate, no change of another block that needs one of its
 //! block, and no block from which the block graph leads to its block. What is near the change mostly tells it, and their
 //! levels do where all that it depends on is below the floor of its block. Else the ancestors of what the change depends
-//! on may lead back to the block, or a chain within a few steps; or a short walk down may tell, or a longer chain, and
-//! only where none does a way back is looked for from both ends. Over a block whose changes are all on disk no search is
-//! needed. A gate that is sealed with the change is taken as sealed already: that sets free what it alone blocks, and moves
-//! no change and no dependency.
+//! on may lead back to the block, or a chain within a few steps; or a short walk down may tell, or a short search from both
+//! ends, or longer chains, and only where none does a way back is looked for from both ends without a limit. Over a block
+//! whose changes are all on disk no search is needed. A gate that is sealed with the change is taken as sealed already:
+//! that sets free what it alone blocks, and moves no change and no dependency.
 
 ghost use Rattle.std.specs.Prelude.{◌<◌, length};
 ghost use Rattle.fst_types.specs.Grades.{FollowsRule};
@@ -24,6 +24,10 @@ use crate::shortcuts::{
 };
 use crate::sight::Sight;
 use fst_types::Grade;
+
+// How many patches each end looks at before long chains are followed. Behind gates in a chain the walk up from the block
+// mostly ends at once, and long chains down would be followed for nothing.
+const FEW_LOOKS: usize = 128;
 
 // What keeps a new change of the block with that row soft but for open gates. What was met and crossed before does not
 // matter.
@@ -51,10 +55,14 @@ fn grade_by_ways(sight: &Sight<'_>, ends: &mut Ends, block: u32, row: &[u32]) ->
     if let Some(grade) = grade_below(sight, &mut ends.down, block, row) {
         return grade;
     }
+    if let Some(grade) = grade_between(sight, ends, block, row, FEW_LOOKS) {
+        return grade;
+    }
     if comes_back(sight, block, row) {
         return Grade::Soft;
     }
-    grade_between(sight, ends, block, row)
+    // Without a limit it tells the grade.
+    grade_between(sight, ends, block, row, usize::MAX).unwrap()
 }
 
 /// The grade of a new change of the block that directly depends on the row, where that gate is taken as sealed. What was

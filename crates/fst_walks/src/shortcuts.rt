@@ -29,13 +29,16 @@ use fst_heads::standing::Standing;
 use fst_heads::test::{Test, passes};
 use fst_types::Place;
 
-// How far a chain is followed. Behind gates in a long chain it never comes back, and each new patch would follow it all the
-// way; where it does come back it mostly takes fewer steps.
+// How far the chain along the newest is followed, before a walk is tried. Where groups or chains come one after the other
+// it comes back within a few steps, over which a walk would meet all their members.
+const NEAR_STEPS: u32 = 64;
+
+// How far a chain toward a change of the block is followed. Where it comes back it mostly takes fewer steps.
 const MOST_STEPS: u32 = 512;
 
-// How far it is followed before a walk is tried. Where groups or chains come one after the other it comes back within a few
-// steps, over which a walk would meet all their members.
-const NEAR_STEPS: u32 = 64;
+// Toward how many of the newest changes of the block chains are followed. In a grid whose rows and blocks do not divide one
+// another often no way leads to the newest and one to an older does.
+const MOST_CHAINS: usize = 8;
 
 // How many patches beside a chain are looked at in all.
 const MOST_LOOKS: usize = 8_192;
@@ -238,16 +241,6 @@ pub fn is_clean(sight: &Sight<'_>, block: u32) -> bool
     list.is_empty()
 }
 
-// The number of the newest change of the block that is not on disk, or one that no patch has.
-fn newest_change(sight: &Sight<'_>, block: u32) -> u32
-    requires { block < length sight.now.lists.now }
-{
-    match sight.lists[block as usize].last() {
-        Some(listed) => listed.number,
-        None => u32::MAX,
-    }
-}
-
 /// Whether the chain along the newest comes from the row, within a few steps, over a change of another block back to the
 /// block. A change of the block with that row is soft. Where it does not, the chain may lead there further on.
 pub fn comes_back_soon(sight: &Sight<'_>, block: u32, row: &[u32]) -> bool
@@ -258,16 +251,21 @@ pub fn comes_back_soon(sight: &Sight<'_>, block: u32, row: &[u32]) -> bool
     chain_back(sight, block, row, Chain::Newest, NEAR_STEPS)
 }
 
-/// Whether one of two chains, along the newest or toward the newest change of the block, comes from the row over a change
-/// of another block back to the block. A change of the block with that row is soft. Where neither does, another path may.
+/// Whether a chain toward one of the newest changes of the block comes from the row over a change of another block back to
+/// the block. A change of the block with that row is soft. Where none does, another path may.
 pub fn comes_back(sight: &Sight<'_>, block: u32, row: &[u32]) -> bool
     requires sees { Sees sight.now }
     requires block { block < length sight.now.lists.now }
     ensures { IsTrue result → HasUnder (patches_of sight.now.heads.now) row.now (IsReturning (patches_of sight.now.heads.now) block) }
 {
-    let toward = Chain::Toward(newest_change(sight, block));
-    chain_back(sight, block, row, Chain::Newest, MOST_STEPS)
-        || chain_back(sight, block, row, toward, MOST_STEPS)
+    let list = sight.lists[block as usize].as_slice();
+    let newest = &list[list.len().saturating_sub(MOST_CHAINS)..];
+    for listed in newest.iter().rev() {
+        if chain_back(sight, block, row, Chain::Toward(listed.number), MOST_STEPS) {
+            return true;
+        }
+    }
+    false
 }
 
 /// Whether each of the row is a hard change of the block in memory, or lower than the floor of the block. A change of the

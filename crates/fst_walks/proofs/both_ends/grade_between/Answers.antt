@@ -34,7 +34,7 @@ returns-in-true-clause-graded c =
     let sight = c.args.sight.now in
     let sees = c.requires.sees in
     together_soft sight.heads.now sees.rising sees.disk sees.hard sees.flights (level_of sight.levels.now.ranks) (floor_of sight.levels.now.floors) sees.leveled.leveled (needs_of sight.needs.now.lists) sees.needing.needed
-    c.highest-most.result c.floor-least.result c.args.block (omega (arith, c.floor-least.ensures)) c.args.row.now _ _ _ _ (starts (goal.at.returns-in-true-clause-graded c).After-visit_low_changes-up) (c.meet_between.ensures.together c.in-true.is)
+    c.highest-most.result c.floor-least.result c.args.block (omega (arith, c.floor-least.ensures)) c.args.row.now _ _ _ _ (starts (goal.at.returns-in-true-clause-graded c).After-visit_low_changes-up) (c.in_ok-meet_between.ensures.together c.in-true.is)
 
 pub returns-in-false-clause-graded : goal.returns-in-false-clause-graded
 returns-in-false-clause-graded c =
@@ -42,7 +42,7 @@ returns-in-false-clause-graded c =
     let sees = c.requires.sees in
     apart_hard sight.heads.now sees.rising sees.disk sees.hard sees.flights (level_of sight.levels.now.ranks) (floor_of sight.levels.now.floors) sees.leveled.leveled (needs_of sight.needs.now.lists) sees.needing.needed
     c.highest-most.result c.floor-least.result c.args.block (omega (arith, c.floor-least.ensures)) c.args.row.now _ _ _ _ (starts (goal.at.returns-in-false-clause-graded c).After-visit_low_changes-up)
-    (numbers_met sight.heads.now c.meet_between.new.ends.up.walk) (numbers_met sight.heads.now c.meet_between.new.ends.down.walk) (c.meet_between.ensures.apart c.in-false.is)
+    (numbers_met sight.heads.now c.meet_between.new.ends.up.walk) (numbers_met sight.heads.now c.meet_between.new.ends.down.walk) (c.in_ok-meet_between.ensures.apart c.in-false.is)
 
 -- there is nothing that could lead back
 pub returns-then-len-eq0-clause-graded : goal.returns-then-len-eq0-clause-graded
