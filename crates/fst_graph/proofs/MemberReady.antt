@@ -127,8 +127,8 @@ around_kept new old e p room = (room_above new old e p.dependencies.items room.0
     below None r = tt
     below (Some x) r = room_below new old e x.tail r
 
-pub places_kept : {new old : Vec Head} {ends : Ends} {levels : Leveling} → new.len ≡ old.len → new.cap ≡ old.cap → HasPlaces 1 old ends levels → HasPlaces 1 new ends levels
-places_kept len cap room = record { heads_free = omega (arith, len, cap, room.heads_free); marks_free = room.marks_free; below_free = room.below_free; ranks_free = room.ranks_free }
+pub places_kept : {new old : Vec Head} {ends : Ends} {levels lowered : Leveling} → new.len ≡ old.len → new.cap ≡ old.cap → (length lowered.ranks ≡ length levels.ranks) × (lowered.room ≡ levels.room) → HasPlaces 1 old ends levels → HasPlaces 1 new ends lowered
+places_kept len cap ranks room = record { heads_free = omega (arith, len, cap, room.heads_free); marks_free = room.marks_free; below_free = room.below_free; ranks_free = omega (arith, ranks.0, ranks.1, room.ranks_free) }
 
 -- a count that is not 0 has one that passes
 one_passes : (t : ℕ → Bool) (xs : List ℕ) → count_by t xs ≢ 0 → (x : ℕ) × In xs x × (t x ≡ true)

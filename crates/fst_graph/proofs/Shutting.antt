@@ -1,14 +1,14 @@
 -- What the fields are once an open gate is sealed, and what came to rest by that is on disk.
-use Rattle.std.proofs.Common.{length, ◌≡◌, ◌≤◌, ◌+◌, ◌-◌, ◌++◌, ◌∙◌, ℕ, List, [], Option, None, map, count_by, arith, refl, ap, subst}
+use Rattle.std.proofs.Common.{length, ◌≡◌, ◌≤◌, ◌<◌, ◌+◌, ◌-◌, ◌++◌, ◌∙◌, ℕ, List, [], Option, None, map, count_by, arith, refl, sym, ap, subst}
 use Rattle.std.proofs.lemmas.List.{length-map}
 use Rattle.std.specs.Global.{Vec}
 use Rattle.fst_types.specs.{Cascade.{IsCascadeOf, unsettled}, Gates.IsOpenNumber, Gating.sealed}
-use Rattle.fst_heads.specs.{Covers.Covering, Heads.patches_of, Nodes.{node_of, nodes_of, at_number, AreDistinct, AreLinked, AreSettled}, Spreading.{is_waiting, seals, wakes_sealed, IsSpreadOf, Spreading}}
+use Rattle.fst_heads.specs.{Covers.Covering, Heads.{IsRising, patch_of, patches_of}, Keeps.Keeps, Marks.HasSlot, Nodes.{node_of, nodes_of, at_number, AreDistinct, AreLinked, AreSettled}, Spreading.{is_waiting, seals, wakes_sealed, IsSpreadOf, Spreading}}
 use Rattle.fst_heads.specs.{Standings.AllStand, declared.head.Head.Head, declared.lists.Listed.Listed, declared.standing.Standing.Standing}
-use Rattle.fst_walks.specs.{Leveling.Leveling, Needing.Needing, declared.ends.Ends.Ends}
+use Rattle.fst_walks.specs.{Leveling.{IsLeveled, Leveling}, Needing.Needing, declared.ends.Ends.Ends}
 use Rattle.fst_graph.specs.{Sound.AreSound, declared.prepared.Prepared.Prepared as Stored}
-use Rattle.fst_types.proofs.Sealing.{alike_sealed}
-use Rattle.fst_heads.proofs.{AtNumber.patches_in_nodes, Beside.{beside_landed, landed_few, sealed_told}, Carried.{linked_sealed, distinct_sealed}, Stands.stand_sealed, Starting.{starts_sealed, unsettled_sealed}}
+use Rattle.fst_types.proofs.{Alike.{Alike, length_alike}, Sealing.alike_sealed}
+use Rattle.fst_heads.proofs.{AtNumber.patches_in_nodes, Beside.{beside_landed, landed_few, sealed_told}, Carried.{linked_sealed, distinct_sealed}, Slots.rising_heads, Stands.stand_sealed, Starting.{starts_sealed, unsettled_sealed}}
 use Rattle.fst_walks.proofs.Seen.{seen, one_each, lawful_nodes, tallies_wider}
 use Rattle.fst_graph.proofs.{Borne.{inside_nodes, open_nodes}, Kept.{covered_moved, keeps_sealed}, NeedsNow.needing_sealed, Ranks.leveled_moved, Sound.as_many_standings, Tallied.tallies_sealed}
 
@@ -45,6 +45,20 @@ module _ {heads : Vec Head} {ends : Ends} {levels : Leveling} {needs : Needing} 
         ap (map unsettled) (seen mid.items _ shut) ∙ (unsettled_sealed (nodes_of heads.items) g ∙ ap (λ ps. map unsettled (map (sealed g) ps)) (patches_in_nodes heads.items)) in
         record { same = placed.same ∙ was; places = placed.places; settled = placed.settled }
 
+    alike_shut : Alike (patches_of heads.items) (patches_of new.items)
+    alike_shut = alike_sealed (patches_of heads.items) (patches_of new.items) numbers g S.keeps.lawful gate shut_cascade
+
+    keeps_shut : Keeps (patches_of new.items) numbers blocks ends.up.walk.marks
+    keeps_shut = keeps_sealed (patches_of heads.items) (patches_of new.items) numbers blocks g ends.up.walk.marks ends.up.walk.marks S.keeps gate shut_cascade refl
+
+    -- the gate may come down from the top
+    pub shut_settles : {slot : ℕ} → HasSlot heads.items g slot → record { rising : IsRising new.items; slot : slot < length new.items; leveled : IsLeveled (patches_of new.items) (length levels.floors) levels }
+    shut_settles at = record {
+      rising = rising_heads new.items keeps_shut.lawful.one_place_each.rising;
+      slot = let lt = at.0 in omega (arith, lt, length_alike (patches_of heads.items) (patches_of new.items) alike_shut, length-map heads.items patch_of, length-map new.items patch_of);
+      leveled = subst (λ n. IsLeveled (patches_of new.items) n levels) (sym S.leveled.long) (leveled_moved alike_shut S.leveled);
+    }
+
     module _ (landed : ℕ) (settled : AreSettled (nodes_of new.items) standings.len) (counted : count_by is_waiting (nodes_of new.items) + landed ≡ count_by is_waiting (nodes_of mid.items)) where
       still_settled : AreSettled (nodes_of new.items) blocks
       still_settled = subst (AreSettled (nodes_of new.items)) (as_many_standings S) settled
@@ -53,10 +67,10 @@ module _ {heads : Vec Head} {ends : Ends} {levels : Leveling} {needs : Needing} 
       pub shut_few : landed ≤ live
       shut_few = landed_few heads.items mid.items new.items (at_number g seals) blocks live landed ends.up.crossed.items shut (sealed_told g) S.tallies.settled still_settled counted S.beside
 
-      pub shut_sound : {told : Vec Standing} {emptied : Vec ℕ} → IsSpreadOf (nodes_of mid.items) (nodes_of new.items) → AllStand (nodes_of new.items) standings.len told.items → emptied.items ≡ [] → emptied.cap ≡ queue.cap
-          → AreSound new ends levels needs lists covers told emptied (live - landed) 0 numbers blocks None
-      shut_sound {told} {emptied} spread stand empty capacity =
-          let kept = keeps_sealed (patches_of heads.items) (patches_of new.items) numbers blocks g ends.up.walk.marks ends.up.walk.marks S.keeps gate shut_cascade refl in
+      pub shut_sound : {told : Vec Standing} {emptied : Vec ℕ} {lowered : Leveling} → IsLeveled (patches_of new.items) (length levels.floors) lowered → IsSpreadOf (nodes_of mid.items) (nodes_of new.items) → AllStand (nodes_of new.items) standings.len told.items → emptied.items ≡ [] → emptied.cap ≡ queue.cap
+          → AreSound new ends lowered needs lists covers told emptied (live - landed) 0 numbers blocks None
+      shut_sound {told} {emptied} {lowered} leveled spread stand empty capacity =
+          let kept = keeps_shut in
           let spread_from = subst (λ ns. IsSpreadOf ns (nodes_of new.items)) shut spread in
           let standing = subst (λ k. AllStand (nodes_of new.items) k told.items) (as_many_standings S) stand in
           record {
@@ -65,9 +79,9 @@ module _ {heads : Vec Head} {ends : Ends} {levels : Leveling} {needs : Needing} 
             tallies = tallies_wider _ numbers blocks _ _ _ _ _ _
                 (tallies_sealed (nodes_of heads.items) (nodes_of new.items) numbers blocks _ _ _ _ _ g (lawful_nodes heads.items numbers S.keeps.lawful) (lawful_nodes new.items numbers kept.lawful) S.tallies
                 (open_nodes heads.items g gate) spread_from still_settled standing) empty (omega (arith, capacity));
-            covered = covered_moved (alike_sealed (patches_of heads.items) (patches_of new.items) numbers g S.keeps.lawful gate shut_cascade) kept S.covered;
+            covered = covered_moved alike_shut kept S.covered;
             along = S.along;
-            leveled = leveled_moved (alike_sealed (patches_of heads.items) (patches_of new.items) numbers g S.keeps.lawful gate shut_cascade) S.leveled;
+            leveled = subst (λ n. IsLeveled (patches_of new.items) n lowered) S.leveled.long leveled;
             needing = needing_sealed (patches_of heads.items) (patches_of new.items) numbers g S.keeps.lawful gate shut_cascade S.needing;
             none_below = λ b d lt. absurd (omega (arith, lt));
             prepared = tt;

@@ -180,6 +180,7 @@ impl Sparse {
         };
         seal_slot(&mut self.heads, &mut self.queue, gate.0, slot);
         let landed = cascade(&mut self.heads, &mut self.queue, &mut self.standings);
+        self.levels.settle(&self.heads, slot);
         self.live -= landed;
         self.unmarked = 0;
         Ok(())

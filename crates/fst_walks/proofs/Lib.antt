@@ -23,6 +23,7 @@ pub mod Overlapped
 pub mod Trails
 pub mod Leveled
 pub mod Lifted
+pub mod Lowered
 pub mod AncestorsKept
 pub mod LeveledKept
 pub mod Raised

@@ -285,6 +285,24 @@ impl Levels {
         self.ranks.retain(|rank| is_head(heads, rank.number));
     }
 
+    /// A sealed gate in the slot comes down to the greatest level of what it depends on. While it was open it stood at the
+    /// top, and so would all that is put after it.
+    pub fn settle(&mut self, heads: &[Head], slot: usize)
+        requires rising { IsRising heads.now }
+        requires slot { slot < length heads.now }
+        requires leveled { IsLeveled (patches_of heads.now) (length self.old.floors) self.old }
+        ensures leveled { IsLeveled (patches_of heads.now) (length self.old.floors) self.new }
+        ensures room { (length self.new.ranks ≡ length self.old.ranks) × (self.new.room ≡ self.old.room) }
+    {
+        let head = &heads[slot];
+        if let Kind::SealedGate = head.kind {
+            let level = self.greatest(heads, head.dependencies.as_slice());
+            if level < self.level(slot) {
+                raise(&mut self.ranks, slot, level);
+            }
+        }
+    }
+
     // The head in the slot goes up to that level, and where it is a hard change in memory so does the floor of its block.
     fn lift_one(&mut self, heads: &[Head], slot: usize, to: u32)
         requires rising { IsRising heads.now }

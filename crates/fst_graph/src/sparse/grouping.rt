@@ -95,6 +95,7 @@ impl Sparse {
             Ok(slot) => {
                 seal_slot(&mut self.heads, &mut self.queue, head, slot);
                 let landed = cascade(&mut self.heads, &mut self.queue, &mut self.standings);
+                self.levels.settle(&self.heads, slot);
                 self.live -= landed;
                 self.unmarked = 0;
             }

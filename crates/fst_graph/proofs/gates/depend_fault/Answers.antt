@@ -1,4 +1,4 @@
-use Rattle.std.proofs.{Common.{◌∷◌, [], List, refl, sym, inl, inr, arith, length, ◌<◌, ◌∙◌}, lemmas.Bool.false≢true, lemmas.List.length-map}
+use Rattle.std.proofs.{Common.{List, refl, sym, inl, inr, arith, length, ◌<◌, ◌∙◌}, lemmas.Bool.false≢true, lemmas.List.length-map}
 use Rattle.fst_types.specs.{Limits.max_names, Order.{NamesUnknown, depend_order, seal_order}, Patches.Patch, Refusals.IsFirst, declared.fault.Fault.Fault}
 use Rattle.std.proofs.Common.{ℕ}
 use Rattle.fst_heads.specs.Names.{numbers_of}

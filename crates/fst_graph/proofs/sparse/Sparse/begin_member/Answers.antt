@@ -1,9 +1,10 @@
 use Rattle.std.proofs.{Common.{rules, ◌≡◌, ◌∙◌, length, ap, subst, arith, refl, inl, inr}, lemmas.List.length-map}
 use Rattle.fst_types.specs.{Gates.IsOpenNumber, Order.seal_order, Refusals.IsFirst}
-use Rattle.fst_heads.specs.{Frames.{frame_of, frames_of}, Heads.patches_of, Nodes.nodes_of}
+use Rattle.fst_heads.specs.{Frames.{frame_of, frames_of}, Heads.patches_of, Marks.HasSlot, Nodes.nodes_of}
 use Rattle.fst_graph.specs.Sound.{IsPrepared}
+use Rattle.fst_walks.specs.Leveling.{IsLeveled}
 use Rattle.fst_graph.proofs.{Borne.settled_fits, GateSlot.refused_closed, MemberReady.{put_begun, around_kept, places_kept, shut_begun}, Readied.head_told}
-use Rattle.fst_graph.proofs.{Shutting.{shut_ready, shut_few, shut_cascade, shut_sound}, Sound.{if_prepared, rising_sound, with_prepared}}
+use Rattle.fst_graph.proofs.{Shutting.{shut_ready, shut_few, shut_cascade, shut_settles, shut_sound}, Sound.{if_prepared, rising_sound, with_prepared}}
 use Rattle.fst_graph.proofs.sparse.Sparse.begin_member.Goals.{After-seal_slot, In-Err}
 use Rattle.fst_graph.proofs.sparse.Sparse.begin_member.Goals as goal
 
@@ -23,6 +24,11 @@ gate c = subst (λ hs. IsOpenNumber (patches_of hs) c.args.head) c.deref.ensures
 pub cascade-landed-requires : goal.cascade-landed-requires
 cascade-landed-requires c = shut_ready c.self.invariant (gate (goal.at.cascade-landed-requires c).After-seal_slot) c.seal_slot.new.heads c.seal_slot.ensures.nodes c.seal_slot.ensures.queued c.seal_slot.ensures.capacity (search rules)
 
+pub settle-requires : goal.settle-requires
+settle-requires c =
+    let at = (goal.at.settle-requires c).After-seal_slot in
+    rw c.deref-in-Ok.ensures.value (shut_settles c.self.invariant (gate at) c.seal_slot.new.heads c.seal_slot.ensures.nodes c.cascade-landed.new.heads c.cascade-landed.ensures.placed (subst (λ hs. HasSlot hs c.args.head c.in-Ok.slot) c.deref.ensures.value c.in-Ok.ensures.slot))
+
 pub overflow_sub-self : goal.overflow_sub-self
 overflow_sub-self c =
     let C = c.cascade-landed.ensures in
@@ -39,10 +45,10 @@ invariant_of-self c =
     let frames : frames_of new.items ≡ frames_of s.heads.items = C.frames ∙ c.seal_slot.ensures.frames in
     let heads_long : new.len ≡ s.heads.len = omega (arith, ap length frames, length-map new.items frame_of, length-map s.heads.items frame_of, new.ok.0, s.heads.ok.0) in
     with_prepared
-    (shut_sound c.self.invariant open_gate c.seal_slot.new.heads c.seal_slot.ensures.nodes new C.placed c.cascade-landed.result C.settled C.landed {told = c.cascade-landed.new.standings} {emptied = c.cascade-landed.new.queue} C.spread C.standing C.empty (C.capacity ∙ c.seal_slot.ensures.capacity))
-    (if_prepared c.self.invariant (IsPrepared new s.ends s.levels s.needs s.lists s.covers c.cascade-landed.new.queue s.numbers s.blocks) (λ p is k. record {
+    (shut_sound c.self.invariant open_gate c.seal_slot.new.heads c.seal_slot.ensures.nodes new C.placed c.cascade-landed.result C.settled C.landed {told = c.cascade-landed.new.standings} {emptied = c.cascade-landed.new.queue} (subst (λ hs. IsLeveled (patches_of hs) (length c.self.inside.levels.floors) c.settle.new.self) c.deref-in-Ok.ensures.value c.settle.ensures.leveled) C.spread C.standing C.empty (C.capacity ∙ c.seal_slot.ensures.capacity))
+    (if_prepared c.self.invariant (IsPrepared new s.ends c.settle.new.self s.needs s.lists s.covers c.cascade-landed.new.queue s.numbers s.blocks) (λ p is k. record {
       ready = put_begun (patches_of s.heads.items) s.numbers s.blocks s.ends.up.walk.marks c.self.invariant.keeps g (patches_of new.items) open_gate cascade p (head_told s.prepared s.numbers c.requires.0 g p (ap (λ k. k.prepared) c.self.view_is ∙ c.requires.1) c.requires.2 is) k.ready;
-      places = places_kept heads_long (C.places ∙ c.seal_slot.ensures.places) k.places;
+      places = places_kept heads_long (C.places ∙ c.seal_slot.ensures.places) c.settle.ensures.room k.places;
       waits = omega (arith, heads_long, C.capacity, c.seal_slot.ensures.capacity, k.waits);
       around = around_kept new.items s.heads.items frames p k.around;
       runs = k.runs;

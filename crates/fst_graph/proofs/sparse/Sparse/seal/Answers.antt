@@ -1,7 +1,8 @@
-use Rattle.std.proofs.Common.{rules, ◌∙◌, subst, arith, refl}
+use Rattle.std.proofs.Common.{rules, ◌∙◌, length, subst, arith, refl}
 use Rattle.fst_types.specs.{Gates.IsOpenNumber, Order.seal_order, Refusals.NoneHolds}
-use Rattle.fst_heads.specs.{Heads.patches_of, Nodes.nodes_of}
-use Rattle.fst_graph.proofs.{Borne.settled_fits, Shutting.{shut_ready, shut_few, shut_cascade, shut_sound}, Sound.rising_sound, sparse.Sparse.seal.Goals.After-seal_slot}
+use Rattle.fst_heads.specs.{Heads.patches_of, Marks.HasSlot, Nodes.nodes_of}
+use Rattle.fst_walks.specs.Leveling.{IsLeveled}
+use Rattle.fst_graph.proofs.{Borne.settled_fits, Shutting.{shut_ready, shut_few, shut_cascade, shut_settles, shut_sound}, Sound.rising_sound, sparse.Sparse.seal.Goals.After-seal_slot}
 use Rattle.fst_graph.proofs.sparse.Sparse.seal.Goals as goal
 
 pub gate_slot-requires : goal.gate_slot-requires
@@ -23,6 +24,11 @@ gate c = subst (λ hs. IsOpenNumber (patches_of hs) c.args.gate.0) c.deref.ensur
 pub cascade-landed-requires : goal.cascade-landed-requires
 cascade-landed-requires c = shut_ready c.self.invariant (gate (goal.at.cascade-landed-requires c).After-seal_slot) c.seal_slot.new.heads c.seal_slot.ensures.nodes c.seal_slot.ensures.queued c.seal_slot.ensures.capacity (search rules)
 
+pub settle-requires : goal.settle-requires
+settle-requires c =
+    let at = (goal.at.settle-requires c).After-seal_slot in
+    rw c.deref-2.ensures.value (shut_settles c.self.invariant (gate at) c.seal_slot.new.heads c.seal_slot.ensures.nodes c.cascade-landed.new.heads c.cascade-landed.ensures.placed (subst (λ hs. HasSlot hs c.args.gate.0 c.in-Ok.slot) c.deref.ensures.value c.in-Ok.ensures.slot))
+
 pub overflow_sub-self : goal.overflow_sub-self
 overflow_sub-self c =
     let C = c.cascade-landed.ensures in
@@ -31,7 +37,7 @@ overflow_sub-self c =
 pub invariant_of-self-2 : goal.invariant_of-self-2
 invariant_of-self-2 c =
     let C = c.cascade-landed.ensures in
-    rw c.let_go.ensures (shut_sound c.self.invariant (gate (goal.at.invariant_of-self-2 c).After-seal_slot) c.seal_slot.new.heads c.seal_slot.ensures.nodes c.cascade-landed.new.heads C.placed c.cascade-landed.result C.settled C.landed C.spread C.standing C.empty (C.capacity ∙ c.seal_slot.ensures.capacity))
+    rw c.let_go.ensures (shut_sound c.self.invariant (gate (goal.at.invariant_of-self-2 c).After-seal_slot) c.seal_slot.new.heads c.seal_slot.ensures.nodes c.cascade-landed.new.heads C.placed c.cascade-landed.result C.settled C.landed (subst (λ hs. IsLeveled (patches_of hs) (length c.self.inside.levels.floors) c.settle.new.self) c.deref-2.ensures.value c.settle.ensures.leveled) C.spread C.standing C.empty (C.capacity ∙ c.seal_slot.ensures.capacity))
 
 pub returns-clause-ok : goal.returns-clause-ok
 returns-clause-ok c =

@@ -1,0 +1,79 @@
+-- Levels where a sealed gate comes down to the greatest level of what it directly depends on. The patches stay leveled.
+use Rattle.std.proofs.Common.{◌≡◌, ◌≢◌, ◌≤◌, ◌<◌, ◌∙◌, ℕ, List, length, map, get_or, Contains, sym, ap, subst, inl, inr, arith}
+use Rattle.std.proofs.lemmas.Bool.{cases_eq}
+use Rattle.fst_types.specs.{Dependencies.DirectlyOn, Gates.IsOpenNumber, Patches.{Patch}}
+use Rattle.fst_heads.specs.{Heads.{IsRising, kind_of, patches_of}, Marks.{HasSlot, PassesAt}, declared.head.Head.Head}
+use Rattle.fst_heads.proofs.Slots.{named_at, patch_is}
+use Rattle.fst_walks.specs.{Leveling.{AreLeveled, IsLeveled, Leveling, floor_of, jump_of, level_of, parent_of}, Walks.number_at, declared.levels.Rank.Rank}
+use Rattle.fst_walks.proofs.{AncestorsKept.over_as, Leveled.passed_on, Raised.kept_as, Ranked.{no_rank, rank_level, rank_number}, Visiting.slot_at}
+use Rattle.fst_heads.specs.declared.head.Kind.TheVariants as kinds
+use Rattle.fst_heads.specs.declared.test.Test.TheVariants as test
+
+module _ (heads : List Head) (rising : IsRising heads) (s : ℕ) (lt : s < length heads) (here : Head) (is_here : here ≡ get_or heads s here) (sealed : here.kind ≡ kinds.SealedGate) where
+  abbrev n : ℕ
+  n = number_at heads s
+
+  -- the patch with its number is a sealed gate
+  is_sealed : (x : Patch) → Contains (patches_of heads) x → x.number ≡ n → x.kind ≡ kind_of kinds.SealedGate
+  is_sealed x h e =
+      sym (ap (λ (p : Patch). p.kind) (patch_is heads x s here rising h (subst (λ k. HasSlot heads k s) (sym e) (slot_at heads s lt))))
+      ∙ (ap (λ (y : Head). kind_of y.kind) (sym is_here) ∙ ap kind_of sealed)
+
+  no_change : (b : ℕ) → PassesAt (test.LiveOn b) (patches_of heads) n → ⊥
+  no_change b x = let on = (passed_on (patches_of heads) b n x).2 in let k = is_sealed x.patch x.head x.numbered in cc
+
+  not_open : IsOpenNumber (patches_of heads) n → ⊥
+  not_open o = let k = is_sealed o.patch o.head o.numbered in let e = o.is_open in cc
+
+  module _ (level level' floor : ℕ → ℕ) (L : AreLeveled (patches_of heads) level floor) (to : ℕ) (row : (q : ℕ) → Contains here.dependencies.items q → level q ≤ to) (lower : to ≤ level n)
+      (own : level' n ≡ to) (rest : (m : ℕ) → m ≢ n → level' m ≡ level m) where
+    -- no level rises
+    fallen : (m : ℕ) → level' m ≤ level m
+    fallen m = elim (cases_eq m n) [
+      | inl e ↦ let k = ap level' e in let was = ap level e in omega (arith, k, was, own, lower)
+      | inr other ↦ let k = rest m other in omega (arith, k)
+    ]
+
+    direct_lowered : (p q : ℕ) → DirectlyOn (patches_of heads) p q → level' q ≤ level' p
+    direct_lowered p q d = elim (cases_eq p n) [
+      | inl e ↦
+          let named = named_at heads n q s here rising (slot_at heads s lt) (subst (λ m. DirectlyOn (patches_of heads) m q) e d) in
+          let under = row q (subst (λ (y : Head). Contains y.dependencies.items q) (sym is_here) named) in
+          let k = ap level' e in
+          let f = fallen q in
+          omega (arith, under, k, f, own)
+      | inr other ↦ let k = rest p other in let f = fallen q in let was = L.direct p q d in omega (arith, k, f, was)
+    ]
+
+    lowered : AreLeveled (patches_of heads) level' floor
+    lowered = record {
+      direct = direct_lowered;
+      change = λ b p x. elim (cases_eq p n) [
+        | inl e ↦ absurd (no_change b (subst (PassesAt (test.LiveOn b) (patches_of heads)) e x))
+        | inr other ↦ let k = rest p other in let was = L.change b p x in omega (arith, k, was)
+      ];
+      hard = λ b p h. let f = fallen p in let was = L.hard b p h in omega (arith, f, was);
+      gates = λ p o. elim (cases_eq p n) [
+        | inl e ↦ absurd (not_open (subst (IsOpenNumber (patches_of heads)) e o))
+        | inr other ↦ rest p other ∙ L.gates p o
+      ];
+      few = λ p. let f = fallen p in let was = L.few p in omega (arith, f, was);
+    }
+
+  -- and so what is kept of them is as it should be
+  pub lowered_is_leveled : (blocks to : ℕ) (old new : Leveling) → ((q : ℕ) → Contains here.dependencies.items q → level_of old.ranks q ≤ to) → ((d : Rank) → to < (get_or old.ranks s d).level)
+      → map (λ r. r.number) new.ranks ≡ map (λ r. r.number) old.ranks → ((d : Rank) → level_of new.ranks (get_or old.ranks s d).number ≡ to)
+      → ((d : Rank) (m : ℕ) → m ≢ (get_or old.ranks s d).number → level_of new.ranks m ≡ level_of old.ranks m) → map (λ r. r.ancestry) new.ranks ≡ map (λ r. r.ancestry) old.ranks
+      → new.floors ≡ old.floors → IsLeveled (patches_of heads) blocks old → IsLeveled (patches_of heads) blocks new
+  lowered_is_leveled blocks to old new row lower numbers raised rest ancestries floors x =
+      let slot = slot_at heads s lt in
+      let number = rank_number heads old.ranks rising x.aligned n s slot no_rank in
+      let level = rank_level heads old.ranks rising x.aligned n s slot no_rank in
+      let less = lower no_rank in
+      record {
+        aligned = numbers ∙ x.aligned;
+        long = rw floors x.long;
+        leveled = rw floors (lowered (level_of old.ranks) (level_of new.ranks) (floor_of old.floors) x.leveled to row (omega (arith, less, level)) (ap (level_of new.ranks) (sym number) ∙ raised no_rank) (λ m other. rest no_rank m (λ e. other (e ∙ number))));
+        parents = over_as (patches_of heads) (parent_of old.ranks) (parent_of new.ranks) (kept_as (λ r. r.ancestry) (λ a. a.parent) old.ranks new.ranks numbers ancestries) x.parents;
+        jumps = over_as (patches_of heads) (jump_of old.ranks) (jump_of new.ranks) (kept_as (λ r. r.ancestry) (λ a. a.jump) old.ranks new.ranks numbers ancestries) x.jumps;
+      }

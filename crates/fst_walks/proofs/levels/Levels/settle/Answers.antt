@@ -1,0 +1,21 @@
+use Rattle.std.proofs.Common.{◌∙◌, ◌≤◌, ap, arith, get_or, length, map, refl, subst, sym, Contains}
+use Rattle.fst_heads.specs.{Heads.patches_of}
+use Rattle.fst_walks.specs.Leveling.{IsLeveled, Leveling, level_of}
+use Rattle.fst_walks.proofs.{Lowered.lowered_is_leveled, Ranked.ranks_rise}
+use Rattle.fst_walks.proofs.levels.Levels.settle.Goals as goal
+
+pub raise-requires-clause-rising : goal.raise-requires-clause-rising
+raise-requires-clause-rising c = ranks_rise c.args.heads.now c.self.inside.ranks.items c.requires.rising (ap (λ v. map (λ r. r.number) v.ranks) c.self.view_is ∙ c.requires.leveled.aligned)
+
+pub returns-then-level-clause-leveled : goal.returns-then-level-clause-leveled
+returns-then-level-clause-leveled c =
+    let heads = c.args.heads.now in
+    let s = c.args.slot in
+    let old : Leveling = record { ranks = c.self.inside.ranks.items; floors = c.self.inside.floors.items; room = c.self.inside.room } in
+    let new : Leveling = record { ranks = c.raise.new.ranks.items; floors = c.self.inside.floors.items; room = c.self.inside.room } in
+    rw (← c.self.view_is)
+    (lowered_is_leveled heads c.requires.rising s c.requires.slot c.index-heads-slot.result c.index-heads-slot.is c.in-SealedGate.is (length old.floors) c.greatest-level.result old new
+    (λ q named. subst (λ (v : Leveling). level_of v.ranks q ≤ c.greatest-level.result) (sym c.self.view_is) (c.greatest-level.ensures q (subst (λ row. Contains row q) (sym c.as_slice.ensures) named)))
+    (λ d. let k = c.level.ensures d in let e = ap (λ (v : Leveling). (get_or v.ranks s d).level) c.self.view_is in omega (arith, k, e, c.if-level.true))
+    c.raise.ensures.numbers c.raise.ensures.raised c.raise.ensures.rest c.raise.ensures.ancestries refl
+    (subst (λ (v : Leveling). IsLeveled (patches_of heads) (length v.floors) v) (sym c.self.view_is) c.requires.leveled))
