@@ -21,9 +21,6 @@ use fst_heads::head::Head;
 use fst_heads::lists::Listed;
 use fst_heads::test::Test;
 
-// How many of the newest changes of a block are looked for.
-const NEWEST: usize = 32;
-
 // From how many of a row they are looked for.
 const WIDTH: usize = 4;
 
@@ -138,14 +135,14 @@ fn first_off(sight: &Sight<'_>, block: u32, number: u32) -> Option<u32>
     None
 }
 
-// The newest changes of the block that are not on disk, as many as are looked for.
-fn newest_changes<'a>(sight: &Sight<'a>, block: u32) -> &'a [Listed]
+// The newest changes of the block that are not on disk, no more than `most`.
+fn newest_changes<'a>(sight: &Sight<'a>, block: u32, most: usize) -> &'a [Listed]
     requires sees { Sees sight.now }
     requires block { block < length sight.now.lists.now }
     ensures { (n : ℕ) → Contains (map (λ l. l.number) result.now) n → PassesAt (test.LiveOn block) (patches_of sight.now.heads.now) n }
 {
     let list = sight.lists[block as usize].as_slice();
-    &list[list.len().saturating_sub(NEWEST)..]
+    &list[list.len().saturating_sub(most)..]
 }
 
 // Whether one of these changes is an ancestor of the patch with the number. What a patch depends on is no higher than it is.
@@ -167,13 +164,14 @@ fn leads_to_one(sight: &Sight<'_>, number: u32, changes: &[Listed]) -> bool
 }
 
 /// Whether the ancestors of one of the row lead over a change of another block down to one of the newest changes of the
-/// block. A change of the block with that row is soft. Where none do, another way may.
-pub fn leads_to_block(sight: &Sight<'_>, block: u32, row: &[u32]) -> bool
+/// block, of which no more than `most` are looked for. A change of the block with that row is soft. Where none do, another
+/// way may.
+pub fn leads_to_block(sight: &Sight<'_>, block: u32, row: &[u32], most: usize) -> bool
     requires sees { Sees sight.now }
     requires block { block < length sight.now.lists.now }
     ensures { IsTrue result → HasUnder (patches_of sight.now.heads.now) row.now (IsReturning (patches_of sight.now.heads.now) block) }
 {
-    let changes = newest_changes(sight, block);
+    let changes = newest_changes(sight, block, most);
     for number in newest_few(row, WIDTH) {
         if let Some(off) = first_off(sight, block, *number) {
             if leads_to_one(sight, off, changes) {
