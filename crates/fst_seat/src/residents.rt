@@ -98,7 +98,8 @@ impl Residents {
         clean_in(&self.places, seats, 0, self.hand)
     }
 
-    /// The block comes into memory. Where others were before it, the hand looks at them first.
+    /// The block comes into memory, in the place that the hand is at, and the hand goes on to the next: it comes to all
+    /// others before this one.
     fn add(&mut self, block: usize)
         requires { slice_get self.old.loaded block ≡ Some false }
         ensures { self.new ≡ record self.old { loaded = slice_set self.old.loaded block true } }
