@@ -1,5 +1,5 @@
 -- What the type of a cache keeps, and what it shows, where it was opened over these slots.
-use Rattle.std.proofs.Common.{◌≡◌, ◌≢◌, ◌≤◌, ℕ, false, List, [], ◌∷◌, None, is_some, length, map, count_by, get_or, Some, refl, sym, ap, subst, ◌∙◌, inl, inr, arith}
+use Rattle.std.proofs.Common.{◌≡◌, ◌≢◌, ◌≤◌, ℕ, false, List, [], ◌∷◌, None, is_some, length, replicate, map, count_by, get_or, Some, refl, sym, ap, subst, ◌∙◌, inl, inr, arith}
 use Rattle.std.proofs.lemmas.List.{length-map}
 use Rattle.std.proofs.lemmas.List.Elements.{All-map}
 use Rattle.std.proofs.lemmas.Option.{slice_get_within, get_or_from_slice_get}
@@ -12,6 +12,7 @@ use Rattle.fst_types.specs.Facts.{IsLawful}
 use Rattle.fst_types.proofs.Opened.{opening_is_lawful}
 use Rattle.fst_graph.specs.Known.{Known}
 use Rattle.fst_seat.specs.Seats.{SeatView, seat_of, seats_of, blocks}
+use Rattle.fst_seat.specs.Residing.{are_loaded}
 use Rattle.fst_cache.specs.Kept.{IsKeptSeat, IsKept, state_of, view_of}
 use Rattle.fst_cache.proofs.OpenPlaced.{map-twice, placed_each, sized_each, found}
 
@@ -21,6 +22,14 @@ agree m n h = grind (arith, h)
 none_loaded : {X : Type 0} (held : X → List ℕ) (index faults : X → ℕ) (slots : List X) → count_by (λ (s : SeatView). is_some s.loaded) (seats_of held index faults slots) ≡ 0
 none_loaded held index faults [] = refl
 none_loaded held index faults (x ∷ xs) = none_loaded held index faults xs
+
+-- and so it is listed
+pub none_listed : {X : Type 0} (held : X → List ℕ) (index faults : X → ℕ) (slots : List X) (n : ℕ) → n ≡ length slots → replicate n false ≡ are_loaded (seats_of held index faults slots)
+none_listed held index faults slots n many = ap (λ (m : ℕ). replicate m false) many ∙ each slots
+  where
+    each : (xs : List _) → replicate (length xs) false ≡ are_loaded (seats_of held index faults xs)
+    each [] = refl
+    each (x ∷ xs) = ap (λ ts. false ∷ ts) (each xs)
 
 abbrev pub new_graph : (numbers blocks : ℕ) → Known
 new_graph numbers blocks = record { heads = []; numbers = numbers; blocks = blocks; groups = []; prepared = None }

@@ -10,7 +10,7 @@ use Rattle.fst_types.specs.Counts.{is_dirty}
 use Rattle.fst_block.specs.BlockView.{BlockView}
 use Rattle.fst_graph.specs.Known.{Known}
 use Rattle.fst_seat.specs.Seats.{SeatView, blocks, is_dirty_seat}
-use Rattle.fst_seat.specs.Residing.{count_loaded, IsReadOf, IsLeastClean, MakesPlace, Loads, IsLoadedAt}
+use Rattle.fst_seat.specs.Residing.{count_loaded, IsReadOf, IsCleanAt, MakesPlace, Loads, IsLoadedAt}
 use Rattle.fst_cache.specs.Kept.{IsKept, IsKeptSeat, state_of, view_of}
 use Rattle.fst_seat.proofs.Seated.{get-set, listed_new, listed_set, same_listed}
 use Rattle.fst_cache.proofs.ResideSeats.{clean, clean_view, dirty_is}
@@ -122,15 +122,15 @@ placed_by s graph seats K same placed (inl h) = subst (Placed s graph seats) (sy
 placed_by s graph seats K same placed (inr h) =
     let c = h.1.0 in
     let seat = h.1.1 in
-    let least : IsLeastClean seats c seat = h.1.2 in
+    let found : IsCleanAt seats c seat = h.1.2 in
     subst (Placed s graph seats) (sym h.1.3)
     (record {
-      kept = unloaded s graph seats K same c seat least.at least.block.clean;
-      blocks = same_listed seats c seat least.at (λ (t : SeatView). t.block) (record seat { loaded = None }) refl;
-      faults = same_listed seats c seat least.at (λ (t : SeatView). t.faults) (record seat { loaded = None }) refl;
-      homes = same_listed seats c seat least.at (λ (t : SeatView). t.home) (record seat { loaded = None }) refl;
-      back = same_listed seats c seat least.at (λ (t : SeatView). t.back) (record seat { loaded = None }) refl;
-      free = place_left s graph seats K same c seat least.at least.block.there;
+      kept = unloaded s graph seats K same c seat found.at found.block.clean;
+      blocks = same_listed seats c seat found.at (λ (t : SeatView). t.block) (record seat { loaded = None }) refl;
+      faults = same_listed seats c seat found.at (λ (t : SeatView). t.faults) (record seat { loaded = None }) refl;
+      homes = same_listed seats c seat found.at (λ (t : SeatView). t.home) (record seat { loaded = None }) refl;
+      back = same_listed seats c seat found.at (λ (t : SeatView). t.back) (record seat { loaded = None }) refl;
+      free = place_left s graph seats K same c seat found.at found.block.there;
     })
 
 -- a load keeps what the type keeps, in the same state, and leaves what the slots hold, the other slots' counts and what came back

@@ -4,8 +4,8 @@
 //! The cache keeps neither bytes nor dependencies of its own: it asks both, and keeps them in step.
 //!
 //! All that every call needs and keeps is in the type's invariant: the state is lawful, a block in memory is as the state
-//! says, a block with a change that is not on disk is in memory, no more blocks are in memory than may be, and the blocks in
-//! flight and the undo bytes are as many as are counted.
+//! says, a block with a change that is not on disk is in memory, no more blocks are in memory than may be, those are the ones
+//! that are listed, and the blocks in flight and the undo bytes are as many as are counted.
 
 mod gates;
 mod groups;
@@ -18,6 +18,7 @@ mod write;
 use crate::contents::Contents;
 use fst_device::BlockSlot;
 use fst_graph::Graph;
+use fst_seat::residents::Residents;
 use fst_seat::seat::Seat;
 use std::alloc::Global;
 use std::marker::Model;
@@ -27,7 +28,6 @@ use std::marker::Model;
 pub struct Cache<S: BlockSlot> {
     alloc: Global,
     size: u32,
-    resident: u32,
     tickets: u64,
     made: u64,
     flights: usize,
@@ -35,6 +35,7 @@ pub struct Cache<S: BlockSlot> {
     graph: Graph,
     contents: Contents,
     seats: Vec<Seat<S>>,
+    residents: Residents,
 }
 
 impl<S: BlockSlot> Model for Cache<S> {
@@ -43,7 +44,7 @@ impl<S: BlockSlot> Model for Cache<S> {
 
     ghost Value = { CacheView };
 
-    ghost view = { λ a. view_of (state_of a.size a.resident a.tickets a.made a.graph a.contents.items a.seats.items) a.seats.items };
+    ghost view = { λ a. view_of (state_of a.size a.residents.most a.tickets a.made a.graph a.contents.items a.seats.items) a.seats.items };
 
-    ghost invariant = { λ a. IsCounted a.flights a.undo (state_of a.size a.resident a.tickets a.made a.graph a.contents.items a.seats.items) a.graph a.seats.items };
+    ghost invariant = { λ a. IsCounted a.flights a.undo a.residents.loaded (state_of a.size a.residents.most a.tickets a.made a.graph a.contents.items a.seats.items) a.graph a.seats.items };
 }

@@ -4,3 +4,5 @@ pub mod Loading
 pub mod Putting
 pub mod Flying
 pub mod Undo
+pub mod Exchanging
+pub mod Listing

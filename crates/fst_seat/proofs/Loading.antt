@@ -9,7 +9,7 @@ use Rattle.fst_types.specs.Residence.{faults_rose}
 use Rattle.fst_block.specs.BlockView.{BlockView}
 use Rattle.fst_seat.specs.Seats.{SeatView, is_dirty_with, is_dirty_seat}
 use Rattle.fst_seat.specs.Faults.{IsOneFaultMore}
-use Rattle.fst_seat.specs.Residing.{count_loaded, IsCleanLoaded, IsLeastClean, MakesPlace, Loads, IsLoadedAt, IsAtRestWhereAway}
+use Rattle.fst_seat.specs.Residing.{count_loaded, IsCleanLoaded, IsCleanAt, MakesPlace, Loads, IsLoadedAt, IsAtRestWhereAway}
 use Rattle.fst_seat.proofs.Seated.{get-set, listed, listed_new, listed_set, same_listed}
 use Rattle.fst_seat.proofs.Counts.{count_le}
 
@@ -22,11 +22,11 @@ none_clean seats none =
       | inr still ↦ absurd (none k x at_k (record { there = there; clean = still }))
     ])
 
--- where none is free, the first clean block gives up its own
-pub leaves_by : (resident : ℕ) (seats : List SeatView) (c : ℕ) (seat read new : SeatView) → resident ≤ count_loaded seats → IsLeastClean seats c seat
+-- where none is free, a clean block gives up its own
+pub leaves_by : (resident : ℕ) (seats : List SeatView) (c : ℕ) (seat read new : SeatView) → resident ≤ count_loaded seats → IsCleanAt seats c seat
     → new ≡ record (get_or seats c read) { loaded = None } → MakesPlace resident seats (slice_set seats c new)
-leaves_by resident seats c seat read new full least is =
-    inr (full, (c, seat, least, ap (slice_set seats c) (is ∙ ap (λ (t : SeatView). record t { loaded = None }) (get_or_from_slice_get seats c seat read least.at))))
+leaves_by resident seats c seat read new full found is =
+    inr (full, (c, seat, found, ap (slice_set seats c) (is ∙ ap (λ (t : SeatView). record t { loaded = None }) (get_or_from_slice_get seats c seat read found.at))))
 
 -- what is not dirty has no flight
 still_home : (seat : SeatView) → is_dirty_seat seat ≡ false → seat.block.flight ≡ None

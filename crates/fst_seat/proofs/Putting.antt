@@ -1,5 +1,5 @@
 -- The seat of a block that was read where it was not in memory, and that then has one patch more.
-use Rattle.std.proofs.Common.{◌≡◌, ◌⊎◌, ◌<◌, ◌≤◌, ℕ, List, [], ◌∷◌, ◌++◌, map, Option, Some, None, IsSome, All, refl, sym, ap, subst, ◌∙◌, inl, inr, length, get_or, slice_get, slice_set}
+use Rattle.std.proofs.Common.{◌≡◌, ◌⊎◌, ◌<◌, ◌≤◌, ℕ, List, [], ◌∷◌, ◌++◌, map, Option, Some, None, IsSome, is_some, true, All, refl, sym, ap, subst, ◌∙◌, inl, inr, length, get_or, slice_get, slice_set}
 use Rattle.std.specs.Prelude.{IfSome, Result, IsErr, IsErrOf, IfErr, OnOk, OnErr, Ok, Err}
 use Rattle.std.proofs.lemmas.Bool.{false≢true}
 use Rattle.std.proofs.lemmas.List.Elements.{All-nil}
@@ -9,7 +9,7 @@ use Rattle.fst_types.specs.declared.fault.Fault.TheVariants as fault
 use Rattle.fst_types.specs.State.{BlockState}
 use Rattle.fst_block.specs.BlockView.{BlockPatch, BlockView}
 use Rattle.fst_seat.specs.Seats.{SeatView}
-use Rattle.fst_seat.specs.Residing.{IsReadOf, MakesPlace, IsLoadedAt}
+use Rattle.fst_seat.specs.Residing.{are_loaded, IsReadOf, MakesPlace, IsLoadedAt}
 use Rattle.fst_seat.specs.Residing.{MayLoad, Puts}
 use Rattle.fst_seat.specs.Faults.{IsOneFaultMore}
 use Rattle.fst_seat.proofs.Seated.{get-set, same_seat, same_listed}
@@ -122,6 +122,19 @@ module _ (resident : ℕ) (old new : List SeatView) (b : ℕ) (seat : SeatView) 
       same (Err x) o there applied unchanged = ap (λ (t : SeatView). t.faults) unchanged
       same (Ok x) None there applied unchanged = absurd (false≢true there)
       same (Ok x) (Some l) there applied unchanged = ap (λ (t : SeatView). t.faults) applied
+
+  -- and so is what is in memory
+  pub same_loaded : {T E : Type 0} (r : Result T E) (patch : BlockPatch) (put : SeatView) → IsSome seat.loaded
+      → OnOk r (IfSome seat.loaded (λ l. put ≡ record seat { loaded = Some (record l { patches = l.patches ++ patch ∷ [] }) }))
+      → OnErr r (put ≡ seat)
+      → are_loaded (slice_set new b put) ≡ are_loaded new
+  same_loaded r patch put there applied unchanged = same_listed new b seat at_b (λ (t : SeatView). is_some t.loaded) put (same r seat.loaded there applied unchanged ∙ sym there)
+    where
+      same : {T E : Type 0} (r : Result T E) (o : Option BlockView) → is_some o ≡ true
+          → OnOk r (IfSome o (λ l. put ≡ record seat { loaded = Some (record l { patches = l.patches ++ patch ∷ [] }) })) → OnErr r (put ≡ seat) → is_some put.loaded ≡ true
+      same (Err x) o is applied unchanged = ap (λ (t : SeatView). is_some t.loaded) unchanged ∙ there
+      same (Ok x) None is applied unchanged = absurd (false≢true is)
+      same (Ok x) (Some l) is applied unchanged = ap (λ (t : SeatView). is_some t.loaded) applied
 
 -- what was said of the counts after the load is said of them after the patch
 pub counts_after : (old new now : List ℕ) (b : ℕ) → now ≡ new → IsOneFaultMore old b new → IsOneFaultMore old b now

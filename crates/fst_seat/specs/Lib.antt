@@ -2,4 +2,5 @@ pub mod Names
 pub mod Seen
 pub mod Seats
 pub mod Faults
+pub mod Places
 pub mod Residing

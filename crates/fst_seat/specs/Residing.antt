@@ -1,36 +1,31 @@
 -- Which blocks are in memory.
-use Rattle.std.specs.Prelude.{◌≡◌, ◌<◌, ◌≤◌, ◌⊎◌, ◌++◌, ◌∷◌, ℕ, false, List, [], Option, Some, None, IsSome, is_some, slice_get, slice_set, count_by}
+use Rattle.std.specs.Prelude.{◌≡◌, ◌<◌, ◌≤◌, ◌⊎◌, ◌++◌, ◌∷◌, ℕ, Bool, false, List, [], Option, Some, None, IsSome, is_some, slice_get, slice_set, map, count_by}
 use Rattle.fst_block.specs.BlockView.{BlockPatch, BlockView}
 use Rattle.fst_seat.specs.Seats.{SeatView, is_dirty_seat}
+
+-- of each block, whether it is in memory
+abbrev pub are_loaded : List SeatView → List Bool
+are_loaded seats = map (λ seat. is_some seat.loaded) seats
 
 -- how many blocks are in memory
 abbrev pub count_loaded : List SeatView → ℕ
 count_loaded seats = count_by (λ seat. is_some seat.loaded) seats
-
--- one of the blocks is not in memory, and no write of it is out
-pub record HasOneAway (seats : List SeatView) : Type 0 where
-  pub block : ℕ
-  pub seat : SeatView
-  pub at : slice_get seats block ≡ Some seat
-  pub away : seat.loaded ≡ None
-  pub rest : seat.block.flight ≡ None
 
 -- the block is in memory and has no change that is not on disk
 pub record IsCleanLoaded (seat : SeatView) : Type 0 where
   pub there : IsSome seat.loaded
   pub clean : is_dirty_seat seat ≡ false
 
--- the seat of block c is the first such
-pub record IsLeastClean (seats : List SeatView) (c : ℕ) (seat : SeatView) : Type 0 where
+-- the seat of block c is such a one
+pub record IsCleanAt (seats : List SeatView) (c : ℕ) (seat : SeatView) : Type 0 where
   pub at : slice_get seats c ≡ Some seat
   pub block : IsCleanLoaded seat
-  pub least : (d : ℕ) (other : SeatView) → slice_get seats d ≡ Some other → IsCleanLoaded other → c ≤ d
 
--- a place is free, or the first clean block in memory gives up its own
+-- a place is free, or a clean block in memory gives up its own
 abbrev pub MakesPlace : ℕ → List SeatView → List SeatView → Type 0
 MakesPlace resident old new =
     ((count_loaded old < resident) × (new ≡ old))
-    ⊎ ((resident ≤ count_loaded old) × ((c : ℕ) × (seat : SeatView) × IsLeastClean old c seat × (new ≡ slice_set old c (record seat { loaded = None }))))
+    ⊎ ((resident ≤ count_loaded old) × ((c : ℕ) × (seat : SeatView) × IsCleanAt old c seat × (new ≡ slice_set old c (record seat { loaded = None }))))
 
 -- a block that was not in memory is not, or is as it is committed
 abbrev pub IsReadOf : SeatView → Option BlockView → Type 0

@@ -100,8 +100,8 @@ impl<S: BlockSlot> Cache<S> {
         };
         if let Err(fault) = put(
             &mut self.seats,
+            &mut self.residents,
             self.alloc,
-            self.resident,
             block,
             no,
             span,

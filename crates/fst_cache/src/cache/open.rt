@@ -12,6 +12,7 @@ use crate::contents::Contents;
 use crate::share::Share;
 use fst_device::BlockSlot;
 use fst_graph::Graph;
+use fst_seat::residents::Residents;
 use fst_seat::seat::Seat;
 use fst_types::{BlockNo, Fault, Shape};
 use std::alloc::Global;
@@ -119,6 +120,9 @@ impl<S: BlockSlot> Cache<S> {
         if let Some(fault) = open_fault(shape, &slots) {
             return Err((slots, fault));
         }
+        let Ok(residents) = Residents::new(alloc, shape.resident, slots.len()) else {
+            return Err((slots, Fault::Memory));
+        };
         let Ok(graph) = Graph::new(alloc, shape, numbers) else {
             return Err((slots, Fault::Memory));
         };
@@ -128,7 +132,6 @@ impl<S: BlockSlot> Cache<S> {
         Ok(Cache {
             alloc,
             size: shape.size,
-            resident: shape.resident,
             tickets,
             made: 0,
             flights: 0,
@@ -136,6 +139,7 @@ impl<S: BlockSlot> Cache<S> {
             graph,
             contents: Contents::none(),
             seats: seated(slots, seats),
+            residents,
         })
     }
 

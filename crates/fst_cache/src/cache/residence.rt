@@ -18,7 +18,7 @@ impl<S: BlockSlot> Cache<S> {
         requires { block.0 < length self.now.state.blocks }
         ensures { IsTrue result ↔ (HasNoRoom self.now.state block.0 → ⊥) }
     {
-        self.seats[block.0 as usize].is_loaded() || has_room(&self.seats, self.resident)
+        self.seats[block.0 as usize].is_loaded() || has_room(&self.seats, &self.residents)
     }
 
     /// Why a block cannot be given up.
@@ -50,7 +50,9 @@ impl<S: BlockSlot> Cache<S> {
         if let Some(fault) = self.evict_fault(block) {
             return Err(fault);
         }
-        self.seats[block.0 as usize].unload();
+        let at = block.0 as usize;
+        self.seats[at].unload();
+        self.residents.remove(at);
         Ok(())
     }
 }

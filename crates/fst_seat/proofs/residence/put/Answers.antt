@@ -1,6 +1,6 @@
-use Rattle.std.proofs.Common.{◌∙◌}
+use Rattle.std.proofs.Common.{List, Bool, sym, ap, ◌∙◌}
 use Rattle.std.proofs.lemmas.Result.{on_ok_weaker, err_from_is_err_and}
-use Rattle.fst_seat.proofs.Putting.{on_refusal, memory_kind, inside_of, newest_of, puts_of, same_load, read_at, same_counts, counts_after}
+use Rattle.fst_seat.proofs.Putting.{same_loaded, on_refusal, memory_kind, inside_of, newest_of, puts_of, same_load, read_at, same_counts, counts_after}
 use Rattle.fst_seat.proofs.Putting.{not_failed}
 use Rattle.fst_seat.proofs.residence.put.Goals as goal
 
@@ -12,21 +12,21 @@ apply-requires-clause-loaded g c = (read_at c.load.new.seats c.args.block.0 c.in
 
 pub apply-requires-clause-inside : goal.apply-requires-clause-inside
 apply-requires-clause-inside g c =
-    inside_of c.args.resident c.args.seats.now c.load.new.seats c.args.block.0 _ (read_at c.load.new.seats c.args.block.0 c.index-seats-block.result c.in_ok-load.ensures.there).0 _ c.load.ensures.seats c.requires.inside
+    inside_of c.args.residents.now.most c.args.seats.now c.load.new.seats c.args.block.0 _ (read_at c.load.new.seats c.args.block.0 c.index-seats-block.result c.in_ok-load.ensures.there).0 _ c.load.ensures.seats c.requires.inside
 
 pub apply-requires-clause-newest : goal.apply-requires-clause-newest
 apply-requires-clause-newest g c =
-    newest_of c.args.resident c.args.seats.now c.load.new.seats c.args.block.0 _ (read_at c.load.new.seats c.args.block.0 c.index-seats-block.result c.in_ok-load.ensures.there).0 _ c.load.ensures.seats c.requires.newest
+    newest_of c.args.residents.now.most c.args.seats.now c.load.new.seats c.args.block.0 _ (read_at c.load.new.seats c.args.block.0 c.index-seats-block.result c.in_ok-load.ensures.there).0 _ c.load.ensures.seats c.requires.newest
 
 pub returns-clause-put : goal.returns-clause-put
 returns-clause-put g c =
     let r = read_at c.load.new.seats c.args.block.0 c.index-seats-block.result c.in_ok-load.ensures.there in
-    on_ok_weaker c.apply.result (puts_of c.args.resident c.args.seats.now c.load.new.seats c.args.block.0 _ r.0 _ c.apply.new.self c.load.ensures.seats r.1) c.apply.ensures.applied
+    on_ok_weaker c.apply.result (puts_of c.args.residents.now.most c.args.seats.now c.load.new.seats c.args.block.0 _ r.0 _ c.apply.new.self c.load.ensures.seats r.1) c.apply.ensures.applied
 
 pub returns-clause-refused : goal.returns-clause-refused
 returns-clause-refused g c =
     let r = read_at c.load.new.seats c.args.block.0 c.index-seats-block.result c.in_ok-load.ensures.there in
-    λ err. same_load c.args.resident c.args.seats.now c.load.new.seats c.args.block.0 _ r.0 c.apply.new.self c.load.ensures.seats (on_refusal c.apply.result err c.apply.ensures.unchanged)
+    λ err. same_load c.args.residents.now.most c.args.seats.now c.load.new.seats c.args.block.0 _ r.0 c.apply.new.self c.load.ensures.seats (on_refusal c.apply.result err c.apply.ensures.unchanged)
 
 pub returns-clause-kinds : goal.returns-clause-kinds
 returns-clause-kinds g c = memory_kind c.apply.result c.apply.ensures.only_memory
@@ -37,11 +37,16 @@ returns-in_err-load-clause-no_fault g c = let p = err_from_is_err_and c.from_res
 pub returns-clause-one_fault : goal.returns-clause-one_fault
 returns-clause-one_fault g c =
     let r = read_at c.load.new.seats c.args.block.0 c.index-seats-block.result c.in_ok-load.ensures.there in
-    let same = same_counts c.args.resident c.args.seats.now c.load.new.seats c.args.block.0 _ r.0 c.apply.result _ c.apply.new.self r.1 c.apply.ensures.applied c.apply.ensures.unchanged in
+    let same = same_counts c.args.residents.now.most c.args.seats.now c.load.new.seats c.args.block.0 _ r.0 c.apply.result _ c.apply.new.self r.1 c.apply.ensures.applied c.apply.ensures.unchanged in
     counts_after _ _ _ c.args.block.0 same c.load.ensures.one_fault
 
 pub returns-clause-no_fault : goal.returns-clause-no_fault
 returns-clause-no_fault g c =
     let r = read_at c.load.new.seats c.args.block.0 c.index-seats-block.result c.in_ok-load.ensures.there in
-    let same = same_counts c.args.resident c.args.seats.now c.load.new.seats c.args.block.0 _ r.0 c.apply.result _ c.apply.new.self r.1 c.apply.ensures.applied c.apply.ensures.unchanged in
+    let same = same_counts c.args.residents.now.most c.args.seats.now c.load.new.seats c.args.block.0 _ r.0 c.apply.result _ c.apply.new.self r.1 c.apply.ensures.applied c.apply.ensures.unchanged in
     λ _. same ∙ c.in_ok-load.ensures.no_fault (λ e. not_failed e)
+
+pub returns-clause-listed : goal.returns-clause-listed
+returns-clause-listed g c =
+    let r = read_at c.load.new.seats c.args.block.0 c.index-seats-block.result c.in_ok-load.ensures.there in
+    c.load.ensures.listed ∙ ap (λ (flags : List Bool). record { most = c.args.residents.now.most; loaded = flags }) (sym (same_loaded c.args.residents.now.most c.args.seats.now c.load.new.seats c.args.block.0 _ r.0 c.apply.result _ c.apply.new.self r.1 c.apply.ensures.applied c.apply.ensures.unchanged))

@@ -13,7 +13,7 @@ returns g c =
     let seated : slice_get i.seats.items c.args.block.0 ≡ Some c.index-seat.result.now =
     slice_get_read i.seats.items _ _ _ i.seats.ok.0 (rw (← c.self.view_is, length-map, ← i.seats.ok.0) at c.requires.within) c.index-seat.ensures in
     let there = sym (listed i.seats.items c.args.block.0 _ seated (λ (t : SeatView). is_some t.loaded) false) ∙ (rw (← c.self.view_is) at c.requires.resident) in
-    rw (← c.self.view_is) (bytes_there (state_of i.size i.resident i.tickets i.made i.graph i.contents.items i.seats.items) i.graph i.seats.items c.self.invariant.kept refl _ _ seated c.bytes.result.now there c.bytes.ensures)
+    rw (← c.self.view_is) (bytes_there (state_of i.size i.residents.most i.tickets i.made i.graph i.contents.items i.seats.items) i.graph i.seats.items c.self.invariant.kept refl _ _ seated c.bytes.result.now there c.bytes.ensures)
 
 pub index-seat-requires : goal.index-seat-requires
 index-seat-requires g c =

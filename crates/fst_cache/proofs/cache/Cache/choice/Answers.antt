@@ -27,26 +27,28 @@ pub invariant_of-self : goal.invariant_of-self
 invariant_of-self g c =
     let i = c.self.inside in
     record {
-      kept = kept_still i.size i.resident i.tickets i.made i.graph c.chosen-chosen.new.self i.contents.items i.seats.items c.chosen-chosen.ensures.same c.self.invariant.kept;
+      kept = kept_still i.size i.residents.most i.tickets i.made i.graph c.chosen-chosen.new.self i.contents.items i.seats.items c.chosen-chosen.ensures.same c.self.invariant.kept;
       flying = c.self.invariant.flying;
       undoing = c.self.invariant.undoing;
+      listed = c.self.invariant.listed;
     }
 
 pub invariant_of-self-2 : goal.invariant_of-self-2
 invariant_of-self-2 g c =
     let i = c.self.inside in
     record {
-      kept = kept_still i.size i.resident i.tickets i.made c.chosen-chosen.new.self c.hard_held-held.new.self i.contents.items i.seats.items c.hard_held-held.ensures.same
-          (kept_still i.size i.resident i.tickets i.made i.graph c.chosen-chosen.new.self i.contents.items i.seats.items c.chosen-chosen.ensures.same c.self.invariant.kept);
+      kept = kept_still i.size i.residents.most i.tickets i.made c.chosen-chosen.new.self c.hard_held-held.new.self i.contents.items i.seats.items c.hard_held-held.ensures.same
+          (kept_still i.size i.residents.most i.tickets i.made i.graph c.chosen-chosen.new.self i.contents.items i.seats.items c.chosen-chosen.ensures.same c.self.invariant.kept);
       flying = c.self.invariant.flying;
       undoing = c.self.invariant.undoing;
+      listed = c.self.invariant.listed;
     }
 
 pub returns-then-is_none-clause-refused : goal.returns-then-is_none-clause-refused
 returns-then-is_none-clause-refused g c =
     let i = c.self.inside in
     let before = (goal.at.returns-then-is_none-clause-refused g c).After-is_none in
-    rw (← c.self.view_is) (nothing_ready i.size i.resident i.tickets i.made i.graph i.contents.items i.seats.items c.args.block.0 c.index.result.now (seated g before) (idle g before)
+    rw (← c.self.view_is) (nothing_ready i.size i.residents.most i.tickets i.made i.graph i.contents.items i.seats.items c.args.block.0 c.index.result.now (seated g before) (idle g before)
     (none_ready (λ v. v.items) i.graph.heads c.args.block.0 c.chosen-chosen.result c.chosen-chosen.ensures.ok (c.is_none.ensures.0 c.if-is_none.true)))
 
 pub returns-in-Some-clause-refused : goal.returns-in-Some-clause-refused
@@ -54,7 +56,7 @@ returns-in-Some-clause-refused g c =
     let i = c.self.inside in
     let before = (goal.at.returns-in-Some-clause-refused g c).After-is_none in
     rw (← c.self.view_is)
-    (sending_refused i.size i.resident i.tickets i.made i.graph i.contents.items i.seats.items c.args.block.0 c.index.result.now (seated g before) (idle g before) (ready g before c.if-is_none.false)
+    (sending_refused i.size i.residents.most i.tickets i.made i.graph i.contents.items i.seats.items c.args.block.0 c.index.result.now (seated g before) (idle g before) (ready g before c.if-is_none.false)
     c.chosen-chosen.new.self c.hard_held-held.new.self c.chosen-chosen.ensures.same c.hard_held-held.ensures.same c.in-Some.fault c.in-Some.ensures)
 
 pub returns-clause-clear : goal.returns-clause-clear
@@ -63,7 +65,7 @@ returns-clause-clear g c =
     let before = (goal.at.returns-clause-clear g c).After-is_none in
     rw (← c.self.view_is)
     (on_ok c.chosen-chosen.result _
-    (sending_clear i.size i.resident i.tickets i.made i.graph i.contents.items i.seats.items c.args.block.0 c.index.result.now (seated g before) (idle g before) (ready g before c.if-is_none.false)
+    (sending_clear i.size i.residents.most i.tickets i.made i.graph i.contents.items i.seats.items c.args.block.0 c.index.result.now (seated g before) (idle g before) (ready g before c.if-is_none.false)
     c.chosen-chosen.new.self c.hard_held-held.new.self c.chosen-chosen.ensures.same c.hard_held-held.ensures.same c.in_default.ensures))
 
 pub returns-clause-chosen : goal.returns-clause-chosen
@@ -74,8 +76,8 @@ returns-clause-refused g c =
     let i = c.self.inside in
     let before = (goal.at.returns-clause-refused g c).After-is_none in
     rw (← c.self.view_is)
-    (refused_memory (state_of i.size i.resident i.tickets i.made i.graph i.contents.items i.seats.items) c.args.block.0 c.chosen-chosen.result
-    (sending_clear i.size i.resident i.tickets i.made i.graph i.contents.items i.seats.items c.args.block.0 c.index.result.now (seated g before) (idle g before) (ready g before c.if-is_none.false)
+    (refused_memory (state_of i.size i.residents.most i.tickets i.made i.graph i.contents.items i.seats.items) c.args.block.0 c.chosen-chosen.result
+    (sending_clear i.size i.residents.most i.tickets i.made i.graph i.contents.items i.seats.items c.args.block.0 c.index.result.now (seated g before) (idle g before) (ready g before c.if-is_none.false)
     c.chosen-chosen.new.self c.hard_held-held.new.self c.chosen-chosen.ensures.same c.hard_held-held.ensures.same c.in_default.ensures)
     c.chosen-chosen.ensures.refused)
 

@@ -1,4 +1,4 @@
-use Rattle.std.proofs.Common.{ap, is_some, ◌≡◌, ◌<◌, Some, None, refl, sym, ◌∙◌, slice_get, length, inl, ◌≤◌, arith}
+use Rattle.std.proofs.Common.{ap, is_some, ◌≡◌, ◌<◌, false, Some, None, refl, sym, ◌∙◌, slice_get, length, inl, ◌≤◌, arith}
 use Rattle.std.proofs.lemmas.Bool.{false_from_ne_true}
 use Rattle.std.proofs.lemmas.Option.{slice_get_read}
 use Rattle.std.proofs.lemmas.List.{length-map}
@@ -11,6 +11,7 @@ use Rattle.fst_cache.specs.Kept.{state_of}
 use Rattle.fst_seat.proofs.Seated.{same_listed}
 use Rattle.fst_cache.proofs.ResideSeats.{dirty_is}
 use Rattle.fst_cache.proofs.ResideLoading.{unloaded, view_unloaded, within_of}
+use Rattle.fst_seat.proofs.Listing.{listed_after}
 use Rattle.fst_seat.proofs.Flying.{flying_same}
 use Rattle.fst_seat.proofs.Undo.{undo_same, undo_clean}
 use Rattle.fst_cache.proofs.cache.Cache.evict.Goals as goal
@@ -21,17 +22,18 @@ returns-in-Some-clause-step g c = refused (inl c.in-Some.ensures)
 pub invariant_of-self : goal.invariant_of-self
 invariant_of-self g c =
     let i = c.self.inside in
-    let s = state_of i.size i.resident i.tickets i.made i.graph i.contents.items i.seats.items in
+    let s = state_of i.size i.residents.most i.tickets i.made i.graph i.contents.items i.seats.items in
     let clear : NoneHolds (order c.args.self.now.state (Evict c.args.block.0)) = c.in_default.ensures in
     let lt : c.args.block.0 < length i.seats.items = within_of (length i.seats.items) c.args.block.0 (rw (← c.self.view_is, length-map) at clear.0) in
     let seated : slice_get i.seats.items c.args.block.0 ≡ Some c.index_mut.result.now = slice_get_read i.seats.items _ _ _ refl lt c.index_mut.ensures.value in
     let clean = dirty_is s i.graph i.seats.items c.self.invariant.kept refl _ _ seated ∙ false_from_ne_true _ (rw (← c.self.view_is) at clear.1.0) in
-    record {
+    rw c.remove.ensures (record {
       kept = rw (c.unload.ensures, same_listed i.seats.items c.args.block.0 _ seated (λ (t : SeatView). t.block) (record c.index_mut.result.now { loaded = None }) refl)
           (unloaded s i.graph i.seats.items c.self.invariant.kept refl _ _ seated clean);
       flying = flying_same i.seats.items c.args.block.0 _ _ seated i.flights (ap (λ (t : SeatView). is_some t.block.flight) c.unload.ensures) c.self.invariant.flying;
       undoing = undo_same i.seats.items c.args.block.0 _ _ seated i.undo (ap undo_of c.unload.ensures ∙ sym (undo_clean c.index_mut.result.now clean)) c.self.invariant.undoing;
-    }
+      listed = listed_after i.residents.loaded i.seats.items c.args.block.0 c.unload.new.self false c.self.invariant.listed (ap (λ (t : SeatView). is_some t.loaded) c.unload.ensures);
+    })
 
 pub returns-clause-step : goal.returns-clause-step
 returns-clause-step g c =
@@ -39,7 +41,7 @@ returns-clause-step g c =
     let clear : NoneHolds (order c.args.self.now.state (Evict c.args.block.0)) = c.in_default.ensures in
     let lt : c.args.block.0 < length i.seats.items = within_of (length i.seats.items) c.args.block.0 (rw (← c.self.view_is, length-map) at clear.0) in
     let seated : slice_get i.seats.items c.args.block.0 ≡ Some c.index_mut.result.now = slice_get_read i.seats.items _ _ _ refl lt c.index_mut.ensures.value in
-    rw (← c.self.view_is, c.unload.ensures, same_listed i.seats.items c.args.block.0 _ seated (λ (t : SeatView). t.block) (record c.index_mut.result.now { loaded = None }) refl)
+    rw (← c.self.view_is, c.remove.ensures, c.unload.ensures, same_listed i.seats.items c.args.block.0 _ seated (λ (t : SeatView). t.block) (record c.index_mut.result.now { loaded = None }) refl)
     (accepted (rw (← c.self.view_is) at clear) evict)
 
 pub returns-clause-evicted : goal.returns-clause-evicted
@@ -48,7 +50,7 @@ returns-clause-evicted g c =
     let clear : NoneHolds (order c.args.self.now.state (Evict c.args.block.0)) = c.in_default.ensures in
     let lt : c.args.block.0 < length i.seats.items = within_of (length i.seats.items) c.args.block.0 (rw (← c.self.view_is, length-map) at clear.0) in
     let seated : slice_get i.seats.items c.args.block.0 ≡ Some c.index_mut.result.now = slice_get_read i.seats.items _ _ _ refl lt c.index_mut.ensures.value in
-    rw (← c.self.view_is) (view_unloaded i.size i.resident i.tickets i.made i.graph i.contents.items i.seats.items c.args.block.0 c.index_mut.result.now seated c.unload.new.self c.unload.ensures)
+    rw (← c.self.view_is, c.remove.ensures) (view_unloaded i.size i.residents.most i.tickets i.made i.graph i.contents.items i.seats.items c.args.block.0 c.index_mut.result.now seated c.unload.new.self c.unload.ensures)
 
 pub index_mut-requires : goal.index_mut-requires
 index_mut-requires g c =

@@ -11,7 +11,7 @@ returns-then-is_dirty g c =
     let i = c.self.inside in
     let lt : c.args.block.0 < length i.seats.items = omega (arith, i.seats.ok.0) in
     let seated : slice_get i.seats.items c.args.block.0 ≡ Some c.index.result.now = slice_get_read i.seats.items _ _ _ refl lt c.index.ensures in
-    let dirty = sym (dirty_is (state_of i.size i.resident i.tickets i.made i.graph i.contents.items i.seats.items) i.graph i.seats.items c.self.invariant.kept refl _ _ seated) ∙ (sym c.is_dirty.ensures ∙ c.if-is_dirty.true) in
+    let dirty = sym (dirty_is (state_of i.size i.residents.most i.tickets i.made i.graph i.contents.items i.seats.items) i.graph i.seats.items c.self.invariant.kept refl _ _ seated) ∙ (sym c.is_dirty.ensures ∙ c.if-is_dirty.true) in
     rw (← c.self.view_is, length-map) (inr ((λ h. omega (arith, h, lt)), inl (dirty, refl)))
 
 pub returns : goal.returns
@@ -19,5 +19,5 @@ returns g c =
     let i = c.self.inside in
     let lt : c.args.block.0 < length i.seats.items = omega (arith, i.seats.ok.0) in
     let seated : slice_get i.seats.items c.args.block.0 ≡ Some c.index.result.now = slice_get_read i.seats.items _ _ _ refl lt c.index.ensures in
-    let clean = sym (dirty_is (state_of i.size i.resident i.tickets i.made i.graph i.contents.items i.seats.items) i.graph i.seats.items c.self.invariant.kept refl _ _ seated) ∙ (sym c.is_dirty.ensures ∙ c.if-is_dirty.false) in
+    let clean = sym (dirty_is (state_of i.size i.residents.most i.tickets i.made i.graph i.contents.items i.seats.items) i.graph i.seats.items c.self.invariant.kept refl _ _ seated) ∙ (sym c.is_dirty.ensures ∙ c.if-is_dirty.false) in
     rw (← c.self.view_is, length-map) ((λ h. omega (arith, h, lt)), ((λ d. both_ways _ clean d), tt))

@@ -1,7 +1,6 @@
-use Rattle.std.proofs.Common.{◌≡◌, Some, subst, refl, sym, ◌∙◌, slice_get, ◌<◌, arith, length}
+use Rattle.std.proofs.Common.{◌≡◌, Some, refl, sym, ◌∙◌, slice_get, ◌<◌, arith, length}
 use Rattle.std.proofs.lemmas.Option.{slice_get_read}
 use Rattle.std.proofs.lemmas.List.{length-map}
-use Rattle.fst_seat.proofs.Loading.{none_of}
 use Rattle.fst_cache.specs.Kept.{state_of}
 use Rattle.fst_cache.proofs.ResideSeats.{room_there, room_else, at_rest}
 use Rattle.fst_cache.proofs.cache.Cache.has_room.Goals as goal
@@ -11,23 +10,25 @@ returns-then-is_loaded g c =
     let i = c.self.inside in
     let seated : slice_get i.seats.items c.args.block.0 ≡ Some c.index.result.now =
     slice_get_read i.seats.items _ _ _ i.seats.ok.0 (rw (← c.self.view_is, length-map, ← i.seats.ok.0) at c.requires) c.index.ensures in
-    rw (← c.self.view_is) ((λ _. room_there (state_of i.size i.resident i.tickets i.made i.graph i.contents.items i.seats.items) i.graph i.seats.items c.self.invariant.kept refl _ _ seated (sym c.is_loaded.ensures ∙ c.if-is_loaded.true)), (λ _. c.if-is_loaded.true))
+    rw (← c.self.view_is) ((λ _. room_there (state_of i.size i.residents.most i.tickets i.made i.graph i.contents.items i.seats.items) i.graph i.seats.items c.self.invariant.kept refl _ _ seated (sym c.is_loaded.ensures ∙ c.if-is_loaded.true)), (λ _. c.if-is_loaded.true))
 
 pub returns-else-is_loaded : goal.returns-else-is_loaded
 returns-else-is_loaded g c =
     let i = c.self.inside in
     let seated : slice_get i.seats.items c.args.block.0 ≡ Some c.index.result.now =
     slice_get_read i.seats.items _ _ _ i.seats.ok.0 (rw (← c.self.view_is, length-map, ← i.seats.ok.0) at c.requires) c.index.ensures in
-    rw (← c.self.view_is, c.has_room.ensures, c.deref.ensures.value) (room_else (state_of i.size i.resident i.tickets i.made i.graph i.contents.items i.seats.items) i.graph i.seats.items c.self.invariant.kept refl _ _ seated (sym c.is_loaded.ensures ∙ c.if-is_loaded.false))
+    rw (← c.self.view_is, c.has_room.ensures, c.deref.ensures.value) (room_else (state_of i.size i.residents.most i.tickets i.made i.graph i.contents.items i.seats.items) i.graph i.seats.items c.self.invariant.kept refl _ _ seated (sym c.is_loaded.ensures ∙ c.if-is_loaded.false))
 
-pub has_room-requires : goal.has_room-requires
-has_room-requires g c =
+pub has_room-requires-clause-listed : goal.has_room-requires-clause-listed
+has_room-requires-clause-listed g c = rw c.deref.ensures.value c.self.invariant.listed
+
+pub has_room-requires-clause-rest : goal.has_room-requires-clause-rest
+has_room-requires-clause-rest g c =
     let i = c.self.inside in
-    let seated : slice_get i.seats.items c.args.block.0 ≡ Some c.index.result.now =
-    slice_get_read i.seats.items _ _ _ i.seats.ok.0 (rw (← c.self.view_is, length-map, ← i.seats.ok.0) at c.requires) c.index.ensures in
-    let away = none_of _ (sym c.is_loaded.ensures ∙ c.if-is_loaded.false) in
-    let rest = at_rest (state_of i.size i.resident i.tickets i.made i.graph i.contents.items i.seats.items) i.graph i.seats.items c.self.invariant.kept refl in
-    rw c.deref.ensures.value (record { block = c.args.block.0; seat = c.index.result.now; at = seated; away = away; rest = rest c.args.block.0 c.index.result.now seated away })
+    rw c.deref.ensures.value (at_rest (state_of i.size i.residents.most i.tickets i.made i.graph i.contents.items i.seats.items) i.graph i.seats.items c.self.invariant.kept refl)
+
+pub has_room-requires-clause-few : goal.has_room-requires-clause-few
+has_room-requires-clause-few g c = rw c.deref.ensures.value c.self.invariant.kept.loaded
 
 pub index-requires : goal.index-requires
 index-requires g c =

@@ -7,21 +7,21 @@ use Rattle.fst_cache.proofs.cache.Cache.image.Goals as goal
 pub image-requires-clause-loaded : goal.image-requires-clause-loaded
 image-requires-clause-loaded g c =
     let i = c.self.inside in
-    let S = may_send i.size i.resident i.tickets i.made i.graph i.contents.items i.seats.items c.args.self.now c.self.view_is c.self.invariant.kept c.args.block.0 c.index_mut-seat.result.now c.args.chosen.now c.requires.clear c.requires.chosen c.index_mut-seat.ensures.value in
-    rw (loaded_is (state_of i.size i.resident i.tickets i.made i.graph i.contents.items i.seats.items) i.graph i.seats.items c.args.block.0 c.index_mut-seat.result.now c.args.chosen.now S) refl
+    let S = may_send i.size i.residents.most i.tickets i.made i.graph i.contents.items i.seats.items c.args.self.now c.self.view_is c.self.invariant.kept c.args.block.0 c.index_mut-seat.result.now c.args.chosen.now c.requires.clear c.requires.chosen c.index_mut-seat.ensures.value in
+    rw (loaded_is (state_of i.size i.residents.most i.tickets i.made i.graph i.contents.items i.seats.items) i.graph i.seats.items c.args.block.0 c.index_mut-seat.result.now c.args.chosen.now S) refl
 
 pub image-requires-clause-choice : goal.image-requires-clause-choice
 image-requires-clause-choice g c =
     let i = c.self.inside in
-    let S = may_send i.size i.resident i.tickets i.made i.graph i.contents.items i.seats.items c.args.self.now c.self.view_is c.self.invariant.kept c.args.block.0 c.index_mut-seat.result.now c.args.chosen.now c.requires.clear c.requires.chosen c.index_mut-seat.ensures.value in
-    chosen_here (state_of i.size i.resident i.tickets i.made i.graph i.contents.items i.seats.items) i.graph i.seats.items c.args.block.0 c.index_mut-seat.result.now c.args.chosen.now S
+    let S = may_send i.size i.residents.most i.tickets i.made i.graph i.contents.items i.seats.items c.args.self.now c.self.view_is c.self.invariant.kept c.args.block.0 c.index_mut-seat.result.now c.args.chosen.now c.requires.clear c.requires.chosen c.index_mut-seat.ensures.value in
+    chosen_here (state_of i.size i.residents.most i.tickets i.made i.graph i.contents.items i.seats.items) i.graph i.seats.items c.args.block.0 c.index_mut-seat.result.now c.args.chosen.now S
 
 pub returns-clause-image : goal.returns-clause-image
 returns-clause-image g c =
     let i = c.self.inside in
-    let S = may_send i.size i.resident i.tickets i.made i.graph i.contents.items i.seats.items c.args.self.now c.self.view_is c.self.invariant.kept c.args.block.0 c.index_mut-seat.result.now c.args.chosen.now c.requires.clear c.requires.chosen c.index_mut-seat.ensures.value in
-    let loaded = loaded_is (state_of i.size i.resident i.tickets i.made i.graph i.contents.items i.seats.items) i.graph i.seats.items c.args.block.0 c.index_mut-seat.result.now c.args.chosen.now S in
-    let image = image_is (state_of i.size i.resident i.tickets i.made i.graph i.contents.items i.seats.items) i.graph i.seats.items c.args.block.0 c.index_mut-seat.result.now c.args.chosen.now S in
+    let S = may_send i.size i.residents.most i.tickets i.made i.graph i.contents.items i.seats.items c.args.self.now c.self.view_is c.self.invariant.kept c.args.block.0 c.index_mut-seat.result.now c.args.chosen.now c.requires.clear c.requires.chosen c.index_mut-seat.ensures.value in
+    let loaded = loaded_is (state_of i.size i.residents.most i.tickets i.made i.graph i.contents.items i.seats.items) i.graph i.seats.items c.args.block.0 c.index_mut-seat.result.now c.args.chosen.now S in
+    let image = image_is (state_of i.size i.residents.most i.tickets i.made i.graph i.contents.items i.seats.items) i.graph i.seats.items c.args.block.0 c.index_mut-seat.result.now c.args.chosen.now S in
     rw (← c.self.view_is, ← image) (rw loaded at c.image.ensures.image)
 
 pub index_mut-seat-requires : goal.index_mut-seat-requires

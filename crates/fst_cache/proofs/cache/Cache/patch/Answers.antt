@@ -7,7 +7,7 @@ use Rattle.fst_graph.specs.Known.{Known, AddsChange}
 use Rattle.fst_seat.specs.Names.{numbers_of}
 use Rattle.fst_block.specs.BlockView.{BlockPatch}
 use Rattle.fst_seat.specs.Seats.{SeatView}
-use Rattle.fst_seat.specs.Residing.{MayLoad, Puts}
+use Rattle.fst_seat.specs.Residing.{are_loaded, MayLoad, Puts}
 use Rattle.fst_seat.proofs.Flying.{flying_still}
 use Rattle.fst_seat.proofs.Undo.{undo_load, undo_puts}
 use Rattle.fst_seat.proofs.Putting.{not_failed}
@@ -15,7 +15,7 @@ use Rattle.fst_cache.specs.Kept.{state_of, span_of}
 use Rattle.fst_cache.specs.Making.{span_order, MayHold}
 use Rattle.fst_cache.proofs.SameRefused.{kept_unprepared, step_unprepared}
 use Rattle.fst_cache.proofs.ResideSeats.{room_for, at_rest}
-use Rattle.fst_cache.proofs.ResideLoading.{Loaded, within_of}
+use Rattle.fst_cache.proofs.ResideLoading.{written_back, Loaded, within_of}
 use Rattle.fst_cache.proofs.MakeRefused.{first_append, refused_by_graph}
 use Rattle.fst_cache.proofs.MakeReady.{as_long, newest, kept_ready, loaded}
 use Rattle.fst_cache.proofs.MakeWhole.{step_refused, step_made, kept_made, adds_prepared, load_fault, load_here, puts_here, rose_here}
@@ -28,7 +28,7 @@ use Rattle.fst_cache.proofs.cache.Cache.patch.Goals as goal
 
 -- the state before the call
 abbrev before : (g : _) → In_default g → State
-before g c = state_of c.self.inside.size c.self.inside.resident c.self.inside.tickets c.self.inside.made c.self.inside.graph c.self.inside.contents.items c.self.inside.seats.items
+before g c = state_of c.self.inside.size c.self.inside.residents.most c.self.inside.tickets c.self.inside.made c.self.inside.graph c.self.inside.contents.items c.self.inside.seats.items
 
 -- no rule that looks at the block alone refuses
 may_hold : (g : _) (c : In_default g) → MayHold (before g c) c.args.share.now c.args.block.0 c.args.at c.args.bytes.now
@@ -51,11 +51,11 @@ faults_of seats = map (λ (t : SeatView). t.faults) seats
 many_left : (g : _) (c : In-Err-put g) → c.self.inside.seats.len ≡ length c.put.new.seats
 many_left g c = omega (arith, c.self.inside.seats.ok.0, c.put.auto.seats, c.deref_mut.ensures.len)
 
-loads : (g : _) (c : In-Err-put g) → MayLoad c.self.inside.resident c.self.inside.seats.items c.args.block.0 (left c.self.inside.seats.len c.put.new.seats c.self.inside.seats.items)
-loads g c = load_here c.self.inside.resident c.self.inside.seats.items c.deref_mut.result.now c.put.new.seats c.args.block.0 c.self.inside.seats.len (drop (length c.put.new.seats) c.self.inside.seats.items) c.deref_mut.ensures.value (many_left g c) (c.in-Err-put.ensures.refused refl)
+loads : (g : _) (c : In-Err-put g) → MayLoad c.self.inside.residents.most c.self.inside.seats.items c.args.block.0 (left c.self.inside.seats.len c.put.new.seats c.self.inside.seats.items)
+loads g c = load_here c.self.inside.residents.most c.self.inside.seats.items c.deref_mut.result.now c.put.new.seats c.args.block.0 c.self.inside.seats.len (drop (length c.put.new.seats) c.self.inside.seats.items) c.deref_mut.ensures.value (many_left g c) (c.in-Err-put.ensures.refused refl)
 
-still : (g : _) (c : In-Err-put g) → Loaded (state_of c.self.inside.size c.self.inside.resident c.self.inside.tickets c.self.inside.made c.self.inside.graph c.self.inside.contents.items c.self.inside.seats.items) c.self.inside.graph c.self.inside.seats.items c.args.block.0 (left c.self.inside.seats.len c.put.new.seats c.self.inside.seats.items)
-still g c = loaded c.self.inside.size c.self.inside.resident c.self.inside.tickets c.self.inside.made c.self.inside.graph c.room.new.self _ c.in-Ok.ensures.prepared c.self.inside.contents.items c.self.inside.seats.items _ c.self.invariant.kept c.args.block.0 (loads g c)
+still : (g : _) (c : In-Err-put g) → Loaded (state_of c.self.inside.size c.self.inside.residents.most c.self.inside.tickets c.self.inside.made c.self.inside.graph c.self.inside.contents.items c.self.inside.seats.items) c.self.inside.graph c.self.inside.seats.items c.args.block.0 (left c.self.inside.seats.len c.put.new.seats c.self.inside.seats.items)
+still g c = loaded c.self.inside.size c.self.inside.residents.most c.self.inside.tickets c.self.inside.made c.self.inside.graph c.room.new.self _ c.in-Ok.ensures.prepared c.self.inside.contents.items c.self.inside.seats.items _ c.self.invariant.kept c.args.block.0 (loads g c)
 
 -- where it was put
 abbrev patch : (g : _) → After-undo_bytes g → BlockPatch
@@ -64,8 +64,8 @@ patch g c = record { number = c.in-Ok.made.0.0; span = span_of c.args.at (length
 many_put : (g : _) (c : After-undo_bytes g) → c.self.inside.seats.len ≡ length c.put.new.seats
 many_put g c = omega (arith, c.self.inside.seats.ok.0, c.put.auto.seats, c.deref_mut.ensures.len)
 
-puts : (g : _) (c : After-undo_bytes g) → Puts c.self.inside.resident c.self.inside.seats.items c.args.block.0 (patch g c) (left c.self.inside.seats.len c.put.new.seats c.self.inside.seats.items)
-puts g c = puts_here c.self.inside.resident c.self.inside.seats.items c.deref_mut.result.now c.put.new.seats c.args.block.0 c.self.inside.seats.len (drop (length c.put.new.seats) c.self.inside.seats.items) c.deref_mut.ensures.value (many_put g c) (patch g c) c.in_default-put.ensures.put
+puts : (g : _) (c : After-undo_bytes g) → Puts c.self.inside.residents.most c.self.inside.seats.items c.args.block.0 (patch g c) (left c.self.inside.seats.len c.put.new.seats c.self.inside.seats.items)
+puts g c = puts_here c.self.inside.residents.most c.self.inside.seats.items c.deref_mut.result.now c.put.new.seats c.args.block.0 c.self.inside.seats.len (drop (length c.put.new.seats) c.self.inside.seats.items) c.deref_mut.ensures.value (many_put g c) (patch g c) c.in_default-put.ensures.put
 
 quiet : (g : _) (c : After-undo_bytes g) → faults_of (left c.self.inside.seats.len c.put.new.seats c.self.inside.seats.items) ≡ faults_of c.self.inside.seats.items
 quiet g c = quiet_here c.self.inside.seats.items c.deref_mut.result.now c.put.new.seats c.args.block.0 c.self.inside.seats.len (drop (length c.put.new.seats) c.self.inside.seats.items) c.deref_mut.ensures.value (many_put g c) (c.in_default-put.ensures.no_fault (λ e. not_failed e))
@@ -155,17 +155,21 @@ overflow_cast-span g c =
 
 pub invariant_of-self : goal.invariant_of-self
 invariant_of-self g c = record {
-  kept = kept_unprepared c.self.inside.size c.self.inside.resident c.self.inside.tickets c.self.inside.made c.self.inside.graph c.room.new.self c.self.inside.contents.items c.self.inside.seats.items c.in-Err.ensures.same c.self.invariant.kept;
+  kept = kept_unprepared c.self.inside.size c.self.inside.residents.most c.self.inside.tickets c.self.inside.made c.self.inside.graph c.room.new.self c.self.inside.contents.items c.self.inside.seats.items c.in-Err.ensures.same c.self.invariant.kept;
   flying = c.self.invariant.flying;
   undoing = c.self.invariant.undoing;
+  listed = c.self.invariant.listed;
 }
 
 pub returns-in-Err-clause-step : goal.returns-in-Err-clause-step
 returns-in-Err-clause-step g c =
     let at = (goal.at.returns-in-Err-clause-step g c).In_default in
     rw (← c.self.view_is)
-    (step_unprepared c.self.inside.size c.self.inside.resident c.self.inside.tickets c.self.inside.made c.self.inside.graph c.room.new.self c.self.inside.contents.items c.self.inside.seats.items c.in-Err.ensures.same _ c.in-Err.fault
+    (step_unprepared c.self.inside.size c.self.inside.residents.most c.self.inside.tickets c.self.inside.made c.self.inside.graph c.room.new.self c.self.inside.contents.items c.self.inside.seats.items c.in-Err.ensures.same _ c.in-Err.fault
     (refused_by_graph (before g at) c.args.share.now c.args.block.0 c.args.at c.args.bytes.now (may_hold g at) (numbers_of c.args.after.now) _ c.in-Err.fault c.in-Err.ensures.refused))
+
+pub put-requires-clause-listed : goal.put-requires-clause-listed
+put-requires-clause-listed g c = rw c.deref_mut.ensures.value c.self.invariant.listed
 
 pub put-requires-clause-rest : goal.put-requires-clause-rest
 put-requires-clause-rest g c =
@@ -192,20 +196,21 @@ put-requires-clause-newest g c =
 pub invariant_of-self-in-Err-put : goal.invariant_of-self-in-Err-put
 invariant_of-self-in-Err-put g c =
     let at = (goal.at.invariant_of-self-in-Err-put g c).In-Err-put in
-    record {
-      kept = kept_ready c.self.inside.size c.self.inside.resident c.self.inside.tickets c.self.inside.made c.self.inside.graph c.room.new.self _ c.in-Ok.ensures.prepared c.self.inside.contents.items c.self.inside.seats.items _ c.self.invariant.kept c.args.block.0 (loads g at);
+    rw c.put.ensures.listed (record {
+      kept = kept_ready c.self.inside.size c.self.inside.residents.most c.self.inside.tickets c.self.inside.made c.self.inside.graph c.room.new.self _ c.in-Ok.ensures.prepared c.self.inside.contents.items c.self.inside.seats.items _ c.self.invariant.kept c.args.block.0 (loads g at);
       flying = flying_still c.self.inside.flights c.self.inside.seats.items _ (still g at).blocks c.self.invariant.flying;
-      undoing = c.self.invariant.undoing ∙ sym (undo_load c.self.inside.resident c.self.inside.seats.items c.args.block.0 _ (loads g at));
-    }
+      undoing = c.self.invariant.undoing ∙ sym (undo_load c.self.inside.residents.most c.self.inside.seats.items c.args.block.0 _ (loads g at));
+      listed = sym (ap are_loaded (written_back c.self.inside.seats.len c.put.new.seats c.self.inside.seats.items (sym (many_left g at))));
+    })
 
 pub returns-in-Err-put-clause-step : goal.returns-in-Err-put-clause-step
 returns-in-Err-put-clause-step g c =
     let at = (goal.at.returns-in-Err-put-clause-step g c).In-Err-put in
     let may = may_hold g (goal.at.returns-in-Err-put-clause-step g c).In_default in
-    rw (← c.self.view_is)
-    (step_refused c.self.inside.size c.self.inside.resident c.self.inside.tickets c.self.inside.made c.self.inside.graph c.room.new.self _ c.in-Ok.ensures.prepared c.self.inside.contents.items c.self.inside.seats.items _ c.self.invariant.kept c.args.share.now c.args.block.0 c.args.at c.args.bytes.now (numbers_of c.args.after.now) (loads g at) may c.in-Ok.ensures.ok.1.clear c.in-Err-put.fault
+    rw (← c.self.view_is, c.put.ensures.listed)
+    (step_refused c.self.inside.size c.self.inside.residents.most c.self.inside.tickets c.self.inside.made c.self.inside.graph c.room.new.self _ c.in-Ok.ensures.prepared c.self.inside.contents.items c.self.inside.seats.items _ c.self.invariant.kept c.args.share.now c.args.block.0 c.args.at c.args.bytes.now (numbers_of c.args.after.now) (loads g at) may c.in-Ok.ensures.ok.1.clear c.in-Err-put.fault
     (load_fault _ c.in-Err-put.fault _ refl (c.in-Err-put.ensures.kinds refl)
-    (λ d. rose_here c.self.inside.resident c.self.inside.seats.items c.deref_mut.result.now c.put.new.seats c.args.block.0 c.self.inside.seats.len (drop (length c.put.new.seats) c.self.inside.seats.items) c.deref_mut.ensures.value (many_left g at) (c.in-Err-put.ensures.device d))))
+    (λ d. rose_here c.self.inside.residents.most c.self.inside.seats.items c.deref_mut.result.now c.put.new.seats c.args.block.0 c.self.inside.seats.len (drop (length c.put.new.seats) c.self.inside.seats.items) c.deref_mut.ensures.value (many_left g at) (c.in-Err-put.ensures.device d))))
 
 pub returns-in-Err-put-clause-faults : goal.returns-in-Err-put-clause-faults
 returns-in-Err-put-clause-faults g c = rw (← c.self.view_is) (still g (goal.at.returns-in-Err-put-clause-faults g c).In-Err-put).faults
@@ -237,33 +242,34 @@ pub invariant_of-self-2 : goal.invariant_of-self-2
 invariant_of-self-2 g c =
     let at = (goal.at.invariant_of-self-2 g c).After-undo_bytes in
     let may = may_hold g (goal.at.invariant_of-self-2 g c).In_default in
-    record {
-      kept = rw c.with-self-inside.ensures (kept_made c.self.inside.size c.self.inside.resident c.self.inside.tickets c.self.inside.made c.self.inside.graph c.room.new.self _ c.in-Ok.ensures.prepared c.self.inside.contents.items c.self.inside.seats.items _ c.self.invariant.kept c.args.share.now c.args.block.0 c.args.at c.args.bytes.now (numbers_of c.args.after.now) c.in-Ok.made.0.0 c.in-Ok.made.1 may (puts g at) c.add_data.new.self (adds g at));
-      flying = flying_still c.self.inside.flights c.self.inside.seats.items _ (blocks_made c.self.inside.size c.self.inside.resident c.self.inside.tickets c.self.inside.made c.self.inside.graph c.room.new.self _ c.in-Ok.ensures.prepared c.self.inside.contents.items c.self.inside.seats.items _ c.self.invariant.kept c.args.block.0 _ (puts g at)) c.self.invariant.flying;
-      undoing = let r = undo_puts c.self.inside.resident c.self.inside.seats.items c.args.block.0 _ _ (puts g at) in omega (arith, r, c.undo_bytes.ensures.value, c.self.invariant.undoing);
-    }
+    rw c.put.ensures.listed (record {
+      kept = rw c.with-self-inside.ensures (kept_made c.self.inside.size c.self.inside.residents.most c.self.inside.tickets c.self.inside.made c.self.inside.graph c.room.new.self _ c.in-Ok.ensures.prepared c.self.inside.contents.items c.self.inside.seats.items _ c.self.invariant.kept c.args.share.now c.args.block.0 c.args.at c.args.bytes.now (numbers_of c.args.after.now) c.in-Ok.made.0.0 c.in-Ok.made.1 may (puts g at) c.add_data.new.self (adds g at));
+      flying = flying_still c.self.inside.flights c.self.inside.seats.items _ (blocks_made c.self.inside.size c.self.inside.residents.most c.self.inside.tickets c.self.inside.made c.self.inside.graph c.room.new.self _ c.in-Ok.ensures.prepared c.self.inside.contents.items c.self.inside.seats.items _ c.self.invariant.kept c.args.block.0 _ (puts g at)) c.self.invariant.flying;
+      undoing = let r = undo_puts c.self.inside.residents.most c.self.inside.seats.items c.args.block.0 _ _ (puts g at) in omega (arith, r, c.undo_bytes.ensures.value, c.self.invariant.undoing);
+      listed = sym (ap are_loaded (written_back c.self.inside.seats.len c.put.new.seats c.self.inside.seats.items (sym (many_put g at))));
+    })
 
 pub returns-clause-step : goal.returns-clause-step
 returns-clause-step g c =
     let at = (goal.at.returns-clause-step g c).After-undo_bytes in
     let may = may_hold g (goal.at.returns-clause-step g c).In_default in
-    rw (← c.self.view_is, c.with-self-inside.ensures)
-    (step_made c.self.inside.size c.self.inside.resident c.self.inside.tickets c.self.inside.made c.self.inside.graph c.room.new.self _ c.in-Ok.ensures.prepared c.self.inside.contents.items c.self.inside.seats.items _ c.self.invariant.kept c.args.share.now c.args.block.0 c.args.at c.args.bytes.now (numbers_of c.args.after.now) c.in-Ok.made.0.0 c.in-Ok.made.1 may (puts g at) c.add_data.new.self (adds g at) _)
+    rw (← c.self.view_is, c.put.ensures.listed, c.with-self-inside.ensures)
+    (step_made c.self.inside.size c.self.inside.residents.most c.self.inside.tickets c.self.inside.made c.self.inside.graph c.room.new.self _ c.in-Ok.ensures.prepared c.self.inside.contents.items c.self.inside.seats.items _ c.self.invariant.kept c.args.share.now c.args.block.0 c.args.at c.args.bytes.now (numbers_of c.args.after.now) c.in-Ok.made.0.0 c.in-Ok.made.1 may (puts g at) c.add_data.new.self (adds g at) _)
 
 pub returns-clause-faults : goal.returns-clause-faults
 returns-clause-faults g c =
     let at = (goal.at.returns-clause-faults g c).After-undo_bytes in
-    rw (← c.self.view_is) (faults_made c.self.inside.size c.self.inside.resident c.self.inside.tickets c.self.inside.made c.self.inside.graph c.room.new.self _ c.in-Ok.ensures.prepared c.self.inside.contents.items c.self.inside.seats.items _ c.self.invariant.kept c.args.block.0 _ (puts g at))
+    rw (← c.self.view_is) (faults_made c.self.inside.size c.self.inside.residents.most c.self.inside.tickets c.self.inside.made c.self.inside.graph c.room.new.self _ c.in-Ok.ensures.prepared c.self.inside.contents.items c.self.inside.seats.items _ c.self.invariant.kept c.args.block.0 _ (puts g at))
 
 pub returns-clause-homes : goal.returns-clause-homes
 returns-clause-homes g c =
     let at = (goal.at.returns-clause-homes g c).After-undo_bytes in
-    rw (← c.self.view_is) (homes_made c.self.inside.size c.self.inside.resident c.self.inside.tickets c.self.inside.made c.self.inside.graph c.room.new.self _ c.in-Ok.ensures.prepared c.self.inside.contents.items c.self.inside.seats.items _ c.self.invariant.kept c.args.block.0 _ (puts g at))
+    rw (← c.self.view_is) (homes_made c.self.inside.size c.self.inside.residents.most c.self.inside.tickets c.self.inside.made c.self.inside.graph c.room.new.self _ c.in-Ok.ensures.prepared c.self.inside.contents.items c.self.inside.seats.items _ c.self.invariant.kept c.args.block.0 _ (puts g at))
 
 pub returns-clause-back : goal.returns-clause-back
 returns-clause-back g c =
     let at = (goal.at.returns-clause-back g c).After-undo_bytes in
-    rw (← c.self.view_is) (back_made c.self.inside.size c.self.inside.resident c.self.inside.tickets c.self.inside.made c.self.inside.graph c.room.new.self _ c.in-Ok.ensures.prepared c.self.inside.contents.items c.self.inside.seats.items _ c.self.invariant.kept c.args.block.0 _ (puts g at))
+    rw (← c.self.view_is) (back_made c.self.inside.size c.self.inside.residents.most c.self.inside.tickets c.self.inside.made c.self.inside.graph c.room.new.self _ c.in-Ok.ensures.prepared c.self.inside.contents.items c.self.inside.seats.items _ c.self.invariant.kept c.args.block.0 _ (puts g at))
 
 pub returns-clause-one_fault : goal.returns-clause-one_fault
 returns-clause-one_fault g c = rw (← c.self.view_is) (inl (quiet g (goal.at.returns-clause-one_fault g c).After-undo_bytes))

@@ -13,23 +13,23 @@ use Rattle.fst_cache.proofs.cache.Cache.retry_fault.Goals as goal
 seated : (g : _) (c : After-is_stalled g) → slice_get c.self.inside.seats.items c.args.block.0 ≡ Some c.index-seat.result.now
 seated g c = let i = c.self.inside in slice_get_read i.seats.items _ _ _ i.seats.ok.0 (omega arith) c.index-seat.ensures
 
-stalled : (g : _) (c : After-is_stalled g) → c.is_stalled.result ≡ true → IsStalled (state_of c.self.inside.size c.self.inside.resident c.self.inside.tickets c.self.inside.made c.self.inside.graph c.self.inside.contents.items c.self.inside.seats.items) c.args.block.0
+stalled : (g : _) (c : After-is_stalled g) → c.is_stalled.result ≡ true → IsStalled (state_of c.self.inside.size c.self.inside.residents.most c.self.inside.tickets c.self.inside.made c.self.inside.graph c.self.inside.contents.items c.self.inside.seats.items) c.args.block.0
 stalled g c e =
     let i = c.self.inside in
-    stalled_at i.size i.resident i.tickets i.made i.graph i.contents.items i.seats.items _ _ (seated g c) (sym c.is_stalled.ensures.flight ∙ e)
+    stalled_at i.size i.residents.most i.tickets i.made i.graph i.contents.items i.seats.items _ _ (seated g c) (sym c.is_stalled.ensures.flight ∙ e)
 
 -- and it is lost or not
-kept : (g : _) (c : After-is_stalled g) → c.is_lost.result ≡ false → IsLost (state_of c.self.inside.size c.self.inside.resident c.self.inside.tickets c.self.inside.made c.self.inside.graph c.self.inside.contents.items c.self.inside.seats.items) c.args.block.0 → ⊥
+kept : (g : _) (c : After-is_stalled g) → c.is_lost.result ≡ false → IsLost (state_of c.self.inside.size c.self.inside.residents.most c.self.inside.tickets c.self.inside.made c.self.inside.graph c.self.inside.contents.items c.self.inside.seats.items) c.args.block.0 → ⊥
 kept g c e =
     let i = c.self.inside in
-    not_lost_at i.size i.resident i.tickets i.made i.graph i.contents.items i.seats.items _ _ (seated g c) (sym c.is_lost.ensures ∙ e)
+    not_lost_at i.size i.residents.most i.tickets i.made i.graph i.contents.items i.seats.items _ _ (seated g c) (sym c.is_lost.ensures ∙ e)
 
 pub returns-then-is_lost-clause-fault : goal.returns-then-is_lost-clause-fault
 returns-then-is_lost-clause-fault g c =
     let i = c.self.inside in
     let lt : c.args.block.0 < length i.seats.items = omega (arith, i.seats.ok.0) in
     let seated : slice_get i.seats.items c.args.block.0 ≡ Some c.index-seat.result.now = slice_get_read i.seats.items _ _ _ i.seats.ok.0 (omega arith) c.index-seat.ensures in
-    let lost = lost_at i.size i.resident i.tickets i.made i.graph i.contents.items i.seats.items _ _ seated (sym c.is_lost.ensures ∙ c.if-is_lost.true) in
+    let lost = lost_at i.size i.residents.most i.tickets i.made i.graph i.contents.items i.seats.items _ _ seated (sym c.is_lost.ensures ∙ c.if-is_lost.true) in
     rw (← c.self.view_is, length-map) (inr ((λ h. omega arith), inl (lost, refl)))
 
 pub returns-then-self-clause-fault : goal.returns-then-self-clause-fault

@@ -20,7 +20,7 @@ use Rattle.fst_cache.proofs.cache.Cache.show.Goals as goal
 
 -- the state before the call
 abbrev before : (g : _) → In_default g → State
-before g c = state_of c.self.inside.size c.self.inside.resident c.self.inside.tickets c.self.inside.made c.self.inside.graph c.self.inside.contents.items c.self.inside.seats.items
+before g c = state_of c.self.inside.size c.self.inside.residents.most c.self.inside.tickets c.self.inside.made c.self.inside.graph c.self.inside.contents.items c.self.inside.seats.items
 
 clear : (g : _) (c : In_default g) → NoneHolds (order (before g c) (Show c.args.block.0 false))
 clear g c = rw (← c.self.view_is) at c.in_default.ensures
@@ -32,7 +32,7 @@ within g c = within_of (length c.self.inside.seats.items) c.args.block.0 (rw len
 as_left : (g : _) (c : After-load g) → take c.self.inside.seats.len (c.load.new.seats ++ drop (length c.load.new.seats) c.self.inside.seats.items) ≡ c.load.new.seats
 as_left g c = written_back c.self.inside.seats.len c.load.new.seats c.self.inside.seats.items (omega (arith, c.load.auto.seats, c.deref_mut.ensures.len))
 
-loaded : (g : _) (c : After-load g) → Loaded (state_of c.self.inside.size c.self.inside.resident c.self.inside.tickets c.self.inside.made c.self.inside.graph c.self.inside.contents.items c.self.inside.seats.items) c.self.inside.graph c.self.inside.seats.items c.args.block.0 c.load.new.seats
+loaded : (g : _) (c : After-load g) → Loaded (state_of c.self.inside.size c.self.inside.residents.most c.self.inside.tickets c.self.inside.made c.self.inside.graph c.self.inside.contents.items c.self.inside.seats.items) c.self.inside.graph c.self.inside.seats.items c.args.block.0 c.load.new.seats
 loaded g c = load_keeps _ c.self.inside.graph c.self.inside.seats.items c.self.invariant.kept refl c.args.block.0 c.load.new.seats (rw c.deref_mut.ensures.value at c.load.ensures.seats)
 
 pub returns-in-Some : goal.returns-in-Some
@@ -40,6 +40,9 @@ returns-in-Some g c = ((refl, (λ _. tt), (refl, refl, refl, sym (set-get_or c.a
 
 pub load-requires-clause-within : goal.load-requires-clause-within
 load-requires-clause-within g c = rw c.deref_mut.ensures.value (within g (goal.at.load-requires-clause-within g c).In_default)
+
+pub load-requires-clause-listed : goal.load-requires-clause-listed
+load-requires-clause-listed g c = rw c.deref_mut.ensures.value c.self.invariant.listed
 
 pub load-requires-clause-rest : goal.load-requires-clause-rest
 load-requires-clause-rest g c =
@@ -56,22 +59,24 @@ invariant_of-self g c =
     let at = (goal.at.invariant_of-self g c).After-load in
     let back = as_left g at in
     let L = loaded g at in
-    record {
+    rw c.load.ensures.listed (record {
       kept = rw (back, L.blocks) L.kept;
       flying = rw back (flying_still c.self.inside.flights c.self.inside.seats.items c.load.new.seats L.blocks c.self.invariant.flying);
-      undoing = rw back (c.self.invariant.undoing ∙ sym (undo_load c.self.inside.resident c.self.inside.seats.items c.args.block.0 c.load.new.seats (rw c.deref_mut.ensures.value at c.load.ensures.seats)));
-    }
+      undoing = rw back (c.self.invariant.undoing ∙ sym (undo_load c.self.inside.residents.most c.self.inside.seats.items c.args.block.0 c.load.new.seats (rw c.deref_mut.ensures.value at c.load.ensures.seats)));
+      listed = rw back refl;
+    })
 
 pub invariant_of-self-2 : goal.invariant_of-self-2
 invariant_of-self-2 g c =
     let at = (goal.at.invariant_of-self-2 g c).After-load in
     let back = as_left g at in
     let L = loaded g at in
-    record {
+    rw c.load.ensures.listed (record {
       kept = rw (back, L.blocks) L.kept;
       flying = rw back (flying_still c.self.inside.flights c.self.inside.seats.items c.load.new.seats L.blocks c.self.invariant.flying);
-      undoing = rw back (c.self.invariant.undoing ∙ sym (undo_load c.self.inside.resident c.self.inside.seats.items c.args.block.0 c.load.new.seats (rw c.deref_mut.ensures.value at c.load.ensures.seats)));
-    }
+      undoing = rw back (c.self.invariant.undoing ∙ sym (undo_load c.self.inside.residents.most c.self.inside.seats.items c.args.block.0 c.load.new.seats (rw c.deref_mut.ensures.value at c.load.ensures.seats)));
+      listed = rw back refl;
+    })
 
 pub bytes-requires-clause-within : goal.bytes-requires-clause-within
 bytes-requires-clause-within g c =
@@ -89,7 +94,7 @@ returns g c =
     let back = as_left g at.After-load in
     let L = loaded g at.After-load in
     let quiet = rw c.deref_mut.ensures.value at (c.in_ok-load.ensures.no_fault (λ e. not_failed e)) in
-    rw (c.bytes.ensures, ← c.self.view_is, back, L.blocks) ((refl, (λ _. tt), (refl {a = before g at.In_default}, L.homes, L.back, L.faults, accepted (clear g at.In_default) show, inl quiet, (λ _. quiet))), record { after = tt })
+    rw (c.bytes.ensures, c.load.ensures.listed, ← c.self.view_is, back, L.blocks) ((refl, (λ _. tt), (refl {a = before g at.In_default}, L.homes, L.back, L.faults, accepted (clear g at.In_default) show, inl quiet, (λ _. quiet))), record { after = tt })
 
 pub returns-in_err-load : goal.returns-in_err-load
 returns-in_err-load g c =
@@ -103,7 +108,7 @@ returns-in_err-load g c =
     let quiet = rw c.deref_mut.ensures.value at c.load.ensures.no_fault in
     let was : c.load.result ≡ Err c.in_err-load.field-0.0 = c.in_err-load.was in
     let refused_by = load_fault c.load.result c.in_err-load.field-0.0 _ was c.load.ensures.kinds rose in
-    rw (p.1, ← c.self.view_is, back, L.blocks) (
+    rw (p.1, c.load.ensures.listed, ← c.self.view_is, back, L.blocks) (
       (
         refl,
         (λ _. tt),

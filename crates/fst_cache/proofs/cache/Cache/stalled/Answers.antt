@@ -11,7 +11,7 @@ use Rattle.fst_cache.proofs.cache.Cache.stalled.Goals as goal
 pub returns-then-is_stalled : goal.returns-then-is_stalled
 returns-then-is_stalled g c =
     let i = c.self.inside in
-    let s = state_of i.size i.resident i.tickets i.made i.graph i.contents.items i.seats.items in
+    let s = state_of i.size i.residents.most i.tickets i.made i.graph i.contents.items i.seats.items in
     let seated : slice_get c.deref-seat-items.result.now c.loop-at.at ≡ Some c.seat-item.result = slice_get_read c.deref-seat-items.result.now _ _ _ refl c.loop-at-test.true c.seat-item.is in
     let at_b : slice_get i.seats.items c.loop-at.at ≡ Some c.seat-item.result = rw c.deref-seat-items.ensures.value at seated in
     rw (← c.self.view_is)
@@ -29,7 +29,7 @@ loop-at-preserved g c =
 pub returns : goal.returns
 returns g c =
     let i = c.self.inside in
-    let s = state_of i.size i.resident i.tickets i.made i.graph i.contents.items i.seats.items in
+    let s = state_of i.size i.residents.most i.tickets i.made i.graph i.contents.items i.seats.items in
     let all = none_below s i.graph i.seats.items c.self.invariant.kept refl c.loop-at.at (rw c.deref-seat-items.ensures.value at c.loop-at.invariant) in
     let len : length c.deref-seat-items.result.now ≡ length i.seats.items = ap length c.deref-seat-items.ensures.value in
     rw (← c.self.view_is) (λ b h. let lt = stalled_within s i.graph i.seats.items c.self.invariant.kept refl b h in let le = all b h in omega (arith, lt, le, len, c.loop-at-test.false))
