@@ -24,7 +24,6 @@ use std::alloc::Global;
 use std::marker::Model;
 
 /// A cache of the blocks of a device, whose patches wait for one another.
-#[derive(Drop)]
 pub struct Cache<S: BlockSlot> {
     alloc: Global,
     size: u32,
@@ -47,4 +46,23 @@ impl<S: BlockSlot> Model for Cache<S> {
     ghost view = { λ a. view_of (state_of a.size a.residents.most a.tickets a.made a.graph a.contents.items a.seats.items) a.seats.items };
 
     ghost invariant = { λ a. IsCounted a.flights a.undo a.residents.loaded (state_of a.size a.residents.most a.tickets a.made a.graph a.contents.items a.seats.items) a.graph a.seats.items };
+}
+
+// Written by hand, so that where a cache is dropped this one function is called: what is derived is a drop of each field
+// of each part, at each way out of each function that holds a cache.
+impl<S: BlockSlot> Drop for Cache<S> {
+    fn drop(self) {
+        let Cache {
+            alloc: _,
+            size: _,
+            resident: _,
+            tickets: _,
+            made: _,
+            flights: _,
+            undo: _,
+            graph: _,
+            contents: _,
+            seats: _,
+        } = self;
+    }
 }

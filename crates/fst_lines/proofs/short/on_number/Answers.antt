@@ -1,0 +1,18 @@
+use Rattle.std.proofs.Common.{arith}
+use Rattle.std.proofs.lemmas.Grind.{common_steps}
+use Rattle.fst_lines.proofs.short.on_number.Goals as goal
+
+pub returns-then-is : goal.returns-then-is
+returns-then-is c = grind (arith, common_steps)
+
+pub returns-then-is-3 : goal.returns-then-is-3
+returns-then-is-3 c = grind (arith, common_steps)
+
+pub returns-then-is-5 : goal.returns-then-is-5
+returns-then-is-5 c = grind (arith, common_steps)
+
+pub returns-then-is-7 : goal.returns-then-is-7
+returns-then-is-7 c = grind (arith, common_steps)
+
+pub returns : goal.returns
+returns c = grind (arith, common_steps)
