@@ -55,7 +55,6 @@ impl<S: BlockSlot> Drop for Cache<S> {
         let Cache {
             alloc: _,
             size: _,
-            resident: _,
             tickets: _,
             made: _,
             flights: _,
@@ -63,6 +62,7 @@ impl<S: BlockSlot> Drop for Cache<S> {
             graph: _,
             contents: _,
             seats: _,
+            residents: _,
         } = self;
     }
 }
