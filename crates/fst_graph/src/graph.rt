@@ -22,7 +22,6 @@ use std::alloc::Global;
 use std::marker::Model;
 
 /// The patches, and their groups.
-#[derive(Drop)]
 pub struct Graph {
     patches: Patches,
     groups: Groups,
@@ -37,6 +36,16 @@ impl Model for Graph {
     ghost view = { λ g. with_groups g.patches g.groups.items };
 
     ghost invariant = { λ g. IsGrouped g.patches g.groups.items };
+}
+
+// Written by hand, so that where a graph is dropped this one function is called, and not a drop of each part.
+impl Drop for Graph {
+    fn drop(self) {
+        let Graph {
+            patches: _,
+            groups: _,
+        } = self;
+    }
 }
 
 impl Graph {

@@ -13,6 +13,9 @@ use fst_types::{BlockNo, Fault, Grade, PatchNo, Place, Settled, Shape, Ticket, W
 use std::alloc::Global;
 use std::process::Abort;
 
+// What a call answers that makes the first patch, a hard change.
+const FIRST_HARD: Result<(PatchNo, Grade), Fault> = Ok((PatchNo(1), Grade::Hard));
+
 // A slot of four zeros.
 fn zero_slot(rt: &impl Abort, alloc: Global, block: u32) -> MemorySlot
     ensures at { result.index ≡ block }
@@ -48,7 +51,7 @@ fn zeros(rt: &impl Abort, alloc: Global) -> Checked {
 // A cache whose block 0 is out with this byte at its start, and the job.
 fn sent(rt: &impl Abort, alloc: Global, byte: u8) -> (Checked, Job<MemorySlot>) {
     let mut cache = zeros(rt, alloc);
-    cache.patch(rt, 0, 0, &[byte], &[], Ok((PatchNo(1), Grade::Hard)));
+    cache.patch(rt, 0, 0, &[byte], &[], FIRST_HARD);
     let job = cache.issue(rt, 0);
     (cache, job)
 }
@@ -87,7 +90,7 @@ fn compare_flight(rt: &impl Abort, cache: &Checked, image: &[u8]) {
 // Makes the first patch, on block 1.
 fn make_first(rt: &impl Abort, cache: &mut Checked) {
     cache.headline();
-    cache.patch(rt, 1, 1, b"AB", &[], Ok((PatchNo(1), Grade::Hard)));
+    cache.patch(rt, 1, 1, b"AB", &[], FIRST_HARD);
     cache.made(rt, 1);
     cache.place(rt, 1, Some(Place::Memory));
     cache.place(rt, 2, None);
@@ -171,42 +174,50 @@ fn a_failed_read_is_told_once(rt: HostRuntime) {
 #[test]
 fn journal_before_data(rt: HostRuntime) {
     let mut cache = zeros(&rt, rt.alloc());
-    cache.patch(&rt, 0, 0, b"J", &[], Ok((PatchNo(1), Grade::Hard)));
-    cache.patch(
-        &rt,
-        1,
-        0,
-        b"D",
-        &[PatchNo(1)],
-        Ok((PatchNo(2), Grade::Hard)),
-    );
+    cache.patch(&rt, 0, 0, b"J", &[], FIRST_HARD);
+    let second = Ok((PatchNo(2), Grade::Hard));
+    cache.patch(&rt, 1, 0, b"D", &[PatchNo(1)], second);
     cache.issue_refused(&rt, 1, Fault::NothingReady);
     let job = cache.issue(&rt, 0);
     cache.settle(&rt, job, Settled::Landed);
     cache.place(&rt, 1, Some(Place::Disk));
-    cache.issue(&rt, 1);
+    cache.goes_out(&rt, 1);
     cache.end();
 }
 
-// Makes a gate, a change behind it, an empty patch behind that, and a change that stands alone.
-fn make_each(rt: &impl Abort, cache: &mut Checked) {
+const SECOND_SOFT: Result<(PatchNo, Grade), Fault> = Ok((PatchNo(2), Grade::Soft));
+
+const FOURTH_HARD: Result<(PatchNo, Grade), Fault> = Ok((PatchNo(4), Grade::Hard));
+
+// Makes a gate, a change behind it, and an empty patch behind that.
+fn make_behind_a_gate(rt: &impl Abort, cache: &mut Checked) {
     cache.gate(rt, Ok(PatchNo(1)));
-    cache.patch(rt, 0, 0, b"A", &[PatchNo(1)], Ok((PatchNo(2), Grade::Soft)));
+    cache.patch(rt, 0, 0, b"A", &[PatchNo(1)], SECOND_SOFT);
     cache.empty(rt, &[PatchNo(2)], Ok(PatchNo(3)));
+}
+
+// The gate gains nothing that depends on it, and a change gains nothing. A change that stands alone is made.
+fn make_alone(rt: &impl Abort, cache: &mut Checked) {
     cache.depend(rt, 1, &[PatchNo(3)], Err(Fault::Cycle));
     cache.depend(rt, 2, &[], Err(Fault::NotGate));
-    cache.patch(rt, 1, 0, b"B", &[], Ok((PatchNo(4), Grade::Hard)));
+    cache.patch(rt, 1, 0, b"B", &[], FOURTH_HARD);
     cache.made(rt, 4);
+}
+
+// The gate gains the change that stands alone, and is sealed.
+fn seal_behind(rt: &impl Abort, cache: &mut Checked) {
+    cache.depend(rt, 1, &[PatchNo(4)], Ok(()));
+    cache.seal(rt, 1, Ok(()));
+    cache.seal(rt, 1, Err(Fault::Sealed));
+    cache.pick(rt, Some(BlockNo(1)));
 }
 
 #[test]
 fn gates_and_empty_patches(rt: HostRuntime) {
     let mut cache = zeros(&rt, rt.alloc());
-    make_each(&rt, &mut cache);
-    cache.depend(&rt, 1, &[PatchNo(4)], Ok(()));
-    cache.seal(&rt, 1, Ok(()));
-    cache.seal(&rt, 1, Err(Fault::Sealed));
-    cache.pick(&rt, Some(BlockNo(1)));
+    make_behind_a_gate(&rt, &mut cache);
+    make_alone(&rt, &mut cache);
+    seal_behind(&rt, &mut cache);
     let counted = Stat {
         made: 4,
         live: 4,
@@ -223,7 +234,7 @@ fn gates_and_empty_patches(rt: HostRuntime) {
 fn a_clean_block_gives_up_its_place(rt: HostRuntime) {
     let mut cache = keeping(&rt, rt.alloc(), zero_slots(&rt, rt.alloc()), 1);
     cache.shows(&rt, 0, b"\0\0\0\0");
-    cache.patch(&rt, 1, 0, b"B", &[], Ok((PatchNo(1), Grade::Hard)));
+    cache.patch(&rt, 1, 0, b"B", &[], FIRST_HARD);
     cache.show_refused(&rt, 0, Fault::Full(What::Resident));
     cache.evict(&rt, 1, Err(Fault::Dirty));
     cache.evict(&rt, 0, Ok(()));
@@ -245,7 +256,7 @@ fn numbers_and_tickets_end(rt: HostRuntime) {
     let mut numbered = used(&rt, rt.alloc(), u32::MAX, 0);
     numbered.gate(&rt, Err(Fault::Full(What::Numbers)));
     let mut sent = used(&rt, rt.alloc(), 0, u64::MAX);
-    sent.patch(&rt, 0, 0, b"A", &[], Ok((PatchNo(1), Grade::Hard)));
+    sent.patch(&rt, 0, 0, b"A", &[], FIRST_HARD);
     sent.issue_refused(&rt, 0, Fault::Full(What::Tickets));
     numbered.end();
     sent.end();

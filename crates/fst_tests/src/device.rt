@@ -176,7 +176,9 @@ fn is_written(rt: &impl Abort, done: Done<MemorySlot>, ticket: u64, block: u32, 
     same_block(rt, Some(done.block()), Some(BlockNo(block)));
     same_bytes(rt, done.image(), bytes);
     same_outcome(rt, done.outcome(), Outcome::Written);
-    same_bytes(rt, done.into_slot().bytes(), bytes);
+    let slot = done.into_slot();
+    same_bytes(rt, slot.bytes(), bytes);
+    drop(slot);
 }
 
 #[test]

@@ -11,11 +11,6 @@ fn same<T: PartialEq + Debug>(rt: &impl Abort, answer: &T, expected: &T) {
     assert_eq!(rt; answer, expected);
 }
 
-// The same answer of a patch or a block.
-fn same_of<L: Debug, T: PartialEq + Debug>(rt: &impl Abort, of: &L, answer: &T, expected: &T) {
-    assert_eq!(rt; answer, expected, "{of:?}");
-}
-
 /// The number of a new patch.
 pub fn same_number(
     rt: &impl Abort,
@@ -46,7 +41,7 @@ pub fn same_answer(rt: &impl Abort, answer: Result<(), Fault>, expected: Result<
 
 /// The writable set of a block.
 pub fn same_patches(rt: &impl Abort, block: BlockNo, chosen: &[PatchNo], expected: &[PatchNo]) {
-    same_of(rt, &block, &chosen, &expected);
+    same(rt, &(block, chosen), &(block, expected));
 }
 
 /// The least hard patch that a block holds.
@@ -56,7 +51,7 @@ pub fn same_held(
     held: Option<PatchNo>,
     expected: Option<PatchNo>,
 ) {
-    same_of(rt, &block, &held, &expected);
+    same(rt, &(block, held), &(block, expected));
 }
 
 /// A block, or none.
@@ -66,7 +61,7 @@ pub fn same_block(rt: &impl Abort, block: Option<BlockNo>, expected: Option<Bloc
 
 /// Where a patch is.
 pub fn same_place(rt: &impl Abort, no: PatchNo, place: Option<Place>, expected: Option<Place>) {
-    same_of(rt, &no, &place, &expected);
+    same(rt, &(no, place), &(no, expected));
 }
 
 /// How many there are.
@@ -82,6 +77,11 @@ pub fn same_fault(rt: &impl Abort, fault: Option<Fault>, expected: Fault) {
 /// Some bytes.
 pub fn same_bytes(rt: &impl Abort, bytes: &[u8], expected: &[u8]) {
     same(rt, &bytes, &expected);
+}
+
+/// A text.
+pub fn same_text(rt: &impl Abort, text: &str, expected: &str) {
+    same(rt, &text, &expected);
 }
 
 /// A ticket.

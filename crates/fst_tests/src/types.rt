@@ -1,46 +1,65 @@
 //! Each plain function of the types once, on its happy path.
 
+use crate::same::{same_answer, same_bytes, same_count, same_fault, same_text};
 use fst_types::{Fault, Items, Noted, PatchNo, Shape, What, Write, fold_over, write_over};
-use std::alloc::AllocError;
-use std::test::Fail;
+use std::alloc::{AllocError, Global};
+use std::process::Abort;
+
+// The blocks of a shape, their bytes, and how many of them may be in memory.
+fn is_shape(rt: &impl Abort, shape: Option<Shape>, blocks: usize, size: usize, resident: usize) {
+    let shape = shape.expect(rt, "it is within its limits");
+    same_count(rt, shape.blocks as usize, blocks);
+    same_count(rt, shape.size as usize, size);
+    same_count(rt, shape.resident as usize, resident);
+}
 
 #[test]
 fn shape_within_its_limits(rt: HostRuntime) {
-    match Shape::new(4, 8, 2) {
-        Ok(shape) => assert_eq!(rt; (shape.blocks, shape.size, shape.resident), (4, 8, 2)),
-        Err(_) => assert!(rt; false, "it was refused"),
-    }
-    assert!(rt; matches!(Shape::new(4, 8, 5), Err(Fault::BadField)));
+    is_shape(&rt, Shape::new(4, 8, 2).ok(), 4, 8, 2);
+    same_fault(&rt, Shape::new(4, 8, 5).err(), Fault::BadField);
+}
+
+// The number of a fault.
+fn has_number(rt: &impl Abort, fault: Fault, expected: usize) {
+    same_count(rt, fault.number() as usize, expected);
 }
 
 #[test]
 fn numbers_of_faults(rt: HostRuntime) {
-    assert_eq!(rt; Fault::BadLine.number(), 1);
-    assert_eq!(rt; Fault::Full(What::Tickets).number(), 16);
-    assert_eq!(rt; Fault::Memory.number(), 17);
-    assert_eq!(rt; Fault::GroupBegun.number(), 18);
-    assert_eq!(rt; Fault::Lost.number(), 19);
+    has_number(&rt, Fault::BadLine, 1);
+    has_number(&rt, Fault::Full(What::Tickets), 16);
+    has_number(&rt, Fault::Memory, 17);
+    has_number(&rt, Fault::GroupBegun, 18);
+    has_number(&rt, Fault::Lost, 19);
+}
+
+// What a fault says.
+fn says(rt: &impl Abort, alloc: Global, fault: Fault, expected: &str) {
+    let text = format!(in alloc; "{fault}").expect(rt, "there is memory");
+    same_text(rt, &text, expected);
 }
 
 // A text says what is held or full, and what to do.
 #[test]
-fn texts_of_faults(rt: HostRuntime) -> Result<(), Fail> {
-    let held = format!(in rt.alloc(); "{}", Fault::HardHeld(PatchNo(3)))?;
-    assert_eq!(rt;
-        held.as_str(),
-        "hard patch 3 of the block has to wait; write what it comes after and settle that first"
+fn texts_of_faults(rt: HostRuntime) {
+    says(
+        &rt,
+        rt.alloc(),
+        Fault::HardHeld(PatchNo(3)),
+        "hard patch 3 of the block has to wait; write what it comes after and settle that first",
     );
-    let full = format!(in rt.alloc(); "{}", Fault::Full(What::Heads))?;
-    assert_eq!(rt;
-        full.as_str(),
-        "full: 65,535 patches are known; forget those on disk"
+    says(
+        &rt,
+        rt.alloc(),
+        Fault::Full(What::Heads),
+        "full: 65,535 patches are known; forget those on disk",
     );
-    let cycle = format!(in rt.alloc(); "{}", Fault::Cycle)?;
-    assert_eq!(rt;
-        cycle.as_str(),
-        "the gate or group would come after itself; make another one for this"
+    says(
+        &rt,
+        rt.alloc(),
+        Fault::Cycle,
+        "the gate or group would come after itself; make another one for this",
     );
-    Ok(())
 }
 
 fn refused<E>(error: E) -> Result<(), Fault>
@@ -53,8 +72,8 @@ where
 
 #[test]
 fn faults_of_what_is_refused(rt: HostRuntime) {
-    assert_eq!(rt; refused(AllocError), Err(Fault::Memory));
-    assert_eq!(rt; refused((7u32, Fault::Stranger)), Err(Fault::Stranger));
+    same_answer(&rt, refused(AllocError), Err(Fault::Memory));
+    same_answer(&rt, refused((7u32, Fault::Stranger)), Err(Fault::Stranger));
 }
 
 #[test]
@@ -63,17 +82,17 @@ fn writes_fold_in_order(rt: HostRuntime) {
     let writes = [
         Write {
             at: 0,
-            bytes: &[0x41, 0x42],
+            bytes: b"AB",
         },
         Write {
             at: 1,
-            bytes: &[0x51, 0x52],
+            bytes: b"QR",
         },
     ];
     fold_over(&mut block, &writes);
-    assert_eq!(rt; block, [0x41, 0x51, 0x52, 0]);
-    write_over(&mut block, 3, &[0x61]);
-    assert_eq!(rt; block, [0x41, 0x51, 0x52, 0x61]);
+    same_bytes(&rt, &block, b"AQR\0");
+    write_over(&mut block, 3, b"a");
+    same_bytes(&rt, &block, b"AQRa");
 }
 
 // It has no bytes, and does nothing when it runs.
@@ -81,5 +100,5 @@ fn writes_fold_in_order(rt: HostRuntime) {
 fn what_is_noted_takes_nothing(rt: HostRuntime) {
     let noted = Noted::of_bytes(&[1, 2]);
     let _again = Noted::of::<Noted, Items>(&noted);
-    assert_eq!(rt; std::mem::size_of::<Noted>(), 0);
+    same_count(&rt, std::mem::size_of::<Noted>(), 0);
 }

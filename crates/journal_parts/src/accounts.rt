@@ -16,6 +16,7 @@ use fst_device::BlockSlot;
 use fst_types::{BlockNo, Fault, PatchNo, Shape};
 use journal_calls::{ALL_WRITES, Written, patch_or_write, write_until};
 use std::alloc::Global;
+use std::marker::Model;
 
 /// How many accounts there are.
 pub const ACCOUNTS: u32 = 6;
@@ -47,20 +48,47 @@ pub struct Accounts<S: BlockSlot> {
     last: Option<PatchNo>,
 }
 
+impl<S: BlockSlot> Model for Accounts<S> {
+    ghost use Rattle.journal_parts.specs.Views.{AccountsView, kept_in};
+
+    ghost Value = { AccountsView };
+
+    ghost view = { λ a. kept_in a.cache };
+}
+
 impl<S: BlockSlot> Accounts<S> {
     /// The accounts on these slots. Where the newest transfer was committed, it is made good first.
     pub fn open(alloc: Global, slots: Vec<S>) -> Result<Accounts<S>, StoreFault> {
         let shape = Shape::new(BLOCKS, SIZE, BLOCKS)?;
-        let mut cache = Cache::open(alloc, shape, slots)?;
+        let cache = Cache::open(alloc, shape, slots)?;
+        Accounts::over(cache).replayed()
+    }
+
+    // The accounts that a cache has.
+    fn over(cache: Cache<S>) -> Accounts<S> {
+        let mut cache = cache;
         let share = cache.share();
-        let mut accounts = Accounts {
+        Accounts {
             cache,
             share,
             transfers: 0,
             last: None,
-        };
-        accounts.replay()?;
+        }
+    }
+
+    // The same, the committed transfer made good.
+    fn replayed(self) -> Result<Accounts<S>, StoreFault> {
+        let mut accounts = self;
+        if let Err(fault) = accounts.replay() {
+            drop(accounts);
+            return Err(fault);
+        }
         Ok(accounts)
+    }
+
+    /// Lets go of the accounts. What was not synced may be lost.
+    pub fn close(self) {
+        drop(self);
     }
 
     // Makes the committed transfer good.
@@ -140,16 +168,26 @@ impl<S: BlockSlot> Accounts<S> {
     /// same. After any other refusal a part of the transfer may stand: the store is to be opened anew.
     pub fn transfer(&mut self, from: u16, to: u16, amount: u32) -> Result<PatchNo, StoreFault> {
         let record = self.record(from, to, amount)?;
-        let journalled = match self.last {
-            Some(last) => self.patch(JOURNAL, &record.to_bytes(), &[last])?,
-            None => self.patch(JOURNAL, &record.to_bytes(), &[])?,
-        };
-        let number = record.number.to_le_bytes();
-        let committed = self.patch(COMMIT, &number, &[journalled])?;
+        let committed = self.commit(&record)?;
         let done = self.settle_accounts(&record, &[committed])?;
         self.transfers = record.number;
         self.last = Some(done);
         Ok(done)
+    }
+
+    // Changes the journal, after all of the transfer before.
+    fn journal(&mut self, record: &Record) -> Result<PatchNo, Fault> {
+        let bytes = record.to_bytes();
+        match self.last {
+            Some(last) => self.patch(JOURNAL, &bytes, &[last]),
+            None => self.patch(JOURNAL, &bytes, &[]),
+        }
+    }
+
+    // Changes the journal, and after it the commit record. The answer is that last change.
+    fn commit(&mut self, record: &Record) -> Result<PatchNo, Fault> {
+        let journalled = self.journal(record)?;
+        self.patch(COMMIT, &record.number.to_le_bytes(), &[journalled])
     }
 
     /// Writes until a patch is on disk.

@@ -28,6 +28,9 @@ fn make<W: Write>(accounts: &mut Accounts<FlakySlot>, out: &mut W) -> Result<(),
 
 /// Transfers between accounts, on a device of which every other write fails.
 pub fn transfers<W: Write>(alloc: Global, out: &mut W) -> Result<(), StoreFault> {
-    let mut accounts = Accounts::open(alloc, flaky_slots(alloc)?)?;
-    make(&mut accounts, out)
+    let slots = flaky_slots(alloc)?;
+    let mut accounts = Accounts::open(alloc, slots)?;
+    let made = make(&mut accounts, out);
+    accounts.close();
+    made
 }

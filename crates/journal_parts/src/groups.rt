@@ -4,10 +4,10 @@
 //! put after it nothing is written before all of it is on disk, or goes in the same write.
 
 use crate::fault::StoreFault;
-use crate::guide::zeros;
+use crate::guide::zero_cache;
 use fst_cache::{Cache, Share};
 use fst_device::{BlockSlot, MemorySlot, carry};
-use fst_types::{BlockNo, Fault, GroupNo, PatchNo, Place, Shape};
+use fst_types::{BlockNo, Fault, GroupNo, PatchNo, Place};
 use journal_calls::two_groups;
 use std::alloc::Global;
 use std::io::Write;
@@ -98,55 +98,82 @@ fn tell<T: Drop, W: Write>(
     Ok(())
 }
 
+/// What is refused of the order of groups. The answer is the first of two, which has a change.
+fn refused_orders<W: Write>(
+    cache: &mut Cache<MemorySlot>,
+    share: &mut Share,
+    out: &mut W,
+) -> Result<GroupNo, StoreFault> {
+    let pair = two_groups(cache, share)?;
+    let answer = cache.group_after(pair.first, pair.second);
+    tell(out, "each after the other", answer)?;
+    cache.group_patch(share, pair.first, JOURNAL, 0, b"ef")?;
+    let third = cache.group_new(share)?;
+    let answer = cache.group_after(pair.first, third);
+    tell(out, "after another once it has a change", answer)?;
+    Ok(pair.first)
+}
+
 /// What is refused of groups.
 fn refusals<W: Write>(
     cache: &mut Cache<MemorySlot>,
     share: &mut Share,
     out: &mut W,
 ) -> Result<(), StoreFault> {
-    let pair = two_groups(cache, share)?;
-    tell(
-        out,
-        "each after the other",
-        cache.group_after(pair.first, pair.second),
-    )?;
-    cache.group_patch(share, pair.first, JOURNAL, 0, b"ef")?;
-    let third = cache.group_new(share)?;
-    tell(
-        out,
-        "after another once it has a change",
-        cache.group_after(pair.first, third),
-    )?;
-    cache.group_close(pair.first)?;
-    let late = cache.group_patch(share, pair.first, JOURNAL_END, 0, b"gh");
+    let group = refused_orders(cache, share, out)?;
+    cache.group_close(group)?;
+    let late = cache.group_patch(share, group, JOURNAL_END, 0, b"gh");
     tell(out, "a change for it once it is closed", late)
 }
 
-/// Plays a transaction and a rename, each in two groups, and tells what comes of them.
-fn play<W: Write>(
+/// Writes what may be written, and tells which blocks that were, and where the gate behind them is then.
+fn write_out<W: Write>(
+    cache: &mut Cache<MemorySlot>,
+    out: &mut W,
+    what: &str,
+    gate: PatchNo,
+) -> Result<(), StoreFault> {
+    write!(out, "the blocks of the {what}, as written:")?;
+    write_all(cache, out)?;
+    let place = cache.place(gate);
+    writeln!(out, "\nthe gate behind the {what}: {place:?}")?;
+    Ok(())
+}
+
+/// Plays a transaction in two groups, and tells what comes of it.
+fn play_transaction<W: Write>(
     cache: &mut Cache<MemorySlot>,
     share: &mut Share,
     out: &mut W,
 ) -> Result<(), StoreFault> {
     let done = transaction(cache, share)?;
-    tell(out, "a home block", cache.issue(FIRST_HOME))?;
-    write!(out, "the blocks of the transaction, as written:")?;
-    write_all(cache, out)?;
-    let place = cache.place(done);
-    writeln!(out, "\nthe gate behind the transaction: {place:?}")?;
+    let early = cache.issue(FIRST_HOME).map(drop);
+    tell(out, "a home block", early)?;
+    write_out(cache, out, "transaction", done)
+}
 
+/// Plays a rename in two groups, and tells what comes of it.
+fn play_rename<W: Write>(
+    cache: &mut Cache<MemorySlot>,
+    share: &mut Share,
+    out: &mut W,
+) -> Result<(), StoreFault> {
     let renamed = rename(cache, share)?;
-    write!(out, "the blocks of the rename, as written:")?;
-    write_all(cache, out)?;
-    let place = cache.place(renamed);
-    writeln!(out, "\nthe gate behind the rename: {place:?}")?;
-    Ok(())
+    write_out(cache, out, "rename", renamed)
+}
+
+/// Plays what there is of groups, and tells what is refused of them.
+fn play_all<W: Write>(cache: &mut Cache<MemorySlot>, out: &mut W) -> Result<(), StoreFault> {
+    let mut share = cache.share();
+    play_transaction(cache, &mut share, out)?;
+    play_rename(cache, &mut share, out)?;
+    refusals(cache, &mut share, out)
 }
 
 /// Plays what there is of groups over a cache of four blocks of eight bytes, and tells what is refused of them.
 pub fn groups<W: Write>(alloc: Global, out: &mut W) -> Result<(), StoreFault> {
-    let mut cache = Cache::open(alloc, Shape::new(4, 8, 4)?, zeros(alloc, 4, 8)?)?;
-    let mut share = cache.share();
-    play(&mut cache, &mut share, out)?;
-    refusals(&mut cache, &mut share, out)
+    let mut cache = zero_cache(alloc, 4, 8)?;
+    let played = play_all(&mut cache, out);
+    drop(cache);
+    played
 }

@@ -25,6 +25,13 @@ pub fn zeros(alloc: Global, blocks: u32, size: u32) -> Result<Vec<MemorySlot>, A
     Ok(slots)
 }
 
+/// A cache of so many blocks of so many zero bytes, of which all may be in memory.
+pub fn zero_cache(alloc: Global, blocks: u32, size: u32) -> Result<Cache<MemorySlot>, StoreFault> {
+    let shape = Shape::new(blocks, size, blocks)?;
+    let slots = zeros(alloc, blocks, size)?;
+    Ok(Cache::open(alloc, shape, slots)?)
+}
+
 /// Makes a transaction: the journal record before the commit record, that before the home blocks. The answer is a patch
 /// that stands for all of it.
 fn transaction(cache: &mut Cache<MemorySlot>) -> Result<PatchNo, Fault> {
@@ -58,16 +65,21 @@ fn write_homes(cache: &mut Cache<MemorySlot>) -> Result<(), Fault> {
     Ok(())
 }
 
-/// Plays one transaction over four blocks, and tells what comes of it.
-fn play<W: Write>(cache: &mut Cache<MemorySlot>, out: &mut W) -> Result<(), StoreFault> {
-    let done = transaction(cache)?;
-
+/// Writes the journal, and tells what comes of it.
+fn play_journal<W: Write>(cache: &mut Cache<MemorySlot>, out: &mut W) -> Result<(), StoreFault> {
     // only the record may be written yet: the others wait for it
-    if let Err(fault) = cache.issue(COMMIT) {
+    if let Some(fault) = cache.issue(COMMIT).err() {
         writeln!(out, "the commit record: {fault}")?;
     }
     let (failed, again) = write_journal(cache)?;
     writeln!(out, "the record: {failed:?}, and then {again:?}")?;
+    Ok(())
+}
+
+/// Plays one transaction over four blocks, and tells what comes of it.
+fn play<W: Write>(cache: &mut Cache<MemorySlot>, out: &mut W) -> Result<(), StoreFault> {
+    let done = transaction(cache)?;
+    play_journal(cache, out)?;
 
     // is it durable? where the patch is on disk, all that it comes after is
     writeln!(out, "before the home blocks: {:?}", cache.place(done))?;
@@ -80,6 +92,8 @@ fn play<W: Write>(cache: &mut Cache<MemorySlot>, out: &mut W) -> Result<(), Stor
 
 /// Plays one transaction over a cache of four blocks of four bytes, of which all may be in memory.
 pub fn guide<W: Write>(alloc: Global, out: &mut W) -> Result<(), StoreFault> {
-    let mut cache = Cache::open(alloc, Shape::new(4, 4, 4)?, zeros(alloc, 4, 4)?)?;
-    play(&mut cache, out)
+    let mut cache = zero_cache(alloc, 4, 4)?;
+    let played = play(&mut cache, out);
+    drop(cache);
+    played
 }

@@ -26,42 +26,81 @@ fn begin(file: &File) -> io::Result<()> {
     file.sync_data()
 }
 
+// Begins a file that is empty. Any other has to be as long as a store.
+fn begin_empty(file: &File) -> Result<(), StoreFault> {
+    let len = file.metadata()?.len();
+    if len == 0 {
+        begin(file)?;
+    } else if len != u64::from(BLOCKS) * u64::from(SIZE) {
+        return Err(StoreFault::NoStore);
+    }
+    Ok(())
+}
+
+// The slot of a block of the file.
+fn slot<R: Files<File = File> + AllocGlobal>(
+    rt: &R,
+    name: &str,
+    block: u32,
+) -> Result<FileSlot, StoreFault> {
+    let file = open(rt, name)?;
+    Ok(FileSlot::open(rt.alloc(), file, BlockNo(block), SIZE)?)
+}
+
 // The slots of the file, which is begun where it is empty.
 pub fn slots<R: Files<File = File> + AllocGlobal>(
     rt: &R,
     name: &str,
 ) -> Result<Vec<FileSlot>, StoreFault> {
     let file = open(rt, name)?;
-    let len = file.metadata()?.len();
-    if len == 0 {
-        begin(&file)?;
-    } else if len != u64::from(BLOCKS) * u64::from(SIZE) {
-        return Err(StoreFault::NoStore);
-    }
+    let begun = begin_empty(&file);
+    drop(file);
+    begun?;
     let mut slots = Vec::new(rt.alloc());
     for block in 0..BLOCKS {
-        let slot = FileSlot::open(rt.alloc(), open(rt, name)?, BlockNo(block), SIZE)?;
-        slots.push(slot)?;
+        slots.push(slot(rt, name, block)?)?;
     }
     Ok(slots)
 }
 
+// What an account has.
+fn tell_balance<R: Print>(
+    rt: &R,
+    accounts: &mut Accounts<FileSlot>,
+    account: u16,
+) -> Result<(), StoreFault> {
+    let balance = accounts.balance(account)?;
+    print!(rt; " {balance}")?;
+    Ok(())
+}
+
 // What all accounts have.
 fn tell<R: Print>(rt: &R, accounts: &mut Accounts<FileSlot>) -> Result<(), StoreFault> {
-    print!(rt; "after transfer {}:", accounts.transfers())?;
+    let transfers = accounts.transfers();
+    print!(rt; "after transfer {transfers}:")?;
     for account in 0..ACCOUNTS as u16 {
-        print!(rt; " {}", accounts.balance(account)?)?;
+        tell_balance(rt, accounts, account)?;
     }
     println!(rt;)?;
     Ok(())
 }
 
+// The account that a word names.
+fn account_of(word: Option<&str>) -> Option<u16> {
+    word?.parse().ok()
+}
+
+// The amount that a word tells.
+fn amount_of(word: Option<&str>) -> Option<u32> {
+    word?.parse().ok()
+}
+
 // The three numbers of a line.
 fn transfer_of(line: &str) -> Option<(u16, u16, u32)> {
     let mut words = line.split_whitespace();
-    let from = words.next()?.parse().ok()?;
-    let to = words.next()?.parse().ok()?;
-    let amount = words.next()?.parse().ok()?;
+    let from = account_of(words.next())?;
+    let to = account_of(words.next())?;
+    let amount = amount_of(words.next())?;
     Some((from, to, amount))
 }
 
@@ -76,6 +115,16 @@ fn make<R: Print>(rt: &R, accounts: &mut Accounts<FileSlot>, line: &str) -> Resu
     Ok(())
 }
 
+// The same of a line that was read.
+fn make_read<R: Print>(
+    rt: &R,
+    accounts: &mut Accounts<FileSlot>,
+    line: io::Result<String>,
+) -> Result<(), StoreFault> {
+    let line = line?;
+    make(rt, accounts, &line)
+}
+
 // Tells what there is, and makes each transfer of standard input.
 fn play<R: Input + Print + AllocGlobal>(
     rt: &R,
@@ -83,7 +132,7 @@ fn play<R: Input + Print + AllocGlobal>(
 ) -> Result<(), StoreFault> {
     tell(rt, accounts)?;
     for line in rt.lines(rt.alloc()) {
-        make(rt, accounts, line?.as_str())?;
+        make_read(rt, accounts, line)?;
     }
     tell(rt, accounts)
 }
@@ -94,6 +143,9 @@ pub fn keep<R: Files<File = File> + Input + Print + AllocGlobal>(
     rt: &R,
     name: &str,
 ) -> Result<(), StoreFault> {
-    let mut accounts = Accounts::open(rt.alloc(), slots(rt, name)?)?;
-    play(rt, &mut accounts)
+    let slots = slots(rt, name)?;
+    let mut accounts = Accounts::open(rt.alloc(), slots)?;
+    let played = play(rt, &mut accounts);
+    accounts.close();
+    played
 }

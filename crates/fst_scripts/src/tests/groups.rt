@@ -99,104 +99,98 @@ fn groups_out_of_order(rt: HostRuntime) {
 }
 
 // Groups without changes, each after the one before it: the first cannot come after the last.
+const GROUPS_WITHOUT_CHANGES: &[(&str, &str)] = &[
+    (r#"{"do":"group"}"#, "group 1"),
+    (r#"{"do":"group"}"#, "group 3"),
+    (r#"{"do":"group"}"#, "group 5"),
+    (r#"{"do":"group_after","group":3,"on":1}"#, "group_after 3"),
+    (r#"{"do":"group_after","group":5,"on":3}"#, "group_after 5"),
+    (r#"{"do":"group_after","group":1,"on":5}"#, "refused 8"),
+    (r#"{"do":"group_after","group":1,"on":1}"#, "refused 8"),
+    (r#"{"do":"group_close","group":5}"#, "group_close 5"),
+    (r#"{"do":"group_close","group":3}"#, "group_close 3"),
+    (r#"{"do":"stat"}"#, "stat made 6 live 6 undo 0 flights 0"),
+    (r#"{"do":"group_close","group":1}"#, "group_close 1"),
+    (r#"{"do":"stat"}"#, "stat made 6 live 0 undo 0 flights 0"),
+];
+
 #[test]
 fn groups_without_changes(rt: HostRuntime) {
-    plays_rows(
-        &rt,
-        rt.alloc(),
-        4,
-        &[
-            (r#"{"do":"group"}"#, "group 1"),
-            (r#"{"do":"group"}"#, "group 3"),
-            (r#"{"do":"group"}"#, "group 5"),
-            (r#"{"do":"group_after","group":3,"on":1}"#, "group_after 3"),
-            (r#"{"do":"group_after","group":5,"on":3}"#, "group_after 5"),
-            (r#"{"do":"group_after","group":1,"on":5}"#, "refused 8"),
-            (r#"{"do":"group_after","group":1,"on":1}"#, "refused 8"),
-            (r#"{"do":"group_close","group":5}"#, "group_close 5"),
-            (r#"{"do":"group_close","group":3}"#, "group_close 3"),
-            (r#"{"do":"stat"}"#, "stat made 6 live 6 undo 0 flights 0"),
-            (r#"{"do":"group_close","group":1}"#, "group_close 1"),
-            (r#"{"do":"stat"}"#, "stat made 6 live 0 undo 0 flights 0"),
-        ],
-    );
+    plays_rows(&rt, rt.alloc(), 4, GROUPS_WITHOUT_CHANGES);
 }
 
 // What waits for a lost block waits for good, and with a hard change all of its block and what waits for that.
+const BEHIND_A_LOST_BLOCK: &[(&str, &str)] = &[
+    (
+        r#"{"do":"patch","block":0,"at":0,"data":"41"}"#,
+        "patch 1 hard",
+    ),
+    (
+        r#"{"do":"patch","block":1,"at":0,"data":"42","after":[1]}"#,
+        "patch 2 hard",
+    ),
+    (
+        r#"{"do":"write","block":0}"#,
+        "flight 1 block 0 patches 1 image 41000000",
+    ),
+    (
+        r#"{"do":"done","ticket":1,"fail":"before"}"#,
+        "stalled 1 block 0",
+    ),
+    (
+        r#"{"do":"retry","block":0}"#,
+        "flight 2 block 0 patches 1 image 41000000",
+    ),
+    (
+        r#"{"do":"done","ticket":2,"fail":"after"}"#,
+        "stalled 2 block 0",
+    ),
+    (
+        r#"{"do":"retry","block":0}"#,
+        "flight 3 block 0 patches 1 image 41000000",
+    ),
+    (
+        r#"{"do":"done","ticket":3,"fail":"before"}"#,
+        "lost 3 block 0",
+    ),
+    (r#"{"do":"done","ticket":3}"#, "refused 14"),
+    (
+        r#"{"do":"patch","block":1,"at":1,"data":"43"}"#,
+        "patch 3 hard",
+    ),
+    (r#"{"do":"choose","block":1}"#, "chosen 1 patches 3"),
+    (r#"{"do":"write","block":1}"#, "refused 11 held 2"),
+    (
+        r#"{"do":"patch","block":2,"at":0,"data":"44","after":[3]}"#,
+        "patch 4 hard",
+    ),
+    (r#"{"do":"write","block":2}"#, "refused 10"),
+    (r#"{"do":"pick"}"#, "pick none"),
+    (
+        r#"{"do":"patch","block":3,"at":0,"data":"45"}"#,
+        "patch 5 hard",
+    ),
+    (r#"{"do":"pick"}"#, "pick 3"),
+    (
+        r#"{"do":"write","block":3}"#,
+        "flight 4 block 3 patches 5 image 45000000",
+    ),
+    (r#"{"do":"done","ticket":4}"#, "done 4 block 3"),
+    (r#"{"do":"pick"}"#, "pick none"),
+    (r#"{"do":"empty","after":[4,5]}"#, "empty 6"),
+    (r#"{"do":"place","patch":6}"#, "place 6 memory"),
+    (r#"{"do":"place","patch":1}"#, "place 1 flight"),
+    (r#"{"do":"evict","block":0}"#, "refused 12"),
+    (r#"{"do":"show","block":0}"#, "show 0 41000000"),
+    (r#"{"do":"forget"}"#, "forget 1"),
+    (r#"{"do":"stat"}"#, "stat made 6 live 5 undo 0 flights 1"),
+    (
+        r#"{"do":"crash","finish":[0]}"#,
+        "crash 41000000 00000000 00000000 45000000",
+    ),
+];
+
 #[test]
 fn behind_a_lost_block(rt: HostRuntime) {
-    plays_rows(
-        &rt,
-        rt.alloc(),
-        4,
-        &[
-            (
-                r#"{"do":"patch","block":0,"at":0,"data":"41"}"#,
-                "patch 1 hard",
-            ),
-            (
-                r#"{"do":"patch","block":1,"at":0,"data":"42","after":[1]}"#,
-                "patch 2 hard",
-            ),
-            (
-                r#"{"do":"write","block":0}"#,
-                "flight 1 block 0 patches 1 image 41000000",
-            ),
-            (
-                r#"{"do":"done","ticket":1,"fail":"before"}"#,
-                "stalled 1 block 0",
-            ),
-            (
-                r#"{"do":"retry","block":0}"#,
-                "flight 2 block 0 patches 1 image 41000000",
-            ),
-            (
-                r#"{"do":"done","ticket":2,"fail":"after"}"#,
-                "stalled 2 block 0",
-            ),
-            (
-                r#"{"do":"retry","block":0}"#,
-                "flight 3 block 0 patches 1 image 41000000",
-            ),
-            (
-                r#"{"do":"done","ticket":3,"fail":"before"}"#,
-                "lost 3 block 0",
-            ),
-            (r#"{"do":"done","ticket":3}"#, "refused 14"),
-            (
-                r#"{"do":"patch","block":1,"at":1,"data":"43"}"#,
-                "patch 3 hard",
-            ),
-            (r#"{"do":"choose","block":1}"#, "chosen 1 patches 3"),
-            (r#"{"do":"write","block":1}"#, "refused 11 held 2"),
-            (
-                r#"{"do":"patch","block":2,"at":0,"data":"44","after":[3]}"#,
-                "patch 4 hard",
-            ),
-            (r#"{"do":"write","block":2}"#, "refused 10"),
-            (r#"{"do":"pick"}"#, "pick none"),
-            (
-                r#"{"do":"patch","block":3,"at":0,"data":"45"}"#,
-                "patch 5 hard",
-            ),
-            (r#"{"do":"pick"}"#, "pick 3"),
-            (
-                r#"{"do":"write","block":3}"#,
-                "flight 4 block 3 patches 5 image 45000000",
-            ),
-            (r#"{"do":"done","ticket":4}"#, "done 4 block 3"),
-            (r#"{"do":"pick"}"#, "pick none"),
-            (r#"{"do":"empty","after":[4,5]}"#, "empty 6"),
-            (r#"{"do":"place","patch":6}"#, "place 6 memory"),
-            (r#"{"do":"place","patch":1}"#, "place 1 flight"),
-            (r#"{"do":"evict","block":0}"#, "refused 12"),
-            (r#"{"do":"show","block":0}"#, "show 0 41000000"),
-            (r#"{"do":"forget"}"#, "forget 1"),
-            (r#"{"do":"stat"}"#, "stat made 6 live 5 undo 0 flights 1"),
-            (
-                r#"{"do":"crash","finish":[0]}"#,
-                "crash 41000000 00000000 00000000 45000000",
-            ),
-        ],
-    );
+    plays_rows(&rt, rt.alloc(), 4, BEHIND_A_LOST_BLOCK);
 }

@@ -2,7 +2,7 @@
 //! left out, or there twice. Each gets one reply of those that there are, and the player counts what was accepted.
 
 use crate::tests::{put, put_line, replies_to};
-use std::alloc::{AllocError, Global};
+use std::alloc::Global;
 use std::process::Abort;
 
 const GOOD: &[&str] = &[
@@ -112,24 +112,21 @@ impl Dice {
 }
 
 // The line with one byte changed, left out or doubled, and its end.
-fn nearly(alloc: Global, dice: &mut Dice, line: &str) -> Result<Vec<u8>, AllocError> {
+fn nearly(rt: &impl Abort, alloc: Global, dice: &mut Dice, line: &str) -> Vec<u8> {
     let at = dice.roll(line.len());
     let how = dice.roll(3);
     let other = dice.sign();
     let mut text = Vec::new(alloc);
     for (place, byte) in line.as_bytes().iter().enumerate() {
         match how {
-            0 if place == at => text.push(other)?,
+            0 if place == at => put(rt, &mut text, &[other]),
             1 if place == at => {}
-            2 if place == at => {
-                text.push(*byte)?;
-                text.push(*byte)?;
-            }
-            _ => text.push(*byte)?,
+            2 if place == at => put(rt, &mut text, &[*byte, *byte]),
+            _ => put(rt, &mut text, &[*byte]),
         }
     }
-    text.push(b'\n')?;
-    Ok(text)
+    put(rt, &mut text, b"\n");
+    text
 }
 
 // Whether it is one of the replies that a player gives.
@@ -170,37 +167,54 @@ fn counts(rt: &impl Abort, alloc: Global, reply: &str, made: u32) {
     );
 }
 
-// Each line has a reply, each `stat` counts what was made so far, and many lines of both kinds are there: such as made
-// a patch, and such as are no line.
-fn judge(rt: &impl Abort, alloc: Global, lines: u32, replies: &str) {
-    let mut made = 0u32;
-    let mut count = 0u32;
-    let mut bad = 0u32;
-    for reply in replies.lines() {
+/// What was counted of the replies: the patches that were made, all replies, and those to no line.
+#[derive(Drop)]
+struct Tally {
+    made: u32,
+    all: u32,
+    bad: u32,
+}
+
+impl Tally {
+    // Counts a reply, which is one of those that there are. One to `stat` tells what was made so far.
+    fn take(&mut self, rt: &impl Abort, alloc: Global, reply: &str) {
         assert!(rt; is_reply(reply), "{reply}");
         if reply.starts_with("stat ") {
-            counts(rt, alloc, reply, made);
+            counts(rt, alloc, reply, self.made);
         }
-        made = made.saturating_add(made_by(reply));
+        self.made = self.made.saturating_add(made_by(reply));
         if reply == "refused 1" {
-            bad = bad.saturating_add(1);
+            self.bad = self.bad.saturating_add(1);
         }
-        count = count.saturating_add(1);
+        self.all = self.all.saturating_add(1);
     }
-    assert_eq!(rt; count, lines);
-    assert!(rt; made > 100, "{made} were made");
-    assert!(rt; bad > 200, "{bad} were no lines");
+
+    // So many replies are there, and many of both kinds: such as made a patch, and such as are to no line.
+    fn has(&self, rt: &impl Abort, lines: u32) {
+        assert_eq!(rt; self.all, lines);
+        assert!(rt; self.made > 100, "{} were made", self.made);
+        assert!(rt; self.bad > 200, "{} were no lines", self.bad);
+    }
+}
+
+// Each line has a reply, each `stat` counts what was made so far, and many lines of both kinds are there.
+fn judge(rt: &impl Abort, alloc: Global, lines: u32, replies: &str) {
+    let mut tally = Tally {
+        made: 0,
+        all: 0,
+        bad: 0,
+    };
+    for reply in replies.lines() {
+        tally.take(rt, alloc, reply);
+    }
+    tally.has(rt, lines);
 }
 
 // The good lines, each once as it is and once nearly right.
 fn put_round(rt: &impl Abort, alloc: Global, dice: &mut Dice, script: &mut Vec<u8>) {
     for line in GOOD {
         put_line(rt, script, line);
-        put(
-            rt,
-            script,
-            &nearly(alloc, dice, line).expect(rt, "there is memory"),
-        );
+        put(rt, script, &nearly(rt, alloc, dice, line));
     }
 }
 

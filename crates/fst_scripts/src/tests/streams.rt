@@ -17,12 +17,14 @@ const SCRIPT: &[u8] =
 const REPLIES: &[u8] = b"refused 1\nrefused 2\nrefused 2\nrefused 1\nrefused 1\n";
 
 // How a writer without room answers.
-#[derive(Clone, Copy, PartialEq, Eq)]
+#[derive(Clone, Copy)]
 enum NoRoom {
     // It takes nothing, and says that it took no byte.
     TakesNothing,
     // One error, and then it takes all.
     FailsOnce,
+    // An error each time.
+    Fails,
 }
 
 // Takes a byte at a time, as long as there is room.
@@ -41,10 +43,11 @@ impl Write for Stopping {
             return Ok(0);
         };
         if self.room == 0 {
-            if self.then == NoRoom::TakesNothing {
-                return Ok(0);
+            match self.then {
+                NoRoom::TakesNothing => return Ok(0),
+                NoRoom::FailsOnce => self.room = usize::MAX,
+                NoRoom::Fails => {}
             }
-            self.room = usize::MAX;
             return Err(io::Error::from(io::ErrorKind::Other));
         }
         self.held.push(*first)?;
@@ -80,33 +83,6 @@ impl Read for Single<'_> {
         buf[0] = *first;
         self.rest = rest;
         Ok(1)
-    }
-}
-
-// Takes a byte at a time, as long as there is room.
-#[derive(Drop)]
-struct Narrow {
-    held: Vec<u8>,
-    room: usize,
-}
-
-impl Write for Narrow {
-    ghost contents = { λ w. Some w.held.items };
-
-    fn write(&mut self, buf: &[u8]) -> io::Result<usize> {
-        let Some(first) = buf.first() else {
-            return Ok(0);
-        };
-        if self.room == 0 {
-            return Err(io::Error::from(io::ErrorKind::Other));
-        }
-        self.held.push(*first)?;
-        self.room -= 1;
-        Ok(1)
-    }
-
-    fn flush(&mut self) -> io::Result<()> {
-        Ok(())
     }
 }
 
@@ -149,16 +125,17 @@ fn bytewise(fails: bool) -> Single<'static> {
 }
 
 // Takes so many bytes.
-fn with_room(alloc: Global, room: usize) -> Narrow {
-    Narrow {
+fn with_room(alloc: Global, room: usize, then: NoRoom) -> Stopping {
+    Stopping {
         held: Vec::new(alloc),
         room,
+        then,
     }
 }
 
 // From a reader of single bytes to a writer of such, which has room for all replies.
 fn plays_bytewise(rt: &impl Abort, alloc: Global) {
-    let mut writer = with_room(alloc, REPLIES.len());
+    let mut writer = with_room(alloc, REPLIES.len(), NoRoom::Fails);
     is_done(rt, played(rt, alloc, &mut bytewise(false), &mut writer));
     same_replies(rt, &writer.held, REPLIES);
 }
@@ -179,7 +156,7 @@ fn failing_reader(rt: HostRuntime) {
 
 // The writer takes these bytes, and then fails.
 fn fails_after(rt: &impl Abort, alloc: Global, written: &[u8]) {
-    let mut writer = with_room(alloc, written.len());
+    let mut writer = with_room(alloc, written.len(), NoRoom::Fails);
     is_unwritten(rt, played(rt, alloc, &mut bytewise(false), &mut writer));
     same_replies(rt, &writer.held, written);
 }
@@ -229,11 +206,7 @@ fn cycle_of_blocks(rt: &impl Abort, alloc: Global) -> (Vec<u8>, Vec<u8>) {
 // A writer that stops after so many bytes has these, and nothing more.
 fn stops(rt: &impl Abort, alloc: Global, script: &[u8], then: NoRoom, written: &[u8]) {
     let mut reader = script;
-    let mut writer = Stopping {
-        held: Vec::new(alloc),
-        room: written.len(),
-        then,
-    };
+    let mut writer = with_room(alloc, written.len(), then);
     is_unwritten(rt, played(rt, alloc, &mut reader, &mut writer));
     same_replies(rt, &writer.held, written);
 }

@@ -147,17 +147,30 @@ fn launch_random(
     fold
 }
 
+// Up to 40 patches.
+fn apply_each(rt: &impl Abort, alloc: Global, twin: &mut Twin, dice: &mut Dice, size: u32)
+    requires { 0 < size }
+{
+    for no in 0..dice.roll(41) {
+        apply_random(rt, alloc, twin, dice, no + 1, size);
+    }
+}
+
+// Three launches, over so many sevens.
+fn launch_each(rt: &impl Abort, alloc: Global, twin: &mut Twin, dice: &mut Dice, size: u32) {
+    let mut base = vec![in alloc; 7u8; size as usize].expect(rt, "there is memory");
+    for _ in 0..3 {
+        base = launch_random(rt, alloc, twin, dice, &base);
+    }
+}
+
 // A block of up to 64 bytes, with up to 40 patches.
 fn play(rt: &impl Abort, alloc: Global, dice: &mut Dice) {
     let size = 1 + dice.roll(64);
     let mut twin = Twin::load(rt, alloc, size as usize, 7);
-    for no in 0..dice.roll(41) {
-        apply_random(rt, alloc, &mut twin, dice, no + 1, size);
-    }
-    let mut base = vec![in alloc; 7u8; size as usize].expect(rt, "there is memory");
-    for _ in 0..3 {
-        base = launch_random(rt, alloc, &mut twin, dice, &base);
-    }
+    apply_each(rt, alloc, &mut twin, dice, size);
+    launch_each(rt, alloc, &mut twin, dice, size);
+    twin.end();
 }
 
 #[test]

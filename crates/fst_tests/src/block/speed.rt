@@ -8,16 +8,21 @@ use std::process::Abort;
 use std::rt::Clock;
 use std::time::Instant;
 
+// Puts the 32 bytes of a patch over the image.
+fn put(image: &mut [u8], change: &Change) {
+    let at = change.span.at as usize;
+    if let Some(bytes) = image.get_mut(at..at + 32) {
+        bytes.fill((change.no.0 % 251) as u8);
+    }
+}
+
 // Folds the bytes with the chosen patches.
 fn fold(image: &mut [u8], changes: &[Change], chosen: &[PatchNo]) {
     let mut met = 0;
     for change in changes {
         if met < chosen.len() && chosen[met] == change.no {
             met += 1;
-            let at = change.span.at as usize;
-            if at + 32 <= image.len() {
-                image[at..at + 32].copy_from_slice(&[(change.no.0 % 251) as u8; 32]);
-            }
+            put(image, change);
         }
     }
 }
@@ -60,15 +65,29 @@ fn fill(rt: &impl Abort, alloc: Global, twin: &mut Twin, count: u32) -> Vec<Patc
     chosen
 }
 
-// Prints what an image of a block of 4,096 bytes with so many patches takes, of which every second is chosen, and what a
-// fold of these takes.
+// So many zeros.
+fn zeros(rt: &impl Abort, alloc: Global, size: usize) -> Vec<u8> {
+    vec![in alloc; 0u8; size].expect(rt, "there is memory")
+}
+
+fn print(rt: &(impl Abort + Print), count: u32, images: u128, folds: u128) {
+    println!(rt; "{count} patches: an image {images} ns, a fold {folds} ns").expect(rt, "output");
+}
+
+// Prints what an image with so many patches takes, of which every second is chosen, and what a fold of these takes.
+fn compare(rt: &(impl Abort + Clock + Print), alloc: Global, twin: &mut Twin, count: u32) {
+    let chosen = fill(rt, alloc, twin, count);
+    let images = twin.time_of_images(rt, &chosen, 1000);
+    let base = zeros(rt, alloc, 4096);
+    let folds = time_of_folds(rt, alloc, &base, twin.changes(), &chosen, 1000);
+    print(rt, count, images, folds);
+}
+
+// The same of a block of 4,096 bytes.
 fn measure(rt: &(impl Abort + Clock + Print), alloc: Global, count: u32) {
     let mut twin = Twin::load(rt, alloc, 4096, 0);
-    let chosen = fill(rt, alloc, &mut twin, count);
-    let images = twin.time_of_images(rt, &chosen, 1000);
-    let base = vec![in alloc; 0u8; 4096].expect(rt, "there is memory");
-    let folds = time_of_folds(rt, alloc, &base, twin.changes(), &chosen, 1000);
-    println!(rt; "{count} patches: an image {images} ns, a fold {folds} ns").expect(rt, "output");
+    compare(rt, alloc, &mut twin, count);
+    twin.end();
 }
 
 #[test]

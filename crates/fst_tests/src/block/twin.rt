@@ -1,7 +1,7 @@
 //! A block, and the list of its patches beside it. What a call asks of its caller is tested on the list, so the contracts
 //! here say nothing.
 
-ghost use Rattle.std.specs.Prelude.{◌≡◌};
+ghost use Rattle.std.specs.Prelude.{◌≡◌, ◌≤◌, ◌+◌, length};
 ghost use Rattle.fst_block.specs.Choices.{IsChoice};
 
 use crate::block::choice::{Change, is_choice, is_newest, leave_out};
@@ -22,6 +22,20 @@ fn make_images(rt: &impl Abort, block: &mut Block, chosen: &[PatchNo], times: u3
     for _ in 0..times {
         let image = block.image(chosen).expect(rt, "there is memory");
         drop(image);
+    }
+}
+
+// The bytes from this place on, which the block has.
+fn span_of(rt: &impl Abort, at: u32, bytes: &[u8], block: &[u8]) -> Span
+    ensures len { result.len ≡ length bytes.now }
+    ensures short { result.len ≤ 64 }
+    ensures within { result.at + result.len ≤ length block.now }
+{
+    assert!(rt; bytes.len() <= 64);
+    assert!(rt; at as usize + bytes.len() <= block.len());
+    Span {
+        at,
+        len: bytes.len() as u32,
     }
 }
 
@@ -52,6 +66,11 @@ impl Twin {
         }
     }
 
+    /// Lets go of it, by a call: where it is let go of in place, that is proved field by field.
+    pub fn end(self) {
+        drop(self);
+    }
+
     /// The patches, in order of number.
     pub fn changes(&self) -> &[Change] {
         &self.changes
@@ -59,22 +78,15 @@ impl Twin {
 
     /// Puts the bytes at this place, as the newest patch.
     pub fn apply(&mut self, rt: &impl Abort, no: u32, at: u32, bytes: &[u8], grade: Grade) {
-        assert!(rt; bytes.len() <= 64);
-        assert!(rt; at as usize + bytes.len() <= self.block.bytes().len());
-        assert!(rt; is_newest(&self.changes, PatchNo(no)));
-        let no = PatchNo(no);
-        let span = Span {
-            at,
-            len: bytes.len() as u32,
-        };
-        let applied = self.block.apply(no, span, bytes, grade);
-        assert!(rt; applied.is_ok());
         let change = Change {
-            no,
-            span,
+            no: PatchNo(no),
+            span: span_of(rt, at, bytes, self.block.bytes()),
             grade,
             bytes: Noted::of_bytes(bytes),
         };
+        assert!(rt; is_newest(&self.changes, change.no));
+        let applied = self.block.apply(change.no, change.span, bytes, grade);
+        assert!(rt; applied.is_ok());
         let kept = self.changes.push(change);
         assert!(rt; kept.is_ok());
     }

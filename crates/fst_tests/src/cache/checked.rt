@@ -13,6 +13,19 @@ use std::alloc::Global;
 use std::marker::Model;
 use std::process::Abort;
 
+// The completion is of no write that is out.
+fn is_stranger(rt: &impl Abort, fault: Fault) {
+    same_fault(rt, Some(fault), Fault::Stranger);
+    same_count(rt, fault.number() as usize, 14);
+}
+
+// The ticket, the block and the image of a completion.
+fn is_done(rt: &impl Abort, done: &Done<MemorySlot>, ticket: u64, block: u32, image: &[u8]) {
+    same_ticket(rt, done.ticket(), ticket);
+    same_block(rt, Some(done.block()), Some(BlockNo(block)));
+    same_bytes(rt, done.image(), image);
+}
+
 /// A cache, and the share of the one thread that makes its patches.
 #[derive(Drop)]
 pub struct Checked {
@@ -60,8 +73,10 @@ impl Checked {
         )
     }
 
-    /// Lets go of it. What that takes is proved here, and not in each test.
-    pub fn end(self) {}
+    /// Lets go of it, by a call: where it is let go of in place, that is proved field by field.
+    pub fn end(self) {
+        drop(self);
+    }
 
     /// What the cache's type keeps is at hand.
     pub fn headline(&self) {
@@ -183,6 +198,11 @@ impl Checked {
             .expect(rt, "it goes out")
     }
 
+    /// A write is sent out, and is of no use any more.
+    pub fn goes_out(&mut self, rt: &impl Abort, block: u32) {
+        drop(self.issue(rt, block));
+    }
+
     /// A write is not sent out, for this reason.
     pub fn issue_refused(&mut self, rt: &impl Abort, block: u32, expected: Fault) {
         same_fault(rt, self.cache.issue(BlockNo(block)).err(), expected);
@@ -222,10 +242,8 @@ impl Checked {
             .settle(done)
             .err()
             .expect(rt, "a stranger is not accepted");
-        same_fault(rt, Some(fault), Fault::Stranger);
-        same_count(rt, fault.number() as usize, 14);
-        same_ticket(rt, done.ticket(), ticket);
-        same_block(rt, Some(done.block()), Some(BlockNo(block)));
-        same_bytes(rt, done.image(), image);
+        is_stranger(rt, fault);
+        is_done(rt, &done, ticket, block, image);
+        drop(done);
     }
 }

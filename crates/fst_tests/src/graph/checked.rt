@@ -56,8 +56,10 @@ impl Checked {
         Ok(Checked { graph, blocks })
     }
 
-    /// Lets go of it. What that takes is proved here, and not in each test.
-    pub fn end(self) {}
+    /// Lets go of it, by a call: where it is let go of in place, that is proved field by field.
+    pub fn end(self) {
+        drop(self);
+    }
 
     /// A new gate.
     pub fn gate(&mut self, rt: &impl Abort, expected: Result<PatchNo, Fault>) {

@@ -292,6 +292,7 @@ fn play(rt: &impl Abort, alloc: Global, dice: &mut Dice) {
         pair.compare(rt);
     }
     pair.finish(rt);
+    drop(pair);
 }
 
 #[test]

@@ -124,7 +124,7 @@ impl Wide {
 }
 
 /// Which patches there are.
-#[derive(Clone, Copy, Debug, PartialEq, Eq)]
+#[derive(Clone, Copy, Debug)]
 enum Form {
     Chain,
     WideChain,
@@ -215,7 +215,9 @@ fn print(rt: &impl Print, form: Form, count: u32, times: Times) -> Result<(), Fa
 // Prints what so many patches take, and answers whether it was long.
 fn measure(rt: &(impl Clock + Print), alloc: Global, form: Form, count: u32) -> Result<bool, Fail> {
     let mut wide = Wide::new(alloc)?;
-    let times = times_of(rt, &mut wide, form, count)?;
+    let times = times_of(rt, &mut wide, form, count);
+    drop(wide);
+    let times = times?;
     print(rt, form, count, times)?;
     Ok(times.made > MOST || times.written > MOST)
 }

@@ -11,7 +11,7 @@ use fst_types::{
 use std::alloc::{AllocError, Global};
 use std::marker::Model;
 
-#[derive(Clone, Copy, Debug, PartialEq, Eq)]
+#[derive(Clone, Copy)]
 enum Kind {
     Change(BlockNo, Span, Grade),
     Empty,
@@ -310,7 +310,7 @@ impl Twin {
 
     // Whether this is an empty patch or a sealed gate in memory, and all its direct dependencies are on disk.
     fn may_rest(&self, patch: &Patch) -> bool {
-        (patch.kind == Kind::Empty || patch.kind == Kind::SealedGate)
+        matches!(patch.kind, Kind::Empty | Kind::SealedGate)
             && patch.is_live()
             && patch
                 .dependencies

@@ -7,7 +7,8 @@ use std::alloc::AllocError;
 impl Twin {
     // Whether an open gate is among these.
     fn has_open_gate(&self, under: &[PatchNo]) -> bool {
-        self.patches.iter().any(|gate| gate.kind == Kind::OpenGate && under.contains(&gate.no))
+        self.patches.iter().any(|gate| matches!(gate.kind, Kind::OpenGate)
+            && under.contains(&gate.no))
     }
 
     // Whether each change among these is on disk, or in memory on the block.

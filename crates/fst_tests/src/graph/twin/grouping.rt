@@ -7,7 +7,7 @@ use fst_types::{
 use std::alloc::AllocError;
 
 /// A group, by its head; its tail has the next number.
-#[derive(Clone, Copy, Debug, PartialEq, Eq)]
+#[derive(Clone, Copy)]
 pub struct Group {
     head: PatchNo,
     begun: bool,
@@ -132,7 +132,7 @@ impl Twin {
     fn begin(&mut self, no: GroupNo) {
         let head = PatchNo(no.0);
         let is_open = match self.head(head) {
-            Some(patch) => patch.kind == Kind::OpenGate,
+            Some(patch) => matches!(patch.kind, Kind::OpenGate),
             None => false,
         };
         if is_open {
