@@ -14,12 +14,18 @@ ghost use Rattle.fst_walks.specs.Ancestors.{AreOver, GoesUnder, LeadsTo};
 ghost use Rattle.fst_walks.specs.Leveling.{IsLeveled, jump_of, parent_of};
 ghost use Rattle.fst_walks.specs.Sights.{Sees};
 
-use crate::levels::{Ancestry, Levels, no_ancestry};
+use crate::levels::{Ancestry, Levels, Rank, no_ancestry};
 use crate::shortcuts::{newest, newest_few, passes_at};
 use crate::sight::Sight;
 use fst_heads::head::Head;
 use fst_heads::lists::Listed;
 use fst_heads::test::Test;
+
+// How many of the newest changes of a block are looked at, and how many of these, at most, are looked for among the
+// ancestors. Behind a gate one patch of many goes on to the next gate, and may be far from the newest of its block.
+const NEWEST: usize = 64;
+
+const TRIED: u32 = 8;
 
 // From how many of a row they are looked for.
 const WIDTH: usize = 4;
@@ -135,43 +141,61 @@ fn first_off(sight: &Sight<'_>, block: u32, number: u32) -> Option<u32>
     None
 }
 
-// The newest changes of the block that are not on disk, no more than `most`.
-fn newest_changes<'a>(sight: &Sight<'a>, block: u32, most: usize) -> &'a [Listed]
+// The newest changes of the block that are not on disk, as many as are looked at.
+fn newest_changes<'a>(sight: &Sight<'a>, block: u32) -> &'a [Listed]
     requires sees { Sees sight.now }
     requires block { block < length sight.now.lists.now }
     ensures { (n : ℕ) → Contains (map (λ l. l.number) result.now) n → PassesAt (test.LiveOn block) (patches_of sight.now.heads.now) n }
 {
     let list = sight.lists[block as usize].as_slice();
-    &list[list.len().saturating_sub(most)..]
+    &list[list.len().saturating_sub(NEWEST)..]
 }
 
-// Whether one of these changes is an ancestor of the patch with the number. What a patch depends on is no higher than it is.
+// The depth of the patch with the number, if it may be an ancestor of one with that rank: something depends on it, and it is
+// no higher and not as deep.
+fn depth_above(sight: &Sight<'_>, own: Rank, number: u32) -> Option<u32>
+    requires sees { Sees sight.now }
+{
+    let slot = sight.levels.find(sight.heads, number)?;
+    let rank = sight.levels.rank_of(sight.heads, number);
+    if rank.level > own.level
+        || rank.ancestry.depth >= own.ancestry.depth
+        || sight.heads[slot].dependants.is_empty()
+    {
+        return None;
+    }
+    Some(rank.ancestry.depth)
+}
+
+// Whether one of these changes is an ancestor of the patch with the number, of as many as are tried.
 fn leads_to_one(sight: &Sight<'_>, number: u32, changes: &[Listed]) -> bool
     requires sees { Sees sight.now }
     ensures { IsTrue result → (n : ℕ) × Contains (map (λ l. l.number) changes.now) n × LeadsTo (patches_of sight.now.heads.now) number n }
 {
     let own = sight.levels.rank_of(sight.heads, number);
+    let mut left = TRIED;
     for change in changes {
-        let rank = sight.levels.rank_of(sight.heads, change.number);
-        if rank.level <= own.level
-            && rank.ancestry.depth < own.ancestry.depth
-            && comes_to(sight, number, change.number, rank.ancestry.depth)
-        {
-            return true;
+        if let Some(depth) = depth_above(sight, own, change.number) {
+            if left == 0 {
+                return false;
+            }
+            left -= 1;
+            if comes_to(sight, number, change.number, depth) {
+                return true;
+            }
         }
     }
     false
 }
 
 /// Whether the ancestors of one of the row lead over a change of another block down to one of the newest changes of the
-/// block, of which no more than `most` are looked for. A change of the block with that row is soft. Where none do, another
-/// way may.
-pub fn leads_to_block(sight: &Sight<'_>, block: u32, row: &[u32], most: usize) -> bool
+/// block. A change of the block with that row is soft. Where none do, another way may.
+pub fn leads_to_block(sight: &Sight<'_>, block: u32, row: &[u32]) -> bool
     requires sees { Sees sight.now }
     requires block { block < length sight.now.lists.now }
     ensures { IsTrue result → HasUnder (patches_of sight.now.heads.now) row.now (IsReturning (patches_of sight.now.heads.now) block) }
 {
-    let changes = newest_changes(sight, block, most);
+    let changes = newest_changes(sight, block);
     for number in newest_few(row, WIDTH) {
         if let Some(off) = first_off(sight, block, *number) {
             if leads_to_one(sight, off, changes) {

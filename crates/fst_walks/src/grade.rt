@@ -29,12 +29,6 @@ use fst_types::Grade;
 // mostly ends at once, and long chains down would be followed for nothing.
 const FEW_LOOKS: usize = 128;
 
-// How many of the newest changes of the block are looked for among ancestors: at first, and where short searches do not
-// tell. Behind a gate one patch of many goes on to the next gate, and may be far from the newest of its block.
-const NEAR_CHANGES: usize = 8;
-
-const FAR_CHANGES: usize = 64;
-
 // What keeps a new change of the block with that row soft but for open gates. What was met and crossed before does not
 // matter.
 fn grade_by_ways(sight: &Sight<'_>, ends: &mut Ends, block: u32, row: &[u32]) -> Grade
@@ -52,7 +46,7 @@ fn grade_by_ways(sight: &Sight<'_>, ends: &mut Ends, block: u32, row: &[u32]) ->
     if stays_below(sight, block, row) {
         return Grade::Hard;
     }
-    if leads_to_block(sight, block, row, NEAR_CHANGES) {
+    if leads_to_block(sight, block, row) {
         return Grade::Soft;
     }
     if comes_back_soon(sight, block, row) {
@@ -63,9 +57,6 @@ fn grade_by_ways(sight: &Sight<'_>, ends: &mut Ends, block: u32, row: &[u32]) ->
     }
     if let Some(grade) = grade_between(sight, ends, block, row, FEW_LOOKS) {
         return grade;
-    }
-    if leads_to_block(sight, block, row, FAR_CHANGES) {
-        return Grade::Soft;
     }
     if comes_back(sight, block, row) {
         return Grade::Soft;

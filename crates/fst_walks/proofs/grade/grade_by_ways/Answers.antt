@@ -14,6 +14,3 @@ returns-then-stays_below-clause-graded c = c.stays_below.ensures c.if-stays_belo
 
 pub returns-then-is_clean-clause-graded : goal.returns-then-is_clean-clause-graded
 returns-then-is_clean-clause-graded c = c.is_clean.ensures c.if-is_clean.true c.args.row.now
-
-pub returns-then-leads_to_block-2-clause-graded : goal.returns-then-leads_to_block-2-clause-graded
-returns-then-leads_to_block-2-clause-graded c leads = leads.straight (c.leads_to_block-2.ensures c.if-leads_to_block-2.true)
