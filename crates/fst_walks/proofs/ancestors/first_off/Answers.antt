@@ -1,3 +1,5 @@
+use Rattle.std.proofs.Common.{arith}
+use Rattle.std.proofs.lemmas.Grind.{common_steps}
 use Rattle.fst_heads.specs.Heads.{patches_of}
 use Rattle.fst_walks.proofs.Ancestral.{leads_further}
 use Rattle.fst_walks.proofs.ancestors.first_off.Goals as goal
@@ -10,3 +12,6 @@ loop-preserved c =
 
 pub returns-then-passes_at-clause-under : goal.returns-then-passes_at-clause-under
 returns-then-passes_at-clause-under c = c.loop.invariant
+
+pub returns-then-passes_at-clause-off : goal.returns-then-passes_at-clause-off
+returns-then-passes_at-clause-off c = grind (arith, common_steps)

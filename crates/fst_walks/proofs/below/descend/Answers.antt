@@ -1,4 +1,5 @@
 use Rattle.std.proofs.Common.{◌<◌, ◌+◌, length, refl, arith}
+use Rattle.std.proofs.lemmas.Grind.{common_steps}
 use Rattle.std.proofs.lemmas.Bool.{false≢true}
 use Rattle.fst_heads.specs.Heads.{patches_of}
 use Rattle.fst_walks.specs.{BothEnds.{IsHighNeed, StepsHigh}, Leveling.level_of, Needing.needs_of, Walks.numbers_met}
@@ -46,3 +47,6 @@ returns-clause-met c = (
       let all = climbing_all (StepsHigh (patches_of heads) (level_of sight.levels.now.ranks) c.args.least (needs_of sight.needs.now.lists) start.crossed.items) (numbers_met heads start.walk) c.loop-at.at met (omega (arith, c.loop-at-test.false, c.len.ensures.long, long_met heads c.loop-at.down.walk)) c.loop-at.invariant.descends.climbing x.at in
       absurd (c.loop-at.invariant.away x.at (all.1 x.under) x.change),
 )
+
+pub returns-then-looked-left-clause-met : goal.returns-then-looked-left-clause-met
+returns-then-looked-left-clause-met c = grind (arith, common_steps)

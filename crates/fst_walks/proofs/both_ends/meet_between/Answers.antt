@@ -1,4 +1,5 @@
 use Rattle.std.proofs.Common.{◌<◌, length, inl, inr, arith}
+use Rattle.std.proofs.lemmas.Grind.{common_steps}
 use Rattle.fst_heads.specs.{Heads.patches_of}
 use Rattle.fst_walks.specs.{BothEnds.{IsHighNeed, IsLowChange, StepsHigh, StepsLow}, Leveling.level_of, Needing.needs_of, Walks.numbers_met}
 use Rattle.fst_walks.proofs.{Ascended.climbing_all, Stepping.{high_step, low_step, walking_kept}, Visiting.long_met}
@@ -103,3 +104,6 @@ returns-after-loop-up_at-clause-apart c e =
       apart = known.apart;
       ended = inl (λ n. (climbing_all (StepsLow patches level c.args.most up) bottoms c.loop-up_at.up_at (numbers_met heads ends.up.walk) (omega (arith, c.loop-up_at-test.false, c.len.ensures.long, long_met heads ends.up.walk)) known.climbs.climbing n).1);
     }
+
+pub returns-then-min-limit-clause-apart : goal.returns-then-min-limit-clause-apart
+returns-then-min-limit-clause-apart c = grind (arith, common_steps)

@@ -1,4 +1,5 @@
 use Rattle.std.proofs.Common.{Contains, get_or, subst, arith}
+use Rattle.std.proofs.lemmas.Grind.{common_steps}
 use Rattle.fst_heads.specs.Heads.{patches_of}
 use Rattle.fst_walks.specs.{BothEnds.StepsLow, Descending.Visits, Leveling.level_of, Walks.numbers_met}
 use Rattle.fst_walks.proofs.Visiting.{long_met, still_apart}
@@ -14,3 +15,6 @@ returns-clause-apart c none =
     still_apart (StepsLow (patches_of heads) (level_of sight.levels.now.ranks) c.args.most up.crossed.items (get_or old c.args.at 0)) (Contains (numbers_met heads c.args.ends.now.down.walk)) old new c.len-from.result
     (subst (λ shown. Visits (StepsLow (patches_of heads) (level_of sight.levels.now.ranks) c.args.most shown (get_or old c.args.at 0)) old new) c.deref_mut.ensures.value c.step_up-more.ensures.visits)
     (omega (arith, c.len-from.ensures.long, long_met heads up.walk)) c.requires.apart (λ at past lt there. c.meets.ensures.apart none at past (omega (arith, lt, long_met heads c.step_up-more.new.walk)) there)
+
+pub returns-clause-met : goal.returns-clause-met
+returns-clause-met c = grind (arith, common_steps)

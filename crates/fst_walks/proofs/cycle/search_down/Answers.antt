@@ -1,4 +1,5 @@
 use Rattle.std.proofs.Common.{◌<◌, ℕ, length, get_or, Contains, sym, subst, arith}
+use Rattle.std.proofs.lemmas.Grind.{common_steps}
 use Rattle.fst_heads.specs.{Heads.patches_of, Nodes.{nodes_of, pending_in}, declared.head.Head.Head, declared.pending.Pending.Pending}
 use Rattle.fst_heads.proofs.Slots.{direct_at, named_at}
 use Rattle.fst_walks.specs.{Descending.Visits, Searching.IsNextHeld, Walks.numbers_met}
@@ -37,3 +38,6 @@ returns-clause-led c =
     let heads = c.args.heads.now in
     climbing_all (IsNextHeld (patches_of heads) (pending_in (nodes_of heads))) (numbers_met heads c.args.walk.now) c.loop-at.at (numbers_met heads c.loop-at.walk)
     (omega (arith, c.loop-at-test.false, c.len.ensures.long, long_met heads c.loop-at.walk)) c.loop-at.invariant.climbing
+
+pub loop-at-init : goal.loop-at-init
+loop-at-init c = grind (arith, common_steps)

@@ -1,4 +1,4 @@
-use Rattle.std.proofs.Common.{◌≡◌, ◌∙◌, ◌<◌, ◌⊎◌, arith, get_or, subst}
+use Rattle.std.proofs.Common.{◌≡◌, ◌∙◌, ◌<◌, ◌⊎◌, arith, get_or, subst, rules}
 use Rattle.fst_heads.specs.{Grading.IsHardNumber, Heads.patches_of}
 use Rattle.fst_heads.proofs.{Listing.rising_patches, Slots.any_default}
 use Rattle.fst_walks.specs.Leveling.{floor_of, level_of}
@@ -17,3 +17,6 @@ returns c told =
     (λ n k live.
     let here : get_or row k.0 0 ≡ n = any_default row k.0 0 n k.1 ∙ k.2 in
     subst (λ m. IsHardNumber patches b m ⊎ (level m < floor b)) here (c.loop-number.invariant k.0 (omega (arith, k.1, c.loop-number-test.false))))
+
+pub loop-number-preserved : goal.loop-number-preserved
+loop-number-preserved c = search rules

@@ -1,5 +1,12 @@
-use Rattle.std.proofs.Common.{ap}
+use Rattle.std.proofs.Common.{ap, arith}
+use Rattle.std.proofs.lemmas.Grind.{common_steps}
 use Rattle.fst_graph.proofs.sparse.Sparse.add_data.Goals as goal
 
 pub put-requires-2 : goal.put-requires-2
 put-requires-2 c = (_, ap (λ k. k.prepared) c.in_ok-room.ensures.prepared, tt)
+
+pub returns-clause-prepared : goal.returns-clause-prepared
+returns-clause-prepared c = grind (arith, common_steps)
+
+pub returns-in_err-room-clause-prepared : goal.returns-in_err-room-clause-prepared
+returns-in_err-room-clause-prepared c = grind (arith, common_steps)

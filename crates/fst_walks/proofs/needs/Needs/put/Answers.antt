@@ -1,4 +1,4 @@
-use Rattle.std.proofs.{Common.{◌∙◌, ◌∷◌, [], take, get_or, arith, sym, subst}, lemmas.List.take_more}
+use Rattle.std.proofs.{Common.{◌∙◌, ◌∷◌, [], take, get_or, arith, sym, subst}, lemmas.{Grind.common_steps, List.take_more}}
 use Rattle.fst_heads.specs.Heads.{patches_of}
 use Rattle.fst_types.specs.declared.grade.Grade.TheVariants as grade
 use Rattle.fst_walks.specs.Needing.{IsPut}
@@ -21,3 +21,9 @@ loop-number-preserved c =
           (put_more patches b (take at row) (get_or row at 0) c.args.self.now.lists mid new inv.put
           (subst (λ k. IsPut patches k (get_or row at 0 ∷ []) grade.Hard mid new) inv.block c.put_one.ensures.put));
     }
+
+pub returns-after-loop-number : goal.returns-after-loop-number
+returns-after-loop-number c = grind (arith, common_steps)
+
+pub returns-else-eq : goal.returns-else-eq
+returns-else-eq c = grind (arith, common_steps)
