@@ -1,4 +1,5 @@
-use Rattle.std.proofs.Common.{Bor, List, sym, ap, subst}
+use Rattle.std.proofs.Common.{Bor, List, sym, ap, subst, arith}
+use Rattle.std.proofs.lemmas.Grind.{common_steps}
 use Rattle.fst_types.specs.{Grades.FollowsRule, declared.number.PatchNo.PatchNo}
 use Rattle.fst_heads.specs.{Grading.MayBeHard, Heads.patches_of, Lists.entries_of, Names.numbers_of}
 use Rattle.fst_heads.proofs.Listing.{listed_at}
@@ -34,3 +35,6 @@ returns-clause-graded c =
     let patches = patches_of c.args.sight.now.heads.now in
     member_rule patches c.requires.lawful.0 c.requires.lawful.1 c.args.gates.head c.args.block c.in_ok-dependencies.dependencies.items c.grade_of-grade.result c.if_open-opened.result c.if_open-opened.ensures.some c.if_open-opened.ensures.none
     (subst (λ r. FollowsRule c.grade_of-grade.result (MayBeHard patches c.if_open-opened.result c.args.block r)) c.as_slice-row.ensures c.grade_of-grade.ensures.graded)
+
+pub returns-clause-names : goal.returns-clause-names
+returns-clause-names c = grind (arith, common_steps)
