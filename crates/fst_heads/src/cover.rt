@@ -23,22 +23,16 @@ fn lay(runs: &mut Vec<Run>, first: usize, past: usize, own: Run, end: Run)
     requires room { vec_len runs.old + 2 ≤ vec_capacity runs.old }
     ensures { runs.new.items ≡ take first runs.old.items ++ own ∷ end ∷ drop past runs.old.items }
 {
-    if past < first + 2 {
-        if past == first {
-            let _ = runs.insert(first, end);
-        } else {
-            runs[first] = end;
-        }
-        let _ = runs.insert(first, own);
-        return;
-    }
-    runs[first] = own;
-    runs[first + 1] = end;
     let len = runs.len();
-    if first + 2 < past {
+    for _ in 0..(first + 2).saturating_sub(past) {
+        runs.push_reserved(end);
+    }
+    if past != first + 2 {
         runs.copy_within(past..len, first + 2);
         runs.truncate(first + 2 + (len - past));
     }
+    runs[first] = own;
+    runs[first + 1] = end;
 }
 
 /// The runs of a block, by the bytes that they begin at; before the first one no change was made. So it takes 32 bytes for
