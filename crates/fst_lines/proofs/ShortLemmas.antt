@@ -10,12 +10,12 @@ use Rattle.json.specs.Json.{items, members, value, if_last, parse_map}
 use Rattle.serde_json.specs.Data.{Data, Num, unsigned, number, string, array, object, Items, no_items, item, Members, no_members, put}
 use Rattle.serde_json.specs.Read.{read, number_of, of_json, of_items, of_members}
 use Rattle.fst_lines.specs.Members.{number_in, numbers_of, if_ok}
-use Rattle.fst_lines.specs.Commands.{Command, patch, max_line, command_in, or_field, command_of_value, command_of}
+use Rattle.fst_lines.specs.Commands.{Command, patch, empty, depend, max_line, command_in, or_field, command_of_value, command_of}
 use Rattle.fst_lines.specs.Parsing.{command}
 use Rattle.fst_lines.specs.declared.command.Command.{Command as Parsed}
 use Rattle.fst_lines.specs.declared.short.Short.{Short}
 use Rattle.fst_lines.specs.declared.short.Short.TheVariants.{Alone, Numbered}
-use Rattle.fst_lines.specs.Short.{short_data, data_of, IsShort, small_number, list_of, NamesAtEnd, AsksShort, AsksPatch, Asks}
+use Rattle.fst_lines.specs.Short.{short_data, data_of, IsShort, small_number, list_of, NamesListed, NamesAtEnd, IsPatch, IsEmpty, IsDepend, AsksShort, AsksNamed, Asks}
 use Rattle.fst_lines.proofs.CommandLemmas.{value_of-text, command_of-short}
 
 abbrev document : Option (json.Json × List Token) → Option Data
@@ -48,7 +48,7 @@ asks (Numbered name key n) c e = ap or_field e
 short_asks : (line : List ℕ) (c : Command) → AsksShort (tokens line) c → command_of_value (read line) ≡ Ok c
 short_asks line c h = ap command_of_value (read_is line h.0 h.1) ∙ asks h.0 c h.2
 
--- ---- a change
+-- ---- names of patches
 
 -- a list of numbers, as it is read
 abbrev ReadsList : Option (json.Items × List Token) → List ℕ → List Token → Type 0
@@ -104,6 +104,8 @@ list_reads (Token.boolean b ∷ ts) rest ns n few h = absurd (none-some _ h)
 list_reads (Token.null ∷ ts) rest ns n few h = absurd (none-some _ h)
 list_reads (Token.bad ∷ ts) rest ns n few h = absurd (none-some _ h)
 
+-- ---- a change
+
 -- the tokens before the names
 abbrev head_tokens : (block at bytes : List ℕ) → List Token → List Token
 head_tokens block at bytes ts =
@@ -140,8 +142,8 @@ head_data block at bytes ms d e h k =
     ap (λ (o : Option Data). option_map object (option_and_then (λ b. option_and_then (λ a. of_members ms (found b a bytes)) (option_map number (number_of at))) o)) h
     ∙ ap (λ (o : Option Data). option_map object (option_and_then (λ a. of_members ms (found d a bytes)) o)) k
 
-names_data : (js : json.Items) (ds : Items) (ms : Members) → of_items js ≡ Some ds → of_members (json.member (codes "after") (json.array js) json.no_members) ms ≡ Some (put (codes "after") (array ds) ms)
-names_data js ds ms h = ap (λ (o : Option Items). option_and_then (λ d. Some (put (codes "after") d ms)) (option_map array o)) h
+names_data : (key : List ℕ) (js : json.Items) (ds : Items) (ms : Members) → of_items js ≡ Some ds → of_members (json.member key (json.array js) json.no_members) ms ≡ Some (put key (array ds) ms)
+names_data key js ds ms h = ap (λ (o : Option Items). option_and_then (λ d. Some (put key d ms)) (option_map array o)) h
 
 abbrev joined : Option ℕ → Option ℕ → Option (List ℕ) → Option (List ℕ) → Option Command
 joined block at bytes after = option_and_then (λ b. option_and_then (λ a. option_and_then (λ d. option_map (patch b a d) after) bytes) at) block
@@ -166,13 +168,13 @@ change_asks c block at b a t bytes after ts hb ha ht (inl h) is =
     ∙ (ap (λ x. command_of_value (document x)) (no_names_value b a t)
     ∙ (ap command_of_value (head_data b a t json.no_members d.0 e.0 d.1 e.1)
     ∙ ap or_field (no_names_asked d.0 e.0 t ∙ (joined_is _ _ _ _ block at bytes after d.2 e.2 (ap if_ok ht) (ap Some (sym h.1)) ∙ ap Some (sym is)))))
-change_asks c block at b a t bytes after ts hb ha ht (inr h) is =
+change_asks c block at b a t bytes after ts hb ha ht (inr (rest, starts, (names, opens, listed))) is =
     let d = small_data b (number_of b) block hb in
     let e = small_data a (number_of a) at ha in
-    let l = list_reads h.0 (Token.end_object ∷ []) after (length h.0) (le_refl (length h.0)) h.2 in
-    ap (λ x. command_of_value (document (value 127 (head_tokens b a t x)))) h.1
-    ∙ (ap (λ x. command_of_value (document x)) (names_value 125 b a t h.0 l.0 l.2)
-    ∙ (ap command_of_value (head_data b a t (json.member (codes "after") (json.array l.0) json.no_members) d.0 e.0 d.1 e.1 ∙ ap (option_map object) (names_data l.0 l.1 (found d.0 e.0 t) l.3))
+    let l = list_reads names (Token.end_object ∷ []) after (length names) (le_refl (length names)) listed in
+    ap (λ x. command_of_value (document (value 127 (head_tokens b a t x)))) (starts ∙ ap (λ x. Token.key (codes "after") ∷ x) opens)
+    ∙ (ap (λ x. command_of_value (document x)) (names_value 125 b a t names l.0 l.2)
+    ∙ (ap command_of_value (head_data b a t (json.member (codes "after") (json.array l.0) json.no_members) d.0 e.0 d.1 e.1 ∙ ap (option_map object) (names_data (codes "after") l.0 l.1 (found d.0 e.0 t) l.3))
     ∙ ap or_field (names_asked d.0 e.0 t l.1 ∙ (joined_is _ _ _ _ block at bytes after d.2 e.2 (ap if_ok ht) l.4 ∙ ap Some (sym is)))))
 
 patch_tokens : (ts rest p q r : List Token) (b a t : List ℕ) → ts ≡ Token.begin_object ∷ Token.key (codes "do") ∷ Token.string (codes "patch") ∷ rest
@@ -180,14 +182,88 @@ patch_tokens : (ts rest p q r : List Token) (b a t : List ℕ) → ts ≡ Token.
     → ts ≡ head_tokens b a t r
 patch_tokens ts rest p q r b a t h i j k = rw (h, i, j, k)
 
-patch_asks : (line : List ℕ) (c : Command) → AsksPatch (tokens line) c → command_of_value (read line) ≡ Ok c
+patch_asks : (line : List ℕ) (c : Command) → AsksNamed (codes "patch") IsPatch (tokens line) c → command_of_value (read line) ≡ Ok c
 patch_asks line c (rest, starts, (block, at, bytes, after, p, q, r, is, (b, pb, nb), (a, pa, na), (t, pt, nt), names)) =
     ap (λ ts. command_of_value (document (value 127 ts))) (patch_tokens (tokens line) rest p q r b a t starts pb pa pt)
     ∙ change_asks c block at b a t bytes after r nb na nt names is
 
+-- ---- an empty patch, and what a gate gains
+
+abbrev named_tokens : (name : List ℕ) → List Token → List Token
+named_tokens name ts = Token.begin_object ∷ Token.key (codes "do") ∷ Token.string name ∷ ts
+
+empty_value : (depth : ℕ) (rest : List Token) (js : json.Items) → items (value depth) (length rest) rest ≡ Some (js, Token.end_object ∷ [])
+    → value (suc (suc depth)) (named_tokens (codes "empty") (Token.key (codes "after") ∷ Token.begin_array ∷ rest))
+    ≡ Some (json.object (json.member (codes "do") (json.string (codes "empty")) (json.member (codes "after") (json.array js) json.no_members)), [])
+unfolding members value
+empty_value depth rest js h =
+    ap (λ (r : Option (json.Items × List Token)).
+    parse_map json.object (parse_map (json.member (codes "do") (json.string (codes "empty")))
+    (option_and_then (λ p. parse_map (json.member (codes "after") p.0) (members (value (suc depth)) (suc (suc (length rest))) p.1)) (parse_map json.array r))))
+    h
+
+empty_asked : (ds : Items) → command_in (object (put (codes "after") (array ds) (put (codes "do") (string (codes "empty")) no_members))) ≡ option_map empty (numbers_of ds)
+empty_asked ds = refl
+
+no_names_empty : command_of_value (document (value 127 (named_tokens (codes "empty") (Token.end_object ∷ [])))) ≡ Ok (empty [])
+no_names_empty = ap (λ v. command_of_value (document v)) (alone_value (codes "empty"))
+
+empty_follows : (c : Command) (after : List ℕ) (ts : List Token) → c ≡ empty after → NamesAtEnd ts after → command_of_value (document (value 127 (named_tokens (codes "empty") ts))) ≡ Ok c
+empty_follows c after ts is (inl h) =
+    ap (λ x. command_of_value (document (value 127 (named_tokens (codes "empty") x)))) h.0 ∙ (no_names_empty ∙ ap Ok (ap empty (sym h.1) ∙ sym is))
+empty_follows c after ts is (inr (rest, starts, (names, opens, listed))) =
+    let l = list_reads names (Token.end_object ∷ []) after (length names) (le_refl (length names)) listed in
+    ap (λ x. command_of_value (document (value 127 (named_tokens (codes "empty") x)))) (starts ∙ ap (λ x. Token.key (codes "after") ∷ x) opens)
+    ∙ (ap (λ x. command_of_value (document x)) (empty_value 125 names l.0 l.2)
+    ∙ (ap (λ o. command_of_value (option_map object o)) (names_data (codes "after") l.0 l.1 (put (codes "do") (string (codes "empty")) no_members) l.3)
+    ∙ ap or_field (empty_asked l.1 ∙ (ap (option_map empty) l.4 ∙ ap Some (sym is)))))
+
+empty_asks : (line : List ℕ) (c : Command) → AsksNamed (codes "empty") IsEmpty (tokens line) c → command_of_value (read line) ≡ Ok c
+empty_asks line c (rest, starts, (after, is, names)) = ap (λ ts. command_of_value (document (value 127 ts))) starts ∙ empty_follows c after rest is names
+
+depend_value : (depth : ℕ) (gate : List ℕ) (rest : List Token) (js : json.Items) → items (value depth) (length rest) rest ≡ Some (js, Token.end_object ∷ [])
+    → value (suc (suc depth)) (named_tokens (codes "depend") (Token.key (codes "gate") ∷ Token.number gate ∷ Token.key (codes "on") ∷ Token.begin_array ∷ rest))
+    ≡ Some (json.object (json.member (codes "do") (json.string (codes "depend")) (json.member (codes "gate") (json.number gate) (json.member (codes "on") (json.array js) json.no_members))), [])
+unfolding members value
+depend_value depth gate rest js h =
+    ap (λ (r : Option (json.Items × List Token)).
+    parse_map json.object (parse_map (json.member (codes "do") (json.string (codes "depend"))) (parse_map (json.member (codes "gate") (json.number gate))
+    (option_and_then (λ p. parse_map (json.member (codes "on") p.0) (members (value (suc depth)) (suc (suc (suc (length rest)))) p.1)) (parse_map json.array r)))))
+    h
+
+abbrev gate_found : Data → Members
+gate_found gate = put (codes "gate") gate (put (codes "do") (string (codes "depend")) no_members)
+
+gate_data : (gate : List ℕ) (ms : json.Members) (d : Data) → option_map number (number_of gate) ≡ Some d
+    → of_json (json.object (json.member (codes "do") (json.string (codes "depend")) (json.member (codes "gate") (json.number gate) ms))) ≡ option_map object (of_members ms (gate_found d))
+gate_data gate ms d h = ap (λ (o : Option Data). option_map object (option_and_then (λ g. of_members ms (gate_found g)) o)) h
+
+depend_asked : (d : Data) (ds : Items) → command_in (object (put (codes "on") (array ds) (gate_found d))) ≡ option_and_then (λ n. option_map (depend n) (numbers_of ds)) (number_in d)
+depend_asked d ds = refl
+
+depend_is : (o : Option ℕ) (p : Option (List ℕ)) (gate : ℕ) (on : List ℕ) → o ≡ Some gate → p ≡ Some on → option_and_then (λ n. option_map (depend n) p) o ≡ Some (depend gate on)
+depend_is o p gate on h k = rw (h, k) refl
+
+depend_follows : (c : Command) (gate : ℕ) (text : List ℕ) (on : List ℕ) (names : List Token) → small_number text ≡ Some gate → c ≡ depend gate on → list_of names ≡ Some (on, Token.end_object ∷ [])
+    → command_of_value (document (value 127 (named_tokens (codes "depend") (Token.key (codes "gate") ∷ Token.number text ∷ Token.key (codes "on") ∷ Token.begin_array ∷ names)))) ≡ Ok c
+depend_follows c gate text on names small is listed =
+    let d = small_data text (number_of text) gate small in
+    let l = list_reads names (Token.end_object ∷ []) on (length names) (le_refl (length names)) listed in
+    ap (λ x. command_of_value (document x)) (depend_value 125 text names l.0 l.2)
+    ∙ (ap command_of_value (gate_data text (json.member (codes "on") (json.array l.0) json.no_members) d.0 d.1 ∙ ap (option_map object) (names_data (codes "on") l.0 l.1 (gate_found d.0) l.3))
+    ∙ ap or_field (depend_asked d.0 l.1 ∙ (depend_is _ _ gate on d.2 l.4 ∙ ap Some (sym is))))
+
+depend_asks : (line : List ℕ) (c : Command) → AsksNamed (codes "depend") IsDepend (tokens line) c → command_of_value (read line) ≡ Ok c
+depend_asks line c (rest, starts, (gate, on, past, is, (text, has_gate, small), (behind, has_on, (names, opens, listed)))) =
+    ap (λ ts. command_of_value (document (value 127 ts)))
+    (starts ∙ ap (named_tokens (codes "depend")) (has_gate ∙ ap (λ x. Token.key (codes "gate") ∷ Token.number text ∷ x) (has_on ∙ ap (λ x. Token.key (codes "on") ∷ x) opens)))
+    ∙ depend_follows c gate text on names small is listed
+
 either_asks : (line : List ℕ) (c : Command) → Asks (tokens line) c → command_of_value (read line) ≡ Ok c
 either_asks line c (inl h) = short_asks line c h
-either_asks line c (inr h) = patch_asks line c h
+either_asks line c (inr (inl h)) = patch_asks line c h
+either_asks line c (inr (inr (inl h))) = empty_asks line c h
+either_asks line c (inr (inr (inr h))) = depend_asks line c h
 
 pub line_asks : (line : List ℕ) (r : Option Parsed) → length line ≤ max_line → IsUtf8 line
     → IfSome r (λ c. Asks (tokens line) (command c)) → IfSome r (λ c. command_of line ≡ Ok (command c))

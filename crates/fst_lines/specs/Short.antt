@@ -1,11 +1,11 @@
--- Short lines: the values that they are, and what the lines of a change ask.
+-- Short lines: the values that they are, and what the lines ask that name patches.
 use Rattle.std.specs.Prelude.{◌≡◌, ◌⊎◌, ℕ, List, [], ◌∷◌, Option, Some, None, Ok, option_map, option_and_then, codes}
 use Rattle.json.specs.Token.{Token}
 use Rattle.serde_json.specs.Data.{Data, unsigned, number, string, object, no_members, put}
 use Rattle.serde_json.specs.Read.{number_of}
 use Rattle.hex.specs.Hex.{decode_of}
 use Rattle.fst_lines.specs.Members.{number_in}
-use Rattle.fst_lines.specs.Commands.{Command, patch, command_in}
+use Rattle.fst_lines.specs.Commands.{Command, patch, empty, depend, command_in}
 use Rattle.fst_lines.specs.declared.short.Short.{Short}
 use Rattle.fst_lines.specs.declared.short.Short.TheVariants.{Alone, Numbered}
 
@@ -53,11 +53,17 @@ NumberUnder name n before after = (text : List ℕ) × (before ≡ Token.key nam
 abbrev pub BytesUnder : (name bytes : List ℕ) (before after : List Token) → Type 0
 BytesUnder name bytes before after = (text : List ℕ) × (before ≡ Token.key name ∷ Token.string text ∷ after) × (decode_of text ≡ Ok bytes)
 
+-- the line ends with the list of the names
+abbrev pub NamesListed : List Token → List ℕ → Type 0
+NamesListed tokens names = (rest : List Token) × (tokens ≡ Token.begin_array ∷ rest) × (list_of rest ≡ Some (names, Token.end_object ∷ []))
+
+-- the line ends with that list under a key
+abbrev pub NamesUnder : List ℕ → List Token → List ℕ → Type 0
+NamesUnder key tokens names = (rest : List Token) × (tokens ≡ Token.key key ∷ rest) × NamesListed rest names
+
 -- the line ends with the names of patches, or with none
 abbrev pub NamesAtEnd : List Token → List ℕ → Type 0
-NamesAtEnd tokens names =
-    ((tokens ≡ Token.end_object ∷ []) × (names ≡ []))
-    ⊎ ((rest : List Token) × (tokens ≡ Token.key (codes "after") ∷ Token.begin_array ∷ rest) × (list_of rest ≡ Some (names, Token.end_object ∷ [])))
+NamesAtEnd tokens names = ((tokens ≡ Token.end_object ∷ []) × (names ≡ [])) ⊎ NamesUnder (codes "after") tokens names
 
 -- what follows the name of a change is that change
 abbrev pub IsPatch : List Token → Command → Type 0
@@ -66,12 +72,23 @@ IsPatch tokens c =
     × NumberUnder (codes "block") block tokens past_block × NumberUnder (codes "at") at past_block past_at
     × BytesUnder (codes "data") bytes past_at past_bytes × NamesAtEnd past_bytes after
 
+-- what follows the name of an empty patch is that patch
+abbrev pub IsEmpty : List Token → Command → Type 0
+IsEmpty tokens c = (after : List ℕ) × (c ≡ empty after) × NamesAtEnd tokens after
+
+-- what a gate gains
+abbrev pub IsDepend : List Token → Command → Type 0
+IsDepend tokens c =
+    (gate : ℕ) × (on : List ℕ) × (past_gate : List Token) × (c ≡ depend gate on) × NumberUnder (codes "gate") gate tokens past_gate × NamesUnder (codes "on") past_gate on
+
 -- the tokens of a line that asks for the command
 abbrev pub AsksShort : List Token → Command → Type 0
 AsksShort tokens c = (short : Short) × IsShort tokens short × (command_in (data_of short) ≡ Some c)
 
-abbrev pub AsksPatch : List Token → Command → Type 0
-AsksPatch tokens c = (rest : List Token) × (tokens ≡ Token.begin_object ∷ Token.key (codes "do") ∷ Token.string (codes "patch") ∷ rest) × IsPatch rest c
+-- the line says what it does, and what follows says the command
+abbrev pub AsksNamed : List ℕ → (List Token → Command → Type 0) → List Token → Command → Type 0
+AsksNamed name Is tokens c = (rest : List Token) × (tokens ≡ Token.begin_object ∷ Token.key (codes "do") ∷ Token.string name ∷ rest) × Is rest c
 
 abbrev pub Asks : List Token → Command → Type 0
-Asks tokens c = AsksShort tokens c ⊎ AsksPatch tokens c
+Asks tokens c =
+    AsksShort tokens c ⊎ (AsksNamed (codes "patch") IsPatch tokens c ⊎ (AsksNamed (codes "empty") IsEmpty tokens c ⊎ AsksNamed (codes "depend") IsDepend tokens c))

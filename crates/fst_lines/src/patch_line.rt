@@ -3,32 +3,18 @@
 //! Most lines of a long script are such ones. They are read from their tokens, as short lines are (`short`); whatever
 //! else a line of a change may be is left to `serde_json`.
 
-ghost use Rattle.std.specs.Prelude.{◌≡◌, ◌∷◌, List, ℕ, Some, Ok, IfSome, codes};
+ghost use Rattle.std.specs.Prelude.{◌≡◌, ◌∷◌, List, Ok, IfSome};
 ghost use Rattle.json.specs.Token.{string};
 ghost use Rattle.hex.specs.Hex.{decode_of};
-ghost use Rattle.fst_lines.specs.Parsing.{command, patch_numbers};
-ghost use Rattle.fst_lines.specs.Short.{NumberUnder, BytesUnder, NamesAtEnd, IsPatch, list_of};
+ghost use Rattle.fst_lines.specs.Parsing.{command};
+ghost use Rattle.fst_lines.specs.Short.{BytesUnder, IsPatch};
 
 use crate::command::Command;
-use crate::taking::{is, small, take_text, takes_end, takes_key};
-use fst_types::{BlockNo, PatchNo};
-use json::{Reader, Token};
+use crate::names::take_names;
+use crate::taking::{take_number_under, take_text, takes_key};
+use fst_types::BlockNo;
+use json::Reader;
 use std::alloc::Global;
-
-// No call takes more names; one turn more is for the bracket after them.
-const TURNS: u32 = 65;
-
-fn take_number_under(reader: &mut Reader<'_>, name: &str) -> Option<u32>
-    ensures { IfSome result (λ n. NumberUnder name.now n reader.old reader.new) }
-{
-    if !takes_key(reader, name) {
-        return None;
-    }
-    match reader.next() {
-        Some(Token::Number(text)) => small(text),
-        _ => None,
-    }
-}
 
 fn take_bytes_under(alloc: Global, reader: &mut Reader<'_>, name: &str) -> Option<Vec<u8>>
     ensures { IfSome result (λ bytes. BytesUnder name.now bytes.items reader.old reader.new) }
@@ -40,45 +26,6 @@ fn take_bytes_under(alloc: Global, reader: &mut Reader<'_>, name: &str) -> Optio
     match hex::decode(alloc, text) {
         Ok(bytes) => Some(bytes),
         Err(_) => None,
-    }
-}
-
-// The patches of a list, after the bracket that opens it.
-fn take_list(alloc: Global, reader: &mut Reader<'_>) -> Option<Vec<PatchNo>>
-    ensures { IfSome result (λ patches. list_of reader.old ≡ Some (patch_numbers patches.items, reader.new)) }
-{
-    let mut patches = Vec::new(alloc);
-    for _ in 0..TURNS {
-        match reader.next() {
-            Some(Token::EndArray) => return Some(patches),
-            Some(Token::Number(text)) => {
-                if patches.push(PatchNo(small(text)?)).is_err() {
-                    return None;
-                }
-            }
-            _ => return None,
-        }
-    }
-    None
-}
-
-// The patches under `after`, and the end of the line.
-fn take_names(alloc: Global, reader: &mut Reader<'_>) -> Option<Vec<PatchNo>>
-    ensures { IfSome result (λ patches. NamesAtEnd reader.old (patch_numbers patches.items)) }
-{
-    match reader.next() {
-        Some(Token::EndObject) if reader.next().is_none() => Some(Vec::new(alloc)),
-        Some(Token::Key(name)) if is(name, "after") => match reader.next() {
-            Some(Token::BeginArray) => {
-                let patches = take_list(alloc, reader)?;
-                if !takes_end(reader) {
-                    return None;
-                }
-                Some(patches)
-            }
-            _ => None,
-        },
-        _ => None,
     }
 }
 

@@ -1,4 +1,5 @@
-//! Short lines: what a command does, and one number or no other member, or the members of a change (`patch_line`).
+//! Short lines: what a command does, and one number or no other member, or the members of a change (`patch_line`), of an
+//! empty patch or of what a gate gains (`gate_line`).
 //!
 //! Nearly all lines of a script are such ones, and a tree of values would cost more than the command. So the members are
 //! taken from the tokens of `json`, in memory that is kept from line to line. A line that is anything else, or is written
@@ -11,6 +12,7 @@ ghost use Rattle.fst_lines.specs.Parsing.{command};
 ghost use Rattle.fst_lines.specs.Short.{alone_data, short_data, data_of, IsShort, AsksShort, Asks};
 
 use crate::command::Command;
+use crate::gate_line::{take_depend, take_empty};
 use crate::patch_line::take_patch;
 use crate::taking::{is, take_key, take_number, take_text, takes_begin, takes_end};
 use fst_types::{BlockNo, GroupNo, PatchNo, Ticket};
@@ -60,8 +62,8 @@ fn take_name<'a>(reader: &mut Reader<'a>) -> Option<&'a str>
     take_text(reader)
 }
 
-// A command that has no member, or names no patches.
-fn alone(alloc: Global, name: &str) -> Option<Command>
+// A command that has no member.
+fn alone(name: &str) -> Option<Command>
     ensures { IfSome result (λ c. command_in (alone_data name.now) ≡ Some (command c)) }
 {
     if is(name, "pick") {
@@ -78,10 +80,6 @@ fn alone(alloc: Global, name: &str) -> Option<Command>
     }
     if is(name, "forget") {
         return Some(Command::Forget);
-    }
-    if is(name, "empty") {
-        let after = Vec::new(alloc);
-        return Some(Command::Empty { after });
     }
     None
 }
@@ -144,20 +142,20 @@ fn numbered(name: &str, key: &str, number: u64) -> Option<Command>
     on_number(name, key, number as u32)
 }
 
-fn asked(alloc: Global, short: Short<'_>) -> Option<Command>
+fn asked(short: Short<'_>) -> Option<Command>
     ensures { IfSome result (λ c. command_in (data_of short.entry) ≡ Some (command c)) }
 {
     match short {
-        Short::Alone(name) => alone(alloc, name),
+        Short::Alone(name) => alone(name),
         Short::Numbered(name, key, number) => numbered(name, key, number),
     }
 }
 
-fn take_short<'a>(alloc: Global, reader: &mut Reader<'a>, name: &'a str) -> Option<Command>
+fn take_short<'a>(reader: &mut Reader<'a>, name: &'a str) -> Option<Command>
     ensures { IfSome result (λ c. AsksShort (begin_object ∷ key (codes "do") ∷ string name.now ∷ reader.old) (command c)) }
 {
     let short = take_rest(reader, name)?;
-    asked(alloc, short)
+    asked(short)
 }
 
 fn take_command(alloc: Global, reader: &mut Reader<'_>) -> Option<Command>
@@ -165,10 +163,15 @@ fn take_command(alloc: Global, reader: &mut Reader<'_>) -> Option<Command>
 {
     let name = take_name(reader)?;
     if is(name, "patch") {
-        take_patch(alloc, reader)
-    } else {
-        take_short(alloc, reader, name)
+        return take_patch(alloc, reader);
     }
+    if is(name, "empty") {
+        return take_empty(alloc, reader);
+    }
+    if is(name, "depend") {
+        return take_depend(alloc, reader);
+    }
+    take_short(reader, name)
 }
 
 /// The command of a line, where it is a short one. It takes what memory the scratch lacks, and answers nothing where that

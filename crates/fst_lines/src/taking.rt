@@ -4,7 +4,7 @@ ghost use Rattle.std.specs.Prelude.{◌≡◌, ◌==◌, ◌∷◌, [], List, �
 ghost use Rattle.json.specs.Token.{begin_object, end_object, key, string, number};
 ghost use Rattle.serde_json.specs.Data.{unsigned};
 ghost use Rattle.serde_json.specs.Read.{number_of, number_from};
-ghost use Rattle.fst_lines.specs.Short.{small_number};
+ghost use Rattle.fst_lines.specs.Short.{NumberUnder, small_number};
 
 use fast_float::Numeral;
 use json::{Reader, Token};
@@ -99,5 +99,17 @@ pub(crate) fn takes_key(reader: &mut Reader<'_>, name: &str) -> bool
     match take_key(reader) {
         Some(found) => is(found, name),
         None => false,
+    }
+}
+
+pub(crate) fn take_number_under(reader: &mut Reader<'_>, name: &str) -> Option<u32>
+    ensures { IfSome result (λ n. NumberUnder name.now n reader.old reader.new) }
+{
+    if !takes_key(reader, name) {
+        return None;
+    }
+    match reader.next() {
+        Some(Token::Number(text)) => small(text),
+        _ => None,
     }
 }

@@ -1,6 +1,6 @@
 use Rattle.std.proofs.Common.{arith}
 use Rattle.std.proofs.lemmas.Grind.{common_steps}
-use Rattle.fst_lines.proofs.patch_line.take_list.Goals as goal
+use Rattle.fst_lines.proofs.names.take_list.Goals as goal
 
 pub returns-in-Some-EndArray : goal.returns-in-Some-EndArray
 returns-in-Some-EndArray c = grind (arith, common_steps)

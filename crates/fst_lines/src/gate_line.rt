@@ -1,0 +1,30 @@
+//! Lines that name patches and make no change: of an empty patch, and of what a gate gains. Their members stand in the order
+//! `do`, `after`, and `do`, `gate`, `on`; whatever else such a line may be is left to `serde_json`.
+
+ghost use Rattle.std.specs.Prelude.{◌≡◌, List, ℕ, IfSome, codes};
+ghost use Rattle.fst_lines.specs.Parsing.{command};
+ghost use Rattle.fst_lines.specs.Short.{IsEmpty, IsDepend};
+
+use crate::command::Command;
+use crate::names::{take_names, take_names_under};
+use crate::taking::take_number_under;
+use fst_types::PatchNo;
+use json::Reader;
+use std::alloc::Global;
+
+/// The empty patch that a line asks for, after `{"do":"empty"`.
+pub(crate) fn take_empty(alloc: Global, reader: &mut Reader<'_>) -> Option<Command>
+    ensures { IfSome result (λ c. IsEmpty reader.old (command c)) }
+{
+    let after = take_names(alloc, reader)?;
+    Some(Command::Empty { after })
+}
+
+/// What a line gives a gate to depend on, after `{"do":"depend"`.
+pub(crate) fn take_depend(alloc: Global, reader: &mut Reader<'_>) -> Option<Command>
+    ensures { IfSome result (λ c. IsDepend reader.old (command c)) }
+{
+    let gate = PatchNo(take_number_under(reader, "gate")?);
+    let on = take_names_under(alloc, reader, "on")?;
+    Some(Command::Depend { gate, on })
+}

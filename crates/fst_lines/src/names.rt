@@ -1,0 +1,74 @@
+//! The patches that a line names at its end.
+
+ghost use Rattle.std.specs.Prelude.{◌≡◌, ◌∷◌, List, ℕ, Some, IfSome, codes};
+ghost use Rattle.json.specs.Token.{begin_array, key};
+ghost use Rattle.fst_lines.specs.Parsing.{patch_numbers};
+ghost use Rattle.fst_lines.specs.Short.{NamesAtEnd, NamesUnder, NamesListed, list_of};
+
+use crate::taking::{is, small, takes_end, takes_key};
+use fst_types::PatchNo;
+use json::{Reader, Token};
+use std::alloc::Global;
+
+// No call takes more names; one turn more is for the bracket after them.
+const TURNS: u32 = 65;
+
+// The patches of a list, after the bracket that opens it.
+fn take_list(alloc: Global, reader: &mut Reader<'_>) -> Option<Vec<PatchNo>>
+    ensures { IfSome result (λ patches. list_of reader.old ≡ Some (patch_numbers patches.items, reader.new)) }
+{
+    let mut patches = Vec::new(alloc);
+    for _ in 0..TURNS {
+        match reader.next() {
+            Some(Token::EndArray) => return Some(patches),
+            Some(Token::Number(text)) => {
+                if patches.push(PatchNo(small(text)?)).is_err() {
+                    return None;
+                }
+            }
+            _ => return None,
+        }
+    }
+    None
+}
+
+// The patches of a list that ends the line.
+fn take_listed(alloc: Global, reader: &mut Reader<'_>) -> Option<Vec<PatchNo>>
+    ensures { IfSome result (λ patches. NamesListed reader.old (patch_numbers patches.items)) }
+{
+    match reader.next() {
+        Some(Token::BeginArray) => {
+            let patches = take_list(alloc, reader)?;
+            if !takes_end(reader) {
+                return None;
+            }
+            Some(patches)
+        }
+        _ => None,
+    }
+}
+
+/// The patches under a key, and the end of the line.
+pub(crate) fn take_names_under(
+    alloc: Global,
+    reader: &mut Reader<'_>,
+    name: &str,
+) -> Option<Vec<PatchNo>>
+    ensures { IfSome result (λ patches. NamesUnder name.now reader.old (patch_numbers patches.items)) }
+{
+    if !takes_key(reader, name) {
+        return None;
+    }
+    take_listed(alloc, reader)
+}
+
+/// The patches under `after`, or none, and the end of the line.
+pub(crate) fn take_names(alloc: Global, reader: &mut Reader<'_>) -> Option<Vec<PatchNo>>
+    ensures { IfSome result (λ patches. NamesAtEnd reader.old (patch_numbers patches.items)) }
+{
+    match reader.next() {
+        Some(Token::EndObject) if reader.next().is_none() => Some(Vec::new(alloc)),
+        Some(Token::Key(name)) if is(name, "after") => take_listed(alloc, reader),
+        _ => None,
+    }
+}
