@@ -1,3 +1,4 @@
+use Rattle.fst_heads.proofs.Basics.{common_steps, arith}
 use Rattle.fst_heads.proofs.{Basics.{◌≡◌, ◌≤◌, ◌+◌, ◌++◌, ◌∷◌, ◌∙◌, [], List, ℕ, zero, suc, set, take, drop, length, refl, ap, subst, arith}, Words.{Run}}
 use Rattle.fst_heads.proofs.cover.lay.Goals as goal
 
@@ -17,3 +18,9 @@ returns-else-first-past c =
     let past : suc (suc i) ≡ c.args.past = omega (arith, far, near) in
     subst (λ k. set (set runs i c.args.own) k c.args.end ≡ take i runs ++ c.args.own ∷ c.args.end ∷ drop c.args.past runs) next
     (set_two runs i c.args.own c.args.end (omega (arith, past, c.requires.within)) ∙ ap (λ k. take i runs ++ c.args.own ∷ c.args.end ∷ drop k runs) past)
+
+pub returns-then-first-past : goal.returns-then-first-past
+returns-then-first-past c = grind (arith, common_steps)
+
+pub returns-then-past-first : goal.returns-then-past-first
+returns-then-past-first c = grind (arith, common_steps)
