@@ -120,7 +120,7 @@ row_now start heads row old new s h lt e at =
 -- told of the heads as they stood at the start
 pub row_of : (start now : List Head) (row : List ℕ) (old new : Pending) (s : ℕ) (h : Head) → s < length start → nodes_of now ≡ map (heard row old new) (nodes_of start)
     → h ≡ get_or now s h → h.dependants.items ≡ row_at (nodes_of start) s
-row_of start now row old new s h lt e at = grind (arith, common_steps, length_heard, length-map, row_now)
+row_of start now row old new s h lt e at = row_now (nodes_of start) now row old new s h (omega (arith, lt, length_heard (nodes_of start) now row old new e, length-map start node_of)) e at
 
 pub rising_heard : (start heads : List Head) (row : List ℕ) (old new : Pending) → nodes_of heads ≡ map (heard row old new) (nodes_of start) → IsRising start → IsRising heads
 rising_heard start heads row old new e rising = rising_as (heard row old new) (heard_number row old new) heads start e rising
