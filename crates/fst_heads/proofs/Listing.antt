@@ -187,7 +187,7 @@ module _ (b : ℕ) where
           (nothing _ (here ∙ none))
 
       landing_more : (y : Head) → is_change_at place.Flight b (patch_of (get_or heads s d)) ≡ true → node_of y ≡ lands b (node_of (get_or heads s d)) → Landing start (set heads s y) left (queue ++ n ∷ [])
-      landing_more y flying e = search (rules, stepped, at_slot, here)
+      landing_more y flying e = stepped (set heads s y) (queue ++ n ∷ []) (at_slot heads n s (lands b) y d x.rising slot e) (ap (λ t. queue ++ cond t (n ∷ []) []) (sym (here ∙ flying)))
 
       pub landing_disk : is_change_at place.Flight b (patch_of (get_or heads s d)) ≡ true → (m : Head) → m ≡ get_or heads s m → Landing start (set heads s (record m { place = place.Disk })) left (queue ++ n ∷ [])
       landing_disk flying m same =

@@ -155,7 +155,14 @@ module _ (row : List ℕ) (once : AllPairs (λ m n. m ≢ n) row) (i : ℕ) (lt 
   heard_before nodes x c e = grind (arith, common_steps, heard_number, heard_next)
 
   heard_push : (x : Node) → at_number next (hears old new) (heard done old new x) ≡ heard (done ++ next ∷ []) old new x
-  heard_push x = search (rules, cases_eq, among_push_same, heard_next, at_same, among_push_other, at_other, heard_number)
+  heard_push x = elim (cases_eq x.patch.number next) [
+    | inl same ↦
+        ap (at_number next (hears old new)) (heard_next x same)
+        ∙ (at_same next (hears old new) x same ∙ sym (ap (λ t. if t then hears old new x else x) (ap (is_among (done ++ next ∷ [])) same ∙ among_push_same done next)))
+    | inr other ↦
+        at_other next (hears old new) (heard done old new x) (λ e. other (sym (heard_number done old new x) ∙ e))
+        ∙ sym (ap (λ t. if t then hears old new x else x) (among_push_other done next x.patch.number (λ e. other (sym e))))
+  ]
 
   -- one more of the row hears
   pub heard_more : (nodes : List Node) → map (at_number next (hears old new)) (map (heard done old new) nodes) ≡ map (heard (take (i + 1) row) old new) nodes
