@@ -1,5 +1,5 @@
 -- The head in one slot hears of another patch, and all that have a number of a row do.
-use Rattle.fst_heads.proofs.Basics.{◌≡◌, ◌≢◌, ℕ, zero, suc, ◌+◌, ◌<◌, ◌==◌, ◌&&◌, Bool, true, false, if◌then◌else◌, List, [], ◌∷◌, ◌++◌, length, map, take, drop, get_or, Contains, AllPairs, append-nil, length-append, refl, sym, ap, subst, ◌∙◌, inl, inr, arith, list_any, cases_eq, and_from, rules, eq-eqb, ne_eqb}
+use Rattle.fst_heads.proofs.Basics.{◌≡◌, ◌≢◌, ℕ, zero, suc, ◌+◌, ◌<◌, ◌==◌, ◌&&◌, Bool, true, false, if◌then◌else◌, List, [], ◌∷◌, ◌++◌, length, map, take, drop, get_or, Contains, AllPairs, append-nil, length-append, refl, sym, ap, subst, ◌∙◌, inl, inr, arith, list_any, cases_eq, and_from, eq-eqb, ne_eqb}
 use Rattle.fst_heads.proofs.Basics.{common_steps, length-map, get_or-map, take_more, take-append-drop, filter-append, list_any-from_Any}
 use Rattle.fst_heads.proofs.Patches.{is_among, In, In-from_Contains, Contains-from_In, In-map, In-unmap}
 use Rattle.fst_heads.proofs.Words.{Head, Pending, IsRising, HasSlot, HasNone, Node, node_of, nodes_of, at_number, plus, minus, follows, rested, hears, wakes, heard, woken}
