@@ -1,5 +1,4 @@
-use Rattle.fst_heads.proofs.Basics.{common_steps, arith}
-use Rattle.fst_heads.proofs.{Basics.{◌≡◌, ◌≤◌, ◌+◌, ◌++◌, ◌∷◌, ◌∙◌, [], List, ℕ, zero, suc, set, take, drop, length, refl, ap, subst, arith}, Words.{Run}}
+use Rattle.fst_heads.proofs.{Basics.{◌≡◌, ◌≤◌, ◌+◌, ◌++◌, ◌∷◌, ◌∙◌, [], List, ℕ, zero, suc, set, take, drop, length, refl, ap, subst, arith, common_steps}, Words.{Run}}
 use Rattle.fst_heads.proofs.cover.lay.Goals as goal
 
 set_two : (runs : List Run) (i : ℕ) (own end : Run) → suc (suc i) ≤ length runs → set (set runs i own) (suc i) end ≡ take i runs ++ own ∷ end ∷ drop (suc (suc i)) runs

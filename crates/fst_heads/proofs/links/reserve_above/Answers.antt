@@ -1,5 +1,4 @@
-use Rattle.fst_heads.proofs.Basics.{common_steps, arith}
-use Rattle.fst_heads.proofs.{Basics.{◌≡◌, ◌∙◌, get_or, ap, subst, arith}, Words.{Head, patch_of, HasSlot, node_of}}
+use Rattle.fst_heads.proofs.{Basics.{◌≡◌, ◌∙◌, get_or, ap, subst, arith, common_steps}, Words.{Head, patch_of, HasSlot, node_of}}
 use Rattle.fst_heads.proofs.Linking.{rising_same, nodes_set, room_more, room_skip}
 use Rattle.fst_heads.proofs.links.reserve_above.Goals as goal
 use Rattle.fst_heads.proofs.links.reserve_above.Goals.{in-Some+in_ok-reserve, in_default}

@@ -1,5 +1,4 @@
-use Rattle.fst_heads.proofs.Basics.{common_steps, arith}
-use Rattle.fst_heads.proofs.{Basics.{subst, arith}, Words.HasSlot, Framed.below_set, Linking.nodes_set}
+use Rattle.fst_heads.proofs.{Basics.{subst, arith, common_steps}, Words.HasSlot, Framed.below_set, Linking.nodes_set}
 use Rattle.fst_heads.proofs.links.reserve_below.Goals as goal
 
 pub returns-in_ok-reserve-clause-nodes : goal.returns-in_ok-reserve-clause-nodes

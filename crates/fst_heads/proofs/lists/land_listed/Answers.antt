@@ -1,5 +1,4 @@
-use Rattle.fst_heads.proofs.Basics.{common_steps, arith}
-use Rattle.fst_heads.proofs.{Basics.{◌≡◌, ◌∙◌, map, get_or, refl, sym, ap, subst, arith, drop_more}, Patches.is_change_at}
+use Rattle.fst_heads.proofs.{Basics.{◌≡◌, ◌∙◌, map, get_or, refl, sym, ap, subst, arith, drop_more, common_steps}, Patches.is_change_at}
 use Rattle.fst_heads.proofs.Words.{Listed, patch_of, patches_of, entries_of, flying_on, nodes_of, lands, HasSlot, HasNone}
 use Rattle.fst_heads.proofs.Listing.{landing_none, landing_full, landing_absent, landing_skip, landing_disk, landing_room}
 use Rattle.fst_heads.proofs.Patches.place

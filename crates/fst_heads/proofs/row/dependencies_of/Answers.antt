@@ -1,5 +1,4 @@
-use Rattle.fst_heads.proofs.Basics.{arith, common_steps}
-use Rattle.fst_heads.proofs.{Basics.{◌∙◌, ◌+◌, get_or, drop, sym, ap, drop_more}, Words.{Listed, patches_of, entry_of, entries_of}}
+use Rattle.fst_heads.proofs.{Basics.{◌∙◌, ◌+◌, get_or, drop, sym, ap, drop_more, arith, common_steps}, Words.{Listed, patches_of, entry_of, entries_of}}
 use Rattle.fst_heads.proofs.Touching.{touches_none, touches_more, touches_skip}
 use Rattle.fst_heads.proofs.row.dependencies_of.Goals as goal
 use Rattle.fst_heads.proofs.row.dependencies_of.Goals.{then-shares+in_ok-put, else-shares}
