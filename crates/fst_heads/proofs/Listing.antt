@@ -1,5 +1,5 @@
 -- The walk along the list of a block that lands what is in flight.
-use Rattle.fst_heads.proofs.Basics.{◌≡◌, ◌≢◌, ◌==◌, ◌&&◌, ℕ, zero, suc, ◌<◌, ◌≤◌, Bool, true, false, not, cond, List, [], ◌∷◌, ◌++◌, length, map, set, get_or, Contains, Some, refl, sym, ap, ◌∙◌, inl, inr, arith, list_any, and-false, cases_Bool, eq-eqb, ne_eqb, set-get_or, or_parts, rules, append_assoc, append-nil}
+use Rattle.fst_heads.proofs.Basics.{◌≡◌, ◌≢◌, ◌==◌, ◌&&◌, ℕ, zero, suc, ◌<◌, ◌≤◌, Bool, true, false, not, cond, List, [], ◌∷◌, ◌++◌, length, map, set, get_or, Contains, Some, refl, sym, ap, ◌∙◌, inl, inr, arith, list_any, and-false, cases_Bool, eq-eqb, ne_eqb, set-get_or, or_parts, append_assoc, append-nil}
 use Rattle.fst_heads.proofs.Basics.{length-append, get_or-map, ◌+◌, filter, subst, get_or-set_same, get_or-set_other, length-set, AllPairs, IsStrictlyIncreasing, AllPairs-filter, and_parts, cases_eq, false≢true, length-map}
 use Rattle.fst_heads.proofs.Patches.{Place, Kind, Change, Patch, Rising, block_of_kind, is_at, is_on, is_change_at, landed, In, In-from_Contains, Contains-from_In, is_among, is_live, In-map, same_number, filter_in, in_filter, among_in, in_among}
 use Rattle.fst_heads.proofs.Words.{Head, lands, IsRising, patch_of, patches_of, Entry, is_live_on, entries_on, flying_on, AreListed, HasSlot, HasNone, Node, node_of, nodes_of, patches_in, at_number, Listed, entry, entries_of}
@@ -187,7 +187,7 @@ module _ (b : ℕ) where
           (nothing _ (here ∙ none))
 
       landing_more : (y : Head) → is_change_at place.Flight b (patch_of (get_or heads s d)) ≡ true → node_of y ≡ lands b (node_of (get_or heads s d)) → Landing start (set heads s y) left (queue ++ n ∷ [])
-      landing_more y flying e = search (rules, stepped, at_slot, here)
+      landing_more y flying e = stepped (set heads s y) (queue ++ n ∷ []) (at_slot heads n s (lands b) y d x.rising slot e) (ap (λ t. queue ++ cond t (n ∷ []) []) (sym (here ∙ flying)))
 
       pub landing_disk : is_change_at place.Flight b (patch_of (get_or heads s d)) ≡ true → (m : Head) → m ≡ get_or heads s m → Landing start (set heads s (record m { place = place.Disk })) left (queue ++ n ∷ [])
       landing_disk flying m same =

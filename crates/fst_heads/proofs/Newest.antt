@@ -31,10 +31,21 @@ module _ (heads : List Patch) (numbers : List ℕ) (b at len i last : ℕ) (old 
   -- one number more
   up : (new : List ℕ) → ((n : ℕ) → Contains row n → Contains new n) → (1 ≤ get_or numbers i 0 → IsTouched heads b at len (get_or numbers i 0) → Contains new (get_or numbers i 0))
       → (k : ℕ) → k < i + 1 → 1 ≤ get_or numbers k 0 → IsTouched heads b at len (get_or numbers k 0) → Contains new (get_or numbers k 0)
-  up new kept here k lt some t = grind (arith, cases_lt)
+  up new kept here k lt some t = elim (cases_lt k i) [
+    | inl l ↦ kept (get_or numbers k 0) (x.each k l some t)
+    | inr ge ↦
+        let same : i ≡ k = omega (arith, lt, ge) in
+        subst (λ j. Contains new (get_or numbers j 0)) same (here (subst (λ j. 1 ≤ get_or numbers j 0) (sym same) some) (subst (λ j. IsTouched heads b at len (get_or numbers j 0)) (sym same) t))
+  ]
 
   pub gains_same : get_or numbers i 0 ≡ last → GainsUpTo heads numbers b at len (i + 1) last old row
-  gains_same e = search (rules, up)
+  gains_same e = record {
+    rising = x.rising;
+    only = x.only;
+    kept = x.kept;
+    each = up row (λ n c. c) (λ some t. subst (Contains row) (sym e) (x.again (omega (arith, some, e)) (subst (IsTouched heads b at len) e t)));
+    again = x.again;
+  }
 
   pub gains_more : (new : List ℕ) → IsTouched heads b at len (get_or numbers i 0) → Gains row (get_or numbers i 0) new → GainsUpTo heads numbers b at len (i + 1) (get_or numbers i 0) old new
   gains_more new t g = record {
@@ -46,7 +57,13 @@ module _ (heads : List Patch) (numbers : List ℕ) (b at len i last : ℕ) (old 
   }
 
   pub gains_skip : (IsTouched heads b at len (get_or numbers i 0) → ⊥) → GainsUpTo heads numbers b at len (i + 1) (get_or numbers i 0) old row
-  gains_skip off = search (rules, up)
+  gains_skip off = record {
+    rising = x.rising;
+    only = x.only;
+    kept = x.kept;
+    each = up row (λ n c. c) (λ some t. absurd (off t));
+    again = λ some t. absurd (off t);
+  }
 
   pub gains_all : length numbers ≤ i → GainsTouched heads numbers b at len old row
   gains_all past = record {

@@ -1,5 +1,5 @@
 -- The head in one slot hears of another patch, and all that have a number of a row do.
-use Rattle.fst_heads.proofs.Basics.{◌≡◌, ◌≢◌, ℕ, zero, suc, ◌+◌, ◌<◌, ◌==◌, ◌&&◌, Bool, true, false, if◌then◌else◌, List, [], ◌∷◌, ◌++◌, length, map, take, drop, get_or, Contains, AllPairs, append-nil, length-append, refl, sym, ap, subst, ◌∙◌, inl, inr, arith, list_any, cases_eq, and_from, rules, eq-eqb, ne_eqb}
+use Rattle.fst_heads.proofs.Basics.{◌≡◌, ◌≢◌, ℕ, zero, suc, ◌+◌, ◌<◌, ◌==◌, ◌&&◌, Bool, true, false, if◌then◌else◌, List, [], ◌∷◌, ◌++◌, length, map, take, drop, get_or, Contains, AllPairs, append-nil, length-append, refl, sym, ap, subst, ◌∙◌, inl, inr, arith, list_any, cases_eq, and_from, eq-eqb, ne_eqb}
 use Rattle.fst_heads.proofs.Basics.{common_steps, length-map, get_or-map, take_more, take-append-drop, filter-append, list_any-from_Any}
 use Rattle.fst_heads.proofs.Patches.{is_among, In, In-from_Contains, Contains-from_In, In-map, In-unmap}
 use Rattle.fst_heads.proofs.Words.{Head, Pending, IsRising, HasSlot, HasNone, Node, node_of, nodes_of, at_number, plus, minus, follows, rested, hears, wakes, heard, woken}
@@ -120,7 +120,7 @@ row_now start heads row old new s h lt e at =
 -- told of the heads as they stood at the start
 pub row_of : (start now : List Head) (row : List ℕ) (old new : Pending) (s : ℕ) (h : Head) → s < length start → nodes_of now ≡ map (heard row old new) (nodes_of start)
     → h ≡ get_or now s h → h.dependants.items ≡ row_at (nodes_of start) s
-row_of start now row old new s h lt e at = grind (arith, common_steps, length_heard, length-map, row_now)
+row_of start now row old new s h lt e at = row_now (nodes_of start) now row old new s h (omega (arith, lt, length_heard (nodes_of start) now row old new e, length-map start node_of)) e at
 
 pub rising_heard : (start heads : List Head) (row : List ℕ) (old new : Pending) → nodes_of heads ≡ map (heard row old new) (nodes_of start) → IsRising start → IsRising heads
 rising_heard start heads row old new e rising = rising_as (heard row old new) (heard_number row old new) heads start e rising
@@ -155,7 +155,14 @@ module _ (row : List ℕ) (once : AllPairs (λ m n. m ≢ n) row) (i : ℕ) (lt 
   heard_before nodes x c e = grind (arith, common_steps, heard_number, heard_next)
 
   heard_push : (x : Node) → at_number next (hears old new) (heard done old new x) ≡ heard (done ++ next ∷ []) old new x
-  heard_push x = search (rules, cases_eq, among_push_same, heard_next, at_same, among_push_other, at_other, heard_number)
+  heard_push x = elim (cases_eq x.patch.number next) [
+    | inl same ↦
+        ap (at_number next (hears old new)) (heard_next x same)
+        ∙ (at_same next (hears old new) x same ∙ sym (ap (λ t. if t then hears old new x else x) (ap (is_among (done ++ next ∷ [])) same ∙ among_push_same done next)))
+    | inr other ↦
+        at_other next (hears old new) (heard done old new x) (λ e. other (sym (heard_number done old new x) ∙ e))
+        ∙ sym (ap (λ t. if t then hears old new x else x) (among_push_other done next x.patch.number (λ e. other (sym e))))
+  ]
 
   -- one more of the row hears
   pub heard_more : (nodes : List Node) → map (at_number next (hears old new)) (map (heard done old new) nodes) ≡ map (heard (take (i + 1) row) old new) nodes

@@ -1,6 +1,6 @@
 -- How a spread begins, and what it leaves.
 use Rattle.fst_heads.proofs.Basics.{◌≡◌, ◌≢◌, ◌⊎◌, ◌↔◌, ◌==◌, ◌&&◌, ◌<◌, ℕ, Bool, true, false, not, cond, List, [], ◌∷◌, Some, length, map, filter, AllPairs, Contains, refl, sym, ap, subst, ◌∙◌, inl, inr, arith, list_any, cases_Bool, cases_eq, eq-eqb, ne_eqb, eqb-true, both_ways, not-true, and_parts, rules}
-use Rattle.fst_heads.proofs.Basics.{Any-from_list_any, list_any-from_Any, common_steps, length-map, get_or-map, AllPairs-filter}
+use Rattle.fst_heads.proofs.Basics.{Any-from_list_any, list_any-from_Any, length-map, get_or-map, AllPairs-filter}
 use Rattle.fst_heads.proofs.Patches.{Place, IsCascadeOf, Follows, RestsOnDisk, unsettled, IsOnDisk, SparseAreLawful, IsOpenNumber, sealed, Kind, Change, Empty, OpenGate, SealedGate, Patch, block_of_kind, is_change_at, landed, no_follower_on, same_number, filter_in, in_filter, In, In-from_Contains}
 use Rattle.fst_heads.proofs.Words.{Pending, IsInside, flying_on, Node, patches_in, pending_in, at_number, AreSettled, is_pending, joined, joined_sums, of_kind, Spreading, IsSpreadOf, now, is_told, seals, lands, wakes_sealed, Sinks, sums_of}
 use Rattle.fst_heads.proofs.{AtNumber.{at_same, at_other}, Joining.{held_sinks, sinks_to_nothing}, Pended.{now_row, told_now, now_at_rest}, PendingIn.found}
@@ -151,7 +151,10 @@ module _ (nodes : List Node) (numbers blocks g : ℕ) (H : SparseAreLawful (patc
             let r = Any-from_list_any t nodes e in
             let both = and_parts (r.1.patch.number == g) (not (is_told (seals r.1))) r.4 in
             inl (r.1, (r.0, r.2, r.3), eqb-true r.1.patch.number g both.0, not-true (is_told (seals r.1)) both.1, ap (λ b. cond b (g ∷ []) []) e)
-        | inr e ↦ grind (arith, common_steps, found, any_fails, eq-eqb, both_ways)
+        | inr e ↦ inr (
+          λ x c n u. absurd (both_ways (list_any t nodes) e (any_fails t nodes x (In-from_Contains nodes x c) (rw (eq-eqb x.patch.number g n, u) refl))),
+          ap (λ b. cond b (g ∷ []) []) e,
+        )
       ]
 
   seal_begins : Begins nodes blocks (at_number g seals) (wakes_sealed g nodes)
@@ -164,17 +167,26 @@ module _ (nodes : List Node) (numbers blocks g : ℕ) (H : SparseAreLawful (patc
       | inr s ↦ subst (λ y. Sound y blocks) (sym s.1) (sound_at_rest nodes numbers blocks H inside S x c)
     ];
     queued = λ n c. elim wake_cases [
-      | inl r ↦ search (rules, at_same)
+      | inl r ↦ elim (In-from_Contains (g ∷ []) n (subst (λ q. Contains q n) r.4 c)) [
+        | inl here ↦ (r.0, r.1, r.2 ∙ here, subst (λ (y : Node). is_told y ≡ false) (sym (at_same g seals r.0 r.2)) r.3)
+        | inr none ↦ absurd none
+      ]
       | inr none ↦ absurd (In-from_Contains [] n (subst (λ q. Contains q n) none.1 c))
     ];
-    waits = search (rules, seal_cases, wake_cases, both_ways, stays_told);
+    waits = λ x c u. elim (seal_cases x c) [
+      | inl s ↦ elim wake_cases [
+        | inl r ↦ subst (λ q. Contains q x.patch.number) (sym r.4) (Contains-from_In (g ∷ []) x.patch.number (inl (sym s.0)))
+        | inr none ↦ absurd (none.0 x c s.0 (subst (λ (y : Node). is_told y ≡ false) s.3 u))
+      ]
+      | inr s ↦ absurd (both_ways (is_told x) (subst (λ (y : Node). is_told y ≡ false) s.1 u) (stays_told nodes blocks S x c))
+    ];
     once = grind (arith, wake_cases);
   }
 
 -- where a gate is sealed
 pub starts_sealed : (nodes : List Node) (numbers blocks g : ℕ) → SparseAreLawful (patches_in nodes) numbers → IsInside (patches_in nodes) blocks → AreSettled nodes blocks → IsOpenNumber (patches_in nodes) g
     → Spreading (map (at_number g seals) nodes) blocks (wakes_sealed g nodes)
-starts_sealed nodes numbers blocks g H inside S gate = search (rules, begun, seal_begins)
+starts_sealed nodes numbers blocks g H inside S gate = begun nodes blocks (at_number g seals) (wakes_sealed g nodes) (seal_begins nodes numbers blocks g H inside S gate) H.one_place_each.rising S
 
 -- a change on disk has nothing pending
 nothing_on_disk : (k : Kind) (b : ℕ) (below : Pending) → block_of_kind k ≡ Some b → of_kind k place.Disk below ≡ pending.Nothing
@@ -239,14 +251,17 @@ module _ (nodes : List Node) (numbers blocks b : ℕ) (H : SparseAreLawful (patc
     pending = λ x. refl;
     sound = lands_sound;
     queued = λ n c. let x = flying_in n c in (x.0, x.1, x.2, lands_untold x.0 x.1 x.3);
-    waits = grind (arith, land_cases, in_flying, both_ways, stays_told);
+    waits = λ x c u. elim (land_cases x) [
+      | inl m ↦ in_flying x c m.0
+      | inr s ↦ absurd (both_ways (is_told x) (subst (λ (y : Node). is_told y ≡ false) s u) (stays_told nodes blocks S x c))
+    ];
     once = flying_once;
   }
 
 -- where a block landed
 pub starts_landed : (nodes : List Node) (numbers blocks b : ℕ) → SparseAreLawful (patches_in nodes) numbers → IsInside (patches_in nodes) blocks → AreSettled nodes blocks
     → Spreading (map (lands b) nodes) blocks (flying_on b (patches_in nodes))
-starts_landed nodes numbers blocks b H inside S = search (rules, begun, land_begins)
+starts_landed nodes numbers blocks b H inside S = begun nodes blocks (lands b) (flying_on b (patches_in nodes)) (land_begins nodes numbers blocks b H inside S) H.one_place_each.rising S
 
 -- a patch that follows has nothing pending besides its row
 follows_row : (k : Kind) → Follows k → (at : Place) (below : Pending) → of_kind k at below ≡ below

@@ -1,5 +1,5 @@
 -- One step of a spread: what is pending of one patch now is told to its dependants.
-use Rattle.fst_heads.proofs.Basics.{◌≡◌, ◌≢◌, ◌⊎◌, ◌↔◌, ◌<◌, ◌≤◌, ℕ, true, false, List, [], ◌∷◌, ◌++◌, length, map, Contains, AllPairs, refl, sym, ap, subst, ◌∙◌, inl, inr, arith, cases_Bool, cases_eq, both_ways, length-map, Contains-push, Contains-push_cases, Contains-append_left, rules, Contains-append_right}
+use Rattle.fst_heads.proofs.Basics.{◌≡◌, ◌≢◌, ◌⊎◌, ◌↔◌, ◌<◌, ◌≤◌, ℕ, true, false, List, [], ◌∷◌, ◌++◌, length, map, Contains, AllPairs, refl, sym, ap, subst, ◌∙◌, inl, inr, arith, cases_Bool, cases_eq, both_ways, length-map, Contains-push, Contains-push_cases, Contains-append_left, Contains-append_right}
 use Rattle.fst_heads.proofs.{Basics.{Contains-append_cases, AllPairs-filter}, Patches.{Follows, In, In-map, In_decided, In-from_Contains, Contains-from_In}}
 use Rattle.fst_heads.proofs.Words.{Pending, Node, pending_in, at_number, AreLinked, AreDistinct, Fits, HasIn, Sinks, joined, joined_sums, of_kind, plus, minus, sums_of, height, max_block, Spreading, IsSpreadOf, CanHear, now, is_told, settles, heard, woken, heights, unspread}
 use Rattle.fst_heads.proofs.{AtNumber.{at_same, at_other}, Placed.unmapped}
@@ -212,7 +212,10 @@ module _ (nodes : List Node) (blocks : ℕ) (queue : List ℕ) (q : ℕ) (x : No
         | inr f ↦ in_front y cy ne f
       ]
     ]
-    | inr out ↦ search (rules, cases_eq, untold, now_same, turn, in_front, not_told)
+    | inr out ↦ elim (cases_eq y.patch.number q) [
+      | inl n ↦ absurd (untold (after y) u (now_same y out ∙ sym ((turn y).as_it_is n)))
+      | inr ne ↦ in_front y cy ne (not_told y (λ t. untold (after y) u (now_same y out ∙ (t ∙ sym ((turn y).as_it_was ne)))))
+    ]
   ]
 
   once_at : AllPairs (λ m n. m ≢ n) (queue ++ waking)
@@ -262,4 +265,7 @@ module _ (nodes : List Node) (blocks : ℕ) (queue : List ℕ) (q : ℕ) (x : No
       subst (λ ns. heights ns < heights nodes) (sym in_one) (heights_lower after nodes x low c (less x c e))
     where
       low_at : (y : Node) → (y.patch.number ≡ q → height (after y).pending < height y.pending) → height (after y).pending ≤ height y.pending
-      low_at y less = search (rules, cases_eq, turn)
+      low_at y less = elim (cases_eq y.patch.number q) [
+        | inl n ↦ omega (arith, less n)
+        | inr ne ↦ subst (λ a. height a ≤ height y.pending) (sym ((turn y).as_it_was ne)) (omega arith)
+      ]

@@ -1,4 +1,4 @@
-use Rattle.fst_heads.proofs.Basics.{option_map, ◌∙◌, ◌+◌, ◌++◌, ◌∷◌, ℕ, Bool, [], drop, get_or, append_assoc, length-append, ap, sym, arith, map_push}
+use Rattle.fst_heads.proofs.Basics.{option_map, ◌∙◌, ◌+◌, ◌++◌, ◌∷◌, ℕ, Bool, [], drop, get_or, append_assoc, length-append, ap, sym, arith, map_push, common_steps}
 use Rattle.fst_heads.proofs.Words.{Listed, is_free_on, numbers_of, mark_in}
 use Rattle.fst_heads.proofs.Passing.{passing, passing_start, passing_found, passing_skip, passing_absent, free_at, free_listed}
 use Rattle.fst_heads.proofs.choice.ready_set.Goals as goal
@@ -36,3 +36,9 @@ loop-listed-preserved c =
           rw w.numbers-is (ap (λ ns. before ++ ns) (sym next) ∙ c.loop-listed.invariant)
       | in_default w ↦ rw w.numbers-is (ap (λ ns. before ++ ns) (sym (passing_absent (is_free_on behind b) heads list i none c.loop-listed-test.true w.in_default.ensures.none)) ∙ c.loop-listed.invariant)
     ]
+
+pub returns-then-len-most-clause-ok : goal.returns-then-len-most-clause-ok
+returns-then-len-most-clause-ok c = grind (arith, common_steps)
+
+pub returns-clause-ok : goal.returns-clause-ok
+returns-clause-ok c = grind (arith, common_steps)

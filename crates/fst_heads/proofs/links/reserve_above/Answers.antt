@@ -1,4 +1,4 @@
-use Rattle.fst_heads.proofs.{Basics.{◌≡◌, ◌∙◌, get_or, ap, subst, arith}, Words.{Head, patch_of, HasSlot, node_of}}
+use Rattle.fst_heads.proofs.{Basics.{◌≡◌, ◌∙◌, get_or, ap, subst, arith, common_steps}, Words.{Head, patch_of, HasSlot, node_of}}
 use Rattle.fst_heads.proofs.Linking.{rising_same, nodes_set, room_more, room_skip}
 use Rattle.fst_heads.proofs.links.reserve_above.Goals as goal
 use Rattle.fst_heads.proofs.links.reserve_above.Goals.{in-Some+in_ok-reserve, in_default}
@@ -28,3 +28,27 @@ loop-number-preserved c =
           })
       | in_default w ↦ grind (arith, room_skip)
     ]
+
+pub returns-clause-capacity : goal.returns-clause-capacity
+returns-clause-capacity c = grind (arith, common_steps)
+
+pub returns-clause-len : goal.returns-clause-len
+returns-clause-len c = grind (arith, common_steps)
+
+pub returns-clause-nodes : goal.returns-clause-nodes
+returns-clause-nodes c = grind (arith, common_steps)
+
+pub returns-clause-room : goal.returns-clause-room
+returns-clause-room c = grind (arith, common_steps)
+
+pub returns-in_err-reserve-clause-capacity : goal.returns-in_err-reserve-clause-capacity
+returns-in_err-reserve-clause-capacity c = grind (arith, common_steps)
+
+pub returns-in_err-reserve-clause-len : goal.returns-in_err-reserve-clause-len
+returns-in_err-reserve-clause-len c = grind (arith, common_steps)
+
+pub returns-in_err-reserve-clause-nodes : goal.returns-in_err-reserve-clause-nodes
+returns-in_err-reserve-clause-nodes c = grind (arith, common_steps)
+
+pub returns-in_err-reserve-clause-room : goal.returns-in_err-reserve-clause-room
+returns-in_err-reserve-clause-room c = grind (arith, common_steps)

@@ -1,4 +1,4 @@
-use Rattle.fst_heads.proofs.{Basics.{subst, arith}, Words.HasSlot, Framed.below_set, Linking.nodes_set}
+use Rattle.fst_heads.proofs.{Basics.{subst, arith, common_steps}, Words.HasSlot, Framed.below_set, Linking.nodes_set}
 use Rattle.fst_heads.proofs.links.reserve_below.Goals as goal
 
 pub returns-in_ok-reserve-clause-nodes : goal.returns-in_ok-reserve-clause-nodes
@@ -9,3 +9,18 @@ returns-in_ok-reserve-clause-room c =
     let heads = c.args.heads.now.items in
     let slot = subst (λ hs. HasSlot hs c.args.number c.in-Some.slot) c.deref.ensures.value c.in-Some.ensures.found in
     below_set heads c.args.number c.in-Some.slot _ c.requires slot c.in_ok-reserve.ensures.ok
+
+pub returns-in_default : goal.returns-in_default
+returns-in_default c = grind (arith, common_steps)
+
+pub returns-in_err-reserve : goal.returns-in_err-reserve
+returns-in_err-reserve c = grind (arith, common_steps)
+
+pub returns-in_ok-reserve-clause-above : goal.returns-in_ok-reserve-clause-above
+returns-in_ok-reserve-clause-above c = grind (arith, common_steps)
+
+pub returns-in_ok-reserve-clause-capacity : goal.returns-in_ok-reserve-clause-capacity
+returns-in_ok-reserve-clause-capacity c = grind (arith, common_steps)
+
+pub returns-in_ok-reserve-clause-len : goal.returns-in_ok-reserve-clause-len
+returns-in_ok-reserve-clause-len c = grind (arith, common_steps)

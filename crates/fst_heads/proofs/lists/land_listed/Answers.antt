@@ -1,4 +1,4 @@
-use Rattle.fst_heads.proofs.{Basics.{◌≡◌, ◌∙◌, map, get_or, refl, sym, ap, subst, arith, drop_more}, Patches.is_change_at}
+use Rattle.fst_heads.proofs.{Basics.{◌≡◌, ◌∙◌, map, get_or, refl, sym, ap, subst, arith, drop_more, common_steps}, Patches.is_change_at}
 use Rattle.fst_heads.proofs.Words.{Listed, patch_of, patches_of, entries_of, flying_on, nodes_of, lands, HasSlot, HasNone}
 use Rattle.fst_heads.proofs.Listing.{landing_none, landing_full, landing_absent, landing_skip, landing_disk, landing_room}
 use Rattle.fst_heads.proofs.Patches.place
@@ -56,3 +56,18 @@ loop-listed-preserved c =
 
 pub returns-then-len-flying-clause-nodes : goal.returns-then-len-flying-clause-nodes
 returns-then-len-flying-clause-nodes c = (all_landed c).0
+
+pub returns-clause-capacity : goal.returns-clause-capacity
+returns-clause-capacity c = grind (arith, common_steps)
+
+pub returns-clause-nodes : goal.returns-clause-nodes
+returns-clause-nodes c = grind (arith, common_steps)
+
+pub returns-clause-queued : goal.returns-clause-queued
+returns-clause-queued c = grind (arith, common_steps)
+
+pub returns-then-len-flying-clause-capacity : goal.returns-then-len-flying-clause-capacity
+returns-then-len-flying-clause-capacity c = grind (arith, common_steps)
+
+pub returns-then-len-flying-clause-queued : goal.returns-then-len-flying-clause-queued
+returns-then-len-flying-clause-queued c = grind (arith, common_steps)

@@ -1,4 +1,4 @@
-use Rattle.fst_heads.proofs.{Basics.{◌∙◌, ◌+◌, get_or, drop, sym, ap, drop_more}, Words.{Listed, patches_of, entry_of, entries_of}}
+use Rattle.fst_heads.proofs.{Basics.{◌∙◌, ◌+◌, get_or, drop, sym, ap, drop_more, arith, common_steps}, Words.{Listed, patches_of, entry_of, entries_of}}
 use Rattle.fst_heads.proofs.Touching.{touches_none, touches_more, touches_skip}
 use Rattle.fst_heads.proofs.row.dependencies_of.Goals as goal
 use Rattle.fst_heads.proofs.row.dependencies_of.Goals.{then-shares+in_ok-put, else-shares}
@@ -27,3 +27,12 @@ loop-listed-preserved c =
           rw w.row-is
           (touches_skip heads rest b at len c.in_ok-row.row.items c.loop-listed.row.items e left next c.loop-listed.invariant (sym c.shares.ensures ∙ w.if-shares.false))
     ]
+
+pub returns : goal.returns
+returns c = grind (arith, common_steps)
+
+pub returns-in_err-put : goal.returns-in_err-put
+returns-in_err-put c = grind (arith, common_steps)
+
+pub returns-in_err-row : goal.returns-in_err-row
+returns-in_err-row c = grind (arith, common_steps)

@@ -100,3 +100,15 @@ returns-clause-standing c =
 
 pub returns-clause-frames : goal.returns-clause-frames
 returns-clause-frames c = grind (arith, frames_set)
+
+pub returns-clause-len : goal.returns-clause-len
+returns-clause-len c = grind (arith, common_steps)
+
+pub returns-clause-new : goal.returns-clause-new
+returns-clause-new c = grind (arith, common_steps)
+
+pub returns-clause-old : goal.returns-clause-old
+returns-clause-old c = grind (arith, common_steps)
+
+pub returns-clause-places : goal.returns-clause-places
+returns-clause-places c = grind (arith, common_steps)

@@ -1,5 +1,6 @@
+use Rattle.std.proofs.lemmas.Grind.{common_steps}
 use Rattle.fst_walks.proofs.{Ranked.ranks_rise, Renewed.renewed_is_leveled}
-use Rattle.std.proofs.Common.{◌≡◌, length, ap, subst, sym}
+use Rattle.std.proofs.Common.{◌≡◌, length, ap, subst, sym, arith}
 use Rattle.fst_heads.specs.Heads.{patches_of}
 use Rattle.fst_walks.specs.Leveling.{IsLeveled}
 use Rattle.fst_walks.proofs.ancestors.renew.Goals as goal
@@ -16,3 +17,18 @@ returns-clause-leveled c =
     subst (λ n. IsLeveled (patches_of heads) n new) (sym (ap length put.floors))
     (renewed_is_leveled heads c.requires.rising (length old.floors) old new c.requires.leveled c.args.number c.in-Some.slot c.in-Some.ensures.found c.ancestry_over-ancestry.result
     c.as_slice-row.result.now c.index-heads-slot.result c.as_slice-row.ensures c.ancestry_over-ancestry.ensures put.numbers put.levels put.parent put.jump put.rest put.floors)
+
+pub returns-clause-floors : goal.returns-clause-floors
+returns-clause-floors c = grind (arith, common_steps)
+
+pub returns-clause-room : goal.returns-clause-room
+returns-clause-room c = grind (arith, common_steps)
+
+pub returns-in_default-clause-floors : goal.returns-in_default-clause-floors
+returns-in_default-clause-floors c = grind (arith, common_steps)
+
+pub returns-in_default-clause-leveled : goal.returns-in_default-clause-leveled
+returns-in_default-clause-leveled c = grind (arith, common_steps)
+
+pub returns-in_default-clause-room : goal.returns-in_default-clause-room
+returns-in_default-clause-room c = grind (arith, common_steps)

@@ -1,3 +1,4 @@
+use Rattle.std.proofs.lemmas.Grind.{common_steps}
 use Rattle.std.proofs.Common.{◌∙◌, sym, arith}
 use Rattle.std.proofs.lemmas.Bool.{false≢true}
 use Rattle.fst_heads.specs.Heads.{patches_of}
@@ -30,3 +31,21 @@ returns-in-false-clause-graded c =
     comes_hard sight.heads.now sees.rising sees.disk sees.hard sees.flights (level_of sight.levels.now.ranks) (floor_of sight.levels.now.floors) sees.leveled.leveled (needs_of sight.needs.now.lists) sees.needing.needed
     c.args.block c.floor-least.result (omega (arith, c.floor-least.ensures)) c.args.row.now crossed crossed shown shown
     (numbers_met sight.heads.now c.visit_first_away-looked.new.walk) (c.visit_first_away-looked.ensures.first c.in_ok-left.ensures.0) (λ x. false≢true (sym c.in-false.is ∙ c.in_ok-descend.ensures.met.1 x))
+
+pub returns-in-false-clause-down : goal.returns-in-false-clause-down
+returns-in-false-clause-down c = grind (arith, common_steps)
+
+pub returns-in-true-clause-down : goal.returns-in-true-clause-down
+returns-in-true-clause-down c = grind (arith, common_steps)
+
+pub returns-in_err-descend-clause-down : goal.returns-in_err-descend-clause-down
+returns-in_err-descend-clause-down c = grind (arith, common_steps)
+
+pub returns-in_err-descend-clause-graded : goal.returns-in_err-descend-clause-graded
+returns-in_err-descend-clause-graded c = grind (arith, common_steps)
+
+pub returns-in_err-left-clause-down : goal.returns-in_err-left-clause-down
+returns-in_err-left-clause-down c = grind (arith, common_steps)
+
+pub returns-in_err-left-clause-graded : goal.returns-in_err-left-clause-graded
+returns-in_err-left-clause-graded c = grind (arith, common_steps)

@@ -1,3 +1,4 @@
+use Rattle.std.proofs.lemmas.Grind.{common_steps}
 use Rattle.std.proofs.Common.{ℕ, Contains, subst, arith}
 use Rattle.fst_heads.specs.Heads.{patches_of}
 use Rattle.fst_walks.specs.{BothEnds.IsLowChange, Descending.Visits, Leveling.{floor_of, level_of}, Needing.needs_of, Walks.numbers_met}
@@ -50,3 +51,42 @@ returns-then-len-eq0-clause-graded c =
     let heads = c.args.sight.now.heads.now in
     let none : (n : ℕ) → Contains (numbers_met heads c.visit_first_away-down.new.walk) n → ⊥ = λ n k. absurd (omega (arith, k.1, long_met heads c.visit_first_away-down.new.walk, c.len.ensures.long, c.if-len-eq0.true)) in
     none_first heads c.requires.sees.rising c.requires.sees.disk c.requires.sees.hard c.args.block c.cross_only.new.self.crossed.items c.cross_only.ensures.shown c.args.row.now (λ n f. none n ((c.visit_first_away-down.ensures.first (omega (arith, c.visit_first_away-down.type_inv)) n).1 f))
+
+pub returns-in-false-clause-decided : goal.returns-in-false-clause-decided
+returns-in-false-clause-decided c = grind (arith, common_steps)
+
+pub returns-in-false-clause-down : goal.returns-in-false-clause-down
+returns-in-false-clause-down c = grind (arith, common_steps)
+
+pub returns-in-false-clause-up : goal.returns-in-false-clause-up
+returns-in-false-clause-up c = grind (arith, common_steps)
+
+pub returns-in-true-clause-decided : goal.returns-in-true-clause-decided
+returns-in-true-clause-decided c = grind (arith, common_steps)
+
+pub returns-in-true-clause-down : goal.returns-in-true-clause-down
+returns-in-true-clause-down c = grind (arith, common_steps)
+
+pub returns-in-true-clause-up : goal.returns-in-true-clause-up
+returns-in-true-clause-up c = grind (arith, common_steps)
+
+pub returns-in_err-meet_between-clause-decided : goal.returns-in_err-meet_between-clause-decided
+returns-in_err-meet_between-clause-decided c = grind (arith, common_steps)
+
+pub returns-in_err-meet_between-clause-down : goal.returns-in_err-meet_between-clause-down
+returns-in_err-meet_between-clause-down c = grind (arith, common_steps)
+
+pub returns-in_err-meet_between-clause-graded : goal.returns-in_err-meet_between-clause-graded
+returns-in_err-meet_between-clause-graded c = grind (arith, common_steps)
+
+pub returns-in_err-meet_between-clause-up : goal.returns-in_err-meet_between-clause-up
+returns-in_err-meet_between-clause-up c = grind (arith, common_steps)
+
+pub returns-then-len-eq0-clause-decided : goal.returns-then-len-eq0-clause-decided
+returns-then-len-eq0-clause-decided c = grind (arith, common_steps)
+
+pub returns-then-len-eq0-clause-down : goal.returns-then-len-eq0-clause-down
+returns-then-len-eq0-clause-down c = grind (arith, common_steps)
+
+pub returns-then-len-eq0-clause-up : goal.returns-then-len-eq0-clause-up
+returns-then-len-eq0-clause-up c = grind (arith, common_steps)

@@ -107,3 +107,63 @@ returns-after-loop-up_at-clause-apart c e =
 
 pub returns-then-min-limit-clause-apart : goal.returns-then-min-limit-clause-apart
 returns-then-min-limit-clause-apart c = grind (arith, common_steps)
+
+pub returns-after-loop-up_at-clause-decided : goal.returns-after-loop-up_at-clause-decided
+returns-after-loop-up_at-clause-decided c = grind (arith, common_steps)
+
+pub returns-after-loop-up_at-clause-down : goal.returns-after-loop-up_at-clause-down
+returns-after-loop-up_at-clause-down c = grind (arith, common_steps)
+
+pub returns-after-loop-up_at-clause-together : goal.returns-after-loop-up_at-clause-together
+returns-after-loop-up_at-clause-together c = grind (arith, common_steps)
+
+pub returns-after-loop-up_at-clause-up : goal.returns-after-loop-up_at-clause-up
+returns-after-loop-up_at-clause-up c = grind (arith, common_steps)
+
+pub returns-else-down_at-len-clause-decided : goal.returns-else-down_at-len-clause-decided
+returns-else-down_at-len-clause-decided c = grind (arith, common_steps)
+
+pub returns-else-down_at-len-clause-down : goal.returns-else-down_at-len-clause-down
+returns-else-down_at-len-clause-down c = grind (arith, common_steps)
+
+pub returns-else-down_at-len-clause-together : goal.returns-else-down_at-len-clause-together
+returns-else-down_at-len-clause-together c = grind (arith, common_steps)
+
+pub returns-else-down_at-len-clause-up : goal.returns-else-down_at-len-clause-up
+returns-else-down_at-len-clause-up c = grind (arith, common_steps)
+
+pub returns-then-min-limit-clause-decided : goal.returns-then-min-limit-clause-decided
+returns-then-min-limit-clause-decided c = grind (arith, common_steps)
+
+pub returns-then-min-limit-clause-down : goal.returns-then-min-limit-clause-down
+returns-then-min-limit-clause-down c = grind (arith, common_steps)
+
+pub returns-then-min-limit-clause-together : goal.returns-then-min-limit-clause-together
+returns-then-min-limit-clause-together c = grind (arith, common_steps)
+
+pub returns-then-min-limit-clause-up : goal.returns-then-min-limit-clause-up
+returns-then-min-limit-clause-up c = grind (arith, common_steps)
+
+pub returns-then-turn_down-clause-apart : goal.returns-then-turn_down-clause-apart
+returns-then-turn_down-clause-apart c = grind (arith, common_steps)
+
+pub returns-then-turn_down-clause-decided : goal.returns-then-turn_down-clause-decided
+returns-then-turn_down-clause-decided c = grind (arith, common_steps)
+
+pub returns-then-turn_down-clause-down : goal.returns-then-turn_down-clause-down
+returns-then-turn_down-clause-down c = grind (arith, common_steps)
+
+pub returns-then-turn_down-clause-up : goal.returns-then-turn_down-clause-up
+returns-then-turn_down-clause-up c = grind (arith, common_steps)
+
+pub returns-then-turn_up-clause-apart : goal.returns-then-turn_up-clause-apart
+returns-then-turn_up-clause-apart c = grind (arith, common_steps)
+
+pub returns-then-turn_up-clause-decided : goal.returns-then-turn_up-clause-decided
+returns-then-turn_up-clause-decided c = grind (arith, common_steps)
+
+pub returns-then-turn_up-clause-down : goal.returns-then-turn_up-clause-down
+returns-then-turn_up-clause-down c = grind (arith, common_steps)
+
+pub returns-then-turn_up-clause-up : goal.returns-then-turn_up-clause-up
+returns-then-turn_up-clause-up c = grind (arith, common_steps)

@@ -18,3 +18,18 @@ returns-clause-apart c none =
 
 pub returns-clause-met : goal.returns-clause-met
 returns-clause-met c = grind (arith, common_steps)
+
+pub returns-clause-crossed : goal.returns-clause-crossed
+returns-clause-crossed c = grind (arith, common_steps)
+
+pub returns-clause-down : goal.returns-clause-down
+returns-clause-down c = grind (arith, common_steps)
+
+pub returns-clause-up : goal.returns-clause-up
+returns-clause-up c = grind (arith, common_steps)
+
+pub returns-clause-visited : goal.returns-clause-visited
+returns-clause-visited c = grind (arith, common_steps)
+
+pub returns-clause-visits : goal.returns-clause-visits
+returns-clause-visits c = grind (arith, common_steps)

@@ -1,4 +1,5 @@
-use Rattle.std.proofs.Common.{◌≡◌, ◌∙◌, refl, sym, subst}
+use Rattle.std.proofs.lemmas.Grind.{common_steps}
+use Rattle.std.proofs.Common.{◌≡◌, ◌∙◌, refl, sym, subst, arith}
 use Rattle.std.proofs.lemmas.Bool.{false≢true}
 use Rattle.fst_types.specs.Dependencies.{IsLiveNumber}
 use Rattle.fst_heads.specs.Heads.{patches_of}
@@ -35,3 +36,9 @@ returns-in_default-clause-visits c =
     let heads = c.args.heads.now in
     let n = c.args.number in
     rw c.find.ensures.same (visits_none (λ m. (m ≡ n) × IsLiveNumber (patches_of heads) m) (numbers_met heads c.args.walk.now) (λ m k. absurd (not_live_none heads n c.in_default.ensures.none (subst (IsLiveNumber (patches_of heads)) k.0 k.1))))
+
+pub returns-else-is_live-clause-visited : goal.returns-else-is_live-clause-visited
+returns-else-is_live-clause-visited c = grind (arith, common_steps)
+
+pub returns-in_default-clause-visited : goal.returns-in_default-clause-visited
+returns-in_default-clause-visited c = grind (arith, common_steps)

@@ -1,4 +1,5 @@
-use Rattle.std.proofs.Common.{get_or, Contains, sym, subst}
+use Rattle.std.proofs.lemmas.Grind.{common_steps}
+use Rattle.std.proofs.Common.{get_or, Contains, sym, subst, arith}
 use Rattle.fst_heads.specs.{Heads.patches_of, declared.head.Head.Head}
 use Rattle.fst_heads.proofs.Slots.{direct_at, named_at}
 use Rattle.fst_walks.specs.{BothEnds.StepsAway, Walks.numbers_met}
@@ -18,3 +19,12 @@ returns-clause-visits c =
     (λ q k. (through, direct_at heads n q s d slot (subst (λ row. Contains row q) c.as_slice-below.ensures k.0), k.1))
     (λ q k. (subst (λ row. Contains row q) (sym c.as_slice-below.ensures) (named_at heads n q s d c.requires.rising slot k.1), k.2))
     c.visit_row.ensures.visits
+
+pub returns-clause-visited : goal.returns-clause-visited
+returns-clause-visited c = grind (arith, common_steps)
+
+pub returns-then-not-goes_through-clause-visited : goal.returns-then-not-goes_through-clause-visited
+returns-then-not-goes_through-clause-visited c = grind (arith, common_steps)
+
+pub returns-then-not-goes_through-clause-visits : goal.returns-then-not-goes_through-clause-visits
+returns-then-not-goes_through-clause-visits c = grind (arith, common_steps)

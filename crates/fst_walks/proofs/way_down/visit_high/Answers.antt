@@ -1,3 +1,4 @@
+use Rattle.std.proofs.lemmas.Grind.{common_steps}
 use Rattle.std.proofs.Common.{◌≡◌, ◌≤◌, ◌∙◌, refl, sym, subst, arith}
 use Rattle.std.proofs.lemmas.Bool.{false≢true}
 use Rattle.fst_heads.specs.Heads.{patches_of}
@@ -53,3 +54,12 @@ returns-in_default-clause-visits c =
     let n = c.args.number in
     let high = IsHigh (patches_of heads) (level_of sight.levels.now.ranks) c.args.least in
     visits_none (λ m. (m ≡ n) × high m) (numbers_met heads c.args.walk.now) (λ m k. absurd (not_live_none heads n c.in_default.ensures.none (subst high k.0 k.1).0))
+
+pub returns-else-is_live-clause-visited : goal.returns-else-is_live-clause-visited
+returns-else-is_live-clause-visited c = grind (arith, common_steps)
+
+pub returns-else-level-least-clause-visited : goal.returns-else-level-least-clause-visited
+returns-else-level-least-clause-visited c = grind (arith, common_steps)
+
+pub returns-in_default-clause-visited : goal.returns-in_default-clause-visited
+returns-in_default-clause-visited c = grind (arith, common_steps)

@@ -1,3 +1,4 @@
+use Rattle.std.proofs.lemmas.Grind.{common_steps}
 use Rattle.std.proofs.Common.{◌≡◌, ◌≤◌, get_or, Contains, sym, subst, inl, inr, arith}
 use Rattle.std.proofs.lemmas.List.Elements.{Contains-get_or}
 use Rattle.fst_types.specs.{Closure.one, Dependencies.{DirectlyOn, IsLiveNumber}}
@@ -49,3 +50,12 @@ returns-clause-visits c =
     c.visit_low_row.ensures.visits in
     let across = subst (λ m. Visits (λ q. Crosses patches now m q × (level q ≤ most)) mid new) number c.cross-across.ensures.visits in
     visits_both (λ q. DirectlyOn patches q n × IsLow patches level most q) (λ q. Crosses patches now n q × (level q ≤ most)) (StepsLow patches level most now n) met mid new (λ q k. k) (λ q k. inl k) (λ q k. inr k) above across
+
+pub returns-clause-crossed : goal.returns-clause-crossed
+returns-clause-crossed c = grind (arith, common_steps)
+
+pub returns-clause-room : goal.returns-clause-room
+returns-clause-room c = grind (arith, common_steps)
+
+pub returns-clause-visited : goal.returns-clause-visited
+returns-clause-visited c = grind (arith, common_steps)

@@ -1,4 +1,5 @@
-use Rattle.std.proofs.Common.{ap, length, subst}
+use Rattle.std.proofs.lemmas.Grind.{common_steps}
+use Rattle.std.proofs.Common.{ap, length, subst, arith}
 use Rattle.fst_heads.specs.{Heads.patches_of, Marks.HasSlot}
 use Rattle.fst_heads.proofs.Slots.{patch_slot, slot_in}
 use Rattle.fst_walks.specs.{Walks.numbers_met}
@@ -16,3 +17,30 @@ returns-then-rise-clause-leveled c =
     let at = slot_in heads live.patch live.head in
     hard_told heads c.requires.rising n at.0 (subst (λ m. HasSlot heads m at.0) live.numbered (patch_slot heads live.patch at.0 at.1 at.2)))
     c.lift_all.ensures)
+
+pub returns-else-rise-clause-below : goal.returns-else-rise-clause-below
+returns-else-rise-clause-below c = grind (arith, common_steps)
+
+pub returns-else-rise-clause-leveled : goal.returns-else-rise-clause-leveled
+returns-else-rise-clause-leveled c = grind (arith, common_steps)
+
+pub returns-else-rise-clause-lifted : goal.returns-else-rise-clause-lifted
+returns-else-rise-clause-lifted c = grind (arith, common_steps)
+
+pub returns-else-rise-clause-room : goal.returns-else-rise-clause-room
+returns-else-rise-clause-room c = grind (arith, common_steps)
+
+pub returns-else-rise-clause-still : goal.returns-else-rise-clause-still
+returns-else-rise-clause-still c = grind (arith, common_steps)
+
+pub returns-then-rise-clause-below : goal.returns-then-rise-clause-below
+returns-then-rise-clause-below c = grind (arith, common_steps)
+
+pub returns-then-rise-clause-lifted : goal.returns-then-rise-clause-lifted
+returns-then-rise-clause-lifted c = grind (arith, common_steps)
+
+pub returns-then-rise-clause-room : goal.returns-then-rise-clause-room
+returns-then-rise-clause-room c = grind (arith, common_steps)
+
+pub returns-then-rise-clause-still : goal.returns-then-rise-clause-still
+returns-then-rise-clause-still c = grind (arith, common_steps)

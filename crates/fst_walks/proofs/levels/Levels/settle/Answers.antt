@@ -1,3 +1,4 @@
+use Rattle.std.proofs.lemmas.Grind.{common_steps}
 use Rattle.std.proofs.Common.{◌∙◌, ◌≤◌, ap, arith, get_or, length, map, refl, subst, sym, Contains}
 use Rattle.fst_heads.specs.{Heads.patches_of}
 use Rattle.fst_walks.specs.Leveling.{IsLeveled, Leveling, level_of}
@@ -19,3 +20,15 @@ returns-then-level-clause-leveled c =
     (λ d. let k = c.level.ensures d in let e = ap (λ (v : Leveling). (get_or v.ranks s d).level) c.self.view_is in omega (arith, k, e, c.if-level.true))
     c.raise.ensures.numbers c.raise.ensures.raised c.raise.ensures.rest c.raise.ensures.ancestries refl
     (subst (λ (v : Leveling). IsLeveled (patches_of heads) (length v.floors) v) (sym c.self.view_is) c.requires.leveled))
+
+pub returns-else-level-clause-leveled : goal.returns-else-level-clause-leveled
+returns-else-level-clause-leveled c = grind (arith, common_steps)
+
+pub returns-else-level-clause-room : goal.returns-else-level-clause-room
+returns-else-level-clause-room c = grind (arith, common_steps)
+
+pub returns-in_default : goal.returns-in_default
+returns-in_default c = grind (arith, common_steps)
+
+pub returns-then-level-clause-room : goal.returns-then-level-clause-room
+returns-then-level-clause-room c = grind (arith, common_steps)

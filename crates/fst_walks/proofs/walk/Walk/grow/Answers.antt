@@ -1,3 +1,4 @@
+use Rattle.std.proofs.lemmas.Grind.{common_steps}
 use Rattle.std.proofs.Common.{◌<◌, ◌∷◌, [], false, length, sym, subst, arith, length-append}
 use Rattle.fst_walks.specs.Walks.{Trail}
 use Rattle.fst_walks.proofs.Trails.{marked_grown}
@@ -15,3 +16,12 @@ invariant_of-self c =
       marks_room = omega (arith, s.marks_room, c.push_reserved.ensures.capacity);
       met_room = s.met_room;
     }
+
+pub returns-clause-marks : goal.returns-clause-marks
+returns-clause-marks c = grind (arith, common_steps)
+
+pub returns-clause-met : goal.returns-clause-met
+returns-clause-met c = grind (arith, common_steps)
+
+pub returns-clause-room : goal.returns-clause-room
+returns-clause-room c = grind (arith, common_steps)

@@ -1,3 +1,4 @@
+use Rattle.std.proofs.lemmas.Grind.{common_steps}
 use Rattle.std.proofs.Common.{◌<◌, length, sym, subst, refl, inl, arith, length-set, true}
 use Rattle.fst_walks.specs.Walks.{Trail}
 use Rattle.fst_walks.proofs.Trails.{marked_push, once_push, room_to_meet, mark_of_slot}
@@ -35,3 +36,6 @@ returns-else-not-index c =
     let lt = subst (λ (t : Trail). c.args.slot < length t.marks) (sym c.self.view_is) c.requires in
     let some = mark_of_slot marks c.args.slot c.index.result.now lt c.index.ensures c.if-not-index.false in
     rw (← c.self.view_is) record { long = refl; room = refl; met = inl (s.marked.only c.args.slot some, refl) }
+
+pub returns-then-not-index : goal.returns-then-not-index
+returns-then-not-index c = grind (arith, common_steps)
