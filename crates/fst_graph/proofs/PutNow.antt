@@ -84,6 +84,14 @@ module _ {heads : Vec Head} {ends : Ends} {levels : Leveling} {needs : Needing} 
             (omega (arith, free, heads.ok.0, length-map heads.items node_of));
       }
 
+  -- a number is free for what is prepared
+  pub number_free : (p : Stored) → o ≡ Some p → numbers < 4294967295
+  number_free p kept = by_gates p.gates (prepared_is S p kept).ready
+    where
+      by_gates : (g : Option Gates) → IsReadyFor g (patches_of heads.items) numbers blocks p → numbers < 4294967295
+      by_gates None ready = let left = ready.clear.1.1.1.0 in omega (arith, left)
+      by_gates (Some gates) ready = let left = ready.clear.1.1.0 in omega (arith, left)
+
   pub put_now : (p : Stored) (known : Known)
       → record { heads = patches_of heads.items; numbers = numbers; blocks = blocks; groups = []; prepared = option_map (prepared_of numbers) o } ≡ known
       → ((q : Prepared) × (known.prepared ≡ Some q) × IfSome q.group (λ head. IsOpenNumber known.heads head → ⊥)) → o ≡ Some p

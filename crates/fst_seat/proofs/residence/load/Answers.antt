@@ -1,3 +1,4 @@
+use Rattle.std.proofs.lemmas.Grind.{common_steps}
 use Rattle.std.proofs.Common.{◌<◌, ◌∙◌, List, Bool, Option, Some, is_some, length, slice_set, sym, ap, inr, arith}
 use Rattle.fst_block.specs.BlockView.{BlockView}
 use Rattle.fst_seat.specs.Places.{ResidentsView}
@@ -87,3 +88,21 @@ returns-clause-listed g c =
     c.note.ensures
     ∙ (ap (λ (v : ResidentsView). record v { loaded = slice_set c.make_place.new.residents.loaded c.args.block.0 c.is_ok.result }) c.make_place.ensures.listed
     ∙ ap (λ (flags : List Bool). record { most = c.args.residents.now.most; loaded = flags }) (listed_after c.make_place.new.residents.loaded placed c.args.block.0 c.load-read.new.self c.is_ok.result listed there))
+
+pub bounds-seats-at : goal.bounds-seats-at
+bounds-seats-at g c = grind (arith, common_steps)
+
+pub bounds-seats-at-2 : goal.bounds-seats-at-2
+bounds-seats-at-2 g c = grind (arith, common_steps)
+
+pub returns-then-is_loaded-clause-away : goal.returns-then-is_loaded-clause-away
+returns-then-is_loaded-clause-away g c = grind (arith, common_steps)
+
+pub returns-then-is_loaded-clause-kinds : goal.returns-then-is_loaded-clause-kinds
+returns-then-is_loaded-clause-kinds g c = grind (arith, common_steps)
+
+pub returns-then-is_loaded-clause-listed : goal.returns-then-is_loaded-clause-listed
+returns-then-is_loaded-clause-listed g c = grind (arith, common_steps)
+
+pub returns-clause-kinds : goal.returns-clause-kinds
+returns-clause-kinds g c = c.load-read.ensures.kinds

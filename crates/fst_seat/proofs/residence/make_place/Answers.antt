@@ -1,3 +1,4 @@
+use Rattle.std.proofs.lemmas.Grind.{common_steps}
 use Rattle.std.proofs.Common.{◌≤◌, ◌∙◌, List, Bool, false, is_some, sym, ap, arith}
 use Rattle.std.proofs.lemmas.Bool.{ltb-false}
 use Rattle.fst_seat.specs.Seats.{SeatView}
@@ -25,3 +26,15 @@ returns-clause-listed g c =
     c.remove.ensures
     ∙ ap (λ (flags : List Bool). record { most = c.args.residents.now.most; loaded = flags })
     (listed_after c.args.residents.now.loaded c.args.seats.now c.in-Some.block c.unload.new.self false c.requires.listed (ap (λ (t : SeatView). is_some t.loaded) c.unload.ensures))
+
+pub clean-requires : goal.clean-requires
+clean-requires g c = grind (arith, common_steps)
+
+pub bounds-seats-block : goal.bounds-seats-block
+bounds-seats-block g c = grind (arith, common_steps)
+
+pub returns-then-has_place-clause-place : goal.returns-then-has_place-clause-place
+returns-then-has_place-clause-place g c = grind (arith, common_steps)
+
+pub returns-then-has_place-clause-listed : goal.returns-then-has_place-clause-listed
+returns-then-has_place-clause-listed g c = grind (arith, common_steps)

@@ -1,4 +1,5 @@
-use Rattle.std.proofs.Common.{List, Bool, sym, ap, ◌∙◌}
+use Rattle.std.proofs.lemmas.Grind.{common_steps}
+use Rattle.std.proofs.Common.{List, Bool, sym, ap, ◌∙◌, arith}
 use Rattle.std.proofs.lemmas.Result.{on_ok_weaker, err_from_is_err_and}
 use Rattle.fst_seat.proofs.Putting.{same_loaded, on_refusal, memory_kind, inside_of, newest_of, puts_of, same_load, read_at, same_counts, counts_after}
 use Rattle.fst_seat.proofs.Putting.{not_failed}
@@ -50,3 +51,21 @@ pub returns-clause-listed : goal.returns-clause-listed
 returns-clause-listed g c =
     let r = read_at c.load.new.seats c.args.block.0 c.index-seats-block.result c.in_ok-load.ensures.there in
     c.load.ensures.listed ∙ ap (λ (flags : List Bool). record { most = c.args.residents.now.most; loaded = flags }) (sym (same_loaded c.args.residents.now.most c.args.seats.now c.load.new.seats c.args.block.0 _ r.0 c.apply.result _ c.apply.new.self r.1 c.apply.ensures.applied c.apply.ensures.unchanged))
+
+pub bounds-seats-block : goal.bounds-seats-block
+bounds-seats-block g c = grind (arith, common_steps)
+
+pub returns-in_err-load-clause-put : goal.returns-in_err-load-clause-put
+returns-in_err-load-clause-put g c = let p = err_from_is_err_and c.from_residual.result c.from_residual.ensures.1 in rw p.1 tt
+
+pub returns-in_err-load-clause-listed : goal.returns-in_err-load-clause-listed
+returns-in_err-load-clause-listed g c = grind (arith, common_steps)
+
+pub returns-in_err-load-clause-device : goal.returns-in_err-load-clause-device
+returns-in_err-load-clause-device g c = let p = err_from_is_err_and c.from_residual.result c.from_residual.ensures.1 in rw (p.1, p.2) c.in_err-load.ensures.device
+
+pub returns-in_err-load-clause-refused : goal.returns-in_err-load-clause-refused
+returns-in_err-load-clause-refused g c = grind (arith, common_steps)
+
+pub returns-clause-device : goal.returns-clause-device
+returns-clause-device g c = grind (arith, common_steps)

@@ -1,3 +1,4 @@
+use Rattle.std.proofs.lemmas.Grind.{common_steps}
 use Rattle.std.proofs.Common.{◌≡◌, ◌∙◌, Some, refl, sym, slice_get, arith}
 use Rattle.std.proofs.lemmas.Bool.{both_ways}
 use Rattle.std.proofs.lemmas.Option.{slice_get_within, slice_get_read}
@@ -18,3 +19,12 @@ loop-place-preserved g c =
 
 pub returns : goal.returns
 returns g c = λ k b seat from lt. c.loop-place.invariant k b seat from (omega (arith, lt, c.loop-place-test.false))
+
+pub block_at-block-requires : goal.block_at-block-requires
+block_at-block-requires g c = grind (arith, common_steps)
+
+pub bounds-seats-block : goal.bounds-seats-block
+bounds-seats-block g c = let lt = slice_get_within c.args.places.now _ _ c.block_at-block.ensures.block in omega (arith, lt, c.requires.long)
+
+pub loop-place-init : goal.loop-place-init
+loop-place-init g c = grind (arith, common_steps)

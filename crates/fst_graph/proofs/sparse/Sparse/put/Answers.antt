@@ -1,9 +1,10 @@
 use Rattle.std.proofs.{Common.{◌≡◌, ◌+◌, ◌++◌, ◌∷◌, ◌∙◌, [], ℕ, Option, None, Some, IfSome, IfNone, option_map, arith, sym, subst, refl, ap, map}}
 use Rattle.std.specs.Vec.{with_item}
-use Rattle.fst_types.specs.{Gating.gains}
+use Rattle.std.proofs.lemmas.List.Sums.{count_by-le-length}
+use Rattle.fst_types.specs.{Gating.gains, Tests.is_live}
 use Rattle.fst_heads.specs.{Frames.HasRoomBelow, Heads.patches_of, Names.numbers_of, Nodes.nodes_of}
 use Rattle.fst_graph.specs.{Known.{Known, DependsGate}, Ready.change_of, Sound.AreSound, Sparse.AddsSparse, declared.prepared.Gates.Gates}
-use Rattle.fst_graph.proofs.{Borne.few, Made.{change_sound, gained_sound, may_enlist, may_go_on, may_lift, may_need, may_put, may_rise, named_patches, put_patches}, PutNow.{put_now, IsPutDown, IsPutNow}}
+use Rattle.fst_graph.proofs.{Borne.few, Made.{change_sound, gained_sound, may_enlist, may_go_on, may_lift, may_need, may_put, may_rise, named_patches, put_patches}, PutNow.{number_free, put_now, IsPutDown, IsPutNow}}
 use Rattle.fst_graph.proofs.{Readied.ready_adds, Sound.rising_sound, TailGains.{member_kept, tail_may, tail_small}}
 use Rattle.fst_graph.proofs.sparse.Sparse.put.Goals.{After-as_slice-row, After-put_down-pending, After-put-2}
 use Rattle.fst_graph.proofs.sparse.Sparse.put.Goals as goal
@@ -157,3 +158,17 @@ returns-clause-tied c = rw (← c.self.view_is, sym c.take.ensures.value ∙ c.i
 
 pub returns-in-Some-gates-clause-alone : goal.returns-in-Some-gates-clause-alone
 returns-in-Some-gates-clause-alone c = rw (← c.self.view_is, sym c.take.ensures.value ∙ c.in-Some.is) (for_group c.in-Some.prepared.gates _ _ c.in-Some-gates.is)
+
+pub overflow_add-number : goal.overflow_add-number
+overflow_add-number c = let free = number_free c.self.invariant c.in-Some.prepared (sym c.take.ensures.value ∙ c.in-Some.is) in omega (arith, free)
+
+pub overflow_add-self : goal.overflow_add-self
+overflow_add-self c =
+    let S = c.self.invariant in
+    omega (arith, S.beside.counted, count_by-le-length is_live (patches_of c.self.inside.heads.items), S.keeps.few)
+
+pub overflow_cast-block : goal.overflow_cast-block
+overflow_cast-block c = omega (arith, (now (goal.at.overflow_cast-block c).After-as_slice-row).down.ready.inside, c.self.ranges)
+
+pub overflow_cast-block-2 : goal.overflow_cast-block-2
+overflow_cast-block-2 c = omega (arith, (now (goal.at.overflow_cast-block-2 c).After-as_slice-row).down.ready.inside, c.self.ranges)
