@@ -1,4 +1,4 @@
-use Rattle.std.proofs.Common.{ap}
+use Rattle.std.proofs.Common.{ap, rules}
 use Rattle.std.proofs.lemmas.List.{map-set}
 use Rattle.std.proofs.Math.Seq.{map-set_same}
 use Rattle.fst_chain.specs.declared.node.Node.{Node}
@@ -14,3 +14,6 @@ returns-in-Some-clause-items g c =
       same = map-set_same record_of xs i _ m (ap record_of c.at_mut-after.ensures.value);
       tails = map-set_same tail_of xs i _ m (ap tail_of c.at_mut-after.ensures.value);
     })
+
+pub returns-in-None-clause-tail : goal.returns-in-None-clause-tail
+returns-in-None-clause-tail g c = search rules

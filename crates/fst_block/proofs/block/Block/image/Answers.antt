@@ -1,4 +1,5 @@
 use Rattle.std.proofs.Common.{◌≡◌, ◌∙◌, List, ℕ, length, ap, subst, sym, arith}
+use Rattle.std.proofs.lemmas.Grind.{common_steps}
 use Rattle.fst_chain.specs.Records.{chain_list}
 use Rattle.fst_block.specs.BlockView.{BlockView, fold_of}
 use Rattle.fst_block.specs.Choices.{IsChoice, is_chosen, chosen_of}
@@ -38,3 +39,9 @@ returns-clause-same_length c =
     ∙ ap (λ (b : List ℕ). reverted (is_chosen c.args.chosen.now) b (chain_list c.self.inside.patches)) copied))
     ∙ (reverted_length (is_chosen c.args.chosen.now) _ _ (fits _ _ _ _ c.self.invariant)
     ∙ (same_size _ _ _ _ c.self.invariant ∙ ap (λ (v : BlockView). length v.base) c.self.view_is))
+
+pub returns-clause-unchanged : goal.returns-clause-unchanged
+returns-clause-unchanged c = grind (arith, common_steps)
+
+pub invariant_of-self : goal.invariant_of-self
+invariant_of-self c = grind (arith, common_steps)

@@ -1,0 +1,5 @@
+use Rattle.std.proofs.Common.{rules}
+use Rattle.fst_device.proofs.done.Done.image.Goals as goal
+
+pub returns : goal.returns
+returns g c = search rules

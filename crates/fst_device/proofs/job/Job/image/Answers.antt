@@ -1,0 +1,5 @@
+use Rattle.std.proofs.Common.{rules}
+use Rattle.fst_device.proofs.job.Job.image.Goals as goal
+
+pub returns : goal.returns
+returns g c = search rules

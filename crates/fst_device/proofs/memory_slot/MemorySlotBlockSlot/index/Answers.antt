@@ -1,0 +1,5 @@
+use Rattle.std.proofs.Common.{rules}
+use Rattle.fst_device.proofs.memory_slot.MemorySlotBlockSlot.index.Goals as goal
+
+pub returns : goal.returns
+returns c = search rules
