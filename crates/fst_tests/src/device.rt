@@ -5,7 +5,7 @@ ghost use Rattle.fst_device.specs.MemoryCalls.{works};
 
 mod read_only;
 
-use crate::same::{same_block, same_bytes, same_count, same_ticket};
+use crate::same::{same, same_block, same_bytes, same_count, same_ticket};
 use fst_device::{Arm, BlockSlot, Done, FaultCount, Job, MemorySlot, Outcome, SlotFault, carry};
 use fst_types::{BlockNo, Ticket};
 use read_only::ReadOnly;
@@ -17,12 +17,12 @@ use std::thread::Threads;
 
 // What a call of a slot answers.
 fn same_answer(rt: &impl Abort, answer: Result<(), SlotFault>, expected: Result<(), SlotFault>) {
-    assert_eq!(rt; answer, expected);
+    same(rt, &answer, &expected);
 }
 
 // What came of a write.
 fn same_outcome(rt: &impl Abort, outcome: Outcome, expected: Outcome) {
-    assert_eq!(rt; outcome, expected);
+    same(rt, &outcome, &expected);
 }
 
 // A write and then a read, through the trait.

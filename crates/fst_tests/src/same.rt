@@ -6,8 +6,8 @@ use fst_types::{BlockNo, Fault, Grade, GroupNo, PatchNo, Place, Settled, Ticket}
 use std::fmt::Debug;
 use std::process::Abort;
 
-// The same answer.
-fn same<T: PartialEq + Debug>(rt: &impl Abort, answer: &T, expected: &T) {
+/// The same answer.
+pub fn same<T: PartialEq + Debug>(rt: &impl Abort, answer: &T, expected: &T) {
     assert_eq!(rt; answer, expected);
 }
 

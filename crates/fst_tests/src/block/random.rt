@@ -53,9 +53,12 @@ fn apply_random(
 fn is_under(changes: &[Change], chosen: &[PatchNo], earlier: &Change) -> bool {
     let no = earlier.no;
     let span = earlier.span;
-    changes.iter().any(|later| {
-        later.no.0 > no.0 && share_byte(span, later.span) && is_named(chosen, later.no)
-    })
+    for later in changes {
+        if later.no.0 > no.0 && share_byte(span, later.span) && is_named(chosen, later.no) {
+            return true;
+        }
+    }
+    false
 }
 
 // What is hard, what the dice say, and every earlier patch that shares a byte with one of these.

@@ -4,13 +4,13 @@ ghost use Rattle.fst_chain.specs.Records.{without, payload_at, set_payload, set_
 
 use fst_chain::Chain;
 
-#[derive(Clone, Copy, Debug, PartialEq)]
+#[derive(Clone, Copy)]
 pub enum Kind {
     Hard,
     Soft,
 }
 
-#[derive(Clone, Copy, Debug, PartialEq)]
+#[derive(Clone, Copy)]
 pub struct Record {
     pub no: u32,
     pub kind: Kind,

@@ -241,8 +241,11 @@ impl Checked {
 
     /// Puts the least writable block in flight, which is this one.
     pub fn launch(&mut self, rt: &impl Abort, expected: u32) {
-        let launched = self.launch_next(rt).map(|(block, _)| block);
-        same_block(rt, launched, Some(BlockNo(expected)));
+        let Some((block, chosen)) = self.launch_next(rt) else {
+            rt.panic("a block may be written")
+        };
+        same_block(rt, Some(block), Some(BlockNo(expected)));
+        drop(chosen);
     }
 
     /// Lands what is in flight of the block.

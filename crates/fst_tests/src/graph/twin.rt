@@ -106,7 +106,12 @@ impl Twin {
     }
 
     fn head(&self, no: PatchNo) -> Option<&Patch> {
-        self.patches.iter().find(|patch| patch.no == no)
+        for patch in &self.patches {
+            if patch.no == no {
+                return Some(patch);
+            }
+        }
+        None
     }
 
     /// Where a patch is.
@@ -122,7 +127,13 @@ impl Twin {
 
     /// How many patches are not on disk.
     pub fn live(&self) -> usize {
-        self.patches.iter().filter(|patch| patch.is_live()).count()
+        let mut live = 0usize;
+        for patch in &self.patches {
+            if patch.is_live() {
+                live = live.saturating_add(1);
+            }
+        }
+        live
     }
 
     // Puts the direct dependencies of a patch to those that were found.
@@ -167,8 +178,10 @@ impl Twin {
         if names.len() > MAX_NAMES {
             return Some(Fault::BadField);
         }
-        if names.iter().any(|no| !self.is_given(*no)) {
-            return Some(Fault::NoPatch);
+        for no in names {
+            if !self.is_given(*no) {
+                return Some(Fault::NoPatch);
+            }
         }
         None
     }
@@ -310,17 +323,24 @@ impl Twin {
 
     // Whether this is an empty patch or a sealed gate in memory, and all its direct dependencies are on disk.
     fn may_rest(&self, patch: &Patch) -> bool {
-        matches!(patch.kind, Kind::Empty | Kind::SealedGate)
-            && patch.is_live()
-            && patch
-                .dependencies
-                .iter()
-                .all(|no| self.place(*no) == Some(Place::Disk))
+        if !matches!(patch.kind, Kind::Empty | Kind::SealedGate) || !patch.is_live() {
+            return false;
+        }
+        for no in &patch.dependencies {
+            if self.place(*no) != Some(Place::Disk) {
+                return false;
+            }
+        }
+        true
     }
 
     fn next_to_rest(&self) -> Option<PatchNo> {
-        let patch = self.patches.iter().find(|patch| self.may_rest(patch))?;
-        Some(patch.no)
+        for patch in &self.patches {
+            if self.may_rest(patch) {
+                return Some(patch.no);
+            }
+        }
+        None
     }
 
     // Puts empty patches and sealed gates on disk, one after the other, until none may rest.

@@ -7,18 +7,26 @@ use std::alloc::AllocError;
 impl Twin {
     // Whether an open gate is among these.
     fn has_open_gate(&self, under: &[PatchNo]) -> bool {
-        self.patches.iter().any(|gate| matches!(gate.kind, Kind::OpenGate)
-            && under.contains(&gate.no))
+        for gate in &self.patches {
+            if matches!(gate.kind, Kind::OpenGate) && under.contains(&gate.no) {
+                return true;
+            }
+        }
+        false
     }
 
     // Whether each change among these is on disk, or in memory on the block.
     fn needs_nothing_else(&self, under: &[PatchNo], block: BlockNo) -> bool {
-        self.patches.iter().all(|need| {
-            !need.is_change()
-                || !under.contains(&need.no)
-                || need.place == Place::Disk
-                || need.is_in_memory_on(block)
-        })
+        for need in &self.patches {
+            if need.is_change()
+                && need.is_live()
+                && !need.is_in_memory_on(block)
+                && under.contains(&need.no)
+            {
+                return false;
+            }
+        }
+        true
     }
 
     fn is_in_writable_set(&self, patch: &Patch, block: BlockNo) -> Result<bool, AllocError> {
@@ -54,9 +62,12 @@ impl Twin {
     }
 
     fn is_flying(&self, block: BlockNo) -> bool {
-        self.patches
-            .iter()
-            .any(|patch| patch.is_on(block) && patch.place == Place::Flight)
+        for patch in &self.patches {
+            if patch.is_on(block) && patch.place == Place::Flight {
+                return true;
+            }
+        }
+        false
     }
 
     fn is_writable(&self, block: BlockNo) -> Result<bool, AllocError> {
@@ -81,11 +92,12 @@ impl Twin {
     // Whether a patch depends on a change of the block that is not on disk.
     fn has_live_need(&self, no: PatchNo, block: BlockNo) -> Result<bool, AllocError> {
         let under = self.under(no)?;
-        Ok(
-            self.patches.iter().any(|need| need.is_on(block)
-                && need.is_live()
-                && under.contains(&need.no)),
-        )
+        for need in &self.patches {
+            if need.is_on(block) && need.is_live() && under.contains(&need.no) {
+                return Ok(true);
+            }
+        }
+        Ok(false)
     }
 
     // Whether the block graph has an edge: some hard patch of the one block in memory has a live need on the other.

@@ -38,15 +38,22 @@ impl Twin {
     }
 
     fn group(&self, no: GroupNo) -> Option<Group> {
-        let group = self.groups.iter().find(|group| group.number() == no)?;
-        Some(*group)
+        for group in &self.groups {
+            if group.number() == no {
+                return Some(*group);
+            }
+        }
+        None
     }
 
     /// Whether it is the head or the tail of a group.
     pub fn is_group_gate(&self, no: PatchNo) -> bool {
-        self.groups
-            .iter()
-            .any(|group| group.head == no || group.tail() == no)
+        for group in &self.groups {
+            if group.head == no || group.tail() == no {
+                return true;
+            }
+        }
+        false
     }
 
     // Why no group can be made now.
