@@ -1,3 +1,4 @@
+use Rattle.std.proofs.lemmas.Grind.{common_steps}
 use Rattle.std.proofs.Common.{◌≡◌, ◌<◌, ℕ, true, false, List, Option, Some, None, MatchOption, length, get_or, option_map, subst, arith}
 use Rattle.fst_types.specs.{Looks.IsPick, Patches.Patch, declared.number.BlockNo.BlockNo}
 use Rattle.fst_heads.specs.{Heads.patches_of, Keeps.IsInside, Standings.{AreMarked, may_be_written}, declared.standing.Standing.Standing}
@@ -36,3 +37,21 @@ returns-in_default-clause-never_stuck c =
     let M = subst (λ ps. AreMarked ps c.self.inside.blocks c.self.inside.standings.items) (patches_in_nodes heads) T.marked in
     let pick = picked (patches_of heads) c.self.inside.standings.items c.self.inside.blocks None T.standing.long K.inside M (rw (← c.deref.ensures.value) c.in_default.ensures) in
     rw (← c.self.view_is) (stuck_by_gates (patches_of heads) None K.lawful.no_cycle K.lawful.hard_never_hold pick)
+
+pub invariant_of-self : goal.invariant_of-self
+invariant_of-self c = grind (arith, common_steps)
+
+pub invariant_of-self-2 : goal.invariant_of-self-2
+invariant_of-self-2 c = grind (arith, common_steps)
+
+pub returns-clause-never_stuck : goal.returns-clause-never_stuck
+returns-clause-never_stuck c = grind (arith, common_steps)
+
+pub returns-clause-same : goal.returns-clause-same
+returns-clause-same c = grind (arith, common_steps)
+
+pub returns-in_default-clause-same : goal.returns-in_default-clause-same
+returns-in_default-clause-same c = grind (arith, common_steps)
+
+pub overflow_cast-self : goal.overflow_cast-self
+overflow_cast-self c = grind (arith, common_steps)

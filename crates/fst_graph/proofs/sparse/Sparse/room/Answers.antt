@@ -1,3 +1,4 @@
+use Rattle.std.proofs.lemmas.Grind.{common_steps}
 use Rattle.std.proofs.Common.{◌≡◌, ◌+◌, ◌++◌, ◌∷◌, [], ◌<◌, arith, length, None, Some, inl, inr, ap, sym, subst, refl}
 use Rattle.fst_types.specs.{Order.make_order, Refusals.NoneHolds}
 use Rattle.fst_heads.specs.{Heads.patches_of, Names.numbers_of}
@@ -63,3 +64,33 @@ returns-clause-prepared c =
     rw (← c.self.view_is) (
     subst (λ q. c.make_room.new.self ≡ record { heads = patches_of s.heads.items; numbers = s.numbers; blocks = s.blocks; groups = []; prepared = Some q }) (found_as c.in-Ok.prepared s.numbers made.block made.span made.names made.gates) c.in-Ok-make_room.ensures.prepared
     )
+
+pub overflow_add-made : goal.overflow_add-made
+overflow_add-made c = grind (arith, common_steps)
+
+pub invariant_of-self : goal.invariant_of-self
+invariant_of-self c = grind (arith, common_steps)
+
+pub invariant_of-self-2 : goal.invariant_of-self-2
+invariant_of-self-2 c = grind (arith, common_steps)
+
+pub invariant_of-self-in_default-prepare : goal.invariant_of-self-in_default-prepare
+invariant_of-self-in_default-prepare c = grind (arith, common_steps)
+
+pub returns-in-Some-clause-same : goal.returns-in-Some-clause-same
+returns-in-Some-clause-same c = grind (arith, common_steps)
+
+pub returns-in-Some-clause-blocks : goal.returns-in-Some-clause-blocks
+returns-in-Some-clause-blocks c = grind (arith, common_steps)
+
+pub returns-in_default-prepare-clause-same : goal.returns-in_default-prepare-clause-same
+returns-in_default-prepare-clause-same c = grind (arith, common_steps)
+
+pub returns-in_default-prepare-clause-blocks : goal.returns-in_default-prepare-clause-blocks
+returns-in_default-prepare-clause-blocks c = grind (arith, common_steps)
+
+pub returns-in_default-make_room-clause-blocks : goal.returns-in_default-make_room-clause-blocks
+returns-in_default-make_room-clause-blocks c = grind (arith, common_steps)
+
+pub returns-clause-blocks : goal.returns-clause-blocks
+returns-clause-blocks c = grind (arith, common_steps)
