@@ -6,6 +6,7 @@ pub mod Shelves
 pub mod Linked
 pub mod Low
 pub mod Searched
+pub mod SearchedAbove
 pub mod Alone
 pub mod Numbered
 pub mod Held

@@ -1,8 +1,10 @@
 //! The search for a cycle: whether an open gate, or what depends on it, is among the names that the gate is to depend on.
 //! All on a way down to an open gate waits for one, so that the search looks at nothing else, at each such patch once, and
-//! is left out where nothing depends on the gate, or no name waits for an open gate.
+//! is left out where nothing depends on the gate, or no name waits for an open gate. Mostly one end has far less around it
+//! than the other: so it is looked for from above (`cycle_above`) and from below by turns, each time at eight times as many
+//! patches, until one of them has looked at all there are.
 
-ghost use Rattle.std.specs.Prelude.{◌≡◌, ◌↔◌, ℕ, length, Contains, IsTrue};
+ghost use Rattle.std.specs.Prelude.{◌≡◌, ◌↔◌, ◌<◌, ℕ, false, length, Contains, IfNone, IfSome, IsTrue};
 ghost use Rattle.fst_types.specs.Gates.{IsOpenNumber};
 ghost use Rattle.fst_types.specs.Order.{NamesAbove};
 ghost use Rattle.fst_heads.specs.declared.pending.Pending.TheVariants as pending;
@@ -14,12 +16,18 @@ ghost use Rattle.fst_heads.specs.Nodes.{AreLinked, nodes_of, pending_in};
 ghost use Rattle.fst_walks.specs.Searching.{IsNextHeld, TellsGates};
 ghost use Rattle.fst_walks.specs.Walks.{numbers_met};
 
+use crate::cycle_above::names_above;
 use crate::descent::{is_visited, visit};
 use crate::walk::Walk;
 use fst_heads::head::Head;
 use fst_heads::pending::{Pending, is_pending};
 use fst_heads::row::pending_at;
 use fst_types::PatchNo;
+
+// How many patches each end looks at first, and how often it looks at more before it looks at all.
+const FEW_LOOKS: usize = 64;
+
+const TRIES: u32 = 4;
 
 /// Visits the patch with the number if it waits for an open gate.
 pub fn visit_held(heads: &[Head], walk: &mut Walk, number: u32)
@@ -60,6 +68,31 @@ pub fn visit_row(heads: &[Head], walk: &mut Walk, row: &[u32])
     }
 }
 
+// Visits all that the search meets from what was visited on, or gives up where it would look at more than so many.
+// Answers whether it visited all.
+fn search_within(heads: &[Head], walk: &mut Walk, most: usize) -> bool
+    requires rising { IsRising heads.now }
+    requires visited { Visited heads.now walk.old }
+    requires gates { TellsGates heads.now }
+    ensures visited { Visited heads.now walk.new }
+    ensures led { IsTrue result → (n : ℕ) → Contains (numbers_met heads.now walk.new) n ↔ IsLedFrom (IsNextHeld (patches_of heads.now) (pending_in (nodes_of heads.now))) (numbers_met heads.now walk.old) n }
+    ensures decided { result ≡ false → most < 18446744073709551615 }
+{
+    let mut at = 0;
+    let mut looked = 0usize;
+    while at < walk.len() {
+        let slot = walk.slot(at);
+        let row = heads[slot].dependencies.as_slice();
+        looked = looked.saturating_add(row.len());
+        if looked > most {
+            return false;
+        }
+        visit_row(heads, walk, row);
+        at += 1;
+    }
+    true
+}
+
 /// Visits all that the search meets from what was visited on.
 pub fn search_down(heads: &[Head], walk: &mut Walk)
     requires rising { IsRising heads.now }
@@ -68,27 +101,76 @@ pub fn search_down(heads: &[Head], walk: &mut Walk)
     ensures visited { Visited heads.now walk.new }
     ensures led { (n : ℕ) → Contains (numbers_met heads.now walk.new) n ↔ IsLedFrom (IsNextHeld (patches_of heads.now) (pending_in (nodes_of heads.now))) (numbers_met heads.now walk.old) n }
 {
-    let mut at = 0;
-    while at < walk.len() {
-        let slot = walk.slot(at);
-        visit_row(heads, walk, heads[slot].dependencies.as_slice());
-        at += 1;
-    }
+    // (without a limit it visits all)
+    let _ = search_within(heads, walk, usize::MAX);
 }
 
-// Whether one of the names is the gate or depends on it.
-fn names_reach(heads: &[Head], walk: &mut Walk, gate: u32, names: &[PatchNo]) -> bool
+// Whether one of the names is the gate or depends on it, or none where more than so many patches would have to be looked
+// at.
+fn names_reach(
+    heads: &[Head],
+    walk: &mut Walk,
+    gate: u32,
+    names: &[PatchNo],
+    most: usize,
+) -> Option<bool>
     requires rising { IsRising heads.now }
     requires long { length walk.old.marks ≡ length heads.now }
     requires gates { TellsGates heads.now }
     requires is_open { IsOpenNumber (patches_of heads.now) gate }
-    ensures reaches { IsTrue result ↔ NamesAbove (patches_of heads.now) gate (numbers_of names.now) }
+    ensures reaches { IfSome result (λ reach. IsTrue reach ↔ NamesAbove (patches_of heads.now) gate (numbers_of names.now)) }
+    ensures decided { IfNone result (most < 18446744073709551615) }
     ensures long { length walk.new.marks ≡ length heads.now }
 {
     walk.clear();
     visit_names(heads, walk, names);
-    search_down(heads, walk);
-    is_visited(heads, walk, gate)
+    if !search_within(heads, walk, most) {
+        return None;
+    }
+    Some(is_visited(heads, walk, gate))
+}
+
+// The same from both ends, one after the other.
+fn names_meet(
+    heads: &[Head],
+    walk: &mut Walk,
+    gate: u32,
+    names: &[PatchNo],
+    most: usize,
+) -> Option<bool>
+    requires rising { IsRising heads.now }
+    requires long { length walk.old.marks ≡ length heads.now }
+    requires linked { AreLinked (nodes_of heads.now) }
+    requires gates { TellsGates heads.now }
+    requires is_open { IsOpenNumber (patches_of heads.now) gate }
+    ensures meet { IfSome result (λ meet. IsTrue meet ↔ NamesAbove (patches_of heads.now) gate (numbers_of names.now)) }
+    ensures long { length walk.new.marks ≡ length heads.now }
+{
+    if let Some(above) = names_above(heads, walk, gate, names, most) {
+        return Some(above);
+    }
+    names_reach(heads, walk, gate, names, most)
+}
+
+// The same, from either end by turns until one tells.
+fn names_close(heads: &[Head], walk: &mut Walk, gate: u32, names: &[PatchNo]) -> bool
+    requires rising { IsRising heads.now }
+    requires long { length walk.old.marks ≡ length heads.now }
+    requires linked { AreLinked (nodes_of heads.now) }
+    requires gates { TellsGates heads.now }
+    requires is_open { IsOpenNumber (patches_of heads.now) gate }
+    ensures close { IsTrue result ↔ NamesAbove (patches_of heads.now) gate (numbers_of names.now) }
+    ensures long { length walk.new.marks ≡ length heads.now }
+{
+    let mut most = FEW_LOOKS;
+    for _ in 0..TRIES {
+        if let Some(closes) = names_meet(heads, walk, gate, names, most) {
+            return closes;
+        }
+        most = most.saturating_mul(8);
+    }
+    // Without a limit it tells.
+    names_reach(heads, walk, gate, names, usize::MAX).unwrap()
 }
 
 // Whether one of the names is the gate.
@@ -139,5 +221,5 @@ pub fn closes_cycle(
     if !names_held(heads, names) {
         return false;
     }
-    names_reach(heads, walk, gate, names)
+    names_close(heads, walk, gate, names)
 }

@@ -28,6 +28,7 @@ pub mod below;
 pub mod block_walk;
 pub mod both_ends;
 pub mod cycle;
+pub mod cycle_above;
 pub mod descent;
 pub mod ends;
 pub mod first_away;

@@ -1,4 +1,4 @@
-use Rattle.std.proofs.Common.{◌≡◌, ℕ, Contains, subst}
+use Rattle.std.proofs.Common.{◌≡◌, ℕ, Contains, refl, subst}
 use Rattle.fst_types.specs.Gates.{IsOpenNumber}
 use Rattle.fst_heads.specs.{Heads.patches_of, Names.numbers_of, Nodes.{nodes_of, pending_in}, declared.pending.Pending.Pending}
 use Rattle.fst_walks.specs.{Descending.Visits, Walks.numbers_met}
@@ -15,5 +15,5 @@ returns-clause-reaches c =
     let o = c.requires.is_open in
     let gate : IsOpenNumber (patches_of heads) c.args.gate = record { patch = o.patch; head = o.head; numbered = o.numbered; is_open = o.is_open } in
     let starts = subst (λ q. Visits (λ n. Contains names n × (told n ≡ pending.Held)) q start) (none_met heads c.clear.new.self c.clear.ensures.met) c.visit_names.ensures.visits in
-    let said = searched (patches_of heads) told c.requires.gates.held c.args.gate gate (Contains names) start (numbers_met c.args.heads.now c.search_down.new.walk) starts c.search_down.ensures.led in
+    let said = searched (patches_of heads) told c.requires.gates.held c.args.gate gate (Contains names) start (numbers_met c.args.heads.now c.search_within.new.walk) starts (c.if-not-search_within.ensures.led refl) in
     (λ e. said.0 (c.is_visited.ensures.0 e), λ a. c.is_visited.ensures.1 (said.1 a))

@@ -1,0 +1,81 @@
+//! The search for a cycle from above: all that depends on an open gate waits for it, and is met by a walk up from the gate.
+
+ghost use Rattle.std.specs.Prelude.{◌≡◌, ◌↔◌, ℕ, length, Contains, IfSome, IsTrue};
+ghost use Rattle.fst_types.specs.Gates.{IsOpenNumber};
+ghost use Rattle.fst_types.specs.Order.{NamesAbove};
+ghost use Rattle.fst_heads.specs.Heads.{IsRising, patches_of};
+ghost use Rattle.fst_heads.specs.Names.{numbers_of};
+ghost use Rattle.fst_heads.specs.Nodes.{AreLinked, nodes_of, pending_in};
+ghost use Rattle.fst_walks.specs.Descending.{Visited, IsLedFrom};
+ghost use Rattle.fst_walks.specs.Searching.{IsNextAbove, TellsGates};
+ghost use Rattle.fst_walks.specs.Walks.{numbers_met};
+
+use crate::cycle::{visit_held, visit_row};
+use crate::descent::is_visited;
+use crate::walk::Walk;
+use fst_heads::head::Head;
+use fst_types::PatchNo;
+
+// Visits all that depends on what was visited, or gives up where it would look at more than so many. Answers whether it
+// visited all.
+fn search_up(heads: &[Head], walk: &mut Walk, most: usize) -> bool
+    requires rising { IsRising heads.now }
+    requires visited { Visited heads.now walk.old }
+    requires linked { AreLinked (nodes_of heads.now) }
+    requires gates { TellsGates heads.now }
+    ensures visited { Visited heads.now walk.new }
+    ensures led { IsTrue result → (n : ℕ) → Contains (numbers_met heads.now walk.new) n ↔ IsLedFrom (IsNextAbove (patches_of heads.now) (pending_in (nodes_of heads.now))) (numbers_met heads.now walk.old) n }
+{
+    let mut at = 0;
+    let mut looked = 0usize;
+    while at < walk.len() {
+        let slot = walk.slot(at);
+        let row = heads[slot].dependants.as_slice();
+        looked = looked.saturating_add(row.len());
+        if looked > most {
+            return false;
+        }
+        visit_row(heads, walk, row);
+        at += 1;
+    }
+    true
+}
+
+// Whether one of the names was visited.
+fn names_visited(heads: &[Head], walk: &Walk, names: &[PatchNo]) -> bool
+    requires rising { IsRising heads.now }
+    requires long { length walk.now.marks ≡ length heads.now }
+    ensures { IsTrue result ↔ ((n : ℕ) × Contains (numbers_of names.now) n × Contains (numbers_met heads.now walk.now) n) }
+{
+    for name in names {
+        if is_visited(heads, walk, name.0) {
+            return true;
+        }
+    }
+    false
+}
+
+/// Whether one of the names is the open gate or depends on it, or none where more than so many patches would have to be
+/// looked at. What was met before does not matter.
+pub fn names_above(
+    heads: &[Head],
+    walk: &mut Walk,
+    gate: u32,
+    names: &[PatchNo],
+    most: usize,
+) -> Option<bool>
+    requires rising { IsRising heads.now }
+    requires long { length walk.old.marks ≡ length heads.now }
+    requires linked { AreLinked (nodes_of heads.now) }
+    requires gates { TellsGates heads.now }
+    requires is_open { IsOpenNumber (patches_of heads.now) gate }
+    ensures above { IfSome result (λ above. IsTrue above ↔ NamesAbove (patches_of heads.now) gate (numbers_of names.now)) }
+    ensures long { length walk.new.marks ≡ length heads.now }
+{
+    walk.clear();
+    visit_held(heads, walk, gate);
+    if !search_up(heads, walk, most) {
+        return None;
+    }
+    Some(names_visited(heads, walk, names))
+}
