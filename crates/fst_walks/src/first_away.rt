@@ -49,6 +49,7 @@ fn walk_away(heads: &[Head], walk: &mut Walk, block: u32, most: usize) -> usize
     requires rising { IsRising heads.now }
     requires visited { Visited heads.now walk.old }
     ensures visited { Visited heads.now walk.new }
+    ensures only { (n : ℕ) → Contains (numbers_met heads.now walk.new) n → IsLedFrom (StepsAway (patches_of heads.now) block) (numbers_met heads.now walk.old) n }
     ensures led { result ≤ most → (n : ℕ) → Contains (numbers_met heads.now walk.new) n ↔ IsLedFrom (StepsAway (patches_of heads.now) block) (numbers_met heads.now walk.old) n }
 {
     let mut at = 0;
@@ -63,8 +64,9 @@ fn walk_away(heads: &[Head], walk: &mut Walk, block: u32, most: usize) -> usize
     looked
 }
 
-/// Visits the first changes of other blocks at or below the row, and nothing else, or stops once it has looked at more
-/// patches below the row than `most`. Answers at how many it looked. What was met before does not matter.
+/// Visits the first changes of other blocks at or below the row, and nothing else, or some of them, where it stops once it
+/// has looked at more patches below the row than `most`. Answers at how many it looked. What was met before does not
+/// matter.
 pub fn visit_first_away(
     heads: &[Head],
     walk: &mut Walk,
@@ -75,6 +77,7 @@ pub fn visit_first_away(
     requires rising { IsRising heads.now }
     requires long { length walk.old.marks ≡ length heads.now }
     ensures visited { Visited heads.now walk.new }
+    ensures only { (n : ℕ) → Contains (numbers_met heads.now walk.new) n → IsFirstAway (patches_of heads.now) block row.now n }
     ensures first { result ≤ most → (n : ℕ) → Contains (numbers_met heads.now walk.new) n ↔ IsFirstAway (patches_of heads.now) block row.now n }
 {
     walk.clear();

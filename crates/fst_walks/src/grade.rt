@@ -29,6 +29,34 @@ use fst_types::Grade;
 // mostly ends at once, and long chains down would be followed for nothing.
 const FEW_LOOKS: usize = 128;
 
+// How many patches are looked at first for the first changes of other blocks, and how often they are looked for at more
+// before they are looked for at all.
+const FIRST_LOOKS: usize = 1_024;
+
+const TRIES: u32 = 2;
+
+// What keeps a new change of the block with that row soft but for open gates, by searches from both ends. What was met and
+// crossed before does not matter.
+fn grade_at_last(sight: &Sight<'_>, ends: &mut Ends, block: u32, row: &[u32]) -> Grade
+    requires sees { Sees sight.now }
+    requires up { IsOver sight.now.heads.now (length sight.now.lists.now) ends.old.up }
+    requires down { IsOver sight.now.heads.now (length sight.now.lists.now) ends.old.down }
+    requires block { block < length sight.now.lists.now }
+    ensures graded { FollowsRule result (LeadsNowhere (patches_of sight.now.heads.now) block row.now) }
+    ensures up { IsOver sight.now.heads.now (length sight.now.lists.now) ends.new.up }
+    ensures down { IsOver sight.now.heads.now (length sight.now.lists.now) ends.new.down }
+{
+    let mut first = FIRST_LOOKS;
+    for _ in 0..TRIES {
+        if let Some(grade) = grade_between(sight, ends, block, row, first, usize::MAX) {
+            return grade;
+        }
+        first = first.saturating_mul(8);
+    }
+    // Without a limit it tells the grade.
+    grade_between(sight, ends, block, row, usize::MAX, usize::MAX).unwrap()
+}
+
 // What keeps a new change of the block with that row soft but for open gates. What was met and crossed before does not
 // matter.
 fn grade_by_ways(sight: &Sight<'_>, ends: &mut Ends, block: u32, row: &[u32]) -> Grade
@@ -55,14 +83,13 @@ fn grade_by_ways(sight: &Sight<'_>, ends: &mut Ends, block: u32, row: &[u32]) ->
     if let Some(grade) = grade_below(sight, &mut ends.down, block, row) {
         return grade;
     }
-    if let Some(grade) = grade_between(sight, ends, block, row, FEW_LOOKS) {
+    if let Some(grade) = grade_between(sight, ends, block, row, FEW_LOOKS, FEW_LOOKS) {
         return grade;
     }
     if comes_back(sight, block, row) {
         return Grade::Soft;
     }
-    // Without a limit it tells the grade.
-    grade_between(sight, ends, block, row, usize::MAX).unwrap()
+    grade_at_last(sight, ends, block, row)
 }
 
 /// The grade of a new change of the block that directly depends on the row, where that gate is taken as sealed. What was

@@ -23,3 +23,14 @@ returns-clause-led c few =
     let heads = c.args.heads.now in
     climbing_all (StepsAway (patches_of heads) c.args.block) (numbers_met heads c.args.walk.now) c.loop-at.at (numbers_met heads c.loop-at.walk)
     (omega (arith, c.loop-at-test.false, c.len.ensures.long, long_met heads c.loop-at.walk)) c.loop-at.invariant.climbing
+
+pub returns-clause-only : goal.returns-clause-only
+returns-clause-only c = c.loop-at.invariant.climbing.only
+
+pub returns-then-looked-most-clause-only : goal.returns-then-looked-most-clause-only
+returns-then-looked-most-clause-only c =
+    let heads = c.args.heads.now in
+    let walk = c.loop-at.walk in
+    let at = c.loop-at.at in
+    let lt : at < length walk.met = omega (arith, c.loop-at-test.true, c.len.ensures.long) in
+    (climbing_more (StepsAway (patches_of heads) c.args.block) (numbers_met heads c.args.walk.now) at (numbers_met heads walk) (numbers_met heads c.step_away.new.walk) (omega (arith, lt, long_met heads walk)) c.loop-at.invariant.climbing c.step_away.ensures.visits).only
