@@ -3,9 +3,10 @@
 //! block, and no block from which the block graph leads to its block. What is near the change mostly tells it, and their
 //! levels do where all that it depends on is below the floor of its block. Else the ancestors of what the change depends
 //! on may lead back to the block, or a chain within a few steps; or a short walk down may tell, or a short search from both
-//! ends, or longer chains, and only where none does a way back is looked for from both ends without a limit. Over a block
-//! whose changes are all on disk no search is needed. A gate that is sealed with the change is taken as sealed already:
-//! that sets free what it alone blocks, and moves no change and no dependency.
+//! ends, or longer chains, and only where none does a way back is looked for from both ends without a limit: where very
+//! many changes of other blocks are the first on the way down, from some of them before all. Over a block whose changes are
+//! all on disk no search is needed. A gate that is sealed with the change is taken as sealed already: that sets free what it
+//! alone blocks, and moves no change and no dependency.
 
 ghost use Rattle.std.specs.Prelude.{◌<◌, length};
 ghost use Rattle.fst_types.specs.Grades.{FollowsRule};
@@ -32,7 +33,6 @@ const FEW_LOOKS: usize = 128;
 // How many patches are looked at first for the first changes of other blocks, and how often they are looked for at more
 // before they are looked for at all.
 const FIRST_LOOKS: usize = 1_024;
-
 const TRIES: u32 = 2;
 
 // What keeps a new change of the block with that row soft but for open gates, by searches from both ends. What was met and
