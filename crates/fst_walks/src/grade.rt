@@ -33,6 +33,7 @@ const FEW_LOOKS: usize = 128;
 // How many patches are looked at first for the first changes of other blocks, and how often they are looked for at more
 // before they are looked for at all.
 const FIRST_LOOKS: usize = 1_024;
+
 const TRIES: u32 = 2;
 
 // What keeps a new change of the block with that row soft but for open gates, by searches from both ends. What was met and
