@@ -2,8 +2,8 @@
 //! from the first changes of other blocks at or below a row. A new change of the block over the row is soft exactly where
 //! such a way is there, and the walks meet where it is; it is hard where one of them comes to its end and they have not
 //! met. The one that has looked at less takes the next step, since mostly one end has far less around it than the other. The
-//! search gives up once both have looked at more patches than its limit, if it has one. Where gates stand in a chain there are
-//! first changes of other blocks all along it, of which some are enough to find a way.
+//! search gives up once both have looked at more patches than its limit, if it has one. Where gates stand in a chain there
+//! are first changes of other blocks all along it, of which some are enough to find a way.
 
 ghost use Rattle.std.specs.Prelude.{◌≡◌, ◌⊎◌, ◌≤◌, ◌<◌, ℕ, false, length, Contains, IfNone, IfSome, IsTrue, slice_index_or};
 ghost use Rattle.fst_types.specs.Grades.{FollowsRule};
