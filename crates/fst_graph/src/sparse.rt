@@ -181,6 +181,8 @@ impl Sparse {
         seal_slot(&mut self.heads, &mut self.queue, gate.0, slot);
         let landed = cascade(&mut self.heads, &mut self.queue, &mut self.standings);
         self.levels.settle(&self.heads, slot);
+        // The tail gate of a group gained its changes without a look at its ancestors, and gains no more.
+        renew(&mut self.levels, &self.heads, gate.0);
         self.live -= landed;
         self.unmarked = 0;
         Ok(())

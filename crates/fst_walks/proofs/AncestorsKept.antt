@@ -1,5 +1,5 @@
 -- What keeps ancestors: the same patches later or fewer of them, a gate that gains names or has other ancestors, and a patch more.
-use Rattle.std.proofs.Common.{◌≡◌, ◌≢◌, ◌≤◌, ◌<◌, ◌+◌, ◌++◌, ◌∷◌, [], ℕ, List, filter, map, Contains, refl, sym, ap, subst, ◌∙◌, inl, inr, arith}
+use Rattle.std.proofs.Common.{◌≡◌, ◌≢◌, ◌<◌, ◌+◌, ◌++◌, ◌∷◌, [], ℕ, List, filter, map, Contains, refl, sym, ap, subst, ◌∙◌, inl, inr, arith}
 use Rattle.std.proofs.lemmas.{Bool.cases_eq, List.Elements.{Contains-push, Contains-push_cases}}
 use Rattle.fst_types.specs.{Closure.{one, join}, Dependencies.{DependsOn, DirectlyOn}, Facts.{HasOnePlaceEach, IsOnDiskWithAll}, Gating.gains, Patches.{IsLive, Patch}, Tests.is_live}
 use Rattle.fst_types.proofs.{Alike.{Alike, back_alike}, Dropping.filter_in, Finite.{Contains-from_In, In-from_Contains}}

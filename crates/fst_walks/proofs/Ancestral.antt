@@ -1,8 +1,8 @@
 -- What ancestors lead to, and which a patch over a row may have.
 use Rattle.std.proofs.Common.{◌≡◌, ◌≤◌, ◌<◌, ◌⊎◌, ◌∷◌, [], ◌∙◌, ℕ, List, map, Contains, refl, sym, ap, subst, inl, inr, arith, ne_eqb}
 use Rattle.std.proofs.lemmas.Bool.{cases_eq}
-use Rattle.fst_types.specs.{Closure.{one, join}, Dependencies.DependsOn, Patches.{Patch, IsRising, IsOn}}
-use Rattle.fst_types.proofs.{Crash.same_number, Finite.{Contains-from_In, In-from_Contains}}
+use Rattle.fst_types.specs.{Closure.{join}, Dependencies.DependsOn, Patches.{Patch, IsRising, IsOn}}
+use Rattle.fst_types.proofs.{Crash.same_number, Finite.{Contains-from_In, In-from_Contains, first_step}}
 use Rattle.fst_heads.specs.{Grading.{HasUnder, IsReturning}, Marks.PassesAt}
 use Rattle.fst_heads.proofs.{Graded.{off_from, on_from}, Leading.one_block}
 use Rattle.fst_walks.specs.{Ancestors.{AreOver, GoesUnder, LeadsTo, MayStandUnder}, Leveling.{jump_of, kept_under, no_ancestry}, declared.levels.{Ancestry.Ancestry, Rank.Rank}}
@@ -27,6 +27,15 @@ known_or_none (p ∷ ps) (r ∷ rs) aligned kept n =
 -- a patch leads to itself
 pub leads_here : (patches : List Patch) (p : ℕ) → LeadsTo patches p p
 leads_here patches p q h e = inl refl
+
+-- what leads to one that leads to a patch leads to it
+pub leads_on : (patches : List Patch) (p m n : ℕ) → LeadsTo patches p m → LeadsTo patches m n → LeadsTo patches p n
+leads_on patches p m n upper lower q h e = elim (lower q h e) [
+  | inl same ↦ subst (λ k. (p ≡ k) ⊎ DependsOn patches p k) same (upper q h (e ∙ sym same))
+  | inr path ↦
+      let d = (first_step m n path).1 in
+      elim (upper d.patch d.head d.numbered) [ inl same ↦ inr (subst (λ k. DependsOn patches k n) (sym same) path) | inr more ↦ inr (join more path) ]
+]
 
 -- no patch has the number 0
 none_zero : (patches : List Patch) (above : ℕ → ℕ) → AreOver patches above → (q : Patch) → Contains patches q → 0 ≡ q.number → ⊥

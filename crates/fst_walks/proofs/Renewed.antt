@@ -1,9 +1,9 @@
 -- Levels stay right where a patch has other ancestors, in its row or below.
-use Rattle.std.proofs.Common.{◌≡◌, ◌≢◌, ◌≤◌, ◌∙◌, ℕ, List, length, map, get_or, refl, sym, ap, subst, arith}
+use Rattle.std.proofs.Common.{◌≡◌, ◌≢◌, ◌∙◌, ℕ, List, length, map, get_or, sym, ap, subst, arith}
 use Rattle.fst_heads.specs.{Heads.{IsRising, patch_of, patches_of}, Marks.HasSlot, declared.head.Head.Head}
-use Rattle.fst_heads.proofs.Slots.{patch_at, some_element}
+use Rattle.fst_heads.proofs.Slots.{patch_at}
 use Rattle.fst_types.specs.Patches.{Patch}
-use Rattle.fst_walks.specs.{Ancestors.{AreOver, GoesUnder, MayStandUnder}, Leveling.{IsLeveled, Leveling, floor_of, jump_of, level_of, parent_of}, declared.levels.{Ancestry.Ancestry, Rank.Rank}}
+use Rattle.fst_walks.specs.{Ancestors.{GoesUnder, MayStandUnder}, Leveling.{IsLeveled, Leveling, floor_of, jump_of, level_of, parent_of}, declared.levels.{Ancestry.Ancestry, Rank.Rank}}
 use Rattle.fst_walks.proofs.{AncestorsKept.over_renewed, LeveledKept.fewer_leveled, Raised.kept_as, Ranked.{no_rank, rank_number}}
 
 module _ (heads : List Head) (rising : IsRising heads) (blocks : ℕ) (old new : Leveling) (x : IsLeveled (patches_of heads) blocks old) (n slot : ℕ) (at : HasSlot heads n slot) (ancestry : Ancestry)

@@ -1,8 +1,12 @@
 //! Ancestors: what tells in few steps that a way leads down from one patch to another, however long it is. Each head knows
-//! its parent, the newest of what it directly depended on when it was made or last gained names, and one ancestor further
-//! down that way, its jump. The jumps are those of Myers ("An applicative random-access stack", 1983): two of equal length
-//! are joined to one, so that the ancestor at a depth is some dozens of steps away, whatever lies between. An ancestor is
-//! older than its patch; one that was forgotten is none.
+//! its parent, the newest of what it directly depended on when it was made, last gained names or was sealed, and one ancestor
+//! further down that way, its jump. The jumps are those of Myers ("An applicative random-access stack", 1983): two of equal
+//! length are joined to one, so that the ancestor at a depth is some dozens of steps away, whatever lies between. An ancestor
+//! is older than its patch; one that was forgotten is none.
+//!
+//! Where many patches come after one gate and the next gate after all of them, one of them alone is an ancestor, or none: the
+//! tail gate of a group is older than its changes, and its parent is its head gate. So a change is looked for by the gate that
+//! comes after it, and the first change of another block beside the ancestors too.
 
 ghost use Rattle.std.specs.Prelude.{◌≡◌, ◌<◌, ◌⊎◌, ℕ, IsTrue, IfSome, Contains, length, map};
 ghost use Rattle.fst_types.specs.Dependencies.{DependsOn};
@@ -15,9 +19,9 @@ ghost use Rattle.fst_walks.specs.Leveling.{IsLeveled, jump_of, parent_of};
 ghost use Rattle.fst_walks.specs.Sights.{Sees};
 
 use crate::levels::{Ancestry, Levels, Rank, no_ancestry};
-use crate::shortcuts::{newest, newest_few, passes_at};
+use crate::shortcuts::{first, newest, newest_few, passes_at, row_below};
 use crate::sight::Sight;
-use fst_heads::head::Head;
+use fst_heads::head::{Head, Kind};
 use fst_heads::lists::Listed;
 use fst_heads::test::Test;
 
@@ -54,6 +58,20 @@ fn jump_under(levels: &Levels, heads: &[Head], parent: u32) -> u32
     }
 }
 
+// The parent of the patch with the number over that row: the newest of it, or where that is no older than the patch the first.
+// The tail gate of a group depends on its head gate first, and then on changes that are made after both.
+fn parent_in(row: &[u32], number: u32) -> Option<u32>
+    ensures named { IfSome result (Contains row.now) }
+    ensures older { IfSome result (λ p. p < number) }
+{
+    let last = newest(row)?;
+    if last < number {
+        return Some(last);
+    }
+    let first = first(row)?;
+    if first < number { Some(first) } else { None }
+}
+
 /// The ancestry of the patch with the number, which directly depends on the row.
 pub fn ancestry_over(levels: &Levels, heads: &[Head], row: &[u32], number: u32) -> Ancestry
     requires rising { IsRising heads.now }
@@ -62,12 +80,9 @@ pub fn ancestry_over(levels: &Levels, heads: &[Head], row: &[u32], number: u32) 
     requires given { 0 < number }
     ensures { GoesUnder (patches_of heads.now) number row.now result }
 {
-    let Some(parent) = newest(row) else {
+    let Some(parent) = parent_in(row, number) else {
         return no_ancestry();
     };
-    if parent >= number {
-        return no_ancestry();
-    }
     let above = levels.rank_of(heads, parent).ancestry.depth;
     Ancestry {
         parent,
@@ -125,7 +140,25 @@ fn comes_to(sight: &Sight<'_>, from: u32, to: u32, depth: u32) -> bool
     false
 }
 
-// The first change of another block that is not on disk among the patch and its next ancestors.
+// The patch with the number, or else one of the newest that it directly depends on, if that is a change of another block that
+// is not on disk. Below the tail gate of a group there are such, and none is its ancestor.
+fn off_at(sight: &Sight<'_>, block: u32, number: u32) -> Option<u32>
+    requires sees { Sees sight.now }
+    ensures off { IfSome result (PassesAt (test.LiveOff block) (patches_of sight.now.heads.now)) }
+    ensures under { IfSome result (LeadsTo (patches_of sight.now.heads.now) number) }
+{
+    if passes_at(sight.heads, Test::LiveOff(block), number) {
+        return Some(number);
+    }
+    for below in newest_few(row_below(sight.heads, number), WIDTH) {
+        if passes_at(sight.heads, Test::LiveOff(block), *below) {
+            return Some(*below);
+        }
+    }
+    None
+}
+
+// The first change of another block that is not on disk at the patch or its next ancestors.
 fn first_off(sight: &Sight<'_>, block: u32, number: u32) -> Option<u32>
     requires sees { Sees sight.now }
     ensures off { IfSome result (PassesAt (test.LiveOff block) (patches_of sight.now.heads.now)) }
@@ -133,8 +166,8 @@ fn first_off(sight: &Sight<'_>, block: u32, number: u32) -> Option<u32>
 {
     let mut at = number;
     for _ in 0..FEW {
-        if passes_at(sight.heads, Test::LiveOff(block), at) {
-            return Some(at);
+        if let Some(off) = off_at(sight, block, at) {
+            return Some(off);
         }
         at = sight.levels.rank_of(sight.heads, at).ancestry.parent;
     }
@@ -151,23 +184,27 @@ fn newest_changes<'a>(sight: &Sight<'a>, block: u32) -> &'a [Listed]
     &list[list.len().saturating_sub(NEWEST)..]
 }
 
-// The depth of the patch with the number, if it may be an ancestor of one with that rank: something depends on it, and it is
-// no higher and not as deep.
-fn depth_above(sight: &Sight<'_>, own: Rank, number: u32) -> Option<u32>
+// Who is looked for among the ancestors of a patch with that rank in the place of a change, and how deep that is: the first
+// that directly depends on the change, where that is a gate or an empty patch, else the change itself. None where the change
+// is higher or as deep, or nothing depends on it.
+fn stand_in(sight: &Sight<'_>, own: Rank, change: u32) -> Option<(u32, u32)>
     requires sees { Sees sight.now }
+    ensures { IfSome result (λ s. LeadsTo (patches_of sight.now.heads.now) s.0 change) }
 {
-    let slot = sight.levels.find(sight.heads, number)?;
-    let rank = sight.levels.rank_of(sight.heads, number);
-    if rank.level > own.level
-        || rank.ancestry.depth >= own.ancestry.depth
-        || sight.heads[slot].dependants.is_empty()
-    {
+    let slot = sight.levels.find(sight.heads, change)?;
+    let rank = sight.levels.rank(slot);
+    if rank.level > own.level || rank.ancestry.depth >= own.ancestry.depth {
         return None;
     }
-    Some(rank.ancestry.depth)
+    let first = first(sight.heads[slot].dependants.as_slice())?;
+    let over = sight.levels.find(sight.heads, first)?;
+    if let Kind::Change(_, _, _) = sight.heads[over].kind {
+        return Some((change, rank.ancestry.depth));
+    }
+    Some((first, sight.levels.rank(over).ancestry.depth))
 }
 
-// Whether one of these changes is an ancestor of the patch with the number, of as many as are tried.
+// Whether the ancestors of the patch with the number lead to one of these changes, of as many as are tried.
 fn leads_to_one(sight: &Sight<'_>, number: u32, changes: &[Listed]) -> bool
     requires sees { Sees sight.now }
     ensures { IsTrue result → (n : ℕ) × Contains (map (λ l. l.number) changes.now) n × LeadsTo (patches_of sight.now.heads.now) number n }
@@ -175,12 +212,12 @@ fn leads_to_one(sight: &Sight<'_>, number: u32, changes: &[Listed]) -> bool
     let own = sight.levels.rank_of(sight.heads, number);
     let mut left = TRIED;
     for change in changes {
-        if let Some(depth) = depth_above(sight, own, change.number) {
+        if let Some((to, depth)) = stand_in(sight, own, change.number) {
             if left == 0 {
                 return false;
             }
             left -= 1;
-            if comes_to(sight, number, change.number, depth) {
+            if comes_to(sight, number, to, depth) {
                 return true;
             }
         }

@@ -201,8 +201,8 @@ impl Levels {
         self.ranks[slot].level
     }
 
-    // The rank of the head in the slot.
-    fn rank(&self, slot: usize) -> Rank
+    /// The rank of the head in the slot.
+    pub fn rank(&self, slot: usize) -> Rank
         requires { slot < length self.now.ranks }
         ensures { (d : Rank) → result ≡ slice_index_or self.now.ranks slot d }
     {

@@ -140,6 +140,16 @@ pub fn newest(row: &[u32]) -> Option<u32>
     }
 }
 
+/// The first of the row.
+pub fn first(row: &[u32]) -> Option<u32>
+    ensures { IfSome result (Contains row.now) }
+{
+    match row {
+        [first, ..] => Some(*first),
+        [] => None,
+    }
+}
+
 // The first of the row that is not before the number.
 fn not_before(row: &[u32], number: u32) -> Option<u32>
     ensures { IfSome result (Contains row.now) }

@@ -1,6 +1,8 @@
-use Rattle.std.proofs.Common.{◌≡◌, map, get_or, Contains, subst, arith, length}
+use Rattle.std.proofs.Common.{map, get_or, Contains, subst, arith}
 use Rattle.std.proofs.lemmas.List.{Elements.Contains-get_or, get_or-map, length-map}
 use Rattle.fst_heads.specs.declared.lists.Listed.{Listed}
+use Rattle.fst_heads.specs.Heads.{patches_of}
+use Rattle.fst_walks.proofs.Ancestral.{leads_on}
 use Rattle.fst_walks.proofs.ancestors.leads_to_one.Goals as goal
 
 pub returns-then-comes_to : goal.returns-then-comes_to
@@ -11,4 +13,4 @@ returns-then-comes_to c told =
     let number = λ (l : Listed). l.number in
     let inside = c.loop-change-test.true in
     let there = subst (Contains (map number list)) (get_or-map number list i none 0 inside) (Contains-get_or (map number list) i 0 (omega (arith, inside, length-map list number))) in
-    ((get_or list i none).number, there, c.comes_to.ensures c.if-comes_to.true)
+    ((get_or list i none).number, there, leads_on (patches_of c.args.sight.now.heads.now) c.args.number c.in-Some.to (get_or list i none).number (c.comes_to.ensures c.if-comes_to.true) c.in-Some.ensures)

@@ -1,4 +1,4 @@
-use Rattle.std.proofs.Common.{◌≡◌, ◌∙◌, map, Contains, take, drop, length, subst, sym, ap, arith}
+use Rattle.std.proofs.Common.{◌≡◌, ◌∙◌, map, Contains, take, drop, subst, sym, ap}
 use Rattle.std.proofs.lemmas.{List.{Elements.Contains-append_right, map-append, take-append-drop, take_rest}}
 use Rattle.fst_heads.specs.{Heads.patches_of, Lists.{entries_of, entries_on}, declared.lists.Listed.Listed}
 use Rattle.fst_heads.proofs.Listing.{listed_at}

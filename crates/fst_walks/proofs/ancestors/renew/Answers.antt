@@ -1,6 +1,6 @@
 use Rattle.std.proofs.lemmas.Grind.{common_steps}
 use Rattle.fst_walks.proofs.{Ranked.ranks_rise, Renewed.renewed_is_leveled}
-use Rattle.std.proofs.Common.{◌≡◌, length, ap, subst, sym, arith}
+use Rattle.std.proofs.Common.{length, ap, subst, sym, arith}
 use Rattle.fst_heads.specs.Heads.{patches_of}
 use Rattle.fst_walks.specs.Leveling.{IsLeveled}
 use Rattle.fst_walks.proofs.ancestors.renew.Goals as goal

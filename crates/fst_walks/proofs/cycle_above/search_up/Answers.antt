@@ -1,6 +1,6 @@
 use Rattle.std.proofs.Common.{◌<◌, ℕ, length, get_or, Contains, sym, subst, arith}
 use Rattle.std.proofs.lemmas.Grind.{common_steps}
-use Rattle.fst_heads.specs.{Heads.patches_of, Nodes.{node_of, nodes_of, patches_in, pending_in}, declared.head.Head.Head, declared.pending.Pending.Pending}
+use Rattle.fst_heads.specs.{Heads.patches_of, Nodes.{node_of, nodes_of, pending_in}, declared.head.Head.Head, declared.pending.Pending.Pending}
 use Rattle.fst_heads.proofs.{AtNumber.patches_in_nodes, PendingAt.node_in, Slots.any_default}
 use Rattle.fst_walks.specs.{Descending.Visits, Searching.IsNextAbove, Walks.numbers_met}
 use Rattle.fst_walks.proofs.{Ascended.{climbing_more, climbing_all}, SearchedAbove.{above_from, above_to}, Visiting.{long_met, slot_met, visits_same}}

@@ -1,4 +1,4 @@
-use Rattle.std.proofs.Common.{rules, ◌∙◌, length, subst, arith, refl}
+use Rattle.std.proofs.Common.{rules, ◌∙◌, length, sym, subst, ap, arith, refl}
 use Rattle.fst_types.specs.{Gates.IsOpenNumber, Order.seal_order, Refusals.NoneHolds}
 use Rattle.fst_heads.specs.{Heads.patches_of, Marks.HasSlot, Nodes.nodes_of}
 use Rattle.fst_walks.specs.Leveling.{IsLeveled}
@@ -37,7 +37,12 @@ overflow_sub-self c =
 pub invariant_of-self-2 : goal.invariant_of-self-2
 invariant_of-self-2 c =
     let C = c.cascade-landed.ensures in
-    rw c.let_go.ensures (shut_sound c.self.invariant (gate (goal.at.invariant_of-self-2 c).After-seal_slot) c.seal_slot.new.heads c.seal_slot.ensures.nodes c.cascade-landed.new.heads C.placed c.cascade-landed.result C.settled C.landed (subst (λ hs. IsLeveled (patches_of hs) (length c.self.inside.levels.floors) c.settle.new.self) c.deref-2.ensures.value c.settle.ensures.leveled) C.spread C.standing C.empty (C.capacity ∙ c.seal_slot.ensures.capacity))
+    let patches = patches_of c.cascade-landed.new.heads.items in
+    let floors = length c.self.inside.levels.floors in
+    let lowered = subst (λ hs. IsLeveled (patches_of hs) floors c.settle.new.self) c.deref-2.ensures.value c.settle.ensures.leveled in
+    let renewed = subst (λ hs. IsLeveled (patches_of hs) (length c.renew.new.levels.floors) c.renew.new.levels) c.deref-3.ensures.value c.renew.ensures.leveled in
+    let leveled = subst (λ n. IsLeveled patches n c.renew.new.levels) (ap length c.renew.ensures.floors ∙ lowered.long) renewed in
+    rw c.let_go.ensures (shut_sound c.self.invariant (gate (goal.at.invariant_of-self-2 c).After-seal_slot) c.seal_slot.new.heads c.seal_slot.ensures.nodes c.cascade-landed.new.heads C.placed c.cascade-landed.result C.settled C.landed leveled C.spread C.standing C.empty (C.capacity ∙ c.seal_slot.ensures.capacity))
 
 pub returns-clause-ok : goal.returns-clause-ok
 returns-clause-ok c =
@@ -51,3 +56,19 @@ returns-clause-ok c =
       groups = refl;
       prepared = refl;
     })
+
+pub renew-requires-clause-rising : goal.renew-requires-clause-rising
+renew-requires-clause-rising c =
+    let at = (goal.at.renew-requires-clause-rising c).After-seal_slot in
+    rw c.deref-3.ensures.value (shut_settles c.self.invariant (gate at) c.seal_slot.new.heads c.seal_slot.ensures.nodes c.cascade-landed.new.heads c.cascade-landed.ensures.placed (subst (λ hs. HasSlot hs c.args.gate.0 c.in-Ok.slot) c.deref.ensures.value c.in-Ok.ensures.slot)).rising
+
+pub renew-requires-clause-leveled : goal.renew-requires-clause-leveled
+renew-requires-clause-leveled c =
+    let lowered = subst (λ hs. IsLeveled (patches_of hs) (length c.self.inside.levels.floors) c.settle.new.self) c.deref-2.ensures.value c.settle.ensures.leveled in
+    rw c.deref-3.ensures.value (subst (λ n. IsLeveled (patches_of c.cascade-landed.new.heads.items) n c.settle.new.self) (sym lowered.long) lowered)
+
+pub renew-requires-clause-given : goal.renew-requires-clause-given
+renew-requires-clause-given c =
+    let g = gate (goal.at.renew-requires-clause-given c).After-seal_slot in
+    let k = (c.self.invariant.keeps.lawful.one_place_each.numbered g.patch g.head).0 in
+    omega (arith, k, g.numbered)

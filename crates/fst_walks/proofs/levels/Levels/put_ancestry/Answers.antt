@@ -1,4 +1,4 @@
-use Rattle.std.proofs.{Common.{◌≡◌, ◌<◌, ◌∙◌, AllPairs, ap, get_or, length, subst, sym}, Math.Seq.map-set_same}
+use Rattle.std.proofs.{Common.{◌≡◌, ◌<◌, ◌∙◌, ap, get_or, length, subst, sym}, Math.Seq.map-set_same}
 use Rattle.fst_walks.specs.{Leveling.Leveling, declared.levels.{Ancestry.Ancestry, Rank.Rank}}
 use Rattle.fst_heads.proofs.Slots.{any_default}
 use Rattle.fst_walks.proofs.Raised.{AreRanked, kept_beside, kept_here}
