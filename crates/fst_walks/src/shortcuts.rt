@@ -2,7 +2,7 @@
 //! where none of this does: a change behind a gate, a chain on one block, a chain over a few blocks and a change over a
 //! block that holds nothing back need none.
 
-ghost use Rattle.std.specs.Prelude.{◌≡◌, ◌<◌, ◌↔◌, ◌&&◌, ℕ, List, IsTrue, IfSome, Contains, length};
+ghost use Rattle.std.specs.Prelude.{◌≡◌, ◌≤◌, ◌<◌, ◌↔◌, ◌&&◌, ℕ, List, IsTrue, IfSome, Contains, length};
 ghost use Rattle.fst_types.specs.Closure.{IsAcyclic};
 ghost use Rattle.fst_types.specs.Dependencies.{DirectlyOn};
 ghost use Rattle.fst_types.specs.Facts.{IsOnDiskWithAll};
@@ -185,7 +185,8 @@ pub fn row_below(heads: &[Head], number: u32) -> &[u32]
 
 /// The newest of the row, no more than `most`.
 pub fn newest_few(row: &[u32], most: usize) -> &[u32]
-    ensures { (q : ℕ) → Contains result.now q → Contains row.now q }
+    ensures only { (q : ℕ) → Contains result.now q → Contains row.now q }
+    ensures all { length row.now ≤ most → result.now ≡ row.now }
 {
     &row[row.len().saturating_sub(most)..]
 }

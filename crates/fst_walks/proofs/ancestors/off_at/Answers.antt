@@ -7,4 +7,4 @@ pub returns-then-passes_at-2-clause-under : goal.returns-then-passes_at-2-clause
 returns-then-passes_at-2-clause-under c q h e =
     let few = c.newest_few-below-items.result.now in
     let i = c.loop-below.below-index in
-    inr (one (c.row_below.ensures (get_or few i 0) (c.newest_few-below-items.ensures (get_or few i 0) (Contains-get_or few i 0 (omega (arith, c.loop-below-test.true))))))
+    inr (one (c.row_below.ensures (get_or few i 0) (c.newest_few-below-items.ensures.only (get_or few i 0) (Contains-get_or few i 0 (omega (arith, c.loop-below-test.true))))))

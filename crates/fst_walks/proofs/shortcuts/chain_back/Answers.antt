@@ -17,7 +17,7 @@ returns-then-has_change c e =
       | else-away w ↦ inr (w.passes_at-away.ensures.0 (sym w.away-is ∙ c.if-away-2.true))
     ] in
     let back = c.has_change.ensures c.if-has_change.true in
-    let direct = c.row_below-below.ensures back.0 (c.newest_few-few.ensures back.0 back.1) in
+    let direct = c.row_below-below.ensures back.0 (c.newest_few-few.ensures.only back.0 back.1) in
     path_back patches b row back.0 (path_next patches b row c.loop.away true n back.0 path direct (λ t. left)) back.2
 
 pub loop-preserved : goal.loop-preserved
