@@ -16,6 +16,7 @@ use crate::refusals::member_fault;
 use crate::sparse::Sparse;
 use fst_heads::cascade::{cascade, seal_slot};
 use fst_types::{BlockNo, Fault, Grade, PatchNo, Span};
+use fst_walks::ancestors::renew;
 use fst_walks::sight::Sight;
 
 impl Sparse {
@@ -96,6 +97,8 @@ impl Sparse {
                 seal_slot(&mut self.heads, &mut self.queue, head, slot);
                 let landed = cascade(&mut self.heads, &mut self.queue, &mut self.standings);
                 self.levels.settle(&self.heads, slot);
+                // The gates below the head may have had other ancestors when it was put after them.
+                renew(&mut self.levels, &self.heads, head);
                 self.live -= landed;
                 self.unmarked = 0;
             }

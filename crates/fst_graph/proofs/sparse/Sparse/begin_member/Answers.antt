@@ -1,4 +1,4 @@
-use Rattle.std.proofs.{Common.{rules, ◌≡◌, ◌∙◌, length, ap, subst, arith, refl, inl, inr}, lemmas.List.length-map}
+use Rattle.std.proofs.{Common.{rules, ◌≡◌, ◌∙◌, length, sym, ap, subst, arith, refl, inl, inr}, lemmas.List.length-map}
 use Rattle.fst_types.specs.{Gates.IsOpenNumber, Order.seal_order, Refusals.IsFirst}
 use Rattle.fst_heads.specs.{Frames.{frame_of, frames_of}, Heads.patches_of, Marks.HasSlot, Nodes.nodes_of}
 use Rattle.fst_graph.specs.Sound.{IsPrepared}
@@ -29,6 +29,22 @@ settle-requires c =
     let at = (goal.at.settle-requires c).After-seal_slot in
     rw c.deref-in-Ok.ensures.value (shut_settles c.self.invariant (gate at) c.seal_slot.new.heads c.seal_slot.ensures.nodes c.cascade-landed.new.heads c.cascade-landed.ensures.placed (subst (λ hs. HasSlot hs c.args.head c.in-Ok.slot) c.deref.ensures.value c.in-Ok.ensures.slot))
 
+pub renew-requires-clause-rising : goal.renew-requires-clause-rising
+renew-requires-clause-rising c =
+    let at = (goal.at.renew-requires-clause-rising c).After-seal_slot in
+    rw c.deref-in-Ok-2.ensures.value (shut_settles c.self.invariant (gate at) c.seal_slot.new.heads c.seal_slot.ensures.nodes c.cascade-landed.new.heads c.cascade-landed.ensures.placed (subst (λ hs. HasSlot hs c.args.head c.in-Ok.slot) c.deref.ensures.value c.in-Ok.ensures.slot)).rising
+
+pub renew-requires-clause-leveled : goal.renew-requires-clause-leveled
+renew-requires-clause-leveled c =
+    let lowered = subst (λ hs. IsLeveled (patches_of hs) (length c.self.inside.levels.floors) c.settle.new.self) c.deref-in-Ok.ensures.value c.settle.ensures.leveled in
+    rw c.deref-in-Ok-2.ensures.value (subst (λ n. IsLeveled (patches_of c.cascade-landed.new.heads.items) n c.settle.new.self) (sym lowered.long) lowered)
+
+pub renew-requires-clause-given : goal.renew-requires-clause-given
+renew-requires-clause-given c =
+    let g = gate (goal.at.renew-requires-clause-given c).After-seal_slot in
+    let k = (c.self.invariant.keeps.lawful.one_place_each.numbered g.patch g.head).0 in
+    omega (arith, k, g.numbered)
+
 pub overflow_sub-self : goal.overflow_sub-self
 overflow_sub-self c =
     let C = c.cascade-landed.ensures in
@@ -44,11 +60,14 @@ invariant_of-self c =
     let cascade = shut_cascade c.self.invariant open_gate c.seal_slot.new.heads c.seal_slot.ensures.nodes new C.placed in
     let frames : frames_of new.items ≡ frames_of s.heads.items = C.frames ∙ c.seal_slot.ensures.frames in
     let heads_long : new.len ≡ s.heads.len = omega (arith, ap length frames, length-map new.items frame_of, length-map s.heads.items frame_of, new.ok.0, s.heads.ok.0) in
+    let lowered = subst (λ hs. IsLeveled (patches_of hs) (length s.levels.floors) c.settle.new.self) c.deref-in-Ok.ensures.value c.settle.ensures.leveled in
+    let renewed = subst (λ hs. IsLeveled (patches_of hs) (length c.renew.new.levels.floors) c.renew.new.levels) c.deref-in-Ok-2.ensures.value c.renew.ensures.leveled in
+    let leveled = subst (λ n. IsLeveled (patches_of new.items) n c.renew.new.levels) (ap length c.renew.ensures.floors ∙ lowered.long) renewed in
     with_prepared
-    (shut_sound c.self.invariant open_gate c.seal_slot.new.heads c.seal_slot.ensures.nodes new C.placed c.cascade-landed.result C.settled C.landed {told = c.cascade-landed.new.standings} {emptied = c.cascade-landed.new.queue} (subst (λ hs. IsLeveled (patches_of hs) (length c.self.inside.levels.floors) c.settle.new.self) c.deref-in-Ok.ensures.value c.settle.ensures.leveled) C.spread C.standing C.empty (C.capacity ∙ c.seal_slot.ensures.capacity))
-    (if_prepared c.self.invariant (IsPrepared new s.ends c.settle.new.self s.needs s.lists s.covers c.cascade-landed.new.queue s.numbers s.blocks) (λ p is k. record {
+    (shut_sound c.self.invariant open_gate c.seal_slot.new.heads c.seal_slot.ensures.nodes new C.placed c.cascade-landed.result C.settled C.landed {told = c.cascade-landed.new.standings} {emptied = c.cascade-landed.new.queue} leveled C.spread C.standing C.empty (C.capacity ∙ c.seal_slot.ensures.capacity))
+    (if_prepared c.self.invariant (IsPrepared new s.ends c.renew.new.levels s.needs s.lists s.covers c.cascade-landed.new.queue s.numbers s.blocks) (λ p is k. record {
       ready = put_begun (patches_of s.heads.items) s.numbers s.blocks s.ends.up.walk.marks c.self.invariant.keeps g (patches_of new.items) open_gate cascade p (head_told s.prepared s.numbers c.requires.0 g p (ap (λ k. k.prepared) c.self.view_is ∙ c.requires.1) c.requires.2 is) k.ready;
-      places = places_kept heads_long (C.places ∙ c.seal_slot.ensures.places) c.settle.ensures.room k.places;
+      places = places_kept heads_long (C.places ∙ c.seal_slot.ensures.places) (c.renew.ensures.room.0 ∙ c.settle.ensures.room.0, c.renew.ensures.room.1 ∙ c.settle.ensures.room.1) k.places;
       waits = omega (arith, heads_long, C.capacity, c.seal_slot.ensures.capacity, k.waits);
       around = around_kept new.items s.heads.items frames p k.around;
       runs = k.runs;
