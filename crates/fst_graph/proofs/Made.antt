@@ -118,10 +118,10 @@ module _ {heads : Vec Head} {ends : Ends} {levels : Leveling} {needs : Needing} 
     node = (new_node (nodes_of heads.items) made).pending
 
     -- the walk up may begin, and what it told may be written
-    pub may_rise : (sight : Sight) {places : List Bool} → sight.heads.now ≡ heads.items → sight.lists.now ≡ lists.items → sight.covers.now ≡ covers.items → sight.standings.now ≡ standings.items → sight.levels.now ≡ levels → sight.needs.now ≡ needs → places ≡ ends.up.crossed.items
+    pub may_rise : (sight : Sight) {places : List Bool} → sight.heads.now ≡ heads.items → sight.lists.now ≡ lists.items → sight.covers.now ≡ covers.items → sight.levels.now ≡ levels → sight.needs.now ≡ needs → places ≡ ends.up.crossed.items
         → record { sees : Sees sight; long : length ends.up.walk.marks ≡ length sight.heads.now; crossed : length places ≡ length sight.lists.now; block : p.block < length sight.lists.now }
-    may_rise sight h l v s r d places = record {
-      sees = sees_all S sight h l v s r d;
+    may_rise sight h l v r d places = record {
+      sees = sees_all S sight h l v r d;
       long = as_many_marks S ∙ sym (ap length h);
       crossed = ap length places ∙ (as_many_places S ∙ sym (ap length l));
       block = omega (arith, D.ready.inside, as_many_lists S, ap length l);

@@ -36,12 +36,12 @@ module _ {heads : Vec Head} {ends : Ends} {levels : Leveling} {needs : Needing} 
       record { live = heads_live heads.items blocks rising_sound L.no_cycle L.on_disk_with_all S.tallies.settled; held = heads_held heads.items blocks rising_sound L.no_cycle L.on_disk_with_all S.tallies.settled }
 
   -- what stands beside the patches is as walks want it
-  pub sees_all : (sight : Sight) → sight.heads.now ≡ heads.items → sight.lists.now ≡ lists.items → sight.covers.now ≡ covers.items → sight.standings.now ≡ standings.items → sight.levels.now ≡ levels → sight.needs.now ≡ needs → Sees sight
-  sees_all sight h l v s r d =
+  pub sees_all : (sight : Sight) → sight.heads.now ≡ heads.items → sight.lists.now ≡ lists.items → sight.covers.now ≡ covers.items → sight.levels.now ≡ levels → sight.needs.now ≡ needs → Sees sight
+  sees_all sight h l v r d =
       let K = S.keeps in
       let T = S.tallies in
       let entries = map (λ (x : Vec Listed). entries_of x.items) lists.items in
-      rw (h, l, v, s, r, d) (record {
+      rw (h, l, v, r, d) (record {
         rising = rising_sound;
         inside = subst (IsInside (patches_of heads.items)) (sym as_many_lists) K.inside;
         disk = K.lawful.on_disk_with_all;
@@ -49,10 +49,9 @@ module _ {heads : Vec Head} {ends : Ends} {levels : Leveling} {needs : Needing} 
         hard = K.lawful.hard_never_hold;
         acyclic = K.lawful.no_cycle;
         linked = T.linked;
-        settled = subst (AreSettled (nodes_of heads.items)) (sym T.standing.long) T.settled;
+        settled = subst (AreSettled (nodes_of heads.items)) (sym as_many_lists) T.settled;
         listed = subst (λ n. AreListed (patches_of heads.items) n entries) (sym as_many_lists) (subst (λ ps. AreListed ps blocks entries) (patches_in_nodes heads.items) T.listed);
         covered = subst (λ n. AreCovered (patches_of heads.items) n covers.items) (sym as_many_lists) S.covered;
-        standing = subst (λ n. AllStand (nodes_of heads.items) n standings.items) (sym T.standing.long) T.standing;
         leveled = subst (λ n. IsLeveled (patches_of heads.items) n levels) (sym as_many_lists) S.leveled;
         needing = subst (λ n. IsNeeding (patches_of heads.items) n needs) (sym as_many_lists) S.needing;
       })

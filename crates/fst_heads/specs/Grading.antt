@@ -38,10 +38,6 @@ pub record IsHardNumber (heads : List Patch) (b n : ℕ) : Type 0 where
   pub numbered : patch.number ≡ n
   pub hard : IsHardIn patch b
 
--- each in the row is such a number
-abbrev pub RestsOnHard : List Patch → ℕ → List ℕ → Type 0
-RestsOnHard heads b row = (n : ℕ) → Contains row n → IsHardNumber heads b n
-
 -- no way leads from the row back to b: no change of another block at or below it has a need on b or is on a block that reaches b
 pub record LeadsNowhere (heads : List Patch) (b : ℕ) (row : List ℕ) : Type 0 where
   pub straight : HasUnder heads row (IsReturning heads b) → ⊥

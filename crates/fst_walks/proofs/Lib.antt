@@ -10,7 +10,6 @@ pub mod SearchedAbove
 pub mod Alone
 pub mod Numbered
 pub mod Held
-pub mod Quiet
 pub mod Clean
 pub mod Resting
 pub mod Visiting

@@ -3,7 +3,7 @@ use Rattle.std.proofs.Common.{◌≡◌, ◌⊎◌, ◌&&◌, ℕ, Bool, true, L
 use Rattle.fst_types.specs.{Closure.{one, join}, Dependencies.{DirectlyOn, DependsOn}, Facts.HardNeverHold, Gates.IsOpenNumber}
 use Rattle.fst_types.specs.{Grades.FollowsRule, Patches.{Kind, OpenGate, Patch, IsOn, grade_of_kind}, Tests.is_change_at, declared.grade.Grade.Grade}
 use Rattle.fst_types.proofs.{Landing.{change_at, at_change}, Numbers.both}
-use Rattle.fst_heads.specs.Grading.{HasUnder, IsReturning, IsOpenBut, MayBeHard, IsHardNumber, RestsOnHard}
+use Rattle.fst_heads.specs.Grading.{HasUnder, IsReturning, MayBeHard, IsHardNumber}
 use Rattle.fst_heads.specs.{Heads.{IsRising, patch_of, patches_of}, Marks.{HasSlot, HasNone, PassesAt}, Reaching.IsHardIn, Tests.{passes, is_hard_kind}}
 use Rattle.fst_heads.specs.{declared.head.Head.Head, declared.test.Test.Test}
 use Rattle.fst_heads.proofs.{Graded.{on_from, off_from}, Leading.{one_block, same_patch}, Slots.{direct_at, patch_at, patch_is, patch_slot, slot_in, none_slot}}
@@ -50,7 +50,7 @@ hard_no_gate : (k : Kind) → grade_of_kind k ≡ Some grade.Hard → k ≡ Open
 hard_no_gate k e f = cc
 
 -- what is below hard changes of b in memory neither is an open gate, nor returns to b, nor leads to it
-module _ (heads : List Head) (rising : IsRising heads) (b : ℕ) (row : List ℕ) (hard : HardNeverHold (patches_of heads)) (rests : RestsOnHard (patches_of heads) b row) where
+module _ (heads : List Head) (rising : IsRising heads) (b : ℕ) (row : List ℕ) (hard : HardNeverHold (patches_of heads)) (rests : (n : ℕ) → Contains row n → IsHardNumber (patches_of heads) b n) where
   abbrev patches : List Patch
   patches = patches_of heads
 
@@ -104,15 +104,6 @@ module _ (heads : List Head) (rising : IsRising heads) (b : ℕ) (row : List ℕ
     ];
   }
 
--- what may be hard may be so where a gate is taken as sealed
-pub may_but : (heads : List Patch) (but : Option ℕ) (b : ℕ) (row : List ℕ) → MayBeHard heads None b row → MayBeHard heads but b row
-may_but heads but b row may = record { free = λ u. may.free (u.0, u.1, elim u.2 [ inl o ↦ inl (is_open but u.0 o) | inr r ↦ inr (r.0, r.1, is_open but r.0 r.2) ]); straight = may.straight; open_ended = may.open_ended }
-  where
-    is_open : (o : Option ℕ) (n : ℕ) → IsOpenBut heads o n → IsOpenNumber heads n
-    is_open None n e = e
-    is_open (Some gate) n e = e.0
-
--- an open gate in the row is under it
 -- what is under a row
 module _ (heads : List Patch) (row : List ℕ) where
   abbrev under : (ℕ → Type 0) → Type 0

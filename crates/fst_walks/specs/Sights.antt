@@ -2,7 +2,7 @@
 use Rattle.std.specs.Prelude.{length, map}
 use Rattle.fst_types.specs.{Closure.IsAcyclic, Dependencies.DirectlyOn, Facts.{FlightsStandAlone, IsOnDiskWithAll, HardNeverHold}}
 use Rattle.fst_heads.specs.{Covers.AreCovered, Heads.{IsRising, patches_of}, Keeps.IsInside, Lists.{entries_of, AreListed}}
-use Rattle.fst_heads.specs.{Nodes.{nodes_of, AreLinked, AreSettled}, Standings.AllStand}
+use Rattle.fst_heads.specs.Nodes.{nodes_of, AreLinked, AreSettled}
 use Rattle.fst_walks.specs.{Leveling.IsLeveled, Needing.IsNeeding, declared.sight.Sight.Sight}
 
 -- the patches are as the definitions want them, and what stands beside them tells of them
@@ -14,9 +14,8 @@ pub record Sees (sight : Sight) : Type 0 where
   pub hard : HardNeverHold (patches_of sight.heads.now)
   pub acyclic : IsAcyclic (DirectlyOn (patches_of sight.heads.now))
   pub linked : AreLinked (nodes_of sight.heads.now)
-  pub settled : AreSettled (nodes_of sight.heads.now) (length sight.standings.now)
+  pub settled : AreSettled (nodes_of sight.heads.now) (length sight.lists.now)
   pub listed : AreListed (patches_of sight.heads.now) (length sight.lists.now) (map (λ l. entries_of l.items) sight.lists.now)
   pub covered : AreCovered (patches_of sight.heads.now) (length sight.lists.now) sight.covers.now
-  pub standing : AllStand (nodes_of sight.heads.now) (length sight.standings.now) sight.standings.now
   pub leveled : IsLeveled (patches_of sight.heads.now) (length sight.lists.now) sight.levels.now
   pub needing : IsNeeding (patches_of sight.heads.now) (length sight.lists.now) sight.needs.now

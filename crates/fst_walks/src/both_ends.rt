@@ -2,12 +2,10 @@
 //! from the first changes of other blocks at or below a row. A new change of the block over the row is soft exactly where
 //! such a way is there, and the walks meet where it is; it is hard where one of them comes to its end and they have not
 //! met. The one that has looked at less takes the next step, since mostly one end has far less around it than the other. The
-//! search gives up once both have looked at more patches than its limit, if it has one. Where gates stand in a chain there
-//! are first changes of other blocks all along it, of which some are enough to find a way.
+//! search gives up once both have looked at more patches than its limit, if it has one.
 
-ghost use Rattle.std.specs.Prelude.{◌≡◌, ◌⊎◌, ◌≤◌, ◌<◌, ℕ, false, length, Contains, IfNone, IfSome, IsTrue, slice_index_or};
+ghost use Rattle.std.specs.Prelude.{◌≡◌, ◌≤◌, ◌<◌, ℕ, false, length, Contains, IfNone, IfSome, IsTrue, slice_index_or};
 ghost use Rattle.fst_types.specs.Grades.{FollowsRule};
-ghost use Rattle.fst_types.specs.declared.grade.Grade.TheVariants as grades;
 ghost use Rattle.fst_heads.specs.Grading.{LeadsNowhere};
 ghost use Rattle.fst_heads.specs.Heads.{IsRising, patches_of};
 ghost use Rattle.fst_walks.specs.BothEnds.{AreApart, EndApart, IsOver, LeadTogether, ShowsBlockUnder, StepsHigh, StepsLow};
@@ -157,27 +155,14 @@ fn meet_between(
     Some(false)
 }
 
-// Hard, where all was looked at that could lead back, which was no more than `first`.
-fn hard_within(first: usize, looked: usize) -> Option<Grade>
-    ensures hard { IfSome result (λ grade. (grade ≡ grades.Hard) × (looked ≤ first)) }
-    ensures decided { IfNone result (first < looked) }
-{
-    if looked > first {
-        return None;
-    }
-    Some(Grade::Hard)
-}
-
 /// What keeps a new change of the block with that row soft but for open gates: it is soft where a way leads from the row
 /// back to the block, else hard. None where that is not told before both walks have looked at more patches than the limit,
-/// or before the first changes of other blocks were looked for at more patches than `first`: then the walk down begins at
-/// those that were found, and may still meet the walk up. What was met and crossed before does not matter.
+/// or before the first changes of other blocks are found at as many. What was met and crossed before does not matter.
 pub fn grade_between(
     sight: &Sight<'_>,
     ends: &mut Ends,
     block: u32,
     row: &[u32],
-    first: usize,
     limit: usize,
 ) -> Option<Grade>
     requires sees { Sees sight.now }
@@ -185,14 +170,17 @@ pub fn grade_between(
     requires down { IsOver sight.now.heads.now (length sight.now.lists.now) ends.old.down }
     requires block { block < length sight.now.lists.now }
     ensures graded { IfSome result (λ grade. FollowsRule grade (LeadsNowhere (patches_of sight.now.heads.now) block row.now)) }
-    ensures decided { IfNone result ((first < 18446744073709551615) ⊎ (limit < 18446744073709551615)) }
+    ensures decided { IfNone result (limit < 18446744073709551615) }
     ensures up { IsOver sight.now.heads.now (length sight.now.lists.now) ends.new.up }
     ensures down { IsOver sight.now.heads.now (length sight.now.lists.now) ends.new.down }
 {
     ends.down.cross_only(block);
-    let down = visit_first_away(sight.heads, &mut ends.down.walk, block, row, first);
+    let down = visit_first_away(sight.heads, &mut ends.down.walk, block, row, limit);
+    if down > limit {
+        return None;
+    }
     if ends.down.walk.len() == 0 {
-        return hard_within(first, down);
+        return Some(Grade::Hard);
     }
     // No way up falls, so none to what is met now goes through what is higher, nor through what is lower than the floor.
     let most = highest(sight, &ends.down.walk);
@@ -200,13 +188,8 @@ pub fn grade_between(
     ends.up.cross_only(block);
     ends.up.walk.clear();
     let up = visit_low_changes(sight, &mut ends.up.walk, block, most);
-    let limit = if down > first {
-        limit.min(first)
-    } else {
-        limit
-    };
     match meet_between(sight, ends, most, least, Looked { up, down }, limit)? {
         true => Some(Grade::Soft),
-        false => hard_within(first, down),
+        false => Some(Grade::Hard),
     }
 }

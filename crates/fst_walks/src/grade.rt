@@ -1,12 +1,11 @@
 //! The grade of a new change. A block is written only with all its hard changes, so a change is hard only where nothing
 //! that it depends on can come to wait for its block: no open gate, no change of another block that needs one of its
-//! block, and no block from which the block graph leads to its block. What is near the change mostly tells it, and their
-//! levels do where all that it depends on is below the floor of its block. Else the ancestors of what the change depends
-//! on may lead back to the block, or a chain within a few steps; or a short walk down may tell, or a short search from both
-//! ends, or longer chains, and only where none does a way back is looked for from both ends without a limit: where very
-//! many changes of other blocks are the first on the way down, from some of them before all. Over a block whose changes are
-//! all on disk no search is needed. A gate that is sealed with the change is taken as sealed already: that sets free what it
-//! alone blocks, and moves no change and no dependency.
+//! block, and no block from which the block graph leads to its block. Over a block whose changes are all on disk no search
+//! is needed, nor where all that the change depends on is a hard change of its block or below its floor. Else the ancestors
+//! of what the change depends on may lead back to the block, or a chain within a few steps; or a short search from both
+//! ends may tell, or longer chains, and only where none does a way back is looked for from both ends without a limit. A gate
+//! that is sealed with the change is taken as sealed already: that sets free what it alone blocks, and moves no change and
+//! no dependency.
 
 ghost use Rattle.std.specs.Prelude.{◌<◌, length};
 ghost use Rattle.fst_types.specs.Grades.{FollowsRule};
@@ -16,47 +15,16 @@ ghost use Rattle.fst_walks.specs.BothEnds.{IsOver};
 ghost use Rattle.fst_walks.specs.Sights.{Sees};
 
 use crate::ancestors::leads_to_block;
-use crate::below::grade_below;
 use crate::both_ends::grade_between;
 use crate::ends::Ends;
 use crate::other_gates::is_blocked;
-use crate::shortcuts::{
-    comes_back, comes_back_soon, is_clean, rests_on_hard, stays_below, waits_for_quiet_block,
-};
+use crate::shortcuts::{comes_back, comes_back_soon, is_clean, stays_below};
 use crate::sight::Sight;
 use fst_types::Grade;
 
 // How many patches each end looks at before long chains are followed. Behind gates in a chain the walk up from the block
 // mostly ends at once, and long chains down would be followed for nothing.
 const FEW_LOOKS: usize = 128;
-
-// How many patches are looked at first for the first changes of other blocks, and how often they are looked for at more
-// before they are looked for at all.
-const FIRST_LOOKS: usize = 1_024;
-
-const TRIES: u32 = 2;
-
-// What keeps a new change of the block with that row soft but for open gates, by searches from both ends. What was met and
-// crossed before does not matter.
-fn grade_at_last(sight: &Sight<'_>, ends: &mut Ends, block: u32, row: &[u32]) -> Grade
-    requires sees { Sees sight.now }
-    requires up { IsOver sight.now.heads.now (length sight.now.lists.now) ends.old.up }
-    requires down { IsOver sight.now.heads.now (length sight.now.lists.now) ends.old.down }
-    requires block { block < length sight.now.lists.now }
-    ensures graded { FollowsRule result (LeadsNowhere (patches_of sight.now.heads.now) block row.now) }
-    ensures up { IsOver sight.now.heads.now (length sight.now.lists.now) ends.new.up }
-    ensures down { IsOver sight.now.heads.now (length sight.now.lists.now) ends.new.down }
-{
-    let mut first = FIRST_LOOKS;
-    for _ in 0..TRIES {
-        if let Some(grade) = grade_between(sight, ends, block, row, first, usize::MAX) {
-            return grade;
-        }
-        first = first.saturating_mul(8);
-    }
-    // Without a limit it tells the grade.
-    grade_between(sight, ends, block, row, usize::MAX, usize::MAX).unwrap()
-}
 
 // What keeps a new change of the block with that row soft but for open gates. What was met and crossed before does not
 // matter.
@@ -81,16 +49,14 @@ fn grade_by_ways(sight: &Sight<'_>, ends: &mut Ends, block: u32, row: &[u32]) ->
     if comes_back_soon(sight, block, row) {
         return Grade::Soft;
     }
-    if let Some(grade) = grade_below(sight, &mut ends.down, block, row) {
-        return grade;
-    }
-    if let Some(grade) = grade_between(sight, ends, block, row, FEW_LOOKS, FEW_LOOKS) {
+    if let Some(grade) = grade_between(sight, ends, block, row, FEW_LOOKS) {
         return grade;
     }
     if comes_back(sight, block, row) {
         return Grade::Soft;
     }
-    grade_at_last(sight, ends, block, row)
+    // Without a limit it tells the grade.
+    grade_between(sight, ends, block, row, usize::MAX).unwrap()
 }
 
 /// The grade of a new change of the block that directly depends on the row, where that gate is taken as sealed. What was
@@ -110,11 +76,6 @@ pub fn grade_of(
     ensures up { IsOver sight.now.heads.now (length sight.now.lists.now) ends.new.up }
     ensures down { IsOver sight.now.heads.now (length sight.now.lists.now) ends.new.down }
 {
-    if rests_on_hard(sight.heads, block, row)
-        || waits_for_quiet_block(sight.heads, sight.standings, block, row)
-    {
-        return Grade::Hard;
-    }
     if is_blocked(sight.heads, &mut ends.up.walk, row, but) {
         return Grade::Soft;
     }

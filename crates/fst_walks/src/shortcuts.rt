@@ -1,6 +1,5 @@
-//! What tells the grade of a new change at once, from the patches near its row. A walk over all patches decides only
-//! where none of this does: a change behind a gate, a chain on one block, a chain over a few blocks and a change over a
-//! block that holds nothing back need none.
+//! What tells the grade of a new change at once, from the patches near its row. A search over all patches decides only
+//! where none of this does: a change behind a gate, a chain on one block and a chain over a few blocks need none.
 
 ghost use Rattle.std.specs.Prelude.{◌≡◌, ◌≤◌, ◌<◌, ◌↔◌, ◌&&◌, ℕ, List, IsTrue, IfSome, Contains, length};
 ghost use Rattle.fst_types.specs.Closure.{IsAcyclic};
@@ -13,10 +12,9 @@ ghost use Rattle.fst_heads.specs.declared.test.Test.TheVariants as test;
 ghost use Rattle.fst_heads.specs.Heads.{IsRising, kind_of, patch_of, patches_of};
 ghost use Rattle.fst_heads.specs.Marks.{PassesAt};
 ghost use Rattle.fst_heads.specs.Tests.{is_hard_kind};
-ghost use Rattle.fst_heads.specs.Grading.{HasUnder, IsReturning, IsHardNumber, LeadsNowhere, RestsOnHard, MayBeHard};
+ghost use Rattle.fst_heads.specs.Grading.{HasUnder, IsReturning, IsHardNumber, LeadsNowhere};
 ghost use Rattle.fst_walks.specs.Sights.{Sees};
 ghost use Rattle.fst_heads.specs.Nodes.{nodes_of, AreSettled};
-ghost use Rattle.fst_heads.specs.Standings.{AllStand};
 
 use crate::sight::Sight;
 use fst_heads::choice::is_hard;
@@ -25,7 +23,6 @@ use fst_heads::marks::slot_of;
 use fst_heads::pending::{Pending, is_pending};
 use fst_heads::places::is_change_at;
 use fst_heads::row::row_sums;
-use fst_heads::standing::Standing;
 use fst_heads::test::{Test, passes};
 use fst_types::Place;
 
@@ -83,41 +80,6 @@ pub fn is_hard_number(heads: &[Head], block: u32, number: u32) -> bool
     match slot_of(heads, number) {
         Some(slot) => is_hard_in(&heads[slot], block),
         None => false,
-    }
-}
-
-/// Whether each of the row is a hard change of the block in memory. A change of the block with that row waits for no
-/// more than they do, so it is hard.
-pub fn rests_on_hard(heads: &[Head], block: u32, row: &[u32]) -> bool
-    requires { IsRising heads.now }
-    ensures { IsTrue result ↔ RestsOnHard (patches_of heads.now) block row.now }
-{
-    for number in row {
-        if !is_hard_number(heads, block, *number) {
-            return false;
-        }
-    }
-    true
-}
-
-/// Whether all that is pending of the row is of one block, which is the block or holds no hard change back, so that no
-/// edge leads away from it. A change of the block with that row is hard.
-pub fn waits_for_quiet_block(
-    heads: &[Head],
-    standings: &[Standing],
-    block: u32,
-    row: &[u32],
-) -> bool
-    requires rising { IsRising heads.now }
-    requires disk { IsOnDiskWithAll (patches_of heads.now) }
-    requires settled { AreSettled (nodes_of heads.now) (length standings.now) }
-    requires standing { AllStand (nodes_of heads.now) (length standings.now) standings.now }
-    ensures { IsTrue result → MayBeHard (patches_of heads.now) None block row.now }
-{
-    match row_sums(heads, row).joined() {
-        Pending::Nothing => true,
-        Pending::Block(other) => other == block || standings[other as usize].held == 0,
-        Pending::Apart | Pending::Held => false,
     }
 }
 

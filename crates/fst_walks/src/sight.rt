@@ -5,16 +5,14 @@ use crate::needs::Needs;
 use fst_heads::cover::Cover;
 use fst_heads::head::Head;
 use fst_heads::lists::Listed;
-use fst_heads::standing::Standing;
 
-/// The heads, for each block the list of its changes that are not on disk and the newest change over each byte, how each
-/// block stands, the levels, and what each block needs.
+/// The heads, for each block the list of its changes that are not on disk and the newest change over each byte, the levels,
+/// and what each block needs.
 #[derive(Clone, Copy)]
 pub struct Sight<'a> {
     pub heads: &'a [Head],
     pub lists: &'a [Vec<Listed>],
     pub covers: &'a [Cover],
-    pub standings: &'a [Standing],
     pub levels: &'a Levels,
     pub needs: &'a Needs,
 }

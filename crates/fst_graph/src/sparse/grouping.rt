@@ -44,7 +44,6 @@ impl Sparse {
             heads: &self.heads,
             lists: &self.lists,
             covers: &self.covers,
-            standings: &self.standings,
             levels: &self.levels,
             needs: &self.needs,
         };

@@ -95,7 +95,6 @@ impl Sparse {
             heads: &self.heads,
             lists: &self.lists,
             covers: &self.covers,
-            standings: &self.standings,
             levels: &self.levels,
             needs: &self.needs,
         };
@@ -140,7 +139,6 @@ impl Sparse {
             heads: &self.heads,
             lists: &self.lists,
             covers: &self.covers,
-            standings: &self.standings,
             levels: &self.levels,
             needs: &self.needs,
         };

@@ -1,8 +1,5 @@
 use Rattle.std.proofs.lemmas.Grind.{common_steps}
-use Rattle.std.proofs.Common.{◌≡◌, ◌≤◌, ℕ, Contains, Option, Some, None, IfSome, sym, subst, arith}
-use Rattle.fst_types.specs.{Grades.FollowsRule, declared.grade.Grade.Grade}
-use Rattle.fst_types.specs.declared.grade.Grade.TheVariants as grades
-use Rattle.fst_heads.specs.Grading.{LeadsNowhere}
+use Rattle.std.proofs.Common.{ℕ, Contains, subst, arith}
 use Rattle.fst_heads.specs.Heads.{patches_of}
 use Rattle.fst_walks.specs.{BothEnds.IsLowChange, Descending.Visits, Leveling.{floor_of, level_of}, Needing.needs_of, Walks.numbers_met}
 use Rattle.fst_walks.proofs.{Meeting.{AreEnds, apart_hard, begin_apart, none_first, together_soft, visited_all}, Visiting.{long_met, none_met}}
@@ -23,7 +20,7 @@ starts c =
       shows_up = c.cross_only-2.ensures.shown;
       shows_down = c.cross_only.ensures.shown;
       changes = visited_all low bottoms (subst (λ q. Visits low q bottoms) (none_met heads c.clear.new.self c.clear.ensures.met) c.visit_low_changes-up.ensures.visits);
-      first = c.visit_first_away-down.ensures.only;
+      first = c.visit_first_away-down.ensures.first (omega (arith, c.if-down-limit.false));
     }
 
 pub meet_between-requires-clause-apart : goal.meet_between-requires-clause-apart
@@ -40,28 +37,20 @@ returns-in-true-clause-graded c =
     together_soft sight.heads.now sees.rising sees.disk sees.hard sees.flights (level_of sight.levels.now.ranks) (floor_of sight.levels.now.floors) sees.leveled.leveled (needs_of sight.needs.now.lists) sees.needing.needed
     c.highest-most.result c.floor-least.result c.args.block (omega (arith, c.floor-least.ensures)) c.args.row.now _ _ _ _ (starts (goal.at.returns-in-true-clause-graded c).After-visit_low_changes-up) (c.in_ok-meet_between.ensures.together c.in-true.is)
 
--- what is told hard is so where all could lead back
-hard_graded : (told : Option Grade) (first looked : ℕ) (nowhere : Type 0) → IfSome told (λ g. (g ≡ grades.Hard) × (looked ≤ first)) → (looked ≤ first → nowhere) → IfSome told (λ g. FollowsRule g nowhere)
-hard_graded None first looked nowhere is all = is
-hard_graded (Some g) first looked nowhere is all = subst (λ h. FollowsRule h nowhere) (sym is.0) (all is.1)
-
 pub returns-in-false-clause-graded : goal.returns-in-false-clause-graded
 returns-in-false-clause-graded c =
     let sight = c.args.sight.now in
     let sees = c.requires.sees in
-    hard_graded c.hard_within-in-false.result c.args.first c.visit_first_away-down.result (LeadsNowhere (patches_of sight.heads.now) c.args.block c.args.row.now) c.hard_within-in-false.ensures.hard (λ few.
     apart_hard sight.heads.now sees.rising sees.disk sees.hard sees.flights (level_of sight.levels.now.ranks) (floor_of sight.levels.now.floors) sees.leveled.leveled (needs_of sight.needs.now.lists) sees.needing.needed
     c.highest-most.result c.floor-least.result c.args.block (omega (arith, c.floor-least.ensures)) c.args.row.now _ _ _ _ (starts (goal.at.returns-in-false-clause-graded c).After-visit_low_changes-up)
-    (λ n. (c.visit_first_away-down.ensures.first few n).1)
-    (numbers_met sight.heads.now c.meet_between.new.ends.up.walk) (numbers_met sight.heads.now c.meet_between.new.ends.down.walk) (c.in_ok-meet_between.ensures.apart c.in-false.is))
+    (numbers_met sight.heads.now c.meet_between.new.ends.up.walk) (numbers_met sight.heads.now c.meet_between.new.ends.down.walk) (c.in_ok-meet_between.ensures.apart c.in-false.is)
 
 -- there is nothing that could lead back
 pub returns-then-len-eq0-clause-graded : goal.returns-then-len-eq0-clause-graded
 returns-then-len-eq0-clause-graded c =
     let heads = c.args.sight.now.heads.now in
     let none : (n : ℕ) → Contains (numbers_met heads c.visit_first_away-down.new.walk) n → ⊥ = λ n k. absurd (omega (arith, k.1, long_met heads c.visit_first_away-down.new.walk, c.len.ensures.long, c.if-len-eq0.true)) in
-    hard_graded c.hard_within.result c.args.first c.visit_first_away-down.result (LeadsNowhere (patches_of heads) c.args.block c.args.row.now) c.hard_within.ensures.hard (λ few.
-    none_first heads c.requires.sees.rising c.requires.sees.disk c.requires.sees.hard c.args.block c.cross_only.new.self.crossed.items c.cross_only.ensures.shown c.args.row.now (λ n f. none n ((c.visit_first_away-down.ensures.first few n).1 f)))
+    none_first heads c.requires.sees.rising c.requires.sees.disk c.requires.sees.hard c.args.block c.cross_only.new.self.crossed.items c.cross_only.ensures.shown c.args.row.now (λ n f. none n ((c.visit_first_away-down.ensures.first (omega (arith, c.if-down-limit.false)) n).1 f))
 
 pub returns-in-false-clause-decided : goal.returns-in-false-clause-decided
 returns-in-false-clause-decided c = grind (arith, common_steps)
@@ -101,3 +90,15 @@ returns-then-len-eq0-clause-down c = grind (arith, common_steps)
 
 pub returns-then-len-eq0-clause-up : goal.returns-then-len-eq0-clause-up
 returns-then-len-eq0-clause-up c = grind (arith, common_steps)
+
+pub returns-then-down-limit-clause-decided : goal.returns-then-down-limit-clause-decided
+returns-then-down-limit-clause-decided c = grind (arith, common_steps)
+
+pub returns-then-down-limit-clause-down : goal.returns-then-down-limit-clause-down
+returns-then-down-limit-clause-down c = grind (arith, common_steps)
+
+pub returns-then-down-limit-clause-graded : goal.returns-then-down-limit-clause-graded
+returns-then-down-limit-clause-graded c = grind (arith, common_steps)
+
+pub returns-then-down-limit-clause-up : goal.returns-then-down-limit-clause-up
+returns-then-down-limit-clause-up c = grind (arith, common_steps)

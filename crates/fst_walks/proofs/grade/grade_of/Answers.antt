@@ -1,19 +1,9 @@
 use Rattle.std.proofs.Common.{◌∙◌, ℕ, List, Option, sym}
 use Rattle.std.proofs.lemmas.Bool.{false≢true}
-use Rattle.fst_types.specs.{Facts.HardNeverHold, Grades.FollowsRule, Patches.Patch, declared.grade.Grade.Grade}
+use Rattle.fst_types.specs.{Grades.FollowsRule, Patches.Patch, declared.grade.Grade.Grade}
 use Rattle.fst_heads.specs.{Grading.{HasUnder, IsOpenBut, LeadsNowhere, MayBeHard}, Heads.patches_of}
-use Rattle.fst_walks.proofs.NearRow.{follows_same, rests_may, may_but}
-use Rattle.fst_walks.proofs.grade.grade_of.Goals.{then-rests_on_hard-via-then-rests_on_hard, then-rests_on_hard-via-else-rests_on_hard+then-waits_for_quiet_block}
+use Rattle.fst_walks.proofs.NearRow.{follows_same}
 use Rattle.fst_walks.proofs.grade.grade_of.Goals as goal
-
-pub returns-then-rests_on_hard-clause-graded : goal.returns-then-rests_on_hard-clause-graded
-returns-then-rests_on_hard-clause-graded c =
-    let heads = c.args.sight.now.heads.now in
-    let hard : HardNeverHold (patches_of heads) = c.requires.sees.hard in
-    may_but (patches_of heads) c.args.but c.args.block c.args.row.now (elim c.then-rests_on_hard.branch [
-      | then-rests_on_hard-via-then-rests_on_hard w ↦ rests_may heads c.requires.sees.rising c.args.block c.args.row.now hard (c.rests_on_hard.ensures.0 w.if-rests_on_hard.true)
-      | then-rests_on_hard-via-else-rests_on_hard+then-waits_for_quiet_block w ↦ w.waits_for_quiet_block.ensures w.if-waits_for_quiet_block.true
-    ])
 
 pub returns-then-is_blocked-clause-graded : goal.returns-then-is_blocked-clause-graded
 returns-then-is_blocked-clause-graded c may = may.free (c.is_blocked.ensures.blocked.0 c.if-is_blocked.true)

@@ -1,7 +1,7 @@
 use Rattle.std.proofs.Common.{sym, ap, ◌∙◌}
 use Rattle.fst_heads.specs.{Nodes.nodes_of, Pendings.is_pending}
 use Rattle.fst_heads.proofs.Pended.{pending_same}
-use Rattle.fst_walks.proofs.{Held.{gate_under, under_gate}, Quiet.summed_row}
+use Rattle.fst_walks.proofs.Held.{gate_under, summed_row, under_gate}
 use Rattle.fst_heads.specs.declared.pending.Pending.TheVariants as pending
 use Rattle.fst_walks.proofs.shortcuts.waits_for_gate.Goals as goal
 

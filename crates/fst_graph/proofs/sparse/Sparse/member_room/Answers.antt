@@ -19,7 +19,7 @@ paired c =
 
 pub member_fault-requires : goal.member_fault-requires
 member_fault-requires c = record {
-  sees = sees_all c.self.invariant _ c.deref.ensures.value c.deref-2.ensures.value c.deref-3.ensures.value c.deref-4.ensures.value refl refl;
+  sees = sees_all c.self.invariant _ c.deref.ensures.value c.deref-2.ensures.value c.deref-3.ensures.value refl refl;
   gates = rw c.deref.ensures.value (gates_told c.self.invariant);
   long = as_many_marks c.self.invariant ∙ sym (ap length c.deref.ensures.value);
   block = omega (arith, inside (goal.at.member_fault-requires c).After-deref, as_many_lists c.self.invariant, ap length c.deref-2.ensures.value);
@@ -35,7 +35,7 @@ prepare_member-requires c =
     record {
       lawful = (c.self.inside.numbers, rw c.deref.ensures.value S.keeps.lawful);
       counted = rw c.deref.ensures.value S.tallies.counted;
-      sees = sees_all S _ c.deref.ensures.value c.deref-2.ensures.value c.deref-3.ensures.value c.deref-4.ensures.value refl refl;
+      sees = sees_all S _ c.deref.ensures.value c.deref-2.ensures.value c.deref-3.ensures.value refl refl;
       up = record { long = c.member_fault.ensures.long; crossed = as_many_places S ∙ sym (ap length c.deref-2.ensures.value) };
       down = over_then c.deref.ensures.value c.deref-2.ensures.value (over_down S);
       block = omega (arith, inside (goal.at.prepare_member-requires c).After-deref, as_many_lists S, ap length c.deref-2.ensures.value);

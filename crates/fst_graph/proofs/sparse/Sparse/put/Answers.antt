@@ -19,17 +19,17 @@ index_mut-requires c = omega (arith, (now (goal.at.index_mut-requires c).After-a
 
 pub rise_of-rise-requires : goal.rise_of-rise-requires
 rise_of-rise-requires c =
-    may_rise c.self.invariant (now (goal.at.rise_of-rise-requires c).After-as_slice-row).down _ c.deref.ensures.value c.deref-2.ensures.value c.deref-3.ensures.value c.deref-4.ensures.value refl refl c.deref_mut.ensures.value
+    may_rise c.self.invariant (now (goal.at.rise_of-rise-requires c).After-as_slice-row).down _ c.deref.ensures.value c.deref-2.ensures.value c.deref-3.ensures.value refl refl c.deref_mut.ensures.value
 
 pub lift-requires : goal.lift-requires
 lift-requires c =
-    may_lift c.self.invariant (now (goal.at.lift-requires c).After-as_slice-row).down c.rise_of-rise.new.walk c.deref.ensures.value c.as_slice-row.ensures c.rise_of-rise.ensures.rise c.rise_of-rise.ensures.long c.deref-5.ensures.value
+    may_lift c.self.invariant (now (goal.at.lift-requires c).After-as_slice-row).down c.rise_of-rise.new.walk c.deref.ensures.value c.as_slice-row.ensures c.rise_of-rise.ensures.rise c.rise_of-rise.ensures.long c.deref-4.ensures.value
 
 pub put-requires : goal.put-requires
-put-requires c = may_need c.self.invariant (now (goal.at.put-requires c).After-as_slice-row).down c.deref-6.ensures.value c.as_slice-row.ensures
+put-requires c = may_need c.self.invariant (now (goal.at.put-requires c).After-as_slice-row).down c.deref-5.ensures.value c.as_slice-row.ensures
 
 pub ancestry_over-requires : goal.ancestry_over-requires
-ancestry_over-requires c = may_go_on c.self.invariant (now (goal.at.ancestry_over-requires c).After-as_slice-row).down c.deref-5.ensures.value c.lift.ensures.leveled c.deref-7.ensures.value
+ancestry_over-requires c = may_go_on c.self.invariant (now (goal.at.ancestry_over-requires c).After-as_slice-row).down c.deref-4.ensures.value c.lift.ensures.leveled c.deref-6.ensures.value
 
 pub put_down-pending-requires : goal.put_down-pending-requires
 put_down-pending-requires c =
@@ -56,9 +56,9 @@ sound c D =
     let least = c.min-self-inside.ensures in
     change_sound c.self.invariant D
     c.rise_of-rise.new.walk c.rise_of-rise.new.crossed c.put_down-pending.ensures.put c.put_down-pending.ensures.pending c.deref.ensures.value c.as_slice-row.ensures c.rise_of-rise.ensures.rise c.rise_of-rise.ensures.long
-    c.deref-5.ensures.value c.lift.ensures.leveled c.lift.ensures.below c.lift.ensures.lifted c.lift.ensures.still
-    c.deref-7.ensures.value c.as_slice-row.ensures c.ancestry_over.ensures
-    c.deref-6.ensures.value c.as_slice-row.ensures c.put.ensures
+    c.deref-4.ensures.value c.lift.ensures.leveled c.lift.ensures.below c.lift.ensures.lifted c.lift.ensures.still
+    c.deref-6.ensures.value c.as_slice-row.ensures c.ancestry_over.ensures
+    c.deref-5.ensures.value c.as_slice-row.ensures c.put.ensures
     c.enlist.ensures.listed
     c.index_mut.ensures.value c.put-2.ensures refl
     c.enlist.ensures.entered

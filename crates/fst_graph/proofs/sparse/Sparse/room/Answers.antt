@@ -17,7 +17,7 @@ inside c = subst (λ (v : Known). c.args.block.0 < v.blocks) (sym c.self.view_is
 
 pub prepare-requires : goal.prepare-requires
 prepare-requires c = record {
-  sees = sees_all c.self.invariant _ c.deref-2.ensures.value c.deref-3.ensures.value c.deref-4.ensures.value c.deref-5.ensures.value refl refl;
+  sees = sees_all c.self.invariant _ c.deref-2.ensures.value c.deref-3.ensures.value c.deref-4.ensures.value refl refl;
   up = over_then c.deref-2.ensures.value c.deref-3.ensures.value (over_up c.self.invariant);
   down = over_then c.deref-2.ensures.value c.deref-3.ensures.value (over_down c.self.invariant);
   block = omega (arith, inside (goal.at.prepare-requires c).After-deref, as_many_lists c.self.invariant, ap length c.deref-3.ensures.value);
