@@ -1,18 +1,8 @@
-//! Tests of whole runs, by public calls: of a desk and its workers, of crews, and of what the program does with its words.
+//! Tests of whole runs of what the program does with its words, by its public calls.
 //!
-//! They stand in a crate above those, as the tests of the graph and the cache do in `fst_tests`: beside their code, the
+//! They stand in a crate above the program, as the tests of the graph and the cache do in `fst_tests`: beside its code, the
 //! tests' proofs would take a second proof of all of it.
 #![tactic(auto)]
 
 #[cfg(test)]
-mod crew;
-#[cfg(test)]
-mod pairs;
-#[cfg(test)]
 mod program;
-#[cfg(test)]
-mod same;
-#[cfg(test)]
-mod slots;
-#[cfg(test)]
-mod store;
