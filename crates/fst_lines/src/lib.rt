@@ -4,7 +4,7 @@
 //! a write that a line names goes wrong). What a line's bytes mean is a definition over JSON as `serde_json` reads it:
 //! `command_of` in `specs/Commands.antt`; `parse` gives that command, that refusal, or want of memory.
 //! A line of a change, of an empty patch or of what a gate gains, or with one number or no other member, is read from its
-//! tokens first (`short`, `patch_line`, `gate_line`; `names` are the patches that a line names), which says the same.
+//! tokens first (`short`, `patch_line`, `order_line`; `names` are the patches that a line names), which says the same.
 //!
 //! A reply is a line of words, decimal numbers and bytes in hex, whose text is a definition too (`specs/Replies.antt`). It
 //! goes out in pieces, through a loop over `write` (`output`, `reply`): so no reply takes memory or has a greatest length,
@@ -15,9 +15,9 @@
 
 pub mod command;
 pub mod failure;
-mod gate_line;
 pub mod members;
 mod names;
+mod order_line;
 pub mod output;
 mod patch_line;
 pub mod reply;

@@ -1,4 +1,4 @@
-//! Lines that name patches and make no change: of an empty patch, and of what a gate gains. Their members stand in the order
+//! Lines that order patches and change no block: of an empty patch, and of what a gate gains. Their members stand in the order
 //! `do`, `after`, and `do`, `gate`, `on`; whatever else such a line may be is left to `serde_json`.
 
 ghost use Rattle.std.specs.Prelude.{◌≡◌, List, ℕ, IfSome, codes};
