@@ -86,6 +86,7 @@ pub fn gain_names(
     on: &[PatchNo],
 ) -> Result<(), AllocError>
     requires rising { IsRising heads.old.items }
+    requires linked { AreLinked (nodes_of heads.old.items) }
     requires counted { (x : Node) → Contains (nodes_of heads.old.items) x → (x.sums.count ≤ length x.patch.dependencies) × Fits x.sums }
     ensures gained { OnOk result ((names : List ℕ) × Lists (λ n. IsLiveNumber (patches_of heads.old.items) n × Contains (numbers_of on.now) n × (DirectlyOn (patches_of heads.old.items) gate n → ⊥)) names × (nodes_of heads.new.items ≡ map (linked_to names gate) (map (at_number gate (gains_names names (sums_of (pending_in (nodes_of heads.old.items)) names))) (nodes_of heads.old.items)))) }
     ensures same { OnErr result (nodes_of heads.new.items ≡ nodes_of heads.old.items) }

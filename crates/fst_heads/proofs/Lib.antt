@@ -19,6 +19,7 @@ pub mod Listing
 pub mod Joining
 pub mod Sums
 pub mod PendingAt
+pub mod LinkedRows
 pub mod Added
 pub mod PendingIn
 pub mod Counts

@@ -6,7 +6,7 @@ ghost use Rattle.fst_types.specs.Lists.{Lists};
 ghost use Rattle.fst_heads.specs.Frames.{HasRoomBelow};
 ghost use Rattle.fst_heads.specs.Heads.{IsRising, patches_of};
 ghost use Rattle.fst_heads.specs.Names.{numbers_of};
-ghost use Rattle.fst_heads.specs.Nodes.{Node, nodes_of, at_number, gains_names, HasRoomAbove};
+ghost use Rattle.fst_heads.specs.Nodes.{Node, nodes_of, at_number, gains_names, AreLinked, HasRoomAbove};
 ghost use Rattle.fst_heads.specs.Pendings.{Fits};
 ghost use Rattle.fst_heads.specs.Rows.{IsMissing};
 
@@ -18,20 +18,30 @@ use fst_types::PatchNo;
 use smallvec::SmallVec;
 use std::alloc::{AllocError, Global};
 
-// Whether the one patch has the other as a direct dependency.
+// Whether the one patch has the other as a direct dependency. The row of the one tells it and the dependants of the other do,
+// of which the shorter list is looked at: a gate may come after thousands of patches, each of which has few dependants.
 fn is_direct(heads: &[Head], from: u32, to: u32) -> bool
-    requires { IsRising heads.now }
+    requires rising { IsRising heads.now }
+    requires linked { AreLinked (nodes_of heads.now) }
     ensures { IsTrue result ↔ DirectlyOn (patches_of heads.now) from to }
 {
-    match slot_of(heads, from) {
-        Some(slot) => heads[slot].dependencies.as_slice().contains(&to),
-        None => false,
+    let Some(over) = slot_of(heads, from) else {
+        return false;
+    };
+    let row = heads[over].dependencies.as_slice();
+    if let Some(under) = slot_of(heads, to) {
+        let dependants = heads[under].dependants.as_slice();
+        if dependants.len() < row.len() {
+            return dependants.contains(&from);
+        }
     }
+    row.contains(&to)
 }
 
 // Whether the number is that of a patch that is not on disk, and that the gate does not have.
 fn is_missing(heads: &[Head], gate: u32, number: u32) -> bool
-    requires { IsRising heads.now }
+    requires rising { IsRising heads.now }
+    requires linked { AreLinked (nodes_of heads.now) }
     ensures { IsTrue result ↔ IsMissing (patches_of heads.now) gate number }
 {
     is_live_number(heads, number) && !is_direct(heads, gate, number)
@@ -44,7 +54,8 @@ pub fn missing_names(
     gate: u32,
     names: &[PatchNo],
 ) -> Result<Row, AllocError>
-    requires { IsRising heads.now }
+    requires rising { IsRising heads.now }
+    requires linked { AreLinked (nodes_of heads.now) }
     ensures { IfOk result (λ row. Lists (λ n. IsLiveNumber (patches_of heads.now) n × Contains (numbers_of names.now) n × (DirectlyOn (patches_of heads.now) gate n → ⊥)) row.items) }
 {
     let mut row = SmallVec::new(alloc);

@@ -6,6 +6,9 @@ use Rattle.fst_walks.proofs.Seen.{gained_number}
 use Rattle.fst_graph.proofs.Made.{named_nodes, summed}
 use Rattle.fst_graph.proofs.gates.gain_names.Goals as goal
 
+pub missing_names-requires-clause-linked : goal.missing_names-requires-clause-linked
+missing_names-requires-clause-linked c = rw c.deref.ensures.value c.requires.linked
+
 pub row_sums-sums-requires : goal.row_sums-sums-requires
 row_sums-sums-requires c = rw c.deref-2.ensures.value (rising_same _ _ c.reserve_above.ensures.nodes c.requires.rising)
 

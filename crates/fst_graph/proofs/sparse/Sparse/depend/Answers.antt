@@ -21,7 +21,7 @@ pub returns-in-Some-clause-refused : goal.returns-in-Some-clause-refused
 returns-in-Some-clause-refused c = rw (← c.self.view_is, ← c.deref.ensures.value) (inl c.in-Some.ensures.first)
 
 pub gain_names-requires : goal.gain_names-requires
-gain_names-requires c = record { rising = rising_sound c.self.invariant; counted = few (nodes_of c.self.inside.heads.items) c.self.inside.blocks (omega (arith, c.self.ranges)) c.self.invariant.tallies.settled }
+gain_names-requires c = record { rising = rising_sound c.self.invariant; linked = c.self.invariant.tallies.linked; counted = few (nodes_of c.self.inside.heads.items) c.self.inside.blocks (omega (arith, c.self.ranges)) c.self.invariant.tallies.settled }
 
 -- the fields after the walk, and that nothing refuses it
 walked : (c : After-depend_fault)
