@@ -46,3 +46,6 @@ returns-clause-led c =
 
 pub loop-at-init : goal.loop-at-init
 loop-at-init c = grind (arith, common_steps)
+
+pub returns-then-looked-most-clause-led : goal.returns-then-looked-most-clause-led
+returns-then-looked-most-clause-led c = grind (arith, common_steps)
