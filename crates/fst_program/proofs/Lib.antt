@@ -1,3 +1,4 @@
 pub mod ReadLemmas
 pub mod ProgramLemmas
 pub mod StatusLemmas
+pub mod CommandLemmas
