@@ -10,12 +10,12 @@ use Rattle.json.specs.Json.{items, members, value, if_last, parse_map}
 use Rattle.serde_json.specs.Data.{Data, Num, unsigned, number, string, array, object, Items, no_items, item, Members, no_members, put}
 use Rattle.serde_json.specs.Read.{read, number_of, of_json, of_items, of_members}
 use Rattle.fst_lines.specs.Members.{number_in, numbers_of, if_ok}
-use Rattle.fst_lines.specs.Commands.{Command, patch, empty, depend, max_line, command_in, or_field, command_of_value, command_of}
+use Rattle.fst_lines.specs.Commands.{Command, patch, empty, depend, group_after, group_patch, max_line, command_in, or_field, command_of_value, command_of}
 use Rattle.fst_lines.specs.Parsing.{command}
 use Rattle.fst_lines.specs.declared.command.Command.{Command as Parsed}
 use Rattle.fst_lines.specs.declared.short.Short.{Short}
 use Rattle.fst_lines.specs.declared.short.Short.TheVariants.{Alone, Numbered}
-use Rattle.fst_lines.specs.Short.{short_data, data_of, IsShort, small_number, list_of, NamesListed, NamesAtEnd, IsPatch, IsEmpty, IsDepend, AsksShort, AsksNamed, Asks}
+use Rattle.fst_lines.specs.Short.{short_data, data_of, IsShort, small_number, list_of, NamesAtEnd, IsPatch, IsEmpty, IsDepend, IsGroupPatch, IsGroupAfter, AsksShort, AsksNamed, Asks}
 use Rattle.fst_lines.proofs.CommandLemmas.{value_of-text, command_of-short}
 
 abbrev document : Option (json.Json × List Token) → Option Data
@@ -183,14 +183,74 @@ patch_tokens : (ts rest p q r : List Token) (b a t : List ℕ) → ts ≡ Token.
 patch_tokens ts rest p q r b a t h i j k = rw (h, i, j, k)
 
 patch_asks : (line : List ℕ) (c : Command) → AsksNamed (codes "patch") IsPatch (tokens line) c → command_of_value (read line) ≡ Ok c
-patch_asks line c (rest, starts, (block, at, bytes, after, p, q, r, is, (b, pb, nb), (a, pa, na), (t, pt, nt), names)) =
+patch_asks line c (rest, starts, (block, at, bytes, after, r, is, (p, q, (b, pb, nb), (a, pa, na), (t, pt, nt)), names)) =
     ap (λ ts. command_of_value (document (value 127 ts))) (patch_tokens (tokens line) rest p q r b a t starts pb pa pt)
     ∙ change_asks c block at b a t bytes after r nb na nt names is
 
--- ---- an empty patch, and what a gate gains
+-- ---- a change of a group
 
 abbrev named_tokens : (name : List ℕ) → List Token → List Token
 named_tokens name ts = Token.begin_object ∷ Token.key (codes "do") ∷ Token.string name ∷ ts
+
+-- the members of a change, to the end of the line
+abbrev change_tokens : (block at bytes : List ℕ) → List Token
+change_tokens block at bytes =
+    Token.key (codes "block") ∷ Token.number block ∷ Token.key (codes "at") ∷ Token.number at ∷ Token.key (codes "data") ∷ Token.string bytes ∷ Token.end_object ∷ []
+
+abbrev grouped : (group block at bytes : List ℕ) → json.Json
+grouped group block at bytes =
+    json.object (json.member (codes "do") (json.string (codes "group_patch")) (json.member (codes "group") (json.number group) (json.member (codes "block") (json.number block)
+    (json.member (codes "at") (json.number at) (json.member (codes "data") (json.string bytes) json.no_members)))))
+
+grouped_value : (group block at bytes : List ℕ)
+    → value 127 (named_tokens (codes "group_patch") (Token.key (codes "group") ∷ Token.number group ∷ change_tokens block at bytes)) ≡ Some (grouped group block at bytes, [])
+unfolding items members value
+grouped_value group block at bytes = refl
+
+abbrev grouped_found : Data → Data → Data → List ℕ → Members
+grouped_found group block at bytes =
+    put (codes "data") (string bytes) (put (codes "at") at (put (codes "block") block (put (codes "group") group (put (codes "do") (string (codes "group_patch")) no_members))))
+
+grouped_data : (group block at bytes : List ℕ) (d e f : Data) → option_map number (number_of group) ≡ Some d → option_map number (number_of block) ≡ Some e
+    → option_map number (number_of at) ≡ Some f → of_json (grouped group block at bytes) ≡ Some (object (grouped_found d e f bytes))
+grouped_data group block at bytes d e f h i j =
+    ap (λ (o : Option Data). option_map object (option_and_then (λ g. option_and_then (λ b. option_and_then (λ a. Some (grouped_found g b a bytes)) (option_map number (number_of at))) (option_map number (number_of block))) o)) h
+    ∙ (ap (λ (o : Option Data). option_map object (option_and_then (λ b. option_and_then (λ a. Some (grouped_found d b a bytes)) (option_map number (number_of at))) o)) i
+    ∙ ap (λ (o : Option Data). option_map object (option_and_then (λ a. Some (grouped_found d e a bytes)) o)) j)
+
+abbrev grouped_joined : Option ℕ → Option ℕ → Option ℕ → Option (List ℕ) → Option Command
+grouped_joined group block at bytes = option_and_then (λ g. option_and_then (λ b. option_and_then (λ a. option_map (group_patch g b a) bytes) at) block) group
+
+grouped_is : (o p q : Option ℕ) (r : Option (List ℕ)) (group block at : ℕ) (bytes : List ℕ) → o ≡ Some group → p ≡ Some block → q ≡ Some at → r ≡ Some bytes
+    → grouped_joined o p q r ≡ Some (group_patch group block at bytes)
+grouped_is o p q r group block at bytes h i j k = rw (h, i, j, k)
+
+grouped_asked : (d e f : Data) (bytes : List ℕ)
+    → command_in (object (grouped_found d e f bytes)) ≡ grouped_joined (number_in d) (number_in e) (number_in f) (if_ok (decode_of bytes))
+grouped_asked d e f bytes = refl
+
+grouped_follows : (c : Command) (group block at : ℕ) (g b a t bytes : List ℕ) → small_number g ≡ Some group → small_number b ≡ Some block → small_number a ≡ Some at
+    → decode_of t ≡ Ok bytes → c ≡ group_patch group block at bytes
+    → command_of_value (document (value 127 (named_tokens (codes "group_patch") (Token.key (codes "group") ∷ Token.number g ∷ change_tokens b a t)))) ≡ Ok c
+grouped_follows c group block at g b a t bytes hg hb ha ht is =
+    let d = small_data g (number_of g) group hg in
+    let e = small_data b (number_of b) block hb in
+    let f = small_data a (number_of a) at ha in
+    ap (λ x. command_of_value (document x)) (grouped_value g b a t)
+    ∙ (ap command_of_value (grouped_data g b a t d.0 e.0 f.0 d.1 e.1 f.1)
+    ∙ ap or_field (grouped_asked d.0 e.0 f.0 t ∙ (grouped_is _ _ _ _ group block at bytes d.2 e.2 f.2 (ap if_ok ht) ∙ ap Some (sym is))))
+
+grouped_tokens : (ts p q r : List Token) (g b a t : List ℕ) → ts ≡ Token.key (codes "group") ∷ Token.number g ∷ p → p ≡ Token.key (codes "block") ∷ Token.number b ∷ q
+    → q ≡ Token.key (codes "at") ∷ Token.number a ∷ r → r ≡ Token.key (codes "data") ∷ Token.string t ∷ Token.end_object ∷ []
+    → ts ≡ Token.key (codes "group") ∷ Token.number g ∷ change_tokens b a t
+grouped_tokens ts p q r g b a t h i j k = rw (h, i, j, k)
+
+group_patch_asks : (line : List ℕ) (c : Command) → AsksNamed (codes "group_patch") IsGroupPatch (tokens line) c → command_of_value (read line) ≡ Ok c
+group_patch_asks line c (rest, starts, (group, block, at, bytes, p, is, (g, pg, ng), (q, r, (b, pb, nb), (a, pa, na), (t, pt, nt)))) =
+    ap (λ ts. command_of_value (document (value 127 ts))) (starts ∙ ap (named_tokens (codes "group_patch")) (grouped_tokens rest p q r g b a t pg pb pa pt))
+    ∙ grouped_follows c group block at g b a t bytes ng nb na nt is
+
+-- ---- an empty patch, what a gate gains, and the group that a group comes after
 
 empty_value : (depth : ℕ) (rest : List Token) (js : json.Items) → items (value depth) (length rest) rest ≡ Some (js, Token.end_object ∷ [])
     → value (suc (suc depth)) (named_tokens (codes "empty") (Token.key (codes "after") ∷ Token.begin_array ∷ rest))
@@ -259,11 +319,60 @@ depend_asks line c (rest, starts, (gate, on, past, is, (text, has_gate, small), 
     (starts ∙ ap (named_tokens (codes "depend")) (has_gate ∙ ap (λ x. Token.key (codes "gate") ∷ Token.number text ∷ x) (has_on ∙ ap (λ x. Token.key (codes "on") ∷ x) opens)))
     ∙ depend_follows c gate text on names small is listed
 
+abbrev after_json : (group on : List ℕ) → json.Json
+after_json group on =
+    json.object (json.member (codes "do") (json.string (codes "group_after")) (json.member (codes "group") (json.number group) (json.member (codes "on") (json.number on) json.no_members)))
+
+after_value : (group on : List ℕ)
+    → value 127 (named_tokens (codes "group_after") (Token.key (codes "group") ∷ Token.number group ∷ Token.key (codes "on") ∷ Token.number on ∷ Token.end_object ∷ []))
+    ≡ Some (after_json group on, [])
+unfolding items members value
+after_value group on = refl
+
+abbrev after_found : Data → Data → Members
+after_found group on = put (codes "on") on (put (codes "group") group (put (codes "do") (string (codes "group_after")) no_members))
+
+after_data : (group on : List ℕ) (d e : Data) → option_map number (number_of group) ≡ Some d → option_map number (number_of on) ≡ Some e
+    → of_json (after_json group on) ≡ Some (object (after_found d e))
+after_data group on d e h i =
+    ap (λ (o : Option Data). option_map object (option_and_then (λ g. option_and_then (λ n. Some (after_found g n)) (option_map number (number_of on))) o)) h
+    ∙ ap (λ (o : Option Data). option_map object (option_and_then (λ n. Some (after_found d n)) o)) i
+
+after_asked : (d e : Data) → command_in (object (after_found d e)) ≡ option_and_then (λ g. option_map (group_after g) (number_in e)) (number_in d)
+after_asked d e = refl
+
+after_is : (o p : Option ℕ) (group on : ℕ) → o ≡ Some group → p ≡ Some on → option_and_then (λ g. option_map (group_after g) p) o ≡ Some (group_after group on)
+after_is o p group on h k = rw (h, k) refl
+
+after_follows : (c : Command) (group on : ℕ) (g n : List ℕ) → small_number g ≡ Some group → small_number n ≡ Some on → c ≡ group_after group on
+    → command_of_value (document (value 127 (named_tokens (codes "group_after") (Token.key (codes "group") ∷ Token.number g ∷ Token.key (codes "on") ∷ Token.number n ∷ Token.end_object ∷ [])))) ≡ Ok c
+after_follows c group on g n hg hn is =
+    let d = small_data g (number_of g) group hg in
+    let e = small_data n (number_of n) on hn in
+    ap (λ x. command_of_value (document x)) (after_value g n)
+    ∙ (ap command_of_value (after_data g n d.0 e.0 d.1 e.1)
+    ∙ ap or_field (after_asked d.0 e.0 ∙ (after_is _ _ group on d.2 e.2 ∙ ap Some (sym is))))
+
+group_after_asks : (line : List ℕ) (c : Command) → AsksNamed (codes "group_after") IsGroupAfter (tokens line) c → command_of_value (read line) ≡ Ok c
+group_after_asks line c (rest, starts, (group, on, past, is, (g, pg, ng), (n, pn, nn))) =
+    ap (λ ts. command_of_value (document (value 127 ts)))
+    (starts ∙ ap (named_tokens (codes "group_after")) (pg ∙ ap (λ x. Token.key (codes "group") ∷ Token.number g ∷ x) pn))
+    ∙ after_follows c group on g n ng nn is
+
+-- what follows the name of a command is the command, so the line asks for it
+pub Asks-named : (name found : List ℕ) (Is : List Token → Command → Type 0) (ts rest : List Token) (r : Option Parsed)
+    → ((c : Command) → AsksNamed name Is ts c → Asks ts c) → ts ≡ named_tokens found rest → found ≡ name
+    → IfSome r (λ c. Is rest (command c)) → IfSome r (λ c. Asks ts (command c))
+Asks-named name found Is ts rest None among starts same is = is
+Asks-named name found Is ts rest (Some c) among starts same is = among (command c) (rest, starts ∙ ap (λ n. named_tokens n rest) same, is)
+
 either_asks : (line : List ℕ) (c : Command) → Asks (tokens line) c → command_of_value (read line) ≡ Ok c
 either_asks line c (inl h) = short_asks line c h
 either_asks line c (inr (inl h)) = patch_asks line c h
 either_asks line c (inr (inr (inl h))) = empty_asks line c h
-either_asks line c (inr (inr (inr h))) = depend_asks line c h
+either_asks line c (inr (inr (inr (inl h)))) = depend_asks line c h
+either_asks line c (inr (inr (inr (inr (inl h))))) = group_patch_asks line c h
+either_asks line c (inr (inr (inr (inr (inr h))))) = group_after_asks line c h
 
 pub line_asks : (line : List ℕ) (r : Option Parsed) → length line ≤ max_line → IsUtf8 line
     → IfSome r (λ c. Asks (tokens line) (command c)) → IfSome r (λ c. command_of line ≡ Ok (command c))

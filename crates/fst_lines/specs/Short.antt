@@ -1,11 +1,11 @@
--- Short lines: the values that they are, and what the lines ask that name patches.
+-- Short lines: the values that they are, and what the lines ask that change a block or put things in order.
 use Rattle.std.specs.Prelude.{◌≡◌, ◌⊎◌, ℕ, List, [], ◌∷◌, Option, Some, None, Ok, option_map, option_and_then, codes}
 use Rattle.json.specs.Token.{Token}
 use Rattle.serde_json.specs.Data.{Data, unsigned, number, string, object, no_members, put}
 use Rattle.serde_json.specs.Read.{number_of}
 use Rattle.hex.specs.Hex.{decode_of}
 use Rattle.fst_lines.specs.Members.{number_in}
-use Rattle.fst_lines.specs.Commands.{Command, patch, empty, depend, command_in}
+use Rattle.fst_lines.specs.Commands.{Command, patch, empty, depend, group_after, group_patch, command_in}
 use Rattle.fst_lines.specs.declared.short.Short.{Short}
 use Rattle.fst_lines.specs.declared.short.Short.TheVariants.{Alone, Numbered}
 
@@ -53,6 +53,12 @@ NumberUnder name n before after = (text : List ℕ) × (before ≡ Token.key nam
 abbrev pub BytesUnder : (name bytes : List ℕ) (before after : List Token) → Type 0
 BytesUnder name bytes before after = (text : List ℕ) × (before ≡ Token.key name ∷ Token.string text ∷ after) × (decode_of text ≡ Ok bytes)
 
+-- the members of a change that it has in a group and in none
+abbrev pub ChangeNext : (block at : ℕ) (bytes : List ℕ) (before after : List Token) → Type 0
+ChangeNext block at bytes before after =
+    (past_block past_at : List Token) × NumberUnder (codes "block") block before past_block × NumberUnder (codes "at") at past_block past_at
+    × BytesUnder (codes "data") bytes past_at after
+
 -- the line ends with the list of the names
 abbrev pub NamesListed : List Token → List ℕ → Type 0
 NamesListed tokens names = (rest : List Token) × (tokens ≡ Token.begin_array ∷ rest) × (list_of rest ≡ Some (names, Token.end_object ∷ []))
@@ -68,9 +74,14 @@ NamesAtEnd tokens names = ((tokens ≡ Token.end_object ∷ []) × (names ≡ []
 -- what follows the name of a change is that change
 abbrev pub IsPatch : List Token → Command → Type 0
 IsPatch tokens c =
-    (block at : ℕ) × (bytes after : List ℕ) × (past_block past_at past_bytes : List Token) × (c ≡ patch block at bytes after)
-    × NumberUnder (codes "block") block tokens past_block × NumberUnder (codes "at") at past_block past_at
-    × BytesUnder (codes "data") bytes past_at past_bytes × NamesAtEnd past_bytes after
+    (block at : ℕ) × (bytes after : List ℕ) × (past_bytes : List Token) × (c ≡ patch block at bytes after)
+    × ChangeNext block at bytes tokens past_bytes × NamesAtEnd past_bytes after
+
+-- what follows the name of a group's change is that change
+abbrev pub IsGroupPatch : List Token → Command → Type 0
+IsGroupPatch tokens c =
+    (group block at : ℕ) × (bytes : List ℕ) × (past_group : List Token) × (c ≡ group_patch group block at bytes)
+    × NumberUnder (codes "group") group tokens past_group × ChangeNext block at bytes past_group (Token.end_object ∷ [])
 
 -- what follows the name of an empty patch is that patch
 abbrev pub IsEmpty : List Token → Command → Type 0
@@ -80,6 +91,12 @@ IsEmpty tokens c = (after : List ℕ) × (c ≡ empty after) × NamesAtEnd token
 abbrev pub IsDepend : List Token → Command → Type 0
 IsDepend tokens c =
     (gate : ℕ) × (on : List ℕ) × (past_gate : List Token) × (c ≡ depend gate on) × NumberUnder (codes "gate") gate tokens past_gate × NamesUnder (codes "on") past_gate on
+
+-- the group that a group comes after
+abbrev pub IsGroupAfter : List Token → Command → Type 0
+IsGroupAfter tokens c =
+    (group on : ℕ) × (past_group : List Token) × (c ≡ group_after group on) × NumberUnder (codes "group") group tokens past_group
+    × NumberUnder (codes "on") on past_group (Token.end_object ∷ [])
 
 -- the tokens of a line that asks for the command
 abbrev pub AsksShort : List Token → Command → Type 0
@@ -91,4 +108,5 @@ AsksNamed name Is tokens c = (rest : List Token) × (tokens ≡ Token.begin_obje
 
 abbrev pub Asks : List Token → Command → Type 0
 Asks tokens c =
-    AsksShort tokens c ⊎ (AsksNamed (codes "patch") IsPatch tokens c ⊎ (AsksNamed (codes "empty") IsEmpty tokens c ⊎ AsksNamed (codes "depend") IsDepend tokens c))
+    AsksShort tokens c ⊎ (AsksNamed (codes "patch") IsPatch tokens c ⊎ (AsksNamed (codes "empty") IsEmpty tokens c ⊎ (AsksNamed (codes "depend") IsDepend tokens c
+    ⊎ (AsksNamed (codes "group_patch") IsGroupPatch tokens c ⊎ AsksNamed (codes "group_after") IsGroupAfter tokens c))))

@@ -1,14 +1,15 @@
-//! Lines that order patches and change no block: of an empty patch, and of what a gate gains. Their members stand in the order
-//! `do`, `after`, and `do`, `gate`, `on`; whatever else such a line may be is left to `serde_json`.
+//! Lines that order patches and change no block: of an empty patch, of what a gate gains, and of the group that a group comes
+//! after. Their members stand in the order `do`, `after`, in the order `do`, `gate`, `on`, and in the order `do`, `group`, `on`;
+//! whatever else such a line may be is left to `serde_json`.
 
 ghost use Rattle.std.specs.Prelude.{◌≡◌, List, ℕ, IfSome, codes};
 ghost use Rattle.fst_lines.specs.Parsing.{command};
-ghost use Rattle.fst_lines.specs.Short.{IsEmpty, IsDepend};
+ghost use Rattle.fst_lines.specs.Short.{IsEmpty, IsDepend, IsGroupAfter};
 
 use crate::command::Command;
 use crate::names::{take_names, take_names_under};
-use crate::taking::take_number_under;
-use fst_types::PatchNo;
+use crate::taking::{take_number_under, takes_end};
+use fst_types::{GroupNo, PatchNo};
 use json::Reader;
 use std::alloc::Global;
 
@@ -27,4 +28,16 @@ pub(crate) fn take_depend(alloc: Global, reader: &mut Reader<'_>) -> Option<Comm
     let gate = PatchNo(take_number_under(reader, "gate")?);
     let on = take_names_under(alloc, reader, "on")?;
     Some(Command::Depend { gate, on })
+}
+
+/// The group that a line puts a group after, after `{"do":"group_after"`.
+pub(crate) fn take_group_after(reader: &mut Reader<'_>) -> Option<Command>
+    ensures { IfSome result (λ c. IsGroupAfter reader.old (command c)) }
+{
+    let group = GroupNo(take_number_under(reader, "group")?);
+    let on = GroupNo(take_number_under(reader, "on")?);
+    if !takes_end(reader) {
+        return None;
+    }
+    Some(Command::GroupAfter { group, on })
 }

@@ -1,4 +1,5 @@
-//! Lines of a change, whose members stand in the order `do`, `block`, `at`, `data` and, unless it is left out, `after`.
+//! Lines of a change, whose members stand in the order `do`, `block`, `at`, `data` and, unless it is left out, `after`; in a
+//! group in the order `do`, `group`, `block`, `at`, `data`.
 //!
 //! Most lines of a long script are such ones. They are read from their tokens, as short lines are (`short`); whatever
 //! else a line of a change may be is left to `serde_json`.
@@ -7,14 +8,22 @@ ghost use Rattle.std.specs.Prelude.{◌≡◌, ◌∷◌, List, Ok, IfSome};
 ghost use Rattle.json.specs.Token.{string};
 ghost use Rattle.hex.specs.Hex.{decode_of};
 ghost use Rattle.fst_lines.specs.Parsing.{command};
-ghost use Rattle.fst_lines.specs.Short.{BytesUnder, IsPatch};
+ghost use Rattle.fst_lines.specs.Short.{BytesUnder, ChangeNext, IsPatch, IsGroupPatch};
 
 use crate::command::Command;
 use crate::names::take_names;
-use crate::taking::{take_number_under, take_text, takes_key};
-use fst_types::BlockNo;
+use crate::taking::{take_number_under, take_text, takes_end, takes_key};
+use fst_types::{BlockNo, GroupNo};
 use json::Reader;
 use std::alloc::Global;
+
+/// What a change puts where, in a group or in none.
+#[derive(Drop)]
+struct Change {
+    block: BlockNo,
+    at: u32,
+    bytes: Vec<u8>,
+}
 
 fn take_bytes_under(alloc: Global, reader: &mut Reader<'_>, name: &str) -> Option<Vec<u8>>
     ensures { IfSome result (λ bytes. BytesUnder name.now bytes.items reader.old reader.new) }
@@ -29,18 +38,42 @@ fn take_bytes_under(alloc: Global, reader: &mut Reader<'_>, name: &str) -> Optio
     }
 }
 
+fn take_change(alloc: Global, reader: &mut Reader<'_>) -> Option<Change>
+    ensures { IfSome result (λ c. ChangeNext c.block.0 c.at c.bytes.items reader.old reader.new) }
+{
+    let block = BlockNo(take_number_under(reader, "block")?);
+    let at = take_number_under(reader, "at")?;
+    let bytes = take_bytes_under(alloc, reader, "data")?;
+    Some(Change { block, at, bytes })
+}
+
 /// The change that a line asks for, after `{"do":"patch"`.
 pub(crate) fn take_patch(alloc: Global, reader: &mut Reader<'_>) -> Option<Command>
     ensures { IfSome result (λ c. IsPatch reader.old (command c)) }
 {
-    let block = BlockNo(take_number_under(reader, "block")?);
-    let at = take_number_under(reader, "at")?;
-    let data = take_bytes_under(alloc, reader, "data")?;
+    let Change { block, at, bytes } = take_change(alloc, reader)?;
     let after = take_names(alloc, reader)?;
     Some(Command::Patch {
         block,
         at,
-        data,
+        data: bytes,
         after,
+    })
+}
+
+/// The change of a group that a line asks for, after `{"do":"group_patch"`.
+pub(crate) fn take_group_patch(alloc: Global, reader: &mut Reader<'_>) -> Option<Command>
+    ensures { IfSome result (λ c. IsGroupPatch reader.old (command c)) }
+{
+    let group = GroupNo(take_number_under(reader, "group")?);
+    let Change { block, at, bytes } = take_change(alloc, reader)?;
+    if !takes_end(reader) {
+        return None;
+    }
+    Some(Command::GroupPatch {
+        group,
+        block,
+        at,
+        data: bytes,
     })
 }

@@ -1,5 +1,5 @@
-//! Short lines: what a command does, and one number or no other member, or the members of a change (`patch_line`), of an
-//! empty patch or of what a gate gains (`order_line`).
+//! Short lines: what a command does, and one number or no other member, or the members of a change, in a group or in none
+//! (`patch_line`), of an empty patch, of what a gate gains or of the group that a group comes after (`order_line`).
 //!
 //! Nearly all lines of a script are such ones, and a tree of values would cost more than the command. So the members are
 //! taken from the tokens of `json`, in memory that is kept from line to line. A line that is anything else, or is written
@@ -12,8 +12,8 @@ ghost use Rattle.fst_lines.specs.Parsing.{command};
 ghost use Rattle.fst_lines.specs.Short.{alone_data, short_data, data_of, IsShort, AsksShort, Asks};
 
 use crate::command::Command;
-use crate::order_line::{take_depend, take_empty};
-use crate::patch_line::take_patch;
+use crate::order_line::{take_depend, take_empty, take_group_after};
+use crate::patch_line::{take_group_patch, take_patch};
 use crate::taking::{is, take_key, take_number, take_text, takes_begin, takes_end};
 use fst_types::{BlockNo, GroupNo, PatchNo, Ticket};
 use json::{Reader, Scratch, Token};
@@ -170,6 +170,12 @@ fn take_command(alloc: Global, reader: &mut Reader<'_>) -> Option<Command>
     }
     if is(name, "depend") {
         return take_depend(alloc, reader);
+    }
+    if is(name, "group_patch") {
+        return take_group_patch(alloc, reader);
+    }
+    if is(name, "group_after") {
+        return take_group_after(reader);
     }
     take_short(reader, name)
 }
