@@ -251,6 +251,13 @@ module _ (heads : List Head) (rising : AreRising heads) (disk : IsOnDiskWithAll 
       let whole : Leads (StepsWhole now down) top n = elim path [ inl e ↦ inl e | inr steps ↦ inr (steps_whole now in_order flights needs needed b down shows_down top n steps) ] in
       leads_ups now b up down shows_up shows_down in_order top n whole (off_live now in_order disk b up shows_up top ((first top).0 c).away)
 
+  -- where it comes to a change of b, a way leads back
+  pub comes_soft : ComesTo now level least needs down b tops → LeadsNowhere now b row → ⊥
+  comes_soft met =
+      let a = led_leads (StepsHigh now level least needs down) tops met.at met.under in
+      let top = (first a.0).0 a.1 in
+      back_leads now in_order disk b up shows_up row (record { first = met.at; last = a.0; change = met.change; away = top.away; under = first_under now b row a.0 top; path = under_up a.0 met.at a.1 (leads_down now level floor leveled needs needed down least a.0 met.at a.2) })
+
   -- where it comes to none, none does
   pub comes_hard : (ComesTo now level least needs down b tops → ⊥) → LeadsNowhere now b row
   comes_hard none = none_leads now in_order disk b up shows_up row (λ l.

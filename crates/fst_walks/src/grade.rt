@@ -2,10 +2,10 @@
 //! that it depends on can come to wait for its block: no open gate, no change of another block that needs one of its
 //! block, and no block from which the block graph leads to its block. Over a block whose changes are all on disk no search
 //! is needed, nor where all that the change depends on is a hard change of its block or below its floor. Else the ancestors
-//! of what the change depends on may lead back to the block, or a chain within a few steps; or a short search from both
-//! ends may tell, or longer chains, and only where none does a way back is looked for from both ends without a limit. A gate
-//! that is sealed with the change is taken as sealed already: that sets free what it alone blocks, and moves no change and
-//! no dependency.
+//! of what the change depends on may lead back to the block, or a chain within a few steps; or a short walk down may tell,
+//! or a short search from both ends, or longer chains, and only where none does a way back is looked for from both ends
+//! without a limit. A gate that is sealed with the change is taken as sealed already: that sets free what it alone blocks,
+//! and moves no change and no dependency.
 
 ghost use Rattle.std.specs.Prelude.{◌<◌, length};
 ghost use Rattle.fst_types.specs.Grades.{FollowsRule};
@@ -15,6 +15,7 @@ ghost use Rattle.fst_walks.specs.BothEnds.{IsOver};
 ghost use Rattle.fst_walks.specs.Sights.{Sees};
 
 use crate::ancestors::leads_to_block;
+use crate::below::grade_below;
 use crate::both_ends::grade_between;
 use crate::ends::Ends;
 use crate::other_gates::is_blocked;
@@ -48,6 +49,9 @@ fn grade_by_ways(sight: &Sight<'_>, ends: &mut Ends, block: u32, row: &[u32]) ->
     }
     if comes_back_soon(sight, block, row) {
         return Grade::Soft;
+    }
+    if let Some(grade) = grade_below(sight, &mut ends.down, block, row) {
+        return grade;
     }
     if let Some(grade) = grade_between(sight, ends, block, row, FEW_LOOKS) {
         return grade;
