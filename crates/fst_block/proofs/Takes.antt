@@ -1,6 +1,8 @@
 -- One step of the walk that takes the chosen patches out.
-use Rattle.std.proofs.Common.{◌≡◌, ℕ, zero, suc, ◌+◌, ◌<◌, ◌≤◌, true, false, cond, List, [], ◌∷◌, ◌++◌, length, take, drop, get_or, Some, refl, sym, ap, subst, ◌∙◌, arith, append_assoc}
+use Rattle.std.proofs.Common.{◌≡◌, ℕ, zero, suc, ◌+◌, ◌<◌, ◌≤◌, true, false, cond, List, [], ◌∷◌, ◌++◌, length, take, drop, get_or, Some, inl, inr, refl, sym, ap, subst, ◌∙◌, arith, append_assoc, length-drop}
 use Rattle.std.specs.Prelude.{slice_get}
+use Rattle.std.proofs.lemmas.Bool.{cases_Bool, cases_lt}
+use Rattle.std.proofs.lemmas.List.{drop_all, length-map, take-append-drop}
 use Rattle.std.proofs.lemmas.List.Sums.{sum_by-cons}
 use Rattle.fst_chain.specs.Records.{payload_at, without}
 use Rattle.fst_types.specs.declared.number.PatchNo.{PatchNo}
@@ -9,7 +11,7 @@ use Rattle.fst_block.specs.BlockView.{BlockPatch, write_of, fold_of, len_if_soft
 use Rattle.fst_block.specs.Choices.{numbers_of, is_chosen, chosen_of}
 use Rattle.fst_block.specs.Reverts.{Entry, patches_of, entries_left}
 use Rattle.fst_block.proofs.Places.{drop_at_place, take_at_place}
-use Rattle.fst_block.proofs.Meeting.{chosen_numbers, is_chosen_next, is_left_next}
+use Rattle.fst_block.proofs.Meeting.{chosen_numbers, numbers_chosen, numbers_left, is_chosen_next, is_left_next}
 
 -- the walk stands at k, and what is left leads to the end
 pub record TakesOut (chosen : List PatchNo) (left : List Entry) (new_base : List ℕ) (total : ℕ) (base : List ℕ) (es : List Entry) (k met undo : ℕ) : Type 0 where
@@ -122,3 +124,35 @@ module _ (chosen : List PatchNo) (left : List Entry) (new_base : List ℕ) (tota
   -- what is counted so far and this one are no more than all
   pub counts_within : slice_get (numbers_of chosen) met ≡ Some p.number → undo + len_if_soft p.grade p.span.len ≤ total
   counts_within named = omega (arith, (with_one_out named).counts)
+
+-- where no patch's number is a chosen one, all are left
+none_left : (chosen : List PatchNo) (es : List Entry) → chosen_numbers chosen es ≡ [] → (entries_left chosen es ≡ es) × (chosen_of chosen (patches_of es) ≡ [])
+none_left chosen [] none = (refl, refl)
+none_left chosen (e ∷ es) none =
+    elim (cases_Bool (is_chosen chosen e.0)) [
+      | inl taken ↦ let wrong = sym (numbers_chosen chosen e es taken) ∙ none in absurd (omega (arith, ap length wrong))
+      | inr stays ↦
+          let rest = none_left chosen es (sym (numbers_left chosen e es stays) ∙ none) in
+          (entries_first chosen e.0 e.1 es stays ∙ ap (λ xs. e ∷ xs) rest.0, left_first chosen e.0 e.1 es stays ∙ rest.1)
+    ]
+
+module _ (chosen : List PatchNo) (left : List Entry) (new_base : List ℕ) (total : ℕ) (base : List ℕ) (es : List Entry) (k met undo : ℕ)
+    (walk : TakesOut chosen left new_base total base es k met undo) where
+  -- while a number is to be met, a patch is to come
+  pub more_to_come : met < length chosen → k < length es
+  more_to_come more =
+      elim (cases_lt k (length es)) [
+        | inl before ↦ before
+        | inr past ↦
+            let none = walk.meets ∙ ap (chosen_numbers chosen) (drop_all k es past) in
+            absurd (omega (arith, more, ap length none, length-drop met (numbers_of chosen), length-map chosen (λ n. n.0)))
+      ]
+
+  -- once all are met, the walk is at its end
+  pub takes_done : length chosen ≤ met → (es ≡ left) × (base ≡ new_base) × (undo ≡ total)
+  takes_done all =
+      let rest = none_left chosen (drop k es) (sym walk.meets ∙ drop_all met (numbers_of chosen) (omega (arith, all, length-map chosen (λ n. n.0)))) in (
+        sym (take-append-drop k es) ∙ (ap (λ xs. take k es ++ xs) (sym rest.0) ∙ walk.leaves),
+        ap (fold_of base) (sym rest.1) ∙ walk.folds,
+        omega (arith, walk.counts, ap soft_lengths rest.1),
+      )

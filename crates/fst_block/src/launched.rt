@@ -32,7 +32,9 @@ pub fn take_out(patches: &mut Chain<Change>, chosen: &[PatchNo], base: &mut Note
     let mut met = 0;
     let mut undo = 0;
     let mut cursor = patches.cursor_front();
-    while let Some(change) = cursor.current() {
+    // Once all are met, what is behind the last of them stays as it is.
+    while met < chosen.len() {
+        let change = cursor.current().unwrap();
         if is_at(chosen, met, change.no) {
             *base = Noted::of::<(&Noted, &Change), Written>(&(&*base, change));
             undo += u64::from(kept_len(change.grade, change.span.len));
