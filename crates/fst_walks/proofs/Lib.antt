@@ -20,6 +20,7 @@ pub mod Behind
 pub mod ComesBack
 pub mod CrossingBack
 pub mod Overlapped
+pub mod OwnBlock
 pub mod Trails
 pub mod Leveled
 pub mod Lifted

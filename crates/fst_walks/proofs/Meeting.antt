@@ -115,20 +115,23 @@ first_under patches b row n f = (f.top, f.named, elim f.path [ inl e ↦ inl e |
     down p q (one s) = one s.1
     down p q (join {q = k} c d) = join (down p k c) (down k q d)
 
--- what the way down from the row leads to, and of it the changes of other blocks
-pub first_from : (patches : List Patch) (b : ℕ) (row start met kept : List ℕ) → Visits (λ n. Contains row n × IsLiveNumber patches n) [] start → ((n : ℕ) → Contains met n ↔ IsLedFrom (StepsAway patches b) start n)
-    → ((n : ℕ) → Contains kept n ↔ (Contains met n × PassesAt (test.LiveOff b) patches n)) → (n : ℕ) → Contains kept n ↔ IsFirstAway patches b row n
-first_from patches b row start met kept starts led keeps n = (
-  λ c.
-      let k = (keeps n).0 c in
-      let s = led_leads (StepsAway patches b) start n ((led n).0 k.0) in
-      let top = started s.0 s.1 in
-      record { away = k.1; top = s.0; named = top.0; live = top.1; path = s.2 },
-  λ f. (keeps n).1 ((led n).1 (leads_led (StepsAway patches b) start f.top n (starts.each f.top (f.named, f.live)) f.path), f.away),
-)
+-- of what the way down from the row leads to, the changes of other blocks are first ones
+pub first_only : (patches : List Patch) (b : ℕ) (row start met kept : List ℕ) → Visits (λ n. Contains row n × IsLiveNumber patches n) [] start → ((n : ℕ) → Contains met n → IsLedFrom (StepsAway patches b) start n)
+    → ((n : ℕ) → Contains kept n ↔ (Contains met n × PassesAt (test.LiveOff b) patches n)) → (n : ℕ) → Contains kept n → IsFirstAway patches b row n
+first_only patches b row start met kept starts led keeps n c =
+    let k = (keeps n).0 c in
+    let s = led_leads (StepsAway patches b) start n (led n k.0) in
+    let top = started s.0 s.1 in
+    record { away = k.1; top = s.0; named = top.0; live = top.1; path = s.2 }
   where
     started : (m : ℕ) → Contains start m → Contains row m × IsLiveNumber patches m
     started m c = elim (starts.only m c) [ inl none ↦ absurd (none_in m none) | inr k ↦ k ]
+
+-- and they are all of them where all that it leads to was met
+pub first_all : (patches : List Patch) (b : ℕ) (row start met kept : List ℕ) → Visits (λ n. Contains row n × IsLiveNumber patches n) [] start → ((n : ℕ) → IsLedFrom (StepsAway patches b) start n → Contains met n)
+    → ((n : ℕ) → Contains kept n ↔ (Contains met n × PassesAt (test.LiveOff b) patches n)) → (n : ℕ) → IsFirstAway patches b row n → Contains kept n
+first_all patches b row start met kept starts led keeps n f =
+    (keeps n).1 (led n (leads_led (StepsAway patches b) start f.top n (starts.each f.top (f.named, f.live)) f.path), f.away)
 
 -- no way up falls
 module _ (patches : List Patch) (level floor : ℕ → ℕ) (leveled : AreLeveled patches level floor) (crossed : List Bool) where
@@ -235,10 +238,10 @@ none_first heads rising disk hard b crossed shown row none =
 pub visited_all : (P : ℕ → Type 0) (queue : List ℕ) → Visits P [] queue → (n : ℕ) → Contains queue n ↔ P n
 visited_all P queue v n = (λ c. elim (v.only n c) [ inl none ↦ absurd (none_in n none) | inr p ↦ p ], v.each n)
 
--- a walk down starts from the first changes of other blocks at or below a row, and never crosses b
+-- a walk down starts from first changes of other blocks at or below a row, and never crosses b
 module _ (heads : List Head) (rising : AreRising heads) (disk : IsOnDiskWithAll (patches_of heads)) (hard : HardNeverHold (patches_of heads)) (flights : FlightsStandAlone (patches_of heads))
     (level floor : ℕ → ℕ) (leveled : AreLeveled (patches_of heads) level floor) (needs : ℕ → List ℕ) (needed : AreNeeded (patches_of heads) needs)
-    (b least : ℕ) (low : least ≤ floor b) (row : List ℕ) (up down : List Bool) (shows_up : ShowsBlocks up (λ c. c ≡ b)) (shows_down : ShowsBlocks down (λ c. c ≡ b)) (tops : List ℕ) (first : (n : ℕ) → Contains tops n ↔ IsFirstAway (patches_of heads) b row n) where
+    (b least : ℕ) (low : least ≤ floor b) (row : List ℕ) (up down : List Bool) (shows_up : ShowsBlocks up (λ c. c ≡ b)) (shows_down : ShowsBlocks down (λ c. c ≡ b)) (tops : List ℕ) (first : (n : ℕ) → Contains tops n → IsFirstAway (patches_of heads) b row n) where
   abbrev now : List Patch
   now = patches_of heads
 
@@ -249,21 +252,21 @@ module _ (heads : List Head) (rising : AreRising heads) (disk : IsOnDiskWithAll 
   pub under_up : (top n : ℕ) → Contains tops top → Leads (StepsDown now needs down) top n → Leads (StepsUp now up) n top
   under_up top n c path =
       let whole : Leads (StepsWhole now down) top n = elim path [ inl e ↦ inl e | inr steps ↦ inr (steps_whole now in_order flights needs needed b down shows_down top n steps) ] in
-      leads_ups now b up down shows_up shows_down in_order top n whole (off_live now in_order disk b up shows_up top ((first top).0 c).away)
+      leads_ups now b up down shows_up shows_down in_order top n whole (off_live now in_order disk b up shows_up top (first top c).away)
 
   -- where it comes to a change of b, a way leads back
   pub comes_soft : ComesTo now level least needs down b tops → LeadsNowhere now b row → ⊥
   comes_soft met =
       let a = led_leads (StepsHigh now level least needs down) tops met.at met.under in
-      let top = (first a.0).0 a.1 in
+      let top = first a.0 a.1 in
       back_leads now in_order disk b up shows_up row (record { first = met.at; last = a.0; change = met.change; away = top.away; under = first_under now b row a.0 top; path = under_up a.0 met.at a.1 (leads_down now level floor leveled needs needed down least a.0 met.at a.2) })
 
-  -- where it comes to none, none does
-  pub comes_hard : (ComesTo now level least needs down b tops → ⊥) → LeadsNowhere now b row
-  comes_hard none = none_leads now in_order disk b up shows_up row (λ l.
+  -- where it starts from all of them and comes to none, none does
+  pub comes_hard : ((n : ℕ) → IsFirstAway now b row n → Contains tops n) → (ComesTo now level least needs down b tops → ⊥) → LeadsNowhere now b row
+  comes_hard each none = none_leads now in_order disk b up shows_up row (λ l.
       let f = first_back heads rising disk hard b up shows_up row l in
       let back = leads_downs now b up down shows_up shows_down in_order f.1 f.0 f.4 (live_number now in_order b b f.1 f.3) in
-      let y = whole_met now in_order flights needs needed b down shows_down tops f.0 f.1 ((first f.0).1 f.2) back f.3 in
+      let y = whole_met now in_order flights needs needed b down shows_down tops f.0 f.1 (each f.0 f.2) back f.3 in
       let over = leveled.change b y.0 y.2 in
       none (record { at = y.0; under = high_led now level floor leveled needs needed down least tops y.0 y.1 (omega (arith, low, over)); change = y.2 }))
 
@@ -289,7 +292,7 @@ module _ (heads : List Head) (rising : AreRising heads) (disk : IsOnDiskWithAll 
   begin_apart n above below = off_not_on all ordered b n ((ends.first n).0 below).away ((ends.changes n).0 above).0
 
   down_to : (top n : ℕ) → Contains tops top → Leads (StepsHigh all level least needs down) top n → Leads (StepsUp all up) n top
-  down_to top n c path = under_up heads rising disk hard flights level floor leveled needs needed b least floored row up down ends.shows_up ends.shows_down tops ends.first top n c (leads_down all level floor leveled needs needed down least top n path)
+  down_to top n c path = under_up heads rising disk hard flights level floor leveled needs needed b least floored row up down ends.shows_up ends.shows_down tops (λ m. (ends.first m).0) top n c (leads_down all level floor leveled needs needed down least top n path)
 
   -- where the walks lead to the same, a way leads back
   pub together_soft : LeadTogether all level needs most least up down bottoms tops → LeadsNowhere all b row → ⊥
@@ -324,5 +327,5 @@ module _ (heads : List Head) (rising : AreRising heads) (disk : IsOnDiskWithAll 
         let path = low_leads all level floor leveled up most x n f.4 (ends.low n top) in
         met.apart n (each n (leads_led (StepsLow all level most up) bottoms x n ((ends.changes x).1 (f.3, path.0)) path.1)) (met.under_begun n top))
     | inr each ↦
-        comes_hard heads rising disk hard flights level floor leveled needs needed b least floored row up down ends.shows_up ends.shows_down tops ends.first (λ x. met.apart x.at (met.over_begun x.at (under_bottom x.at x.under x.change)) (each x.at x.under))
+        comes_hard heads rising disk hard flights level floor leveled needs needed b least floored row up down ends.shows_up ends.shows_down tops (λ m. (ends.first m).0) (λ m. (ends.first m).1) (λ x. met.apart x.at (met.over_begun x.at (under_bottom x.at x.under x.change)) (each x.at x.under))
   ]

@@ -1,6 +1,6 @@
 -- What is near a row, and the grade that it tells.
 use Rattle.std.proofs.Common.{◌≡◌, ◌⊎◌, ◌&&◌, ℕ, Bool, true, List, get_or, Contains, Some, None, Option, IfSome, refl, sym, ap, subst, ◌∙◌, inl, inr}
-use Rattle.fst_types.specs.{Closure.{one, join}, Dependencies.{DirectlyOn, DependsOn}, Facts.HardNeverHold, Gates.IsOpenNumber}
+use Rattle.fst_types.specs.{Closure.{one, join}, Dependencies.{DirectlyOn, DependsOn}, Facts.HardNeverHold}
 use Rattle.fst_types.specs.{Grades.FollowsRule, Patches.{Kind, OpenGate, Patch, IsOn, grade_of_kind}, Tests.is_change_at, declared.grade.Grade.Grade}
 use Rattle.fst_types.proofs.{Landing.{change_at, at_change}, Numbers.both}
 use Rattle.fst_heads.specs.Grading.{HasUnder, IsReturning, MayBeHard, IsHardNumber}

@@ -2,7 +2,7 @@
 //! that a walk that looks for such a way from its lower end begins at them. What lies below another block's change is left
 //! to that walk; and what lies below a hard change of the block in memory leads nowhere, as for each hard change.
 
-ghost use Rattle.std.specs.Prelude.{◌≡◌, ◌≤◌, ◌<◌, ◌↔◌, ℕ, length, Contains, IsTrue, slice_index_or};
+ghost use Rattle.std.specs.Prelude.{◌≡◌, ◌⊎◌, ◌≤◌, ◌<◌, ◌↔◌, ℕ, length, Contains, IsTrue, slice_index_or};
 ghost use Rattle.fst_heads.specs.Heads.{IsRising, patches_of};
 ghost use Rattle.fst_heads.specs.Marks.{HasSlot};
 ghost use Rattle.fst_walks.specs.BothEnds.{GoesThrough, IsFirstAway, StepsAway};
@@ -32,6 +32,7 @@ fn step_away(heads: &[Head], walk: &mut Walk, at: usize, block: u32, most: usize
     requires visited { Visited heads.now walk.old }
     requires at { at < length walk.old.met }
     ensures visited { Visited heads.now walk.new }
+    ensures only { (n : ℕ) → Contains (numbers_met heads.now walk.new) n → Contains (numbers_met heads.now walk.old) n ⊎ StepsAway (patches_of heads.now) block (slice_index_or (numbers_met heads.now walk.old) at 0) n }
     ensures visits { result ≤ most → Visits (StepsAway (patches_of heads.now) block (slice_index_or (numbers_met heads.now walk.old) at 0)) (numbers_met heads.now walk.old) (numbers_met heads.now walk.new) }
 {
     let slot = walk.slot(at);
@@ -49,6 +50,7 @@ fn walk_away(heads: &[Head], walk: &mut Walk, block: u32, most: usize) -> usize
     requires rising { IsRising heads.now }
     requires visited { Visited heads.now walk.old }
     ensures visited { Visited heads.now walk.new }
+    ensures only { (n : ℕ) → Contains (numbers_met heads.now walk.new) n → IsLedFrom (StepsAway (patches_of heads.now) block) (numbers_met heads.now walk.old) n }
     ensures led { result ≤ most → (n : ℕ) → Contains (numbers_met heads.now walk.new) n ↔ IsLedFrom (StepsAway (patches_of heads.now) block) (numbers_met heads.now walk.old) n }
 {
     let mut at = 0;
@@ -63,8 +65,8 @@ fn walk_away(heads: &[Head], walk: &mut Walk, block: u32, most: usize) -> usize
     looked
 }
 
-/// Visits the first changes of other blocks at or below the row, and nothing else, unless it stops since it has looked at
-/// more patches below the row than `most`. Answers at how many it looked. What was met before does not matter.
+/// Visits the first changes of other blocks at or below the row, and nothing else: all of them, unless it stops since it has
+/// looked at more patches below the row than `most`. Answers at how many it looked. What was met before does not matter.
 pub fn visit_first_away(
     heads: &[Head],
     walk: &mut Walk,
@@ -75,7 +77,8 @@ pub fn visit_first_away(
     requires rising { IsRising heads.now }
     requires long { length walk.old.marks ≡ length heads.now }
     ensures visited { Visited heads.now walk.new }
-    ensures first { result ≤ most → (n : ℕ) → Contains (numbers_met heads.now walk.new) n ↔ IsFirstAway (patches_of heads.now) block row.now n }
+    ensures only { (n : ℕ) → Contains (numbers_met heads.now walk.new) n → IsFirstAway (patches_of heads.now) block row.now n }
+    ensures all { result ≤ most → (n : ℕ) → IsFirstAway (patches_of heads.now) block row.now n → Contains (numbers_met heads.now walk.new) n }
 {
     walk.clear();
     visit_row(heads, walk, row);

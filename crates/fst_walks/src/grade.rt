@@ -19,7 +19,7 @@ use crate::below::grade_below;
 use crate::both_ends::grade_between;
 use crate::ends::Ends;
 use crate::other_gates::is_blocked;
-use crate::shortcuts::{comes_back, comes_back_soon, is_clean, stays_below};
+use crate::shortcuts::{comes_back, comes_back_soon, is_clean, stays_below, waits_for_own_block};
 use crate::sight::Sight;
 use fst_types::Grade;
 
@@ -39,6 +39,9 @@ fn grade_by_ways(sight: &Sight<'_>, ends: &mut Ends, block: u32, row: &[u32]) ->
     ensures down { IsOver sight.now.heads.now (length sight.now.lists.now) ends.new.down }
 {
     if is_clean(sight, block) {
+        return Grade::Hard;
+    }
+    if waits_for_own_block(sight.heads, block, row) {
         return Grade::Hard;
     }
     if stays_below(sight, block, row) {

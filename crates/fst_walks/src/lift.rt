@@ -13,7 +13,7 @@ ghost use Rattle.fst_walks.specs.Walks.{numbers_met};
 
 use crate::descent::show_only;
 use crate::levels::{Rise, TOP};
-use crate::shortcuts::stays_below;
+use crate::shortcuts::{stays_below, waits_for_own_block};
 use crate::sight::Sight;
 use crate::walk::Walk;
 use crate::way_up::{step_up, visit_low_changes};
@@ -71,7 +71,12 @@ pub fn rise_of(
 {
     let high = sight.levels.greatest(sight.heads, row);
     let floor = sight.levels.floor(block);
-    let over = high > floor || (high == floor && floor < TOP && !stays_below(sight, block, row));
+    // Over changes of the block alone nothing is to be told, so that a chain of gates over one block lifts nothing.
+    let over = high > floor
+        || (high == floor
+            && floor < TOP
+            && !stays_below(sight, block, row)
+            && !waits_for_own_block(sight.heads, block, row));
     if grade == Grade::Soft || !over {
         return Rise {
             level: high.max(floor),

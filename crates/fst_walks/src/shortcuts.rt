@@ -65,6 +65,21 @@ pub fn waits_for_gate(heads: &[Head], row: &[u32]) -> bool
     is_pending(row_sums(heads, row).joined(), Pending::Held)
 }
 
+/// Whether nothing but changes of the block is pending of the row. Then no change of another block that is not on disk lies
+/// below it, and no way leads from it back to the block.
+pub fn waits_for_own_block(heads: &[Head], block: u32, row: &[u32]) -> bool
+    requires rising { IsRising heads.now }
+    requires disk { IsOnDiskWithAll (patches_of heads.now) }
+    requires settled { (blocks : ℕ) × AreSettled (nodes_of heads.now) blocks }
+    ensures { IsTrue result → LeadsNowhere (patches_of heads.now) block row.now }
+{
+    match row_sums(heads, row).joined() {
+        Pending::Nothing => true,
+        Pending::Block(other) => other == block,
+        Pending::Apart | Pending::Held => false,
+    }
+}
+
 // Whether the patch is a hard change of the block in memory.
 pub fn is_hard_in(head: &Head, block: u32) -> bool
     ensures { result ≡ (is_change_at place.Memory block (patch_of head.now) && is_hard_kind (kind_of head.now.kind)) }

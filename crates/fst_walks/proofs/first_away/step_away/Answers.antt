@@ -1,10 +1,23 @@
 use Rattle.std.proofs.lemmas.Grind.{common_steps}
-use Rattle.std.proofs.Common.{get_or, Contains, sym, subst, arith}
+use Rattle.std.proofs.Common.{get_or, Contains, sym, subst, inl, inr, arith}
 use Rattle.fst_heads.specs.{Heads.patches_of, declared.head.Head.Head}
 use Rattle.fst_heads.proofs.Slots.{direct_at, named_at}
 use Rattle.fst_walks.specs.{BothEnds.StepsAway, Walks.numbers_met}
 use Rattle.fst_walks.proofs.Visiting.{slot_met, visits_same}
 use Rattle.fst_walks.proofs.first_away.step_away.Goals as goal
+
+pub returns-clause-only : goal.returns-clause-only
+returns-clause-only c q met =
+    let heads = c.args.heads.now in
+    let walk = c.args.walk.now in
+    let n = get_or (numbers_met heads walk) c.args.at 0 in
+    let s = c.slot-slot.result in
+    let d : Head = c.index-heads-slot.result in
+    let slot = slot_met heads walk c.args.at s c.requires.visited.long c.requires.at c.slot-slot.ensures.slot c.slot-slot.ensures.inside in
+    elim (c.visit_row.ensures.visits.only q met) [
+      | inl old ↦ inl old
+      | inr k ↦ inr ((c.goes_through.ensures n slot).0 c.if-not-goes_through.false, direct_at heads n q s d slot (subst (λ row. Contains row q) c.as_slice-below.ensures (c.newest_few.ensures.only q k.0)), k.1)
+    ]
 
 pub returns-clause-visits : goal.returns-clause-visits
 returns-clause-visits c few =

@@ -14,3 +14,6 @@ returns-then-stays_below-clause-graded c = c.stays_below.ensures c.if-stays_belo
 
 pub returns-then-is_clean-clause-graded : goal.returns-then-is_clean-clause-graded
 returns-then-is_clean-clause-graded c = c.is_clean.ensures c.if-is_clean.true c.args.row.now
+
+pub returns-then-waits_for_own_block-clause-graded : goal.returns-then-waits_for_own_block-clause-graded
+returns-then-waits_for_own_block-clause-graded c = c.waits_for_own_block.ensures c.if-waits_for_own_block.true
