@@ -112,15 +112,15 @@ module _ {heads : Vec Head} {ends : Ends} {levels : Leveling} {needs : Needing} 
   }
 
   -- and for what the block of the change needs
-  pub reserved_sound : {kept : Needing} → kept.lists ≡ needs.lists → AreSound heads ends levels kept lists covers standings queue live unmarked numbers blocks None
-  reserved_sound same = record {
+  pub reserved_sound : {kept : Needing} → kept.lists ≡ needs.lists → kept.ways ≡ needs.ways → AreSound heads ends levels kept lists covers standings queue live unmarked numbers blocks None
+  reserved_sound same ways = record {
     keeps = S.keeps;
     beside = S.beside;
     tallies = S.tallies;
     covered = S.covered;
     along = S.along;
     leveled = S.leveled;
-    needing = needing_as same S.needing;
+    needing = needing_as same ways S.needing;
     none_below = S.none_below;
     prepared = tt;
   }

@@ -248,6 +248,7 @@ impl Sparse {
             block.0,
         );
         land_at(&mut self.standings, block.0);
+        self.needs.forget_ways();
         let landed = cascade(&mut self.heads, &mut self.queue, &mut self.standings);
         self.live -= landed;
         self.unmarked = 0;
@@ -262,6 +263,7 @@ impl Sparse {
         keep_live(&mut self.heads, self.live);
         self.ends.shrink(self.heads.len());
         self.levels.forget(&self.heads);
+        self.needs.forget_ways();
         (before - self.heads.len()) as u32
     }
 

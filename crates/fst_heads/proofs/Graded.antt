@@ -82,7 +82,7 @@ module _ (heads : List Patch) (numbers : ℕ) (within : IsWithin heads numbers) 
     | inr r ↦ (r.0, r.2, join (row_direct u.0 u.1) (still u.0 r.0 r.1))
   ]
 
-  may_graded : MayBeHard heads None b row → IsGradedHard heads after b (numbers + 1)
+  pub may_graded : MayBeHard heads None b row → IsGradedHard heads after b (numbers + 1)
   may_graded m = record {
     free = λ k. m.free (depends_under (IsOpenNumber heads) k.gate.number (record { patch = k.gate; head = old k.gate k.head k.depends; numbered = refl; is_open = k.is_open }) k.depends);
     straight = λ r.

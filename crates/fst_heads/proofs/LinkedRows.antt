@@ -1,5 +1,5 @@
 -- A direct dependency is told from both sides: by the row of the one patch, and by the dependants of the other.
-use Rattle.fst_heads.proofs.Basics.{◌≡◌, ◌<◌, ℕ, List, get_or, Contains, true, refl, sym, subst}
+use Rattle.fst_heads.proofs.Basics.{◌≡◌, ◌<◌, ℕ, List, get_or, Contains, true, sym, subst}
 use Rattle.fst_heads.proofs.Patches.{is_among, among_in, in_among, In, DirectlyOn}
 use Rattle.fst_heads.proofs.Words.{Head, IsRising, patches_of, HasSlot, AreLinked, node_of, nodes_of}
 use Rattle.fst_heads.proofs.{PendingAt.node_in, Rows.{direct_from, direct_to}, Slots.any_default, Waiting.{times_some, some_times}}

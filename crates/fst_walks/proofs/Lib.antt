@@ -21,6 +21,7 @@ pub mod ComesBack
 pub mod CrossingBack
 pub mod Overlapped
 pub mod OwnBlock
+pub mod Backed
 pub mod Trails
 pub mod Leveled
 pub mod Lifted

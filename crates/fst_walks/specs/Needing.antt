@@ -1,8 +1,8 @@
--- What blocks need: for each block, of what its hard changes in memory directly depend on, as much as a walk down has to go on from where it crosses the block. Hard changes of a block are written together, so one of them stands for all that are at the same place.
+-- What is kept of the block graph. What blocks need: for each block, of what its hard changes in memory directly depend on, as much as a walk down has to go on from where it crosses the block. Hard changes of a block are written together, so one of them stands for all that are at the same place.
 use Rattle.std.specs.Prelude.{◌≡◌, ◌≢◌, ◌⊎◌, ℕ, List, [], length, Contains, slice_index_or}
-use Rattle.fst_types.specs.{Dependencies.DirectlyOn, Patches.{Patch, IsOn, IsHard}, declared.grade.Grade.Grade, declared.place.Place.Place}
+use Rattle.fst_types.specs.{Dependencies.DirectlyOn, Gates.IsOpenNumber, Patches.{Patch, IsOn, IsHard}, declared.grade.Grade.Grade, declared.place.Place.Place}
 use Rattle.fst_types.specs.declared.grade.Grade.TheVariants as grade
-use Rattle.fst_heads.specs.{Grading.IsHardNumber}
+use Rattle.fst_heads.specs.{Grading.{HasUnder, IsHardNumber, LeadsNowhere}}
 
 -- n is the number of a hard change of block d at that place
 pub record IsHardAt (patches : List Patch) (at : Place) (d n : ℕ) : Type 0 where
@@ -29,11 +29,29 @@ pub record AreNeeded (patches : List Patch) (needs : ℕ → List ℕ) : Type 0 
 abbrev pub needs_of : List (List ℕ) → ℕ → List ℕ
 needs_of lists c = slice_index_or lists c []
 
--- the numbers for each block, and for how many more of one block there is room
+-- n is the number of a change, from what it depends on a way leads back to its block
+pub record ComesBack (patches : List Patch) (n : ℕ) : Type 0 where
+  pub patch : Patch
+  pub head : Contains patches patch
+  pub numbered : patch.number ≡ n
+  pub block : ℕ
+  pub change : IsOn patch block
+  pub back : LeadsNowhere patches block patch.dependencies → ⊥
+
+-- from each of these a way leads back to its block
+abbrev pub AllComeBack : List Patch → List ℕ → Type 0
+AllComeBack patches ways = (n : ℕ) → Contains ways n → ComesBack patches n
+
+-- the numbers for each block, for how many more of one block there is room, and the changes of which it is known that a way leads back
 pub record Needing : Type 0 where
   pub lists : List (List ℕ)
   pub block : ℕ
   pub room : ℕ
+  pub ways : List ℕ
+
+-- of what was noted only the new change is more, and that where it is soft and no open gate is in its row or below it
+abbrev pub IsNoted : List Patch → ℕ → List ℕ → Grade → List ℕ → List ℕ → Type 0
+IsNoted patches number row g old new = (n : ℕ) → Contains new n → Contains old n ⊎ ((n ≡ number) × (g ≡ grade.Soft) × (HasUnder patches row (IsOpenNumber patches) → ⊥))
 
 -- what is kept for block b grew by a new change of it with that row and grade: where it is hard, by what of the row is not stood for
 pub record IsPut (patches : List Patch) (b : ℕ) (row : List ℕ) (g : Grade) (old new : List (List ℕ)) : Type 0 where
@@ -43,7 +61,8 @@ pub record IsPut (patches : List Patch) (b : ℕ) (row : List ℕ) (g : Grade) (
   pub only : (n : ℕ) → Contains (needs_of new b) n → Contains (needs_of old b) n ⊎ ((g ≡ grade.Hard) × Contains row n)
   pub told : g ≡ grade.Hard → (q : ℕ) → Contains row q → Contains (needs_of new b) q ⊎ IsStoodFor patches b (needs_of new b) q
 
--- each block has its numbers, and they are as they should be
+-- each block has its numbers, and all is as it should be
 pub record IsNeeding (patches : List Patch) (blocks : ℕ) (needs : Needing) : Type 0 where
   pub long : length needs.lists ≡ blocks
   pub needed : AreNeeded patches (needs_of needs.lists)
+  pub back : AllComeBack patches needs.ways

@@ -18,6 +18,7 @@ use crate::ancestors::leads_to_block;
 use crate::below::grade_below;
 use crate::both_ends::grade_between;
 use crate::ends::Ends;
+use crate::known::leads_over_known;
 use crate::other_gates::is_blocked;
 use crate::shortcuts::{comes_back, comes_back_soon, is_clean, stays_below, waits_for_own_block};
 use crate::sight::Sight;
@@ -46,6 +47,9 @@ fn grade_by_ways(sight: &Sight<'_>, ends: &mut Ends, block: u32, row: &[u32]) ->
     }
     if stays_below(sight, block, row) {
         return Grade::Hard;
+    }
+    if leads_over_known(sight, &mut ends.down, block, row) {
+        return Grade::Soft;
     }
     if leads_to_block(sight, block, row) {
         return Grade::Soft;

@@ -34,6 +34,7 @@ pub mod descent;
 pub mod ends;
 pub mod first_away;
 pub mod grade;
+pub mod known;
 pub mod levels;
 pub mod lift;
 pub mod needs;

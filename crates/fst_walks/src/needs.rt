@@ -1,27 +1,34 @@
 //! What blocks need: where a walk down goes on when it crosses a block. Of each block the numbers are kept of what its hard
 //! changes in memory directly depend on, but of the hard changes of one block one for all, since they are written together.
-//! So a walk looks at each block that the block needs once, and not at each of its changes.
+//! So a walk looks at each block that the block needs once, and not at each of its changes. Beside that the soft changes are
+//! kept from which a way was seen to lead back to their block, until something is written: a way stays while patches only
+//! come to be, to depend on more and to be sealed, and a new change over such a change of its block is soft too.
 
 ghost use Rattle.std.specs.Prelude.{◌≡◌, ◌≢◌, ◌≤◌, ◌<◌, ◌+◌, ◌∷◌, [], ℕ, IsTrue, length, Contains, IfOk, OnOk};
+ghost use Rattle.fst_types.specs.Closure.{IsAcyclic};
+ghost use Rattle.fst_types.specs.Dependencies.{DirectlyOn};
+ghost use Rattle.fst_types.specs.Facts.{IsOnDiskWithAll};
 ghost use Rattle.fst_types.specs.declared.grade.Grade.TheVariants as grade;
 ghost use Rattle.fst_heads.specs.Grading.{IsHardNumber};
 ghost use Rattle.fst_heads.specs.Heads.{IsRising, patches_of};
-ghost use Rattle.fst_walks.specs.Needing.{IsNeeding, IsPut, IsStoodFor, needs_of};
+ghost use Rattle.fst_heads.specs.Nodes.{nodes_of, AreSettled};
+ghost use Rattle.fst_walks.specs.Needing.{IsNeeding, IsNoted, IsPut, IsStoodFor, needs_of};
 
-use crate::shortcuts::{is_hard_in, is_hard_number};
+use crate::shortcuts::{is_hard_in, is_hard_number, waits_for_gate};
 use fst_heads::head::{Head, Kind};
 use fst_heads::marks::slot_of;
 use fst_types::Grade;
 use std::alloc::{AllocError, Global};
 use std::marker::Model;
 
-/// The numbers for each block. Of one block there is room for so many more. It takes a list for each block, and 4 bytes for
-/// each number.
+/// The numbers for each block. Of one block there is room for so many more. `ways` has, as they rise, the soft changes from
+/// which a way leads back. It takes a list for each block, and 4 bytes for each number.
 #[derive(Drop)]
 pub struct Needs {
     lists: Vec<Vec<u32>>,
     block: u32,
     room: usize,
+    ways: Vec<u32>,
 }
 
 impl Model for Needs {
@@ -30,7 +37,7 @@ impl Model for Needs {
 
     ghost Value = { Needing };
 
-    ghost view = { λ n. record { lists = map (λ l. l.items) n.lists.items; block = n.block; room = n.room } };
+    ghost view = { λ n. record { lists = map (λ l. l.items) n.lists.items; block = n.block; room = n.room; ways = n.ways.items } };
 
     ghost invariant = { λ n. slice_index_or (map (λ l. vec_len l) n.lists.items) n.block 0 + n.room ≤ slice_index_or (map (λ l. vec_capacity l) n.lists.items) n.block 0 };
 }
@@ -79,6 +86,7 @@ impl Needs {
             lists,
             block: 0,
             room: 0,
+            ways: Vec::new(alloc),
         })
     }
 
@@ -90,15 +98,18 @@ impl Needs {
         self.lists[block as usize].as_slice()
     }
 
-    /// Room for so many more of the block.
+    /// Room for so many more of the block, and where there is memory for one way more.
     pub fn reserve(&mut self, block: u32, more: usize) -> Result<(), AllocError>
         requires { block < length self.old.lists }
         ensures lists { self.new.lists ≡ self.old.lists }
+        ensures ways { self.new.ways ≡ self.old.ways }
         ensures room { OnOk result ((self.new.block ≡ block) × (self.new.room ≡ more)) }
     {
         self.lists[block as usize].reserve(more)?;
         self.block = block;
         self.room = more;
+        // Where there is no room for a way it is not kept.
+        let _ = self.ways.reserve(1);
         Ok(())
     }
 
@@ -110,6 +121,7 @@ impl Needs {
         ensures room { self.old.room ≤ self.new.room + 1 }
         ensures block { self.new.block ≡ self.old.block }
         ensures put { IsPut (patches_of heads.now) self.old.block (number ∷ []) grade.Hard self.old.lists self.new.lists }
+        ensures ways { self.new.ways ≡ self.old.ways }
     {
         let list = &mut self.lists[self.block as usize];
         if !is_stood_for(heads, list, self.block, number) {
@@ -123,7 +135,8 @@ impl Needs {
         requires rising { IsRising heads.now }
         requires block { self.old.block < length self.old.lists }
         requires room { length row.now ≤ self.old.room }
-        ensures { IsPut (patches_of heads.now) self.old.block row.now grade self.old.lists self.new.lists }
+        ensures put { IsPut (patches_of heads.now) self.old.block row.now grade self.old.lists self.new.lists }
+        ensures ways { self.new.ways ≡ self.old.ways }
     {
         if grade == Grade::Hard {
             for number in row {
@@ -132,13 +145,54 @@ impl Needs {
         }
     }
 
-    /// Nothing of the block is hard and in memory any more.
+    /// A new change with that row and grade, which is the newest patch. Where it is soft and waits for no open gate a way leads
+    /// back from it, which is kept if there is room.
+    pub fn note(&mut self, heads: &[Head], row: &[u32], grade: Grade, number: u32)
+        requires rising { IsRising heads.now }
+        requires acyclic { IsAcyclic (DirectlyOn (patches_of heads.now)) }
+        requires disk { IsOnDiskWithAll (patches_of heads.now) }
+        requires settled { (blocks : ℕ) × AreSettled (nodes_of heads.now) blocks }
+        ensures lists { self.new.lists ≡ self.old.lists }
+        ensures noted { IsNoted (patches_of heads.now) number row.now grade self.old.ways self.new.ways }
+    {
+        match grade {
+            Grade::Hard => {}
+            Grade::Soft => {
+                if self.ways.len() < self.ways.capacity() && !waits_for_gate(heads, row) {
+                    self.ways.push_reserved(number);
+                }
+            }
+        }
+    }
+
+    /// Whether it is kept that a way leads back from the change with the number. It looks at no more than the logarithm of
+    /// how many there are.
+    pub fn comes_back(&self, number: u32) -> bool
+        ensures { IsTrue result → Contains self.now.ways number }
+    {
+        match self.ways.binary_search(&number) {
+            Ok(at) => self.ways[at] == number,
+            Err(_) => false,
+        }
+    }
+
+    /// Something was written, so that ways may be gone.
+    pub fn forget_ways(&mut self)
+        ensures lists { self.new.lists ≡ self.old.lists }
+        ensures ways { self.new.ways ≡ [] }
+    {
+        self.ways.clear();
+    }
+
+    /// Nothing of the block is hard and in memory any more, and ways may be gone.
     pub fn clear(&mut self, block: u32)
         requires { block < length self.old.lists }
         ensures long { length self.new.lists ≡ length self.old.lists }
         ensures others { (c : ℕ) → c ≢ block → needs_of self.new.lists c ≡ needs_of self.old.lists c }
         ensures cleared { needs_of self.new.lists block ≡ [] }
+        ensures ways { self.new.ways ≡ [] }
     {
         self.lists[block as usize].clear();
+        self.ways.clear();
     }
 }

@@ -153,6 +153,7 @@ impl Sparse {
         self.levels
             .lift(&self.heads, &self.ends.up.walk, block, rise);
         self.needs.put(&self.heads, row, grade);
+        self.needs.note(&self.heads, row, grade, number);
         let rank = Rank {
             number,
             level: rise.level,

@@ -17,3 +17,6 @@ returns-then-is_clean-clause-graded c = c.is_clean.ensures c.if-is_clean.true c.
 
 pub returns-then-waits_for_own_block-clause-graded : goal.returns-then-waits_for_own_block-clause-graded
 returns-then-waits_for_own_block-clause-graded c = c.waits_for_own_block.ensures c.if-waits_for_own_block.true
+
+pub returns-then-leads_over_known-clause-graded : goal.returns-then-leads_over_known-clause-graded
+returns-then-leads_over_known-clause-graded c = c.leads_over_known.ensures.back c.if-leads_over_known.true

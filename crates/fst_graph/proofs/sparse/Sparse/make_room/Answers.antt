@@ -44,7 +44,7 @@ returns-then-is_err-clause-same c = rw (← c.self.view_is, c.let_go.ensures, sa
 
 pub invariant_of-self-then-is_err-2 : goal.invariant_of-self-then-is_err-2
 invariant_of-self-then-is_err-2 c =
-    rw c.let_go.ensures (reserved_sound (listed_sound (roomier (goal.at.invariant_of-self-then-is_err-2 c).After-reserve_around) c.reserve_on.ensures.entries c.reserve_on.ensures.covered) c.reserve.ensures.lists)
+    rw c.let_go.ensures (reserved_sound (listed_sound (roomier (goal.at.invariant_of-self-then-is_err-2 c).After-reserve_around) c.reserve_on.ensures.entries c.reserve_on.ensures.covered) c.reserve.ensures.lists c.reserve.ensures.ways)
 
 pub returns-then-is_err-2-clause-same : goal.returns-then-is_err-2-clause-same
 returns-then-is_err-2-clause-same c = rw (← c.self.view_is, c.let_go.ensures, same (goal.at.returns-then-is_err-2-clause-same c).After-reserve_around) refl
@@ -55,7 +55,7 @@ invariant_of-self-2 c =
     let R = c.in-Ok.ensures in
     let needed = ok_of c.reserve.result _ c.reserve.ensures.room (sym c.is_err-2.ensures.value ∙ c.if-is_err-2.false) in
     rw c.keep.ensures (
-    with_prepared (reserved_sound (listed_sound (roomier at) c.reserve_on.ensures.entries c.reserve_on.ensures.covered) {kept = c.reserve.new.self} c.reserve.ensures.lists) {o' = Some c.args.prepared} (record {
+    with_prepared (reserved_sound (listed_sound (roomier at) c.reserve_on.ensures.entries c.reserve_on.ensures.covered) {kept = c.reserve.new.self} c.reserve.ensures.lists c.reserve.ensures.ways) {o' = Some c.args.prepared} (record {
       ready = rw (same at) (ready at);
       places = R.places;
       waits = R.waits;

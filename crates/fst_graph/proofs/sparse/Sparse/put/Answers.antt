@@ -4,7 +4,7 @@ use Rattle.std.proofs.lemmas.List.Sums.{count_by-le-length}
 use Rattle.fst_types.specs.{Gating.gains, Tests.is_live}
 use Rattle.fst_heads.specs.{Frames.HasRoomBelow, Heads.patches_of, Names.numbers_of, Nodes.nodes_of}
 use Rattle.fst_graph.specs.{Known.{Known, DependsGate}, Ready.change_of, Sound.AreSound, Sparse.AddsSparse, declared.prepared.Gates.Gates}
-use Rattle.fst_graph.proofs.{Borne.few, Made.{change_sound, gained_sound, may_enlist, may_go_on, may_lift, may_need, may_put, may_rise, named_patches, put_patches}, PutNow.{number_free, put_now, IsPutDown, IsPutNow}}
+use Rattle.fst_graph.proofs.{Borne.few, Made.{change_sound, gained_sound, may_enlist, may_go_on, may_lift, may_need, may_note, may_put, may_rise, named_patches, put_patches}, PutNow.{number_free, put_now, IsPutDown, IsPutNow}}
 use Rattle.fst_graph.proofs.{Readied.ready_adds, Sound.rising_sound, TailGains.{member_kept, tail_may, tail_small}}
 use Rattle.fst_graph.proofs.sparse.Sparse.put.Goals.{After-as_slice-row, After-put_down-pending, After-put-2}
 use Rattle.fst_graph.proofs.sparse.Sparse.put.Goals as goal
@@ -28,8 +28,11 @@ lift-requires c =
 pub put-requires : goal.put-requires
 put-requires c = may_need c.self.invariant (now (goal.at.put-requires c).After-as_slice-row).down c.deref-5.ensures.value c.as_slice-row.ensures
 
+pub note-requires : goal.note-requires
+note-requires c = may_note c.self.invariant (now (goal.at.note-requires c).After-as_slice-row).down c.deref-6.ensures.value
+
 pub ancestry_over-requires : goal.ancestry_over-requires
-ancestry_over-requires c = may_go_on c.self.invariant (now (goal.at.ancestry_over-requires c).After-as_slice-row).down c.deref-4.ensures.value c.lift.ensures.leveled c.deref-6.ensures.value
+ancestry_over-requires c = may_go_on c.self.invariant (now (goal.at.ancestry_over-requires c).After-as_slice-row).down c.deref-4.ensures.value c.lift.ensures.leveled c.deref-7.ensures.value
 
 pub put_down-pending-requires : goal.put_down-pending-requires
 put_down-pending-requires c =
@@ -50,15 +53,16 @@ added c = put_patches c.self.inside.heads.items c.put_down-pending.new.heads.ite
 -- the fields with the change, of which no tail has the name yet
 sound : (c : After-put-2)
     → IsPutDown c.self.inside.heads c.self.inside.ends c.self.inside.levels c.self.inside.needs c.self.inside.lists c.self.inside.covers c.self.inside.standings c.self.inside.queue c.self.inside.numbers c.self.inside.blocks c.in-Some.prepared
-    → AreSound c.put_down-pending.new.heads c.put_down-pending.new.ends c.put_down-pending.new.levels c.put.new.self c.enlist.new.lists (with_item c.self.inside.covers c.in-Some.prepared.block c.put-2.new.self)
+    → AreSound c.put_down-pending.new.heads c.put_down-pending.new.ends c.put_down-pending.new.levels c.note.new.self c.enlist.new.lists (with_item c.self.inside.covers c.in-Some.prepared.block c.put-2.new.self)
     c.enlist.new.standings c.self.inside.queue (c.self.inside.live + 1) c.min-self-inside.result (c.self.inside.numbers + 1) c.self.inside.blocks None
 sound c D =
     let least = c.min-self-inside.ensures in
     change_sound c.self.invariant D
     c.rise_of-rise.new.walk c.rise_of-rise.new.crossed c.put_down-pending.ensures.put c.put_down-pending.ensures.pending c.deref.ensures.value c.as_slice-row.ensures c.rise_of-rise.ensures.rise c.rise_of-rise.ensures.long
     c.deref-4.ensures.value c.lift.ensures.leveled c.lift.ensures.below c.lift.ensures.lifted c.lift.ensures.still
-    c.deref-6.ensures.value c.as_slice-row.ensures c.ancestry_over.ensures
-    c.deref-5.ensures.value c.as_slice-row.ensures c.put.ensures
+    c.deref-7.ensures.value c.as_slice-row.ensures c.ancestry_over.ensures
+    c.deref-5.ensures.value c.as_slice-row.ensures (rw c.note.ensures.lists c.put.ensures.put)
+    c.deref-6.ensures.value c.as_slice-row.ensures (rw (← c.put.ensures.ways) c.note.ensures.noted)
     c.enlist.ensures.listed
     c.index_mut.ensures.value c.put-2.ensures refl
     c.enlist.ensures.entered

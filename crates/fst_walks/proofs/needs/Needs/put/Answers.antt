@@ -17,6 +17,7 @@ loop-number-preserved c =
     record {
       block = c.put_one.ensures.block ∙ inv.block;
       room = omega (arith, inv.room, c.put_one.ensures.room);
+      ways = c.put_one.ensures.ways ∙ inv.ways;
       put = subst (λ ns. IsPut patches b ns grade.Hard c.args.self.now.lists new) (sym (take_more row at 0 c.loop-number-test.true))
           (put_more patches b (take at row) (get_or row at 0) c.args.self.now.lists mid new inv.put
           (subst (λ k. IsPut patches k (get_or row at 0 ∷ []) grade.Hard mid new) inv.block c.put_one.ensures.put));
