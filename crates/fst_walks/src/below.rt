@@ -1,9 +1,7 @@
 //! The way back to a block, looked for from its upper end alone: by a walk down that ends where it meets a change of the
 //! block, and leaves out what is lower than the floor of the block. It gives up once it has looked at four times as many
 //! patches as the list of the block has, which a search from both ends looks at first: where a block has many changes and
-//! little lies between them and the new one, it tells the grade at less than that. Where a block has very many, few patches
-//! are looked at before: a new change over many soft ones of its block, of each of which a way leads back, mostly has one
-//! too, and near.
+//! little lies between them and the new one, it tells the grade at less than that.
 
 ghost use Rattle.std.specs.Prelude.{◌≡◌, ◌≤◌, ◌<◌, ◌↔◌, ℕ, false, length, Contains, IfSome, IsTrue, slice_index_or};
 ghost use Rattle.fst_types.specs.Grades.{FollowsRule};
@@ -29,11 +27,6 @@ use fst_types::Grade;
 
 // How many patches may be looked at for each change of the block.
 const LOOKS: usize = 4;
-
-// At how many patches first changes of other blocks are looked for, and at how many in all, before that many are looked at.
-const FEW_FIRST: usize = 256;
-
-const FEW_LOOKS: usize = 1_536;
 
 // Whether the walk met a change of the block at that turn or later.
 fn meets_change(heads: &[Head], walk: &Walk, from: usize, block: u32) -> bool
@@ -102,34 +95,6 @@ fn descend(
     Some(false)
 }
 
-// What keeps a new change of the block with that row soft but for open gates, where that is told at `most` patches, of which
-// no more than `first` were looked at for the first changes of other blocks: soft where a way leads back from one of those,
-// hard where none does and they are all.
-fn grade_within(
-    sight: &Sight<'_>,
-    down: &mut BlockWalk,
-    block: u32,
-    row: &[u32],
-    first: usize,
-    most: usize,
-) -> Option<Grade>
-    requires sees { Sees sight.now }
-    requires down { IsOver sight.now.heads.now (length sight.now.lists.now) down.old }
-    requires block { block < length sight.now.lists.now }
-    ensures graded { IfSome result (λ grade. FollowsRule grade (LeadsNowhere (patches_of sight.now.heads.now) block row.now)) }
-    ensures down { IsOver sight.now.heads.now (length sight.now.lists.now) down.new }
-{
-    down.cross_only(block);
-    let looked = visit_first_away(sight.heads, &mut down.walk, block, row, first);
-    let left = most.checked_sub(looked)?;
-    let least = sight.levels.floor(block);
-    match descend(sight, down, block, least, left)? {
-        true => Some(Grade::Soft),
-        false if looked <= first => Some(Grade::Hard),
-        false => None,
-    }
-}
-
 /// What keeps a new change of the block with that row soft but for open gates, where that is told by few looks. What was
 /// met and crossed before does not matter.
 pub fn grade_below(
@@ -144,11 +109,13 @@ pub fn grade_below(
     ensures graded { IfSome result (λ grade. FollowsRule grade (LeadsNowhere (patches_of sight.now.heads.now) block row.now)) }
     ensures down { IsOver sight.now.heads.now (length sight.now.lists.now) down.new }
 {
+    down.cross_only(block);
     let most = sight.lists[block as usize].len().saturating_mul(LOOKS);
-    if most > FEW_LOOKS {
-        if let Some(grade) = grade_within(sight, down, block, row, FEW_FIRST, FEW_LOOKS) {
-            return Some(grade);
-        }
+    let looked = visit_first_away(sight.heads, &mut down.walk, block, row, most);
+    let left = most.checked_sub(looked)?;
+    let least = sight.levels.floor(block);
+    match descend(sight, down, block, least, left)? {
+        true => Some(Grade::Soft),
+        false => Some(Grade::Hard),
     }
-    grade_within(sight, down, block, row, most, most)
 }

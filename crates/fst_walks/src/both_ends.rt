@@ -1,10 +1,9 @@
 //! The way back to a block, looked for from both its ends at once: by a walk up from the changes of the block and one down
 //! from the first changes of other blocks at or below a row. A new change of the block over the row is soft exactly where
 //! such a way is there, and the walks meet where it is; it is hard where one of them comes to its end and they have not
-//! met. The one that has looked at less takes the next step, since mostly one end has far less around it than the other. The
-//! search gives up once both have looked at more patches than its limit, if it has one.
+//! met. The one that has looked at less takes the next step, since mostly one end has far less around it than the other.
 
-ghost use Rattle.std.specs.Prelude.{◌≡◌, ◌≤◌, ◌<◌, ℕ, false, length, Contains, IfNone, IfSome, IsTrue, slice_index_or};
+ghost use Rattle.std.specs.Prelude.{◌≡◌, ◌≤◌, ◌<◌, ℕ, false, length, Contains, IsTrue, slice_index_or};
 ghost use Rattle.fst_types.specs.Grades.{FollowsRule};
 ghost use Rattle.fst_heads.specs.Grading.{LeadsNowhere};
 ghost use Rattle.fst_heads.specs.Heads.{IsRising, patches_of};
@@ -112,15 +111,8 @@ fn turn_down(sight: &Sight<'_>, ends: &mut Ends, at: usize, least: u32, looked: 
 }
 
 // Takes steps by turns, through what is no higher than `most` and no lower than `least`, until one walk has met what the
-// other has, which it answers, or one is at its end. None once both have looked at more patches than the limit.
-fn meet_between(
-    sight: &Sight<'_>,
-    ends: &mut Ends,
-    most: u32,
-    least: u32,
-    begun: Looked,
-    limit: usize,
-) -> Option<bool>
+// other has, which it answers, or one is at its end.
+fn meet_between(sight: &Sight<'_>, ends: &mut Ends, most: u32, least: u32, begun: Looked) -> bool
     requires sees { Sees sight.now }
     requires up { IsOver sight.now.heads.now (length sight.now.lists.now) ends.old.up }
     requires down { IsOver sight.now.heads.now (length sight.now.lists.now) ends.old.down }
@@ -129,58 +121,43 @@ fn meet_between(
     requires apart { AreApart (numbers_met sight.now.heads.now ends.old.up.walk) (numbers_met sight.now.heads.now ends.old.down.walk) }
     ensures up { IsOver sight.now.heads.now (length sight.now.lists.now) ends.new.up }
     ensures down { IsOver sight.now.heads.now (length sight.now.lists.now) ends.new.down }
-    ensures together { IfSome result (λ met. IsTrue met → LeadTogether (patches_of sight.now.heads.now) (level_of sight.now.levels.now.ranks) (needs_of sight.now.needs.now.lists) most least ends.old.up.crossed.items ends.old.down.crossed.items (numbers_met sight.now.heads.now ends.old.up.walk) (numbers_met sight.now.heads.now ends.old.down.walk)) }
-    ensures apart { IfSome result (λ met. met ≡ false → EndApart (patches_of sight.now.heads.now) (level_of sight.now.levels.now.ranks) (needs_of sight.now.needs.now.lists) most least ends.old.up.crossed.items ends.old.down.crossed.items (numbers_met sight.now.heads.now ends.old.up.walk) (numbers_met sight.now.heads.now ends.old.down.walk) (numbers_met sight.now.heads.now ends.new.up.walk) (numbers_met sight.now.heads.now ends.new.down.walk)) }
-    ensures decided { IfNone result (limit < 18446744073709551615) }
+    ensures together { IsTrue result → LeadTogether (patches_of sight.now.heads.now) (level_of sight.now.levels.now.ranks) (needs_of sight.now.needs.now.lists) most least ends.old.up.crossed.items ends.old.down.crossed.items (numbers_met sight.now.heads.now ends.old.up.walk) (numbers_met sight.now.heads.now ends.old.down.walk) }
+    ensures apart { result ≡ false → EndApart (patches_of sight.now.heads.now) (level_of sight.now.levels.now.ranks) (needs_of sight.now.needs.now.lists) most least ends.old.up.crossed.items ends.old.down.crossed.items (numbers_met sight.now.heads.now ends.old.up.walk) (numbers_met sight.now.heads.now ends.old.down.walk) (numbers_met sight.now.heads.now ends.new.up.walk) (numbers_met sight.now.heads.now ends.new.down.walk) }
 {
     let mut looked = begun;
     let mut up_at = 0;
     let mut down_at = 0;
     while up_at < ends.up.walk.len() && down_at < ends.down.walk.len() {
-        if looked.up.min(looked.down) > limit {
-            return None;
-        }
         if looked.up <= looked.down {
             if turn_up(sight, ends, up_at, most, &mut looked) {
-                return Some(true);
+                return true;
             }
             up_at += 1;
         } else {
             if turn_down(sight, ends, down_at, least, &mut looked) {
-                return Some(true);
+                return true;
             }
             down_at += 1;
         }
     }
-    Some(false)
+    false
 }
 
 /// What keeps a new change of the block with that row soft but for open gates: it is soft where a way leads from the row
-/// back to the block, else hard. None where that is not told before both walks have looked at more patches than the limit,
-/// or before the first changes of other blocks are found at as many. What was met and crossed before does not matter.
-pub fn grade_between(
-    sight: &Sight<'_>,
-    ends: &mut Ends,
-    block: u32,
-    row: &[u32],
-    limit: usize,
-) -> Option<Grade>
+/// back to the block, else hard. What was met and crossed before does not matter.
+pub fn grade_between(sight: &Sight<'_>, ends: &mut Ends, block: u32, row: &[u32]) -> Grade
     requires sees { Sees sight.now }
     requires up { IsOver sight.now.heads.now (length sight.now.lists.now) ends.old.up }
     requires down { IsOver sight.now.heads.now (length sight.now.lists.now) ends.old.down }
     requires block { block < length sight.now.lists.now }
-    ensures graded { IfSome result (λ grade. FollowsRule grade (LeadsNowhere (patches_of sight.now.heads.now) block row.now)) }
-    ensures decided { IfNone result (limit < 18446744073709551615) }
+    ensures graded { FollowsRule result (LeadsNowhere (patches_of sight.now.heads.now) block row.now) }
     ensures up { IsOver sight.now.heads.now (length sight.now.lists.now) ends.new.up }
     ensures down { IsOver sight.now.heads.now (length sight.now.lists.now) ends.new.down }
 {
     ends.down.cross_only(block);
-    let down = visit_first_away(sight.heads, &mut ends.down.walk, block, row, limit);
-    if down > limit {
-        return None;
-    }
+    let down = visit_first_away(sight.heads, &mut ends.down.walk, block, row, usize::MAX);
     if ends.down.walk.len() == 0 {
-        return Some(Grade::Hard);
+        return Grade::Hard;
     }
     // No way up falls, so none to what is met now goes through what is higher, nor through what is lower than the floor.
     let most = highest(sight, &ends.down.walk);
@@ -188,8 +165,8 @@ pub fn grade_between(
     ends.up.cross_only(block);
     ends.up.walk.clear();
     let up = visit_low_changes(sight, &mut ends.up.walk, block, most);
-    match meet_between(sight, ends, most, least, Looked { up, down }, limit)? {
-        true => Some(Grade::Soft),
-        false => Some(Grade::Hard),
+    match meet_between(sight, ends, most, least, Looked { up, down }) {
+        true => Grade::Soft,
+        false => Grade::Hard,
     }
 }

@@ -1,11 +1,12 @@
 //! The grade of a new change. A block is written only with all its hard changes, so a change is hard only where nothing
 //! that it depends on can come to wait for its block: no open gate, no change of another block that needs one of its
 //! block, and no block from which the block graph leads to its block. Over a block whose changes are all on disk no search
-//! is needed, nor where all that the change depends on is a hard change of its block or below its floor. Else the ancestors
-//! of what the change depends on may lead back to the block, or a chain within a few steps; or a short walk down may tell,
-//! or a short search from both ends, or longer chains, and only where none does a way back is looked for from both ends
-//! without a limit. A gate that is sealed with the change is taken as sealed already: that sets free what it alone blocks,
-//! and moves no change and no dependency.
+//! is needed, nor where only changes of the block are pending of what the change depends on, nor where all of that is a hard
+//! change of the block or below its floor. It is soft where it depends on a change of the block from which a way is known to
+//! lead back. Else the ancestors of what it depends on may lead back to the block, or a chain within a few steps; or a walk
+//! down that is not long may tell, or longer chains, and only where none does a way back is looked for from both ends. A gate
+//! that is sealed with the change is taken as sealed already: that sets free what it alone blocks, and moves no change and no
+//! dependency.
 
 ghost use Rattle.std.specs.Prelude.{◌<◌, length};
 ghost use Rattle.fst_types.specs.Grades.{FollowsRule};
@@ -23,10 +24,6 @@ use crate::other_gates::is_blocked;
 use crate::shortcuts::{comes_back, comes_back_soon, is_clean, stays_below, waits_for_own_block};
 use crate::sight::Sight;
 use fst_types::Grade;
-
-// How many patches each end looks at before long chains are followed. Behind gates in a chain the walk up from the block
-// mostly ends at once, and long chains down would be followed for nothing.
-const FEW_LOOKS: usize = 128;
 
 // What keeps a new change of the block with that row soft but for open gates. What was met and crossed before does not
 // matter.
@@ -60,14 +57,10 @@ fn grade_by_ways(sight: &Sight<'_>, ends: &mut Ends, block: u32, row: &[u32]) ->
     if let Some(grade) = grade_below(sight, &mut ends.down, block, row) {
         return grade;
     }
-    if let Some(grade) = grade_between(sight, ends, block, row, FEW_LOOKS) {
-        return grade;
-    }
     if comes_back(sight, block, row) {
         return Grade::Soft;
     }
-    // Without a limit it tells the grade.
-    grade_between(sight, ends, block, row, usize::MAX).unwrap()
+    grade_between(sight, ends, block, row)
 }
 
 /// The grade of a new change of the block that directly depends on the row, where that gate is taken as sealed. What was

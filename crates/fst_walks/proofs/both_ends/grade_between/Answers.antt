@@ -20,7 +20,7 @@ starts c =
       shows_up = c.cross_only-2.ensures.shown;
       shows_down = c.cross_only.ensures.shown;
       changes = visited_all low bottoms (subst (λ q. Visits low q bottoms) (none_met heads c.clear.new.self c.clear.ensures.met) c.visit_low_changes-up.ensures.visits);
-      first = λ n. (c.visit_first_away-down.ensures.only n, c.visit_first_away-down.ensures.all (omega (arith, c.if-down-limit.false)) n);
+      first = λ n. (c.visit_first_away-down.ensures.only n, c.visit_first_away-down.ensures.all (omega (arith, c.visit_first_away-down.type_inv)) n);
     }
 
 pub meet_between-requires-clause-apart : goal.meet_between-requires-clause-apart
@@ -35,7 +35,7 @@ returns-in-true-clause-graded c =
     let sight = c.args.sight.now in
     let sees = c.requires.sees in
     together_soft sight.heads.now sees.rising sees.disk sees.hard sees.flights (level_of sight.levels.now.ranks) (floor_of sight.levels.now.floors) sees.leveled.leveled (needs_of sight.needs.now.lists) sees.needing.needed
-    c.highest-most.result c.floor-least.result c.args.block (omega (arith, c.floor-least.ensures)) c.args.row.now _ _ _ _ (starts (goal.at.returns-in-true-clause-graded c).After-visit_low_changes-up) (c.in_ok-meet_between.ensures.together c.in-true.is)
+    c.highest-most.result c.floor-least.result c.args.block (omega (arith, c.floor-least.ensures)) c.args.row.now _ _ _ _ (starts (goal.at.returns-in-true-clause-graded c).After-visit_low_changes-up) (c.meet_between.ensures.together c.in-true.is)
 
 pub returns-in-false-clause-graded : goal.returns-in-false-clause-graded
 returns-in-false-clause-graded c =
@@ -43,17 +43,14 @@ returns-in-false-clause-graded c =
     let sees = c.requires.sees in
     apart_hard sight.heads.now sees.rising sees.disk sees.hard sees.flights (level_of sight.levels.now.ranks) (floor_of sight.levels.now.floors) sees.leveled.leveled (needs_of sight.needs.now.lists) sees.needing.needed
     c.highest-most.result c.floor-least.result c.args.block (omega (arith, c.floor-least.ensures)) c.args.row.now _ _ _ _ (starts (goal.at.returns-in-false-clause-graded c).After-visit_low_changes-up)
-    (numbers_met sight.heads.now c.meet_between.new.ends.up.walk) (numbers_met sight.heads.now c.meet_between.new.ends.down.walk) (c.in_ok-meet_between.ensures.apart c.in-false.is)
+    (numbers_met sight.heads.now c.meet_between.new.ends.up.walk) (numbers_met sight.heads.now c.meet_between.new.ends.down.walk) (c.meet_between.ensures.apart c.in-false.is)
 
 -- there is nothing that could lead back
 pub returns-then-len-eq0-clause-graded : goal.returns-then-len-eq0-clause-graded
 returns-then-len-eq0-clause-graded c =
     let heads = c.args.sight.now.heads.now in
     let none : (n : ℕ) → Contains (numbers_met heads c.visit_first_away-down.new.walk) n → ⊥ = λ n k. absurd (omega (arith, k.1, long_met heads c.visit_first_away-down.new.walk, c.len.ensures.long, c.if-len-eq0.true)) in
-    none_first heads c.requires.sees.rising c.requires.sees.disk c.requires.sees.hard c.args.block c.cross_only.new.self.crossed.items c.cross_only.ensures.shown c.args.row.now (λ n f. none n (c.visit_first_away-down.ensures.all (omega (arith, c.if-down-limit.false)) n f))
-
-pub returns-in-false-clause-decided : goal.returns-in-false-clause-decided
-returns-in-false-clause-decided c = grind (arith, common_steps)
+    none_first heads c.requires.sees.rising c.requires.sees.disk c.requires.sees.hard c.args.block c.cross_only.new.self.crossed.items c.cross_only.ensures.shown c.args.row.now (λ n f. none n (c.visit_first_away-down.ensures.all (omega (arith, c.visit_first_away-down.type_inv)) n f))
 
 pub returns-in-false-clause-down : goal.returns-in-false-clause-down
 returns-in-false-clause-down c = grind (arith, common_steps)
@@ -61,44 +58,14 @@ returns-in-false-clause-down c = grind (arith, common_steps)
 pub returns-in-false-clause-up : goal.returns-in-false-clause-up
 returns-in-false-clause-up c = grind (arith, common_steps)
 
-pub returns-in-true-clause-decided : goal.returns-in-true-clause-decided
-returns-in-true-clause-decided c = grind (arith, common_steps)
-
 pub returns-in-true-clause-down : goal.returns-in-true-clause-down
 returns-in-true-clause-down c = grind (arith, common_steps)
 
 pub returns-in-true-clause-up : goal.returns-in-true-clause-up
 returns-in-true-clause-up c = grind (arith, common_steps)
 
-pub returns-in_err-meet_between-clause-decided : goal.returns-in_err-meet_between-clause-decided
-returns-in_err-meet_between-clause-decided c = grind (arith, common_steps)
-
-pub returns-in_err-meet_between-clause-down : goal.returns-in_err-meet_between-clause-down
-returns-in_err-meet_between-clause-down c = grind (arith, common_steps)
-
-pub returns-in_err-meet_between-clause-graded : goal.returns-in_err-meet_between-clause-graded
-returns-in_err-meet_between-clause-graded c = grind (arith, common_steps)
-
-pub returns-in_err-meet_between-clause-up : goal.returns-in_err-meet_between-clause-up
-returns-in_err-meet_between-clause-up c = grind (arith, common_steps)
-
-pub returns-then-len-eq0-clause-decided : goal.returns-then-len-eq0-clause-decided
-returns-then-len-eq0-clause-decided c = grind (arith, common_steps)
-
 pub returns-then-len-eq0-clause-down : goal.returns-then-len-eq0-clause-down
 returns-then-len-eq0-clause-down c = grind (arith, common_steps)
 
 pub returns-then-len-eq0-clause-up : goal.returns-then-len-eq0-clause-up
 returns-then-len-eq0-clause-up c = grind (arith, common_steps)
-
-pub returns-then-down-limit-clause-decided : goal.returns-then-down-limit-clause-decided
-returns-then-down-limit-clause-decided c = grind (arith, common_steps)
-
-pub returns-then-down-limit-clause-down : goal.returns-then-down-limit-clause-down
-returns-then-down-limit-clause-down c = grind (arith, common_steps)
-
-pub returns-then-down-limit-clause-graded : goal.returns-then-down-limit-clause-graded
-returns-then-down-limit-clause-graded c = grind (arith, common_steps)
-
-pub returns-then-down-limit-clause-up : goal.returns-then-down-limit-clause-up
-returns-then-down-limit-clause-up c = grind (arith, common_steps)

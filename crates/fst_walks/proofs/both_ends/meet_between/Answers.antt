@@ -105,12 +105,6 @@ returns-after-loop-up_at-clause-apart c e =
       ended = inl (λ n. (climbing_all (StepsLow patches level c.args.most up) bottoms c.loop-up_at.up_at (numbers_met heads ends.up.walk) (omega (arith, c.loop-up_at-test.false, c.len.ensures.long, long_met heads ends.up.walk)) known.climbs.climbing n).1);
     }
 
-pub returns-then-min-limit-clause-apart : goal.returns-then-min-limit-clause-apart
-returns-then-min-limit-clause-apart c = grind (arith, common_steps)
-
-pub returns-after-loop-up_at-clause-decided : goal.returns-after-loop-up_at-clause-decided
-returns-after-loop-up_at-clause-decided c = grind (arith, common_steps)
-
 pub returns-after-loop-up_at-clause-down : goal.returns-after-loop-up_at-clause-down
 returns-after-loop-up_at-clause-down c = grind (arith, common_steps)
 
@@ -119,9 +113,6 @@ returns-after-loop-up_at-clause-together c = grind (arith, common_steps)
 
 pub returns-after-loop-up_at-clause-up : goal.returns-after-loop-up_at-clause-up
 returns-after-loop-up_at-clause-up c = grind (arith, common_steps)
-
-pub returns-else-down_at-len-clause-decided : goal.returns-else-down_at-len-clause-decided
-returns-else-down_at-len-clause-decided c = grind (arith, common_steps)
 
 pub returns-else-down_at-len-clause-down : goal.returns-else-down_at-len-clause-down
 returns-else-down_at-len-clause-down c = grind (arith, common_steps)
@@ -132,23 +123,8 @@ returns-else-down_at-len-clause-together c = grind (arith, common_steps)
 pub returns-else-down_at-len-clause-up : goal.returns-else-down_at-len-clause-up
 returns-else-down_at-len-clause-up c = grind (arith, common_steps)
 
-pub returns-then-min-limit-clause-decided : goal.returns-then-min-limit-clause-decided
-returns-then-min-limit-clause-decided c = grind (arith, common_steps)
-
-pub returns-then-min-limit-clause-down : goal.returns-then-min-limit-clause-down
-returns-then-min-limit-clause-down c = grind (arith, common_steps)
-
-pub returns-then-min-limit-clause-together : goal.returns-then-min-limit-clause-together
-returns-then-min-limit-clause-together c = grind (arith, common_steps)
-
-pub returns-then-min-limit-clause-up : goal.returns-then-min-limit-clause-up
-returns-then-min-limit-clause-up c = grind (arith, common_steps)
-
 pub returns-then-turn_down-clause-apart : goal.returns-then-turn_down-clause-apart
 returns-then-turn_down-clause-apart c = grind (arith, common_steps)
-
-pub returns-then-turn_down-clause-decided : goal.returns-then-turn_down-clause-decided
-returns-then-turn_down-clause-decided c = grind (arith, common_steps)
 
 pub returns-then-turn_down-clause-down : goal.returns-then-turn_down-clause-down
 returns-then-turn_down-clause-down c = grind (arith, common_steps)
@@ -158,9 +134,6 @@ returns-then-turn_down-clause-up c = grind (arith, common_steps)
 
 pub returns-then-turn_up-clause-apart : goal.returns-then-turn_up-clause-apart
 returns-then-turn_up-clause-apart c = grind (arith, common_steps)
-
-pub returns-then-turn_up-clause-decided : goal.returns-then-turn_up-clause-decided
-returns-then-turn_up-clause-decided c = grind (arith, common_steps)
 
 pub returns-then-turn_up-clause-down : goal.returns-then-turn_up-clause-down
 returns-then-turn_up-clause-down c = grind (arith, common_steps)

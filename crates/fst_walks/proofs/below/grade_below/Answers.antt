@@ -5,7 +5,7 @@ use Rattle.fst_heads.specs.Heads.{patches_of}
 use Rattle.fst_heads.proofs.Listing.{rising_patches}
 use Rattle.fst_walks.specs.{Leveling.{floor_of, level_of}, Needing.needs_of, Walks.numbers_met}
 use Rattle.fst_walks.proofs.Meeting.{comes_hard, comes_soft, off_not_on}
-use Rattle.fst_walks.proofs.below.grade_within.Goals as goal
+use Rattle.fst_walks.proofs.below.grade_below.Goals as goal
 
 pub descend-requires-clause-away : goal.descend-requires-clause-away
 descend-requires-clause-away c n top x =
@@ -30,7 +30,7 @@ returns-in-false-clause-graded c =
     let shown = c.cross_only.ensures.shown in
     comes_hard sight.heads.now sees.rising sees.disk sees.hard sees.flights (level_of sight.levels.now.ranks) (floor_of sight.levels.now.floors) sees.leveled.leveled (needs_of sight.needs.now.lists) sees.needing.needed
     c.args.block c.floor-least.result (omega (arith, c.floor-least.ensures)) c.args.row.now crossed crossed shown shown
-    (numbers_met sight.heads.now c.visit_first_away-looked.new.walk) c.visit_first_away-looked.ensures.only (c.visit_first_away-looked.ensures.all c.if-looked-first.true)
+    (numbers_met sight.heads.now c.visit_first_away-looked.new.walk) c.visit_first_away-looked.ensures.only (c.visit_first_away-looked.ensures.all c.in_ok-left.ensures.0)
     (λ x. false≢true (sym c.in-false.is ∙ c.in_ok-descend.ensures.met.1 x))
 
 pub returns-in-false-clause-down : goal.returns-in-false-clause-down
