@@ -5,7 +5,7 @@ use Rattle.fst_types.specs.{Cascade.IsCascadeOf, Facts.{HasOnePlaceEach, SparseA
 use Rattle.fst_types.specs.{Writable.{IsWritable, IsWritableSet}, Writing.{landed, launched}}
 use Rattle.fst_types.specs.declared.grade.Grade.TheVariants as grade
 use Rattle.fst_heads.specs.Grading.{MayBeHard}
-use Rattle.fst_walks.specs.Needing.{AllComeBack, IsNeeding, IsNoted, IsPut, Needing, needs_of}
+use Rattle.fst_walks.specs.Needing.{HaveWaysBack, IsNeeding, IsNoted, IsPut, Needing, needs_of}
 use Rattle.fst_walks.proofs.{Backed.{StaysIn, all_stay, back_stays, nowhere_was, stays_gained, stays_put, stays_sealed}, Trails.none_in, NeedsGrown.{change_needed, gained_needed, left_needed, other_needed}, NeedsMoved.{landed_needed, launched_needed, sealed_needed}}
 use Rattle.fst_graph.specs.{Ready.change_of, declared.prepared.Prepared.Prepared as Stored}
 
@@ -14,7 +14,7 @@ pub needing_as : {patches : List Patch} {blocks : ℕ} {needs kept : Needing} �
 needing_as lists ways N = record { long = rw lists N.long; needed = rw lists N.needed; back = rw ways N.back }
 
 -- of none a way has to lead back
-none_back : (patches : List Patch) (ways : List ℕ) → ways ≡ [] → AllComeBack patches ways
+none_back : (patches : List Patch) (ways : List ℕ) → ways ≡ [] → HaveWaysBack patches ways
 none_back patches ways none n c = absurd (none_in n (subst (λ ns. Contains ns n) none c))
 
 pub needing_sealed : {blocks : ℕ} {needs : Needing} (old new : List Patch) (numbers g : ℕ) → SparseAreLawful old numbers → IsOpenNumber old g → IsCascadeOf (map (sealed g) old) new → IsNeeding old blocks needs → IsNeeding new blocks needs

@@ -10,7 +10,7 @@ use Rattle.fst_types.specs.Patches.{IsRising}
 use Rattle.fst_types.proofs.Crash.{same_number}
 use Rattle.fst_heads.specs.Marks.{PassesAt}
 use Rattle.fst_heads.proofs.{Graded.on_from, Leading.one_block}
-use Rattle.fst_walks.specs.{BothEnds.StepsAway, Needing.{AllComeBack, ComesBack}}
+use Rattle.fst_walks.specs.{BothEnds.StepsAway, Needing.{HaveWaysBack, HasWayBack}}
 use Rattle.fst_heads.specs.declared.test.Test.TheVariants as test
 
 -- a patch that is there still, with what it depended on at least, and as it was where it is a change
@@ -115,7 +115,7 @@ module _ (old new : List Patch) (stays : (p : Patch) → Contains old p → Stay
     open_ended = λ u. L.open_ended (u.0, u.1, above_stays (IsLeading old b) (IsLeading new b) (leading_stays b) u.0 u.2);
   }
 
-  pub back_stays : (n : ℕ) → ComesBack old n → ComesBack new n
+  pub back_stays : (n : ℕ) → HasWayBack old n → HasWayBack new n
   back_stays n x =
       let g = stays x.patch x.head in
       record {
@@ -127,7 +127,7 @@ module _ (old new : List Patch) (stays : (p : Patch) → Contains old p → Stay
         back = λ L. x.back (shorter_nowhere old x.block x.patch.dependencies g.now.dependencies g.dependencies (nowhere_was x.block g.now.dependencies L));
       }
 
-  pub all_stay : (ways : List ℕ) → AllComeBack old ways → AllComeBack new ways
+  pub all_stay : (ways : List ℕ) → HaveWaysBack old ways → HaveWaysBack new ways
   all_stay ways all n c = back_stays n (all n c)
 
 -- with one patch more
@@ -176,7 +176,7 @@ module _ (old new : List Patch) (numbers g : ℕ) (H : SparseAreLawful old numbe
       no_gate p b k on = let e = sym (ap block_of_kind k) ∙ on in cc
 
 -- a way leads back from a row where one is known to lead back from a change of the block, on the way down from the row
-pub known_back : (patches : List Patch) → IsRising patches → (ways : List ℕ) → AllComeBack patches ways → (b n top : ℕ) (row : List ℕ) → Contains ways n → PassesAt (test.LiveOn b) patches n → Contains row top
+pub known_back : (patches : List Patch) → IsRising patches → (ways : List ℕ) → HaveWaysBack patches ways → (b n top : ℕ) (row : List ℕ) → Contains ways n → PassesAt (test.LiveOn b) patches n → Contains row top
     → (top ≡ n) ⊎ Closure (StepsAway patches b) top n → LeadsNowhere patches b row → ⊥
 known_back patches rising ways all b n top row known change named way L =
     let x = all n known in

@@ -29,8 +29,8 @@ pub record AreNeeded (patches : List Patch) (needs : ℕ → List ℕ) : Type 0 
 abbrev pub needs_of : List (List ℕ) → ℕ → List ℕ
 needs_of lists c = slice_index_or lists c []
 
--- n is the number of a change, from what it depends on a way leads back to its block
-pub record ComesBack (patches : List Patch) (n : ℕ) : Type 0 where
+-- n is the number of a change, and from what it depends on a way leads back to its block
+pub record HasWayBack (patches : List Patch) (n : ℕ) : Type 0 where
   pub patch : Patch
   pub head : Contains patches patch
   pub numbered : patch.number ≡ n
@@ -39,8 +39,8 @@ pub record ComesBack (patches : List Patch) (n : ℕ) : Type 0 where
   pub back : LeadsNowhere patches block patch.dependencies → ⊥
 
 -- from each of these a way leads back to its block
-abbrev pub AllComeBack : List Patch → List ℕ → Type 0
-AllComeBack patches ways = (n : ℕ) → Contains ways n → ComesBack patches n
+abbrev pub HaveWaysBack : List Patch → List ℕ → Type 0
+HaveWaysBack patches ways = (n : ℕ) → Contains ways n → HasWayBack patches n
 
 -- the numbers for each block, for how many more of one block there is room, and the changes of which it is known that a way leads back
 pub record Needing : Type 0 where
@@ -65,4 +65,4 @@ pub record IsPut (patches : List Patch) (b : ℕ) (row : List ℕ) (g : Grade) (
 pub record IsNeeding (patches : List Patch) (blocks : ℕ) (needs : Needing) : Type 0 where
   pub long : length needs.lists ≡ blocks
   pub needed : AreNeeded patches (needs_of needs.lists)
-  pub back : AllComeBack patches needs.ways
+  pub back : HaveWaysBack patches needs.ways
