@@ -27,7 +27,7 @@ fn is_known(sight: &Sight<'_>, slot: usize, block: u32) -> bool
     ensures known { IsTrue result → (n : ℕ) → HasSlot sight.now.heads.now n slot → Contains sight.now.needs.now.ways n }
 {
     let head = &sight.heads[slot];
-    passes(Test::LiveOn(block), head) && sight.needs.comes_back(head.number)
+    passes(Test::LiveOn(block), head) && sight.needs.has_way_back(head.number)
 }
 
 /// Whether a change of the block from which it is known that a way leads back is in the row, or is met within few steps on a

@@ -1,24 +1,24 @@
 //! Searches over heads, for what the heads near a patch do not tell.
 //!
-//! Three questions need them. *Is a new change hard?* A block is written only with all its hard changes, so a change
-//! may be hard only where nothing that it depends on can come to wait for its block. Mostly the patches near it tell
+//! Three questions need them. *Is a new change hard?* A block is written only with all its hard changes, so a change may
+//! be hard only where nothing that it depends on can come to wait for its block. Mostly the patches near it tell
 //! (`shortcuts`), or their levels do (`levels`): each patch has one and each block a floor, so that no way down rises,
 //! and what lies below the floor of a block leads nowhere. Or their ancestors tell (`ancestors`): each patch keeps two
-//! that it depends on, a near one and a far one. Or it is known already (`known`): of a soft change of the block a way back
-//! stays until something is written, so that a change over it is soft too. Else a way back is looked for down alone for a
-//! while (`below`), then along a few long chains, and at last from both ends at once (`both_ends`): up from the changes of
-//! the block (`way_up`), and down (`way_down`) from the first changes of other blocks at or below what the new change
-//! depends on (`first_away`), which goes on from a block to what its hard changes need (`needs`). Where a new hard change
-//! would stand over the floor of its block, the floor goes up, with all that stands over the block
-//! (`lift`). *May a gate gain these names, and may a group have this change?* A search goes down from them through what
-//! waits for an open gate (`cycle`, `overlap_cycle`, `other_gates`), and for a gate one goes up from it by turns
-//! (`cycle_above`). *What waits behind a write that is out?* A walk goes up from what flies (`ascent`).
+//! that it depends on, a near one and a far one. Or it is known already (`known`): of a soft change of the block a way
+//! back stays until something is written, so that a change over it is soft too. Else a way back is looked for down alone
+//! for a while (`below`), then along a few long chains, and at last from both ends at once (`both_ends`): up from the
+//! changes of the block (`way_up`), and down (`way_down`) from the first changes of other blocks at or below what the new
+//! change depends on (`first_away`), which goes on from a block to what its hard changes need (`needs`). Where a new hard
+//! change would stand over the floor of its block, the floor goes up, with all that stands over the block (`lift`). *May
+//! a gate gain these names, and may a group have this change?* A search goes down from them through what waits for an
+//! open gate (`cycle`, `overlap_cycle`, `other_gates`), and for a gate one goes up from it by turns (`cycle_above`).
+//! *What waits behind a write that is out?* A walk goes up from what flies (`ascent`).
 //!
 //! A walk is a value of its own (`walk`), which keeps what it has met, so that each patch is looked at once; it can be
 //! used for walk after walk, each of which begins where nothing was met. What walks look at is one value too (`sight`):
 //! the heads, the lists of the blocks, the newest change over each of their bytes, the levels and ancestors, and what is
-//! kept of the block graph. A walk that crosses blocks keeps besides which it has crossed (`block_walk`), and a search from both ends
-//! has two such (`ends`).
+//! kept of the block graph. A walk that crosses blocks keeps besides which it has crossed (`block_walk`), and a search
+//! from both ends has two such (`ends`).
 //!
 //! All of it only reads the heads, and the levels but for lifting. Each answer is that of the definition, exactly: a
 //! walk that gives up says so.

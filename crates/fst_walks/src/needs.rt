@@ -167,7 +167,7 @@ impl Needs {
 
     /// Whether it is kept that a way leads back from the change with the number. It looks at no more than the logarithm of
     /// how many there are.
-    pub fn comes_back(&self, number: u32) -> bool
+    pub fn has_way_back(&self, number: u32) -> bool
         ensures { IsTrue result → Contains self.now.ways number }
     {
         match self.ways.binary_search(&number) {
