@@ -77,7 +77,7 @@ module _ {heads : Vec Head} {ends : Ends} {levels : Leveling} {needs : Needing} 
         covered = rw patches (covered_gained old g names blocks covers.items S.covered);
         along = S.along;
         leveled = rw patches (gained_is_leveled old g names gate blocks levels S.leveled);
-        needing = rw patches (needing_gained old g names S.keeps.lawful.one_place_each.rising gate S.needing);
+        needing = rw patches (needing_gained old g names S.keeps.lawful.one_place_each.rising S.keeps.lawful.on_disk_with_all gate S.needing);
         none_below = S.none_below;
         prepared = tt;
       }
@@ -106,7 +106,7 @@ module _ {heads : Vec Head} {ends : Ends} {levels : Leveling} {needs : Needing} 
         covered = rw patches (covered_push old p M.off blocks covers.items S.covered);
         along = along_grown {old = ends} P.marks P.crossed S.along;
         leveled = rw patches (leveled_put p A.level A.ancestry H M.next given P.ranks P.floors (λ q c. A.over q c (S.leveled.leveled.few q)) A.most A.under S.leveled (λ b on. absurd (M.off b on)) (λ b on. absurd (M.off b on)) A.top);
-        needing = rw patches (needing_put p H M.next M.off S.needing);
+        needing = rw patches (needing_put p H S.keeps.lawful.on_disk_with_all M.next M.off S.needing);
         none_below = S.none_below;
         prepared = tt;
       }
@@ -223,7 +223,7 @@ module _ {heads : Vec Head} {ends : Ends} {levels : Leveling} {needs : Needing} 
           covered = rw (patches, covers_are) (covered_made numbers p.grade D.ready.depends S.covered D.ready.inside cover_is covered);
           along = along_grown {old = walked walk places} P.marks P.crossed W.along;
           leveled = rw patches (leveled_change p rise (numbers_met heads.items walk) S.keeps.lawful.one_place_each D.given (risen walk same named R) (rw (← at, ← S.leveled.long) leveled) below lifted still (rw (← there, ← after) under) P.ranks P.floors);
-          needing = rw patches (needing_change p S.keeps.lawful.one_place_each S.needing (rw (← D.prepared.needed.0, ← gs, ← row) put) (rw (← ks, ← noted_row) noted) soft);
+          needing = rw patches (needing_change p S.keeps.lawful.one_place_each S.keeps.lawful.on_disk_with_all S.needing (rw (← D.prepared.needed.0, ← gs, ← row) put) (rw (← ks, ← noted_row) noted) soft);
           none_below = rw (enters none) (none_below_set standings.items unmarked least p.block _ S.none_below low here);
           prepared = tt;
         }

@@ -263,7 +263,6 @@ impl Sparse {
         keep_live(&mut self.heads, self.live);
         self.ends.shrink(self.heads.len());
         self.levels.forget(&self.heads);
-        self.needs.forget_ways();
         (before - self.heads.len()) as u32
     }
 

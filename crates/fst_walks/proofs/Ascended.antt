@@ -1,5 +1,5 @@
 -- A walk whose steps are told by a relation: what it has met so far, and that in the end it has met all.
-use Rattle.std.proofs.Common.{◌≡◌, ◌≤◌, ◌<◌, ◌+◌, ◌↔◌, ℕ, Bool, List, ◌++◌, length, get_or, Contains, sym, ap, subst, ◌∙◌, inl, inr, arith}
+use Rattle.std.proofs.Common.{◌≡◌, ◌≤◌, ◌<◌, ◌+◌, ◌↔◌, ◌⊎◌, ℕ, Bool, List, ◌++◌, length, get_or, Contains, sym, ap, subst, ◌∙◌, inl, inr, arith}
 use Rattle.std.proofs.{lemmas.Bool.{cases_lt}, lemmas.List.{append_assoc, get_or_append_left}}
 use Rattle.std.proofs.lemmas.List.Elements.{Contains-append_left, Contains-get_or}
 use Rattle.fst_types.specs.Closure.{Closure, one, join}
@@ -20,28 +20,34 @@ led_on Steps start n q m s = elim m [
   | inr r ↦ inr (r.0, r.1, join r.2 (one s))
 ]
 
--- one more of the queue
-module _ (Steps : ℕ → ℕ → Type 0) (start : List ℕ) (at : ℕ) (queue new : List ℕ) (inside : at < length queue) (x : Climbing Steps start at queue) (v : Visits (Steps (get_or queue at 0)) queue new) where
+-- one of the queue, at turn p: then all of the first `next` are done, if these were done or are that one
+module _ (Steps : ℕ → ℕ → Type 0) (start : List ℕ) (at p next : ℕ) (queue new : List ℕ) (past : at ≤ length queue) (inside : p < length queue)
+    (few : (i : ℕ) → i < next → (i < at) ⊎ (i ≡ p)) (x : Climbing Steps start at queue) (v : Visits (Steps (get_or queue p 0)) queue new) where
   same_at : (i : ℕ) → i < length queue → get_or new i 0 ≡ get_or queue i 0
   same_at i lt = ap (λ q. get_or q i 0) v.kept.1 ∙ get_or_append_left queue v.kept.0 0 i lt
 
   to_new : (q : ℕ) → Contains queue q → Contains new q
-  to_new q c = visits_old (Steps (get_or queue at 0)) queue new v q c
+  to_new q c = visits_old (Steps (get_or queue p 0)) queue new v q c
 
-  pub climbing_more : Climbing Steps start (at + 1) new
-  climbing_more = record {
+  pub climbing_at : Climbing Steps start next new
+  climbing_at = record {
     grown = (x.grown.0 ++ v.kept.0, v.kept.1 ∙ (ap (λ q. q ++ v.kept.0) x.grown.1 ∙ append_assoc start x.grown.0 v.kept.0));
     only = λ q c. elim (v.only q c) [
       | inl old ↦ x.only q old
-      | inr s ↦ led_on Steps start (get_or queue at 0) q (x.only (get_or queue at 0) (Contains-get_or queue at 0 inside)) s
+      | inr s ↦ led_on Steps start (get_or queue p 0) q (x.only (get_or queue p 0) (Contains-get_or queue p 0 inside)) s
     ];
-    done = λ i q up lt s. elim (cases_lt i at) [
-      | inl before ↦ to_new q (x.done i q before (omega (arith, before, inside)) (subst (λ m. Steps m q) (same_at i (omega (arith, before, inside))) s))
-      | inr past ↦
-          let here : i ≡ at = omega (arith, up, past) in
-          v.each q (subst (λ m. Steps m q) (same_at i (omega (arith, here, inside)) ∙ ap (λ j. get_or queue j 0) here) s)
+    done = λ i q up lt s. elim (few i up) [
+      | inl before ↦ to_new q (x.done i q before (omega (arith, before, past)) (subst (λ m. Steps m q) (same_at i (omega (arith, before, past))) s))
+      | inr here ↦ v.each q (subst (λ m. Steps m q) (same_at i (omega (arith, here, inside)) ∙ ap (λ j. get_or queue j 0) here) s)
     ];
   }
+
+-- the next one
+pub next_or_done : (at i : ℕ) → i < at + 1 → (i < at) ⊎ (i ≡ at)
+next_or_done at i up = elim (cases_lt i at) [ inl before ↦ inl before | inr past ↦ inr (omega (arith, up, past)) ]
+
+pub climbing_more : (Steps : ℕ → ℕ → Type 0) (start : List ℕ) (at : ℕ) (queue new : List ℕ) → at < length queue → Climbing Steps start at queue → Visits (Steps (get_or queue at 0)) queue new → Climbing Steps start (at + 1) new
+climbing_more Steps start at queue new inside x v = climbing_at Steps start at at (at + 1) queue new (omega (arith, inside)) inside (next_or_done at) x v
 
 -- in the end all is met
 pub climbing_all : (Steps : ℕ → ℕ → Type 0) (start : List ℕ) (at : ℕ) (queue : List ℕ) → length queue ≤ at → Climbing Steps start at queue → (n : ℕ) → Contains queue n ↔ IsLedFrom Steps start n

@@ -1,9 +1,10 @@
--- A way back stays while patches only come to be, to depend on more, or move on that are no changes.
-use Rattle.std.proofs.Common.{◌≡◌, ◌++◌, ◌∷◌, ◌⊎◌, ◌∙◌, [], ℕ, List, Contains, map, refl, sym, ap, subst, inl, inr}
+-- A way back stays while patches come to be, gates gain names and are sealed, blocks are launched, and what is on disk is forgotten: what is not on disk depends on all that it did. Only a landing may end one.
+use Rattle.std.proofs.Common.{◌≡◌, ◌≢◌, ◌++◌, ◌∷◌, ◌⊎◌, ◌∙◌, [], ℕ, true, not, List, Contains, map, filter, refl, sym, ap, subst, inl, inr}
 use Rattle.std.proofs.lemmas.List.Elements.{Contains-append_left}
-use Rattle.fst_types.specs.{Cascade.IsCascadeOf, Closure.{one, join}, Dependencies.{DependsOn, DirectlyOn, Needs}, Facts.SparseAreLawful, Gates.IsOpenNumber, Gating.{gains, sealed}}
-use Rattle.fst_types.specs.{Grades.{HasEdge, Reaches}, Patches.{Patch, OpenGate, IsOn, IsLive, block_of_kind, grade_of_kind}}
-use Rattle.fst_types.proofs.{Cascades.{no_follower_on, settled_on}, Depending.grown, Finite.{In-from_Contains, Contains-from_In, In-map}, Sealing.sealed_cases}
+use Rattle.fst_types.specs.{Cascade.IsCascadeOf, Closure.{one, join}, Dependencies.{DependsOn, DirectlyOn, IsLiveNumber, Needs}, Facts.{IsOnDiskWithAll, SparseAreLawful}, Gates.IsOpenNumber, Gating.{gains, sealed}}
+use Rattle.fst_types.specs.{Grades.{HasEdge, Reaches}, Patches.{Patch, OpenGate, IsOn, IsHard, IsLive, block_of_kind, grade_of_kind}}
+use Rattle.fst_types.specs.{Tests.{is_at, is_live}, Writable.{IsInMemoryOn, IsWritable, IsWritableSet}, Writing.launched, declared.place.Place.Place}
+use Rattle.fst_types.proofs.{Cascades.{no_follower_on, settled_on}, Depending.grown, Dropping.in_filter, Finite.{In-from_Contains, Contains-from_In, In-map}, Issuing.launched_cases, Sealing.sealed_cases}
 use Rattle.fst_heads.specs.{Grading.{IsLeading, IsReturning, LeadsNowhere}, Marks.IsAbove}
 use Rattle.fst_types.specs.Closure.{Closure}
 use Rattle.fst_types.specs.Patches.{IsRising}
@@ -11,16 +12,19 @@ use Rattle.fst_types.proofs.Crash.{same_number}
 use Rattle.fst_heads.specs.Marks.{PassesAt}
 use Rattle.fst_heads.proofs.{Graded.on_from, Leading.one_block}
 use Rattle.fst_walks.specs.{BothEnds.StepsAway, Needing.{HaveWaysBack, HasWayBack}}
+use Rattle.fst_walks.proofs.Holding.{live_up}
+use Rattle.fst_types.specs.declared.place.Place.TheVariants as place
 use Rattle.fst_heads.specs.declared.test.Test.TheVariants as test
 
--- a patch that is there still, with what it depended on at least, and as it was where it is a change
-pub record StaysIn (new : List Patch) (p : Patch) : Type 0 where
+-- a patch that is there still, with what it depended on at least; where it is a change it is not on disk, and in memory where it is hard and needs a live change of another block
+pub record StaysIn (old new : List Patch) (p : Patch) : Type 0 where
   pub now : Patch
   pub head : Contains new now
   pub number : now.number ≡ p.number
   pub dependencies : (n : ℕ) → Contains p.dependencies n → Contains now.dependencies n
   pub kind : (b : ℕ) → IsOn p b → now.kind ≡ p.kind
-  pub place : (b : ℕ) → IsOn p b → now.place ≡ p.place
+  pub live : (b : ℕ) → IsOn p b → IsLive now
+  pub memory : (c d : ℕ) (q : Patch) → IsInMemoryOn old c p → IsHard p → c ≢ d → Needs old p.number q d → IsLive q → now.place ≡ place.Memory
 
 -- a way from a longer row is one from more
 pub shorter_nowhere : (patches : List Patch) (b : ℕ) (row longer : List ℕ) → ((n : ℕ) → Contains row n → Contains longer n) → LeadsNowhere patches b longer → LeadsNowhere patches b row
@@ -39,54 +43,63 @@ below_nowhere patches b row top n named under below direct L = record {
     up : (P : ℕ → Type 0) (q : ℕ) → DirectlyOn patches n q → IsAbove patches P q → IsAbove patches P top
     up P q d a = elim a [ inl here ↦ inr (q, from q (one d), here) | inr r ↦ inr (r.0, from r.0 (join (one d) r.1), r.2) ]
 
-module _ (old new : List Patch) (stays : (p : Patch) → Contains old p → StaysIn new p) where
-  direct_stays : (m n : ℕ) → DirectlyOn old m n → DirectlyOn new m n
-  direct_stays m n d = let g = stays d.patch d.head in record { patch = g.now; head = g.head; numbered = g.number ∙ d.numbered; named = g.dependencies n d.named }
+-- where all that is not on disk stays
+module _ (old new : List Patch) (disk : IsOnDiskWithAll old) (stays : (p : Patch) → Contains old p → IsLive p → StaysIn old new p) where
+  direct_stays : (m n : ℕ) → DirectlyOn old m n → IsLiveNumber old n → DirectlyOn new m n
+  direct_stays m n d l =
+      let g = stays d.patch d.head (λ e. l.live (disk.disk d.patch d.head e n d.named l.patch l.head l.numbered)) in
+      record { patch = g.now; head = g.head; numbered = g.number ∙ d.numbered; named = g.dependencies n d.named }
 
-  depends_stays : (m n : ℕ) → DependsOn old m n → DependsOn new m n
-  depends_stays m n (one d) = one (direct_stays m n d)
-  depends_stays m n (join {q = k} c d) = join (depends_stays m k c) (depends_stays k n d)
+  depends_stays : (m n : ℕ) → DependsOn old m n → IsLiveNumber old n → DependsOn new m n
+  depends_stays m n (one d) l = one (direct_stays m n d l)
+  depends_stays m n (join {q = k} c d) l = join (depends_stays m k c (live_up old disk k n d l)) (depends_stays k n d l)
 
-  live_stays : (p : Patch) (b : ℕ) (h : Contains old p) → IsOn p b → IsLive p → IsLive (stays p h).now
-  live_stays p b h on live d = live (sym ((stays p h).place b on) ∙ d)
+  on_stays : (p : Patch) (b : ℕ) (h : Contains old p) (l : IsLive p) → IsOn p b → IsOn (stays p h l).now b
+  on_stays p b h l on = ap block_of_kind ((stays p h l).kind b on) ∙ on
 
-  on_stays : (p : Patch) (b : ℕ) (h : Contains old p) → IsOn p b → IsOn (stays p h).now b
-  on_stays p b h on = ap block_of_kind ((stays p h).kind b on) ∙ on
-
-  need_stays : (m : ℕ) (q : Patch) (c : ℕ) (x : Needs old m q c) → Needs new m (stays q x.head).now c
-  need_stays m q c x = record { head = (stays q x.head).head; change = on_stays q c x.head x.change; depends = subst (DependsOn new m) (sym (stays q x.head).number) (depends_stays m q.number x.depends) }
+  need_stays : (m : ℕ) (q : Patch) (c : ℕ) (x : Needs old m q c) (l : IsLive q) → Needs new m (stays q x.head l).now c
+  need_stays m q c x l = record {
+    head = (stays q x.head l).head;
+    change = on_stays q c x.head l x.change;
+    depends = subst (DependsOn new m) (sym (stays q x.head l).number) (depends_stays m q.number x.depends (record { patch = q; head = x.head; numbered = refl; live = l }));
+  }
 
   returning_stays : (b n : ℕ) → IsReturning old b n → IsReturning new b n
   returning_stays b n r =
-      let a = stays r.away r.head in
+      let a = stays r.away r.head r.away_live in
       let k = r.back_needed in
+      let back = stays r.back k.head r.back_live in
       record {
         away = a.now;
-        back = (stays r.back k.head).now;
+        back = back.now;
         away_on = r.away_on;
         head = a.head;
         numbered = a.number ∙ r.numbered;
-        change = on_stays r.away r.away_on r.head r.change;
+        change = on_stays r.away r.away_on r.head r.away_live r.change;
         off = r.off;
-        away_live = live_stays r.away r.away_on r.head r.change r.away_live;
-        back_needed = subst (λ m. Needs new m (stays r.back k.head).now b) (sym a.number) (need_stays r.away.number r.back b k);
-        back_live = live_stays r.back b k.head k.change r.back_live;
+        away_live = a.live r.away_on r.change;
+        back_needed = subst (λ m. Needs new m back.now b) (sym a.number) (need_stays r.away.number r.back b k r.back_live);
+        back_live = back.live b k.change;
       }
 
   edge_stays : (c d : ℕ) → HasEdge old c d → HasEdge new c d
   edge_stays c d e =
       let i = e.in_memory in
-      let h = stays e.hard i.head in
-      let k = e.needs in
+      let held : IsLive e.hard = λ k. clash (sym i.memory ∙ k) in
+      let h = stays e.hard i.head held in
+      let need = stays e.need e.needs.head e.live in
       record {
         other = e.other;
         hard = h.now;
-        need = (stays e.need k.head).now;
-        in_memory = record { head = h.head; change = on_stays e.hard c i.head i.change; memory = h.place c i.change ∙ i.memory };
+        need = need.now;
+        in_memory = record { head = h.head; change = on_stays e.hard c i.head held i.change; memory = h.memory c d e.need i e.is_hard e.other e.needs e.live };
         is_hard = ap grade_of_kind (h.kind c i.change) ∙ e.is_hard;
-        needs = subst (λ m. Needs new m (stays e.need k.head).now d) (sym h.number) (need_stays e.hard.number e.need d k);
-        live = live_stays e.need d k.head k.change e.live;
+        needs = subst (λ m. Needs new m need.now d) (sym h.number) (need_stays e.hard.number e.need d e.needs e.live);
+        live = need.live d e.needs.change;
       }
+    where
+      clash : place.Memory ≡ place.Disk → ⊥
+      clash k = cc
 
   reaches_stays : (c d : ℕ) → Reaches old c d → Reaches new c d
   reaches_stays c d (one e) = one (edge_stays c d e)
@@ -94,36 +107,53 @@ module _ (old new : List Patch) (stays : (p : Patch) → Contains old p → Stay
 
   leading_stays : (b n : ℕ) → IsLeading old b n → IsLeading new b n
   leading_stays b n l =
-      let p = stays l.patch l.head in
+      let p = stays l.patch l.head l.live in
       record {
         patch = p.now;
         block = l.block;
         head = p.head;
         numbered = p.number ∙ l.numbered;
-        change = on_stays l.patch l.block l.head l.change;
-        live = live_stays l.patch l.block l.head l.change l.live;
+        change = on_stays l.patch l.block l.head l.live l.change;
+        live = p.live l.block l.change;
         other = l.other;
         reaches = reaches_stays l.block b l.reaches;
       }
 
-  above_stays : (P Q : ℕ → Type 0) → ((n : ℕ) → P n → Q n) → (n : ℕ) → IsAbove old P n → IsAbove new Q n
-  above_stays P Q f n a = elim a [ inl here ↦ inl (f n here) | inr r ↦ inr (r.0, depends_stays n r.0 r.1, f r.0 r.2) ]
+  returning_live : (b n : ℕ) → IsReturning old b n → IsLiveNumber old n
+  returning_live b n r = record { patch = r.away; head = r.head; numbered = r.numbered; live = r.away_live }
+
+  leading_live : (b n : ℕ) → IsLeading old b n → IsLiveNumber old n
+  leading_live b n l = record { patch = l.patch; head = l.head; numbered = l.numbered; live = l.live }
+
+  above_live : (P : ℕ → Type 0) → ((n : ℕ) → P n → IsLiveNumber old n) → (n : ℕ) → IsAbove old P n → IsLiveNumber old n
+  above_live P live n a = elim a [ inl here ↦ live n here | inr r ↦ live_up old disk n r.0 r.1 (live r.0 r.2) ]
+
+  above_stays : (P Q : ℕ → Type 0) → ((n : ℕ) → P n → IsLiveNumber old n) → ((n : ℕ) → P n → Q n) → (n : ℕ) → IsAbove old P n → IsAbove new Q n
+  above_stays P Q live f n a = elim a [ inl here ↦ inl (f n here) | inr r ↦ inr (r.0, depends_stays n r.0 r.1 (live r.0 r.2), f r.0 r.2) ]
 
   pub nowhere_was : (b : ℕ) (row : List ℕ) → LeadsNowhere new b row → LeadsNowhere old b row
   nowhere_was b row L = record {
-    straight = λ u. L.straight (u.0, u.1, above_stays (IsReturning old b) (IsReturning new b) (returning_stays b) u.0 u.2);
-    open_ended = λ u. L.open_ended (u.0, u.1, above_stays (IsLeading old b) (IsLeading new b) (leading_stays b) u.0 u.2);
+    straight = λ u. L.straight (u.0, u.1, above_stays (IsReturning old b) (IsReturning new b) (returning_live b) (returning_stays b) u.0 u.2);
+    open_ended = λ u. L.open_ended (u.0, u.1, above_stays (IsLeading old b) (IsLeading new b) (leading_live b) (leading_stays b) u.0 u.2);
   }
+
+  -- no way leads back from what is on disk
+  back_live : (n : ℕ) (x : HasWayBack old n) → IsLive x.patch
+  back_live n x e =
+      let rests = disk.disk x.patch x.head e in
+      let none : (m : ℕ) → Contains x.patch.dependencies m → IsLiveNumber old m → ⊥ = λ m c l. l.live (rests m c l.patch l.head l.numbered) in
+      x.back (record { straight = λ u. none u.0 u.1 (above_live (IsReturning old x.block) (returning_live x.block) u.0 u.2); open_ended = λ u. none u.0 u.1 (above_live (IsLeading old x.block) (leading_live x.block) u.0 u.2) })
 
   pub back_stays : (n : ℕ) → HasWayBack old n → HasWayBack new n
   back_stays n x =
-      let g = stays x.patch x.head in
+      let live = back_live n x in
+      let g = stays x.patch x.head live in
       record {
         patch = g.now;
         head = g.head;
         numbered = g.number ∙ x.numbered;
         block = x.block;
-        change = on_stays x.patch x.block x.head x.change;
+        change = on_stays x.patch x.block x.head live x.change;
         back = λ L. x.back (shorter_nowhere old x.block x.patch.dependencies g.now.dependencies g.dependencies (nowhere_was x.block g.now.dependencies L));
       }
 
@@ -131,12 +161,20 @@ module _ (old new : List Patch) (stays : (p : Patch) → Contains old p → Stay
   all_stay ways all n c = back_stays n (all n c)
 
 -- with one patch more
-pub stays_put : (old : List Patch) (p : Patch) (q : Patch) → Contains old q → StaysIn (old ++ p ∷ []) q
-stays_put old p q h = record { now = q; head = Contains-append_left old (p ∷ []) q h; number = refl; dependencies = λ n c. c; kind = λ b on. refl; place = λ b on. refl }
+pub stays_put : (old : List Patch) (p : Patch) (q : Patch) → Contains old q → IsLive q → StaysIn old (old ++ p ∷ []) q
+stays_put old p q h l = record {
+  now = q;
+  head = Contains-append_left old (p ∷ []) q h;
+  number = refl;
+  dependencies = λ n c. c;
+  kind = λ b on. refl;
+  live = λ b on. l;
+  memory = λ c d n i hard other need live. i.memory;
+}
 
 -- where a gate gains names
-pub stays_gained : (old : List Patch) (g : ℕ) (names : List ℕ) (q : Patch) → Contains old q → StaysIn (map (gains g names) old) q
-stays_gained old g names q h =
+pub stays_gained : (old : List Patch) (g : ℕ) (names : List ℕ) (q : Patch) → Contains old q → IsLive q → StaysIn old (map (gains g names) old) q
+stays_gained old g names q h l =
     let k = grown g names q in
     record {
       now = gains g names q;
@@ -144,13 +182,66 @@ stays_gained old g names q h =
       number = k.number;
       dependencies = k.kept;
       kind = λ b on. k.kind;
-      place = λ b on. k.place;
+      live = λ b on e. l (sym k.place ∙ e);
+      memory = λ c d n i hard other need live. k.place ∙ i.memory;
     }
+
+-- where those on disk are forgotten
+pub stays_left : (old : List Patch) (q : Patch) → Contains old q → IsLive q → StaysIn old (filter is_live old) q
+stays_left old q h l = record {
+  now = q;
+  head = Contains-from_In (filter is_live old) q (in_filter is_live old q (In-from_Contains old q h) (live_said q.place l));
+  number = refl;
+  dependencies = λ n c. c;
+  kind = λ b on. refl;
+  live = λ b on. l;
+  memory = λ c d n i hard other need live. i.memory;
+}
+  where
+    live_said : (at : Place) → (at ≡ place.Disk → ⊥) → not (is_at at place.Disk) ≡ true
+    live_said place.Memory l = refl
+    live_said place.Flight l = refl
+    live_said place.Disk l = absurd (l refl)
+
+-- where a block is launched: a hard change that needs a live one of another block is not
+module _ (old : List Patch) (numbers b : ℕ) (chosen : List ℕ) (H : SparseAreLawful old numbers) (writable : IsWritable old b) (choice : IsWritableSet old b chosen) where
+  pub stays_launched : (q : Patch) → Contains old q → IsLive q → StaysIn old (map (launched chosen) old) q
+  stays_launched q h l =
+      let head = Contains-from_In (map (launched chosen) old) (launched chosen q) (In-map (launched chosen) old q (launched chosen q) (In-from_Contains old q h) refl) in
+      elim (launched_cases old numbers b chosen H writable choice q h) [
+        | inl m ↦ record {
+          now = launched chosen q;
+          head = head;
+          number = ap (λ x. x.number) m.1;
+          dependencies = λ n c. subst (λ ds. Contains ds n) (sym (ap (λ x. x.dependencies) m.1)) c;
+          kind = λ a on. ap (λ x. x.kind) m.1;
+          live = λ a on e. clash (sym (ap (λ x. x.place) m.1) ∙ e);
+          memory = λ c d n i hard other need live.
+              let w = m.0 in
+              let own = one_block q b c w.in_memory.change i.change in
+              absurd (elim (w.needs n d need) [
+                | inl gone ↦ live gone
+                | inr here ↦ other (sym own ∙ one_block n b d here.change need.change)
+              ]);
+        }
+        | inr s ↦ record {
+          now = launched chosen q;
+          head = head;
+          number = ap (λ x. x.number) s.0;
+          dependencies = λ n c. subst (λ ds. Contains ds n) (sym (ap (λ x. x.dependencies) s.0)) c;
+          kind = λ a on. ap (λ x. x.kind) s.0;
+          live = λ a on e. l (sym (ap (λ x. x.place) s.0) ∙ e);
+          memory = λ c d n i hard other need live. ap (λ x. x.place) s.0 ∙ i.memory;
+        }
+      ]
+    where
+      clash : place.Flight ≡ place.Disk → ⊥
+      clash k = cc
 
 -- where a gate is sealed
 module _ (old new : List Patch) (numbers g : ℕ) (H : SparseAreLawful old numbers) (gate : IsOpenNumber old g) (cascade : IsCascadeOf (map (sealed g) old) new) where
-  pub stays_sealed : (q : Patch) → Contains old q → StaysIn new q
-  stays_sealed q h =
+  pub stays_sealed : (q : Patch) → Contains old q → IsLive q → StaysIn old new q
+  stays_sealed q h l =
       let mid = Contains-from_In (map (sealed g) old) (sealed g q) (In-map (sealed g) old q (sealed g q) (In-from_Contains old q h) refl) in
       let s = settled_on (map (sealed g) old) new cascade (sealed g q) mid in
       elim (sealed_cases old new numbers g H gate cascade q h) [
@@ -160,16 +251,20 @@ module _ (old new : List Patch) (numbers g : ℕ) (H : SparseAreLawful old numbe
           number = s.2.number ∙ ap (λ x. x.number) m.1;
           dependencies = λ n c. subst (λ ds. Contains ds n) (sym (s.2.dependencies ∙ ap (λ x. x.dependencies) m.1)) c;
           kind = λ b on. absurd (no_gate q b m.0 on);
-          place = λ b on. absurd (no_gate q b m.0 on);
+          live = λ b on. absurd (no_gate q b m.0 on);
+          memory = λ c d n i hard other need live. absurd (no_gate q c m.0 i.change);
         }
-        | inr e ↦ record {
-          now = s.0;
-          head = s.1;
-          number = s.2.number ∙ ap (λ x. x.number) e;
-          dependencies = λ n c. subst (λ ds. Contains ds n) (sym (s.2.dependencies ∙ ap (λ x. x.dependencies) e)) c;
-          kind = λ b on. s.2.kind ∙ ap (λ x. x.kind) e;
-          place = λ b on. s.2.place (no_follower_on (sealed g q).kind b (ap (λ x. block_of_kind x.kind) e ∙ on)) ∙ ap (λ x. x.place) e;
-        }
+        | inr e ↦
+            let same : (b : ℕ) → IsOn q b → s.0.place ≡ q.place = λ b on. s.2.place (no_follower_on (sealed g q).kind b (ap (λ x. block_of_kind x.kind) e ∙ on)) ∙ ap (λ x. x.place) e in
+            record {
+              now = s.0;
+              head = s.1;
+              number = s.2.number ∙ ap (λ x. x.number) e;
+              dependencies = λ n c. subst (λ ds. Contains ds n) (sym (s.2.dependencies ∙ ap (λ x. x.dependencies) e)) c;
+              kind = λ b on. s.2.kind ∙ ap (λ x. x.kind) e;
+              live = λ b on k. l (sym (same b on) ∙ k);
+              memory = λ c d n i hard other need live. same c i.change ∙ i.memory;
+            }
       ]
     where
       no_gate : (p : Patch) (b : ℕ) → p.kind ≡ OpenGate → IsOn p b → ⊥

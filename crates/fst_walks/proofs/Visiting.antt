@@ -1,6 +1,6 @@
 -- What was visited, and what is visited besides.
 use Rattle.std.proofs.Common.{◌≡◌, ◌⊎◌, ◌<◌, ◌≤◌, ℕ, List, [], ◌∷◌, ◌++◌, length, map, get_or, Contains, refl, sym, ap, subst, ◌∙◌, inl, inr, arith}
-use Rattle.std.proofs.lemmas.{Bool.cases_lt, List.{append-nil, append_assoc, get_or_append_left, get_or-map, length-map, map_push}}
+use Rattle.std.proofs.lemmas.{Bool.cases_lt, List.{append-nil, append_assoc, get_or_append_left, get_or-map, length-append, length-map, map_push}}
 use Rattle.std.proofs.lemmas.List.Elements.{Contains-append_left, Contains-push, Contains-push_cases}
 use Rattle.fst_types.specs.Dependencies.{IsLiveNumber}
 use Rattle.fst_heads.specs.{Heads.{IsRising, patches_of}, Marks.{HasSlot, Shows}, declared.head.Head.Head}
@@ -103,6 +103,10 @@ none_met heads walk none = ap (map (number_at heads)) none
 -- what stays in the queue
 pub visits_old : (P : ℕ → Type 0) (old new : List ℕ) → Visits P old new → (n : ℕ) → Contains old n → Contains new n
 visits_old P old new v n c = subst (λ q. Contains q n) (sym v.kept.1) (Contains-append_left old v.kept.0 n c)
+
+-- and it is no shorter
+pub visits_longer : (P : ℕ → Type 0) (old new : List ℕ) → Visits P old new → length old ≤ length new
+visits_longer P old new v = omega (arith, ap length v.kept.1, length-append old v.kept.0)
 
 -- those with P, then those with Q
 pub visits_both : (P Q R : ℕ → Type 0) (old mid new : List ℕ) → ((n : ℕ) → R n → P n ⊎ Q n) → ((n : ℕ) → P n → R n) → ((n : ℕ) → Q n → R n) → Visits P old mid → Visits Q mid new → Visits R old new

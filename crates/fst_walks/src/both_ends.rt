@@ -110,8 +110,19 @@ fn turn_down(sight: &Sight<'_>, ends: &mut Ends, at: usize, least: u32, looked: 
     meets(sight.heads, &ends.down.walk, &ends.up.walk, from)
 }
 
+// At which turn a walk is looked at from its end: the one before `deep`, or the last where all from there on was looked at
+// from its beginning.
+fn turn_from_end(deep: usize, first: usize, len: usize) -> usize
+    requires first { first < len }
+    requires deep { deep ≤ len }
+    ensures { result < len }
+{
+    if deep <= first { len - 1 } else { deep - 1 }
+}
+
 // Takes steps by turns, through what is no higher than `most` and no lower than `least`, until one walk has met what the
-// other has, which it answers, or one is at its end.
+// other has, which it answers, or one is at its end. The walk down steps from what it met first, as it must, and by turns
+// from what it met last: so a long way is found without all that lies about its beginning.
 fn meet_between(sight: &Sight<'_>, ends: &mut Ends, most: u32, least: u32, begun: Looked) -> bool
     requires sees { Sees sight.now }
     requires up { IsOver sight.now.heads.now (length sight.now.lists.now) ends.old.up }
@@ -127,6 +138,7 @@ fn meet_between(sight: &Sight<'_>, ends: &mut Ends, most: u32, least: u32, begun
     let mut looked = begun;
     let mut up_at = 0;
     let mut down_at = 0;
+    let mut deep = 0;
     while up_at < ends.up.walk.len() && down_at < ends.down.walk.len() {
         if looked.up <= looked.down {
             if turn_up(sight, ends, up_at, most, &mut looked) {
@@ -134,6 +146,13 @@ fn meet_between(sight: &Sight<'_>, ends: &mut Ends, most: u32, least: u32, begun
             }
             up_at += 1;
         } else {
+            let met = ends.down.walk.len();
+            let last = turn_from_end(deep, down_at, met);
+            if turn_down(sight, ends, last, least, &mut looked) {
+                return true;
+            }
+            let now = ends.down.walk.len();
+            deep = if met < now { now } else { last };
             if turn_down(sight, ends, down_at, least, &mut looked) {
                 return true;
             }
@@ -155,7 +174,7 @@ pub fn grade_between(sight: &Sight<'_>, ends: &mut Ends, block: u32, row: &[u32]
     ensures down { IsOver sight.now.heads.now (length sight.now.lists.now) ends.new.down }
 {
     ends.down.cross_only(block);
-    let down = visit_first_away(sight.heads, &mut ends.down.walk, block, row, usize::MAX);
+    let down = visit_first_away(sight.heads, &mut ends.down.walk, block, row);
     if ends.down.walk.len() == 0 {
         return Grade::Hard;
     }

@@ -3,9 +3,8 @@
 //! block, and no block from which the block graph leads to its block. Over a block whose changes are all on disk no search
 //! is needed, nor where only changes of the block are pending of what the change depends on, nor where all of that is a hard
 //! change of the block or below its floor. It is soft where it depends on a change of the block from which a way is known to
-//! lead back. Else the ancestors of what it depends on may lead back to the block, or a chain within a few steps; or a walk
-//! down that is not long may tell, or longer chains, and only where none does a way back is looked for from both ends. A gate
-//! that is sealed with the change is taken as sealed already: that sets free what it alone blocks, and moves no change and no
+//! lead back. Else the ancestors of what it depends on may lead back to the block, or a chain within a few steps, and only
+//! where neither does a way back is looked for from both ends. A gate that is sealed with the change is taken as sealed already: that sets free what it alone blocks, and moves no change and no
 //! dependency.
 
 ghost use Rattle.std.specs.Prelude.{◌<◌, length};
@@ -16,12 +15,11 @@ ghost use Rattle.fst_walks.specs.BothEnds.{IsOver};
 ghost use Rattle.fst_walks.specs.Sights.{Sees};
 
 use crate::ancestors::leads_to_block;
-use crate::below::grade_below;
 use crate::both_ends::grade_between;
 use crate::ends::Ends;
 use crate::known::leads_over_known;
 use crate::other_gates::is_blocked;
-use crate::shortcuts::{comes_back, comes_back_soon, is_clean, stays_below, waits_for_own_block};
+use crate::shortcuts::{comes_back_soon, is_clean, stays_below, waits_for_own_block};
 use crate::sight::Sight;
 use fst_types::Grade;
 
@@ -52,12 +50,6 @@ fn grade_by_ways(sight: &Sight<'_>, ends: &mut Ends, block: u32, row: &[u32]) ->
         return Grade::Soft;
     }
     if comes_back_soon(sight, block, row) {
-        return Grade::Soft;
-    }
-    if let Some(grade) = grade_below(sight, &mut ends.down, block, row) {
-        return grade;
-    }
-    if comes_back(sight, block, row) {
         return Grade::Soft;
     }
     grade_between(sight, ends, block, row)

@@ -5,14 +5,13 @@
 //! (`shortcuts`), or their levels do (`levels`): each patch has one and each block a floor, so that no way down rises,
 //! and what lies below the floor of a block leads nowhere. Or their ancestors tell (`ancestors`): each patch keeps two
 //! that it depends on, a near one and a far one. Or it is known already (`known`): of a soft change of the block a way
-//! back stays until something is written, so that a change over it is soft too. Else a way back is looked for down alone
-//! for a while (`below`), then along a few long chains, and at last from both ends at once (`both_ends`): up from the
-//! changes of the block (`way_up`), and down (`way_down`) from the first changes of other blocks at or below what the new
-//! change depends on (`first_away`), which goes on from a block to what its hard changes need (`needs`). Where a new hard
-//! change would stand over the floor of its block, the floor goes up, with all that stands over the block (`lift`). *May
-//! a gate gain these names, and may a group have this change?* A search goes down from them through what waits for an
-//! open gate (`cycle`, `overlap_cycle`, `other_gates`), and for a gate one goes up from it by turns (`cycle_above`).
-//! *What waits behind a write that is out?* A walk goes up from what flies (`ascent`).
+//! back stays until a write lands, so that a change over it is soft too. Else a way back is looked for from both ends at
+//! once (`both_ends`): up from the changes of the block (`way_up`), and down (`way_down`) from the first changes of other
+//! blocks at or below what the new change depends on (`first_away`), which goes on from a block to what its hard changes
+//! need (`needs`). Where a new hard change would stand over the floor of its block, the floor goes up, with all that stands
+//! over the block (`lift`). *May a gate gain these names, and may a group have this change?* A search goes down from them
+//! through what waits for an open gate (`cycle`, `overlap_cycle`, `other_gates`), and for a gate one goes up from it by
+//! turns (`cycle_above`). *What waits behind a write that is out?* A walk goes up from what flies (`ascent`).
 //!
 //! A walk is a value of its own (`walk`), which keeps what it has met, so that each patch is looked at once; it can be
 //! used for walk after walk, each of which begins where nothing was met. What walks look at is one value too (`sight`):
@@ -26,7 +25,6 @@
 
 pub mod ancestors;
 pub mod ascent;
-pub mod below;
 pub mod block_walk;
 pub mod both_ends;
 pub mod cycle;

@@ -1,8 +1,8 @@
 //! What blocks need: where a walk down goes on when it crosses a block. Of each block the numbers are kept of what its hard
 //! changes in memory directly depend on, but of the hard changes of one block one for all, since they are written together.
 //! So a walk looks at each block that the block needs once, and not at each of its changes. Beside that the soft changes are
-//! kept from which a way was seen to lead back to their block, until something is written: a way stays while patches only
-//! come to be, to depend on more and to be sealed, and a new change over such a change of its block is soft too.
+//! kept from which a way was seen to lead back to their block, until a write lands: a way stays while patches come to be and
+//! to depend on more, gates are sealed and blocks launched, and a new change over such a change of its block is soft too.
 
 ghost use Rattle.std.specs.Prelude.{◌≡◌, ◌≢◌, ◌≤◌, ◌<◌, ◌+◌, ◌∷◌, [], ℕ, IsTrue, length, Contains, IfOk, OnOk};
 ghost use Rattle.fst_types.specs.Closure.{IsAcyclic};
@@ -176,7 +176,7 @@ impl Needs {
         }
     }
 
-    /// Something was written, so that ways may be gone.
+    /// A write landed, so that ways may be gone.
     pub fn forget_ways(&mut self)
         ensures lists { self.new.lists ≡ self.old.lists }
         ensures ways { self.new.ways ≡ [] }
@@ -184,15 +184,14 @@ impl Needs {
         self.ways.clear();
     }
 
-    /// Nothing of the block is hard and in memory any more, and ways may be gone.
+    /// Nothing of the block is hard and in memory any more.
     pub fn clear(&mut self, block: u32)
         requires { block < length self.old.lists }
         ensures long { length self.new.lists ≡ length self.old.lists }
         ensures others { (c : ℕ) → c ≢ block → needs_of self.new.lists c ≡ needs_of self.old.lists c }
         ensures cleared { needs_of self.new.lists block ≡ [] }
-        ensures ways { self.new.ways ≡ [] }
+        ensures ways { self.new.ways ≡ self.old.ways }
     {
         self.lists[block as usize].clear();
-        self.ways.clear();
     }
 }

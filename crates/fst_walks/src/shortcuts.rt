@@ -26,19 +26,9 @@ use fst_heads::row::row_sums;
 use fst_heads::test::{Test, passes};
 use fst_types::Place;
 
-// How far the chain along the newest is followed, before a walk is tried. Where groups or chains come one after the other
-// it comes back within a few steps, over which a walk would meet all their members.
-const NEAR_STEPS: u32 = 64;
-
-// How far a chain toward a change of the block is followed. Where it comes back it mostly takes fewer steps.
-const MOST_STEPS: u32 = 512;
-
-// Toward how many of the newest changes of the block chains are followed. In a grid whose rows and blocks do not divide one
-// another often no way leads to the newest and one to an older does.
-const MOST_CHAINS: usize = 8;
-
-// How many patches beside a chain are looked at in all.
-const MOST_LOOKS: usize = 8_192;
+// How far the chain along the newest is followed before a way back is searched for. Where groups or chains come one after the
+// other it comes back within a few steps, over which a search would meet all their members.
+const STEPS: u32 = 64;
 
 // How many of one row are looked at.
 const WIDTH: usize = 64;
@@ -98,15 +88,6 @@ pub fn is_hard_number(heads: &[Head], block: u32, number: u32) -> bool
     }
 }
 
-// Which of a row a chain goes on with.
-#[derive(Clone, Copy)]
-enum Chain {
-    // The newest.
-    Newest,
-    // The oldest that is not older than the patch with the number: it goes down to that as fast as it can.
-    Toward(u32),
-}
-
 /// The last of the row.
 pub fn newest(row: &[u32]) -> Option<u32>
     ensures { IfSome result (Contains row.now) }
@@ -124,28 +105,6 @@ pub fn first(row: &[u32]) -> Option<u32>
     match row {
         [first, ..] => Some(*first),
         [] => None,
-    }
-}
-
-// The first of the row that is not before the number.
-fn not_before(row: &[u32], number: u32) -> Option<u32>
-    ensures { IfSome result (Contains row.now) }
-{
-    for named in row {
-        if *named >= number {
-            return Some(*named);
-        }
-    }
-    None
-}
-
-// Where the chain goes on.
-fn next_of(chain: Chain, row: &[u32]) -> Option<u32>
-    ensures { IfSome result (Contains row.now) }
-{
-    match chain {
-        Chain::Newest => newest(row),
-        Chain::Toward(number) => not_before(row, number),
     }
 }
 
@@ -181,43 +140,6 @@ fn has_change(heads: &[Head], block: u32, row: &[u32]) -> bool
     false
 }
 
-// Whether the chain from one of the row to one that it depends on, and so on, comes over a change of another block back
-// to one of the block, or to a patch that directly depends on one, none being on disk, within so many steps. It ends below
-// the floor of the block, where nothing leads back.
-fn chain_back(sight: &Sight<'_>, block: u32, row: &[u32], chain: Chain, steps: u32) -> bool
-    requires sees { Sees sight.now }
-    requires block { block < length sight.now.lists.now }
-    ensures { IsTrue result → HasUnder (patches_of sight.now.heads.now) row.now (IsReturning (patches_of sight.now.heads.now) block) }
-{
-    let heads = sight.heads;
-    let floor = sight.levels.floor(block);
-    let mut next = next_of(chain, row);
-    let mut away = false;
-    let mut looks = MOST_LOOKS;
-    for _ in 0..steps {
-        let Some(number) = next else {
-            return false;
-        };
-        if sight.levels.of(heads, number) < floor {
-            return false;
-        }
-        away = away || passes_at(heads, Test::LiveOff(block), number);
-        let below = row_below(heads, number);
-        if away {
-            let few = newest_few(below, WIDTH);
-            if looks < few.len() {
-                return false;
-            }
-            if has_change(heads, block, few) {
-                return true;
-            }
-            looks -= few.len();
-        }
-        next = next_of(chain, below);
-    }
-    false
-}
-
 /// Whether all changes of the block are on disk. Nothing leads back to the block then, so a change of it is hard but for
 /// open gates.
 pub fn is_clean(sight: &Sight<'_>, block: u32) -> bool
@@ -229,29 +151,35 @@ pub fn is_clean(sight: &Sight<'_>, block: u32) -> bool
     list.is_empty()
 }
 
-/// Whether the chain along the newest comes from the row, within a few steps, over a change of another block back to the
-/// block. A change of the block with that row is soft. Where it does not, the chain may lead there further on.
+/// Whether the chain from the newest of the row to the newest that it depends on, and so on, comes over a change of another
+/// block back to one of the block, or to a patch that directly depends on one, none being on disk, within a few steps. A
+/// change of the block with that row is soft. Where it does not, another way may lead there. It ends below the floor of the
+/// block, where nothing leads back.
 pub fn comes_back_soon(sight: &Sight<'_>, block: u32, row: &[u32]) -> bool
     requires sees { Sees sight.now }
     requires block { block < length sight.now.lists.now }
     ensures { IsTrue result → HasUnder (patches_of sight.now.heads.now) row.now (IsReturning (patches_of sight.now.heads.now) block) }
 {
-    chain_back(sight, block, row, Chain::Newest, NEAR_STEPS)
-}
-
-/// Whether a chain toward one of the newest changes of the block comes from the row over a change of another block back to
-/// the block. A change of the block with that row is soft. Where none does, another path may.
-pub fn comes_back(sight: &Sight<'_>, block: u32, row: &[u32]) -> bool
-    requires sees { Sees sight.now }
-    requires block { block < length sight.now.lists.now }
-    ensures { IsTrue result → HasUnder (patches_of sight.now.heads.now) row.now (IsReturning (patches_of sight.now.heads.now) block) }
-{
-    let list = sight.lists[block as usize].as_slice();
-    let newest = &list[list.len().saturating_sub(MOST_CHAINS)..];
-    for listed in newest.iter().rev() {
-        if chain_back(sight, block, row, Chain::Toward(listed.number), MOST_STEPS) {
-            return true;
+    let heads = sight.heads;
+    let floor = sight.levels.floor(block);
+    let mut next = newest(row);
+    let mut away = false;
+    for _ in 0..STEPS {
+        let Some(number) = next else {
+            return false;
+        };
+        if sight.levels.of(heads, number) < floor {
+            return false;
         }
+        away = away || passes_at(heads, Test::LiveOff(block), number);
+        let below = row_below(heads, number);
+        if away {
+            let few = newest_few(below, WIDTH);
+            if has_change(heads, block, few) {
+                return true;
+            }
+        }
+        next = newest(below);
     }
     false
 }

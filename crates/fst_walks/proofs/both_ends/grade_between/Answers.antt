@@ -20,7 +20,7 @@ starts c =
       shows_up = c.cross_only-2.ensures.shown;
       shows_down = c.cross_only.ensures.shown;
       changes = visited_all low bottoms (subst (λ q. Visits low q bottoms) (none_met heads c.clear.new.self c.clear.ensures.met) c.visit_low_changes-up.ensures.visits);
-      first = λ n. (c.visit_first_away-down.ensures.only n, c.visit_first_away-down.ensures.all (omega (arith, c.visit_first_away-down.type_inv)) n);
+      first = c.visit_first_away-down.ensures.first;
     }
 
 pub meet_between-requires-clause-apart : goal.meet_between-requires-clause-apart
@@ -50,7 +50,7 @@ pub returns-then-len-eq0-clause-graded : goal.returns-then-len-eq0-clause-graded
 returns-then-len-eq0-clause-graded c =
     let heads = c.args.sight.now.heads.now in
     let none : (n : ℕ) → Contains (numbers_met heads c.visit_first_away-down.new.walk) n → ⊥ = λ n k. absurd (omega (arith, k.1, long_met heads c.visit_first_away-down.new.walk, c.len.ensures.long, c.if-len-eq0.true)) in
-    none_first heads c.requires.sees.rising c.requires.sees.disk c.requires.sees.hard c.args.block c.cross_only.new.self.crossed.items c.cross_only.ensures.shown c.args.row.now (λ n f. none n (c.visit_first_away-down.ensures.all (omega (arith, c.visit_first_away-down.type_inv)) n f))
+    none_first heads c.requires.sees.rising c.requires.sees.disk c.requires.sees.hard c.args.block c.cross_only.new.self.crossed.items c.cross_only.ensures.shown c.args.row.now (λ n f. none n ((c.visit_first_away-down.ensures.first n).1 f))
 
 pub returns-in-false-clause-down : goal.returns-in-false-clause-down
 returns-in-false-clause-down c = grind (arith, common_steps)

@@ -13,6 +13,7 @@ invariant-loop-up_at l = record {
   apart : AreApart (numbers_met l.sight.heads.now l.ends.up.walk) (numbers_met l.sight.heads.now l.ends.down.walk);
   climbs : Walking (StepsLow (patches_of l.sight.heads.now) (level_of l.sight.levels.now.ranks) l.most l.initial.ends.up.crossed.items) (IsLowChange (patches_of l.sight.heads.now) (level_of l.sight.levels.now.ranks) l.most) l.initial.ends.up.crossed.items (numbers_met l.sight.heads.now l.initial.ends.up.walk) l.up_at l.ends.up.crossed.items (numbers_met l.sight.heads.now l.ends.up.walk);
   descends : Walking (StepsHigh (patches_of l.sight.heads.now) (level_of l.sight.levels.now.ranks) l.least (needs_of l.sight.needs.now.lists) l.initial.ends.down.crossed.items) (IsHighNeed (patches_of l.sight.heads.now) (level_of l.sight.levels.now.ranks) l.least (needs_of l.sight.needs.now.lists)) l.initial.ends.down.crossed.items (numbers_met l.sight.heads.now l.initial.ends.down.walk) l.down_at l.ends.down.crossed.items (numbers_met l.sight.heads.now l.ends.down.walk);
+  deep : l.deep ≤ length l.ends.down.walk.met;
   few_up : l.up_at ≤ length l.sight.heads.now;
   few_down : l.down_at ≤ length l.sight.heads.now;
 }

@@ -1,8 +1,5 @@
 use Rattle.fst_walks.proofs.grade.grade_by_ways.Goals as goal
 
-pub returns-then-comes_back-clause-graded : goal.returns-then-comes_back-clause-graded
-returns-then-comes_back-clause-graded c leads = leads.straight (c.comes_back.ensures c.if-comes_back.true)
-
 pub returns-then-comes_back_soon-clause-graded : goal.returns-then-comes_back_soon-clause-graded
 returns-then-comes_back_soon-clause-graded c leads = leads.straight (c.comes_back_soon.ensures c.if-comes_back_soon.true)
 

@@ -44,7 +44,7 @@ invariant_of-self c =
       covered = rw (left at) (covered_left (patches_of heads) c.self.invariant.keeps.lawful.on_disk_with_all c.self.inside.blocks c.self.inside.covers.items c.self.invariant.covered);
       along = record { marks = c.shrink.ensures.marks.1 ∙ sym c.shrink.ensures.marks.0; places = rw (c.shrink.ensures.crossed.0, c.shrink.ensures.crossed.1) c.self.invariant.along.places };
       leveled = rw (left at) (leveled_as (c.forget.ensures.ranks ∙ ap (λ ps. filter (λ r. has_number ps r.number) c.self.inside.levels.ranks) (ap patches_of c.deref.ensures.value ∙ left at)) c.forget.ensures.floors (left_is_leveled (patches_of heads) c.self.invariant.keeps.lawful.one_place_each.rising c.self.invariant.keeps.lawful.on_disk_with_all c.self.inside.blocks c.self.inside.levels c.self.invariant.leveled));
-      needing = rw (left at) (needing_left {kept = c.forget_ways.new.self} (patches_of heads) c.self.invariant.keeps.lawful.one_place_each.rising c.forget_ways.ensures.lists c.forget_ways.ensures.ways c.self.invariant.needing);
+      needing = rw (left at) (needing_left (patches_of heads) c.self.invariant.keeps.lawful.one_place_each.rising c.self.invariant.keeps.lawful.on_disk_with_all c.self.invariant.needing);
       none_below = c.self.invariant.none_below;
       prepared = rw c.let_go.ensures tt;
     }

@@ -1,9 +1,9 @@
 use Rattle.std.proofs.Common.{◌≡◌, ◌⊎◌, ◌∙◌, true, IfSome, sym, subst, inl, inr, arith}
 use Rattle.std.proofs.lemmas.Grind.{common_steps}
 use Rattle.fst_heads.specs.{Heads.patches_of, Marks.PassesAt}
-use Rattle.fst_walks.proofs.{NearRow.{IsOnPath, path_next, path_further, path_back}, shortcuts.chain_back.Goals.{then-away, else-away}}
+use Rattle.fst_walks.proofs.{NearRow.{IsOnPath, path_next, path_further, path_back}, shortcuts.comes_back_soon.Goals.{then-away, else-away}}
 use Rattle.fst_heads.specs.declared.test.Test.TheVariants as test
-use Rattle.fst_walks.proofs.shortcuts.chain_back.Goals as goal
+use Rattle.fst_walks.proofs.shortcuts.comes_back_soon.Goals as goal
 
 pub returns-then-has_change : goal.returns-then-has_change
 returns-then-has_change c e =
@@ -31,7 +31,7 @@ loop-preserved c =
       | then-away w ↦ inl w.if-away.true
       | else-away w ↦ inr (w.passes_at-away.ensures.0 (sym w.away-is ∙ e))
     ] in
-    path_further patches b row c.row_below-below.result.now c.loop.away c.if-away.away n c.next_of-next-in-loop.result path c.row_below-below.ensures left c.next_of-next-in-loop.ensures
+    path_further patches b row c.row_below-below.result.now c.loop.away c.if-away.away n c.newest-next-in-loop.result path c.row_below-below.ensures left c.newest-next-in-loop.ensures
 
 pub loop-init : goal.loop-init
 loop-init c = grind (arith, common_steps)
