@@ -15,6 +15,7 @@ pub mod Resting
 pub mod Visiting
 pub mod Holding
 pub mod Away
+pub mod AsBefore
 pub mod Ascended
 pub mod Behind
 pub mod ComesBack

@@ -21,7 +21,7 @@ module _ (heads : List Head) (rising : IsRising heads) (n s : ℕ) (d : Head) (s
   abbrev p : Patch
   p = patch_of (get_or heads s d)
 
-  is_it : (x : Patch) → Contains (patches_of heads) x → x.number ≡ n → p ≡ x
+  pub is_it : (x : Patch) → Contains (patches_of heads) x → x.number ≡ n → p ≡ x
   is_it x c e = patch_is heads x s d rising c (subst (λ m. HasSlot heads m s) (sym e) slot)
 
   pub passes_here : (t : Test) → passes t p ≡ true → PassesAt t (patches_of heads) n

@@ -3,7 +3,7 @@
 //! block, and no block from which the block graph leads to its block. Over a block whose changes are all on disk no search
 //! is needed, nor where only changes of the block are pending of what the change depends on, nor where all of that is a hard
 //! change of the block or below its floor. It is soft where it depends on a change of the block from which a way is known to
-//! lead back. Else the ancestors of what it depends on may lead back to the block, or a chain within a few steps, and only
+//! lead back, and as an earlier change of the block where it comes after the same. Else the ancestors of what it depends on may lead back to the block, or a chain within a few steps, and only
 //! where neither does a way back is looked for from both ends. A gate that is sealed with the change is taken as sealed already: that sets free what it alone blocks, and moves no change and no
 //! dependency.
 
@@ -15,6 +15,7 @@ ghost use Rattle.fst_walks.specs.BothEnds.{IsOver};
 ghost use Rattle.fst_walks.specs.Sights.{Sees};
 
 use crate::ancestors::leads_to_block;
+use crate::before::told_before;
 use crate::both_ends::grade_between;
 use crate::ends::Ends;
 use crate::known::leads_over_known;
@@ -45,6 +46,9 @@ fn grade_by_ways(sight: &Sight<'_>, ends: &mut Ends, block: u32, row: &[u32]) ->
     }
     if leads_over_known(sight, &mut ends.down, block, row) {
         return Grade::Soft;
+    }
+    if let Some(grade) = told_before(sight, block, row) {
+        return grade;
     }
     if leads_to_block(sight, block, row) {
         return Grade::Soft;

@@ -19,8 +19,8 @@ use fst_heads::test::{Test, passes};
 // At how many patches it looks.
 const LOOKS: usize = 64;
 
-// Whether the patch in the slot is a change of the block, not on disk, from which it is known that a way leads back.
-fn is_known(sight: &Sight<'_>, slot: usize, block: u32) -> bool
+/// Whether the patch in the slot is a change of the block, not on disk, from which it is known that a way leads back.
+pub fn is_known(sight: &Sight<'_>, slot: usize, block: u32) -> bool
     requires sees { Sees sight.now }
     requires inside { slot < length sight.now.heads.now }
     ensures change { IsTrue result → (n : ℕ) → HasSlot sight.now.heads.now n slot → PassesAt (test.LiveOn block) (patches_of sight.now.heads.now) n }

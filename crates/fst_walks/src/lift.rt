@@ -11,6 +11,7 @@ ghost use Rattle.fst_walks.specs.Lifting.{IsRise, MeetsLow};
 ghost use Rattle.fst_walks.specs.Sights.{Sees};
 ghost use Rattle.fst_walks.specs.Walks.{numbers_met};
 
+use crate::before::told_before;
 use crate::descent::show_only;
 use crate::levels::{Rise, TOP};
 use crate::shortcuts::{stays_below, waits_for_own_block};
@@ -71,12 +72,14 @@ pub fn rise_of(
 {
     let high = sight.levels.greatest(sight.heads, row);
     let floor = sight.levels.floor(block);
-    // Over changes of the block alone nothing is to be told, so that a chain of gates over one block lifts nothing.
+    // Over changes of the block alone, and over what an earlier one stands over, nothing is to be told. So a chain of gates
+    // over one block lifts nothing, nor does each change over a gate that stands over its block.
     let over = high > floor
         || (high == floor
             && floor < TOP
             && !stays_below(sight, block, row)
-            && !waits_for_own_block(sight.heads, block, row));
+            && !waits_for_own_block(sight.heads, block, row)
+            && told_before(sight, block, row).is_none());
     if grade == Grade::Soft || !over {
         return Rise {
             level: high.max(floor),

@@ -1,0 +1,88 @@
+//! What the newest changes of a block tell of a new one. A change that comes after nothing but what a hard one of the block in
+//! memory comes after is hard as that is. One that comes after all that a change comes after from which a way is known to
+//! lead back is soft as that is. So what many changes of a block come after, like a gate over thousands of patches, is
+//! looked through once, and not for each of them.
+
+ghost use Rattle.std.specs.Prelude.{◌≡◌, ◌⊎◌, ◌<◌, ℕ, length, Contains, IsTrue, IfSome};
+ghost use Rattle.fst_types.specs.Grades.{FollowsRule};
+ghost use Rattle.fst_heads.specs.Grading.{IsHardNumber, LeadsNowhere};
+ghost use Rattle.fst_heads.specs.Heads.{IsRising, patches_of};
+ghost use Rattle.fst_walks.specs.Sights.{Sees};
+
+use crate::known::is_known;
+use crate::shortcuts::{is_hard_in, is_hard_number};
+use crate::sight::Sight;
+use fst_heads::head::Head;
+use fst_types::Grade;
+
+// How many of the newest changes are looked at.
+const NEWEST: usize = 8;
+
+// How long a row is looked through.
+const LONGEST: usize = 64;
+
+// Whether the number is found in the row, which rises.
+fn is_named(row: &[u32], number: u32) -> bool
+    ensures { IsTrue result → Contains row.now number }
+{
+    match row.binary_search(&number) {
+        Ok(at) => row[at] == number,
+        Err(_) => false,
+    }
+}
+
+// Whether each of the row is in the other row or a hard change of the block in memory, over which no way leads back.
+fn is_within(heads: &[Head], block: u32, row: &[u32], other: &[u32]) -> bool
+    requires { IsRising heads.now }
+    ensures { IsTrue result → (n : ℕ) → Contains row.now n → Contains other.now n ⊎ IsHardNumber (patches_of heads.now) block n }
+{
+    if row.len() > LONGEST {
+        return false;
+    }
+    for number in row {
+        if !is_named(other, *number) && !is_hard_number(heads, block, *number) {
+            return false;
+        }
+    }
+    true
+}
+
+// What the change in the slot tells of a new change of its block with that row, if anything.
+fn told_by(sight: &Sight<'_>, slot: usize, block: u32, row: &[u32]) -> Option<Grade>
+    requires sees { Sees sight.now }
+    requires inside { slot < length sight.now.heads.now }
+    ensures { IfSome result (λ grade. FollowsRule grade (LeadsNowhere (patches_of sight.now.heads.now) block row.now)) }
+{
+    let head = &sight.heads[slot];
+    let other = head.dependencies.as_slice();
+    if is_hard_in(head, block) {
+        if is_within(sight.heads, block, row, other) {
+            return Some(Grade::Hard);
+        }
+        return None;
+    }
+    if is_known(sight, slot, block) && is_within(sight.heads, block, other, row) {
+        return Some(Grade::Soft);
+    }
+    None
+}
+
+/// What the newest changes of the block tell of a new one with that row, but for open gates: that it is hard or soft as one of
+/// them is, if they do.
+pub fn told_before(sight: &Sight<'_>, block: u32, row: &[u32]) -> Option<Grade>
+    requires sees { Sees sight.now }
+    requires block { block < length sight.now.lists.now }
+    ensures { IfSome result (λ grade. FollowsRule grade (LeadsNowhere (patches_of sight.now.heads.now) block row.now)) }
+{
+    let list = sight.lists[block as usize].as_slice();
+    let newest = &list[list.len().saturating_sub(NEWEST)..];
+    for listed in newest.iter().rev() {
+        if let Some(slot) = sight.levels.find(sight.heads, listed.number) {
+            let told = told_by(sight, slot, block, row);
+            if told.is_some() {
+                return told;
+            }
+        }
+    }
+    None
+}
