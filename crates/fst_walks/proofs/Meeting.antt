@@ -275,7 +275,7 @@ pub record AreEnds (patches : List Patch) (level : ℕ → ℕ) (most b : ℕ) (
   pub shows_up : ShowsBlocks up (λ c. c ≡ b)
   pub shows_down : ShowsBlocks down (λ c. c ≡ b)
   pub changes : (n : ℕ) → Contains bottoms n ↔ IsLowChange patches level most b n
-  pub first : (n : ℕ) → Contains tops n ↔ IsFirstAway patches b row n
+  pub first : (n : ℕ) → Contains tops n → IsFirstAway patches b row n
 
 module _ (heads : List Head) (rising : AreRising heads) (disk : IsOnDiskWithAll (patches_of heads)) (hard : HardNeverHold (patches_of heads)) (flights : FlightsStandAlone (patches_of heads))
     (level floor : ℕ → ℕ) (leveled : AreLeveled (patches_of heads) level floor) (needs : ℕ → List ℕ) (needed : AreNeeded (patches_of heads) needs)
@@ -288,10 +288,10 @@ module _ (heads : List Head) (rising : AreRising heads) (disk : IsOnDiskWithAll 
 
   -- at first nothing was met by both
   pub begin_apart : AreApart bottoms tops
-  begin_apart n above below = off_not_on all ordered b n ((ends.first n).0 below).away ((ends.changes n).0 above).0
+  begin_apart n above below = off_not_on all ordered b n (ends.first n below).away ((ends.changes n).0 above).0
 
   down_to : (top n : ℕ) → Contains tops top → Leads (StepsHigh all level least needs down) top n → Leads (StepsUp all up) n top
-  down_to top n c path = under_up heads rising disk hard flights level floor leveled needs needed b least floored row up down ends.shows_up ends.shows_down tops (λ m. (ends.first m).0) top n c (leads_down all level floor leveled needs needed down least top n path)
+  down_to top n c path = under_up heads rising disk hard flights level floor leveled needs needed b least floored row up down ends.shows_up ends.shows_down tops ends.first top n c (leads_down all level floor leveled needs needed down least top n path)
 
   -- where the walks lead to the same, a way leads back
   pub together_soft : LeadTogether all level needs most least up down bottoms tops → LeadsNowhere all b row → ⊥
@@ -299,7 +299,7 @@ module _ (heads : List Head) (rising : AreRising heads) (disk : IsOnDiskWithAll 
       let n = met.at in
       let x = led_leads (StepsLow all level most up) bottoms n met.over in
       let a = led_leads (StepsHigh all level least needs down) tops n met.under in
-      let first = (ends.first a.0).0 a.1 in
+      let first = ends.first a.0 a.1 in
       back_leads all ordered disk b up ends.shows_up row (record {
         first = x.0;
         last = a.0;
@@ -315,16 +315,16 @@ module _ (heads : List Head) (rising : AreRising heads) (disk : IsOnDiskWithAll 
       let a = led_leads (StepsHigh all level least needs down) tops n led in
       (ends.changes n).1 (x, (low_leads all level floor leveled up most n a.0 (down_to a.0 n a.1 a.2) (ends.low a.0 a.1)).0)
 
-  -- where one has met all and nothing was met by both, none does
-  pub apart_hard : (over under : List ℕ) → EndApart all level needs most least up down bottoms tops over under → LeadsNowhere all b row
-  apart_hard over under met = elim met.ended [
+  -- where they start from all of the first changes, one has met all and nothing was met by both, none does
+  pub apart_hard : ((n : ℕ) → IsFirstAway all b row n → Contains tops n) → (over under : List ℕ) → EndApart all level needs most least up down bottoms tops over under → LeadsNowhere all b row
+  apart_hard whole over under met = elim met.ended [
     | inl each ↦ none_leads all ordered disk b up ends.shows_up row (λ l.
         let f = first_back heads rising disk hard b up ends.shows_up row l in
         let n = f.0 in
         let x = f.1 in
-        let top = (ends.first n).1 f.2 in
+        let top = whole n f.2 in
         let path = low_leads all level floor leveled up most x n f.4 (ends.low n top) in
         met.apart n (each n (leads_led (StepsLow all level most up) bottoms x n ((ends.changes x).1 (f.3, path.0)) path.1)) (met.under_begun n top))
     | inr each ↦
-        comes_hard heads rising disk hard flights level floor leveled needs needed b least floored row up down ends.shows_up ends.shows_down tops (λ m. (ends.first m).0) (λ m. (ends.first m).1) (λ x. met.apart x.at (met.over_begun x.at (under_bottom x.at x.under x.change)) (each x.at x.under))
+        comes_hard heads rising disk hard flights level floor leveled needs needed b least floored row up down ends.shows_up ends.shows_down tops ends.first whole (λ x. met.apart x.at (met.over_begun x.at (under_bottom x.at x.under x.change)) (each x.at x.under))
   ]

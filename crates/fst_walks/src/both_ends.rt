@@ -3,7 +3,7 @@
 //! such a way is there, and the walks meet where it is; it is hard where one of them comes to its end and they have not
 //! met. The one that has looked at less takes the next step, since mostly one end has far less around it than the other.
 
-ghost use Rattle.std.specs.Prelude.{◌≡◌, ◌≤◌, ◌<◌, ℕ, false, length, Contains, IsTrue, slice_index_or};
+ghost use Rattle.std.specs.Prelude.{◌≡◌, ◌≤◌, ◌<◌, ℕ, false, length, Contains, IsTrue, IfSome, IfNone, slice_index_or};
 ghost use Rattle.fst_types.specs.Grades.{FollowsRule};
 ghost use Rattle.fst_heads.specs.Grading.{LeadsNowhere};
 ghost use Rattle.fst_heads.specs.Heads.{IsRising, patches_of};
@@ -23,6 +23,9 @@ use crate::way_down::step_down;
 use crate::way_up::{step_up, visit_low_changes};
 use fst_heads::head::Head;
 use fst_types::Grade;
+
+// At how many patches a search looks first.
+const FEW: usize = 256;
 
 /// How many patches each of the two has looked at.
 #[derive(Clone, Copy)]
@@ -121,9 +124,16 @@ fn turn_from_end(deep: usize, first: usize, len: usize) -> usize
 }
 
 // Takes steps by turns, through what is no higher than `most` and no lower than `least`, until one walk has met what the
-// other has, which it answers, or one is at its end. The walk down steps from what it met first, as it must, and by turns
-// from what it met last: so a long way is found without all that lies about its beginning.
-fn meet_between(sight: &Sight<'_>, ends: &mut Ends, most: u32, least: u32, begun: Looked) -> bool
+// other has, which it answers, or one is at its end. None once both have looked at more patches than the limit. The walk
+// down steps from what it met first, as it must, and by turns from what it met last: so a long way is found without all that
+// lies about its beginning.
+fn meet_between(
+    sight: &Sight<'_>,
+    ends: &mut Ends,
+    most: u32,
+    least: u32,
+    limit: usize,
+) -> Option<bool>
     requires sees { Sees sight.now }
     requires up { IsOver sight.now.heads.now (length sight.now.lists.now) ends.old.up }
     requires down { IsOver sight.now.heads.now (length sight.now.lists.now) ends.old.down }
@@ -132,38 +142,82 @@ fn meet_between(sight: &Sight<'_>, ends: &mut Ends, most: u32, least: u32, begun
     requires apart { AreApart (numbers_met sight.now.heads.now ends.old.up.walk) (numbers_met sight.now.heads.now ends.old.down.walk) }
     ensures up { IsOver sight.now.heads.now (length sight.now.lists.now) ends.new.up }
     ensures down { IsOver sight.now.heads.now (length sight.now.lists.now) ends.new.down }
-    ensures together { IsTrue result → LeadTogether (patches_of sight.now.heads.now) (level_of sight.now.levels.now.ranks) (needs_of sight.now.needs.now.lists) most least ends.old.up.crossed.items ends.old.down.crossed.items (numbers_met sight.now.heads.now ends.old.up.walk) (numbers_met sight.now.heads.now ends.old.down.walk) }
-    ensures apart { result ≡ false → EndApart (patches_of sight.now.heads.now) (level_of sight.now.levels.now.ranks) (needs_of sight.now.needs.now.lists) most least ends.old.up.crossed.items ends.old.down.crossed.items (numbers_met sight.now.heads.now ends.old.up.walk) (numbers_met sight.now.heads.now ends.old.down.walk) (numbers_met sight.now.heads.now ends.new.up.walk) (numbers_met sight.now.heads.now ends.new.down.walk) }
+    ensures together { IfSome result (λ met. IsTrue met → LeadTogether (patches_of sight.now.heads.now) (level_of sight.now.levels.now.ranks) (needs_of sight.now.needs.now.lists) most least ends.old.up.crossed.items ends.old.down.crossed.items (numbers_met sight.now.heads.now ends.old.up.walk) (numbers_met sight.now.heads.now ends.old.down.walk)) }
+    ensures apart { IfSome result (λ met. met ≡ false → EndApart (patches_of sight.now.heads.now) (level_of sight.now.levels.now.ranks) (needs_of sight.now.needs.now.lists) most least ends.old.up.crossed.items ends.old.down.crossed.items (numbers_met sight.now.heads.now ends.old.up.walk) (numbers_met sight.now.heads.now ends.old.down.walk) (numbers_met sight.now.heads.now ends.new.up.walk) (numbers_met sight.now.heads.now ends.new.down.walk)) }
+    ensures decided { IfNone result (limit < 18446744073709551615) }
 {
-    let mut looked = begun;
+    let mut looked = Looked { up: 0, down: 0 };
     let mut up_at = 0;
     let mut down_at = 0;
     let mut deep = 0;
     while up_at < ends.up.walk.len() && down_at < ends.down.walk.len() {
+        if looked.up.min(looked.down) > limit {
+            return None;
+        }
         if looked.up <= looked.down {
             if turn_up(sight, ends, up_at, most, &mut looked) {
-                return true;
+                return Some(true);
             }
             up_at += 1;
         } else {
             let met = ends.down.walk.len();
             let last = turn_from_end(deep, down_at, met);
             if turn_down(sight, ends, last, least, &mut looked) {
-                return true;
+                return Some(true);
             }
             let now = ends.down.walk.len();
             deep = if met < now { now } else { last };
             if turn_down(sight, ends, down_at, least, &mut looked) {
-                return true;
+                return Some(true);
             }
             down_at += 1;
         }
     }
-    false
+    Some(false)
+}
+
+// The grade as far as it is told by a search that looks at no more patches below the row than the limit before it begins, and
+// gives up where both walks have looked at more.
+fn grade_within(
+    sight: &Sight<'_>,
+    ends: &mut Ends,
+    block: u32,
+    row: &[u32],
+    limit: usize,
+) -> Option<Grade>
+    requires sees { Sees sight.now }
+    requires up { IsOver sight.now.heads.now (length sight.now.lists.now) ends.old.up }
+    requires down { IsOver sight.now.heads.now (length sight.now.lists.now) ends.old.down }
+    requires block { block < length sight.now.lists.now }
+    ensures graded { IfSome result (λ grade. FollowsRule grade (LeadsNowhere (patches_of sight.now.heads.now) block row.now)) }
+    ensures decided { IfNone result (limit < 18446744073709551615) }
+    ensures up { IsOver sight.now.heads.now (length sight.now.lists.now) ends.new.up }
+    ensures down { IsOver sight.now.heads.now (length sight.now.lists.now) ends.new.down }
+{
+    ends.down.cross_only(block);
+    let looked = visit_first_away(sight.heads, &mut ends.down.walk, block, row, limit);
+    if looked <= limit && ends.down.walk.len() == 0 {
+        return Some(Grade::Hard);
+    }
+    // No way up falls, so none to what is met now goes through what is higher, nor through what is lower than the floor.
+    let most = highest(sight, &ends.down.walk);
+    let least = sight.levels.floor(block);
+    ends.up.cross_only(block);
+    ends.up.walk.clear();
+    visit_low_changes(sight, &mut ends.up.walk, block, most);
+    if meet_between(sight, ends, most, least, limit)? {
+        return Some(Grade::Soft);
+    }
+    if looked <= limit {
+        Some(Grade::Hard)
+    } else {
+        None
+    }
 }
 
 /// What keeps a new change of the block with that row soft but for open gates: it is soft where a way leads from the row
-/// back to the block, else hard. What was met and crossed before does not matter.
+/// back to the block, else hard. What was met and crossed before does not matter. A few patches are looked at first: where
+/// the change comes after thousands, it mostly leads back from some of them.
 pub fn grade_between(sight: &Sight<'_>, ends: &mut Ends, block: u32, row: &[u32]) -> Grade
     requires sees { Sees sight.now }
     requires up { IsOver sight.now.heads.now (length sight.now.lists.now) ends.old.up }
@@ -173,19 +227,11 @@ pub fn grade_between(sight: &Sight<'_>, ends: &mut Ends, block: u32, row: &[u32]
     ensures up { IsOver sight.now.heads.now (length sight.now.lists.now) ends.new.up }
     ensures down { IsOver sight.now.heads.now (length sight.now.lists.now) ends.new.down }
 {
-    ends.down.cross_only(block);
-    let down = visit_first_away(sight.heads, &mut ends.down.walk, block, row);
-    if ends.down.walk.len() == 0 {
-        return Grade::Hard;
+    if let Some(grade) = grade_within(sight, ends, block, row, FEW) {
+        return grade;
     }
-    // No way up falls, so none to what is met now goes through what is higher, nor through what is lower than the floor.
-    let most = highest(sight, &ends.down.walk);
-    let least = sight.levels.floor(block);
-    ends.up.cross_only(block);
-    ends.up.walk.clear();
-    let up = visit_low_changes(sight, &mut ends.up.walk, block, most);
-    match meet_between(sight, ends, most, least, Looked { up, down }) {
-        true => Grade::Soft,
-        false => Grade::Hard,
-    }
+    let Some(grade) = grade_within(sight, ends, block, row, usize::MAX) else {
+        unreachable!();
+    };
+    grade
 }

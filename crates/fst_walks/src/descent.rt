@@ -21,7 +21,7 @@ pub fn visit(heads: &[Head], walk: &mut Walk, number: u32)
     ensures visited { Visited heads.now walk.new }
     ensures visits { Visits (λ n. (n ≡ number) × IsLiveNumber (patches_of heads.now) n) (numbers_met heads.now walk.old) (numbers_met heads.now walk.new) }
 {
-    if let Some(slot) = walk.find(heads, number) {
+    if let Some(slot) = slot_of(heads, number) {
         if is_live(heads[slot].place) {
             walk.meet(slot);
         }

@@ -44,34 +44,45 @@ pub fn step_away(heads: &[Head], walk: &mut Walk, at: usize, block: u32, most: u
     below.len()
 }
 
-// Visits all that the way down leads to from what was visited. Answers at how many patches it looked.
-fn walk_away(heads: &[Head], walk: &mut Walk, block: u32) -> usize
+// Visits all that the way down leads to from what was visited, or stops once it has looked at more patches than `most`.
+// Answers at how many it looked.
+fn walk_away(heads: &[Head], walk: &mut Walk, block: u32, most: usize) -> usize
     requires rising { IsRising heads.now }
     requires visited { Visited heads.now walk.old }
     ensures visited { Visited heads.now walk.new }
-    ensures led { (n : ℕ) → Contains (numbers_met heads.now walk.new) n ↔ IsLedFrom (StepsAway (patches_of heads.now) block) (numbers_met heads.now walk.old) n }
+    ensures only { (n : ℕ) → Contains (numbers_met heads.now walk.new) n → IsLedFrom (StepsAway (patches_of heads.now) block) (numbers_met heads.now walk.old) n }
+    ensures led { result ≤ most → (n : ℕ) → Contains (numbers_met heads.now walk.new) n ↔ IsLedFrom (StepsAway (patches_of heads.now) block) (numbers_met heads.now walk.old) n }
 {
     let mut at = 0;
     let mut looked: usize = 0;
     while at < walk.len() {
-        let below = step_away(heads, walk, at, block, usize::MAX);
-        looked = looked.saturating_add(below);
+        looked = looked.saturating_add(step_away(heads, walk, at, block, most));
+        if looked > most {
+            return looked;
+        }
         at += 1;
     }
     looked
 }
 
-/// Visits the first changes of other blocks at or below the row, and nothing else. Answers at how many patches below the row
-/// it looked. What was met before does not matter.
-pub fn visit_first_away(heads: &[Head], walk: &mut Walk, block: u32, row: &[u32]) -> usize
+/// Visits the first changes of other blocks at or below the row, and nothing else: all of them, unless it stops since it has
+/// looked at more patches below the row than `most`. Answers at how many it looked. What was met before does not matter.
+pub fn visit_first_away(
+    heads: &[Head],
+    walk: &mut Walk,
+    block: u32,
+    row: &[u32],
+    most: usize,
+) -> usize
     requires rising { IsRising heads.now }
     requires long { length walk.old.marks ≡ length heads.now }
     ensures visited { Visited heads.now walk.new }
-    ensures first { (n : ℕ) → Contains (numbers_met heads.now walk.new) n ↔ IsFirstAway (patches_of heads.now) block row.now n }
+    ensures only { (n : ℕ) → Contains (numbers_met heads.now walk.new) n → IsFirstAway (patches_of heads.now) block row.now n }
+    ensures all { result ≤ most → (n : ℕ) → IsFirstAway (patches_of heads.now) block row.now n → Contains (numbers_met heads.now walk.new) n }
 {
     walk.clear();
     visit_row(heads, walk, row);
-    let looked = walk_away(heads, walk, block);
+    let looked = walk_away(heads, walk, block, most);
     keep_away(heads, walk, block);
     looked
 }

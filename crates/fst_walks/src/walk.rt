@@ -2,28 +2,20 @@
 //! it. What is marked is what was met, so that each patch is looked at once, and a walk begins by taking back the marks of
 //! what the one before it met, which takes no longer than that walk did.
 
-ghost use Rattle.std.specs.Prelude.{◌≡◌, ◌↔◌, ◌≤◌, ◌<◌, ◌+◌, ◌++◌, ◌∷◌, [], ℕ, false, filter, length, Contains, IfSome, IfNone, IsTrue, OnOk, slice_index_or};
-ghost use Rattle.fst_heads.specs.Heads.{IsRising};
-ghost use Rattle.fst_heads.specs.Marks.{HasSlot, HasNone};
+ghost use Rattle.std.specs.Prelude.{◌≡◌, ◌↔◌, ◌≤◌, ◌<◌, ◌+◌, ◌++◌, ◌∷◌, [], ℕ, false, filter, length, Contains, IsTrue, OnOk, slice_index_or};
 ghost use Rattle.fst_walks.specs.Walks.{AreMarked, Meets, passes_in};
 
 use fst_heads::head::Head;
-use fst_heads::marks::slot_of;
 use fst_heads::test::{Test, passes};
 use std::alloc::{AllocError, Global};
 use std::marker::Model;
 
-// For how many numbers a walk remembers in which slot the head was found.
-const HINTS: usize = 4_096;
-
-/// A walk over heads. It takes a byte and the room for a slot for each head, and 8 KB for the hints: by number where its head
-/// was found last, which is looked at first. A hint that is wrong costs a search and no more.
+/// A walk over heads. It takes a byte and the room for a slot for each head.
 #[derive(Drop)]
 pub struct Walk {
     marks: Vec<bool>,
     met: Vec<usize>,
     room: usize,
-    hints: Vec<u16>,
 }
 
 impl Model for Walk {
@@ -70,16 +62,6 @@ fn passes_at(heads: &[Head], test: Test, slot: usize) -> bool
     }
 }
 
-// Whether the head in the slot has the number.
-fn has_number_at(heads: &[Head], slot: usize, number: u32) -> bool
-    ensures { IsTrue result → HasSlot heads.now number slot }
-{
-    match heads.get(slot) {
-        Some(head) => head.number == number,
-        None => false,
-    }
-}
-
 impl Walk {
     /// A walk over no head. It takes no memory.
     pub fn new(alloc: Global) -> Walk
@@ -89,7 +71,6 @@ impl Walk {
             marks: Vec::new(alloc),
             met: Vec::new(alloc),
             room: 0,
-            hints: Vec::new(alloc),
         }
     }
 
@@ -112,9 +93,6 @@ impl Walk {
         let room = self.marks.len() + more as usize;
         self.marks.reserve(more as usize)?;
         self.met.reserve(room - self.met.len())?;
-        if self.hints.is_empty() {
-            self.hints.resize(HINTS, 0)?;
-        }
         self.room = room;
         Ok(())
     }
@@ -136,29 +114,6 @@ impl Walk {
     {
         self.clear();
         self.marks.truncate(heads);
-    }
-
-    /// The slot of the head with this number.
-    pub fn find(&mut self, heads: &[Head], number: u32) -> Option<usize>
-        requires { IsRising heads.now }
-        ensures found { IfSome result (λ slot. HasSlot heads.now number slot) }
-        ensures none { IfNone result (HasNone heads.now number) }
-        ensures same { self.new ≡ self.old }
-    {
-        let at = number as usize % HINTS;
-        if let Some(hint) = self.hints.get(at) {
-            let slot = usize::from(*hint);
-            if has_number_at(heads, slot, number) {
-                return Some(slot);
-            }
-        }
-        let found = slot_of(heads, number);
-        if let Some(slot) = found {
-            if let Some(hint) = self.hints.get_mut(at) {
-                *hint = u16::try_from(slot).unwrap_or(0);
-            }
-        }
-        found
     }
 
     /// How many were met.
