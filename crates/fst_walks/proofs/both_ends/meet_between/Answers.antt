@@ -1,9 +1,9 @@
-use Rattle.std.proofs.Common.{◌<◌, ◌≤◌, length, Contains, subst, inl, inr, arith}
+use Rattle.std.proofs.Common.{◌+◌, ◌<◌, ◌≤◌, length, Contains, subst, inl, inr, arith}
 use Rattle.std.proofs.lemmas.Grind.{common_steps}
 use Rattle.fst_heads.specs.{Heads.patches_of}
 use Rattle.fst_walks.specs.{BothEnds.{AreApart, IsHighNeed, IsLowChange, StepsHigh, StepsLow}, Leveling.level_of, Needing.needs_of, Walks.numbers_met, declared.block_walk.BlockWalk.BlockWalk}
-use Rattle.fst_walks.proofs.{Ascended.climbing_all, Stepping.{high_beside, high_step, low_step, walking_kept}, Visiting.{long_met, visits_longer}}
-use Rattle.fst_walks.proofs.both_ends.meet_between.Goals.{then-met-now, else-met-now}
+use Rattle.fst_walks.proofs.{Ascended.{Walking, climbing_all}, Stepping.{high_beside, high_step, low_step, walking_kept}, Visiting.{long_met, visits_longer}}
+use Rattle.fst_walks.proofs.both_ends.meet_between.Goals.{After-turn_down, After-turn_down-else-looked, then-met-now, else-met-now}
 use Rattle.fst_walks.proofs.both_ends.meet_between.Goals as goal
 
 pub returns-then-turn_up-clause-together : goal.returns-then-turn_up-clause-together
@@ -38,18 +38,36 @@ loop-up_at-preserved-then-looked c =
       few_down = known.few_down;
     }
 
--- what is met from the end of the walk down
-pub returns-then-turn_down-clause-together : goal.returns-then-turn_down-clause-together
-returns-then-turn_down-clause-together c e =
+-- the next one of the walk down is there
+inside : (c : After-turn_down) → c.loop-up_at.down_at < length (numbers_met c.args.sight.now.heads.now c.loop-up_at.ends.down.walk)
+inside c = omega (arith, c.if-down_at-len.true, c.len-in-loop-up_at.ensures.long, long_met c.args.sight.now.heads.now c.loop-up_at.ends.down.walk)
+
+-- the step from its end leaves what is done in turn
+beside : (c : After-turn_down) → Walking (StepsHigh (patches_of c.args.sight.now.heads.now) (level_of c.args.sight.now.levels.now.ranks) c.args.least (needs_of c.args.sight.now.needs.now.lists) c.args.ends.now.down.crossed.items) (IsHighNeed (patches_of c.args.sight.now.heads.now) (level_of c.args.sight.now.levels.now.ranks) c.args.least (needs_of c.args.sight.now.needs.now.lists)) c.args.ends.now.down.crossed.items (numbers_met c.args.sight.now.heads.now c.args.ends.now.down.walk) c.loop-up_at.down_at c.turn_down.new.ends.down.crossed.items (numbers_met c.args.sight.now.heads.now c.turn_down.new.ends.down.walk)
+beside c =
     let heads = c.args.sight.now.heads.now in
     let begun = c.args.ends.now in
     let ends = c.loop-up_at.ends in
-    let known = c.loop-up_at.invariant in
-    let long = long_met heads ends.down.walk in
-    let inside : c.loop-up_at.down_at < length (numbers_met heads ends.down.walk) = omega (arith, c.if-down_at-len.true, c.len-in-loop-up_at.ensures.long, long) in
+    high_beside (patches_of heads) (level_of c.args.sight.now.levels.now.ranks) c.args.least (needs_of c.args.sight.now.needs.now.lists) begun.down.crossed.items (numbers_met heads begun.down.walk) c.loop-up_at.down_at ends.down.crossed.items c.turn_down.new.ends.down.crossed.items (numbers_met heads ends.down.walk) (numbers_met heads c.turn_down.new.ends.down.walk) c.turn_from_end-last.result (omega (arith, inside c)) (omega (arith, c.turn_from_end-last.ensures, c.len-met.ensures.long, long_met heads ends.down.walk)) c.loop-up_at.invariant.descends c.turn_down.ensures.visits c.turn_down.ensures.crossed
+
+-- and the one in turn is done after it
+descended : (c : After-turn_down-else-looked) → c.loop-up_at.down_at < length (numbers_met c.args.sight.now.heads.now c.loop-up_at.ends.down.walk)
+    → Walking (StepsHigh (patches_of c.args.sight.now.heads.now) (level_of c.args.sight.now.levels.now.ranks) c.args.least (needs_of c.args.sight.now.needs.now.lists) c.args.ends.now.down.crossed.items) (IsHighNeed (patches_of c.args.sight.now.heads.now) (level_of c.args.sight.now.levels.now.ranks) c.args.least (needs_of c.args.sight.now.needs.now.lists)) c.args.ends.now.down.crossed.items (numbers_met c.args.sight.now.heads.now c.args.ends.now.down.walk) c.loop-up_at.down_at c.turn_down.new.ends.down.crossed.items (numbers_met c.args.sight.now.heads.now c.turn_down.new.ends.down.walk)
+    → Walking (StepsHigh (patches_of c.args.sight.now.heads.now) (level_of c.args.sight.now.levels.now.ranks) c.args.least (needs_of c.args.sight.now.needs.now.lists) c.args.ends.now.down.crossed.items) (IsHighNeed (patches_of c.args.sight.now.heads.now) (level_of c.args.sight.now.levels.now.ranks) c.args.least (needs_of c.args.sight.now.needs.now.lists)) c.args.ends.now.down.crossed.items (numbers_met c.args.sight.now.heads.now c.args.ends.now.down.walk) (c.loop-up_at.down_at + 1) c.turn_down-else-looked.new.ends.down.crossed.items (numbers_met c.args.sight.now.heads.now c.turn_down-else-looked.new.ends.down.walk)
+descended c lt before =
+    let heads = c.args.sight.now.heads.now in
+    let begun = c.args.ends.now in
+    let ends = c.loop-up_at.ends in
+    let mid = c.turn_down.new.ends in
+    let there : c.loop-up_at.down_at < length (numbers_met heads mid.down.walk) = omega (arith, lt, visits_longer _ (numbers_met heads ends.down.walk) (numbers_met heads mid.down.walk) c.turn_down.ensures.visits) in
+    high_step (patches_of heads) (level_of c.args.sight.now.levels.now.ranks) c.args.least (needs_of c.args.sight.now.needs.now.lists) begun.down.crossed.items (numbers_met heads begun.down.walk) c.loop-up_at.down_at mid.down.crossed.items c.turn_down-else-looked.new.ends.down.crossed.items (numbers_met heads mid.down.walk) (numbers_met heads c.turn_down-else-looked.new.ends.down.walk) there before c.turn_down-else-looked.ensures.visits c.turn_down-else-looked.ensures.crossed
+
+-- what is met from the end of the walk down
+pub returns-then-turn_down-clause-together : goal.returns-then-turn_down-clause-together
+returns-then-turn_down-clause-together c e =
     let met = c.turn_down.ensures.met c.if-turn_down.true in
-    let beside = high_beside (patches_of heads) (level_of c.args.sight.now.levels.now.ranks) c.args.least (needs_of c.args.sight.now.needs.now.lists) begun.down.crossed.items (numbers_met heads begun.down.walk) c.loop-up_at.down_at ends.down.crossed.items c.turn_down.new.ends.down.crossed.items (numbers_met heads ends.down.walk) (numbers_met heads c.turn_down.new.ends.down.walk) c.turn_from_end-last.result (omega (arith, inside)) (omega (arith, c.turn_from_end-last.ensures, c.len-met.ensures.long, long)) known.descends c.turn_down.ensures.visits c.turn_down.ensures.crossed in
-    record { at = met.0; over = known.climbs.climbing.only met.0 met.1; under = beside.climbing.only met.0 met.2 }
+    let under = beside (goal.at.returns-then-turn_down-clause-together c).After-turn_down in
+    record { at = met.0; over = c.loop-up_at.invariant.climbs.climbing.only met.0 met.1; under = under.climbing.only met.0 met.2 }
 
 pub turn_down-requires-else-looked-clause-apart : goal.turn_down-requires-else-looked-clause-apart
 turn_down-requires-else-looked-clause-apart c = rw c.turn_down.ensures.up (c.turn_down.ensures.apart c.if-turn_down.false)
@@ -62,31 +80,23 @@ turn_down-requires-else-looked-clause-at c =
 
 pub returns-then-turn_down-2-clause-together : goal.returns-then-turn_down-2-clause-together
 returns-then-turn_down-2-clause-together c e =
-    let heads = c.args.sight.now.heads.now in
-    let begun = c.args.ends.now in
-    let ends = c.loop-up_at.ends in
-    let known = c.loop-up_at.invariant in
-    let long = long_met heads ends.down.walk in
-    let inside : c.loop-up_at.down_at < length (numbers_met heads ends.down.walk) = omega (arith, c.if-down_at-len.true, c.len-in-loop-up_at.ensures.long, long) in
     let met = c.turn_down-else-looked.ensures.met c.if-turn_down-2.true in
-    let beside = high_beside (patches_of heads) (level_of c.args.sight.now.levels.now.ranks) c.args.least (needs_of c.args.sight.now.needs.now.lists) begun.down.crossed.items (numbers_met heads begun.down.walk) c.loop-up_at.down_at ends.down.crossed.items c.turn_down.new.ends.down.crossed.items (numbers_met heads ends.down.walk) (numbers_met heads c.turn_down.new.ends.down.walk) c.turn_from_end-last.result (omega (arith, inside)) (omega (arith, c.turn_from_end-last.ensures, c.len-met.ensures.long, long)) known.descends c.turn_down.ensures.visits c.turn_down.ensures.crossed in
-    let mid = c.turn_down.new.ends in
-    let there : c.loop-up_at.down_at < length (numbers_met heads mid.down.walk) = omega (arith, inside, visits_longer _ (numbers_met heads ends.down.walk) (numbers_met heads mid.down.walk) c.turn_down.ensures.visits) in
-    let descends = high_step (patches_of heads) (level_of c.args.sight.now.levels.now.ranks) c.args.least (needs_of c.args.sight.now.needs.now.lists) begun.down.crossed.items (numbers_met heads begun.down.walk) c.loop-up_at.down_at mid.down.crossed.items c.turn_down-else-looked.new.ends.down.crossed.items (numbers_met heads mid.down.walk) (numbers_met heads c.turn_down-else-looked.new.ends.down.walk) there beside c.turn_down-else-looked.ensures.visits c.turn_down-else-looked.ensures.crossed in
-    record { at = met.0; over = known.climbs.climbing.only met.0 (subst (λ (w : BlockWalk). Contains (numbers_met heads w.walk) met.0) c.turn_down.ensures.up met.1); under = descends.climbing.only met.0 met.2 }
+    let before = (goal.at.returns-then-turn_down-2-clause-together c).After-turn_down in
+    let under = descended (goal.at.returns-then-turn_down-2-clause-together c).After-turn_down-else-looked (inside before) (beside before) in
+    record {
+      at = met.0;
+      over = c.loop-up_at.invariant.climbs.climbing.only met.0 (subst (λ (w : BlockWalk). Contains (numbers_met c.args.sight.now.heads.now w.walk) met.0) c.turn_down.ensures.up met.1);
+      under = under.climbing.only met.0 met.2;
+    }
 
 pub loop-up_at-preserved : goal.loop-up_at-preserved
 loop-up_at-preserved c =
     let heads = c.args.sight.now.heads.now in
-    let begun = c.args.ends.now in
     let ends = c.loop-up_at.ends in
     let known = c.loop-up_at.invariant in
-    let long = long_met heads ends.down.walk in
-    let inside : c.loop-up_at.down_at < length (numbers_met heads ends.down.walk) = omega (arith, c.if-down_at-len.true, c.len-in-loop-up_at.ensures.long, long) in
-    let beside = high_beside (patches_of heads) (level_of c.args.sight.now.levels.now.ranks) c.args.least (needs_of c.args.sight.now.needs.now.lists) begun.down.crossed.items (numbers_met heads begun.down.walk) c.loop-up_at.down_at ends.down.crossed.items c.turn_down.new.ends.down.crossed.items (numbers_met heads ends.down.walk) (numbers_met heads c.turn_down.new.ends.down.walk) c.turn_from_end-last.result (omega (arith, inside)) (omega (arith, c.turn_from_end-last.ensures, c.len-met.ensures.long, long)) known.descends c.turn_down.ensures.visits c.turn_down.ensures.crossed in
     let mid = c.turn_down.new.ends in
-    let there : c.loop-up_at.down_at < length (numbers_met heads mid.down.walk) = omega (arith, inside, visits_longer _ (numbers_met heads ends.down.walk) (numbers_met heads mid.down.walk) c.turn_down.ensures.visits) in
-    let descends = high_step (patches_of heads) (level_of c.args.sight.now.levels.now.ranks) c.args.least (needs_of c.args.sight.now.needs.now.lists) begun.down.crossed.items (numbers_met heads begun.down.walk) c.loop-up_at.down_at mid.down.crossed.items c.turn_down-else-looked.new.ends.down.crossed.items (numbers_met heads mid.down.walk) (numbers_met heads c.turn_down-else-looked.new.ends.down.walk) there beside c.turn_down-else-looked.ensures.visits c.turn_down-else-looked.ensures.crossed in
+    let long = long_met heads ends.down.walk in
+    let first = (goal.at.loop-up_at-preserved c).After-turn_down in
     let longer : length mid.down.walk.met ≤ length c.turn_down-else-looked.new.ends.down.walk.met = omega (arith, visits_longer _ (numbers_met heads mid.down.walk) (numbers_met heads c.turn_down-else-looked.new.ends.down.walk) c.turn_down-else-looked.ensures.visits, long_met heads mid.down.walk, long_met heads c.turn_down-else-looked.new.ends.down.walk) in
     let before : length ends.down.walk.met ≤ length mid.down.walk.met = omega (arith, visits_longer _ (numbers_met heads ends.down.walk) (numbers_met heads mid.down.walk) c.turn_down.ensures.visits, long, long_met heads mid.down.walk) in
     rw (c.turn_down-else-looked.ensures.up, c.turn_down.ensures.up) (record {
@@ -96,7 +106,7 @@ loop-up_at-preserved c =
       visited_down = c.turn_down-else-looked.ensures.visited;
       apart = subst (λ w. AreApart (numbers_met heads w.walk) (numbers_met heads c.turn_down-else-looked.new.ends.down.walk)) c.turn_down.ensures.up (c.turn_down-else-looked.ensures.apart c.if-turn_down-2.false);
       climbs = known.climbs;
-      descends = descends;
+      descends = descended (goal.at.loop-up_at-preserved c).After-turn_down-else-looked (inside first) (beside first);
       deep = elim c.if-met-now.branch [
         | then-met-now w ↦ omega (arith, w.deep-is, c.len-now.ensures.long, longer)
         | else-met-now w ↦ omega (arith, w.deep-is, c.turn_from_end-last.ensures, c.len-met.ensures.long, longer, before)
