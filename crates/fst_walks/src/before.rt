@@ -10,7 +10,7 @@ ghost use Rattle.fst_heads.specs.Heads.{IsRising, patches_of};
 ghost use Rattle.fst_walks.specs.Sights.{Sees};
 
 use crate::known::is_known;
-use crate::shortcuts::{is_hard_in, is_hard_number};
+use crate::shortcuts::{is_found, is_hard_in, is_hard_number};
 use crate::sight::Sight;
 use fst_heads::head::Head;
 use fst_types::Grade;
@@ -21,16 +21,6 @@ const NEWEST: usize = 8;
 // How long a row is looked through.
 const LONGEST: usize = 64;
 
-// Whether the number is found in the row, which rises.
-fn is_named(row: &[u32], number: u32) -> bool
-    ensures { IsTrue result → Contains row.now number }
-{
-    match row.binary_search(&number) {
-        Ok(at) => row[at] == number,
-        Err(_) => false,
-    }
-}
-
 // Whether each of the row is in the other row or a hard change of the block in memory, over which no way leads back.
 fn is_within(heads: &[Head], block: u32, row: &[u32], other: &[u32]) -> bool
     requires { IsRising heads.now }
@@ -40,7 +30,7 @@ fn is_within(heads: &[Head], block: u32, row: &[u32], other: &[u32]) -> bool
         return false;
     }
     for number in row {
-        if !is_named(other, *number) && !is_hard_number(heads, block, *number) {
+        if !is_found(other, *number) && !is_hard_number(heads, block, *number) {
             return false;
         }
     }

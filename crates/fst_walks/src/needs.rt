@@ -14,7 +14,7 @@ ghost use Rattle.fst_heads.specs.Heads.{IsRising, patches_of};
 ghost use Rattle.fst_heads.specs.Nodes.{nodes_of, AreSettled};
 ghost use Rattle.fst_walks.specs.Needing.{IsNeeding, IsNoted, IsPut, IsStoodFor, needs_of};
 
-use crate::shortcuts::{is_hard_in, is_hard_number, waits_for_gate};
+use crate::shortcuts::{is_found, is_hard_in, is_hard_number, waits_for_gate};
 use fst_heads::head::{Head, Kind};
 use fst_heads::marks::slot_of;
 use fst_types::Grade;
@@ -170,10 +170,7 @@ impl Needs {
     pub fn has_way_back(&self, number: u32) -> bool
         ensures { IsTrue result → Contains self.now.ways number }
     {
-        match self.ways.binary_search(&number) {
-            Ok(at) => self.ways[at] == number,
-            Err(_) => false,
-        }
+        is_found(&self.ways, number)
     }
 
     /// A write landed, so that ways may be gone.

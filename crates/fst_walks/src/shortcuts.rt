@@ -108,6 +108,16 @@ pub fn first(row: &[u32]) -> Option<u32>
     }
 }
 
+/// Whether the number is found in the row, by halves: it is where the row has it and rises.
+pub fn is_found(row: &[u32], number: u32) -> bool
+    ensures { IsTrue result → Contains row.now number }
+{
+    match row.binary_search(&number) {
+        Ok(at) => row[at] == number,
+        Err(_) => false,
+    }
+}
+
 /// What the patch with the number directly depends on, or nothing where it is forgotten.
 pub fn row_below(heads: &[Head], number: u32) -> &[u32]
     requires { IsRising heads.now }
