@@ -5,7 +5,7 @@ use Rattle.fst_types.specs.{Dependencies.DirectlyOn, Facts.HardNeverHold, Patche
 use Rattle.fst_types.proofs.{Crash.same_number, SmallStates.only_in}
 use Rattle.fst_heads.specs.{Grading.{IsHardNumber, LeadsNowhere}, Heads.{IsRising, patches_of}, Marks.PassesAt, declared.head.Head.Head}
 use Rattle.fst_heads.proofs.{Graded.on_from, Leading.one_block, Listing.rising_patches}
-use Rattle.fst_walks.specs.Needing.{HaveWaysBack, HasWayBack}
+use Rattle.fst_walks.specs.Needing.{HaveWaysBack}
 use Rattle.fst_walks.proofs.{Backed.{below_nowhere, shorter_nowhere}, NearRow.rests_may}
 use Rattle.fst_heads.specs.declared.test.Test.TheVariants as test
 

@@ -176,8 +176,17 @@ fn meet_between(
     Some(false)
 }
 
-// The grade as far as it is told by a search that looks at no more patches below the row than the limit before it begins, and
-// gives up where both walks have looked at more.
+// How many patches both walks may look at, once so many below the row were: where those are all, to begin anew would only
+// look at the same again.
+fn budget(looked: usize, limit: usize) -> usize
+    ensures all { looked ≤ limit → result ≡ 18446744073709551615 }
+    ensures some { limit < looked → result ≡ limit }
+{
+    if looked <= limit { usize::MAX } else { limit }
+}
+
+// The grade as far as it is told by a search that looks at no more patches below the row than the limit before it begins. Where
+// more are there it begins with some, and gives up once both walks have looked at more than the limit.
 fn grade_within(
     sight: &Sight<'_>,
     ends: &mut Ends,
@@ -205,7 +214,8 @@ fn grade_within(
     ends.up.cross_only(block);
     ends.up.walk.clear();
     visit_low_changes(sight, &mut ends.up.walk, block, most);
-    if meet_between(sight, ends, most, least, limit)? {
+    let budget = budget(looked, limit);
+    if meet_between(sight, ends, most, least, budget)? {
         return Some(Grade::Soft);
     }
     if looked <= limit {

@@ -1,4 +1,3 @@
-use Rattle.std.proofs.lemmas.Grind.{common_steps}
 use Rattle.std.proofs.Common.{ℕ, Contains, subst, arith}
 use Rattle.fst_heads.specs.Heads.{patches_of}
 use Rattle.fst_walks.specs.{BothEnds.IsLowChange, Descending.Visits, Leveling.{floor_of, level_of}, Needing.needs_of, Walks.numbers_met}
