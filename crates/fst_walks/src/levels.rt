@@ -137,12 +137,32 @@ fn rank_from_end(ranks: &[Rank], number: u32) -> Option<usize>
     }
 }
 
-// Whether a head has the number.
-fn is_head(heads: &[Head], number: u32) -> bool
+// Whether a head has the number. That in the slot is looked at first.
+fn is_head(heads: &[Head], slot: usize, number: u32) -> bool
     requires { IsRising heads.now }
     ensures { result ≡ has_number (patches_of heads.now) number }
 {
+    if slot < heads.len() && heads[slot].number == number {
+        return true;
+    }
     slot_of(heads, number).is_some()
+}
+
+// The ranks stay whose heads are left. Heads stand in the order of their ranks, so that mostly one look tells.
+fn keep_heads(ranks: &mut Vec<Rank>, heads: &[Head])
+    requires { IsRising heads.now }
+    ensures ranks { ranks.new.items ≡ filter (λ r. has_number (patches_of heads.now) r.number) ranks.old.items }
+    ensures capacity { vec_capacity ranks.new ≡ vec_capacity ranks.old }
+{
+    let mut kept = 0;
+    for slot in 0..ranks.len() {
+        let rank = ranks[slot];
+        if is_head(heads, kept, rank.number) {
+            ranks[kept] = rank;
+            kept += 1;
+        }
+    }
+    ranks.truncate(kept);
 }
 
 impl Levels {
@@ -282,7 +302,7 @@ impl Levels {
         ensures floors { self.new.floors ≡ self.old.floors }
         ensures room { self.new.room ≡ self.old.room }
     {
-        self.ranks.retain(|rank| is_head(heads, rank.number));
+        keep_heads(&mut self.ranks, heads);
     }
 
     /// A sealed gate in the slot comes down to the greatest level of what it depends on. While it was open it stood at the
