@@ -1,9 +1,9 @@
 -- What is kept under a number: at a head's slot, and where a rank is added.
-use Rattle.std.proofs.Common.{◌≡◌, ◌≢◌, ◌<◌, ◌++◌, ◌∷◌, [], ℕ, zero, suc, List, map, length, get_or, AllPairs, Contains, refl, sym, ap, subst, ◌∙◌, inl, inr, arith, eq-eqb, ne_eqb}
+use Rattle.std.proofs.Common.{◌≡◌, ◌≢◌, ◌<◌, ◌++◌, ◌∷◌, [], ℕ, zero, suc, Option, Some, None, IfSome, IfNone, List, map, length, get_or, All, AllPairs, Contains, refl, sym, ap, subst, ◌∙◌, inl, inr, arith, eq-eqb, ne_eqb}
 use Rattle.std.proofs.lemmas.{Bool.{cases_eq}, List.{length-map, get_or-map}}
 use Rattle.fst_types.specs.Patches.{Patch}
 use Rattle.fst_types.proofs.Finite.{In, Contains-from_In}
-use Rattle.fst_heads.specs.{declared.head.Head.Head, Heads.{IsRising, patch_of, patches_of}, Marks.HasSlot}
+use Rattle.fst_heads.specs.{declared.head.Head.Head, Heads.{IsRising, patch_of, patches_of}, Marks.{HasNone, HasSlot}}
 use Rattle.fst_heads.proofs.Slots.{some_element, rising_map, rising_back, slot_here}
 use Rattle.fst_walks.specs.{Leveling.{kept_under, level_of, no_ancestry}, declared.levels.Rank.Rank}
 
@@ -82,3 +82,18 @@ module _ (heads : List Head) (ranks : List Rank) (rising : IsRising heads) (alig
   ranked_slot n slot lt is =
       let inside : slot < length heads = omega (arith, lt, ranks_long) in
       (inside, λ d. sym (rank_number (get_or heads slot d).number slot (slot_here heads slot d inside) no_rank) ∙ is no_rank)
+
+  -- no head has a number that no rank has
+  pub ranked_none : (n : ℕ) → All (λ r. r.number ≢ n) ranks → HasNone heads n
+  ranked_none n none k d lt same =
+      let at : HasSlot heads n k = subst (λ m. HasSlot heads m k) same (slot_here heads k d lt) in
+      none k no_rank (slot_ranked n k at) (rank_number n k at no_rank)
+
+  -- what is found among the ranks is found among the heads
+  pub ranked_found : (n : ℕ) (r : Option ℕ) → IfSome r (λ slot. (slot < length ranks) × ((d : Rank) → (get_or ranks slot d).number ≡ n)) → IfSome r (HasSlot heads n)
+  ranked_found n (Some slot) found = ranked_slot n slot found.0 found.1
+  ranked_found n None found = tt
+
+  pub ranked_missing : (n : ℕ) (r : Option ℕ) → IfNone r (All (λ r. r.number ≢ n) ranks) → IfNone r (HasNone heads n)
+  ranked_missing n (Some slot) none = tt
+  ranked_missing n None none = ranked_none n none

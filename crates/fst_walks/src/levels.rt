@@ -3,7 +3,7 @@
 //! change in memory is no higher. So what lies below a floor can come to wait for nothing of that block. Beside its level the
 //! ancestry of each head is kept (`ancestors`).
 
-ghost use Rattle.std.specs.Prelude.{vec_capacity, ◌≡◌, ◌≢◌, ◌≤◌, ◌<◌, ◌+◌, ◌++◌, ◌∷◌, [], ℕ, false, IsTrue, length, map, filter, Contains, AllPairs, IfOk, IfSome, IfNone, OnOk, slice_index_or};
+ghost use Rattle.std.specs.Prelude.{vec_capacity, ◌≡◌, ◌≢◌, ◌≤◌, ◌<◌, ◌+◌, ◌++◌, ◌∷◌, [], ℕ, false, IsTrue, length, map, filter, All, Contains, AllPairs, IfOk, IfSome, IfNone, OnOk, slice_index_or};
 ghost use Rattle.fst_types.specs.Tests.{has_number};
 ghost use Rattle.fst_types.specs.Patches.{IsOn};
 ghost use Rattle.fst_heads.specs.Heads.{IsRising, patch_of, patches_of};
@@ -137,6 +137,21 @@ fn rank_from_end(ranks: &[Rank], number: u32) -> Option<usize>
     }
 }
 
+// The slot of the rank with the number.
+fn rank_slot(ranks: &[Rank], number: u32) -> Option<usize>
+    requires { AllPairs (λ r q. r.number < q.number) ranks.now }
+    ensures found { IfSome result (λ slot. (slot < length ranks.now) × ((d : Rank) → (slice_index_or ranks.now slot d).number ≡ number)) }
+    ensures none { IfNone result (All (λ r. r.number ≢ number) ranks.now) }
+{
+    if let Some(slot) = rank_from_end(ranks, number) {
+        return Some(slot);
+    }
+    match ranks.binary_search_by_key(&number, |rank| rank.number) {
+        Ok(slot) => Some(slot),
+        Err(_) => None,
+    }
+}
+
 // Whether a head has the number. That in the slot is looked at first.
 fn is_head(heads: &[Head], slot: usize, number: u32) -> bool
     requires { IsRising heads.now }
@@ -200,17 +215,15 @@ impl Levels {
         self.ranks.push_reserved(rank);
     }
 
-    /// The slot of the head with the number. Ranks are far smaller than heads, so it is looked for among them first.
+    /// The slot of the head with the number. It is looked for among the ranks, which are far smaller than heads.
     pub fn find(&self, heads: &[Head], number: u32) -> Option<usize>
         requires rising { IsRising heads.now }
         requires aligned { map (λ r. r.number) self.now.ranks ≡ map (λ p. p.number) (patches_of heads.now) }
         ensures found { IfSome result (HasSlot heads.now number) }
         ensures none { IfNone result (HasNone heads.now number) }
     {
-        match rank_from_end(self.ranks.as_slice(), number) {
-            Some(slot) => Some(slot),
-            None => slot_of(heads, number),
-        }
+        let _ = heads;
+        rank_slot(self.ranks.as_slice(), number)
     }
 
     /// The level of the head in the slot.
