@@ -8,7 +8,7 @@ use Rattle.fst_types.proofs.{Crash.same_number, SmallStates.only_in}
 use Rattle.fst_heads.specs.{Grading.{HasUnder, LeadsNowhere, IsHardNumber}, Heads.{IsRising as AreRising, patches_of}, Marks.PassesAt}
 use Rattle.fst_heads.specs.{Reaching.{ShowsBlocks}, Tests.passes, declared.head.Head.Head}
 use Rattle.fst_heads.proofs.{Graded.off_from, Leading.one_block, Listing.rising_patches}
-use Rattle.fst_walks.specs.{BothEnds.{AreApart, EndApart, IsFirstAway, IsLowChange, LeadTogether, StepsAway, StepsHigh, StepsLow}, Descending.{IsLedFrom, Visits}, Leveling.AreLeveled, Needing.AreNeeded, WayBack.{StepsUp}}
+use Rattle.fst_walks.specs.{BothEnds.{AreApart, ComesTo, EndApart, IsFirstAway, IsLowChange, LeadTogether, StepsAway, StepsHigh, StepsLow}, Descending.{IsLedFrom, Visits}, Leveling.AreLeveled, Needing.AreNeeded, WayBack.{StepsUp}}
 use Rattle.fst_walks.proofs.{BothEnds.{Leads, leads_on, led_leads, leads_led, LeadsBack, goes_up, back_leads, none_leads, off_live}, ComesBack.{live_number, live_on}, Holding.live_up, NearRow.rests_may, Needed.{StepsDown, StepsWhole, steps_whole, whole_met}, Trails.none_in}
 use Rattle.fst_heads.specs.declared.test.Test.TheVariants as test
 
@@ -238,12 +238,6 @@ none_first heads rising disk hard b crossed shown row none =
 pub visited_all : (P : ℕ → Type 0) (queue : List ℕ) → Visits P [] queue → (n : ℕ) → Contains queue n ↔ P n
 visited_all P queue v n = (λ c. elim (v.only n c) [ inl none ↦ absurd (none_in n none) | inr p ↦ p ], v.each n)
 
--- steps down lead from one of the tops to a change of b that is not on disk
-record ComesTo (patches : List Patch) (level : ℕ → ℕ) (least : ℕ) (needs : ℕ → List ℕ) (crossed : List Bool) (b : ℕ) (tops : List ℕ) : Type 0 where
-  at : ℕ
-  under : IsLedFrom (StepsHigh patches level least needs crossed) tops at
-  change : PassesAt (test.LiveOn b) patches at
-
 -- a walk down starts from first changes of other blocks at or below a row, and never crosses b
 module _ (heads : List Head) (rising : AreRising heads) (disk : IsOnDiskWithAll (patches_of heads)) (hard : HardNeverHold (patches_of heads)) (flights : FlightsStandAlone (patches_of heads))
     (level floor : ℕ → ℕ) (leveled : AreLeveled (patches_of heads) level floor) (needs : ℕ → List ℕ) (needed : AreNeeded (patches_of heads) needs)
@@ -260,8 +254,15 @@ module _ (heads : List Head) (rising : AreRising heads) (disk : IsOnDiskWithAll 
       let whole : Leads (StepsWhole now down) top n = elim path [ inl e ↦ inl e | inr steps ↦ inr (steps_whole now in_order flights needs needed b down shows_down top n steps) ] in
       leads_ups now b up down shows_up shows_down in_order top n whole (off_live now in_order disk b up shows_up top (first top c).away)
 
+  -- where it comes to a change of b, a way leads back
+  pub comes_soft : ComesTo now level least needs down b tops → LeadsNowhere now b row → ⊥
+  comes_soft met =
+      let a = led_leads (StepsHigh now level least needs down) tops met.at met.under in
+      let top = first a.0 a.1 in
+      back_leads now in_order disk b up shows_up row (record { first = met.at; last = a.0; change = met.change; away = top.away; under = first_under now b row a.0 top; path = under_up a.0 met.at a.1 (leads_down now level floor leveled needs needed down least a.0 met.at a.2) })
+
   -- where it starts from all of them and comes to none, none does
-  comes_hard : ((n : ℕ) → IsFirstAway now b row n → Contains tops n) → (ComesTo now level least needs down b tops → ⊥) → LeadsNowhere now b row
+  pub comes_hard : ((n : ℕ) → IsFirstAway now b row n → Contains tops n) → (ComesTo now level least needs down b tops → ⊥) → LeadsNowhere now b row
   comes_hard each none = none_leads now in_order disk b up shows_up row (λ l.
       let f = first_back heads rising disk hard b up shows_up row l in
       let back = leads_downs now b up down shows_up shows_down in_order f.1 f.0 f.4 (live_number now in_order b b f.1 f.3) in

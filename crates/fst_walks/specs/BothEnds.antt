@@ -45,6 +45,16 @@ IsHighNeed patches level least needs c n = IsNeed patches needs c n × (least �
 abbrev pub StepsHigh : List Patch → (ℕ → ℕ) → ℕ → (ℕ → List ℕ) → List Bool → ℕ → ℕ → Type 0
 StepsHigh patches level least needs crossed p q = (DirectlyOn patches p q × IsHigh patches level least q) ⊎ (CrossesDown patches needs crossed p q × (least ≤ level q))
 
+-- none of them is a change of b that is not on disk
+abbrev pub IsAwayFrom : List Patch → ℕ → List ℕ → Type 0
+IsAwayFrom patches b met = (n : ℕ) → Contains met n → PassesAt (test.LiveOn b) patches n → ⊥
+
+-- steps down lead from one of the tops to a change of b that is not on disk
+pub record ComesTo (patches : List Patch) (level : ℕ → ℕ) (least : ℕ) (needs : ℕ → List ℕ) (crossed : List Bool) (b : ℕ) (tops : List ℕ) : Type 0 where
+  pub at : ℕ
+  pub under : IsLedFrom (StepsHigh patches level least needs crossed) tops at
+  pub change : PassesAt (test.LiveOn b) patches at
+
 -- the block of the change with number n, which is not on disk, is shown besides
 pub record ShowsBlockUnder (patches : List Patch) (n : ℕ) (old new : List Bool) : Type 0 where
   pub kept : (c : ℕ) → IsReached old c → IsReached new c

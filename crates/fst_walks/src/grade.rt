@@ -16,6 +16,7 @@ ghost use Rattle.fst_walks.specs.Sights.{Sees};
 
 use crate::ancestors::leads_to_block;
 use crate::before::told_before;
+use crate::below::grade_below;
 use crate::both_ends::grade_between;
 use crate::ends::Ends;
 use crate::known::leads_over_known;
@@ -55,6 +56,9 @@ fn grade_by_ways(sight: &Sight<'_>, ends: &mut Ends, block: u32, row: &[u32]) ->
     }
     if comes_back_soon(sight, block, row) {
         return Grade::Soft;
+    }
+    if let Some(grade) = grade_below(sight, &mut ends.down, block, row) {
+        return grade;
     }
     grade_between(sight, ends, block, row)
 }

@@ -6,8 +6,8 @@
 //! and what lies below the floor of a block leads nowhere. Or their ancestors tell (`ancestors`): each patch keeps two
 //! that it depends on, a near one and a far one. Or it is known already (`known`): of a soft change of the block a way
 //! back stays until a write lands, so that a change over it is soft too; and one after the same as an earlier change of the
-//! block is graded as that was (`before`). Else a way back is looked for from both ends at
-//! once (`both_ends`): up from the changes of the block (`way_up`), and down (`way_down`) from the first changes of other
+//! block is graded as that was (`before`). Else a way back is looked for down alone for a while (`below`), then from both
+//! ends at once (`both_ends`): up from the changes of the block (`way_up`), and down (`way_down`) from the first changes of other
 //! blocks at or below what the new change depends on (`first_away`), which goes on from a block to what its hard changes
 //! need (`needs`). Where a new hard change would stand over the floor of its block, the floor goes up, with all that stands
 //! over the block (`lift`). *May a gate gain these names, and may a group have this change?* A search goes down from them
@@ -27,6 +27,7 @@
 pub mod ancestors;
 pub mod ascent;
 pub mod before;
+pub mod below;
 pub mod block_walk;
 pub mod both_ends;
 pub mod cycle;

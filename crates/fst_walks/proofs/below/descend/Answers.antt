@@ -1,0 +1,52 @@
+use Rattle.std.proofs.Common.{◌<◌, ◌+◌, length, refl, arith}
+use Rattle.std.proofs.lemmas.Grind.{common_steps}
+use Rattle.std.proofs.lemmas.Bool.{false≢true}
+use Rattle.fst_heads.specs.Heads.{patches_of}
+use Rattle.fst_walks.specs.{BothEnds.{IsHighNeed, StepsHigh}, Leveling.level_of, Needing.needs_of, Walks.numbers_met}
+use Rattle.fst_walks.proofs.{Ascended.{Walking, climbing_all}, Stepping.high_step, Visiting.long_met}
+use Rattle.fst_walks.proofs.below.descend.Goals.{After-turn-met}
+use Rattle.fst_walks.proofs.below.descend.Goals as goal
+
+-- after one step more
+descends : (c : After-turn-met) → (let sight = c.args.sight.now in let start = c.args.down.now in let needs = needs_of sight.needs.now.lists in let patches = patches_of sight.heads.now in
+    Walking (StepsHigh patches (level_of sight.levels.now.ranks) c.args.least needs start.crossed.items) (IsHighNeed patches (level_of sight.levels.now.ranks) c.args.least needs) start.crossed.items (numbers_met sight.heads.now start.walk) (c.loop-at.at + 1) c.turn-met.new.down.crossed.items (numbers_met sight.heads.now c.turn-met.new.down.walk))
+descends c =
+    let heads = c.args.sight.now.heads.now in
+    let start = c.args.down.now in
+    let down = c.loop-at.down in
+    let inside : c.loop-at.at < length (numbers_met heads down.walk) = omega (arith, c.loop-at-test.true, c.len.ensures.long, long_met heads down.walk) in
+    high_step (patches_of heads) (level_of c.args.sight.now.levels.now.ranks) c.args.least (needs_of c.args.sight.now.needs.now.lists) start.crossed.items (numbers_met heads start.walk) c.loop-at.at down.crossed.items c.turn-met.new.down.crossed.items (numbers_met heads down.walk) (numbers_met heads c.turn-met.new.down.walk) inside c.loop-at.invariant.descends c.turn-met.ensures.visits c.turn-met.ensures.crossed
+
+pub returns-then-met-clause-met : goal.returns-then-met-clause-met
+returns-then-met-clause-met c = (
+  λ e.
+      let met = c.turn-met.ensures.met c.if-met.true in
+      let walked = descends (goal.at.returns-then-met-clause-met c).After-turn-met in
+      record { at = met.0; under = walked.climbing.only met.0 met.1; change = met.2 },
+  λ x. refl,
+)
+
+pub loop-at-preserved : goal.loop-at-preserved
+loop-at-preserved c = record {
+  down = c.turn-met.ensures.down;
+  visited = c.turn-met.ensures.visited;
+  away = c.turn-met.ensures.away c.if-met.false;
+  descends = descends (goal.at.loop-at-preserved c).After-turn-met;
+  few = omega (arith, c.loop-at-test.true, c.len.ensures.few, c.loop-at.invariant.down.long);
+}
+
+-- the walk is at its end
+pub returns-clause-met : goal.returns-clause-met
+returns-clause-met c = (
+  λ e. absurd (false≢true e),
+  λ x.
+      let sight = c.args.sight.now in
+      let heads = sight.heads.now in
+      let start = c.args.down.now in
+      let met = numbers_met heads c.loop-at.down.walk in
+      let all = climbing_all (StepsHigh (patches_of heads) (level_of sight.levels.now.ranks) c.args.least (needs_of sight.needs.now.lists) start.crossed.items) (numbers_met heads start.walk) c.loop-at.at met (omega (arith, c.loop-at-test.false, c.len.ensures.long, long_met heads c.loop-at.down.walk)) c.loop-at.invariant.descends.climbing x.at in
+      absurd (c.loop-at.invariant.away x.at (all.1 x.under) x.change),
+)
+
+pub returns-then-looked-left-clause-met : goal.returns-then-looked-left-clause-met
+returns-then-looked-left-clause-met c = grind (arith, common_steps)

@@ -1,0 +1,8 @@
+use Rattle.std.proofs.Common.{◌≤◌, ◌<◌, ℕ, get_or}
+use Rattle.fst_heads.specs.{Heads.patches_of, Marks.PassesAt}
+use Rattle.fst_heads.specs.declared.test.Test.TheVariants as test
+use Rattle.fst_walks.specs.Walks.{numbers_met}
+use Rattle.fst_walks.proofs.below.meets_change.Given as goal
+
+abbrev pub invariant-loop-at : goal.invariant-loop-at
+invariant-loop-at l = (k : ℕ) → l.from ≤ k → k < l.at → PassesAt (test.LiveOn l.block) (patches_of l.heads) (get_or (numbers_met l.heads l.walk) k 0) → ⊥
