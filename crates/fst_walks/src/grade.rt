@@ -3,9 +3,10 @@
 //! block, and no block from which the block graph leads to its block. Over a block whose changes are all on disk no search
 //! is needed, nor where only changes of the block are pending of what the change depends on, nor where all of that is a hard
 //! change of the block or below its floor. It is soft where it depends on a change of the block from which a way is known to
-//! lead back, and as an earlier change of the block where it comes after the same. Else the ancestors of what it depends on may lead back to the block, or a chain within a few steps, and only
-//! where neither does a way back is looked for from both ends. A gate that is sealed with the change is taken as sealed already: that sets free what it alone blocks, and moves no change and no
-//! dependency.
+//! lead back, and as an earlier change of the block where it comes after the same. Else the ancestors of what it depends on
+//! may lead back to the block, or a chain within a few steps, or a walk down that is not long may tell, and only where none
+//! of these does a way back is looked for from both ends. A gate that is sealed with the change is taken as sealed already:
+//! that sets free what it alone blocks, and moves no change and no dependency.
 
 ghost use Rattle.std.specs.Prelude.{◌<◌, length};
 ghost use Rattle.fst_types.specs.Grades.{FollowsRule};
