@@ -259,6 +259,9 @@ impl Sparse {
         ensures { Forgets self.old result self.new }
     {
         let_go(&mut self.prepared);
+        if self.live == self.heads.len() {
+            return 0;
+        }
         let before = self.heads.len();
         keep_live(&mut self.heads, self.live);
         self.ends.shrink(self.heads.len());

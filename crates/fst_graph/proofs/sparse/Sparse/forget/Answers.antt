@@ -1,7 +1,7 @@
 use Rattle.std.proofs.{Common.{◌≡◌, ◌≤◌, ◌∙◌, ◌-◌, filter, count_by, length, sym, ap, subst, refl, arith}, lemmas.List.length-map}
 use Rattle.fst_types.specs.{Facts.SparseAreLawful, Tests.{has_number, is_at, is_live}}
 use Rattle.fst_heads.specs.{Heads.{patch_of, patches_of}, Nodes.nodes_of}
-use Rattle.fst_heads.proofs.{AtNumber.patches_in_nodes, Beside.beside_dropped, Covering.covered_left, Forgetting.{counted, keeps_dropped}, Patches.sparse_dropped, Placed.patches_dropped, Slots.rising_heads}
+use Rattle.fst_heads.proofs.{AtNumber.patches_in_nodes, Beside.{all_live, beside_dropped}, Covering.covered_left, Forgetting.{counted, keeps_dropped}, Patches.sparse_dropped, Placed.patches_dropped, Slots.rising_heads}
 use Rattle.fst_walks.proofs.{RanksLeft.left_is_leveled, Seen.{seen, lawful_nodes}}
 use Rattle.fst_graph.proofs.{NeedsNow.needing_left, Ranks.leveled_as, Tallied.tallies_dropped, sparse.Sparse.forget.Goals.After-keep_live}
 use Rattle.fst_types.specs.declared.place.Place.TheVariants as place
@@ -19,7 +19,7 @@ left_long c = let live = ap length (left c) in omega (arith, live, length-map c.
 pub overflow_sub-result : goal.overflow_sub-result
 overflow_sub-result c =
     let heads = c.self.inside.heads.items in
-    omega (arith, counted (patches_of heads), left_long (goal.at.overflow_sub-result c).After-keep_live, length-map heads patch_of, c.len-2.ensures, c.len-before.ensures, c.self.inside.heads.ok.0)
+    omega (arith, counted (patches_of heads), left_long (goal.at.overflow_sub-result c).After-keep_live, length-map heads patch_of, c.len-3.ensures, c.len-before.ensures, c.self.inside.heads.ok.0)
 
 -- no more are left than there were
 fewer : (c : After-keep_live) → c.keep_live.new.heads.len ≤ length c.self.inside.ends.up.walk.marks
@@ -30,9 +30,9 @@ shrink-requires c =
     let few = fewer (goal.at.shrink-requires c).After-keep_live in
     record { up = omega (arith, few, c.len.ensures); down = omega (arith, few, c.len.ensures, c.self.invariant.along.marks) }
 
-pub invariant_of-self : goal.invariant_of-self
-invariant_of-self c =
-    let at = (goal.at.invariant_of-self c).After-keep_live in
+pub invariant_of-self-2 : goal.invariant_of-self-2
+invariant_of-self-2 c =
+    let at = (goal.at.invariant_of-self-2 c).After-keep_live in
     let long : length c.shrink.new.self.up.walk.marks ≡ length (filter is_live (patches_of c.self.inside.heads.items)) = omega (arith, left_long at, c.len.ensures, c.shrink.ensures.marks.0) in
     let heads = c.self.inside.heads.items in
     let n = c.self.inside.numbers in
@@ -53,8 +53,8 @@ pub returns : goal.returns
 returns c =
     let heads = c.self.inside.heads.items in
     let at = (goal.at.returns c).After-keep_live in
-    let count : c.len-before.result - c.len-2.result ≡ count_by (λ p. is_at p.place place.Disk) (patches_of heads) =
-    omega (arith, counted (patches_of heads), left_long at, length-map heads patch_of, c.len-2.ensures, c.len-before.ensures, c.self.inside.heads.ok.0) in
+    let count : c.len-before.result - c.len-3.result ≡ count_by (λ p. is_at p.place place.Disk) (patches_of heads) =
+    omega (arith, counted (patches_of heads), left_long at, length-map heads patch_of, c.len-3.ensures, c.len-before.ensures, c.self.inside.heads.ok.0) in
     rw (← c.self.view_is, c.let_go.ensures) (record { row = record { counted = count; kept = left at }; numbers = refl; blocks = refl; groups = refl; prepared = refl })
 
 pub forget-requires : goal.forget-requires
@@ -63,3 +63,11 @@ forget-requires c =
     let at = (goal.at.forget-requires c).After-keep_live in
     let rising = (sparse_dropped (patches_of heads) c.self.inside.numbers c.self.invariant.keeps.lawful).one_place_each.rising in
     rw c.deref.ensures.value (rising_heads c.keep_live.new.heads.items (rw (left at) rising))
+
+pub returns-then-self-len : goal.returns-then-self-len
+returns-then-self-len c =
+    let heads = c.self.inside.heads.items in
+    let all : count_by is_live (patches_of heads) ≡ length heads = omega (arith, c.self.invariant.beside.counted, c.if-self-len.true, c.len.ensures, c.self.inside.heads.ok.0) in
+    let kept : patches_of heads ≡ filter is_live (patches_of heads) = seen heads _ (all_live heads all) ∙ (patches_dropped (nodes_of heads) ∙ ap (filter is_live) (patches_in_nodes heads)) in
+    let none : 0 ≡ count_by (λ p. is_at p.place place.Disk) (patches_of heads) = let same = ap length kept in omega (arith, counted (patches_of heads), same) in
+    rw (← c.self.view_is, c.let_go.ensures) (record { row = record { counted = none; kept = kept }; numbers = refl; blocks = refl; groups = refl; prepared = refl })
