@@ -1,6 +1,7 @@
 -- Where nothing but changes of one block is pending of a row, no way leads from it back to that block.
-use Rattle.std.proofs.Common.{◌≡◌, ℕ, List, Contains, sym, ap, subst, ◌∙◌, inl, inr}
-use Rattle.fst_types.specs.{Facts.IsOnDiskWithAll, Patches.{Patch, IsRising, IsOn, IsLive}}
+use Rattle.std.proofs.Common.{◌≡◌, ℕ, List, [], ◌∷◌, Contains, refl, sym, ap, subst, ◌∙◌, inl, inr}
+use Rattle.fst_types.specs.{Facts.IsOnDiskWithAll, Patches.{Patch, IsRising, IsOn, IsLive, IsOpenGate, block_of_kind}}
+use Rattle.fst_types.proofs.{Crash.same_number, Finite.{Contains-from_In, first_step}, SmallStates.only_in}
 use Rattle.fst_heads.specs.{Grading.{HasUnder, IsReturning, IsLeading, LeadsNowhere}, Heads.{IsRising as HeadsRise, patches_of}}
 use Rattle.fst_heads.specs.{Nodes.{Node, nodes_of, patches_in, pending_in, AreSettled}, Pendings.joined, declared.head.Head.Head, declared.pending.Pending.Pending}
 use Rattle.fst_heads.proofs.{AtNumber.patches_in_nodes, Listing.rising_patches, Sums.{joined_nothing, joined_block}}
@@ -39,11 +40,48 @@ module _ (nodes : List Node) (blocks : ℕ) (rising : IsRising (patches_in nodes
         q.1.other (low_live q.1.patch q.1.block q.1.head q.1.change q.1.live (subst (λ n. IsLow b (told n)) (sym q.1.numbered) q.2));
   }
 
+-- where no way leads back from each of the row, none does from the row
+pub nowhere_each : (now : List Patch) (b : ℕ) (row : List ℕ) → ((n : ℕ) → Contains row n → LeadsNowhere now b (n ∷ [])) → LeadsNowhere now b row
+nowhere_each now b row each = record {
+  straight = λ u. (each u.0 u.1).straight (u.0, Contains-from_In (u.0 ∷ []) u.0 (inl refl), u.2);
+  open_ended = λ u. (each u.0 u.1).open_ended (u.0, Contains-from_In (u.0 ∷ []) u.0 (inl refl), u.2);
+}
+
+-- none does from an open gate where none does from what it depends on
+module _ (heads : List Head) (rising : HeadsRise heads) (b n : ℕ) (gate : Patch) (head : Contains (patches_of heads) gate) (numbered : gate.number ≡ n) (opened : IsOpenGate gate) where
+  same_gate : (p : Patch) → Contains (patches_of heads) p → p.number ≡ n → p ≡ gate
+  same_gate p h e = same_number (patches_of heads) p gate (rising_patches heads rising) h head (e ∙ sym numbered)
+
+  no_change : (p : Patch) (d : ℕ) → Contains (patches_of heads) p → p.number ≡ n → IsOn p d → ⊥
+  no_change p d h e on = let own = sym (ap (λ k. block_of_kind k) (ap (λ r. r.kind) (same_gate p h e) ∙ opened)) ∙ on in cc
+
+  -- what is below the gate is at or below what it directly depends on
+  down : (P : ℕ → Type 0) → (P n → ⊥) → HasUnder (patches_of heads) (n ∷ []) P → HasUnder (patches_of heads) gate.dependencies P
+  down P none u =
+      let here = only_in n u.0 u.1 in
+      elim u.2 [
+        | inl p ↦ absurd (none (subst P (sym here) p))
+        | inr below ↦
+            let first = first_step u.0 below.0 below.1 in
+            let direct = first.1 in
+            let named = subst (λ (r : Patch). Contains r.dependencies first.0) (same_gate direct.patch direct.head (direct.numbered ∙ sym here)) direct.named in
+            (first.0, named, elim first.2 [ inl e ↦ inl (subst P (sym e) below.2) | inr c ↦ inr (below.0, c, below.2) ])
+      ]
+
+  pub gate_nowhere : LeadsNowhere (patches_of heads) b gate.dependencies → LeadsNowhere (patches_of heads) b (n ∷ [])
+  gate_nowhere leads = record {
+    straight = λ u. leads.straight (down (IsReturning (patches_of heads) b) (λ q. no_change q.away q.away_on q.head q.numbered q.change) u);
+    open_ended = λ u. leads.open_ended (down (IsLeading (patches_of heads) b) (λ q. no_change q.patch q.block q.head q.numbered q.change) u);
+  }
+
 -- the same of heads, by what is pending of the row
 module _ (heads : List Head) (blocks : ℕ) (rising : HeadsRise heads) (D : IsOnDiskWithAll (patches_of heads)) (S : AreSettled (nodes_of heads) blocks) (b : ℕ) (row : List ℕ) where
   heads_nowhere : ((n : ℕ) → Contains row n → IsLow b (pending_in (nodes_of heads) n)) → LeadsNowhere (patches_of heads) b row
   heads_nowhere all = rw (← patches_in_nodes heads)
       (own_nowhere (nodes_of heads) blocks (rw (patches_in_nodes heads) (rising_patches heads rising)) (rw (patches_in_nodes heads) D) S b row all)
+
+  pub own_number_nowhere : (n : ℕ) → row ≡ n ∷ [] → IsLow b (pending_in (nodes_of heads) n) → LeadsNowhere (patches_of heads) b row
+  own_number_nowhere n e low = heads_nowhere (λ m h. subst (λ k. IsLow b (pending_in (nodes_of heads) k)) (only_in n m (subst (λ ns. Contains ns m) e h)) low)
 
   pub nothing_nowhere : joined (pending_in (nodes_of heads)) row ≡ pending.Nothing → LeadsNowhere (patches_of heads) b row
   nothing_nowhere e = heads_nowhere (λ n h. inl (joined_nothing (pending_in (nodes_of heads)) row e n h))

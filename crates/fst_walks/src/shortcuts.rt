@@ -1,13 +1,14 @@
 //! What tells the grade of a new change at once, from the patches near its row. A search over all patches decides only
 //! where none of this does: a change behind a gate, a chain on one block and a chain over a few blocks need none.
 
-ghost use Rattle.std.specs.Prelude.{◌≡◌, ◌≤◌, ◌<◌, ◌↔◌, ◌&&◌, ℕ, List, IsTrue, IfSome, Contains, length};
+ghost use Rattle.std.specs.Prelude.{◌≡◌, ◌⊎◌, ◌≤◌, ◌<◌, ◌↔◌, ◌&&◌, ◌∷◌, [], ℕ, List, IsTrue, IfSome, Contains, length};
 ghost use Rattle.fst_types.specs.Closure.{IsAcyclic};
 ghost use Rattle.fst_types.specs.Dependencies.{DirectlyOn};
 ghost use Rattle.fst_types.specs.Facts.{IsOnDiskWithAll};
 ghost use Rattle.fst_types.specs.declared.place.Place.TheVariants as place;
 ghost use Rattle.fst_types.specs.Gates.{IsOpenNumber};
 ghost use Rattle.fst_types.specs.Tests.{is_change_at};
+ghost use Rattle.fst_heads.specs.declared.pending.Pending.TheVariants as pending;
 ghost use Rattle.fst_heads.specs.declared.test.Test.TheVariants as test;
 ghost use Rattle.fst_heads.specs.Heads.{IsRising, kind_of, patch_of, patches_of};
 ghost use Rattle.fst_heads.specs.Marks.{PassesAt};
@@ -18,11 +19,11 @@ ghost use Rattle.fst_heads.specs.Nodes.{nodes_of, AreSettled};
 
 use crate::sight::Sight;
 use fst_heads::choice::is_hard;
-use fst_heads::head::Head;
+use fst_heads::head::{Head, Kind};
 use fst_heads::marks::slot_of;
 use fst_heads::pending::{Pending, is_pending};
 use fst_heads::places::is_change_at;
-use fst_heads::row::row_sums;
+use fst_heads::row::{pending_at, row_sums};
 use fst_heads::test::{Test, passes};
 use fst_types::Place;
 
@@ -55,19 +56,55 @@ pub fn waits_for_gate(heads: &[Head], row: &[u32]) -> bool
     is_pending(row_sums(heads, row).joined(), Pending::Held)
 }
 
-/// Whether nothing but changes of the block is pending of the row. Then no change of another block that is not on disk lies
-/// below it, and no way leads from it back to the block.
+// Whether that is nothing, or changes of the block alone.
+fn is_own(told: Pending, block: u32) -> bool
+    ensures { IsTrue result → (told ≡ pending.Nothing) ⊎ (told ≡ pending.Block block) }
+{
+    match told {
+        Pending::Nothing => true,
+        Pending::Block(other) => other == block,
+        Pending::Apart | Pending::Held => false,
+    }
+}
+
+// Whether nothing but changes of the block is pending of the patch with the number, or, where it is an open gate, of what it
+// depends on: a group's first change comes after such a one.
+fn waits_for_own(heads: &[Head], block: u32, number: u32) -> bool
+    requires rising { IsRising heads.now }
+    requires disk { IsOnDiskWithAll (patches_of heads.now) }
+    requires settled { (blocks : ℕ) × AreSettled (nodes_of heads.now) blocks }
+    ensures { IsTrue result → LeadsNowhere (patches_of heads.now) block (number ∷ []) }
+{
+    if is_own(pending_at(heads, number), block) {
+        return true;
+    }
+    let Some(slot) = slot_of(heads, number) else {
+        return false;
+    };
+    let head = &heads[slot];
+    match head.kind {
+        Kind::OpenGate => {
+            let below = row_sums(heads, head.dependencies.as_slice());
+            is_own(below.joined(), block)
+        }
+        Kind::Change(_, _, _) | Kind::Empty | Kind::SealedGate => false,
+    }
+}
+
+/// Whether nothing but changes of the block is pending of the row, where open gates count as sealed. Then no change of
+/// another block that is not on disk lies below it, and no way leads from it back to the block.
 pub fn waits_for_own_block(heads: &[Head], block: u32, row: &[u32]) -> bool
     requires rising { IsRising heads.now }
     requires disk { IsOnDiskWithAll (patches_of heads.now) }
     requires settled { (blocks : ℕ) × AreSettled (nodes_of heads.now) blocks }
     ensures { IsTrue result → LeadsNowhere (patches_of heads.now) block row.now }
 {
-    match row_sums(heads, row).joined() {
-        Pending::Nothing => true,
-        Pending::Block(other) => other == block,
-        Pending::Apart | Pending::Held => false,
+    for number in row {
+        if !waits_for_own(heads, block, *number) {
+            return false;
+        }
     }
+    true
 }
 
 // Whether the patch is a hard change of the block in memory.

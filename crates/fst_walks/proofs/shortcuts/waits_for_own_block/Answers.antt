@@ -1,20 +1,19 @@
-use Rattle.std.proofs.Common.{◌∙◌, ap}
-use Rattle.std.proofs.lemmas.Bool.{eqb-true}
-use Rattle.fst_heads.specs.Nodes.{nodes_of}
-use Rattle.fst_walks.proofs.{Held.summed_row, OwnBlock.{nothing_nowhere, block_nowhere}}
-use Rattle.fst_heads.specs.declared.pending.Pending.TheVariants as pending
+use Rattle.std.proofs.Common.{[], ◌∷◌, Contains, get_or, subst, sym, take, arith, inl, inr}
+use Rattle.std.proofs.lemmas.{List.{take_all, take_more}, List.Elements.Contains-push_cases}
+use Rattle.fst_heads.specs.{Grading.LeadsNowhere, Heads.patches_of}
+use Rattle.fst_walks.proofs.OwnBlock.{nowhere_each}
 use Rattle.fst_walks.proofs.shortcuts.waits_for_own_block.Goals as goal
 
-pub returns-in-Nothing : goal.returns-in-Nothing
-returns-in-Nothing c yes_it =
-    let heads = c.args.heads.now in
+pub loop-number-preserved : goal.loop-number-preserved
+loop-number-preserved c n k =
     let row = c.args.row.now in
-    let said = summed_row (nodes_of heads) row c.row_sums.result c.joined.result c.row_sums.ensures.sums c.joined.ensures in
-    nothing_nowhere heads c.requires.settled.0 c.requires.rising c.requires.disk c.requires.settled.1 c.args.block row (said ∙ c.in-Nothing.is)
+    let at = c.loop-number.number-index in
+    elim (Contains-push_cases (take at row) (get_or row at 0) n (subst (λ ns. Contains ns n) (take_more row at 0 c.loop-number-test.true) k)) [
+      | inl old ↦ c.loop-number.invariant n old
+      | inr new ↦ subst (λ m. LeadsNowhere (patches_of c.args.heads.now) c.args.block (m ∷ [])) new (c.waits_for_own.ensures c.if-not-waits_for_own.false)
+    ]
 
-pub returns-in-Block : goal.returns-in-Block
-returns-in-Block c own =
-    let heads = c.args.heads.now in
+pub returns : goal.returns
+returns c yes_it =
     let row = c.args.row.now in
-    let said = summed_row (nodes_of heads) row c.row_sums.result c.joined.result c.row_sums.ensures.sums c.joined.ensures in
-    block_nowhere heads c.requires.settled.0 c.requires.rising c.requires.disk c.requires.settled.1 c.args.block row (said ∙ (c.in-Block.is ∙ ap pending.Block (eqb-true c.in-Block.other c.args.block own)))
+    nowhere_each (patches_of c.args.heads.now) c.args.block row (λ n k. c.loop-number.invariant n (subst (λ ns. Contains ns n) (sym (take_all c.loop-number.number-index row (omega (arith, c.loop-number-test.false)))) k))
