@@ -25,7 +25,7 @@ use fst_heads::choice::{first_held, ready_set};
 use fst_heads::cover::{Cover, empty_covers};
 use fst_heads::head::Head;
 use fst_heads::lists::{Listed, empty_lists, land_block};
-use fst_heads::marks::{marks_if, slot_of};
+use fst_heads::marks::marks_if;
 use fst_heads::places::{block_of, keep_live, launch_all};
 use fst_heads::row::is_given;
 use fst_heads::standing::{
@@ -142,7 +142,7 @@ impl Sparse {
         if !is_given(self.numbers, no.0) {
             return None;
         }
-        match slot_of(&self.heads, no.0) {
+        match self.levels.find(&self.heads, no.0) {
             Some(slot) => Some(self.heads[slot].place),
             None => Some(Place::Disk),
         }

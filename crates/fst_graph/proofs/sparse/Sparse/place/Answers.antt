@@ -4,8 +4,11 @@ use Rattle.fst_heads.proofs.Slots.{patch_at, none_slot, slot_in, patch_slot}
 use Rattle.fst_graph.proofs.{PlaceOf.{place_found, place_lost}, Sound.rising_sound}
 use Rattle.fst_graph.proofs.sparse.Sparse.place.Goals as goal
 
-pub slot_of-requires : goal.slot_of-requires
-slot_of-requires c = rw c.deref.ensures.value (rising_sound c.self.invariant)
+pub find-requires-clause-rising : goal.find-requires-clause-rising
+find-requires-clause-rising c = rw c.deref.ensures.value (rising_sound c.self.invariant)
+
+pub find-requires-clause-aligned : goal.find-requires-clause-aligned
+find-requires-clause-aligned c = rw c.deref.ensures.value c.self.invariant.leveled.aligned
 
 pub returns-in-Some : goal.returns-in-Some
 returns-in-Some c =

@@ -1,0 +1,262 @@
+#!/usr/bin/env python3
+"""Scripts of calls again and again over much that is not on disk, and the processor seconds that `feather play` takes.
+
+    benchmarks/calls.py [--beside PROGRAM] [--only NAME[,NAME]] [PROGRAM]
+
+For whoever changes what a call looks at: `forget` after each write, a write that is refused each time, a write that leaves
+30,000 changes of its block out, groups that are put after one another before they have a change, patches after old ones
+where others between were forgotten. What looks at all that is there once a call is slow here, and nowhere else. With
+--beside a second program plays the same script: it is to give the same replies, and the line ends in `slow` where PROGRAM
+takes three times as long. PROGRAM is the program as `rt build` or `./feather` leaves it; without it `./feather` is used,
+which builds it once.
+"""
+
+import argparse
+import os
+import random
+import sys
+import tempfile
+
+from shapes import ROOT, played
+
+
+class Script:
+    """The lines so far, how many numbers were given, and the ticket of the last write."""
+
+    def __init__(self, blocks, size=4096, resident=None):
+        self.dice, self.lines, self.given, self.ticket = random.Random(1), [], 0, 0
+        self.words = ["--blocks", str(blocks), "--size", str(size)]
+        if resident:
+            self.words += ["--resident", str(resident)]
+
+    def line(self, text):
+        self.lines.append(text)
+
+    def patch(self, block, at, after=()):
+        names = ",".join(map(str, sorted(set(after))))
+        self.line('{"do":"patch","block":%d,"at":%d,"data":"41"%s}' % (block, at, ',"after":[%s]' % names if names else ""))
+        self.given += 1
+        return self.given
+
+    def gate(self):
+        self.line('{"do":"gate"}')
+        self.given += 1
+        return self.given
+
+    def depend(self, gate, name):
+        self.line('{"do":"depend","gate":%d,"on":[%d]}' % (gate, name))
+
+    def ask(self, call, **members):
+        self.line('{"do":"%s"%s}' % (call, "".join(',"%s":%d' % it for it in members.items())))
+
+    def write(self, block):
+        """A write that is not refused, and its completion."""
+        self.ask("write", block=block)
+        self.ticket += 1
+        self.ask("done", ticket=self.ticket)
+
+    def held(self, count, block=0, blocks=1):
+        """So many changes behind an open gate."""
+        gate = self.gate()
+        for i in range(count):
+            self.patch(block + i % blocks, i // blocks % 2048, [gate])
+
+    def group(self, after=None):
+        self.ask("group")
+        head, self.given = self.given + 1, self.given + 2
+        if after:
+            self.ask("group_after", group=head, on=after)
+        return head
+
+    def member(self, group, block, at):
+        self.line('{"do":"group_patch","group":%d,"block":%d,"at":%d,"data":"41"}' % (group, block, at))
+        self.given += 1
+
+
+def forget_each():
+    """`forget` after each write, over 40,000 changes of 4,096 blocks."""
+    made = Script(4096)
+    blocks = [i % 4096 for i in range(40_000)]
+    made.dice.shuffle(blocks)
+    for block in blocks:
+        made.patch(block, made.dice.randrange(4096))
+    for block in range(1000):
+        made.write(block)
+        made.ask("forget")
+    return made
+
+
+def forget_few():
+    """A patch, its write and `forget`, over 3,000 changes that wait for a gate."""
+    made = Script(128)
+    made.held(3000, 0, 64)
+    for i in range(20_000):
+        made.patch(64 + i % 64, i % 4096)
+        made.write(64 + i % 64)
+        made.ask("forget")
+    return made
+
+
+def forget_nothing():
+    """`forget` after each tenth patch, while nothing is on disk."""
+    made = Script(64)
+    for i in range(60_000):
+        made.patch(made.dice.randrange(64), made.dice.randrange(4096), [made.dice.randint(max(1, i - 200), i)] if i else [])
+        if i % 10 == 0:
+            made.ask("forget")
+    return made
+
+
+def after_old_ones():
+    """Half of 60,000 changes forgotten, then patches after any old one."""
+    made = Script(64)
+    for _ in range(60_000):
+        made.patch(made.dice.randrange(64), made.dice.randrange(4096))
+    for block in range(32):
+        made.write(block)
+    made.ask("forget")
+    for _ in range(30_000):
+        made.patch(made.dice.randrange(64), made.dice.randrange(4096), [made.dice.randint(1, made.given)])
+    return made
+
+
+def places():
+    """`place` of any patch, half of 60,000 being forgotten."""
+    made = Script(64)
+    for _ in range(60_000):
+        made.patch(made.dice.randrange(64), made.dice.randrange(4096))
+    for block in range(32):
+        made.write(block)
+    made.ask("forget")
+    for _ in range(100_000):
+        made.ask("place", patch=made.dice.randint(1, 60_000))
+    return made
+
+
+def write_beside():
+    """A new change of a block written, 30,000 others of which wait for a gate."""
+    made = Script(1)
+    made.held(30_000)
+    for i in range(300):
+        made.patch(0, 2048 + i % 2048)
+        made.write(0)
+    return made
+
+
+def refused():
+    """A write refused each time for a hard change, beside 30,000 that wait for a gate."""
+    made = Script(2)
+    made.held(30_000)
+    made.patch(0, 3000, [made.patch(1, 0)])
+    made.patch(0, 3001)
+    for _ in range(20_000):
+        made.ask("write", block=0)
+    return made
+
+
+def picks():
+    """`pick` while 4,000 blocks wait for a gate and one is written."""
+    made = Script(4096)
+    made.held(4000, 0, 4000)
+    for i in range(20_000):
+        made.patch(4095, i % 4096)
+        made.ask("pick")
+        made.write(4095)
+        made.ask("pick")
+    return made
+
+
+def full():
+    """A block that finds no place in memory, 4,000 others being dirty."""
+    made = Script(4096, 64, 4000)
+    made.held(4000, 0, 4000)
+    for i in range(20_000):
+        made.ask("show", block=4000 + i % 96)
+    return made
+
+
+def groups_ahead():
+    """2,000 groups put after one another first, then ten changes into each."""
+    made = Script(64)
+    groups = []
+    for _ in range(2000):
+        groups.append(made.group())
+    for before, group in zip(groups, groups[1:]):
+        made.ask("group_after", group=group, on=before)
+    for i in range(20_000):
+        made.member(groups[i // 10], made.dice.randrange(64), made.dice.randrange(4096))
+    return made
+
+
+def groups_of_one_block():
+    """A thousand groups of twenty in a chain, all of one block."""
+    made = Script(1)
+    group = None
+    for g in range(1000):
+        group = made.group(group)
+        for i in range(20):
+            made.member(group, 0, (20 * g + i) % 4096)
+        made.ask("group_close", group=group)
+    return made
+
+
+def cycles():
+    """A cycle refused again and again, in a chain of 3,000 open gates."""
+    made = Script(1)
+    gates = [made.gate() for _ in range(3000)]
+    for before, gate in zip(gates, gates[1:]):
+        made.depend(gate, before)
+    for _ in range(3000):
+        made.depend(made.dice.choice(gates[:1500]), made.dice.choice(gates[1500:]))
+    return made
+
+
+def hot():
+    """Half of the changes on one block, each after one of the last 3,000 others."""
+    made = Script(17)
+    others = []
+    for _ in range(60_000):
+        block = 0 if made.dice.random() < 0.5 else made.dice.randint(1, 16)
+        few = others[-3000:] if block == 0 else others
+        number = made.patch(block, made.dice.randrange(4096), [made.dice.choice(few)] if few else [])
+        if block:
+            others.append(number)
+    return made
+
+
+SHAPES = [
+    forget_each, forget_few, forget_nothing, after_old_ones, places, write_beside, refused,
+    picks, full, groups_ahead, groups_of_one_block, cycles, hot,
+]
+
+
+def main():
+    args = argparse.ArgumentParser(description=__doc__, formatter_class=argparse.RawDescriptionHelpFormatter)
+    args.add_argument("--beside", metavar="PROGRAM", help="a second program, whose replies are to be the same")
+    args.add_argument("--only", metavar="NAME[,NAME]", help=", ".join(shape.__name__ for shape in SHAPES))
+    args.add_argument("program", nargs="?", metavar="PROGRAM", default=os.path.join(ROOT, "feather"))
+    known = args.parse_args()
+    only = known.only.split(",") if known.only else [shape.__name__ for shape in SHAPES]
+    bad = 0
+    for shape in [shape for shape in SHAPES if shape.__name__ in only]:
+        made = shape()
+        with tempfile.NamedTemporaryFile("w", suffix=".jsonl") as script:
+            script.write("\n".join([*made.lines, '{"do":"stat"}']) + "\n")
+            script.flush()
+            ours = played(known.program, made.words, script.name)
+            other = played(known.beside, made.words, script.name) if known.beside else None
+        row = f"{shape.__name__}, {len(made.lines)} lines: {ours[0]:.3f} s, {ours[1]:.0f} MB"
+        if other:
+            row += f"; beside {other[0]:.3f} s, {other[1]:.0f} MB"
+        if not ours[2]:
+            row, bad = row + "; FAILED", bad + 1
+        elif other and ours[2] != other[2]:
+            row, bad = row + "; REPLIES DIFFER", bad + 1
+        elif other and ours[0] > 3 * other[0]:
+            row += "; slow"
+        print(row, flush=True)
+    return 1 if bad else 0
+
+
+if __name__ == "__main__":
+    sys.exit(main())
