@@ -5,40 +5,33 @@ use Rattle.fst_types.specs.{Gates.IsOpenNumber, Patches.{Kind, OpenGate, Patch, 
 use Rattle.fst_types.proofs.{Crash.same_number, Finite.{In-from_Contains, Contains-from_In}}
 use Rattle.fst_heads.specs.{Lists.{Entry, entry, entries_on}, Rows.{shares, IsTouched}}
 use Rattle.fst_heads.proofs.Touching.{in_entries, entries_in, touch_entry, entry_touch, touch_parts}
-use Rattle.fst_walks.specs.Descending.{Visits}
+use Rattle.fst_walks.specs.{Descending.Visits, Starting.IsSharing}
 use Rattle.fst_walks.proofs.Visiting.{visits_none, visits_both, visits_same}
 
--- n is the number of an entry that shares a byte
-pub record IsSharing (at len : ℕ) (entries : List Entry) (n : ℕ) : Type 0 where
-  pub entry : Entry
-  pub listed : Contains entries entry
-  pub numbered : entry.number ≡ n
-  pub shared : shares at len entry.at entry.len ≡ true
-
 -- one entry more
-module _ (P : ℕ → Type 0) (at len : ℕ) (done : List Entry) (e : Entry) where
+module _ (at len : ℕ) (done : List Entry) (e : Entry) where
   still : (n : ℕ) → IsSharing at len done n → IsSharing at len (done ++ e ∷ []) n
   still n s = record { entry = s.entry; listed = Contains-append_left done (e ∷ []) s.entry s.listed; numbered = s.numbered; shared = s.shared }
 
-  cases : (n : ℕ) → IsSharing at len (done ++ e ∷ []) n → IsSharing at len done n ⊎ ((e.number ≡ n) × (shares at len e.at e.len ≡ true))
-  cases n s = elim (Contains-push_cases done e s.entry s.listed) [
+  pub sharing_cases : (n : ℕ) → IsSharing at len (done ++ e ∷ []) n → IsSharing at len done n ⊎ ((e.number ≡ n) × (shares at len e.at e.len ≡ true))
+  sharing_cases n s = elim (Contains-push_cases done e s.entry s.listed) [
     | inl old ↦ inl (record { entry = s.entry; listed = old; numbered = s.numbered; shared = s.shared })
     | inr same ↦ inr (ap (λ x. x.number) same ∙ s.numbered, ap (λ x. shares at len x.at x.len) same ∙ s.shared)
   ]
 
-  pub sharing_more : (old mid new : List ℕ) → shares at len e.at e.len ≡ true → Visits (λ n. IsSharing at len done n × P n) old mid → Visits (λ n. (n ≡ e.number) × P n) mid new → Visits (λ n. IsSharing at len (done ++ e ∷ []) n × P n) old new
-  sharing_more old mid new shared v w =
+  pub sharing_more : (P : ℕ → Type 0) (old mid new : List ℕ) → shares at len e.at e.len ≡ true → Visits (λ n. IsSharing at len done n × P n) old mid → Visits (λ n. (n ≡ e.number) × P n) mid new → Visits (λ n. IsSharing at len (done ++ e ∷ []) n × P n) old new
+  sharing_more P old mid new shared v w =
       visits_both (λ n. IsSharing at len done n × P n) (λ n. (n ≡ e.number) × P n) (λ n. IsSharing at len (done ++ e ∷ []) n × P n) old mid new
-      (λ n k. elim (cases n k.0) [ inl before ↦ inl (before, k.1) | inr here ↦ inr (sym here.0, k.1) ])
+      (λ n k. elim (sharing_cases n k.0) [ inl before ↦ inl (before, k.1) | inr here ↦ inr (sym here.0, k.1) ])
       (λ n k. (still n k.0, k.1))
       (λ n k. (record { entry = e; listed = Contains-push done e; numbered = sym k.0; shared = shared }, k.1))
       v w
 
-  pub sharing_skip : (old new : List ℕ) → shares at len e.at e.len ≡ false → Visits (λ n. IsSharing at len done n × P n) old new → Visits (λ n. IsSharing at len (done ++ e ∷ []) n × P n) old new
-  sharing_skip old new none v =
+  pub sharing_skip : (P : ℕ → Type 0) (old new : List ℕ) → shares at len e.at e.len ≡ false → Visits (λ n. IsSharing at len done n × P n) old new → Visits (λ n. IsSharing at len (done ++ e ∷ []) n × P n) old new
+  sharing_skip P old new none v =
       visits_same (λ n. IsSharing at len done n × P n) (λ n. IsSharing at len (done ++ e ∷ []) n × P n) old new
       (λ n k. (still n k.0, k.1))
-      (λ n k. elim (cases n k.0) [ inl before ↦ (before, k.1) | inr here ↦ absurd (false≢true (sym none ∙ here.1)) ])
+      (λ n k. elim (sharing_cases n k.0) [ inl before ↦ (before, k.1) | inr here ↦ absurd (false≢true (sym none ∙ here.1)) ])
       v
 
 pub sharing_none : (P : ℕ → Type 0) (at len : ℕ) (queue : List ℕ) → Visits (λ n. IsSharing at len [] n × P n) queue queue

@@ -1,6 +1,6 @@
 -- What the search for a cycle finds from above.
 use Rattle.std.proofs.Common.{◌≡◌, ◌⊎◌, ◌↔◌, ◌<◌, ◌∙◌, ℕ, List, [], Contains, refl, sym, ap, subst, inl, inr}
-use Rattle.fst_types.specs.{Closure.{Closure, one, join}, Dependencies.DependsOn, Gates.IsOpenNumber, Order.NamesAbove, Patches.Patch}
+use Rattle.fst_types.specs.{Closure.{Closure, one, join}, Dependencies.DependsOn, Gates.IsOpenNumber, Patches.Patch}
 use Rattle.fst_types.proofs.Finite.{Contains-from_In, In, In-from_Contains}
 use Rattle.fst_heads.specs.Nodes.{Node, patches_in, pending_in, AreLinked}
 use Rattle.fst_heads.specs.declared.pending.Pending.{Pending}
@@ -39,9 +39,9 @@ module _ (patches : List Patch) (told : ℕ → Pending) (held : AreHeldByGates 
   goes_up n m (one d) above = one (d, above n (one d))
   goes_up n m (join {q = r} c d) above = join (goes_up r m d above) (goes_up n r c (λ q b. above q (join b d)))
 
-  pub searched_above : (names start met : List ℕ) → Visits (λ n. (n ≡ gate) × (told n ≡ pending.Held)) [] start → ((n : ℕ) → Contains met n ↔ IsLedFrom (IsNextAbove patches told) start n)
-      → ((n : ℕ) × Contains names n × Contains met n) ↔ NamesAbove patches gate names
-  searched_above names start met starts led = (λ a. (a.0, a.1, from a.0 a.2), λ a. (a.0, a.1, to a.0 a.2))
+  pub searched_above : (Start : ℕ → Type 0) (start met : List ℕ) → Visits (λ n. (n ≡ gate) × (told n ≡ pending.Held)) [] start → ((n : ℕ) → Contains met n ↔ IsLedFrom (IsNextAbove patches told) start n)
+      → ((n : ℕ) × Start n × Contains met n) ↔ ((n : ℕ) × Start n × ((n ≡ gate) ⊎ DependsOn patches n gate))
+  searched_above Start start met starts led = (λ a. (a.0, a.1, from a.0 a.2), λ a. (a.0, a.1, to a.0 a.2))
     where
       begun : (n : ℕ) → Contains start n → n ≡ gate
       begun n c = elim (starts.only n c) [ inl none ↦ absurd (none_in n none) | inr k ↦ k.0 ]

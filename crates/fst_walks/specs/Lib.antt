@@ -1,4 +1,5 @@
 pub mod Searching
+pub mod Starting
 pub mod Descending
 pub mod WayBack
 pub mod Walks

@@ -1,8 +1,8 @@
-//! The search for a cycle: whether an open gate, or what depends on it, is among the names that the gate is to depend on.
-//! All on a way down to an open gate waits for one, so that the search looks at nothing else, at each such patch once, and
-//! is left out where nothing depends on the gate, or no name waits for an open gate. Mostly one end has far less around it
-//! than the other: so it is looked for from above (`cycle_above`) and from below by turns, each time at eight times as many
-//! patches, until one of them has looked at all there are.
+//! The search for a cycle: whether an open gate, or what depends on it, is among the patches that the gate is to depend on
+//! (`starts`). All on a way down to an open gate waits for one, so that the search looks at nothing else, at each such patch
+//! once, and is left out where nothing depends on the gate, or no name waits for an open gate. Mostly one end has far less
+//! around it than the other: so it is looked for from above (`cycle_above`) and from below by turns, each time at eight times
+//! as many patches, until one of them has looked at all there are.
 
 ghost use Rattle.std.specs.Prelude.{◌≡◌, ◌↔◌, ◌<◌, ℕ, false, length, Contains, IfNone, IfSome, IsTrue};
 ghost use Rattle.fst_types.specs.Gates.{IsOpenNumber};
@@ -14,10 +14,12 @@ ghost use Rattle.fst_heads.specs.Names.{numbers_of};
 ghost use Rattle.fst_heads.specs.Marks.{HasSlot};
 ghost use Rattle.fst_heads.specs.Nodes.{AreLinked, nodes_of, pending_in};
 ghost use Rattle.fst_walks.specs.Searching.{IsNextHeld, TellsGates};
+ghost use Rattle.fst_walks.specs.Starting.{StartsAbove};
 ghost use Rattle.fst_walks.specs.Walks.{numbers_met};
 
-use crate::cycle_above::names_above;
+use crate::cycle_above::starts_above;
 use crate::descent::{is_visited, visit};
+use crate::starts::{Starts, visit_starts};
 use crate::walk::Walk;
 use fst_heads::head::Head;
 use fst_heads::pending::{Pending, is_pending};
@@ -39,19 +41,6 @@ pub fn visit_held(heads: &[Head], walk: &mut Walk, number: u32)
 {
     if is_pending(pending_at(heads, number), Pending::Held) {
         visit(heads, walk, number);
-    }
-}
-
-// Visits those of the names that wait for an open gate.
-fn visit_names(heads: &[Head], walk: &mut Walk, names: &[PatchNo])
-    requires rising { IsRising heads.now }
-    requires visited { Visited heads.now walk.old }
-    requires gates { TellsGates heads.now }
-    ensures visited { Visited heads.now walk.new }
-    ensures visits { Visits (λ n. Contains (numbers_of names.now) n × (pending_in (nodes_of heads.now) n ≡ pending.Held)) (numbers_met heads.now walk.old) (numbers_met heads.now walk.new) }
-{
-    for name in names {
-        visit_held(heads, walk, name.0);
     }
 }
 
@@ -105,25 +94,25 @@ pub fn search_down(heads: &[Head], walk: &mut Walk)
     let _ = search_within(heads, walk, usize::MAX);
 }
 
-// Whether one of the names is the gate or depends on it, or none where more than so many patches would have to be looked
+// Whether one of the starts is the gate or depends on it, or none where more than so many patches would have to be looked
 // at.
-fn names_reach(
+fn starts_reach(
     heads: &[Head],
     walk: &mut Walk,
     gate: u32,
-    names: &[PatchNo],
+    starts: Starts<'_>,
     most: usize,
 ) -> Option<bool>
     requires rising { IsRising heads.now }
     requires long { length walk.old.marks ≡ length heads.now }
     requires gates { TellsGates heads.now }
     requires is_open { IsOpenNumber (patches_of heads.now) gate }
-    ensures reaches { IfSome result (λ reach. IsTrue reach ↔ NamesAbove (patches_of heads.now) gate (numbers_of names.now)) }
+    ensures reaches { IfSome result (λ reach. IsTrue reach ↔ StartsAbove (patches_of heads.now) gate starts.entry) }
     ensures decided { IfNone result (most < 18446744073709551615) }
     ensures long { length walk.new.marks ≡ length heads.now }
 {
     walk.clear();
-    visit_names(heads, walk, names);
+    visit_starts(heads, walk, starts);
     if !search_within(heads, walk, most) {
         return None;
     }
@@ -131,11 +120,11 @@ fn names_reach(
 }
 
 // The same from both ends, one after the other.
-fn names_meet(
+fn starts_meet(
     heads: &[Head],
     walk: &mut Walk,
     gate: u32,
-    names: &[PatchNo],
+    starts: Starts<'_>,
     most: usize,
 ) -> Option<bool>
     requires rising { IsRising heads.now }
@@ -143,34 +132,35 @@ fn names_meet(
     requires linked { AreLinked (nodes_of heads.now) }
     requires gates { TellsGates heads.now }
     requires is_open { IsOpenNumber (patches_of heads.now) gate }
-    ensures meet { IfSome result (λ meet. IsTrue meet ↔ NamesAbove (patches_of heads.now) gate (numbers_of names.now)) }
+    ensures meet { IfSome result (λ meet. IsTrue meet ↔ StartsAbove (patches_of heads.now) gate starts.entry) }
     ensures long { length walk.new.marks ≡ length heads.now }
 {
-    if let Some(above) = names_above(heads, walk, gate, names, most) {
+    if let Some(above) = starts_above(heads, walk, gate, starts, most) {
         return Some(above);
     }
-    names_reach(heads, walk, gate, names, most)
+    starts_reach(heads, walk, gate, starts, most)
 }
 
-// The same, from either end by turns until one tells.
-fn names_close(heads: &[Head], walk: &mut Walk, gate: u32, names: &[PatchNo]) -> bool
+/// Whether one of the starts is the open gate or depends on it: looked for from either end by turns until one tells. What was
+/// met before does not matter.
+pub fn starts_close(heads: &[Head], walk: &mut Walk, gate: u32, starts: Starts<'_>) -> bool
     requires rising { IsRising heads.now }
     requires long { length walk.old.marks ≡ length heads.now }
     requires linked { AreLinked (nodes_of heads.now) }
     requires gates { TellsGates heads.now }
     requires is_open { IsOpenNumber (patches_of heads.now) gate }
-    ensures close { IsTrue result ↔ NamesAbove (patches_of heads.now) gate (numbers_of names.now) }
+    ensures close { IsTrue result ↔ StartsAbove (patches_of heads.now) gate starts.entry }
     ensures long { length walk.new.marks ≡ length heads.now }
 {
     let mut most = FEW_LOOKS;
     for _ in 0..TRIES {
-        if let Some(closes) = names_meet(heads, walk, gate, names, most) {
+        if let Some(closes) = starts_meet(heads, walk, gate, starts, most) {
             return closes;
         }
         most = most.saturating_mul(8);
     }
     // Without a limit it tells.
-    names_reach(heads, walk, gate, names, usize::MAX).unwrap()
+    starts_reach(heads, walk, gate, starts, usize::MAX).unwrap()
 }
 
 // Whether one of the names is the gate.
@@ -221,5 +211,5 @@ pub fn closes_cycle(
     if !names_held(heads, names) {
         return false;
     }
-    names_close(heads, walk, gate, names)
+    starts_close(heads, walk, gate, Starts::Names(names))
 }

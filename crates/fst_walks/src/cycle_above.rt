@@ -2,19 +2,17 @@
 
 ghost use Rattle.std.specs.Prelude.{◌≡◌, ◌↔◌, ℕ, length, Contains, IfSome, IsTrue};
 ghost use Rattle.fst_types.specs.Gates.{IsOpenNumber};
-ghost use Rattle.fst_types.specs.Order.{NamesAbove};
 ghost use Rattle.fst_heads.specs.Heads.{IsRising, patches_of};
-ghost use Rattle.fst_heads.specs.Names.{numbers_of};
 ghost use Rattle.fst_heads.specs.Nodes.{AreLinked, nodes_of, pending_in};
 ghost use Rattle.fst_walks.specs.Descending.{Visited, IsLedFrom};
 ghost use Rattle.fst_walks.specs.Searching.{IsNextAbove, TellsGates};
+ghost use Rattle.fst_walks.specs.Starting.{StartsAbove};
 ghost use Rattle.fst_walks.specs.Walks.{numbers_met};
 
 use crate::cycle::{visit_held, visit_row};
-use crate::descent::is_visited;
+use crate::starts::{Starts, starts_visited};
 use crate::walk::Walk;
 use fst_heads::head::Head;
-use fst_types::PatchNo;
 
 // Visits all that depends on what was visited, or gives up where it would look at more than so many. Answers whether it
 // visited all.
@@ -41,27 +39,13 @@ fn search_up(heads: &[Head], walk: &mut Walk, most: usize) -> bool
     true
 }
 
-// Whether one of the names was visited.
-fn names_visited(heads: &[Head], walk: &Walk, names: &[PatchNo]) -> bool
-    requires rising { IsRising heads.now }
-    requires long { length walk.now.marks ≡ length heads.now }
-    ensures { IsTrue result ↔ ((n : ℕ) × Contains (numbers_of names.now) n × Contains (numbers_met heads.now walk.now) n) }
-{
-    for name in names {
-        if is_visited(heads, walk, name.0) {
-            return true;
-        }
-    }
-    false
-}
-
-/// Whether one of the names is the open gate or depends on it, or none where more than so many patches would have to be
+/// Whether one of the starts is the open gate or depends on it, or none where more than so many patches would have to be
 /// looked at. What was met before does not matter.
-pub fn names_above(
+pub fn starts_above(
     heads: &[Head],
     walk: &mut Walk,
     gate: u32,
-    names: &[PatchNo],
+    starts: Starts<'_>,
     most: usize,
 ) -> Option<bool>
     requires rising { IsRising heads.now }
@@ -69,7 +53,7 @@ pub fn names_above(
     requires linked { AreLinked (nodes_of heads.now) }
     requires gates { TellsGates heads.now }
     requires is_open { IsOpenNumber (patches_of heads.now) gate }
-    ensures above { IfSome result (λ above. IsTrue above ↔ NamesAbove (patches_of heads.now) gate (numbers_of names.now)) }
+    ensures above { IfSome result (λ above. IsTrue above ↔ StartsAbove (patches_of heads.now) gate starts.entry) }
     ensures long { length walk.new.marks ≡ length heads.now }
 {
     walk.clear();
@@ -77,5 +61,5 @@ pub fn names_above(
     if !search_up(heads, walk, most) {
         return None;
     }
-    Some(names_visited(heads, walk, names))
+    Some(starts_visited(heads, walk, starts))
 }

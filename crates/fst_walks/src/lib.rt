@@ -11,8 +11,9 @@
 //! blocks at or below what the new change depends on (`first_away`), which goes on from a block to what its hard changes
 //! need (`needs`). Where a new hard change would stand over the floor of its block, the floor goes up, with all that stands
 //! over the block (`lift`). *May a gate gain these names, and may a group have this change?* A search goes down from them
-//! through what waits for an open gate (`cycle`, `overlap_cycle`, `other_gates`), and for a gate one goes up from it by
-//! turns (`cycle_above`). *What waits behind a write that is out?* A walk goes up from what flies (`ascent`).
+//! (`starts`) through what waits for an open gate, and by turns one goes up from the gate (`cycle`, `cycle_above`,
+//! `overlap_cycle`). Which gates a row waits for is looked for down alone (`other_gates`). *What waits behind a write that is
+//! out?* A walk goes up from what flies (`ascent`).
 //!
 //! A walk is a value of its own (`walk`), which keeps what it has met, so that each patch is looked at once; it can be
 //! used for walk after walk, each of which begins where nothing was met. What walks look at is one value too (`sight`):
@@ -44,6 +45,7 @@ pub mod other_gates;
 pub mod overlap_cycle;
 pub mod shortcuts;
 pub mod sight;
+pub mod starts;
 pub mod walk;
 pub mod way_down;
 pub mod way_up;

@@ -5,7 +5,7 @@ use Rattle.fst_heads.specs.{Names.numbers_of, Nodes.{nodes_of, pending_in}}
 use Rattle.fst_walks.specs.{Descending.Visits, Walks.numbers_met}
 use Rattle.fst_walks.proofs.Visiting.{visits_next}
 use Rattle.fst_heads.specs.declared.pending.Pending.TheVariants as pending
-use Rattle.fst_walks.proofs.cycle.visit_names.Goals as goal
+use Rattle.fst_walks.proofs.starts.visit_names.Goals as goal
 
 pub loop-name-preserved : goal.loop-name-preserved
 loop-name-preserved c =

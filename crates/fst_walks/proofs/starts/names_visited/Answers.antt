@@ -3,7 +3,7 @@ use Rattle.std.proofs.lemmas.Bool.{cases_lt, false≢true}
 use Rattle.fst_types.specs.declared.number.PatchNo.{PatchNo}
 use Rattle.fst_heads.proofs.{Rows.name_of, Slots.any_default}
 use Rattle.fst_walks.specs.Walks.{numbers_met}
-use Rattle.fst_walks.proofs.cycle_above.names_visited.Goals as goal
+use Rattle.fst_walks.proofs.starts.names_visited.Goals as goal
 
 pub returns : goal.returns
 returns c = (

@@ -1,0 +1,112 @@
+//! Where a search for a cycle starts below: at the patches that a gate is to depend on, or at those that a new change of a
+//! group overlaps. What searches from above looks whether it met one of them.
+
+ghost use Rattle.std.specs.Prelude.{◌≡◌, ◌↔◌, ℕ, length, Contains, IsTrue};
+ghost use Rattle.fst_heads.specs.declared.pending.Pending.TheVariants as pending;
+ghost use Rattle.fst_heads.specs.Heads.{IsRising, patches_of};
+ghost use Rattle.fst_heads.specs.Lists.{entries_of};
+ghost use Rattle.fst_heads.specs.Names.{numbers_of};
+ghost use Rattle.fst_heads.specs.Nodes.{nodes_of, pending_in};
+ghost use Rattle.fst_walks.specs.Descending.{Visited, Visits};
+ghost use Rattle.fst_walks.specs.Searching.{TellsGates};
+ghost use Rattle.fst_walks.specs.Starting.{IsSharing, IsStart};
+ghost use Rattle.fst_walks.specs.Walks.{numbers_met};
+
+use crate::cycle::visit_held;
+use crate::descent::is_visited;
+use crate::walk::Walk;
+use fst_heads::head::Head;
+use fst_heads::lists::Listed;
+use fst_heads::row::shares;
+use fst_types::{PatchNo, Span};
+
+/// The patches where a search for a cycle starts.
+#[derive(Clone, Copy)]
+pub enum Starts<'a> {
+    /// Those with these names.
+    Names(&'a [PatchNo]),
+    /// The listed changes that share a byte with the span.
+    Overlapped(&'a [Listed], Span),
+}
+
+// Visits those of the names that wait for an open gate.
+fn visit_names(heads: &[Head], walk: &mut Walk, names: &[PatchNo])
+    requires rising { IsRising heads.now }
+    requires visited { Visited heads.now walk.old }
+    requires gates { TellsGates heads.now }
+    ensures visited { Visited heads.now walk.new }
+    ensures visits { Visits (λ n. Contains (numbers_of names.now) n × (pending_in (nodes_of heads.now) n ≡ pending.Held)) (numbers_met heads.now walk.old) (numbers_met heads.now walk.new) }
+{
+    for name in names {
+        visit_held(heads, walk, name.0);
+    }
+}
+
+// Visits the listed changes that share a byte with the span and wait for an open gate.
+fn visit_overlapped(heads: &[Head], walk: &mut Walk, list: &[Listed], span: Span)
+    requires rising { IsRising heads.now }
+    requires visited { Visited heads.now walk.old }
+    requires gates { TellsGates heads.now }
+    ensures visited { Visited heads.now walk.new }
+    ensures visits { Visits (λ n. IsSharing span.at span.len (entries_of list.now) n × (pending_in (nodes_of heads.now) n ≡ pending.Held)) (numbers_met heads.now walk.old) (numbers_met heads.now walk.new) }
+{
+    for listed in list {
+        if shares(listed.span, span) {
+            visit_held(heads, walk, listed.number);
+        }
+    }
+}
+
+/// Visits those of the starts that wait for an open gate.
+pub fn visit_starts(heads: &[Head], walk: &mut Walk, starts: Starts<'_>)
+    requires rising { IsRising heads.now }
+    requires visited { Visited heads.now walk.old }
+    requires gates { TellsGates heads.now }
+    ensures visited { Visited heads.now walk.new }
+    ensures visits { Visits (λ n. IsStart starts.entry n × (pending_in (nodes_of heads.now) n ≡ pending.Held)) (numbers_met heads.now walk.old) (numbers_met heads.now walk.new) }
+{
+    match starts {
+        Starts::Names(names) => visit_names(heads, walk, names),
+        Starts::Overlapped(list, span) => visit_overlapped(heads, walk, list, span),
+    }
+}
+
+// Whether one of the names was visited.
+fn names_visited(heads: &[Head], walk: &Walk, names: &[PatchNo]) -> bool
+    requires rising { IsRising heads.now }
+    requires long { length walk.now.marks ≡ length heads.now }
+    ensures { IsTrue result ↔ ((n : ℕ) × Contains (numbers_of names.now) n × Contains (numbers_met heads.now walk.now) n) }
+{
+    for name in names {
+        if is_visited(heads, walk, name.0) {
+            return true;
+        }
+    }
+    false
+}
+
+// Whether a listed change that shares a byte with the span was visited.
+fn overlapped_visited(heads: &[Head], walk: &Walk, list: &[Listed], span: Span) -> bool
+    requires rising { IsRising heads.now }
+    requires long { length walk.now.marks ≡ length heads.now }
+    ensures { IsTrue result ↔ ((n : ℕ) × IsSharing span.at span.len (entries_of list.now) n × Contains (numbers_met heads.now walk.now) n) }
+{
+    for listed in list {
+        if shares(listed.span, span) && is_visited(heads, walk, listed.number) {
+            return true;
+        }
+    }
+    false
+}
+
+/// Whether one of the starts was visited.
+pub fn starts_visited(heads: &[Head], walk: &Walk, starts: Starts<'_>) -> bool
+    requires rising { IsRising heads.now }
+    requires long { length walk.now.marks ≡ length heads.now }
+    ensures { IsTrue result ↔ ((n : ℕ) × IsStart starts.entry n × Contains (numbers_met heads.now walk.now) n) }
+{
+    match starts {
+        Starts::Names(names) => names_visited(heads, walk, names),
+        Starts::Overlapped(list, span) => overlapped_visited(heads, walk, list, span),
+    }
+}
