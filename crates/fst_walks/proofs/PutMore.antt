@@ -1,10 +1,15 @@
 -- What a block needs grows by one number and by a row.
-use Rattle.std.proofs.Common.{◌≡◌, ◌≢◌, ◌++◌, ◌∷◌, ◌∙◌, [], ℕ, List, length, Contains, refl, sym, subst, inl, inr}
+use Rattle.std.proofs.Common.{◌≡◌, ◌≢◌, ◌++◌, ◌∷◌, ◌∙◌, [], ℕ, List, map, length, Contains, refl, sym, subst, inl, inr}
 use Rattle.std.proofs.lemmas.List.Elements.{Contains-push_cases, Contains-push, Contains-append_left}
 use Rattle.fst_types.specs.{Patches.Patch}
 use Rattle.fst_types.specs.declared.grade.Grade.TheVariants as grade
-use Rattle.fst_walks.specs.Needing.{IsPut, IsStoodFor, needs_of}
+use Rattle.std.specs.Global.{Vec}
+use Rattle.fst_walks.specs.{Needing.{IsPut, IsStoodFor, needs_of}, declared.needs.Need.Need}
 use Rattle.fst_types.proofs.SmallStates.{only_in}
+
+-- the numbers of what a block needs
+abbrev pub numbers_in : Vec Need → List ℕ
+numbers_in needs = map (λ (q : Need). q.number) needs.items
 
 -- what stands for a number in a row does so in a longer one
 pub stood_longer : {patches : List Patch} {b q : ℕ} {row longer : List ℕ} → ((n : ℕ) → Contains row n → Contains longer n) → IsStoodFor patches b row q → IsStoodFor patches b longer q

@@ -4,7 +4,7 @@
 //! kept from which a way was seen to lead back to their block, until a write lands: a way stays while patches come to be and
 //! to depend on more, gates are sealed and blocks launched, and a new change over such a change of its block is soft too.
 
-ghost use Rattle.std.specs.Prelude.{◌≡◌, ◌≢◌, ◌≤◌, ◌<◌, ◌+◌, ◌∷◌, [], ℕ, IsTrue, length, Contains, IfOk, OnOk};
+ghost use Rattle.std.specs.Prelude.{◌≡◌, ◌≢◌, ◌≤◌, ◌<◌, ◌+◌, ◌∷◌, [], ℕ, IsTrue, length, map, Contains, IfOk, OnOk};
 ghost use Rattle.fst_types.specs.Closure.{IsAcyclic};
 ghost use Rattle.fst_types.specs.Dependencies.{DirectlyOn};
 ghost use Rattle.fst_types.specs.Facts.{IsOnDiskWithAll};
@@ -12,20 +12,29 @@ ghost use Rattle.fst_types.specs.declared.grade.Grade.TheVariants as grade;
 ghost use Rattle.fst_heads.specs.Grading.{IsHardNumber};
 ghost use Rattle.fst_heads.specs.Heads.{IsRising, patches_of};
 ghost use Rattle.fst_heads.specs.Nodes.{nodes_of, AreSettled};
+ghost use Rattle.fst_walks.specs.declared.needs.Need.{Need};
 ghost use Rattle.fst_walks.specs.Needing.{IsNeeding, IsNoted, IsPut, IsStoodFor, needs_of};
 
 use crate::shortcuts::{is_found, is_hard_in, is_hard_number, waits_for_gate};
 use fst_heads::head::{Head, Kind};
 use fst_heads::marks::slot_of;
+use fst_heads::places::block_of;
 use fst_types::Grade;
 use std::alloc::{AllocError, Global};
 use std::marker::Model;
 
-/// The numbers for each block. Of one block there is room for so many more. `ways` has, as they rise, the soft changes from
-/// which a way leads back. It takes a list for each block, and 4 bytes for each number.
+/// A patch that a block needs, and if it is a change the block that it is of, so that one is found without a look at its head.
+#[derive(Clone, Copy)]
+pub struct Need {
+    pub number: u32,
+    pub of: Option<u32>,
+}
+
+/// What each block needs. Of one block there is room for so many more. `ways` has, as they rise, the soft changes from which a
+/// way leads back. It takes a list for each block, 12 bytes for each need and 4 for each way.
 #[derive(Drop)]
 pub struct Needs {
-    lists: Vec<Vec<u32>>,
+    lists: Vec<Vec<Need>>,
     block: u32,
     room: usize,
     ways: Vec<u32>,
@@ -34,31 +43,32 @@ pub struct Needs {
 impl Model for Needs {
     ghost use Rattle.std.specs.Prelude.{vec_len, vec_capacity, ◌≤◌, ◌+◌, map, slice_index_or};
     ghost use Rattle.fst_walks.specs.Needing.{Needing};
+    ghost use Rattle.fst_walks.specs.declared.needs.Need.{Need};
 
     ghost Value = { Needing };
 
-    ghost view = { λ n. record { lists = map (λ l. l.items) n.lists.items; block = n.block; room = n.room; ways = n.ways.items } };
+    ghost view = { λ n. record { lists = map (λ l. map (λ (q : Need). q.number) l.items) n.lists.items; block = n.block; room = n.room; ways = n.ways.items } };
 
     ghost invariant = { λ n. slice_index_or (map (λ l. vec_len l) n.lists.items) n.block 0 + n.room ≤ slice_index_or (map (λ l. vec_capacity l) n.lists.items) n.block 0 };
 }
 
-// Whether one of the row is a hard change of the block in memory.
-fn has_hard(heads: &[Head], row: &[u32], block: u32) -> bool
+// Whether one of the needs is a hard change of the block in memory.
+fn has_hard(heads: &[Head], needs: &[Need], block: u32) -> bool
     requires { IsRising heads.now }
-    ensures { IsTrue result → (n : ℕ) × Contains row.now n × IsHardNumber (patches_of heads.now) block n }
+    ensures { IsTrue result → (n : ℕ) × Contains (map (λ (q : Need). q.number) needs.now) n × IsHardNumber (patches_of heads.now) block n }
 {
-    for number in row {
-        if is_hard_number(heads, block, *number) {
+    for need in needs {
+        if need.of == Some(block) && is_hard_number(heads, block, need.number) {
             return true;
         }
     }
     false
 }
 
-// Whether the patch with the number is a hard change in memory for which one of the row stands, or of that block itself.
-fn is_stood_for(heads: &[Head], row: &[u32], block: u32, number: u32) -> bool
+// Whether the patch with the number is a hard change in memory for which one of the needs stands, or of that block itself.
+fn is_stood_for(heads: &[Head], needs: &[Need], block: u32, number: u32) -> bool
     requires { IsRising heads.now }
-    ensures { IsTrue result → IsStoodFor (patches_of heads.now) block row.now number }
+    ensures { IsTrue result → IsStoodFor (patches_of heads.now) block (map (λ (q : Need). q.number) needs.now) number }
 {
     let Some(slot) = slot_of(heads, number) else {
         return false;
@@ -70,7 +80,7 @@ fn is_stood_for(heads: &[Head], row: &[u32], block: u32, number: u32) -> bool
     if !is_hard_in(head, of) {
         return false;
     }
-    of == block || has_hard(heads, row, of)
+    of == block || has_hard(heads, needs, of)
 }
 
 impl Needs {
@@ -91,9 +101,9 @@ impl Needs {
     }
 
     /// What the block needs.
-    pub fn of(&self, block: u32) -> &[u32]
+    pub fn of(&self, block: u32) -> &[Need]
         requires { block < length self.now.lists }
-        ensures { result.now ≡ needs_of self.now.lists block }
+        ensures { map (λ (q : Need). q.number) result.now ≡ needs_of self.now.lists block }
     {
         self.lists[block as usize].as_slice()
     }
@@ -125,7 +135,8 @@ impl Needs {
     {
         let list = &mut self.lists[self.block as usize];
         if !is_stood_for(heads, list, self.block, number) {
-            list.push_reserved(number);
+            let of = block_of(heads, number);
+            list.push_reserved(Need { number, of });
             self.room -= 1;
         }
     }

@@ -59,9 +59,11 @@ fn visit_high_needs(sight: &Sight<'_>, walk: &mut Walk, block: u32, least: u32) 
     if sight.levels.floor(block) < least {
         return 0;
     }
-    let row = sight.needs.of(block);
-    visit_high_row(sight, walk, row, least);
-    row.len()
+    let needs = sight.needs.of(block);
+    for need in needs {
+        visit_high(sight, walk, need.number, least);
+    }
+    needs.len()
 }
 
 // From the patch with the number, if it is a change, across its block, unless that was crossed before. Answers how many

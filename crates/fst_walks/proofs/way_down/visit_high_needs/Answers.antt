@@ -1,7 +1,8 @@
-use Rattle.std.proofs.Common.{Contains, sym, subst, arith}
+use Rattle.std.proofs.Common.{◌<◌, None, map, length, take, get_or, Contains, sym, subst, arith}
+use Rattle.std.proofs.lemmas.List.{get_or-map, length-map, take_all, take_more}
 use Rattle.fst_heads.specs.Heads.{patches_of}
-use Rattle.fst_walks.specs.{BothEnds.IsHighNeed, Leveling.level_of, Needing.needs_of, Walks.numbers_met}
-use Rattle.fst_walks.proofs.Visiting.{visits_none, visits_same}
+use Rattle.fst_walks.specs.{BothEnds.{IsHigh, IsHighNeed}, Descending.Visits, declared.needs.Need.Need, Leveling.level_of, Needing.needs_of, Walks.numbers_met}
+use Rattle.fst_walks.proofs.Visiting.{visits_next, visits_none, visits_same}
 use Rattle.fst_walks.proofs.way_down.visit_high_needs.Goals as goal
 
 -- no need is higher than the floor
@@ -16,14 +17,32 @@ returns-then-floor-least-clause-visits c =
     let under = leveled.direct n.0 q n.2 in
     absurd (omega (arith, hard, under, k.1, c.floor.ensures, c.if-floor-least.true)))
 
-pub of-row-requires : goal.of-row-requires
-of-row-requires c = omega (arith, c.requires.block, c.requires.sees.needing.long)
+pub of-needs-requires : goal.of-needs-requires
+of-needs-requires c = omega (arith, c.requires.block, c.requires.sees.needing.long)
+
+pub loop-need-preserved : goal.loop-need-preserved
+loop-need-preserved c =
+    let heads = c.args.sight.now.heads.now in
+    let H = IsHigh (patches_of heads) (level_of c.args.sight.now.levels.now.ranks) c.args.least in
+    let needs = c.of-needs.result.now in
+    let row = map (λ (q : Need). q.number) needs in
+    let i = c.loop-need.need-index in
+    let none : Need = record { number = 0; of = None } in
+    let inside : i < length row = omega (arith, c.loop-need-test.true, length-map needs (λ (q : Need). q.number)) in
+    let same = get_or-map (λ (q : Need). q.number) needs i none 0 c.loop-need-test.true in
+    record {
+      visited = c.visit_high.ensures.visited;
+      visits = rw (take_more row i 0 inside, same) (visits_next H H (take i row) (get_or needs i none).number (numbers_met heads c.args.walk.now) (numbers_met heads c.loop-need.walk) (numbers_met heads c.visit_high.new.walk) (λ m h. h) (λ h. h) c.loop-need.invariant.visits c.visit_high.ensures.visits);
+    }
 
 pub returns-clause-visits : goal.returns-clause-visits
 returns-clause-visits c =
     let sight = c.args.sight.now in
     let heads = sight.heads.now in
-    visits_same _ (IsHighNeed (patches_of heads) (level_of sight.levels.now.ranks) c.args.least (needs_of sight.needs.now.lists) c.args.block) (numbers_met heads c.args.walk.now) (numbers_met heads c.visit_high_row.new.walk)
-    (λ q k. ((subst (λ row. Contains row q) c.of-row.ensures k.0, k.1.0), k.1.1))
-    (λ q k. (subst (λ row. Contains row q) (sym c.of-row.ensures) k.0.0, (k.0.1, k.1)))
-    c.visit_high_row.ensures.visits
+    let H = IsHigh (patches_of heads) (level_of sight.levels.now.ranks) c.args.least in
+    let row = map (λ (q : Need). q.number) c.of-needs.result.now in
+    let all = subst (λ ns. Visits (λ n. Contains ns n × H n) (numbers_met heads c.args.walk.now) (numbers_met heads c.loop-need.walk)) (take_all c.loop-need.need-index row (omega (arith, c.loop-need-test.false, length-map c.of-needs.result.now (λ (q : Need). q.number)))) c.loop-need.invariant.visits in
+    visits_same _ (IsHighNeed (patches_of heads) (level_of sight.levels.now.ranks) c.args.least (needs_of sight.needs.now.lists) c.args.block) (numbers_met heads c.args.walk.now) (numbers_met heads c.loop-need.walk)
+    (λ q k. ((subst (λ ns. Contains ns q) c.of-needs.ensures k.0, k.1.0), k.1.1))
+    (λ q k. (subst (λ ns. Contains ns q) (sym c.of-needs.ensures) k.0.0, (k.0.1, k.1)))
+    all

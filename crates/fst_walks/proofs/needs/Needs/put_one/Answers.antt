@@ -1,7 +1,8 @@
-use Rattle.std.proofs.{Common.{◌∙◌, ◌<◌, ◌++◌, ◌∷◌, [], map, set, length, ap, arith, sym, subst}, lemmas.List.{length-map, length-set}, Math.Seq.map-set_same}
+use Rattle.std.proofs.{Common.{◌∙◌, ◌<◌, ◌++◌, ◌∷◌, [], map, set, length, ap, arith, sym, subst}, lemmas.List.{length-map, length-set, map_push}, Math.Seq.map-set_same}
 use Rattle.fst_heads.specs.Heads.{patches_of}
 use Rattle.fst_walks.specs.Needing.{IsStoodFor, Needing}
-use Rattle.fst_walks.proofs.{OneOfMany.{told_here, told_beside, told_was}, PutMore.{put_stood, put_joins}}
+use Rattle.fst_walks.proofs.{OneOfMany.{told_here, told_beside, told_was}, PutMore.{numbers_in, put_stood, put_joins}}
+use Rattle.fst_walks.specs.declared.needs.Need.{Need}
 use Rattle.fst_walks.proofs.needs.Needs.put_one.Goals as goal
 
 pub invariant_of-self : goal.invariant_of-self
@@ -10,7 +11,7 @@ invariant_of-self c =
     let ls = s.lists.items in
     let was = c.index_mut-list.result.now in
     let new = c.push_reserved.new.self in
-    let lt : s.block < length ls = omega (arith, c.requires.block, ap (λ (v : Needing). v.block) c.self.view_is, ap (λ (v : Needing). length v.lists) c.self.view_is, length-map ls (λ l. l.items)) in
+    let lt : s.block < length ls = omega (arith, c.requires.block, ap (λ (v : Needing). v.block) c.self.view_is, ap (λ (v : Needing). length v.lists) c.self.view_is, length-map ls numbers_in) in
     let len = told_here (λ l. l.len) ls s.block new 0 lt in
     let cap = told_here (λ l. l.cap) ls s.block new 0 lt in
     let was_len = told_was (λ l. l.len) ls s.block was 0 lt c.index_mut-list.ensures.value in
@@ -24,21 +25,21 @@ returns-then-not-is_stood_for-clause-put c =
     let ls = s.lists.items in
     let was = c.index_mut-list.result.now in
     let new = c.push_reserved.new.self in
-    let lt : s.block < length ls = omega (arith, c.requires.block, ap (λ (v : Needing). v.block) c.self.view_is, ap (λ (v : Needing). length v.lists) c.self.view_is, length-map ls (λ l. l.items)) in
+    let lt : s.block < length ls = omega (arith, c.requires.block, ap (λ (v : Needing). v.block) c.self.view_is, ap (λ (v : Needing). length v.lists) c.self.view_is, length-map ls numbers_in) in
     rw (← c.self.view_is)
-    (put_joins (patches_of c.args.heads.now) s.block c.args.number (map (λ l. l.items) ls) (map (λ l. l.items) (set ls s.block new))
-    (length-map (set ls s.block new) (λ l. l.items) ∙ (length-set ls s.block new ∙ sym (length-map ls (λ l. l.items))))
-    (λ k other. told_beside (λ l. l.items) ls s.block new k [] other)
-    (told_here (λ l. l.items) ls s.block new [] lt ∙ (c.push_reserved.ensures.items ∙ ap (λ ns. ns ++ c.args.number ∷ []) (sym (told_was (λ l. l.items) ls s.block was [] lt c.index_mut-list.ensures.value)))))
+    (put_joins (patches_of c.args.heads.now) s.block c.args.number (map numbers_in ls) (map numbers_in (set ls s.block new))
+    (length-map (set ls s.block new) numbers_in ∙ (length-set ls s.block new ∙ sym (length-map ls numbers_in)))
+    (λ k other. told_beside numbers_in ls s.block new k [] other)
+    (told_here numbers_in ls s.block new [] lt ∙ (ap (map (λ (q : Need). q.number)) c.push_reserved.ensures.items ∙ (map_push (λ (q : Need). q.number) was.items _ ∙ ap (λ ns. ns ++ c.args.number ∷ []) (sym (told_was numbers_in ls s.block was [] lt c.index_mut-list.ensures.value))))))
 
 pub returns-else-not-is_stood_for-clause-put : goal.returns-else-not-is_stood_for-clause-put
 returns-else-not-is_stood_for-clause-put c =
     let s = c.self.inside in
     let ls = s.lists.items in
     let was = c.index_mut-list.result.now in
-    let lt : s.block < length ls = omega (arith, c.requires.block, ap (λ (v : Needing). v.block) c.self.view_is, ap (λ (v : Needing). length v.lists) c.self.view_is, length-map ls (λ l. l.items)) in
-    let same = map-set_same (λ l. l.items) ls s.block was was (ap (λ l. l.items) c.index_mut-list.ensures.value) in
-    let row = c.deref.ensures.value ∙ sym (told_was (λ l. l.items) ls s.block was [] lt c.index_mut-list.ensures.value) in
+    let lt : s.block < length ls = omega (arith, c.requires.block, ap (λ (v : Needing). v.block) c.self.view_is, ap (λ (v : Needing). length v.lists) c.self.view_is, length-map ls numbers_in) in
+    let same = map-set_same numbers_in ls s.block was was (ap numbers_in c.index_mut-list.ensures.value) in
+    let row = ap (map (λ (q : Need). q.number)) c.deref.ensures.value ∙ sym (told_was numbers_in ls s.block was [] lt c.index_mut-list.ensures.value) in
     rw (← c.self.view_is, same)
-    (put_stood (patches_of c.args.heads.now) s.block c.args.number (map (λ l. l.items) ls)
+    (put_stood (patches_of c.args.heads.now) s.block c.args.number (map numbers_in ls)
     (subst (λ ns. IsStoodFor (patches_of c.args.heads.now) s.block ns c.args.number) row (c.is_stood_for.ensures c.if-not-is_stood_for.false)))
