@@ -28,24 +28,27 @@ module _ (patches : List Patch) (told : ℕ → Pending) (held : AreHeldByGates 
   abbrev StartsAbove : (ℕ → Type 0) → Type 0
   StartsAbove Start = (n : ℕ) × Start n × ((n ≡ gate) ⊎ DependsOn patches n gate)
 
-  pub searched : (Start : ℕ → Type 0) (start met : List ℕ) → Visits (λ n. Start n × (told n ≡ pending.Held)) [] start → ((n : ℕ) → Contains met n ↔ IsLedFrom (IsNextHeld patches told) start n)
-      → Contains met gate ↔ StartsAbove Start
-  searched Start start met starts led = (from, to)
+  pub searched_led : (Start : ℕ → Type 0) (start : List ℕ) → Visits (λ n. Start n × (told n ≡ pending.Held)) [] start → IsLedFrom (IsNextHeld patches told) start gate ↔ StartsAbove Start
+  searched_led Start start starts = (from, to)
     where
       begun : (n : ℕ) → Contains start n → Start n
       begun n c = elim (starts.only n c) [ inl none ↦ absurd (none_in n none) | inr k ↦ k.0 ]
 
-      from : Contains met gate → StartsAbove Start
-      from c = elim ((led gate).0 c) [
+      from : IsLedFrom (IsNextHeld patches told) start gate → StartsAbove Start
+      from led = elim led [
         | inl first ↦ (gate, begun gate first, inl refl)
         | inr r ↦ (r.0, begun r.0 r.1, inr (steps_down r.0 gate r.2))
       ]
 
-      to : StartsAbove Start → Contains met gate
-      to a = (led gate).1 (elim a.2 [
+      to : StartsAbove Start → IsLedFrom (IsNextHeld patches told) start gate
+      to a = elim a.2 [
         | inl e ↦ inl (subst (Contains start) e (starts.each a.0 (a.1, subst (λ n. told n ≡ pending.Held) (sym e) ((held gate).1 (inl is_open)))))
         | inr d ↦ inr (a.0, starts.each a.0 (a.1, above_held a.0 d), goes_down a.0 gate d ((held gate).1 (inl is_open)) above_held)
-      ])
+      ]
+
+  pub searched : (Start : ℕ → Type 0) (start met : List ℕ) → Visits (λ n. Start n × (told n ≡ pending.Held)) [] start → ((n : ℕ) → Contains met n ↔ IsLedFrom (IsNextHeld patches told) start n)
+      → Contains met gate ↔ StartsAbove Start
+  searched Start start met starts led = let above = searched_led Start start starts in (λ c. above.0 ((led gate).0 c), λ a. (led gate).1 (above.1 a))
 
 -- a name that is the gate, or depends on it
 pub named_held : (patches : List Patch) (gate n : ℕ) → IsOpenNumber patches gate → (n ≡ gate) ⊎ DependsOn patches n gate → IsAbove patches (IsOpenNumber patches) n

@@ -82,18 +82,6 @@ fn search_within(heads: &[Head], walk: &mut Walk, most: usize) -> bool
     true
 }
 
-/// Visits all that the search meets from what was visited on.
-pub fn search_down(heads: &[Head], walk: &mut Walk)
-    requires rising { IsRising heads.now }
-    requires visited { Visited heads.now walk.old }
-    requires gates { TellsGates heads.now }
-    ensures visited { Visited heads.now walk.new }
-    ensures led { (n : ℕ) → Contains (numbers_met heads.now walk.new) n ↔ IsLedFrom (IsNextHeld (patches_of heads.now) (pending_in (nodes_of heads.now))) (numbers_met heads.now walk.old) n }
-{
-    // (without a limit it visits all)
-    let _ = search_within(heads, walk, usize::MAX);
-}
-
 // Whether one of the starts is the gate or depends on it, or none where more than so many patches would have to be looked
 // at.
 fn starts_reach(

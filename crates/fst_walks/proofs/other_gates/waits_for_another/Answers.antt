@@ -1,8 +1,8 @@
 use Rattle.std.proofs.Common.{◌≡◌, ◌↔◌, ℕ, Contains, Some, refl, sym, subst, inl, inr}
 use Rattle.fst_types.specs.{Gates.IsOpenNumber, Order.NamesAbove}
 use Rattle.fst_heads.specs.{Grading.IsOpenBut, Heads.patches_of, Nodes.{nodes_of, pending_in}, declared.pending.Pending.Pending}
-use Rattle.fst_walks.specs.{Descending.Visits, Walks.numbers_met}
-use Rattle.fst_walks.proofs.{Searched.searched, Visiting.none_met}
+use Rattle.fst_walks.specs.{Descending.{IsLedFrom, Visits}, Searching.IsNextHeld, Walks.numbers_met}
+use Rattle.fst_walks.proofs.{Searched.searched_led, Visiting.none_met}
 use Rattle.fst_heads.specs.declared.pending.Pending.TheVariants as pending
 use Rattle.fst_walks.proofs.other_gates.waits_for_another.Goals as goal
 
@@ -15,16 +15,14 @@ returns-clause-waits c =
     let Other = IsOpenBut patches (Some c.args.gate) in
     let start = numbers_met c.args.heads.now c.visit_row.new.walk in
     let starts = subst (λ q. Visits (λ n. Contains row n × (told n ≡ pending.Held)) q start) (none_met heads c.clear.new.self c.clear.ensures.met) c.visit_row.ensures.visits in
-    let met = numbers_met c.args.heads.now c.search_down.new.walk in
-    let said : (n : ℕ) → IsOpenNumber patches n → Contains met n ↔ NamesAbove patches n row = λ n gate.
-    searched patches told c.requires.gates.held n gate (Contains row) start met starts c.search_down.ensures.led in
-    let names = c.meets_other_gate.ensures in (
+    let said : (n : ℕ) → IsOpenNumber patches n → IsLedFrom (IsNextHeld patches told) start n ↔ NamesAbove patches n row = λ n gate. searched_led patches told c.requires.gates.held n gate (Contains row) start starts in
+    let found = c.search_other.ensures.met in (
       λ e.
-          let f = names.0 e in
+          let f = found.0 e in
           let a = (said f.0 f.2.0).0 f.1 in
           (a.0, a.1, elim a.2 [ inl own ↦ inl (subst Other (sym own) f.2) | inr low ↦ inr (f.0, low, f.2) ]),
       λ u. elim u.2 [
-        | inl has ↦ names.1 (u.0, (said u.0 has.0).1 (u.0, u.1, inl refl), has)
-        | inr low ↦ names.1 (low.0, (said low.0 low.2.0).1 (u.0, u.1, inr low.1), low.2)
+        | inl has ↦ found.1 (u.0, (said u.0 has.0).1 (u.0, u.1, inl refl), has)
+        | inr low ↦ found.1 (low.0, (said low.0 low.2.0).1 (u.0, u.1, inr low.1), low.2)
       ],
     )

@@ -1,0 +1,90 @@
+use Rattle.std.proofs.Common.{◌≡◌, ◌∙◌, ◌<◌, ◌≤◌, ◌==◌, ◌&&◌, ℕ, Bool, true, not, List, Some, length, get_or, Contains, refl, sym, ap, subst, inl, inr, arith, eq-eqb, ne_eqb}
+use Rattle.std.proofs.{lemmas.Bool.{and_parts, cases_eq, false≢true}, lemmas.Grind.common_steps, lemmas.List.get_or_append_left, lemmas.List.Elements.Contains-get_or}
+use Rattle.fst_heads.specs.{Grading.IsOpenBut, Heads.{IsRising, patch_of, patches_of}, Marks.HasSlot, Nodes.{nodes_of, pending_in}, Tests.passes}
+use Rattle.fst_heads.specs.{declared.head.Head.Head, declared.pending.Pending.Pending}
+use Rattle.fst_heads.proofs.{Graded.{passes_open, open_passes}, Slots.{any_default, direct_at, named_at}}
+use Rattle.fst_walks.specs.{Descending.Visits, Searching.IsNextHeld, Walks.numbers_met}
+use Rattle.fst_walks.proofs.{Ascended.{climbing_more, climbing_all}, NearRow.{passes_here, here_passes}, Visiting.{long_met, slot_met, visits_same}}
+use Rattle.fst_heads.specs.declared.test.Test.TheVariants as test
+use Rattle.fst_walks.proofs.other_gates.search_other.Goals as goal
+
+-- the head in the slot tells of its number
+module _ (heads : List Head) (rising : IsRising heads) (n s gate : ℕ) (slot : HasSlot heads n s) (d : Head) (is : d ≡ get_or heads s d) (r : Bool) (told : r ≡ (not (d.number == gate) && passes test.Open (patch_of d))) where
+  own : d.number ≡ n
+  own = ap (λ (h : Head). h.number) is ∙ slot.1 d
+
+  said : passes test.Open (patch_of d) ≡ passes test.Open (patch_of (get_or heads s d))
+  said = ap (λ (h : Head). passes test.Open (patch_of h)) is
+
+  other_gate : r ≡ true → IsOpenBut (patches_of heads) (Some gate) n
+  other_gate e =
+      let k = and_parts (not (d.number == gate)) (passes test.Open (patch_of d)) (sym told ∙ e) in (
+        passes_open (patches_of heads) n (passes_here heads rising n s d slot test.Open (sym said ∙ k.1)),
+        λ same. false≢true (sym (ap not (eq-eqb d.number gate (own ∙ same))) ∙ k.0),
+      )
+
+  gate_other : IsOpenBut (patches_of heads) (Some gate) n → r ≡ true
+  gate_other u = told ∙ rw (ne_eqb d.number gate (λ same. u.1 (sym own ∙ same)), said ∙ here_passes heads rising n s d slot test.Open (open_passes (patches_of heads) n u.0)) refl
+
+pub loop-at-smaller : goal.loop-at-smaller
+loop-at-smaller c = omega (arith, c.len.ensures.few, c.loop-at-test.true, c.loop-at.invariant.visited.long)
+
+pub loop-at-init : goal.loop-at-init
+loop-at-init c = grind (arith, common_steps)
+
+pub loop-at-preserved : goal.loop-at-preserved
+loop-at-preserved c =
+    let heads = c.args.heads.now in
+    let walk = c.loop-at.walk in
+    let told : ℕ → Pending = pending_in (nodes_of heads) in
+    let Step = IsNextHeld (patches_of heads) told in
+    let met = numbers_met heads walk in
+    let at = c.loop-at.at in
+    let lt : at < length walk.met = omega (arith, c.loop-at-test.true, c.len.ensures.long) in
+    let inside : at < length met = omega (arith, lt, long_met heads walk) in
+    let n = get_or met at 0 in
+    let s = c.slot-slot.result in
+    let slot = slot_met heads walk at s c.loop-at.invariant.visited.long lt c.slot-slot.ensures.slot c.slot-slot.ensures.inside in
+    let d : Head = c.index-heads-slot.result in
+    let new = numbers_met heads c.visit_row.new.walk in
+    let below = c.as_slice.ensures ∙ ap (λ (h : Head). h.dependencies.items) c.index-heads-slot.is in
+    let next : Visits (Step n) met new =
+    visits_same _ (Step n) met new
+    (λ q k. (direct_at heads n q s d slot (subst (λ row. Contains row q) below k.0), k.1))
+    (λ q k. (subst (λ row. Contains row q) (sym below) (named_at heads n q s d c.requires.rising slot k.0), k.1))
+    c.visit_row.ensures.visits in
+    let same : (j : ℕ) → j < length met → get_or new j 0 ≡ get_or met j 0 = λ j in_met. ap (λ q. get_or q j 0) next.kept.1 ∙ get_or_append_left met next.kept.0 0 j in_met in
+    record {
+      visited = c.visit_row.ensures.visited;
+      climbing = climbing_more Step (numbers_met heads c.args.walk.now) at met new inside c.loop-at.invariant.climbing next;
+      none = λ j up in_new u. elim (cases_eq j at) [
+        | inl here ↦ false≢true (sym c.if-is_other_gate.false ∙ gate_other heads c.requires.rising n s c.args.gate slot d c.index-heads-slot.is _ c.is_other_gate.ensures (subst (IsOpenBut (patches_of heads) (Some c.args.gate)) (ap (λ k. get_or new k 0) here ∙ same at inside) u))
+        | inr before ↦
+            let low : j < at = omega (arith, up, before) in
+            c.loop-at.invariant.none j low (omega (arith, low, inside)) (subst (IsOpenBut (patches_of heads) (Some c.args.gate)) (same j (omega (arith, low, inside))) u)
+      ];
+    }
+
+pub returns-then-is_other_gate-clause-met : goal.returns-then-is_other_gate-clause-met
+returns-then-is_other_gate-clause-met c =
+    let heads = c.args.heads.now in
+    let walk = c.loop-at.walk in
+    let met = numbers_met heads walk in
+    let at = c.loop-at.at in
+    let lt : at < length walk.met = omega (arith, c.loop-at-test.true, c.len.ensures.long) in
+    let n = get_or met at 0 in
+    let s = c.slot-slot.result in
+    let slot = slot_met heads walk at s c.loop-at.invariant.visited.long lt c.slot-slot.ensures.slot c.slot-slot.ensures.inside in
+    (λ e. (n, c.loop-at.invariant.climbing.only n (Contains-get_or met at 0 (omega (arith, lt, long_met heads walk))), other_gate heads c.requires.rising n s c.args.gate slot c.index-heads-slot.result c.index-heads-slot.is _ c.is_other_gate.ensures c.if-is_other_gate.true), λ u. refl)
+
+pub returns-clause-met : goal.returns-clause-met
+returns-clause-met c =
+    let heads = c.args.heads.now in
+    let met = numbers_met heads c.loop-at.walk in
+    let past : length met ≤ c.loop-at.at = omega (arith, c.loop-at-test.false, c.len.ensures.long, long_met heads c.loop-at.walk) in
+    let all = climbing_all (IsNextHeld (patches_of heads) (pending_in (nodes_of heads))) (numbers_met heads c.args.walk.now) c.loop-at.at met past c.loop-at.invariant.climbing in (
+      λ e. cc,
+      λ u.
+          let k = (all u.0).1 u.1 in
+          absurd (c.loop-at.invariant.none k.0 (omega (arith, k.1, past)) k.1 (subst (IsOpenBut (patches_of heads) (Some c.args.gate)) (sym (any_default met k.0 0 u.0 k.1 ∙ k.2)) u.2)),
+    )
