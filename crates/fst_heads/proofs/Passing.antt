@@ -1,7 +1,7 @@
 -- The walk along the list of a block for those of its patches that pass a test.
-use Rattle.fst_heads.proofs.Basics.{◌≡◌, ◌==◌, ◌&&◌, ◌||◌, ℕ, ◌<◌, ◌+◌, Bool, true, false, not, List, [], ◌∷◌, map, filter, drop, length, get_or, refl, sym, ap, ◌∙◌, inr, list_any, cases_Bool, false≢true, drop_more, and_parts, arith}
-use Rattle.fst_heads.proofs.Patches.{In, Contains-from_In, Place, is_at, is_change_at}
-use Rattle.fst_heads.proofs.Words.{is_free_on, is_bound_on, Head, Listed, IsRising, kind_of, patch_of, patches_of, entries_of, entries_on, is_live_on, HasSlot, HasNone, Node, node_of, nodes_of, is_pending, is_ready_on, is_hard_kind}
+use Rattle.fst_heads.proofs.Basics.{length-filter, count_by-le-length, length-map, common_steps, cond, IfNone, IfSome, Option, None, Some, ◌≤◌, ◌++◌, reverse, reverse_onto, map-append, nil_from_length, ◌≡◌, ◌==◌, ◌&&◌, ◌||◌, ℕ, ◌<◌, ◌+◌, Bool, true, false, not, List, [], ◌∷◌, map, filter, drop, length, get_or, refl, sym, ap, ◌∙◌, inr, list_any, cases_Bool, false≢true, drop_more, and_parts, arith}
+use Rattle.fst_heads.proofs.Patches.{PatchNo, In, Contains-from_In, Place, is_at, is_change_at}
+use Rattle.fst_heads.proofs.Words.{numbers_of, is_free_on, is_bound_on, Head, Listed, IsRising, kind_of, patch_of, patches_of, entries_of, entries_on, is_live_on, HasSlot, HasNone, Node, node_of, nodes_of, is_pending, is_ready_on, is_hard_kind}
 use Rattle.fst_heads.proofs.{Listing.{any_none, any_slot, numbers_on}, Slots.any_default}
 use Rattle.fst_heads.proofs.Patches.place
 use Rattle.fst_heads.proofs.Words.pending
@@ -73,3 +73,34 @@ module _ (behind : ℕ → Bool) (b : ℕ) (h d : Head) (n : ℕ) (back r : Bool
 
   pub bound_at : r ≡ (hard h && (more h || back)) → is_bound_on behind b (node_of d) ≡ r
   bound_at e = sym (e ∙ (ap (λ k. hard h && (more h || k)) (told ∙ ap behind (sym number)) ∙ ap (λ k. hard k && (more k || behind d.number)) at))
+
+-- what passes of the list, by its first and by its last
+module _ (t : Node → Bool) (heads : List Head) (rest others : List Listed) (l : Listed) where
+  pub passing_front : rest ≡ l ∷ others → passing t heads rest ≡ cond (passes_at t (nodes_of heads) l.number) (l.number ∷ passing t heads others) (passing t heads others)
+  passing_front e = rw e refl
+
+  pub passing_back : rest ≡ others ++ l ∷ [] → passing t heads rest ≡ passing t heads others ++ cond (passes_at t (nodes_of heads) l.number) (l.number ∷ []) []
+  passing_back e = grind (arith, common_steps, e)
+
+pub passing_few : (t : Node → Bool) (heads : List Head) (list : List Listed) → length (passing t heads list) ≤ length list
+passing_few t heads list = grind (arith, length-filter, count_by-le-length, length-map)
+
+numbers_reversed : (back : List PatchNo) → numbers_of (reverse back) ≡ reverse (numbers_of back)
+numbers_reversed [] = refl
+numbers_reversed (x ∷ xs) = grind (arith, reverse_onto, map-append, numbers_reversed xs)
+
+-- what was found from the front, and, newest first, from the back: that is all, where no more of the middle passes
+pub all_found : (front back : List PatchNo) (middle whole : List ℕ) → numbers_of front ++ (middle ++ reverse (numbers_of back)) ≡ whole → length middle ≤ 0 → numbers_of (front ++ reverse back) ≡ whole
+all_found front back middle whole found few = grind (arith, map-append, numbers_reversed, nil_from_length, found)
+
+-- the number, if there is one, is the first of these
+abbrev pub IsFirst : Option PatchNo → List ℕ → Type 0
+IsFirst None ns = ns ≡ []
+IsFirst (Some p) ns = (others : List ℕ) × (ns ≡ p.0 ∷ others)
+
+-- the first of those found from the back is the first of all, where no more of the middle passes
+pub first_found : (least : Option PatchNo) (middle whole : List ℕ) → (later : List ℕ) × (middle ++ later ≡ whole) × IsFirst least later → length middle ≤ 0
+    → IfNone least (whole ≡ []) × IfSome least (λ p. (others : List ℕ) × (whole ≡ p.0 ∷ others))
+first_found None [] whole found few = (sym found.1 ∙ found.2, tt)
+first_found (Some p) [] whole found few = (tt, (found.2.0, sym found.1 ∙ found.2.1))
+first_found least (n ∷ ns) whole found few = absurd (omega (arith, few))

@@ -1,11 +1,12 @@
 //! Which changes of a block may be written, by the list of the block.
 
-ghost use Rattle.std.specs.Prelude.{◌<◌, ◌≤◌, ◌∷◌, [], ℕ, List, ◌≡◌, ◌&&◌, ◌||◌, not, length, IfOk, IfErr, IfSome, IfNone, option_map};
+ghost use Rattle.std.specs.Prelude.{◌<◌, ◌≤◌, ◌==◌, ◌∷◌, [], ℕ, List, ◌≡◌, ◌&&◌, ◌||◌, not, length, IfOk, IfErr, IfSome, IfNone, option_map};
+ghost use Rattle.std.specs.List.{list_any};
 ghost use Rattle.fst_types.specs.declared.fault.Fault.TheVariants as fault;
 ghost use Rattle.fst_types.specs.declared.place.Place.TheVariants as place;
 ghost use Rattle.fst_types.specs.Tests.{is_change_at};
 ghost use Rattle.fst_heads.specs.declared.pending.Pending.TheVariants as pending;
-ghost use Rattle.fst_heads.specs.Ascending.{free_on, bound_on};
+ghost use Rattle.fst_heads.specs.Ascending.{free_on, is_free_on, bound_on};
 ghost use Rattle.fst_heads.specs.Heads.{IsRising, kind_of, patch_of, patches_of};
 ghost use Rattle.fst_heads.specs.Names.{numbers_of};
 ghost use Rattle.fst_heads.specs.Lists.{entries_of, entries_on};
@@ -20,6 +21,7 @@ use crate::lists::Listed;
 use crate::marks::{is_marked, slot_of};
 use crate::pending::{Pending, is_pending};
 use crate::places::is_change_at;
+use crate::turns::next_in_turn;
 use fst_types::{Fault, Grade, PatchNo, Place};
 use std::alloc::Global;
 
@@ -45,9 +47,21 @@ fn is_free(head: &Head, behind: bool, block: u32) -> bool
         && !behind
 }
 
+// Whether a patch with the number is free in that way.
+fn is_free_at(heads: &[Head], marks: Option<&[bool]>, number: u32, block: u32) -> bool
+    requires rising { IsRising heads.now }
+    requires long { IfSome marks (λ m. length m.now ≡ length heads.now) }
+    ensures { result ≡ list_any (λ x. (x.patch.number == number) && is_free_on (mark_in heads.now (option_map (λ m. m.now) marks.entry)) block x) (nodes_of heads.now) }
+{
+    match slot_of(heads, number) {
+        Some(slot) => is_free(&heads[slot], is_behind(heads, marks, number), block),
+        None => false,
+    }
+}
+
 /// The writable set of a block. The list has the changes of the block that are not on disk; where some are in flight,
-/// there are marks of what is behind them. The set has at most so many changes: where they are found, no others are
-/// looked at.
+/// there are marks of what is behind them. The set has at most so many changes: they are looked for from both ends of the
+/// list, and where they are found, no others are looked at.
 pub fn ready_set(
     alloc: Global,
     heads: &[Head],
@@ -63,21 +77,36 @@ pub fn ready_set(
     ensures ok { IfOk result (λ numbers. numbers_of numbers.items ≡ free_on (mark_in heads.now (option_map (λ m. m.now) marks.entry)) block (nodes_of heads.now)) }
     ensures refused { IfErr result (λ f. (0 < length (free_on (mark_in heads.now (option_map (λ m. m.now) marks.entry)) block (nodes_of heads.now))) × (f ≡ fault.Memory)) }
 {
-    let mut numbers = Vec::new(alloc);
-    for listed in list {
-        if numbers.len() == most {
-            return Ok(numbers);
-        }
-        if let Some(slot) = slot_of(heads, listed.number) {
-            let behind = is_behind(heads, marks, listed.number);
-            if is_free(&heads[slot], behind, block) {
-                let Ok(()) = numbers.push(PatchNo(listed.number)) else {
-                    return Err(Fault::Memory);
-                };
+    let mut front = Vec::new(alloc);
+    // What was found from the end of the list, the newest first.
+    let mut back = Vec::new(alloc);
+    let mut rest = list;
+    let mut left = most;
+    let mut from_back = false;
+    while left > 0 {
+        let Some((listed, others)) = next_in_turn(rest, from_back) else {
+            break;
+        };
+        if is_free_at(heads, marks, listed.number, block) {
+            let no = PatchNo(listed.number);
+            let kept = if from_back {
+                back.push(no)
+            } else {
+                front.push(no)
+            };
+            if kept.is_err() {
+                return Err(Fault::Memory);
             }
+            left -= 1;
         }
+        rest = others;
+        from_back = !from_back;
     }
-    Ok(numbers)
+    back.reverse();
+    match front.append(&mut back) {
+        Ok(()) => Ok(front),
+        Err(_) => Err(Fault::Memory),
+    }
 }
 
 // Whether the patch is a hard change of the block in memory that waits for more, or is behind a flight.

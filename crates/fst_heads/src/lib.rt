@@ -34,3 +34,4 @@ pub mod row;
 pub mod sparse;
 pub mod standing;
 pub mod test;
+pub mod turns;
