@@ -281,11 +281,9 @@ impl Sparse {
         };
         let walk = &mut self.ends.up.walk;
         let flying = mark_flight(&self.heads, list, &self.standings, walk, block.0);
-        if !flying && held_count(&self.standings, block.0) == 0 {
-            return None;
-        }
         let marks = marks_if(flying, self.ends.up.walk.marks());
-        first_held(&self.heads, list, marks, block.0)
+        let held = held_count(&self.standings, block.0);
+        first_held(&self.heads, list, marks, held, block.0)
     }
 
     /// The least writable block, or none where no block is writable. Where nothing is in flight either, each change in

@@ -1,6 +1,6 @@
 -- What the counts of a block say of its patches.
-use Rattle.fst_heads.proofs.Basics.{◌≡◌, ℕ, ◌≤◌, Bool, false, List, [], ◌∷◌, filter, length, count_by, arith, refl, or-false, cases_Bool, length-map, length-filter, nil_from_length, rules, common_steps}
-use Rattle.fst_heads.proofs.Words.{free_on, bound_on, Head, patches_of, flying_on, Node, nodes_of, is_ready_on, is_held_on, is_flying_on, held_on}
+use Rattle.fst_heads.proofs.Basics.{Option, None, Some, is_some, option_map, false≢true, sym, ◌≡◌, ℕ, ◌≤◌, Bool, false, List, [], ◌∷◌, filter, length, count_by, arith, refl, or-false, cases_Bool, length-map, length-filter, common_steps}
+use Rattle.fst_heads.proofs.Words.{mark_in, free_on, bound_on, Head, patches_of, flying_on, Node, nodes_of, is_ready_on, is_held_on, is_flying_on, held_on}
 
 -- what is free is ready
 fewer_free : (behind : ℕ → Bool) (b : ℕ) (nodes : List Node) → length (free_on behind b nodes) ≤ length (filter (is_ready_on b) nodes)
@@ -11,12 +11,18 @@ pub free_few : (behind : ℕ → Bool) (b : ℕ) (nodes : List Node) → length 
 free_few behind b nodes = grind (arith, fewer_free, length-filter)
 
 -- where nothing is behind a flight, what is bound is what is held
-bound_held : (behind : ℕ → Bool) (b : ℕ) (nodes : List Node) → ((n : ℕ) → behind n ≡ false) → bound_on behind b nodes ≡ held_on b nodes
+pub bound_held : (behind : ℕ → Bool) (b : ℕ) (nodes : List Node) → ((n : ℕ) → behind n ≡ false) → bound_on behind b nodes ≡ held_on b nodes
 bound_held behind b [] off = refl
 bound_held behind b (x ∷ xs) off = grind (arith, or-false, cases_Bool, bound_held behind b xs off)
 
-pub none_bound : (behind : ℕ → Bool) (b : ℕ) (nodes : List Node) → ((n : ℕ) → behind n ≡ false) → count_by (is_held_on b) nodes ≡ 0 → bound_on behind b nodes ≡ []
-none_bound behind b nodes off none = search (rules, length-map, length-filter, bound_held, nil_from_length)
+-- nothing is behind a flight where no marks are given
+pub unmarked : {X : Type 0} (heads : List Head) (f : X → List Bool) (marks : Option X) (n : ℕ) → is_some marks ≡ false → mark_in heads (option_map f marks) n ≡ false
+unmarked heads f None n e = refl
+unmarked heads f (Some m) n e = absurd (false≢true (sym e))
+
+-- as many are held as are counted
+pub held_counted : (b : ℕ) (nodes : List Node) → length (held_on b nodes) ≡ count_by (is_held_on b) nodes
+held_counted b nodes = grind (arith, length-map, length-filter)
 
 -- as many fly as are counted
 pub flying_counted : (b : ℕ) (heads : List Head) → length (flying_on b (patches_of heads)) ≡ count_by (is_flying_on b) (nodes_of heads)

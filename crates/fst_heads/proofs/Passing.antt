@@ -1,8 +1,8 @@
 -- The walk along the list of a block for those of its patches that pass a test.
-use Rattle.fst_heads.proofs.Basics.{length-filter, count_by-le-length, length-map, common_steps, cond, IfNone, IfSome, Option, None, Some, ◌≤◌, ◌++◌, reverse, reverse_onto, map-append, nil_from_length, ◌≡◌, ◌==◌, ◌&&◌, ◌||◌, ℕ, ◌<◌, ◌+◌, Bool, true, false, not, List, [], ◌∷◌, map, filter, drop, length, get_or, refl, sym, ap, ◌∙◌, inr, list_any, cases_Bool, false≢true, drop_more, and_parts, arith}
+use Rattle.fst_heads.proofs.Basics.{length-filter, count_by-le-length, length-map, common_steps, cond, IfNone, IfSome, Option, None, Some, ◌≤◌, ◌++◌, reverse, reverse_onto, map-append, nil_from_length, ◌≡◌, ◌==◌, ◌&&◌, ◌||◌, ℕ, Bool, true, not, List, [], ◌∷◌, map, filter, length, refl, sym, ap, ◌∙◌, inr, list_any, cases_Bool, false≢true, and_parts, arith}
 use Rattle.fst_heads.proofs.Patches.{PatchNo, In, Contains-from_In, Place, is_at, is_change_at}
-use Rattle.fst_heads.proofs.Words.{numbers_of, is_free_on, is_bound_on, Head, Listed, IsRising, kind_of, patch_of, patches_of, entries_of, entries_on, is_live_on, HasSlot, HasNone, Node, node_of, nodes_of, is_pending, is_ready_on, is_hard_kind}
-use Rattle.fst_heads.proofs.{Listing.{any_none, any_slot, numbers_on}, Slots.any_default}
+use Rattle.fst_heads.proofs.Words.{numbers_of, is_free_on, is_bound_on, Head, Listed, IsRising, kind_of, patch_of, patches_of, entries_of, entries_on, is_live_on, Node, node_of, nodes_of, is_pending, is_ready_on, is_hard_kind}
+use Rattle.fst_heads.proofs.{Listing.{any_slot, numbers_on}, Slots.any_default}
 use Rattle.fst_heads.proofs.Patches.place
 use Rattle.fst_heads.proofs.Words.pending
 
@@ -30,29 +30,6 @@ module _ (b : ℕ) (t : Node → Bool) (inside : (x : Node) → t x ≡ true →
       ∙ passing_each (passes_at t (nodes_of heads)) heads (λ h i.
       let c = Contains-from_In heads h i in
       any_slot heads h.number c.0 t h rising (c.1, λ d. ap (λ k. k.number) (any_default heads c.0 d h c.1 ∙ c.2)) ∙ ap (λ k. t (node_of k)) c.2)
-
-module _ (t : Node → Bool) (heads : List Head) (list : List Listed) (i : ℕ) (l : Listed) (lt : i < length list) where
-  abbrev n : ℕ
-  n = (get_or list i l).number
-
-  next : map (λ e. e.number) (entries_of (drop i list)) ≡ n ∷ map (λ e. e.number) (entries_of (drop (i + 1) list))
-  next = ap (λ ls. map (λ e. e.number) (entries_of ls)) (drop_more list i l lt)
-
-  -- the next number passes, or not
-  pub passing_yes : passes_at t (nodes_of heads) n ≡ true → passing t heads (drop i list) ≡ n ∷ passing t heads (drop (i + 1) list)
-  passing_yes e = rw (next, e) refl
-
-  pub passing_no : passes_at t (nodes_of heads) n ≡ false → passing t heads (drop i list) ≡ passing t heads (drop (i + 1) list)
-  passing_no e = rw (next, e) refl
-
-  pub passing_absent : HasNone heads n → passing t heads (drop i list) ≡ passing t heads (drop (i + 1) list)
-  passing_absent none = passing_no (any_none heads n t none)
-
-  pub passing_found : (s : ℕ) (d : Head) → IsRising heads → HasSlot heads n s → t (node_of (get_or heads s d)) ≡ true → passing t heads (drop i list) ≡ n ∷ passing t heads (drop (i + 1) list)
-  passing_found s d rising slot e = passing_yes (any_slot heads n s t d rising slot ∙ e)
-
-  pub passing_skip : (s : ℕ) (d : Head) → IsRising heads → HasSlot heads n s → t (node_of (get_or heads s d)) ≡ false → passing t heads (drop i list) ≡ passing t heads (drop (i + 1) list)
-  passing_skip s d rising slot e = passing_no (any_slot heads n s t d rising slot ∙ e)
 
 pub free_listed : (behind : ℕ → Bool) (b : ℕ) (x : Node) → is_free_on behind b x ≡ true → is_live_on b x.patch ≡ true
 free_listed behind b x e = grind (arith, and_parts)

@@ -6,14 +6,14 @@ ghost use Rattle.fst_types.specs.declared.fault.Fault.TheVariants as fault;
 ghost use Rattle.fst_types.specs.declared.place.Place.TheVariants as place;
 ghost use Rattle.fst_types.specs.Tests.{is_change_at};
 ghost use Rattle.fst_heads.specs.declared.pending.Pending.TheVariants as pending;
-ghost use Rattle.fst_heads.specs.Ascending.{free_on, is_free_on, bound_on};
+ghost use Rattle.fst_heads.specs.Ascending.{free_on, is_free_on, bound_on, is_bound_on};
 ghost use Rattle.fst_heads.specs.Heads.{IsRising, kind_of, patch_of, patches_of};
 ghost use Rattle.fst_heads.specs.Names.{numbers_of};
 ghost use Rattle.fst_heads.specs.Lists.{entries_of, entries_on};
 ghost use Rattle.fst_heads.specs.Marks.{mark_in};
 ghost use Rattle.fst_heads.specs.Nodes.{node_of, nodes_of};
 ghost use Rattle.fst_heads.specs.Pendings.{is_pending};
-ghost use Rattle.fst_heads.specs.Standings.{is_ready_on};
+ghost use Rattle.fst_heads.specs.Standings.{is_ready_on, held_on};
 ghost use Rattle.fst_heads.specs.Tests.{is_hard_kind};
 
 use crate::head::{Head, Kind};
@@ -118,29 +118,56 @@ fn is_bound(head: &Head, behind: bool, block: u32) -> bool
         && (!is_pending(head.pending, Pending::Block(block)) || behind)
 }
 
+// Whether a patch with the number is bound in that way.
+fn is_bound_at(heads: &[Head], marks: Option<&[bool]>, number: u32, block: u32) -> bool
+    requires rising { IsRising heads.now }
+    requires long { IfSome marks (λ m. length m.now ≡ length heads.now) }
+    ensures { result ≡ list_any (λ x. (x.patch.number == number) && is_bound_on (mark_in heads.now (option_map (λ m. m.now) marks.entry)) block x) (nodes_of heads.now) }
+{
+    match slot_of(heads, number) {
+        Some(slot) => is_bound(&heads[slot], is_behind(heads, marks, number), block),
+        None => false,
+    }
+}
+
 /// The least hard patch of the block in memory outside its writable set. The list has the changes of the block that are
-/// not on disk; where some are in flight, there are marks of what is behind them.
+/// not on disk; where some are in flight, there are marks of what is behind them. No more hard ones than `held` wait for
+/// more than changes of the block: where nothing is in flight they are looked for from both ends of the list, and where so
+/// many are found, no others are looked at.
 pub fn first_held(
     heads: &[Head],
     list: &[Listed],
     marks: Option<&[bool]>,
+    held: usize,
     block: u32,
 ) -> Option<PatchNo>
     requires rising { IsRising heads.now }
     requires long { IfSome marks (λ m. length m.now ≡ length heads.now) }
     requires listed { entries_of list.now ≡ entries_on block (patches_of heads.now) }
+    requires held { length (held_on block (nodes_of heads.now)) ≤ held }
     ensures none { IfNone result (bound_on (mark_in heads.now (option_map (λ m. m.now) marks.entry)) block (nodes_of heads.now) ≡ []) }
     ensures least { IfSome result (λ no. (rest : List ℕ) × (bound_on (mark_in heads.now (option_map (λ m. m.now) marks.entry)) block (nodes_of heads.now) ≡ no.0 ∷ rest)) }
 {
-    for listed in list {
-        if let Some(slot) = slot_of(heads, listed.number) {
-            let behind = is_behind(heads, marks, listed.number);
-            if is_bound(&heads[slot], behind, block) {
-                return Some(PatchNo(listed.number));
+    // What is behind a flight is not counted: then how many were found from the end says nothing of those before.
+    let mut left = if marks.is_some() { list.len() } else { held };
+    let mut least = None;
+    let mut rest = list;
+    let mut from_back = false;
+    while left > 0 {
+        let Some((listed, others)) = next_in_turn(rest, from_back) else {
+            break;
+        };
+        if is_bound_at(heads, marks, listed.number, block) {
+            least = Some(PatchNo(listed.number));
+            if !from_back {
+                return least;
             }
+            left -= 1;
         }
+        rest = others;
+        from_back = !from_back && marks.is_none();
     }
-    None
+    least
 }
 
 /// Whether it is a hard change.

@@ -1,40 +1,70 @@
-use Rattle.fst_heads.proofs.{Basics.{option_map, ◌∙◌, ◌+◌, ℕ, Bool, drop, get_or, sym}, Words.{Listed, is_bound_on, mark_in}}
-use Rattle.fst_heads.proofs.Passing.{passing, passing_start, passing_found, passing_skip, passing_absent, bound_at, bound_listed}
+use Rattle.fst_heads.proofs.{Basics.{false, ◌≡◌, ◌≤◌, ◌∙◌, ◌∷◌, ◌++◌, ℕ, Bool, [], length, cond, option_map, refl, sym, ap, arith, append-nil, append_assoc, length-append}, Words.{is_bound_on, mark_in, nodes_of}}
+use Rattle.fst_heads.proofs.{Counts.{bound_held, unmarked}, Passing.{passing, passing_few, passing_start, passing_front, passing_back, bound_listed, first_found}}
 use Rattle.fst_heads.proofs.choice.first_held.Goals as goal
-use Rattle.fst_heads.proofs.choice.first_held.Goals.{in-Some+else-is_bound, in_default}
+use Rattle.fst_heads.proofs.choice.first_held.Goals.{then-is_some, else-is_some, then-is_bound_at+else-not-from_back, else-is_bound_at}
 
-pub loop-listed-init : goal.loop-listed-init
-loop-listed-init c =
-    let b = c.args.block in
-    let behind : ℕ → Bool = mark_in c.args.heads.now (option_map (λ m. m.now) c.args.marks) in
-    passing_start b (is_bound_on behind b) (bound_listed behind b) c.args.heads.now c.args.list.now c.requires.rising c.requires.listed
-
-pub returns-then-is_bound-clause-least : goal.returns-then-is_bound-clause-least
-returns-then-is_bound-clause-least c =
+pub loop-left-init : goal.loop-left-init
+loop-left-init c =
     let b = c.args.block in
     let heads = c.args.heads.now in
     let list = c.args.list.now in
-    let i = c.loop-listed.listed-index in
-    let none : Listed = record { number = 0; span = record { at = 0; len = 0 } } in
     let behind : ℕ → Bool = mark_in heads (option_map (λ m. m.now) c.args.marks) in
-    let found = c.in-Some.ensures.found in
-    let passes = bound_at behind b c.index-heads-slot.result (get_or heads c.in-Some.slot c.index-heads-slot.result) (get_or list i none).number c.is_behind-behind.result c.is_bound.result c.index-heads-slot.is (found.1 c.index-heads-slot.result) c.is_behind-behind.ensures c.is_bound.ensures ∙ c.if-is_bound.true in (
-      passing (is_bound_on behind b) heads (drop (i + 1) list),
-      sym c.loop-listed.invariant ∙ passing_found (is_bound_on behind b) heads list i none c.loop-listed-test.true c.in-Some.slot c.index-heads-slot.result c.requires.rising found passes,
-    )
+    let whole = passing_start b (is_bound_on behind b) (bound_listed behind b) heads list c.requires.rising c.requires.listed in
+    record {
+      found = ([], append-nil (passing (is_bound_on behind b) heads list) ∙ whole, refl);
+      few = elim c.if-is_some.branch [
+        | then-is_some w ↦ omega (arith, passing_few (is_bound_on behind b) heads list, w.left-is)
+        | else-is_some w ↦
+            let off : (n : ℕ) → behind n ≡ false = λ n. unmarked heads (λ m. m.now) c.args.marks n (sym w.if-is_some.ensures) in
+            omega (arith, ap length (whole ∙ bound_held behind b (nodes_of heads) off), c.requires.held, w.left-is)
+      ];
+    }
 
-pub loop-listed-preserved : goal.loop-listed-preserved
-loop-listed-preserved c =
-    let b = c.args.block in
+pub returns-then-not-from_back-clause-least : goal.returns-then-not-from_back-clause-least
+returns-then-not-from_back-clause-least c =
     let heads = c.args.heads.now in
-    let list = c.args.list.now in
-    let i = c.loop-listed.listed-index in
-    let none : Listed = record { number = 0; span = record { at = 0; len = 0 } } in
-    let behind : ℕ → Bool = mark_in heads (option_map (λ m. m.now) c.args.marks) in
-    elim c.match-slot_of.branch [
-      | in-Some+else-is_bound w ↦
-          let found = w.in-Some.ensures.found in
-          let fails = bound_at behind b w.index-heads-slot.result (get_or heads w.in-Some.slot w.index-heads-slot.result) (get_or list i none).number w.is_behind-behind.result w.is_bound.result w.index-heads-slot.is (found.1 w.index-heads-slot.result) w.is_behind-behind.ensures w.is_bound.ensures ∙ w.if-is_bound.false in
-          sym (passing_skip (is_bound_on behind b) heads list i none c.loop-listed-test.true w.in-Some.slot w.index-heads-slot.result c.requires.rising found fails) ∙ c.loop-listed.invariant
-      | in_default w ↦ sym (passing_absent (is_bound_on behind b) heads list i none c.loop-listed-test.true w.in_default.ensures.none) ∙ c.loop-listed.invariant
+    let bound = is_bound_on (mark_in heads (option_map (λ m. m.now) c.args.marks)) c.args.block in
+    let n = c.in-Some.listed.number in
+    let others = passing bound heads c.in-Some.others.now in
+    let later = c.loop-left.invariant.found.0 in
+    let next = passing_front bound heads c.loop-left.rest.now c.in-Some.others.now c.in-Some.listed (c.in-Some.ensures.front c.if-not-from_back.true) in
+    (others ++ later, sym c.loop-left.invariant.found.1 ∙ ap (λ ns. ns ++ later) (next ∙ ap (λ t. cond t (n ∷ others) others) (sym c.if-is_bound_at.ensures)))
+
+pub loop-left-preserved : goal.loop-left-preserved
+loop-left-preserved c =
+    let heads = c.args.heads.now in
+    let bound = is_bound_on (mark_in heads (option_map (λ m. m.now) c.args.marks)) c.args.block in
+    let n = c.in-Some.listed.number in
+    let others = passing bound heads c.in-Some.others.now in
+    let later = c.loop-left.invariant.found.0 in
+    let next = passing_back bound heads c.loop-left.rest.now c.in-Some.others.now c.in-Some.listed (c.in-Some.ensures.back c.if-not-from_back-2.false) in
+    elim c.if-is_bound_at.branch [
+      | then-is_bound_at+else-not-from_back w ↦
+          let more = next ∙ ap (λ t. others ++ cond t (n ∷ []) []) (sym w.if-is_bound_at.ensures) in
+          rw w.least-is record {
+            found = (n ∷ later, sym (append_assoc others (n ∷ []) later) ∙ (ap (λ ns. ns ++ later) (sym more) ∙ c.loop-left.invariant.found.1), (later, refl));
+            few = omega (arith, ap length more, length-append others (n ∷ []), c.loop-left.invariant.few, w.left-is);
+          }
+      | else-is_bound_at w ↦
+          let same = next ∙ (ap (λ t. others ++ cond t (n ∷ []) []) (sym w.if-is_bound_at.ensures) ∙ append-nil others) in
+          rw w.least-is record {
+            found = (later, ap (λ ns. ns ++ later) (sym same) ∙ c.loop-left.invariant.found.1, c.loop-left.invariant.found.2);
+            few = omega (arith, ap length same, c.loop-left.invariant.few, w.left-is);
+          }
     ]
+
+pub returns-after-loop-left-clause-none : goal.returns-after-loop-left-clause-none
+returns-after-loop-left-clause-none c = (first_found c.loop-left.least _ _ c.loop-left.invariant.found (omega (arith, c.loop-left.invariant.few, c.loop-left-test.false))).0
+
+pub returns-after-loop-left-clause-least : goal.returns-after-loop-left-clause-least
+returns-after-loop-left-clause-least c = (first_found c.loop-left.least _ _ c.loop-left.invariant.found (omega (arith, c.loop-left.invariant.few, c.loop-left-test.false))).1
+
+-- nothing is left of the list
+none_left : (c : goal.In_default) → length (passing (is_bound_on (mark_in c.args.heads.now (option_map (λ m. m.now) c.args.marks)) c.args.block) c.args.heads.now c.loop-left.rest.now) ≤ 0
+none_left c = omega (arith, passing_few (is_bound_on (mark_in c.args.heads.now (option_map (λ m. m.now) c.args.marks)) c.args.block) c.args.heads.now c.loop-left.rest.now, ap length c.in_default.ensures.none)
+
+pub returns-in_default-clause-none : goal.returns-in_default-clause-none
+returns-in_default-clause-none c = (first_found c.loop-left.least _ _ c.loop-left.invariant.found (none_left c)).0
+
+pub returns-in_default-clause-least : goal.returns-in_default-clause-least
+returns-in_default-clause-least c = (first_found c.loop-left.least _ _ c.loop-left.invariant.found (none_left c)).1

@@ -1,6 +1,6 @@
-use Rattle.std.proofs.Common.{refl, ◌≡◌, ◌∙◌, ◌&&◌, ℕ, Bool, None, length, count_by, IfSome, option_map, sym, ap, subst, arith, ◌↔◌, true}
-use Rattle.fst_heads.specs.{Ascending.IsBehind, Heads.patches_of, Marks.{mark_in, mark_of}, Nodes.nodes_of, Standings.is_held_on}
-use Rattle.fst_heads.proofs.Counts.{none_bound}
+use Rattle.std.proofs.Common.{refl, ◌≡◌, ◌∙◌, ℕ, length, count_by, IfSome, option_map, sym, ap, subst, arith, ◌↔◌, true}
+use Rattle.fst_heads.specs.{Ascending.IsBehind, Heads.patches_of, Marks.{mark_in}, Nodes.nodes_of, Standings.is_held_on}
+use Rattle.fst_heads.proofs.Counts.{held_counted}
 use Rattle.fst_walks.proofs.Resting.{none_yet, none_there, none_held, least_held}
 use Rattle.fst_graph.proofs.Sound.{as_many_places, behind_marked, its_list, its_standing, many_lists, may_mark, over_down, rising_sound, walked_sound, with_prepared}
 use Rattle.fst_graph.proofs.sparse.Sparse.hard_held.Goals as goal
@@ -11,14 +11,21 @@ mark_flight-flying-requires c =
 
 pub first_held-requires : goal.first_held-requires
 first_held-requires c = record {
-  rising = rw c.deref-5.ensures.value (rising_sound c.self.invariant);
+  rising = rw c.deref-6.ensures.value (rising_sound c.self.invariant);
   long =
-      let same : length c.marks.result.now ≡ length c.deref-5.result.now =
-      ap length c.marks.ensures.marks ∙ (c.mark_flight-flying.ensures.long ∙ ap length (c.deref-2.ensures.value ∙ sym c.deref-5.ensures.value)) in
+      let same : length c.marks.result.now ≡ length c.deref-6.result.now =
+      ap length c.marks.ensures.marks ∙ (c.mark_flight-flying.ensures.long ∙ ap length (c.deref-2.ensures.value ∙ sym c.deref-6.ensures.value)) in
       subst (λ k. IfSome c.marks_if-marks.result (λ m. length m.now ≡ k)) same c.marks_if-marks.ensures.long;
   listed =
-      rw (c.deref-6.ensures.value, c.deref-5.ensures.value)
+      rw (c.deref-7.ensures.value, c.deref-6.ensures.value)
       (its_list c.self.invariant c.deref.result.now c.deref.ensures.value c.args.block.0 c.in-Some.ensures.lookup.3.0 c.in-Some.list.now c.in-Some.ensures.lookup.1);
+  held =
+      let b = c.args.block.0 in
+      let heads = c.deref-6.result.now in
+      let stands = its_standing c.self.invariant c.deref.result.now c.deref.ensures.value b c.in-Some.ensures.lookup.3.0 c.deref-5.result.now c.deref-5.ensures.value in
+      let held : c.held_count-held.result ≡ count_by (is_held_on b) (nodes_of heads) =
+      c.held_count-held.ensures none_yet stands.0 ∙ (ap (λ t. t.held) (stands.1 none_yet) ∙ ap (λ hs. count_by (is_held_on b) (nodes_of hs)) (sym c.deref-6.ensures.value)) in
+      omega (arith, held_counted b (nodes_of heads), held);
 }
 
 pub returns-in_default-clause-none : goal.returns-in_default-clause-none
@@ -27,20 +34,6 @@ returns-in_default-clause-none c =
     let past = c.in_default.ensures.lookup.3 in
     let many = many_lists c.self.invariant c.deref.result.now c.deref.ensures.value in
     rw (← c.self.view_is) (λ p h. none_there (patches_of s.heads.items) s.blocks c.args.block.0 c.self.invariant.keeps.inside (λ lt. omega (arith, lt, past, many)) p h.in_memory)
-
-pub returns-then-held_count-eq0-clause-none : goal.returns-then-held_count-eq0-clause-none
-returns-then-held_count-eq0-clause-none c =
-    let s = c.self.inside in
-    let heads = s.heads.items in
-    let b = c.args.block.0 in
-    let mark : ℕ → Bool = mark_of heads c.mark_flight-flying.new.walk.marks in
-    let behind : ℕ → Bool = λ n. c.mark_flight-flying.result && mark n in
-    let stands = its_standing c.self.invariant c.deref.result.now c.deref.ensures.value b c.in-Some.ensures.lookup.3.0 c.deref-then-not-flying.result.now c.deref-then-not-flying.ensures.value in
-    let held : c.held_count.result ≡ count_by (is_held_on b) (nodes_of heads) = c.held_count.ensures none_yet stands.0 ∙ ap (λ t. t.held) (stands.1 none_yet) in
-    let none = none_bound behind b (nodes_of heads) (λ n. ap (λ t. t && mark n) c.if-not-flying.true) (omega (arith, held, c.if-held_count-eq0.true)) in
-    rw (← c.self.view_is)
-    (none_held heads s.numbers s.blocks s.ends.up.walk.marks _ s.standings.items s.queue.items s.queue.cap b c.self.invariant.keeps c.self.invariant.tallies behind
-    (λ n. rw (← c.deref-2.ensures.value) (c.mark_flight-flying.ensures.behind n)) None none)
 
 -- the marks tell what waits behind what flies of the block
 exact : (c : goal.After-first_held) (n : ℕ) → (mark_in c.self.inside.heads.items (option_map (λ m. m.now) c.marks_if-marks.result) n ≡ true) ↔ IsBehind (nodes_of c.self.inside.heads.items) c.args.block.0 n
@@ -55,10 +48,10 @@ returns c =
     record {
       none =
           rw (← c.self.view_is) (none_held heads s.numbers s.blocks s.ends.up.walk.marks _ s.standings.items s.queue.items s.queue.cap b c.self.invariant.keeps c.self.invariant.tallies (mark_in heads given) (exact c) c.first_held.result
-          (rw (← c.deref-5.ensures.value) c.first_held.ensures.none));
+          (rw (← c.deref-6.ensures.value) c.first_held.ensures.none));
       least =
           rw (← c.self.view_is) (least_held heads s.numbers s.blocks s.ends.up.walk.marks _ s.standings.items s.queue.items s.queue.cap b c.self.invariant.keeps c.self.invariant.tallies (mark_in heads given) (exact c) c.first_held.result
-          (rw (← c.deref-5.ensures.value) c.first_held.ensures.least));
+          (rw (← c.deref-6.ensures.value) c.first_held.ensures.least));
       same = rw (← c.self.view_is, c.let_go.ensures) refl;
     }
 
@@ -67,10 +60,5 @@ invariant_of-self c = rw c.let_go.ensures (with_prepared c.self.invariant tt)
 
 pub invariant_of-self-2 : goal.invariant_of-self-2
 invariant_of-self-2 c =
-    let S = c.self.invariant in
-    rw c.let_go.ensures (walked_sound S (record { long = c.mark_flight-flying.ensures.long ∙ ap length c.deref-2.ensures.value; crossed = as_many_places S }) (over_down S))
-
-pub invariant_of-self-then-held_count-eq0 : goal.invariant_of-self-then-held_count-eq0
-invariant_of-self-then-held_count-eq0 c =
     let S = c.self.invariant in
     rw c.let_go.ensures (walked_sound S (record { long = c.mark_flight-flying.ensures.long ∙ ap length c.deref-2.ensures.value; crossed = as_many_places S }) (over_down S))
