@@ -8,7 +8,7 @@ pub use Rattle.std.proofs.Common.{is_some, IfNone, IfSome, Option, reverse, nat_
 pub use Rattle.std.proofs.Math.Bool.{or-false, or-true, and-false, and-true}
 pub use Rattle.std.proofs.lemmas.Bool.{cond_both, cases_Bool, or_parts, cases_eq, and_parts, and_right, false≢true, cases_lt, eqb-false, not-true, or_cases, cond-true, cond-false, cases_order, and_from, both_ways, false_from_ne_true, not_from_false}
 pub use Rattle.std.proofs.lemmas.Bool.Decides.{nat_tests}
-pub use Rattle.std.proofs.lemmas.List.{map-append, map-id, length-map, get_or-map, take_more, set-get_or, length_push, drop_more, map-set, get_or_append_left, nil_from_length, map_push}
+pub use Rattle.std.proofs.lemmas.List.{drop_all, take_more_set, take-set-le, drop-set, drop-set-lt, length-take, length-drop, map-append, map-id, length-map, get_or-map, take_more, set-get_or, length_push, drop_more, map-set, get_or_append_left, nil_from_length, map_push}
 pub use Rattle.std.proofs.lemmas.List.Edits.{length-insert, get_or-insert_below, get_or-insert_at, get_or-insert_above, length-between, get_or-between}
 pub use Rattle.std.proofs.lemmas.List.Elements.{Contains-push_cases, Contains-append_left, Contains-append_right, Contains-push, Contains-get_or, filter-append, Contains-append_cases, filter_from_retain}
 pub use Rattle.std.proofs.lemmas.List.Folds.{list_any-from_Any, Any-from_list_any}

@@ -34,6 +34,7 @@ pub mod Pended
 pub mod Starting
 pub mod Carried
 pub mod Passing
+pub mod Landing
 pub mod Slotted
 pub mod Beside
 pub mod Framed

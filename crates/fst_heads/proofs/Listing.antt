@@ -1,10 +1,10 @@
--- The walk along the list of a block that lands what is in flight.
-use Rattle.fst_heads.proofs.Basics.{◌≡◌, ◌≢◌, ◌==◌, ◌&&◌, ℕ, zero, suc, ◌<◌, ◌≤◌, Bool, true, false, not, cond, List, [], ◌∷◌, ◌++◌, length, map, set, get_or, Contains, Some, refl, sym, ap, ◌∙◌, inl, inr, arith, list_any, and-false, cases_Bool, eq-eqb, ne_eqb, set-get_or, or_parts, append_assoc, append-nil}
-use Rattle.fst_heads.proofs.Basics.{length-append, get_or-map, ◌+◌, filter, subst, get_or-set_same, get_or-set_other, length-set, AllPairs, IsStrictlyIncreasing, AllPairs-filter, and_parts, cases_eq, false≢true, length-map}
+-- The list of a block, and what a landing leaves of it.
+use Rattle.fst_heads.proofs.Basics.{◌≡◌, ◌≢◌, ◌==◌, ◌&&◌, ℕ, zero, suc, ◌<◌, ◌≤◌, Bool, true, false, not, cond, List, [], ◌∷◌, ◌++◌, length, map, set, get_or, Contains, Some, refl, sym, ap, ◌∙◌, inl, inr, arith, list_any, and-false, cases_Bool, eq-eqb, ne_eqb}
+use Rattle.fst_heads.proofs.Basics.{get_or-map, ◌+◌, filter, subst, get_or-set_same, get_or-set_other, length-set, AllPairs, IsStrictlyIncreasing, AllPairs-filter, and_parts, cases_eq, false≢true, length-map}
 use Rattle.fst_heads.proofs.Patches.{Place, Kind, Change, Patch, Rising, block_of_kind, is_at, is_on, is_change_at, landed, In, In-from_Contains, Contains-from_In, is_among, is_live, In-map, same_number, filter_in, in_filter, among_in, in_among}
-use Rattle.fst_heads.proofs.Words.{Head, lands, IsRising, patch_of, patches_of, Entry, is_live_on, entries_on, flying_on, AreListed, HasSlot, HasNone, Node, node_of, nodes_of, patches_in, at_number, Listed, entry, entries_of}
-use Rattle.fst_heads.proofs.{Slots.{any_default, rising_map}, Starting.patches_landed, Linking.rising_as}
-use Rattle.fst_heads.proofs.{AtNumber.{patches_in_nodes, at_other, at_same, at_none, at_slot}, Placed.unmapped}
+use Rattle.fst_heads.proofs.Words.{Head, lands, IsRising, patch_of, patches_of, Entry, is_live_on, entries_on, flying_on, AreListed, HasSlot, HasNone, Node, node_of, nodes_of, patches_in, Listed, entry, entries_of}
+use Rattle.fst_heads.proofs.{Slots.{rising_map}, Starting.patches_landed}
+use Rattle.fst_heads.proofs.{AtNumber.{patches_in_nodes}, Placed.unmapped}
 use Rattle.fst_heads.proofs.Patches.place
 
 -- whether a node with number n passes
@@ -28,10 +28,6 @@ any_slot (h ∷ hs) n (suc s) t d rising slot =
 pub rising_patches : (heads : List Head) → IsRising heads → Rising (patches_of heads)
 rising_patches heads rising = rising_map patch_of heads (λ h. h.number) (λ p. p.number) (λ h. refl) rising
 
-no_more : (ns : List ℕ) → length ns ≤ 0 → ns ≡ []
-no_more [] few = refl
-no_more (n ∷ ns) few = absurd (omega (arith, few))
-
 -- the list of a block that is lent
 pub listed_at : {X : Type 0} (f : X → List Entry) (ps : List Patch) (lists : List X) (b : ℕ) (x : X) → b < length lists → x ≡ get_or lists b x → AreListed ps (length lists) (map f lists) → f x ≡ entries_on b ps
 listed_at f ps lists b x inside same L = ap f same ∙ (sym (get_or-map f lists b x [] inside) ∙ L.each b [] inside)
@@ -40,37 +36,11 @@ module _ (b : ℕ) where
   abbrev pub flies : Node → Bool
   flies x = is_change_at place.Flight b x.patch
 
-  -- n, if it is that of a change in flight
-  abbrev pub flies_at : ℕ → List Node → List ℕ
-  flies_at n nodes = cond (list_any (λ x. (x.patch.number == n) && flies x) nodes) (n ∷ []) []
-
-  -- what the walk leaves of the nodes, and what waits after it
-  abbrev pub land_each : List ℕ → List Node → List Node
-  land_each [] nodes = nodes
-  land_each (n ∷ ns) nodes = land_each ns (map (at_number n (lands b)) nodes)
-
-  abbrev pub fly_each : List ℕ → List Node → List ℕ
-  fly_each [] nodes = []
-  fly_each (n ∷ ns) nodes = flies_at n nodes ++ fly_each ns (map (at_number n (lands b)) nodes)
-
-  -- where no number of the list is that of the first node, it stays
-  land_apart : (ns : List ℕ) (x : Node) (nodes : List Node) → ((n : ℕ) → In ns n → x.patch.number ≢ n) → land_each ns (x ∷ nodes) ≡ x ∷ land_each ns nodes
-  land_apart [] x nodes apart = refl
-  land_apart (n ∷ ns) x nodes apart = rw (at_other n (lands b) x (apart n (inl refl))) (land_apart ns x (map (at_number n (lands b)) nodes) (λ m i. apart m (inr i)))
-
-  fly_apart : (ns : List ℕ) (x : Node) (nodes : List Node) → ((n : ℕ) → In ns n → x.patch.number ≢ n) → fly_each ns (x ∷ nodes) ≡ fly_each ns nodes
-  fly_apart [] x nodes apart = refl
-  fly_apart (n ∷ ns) x nodes apart =
-      let first : flies_at n (x ∷ nodes) ≡ flies_at n nodes = rw (ne_eqb x.patch.number n (apart n (inl refl))) refl in
-      let rest : fly_each ns (map (at_number n (lands b)) (x ∷ nodes)) ≡ fly_each ns (map (at_number n (lands b)) nodes) =
-      rw (at_other n (lands b) x (apart n (inl refl))) (fly_apart ns x (map (at_number n (lands b)) nodes) (λ m i. apart m (inr i))) in
-      cc
-
   -- the numbers that the list has
   abbrev pub numbers_on : List Head → List ℕ
   numbers_on heads = map (λ e. e.number) (entries_on b (patches_of heads))
 
-  numbers_above : (k : ℕ) (heads : List Head) → ((i : ℕ) (d : Head) → i < length heads → k < (get_or heads i d).number) → (n : ℕ) → In (numbers_on heads) n → k < n
+  pub numbers_above : (k : ℕ) (heads : List Head) → ((i : ℕ) (d : Head) → i < length heads → k < (get_or heads i d).number) → (n : ℕ) → In (numbers_on heads) n → k < n
   numbers_above k [] above n i = absurd i
   numbers_above k (h ∷ hs) above n i =
       let rest = numbers_above k hs (λ j d lt. above (suc j) d (omega (arith, lt))) n in
@@ -93,137 +63,12 @@ module _ (b : ℕ) where
   pub lands_still : (x : Node) → flies x ≡ false → lands b x ≡ x
   lands_still x e = rw e refl
 
-  module _ (h : Head) (hs : List Head) (rising : IsRising (h ∷ hs)) where
-    above : (n : ℕ) → In (numbers_on hs) n → h.number < n
-    above = numbers_above h.number hs (λ i d lt. rising 0 (suc i) d (omega arith) (omega (arith, lt)))
-
-    apart : (x : Node) → x.patch.number ≡ h.number → (n : ℕ) → In (numbers_on hs) n → x.patch.number ≢ n
-    apart x own n i same = let a = above n i in omega (arith, a, own, same)
-
-    none_above : HasNone hs h.number
-    none_above k d lt same = let r = rising 0 (suc k) d (omega arith) (omega (arith, lt)) in omega (arith, r, same)
-
-    -- the step of the walk at the first node
-    first_lands : map (at_number h.number (lands b)) (nodes_of (h ∷ hs)) ≡ lands b (node_of h) ∷ nodes_of hs
-    first_lands = grind (arith, at_same, at_none, none_above)
-
-    first_flies : flies_at h.number (nodes_of (h ∷ hs)) ≡ cond (flies (node_of h)) (h.number ∷ []) []
-    first_flies = ap (λ t. cond t (h.number ∷ []) []) (any_slot (h ∷ hs) h.number 0 flies h rising (omega arith, λ d. refl))
-
-  -- the walk along the whole list lands all that flies
-  pub all_landed : (heads : List Head) → IsRising heads → land_each (numbers_on heads) (nodes_of heads) ≡ map (lands b) (nodes_of heads)
-  all_landed [] rising = refl
-  all_landed (h ∷ hs) rising =
-      let rest = all_landed hs (λ i j c lt up. rising (suc i) (suc j) c (omega (arith, lt)) (omega (arith, up))) in
-      elim (cases_Bool (is_live_on b (patch_of h))) [
-        | inl f ↦
-            rw f
-            (ap (λ nodes. land_each (numbers_on hs) nodes) (first_lands h hs rising)
-            ∙ (land_apart (numbers_on hs) (lands b (node_of h)) (nodes_of hs) (apart h hs rising (lands b (node_of h)) (lands_number (node_of h)))
-            ∙ ap (λ nodes. lands b (node_of h) ∷ nodes) rest))
-        | inr f ↦
-            rw f
-            (land_apart (numbers_on hs) (node_of h) (nodes_of hs) (apart h hs rising (node_of h) refl)
-            ∙ (ap (λ nodes. node_of h ∷ nodes) rest ∙ ap (λ x. x ∷ map (lands b) (nodes_of hs)) (sym (lands_still (node_of h) (still (patch_of h) f)))))
-      ]
-
   flying_more : (h : Head) (hs : List Head) → flying_on b (patches_of (h ∷ hs)) ≡ cond (flies (node_of h)) (h.number ∷ []) [] ++ flying_on b (patches_of hs)
   flying_more h hs = elim (cases_Bool (is_change_at place.Flight b (patch_of h))) [ inl e ↦ rw e refl | inr e ↦ rw e refl ]
 
-  flying_few : (heads : List Head) → length (flying_on b (patches_of heads)) ≤ length heads
+  pub flying_few : (heads : List Head) → length (flying_on b (patches_of heads)) ≤ length heads
   flying_few [] = omega arith
   flying_few (h ∷ hs) = grind (arith, cases_Bool, flying_few hs)
-
-  pub all_fly : (heads : List Head) → IsRising heads → fly_each (numbers_on heads) (nodes_of heads) ≡ flying_on b (patches_of heads)
-  all_fly [] rising = refl
-  all_fly (h ∷ hs) rising =
-      let rest = all_fly hs (λ i j c lt up. rising (suc i) (suc j) c (omega (arith, lt)) (omega (arith, up))) in
-      elim (cases_Bool (is_live_on b (patch_of h))) [
-        | inl f ↦
-            let left = ap (λ nodes. fly_each (numbers_on hs) nodes) (first_lands h hs rising)
-            ∙ (fly_apart (numbers_on hs) (lands b (node_of h)) (nodes_of hs) (apart h hs rising (lands b (node_of h)) (lands_number (node_of h))) ∙ rest) in
-            rw f
-            (ap (λ ns. ns ++ fly_each (numbers_on hs) (map (at_number h.number (lands b)) (nodes_of (h ∷ hs)))) (first_flies h hs rising)
-            ∙ (ap (λ ns. cond (flies (node_of h)) (h.number ∷ []) [] ++ ns) left ∙ sym (flying_more h hs)))
-        | inr f ↦ rw (f, still (patch_of h) f) (fly_apart (numbers_on hs) (node_of h) (nodes_of hs) (apart h hs rising (node_of h) refl) ∙ rest)
-      ]
-
-  -- the walk so far, where the numbers of rest are still to come
-  pub record Landing (start heads : List Head) (rest queue : List ℕ) : Type 0 where
-    pub rising : IsRising heads
-    pub nodes : land_each rest (nodes_of heads) ≡ map (lands b) (nodes_of start)
-    pub queued : queue ++ fly_each rest (nodes_of heads) ≡ flying_on b (patches_of start)
-
-  pub landing_none : (heads : List Head) (queue : List ℕ) → IsRising heads → queue ≡ [] → Landing heads heads (numbers_on heads) queue
-  landing_none heads queue rising idle = record { rising = rising; nodes = all_landed heads rising; queued = ap (λ ns. ns ++ fly_each (numbers_on heads) (nodes_of heads)) idle ∙ all_fly heads rising }
-
-  module _ (start heads : List Head) (rest queue left : List ℕ) (n : ℕ) (next : rest ≡ n ∷ left) (x : Landing start heads rest queue) where
-    one_number : (y : Node) → (at_number n (lands b) y).patch.number ≡ y.patch.number
-    one_number y = elim (cases_Bool (y.patch.number == n)) [ inl e ↦ rw e (lands_number y) | inr e ↦ rw e refl ]
-
-    -- one step of the walk, by what it leaves of the heads
-    stepped : (new : List Head) (more : List ℕ) → nodes_of new ≡ map (at_number n (lands b)) (nodes_of heads) → more ≡ queue ++ flies_at n (nodes_of heads) → Landing start new left more
-    stepped new more nodes gained = record {
-      rising = rising_as (at_number n (lands b)) one_number new heads nodes x.rising;
-      nodes = ap (λ xs. land_each left xs) nodes ∙ (sym (ap (λ ns. land_each ns (nodes_of heads)) next) ∙ x.nodes);
-      queued = grind (arith, append_assoc);
-    }
-
-    nothing : (t : Bool) → t ≡ false → queue ≡ queue ++ cond t (n ∷ []) []
-    nothing t e = rw e (sym (append-nil queue))
-
-    pub landing_absent : HasNone heads n → Landing start heads left queue
-    landing_absent none = stepped heads queue (at_none heads n (lands b) none) (nothing _ (any_none heads n flies none))
-
-    module _ (s : ℕ) (d : Head) (slot : HasSlot heads n s) where
-      here : list_any (λ y. (y.patch.number == n) && flies y) (nodes_of heads) ≡ flies (node_of (get_or heads s d))
-      here = any_slot heads n s flies d x.rising slot
-
-      pub landing_skip : is_change_at place.Flight b (patch_of (get_or heads s d)) ≡ false → Landing start heads left queue
-      landing_skip none =
-          let same = set-get_or heads s d in
-          stepped heads queue
-          (sym (ap nodes_of same) ∙ at_slot heads n s (lands b) (get_or heads s d) d x.rising slot (sym (lands_still (node_of (get_or heads s d)) none)))
-          (nothing _ (here ∙ none))
-
-      landing_more : (y : Head) → is_change_at place.Flight b (patch_of (get_or heads s d)) ≡ true → node_of y ≡ lands b (node_of (get_or heads s d)) → Landing start (set heads s y) left (queue ++ n ∷ [])
-      landing_more y flying e = stepped (set heads s y) (queue ++ n ∷ []) (at_slot heads n s (lands b) y d x.rising slot e) (ap (λ t. queue ++ cond t (n ∷ []) []) (sym (here ∙ flying)))
-
-      pub landing_disk : is_change_at place.Flight b (patch_of (get_or heads s d)) ≡ true → (m : Head) → m ≡ get_or heads s m → Landing start (set heads s (record m { place = place.Disk })) left (queue ++ n ∷ [])
-      landing_disk flying m same =
-          let own = same ∙ any_default heads s m d slot.0 in
-          let moved : (h : Head) → is_change_at place.Flight b (patch_of h) ≡ true → node_of (record h { place = place.Disk }) ≡ lands b (node_of h) = λ h e. rw e refl in
-          landing_more (record m { place = place.Disk }) flying (ap (λ h. node_of (record h { place = place.Disk })) own ∙ moved (get_or heads s d) flying)
-
-      -- there is a place in the queue
-      pub landing_room : is_change_at place.Flight b (patch_of (get_or heads s d)) ≡ true → length queue < length start
-      landing_room flying =
-          let one = ap (λ t. queue ++ (cond t (n ∷ []) [] ++ fly_each left (map (at_number n (lands b)) (nodes_of heads)))) (sym (here ∙ flying)) ∙ (sym (ap (λ ns. queue ++ fly_each ns (nodes_of heads)) next) ∙ x.queued) in
-          omega (arith, length-append queue (n ∷ fly_each left (map (at_number n (lands b)) (nodes_of heads))), flying_few start, ap length one)
-
-  -- where the walk meets no more that flies, it leaves the nodes as they are
-  unmoved : (n : ℕ) (nodes : List Node) → list_any (λ x. (x.patch.number == n) && flies x) nodes ≡ false → map (at_number n (lands b)) nodes ≡ nodes
-  unmoved n [] none = refl
-  unmoved n (x ∷ xs) none =
-      let parts = or_parts ((x.patch.number == n) && flies x) (list_any (λ y. (y.patch.number == n) && flies y) xs) none in
-      let first : at_number n (lands b) x ≡ x = elim (cases_Bool (x.patch.number == n)) [
-        | inl e ↦ rw e (lands_still x (sym (ap (λ t. t && flies x) e) ∙ parts.0))
-        | inr e ↦ rw e refl
-      ] in
-      let rest = unmoved n xs parts.1 in cc
-
-  none_left : (ns : List ℕ) (nodes : List Node) → fly_each ns nodes ≡ [] → land_each ns nodes ≡ nodes
-  none_left [] nodes none = refl
-  none_left (n ∷ ns) nodes none =
-      let moved = map (at_number n (lands b)) nodes in
-      elim (cases_Bool (list_any (λ x. (x.patch.number == n) && flies x) nodes)) [
-        | inl some ↦ let long = ap length (sym (ap (λ t. cond t (n ∷ []) [] ++ fly_each ns moved) some) ∙ none) in absurd (omega (arith, long))
-        | inr off ↦ none_left ns moved (sym (ap (λ t. cond t (n ∷ []) [] ++ fly_each ns moved) off) ∙ none) ∙ unmoved n nodes off
-      ]
-
-  -- where as many landed as fly, the walk has no more to land
-  pub landing_full : (start heads : List Head) (rest queue : List ℕ) → Landing start heads rest queue → length (flying_on b (patches_of start)) ≤ length queue → (nodes_of heads ≡ map (lands b) (nodes_of start)) × (queue ≡ flying_on b (patches_of start))
-  landing_full start heads rest queue x full = grind (arith, length-append, no_more, none_left, append-nil)
 
   module _ (heads : List Head) (new : List Head) (landing : nodes_of new ≡ map (lands b) (nodes_of heads)) where
     pub heads_landed : patches_of new ≡ map (landed b) (patches_of heads)

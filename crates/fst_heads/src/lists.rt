@@ -1,18 +1,21 @@
 //! Each block lists its changes that are not on disk, so that a call that asks for those of one block looks at no others.
 
-ghost use Rattle.std.specs.Prelude.{◌≡◌, ◌≤◌, ◌++◌, ◌<◌, [], not, length, map, filter, IfOk, vec_len, vec_capacity};
+ghost use Rattle.std.specs.Prelude.{◌==◌, ◌&&◌, ◌≡◌, ◌≤◌, ◌++◌, ◌<◌, [], not, length, map, filter, IfOk, vec_len, vec_capacity};
+ghost use Rattle.std.specs.List.{list_any};
 ghost use Rattle.std.specs.List.Sorted.{IsStrictlyIncreasing};
 ghost use Rattle.fst_heads.specs.Spreading.{lands};
 ghost use Rattle.fst_heads.specs.Heads.{IsRising, patches_of};
 ghost use Rattle.fst_heads.specs.Keeps.{IsInside};
 ghost use Rattle.fst_heads.specs.Lists.{entries_of, entries_on, flying_on, AreListed};
-ghost use Rattle.fst_heads.specs.Nodes.{nodes_of};
-ghost use Rattle.fst_types.specs.Tests.{is_among};
+ghost use Rattle.fst_heads.specs.Nodes.{at_number, nodes_of};
+ghost use Rattle.fst_types.specs.Tests.{is_among, is_change_at};
+ghost use Rattle.fst_types.specs.declared.place.Place.TheVariants as place;
 
 use crate::head::Head;
 use crate::marks::slot_of;
 use crate::places::is_change_at;
 use crate::row::has_number;
+use crate::turns::next_in_turn;
 use fst_types::{Place, Span};
 use std::alloc::{AllocError, Global};
 
@@ -34,8 +37,36 @@ pub fn empty_lists(alloc: Global, blocks: u32) -> Result<Vec<Vec<Listed>>, Alloc
     Ok(lists)
 }
 
-// What is in flight among the listed is on disk, and waits in the queue. At most so many fly: where they are found, no
-// others are looked at.
+// The change with the number is on disk, if it is one of the block in flight; whether it is one.
+fn land_number(heads: &mut Vec<Head>, number: u32, block: u32) -> bool
+    requires { IsRising heads.old.items }
+    ensures flew { result ≡ list_any (λ x. (x.patch.number == number) && is_change_at place.Flight block x.patch) (nodes_of heads.old.items) }
+    ensures nodes { nodes_of heads.new.items ≡ map (at_number number (lands block)) (nodes_of heads.old.items) }
+{
+    let Some(slot) = slot_of(heads, number) else {
+        return false;
+    };
+    if is_change_at(&heads[slot], Place::Flight, block) {
+        heads[slot].place = Place::Disk;
+        return true;
+    }
+    false
+}
+
+// So many places in the queue.
+fn make_places(queue: &mut Vec<u32>, many: usize)
+    requires idle { queue.old.items ≡ [] }
+    requires room { many ≤ vec_capacity queue.old }
+    ensures len { length queue.new.items ≡ many }
+    ensures capacity { vec_capacity queue.new ≡ vec_capacity queue.old }
+{
+    for _ in 0..many {
+        queue.push_reserved(0);
+    }
+}
+
+// What is in flight among the listed is on disk, and waits in the queue, in order. So many fly: they are looked for from
+// both ends of the list, and where they are found, no others are looked at.
 fn land_listed(
     heads: &mut Vec<Head>,
     list: &[Listed],
@@ -45,23 +76,33 @@ fn land_listed(
 )
     requires rising { IsRising heads.old.items }
     requires listed { entries_of list.now ≡ entries_on block (patches_of heads.old.items) }
-    requires flying { length (flying_on block (patches_of heads.old.items)) ≤ flying }
+    requires flying { length (flying_on block (patches_of heads.old.items)) ≡ flying }
     requires idle { queue.old.items ≡ [] }
     requires room { length heads.old.items ≤ vec_capacity queue.old }
     ensures nodes { nodes_of heads.new.items ≡ map (lands block) (nodes_of heads.old.items) }
     ensures queued { queue.new.items ≡ flying_on block (patches_of heads.old.items) }
     ensures capacity { vec_capacity queue.new ≡ vec_capacity queue.old }
 {
-    for listed in list {
-        if queue.len() == flying {
-            return;
-        }
-        if let Some(slot) = slot_of(heads, listed.number) {
-            if is_change_at(&heads[slot], Place::Flight, block) {
-                heads[slot].place = Place::Disk;
-                queue.push_reserved(listed.number);
+    make_places(queue, flying);
+    let mut low = 0;
+    let mut high = flying;
+    let mut rest = list;
+    let mut from_back = false;
+    while low < high {
+        let Some((listed, others)) = next_in_turn(rest, from_back) else {
+            break;
+        };
+        if land_number(heads, listed.number, block) {
+            if from_back {
+                high -= 1;
+                queue[high] = listed.number;
+            } else {
+                queue[low] = listed.number;
+                low += 1;
             }
         }
+        rest = others;
+        from_back = !from_back;
     }
 }
 
@@ -73,7 +114,7 @@ fn drop_landed(list: &mut Vec<Listed>, landed: &[u32])
     list.retain(|listed| !has_number(landed, listed.number));
 }
 
-/// What is in flight of the block is on disk, and waits in the queue. No more of its changes fly than `flying`.
+/// What is in flight of the block is on disk, and waits in the queue. As many of its changes fly as `flying`.
 pub fn land_block(
     heads: &mut Vec<Head>,
     lists: &mut Vec<Vec<Listed>>,
@@ -84,7 +125,7 @@ pub fn land_block(
     requires rising { IsRising heads.old.items }
     requires inside { IsInside (patches_of heads.old.items) (length lists.old.items) }
     requires listed { AreListed (patches_of heads.old.items) (length lists.old.items) (map (λ l. entries_of l.items) lists.old.items) }
-    requires flying { length (flying_on block (patches_of heads.old.items)) ≤ flying }
+    requires flying { length (flying_on block (patches_of heads.old.items)) ≡ flying }
     requires idle { queue.old.items ≡ [] }
     requires room { length heads.old.items ≤ vec_capacity queue.old }
     ensures nodes { nodes_of heads.new.items ≡ map (lands block) (nodes_of heads.old.items) }

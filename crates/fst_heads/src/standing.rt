@@ -107,7 +107,8 @@ pub fn held_count(standings: &[Standing], block: u32) -> usize
 
 /// How many changes of the block are in flight.
 pub fn flying_count(standings: &[Standing], block: u32) -> usize
-    ensures { (d : Standing) → block < length standings.now → result ≡ (slice_index_or standings.now block d).flying }
+    ensures inside { (d : Standing) → block < length standings.now → result ≡ (slice_index_or standings.now block d).flying }
+    ensures outside { length standings.now ≤ block → result ≡ 0 }
 {
     match standings.get(block as usize) {
         Some(standing) => standing.flying,

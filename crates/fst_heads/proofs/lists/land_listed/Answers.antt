@@ -1,73 +1,87 @@
-use Rattle.fst_heads.proofs.{Basics.{◌≡◌, ◌∙◌, map, get_or, refl, sym, ap, subst, arith, drop_more, common_steps}, Patches.is_change_at}
-use Rattle.fst_heads.proofs.Words.{Listed, patch_of, patches_of, entries_of, flying_on, nodes_of, lands, HasSlot, HasNone}
-use Rattle.fst_heads.proofs.Listing.{landing_none, landing_full, landing_absent, landing_skip, landing_disk, landing_room}
-use Rattle.fst_heads.proofs.Patches.place
+use Rattle.fst_heads.proofs.{Basics.{take, drop, ◌-◌, length-set, ◌≡◌, ◌≤◌, ◌∙◌, ◌∷◌, ◌++◌, [], length, map, cond, drop_all, append-nil, refl, sym, ap, arith, cases_Bool, inl, inr}, Words.{entries_of, nodes_of, patches_of, flying_on}}
+use Rattle.fst_heads.proofs.{Listing.{flies, flying_few}, Passing.{passing, passes_at, passing_front, passing_back}}
+use Rattle.fst_heads.proofs.Landing.{Taken, taken_front, taken_back, numbers_last, landing_none, landing_flies, landing_step, landing_all, flying_passes, placed_front, placed_back, placed_all}
 use Rattle.fst_heads.proofs.lists.land_listed.Goals as goal
-use Rattle.fst_heads.proofs.lists.land_listed.Goals.{in-Some+then-is_change_at, in-Some+else-is_change_at, in_default}
+use Rattle.fst_heads.proofs.lists.land_listed.Goals.{then-land_number+then-from_back, then-land_number+else-from_back, else-land_number}
 
-pub loop-listed-init : goal.loop-listed-init
-loop-listed-init c = record {
-  landing = rw c.requires.listed (landing_none c.args.block c.args.heads.now.items c.args.queue.now.items c.requires.rising c.requires.idle);
-  capacity = refl;
-}
+pub make_places-requires-clause-room : goal.make_places-requires-clause-room
+make_places-requires-clause-room c = omega (arith, flying_few c.args.block c.args.heads.now.items, c.requires.flying, c.requires.room)
 
--- as many landed as fly
-all_landed : (c : goal.Then-len-flying) → (nodes_of c.loop-listed.heads.items ≡ map (lands c.args.block) (nodes_of c.args.heads.now.items)) × (c.loop-listed.queue.items ≡ flying_on c.args.block (patches_of c.args.heads.now.items))
-all_landed c = grind (arith, landing_full)
-
-pub push_reserved-requires : goal.push_reserved-requires
-push_reserved-requires c =
-    let list = c.args.list.now in
-    let i = c.loop-listed.listed-index in
-    let none : Listed = record { number = 0; span = record { at = 0; len = 0 } } in
-    let n = (get_or list i none).number in
-    let heads = c.loop-listed.heads.items in
-    let slot = subst (λ hs. HasSlot hs n c.in-Some.slot) c.deref.ensures.value c.in-Some.ensures.found in
-    let next = ap (λ ls. map (λ e. e.number) (entries_of ls)) (drop_more list i none c.loop-listed-test.true) in
-    let r = landing_room c.args.block c.args.heads.now.items heads _ c.loop-listed.queue.items _ n next c.loop-listed.invariant.landing c.in-Some.slot c.index.result.now slot
-    (sym (ap (λ h. is_change_at place.Flight c.args.block (patch_of h)) c.index.ensures) ∙ (sym c.is_change_at.ensures ∙ c.if-is_change_at.true)) in
-    omega (arith, r, c.requires.room, c.loop-listed.invariant.capacity, c.loop-listed.queue.ok.0)
-
-pub loop-listed-preserved : goal.loop-listed-preserved
-loop-listed-preserved c =
+pub loop-low-init : goal.loop-low-init
+loop-low-init c =
+    let heads = c.args.heads.now.items in
     let b = c.args.block in
-    let list = c.args.list.now in
-    let i = c.loop-listed.listed-index in
-    let none : Listed = record { number = 0; span = record { at = 0; len = 0 } } in
-    let n = (get_or list i none).number in
+    let queue = c.make_places.new.queue.items in
+    record {
+      landing = rw c.requires.listed (landing_none b heads c.requires.rising);
+      placed = rw (drop_all c.args.flying queue (omega (arith, c.make_places.ensures.len))) (append-nil (passing (flies b) heads c.args.list.now) ∙ flying_passes b heads c.args.list.now c.requires.rising c.requires.listed);
+      long = c.make_places.ensures.len;
+      ends = (omega arith, omega arith);
+      capacity = refl;
+    }
+
+pub loop-low-preserved : goal.loop-low-preserved
+loop-low-preserved c =
+    let b = c.args.block in
     let start = c.args.heads.now.items in
-    let heads = c.loop-listed.heads.items in
-    let queue = c.loop-listed.queue.items in
-    let next = ap (λ ls. map (λ e. e.number) (entries_of ls)) (drop_more list i none c.loop-listed-test.true) in
-    let found : (s : _) → HasSlot c.deref.result.now n s → HasSlot heads n s = λ s h. subst (λ hs. HasSlot hs n s) c.deref.ensures.value h in
-    elim c.match-slot_of.branch [
-      | in-Some+then-is_change_at w ↦ rw (w.heads-is, w.queue-is) record {
-        landing = rw w.push_reserved.ensures.items (landing_disk b start heads _ queue _ n next c.loop-listed.invariant.landing w.in-Some.slot w.index.result.now (found w.in-Some.slot w.in-Some.ensures.found)
-            (sym (ap (λ h. is_change_at place.Flight b (patch_of h)) w.index.ensures) ∙ (sym w.is_change_at.ensures ∙ w.if-is_change_at.true)) w.index_mut.result.now w.index_mut.ensures.value);
-        capacity = w.push_reserved.ensures.capacity ∙ c.loop-listed.invariant.capacity;
-      }
-      | in-Some+else-is_change_at w ↦
-          rw (w.heads-is, w.queue-is)
-          record { landing = landing_skip b start heads _ queue _ n next c.loop-listed.invariant.landing w.in-Some.slot w.index.result.now (found w.in-Some.slot w.in-Some.ensures.found) (sym (ap (λ h. is_change_at place.Flight b (patch_of h)) w.index.ensures) ∙ (sym w.is_change_at.ensures ∙ w.if-is_change_at.false)); capacity = c.loop-listed.invariant.capacity }
-      | in_default w ↦
-          rw (w.heads-is, w.queue-is)
-          record { landing = landing_absent b start heads _ queue _ n next c.loop-listed.invariant.landing (subst (λ hs. HasNone hs n) c.deref.ensures.value (w.in_default.ensures.none)); capacity = c.loop-listed.invariant.capacity }
+    let heads = c.loop-low.heads.items in
+    let rest = c.loop-low.rest.now in
+    let others = c.in-Some.others.now in
+    let n = c.in-Some.listed.number in
+    let I = c.loop-low.invariant in
+    let left = map (λ e. e.number) (entries_of rest) in
+    let ns = map (λ e. e.number) (entries_of others) in
+    let t : Taken left ns n = elim (cases_Bool c.loop-low.from_back) [
+      | inl e ↦ taken_back left ns n (ap (λ ls. map (λ e. e.number) (entries_of ls)) (c.in-Some.ensures.back e) ∙ numbers_last others c.in-Some.listed) I.landing.rises
+      | inr e ↦ taken_front left ns n (ap (λ ls. map (λ e. e.number) (entries_of ls)) (c.in-Some.ensures.front e)) I.landing.rises
+    ] in
+    let passes : passes_at (flies b) (nodes_of start) n ≡ c.land_number.result = sym (c.land_number.ensures.flew ∙ landing_flies b start heads left ns n I.landing t) in
+    let landing = landing_step b start heads left ns n I.landing t c.land_number.new.heads.items c.land_number.ensures.nodes in
+    let ps = passing (flies b) start others in
+    let queue = c.loop-low.queue.items in
+    let whole = flying_on b (patches_of start) in
+    let inside : c.loop-low.high ≤ length queue = omega (arith, I.long, I.ends.1) in
+    elim c.if-land_number.branch [
+      | then-land_number+then-from_back w ↦
+          let at = c.loop-low.high - 1 in
+          let next = passing_back (flies b) start rest others c.in-Some.listed (c.in-Some.ensures.back w.if-from_back.true) ∙ ap (λ t. ps ++ cond t (n ∷ []) []) (passes ∙ w.if-land_number.true) in
+          rw (w.queue-is, w.low-is, w.high-is) record {
+            landing = landing;
+            placed = placed_back queue _ whole c.loop-low.low c.loop-low.high inside I.placed n at ps next (omega (arith, c.loop-low-test.true)) (omega (arith, c.loop-low-test.true));
+            long = length-set queue at n ∙ I.long;
+            ends = (omega (arith, c.loop-low-test.true), omega (arith, I.ends.1));
+            capacity = I.capacity;
+          }
+      | then-land_number+else-from_back w ↦
+          let next = passing_front (flies b) start rest others c.in-Some.listed (c.in-Some.ensures.front w.if-from_back.false) ∙ ap (λ t. cond t (n ∷ ps) ps) (passes ∙ w.if-land_number.true) in
+          rw (w.queue-is, w.low-is, w.high-is) record {
+            landing = landing;
+            placed = placed_front queue _ whole c.loop-low.low c.loop-low.high inside I.placed n ps next c.loop-low-test.true;
+            long = length-set queue c.loop-low.low n ∙ I.long;
+            ends = (omega (arith, c.loop-low-test.true), I.ends.1);
+            capacity = I.capacity;
+          }
+      | else-land_number w ↦
+          let off = passes ∙ w.if-land_number.false in
+          let same : passing (flies b) start rest ≡ ps = elim (cases_Bool c.loop-low.from_back) [
+            | inl e ↦ passing_back (flies b) start rest others c.in-Some.listed (c.in-Some.ensures.back e) ∙ (ap (λ t. ps ++ cond t (n ∷ []) []) off ∙ append-nil ps)
+            | inr e ↦ passing_front (flies b) start rest others c.in-Some.listed (c.in-Some.ensures.front e) ∙ ap (λ t. cond t (n ∷ ps) ps) off
+          ] in
+          rw (w.queue-is, w.low-is, w.high-is) record {
+            landing = landing;
+            placed = ap (λ ms. take c.loop-low.low queue ++ (ms ++ drop c.loop-low.high queue)) (sym same) ∙ I.placed;
+            long = I.long;
+            ends = I.ends;
+            capacity = I.capacity;
+          }
     ]
 
-pub returns-then-len-flying-clause-nodes : goal.returns-then-len-flying-clause-nodes
-returns-then-len-flying-clause-nodes c = (all_landed c).0
-
-pub returns-clause-capacity : goal.returns-clause-capacity
-returns-clause-capacity c = grind (arith, common_steps)
-
-pub returns-clause-nodes : goal.returns-clause-nodes
-returns-clause-nodes c = grind (arith, common_steps)
-
-pub returns-clause-queued : goal.returns-clause-queued
-returns-clause-queued c = grind (arith, common_steps)
-
-pub returns-then-len-flying-clause-capacity : goal.returns-then-len-flying-clause-capacity
-returns-then-len-flying-clause-capacity c = grind (arith, common_steps)
-
-pub returns-then-len-flying-clause-queued : goal.returns-then-len-flying-clause-queued
-returns-then-len-flying-clause-queued c = grind (arith, common_steps)
+pub returns-after-loop-low-clause-nodes : goal.returns-after-loop-low-clause-nodes
+returns-after-loop-low-clause-nodes c =
+    let b = c.args.block in
+    let start = c.args.heads.now.items in
+    let queue = c.loop-low.queue.items in
+    let I = c.loop-low.invariant in
+    let inside : c.loop-low.high ≤ length queue = omega (arith, I.long, I.ends.1) in
+    let all = placed_all queue _ (flying_on b (patches_of start)) c.loop-low.low c.loop-low.high inside I.placed I.ends.0 (c.requires.flying ∙ sym I.long) (inr c.loop-low-test.false) in
+    landing_all b start c.loop-low.heads.items _ I.landing all.0

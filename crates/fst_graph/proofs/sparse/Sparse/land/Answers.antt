@@ -1,4 +1,4 @@
-use Rattle.std.proofs.{Common.{rules, ◌≡◌, ◌≤◌, ◌∙◌, inl, inr, count_by, get_or, map, sym, ap, subst, length, arith, refl}, lemmas.Bool.cases_lt, lemmas.List.length-map}
+use Rattle.std.proofs.{Common.{rules, ◌≡◌, ◌∙◌, inl, inr, count_by, get_or, map, sym, ap, subst, length, arith, refl}, lemmas.Bool.cases_lt, lemmas.List.length-map}
 use Rattle.fst_types.specs.{Cascade.IsCascadeOf, Writing.landed}
 use Rattle.fst_heads.specs.{Heads.patches_of, Keeps.IsInside, Lists.AreListed, Nodes.{node_of, nodes_of, patches_in, AreSettled}, Spreading.{IsSpreadOf, lands}, Standings.{AllStand, is_flying_on}}
 use Rattle.fst_types.proofs.Landing.{alike_landed}
@@ -24,12 +24,12 @@ land_block-requires c = record {
       let T = c.self.invariant.tallies in
       elim (cases_lt b s.blocks) [
         | inl inside ↦
-            let told = c.flying_count-flying.ensures none_yet (rw c.deref.ensures.value (omega (arith, inside, T.standing.long))) in
+            let told = c.flying_count-flying.ensures.inside none_yet (rw c.deref.ensures.value (omega (arith, inside, T.standing.long))) in
             let most : c.flying_count-flying.result ≡ count_by (is_flying_on b) (nodes_of heads) = told ∙ (ap (λ xs. (get_or xs b none_yet).flying) c.deref.ensures.value ∙ ap (λ t. t.flying) (T.standing.each b none_yet inside)) in
             omega (arith, flying_counted b heads, most)
         | inr past ↦
             let none = nothing_flies b heads (λ p h. is_off b p.kind (λ on. let lt = c.self.invariant.keeps.inside p b h on in omega (arith, lt, past))) in
-            subst (λ ns. length ns ≤ c.flying_count-flying.result) (sym none) (omega arith)
+            ap length none ∙ sym (c.flying_count-flying.ensures.outside (rw c.deref.ensures.value (omega (arith, past, T.standing.long))))
       ];
   idle = c.self.invariant.tallies.idle;
   room = omega (arith, c.self.invariant.tallies.room, length-map c.self.inside.heads.items node_of);

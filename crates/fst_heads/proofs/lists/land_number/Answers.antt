@@ -1,0 +1,39 @@
+use Rattle.fst_heads.proofs.{Basics.{set-get_or, ◌≡◌, ◌∙◌, get_or, true, false, sym, ap, subst}, Patches.is_change_at, Words.{patch_of, lands, node_of, nodes_of, HasSlot, HasNone}}
+use Rattle.fst_heads.proofs.{AtNumber.{at_none, at_slot}, Landing.landed_node, Listing.{flies, any_none, any_slot, lands_still}, Slots.any_default}
+use Rattle.fst_heads.proofs.Patches.place
+use Rattle.fst_heads.proofs.lists.land_number.Goals as goal
+
+pub returns-in_default-clause-flew : goal.returns-in_default-clause-flew
+returns-in_default-clause-flew c = sym (any_none c.args.heads.now.items c.args.number (flies c.args.block) (subst (λ hs. HasNone hs c.args.number) c.deref.ensures.value c.in_default.ensures.none))
+
+pub returns-in_default-clause-nodes : goal.returns-in_default-clause-nodes
+returns-in_default-clause-nodes c = at_none c.args.heads.now.items c.args.number (lands c.args.block) (subst (λ hs. HasNone hs c.args.number) c.deref.ensures.value c.in_default.ensures.none)
+
+pub returns-then-is_change_at : goal.returns-then-is_change_at
+returns-then-is_change_at c =
+    let heads = c.args.heads.now.items in
+    let n = c.args.number in
+    let b = c.args.block in
+    let s = c.in-Some.slot in
+    let m = c.index_mut.result.now in
+    let slot = subst (λ hs. HasSlot hs n s) c.deref.ensures.value c.in-Some.ensures.found in
+    let flying : is_change_at place.Flight b (patch_of (get_or heads s m)) ≡ true =
+    sym (ap (λ h. is_change_at place.Flight b (patch_of h)) (c.index.ensures ∙ any_default heads s c.index.result.now m slot.0)) ∙ sym c.if-is_change_at.ensures in
+    record {
+      flew = sym (any_slot heads n s (flies b) m c.requires slot ∙ flying);
+      nodes = at_slot heads n s (lands b) (record m { place = place.Disk }) m c.requires slot (landed_node b m (get_or heads s m) c.index_mut.ensures.value flying);
+    }
+
+pub returns : goal.returns
+returns c =
+    let heads = c.args.heads.now.items in
+    let n = c.args.number in
+    let b = c.args.block in
+    let s = c.in-Some.slot in
+    let d = c.index.result.now in
+    let slot = subst (λ hs. HasSlot hs n s) c.deref.ensures.value c.in-Some.ensures.found in
+    let still : is_change_at place.Flight b (patch_of (get_or heads s d)) ≡ false = sym (ap (λ h. is_change_at place.Flight b (patch_of h)) c.index.ensures) ∙ sym c.if-is_change_at.ensures in
+    record {
+      flew = sym (any_slot heads n s (flies b) d c.requires slot ∙ still);
+      nodes = sym (ap nodes_of (set-get_or heads s d)) ∙ at_slot heads n s (lands b) (get_or heads s d) d c.requires slot (sym (lands_still b (node_of (get_or heads s d)) still));
+    }
