@@ -95,6 +95,14 @@ pub is_nothing : (p : Pending) → is_pending p pending.Nothing ≡ true → p �
 is_nothing pending.Nothing e = refl
 is_nothing p e = absurd (false≢true e)
 
+-- the test tells whether an open gate is waited for
+pub is_held : (p : Pending) → is_pending p pending.Held ≡ true → p ≡ pending.Held
+is_held pending.Held e = refl
+is_held p e = absurd (false≢true e)
+
+pub held_is : (p : Pending) → p ≡ pending.Held → is_pending p pending.Held ≡ true
+held_is p e = ap (λ q. is_pending q pending.Held) e
+
 -- What a patch depends on has no more pending than it has: where nothing or one block alone is pending of the patch, so it is of all below it.
 
 module _ (nodes : List Node) (blocks : ℕ) (rising : IsRising (patches_in nodes)) (D : IsOnDiskWithAll (patches_in nodes)) (S : AreSettled nodes blocks) (b : ℕ) where

@@ -18,10 +18,11 @@ ghost use Rattle.fst_walks.specs.Starting.{StartsAbove};
 ghost use Rattle.fst_walks.specs.Walks.{numbers_met};
 
 use crate::cycle_above::starts_above;
-use crate::descent::{is_visited, visit};
+use crate::descent::is_visited;
 use crate::starts::{Starts, visit_starts};
 use crate::walk::Walk;
 use fst_heads::head::Head;
+use fst_heads::marks::slot_of;
 use fst_heads::pending::{Pending, is_pending};
 use fst_heads::row::pending_at;
 use fst_types::PatchNo;
@@ -39,8 +40,10 @@ pub fn visit_held(heads: &[Head], walk: &mut Walk, number: u32)
     ensures visited { Visited heads.now walk.new }
     ensures visits { Visits (λ n. (n ≡ number) × (pending_in (nodes_of heads.now) n ≡ pending.Held)) (numbers_met heads.now walk.old) (numbers_met heads.now walk.new) }
 {
-    if is_pending(pending_at(heads, number), Pending::Held) {
-        visit(heads, walk, number);
+    if let Some(slot) = slot_of(heads, number) {
+        if is_pending(heads[slot].pending, Pending::Held) {
+            walk.meet(slot);
+        }
     }
 }
 
