@@ -1,7 +1,9 @@
 //! The way back to a block, looked for from its upper end alone: by a walk down that ends where it meets a change of the
 //! block, and leaves out what is lower than the floor of the block. It gives up once it has looked at four times as many
 //! patches as the list of the block has, which a search from both ends looks at first: where a block has many changes and
-//! little lies between them and the new one, it tells the grade at less than that.
+//! little lies between them and the new one, it tells the grade at less than that. Where more than a few patches lie below the
+//! row before the first changes of other blocks, as where a superblock was overwritten thousands of times, it begins with
+//! some of these: a way that is found from them is one, and none tells nothing.
 
 ghost use Rattle.std.specs.Prelude.{◌≡◌, ◌≤◌, ◌<◌, ◌↔◌, ℕ, false, length, Contains, IfSome, IsTrue, slice_index_or};
 ghost use Rattle.fst_types.specs.Grades.{FollowsRule};
@@ -17,7 +19,7 @@ ghost use Rattle.fst_walks.specs.Sights.{Sees};
 ghost use Rattle.fst_walks.specs.Walks.{numbers_met};
 
 use crate::block_walk::BlockWalk;
-use crate::first_away::visit_first_away;
+use crate::first_away::{FEW, visit_first_away};
 use crate::sight::Sight;
 use crate::walk::Walk;
 use crate::way_down::step_down;
@@ -111,11 +113,15 @@ pub fn grade_below(
 {
     down.cross_only(block);
     let most = sight.lists[block as usize].len().saturating_mul(LOOKS);
-    let looked = visit_first_away(sight.heads, &mut down.walk, block, row, most);
-    let left = most.checked_sub(looked)?;
+    let few = most.min(FEW);
+    let looked = visit_first_away(sight.heads, &mut down.walk, block, row, few);
     let least = sight.levels.floor(block);
-    match descend(sight, down, block, least, left)? {
-        true => Some(Grade::Soft),
-        false => Some(Grade::Hard),
+    if descend(sight, down, block, least, most)? {
+        return Some(Grade::Soft);
+    }
+    if looked <= few {
+        Some(Grade::Hard)
+    } else {
+        None
     }
 }

@@ -16,16 +16,13 @@ ghost use Rattle.fst_walks.specs.Walks.{numbers_met};
 ghost use Rattle.fst_walks.specs.WayBack.{ShowsBlockOf};
 
 use crate::ends::Ends;
-use crate::first_away::visit_first_away;
+use crate::first_away::{FEW, visit_first_away};
 use crate::sight::Sight;
 use crate::walk::Walk;
 use crate::way_down::step_down;
 use crate::way_up::{step_up, visit_low_changes};
 use fst_heads::head::Head;
 use fst_types::Grade;
-
-// At how many patches a search looks first.
-const FEW: usize = 256;
 
 /// How many patches each of the two has looked at.
 #[derive(Clone, Copy)]

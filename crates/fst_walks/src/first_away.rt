@@ -15,6 +15,9 @@ use crate::walk::Walk;
 use fst_heads::head::Head;
 use fst_heads::test::{Test, passes};
 
+/// At how many patches below a row a search looks before it begins with those that it has found.
+pub const FEW: usize = 256;
+
 // Whether the way down goes through the patch in the slot.
 fn goes_through(heads: &[Head], slot: usize, block: u32) -> bool
     requires rising { IsRising heads.now }

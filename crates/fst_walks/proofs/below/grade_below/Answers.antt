@@ -1,4 +1,3 @@
-use Rattle.std.proofs.lemmas.Grind.{common_steps}
 use Rattle.std.proofs.Common.{◌∙◌, sym, arith}
 use Rattle.std.proofs.lemmas.Bool.{false≢true}
 use Rattle.fst_heads.specs.Heads.{patches_of}
@@ -12,41 +11,23 @@ descend-requires-clause-away c n top x =
     let heads = c.args.sight.now.heads.now in
     off_not_on (patches_of heads) (rising_patches heads c.requires.sees.rising) c.args.block n (c.visit_first_away-looked.ensures.only n top).away x
 
-pub returns-in-true-clause-graded : goal.returns-in-true-clause-graded
-returns-in-true-clause-graded c =
+pub returns-then-branch-clause-graded : goal.returns-then-branch-clause-graded
+returns-then-branch-clause-graded c =
     let sight = c.args.sight.now in
     let sees = c.requires.sees in
     let crossed = c.cross_only.new.self.crossed.items in
     let shown = c.cross_only.ensures.shown in
     comes_soft sight.heads.now sees.rising sees.disk sees.hard sees.flights (level_of sight.levels.now.ranks) (floor_of sight.levels.now.floors) sees.leveled.leveled (needs_of sight.needs.now.lists) sees.needing.needed
     c.args.block c.floor-least.result (omega (arith, c.floor-least.ensures)) c.args.row.now crossed crossed shown shown
-    (numbers_met sight.heads.now c.visit_first_away-looked.new.walk) c.visit_first_away-looked.ensures.only (c.in_ok-descend.ensures.met.0 c.in-true.is)
+    (numbers_met sight.heads.now c.visit_first_away-looked.new.walk) c.visit_first_away-looked.ensures.only (c.in_ok-descend.ensures.met.0 c.if-branch.true)
 
-pub returns-in-false-clause-graded : goal.returns-in-false-clause-graded
-returns-in-false-clause-graded c =
+pub returns-then-looked-few-clause-graded : goal.returns-then-looked-few-clause-graded
+returns-then-looked-few-clause-graded c =
     let sight = c.args.sight.now in
     let sees = c.requires.sees in
     let crossed = c.cross_only.new.self.crossed.items in
     let shown = c.cross_only.ensures.shown in
     comes_hard sight.heads.now sees.rising sees.disk sees.hard sees.flights (level_of sight.levels.now.ranks) (floor_of sight.levels.now.floors) sees.leveled.leveled (needs_of sight.needs.now.lists) sees.needing.needed
     c.args.block c.floor-least.result (omega (arith, c.floor-least.ensures)) c.args.row.now crossed crossed shown shown
-    (numbers_met sight.heads.now c.visit_first_away-looked.new.walk) c.visit_first_away-looked.ensures.only (c.visit_first_away-looked.ensures.all c.in_ok-left.ensures.0)
-    (λ x. false≢true (sym c.in-false.is ∙ c.in_ok-descend.ensures.met.1 x))
-
-pub returns-in-false-clause-down : goal.returns-in-false-clause-down
-returns-in-false-clause-down c = grind (arith, common_steps)
-
-pub returns-in-true-clause-down : goal.returns-in-true-clause-down
-returns-in-true-clause-down c = grind (arith, common_steps)
-
-pub returns-in_err-descend-clause-down : goal.returns-in_err-descend-clause-down
-returns-in_err-descend-clause-down c = grind (arith, common_steps)
-
-pub returns-in_err-descend-clause-graded : goal.returns-in_err-descend-clause-graded
-returns-in_err-descend-clause-graded c = grind (arith, common_steps)
-
-pub returns-in_err-left-clause-down : goal.returns-in_err-left-clause-down
-returns-in_err-left-clause-down c = grind (arith, common_steps)
-
-pub returns-in_err-left-clause-graded : goal.returns-in_err-left-clause-graded
-returns-in_err-left-clause-graded c = grind (arith, common_steps)
+    (numbers_met sight.heads.now c.visit_first_away-looked.new.walk) c.visit_first_away-looked.ensures.only (c.visit_first_away-looked.ensures.all (omega (arith, c.if-looked-few.true)))
+    (λ x. false≢true (sym c.if-branch.false ∙ c.in_ok-descend.ensures.met.1 x))
