@@ -20,6 +20,9 @@ use crate::walk::Walk;
 use crate::way_up::{step_up, visit_low_changes};
 use fst_types::Grade;
 
+// How many changes a block may have for a walk that only saves later ones.
+const MANY: usize = 256;
+
 // Visits all that the steps up lead to from what was visited on, as far as it is no higher than `most`.
 fn climb_low(sight: &Sight<'_>, walk: &mut Walk, crossed: &mut [bool], most: u32)
     requires sees { Sees sight.now }
@@ -73,10 +76,12 @@ pub fn rise_of(
     let high = sight.levels.greatest(sight.heads, row);
     let floor = sight.levels.floor(block);
     // Over changes of the block alone, and over what an earlier one stands over, nothing is to be told. So a chain of gates
-    // over one block lifts nothing, nor does each change over a gate that stands over its block.
+    // over one block lifts nothing, nor does each change over a gate that stands over its block. And as high as the floor it
+    // has to lift nothing: what it may tell later is not worth a walk over all of a block with many changes each time.
     let over = high > floor
         || (high == floor
             && floor < TOP
+            && sight.lists[block as usize].len() <= MANY
             && !stays_below(sight, block, row)
             && !waits_for_own_block(sight.heads, block, row)
             && told_before(sight, block, row).is_none());
