@@ -27,9 +27,10 @@ use Rattle.fst_block.specs.Choices.{IsChoice, chosen_of}
 use Rattle.fst_graph.specs.Known.{Known}
 use Rattle.fst_seat.specs.Names.{numbers_of}
 use Rattle.fst_cache.specs.Views.{CacheView}
-use Rattle.fst_seat.specs.Seats.{SeatView, blocks}
+use Rattle.fst_seat.specs.Seats.{SeatView, blocks, is_dirty_seat}
 use Rattle.fst_cache.specs.Kept.{IsKept, state_of, view_of, block_patch, block_patches, block_view}
 use Rattle.fst_seat.proofs.Seated.{block_here}
+use Rattle.fst_cache.proofs.ResideSeats.{dirty_is}
 use Rattle.fst_cache.proofs.SendSet.{early_in_set, chosen_part, at_home, there, ready, is_choice}
 
 -- the block's writes are those of its changes
@@ -107,6 +108,12 @@ module _ (s : State) (graph : Known) (seats : List SeatView) (b : ℕ) (seat : S
 
   pub folded_here : (image : List ℕ) → image ≡ image_of s b (numbers_of names) → IfSome seat.loaded (λ l. image ≡ fold_of l.base (chosen_of names l.patches))
   folded_here image e = rw loaded_is (e ∙ sym image_is)
+
+  -- it was dirty
+  pub was_dirty : is_dirty_seat seat ≡ true
+  was_dirty =
+      let r = ready s law b names S.choice S.clear in
+      dirty_is s graph seats S.kept S.same b seat S.at_b ∙ dirty_with s b r.0 r.1.in_memory
 
   -- and has the block's size
   pub image_sized : length (image_of s b (numbers_of names)) ≡ length seat.block.committed

@@ -1,5 +1,5 @@
 -- What the cache's type keeps.
-use Rattle.std.specs.Prelude.{◌≡◌, ◌≤◌, ℕ, Bool, true, List, Some, IsSome, is_some, map, length, count_by, sum_by, slice_get}
+use Rattle.std.specs.Prelude.{◌≡◌, ◌≤◌, ℕ, true, List, Some, IsSome, is_some, map, length, count_by, sum_by, slice_get}
 use Rattle.fst_types.specs.declared.place.Place.TheVariants as place
 use Rattle.fst_types.specs.declared.span.Span.{Span}
 use Rattle.fst_types.specs.declared.grade.Grade.{Grade}
@@ -13,7 +13,8 @@ use Rattle.fst_block.specs.BlockView.{BlockPatch, BlockView}
 use Rattle.fst_graph.specs.Known.{Known}
 use Rattle.fst_cache.specs.Views.{CacheView, home_of}
 use Rattle.fst_seat.specs.Seats.{SeatView, blocks, undo_of}
-use Rattle.fst_seat.specs.Residing.{are_loaded}
+use Rattle.fst_seat.specs.Places.{ResidentsView}
+use Rattle.fst_seat.specs.Residing.{residents_of}
 
 -- the grade of a change, and soft for other kinds
 abbrev pub grade_in : Kind → Grade
@@ -80,12 +81,12 @@ pub record IsKept (s : State) (graph : Known) (seats : List SeatView) : Type 0 w
   pub loaded : count_by (λ seat. is_some seat.loaded) seats ≤ s.resident
   pub seat : (b : ℕ) (seat : SeatView) → slice_get seats b ≡ Some seat → IsKeptSeat s b seat
 
--- that, and what is kept beside it is right: the counts of the blocks in flight and of the undo bytes of all blocks, and which blocks are in memory
-pub record IsCounted (count undo : ℕ) (loaded : List Bool) (s : State) (graph : Known) (seats : List SeatView) : Type 0 where
+-- that, and what is kept beside it is right: the counts of the blocks in flight and of the undo bytes of all blocks, which blocks are in memory, and how many are dirty
+pub record IsCounted (count undo : ℕ) (residents : ResidentsView) (s : State) (graph : Known) (seats : List SeatView) : Type 0 where
   pub kept : IsKept s graph seats
   pub flying : count ≡ flights s
   pub undoing : undo ≡ sum_by undo_of seats
-  pub listed : loaded ≡ are_loaded seats
+  pub listed : residents ≡ residents_of s.resident seats
 
 -- block b, its changes and whether it is dirty are in both states the same
 pub record IsSameAt (s t : State) (b : ℕ) : Type 0 where

@@ -5,7 +5,7 @@
 //!
 //! All that every call needs and keeps is in the type's invariant: the state is lawful, a block in memory is as the state
 //! says, a block with a change that is not on disk is in memory, no more blocks are in memory than may be, those are the ones
-//! that are listed, and the blocks in flight and the undo bytes are as many as are counted.
+//! that are listed, and the dirty blocks, the blocks in flight and the undo bytes are as many as are counted.
 
 mod gates;
 mod groups;
@@ -45,7 +45,7 @@ impl<S: BlockSlot> Model for Cache<S> {
 
     ghost view = { λ a. view_of (state_of a.size a.residents.most a.tickets a.made a.graph a.contents.items a.seats.items) a.seats.items };
 
-    ghost invariant = { λ a. IsCounted a.flights a.undo a.residents.loaded (state_of a.size a.residents.most a.tickets a.made a.graph a.contents.items a.seats.items) a.graph a.seats.items };
+    ghost invariant = { λ a. IsCounted a.flights a.undo a.residents (state_of a.size a.residents.most a.tickets a.made a.graph a.contents.items a.seats.items) a.graph a.seats.items };
 }
 
 // Written by hand, so that where a cache is dropped this one function is called: what is derived is a drop of each field

@@ -4,5 +4,6 @@ pub mod Loading
 pub mod Putting
 pub mod Flying
 pub mod Undo
+pub mod Dirty
 pub mod Exchanging
 pub mod Listing

@@ -1,14 +1,13 @@
 -- The blocks in memory are the first of all in their places: as one more comes and one goes, and as the hand finds a clean one.
 use Rattle.std.proofs.Common.{◌≡◌, ◌<◌, ◌≤◌, ◌+◌, ◌-◌, ℕ, Bool, true, false, List, [], ◌∷◌, map, Option, Some, None, nat_lt, is_some, refl, sym, ap, subst, ◌∙◌, inl, inr, arith, length, replicate, slice_get, slice_set, count_by}
 use Rattle.std.specs.Prelude.{MatchOption, Result, Ok, Err, IsErr, IsSome, OnOk, is_ok}
-use Rattle.std.proofs.lemmas.Bool.{cases_Bool, cases_lt, lt-ltb, ltb-true, ltb-false, both_ways}
-use Rattle.std.proofs.lemmas.List.{set-get_or, map-set, length-map}
+use Rattle.std.proofs.lemmas.Bool.{cases_Bool, cases_lt, lt-ltb, ltb-true, ltb-false}
+use Rattle.std.proofs.lemmas.List.{set-get_or, length-map}
 use Rattle.std.proofs.lemmas.Option.{same_Some, get_or_from_slice_get}
 use Rattle.fst_seat.specs.Places.{exchanged, are_first}
 use Rattle.fst_seat.specs.Seats.{SeatView, is_dirty_seat}
-use Rattle.fst_seat.specs.Residing.{are_loaded, count_loaded, IsCleanLoaded, IsCleanAt, IsAtRestWhereAway}
-use Rattle.fst_seat.proofs.Counts.{count_mapped, count_le, count_lt}
-use Rattle.fst_seat.proofs.Loading.{none_of, none_clean}
+use Rattle.fst_seat.specs.Residing.{are_loaded, count_loaded, IsCleanLoaded, IsCleanAt}
+use Rattle.fst_seat.proofs.Counts.{count_mapped}
 use Rattle.fst_seat.proofs.Exchanging.{get_map, map_get, first_stay, first_added, first_removed, count_noted}
 
 -- what a list says of a block, and of its place
@@ -129,48 +128,11 @@ module _ (count : ℕ) (places : List ℕ) (seats : List SeatView) (listed : are
 pub loaded_counted : (flags : List Bool) (seats : List SeatView) → flags ≡ are_loaded seats → count_by (λ (t : Bool). t) flags ≡ count_loaded seats
 loaded_counted flags seats listed = ap (count_by (λ (t : Bool). t)) listed ∙ count_mapped (λ (t : Bool). t) (λ (t : SeatView). is_some t.loaded) seats
 
--- what is listed of one seat, before it changes and after
+-- what is listed of one seat
 pub listed_at : (flags : List Bool) (seats : List SeatView) (b : ℕ) (seat : SeatView) → flags ≡ are_loaded seats → slice_get seats b ≡ Some seat → slice_get flags b ≡ Some (is_some seat.loaded)
 listed_at flags seats b seat listed at_b = ap (λ (ts : List Bool). slice_get ts b) listed ∙ get_map (λ (t : SeatView). is_some t.loaded) seats b seat at_b
-
-pub listed_after : (flags : List Bool) (seats : List SeatView) (b : ℕ) (new : SeatView) (there : Bool) → flags ≡ are_loaded seats → is_some new.loaded ≡ there → slice_set flags b there ≡ are_loaded (slice_set seats b new)
-listed_after flags seats b new there listed is =
-    ap (λ (ts : List Bool). slice_set ts b there) listed ∙ (ap (slice_set (are_loaded seats) b) (sym is) ∙ sym (map-set (λ (t : SeatView). is_some t.loaded) seats b new))
 
 -- a block is in memory where its read succeeded
 pub read_noted : {T E : Type 0} (r : Result T E) (new : SeatView) {P : Type 0} → OnOk r (IsSome new.loaded) → (IsErr r → P × (new.loaded ≡ None)) → is_some new.loaded ≡ is_ok r
 read_noted (Ok x) new there away = there
 read_noted (Err x) new there away = ap is_some (away refl).1
-
-module _ (flags : List Bool) (seats : List SeatView) (most : ℕ) (listed : flags ≡ are_loaded seats) (rest : IsAtRestWhereAway seats) where
-  -- what is dirty is in memory
-  dirty_there : (k : ℕ) (seat : SeatView) → slice_get seats k ≡ Some seat → is_dirty_seat seat ≡ true → is_some seat.loaded ≡ true
-  dirty_there k seat at_k dirty =
-      elim (cases_Bool (is_some seat.loaded)) [
-        | inl there ↦ there
-        | inr away ↦
-            let none = none_of seat.loaded away in
-            absurd (both_ways (is_dirty_seat seat) (rw (rest k seat at_k none, none) refl) dirty)
-      ]
-
-  -- a free place is room
-  pub room_free : (free : Bool) → free ≡ nat_lt (count_by (λ (t : Bool). t) flags) most → free ≡ true → free ≡ nat_lt (count_by is_dirty_seat seats) most
-  room_free free is yields =
-      let less = ltb-true _ most (sym is ∙ yields) in
-      let fewer = count_le is_dirty_seat (λ (t : SeatView). is_some t.loaded) seats dirty_there in
-      yields ∙ sym (lt-ltb _ most (omega (arith, less, fewer, loaded_counted flags seats listed)))
-
-  -- else a clean block is, and there is none but for dirty ones
-  pub room_found : count_loaded seats ≤ most → nat_lt (count_by (λ (t : Bool). t) flags) most ≡ false → (o : Option ℕ)
-      → MatchOption o ((d : ℕ) (other : SeatView) → slice_get seats d ≡ Some other → IsCleanLoaded other → ⊥) (λ c. (seat : SeatView) × IsCleanAt seats c seat)
-      → is_some o ≡ nat_lt (count_by is_dirty_seat seats) most
-  room_found few full None none =
-      let all = none_clean seats none in
-      let past = ltb-false _ most full in
-      elim (cases_Bool (nat_lt (count_by is_dirty_seat seats) most)) [
-        | inl less ↦ absurd (let lt = ltb-true _ most less in omega (arith, lt, all, past, loaded_counted flags seats listed))
-        | inr right ↦ sym right
-      ]
-  room_found few full (Some c) found =
-      let fewer = count_lt is_dirty_seat (λ (t : SeatView). is_some t.loaded) seats c found.0 dirty_there found.1.at found.1.block.clean found.1.block.there in
-      sym (lt-ltb _ most (omega (arith, fewer, few)))

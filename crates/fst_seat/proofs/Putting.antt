@@ -9,7 +9,7 @@ use Rattle.fst_types.specs.declared.fault.Fault.TheVariants as fault
 use Rattle.fst_types.specs.State.{BlockState}
 use Rattle.fst_block.specs.BlockView.{BlockPatch, BlockView}
 use Rattle.fst_seat.specs.Seats.{SeatView}
-use Rattle.fst_seat.specs.Residing.{are_loaded, IsReadOf, MakesPlace, IsLoadedAt}
+use Rattle.fst_seat.specs.Residing.{IsReadOf, MakesPlace, IsLoadedAt}
 use Rattle.fst_seat.specs.Residing.{MayLoad, Puts}
 use Rattle.fst_seat.specs.Faults.{IsOneFaultMore}
 use Rattle.fst_seat.proofs.Seated.{get-set, same_seat, same_listed}
@@ -123,12 +123,12 @@ module _ (resident : ℕ) (old new : List SeatView) (b : ℕ) (seat : SeatView) 
       same (Ok x) None there applied unchanged = absurd (false≢true there)
       same (Ok x) (Some l) there applied unchanged = ap (λ (t : SeatView). t.faults) applied
 
-  -- and so is what is in memory
+  -- and the block is in memory as before
   pub same_loaded : {T E : Type 0} (r : Result T E) (patch : BlockPatch) (put : SeatView) → IsSome seat.loaded
       → OnOk r (IfSome seat.loaded (λ l. put ≡ record seat { loaded = Some (record l { patches = l.patches ++ patch ∷ [] }) }))
       → OnErr r (put ≡ seat)
-      → are_loaded (slice_set new b put) ≡ are_loaded new
-  same_loaded r patch put there applied unchanged = same_listed new b seat at_b (λ (t : SeatView). is_some t.loaded) put (same r seat.loaded there applied unchanged ∙ sym there)
+      → is_some put.loaded ≡ is_some seat.loaded
+  same_loaded r patch put there applied unchanged = same r seat.loaded there applied unchanged ∙ sym there
     where
       same : {T E : Type 0} (r : Result T E) (o : Option BlockView) → is_some o ≡ true
           → OnOk r (IfSome o (λ l. put ≡ record seat { loaded = Some (record l { patches = l.patches ++ patch ∷ [] }) })) → OnErr r (put ≡ seat) → is_some put.loaded ≡ true

@@ -15,7 +15,8 @@ exchanged i j k = cond (k == i) j (cond (k == j) i k)
 abbrev pub are_first : ℕ → List ℕ → List Bool
 are_first count at = map (λ k. nat_lt k count) at
 
--- how many blocks may be in memory, and of each whether it is
+-- how many blocks may be in memory, of each whether it is, and how many are dirty
 pub record ResidentsView : Type 0 where
   pub most : ℕ
   pub loaded : List Bool
+  pub dirty : ℕ

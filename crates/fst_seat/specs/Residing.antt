@@ -2,10 +2,15 @@
 use Rattle.std.specs.Prelude.{◌≡◌, ◌<◌, ◌≤◌, ◌⊎◌, ◌++◌, ◌∷◌, ℕ, Bool, false, List, [], Option, Some, None, IsSome, is_some, slice_get, slice_set, map, count_by}
 use Rattle.fst_block.specs.BlockView.{BlockPatch, BlockView}
 use Rattle.fst_seat.specs.Seats.{SeatView, is_dirty_seat}
+use Rattle.fst_seat.specs.Places.{ResidentsView}
 
 -- of each block, whether it is in memory
 abbrev pub are_loaded : List SeatView → List Bool
 are_loaded seats = map (λ seat. is_some seat.loaded) seats
+
+-- what is kept beside these seats: how many blocks may be in memory, which are, and how many are dirty
+abbrev pub residents_of : ℕ → List SeatView → ResidentsView
+residents_of most seats = record { most = most; loaded = are_loaded seats; dirty = count_by is_dirty_seat seats }
 
 -- how many blocks are in memory
 abbrev pub count_loaded : List SeatView → ℕ

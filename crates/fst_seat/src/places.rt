@@ -54,7 +54,6 @@ impl Places {
         ensures place { slice_get self.now block ≡ Some result }
         ensures alone { (other : ℕ) → slice_get self.now other ≡ Some result → other ≡ block }
         ensures within { result < length self.now }
-        ensures small { result < 18446744073709551615 }
     {
         self.at[block]
     }

@@ -1,12 +1,14 @@
-//! Which blocks are in memory, so that a place for one more is found without a look at those that are not.
+//! Which blocks are in memory, so that a place for one more is found without a look at those that are not, and how many
+//! are dirty, so that without a look at any it is known whether there is one.
 //!
 //! Of the blocks in their places those in memory are the first, as many as are counted, so each of them is listed once. A
 //! hand goes around them (the clock algorithm): it stops at the first that is not dirty, and the block that comes into
-//! memory stands in the place of the one that left, which the hand has passed. What is dirty changes seat by seat, in
-//! many ways, and whether a block is in memory by a load or an eviction alone: so this stands beside the seats, which it
-//! does not own, and its value says of each block whether it is in memory.
+//! memory stands in the place of the one that left, which the hand has passed. Whether a block is in memory changes by a
+//! load or an eviction alone, and how many are dirty where a change is put into a block or a write of it lands; all else
+//! changes seat by seat, in many ways: so this stands beside the seats, which it does not own, and its value says of each
+//! block whether it is in memory, and how many are dirty.
 
-ghost use Rattle.std.specs.Prelude.{◌≡◌, ◌<◌, ◌≤◌, ℕ, true, false, Some, IfOk, IfSome, IfErr, MatchOption, nat_lt, length, replicate, count_by, slice_get, slice_set};
+ghost use Rattle.std.specs.Prelude.{◌≡◌, ◌<◌, ◌≤◌, ◌+◌, ◌-◌, ℕ, IsTrue, true, false, cond, Some, IfOk, IfSome, IfErr, MatchOption, nat_lt, length, replicate, count_by, slice_get, slice_set};
 ghost use Rattle.fst_types.specs.declared.fault.Fault.{Fault};
 ghost use Rattle.fst_seat.specs.Seats.{SeatView, is_dirty_seat};
 ghost use Rattle.fst_seat.specs.Residing.{are_loaded, IsCleanLoaded, IsCleanAt};
@@ -25,17 +27,19 @@ pub struct Residents {
     places: Places,
     count: usize,
     hand: usize,
+    dirty: usize,
 }
 
 impl Model for Residents {
-    ghost use Rattle.std.specs.Prelude.{◌≡◌, ◌≤◌, count_by};
+    ghost use Rattle.std.specs.Prelude.{◌≡◌, ◌≤◌, length, count_by};
     ghost use Rattle.fst_seat.specs.Places.{ResidentsView, are_first};
 
     ghost Value = { ResidentsView };
 
-    ghost view = { λ a. record { most = a.most; loaded = are_first a.count a.places } };
+    ghost view = { λ a. record { most = a.most; loaded = are_first a.count a.places; dirty = a.dirty } };
 
-    ghost invariant = { λ a. (a.count ≡ count_by (λ there. there) (are_first a.count a.places)) × (a.hand ≤ a.count) };
+    // The last fact says that a count of some of the blocks is a `usize`.
+    ghost invariant = { λ a. (a.count ≡ count_by (λ there. there) (are_first a.count a.places)) × (a.hand ≤ a.count) × (length a.places ≤ 18446744073709551615) };
 }
 
 /// The first block from one place to another that is not dirty.
@@ -63,7 +67,7 @@ fn clean_in<S: BlockSlot>(
 impl Residents {
     /// None of so many blocks is in memory. All memory is taken here.
     pub fn new(alloc: Global, most: u32, blocks: usize) -> Result<Residents, Fault>
-        ensures none { IfOk result (λ residents. residents ≡ record { most = most; loaded = replicate blocks false }) }
+        ensures none { IfOk result (λ residents. residents ≡ record { most = most; loaded = replicate blocks false; dirty = 0 }) }
         ensures only_memory { IfErr result (λ fault. fault ≡ Fault.Memory) }
     {
         let Ok(places) = Places::new(alloc, blocks) else {
@@ -74,7 +78,15 @@ impl Residents {
             places,
             count: 0,
             hand: 0,
+            dirty: 0,
         })
+    }
+
+    /// Whether fewer blocks are dirty than may be in memory.
+    pub fn has_room(&self) -> bool
+        ensures { result ≡ nat_lt self.now.dirty self.now.most }
+    {
+        self.dirty < self.most as usize
     }
 
     /// Whether fewer blocks are in memory than may be.
@@ -133,5 +145,14 @@ impl Residents {
         if there {
             self.add(block);
         }
+    }
+
+    /// A block that was dirty, or was not, is dirty now, or is not.
+    pub fn recount(&mut self, was_dirty: bool, is_dirty: bool)
+        requires counted { IsTrue was_dirty → 0 < self.old.dirty }
+        requires few { self.old.dirty + cond is_dirty 1 0 - cond was_dirty 1 0 ≤ length self.old.loaded }
+        ensures { self.new ≡ record self.old { dirty = self.old.dirty + cond is_dirty 1 0 - cond was_dirty 1 0 } }
+    {
+        self.dirty = self.dirty - usize::from(was_dirty) + usize::from(is_dirty);
     }
 }

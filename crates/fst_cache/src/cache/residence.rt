@@ -9,7 +9,6 @@ ghost use Rattle.fst_types.specs.Step.{Step};
 
 use crate::cache::Cache;
 use fst_device::BlockSlot;
-use fst_seat::residence::has_room;
 use fst_types::{BlockNo, Fault};
 
 impl<S: BlockSlot> Cache<S> {
@@ -18,7 +17,7 @@ impl<S: BlockSlot> Cache<S> {
         requires { block.0 < length self.now.state.blocks }
         ensures { IsTrue result ↔ (HasNoRoom self.now.state block.0 → ⊥) }
     {
-        self.seats[block.0 as usize].is_loaded() || has_room(&self.seats, &self.residents)
+        self.seats[block.0 as usize].is_loaded() || self.residents.has_room()
     }
 
     /// Why a block cannot be given up.

@@ -1,8 +1,9 @@
 use Rattle.std.proofs.lemmas.Grind.{common_steps}
-use Rattle.std.proofs.Common.{◌<◌, ◌∙◌, List, Bool, Option, Some, is_some, length, slice_set, sym, ap, inr, arith}
+use Rattle.std.proofs.Common.{◌<◌, ◌∙◌, Option, Some, is_some, length, get_or, slice_set, sym, ap, inr, arith}
 use Rattle.fst_block.specs.BlockView.{BlockView}
 use Rattle.fst_seat.specs.Places.{ResidentsView}
-use Rattle.fst_seat.proofs.Listing.{listed_at, listed_after, read_noted}
+use Rattle.fst_seat.proofs.Listing.{listed_at, read_noted}
+use Rattle.fst_seat.proofs.Dirty.{read_clean, residents_moved}
 use Rattle.std.proofs.lemmas.Result.{on_ok_weaker}
 use Rattle.fst_seat.proofs.Loading.{none_of, away_placed, rest_placed, length_placed, seat_read, loads_by, there_by, rose_by, quiet_by, counted_by}
 use Rattle.fst_seat.proofs.residence.load.Goals as goal
@@ -83,11 +84,13 @@ returns-clause-listed g c =
     let was = seat_read c.args.seats.now c.args.block.0 c.index-seats-at.result c.requires.within in
     let lt : c.args.block.0 < length placed = omega (arith, length_placed _ _ _ c.make_place.ensures.place, c.requires.within) in
     let at_b = seat_read placed c.args.block.0 c.index-seats-at-2.result lt in
-    let listed = ap (λ (v : ResidentsView). v.loaded) c.make_place.ensures.listed in
+    let away = away_placed c.args.residents.now.most c.args.seats.now placed c.args.block.0 _ at_b c.make_place.ensures.place _ was (sym c.is_loaded.ensures ∙ c.if-is_loaded.false) in
+    let home = rest_placed c.args.residents.now.most c.args.seats.now placed c.args.block.0 _ at_b c.make_place.ensures.place c.requires.rest away in
     let there = read_noted c.load-read.result c.load-read.new.self c.load-read.ensures.there c.load-read.ensures.away ∙ sym c.is_ok.ensures.value in
+    let still = read_clean (get_or placed c.args.block.0 c.index-seats-at-2.result) c.load-read.new.self home c.load-read.ensures.same c.load-read.ensures.loaded in
     c.note.ensures
-    ∙ (ap (λ (v : ResidentsView). record v { loaded = slice_set c.make_place.new.residents.loaded c.args.block.0 c.is_ok.result }) c.make_place.ensures.listed
-    ∙ ap (λ (flags : List Bool). record { most = c.args.residents.now.most; loaded = flags }) (listed_after c.make_place.new.residents.loaded placed c.args.block.0 c.load-read.new.self c.is_ok.result listed there))
+    ∙ (ap (λ (v : ResidentsView). record v { loaded = slice_set v.loaded c.args.block.0 c.is_ok.result }) c.make_place.ensures.listed
+    ∙ residents_moved placed c.args.block.0 (get_or placed c.args.block.0 c.index-seats-at-2.result) at_b c.args.residents.now.most c.load-read.new.self c.is_ok.result there still)
 
 pub bounds-seats-at : goal.bounds-seats-at
 bounds-seats-at g c = grind (arith, common_steps)

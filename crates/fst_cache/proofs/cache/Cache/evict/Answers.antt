@@ -1,4 +1,4 @@
-use Rattle.std.proofs.Common.{ap, is_some, ◌≡◌, ◌<◌, false, Some, None, refl, sym, ◌∙◌, slice_get, length, inl, ◌≤◌, arith}
+use Rattle.std.proofs.Common.{ap, is_some, ◌≡◌, ◌<◌, false, Some, None, refl, sym, ◌∙◌, slice_get, slice_set, length, inl, ◌≤◌, arith}
 use Rattle.std.proofs.lemmas.Bool.{false_from_ne_true}
 use Rattle.std.proofs.lemmas.Option.{slice_get_read}
 use Rattle.std.proofs.lemmas.List.{length-map}
@@ -6,12 +6,13 @@ use Rattle.fst_types.specs.Events.{Evict}
 use Rattle.fst_types.specs.Order.{order}
 use Rattle.fst_types.specs.Refusals.{NoneHolds}
 use Rattle.fst_types.specs.Step.{accepted, refused, evict}
-use Rattle.fst_seat.specs.Seats.{SeatView, undo_of}
+use Rattle.fst_seat.specs.Seats.{SeatView, is_dirty_seat, undo_of}
+use Rattle.fst_seat.specs.Places.{ResidentsView}
 use Rattle.fst_cache.specs.Kept.{state_of}
 use Rattle.fst_seat.proofs.Seated.{same_listed}
 use Rattle.fst_cache.proofs.ResideSeats.{dirty_is}
 use Rattle.fst_cache.proofs.ResideLoading.{unloaded, view_unloaded, within_of}
-use Rattle.fst_seat.proofs.Listing.{listed_after}
+use Rattle.fst_seat.proofs.Dirty.{left_clean, residents_moved}
 use Rattle.fst_seat.proofs.Flying.{flying_same}
 use Rattle.fst_seat.proofs.Undo.{undo_same, undo_clean}
 use Rattle.fst_cache.proofs.cache.Cache.evict.Goals as goal
@@ -32,7 +33,8 @@ invariant_of-self g c =
           (unloaded s i.graph i.seats.items c.self.invariant.kept refl _ _ seated clean);
       flying = flying_same i.seats.items c.args.block.0 _ _ seated i.flights (ap (λ (t : SeatView). is_some t.block.flight) c.unload.ensures) c.self.invariant.flying;
       undoing = undo_same i.seats.items c.args.block.0 _ _ seated i.undo (ap undo_of c.unload.ensures ∙ sym (undo_clean c.index_mut.result.now clean)) c.self.invariant.undoing;
-      listed = listed_after i.residents.loaded i.seats.items c.args.block.0 c.unload.new.self false c.self.invariant.listed (ap (λ (t : SeatView). is_some t.loaded) c.unload.ensures);
+      listed = ap (λ (v : ResidentsView). record v { loaded = slice_set v.loaded c.args.block.0 false }) c.self.invariant.listed
+          ∙ residents_moved i.seats.items c.args.block.0 _ seated i.residents.most c.unload.new.self false (ap (λ (t : SeatView). is_some t.loaded) c.unload.ensures) (ap is_dirty_seat c.unload.ensures ∙ (left_clean c.index_mut.result.now clean ∙ sym clean));
     })
 
 pub returns-clause-step : goal.returns-clause-step

@@ -43,7 +43,7 @@ invariant_of-result g c =
           c.args.shape.within.few_blocks c.args.shape.within.few_bytes given sent free);
       flying = rw c.seated.ensures (none_flying g.S.BlockSlot.held g.S.BlockSlot.index g.S.BlockSlot.faults c.args.slots.items);
       undoing = rw c.seated.ensures (none_undo g.S.BlockSlot.held g.S.BlockSlot.index g.S.BlockSlot.faults c.args.slots.items);
-      listed = rw (c.in-Ok.ensures.none, c.seated.ensures) (none_listed g.S.BlockSlot.held g.S.BlockSlot.index g.S.BlockSlot.faults c.args.slots.items _ (omega (arith, c.len.ensures, c.args.slots.ok.0)));
+      listed = rw (c.in-Ok.ensures.none, c.seated.ensures) (none_listed g.S.BlockSlot.held g.S.BlockSlot.index g.S.BlockSlot.faults c.args.slots.items c.args.shape.resident _ (omega (arith, c.len.ensures, c.args.slots.ok.0)));
     }
 
 pub returns-clause-opened : goal.returns-clause-opened

@@ -7,7 +7,7 @@ use Rattle.fst_graph.specs.Known.{Known, AddsChange}
 use Rattle.fst_seat.specs.Names.{numbers_of}
 use Rattle.fst_block.specs.BlockView.{BlockPatch}
 use Rattle.fst_seat.specs.Seats.{SeatView}
-use Rattle.fst_seat.specs.Residing.{are_loaded, MayLoad, Puts}
+use Rattle.fst_seat.specs.Residing.{residents_of, MayLoad, Puts}
 use Rattle.fst_seat.proofs.Flying.{flying_still}
 use Rattle.fst_seat.proofs.Undo.{undo_load, undo_puts}
 use Rattle.fst_seat.proofs.Putting.{not_failed}
@@ -200,7 +200,7 @@ invariant_of-self-in-Err-put g c =
       kept = kept_ready c.self.inside.size c.self.inside.residents.most c.self.inside.tickets c.self.inside.made c.self.inside.graph c.room.new.self _ c.in-Ok.ensures.prepared c.self.inside.contents.items c.self.inside.seats.items _ c.self.invariant.kept c.args.block.0 (loads g at);
       flying = flying_still c.self.inside.flights c.self.inside.seats.items _ (still g at).blocks c.self.invariant.flying;
       undoing = c.self.invariant.undoing ∙ sym (undo_load c.self.inside.residents.most c.self.inside.seats.items c.args.block.0 _ (loads g at));
-      listed = sym (ap are_loaded (written_back c.self.inside.seats.len c.put.new.seats c.self.inside.seats.items (sym (many_left g at))));
+      listed = sym (ap (residents_of c.self.inside.residents.most) (written_back c.self.inside.seats.len c.put.new.seats c.self.inside.seats.items (sym (many_left g at))));
     })
 
 pub returns-in-Err-put-clause-step : goal.returns-in-Err-put-clause-step
@@ -246,7 +246,7 @@ invariant_of-self-2 g c =
       kept = rw c.with-self-inside.ensures (kept_made c.self.inside.size c.self.inside.residents.most c.self.inside.tickets c.self.inside.made c.self.inside.graph c.room.new.self _ c.in-Ok.ensures.prepared c.self.inside.contents.items c.self.inside.seats.items _ c.self.invariant.kept c.args.share.now c.args.block.0 c.args.at c.args.bytes.now (numbers_of c.args.after.now) c.in-Ok.made.0.0 c.in-Ok.made.1 may (puts g at) c.add_data.new.self (adds g at));
       flying = flying_still c.self.inside.flights c.self.inside.seats.items _ (blocks_made c.self.inside.size c.self.inside.residents.most c.self.inside.tickets c.self.inside.made c.self.inside.graph c.room.new.self _ c.in-Ok.ensures.prepared c.self.inside.contents.items c.self.inside.seats.items _ c.self.invariant.kept c.args.block.0 _ (puts g at)) c.self.invariant.flying;
       undoing = let r = undo_puts c.self.inside.residents.most c.self.inside.seats.items c.args.block.0 _ _ (puts g at) in omega (arith, r, c.undo_bytes.ensures.value, c.self.invariant.undoing);
-      listed = sym (ap are_loaded (written_back c.self.inside.seats.len c.put.new.seats c.self.inside.seats.items (sym (many_put g at))));
+      listed = sym (ap (residents_of c.self.inside.residents.most) (written_back c.self.inside.seats.len c.put.new.seats c.self.inside.seats.items (sym (many_put g at))));
     })
 
 pub returns-clause-step : goal.returns-clause-step

@@ -10,13 +10,14 @@ use Rattle.fst_types.specs.Order.{order}
 use Rattle.fst_types.specs.Refusals.{NoneHolds}
 use Rattle.fst_seat.specs.Names.{numbers_of}
 use Rattle.fst_graph.specs.Known.{Launches}
-use Rattle.fst_seat.specs.Seats.{SeatView, undo_of}
+use Rattle.fst_seat.specs.Seats.{SeatView, is_dirty_seat, undo_of}
 use Rattle.fst_cache.specs.Kept.{state_of}
 use Rattle.fst_seat.proofs.Seated.{same_listed, listed}
 use Rattle.fst_cache.proofs.SendSet.{writable}
-use Rattle.fst_cache.proofs.SendBytes.{may_send, loaded_is, idle, chosen_here, folded_here, image_sized}
+use Rattle.fst_cache.proofs.SendBytes.{may_send, was_dirty, loaded_is, idle, chosen_here, folded_here, image_sized}
 use Rattle.fst_cache.proofs.SendState.{seat_is, sent_loaded, step_sent, kept_sent, state_sent}
 use Rattle.fst_seat.proofs.Flying.{flying_more}
+use Rattle.fst_seat.proofs.Dirty.{residents_same}
 use Rattle.fst_seat.proofs.Undo.{undo_put, undo_within, undo_left}
 use Rattle.fst_cache.proofs.cache.Cache.send.Goals as goal
 
@@ -96,7 +97,10 @@ invariant_of-self g c =
           let after : c.undo_bytes.result ≡ undo_of c.launch-job.new.self = c.undo_bytes.ensures in
           let r = undo_put i.seats.items c.args.block.0 c.index_mut-seat.result.now c.launch-job.new.self S.at_b in
           omega (arith, fewer, before, after, r, c.self.invariant.undoing);
-      listed = c.self.invariant.listed ∙ sym (same_listed i.seats.items c.args.block.0 c.index_mut-seat.result.now S.at_b (λ (x : SeatView). is_some x.loaded) c.launch-job.new.self (ap (λ (x : SeatView). is_some x.loaded) seat ∙ sent_loaded (state_of i.size i.residents.most i.tickets i.made i.graph i.contents.items i.seats.items) i.graph i.seats.items c.args.block.0 c.index_mut-seat.result.now c.args.chosen.items S c.args.image.items image));
+      listed = c.self.invariant.listed
+          ∙ residents_same i.seats.items c.args.block.0 c.index_mut-seat.result.now S.at_b i.residents.most c.launch-job.new.self
+          (ap (λ (x : SeatView). is_some x.loaded) seat ∙ sent_loaded (state_of i.size i.residents.most i.tickets i.made i.graph i.contents.items i.seats.items) i.graph i.seats.items c.args.block.0 c.index_mut-seat.result.now c.args.chosen.items S c.args.image.items image)
+          (ap is_dirty_seat seat ∙ sym (was_dirty (state_of i.size i.residents.most i.tickets i.made i.graph i.contents.items i.seats.items) i.graph i.seats.items c.args.block.0 c.index_mut-seat.result.now c.args.chosen.items S));
     }
 
 pub returns-clause-step : goal.returns-clause-step

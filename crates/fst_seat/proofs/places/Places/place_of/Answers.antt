@@ -14,11 +14,3 @@ returns-clause-within c =
     let stands : slice_get at.items c.args.block ≡ Some c.index.result.now = slice_get_read at.items _ _ _ at.ok.0 (rw (← c.self.view_is, ← at.ok.0) at c.requires) c.index.ensures in
     let lt = slice_get_within c.self.inside.order.items _ _ (c.self.invariant.back c.args.block _ stands) in
     rw (← c.self.view_is) (omega (arith, lt, c.self.invariant.long))
-
-pub returns-clause-small : goal.returns-clause-small
-returns-clause-small c =
-    let at = c.self.inside.at in
-    let order = c.self.inside.order in
-    let stands : slice_get at.items c.args.block ≡ Some c.index.result.now = slice_get_read at.items _ _ _ at.ok.0 (rw (← c.self.view_is, ← at.ok.0) at c.requires) c.index.ensures in
-    let lt = slice_get_within order.items _ _ (c.self.invariant.back c.args.block _ stands) in
-    omega (arith, lt, order.ok.0, order.small)
