@@ -26,7 +26,7 @@ use fst_heads::cover::{Cover, empty_covers};
 use fst_heads::head::Head;
 use fst_heads::lists::{Listed, empty_lists, land_block};
 use fst_heads::marks::marks_if;
-use fst_heads::places::{block_of, keep_live, launch_all};
+use fst_heads::places::{block_of, launch_all};
 use fst_heads::row::is_given;
 use fst_heads::standing::{
     Standing, empty_standings, flying_count, held_count, land_at, least_marked, ready_count,
@@ -263,9 +263,8 @@ impl Sparse {
             return 0;
         }
         let before = self.heads.len();
-        keep_live(&mut self.heads, self.live);
+        self.levels.forget(&mut self.heads, self.live);
         self.ends.shrink(self.heads.len());
-        self.levels.forget(&self.heads);
         (before - self.heads.len()) as u32
     }
 

@@ -3,17 +3,13 @@ use Rattle.fst_heads.proofs.Basics.{◌≡◌, ℕ, ◌+◌, ◌==◌, ◌&&◌,
 use Rattle.std.specs.List.Retain.{IsFiltered, ReturnsInTurn}
 use Rattle.fst_heads.proofs.Patches.{Place, Patch, IsLiveNumber, is_at, is_live, In-from_Contains, Contains-from_In, filter_in, sparse_dropped}
 use Rattle.fst_heads.proofs.Patches.place
-use Rattle.fst_heads.proofs.Words.{Head, is_live_place, is_live_in, Keeps, nodes_of}
+use Rattle.fst_heads.proofs.Words.{Head, is_live_in, Keeps, nodes_of, patch_of}
 pub use Rattle.std.proofs.lemmas.Bool.{and_parts}
 
-place_same : (p : Place) → is_live_place p ≡ not (is_at p place.Disk)
-place_same place.Memory = refl
-place_same p = refl
-
 -- the live heads stand for the live nodes
-pub live_heads : (heads : List Head) → nodes_of (filter (λ h. is_live_place h.place) heads) ≡ filter (λ x. is_live x.patch) (nodes_of heads)
+pub live_heads : (heads : List Head) → nodes_of (filter (λ h. is_live (patch_of h)) heads) ≡ filter (λ x. is_live x.patch) (nodes_of heads)
 live_heads [] = refl
-live_heads (h ∷ hs) = grind (arith, cases_Bool, place_same, live_heads hs)
+live_heads (h ∷ hs) = grind (arith, cases_Bool, live_heads hs)
 
 pub live_place_of : (p : Place) → (p ≡ place.Disk → ⊥) → not (is_at p place.Disk) ≡ true
 live_place_of place.Disk n = absurd (n refl)

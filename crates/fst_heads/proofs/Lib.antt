@@ -38,3 +38,4 @@ pub mod Landing
 pub mod Slotted
 pub mod Beside
 pub mod Framed
+pub mod FirstOnDisk

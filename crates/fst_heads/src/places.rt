@@ -1,6 +1,7 @@
 //! How patches go from place to place.
 
-ghost use Rattle.std.specs.Prelude.{◌≡◌, ◌∷◌, [], map, filter, count_by, Contains, if◌then◌else◌};
+ghost use Rattle.std.specs.Prelude.{◌≡◌, ◌∷◌, [], map, count_by, Contains, if◌then◌else◌};
+ghost use Rattle.std.specs.List.{prefix_len};
 ghost use Rattle.fst_types.specs.declared.place.Place.TheVariants as place;
 ghost use Rattle.fst_types.specs.Patches.{Patch, block_of_kind};
 ghost use Rattle.fst_types.specs.Tests.{is_at, is_on, is_change_at, is_live};
@@ -81,15 +82,33 @@ pub fn block_of(heads: &[Head], number: u32) -> Option<u32>
     }
 }
 
-/// Drops the patches on disk, so many not being there. Where all are such it looks at none.
-pub fn keep_live(heads: &mut Vec<Head>, live: usize)
-    requires { live ≡ count_by is_live (patches_of heads.old.items) }
-    ensures { nodes_of heads.new.items ≡ filter (λ x. is_live x.patch) (nodes_of heads.old.items) }
+/// Whether the patch stays where those on disk are forgotten.
+pub fn is_kept(head: &Head) -> bool
+    ensures { result ≡ is_live (patch_of head.now) }
 {
-    if live == heads.len() {
-        return;
+    is_live(head.place)
+}
+
+/// The slot of the first patch on disk, so many not being there, and the end where none is. It is looked for from both ends
+/// by turns, since what landed of late mostly is the oldest or the newest.
+pub fn first_on_disk(heads: &[Head], live: usize) -> usize
+    requires { live ≡ count_by is_live (patches_of heads.now) }
+    ensures { result ≡ prefix_len is_live (patches_of heads.now) }
+{
+    let mut low = 0;
+    let mut high = heads.len();
+    let mut live_below = live;
+    while live_below < high {
+        if !is_kept(&heads[low]) {
+            return low;
+        }
+        low += 1;
+        high -= 1;
+        if is_kept(&heads[high]) {
+            live_below -= 1;
+        }
     }
-    heads.retain(|head| is_live(head.place));
+    high
 }
 
 /// One for a patch that is not on disk.

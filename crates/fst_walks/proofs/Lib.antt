@@ -35,6 +35,7 @@ pub mod OneOfMany
 pub mod StoodFor
 pub mod PutMore
 pub mod RanksLeft
+pub mod KeptLive
 pub mod Renewed
 pub mod Ancestral
 pub mod Releveled

@@ -1,17 +1,11 @@
 -- Levels of numbers without a head, and a rank that is put at another level.
-use Rattle.std.proofs.Common.{◌≡◌, ◌≢◌, ◌<◌, ℕ, zero, suc, Option, Some, None, IfSome, IfNone, is_some, List, [], ◌∷◌, length, map, get_or, set, sym, ◌∙◌, arith, All, AllPairs, refl, eqb, eq-eqb, ne_eqb, inl, inr}
+use Rattle.std.proofs.Common.{◌≡◌, ◌≢◌, ◌<◌, ℕ, zero, suc, List, [], ◌∷◌, length, map, get_or, set, sym, ◌∙◌, arith, All, AllPairs, refl, eqb, eq-eqb, ne_eqb, inl, inr}
 use Rattle.std.proofs.lemmas.Bool.{cases_Bool}
 use Rattle.std.proofs.lemmas.List.{Elements.All-tail}
-use Rattle.fst_types.specs.{Tests.has_number}
-use Rattle.fst_heads.specs.{Heads.{IsRising, patches_of}, Marks.{HasSlot, HasNone}, declared.head.Head.Head}
+use Rattle.fst_heads.specs.{Heads.{IsRising, patches_of}, Marks.{HasNone}, declared.head.Head.Head}
 use Rattle.fst_walks.specs.{Leveling.kept_under, declared.levels.Rank.Rank}
 use Rattle.fst_heads.proofs.Slots.{slot_here, some_element}
-use Rattle.fst_walks.proofs.{Ranked.{rank_number, ranks_long}, RanksLeft.{none_has, slot_has}}
-
--- whether a head with the number was found
-pub has_found : (heads : List Head) (n : ℕ) (found : Option ℕ) → IfSome found (HasSlot heads n) → IfNone found (HasNone heads n) → is_some found ≡ has_number (patches_of heads) n
-has_found heads n (Some s) here none = sym (slot_has heads n s here)
-has_found heads n None here none = sym (none_has heads n none)
+use Rattle.fst_walks.proofs.Ranked.{rank_number, ranks_long}
 
 -- the numbers of ranks rise
 abbrev pub AreRanked : List Rank → Type 0

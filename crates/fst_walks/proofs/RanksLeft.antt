@@ -3,8 +3,7 @@ use Rattle.std.proofs.Common.{◌≡◌, ◌≤◌, ◌∷◌, [], ℕ, Bool, tr
 use Rattle.std.proofs.lemmas.{Bool.{cases_Bool, cases_eq, false≢true}}
 use Rattle.fst_types.specs.{Facts.IsOnDiskWithAll, Patches.{Patch, IsRising}, Tests.{has_number, is_live}}
 use Rattle.fst_types.proofs.{Crash.same_number, Dropping.{filter_in, in_filter}, Finite.{In, In-from_Contains, Contains-from_In}}
-use Rattle.fst_heads.specs.{Heads.patches_of, Marks.{HasNone, HasSlot}, Nodes.is_live_in, declared.head.Head.Head}
-use Rattle.fst_heads.proofs.Slots.{none_slot, patch_at, patch_slot, slot_in, some_element}
+use Rattle.fst_heads.specs.{Nodes.is_live_in}
 use Rattle.fst_walks.specs.{Leveling.{IsLeveled, Leveling, jump_of, kept_under, level_of, parent_of, floor_of}, declared.levels.Rank.Rank}
 use Rattle.fst_walks.proofs.{LeveledKept.fewer_leveled, Ranked.number_of, AncestorsKept.left_over}
 
@@ -29,22 +28,6 @@ told_in (x ∷ xs) p (inr h) = elim (cases_eq x.number p.number) [
 -- each head's number is told
 pub told_has : (heads : List Patch) (p : Patch) → Contains heads p → has_number heads p.number ≡ true
 told_has heads p c = told_in heads p (In-from_Contains heads p c)
-
--- so a search for the slot tells it
-pub slot_has : (heads : List Head) (n slot : ℕ) → HasSlot heads n slot → has_number (patches_of heads) n ≡ true
-slot_has heads n slot at =
-    let d = some_element heads slot at.0 in
-    subst (λ m. has_number (patches_of heads) m ≡ true) (at.1 d) (told_has (patches_of heads) _ (patch_at heads slot d at.0))
-
--- and where it finds none, no head has the number
-pub none_has : (heads : List Head) (n : ℕ) → HasNone heads n → has_number (patches_of heads) n ≡ false
-none_has heads n none = elim (cases_Bool (has_number (patches_of heads) n)) [
-  | inl told ↦
-      let k = has_told (patches_of heads) n told in
-      let s = slot_in heads k.0 k.1 in
-      absurd (none_slot heads n s.0 none (subst (λ m. HasSlot heads m s.0) k.2 (patch_slot heads k.0 s.0 s.1 s.2)))
-  | inr untold ↦ untold
-]
 
 -- the ranks whose numbers pass a test
 module _ (t : ℕ → Bool) where
@@ -90,25 +73,37 @@ passed_same f g (x ∷ xs) same = elim (cases_Bool (g x)) [
   | inr untold ↦ rw (same x (inl refl), untold, passed_same f g xs (λ y h. same y (inr h))) refl
 ]
 
--- what is on disk is forgotten, and the ranks of the heads that are left stay
-module _ (old : List Patch) (rising : IsRising old) (disk : IsOnDiskWithAll old) where
+-- a number is left exactly if a live patch has it
+pub left_live : (old : List Patch) (n : ℕ) → has_number (filter is_live old) n ≡ is_live_in old n
+left_live [] n = refl
+left_live (p ∷ ps) n = elim (cases_Bool (is_live p)) [
+  | inl told ↦ rw (told, left_live ps n) refl
+  | inr untold ↦ rw (untold, left_live ps n) refl
+]
+
+-- what is on disk is forgotten, and the ranks of live patches stay
+module _ (old : List Patch) (rising : IsRising old) where
   abbrev left : List Patch
   left = filter is_live old
 
   abbrev is_left : ℕ → Bool
-  is_left n = has_number left n
+  is_left n = is_live_in old n
 
   was_left : (p : Patch) → Contains left p → Contains old p × (is_live p ≡ true)
   was_left p c = let k = filter_in is_live old p (In-from_Contains left p c) in (Contains-from_In old p k.0, k.1)
 
-  left_number : (p : Patch) → In old p → is_left p.number ≡ is_live p
-  left_number p h = elim (cases_Bool (is_live p)) [
-    | inl live ↦ told_in left p (in_filter is_live old p h live) ∙ sym live
+  left_told : (p : Patch) → Contains left p → is_left p.number ≡ true
+  left_told p c = sym (left_live old p.number) ∙ told_has left p c
+
+  -- each number is left as its patch is
+  pub left_number : (p : Patch) → Contains old p → is_left p.number ≡ is_live p
+  left_number p c = elim (cases_Bool (is_live p)) [
+    | inl live ↦ left_told p (Contains-from_In left p (in_filter is_live old p (In-from_Contains old p c) live)) ∙ sym live
     | inr dead ↦ elim (cases_Bool (is_left p.number)) [
       | inl told ↦
-          let k = has_told left p.number told in
+          let k = has_told left p.number (left_live old p.number ∙ told) in
           let w = was_left k.0 k.1 in
-          let same = same_number old k.0 p rising w.0 (Contains-from_In old p h) k.2 in
+          let same = same_number old k.0 p rising w.0 c k.2 in
           absurd (false≢true (sym dead ∙ subst (λ x. is_live x ≡ true) same w.1))
       | inr untold ↦ untold ∙ sym dead
     ]
@@ -122,24 +117,16 @@ module _ (old : List Patch) (rising : IsRising old) (disk : IsOnDiskWithAll old)
       mapped_passing is_left number_of ranks
       ∙ (ap (filter is_left) aligned
       ∙ (sym (mapped_passing is_left number old)
-      ∙ ap (map number) (passed_same (λ p. is_left p.number) is_live old left_number)))
+      ∙ ap (map number) (passed_same (λ p. is_left p.number) is_live old (λ p h. left_number p (Contains-from_In old p h)))))
 
   -- so the levels stay as they should be
-  pub left_is_leveled : (blocks : ℕ) (levels : Leveling) → IsLeveled old blocks levels
-      → IsLeveled (filter is_live old) blocks (record levels { ranks = filter (λ r. has_number (filter is_live old) r.number) levels.ranks })
-  left_is_leveled blocks levels x = record {
+  pub left_is_leveled : IsOnDiskWithAll old → (blocks : ℕ) (levels : Leveling) → IsLeveled old blocks levels
+      → IsLeveled (filter is_live old) blocks (record levels { ranks = filter (λ r. is_live_in old r.number) levels.ranks })
+  left_is_leveled disk blocks levels x = record {
     aligned = numbers_left levels.ranks x.aligned;
     long = x.long;
     leveled = fewer_leveled old left (level_of levels.ranks) (level_of (passing is_left levels.ranks)) (floor_of levels.floors) (λ p c. (was_left p c).0)
-        (level_fewer is_left levels.ranks) (λ p c. kept_passing is_left (λ r. r.level) levels.ranks p.number (told_has left p c)) x.leveled;
-    parents = left_over old disk (parent_of levels.ranks) (parent_of (passing is_left levels.ranks)) (λ p c. kept_passing is_left (λ r. r.ancestry.parent) levels.ranks p.number (told_has left p c)) x.parents;
-    jumps = left_over old disk (jump_of levels.ranks) (jump_of (passing is_left levels.ranks)) (λ p c. kept_passing is_left (λ r. r.ancestry.jump) levels.ranks p.number (told_has left p c)) x.jumps;
+        (level_fewer is_left levels.ranks) (λ p c. kept_passing is_left (λ r. r.level) levels.ranks p.number (left_told p c)) x.leveled;
+    parents = left_over old disk (parent_of levels.ranks) (parent_of (passing is_left levels.ranks)) (λ p c. kept_passing is_left (λ r. r.ancestry.parent) levels.ranks p.number (left_told p c)) x.parents;
+    jumps = left_over old disk (jump_of levels.ranks) (jump_of (passing is_left levels.ranks)) (λ p c. kept_passing is_left (λ r. r.ancestry.jump) levels.ranks p.number (left_told p c)) x.jumps;
   }
-
--- a number is left exactly if a live patch has it
-pub left_live : (old : List Patch) (n : ℕ) → has_number (filter is_live old) n ≡ is_live_in old n
-left_live [] n = refl
-left_live (p ∷ ps) n = elim (cases_Bool (is_live p)) [
-  | inl told ↦ rw (told, left_live ps n) refl
-  | inr untold ↦ rw (untold, left_live ps n) refl
-]

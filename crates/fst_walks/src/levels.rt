@@ -3,13 +3,15 @@
 //! change in memory is no higher. So what lies below a floor can come to wait for nothing of that block. Beside its level the
 //! ancestry of each head is kept (`ancestors`).
 
-ghost use Rattle.std.specs.Prelude.{vec_capacity, ◌≡◌, ◌≢◌, ◌≤◌, ◌<◌, ◌+◌, ◌++◌, ◌∷◌, [], ℕ, false, IsTrue, length, map, filter, All, Contains, AllPairs, IfOk, IfSome, IfNone, OnOk, slice_index_or};
-ghost use Rattle.fst_types.specs.Tests.{has_number};
+ghost use Rattle.std.specs.List.{prefix_len};
+ghost use Rattle.std.specs.Prelude.{vec_capacity, count_by, ◌≡◌, ◌≢◌, ◌≤◌, ◌<◌, ◌+◌, ◌++◌, ◌∷◌, [], ℕ, false, IsTrue, length, map, filter, All, Contains, AllPairs, IfOk, IfSome, IfNone, OnOk, slice_index_or};
+ghost use Rattle.fst_types.specs.Tests.{is_live};
 ghost use Rattle.fst_types.specs.Patches.{IsOn};
 ghost use Rattle.fst_heads.specs.Heads.{IsRising, patch_of, patches_of};
 ghost use Rattle.fst_heads.specs.Marks.{HasNone, HasSlot};
 ghost use Rattle.fst_heads.specs.Reaching.{IsHardIn};
 ghost use Rattle.fst_heads.specs.Keeps.{IsInside};
+ghost use Rattle.fst_heads.specs.Nodes.{is_live_in, nodes_of};
 ghost use Rattle.fst_types.specs.Facts.{IsOnDiskWithAll};
 ghost use Rattle.fst_walks.specs.Leveling.{IsLeveled, floor_of, jump_of, level_of, no_ancestry, parent_of};
 ghost use Rattle.fst_walks.specs.Lifting.{IsLifted, MayLift};
@@ -18,7 +20,7 @@ ghost use Rattle.fst_walks.specs.Walks.{number_at, numbers_met};
 use crate::shortcuts::is_hard_in;
 use crate::walk::Walk;
 use fst_heads::head::{Head, Kind};
-use fst_heads::marks::slot_of;
+use fst_heads::places::{first_on_disk, is_kept};
 use std::alloc::{AllocError, Global};
 use std::marker::Model;
 
@@ -61,7 +63,8 @@ pub struct Levels {
 }
 
 impl Model for Levels {
-    ghost use Rattle.std.specs.Prelude.{vec_capacity, ◌≤◌, length};
+    ghost use Rattle.std.specs.List.{prefix_len};
+    ghost use Rattle.std.specs.Prelude.{vec_capacity, count_by, ◌≤◌, length};
     ghost use Rattle.fst_walks.specs.Leveling.{Leveling};
 
     ghost Value = { Leveling };
@@ -152,31 +155,25 @@ fn rank_slot(ranks: &[Rank], number: u32) -> Option<usize>
     }
 }
 
-// Whether a head has the number. That in the slot is looked at first.
-fn is_head(heads: &[Head], slot: usize, number: u32) -> bool
-    requires { IsRising heads.now }
-    ensures { result ≡ has_number (patches_of heads.now) number }
-{
-    if slot < heads.len() && heads[slot].number == number {
-        return true;
-    }
-    slot_of(heads, number).is_some()
-}
-
-// The ranks stay whose heads are left. Heads stand in the order of their ranks, so that mostly one look tells.
-fn keep_heads(ranks: &mut Vec<Rank>, heads: &[Head])
-    requires { IsRising heads.now }
-    ensures ranks { ranks.new.items ≡ filter (λ r. has_number (patches_of heads.now) r.number) ranks.old.items }
+// The heads on disk are dropped, with their ranks, the first of them being in the slot. Ranks stand in the order of the heads, so
+// that one look tells of both. A head owns its rows, and so changes places with one that is dropped.
+fn keep_live(heads: &mut Vec<Head>, ranks: &mut Vec<Rank>, first: usize)
+    requires rising { IsRising heads.old.items }
+    requires aligned { map (λ r. r.number) ranks.old.items ≡ map (λ p. p.number) (patches_of heads.old.items) }
+    requires first { first ≡ prefix_len is_live (patches_of heads.old.items) }
+    ensures heads { nodes_of heads.new.items ≡ filter (λ x. is_live x.patch) (nodes_of heads.old.items) }
+    ensures ranks { ranks.new.items ≡ filter (λ r. is_live_in (patches_of heads.old.items) r.number) ranks.old.items }
     ensures capacity { vec_capacity ranks.new ≡ vec_capacity ranks.old }
 {
-    let mut kept = 0;
-    for slot in 0..ranks.len() {
-        let rank = ranks[slot];
-        if is_head(heads, kept, rank.number) {
-            ranks[kept] = rank;
+    let mut kept = first;
+    for slot in first..heads.len() {
+        if is_kept(&heads[slot]) {
+            heads.swap(kept, slot);
+            ranks[kept] = ranks[slot];
             kept += 1;
         }
     }
+    heads.truncate(kept);
     ranks.truncate(kept);
 }
 
@@ -308,14 +305,18 @@ impl Levels {
         self.ranks[slot].ancestry = ancestry;
     }
 
-    /// Only the heads that are left keep their levels.
-    pub fn forget(&mut self, heads: &[Head])
-        requires { IsRising heads.now }
-        ensures ranks { self.new.ranks ≡ filter (λ r. has_number (patches_of heads.now) r.number) self.old.ranks }
-        ensures floors { self.new.floors ≡ self.old.floors }
-        ensures room { self.new.room ≡ self.old.room }
+    /// Drops the patches on disk, so many not being there, with their levels. Those before the oldest of them stay where they
+    /// are, and mostly are not looked at.
+    pub fn forget(&mut self, heads: &mut Vec<Head>, live: usize)
+        requires rising { IsRising heads.old.items }
+        requires aligned { map (λ r. r.number) self.old.ranks ≡ map (λ p. p.number) (patches_of heads.old.items) }
+        requires live { live ≡ count_by is_live (patches_of heads.old.items) }
+        ensures heads { nodes_of heads.new.items ≡ filter (λ x. is_live x.patch) (nodes_of heads.old.items) }
+        ensures ranks { self.new.ranks ≡ filter (λ r. is_live_in (patches_of heads.old.items) r.number) self.old.ranks }
+        ensures rest { (self.new.floors ≡ self.old.floors) × (self.new.room ≡ self.old.room) }
     {
-        keep_heads(&mut self.ranks, heads);
+        let first = first_on_disk(heads, live);
+        keep_live(heads, &mut self.ranks, first);
     }
 
     /// A sealed gate in the slot comes down to the greatest level of what it depends on. While it was open it stood at the
