@@ -1,9 +1,10 @@
 -- A look from both ends of a list for the first element that does not pass a test, where it is known how many pass.
-use Rattle.fst_heads.proofs.Basics.{◌≡◌, ℕ, zero, suc, ◌+◌, ◌-◌, ◌≤◌, ◌<◌, Bool, true, false, cond, List, [], ◌∷◌, length, take, count_by, get_or, refl, sym, ap, ◌∙◌, inl, inr, arith, cases_Bool, cases_lt, false≢true, length-map, get_or-map, count_by-le-length, take_all}
+use Rattle.fst_heads.proofs.Basics.{◌≡◌, ℕ, zero, suc, ◌+◌, ◌-◌, ◌≤◌, ◌<◌, Bool, true, false, cond, List, [], ◌∷◌, length, take, count_by, get_or, refl, subst, sym, ap, ◌∙◌, inl, inr, arith, cases_Bool, cases_lt, false≢true, length-map, get_or-map, count_by-le-length, take_all}
 use Rattle.std.specs.List.{prefix_len}
 use Rattle.std.proofs.lemmas.List.{length-take}
 use Rattle.std.proofs.lemmas.List.Sums.{prefix_len_passes, prefix_len_stops, prefix_len-le-length, count_by_more_yes, count_by_more_no}
-use Rattle.fst_heads.proofs.CountsAs.{count_cons}
+use Rattle.std.proofs.lemmas.List.Filters.{FiltersInPlace, FiltersInPlace-more_here}
+use Rattle.fst_heads.proofs.{CountsAs.count_cons, Slots.{any_default, some_element}}
 use Rattle.fst_heads.proofs.Patches.{is_live}
 use Rattle.fst_heads.proofs.Words.{Head, patch_of, patches_of}
 
@@ -139,3 +140,26 @@ module _ (heads : List Head) (low high below : ℕ) (h : IsBetween is_live (patc
 
       pub high_dead : is_live (patch_of x) ≡ true → is_live (patch_of y) ≡ false → IsBetween is_live (patches_of heads) (low + 1) (high - 1) below
       high_dead front dead = between_no is_live (patches_of heads) low high below h more (patch_of x) (patch_of y) (read low x low_inside first ∙ front) (read (high - 1) y high_inside last ∙ dead)
+
+-- where each of the first k passes a filter in place may begin behind them
+pub filters_from : {X : Type 0} (p : X → Bool) (xs : List X) (k : ℕ) → k ≤ length xs → ((i : ℕ) (d : X) → i < k → p (get_or xs i d) ≡ true) → FiltersInPlace p xs xs k k
+filters_from p xs zero le passes = record { front = refl; rest = refl; behind = omega arith; within = le; long = refl }
+filters_from p xs (suc k) le passes =
+    let lt : k < length xs = omega (arith, le) in
+    let d = some_element xs k lt in
+    let before = filters_from p xs k (omega (arith, le)) (λ i e l. passes i e (omega (arith, l))) in
+    let on : k + 1 ≡ suc k = omega arith in
+    subst (λ n. FiltersInPlace p xs xs n n) on (FiltersInPlace-more_here {x = get_or xs k d} before lt (passes k d (omega arith)) (any_default xs k d _ lt) refl)
+
+abbrev pub live_head : Head → Bool
+live_head h = is_live (patch_of h)
+
+module _ (heads : List Head) (first : ℕ) (is : first ≡ prefix_len is_live (patches_of heads)) where
+  pub first_inside : first ≤ length heads
+  first_inside = omega (arith, is, prefix_len-le-length is_live (patches_of heads), length-map heads patch_of)
+
+  pub live_before : (i : ℕ) (d : Head) → i < first → live_head (get_or heads i d) ≡ true
+  live_before i d lt = sym (live_read heads i d (omega (arith, lt, first_inside))) ∙ prefix_len_passes is_live (patches_of heads) i (patch_of d) (omega (arith, lt, is))
+
+  pub heads_from : FiltersInPlace live_head heads heads first first
+  heads_from = filters_from live_head heads first first_inside live_before

@@ -1,6 +1,6 @@
 //! How patches go from place to place.
 
-ghost use Rattle.std.specs.Prelude.{◌≡◌, ◌∷◌, [], map, count_by, Contains, if◌then◌else◌};
+ghost use Rattle.std.specs.Prelude.{◌≡◌, ◌∷◌, [], map, filter, count_by, Contains, if◌then◌else◌};
 ghost use Rattle.std.specs.List.{prefix_len};
 ghost use Rattle.fst_types.specs.declared.place.Place.TheVariants as place;
 ghost use Rattle.fst_types.specs.Patches.{Patch, block_of_kind};
@@ -109,6 +109,35 @@ pub fn first_on_disk(heads: &[Head], live: usize) -> usize
         }
     }
     high
+}
+
+// The heads on disk are dropped, the first of them being in the slot. A head owns its rows, and so changes places with one
+// that is dropped.
+fn swap_on_disk(heads: &mut Vec<Head>, first: usize)
+    requires { first ≡ prefix_len is_live (patches_of heads.old.items) }
+    ensures { heads.new.items ≡ filter (λ h. is_live (patch_of h)) heads.old.items }
+{
+    let mut kept = first;
+    for slot in first..heads.len() {
+        if is_kept(&heads[slot]) {
+            heads.swap(kept, slot);
+            kept += 1;
+        }
+    }
+    heads.truncate(kept);
+}
+
+/// Drops the patches on disk, the first of them being in the slot. Those before it are looked at only where they are few:
+/// what looks at all moves a head in half the time.
+pub fn drop_on_disk(heads: &mut Vec<Head>, first: usize)
+    requires { first ≡ prefix_len is_live (patches_of heads.old.items) }
+    ensures { nodes_of heads.new.items ≡ filter (λ x. is_live x.patch) (nodes_of heads.old.items) }
+{
+    if first < heads.len() / 2 {
+        heads.retain(|head| is_kept(head));
+        return;
+    }
+    swap_on_disk(heads, first);
 }
 
 /// One for a patch that is not on disk.

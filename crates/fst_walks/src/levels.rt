@@ -20,7 +20,7 @@ ghost use Rattle.fst_walks.specs.Walks.{number_at, numbers_met};
 use crate::shortcuts::is_hard_in;
 use crate::walk::Walk;
 use fst_heads::head::{Head, Kind};
-use fst_heads::places::{first_on_disk, is_kept};
+use fst_heads::places::{drop_on_disk, first_on_disk, is_kept};
 use std::alloc::{AllocError, Global};
 use std::marker::Model;
 
@@ -155,25 +155,21 @@ fn rank_slot(ranks: &[Rank], number: u32) -> Option<usize>
     }
 }
 
-// The heads on disk are dropped, with their ranks, the first of them being in the slot. Ranks stand in the order of the heads, so
-// that one look tells of both. A head owns its rows, and so changes places with one that is dropped.
-fn keep_live(heads: &mut Vec<Head>, ranks: &mut Vec<Rank>, first: usize)
-    requires rising { IsRising heads.old.items }
-    requires aligned { map (λ r. r.number) ranks.old.items ≡ map (λ p. p.number) (patches_of heads.old.items) }
-    requires first { first ≡ prefix_len is_live (patches_of heads.old.items) }
-    ensures heads { nodes_of heads.new.items ≡ filter (λ x. is_live x.patch) (nodes_of heads.old.items) }
-    ensures ranks { ranks.new.items ≡ filter (λ r. is_live_in (patches_of heads.old.items) r.number) ranks.old.items }
+// The ranks stay whose heads are not on disk, the first that is being in the slot. Heads stand in the order of their ranks.
+fn keep_live(ranks: &mut Vec<Rank>, heads: &[Head], first: usize)
+    requires rising { IsRising heads.now }
+    requires aligned { map (λ r. r.number) ranks.old.items ≡ map (λ p. p.number) (patches_of heads.now) }
+    requires first { first ≡ prefix_len is_live (patches_of heads.now) }
+    ensures ranks { ranks.new.items ≡ filter (λ r. is_live_in (patches_of heads.now) r.number) ranks.old.items }
     ensures capacity { vec_capacity ranks.new ≡ vec_capacity ranks.old }
 {
     let mut kept = first;
-    for slot in first..heads.len() {
+    for slot in first..ranks.len() {
         if is_kept(&heads[slot]) {
-            heads.swap(kept, slot);
             ranks[kept] = ranks[slot];
             kept += 1;
         }
     }
-    heads.truncate(kept);
     ranks.truncate(kept);
 }
 
@@ -316,7 +312,8 @@ impl Levels {
         ensures rest { (self.new.floors ≡ self.old.floors) × (self.new.room ≡ self.old.room) }
     {
         let first = first_on_disk(heads, live);
-        keep_live(heads, &mut self.ranks, first);
+        keep_live(&mut self.ranks, heads, first);
+        drop_on_disk(heads, first);
     }
 
     /// A sealed gate in the slot comes down to the greatest level of what it depends on. While it was open it stood at the
