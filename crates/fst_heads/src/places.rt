@@ -111,8 +111,8 @@ pub fn first_on_disk(heads: &[Head], live: usize) -> usize
     high
 }
 
-// The heads on disk are dropped, the first of them being in the slot. A head owns its rows, and so changes places with one
-// that is dropped.
+// The heads on disk are dropped; `first` is the slot of the first of them. A head owns its rows, and so changes places with
+// one that is dropped.
 fn swap_on_disk(heads: &mut Vec<Head>, first: usize)
     requires { first ≡ prefix_len is_live (patches_of heads.old.items) }
     ensures { heads.new.items ≡ filter (λ h. is_live (patch_of h)) heads.old.items }
@@ -127,7 +127,7 @@ fn swap_on_disk(heads: &mut Vec<Head>, first: usize)
     heads.truncate(kept);
 }
 
-/// Drops the patches on disk, the first of them being in the slot. Those before it are looked at only where they are few:
+/// Drops the patches on disk; `first` is the slot of the first of them. Those before it are looked at only where they are few:
 /// what looks at all moves a head in half the time.
 pub fn drop_on_disk(heads: &mut Vec<Head>, first: usize)
     requires { first ≡ prefix_len is_live (patches_of heads.old.items) }

@@ -155,7 +155,8 @@ fn rank_slot(ranks: &[Rank], number: u32) -> Option<usize>
     }
 }
 
-// The ranks stay whose heads are not on disk, the first that is being in the slot. Heads stand in the order of their ranks.
+// The ranks of heads that are not on disk stay; `first` is the slot of the first head that is. Heads stand in the order of
+// their ranks.
 fn keep_live(ranks: &mut Vec<Rank>, heads: &[Head], first: usize)
     requires rising { IsRising heads.now }
     requires aligned { map (λ r. r.number) ranks.old.items ≡ map (λ p. p.number) (patches_of heads.now) }
