@@ -2,18 +2,17 @@
 use Rattle.std.proofs.Common.{inl, inr, ◌≡◌, ◌<◌, ◌≤◌, ◌+◌, ◌++◌, ◌∷◌, ◌∙◌, [], ℕ, true, false, Bool, List, Option, None, Contains, length, vec_len, vec_capacity, map, get_or, set, arith, refl, sym, ap, subst}
 use Rattle.std.proofs.lemmas.{List.{length-map, length_push, map_push}, List.Elements.Contains-push_cases}
 use Rattle.std.specs.{Global.Vec, Vec.with_items}
-use Rattle.fst_types.specs.{Closure.IsAcyclic, Grades.{FollowsRule, IsGradedHard}, Dependencies.{DirectlyOn, IsLiveNumber}, Facts.{IsOnDiskWithAll, SparseAreLawful}, Gates.IsOpenNumber, Gating.gains, Lists.Lists, Making.fresh, Order.depend_order}
+use Rattle.fst_types.specs.{Dependencies.{DirectlyOn, IsLiveNumber}, Facts.{IsOnDiskWithAll, SparseAreLawful}, Gates.IsOpenNumber, Gating.gains, Lists.Lists, Making.fresh, Order.depend_order}
 use Rattle.fst_types.specs.{Patches.{Patch, IsOn, OpenGate}, Refusals.NoneHolds}
-use Rattle.fst_heads.specs.{Covers.{Covering, IsPut as IsCovered}, Heads.{patches_of, IsRising}, Keeps.IsInside, Lists.{entry_of, HasRoomInList}, Nodes.{AreSettled, node_of, nodes_of, at_number, gains_names, linked_to, pending_in}}
-use Rattle.fst_heads.specs.{Grading.MayBeHard, Names.numbers_of, Pendings.{is_pending, sums_of}, Standings.{entered, is_held_on, is_ready_on}, Tests.is_hard_kind, declared.head.Head.Head}
+use Rattle.fst_heads.specs.{Covers.{Covering, IsPut as IsCovered}, Heads.{patches_of, IsRising}, Keeps.IsInside, Lists.{entry_of, HasRoomInList}, Nodes.{node_of, nodes_of, at_number, gains_names, linked_to, pending_in}}
+use Rattle.fst_heads.specs.{Pendings.{is_pending, sums_of}, Standings.{entered, is_held_on, is_ready_on}, Tests.is_hard_kind, declared.head.Head.Head}
 use Rattle.fst_heads.specs.{declared.lists.Listed.Listed, declared.pending.{Pending.Pending, Sums.Sums}, declared.standing.Standing.Standing}
 use Rattle.fst_walks.specs.{Ancestors.{AreOver, GoesUnder}, Leveling.{IsLeveled, Leveling, jump_of, level_of, no_ancestry, floor_of, top_level}, Lifting.{IsRise, MayLift}, Needing.{IsNoted, IsPut, Needing}, Sights.Sees, Walks.{Trail, numbers_met}, declared.{ends.Ends.Ends, levels.{Ancestry.Ancestry, Rank.Rank, Rise.Rise}, sight.Sight.Sight}}
 use Rattle.fst_graph.specs.{Fresh.{HasOneMore, HasPlaces, IsAdded, IsRoomier, MayAdd}, Ready.change_of, Sound.AreSound, declared.prepared.Prepared.Prepared as Stored}
-use Rattle.fst_heads.proofs.{Added.{new_node, with_node, with_names}, AtNumber.patches_in_nodes, Beside.{beside_made, beside_depends, one_live}, Covering.{covered_gained, covered_push}, Making.keeps_added, Slots.rising_heads, Stands.stand_made, Touching.may_change}
+use Rattle.fst_heads.proofs.{Added.{new_node, with_node, with_names}, AtNumber.patches_in_nodes, Beside.{beside_made, beside_depends, one_live}, Covering.{covered_gained, covered_push}, Making.keeps_added, Slots.rising_heads, Stands.stand_made}
 use Rattle.fst_walks.proofs.{Linked.{patches_made, patches_named}, Releveled.gained_is_leveled, Seen.{seen, lawful_nodes, tallies_wider}, Shelves.shelved}
-use Rattle.fst_graph.proofs.{Borne.{few_counted, lawful_with, open_nodes}, Kept.{covered_made, keeps_depends, keeps_walked, none_below_set}, Listed.listed_made, NeedsNow.{needing_change, needing_gained, needing_put}}
+use Rattle.fst_graph.proofs.{Borne.{few_counted, lawful_with, open_nodes}, Kept.{covered_made, keeps_depends, keeps_walked, none_below_set}, Listed.listed_made, NeedsNow.{given_more, needing_change, needing_gained, needing_put}}
 use Rattle.fst_graph.proofs.{PutNow.IsPutDown, Ranks.{along_grown, leveled_change, leveled_put}, Sound.{as_many_lists, as_many_marks, as_many_places, over_down, rising_sound, sees_all, walked_sound}, Tallied.{tallies_depends, tallies_made}}
-use Rattle.fst_types.specs.declared.grade.Grade.TheVariants as grade
 use Rattle.fst_heads.specs.declared.pending.Pending.TheVariants as pending
 
 -- the sums of a row, as they were read of the heads
@@ -77,7 +76,8 @@ module _ {heads : Vec Head} {ends : Ends} {levels : Leveling} {needs : Needing} 
         covered = rw patches (covered_gained old g names blocks covers.items S.covered);
         along = S.along;
         leveled = rw patches (gained_is_leveled old g names gate blocks levels S.leveled);
-        needing = rw patches (needing_gained old g names S.keeps.lawful.one_place_each.rising S.keeps.lawful.on_disk_with_all gate S.needing);
+        needing = rw patches (needing_gained old g names S.keeps.lawful.one_place_each.rising S.keeps.lawful.on_disk_with_all keeps.lawful.one_place_each.rising keeps.lawful.on_disk_with_all gate S.needing);
+        given = S.given;
         none_below = S.none_below;
         prepared = tt;
       }
@@ -106,7 +106,8 @@ module _ {heads : Vec Head} {ends : Ends} {levels : Leveling} {needs : Needing} 
         covered = rw patches (covered_push old p M.off blocks covers.items S.covered);
         along = along_grown {old = ends} P.marks P.crossed S.along;
         leveled = rw patches (leveled_put p A.level A.ancestry H M.next given P.ranks P.floors (λ q c. A.over q c (S.leveled.leveled.few q)) A.most A.under S.leveled (λ b on. absurd (M.off b on)) (λ b on. absurd (M.off b on)) A.top);
-        needing = rw patches (needing_put p H S.keeps.lawful.on_disk_with_all M.next M.off S.needing);
+        needing = rw patches (needing_put p S.keeps.lawful M.lawful M.next M.off S.given S.needing);
+        given = λ w c. let g = S.given w c in omega (arith, g);
         none_below = S.none_below;
         prepared = tt;
       }
@@ -128,11 +129,11 @@ module _ {heads : Vec Head} {ends : Ends} {levels : Leveling} {needs : Needing} 
       block = omega (arith, D.ready.inside, as_many_lists S, ap length l);
     }
 
-    risen : (walk : Trail) {hs : List Head} {row : List ℕ} {rise : Rise} → hs ≡ heads.items → row ≡ p.dependencies.items → IsRise (patches_of hs) levels p.block row p.grade (numbers_met hs walk) rise
-        → IsRise old levels p.block p.dependencies.items p.grade (numbers_met heads.items walk) rise
+    risen : (walk : Trail) {hs : List Head} {row : List ℕ} {rise : Rise} → hs ≡ heads.items → row ≡ p.dependencies.items → IsRise (patches_of hs) levels p.block row p.told.grade (numbers_met hs walk) rise
+        → IsRise old levels p.block p.dependencies.items p.told.grade (numbers_met heads.items walk) rise
     risen walk same named R = rw (← same, ← named) R
 
-    pub may_lift : (walk : Trail) {hs gs : List Head} {row : List ℕ} {rise : Rise} → hs ≡ heads.items → row ≡ p.dependencies.items → IsRise (patches_of hs) levels p.block row p.grade (numbers_met hs walk) rise → length walk.marks ≡ length hs → gs ≡ heads.items
+    pub may_lift : (walk : Trail) {hs gs : List Head} {row : List ℕ} {rise : Rise} → hs ≡ heads.items → row ≡ p.dependencies.items → IsRise (patches_of hs) levels p.block row p.told.grade (numbers_met hs walk) rise → length walk.marks ≡ length hs → gs ≡ heads.items
         → record {
           rising : IsRising gs;
           disk : IsOnDiskWithAll (patches_of gs);
@@ -158,15 +159,6 @@ module _ {heads : Vec Head} {ends : Ends} {levels : Leveling} {needs : Needing} 
     may_need same named =
         let needed = D.prepared.needed in
         rw same record { rising = rising_sound S; block = omega (arith, D.ready.inside, needed.0, S.needing.long); room = omega (arith, needed.1, ap length named) }
-
-    pub may_note : {hs : List Head} → hs ≡ heads.items → record { rising : IsRising hs; acyclic : IsAcyclic (DirectlyOn (patches_of hs)); disk : IsOnDiskWithAll (patches_of hs); settled : (n : ℕ) × AreSettled (nodes_of hs) n }
-    may_note same = rw same record { rising = rising_sound S; acyclic = S.keeps.lawful.no_cycle; disk = S.keeps.lawful.on_disk_with_all; settled = (blocks, S.tallies.settled) }
-
-    -- where it is soft it may not be hard
-    soft : p.grade ≡ grade.Soft → MayBeHard old None p.block p.dependencies.items → ⊥
-    soft is may =
-        subst (λ g. FollowsRule g (IsGradedHard old (old ++ change_of numbers p ∷ []) p.block (numbers + 1))) is D.ready.graded
-        (may_change old numbers blocks ends.up.walk.marks S.keeps p.block p.span.at p.span.len (numbers_of p.names.items) p.grade p.dependencies.items D.ready.depends may)
 
     -- there is room for it in the list of its block, among the counts, and in the walks
     pub may_enlist : record {
@@ -199,18 +191,18 @@ module _ {heads : Vec Head} {ends : Ends} {levels : Leveling} {needs : Needing} 
 
     -- the change stands as it rises, beside what its block has already
     pub change_sound : (walk : Trail) (places : List Bool) {rise : Rise} {a : Ancestry} {new : Vec Head} {grown : Ends} {lifted ranked : Leveling} → HasOneMore made (record { number = numbers + 1; level = rise.level; ancestry = a }) heads (walked walk places) lifted new grown ranked
-        → {over : Pending} → over ≡ node → {hs : List Head} {row : List ℕ} → hs ≡ heads.items → row ≡ p.dependencies.items → IsRise (patches_of hs) levels p.block row p.grade (numbers_met hs walk) rise → length walk.marks ≡ length hs
+        → {over : Pending} → over ≡ node → {hs : List Head} {row : List ℕ} → hs ≡ heads.items → row ≡ p.dependencies.items → IsRise (patches_of hs) levels p.block row p.told.grade (numbers_met hs walk) rise → length walk.marks ≡ length hs
         → {hs : List Head} → hs ≡ heads.items → IsLeveled (patches_of hs) (length levels.floors) lifted
         → ((n : ℕ) → level_of levels.ranks n ≤ rise.level → level_of lifted.ranks n ≤ rise.level) → (rise.lifts ≡ true → floor_of lifted.floors p.block ≡ rise.level) → (rise.lifts ≡ false → lifted ≡ levels)
         → {hs : List Head} {row : List ℕ} → hs ≡ heads.items → row ≡ p.dependencies.items → GoesUnder (patches_of hs) (numbers + 1) row a
-        → {gs : List Head} {row : List ℕ} {put : Needing} → gs ≡ heads.items → row ≡ p.dependencies.items → IsPut (patches_of gs) needs.block row p.grade needs.lists put.lists
-        → {ks : List Head} {row : List ℕ} → ks ≡ heads.items → row ≡ p.dependencies.items → IsNoted (patches_of ks) (numbers + 1) row p.grade needs.ways put.ways
+        → {gs : List Head} {row : List ℕ} {grown_needs : Needing} → gs ≡ heads.items → row ≡ p.dependencies.items → IsPut (patches_of gs) needs.block row p.told.grade needs.lists grown_needs.lists
+        → IsNoted (numbers + 1) p.told.end needs.ways grown_needs.ways
         → {lists' : Vec (Vec Listed)} → shelved lists'.items ≡ set (shelved lists.items) p.block (get_or (shelved lists.items) p.block [] ++ entry_of (record { number = numbers + 1; span = p.span }) ∷ [])
         → {cover cover' : Covering} {covers' : Vec Covering} → cover ≡ get_or covers.items p.block cover → IsCovered cover p.span.at p.span.len (numbers + 1) cover' → covers'.items ≡ set covers.items p.block cover'
         → {standings' : Vec Standing} → ((d : Standing) → standings'.items ≡ set standings.items p.block (entered (is_hard_kind made.kind) (is_pending over (pending.Block p.block)) (get_or standings.items p.block d)))
         → {least : ℕ} → least ≤ unmarked → least ≤ p.block
-        → AreSound new grown ranked put lists' covers' standings' queue (live + 1) least (numbers + 1) blocks None
-    change_sound walk places {rise = rise} {new = new} P pends same named R long at leveled below lifted still there after under gs row put ks noted_row noted listed cover_is covered covers_are enters {least} low here =
+        → AreSound new grown ranked grown_needs lists' covers' standings' queue (live + 1) least (numbers + 1) blocks None
+    change_sound walk places {rise = rise} {new = new} P pends same named R long at leveled below lifted still there after under gs row put noted listed cover_is covered covers_are enters {least} low here =
         let W = walked_sound S {walked = walked walk places} (record { long = long ∙ ap length same; crossed = omega (arith, (walked walk places).up.crossed.ok.0, ends.up.crossed.ok.0, as_many_places S) }) (over_down S) in
         let nodes = P.nodes in
         let none : Standing = record { ready = 0; held = 0; flying = 0 } in
@@ -220,10 +212,11 @@ module _ {heads : Vec Head} {ends : Ends} {levels : Leveling} {needs : Needing} 
           keeps = rw (patches, P.marks.0) (keeps_walked (omega (arith, as_long, length_push walk.marks false, length_push ends.up.walk.marks false)) D.keeps);
           beside = rw (patches, P.crossed.0) (beside_made old blocks live 1 (with_items ends.up.crossed places).items made refl W.beside);
           tallies = rw (nodes, listed, enters none, pends) (D.tallies none);
-          covered = rw (patches, covers_are) (covered_made numbers p.grade D.ready.depends S.covered D.ready.inside cover_is covered);
+          covered = rw (patches, covers_are) (covered_made numbers p.told.grade D.ready.depends S.covered D.ready.inside cover_is covered);
           along = along_grown {old = walked walk places} P.marks P.crossed W.along;
           leveled = rw patches (leveled_change p rise (numbers_met heads.items walk) S.keeps.lawful.one_place_each D.given (risen walk same named R) (rw (← at, ← S.leveled.long) leveled) below lifted still (rw (← there, ← after) under) P.ranks P.floors);
-          needing = rw patches (needing_change p S.keeps.lawful.one_place_each S.keeps.lawful.on_disk_with_all S.needing (rw (← D.prepared.needed.0, ← gs, ← row) put) (rw (← ks, ← noted_row) noted) soft);
+          needing = rw patches (needing_change p S.keeps.lawful D.keeps.lawful S.given S.needing (rw (← D.prepared.needed.0, ← gs, ← row) put) noted D.ready.back);
+          given = given_more old numbers needs.ways _ p S.keeps.lawful.one_place_each S.given noted D.ready.back;
           none_below = rw (enters none) (none_below_set standings.items unmarked least p.block _ S.none_below low here);
           prepared = tt;
         }

@@ -1,9 +1,9 @@
 -- What is prepared for a group: its row, by what the head waits for; that it is ready; and which number and grade a change would have.
 use Rattle.std.proofs.Common.{◌≡◌, ◌+◌, ◌<◌, ◌≤◌, ◌++◌, ℕ, Bool, List, [], ◌∷◌, Option, Some, None, IfSome, option_map, length, map, Contains, refl, sym, ap, subst, ◌∙◌, inl, inr, arith, ◌≢◌, true, false, IfNone, count_by, is_some, get_or, eqb}
-use Rattle.std.proofs.lemmas.{Bool.{cases_Bool, eqb-true, eqb-false, false≢true}}
+use Rattle.std.proofs.lemmas.{Bool.{cases_Bool, eqb-true, eqb-false, false≢true}, Option.IfSome_then}
 use Rattle.std.specs.Global.{Vec}
 use Rattle.fst_types.specs.{Cascade.IsCascadeOf, Dependencies.{DirectlyOn, IsLiveNumber, IsOnDisk}, Facts.{SparseAreLawful, IsTied}, Gates.IsOpenNumber, Gating.sealed}
-use Rattle.fst_types.specs.{Grades.FollowsRule, Order.{make_order, room_order, NamesUnknown}, Patches.Patch, Refusals.NoneHolds, declared.{grade.Grade.Grade, span.Span.Span}}
+use Rattle.fst_types.specs.{Grades.FollowsRule, Order.{make_order, room_order, NamesUnknown}, Patches.Patch, Refusals.NoneHolds, declared.{span.Span.Span}}
 use Rattle.fst_heads.specs.{Frames.{frames_of, HasRoomBelow}, Grading.MayBeHard, Heads.{IsRising, patches_of}, Keeps.Keeps, Marks.HasSlot}
 use Rattle.fst_heads.specs.{Names.numbers_of, Nodes.{node_of, nodes_of, is_live_in, AreCounted}, Rows.IsSparseRow, declared.head.Head.Head}
 use Rattle.fst_graph.specs.{Fresh.HasPlaces, Known.Known, Membering.{ArePaired, BeginsAs, OverlapReaches, member_order}, Ready.{change_of, IsReady, IsMemberReady, MayBePut, HasRoomAround}}
@@ -11,8 +11,8 @@ use Rattle.fst_graph.specs.{Sparse.{ForetellsSparse, SparseChangeIsMade}, declar
 use Rattle.fst_types.proofs.{Cascades.place_decided, Finite.{In, In-from_Contains, Contains-from_In}, SmallStates.only_in}
 use Rattle.fst_heads.proofs.{AtNumber.patches_in_nodes, Beside.one_if, CountsAs.{count_cons, count_none}, Forgetting.{live_in, in_live}, Framed.{room_above, room_below}, Leading.some_injective}
 use Rattle.fst_heads.proofs.{PendingAt.node_in, Slots.{any_default, direct_at, named_at}, Touching.{graded_change, touched_overlaps, overlaps_touched}}
-use Rattle.fst_graph.proofs.{Kept.keeps_sealed, Readied.{ready_made, ready_member, member_put}, TakenAsSealed.{is, depends, open_was, open_is, stays, touched_was, rule_sealed, gate_lives, gate_rests, row_named, row_unnamed}}
-use Rattle.fst_walks.specs.{Leveling.Leveling, declared.ends.Ends.Ends}
+use Rattle.fst_graph.proofs.{Kept.keeps_sealed, Readied.{ready_made, ready_member, member_put}, TakenAsSealed.{is, depends, open_was, open_is, stays, touched_was, back_sealed, rule_sealed, gate_lives, gate_rests, row_named, row_unnamed}}
+use Rattle.fst_walks.specs.{Leveling.Leveling, Telling.IsTold, declared.ends.Ends.Ends, declared.graded.Graded.Graded}
 use Rattle.fst_types.specs.declared.grade.Grade.TheVariants as grade
 
 module _ (old : List Patch) (n blocks : ℕ) (marks : List Bool) (K : Keeps old n blocks marks) (gates : Gates) (paired : ArePaired old n gates.head gates.tail) where
@@ -33,14 +33,15 @@ module _ (old : List Patch) (n blocks : ℕ) (marks : List Bool) (K : Keeps old 
 
   pub member_ready : (p : Stored) → numbers_of p.names.items ≡ gates.head ∷ [] → p.block < blocks → NoneHolds (member_order old n gates.tail p.block p.span.at p.span.len)
       → ((begun : List Patch) → BeginsAs old gates.head begun → IsSparseRow begun (gates.head ∷ []) p.block p.span.at p.span.len p.dependencies.items)
-      → ((begun : List Patch) → BeginsAs old gates.head begun → FollowsRule p.grade (MayBeHard begun None p.block p.dependencies.items))
+      → ((begun : List Patch) → BeginsAs old gates.head begun → IsTold begun p.block p.dependencies.items (MayBeHard begun None p.block p.dependencies.items) p.told)
       → IsMemberReady old n blocks gates p
-  member_ready p names inside clear depends follows = record {
+  member_ready p names inside clear depends told = record {
     made = λ begun s. record {
       clear = rw names (clear_begun begun s clear.1);
       inside = inside;
       depends = rw names (depends begun s);
-      graded = graded_change begun n blocks marks (keeps_begun begun s) p.block p.span.at p.span.len (gates.head ∷ []) p.grade p.dependencies.items (depends begun s) (follows begun s);
+      graded = graded_change begun n blocks marks (keeps_begun begun s) p.block p.span.at p.span.len (gates.head ∷ []) p.told.grade p.dependencies.items (depends begun s) (let known = told begun s in known.graded);
+      back = let known = told begun s in known.back;
     };
     names = names;
     clear = clear;
@@ -51,24 +52,24 @@ module _ (old : List Patch) (n blocks : ℕ) (marks : List Bool) (K : Keeps old 
 pub member_found : {heads read : List Head} {numbers blocks b : ℕ} {marks : List Bool} {span : Span} → Keeps (patches_of heads) numbers blocks marks → (gates : Gates) → ArePaired (patches_of heads) numbers gates.head gates.tail → (p : Stored) → numbers_of p.names.items ≡ gates.head ∷ [] → p.block ≡ b → p.span ≡ span → b < blocks
     → read ≡ heads → NoneHolds (member_order (patches_of read) numbers gates.tail b span.at span.len)
     → ((begun : List Patch) → BeginsAs (patches_of read) gates.head begun → IsSparseRow begun (gates.head ∷ []) b span.at span.len p.dependencies.items)
-    → ((begun : List Patch) → BeginsAs (patches_of read) gates.head begun → FollowsRule p.grade (MayBeHard begun None b p.dependencies.items))
+    → ((begun : List Patch) → BeginsAs (patches_of read) gates.head begun → IsTold begun b p.dependencies.items (MayBeHard begun None b p.dependencies.items) p.told)
     → IsMemberReady (patches_of heads) numbers blocks gates p
-member_found {heads} {numbers = n} {blocks = blocks} {b = b} {marks = marks} {span = span} K gates paired p named on at inside read clear depends follows =
+member_found {heads} {numbers = n} {blocks = blocks} {b = b} {marks = marks} {span = span} K gates paired p named on at inside read clear depends told =
     let old = patches_of heads in
     let row = p.dependencies.items in
     let sparse : (begun : List Patch) → BeginsAs old gates.head begun → IsSparseRow begun (gates.head ∷ []) p.block p.span.at p.span.len row =
     rw (on, at) (subst (λ hs. (begun : List Patch) → BeginsAs (patches_of hs) gates.head begun → IsSparseRow begun (gates.head ∷ []) b span.at span.len row) read depends) in
-    let rule : (begun : List Patch) → BeginsAs old gates.head begun → FollowsRule p.grade (MayBeHard begun None p.block row) =
-    rw on (subst (λ hs. (begun : List Patch) → BeginsAs (patches_of hs) gates.head begun → FollowsRule p.grade (MayBeHard begun None b row)) read follows) in
+    let known : (begun : List Patch) → BeginsAs old gates.head begun → IsTold begun p.block row (MayBeHard begun None p.block row) p.told =
+    rw on (subst (λ hs. (begun : List Patch) → BeginsAs (patches_of hs) gates.head begun → IsTold begun b row (MayBeHard begun None b row) p.told) read told) in
     let free : NoneHolds (member_order old n gates.tail p.block p.span.at p.span.len) = rw (on, at) (subst (λ hs. NoneHolds (member_order (patches_of hs) n gates.tail b span.at span.len)) read clear) in
     let there : p.block < blocks = rw on inside in
-    member_ready old n blocks marks K gates paired p named there free sparse rule
+    member_ready old n blocks marks K gates paired p named there free sparse known
 
 -- and which number and grade it would have
 module _ (old : Known) (blocks : ℕ) (marks : List Bool) (K : Keeps old.heads old.numbers blocks marks) (gates : Gates) (p : Stored) (R : IsMemberReady old.heads old.numbers blocks gates p) where
-  pub foretold : ForetellsSparse old gates.head p.block p.span.at p.span.len (old.numbers + 1) p.grade
+  pub foretold : ForetellsSparse old gates.head p.block p.span.at p.span.len (old.numbers + 1) p.told.grade
   foretold begun begin =
-      (begun ++ change_of old.numbers p ∷ [], subst (λ ns. SparseChangeIsMade begun old.numbers p.block p.span.at p.span.len ns (old.numbers + 1) p.grade (begun ++ change_of old.numbers p ∷ [])) R.names (ready_made (R.made begun begin)))
+      (begun ++ change_of old.numbers p ∷ [], subst (λ ns. SparseChangeIsMade begun old.numbers p.block p.span.at p.span.len ns (old.numbers + 1) p.told.grade (begun ++ change_of old.numbers p ∷ [])) R.names (ready_made (R.made begun begin)))
 
 -- a gate that was sealed is not open
 pub shut_begun : (old : List Patch) (n : ℕ) → SparseAreLawful old n → (g : ℕ) (begun : List Patch) → IsOpenNumber old g → IsCascadeOf (map (sealed g) old) begun → IsOpenNumber begun g → ⊥
@@ -180,9 +181,12 @@ module _ (old : List Patch) (numbers : ℕ) (H : SparseAreLawful old numbers) (h
       row_named old begun numbers head H s.gate s.cascade b at len row (gate_lives old begun numbers head H s.gate s.cascade q.0 q.1 q.2) l
   member_row at len (x ∷ xs) (waits live) l begun (inr s) = subst (λ hs. IsSparseRow hs (head ∷ []) b at len row) (sym s.1) l
 
-  pub member_rule : (g : Grade) (but : Option ℕ) → IfSome but (λ n. (n ≡ head) × IsOpenNumber old head) → IfNone but (IsOpenNumber old head → ⊥) → FollowsRule g (MayBeHard old but b row)
-      → (begun : List Patch) → BeginsAs old head begun → FollowsRule g (MayBeHard begun None b row)
-  member_rule g (Some n) some none f begun (inl s) = rule_sealed old begun numbers head H s.gate s.cascade g b row (subst (λ k. FollowsRule g (MayBeHard old (Some k) b row)) some.0 f)
-  member_rule g (Some n) some none f begun (inr s) = absurd (s.0 some.1)
-  member_rule g None some none f begun (inl s) = absurd (none s.gate)
-  member_rule g None some none f begun (inr s) = subst (λ hs. FollowsRule g (MayBeHard hs None b row)) (sym s.1) f
+  pub member_told : (told : Graded) (but : Option ℕ) → IfSome but (λ n. (n ≡ head) × IsOpenNumber old head) → IfNone but (IsOpenNumber old head → ⊥) → IsTold old b row (MayBeHard old but b row) told
+      → (begun : List Patch) → BeginsAs old head begun → IsTold begun b row (MayBeHard begun None b row) told
+  member_told told (Some n) some none t begun (inl s) = record {
+    graded = rule_sealed old begun numbers head H s.gate s.cascade told.grade b row (subst (λ k. FollowsRule told.grade (MayBeHard old (Some k) b row)) some.0 t.graded);
+    back = IfSome_then told.end t.back (λ end l. back_sealed old begun numbers head H s.gate s.cascade b row end l);
+  }
+  member_told told (Some n) some none t begun (inr s) = absurd (s.0 some.1)
+  member_told told None some none t begun (inl s) = absurd (none s.gate)
+  member_told told None some none t begun (inr s) = subst (λ hs. IsTold hs b row (MayBeHard hs None b row) told) (sym s.1) t

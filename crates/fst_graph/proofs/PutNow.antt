@@ -62,7 +62,7 @@ module _ {heads : Vec Head} {ends : Ends} {levels : Leveling} {needs : Needing} 
       let T = S.tallies in
       let free = (prepared_is S p kept).waits in
       let few : length old < max_heads = let full = ready.clear.1.1.0 in omega (arith, full) in
-      let keeps = keeps_change old numbers blocks ends.up.walk.marks S.keeps p.block p.span.at p.span.len (numbers_of p.names.items) p.grade p.dependencies.items ready.depends ready.inside few (hard_may p.grade _ ready.graded) in
+      let keeps = keeps_change old numbers blocks ends.up.walk.marks S.keeps p.block p.span.at p.span.len (numbers_of p.names.items) p.told.grade p.dependencies.items ready.depends ready.inside few (hard_may p.told.grade _ ready.graded) in
       let lawful = subst (λ ps. SparseAreLawful (ps ++ made ∷ []) (numbers + 1)) (sym (patches_in_nodes heads.items)) keeps.lawful in
       let live : (m : ℕ) → Contains p.dependencies.items m → IsLiveNumber (patches_in nodes) m =
       λ m h. subst (λ ps. IsLiveNumber ps m) (sym (patches_in_nodes heads.items)) (live_dependency old (numbers_of p.names.items) p.block p.span.at p.span.len m (ready.depends.only m h)) in
@@ -79,8 +79,8 @@ module _ {heads : Vec Head} {ends : Ends} {levels : Leveling} {needs : Needing} 
         counted = λ own there. there ∙ T.standing.each p.block own ready.inside;
         tallies = λ own. tallies_made nodes numbers blocks _ _ _ _ _ _ queue.cap made (lawful_nodes heads.items numbers S.keeps.lawful) lawful T refl ready.depends.rising live
             (λ b on. let same : p.block ≡ b = cc in subst (λ m. m < blocks) same ready.inside)
-            (listed_change nodes blocks _ made p.block p.span.at p.span.len p.grade [] T.listed refl refl ready.inside)
-            (stand_change nodes blocks standings.items made p.block p.span.at p.span.len p.grade own refl refl ready.inside T.standing)
+            (listed_change nodes blocks _ made p.block p.span.at p.span.len p.told.grade [] T.listed refl refl ready.inside)
+            (stand_change nodes blocks standings.items made p.block p.span.at p.span.len p.told.grade own refl refl ready.inside T.standing)
             (omega (arith, free, heads.ok.0, length-map heads.items node_of));
       }
 

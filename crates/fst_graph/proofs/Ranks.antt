@@ -27,7 +27,7 @@ module _ {old : List Patch} {numbers blocks : ℕ} {levels grown : Leveling} (p 
 -- a change more, that rises so
 module _ {old : List Patch} {numbers blocks : ℕ} {levels lifted : Leveling} (p : Stored) (rise : Rise) (met : List ℕ) (H : HasOnePlaceEach old numbers)
     (given : (q : ℕ) → Contains p.dependencies.items q → q ≤ numbers)
-    (R : IsRise old levels p.block p.dependencies.items p.grade met rise) (L : IsLeveled old blocks lifted)
+    (R : IsRise old levels p.block p.dependencies.items p.told.grade met rise) (L : IsLeveled old blocks lifted)
     (below : (n : ℕ) → level_of levels.ranks n ≤ rise.level → level_of lifted.ranks n ≤ rise.level)
     (up : rise.lifts ≡ true → floor_of lifted.floors p.block ≡ rise.level) (still : rise.lifts ≡ false → lifted ≡ levels) where
   floor_under : floor_of lifted.floors p.block ≤ rise.level
@@ -36,7 +36,7 @@ module _ {old : List Patch} {numbers blocks : ℕ} {levels lifted : Leveling} (p
     | inr stays ↦ let k = R.floor stays in omega (arith, k, ap (λ v. floor_of v.floors p.block) (still stays))
   ]
 
-  floor_over : p.grade ≡ grade.Hard → rise.level ≤ floor_of lifted.floors p.block
+  floor_over : p.told.grade ≡ grade.Hard → rise.level ≤ floor_of lifted.floors p.block
   floor_over hard = elim (cases_Bool rise.lifts) [
     | inl lifts ↦ omega (arith, up lifts)
     | inr stays ↦ let k = R.hard stays hard in omega (arith, k, ap (λ v. floor_of v.floors p.block) (still stays))
@@ -45,7 +45,7 @@ module _ {old : List Patch} {numbers blocks : ℕ} {levels lifted : Leveling} (p
   same_block : (b : ℕ) → IsOn (change_of numbers p) b → p.block ≡ b
   same_block b on = cc
 
-  same_grade : IsHard (change_of numbers p) → p.grade ≡ grade.Hard
+  same_grade : IsHard (change_of numbers p) → p.told.grade ≡ grade.Hard
   same_grade hard = cc
 
   pub leveled_change : {grown : Leveling} {a : Ancestry} → GoesUnder old (numbers + 1) p.dependencies.items a → grown.ranks ≡ lifted.ranks ++ record { number = numbers + 1; level = rise.level; ancestry = a } ∷ [] → grown.floors ≡ lifted.floors → IsLeveled (old ++ change_of numbers p ∷ []) blocks grown

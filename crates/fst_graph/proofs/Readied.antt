@@ -3,6 +3,7 @@ use Rattle.std.proofs.{Common.{◌≡◌, ◌<◌, ℕ, Bool, ◌+◌, ◌++◌,
 use Rattle.std.specs.Bool.{Decides}
 use Rattle.fst_types.specs.{Grades.FollowsRule, Order.make_order, Patches.Patch, Refusals.NoneHolds, declared.grade.Grade.Grade, declared.number.PatchNo.PatchNo, declared.span.Span.Span}
 use Rattle.fst_heads.specs.{Grading.MayBeHard, Heads.patches_of, Keeps.Keeps, Names.numbers_of, Rows.IsSparseRow, declared.head.Head.Head}
+use Rattle.fst_walks.specs.Telling.{IsTold}
 use Rattle.fst_graph.specs.{Known.{Prepared, prepared_for, member_for}, Ready.{change_of, prepared_of, IsReady, IsMemberReady, IsReadyFor, MayBePut}, Sparse.{AddsSparse, SparseChangeIsMade}}
 use Rattle.fst_graph.specs.{declared.prepared.Gates.Gates, declared.prepared.Prepared.Prepared as Stored}
 use Rattle.fst_types.proofs.Numbers.{both}
@@ -49,7 +50,7 @@ no_gates (Some x) e = cc
 
 -- what is kept is seen as what is prepared for its arguments
 module _ (numbers : ℕ) (p : Stored) (b : ℕ) (span : Span) (after : List PatchNo) where
-  pub seen_for : (p.block ≡ b) × (p.span ≡ span) × (p.names.items ≡ after) × (p.gates ≡ None) → Some (prepared_of numbers p) ≡ Some (prepared_for b span.at span.len (numbers_of after) (numbers + 1) p.grade)
+  pub seen_for : (p.block ≡ b) × (p.span ≡ span) × (p.names.items ≡ after) × (p.gates ≡ None) → Some (prepared_of numbers p) ≡ Some (prepared_for b span.at span.len (numbers_of after) (numbers + 1) p.told.grade)
   seen_for h = rw (← h.0, ← h.1, ← h.2, h.3) refl
 
   pub for_seen : (number : ℕ) (grade : Grade) → Some (prepared_of numbers p) ≡ Some (prepared_for b span.at span.len (numbers_of after) number grade) → (p.block ≡ b) × (p.span ≡ span) × (p.names.items ≡ after) × (p.gates ≡ None)
@@ -61,37 +62,38 @@ module _ (numbers : ℕ) (p : Stored) (b : ℕ) (span : Span) (after : List Patc
 
 -- what was found for a change, as the heads were read
 pub ready_found : {heads seen read : List Head} {numbers blocks b : ℕ} {marks : List Bool} {names : List PatchNo} {span : Span} → Keeps (patches_of heads) numbers blocks marks → (p : Stored) → p.names.items ≡ names → p.block ≡ b → p.span ≡ span → b < blocks → seen ≡ heads → NoneHolds (make_order (patches_of seen) numbers (numbers_of names)) → read ≡ heads → IsSparseRow (patches_of read) (numbers_of names) b span.at span.len p.dependencies.items
-    → FollowsRule p.grade (MayBeHard (patches_of read) None b p.dependencies.items) → IsReady (patches_of heads) numbers blocks p
-ready_found {heads} {numbers = n} {blocks = blocks} {b = b} {marks = marks} {names = names} {span = span} K p named on at inside seen clear read depends follows =
+    → IsTold (patches_of read) b p.dependencies.items (MayBeHard (patches_of read) None b p.dependencies.items) p.told → IsReady (patches_of heads) numbers blocks p
+ready_found {heads} {numbers = n} {blocks = blocks} {b = b} {marks = marks} {names = names} {span = span} K p named on at inside seen clear read depends told =
     let old = patches_of heads in
     let row = p.dependencies.items in
     let sparse : IsSparseRow old (numbers_of p.names.items) p.block p.span.at p.span.len row = rw (named, on, at) (subst (λ hs. IsSparseRow (patches_of hs) (numbers_of names) b span.at span.len row) read depends) in
-    let rule : FollowsRule p.grade (MayBeHard old None p.block row) = rw on (subst (λ hs. FollowsRule p.grade (MayBeHard (patches_of hs) None b row)) read follows) in
+    let known : IsTold old p.block row (MayBeHard old None p.block row) p.told = rw on (subst (λ hs. IsTold (patches_of hs) b row (MayBeHard (patches_of hs) None b row) p.told) read told) in
     record {
       clear = rw named (subst (λ hs. NoneHolds (make_order (patches_of hs) n (numbers_of names))) seen clear);
       inside = rw on inside;
       depends = sparse;
-      graded = graded_change old n blocks marks K p.block p.span.at p.span.len (numbers_of p.names.items) p.grade row sparse rule;
+      graded = graded_change old n blocks marks K p.block p.span.at p.span.len (numbers_of p.names.items) p.told.grade row sparse known.graded;
+      back = known.back;
     }
 
 -- and as contracts see it
-pub found_as : (p : Stored) (numbers : ℕ) {b : ℕ} {span : Span} {names : List PatchNo} → p.block ≡ b → p.span ≡ span → p.names.items ≡ names → p.gates ≡ None → prepared_of numbers p ≡ prepared_for b span.at span.len (numbers_of names) (numbers + 1) p.grade
+pub found_as : (p : Stored) (numbers : ℕ) {b : ℕ} {span : Span} {names : List PatchNo} → p.block ≡ b → p.span ≡ span → p.names.items ≡ names → p.gates ≡ None → prepared_of numbers p ≡ prepared_for b span.at span.len (numbers_of names) (numbers + 1) p.told.grade
 found_as p numbers on at named alone = rw (← on, ← at, ← named, alone) refl
 
-pub member_found_as : (p : Stored) (numbers : ℕ) (gates : Gates) {b : ℕ} {span : Span} → p.block ≡ b → p.span ≡ span → numbers_of p.names.items ≡ gates.head ∷ [] → p.gates ≡ Some gates → prepared_of numbers p ≡ member_for gates.head b span.at span.len (numbers + 1) p.grade
+pub member_found_as : (p : Stored) (numbers : ℕ) (gates : Gates) {b : ℕ} {span : Span} → p.block ≡ b → p.span ≡ span → numbers_of p.names.items ≡ gates.head ∷ [] → p.gates ≡ Some gates → prepared_of numbers p ≡ member_for gates.head b span.at span.len (numbers + 1) p.told.grade
 member_found_as p numbers gates on at named grouped = rw (← on, ← at, named, grouped) refl
 
 -- put down, it is the change that was foreseen
-pub ready_made : {heads : List Patch} {numbers blocks : ℕ} {p : Stored} → IsReady heads numbers blocks p → SparseChangeIsMade heads numbers p.block p.span.at p.span.len (numbers_of p.names.items) (numbers + 1) p.grade (heads ++ change_of numbers p ∷ [])
+pub ready_made : {heads : List Patch} {numbers blocks : ℕ} {p : Stored} → IsReady heads numbers blocks p → SparseChangeIsMade heads numbers p.block p.span.at p.span.len (numbers_of p.names.items) (numbers + 1) p.told.grade (heads ++ change_of numbers p ∷ [])
 ready_made {p = p} R = record { next = refl; dependencies = p.dependencies.items; sparse = R.depends; added = refl; graded = R.graded }
 
 pub ready_adds : {heads : List Patch} {numbers blocks : ℕ} {p : Stored} → IsReady heads numbers blocks p → AddsSparse (record { heads = heads; numbers = numbers; blocks = blocks; groups = []; prepared = None })
-    p.block p.span.at p.span.len (numbers_of p.names.items) (numbers + 1) p.grade (record { heads = heads ++ change_of numbers p ∷ []; numbers = numbers + 1; blocks = blocks; groups = []; prepared = None })
+    p.block p.span.at p.span.len (numbers_of p.names.items) (numbers + 1) p.told.grade (record { heads = heads ++ change_of numbers p ∷ []; numbers = numbers + 1; blocks = blocks; groups = []; prepared = None })
 ready_adds R = record { clear = R.clear; row = ready_made R; numbers = refl; blocks = refl; groups = refl; prepared = refl }
 
 -- what is kept is seen as what is prepared for a group
 module _ (numbers : ℕ) (p : Stored) (gates : Gates) (heads : List Patch) (n blocks : ℕ) (ready : IsMemberReady heads n blocks gates p) (kept : p.gates ≡ Some gates) (head b : ℕ) (span : Span) where
-  pub seen_member : (p.block ≡ b) × (p.span ≡ span) × (option_map (λ (g : Gates). g.head) p.gates ≡ Some head) → Some (prepared_of numbers p) ≡ Some (member_for head b span.at span.len (numbers + 1) p.grade)
+  pub seen_member : (p.block ≡ b) × (p.span ≡ span) × (option_map (λ (g : Gates). g.head) p.gates ≡ Some head) → Some (prepared_of numbers p) ≡ Some (member_for head b span.at span.len (numbers + 1) p.told.grade)
   seen_member h =
       let own : gates.head ≡ head = some_injective gates.head head (sym (ap (option_map (λ (g : Gates). g.head)) kept) ∙ h.2) in
       rw (ready.names, own, ← h.0, ← h.1, h.2) refl

@@ -82,7 +82,8 @@ module _ {heads : Vec Head} {ends : Ends} {levels : Leveling} {needs : Needing} 
             covered = covered_moved alike_shut kept S.covered;
             along = S.along;
             leveled = subst (λ n. IsLeveled (patches_of new.items) n lowered) S.leveled.long leveled;
-            needing = needing_sealed (patches_of heads.items) (patches_of new.items) numbers g S.keeps.lawful gate shut_cascade S.needing;
+            needing = needing_sealed (patches_of heads.items) (patches_of new.items) numbers g S.keeps.lawful kept.lawful gate shut_cascade S.needing;
+            given = S.given;
             none_below = λ b d lt. absurd (omega (arith, lt));
             prepared = tt;
           }

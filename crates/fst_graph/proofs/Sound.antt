@@ -1,10 +1,10 @@
 -- What holds of the fields that are sound: for a walk over them, of a block, for what is prepared, and after a call that leaves the patches as they are.
-use Rattle.std.proofs.{Common.{◌≡◌, ◌∙◌, ℕ, List, Option, Some, None, IfSome, length, map, refl, sym, subst, arith, ◌<◌, ◌↔◌, ◌&&◌, Bool, true, get_or, ap}, lemmas.List.length-map}
+use Rattle.std.proofs.{Common.{◌≡◌, ◌∙◌, ℕ, List, Option, Some, None, IfSome, length, map, Contains, refl, sym, subst, arith, ◌<◌, ◌↔◌, ◌&&◌, Bool, true, get_or, ap}, lemmas.List.length-map}
 use Rattle.std.specs.Global.{Vec}
 use Rattle.fst_types.specs.{Dependencies.IsLiveNumber, Patches.Patch}
 use Rattle.fst_heads.specs.{Ascending.IsBehind, Covers.{AreCovered, Covering}, Heads.{patch_of, patches_of, IsRising}, Keeps.IsInside, Lists.{entries_of, AreListed, entries_on}, Marks.{mark_in, mark_of}}
 use Rattle.fst_heads.specs.{Nodes.{nodes_of, AreLinked, AreSettled, pending_in}, Standings.{AllStand, standing_of}, declared.head.Head.Head, declared.lists.Listed.Listed, declared.standing.Standing.Standing}
-use Rattle.fst_walks.specs.{BothEnds.IsOver, Leveling.{IsLeveled, Leveling}, Needing.{IsNeeding, Needing}, Searching.TellsGates, Sights.Sees, declared.block_walk.BlockWalk.BlockWalk, declared.ends.Ends.Ends, declared.sight.Sight.Sight}
+use Rattle.fst_walks.specs.{BothEnds.IsOver, Leveling.{IsLeveled, Leveling}, Needing.{IsNeeding, Needing}, Searching.TellsGates, Sights.Sees, declared.block_walk.BlockWalk.BlockWalk, declared.ends.Ends.Ends, declared.needs.Way.Way, declared.sight.Sight.Sight}
 use Rattle.fst_graph.specs.{Fresh.IsRoomier, Sound.{AreSound, IsPrepared}, declared.prepared.Prepared.Prepared as Stored}
 use Rattle.fst_heads.proofs.{AtNumber.patches_in_nodes, Slots.rising_heads}
 use Rattle.fst_walks.proofs.{Behind.pending_live, Held.{heads_held, heads_live}, Resting.{listed_at, shelves}, Seen.{same_patches, tallies_wider}}
@@ -77,6 +77,7 @@ module _ {heads : Vec Head} {ends : Ends} {levels : Leveling} {needs : Needing} 
     along = record { marks = down.long ∙ sym up.long; places = down.crossed ∙ sym up.crossed };
     leveled = S.leveled;
     needing = S.needing;
+    given = S.given;
     none_below = S.none_below;
     prepared = tt;
   }
@@ -92,6 +93,7 @@ module _ {heads : Vec Head} {ends : Ends} {levels : Leveling} {needs : Needing} 
         along = along_as R.marks R.crossed S.along;
         leveled = rw patches (leveled_as R.ranks R.floors S.leveled);
         needing = rw patches S.needing;
+        given = S.given;
         none_below = S.none_below;
         prepared = tt;
       }
@@ -107,12 +109,13 @@ module _ {heads : Vec Head} {ends : Ends} {levels : Leveling} {needs : Needing} 
     along = S.along;
     leveled = S.leveled;
     needing = S.needing;
+    given = S.given;
     none_below = S.none_below;
     prepared = tt;
   }
 
   -- and for what the block of the change needs
-  pub reserved_sound : {kept : Needing} → kept.lists ≡ needs.lists → kept.ways ≡ needs.ways → AreSound heads ends levels kept lists covers standings queue live unmarked numbers blocks None
+  pub reserved_sound : {kept : Needing} → kept.lists ≡ needs.lists → ((w : Way) → Contains kept.ways w → Contains needs.ways w) → AreSound heads ends levels kept lists covers standings queue live unmarked numbers blocks None
   reserved_sound same ways = record {
     keeps = S.keeps;
     beside = S.beside;
@@ -121,16 +124,17 @@ module _ {heads : Vec Head} {ends : Ends} {levels : Leveling} {needs : Needing} 
     along = S.along;
     leveled = S.leveled;
     needing = needing_as same ways S.needing;
+    given = λ w c. S.given w (ways w c);
     none_below = S.none_below;
     prepared = tt;
   }
 
   -- with other levels that are as they should be
   pub leveled_sound : {levels' : Leveling} → IsLeveled (patches_of heads.items) blocks levels' → AreSound heads ends levels' needs lists covers standings queue live unmarked numbers blocks None
-  leveled_sound L = record { keeps = S.keeps; beside = S.beside; tallies = S.tallies; covered = S.covered; along = S.along; leveled = L; needing = S.needing; none_below = S.none_below; prepared = tt }
+  leveled_sound L = record { keeps = S.keeps; beside = S.beside; tallies = S.tallies; covered = S.covered; along = S.along; leveled = L; needing = S.needing; given = S.given; none_below = S.none_below; prepared = tt }
 
   pub with_prepared : {o' : Option Stored} → IfSome o' (IsPrepared heads ends levels needs lists covers queue numbers blocks) → AreSound heads ends levels needs lists covers standings queue live unmarked numbers blocks o'
-  with_prepared P = record { keeps = S.keeps; beside = S.beside; tallies = S.tallies; covered = S.covered; along = S.along; leveled = S.leveled; needing = S.needing; none_below = S.none_below; prepared = P }
+  with_prepared P = record { keeps = S.keeps; beside = S.beside; tallies = S.tallies; covered = S.covered; along = S.along; leveled = S.leveled; needing = S.needing; given = S.given; none_below = S.none_below; prepared = P }
 
   -- there are as many lists as blocks
   pub many_lists : (slice : List (Vec Listed)) → slice ≡ lists.items → length slice ≡ blocks

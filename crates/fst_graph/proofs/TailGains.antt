@@ -86,7 +86,7 @@ module _ (old : List Patch) (n blocks : ℕ) (marks : List Bool) (K : Keeps old 
 
   change_apart : DependsOn with_made (n + 1) gates.tail → ⊥
   change_apart d =
-      let u = depends_under old n within p.block p.span.at p.span.len p.grade row named (λ m. m ≡ gates.tail) gates.tail refl d in
+      let u = depends_under old n within p.block p.span.at p.span.len p.told.grade row named (λ m. m ≡ gates.tail) gates.tail refl d in
       row_apart u.0 u.1 (elim u.2 [ inl e ↦ inl e | inr r ↦ inr (subst (DependsOn old u.0) r.2 r.1) ])
 
   tail_clear : SparseAreLawful with_made (n + 1) → NoneHolds (depend_order with_made (n + 1) gates.tail ((n + 1) ∷ []))

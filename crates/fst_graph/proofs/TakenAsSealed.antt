@@ -7,7 +7,8 @@ use Rattle.fst_types.proofs.{Alike.back_alike, Cascades.{kind_cases, arrived}, C
 use Rattle.fst_types.proofs.Finite.{In-from_Contains, Contains-from_In, search_in, lowest}
 use Rattle.fst_types.proofs.{SealedSame.{Twin, back, forth, depends_same, need_was, need_is, reaches_same}, Sealing.{alike_sealed, sparse_sealed}, SmallStates.only_in}
 use Rattle.fst_heads.proofs.Touching.{touch_parts, touch_whole}
-use Rattle.fst_walks.proofs.{Holding.live_up, NearRow.under_weaker}
+use Rattle.fst_walks.specs.WayBack.{LeadsBack}
+use Rattle.fst_walks.proofs.{Backed.{Any, leads_stays, stays_sealed}, ComesBack.live_on, Holding.live_up, NearRow.under_weaker}
 use Rattle.fst_graph.proofs.{WholeRows.live_or_disk, Wholes.{memory_live, open_lives}}
 use Rattle.fst_types.specs.declared.grade.Grade.TheVariants as grade
 
@@ -125,6 +126,14 @@ module _ (old new : List Patch) (numbers g : ℕ) (H : SparseAreLawful old numbe
   pub rule_sealed : (x : Grade) (b : ℕ) (row : List ℕ) → FollowsRule x (MayBeHard old (Some g) b row) → FollowsRule x (MayBeHard new None b row)
   rule_sealed grade.Hard b row m = may_is b row m
   rule_sealed grade.Soft b row m = λ k. m (may_was b row k)
+
+  -- and a way back stays
+  pub back_sealed : (b : ℕ) (row : List ℕ) (end : ℕ) → LeadsBack old b row end → LeadsBack new b row end
+  back_sealed b row end l =
+      let x = live_on old H.one_place_each.rising b b end l.change in
+      let s = stays_sealed old new numbers g H gate cascade l.change.patch l.change.head x.0 in
+      leads_stays old new H.one_place_each.rising H.on_disk_with_all K.one_place_each.rising K.on_disk_with_all Any (λ c d e. tt) (stays_sealed old new numbers g H gate cascade) b row row end (λ q i. i) l
+      (record { patch = s.now; head = s.head; numbered = s.number ∙ l.change.numbered; live = s.live b x.1 tt })
 
   -- what is on disk stays there
   pub stays : (q : ℕ) → IsOnDisk old q → IsOnDisk new q

@@ -2,23 +2,25 @@
 use Rattle.std.specs.Prelude.{◌≡◌, ◌<◌, ◌+◌, ◌++◌, ◌∷◌, [], ℕ, List, Option, Some, None, IfSome, option_map}
 use Rattle.fst_types.specs.{Grades.IsGraded, Making.fresh, Order.make_order, Patches.{Change, Patch}, Refusals.NoneHolds}
 use Rattle.fst_heads.specs.{Frames.HasRoomBelow, Names.numbers_of, Nodes.HasRoomAbove, Rows.IsSparseRow, declared.head.Head.Head}
+use Rattle.fst_walks.specs.WayBack.{LeadsBack}
 use Rattle.fst_graph.specs.{Known.Prepared, Membering.{ArePaired, BeginsAs, member_order}, declared.prepared.Gates.Gates, declared.prepared.Prepared.Prepared as Stored}
 
 -- as contracts see it, its number being the next one
 abbrev pub prepared_of : ℕ → Stored → Prepared
 prepared_of numbers p =
-    record { block = p.block; at = p.span.at; len = p.span.len; after = numbers_of p.names.items; number = numbers + 1; grade = p.grade; group = option_map (λ g. g.head) p.gates }
+    record { block = p.block; at = p.span.at; len = p.span.len; after = numbers_of p.names.items; number = numbers + 1; grade = p.told.grade; group = option_map (λ g. g.head) p.gates }
 
 -- the patch that it becomes
 abbrev pub change_of : ℕ → Stored → Patch
-change_of numbers p = fresh (numbers + 1) (Change p.block p.span.at p.span.len p.grade) p.dependencies.items
+change_of numbers p = fresh (numbers + 1) (Change p.block p.span.at p.span.len p.told.grade) p.dependencies.items
 
 -- a change with these arguments is not refused, and this is what it would be
 pub record IsReady (heads : List Patch) (numbers blocks : ℕ) (p : Stored) : Type 0 where
   pub clear : NoneHolds (make_order heads numbers (numbers_of p.names.items))
   pub inside : p.block < blocks
   pub depends : IsSparseRow heads (numbers_of p.names.items) p.block p.span.at p.span.len p.dependencies.items
-  pub graded : IsGraded heads (heads ++ change_of numbers p ∷ []) p.block (numbers + 1) p.grade
+  pub graded : IsGraded heads (heads ++ change_of numbers p ∷ []) p.block (numbers + 1) p.told.grade
+  pub back : IfSome p.told.end (LeadsBack heads p.block p.dependencies.items)
 
 -- a change of the group with these gates is not refused, and this is what it would be once the head is sealed, if it is open
 pub record IsMemberReady (heads : List Patch) (numbers blocks : ℕ) (gates : Gates) (p : Stored) : Type 0 where

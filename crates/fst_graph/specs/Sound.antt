@@ -3,7 +3,7 @@ use Rattle.std.specs.Prelude.{◌≡◌, ◌≤◌, ◌<◌, ℕ, slice_index_or
 use Rattle.std.specs.Global.{Vec}
 use Rattle.fst_heads.specs.{Covers.{AreCovered, Covering, HasRoomForRuns}, Heads.patches_of, Keeps.{Beside, Keeps, Tallies}, Lists.{entries_of, HasRoomInList}}
 use Rattle.fst_heads.specs.{Nodes.nodes_of, declared.head.Head.Head, declared.lists.Listed.Listed, Standings.NoneBelow, declared.standing.Standing.Standing}
-use Rattle.fst_walks.specs.{Leveling.{IsLeveled, Leveling}, Needing.{IsNeeding, Needing}, declared.ends.Ends.Ends}
+use Rattle.fst_walks.specs.{Leveling.{IsLeveled, Leveling}, Needing.{HaveGivenEnds, IsNeeding, Needing}, declared.ends.Ends.Ends}
 use Rattle.fst_graph.specs.{Fresh.HasPlaces, Ready.{MayBePut, HasRoomAround}, declared.prepared.Prepared.Prepared as Stored}
 
 -- a change that is prepared is not refused, and whatever it is put into has a free place for it
@@ -30,5 +30,6 @@ pub record AreSound (heads : Vec Head) (ends : Ends) (levels : Leveling) (needs 
   pub along : AreAlong ends
   pub leveled : IsLeveled (patches_of heads.items) blocks levels
   pub needing : IsNeeding (patches_of heads.items) blocks needs
+  pub given : HaveGivenEnds numbers needs.ways
   pub none_below : NoneBelow standings.items unmarked
   pub prepared : IfSome stored (IsPrepared heads ends levels needs lists covers queue numbers blocks)

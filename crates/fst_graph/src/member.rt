@@ -5,7 +5,6 @@ ghost use Rattle.std.specs.Prelude.{◌≡◌, ◌<◌, ◌∷◌, [], false, �
 ghost use Rattle.fst_types.specs.Dependencies.{DirectlyOn, IsLiveNumber, IsOnDisk};
 ghost use Rattle.fst_types.specs.Facts.{SparseAreLawful};
 ghost use Rattle.fst_types.specs.Gates.{IsOpenNumber};
-ghost use Rattle.fst_types.specs.Grades.{FollowsRule};
 ghost use Rattle.fst_types.specs.Patches.{Patch};
 ghost use Rattle.fst_heads.specs.Grading.{MayBeHard};
 ghost use Rattle.fst_heads.specs.Heads.{IsRising, patches_of};
@@ -15,6 +14,7 @@ ghost use Rattle.fst_heads.specs.Nodes.{nodes_of, AreCounted};
 ghost use Rattle.fst_heads.specs.Rows.{IsSparseRow};
 ghost use Rattle.fst_walks.specs.BothEnds.{IsOver};
 ghost use Rattle.fst_walks.specs.Sights.{Sees};
+ghost use Rattle.fst_walks.specs.Telling.{IsTold};
 
 use crate::prepared::{Gates, Prepared, copy_of};
 use fst_heads::head::Head;
@@ -74,7 +74,7 @@ pub fn prepare_member(
     ensures names { IfOk result (λ p. numbers_of p.names.items ≡ gates.head ∷ []) }
     ensures gates { IfOk result (λ p. p.gates ≡ Some gates) }
     ensures depends { IfOk result (λ p. (begun : List Patch) → BeginsAs (patches_of sight.now.heads.now) gates.head begun → IsSparseRow begun (gates.head ∷ []) block span.at span.len p.dependencies.items) }
-    ensures graded { IfOk result (λ p. (begun : List Patch) → BeginsAs (patches_of sight.now.heads.now) gates.head begun → FollowsRule p.grade (MayBeHard begun None block p.dependencies.items)) }
+    ensures told { IfOk result (λ p. (begun : List Patch) → BeginsAs (patches_of sight.now.heads.now) gates.head begun → IsTold begun block p.dependencies.items (MayBeHard begun None block p.dependencies.items) p.told) }
     ensures up { IsOver sight.now.heads.now (length sight.now.lists.now) ends.new.up }
     ensures down { IsOver sight.now.heads.now (length sight.now.lists.now) ends.new.down }
 {
@@ -97,13 +97,13 @@ pub fn prepare_member(
     let dependencies = sparse_row(alloc, heads, list, cover, &wanted)?;
     let names = copy_of(alloc, &names)?;
     let row = dependencies.as_slice();
-    let grade = grade_of(sight, ends, block, row, opened);
+    let told = grade_of(sight, ends, block, row, opened);
     Ok(Prepared {
         block,
         span,
         names,
         dependencies,
-        grade,
+        told,
         gates: Some(gates),
     })
 }

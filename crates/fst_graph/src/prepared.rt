@@ -2,7 +2,6 @@
 //! down, which takes no memory and is not refused.
 
 ghost use Rattle.std.specs.Prelude.{◌≡◌, ◌↔◌, ◌<◌, List, Some, None, option_map, IsTrue, IfOk, OnOk, length, map, slice_index_or, vec_len, vec_capacity};
-ghost use Rattle.fst_types.specs.Grades.{FollowsRule};
 ghost use Rattle.fst_types.specs.Patches.{Patch};
 ghost use Rattle.fst_heads.specs.Covers.{AreCovered, Covering, HasRoomForRuns};
 ghost use Rattle.fst_heads.specs.Grading.{MayBeHard};
@@ -12,14 +11,16 @@ ghost use Rattle.fst_heads.specs.Names.{numbers_of};
 ghost use Rattle.fst_heads.specs.Rows.{IsSparseRow};
 ghost use Rattle.fst_walks.specs.BothEnds.{IsOver};
 ghost use Rattle.fst_walks.specs.Sights.{Sees};
+ghost use Rattle.fst_walks.specs.Telling.{IsTold};
 
 use fst_heads::cover::Cover;
 use fst_heads::lists::Listed;
 use fst_heads::row::Row;
 use fst_heads::sparse::{Wanted, sparse_row};
-use fst_types::{Fault, Grade, PatchNo, Span};
+use fst_types::{Fault, PatchNo, Span};
 use fst_walks::ends::Ends;
 use fst_walks::grade::grade_of;
+use fst_walks::graded::Graded;
 use fst_walks::sight::Sight;
 use std::alloc::{AllocError, Global};
 
@@ -30,7 +31,7 @@ pub struct Gates {
     pub tail: u32,
 }
 
-/// A change that is not made yet: its arguments, what it will depend on and be graded, and the gates of the group for
+/// A change that is not made yet: its arguments, what it will depend on, what is told of it, and the gates of the group for
 /// which it is made, if there is one.
 #[derive(Drop)]
 pub struct Prepared {
@@ -38,7 +39,7 @@ pub struct Prepared {
     pub span: Span,
     pub names: Vec<PatchNo>,
     pub dependencies: Row,
-    pub grade: Grade,
+    pub told: Graded,
     pub gates: Option<Gates>,
 }
 
@@ -112,7 +113,7 @@ pub fn prepare(
     ensures span { IfOk result (λ p. p.span ≡ span) }
     ensures names { IfOk result (λ p. p.names.items ≡ names.now) }
     ensures depends { IfOk result (λ p. IsSparseRow (patches_of sight.now.heads.now) (numbers_of names.now) block span.at span.len p.dependencies.items) }
-    ensures graded { IfOk result (λ p. FollowsRule p.grade (MayBeHard (patches_of sight.now.heads.now) None block p.dependencies.items)) }
+    ensures told { IfOk result (λ p. IsTold (patches_of sight.now.heads.now) block p.dependencies.items (MayBeHard (patches_of sight.now.heads.now) None block p.dependencies.items) p.told) }
     ensures gates { IfOk result (λ p. p.gates ≡ None) }
     ensures up { IsOver sight.now.heads.now (length sight.now.lists.now) ends.new.up }
     ensures down { IsOver sight.now.heads.now (length sight.now.lists.now) ends.new.down }
@@ -123,13 +124,13 @@ pub fn prepare(
     let dependencies = sparse_row(alloc, sight.heads, list, cover, &wanted)?;
     let names = copy_of(alloc, names)?;
     let row = dependencies.as_slice();
-    let grade = grade_of(sight, ends, block, row, None);
+    let told = grade_of(sight, ends, block, row, None);
     Ok(Prepared {
         block,
         span,
         names,
         dependencies,
-        grade,
+        told,
         gates: None,
     })
 }

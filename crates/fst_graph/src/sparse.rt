@@ -248,7 +248,7 @@ impl Sparse {
             block.0,
         );
         land_at(&mut self.standings, block.0);
-        self.needs.forget_ways();
+        self.needs.land(block.0);
         let landed = cascade(&mut self.heads, &mut self.queue, &mut self.standings);
         self.live -= landed;
         self.unmarked = 0;

@@ -1,12 +1,11 @@
 -- What ancestors lead to, and which a patch over a row may have.
 use Rattle.std.proofs.Common.{◌≡◌, ◌≤◌, ◌<◌, ◌⊎◌, ◌∷◌, [], ◌∙◌, ℕ, List, map, Contains, refl, sym, ap, subst, inl, inr, arith, ne_eqb}
 use Rattle.std.proofs.lemmas.Bool.{cases_eq}
-use Rattle.fst_types.specs.{Closure.{join}, Dependencies.DependsOn, Patches.{Patch, IsRising, IsOn}}
-use Rattle.fst_types.proofs.{Crash.same_number, Finite.{Contains-from_In, In-from_Contains, first_step}}
-use Rattle.fst_heads.specs.{Grading.{HasUnder, IsReturning}, Marks.PassesAt}
-use Rattle.fst_heads.proofs.{Graded.{off_from, on_from}, Leading.one_block}
-use Rattle.fst_walks.specs.{Ancestors.{AreOver, GoesUnder, LeadsTo, MayStandUnder}, Leveling.{jump_of, kept_under, no_ancestry}, declared.levels.{Ancestry.Ancestry, Rank.Rank}}
-use Rattle.fst_walks.proofs.NearRow.{away_back}
+use Rattle.fst_types.specs.{Closure.{join}, Dependencies.DependsOn, Facts.IsOnDiskWithAll, Patches.{Patch, IsRising}}
+use Rattle.fst_types.proofs.{Finite.{Contains-from_In, In-from_Contains, first_step}}
+use Rattle.fst_heads.specs.{Marks.PassesAt}
+use Rattle.fst_walks.specs.{Ancestors.{AreOver, GoesUnder, LeadsTo, MayStandUnder}, Leveling.{jump_of, kept_under, no_ancestry}, WayBack.LeadsBack, declared.levels.{Ancestry.Ancestry, Rank.Rank}}
+use Rattle.fst_walks.proofs.{ComesBack.off_not_on, Straight.straight_back}
 use Rattle.fst_heads.specs.declared.test.Test.TheVariants as test
 
 -- a number is that of a patch, or nothing is kept under it
@@ -97,21 +96,12 @@ module _ (patches : List Patch) (ranks : List Rank) (aligned : map (λ r. r.numb
         ];
       }
 
--- a change of another block does not have the number of one of b
-off_is_not_on : (patches : List Patch) → IsRising patches → (b n : ℕ) → PassesAt (test.LiveOff b) patches n → PassesAt (test.LiveOn b) patches n → ⊥
-off_is_not_on patches rising b n x y =
-    let off = off_from b x.patch.number x.patch.kind x.patch.place x.passed in
-    let on = on_from b y.patch.number y.patch.kind y.patch.place y.passed in
-    let same = same_number patches x.patch y.patch rising x.head y.head (x.numbered ∙ sym y.numbered) in
-    off.3 (one_block y.patch off.1 b (subst (λ (p : Patch). IsOn p off.1) same off.2) on.1)
-
--- so a way over a change of another block to one of b is what a change of b with that row waits for
-pub leads_back : (patches : List Patch) → IsRising patches → (b : ℕ) (row : List ℕ) (top off n : ℕ) → Contains row top → LeadsTo patches top off → PassesAt (test.LiveOff b) patches off → LeadsTo patches off n → PassesAt (test.LiveOn b) patches n
-    → HasUnder patches row (IsReturning patches b)
-leads_back patches rising b row top off n named to away down back =
+-- over a change of another block to one of b, a way leads back
+pub leads_back : (patches : List Patch) → IsRising patches → IsOnDiskWithAll patches → (b : ℕ) (row : List ℕ) (top off n : ℕ) → Contains row top → LeadsTo patches top off → PassesAt (test.LiveOff b) patches off → LeadsTo patches off n → PassesAt (test.LiveOn b) patches n
+    → LeadsBack patches b row n
+leads_back patches rising disk b row top off n named to away down back =
     let depends : DependsOn patches off n = elim (down back.patch back.head back.numbered) [
-      | inl same ↦ absurd (off_is_not_on patches rising b n (subst (PassesAt (test.LiveOff b) patches) same away) back)
+      | inl same ↦ absurd (off_not_on patches rising b n (subst (PassesAt (test.LiveOff b) patches) same away) back)
       | inr path ↦ path
     ] in
-    let returns = away_back patches b n off (away, depends) back in
-    (top, named, elim (to away.patch away.head away.numbered) [ inl same ↦ inl (subst (IsReturning patches b) (sym same) returns) | inr path ↦ inr (off, path, returns) ])
+    straight_back patches rising disk b row off n away back depends (top, named, elim (to away.patch away.head away.numbered) [ inl same ↦ inl same | inr path ↦ inr (off, path, refl) ])

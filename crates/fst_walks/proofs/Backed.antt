@@ -1,50 +1,34 @@
--- A way back stays while patches come to be, gates gain names and are sealed, blocks are launched, and what is on disk is forgotten: what is not on disk depends on all that it did. Only a landing may end one.
+-- A way back stays until its end is on disk: each patch on it waits for the one before, so that none of them is on disk earlier, and no block that it leads over is written.
 use Rattle.std.proofs.Common.{◌≡◌, ◌≢◌, ◌++◌, ◌∷◌, ◌⊎◌, ◌∙◌, [], ℕ, true, not, List, Contains, map, filter, refl, sym, ap, subst, inl, inr}
 use Rattle.std.proofs.lemmas.List.Elements.{Contains-append_left}
-use Rattle.fst_types.specs.{Cascade.IsCascadeOf, Closure.{one, join}, Dependencies.{DependsOn, DirectlyOn, IsLiveNumber, Needs}, Facts.{IsOnDiskWithAll, SparseAreLawful}, Gates.IsOpenNumber, Gating.{gains, sealed}}
-use Rattle.fst_types.specs.{Grades.{HasEdge, Reaches}, Patches.{Patch, OpenGate, IsOn, IsHard, IsLive, block_of_kind, grade_of_kind}}
-use Rattle.fst_types.specs.{Tests.{is_at, is_live}, Writable.{IsInMemoryOn, IsWritable, IsWritableSet}, Writing.launched, declared.place.Place.Place}
-use Rattle.fst_types.proofs.{Cascades.{no_follower_on, settled_on}, Depending.grown, Dropping.in_filter, Finite.{In-from_Contains, Contains-from_In, In-map}, Issuing.launched_cases, Sealing.sealed_cases}
-use Rattle.fst_heads.specs.{Grading.{IsLeading, IsReturning, LeadsNowhere}, Marks.IsAbove}
-use Rattle.fst_types.specs.Closure.{Closure}
-use Rattle.fst_types.specs.Patches.{IsRising}
-use Rattle.fst_types.proofs.Crash.{same_number}
-use Rattle.fst_heads.specs.Marks.{PassesAt}
-use Rattle.fst_heads.proofs.{Graded.on_from, Leading.one_block}
-use Rattle.fst_walks.specs.{BothEnds.StepsAway, Needing.{HaveWaysBack, HasWayBack}}
-use Rattle.fst_walks.proofs.Holding.{live_up}
+use Rattle.fst_types.specs.{Cascade.IsCascadeOf, Closure.{Closure, one, join}, Dependencies.{DependsOn, DirectlyOn, IsLiveNumber}, Facts.{FlightsStandAlone, IsInFlightOn, IsOnDiskWithAll, SparseAreLawful}, Gates.IsOpenNumber, Gating.{gains, sealed}}
+use Rattle.fst_types.specs.{Grades.{HasEdge, Reaches}, Patches.{Patch, OpenGate, IsOn, IsHard, IsLive, IsRising, block_of_kind, grade_of_kind}}
+use Rattle.fst_types.specs.{Tests.{is_at, is_live}, Writable.{IsWritable, IsWritableSet}, Writing.{landed, launched}, declared.place.Place.Place}
+use Rattle.fst_types.proofs.{Cascades.{no_follower_on, settled_on}, Crash.same_number, Depending.grown, Dropping.in_filter, Finite.{In-from_Contains, Contains-from_In, In-map}, Issuing.launched_cases, Landing.landed_cases, Sealing.sealed_cases}
+use Rattle.fst_heads.specs.{Grading.{HasUnder, IsHardNumber}, Marks.PassesAt}
+use Rattle.fst_heads.proofs.{Graded.{off_from, off_to, on_to}, Leading.one_block}
+use Rattle.fst_walks.specs.{Needing.{AreNeeded, HasWayBack, HaveWaysBack, IsHardAt}, WayBack.{IsLiveOver, LeadsBack, StepsBack}, declared.needs.Way.Way}
+use Rattle.fst_walks.proofs.{BothEnds.{off_live, up_over}, ComesBack.{ComesBack, hard_reaches, live_number, live_on, over_back}, Holding.live_up, Trails.none_in}
 use Rattle.fst_types.specs.declared.place.Place.TheVariants as place
 use Rattle.fst_heads.specs.declared.test.Test.TheVariants as test
 
--- a patch that is there still, with what it depended on at least; where it is a change it is not on disk, and in memory where it is hard and needs a live change of another block
-pub record StaysIn (old new : List Patch) (p : Patch) : Type 0 where
+-- a patch that is there still, with what it depended on at least; where it is a change of a block with Kept it is not on disk, and in memory where it was hard and in memory
+pub record StaysIn (new : List Patch) (Kept : ℕ → Type 0) (p : Patch) : Type 0 where
   pub now : Patch
   pub head : Contains new now
   pub number : now.number ≡ p.number
   pub dependencies : (n : ℕ) → Contains p.dependencies n → Contains now.dependencies n
   pub kind : (b : ℕ) → IsOn p b → now.kind ≡ p.kind
-  pub live : (b : ℕ) → IsOn p b → IsLive now
-  pub memory : (c d : ℕ) (q : Patch) → IsInMemoryOn old c p → IsHard p → c ≢ d → Needs old p.number q d → IsLive q → now.place ≡ place.Memory
+  pub live : (b : ℕ) → IsOn p b → Kept b → IsLive now
+  pub memory : (b : ℕ) → IsOn p b → Kept b → IsHard p → p.place ≡ place.Memory → now.place ≡ place.Memory
 
--- a way from a longer row is one from more
-pub shorter_nowhere : (patches : List Patch) (b : ℕ) (row longer : List ℕ) → ((n : ℕ) → Contains row n → Contains longer n) → LeadsNowhere patches b longer → LeadsNowhere patches b row
-shorter_nowhere patches b row longer more L = record { straight = λ u. L.straight (u.0, more u.0 u.1, u.2); open_ended = λ u. L.open_ended (u.0, more u.0 u.1, u.2) }
+-- where all that is not on disk stays, and the blocks from which edges lead are such
+module _ (old new : List Patch) (rising : IsRising old) (disk : IsOnDiskWithAll old) (in_order : IsRising new) (rests : IsOnDiskWithAll new)
+    (Kept : ℕ → Type 0) (edges : (c d : ℕ) → HasEdge old c d → Kept c) (stays : (p : Patch) → Contains old p → IsLive p → StaysIn new Kept p) where
+  edges_kept : (c d : ℕ) → Reaches old c d → Kept c
+  edges_kept c d (one e) = edges c d e
+  edges_kept c d (join {q = k} e f) = edges_kept c k e
 
--- from what a patch at or below the row directly depends on, no way leads back where none does from the row
-pub below_nowhere : (patches : List Patch) (b : ℕ) (row : List ℕ) (top n : ℕ) → Contains row top → (top ≡ n) ⊎ DependsOn patches top n → (below : List ℕ) → ((q : ℕ) → Contains below q → DirectlyOn patches n q) → LeadsNowhere patches b row → LeadsNowhere patches b below
-below_nowhere patches b row top n named under below direct L = record {
-  straight = λ u. L.straight (top, named, up (IsReturning patches b) u.0 (direct u.0 u.1) u.2);
-  open_ended = λ u. L.open_ended (top, named, up (IsLeading patches b) u.0 (direct u.0 u.1) u.2);
-}
-  where
-    from : (q : ℕ) → DependsOn patches n q → DependsOn patches top q
-    from q d = elim under [ inl e ↦ subst (λ m. DependsOn patches m q) (sym e) d | inr c ↦ join c d ]
-
-    up : (P : ℕ → Type 0) (q : ℕ) → DirectlyOn patches n q → IsAbove patches P q → IsAbove patches P top
-    up P q d a = elim a [ inl here ↦ inr (q, from q (one d), here) | inr r ↦ inr (r.0, from r.0 (join (one d) r.1), r.2) ]
-
--- where all that is not on disk stays
-module _ (old new : List Patch) (disk : IsOnDiskWithAll old) (stays : (p : Patch) → Contains old p → IsLive p → StaysIn old new p) where
   direct_stays : (m n : ℕ) → DirectlyOn old m n → IsLiveNumber old n → DirectlyOn new m n
   direct_stays m n d l =
       let g = stays d.patch d.head (λ e. l.live (disk.disk d.patch d.head e n d.named l.patch l.head l.numbered)) in
@@ -54,126 +38,129 @@ module _ (old new : List Patch) (disk : IsOnDiskWithAll old) (stays : (p : Patch
   depends_stays m n (one d) l = one (direct_stays m n d l)
   depends_stays m n (join {q = k} c d) l = join (depends_stays m k c (live_up old disk k n d l)) (depends_stays k n d l)
 
+  under_stays : (row longer : List ℕ) (n : ℕ) → ((q : ℕ) → Contains row q → Contains longer q) → HasUnder old row (λ m. m ≡ n) → IsLiveNumber old n → HasUnder new longer (λ m. m ≡ n)
+  under_stays row longer n more u l = (
+    u.0,
+    more u.0 u.1,
+    elim u.2 [ inl e ↦ inl e | inr low ↦ inr (low.0, depends_stays u.0 low.0 low.1 (subst (IsLiveNumber old) (sym low.2) l), low.2) ],
+  )
+
   on_stays : (p : Patch) (b : ℕ) (h : Contains old p) (l : IsLive p) → IsOn p b → IsOn (stays p h l).now b
   on_stays p b h l on = ap block_of_kind ((stays p h l).kind b on) ∙ on
 
-  need_stays : (m : ℕ) (q : Patch) (c : ℕ) (x : Needs old m q c) (l : IsLive q) → Needs new m (stays q x.head l).now c
-  need_stays m q c x l = record {
-    head = (stays q x.head l).head;
-    change = on_stays q c x.head l x.change;
-    depends = subst (DependsOn new m) (sym (stays q x.head l).number) (depends_stays m q.number x.depends (record { patch = q; head = x.head; numbered = refl; live = l }));
-  }
+  -- what has the number now is what stayed
+  live_now : (p : Patch) (n : ℕ) (h : Contains old p) (l : IsLive p) → p.number ≡ n → IsLiveNumber new n → IsLive (stays p h l).now
+  live_now p n h l numbered x = let g = stays p h l in subst IsLive (same_number new x.patch g.now in_order x.head g.head (x.numbered ∙ (sym numbered ∙ sym g.number))) x.live
 
-  returning_stays : (b n : ℕ) → IsReturning old b n → IsReturning new b n
-  returning_stays b n r =
-      let a = stays r.away r.head r.away_live in
-      let k = r.back_needed in
-      let back = stays r.back k.head r.back_live in
-      record {
-        away = a.now;
-        back = back.now;
-        away_on = r.away_on;
-        head = a.head;
-        numbered = a.number ∙ r.numbered;
-        change = on_stays r.away r.away_on r.head r.away_live r.change;
-        off = r.off;
-        away_live = a.live r.away_on r.change;
-        back_needed = subst (λ m. Needs new m back.now b) (sym a.number) (need_stays r.away.number r.back b k r.back_live);
-        back_live = back.live b k.change;
-      }
+  module _ (b : ℕ) where
+    -- n waits for a change of b, or is one
+    abbrev Waits : ℕ → Type 0
+    Waits n = IsLiveOver old b n ⊎ ComesBack old rising b n
 
-  edge_stays : (c d : ℕ) → HasEdge old c d → HasEdge new c d
-  edge_stays c d e =
-      let i = e.in_memory in
-      let held : IsLive e.hard = λ k. clash (sym i.memory ∙ k) in
-      let h = stays e.hard i.head held in
-      let need = stays e.need e.needs.head e.live in
-      record {
-        other = e.other;
-        hard = h.now;
-        need = need.now;
-        in_memory = record { head = h.head; change = on_stays e.hard c i.head held i.change; memory = h.memory c d e.need i e.is_hard e.other e.needs e.live };
-        is_hard = ap grade_of_kind (h.kind c i.change) ∙ e.is_hard;
-        needs = subst (λ m. Needs new m need.now d) (sym h.number) (need_stays e.hard.number e.need d e.needs e.live);
-        live = need.live d e.needs.change;
-      }
-    where
-      clash : place.Memory ≡ place.Disk → ⊥
-      clash k = cc
+    -- from the block of a hard change in memory that does, edges lead
+    hard_kept : (c n : ℕ) → c ≢ b → IsHardNumber old c n → Waits n → Kept c
+    hard_kept c n other h waits =
+        let live : IsLive h.patch = λ e. let memory = h.hard.memory in cc in
+        let off : PassesAt (test.LiveOff b) old n = record { patch = h.patch; head = h.head; numbered = h.numbered; passed = off_to b h.patch.number c h.patch.kind h.patch.place live h.hard.change other } in
+        edges_kept c b (hard_reaches old rising b c n h other (elim waits [ inl o ↦ over_back old rising b n o off | inr x ↦ x ]))
 
-  reaches_stays : (c d : ℕ) → Reaches old c d → Reaches new c d
-  reaches_stays c d (one e) = one (edge_stays c d e)
-  reaches_stays c d (join {q = k} e f) = join (reaches_stays c k e) (reaches_stays k d f)
+    step_stays : (m n : ℕ) → StepsBack old b m n → IsLiveNumber old m → IsLiveNumber new m → Waits m → StepsBack new b m n × IsLiveNumber new n
+    step_stays m n (inl up) was now waits =
+        let d = direct_stays n m up.0 was in
+        let live = live_up new rests n m (one d) now in
+        (inl (d, live), live)
+    step_stays m n (inr k) was now waits =
+        let c = k.block in
+        let kept = hard_kept c m k.other k.hard waits in
+        let p = k.hard.patch in
+        let h = k.hard.hard in
+        let held : IsLive p = λ e. let memory = h.memory in cc in
+        let hard = stays p k.hard.head held in
+        let q = k.change.patch in
+        let x = live_on old rising b c n k.change in
+        let change = stays q k.change.head x.0 in
+        let live = change.live c x.1 kept in (
+          inr (record {
+            block = c;
+            other = k.other;
+            hard = record {
+              patch = hard.now;
+              head = hard.head;
+              numbered = hard.number ∙ k.hard.numbered;
+              hard = record { change = on_stays p c k.hard.head held h.change; memory = hard.memory c h.change kept h.hard h.memory; hard = ap grade_of_kind (hard.kind c h.change) ∙ h.hard };
+            };
+            change = record { patch = change.now; head = change.head; numbered = change.number ∙ k.change.numbered; passed = on_to c change.now.number change.now.kind change.now.place live (on_stays q c k.change.head x.0 x.1) };
+          }),
+          record { patch = change.now; head = change.head; numbered = change.number ∙ k.change.numbered; live = live },
+        )
 
-  leading_stays : (b n : ℕ) → IsLeading old b n → IsLeading new b n
-  leading_stays b n l =
-      let p = stays l.patch l.head l.live in
-      record {
-        patch = p.now;
-        block = l.block;
-        head = p.head;
-        numbered = p.number ∙ l.numbered;
-        change = on_stays l.patch l.block l.head l.live l.change;
-        live = p.live l.block l.change;
-        other = l.other;
-        reaches = reaches_stays l.block b l.reaches;
-      }
+    -- it is not on disk, and was not, and waits for a change of b
+    record IsOnWay (n : ℕ) : Type 0 where
+      was : IsLiveNumber old n
+      now : IsLiveNumber new n
+      waits : Waits n
 
-  returning_live : (b n : ℕ) → IsReturning old b n → IsLiveNumber old n
-  returning_live b n r = record { patch = r.away; head = r.head; numbered = r.numbered; live = r.away_live }
+    path_stays : (m n : ℕ) → Closure (StepsBack old b) m n → IsOnWay m → Closure (StepsBack new b) m n × IsOnWay n
+    path_stays m n (one s) w =
+        let t = step_stays m n s w.was w.now w.waits in
+        let was : IsLiveNumber old n = elim s [ inl up ↦ up.1 | inr k ↦ live_number old rising b k.block n k.change ] in
+        (one t.0, record { was = was; now = t.1; waits = up_over old rising disk b m n s w.waits })
+    path_stays m n (join {q = k} c d) w = let e = path_stays m k c w in let f = path_stays k n d e.1 in (join e.0 f.0, f.1)
 
-  leading_live : (b n : ℕ) → IsLeading old b n → IsLiveNumber old n
-  leading_live b n l = record { patch = l.patch; head = l.head; numbered = l.numbered; live = l.live }
-
-  above_live : (P : ℕ → Type 0) → ((n : ℕ) → P n → IsLiveNumber old n) → (n : ℕ) → IsAbove old P n → IsLiveNumber old n
-  above_live P live n a = elim a [ inl here ↦ live n here | inr r ↦ live_up old disk n r.0 r.1 (live r.0 r.2) ]
-
-  above_stays : (P Q : ℕ → Type 0) → ((n : ℕ) → P n → IsLiveNumber old n) → ((n : ℕ) → P n → Q n) → (n : ℕ) → IsAbove old P n → IsAbove new Q n
-  above_stays P Q live f n a = elim a [ inl here ↦ inl (f n here) | inr r ↦ inr (r.0, depends_stays n r.0 r.1 (live r.0 r.2), f r.0 r.2) ]
-
-  pub nowhere_was : (b : ℕ) (row : List ℕ) → LeadsNowhere new b row → LeadsNowhere old b row
-  nowhere_was b row L = record {
-    straight = λ u. L.straight (u.0, u.1, above_stays (IsReturning old b) (IsReturning new b) (returning_live b) (returning_stays b) u.0 u.2);
-    open_ended = λ u. L.open_ended (u.0, u.1, above_stays (IsLeading old b) (IsLeading new b) (leading_live b) (leading_stays b) u.0 u.2);
-  }
+    pub leads_stays : (row longer : List ℕ) (end : ℕ) → ((q : ℕ) → Contains row q → Contains longer q) → LeadsBack old b row end → IsLiveNumber new end → LeadsBack new b longer end
+    leads_stays row longer end more l now =
+        let x = live_on old rising b b end l.change in
+        let first = l.change.patch in
+        let last = l.off.patch in
+        let off = off_from b last.number last.kind last.place l.off.passed in
+        let start = live_number old rising b b end l.change in
+        let path = path_stays end l.away l.path (record { was = start; now = now; waits = inl (record { live = start; base = end; change = l.change; over = inl refl }) }) in
+        let e = stays first l.change.head x.0 in
+        let a = stays last l.off.head off.0 in
+        record {
+          away = l.away;
+          change = record { patch = e.now; head = e.head; numbered = e.number ∙ l.change.numbered; passed = on_to b e.now.number e.now.kind e.now.place (live_now first end l.change.head x.0 l.change.numbered now) (on_stays first b l.change.head x.0 x.1) };
+          off = record { patch = a.now; head = a.head; numbered = a.number ∙ l.off.numbered; passed = off_to b a.now.number off.1 a.now.kind a.now.place (live_now last l.away l.off.head off.0 l.off.numbered path.1.now) (on_stays last off.1 l.off.head off.0 off.2) off.3 };
+          under = under_stays row longer l.away more l.under path.1.was;
+          path = path.0;
+        }
 
   -- no way leads back from what is on disk
-  back_live : (n : ℕ) (x : HasWayBack old n) → IsLive x.patch
-  back_live n x e =
-      let rests = disk.disk x.patch x.head e in
-      let none : (m : ℕ) → Contains x.patch.dependencies m → IsLiveNumber old m → ⊥ = λ m c l. l.live (rests m c l.patch l.head l.numbered) in
-      x.back (record { straight = λ u. none u.0 u.1 (above_live (IsReturning old x.block) (returning_live x.block) u.0 u.2); open_ended = λ u. none u.0 u.1 (above_live (IsLeading old x.block) (leading_live x.block) u.0 u.2) })
+  back_live : (n end : ℕ) (x : HasWayBack old n end) → IsLive x.patch
+  back_live n end x e =
+      let away = off_live old rising disk x.block x.back.away x.back.off in
+      let u = x.back.under in
+      let top : IsLiveNumber old u.0 = elim u.2 [ inl s ↦ subst (IsLiveNumber old) (sym s) away | inr low ↦ live_up old disk u.0 low.0 low.1 (subst (IsLiveNumber old) (sym low.2) away) ] in
+      top.live (disk.disk x.patch x.head e u.0 u.1 top.patch top.head top.numbered)
 
-  pub back_stays : (n : ℕ) → HasWayBack old n → HasWayBack new n
-  back_stays n x =
-      let live = back_live n x in
+  back_stays : (n end : ℕ) → HasWayBack old n end → IsLiveNumber new end → HasWayBack new n end
+  back_stays n end x now =
+      let live = back_live n end x in
       let g = stays x.patch x.head live in
-      record {
-        patch = g.now;
-        head = g.head;
-        numbered = g.number ∙ x.numbered;
-        block = x.block;
-        change = on_stays x.patch x.block x.head live x.change;
-        back = λ L. x.back (shorter_nowhere old x.block x.patch.dependencies g.now.dependencies g.dependencies (nowhere_was x.block g.now.dependencies L));
-      }
+      record { patch = g.now; head = g.head; numbered = g.number ∙ x.numbered; block = x.block; change = on_stays x.patch x.block x.head live x.change; back = leads_stays x.block x.patch.dependencies g.now.dependencies end g.dependencies x.back now }
 
-  pub all_stay : (ways : List ℕ) → HaveWaysBack old ways → HaveWaysBack new ways
-  all_stay ways all n c = back_stays n (all n c)
+  -- where an end that is there now was there
+  pub all_stay : (ways : List Way) → ((w : Way) → Contains ways w → (b : ℕ) → PassesAt (test.LiveOn b) new w.end → PassesAt (test.LiveOn b) old w.end) → HaveWaysBack old ways → HaveWaysBack new ways
+  all_stay ways was all w c b now = back_stays w.number w.end (all w c b (was w c b now)) (live_number new in_order b b w.end now)
+
+-- where all stay
+abbrev pub Any : ℕ → Type 0
+Any b = Unit {0}
 
 -- with one patch more
-pub stays_put : (old : List Patch) (p : Patch) (q : Patch) → Contains old q → IsLive q → StaysIn old (old ++ p ∷ []) q
+pub stays_put : (old : List Patch) (p : Patch) (q : Patch) → Contains old q → IsLive q → StaysIn (old ++ p ∷ []) Any q
 stays_put old p q h l = record {
   now = q;
   head = Contains-append_left old (p ∷ []) q h;
   number = refl;
   dependencies = λ n c. c;
   kind = λ b on. refl;
-  live = λ b on. l;
-  memory = λ c d n i hard other need live. i.memory;
+  live = λ b on k. l;
+  memory = λ b on k hard m. m;
 }
 
 -- where a gate gains names
-pub stays_gained : (old : List Patch) (g : ℕ) (names : List ℕ) (q : Patch) → Contains old q → IsLive q → StaysIn old (map (gains g names) old) q
+pub stays_gained : (old : List Patch) (g : ℕ) (names : List ℕ) (q : Patch) → Contains old q → IsLive q → StaysIn (map (gains g names) old) Any q
 stays_gained old g names q h l =
     let k = grown g names q in
     record {
@@ -182,20 +169,20 @@ stays_gained old g names q h l =
       number = k.number;
       dependencies = k.kept;
       kind = λ b on. k.kind;
-      live = λ b on e. l (sym k.place ∙ e);
-      memory = λ c d n i hard other need live. k.place ∙ i.memory;
+      live = λ b on t e. l (sym k.place ∙ e);
+      memory = λ b on t hard m. k.place ∙ m;
     }
 
 -- where those on disk are forgotten
-pub stays_left : (old : List Patch) (q : Patch) → Contains old q → IsLive q → StaysIn old (filter is_live old) q
+pub stays_left : (old : List Patch) (q : Patch) → Contains old q → IsLive q → StaysIn (filter is_live old) Any q
 stays_left old q h l = record {
   now = q;
   head = Contains-from_In (filter is_live old) q (in_filter is_live old q (In-from_Contains old q h) (live_said q.place l));
   number = refl;
   dependencies = λ n c. c;
   kind = λ b on. refl;
-  live = λ b on. l;
-  memory = λ c d n i hard other need live. i.memory;
+  live = λ b on k. l;
+  memory = λ b on k hard m. m;
 }
   where
     live_said : (at : Place) → (at ≡ place.Disk → ⊥) → not (is_at at place.Disk) ≡ true
@@ -203,9 +190,15 @@ stays_left old q h l = record {
     live_said place.Flight l = refl
     live_said place.Disk l = absurd (l refl)
 
--- where a block is launched: a hard change that needs a live one of another block is not
+-- where a block is launched, no edge leads from it
 module _ (old : List Patch) (numbers b : ℕ) (chosen : List ℕ) (H : SparseAreLawful old numbers) (writable : IsWritable old b) (choice : IsWritableSet old b chosen) where
-  pub stays_launched : (q : Patch) → Contains old q → IsLive q → StaysIn old (map (launched chosen) old) q
+  pub edges_launched : (c d : ℕ) → HasEdge old c d → c ≢ b
+  edges_launched c d e same =
+      let i = e.in_memory in
+      let w = writable.hard e.hard (record { head = i.head; change = subst (IsOn e.hard) same i.change; memory = i.memory }) e.is_hard in
+      elim (w.needs e.need d e.needs) [ inl gone ↦ e.live gone | inr own ↦ e.other (same ∙ one_block e.need b d own.change e.needs.change) ]
+
+  pub stays_launched : (q : Patch) → Contains old q → IsLive q → StaysIn (map (launched chosen) old) (λ c. c ≢ b) q
   stays_launched q h l =
       let head = Contains-from_In (map (launched chosen) old) (launched chosen q) (In-map (launched chosen) old q (launched chosen q) (In-from_Contains old q h) refl) in
       elim (launched_cases old numbers b chosen H writable choice q h) [
@@ -215,14 +208,8 @@ module _ (old : List Patch) (numbers b : ℕ) (chosen : List ℕ) (H : SparseAre
           number = ap (λ x. x.number) m.1;
           dependencies = λ n c. subst (λ ds. Contains ds n) (sym (ap (λ x. x.dependencies) m.1)) c;
           kind = λ a on. ap (λ x. x.kind) m.1;
-          live = λ a on e. clash (sym (ap (λ x. x.place) m.1) ∙ e);
-          memory = λ c d n i hard other need live.
-              let w = m.0 in
-              let own = one_block q b c w.in_memory.change i.change in
-              absurd (elim (w.needs n d need) [
-                | inl gone ↦ live gone
-                | inr here ↦ other (sym own ∙ one_block n b d here.change need.change)
-              ]);
+          live = λ a on other. absurd (other (one_block q a b on m.0.in_memory.change));
+          memory = λ a on other hard memory. absurd (other (one_block q a b on m.0.in_memory.change));
         }
         | inr s ↦ record {
           now = launched chosen q;
@@ -230,17 +217,14 @@ module _ (old : List Patch) (numbers b : ℕ) (chosen : List ℕ) (H : SparseAre
           number = ap (λ x. x.number) s.0;
           dependencies = λ n c. subst (λ ds. Contains ds n) (sym (ap (λ x. x.dependencies) s.0)) c;
           kind = λ a on. ap (λ x. x.kind) s.0;
-          live = λ a on e. l (sym (ap (λ x. x.place) s.0) ∙ e);
-          memory = λ c d n i hard other need live. ap (λ x. x.place) s.0 ∙ i.memory;
+          live = λ a on other e. l (sym (ap (λ x. x.place) s.0) ∙ e);
+          memory = λ a on other hard memory. ap (λ x. x.place) s.0 ∙ memory;
         }
       ]
-    where
-      clash : place.Flight ≡ place.Disk → ⊥
-      clash k = cc
 
 -- where a gate is sealed
 module _ (old new : List Patch) (numbers g : ℕ) (H : SparseAreLawful old numbers) (gate : IsOpenNumber old g) (cascade : IsCascadeOf (map (sealed g) old) new) where
-  pub stays_sealed : (q : Patch) → Contains old q → IsLive q → StaysIn old new q
+  pub stays_sealed : (q : Patch) → Contains old q → IsLive q → StaysIn new Any q
   stays_sealed q h l =
       let mid = Contains-from_In (map (sealed g) old) (sealed g q) (In-map (sealed g) old q (sealed g q) (In-from_Contains old q h) refl) in
       let s = settled_on (map (sealed g) old) new cascade (sealed g q) mid in
@@ -252,7 +236,7 @@ module _ (old new : List Patch) (numbers g : ℕ) (H : SparseAreLawful old numbe
           dependencies = λ n c. subst (λ ds. Contains ds n) (sym (s.2.dependencies ∙ ap (λ x. x.dependencies) m.1)) c;
           kind = λ b on. absurd (no_gate q b m.0 on);
           live = λ b on. absurd (no_gate q b m.0 on);
-          memory = λ c d n i hard other need live. absurd (no_gate q c m.0 i.change);
+          memory = λ b on. absurd (no_gate q b m.0 on);
         }
         | inr e ↦
             let same : (b : ℕ) → IsOn q b → s.0.place ≡ q.place = λ b on. s.2.place (no_follower_on (sealed g q).kind b (ap (λ x. block_of_kind x.kind) e ∙ on)) ∙ ap (λ x. x.place) e in
@@ -262,26 +246,95 @@ module _ (old new : List Patch) (numbers g : ℕ) (H : SparseAreLawful old numbe
               number = s.2.number ∙ ap (λ x. x.number) e;
               dependencies = λ n c. subst (λ ds. Contains ds n) (sym (s.2.dependencies ∙ ap (λ x. x.dependencies) e)) c;
               kind = λ b on. s.2.kind ∙ ap (λ x. x.kind) e;
-              live = λ b on k. l (sym (same b on) ∙ k);
-              memory = λ c d n i hard other need live. same c i.change ∙ i.memory;
+              live = λ b on t k. l (sym (same b on) ∙ k);
+              memory = λ b on t hard m. same b on ∙ m;
             }
       ]
     where
       no_gate : (p : Patch) (b : ℕ) → p.kind ≡ OpenGate → IsOn p b → ⊥
       no_gate p b k on = let e = sym (ap block_of_kind k) ∙ on in cc
 
--- a way leads back from a row where one is known to lead back from a change of the block, on the way down from the row
-pub known_back : (patches : List Patch) → IsRising patches → (ways : List ℕ) → HaveWaysBack patches ways → (b n top : ℕ) (row : List ℕ) → Contains ways n → PassesAt (test.LiveOn b) patches n → Contains row top
-    → (top ≡ n) ⊎ Closure (StepsAway patches b) top n → LeadsNowhere patches b row → ⊥
-known_back patches rising ways all b n top row known change named way L =
-    let x = all n known in
-    let on = (on_from b change.patch.number change.patch.kind change.patch.place change.passed).1 in
-    let same = same_number patches change.patch x.patch rising change.head x.head (change.numbered ∙ sym x.numbered) in
-    let block : b ≡ x.block = one_block x.patch b x.block (subst (λ p. IsOn p b) same on) x.change in
-    x.back (below_nowhere patches x.block row top n named (elim way [ inl e ↦ inl e | inr c ↦ inr (down top n c) ]) x.patch.dependencies
-    (λ q c. record { patch = x.patch; head = x.head; numbered = x.numbered; named = c })
-    (subst (λ c. LeadsNowhere patches c row) block L))
+-- where a write of a block lands of which no hard change needs anything, no edge leads from it
+module _ (old : List Patch) (rising : IsRising old) (disk : IsOnDiskWithAll old) (flights : FlightsStandAlone old) (b : ℕ) (needs : ℕ → List ℕ) (needed : AreNeeded old needs) (none : needs b ≡ []) where
+  -- n is in flight of b, or depends on what is
+  record IsOverFlight (n : ℕ) : Type 0 where
+    patch : Patch
+    flies : IsInFlightOn old b patch
+    over : (patch.number ≡ n) ⊎ DependsOn old patch.number n
+
+  -- what a hard change in memory directly depends on is one of the block
+  own_direct : (h n : ℕ) → IsHardNumber old b h → DirectlyOn old h n → IsLiveNumber old n → IsHardNumber old b n ⊎ IsOverFlight n
+  own_direct h n hard d l = elim (needed.whole b h l.patch hard l.head (subst (DirectlyOn old h) (sym l.numbered) d)) [
+    | inl kept ↦ absurd (none_in l.patch.number (subst (λ ns. Contains ns l.patch.number) none kept))
+    | inr s ↦
+        let own : s.block ≡ b = elim s.by [ inl e ↦ e | inr k ↦ absurd (none_in k.0 (subst (λ ns. Contains ns k.0) none k.1)) ] in
+        let x = s.hard in
+        let change = subst (IsOn x.patch) own x.change in
+        let same = same_number old x.patch l.patch rising x.head l.head x.numbered in
+        at_place x change (subst IsLive (sym same) l.live) s.at refl (x.numbered ∙ l.numbered)
+  ]
+    where
+      at_place : {at : Place} {d m : ℕ} (x : IsHardAt old at d m) → IsOn x.patch b → IsLive x.patch → (p : Place) → at ≡ p → x.patch.number ≡ n → IsHardNumber old b n ⊎ IsOverFlight n
+      at_place x on live place.Memory e numbered = inl (record { patch = x.patch; head = x.head; numbered = numbered; hard = record { change = on; memory = x.place ∙ e; hard = x.hard } })
+      at_place x on live place.Flight e numbered = inr (record { patch = x.patch; flies = record { head = x.head; change = on; flight = x.place ∙ e }; over = inl numbered })
+      at_place x on live place.Disk e numbered = absurd (live (x.place ∙ e))
+
+  own_below : (h n : ℕ) → IsHardNumber old b h → DependsOn old h n → IsLiveNumber old n → IsHardNumber old b n ⊎ IsOverFlight n
+  own_below h n hard (one d) l = own_direct h n hard d l
+  own_below h n hard (join {q = k} c d) l = elim (own_below h k hard c (live_up old disk k n d l)) [
+    | inl mid ↦ own_below k n mid d l
+    | inr f ↦ inr (record { patch = f.patch; flies = f.flies; over = inr (elim f.over [ inl e ↦ subst (λ m. DependsOn old m n) (sym e) d | inr low ↦ join low d ]) })
+  ]
+
+  pub edges_landed : (c d : ℕ) → HasEdge old c d → c ≢ b
+  edges_landed c d e same =
+      let i = e.in_memory in
+      let need = e.need in
+      let hard : IsHardNumber old b e.hard.number = record { patch = e.hard; head = i.head; numbered = refl; hard = record { change = subst (IsOn e.hard) same i.change; memory = i.memory; hard = e.is_hard } } in
+      let other : IsOn need b → ⊥ = λ on. e.other (same ∙ one_block need b d on e.needs.change) in
+      elim (own_below e.hard.number need.number hard e.needs.depends (record { patch = need; head = e.needs.head; numbered = refl; live = e.live })) [
+        | inl own ↦ other (subst (λ p. IsOn p b) (same_number old own.patch need rising own.head e.needs.head own.numbered) own.hard.change)
+        | inr f ↦ elim f.over [
+          | inl here ↦ other (subst (λ p. IsOn p b) (same_number old f.patch need rising f.flies.head e.needs.head here) f.flies.change)
+          | inr low ↦ elim (flights.needs b f.patch f.flies need d (record { head = e.needs.head; change = e.needs.change; depends = low })) [ inl gone ↦ e.live gone | inr own ↦ other own.change ]
+        ]
+      ]
+
+-- and all but what flies of it stays
+module _ (old new : List Patch) (b : ℕ) (cascade : IsCascadeOf (map (landed b) old) new) where
+  pub stays_landed : (q : Patch) → Contains old q → IsLive q → StaysIn new (λ c. c ≢ b) q
+  stays_landed q h l =
+      let mid = Contains-from_In (map (landed b) old) (landed b q) (In-map (landed b) old q (landed b q) (In-from_Contains old q h) refl) in
+      let s = settled_on (map (landed b) old) new cascade (landed b q) mid in
+      elim (landed_cases b q) [
+        | inl m ↦ record {
+          now = s.0;
+          head = s.1;
+          number = s.2.number ∙ ap (λ x. x.number) m.2;
+          dependencies = λ n c. subst (λ ds. Contains ds n) (sym (s.2.dependencies ∙ ap (λ x. x.dependencies) m.2)) c;
+          kind = λ c on. s.2.kind ∙ ap (λ x. x.kind) m.2;
+          live = λ c on other. absurd (other (one_block q c b on m.0));
+          memory = λ c on other hard memory. absurd (other (one_block q c b on m.0));
+        }
+        | inr e ↦
+            let same : (c : ℕ) → IsOn q c → s.0.place ≡ q.place = λ c on. s.2.place (no_follower_on (landed b q).kind c (ap (λ x. block_of_kind x.kind) e.0 ∙ on)) ∙ ap (λ x. x.place) e.0 in
+            record {
+              now = s.0;
+              head = s.1;
+              number = s.2.number ∙ ap (λ x. x.number) e.0;
+              dependencies = λ n c. subst (λ ds. Contains ds n) (sym (s.2.dependencies ∙ ap (λ x. x.dependencies) e.0)) c;
+              kind = λ c on. s.2.kind ∙ ap (λ x. x.kind) e.0;
+              live = λ c on other k. l (sym (same c on) ∙ k);
+              memory = λ c on other hard m. same c on ∙ m;
+            }
+      ]
+
+-- from a row above a change from which a way leads back, a way leads back to the same end
+pub back_over : (patches : List Patch) (b : ℕ) (row below : List ℕ) (top n end : ℕ) → Contains row top → (top ≡ n) ⊎ DependsOn patches top n → ((q : ℕ) → Contains below q → DirectlyOn patches n q) → LeadsBack patches b below end → LeadsBack patches b row end
+back_over patches b row below top n end named way direct l = record { away = l.away; change = l.change; off = l.off; under = (top, named, inr (l.away, from, refl)); path = l.path }
   where
-    down : (p q : ℕ) → Closure (StepsAway patches b) p q → DependsOn patches p q
-    down p q (one s) = one s.1
-    down p q (join {q = k} c d) = join (down p k c) (down k q d)
+    low : DependsOn patches n l.away
+    low = let u = l.under in let d = direct u.0 u.1 in elim u.2 [ inl e ↦ one (subst (DirectlyOn patches n) e d) | inr k ↦ join (one d) (subst (DependsOn patches u.0) k.2 k.1) ]
+
+    from : DependsOn patches top l.away
+    from = elim way [ inl e ↦ subst (λ m. DependsOn patches m l.away) (sym e) low | inr c ↦ join c low ]

@@ -1,5 +1,5 @@
 -- A way leads from a row back to a block exactly where a walk up from the changes of the block and one down from the first changes of other blocks below the row meet.
-use Rattle.std.proofs.Common.{◌≡◌, ◌≢◌, ◌⊎◌, ◌∷◌, [], ℕ, Bool, List, Contains, refl, sym, subst, inl, inr}
+use Rattle.std.proofs.Common.{◌≡◌, ◌⊎◌, ◌∷◌, [], ℕ, Bool, List, Contains, refl, sym, subst, inl, inr}
 use Rattle.std.proofs.lemmas.Bool.{cases_eq}
 use Rattle.std.proofs.lemmas.List.Elements.{Contains-push}
 use Rattle.fst_types.specs.{Closure.{Closure, one, join}, Dependencies.{DependsOn, IsLiveNumber}, Facts.{IsOnDiskWithAll}}
@@ -8,8 +8,8 @@ use Rattle.fst_types.proofs.SmallStates.{only_in}
 use Rattle.fst_heads.specs.{Grading.{HasUnder, IsReturning, IsLeading, LeadsNowhere, IsHardNumber}, Marks.PassesAt}
 use Rattle.fst_heads.specs.{Reaching.{ShowsBlocks}}
 use Rattle.fst_heads.proofs.{Graded.{off_from, off_to}}
-use Rattle.fst_walks.specs.{Descending.IsLedFrom, WayBack.{StepsUp, IsLiveOver}}
-use Rattle.fst_walks.proofs.{ComesBack.{ComesBack, on_live, live_number, step_back, back_soft, over_back}, Holding.live_up}
+use Rattle.fst_walks.specs.{BothEnds.StepsAway, Descending.IsLedFrom, WayBack.{LeadsBack, StepsBack, StepsUp, IsLiveOver}}
+use Rattle.fst_walks.proofs.{ComesBack.{ComesBack, on_live, live_number, step_back, back_soft, off_not_on, over_back}, Holding.live_up}
 use Rattle.fst_heads.specs.declared.test.Test.TheVariants as test
 
 -- p is q, or steps lead from it to q
@@ -30,31 +30,27 @@ pub leads_led : (E : ℕ → ℕ → Type 0) (start : List ℕ) (s n : ℕ) → 
 leads_led E start s n c (inl e) = inl (subst (Contains start) e c)
 leads_led E start s n c (inr path) = inr (s, c, path)
 
--- steps lead up from a live change of b to a live change of another block, at or below the row
-pub record LeadsBack (patches : List Patch) (crossed : List Bool) (b : ℕ) (row : List ℕ) : Type 0 where
-  pub first : ℕ
-  pub last : ℕ
-  pub change : PassesAt (test.LiveOn b) patches first
-  pub away : PassesAt (test.LiveOff b) patches last
-  pub under : HasUnder patches row (λ m. m ≡ last)
-  pub path : Leads (StepsUp patches crossed) first last
+-- what a way down to the first changes of other blocks leads to, it depends on
+pub away_depends : (patches : List Patch) (b p q : ℕ) → Closure (StepsAway patches b) p q → DependsOn patches p q
+away_depends patches b p q (one s) = one s.1
+away_depends patches b p q (join {q = k} c d) = join (away_depends patches b p k c) (away_depends patches b k q d)
 
 -- steps lead up to what depends on a patch
-module _ (patches : List Patch) (disk : IsOnDiskWithAll patches) (crossed : List Bool) where
-  pub goes_up : (m n : ℕ) → DependsOn patches m n → IsLiveNumber patches n → Closure (StepsUp patches crossed) n m
+module _ (patches : List Patch) (disk : IsOnDiskWithAll patches) (b : ℕ) where
+  pub goes_up : (m n : ℕ) → DependsOn patches m n → IsLiveNumber patches n → Closure (StepsBack patches b) n m
   goes_up m n (one d) l = one (inl (d, live_up patches disk m n (one d) l))
   goes_up m n (join {q = k} c d) l = join (goes_up k n d l) (goes_up m k c (live_up patches disk k n d l))
 
-module _ (patches : List Patch) (rising : IsRising patches) (disk : IsOnDiskWithAll patches) (b : ℕ) (crossed : List Bool) (shown : ShowsBlocks crossed (λ c. c ≡ b)) where
+module _ (patches : List Patch) (rising : IsRising patches) (disk : IsOnDiskWithAll patches) (b : ℕ) where
   abbrev Up : ℕ → ℕ → Type 0
-  Up = StepsUp patches crossed
+  Up = StepsBack patches b
 
   pub off_live : (n : ℕ) → PassesAt (test.LiveOff b) patches n → IsLiveNumber patches n
   off_live n x = record { patch = x.patch; head = x.head; numbered = x.numbered; live = (off_from b x.patch.number x.patch.kind x.patch.place x.passed).0 }
 
   -- steps from what is over a live change of b lead to what is, or to what comes back
-  up_over : (m n : ℕ) → Up m n → IsLiveOver patches b m ⊎ ComesBack patches rising b m → IsLiveOver patches b n ⊎ ComesBack patches rising b n
-  up_over m n s (inr x) = inr (step_back patches rising b crossed shown m n s x)
+  pub up_over : (m n : ℕ) → Up m n → IsLiveOver patches b m ⊎ ComesBack patches rising b m → IsLiveOver patches b n ⊎ ComesBack patches rising b n
+  up_over m n s (inr x) = inr (step_back patches rising b m n s x)
   up_over m n (inl up) (inl o) = inl (record {
     live = up.1;
     base = o.base;
@@ -64,9 +60,8 @@ module _ (patches : List Patch) (rising : IsRising patches) (disk : IsOnDiskWith
   up_over m n (inr k) (inl o) =
       let h = k.hard in
       let live : IsLive h.patch = λ e. let memory = h.hard.memory in cc in
-      let other : k.block ≢ b = λ e. k.fresh (shown.each k.block e) in
-      let off : PassesAt (test.LiveOff b) patches m = record { patch = h.patch; head = h.head; numbered = h.numbered; passed = off_to b h.patch.number k.block h.patch.kind h.patch.place live h.hard.change other } in
-      inr (step_back patches rising b crossed shown m n (inr k) (over_back patches rising b m o off))
+      let off : PassesAt (test.LiveOff b) patches m = record { patch = h.patch; head = h.head; numbered = h.numbered; passed = off_to b h.patch.number k.block h.patch.kind h.patch.place live h.hard.change k.other } in
+      inr (step_back patches rising b m n (inr k) (over_back patches rising b m o off))
 
   ups_over : (m n : ℕ) → Closure Up m n → IsLiveOver patches b m ⊎ ComesBack patches rising b m → IsLiveOver patches b n ⊎ ComesBack patches rising b n
   ups_over m n (one s) o = up_over m n s o
@@ -94,17 +89,13 @@ module _ (patches : List Patch) (rising : IsRising patches) (disk : IsOnDiskWith
         )
 
     -- so a new change over the row may not be hard
-    pub back_leads : LeadsBack patches crossed b row → LeadsNowhere patches b row → ⊥
-    back_leads l may =
-        let start : IsLiveOver patches b l.first = record { live = live_number patches rising b b l.first l.change; base = l.first; change = l.change; over = inl refl } in
-        let ended : IsLiveOver patches b l.last ⊎ ComesBack patches rising b l.last = elim l.path [
-          | inl e ↦ inl (subst (IsLiveOver patches b) e start)
-          | inr path ↦ ups_over l.first l.last path (inl start)
-        ] in
-        let back : ComesBack patches rising b l.last = elim ended [ inl o ↦ over_back patches rising b l.last o l.away | inr x ↦ x ] in
-        back_soft patches rising b (l.last ∷ []) l.last (Contains-push [] l.last) back (record {
-          straight = λ u. may.straight (under_one l.last (IsReturning patches b) l.under u);
-          open_ended = λ u. may.open_ended (under_one l.last (IsLeading patches b) l.under u);
+    pub back_leads : (end : ℕ) → LeadsBack patches b row end → LeadsNowhere patches b row → ⊥
+    back_leads end l may =
+        let start : IsLiveOver patches b end = record { live = live_number patches rising b b end l.change; base = end; change = l.change; over = inl refl } in
+        let back : ComesBack patches rising b l.away = elim (ups_over end l.away l.path (inl start)) [ inl o ↦ over_back patches rising b l.away o l.off | inr x ↦ x ] in
+        back_soft patches rising b (l.away ∷ []) l.away (Contains-push [] l.away) back (record {
+          straight = λ u. may.straight (under_one l.away (IsReturning patches b) l.under u);
+          open_ended = λ u. may.open_ended (under_one l.away (IsLeading patches b) l.under u);
         })
 
     -- n is where steps lead from a live change of b
@@ -112,7 +103,7 @@ module _ (patches : List Patch) (rising : IsRising patches) (disk : IsOnDiskWith
     IsLed n = (x : ℕ) × PassesAt (test.LiveOn b) patches x × Leads Up x n
 
     led_up : (m n : ℕ) → IsLed n → DependsOn patches m n → IsLiveNumber patches n → IsLed m
-    led_up m n l d live = (l.0, l.1, leads_on Up l.0 n m l.2 (inr (goes_up patches disk crossed m n d live)))
+    led_up m n l d live = (l.0, l.1, leads_on Up l.0 n m l.2 (inr (goes_up patches disk b m n d live)))
 
     abbrev AllLed : ℕ → Type 0
     AllLed c = (n : ℕ) → PassesAt (test.LiveOn c) patches n → IsLed n
@@ -130,32 +121,52 @@ module _ (patches : List Patch) (rising : IsRising patches) (disk : IsOnDiskWith
             | inr all ↦ all e.need.number need
           ] in
           let led = led_up h.number e.need.number need_led e.needs.depends (live_number patches rising b d e.need.number need) in
-          inr (λ n x. (led.0, led.1, leads_on Up led.0 h.number n led.2 (inr (one (inr (record { block = c; hard = hard; fresh = λ r. other (shown.only c r); change = x }))))))
+          inr (λ n x. (led.0, led.1, leads_on Up led.0 h.number n led.2 (inr (one (inr (record { block = c; other = other; hard = hard; change = x }))))))
     ]
 
     reached_led : (c d : ℕ) → Reaches patches c d → (d ≡ b) ⊎ AllLed d → (c ≡ b) ⊎ AllLed c
     reached_led c d (one e) known = edge_led c d e known
     reached_led c d (join {q = k} e f) known = reached_led c k e (reached_led k d f known)
 
-    -- what is at or below the row, with P, shows where P tells that it is led to and a live change off b
-    under_back : (P : ℕ → Type 0) → ((n : ℕ) → P n → IsLed n × PassesAt (test.LiveOff b) patches n) → HasUnder patches row P → LeadsBack patches crossed b row
+    -- a way leads back from what is led to and a live change of another block
+    led_back : (n : ℕ) → HasUnder patches row (λ m. m ≡ n) → IsLed n → PassesAt (test.LiveOff b) patches n → (end : ℕ) × LeadsBack patches b row end
+    led_back n under led off = (led.0, record { away = n; change = led.1; off = off; under = under; path = elim led.2 [ inl e ↦ absurd (off_not_on patches rising b n off (subst (PassesAt (test.LiveOn b) patches) e led.1)) | inr path ↦ path ] })
+
+    -- and so where P tells that of what is at or below the row
+    under_back : (P : ℕ → Type 0) → ((n : ℕ) → P n → IsLed n × PassesAt (test.LiveOff b) patches n) → HasUnder patches row P → (end : ℕ) × LeadsBack patches b row end
     under_back P told u = elim u.2 [
-      | inl has ↦ let k = told u.0 has in record { first = k.0.0; last = u.0; change = k.0.1; away = k.1; under = (u.0, u.1, inl refl); path = k.0.2 }
-      | inr low ↦ let k = told low.0 low.2 in record { first = k.0.0; last = low.0; change = k.0.1; away = k.1; under = (u.0, u.1, inr (low.0, low.1, refl)); path = k.0.2 }
+      | inl has ↦ let k = told u.0 has in led_back u.0 (u.0, u.1, inl refl) k.0 k.1
+      | inr low ↦ let k = told low.0 low.2 in led_back low.0 (u.0, u.1, inr (low.0, low.1, refl)) k.0 k.1
     ]
 
-    -- where no such steps lead, it may be
-    pub none_leads : (LeadsBack patches crossed b row → ⊥) → LeadsNowhere patches b row
+    -- where no way leads back, it may be
+    pub none_leads : ((end : ℕ) → LeadsBack patches b row end → ⊥) → LeadsNowhere patches b row
     none_leads none = record {
-      straight = λ u. none (under_back (IsReturning patches b) (λ n r.
+      straight = λ u. let w = under_back (IsReturning patches b) (λ n r.
           let y : PassesAt (test.LiveOn b) patches r.back.number = on_live patches rising b b r.back.number r.back r.back_needed.head refl r.back_needed.change r.back_live in
           let path = subst (λ k. DependsOn patches k r.back.number) r.numbered r.back_needed.depends in (
-            (r.back.number, y, inr (goes_up patches disk crossed n r.back.number path (live_number patches rising b b r.back.number y))),
+            (r.back.number, y, inr (goes_up patches disk b n r.back.number path (live_number patches rising b b r.back.number y))),
             record { patch = r.away; head = r.head; numbered = r.numbered; passed = off_to b r.away.number r.away_on r.away.kind r.away.place r.away_live r.change r.off },
-          )) u);
-      open_ended = λ u. none (under_back (IsLeading patches b) (λ n l.
+          )) u in none w.0 w.1;
+      open_ended = λ u. let w = under_back (IsLeading patches b) (λ n l.
           let x : PassesAt (test.LiveOn l.block) patches n = on_live patches rising b l.block n l.patch l.head l.numbered l.change l.live in (
             elim (reached_led l.block b l.reaches (inl refl)) [ inl own ↦ absurd (l.other own) | inr all ↦ all n x ],
             record { patch = l.patch; head = l.head; numbered = l.numbered; passed = off_to b l.patch.number l.block l.patch.kind l.patch.place l.live l.change l.other },
-          )) u);
+          )) u in none w.0 w.1;
     }
+
+-- where b alone is shown as crossed, steps of a walk up are such steps
+module _ (patches : List Patch) (b : ℕ) (crossed : List Bool) (shown : ShowsBlocks crossed (λ c. c ≡ b)) where
+  up_back : (p q : ℕ) → StepsUp patches crossed p q → StepsBack patches b p q
+  up_back p q s = elim s [ inl up ↦ inl up | inr k ↦ inr (record { block = k.block; other = λ e. k.fresh (shown.each k.block e); hard = k.hard; change = k.change }) ]
+
+  back_up : (p q : ℕ) → StepsBack patches b p q → StepsUp patches crossed p q
+  back_up p q s = elim s [ inl up ↦ inl up | inr k ↦ inr (record { block = k.block; hard = k.hard; fresh = λ r. k.other (shown.only k.block r); change = k.change }) ]
+
+  pub ups_back : (p q : ℕ) → Closure (StepsUp patches crossed) p q → Closure (StepsBack patches b) p q
+  ups_back p q (one s) = one (up_back p q s)
+  ups_back p q (join {q = k} c d) = join (ups_back p k c) (ups_back k q d)
+
+  pub backs_up : (p q : ℕ) → Closure (StepsBack patches b) p q → Closure (StepsUp patches crossed) p q
+  backs_up p q (one s) = one (back_up p q s)
+  backs_up p q (join {q = k} c d) = join (backs_up p k c) (backs_up k q d)

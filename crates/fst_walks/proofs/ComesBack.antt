@@ -1,13 +1,12 @@
 -- The walk up from the changes of a block meets a direct dependency of a new change of the block exactly where that may not be hard.
-use Rattle.std.proofs.Common.{◌≡◌, ◌≢◌, ◌⊎◌, ℕ, Bool, List, Contains, refl, sym, subst, ◌∙◌, inl, inr}
+use Rattle.std.proofs.Common.{◌≡◌, ◌≢◌, ◌⊎◌, ℕ, List, Contains, refl, sym, subst, ◌∙◌, inl, inr}
 use Rattle.std.proofs.lemmas.Bool.{cases_eq}
-use Rattle.fst_types.specs.{Closure.{Closure, one, join}, Dependencies.{DependsOn, IsLiveNumber}, Grades.{HasEdge, Reaches}}
+use Rattle.fst_types.specs.{Closure.{one, join}, Dependencies.{DependsOn, IsLiveNumber}, Grades.{HasEdge, Reaches}}
 use Rattle.fst_types.specs.Patches.{Patch, IsRising, IsOn, IsLive}
 use Rattle.fst_types.proofs.Crash.{same_number}
 use Rattle.fst_heads.specs.{Grading.{HasUnder, IsReturning, IsLeading, LeadsNowhere, IsHardNumber}, Marks.PassesAt}
-use Rattle.fst_heads.specs.Reaching.{ShowsBlocks}
 use Rattle.fst_heads.proofs.{Graded.{on_from, on_to, off_from}, Leading.one_block}
-use Rattle.fst_walks.specs.{WayBack.{StepsUp, IsLiveOver}}
+use Rattle.fst_walks.specs.{WayBack.{StepsBack, IsLiveOver}}
 use Rattle.fst_heads.specs.declared.test.Test.TheVariants as test
 
 -- p is q, or depends on it
@@ -59,7 +58,7 @@ module _ (heads : List Patch) (rising : IsRising heads) (b : ℕ) where
     over : IsOver heads n root
 
   -- from the block of a hard change that is such, the block graph leads to b
-  hard_reaches : (c h : ℕ) → IsHardNumber heads c h → c ≢ b → ComesBack h → Reaches heads c b
+  pub hard_reaches : (c h : ℕ) → IsHardNumber heads c h → c ≢ b → ComesBack h → Reaches heads c b
   hard_reaches c h hard other x = elim x.over [
     | inl e ↦
         let r = x.is_root in
@@ -80,17 +79,10 @@ module _ (heads : List Patch) (rising : IsRising heads) (b : ℕ) where
         ]
   ]
 
-  -- steps from such a number lead to such numbers, where b is shown as crossed
-  module _ (crossed : List Bool) (shown : ShowsBlocks crossed (λ c. c ≡ b)) where
-    pub step_back : (m n : ℕ) → StepsUp heads crossed m n → ComesBack m → ComesBack n
-    step_back m n (inl up) x = record { root = x.root; is_root = x.is_root; over = over_on heads n m x.root (one up.0) x.over }
-    step_back m n (inr k) x =
-        let other : k.block ≢ b = λ e. k.fresh (shown.each k.block e) in
-        record { root = n; is_root = record { on = k.block; change = k.change; off = other; back = inr (hard_reaches k.block m k.hard other x) }; over = inl refl }
-
-    steps_back : (m n : ℕ) → Closure (StepsUp heads crossed) m n → ComesBack m → ComesBack n
-    steps_back m n (one s) x = step_back m n s x
-    steps_back m n (join {q = k} c d) x = steps_back k n d (steps_back m k c x)
+  -- steps from such a number lead to such numbers
+  pub step_back : (m n : ℕ) → StepsBack heads b m n → ComesBack m → ComesBack n
+  step_back m n (inl up) x = record { root = x.root; is_root = x.is_root; over = over_on heads n m x.root (one up.0) x.over }
+  step_back m n (inr k) x = record { root = n; is_root = record { on = k.block; change = k.change; off = k.other; back = inr (hard_reaches k.block m k.hard k.other x) }; over = inl refl }
 
   -- a new change over such a number may not be hard
   module _ (row : List ℕ) where
@@ -157,3 +149,10 @@ module _ (heads : List Patch) (rising : IsRising heads) (b : ℕ) where
         };
         over = inl refl;
       }
+
+-- no change of another block is one of b
+pub off_not_on : (patches : List Patch) → IsRising patches → (b n : ℕ) → PassesAt (test.LiveOff b) patches n → PassesAt (test.LiveOn b) patches n → ⊥
+off_not_on patches rising b n a x =
+    let off = off_from b a.patch.number a.patch.kind a.patch.place a.passed in
+    let same = same_number patches a.patch x.patch rising a.head x.head (a.numbered ∙ sym x.numbered) in
+    off.3 (one_block x.patch off.1 b (subst (λ p. IsOn p off.1) same off.2) (live_on patches rising b b n x).1)

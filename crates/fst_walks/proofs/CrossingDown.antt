@@ -24,7 +24,7 @@ module _ (heads : List Head) (rising : IsRising heads) (needs : ℕ → List ℕ
   pub on_here : (c : ℕ) → PassesAt (test.LiveOn c) patches n → IsOn here c
   on_here c x = subst (λ p. IsOn p c) (sym (is_here x.patch x.head x.numbered)) (on_from c x.patch.number x.patch.kind x.patch.place x.passed).1
 
-  here_on : (c : ℕ) → IsOn here c → PassesAt (test.LiveOn c) patches n
+  pub here_on : (c : ℕ) → IsOn here c → PassesAt (test.LiveOn c) patches n
   here_on c on = record {
     patch = here;
     head = patch_at heads s d slot.0;

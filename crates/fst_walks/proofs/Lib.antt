@@ -23,6 +23,8 @@ pub mod CrossingBack
 pub mod Overlapped
 pub mod OwnBlock
 pub mod Backed
+pub mod EndsWere
+pub mod Told
 pub mod Trails
 pub mod Leveled
 pub mod Lifted
@@ -41,6 +43,7 @@ pub mod Ancestral
 pub mod Releveled
 pub mod Floored
 pub mod BothEnds
+pub mod Straight
 pub mod NeedsKept
 pub mod NeedsMoved
 pub mod NeedsGrown
@@ -50,3 +53,4 @@ pub mod Stepping
 pub mod CrossingDown
 pub mod MetLow
 pub mod Highest
+pub mod Traced

@@ -3,13 +3,13 @@ use Rattle.std.proofs.Common.{◌≡◌, ◌≤◌, ◌↔◌, ◌⊎◌, ◌∷
 use Rattle.std.proofs.lemmas.Bool.{cases_Bool, false≢true}
 use Rattle.std.proofs.lemmas.List.Elements.{Contains-push}
 use Rattle.fst_types.specs.{Closure.{Closure, one, join}, Dependencies.{DependsOn, IsLiveNumber}, Facts.{FlightsStandAlone, IsOnDiskWithAll, HardNeverHold}}
-use Rattle.fst_types.specs.{Patches.{Patch, IsOn, IsRising}}
+use Rattle.fst_types.specs.{Patches.{Patch, IsRising}}
 use Rattle.fst_types.proofs.{Crash.same_number, SmallStates.only_in}
 use Rattle.fst_heads.specs.{Grading.{HasUnder, LeadsNowhere, IsHardNumber}, Heads.{IsRising as AreRising, patches_of}, Marks.PassesAt}
 use Rattle.fst_heads.specs.{Reaching.{ShowsBlocks}, Tests.passes, declared.head.Head.Head}
-use Rattle.fst_heads.proofs.{Graded.off_from, Leading.one_block, Listing.rising_patches}
-use Rattle.fst_walks.specs.{BothEnds.{AreApart, ComesTo, EndApart, IsFirstAway, IsLowChange, LeadTogether, StepsAway, StepsHigh, StepsLow}, Descending.{IsLedFrom, Visits}, Leveling.AreLeveled, Needing.AreNeeded, WayBack.{StepsUp}}
-use Rattle.fst_walks.proofs.{BothEnds.{Leads, leads_on, led_leads, leads_led, LeadsBack, goes_up, back_leads, none_leads, off_live}, ComesBack.{live_number, live_on}, Holding.live_up, NearRow.rests_may, Needed.{StepsDown, StepsWhole, steps_whole, whole_met}, Trails.none_in}
+use Rattle.fst_heads.proofs.{Listing.rising_patches}
+use Rattle.fst_walks.specs.{BothEnds.{AreApart, ComesTo, EndApart, IsFirstAway, IsLowChange, LeadTogether, StepsAway, StepsHigh, StepsLow, StepsTo}, Descending.{IsLedFrom, Visits}, Leveling.AreLeveled, Needing.AreNeeded, WayBack.{LeadsBack, StepsUp}}
+use Rattle.fst_walks.proofs.{BothEnds.{Leads, leads_on, led_leads, leads_led, goes_up, back_leads, backs_up, none_leads, off_live, ups_back}, ComesBack.{live_number, off_not_on}, Holding.live_up, NearRow.rests_may, Needed.{StepsDown, StepsWhole, steps_whole, whole_met}, Trails.none_in}
 use Rattle.fst_heads.specs.declared.test.Test.TheVariants as test
 
 -- whether the patch passes is known
@@ -18,13 +18,6 @@ passes_or patches rising t p n head numbered = elim (cases_Bool (passes t p)) [
   | inl said ↦ inl (record { patch = p; head = head; numbered = numbered; passed = said })
   | inr denied ↦ inr (λ x. let same = same_number patches x.patch p rising x.head head (x.numbered ∙ sym numbered) in false≢true (sym denied ∙ (ap (passes t) (sym same) ∙ x.passed)))
 ]
-
--- no change of another block is one of b
-pub off_not_on : (patches : List Patch) → IsRising patches → (b n : ℕ) → PassesAt (test.LiveOff b) patches n → PassesAt (test.LiveOn b) patches n → ⊥
-off_not_on patches rising b n a x =
-    let off = off_from b a.patch.number a.patch.kind a.patch.place a.passed in
-    let same = same_number patches a.patch x.patch rising a.head x.head (a.numbered ∙ sym x.numbered) in
-    off.3 (one_block x.patch off.1 b (subst (λ p. IsOn p off.1) same off.2) (live_on patches rising b b n x).1)
 
 -- the way down from what depends on a live change of another block, from which a way leads back to b, leads to a first one
 module _ (heads : List Head) (rising : AreRising heads) (disk : IsOnDiskWithAll (patches_of heads)) (hard : HardNeverHold (patches_of heads)) (b : ℕ) where
@@ -76,34 +69,23 @@ module _ (heads : List Head) (rising : AreRising heads) (disk : IsOnDiskWithAll 
       ]
 
   module _ (crossed : List Bool) (shown : ShowsBlocks crossed (λ c. c ≡ b)) (row : List ℕ) where
-    -- where steps lead up from a live change of b to the row, they lead to a first one
-    pub first_back : LeadsBack patches crossed b row → (n : ℕ) × (x : ℕ) × IsFirstAway patches b row n × PassesAt (test.LiveOn b) patches x × Leads (StepsUp patches crossed) x n
-    first_back l =
+    -- where a way leads back from the row, steps lead up from its end to a first one
+    pub first_back : (end : ℕ) → LeadsBack patches b row end → (n : ℕ) × IsFirstAway patches b row n × Closure (StepsUp patches crossed) end n
+    first_back end l =
         let up = rising_patches heads rising in
-        let last = l.last in
-        let live = off_live patches up disk b crossed shown last l.away in
-        let back : ReturnsFrom last = back_leads patches up disk b crossed shown (last ∷ []) (record { first = l.first; last = last; change = l.change; away = l.away; under = (last, Contains-push [] last, inl refl); path = l.path }) in
+        let last = l.away in
+        let live = off_live patches up disk b last l.off in
+        let back : ReturnsFrom last = back_leads patches up disk b (last ∷ []) end (record { away = last; change = l.change; off = l.off; under = (last, Contains-push [] last, inl refl); path = l.path }) in
+        let path = backs_up patches b crossed shown end last l.path in
         let u = l.under in
         elim u.2 [
-          | inl e ↦ (
-            last,
-            l.first,
-            record { away = l.away; top = u.0; named = u.1; live = subst (IsLiveNumber patches) (sym e) live; path = inl e },
-            l.change,
-            l.path,
-          )
+          | inl e ↦ (last, record { away = l.off; top = u.0; named = u.1; live = subst (IsLiveNumber patches) (sym e) live; path = inl e }, path)
           | inr low ↦
               let down = subst (DependsOn patches u.0) low.2 low.1 in
               let top = live_up patches disk u.0 last down live in
               elim (goes_down u.0 last down live back) [
-                | inl f ↦ (
-                  f.found,
-                  l.first,
-                  record { away = f.away; top = u.0; named = u.1; live = top; path = f.path },
-                  l.change,
-                  leads_on (StepsUp patches crossed) l.first last f.found l.path (inr (goes_up patches disk crossed f.found last f.over live)),
-                )
-                | inr path ↦ (last, l.first, record { away = l.away; top = u.0; named = u.1; live = top; path = inr path }, l.change, l.path)
+                | inl f ↦ (f.found, record { away = f.away; top = u.0; named = u.1; live = top; path = f.path }, join path (backs_up patches b crossed shown last f.found (goes_up patches disk b f.found last f.over live)))
+                | inr further ↦ (last, record { away = l.off; top = u.0; named = u.1; live = top; path = inr further }, path)
               ]
         ]
 
@@ -188,6 +170,19 @@ module _ (patches : List Patch) (level floor : ℕ → ℕ) (leveled : AreLevele
   leads_down p q (inl e) = inl e
   leads_down p q (inr path) = inr (high_down p q path)
 
+-- where b alone is shown as crossed, steps that cross no change of b are steps down
+module _ (patches : List Patch) (needs : ℕ → List ℕ) (b : ℕ) (crossed : List Bool) (shown : ShowsBlocks crossed (λ c. c ≡ b)) where
+  to_down : (p q : ℕ) → StepsTo patches needs b p q → StepsDown patches needs crossed p q
+  to_down p q s = elim s [ inl d ↦ inl d | inr k ↦ inr (record { block = k.block; change = k.change; fresh = λ r. k.other (shown.only k.block r); need = k.need }) ]
+
+  all_down : (p q : ℕ) → Closure (StepsTo patches needs b) p q → Closure (StepsDown patches needs crossed) p q
+  all_down p q (one s) = one (to_down p q s)
+  all_down p q (join {q = k} c d) = join (all_down p k c) (all_down k q d)
+
+  pub to_downs : (p q : ℕ) → Leads (StepsTo patches needs b) p q → Leads (StepsDown patches needs crossed) p q
+  to_downs p q (inl e) = inl e
+  to_downs p q (inr path) = inr (all_down p q path)
+
 -- the steps up and down are the same, the other way about
 module _ (patches : List Patch) (b : ℕ) (up down : List Bool) (shows_up : ShowsBlocks up (λ c. c ≡ b)) (shows_down : ShowsBlocks down (λ c. c ≡ b)) where
   turned_up : (p q : ℕ) → StepsWhole patches down p q → IsLiveNumber patches p → StepsUp patches up q p
@@ -232,7 +227,7 @@ module _ (patches : List Patch) (b : ℕ) (up down : List Bool) (shows_up : Show
 pub none_first : (heads : List Head) (rising : AreRising heads) (disk : IsOnDiskWithAll (patches_of heads)) (hard : HardNeverHold (patches_of heads)) (b : ℕ) (crossed : List Bool) (shown : ShowsBlocks crossed (λ c. c ≡ b)) (row : List ℕ)
     → ((n : ℕ) → IsFirstAway (patches_of heads) b row n → ⊥) → LeadsNowhere (patches_of heads) b row
 none_first heads rising disk hard b crossed shown row none =
-    none_leads (patches_of heads) (rising_patches heads rising) disk b crossed shown row (λ l. let f = first_back heads rising disk hard b crossed shown row l in none f.0 f.2)
+    none_leads (patches_of heads) (rising_patches heads rising) disk b row (λ end l. let f = first_back heads rising disk hard b crossed shown row end l in none f.0 f.1)
 
 -- exactly those with P were visited where nothing was before
 pub visited_all : (P : ℕ → Type 0) (queue : List ℕ) → Visits P [] queue → (n : ℕ) → Contains queue n ↔ P n
@@ -252,23 +247,34 @@ module _ (heads : List Head) (rising : AreRising heads) (disk : IsOnDiskWithAll 
   pub under_up : (top n : ℕ) → Contains tops top → Leads (StepsDown now needs down) top n → Leads (StepsUp now up) n top
   under_up top n c path =
       let whole : Leads (StepsWhole now down) top n = elim path [ inl e ↦ inl e | inr steps ↦ inr (steps_whole now in_order flights needs needed b down shows_down top n steps) ] in
-      leads_ups now b up down shows_up shows_down in_order top n whole (off_live now in_order disk b up shows_up top (first top c).away)
+      leads_ups now b up down shows_up shows_down in_order top n whole (off_live now in_order disk b top (first top c).away)
 
-  -- where it comes to a change of b, a way leads back
-  pub comes_soft : ComesTo now level least needs down b tops → LeadsNowhere now b row → ⊥
-  comes_soft met =
-      let a = led_leads (StepsHigh now level least needs down) tops met.at met.under in
-      let top = first a.0 a.1 in
-      back_leads now in_order disk b up shows_up row (record { first = met.at; last = a.0; change = met.change; away = top.away; under = first_under now b row a.0 top; path = under_up a.0 met.at a.1 (leads_down now level floor leveled needs needed down least a.0 met.at a.2) })
+  -- where it leads to what steps lead up to from a change of b, a way leads back to that
+  pub back_from : (end top n : ℕ) → Contains tops top → PassesAt (test.LiveOn b) now end → Leads (StepsDown now needs down) top n → Leads (StepsUp now up) end n → LeadsBack now b row end
+  back_from end top n c change below above =
+      let away = first top c in
+      record {
+        away = top;
+        change = change;
+        off = away.away;
+        under = first_under now b row top away;
+        path = elim (leads_on (StepsUp now up) end n top above (under_up top n c below)) [ inl e ↦ absurd (off_not_on now in_order b top away.away (subst (PassesAt (test.LiveOn b) now) e change)) | inr path ↦ ups_back now b up shows_up end top path ];
+      }
+
+  -- where it comes to a change of b, a way leads back to that
+  pub comes_back : (at : ℕ) → ComesTo now level least needs down b tops at → LeadsBack now b row at
+  comes_back at met =
+      let a = led_leads (StepsHigh now level least needs down) tops at met.under in
+      back_from at a.0 at a.1 met.change (leads_down now level floor leveled needs needed down least a.0 at a.2) (inl refl)
 
   -- where it starts from all of them and comes to none, none does
-  pub comes_hard : ((n : ℕ) → IsFirstAway now b row n → Contains tops n) → (ComesTo now level least needs down b tops → ⊥) → LeadsNowhere now b row
-  comes_hard each none = none_leads now in_order disk b up shows_up row (λ l.
-      let f = first_back heads rising disk hard b up shows_up row l in
-      let back = leads_downs now b up down shows_up shows_down in_order f.1 f.0 f.4 (live_number now in_order b b f.1 f.3) in
-      let y = whole_met now in_order flights needs needed b down shows_down tops f.0 f.1 (each f.0 f.2) back f.3 in
+  pub comes_hard : ((n : ℕ) → IsFirstAway now b row n → Contains tops n) → ((at : ℕ) → ComesTo now level least needs down b tops at → ⊥) → LeadsNowhere now b row
+  comes_hard each none = none_leads now in_order disk b row (λ end l.
+      let f = first_back heads rising disk hard b up shows_up row end l in
+      let back = leads_downs now b up down shows_up shows_down in_order end f.0 (inr f.2) (live_number now in_order b b end l.change) in
+      let y = whole_met now in_order flights needs needed b down shows_down tops f.0 end (each f.0 f.1) back l.change in
       let over = leveled.change b y.0 y.2 in
-      none (record { at = y.0; under = high_led now level floor leveled needs needed down least tops y.0 y.1 (omega (arith, low, over)); change = y.2 }))
+      none y.0 (record { under = high_led now level floor leveled needs needed down least tops y.0 y.1 (omega (arith, low, over)); change = y.2 }))
 
 -- the walks start from the low live changes of b and from the first changes of other blocks at or below a row, which are low, and never cross b
 pub record AreEnds (patches : List Patch) (level : ℕ → ℕ) (most b : ℕ) (row : List ℕ) (up down : List Bool) (bottoms tops : List ℕ) : Type 0 where
@@ -294,21 +300,28 @@ module _ (heads : List Head) (rising : AreRising heads) (disk : IsOnDiskWithAll 
   down_to : (top n : ℕ) → Contains tops top → Leads (StepsHigh all level least needs down) top n → Leads (StepsUp all up) n top
   down_to top n c path = under_up heads rising disk hard flights level floor leveled needs needed b least floored row up down ends.shows_up ends.shows_down tops ends.first top n c (leads_down all level floor leveled needs needed down least top n path)
 
-  -- where the walks lead to the same, a way leads back
-  pub together_soft : LeadTogether all level needs most least up down bottoms tops → LeadsNowhere all b row → ⊥
-  together_soft met =
-      let n = met.at in
+  -- where the walks lead to the same, a way leads back to one from which the walk up starts
+  pub together_soft : (n : ℕ) → LeadTogether all level needs most least up down bottoms tops n → LeadsNowhere all b row → ⊥
+  together_soft n met =
       let x = led_leads (StepsLow all level most up) bottoms n met.over in
       let a = led_leads (StepsHigh all level least needs down) tops n met.under in
-      let first = ends.first a.0 a.1 in
-      back_leads all ordered disk b up ends.shows_up row (record {
-        first = x.0;
-        last = a.0;
-        change = ((ends.changes x.0).0 x.1).0;
-        away = first.away;
-        under = first_under all b row a.0 first;
-        path = leads_on (StepsUp all up) x.0 n a.0 (leads_up all level floor leveled up most x.0 n x.2) (down_to a.0 n a.1 a.2);
-      })
+      let back = back_from heads rising disk hard flights level floor leveled needs needed b least floored row up down ends.shows_up ends.shows_down tops ends.first x.0 a.0 n a.1 ((ends.changes x.0).0 x.1).0
+      (leads_down all level floor leveled needs needed down least a.0 n a.2) (leads_up all level floor leveled up most x.0 n x.2) in
+      back_leads all ordered disk b row x.0 back
+
+  -- and it is not on disk
+  pub together_live : (n : ℕ) → LeadTogether all level needs most least up down bottoms tops n → IsLiveNumber all n
+  together_live n met =
+      let x = led_leads (StepsLow all level most up) bottoms n met.over in
+      let live = live_number all ordered b b x.0 ((ends.changes x.0).0 x.1).0 in
+      elim (leads_up all level floor leveled up most x.0 n x.2) [ inl e ↦ subst (IsLiveNumber all) e live | inr path ↦ (downs all b up down ends.shows_up ends.shows_down ordered x.0 n path live).1 ]
+
+  -- where steps lead on from there to a change of b, a way leads back to that
+  pub traced_back : (n end : ℕ) → LeadTogether all level needs most least up down bottoms tops n → PassesAt (test.LiveOn b) all end → Leads (StepsTo all needs b) n end → LeadsBack all b row end
+  traced_back n end met change path =
+      let a = led_leads (StepsHigh all level least needs down) tops n met.under in
+      let below = leads_on (StepsDown all needs down) a.0 n end (leads_down all level floor leveled needs needed down least a.0 n a.2) (to_downs all needs b down ends.shows_down n end path) in
+      back_from heads rising disk hard flights level floor leveled needs needed b least floored row up down ends.shows_up ends.shows_down tops ends.first end a.0 end a.1 change below (inl refl)
 
   -- a change of b that the walk down leads to is one that the walk up starts from
   under_bottom : (n : ℕ) → IsLedFrom (StepsHigh all level least needs down) tops n → PassesAt (test.LiveOn b) all n → Contains bottoms n
@@ -319,13 +332,12 @@ module _ (heads : List Head) (rising : AreRising heads) (disk : IsOnDiskWithAll 
   -- where they start from all of the first changes, one has met all and nothing was met by both, none does
   pub apart_hard : ((n : ℕ) → IsFirstAway all b row n → Contains tops n) → (over under : List ℕ) → EndApart all level needs most least up down bottoms tops over under → LeadsNowhere all b row
   apart_hard whole over under met = elim met.ended [
-    | inl each ↦ none_leads all ordered disk b up ends.shows_up row (λ l.
-        let f = first_back heads rising disk hard b up ends.shows_up row l in
+    | inl each ↦ none_leads all ordered disk b row (λ end l.
+        let f = first_back heads rising disk hard b up ends.shows_up row end l in
         let n = f.0 in
-        let x = f.1 in
-        let top = whole n f.2 in
-        let path = low_leads all level floor leveled up most x n f.4 (ends.low n top) in
-        met.apart n (each n (leads_led (StepsLow all level most up) bottoms x n ((ends.changes x).1 (f.3, path.0)) path.1)) (met.under_begun n top))
+        let top = whole n f.1 in
+        let path = low_leads all level floor leveled up most end n (inr f.2) (ends.low n top) in
+        met.apart n (each n (leads_led (StepsLow all level most up) bottoms end n ((ends.changes end).1 (l.change, path.0)) path.1)) (met.under_begun n top))
     | inr each ↦
-        comes_hard heads rising disk hard flights level floor leveled needs needed b least floored row up down ends.shows_up ends.shows_down tops ends.first whole (λ x. met.apart x.at (met.over_begun x.at (under_bottom x.at x.under x.change)) (each x.at x.under))
+        comes_hard heads rising disk hard flights level floor leveled needs needed b least floored row up down ends.shows_up ends.shows_down tops ends.first whole (λ at x. met.apart at (met.over_begun at (under_bottom at x.under x.change)) (each at x.under))
   ]

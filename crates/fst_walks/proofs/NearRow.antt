@@ -1,13 +1,14 @@
 -- What is near a row, and the grade that it tells.
 use Rattle.std.proofs.Common.{◌≡◌, ◌⊎◌, ◌&&◌, ℕ, Bool, true, List, get_or, Contains, Some, None, Option, IfSome, refl, sym, ap, subst, ◌∙◌, inl, inr}
-use Rattle.fst_types.specs.{Closure.{one, join}, Dependencies.{DirectlyOn, DependsOn}, Facts.HardNeverHold}
-use Rattle.fst_types.specs.{Grades.FollowsRule, Patches.{Kind, OpenGate, Patch, IsOn, grade_of_kind}, Tests.is_change_at, declared.grade.Grade.Grade}
+use Rattle.fst_types.specs.{Closure.{one, join}, Dependencies.{DirectlyOn, DependsOn}, Facts.{HardNeverHold, IsOnDiskWithAll}}
+use Rattle.fst_types.specs.{Grades.FollowsRule, Patches.{Kind, OpenGate, Patch, IsOn, grade_of_kind, IsRising as PatchesRise}, Tests.is_change_at, declared.grade.Grade.Grade}
 use Rattle.fst_types.proofs.{Landing.{change_at, at_change}, Numbers.both}
-use Rattle.fst_heads.specs.Grading.{HasUnder, IsReturning, MayBeHard, IsHardNumber}
+use Rattle.fst_heads.specs.Grading.{HasUnder, MayBeHard, IsHardNumber}
 use Rattle.fst_heads.specs.{Heads.{IsRising, patch_of, patches_of}, Marks.{HasSlot, HasNone, PassesAt}, Reaching.IsHardIn, Tests.{passes, is_hard_kind}}
 use Rattle.fst_heads.specs.{declared.head.Head.Head, declared.test.Test.Test}
-use Rattle.fst_heads.proofs.{Graded.{on_from, off_from}, Leading.{one_block, same_patch}, Slots.{direct_at, patch_at, patch_is, patch_slot, slot_in, none_slot}}
-use Rattle.fst_walks.proofs.Obstacles.{hard_from, hard_to}
+use Rattle.fst_heads.proofs.{Leading.{one_block, same_patch}, Slots.{direct_at, patch_at, patch_is, patch_slot, slot_in, none_slot}}
+use Rattle.fst_walks.specs.{WayBack.LeadsBack}
+use Rattle.fst_walks.proofs.{Obstacles.{hard_from, hard_to}, Straight.straight_back}
 use Rattle.fst_types.specs.declared.place.Place.TheVariants as place
 use Rattle.fst_types.specs.declared.grade.Grade.TheVariants as grade
 use Rattle.fst_heads.specs.declared.test.Test.TheVariants as test
@@ -145,28 +146,13 @@ pub path_further : (heads : List Patch) (b : ℕ) (row below : List ℕ) (was no
 path_further heads b row below was now n (Some q) x d said c = path_next heads b row was now n q x (d q c) said
 path_further heads b row below was now n None x d said c = tt
 
--- a live change of b that is below one of another block is what that returns to
-pub away_back : (heads : List Patch) (b n m : ℕ) → IsAwayAbove heads b n m → PassesAt (test.LiveOn b) heads n → IsReturning heads b m
-away_back heads b n m a p =
-    let away = a.0.patch in
-    let back = p.patch in
-    let off = off_from b away.number away.kind away.place a.0.passed in
-    let on = on_from b back.number back.kind back.place p.passed in
-    record {
-      away = away;
-      back = back;
-      away_on = off.1;
-      head = a.0.head;
-      numbered = a.0.numbered;
-      change = off.2;
-      off = off.3;
-      away_live = off.0;
-      back_needed = record { head = p.head; change = on.1; depends = subst (λ k. DependsOn heads k back.number) (sym a.0.numbered) (subst (DependsOn heads m) (sym p.numbered) a.1) };
-      back_live = on.0;
-    }
-
-pub path_back : (heads : List Patch) (b : ℕ) (row : List ℕ) (n : ℕ) → IsOnPath heads b row true n → PassesAt (test.LiveOn b) heads n → HasUnder heads row (IsReturning heads b)
-path_back heads b row n x p = under_weaker heads row (IsAwayAbove heads b n) (IsReturning heads b) (λ m a. away_back heads b n m a p) (x.off refl)
+-- where the path went over a live change of another block, a way leads back to the live change of b that it comes to
+pub path_back : (heads : List Patch) → PatchesRise heads → IsOnDiskWithAll heads → (b : ℕ) (row : List ℕ) (n : ℕ) → IsOnPath heads b row true n → PassesAt (test.LiveOn b) heads n → LeadsBack heads b row n
+path_back heads rising disk b row n x p =
+    let u = x.off refl in elim u.2 [
+      | inl a ↦ straight_back heads rising disk b row u.0 n a.0 p a.1 (u.0, u.1, inl refl)
+      | inr low ↦ straight_back heads rising disk b row low.0 n low.2.0 p low.2.1 (u.0, u.1, inr (low.0, low.1, refl))
+    ]
 
 -- what a grade tells of one thing it tells of another that is so exactly where the first is
 pub follows_same : (g : Grade) (First Second : Type 0) → (Second → First) → (First → Second) → FollowsRule g First → FollowsRule g Second

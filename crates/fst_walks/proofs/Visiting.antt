@@ -1,6 +1,6 @@
 -- What was visited, and what is visited besides.
-use Rattle.std.proofs.Common.{◌≡◌, ◌⊎◌, ◌<◌, ◌≤◌, ℕ, List, [], ◌∷◌, ◌++◌, length, map, get_or, Contains, refl, sym, ap, subst, ◌∙◌, inl, inr, arith}
-use Rattle.std.proofs.lemmas.{Bool.cases_lt, List.{append-nil, append_assoc, get_or_append_left, get_or-map, length-append, length-map, map_push}}
+use Rattle.std.proofs.Common.{◌≡◌, ◌⊎◌, ◌<◌, ◌≤◌, ℕ, List, [], ◌∷◌, ◌++◌, Option, None, Some, IfNone, IfSome, is_some, false, length, map, get_or, Contains, refl, sym, ap, subst, ◌∙◌, inl, inr, arith}
+use Rattle.std.proofs.lemmas.{Bool.{cases_lt, false≢true}, List.{append-nil, append_assoc, get_or_append_left, get_or-map, length-append, length-map, map_push}}
 use Rattle.std.proofs.lemmas.List.Elements.{Contains-append_left, Contains-push, Contains-push_cases}
 use Rattle.fst_types.specs.Dependencies.{IsLiveNumber}
 use Rattle.fst_heads.specs.{Heads.{IsRising, patches_of}, Marks.{HasSlot, Shows}, declared.head.Head.Head}
@@ -154,3 +154,18 @@ still_apart P Q old new from v begun apart fresh n here there = elim (cases_lt h
       let same = any_default new here.0 0 n here.1 ∙ here.2 in
       fresh here.0 after here.1 (subst Q (sym same) there)
 ]
+
+-- what follows from two facts of the answer
+pub some_both : {X : Type 0} (r : Option X) {P Q R : X → Type 0} → IfSome r P → IfSome r Q → ((x : X) → P x → Q x → R x) → IfSome r R
+some_both None p q f = tt
+some_both (Some x) p q f = f x p q
+
+-- what follows from what is said where there is no answer
+pub none_then : {X : Type 0} (r : Option X) {P Q : Type 0} → IfNone r P → (P → Q) → IfNone r Q
+none_then None h f = f h
+none_then (Some x) h f = tt
+
+-- and what is said where there is none, if there is none
+pub none_told : {X : Type 0} (r : Option X) {P : Type 0} → IfNone r P → is_some r ≡ false → P
+none_told None h e = h
+none_told (Some x) h e = absurd (false≢true (sym e))

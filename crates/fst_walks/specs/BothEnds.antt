@@ -1,5 +1,5 @@
 -- A way back to a block, looked for from both its ends: down from the first changes of other blocks that are at or below the row, and up from the changes of the block, through what is no higher than those and no lower than the floor of the block.
-use Rattle.std.specs.Prelude.{◌≡◌, ◌≤◌, ◌⊎◌, ℕ, Bool, List, length, Contains}
+use Rattle.std.specs.Prelude.{◌≡◌, ◌≢◌, ◌≤◌, ◌⊎◌, ℕ, Bool, List, length, Contains}
 use Rattle.fst_types.specs.{Closure.Closure, Dependencies.{DirectlyOn, IsLiveNumber}, Patches.{Patch, IsLive}}
 use Rattle.fst_heads.specs.{Grading.IsHardNumber, Marks.PassesAt, Reaching.IsReached, declared.head.Head.Head}
 use Rattle.fst_walks.specs.{Descending.IsLedFrom, WayBack.Crosses, declared.block_walk.BlockWalk.BlockWalk}
@@ -49,9 +49,8 @@ StepsHigh patches level least needs crossed p q = (DirectlyOn patches p q × IsH
 abbrev pub IsAwayFrom : List Patch → ℕ → List ℕ → Type 0
 IsAwayFrom patches b met = (n : ℕ) → Contains met n → PassesAt (test.LiveOn b) patches n → ⊥
 
--- steps down lead from one of the tops to a change of b that is not on disk
-pub record ComesTo (patches : List Patch) (level : ℕ → ℕ) (least : ℕ) (needs : ℕ → List ℕ) (crossed : List Bool) (b : ℕ) (tops : List ℕ) : Type 0 where
-  pub at : ℕ
+-- steps down lead from one of the tops to the change with number `at` of b, which is not on disk
+pub record ComesTo (patches : List Patch) (level : ℕ → ℕ) (least : ℕ) (needs : ℕ → List ℕ) (crossed : List Bool) (b : ℕ) (tops : List ℕ) (at : ℕ) : Type 0 where
   pub under : IsLedFrom (StepsHigh patches level least needs crossed) tops at
   pub change : PassesAt (test.LiveOn b) patches at
 
@@ -86,9 +85,8 @@ pub record IsOver (heads : List Head) (blocks : ℕ) (walk : BlockWalk) : Type 0
 abbrev pub AreApart : List ℕ → List ℕ → Type 0
 AreApart over under = (n : ℕ) → Contains over n → Contains under n → ⊥
 
--- from where they start, the two walks lead to the same
-pub record LeadTogether (patches : List Patch) (level : ℕ → ℕ) (needs : ℕ → List ℕ) (most least : ℕ) (up down : List Bool) (bottoms tops : List ℕ) : Type 0 where
-  pub at : ℕ
+-- from where they start, the two walks both lead to the patch with number `at`
+pub record LeadTogether (patches : List Patch) (level : ℕ → ℕ) (needs : ℕ → List ℕ) (most least : ℕ) (up down : List Bool) (bottoms tops : List ℕ) (at : ℕ) : Type 0 where
   pub over : IsLedFrom (StepsLow patches level most up) bottoms at
   pub under : IsLedFrom (StepsHigh patches level least needs down) tops at
 
@@ -98,3 +96,14 @@ pub record EndApart (patches : List Patch) (level : ℕ → ℕ) (needs : ℕ �
   pub under_begun : (n : ℕ) → Contains tops n → Contains under n
   pub apart : AreApart over under
   pub ended : ((n : ℕ) → IsLedFrom (StepsLow patches level most up) bottoms n → Contains over n) ⊎ ((n : ℕ) → IsLedFrom (StepsHigh patches level least needs down) tops n → Contains under n)
+
+-- from the change p of another block than b, which is not on disk, to a need of its block
+pub record CrossesTo (patches : List Patch) (needs : ℕ → List ℕ) (b p q : ℕ) : Type 0 where
+  pub block : ℕ
+  pub other : block ≢ b
+  pub change : PassesAt (test.LiveOn block) patches p
+  pub need : IsNeed patches needs block q
+
+-- a step down, to what p waits for: to a direct dependency that is not on disk, or across another block than b to what this needs
+abbrev pub StepsTo : List Patch → (ℕ → List ℕ) → ℕ → ℕ → ℕ → Type 0
+StepsTo patches needs b p q = (DirectlyOn patches p q × IsLiveNumber patches q) ⊎ CrossesTo patches needs b p q

@@ -1,5 +1,6 @@
 pub mod Searching
 pub mod Starting
+pub mod Telling
 pub mod Descending
 pub mod WayBack
 pub mod Walks

@@ -1,8 +1,10 @@
 -- What is kept of the block graph. What blocks need: for each block, of what its hard changes in memory directly depend on, as much as a walk down has to go on from where it crosses the block. Hard changes of a block are written together, so one of them stands for all that are at the same place.
-use Rattle.std.specs.Prelude.{◌≡◌, ◌≢◌, ◌⊎◌, ℕ, List, [], length, Contains, slice_index_or}
-use Rattle.fst_types.specs.{Dependencies.DirectlyOn, Gates.IsOpenNumber, Patches.{Patch, IsOn, IsHard}, declared.grade.Grade.Grade, declared.place.Place.Place}
+use Rattle.std.specs.Prelude.{◌≡◌, ◌≢◌, ◌≤◌, ◌⊎◌, ℕ, List, Option, Some, [], length, Contains, slice_index_or}
+use Rattle.fst_types.specs.{Dependencies.DirectlyOn, Patches.{Patch, IsOn, IsHard}, declared.grade.Grade.Grade, declared.place.Place.Place}
 use Rattle.fst_types.specs.declared.grade.Grade.TheVariants as grade
-use Rattle.fst_heads.specs.{Grading.{HasUnder, IsHardNumber, LeadsNowhere}}
+use Rattle.fst_heads.specs.{Grading.IsHardNumber, Marks.PassesAt}
+use Rattle.fst_heads.specs.declared.test.Test.TheVariants as test
+use Rattle.fst_walks.specs.{WayBack.LeadsBack, declared.needs.Way.Way}
 
 -- n is the number of a hard change of block d at that place
 pub record IsHardAt (patches : List Patch) (at : Place) (d n : ℕ) : Type 0 where
@@ -29,29 +31,37 @@ pub record AreNeeded (patches : List Patch) (needs : ℕ → List ℕ) : Type 0 
 abbrev pub needs_of : List (List ℕ) → ℕ → List ℕ
 needs_of lists c = slice_index_or lists c []
 
--- n is the number of a change, and from what it depends on a way leads back to its block
-pub record HasWayBack (patches : List Patch) (n : ℕ) : Type 0 where
+-- n is the number of a change, from which a way leads back to the change `end` of its block
+pub record HasWayBack (patches : List Patch) (n end : ℕ) : Type 0 where
   pub patch : Patch
   pub head : Contains patches patch
   pub numbered : patch.number ≡ n
   pub block : ℕ
   pub change : IsOn patch block
-  pub back : LeadsNowhere patches block patch.dependencies → ⊥
+  pub back : LeadsBack patches block patch.dependencies end
 
--- from each of these a way leads back to its block
-abbrev pub HaveWaysBack : List Patch → List ℕ → Type 0
-HaveWaysBack patches ways = (n : ℕ) → Contains ways n → HasWayBack patches n
+-- each of these ways is there as long as its end is a change that is not on disk
+abbrev pub HaveWaysBack : List Patch → List Way → Type 0
+HaveWaysBack patches ways = (w : Way) → Contains ways w → (b : ℕ) → PassesAt (test.LiveOn b) patches w.end → HasWayBack patches w.number w.end
 
--- the numbers for each block, for how many more of one block there is room, and the changes of which it is known that a way leads back
+-- the numbers for each block, for how many more of one block there is room, and the ways back that are known
 pub record Needing : Type 0 where
   pub lists : List (List ℕ)
   pub block : ℕ
   pub room : ℕ
-  pub ways : List ℕ
+  pub ways : List Way
 
--- of what was noted only the new change is more, and that where it is soft and no open gate is in its row or below it
-abbrev pub IsNoted : List Patch → ℕ → List ℕ → Grade → List ℕ → List ℕ → Type 0
-IsNoted patches number row g old new = (n : ℕ) → Contains new n → Contains old n ⊎ ((n ≡ number) × (g ≡ grade.Soft) × (HasUnder patches row (IsOpenNumber patches) → ⊥))
+-- the end of each way is a number that was given
+abbrev pub HaveGivenEnds : ℕ → List Way → Type 0
+HaveGivenEnds numbers ways = (w : Way) → Contains ways w → w.end ≤ numbers
+
+-- of the known ways only one is more at most, from the change with that number to that end
+abbrev pub IsNoted : ℕ → Option ℕ → List Way → List Way → Type 0
+IsNoted number end old new = (w : Way) → Contains new w → Contains old w ⊎ ((w.number ≡ number) × (end ≡ Some w.end))
+
+-- the way from the change with that number to that end is known
+abbrev pub IsKnown : List Way → ℕ → ℕ → Type 0
+IsKnown ways n end = (w : Way) × Contains ways w × (w.number ≡ n) × (w.end ≡ end)
 
 -- what is kept for block b grew by a new change of it with that row and grade: where it is hard, by what of the row is not stood for
 pub record IsPut (patches : List Patch) (b : ℕ) (row : List ℕ) (g : Grade) (old new : List (List ℕ)) : Type 0 where

@@ -1,7 +1,7 @@
 -- The ways back to a block: from a patch up to those that directly depend on it, and from a hard change in memory to all changes of its block that are not on disk, since the block is not written without it.
-use Rattle.std.specs.Prelude.{◌≡◌, ◌⊎◌, ℕ, Bool, List}
-use Rattle.fst_types.specs.{Dependencies.{DirectlyOn, DependsOn, IsLiveNumber}, Patches.Patch}
-use Rattle.fst_heads.specs.{Grading.IsHardNumber, Marks.PassesAt, Reaching.IsReached}
+use Rattle.std.specs.Prelude.{◌≡◌, ◌≢◌, ◌⊎◌, ℕ, Bool, List}
+use Rattle.fst_types.specs.{Closure.Closure, Dependencies.{DirectlyOn, DependsOn, IsLiveNumber}, Patches.Patch}
+use Rattle.fst_heads.specs.{Grading.{HasUnder, IsHardNumber}, Marks.PassesAt, Reaching.IsReached}
 use Rattle.fst_heads.specs.declared.test.Test.TheVariants as test
 
 -- from the hard change p in memory to the change q of the same block that is not on disk; the block is not shown as crossed
@@ -27,3 +27,22 @@ pub record IsLiveOver (patches : List Patch) (b n : ℕ) : Type 0 where
   pub base : ℕ
   pub change : PassesAt (test.LiveOn b) patches base
   pub over : (n ≡ base) ⊎ DependsOn patches n base
+
+-- from the hard change p in memory of another block than b to the change q of the same block that is not on disk
+pub record CrossesBeside (patches : List Patch) (b p q : ℕ) : Type 0 where
+  pub block : ℕ
+  pub other : block ≢ b
+  pub hard : IsHardNumber patches block p
+  pub change : PassesAt (test.LiveOn block) patches q
+
+-- a step up, to what waits for p: to one that directly depends on it and is not on disk, or across another block than b
+abbrev pub StepsBack : List Patch → ℕ → ℕ → ℕ → Type 0
+StepsBack patches b p q = (DirectlyOn patches q p × IsLiveNumber patches q) ⊎ CrossesBeside patches b p q
+
+-- a way leads from the row back to the change `end` of b: a change of another block at or below the row waits for `end`, and none of it is on disk
+pub record LeadsBack (patches : List Patch) (b : ℕ) (row : List ℕ) (end : ℕ) : Type 0 where
+  pub away : ℕ
+  pub change : PassesAt (test.LiveOn b) patches end
+  pub off : PassesAt (test.LiveOff b) patches away
+  pub under : HasUnder patches row (λ n. n ≡ away)
+  pub path : Closure (StepsBack patches b) end away

@@ -9,14 +9,13 @@
 //! comes after it, and the first change of another block beside the ancestors too.
 
 ghost use Rattle.std.specs.Prelude.{◌≡◌, ◌<◌, ◌⊎◌, ℕ, IsTrue, IfSome, Contains, length, map};
-ghost use Rattle.fst_types.specs.Dependencies.{DependsOn};
 ghost use Rattle.fst_heads.specs.declared.test.Test.TheVariants as test;
-ghost use Rattle.fst_heads.specs.Grading.{HasUnder, IsReturning};
 ghost use Rattle.fst_heads.specs.Heads.{IsRising, patches_of};
 ghost use Rattle.fst_heads.specs.Marks.{PassesAt};
 ghost use Rattle.fst_walks.specs.Ancestors.{AreOver, GoesUnder, LeadsTo};
-ghost use Rattle.fst_walks.specs.Leveling.{IsLeveled, jump_of, parent_of};
+ghost use Rattle.fst_walks.specs.Leveling.{IsLeveled, jump_of};
 ghost use Rattle.fst_walks.specs.Sights.{Sees};
+ghost use Rattle.fst_walks.specs.WayBack.{LeadsBack};
 
 use crate::levels::{Ancestry, Levels, Rank, no_ancestry};
 use crate::shortcuts::{first, newest, newest_few, passes_at, row_below};
@@ -204,41 +203,42 @@ fn stand_in(sight: &Sight<'_>, own: Rank, change: u32) -> Option<(u32, u32)>
     Some((first, sight.levels.rank(over).ancestry.depth))
 }
 
-// Whether the ancestors of the patch with the number lead to one of these changes, of as many as are tried.
-fn leads_to_one(sight: &Sight<'_>, number: u32, changes: &[Listed]) -> bool
+// The first of these changes to which the ancestors of the patch with the number lead, of as many as are tried.
+fn leads_to_one(sight: &Sight<'_>, number: u32, changes: &[Listed]) -> Option<u32>
     requires sees { Sees sight.now }
-    ensures { IsTrue result → (n : ℕ) × Contains (map (λ l. l.number) changes.now) n × LeadsTo (patches_of sight.now.heads.now) number n }
+    ensures { IfSome result (λ n. Contains (map (λ l. l.number) changes.now) n × LeadsTo (patches_of sight.now.heads.now) number n) }
 {
     let own = sight.levels.rank_of(sight.heads, number);
     let mut left = TRIED;
     for change in changes {
         if let Some((to, depth)) = stand_in(sight, own, change.number) {
             if left == 0 {
-                return false;
+                return None;
             }
             left -= 1;
             if comes_to(sight, number, to, depth) {
-                return true;
+                return Some(change.number);
             }
         }
     }
-    false
+    None
 }
 
-/// Whether the ancestors of one of the row lead over a change of another block down to one of the newest changes of the
-/// block. A change of the block with that row is soft. Where none do, another way may.
-pub fn leads_to_block(sight: &Sight<'_>, block: u32, row: &[u32]) -> bool
+/// One of the newest changes of the block to which the ancestors of one of the row lead over a change of another block. A
+/// change of the block with that row is soft. Where none do, another way may.
+pub fn leads_to_block(sight: &Sight<'_>, block: u32, row: &[u32]) -> Option<u32>
     requires sees { Sees sight.now }
     requires block { block < length sight.now.lists.now }
-    ensures { IsTrue result → HasUnder (patches_of sight.now.heads.now) row.now (IsReturning (patches_of sight.now.heads.now) block) }
+    ensures { IfSome result (LeadsBack (patches_of sight.now.heads.now) block row.now) }
 {
     let changes = newest_changes(sight, block);
     for number in newest_few(row, WIDTH) {
         if let Some(off) = first_off(sight, block, *number) {
-            if leads_to_one(sight, off, changes) {
-                return true;
+            let end = leads_to_one(sight, off, changes);
+            if end.is_some() {
+                return end;
             }
         }
     }
-    false
+    None
 }

@@ -4,16 +4,16 @@
 //! looked through once, and not for each of them.
 
 ghost use Rattle.std.specs.Prelude.{◌≡◌, ◌⊎◌, ◌<◌, ℕ, length, Contains, IsTrue, IfSome};
-ghost use Rattle.fst_types.specs.Grades.{FollowsRule};
 ghost use Rattle.fst_heads.specs.Grading.{IsHardNumber, LeadsNowhere};
 ghost use Rattle.fst_heads.specs.Heads.{IsRising, patches_of};
 ghost use Rattle.fst_walks.specs.Sights.{Sees};
+ghost use Rattle.fst_walks.specs.Telling.{IsTold};
 
-use crate::known::is_known;
+use crate::graded::{Graded, hard, soft};
+use crate::known::known_end;
 use crate::shortcuts::{is_found, is_hard_in, is_hard_number};
 use crate::sight::Sight;
 use fst_heads::head::Head;
-use fst_types::Grade;
 
 // How many of the newest changes are looked at.
 const NEWEST: usize = 8;
@@ -38,31 +38,33 @@ fn is_within(heads: &[Head], block: u32, row: &[u32], other: &[u32]) -> bool
 }
 
 // What the change in the slot tells of a new change of its block with that row, if anything.
-fn told_by(sight: &Sight<'_>, slot: usize, block: u32, row: &[u32]) -> Option<Grade>
+fn told_by(sight: &Sight<'_>, slot: usize, block: u32, row: &[u32]) -> Option<Graded>
     requires sees { Sees sight.now }
     requires inside { slot < length sight.now.heads.now }
-    ensures { IfSome result (λ grade. FollowsRule grade (LeadsNowhere (patches_of sight.now.heads.now) block row.now)) }
+    ensures { IfSome result (IsTold (patches_of sight.now.heads.now) block row.now (LeadsNowhere (patches_of sight.now.heads.now) block row.now)) }
 {
     let head = &sight.heads[slot];
     let other = head.dependencies.as_slice();
     if is_hard_in(head, block) {
         if is_within(sight.heads, block, row, other) {
-            return Some(Grade::Hard);
+            return Some(hard());
         }
         return None;
     }
-    if is_known(sight, slot, block) && is_within(sight.heads, block, other, row) {
-        return Some(Grade::Soft);
+    let end = known_end(sight, slot, block)?;
+    if is_within(sight.heads, block, other, row) {
+        Some(soft(Some(end)))
+    } else {
+        None
     }
-    None
 }
 
 /// What the newest changes of the block tell of a new one with that row, but for open gates: that it is hard or soft as one of
 /// them is, if they do.
-pub fn told_before(sight: &Sight<'_>, block: u32, row: &[u32]) -> Option<Grade>
+pub fn told_before(sight: &Sight<'_>, block: u32, row: &[u32]) -> Option<Graded>
     requires sees { Sees sight.now }
     requires block { block < length sight.now.lists.now }
-    ensures { IfSome result (λ grade. FollowsRule grade (LeadsNowhere (patches_of sight.now.heads.now) block row.now)) }
+    ensures { IfSome result (IsTold (patches_of sight.now.heads.now) block row.now (LeadsNowhere (patches_of sight.now.heads.now) block row.now)) }
 {
     let list = sight.lists[block as usize].as_slice();
     let newest = &list[list.len().saturating_sub(NEWEST)..];

@@ -5,49 +5,56 @@
 //! row before the first changes of other blocks, as where a superblock was overwritten thousands of times, it begins with
 //! some of these: a way that is found from them is one, and none tells nothing.
 
-ghost use Rattle.std.specs.Prelude.{◌≡◌, ◌≤◌, ◌<◌, ◌↔◌, ℕ, false, length, Contains, IfSome, IsTrue, slice_index_or};
-ghost use Rattle.fst_types.specs.Grades.{FollowsRule};
+ghost use Rattle.std.specs.Prelude.{◌≡◌, ◌≤◌, ◌<◌, ℕ, length, Contains, IfSome, IfNone, slice_index_or};
 ghost use Rattle.fst_heads.specs.declared.test.Test.TheVariants as test;
 ghost use Rattle.fst_heads.specs.Grading.{LeadsNowhere};
 ghost use Rattle.fst_heads.specs.Heads.{IsRising, patches_of};
 ghost use Rattle.fst_heads.specs.Marks.{PassesAt};
 ghost use Rattle.fst_walks.specs.BothEnds.{ComesTo, IsAwayFrom, IsOver, ShowsBlockUnder, StepsHigh};
 ghost use Rattle.fst_walks.specs.Descending.{Visited, Visits};
-ghost use Rattle.fst_walks.specs.Leveling.{floor_of, level_of};
+ghost use Rattle.fst_walks.specs.Leveling.{level_of};
 ghost use Rattle.fst_walks.specs.Needing.{needs_of};
 ghost use Rattle.fst_walks.specs.Sights.{Sees};
+ghost use Rattle.fst_walks.specs.Telling.{IsTold};
 ghost use Rattle.fst_walks.specs.Walks.{numbers_met};
 
 use crate::block_walk::BlockWalk;
 use crate::first_away::{FEW, visit_first_away};
+use crate::graded::{Graded, hard, soft};
 use crate::sight::Sight;
 use crate::walk::Walk;
 use crate::way_down::step_down;
 use fst_heads::head::Head;
 use fst_heads::test::{Test, passes};
-use fst_types::Grade;
 
 // How many patches may be looked at for each change of the block.
 const LOOKS: usize = 4;
 
-// Whether the walk met a change of the block at that turn or later.
-fn meets_change(heads: &[Head], walk: &Walk, from: usize, block: u32) -> bool
+// The first change of the block that the walk met at that turn or later.
+fn meets_change(heads: &[Head], walk: &Walk, from: usize, block: u32) -> Option<u32>
     requires walk { length walk.now.marks ≡ length heads.now }
     requires rising { IsRising heads.now }
-    ensures met { IsTrue result → (n : ℕ) × Contains (numbers_met heads.now walk.now) n × PassesAt (test.LiveOn block) (patches_of heads.now) n }
-    ensures none { result ≡ false → (at : ℕ) → from ≤ at → at < length walk.now.met → PassesAt (test.LiveOn block) (patches_of heads.now) (slice_index_or (numbers_met heads.now walk.now) at 0) → ⊥ }
+    ensures met { IfSome result (λ n. Contains (numbers_met heads.now walk.now) n × PassesAt (test.LiveOn block) (patches_of heads.now) n) }
+    ensures none { IfNone result ((at : ℕ) → from ≤ at → at < length walk.now.met → PassesAt (test.LiveOn block) (patches_of heads.now) (slice_index_or (numbers_met heads.now walk.now) at 0) → ⊥) }
 {
     for at in from..walk.len() {
-        if passes(Test::LiveOn(block), &heads[walk.slot(at)]) {
-            return true;
+        let head = &heads[walk.slot(at)];
+        if passes(Test::LiveOn(block), head) {
+            return Some(head.number);
         }
     }
-    false
+    None
 }
 
-// A step down from what was met there in turn, through what is no lower than `least`. Answers whether a change of the block
-// was met, and how many patches it looked at.
-fn turn(sight: &Sight<'_>, down: &mut BlockWalk, block: u32, at: usize, least: u32) -> (bool, usize)
+// A step down from what was met there in turn, through what is no lower than `least`. Answers the first change of the block
+// that it met, and how many patches it looked at.
+fn turn(
+    sight: &Sight<'_>,
+    down: &mut BlockWalk,
+    block: u32,
+    at: usize,
+    least: u32,
+) -> (Option<u32>, usize)
     requires sees { Sees sight.now }
     requires down { IsOver sight.now.heads.now (length sight.now.lists.now) down.old }
     requires visited { Visited sight.now.heads.now down.old.walk }
@@ -57,8 +64,8 @@ fn turn(sight: &Sight<'_>, down: &mut BlockWalk, block: u32, at: usize, least: u
     ensures visited { Visited sight.now.heads.now down.new.walk }
     ensures visits { Visits (StepsHigh (patches_of sight.now.heads.now) (level_of sight.now.levels.now.ranks) least (needs_of sight.now.needs.now.lists) down.old.crossed.items (slice_index_or (numbers_met sight.now.heads.now down.old.walk) at 0)) (numbers_met sight.now.heads.now down.old.walk) (numbers_met sight.now.heads.now down.new.walk) }
     ensures crossed { ShowsBlockUnder (patches_of sight.now.heads.now) (slice_index_or (numbers_met sight.now.heads.now down.old.walk) at 0) down.old.crossed.items down.new.crossed.items }
-    ensures met { IsTrue result.0 → (n : ℕ) × Contains (numbers_met sight.now.heads.now down.new.walk) n × PassesAt (test.LiveOn block) (patches_of sight.now.heads.now) n }
-    ensures away { result.0 ≡ false → IsAwayFrom (patches_of sight.now.heads.now) block (numbers_met sight.now.heads.now down.new.walk) }
+    ensures met { IfSome result.0 (λ n. Contains (numbers_met sight.now.heads.now down.new.walk) n × PassesAt (test.LiveOn block) (patches_of sight.now.heads.now) n) }
+    ensures away { IfNone result.0 (IsAwayFrom (patches_of sight.now.heads.now) block (numbers_met sight.now.heads.now down.new.walk)) }
 {
     let from = down.walk.len();
     let looked = step_down(sight, &mut down.walk, &mut down.crossed, at, least);
@@ -66,27 +73,28 @@ fn turn(sight: &Sight<'_>, down: &mut BlockWalk, block: u32, at: usize, least: u
 }
 
 // Takes steps down, through what is no lower than `least`, until a change of the block was met, which it answers, or the
-// walk is at its end. None once it has looked at more patches than `most`.
+// walk is at its end, where it answers that there is none. It gives up once it has looked at more patches than `most`.
 fn descend(
     sight: &Sight<'_>,
     down: &mut BlockWalk,
     block: u32,
     least: u32,
     most: usize,
-) -> Option<bool>
+) -> Option<Option<u32>>
     requires sees { Sees sight.now }
     requires down { IsOver sight.now.heads.now (length sight.now.lists.now) down.old }
     requires visited { Visited sight.now.heads.now down.old.walk }
     requires away { IsAwayFrom (patches_of sight.now.heads.now) block (numbers_met sight.now.heads.now down.old.walk) }
     ensures down { IsOver sight.now.heads.now (length sight.now.lists.now) down.new }
-    ensures met { IfSome result (λ met. IsTrue met ↔ ComesTo (patches_of sight.now.heads.now) (level_of sight.now.levels.now.ranks) least (needs_of sight.now.needs.now.lists) down.old.crossed.items block (numbers_met sight.now.heads.now down.old.walk)) }
+    ensures met { IfSome result (λ met. IfSome met (ComesTo (patches_of sight.now.heads.now) (level_of sight.now.levels.now.ranks) least (needs_of sight.now.needs.now.lists) down.old.crossed.items block (numbers_met sight.now.heads.now down.old.walk))) }
+    ensures none { IfSome result (λ met. IfNone met ((n : ℕ) → ComesTo (patches_of sight.now.heads.now) (level_of sight.now.levels.now.ranks) least (needs_of sight.now.needs.now.lists) down.old.crossed.items block (numbers_met sight.now.heads.now down.old.walk) n → ⊥)) }
 {
     let mut left = most;
     let mut at = 0;
     while at < down.walk.len() {
         let (met, looked) = turn(sight, down, block, at, least);
-        if met {
-            return Some(true);
+        if met.is_some() {
+            return Some(met);
         }
         if looked > left {
             return None;
@@ -94,7 +102,7 @@ fn descend(
         left -= looked;
         at += 1;
     }
-    Some(false)
+    Some(None)
 }
 
 /// What keeps a new change of the block with that row soft but for open gates, where that is told by few looks. What was
@@ -104,11 +112,11 @@ pub fn grade_below(
     down: &mut BlockWalk,
     block: u32,
     row: &[u32],
-) -> Option<Grade>
+) -> Option<Graded>
     requires sees { Sees sight.now }
     requires down { IsOver sight.now.heads.now (length sight.now.lists.now) down.old }
     requires block { block < length sight.now.lists.now }
-    ensures graded { IfSome result (λ grade. FollowsRule grade (LeadsNowhere (patches_of sight.now.heads.now) block row.now)) }
+    ensures told { IfSome result (IsTold (patches_of sight.now.heads.now) block row.now (LeadsNowhere (patches_of sight.now.heads.now) block row.now)) }
     ensures down { IsOver sight.now.heads.now (length sight.now.lists.now) down.new }
 {
     down.cross_only(block);
@@ -116,12 +124,9 @@ pub fn grade_below(
     let few = most.min(FEW);
     let looked = visit_first_away(sight.heads, &mut down.walk, block, row, few);
     let least = sight.levels.floor(block);
-    if descend(sight, down, block, least, most)? {
-        return Some(Grade::Soft);
+    let met = descend(sight, down, block, least, most)?;
+    if met.is_some() {
+        return Some(soft(met));
     }
-    if looked <= few {
-        Some(Grade::Hard)
-    } else {
-        None
-    }
+    if looked <= few { Some(hard()) } else { None }
 }

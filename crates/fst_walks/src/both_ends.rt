@@ -2,27 +2,30 @@
 //! from the first changes of other blocks at or below a row. A new change of the block over the row is soft exactly where
 //! such a way is there, and the walks meet where it is; it is hard where one of them comes to its end and they have not
 //! met. The one that has looked at less takes the next step, since mostly one end has far less around it than the other.
+//! Where they meet, the walk up is traced down to the end of the way (`trace`).
 
-ghost use Rattle.std.specs.Prelude.{◌≡◌, ◌≤◌, ◌<◌, ℕ, false, length, Contains, IsTrue, IfSome, IfNone, slice_index_or};
-ghost use Rattle.fst_types.specs.Grades.{FollowsRule};
+ghost use Rattle.std.specs.Prelude.{◌≡◌, ◌≤◌, ◌<◌, ℕ, length, Contains, IfSome, IfNone, slice_index_or};
 ghost use Rattle.fst_heads.specs.Grading.{LeadsNowhere};
 ghost use Rattle.fst_heads.specs.Heads.{IsRising, patches_of};
+ghost use Rattle.fst_heads.specs.Marks.{HasSlot};
 ghost use Rattle.fst_walks.specs.BothEnds.{AreApart, EndApart, IsOver, LeadTogether, ShowsBlockUnder, StepsHigh, StepsLow};
 ghost use Rattle.fst_walks.specs.Descending.{Visited, Visits};
 ghost use Rattle.fst_walks.specs.Leveling.{level_of};
 ghost use Rattle.fst_walks.specs.Needing.{needs_of};
 ghost use Rattle.fst_walks.specs.Sights.{Sees};
+ghost use Rattle.fst_walks.specs.Telling.{IsTold};
 ghost use Rattle.fst_walks.specs.Walks.{numbers_met};
 ghost use Rattle.fst_walks.specs.WayBack.{ShowsBlockOf};
 
 use crate::ends::Ends;
 use crate::first_away::{FEW, visit_first_away};
+use crate::graded::{Graded, hard, soft};
 use crate::sight::Sight;
+use crate::trace::trace;
 use crate::walk::Walk;
 use crate::way_down::step_down;
 use crate::way_up::{step_up, visit_low_changes};
 use fst_heads::head::Head;
-use fst_types::Grade;
 
 /// How many patches each of the two has looked at.
 #[derive(Clone, Copy)]
@@ -44,24 +47,31 @@ fn highest(sight: &Sight<'_>, walk: &Walk) -> u32
     most
 }
 
-// Whether the other walk has met what the walk met at that turn or later.
-fn meets(heads: &[Head], walk: &Walk, other: &Walk, from: usize) -> bool
+// The slot of what the walk met at that turn or later, and the other has met too.
+fn meets(heads: &[Head], walk: &Walk, other: &Walk, from: usize) -> Option<usize>
     requires walk { length walk.now.marks ≡ length heads.now }
     requires other { Visited heads.now other.now }
     requires rising { IsRising heads.now }
-    ensures met { IsTrue result → (n : ℕ) × Contains (numbers_met heads.now walk.now) n × Contains (numbers_met heads.now other.now) n }
-    ensures apart { result ≡ false → (at : ℕ) → from ≤ at → at < length walk.now.met → Contains (numbers_met heads.now other.now) (slice_index_or (numbers_met heads.now walk.now) at 0) → ⊥ }
+    ensures met { IfSome result (λ slot. (n : ℕ) × HasSlot heads.now n slot × Contains (numbers_met heads.now walk.now) n × Contains (numbers_met heads.now other.now) n) }
+    ensures apart { IfNone result ((at : ℕ) → from ≤ at → at < length walk.now.met → Contains (numbers_met heads.now other.now) (slice_index_or (numbers_met heads.now walk.now) at 0) → ⊥) }
 {
     for at in from..walk.len() {
-        if other.has_met(walk.slot(at)) {
-            return true;
+        let slot = walk.slot(at);
+        if other.has_met(slot) {
+            return Some(slot);
         }
     }
-    false
+    None
 }
 
-// A step of the walk up from what it met there in turn. Answers whether it met what the walk down has.
-fn turn_up(sight: &Sight<'_>, ends: &mut Ends, at: usize, most: u32, looked: &mut Looked) -> bool
+// A step of the walk up from what it met there in turn. Answers the slot of what it met that the walk down has met too.
+fn turn_up(
+    sight: &Sight<'_>,
+    ends: &mut Ends,
+    at: usize,
+    most: u32,
+    looked: &mut Looked,
+) -> Option<usize>
     requires sees { Sees sight.now }
     requires up { IsOver sight.now.heads.now (length sight.now.lists.now) ends.old.up }
     requires visited_up { Visited sight.now.heads.now ends.old.up.walk }
@@ -73,8 +83,8 @@ fn turn_up(sight: &Sight<'_>, ends: &mut Ends, at: usize, most: u32, looked: &mu
     ensures visits { Visits (StepsLow (patches_of sight.now.heads.now) (level_of sight.now.levels.now.ranks) most ends.old.up.crossed.items (slice_index_or (numbers_met sight.now.heads.now ends.old.up.walk) at 0)) (numbers_met sight.now.heads.now ends.old.up.walk) (numbers_met sight.now.heads.now ends.new.up.walk) }
     ensures crossed { ShowsBlockOf (patches_of sight.now.heads.now) (slice_index_or (numbers_met sight.now.heads.now ends.old.up.walk) at 0) ends.old.up.crossed.items ends.new.up.crossed.items }
     ensures down { ends.new.down ≡ ends.old.down }
-    ensures met { IsTrue result → (n : ℕ) × Contains (numbers_met sight.now.heads.now ends.new.up.walk) n × Contains (numbers_met sight.now.heads.now ends.old.down.walk) n }
-    ensures apart { result ≡ false → AreApart (numbers_met sight.now.heads.now ends.new.up.walk) (numbers_met sight.now.heads.now ends.old.down.walk) }
+    ensures met { IfSome result (λ slot. (n : ℕ) × HasSlot sight.now.heads.now n slot × Contains (numbers_met sight.now.heads.now ends.new.up.walk) n × Contains (numbers_met sight.now.heads.now ends.old.down.walk) n) }
+    ensures apart { IfNone result (AreApart (numbers_met sight.now.heads.now ends.new.up.walk) (numbers_met sight.now.heads.now ends.old.down.walk)) }
 {
     let from = ends.up.walk.len();
     let more = step_up(sight, &mut ends.up.walk, &mut ends.up.crossed, at, most);
@@ -82,8 +92,14 @@ fn turn_up(sight: &Sight<'_>, ends: &mut Ends, at: usize, most: u32, looked: &mu
     meets(sight.heads, &ends.up.walk, &ends.down.walk, from)
 }
 
-// A step of the walk down from what it met there in turn. Answers whether it met what the walk up has.
-fn turn_down(sight: &Sight<'_>, ends: &mut Ends, at: usize, least: u32, looked: &mut Looked) -> bool
+// A step of the walk down from what it met there in turn. Answers the slot of what it met that the walk up has met too.
+fn turn_down(
+    sight: &Sight<'_>,
+    ends: &mut Ends,
+    at: usize,
+    least: u32,
+    looked: &mut Looked,
+) -> Option<usize>
     requires sees { Sees sight.now }
     requires down { IsOver sight.now.heads.now (length sight.now.lists.now) ends.old.down }
     requires visited_up { Visited sight.now.heads.now ends.old.up.walk }
@@ -95,8 +111,8 @@ fn turn_down(sight: &Sight<'_>, ends: &mut Ends, at: usize, least: u32, looked: 
     ensures visits { Visits (StepsHigh (patches_of sight.now.heads.now) (level_of sight.now.levels.now.ranks) least (needs_of sight.now.needs.now.lists) ends.old.down.crossed.items (slice_index_or (numbers_met sight.now.heads.now ends.old.down.walk) at 0)) (numbers_met sight.now.heads.now ends.old.down.walk) (numbers_met sight.now.heads.now ends.new.down.walk) }
     ensures crossed { ShowsBlockUnder (patches_of sight.now.heads.now) (slice_index_or (numbers_met sight.now.heads.now ends.old.down.walk) at 0) ends.old.down.crossed.items ends.new.down.crossed.items }
     ensures up { ends.new.up ≡ ends.old.up }
-    ensures met { IsTrue result → (n : ℕ) × Contains (numbers_met sight.now.heads.now ends.old.up.walk) n × Contains (numbers_met sight.now.heads.now ends.new.down.walk) n }
-    ensures apart { result ≡ false → AreApart (numbers_met sight.now.heads.now ends.old.up.walk) (numbers_met sight.now.heads.now ends.new.down.walk) }
+    ensures met { IfSome result (λ slot. (n : ℕ) × HasSlot sight.now.heads.now n slot × Contains (numbers_met sight.now.heads.now ends.old.up.walk) n × Contains (numbers_met sight.now.heads.now ends.new.down.walk) n) }
+    ensures apart { IfNone result (AreApart (numbers_met sight.now.heads.now ends.old.up.walk) (numbers_met sight.now.heads.now ends.new.down.walk)) }
 {
     let from = ends.down.walk.len();
     let more = step_down(
@@ -121,16 +137,16 @@ fn turn_from_end(deep: usize, first: usize, len: usize) -> usize
 }
 
 // Takes steps by turns, through what is no higher than `most` and no lower than `least`, until one walk has met what the
-// other has, which it answers, or one is at its end. None once both have looked at more patches than the limit. The walk
-// down steps from what it met first, as it must, and by turns from what it met last: so a long way is found without all that
-// lies about its beginning.
+// other has, which it answers by its slot, or one is at its end, where it answers that there is none. It gives up once both
+// have looked at more patches than the limit. The walk down steps from what it met first, as it must, and by turns from what
+// it met last: so a long way is found without all that lies about its beginning.
 fn meet_between(
     sight: &Sight<'_>,
     ends: &mut Ends,
     most: u32,
     least: u32,
     limit: usize,
-) -> Option<bool>
+) -> Option<Option<usize>>
     requires sees { Sees sight.now }
     requires up { IsOver sight.now.heads.now (length sight.now.lists.now) ends.old.up }
     requires down { IsOver sight.now.heads.now (length sight.now.lists.now) ends.old.down }
@@ -139,8 +155,9 @@ fn meet_between(
     requires apart { AreApart (numbers_met sight.now.heads.now ends.old.up.walk) (numbers_met sight.now.heads.now ends.old.down.walk) }
     ensures up { IsOver sight.now.heads.now (length sight.now.lists.now) ends.new.up }
     ensures down { IsOver sight.now.heads.now (length sight.now.lists.now) ends.new.down }
-    ensures together { IfSome result (λ met. IsTrue met → LeadTogether (patches_of sight.now.heads.now) (level_of sight.now.levels.now.ranks) (needs_of sight.now.needs.now.lists) most least ends.old.up.crossed.items ends.old.down.crossed.items (numbers_met sight.now.heads.now ends.old.up.walk) (numbers_met sight.now.heads.now ends.old.down.walk)) }
-    ensures apart { IfSome result (λ met. met ≡ false → EndApart (patches_of sight.now.heads.now) (level_of sight.now.levels.now.ranks) (needs_of sight.now.needs.now.lists) most least ends.old.up.crossed.items ends.old.down.crossed.items (numbers_met sight.now.heads.now ends.old.up.walk) (numbers_met sight.now.heads.now ends.old.down.walk) (numbers_met sight.now.heads.now ends.new.up.walk) (numbers_met sight.now.heads.now ends.new.down.walk)) }
+    ensures together { IfSome result (λ met. IfSome met (λ slot. (n : ℕ) × HasSlot sight.now.heads.now n slot × LeadTogether (patches_of sight.now.heads.now) (level_of sight.now.levels.now.ranks) (needs_of sight.now.needs.now.lists) most least ends.old.up.crossed.items ends.old.down.crossed.items (numbers_met sight.now.heads.now ends.old.up.walk) (numbers_met sight.now.heads.now ends.old.down.walk) n)) }
+    ensures visited { Visited sight.now.heads.now ends.new.up.walk }
+    ensures apart { IfSome result (λ met. IfNone met (EndApart (patches_of sight.now.heads.now) (level_of sight.now.levels.now.ranks) (needs_of sight.now.needs.now.lists) most least ends.old.up.crossed.items ends.old.down.crossed.items (numbers_met sight.now.heads.now ends.old.up.walk) (numbers_met sight.now.heads.now ends.old.down.walk) (numbers_met sight.now.heads.now ends.new.up.walk) (numbers_met sight.now.heads.now ends.new.down.walk))) }
     ensures decided { IfNone result (limit < 18446744073709551615) }
 {
     let mut looked = Looked { up: 0, down: 0 };
@@ -152,25 +169,28 @@ fn meet_between(
             return None;
         }
         if looked.up <= looked.down {
-            if turn_up(sight, ends, up_at, most, &mut looked) {
-                return Some(true);
+            let met = turn_up(sight, ends, up_at, most, &mut looked);
+            if met.is_some() {
+                return Some(met);
             }
             up_at += 1;
         } else {
-            let met = ends.down.walk.len();
-            let last = turn_from_end(deep, down_at, met);
-            if turn_down(sight, ends, last, least, &mut looked) {
-                return Some(true);
+            let before = ends.down.walk.len();
+            let last = turn_from_end(deep, down_at, before);
+            let met = turn_down(sight, ends, last, least, &mut looked);
+            if met.is_some() {
+                return Some(met);
             }
             let now = ends.down.walk.len();
-            deep = if met < now { now } else { last };
-            if turn_down(sight, ends, down_at, least, &mut looked) {
-                return Some(true);
+            deep = if before < now { now } else { last };
+            let met = turn_down(sight, ends, down_at, least, &mut looked);
+            if met.is_some() {
+                return Some(met);
             }
             down_at += 1;
         }
     }
-    Some(false)
+    Some(None)
 }
 
 // How many patches both walks may look at, once so many below the row were: where those are all, to begin anew would only
@@ -190,12 +210,12 @@ fn grade_within(
     block: u32,
     row: &[u32],
     limit: usize,
-) -> Option<Grade>
+) -> Option<Graded>
     requires sees { Sees sight.now }
     requires up { IsOver sight.now.heads.now (length sight.now.lists.now) ends.old.up }
     requires down { IsOver sight.now.heads.now (length sight.now.lists.now) ends.old.down }
     requires block { block < length sight.now.lists.now }
-    ensures graded { IfSome result (λ grade. FollowsRule grade (LeadsNowhere (patches_of sight.now.heads.now) block row.now)) }
+    ensures told { IfSome result (IsTold (patches_of sight.now.heads.now) block row.now (LeadsNowhere (patches_of sight.now.heads.now) block row.now)) }
     ensures decided { IfNone result (limit < 18446744073709551615) }
     ensures up { IsOver sight.now.heads.now (length sight.now.lists.now) ends.new.up }
     ensures down { IsOver sight.now.heads.now (length sight.now.lists.now) ends.new.down }
@@ -203,7 +223,7 @@ fn grade_within(
     ends.down.cross_only(block);
     let looked = visit_first_away(sight.heads, &mut ends.down.walk, block, row, limit);
     if looked <= limit && ends.down.walk.len() == 0 {
-        return Some(Grade::Hard);
+        return Some(hard());
     }
     // No way up falls, so none to what is met now goes through what is higher, nor through what is lower than the floor.
     let most = highest(sight, &ends.down.walk);
@@ -212,33 +232,29 @@ fn grade_within(
     ends.up.walk.clear();
     visit_low_changes(sight, &mut ends.up.walk, block, most);
     let budget = budget(looked, limit);
-    if meet_between(sight, ends, most, least, budget)? {
-        return Some(Grade::Soft);
+    if let Some(slot) = meet_between(sight, ends, most, least, budget)? {
+        return Some(soft(trace(sight, &ends.up.walk, slot, block)));
     }
-    if looked <= limit {
-        Some(Grade::Hard)
-    } else {
-        None
-    }
+    if looked <= limit { Some(hard()) } else { None }
 }
 
 /// What keeps a new change of the block with that row soft but for open gates: it is soft where a way leads from the row
 /// back to the block, else hard. What was met and crossed before does not matter. A few patches are looked at first: where
 /// the change comes after thousands, it mostly leads back from some of them.
-pub fn grade_between(sight: &Sight<'_>, ends: &mut Ends, block: u32, row: &[u32]) -> Grade
+pub fn grade_between(sight: &Sight<'_>, ends: &mut Ends, block: u32, row: &[u32]) -> Graded
     requires sees { Sees sight.now }
     requires up { IsOver sight.now.heads.now (length sight.now.lists.now) ends.old.up }
     requires down { IsOver sight.now.heads.now (length sight.now.lists.now) ends.old.down }
     requires block { block < length sight.now.lists.now }
-    ensures graded { FollowsRule result (LeadsNowhere (patches_of sight.now.heads.now) block row.now) }
+    ensures told { IsTold (patches_of sight.now.heads.now) block row.now (LeadsNowhere (patches_of sight.now.heads.now) block row.now) result }
     ensures up { IsOver sight.now.heads.now (length sight.now.lists.now) ends.new.up }
     ensures down { IsOver sight.now.heads.now (length sight.now.lists.now) ends.new.down }
 {
-    if let Some(grade) = grade_within(sight, ends, block, row, FEW) {
-        return grade;
+    if let Some(told) = grade_within(sight, ends, block, row, FEW) {
+        return told;
     }
-    let Some(grade) = grade_within(sight, ends, block, row, usize::MAX) else {
+    let Some(told) = grade_within(sight, ends, block, row, usize::MAX) else {
         unreachable!();
     };
-    grade
+    told
 }

@@ -5,7 +5,7 @@
 //! (`shortcuts`), or their levels do (`levels`): each patch has one and each block a floor, so that no way down rises,
 //! and what lies below the floor of a block leads nowhere. Or their ancestors tell (`ancestors`): each patch keeps two
 //! that it depends on, a near one and a far one. Or it is known already (`known`): of a soft change of the block a way
-//! back stays until a write lands, so that a change over it is soft too; and one after the same as an earlier change of the
+//! back stays until its end is on disk, so that a change over it is soft too; and one after the same as an earlier change of the
 //! block is graded as that was (`before`). Else a way back is looked for down alone for a while (`below`), then from both
 //! ends at once (`both_ends`): up from the changes of the block (`way_up`), and down (`way_down`) from the first changes of other
 //! blocks at or below what the new change depends on (`first_away`), which goes on from a block to what its hard changes
@@ -37,6 +37,7 @@ pub mod descent;
 pub mod ends;
 pub mod first_away;
 pub mod grade;
+pub mod graded;
 pub mod known;
 pub mod levels;
 pub mod lift;
@@ -46,6 +47,7 @@ pub mod overlap_cycle;
 pub mod shortcuts;
 pub mod sight;
 pub mod starts;
+pub mod trace;
 pub mod walk;
 pub mod way_down;
 pub mod way_up;

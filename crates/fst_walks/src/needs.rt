@@ -1,24 +1,22 @@
 //! What blocks need: where a walk down goes on when it crosses a block. Of each block the numbers are kept of what its hard
 //! changes in memory directly depend on, but of the hard changes of one block one for all, since they are written together.
-//! So a walk looks at each block that the block needs once, and not at each of its changes. Beside that the soft changes are
-//! kept from which a way was seen to lead back to their block, until a write lands: a way stays while patches come to be and
-//! to depend on more, gates are sealed and blocks launched, and a new change over such a change of its block is soft too.
+//! So a walk looks at each block that the block needs once, and not at each of its changes. Beside that the ways are kept that
+//! were seen to lead from a soft change back to its block, each with its end. What is on a way waits for its end, so that it
+//! stays there until that is on disk, and a new change over such a change of its block is soft too.
 
-ghost use Rattle.std.specs.Prelude.{◌≡◌, ◌≢◌, ◌≤◌, ◌<◌, ◌+◌, ◌∷◌, [], ℕ, IsTrue, length, map, Contains, IfOk, OnOk};
-ghost use Rattle.fst_types.specs.Closure.{IsAcyclic};
-ghost use Rattle.fst_types.specs.Dependencies.{DirectlyOn};
-ghost use Rattle.fst_types.specs.Facts.{IsOnDiskWithAll};
+ghost use Rattle.std.specs.Prelude.{◌≡◌, ◌≢◌, ◌≤◌, ◌<◌, ◌+◌, ◌∷◌, [], ℕ, IsTrue, length, map, Contains, IfOk, IfSome, OnOk};
 ghost use Rattle.fst_types.specs.declared.grade.Grade.TheVariants as grade;
 ghost use Rattle.fst_heads.specs.Grading.{IsHardNumber};
 ghost use Rattle.fst_heads.specs.Heads.{IsRising, patches_of};
-ghost use Rattle.fst_heads.specs.Nodes.{nodes_of, AreSettled};
 ghost use Rattle.fst_walks.specs.declared.needs.Need.{Need};
-ghost use Rattle.fst_walks.specs.Needing.{IsNeeding, IsNoted, IsPut, IsStoodFor, needs_of};
+ghost use Rattle.fst_walks.specs.declared.needs.Way.{Way};
+ghost use Rattle.fst_walks.specs.Needing.{IsKnown, IsNeeding, IsNoted, IsPut, IsStoodFor, needs_of};
 
-use crate::shortcuts::{is_found, is_hard_in, is_hard_number, waits_for_gate};
+use crate::shortcuts::{is_hard_in, is_hard_number};
 use fst_heads::head::{Head, Kind};
 use fst_heads::marks::slot_of;
 use fst_heads::places::block_of;
+use fst_heads::row::is_live_number;
 use fst_types::Grade;
 use std::alloc::{AllocError, Global};
 use std::marker::Model;
@@ -30,14 +28,21 @@ pub struct Need {
     pub of: Option<u32>,
 }
 
-/// What each block needs. Of one block there is room for so many more. `ways` has, as they rise, the soft changes from which a
-/// way leads back. It takes a list for each block, 12 bytes for each need and 4 for each way.
+/// A way back, from the soft change with the number to the change of its block at its end.
+#[derive(Clone, Copy)]
+pub struct Way {
+    pub number: u32,
+    pub end: u32,
+}
+
+/// What each block needs. Of one block there is room for so many more. `ways` has the known ways, as the numbers of their changes
+/// rise. It takes a list for each block, 12 bytes for each need and 8 for each way.
 #[derive(Drop)]
 pub struct Needs {
     lists: Vec<Vec<Need>>,
     block: u32,
     room: usize,
-    ways: Vec<u32>,
+    ways: Vec<Way>,
 }
 
 impl Model for Needs {
@@ -86,7 +91,8 @@ fn is_stood_for(heads: &[Head], needs: &[Need], block: u32, number: u32) -> bool
 impl Needs {
     /// Of no head no block needs anything.
     pub fn new(alloc: Global, blocks: u32) -> Result<Needs, AllocError>
-        ensures { IfOk result (IsNeeding [] blocks) }
+        ensures needing { IfOk result (IsNeeding [] blocks) }
+        ensures ways { IfOk result (λ n. n.ways ≡ []) }
     {
         let mut lists = Vec::with_capacity(alloc, blocks as usize)?;
         for _ in 0..blocks {
@@ -108,18 +114,35 @@ impl Needs {
         self.lists[block as usize].as_slice()
     }
 
-    /// Room for so many more of the block, and where there is memory for one way more.
-    pub fn reserve(&mut self, block: u32, more: usize) -> Result<(), AllocError>
-        requires { block < length self.old.lists }
+    // Room for one way more, if there is memory. Where none is left, ways whose end is on disk are dropped, and room is made for
+    // as many again as then are kept, so that these are looked at seldom.
+    fn reserve_way(&mut self, heads: &[Head])
+        requires { IsRising heads.now }
         ensures lists { self.new.lists ≡ self.old.lists }
-        ensures ways { self.new.ways ≡ self.old.ways }
+        ensures block { self.new.block ≡ self.old.block }
+        ensures room { self.new.room ≡ self.old.room }
+        ensures ways { (w : Way) → Contains self.new.ways w → Contains self.old.ways w }
+    {
+        if self.ways.len() < self.ways.capacity() {
+            return;
+        }
+        self.ways.retain(|way| is_live_number(heads, way.end));
+        // Where there is no room for a way it is not kept.
+        let _ = self.ways.reserve(self.ways.len() + 1);
+    }
+
+    /// Room for so many more of the block, and where there is memory for one way more.
+    pub fn reserve(&mut self, heads: &[Head], block: u32, more: usize) -> Result<(), AllocError>
+        requires rising { IsRising heads.now }
+        requires block { block < length self.old.lists }
+        ensures lists { self.new.lists ≡ self.old.lists }
+        ensures ways { (w : Way) → Contains self.new.ways w → Contains self.old.ways w }
         ensures room { OnOk result ((self.new.block ≡ block) × (self.new.room ≡ more)) }
     {
         self.lists[block as usize].reserve(more)?;
         self.block = block;
         self.room = more;
-        // Where there is no room for a way it is not kept.
-        let _ = self.ways.reserve(1);
+        self.reserve_way(heads);
         Ok(())
     }
 
@@ -156,40 +179,46 @@ impl Needs {
         }
     }
 
-    /// A new change with that row and grade, which is the newest patch. Where it is soft and waits for no open gate a way leads
-    /// back from it, which is kept if there is room.
-    pub fn note(&mut self, heads: &[Head], row: &[u32], grade: Grade, number: u32)
-        requires rising { IsRising heads.now }
-        requires acyclic { IsAcyclic (DirectlyOn (patches_of heads.now)) }
-        requires disk { IsOnDiskWithAll (patches_of heads.now) }
-        requires settled { (blocks : ℕ) × AreSettled (nodes_of heads.now) blocks }
+    /// From a new change, which is the newest patch, a way leads back to that end, if one is told. It is kept if there is room.
+    pub fn note(&mut self, number: u32, end: Option<u32>)
         ensures lists { self.new.lists ≡ self.old.lists }
-        ensures noted { IsNoted (patches_of heads.now) number row.now grade self.old.ways self.new.ways }
+        ensures noted { IsNoted number end self.old.ways self.new.ways }
     {
-        match grade {
-            Grade::Hard => {}
-            Grade::Soft => {
-                if self.ways.len() < self.ways.capacity() && !waits_for_gate(heads, row) {
-                    self.ways.push_reserved(number);
-                }
+        if let Some(end) = end {
+            if self.ways.len() < self.ways.capacity() {
+                self.ways.push_reserved(Way { number, end });
             }
         }
     }
 
-    /// Whether it is kept that a way leads back from the change with the number. It looks at no more than the logarithm of
+    /// The end of the way that is known to lead back from the change with the number. It looks at no more than the logarithm of
     /// how many there are.
-    pub fn has_way_back(&self, number: u32) -> bool
-        ensures { IsTrue result → Contains self.now.ways number }
+    pub fn way_back(&self, number: u32) -> Option<u32>
+        ensures { IfSome result (IsKnown self.now.ways number) }
     {
-        is_found(&self.ways, number)
+        match self.ways.binary_search_by_key(&number, |way| way.number) {
+            Ok(at) => {
+                let way = self.ways[at];
+                if way.number == number {
+                    Some(way.end)
+                } else {
+                    None
+                }
+            }
+            Err(_) => None,
+        }
     }
 
-    /// A write landed, so that ways may be gone.
-    pub fn forget_ways(&mut self)
+    /// A write of the block landed. No way leads over the block but where its hard changes need something: else none is kept.
+    pub fn land(&mut self, block: u32)
         ensures lists { self.new.lists ≡ self.old.lists }
-        ensures ways { self.new.ways ≡ [] }
+        ensures ways { (w : Way) → Contains self.new.ways w → Contains self.old.ways w × (needs_of self.old.lists block ≡ []) }
     {
-        self.ways.clear();
+        if let Some(list) = self.lists.get(block as usize) {
+            if !list.is_empty() {
+                self.ways.clear();
+            }
+        }
     }
 
     /// Nothing of the block is hard and in memory any more.

@@ -13,8 +13,9 @@ ghost use Rattle.fst_heads.specs.declared.test.Test.TheVariants as test;
 ghost use Rattle.fst_heads.specs.Heads.{IsRising, kind_of, patch_of, patches_of};
 ghost use Rattle.fst_heads.specs.Marks.{PassesAt};
 ghost use Rattle.fst_heads.specs.Tests.{is_hard_kind};
-ghost use Rattle.fst_heads.specs.Grading.{HasUnder, IsReturning, IsHardNumber, LeadsNowhere};
+ghost use Rattle.fst_heads.specs.Grading.{HasUnder, IsHardNumber, LeadsNowhere};
 ghost use Rattle.fst_walks.specs.Sights.{Sees};
+ghost use Rattle.fst_walks.specs.WayBack.{LeadsBack};
 ghost use Rattle.fst_heads.specs.Nodes.{nodes_of, AreSettled};
 
 use crate::sight::Sight;
@@ -174,17 +175,17 @@ pub fn newest_few(row: &[u32], most: usize) -> &[u32]
     &row[row.len().saturating_sub(most)..]
 }
 
-// Whether one of the row is a change of the block that is not on disk.
-fn has_change(heads: &[Head], block: u32, row: &[u32]) -> bool
+// The newest of the row that is a change of the block and not on disk.
+fn newest_change(heads: &[Head], block: u32, row: &[u32]) -> Option<u32>
     requires { IsRising heads.now }
-    ensures { IsTrue result → (q : ℕ) × Contains row.now q × PassesAt (test.LiveOn block) (patches_of heads.now) q }
+    ensures { IfSome result (λ q. Contains row.now q × PassesAt (test.LiveOn block) (patches_of heads.now) q) }
 {
-    for number in row {
+    for number in row.iter().rev() {
         if passes_at(heads, Test::LiveOn(block), *number) {
-            return true;
+            return Some(*number);
         }
     }
-    false
+    None
 }
 
 /// Whether all changes of the block are on disk. Nothing leads back to the block then, so a change of it is hard but for
@@ -198,37 +199,35 @@ pub fn is_clean(sight: &Sight<'_>, block: u32) -> bool
     list.is_empty()
 }
 
-/// Whether the chain from the newest of the row to the newest that it depends on, and so on, comes over a change of another
-/// block back to one of the block, or to a patch that directly depends on one, none being on disk, within a few steps. A
-/// change of the block with that row is soft. Where it does not, another way may lead there. It ends below the floor of the
-/// block, where nothing leads back.
-pub fn comes_back_soon(sight: &Sight<'_>, block: u32, row: &[u32]) -> bool
+/// The change of the block to which the chain from the newest of the row to the newest that it depends on, and so on, comes back
+/// over a change of another block within a few steps, or on which a patch of the chain directly depends, none being on disk. A
+/// change of the block with that row is soft. Where there is none, another way may lead there. The chain ends below the floor of
+/// the block, where nothing leads back.
+pub fn comes_back_soon(sight: &Sight<'_>, block: u32, row: &[u32]) -> Option<u32>
     requires sees { Sees sight.now }
     requires block { block < length sight.now.lists.now }
-    ensures { IsTrue result → HasUnder (patches_of sight.now.heads.now) row.now (IsReturning (patches_of sight.now.heads.now) block) }
+    ensures { IfSome result (LeadsBack (patches_of sight.now.heads.now) block row.now) }
 {
     let heads = sight.heads;
     let floor = sight.levels.floor(block);
     let mut next = newest(row);
     let mut away = false;
     for _ in 0..STEPS {
-        let Some(number) = next else {
-            return false;
-        };
+        let number = next?;
         if sight.levels.of(heads, number) < floor {
-            return false;
+            return None;
         }
         away = away || passes_at(heads, Test::LiveOff(block), number);
         let below = row_below(heads, number);
         if away {
-            let few = newest_few(below, WIDTH);
-            if has_change(heads, block, few) {
-                return true;
+            let end = newest_change(heads, block, newest_few(below, WIDTH));
+            if end.is_some() {
+                return end;
             }
         }
         next = newest(below);
     }
-    false
+    None
 }
 
 /// Whether each of the row is a hard change of the block in memory, or lower than the floor of the block. A change of the

@@ -55,7 +55,7 @@ impl Sparse {
         else {
             return Err(Fault::Memory);
         };
-        let made = (PatchNo(self.numbers + 1), prepared.grade);
+        let made = (PatchNo(self.numbers + 1), prepared.told.grade);
         let Ok(()) = self.make_room(prepared) else {
             return Err(Fault::Memory);
         };

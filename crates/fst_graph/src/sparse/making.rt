@@ -101,7 +101,7 @@ impl Sparse {
         let Ok(prepared) = prepare(self.alloc, &sight, &mut self.ends, block.0, span, after) else {
             return Err(Fault::Memory);
         };
-        let made = (PatchNo(self.numbers + 1), prepared.grade);
+        let made = (PatchNo(self.numbers + 1), prepared.told.grade);
         let Ok(()) = self.make_room(prepared) else {
             return Err(Fault::Memory);
         };
@@ -130,7 +130,7 @@ impl Sparse {
         };
         let gates = prepared.gates;
         let number = self.numbers + 1;
-        let grade = prepared.grade;
+        let grade = prepared.told.grade;
         let span = prepared.span;
         let block = prepared.block;
         let kind = Kind::Change(block, span, grade);
@@ -153,7 +153,7 @@ impl Sparse {
         self.levels
             .lift(&self.heads, &self.ends.up.walk, block, rise);
         self.needs.put(&self.heads, row, grade);
-        self.needs.note(&self.heads, row, grade, number);
+        self.needs.note(number, prepared.told.end);
         let rank = Rank {
             number,
             level: rise.level,

@@ -63,7 +63,7 @@ impl Sparse {
             return Err(given_up(prepared));
         }
         let row = prepared.dependencies.as_slice();
-        if self.needs.reserve(block, row.len()).is_err() {
+        if self.needs.reserve(&self.heads, block, row.len()).is_err() {
             return Err(given_up(prepared));
         }
         keep(&mut self.prepared, prepared);

@@ -1,9 +1,10 @@
 use Rattle.std.proofs.Common.{Bor, List, sym, ap, subst, arith}
 use Rattle.std.proofs.lemmas.Grind.{common_steps}
-use Rattle.fst_types.specs.{Grades.FollowsRule, declared.number.PatchNo.PatchNo}
+use Rattle.fst_types.specs.{declared.number.PatchNo.PatchNo}
 use Rattle.fst_heads.specs.{Grading.MayBeHard, Heads.patches_of, Lists.entries_of, Names.numbers_of}
 use Rattle.fst_heads.proofs.Listing.{listed_at}
-use Rattle.fst_graph.proofs.MemberReady.{IsAfter, rests, waits, told_open, member_row, member_rule}
+use Rattle.fst_walks.specs.Telling.{IsTold}
+use Rattle.fst_graph.proofs.MemberReady.{IsAfter, rests, waits, told_open, member_row, member_told}
 use Rattle.fst_graph.proofs.member.prepare_member.Goals.{then-is_some+then-rests, else-is_some, else-is_some-via-then-is_some+else-rests, else-is_some-via-else-is_some}
 use Rattle.fst_graph.proofs.member.prepare_member.Goals as goal
 
@@ -30,11 +31,11 @@ returns-clause-depends c =
     ] in
     member_row patches c.requires.lawful.0 c.requires.lawful.1 head c.args.block c.in_ok-dependencies.dependencies.items c.args.span.at c.args.span.len after is c.in_ok-dependencies.ensures
 
-pub returns-clause-graded : goal.returns-clause-graded
-returns-clause-graded c =
+pub returns-clause-told : goal.returns-clause-told
+returns-clause-told c =
     let patches = patches_of c.args.sight.now.heads.now in
-    member_rule patches c.requires.lawful.0 c.requires.lawful.1 c.args.gates.head c.args.block c.in_ok-dependencies.dependencies.items c.grade_of-grade.result c.if_open-opened.result c.if_open-opened.ensures.some c.if_open-opened.ensures.none
-    (subst (λ r. FollowsRule c.grade_of-grade.result (MayBeHard patches c.if_open-opened.result c.args.block r)) c.as_slice-row.ensures c.grade_of-grade.ensures.graded)
+    member_told patches c.requires.lawful.0 c.requires.lawful.1 c.args.gates.head c.args.block c.in_ok-dependencies.dependencies.items c.grade_of-told.result c.if_open-opened.result c.if_open-opened.ensures.some c.if_open-opened.ensures.none
+    (subst (λ r. IsTold patches c.args.block r (MayBeHard patches c.if_open-opened.result c.args.block r) c.grade_of-told.result) c.as_slice-row.ensures c.grade_of-told.ensures.told)
 
 pub returns-clause-names : goal.returns-clause-names
 returns-clause-names c = grind (arith, common_steps)

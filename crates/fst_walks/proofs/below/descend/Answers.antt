@@ -1,9 +1,9 @@
-use Rattle.std.proofs.Common.{◌<◌, ◌+◌, length, refl, arith}
+use Rattle.std.proofs.Common.{◌<◌, ◌+◌, ◌∙◌, length, sym, arith}
 use Rattle.std.proofs.lemmas.Grind.{common_steps}
-use Rattle.std.proofs.lemmas.Bool.{false≢true}
+use Rattle.std.proofs.lemmas.Option.{IfSome_then}
 use Rattle.fst_heads.specs.Heads.{patches_of}
 use Rattle.fst_walks.specs.{BothEnds.{IsHighNeed, StepsHigh}, Leveling.level_of, Needing.needs_of, Walks.numbers_met}
-use Rattle.fst_walks.proofs.{Ascended.{Walking, climbing_all}, Stepping.high_step, Visiting.long_met}
+use Rattle.fst_walks.proofs.{Ascended.{Walking, climbing_all}, Stepping.high_step, Visiting.{long_met, none_told}}
 use Rattle.fst_walks.proofs.below.descend.Goals.{After-turn-met}
 use Rattle.fst_walks.proofs.below.descend.Goals as goal
 
@@ -17,36 +17,29 @@ descends c =
     let inside : c.loop-at.at < length (numbers_met heads down.walk) = omega (arith, c.loop-at-test.true, c.len.ensures.long, long_met heads down.walk) in
     high_step (patches_of heads) (level_of c.args.sight.now.levels.now.ranks) c.args.least (needs_of c.args.sight.now.needs.now.lists) start.crossed.items (numbers_met heads start.walk) c.loop-at.at down.crossed.items c.turn-met.new.down.crossed.items (numbers_met heads down.walk) (numbers_met heads c.turn-met.new.down.walk) inside c.loop-at.invariant.descends c.turn-met.ensures.visits c.turn-met.ensures.crossed
 
-pub returns-then-met-clause-met : goal.returns-then-met-clause-met
-returns-then-met-clause-met c = (
-  λ e.
-      let met = c.turn-met.ensures.met c.if-met.true in
-      let walked = descends (goal.at.returns-then-met-clause-met c).After-turn-met in
-      record { at = met.0; under = walked.climbing.only met.0 met.1; change = met.2 },
-  λ x. refl,
-)
+pub returns-then-is_some-clause-met : goal.returns-then-is_some-clause-met
+returns-then-is_some-clause-met c =
+    let walked = descends (goal.at.returns-then-is_some-clause-met c).After-turn-met in
+    IfSome_then c.turn-met.result.0 c.turn-met.ensures.met (λ n met. record { under = walked.climbing.only n met.0; change = met.1 })
 
 pub loop-at-preserved : goal.loop-at-preserved
 loop-at-preserved c = record {
   down = c.turn-met.ensures.down;
   visited = c.turn-met.ensures.visited;
-  away = c.turn-met.ensures.away c.if-met.false;
+  away = none_told c.turn-met.result.0 c.turn-met.ensures.away (sym c.is_some.ensures ∙ c.if-is_some.false);
   descends = descends (goal.at.loop-at-preserved c).After-turn-met;
   few = omega (arith, c.loop-at-test.true, c.len.ensures.few, c.loop-at.invariant.down.long);
 }
 
 -- the walk is at its end
-pub returns-clause-met : goal.returns-clause-met
-returns-clause-met c = (
-  λ e. absurd (false≢true e),
-  λ x.
-      let sight = c.args.sight.now in
-      let heads = sight.heads.now in
-      let start = c.args.down.now in
-      let met = numbers_met heads c.loop-at.down.walk in
-      let all = climbing_all (StepsHigh (patches_of heads) (level_of sight.levels.now.ranks) c.args.least (needs_of sight.needs.now.lists) start.crossed.items) (numbers_met heads start.walk) c.loop-at.at met (omega (arith, c.loop-at-test.false, c.len.ensures.long, long_met heads c.loop-at.down.walk)) c.loop-at.invariant.descends.climbing x.at in
-      absurd (c.loop-at.invariant.away x.at (all.1 x.under) x.change),
-)
+pub returns-clause-none : goal.returns-clause-none
+returns-clause-none c n x =
+    let sight = c.args.sight.now in
+    let heads = sight.heads.now in
+    let start = c.args.down.now in
+    let met = numbers_met heads c.loop-at.down.walk in
+    let all = climbing_all (StepsHigh (patches_of heads) (level_of sight.levels.now.ranks) c.args.least (needs_of sight.needs.now.lists) start.crossed.items) (numbers_met heads start.walk) c.loop-at.at met (omega (arith, c.loop-at-test.false, c.len.ensures.long, long_met heads c.loop-at.down.walk)) c.loop-at.invariant.descends.climbing n in
+    c.loop-at.invariant.away n (all.1 x.under) x.change
 
 pub returns-then-looked-left-clause-met : goal.returns-then-looked-left-clause-met
 returns-then-looked-left-clause-met c = grind (arith, common_steps)

@@ -1,9 +1,9 @@
 use Rattle.std.proofs.Common.{◌∙◌, sym, arith}
-use Rattle.std.proofs.lemmas.Bool.{false≢true}
-use Rattle.fst_heads.specs.Heads.{patches_of}
+use Rattle.std.proofs.lemmas.Option.{IfSome_then}
+use Rattle.fst_heads.specs.{Grading.LeadsNowhere, Heads.patches_of}
 use Rattle.fst_heads.proofs.Listing.{rising_patches}
 use Rattle.fst_walks.specs.{Leveling.{floor_of, level_of}, Needing.needs_of, Walks.numbers_met}
-use Rattle.fst_walks.proofs.Meeting.{comes_hard, comes_soft, off_not_on}
+use Rattle.fst_walks.proofs.{ComesBack.off_not_on, Meeting.{comes_back, comes_hard}, Told.{told_back, told_hard}, Visiting.none_told}
 use Rattle.fst_walks.proofs.below.grade_below.Goals as goal
 
 pub descend-requires-clause-away : goal.descend-requires-clause-away
@@ -11,23 +11,27 @@ descend-requires-clause-away c n top x =
     let heads = c.args.sight.now.heads.now in
     off_not_on (patches_of heads) (rising_patches heads c.requires.sees.rising) c.args.block n (c.visit_first_away-looked.ensures.only n top).away x
 
-pub returns-then-branch-clause-graded : goal.returns-then-branch-clause-graded
-returns-then-branch-clause-graded c =
+pub returns-then-is_some-clause-told : goal.returns-then-is_some-clause-told
+returns-then-is_some-clause-told c =
     let sight = c.args.sight.now in
+    let heads = sight.heads.now in
     let sees = c.requires.sees in
     let crossed = c.cross_only.new.self.crossed.items in
     let shown = c.cross_only.ensures.shown in
-    comes_soft sight.heads.now sees.rising sees.disk sees.hard sees.flights (level_of sight.levels.now.ranks) (floor_of sight.levels.now.floors) sees.leveled.leveled (needs_of sight.needs.now.lists) sees.needing.needed
+    told_back (patches_of heads) (rising_patches heads sees.rising) sees.disk c.args.block c.args.row.now c.soft.result c.in_ok-met.met c.soft.ensures.grade c.soft.ensures.end (sym c.is_some.ensures ∙ c.if-is_some.true)
+    (IfSome_then c.in_ok-met.met c.in_ok-met.ensures.met (comes_back heads sees.rising sees.disk sees.hard sees.flights (level_of sight.levels.now.ranks) (floor_of sight.levels.now.floors) sees.leveled.leveled (needs_of sight.needs.now.lists) sees.needing.needed
     c.args.block c.floor-least.result (omega (arith, c.floor-least.ensures)) c.args.row.now crossed crossed shown shown
-    (numbers_met sight.heads.now c.visit_first_away-looked.new.walk) c.visit_first_away-looked.ensures.only (c.in_ok-descend.ensures.met.0 c.if-branch.true)
+    (numbers_met heads c.visit_first_away-looked.new.walk) c.visit_first_away-looked.ensures.only))
 
-pub returns-then-looked-few-clause-graded : goal.returns-then-looked-few-clause-graded
-returns-then-looked-few-clause-graded c =
+pub returns-then-looked-few-clause-told : goal.returns-then-looked-few-clause-told
+returns-then-looked-few-clause-told c =
     let sight = c.args.sight.now in
+    let heads = sight.heads.now in
     let sees = c.requires.sees in
     let crossed = c.cross_only.new.self.crossed.items in
     let shown = c.cross_only.ensures.shown in
-    comes_hard sight.heads.now sees.rising sees.disk sees.hard sees.flights (level_of sight.levels.now.ranks) (floor_of sight.levels.now.floors) sees.leveled.leveled (needs_of sight.needs.now.lists) sees.needing.needed
+    told_hard (patches_of heads) c.args.block c.args.row.now (LeadsNowhere (patches_of heads) c.args.block c.args.row.now) c.hard.result c.hard.ensures.grade c.hard.ensures.end
+    (comes_hard heads sees.rising sees.disk sees.hard sees.flights (level_of sight.levels.now.ranks) (floor_of sight.levels.now.floors) sees.leveled.leveled (needs_of sight.needs.now.lists) sees.needing.needed
     c.args.block c.floor-least.result (omega (arith, c.floor-least.ensures)) c.args.row.now crossed crossed shown shown
-    (numbers_met sight.heads.now c.visit_first_away-looked.new.walk) c.visit_first_away-looked.ensures.only (c.visit_first_away-looked.ensures.all (omega (arith, c.if-looked-few.true)))
-    (λ x. false≢true (sym c.if-branch.false ∙ c.in_ok-descend.ensures.met.1 x))
+    (numbers_met heads c.visit_first_away-looked.new.walk) c.visit_first_away-looked.ensures.only (c.visit_first_away-looked.ensures.all (omega (arith, c.if-looked-few.true)))
+    (none_told c.in_ok-met.met c.in_ok-met.ensures.none (sym c.is_some.ensures ∙ c.if-is_some.false)))

@@ -1,4 +1,4 @@
-use Rattle.std.proofs.Common.{◌≡◌, ◌<◌, ◌∙◌, true, length, get_or, sym, subst, inl, inr, arith}
+use Rattle.std.proofs.Common.{◌≡◌, ◌<◌, ◌∙◌, true, length, get_or, Contains, ap, sym, subst, inl, inr, arith}
 use Rattle.std.proofs.lemmas.Bool.{cases_eq, false≢true}
 use Rattle.std.proofs.lemmas.List.Elements.{Contains-get_or}
 use Rattle.fst_heads.specs.{Heads.{patch_of, patches_of}, Marks.PassesAt, Tests.passes, declared.head.Head.Head}
@@ -8,7 +8,7 @@ use Rattle.fst_walks.proofs.{NearRow.{here_passes, passes_here}, Visiting.{long_
 use Rattle.fst_walks.proofs.below.meets_change.Goals as goal
 
 pub returns-then-passes-clause-met : goal.returns-then-passes-clause-met
-returns-then-passes-clause-met c e =
+returns-then-passes-clause-met c =
     let heads = c.args.heads.now in
     let walk = c.args.walk.now in
     let at = c.loop-at.at in
@@ -16,11 +16,10 @@ returns-then-passes-clause-met c e =
     let lt : at < length walk.met = omega (arith, c.loop-at-test.true, c.len-at-end.ensures.long) in
     let n = get_or (numbers_met heads walk) at 0 in
     let slot = slot_met heads walk at c.slot.result c.requires.walk lt c.slot.ensures.slot c.slot.ensures.inside in
-    let told : passes (test.LiveOn c.args.block) (patch_of (get_or heads c.slot.result d)) ≡ true = subst (λ (h : Head). passes (test.LiveOn c.args.block) (patch_of h) ≡ true) c.index-heads-slot.is (sym c.passes.ensures ∙ c.if-passes.true) in (
-      n,
-      Contains-get_or (numbers_met heads walk) at 0 (omega (arith, lt, long_met heads walk)),
-      passes_here heads c.requires.rising n c.slot.result d slot (test.LiveOn c.args.block) told,
-    )
+    let told : passes (test.LiveOn c.args.block) (patch_of (get_or heads c.slot.result d)) ≡ true = subst (λ (h : Head). passes (test.LiveOn c.args.block) (patch_of h) ≡ true) c.index-heads-slot.is (sym c.passes.ensures ∙ c.if-passes.true) in
+    let own : d.number ≡ n = ap (λ (h : Head). h.number) c.index-heads-slot.is ∙ slot.1 d in
+    subst (λ m. Contains (numbers_met heads walk) m × PassesAt (test.LiveOn c.args.block) (patches_of heads) m) (sym own)
+    (Contains-get_or (numbers_met heads walk) at 0 (omega (arith, lt, long_met heads walk)), passes_here heads c.requires.rising n c.slot.result d slot (test.LiveOn c.args.block) told)
 
 pub loop-at-preserved : goal.loop-at-preserved
 loop-at-preserved c k past up here =

@@ -1,7 +1,8 @@
-use Rattle.std.proofs.Common.{ℕ, Contains, subst, arith}
-use Rattle.fst_heads.specs.Heads.{patches_of}
+use Rattle.std.proofs.Common.{◌≤◌, ℕ, Contains, subst, arith}
+use Rattle.std.proofs.lemmas.Option.{MatchOption-at_none, MatchOption-at_some}
+use Rattle.fst_heads.specs.{Grading.LeadsNowhere, Heads.patches_of}
 use Rattle.fst_walks.specs.{BothEnds.IsLowChange, Descending.Visits, Leveling.{floor_of, level_of}, Needing.needs_of, Walks.numbers_met}
-use Rattle.fst_walks.proofs.{Meeting.{AreEnds, apart_hard, begin_apart, none_first, together_soft, visited_all}, Visiting.{long_met, none_met}}
+use Rattle.fst_walks.proofs.{Meeting.{AreEnds, apart_hard, begin_apart, none_first, together_live, together_soft, traced_back, visited_all}, Told.{told_hard, told_soft}, Visiting.{long_met, none_met, some_both}}
 use Rattle.fst_walks.proofs.both_ends.grade_within.Goals.{After-visit_low_changes}
 use Rattle.fst_walks.proofs.both_ends.grade_within.Goals as goal
 
@@ -29,24 +30,47 @@ meet_between-requires-clause-apart c =
     begin_apart sight.heads.now sees.rising sees.disk sees.hard sees.flights (level_of sight.levels.now.ranks) (floor_of sight.levels.now.floors) sees.leveled.leveled (needs_of sight.needs.now.lists) sees.needing.needed
     c.highest-most.result c.floor-least.result c.args.block (omega (arith, c.floor-least.ensures)) c.args.row.now _ _ _ _ (starts (goal.at.meet_between-requires-clause-apart c).After-visit_low_changes)
 
-pub returns-then-branch-clause-graded : goal.returns-then-branch-clause-graded
-returns-then-branch-clause-graded c =
+-- the two walks meet at what is not on disk
+pub trace-requires-clause-slot : goal.trace-requires-clause-slot
+trace-requires-clause-slot c =
     let sight = c.args.sight.now in
     let sees = c.requires.sees in
-    together_soft sight.heads.now sees.rising sees.disk sees.hard sees.flights (level_of sight.levels.now.ranks) (floor_of sight.levels.now.floors) sees.leveled.leveled (needs_of sight.needs.now.lists) sees.needing.needed
-    c.highest-most.result c.floor-least.result c.args.block (omega (arith, c.floor-least.ensures)) c.args.row.now _ _ _ _ (starts (goal.at.returns-then-branch-clause-graded c).After-visit_low_changes) (c.in_ok-meet_between.ensures.together c.if-branch.true)
+    let met = MatchOption-at_some _ _ c.in-Some.slot c.in-Some.is c.in_ok-slot.ensures.together in (
+      met.0,
+      met.1,
+      together_live sight.heads.now sees.rising sees.disk sees.hard sees.flights (level_of sight.levels.now.ranks) (floor_of sight.levels.now.floors) sees.leveled.leveled (needs_of sight.needs.now.lists) sees.needing.needed
+          c.highest-most.result c.floor-least.result c.args.block (omega (arith, c.floor-least.ensures)) c.args.row.now _ _ _ _ (starts (goal.at.trace-requires-clause-slot c).After-visit_low_changes) met.0 met.2,
+    )
 
-pub returns-then-looked-limit-2-clause-graded : goal.returns-then-looked-limit-2-clause-graded
-returns-then-looked-limit-2-clause-graded c =
+pub returns-in-Some-clause-told : goal.returns-in-Some-clause-told
+returns-in-Some-clause-told c =
     let sight = c.args.sight.now in
+    let heads = sight.heads.now in
     let sees = c.requires.sees in
-    apart_hard sight.heads.now sees.rising sees.disk sees.hard sees.flights (level_of sight.levels.now.ranks) (floor_of sight.levels.now.floors) sees.leveled.leveled (needs_of sight.needs.now.lists) sees.needing.needed
-    c.highest-most.result c.floor-least.result c.args.block (omega (arith, c.floor-least.ensures)) c.args.row.now _ _ _ _ (starts (goal.at.returns-then-looked-limit-2-clause-graded c).After-visit_low_changes)
-    (c.visit_first_away-looked.ensures.all (omega (arith, c.if-looked-limit-2.true))) (numbers_met sight.heads.now c.meet_between.new.ends.up.walk) (numbers_met sight.heads.now c.meet_between.new.ends.down.walk) (c.in_ok-meet_between.ensures.apart c.if-branch.false)
+    let low : c.floor-least.result ≤ floor_of sight.levels.now.floors c.args.block = omega (arith, c.floor-least.ensures) in
+    let begun = starts (goal.at.returns-in-Some-clause-told c).After-visit_low_changes in
+    let met = MatchOption-at_some _ _ c.in-Some.slot c.in-Some.is c.in_ok-slot.ensures.together in
+    told_soft (patches_of heads) c.args.block c.args.row.now (LeadsNowhere (patches_of heads) c.args.block c.args.row.now) c.soft.result c.trace.result c.soft.ensures.grade c.soft.ensures.end
+    (together_soft heads sees.rising sees.disk sees.hard sees.flights (level_of sight.levels.now.ranks) (floor_of sight.levels.now.floors) sees.leveled.leveled (needs_of sight.needs.now.lists) sees.needing.needed
+    c.highest-most.result c.floor-least.result c.args.block low c.args.row.now _ _ _ _ begun met.0 met.2)
+    (some_both c.trace.result c.trace.ensures.change c.trace.ensures.path (λ end change path. traced_back heads sees.rising sees.disk sees.hard sees.flights (level_of sight.levels.now.ranks) (floor_of sight.levels.now.floors) sees.leveled.leveled (needs_of sight.needs.now.lists) sees.needing.needed
+    c.highest-most.result c.floor-least.result c.args.block low c.args.row.now _ _ _ _ begun met.0 end met.2 change (path met.0 met.1)))
+
+pub returns-then-looked-limit-2-clause-told : goal.returns-then-looked-limit-2-clause-told
+returns-then-looked-limit-2-clause-told c =
+    let sight = c.args.sight.now in
+    let heads = sight.heads.now in
+    let sees = c.requires.sees in
+    told_hard (patches_of heads) c.args.block c.args.row.now (LeadsNowhere (patches_of heads) c.args.block c.args.row.now) c.hard-then-looked-limit-2.result c.hard-then-looked-limit-2.ensures.grade c.hard-then-looked-limit-2.ensures.end
+    (apart_hard heads sees.rising sees.disk sees.hard sees.flights (level_of sight.levels.now.ranks) (floor_of sight.levels.now.floors) sees.leveled.leveled (needs_of sight.needs.now.lists) sees.needing.needed
+    c.highest-most.result c.floor-least.result c.args.block (omega (arith, c.floor-least.ensures)) c.args.row.now _ _ _ _ (starts (goal.at.returns-then-looked-limit-2-clause-told c).After-visit_low_changes)
+    (c.visit_first_away-looked.ensures.all (omega (arith, c.if-looked-limit-2.true))) (numbers_met heads c.meet_between.new.ends.up.walk) (numbers_met heads c.meet_between.new.ends.down.walk) (MatchOption-at_none _ _ c.in_default.is c.in_ok-slot.ensures.apart))
 
 -- there is nothing that could lead back
-pub returns-then-len-eq0-clause-graded : goal.returns-then-len-eq0-clause-graded
-returns-then-len-eq0-clause-graded c =
+pub returns-then-len-eq0-clause-told : goal.returns-then-len-eq0-clause-told
+returns-then-len-eq0-clause-told c =
     let heads = c.args.sight.now.heads.now in
+    let sees = c.requires.sees in
     let none : (n : ℕ) → Contains (numbers_met heads c.visit_first_away-looked.new.walk) n → ⊥ = λ n k. absurd (omega (arith, k.1, long_met heads c.visit_first_away-looked.new.walk, c.len.ensures.long, c.if-len-eq0.true)) in
-    none_first heads c.requires.sees.rising c.requires.sees.disk c.requires.sees.hard c.args.block c.cross_only.new.self.crossed.items c.cross_only.ensures.shown c.args.row.now (λ n f. none n (c.visit_first_away-looked.ensures.all (omega (arith, c.if-looked-limit.true)) n f))
+    told_hard (patches_of heads) c.args.block c.args.row.now (LeadsNowhere (patches_of heads) c.args.block c.args.row.now) c.hard.result c.hard.ensures.grade c.hard.ensures.end
+    (none_first heads sees.rising sees.disk sees.hard c.args.block c.cross_only.new.self.crossed.items c.cross_only.ensures.shown c.args.row.now (λ n f. none n (c.visit_first_away-looked.ensures.all (omega (arith, c.if-looked-limit.true)) n f)))

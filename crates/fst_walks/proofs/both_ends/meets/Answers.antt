@@ -6,16 +6,17 @@ use Rattle.fst_walks.proofs.Visiting.{long_met, slot_met, number_of_met, met_slo
 use Rattle.fst_walks.proofs.both_ends.meets.Goals as goal
 
 pub returns-then-has_met-clause-met : goal.returns-then-has_met-clause-met
-returns-then-has_met-clause-met c e =
+returns-then-has_met-clause-met c =
     let heads = c.args.heads.now in
     let walk = c.args.walk.now in
     let met = numbers_met heads walk in
     let at = c.loop-at.at in
     let lt : at < length walk.met = omega (arith, c.loop-at-test.true, c.len-at-end.ensures.long) in
-    let slot = slot_met heads walk at c.slot.result c.requires.walk lt c.slot.ensures.slot c.slot.ensures.inside in (
+    let slot = slot_met heads walk at c.slot-slot.result c.requires.walk lt c.slot-slot.ensures.slot c.slot-slot.ensures.inside in (
       get_or met at 0,
+      slot,
       Contains-get_or met at 0 (omega (arith, lt, long_met heads walk)),
-      number_of_met heads c.args.other.now (get_or met at 0) c.slot.result slot (c.has_met.ensures.met.0 c.if-has_met.true),
+      number_of_met heads c.args.other.now (get_or met at 0) c.slot-slot.result slot (c.has_met.ensures.met.0 c.if-has_met.true),
     )
 
 pub loop-at-preserved : goal.loop-at-preserved
@@ -26,13 +27,13 @@ loop-at-preserved c k past up here =
     let met = numbers_met heads walk in
     let at = c.loop-at.at in
     let lt : at < length walk.met = omega (arith, c.loop-at-test.true, c.len-at-end.ensures.long) in
-    let slot = slot_met heads walk at c.slot.result c.requires.walk lt c.slot.ensures.slot c.slot.ensures.inside in
+    let slot = slot_met heads walk at c.slot-slot.result c.requires.walk lt c.slot-slot.ensures.slot c.slot-slot.ensures.inside in
     elim (cases_eq k at) [
       | inl same ↦
           let there = subst (λ j. Contains (numbers_met heads other) (get_or met j 0)) same here in
-          false≢true (sym c.if-has_met.false ∙ c.has_met.ensures.met.1 (met_slot heads other c.requires.rising c.requires.other.long c.has_met.ensures.inside (get_or met at 0) c.slot.result slot there))
+          false≢true (sym c.if-has_met.false ∙ c.has_met.ensures.met.1 (met_slot heads other c.requires.rising c.requires.other.long c.has_met.ensures.inside (get_or met at 0) c.slot-slot.result slot there))
       | inr before ↦ c.loop-at.invariant k past (omega (arith, up, before)) here
     ]
 
 pub returns-clause-apart : goal.returns-clause-apart
-returns-clause-apart c e at past inside here = c.loop-at.invariant at past (omega (arith, inside, c.loop-at-test.false, c.len-at-end.ensures.long)) here
+returns-clause-apart c at past inside here = c.loop-at.invariant at past (omega (arith, inside, c.loop-at-test.false, c.len-at-end.ensures.long)) here

@@ -1,19 +1,22 @@
+use Rattle.std.proofs.Common.{Some, refl}
+use Rattle.fst_heads.specs.Heads.{patches_of}
+use Rattle.fst_heads.proofs.Listing.{rising_patches}
+use Rattle.fst_walks.proofs.Told.{told_back}
 use Rattle.fst_walks.proofs.grade.grade_by_ways.Goals as goal
 
-pub returns-then-comes_back_soon-clause-graded : goal.returns-then-comes_back_soon-clause-graded
-returns-then-comes_back_soon-clause-graded c leads = leads.straight (c.comes_back_soon.ensures c.if-comes_back_soon.true)
+pub returns-in-Some-clause-told : goal.returns-in-Some-clause-told
+returns-in-Some-clause-told c =
+    let heads = c.args.sight.now.heads.now in
+    told_back (patches_of heads) (rising_patches heads c.requires.sees.rising) c.requires.sees.disk c.args.block c.args.row.now c.soft.result (Some c.in-Some.end) c.soft.ensures.grade c.soft.ensures.end refl c.in-Some.ensures.back
 
-pub returns-then-leads_to_block-clause-graded : goal.returns-then-leads_to_block-clause-graded
-returns-then-leads_to_block-clause-graded c leads = leads.straight (c.leads_to_block.ensures c.if-leads_to_block.true)
+pub returns-in-Some-leads_to_block-clause-told : goal.returns-in-Some-leads_to_block-clause-told
+returns-in-Some-leads_to_block-clause-told c =
+    let heads = c.args.sight.now.heads.now in
+    let told = c.soft-in-Some-leads_to_block in
+    told_back (patches_of heads) (rising_patches heads c.requires.sees.rising) c.requires.sees.disk c.args.block c.args.row.now told.result (Some c.in-Some-leads_to_block.end) told.ensures.grade told.ensures.end refl c.in-Some-leads_to_block.ensures
 
-pub returns-then-stays_below-clause-graded : goal.returns-then-stays_below-clause-graded
-returns-then-stays_below-clause-graded c = c.stays_below.ensures c.if-stays_below.true
-
-pub returns-then-is_clean-clause-graded : goal.returns-then-is_clean-clause-graded
-returns-then-is_clean-clause-graded c = c.is_clean.ensures c.if-is_clean.true c.args.row.now
-
-pub returns-then-waits_for_own_block-clause-graded : goal.returns-then-waits_for_own_block-clause-graded
-returns-then-waits_for_own_block-clause-graded c = c.waits_for_own_block.ensures c.if-waits_for_own_block.true
-
-pub returns-then-leads_over_known-clause-graded : goal.returns-then-leads_over_known-clause-graded
-returns-then-leads_over_known-clause-graded c = c.leads_over_known.ensures.back c.if-leads_over_known.true
+pub returns-in-Some-comes_back_soon-clause-told : goal.returns-in-Some-comes_back_soon-clause-told
+returns-in-Some-comes_back_soon-clause-told c =
+    let heads = c.args.sight.now.heads.now in
+    let told = c.soft-in-Some-comes_back_soon in
+    told_back (patches_of heads) (rising_patches heads c.requires.sees.rising) c.requires.sees.disk c.args.block c.args.row.now told.result (Some c.in-Some-comes_back_soon.end) told.ensures.grade told.ensures.end refl c.in-Some-comes_back_soon.ensures

@@ -44,7 +44,8 @@ invariant_of-self-2 c =
       covered = rw (left at) (covered_left (patches_of heads) c.self.invariant.keeps.lawful.on_disk_with_all c.self.inside.blocks c.self.inside.covers.items c.self.invariant.covered);
       along = record { marks = c.shrink.ensures.marks.1 ∙ sym c.shrink.ensures.marks.0; places = rw (c.shrink.ensures.crossed.0, c.shrink.ensures.crossed.1) c.self.invariant.along.places };
       leveled = rw (left at) (leveled_as c.forget.ensures.ranks c.forget.ensures.rest.0 (left_is_leveled (patches_of heads) c.self.invariant.keeps.lawful.one_place_each.rising c.self.invariant.keeps.lawful.on_disk_with_all c.self.inside.blocks c.self.inside.levels c.self.invariant.leveled));
-      needing = rw (left at) (needing_left (patches_of heads) c.self.invariant.keeps.lawful.one_place_each.rising c.self.invariant.keeps.lawful.on_disk_with_all c.self.invariant.needing);
+      needing = rw (left at) (needing_left (patches_of heads) c.self.invariant.keeps.lawful.one_place_each.rising c.self.invariant.keeps.lawful.on_disk_with_all kept.lawful.one_place_each.rising kept.lawful.on_disk_with_all c.self.invariant.needing);
+      given = c.self.invariant.given;
       none_below = c.self.invariant.none_below;
       prepared = rw c.let_go.ensures tt;
     }

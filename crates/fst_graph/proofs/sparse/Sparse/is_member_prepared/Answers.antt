@@ -14,6 +14,6 @@ returns-in-Some c =
       λ e.
           let said = c.is_for_group.ensures.0 e in
           let r = ready_member n p c.args.head.0 heads n blocks said.2 ready in
-          (n + 1, p.grade, seen_member n p r.0 heads n blocks r.2 r.1 c.args.head.0 c.args.block.0 c.args.span said),
+          (n + 1, p.told.grade, seen_member n p r.0 heads n blocks r.2 r.1 c.args.head.0 c.args.block.0 c.args.span said),
       λ h. c.is_for_group.ensures.1 (member_seen n p c.args.head.0 c.args.block.0 c.args.span h.0 h.1 h.2),
     )

@@ -106,7 +106,8 @@ invariant_of-self c =
       covered = covered_moved (alike_landed old (patches_of new) n b c.self.invariant.keeps.lawful (cascade at)) kept c.self.invariant.covered;
       along = c.self.invariant.along;
       leveled = leveled_moved (alike_landed old (patches_of new) n b c.self.invariant.keeps.lawful (cascade at)) c.self.invariant.leveled;
-      needing = needing_landed {kept = c.forget_ways.new.self} old (patches_of new) b (cascade at) c.forget_ways.ensures.lists c.forget_ways.ensures.ways c.self.invariant.needing;
+      needing = needing_landed {kept = c.land.new.self} old (patches_of new) n b c.self.invariant.keeps.lawful kept.lawful (cascade at) c.land.ensures.lists c.land.ensures.ways c.self.invariant.needing;
+      given = λ w k. c.self.invariant.given w (let l = c.land.ensures.ways w k in l.0);
       none_below = λ b d lt. absurd (omega (arith, lt));
       prepared = rw c.let_go.ensures tt;
     }

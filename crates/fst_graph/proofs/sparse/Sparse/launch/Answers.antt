@@ -78,7 +78,8 @@ invariant_of-self-2 c =
       covered = rw new (covered_moved (alike_launched (patches_of heads) n b chosen K.lawful W C) kept c.self.invariant.covered);
       along = c.self.invariant.along;
       leveled = rw new (leveled_moved (alike_launched (patches_of heads) n b chosen K.lawful W C) c.self.invariant.leveled);
-      needing = rw new (needing_launched {cleared = c.clear.new.self} (patches_of heads) n b c.in-Some-block_of.block chosen K.lawful W C (here (goal.at.invariant_of-self-2 c).After-index_mut-arg-1) c.clear.ensures.long c.clear.ensures.others c.clear.ensures.cleared c.clear.ensures.ways c.self.invariant.needing);
+      needing = rw new (needing_launched {cleared = c.clear.new.self} (patches_of heads) n b c.in-Some-block_of.block chosen K.lawful kept.lawful W C (here (goal.at.invariant_of-self-2 c).After-index_mut-arg-1) c.clear.ensures.long c.clear.ensures.others c.clear.ensures.cleared c.clear.ensures.ways c.self.invariant.needing);
+      given = rw c.clear.ensures.ways c.self.invariant.given;
       none_below = rw c.launch.ensures (none_below_launched c.self.inside.standings.items c.self.inside.unmarked c.in-Some-block_of.block _ _ c.self.invariant.none_below);
       prepared = rw c.let_go.ensures tt;
     }

@@ -42,6 +42,9 @@ invariant_of-self-then-is_err c = rw c.let_go.ensures (listed_sound (roomier (go
 pub returns-then-is_err-clause-same : goal.returns-then-is_err-clause-same
 returns-then-is_err-clause-same c = rw (← c.self.view_is, c.let_go.ensures, same (goal.at.returns-then-is_err-clause-same c).After-reserve_around) refl
 
+pub reserve-requires-clause-rising : goal.reserve-requires-clause-rising
+reserve-requires-clause-rising c = rw c.deref.ensures.value (rising_sound (roomier (goal.at.reserve-requires-clause-rising c).After-reserve_around))
+
 pub invariant_of-self-then-is_err-2 : goal.invariant_of-self-then-is_err-2
 invariant_of-self-then-is_err-2 c =
     rw c.let_go.ensures (reserved_sound (listed_sound (roomier (goal.at.invariant_of-self-then-is_err-2 c).After-reserve_around) c.reserve_on.ensures.entries c.reserve_on.ensures.covered) c.reserve.ensures.lists c.reserve.ensures.ways)

@@ -47,7 +47,7 @@ make_room-requires-clause-ready c =
     let made = c.in-Ok.ensures in
     let d = (goal.at.make_room-requires-clause-ready c).After-deref in
     member_put c.in-Ok.prepared c.args.gates (patches_of s.heads.items) s.numbers s.blocks made.gates
-    (member_found c.self.invariant.keeps c.args.gates (paired d) c.in-Ok.prepared made.names made.block made.span (inside d) c.deref.ensures.value c.in_default.ensures.clear made.depends made.graded)
+    (member_found c.self.invariant.keeps c.args.gates (paired d) c.in-Ok.prepared made.names made.block made.span (inside d) c.deref.ensures.value c.in_default.ensures.clear made.depends made.told)
 
 pub returns-clause-ok : goal.returns-clause-ok
 returns-clause-ok c =
@@ -56,7 +56,7 @@ returns-clause-ok c =
     let d = (goal.at.returns-clause-ok c).After-deref in
     rw (← c.self.view_is, ← made.block, ← made.span)
     (foretold (record { heads = patches_of s.heads.items; numbers = s.numbers; blocks = s.blocks; groups = []; prepared = None }) s.blocks s.ends.up.walk.marks c.self.invariant.keeps c.args.gates c.in-Ok.prepared
-    (member_found c.self.invariant.keeps c.args.gates (paired d) c.in-Ok.prepared made.names made.block made.span (inside d) c.deref.ensures.value c.in_default.ensures.clear made.depends made.graded))
+    (member_found c.self.invariant.keeps c.args.gates (paired d) c.in-Ok.prepared made.names made.block made.span (inside d) c.deref.ensures.value c.in_default.ensures.clear made.depends made.told))
 
 -- memory was refused, and nothing else refuses it
 short : (c : After-deref) → NoneHolds (member_order (patches_of c.deref.result.now) c.self.inside.numbers c.args.gates.tail c.args.block.0 c.args.span.at c.args.span.len)

@@ -1,4 +1,4 @@
-use Rattle.std.proofs.Common.{◌∙◌, [], refl, sym, arith}
+use Rattle.std.proofs.Common.{◌∙◌, [], Contains, refl, subst, sym, arith}
 use Rattle.fst_heads.proofs.Making.{keeps_none}
 use Rattle.fst_graph.proofs.{Kept.keeps_walked, Tallied.tallies_from}
 use Rattle.fst_graph.proofs.sparse.Sparse.new.Goals as goal
@@ -22,7 +22,8 @@ invariant_of-result c =
       covered = rw c.new-4.ensures.items c.in-Ok-empty_covers.ensures;
       along = record { marks = ends.1.long ∙ sym ends.0.long; places = ends.1.crossed ∙ sym ends.0.crossed };
       leveled = rw c.new-4.ensures.items c.in-Ok-new.ensures;
-      needing = rw c.new-4.ensures.items c.in-Ok-new-2.ensures;
+      needing = rw c.new-4.ensures.items c.in-Ok-new-2.ensures.needing;
+      given = λ w k. let none = subst (λ ws. Contains ws w) c.in-Ok-new-2.ensures.ways k in absurd (omega (arith, none.1));
       none_below = λ b d lt. absurd (omega (arith, lt));
       prepared = tt;
     }

@@ -4,7 +4,7 @@ use Rattle.std.proofs.lemmas.List.Sums.{count_by-le-length}
 use Rattle.fst_types.specs.{Gating.gains, Tests.is_live}
 use Rattle.fst_heads.specs.{Frames.HasRoomBelow, Heads.patches_of, Names.numbers_of, Nodes.nodes_of}
 use Rattle.fst_graph.specs.{Known.{Known, DependsGate}, Ready.change_of, Sound.AreSound, Sparse.AddsSparse, declared.prepared.Gates.Gates}
-use Rattle.fst_graph.proofs.{Borne.few, Made.{change_sound, gained_sound, may_enlist, may_go_on, may_lift, may_need, may_note, may_put, may_rise, named_patches, put_patches}, PutNow.{number_free, put_now, IsPutDown, IsPutNow}}
+use Rattle.fst_graph.proofs.{Borne.few, Made.{change_sound, gained_sound, may_enlist, may_go_on, may_lift, may_need, may_put, may_rise, named_patches, put_patches}, PutNow.{number_free, put_now, IsPutDown, IsPutNow}}
 use Rattle.fst_graph.proofs.{Readied.ready_adds, Sound.rising_sound, TailGains.{member_kept, tail_may, tail_small}}
 use Rattle.fst_graph.proofs.sparse.Sparse.put.Goals.{After-as_slice-row, After-put_down-pending, After-put-2}
 use Rattle.fst_graph.proofs.sparse.Sparse.put.Goals as goal
@@ -28,11 +28,8 @@ lift-requires c =
 pub put-requires : goal.put-requires
 put-requires c = may_need c.self.invariant (now (goal.at.put-requires c).After-as_slice-row).down c.deref-5.ensures.value c.as_slice-row.ensures
 
-pub note-requires : goal.note-requires
-note-requires c = may_note c.self.invariant (now (goal.at.note-requires c).After-as_slice-row).down c.deref-6.ensures.value
-
 pub ancestry_over-requires : goal.ancestry_over-requires
-ancestry_over-requires c = may_go_on c.self.invariant (now (goal.at.ancestry_over-requires c).After-as_slice-row).down c.deref-4.ensures.value c.lift.ensures.leveled c.deref-7.ensures.value
+ancestry_over-requires c = may_go_on c.self.invariant (now (goal.at.ancestry_over-requires c).After-as_slice-row).down c.deref-4.ensures.value c.lift.ensures.leveled c.deref-6.ensures.value
 
 pub put_down-pending-requires : goal.put_down-pending-requires
 put_down-pending-requires c =
@@ -60,9 +57,9 @@ sound c D =
     change_sound c.self.invariant D
     c.rise_of-rise.new.walk c.rise_of-rise.new.crossed c.put_down-pending.ensures.put c.put_down-pending.ensures.pending c.deref.ensures.value c.as_slice-row.ensures c.rise_of-rise.ensures.rise c.rise_of-rise.ensures.long
     c.deref-4.ensures.value c.lift.ensures.leveled c.lift.ensures.below c.lift.ensures.lifted c.lift.ensures.still
-    c.deref-7.ensures.value c.as_slice-row.ensures c.ancestry_over.ensures
+    c.deref-6.ensures.value c.as_slice-row.ensures c.ancestry_over.ensures
     c.deref-5.ensures.value c.as_slice-row.ensures (rw c.note.ensures.lists c.put.ensures.put)
-    c.deref-6.ensures.value c.as_slice-row.ensures (rw (← c.put.ensures.ways) c.note.ensures.noted)
+    (rw (← c.put.ensures.ways) c.note.ensures.noted)
     c.enlist.ensures.listed
     c.index_mut.ensures.value c.put-2.ensures refl
     c.enlist.ensures.entered
@@ -124,9 +121,9 @@ returns-in-Some-gates-clause-tied c =
       groups = refl;
       prepared = refl;
     } in
-    let adds : AddsSparse before p.block p.span.at p.span.len (gates.head ∷ []) n p.grade between = rw (← T.names) (ready_adds P.down.ready) in
+    let adds : AddsSparse before p.block p.span.at p.span.len (gates.head ∷ []) n p.told.grade between = rw (← T.names) (ready_adds P.down.ready) in
     rw (← c.self.view_is, sym c.take.ensures.value ∙ c.in-Some.is, c.take.ensures.after) (
-    subst (λ g. IfSome (option_map (λ (x : Gates). x.head) g) (λ head. (with_change : Known) × AddsSparse before p.block p.span.at p.span.len (head ∷ []) n p.grade with_change × DependsGate with_change (head + 1) (n ∷ []) after))
+    subst (λ g. IfSome (option_map (λ (x : Gates). x.head) g) (λ head. (with_change : Known) × AddsSparse before p.block p.span.at p.span.len (head ∷ []) n p.told.grade with_change × DependsGate with_change (head + 1) (n ∷ []) after))
     (sym c.in-Some-gates.is) (between, adds, depends)
     )
 
@@ -140,7 +137,7 @@ returns-clause-alone c =
     let before : Known = record { heads = old; numbers = s.numbers; blocks = s.blocks; groups = []; prepared = None } in
     let after : Known = record { heads = old ++ change_of s.numbers p ∷ []; numbers = n; blocks = s.blocks; groups = []; prepared = None } in
     rw (← c.self.view_is, sym c.take.ensures.value ∙ c.in-Some.is, c.take.ensures.after, added at.After-put_down-pending) (
-    subst (λ g. IfNone (option_map (λ (x : Gates). x.head) g) (AddsSparse before p.block p.span.at p.span.len (numbers_of p.names.items) n p.grade after)) (sym c.in-None.is) (ready_adds (now at.After-as_slice-row).down.ready)
+    subst (λ g. IfNone (option_map (λ (x : Gates). x.head) g) (AddsSparse before p.block p.span.at p.span.len (numbers_of p.names.items) n p.told.grade after)) (sym c.in-None.is) (ready_adds (now at.After-as_slice-row).down.ready)
     )
 
 -- what was prepared had that number and grade

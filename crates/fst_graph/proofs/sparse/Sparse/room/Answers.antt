@@ -29,7 +29,7 @@ make_room-requires-clause-ready c =
     let made = c.in-Ok.ensures in
     let lt = inside (goal.at.make_room-requires-clause-ready c).After-deref in
     subst (λ g. IsReadyFor g (patches_of s.heads.items) s.numbers s.blocks c.in-Ok.prepared) (sym made.gates)
-    (ready_found c.self.invariant.keeps c.in-Ok.prepared made.names made.block made.span lt c.deref.ensures.value c.in_default.ensures.clear c.deref-2.ensures.value made.depends made.graded)
+    (ready_found c.self.invariant.keeps c.in-Ok.prepared made.names made.block made.span lt c.deref.ensures.value c.in_default.ensures.clear c.deref-2.ensures.value made.depends made.told)
 
 pub returns-clause-ok : goal.returns-clause-ok
 returns-clause-ok c =
@@ -38,7 +38,7 @@ returns-clause-ok c =
     let lt = inside (goal.at.returns-clause-ok c).After-deref in
     rw (← c.self.view_is, ← made.block, ← made.span, ← made.names) (
       record { heads = patches_of s.heads.items ++ change_of s.numbers c.in-Ok.prepared ∷ []; numbers = s.numbers + 1; blocks = s.blocks; groups = []; prepared = None },
-      ready_adds (ready_found c.self.invariant.keeps c.in-Ok.prepared made.names made.block made.span lt c.deref.ensures.value c.in_default.ensures.clear c.deref-2.ensures.value made.depends made.graded),
+      ready_adds (ready_found c.self.invariant.keeps c.in-Ok.prepared made.names made.block made.span lt c.deref.ensures.value c.in_default.ensures.clear c.deref-2.ensures.value made.depends made.told),
     )
 
 -- memory was refused, and nothing else refuses it

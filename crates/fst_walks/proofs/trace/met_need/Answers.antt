@@ -1,0 +1,18 @@
+use Rattle.std.proofs.Common.{◌-◌, length, take, drop, Contains, subst}
+use Rattle.std.proofs.lemmas.{Iterator.Adapters.YieldsList-from_rev_slice, Iterator.Consumers.YieldsList-turn}
+use Rattle.fst_heads.proofs.Waiting.{mapped}
+use Rattle.fst_walks.specs.{declared.needs.Need.Need, Needing.needs_of}
+use Rattle.fst_walks.proofs.Traced.{in_rest, in_reversed, need_found}
+use Rattle.fst_walks.proofs.trace.met_need.Goals as goal
+
+pub returns-then-is_some : goal.returns-then-is_some
+returns-then-is_some c =
+    let needs = c.of-needs.result.now in
+    let from = c.saturating_sub.result in
+    let few = take (length needs - from) (drop from needs) in
+    let rest = c.iter.ensures.rest in
+    let need : Need = c.in-Some.need.now in
+    let turn = YieldsList-turn (YieldsList-from_rev_slice few (cc)) c.loop-need.yielded _ c.loop-need.yielded_by _ _ c.in-Some.need c.in-Some.is c.next.ensures.steps in
+    let there = in_rest needs from need (in_reversed few _ need turn.0 turn.1) in
+    let kept = subst (λ ns. Contains ns need.number) c.of-needs.ensures (mapped (λ (q : Need). q.number) needs need there) in
+    need_found c.args.sight.now.heads.now (needs_of c.args.sight.now.needs.now.lists) c.args.block need.number kept c.met_slot-slot.result c.met_slot-slot.ensures.slot c.met_slot-slot.ensures.live

@@ -1,0 +1,36 @@
+//! What is told of a new change before it is made.
+
+ghost use Rattle.std.specs.Prelude.{◌≡◌, None};
+ghost use Rattle.fst_types.specs.declared.grade.Grade.TheVariants as grade;
+
+use fst_types::Grade;
+
+/// The grade of a new change. Where it is soft since a way leads back to its block, `end` is the change of the block to which
+/// that leads, if it is known: as long as this is not on disk, the way is there.
+#[derive(Clone, Copy)]
+pub struct Graded {
+    pub grade: Grade,
+    pub end: Option<u32>,
+}
+
+/// Hard.
+pub fn hard() -> Graded
+    ensures grade { result.grade ≡ grade.Hard }
+    ensures end { result.end ≡ None }
+{
+    Graded {
+        grade: Grade::Hard,
+        end: None,
+    }
+}
+
+/// Soft, a way leading back to that change, if it is known.
+pub fn soft(end: Option<u32>) -> Graded
+    ensures grade { result.grade ≡ grade.Soft }
+    ensures end { result.end ≡ end }
+{
+    Graded {
+        grade: Grade::Soft,
+        end,
+    }
+}

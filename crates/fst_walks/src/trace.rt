@@ -1,0 +1,101 @@
+//! Where a way back ends. A search from both ends ends where its two walks meet; from there the walk up is traced down, over
+//! what it has met, to the change of the block from which it came.
+
+ghost use Rattle.std.specs.Prelude.{◌≡◌, ◌⊎◌, ◌<◌, ℕ, length, IfSome};
+ghost use Rattle.fst_types.specs.Closure.{Closure};
+ghost use Rattle.fst_types.specs.Dependencies.{IsLiveNumber};
+ghost use Rattle.fst_heads.specs.declared.test.Test.TheVariants as test;
+ghost use Rattle.fst_heads.specs.Heads.{patches_of};
+ghost use Rattle.fst_heads.specs.Marks.{HasSlot, PassesAt};
+ghost use Rattle.fst_walks.specs.BothEnds.{IsNeed, StepsTo};
+ghost use Rattle.fst_walks.specs.Descending.{Visited};
+ghost use Rattle.fst_walks.specs.Needing.{needs_of};
+ghost use Rattle.fst_walks.specs.Sights.{Sees};
+
+use crate::shortcuts::newest_few;
+use crate::sight::Sight;
+use crate::walk::Walk;
+use fst_heads::head::Kind;
+use fst_heads::test::{Test, passes};
+
+// How far it is traced.
+const STEPS: u32 = 256;
+
+// How many of one row, or of what one block needs, are looked at.
+const WIDTH: usize = 64;
+
+// The slot of the patch with the number, if the walk has met it.
+fn met_slot(sight: &Sight<'_>, up: &Walk, number: u32) -> Option<usize>
+    requires sees { Sees sight.now }
+    requires up { Visited sight.now.heads.now up.now }
+    ensures slot { IfSome result (HasSlot sight.now.heads.now number) }
+    ensures live { IfSome result (λ slot. IsLiveNumber (patches_of sight.now.heads.now) number) }
+{
+    let slot = sight.levels.find(sight.heads, number)?;
+    if up.has_met(slot) { Some(slot) } else { None }
+}
+
+// The slot of what the walk has met and the block needs, the newest first.
+fn met_need(sight: &Sight<'_>, up: &Walk, block: u32) -> Option<usize>
+    requires sees { Sees sight.now }
+    requires up { Visited sight.now.heads.now up.now }
+    requires block { block < length sight.now.lists.now }
+    ensures { IfSome result (λ slot. (q : ℕ) × HasSlot sight.now.heads.now q slot × IsNeed (patches_of sight.now.heads.now) (needs_of sight.now.needs.now.lists) block q) }
+{
+    let needs = sight.needs.of(block);
+    let few = &needs[needs.len().saturating_sub(WIDTH)..];
+    for need in few.iter().rev() {
+        let slot = met_slot(sight, up, need.number);
+        if slot.is_some() {
+            return slot;
+        }
+    }
+    None
+}
+
+// The slot of what the walk has met and the patch in the slot waits for: of its row, the newest first, or else of what its
+// block needs, if that is another than `block`.
+fn step(sight: &Sight<'_>, up: &Walk, slot: usize, block: u32) -> Option<usize>
+    requires sees { Sees sight.now }
+    requires up { Visited sight.now.heads.now up.now }
+    requires slot { slot < length sight.now.heads.now }
+    ensures { IfSome result (λ next. (q : ℕ) × HasSlot sight.now.heads.now q next × ((n : ℕ) → HasSlot sight.now.heads.now n slot → IsLiveNumber (patches_of sight.now.heads.now) n → StepsTo (patches_of sight.now.heads.now) (needs_of sight.now.needs.now.lists) block n q)) }
+{
+    let head = &sight.heads[slot];
+    for number in newest_few(head.dependencies.as_slice(), WIDTH).iter().rev() {
+        let next = met_slot(sight, up, *number);
+        if next.is_some() {
+            return next;
+        }
+    }
+    match head.kind {
+        Kind::Change(own, _, _) => {
+            if own == block {
+                None
+            } else {
+                met_need(sight, up, own)
+            }
+        }
+        Kind::Empty | Kind::OpenGate | Kind::SealedGate => None,
+    }
+}
+
+/// The change of the block to which steps lead down from the patch in the slot, over what the walk up from the changes of the
+/// block has met. None where that is far, or what leads there is old.
+pub fn trace(sight: &Sight<'_>, up: &Walk, slot: usize, block: u32) -> Option<u32>
+    requires sees { Sees sight.now }
+    requires up { Visited sight.now.heads.now up.now }
+    requires slot { (n : ℕ) × HasSlot sight.now.heads.now n slot × IsLiveNumber (patches_of sight.now.heads.now) n }
+    ensures change { IfSome result (PassesAt (test.LiveOn block) (patches_of sight.now.heads.now)) }
+    ensures path { IfSome result (λ end. (n : ℕ) → HasSlot sight.now.heads.now n slot → (n ≡ end) ⊎ Closure (StepsTo (patches_of sight.now.heads.now) (needs_of sight.now.needs.now.lists) block) n end) }
+{
+    let mut at = slot;
+    for _ in 0..STEPS {
+        let head = &sight.heads[at];
+        if passes(Test::LiveOn(block), head) {
+            return Some(head.number);
+        }
+        at = step(sight, up, at, block)?;
+    }
+    None
+}
