@@ -1,14 +1,15 @@
 #!/usr/bin/env python3
 """Scripts of a file system at work, made at random, one a seed, and the processor seconds that `feather play` takes.
 
-    benchmarks/steady.py [--beside PROGRAM] [--patches N] FIRST LAST [PROGRAM]
+    benchmarks/steady.py [--beside PROGRAM] [--patches N] [--flights N] FIRST LAST [PROGRAM]
 
 For whoever changes what a call looks at: transactions come one after another, what `pick` names is written while more than
 so many patches are not on disk, and every few transactions what is on disk is forgotten. So patches land in any order, heads
 between others are gone, and what was known of a way is gone at each write. A seed chooses how many blocks there are, how many
 hot ones, how long the backlog is, how a transaction is put together (patches alone, an empty patch after them, a gate, a
 group, or by turns) and after which one it comes, and whether a superblock is overwritten after it. PROGRAM itself is asked,
-line by line, what may be written; then the script is fixed. N patches are made (12,000). With --beside a second program plays
+line by line, what may be written; then the script is fixed. N patches are made (12,000). With --flights so many writes are
+out at once (1), and the oldest is done as one more is made. With --beside a second program plays
 the same script: it is to give the same replies, and the line ends in `slow` where PROGRAM takes three times as long. PROGRAM
 is the program as `rt build` or `./feather` leaves it; without it `./feather` is used, which builds it once.
 """
@@ -44,7 +45,7 @@ class Guide:
 class Work:
     """What a seed chooses, and the script that it makes."""
 
-    def __init__(self, seed, patches, program):
+    def __init__(self, seed, patches, program, flights=1):
         dice = self.dice = random.Random(seed)
         self.blocks = dice.choice([4, 16, 64, 256, 1024])
         self.backlog = dice.choice([50, 300, 2000, 8000])
@@ -60,6 +61,7 @@ class Work:
         self.words = ["--blocks", str(self.blocks), "--size", str(SIZE)]
         self.guide, self.lines, self.some = Guide(program, self.words), [], []
         self.given, self.ticket, self.ends, self.groups = 0, 0, [], []
+        self.flights, self.out = flights, []
 
     def says(self):
         return (
@@ -129,13 +131,20 @@ class Work:
         if self.hot and self.dice.random() < 0.5:
             self.ends.append(self.patch(self.dice.randrange(min(self.hot, self.blocks)), self.dice.randrange(8), self.ends[-1:]))
 
+    def done(self):
+        self.ask('{"do":"done","ticket":%d}' % self.out.pop(0))
+
     def write(self, most):
         for _ in range(most):
             block = self.ask('{"do":"pick"}')[0][1]
-            if block == "none":
+            if block != "none":
+                self.ticket += 1
+                self.out.append(self.ticket)
+                self.ask('{"do":"write","block":%s}' % block)
+            elif not self.out:
                 return
-            self.ticket += 1
-            self.ask('{"do":"write","block":%s}' % block, '{"do":"done","ticket":%d}' % self.ticket)
+            if block == "none" or len(self.out) >= self.flights:
+                self.done()
 
     def script(self):
         for turn in range(self.patches // self.each):
@@ -157,13 +166,14 @@ def main():
     args = argparse.ArgumentParser(description=__doc__, formatter_class=argparse.RawDescriptionHelpFormatter)
     args.add_argument("--beside", metavar="PROGRAM", help="a second program, whose replies are to be the same")
     args.add_argument("--patches", type=int, default=12_000, metavar="N", help="how many patches are made")
+    args.add_argument("--flights", type=int, default=1, metavar="N", help="how many writes are out at once (1)")
     args.add_argument("first", type=int, metavar="FIRST", help="the first seed")
     args.add_argument("last", type=int, metavar="LAST", help="the last seed")
     args.add_argument("program", nargs="?", metavar="PROGRAM", default=os.path.join(ROOT, "feather"))
     known = args.parse_args()
     bad = 0
     for seed in range(known.first, known.last + 1):
-        work = Work(seed, known.patches, known.program)
+        work = Work(seed, known.patches, known.program, known.flights)
         with tempfile.NamedTemporaryFile("w", suffix=".jsonl") as script:
             script.write("\n".join(work.script()) + "\n")
             script.flush()
