@@ -4,7 +4,7 @@ use Rattle.std.specs.Global.{Vec}
 use Rattle.fst_types.specs.{Dependencies.IsLiveNumber, Patches.Patch}
 use Rattle.fst_heads.specs.{Ascending.IsBehind, Covers.{AreCovered, Covering}, Heads.{patch_of, patches_of, IsRising}, Keeps.IsInside, Lists.{entries_of, AreListed, entries_on}, Marks.{mark_in, mark_of}}
 use Rattle.fst_heads.specs.{Nodes.{nodes_of, AreLinked, AreSettled, pending_in}, Standings.{AllStand, standing_of}, declared.head.Head.Head, declared.lists.Listed.Listed, declared.standing.Standing.Standing}
-use Rattle.fst_walks.specs.{BothEnds.IsOver, Leveling.{IsLeveled, Leveling}, Needing.{IsNeeding, Needing}, Searching.TellsGates, Sights.Sees, declared.block_walk.BlockWalk.BlockWalk, declared.ends.Ends.Ends, declared.needs.Way.Way, declared.sight.Sight.Sight}
+use Rattle.fst_walks.specs.{BothEnds.IsOver, Leveling.{IsLeveled, Leveling}, Needing.{IsNeeding, Needing}, Searching.{AreOver, TellsGates}, Sights.Sees, declared.block_walk.BlockWalk.BlockWalk, declared.ends.Ends.Ends, declared.needs.Way.Way, declared.sight.Sight.Sight}
 use Rattle.fst_graph.specs.{Fresh.IsRoomier, Sound.{AreSound, IsPrepared}, declared.prepared.Prepared.Prepared as Stored}
 use Rattle.fst_heads.proofs.{AtNumber.patches_in_nodes, Slots.rising_heads}
 use Rattle.fst_walks.proofs.{Behind.pending_live, Held.{heads_held, heads_live}, Resting.{listed_at, shelves}, Seen.{same_patches, tallies_wider}}
@@ -81,6 +81,19 @@ module _ {heads : Vec Head} {ends : Ends} {levels : Leveling} {needs : Needing} 
     none_below = S.none_below;
     prepared = tt;
   }
+
+  -- a search for a cycle crosses no block
+  pub over_both : AreOver heads.items ends
+  over_both = record { up = over_up.long; down = over_down.long }
+
+  pub searched_up : {walked : Ends} → AreOver heads.items walked → walked.up.crossed ≡ ends.up.crossed → IsOver heads.items (length lists.items) walked.up
+  searched_up over crossed = record { long = over.up; crossed = rw crossed as_many_places }
+
+  pub searched_down : {walked : Ends} → AreOver heads.items walked → walked.down.crossed ≡ ends.down.crossed → IsOver heads.items (length lists.items) walked.down
+  searched_down over crossed = record { long = over.down; crossed = rw crossed over_down.crossed }
+
+  pub searched_sound : {walked : Ends} → AreOver heads.items walked → (walked.up.crossed ≡ ends.up.crossed) × (walked.down.crossed ≡ ends.down.crossed) → AreSound heads walked levels needs lists covers standings queue live unmarked numbers blocks None
+  searched_sound over crossed = walked_sound (searched_up over crossed.0) (searched_down over crossed.1)
 
   -- there may be more room for heads, marks and what waits in the queue
   pub roomier_sound : {heads' : Vec Head} {ends' : Ends} {levels' : Leveling} {queue' : Vec ℕ} → IsRoomier heads ends levels queue heads' ends' levels' queue' → AreSound heads' ends' levels' needs lists covers standings queue' live unmarked numbers blocks None

@@ -11,7 +11,7 @@ ghost use Rattle.fst_heads.specs.Names.{numbers_of};
 ghost use Rattle.fst_heads.specs.Marks.{HasSlot};
 ghost use Rattle.fst_heads.specs.Nodes.{Node, AreLinked, nodes_of, pending_in, at_number, gains_names, linked_to};
 ghost use Rattle.fst_heads.specs.Pendings.{Fits, sums_of};
-ghost use Rattle.fst_walks.specs.Searching.{TellsGates};
+ghost use Rattle.fst_walks.specs.Searching.{AreOver, TellsGates};
 
 use fst_heads::growth::{gain, missing_names};
 use fst_heads::head::{Head, Kind};
@@ -20,7 +20,7 @@ use fst_heads::marks::slot_of;
 use fst_heads::row::{is_given, names_unknown, row_sums};
 use fst_types::{Fault, MAX_NAMES, PatchNo};
 use fst_walks::cycle::closes_cycle;
-use fst_walks::walk::Walk;
+use fst_walks::ends::Ends;
 use std::alloc::{AllocError, Global};
 
 /// The slot of an open gate, or why it is none: the number was not given, it is no gate's, or the gate is sealed.
@@ -48,19 +48,20 @@ pub fn gate_slot(heads: &[Head], numbers: u32, gate: u32) -> Result<usize, Fault
 /// Why the gate cannot gain these names. What was met before does not matter.
 pub fn depend_fault(
     heads: &[Head],
-    walk: &mut Walk,
+    ends: &mut Ends,
     numbers: u32,
     gate: u32,
     on: &[PatchNo],
 ) -> Option<Fault>
     requires rising { IsRising heads.now }
-    requires long { length walk.old.marks ≡ length heads.now }
+    requires over { AreOver heads.now ends.old }
     requires linked { AreLinked (nodes_of heads.now) }
     requires gates { TellsGates heads.now }
     ensures first { IfSome result (IsFirst (depend_order (patches_of heads.now) numbers gate (numbers_of on.now))) }
     ensures clear { IfNone result (NoneHolds (depend_order (patches_of heads.now) numbers gate (numbers_of on.now))) }
     ensures is_open { IfNone result (IsOpenNumber (patches_of heads.now) gate) }
-    ensures long { length walk.new.marks ≡ length heads.now }
+    ensures over { AreOver heads.now ends.new }
+    ensures crossed { (ends.new.up.crossed ≡ ends.old.up.crossed) × (ends.new.down.crossed ≡ ends.old.down.crossed) }
 {
     let slot = match gate_slot(heads, numbers, gate) {
         Ok(slot) => slot,
@@ -72,7 +73,7 @@ pub fn depend_fault(
     if names_unknown(numbers, on) {
         return Some(Fault::NoPatch);
     }
-    if closes_cycle(heads, walk, slot, gate, on) {
+    if closes_cycle(heads, ends, slot, gate, on) {
         return Some(Fault::Cycle);
     }
     None

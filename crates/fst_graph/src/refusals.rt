@@ -8,14 +8,14 @@ ghost use Rattle.fst_heads.specs.Heads.{patches_of};
 ghost use Rattle.fst_heads.specs.Names.{numbers_of};
 ghost use Rattle.fst_graph.specs.Membering.{member_order};
 ghost use Rattle.fst_walks.specs.Sights.{Sees};
-ghost use Rattle.fst_walks.specs.Searching.{TellsGates};
+ghost use Rattle.fst_walks.specs.Searching.{AreOver, TellsGates};
 
 use fst_heads::head::Head;
 use fst_heads::row::names_unknown;
 use fst_types::{Fault, MAX_HEADS, MAX_NAMES, MAX_NUMBER, PatchNo, Span, What};
+use fst_walks::ends::Ends;
 use fst_walks::overlap_cycle::overlap_reaches;
 use fst_walks::sight::Sight;
-use fst_walks::walk::Walk;
 
 /// Why no patch can be made now.
 pub fn room_fault(heads: &[Head], numbers: u32) -> Option<Fault>
@@ -48,7 +48,7 @@ pub fn make_fault(heads: &[Head], numbers: u32, after: &[PatchNo]) -> Option<Fau
 /// Why no change of a group with that tail can be made now.
 pub fn member_fault(
     sight: &Sight<'_>,
-    walk: &mut Walk,
+    ends: &mut Ends,
     numbers: u32,
     tail: u32,
     block: u32,
@@ -56,15 +56,16 @@ pub fn member_fault(
 ) -> Option<Fault>
     requires sees { Sees sight.now }
     requires gates { TellsGates sight.now.heads.now }
-    requires long { length walk.old.marks ≡ length sight.now.heads.now }
+    requires over { AreOver sight.now.heads.now ends.old }
     requires block { block < length sight.now.lists.now }
     requires is_open { IsOpenNumber (patches_of sight.now.heads.now) tail }
     ensures first { IfSome result (IsFirst (member_order (patches_of sight.now.heads.now) numbers tail block span.at span.len)) }
     ensures clear { IfNone result (NoneHolds (member_order (patches_of sight.now.heads.now) numbers tail block span.at span.len)) }
-    ensures long { length walk.new.marks ≡ length sight.now.heads.now }
+    ensures over { AreOver sight.now.heads.now ends.new }
+    ensures crossed { (ends.new.up.crossed ≡ ends.old.up.crossed) × (ends.new.down.crossed ≡ ends.old.down.crossed) }
 {
     let list = sight.lists[block as usize].as_slice();
-    if overlap_reaches(sight.heads, list, walk, tail, block, span) {
+    if overlap_reaches(sight.heads, list, ends, tail, block, span) {
         return Some(Fault::Cycle);
     }
     room_fault(sight.heads, numbers)

@@ -199,13 +199,7 @@ impl Sparse {
         ensures blocks { self.new.blocks ≡ self.old.blocks }
     {
         let_go(&mut self.prepared);
-        if let Some(fault) = depend_fault(
-            &self.heads,
-            &mut self.ends.up.walk,
-            self.numbers,
-            gate.0,
-            on,
-        ) {
+        if let Some(fault) = depend_fault(&self.heads, &mut self.ends, self.numbers, gate.0, on) {
             return Err(fault);
         }
         let Ok(()) = gain_names(self.alloc, &mut self.heads, gate.0, on) else {

@@ -1,6 +1,6 @@
 -- A walk whose steps are told by a relation: what it has met so far, and that in the end it has met all.
-use Rattle.std.proofs.Common.{◌≡◌, ◌≤◌, ◌<◌, ◌+◌, ◌↔◌, ◌⊎◌, ℕ, Bool, List, ◌++◌, length, get_or, Contains, sym, ap, subst, ◌∙◌, inl, inr, arith}
-use Rattle.std.proofs.{lemmas.Bool.{cases_lt}, lemmas.List.{append_assoc, get_or_append_left}}
+use Rattle.std.proofs.Common.{◌≡◌, ◌≤◌, ◌<◌, ◌+◌, ◌↔◌, ◌⊎◌, ℕ, Bool, List, [], ◌++◌, length, get_or, Contains, sym, ap, subst, ◌∙◌, inl, inr, arith}
+use Rattle.std.proofs.{lemmas.Bool.{cases_lt}, lemmas.List.{append-nil, append_assoc, get_or_append_left}}
 use Rattle.std.proofs.lemmas.List.Elements.{Contains-append_left, Contains-get_or}
 use Rattle.fst_types.specs.Closure.{Closure, one, join}
 use Rattle.fst_heads.specs.Reaching.{IsReached}
@@ -13,6 +13,14 @@ pub record Climbing (Steps : ℕ → ℕ → Type 0) (start : List ℕ) (at : �
   pub grown : (rest : List ℕ) × (queue ≡ start ++ rest)
   pub only : (n : ℕ) → Contains queue n → IsLedFrom Steps start n
   pub done : (i q : ℕ) → i < at → i < length queue → Steps (get_or queue i 0) q → Contains queue q
+
+-- at first nothing is done
+pub climbing_first : (Steps : ℕ → ℕ → Type 0) (start : List ℕ) → Climbing Steps start 0 start
+climbing_first Steps start = record { grown = ([], sym (append-nil start)); only = λ n c. inl c; done = λ i q up lt s. absurd (omega (arith, up)) }
+
+-- what the walk starts from stays in the queue
+pub climbing_begun : (Steps : ℕ → ℕ → Type 0) (start : List ℕ) (at : ℕ) (queue : List ℕ) → Climbing Steps start at queue → (n : ℕ) → Contains start n → Contains queue n
+climbing_begun Steps start at queue x n c = subst (λ q. Contains q n) (sym x.grown.1) (Contains-append_left start x.grown.0 n c)
 
 pub led_on : (Steps : ℕ → ℕ → Type 0) (start : List ℕ) (n q : ℕ) → IsLedFrom Steps start n → Steps n q → IsLedFrom Steps start q
 led_on Steps start n q m s = elim m [
@@ -54,7 +62,7 @@ pub climbing_all : (Steps : ℕ → ℕ → Type 0) (start : List ℕ) (at : ℕ
 climbing_all Steps start at queue past x n = (x.only n, λ m. elim m [ inl c ↦ begun n c | inr r ↦ on r.0 n r.2 (begun r.0 r.1) ])
   where
     begun : (n : ℕ) → Contains start n → Contains queue n
-    begun n c = subst (λ q. Contains q n) (sym x.grown.1) (Contains-append_left start x.grown.0 n c)
+    begun = climbing_begun Steps start at queue x
 
     on : (p q : ℕ) → Closure Steps p q → Contains queue p → Contains queue q
     on p q (one s) c = x.done c.0 q (omega (arith, c.1, past)) c.1 (subst (λ m. Steps m q) (sym (any_default queue c.0 0 p c.1 ∙ c.2)) s)

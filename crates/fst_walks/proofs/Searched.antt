@@ -11,11 +11,11 @@ use Rattle.fst_heads.specs.declared.pending.Pending.TheVariants as pending
 
 module _ (patches : List Patch) (told : ℕ → Pending) (held : AreHeldByGates patches told) (gate : ℕ) (is_open : IsOpenNumber patches gate) where
   -- what depends on the gate waits for an open gate
-  above_held : (n : ℕ) → DependsOn patches n gate → told n ≡ pending.Held
+  pub above_held : (n : ℕ) → DependsOn patches n gate → told n ≡ pending.Held
   above_held n d = (held n).1 (inr (gate, d, is_open))
 
   -- each step of the search goes down
-  steps_down : (n m : ℕ) → Closure (IsNextHeld patches told) n m → DependsOn patches n m
+  pub steps_down : (n m : ℕ) → Closure (IsNextHeld patches told) n m → DependsOn patches n m
   steps_down n m (one s) = one s.0
   steps_down n m (join {q = r} c d) = join (steps_down n r c) (steps_down r m d)
 
@@ -45,10 +45,6 @@ module _ (patches : List Patch) (told : ℕ → Pending) (held : AreHeldByGates 
         | inl e ↦ inl (subst (Contains start) e (starts.each a.0 (a.1, subst (λ n. told n ≡ pending.Held) (sym e) ((held gate).1 (inl is_open)))))
         | inr d ↦ inr (a.0, starts.each a.0 (a.1, above_held a.0 d), goes_down a.0 gate d ((held gate).1 (inl is_open)) above_held)
       ]
-
-  pub searched : (Start : ℕ → Type 0) (start met : List ℕ) → Visits (λ n. Start n × (told n ≡ pending.Held)) [] start → ((n : ℕ) → Contains met n ↔ IsLedFrom (IsNextHeld patches told) start n)
-      → Contains met gate ↔ StartsAbove Start
-  searched Start start met starts led = let above = searched_led Start start starts in (λ c. above.0 ((led gate).0 c), λ a. (led gate).1 (above.1 a))
 
 -- a name that is the gate, or depends on it
 pub named_held : (patches : List Patch) (gate n : ℕ) → IsOpenNumber patches gate → (n ≡ gate) ⊎ DependsOn patches n gate → IsAbove patches (IsOpenNumber patches) n

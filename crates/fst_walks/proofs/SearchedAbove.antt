@@ -1,12 +1,12 @@
--- What the search for a cycle finds from above.
-use Rattle.std.proofs.Common.{◌≡◌, ◌⊎◌, ◌↔◌, ◌<◌, ◌∙◌, ℕ, List, [], Contains, refl, sym, ap, subst, inl, inr}
+-- What the search for a cycle finds from above, and from both ends.
+use Rattle.std.proofs.Common.{◌≡◌, ◌⊎◌, ◌<◌, ◌∙◌, ℕ, List, [], Contains, refl, sym, ap, subst, inl, inr}
 use Rattle.fst_types.specs.{Closure.{Closure, one, join}, Dependencies.DependsOn, Gates.IsOpenNumber, Patches.Patch}
 use Rattle.fst_types.proofs.Finite.{Contains-from_In, In, In-from_Contains}
 use Rattle.fst_heads.specs.Nodes.{Node, patches_in, pending_in, AreLinked}
 use Rattle.fst_heads.specs.declared.pending.Pending.{Pending}
 use Rattle.fst_heads.proofs.{PendingIn.found, Placed.{patch_in, node_of_patch}, Waiting.{times_some, some_times}}
-use Rattle.fst_walks.specs.{Descending.{IsLedFrom, Visits}, Searching.{AreHeldByGates, IsNextAbove}}
-use Rattle.fst_walks.proofs.Trails.{none_in}
+use Rattle.fst_walks.specs.{Descending.{IsLedFrom, Visits}, Searching.{AreHeldByGates, IsBetween, IsNextAbove, StayApart}}
+use Rattle.fst_walks.proofs.{Searched.{above_held, searched_led, steps_down}, Trails.none_in}
 use Rattle.fst_heads.specs.declared.pending.Pending.TheVariants as pending
 
 -- the steps up from a node are to those of its dependants that wait for an open gate
@@ -39,22 +39,42 @@ module _ (patches : List Patch) (told : ℕ → Pending) (held : AreHeldByGates 
   goes_up n m (one d) above = one (d, above n (one d))
   goes_up n m (join {q = r} c d) above = join (goes_up r m d above) (goes_up n r c (λ q b. above q (join b d)))
 
-  pub searched_above : (Start : ℕ → Type 0) (start met : List ℕ) → Visits (λ n. (n ≡ gate) × (told n ≡ pending.Held)) [] start → ((n : ℕ) → Contains met n ↔ IsLedFrom (IsNextAbove patches told) start n)
-      → ((n : ℕ) × Start n × Contains met n) ↔ ((n : ℕ) × Start n × ((n ≡ gate) ⊎ DependsOn patches n gate))
-  searched_above Start start met starts led = (λ a. (a.0, a.1, from a.0 a.2), λ a. (a.0, a.1, to a.0 a.2))
-    where
-      begun : (n : ℕ) → Contains start n → n ≡ gate
-      begun n c = elim (starts.only n c) [ inl none ↦ absurd (none_in n none) | inr k ↦ k.0 ]
+  -- one walk starts from the gate, and one from those that wait for an open gate
+  module _ (Start : ℕ → Type 0) (bottoms tops : List ℕ) (first : Visits (λ n. (n ≡ gate) × (told n ≡ pending.Held)) [] bottoms) (starts : Visits (λ n. Start n × (told n ≡ pending.Held)) [] tops) where
+    at_gate : (n : ℕ) → Contains bottoms n → n ≡ gate
+    at_gate n c = elim (first.only n c) [ inl none ↦ absurd (none_in n none) | inr k ↦ k.0 ]
 
-      first : Contains start gate
-      first = starts.each gate (refl, (held gate).1 (inl is_open))
+    at_start : (n : ℕ) → Contains tops n → Start n
+    at_start n c = elim (starts.only n c) [ inl none ↦ absurd (none_in n none) | inr k ↦ k.0 ]
 
-      from : (n : ℕ) → Contains met n → (n ≡ gate) ⊎ DependsOn patches n gate
-      from n c = elim ((led n).0 c) [
-        | inl here ↦ inl (begun n here)
-        | inr r ↦ inr (subst (DependsOn patches n) (begun r.0 r.1) (steps_up r.0 n r.2))
-      ]
+    -- what both lead to depends on the gate, and one of the starts on it
+    pub between_above : (n : ℕ) → IsBetween patches told bottoms tops n → (s : ℕ) × Start s × ((s ≡ gate) ⊎ DependsOn patches s gate)
+    between_above n b =
+        let over : (n ≡ gate) ⊎ DependsOn patches n gate = elim b.over [
+          | inl here ↦ inl (at_gate n here)
+          | inr r ↦ inr (subst (DependsOn patches n) (at_gate r.0 r.1) (steps_up r.0 n r.2))
+        ] in
+        elim b.under [
+          | inl here ↦ (n, at_start n here, over)
+          | inr r ↦
+              let down = steps_down patches told held gate is_open r.0 n r.2 in
+              (r.0, at_start r.0 r.1, inr (elim over [ inl e ↦ subst (DependsOn patches r.0) e down | inr d ↦ join down d ]))
+        ]
 
-      to : (n : ℕ) → (n ≡ gate) ⊎ DependsOn patches n gate → Contains met n
-      to n (inl e) = (led n).1 (inl (subst (Contains start) (sym e) first))
-      to n (inr d) = (led n).1 (inr (gate, first, goes_up n gate d (λ q b. (held q).1 (inr (gate, b, is_open)))))
+    has_gate : Contains bottoms gate
+    has_gate = first.each gate (refl, (held gate).1 (inl is_open))
+
+    above_led : (n : ℕ) → (n ≡ gate) ⊎ DependsOn patches n gate → IsLedFrom (IsNextAbove patches told) bottoms n
+    above_led n (inl e) = inl (subst (Contains bottoms) (sym e) has_gate)
+    above_led n (inr d) = inr (gate, has_gate, goes_up n gate d (λ q b. (held q).1 (inr (gate, b, is_open))))
+
+    above_is_held : (n : ℕ) → (n ≡ gate) ⊎ DependsOn patches n gate → told n ≡ pending.Held
+    above_is_held n (inl e) = subst (λ m. told m ≡ pending.Held) (sym e) ((held gate).1 (inl is_open))
+    above_is_held n (inr d) = above_held patches told held gate is_open n d
+
+    -- where one of them has met all and they stay apart, none of the starts depends on the gate
+    pub apart_none : (over under : List ℕ) → StayApart patches told bottoms tops over under → (s : ℕ) × Start s × ((s ≡ gate) ⊎ DependsOn patches s gate) → ⊥
+    apart_none over under x a = elim x.ended [
+      | inl all ↦ x.apart a.0 (all a.0 (above_led a.0 a.2)) (x.under_begun a.0 (starts.each a.0 (a.1, above_is_held a.0 a.2)))
+      | inr all ↦ x.apart gate (x.over_begun gate has_gate) (all gate ((searched_led patches told held gate is_open Start tops starts).1 a))
+    ]

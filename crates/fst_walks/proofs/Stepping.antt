@@ -1,10 +1,10 @@
 -- One step more of a walk that crosses blocks: what is near the one that is next and what is across its block, told at once.
-use Rattle.std.proofs.Common.{◌≡◌, ◌<◌, ◌≤◌, ◌+◌, ◌⊎◌, ℕ, Bool, false, List, length, get_or, Contains, sym, subst, ◌∙◌, inl, inr, arith}
-use Rattle.std.proofs.lemmas.{Bool.{cases_Bool, false≢true}, List.Elements.Contains-append_left}
+use Rattle.std.proofs.Common.{◌≡◌, ◌<◌, ◌≤◌, ◌+◌, ◌⊎◌, ℕ, Bool, false, List, length, get_or, Contains, sym, ◌∙◌, inl, inr, arith}
+use Rattle.std.proofs.lemmas.{Bool.{cases_Bool, false≢true}}
 use Rattle.fst_types.specs.{Dependencies.DirectlyOn, Patches.Patch}
 use Rattle.fst_heads.specs.{Grading.IsHardNumber, Marks.PassesAt, Reaching.IsReached}
 use Rattle.fst_walks.specs.{BothEnds.{CrossesDown, IsHigh, IsHighNeed, IsLow, IsLowChange, ShowsBlockUnder, StepsHigh, StepsLow}, Descending.Visits, WayBack.{Crosses, ShowsBlockOf}}
-use Rattle.fst_walks.proofs.{Ascended.{Walking, climbing_at, next_or_done}, Visiting.visits_old}
+use Rattle.fst_walks.proofs.{Ascended.{Walking, climbing_at, climbing_begun, next_or_done}, Visiting.visits_old}
 use Rattle.fst_heads.specs.declared.test.Test.TheVariants as test
 
 module _ (Near From To : ℕ → ℕ → Type 0) (Across : List Bool → ℕ → ℕ → Type 0)
@@ -62,7 +62,7 @@ module _ (Near From To : ℕ → ℕ → Type 0) (Across : List Bool → ℕ →
 
 -- what the walk starts from stays in the queue
 pub walking_kept : (Steps To : ℕ → ℕ → Type 0) (crossed : List Bool) (start : List ℕ) (at : ℕ) (now : List Bool) (queue : List ℕ) → Walking Steps To crossed start at now queue → (n : ℕ) → Contains start n → Contains queue n
-walking_kept Steps To crossed start at now queue x n c = let g = x.climbing.grown in subst (λ q. Contains q n) (sym g.1) (Contains-append_left start g.0 n c)
+walking_kept Steps To crossed start at now queue x = climbing_begun Steps start at queue x.climbing
 
 -- a step up through what is low
 module _ (patches : List Patch) (level : ℕ → ℕ) (most : ℕ) (crossed : List Bool) (start : List ℕ) (at : ℕ) (now after : List Bool) (queue new : List ℕ) (inside : at < length queue) where

@@ -1,7 +1,8 @@
 -- The search for a cycle: down from names to an open gate, or up from the gate to names, through what waits for an open gate.
-use Rattle.std.specs.Prelude.{◌≡◌, ◌↔◌, ℕ, List}
+use Rattle.std.specs.Prelude.{◌≡◌, ◌⊎◌, ◌↔◌, ℕ, List, length, Contains}
 use Rattle.fst_types.specs.{Dependencies.{DirectlyOn, DependsOn, IsLiveNumber}, Gates.IsOpenNumber, Patches.Patch}
 use Rattle.fst_heads.specs.{Heads.patches_of, Marks.IsAbove, Nodes.{nodes_of, pending_in}, Rows.IsTouched, declared.head.Head.Head}
+use Rattle.fst_walks.specs.{BothEnds.AreApart, Descending.{IsLedFrom, Visited}, Walks.numbers_met, declared.ends.Ends.Ends}
 use Rattle.fst_heads.specs.declared.pending.Pending.{Pending}
 use Rattle.fst_heads.specs.declared.pending.Pending.TheVariants as pending
 
@@ -21,6 +22,29 @@ IsNextHeld patches told n m = DirectlyOn patches n m × (told m ≡ pending.Held
 -- a step up: to what directly depends on it and waits for an open gate
 abbrev pub IsNextAbove : List Patch → (ℕ → Pending) → ℕ → ℕ → Type 0
 IsNextAbove patches told n m = DirectlyOn patches m n × (told m ≡ pending.Held)
+
+-- both walks are over these heads
+pub record AreOver (heads : List Head) (ends : Ends) : Type 0 where
+  pub up : length ends.up.walk.marks ≡ length heads
+  pub down : length ends.down.walk.marks ≡ length heads
+
+-- both walks have met none but what is not on disk, and neither what the other has
+pub record WalkApart (heads : List Head) (ends : Ends) : Type 0 where
+  pub up : Visited heads ends.up.walk
+  pub down : Visited heads ends.down.walk
+  pub apart : AreApart (numbers_met heads ends.up.walk) (numbers_met heads ends.down.walk)
+
+-- steps lead up to n from one of the bottoms, and down to it from one of the tops
+pub record IsBetween (patches : List Patch) (told : ℕ → Pending) (bottoms tops : List ℕ) (n : ℕ) : Type 0 where
+  pub over : IsLedFrom (IsNextAbove patches told) bottoms n
+  pub under : IsLedFrom (IsNextHeld patches told) tops n
+
+-- one of the two walks has met all that it leads to, and nothing was met by both
+pub record StayApart (patches : List Patch) (told : ℕ → Pending) (bottoms tops over under : List ℕ) : Type 0 where
+  pub over_begun : (n : ℕ) → Contains bottoms n → Contains over n
+  pub under_begun : (n : ℕ) → Contains tops n → Contains under n
+  pub apart : AreApart over under
+  pub ended : ((n : ℕ) → IsLedFrom (IsNextAbove patches told) bottoms n → Contains over n) ⊎ ((n : ℕ) → IsLedFrom (IsNextHeld patches told) tops n → Contains under n)
 
 -- a live change that shares one of these bytes of block b depends on the tail
 abbrev pub TouchedReaches : List Patch → ℕ → (b at len : ℕ) → Type 0

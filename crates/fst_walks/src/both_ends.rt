@@ -17,7 +17,7 @@ ghost use Rattle.fst_walks.specs.Telling.{IsTold};
 ghost use Rattle.fst_walks.specs.Walks.{numbers_met};
 ghost use Rattle.fst_walks.specs.WayBack.{ShowsBlockOf};
 
-use crate::ends::Ends;
+use crate::ends::{Ends, Looked, meets};
 use crate::first_away::{FEW, visit_first_away};
 use crate::graded::{Graded, hard, soft};
 use crate::sight::Sight;
@@ -26,13 +26,6 @@ use crate::walk::Walk;
 use crate::way_down::step_down;
 use crate::way_up::{step_up, visit_low_changes};
 use fst_heads::head::Head;
-
-/// How many patches each of the two has looked at.
-#[derive(Clone, Copy)]
-struct Looked {
-    up: usize,
-    down: usize,
-}
 
 // The greatest level of what the walk has met.
 fn highest(sight: &Sight<'_>, walk: &Walk) -> u32
@@ -45,23 +38,6 @@ fn highest(sight: &Sight<'_>, walk: &Walk) -> u32
         most = most.max(sight.levels.level(walk.slot(at)));
     }
     most
-}
-
-// The slot of what the walk met at that turn or later, and the other has met too.
-fn meets(heads: &[Head], walk: &Walk, other: &Walk, from: usize) -> Option<usize>
-    requires walk { length walk.now.marks ≡ length heads.now }
-    requires other { Visited heads.now other.now }
-    requires rising { IsRising heads.now }
-    ensures met { IfSome result (λ slot. (n : ℕ) × HasSlot heads.now n slot × Contains (numbers_met heads.now walk.now) n × Contains (numbers_met heads.now other.now) n) }
-    ensures apart { IfNone result ((at : ℕ) → from ≤ at → at < length walk.now.met → Contains (numbers_met heads.now other.now) (slice_index_or (numbers_met heads.now walk.now) at 0) → ⊥) }
-{
-    for at in from..walk.len() {
-        let slot = walk.slot(at);
-        if other.has_met(slot) {
-            return Some(slot);
-        }
-    }
-    None
 }
 
 // A step of the walk up from what it met there in turn. Answers the slot of what it met that the walk down has met too.

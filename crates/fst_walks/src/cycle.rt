@@ -1,24 +1,24 @@
 //! The search for a cycle: whether an open gate, or what depends on it, is among the patches that the gate is to depend on
 //! (`starts`). All on a way down to an open gate waits for one, so that the search looks at nothing else, at each such patch
 //! once, and is left out where nothing depends on the gate, or no name waits for an open gate. Mostly one end has far less
-//! around it than the other: so it is looked for from above (`cycle_above`) and from below by turns, each time at eight times
-//! as many patches, until one of them has looked at all there are.
+//! around it than the other: so one walk goes up from the gate, to what depends on it, and one down from the starts, and the
+//! one that has looked at less takes the next step. They meet where there is a cycle; there is none where one of them comes
+//! to its end and they have not met.
 
-ghost use Rattle.std.specs.Prelude.{◌≡◌, ◌↔◌, ◌<◌, ℕ, false, length, Contains, IfNone, IfSome, IsTrue};
+ghost use Rattle.std.specs.Prelude.{◌≡◌, ◌↔◌, ◌<◌, ℕ, false, length, Contains, IsTrue, slice_index_or};
 ghost use Rattle.fst_types.specs.Gates.{IsOpenNumber};
 ghost use Rattle.fst_types.specs.Order.{NamesAbove};
 ghost use Rattle.fst_heads.specs.declared.pending.Pending.TheVariants as pending;
-ghost use Rattle.fst_walks.specs.Descending.{Visited, Visits, IsLedFrom};
+ghost use Rattle.fst_walks.specs.Descending.{Visited, Visits};
 ghost use Rattle.fst_heads.specs.Heads.{IsRising, patches_of};
 ghost use Rattle.fst_heads.specs.Names.{numbers_of};
 ghost use Rattle.fst_heads.specs.Marks.{HasSlot};
 ghost use Rattle.fst_heads.specs.Nodes.{AreLinked, nodes_of, pending_in};
-ghost use Rattle.fst_walks.specs.Searching.{IsNextHeld, TellsGates};
+ghost use Rattle.fst_walks.specs.Searching.{AreOver, IsBetween, IsNextAbove, IsNextHeld, StayApart, TellsGates, WalkApart};
 ghost use Rattle.fst_walks.specs.Starting.{StartsAbove};
 ghost use Rattle.fst_walks.specs.Walks.{numbers_met};
 
-use crate::cycle_above::starts_above;
-use crate::descent::is_visited;
+use crate::ends::{Ends, Looked, meets};
 use crate::starts::{Starts, visit_starts};
 use crate::walk::Walk;
 use fst_heads::head::Head;
@@ -26,11 +26,6 @@ use fst_heads::marks::slot_of;
 use fst_heads::pending::{Pending, is_pending};
 use fst_heads::row::pending_at;
 use fst_types::PatchNo;
-
-// How many patches each end looks at first, and how often it looks at more before it looks at all.
-const FEW_LOOKS: usize = 64;
-
-const TRIES: u32 = 4;
 
 /// Visits the patch with the number if it waits for an open gate.
 pub fn visit_held(heads: &[Head], walk: &mut Walk, number: u32)
@@ -60,98 +55,128 @@ pub fn visit_row(heads: &[Head], walk: &mut Walk, row: &[u32])
     }
 }
 
-// Visits all that the search meets from what was visited on, or gives up where it would look at more than so many.
-// Answers whether it visited all.
-fn search_within(heads: &[Head], walk: &mut Walk, most: usize) -> bool
+// Visits those that directly depend on what the walk met there in turn and wait for an open gate. Answers how many it looked
+// at.
+fn step_above(heads: &[Head], walk: &mut Walk, at: usize) -> usize
+    requires rising { IsRising heads.now }
+    requires visited { Visited heads.now walk.old }
+    requires linked { AreLinked (nodes_of heads.now) }
+    requires gates { TellsGates heads.now }
+    requires at { at < length walk.old.met }
+    ensures visited { Visited heads.now walk.new }
+    ensures visits { Visits (IsNextAbove (patches_of heads.now) (pending_in (nodes_of heads.now)) (slice_index_or (numbers_met heads.now walk.old) at 0)) (numbers_met heads.now walk.old) (numbers_met heads.now walk.new) }
+{
+    let slot = walk.slot(at);
+    let row = heads[slot].dependants.as_slice();
+    visit_row(heads, walk, row);
+    row.len()
+}
+
+// Visits those that it directly depends on and that wait for an open gate. Answers how many it looked at.
+fn step_held(heads: &[Head], walk: &mut Walk, at: usize) -> usize
     requires rising { IsRising heads.now }
     requires visited { Visited heads.now walk.old }
     requires gates { TellsGates heads.now }
+    requires at { at < length walk.old.met }
     ensures visited { Visited heads.now walk.new }
-    ensures led { IsTrue result → (n : ℕ) → Contains (numbers_met heads.now walk.new) n ↔ IsLedFrom (IsNextHeld (patches_of heads.now) (pending_in (nodes_of heads.now))) (numbers_met heads.now walk.old) n }
-    ensures decided { result ≡ false → most < 18446744073709551615 }
+    ensures visits { Visits (IsNextHeld (patches_of heads.now) (pending_in (nodes_of heads.now)) (slice_index_or (numbers_met heads.now walk.old) at 0)) (numbers_met heads.now walk.old) (numbers_met heads.now walk.new) }
 {
-    let mut at = 0;
-    let mut looked = 0usize;
-    while at < walk.len() {
-        let slot = walk.slot(at);
-        let row = heads[slot].dependencies.as_slice();
-        looked = looked.saturating_add(row.len());
-        if looked > most {
-            return false;
-        }
-        visit_row(heads, walk, row);
-        at += 1;
-    }
-    true
+    let slot = walk.slot(at);
+    let row = heads[slot].dependencies.as_slice();
+    visit_row(heads, walk, row);
+    row.len()
 }
 
-// Whether one of the starts is the gate or depends on it, or none where more than so many patches would have to be looked
-// at.
-fn starts_reach(
-    heads: &[Head],
-    walk: &mut Walk,
-    gate: u32,
-    starts: Starts<'_>,
-    most: usize,
-) -> Option<bool>
+// A step of the walk up from what it met there in turn. Answers whether it met what the walk down has met.
+fn turn_up(heads: &[Head], ends: &mut Ends, at: usize, looked: &mut Looked) -> bool
     requires rising { IsRising heads.now }
-    requires long { length walk.old.marks ≡ length heads.now }
-    requires gates { TellsGates heads.now }
-    requires is_open { IsOpenNumber (patches_of heads.now) gate }
-    ensures reaches { IfSome result (λ reach. IsTrue reach ↔ StartsAbove (patches_of heads.now) gate starts.entry) }
-    ensures decided { IfNone result (most < 18446744073709551615) }
-    ensures long { length walk.new.marks ≡ length heads.now }
-{
-    walk.clear();
-    visit_starts(heads, walk, starts);
-    if !search_within(heads, walk, most) {
-        return None;
-    }
-    Some(is_visited(heads, walk, gate))
-}
-
-// The same from both ends, one after the other.
-fn starts_meet(
-    heads: &[Head],
-    walk: &mut Walk,
-    gate: u32,
-    starts: Starts<'_>,
-    most: usize,
-) -> Option<bool>
-    requires rising { IsRising heads.now }
-    requires long { length walk.old.marks ≡ length heads.now }
     requires linked { AreLinked (nodes_of heads.now) }
     requires gates { TellsGates heads.now }
-    requires is_open { IsOpenNumber (patches_of heads.now) gate }
-    ensures meet { IfSome result (λ meet. IsTrue meet ↔ StartsAbove (patches_of heads.now) gate starts.entry) }
-    ensures long { length walk.new.marks ≡ length heads.now }
+    requires apart { WalkApart heads.now ends.old }
+    requires at { at < length ends.old.up.walk.met }
+    ensures visits { Visits (IsNextAbove (patches_of heads.now) (pending_in (nodes_of heads.now)) (slice_index_or (numbers_met heads.now ends.old.up.walk) at 0)) (numbers_met heads.now ends.old.up.walk) (numbers_met heads.now ends.new.up.walk) }
+    ensures met { IsTrue result → ((n : ℕ) × Contains (numbers_met heads.now ends.new.up.walk) n × Contains (numbers_met heads.now ends.old.down.walk) n) }
+    ensures apart { result ≡ false → WalkApart heads.now ends.new }
+    ensures over { AreOver heads.now ends.new }
+    ensures down { ends.new.down ≡ ends.old.down }
+    ensures crossed { ends.new.up.crossed ≡ ends.old.up.crossed }
 {
-    if let Some(above) = starts_above(heads, walk, gate, starts, most) {
-        return Some(above);
-    }
-    starts_reach(heads, walk, gate, starts, most)
+    let from = ends.up.walk.len();
+    let more = step_above(heads, &mut ends.up.walk, at);
+    looked.up = looked.up.saturating_add(more);
+    meets(heads, &ends.up.walk, &ends.down.walk, from).is_some()
 }
 
-/// Whether one of the starts is the open gate or depends on it: looked for from either end by turns until one tells. What was
-/// met before does not matter.
-pub fn starts_close(heads: &[Head], walk: &mut Walk, gate: u32, starts: Starts<'_>) -> bool
+// A step of the walk down from what it met there in turn. Answers whether it met what the walk up has met.
+fn turn_down(heads: &[Head], ends: &mut Ends, at: usize, looked: &mut Looked) -> bool
     requires rising { IsRising heads.now }
-    requires long { length walk.old.marks ≡ length heads.now }
+    requires gates { TellsGates heads.now }
+    requires apart { WalkApart heads.now ends.old }
+    requires at { at < length ends.old.down.walk.met }
+    ensures visits { Visits (IsNextHeld (patches_of heads.now) (pending_in (nodes_of heads.now)) (slice_index_or (numbers_met heads.now ends.old.down.walk) at 0)) (numbers_met heads.now ends.old.down.walk) (numbers_met heads.now ends.new.down.walk) }
+    ensures met { IsTrue result → ((n : ℕ) × Contains (numbers_met heads.now ends.old.up.walk) n × Contains (numbers_met heads.now ends.new.down.walk) n) }
+    ensures apart { result ≡ false → WalkApart heads.now ends.new }
+    ensures over { AreOver heads.now ends.new }
+    ensures up { ends.new.up ≡ ends.old.up }
+    ensures crossed { ends.new.down.crossed ≡ ends.old.down.crossed }
+{
+    let from = ends.down.walk.len();
+    let more = step_held(heads, &mut ends.down.walk, at);
+    looked.down = looked.down.saturating_add(more);
+    meets(heads, &ends.down.walk, &ends.up.walk, from).is_some()
+}
+
+// Takes steps up and down, until one walk has met what the other has, or one is at its end. Answers whether they met. The
+// one that has looked at less takes the next step, so that neither goes far where the other has little before it.
+fn walks_meet(heads: &[Head], ends: &mut Ends) -> bool
+    requires rising { IsRising heads.now }
+    requires linked { AreLinked (nodes_of heads.now) }
+    requires gates { TellsGates heads.now }
+    requires up { Visited heads.now ends.old.up.walk }
+    requires down { Visited heads.now ends.old.down.walk }
+    ensures meet { IsTrue result → ((n : ℕ) × IsBetween (patches_of heads.now) (pending_in (nodes_of heads.now)) (numbers_met heads.now ends.old.up.walk) (numbers_met heads.now ends.old.down.walk) n) }
+    ensures apart { result ≡ false → StayApart (patches_of heads.now) (pending_in (nodes_of heads.now)) (numbers_met heads.now ends.old.up.walk) (numbers_met heads.now ends.old.down.walk) (numbers_met heads.now ends.new.up.walk) (numbers_met heads.now ends.new.down.walk) }
+    ensures over { AreOver heads.now ends.new }
+    ensures crossed { (ends.new.up.crossed ≡ ends.old.up.crossed) × (ends.new.down.crossed ≡ ends.old.down.crossed) }
+{
+    if meets(heads, &ends.up.walk, &ends.down.walk, 0).is_some() {
+        return true;
+    }
+    let mut looked = Looked { up: 0, down: 0 };
+    let mut up_at = 0;
+    let mut down_at = 0;
+    while up_at < ends.up.walk.len() && down_at < ends.down.walk.len() {
+        if looked.up <= looked.down {
+            if turn_up(heads, ends, up_at, &mut looked) {
+                return true;
+            }
+            up_at += 1;
+        } else {
+            if turn_down(heads, ends, down_at, &mut looked) {
+                return true;
+            }
+            down_at += 1;
+        }
+    }
+    false
+}
+
+/// Whether one of the starts is the open gate or depends on it. What was met before does not matter.
+pub fn starts_close(heads: &[Head], ends: &mut Ends, gate: u32, starts: Starts<'_>) -> bool
+    requires rising { IsRising heads.now }
+    requires over { AreOver heads.now ends.old }
     requires linked { AreLinked (nodes_of heads.now) }
     requires gates { TellsGates heads.now }
     requires is_open { IsOpenNumber (patches_of heads.now) gate }
     ensures close { IsTrue result ↔ StartsAbove (patches_of heads.now) gate starts.entry }
-    ensures long { length walk.new.marks ≡ length heads.now }
+    ensures over { AreOver heads.now ends.new }
+    ensures crossed { (ends.new.up.crossed ≡ ends.old.up.crossed) × (ends.new.down.crossed ≡ ends.old.down.crossed) }
 {
-    let mut most = FEW_LOOKS;
-    for _ in 0..TRIES {
-        if let Some(closes) = starts_meet(heads, walk, gate, starts, most) {
-            return closes;
-        }
-        most = most.saturating_mul(8);
-    }
-    // Without a limit it tells.
-    starts_reach(heads, walk, gate, starts, usize::MAX).unwrap()
+    ends.up.walk.clear();
+    visit_held(heads, &mut ends.up.walk, gate);
+    ends.down.walk.clear();
+    visit_starts(heads, &mut ends.down.walk, starts);
+    walks_meet(heads, ends)
 }
 
 // Whether one of the names is the gate.
@@ -182,19 +207,20 @@ fn names_held(heads: &[Head], names: &[PatchNo]) -> bool
 /// Whether one of the names is the open gate in the slot or depends on it. What was met before does not matter.
 pub fn closes_cycle(
     heads: &[Head],
-    walk: &mut Walk,
+    ends: &mut Ends,
     slot: usize,
     gate: u32,
     names: &[PatchNo],
 ) -> bool
     requires rising { IsRising heads.now }
-    requires long { length walk.old.marks ≡ length heads.now }
+    requires over { AreOver heads.now ends.old }
     requires linked { AreLinked (nodes_of heads.now) }
     requires gates { TellsGates heads.now }
     requires slot { HasSlot heads.now gate slot }
     requires is_open { IsOpenNumber (patches_of heads.now) gate }
     ensures closes { IsTrue result ↔ NamesAbove (patches_of heads.now) gate (numbers_of names.now) }
-    ensures long { length walk.new.marks ≡ length heads.now }
+    ensures over { AreOver heads.now ends.new }
+    ensures crossed { (ends.new.up.crossed ≡ ends.old.up.crossed) × (ends.new.down.crossed ≡ ends.old.down.crossed) }
 {
     if heads[slot].dependants.as_slice().is_empty() {
         return is_named(names, gate);
@@ -202,5 +228,5 @@ pub fn closes_cycle(
     if !names_held(heads, names) {
         return false;
     }
-    starts_close(heads, walk, gate, Starts::Names(names))
+    starts_close(heads, ends, gate, Starts::Names(names))
 }

@@ -1,6 +1,6 @@
 //! What walks visit: patches that are not on disk, each once. Blocks are shown as crossed, so that each is crossed once.
 
-ghost use Rattle.std.specs.Prelude.{◌≡◌, ◌<◌, ◌↔◌, ℕ, length, Contains, IsTrue};
+ghost use Rattle.std.specs.Prelude.{◌≡◌, ◌<◌, ◌↔◌, ℕ, length, Contains};
 ghost use Rattle.fst_types.specs.Dependencies.{IsLiveNumber};
 ghost use Rattle.fst_heads.specs.declared.test.Test.TheVariants as test;
 ghost use Rattle.fst_walks.specs.Descending.{Visited, Visits};
@@ -37,19 +37,6 @@ pub fn visit_row(heads: &[Head], walk: &mut Walk, row: &[u32])
 {
     for number in row {
         visit(heads, walk, *number);
-    }
-}
-
-/// Whether the patch with the number was visited.
-pub fn is_visited(heads: &[Head], walk: &Walk, number: u32) -> bool
-    requires rising { IsRising heads.now }
-    requires long { length walk.now.marks ≡ length heads.now }
-    ensures { IsTrue result ↔ Contains (numbers_met heads.now walk.now) number }
-{
-    let marks = walk.marks();
-    match slot_of(heads, number) {
-        Some(slot) => marks[slot],
-        None => false,
     }
 }
 

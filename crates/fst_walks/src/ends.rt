@@ -1,10 +1,15 @@
-//! The two walks of a search from both ends, which are over the same heads and blocks.
+//! The two walks of a search from both ends, which are over the same heads and blocks, and whether they meet.
 
-ghost use Rattle.std.specs.Prelude.{◌≡◌, ◌≤◌, ◌<◌, ◌+◌, ◌++◌, ◌∷◌, [], false, length, IfOk, OnOk};
+ghost use Rattle.std.specs.Prelude.{◌≡◌, ◌≤◌, ◌<◌, ◌+◌, ◌++◌, ◌∷◌, [], ℕ, false, length, Contains, IfNone, IfOk, IfSome, OnOk, slice_index_or};
+ghost use Rattle.fst_heads.specs.Heads.{IsRising};
+ghost use Rattle.fst_heads.specs.Marks.{HasSlot};
 ghost use Rattle.fst_walks.specs.BothEnds.{IsOver};
+ghost use Rattle.fst_walks.specs.Descending.{Visited};
+ghost use Rattle.fst_walks.specs.Walks.{numbers_met};
 
 use crate::block_walk::BlockWalk;
 use crate::walk::Walk;
+use fst_heads::head::Head;
 use std::alloc::{AllocError, Global};
 
 /// The walk up and the walk down.
@@ -12,6 +17,30 @@ use std::alloc::{AllocError, Global};
 pub struct Ends {
     pub up: BlockWalk,
     pub down: BlockWalk,
+}
+
+/// How many patches each of the two has looked at.
+#[derive(Clone, Copy)]
+pub struct Looked {
+    pub up: usize,
+    pub down: usize,
+}
+
+/// The slot of what the walk met at that turn or later, and the other has met too.
+pub fn meets(heads: &[Head], walk: &Walk, other: &Walk, from: usize) -> Option<usize>
+    requires walk { length walk.now.marks ≡ length heads.now }
+    requires other { Visited heads.now other.now }
+    requires rising { IsRising heads.now }
+    ensures met { IfSome result (λ slot. (n : ℕ) × HasSlot heads.now n slot × Contains (numbers_met heads.now walk.now) n × Contains (numbers_met heads.now other.now) n) }
+    ensures apart { IfNone result ((at : ℕ) → from ≤ at → at < length walk.now.met → Contains (numbers_met heads.now other.now) (slice_index_or (numbers_met heads.now walk.now) at 0) → ⊥) }
+{
+    for at in from..walk.len() {
+        let slot = walk.slot(at);
+        if other.has_met(slot) {
+            return Some(slot);
+        }
+    }
+    None
 }
 
 // A walk over no head.

@@ -10,10 +10,10 @@
 //! ends at once (`both_ends`): up from the changes of the block (`way_up`), and down (`way_down`) from the first changes of other
 //! blocks at or below what the new change depends on (`first_away`), which goes on from a block to what its hard changes
 //! need (`needs`). Where a new hard change would stand over the floor of its block, the floor goes up, with all that stands
-//! over the block (`lift`). *May a gate gain these names, and may a group have this change?* A search goes down from them
-//! (`starts`) through what waits for an open gate, and by turns one goes up from the gate (`cycle`, `cycle_above`,
-//! `overlap_cycle`). Which gates a row waits for is looked for down alone (`other_gates`). *What waits behind a write that is
-//! out?* A walk goes up from what flies (`ascent`).
+//! over the block (`lift`). *May a gate gain these names, and may a group have this change?* A walk goes down from them
+//! (`starts`) through what waits for an open gate, and one up from the gate to what depends on it, until they meet or one of
+//! them is at its end (`cycle`, `overlap_cycle`). Which gates a row waits for is looked for down alone (`other_gates`). *What
+//! waits behind a write that is out?* A walk goes up from what flies (`ascent`).
 //!
 //! A walk is a value of its own (`walk`), which keeps what it has met, so that each patch is looked at once; it can be
 //! used for walk after walk, each of which begins where nothing was met. What walks look at is one value too (`sight`):
@@ -32,7 +32,6 @@ pub mod below;
 pub mod block_walk;
 pub mod both_ends;
 pub mod cycle;
-pub mod cycle_above;
 pub mod descent;
 pub mod ends;
 pub mod first_away;

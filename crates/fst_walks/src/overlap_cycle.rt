@@ -2,17 +2,17 @@
 //! which depends on the changes that it overlaps. So it is looked for as where a gate is to depend on these (`cycle`). Where
 //! nothing depends on the tail, which is so in a group that none comes after, it is left out, and the list with it.
 
-ghost use Rattle.std.specs.Prelude.{◌≡◌, ◌↔◌, ℕ, length, IsTrue};
+ghost use Rattle.std.specs.Prelude.{◌≡◌, ◌↔◌, ℕ, IsTrue};
 ghost use Rattle.fst_types.specs.Dependencies.{DependsOn};
 ghost use Rattle.fst_types.specs.Gates.{IsOpenNumber};
 ghost use Rattle.fst_heads.specs.Heads.{IsRising, patches_of};
 ghost use Rattle.fst_heads.specs.Lists.{entries_of, entries_on};
 ghost use Rattle.fst_heads.specs.Nodes.{AreLinked, nodes_of};
-ghost use Rattle.fst_walks.specs.Searching.{TellsGates, TouchedReaches};
+ghost use Rattle.fst_walks.specs.Searching.{AreOver, TellsGates, TouchedReaches};
 
 use crate::cycle::starts_close;
+use crate::ends::Ends;
 use crate::starts::Starts;
-use crate::walk::Walk;
 use fst_heads::head::Head;
 use fst_heads::lists::Listed;
 use fst_heads::marks::slot_of;
@@ -35,22 +35,23 @@ fn has_dependants(heads: &[Head], number: u32) -> bool
 pub fn overlap_reaches(
     heads: &[Head],
     list: &[Listed],
-    walk: &mut Walk,
+    ends: &mut Ends,
     gate: u32,
     block: u32,
     span: Span,
 ) -> bool
     requires rising { IsRising heads.now }
-    requires long { length walk.old.marks ≡ length heads.now }
+    requires over { AreOver heads.now ends.old }
     requires linked { AreLinked (nodes_of heads.now) }
     requires listed { entries_of list.now ≡ entries_on block (patches_of heads.now) }
     requires gates { TellsGates heads.now }
     requires is_open { IsOpenNumber (patches_of heads.now) gate }
     ensures reaches { IsTrue result ↔ TouchedReaches (patches_of heads.now) gate block span.at span.len }
-    ensures long { length walk.new.marks ≡ length heads.now }
+    ensures over { AreOver heads.now ends.new }
+    ensures crossed { (ends.new.up.crossed ≡ ends.old.up.crossed) × (ends.new.down.crossed ≡ ends.old.down.crossed) }
 {
     if !has_dependants(heads, gate) {
         return false;
     }
-    starts_close(heads, walk, gate, Starts::Overlapped(list, span))
+    starts_close(heads, ends, gate, Starts::Overlapped(list, span))
 }

@@ -1,9 +1,9 @@
 //! Where a search for a cycle starts below: at the patches that a gate is to depend on, or at those that a new change of a
-//! group overlaps. What searches from above looks whether it met one of them.
+//! group overlaps.
 
-ghost use Rattle.std.specs.Prelude.{◌≡◌, ◌↔◌, ℕ, length, Contains, IsTrue};
+ghost use Rattle.std.specs.Prelude.{◌≡◌, Contains};
 ghost use Rattle.fst_heads.specs.declared.pending.Pending.TheVariants as pending;
-ghost use Rattle.fst_heads.specs.Heads.{IsRising, patches_of};
+ghost use Rattle.fst_heads.specs.Heads.{IsRising};
 ghost use Rattle.fst_heads.specs.Lists.{entries_of};
 ghost use Rattle.fst_heads.specs.Names.{numbers_of};
 ghost use Rattle.fst_heads.specs.Nodes.{nodes_of, pending_in};
@@ -13,7 +13,6 @@ ghost use Rattle.fst_walks.specs.Starting.{IsSharing, IsStart};
 ghost use Rattle.fst_walks.specs.Walks.{numbers_met};
 
 use crate::cycle::visit_held;
-use crate::descent::is_visited;
 use crate::walk::Walk;
 use fst_heads::head::Head;
 use fst_heads::lists::Listed;
@@ -68,45 +67,5 @@ pub fn visit_starts(heads: &[Head], walk: &mut Walk, starts: Starts<'_>)
     match starts {
         Starts::Names(names) => visit_names(heads, walk, names),
         Starts::Overlapped(list, span) => visit_overlapped(heads, walk, list, span),
-    }
-}
-
-// Whether one of the names was visited.
-fn names_visited(heads: &[Head], walk: &Walk, names: &[PatchNo]) -> bool
-    requires rising { IsRising heads.now }
-    requires long { length walk.now.marks ≡ length heads.now }
-    ensures { IsTrue result ↔ ((n : ℕ) × Contains (numbers_of names.now) n × Contains (numbers_met heads.now walk.now) n) }
-{
-    for name in names {
-        if is_visited(heads, walk, name.0) {
-            return true;
-        }
-    }
-    false
-}
-
-// Whether a listed change that shares a byte with the span was visited.
-fn overlapped_visited(heads: &[Head], walk: &Walk, list: &[Listed], span: Span) -> bool
-    requires rising { IsRising heads.now }
-    requires long { length walk.now.marks ≡ length heads.now }
-    ensures { IsTrue result ↔ ((n : ℕ) × IsSharing span.at span.len (entries_of list.now) n × Contains (numbers_met heads.now walk.now) n) }
-{
-    for listed in list {
-        if shares(listed.span, span) && is_visited(heads, walk, listed.number) {
-            return true;
-        }
-    }
-    false
-}
-
-/// Whether one of the starts was visited.
-pub fn starts_visited(heads: &[Head], walk: &Walk, starts: Starts<'_>) -> bool
-    requires rising { IsRising heads.now }
-    requires long { length walk.now.marks ≡ length heads.now }
-    ensures { IsTrue result ↔ ((n : ℕ) × IsStart starts.entry n × Contains (numbers_met heads.now walk.now) n) }
-{
-    match starts {
-        Starts::Names(names) => names_visited(heads, walk, names),
-        Starts::Overlapped(list, span) => overlapped_visited(heads, walk, list, span),
     }
 }

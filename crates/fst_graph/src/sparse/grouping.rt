@@ -47,8 +47,8 @@ impl Sparse {
             levels: &self.levels,
             needs: &self.needs,
         };
-        let walk = &mut self.ends.up.walk;
-        if let Some(fault) = member_fault(&sight, walk, self.numbers, gates.tail, block.0, span) {
+        let ends = &mut self.ends;
+        if let Some(fault) = member_fault(&sight, ends, self.numbers, gates.tail, block.0, span) {
             return Err(fault);
         }
         let Ok(prepared) = prepare_member(self.alloc, &sight, &mut self.ends, block.0, span, gates)

@@ -2,9 +2,9 @@ use Rattle.std.proofs.Common.{◌∙◌, length, refl, sym, ap, subst, None, inl
 use Rattle.fst_types.specs.{Gates.IsOpenNumber, Order.depend_order, Refusals.NoneHolds}
 use Rattle.fst_heads.specs.{Heads.patches_of, Names.numbers_of, Nodes.nodes_of}
 use Rattle.fst_walks.proofs.Seen.{same_patches}
-use Rattle.fst_walks.specs.Leveling.{IsLeveled}
+use Rattle.fst_walks.specs.{Leveling.IsLeveled, Searching.AreOver}
 use Rattle.fst_graph.specs.Sound.{AreSound}
-use Rattle.fst_graph.proofs.{Borne.few, Made.{gained_sound, named_patches}, Sound.{leveled_sound, rising_sound, roomier_sound, walked_sound, as_many_marks, as_many_places, gates_told, over_down}}
+use Rattle.fst_graph.proofs.{Borne.few, Made.{gained_sound, named_patches}, Sound.{gates_told, leveled_sound, over_both, rising_sound, roomier_sound, searched_sound}}
 use Rattle.fst_graph.proofs.sparse.Sparse.depend.Goals.{After-depend_fault, After-gain_names}
 use Rattle.fst_graph.proofs.sparse.Sparse.depend.Goals as goal
 
@@ -23,11 +23,11 @@ returns-in-Some-clause-refused c = rw (← c.self.view_is, ← c.deref.ensures.v
 pub gain_names-requires : goal.gain_names-requires
 gain_names-requires c = record { rising = rising_sound c.self.invariant; linked = c.self.invariant.tallies.linked; counted = few (nodes_of c.self.inside.heads.items) c.self.inside.blocks (omega (arith, c.self.ranges)) c.self.invariant.tallies.settled }
 
--- the fields after the walk, and that nothing refuses it
+-- the fields after the walks, and that nothing refuses it
 walked : (c : After-depend_fault)
-    → AreSound c.self.inside.heads (record c.self.inside.ends { up = record c.self.inside.ends.up { walk = c.depend_fault.new.walk } }) c.self.inside.levels c.self.inside.needs c.self.inside.lists c.self.inside.covers c.self.inside.standings c.self.inside.queue
+    → AreSound c.self.inside.heads c.depend_fault.new.ends c.self.inside.levels c.self.inside.needs c.self.inside.lists c.self.inside.covers c.self.inside.standings c.self.inside.queue
     c.self.inside.live c.self.inside.unmarked c.self.inside.numbers c.self.inside.blocks None
-walked c = walked_sound c.self.invariant (record { long = c.depend_fault.ensures.long ∙ ap length c.deref.ensures.value; crossed = as_many_places c.self.invariant }) (over_down c.self.invariant)
+walked c = searched_sound c.self.invariant (subst (λ hs. AreOver hs c.depend_fault.new.ends) c.deref.ensures.value c.depend_fault.ensures.over) c.depend_fault.ensures.crossed
 
 gate : (c : After-gain_names) → IsOpenNumber (patches_of c.self.inside.heads.items) c.args.gate.0
 gate c = subst (λ hs. IsOpenNumber (patches_of hs) c.args.gate.0) c.deref.ensures.value c.in_default.ensures.is_open
@@ -87,8 +87,8 @@ returns-clause-ok c =
       prepared = refl;
     })
 
-pub depend_fault-requires-clause-long : goal.depend_fault-requires-clause-long
-depend_fault-requires-clause-long c = as_many_marks c.self.invariant ∙ sym (ap length c.deref.ensures.value)
+pub depend_fault-requires-clause-over : goal.depend_fault-requires-clause-over
+depend_fault-requires-clause-over c = rw c.deref.ensures.value (over_both c.self.invariant)
 
 pub invariant_of-self : goal.invariant_of-self
 invariant_of-self c = rw c.let_go.ensures (walked (goal.at.invariant_of-self c).After-depend_fault)

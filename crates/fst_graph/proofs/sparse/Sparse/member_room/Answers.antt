@@ -1,10 +1,11 @@
-use Rattle.std.proofs.Common.{◌≡◌, [], ◌<◌, ◌∙◌, arith, length, None, Some, inl, inr, ap, sym, subst, refl}
+use Rattle.std.proofs.Common.{◌≡◌, [], ◌<◌, arith, length, None, Some, inl, inr, ap, sym, subst, refl}
 use Rattle.fst_types.specs.{Refusals.NoneHolds}
 use Rattle.fst_heads.specs.{Heads.patches_of}
 use Rattle.fst_types.specs.declared.fault.Fault.TheVariants as fault
+use Rattle.fst_walks.specs.Searching.{AreOver}
 use Rattle.fst_graph.specs.{Known.{Known, Refuses}, Membering.{ArePaired, member_order}}
 use Rattle.fst_graph.proofs.{MemberReady.{member_found, foretold}, Readied.{member_found_as, member_put}}
-use Rattle.fst_graph.proofs.Sound.{as_many_lists, as_many_marks, as_many_places, gates_told, over_down, over_then, sees_all, walked_sound}
+use Rattle.fst_graph.proofs.Sound.{as_many_lists, gates_told, over_both, over_then, searched_down, searched_sound, searched_up, sees_all, walked_sound}
 use Rattle.fst_graph.proofs.sparse.Sparse.member_room.Goals.{After-deref}
 use Rattle.fst_graph.proofs.sparse.Sparse.member_room.Goals as goal
 
@@ -21,7 +22,7 @@ pub member_fault-requires : goal.member_fault-requires
 member_fault-requires c = record {
   sees = sees_all c.self.invariant _ c.deref.ensures.value c.deref-2.ensures.value c.deref-3.ensures.value refl refl;
   gates = rw c.deref.ensures.value (gates_told c.self.invariant);
-  long = as_many_marks c.self.invariant ∙ sym (ap length c.deref.ensures.value);
+  over = rw c.deref.ensures.value (over_both c.self.invariant);
   block = omega (arith, inside (goal.at.member_fault-requires c).After-deref, as_many_lists c.self.invariant, ap length c.deref-2.ensures.value);
   is_open = rw c.deref.ensures.value (paired (goal.at.member_fault-requires c).After-deref).tail_open;
 }
@@ -32,12 +33,13 @@ returns-in-Some-clause-refused c = rw (← c.self.view_is, ← c.deref.ensures.v
 pub prepare_member-requires : goal.prepare_member-requires
 prepare_member-requires c =
     let S = c.self.invariant in
+    let over = subst (λ hs. AreOver hs c.member_fault.new.ends) c.deref.ensures.value c.member_fault.ensures.over in
     record {
       lawful = (c.self.inside.numbers, rw c.deref.ensures.value S.keeps.lawful);
       counted = rw c.deref.ensures.value S.tallies.counted;
       sees = sees_all S _ c.deref.ensures.value c.deref-2.ensures.value c.deref-3.ensures.value refl refl;
-      up = record { long = c.member_fault.ensures.long; crossed = as_many_places S ∙ sym (ap length c.deref-2.ensures.value) };
-      down = over_then c.deref.ensures.value c.deref-2.ensures.value (over_down S);
+      up = over_then c.deref.ensures.value c.deref-2.ensures.value (searched_up S over c.member_fault.ensures.crossed.0);
+      down = over_then c.deref.ensures.value c.deref-2.ensures.value (searched_down S over c.member_fault.ensures.crossed.1);
       block = omega (arith, inside (goal.at.prepare_member-requires c).After-deref, as_many_lists S, ap length c.deref-2.ensures.value);
     }
 
@@ -91,9 +93,7 @@ returns-clause-prepared c =
 
 -- the fields after the walks
 pub invariant_of-self : goal.invariant_of-self
-invariant_of-self c =
-    let S = c.self.invariant in
-    rw c.let_go.ensures (walked_sound S (record { long = c.member_fault.ensures.long ∙ ap length c.deref.ensures.value; crossed = as_many_places S }) (over_down S))
+invariant_of-self c = rw c.let_go.ensures (searched_sound c.self.invariant (subst (λ hs. AreOver hs c.member_fault.new.ends) c.deref.ensures.value c.member_fault.ensures.over) c.member_fault.ensures.crossed)
 
 pub invariant_of-self-in_default-prepare_member : goal.invariant_of-self-in_default-prepare_member
 invariant_of-self-in_default-prepare_member c =

@@ -3,7 +3,7 @@ use Rattle.std.proofs.lemmas.Bool.{cases_eq, false≢true}
 use Rattle.std.proofs.lemmas.List.Elements.{Contains-get_or}
 use Rattle.fst_walks.specs.Walks.{numbers_met}
 use Rattle.fst_walks.proofs.Visiting.{long_met, slot_met, number_of_met, met_slot}
-use Rattle.fst_walks.proofs.both_ends.meets.Goals as goal
+use Rattle.fst_walks.proofs.ends.meets.Goals as goal
 
 pub returns-then-has_met-clause-met : goal.returns-then-has_met-clause-met
 returns-then-has_met-clause-met c =

@@ -1,0 +1,19 @@
+use Rattle.std.proofs.Common.{◌∙◌, Contains, get_or, sym, arith}
+use Rattle.fst_heads.specs.{Heads.patches_of, Nodes.{nodes_of, pending_in}}
+use Rattle.fst_walks.specs.{Searching.IsNextHeld, Walks.numbers_met}
+use Rattle.fst_walks.proofs.Visiting.{long_met, none_told, still_apart}
+use Rattle.fst_walks.proofs.cycle.turn_down.Goals as goal
+
+pub returns-clause-apart : goal.returns-clause-apart
+returns-clause-apart c not_met =
+    let heads = c.args.heads.now in
+    let down = c.args.ends.now.down.walk in
+    let old = numbers_met heads down in
+    let new = numbers_met heads c.step_held-more.new.walk in
+    let none = none_told c.meets.result c.meets.ensures.apart (sym c.is_some.ensures ∙ not_met) in
+    record {
+      up = c.requires.apart.up;
+      down = c.step_held-more.ensures.visited;
+      apart = λ n over under. still_apart (IsNextHeld (patches_of heads) (pending_in (nodes_of heads)) (get_or old c.args.at 0)) (Contains (numbers_met heads c.args.ends.now.up.walk)) old new c.len-from.result c.step_held-more.ensures.visits
+          (omega (arith, c.len-from.ensures.long, long_met heads down)) (λ m there above. c.requires.apart.apart m above there) (λ at past lt there. none at past (omega (arith, lt, long_met heads c.step_held-more.new.walk)) there) n under over;
+    }

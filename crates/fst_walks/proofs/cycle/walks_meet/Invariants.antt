@@ -1,0 +1,18 @@
+use Rattle.std.proofs.Common.{◌≡◌, ◌≤◌, ◌+◌, ◌-◌, length}
+use Rattle.fst_heads.specs.{Heads.patches_of, Nodes.{nodes_of, pending_in}}
+use Rattle.fst_walks.specs.{Searching.{IsNextAbove, IsNextHeld, WalkApart}, Walks.numbers_met}
+use Rattle.fst_walks.proofs.Ascended.{Climbing}
+use Rattle.fst_walks.proofs.cycle.walks_meet.Given as goal
+
+abbrev pub invariant-loop-up_at : goal.invariant-loop-up_at
+invariant-loop-up_at l = record {
+  apart : WalkApart l.heads l.ends;
+  climbs : Climbing (IsNextAbove (patches_of l.heads) (pending_in (nodes_of l.heads))) (numbers_met l.heads l.initial.ends.up.walk) l.up_at (numbers_met l.heads l.ends.up.walk);
+  descends : Climbing (IsNextHeld (patches_of l.heads) (pending_in (nodes_of l.heads))) (numbers_met l.heads l.initial.ends.down.walk) l.down_at (numbers_met l.heads l.ends.down.walk);
+  crossed : (l.ends.up.crossed ≡ l.initial.ends.up.crossed) × (l.ends.down.crossed ≡ l.initial.ends.down.crossed);
+  few_up : l.up_at ≤ length l.heads;
+  few_down : l.down_at ≤ length l.heads;
+}
+
+abbrev pub decreases-loop-up_at : goal.decreases-loop-up_at
+decreases-loop-up_at l = (length l.heads - l.up_at) + (length l.heads - l.down_at)
