@@ -39,3 +39,4 @@ pub mod Slotted
 pub mod Beside
 pub mod Framed
 pub mod FirstOnDisk
+pub mod LastOnDisk

@@ -7,6 +7,7 @@ ghost use Rattle.fst_types.specs.Patches.{Patch, block_of_kind};
 ghost use Rattle.fst_types.specs.Tests.{is_at, is_on, is_change_at, is_live};
 ghost use Rattle.fst_heads.specs.Names.{numbers_of};
 ghost use Rattle.fst_heads.specs.Heads.{IsRising, kind_of, patch_of, patches_of};
+ghost use Rattle.fst_heads.specs.Spans.{SpansDisk};
 ghost use Rattle.fst_heads.specs.Spreading.{launches};
 ghost use Rattle.fst_heads.specs.Nodes.{node_of, nodes_of};
 
@@ -111,33 +112,57 @@ pub fn first_on_disk(heads: &[Head], live: usize) -> usize
     high
 }
 
-// The heads on disk are dropped; `first` is the slot of the first of them. A head owns its rows, and so changes places with
-// one that is dropped.
-fn swap_on_disk(heads: &mut Vec<Head>, first: usize)
-    requires { first ≡ prefix_len is_live (patches_of heads.old.items) }
+/// The slot behind the last patch on disk, so many not being there; `first` is the slot of the first. A file system writes its
+/// oldest patches first, so that those on disk mostly lie together: from the first on they are met until there are no more.
+/// By turns with that the last is looked for from the end back, where the newest may be on disk too.
+pub fn end_on_disk(heads: &[Head], first: usize, live: usize) -> usize
+    requires first { first ≡ prefix_len is_live (patches_of heads.now) }
+    requires live { live ≡ count_by is_live (patches_of heads.now) }
+    ensures { SpansDisk (patches_of heads.now) first result }
+{
+    let mut slot = first;
+    let mut end = heads.len();
+    let mut left = heads.len() - live;
+    while 0 < left {
+        if !is_kept(&heads[end - 1]) {
+            return end;
+        }
+        end -= 1;
+        if !is_kept(&heads[slot]) {
+            left -= 1;
+        }
+        slot += 1;
+    }
+    slot
+}
+
+// The heads on disk are dropped, which stand from `first` up to `end`. There a live head changes places with one that is
+// dropped, since it owns its rows; those behind move in one piece, and are not looked at.
+fn swap_on_disk(heads: &mut Vec<Head>, first: usize, end: usize)
+    requires { SpansDisk (patches_of heads.old.items) first end }
     ensures { heads.new.items ≡ filter (λ h. is_live (patch_of h)) heads.old.items }
 {
     let mut kept = first;
-    for slot in first..heads.len() {
+    for slot in first..end {
         if is_kept(&heads[slot]) {
             heads.swap(kept, slot);
             kept += 1;
         }
     }
-    heads.truncate(kept);
+    heads.drain(kept..end);
 }
 
-/// Drops the patches on disk; `first` is the slot of the first of them. Those before it are looked at only where they are few:
-/// what looks at all moves a head in half the time.
-pub fn drop_on_disk(heads: &mut Vec<Head>, first: usize)
-    requires { first ≡ prefix_len is_live (patches_of heads.old.items) }
+/// Drops the patches on disk, which stand from `first` up to `end`. Those before and behind are looked at only where they are
+/// fewer: what looks at all moves a head in half the time.
+pub fn drop_on_disk(heads: &mut Vec<Head>, first: usize, end: usize)
+    requires { SpansDisk (patches_of heads.old.items) first end }
     ensures { nodes_of heads.new.items ≡ filter (λ x. is_live x.patch) (nodes_of heads.old.items) }
 {
-    if first < heads.len() / 2 {
+    if heads.len() / 2 < end - first {
         heads.retain(|head| is_kept(head));
         return;
     }
-    swap_on_disk(heads, first);
+    swap_on_disk(heads, first, end);
 }
 
 /// One for a patch that is not on disk.

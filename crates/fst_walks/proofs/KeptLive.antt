@@ -1,11 +1,11 @@
 -- The ranks of live patches, filtered in place.
-use Rattle.std.proofs.Common.{◌≡◌, ◌<◌, ◌+◌, ◌∙◌, ℕ, Bool, true, false, List, map, length, drop, get_or, set, refl, sym, ap, arith}
+use Rattle.std.proofs.Common.{◌≡◌, ◌<◌, ◌+◌, ◌∙◌, ℕ, Bool, true, false, List, map, ◌++◌, length, take, drop, filter, get_or, set, refl, sym, ap, arith}
 use Rattle.std.specs.List.{prefix_len}
 use Rattle.std.proofs.lemmas.List.{get_or-drop, get_or-map, get_or_default as any_default}
 use Rattle.std.proofs.lemmas.List.{Filters.{FiltersInPlace, FiltersInPlace-more_no, FiltersInPlace-more_set}}
 use Rattle.fst_types.specs.Tests.{is_live}
-use Rattle.fst_heads.specs.{Heads.{IsRising, patch_of, patches_of}, Nodes.is_live_in, declared.head.Head.Head}
-use Rattle.fst_heads.proofs.{FirstOnDisk.{filters_from, first_inside, live_before, live_head, live_read}, Slots.{patch_at, rising_map, slot_here, some_element}}
+use Rattle.fst_heads.specs.{Heads.{IsRising, patch_of, patches_of}, Nodes.is_live_in, Spans.SpansDisk, declared.head.Head.Head}
+use Rattle.fst_heads.proofs.{FirstOnDisk.{filters_from, first_inside, live_before, live_head, live_read}, LastOnDisk.{filtered_so_far, live_behind}, Slots.{patch_at, rising_map, slot_here, some_element}}
 use Rattle.fst_walks.specs.{declared.levels.Rank.Rank}
 use Rattle.fst_walks.proofs.{Ranked.{rank_number, ranks_long}, RanksLeft.left_number}
 
@@ -51,3 +51,11 @@ module _ (heads : List Head) (ranks : List Rank) (rising : IsRising heads) (alig
         let y = get_or rs s d in
         let same = any_default rs s d y lt in
         FiltersInPlace-more_no {x = y} r lt (as_head y same ∙ dead) same
+
+  -- those behind the last head on disk all stay
+  pub ranks_left : (first end : ℕ) → SpansDisk (patches_of heads) first end → (rs : List Rank) (k : ℕ) → FiltersInPlace (live_rank heads) ranks rs k end
+      → take k rs ++ drop end rs ≡ filter (live_rank heads) ranks
+  ranks_left first end s rs k r = filtered_so_far (live_rank heads) r (λ i e le lt.
+      let inside : i < length heads = omega (arith, lt, ranks_long heads ranks rising aligned) in
+      let d = some_element heads i inside in
+      rank_live i d e inside ∙ live_behind heads first end s i d le inside)

@@ -3,7 +3,6 @@
 //! change in memory is no higher. So what lies below a floor can come to wait for nothing of that block. Beside its level the
 //! ancestry of each head is kept (`ancestors`).
 
-ghost use Rattle.std.specs.List.{prefix_len};
 ghost use Rattle.std.specs.Prelude.{vec_capacity, count_by, ◌≡◌, ◌≢◌, ◌≤◌, ◌<◌, ◌+◌, ◌++◌, ◌∷◌, [], ℕ, false, IsTrue, length, map, filter, All, Contains, AllPairs, IfOk, IfSome, IfNone, OnOk, slice_index_or};
 ghost use Rattle.fst_types.specs.Tests.{is_live};
 ghost use Rattle.fst_types.specs.Patches.{IsOn};
@@ -12,6 +11,7 @@ ghost use Rattle.fst_heads.specs.Marks.{HasNone, HasSlot};
 ghost use Rattle.fst_heads.specs.Reaching.{IsHardIn};
 ghost use Rattle.fst_heads.specs.Keeps.{IsInside};
 ghost use Rattle.fst_heads.specs.Nodes.{is_live_in, nodes_of};
+ghost use Rattle.fst_heads.specs.Spans.{SpansDisk};
 ghost use Rattle.fst_types.specs.Facts.{IsOnDiskWithAll};
 ghost use Rattle.fst_walks.specs.Leveling.{IsLeveled, floor_of, jump_of, level_of, no_ancestry, parent_of};
 ghost use Rattle.fst_walks.specs.Lifting.{IsLifted, MayLift};
@@ -20,7 +20,7 @@ ghost use Rattle.fst_walks.specs.Walks.{number_at, numbers_met};
 use crate::shortcuts::is_hard_in;
 use crate::walk::Walk;
 use fst_heads::head::{Head, Kind};
-use fst_heads::places::{drop_on_disk, first_on_disk, is_kept};
+use fst_heads::places::{drop_on_disk, end_on_disk, first_on_disk, is_kept};
 use std::alloc::{AllocError, Global};
 use std::marker::Model;
 
@@ -63,7 +63,6 @@ pub struct Levels {
 }
 
 impl Model for Levels {
-    ghost use Rattle.std.specs.List.{prefix_len};
     ghost use Rattle.std.specs.Prelude.{vec_capacity, count_by, ◌≤◌, length};
     ghost use Rattle.fst_walks.specs.Leveling.{Leveling};
 
@@ -155,23 +154,23 @@ fn rank_slot(ranks: &[Rank], number: u32) -> Option<usize>
     }
 }
 
-// The ranks of heads that are not on disk stay; `first` is the slot of the first head that is. Heads stand in the order of
+// The ranks of heads that are not on disk stay; those on disk stand from `first` up to `end`. Heads stand in the order of
 // their ranks.
-fn keep_live(ranks: &mut Vec<Rank>, heads: &[Head], first: usize)
+fn keep_live(ranks: &mut Vec<Rank>, heads: &[Head], first: usize, end: usize)
     requires rising { IsRising heads.now }
     requires aligned { map (λ r. r.number) ranks.old.items ≡ map (λ p. p.number) (patches_of heads.now) }
-    requires first { first ≡ prefix_len is_live (patches_of heads.now) }
+    requires disk { SpansDisk (patches_of heads.now) first end }
     ensures ranks { ranks.new.items ≡ filter (λ r. is_live_in (patches_of heads.now) r.number) ranks.old.items }
     ensures capacity { vec_capacity ranks.new ≡ vec_capacity ranks.old }
 {
     let mut kept = first;
-    for slot in first..ranks.len() {
+    for slot in first..end {
         if is_kept(&heads[slot]) {
             ranks[kept] = ranks[slot];
             kept += 1;
         }
     }
-    ranks.truncate(kept);
+    ranks.drain(kept..end);
 }
 
 impl Levels {
@@ -303,7 +302,7 @@ impl Levels {
     }
 
     /// Drops the patches on disk, so many not being there, with their levels. Those before the oldest of them stay where they
-    /// are, and mostly are not looked at.
+    /// are, those behind the newest move in one piece, and mostly neither are looked at.
     pub fn forget(&mut self, heads: &mut Vec<Head>, live: usize)
         requires rising { IsRising heads.old.items }
         requires aligned { map (λ r. r.number) self.old.ranks ≡ map (λ p. p.number) (patches_of heads.old.items) }
@@ -313,8 +312,9 @@ impl Levels {
         ensures rest { (self.new.floors ≡ self.old.floors) × (self.new.room ≡ self.old.room) }
     {
         let first = first_on_disk(heads, live);
-        keep_live(&mut self.ranks, heads, first);
-        drop_on_disk(heads, first);
+        let end = end_on_disk(heads, first, live);
+        keep_live(&mut self.ranks, heads, first, end);
+        drop_on_disk(heads, first, end);
     }
 
     /// A sealed gate in the slot comes down to the greatest level of what it depends on. While it was open it stood at the

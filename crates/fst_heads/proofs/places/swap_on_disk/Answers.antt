@@ -1,15 +1,15 @@
-use Rattle.std.proofs.Common.{◌<◌, ◌∙◌, arith, length, sym, rules}
-use Rattle.std.proofs.lemmas.List.Filters.{FiltersInPlace-all, FiltersInPlace-more_no, FiltersInPlace-more_swap}
-use Rattle.fst_heads.proofs.FirstOnDisk.{heads_from}
+use Rattle.std.proofs.Common.{◌≡◌, ◌<◌, ◌∙◌, arith, filter, length, subst, sym, rules}
+use Rattle.std.proofs.lemmas.List.Filters.{FiltersInPlace, FiltersInPlace-more_no, FiltersInPlace-more_swap}
+use Rattle.fst_heads.proofs.{FirstOnDisk.{heads_from, live_head}, LastOnDisk.{end_inside, heads_left}}
 use Rattle.fst_heads.proofs.places.swap_on_disk.Goals.{then-is_kept, else-is_kept, In-loop-slot}
 use Rattle.fst_heads.proofs.places.swap_on_disk.Goals as goal
 
 pub loop-slot-init : goal.loop-slot-init
-loop-slot-init c = heads_from c.args.heads.now.items c.args.first c.requires
+loop-slot-init c = heads_from c.args.heads.now.items c.args.first c.requires.begins
 
 -- the slot is that of a head
 inside : (c : In-loop-slot) → c.loop-slot.slot < length c.loop-slot.heads.items
-inside c = omega (arith, c.loop-slot-test.true, c.len-slot-end.ensures, c.loop-slot.invariant.long, c.args.heads.now.ok.0)
+inside c = omega (arith, c.loop-slot-test.true, c.loop-slot.invariant.long, end_inside c.args.heads.now.items c.args.first c.args.end c.requires)
 
 pub swap-requires-clause-i_in_bounds : goal.swap-requires-clause-i_in_bounds
 swap-requires-clause-i_in_bounds c = omega (arith, inside (goal.at.swap-requires-clause-i_in_bounds c).In-loop-slot, c.loop-slot.invariant.behind, c.loop-slot.heads.ok.0)
@@ -26,4 +26,9 @@ loop-slot-preserved c =
     ]
 
 pub returns : goal.returns
-returns c = c.truncate.ensures.items ∙ FiltersInPlace-all c.loop-slot.invariant (omega (arith, c.loop-slot-test.false, c.len-slot-end.ensures, c.args.heads.now.ok.0))
+returns c =
+    let heads = c.args.heads.now.items in
+    let at : c.loop-slot.slot ≡ c.args.end = omega (arith, c.loop-slot-test.false, c.loop-slot.auto.slot-end, c.requires.ordered) in
+    let kept = subst (λ n. FiltersInPlace live_head heads c.loop-slot.heads.items c.loop-slot.kept n) at c.loop-slot.invariant in
+    let left : c.drop-drain.new.self.0.items ≡ filter live_head heads = c.drop-drain.ensures.items ∙ (c.drain.ensures.kept ∙ heads_left heads c.args.first c.args.end c.requires c.loop-slot.heads.items c.loop-slot.kept kept) in
+    search rules

@@ -1,14 +1,18 @@
-use Rattle.std.proofs.Common.{◌<◌, ◌∙◌, arith, length, refl, sym}
-use Rattle.fst_walks.proofs.{KeptLive.{rank_dropped, rank_kept, ranks_from}, Ranked.ranks_long}
+use Rattle.std.proofs.Common.{◌≡◌, ◌<◌, ◌∙◌, arith, filter, length, refl, rules, subst, sym, vec_capacity}
+use Rattle.std.proofs.lemmas.List.Filters.{FiltersInPlace}
+use Rattle.fst_heads.proofs.LastOnDisk.{end_inside}
+use Rattle.fst_walks.proofs.{KeptLive.{live_rank, rank_dropped, rank_kept, ranks_from, ranks_left}, Ranked.ranks_long}
 use Rattle.fst_walks.proofs.levels.keep_live.Goals.{then-is_kept, else-is_kept, In-loop-slot}
 use Rattle.fst_walks.proofs.levels.keep_live.Goals as goal
 
 pub loop-slot-init : goal.loop-slot-init
-loop-slot-init c = record { kept = ranks_from c.args.heads.now c.args.ranks.now.items c.requires.rising c.requires.aligned c.args.first c.requires.first; capacity = refl }
+loop-slot-init c = record { kept = ranks_from c.args.heads.now c.args.ranks.now.items c.requires.rising c.requires.aligned c.args.first c.requires.disk.begins; capacity = refl }
 
 -- the slot is that of a rank and of a head
 rank_inside : (c : In-loop-slot) → c.loop-slot.slot < length c.loop-slot.ranks.items
-rank_inside c = omega (arith, c.loop-slot-test.true, c.len-slot-end.ensures, c.loop-slot.invariant.kept.long, c.args.ranks.now.ok.0)
+rank_inside c =
+    let long = ranks_long c.args.heads.now c.args.ranks.now.items c.requires.rising c.requires.aligned in
+    omega (arith, c.loop-slot-test.true, c.loop-slot.invariant.kept.long, long, end_inside c.args.heads.now c.args.first c.args.end c.requires.disk)
 
 head_inside : (c : In-loop-slot) → c.loop-slot.slot < length c.args.heads.now
 head_inside c = omega (arith, rank_inside c, c.loop-slot.invariant.kept.long, ranks_long c.args.heads.now c.args.ranks.now.items c.requires.rising c.requires.aligned)
@@ -29,3 +33,14 @@ loop-slot-preserved c =
         capacity = k.capacity;
       }
     ]
+
+pub returns : goal.returns
+returns c =
+    let heads = c.args.heads.now in
+    let ranks = c.args.ranks.now.items in
+    let at : c.loop-slot.slot ≡ c.args.end = omega (arith, c.loop-slot-test.false, c.loop-slot.auto.slot-end, c.requires.disk.ordered) in
+    let kept = subst (λ n. FiltersInPlace (live_rank heads) ranks c.loop-slot.ranks.items c.loop-slot.kept n) at c.loop-slot.invariant.kept in
+    let left : c.drop-drain.new.self.0.items ≡ filter (live_rank heads) ranks =
+    c.drop-drain.ensures.items ∙ (c.drain.ensures.kept ∙ ranks_left heads ranks c.requires.rising c.requires.aligned c.args.first c.args.end c.requires.disk c.loop-slot.ranks.items c.loop-slot.kept kept) in
+    let same : vec_capacity c.drop-drain.new.self.0 ≡ vec_capacity c.args.ranks.now = c.drop-drain.ensures.capacity ∙ (c.drain.ensures.capacity ∙ c.loop-slot.invariant.capacity) in
+    record { ranks = search rules; capacity = search rules }
