@@ -13,6 +13,7 @@ use Rattle.fst_lines.specs.Sending.{Sends}
 use Rattle.fst_lines.specs.Replies.{refusal}
 use Rattle.fst_player.specs.declared.accepted.Accepted.{Accepted}
 use Rattle.fst_player.specs.Script.{call_of, text_of, after_call}
+use Rattle.fst_player.specs.Listing.{Listing}
 use Rattle.fst_player.specs.Kept.{IsKept}
 use Rattle.fst_player.specs.Answering.{Obeyed}
 use Rattle.fst_player.proofs.KeptLemmas.{refused_same}
@@ -22,7 +23,7 @@ use Rattle.fst_player.proofs.TellLemmas.{player_at, Obeyed-called}
 abbrev pub Answers : {U : Type 0} → Result U Fault → State → Event → State → Type 0
 Answers answer old e new = MatchResult answer (λ u. Step old e Agreed new) (λ fault. Step old e (Refused fault) new)
 
-pub accepted_kept : {U : Type 0} (answer : Result U Fault) (shape : Shape) (share : ℕ) (old new : State) (e : Event) (jobs : List (JobView MemoryView)) (made : List Accepted)
+pub accepted_kept : {U : Type 0} (answer : Result U Fault) (shape : Shape) (share : ℕ) (old new : State) (e : Event) (jobs : List (JobView MemoryView)) (made : Listing)
     → Answers answer old e new → IsKept shape share old jobs made → (Step old e Agreed new → IsKept shape share new jobs made) → IsKept shape share new jobs made
 accepted_kept (Ok u) shape share old new e jobs made step K kept = kept step
 accepted_kept (Err f) shape share old new e jobs made step K kept = rw (refused_same old new e f step) K

@@ -14,6 +14,7 @@ use Rattle.fst_lines.specs.Sending.{Sends}
 use Rattle.fst_lines.specs.Replies.{refusal, flight_text}
 use Rattle.fst_player.specs.declared.accepted.Accepted.{Accepted}
 use Rattle.fst_player.specs.Script.{call_of, in_flight, after_call}
+use Rattle.fst_player.specs.Listing.{Listing}
 use Rattle.fst_player.specs.Kept.{IsKept, job_kept, jobs_kept}
 use Rattle.fst_player.specs.Answering.{Obeyed}
 use Rattle.fst_player.proofs.KeptLemmas.{refused_same, issue_out, issue_kept, retry_out, retry_kept}
@@ -39,12 +40,12 @@ pub retried_out : (given : Result (JobView MemoryView) Fault) (old new : State) 
 retried_out (Ok job) old new b step = retry_out old new b job step
 retried_out (Err f) old new b step = tt
 
-pub issued_kept : (given : Result (JobView MemoryView) Fault) (shape : Shape) (share : ℕ) (old new : State) (jobs after : List (JobView MemoryView)) (made : List Accepted) (b : ℕ)
+pub issued_kept : (given : Result (JobView MemoryView) Fault) (shape : Shape) (share : ℕ) (old new : State) (jobs after : List (JobView MemoryView)) (made : Listing) (b : ℕ)
     → IsKept shape share old jobs made → Gives given old (Issue b) new → IsKeptAfter given jobs after → IsKept shape share new after made
 issued_kept (Ok job) shape share old new jobs after made b K step kept = rw kept (issue_kept shape share old new jobs made b job K step)
 issued_kept (Err f) shape share old new jobs after made b K step kept = rw (kept, refused_same old new (Issue b) f step) K
 
-pub retried_kept : (given : Result (JobView MemoryView) Fault) (shape : Shape) (share : ℕ) (old new : State) (jobs after : List (JobView MemoryView)) (made : List Accepted) (b : ℕ)
+pub retried_kept : (given : Result (JobView MemoryView) Fault) (shape : Shape) (share : ℕ) (old new : State) (jobs after : List (JobView MemoryView)) (made : Listing) (b : ℕ)
     → IsKept shape share old jobs made → Gives given old (Retry b) new → IsKeptAfter given jobs after → IsKept shape share new after made
 retried_kept (Ok job) shape share old new jobs after made b K step kept = rw kept (retry_kept shape share old new jobs made b job K step)
 retried_kept (Err f) shape share old new jobs after made b K step kept = rw (kept, refused_same old new (Retry b) f step) K

@@ -3,7 +3,7 @@ use Rattle.std.proofs.Common.{◌≡◌, ◌≢◌, ℕ, ◌+◌, ◌<◌, ◌�
 use Rattle.std.specs.Prelude.{All, AllPairs}
 use Rattle.std.specs.List.{remove}
 use Rattle.std.proofs.lemmas.Bool.{cases_lt}
-use Rattle.std.proofs.lemmas.List.Elements.{All-append, All-cons, All-nil}
+use Rattle.std.proofs.lemmas.List.Elements.{All-append, All-cons, All-nil, All-push}
 use Rattle.std.proofs.lemmas.List.{get_or_default}
 use Rattle.std.proofs.lemmas.List.Edits.{length-remove, get_or-remove_below, get_or-remove_above}
 use Rattle.std.proofs.lemmas.List.Quantifiers.{all_pairs_remove, all_pairs_push}
@@ -19,6 +19,7 @@ use Rattle.fst_types.proofs.Moves.{flight_out, same_some, flight_put, flight_in}
 use Rattle.fst_device.specs.JobView.{JobView}
 use Rattle.fst_device.specs.MemoryView.{MemoryView}
 use Rattle.fst_player.specs.declared.accepted.Accepted.{Accepted}
+use Rattle.fst_player.specs.Listing.{Listing}
 use Rattle.fst_player.specs.Kept.{IsKept, IsInside}
 
 -- all but the flight of block b, and what the patches are, is as it was
@@ -54,7 +55,7 @@ none_of : (s : State) (jobs : List (JobView MemoryView)) (b : ℕ) → All (λ j
 none_of s jobs b out never i d lt e = never _ _ (subst (λ (c : ℕ). IsOut s (get_or jobs i d).ticket c (get_or jobs i d).image) e (out i d lt))
 
 -- what is kept stays so, where no job is of the block
-kept_apart : (shape : Shape) (share : ℕ) (old new : State) (jobs : List (JobView MemoryView)) (made : List Accepted) (b : ℕ)
+kept_apart : (shape : Shape) (share : ℕ) (old new : State) (jobs : List (JobView MemoryView)) (made : Listing) (b : ℕ)
     → IsKept shape share old jobs made → Leaves old new b → All (λ j. j.block ≢ b) jobs → IsKept shape share new jobs made
 kept_apart shape share old new jobs made b K L apart = record {
   counted = K.counted ∙ sym L.made;
@@ -62,11 +63,12 @@ kept_apart shape share old new jobs made b K L apart = record {
   size = K.size ∙ sym L.size;
   out = λ i d lt. still_out old new _ _ _ (L.others (get_or jobs i d).block (apart i d lt)) (K.out i d lt);
   apart = K.apart;
-  inside = subst (λ (n : ℕ). All (IsInside n) made) (sym L.size) K.inside;
+  inside = subst (λ (n : ℕ). All (IsInside n) made.made) (sym L.size) K.inside;
+  listed = K.listed;
 }
 
 -- one job more, of a block of which none was kept
-kept_more : (shape : Shape) (share : ℕ) (s : State) (jobs : List (JobView MemoryView)) (made : List Accepted) (job : JobView MemoryView)
+kept_more : (shape : Shape) (share : ℕ) (s : State) (jobs : List (JobView MemoryView)) (made : Listing) (job : JobView MemoryView)
     → IsKept shape share s jobs made → All (λ j. j.block ≢ job.block) jobs → IsOut s job.ticket job.block job.image → IsKept shape share s (jobs ++ job ∷ []) made
 kept_more shape share s jobs made job K apart out = record {
   counted = K.counted;
@@ -75,6 +77,7 @@ kept_more shape share s jobs made job K apart out = record {
   out = All-append (λ j. IsOut s j.ticket j.block j.image) jobs (job ∷ []) K.out (All-cons (λ j. IsOut s j.ticket j.block j.image) job [] out (All-nil _));
   apart = all_pairs_push (λ i j. i.block ≢ j.block) jobs job K.apart (λ k d lt. apart k d lt);
   inside = K.inside;
+  listed = K.listed;
 }
 
 -- a write that is out at the block, where it has no flight or a stalled one
@@ -125,7 +128,7 @@ retry_given old new b t c image (accepted n (retry m)) =
       },
     )
 
-kept_given : (shape : Shape) (share : ℕ) (old new : State) (jobs : List (JobView MemoryView)) (made : List Accepted) (b : ℕ) (job : JobView MemoryView)
+kept_given : (shape : Shape) (share : ℕ) (old new : State) (jobs : List (JobView MemoryView)) (made : Listing) (b : ℕ) (job : JobView MemoryView)
     → IsKept shape share old jobs made
     → (job.block ≡ b) × Leaves old new b × ((u : ℕ) (x : List ℕ) → IsOut old u b x → ⊥) × IsOut new job.ticket job.block job.image
     → IsKept shape share new (jobs ++ job ∷ []) made
@@ -136,14 +139,14 @@ kept_given shape share old new jobs made b job K h =
 pub issue_out : (old new : State) (b : ℕ) (job : JobView MemoryView) → Step old (Issue b) (Job job.ticket job.block job.image) new → IsOut new job.ticket job.block job.image
 issue_out old new b job step = (issue_given old new b job.ticket job.block job.image step).3
 
-pub issue_kept : (shape : Shape) (share : ℕ) (old new : State) (jobs : List (JobView MemoryView)) (made : List Accepted) (b : ℕ) (job : JobView MemoryView)
+pub issue_kept : (shape : Shape) (share : ℕ) (old new : State) (jobs : List (JobView MemoryView)) (made : Listing) (b : ℕ) (job : JobView MemoryView)
     → IsKept shape share old jobs made → Step old (Issue b) (Job job.ticket job.block job.image) new → IsKept shape share new (jobs ++ job ∷ []) made
 issue_kept shape share old new jobs made b job K step = kept_given shape share old new jobs made b job K (issue_given old new b job.ticket job.block job.image step)
 
 pub retry_out : (old new : State) (b : ℕ) (job : JobView MemoryView) → Step old (Retry b) (Job job.ticket job.block job.image) new → IsOut new job.ticket job.block job.image
 retry_out old new b job step = (retry_given old new b job.ticket job.block job.image step).3
 
-pub retry_kept : (shape : Shape) (share : ℕ) (old new : State) (jobs : List (JobView MemoryView)) (made : List Accepted) (b : ℕ) (job : JobView MemoryView)
+pub retry_kept : (shape : Shape) (share : ℕ) (old new : State) (jobs : List (JobView MemoryView)) (made : Listing) (b : ℕ) (job : JobView MemoryView)
     → IsKept shape share old jobs made → Step old (Retry b) (Job job.ticket job.block job.image) new → IsKept shape share new (jobs ++ job ∷ []) made
 retry_kept shape share old new jobs made b job K step = kept_given shape share old new jobs made b job K (retry_given old new b job.ticket job.block job.image step)
 
@@ -174,7 +177,7 @@ All-remove P xs i lt all k d inside =
     ]
 
 -- the jobs but one
-kept_less : (shape : Shape) (share : ℕ) (s : State) (jobs : List (JobView MemoryView)) (made : List Accepted) (i : ℕ) → i < length jobs → IsKept shape share s jobs made → IsKept shape share s (remove jobs i) made
+kept_less : (shape : Shape) (share : ℕ) (s : State) (jobs : List (JobView MemoryView)) (made : Listing) (i : ℕ) → i < length jobs → IsKept shape share s jobs made → IsKept shape share s (remove jobs i) made
 kept_less shape share s jobs made i lt K = record {
   counted = K.counted;
   blocks = K.blocks;
@@ -182,6 +185,7 @@ kept_less shape share s jobs made i lt K = record {
   out = All-remove (λ j. IsOut s j.ticket j.block j.image) jobs i lt K.out;
   apart = all_pairs_remove (λ i j. i.block ≢ j.block) jobs i lt K.apart;
   inside = K.inside;
+  listed = K.listed;
 }
 
 -- the others are of other blocks
@@ -196,42 +200,69 @@ others_apart jobs i job lt is apart k d inside =
     ]
 
 -- the job at i is out
-pub kept_out : (shape : Shape) (share : ℕ) (s : State) (jobs : List (JobView MemoryView)) (made : List Accepted) (i : ℕ) (job : JobView MemoryView)
+pub kept_out : (shape : Shape) (share : ℕ) (s : State) (jobs : List (JobView MemoryView)) (made : Listing) (i : ℕ) (job : JobView MemoryView)
     → IsKept shape share s jobs made → i < length jobs → job ≡ get_or jobs i job → IsOut s job.ticket job.block job.image
 kept_out shape share s jobs made i job K lt is = let P : JobView MemoryView → Type 0 = λ j. IsOut s j.ticket j.block j.image in subst P (sym is) (K.out i job lt)
 
 -- the settled job is gone
-pub settle_kept : (shape : Shape) (share : ℕ) (old new : State) (jobs : List (JobView MemoryView)) (made : List Accepted) (i : ℕ) (job : JobView MemoryView) (written : Bool) (r : Reply)
+pub settle_kept : (shape : Shape) (share : ℕ) (old new : State) (jobs : List (JobView MemoryView)) (made : Listing) (i : ℕ) (job : JobView MemoryView) (written : Bool) (r : Reply)
     → IsKept shape share old jobs made → i < length jobs → job ≡ get_or jobs i job → Step old (Settle job.ticket job.block job.image written) r new → IsKept shape share new (remove jobs i) made
 settle_kept shape share old new jobs made i job written r K lt is step =
     kept_apart shape share old new (remove jobs i) made job.block (kept_less shape share old jobs made i lt K)
     (settle_leaves old new job.ticket job.block job.image written r step (kept_out shape share old jobs made i job K lt is))
     (others_apart jobs i job lt is K.apart)
 
+-- what is not more than the bound
+pub at_most : (x y : ℕ) → (y < x → ⊥) → x ≤ y
+at_most x y never = elim (cases_lt y x) [ inl lt ↦ absurd (never lt) | inr le ↦ le ]
+
+pub below : (x y : ℕ) → (y ≤ x → ⊥) → x < y
+below x y never = elim (cases_lt x y) [ inl lt ↦ lt | inr le ↦ absurd (never le) ]
+
+pub inside_more : (size : ℕ) (made grown : List Accepted) (a : Accepted) → All (IsInside size) made → grown ≡ made ++ a ∷ [] → a.at + length a.bytes.items ≤ size → All (IsInside size) grown
+inside_more size made grown a inside more fits = subst (All (IsInside size)) (sym more) (All-push (IsInside size) made a inside fits)
+
 -- a refusal changes nothing
 pub refused_same : (old new : State) (e : Event) (f : Fault) → Step old e (Refused f) new → new ≡ old
 refused_same old new e f (accepted n (group m)) = elim m [ ]
 refused_same old new e f (refused x) = refl
 
+-- what is kept stays so where the changes do, whatever room there is for more
+pub kept_listing : (shape : Shape) (share : ℕ) (s : State) (jobs : List (JobView MemoryView)) (made after : Listing)
+    → IsKept shape share s jobs made → after.made ≡ made.made → length after.rooms ≡ length made.rooms → IsKept shape share s jobs after
+kept_listing shape share s jobs made after K same long = record {
+  counted = K.counted;
+  blocks = K.blocks;
+  size = K.size;
+  out = K.out;
+  apart = K.apart;
+  inside = subst (All (IsInside s.size)) (sym same) K.inside;
+  listed = long ∙ K.listed;
+}
+
 -- one change more
-pub change_kept : (shape : Shape) (share : ℕ) (old new : State) (jobs : List (JobView MemoryView)) (made : List Accepted) (a : Accepted) (after : List ℕ) (faulted : Bool) (number : ℕ) (grade : Grade)
-    → IsKept shape share old jobs made → Step old (MakeChange share a.block.0 a.at a.bytes.items after faulted) (MadeChange number grade) new → IsKept shape (share + 1) new jobs (made ++ a ∷ [])
-change_kept shape share old new jobs made a after faulted number grade K (accepted n (group m)) = elim m [ ]
-change_kept shape share old new jobs made a after faulted number grade K (accepted n (change m)) = record {
+pub change_kept : (shape : Shape) (share : ℕ) (old new : State) (jobs : List (JobView MemoryView)) (made grown : Listing) (a : Accepted) (after : List ℕ) (faulted : Bool) (number : ℕ) (grade : Grade)
+    → IsKept shape share old jobs made → grown.made ≡ made.made ++ a ∷ [] → length grown.rooms ≡ length made.rooms
+    → Step old (MakeChange share a.block.0 a.at a.bytes.items after faulted) (MadeChange number grade) new → IsKept shape (share + 1) new jobs grown
+change_kept shape share old new jobs made grown a after faulted number grade K more long (accepted n (group m)) = elim m [ ]
+change_kept shape share old new jobs made grown a after faulted number grade K more long (accepted n (change m)) = record {
   counted = ap (λ x. x + 1) K.counted ∙ sym (ap (λ s. s.made) m.state);
   blocks = K.blocks ∙ sym (ap (λ s. length s.blocks) m.state);
   size = K.size ∙ sym (ap (λ s. s.size) m.state);
   out = λ i j lt. still_out old new _ _ _ (ap (λ s. flight_of s (get_or jobs i j).block) m.state) (K.out i j lt);
   apart = K.apart;
-  inside = subst (λ (s : ℕ). All (IsInside s) (made ++ a ∷ [])) (sym (ap (λ s. s.size) m.state))
-      (All-append (IsInside old.size) made (a ∷ []) K.inside (All-cons (IsInside old.size) a [] (fits (a.at + length a.bytes.items) old.size (λ p. n.1.1.1.0 (inr p))) (All-nil _)));
+  inside = subst (λ (s : ℕ). All (IsInside s) grown.made) (sym (ap (λ s. s.size) m.state)) (inside_more old.size made.made grown.made a K.inside more (at_most _ _ (λ p. n.1.1.1.0 (inr p))));
+  listed = long ∙ K.listed;
 }
-  where
-    fits : (x y : ℕ) → (y < x → ⊥) → x ≤ y
-    fits x y never = elim (cases_lt y x) [ inl lt ↦ absurd (never lt) | inr le ↦ le ]
+
+-- a change is made on a block that there is
+pub change_on : (share b at : ℕ) (bytes after : List ℕ) (faulted : Bool) (number : ℕ) (grade : Grade) (old new : State)
+    → Step old (MakeChange share b at bytes after faulted) (MadeChange number grade) new → b < length old.blocks
+change_on share b at bytes after faulted number grade old new (accepted n (group m)) = elim m [ ]
+change_on share b at bytes after faulted number grade old new (accepted n (change m)) = below _ _ n.1.0
 
 -- what is kept stays so where the blocks do
-pub kept_blocks : (shape : Shape) (share count : ℕ) (old new : State) (jobs : List (JobView MemoryView)) (made : List Accepted)
+pub kept_blocks : (shape : Shape) (share count : ℕ) (old new : State) (jobs : List (JobView MemoryView)) (made : Listing)
     → IsKept shape share old jobs made → count ≡ new.made → new.size ≡ old.size → new.blocks ≡ old.blocks → IsKept shape count new jobs made
 kept_blocks shape share count old new jobs made K counted size blocks = record {
   counted = counted;
@@ -239,41 +270,42 @@ kept_blocks shape share count old new jobs made K counted size blocks = record {
   size = K.size ∙ sym size;
   out = λ i j lt. still_out old new _ _ _ (ap (λ (x : List BlockState). flight_in x (get_or jobs i j).block) blocks) (K.out i j lt);
   apart = K.apart;
-  inside = subst (λ (n : ℕ). All (IsInside n) made) (sym size) K.inside;
+  inside = subst (λ (n : ℕ). All (IsInside n) made.made) (sym size) K.inside;
+  listed = K.listed;
 }
 
 -- one empty patch more, or one gate
-pub empty_kept : (shape : Shape) (share : ℕ) (old new : State) (jobs : List (JobView MemoryView)) (made : List Accepted) (after : List ℕ) (number : ℕ)
+pub empty_kept : (shape : Shape) (share : ℕ) (old new : State) (jobs : List (JobView MemoryView)) (made : Listing) (after : List ℕ) (number : ℕ)
     → IsKept shape share old jobs made → Step old (MakeEmpty share after) (Made number) new → IsKept shape (share + 1) new jobs made
 empty_kept shape share old new jobs made after number K (accepted n (group m)) = elim m [ ]
 empty_kept shape share old new jobs made after number K (accepted n (empty m)) =
     kept_blocks shape share (share + 1) old new jobs made K (ap (λ x. x + 1) K.counted ∙ sym (ap (λ s. s.made) m.state)) (ap (λ s. s.size) m.state) (ap (λ s. s.blocks) m.state)
 
-pub gate_kept : (shape : Shape) (share : ℕ) (old new : State) (jobs : List (JobView MemoryView)) (made : List Accepted) (number : ℕ)
+pub gate_kept : (shape : Shape) (share : ℕ) (old new : State) (jobs : List (JobView MemoryView)) (made : Listing) (number : ℕ)
     → IsKept shape share old jobs made → Step old (MakeGate share) (Made number) new → IsKept shape (share + 1) new jobs made
 gate_kept shape share old new jobs made number K (accepted n (group m)) = elim m [ ]
 gate_kept shape share old new jobs made number K (accepted n (gate m)) =
     kept_blocks shape share (share + 1) old new jobs made K (ap (λ x. x + 1) K.counted ∙ sym (ap (λ s. s.made) m.state)) (ap (λ s. s.size) m.state) (ap (λ s. s.blocks) m.state)
 
 -- a call that makes nothing and leaves the blocks
-pub depend_kept : (shape : Shape) (share : ℕ) (old new : State) (jobs : List (JobView MemoryView)) (made : List Accepted) (g : ℕ) (on : List ℕ)
+pub depend_kept : (shape : Shape) (share : ℕ) (old new : State) (jobs : List (JobView MemoryView)) (made : Listing) (g : ℕ) (on : List ℕ)
     → IsKept shape share old jobs made → Step old (Depend g on) Agreed new → IsKept shape share new jobs made
 depend_kept shape share old new jobs made g on K (accepted n (group m)) = elim m [ ]
 depend_kept shape share old new jobs made g on K (accepted n (depend m)) =
     kept_blocks shape share share old new jobs made K (K.counted ∙ sym (ap (λ s. s.made) m.state)) (ap (λ s. s.size) m.state) (ap (λ s. s.blocks) m.state)
 
-pub seal_kept : (shape : Shape) (share : ℕ) (old new : State) (jobs : List (JobView MemoryView)) (made : List Accepted) (g : ℕ)
+pub seal_kept : (shape : Shape) (share : ℕ) (old new : State) (jobs : List (JobView MemoryView)) (made : Listing) (g : ℕ)
     → IsKept shape share old jobs made → Step old (Seal g) Agreed new → IsKept shape share new jobs made
 seal_kept shape share old new jobs made g K (accepted n (group m)) = elim m [ ]
 seal_kept shape share old new jobs made g K (accepted n (seal m)) =
     kept_blocks shape share share old new jobs made K (K.counted ∙ sym (ap (λ s. s.made) m.state)) (ap (λ s. s.size) m.state) (ap (λ s. s.blocks) m.state)
 
-pub evict_kept : (shape : Shape) (share : ℕ) (old new : State) (jobs : List (JobView MemoryView)) (made : List Accepted) (b : ℕ)
+pub evict_kept : (shape : Shape) (share : ℕ) (old new : State) (jobs : List (JobView MemoryView)) (made : Listing) (b : ℕ)
     → IsKept shape share old jobs made → Step old (Evict b) Agreed new → IsKept shape share new jobs made
 evict_kept shape share old new jobs made b K (accepted n (group m)) = elim m [ ]
 evict_kept shape share old new jobs made b K (accepted n evict) = K
 
-pub forget_kept : (shape : Shape) (share : ℕ) (old new : State) (jobs : List (JobView MemoryView)) (made : List Accepted) (dropped : ℕ)
+pub forget_kept : (shape : Shape) (share : ℕ) (old new : State) (jobs : List (JobView MemoryView)) (made : Listing) (dropped : ℕ)
     → IsKept shape share old jobs made → Step old Forget (Forgot dropped) new → IsKept shape share new jobs made
 forget_kept shape share old new jobs made dropped K (accepted n (group m)) = elim m [ ]
 forget_kept shape share old new jobs made dropped K (accepted n (forget m)) =

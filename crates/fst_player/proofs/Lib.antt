@@ -2,6 +2,7 @@ pub mod StreamLemmas
 pub mod RunLemmas
 pub mod SessionLemmas
 pub mod AnswerLemmas
+pub mod ListingLemmas
 pub mod KeptLemmas
 mod GroupLemmas
 pub mod TellLemmas

@@ -1,6 +1,6 @@
 -- Slots of zero bytes are those that a cache is opened over.
-use Rattle.std.proofs.Common.{◌≡◌, ◌⊎◌, ℕ, zero, suc, ◌+◌, List, [], ◌∷◌, length, map, get_or, refl, sym, ap, ◌∙◌, inl, inr, arith, zero-add}
-use Rattle.std.specs.Prelude.{None, replicate}
+use Rattle.std.proofs.Common.{◌≡◌, ◌⊎◌, ℕ, zero, suc, ◌+◌, List, [], ◌∷◌, length, map, get_or, refl, sym, ap, subst, ◌∙◌, inl, inr, arith, zero-add}
+use Rattle.std.specs.Prelude.{None, All, replicate}
 use Rattle.std.specs.List.{range_with_len}
 use Rattle.std.proofs.lemmas.List.{length-map, length-replicate, get_or-replicate}
 use Rattle.std.proofs.lemmas.List.Elements.{All-nil}
@@ -15,7 +15,7 @@ use Rattle.fst_types.specs.Order.{open_order}
 use Rattle.fst_types.specs.Refusals.{IsFirst, NoneHolds}
 use Rattle.fst_device.specs.JobView.{JobView}
 use Rattle.fst_device.specs.MemoryView.{MemoryView}
-use Rattle.fst_player.specs.declared.accepted.Accepted.{Accepted}
+use Rattle.fst_player.specs.Listing.{Listing}
 use Rattle.fst_player.specs.Kept.{IsKept, IsInside}
 use Rattle.fst_player.specs.Zeros.{zero_slot}
 
@@ -51,8 +51,8 @@ open_fault n size indices sizes f at of (inl first) =
     ]
 
 -- what is kept at the start: no job, and no change
-none_kept : (shape : Shape) (bytes : List (List ℕ)) → length bytes ≡ shape.blocks → IsKept shape 0 (opening shape.size shape.resident 0 0 bytes) [] []
-none_kept shape bytes long =
+none_kept : (shape : Shape) (bytes : List (List ℕ)) (made : Listing) → length bytes ≡ shape.blocks → made.made ≡ [] → length made.rooms ≡ shape.blocks → IsKept shape 0 (opening shape.size shape.resident 0 0 bytes) [] made
+none_kept shape bytes made long none lists =
     let s = opening shape.size shape.resident 0 0 bytes in
     record {
       counted = refl;
@@ -60,9 +60,10 @@ none_kept shape bytes long =
       size = refl;
       out = All-nil (λ j. IsOut s j.ticket j.block j.image);
       apart = λ i j d below inside. absurd (omega (arith, inside));
-      inside = All-nil (IsInside s.size);
+      inside = subst (All (IsInside s.size)) (sym none) (All-nil (IsInside s.size));
+      listed = lists;
     }
 
-pub opened_kept : (shape : Shape) (share : ℕ) (s : State) (bytes : List (List ℕ)) (jobs : List (JobView MemoryView)) (made : List Accepted)
-    → share ≡ 0 → s ≡ opening shape.size shape.resident 0 0 bytes → length bytes ≡ shape.blocks → jobs ≡ [] → made ≡ [] → IsKept shape share s jobs made
-opened_kept shape share s bytes jobs made none same long no_jobs no_changes = rw (none, same, no_jobs, no_changes) (none_kept shape bytes long)
+pub opened_kept : (shape : Shape) (share : ℕ) (s : State) (bytes : List (List ℕ)) (jobs : List (JobView MemoryView)) (made : Listing)
+    → share ≡ 0 → s ≡ opening shape.size shape.resident 0 0 bytes → length bytes ≡ shape.blocks → jobs ≡ [] → made.made ≡ [] → length made.rooms ≡ shape.blocks → IsKept shape share s jobs made
+opened_kept shape share s bytes jobs made none same long no_jobs no_changes lists = rw (none, same, no_jobs) (none_kept shape bytes made long no_changes lists)

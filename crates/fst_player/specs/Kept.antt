@@ -15,6 +15,7 @@ use Rattle.fst_types.specs.declared.settled.Settled.TheVariants as settled
 use Rattle.fst_lines.specs.Replies.{done_text, stalled_text, lost_text}
 use Rattle.fst_player.specs.Script.{JobKept, job_of, without}
 use Rattle.fst_player.specs.declared.accepted.Accepted.{Accepted}
+use Rattle.fst_player.specs.Listing.{Listing}
 
 abbrev pub job_kept : JobView MemoryView → JobKept
 job_kept j = record { ticket = j.ticket; block = j.block; image = j.image }
@@ -36,14 +37,15 @@ changes_made made = map change_made made
 abbrev pub IsInside : ℕ → Accepted → Type 0
 IsInside size a = a.at + length a.bytes.items ≤ size
 
--- the share counts all that was made, each kept job is out, one of a block, and each change lies in its block
-pub record IsKept (shape : Shape) (share : ℕ) (cache : State) (jobs : List (JobView MemoryView)) (made : List Accepted) : Type 0 where
+-- the share counts all that was made, each kept job is out, one of a block, each change lies in its block, and each block has its list of changes
+pub record IsKept (shape : Shape) (share : ℕ) (cache : State) (jobs : List (JobView MemoryView)) (listing : Listing) : Type 0 where
   pub counted : share ≡ cache.made
   pub blocks : shape.blocks ≡ length cache.blocks
   pub size : shape.size ≡ cache.size
   pub out : All (λ j. IsOut cache j.ticket j.block j.image) jobs
   pub apart : AllPairs (λ i j. i.block ≢ j.block) jobs
-  pub inside : All (IsInside cache.size) made
+  pub inside : All (IsInside cache.size) listing.made
+  pub listed : length listing.rooms ≡ shape.blocks
 
 -- the job of a ticket is the one at i
 pub record IsJobAt (jobs : List (JobView MemoryView)) (ticket i : ℕ) : Type 0 where

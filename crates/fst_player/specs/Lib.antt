@@ -2,6 +2,7 @@ pub mod Script
 pub mod Stream
 pub mod Lines
 pub mod Answering
+pub mod Listing
 pub mod Kept
 pub mod Zeros
 pub mod Session

@@ -16,7 +16,7 @@ ghost use Rattle.std.specs.Prelude.{◌≡◌, List, ℕ, ◌++◌, ◌∷◌, [
 ghost use Rattle.fst_lines.specs.Parsing.{command};
 ghost use Rattle.fst_player.specs.Answering.{Answered, Obeyed};
 
-use crate::accepted::Accepted;
+use crate::changes::Changes;
 use crate::line::Line;
 use fst_cache::{Cache, Share};
 use fst_device::{Job, MemorySlot};
@@ -36,7 +36,7 @@ pub struct Player {
     cache: Cache<MemorySlot>,
     share: Share,
     jobs: Vec<Job<MemorySlot>>,
-    made: Vec<Accepted>,
+    made: Changes,
 }
 
 impl Model for Player {
@@ -45,9 +45,9 @@ impl Model for Player {
 
     ghost Value = { PlayerState };
 
-    ghost view = { λ p. record { cache = p.cache.state; jobs = jobs_kept p.jobs.items; made = changes_made p.made.items } };
+    ghost view = { λ p. record { cache = p.cache.state; jobs = jobs_kept p.jobs.items; made = changes_made p.made.made } };
 
-    ghost invariant = { λ p. IsKept p.shape p.share p.cache.state p.jobs.items p.made.items };
+    ghost invariant = { λ p. IsKept p.shape p.share p.cache.state p.jobs.items p.made };
 }
 
 impl Player {

@@ -1,7 +1,8 @@
 //! What a crash would leave: zero blocks with the accepted changes over them that are on disk, and those in flight whose
-//! write is taken to finish. Nothing is read from the cache's blocks: each block is folded anew.
+//! write is taken to finish. Nothing is read from the cache's blocks: each
+//! block is folded anew, from its own changes alone.
 
-ghost use Rattle.std.specs.Prelude.{◌≡◌, ◌==◌, ◌&&◌, length};
+ghost use Rattle.std.specs.Prelude.{◌≡◌, length};
 ghost use Rattle.std.specs.List.{flat_map};
 ghost use Rattle.fst_types.specs.Tests.{is_among};
 ghost use Rattle.fst_types.specs.Looks.{place_of};
@@ -68,22 +69,23 @@ impl Player {
         None
     }
 
-    // Whether a crash leaves a change, of this block, whose write is finished or not.
-    fn leaves(&self, change: &Accepted, block: u32, finished: bool) -> bool
-        ensures { result ≡ (change.now.block.0 == block && is_left_at finished (place_of self.now.cache.heads self.now.cache.numbers change.now.number.0)) }
+    // Whether a crash leaves a change, the write of its block being finished or not.
+    fn leaves(&self, change: &Accepted, finished: bool) -> bool
+        ensures { result ≡ is_left_at finished (place_of self.now.cache.heads self.now.cache.numbers change.now.number.0) }
     {
-        change.block.0 == block && is_left(finished, self.cache.place(change.number))
+        is_left(finished, self.cache.place(change.number))
     }
 
-    // Puts the bytes that a crash leaves of a block.
+    // Puts the bytes that a crash leaves of a block. It looks at the changes of that block alone.
     fn leave(&self, finish: &[BlockNo], block: u32, bytes: &mut [u8])
         requires { length bytes.old ≡ self.now.cache.size }
         ensures { bytes.new ≡ left_of self.now (block_numbers finish.now) block }
     {
         let finished = is_in(finish, block);
         bytes.fill(0);
-        for change in &self.made {
-            if self.leaves(change, block, finished) {
+        for position in self.made.of(block) {
+            let change = self.made.at(*position);
+            if self.leaves(change, finished) {
                 write_over(bytes, change.at, &change.bytes);
             }
         }

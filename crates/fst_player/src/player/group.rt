@@ -4,7 +4,6 @@ ghost use Rattle.std.specs.Prelude.{◌≡◌};
 ghost use Rattle.fst_lines.specs.Commands as script;
 ghost use Rattle.fst_player.specs.Answering.{Obeyed};
 
-use crate::accepted::keep;
 use crate::player::Player;
 use crate::player::told::{send_accepted, send_made};
 use fst_lines::output::Stopped;
@@ -56,13 +55,13 @@ impl Player {
         ensures { Obeyed self.old (script.group_patch group.0 block.0 at bytes.items)
             (W.contents writer.old) (W.contents writer.new) result self.new }
     {
-        if self.made.try_reserve(1).is_err() {
+        if self.made.reserve(block).is_err() {
             return send_refusal(writer, calls, Fault::Memory);
         }
         let answer = self
             .cache
             .group_patch(&mut self.share, group, block, at, &bytes);
-        keep(&mut self.made, &answer, block, at, bytes);
+        self.made.keep(&answer, block, at, bytes);
         send_made(writer, calls, answer)
     }
 

@@ -4,6 +4,7 @@ ghost use Rattle.std.specs.Prelude.{◌≡◌, MatchResult};
 ghost use Rattle.fst_types.specs.declared.fault.Fault.{Fault};
 ghost use Rattle.fst_player.specs.Script.{opened};
 
+use crate::changes::Changes;
 use crate::player::Player;
 use crate::zeros::zero_slots;
 use fst_cache::Cache;
@@ -18,6 +19,9 @@ impl Player {
         let Ok(slots) = zero_slots(alloc, shape.blocks, shape.size) else {
             return Err(Fault::Memory);
         };
+        let Ok(made) = Changes::new(alloc, shape.blocks) else {
+            return Err(Fault::Memory);
+        };
         match Cache::open(alloc, shape, slots) {
             Ok(mut cache) => {
                 let share = cache.share();
@@ -26,7 +30,7 @@ impl Player {
                     cache,
                     share,
                     jobs: Vec::new(alloc),
-                    made: Vec::new(alloc),
+                    made,
                 })
             }
             Err((_, fault)) => Err(fault),

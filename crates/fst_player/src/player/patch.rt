@@ -5,7 +5,6 @@ ghost use Rattle.fst_lines.specs.Commands as script;
 ghost use Rattle.fst_lines.specs.Parsing.{patch_numbers};
 ghost use Rattle.fst_player.specs.Answering.{Obeyed};
 
-use crate::accepted::keep;
 use crate::player::Player;
 use crate::player::told::send_made;
 use fst_lines::output::Stopped;
@@ -27,11 +26,11 @@ impl Player {
         ensures { Obeyed self.old (script.patch block.0 at bytes.items (patch_numbers after.now))
             (W.contents writer.old) (W.contents writer.new) result self.new }
     {
-        if self.made.try_reserve(1).is_err() {
+        if self.made.reserve(block).is_err() {
             return send_refusal(writer, calls, Fault::Memory);
         }
         let answer = self.cache.patch(&mut self.share, block, at, &bytes, after);
-        keep(&mut self.made, &answer, block, at, bytes);
+        self.made.keep(&answer, block, at, bytes);
         send_made(writer, calls, answer)
     }
 

@@ -9,7 +9,7 @@ pub returns-in-Ok-open : goal.returns-in-Ok-open
 returns-in-Ok-open c =
     let shape = c.args.shape in
     let bytes : map (λ (s : MemoryView). s.bytes) c.in-Ok.slots.items ≡ replicate shape.blocks (replicate shape.size 0) = ap (map (λ (s : MemoryView). s.bytes)) c.in-Ok.ensures ∙ bytes_are shape.size 0 shape.blocks in
-    rw (c.new.ensures.items, c.new-in-Ok-open.ensures.items, c.share-share.ensures.same, c.in-Ok-open.ensures.opened, bytes) refl
+    rw (c.new-in-Ok-open.ensures.items, c.in-Ok-new.ensures.made, c.share-share.ensures.same, c.in-Ok-open.ensures.opened, bytes) refl
 
 pub invariant_of-result : goal.invariant_of-result
 invariant_of-result c =
@@ -17,10 +17,10 @@ invariant_of-result c =
     let bytes = map (λ (s : MemoryView). s.bytes) c.in-Ok.slots.items in
     let zeros : bytes ≡ replicate shape.blocks (replicate shape.size 0) = ap (map (λ (s : MemoryView). s.bytes)) c.in-Ok.ensures ∙ bytes_are shape.size 0 shape.blocks in
     let long = ap (λ (l : List (List ℕ)). length l) zeros ∙ length-replicate shape.blocks (replicate shape.size 0) in
-    opened_kept shape _ _ bytes _ _ c.share-share.ensures.share (ap (λ x. x.state) (c.share-share.ensures.same ∙ c.in-Ok-open.ensures.opened)) long c.new.ensures.items c.new-in-Ok-open.ensures.items
+    opened_kept shape _ _ bytes _ _ c.share-share.ensures.share (ap (λ x. x.state) (c.share-share.ensures.same ∙ c.in-Ok-open.ensures.opened)) long c.new-in-Ok-open.ensures.items c.in-Ok-new.ensures.made c.in-Ok-new.ensures.rooms
 
-pub returns : goal.returns
-returns c =
+pub returns-in-Err : goal.returns-in-Err
+returns-in-Err c =
     let shape = c.args.shape in
     let e = c.in-Ok.ensures in
     open_fault shape.blocks shape.size _ _ _

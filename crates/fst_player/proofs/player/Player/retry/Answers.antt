@@ -19,5 +19,5 @@ pub returns : goal.returns
 returns g c =
     let i = c.self.inside in
     rw (← c.self.view_is)
-    (Obeyed-given c.retry-given.result i.cache.state _ _ _ i.jobs.items _ i.made.items _ _ _ refl c.retry-given.ensures.step (rw c.try_reserve.ensures.items at c.keep_job.ensures.kept) c.keep_job.ensures.told
+    (Obeyed-given c.retry-given.result i.cache.state _ _ _ i.jobs.items _ i.made.made _ _ _ refl c.retry-given.ensures.step (rw c.try_reserve.ensures.items at c.keep_job.ensures.kept) c.keep_job.ensures.told
     (λ job. refl) (λ fault. refl))

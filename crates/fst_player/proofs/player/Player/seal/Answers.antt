@@ -9,4 +9,4 @@ invariant_of-self g c = accepted_kept c.seal-answer.result _ _ _ _ _ _ _ c.seal-
 pub returns : goal.returns
 returns g c =
     let i = c.self.inside in
-    rw (← c.self.view_is) (Obeyed-accepted c.seal-answer.result i.cache.state _ _ _ i.jobs.items i.made.items _ _ _ refl c.seal-answer.ensures.step c.send_accepted.ensures refl (λ fault. refl))
+    rw (← c.self.view_is) (Obeyed-accepted c.seal-answer.result i.cache.state _ _ _ i.jobs.items i.made.made _ _ _ refl c.seal-answer.ensures.step c.send_accepted.ensures refl (λ fault. refl))
