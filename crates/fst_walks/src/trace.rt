@@ -21,8 +21,9 @@ use fst_heads::test::{Test, passes};
 // How far it is traced.
 const STEPS: u32 = 256;
 
-// How many of one row, or of what one block needs, are looked at.
-const WIDTH: usize = 64;
+// How many patches are looked at for what the walk has met: as many as there may be, since one of the thousands that a gate comes
+// after may be all of them that leads on.
+const LOOKS: usize = 65_536;
 
 // The slot of the patch with the number, if the walk has met it.
 fn met_slot(sight: &Sight<'_>, up: &Walk, number: u32) -> Option<usize>
@@ -35,15 +36,15 @@ fn met_slot(sight: &Sight<'_>, up: &Walk, number: u32) -> Option<usize>
     if up.has_met(slot) { Some(slot) } else { None }
 }
 
-// The slot of what the walk has met and the block needs, the newest first.
-fn met_need(sight: &Sight<'_>, up: &Walk, block: u32) -> Option<usize>
+// The slot of what the walk has met and the block needs, the newest first, of so many at most.
+fn met_need(sight: &Sight<'_>, up: &Walk, block: u32, most: usize) -> Option<usize>
     requires sees { Sees sight.now }
     requires up { Visited sight.now.heads.now up.now }
     requires block { block < length sight.now.lists.now }
     ensures { IfSome result (λ slot. (q : ℕ) × HasSlot sight.now.heads.now q slot × IsNeed (patches_of sight.now.heads.now) (needs_of sight.now.needs.now.lists) block q) }
 {
     let needs = sight.needs.of(block);
-    let few = &needs[needs.len().saturating_sub(WIDTH)..];
+    let few = &needs[needs.len().saturating_sub(most)..];
     for need in few.iter().rev() {
         let slot = met_slot(sight, up, need.number);
         if slot.is_some() {
@@ -54,15 +55,15 @@ fn met_need(sight: &Sight<'_>, up: &Walk, block: u32) -> Option<usize>
 }
 
 // The slot of what the walk has met and the patch in the slot waits for: of its row, the newest first, or else of what its
-// block needs, if that is another than `block`.
-fn step(sight: &Sight<'_>, up: &Walk, slot: usize, block: u32) -> Option<usize>
+// block needs, if that is another than `block`. It looks at so many of either at most.
+fn step(sight: &Sight<'_>, up: &Walk, slot: usize, block: u32, most: usize) -> Option<usize>
     requires sees { Sees sight.now }
     requires up { Visited sight.now.heads.now up.now }
     requires slot { slot < length sight.now.heads.now }
     ensures { IfSome result (λ next. (q : ℕ) × HasSlot sight.now.heads.now q next × ((n : ℕ) → HasSlot sight.now.heads.now n slot → IsLiveNumber (patches_of sight.now.heads.now) n → StepsTo (patches_of sight.now.heads.now) (needs_of sight.now.needs.now.lists) block n q)) }
 {
     let head = &sight.heads[slot];
-    for number in newest_few(head.dependencies.as_slice(), WIDTH).iter().rev() {
+    for number in newest_few(head.dependencies.as_slice(), most).iter().rev() {
         let next = met_slot(sight, up, *number);
         if next.is_some() {
             return next;
@@ -73,7 +74,7 @@ fn step(sight: &Sight<'_>, up: &Walk, slot: usize, block: u32) -> Option<usize>
             if own == block {
                 None
             } else {
-                met_need(sight, up, own)
+                met_need(sight, up, own, most)
             }
         }
         Kind::Empty | Kind::OpenGate | Kind::SealedGate => None,
@@ -90,12 +91,15 @@ pub fn trace(sight: &Sight<'_>, up: &Walk, slot: usize, block: u32) -> Option<u3
     ensures path { IfSome result (λ end. (n : ℕ) → HasSlot sight.now.heads.now n slot → (n ≡ end) ⊎ Closure (StepsTo (patches_of sight.now.heads.now) (needs_of sight.now.needs.now.lists) block) n end) }
 {
     let mut at = slot;
+    let mut left = LOOKS;
     for _ in 0..STEPS {
         let head = &sight.heads[at];
         if passes(Test::LiveOn(block), head) {
             return Some(head.number);
         }
-        at = step(sight, up, at, block)?;
+        let row = head.dependencies.len();
+        at = step(sight, up, at, block, left)?;
+        left = left.saturating_sub(row);
     }
     None
 }
