@@ -9,7 +9,7 @@ use Rattle.fst_heads.specs.{Grading.{HasUnder, LeadsNowhere, IsHardNumber}, Head
 use Rattle.fst_heads.specs.{Reaching.{ShowsBlocks}, Tests.passes, declared.head.Head.Head}
 use Rattle.fst_heads.proofs.{Listing.rising_patches}
 use Rattle.fst_walks.specs.{BothEnds.{AreApart, ComesTo, EndApart, IsFirstAway, IsLowChange, LeadTogether, StepsAway, StepsHigh, StepsLow, StepsTo}, Descending.{IsLedFrom, Visits}, Leveling.AreLeveled, Needing.AreNeeded, WayBack.{LeadsBack, StepsUp}}
-use Rattle.fst_walks.proofs.{BothEnds.{Leads, leads_on, led_leads, leads_led, goes_up, back_leads, backs_up, none_leads, off_live, ups_back}, ComesBack.{live_number, off_not_on}, Holding.live_up, NearRow.rests_may, Needed.{StepsDown, StepsWhole, steps_whole, whole_met}, Trails.none_in}
+use Rattle.fst_walks.proofs.{BothEnds.{Leads, away_depends, leads_on, led_leads, leads_led, goes_up, back_leads, backs_up, none_leads, off_live, ups_back}, ComesBack.{live_number, off_not_on}, Holding.live_up, NearRow.rests_may, Needed.{StepsDown, StepsWhole, steps_whole, whole_met}, Trails.none_in}
 use Rattle.fst_heads.specs.declared.test.Test.TheVariants as test
 
 -- whether the patch passes is known
@@ -91,11 +91,7 @@ module _ (heads : List Head) (rising : AreRising heads) (disk : IsOnDiskWithAll 
 
 -- a first one is at or below the row
 first_under : (patches : List Patch) (b : ℕ) (row : List ℕ) (n : ℕ) → IsFirstAway patches b row n → HasUnder patches row (λ m. m ≡ n)
-first_under patches b row n f = (f.top, f.named, elim f.path [ inl e ↦ inl e | inr path ↦ inr (n, down f.top n path, refl) ])
-  where
-    down : (p q : ℕ) → Closure (StepsAway patches b) p q → DependsOn patches p q
-    down p q (one s) = one s.1
-    down p q (join {q = k} c d) = join (down p k c) (down k q d)
+first_under patches b row n f = (f.top, f.named, elim f.path [ inl e ↦ inl e | inr path ↦ inr (n, away_depends patches b f.top n path, refl) ])
 
 -- of what the way down from the row leads to, the changes of other blocks are first ones
 pub first_only : (patches : List Patch) (b : ℕ) (row start met kept : List ℕ) → Visits (λ n. Contains row n × IsLiveNumber patches n) [] start → ((n : ℕ) → Contains met n → IsLedFrom (StepsAway patches b) start n)
