@@ -6,10 +6,11 @@
 //! beginning of such a run.
 //!
 //! From the bottom: `player` has a file for each group of commands, over a cache, the jobs that wait for their `done`, and
-//! the changes that were accepted (`accepted`; `changes` lists those of each block), from which `crash` tells what the disk would hold without a look at the
-//! cache's blocks. `line` is the line that is read, as far as it is kept, and `session` answers each line where it ends.
-//! `play` is the loop over the stream, and `zeros` the slots that a play begins with. `laws` says, over the definitions alone, that a script's run is a run of the cache,
-//! and that what is told of a crash is what the crash leaves.
+//! the changes that were accepted (`accepted`; `changes` lists those of each block), from which `crash` tells what the
+//! disk would hold without a look at the cache's blocks. `line` is the line that is read, as far as it is kept, and
+//! `session` answers each line where it ends. `play` is the loop over the stream, and `zeros` the slots that a play
+//! begins with. `laws` says, over the definitions alone, that a script's run is a run of the cache, and that what is told
+//! of a crash is what the crash leaves.
 //!
 //! How a line is read and how a reply is spelled is a layer below (`fst_lines`); the words of a command line are the
 //! program's.

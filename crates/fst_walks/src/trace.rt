@@ -1,5 +1,5 @@
-//! Where a way back ends. A search from both ends ends where its two walks meet; from there the walk up is traced down, over
-//! what it has met, to the change of the block from which it came.
+//! Where a way back ends. A search from both ends ends where its two walks meet; from there the walk up is traced
+//! down, over what it has met, to the change of the block from which it came.
 
 ghost use Rattle.std.specs.Prelude.{◌≡◌, ◌⊎◌, ◌<◌, ℕ, length, IfSome};
 ghost use Rattle.fst_types.specs.Closure.{Closure};
@@ -21,8 +21,8 @@ use fst_heads::test::{Test, passes};
 // How far it is traced.
 const STEPS: u32 = 256;
 
-// How many patches are looked at for what the walk has met: as many as there may be, since one of the thousands that a gate comes
-// after may be all of them that leads on.
+// How many patches are looked at for what the walk has met: as many as there may be, since of the thousands that a gate
+// comes after one alone may lead on.
 const LOOKS: usize = 65_536;
 
 // The slot of the patch with the number, if the walk has met it.
