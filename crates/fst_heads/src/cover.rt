@@ -16,23 +16,31 @@ pub struct Run {
     pub number: u32,
 }
 
-// Puts two runs in the place of those from the first on up to past. There is room for them.
+// Puts two runs in the place of those from the first on up to past. There is room for them, so that none is refused.
 fn lay(runs: &mut Vec<Run>, first: usize, past: usize, own: Run, end: Run)
     requires ordered { first ≤ past }
     requires within { past ≤ length runs.old.items }
     requires room { vec_len runs.old + 2 ≤ vec_capacity runs.old }
     ensures { runs.new.items ≡ take first runs.old.items ++ own ∷ end ∷ drop past runs.old.items }
 {
-    let len = runs.len();
-    for _ in 0..(first + 2).saturating_sub(past) {
-        runs.push_reserved(end);
+    match past - first {
+        0 => {
+            runs.insert(first, end).unwrap();
+            runs.insert(first, own).unwrap();
+        }
+        1 => {
+            runs[first] = end;
+            runs.insert(first, own).unwrap();
+        }
+        _ => {
+            runs[first] = own;
+            runs[first + 1] = end;
+            // The last one first, so that only what stays is moved.
+            for surplus in (first + 2..past).rev() {
+                runs.remove(surplus);
+            }
+        }
     }
-    if past != first + 2 {
-        runs.copy_within(past..len, first + 2);
-        runs.truncate(first + 2 + (len - past));
-    }
-    runs[first] = own;
-    runs[first + 1] = end;
 }
 
 /// The runs of a block, by the bytes that they begin at; before the first one no change was made. So it takes 32 bytes for

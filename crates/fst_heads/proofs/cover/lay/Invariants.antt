@@ -1,11 +1,9 @@
-use Rattle.std.proofs.Common.{◌≡◌, ◌++◌, List, length, vec_capacity}
-use Rattle.fst_heads.proofs.Words.{Run}
+use Rattle.std.proofs.Common.{◌≡◌, ◌≤◌, ◌+◌, ◌++◌, take, drop}
 use Rattle.fst_heads.proofs.cover.lay.Given as goal
 
-abbrev pub invariant-loop : goal.invariant-loop
-invariant-loop l = record {
-  more : List Run;
-  items : l.runs.items ≡ l.initial.runs.items ++ more;
-  long : length more ≡ l.counter;
-  room : vec_capacity l.runs ≡ vec_capacity l.initial.runs;
+-- behind the two, the surplus is gone from there on
+abbrev pub invariant-loop-surplus : goal.invariant-loop-surplus
+invariant-loop-surplus l = record {
+  behind : l.first + 2 ≤ l.surplus;
+  items : l.runs.items ≡ take l.surplus l.initial.runs.items ++ drop l.past l.initial.runs.items;
 }
