@@ -1,7 +1,7 @@
 -- What the covers of the blocks keep from call to call.
-use Rattle.fst_heads.proofs.Basics.{◌≡◌, ◌⊎◌, ◌<◌, ◌≤◌, ◌+◌, ◌++◌, ◌∷◌, ◌∙◌, [], ℕ, true, List, map, filter, get_or, set, Contains, refl, sym, ap, subst, inl, inr, arith, cases_lt, cases_eq, eqb-false, length-set, or_parts, rules, get_or-set_other, Contains-push_cases, common_steps, Contains-append_left}
+use Rattle.fst_heads.proofs.Basics.{◌≡◌, ◌⊎◌, ◌<◌, ◌≤◌, ◌+◌, ◌==◌, ◌||◌, ◌++◌, ◌∷◌, ◌∙◌, [], ℕ, true, false, nat_lt, nat_tests, List, map, filter, get_or, set, Contains, refl, sym, ap, subst, inl, inr, arith, cases_lt, cases_eq, length-set, or_parts, rules, get_or-set_other, Contains-push_cases, common_steps, Contains-append_left}
 use Rattle.fst_heads.proofs.Basics.{Contains-append_right}
-use Rattle.fst_heads.proofs.{Words.{Covering, IsOver, IsCovered, AreCovered, Covers, SaysTheSame, IsPut, newest_over, newest_in, IsSparseRow}, Newest.over_touched}
+use Rattle.fst_heads.proofs.{Words.{Covering, IsOver, IsCovered, AreCovered, Covers, SaysTheSame, IsPut, newest_over, newest_in, max_from, IsSparseRow}, Newest.over_touched}
 use Rattle.fst_heads.proofs.{Leading.some_injective, Forgetting.live_place_of}
 use Rattle.std.proofs.lemmas.Grind.{get_or-set_at}
 use Rattle.fst_types.specs.Closure.{one, join}
@@ -15,8 +15,8 @@ module _ (old new : List Patch)
     (bytes : (p : Patch) (b : ℕ) → Contains new p → IsLive p → IsOn p b → (o : Patch) × Contains old o × IsLive o × IsOn o b × (len_of o.kind ≡ len_of p.kind)) where
   covered_one : (b : ℕ) (cover : Covering) → IsCovered old b cover → IsCovered new b cover
   covered_one b cover C = record {
-    each = λ q x o.
-        let k = C.each q x (back b x q o) in
+    each = λ none q x o.
+        let k = C.each none q x (back b x q o) in
         let n = forth b x (newest_over cover x) q k.over o k.above in
         record { some = k.some; over = n.0; above = n.1 };
     bytes = λ none p h live on. let o = bytes p b h live on in subst (λ n. 1 ≤ n) o.4 (C.bytes none o.0 o.1 o.2 o.3);
@@ -114,9 +114,9 @@ module _ (old : List Patch) (p : Patch) where
   -- which is no change of that block
   covered_beside : (b : ℕ) → (IsOn p b → ⊥) → (cover : Covering) → IsCovered old b cover → IsCovered with_one b cover
   covered_beside b off cover C = record {
-    each = λ q x o. elim (over_cases b x q o) [
+    each = λ none q x o. elim (over_cases b x q o) [
       | inl was ↦
-          let k = C.each q x was in
+          let k = C.each none q x was in
           record { some = k.some; over = over_with b x (newest_over cover x) k.over; above = elim k.above [ inl e ↦ inl e | inr d ↦ inr (depends_with (newest_over cover x) q d) ] }
       | inr own ↦ absurd (off (subst (λ y. IsOn y b) (sym own) o.change))
     ];
@@ -163,15 +163,15 @@ module _ (heads : List Patch) (blocks : ℕ) (covers : List Covering) (A : AreCo
       let C = A.each b d inside in
       let over : (x : ℕ) → newest_over cover x ≡ newest_over (get_or covers b d) x = λ x. ap (λ rs. newest_in 0 rs x) L.runs in
       record {
-        each = λ q x o.
-            let k = C.each q x o in
+        each = λ none q x o.
+            let k = C.each (sym L.untold ∙ none) q x o in
             let same = over x in
             record {
               some = subst (λ n. 1 ≤ n) (sym same) k.some;
               over = subst (IsOver heads b x) (sym same) k.over;
               above = subst (λ n. (n ≡ q) ⊎ DependsOn heads n q) (sym same) k.above;
             };
-        bytes = λ none. C.bytes (sym L.points ∙ none);
+        bytes = λ none. C.bytes (sym L.untold ∙ none);
       }
 
   pub covered_same : AreCovered heads blocks (set covers b cover)
@@ -212,9 +212,16 @@ module _ (old : List Patch) (n b at len : ℕ) (grade : Grade) (names row : List
     | inr m ↦ join (direct m.0 m.1) (depends_with old p m.0 q m.2)
   ]
 
-  own : (x q : ℕ) → at ≤ x → x < at + len → IsOver new b x q → Covers new b cover x q
-  own x q lo hi o =
-      let same = put.own x lo hi in
+  -- where the runs tell of all, they did before, and this change ends where a run may begin
+  told : cover.untold ≡ false → (was.untold ≡ false) × (1 ≤ len) × (at + len ≤ max_from)
+  told none =
+      let parts = or_parts was.untold ((len == 0) || nat_lt max_from (at + len)) (sym put.untold ∙ none) in
+      let both = or_parts (len == 0) (nat_lt max_from (at + len)) parts.1 in
+      (parts.0, grind (arith, nat_tests), grind (arith, nat_tests))
+
+  own : cover.untold ≡ false → (x q : ℕ) → at ≤ x → x < at + len → IsOver new b x q → Covers new b cover x q
+  own none x q lo hi o =
+      let same = put.own (told none).2 x lo hi in
       record {
         some = subst (λ k. 1 ≤ k) (sym same) some;
         over = subst (IsOver new b x) (sym same) (record { patch = p; head = there; numbered = refl; live = λ e. cc; change = refl; starts = lo; ends = hi });
@@ -224,10 +231,10 @@ module _ (old : List Patch) (n b at len : ℕ) (grade : Grade) (names row : List
         ]);
       }
 
-  beside : (x q : ℕ) → (x < at) ⊎ (at + len ≤ x) → IsOver new b x q → Covers new b cover x q
-  beside x q off o = elim (over_cases old p b x q o) [
+  beside : cover.untold ≡ false → (x q : ℕ) → (x < at) ⊎ (at + len ≤ x) → IsOver new b x q → Covers new b cover x q
+  beside none x q off o = elim (over_cases old p b x q o) [
     | inl w ↦
-        let k = C.each q x w in
+        let k = C.each (told none).0 q x w in
         let same = put.beside x off in
         record {
           some = subst (λ m. 1 ≤ m) (sym same) k.some;
@@ -239,11 +246,11 @@ module _ (old : List Patch) (n b at len : ℕ) (grade : Grade) (names row : List
 
   own_cover : IsCovered new b cover
   own_cover = record {
-    each = λ q x o. elim (cases_lt x at) [
-      | inl before ↦ beside x q (inl before) o
-      | inr lo ↦ elim (cases_lt x (at + len)) [ inl hi ↦ own x q (omega (arith, lo)) hi o | inr after ↦ beside x q (inr (omega (arith, after))) o ]
+    each = λ none q x o. elim (cases_lt x at) [
+      | inl before ↦ beside none x q (inl before) o
+      | inr lo ↦ elim (cases_lt x (at + len)) [ inl hi ↦ own none x q (omega (arith, lo)) hi o | inr after ↦ beside none x q (inr (omega (arith, after))) o ]
     ];
-    bytes = grind (arith, common_steps, or_parts, eqb-false);
+    bytes = grind (arith, common_steps, told);
   }
 
   pub covered_put : AreCovered new blocks (set covers b cover)

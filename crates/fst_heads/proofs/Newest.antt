@@ -101,7 +101,7 @@ over_touched heads b at len x n lo hi o = search (rules, touch_whole)
 
 -- the named with the newest over each byte are a sparse row
 module _ (heads : List Patch) (names : List ℕ) (b at len : ℕ) (cover : Covering) (C : IsCovered heads b cover) (numbers named row : List ℕ) where
-  pub newest_are_sparse : 1 ≤ len → cover.points ≡ false
+  pub newest_are_sparse : 1 ≤ len → cover.untold ≡ false
       → Lists (λ n. IsLiveNumber heads n × Contains names n) named
       → ((x : ℕ) → at ≤ x → x < at + len → 1 ≤ newest_over cover x → Contains numbers (newest_over cover x))
       → GainsTouched heads numbers b at len named row
@@ -113,7 +113,7 @@ module _ (heads : List Patch) (names : List ℕ) (b at len : ℕ) (cover : Cover
     above = λ n t.
         let k = touch_parts b at len t.patch.kind t.patch.place t.shares in
         let p = touched_over heads b at len t.patch t.head t.shares own (C.bytes none t.patch t.head k.0 k.1) in
-        let m = C.each t.patch.number p.0 p.3 in
+        let m = C.each none t.patch.number p.0 p.3 in
         let there = gained.each _ m.some (over p.0 p.1 p.2 m.some) (over_touched heads b at len p.0 _ p.1 p.2 m.over) in
         elim m.above [
           | inl same ↦ inl (subst (Contains row) (same ∙ t.numbered) there)

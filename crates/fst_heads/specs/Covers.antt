@@ -6,10 +6,14 @@ use Rattle.fst_types.specs.{Dependencies.DependsOn, Patches.{Patch, IsOn, IsLive
 use Rattle.fst_heads.specs.Rows.{IsTouched}
 use Rattle.fst_heads.specs.declared.cover.Run.{Run}
 
--- the runs of a block, by the bytes that they begin at, each of which tells the number of the newest change from there on, 0 for none; and whether a change without a byte was made
+-- the runs of a block, by the bytes that they begin at, each of which tells the number of the newest change from there on, 0 for none; and whether a change was made of which they do not tell
 pub record Covering : Type 0 where
   pub runs : Vec Run Global
-  pub points : Bool
+  pub untold : Bool
+
+-- the last byte that a run may begin at
+abbrev pub max_from : ℕ
+max_from = 4294967295
 
 -- each run begins after the one before
 abbrev pub AreRising : List Run → Type 0
@@ -51,10 +55,10 @@ pub record Covers (heads : List Patch) (b : ℕ) (cover : Covering) (x q : ℕ) 
   pub over : IsOver heads b x (newest_over cover x)
   pub above : (newest_over cover x ≡ q) ⊎ DependsOn heads (newest_over cover x) q
 
--- over each byte of a live change q of b the cover names a live change of b over that byte, which is q or depends on it; and unless it says otherwise, each live change of b has a byte
+-- unless a change was made of which its runs do not tell, over each byte of a live change q of b the cover names a live change of b over that byte, which is q or depends on it, and each live change of b has a byte
 pub record IsCovered (heads : List Patch) (b : ℕ) (cover : Covering) : Type 0 where
-  pub each : (q x : ℕ) → IsOver heads b x q → Covers heads b cover x q
-  pub bytes : cover.points ≡ false → (p : Patch) → Contains heads p → IsLive p → IsOn p b → 1 ≤ len_of p.kind
+  pub each : cover.untold ≡ false → (q x : ℕ) → IsOver heads b x q → Covers heads b cover x q
+  pub bytes : cover.untold ≡ false → (p : Patch) → Contains heads p → IsLive p → IsOn p b → 1 ≤ len_of p.kind
 
 -- so it is at each block
 pub record AreCovered (heads : List Patch) (blocks : ℕ) (covers : List Covering) : Type 0 where
@@ -67,13 +71,13 @@ HasRoomForRuns cover = vec_len cover.runs + 2 ≤ vec_capacity cover.runs
 
 -- the cover means the same
 pub record SaysTheSame (old new : Covering) : Type 0 where
-  pub points : new.points ≡ old.points
+  pub untold : new.untold ≡ old.untold
   pub runs : new.runs.items ≡ old.runs.items
 
--- the number is the newest over len bytes from at on, and the other bytes stay
+-- the number is the newest over len bytes from at on, and the other bytes stay; of no byte, and of bytes that end past where a run may begin, the runs do not tell
 pub record IsPut (old : Covering) (at len number : ℕ) (new : Covering) : Type 0 where
-  pub points : new.points ≡ (old.points || (len == 0))
-  pub own : (x : ℕ) → at ≤ x → x < at + len → newest_over new x ≡ number
+  pub untold : new.untold ≡ (old.untold || ((len == 0) || nat_lt max_from (at + len)))
+  pub own : at + len ≤ max_from → (x : ℕ) → at ≤ x → x < at + len → newest_over new x ≡ number
   pub beside : (x : ℕ) → (x < at) ⊎ (at + len ≤ x) → newest_over new x ≡ newest_over old x
 
 -- those of the numbers that share a byte with len bytes from at on are in the row besides, which still rises

@@ -12,7 +12,7 @@ use std::marker::Model;
 /// From this byte on, up to where the next run begins, the newest change has this number, 0 for none.
 #[derive(Clone, Copy)]
 pub struct Run {
-    pub from: u64,
+    pub from: u32,
     pub number: u32,
 }
 
@@ -43,14 +43,14 @@ fn lay(runs: &mut Vec<Run>, first: usize, past: usize, own: Run, end: Run)
     }
 }
 
-/// The runs of a block, by the bytes that they begin at; before the first one no change was made. So it takes 32 bytes for
-/// each change at most, and no more than 16 for each byte of the block. A run is not taken out when its change lands: who
-/// reads a number looks whether it is live. `points` is set for good where a change without a byte was made of the block,
-/// of which the runs do not tell.
+/// The runs of a block, by the bytes that they begin at; before the first one no change was made. So it takes 16 bytes for
+/// each change at most, and no more than 8 for each byte of the block. A run is not taken out when its change lands: who
+/// reads a number looks whether it is live. `untold` is set for good where a change was made of the block of which the runs
+/// do not tell: one without a byte, or whose bytes end past `u32::MAX`.
 #[derive(Drop)]
 pub struct Cover {
     runs: Vec<Run>,
-    points: bool,
+    untold: bool,
 }
 
 impl Model for Cover {
@@ -58,7 +58,7 @@ impl Model for Cover {
 
     ghost Value = { Covering };
 
-    ghost view = { λ c. record { runs = c.runs; points = c.points } };
+    ghost view = { λ c. record { runs = c.runs; untold = c.untold } };
 
     ghost invariant = { λ c. AreRising c.runs.items };
 }
@@ -67,19 +67,19 @@ impl Cover {
     /// No change was made of the block. It takes no memory.
     pub fn new(alloc: Global) -> Cover
         ensures runs { result.runs.items ≡ [] }
-        ensures points { result.points ≡ false }
+        ensures untold { result.untold ≡ false }
     {
         Cover {
             runs: Vec::new(alloc),
-            points: false,
+            untold: false,
         }
     }
 
-    /// Whether a change without a byte was made.
-    pub fn has_points(&self) -> bool
-        ensures { result ≡ self.now.points }
+    /// Whether a change was made of which the runs do not tell.
+    pub fn has_untold(&self) -> bool
+        ensures { result ≡ self.now.untold }
     {
-        self.points
+        self.untold
     }
 
     /// Makes room for one more change. It means the same after it, also where there is no memory.
@@ -94,7 +94,7 @@ impl Cover {
     fn before(&self, byte: u64) -> usize
         ensures { AreParted self.now.runs.items byte result }
     {
-        match self.runs.binary_search_by_key(&byte, |run| run.from) {
+        match self.runs.binary_search_by_key(&byte, |run| run.from.into()) {
             Ok(at) => at,
             Err(at) => at,
         }
@@ -116,14 +116,16 @@ impl Cover {
         requires { HasRoomForRuns self.old }
         ensures { IsPut self.old span.at span.len number self.new }
     {
-        if span.len == 0 {
-            self.points = true;
-            return;
-        }
-        let from = u64::from(span.at);
-        let end = from + u64::from(span.len);
-        let first = self.before(from);
-        let past = self.before(end + 1);
+        let from = span.at;
+        let end = match from.checked_add(span.len) {
+            Some(end) if from < end => end,
+            _ => {
+                self.untold = true;
+                return;
+            }
+        };
+        let first = self.before(u64::from(from));
+        let past = self.before(u64::from(end) + 1);
         // What was over the byte at the end stays over what follows.
         let after = self.number_after(past);
         lay(

@@ -71,8 +71,8 @@ fn gain_touched(
 }
 
 /// What a new change is to name so that it depends on the named patches that are not on disk, and on each change not on
-/// disk that shares a byte with it. It looks at its bytes alone, but for a block of which a change without a byte was made,
-/// or a change that has none: there at the list, which has the changes of the block that are not on disk.
+/// disk that shares a byte with it. It looks at its bytes alone, but for a block of which a change was made that its runs do
+/// not tell of, or a change that has no byte: there at the list, which has the changes of the block that are not on disk.
 pub fn sparse_row(
     alloc: Global,
     heads: &[Head],
@@ -87,7 +87,7 @@ pub fn sparse_row(
 {
     let block = wanted.block;
     let span = wanted.span;
-    if span.len == 0 || cover.has_points() {
+    if span.len == 0 || cover.has_untold() {
         return dependencies_of(alloc, heads, list, block, span, wanted.names);
     }
     let mut row = live_named(alloc, heads, wanted.names)?;
