@@ -6,8 +6,9 @@
 //! after all of it. So a crash leaves either no commit record of a transfer, or its record whole, from which it is made
 //! good on opening.
 
-ghost use Rattle.std.specs.Prelude.{OnOk};
+ghost use Rattle.std.specs.Prelude.{OnOk, IfErr};
 ghost use Rattle.journal_calls.specs.Exhausted.{IsDurable};
+ghost use Rattle.journal_parts.specs.Syncing.{IsSyncRefused};
 
 use crate::fault::StoreFault;
 use crate::record::{Balance, Record, SIZE, number_of};
@@ -191,8 +192,12 @@ impl<S: BlockSlot> Accounts<S> {
     }
 
     /// Writes until a patch is on disk.
+    ///
+    /// `Stuck` where it is not, and nothing more can be written, or as many writes were made as all changes that there
+    /// can be may take. Any other refusal is that of a write that could not be sent out.
     pub fn sync(&mut self, patch: PatchNo) -> Result<(), StoreFault>
-        ensures { OnOk result (IsDurable self.new.cache.state patch.0) }
+        ensures on_disk { OnOk result (IsDurable self.new.cache.state patch.0) }
+        ensures refused { IfErr result (IsSyncRefused self.old.cache.state self.new.cache.state patch.0) }
     {
         match write_until(&mut self.cache, patch, ALL_WRITES)? {
             Written::OnDisk => Ok(()),

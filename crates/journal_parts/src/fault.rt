@@ -21,6 +21,11 @@ pub enum StoreFault {
 }
 
 impl From<Fault> for StoreFault {
+    ghost use Rattle.std.specs.Prelude.{◌≡◌};
+    ghost use Rattle.journal_parts.specs.declared.fault.StoreFault.TheVariants as store_fault;
+
+    ghost from_gives = { λ fault refused. refused ≡ store_fault.Cache fault };
+
     fn from(fault: Fault) -> StoreFault {
         StoreFault::Cache(fault)
     }

@@ -4,7 +4,7 @@
 //! that gives anything else fails, and so does a write that was not made whole and flushed. That the file then has the
 //! bytes of the copy is a premise.
 
-ghost use Rattle.std.specs.Prelude.{◌≡◌, ◌<◌, ◌^◌, vec_len};
+ghost use Rattle.std.specs.Prelude.{◌≡◌, ◌<◌, ◌^◌, IfOk, vec_len};
 
 use fst_device::{BlockSlot, FaultCount, SlotFault};
 use fst_types::BlockNo;
@@ -25,7 +25,11 @@ pub struct FileSlot {
 
 impl FileSlot {
     /// The slot of a block of `size` bytes, which is read here once.
-    pub fn open(alloc: Global, file: File, index: BlockNo, size: u32) -> io::Result<FileSlot> {
+    pub fn open(alloc: Global, file: File, index: BlockNo, size: u32) -> io::Result<FileSlot>
+        ensures index { IfOk result (λ slot. ⟦<FileSlot as BlockSlot>⟧.index slot ≡ index.0) }
+        ensures size { IfOk result (λ slot. ⟦<FileSlot as BlockSlot>⟧.size slot ≡ size) }
+        ensures faults { IfOk result (λ slot. ⟦<FileSlot as BlockSlot>⟧.faults slot ≡ 0) }
+    {
         let mut copy = vec![in alloc; 0u8; size as usize]?;
         file.read_exact_at(&mut copy, u64::from(index.0) * u64::from(size))?;
         Ok(FileSlot {

@@ -19,6 +19,9 @@ impl FlakySlot {
     /// The slot of a block with these bytes. Its first write fails.
     pub fn new(index: BlockNo, bytes: Vec<u8>) -> FlakySlot
         requires { vec_len bytes < 2 ^ 32 }
+        ensures index { ⟦<FlakySlot as BlockSlot>⟧.index result ≡ index.0 }
+        ensures held { ⟦<FlakySlot as BlockSlot>⟧.held result ≡ bytes.items }
+        ensures faults { ⟦<FlakySlot as BlockSlot>⟧.faults result ≡ 0 }
     {
         FlakySlot {
             index,
