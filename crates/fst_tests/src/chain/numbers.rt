@@ -105,11 +105,7 @@ impl<A: Allocator> Numbers<A> {
     pub fn payload(&mut self, rt: &impl Abort, place: usize, expected: &[u8]) {
         let mut cursor = self.chain.cursor_front();
         forward(&mut cursor, place);
-        same_bytes(
-            rt,
-            cursor.payload().expect(rt, "a number is there"),
-            expected,
-        );
+        has_payload(rt, &cursor, expected);
     }
 
     /// The payload of the number at this place and the bytes from `at` on change places.
@@ -162,6 +158,12 @@ fn step<A: Allocator>(cursor: &mut Cursor<'_, u32, A>, go: Go) -> Option<u32> {
     cursor.current().copied()
 }
 
+// The payload of the current number.
+fn has_payload<A: Allocator>(rt: &impl Abort, cursor: &Cursor<'_, u32, A>, expected: &[u8]) {
+    let payload = cursor.payload().expect(rt, "a number is there");
+    same_bytes(rt, payload, expected);
+}
+
 // Compares each answer. Where there is no number there is no payload.
 fn walk<A: Allocator>(
     rt: &impl Abort,
@@ -178,7 +180,7 @@ fn walk<A: Allocator>(
 fn agree<A: Allocator>(rt: &impl Abort, cursor: &mut Cursor<'_, u32, A>, go: Go, numbers: &[u32]) {
     for number in numbers {
         same_record(rt, cursor.current().copied(), Some(*number));
-        assert!(rt; cursor.payload() == Some(&number.to_le_bytes()[..]));
+        has_payload(rt, cursor, &number.to_le_bytes());
         step(cursor, go);
     }
     same_record(rt, cursor.current().copied(), None);

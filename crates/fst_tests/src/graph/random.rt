@@ -5,7 +5,7 @@ use crate::dice::Dice;
 use crate::graph::checked::Checked;
 use crate::graph::twin::Twin;
 use fst_types::{BlockNo, Fault, Grade, GroupNo, PatchNo, Span};
-use std::alloc::{AllocError, Global};
+use std::alloc::Global;
 use std::marker::Model;
 use std::process::Abort;
 
@@ -37,26 +37,16 @@ impl Dice {
         Span { at, len }
     }
 
-    fn try_names(&mut self, alloc: Global, numbers: u32) -> Result<Vec<PatchNo>, AllocError> {
-        let mut names = Vec::new(alloc);
-        if numbers == 0 {
-            return Ok(names);
-        }
-        for _ in 0..self.roll(4) {
-            names.push(self.name(numbers))?;
-        }
-        Ok(names)
-    }
-
     // Some numbers.
     fn names(&mut self, rt: &impl Abort, alloc: Global, numbers: u32) -> Vec<PatchNo> {
-        self.try_names(alloc, numbers).expect(rt, "there is memory")
+        let mut names = Vec::new(alloc);
+        if numbers != 0 {
+            for _ in 0..self.roll(4) {
+                names.push(self.name(numbers)).expect(rt, "there is memory");
+            }
+        }
+        names
     }
-}
-
-// What a twin answers, for which there is memory.
-fn ample<T>(rt: &impl Abort, answer: Result<T, AllocError>) -> T {
-    answer.expect(rt, "there is memory")
 }
 
 /// A graph and its twin.
@@ -95,7 +85,7 @@ impl Pair {
         let span = dice.span();
         let names = self.names(rt, dice);
         let is_foreseen = dice.flip();
-        let answer = ample(rt, self.twin.try_data(block, span, &names));
+        let answer = self.twin.try_data(rt, block, span, &names);
         if is_foreseen {
             self.graph.room(rt, block.0, span, &names, answer);
         }
@@ -104,19 +94,19 @@ impl Pair {
 
     fn empty(&mut self, rt: &impl Abort, dice: &mut Dice) {
         let names = self.names(rt, dice);
-        let answer = ample(rt, self.twin.try_empty(&names));
+        let answer = self.twin.try_empty(rt, &names);
         self.graph.empty(rt, &names, answer);
     }
 
     fn gate(&mut self, rt: &impl Abort) {
-        let answer = ample(rt, self.twin.try_gate());
+        let answer = self.twin.try_gate(rt);
         self.graph.gate(rt, answer);
     }
 
     fn depend(&mut self, rt: &impl Abort, dice: &mut Dice) {
         let gate = dice.name(self.twin.numbers());
         let names = self.names(rt, dice);
-        let answer = ample(rt, self.twin.try_depend(gate, &names));
+        let answer = self.twin.try_depend(rt, gate, &names);
         self.graph.depend(rt, gate, &names, answer);
     }
 
@@ -141,14 +131,14 @@ impl Pair {
     }
 
     fn group(&mut self, rt: &impl Abort) {
-        let answer = ample(rt, self.twin.try_group_new());
+        let answer = self.twin.try_group_new(rt);
         self.graph.group(rt, answer);
     }
 
     fn group_after(&mut self, rt: &impl Abort, dice: &mut Dice) {
         let late = self.group_name(dice);
         let early = self.group_name(dice);
-        let answer = ample(rt, self.twin.try_group_after(late, early));
+        let answer = self.twin.try_group_after(rt, late, early);
         self.graph.group_after(rt, late, early, answer);
     }
 
@@ -158,7 +148,7 @@ impl Pair {
         let block = dice.block(self.blocks);
         let span = dice.span();
         let is_foreseen = dice.flip();
-        let answer = ample(rt, self.twin.try_member(group, block, span));
+        let answer = self.twin.try_member(rt, group, block, span);
         if is_foreseen {
             self.graph.group_room(rt, group, block.0, span, answer);
         }
@@ -224,13 +214,13 @@ impl Pair {
     }
 
     fn compare_block(&mut self, rt: &impl Abort, block: BlockNo) {
-        let chosen = ample(rt, self.twin.chosen(block));
-        let held = ample(rt, self.twin.hard_held(block));
+        let chosen = self.twin.chosen(rt, block);
+        let held = self.twin.hard_held(rt, block);
         self.graph.choice(rt, block.0, &chosen, held);
     }
 
     fn compare_pick(&mut self, rt: &impl Abort) {
-        let picked = ample(rt, self.twin.pick());
+        let picked = self.twin.pick(rt);
         self.graph.pick(rt, picked);
     }
 

@@ -4,12 +4,12 @@
 ghost use Rattle.std.specs.Prelude.{◌<◌};
 
 use fst_graph::Graph;
-use fst_types::{BlockNo, Fault, PatchNo, Shape, Span};
+use fst_types::{BlockNo, PatchNo, Shape, Span};
 use std::alloc::Global;
 use std::marker::Model;
+use std::process::Abort;
 use std::rt::Clock;
-use std::test::Fail;
-use std::time::Instant;
+use std::time::{Duration, Instant};
 
 /// How many patches a graph gets, one count after the other.
 const COUNTS: [u32; 3] = [1_000, 10_000, 60_000];
@@ -38,88 +38,105 @@ impl Model for Wide {
 }
 
 impl Wide {
-    fn new(alloc: Global) -> Result<Wide, Fault> {
-        let shape = Shape::new(64, 64, 64)?;
-        let graph = Graph::new(alloc, shape, 0)?;
-        Ok(Wide { graph })
+    fn new(rt: &impl Abort, alloc: Global) -> Wide {
+        let shape = Shape::new(64, 64, 64).expect(rt, "it is within its limits");
+        let graph = Graph::new(alloc, shape, 0).expect(rt, "there is memory");
+        Wide { graph }
     }
 
     // A change of one byte.
-    fn add(&mut self, block: u32, at: u32, after: &[PatchNo]) -> Result<PatchNo, Fault>
+    fn add(&mut self, rt: &impl Abort, block: u32, at: u32, after: &[PatchNo]) -> PatchNo
         requires { block < 64 }
     {
         let span = Span { at, len: 1 };
-        let (no, _) = self.graph.add_data(BlockNo(block), span, after)?;
-        Ok(no)
+        let made = self.graph.add_data(BlockNo(block), span, after);
+        let (no, _) = made.expect(rt, "the change is made");
+        no
     }
 
     // Changes of some blocks in turn, each after the one before.
-    fn chain(&mut self, count: u32, blocks: u32) -> Result<(), Fault>
+    fn chain(&mut self, rt: &impl Abort, count: u32, blocks: u32)
         requires { 0 < blocks }
     {
-        let mut last = self.add(0, 0, &[])?;
+        let mut last = self.add(rt, 0, 0, &[]);
         for turn in 1..count {
-            last = self.add((turn % blocks) % 64, turn / blocks, &[last])?;
+            last = self.add(rt, (turn % blocks) % 64, turn / blocks, &[last]);
         }
-        Ok(())
     }
 
     // Changes of all blocks in turn, each after one gate.
-    fn fan(&mut self, count: u32) -> Result<(), Fault> {
-        let gate = self.graph.add_gate()?;
+    fn fan(&mut self, rt: &impl Abort, count: u32) {
+        let gate = self.graph.add_gate().expect(rt, "the gate is made");
         for turn in 1..count {
-            self.add(turn % 64, turn / 64, &[gate])?;
+            self.add(rt, turn % 64, turn / 64, &[gate]);
         }
-        self.graph.seal(gate)
+        self.graph.seal(gate).expect(rt, "the gate is sealed");
     }
 
     // Changes of one block, each with a change of another after it.
-    fn pairs(&mut self, count: u32) -> Result<(), Fault> {
+    fn pairs(&mut self, rt: &impl Abort, count: u32) {
         for turn in 0..count / 2 {
-            let low = self.add(0, turn, &[])?;
-            let _ = self.add(1, turn, &[low])?;
+            let low = self.add(rt, 0, turn, &[]);
+            self.add(rt, 1, turn, &[low]);
         }
-        Ok(())
     }
 
     // Changes of all blocks in turn, each after the newest of the next block.
-    fn ring(&mut self, count: u32) -> Result<(), Fault> {
+    fn ring(&mut self, rt: &impl Abort, count: u32) {
         for turn in 0..count {
-            let block = turn % 64;
             if turn < 63 {
-                self.add(block, turn / 64, &[])?;
+                self.add(rt, turn, 0, &[]);
             } else {
-                self.add(block, turn / 64, &[PatchNo(turn - 62)])?;
+                self.add(rt, turn % 64, turn / 64, &[PatchNo(turn - 62)]);
             }
         }
-        Ok(())
     }
 
     // On each block in turn a change that waits for none, and one that waits for such a change of the block before.
-    fn ladder(&mut self, count: u32) -> Result<(), Fault> {
-        let mut low = self.add(0, 0, &[])?;
+    fn ladder(&mut self, rt: &impl Abort, count: u32) {
+        let mut low = self.add(rt, 0, 0, &[]);
         for turn in 1..count / 2 {
             let block = turn % 64;
-            let next = self.add(block, turn * 2, &[])?;
+            let next = self.add(rt, block, turn * 2, &[]);
             if block != 0 {
-                self.add(block, turn * 2 + 1, &[low])?;
+                self.add(rt, block, turn * 2 + 1, &[low]);
             }
             low = next;
         }
-        Ok(())
+    }
+
+    // Makes so many patches.
+    fn build(&mut self, rt: &impl Abort, form: Form, count: u32) {
+        match form {
+            Form::Chain => self.chain(rt, count, 1),
+            Form::WideChain => self.chain(rt, count, 64),
+            Form::Fan => self.fan(rt, count),
+            Form::Pairs => self.pairs(rt, count),
+            Form::Ring => self.ring(rt, count),
+            Form::Ladder => self.ladder(rt, count),
+        }
+    }
+
+    // Tells what is writable.
+    fn pick(&mut self) {
+        let _ = self.graph.pick();
     }
 
     // Writes block after block until nothing is left, at most so many times.
-    fn write(&mut self, times: u32) -> Result<(), Fault> {
+    fn write(&mut self, rt: &impl Abort, times: u32) {
         for _ in 0..times {
             let Some(block) = self.graph.pick() else {
                 break;
             };
-            let chosen = self.graph.chosen(block)?;
+            let chosen = self.graph.chosen(block).expect(rt, "there is memory");
             self.graph.launch(&chosen);
             self.graph.land(block);
         }
-        Ok(())
+    }
+
+    // How many are forgotten.
+    fn forget(&mut self) -> u32 {
+        self.graph.forget()
     }
 }
 
@@ -134,45 +151,6 @@ enum Form {
     Ladder,
 }
 
-fn build(wide: &mut Wide, form: Form, count: u32) -> Result<(), Fault> {
-    match form {
-        Form::Chain => wide.chain(count, 1),
-        Form::WideChain => wide.chain(count, 64),
-        Form::Fan => wide.fan(count),
-        Form::Pairs => wide.pairs(count),
-        Form::Ring => wide.ring(count),
-        Form::Ladder => wide.ladder(count),
-    }
-}
-
-// The milliseconds in which the patches are made.
-fn time_of_making(rt: &impl Clock, wide: &mut Wide, form: Form, count: u32) -> Result<u128, Fail> {
-    let start = Instant::now(rt)?;
-    build(wide, form, count)?;
-    Ok(start.elapsed(rt)?.as_millis())
-}
-
-// The microseconds in which it is told once what is writable.
-fn time_of_picking(rt: &impl Clock, wide: &mut Wide) -> Result<u128, Fail> {
-    let start = Instant::now(rt)?;
-    let _ = wide.graph.pick();
-    Ok(start.elapsed(rt)?.as_micros())
-}
-
-// The milliseconds in which a few blocks are written.
-fn time_of_writing(rt: &impl Clock, wide: &mut Wide) -> Result<u128, Fail> {
-    let start = Instant::now(rt)?;
-    wide.write(WRITES)?;
-    Ok(start.elapsed(rt)?.as_millis())
-}
-
-// How many are forgotten, and in how many microseconds.
-fn time_of_forgetting(rt: &impl Clock, wide: &mut Wide) -> Result<(u32, u128), Fail> {
-    let start = Instant::now(rt)?;
-    let dropped = wide.graph.forget();
-    Ok((dropped, start.elapsed(rt)?.as_micros()))
-}
-
 /// What a graph took, in milliseconds, and in microseconds where it is told once.
 #[derive(Clone, Copy)]
 struct Times {
@@ -183,22 +161,40 @@ struct Times {
     forgot: u128,
 }
 
-// What a graph without patches takes for so many.
-fn times_of(rt: &impl Clock, wide: &mut Wide, form: Form, count: u32) -> Result<Times, Fail> {
-    let made = time_of_making(rt, wide, form, count)?;
-    let picked = time_of_picking(rt, wide)?;
-    let written = time_of_writing(rt, wide)?;
-    let (dropped, forgot) = time_of_forgetting(rt, wide)?;
-    Ok(Times {
+fn now(rt: &(impl Abort + Clock)) -> Instant {
+    Instant::now(rt).expect(rt, "a clock")
+}
+
+// How long it is since then.
+fn since(rt: &(impl Abort + Clock), start: Instant) -> Duration {
+    start.elapsed(rt).expect(rt, "a clock")
+}
+
+// What a graph without patches takes to have so many made, to tell once what is writable, to have a few blocks written,
+// and to forget what is on disk.
+fn times_of(rt: &(impl Abort + Clock), wide: &mut Wide, form: Form, count: u32) -> Times {
+    let start = now(rt);
+    wide.build(rt, form, count);
+    let made = since(rt, start).as_millis();
+    let start = now(rt);
+    wide.pick();
+    let picked = since(rt, start).as_micros();
+    let start = now(rt);
+    wide.write(rt, WRITES);
+    let written = since(rt, start).as_millis();
+    let start = now(rt);
+    let dropped = wide.forget();
+    let forgot = since(rt, start).as_micros();
+    Times {
         made,
         picked,
         written,
         dropped,
         forgot,
-    })
+    }
 }
 
-fn print(rt: &impl Print, form: Form, count: u32, times: Times) -> Result<(), Fail> {
+fn print(rt: &(impl Abort + Print), form: Form, count: u32, times: Times) {
     let Times {
         made,
         picked,
@@ -206,58 +202,56 @@ fn print(rt: &impl Print, form: Form, count: u32, times: Times) -> Result<(), Fa
         dropped,
         forgot,
     } = times;
-    println!(rt;
+    let printed = println!(rt;
         "{form:?} of {count}: made in {made} ms, a pick {picked} us, written in {written} ms, {dropped} forgotten in {forgot} us"
-    )?;
-    Ok(())
+    );
+    printed.expect(rt, "output");
 }
 
 // Prints what so many patches take, and answers whether it was long.
-fn measure(rt: &(impl Clock + Print), alloc: Global, form: Form, count: u32) -> Result<bool, Fail> {
-    let mut wide = Wide::new(alloc)?;
+fn measure(rt: &(impl Abort + Clock + Print), alloc: Global, form: Form, count: u32) -> bool {
+    let mut wide = Wide::new(rt, alloc);
     let times = times_of(rt, &mut wide, form, count);
     drop(wide);
-    let times = times?;
-    print(rt, form, count, times)?;
-    Ok(times.made > MOST || times.written > MOST)
+    print(rt, form, count, times);
+    times.made > MOST || times.written > MOST
 }
 
 // Count after count, until one takes long.
-fn measure_all(rt: &(impl Clock + Print), alloc: Global, form: Form) -> Result<(), Fail> {
+fn measure_all(rt: &(impl Abort + Clock + Print), alloc: Global, form: Form) {
     for count in COUNTS {
-        if measure(rt, alloc, form, count)? {
+        if measure(rt, alloc, form, count) {
             break;
         }
     }
-    Ok(())
 }
 
 #[test]
-fn chain_on_one_block(rt: HostRuntime) -> Result<(), Fail> {
-    measure_all(&rt, rt.alloc(), Form::Chain)
+fn chain_on_one_block(rt: HostRuntime) {
+    measure_all(&rt, rt.alloc(), Form::Chain);
 }
 
 #[test]
-fn chain_over_blocks(rt: HostRuntime) -> Result<(), Fail> {
-    measure_all(&rt, rt.alloc(), Form::WideChain)
+fn chain_over_blocks(rt: HostRuntime) {
+    measure_all(&rt, rt.alloc(), Form::WideChain);
 }
 
 #[test]
-fn fan_behind_a_gate(rt: HostRuntime) -> Result<(), Fail> {
-    measure_all(&rt, rt.alloc(), Form::Fan)
+fn fan_behind_a_gate(rt: HostRuntime) {
+    measure_all(&rt, rt.alloc(), Form::Fan);
 }
 
 #[test]
-fn pairs_over_two_blocks(rt: HostRuntime) -> Result<(), Fail> {
-    measure_all(&rt, rt.alloc(), Form::Pairs)
+fn pairs_over_two_blocks(rt: HostRuntime) {
+    measure_all(&rt, rt.alloc(), Form::Pairs);
 }
 
 #[test]
-fn ring_of_blocks(rt: HostRuntime) -> Result<(), Fail> {
-    measure_all(&rt, rt.alloc(), Form::Ring)
+fn ring_of_blocks(rt: HostRuntime) {
+    measure_all(&rt, rt.alloc(), Form::Ring);
 }
 
 #[test]
-fn ladder_of_blocks(rt: HostRuntime) -> Result<(), Fail> {
-    measure_all(&rt, rt.alloc(), Form::Ladder)
+fn ladder_of_blocks(rt: HostRuntime) {
+    measure_all(&rt, rt.alloc(), Form::Ladder);
 }

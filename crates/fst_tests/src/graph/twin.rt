@@ -8,8 +8,9 @@ use crate::graph::twin::grouping::Group;
 use fst_types::{
     BlockNo, Fault, Grade, MAX_HEADS, MAX_NAMES, MAX_NUMBER, PatchNo, Place, Span, What,
 };
-use std::alloc::{AllocError, Global};
+use std::alloc::Global;
 use std::marker::Model;
+use std::process::Abort;
 
 #[derive(Clone, Copy)]
 enum Kind {
@@ -137,29 +138,23 @@ impl Twin {
     }
 
     // Puts the direct dependencies of a patch to those that were found.
-    fn take_direct(&self, no: PatchNo, found: &mut Vec<PatchNo>) -> Result<(), AllocError> {
-        let Some(patch) = self.head(no) else {
-            return Ok(());
-        };
-        for name in &patch.dependencies {
-            if !found.contains(name) {
-                found.push(*name)?;
-            }
+    fn take_direct(&self, rt: &impl Abort, no: PatchNo, found: &mut Vec<PatchNo>) {
+        if let Some(patch) = self.head(no) {
+            gain(rt, found, &patch.dependencies);
         }
-        Ok(())
     }
 
     // All that a patch depends on: its direct dependencies, then theirs, and so on.
-    fn under(&self, no: PatchNo) -> Result<Vec<PatchNo>, AllocError> {
+    fn under(&self, rt: &impl Abort, no: PatchNo) -> Vec<PatchNo> {
         let mut found = Vec::new(self.alloc);
-        self.take_direct(no, &mut found)?;
+        self.take_direct(rt, no, &mut found);
         for at in 0..self.numbers as usize {
             let Some(next) = found.get(at).copied() else {
                 break;
             };
-            self.take_direct(next, &mut found)?;
+            self.take_direct(rt, next, &mut found);
         }
-        Ok(found)
+        found
     }
 
     // Why no patch can be made now.
@@ -195,56 +190,50 @@ impl Twin {
     }
 
     // A new patch in memory.
-    fn push(&mut self, kind: Kind, dependencies: Vec<PatchNo>) -> Result<PatchNo, AllocError> {
+    fn push(&mut self, rt: &impl Abort, kind: Kind, dependencies: Vec<PatchNo>) -> PatchNo {
         self.numbers = self.numbers.saturating_add(1);
         let no = PatchNo(self.numbers);
-        self.patches.push(Patch {
+        let patch = Patch {
             no,
             kind,
             place: Place::Memory,
             dependencies,
-        })?;
-        Ok(no)
+        };
+        self.patches.push(patch).expect(rt, "there is memory");
+        no
     }
 
     /// A new gate, or why there is none.
-    pub fn try_gate(&mut self) -> Result<Result<PatchNo, Fault>, AllocError> {
-        if let Some(fault) = self.room_fault() {
-            return Ok(Err(fault));
+    pub fn try_gate(&mut self, rt: &impl Abort) -> Result<PatchNo, Fault> {
+        match self.room_fault() {
+            Some(fault) => Err(fault),
+            None => Ok(self.add_gate(rt)),
         }
-        let no = self.add_gate()?;
-        Ok(Ok(no))
     }
 
     // A new gate.
-    fn add_gate(&mut self) -> Result<PatchNo, AllocError> {
-        self.push(Kind::OpenGate, Vec::new(self.alloc))
+    fn add_gate(&mut self, rt: &impl Abort) -> PatchNo {
+        self.push(rt, Kind::OpenGate, Vec::new(self.alloc))
     }
 
     // The named patches that are not on disk.
-    fn live_named(&self, names: &[PatchNo]) -> Result<Vec<PatchNo>, AllocError> {
+    fn live_named(&self, rt: &impl Abort, names: &[PatchNo]) -> Vec<PatchNo> {
         let mut found = Vec::new(self.alloc);
         for patch in &self.patches {
             if patch.is_live() && names.contains(&patch.no) {
-                found.push(patch.no)?;
+                found.push(patch.no).expect(rt, "there is memory");
             }
         }
-        Ok(found)
+        found
     }
 
     /// A new empty patch, or why there is none.
-    pub fn try_empty(&mut self, names: &[PatchNo]) -> Result<Result<PatchNo, Fault>, AllocError> {
+    pub fn try_empty(&mut self, rt: &impl Abort, names: &[PatchNo]) -> Result<PatchNo, Fault> {
         if let Some(fault) = self.make_fault(names) {
-            return Ok(Err(fault));
+            return Err(fault);
         }
-        let no = self.add_empty(names)?;
-        Ok(Ok(no))
-    }
-
-    // A new empty patch.
-    fn add_empty(&mut self, names: &[PatchNo]) -> Result<PatchNo, AllocError> {
-        let dependencies = self.live_named(names)?;
-        let no = self.push(Kind::Empty, dependencies)?;
+        let dependencies = self.live_named(rt, names);
+        let no = self.push(rt, Kind::Empty, dependencies);
         self.cascade();
         Ok(no)
     }
@@ -252,17 +241,18 @@ impl Twin {
     // The named patches that are not on disk, and the changes not on disk that share a byte.
     fn dependencies(
         &self,
+        rt: &impl Abort,
         block: BlockNo,
         span: Span,
         names: &[PatchNo],
-    ) -> Result<Vec<PatchNo>, AllocError> {
+    ) -> Vec<PatchNo> {
         let mut found = Vec::new(self.alloc);
         for patch in &self.patches {
             if patch.is_live() && (names.contains(&patch.no) || patch.shares_byte(block, span)) {
-                found.push(patch.no)?;
+                found.push(patch.no).expect(rt, "there is memory");
             }
         }
-        Ok(found)
+        found
     }
 
     fn set_kind(&mut self, no: PatchNo, kind: Kind) {
@@ -276,30 +266,31 @@ impl Twin {
     /// A new change, or why there is none.
     pub fn try_data(
         &mut self,
+        rt: &impl Abort,
         block: BlockNo,
         span: Span,
         names: &[PatchNo],
-    ) -> Result<Result<(PatchNo, Grade), Fault>, AllocError> {
-        if let Some(fault) = self.make_fault(names) {
-            return Ok(Err(fault));
+    ) -> Result<(PatchNo, Grade), Fault> {
+        match self.make_fault(names) {
+            Some(fault) => Err(fault),
+            None => Ok(self.add_data(rt, block, span, names)),
         }
-        let made = self.add_data(block, span, names)?;
-        Ok(Ok(made))
     }
 
     // A new change.
     fn add_data(
         &mut self,
+        rt: &impl Abort,
         block: BlockNo,
         span: Span,
         names: &[PatchNo],
-    ) -> Result<(PatchNo, Grade), AllocError> {
-        let leading = self.leading(block)?;
-        let dependencies = self.dependencies(block, span, names)?;
-        let no = self.push(Kind::Change(block, span, Grade::Soft), dependencies)?;
-        let grade = self.grade_of(no, block, &leading)?;
+    ) -> (PatchNo, Grade) {
+        let leading = self.leading(rt, block);
+        let dependencies = self.dependencies(rt, block, span, names);
+        let no = self.push(rt, Kind::Change(block, span, Grade::Soft), dependencies);
+        let grade = self.grade_of(rt, no, block, &leading);
         self.set_kind(no, Kind::Change(block, span, grade));
-        Ok((no, grade))
+        (no, grade)
     }
 
     /// Puts the chosen in flight.
@@ -362,5 +353,14 @@ impl Twin {
         let before = self.patches.len();
         self.patches.retain(|patch| patch.is_live());
         before.saturating_sub(self.patches.len())
+    }
+}
+
+// Puts to the row what it does not have yet.
+fn gain(rt: &impl Abort, row: &mut Vec<PatchNo>, gained: &[PatchNo]) {
+    for no in gained {
+        if !row.contains(no) {
+            row.push(*no).expect(rt, "there is memory");
+        }
     }
 }

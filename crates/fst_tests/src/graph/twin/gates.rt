@@ -1,8 +1,8 @@
 //! What the gates of the twin gain, and sealing them.
 
-use crate::graph::twin::{Kind, Twin};
+use crate::graph::twin::{Kind, Twin, gain};
 use fst_types::{Fault, PatchNo};
-use std::alloc::AllocError;
+use std::process::Abort;
 
 impl Twin {
     // Why this is no open gate.
@@ -21,55 +21,54 @@ impl Twin {
     }
 
     // Whether one of these is the gate, or depends on it.
-    fn closes_cycle(&self, gate: PatchNo, names: &[PatchNo]) -> Result<bool, AllocError> {
+    fn closes_cycle(&self, rt: &impl Abort, gate: PatchNo, names: &[PatchNo]) -> bool {
         for name in names {
-            let under = self.under(*name)?;
-            if *name == gate || under.contains(&gate) {
-                return Ok(true);
+            if *name == gate || self.under(rt, *name).contains(&gate) {
+                return true;
             }
         }
-        Ok(false)
+        false
     }
 
     // Why the gate cannot gain these.
-    fn depend_fault(&self, gate: PatchNo, names: &[PatchNo]) -> Result<Option<Fault>, AllocError> {
+    fn depend_fault(&self, rt: &impl Abort, gate: PatchNo, names: &[PatchNo]) -> Option<Fault> {
         if let Some(fault) = self.gate_fault(gate) {
-            return Ok(Some(fault));
+            return Some(fault);
         }
         if let Some(fault) = self.names_fault(names) {
-            return Ok(Some(fault));
+            return Some(fault);
         }
-        if self.closes_cycle(gate, names)? {
-            return Ok(Some(Fault::Cycle));
+        if self.closes_cycle(rt, gate, names) {
+            return Some(Fault::Cycle);
         }
-        Ok(None)
+        None
     }
 
     /// An open gate gains what is named and live, or is refused.
     pub fn try_depend(
         &mut self,
+        rt: &impl Abort,
         gate: PatchNo,
         names: &[PatchNo],
-    ) -> Result<Result<(), Fault>, AllocError> {
+    ) -> Result<(), Fault> {
         if self.is_group_gate(gate) {
-            return Ok(Err(Fault::NotGate));
+            return Err(Fault::NotGate);
         }
-        if let Some(fault) = self.depend_fault(gate, names)? {
-            return Ok(Err(fault));
+        if let Some(fault) = self.depend_fault(rt, gate, names) {
+            return Err(fault);
         }
-        self.depend(gate, names)?;
-        Ok(Ok(()))
+        self.depend(rt, gate, names);
+        Ok(())
     }
 
     // An open gate gains what is named and live.
-    pub(super) fn depend(&mut self, gate: PatchNo, names: &[PatchNo]) -> Result<(), AllocError> {
-        let gained = self.live_named(names)?;
+    pub(super) fn depend(&mut self, rt: &impl Abort, gate: PatchNo, names: &[PatchNo]) {
+        let gained = self.live_named(rt, names);
         for patch in &mut self.patches {
             if patch.no == gate {
-                gain(&mut patch.dependencies, &gained)?;
+                gain(rt, &mut patch.dependencies, &gained);
             }
         }
-        Ok(())
     }
 
     /// Seals an open gate, or is refused.
@@ -89,14 +88,4 @@ impl Twin {
         self.set_kind(gate, Kind::SealedGate);
         self.cascade();
     }
-}
-
-// Puts to the row what it does not have yet.
-fn gain(row: &mut Vec<PatchNo>, gained: &[PatchNo]) -> Result<(), AllocError> {
-    for no in gained {
-        if !row.contains(no) {
-            row.push(*no)?;
-        }
-    }
-    Ok(())
 }

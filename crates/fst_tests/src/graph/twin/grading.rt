@@ -2,7 +2,7 @@
 
 use crate::graph::twin::{Kind, Patch, Twin};
 use fst_types::{BlockNo, Grade, PatchNo, Place};
-use std::alloc::AllocError;
+use std::process::Abort;
 
 impl Twin {
     // Whether an open gate is among these.
@@ -29,36 +29,36 @@ impl Twin {
         true
     }
 
-    fn is_in_writable_set(&self, patch: &Patch, block: BlockNo) -> Result<bool, AllocError> {
+    fn is_in_writable_set(&self, rt: &impl Abort, patch: &Patch, block: BlockNo) -> bool {
         if !patch.is_in_memory_on(block) {
-            return Ok(false);
+            return false;
         }
-        let under = self.under(patch.no)?;
-        Ok(!self.has_open_gate(&under) && self.needs_nothing_else(&under, block))
+        let under = self.under(rt, patch.no);
+        !self.has_open_gate(&under) && self.needs_nothing_else(&under, block)
     }
 
     /// The writable set of a block.
-    pub fn chosen(&self, block: BlockNo) -> Result<Vec<PatchNo>, AllocError> {
+    pub fn chosen(&self, rt: &impl Abort, block: BlockNo) -> Vec<PatchNo> {
         let mut chosen = Vec::new(self.alloc);
         for patch in &self.patches {
-            if self.is_in_writable_set(patch, block)? {
-                chosen.push(patch.no)?;
+            if self.is_in_writable_set(rt, patch, block) {
+                chosen.push(patch.no).expect(rt, "there is memory");
             }
         }
-        Ok(chosen)
+        chosen
     }
 
     /// The least hard patch of a block in memory that is not in its writable set.
-    pub fn hard_held(&self, block: BlockNo) -> Result<Option<PatchNo>, AllocError> {
+    pub fn hard_held(&self, rt: &impl Abort, block: BlockNo) -> Option<PatchNo> {
         for patch in &self.patches {
             if patch.is_in_memory_on(block)
                 && patch.is_hard()
-                && !self.is_in_writable_set(patch, block)?
+                && !self.is_in_writable_set(rt, patch, block)
             {
-                return Ok(Some(patch.no));
+                return Some(patch.no);
             }
         }
-        Ok(None)
+        None
     }
 
     fn is_flying(&self, block: BlockNo) -> bool {
@@ -70,118 +70,115 @@ impl Twin {
         false
     }
 
-    fn is_writable(&self, block: BlockNo) -> Result<bool, AllocError> {
-        if self.is_flying(block) {
-            return Ok(false);
-        }
-        let chosen = self.chosen(block)?;
-        let held = self.hard_held(block)?;
-        Ok(!chosen.is_empty() && held.is_none())
+    fn is_writable(&self, rt: &impl Abort, block: BlockNo) -> bool {
+        !self.is_flying(block)
+            && !self.chosen(rt, block).is_empty()
+            && self.hard_held(rt, block).is_none()
     }
 
     /// The least writable block.
-    pub fn pick(&self) -> Result<Option<BlockNo>, AllocError> {
+    pub fn pick(&self, rt: &impl Abort) -> Option<BlockNo> {
         for block in 0..self.blocks {
-            if self.is_writable(BlockNo(block))? {
-                return Ok(Some(BlockNo(block)));
+            if self.is_writable(rt, BlockNo(block)) {
+                return Some(BlockNo(block));
             }
         }
-        Ok(None)
+        None
     }
 
     // Whether a patch depends on a change of the block that is not on disk.
-    fn has_live_need(&self, no: PatchNo, block: BlockNo) -> Result<bool, AllocError> {
-        let under = self.under(no)?;
+    fn has_live_need(&self, rt: &impl Abort, no: PatchNo, block: BlockNo) -> bool {
+        let under = self.under(rt, no);
         for need in &self.patches {
             if need.is_on(block) && need.is_live() && under.contains(&need.no) {
-                return Ok(true);
+                return true;
             }
         }
-        Ok(false)
+        false
     }
 
     // Whether the block graph has an edge: some hard patch of the one block in memory has a live need on the other.
-    fn has_edge(&self, from: BlockNo, to: BlockNo) -> Result<bool, AllocError> {
+    fn has_edge(&self, rt: &impl Abort, from: BlockNo, to: BlockNo) -> bool {
         if from == to {
-            return Ok(false);
+            return false;
         }
         for hard in &self.patches {
-            if hard.is_in_memory_on(from) && hard.is_hard() && self.has_live_need(hard.no, to)? {
-                return Ok(true);
+            if hard.is_in_memory_on(from) && hard.is_hard() && self.has_live_need(rt, hard.no, to) {
+                return true;
             }
         }
-        Ok(false)
+        false
     }
 
     // Puts the blocks with an edge to the block to those that were found.
-    fn take_edges(&self, to: BlockNo, found: &mut Vec<BlockNo>) -> Result<(), AllocError> {
+    fn take_edges(&self, rt: &impl Abort, to: BlockNo, found: &mut Vec<BlockNo>) {
         for block in 0..self.blocks {
             let from = BlockNo(block);
-            if !found.contains(&from) && self.has_edge(from, to)? {
-                found.push(from)?;
+            if !found.contains(&from) && self.has_edge(rt, from, to) {
+                found.push(from).expect(rt, "there is memory");
             }
         }
-        Ok(())
     }
 
     // The blocks from which edges lead to the block.
-    pub(super) fn leading(&self, block: BlockNo) -> Result<Vec<BlockNo>, AllocError> {
+    pub(super) fn leading(&self, rt: &impl Abort, block: BlockNo) -> Vec<BlockNo> {
         let mut found = Vec::new(self.alloc);
-        self.take_edges(block, &mut found)?;
+        self.take_edges(rt, block, &mut found);
         for at in 0..self.blocks as usize {
             let Some(next) = found.get(at).copied() else {
                 break;
             };
-            self.take_edges(next, &mut found)?;
+            self.take_edges(rt, next, &mut found);
         }
-        Ok(found)
+        found
     }
 
     // Whether a patch has a live need off the block, which has a live need on it.
-    fn returns(&self, no: PatchNo, block: BlockNo) -> Result<bool, AllocError> {
-        let under = self.under(no)?;
+    fn returns(&self, rt: &impl Abort, no: PatchNo, block: BlockNo) -> bool {
+        let under = self.under(rt, no);
         for away in &self.patches {
             if away.is_change()
                 && !away.is_on(block)
                 && away.is_live()
                 && under.contains(&away.no)
-                && self.has_live_need(away.no, block)?
+                && self.has_live_need(rt, away.no, block)
             {
-                return Ok(true);
+                return true;
             }
         }
-        Ok(false)
+        false
     }
 
     // Whether one of these blocks, other than the patch's own, holds a live need of it.
     fn needs_one_of(
         &self,
+        rt: &impl Abort,
         no: PatchNo,
         block: BlockNo,
         blocks: &[BlockNo],
-    ) -> Result<bool, AllocError> {
+    ) -> bool {
         for other in blocks {
-            if *other != block && self.has_live_need(no, *other)? {
-                return Ok(true);
+            if *other != block && self.has_live_need(rt, no, *other) {
+                return true;
             }
         }
-        Ok(false)
+        false
     }
 
     // The grade of a new patch. `leading` are the blocks from which edges led to its own before it came.
     pub(super) fn grade_of(
         &self,
+        rt: &impl Abort,
         no: PatchNo,
         block: BlockNo,
         leading: &[BlockNo],
-    ) -> Result<Grade, AllocError> {
-        let under = self.under(no)?;
-        if self.has_open_gate(&under)
-            || self.returns(no, block)?
-            || self.needs_one_of(no, block, leading)?
+    ) -> Grade {
+        if self.has_open_gate(&self.under(rt, no))
+            || self.returns(rt, no, block)
+            || self.needs_one_of(rt, no, block, leading)
         {
-            return Ok(Grade::Soft);
+            return Grade::Soft;
         }
-        Ok(Grade::Hard)
+        Grade::Hard
     }
 }

@@ -4,7 +4,7 @@ use crate::graph::twin::{Kind, Twin};
 use fst_types::{
     BlockNo, Fault, Grade, GroupNo, MAX_GROUPS, MAX_HEADS, MAX_NUMBER, PatchNo, Span, What,
 };
-use std::alloc::AllocError;
+use std::process::Abort;
 
 /// A group, by its head; its tail has the next number.
 #[derive(Clone, Copy)]
@@ -71,57 +71,51 @@ impl Twin {
     }
 
     /// A new group, or why there is none.
-    pub fn try_group_new(&mut self) -> Result<Result<GroupNo, Fault>, AllocError> {
+    pub fn try_group_new(&mut self, rt: &impl Abort) -> Result<GroupNo, Fault> {
         if let Some(fault) = self.group_new_fault() {
-            return Ok(Err(fault));
+            return Err(fault);
         }
-        let head = self.add_gate()?;
-        let tail = self.add_gate()?;
-        self.depend(tail, &[head])?;
+        let head = self.add_gate(rt);
+        let tail = self.add_gate(rt);
+        self.depend(rt, tail, &[head]);
         let group = Group {
             head,
             begun: false,
             closed: false,
         };
-        self.groups.push(group)?;
-        Ok(Ok(group.number()))
+        self.groups.push(group).expect(rt, "there is memory");
+        Ok(group.number())
     }
 
     // Why the one group cannot be put after the other.
-    fn group_after_fault(
-        &self,
-        late: GroupNo,
-        early: GroupNo,
-    ) -> Result<Option<Fault>, AllocError> {
-        let Some(later) = self.group(late) else {
-            return Ok(Some(Fault::NoPatch));
-        };
-        let Some(earlier) = self.group(early) else {
-            return Ok(Some(Fault::NoPatch));
+    fn group_after_fault(&self, rt: &impl Abort, late: GroupNo, early: GroupNo) -> Option<Fault> {
+        let (Some(later), Some(earlier)) = (self.group(late), self.group(early)) else {
+            return Some(Fault::NoPatch);
         };
         if later.closed {
-            return Ok(Some(Fault::Sealed));
+            return Some(Fault::Sealed);
         }
         if later.begun {
-            return Ok(Some(Fault::GroupBegun));
+            return Some(Fault::GroupBegun);
         }
-        if self.under(earlier.tail())?.contains(&later.head) {
-            return Ok(Some(Fault::Cycle));
+        if self.under(rt, earlier.tail()).contains(&later.head) {
+            return Some(Fault::Cycle);
         }
-        Ok(None)
+        None
     }
 
     /// Puts the one group after the other, or is refused.
     pub fn try_group_after(
         &mut self,
+        rt: &impl Abort,
         late: GroupNo,
         early: GroupNo,
-    ) -> Result<Result<(), Fault>, AllocError> {
-        if let Some(fault) = self.group_after_fault(late, early)? {
-            return Ok(Err(fault));
+    ) -> Result<(), Fault> {
+        if let Some(fault) = self.group_after_fault(rt, late, early) {
+            return Err(fault);
         }
-        self.depend(PatchNo(late.0), &[PatchNo(early.0.saturating_add(1))])?;
-        Ok(Ok(()))
+        self.depend(rt, PatchNo(late.0), &[PatchNo(early.0.saturating_add(1))]);
+        Ok(())
     }
 
     // Why nothing can become of the group any more.
@@ -165,56 +159,59 @@ impl Twin {
     // Whether a change that shares a byte with the span depends on the tail of the group.
     fn overlap_reaches_tail(
         &self,
+        rt: &impl Abort,
         no: GroupNo,
         block: BlockNo,
         span: Span,
-    ) -> Result<bool, AllocError> {
+    ) -> bool {
         let tail = PatchNo(no.0.saturating_add(1));
         for patch in &self.patches {
             if patch.is_live()
                 && patch.shares_byte(block, span)
-                && self.under(patch.no)?.contains(&tail)
+                && self.under(rt, patch.no).contains(&tail)
             {
-                return Ok(true);
+                return true;
             }
         }
-        Ok(false)
+        false
     }
 
     // Why the group cannot get a change of the span.
     fn member_fault(
         &self,
+        rt: &impl Abort,
         no: GroupNo,
         block: BlockNo,
         span: Span,
-    ) -> Result<Option<Fault>, AllocError> {
+    ) -> Option<Fault> {
         if let Some(fault) = self.closed_fault(no) {
-            return Ok(Some(fault));
+            return Some(fault);
         }
-        if self.overlap_reaches_tail(no, block, span)? {
-            return Ok(Some(Fault::Cycle));
+        if self.overlap_reaches_tail(rt, no, block, span) {
+            return Some(Fault::Cycle);
         }
-        Ok(self.room_fault())
+        self.room_fault()
     }
 
     /// A new change of the group, or why there is none.
     pub fn try_member(
         &mut self,
+        rt: &impl Abort,
         no: GroupNo,
         block: BlockNo,
         span: Span,
-    ) -> Result<Result<(PatchNo, Grade), Fault>, AllocError> {
-        if let Some(fault) = self.member_fault(no, block, span)? {
-            return Ok(Err(fault));
+    ) -> Result<(PatchNo, Grade), Fault> {
+        if let Some(fault) = self.member_fault(rt, no, block, span) {
+            return Err(fault);
         }
         self.begin(no);
-        let made = self.add_data(block, span, &[PatchNo(no.0)])?;
-        self.depend(PatchNo(no.0.saturating_add(1)), &[made.0])?;
+        let made = self.add_data(rt, block, span, &[PatchNo(no.0)]);
+        self.depend(rt, PatchNo(no.0.saturating_add(1)), &[made.0]);
         for group in &mut self.groups {
             if group.head.0 == no.0 {
                 group.begun = true;
             }
         }
-        Ok(Ok(made))
+        Ok(made)
     }
 }
