@@ -14,7 +14,7 @@ mod streams;
 
 use fst_player::play::{PlayFault, play};
 use fst_types::Shape;
-use std::alloc::Global;
+use std::alloc::{AllocError, Global};
 use std::io::{Read, Write};
 use std::process::Abort;
 
@@ -105,6 +105,11 @@ fn put(rt: &impl Abort, text: &mut Vec<u8>, more: &[u8]) {
 fn put_line(rt: &impl Abort, text: &mut Vec<u8>, line: &str) {
     put(rt, text, line.as_bytes());
     put(rt, text, b"\n");
+}
+
+// Puts a line that was made, and its end, behind a text.
+fn put_made(rt: &impl Abort, text: &mut Vec<u8>, line: Result<String, AllocError>) {
+    put_line(rt, text, &line.expect(rt, "there is memory"));
 }
 
 // Puts lines behind a script, and the reply of each behind the replies.

@@ -2,268 +2,14 @@
 //! the disk at the end is the same; and after each line, whichever writes are finished, a crash leaves what a plain list
 //! of the changes says.
 
-use crate::tests::{plays_to, put, put_line, replies_to};
-use std::alloc::{AllocError, Global};
+mod plain;
+mod scripts;
+
+use crate::tests::devices::plain::Plain;
+use crate::tests::devices::scripts::{Does, SCRIPTS, Script};
+use crate::tests::{plays_to, put_line, put_made, replies_to};
+use std::alloc::Global;
 use std::process::Abort;
-
-// A change of one byte of the disk.
-#[derive(Clone, Copy)]
-struct Change {
-    number: u32,
-    byte_at: usize,
-    byte: u8,
-}
-
-// What a line does to the list.
-#[derive(Clone, Copy)]
-pub enum Does {
-    Nothing,
-    // This change is made, of this byte of the disk.
-    Makes(u32, usize, u8),
-    // A write of the block goes out with these changes.
-    Sends(u32, &'static [u32]),
-    // The write that is out works.
-    Lands,
-}
-
-// A script, each line with its reply and what it does, and which change needs which other one.
-#[derive(Drop)]
-pub struct Script {
-    pub rows: &'static [(&'static str, &'static str, Does)],
-    pub needs: &'static [(u32, u32)],
-}
-
-const CYCLE_OF_BLOCKS: Script = Script {
-    rows: &[
-        (
-            r#"{"do":"patch","block":0,"at":0,"data":"41"}"#,
-            "patch 1 hard",
-            Does::Makes(1, 0, 0x41),
-        ),
-        (
-            r#"{"do":"patch","block":1,"at":0,"data":"42","after":[1]}"#,
-            "patch 2 hard",
-            Does::Makes(2, 4, 0x42),
-        ),
-        (
-            r#"{"do":"patch","block":0,"at":1,"data":"43","after":[2]}"#,
-            "patch 3 soft",
-            Does::Makes(3, 1, 0x43),
-        ),
-        (
-            r#"{"do":"write","block":0}"#,
-            "flight 1 block 0 patches 1 image 41000000",
-            Does::Sends(0, &[1]),
-        ),
-        (
-            r#"{"do":"show","block":0}"#,
-            "show 0 41430000",
-            Does::Nothing,
-        ),
-        (
-            r#"{"do":"stat"}"#,
-            "stat made 3 live 3 undo 1 flights 1",
-            Does::Nothing,
-        ),
-        (r#"{"do":"done","ticket":1}"#, "done 1 block 0", Does::Lands),
-    ],
-    needs: &[(2, 1), (3, 2), (3, 1)],
-};
-
-const CROSSWISE_HOLD: Script = Script {
-    rows: &[
-        (
-            r#"{"do":"patch","block":0,"at":0,"data":"41"}"#,
-            "patch 1 hard",
-            Does::Makes(1, 0, 0x41),
-        ),
-        (
-            r#"{"do":"patch","block":1,"at":0,"data":"42"}"#,
-            "patch 2 hard",
-            Does::Makes(2, 4, 0x42),
-        ),
-        (
-            r#"{"do":"patch","block":0,"at":1,"data":"43","after":[2]}"#,
-            "patch 3 hard",
-            Does::Makes(3, 1, 0x43),
-        ),
-        (
-            r#"{"do":"patch","block":1,"at":1,"data":"44","after":[1]}"#,
-            "patch 4 soft",
-            Does::Makes(4, 5, 0x44),
-        ),
-        (
-            r#"{"do":"write","block":0}"#,
-            "refused 11 held 3",
-            Does::Nothing,
-        ),
-        (
-            r#"{"do":"write","block":1}"#,
-            "flight 1 block 1 patches 2 image 42000000",
-            Does::Sends(1, &[2]),
-        ),
-        (r#"{"do":"done","ticket":1}"#, "done 1 block 1", Does::Lands),
-        (
-            r#"{"do":"write","block":0}"#,
-            "flight 2 block 0 patches 1,3 image 41430000",
-            Does::Sends(0, &[1, 3]),
-        ),
-        (r#"{"do":"done","ticket":2}"#, "done 2 block 0", Does::Lands),
-    ],
-    needs: &[(3, 2), (4, 1)],
-};
-
-const LANDING_ORDER_AGAINST_NUMBER_ORDER: Script = Script {
-    rows: &[
-        (r#"{"do":"gate"}"#, "gate 1", Does::Nothing),
-        (
-            r#"{"do":"patch","block":0,"at":0,"data":"41","after":[1]}"#,
-            "patch 2 soft",
-            Does::Makes(2, 0, 0x41),
-        ),
-        (
-            r#"{"do":"patch","block":0,"at":1,"data":"42"}"#,
-            "patch 3 hard",
-            Does::Makes(3, 1, 0x42),
-        ),
-        (
-            r#"{"do":"write","block":0}"#,
-            "flight 1 block 0 patches 3 image 00420000",
-            Does::Sends(0, &[3]),
-        ),
-        (r#"{"do":"done","ticket":1}"#, "done 1 block 0", Does::Lands),
-        (r#"{"do":"seal","gate":1}"#, "seal 1", Does::Nothing),
-        (
-            r#"{"do":"write","block":0}"#,
-            "flight 2 block 0 patches 2 image 41420000",
-            Does::Sends(0, &[2]),
-        ),
-        (r#"{"do":"done","ticket":2}"#, "done 2 block 0", Does::Lands),
-    ],
-    needs: &[],
-};
-
-const CASCADE_THROUGH_AN_EMPTY_PATCH: Script = Script {
-    rows: &[
-        (
-            r#"{"do":"patch","block":0,"at":0,"data":"41"}"#,
-            "patch 1 hard",
-            Does::Makes(1, 0, 0x41),
-        ),
-        (
-            r#"{"do":"patch","block":1,"at":0,"data":"42"}"#,
-            "patch 2 hard",
-            Does::Makes(2, 4, 0x42),
-        ),
-        (r#"{"do":"empty","after":[1,2]}"#, "empty 3", Does::Nothing),
-        (
-            r#"{"do":"patch","block":2,"at":0,"data":"43","after":[3]}"#,
-            "patch 4 hard",
-            Does::Makes(4, 8, 0x43),
-        ),
-        (
-            r#"{"do":"write","block":0}"#,
-            "flight 1 block 0 patches 1 image 41000000",
-            Does::Sends(0, &[1]),
-        ),
-        (r#"{"do":"done","ticket":1}"#, "done 1 block 0", Does::Lands),
-        (
-            r#"{"do":"write","block":1}"#,
-            "flight 2 block 1 patches 2 image 42000000",
-            Does::Sends(1, &[2]),
-        ),
-        (r#"{"do":"done","ticket":2}"#, "done 2 block 1", Does::Lands),
-        (
-            r#"{"do":"write","block":2}"#,
-            "flight 3 block 2 patches 4 image 43000000",
-            Does::Sends(2, &[4]),
-        ),
-        (r#"{"do":"done","ticket":3}"#, "done 3 block 2", Does::Lands),
-    ],
-    needs: &[(4, 1), (4, 2)],
-};
-
-const SCRIPTS: [Script; 4] = [
-    CYCLE_OF_BLOCKS,
-    CROSSWISE_HOLD,
-    LANDING_ORDER_AGAINST_NUMBER_ORDER,
-    CASCADE_THROUGH_AN_EMPTY_PATCH,
-];
-
-// The changes in the order of their numbers, the write that is out, and what has landed.
-#[derive(Drop)]
-struct Plain {
-    made: Vec<Change>,
-    out: Option<(u32, &'static [u32])>,
-    landed: Vec<u32>,
-}
-
-impl Plain {
-    fn new(alloc: Global) -> Plain {
-        Plain {
-            made: Vec::new(alloc),
-            out: None,
-            landed: Vec::new(alloc),
-        }
-    }
-
-    fn take(&mut self, does: Does) -> Result<(), AllocError> {
-        match does {
-            Does::Nothing => {}
-            Does::Makes(number, byte_at, byte) => self.made.push(Change {
-                number,
-                byte_at,
-                byte,
-            })?,
-            Does::Sends(block, numbers) => self.out = Some((block, numbers)),
-            Does::Lands => {
-                if let Some((_, numbers)) = self.out.take() {
-                    self.landed.extend_from_slice(numbers)?;
-                }
-            }
-        }
-        Ok(())
-    }
-
-    // Whether a crash leaves the change, the write that is out being finished or not.
-    fn leaves(&self, finished: bool, number: u32) -> bool {
-        if self.landed.contains(&number) {
-            return true;
-        }
-        match self.out {
-            None => false,
-            Some((_, numbers)) => finished && numbers.contains(&number),
-        }
-    }
-
-    // Whether with each change that is left all that it needs is.
-    fn is_closed(&self, finished: bool, needs: &[(u32, u32)]) -> bool {
-        for (later, earlier) in needs {
-            if self.leaves(finished, *later) && !self.leaves(finished, *earlier) {
-                return false;
-            }
-        }
-        true
-    }
-
-    // The reply that tells the changes that are left, one over the other.
-    fn told(&self, alloc: Global, finished: bool) -> Result<Vec<u8>, AllocError> {
-        let mut disk = [0u8; 16];
-        for change in &self.made {
-            if self.leaves(finished, change.number) && change.byte_at < 16 {
-                disk[change.byte_at] = change.byte;
-            }
-        }
-        let mut reply = Vec::from_slice(alloc, b"crash")?;
-        for block in 0..4usize {
-            reply.push(b' ')?;
-            let bytes = &disk[4 * block..4 * block + 4];
-            reply.extend_from_slice(hex::encode(alloc, bytes)?.as_bytes())?;
-        }
-        reply.push(b'\n')?;
-        Ok(reply)
-    }
-}
 
 // Puts a crash that finishes these blocks' writes, and the reply that tells what it is to leave.
 fn put_crash(
@@ -278,61 +24,52 @@ fn put_crash(
         None => put_line(rt, lines, r#"{"do":"crash","finish":[]}"#),
         Some(block) => {
             let crash = format!(in alloc; "{{\"do\":\"crash\",\"finish\":[{block}]}}");
-            put_line(rt, lines, &crash.expect(rt, "there is memory"));
+            put_made(rt, lines, crash);
         }
     }
-    let told = plain.told(alloc, finished.is_some());
-    put(rt, replies, &told.expect(rt, "there is memory"));
+    plain.put_told(rt, alloc, replies, finished.is_some());
 }
 
-// With each change that a crash after the line leaves, all that it needs is left.
-fn is_closed(rt: &impl Abort, plain: &Plain, finished: bool, needs: &[(u32, u32)], line: &str) {
-    assert!(rt; plain.is_closed(finished, needs), "after {line}");
+// With each change that a crash after the line leaves, all that it needs is left, the write that is out being finished or
+// not.
+fn is_closed(rt: &impl Abort, plain: &Plain, needs: &[(u32, u32)], line: &str) {
+    for finished in [false, true] {
+        assert!(rt; plain.is_closed(finished, needs), "after {line}");
+    }
 }
 
-// Puts a crash after the line for each set of writes that may be finished, and the replies.
+// Puts a crash for each set of writes that may be finished, and the replies.
 fn put_crashes(
     rt: &impl Abort,
     alloc: Global,
     lines: &mut Vec<u8>,
     replies: &mut Vec<u8>,
     plain: &Plain,
-    needs: &[(u32, u32)],
-    line: &str,
 ) {
-    is_closed(rt, plain, false, needs, line);
     put_crash(rt, alloc, lines, replies, plain, None);
     if let Some((block, _)) = plain.out {
-        is_closed(rt, plain, true, needs, line);
         put_crash(rt, alloc, lines, replies, plain, Some(block));
     }
 }
 
 // The script with a crash after each line for each set of writes that may be finished, and the replies.
-pub fn crashes(rt: &impl Abort, alloc: Global, script: &Script) {
+fn crashes(rt: &impl Abort, alloc: Global, script: &Script) {
     let mut lines = Vec::new(alloc);
     let mut replies = Vec::new(alloc);
     let mut plain = Plain::new(alloc);
     for (line, reply, does) in script.rows {
         put_line(rt, &mut lines, line);
         put_line(rt, &mut replies, reply);
-        plain.take(*does).expect(rt, "there is memory");
-        put_crashes(
-            rt,
-            alloc,
-            &mut lines,
-            &mut replies,
-            &plain,
-            script.needs,
-            line,
-        );
+        plain.take(rt, *does);
+        is_closed(rt, &plain, script.needs, line);
+        put_crashes(rt, alloc, &mut lines, &mut replies, &plain);
     }
     plays_to(rt, alloc, 4, &lines, &replies);
 }
 
 #[test]
 fn every_crash_leaves_a_closed_set(rt: HostRuntime) {
-    for script in &SCRIPTS {
+    for script in SCRIPTS {
         crashes(&rt, rt.alloc(), script);
     }
 }
@@ -347,15 +84,15 @@ fn put_failure(
     how: &str,
 ) {
     let done = format!(in alloc; "{{\"do\":\"done\",\"ticket\":{ticket},\"fail\":\"{how}\"}}");
-    put_line(rt, lines, &done.expect(rt, "there is memory"));
+    put_made(rt, lines, done);
     let retry = format!(in alloc; "{{\"do\":\"retry\",\"block\":{block}}}");
-    put_line(rt, lines, &retry.expect(rt, "there is memory"));
+    put_made(rt, lines, retry);
 }
 
 // Puts a completion that works.
 fn put_done(rt: &impl Abort, alloc: Global, lines: &mut Vec<u8>, ticket: u32) {
     let done = format!(in alloc; "{{\"do\":\"done\",\"ticket\":{ticket}}}");
-    put_line(rt, lines, &done.expect(rt, "there is memory"));
+    put_made(rt, lines, done);
 }
 
 // A script so far of which one write fails once: the last ticket, and how many writes were settled.
@@ -407,7 +144,7 @@ fn failing_once(
             Some(block) => failing.land(rt, alloc, nth, block, how),
             None => put_line(rt, &mut failing.lines, line),
         }
-        plain.take(*does).expect(rt, "there is memory");
+        plain.take(rt, *does);
     }
     assert!(rt; nth < failing.landed);
     let Failing {
@@ -436,12 +173,17 @@ fn fails_once(rt: &impl Abort, alloc: Global, script: &Script, nth: u32, how: &s
     end_with(rt, &replies_to(rt, alloc, 4, &lines), &want, nth, how);
 }
 
+// Each write of the script fails, before the bytes change and after.
+fn each_fails_once(rt: &impl Abort, alloc: Global, script: &Script) {
+    for nth in 0..script.writes {
+        fails_once(rt, alloc, script, nth, "before");
+        fails_once(rt, alloc, script, nth, "after");
+    }
+}
+
 #[test]
 fn each_write_fails_once_and_is_tried_again(rt: HostRuntime) {
-    for (script, writes) in SCRIPTS.iter().zip([1, 2, 2, 3]) {
-        for nth in 0..writes {
-            fails_once(&rt, rt.alloc(), script, nth, "before");
-            fails_once(&rt, rt.alloc(), script, nth, "after");
-        }
+    for script in SCRIPTS {
+        each_fails_once(&rt, rt.alloc(), script);
     }
 }

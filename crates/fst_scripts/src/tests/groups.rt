@@ -8,15 +8,16 @@ use crate::tests::groups::order::Plain;
 use crate::tests::groups::scripts::{
     FORGOTTEN_CHANGES, LOST_CHANGE, OWN_TAIL, Row, THROUGH_AN_EMPTY_GROUP, TWO_GROUPS,
 };
-use crate::tests::{plays_rows, put_line, replies_to};
+use crate::tests::{plays_rows, put_line, put_made, replies_to};
 use std::alloc::Global;
 use std::process::Abort;
+use std::str::Lines;
 
 // Puts a crash for each set of the writes that are out behind a script.
 fn put_crashes(rt: &impl Abort, alloc: Global, script: &mut Vec<u8>, plain: &Plain) {
     for set in plain.sets(rt, alloc) {
         let crash = format!(in alloc; "{{\"do\":\"crash\",\"finish\":[{set}]}}");
-        put_line(rt, script, &crash.expect(rt, "there is memory"));
+        put_made(rt, script, crash);
     }
 }
 
@@ -26,7 +27,7 @@ fn with_crashes(rt: &impl Abort, alloc: Global, rows: &[Row]) -> Vec<u8> {
     let mut plain = Plain::new(alloc);
     for (line, _, does) in rows {
         put_line(rt, &mut script, line);
-        plain.take(alloc, *does).expect(rt, "there is memory");
+        plain.take(rt, alloc, *does);
         put_crashes(rt, alloc, &mut script, &plain);
     }
     script
@@ -47,6 +48,21 @@ fn same_reply(rt: &impl Abort, line: &str, reply: Option<&str>, expected: Option
     assert_eq!(rt; reply, expected, "to {line}");
 }
 
+// Judges the replies to the crashes after a line. Whether the last one leaves all changes.
+fn judge_crashes(
+    rt: &impl Abort,
+    alloc: Global,
+    plain: &Plain,
+    line: &str,
+    told: &mut Lines<'_>,
+) -> bool {
+    let mut whole = true;
+    for set in &plain.sets(rt, alloc) {
+        whole = is_whole(rt, plain, line, set, told.next().unwrap_or(""));
+    }
+    whole
+}
+
 // Judges the replies to the lines and to the crashes. Whether the last crash leaves all changes.
 fn judge(rt: &impl Abort, alloc: Global, rows: &[Row], replies: &str) -> bool {
     let mut told = replies.lines();
@@ -54,10 +70,8 @@ fn judge(rt: &impl Abort, alloc: Global, rows: &[Row], replies: &str) -> bool {
     let mut whole = true;
     for (line, reply, does) in rows {
         same_reply(rt, line, told.next(), Some(*reply));
-        plain.take(alloc, *does).expect(rt, "there is memory");
-        for set in plain.sets(rt, alloc) {
-            whole = is_whole(rt, &plain, line, &set, told.next().unwrap_or(""));
-        }
+        plain.take(rt, alloc, *does);
+        whole = judge_crashes(rt, alloc, &plain, line, &mut told);
     }
     same_reply(rt, "the end", told.next(), None);
     whole
@@ -72,30 +86,50 @@ fn ends_whole(rt: &impl Abort, alloc: Global, rows: &[Row]) -> bool {
 
 #[test]
 fn every_crash_leaves_groups_in_order(rt: HostRuntime) {
-    for rows in [
-        TWO_GROUPS,
-        OWN_TAIL,
-        THROUGH_AN_EMPTY_GROUP,
-        FORGOTTEN_CHANGES,
-    ] {
-        assert!(rt; ends_whole(&rt, rt.alloc(), rows));
-    }
+    assert!(rt; ends_whole(&rt, rt.alloc(), TWO_GROUPS));
+    assert!(rt; ends_whole(&rt, rt.alloc(), OWN_TAIL));
+    assert!(rt; ends_whole(&rt, rt.alloc(), THROUGH_AN_EMPTY_GROUP));
+    assert!(rt; ends_whole(&rt, rt.alloc(), FORGOTTEN_CHANGES));
     assert!(rt; !ends_whole(&rt, rt.alloc(), LOST_CHANGE));
+}
+
+// The groups after the lines before the one with this reply, or after all lines.
+fn plain_before(rt: &impl Abort, alloc: Global, rows: &[Row], end: &str) -> Plain {
+    let mut plain = Plain::new(alloc);
+    for (_, reply, does) in rows {
+        if *reply == end {
+            break;
+        }
+        plain.take(rt, alloc, *does);
+    }
+    plain
+}
+
+// Whether the judge finds the groups in order that a crash leaves.
+fn is_judged(rt: &impl Abort, plain: &Plain, crash: &str, expected: bool) {
+    assert!(rt; plain.is_in_order(crash) == expected, "{crash}");
 }
 
 // What the judge refuses: a change of the second group without one of the first, or with an open first group.
 #[test]
 fn groups_out_of_order(rt: HostRuntime) {
-    let mut plain = Plain::new(rt.alloc());
-    for (_, reply, does) in TWO_GROUPS {
-        if *reply == "group_close 1" {
-            assert!(rt; !plain.is_in_order("crash 41000000 42000000 43000000 00000000"));
-        }
-        plain.take(rt.alloc(), *does).expect(&rt, "there is memory");
-    }
-    assert!(rt; plain.is_in_order("crash 41000000 42000000 43000000 00000000"));
-    assert!(rt; !plain.is_in_order("crash 41000000 42000000 00000000 00000000"));
-    assert!(rt; plain.is_in_order("crash 41000000 00000000 00000000 00000000"));
+    let whole = "crash 41000000 42000000 43000000 00000000";
+    let open = plain_before(&rt, rt.alloc(), TWO_GROUPS, "group_close 1");
+    is_judged(&rt, &open, whole, false);
+    let closed = plain_before(&rt, rt.alloc(), TWO_GROUPS, "");
+    is_judged(&rt, &closed, whole, true);
+    is_judged(
+        &rt,
+        &closed,
+        "crash 41000000 42000000 00000000 00000000",
+        false,
+    );
+    is_judged(
+        &rt,
+        &closed,
+        "crash 41000000 00000000 00000000 00000000",
+        true,
+    );
 }
 
 // Groups without changes, each after the one before it: the first cannot come after the last.

@@ -1,6 +1,6 @@
 //! How many patches a line may name, and how many the cache keeps.
 
-use crate::tests::{plays_to, put, put_line};
+use crate::tests::{plays_to, put, put_line, put_made};
 use std::alloc::Global;
 use std::process::Abort;
 
@@ -32,8 +32,7 @@ fn put_empty(
     number: u32,
 ) {
     put_line(rt, script, r#"{"do":"empty"}"#);
-    let reply = format!(in alloc; "empty {number}");
-    put_line(rt, replies, &reply.expect(rt, "there is memory"));
+    put_made(rt, replies, format!(in alloc; "empty {number}"));
 }
 
 // As many patches as may stand, one more, and another once they were forgotten.

@@ -1,6 +1,6 @@
 //! Each refusal of each line that a script can meet, in the order of the lines.
 
-use crate::tests::{plays_over, plays_rows, put, put_line};
+use crate::tests::{plays_over, plays_rows, put, put_made};
 use fst_types::Shape;
 use std::alloc::Global;
 use std::process::Abort;
@@ -107,9 +107,8 @@ fn put_change(
 ) {
     let number = block.saturating_add(1);
     let line = format!(in alloc; "{{\"do\":\"patch\",\"block\":{block},\"at\":0,\"data\":\"41\"}}");
-    put_line(rt, script, &line.expect(rt, "there is memory"));
-    let reply = format!(in alloc; "patch {number} hard");
-    put_line(rt, replies, &reply.expect(rt, "there is memory"));
+    put_made(rt, script, line);
+    put_made(rt, replies, format!(in alloc; "patch {number} hard"));
 }
 
 // A write of a block of one byte, and its reply.
@@ -121,10 +120,13 @@ fn put_write(
     block: u32,
 ) {
     let number = block.saturating_add(1);
-    let line = format!(in alloc; "{{\"do\":\"write\",\"block\":{block}}}");
-    put_line(rt, script, &line.expect(rt, "there is memory"));
+    put_made(
+        rt,
+        script,
+        format!(in alloc; "{{\"do\":\"write\",\"block\":{block}}}"),
+    );
     let reply = format!(in alloc; "flight {number} block {block} patches {number} image 41");
-    put_line(rt, replies, &reply.expect(rt, "there is memory"));
+    put_made(rt, replies, reply);
 }
 
 // 64 writes are out, and the block of another may be written.

@@ -2,7 +2,7 @@
 
 ghost use Rattle.std.specs.Prelude.{◌≡◌, Some};
 
-use crate::tests::rows::CYCLE_OF_BLOCKS;
+use crate::tests::rows::order::CYCLE_OF_BLOCKS;
 use crate::tests::{
     is_done, is_unread, is_unwritten, played, plays_to, put, put_line, put_rows, same_replies,
 };

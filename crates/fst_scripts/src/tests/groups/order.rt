@@ -64,6 +64,11 @@ fn with_block(rt: &impl Abort, alloc: Global, sets: &[String], block: u32) -> Ve
     more
 }
 
+// This group alone.
+fn only(rt: &impl Abort, alloc: Global, group: u32) -> Vec<u32> {
+    Vec::from_slice(alloc, &[group]).expect(rt, "there is memory")
+}
+
 impl Plain {
     pub fn new(alloc: Global) -> Plain {
         Plain {
@@ -75,58 +80,56 @@ impl Plain {
     }
 
     // The group, and all that come after it.
-    fn at_or_after(&self, alloc: Global, group: u32) -> Result<Vec<u32>, AllocError> {
-        let mut groups = Vec::from_slice(alloc, &[group])?;
+    fn at_or_after(&self, rt: &impl Abort, alloc: Global, group: u32) -> Vec<u32> {
+        let mut groups = only(rt, alloc, group);
         for (later, earlier) in &self.order {
             if *earlier == group {
-                groups.push(*later)?;
+                groups.push(*later).expect(rt, "there is memory");
             }
         }
-        Ok(groups)
+        groups
     }
 
     // The group, and all that it comes after.
-    fn at_or_before(&self, alloc: Global, group: u32) -> Result<Vec<u32>, AllocError> {
-        let mut groups = Vec::from_slice(alloc, &[group])?;
+    fn at_or_before(&self, rt: &impl Abort, alloc: Global, group: u32) -> Vec<u32> {
+        let mut groups = only(rt, alloc, group);
         for (later, earlier) in &self.order {
             if *later == group {
-                groups.push(*earlier)?;
+                groups.push(*earlier).expect(rt, "there is memory");
             }
         }
-        Ok(groups)
+        groups
     }
 
-    fn put_after(&mut self, alloc: Global, group: u32, on: u32) -> Result<(), AllocError> {
-        let before = self.at_or_before(alloc, on)?;
-        for later in self.at_or_after(alloc, group)? {
+    fn put_after(&mut self, rt: &impl Abort, alloc: Global, group: u32, on: u32) {
+        let before = self.at_or_before(rt, alloc, on);
+        for later in self.at_or_after(rt, alloc, group) {
             for earlier in &before {
-                self.order.push((later, *earlier))?;
+                let pair = (later, *earlier);
+                self.order.push(pair).expect(rt, "there is memory");
             }
         }
-        Ok(())
     }
 
-    fn land(&mut self, alloc: Global, block: u32) -> Result<(), AllocError> {
+    fn land(&mut self, rt: &impl Abort, alloc: Global, block: u32) {
         let mut out = Vec::new(alloc);
         for other in &self.out {
             if *other != block {
-                out.push(*other)?;
+                out.push(*other).expect(rt, "there is memory");
             }
         }
         self.out = out;
-        Ok(())
     }
 
-    pub fn take(&mut self, alloc: Global, does: Does) -> Result<(), AllocError> {
+    pub fn take(&mut self, rt: &impl Abort, alloc: Global, does: Does) {
         match does {
             Does::Nothing => {}
-            Does::PutsAfter(group, on) => self.put_after(alloc, group, on)?,
-            Does::Makes(member) => self.members.push(member)?,
-            Does::Closes(group) => self.closed.push(group)?,
-            Does::Sends(block) => self.out.push(block)?,
-            Does::Lands(block) => self.land(alloc, block)?,
+            Does::PutsAfter(group, on) => self.put_after(rt, alloc, group, on),
+            Does::Makes(member) => self.members.push(member).expect(rt, "there is memory"),
+            Does::Closes(group) => self.closed.push(group).expect(rt, "there is memory"),
+            Does::Sends(block) => self.out.push(block).expect(rt, "there is memory"),
+            Does::Lands(block) => self.land(rt, alloc, block),
         }
-        Ok(())
     }
 
     /// The lists of blocks, as a line has them, of each set of writes that are out: the last set has them all.
