@@ -93,10 +93,10 @@ fn every_crash_leaves_groups_in_order(rt: HostRuntime) {
     assert!(rt; !ends_whole(&rt, rt.alloc(), LOST_CHANGE));
 }
 
-// The groups after the lines before the one with this reply, or after all lines.
-fn plain_before(rt: &impl Abort, alloc: Global, rows: &[Row], end: &str) -> Plain {
+// The groups of two after the lines before the one with this reply, or after all lines.
+fn two_groups_before(rt: &impl Abort, alloc: Global, end: &str) -> Plain {
     let mut plain = Plain::new(alloc);
-    for (_, reply, does) in rows {
+    for (_, reply, does) in TWO_GROUPS {
         if *reply == end {
             break;
         }
@@ -114,9 +114,9 @@ fn is_judged(rt: &impl Abort, plain: &Plain, crash: &str, expected: bool) {
 #[test]
 fn groups_out_of_order(rt: HostRuntime) {
     let whole = "crash 41000000 42000000 43000000 00000000";
-    let open = plain_before(&rt, rt.alloc(), TWO_GROUPS, "group_close 1");
+    let open = two_groups_before(&rt, rt.alloc(), "group_close 1");
     is_judged(&rt, &open, whole, false);
-    let closed = plain_before(&rt, rt.alloc(), TWO_GROUPS, "");
+    let closed = two_groups_before(&rt, rt.alloc(), "");
     is_judged(&rt, &closed, whole, true);
     is_judged(
         &rt,
