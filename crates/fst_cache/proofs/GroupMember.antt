@@ -5,7 +5,7 @@ use Rattle.fst_types.specs.Grouping.{MakesMember}
 use Rattle.fst_types.specs.State.{State}
 use Rattle.fst_types.specs.Facts.{IsLawful}
 use Rattle.fst_types.proofs.Parts.{SealsIfOpen, MemberInParts, member_in_parts}
-use Rattle.fst_types.proofs.GroupsKept.{begins}
+use Rattle.fst_types.proofs.Passing.{begins}
 use Rattle.fst_block.specs.BlockView.{BlockPatch, BlockView}
 use Rattle.fst_seat.specs.Seats.{SeatView}
 use Rattle.fst_cache.specs.Kept.{IsSameAt, IsKeptSeat, span_of}

@@ -11,7 +11,7 @@ use Rattle.fst_types.specs.Grouping.{MakesGroup, PutsAfter, ClosesGroup}
 use Rattle.fst_types.specs.State.{State, block_of}
 use Rattle.fst_types.proofs.Depending.{grown}
 use Rattle.fst_types.proofs.Parts.{SealsIfOpen, new_in_parts, after_in_parts, close_in_parts}
-use Rattle.fst_types.proofs.GroupsKept.{begins}
+use Rattle.fst_types.proofs.Passing.{begins}
 use Rattle.fst_cache.specs.Kept.{IsSameAt}
 use Rattle.fst_cache.proofs.SameAdding.{same_added}
 use Rattle.fst_cache.proofs.SameCascade.{same_moved}

@@ -12,7 +12,7 @@ use Rattle.fst_types.specs.State.{State}
 use Rattle.fst_types.specs.Facts.{IsLawful}
 use Rattle.fst_types.proofs.Finite.{In, Contains-from_In}
 use Rattle.fst_types.proofs.Writes.{filter_pushed}
-use Rattle.fst_types.proofs.Images.{content_more}
+use Rattle.fst_types.proofs.Contents.{content_more}
 use Rattle.fst_types.proofs.Fits.{content_end}
 use Rattle.fst_block.specs.BlockView.{BlockPatch, BlockView}
 use Rattle.fst_seat.specs.Seats.{SeatView}

@@ -13,7 +13,7 @@ use Rattle.fst_types.specs.Step.{Step, accepted, forget}
 use Rattle.fst_types.proofs.Bounds.{step_keeps_lawful}
 use Rattle.fst_types.proofs.Dropping.{filter_in}
 use Rattle.fst_types.proofs.Finite.{In}
-use Rattle.fst_types.proofs.Images.{content_kept, has_in}
+use Rattle.fst_types.proofs.Contents.{content_kept, has_in}
 use Rattle.fst_types.proofs.Landing.{change_at}
 use Rattle.fst_types.proofs.Writes.{filter_twice}
 use Rattle.fst_graph.specs.Known.{Known, Forgets}

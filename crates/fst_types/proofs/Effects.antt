@@ -21,7 +21,7 @@ use Rattle.fst_types.proofs.Moves.{flight_out, put_at, out_block}
 use Rattle.fst_types.proofs.Dropping.{filter_in, in_filter}
 use Rattle.fst_types.proofs.Fits.{LieIn}
 use Rattle.fst_types.proofs.Parts.{made_by, parts_row, grown_parts}
-use Rattle.fst_types.proofs.Images.{content_kept, has_in}
+use Rattle.fst_types.proofs.Contents.{content_kept, has_in}
 use Rattle.fst_types.proofs.Carries.{Never, IsFlying, Go, goes_self, go_self, go_then, go_mapped, go_cascade, goes_launched, goes_landed, goes_sealed, goes_gained, Carries, carries_all, carries_self, carries_added}
 use Rattle.fst_types.proofs.Extends.{extends_carries, extends_parts, carries_changed}
 

@@ -19,7 +19,7 @@ use Rattle.fst_types.proofs.Fits.{content_end, LieIn, fits_parts}
 use Rattle.fst_types.proofs.Heads.{heads_parts}
 use Rattle.fst_types.proofs.Parts.{Part, gates, depends, seals, changes, regroups, Parts, no_parts, and_then}
 use Rattle.fst_types.proofs.Ascends.{in_append}
-use Rattle.fst_types.proofs.Images.{content_more}
+use Rattle.fst_types.proofs.Contents.{content_more}
 use Rattle.fst_types.proofs.Carries.{Goes, Never, goes_alike, IsNew, IsAdded, Carries}
 use Rattle.fst_types.proofs.Loosened.{loosened}
 

@@ -27,7 +27,8 @@ use Rattle.fst_types.proofs.Carries.{Never, IsFlying}
 use Rattle.fst_types.proofs.Fits.{lie_row}
 use Rattle.fst_types.proofs.Effects.{Effect, quiet, landing, added_by, effect_row}
 use Rattle.fst_types.proofs.Numbers.{given_told, among_told, one_block}
-use Rattle.fst_types.proofs.Along.{is_down, down_of, is_out, out_of, Along, along, crash_folded, image_folded, down_same, down_landed}
+use Rattle.fst_types.proofs.Along.{is_down, down_of, is_out, out_of, Along, along, down_same, down_landed}
+use Rattle.fst_types.proofs.CrashAlong.{crash_folded, image_folded}
 
 along_effect : (first old new : State) (made added : List ChangeMade) → Effect added old new → IsLawful new → Along first old made → Along first new (made ++ added)
 along_effect first old new made added (quiet same C) lawful A =
