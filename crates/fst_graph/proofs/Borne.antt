@@ -1,10 +1,11 @@
 -- What holds of the patches of heads, said of the patches of their nodes; and sums and counts that fit.
-use Rattle.std.proofs.Common.{◌≡◌, ◌<◌, ◌≤◌, ◌∙◌, ℕ, false, List, [], ◌∷◌, ◌++◌, Result, Ok, Err, OnOk, is_err, map, set, get_or, Contains, sym, subst, inl, inr, arith, Bool, length, count_by}
+use Rattle.std.proofs.Common.{◌≡◌, ◌<◌, ◌≤◌, ◌+◌, ◌∙◌, ℕ, false, List, [], ◌∷◌, ◌++◌, Result, Ok, Err, OnOk, is_err, map, set, get_or, Contains, sym, subst, inl, inr, arith, Bool, length, count_by}
 use Rattle.std.proofs.lemmas.{Bool.cases_lt, List.length-map, List.Sums.count_by-le-length}
-use Rattle.fst_types.specs.{Facts.SparseAreLawful, Gates.IsOpenNumber, Limits.max_heads, Patches.Patch}
-use Rattle.fst_heads.specs.{Heads.{patches_of, patch_of}, Keeps.IsInside, Nodes.{Node, nodes_of, patches_in, pending_in, AreSettled, node_of}}
-use Rattle.fst_heads.specs.{Pendings.{Fits, max_block}, Spreading.lands, Standings.AllStand, declared.head.Head.Head, declared.standing.Standing.Standing}
-use Rattle.fst_heads.proofs.{AtNumber.patches_in_nodes, PendingIn.found, Stands.{stand_landed, stand_landed_outside}, Sums.{sums_fit, sums_few}}
+use Rattle.std.specs.List.Sorted.{IsStrictlyIncreasing}
+use Rattle.fst_types.specs.{Dependencies.DirectlyOn, Facts.SparseAreLawful, Gates.IsOpenNumber, Limits.max_heads, Patches.Patch}
+use Rattle.fst_heads.specs.{Heads.{patches_of, patch_of}, Keeps.IsInside, Nodes.{Node, nodes_of, patches_in, pending_in, AreDistinct, AreSettled, node_of}}
+use Rattle.fst_heads.specs.{Pendings.{Fits, max_block, sums_of}, Spreading.lands, Standings.AllStand, declared.head.Head.Head, declared.standing.Standing.Standing}
+use Rattle.fst_heads.proofs.{AtNumber.patches_in_nodes, Few.gain_few, PendingIn.found, Stands.{stand_landed, stand_landed_outside}, Sums.sums_fit}
 use Rattle.fst_heads.specs.declared.pending.Pending.TheVariants as pending
 
 -- the patches with a new one
@@ -43,20 +44,13 @@ stand_land nodes blocks b old new inside S within outside = elim (cases_lt b blo
   | inr past ↦ subst (AllStand (map (lands b) nodes) blocks) (sym (outside past)) (stand_landed_outside nodes blocks b old inside past S)
 ]
 
--- blocks are numbers of 32 bits
-narrow : (nodes : List Node) (blocks : ℕ) → blocks ≤ max_block → AreSettled nodes blocks → (n b : ℕ) → pending_in nodes n ≡ pending.Block b → b ≤ max_block
-narrow nodes blocks small S n b e =
-    elim (found nodes n) [
-      | inl f ↦ let inside = S.inside f.node b f.head (sym f.told ∙ e) in omega (arith, inside, small)
-      | inr none ↦ let same : pending.Nothing ≡ pending.Block b = sym none ∙ e in absurd (cc)
-    ]
-
--- no count is more than the row is long
-pub few : (nodes : List Node) (blocks : ℕ) → blocks ≤ max_block → AreSettled nodes blocks → (x : Node) → Contains nodes x → (x.sums.count ≤ length x.patch.dependencies) × Fits x.sums
-few nodes blocks small S x c = (
-  subst (λ s. s.count ≤ length x.patch.dependencies) (sym (S.summed x c)) (sums_few (pending_in nodes) x.patch.dependencies),
-  subst Fits (sym (S.summed x c)) (sums_fit (pending_in nodes) x.patch.dependencies (narrow nodes blocks small S)),
-)
+-- a gate has room for names that it does not have: together they are no more than there may be patches
+pub gain_room : (heads : List Head) (blocks g : ℕ) (names : List ℕ) → blocks ≤ max_block → AreSettled (nodes_of heads) blocks → AreDistinct (nodes_of heads) → length (patches_of heads) ≤ max_heads
+    → IsStrictlyIncreasing names → ((n : ℕ) → Contains names n → DirectlyOn (patches_of heads) g n → ⊥)
+    → (x : Node) → Contains (nodes_of heads) x → x.patch.number ≡ g → (x.sums.count + (sums_of (pending_in (nodes_of heads)) names).count < 65536) × Fits x.sums
+gain_room heads blocks g names narrow S distinct few rising missing x c same =
+    let most = gain_few (nodes_of heads) g names distinct rising (λ n k on. missing n k (subst (λ ps. DirectlyOn ps g n) (patches_in_nodes heads) on)) x c same (S.summed x c) in
+    (omega (arith, most, few, length-map heads node_of, length-map heads patch_of), settled_fits (nodes_of heads) blocks narrow S x c)
 
 -- a count of heads is no more than there may be heads
 pub few_counted : (heads : List Head) (t : Node → Bool) (n : ℕ) → length (patches_of heads) ≤ max_heads → n ≡ count_by t (nodes_of heads) → n < 18446744073709551615

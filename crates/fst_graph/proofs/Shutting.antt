@@ -16,13 +16,13 @@ module _ {heads : Vec Head} {ends : Ends} {levels : Leveling} {needs : Needing} 
     (S : AreSound heads ends levels needs lists covers standings queue live unmarked numbers blocks o) {g : ℕ} (gate : IsOpenNumber (patches_of heads.items) g)
     (mid : Vec Head) (shut : nodes_of mid.items ≡ map (at_number g seals) (nodes_of heads.items)) where
   -- what comes to rest may be told from there
-  pub shut_ready : {waits : List ℕ} {cap : ℕ} → waits ≡ queue.items ++ wakes_sealed g (nodes_of heads.items) → cap ≡ queue.cap → standings.len ≤ 4294967295
+  pub shut_ready : {waits : List ℕ} {cap : ℕ} → waits ≡ queue.items ++ wakes_sealed g (nodes_of heads.items) → cap ≡ queue.cap → standings.len ≤ 65535
       → record {
         start : Spreading (nodes_of mid.items) standings.len waits;
         linked : AreLinked (nodes_of mid.items);
         distinct : AreDistinct (nodes_of mid.items);
         standing : AllStand (nodes_of mid.items) standings.len standings.items;
-        narrow : standings.len ≤ 4294967295;
+        narrow : standings.len ≤ 65535;
         room : length mid.items ≤ cap;
       }
   shut_ready queued capacity narrow =

@@ -4,7 +4,7 @@
 ghost use Rattle.std.specs.Prelude.{◌≡◌, ◌≢◌, ◌≤◌, ◌<◌, ◌+◌, ◌∷◌, [], ℕ, Contains, OnOk, OnErr, length, map, vec_len, vec_capacity};
 ghost use Rattle.std.specs.List.Sorted.{IsStrictlyIncreasing};
 ghost use Rattle.fst_types.specs.Facts.{SparseAreLawful};
-ghost use Rattle.fst_types.specs.Limits.{max_number};
+ghost use Rattle.fst_types.specs.Limits.{max_heads, max_number};
 ghost use Rattle.fst_types.specs.Making.{fresh};
 ghost use Rattle.fst_types.specs.Patches.{OpenGate, IsOpenGate, Patch};
 ghost use Rattle.fst_heads.specs.Frames.{HasRoomBelow};
@@ -79,7 +79,7 @@ fn pending_over(fresh: &Fresh, below: Pending) -> Pending
     ensures { result ≡ of_kind (kind_of fresh.now.kind) fresh.now.place below }
 {
     match fresh.kind {
-        Kind::Change(block, _, _) => match fresh.place {
+        Kind::Change(_, block, _) => match fresh.place {
             Place::Memory | Place::Flight => over_block(block, below),
             Place::Disk => Pending::Nothing,
         },
@@ -101,6 +101,7 @@ pub fn put_down(
     requires once { IsStrictlyIncreasing fresh.dependencies.items }
     requires above { HasRoomAbove heads.old.items fresh.dependencies.items }
     requires places { HasPlaces 1 heads.old ends.old levels.old }
+    requires few { length heads.old.items ≤ max_heads }
     ensures put { HasOneMore (patch_from fresh) rank heads.old ends.old levels.old heads.new ends.new levels.new }
     ensures pending { result ≡ of_kind (kind_of fresh.kind) fresh.place (joined (pending_in (nodes_of heads.old.items)) fresh.dependencies.items) }
     ensures len { vec_len heads.new ≡ vec_len heads.old + 1 }
@@ -165,6 +166,7 @@ pub fn add_one(
     requires once { IsStrictlyIncreasing fresh.dependencies.items }
     requires leveled { IsLeveled (patches_of heads.old.items) (length levels.old.floors) levels.old }
     requires given { 0 < fresh.number }
+    requires few { length heads.old.items ≤ max_heads }
     ensures added { OnOk result (IsAdded (patch_from fresh) heads.old ends.old levels.old queue.old heads.new ends.new levels.new queue.new) }
     ensures roomier { OnErr result (IsRoomier heads.old ends.old levels.old queue.old heads.new ends.new levels.new queue.new) }
 {
@@ -191,6 +193,7 @@ pub fn add_two(
 ) -> Result<(), AllocError>
     requires lawful { SparseAreLawful (patches_of heads.old.items) numbers }
     requires given { numbers + 2 ≤ max_number }
+    requires few { length heads.old.items < max_heads }
     ensures added { OnOk result (AddsTwo numbers heads.old ends.old levels.old queue.old heads.new ends.new levels.new queue.new) }
     ensures roomier { OnErr result (IsRoomier heads.old ends.old levels.old queue.old heads.new ends.new levels.new queue.new) }
 {

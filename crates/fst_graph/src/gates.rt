@@ -2,6 +2,7 @@
 
 ghost use Rattle.std.specs.Prelude.{◌≡◌, ◌≤◌, ℕ, List, length, map, Contains, IfOk, IfErr, IfSome, IfNone, OnOk, OnErr};
 ghost use Rattle.fst_types.specs.Dependencies.{DirectlyOn, IsLiveNumber};
+ghost use Rattle.fst_types.specs.Limits.{max_heads};
 ghost use Rattle.fst_types.specs.Lists.{Lists};
 ghost use Rattle.fst_types.specs.Order.{seal_order, depend_order};
 ghost use Rattle.fst_types.specs.Refusals.{IsFirst, NoneHolds};
@@ -9,7 +10,7 @@ ghost use Rattle.fst_types.specs.Gates.{IsOpenNumber};
 ghost use Rattle.fst_heads.specs.Heads.{IsRising, patches_of};
 ghost use Rattle.fst_heads.specs.Names.{numbers_of};
 ghost use Rattle.fst_heads.specs.Marks.{HasSlot};
-ghost use Rattle.fst_heads.specs.Nodes.{Node, AreLinked, nodes_of, pending_in, at_number, gains_names, linked_to};
+ghost use Rattle.fst_heads.specs.Nodes.{Node, AreDistinct, AreLinked, nodes_of, pending_in, at_number, gains_names, linked_to};
 ghost use Rattle.fst_heads.specs.Pendings.{Fits, sums_of};
 ghost use Rattle.fst_walks.specs.Searching.{AreOver, TellsGates};
 
@@ -88,7 +89,9 @@ pub fn gain_names(
 ) -> Result<(), AllocError>
     requires rising { IsRising heads.old.items }
     requires linked { AreLinked (nodes_of heads.old.items) }
-    requires counted { (x : Node) → Contains (nodes_of heads.old.items) x → (x.sums.count ≤ length x.patch.dependencies) × Fits x.sums }
+    requires summed { (x : Node) → Contains (nodes_of heads.old.items) x → (x.sums ≡ sums_of (pending_in (nodes_of heads.old.items)) x.patch.dependencies) × Fits x.sums }
+    requires distinct { AreDistinct (nodes_of heads.old.items) }
+    requires few { length heads.old.items ≤ max_heads }
     ensures gained { OnOk result ((names : List ℕ) × Lists (λ n. IsLiveNumber (patches_of heads.old.items) n × Contains (numbers_of on.now) n × (DirectlyOn (patches_of heads.old.items) gate n → ⊥)) names × (nodes_of heads.new.items ≡ map (linked_to names gate) (map (at_number gate (gains_names names (sums_of (pending_in (nodes_of heads.old.items)) names))) (nodes_of heads.old.items)))) }
     ensures same { OnErr result (nodes_of heads.new.items ≡ nodes_of heads.old.items) }
 {

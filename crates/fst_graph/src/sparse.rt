@@ -61,7 +61,7 @@ pub struct Sparse {
     live: usize,
     unmarked: usize,
     numbers: u32,
-    blocks: u32,
+    blocks: u16,
     prepared: Option<Prepared>,
 }
 
@@ -116,7 +116,7 @@ impl Sparse {
             live: 0,
             unmarked: 0,
             numbers,
-            blocks: shape.blocks,
+            blocks: shape.blocks as u16,
             prepared: None,
         })
     }

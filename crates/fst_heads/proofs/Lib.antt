@@ -40,3 +40,4 @@ pub mod Beside
 pub mod Framed
 pub mod FirstOnDisk
 pub mod LastOnDisk
+pub mod Few

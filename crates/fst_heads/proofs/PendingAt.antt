@@ -1,8 +1,8 @@
 -- What is pending of the head in a slot, and the node that it stands for.
-use Rattle.fst_heads.proofs.Basics.{◌≡◌, ◌<◌, ◌+◌, ◌++◌, ◌∷◌, [], ℕ, zero, suc, List, length, get_or, take, Contains, refl, sym, ap, ◌∙◌, arith, eq-eqb, ne_eqb, take_more, SmallVec}
+use Rattle.fst_heads.proofs.Basics.{◌≡◌, ◌<◌, ◌+◌, ◌++◌, ◌∷◌, [], ℕ, zero, suc, List, length, get_or, take, Contains, refl, sym, ap, ◌∙◌, arith, eq-eqb, ne_eqb, ◌≤◌, drop, take_more, take-append-drop, SmallVec}
 use Rattle.fst_heads.proofs.Patches.{Contains-from_In, In-map}
-use Rattle.fst_heads.proofs.Words.{Head, Pending, Sums, IsRising, HasSlot, HasNone, node_of, nodes_of, pending_in, gains_names, plus, sums_of, together}
-use Rattle.fst_heads.proofs.{Slots.slot_head, Sums.sums_push}
+use Rattle.fst_heads.proofs.Words.{Head, Pending, Sums, IsRising, HasSlot, HasNone, node_of, nodes_of, pending_in, gains_names, join, joined, plus, sums_of, together}
+use Rattle.fst_heads.proofs.{Slots.slot_head, Sums.{joined_push, sums_append, sums_push}}
 use Rattle.fst_heads.proofs.Words.pending
 
 -- where no head has the number nothing is pending
@@ -31,3 +31,13 @@ gained_node h more names sums both e f = rw (e, f) refl
 -- the sums of a row as far as it is read
 pub sums_more : (told : ℕ → Pending) (row : List ℕ) (i d : ℕ) → i < length row → sums_of told (take (i + 1) row) ≡ plus (told (get_or row i d)) (sums_of told (take i row))
 sums_more told row i d lt = ap (sums_of told) (take_more row i d lt) ∙ sums_push told (take i row) (get_or row i d)
+
+-- and what is pending of it as far
+pub joined_more : (told : ℕ → Pending) (row : List ℕ) (i d : ℕ) → i < length row → joined told (take (i + 1) row) ≡ join (told (get_or row i d)) (joined told (take i row))
+joined_more told row i d lt = ap (joined told) (take_more row i d lt) ∙ joined_push told (take i row) (get_or row i d)
+
+-- that counts no more than the whole row
+pub count_more : (told : ℕ → Pending) (row : List ℕ) (i d : ℕ) → i < length row → (plus (told (get_or row i d)) (sums_of told (take i row))).count ≤ (sums_of told row).count
+count_more told row i d lt =
+    let whole = ap (λ r. (sums_of told r).count) (sym (take-append-drop (i + 1) row)) ∙ ap (λ s. s.count) (sums_append told (take (i + 1) row) (drop (i + 1) row)) in
+    omega (arith, whole, ap (λ s. s.count) (sums_more told row i d lt))

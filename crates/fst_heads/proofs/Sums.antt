@@ -59,6 +59,9 @@ pub sums_push : (told : ℕ → Pending) (xs : List ℕ) (n : ℕ) → sums_of t
 sums_push told [] n = refl
 sums_push told (m ∷ ms) n = ap (plus (told m)) (sums_push told ms n) ∙ plus_swap (told m) (told n) (sums_of told ms)
 
+pub joined_push : (told : ℕ → Pending) (xs : List ℕ) (n : ℕ) → joined told (xs ++ n ∷ []) ≡ join (told n) (joined told xs)
+joined_push told xs n = sym (joined_exact told (xs ++ n ∷ [])) ∙ (ap joined_sums (sums_push told xs n) ∙ joined_exact told (n ∷ xs))
+
 sums_same_in : (told other : ℕ → Pending) (row : List ℕ) → ((n : ℕ) → In row n → other n ≡ told n) → sums_of other row ≡ sums_of told row
 sums_same_in told other [] same = refl
 sums_same_in told other (n ∷ ns) same = rw (same n (inl refl), sums_same_in told other ns (λ m i. same m (inr i))) refl

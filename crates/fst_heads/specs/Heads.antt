@@ -6,7 +6,7 @@ use Rattle.fst_heads.specs.declared.head.Kind.TheVariants as kinds
 use Rattle.fst_types.specs.Patches.{Kind, Change, Empty, OpenGate, SealedGate, Patch}
 
 abbrev pub kind_of : HeadKind → Kind
-kind_of (kinds.Change block span grade) = Change block span.at span.len grade
+kind_of (kinds.Change grade block span) = Change block span.at span.len grade
 kind_of kinds.Empty = Empty
 kind_of kinds.OpenGate = OpenGate
 kind_of kinds.SealedGate = SealedGate

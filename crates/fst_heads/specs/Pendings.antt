@@ -108,9 +108,9 @@ joined_sums s =
     if s.count == 0 then pending.Nothing
     else (if s.held == 0 then (if is_even s then pending.Block (s.total / s.count) else pending.Apart) else pending.Held)
 
--- blocks are numbers of 32 bits
+-- blocks are numbers of 16 bits
 abbrev pub max_block : ℕ
-max_block = 4294967295
+max_block = 65535
 
 pub record Fits (s : Sums) : Type 0 where
   pub held : s.held ≤ s.count

@@ -35,7 +35,7 @@ pub fn pending_now(head: &Head) -> Pending
     ensures { result ≡ now (node_of head.now) }
 {
     match head.kind {
-        Kind::Change(block, _, _) => match head.place {
+        Kind::Change(_, block, _) => match head.place {
             Place::Disk => Pending::Nothing,
             Place::Memory | Place::Flight => over_block(block, head.sums.joined()),
         },
@@ -134,7 +134,7 @@ pub fn cascade(heads: &mut Vec<Head>, queue: &mut Vec<u32>, standings: &mut Vec<
     requires linked { AreLinked (nodes_of heads.old.items) }
     requires distinct { AreDistinct (nodes_of heads.old.items) }
     requires standing { AllStand (nodes_of heads.old.items) (vec_len standings.old) standings.old.items }
-    requires narrow { vec_len standings.old ≤ 4294967295 }
+    requires narrow { vec_len standings.old ≤ 65535 }
     requires room { length heads.old.items ≤ vec_capacity queue.old }
     ensures settled { AreSettled (nodes_of heads.new.items) (vec_len standings.old) }
     ensures placed { IsCascadeOf (patches_of heads.old.items) (patches_of heads.new.items) }

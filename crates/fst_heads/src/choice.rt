@@ -19,7 +19,7 @@ ghost use Rattle.fst_heads.specs.Tests.{is_hard_kind};
 use crate::head::{Head, Kind};
 use crate::lists::Listed;
 use crate::marks::{is_marked, slot_of};
-use crate::pending::{Pending, is_pending};
+use crate::pending::is_of_block;
 use crate::places::is_change_at;
 use crate::turns::next_in_turn;
 use fst_types::{Fault, Grade, PatchNo, Place};
@@ -42,9 +42,7 @@ fn is_behind(heads: &[Head], marks: Option<&[bool]>, number: u32) -> bool
 fn is_free(head: &Head, behind: bool, block: u32) -> bool
     ensures { result ≡ (is_ready_on block (node_of head.now) && not behind) }
 {
-    is_change_at(head, Place::Memory, block)
-        && is_pending(head.pending, Pending::Block(block))
-        && !behind
+    is_change_at(head, Place::Memory, block) && is_of_block(head.pending, block) && !behind
 }
 
 // Whether a patch with the number is free in that way.
@@ -115,7 +113,7 @@ fn is_bound(head: &Head, behind: bool, block: u32) -> bool
 {
     is_change_at(head, Place::Memory, block)
         && is_hard(head.kind)
-        && (!is_pending(head.pending, Pending::Block(block)) || behind)
+        && (!is_of_block(head.pending, block) || behind)
 }
 
 // Whether a patch with the number is bound in that way.
@@ -175,8 +173,8 @@ pub fn is_hard(kind: Kind) -> bool
     ensures { result ≡ is_hard_kind (kind_of kind) }
 {
     match kind {
-        Kind::Change(_, _, Grade::Hard) => true,
-        Kind::Change(_, _, Grade::Soft) => false,
+        Kind::Change(Grade::Hard, _, _) => true,
+        Kind::Change(Grade::Soft, _, _) => false,
         Kind::Empty | Kind::OpenGate | Kind::SealedGate => false,
     }
 }

@@ -1,6 +1,6 @@
 //! What an open gate gains.
 
-ghost use Rattle.std.specs.Prelude.{◌≡◌, ◌↔◌, ◌≤◌, ◌∷◌, [], ℕ, List, length, map, IsTrue, IfOk, OnOk, OnErr, Contains, vec_len, vec_capacity};
+ghost use Rattle.std.specs.Prelude.{◌≡◌, ◌↔◌, ◌<◌, ◌+◌, ◌∷◌, [], ℕ, List, length, map, IsTrue, IfOk, OnOk, OnErr, Contains, vec_len, vec_capacity};
 ghost use Rattle.fst_types.specs.Dependencies.{DirectlyOn, IsLiveNumber};
 ghost use Rattle.fst_types.specs.Lists.{Lists};
 ghost use Rattle.fst_heads.specs.Frames.{HasRoomBelow};
@@ -70,8 +70,7 @@ pub fn missing_names(
 /// The gate has the names besides, which add up to the sums. Where there is no memory it does not.
 pub fn gain(heads: &mut Vec<Head>, gate: u32, names: &[u32], sums: Sums) -> Result<(), AllocError>
     requires rising { IsRising heads.old.items }
-    requires counted { (x : Node) → Contains (nodes_of heads.old.items) x → (x.sums.count ≤ length x.patch.dependencies) × Fits x.sums }
-    requires names { sums.count ≤ length names.now }
+    requires counted { (x : Node) → Contains (nodes_of heads.old.items) x → x.patch.number ≡ gate → (x.sums.count + sums.count < 65536) × Fits x.sums }
     requires fits { Fits sums }
     ensures ok { OnOk result (nodes_of heads.new.items ≡ map (at_number gate (gains_names names.now sums)) (nodes_of heads.old.items)) }
     ensures same { OnErr result (nodes_of heads.new.items ≡ nodes_of heads.old.items) }
@@ -80,8 +79,6 @@ pub fn gain(heads: &mut Vec<Head>, gate: u32, names: &[u32], sums: Sums) -> Resu
     if let Some(slot) = slot_of(heads, gate) {
         let head = &mut heads[slot];
         head.dependencies.extend_from_slice(names)?;
-        // The row is as long as both counts together, so that their sum fits.
-        prove!(sums.count <= head.dependencies.len() - head.sums.count);
         head.sums = head.sums.with(sums);
     }
     Ok(())
@@ -90,8 +87,7 @@ pub fn gain(heads: &mut Vec<Head>, gate: u32, names: &[u32], sums: Sums) -> Resu
 /// The gate has the number besides, which has these sums. It takes no memory.
 pub fn gain_one(heads: &mut Vec<Head>, gate: u32, number: u32, sums: Sums)
     requires rising { IsRising heads.old.items }
-    requires counted { (x : Node) → Contains (nodes_of heads.old.items) x → (x.sums.count ≤ length x.patch.dependencies) × Fits x.sums }
-    requires one { sums.count ≤ 1 }
+    requires counted { (x : Node) → Contains (nodes_of heads.old.items) x → x.patch.number ≡ gate → (x.sums.count + sums.count < 65536) × Fits x.sums }
     requires fits { Fits sums }
     requires room { HasRoomBelow heads.old.items gate }
     ensures nodes { nodes_of heads.new.items ≡ map (at_number gate (gains_names (number ∷ []) sums)) (nodes_of heads.old.items) }
@@ -102,8 +98,6 @@ pub fn gain_one(heads: &mut Vec<Head>, gate: u32, number: u32, sums: Sums)
     if let Some(slot) = slot_of(heads, gate) {
         let head = &mut heads[slot];
         head.dependencies.push_reserved(number);
-        // The row is as long as both counts together, so that their sum fits.
-        prove!(sums.count <= head.dependencies.len() - head.sums.count);
         head.sums = head.sums.with(sums);
     }
 }

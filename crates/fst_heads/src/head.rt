@@ -4,10 +4,12 @@ use crate::pending::{Pending, Sums};
 use fst_types::{Grade, Place, Span};
 use smallvec::SmallVec;
 
-/// What a patch is. A change names its block, the bytes that it writes and its grade.
+/// What a patch is. A change has its grade, its block and the bytes that it writes. Heads are many, and move where others
+/// are forgotten, so that they are kept small: a shape has at most 4,096 blocks, which take 16 bits, and a grade and a block
+/// before the bytes take no more than the place that lies there anyway.
 #[derive(Clone, Copy)]
 pub enum Kind {
-    Change(u32, Span, Grade),
+    Change(Grade, u16, Span),
     Empty,
     OpenGate,
     SealedGate,

@@ -1,8 +1,8 @@
 //! What is still to be written before a patch is on disk, and how a row of patches adds up to that.
 
 ghost use Rattle.std.specs.Prelude.{◌≡◌, ◌<◌, ◌≢◌, ◌+◌};
-ghost use Rattle.fst_heads.specs.declared.pending.Pending.TheVariants as pending;
-ghost use Rattle.fst_heads.specs.Pendings.{is_pending, over_block, nothing, plus, minus, together, joined_sums, Fits, HasIn};
+ghost use Rattle.fst_heads.specs.declared.pending.Pending.TheVariants as pending_as;
+ghost use Rattle.fst_heads.specs.Pendings.{is_pending, over_block, join, nothing, plus, minus, together, joined_sums, Fits, HasIn};
 
 /// What has still to reach the disk of a patch and of all that it depends on.
 #[derive(Clone, Copy)]
@@ -10,7 +10,7 @@ pub enum Pending {
     /// It is on disk.
     Nothing,
     /// Changes of this block, and empty patches and sealed gates over them.
-    Block(u32),
+    Block(u16),
     /// Changes of more than one block, and empty patches and sealed gates over them.
     Apart,
     /// An open gate, and perhaps changes.
@@ -41,8 +41,18 @@ pub fn is_pending(pending: Pending, other: Pending) -> bool
     }
 }
 
+/// Whether changes of the block alone are pending.
+pub fn is_of_block(pending: Pending, block: u32) -> bool
+    ensures { result ≡ is_pending pending (pending_as.Block block) }
+{
+    match pending {
+        Pending::Block(own) => u32::from(own) == block,
+        Pending::Nothing | Pending::Apart | Pending::Held => false,
+    }
+}
+
 /// A change of the block over what is pending below it.
-pub fn over_block(block: u32, below: Pending) -> Pending
+pub fn over_block(block: u16, below: Pending) -> Pending
     ensures { result ≡ over_block block below }
 {
     match below {
@@ -57,16 +67,33 @@ pub fn over_block(block: u32, below: Pending) -> Pending
     }
 }
 
+/// What is pending of two patches together.
+pub fn join(pending: Pending, other: Pending) -> Pending
+    ensures { result ≡ join pending other }
+{
+    match pending {
+        Pending::Nothing => other,
+        Pending::Block(block) => over_block(block, other),
+        Pending::Apart => match other {
+            Pending::Held => Pending::Held,
+            Pending::Nothing | Pending::Block(_) | Pending::Apart => Pending::Apart,
+        },
+        Pending::Held => Pending::Held,
+    }
+}
+
 /// How many patches of a row are not on disk, how many of these wait for an open gate, and how many of the others for
 /// more than one block, and the sums of the blocks of the rest and of the squares of those blocks. The two sums tell
 /// whether all those blocks are the same, and follow where one patch of the row changes, without a look at the others.
+/// Blocks have 16 bits, and so has a count, since no more patches than 65,535 are not forgotten: that is why the sum of
+/// the blocks has 32 bits, and that of their squares 48.
 #[derive(Clone, Copy)]
 pub struct Sums {
-    pub count: usize,
-    pub held: usize,
-    pub apart: usize,
-    pub total: u128,
-    pub squares: u128,
+    pub count: u16,
+    pub held: u16,
+    pub apart: u16,
+    pub total: u32,
+    pub squares: u64,
 }
 
 /// The sums of no patch.
@@ -86,17 +113,17 @@ impl Sums {
     /// One patch more.
     pub fn add(&mut self, pending: Pending)
         requires fits { Fits self.old }
-        requires room { self.old.count < 18446744073709551615 }
+        requires room { (plus pending self.old).count < 65536 }
         ensures plus { self.new ≡ plus pending self.old }
         ensures fits { Fits self.new }
     {
         match pending {
             Pending::Nothing => {}
             Pending::Block(block) => {
-                let block = u128::from(block);
+                let wide = u64::from(block);
                 self.count += 1;
-                self.total += block;
-                self.squares += block * block;
+                self.total += u32::from(block);
+                self.squares += wide * wide;
             }
             Pending::Apart => {
                 self.count += 1;
@@ -113,15 +140,15 @@ impl Sums {
     fn take(&mut self, gone: Pending)
         requires { HasIn gone self.old }
         ensures minus { self.new ≡ minus gone self.old }
-        ensures room { gone ≢ pending.Nothing → self.new.count < 18446744073709551615 }
+        ensures room { gone ≢ pending_as.Nothing → self.new.count < 65535 }
     {
         match gone {
             Pending::Nothing => {}
             Pending::Block(block) => {
-                let block = u128::from(block);
+                let wide = u64::from(block);
                 self.count -= 1;
-                self.total -= block;
-                self.squares -= block * block;
+                self.total -= u32::from(block);
+                self.squares -= wide * wide;
             }
             Pending::Apart => {
                 self.count -= 1;
@@ -137,7 +164,7 @@ impl Sums {
     /// One patch of the row, which was not on disk, has something else pending.
     pub fn change(&mut self, old: Pending, new: Pending)
         requires has { HasIn old self.old }
-        requires live { old ≢ pending.Nothing }
+        requires live { old ≢ pending_as.Nothing }
         ensures moved { self.new ≡ plus new (minus old self.old) }
         ensures fits { Fits self.new }
     {
@@ -149,7 +176,7 @@ impl Sums {
     pub fn with(self, other: Sums) -> Sums
         requires fits { Fits self }
         requires other { Fits other }
-        requires room { self.count + other.count < 18446744073709551616 }
+        requires room { self.count + other.count < 65536 }
         ensures { result ≡ together self other }
     {
         Sums {
@@ -175,10 +202,10 @@ impl Sums {
         if self.apart > 0 {
             return Pending::Apart;
         }
-        let count = self.count as u128;
+        let count = u32::from(self.count);
         let block = self.total / count;
-        if block * count == self.total && block * self.total == self.squares {
-            Pending::Block(block as u32)
+        if block * count == self.total && u64::from(block) * u64::from(self.total) == self.squares {
+            Pending::Block(block as u16)
         } else {
             Pending::Apart
         }

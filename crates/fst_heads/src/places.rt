@@ -39,7 +39,7 @@ fn is_on(kind: Kind, block: u32) -> bool
     ensures { result ≡ is_on block (kind_of kind) }
 {
     match kind {
-        Kind::Change(on, _, _) => on == block,
+        Kind::Change(_, on, _) => u32::from(on) == block,
         Kind::Empty | Kind::OpenGate | Kind::SealedGate => false,
     }
 }
@@ -78,7 +78,7 @@ pub fn block_of(heads: &[Head], number: u32) -> Option<u32>
 {
     let slot = slot_of(heads, number)?;
     match heads[slot].kind {
-        Kind::Change(block, _, _) => Some(block),
+        Kind::Change(_, block, _) => Some(u32::from(block)),
         Kind::Empty | Kind::OpenGate | Kind::SealedGate => None,
     }
 }

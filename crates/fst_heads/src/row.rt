@@ -1,6 +1,6 @@
 //! Rows of numbers, and the names that a call is given.
 
-ghost use Rattle.std.specs.Prelude.{◌≡◌, ◌≤◌, ◌+◌, ◌↔◌, length, IsTrue, IfOk, OnOk, Contains};
+ghost use Rattle.std.specs.Prelude.{◌≡◌, ◌≤◌, ◌<◌, ◌+◌, ◌↔◌, length, IsTrue, IfOk, OnOk, Contains};
 ghost use Rattle.std.specs.List.Sorted.{IsStrictlyIncreasing};
 ghost use Rattle.fst_types.specs.Dependencies.{IsLiveNumber};
 ghost use Rattle.fst_types.specs.Gates.{IsGiven};
@@ -11,13 +11,13 @@ ghost use Rattle.fst_heads.specs.Heads.{IsRising, patch_of, patches_of};
 ghost use Rattle.fst_heads.specs.Names.{numbers_of};
 ghost use Rattle.fst_heads.specs.Lists.{entries_of, entries_on};
 ghost use Rattle.fst_heads.specs.Nodes.{nodes_of, pending_in};
-ghost use Rattle.fst_heads.specs.Pendings.{Fits, sums_of};
+ghost use Rattle.fst_heads.specs.Pendings.{Fits, joined, sums_of};
 ghost use Rattle.fst_heads.specs.Rows.{Gains, shares, IsDependency};
 
 use crate::head::Head;
 use crate::lists::Listed;
 use crate::marks::slot_of;
-use crate::pending::{Pending, Sums, no_sums};
+use crate::pending::{Pending, Sums, join, no_sums};
 use crate::test::is_live;
 use fst_types::{PatchNo, Span};
 use smallvec::SmallVec;
@@ -140,9 +140,22 @@ pub fn pending_at(heads: &[Head], number: u32) -> Pending
     }
 }
 
+/// What is pending of the row.
+pub fn row_pending(heads: &[Head], row: &[u32]) -> Pending
+    requires { IsRising heads.now }
+    ensures { result ≡ joined (pending_in (nodes_of heads.now)) row.now }
+{
+    let mut pending = Pending::Nothing;
+    for number in row {
+        pending = join(pending_at(heads, *number), pending);
+    }
+    pending
+}
+
 /// What the row adds up to.
 pub fn row_sums(heads: &[Head], row: &[u32]) -> Sums
-    requires { IsRising heads.now }
+    requires rising { IsRising heads.now }
+    requires room { (sums_of (pending_in (nodes_of heads.now)) row.now).count < 65536 }
     ensures sums { result ≡ sums_of (pending_in (nodes_of heads.now)) row.now }
     ensures fits { Fits result }
     ensures few { result.count ≤ length row.now }

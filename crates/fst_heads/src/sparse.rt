@@ -30,7 +30,9 @@ fn touches(head: &Head, block: u32, span: Span) -> bool
     ensures { result ≡ touches block span.at span.len (patch_of head.now) }
 {
     match head.kind {
-        Kind::Change(on, own, _) => is_live(head.place) && on == block && shares(own, span),
+        Kind::Change(_, on, own) => is_live(head.place)
+            && u32::from(on) == block
+            && shares(own, span),
         Kind::Empty | Kind::OpenGate | Kind::SealedGate => false,
     }
 }

@@ -166,7 +166,7 @@ pub fn settle_slot(
     let head = &mut heads[slot];
     let old = head.pending;
     let new = pending_now(head);
-    if let Kind::Change(block, _, _) = head.kind {
+    if let Kind::Change(_, block, _) = head.kind {
         if let Place::Memory = head.place {
             if is_pending(new, Pending::Block(block)) {
                 standings[block as usize].release(head.kind);

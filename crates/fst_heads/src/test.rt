@@ -27,16 +27,16 @@ pub fn passes(test: Test, head: &Head) -> bool
     ensures { result ≡ passes test (patch_of head.now) }
 {
     match head.kind {
-        Kind::Change(block, _, _) => match test {
+        Kind::Change(_, block, _) => match test {
             Test::Numbered(number) => head.number == number,
             Test::Open => false,
             Test::Obstacle(on) => match head.place {
-                Place::Memory => block != on,
+                Place::Memory => u32::from(block) != on,
                 Place::Flight => true,
                 Place::Disk => false,
             },
-            Test::LiveOn(on) => is_live(head.place) && block == on,
-            Test::LiveOff(on) => is_live(head.place) && block != on,
+            Test::LiveOn(on) => is_live(head.place) && u32::from(block) == on,
+            Test::LiveOff(on) => is_live(head.place) && u32::from(block) != on,
         },
         Kind::OpenGate => match test {
             Test::Numbered(number) => head.number == number,

@@ -65,8 +65,8 @@ module _ (heads : List Head) (rising : IsRising heads) (needs : ℕ → List ℕ
     shows_none = record { kept = λ c r. r; only = λ c r. inl r; each = λ c x. absurd (none c (on_here c x)) }
 
 -- what is no change is on no block
-pub no_change : (k : Kind) → ((block : ℕ) (span : _) (grade : Grade) → k ≡ kinds.Change block span grade → ⊥) → (c : ℕ) → block_of_kind (kind_of k) ≡ Some c → ⊥
-no_change (kinds.Change block span grade) none c e = none block span grade refl
+pub no_change : (k : Kind) → ((grade : Grade) (block : ℕ) (span : _) → k ≡ kinds.Change grade block span → ⊥) → (c : ℕ) → block_of_kind (kind_of k) ≡ Some c → ⊥
+no_change (kinds.Change grade block span) none c e = none grade block span refl
 no_change kinds.Empty none c e = cc
 no_change kinds.OpenGate none c e = cc
 no_change kinds.SealedGate none c e = cc

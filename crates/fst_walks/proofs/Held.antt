@@ -4,17 +4,13 @@ use Rattle.fst_types.specs.{Closure.{IsAcyclic, one, join}, Dependencies.{Direct
 use Rattle.fst_types.specs.{Patches.{Kind, Change, Empty, OpenGate, SealedGate, IsRising, IsOpenGate}, declared.place.Place.Place}
 use Rattle.fst_types.proofs.Finite.{In, In-from_Contains, Contains-from_In, lowest}
 use Rattle.fst_heads.specs.{Grading.HasUnder, Heads.{IsRising as HeadsRise, patches_of}, Marks.IsAbove}
-use Rattle.fst_heads.specs.{Nodes.{Node, nodes_of, patches_in, pending_in, AreSettled}, Pendings.{join as together, joined, joined_sums, of_kind, sums_of}, declared.head.Head.Head}
-use Rattle.fst_heads.specs.declared.pending.{Pending.Pending, Sums.Sums}
-use Rattle.fst_heads.proofs.{AtNumber.patches_in_nodes, Joining.{join_held, held_join}, Listing.rising_patches, PendingIn.{found, told_of}, Sums.joined_exact}
+use Rattle.fst_heads.specs.{Nodes.{Node, nodes_of, patches_in, pending_in, AreSettled}, Pendings.{join as together, joined, of_kind}, declared.head.Head.Head}
+use Rattle.fst_heads.specs.declared.pending.Pending.{Pending}
+use Rattle.fst_heads.proofs.{AtNumber.patches_in_nodes, Joining.{join_held, held_join}, Listing.rising_patches, PendingIn.{found, told_of}}
 use Rattle.fst_heads.proofs.Placed.{patch_in, node_of_patch}
 use Rattle.fst_walks.specs.Searching.{AreHeldByGates}
 use Rattle.fst_types.specs.declared.place.Place.TheVariants as place
 use Rattle.fst_heads.specs.declared.pending.Pending.TheVariants as pending
-
--- the sums of a row tell what is pending of it
-pub summed_row : (nodes : List Node) (row : List ℕ) (sums : Sums) (p : Pending) → sums ≡ sums_of (pending_in nodes) row → p ≡ joined_sums sums → joined (pending_in nodes) row ≡ p
-summed_row nodes row sums p e f = sym (joined_exact (pending_in nodes) row) ∙ (ap joined_sums (sym e) ∙ sym f)
 
 -- a row waits for an open gate exactly where one in it does
 row_held : (told : ℕ → Pending) (row : List ℕ) → joined told row ≡ pending.Held → (n : ℕ) × In row n × (told n ≡ pending.Held)

@@ -18,7 +18,7 @@ use crate::walk::Walk;
 use fst_heads::head::Head;
 use fst_heads::lists::Listed;
 use fst_heads::marks::slot_of;
-use fst_heads::pending::{Pending, is_pending};
+use fst_heads::pending::is_of_block;
 use fst_heads::places::is_change_at;
 use fst_heads::row::pending_at;
 use fst_heads::standing::{Standing, is_resting};
@@ -59,7 +59,7 @@ fn visit_waiting(heads: &[Head], walk: &mut Walk, row: &[u32], block: u32)
     ensures visits { Visits (λ n. Contains row.now n × (pending_in (nodes_of heads.now) n ≡ pending.Block block)) (numbers_met heads.now walk.old) (numbers_met heads.now walk.new) }
 {
     for number in row {
-        if is_pending(pending_at(heads, *number), Pending::Block(block)) {
+        if is_of_block(pending_at(heads, *number), block) {
             visit(heads, walk, *number);
         }
     }

@@ -111,8 +111,8 @@ fn raise_floor(floors: &mut Vec<u32>, head: &Head, to: u32)
     ensures raised { (c : ℕ) → IsHardIn (patch_of head.now) c → floor_of floors.new.items c ≡ to }
     ensures rest { (c : ℕ) → (IsHardIn (patch_of head.now) c → ⊥) → floor_of floors.new.items c ≡ floor_of floors.old.items c }
 {
-    if let Kind::Change(block, _, _) = head.kind {
-        if is_hard_in(head, block) {
+    if let Kind::Change(_, block, _) = head.kind {
+        if is_hard_in(head, block as u32) {
             floors[block as usize] = to;
         }
     }

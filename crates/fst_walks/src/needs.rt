@@ -79,9 +79,10 @@ fn is_stood_for(heads: &[Head], needs: &[Need], block: u32, number: u32) -> bool
         return false;
     };
     let head = &heads[slot];
-    let Kind::Change(of, _, _) = head.kind else {
+    let Kind::Change(_, of, _) = head.kind else {
         return false;
     };
+    let of = of as u32;
     if !is_hard_in(head, of) {
         return false;
     }

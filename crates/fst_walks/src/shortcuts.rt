@@ -24,7 +24,7 @@ use fst_heads::head::{Head, Kind};
 use fst_heads::marks::slot_of;
 use fst_heads::pending::{Pending, is_pending};
 use fst_heads::places::is_change_at;
-use fst_heads::row::{pending_at, row_sums};
+use fst_heads::row::{pending_at, row_pending};
 use fst_heads::test::{Test, passes};
 use fst_types::Place;
 
@@ -54,7 +54,7 @@ pub fn waits_for_gate(heads: &[Head], row: &[u32]) -> bool
     requires settled { (blocks : ℕ) × AreSettled (nodes_of heads.now) blocks }
     ensures { IsTrue result ↔ HasUnder (patches_of heads.now) row.now (IsOpenNumber (patches_of heads.now)) }
 {
-    is_pending(row_sums(heads, row).joined(), Pending::Held)
+    is_pending(row_pending(heads, row), Pending::Held)
 }
 
 // Whether that is nothing, or changes of the block alone.
@@ -63,7 +63,7 @@ fn is_own(told: Pending, block: u32) -> bool
 {
     match told {
         Pending::Nothing => true,
-        Pending::Block(other) => other == block,
+        Pending::Block(other) => u32::from(other) == block,
         Pending::Apart | Pending::Held => false,
     }
 }
@@ -85,8 +85,8 @@ fn waits_for_own(heads: &[Head], block: u32, number: u32) -> bool
     let head = &heads[slot];
     match head.kind {
         Kind::OpenGate => {
-            let below = row_sums(heads, head.dependencies.as_slice());
-            is_own(below.joined(), block)
+            let below = row_pending(heads, head.dependencies.as_slice());
+            is_own(below, block)
         }
         Kind::Change(_, _, _) | Kind::Empty | Kind::SealedGate => false,
     }

@@ -70,7 +70,8 @@ fn step(sight: &Sight<'_>, up: &Walk, slot: usize, block: u32, most: usize) -> O
         }
     }
     match head.kind {
-        Kind::Change(own, _, _) => {
+        Kind::Change(_, own, _) => {
+            let own = own as u32;
             if own == block {
                 None
             } else {

@@ -85,7 +85,8 @@ fn cross(
     ensures visits { Visits (λ q. CrossesDown (patches_of sight.now.heads.now) (needs_of sight.now.needs.now.lists) crossed.old number q × (least ≤ level_of sight.now.levels.now.ranks q)) (numbers_met sight.now.heads.now walk.old) (numbers_met sight.now.heads.now walk.new) }
     ensures crossed { ShowsBlockUnder (patches_of sight.now.heads.now) number crossed.old crossed.new }
 {
-    if let Kind::Change(block, _, _) = sight.heads[slot].kind {
+    if let Kind::Change(_, block, _) = sight.heads[slot].kind {
+        let block = block as u32;
         if !crossed[block as usize] {
             crossed[block as usize] = true;
             return visit_high_needs(sight, walk, block, least);

@@ -88,7 +88,8 @@ fn cross(
     ensures visits { Visits (λ q. Crosses (patches_of sight.now.heads.now) crossed.old number q × (level_of sight.now.levels.now.ranks q ≤ most)) (numbers_met sight.now.heads.now walk.old) (numbers_met sight.now.heads.now walk.new) }
     ensures crossed { ShowsBlockOf (patches_of sight.now.heads.now) number crossed.old crossed.new }
 {
-    if let Kind::Change(block, _, _) = sight.heads[slot].kind {
+    if let Kind::Change(_, block, _) = sight.heads[slot].kind {
+        let block = block as u32;
         if is_hard_in(&sight.heads[slot], block) {
             if !crossed[block as usize] {
                 crossed[block as usize] = true;

@@ -25,7 +25,7 @@ use fst_heads::growth::gain_one;
 use fst_heads::head::{Head, Kind};
 use fst_heads::links::link;
 use fst_heads::lists::Listed;
-use fst_heads::pending::{Pending, is_pending};
+use fst_heads::pending::{Pending, is_of_block};
 use fst_heads::row::row_sums;
 use fst_heads::standing::Standing;
 use fst_types::{BlockNo, Fault, Grade, PatchNo, Place, Span};
@@ -38,7 +38,7 @@ use std::alloc::Global;
 // The gate gains the number, which is that of the newest patch.
 fn tie(alloc: Global, heads: &mut Vec<Head>, gate: u32, number: u32)
     requires rising { IsRising heads.old.items }
-    requires counted { (x : Node) → Contains (nodes_of heads.old.items) x → (x.sums.count ≤ length x.patch.dependencies) × Fits x.sums }
+    requires counted { (x : Node) → Contains (nodes_of heads.old.items) x → x.patch.number ≡ gate → (x.sums.count + (sums_of (pending_in (nodes_of heads.old.items)) (number ∷ [])).count < 65536) × Fits x.sums }
     requires below { HasRoomBelow heads.old.items gate }
     requires above { HasRoomAbove heads.old.items (number ∷ []) }
     ensures { nodes_of heads.new.items ≡ map (linked_to (number ∷ []) gate) (map (at_number gate (gains_names (number ∷ []) (sums_of (pending_in (nodes_of heads.old.items)) (number ∷ [])))) (nodes_of heads.old.items)) }
@@ -66,7 +66,7 @@ fn enlist(
     ensures entered { (d : Counts) → standings.new.items ≡ slice_set standings.old.items block (entered (is_hard_kind (kind_of kind)) (is_pending pending (pending_as.Block block)) (slice_index_or standings.old.items block d)) }
 {
     lists[block as usize].push_reserved(listed);
-    standings[block as usize].enter(kind, is_pending(pending, Pending::Block(block)));
+    standings[block as usize].enter(kind, is_of_block(pending, block));
 }
 
 impl Sparse {
@@ -133,7 +133,7 @@ impl Sparse {
         let grade = prepared.told.grade;
         let span = prepared.span;
         let block = prepared.block;
-        let kind = Kind::Change(block, span, grade);
+        let kind = Kind::Change(grade, block as u16, span);
         let row = prepared.dependencies.as_slice();
         let sight = Sight {
             heads: &self.heads,

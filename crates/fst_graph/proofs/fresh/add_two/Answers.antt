@@ -37,6 +37,13 @@ put_down-requires-2-clause-above c =
 pub put_down-requires-2-clause-places : goal.put_down-requires-2-clause-places
 put_down-requires-2-clause-places c = c.put_down.ensures.places 1 c.in_ok-reserve_heads.ensures.places
 
+pub put_down-requires-clause-few : goal.put_down-requires-clause-few
+put_down-requires-clause-few c = omega (arith, ap length c.reserve_heads.ensures.same, c.requires.few)
+
+pub put_down-requires-2-clause-few : goal.put_down-requires-2-clause-few
+put_down-requires-2-clause-few c =
+    omega (arith, ap length c.reserve_heads.ensures.same, c.requires.few, c.put_down.ensures.len, c.reserve_heads.new.heads.ok.0, c.put_down.new.heads.ok.0)
+
 pub returns-clause-added : goal.returns-clause-added
 returns-clause-added c =
     let R = c.reserve_heads.ensures.roomier in

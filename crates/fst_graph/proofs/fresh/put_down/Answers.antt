@@ -1,9 +1,9 @@
 use Rattle.std.proofs.Common.{◌≡◌, ◌∙◌, Contains, arith, false, length, sym, refl, ap, subst}
-use Rattle.std.proofs.lemmas.List.{length_push}
-use Rattle.fst_heads.specs.{Heads.{kind_of, patch_of, patches_of}, Nodes.{nodes_of, pending_in}, Pendings.{joined, joined_sums, of_kind, sums_of}}
+use Rattle.std.proofs.lemmas.List.{length-map, length_push}
+use Rattle.fst_heads.specs.{Heads.{kind_of, patch_of, patches_of}, Nodes.{node_of, nodes_of, pending_in}, Pendings.{joined, joined_sums, of_kind, sums_of}}
 use Rattle.fst_graph.specs.Fresh.{patch_from}
 use Rattle.fst_types.proofs.Finite.{In-from_Contains, Contains-from_In, In-map}
-use Rattle.fst_heads.proofs.{Framed.{pushed_above, pushed_below}, Sums.joined_exact}
+use Rattle.fst_heads.proofs.{Few.{apart_rising, row_few}, Framed.{pushed_above, pushed_below}, Sums.joined_exact}
 use Rattle.fst_walks.proofs.Seen.{linked_patches}
 use Rattle.fst_graph.proofs.Made.{put_nodes, summed}
 use Rattle.fst_graph.proofs.fresh.put_down.Goals as goal
@@ -17,6 +17,12 @@ pending c =
     let told = pending_in (nodes_of c.args.heads.now.items) in
     let row = c.args.fresh.dependencies.items in
     c.pending_over-pending.ensures ∙ ap (of_kind (kind_of c.args.fresh.kind) c.args.fresh.place) (c.joined.ensures ∙ (ap joined_sums (sums c) ∙ joined_exact told row))
+
+pub row_sums-sums-requires-clause-room : goal.row_sums-sums-requires-clause-room
+row_sums-sums-requires-clause-room c =
+    let heads = c.args.heads.now.items in
+    let few = row_few (nodes_of heads) c.args.fresh.dependencies.items (apart_rising c.args.fresh.dependencies.items c.requires.once) in
+    rw (c.deref.ensures.value, c.as_slice-row.ensures) (omega (arith, few, c.requires.few, length-map heads node_of))
 
 pub returns-clause-put : goal.returns-clause-put
 returns-clause-put c =

@@ -1,4 +1,4 @@
-use Rattle.fst_heads.proofs.{Basics.{◌≡◌, ◌∙◌, ℕ, List, Contains, get_or, ap, sym, subst, inl, inr}, Patches.{Patch, block_of_kind}}
+use Rattle.fst_heads.proofs.{Basics.{◌≡◌, ◌∙◌, ℕ, List, Some, Contains, get_or, ap, sym, subst, inl, inr}, Patches.{Patch, block_of_kind}}
 use Rattle.fst_heads.proofs.{Words.{Head, IsRising, kind_of, patches_of, HasSlot}, Slots.{patch_is, slot_in, patch_slot, none_slot}}
 use Rattle.fst_heads.proofs.places.block_of.Goals as goal
 
@@ -14,7 +14,7 @@ returns-in_err-slot c p there numbered =
 
 pub returns-in-Change : goal.returns-in-Change
 returns-in-Change c p there numbered =
-    sym (ap (λ k. block_of_kind (kind_of k)) c.in-Change.is) ∙ block_at c.args.heads.now p c.args.number c.in_ok-slot.slot _ c.requires c.in_ok-slot.ensures.found there numbered
+    ap Some c.from.ensures ∙ (sym (ap (λ k. block_of_kind (kind_of k)) c.in-Change.is) ∙ block_at c.args.heads.now p c.args.number c.in_ok-slot.slot _ c.requires c.in_ok-slot.ensures.found there numbered)
 
 pub returns-in-Empty : goal.returns-in-Empty
 returns-in-Empty c p there numbered =

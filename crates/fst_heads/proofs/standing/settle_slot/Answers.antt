@@ -19,7 +19,7 @@ pending_now-new-requires c =
 pub index_mut-requires : goal.index_mut-requires
 index_mut-requires c =
     let h = c.index_mut-head.result.now in
-    c.requires.inside (node_of h) c.in-Change.block c.in-Change.field-1.at c.in-Change.field-1.len c.in-Change.field-2
+    c.requires.inside (node_of h) c.in-Change.block c.in-Change.field-2.at c.in-Change.field-2.len c.in-Change.field-0
     (node_in c.args.heads.now.items c.args.slot h (omega (arith, c.requires.slot, c.args.heads.now.ok.0)) c.index_mut-head.ensures.value) (ap kind_of c.in-Change.is)
 
 -- the facts of the slot at the head that stands there
@@ -34,8 +34,8 @@ off_memory : (p : Place) (on : Bool) → (p ≡ place.Memory → ⊥) → (is_at
 off_memory place.Memory on not = absurd (not refl)
 off_memory p on not = refl
 
-off_change : (b : ℕ) (k : Kind) (here : Bool) → ((block : ℕ) (span : Span) (grade : Grade) → k ≡ kinds.Change block span grade → ⊥) → (here && is_on b (kind_of k)) ≡ false
-off_change b (kinds.Change block span grade) here not = absurd (not block span grade refl)
+off_change : (b : ℕ) (k : Kind) (here : Bool) → ((grade : Grade) (block : ℕ) (span : Span) → k ≡ kinds.Change grade block span → ⊥) → (here && is_on b (kind_of k)) ≡ false
+off_change b (kinds.Change grade block span) here not = absurd (not grade block span refl)
 off_change b k here not = and_right here false refl
 
 -- what the test says of the answer it says of what is pending now
@@ -53,9 +53,9 @@ release-requires c =
     let lt : s < length heads = omega (arith, c.requires.slot, c.args.heads.now.ok.0) in
     let e = c.index_mut-head.ensures.value in
     let at = node_at heads s h (node_of h) lt e in
-    let inside = c.requires.inside (node_of h) c.in-Change.block c.in-Change.field-1.at c.in-Change.field-1.len c.in-Change.field-2 (node_in heads s h lt e) (ap kind_of c.in-Change.is) in
+    let inside = c.requires.inside (node_of h) c.in-Change.block c.in-Change.field-2.at c.in-Change.field-2.len c.in-Change.field-0 (node_in heads s h lt e) (ap kind_of c.in-Change.is) in
     let few = few_ready heads s h lt e (vec_len c.args.standings.now) c.args.standings.now.items c.requires.standing
-    c.in-Change.block c.in-Change.field-1.at c.in-Change.field-1.len c.in-Change.field-2 (ap kind_of c.in-Change.is) c.in-Memory.is
+    c.in-Change.block c.in-Change.field-2.at c.in-Change.field-2.len c.in-Change.field-0 (ap kind_of c.in-Change.is) c.in-Memory.is
     (slot_sinks heads s h at (λ d. (c.requires.untold d).sinks)) (slot_untold heads s h at (λ d. (c.requires.untold d).untold)) inside c.index_mut.result.now c.index_mut.ensures.value
     (is_block_now h c.pending_now-new.result c.in-Change.block c.pending_now-new.ensures (sym c.is_pending.ensures ∙ c.if-is_pending.true)) in
     record {
@@ -80,14 +80,14 @@ returns-clause-standing c =
       | in-Change+in-Memory+else-is_pending w ↦
           subst (λ (v : Vec Standing Global). AllStand (nodes_of (set heads s after)) (vec_len c.args.standings.now) v.items) (sym w.standings-is)
           (stand_held heads s h lt e (vec_len c.args.standings.now) c.args.standings.now.items c.requires.standing
-          w.in-Change.block w.in-Change.field-1.at w.in-Change.field-1.len w.in-Change.field-2 (ap kind_of w.in-Change.is) w.in-Memory.is
+          w.in-Change.block w.in-Change.field-2.at w.in-Change.field-2.len w.in-Change.field-0 (ap kind_of w.in-Change.is) w.in-Memory.is
           (slot_sinks heads s h at (λ d. (c.requires.untold d).sinks)) (slot_untold heads s h at (λ d. (c.requires.untold d).untold))
           after same (not_block_now h c.pending_now-new.result w.in-Change.block c.pending_now-new.ensures (sym w.is_pending.ensures ∙ w.if-is_pending.false)))
       | in-Change+in-Memory+then-is_pending w ↦
-          let inside = c.requires.inside (node_of h) w.in-Change.block w.in-Change.field-1.at w.in-Change.field-1.len w.in-Change.field-2 (node_in heads s h lt e) (ap kind_of w.in-Change.is) in
+          let inside = c.requires.inside (node_of h) w.in-Change.block w.in-Change.field-2.at w.in-Change.field-2.len w.in-Change.field-0 (node_in heads s h lt e) (ap kind_of w.in-Change.is) in
           subst (λ (v : Vec Standing Global). AllStand (nodes_of (set heads s after)) (vec_len c.args.standings.now) v.items) (sym w.standings-is)
           (stand_freed heads s h lt e (vec_len c.args.standings.now) c.args.standings.now.items c.requires.standing
-          w.in-Change.block w.in-Change.field-1.at w.in-Change.field-1.len w.in-Change.field-2 (ap kind_of w.in-Change.is) w.in-Memory.is
+          w.in-Change.block w.in-Change.field-2.at w.in-Change.field-2.len w.in-Change.field-0 (ap kind_of w.in-Change.is) w.in-Memory.is
           (slot_sinks heads s h at (λ d. (c.requires.untold d).sinks)) (slot_untold heads s h at (λ d. (c.requires.untold d).untold)) inside w.index_mut.result.now w.index_mut.ensures.value
           (is_block_now h c.pending_now-new.result w.in-Change.block c.pending_now-new.ensures (sym w.is_pending.ensures ∙ w.if-is_pending.true)) after same w.release.new.self w.release.ensures)
       | in-Change+in_default-place w ↦

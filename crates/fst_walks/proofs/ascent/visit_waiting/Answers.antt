@@ -3,7 +3,7 @@ use Rattle.std.proofs.{lemmas.Bool.false≢true, lemmas.List.{take_all, take_mor
 use Rattle.fst_types.specs.Dependencies.{IsLiveNumber}
 use Rattle.fst_heads.specs.{Heads.patches_of, Nodes.{nodes_of, pending_in}, Pendings.is_pending}
 use Rattle.fst_walks.specs.{Descending.Visits, Walks.numbers_met}
-use Rattle.fst_walks.proofs.{Low.{is_block, block_is}, Visiting.{visits_next, visits_skip}, ascent.visit_waiting.Goals.{then-is_pending, else-is_pending}}
+use Rattle.fst_walks.proofs.{Low.{is_block, block_is}, Visiting.{visits_next, visits_skip}, ascent.visit_waiting.Goals.{then-is_of_block, else-is_of_block}}
 use Rattle.fst_heads.specs.declared.pending.Pending.TheVariants as pending
 use Rattle.fst_walks.proofs.ascent.visit_waiting.Goals as goal
 
@@ -16,18 +16,18 @@ loop-number-preserved c =
     let n = get_or row i 0 in
     let old = numbers_met c.args.heads.now c.args.walk.now in
     let mid = numbers_met c.args.heads.now c.loop-number.walk in
-    let said = ap (λ p. is_pending p (pending.Block c.args.block)) (sym c.pending_at.ensures) ∙ sym c.is_pending.ensures in
-    elim c.if-is_pending.branch [
-      | then-is_pending w ↦
-          let own : P n = is_block c.args.block (pending_in (nodes_of c.args.heads.now) n) (said ∙ w.if-is_pending.true) in
+    let said = ap (λ p. is_pending p (pending.Block c.args.block)) (sym c.pending_at.ensures) ∙ sym c.is_of_block.ensures in
+    elim c.if-is_of_block.branch [
+      | then-is_of_block w ↦
+          let own : P n = is_block c.args.block (pending_in (nodes_of c.args.heads.now) n) (said ∙ w.if-is_of_block.true) in
           rw (w.walk-is) record {
             visited = w.visit.ensures.visited;
             visits = rw (take_more row i 0 c.loop-number-test.true) (visits_next P L (take i row) n old mid (numbers_met c.args.heads.now w.visit.new.walk) c.requires.live (λ l. own) c.loop-number.invariant.visits w.visit.ensures.visits);
           }
-      | else-is_pending w ↦ rw (w.walk-is) record {
+      | else-is_of_block w ↦ rw (w.walk-is) record {
         visited = c.loop-number.invariant.visited;
         visits = rw (take_more row i 0 c.loop-number-test.true)
-            (visits_skip P (take i row) n old mid (λ own. false≢true (sym (said ∙ w.if-is_pending.false) ∙ block_is c.args.block (pending_in (nodes_of c.args.heads.now) n) own)) c.loop-number.invariant.visits);
+            (visits_skip P (take i row) n old mid (λ own. false≢true (sym (said ∙ w.if-is_of_block.false) ∙ block_is c.args.block (pending_in (nodes_of c.args.heads.now) n) own)) c.loop-number.invariant.visits);
       }
     ]
 

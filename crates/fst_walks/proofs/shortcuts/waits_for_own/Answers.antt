@@ -1,7 +1,7 @@
 use Rattle.std.proofs.Common.{◌∙◌, ap, refl, sym, subst, inl, inr, Contains}
-use Rattle.fst_heads.specs.{Grading.LeadsNowhere, Heads.{kind_of, patch_of, patches_of}, Nodes.nodes_of}
+use Rattle.fst_heads.specs.{Grading.LeadsNowhere, Heads.{kind_of, patch_of, patches_of}}
 use Rattle.fst_heads.proofs.{Slots.patch_at, Slotted.number_in}
-use Rattle.fst_walks.proofs.{Held.summed_row, OwnBlock.{block_nowhere, gate_nowhere, nothing_nowhere, own_number_nowhere}}
+use Rattle.fst_walks.proofs.OwnBlock.{block_nowhere, gate_nowhere, nothing_nowhere, own_number_nowhere}
 use Rattle.fst_walks.proofs.shortcuts.waits_for_own.Goals as goal
 
 pub returns-then-is_own : goal.returns-then-is_own
@@ -17,7 +17,7 @@ returns-in-OpenGate c own =
     let here : Contains (patches_of heads) (patch_of h) = subst (λ x. Contains (patches_of heads) (patch_of x)) (sym c.index-heads-slot.is) (patch_at heads c.in-Some.slot h slot.0) in
     let below = h.dependencies.items in
     let row = c.as_slice.result.now in
-    let said = summed_row (nodes_of heads) row c.row_sums-below.result c.joined.result c.row_sums-below.ensures.sums c.joined.ensures in
+    let said = sym c.row_pending-below.ensures in
     let leads : LeadsNowhere (patches_of heads) c.args.block row = elim (c.is_own-in-OpenGate.ensures own) [
       | inl e ↦ nothing_nowhere heads c.requires.settled.0 c.requires.rising c.requires.disk c.requires.settled.1 c.args.block row (said ∙ e)
       | inr e ↦ block_nowhere heads c.requires.settled.0 c.requires.rising c.requires.disk c.requires.settled.1 c.args.block row (said ∙ e)

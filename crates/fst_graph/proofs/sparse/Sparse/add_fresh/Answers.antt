@@ -1,5 +1,5 @@
-use Rattle.std.proofs.Common.{◌+◌, ◌∙◌, refl, sym, ap, subst, arith}
-use Rattle.fst_heads.specs.{Heads.patches_of}
+use Rattle.std.proofs.{Common.{◌+◌, ◌∙◌, refl, sym, ap, subst, arith}, lemmas.List.length-map}
+use Rattle.fst_heads.specs.Heads.{patch_of, patches_of}
 use Rattle.fst_heads.proofs.Beside.{weighs}
 use Rattle.fst_walks.proofs.Seen.{same_patches}
 use Rattle.fst_walks.specs.Leveling.{IsLeveled}
@@ -30,6 +30,9 @@ invariant_of-self-2 c =
 
 pub returns-clause-ok : goal.returns-clause-ok
 returns-clause-ok c = rw (← c.self.view_is, c.let_go.ensures, put_patches c.self.inside.heads.items c.add_one.new.heads.items (patch_from c.args.fresh) c.in-Ok.ensures.added.head.nodes) (refl, refl)
+
+pub add_one-requires-clause-few : goal.add_one-requires-clause-few
+add_one-requires-clause-few c = omega (arith, c.self.invariant.keeps.few, length-map c.self.inside.heads.items patch_of)
 
 pub add_one-requires-clause-given : goal.add_one-requires-clause-given
 add_one-requires-clause-given c = let next = (may (goal.at.add_one-requires-clause-given c).After-weight-live).next in omega (arith, next)

@@ -1,6 +1,6 @@
-use Rattle.std.proofs.Common.{◌≡◌, ◌+◌, ◌++◌, ◌∷◌, ◌∙◌, [], ap, arith, refl, subst, sym}
+use Rattle.std.proofs.{Common.{◌≡◌, ◌+◌, ◌++◌, ◌∷◌, ◌∙◌, [], ap, arith, refl, subst, sym}, lemmas.List.length-map}
 use Rattle.fst_types.specs.{Making.fresh, Patches.OpenGate}
-use Rattle.fst_heads.specs.Heads.{patches_of}
+use Rattle.fst_heads.specs.Heads.{patch_of, patches_of}
 use Rattle.fst_walks.proofs.Seen.{same_patches}
 use Rattle.fst_graph.specs.Fresh.{MayAdd}
 use Rattle.fst_graph.proofs.{Adding.gate_may, Made.{added_sound, put_patches}, Paired.{adds_pair, pair_may, paired, with_head}, Sound.roomier_sound}
@@ -11,6 +11,9 @@ add_two-requires-clause-lawful c = c.self.invariant.keeps.lawful
 
 pub add_two-requires-clause-given : goal.add_two-requires-clause-given
 add_two-requires-clause-given c = let full = c.in_default.ensures.clear.1.0 in omega (arith, full)
+
+pub add_two-requires-clause-few : goal.add_two-requires-clause-few
+add_two-requires-clause-few c = let full = c.in_default.ensures.clear.0 in omega (arith, full, length-map c.self.inside.heads.items patch_of)
 
 pub invariant_of-self-in_default-add_two : goal.invariant_of-self-in_default-add_two
 invariant_of-self-in_default-add_two c = rw c.let_go.ensures (roomier_sound c.self.invariant c.in_default-add_two.ensures.roomier)

@@ -1,10 +1,10 @@
-use Rattle.std.proofs.Common.{◌∙◌, length, refl, sym, ap, subst, None, inl, inr, arith}
+use Rattle.std.proofs.{Common.{◌∙◌, length, refl, sym, ap, subst, None, inl, inr, arith}, lemmas.List.length-map}
 use Rattle.fst_types.specs.{Gates.IsOpenNumber, Order.depend_order, Refusals.NoneHolds}
-use Rattle.fst_heads.specs.{Heads.patches_of, Names.numbers_of, Nodes.nodes_of}
+use Rattle.fst_heads.specs.{Heads.{patch_of, patches_of}, Names.numbers_of, Nodes.nodes_of}
 use Rattle.fst_walks.proofs.Seen.{same_patches}
 use Rattle.fst_walks.specs.{Leveling.IsLeveled, Searching.AreOver}
 use Rattle.fst_graph.specs.Sound.{AreSound}
-use Rattle.fst_graph.proofs.{Borne.few, Made.{gained_sound, named_patches}, Sound.{gates_told, leveled_sound, over_both, rising_sound, roomier_sound, searched_sound}}
+use Rattle.fst_graph.proofs.{Borne.settled_fits, Made.{gained_sound, named_patches}, Sound.{gates_told, leveled_sound, over_both, rising_sound, roomier_sound, searched_sound}}
 use Rattle.fst_graph.proofs.sparse.Sparse.depend.Goals.{After-depend_fault, After-gain_names}
 use Rattle.fst_graph.proofs.sparse.Sparse.depend.Goals as goal
 
@@ -21,7 +21,16 @@ pub returns-in-Some-clause-refused : goal.returns-in-Some-clause-refused
 returns-in-Some-clause-refused c = rw (← c.self.view_is, ← c.deref.ensures.value) (inl c.in-Some.ensures.first)
 
 pub gain_names-requires : goal.gain_names-requires
-gain_names-requires c = record { rising = rising_sound c.self.invariant; linked = c.self.invariant.tallies.linked; counted = few (nodes_of c.self.inside.heads.items) c.self.inside.blocks (omega (arith, c.self.ranges)) c.self.invariant.tallies.settled }
+gain_names-requires c =
+    let heads = c.self.inside.heads.items in
+    let T = c.self.invariant.tallies in
+    record {
+      rising = rising_sound c.self.invariant;
+      linked = c.self.invariant.tallies.linked;
+      summed = λ x k. (T.settled.summed x k, settled_fits (nodes_of heads) c.self.inside.blocks (omega (arith, c.self.ranges)) T.settled x k);
+      distinct = T.distinct;
+      few = omega (arith, c.self.invariant.keeps.few, length-map heads patch_of);
+    }
 
 -- the fields after the walks, and that nothing refuses it
 walked : (c : After-depend_fault)

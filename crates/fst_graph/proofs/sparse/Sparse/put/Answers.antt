@@ -1,10 +1,10 @@
-use Rattle.std.proofs.{Common.{◌≡◌, ◌+◌, ◌++◌, ◌∷◌, ◌∙◌, [], ℕ, Option, None, Some, IfSome, IfNone, option_map, arith, sym, subst, refl, ap, map}}
+use Rattle.std.proofs.{Common.{◌≡◌, ◌+◌, ◌++◌, ◌∷◌, ◌∙◌, [], ℕ, Option, None, Some, IfSome, IfNone, option_map, Contains, arith, sym, subst, refl, ap, map}}
 use Rattle.std.specs.Vec.{with_item}
-use Rattle.std.proofs.lemmas.List.Sums.{count_by-le-length}
-use Rattle.fst_types.specs.{Gating.gains, Tests.is_live}
-use Rattle.fst_heads.specs.{Frames.HasRoomBelow, Heads.patches_of, Names.numbers_of, Nodes.nodes_of}
+use Rattle.std.proofs.lemmas.{List.length-map, List.Sums.count_by-le-length}
+use Rattle.fst_types.specs.{Dependencies.{DirectlyOn, IsLiveNumber}, Gating.gains, Lists.Lists, Tests.is_live}
+use Rattle.fst_heads.specs.{Frames.HasRoomBelow, Heads.{patch_of, patches_of}, Names.numbers_of, Nodes.nodes_of}
 use Rattle.fst_graph.specs.{Known.{Known, DependsGate}, Ready.change_of, Sound.AreSound, Sparse.AddsSparse, declared.prepared.Gates.Gates}
-use Rattle.fst_graph.proofs.{Borne.few, Made.{change_sound, gained_sound, may_enlist, may_go_on, may_lift, may_need, may_put, may_rise, named_patches, put_patches}, PutNow.{number_free, put_now, IsPutDown, IsPutNow}}
+use Rattle.fst_graph.proofs.{Borne.gain_room, Made.{change_sound, gained_sound, may_enlist, may_go_on, may_lift, may_need, may_put, may_rise, named_patches, put_patches}, PutNow.{number_free, put_now, IsPutDown, IsPutNow}}
 use Rattle.fst_graph.proofs.{Readied.ready_adds, Sound.rising_sound, TailGains.{member_kept, tail_may, tail_small}}
 use Rattle.fst_graph.proofs.sparse.Sparse.put.Goals.{After-as_slice-row, After-put_down-pending, After-put-2}
 use Rattle.fst_graph.proofs.sparse.Sparse.put.Goals as goal
@@ -38,6 +38,7 @@ put_down-pending-requires c =
       rising = rising_sound c.self.invariant;
       once = D.ready.depends.rising;
       above = D.prepared.around.0;
+      few = omega (arith, c.self.invariant.keeps.few, length-map c.self.inside.heads.items patch_of);
       places = may_put c.self.invariant D c.rise_of-rise.new.walk c.rise_of-rise.new.crossed c.rise_of-rise.ensures.long c.deref.ensures.value c.rise_of-rise.ensures.room c.lift.ensures.room;
     }
 
@@ -80,10 +81,13 @@ tie-requires c =
     let K = c.self.invariant.keeps.lawful in
     let R = member_kept p c.in-Some-gates.gates (patches_of s.heads.items) s.numbers s.blocks c.in-Some-gates.is P.down.prepared.ready in
     let S = sound at.After-put-2 P.down in
+    let heads = c.put_down-pending.new.heads.items in
+    let T = tail_may (patches_of s.heads.items) s.numbers s.blocks s.ends.up.walk.marks c.self.invariant.keeps c.in-Some-gates.gates p c.in-Some-gates.is P.down.prepared.ready P.closed P.down.keeps.lawful in
+    let gains : Lists (λ n. IsLiveNumber (patches_of heads) n × Contains ((s.numbers + 1) ∷ []) n × (DirectlyOn (patches_of heads) tail n → ⊥)) ((s.numbers + 1) ∷ []) = rw (added at.After-put_down-pending) T.gains in
     let below_tail : HasRoomBelow s.heads.items tail = subst (λ g. IfSome g (λ x. HasRoomBelow s.heads.items x.tail)) c.in-Some-gates.is P.down.prepared.around.1 in
     record {
       rising = rising_sound S;
-      counted = few (nodes_of c.put_down-pending.new.heads.items) s.blocks (omega (arith, c.self.ranges)) S.tallies.settled;
+      counted = gain_room heads s.blocks tail ((s.numbers + 1) ∷ []) (omega (arith, c.self.ranges)) S.tallies.settled S.tallies.distinct S.keeps.few gains.rising (λ n h. (gains.only n h).2);
       below = c.put_down-pending.ensures.below tail (λ e. let k = tail_small (patches_of s.heads.items) s.numbers K R in omega (arith, e, k)) below_tail;
       above = c.put_down-pending.ensures.above (λ q there e. let k = (K.one_place_each.numbered q there).1 in omega (arith, k, e));
     }
