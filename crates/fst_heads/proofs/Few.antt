@@ -1,8 +1,8 @@
 -- A row of which no number stands twice counts no more patches than there are.
-use Rattle.fst_heads.proofs.Basics.{◌≡◌, ◌≢◌, ◌≤◌, ◌<◌, ◌+◌, ◌++◌, ◌∙◌, ℕ, Bool, true, List, not, length, map, filter, Contains, AllPairs, sym, ap, subst, inl, inr, arith, length-map, AllPairs-filter}
+use Rattle.fst_heads.proofs.Basics.{◌≡◌, ◌≢◌, ◌≤◌, ◌+◌, ◌++◌, ◌∙◌, ℕ, Bool, true, List, not, length, map, filter, Contains, AllPairs, sym, ap, inl, inr, arith, length-map, AllPairs-filter}
 use Rattle.std.proofs.lemmas.{List.Sums.length-filter, List.Kept.AllPairs-from_increasing}
 use Rattle.std.specs.List.Sorted.{IsStrictlyIncreasing}
-use Rattle.fst_heads.proofs.Patches.{DirectlyOn, In, In-map, In-from_Contains, Contains-from_In, filter_in}
+use Rattle.fst_heads.proofs.Patches.{DirectlyOn, In, In-map, In-from_Contains, filter_in}
 use Rattle.fst_heads.proofs.Words.{Node, patches_in, pending_in, is_pending, sums_of, AreDistinct}
 use Rattle.fst_heads.proofs.{PendingIn.found, Placed.patch_in, Sums.{sums_append, sums_count}, Waiting.{once_append, once_fits}}
 use Rattle.fst_heads.proofs.Words.pending

@@ -1,21 +1,13 @@
 use Rattle.fst_heads.proofs.{Basics.{◌∙◌, sym, ap, subst, rules, arith}, Words.{HasSlot, HasNone, node_of, wakes}, AtNumber.{at_slot, at_none}}
-use Rattle.fst_heads.proofs.{Framed.frames_set, PendingAt.node_in, Slotted.{waits_none, stays_slot, waits_slot, number_in}}
+use Rattle.fst_heads.proofs.{Framed.frames_set, PendingAt.holds_at, Slotted.{waits_none, stays_slot, waits_slot}}
 use Rattle.fst_heads.proofs.cascade.hear_at.Goals as goal
 
 pub hear-requires-clause-hears : goal.hear-requires-clause-hears
-hear-requires-clause-hears c =
-    let heads = c.args.heads.now.items in
-    let head = c.index_mut.result.now in
-    let slot = subst (λ hs. HasSlot hs c.args.number c.in-Some.slot) c.deref.ensures.value c.in-Some.ensures.found in
-    c.requires.hears (node_of head) (node_in heads c.in-Some.slot head slot.0 c.index_mut.ensures.value) (number_in heads c.args.number c.in-Some.slot head slot c.index_mut.ensures.value)
+hear-requires-clause-hears c = holds_at c.args.heads.now.items c.args.number c.in-Some.slot c.index_mut.result.now c.deref.ensures.value c.in-Some.ensures.found c.index_mut.ensures.value c.requires.hears
 
 pub push_reserved-requires : goal.push_reserved-requires
 push_reserved-requires c =
-    let heads = c.args.heads.now.items in
-    let head = c.index_mut.result.now in
-    let slot = subst (λ hs. HasSlot hs c.args.number c.in-Some.slot) c.deref.ensures.value c.in-Some.ensures.found in
-    c.requires.room (node_of head) (node_in heads c.in-Some.slot head slot.0 c.index_mut.ensures.value) (number_in heads c.args.number c.in-Some.slot head slot c.index_mut.ensures.value)
-    (sym c.hear.ensures.woke ∙ c.if-hear.true)
+    holds_at c.args.heads.now.items c.args.number c.in-Some.slot c.index_mut.result.now c.deref.ensures.value c.in-Some.ensures.found c.index_mut.ensures.value c.requires.room (sym c.hear.ensures.woke ∙ c.if-hear.true)
 
 pub returns-then-hear : goal.returns-then-hear
 returns-then-hear c =
