@@ -158,7 +158,6 @@ pub fn row_sums(heads: &[Head], row: &[u32]) -> Sums
     requires room { (sums_of (pending_in (nodes_of heads.now)) row.now).count < 65536 }
     ensures sums { result ≡ sums_of (pending_in (nodes_of heads.now)) row.now }
     ensures fits { Fits result }
-    ensures few { result.count ≤ length row.now }
 {
     let mut sums = no_sums();
     for number in row {

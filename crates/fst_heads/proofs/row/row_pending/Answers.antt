@@ -1,4 +1,4 @@
-use Rattle.fst_heads.proofs.{Basics.{◌≡◌, ◌∙◌, get_or, sym, ap}, Words.{nodes_of, pending_in, join}, PendingAt.joined_more}
+use Rattle.fst_heads.proofs.{Basics.{◌∙◌, get_or, sym, ap}, Words.{nodes_of, pending_in, join}, PendingAt.joined_more}
 use Rattle.fst_heads.proofs.row.row_pending.Goals as goal
 
 pub loop-number-preserved : goal.loop-number-preserved

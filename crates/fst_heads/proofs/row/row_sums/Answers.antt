@@ -1,4 +1,4 @@
-use Rattle.fst_heads.proofs.{Basics.{◌≡◌, ◌≤◌, ◌<◌, ◌+◌, ◌∙◌, get_or, sym, ap, arith}, Words.{nodes_of, pending_in, plus}, Joining.few_plus, PendingAt.{sums_more, count_more}}
+use Rattle.fst_heads.proofs.{Basics.{◌∙◌, get_or, sym, ap, arith}, Words.{nodes_of, pending_in, plus}, PendingAt.{sums_more, count_more}}
 use Rattle.fst_heads.proofs.row.row_sums.Goals as goal
 
 pub add-requires-clause-room : goal.add-requires-clause-room
@@ -14,12 +14,8 @@ pub loop-number-preserved : goal.loop-number-preserved
 loop-number-preserved c =
     let told = pending_in (nodes_of c.args.heads.now) in
     let row = c.args.row.now in
-    let i = c.loop-number.number-index in
-    let sums = c.loop-number.sums in
-    let found = c.pending_at.result in
-    let added : c.add.new.self ≡ plus found sums = c.add.ensures.plus in
-    let few : (plus found sums).count ≤ i + 1 = few_plus found sums i c.loop-number.invariant.2 in (
-      added ∙ (ap (λ p. plus p sums) c.pending_at.ensures ∙ (ap (plus (told (get_or row i 0))) c.loop-number.invariant.0 ∙ sym (sums_more told row i 0 c.loop-number-test.true))),
+    let i = c.loop-number.number-index in (
+      c.add.ensures.plus
+          ∙ (ap (λ p. plus p c.loop-number.sums) c.pending_at.ensures ∙ (ap (plus (told (get_or row i 0))) c.loop-number.invariant.0 ∙ sym (sums_more told row i 0 c.loop-number-test.true))),
       c.add.ensures.fits,
-      rw added few,
     )

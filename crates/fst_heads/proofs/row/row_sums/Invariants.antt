@@ -1,6 +1,5 @@
-use Rattle.fst_heads.proofs.{Basics.{◌≡◌, ◌≤◌, take}, Words.{nodes_of, pending_in, Fits, sums_of}}
+use Rattle.fst_heads.proofs.{Basics.{◌≡◌, take}, Words.{nodes_of, pending_in, Fits, sums_of}}
 use Rattle.fst_heads.proofs.row.row_sums.Given as goal
 
 abbrev pub invariant-loop-number : goal.invariant-loop-number
-invariant-loop-number l =
-    (l.sums ≡ sums_of (pending_in (nodes_of l.heads)) (take l.number-index l.row)) × Fits l.sums × (l.sums.count ≤ l.number-index)
+invariant-loop-number l = (l.sums ≡ sums_of (pending_in (nodes_of l.heads)) (take l.number-index l.row)) × Fits l.sums
