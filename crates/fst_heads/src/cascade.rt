@@ -68,7 +68,6 @@ fn hear(head: &mut Head, old: Pending, new: Pending) -> bool
     requires live { old ≢ pending.Nothing }
     ensures node { node_of head.new ≡ hears old new (node_of head.old) }
     ensures woke { result ≡ wakes old new (node_of head.old) }
-    ensures fits { Fits head.new.sums }
     ensures frame { frame_of head.new ≡ frame_of head.old }
 {
     let told = is_told(head);

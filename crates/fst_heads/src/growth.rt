@@ -1,6 +1,6 @@
 //! What an open gate gains.
 
-ghost use Rattle.std.specs.Prelude.{◌≡◌, ◌↔◌, ◌<◌, ◌+◌, ◌∷◌, [], ℕ, List, length, map, IsTrue, IfOk, OnOk, OnErr, Contains, vec_len, vec_capacity};
+ghost use Rattle.std.specs.Prelude.{◌≡◌, ◌↔◌, ◌<◌, ◌+◌, ◌∷◌, [], ℕ, List, length, map, IsTrue, IfOk, OnOk, OnErr, Contains};
 ghost use Rattle.fst_types.specs.Dependencies.{DirectlyOn, IsLiveNumber};
 ghost use Rattle.fst_types.specs.Lists.{Lists};
 ghost use Rattle.fst_heads.specs.Frames.{HasRoomBelow};
@@ -92,8 +92,6 @@ pub fn gain_one(heads: &mut Vec<Head>, gate: u32, number: u32, sums: Sums)
     requires room { HasRoomBelow heads.old.items gate }
     ensures nodes { nodes_of heads.new.items ≡ map (at_number gate (gains_names (number ∷ []) sums)) (nodes_of heads.old.items) }
     ensures above { (row : List ℕ) → HasRoomAbove heads.old.items row → HasRoomAbove heads.new.items row }
-    ensures len { vec_len heads.new ≡ vec_len heads.old }
-    ensures capacity { vec_capacity heads.new ≡ vec_capacity heads.old }
 {
     if let Some(slot) = slot_of(heads, gate) {
         let head = &mut heads[slot];
