@@ -1,7 +1,7 @@
 -- What holds of the fields that are sound: for a walk over them, of a block, for what is prepared, and after a call that leaves the patches as they are.
 use Rattle.std.proofs.{Common.{◌≡◌, ◌∙◌, ℕ, List, Option, Some, None, IfSome, length, map, Contains, refl, sym, subst, arith, ◌<◌, ◌↔◌, ◌&&◌, Bool, true, get_or, ap}, lemmas.List.length-map}
 use Rattle.std.specs.Global.{Vec}
-use Rattle.fst_types.specs.{Dependencies.IsLiveNumber, Patches.Patch}
+use Rattle.fst_types.specs.{Dependencies.IsLiveNumber, Gates.IsOpenNumber, Patches.Patch}
 use Rattle.fst_heads.specs.{Ascending.IsBehind, Covers.{AreCovered, Covering}, Heads.{patch_of, patches_of, IsRising}, Keeps.IsInside, Lists.{entries_of, AreListed, entries_on}, Marks.{mark_in, mark_of}}
 use Rattle.fst_heads.specs.{Nodes.{nodes_of, AreLinked, AreSettled, pending_in}, Standings.{AllStand, standing_of}, declared.head.Head.Head, declared.lists.Listed.Listed, declared.standing.Standing.Standing}
 use Rattle.fst_walks.specs.{BothEnds.IsOver, Leveling.{IsLeveled, Leveling}, Needing.{IsNeeding, Needing}, Searching.{AreOver, TellsGates}, Sights.Sees, declared.block_walk.BlockWalk.BlockWalk, declared.ends.Ends.Ends, declared.needs.Way.Way, declared.sight.Sight.Sight}
@@ -11,10 +11,18 @@ use Rattle.fst_walks.proofs.{Behind.pending_live, Held.{heads_held, heads_live},
 use Rattle.fst_graph.proofs.{NeedsNow.needing_as, Ranks.{along_as, leveled_as}}
 use Rattle.fst_heads.specs.declared.pending.Pending.TheVariants as pending
 
+-- a walk over the heads and lists that are kept is one over those that are handed on
+pub over_then : {heads seen : List Head} {lists shelves : List (Vec Listed)} {walk : BlockWalk} → seen ≡ heads → shelves ≡ lists → IsOver heads (length lists) walk → IsOver seen (length shelves) walk
+over_then h l x = record { long = x.long ∙ sym (ap length h); crossed = x.crossed ∙ sym (ap length l) }
+
 module _ {heads : Vec Head} {ends : Ends} {levels : Leveling} {needs : Needing} {lists : Vec (Vec Listed)} {covers : Vec Covering} {standings : Vec Standing} {queue : Vec ℕ} {live unmarked numbers blocks : ℕ} {o : Option Stored}
     (S : AreSound heads ends levels needs lists covers standings queue live unmarked numbers blocks o) where
   pub rising_sound : IsRising heads.items
   rising_sound = rising_heads heads.items S.keeps.lawful.one_place_each.rising
+
+  -- no gate that is open has the number 0
+  pub open_given : {n : ℕ} → IsOpenNumber (patches_of heads.items) n → 0 < n
+  open_given g = let k = (S.keeps.lawful.one_place_each.numbered g.patch g.head).0 in omega (arith, k, g.numbered)
 
   -- as many marks as heads, as many lists as blocks, and a place for each list
   pub as_many_marks : length ends.up.walk.marks ≡ length heads.items
@@ -81,6 +89,11 @@ module _ {heads : Vec Head} {ends : Ends} {levels : Leveling} {needs : Needing} 
     none_below = S.none_below;
     prepared = tt;
   }
+
+  -- also where they began over the heads and the lists that were handed on
+  pub walked_then : {walked : Ends} {seen : List Head} {shelves : List (Vec Listed)} → seen ≡ heads.items → shelves ≡ lists.items → IsOver seen (length shelves) walked.up → IsOver seen (length shelves) walked.down
+      → AreSound heads walked levels needs lists covers standings queue live unmarked numbers blocks None
+  walked_then {walked = walked} h l up down = walked_sound {walked = walked} (over_then (sym h) (sym l) up) (over_then (sym h) (sym l) down)
 
   -- a search for a cycle crosses no block
   pub over_both : AreOver heads.items ends
@@ -181,10 +194,6 @@ module _ {heads : Vec Head} {ends : Ends} {levels : Leveling} {needs : Needing} 
     linked = S.tallies.linked;
     standing = subst (λ n. AllStand (nodes_of heads.items) n standings.items) (sym S.tallies.standing.long) S.tallies.standing;
   })
-
--- a walk over the heads and lists that are kept is one over those that are handed on
-pub over_then : {heads seen : List Head} {lists shelves : List (Vec Listed)} {walk : BlockWalk} → seen ≡ heads → shelves ≡ lists → IsOver heads (length lists) walk → IsOver seen (length shelves) walk
-over_then h l x = record { long = x.long ∙ sym (ap length h); crossed = x.crossed ∙ sym (ap length l) }
 
 -- what follows from that holds of whatever is prepared
 pub if_prepared : {heads : Vec Head} {ends : Ends} {levels : Leveling} {needs : Needing} {lists : Vec (Vec Listed)} {covers : Vec Covering} {standings : Vec Standing} {queue : Vec ℕ} {live unmarked numbers blocks : ℕ} {o : Option Stored}

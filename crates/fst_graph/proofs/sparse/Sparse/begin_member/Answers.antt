@@ -2,9 +2,8 @@ use Rattle.std.proofs.{Common.{rules, ◌≡◌, ◌∙◌, length, sym, ap, sub
 use Rattle.fst_types.specs.{Gates.IsOpenNumber, Order.seal_order, Refusals.IsFirst}
 use Rattle.fst_heads.specs.{Frames.{frame_of, frames_of}, Heads.patches_of, Marks.HasSlot, Nodes.nodes_of}
 use Rattle.fst_graph.specs.Sound.{IsPrepared}
-use Rattle.fst_walks.specs.Leveling.{IsLeveled}
-use Rattle.fst_graph.proofs.{Borne.settled_fits, GateSlot.refused_closed, MemberReady.{put_begun, around_kept, places_kept, shut_begun}, Readied.head_told}
-use Rattle.fst_graph.proofs.{Shutting.{shut_ready, shut_few, shut_cascade, shut_settles, shut_sound}, Sound.{if_prepared, rising_sound, with_prepared}}
+use Rattle.fst_graph.proofs.{Borne.settled_fits, GateSlot.refused_closed, MemberReady.{put_begun, around_kept, places_kept, shut_begun}, Ranks.leveled_then, Readied.head_told}
+use Rattle.fst_graph.proofs.{Shutting.{shut_ready, shut_few, shut_cascade, shut_settles, shut_sound}, Sound.{if_prepared, open_given, rising_sound, with_prepared}}
 use Rattle.fst_graph.proofs.sparse.Sparse.begin_member.Goals.{After-seal_slot, In-Err}
 use Rattle.fst_graph.proofs.sparse.Sparse.begin_member.Goals as goal
 
@@ -35,15 +34,10 @@ renew-requires-clause-rising c =
     rw c.deref-in-Ok-2.ensures.value (shut_settles c.self.invariant (gate at) c.seal_slot.new.heads c.seal_slot.ensures.nodes c.cascade-landed.new.heads c.cascade-landed.ensures.placed (subst (λ hs. HasSlot hs c.args.head c.in-Ok.slot) c.deref.ensures.value c.in-Ok.ensures.slot)).rising
 
 pub renew-requires-clause-leveled : goal.renew-requires-clause-leveled
-renew-requires-clause-leveled c =
-    let lowered = subst (λ hs. IsLeveled (patches_of hs) (length c.self.inside.levels.floors) c.settle.new.self) c.deref-in-Ok.ensures.value c.settle.ensures.leveled in
-    rw c.deref-in-Ok-2.ensures.value (subst (λ n. IsLeveled (patches_of c.cascade-landed.new.heads.items) n c.settle.new.self) (sym lowered.long) lowered)
+renew-requires-clause-leveled c = leveled_then (c.deref-in-Ok.ensures.value ∙ sym c.deref-in-Ok-2.ensures.value) (sym c.settle.ensures.leveled.long) c.settle.ensures.leveled
 
 pub renew-requires-clause-given : goal.renew-requires-clause-given
-renew-requires-clause-given c =
-    let g = gate (goal.at.renew-requires-clause-given c).After-seal_slot in
-    let k = (c.self.invariant.keeps.lawful.one_place_each.numbered g.patch g.head).0 in
-    omega (arith, k, g.numbered)
+renew-requires-clause-given c = open_given c.self.invariant (gate (goal.at.renew-requires-clause-given c).After-seal_slot)
 
 pub overflow_sub-self : goal.overflow_sub-self
 overflow_sub-self c =
@@ -60,9 +54,7 @@ invariant_of-self c =
     let cascade = shut_cascade c.self.invariant open_gate c.seal_slot.new.heads c.seal_slot.ensures.nodes new C.placed in
     let frames : frames_of new.items ≡ frames_of s.heads.items = C.frames ∙ c.seal_slot.ensures.frames in
     let heads_long : new.len ≡ s.heads.len = omega (arith, ap length frames, length-map new.items frame_of, length-map s.heads.items frame_of, new.ok.0, s.heads.ok.0) in
-    let lowered = subst (λ hs. IsLeveled (patches_of hs) (length s.levels.floors) c.settle.new.self) c.deref-in-Ok.ensures.value c.settle.ensures.leveled in
-    let renewed = subst (λ hs. IsLeveled (patches_of hs) (length c.renew.new.levels.floors) c.renew.new.levels) c.deref-in-Ok-2.ensures.value c.renew.ensures.leveled in
-    let leveled = subst (λ n. IsLeveled (patches_of new.items) n c.renew.new.levels) (ap length c.renew.ensures.floors ∙ lowered.long) renewed in
+    let leveled = leveled_then c.deref-in-Ok-2.ensures.value (ap length c.renew.ensures.floors ∙ c.settle.ensures.leveled.long) c.renew.ensures.leveled in
     with_prepared
     (shut_sound c.self.invariant open_gate c.seal_slot.new.heads c.seal_slot.ensures.nodes new C.placed c.cascade-landed.result C.settled C.landed {told = c.cascade-landed.new.standings} {emptied = c.cascade-landed.new.queue} leveled C.spread C.standing C.empty (C.capacity ∙ c.seal_slot.ensures.capacity))
     (if_prepared c.self.invariant (IsPrepared new s.ends c.renew.new.levels s.needs s.lists s.covers c.cascade-landed.new.queue s.numbers s.blocks) (λ p is k. record {

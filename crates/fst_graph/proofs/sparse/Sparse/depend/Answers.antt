@@ -2,9 +2,9 @@ use Rattle.std.proofs.{Common.{◌∙◌, length, refl, sym, ap, subst, None, in
 use Rattle.fst_types.specs.{Gates.IsOpenNumber, Order.depend_order, Refusals.NoneHolds}
 use Rattle.fst_heads.specs.{Heads.{patch_of, patches_of}, Names.numbers_of, Nodes.nodes_of}
 use Rattle.fst_walks.proofs.Seen.{same_patches}
-use Rattle.fst_walks.specs.{Leveling.IsLeveled, Searching.AreOver}
+use Rattle.fst_walks.specs.{Searching.AreOver}
 use Rattle.fst_graph.specs.Sound.{AreSound}
-use Rattle.fst_graph.proofs.{Borne.settled_fits, Made.{gained_sound, named_patches}, Sound.{gates_told, leveled_sound, over_both, rising_sound, roomier_sound, searched_sound}}
+use Rattle.fst_graph.proofs.{Borne.settled_fits, Made.{gained_sound, named_patches}, Ranks.leveled_then, Sound.{gates_told, leveled_sound, open_given, over_both, rising_sound, roomier_sound, searched_sound}}
 use Rattle.fst_graph.proofs.sparse.Sparse.depend.Goals.{After-depend_fault, After-gain_names}
 use Rattle.fst_graph.proofs.sparse.Sparse.depend.Goals as goal
 
@@ -64,22 +64,17 @@ renew-requires-clause-leveled c =
     let at = goal.at.renew-requires-clause-leveled c in
     let G = c.in-Ok.ensures.gained in
     let L = (gained_sound (walked at.After-depend_fault) {new = c.gain_names.new.heads} c.args.gate.0 G.0 (numbers_of c.args.on.now) (gate at.After-gain_names) (clear at.After-gain_names) G.1 G.2).leveled in
-    rw c.deref-2.ensures.value (subst (λ n. IsLeveled (patches_of c.gain_names.new.heads.items) n c.self.inside.levels) (sym L.long) L)
+    leveled_then (sym c.deref-2.ensures.value) (sym L.long) L
 
 pub renew-requires-clause-given : goal.renew-requires-clause-given
-renew-requires-clause-given c =
-    let g = gate (goal.at.renew-requires-clause-given c).After-gain_names in
-    let k = (c.self.invariant.keeps.lawful.one_place_each.numbered g.patch g.head).0 in
-    omega (arith, k, g.numbered)
+renew-requires-clause-given c = open_given c.self.invariant (gate (goal.at.renew-requires-clause-given c).After-gain_names)
 
 pub invariant_of-self-2 : goal.invariant_of-self-2
 invariant_of-self-2 c =
     let at = goal.at.invariant_of-self-2 c in
     let G = c.in-Ok.ensures.gained in
     let S = gained_sound (walked at.After-depend_fault) {new = c.gain_names.new.heads} c.args.gate.0 G.0 (numbers_of c.args.on.now) (gate at.After-gain_names) (clear at.After-gain_names) G.1 G.2 in
-    let heads = c.gain_names.new.heads.items in
-    let L = subst (λ hs. IsLeveled (patches_of hs) (length c.renew.new.levels.floors) c.renew.new.levels) c.deref-2.ensures.value c.renew.ensures.leveled in
-    rw c.let_go.ensures (leveled_sound S (subst (λ n. IsLeveled (patches_of heads) n c.renew.new.levels) (ap length c.renew.ensures.floors ∙ S.leveled.long) L))
+    rw c.let_go.ensures (leveled_sound S (leveled_then c.deref-2.ensures.value (ap length c.renew.ensures.floors ∙ S.leveled.long) c.renew.ensures.leveled))
 
 pub returns-clause-ok : goal.returns-clause-ok
 returns-clause-ok c =

@@ -5,7 +5,7 @@ use Rattle.fst_types.specs.declared.fault.Fault.TheVariants as fault
 use Rattle.fst_walks.specs.Searching.{AreOver}
 use Rattle.fst_graph.specs.{Known.{Known, Refuses}, Membering.{ArePaired, member_order}}
 use Rattle.fst_graph.proofs.{MemberReady.{member_found, foretold}, Readied.{member_found_as, member_put}}
-use Rattle.fst_graph.proofs.Sound.{as_many_lists, gates_told, over_both, over_then, searched_down, searched_sound, searched_up, sees_all, walked_sound}
+use Rattle.fst_graph.proofs.Sound.{as_many_lists, gates_told, over_both, over_then, searched_down, searched_sound, searched_up, sees_all, walked_then}
 use Rattle.fst_graph.proofs.sparse.Sparse.member_room.Goals.{After-deref}
 use Rattle.fst_graph.proofs.sparse.Sparse.member_room.Goals as goal
 
@@ -96,15 +96,7 @@ pub invariant_of-self : goal.invariant_of-self
 invariant_of-self c = rw c.let_go.ensures (searched_sound c.self.invariant (subst (λ hs. AreOver hs c.member_fault.new.ends) c.deref.ensures.value c.member_fault.ensures.over) c.member_fault.ensures.crossed)
 
 pub invariant_of-self-in_default-prepare_member : goal.invariant_of-self-in_default-prepare_member
-invariant_of-self-in_default-prepare_member c =
-    let E = c.prepare_member.ensures in
-    let h = sym c.deref.ensures.value in
-    let l = sym c.deref-2.ensures.value in
-    rw c.let_go.ensures (walked_sound c.self.invariant {walked = c.prepare_member.new.ends} (over_then h l E.up) (over_then h l E.down))
+invariant_of-self-in_default-prepare_member c = rw c.let_go.ensures (walked_then c.self.invariant {walked = c.prepare_member.new.ends} c.deref.ensures.value c.deref-2.ensures.value c.prepare_member.ensures.up c.prepare_member.ensures.down)
 
 pub invariant_of-self-2 : goal.invariant_of-self-2
-invariant_of-self-2 c =
-    let E = c.prepare_member.ensures in
-    let h = sym c.deref.ensures.value in
-    let l = sym c.deref-2.ensures.value in
-    rw c.let_go.ensures (walked_sound c.self.invariant {walked = c.prepare_member.new.ends} (over_then h l E.up) (over_then h l E.down))
+invariant_of-self-2 c = rw c.let_go.ensures (walked_then c.self.invariant {walked = c.prepare_member.new.ends} c.deref.ensures.value c.deref-2.ensures.value c.prepare_member.ensures.up c.prepare_member.ensures.down)

@@ -2,7 +2,7 @@ use Rattle.std.proofs.{Common.{◌≡◌, ◌+◌, ◌++◌, ◌∷◌, ◌∙�
 use Rattle.std.specs.Vec.{with_item}
 use Rattle.std.proofs.lemmas.{List.length-map, List.Sums.count_by-le-length}
 use Rattle.fst_types.specs.{Dependencies.{DirectlyOn, IsLiveNumber}, Gating.gains, Lists.Lists, Tests.is_live}
-use Rattle.fst_heads.specs.{Frames.HasRoomBelow, Heads.{patch_of, patches_of}, Names.numbers_of, Nodes.nodes_of}
+use Rattle.fst_heads.specs.{Frames.HasRoomBelow, Heads.{patch_of, patches_of}, Names.numbers_of}
 use Rattle.fst_graph.specs.{Known.{Known, DependsGate}, Ready.change_of, Sound.AreSound, Sparse.AddsSparse, declared.prepared.Gates.Gates}
 use Rattle.fst_graph.proofs.{Borne.gain_room, Made.{change_sound, gained_sound, may_enlist, may_go_on, may_lift, may_need, may_put, may_rise, named_patches, put_patches}, PutNow.{number_free, put_now, IsPutDown, IsPutNow}}
 use Rattle.fst_graph.proofs.{Readied.ready_adds, Sound.rising_sound, TailGains.{member_kept, tail_may, tail_small}}

@@ -1,8 +1,7 @@
 use Rattle.std.proofs.Common.{rules, ◌∙◌, length, sym, subst, ap, arith, refl}
 use Rattle.fst_types.specs.{Gates.IsOpenNumber, Order.seal_order, Refusals.NoneHolds}
 use Rattle.fst_heads.specs.{Heads.patches_of, Marks.HasSlot, Nodes.nodes_of}
-use Rattle.fst_walks.specs.Leveling.{IsLeveled}
-use Rattle.fst_graph.proofs.{Borne.settled_fits, Shutting.{shut_ready, shut_few, shut_cascade, shut_settles, shut_sound}, Sound.rising_sound, sparse.Sparse.seal.Goals.After-seal_slot}
+use Rattle.fst_graph.proofs.{Borne.settled_fits, Ranks.leveled_then, Shutting.{shut_ready, shut_few, shut_cascade, shut_settles, shut_sound}, Sound.{open_given, rising_sound}, sparse.Sparse.seal.Goals.After-seal_slot}
 use Rattle.fst_graph.proofs.sparse.Sparse.seal.Goals as goal
 
 pub gate_slot-requires : goal.gate_slot-requires
@@ -37,11 +36,7 @@ overflow_sub-self c =
 pub invariant_of-self-2 : goal.invariant_of-self-2
 invariant_of-self-2 c =
     let C = c.cascade-landed.ensures in
-    let patches = patches_of c.cascade-landed.new.heads.items in
-    let floors = length c.self.inside.levels.floors in
-    let lowered = subst (λ hs. IsLeveled (patches_of hs) floors c.settle.new.self) c.deref-2.ensures.value c.settle.ensures.leveled in
-    let renewed = subst (λ hs. IsLeveled (patches_of hs) (length c.renew.new.levels.floors) c.renew.new.levels) c.deref-3.ensures.value c.renew.ensures.leveled in
-    let leveled = subst (λ n. IsLeveled patches n c.renew.new.levels) (ap length c.renew.ensures.floors ∙ lowered.long) renewed in
+    let leveled = leveled_then c.deref-3.ensures.value (ap length c.renew.ensures.floors ∙ c.settle.ensures.leveled.long) c.renew.ensures.leveled in
     rw c.let_go.ensures (shut_sound c.self.invariant (gate (goal.at.invariant_of-self-2 c).After-seal_slot) c.seal_slot.new.heads c.seal_slot.ensures.nodes c.cascade-landed.new.heads C.placed c.cascade-landed.result C.settled C.landed leveled C.spread C.standing C.empty (C.capacity ∙ c.seal_slot.ensures.capacity))
 
 pub returns-clause-ok : goal.returns-clause-ok
@@ -63,12 +58,7 @@ renew-requires-clause-rising c =
     rw c.deref-3.ensures.value (shut_settles c.self.invariant (gate at) c.seal_slot.new.heads c.seal_slot.ensures.nodes c.cascade-landed.new.heads c.cascade-landed.ensures.placed (subst (λ hs. HasSlot hs c.args.gate.0 c.in-Ok.slot) c.deref.ensures.value c.in-Ok.ensures.slot)).rising
 
 pub renew-requires-clause-leveled : goal.renew-requires-clause-leveled
-renew-requires-clause-leveled c =
-    let lowered = subst (λ hs. IsLeveled (patches_of hs) (length c.self.inside.levels.floors) c.settle.new.self) c.deref-2.ensures.value c.settle.ensures.leveled in
-    rw c.deref-3.ensures.value (subst (λ n. IsLeveled (patches_of c.cascade-landed.new.heads.items) n c.settle.new.self) (sym lowered.long) lowered)
+renew-requires-clause-leveled c = leveled_then (c.deref-2.ensures.value ∙ sym c.deref-3.ensures.value) (sym c.settle.ensures.leveled.long) c.settle.ensures.leveled
 
 pub renew-requires-clause-given : goal.renew-requires-clause-given
-renew-requires-clause-given c =
-    let g = gate (goal.at.renew-requires-clause-given c).After-seal_slot in
-    let k = (c.self.invariant.keeps.lawful.one_place_each.numbered g.patch g.head).0 in
-    omega (arith, k, g.numbered)
+renew-requires-clause-given c = open_given c.self.invariant (gate (goal.at.renew-requires-clause-given c).After-seal_slot)
