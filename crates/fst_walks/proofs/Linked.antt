@@ -7,11 +7,8 @@ use Rattle.std.proofs.{lemmas.List.Quantifiers.all_pairs_push, lemmas.List.Sums.
 use Rattle.fst_types.specs.{Dependencies.{DirectlyOn, IsLiveNumber}, Facts.HasOnePlaceEach, Gates.IsOpenNumber, Gating.gains, Patches.Patch, Tests.is_among}
 use Rattle.fst_types.proofs.{Finite.{In, In-from_Contains, Contains-from_In}, Issuing.among_in}
 use Rattle.fst_heads.specs.{Nodes.{Node, patches_in, times, at_number, linked_to, gains_names, AreLinked, AreGiven, AreDistinct}, declared.pending.Sums.Sums}
-use Rattle.fst_heads.proofs.{Added.{with_node, new_node, with_names}, AtNumber.{at_other, at_same}, Linking.{linked_patch, link_none, map_twice}}
+use Rattle.fst_heads.proofs.{Added.{with_node, new_node, with_names}, AtNumber.{at_other, at_same}, Linking.{linked_patch, map_twice}}
 use Rattle.fst_heads.proofs.{Placed.{StandsFor, unmapped, patch_in, node_of_patch}, Waiting.once_append}
-
-pub with_gate : (nodes : List Node) (n : ℕ) → map (linked_to [] n) nodes ≡ nodes
-with_gate nodes n = link_none nodes n
 
 pub patches_linked : (nodes : List Node) (row : List ℕ) (n : ℕ) → patches_in (map (linked_to row n) nodes) ≡ patches_in nodes
 patches_linked [] row n = refl

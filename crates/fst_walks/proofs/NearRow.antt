@@ -1,17 +1,15 @@
 -- What is near a row, and the grade that it tells.
-use Rattle.std.proofs.Common.{◌≡◌, ◌⊎◌, ◌&&◌, ℕ, Bool, true, List, get_or, Contains, Some, None, Option, IfSome, refl, sym, ap, subst, ◌∙◌, inl, inr}
-use Rattle.fst_types.specs.{Closure.{one, join}, Dependencies.{DirectlyOn, DependsOn}, Facts.{HardNeverHold, IsOnDiskWithAll}}
-use Rattle.fst_types.specs.{Grades.FollowsRule, Patches.{Kind, OpenGate, Patch, IsOn, grade_of_kind, IsRising as PatchesRise}, Tests.is_change_at, declared.grade.Grade.Grade}
+use Rattle.std.proofs.Common.{◌≡◌, ◌&&◌, ℕ, true, List, get_or, Contains, Some, None, refl, sym, ap, subst, ◌∙◌, inl, inr}
+use Rattle.fst_types.specs.{Closure.{one, join}, Dependencies.{DirectlyOn, DependsOn}, Facts.{HardNeverHold}}
+use Rattle.fst_types.specs.{Grades.FollowsRule, Patches.{Kind, OpenGate, Patch, IsOn, grade_of_kind}, Tests.is_change_at, declared.grade.Grade.Grade}
 use Rattle.fst_types.proofs.{Landing.{change_at, at_change}, Numbers.both}
 use Rattle.fst_heads.specs.Grading.{HasUnder, MayBeHard, IsHardNumber}
 use Rattle.fst_heads.specs.{Heads.{IsRising, patch_of, patches_of}, Marks.{HasSlot, HasNone, PassesAt}, Reaching.IsHardIn, Tests.{passes, is_hard_kind}}
 use Rattle.fst_heads.specs.{declared.head.Head.Head, declared.test.Test.Test}
 use Rattle.fst_heads.proofs.{Leading.{one_block, same_patch}, Slots.{direct_at, patch_at, patch_is, patch_slot, slot_in, none_slot}}
-use Rattle.fst_walks.specs.{WayBack.LeadsBack}
-use Rattle.fst_walks.proofs.{Obstacles.{hard_from, hard_to}, Straight.straight_back}
+use Rattle.fst_walks.proofs.{Obstacles.{hard_from, hard_to}}
 use Rattle.fst_types.specs.declared.place.Place.TheVariants as place
 use Rattle.fst_types.specs.declared.grade.Grade.TheVariants as grade
-use Rattle.fst_heads.specs.declared.test.Test.TheVariants as test
 
 -- a number that no head has is no patch's
 pub no_patch : (heads : List Head) (n : ℕ) → HasNone heads n → (p : Patch) → Contains (patches_of heads) p → p.number ≡ n → ⊥
@@ -105,54 +103,9 @@ module _ (heads : List Head) (rising : IsRising heads) (b : ℕ) (row : List ℕ
     ];
   }
 
--- what is under a row
-module _ (heads : List Patch) (row : List ℕ) where
-  abbrev under : (ℕ → Type 0) → Type 0
-  under P = HasUnder heads row P
-
-  pub under_weaker : (P Q : ℕ → Type 0) → ((n : ℕ) → P n → Q n) → under P → under Q
-  under_weaker P Q to u = (u.0, u.1, elim u.2 [ inl p ↦ inl (to u.0 p) | inr r ↦ inr (r.0, r.1, to r.0 r.2) ])
-
-  under_next : (n q : ℕ) → DirectlyOn heads n q → under (λ m. m ≡ n) → under (λ m. m ≡ q)
-  under_next n q d u = (
-    u.0,
-    u.1,
-    elim u.2 [
-      | inl e ↦ inr (q, one (subst (λ m. DirectlyOn heads m q) (sym e) d), refl)
-      | inr r ↦ inr (q, join r.1 (one (subst (λ m. DirectlyOn heads m q) (sym r.2) d)), refl)
-    ],
-  )
-
--- m is a live change of a block other than b, and depends on n
-abbrev pub IsAwayAbove : List Patch → ℕ → ℕ → ℕ → Type 0
-IsAwayAbove heads b n m = PassesAt (test.LiveOff b) heads m × DependsOn heads m n
-
--- n is under the row, and below a live change of a block other than b where one was met
-pub record IsOnPath (heads : List Patch) (b : ℕ) (row : List ℕ) (away : Bool) (n : ℕ) : Type 0 where
-  pub under : HasUnder heads row (λ m. m ≡ n)
-  pub off : away ≡ true → HasUnder heads row (IsAwayAbove heads b n)
-
-pub path_next : (heads : List Patch) (b : ℕ) (row : List ℕ) (was now : Bool) (n q : ℕ) → IsOnPath heads b row was n → DirectlyOn heads n q → (now ≡ true → (was ≡ true) ⊎ PassesAt (test.LiveOff b) heads n) → IsOnPath heads b row now q
-path_next heads b row was now n q x d said = record {
-  under = under_next heads row n q d x.under;
-  off = λ e. elim (said e) [
-    | inl before ↦ under_weaker heads row (IsAwayAbove heads b n) (IsAwayAbove heads b q) (λ m a. (a.0, join a.1 (one d))) (x.off before)
-    | inr here ↦ under_weaker heads row (λ m. m ≡ n) (IsAwayAbove heads b q) (λ m s. (subst (PassesAt (test.LiveOff b) heads) (sym s) here, one (subst (λ k. DirectlyOn heads k q) (sym s) d))) x.under
-  ];
-}
-
-pub path_further : (heads : List Patch) (b : ℕ) (row below : List ℕ) (was now : Bool) (n : ℕ) (o : Option ℕ) → IsOnPath heads b row was n → ((q : ℕ) → Contains below q → DirectlyOn heads n q)
-    → (now ≡ true → (was ≡ true) ⊎ PassesAt (test.LiveOff b) heads n) → IfSome o (Contains below) → IfSome o (IsOnPath heads b row now)
-path_further heads b row below was now n (Some q) x d said c = path_next heads b row was now n q x (d q c) said
-path_further heads b row below was now n None x d said c = tt
-
--- where the path went over a live change of another block, a way leads back to the live change of b that it comes to
-pub path_back : (heads : List Patch) → PatchesRise heads → IsOnDiskWithAll heads → (b : ℕ) (row : List ℕ) (n : ℕ) → IsOnPath heads b row true n → PassesAt (test.LiveOn b) heads n → LeadsBack heads b row n
-path_back heads rising disk b row n x p =
-    let u = x.off refl in elim u.2 [
-      | inl a ↦ straight_back heads rising disk b row u.0 n a.0 p a.1 (u.0, u.1, inl refl)
-      | inr low ↦ straight_back heads rising disk b row low.0 n low.2.0 p low.2.1 (u.0, u.1, inr (low.0, low.1, refl))
-    ]
+-- what is under a row in one sense is under it in a weaker one
+pub under_weaker : (heads : List Patch) (row : List ℕ) (P Q : ℕ → Type 0) → ((n : ℕ) → P n → Q n) → HasUnder heads row P → HasUnder heads row Q
+under_weaker heads row P Q to u = (u.0, u.1, elim u.2 [ inl p ↦ inl (to u.0 p) | inr r ↦ inr (r.0, r.1, to r.0 r.2) ])
 
 -- what a grade tells of one thing it tells of another that is so exactly where the first is
 pub follows_same : (g : Grade) (First Second : Type 0) → (Second → First) → (First → Second) → FollowsRule g First → FollowsRule g Second

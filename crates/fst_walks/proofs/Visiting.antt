@@ -31,26 +31,13 @@ long_met heads walk = length-map walk.met (number_at heads)
 pub number_of_met : (heads : List Head) (walk : Trail) (n s : ℕ) → HasSlot heads n s → Contains walk.met s → Contains (numbers_met heads walk) n
 number_of_met heads walk n s slot c = subst (Contains (numbers_met heads walk)) (slot_number heads n s slot) (mapped (number_at heads) walk.met s c)
 
-pub met_of_number : (heads : List Head) (walk : Trail) → IsRising heads → length walk.marks ≡ length heads → AreMarked walk.marks walk.met → (n s : ℕ) → HasSlot heads n s → Contains (numbers_met heads walk) n → Contains walk.met s
-met_of_number heads walk rising long m n s slot c =
-    let r = unmapped (number_at heads) walk.met n c in
-    let lt = met_inside walk.marks walk.met m r.0 r.1 in
-    let own : HasSlot heads n r.0 = subst (λ k. HasSlot heads k r.0) r.2 (slot_at heads r.0 (omega (arith, lt, long))) in
-    subst (Contains walk.met) (slot_unique heads n r.0 s rising own slot) r.1
-
--- the same, where it is known that what was met is inside
+-- and a slot where its number was
 pub met_slot : (heads : List Head) (walk : Trail) → IsRising heads → length walk.marks ≡ length heads → ((s : ℕ) → Contains walk.met s → s < length walk.marks) → (n s : ℕ) → HasSlot heads n s → Contains (numbers_met heads walk) n → Contains walk.met s
 met_slot heads walk rising long inside n s slot c =
     let r = unmapped (number_at heads) walk.met n c in
     let lt = inside r.0 r.1 in
     let own : HasSlot heads n r.0 = subst (λ k. HasSlot heads k r.0) r.2 (slot_at heads r.0 (omega (arith, lt, long))) in
     subst (Contains walk.met) (slot_unique heads n r.0 s rising own slot) r.1
-
-pub slot_of_met : (heads : List Head) (walk : Trail) → length walk.marks ≡ length heads → AreMarked walk.marks walk.met → (n : ℕ) → Contains (numbers_met heads walk) n → (s : ℕ) × HasSlot heads n s
-slot_of_met heads walk long m n c =
-    let r = unmapped (number_at heads) walk.met n c in
-    let lt = met_inside walk.marks walk.met m r.0 r.1 in
-    (r.0, subst (λ k. HasSlot heads k r.0) r.2 (slot_at heads r.0 (omega (arith, lt, long))))
 
 -- so exactly what was met is marked
 pub shows_met : (heads : List Head) (walk : Trail) → length walk.marks ≡ length heads → AreMarked walk.marks walk.met → Shows heads walk.marks (Contains (numbers_met heads walk))

@@ -28,9 +28,9 @@ fn goes_through(heads: &[Head], slot: usize, block: u32) -> bool
     !passes(Test::LiveOff(block), head) && !is_hard_in(head, block)
 }
 
-/// Visits what the patch that was met there in turn directly depends on, if the way goes through it, and answers how many that
-/// is. Of more than `most` it visits only so many: a gate may come after thousands, and the walk stops there.
-pub fn step_away(heads: &[Head], walk: &mut Walk, at: usize, block: u32, most: usize) -> usize
+// Visits what the patch that was met there in turn directly depends on, if the way goes through it, and answers how many that
+// is. Of more than `most` it visits only so many: a gate may come after thousands, and the walk stops there.
+fn step_away(heads: &[Head], walk: &mut Walk, at: usize, block: u32, most: usize) -> usize
     requires rising { IsRising heads.now }
     requires visited { Visited heads.now walk.old }
     requires at { at < length walk.old.met }

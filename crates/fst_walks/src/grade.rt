@@ -4,8 +4,8 @@
 //! is needed, nor where only changes of the block are pending of what the change depends on, nor where all of that is a hard
 //! change of the block or below its floor. It is soft where it depends on a change of the block from which a way is known to
 //! lead back, and as an earlier change of the block where it comes after the same. Else the ancestors of what it depends on
-//! may lead back to the block, or a chain within a few steps, or a walk down that is not long may tell, and only where none
-//! of these does a way back is looked for from both ends. A gate that is sealed with the change is taken as sealed already:
+//! may lead back to the block, or a walk down that is not long may tell, and only where neither does a way back is looked for
+//! from both ends. A gate that is sealed with the change is taken as sealed already:
 //! that sets free what it alone blocks, and moves no change and no dependency. Each of these that finds a way back tells where
 //! it ends too, so that the way is known from then on (`needs`).
 
@@ -24,7 +24,7 @@ use crate::ends::Ends;
 use crate::graded::{Graded, hard, soft};
 use crate::known::leads_over_known;
 use crate::other_gates::is_blocked;
-use crate::shortcuts::{comes_back_soon, is_clean, stays_below, waits_for_own_block};
+use crate::shortcuts::{is_clean, stays_below, waits_for_own_block};
 use crate::sight::Sight;
 
 // What is told of a new change of the block with that row but for open gates. What was met and crossed before does not
@@ -47,16 +47,13 @@ fn grade_by_ways(sight: &Sight<'_>, ends: &mut Ends, block: u32, row: &[u32]) ->
     if stays_below(sight, block, row) {
         return hard();
     }
-    if let Some(end) = leads_over_known(sight, &mut ends.down, block, row) {
+    if let Some(end) = leads_over_known(sight, block, row) {
         return soft(Some(end));
     }
     if let Some(told) = told_before(sight, block, row) {
         return told;
     }
     if let Some(end) = leads_to_block(sight, block, row) {
-        return soft(Some(end));
-    }
-    if let Some(end) = comes_back_soon(sight, block, row) {
         return soft(Some(end));
     }
     if let Some(told) = grade_below(sight, &mut ends.down, block, row) {

@@ -15,7 +15,6 @@ ghost use Rattle.fst_heads.specs.Marks.{PassesAt};
 ghost use Rattle.fst_heads.specs.Tests.{is_hard_kind};
 ghost use Rattle.fst_heads.specs.Grading.{HasUnder, IsHardNumber, LeadsNowhere};
 ghost use Rattle.fst_walks.specs.Sights.{Sees};
-ghost use Rattle.fst_walks.specs.WayBack.{LeadsBack};
 ghost use Rattle.fst_heads.specs.Nodes.{nodes_of, AreSettled};
 
 use crate::sight::Sight;
@@ -27,13 +26,6 @@ use fst_heads::places::is_change_at;
 use fst_heads::row::{pending_at, row_pending};
 use fst_heads::test::{Test, passes};
 use fst_types::Place;
-
-// How far the chain along the newest is followed before a way back is searched for. Where groups or chains come one after the
-// other it comes back within a few steps, over which a search would meet all their members.
-const STEPS: u32 = 64;
-
-// How many of one row are looked at.
-const WIDTH: usize = 64;
 
 /// Whether the patch with the number passes.
 pub fn passes_at(heads: &[Head], test: Test, number: u32) -> bool
@@ -156,36 +148,12 @@ pub fn is_found(row: &[u32], number: u32) -> bool
     }
 }
 
-/// What the patch with the number directly depends on, or nothing where it is forgotten.
-pub fn row_below(heads: &[Head], number: u32) -> &[u32]
-    requires { IsRising heads.now }
-    ensures { (q : ℕ) → Contains result.now q → DirectlyOn (patches_of heads.now) number q }
-{
-    match slot_of(heads, number) {
-        Some(slot) => heads[slot].dependencies.as_slice(),
-        None => &[],
-    }
-}
-
 /// The newest of the row, no more than `most`.
 pub fn newest_few(row: &[u32], most: usize) -> &[u32]
     ensures only { (q : ℕ) → Contains result.now q → Contains row.now q }
     ensures all { length row.now ≤ most → result.now ≡ row.now }
 {
     &row[row.len().saturating_sub(most)..]
-}
-
-// The newest of the row that is a change of the block and not on disk.
-fn newest_change(heads: &[Head], block: u32, row: &[u32]) -> Option<u32>
-    requires { IsRising heads.now }
-    ensures { IfSome result (λ q. Contains row.now q × PassesAt (test.LiveOn block) (patches_of heads.now) q) }
-{
-    for number in row.iter().rev() {
-        if passes_at(heads, Test::LiveOn(block), *number) {
-            return Some(*number);
-        }
-    }
-    None
 }
 
 /// Whether all changes of the block are on disk. Nothing leads back to the block then, so a change of it is hard but for
@@ -197,37 +165,6 @@ pub fn is_clean(sight: &Sight<'_>, block: u32) -> bool
 {
     let list = sight.lists[block as usize].as_slice();
     list.is_empty()
-}
-
-/// The change of the block to which the chain from the newest of the row to the newest that it depends on, and so on, comes back
-/// over a change of another block within a few steps, or on which a patch of the chain directly depends, none being on disk. A
-/// change of the block with that row is soft. Where there is none, another way may lead there. The chain ends below the floor of
-/// the block, where nothing leads back.
-pub fn comes_back_soon(sight: &Sight<'_>, block: u32, row: &[u32]) -> Option<u32>
-    requires sees { Sees sight.now }
-    requires block { block < length sight.now.lists.now }
-    ensures { IfSome result (LeadsBack (patches_of sight.now.heads.now) block row.now) }
-{
-    let heads = sight.heads;
-    let floor = sight.levels.floor(block);
-    let mut next = newest(row);
-    let mut away = false;
-    for _ in 0..STEPS {
-        let number = next?;
-        if sight.levels.of(heads, number) < floor {
-            return None;
-        }
-        away = away || passes_at(heads, Test::LiveOff(block), number);
-        let below = row_below(heads, number);
-        if away {
-            let end = newest_change(heads, block, newest_few(below, WIDTH));
-            if end.is_some() {
-                return end;
-            }
-        }
-        next = newest(below);
-    }
-    None
 }
 
 /// Whether each of the row is a hard change of the block in memory, or lower than the floor of the block. A change of the
