@@ -4,7 +4,7 @@ mod callers;
 mod memory;
 mod numbers;
 
-use crate::same::{same_bytes, same_count};
+use crate::same::{same_bytes, same_count, same_record};
 use callers::{Kind, Record, add, remove_first, set_second};
 use fst_chain::Chain;
 use numbers::{Go, Numbers};
@@ -172,7 +172,7 @@ fn records(rt: &impl Abort, alloc: Global, kind: Kind) -> Chain<Record> {
 // The first record, which is soft.
 fn pop(rt: &impl Abort, chain: &mut Chain<Record>, expected: u32) {
     let record = chain.pop_front().expect(rt, "a record");
-    assert_eq!(rt; record.no, expected);
+    same_record(rt, Some(record.no), Some(expected));
     assert!(rt; matches!(record.kind, Kind::Soft));
 }
 
