@@ -6,7 +6,7 @@ mod plain;
 mod scripts;
 
 use crate::tests::devices::plain::Plain;
-use crate::tests::devices::scripts::{Does, SCRIPTS, Script};
+use crate::tests::devices::scripts::{Does, Script, scripts};
 use crate::tests::{plays_to, put_line, put_made, replies_to};
 use std::alloc::Global;
 use std::process::Abort;
@@ -69,7 +69,7 @@ fn crashes(rt: &impl Abort, alloc: Global, script: &Script) {
 
 #[test]
 fn every_crash_leaves_a_closed_set(rt: HostRuntime) {
-    for script in SCRIPTS {
+    for script in scripts() {
         crashes(&rt, rt.alloc(), script);
     }
 }
@@ -183,7 +183,7 @@ fn each_fails_once(rt: &impl Abort, alloc: Global, script: &Script) {
 
 #[test]
 fn each_write_fails_once_and_is_tried_again(rt: HostRuntime) {
-    for script in SCRIPTS {
+    for script in scripts() {
         each_fails_once(&rt, rt.alloc(), script);
     }
 }

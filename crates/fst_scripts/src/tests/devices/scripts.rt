@@ -174,9 +174,14 @@ const CASCADE_THROUGH_AN_EMPTY_PATCH: Script = Script {
     writes: 3,
 };
 
-pub const SCRIPTS: &[Script] = &[
+const SCRIPTS: &[Script] = &[
     CYCLE_OF_BLOCKS,
     CROSSWISE_HOLD,
     LANDING_ORDER_AGAINST_NUMBER_ORDER,
     CASCADE_THROUGH_AN_EMPTY_PATCH,
 ];
+
+/// All of them. A test that named the table itself would be proved with all that stands in it.
+pub fn scripts() -> &'static [Script] {
+    SCRIPTS
+}
