@@ -18,7 +18,7 @@ ghost use Rattle.fst_walks.specs.Sights.{Sees};
 ghost use Rattle.fst_walks.specs.WayBack.{LeadsBack};
 
 use crate::levels::{Ancestry, Levels, Rank, no_ancestry};
-use crate::shortcuts::{first, newest, newest_few, passes_at};
+use crate::shortcuts::{first, newest, newest_few, passes_at, row_below};
 use crate::sight::Sight;
 use fst_heads::head::{Head, Kind};
 use fst_heads::lists::Listed;
@@ -139,6 +139,24 @@ fn comes_to(sight: &Sight<'_>, from: u32, to: u32, depth: u32) -> bool
     false
 }
 
+// The patch with the number, or else one of the newest that it directly depends on, if that is a change of another block that
+// is not on disk. Below the tail gate of a group there are such, and none is its ancestor.
+fn off_at(sight: &Sight<'_>, block: u32, number: u32) -> Option<u32>
+    requires sees { Sees sight.now }
+    ensures off { IfSome result (PassesAt (test.LiveOff block) (patches_of sight.now.heads.now)) }
+    ensures under { IfSome result (LeadsTo (patches_of sight.now.heads.now) number) }
+{
+    if passes_at(sight.heads, Test::LiveOff(block), number) {
+        return Some(number);
+    }
+    for below in newest_few(row_below(sight.heads, number), WIDTH) {
+        if passes_at(sight.heads, Test::LiveOff(block), *below) {
+            return Some(*below);
+        }
+    }
+    None
+}
+
 // The first change of another block that is not on disk at the patch or its next ancestors.
 fn first_off(sight: &Sight<'_>, block: u32, number: u32) -> Option<u32>
     requires sees { Sees sight.now }
@@ -147,8 +165,8 @@ fn first_off(sight: &Sight<'_>, block: u32, number: u32) -> Option<u32>
 {
     let mut at = number;
     for _ in 0..FEW {
-        if passes_at(sight.heads, Test::LiveOff(block), at) {
-            return Some(at);
+        if let Some(off) = off_at(sight, block, at) {
+            return Some(off);
         }
         at = sight.levels.rank_of(sight.heads, at).ancestry.parent;
     }

@@ -148,6 +148,17 @@ pub fn is_found(row: &[u32], number: u32) -> bool
     }
 }
 
+/// What the patch with the number directly depends on, or nothing where it is forgotten.
+pub fn row_below(heads: &[Head], number: u32) -> &[u32]
+    requires { IsRising heads.now }
+    ensures { (q : ℕ) → Contains result.now q → DirectlyOn (patches_of heads.now) number q }
+{
+    match slot_of(heads, number) {
+        Some(slot) => heads[slot].dependencies.as_slice(),
+        None => &[],
+    }
+}
+
 /// The newest of the row, no more than `most`.
 pub fn newest_few(row: &[u32], most: usize) -> &[u32]
     ensures only { (q : ℕ) → Contains result.now q → Contains row.now q }
