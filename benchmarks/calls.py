@@ -15,9 +15,8 @@ import argparse
 import os
 import random
 import sys
-import tempfile
 
-from shapes import ROOT, played
+from shapes import ROOT, compared
 
 
 class Script:
@@ -42,6 +41,15 @@ class Script:
         self.line('{"do":"gate"}')
         self.given += 1
         return self.given
+
+    def sealed(self, names):
+        """A gate over the names, 64 a line, which is sealed then."""
+        gate = self.gate()
+        for first in range(0, len(names), 64):
+            few = ",".join(map(str, names[first : first + 64]))
+            self.line('{"do":"depend","gate":%d,"on":[%s]}' % (gate, few))
+        self.ask("seal", gate=gate)
+        return gate
 
     def depend(self, gate, name):
         self.line('{"do":"depend","gate":%d,"on":[%d]}' % (gate, name))
@@ -240,21 +248,8 @@ def main():
     bad = 0
     for shape in [shape for shape in SHAPES if shape.__name__ in only]:
         made = shape()
-        with tempfile.NamedTemporaryFile("w", suffix=".jsonl") as script:
-            script.write("\n".join([*made.lines, '{"do":"stat"}']) + "\n")
-            script.flush()
-            ours = played(known.program, made.words, script.name)
-            other = played(known.beside, made.words, script.name) if known.beside else None
-        row = f"{shape.__name__}, {len(made.lines)} lines: {ours[0]:.3f} s, {ours[1]:.0f} MB"
-        if other:
-            row += f"; beside {other[0]:.3f} s, {other[1]:.0f} MB"
-        if not ours[2]:
-            row, bad = row + "; FAILED", bad + 1
-        elif other and ours[2] != other[2]:
-            row, bad = row + "; REPLIES DIFFER", bad + 1
-        elif other and ours[0] > 3 * other[0]:
-            row += "; slow"
-        print(row, flush=True)
+        name = f"{shape.__name__}, {len(made.lines)} lines"
+        bad += not compared(name, known.program, known.beside, made.words, [*made.lines, '{"do":"stat"}'])
     return 1 if bad else 0
 
 

@@ -14,9 +14,8 @@ import argparse
 import os
 import random
 import sys
-import tempfile
 
-from shapes import ROOT, played
+from shapes import ROOT, compared
 
 
 class Script:
@@ -142,21 +141,8 @@ def main():
             made = Script(blocks)
             shape(made, known.patches)
             words = ["--blocks", str(blocks), "--size", "4096"]
-            with tempfile.NamedTemporaryFile("w", suffix=".jsonl") as script:
-                script.write("\n".join([*made.lines, '{"do":"stat"}']) + "\n")
-                script.flush()
-                ours = played(known.program, words, script.name)
-                other = played(known.beside, words, script.name) if known.beside else None
-            row = f"{shape.__name__}, {blocks} blocks: {ours[0]:.3f} s, {ours[1]:.0f} MB"
-            if other:
-                row += f"; beside {other[0]:.3f} s, {other[1]:.0f} MB"
-            if not ours[2]:
-                row, bad = row + "; FAILED", bad + 1
-            elif other and ours[2] != other[2]:
-                row, bad = row + "; REPLIES DIFFER", bad + 1
-            elif other and ours[0] > 3 * other[0]:
-                row += "; slow"
-            print(row, flush=True)
+            name = f"{shape.__name__}, {blocks} blocks"
+            bad += not compared(name, known.program, known.beside, words, [*made.lines, '{"do":"stat"}'])
     return 1 if bad else 0
 
 

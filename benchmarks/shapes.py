@@ -251,6 +251,27 @@ def played(program, words, path):
     return used.ru_utime + used.ru_stime, used.ru_maxrss / 1024, None if status else replies.hexdigest()
 
 
+def compared(name, program, beside, words, lines, says=""):
+    """Plays the script, by a second program too if one is named, prints a row for it, and answers whether all is well."""
+    with tempfile.NamedTemporaryFile("w", suffix=".jsonl") as script:
+        script.write("\n".join(lines) + "\n")
+        script.flush()
+        ours = played(program, words, script.name)
+        other = played(beside, words, script.name) if beside else None
+    row = f"{name}: {ours[0]:.3f} s, {ours[1]:.0f} MB"
+    if other:
+        row += f"; beside {other[0]:.3f} s, {other[1]:.0f} MB"
+    well = bool(ours[2]) and (not other or ours[2] == other[2])
+    if not ours[2]:
+        row += "; FAILED"
+    elif not well:
+        row += "; REPLIES DIFFER"
+    elif other and ours[0] > 3 * other[0]:
+        row += "; slow"
+    print(f"{row}; {says}" if says else row, flush=True)
+    return well
+
+
 def main():
     args = argparse.ArgumentParser(description=__doc__, formatter_class=argparse.RawDescriptionHelpFormatter)
     args.add_argument("--beside", metavar="PROGRAM", help="a second program, whose replies are to be the same")
@@ -270,22 +291,7 @@ def main():
     bad = 0
     for seed in range(known.first, known.last + 1):
         shape = Shape(seed, known.lines)
-        with tempfile.NamedTemporaryFile("w", suffix=".jsonl") as script:
-            script.write("\n".join(shape.script()) + "\n")
-            script.flush()
-            ours = played(known.program, shape.words(), script.name)
-            other = played(known.beside, shape.words(), script.name) if known.beside else None
-        row = f"{seed}: {ours[0]:.3f} s, {ours[1]:.0f} MB"
-        if other:
-            row += f"; beside {other[0]:.3f} s, {other[1]:.0f} MB"
-        row += f"; {shape.says()}"
-        if not ours[2]:
-            row, bad = row + "; FAILED", bad + 1
-        elif other and ours[2] != other[2]:
-            row, bad = row + "; REPLIES DIFFER", bad + 1
-        elif other and ours[0] > 3 * other[0]:
-            row += "; slow"
-        print(row, flush=True)
+        bad += not compared(seed, known.program, known.beside, shape.words(), shape.script(), shape.says())
     return 1 if bad else 0
 
 

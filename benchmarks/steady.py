@@ -19,9 +19,8 @@ import os
 import random
 import subprocess
 import sys
-import tempfile
 
-from shapes import ROOT, played
+from shapes import ROOT, compared
 
 SIZE = 256
 
@@ -174,21 +173,7 @@ def main():
     bad = 0
     for seed in range(known.first, known.last + 1):
         work = Work(seed, known.patches, known.program, known.flights)
-        with tempfile.NamedTemporaryFile("w", suffix=".jsonl") as script:
-            script.write("\n".join(work.script()) + "\n")
-            script.flush()
-            ours = played(known.program, work.words, script.name)
-            other = played(known.beside, work.words, script.name) if known.beside else None
-        row = f"{seed}: {ours[0]:.3f} s, {ours[1]:.0f} MB"
-        if other:
-            row += f"; beside {other[0]:.3f} s, {other[1]:.0f} MB"
-        if not ours[2]:
-            row, bad = row + "; FAILED", bad + 1
-        elif other and ours[2] != other[2]:
-            row, bad = row + "; REPLIES DIFFER", bad + 1
-        elif other and ours[0] > 3 * other[0]:
-            row += "; slow"
-        print(f"{row}; {work.says()}", flush=True)
+        bad += not compared(seed, known.program, known.beside, work.words, work.script(), work.says())
     return 1 if bad else 0
 
 

@@ -1,13 +1,11 @@
 //! The grade of a new change. A block is written only with all its hard changes, so a change is hard only where nothing
 //! that it depends on can come to wait for its block: no open gate, no change of another block that needs one of its
-//! block, and no block from which the block graph leads to its block. Over a block whose changes are all on disk no search
-//! is needed, nor where only changes of the block are pending of what the change depends on, nor where all of that is a hard
-//! change of the block or below its floor. It is soft where it depends on a change of the block from which a way is known to
-//! lead back, and as an earlier change of the block where it comes after the same. Else the ancestors of what it depends on
-//! may lead back to the block, or a walk down that is not long may tell, and only where neither does a way back is looked for
-//! from both ends. A gate that is sealed with the change is taken as sealed already:
-//! that sets free what it alone blocks, and moves no change and no dependency. Each of these that finds a way back tells where
-//! it ends too, so that the way is known from then on (`needs`).
+//! block, and no block from which the block graph leads to its block. The first step that tells is the last that is taken:
+//! docs/grades.md has them in their order, and for each a script that takes several times as long without it. A step that
+//! finds a way back tells where it ends too, so that the way is known from then on (`needs`).
+//!
+//! A gate that is sealed with the change is taken as sealed already: that sets free what it alone blocks, and moves no
+//! change and no dependency.
 
 ghost use Rattle.std.specs.Prelude.{◌<◌, length};
 ghost use Rattle.fst_heads.specs.Grading.{LeadsNowhere, MayBeHard};

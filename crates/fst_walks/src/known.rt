@@ -1,6 +1,6 @@
-//! A way back to a block over what is known: where a soft change of the block, from which a way leads back, lies in the row
-//! of a new change, a way leads back from that too, to the same end. So a run of soft changes of one block is
-//! looked through once, and not by each of them again.
+//! A way back to a block over what is known: where a soft change of the block, from which a way leads back, lies in the
+//! row of a new change, a way leads back from that too, to the same end. So a run of soft changes of one block is looked
+//! through once, and not by each of them again.
 
 ghost use Rattle.std.specs.Prelude.{◌<◌, length, Contains, IfSome};
 ghost use Rattle.fst_types.specs.Patches.{Patch};

@@ -86,3 +86,20 @@ forget 4
 "#;
     plays_text(&rt, rt.alloc(), 4, script, replies);
 }
+
+#[test]
+fn grades_1(rt: HostRuntime) {
+    let script = r#"{"do":"patch","block":0,"at":0,"data":"41"}
+{"do":"patch","block":1,"at":0,"data":"42","after":[1]}
+{"do":"patch","block":1,"at":1,"data":"43"}
+{"do":"patch","block":2,"at":0,"data":"44","after":[3]}
+{"do":"patch","block":0,"at":1,"data":"45","after":[4]}
+"#;
+    let replies = r#"patch 1 hard
+patch 2 hard
+patch 3 hard
+patch 4 hard
+patch 5 soft
+"#;
+    plays_text(&rt, rt.alloc(), 4, script, replies);
+}

@@ -1,0 +1,110 @@
+#!/usr/bin/env python3
+"""One script for each step of the search for a grade that no other benchmark misses, and the processor seconds that
+`feather play` takes.
+
+    benchmarks/steps.py [--beside PROGRAM] [--only NAME[,NAME]] [PROGRAM]
+
+For whoever changes the search: without its step a script takes several times as long (docs/grades.md says which, and what
+shows the other steps). With --beside a second program plays the same script: it is to give the same replies, and the line
+ends in `slow` where PROGRAM takes three times as long. PROGRAM is the program as `rt build` or `./feather` leaves it;
+without it `./feather` is used, which builds it once.
+"""
+
+import argparse
+import os
+import sys
+
+from calls import Script
+from shapes import ROOT, compared
+
+MANY = 20_000
+
+
+def ring_back():
+    """Each patch after the newest of the next block, downward over 4,096 blocks: a way back goes once around all of them."""
+    made, newest = Script(4096), {}
+    for turn in range(MANY):
+        block = -turn % 4096
+        above = newest.get((block + 1) % 4096)
+        newest[block] = made.patch(block, turn % 4096, [above] if above else [])
+    return made
+
+
+def gates_in_a_chain():
+    """Each patch after a gate over the patch before it, on a random block of 4,096."""
+    made, last = Script(4096), None
+    while made.given < MANY:
+        after = [made.sealed([last])] if last else []
+        last = made.patch(made.dice.randrange(4096), made.dice.randrange(4096), after)
+    return made
+
+
+def two_families():
+    """By turns of two kinds: 1,000 patches on random blocks of 256, after a gate over the last 1,000 of their kind."""
+    made, last = Script(256), [[], []]
+    while made.given < MANY:
+        for kind in (0, 1):
+            after = [made.sealed(last[kind])] if last[kind] else []
+            last[kind] = [made.patch(made.dice.randrange(256), made.dice.randrange(4096), after) for _ in range(1000)]
+    return made
+
+
+def three_blocks():
+    """Three blocks by turns, each patch after the newest of the block before; one in five of the first after the third."""
+    made, newest = Script(3), {}
+    while made.given < MANY * 3 // 2:
+        for block in (0, 1, 2):
+            back = block or (2 in newest and made.dice.random() < 0.2)
+            newest[block] = made.patch(block, made.dice.randrange(4096), [newest[(block - 1) % 3]] if back else [])
+    return made
+
+
+def drift(anew):
+    """Groups of ten changes over 256 blocks, gone through slowly, each group after the one before but for so many in ten;
+    one change in five is in no group, and after three of the 50 before it."""
+    made, tail, numbers = Script(256), None, []
+    while made.given < MANY:
+        group = made.group(None if made.dice.randrange(10) < anew else tail)
+        for _ in range(10):
+            block = (len(numbers) // 7 + made.dice.randrange(3)) % 256
+            at = made.dice.randrange(4096)
+            if made.dice.random() < 0.8:
+                made.member(group, block, at)
+            else:
+                made.patch(block, at, [made.dice.choice(numbers[-50:]) for _ in range(3)] if numbers else [])
+            numbers.append(made.given)
+        made.ask("group_close", group=group)
+        tail = group
+    return made
+
+
+def groups_in_a_chain():
+    """A drift of groups, all in one chain."""
+    return drift(0)
+
+
+def chains_of_groups():
+    """A drift of groups, of which one in five begins a chain."""
+    return drift(2)
+
+
+SHAPES = [ring_back, gates_in_a_chain, two_families, three_blocks, groups_in_a_chain, chains_of_groups]
+
+
+def main():
+    args = argparse.ArgumentParser(description=__doc__, formatter_class=argparse.RawDescriptionHelpFormatter)
+    args.add_argument("--beside", metavar="PROGRAM", help="a second program, whose replies are to be the same")
+    args.add_argument("--only", metavar="NAME[,NAME]", help=", ".join(shape.__name__ for shape in SHAPES))
+    args.add_argument("program", nargs="?", metavar="PROGRAM", default=os.path.join(ROOT, "feather"))
+    known = args.parse_args()
+    only = known.only.split(",") if known.only else [shape.__name__ for shape in SHAPES]
+    bad = 0
+    for shape in [shape for shape in SHAPES if shape.__name__ in only]:
+        made = shape()
+        name = f"{shape.__name__}, {len(made.lines)} lines"
+        bad += not compared(name, known.program, known.beside, made.words, [*made.lines, '{"do":"stat"}'])
+    return 1 if bad else 0
+
+
+if __name__ == "__main__":
+    sys.exit(main())
