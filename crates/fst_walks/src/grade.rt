@@ -1,7 +1,7 @@
 //! The grade of a new change. A block is written only with all its hard changes, so a change is hard only where nothing
 //! that it depends on can come to wait for its block: no open gate, no change of another block that needs one of its
 //! block, and no block from which the block graph leads to its block. The first step that tells is the last that is taken:
-//! docs/grades.md has them in their order, and for each a script that takes several times as long without it. A step that
+//! docs/grades.md has them in their order, and for most a script that takes several times as long without it. A step that
 //! finds a way back tells where it ends too, so that the way is known from then on (`needs`).
 //!
 //! A gate that is sealed with the change is taken as sealed already: that sets free what it alone blocks, and moves no
