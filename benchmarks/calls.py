@@ -37,6 +37,11 @@ class Script:
         self.given += 1
         return self.given
 
+    def empty(self, after):
+        self.line('{"do":"empty","after":[%s]}' % ",".join(map(str, after)))
+        self.given += 1
+        return self.given
+
     def gate(self):
         self.line('{"do":"gate"}')
         self.given += 1

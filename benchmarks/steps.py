@@ -88,7 +88,33 @@ def chains_of_groups():
     return drift(2)
 
 
-SHAPES = [ring_back, gates_in_a_chain, two_families, three_blocks, groups_in_a_chain, chains_of_groups]
+def deep_below():
+    """Changes of a block that has 4,000, each after one of the upper half of 10,000 empty patches in a chain."""
+    made = Script(4096)
+    last = made.patch(1, 0)
+    for at in range(4000):
+        made.patch(0, at)
+    chain = [last := made.empty([last]) for _ in range(10_000)]
+    for at in range(MANY // 4):
+        made.patch(0, at % 4096, [made.dice.choice(chain[5000:])])
+    return made
+
+
+def tower():
+    """A chain over 4,000 blocks, and after each of it a change of a block over which 20,000 empty patches stand."""
+    made, last = Script(4096), []
+    first = made.patch(0, 0)
+    for _ in range(MANY):
+        made.empty([first])
+    for step in range(1, 4000):
+        last = [made.patch(step, 0, last)]
+        made.patch(0, step, last)
+    return made
+
+
+SHAPES = [
+    ring_back, gates_in_a_chain, two_families, three_blocks, groups_in_a_chain, chains_of_groups, deep_below, tower,
+]
 
 
 def main():

@@ -20,7 +20,7 @@ ghost use Rattle.fst_walks.specs.Walks.{numbers_met};
 
 use crate::block_walk::BlockWalk;
 use crate::first_away::{FEW, visit_first_away};
-use crate::graded::{Graded, hard, soft};
+use crate::graded::{Graded, hard_after, soft};
 use crate::sight::Sight;
 use crate::walk::Walk;
 use crate::way_down::step_down;
@@ -128,5 +128,9 @@ pub fn grade_below(
     if met.is_some() {
         return Some(soft(met));
     }
-    if looked <= few { Some(hard()) } else { None }
+    if looked <= few {
+        Some(hard_after(looked.saturating_add(down.walk.len())))
+    } else {
+        None
+    }
 }

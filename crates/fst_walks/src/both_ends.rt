@@ -19,7 +19,7 @@ ghost use Rattle.fst_walks.specs.WayBack.{ShowsBlockOf};
 
 use crate::ends::{Ends, Looked, meets};
 use crate::first_away::{FEW, visit_first_away};
-use crate::graded::{Graded, hard, soft};
+use crate::graded::{Graded, hard_after, soft};
 use crate::sight::Sight;
 use crate::trace::trace;
 use crate::walk::Walk;
@@ -199,7 +199,7 @@ fn grade_within(
     ends.down.cross_only(block);
     let looked = visit_first_away(sight.heads, &mut ends.down.walk, block, row, limit);
     if looked <= limit && ends.down.walk.len() == 0 {
-        return Some(hard());
+        return Some(hard_after(looked));
     }
     // No way up falls, so none to what is met now goes through what is higher, nor through what is lower than the floor.
     let most = highest(sight, &ends.down.walk);
@@ -211,7 +211,12 @@ fn grade_within(
     if let Some(slot) = meet_between(sight, ends, most, least, budget)? {
         return Some(soft(trace(sight, &ends.up.walk, slot, block)));
     }
-    if looked <= limit { Some(hard()) } else { None }
+    if looked <= limit {
+        let met = ends.down.walk.len().saturating_add(ends.up.walk.len());
+        Some(hard_after(looked.saturating_add(met)))
+    } else {
+        None
+    }
 }
 
 /// What keeps a new change of the block with that row soft but for open gates: it is soft where a way leads from the row

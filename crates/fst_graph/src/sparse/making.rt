@@ -148,7 +148,7 @@ impl Sparse {
             &mut self.ends.up.crossed,
             block,
             row,
-            grade,
+            prepared.told,
         );
         self.levels
             .lift(&self.heads, &self.ends.up.walk, block, rise);

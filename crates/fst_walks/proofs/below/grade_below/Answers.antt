@@ -30,7 +30,7 @@ returns-then-looked-few-clause-told c =
     let sees = c.requires.sees in
     let crossed = c.cross_only.new.self.crossed.items in
     let shown = c.cross_only.ensures.shown in
-    told_hard (patches_of heads) c.args.block c.args.row.now (LeadsNowhere (patches_of heads) c.args.block c.args.row.now) c.hard.result c.hard.ensures.grade c.hard.ensures.end
+    told_hard (patches_of heads) c.args.block c.args.row.now (LeadsNowhere (patches_of heads) c.args.block c.args.row.now) c.hard_after.result c.hard_after.ensures.grade c.hard_after.ensures.end
     (comes_hard heads sees.rising sees.disk sees.hard sees.flights (level_of sight.levels.now.ranks) (floor_of sight.levels.now.floors) sees.leveled.leveled (needs_of sight.needs.now.lists) sees.needing.needed
     c.args.block c.floor-least.result (omega (arith, c.floor-least.ensures)) c.args.row.now crossed crossed shown shown
     (numbers_met heads c.visit_first_away-looked.new.walk) c.visit_first_away-looked.ensures.only (c.visit_first_away-looked.ensures.all (omega (arith, c.if-looked-few.true)))

@@ -61,7 +61,7 @@ returns-then-looked-limit-2-clause-told c =
     let sight = c.args.sight.now in
     let heads = sight.heads.now in
     let sees = c.requires.sees in
-    told_hard (patches_of heads) c.args.block c.args.row.now (LeadsNowhere (patches_of heads) c.args.block c.args.row.now) c.hard-then-looked-limit-2.result c.hard-then-looked-limit-2.ensures.grade c.hard-then-looked-limit-2.ensures.end
+    told_hard (patches_of heads) c.args.block c.args.row.now (LeadsNowhere (patches_of heads) c.args.block c.args.row.now) c.hard_after-then-looked-limit-2.result c.hard_after-then-looked-limit-2.ensures.grade c.hard_after-then-looked-limit-2.ensures.end
     (apart_hard heads sees.rising sees.disk sees.hard sees.flights (level_of sight.levels.now.ranks) (floor_of sight.levels.now.floors) sees.leveled.leveled (needs_of sight.needs.now.lists) sees.needing.needed
     c.highest-most.result c.floor-least.result c.args.block (omega (arith, c.floor-least.ensures)) c.args.row.now _ _ _ _ (starts (goal.at.returns-then-looked-limit-2-clause-told c).After-visit_low_changes)
     (c.visit_first_away-looked.ensures.all (omega (arith, c.if-looked-limit-2.true))) (numbers_met heads c.meet_between.new.ends.up.walk) (numbers_met heads c.meet_between.new.ends.down.walk) (MatchOption-at_none _ _ c.in_default.is c.in_ok-slot.ensures.apart))
@@ -72,5 +72,5 @@ returns-then-len-eq0-clause-told c =
     let heads = c.args.sight.now.heads.now in
     let sees = c.requires.sees in
     let none : (n : ℕ) → Contains (numbers_met heads c.visit_first_away-looked.new.walk) n → ⊥ = λ n k. absurd (omega (arith, k.1, long_met heads c.visit_first_away-looked.new.walk, c.len.ensures.long, c.if-len-eq0.true)) in
-    told_hard (patches_of heads) c.args.block c.args.row.now (LeadsNowhere (patches_of heads) c.args.block c.args.row.now) c.hard.result c.hard.ensures.grade c.hard.ensures.end
+    told_hard (patches_of heads) c.args.block c.args.row.now (LeadsNowhere (patches_of heads) c.args.block c.args.row.now) c.hard_after.result c.hard_after.ensures.grade c.hard_after.ensures.end
     (none_first heads sees.rising sees.disk sees.hard c.args.block c.cross_only.new.self.crossed.items c.cross_only.ensures.shown c.args.row.now (λ n f. none n (c.visit_first_away-looked.ensures.all (omega (arith, c.if-looked-limit.true)) n f)))

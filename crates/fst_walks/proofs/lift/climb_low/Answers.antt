@@ -24,7 +24,7 @@ loop-at-preserved c =
     }
 
 pub returns-clause-met : goal.returns-clause-met
-returns-clause-met c n =
+returns-clause-met c t n =
     let heads = c.args.sight.now.heads.now in
     let walking = c.loop-at.invariant.walking in
     let past : length (numbers_met heads c.loop-at.walk) ≤ c.loop-at.at = omega (arith, c.loop-at-test.false, c.len.ensures.long, long_met heads c.loop-at.walk) in
