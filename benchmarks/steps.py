@@ -112,8 +112,24 @@ def tower():
     return made
 
 
+def behind_a_gate():
+    """15,000 patches over 64 blocks behind a gate, then as many over 64 others, each after one of the 5,000 before."""
+    made, some = Script(4096), []
+    first = made.patch(4000, 0)
+    gate = made.gate()
+    made.depend(gate, first)
+    for turn in range(30_000):
+        if turn == 15_000:
+            made.ask("seal", gate=gate)
+        near = some[-50:] if turn < 15_000 else some[-5000:]
+        block = made.dice.randrange(64) + (1 if turn < 15_000 else 100)
+        some.append(made.patch(block, made.dice.randrange(4096), [made.dice.choice(near) if near else gate]))
+    return made
+
+
 SHAPES = [
     ring_back, gates_in_a_chain, two_families, three_blocks, groups_in_a_chain, chains_of_groups, deep_below, tower,
+    behind_a_gate,
 ]
 
 

@@ -90,6 +90,13 @@ module _ {heads : Vec Head} {ends : Ends} {levels : Leveling} {needs : Needing} 
     prepared = tt;
   }
 
+  -- and so where patches came down on them
+  pub settled_sound : {walked : Ends} {settled : Leveling} → IsOver heads.items (length lists.items) walked.up → IsOver heads.items (length lists.items) walked.down → IsLeveled (patches_of heads.items) blocks settled
+      → AreSound heads walked settled needs lists covers standings queue live unmarked numbers blocks None
+  settled_sound {walked = walked} up down leveled =
+      let W = walked_sound {walked = walked} up down in
+      record { keeps = W.keeps; beside = W.beside; tallies = W.tallies; covered = W.covered; along = W.along; leveled = leveled; needing = W.needing; given = W.given; none_below = W.none_below; prepared = tt }
+
   -- also where they began over the heads and the lists that were handed on
   pub walked_then : {walked : Ends} {seen : List Head} {shelves : List (Vec Listed)} → seen ≡ heads.items → shelves ≡ lists.items → IsOver seen (length shelves) walked.up → IsOver seen (length shelves) walked.down
       → AreSound heads walked levels needs lists covers standings queue live unmarked numbers blocks None

@@ -37,6 +37,7 @@ use fst_walks::ascent::mark_flight;
 use fst_walks::ends::Ends;
 use fst_walks::levels::Levels;
 use fst_walks::needs::Needs;
+use fst_walks::sink::sink_over;
 use std::alloc::{AllocError, Global};
 use std::marker::Model;
 
@@ -165,9 +166,8 @@ impl Sparse {
         ready_set(self.alloc, &self.heads, list, marks, most, block.0)
     }
 
-    /// Seals an open gate, and puts on disk what now rests there. It is refused as `NoPatch` where the number was not
-    /// given, as `NotGate` where it is no gate's or forgotten, and as `Sealed`. It takes no memory.
-    pub fn seal(&mut self, gate: PatchNo) -> Result<(), Fault>
+    // As `seal`, but what was put behind the gate stays at the top.
+    fn seal_alone(&mut self, gate: PatchNo) -> Result<(), Fault>
         ensures ok { OnOk result (SealsGate self.old gate.0 self.new) }
         ensures refused { IfErr result (IsFirst (seal_order self.old.heads self.old.numbers gate.0)) }
         ensures same { OnErr result (self.new ≡ unprepared self.old) }
@@ -186,6 +186,28 @@ impl Sparse {
         self.live -= landed;
         self.unmarked = 0;
         Ok(())
+    }
+
+    // What was put behind a gate comes down from the top, where the gate has: then levels tell of it again.
+    pub(crate) fn come_down(&mut self, gate: u32)
+        ensures { self.new ≡ self.old }
+    {
+        sink_over(&mut self.levels, &self.heads, &mut self.ends.up.walk, gate);
+    }
+
+    /// Seals an open gate, and puts on disk what now rests there. It is refused as `NoPatch` where the number was not
+    /// given, as `NotGate` where it is no gate's or forgotten, and as `Sealed`. It takes no memory.
+    pub fn seal(&mut self, gate: PatchNo) -> Result<(), Fault>
+        ensures ok { OnOk result (SealsGate self.old gate.0 self.new) }
+        ensures refused { IfErr result (IsFirst (seal_order self.old.heads self.old.numbers gate.0)) }
+        ensures same { OnErr result (self.new ≡ unprepared self.old) }
+        ensures blocks { self.new.blocks ≡ self.old.blocks }
+    {
+        let sealed = self.seal_alone(gate);
+        if sealed.is_ok() {
+            self.come_down(gate.0);
+        }
+        sealed
     }
 
     /// The open gate gains the named patches that are not on disk and that it does not have yet. It is refused as

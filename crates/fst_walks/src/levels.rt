@@ -5,7 +5,7 @@
 
 ghost use Rattle.std.specs.Prelude.{vec_capacity, count_by, ◌≡◌, ◌≢◌, ◌≤◌, ◌<◌, ◌+◌, ◌++◌, ◌∷◌, [], ℕ, false, IsTrue, length, map, filter, All, Contains, AllPairs, IfOk, IfSome, IfNone, OnOk, slice_index_or};
 ghost use Rattle.fst_types.specs.Tests.{is_live};
-ghost use Rattle.fst_types.specs.Patches.{IsOn};
+ghost use Rattle.fst_types.specs.Patches.{IsOn, OpenGate};
 ghost use Rattle.fst_heads.specs.Heads.{IsRising, patch_of, patches_of};
 ghost use Rattle.fst_heads.specs.Marks.{HasNone, HasSlot};
 ghost use Rattle.fst_heads.specs.Reaching.{IsHardIn};
@@ -13,7 +13,7 @@ ghost use Rattle.fst_heads.specs.Keeps.{IsInside};
 ghost use Rattle.fst_heads.specs.Nodes.{is_live_in, nodes_of};
 ghost use Rattle.fst_heads.specs.Spans.{SpansDisk};
 ghost use Rattle.fst_types.specs.Facts.{IsOnDiskWithAll};
-ghost use Rattle.fst_walks.specs.Leveling.{IsLeveled, floor_of, jump_of, level_of, no_ancestry, parent_of};
+ghost use Rattle.fst_walks.specs.Leveling.{IsLeveled, floor_of, jump_of, level_of, no_ancestry, parent_of, top_level};
 ghost use Rattle.fst_walks.specs.Lifting.{IsLifted, MayLift};
 ghost use Rattle.fst_walks.specs.Walks.{number_at, numbers_met};
 
@@ -317,9 +317,24 @@ impl Levels {
         drop_on_disk(heads, first, end);
     }
 
-    /// A sealed gate in the slot comes down to the greatest level of what it depends on. While it was open it stood at the
-    /// top, and so would all that is put after it.
-    pub fn settle(&mut self, heads: &[Head], slot: usize)
+    // The level that the head has whatever it depends on: a change the floor of its block, and an open gate the top.
+    fn own_level(&self, head: &Head) -> u32
+        ensures change { (b : ℕ) → IsOn (patch_of head.now) b → floor_of self.now.floors b ≤ result }
+        ensures gate { (patch_of head.now).kind ≡ OpenGate → result ≡ top_level }
+    {
+        match head.kind {
+            Kind::Change(_, block, _) => match self.floors.get(block as usize) {
+                Some(floor) => *floor,
+                None => 0,
+            },
+            Kind::Empty | Kind::SealedGate => 0,
+            Kind::OpenGate => TOP,
+        }
+    }
+
+    /// The head in the slot comes down to the greatest level of what it depends on and of its own, and answers whether it did:
+    /// a gate that is sealed stood at the top while it was open, and so does all that was put after it.
+    pub fn settle(&mut self, heads: &[Head], slot: usize) -> bool
         requires rising { IsRising heads.now }
         requires slot { slot < length heads.now }
         requires leveled { IsLeveled (patches_of heads.now) (length self.old.floors) self.old }
@@ -327,11 +342,13 @@ impl Levels {
         ensures room { (length self.new.ranks ≡ length self.old.ranks) × (self.new.room ≡ self.old.room) }
     {
         let head = &heads[slot];
-        if let Kind::SealedGate = head.kind {
-            let level = self.greatest(heads, head.dependencies.as_slice());
-            if level < self.level(slot) {
-                raise(&mut self.ranks, slot, level);
-            }
+        let below = self.greatest(heads, head.dependencies.as_slice());
+        let level = below.max(self.own_level(head));
+        if level < self.level(slot) {
+            raise(&mut self.ranks, slot, level);
+            true
+        } else {
+            false
         }
     }
 

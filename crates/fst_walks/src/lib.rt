@@ -45,6 +45,7 @@ pub mod other_gates;
 pub mod overlap_cycle;
 pub mod shortcuts;
 pub mod sight;
+pub mod sink;
 pub mod starts;
 pub mod trace;
 pub mod walk;

@@ -83,9 +83,8 @@ impl Sparse {
         }
     }
 
-    // Seals the head of the group for which a change is prepared, if it is open, and puts on disk what now rests there. The
-    // change stays prepared.
-    fn begin_member(&mut self, head: u32)
+    // As `begin_member`, but what was put behind the head stays at the top. Answers whether the head was open.
+    fn seal_head(&mut self, head: u32) -> bool
         requires { (p : Prepared) × (self.old.prepared ≡ Some p) × (p.group ≡ Some head) }
         ensures begun { SealsIfOpen (unprepared self.old) head (unprepared self.new) }
         ensures prepared { self.new.prepared ≡ self.old.prepared }
@@ -100,8 +99,22 @@ impl Sparse {
                 renew(&mut self.levels, &self.heads, head);
                 self.live -= landed;
                 self.unmarked = 0;
+                true
             }
-            Err(_) => {}
+            Err(_) => false,
+        }
+    }
+
+    // Seals the head of the group for which a change is prepared, if it is open, and puts on disk what now rests there. The
+    // change stays prepared.
+    fn begin_member(&mut self, head: u32)
+        requires { (p : Prepared) × (self.old.prepared ≡ Some p) × (p.group ≡ Some head) }
+        ensures begun { SealsIfOpen (unprepared self.old) head (unprepared self.new) }
+        ensures prepared { self.new.prepared ≡ self.old.prepared }
+        ensures closed { IsOpenNumber self.new.heads head → ⊥ }
+    {
+        if self.seal_head(head) {
+            self.come_down(head);
         }
     }
 

@@ -1,8 +1,8 @@
 use Rattle.std.proofs.lemmas.Grind.{common_steps}
 use Rattle.std.proofs.Common.{◌∙◌, ◌≤◌, ap, arith, get_or, length, map, refl, subst, sym, Contains}
 use Rattle.fst_heads.specs.{Heads.patches_of}
-use Rattle.fst_walks.specs.Leveling.{IsLeveled, Leveling, level_of}
-use Rattle.fst_walks.proofs.{Lowered.lowered_is_leveled, Ranked.ranks_rise}
+use Rattle.fst_walks.specs.Leveling.{IsLeveled, Leveling, floor_of, level_of}
+use Rattle.fst_walks.proofs.{Highest.{max_first, max_second}, Lowered.lowered_is_leveled, Ranked.ranks_rise}
 use Rattle.fst_walks.proofs.levels.Levels.settle.Goals as goal
 
 pub raise-requires-clause-rising : goal.raise-requires-clause-rising
@@ -14,10 +14,16 @@ returns-then-level-clause-leveled c =
     let s = c.args.slot in
     let old : Leveling = record { ranks = c.self.inside.ranks.items; floors = c.self.inside.floors.items; room = c.self.inside.room } in
     let new : Leveling = record { ranks = c.raise.new.ranks.items; floors = c.self.inside.floors.items; room = c.self.inside.room } in
+    let first = max_first c.greatest-below.result c.own_level.result in
+    let second = max_second c.greatest-below.result c.own_level.result in
     rw (← c.self.view_is)
-    (lowered_is_leveled heads c.requires.rising s c.requires.slot c.index-heads-slot.result c.index-heads-slot.is c.in-SealedGate.is (length old.floors) c.greatest-level.result old new
-    (λ q named. subst (λ (v : Leveling). level_of v.ranks q ≤ c.greatest-level.result) (sym c.self.view_is) (c.greatest-level.ensures q (subst (λ row. Contains row q) (sym c.as_slice.ensures) named)))
+    (lowered_is_leveled heads c.requires.rising s c.requires.slot c.index-heads-slot.result c.index-heads-slot.is (length old.floors) c.max-level.result old new
+    (λ q named.
+    let under = c.greatest-below.ensures q (subst (λ row. Contains row q) (sym c.as_slice.ensures) named) in
+    subst (λ (v : Leveling). level_of v.ranks q ≤ c.max-level.result) (sym c.self.view_is) (omega (arith, under, first, c.max-level.ensures)))
     (λ d. let k = c.level.ensures d in let e = ap (λ (v : Leveling). (get_or v.ranks s d).level) c.self.view_is in omega (arith, k, e, c.if-level.true))
+    (λ b on. let over = c.own_level.ensures.change b on in subst (λ (v : Leveling). floor_of v.floors b ≤ c.max-level.result) (sym c.self.view_is) (omega (arith, over, second, c.max-level.ensures)))
+    (λ is_open. let top = c.own_level.ensures.gate is_open in omega (arith, top, second, c.max-level.ensures))
     c.raise.ensures.numbers c.raise.ensures.raised c.raise.ensures.rest c.raise.ensures.ancestries refl
     (subst (λ (v : Leveling). IsLeveled (patches_of heads) (length v.floors) v) (sym c.self.view_is) c.requires.leveled))
 
@@ -26,9 +32,6 @@ returns-else-level-clause-leveled c = grind (arith, common_steps)
 
 pub returns-else-level-clause-room : goal.returns-else-level-clause-room
 returns-else-level-clause-room c = grind (arith, common_steps)
-
-pub returns-in_default : goal.returns-in_default
-returns-in_default c = grind (arith, common_steps)
 
 pub returns-then-level-clause-room : goal.returns-then-level-clause-room
 returns-then-level-clause-room c = grind (arith, common_steps)

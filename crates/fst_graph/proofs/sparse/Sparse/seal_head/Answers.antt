@@ -4,8 +4,8 @@ use Rattle.fst_heads.specs.{Frames.{frame_of, frames_of}, Heads.patches_of, Mark
 use Rattle.fst_graph.specs.Sound.{IsPrepared}
 use Rattle.fst_graph.proofs.{Borne.settled_fits, GateSlot.refused_closed, MemberReady.{put_begun, around_kept, places_kept, shut_begun}, Ranks.leveled_then, Readied.head_told}
 use Rattle.fst_graph.proofs.{Shutting.{shut_ready, shut_few, shut_cascade, shut_settles, shut_sound}, Sound.{if_prepared, open_given, rising_sound, with_prepared}}
-use Rattle.fst_graph.proofs.sparse.Sparse.begin_member.Goals.{After-seal_slot, In-Err}
-use Rattle.fst_graph.proofs.sparse.Sparse.begin_member.Goals as goal
+use Rattle.fst_graph.proofs.sparse.Sparse.seal_head.Goals.{After-seal_slot, In-Err}
+use Rattle.fst_graph.proofs.sparse.Sparse.seal_head.Goals as goal
 
 pub gate_slot-requires : goal.gate_slot-requires
 gate_slot-requires c = rw c.deref.ensures.value (rising_sound c.self.invariant)

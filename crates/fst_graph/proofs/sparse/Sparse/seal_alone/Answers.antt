@@ -1,8 +1,8 @@
 use Rattle.std.proofs.Common.{rules, ◌∙◌, length, sym, subst, ap, arith, refl}
 use Rattle.fst_types.specs.{Gates.IsOpenNumber, Order.seal_order, Refusals.NoneHolds}
 use Rattle.fst_heads.specs.{Heads.patches_of, Marks.HasSlot, Nodes.nodes_of}
-use Rattle.fst_graph.proofs.{Borne.settled_fits, Ranks.leveled_then, Shutting.{shut_ready, shut_few, shut_cascade, shut_settles, shut_sound}, Sound.{open_given, rising_sound}, sparse.Sparse.seal.Goals.After-seal_slot}
-use Rattle.fst_graph.proofs.sparse.Sparse.seal.Goals as goal
+use Rattle.fst_graph.proofs.{Borne.settled_fits, Ranks.leveled_then, Shutting.{shut_ready, shut_few, shut_cascade, shut_settles, shut_sound}, Sound.{open_given, rising_sound}, sparse.Sparse.seal_alone.Goals.After-seal_slot}
+use Rattle.fst_graph.proofs.sparse.Sparse.seal_alone.Goals as goal
 
 pub gate_slot-requires : goal.gate_slot-requires
 gate_slot-requires c = rw c.deref.ensures.value (rising_sound c.self.invariant)

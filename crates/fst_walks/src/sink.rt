@@ -1,0 +1,96 @@
+//! What was put behind an open gate stands at the top, where levels tell nothing of it. Once the gate is sealed it comes down,
+//! as far as no other gate is open below it: each patch once all that it depends on has come down, and each once.
+
+ghost use Rattle.std.specs.Prelude.{◌≡◌, ◌<◌, length};
+ghost use Rattle.fst_heads.specs.Heads.{IsRising, patches_of};
+ghost use Rattle.fst_walks.specs.Leveling.{IsLeveled};
+
+use crate::levels::{Levels, TOP};
+use crate::shortcuts::newest;
+use crate::walk::Walk;
+use fst_heads::head::Head;
+
+// How long a row is looked through each time that one of it has come down. A longer one is only as the newest of it does.
+const LONGEST: usize = 64;
+
+// Whether nothing of the row is at the top any more, of which that patch has come down last.
+fn is_down(levels: &Levels, heads: &[Head], row: &[u32], last: u32) -> bool
+    requires rising { IsRising heads.now }
+    requires leveled { IsLeveled (patches_of heads.now) (length levels.now.floors) levels.now }
+{
+    if row.len() > LONGEST && newest(row) != Some(last) {
+        return false;
+    }
+    for number in row.iter().rev() {
+        if levels.of(heads, *number) == TOP {
+            return false;
+        }
+    }
+    true
+}
+
+// The patch with the number comes down from the top, where nothing that it depends on is there any more, of which that patch
+// has come down last. It is met then.
+fn sink_one(levels: &mut Levels, heads: &[Head], walk: &mut Walk, number: u32, last: u32)
+    requires rising { IsRising heads.now }
+    requires leveled { IsLeveled (patches_of heads.now) (length levels.old.floors) levels.old }
+    requires long { length walk.old.marks ≡ length heads.now }
+    ensures leveled { IsLeveled (patches_of heads.now) (length levels.old.floors) levels.new }
+    ensures levels { (length levels.new.ranks ≡ length levels.old.ranks) × (levels.new.room ≡ levels.old.room) }
+    ensures long { length walk.new.marks ≡ length heads.now }
+    ensures room { walk.new.room ≡ walk.old.room }
+{
+    let Some(slot) = levels.find(heads, number) else {
+        return;
+    };
+    if levels.level(slot) < TOP {
+        return;
+    }
+    let row = heads[slot].dependencies.as_slice();
+    if is_down(levels, heads, row, last) && levels.settle(heads, slot) {
+        walk.meet(slot);
+    }
+}
+
+// What directly depends on the patch in the slot, which has come down, comes down where it can.
+fn sink_dependants(levels: &mut Levels, heads: &[Head], walk: &mut Walk, slot: usize)
+    requires rising { IsRising heads.now }
+    requires slot { slot < length heads.now }
+    requires leveled { IsLeveled (patches_of heads.now) (length levels.old.floors) levels.old }
+    requires long { length walk.old.marks ≡ length heads.now }
+    ensures leveled { IsLeveled (patches_of heads.now) (length levels.old.floors) levels.new }
+    ensures levels { (length levels.new.ranks ≡ length levels.old.ranks) × (levels.new.room ≡ levels.old.room) }
+    ensures long { length walk.new.marks ≡ length heads.now }
+    ensures room { walk.new.room ≡ walk.old.room }
+{
+    let head = &heads[slot];
+    for over in head.dependants.as_slice() {
+        sink_one(levels, heads, walk, *over, head.number);
+    }
+}
+
+/// What stands over the patch with the number comes down from the top, where that has. What was met before does not matter.
+pub fn sink_over(levels: &mut Levels, heads: &[Head], walk: &mut Walk, number: u32)
+    requires rising { IsRising heads.now }
+    requires leveled { IsLeveled (patches_of heads.now) (length levels.old.floors) levels.old }
+    requires long { length walk.old.marks ≡ length heads.now }
+    ensures leveled { IsLeveled (patches_of heads.now) (length levels.old.floors) levels.new }
+    ensures levels { (length levels.new.ranks ≡ length levels.old.ranks) × (levels.new.room ≡ levels.old.room) }
+    ensures long { length walk.new.marks ≡ length heads.now }
+    ensures room { walk.new.room ≡ walk.old.room }
+{
+    walk.clear();
+    let Some(slot) = levels.find(heads, number) else {
+        return;
+    };
+    if levels.level(slot) == TOP {
+        return;
+    }
+    walk.meet(slot);
+    let mut at = 0;
+    while at < walk.len() {
+        let slot = walk.slot(at);
+        sink_dependants(levels, heads, walk, slot);
+        at += 1;
+    }
+}
