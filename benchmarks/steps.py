@@ -127,9 +127,33 @@ def behind_a_gate():
     return made
 
 
+def deep_over():
+    """Changes of a block over which 45,000 empty patches stand in a chain, each after one of another chain of 8,000."""
+    made = Script(4096)
+    other, last = made.patch(1, 0), made.patch(0, 0)
+    for _ in range(45_000):
+        last = made.empty([last])
+    chain = [other := made.empty([other]) for _ in range(8000)]
+    for at in range(1, 4000):
+        made.patch(0, at, [made.dice.choice(chain[4000:])])
+    return made
+
+
+def many_needs():
+    """20,000 changes of a block, each after an empty patch of its own, then as many after one change of another block."""
+    made = Script(4096)
+    under = [made.patch(block, 0) for block in range(10, 2010)]
+    one = made.patch(5, 0)
+    for turn in range(MANY):
+        made.patch(0, turn % 4096, [made.empty([under[turn % 2000]])])
+    for turn in range(MANY):
+        made.patch(0, turn % 4096, [one])
+    return made
+
+
 SHAPES = [
     ring_back, gates_in_a_chain, two_families, three_blocks, groups_in_a_chain, chains_of_groups, deep_below, tower,
-    behind_a_gate,
+    behind_a_gate, deep_over, many_needs,
 ]
 
 

@@ -17,10 +17,10 @@ ghost use Rattle.fst_walks.specs.Leveling.{IsLeveled, floor_of, jump_of, level_o
 ghost use Rattle.fst_walks.specs.Lifting.{IsLifted, MayLift};
 ghost use Rattle.fst_walks.specs.Walks.{number_at, numbers_met};
 
-use crate::shortcuts::is_hard_in;
+use crate::ranks::{keep_live, raise, raise_floor, rank_slot};
 use crate::walk::Walk;
 use fst_heads::head::{Head, Kind};
-use fst_heads::places::{drop_on_disk, end_on_disk, first_on_disk, is_kept};
+use fst_heads::places::{drop_on_disk, end_on_disk, first_on_disk};
 use std::alloc::{AllocError, Global};
 use std::marker::Model;
 
@@ -51,14 +51,18 @@ pub struct Rise {
     pub level: u32,
     /// Whether what was met goes up to it, with the floor of its block.
     pub lifts: bool,
+    /// What searches for a way back to its block have looked at since the floor went up last.
+    pub owed: usize,
 }
 
-/// The levels and ancestries of the heads, in their order, and the floors of the blocks. It takes 20 bytes for each head and 4
-/// for each block.
+/// The levels and ancestries of the heads, in their order, and the floors of the blocks. For each block is kept what searches
+/// for a way back to it have looked at since its floor went up last, so that it goes up once that is worth it (`lift`). It takes
+/// 20 bytes for each head and 12 for each block.
 #[derive(Drop)]
 pub struct Levels {
     ranks: Vec<Rank>,
     floors: Vec<u32>,
+    owed: Vec<usize>,
     room: usize,
 }
 
@@ -91,97 +95,17 @@ fn empty_floors(alloc: Global, blocks: u32) -> Result<Vec<u32>, AllocError>
     vec![in alloc; 0; blocks as usize]
 }
 
-// The head in the slot is at that level.
-fn raise(ranks: &mut Vec<Rank>, slot: usize, to: u32)
-    requires slot { slot < length ranks.old.items }
-    requires rising { AllPairs (λ r q. r.number < q.number) ranks.old.items }
-    ensures numbers { map (λ r. r.number) ranks.new.items ≡ map (λ r. r.number) ranks.old.items }
-    ensures raised { (d : Rank) → level_of ranks.new.items (slice_index_or ranks.old.items slot d).number ≡ to }
-    ensures rest { (d : Rank) (n : ℕ) → n ≢ (slice_index_or ranks.old.items slot d).number → level_of ranks.new.items n ≡ level_of ranks.old.items n }
-    ensures ancestries { map (λ r. r.ancestry) ranks.new.items ≡ map (λ r. r.ancestry) ranks.old.items }
-    ensures capacity { vec_capacity ranks.new ≡ vec_capacity ranks.old }
-{
-    ranks[slot].level = to;
-}
-
-// Where the patch is a hard change in memory, the floor of its block is there.
-fn raise_floor(floors: &mut Vec<u32>, head: &Head, to: u32)
-    requires { (c : ℕ) → IsOn (patch_of head.now) c → c < length floors.old.items }
-    ensures long { length floors.new.items ≡ length floors.old.items }
-    ensures raised { (c : ℕ) → IsHardIn (patch_of head.now) c → floor_of floors.new.items c ≡ to }
-    ensures rest { (c : ℕ) → (IsHardIn (patch_of head.now) c → ⊥) → floor_of floors.new.items c ≡ floor_of floors.old.items c }
-{
-    if let Kind::Change(_, block, _) = head.kind {
-        if is_hard_in(head, block as u32) {
-            floors[block as usize] = to;
-        }
-    }
-}
-
-// The slot of the rank with the number, where none of those behind it is missing: then it is as far from the last slot as its
-// number is from the last number.
-fn rank_from_end(ranks: &[Rank], number: u32) -> Option<usize>
-    ensures { IfSome result (λ slot. (slot < length ranks.now) × ((d : Rank) → (slice_index_or ranks.now slot d).number ≡ number)) }
-{
-    let last = ranks.last()?.number;
-    if last < number {
-        return None;
-    }
-    let back = (last - number) as usize;
-    if ranks.len() <= back {
-        return None;
-    }
-    let slot = ranks.len() - back - 1;
-    if ranks[slot].number == number {
-        Some(slot)
-    } else {
-        None
-    }
-}
-
-// The slot of the rank with the number.
-fn rank_slot(ranks: &[Rank], number: u32) -> Option<usize>
-    requires { AllPairs (λ r q. r.number < q.number) ranks.now }
-    ensures found { IfSome result (λ slot. (slot < length ranks.now) × ((d : Rank) → (slice_index_or ranks.now slot d).number ≡ number)) }
-    ensures none { IfNone result (All (λ r. r.number ≢ number) ranks.now) }
-{
-    if let Some(slot) = rank_from_end(ranks, number) {
-        return Some(slot);
-    }
-    match ranks.binary_search_by_key(&number, |rank| rank.number) {
-        Ok(slot) => Some(slot),
-        Err(_) => None,
-    }
-}
-
-// The ranks of heads that are not on disk stay; those on disk stand from `first` up to `end`. Heads stand in the order of
-// their ranks.
-fn keep_live(ranks: &mut Vec<Rank>, heads: &[Head], first: usize, end: usize)
-    requires rising { IsRising heads.now }
-    requires aligned { map (λ r. r.number) ranks.old.items ≡ map (λ p. p.number) (patches_of heads.now) }
-    requires disk { SpansDisk (patches_of heads.now) first end }
-    ensures ranks { ranks.new.items ≡ filter (λ r. is_live_in (patches_of heads.now) r.number) ranks.old.items }
-    ensures capacity { vec_capacity ranks.new ≡ vec_capacity ranks.old }
-{
-    let mut kept = first;
-    for slot in first..end {
-        if is_kept(&heads[slot]) {
-            ranks[kept] = ranks[slot];
-            kept += 1;
-        }
-    }
-    ranks.drain(kept..end);
-}
-
 impl Levels {
     /// The levels of no head, where each block's floor is 0.
     pub fn new(alloc: Global, blocks: u32) -> Result<Levels, AllocError>
         ensures { IfOk result (λ l. IsLeveled [] blocks l) }
     {
         let floors = empty_floors(alloc, blocks)?;
+        let owed = vec![in alloc; 0; blocks as usize]?;
         Ok(Levels {
             ranks: Vec::new(alloc),
             floors,
+            owed,
             room: 0,
         })
     }
@@ -241,6 +165,14 @@ impl Levels {
         ensures { result ≡ floor_of self.now.floors block }
     {
         self.floors[block as usize]
+    }
+
+    /// What searches for a way back to the block have looked at since its floor went up last.
+    pub fn owed(&self, block: u32) -> usize {
+        match self.owed.get(block as usize) {
+            Some(owed) => *owed,
+            None => 0,
+        }
     }
 
     /// The level of the patch with the number, and 0 where it is forgotten.
@@ -377,8 +309,17 @@ impl Levels {
         }
     }
 
-    /// Where the rise says so, what was met goes up to its level, and so does the floor of the block.
-    pub fn lift(&mut self, heads: &[Head], walk: &Walk, block: u32, rise: Rise)
+    // Searches for a way back to the block have looked at so many patches since its floor went up last.
+    fn owe(&mut self, block: u32, owed: usize)
+        ensures { self.new ≡ self.old }
+    {
+        if let Some(at) = self.owed.get_mut(block as usize) {
+            *at = owed;
+        }
+    }
+
+    // As `lift`, but what searches have looked at stays.
+    fn lift_met(&mut self, heads: &[Head], walk: &Walk, block: u32, rise: Rise)
         requires rising { IsRising heads.now }
         requires disk { IsOnDiskWithAll (patches_of heads.now) }
         requires long { length walk.now.marks ≡ length heads.now }
@@ -395,5 +336,23 @@ impl Levels {
             self.lift_all(heads, walk, rise.level);
             self.floors[block as usize] = rise.level;
         }
+    }
+
+    /// Where the rise says so, what was met goes up to its level, and so does the floor of the block.
+    pub fn lift(&mut self, heads: &[Head], walk: &Walk, block: u32, rise: Rise)
+        requires rising { IsRising heads.now }
+        requires disk { IsOnDiskWithAll (patches_of heads.now) }
+        requires long { length walk.now.marks ≡ length heads.now }
+        requires inside { block < length self.old.floors × IsInside (patches_of heads.now) (length self.old.floors) }
+        requires leveled { IsLeveled (patches_of heads.now) (length self.old.floors) self.old }
+        requires may { IsTrue rise.lifts → MayLift (patches_of heads.now) self.old block rise.level (numbers_met heads.now walk.now) }
+        ensures leveled { IsLeveled (patches_of heads.now) (length self.old.floors) self.new }
+        ensures below { (n : ℕ) → level_of self.old.ranks n ≤ rise.level → level_of self.new.ranks n ≤ rise.level }
+        ensures lifted { IsTrue rise.lifts → floor_of self.new.floors block ≡ rise.level }
+        ensures still { rise.lifts ≡ false → self.new ≡ self.old }
+        ensures room { (length self.new.ranks ≡ length self.old.ranks) × (self.new.room ≡ self.old.room) }
+    {
+        self.lift_met(heads, walk, block, rise);
+        self.owe(block, rise.owed);
     }
 }

@@ -21,7 +21,7 @@
 //! kept of the block graph. A walk that crosses blocks keeps besides which it has crossed (`block_walk`), and a search
 //! from both ends has two such (`ends`).
 //!
-//! All of it only reads the heads, and the levels but for lifting. Each answer is that of the definition, exactly: a
+//! All of it only reads the heads, and the levels but for lifting and for what comes down with a gate. Each answer is that of the definition, exactly: a
 //! walk that gives up says so.
 #![tactic(auto)]
 
@@ -43,6 +43,7 @@ pub mod lift;
 pub mod needs;
 pub mod other_gates;
 pub mod overlap_cycle;
+pub mod ranks;
 pub mod shortcuts;
 pub mod sight;
 pub mod sink;

@@ -79,6 +79,17 @@ fn meet_low(
     climb_low(sight, walk, crossed, most, limit)
 }
 
+// Whether a new change of the block that stands as high as its floor lifts it, searches having looked at so many patches since it
+// was lifted last: it is tried as often as that doubles. Over a clean block nothing goes up.
+fn is_due(sight: &Sight<'_>, block: u32, row: &[u32], owed: usize) -> bool
+    requires sees { Sees sight.now }
+    requires block { block < length sight.now.lists.now }
+{
+    let before = sight.levels.owed(block);
+    let is_clean = sight.lists[block as usize].is_empty();
+    !row.is_empty() && (is_clean || owed.leading_zeros() < before.leading_zeros())
+}
+
 /// What a new change of the block with that row and grade does to the levels, and if it lifts, what goes up was met. What
 /// was met and crossed before does not matter.
 pub fn rise_of(
@@ -99,19 +110,16 @@ pub fn rise_of(
 {
     let high = sight.levels.greatest(sight.heads, row);
     let floor = sight.levels.floor(block);
+    let owed = sight.levels.owed(block).saturating_add(told.looked);
     let still = Rise {
         level: high.max(floor),
         lifts: false,
+        owed,
     };
-    // As high as the floor it has to lift nothing. It does so where the search that told its grade looked at no less than goes
-    // up, so that later ones need no such search; and over a clean block, where nothing does. Over changes of the block alone,
-    // and over what an earlier one stands over, no search was needed.
-    let limit = if high > floor {
-        usize::MAX
-    } else {
-        told.looked
-    };
-    let over = high > floor || (high == floor && floor < TOP && !row.is_empty());
+    // As high as the floor it has to lift nothing. It does so once searches have looked at as much as that takes, so that later
+    // ones need not.
+    let limit = if high > floor { usize::MAX } else { owed };
+    let over = high > floor || (high == floor && floor < TOP && is_due(sight, block, row, owed));
     if told.grade == Grade::Soft || !over || !meet_low(sight, walk, crossed, block, high, limit) {
         return still;
     }
@@ -123,5 +131,6 @@ pub fn rise_of(
     Rise {
         level: reach.saturating_add(1),
         lifts: true,
+        owed: 0,
     }
 }

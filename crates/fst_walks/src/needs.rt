@@ -57,6 +57,9 @@ impl Model for Needs {
     ghost invariant = { λ n. slice_index_or (map (λ l. vec_len l) n.lists.items) n.block 0 + n.room ≤ slice_index_or (map (λ l. vec_capacity l) n.lists.items) n.block 0 };
 }
 
+// At how many of the needs one is looked for that stands for another: where none of these does, one more is kept.
+const LOOKS: usize = 1024;
+
 // Whether one of the needs is a hard change of the block in memory.
 fn has_hard(heads: &[Head], needs: &[Need], block: u32) -> bool
     requires { IsRising heads.now }
@@ -86,7 +89,8 @@ fn is_stood_for(heads: &[Head], needs: &[Need], block: u32, number: u32) -> bool
     if !is_hard_in(head, of) {
         return false;
     }
-    of == block || has_hard(heads, needs, of)
+    let newest = &needs[needs.len().saturating_sub(LOOKS)..];
+    of == block || has_hard(heads, newest, of)
 }
 
 impl Needs {

@@ -1,7 +1,7 @@
 use Rattle.std.proofs.Common.{◌≡◌, vec_capacity}
 use Rattle.std.proofs.lemmas.List.Filters.{FiltersInPlace}
 use Rattle.fst_walks.proofs.KeptLive.{live_rank}
-use Rattle.fst_walks.proofs.levels.keep_live.Given as goal
+use Rattle.fst_walks.proofs.ranks.keep_live.Given as goal
 
 -- of the ranks before the slot those of live heads stand in front
 abbrev pub invariant-loop-slot : goal.invariant-loop-slot

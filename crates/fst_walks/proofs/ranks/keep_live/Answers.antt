@@ -2,8 +2,8 @@ use Rattle.std.proofs.Common.{◌≡◌, ◌<◌, ◌∙◌, arith, filter, leng
 use Rattle.std.proofs.lemmas.List.Filters.{FiltersInPlace}
 use Rattle.fst_heads.proofs.LastOnDisk.{end_inside}
 use Rattle.fst_walks.proofs.{KeptLive.{live_rank, rank_dropped, rank_kept, ranks_from, ranks_left}, Ranked.ranks_long}
-use Rattle.fst_walks.proofs.levels.keep_live.Goals.{then-is_kept, else-is_kept, In-loop-slot}
-use Rattle.fst_walks.proofs.levels.keep_live.Goals as goal
+use Rattle.fst_walks.proofs.ranks.keep_live.Goals.{then-is_kept, else-is_kept, In-loop-slot}
+use Rattle.fst_walks.proofs.ranks.keep_live.Goals as goal
 
 pub loop-slot-init : goal.loop-slot-init
 loop-slot-init c = record { kept = ranks_from c.args.heads.now c.args.ranks.now.items c.requires.rising c.requires.aligned c.args.first c.requires.disk.begins; capacity = refl }

@@ -2,7 +2,7 @@ use Rattle.std.proofs.{Common.{◌∙◌, ℕ, ap, sym}, Math.Seq.map-set_same}
 use Rattle.fst_walks.specs.declared.levels.{Rank.Rank}
 use Rattle.fst_heads.proofs.Slots.{any_default}
 use Rattle.fst_walks.proofs.Raised.{kept_beside, kept_here}
-use Rattle.fst_walks.proofs.levels.raise.Goals as goal
+use Rattle.fst_walks.proofs.ranks.raise.Goals as goal
 
 -- the rank that is put there
 abbrev at_level : ℕ → Rank → Rank

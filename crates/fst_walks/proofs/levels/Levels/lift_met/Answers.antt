@@ -4,7 +4,7 @@ use Rattle.fst_heads.specs.{Heads.patches_of, Marks.HasSlot}
 use Rattle.fst_heads.proofs.Slots.{patch_slot, slot_in}
 use Rattle.fst_walks.specs.{Walks.numbers_met}
 use Rattle.fst_walks.proofs.{Floored.floored, Raising.hard_told}
-use Rattle.fst_walks.proofs.levels.Levels.lift.Goals as goal
+use Rattle.fst_walks.proofs.levels.Levels.lift_met.Goals as goal
 
 pub returns-then-rise-clause-leveled : goal.returns-then-rise-clause-leveled
 returns-then-rise-clause-leveled c =

@@ -1,7 +1,7 @@
 use Rattle.std.proofs.Common.{rules, refl}
 use Rattle.fst_heads.proofs.{Basics.{answers_always}, Slots.searched_by}
 use Rattle.fst_walks.specs.declared.levels.Rank.{Rank}
-use Rattle.fst_walks.proofs.levels.rank_slot.Goals as goal
+use Rattle.fst_walks.proofs.ranks.rank_slot.Goals as goal
 
 pub returns-in-Ok-clause-found : goal.returns-in-Ok-clause-found
 returns-in-Ok-clause-found c =

@@ -1,0 +1,97 @@
+//! What is done with the ranks of the heads and the floors of the blocks, which the levels keep (`levels`): finding a rank by
+//! its number, raising and lowering one, and dropping those of heads that are forgotten.
+
+ghost use Rattle.std.specs.Prelude.{vec_capacity, ◌≡◌, ◌≢◌, ◌<◌, ℕ, length, map, filter, All, AllPairs, IfSome, IfNone, slice_index_or};
+ghost use Rattle.fst_types.specs.Patches.{IsOn};
+ghost use Rattle.fst_heads.specs.Heads.{IsRising, patch_of, patches_of};
+ghost use Rattle.fst_heads.specs.Reaching.{IsHardIn};
+ghost use Rattle.fst_heads.specs.Nodes.{is_live_in};
+ghost use Rattle.fst_heads.specs.Spans.{SpansDisk};
+ghost use Rattle.fst_walks.specs.Leveling.{floor_of, level_of};
+
+use crate::levels::Rank;
+use crate::shortcuts::is_hard_in;
+use fst_heads::head::{Head, Kind};
+use fst_heads::places::is_kept;
+
+/// The head in the slot is at that level.
+pub fn raise(ranks: &mut Vec<Rank>, slot: usize, to: u32)
+    requires slot { slot < length ranks.old.items }
+    requires rising { AllPairs (λ r q. r.number < q.number) ranks.old.items }
+    ensures numbers { map (λ r. r.number) ranks.new.items ≡ map (λ r. r.number) ranks.old.items }
+    ensures raised { (d : Rank) → level_of ranks.new.items (slice_index_or ranks.old.items slot d).number ≡ to }
+    ensures rest { (d : Rank) (n : ℕ) → n ≢ (slice_index_or ranks.old.items slot d).number → level_of ranks.new.items n ≡ level_of ranks.old.items n }
+    ensures ancestries { map (λ r. r.ancestry) ranks.new.items ≡ map (λ r. r.ancestry) ranks.old.items }
+    ensures capacity { vec_capacity ranks.new ≡ vec_capacity ranks.old }
+{
+    ranks[slot].level = to;
+}
+
+/// Where the patch is a hard change in memory, the floor of its block is there.
+pub fn raise_floor(floors: &mut Vec<u32>, head: &Head, to: u32)
+    requires { (c : ℕ) → IsOn (patch_of head.now) c → c < length floors.old.items }
+    ensures long { length floors.new.items ≡ length floors.old.items }
+    ensures raised { (c : ℕ) → IsHardIn (patch_of head.now) c → floor_of floors.new.items c ≡ to }
+    ensures rest { (c : ℕ) → (IsHardIn (patch_of head.now) c → ⊥) → floor_of floors.new.items c ≡ floor_of floors.old.items c }
+{
+    if let Kind::Change(_, block, _) = head.kind {
+        if is_hard_in(head, block as u32) {
+            floors[block as usize] = to;
+        }
+    }
+}
+
+// The slot of the rank with the number, where none of those behind it is missing: then it is as far from the last slot as its
+// number is from the last number.
+fn rank_from_end(ranks: &[Rank], number: u32) -> Option<usize>
+    ensures { IfSome result (λ slot. (slot < length ranks.now) × ((d : Rank) → (slice_index_or ranks.now slot d).number ≡ number)) }
+{
+    let last = ranks.last()?.number;
+    if last < number {
+        return None;
+    }
+    let back = (last - number) as usize;
+    if ranks.len() <= back {
+        return None;
+    }
+    let slot = ranks.len() - back - 1;
+    if ranks[slot].number == number {
+        Some(slot)
+    } else {
+        None
+    }
+}
+
+/// The slot of the rank with the number.
+pub fn rank_slot(ranks: &[Rank], number: u32) -> Option<usize>
+    requires { AllPairs (λ r q. r.number < q.number) ranks.now }
+    ensures found { IfSome result (λ slot. (slot < length ranks.now) × ((d : Rank) → (slice_index_or ranks.now slot d).number ≡ number)) }
+    ensures none { IfNone result (All (λ r. r.number ≢ number) ranks.now) }
+{
+    if let Some(slot) = rank_from_end(ranks, number) {
+        return Some(slot);
+    }
+    match ranks.binary_search_by_key(&number, |rank| rank.number) {
+        Ok(slot) => Some(slot),
+        Err(_) => None,
+    }
+}
+
+/// The ranks of heads that are not on disk stay; those on disk stand from `first` up to `end`. Heads stand in the order of
+/// their ranks.
+pub fn keep_live(ranks: &mut Vec<Rank>, heads: &[Head], first: usize, end: usize)
+    requires rising { IsRising heads.now }
+    requires aligned { map (λ r. r.number) ranks.old.items ≡ map (λ p. p.number) (patches_of heads.now) }
+    requires disk { SpansDisk (patches_of heads.now) first end }
+    ensures ranks { ranks.new.items ≡ filter (λ r. is_live_in (patches_of heads.now) r.number) ranks.old.items }
+    ensures capacity { vec_capacity ranks.new ≡ vec_capacity ranks.old }
+{
+    let mut kept = first;
+    for slot in first..end {
+        if is_kept(&heads[slot]) {
+            ranks[kept] = ranks[slot];
+            kept += 1;
+        }
+    }
+    ranks.drain(kept..end);
+}
