@@ -151,9 +151,20 @@ def many_needs():
     return made
 
 
+def superblock_waits():
+    """A patch of one block, one of the superblock after it, and a write of the first; what is on disk is forgotten at times."""
+    made = Script(4096)
+    for turn in range(MANY // 2):
+        made.patch(0, turn % 4096, [made.patch(5, turn % 4096)])
+        made.write(5)
+        if turn % 50 == 0:
+            made.ask("forget")
+    return made
+
+
 SHAPES = [
     ring_back, gates_in_a_chain, two_families, three_blocks, groups_in_a_chain, chains_of_groups, deep_below, tower,
-    behind_a_gate, deep_over, many_needs,
+    behind_a_gate, deep_over, many_needs, superblock_waits,
 ]
 
 

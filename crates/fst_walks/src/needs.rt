@@ -15,13 +15,13 @@ ghost use Rattle.fst_walks.specs.Needing.{IsKnown, IsNeeding, IsNoted, IsPut, Is
 use crate::shortcuts::{is_hard_in, is_hard_number};
 use fst_heads::head::{Head, Kind};
 use fst_heads::marks::slot_of;
-use fst_heads::places::block_of;
 use fst_heads::row::is_live_number;
 use fst_types::Grade;
 use std::alloc::{AllocError, Global};
 use std::marker::Model;
 
-/// A patch that a block needs, and if it is a change the block that it is of, so that one is found without a look at its head.
+/// A patch that a block needs, and if it was a hard change in memory the block that it is of, so that one that stands for
+/// others is found without a look at heads.
 #[derive(Clone, Copy)]
 pub struct Need {
     pub number: u32,
@@ -60,17 +60,47 @@ impl Model for Needs {
 // At how many of the needs one is looked for that stands for another: where none of these does, one more is kept.
 const LOOKS: usize = 1024;
 
-// Whether one of the needs is a hard change of the block in memory.
+// The place of the newest of the needs that was kept as a hard change of the block.
+fn newest_of(needs: &[Need], block: u32) -> Option<usize>
+    ensures { IfSome result (λ at. at < length needs.now) }
+{
+    for back in 0..needs.len().min(LOOKS) {
+        let at = needs.len() - 1 - back;
+        if needs[at].of == Some(block) {
+            return Some(at);
+        }
+    }
+    None
+}
+
+// Whether the newest of the needs that was kept as a hard change of the block is one in memory. Hard changes of a block are
+// written together, so where it is not none before it is.
 fn has_hard(heads: &[Head], needs: &[Need], block: u32) -> bool
     requires { IsRising heads.now }
     ensures { IsTrue result → (n : ℕ) × Contains (map (λ (q : Need). q.number) needs.now) n × IsHardNumber (patches_of heads.now) block n }
 {
-    for need in needs {
-        if need.of == Some(block) && is_hard_number(heads, block, need.number) {
-            return true;
+    let Some(at) = newest_of(needs, block) else {
+        return false;
+    };
+    is_hard_number(heads, block, needs[at].number)
+}
+
+// The block of the patch with the number, if it is a hard change in memory.
+fn hard_block_of(heads: &[Head], number: u32) -> Option<u32>
+    requires { IsRising heads.now }
+{
+    let head = &heads[slot_of(heads, number)?];
+    match head.kind {
+        Kind::Change(_, block, _) => {
+            let block = u32::from(block);
+            if is_hard_in(head, block) {
+                Some(block)
+            } else {
+                None
+            }
         }
+        Kind::Empty | Kind::OpenGate | Kind::SealedGate => None,
     }
-    false
 }
 
 // Whether the patch with the number is a hard change in memory for which one of the needs stands, or of that block itself.
@@ -89,8 +119,7 @@ fn is_stood_for(heads: &[Head], needs: &[Need], block: u32, number: u32) -> bool
     if !is_hard_in(head, of) {
         return false;
     }
-    let newest = &needs[needs.len().saturating_sub(LOOKS)..];
-    of == block || has_hard(heads, newest, of)
+    of == block || has_hard(heads, needs, of)
 }
 
 impl Needs {
@@ -163,7 +192,7 @@ impl Needs {
     {
         let list = &mut self.lists[self.block as usize];
         if !is_stood_for(heads, list, self.block, number) {
-            let of = block_of(heads, number);
+            let of = hard_block_of(heads, number);
             list.push_reserved(Need { number, of });
             self.room -= 1;
         }
