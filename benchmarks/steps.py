@@ -162,9 +162,22 @@ def superblock_waits():
     return made
 
 
+def gate_each():
+    """10,000 gates in a chain, each over three patches after the gate before, and a patch of the superblock after each."""
+    made, last = Script(4096), []
+    for turn in range(MANY // 2):
+        gate = made.gate()
+        for _ in range(3):
+            made.depend(gate, made.patch(10 + made.dice.randrange(200), made.dice.randrange(4096), last))
+        made.ask("seal", gate=gate)
+        last = [gate]
+        made.patch(0, turn % 4096, last)
+    return made
+
+
 SHAPES = [
     ring_back, gates_in_a_chain, two_families, three_blocks, groups_in_a_chain, chains_of_groups, deep_below, tower,
-    behind_a_gate, deep_over, many_needs, superblock_waits,
+    behind_a_gate, gate_each, deep_over, many_needs, superblock_waits,
 ]
 
 
