@@ -37,7 +37,7 @@ use fst_walks::ascent::mark_flight;
 use fst_walks::ends::Ends;
 use fst_walks::levels::Levels;
 use fst_walks::needs::Needs;
-use fst_walks::sink::sink_over;
+use fst_walks::sink::{sink_floor, sink_over};
 use std::alloc::{AllocError, Global};
 use std::marker::Model;
 
@@ -268,6 +268,7 @@ impl Sparse {
         let landed = cascade(&mut self.heads, &mut self.queue, &mut self.standings);
         self.live -= landed;
         self.unmarked = 0;
+        sink_floor(&mut self.levels, &self.lists, block.0);
     }
 
     /// Forgets the patches on disk, and answers how many they were. It takes no memory.
@@ -280,6 +281,7 @@ impl Sparse {
         }
         let before = self.heads.len();
         self.levels.forget(&mut self.heads, self.live);
+        self.levels.ease();
         self.ends.shrink(self.heads.len());
         (before - self.heads.len()) as u32
     }

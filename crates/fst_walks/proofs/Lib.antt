@@ -29,6 +29,8 @@ pub mod Trails
 pub mod Leveled
 pub mod Lifted
 pub mod Lowered
+pub mod Eased
+pub mod Dropped
 pub mod AncestorsKept
 pub mod LeveledKept
 pub mod Raised

@@ -1,5 +1,5 @@
 -- Levels: a number for each patch, and for each block its floor, so that no way down rises. What is below the floor of a block waits for nothing that may come to wait for that block.
-use Rattle.std.specs.Prelude.{◌≡◌, ◌≤◌, ◌==◌, ℕ, List, [], ◌∷◌, length, map, slice_index_or, if◌then◌else◌}
+use Rattle.std.specs.Prelude.{◌≡◌, ◌≤◌, ◌==◌, ◌/◌, nat_lt, ℕ, List, [], ◌∷◌, length, map, slice_index_or, if◌then◌else◌}
 use Rattle.fst_types.specs.{Dependencies.DirectlyOn, Gates.IsOpenNumber, Patches.Patch}
 use Rattle.fst_heads.specs.{Grading.IsHardNumber, Marks.PassesAt}
 use Rattle.fst_heads.specs.declared.test.Test.TheVariants as test
@@ -37,6 +37,14 @@ no_ancestry = record { parent = 0; jump = 0; depth = 0 }
 
 abbrev pub floor_of : List ℕ → ℕ → ℕ
 floor_of floors b = slice_index_or floors b 0
+
+-- half of a level, or the top where that is no lower
+abbrev pub halved : ℕ → ℕ
+halved level = if nat_lt level top_level then level / 2 else level
+
+-- a rank with half of its level
+abbrev pub halved_rank : Rank → Rank
+halved_rank r = record r { level = halved r.level }
 
 -- the levels and ancestors of the heads in their order, the floors of the blocks, and for how many heads there is room
 pub record Leveling : Type 0 where

@@ -3,11 +3,12 @@
 //! change in memory is no higher. So what lies below a floor can come to wait for nothing of that block. Beside its level the
 //! ancestry of each head is kept (`ancestors`).
 
-ghost use Rattle.std.specs.Prelude.{vec_capacity, count_by, ◌≡◌, ◌≢◌, ◌≤◌, ◌<◌, ◌+◌, ◌++◌, ◌∷◌, [], ℕ, false, IsTrue, length, map, filter, All, Contains, AllPairs, IfOk, IfSome, IfNone, OnOk, slice_index_or};
+ghost use Rattle.std.specs.Prelude.{vec_capacity, count_by, ◌≡◌, ◌≢◌, ◌≤◌, ◌<◌, ◌+◌, ◌++◌, ◌∷◌, [], ℕ, List, false, IsTrue, length, map, filter, All, Contains, AllPairs, IfOk, IfSome, IfNone, OnOk, slice_index_or};
 ghost use Rattle.fst_types.specs.Tests.{is_live};
-ghost use Rattle.fst_types.specs.Patches.{IsOn, OpenGate};
+ghost use Rattle.fst_types.specs.Patches.{IsOn, OpenGate, Patch};
 ghost use Rattle.fst_heads.specs.Heads.{IsRising, patch_of, patches_of};
-ghost use Rattle.fst_heads.specs.Marks.{HasNone, HasSlot};
+ghost use Rattle.fst_heads.specs.declared.test.Test.TheVariants as test;
+ghost use Rattle.fst_heads.specs.Marks.{HasNone, HasSlot, PassesAt};
 ghost use Rattle.fst_heads.specs.Reaching.{IsHardIn};
 ghost use Rattle.fst_heads.specs.Keeps.{IsInside};
 ghost use Rattle.fst_heads.specs.Nodes.{is_live_in, nodes_of};
@@ -17,7 +18,7 @@ ghost use Rattle.fst_walks.specs.Leveling.{IsLeveled, floor_of, jump_of, level_o
 ghost use Rattle.fst_walks.specs.Lifting.{IsLifted, MayLift};
 ghost use Rattle.fst_walks.specs.Walks.{number_at, numbers_met};
 
-use crate::ranks::{keep_live, raise, raise_floor, rank_slot};
+use crate::ranks::{halve_floors, halve_ranks, keep_live, raise, raise_floor, rank_slot};
 use crate::walk::Walk;
 use fst_heads::head::{Head, Kind};
 use fst_heads::places::{drop_on_disk, end_on_disk, first_on_disk};
@@ -26,6 +27,10 @@ use std::marker::Model;
 
 /// The greatest level, at which each open gate stands.
 pub const TOP: u32 = 4_294_967_295;
+
+// From where on all levels are halved. Between two calls of `forget` no more than 65,535 changes are made, each of which lifts
+// by some thousands at most, so that nothing comes to the top before.
+const HIGH: u32 = 2_147_483_648;
 
 /// Two ancestors of a patch by their numbers, 0 for none: its parent, and one further up. The depth says how many are above
 /// it, parent over parent.
@@ -56,13 +61,15 @@ pub struct Rise {
 }
 
 /// The levels and ancestries of the heads, in their order, and the floors of the blocks. For each block is kept what searches
-/// for a way back to it have looked at since its floor went up last, so that it goes up once that is worth it (`lift`). It takes
+/// for a way back to it have looked at since its floor went up last, so that it goes up once that is worth it (`lift`), and of all
+/// how high up one stands that is not at the top (`ease`). It takes
 /// 20 bytes for each head and 12 for each block.
 #[derive(Drop)]
 pub struct Levels {
     ranks: Vec<Rank>,
     floors: Vec<u32>,
     owed: Vec<usize>,
+    highest: u32,
     room: usize,
 }
 
@@ -106,6 +113,7 @@ impl Levels {
             ranks: Vec::new(alloc),
             floors,
             owed,
+            highest: 0,
             room: 0,
         })
     }
@@ -309,16 +317,20 @@ impl Levels {
         }
     }
 
-    // Searches for a way back to the block have looked at so many patches since its floor went up last.
-    fn owe(&mut self, block: u32, owed: usize)
+    // Of what came with that rise of the block nothing is claimed: what searches for a way back to it have looked at since, and
+    // how high up anything stands that is not at the top.
+    fn count(&mut self, block: u32, rise: Rise)
         ensures { self.new ≡ self.old }
     {
-        if let Some(at) = self.owed.get_mut(block as usize) {
-            *at = owed;
+        if let Some(owed) = self.owed.get_mut(block as usize) {
+            *owed = rise.owed;
+        }
+        if rise.level < TOP {
+            self.highest = self.highest.max(rise.level);
         }
     }
 
-    // As `lift`, but what searches have looked at stays.
+    // As `lift`, but what is counted beside stays.
     fn lift_met(&mut self, heads: &[Head], walk: &Walk, block: u32, rise: Rise)
         requires rising { IsRising heads.now }
         requires disk { IsOnDiskWithAll (patches_of heads.now) }
@@ -353,6 +365,29 @@ impl Levels {
         ensures room { (length self.new.ranks ≡ length self.old.ranks) × (self.new.room ≡ self.old.room) }
     {
         self.lift_met(heads, walk, block, rise);
-        self.owe(block, rise.owed);
+        self.count(block, rise);
+    }
+
+    /// The floor of the block goes to the bottom, where none of its changes is not on disk: what comes next stands on none.
+    pub fn drop_floor(&mut self, block: u32)
+        ensures leveled { (patches : List Patch) (blocks : ℕ) → ((n : ℕ) → PassesAt (test.LiveOn block) patches n → ⊥) → IsLeveled patches blocks self.old → IsLeveled patches blocks self.new }
+        ensures room { (length self.new.ranks ≡ length self.old.ranks) × (self.new.room ≡ self.old.room) }
+    {
+        if (block as usize) < self.floors.len() {
+            self.floors[block as usize] = 0;
+        }
+    }
+
+    /// All levels are halved, but the top, where any is far up: what lasts is lifted again and again, and would come to the
+    /// top, where levels tell nothing. Mostly it does nothing.
+    pub fn ease(&mut self)
+        ensures leveled { (patches : List Patch) (blocks : ℕ) → IsLeveled patches blocks self.old → IsLeveled patches blocks self.new }
+        ensures room { (length self.new.ranks ≡ length self.old.ranks) × (self.new.room ≡ self.old.room) }
+    {
+        if self.highest >= HIGH {
+            halve_ranks(&mut self.ranks);
+            halve_floors(&mut self.floors);
+            self.highest /= 2;
+        }
     }
 }

@@ -1,5 +1,5 @@
 //! What is done with the ranks of the heads and the floors of the blocks, which the levels keep (`levels`): finding a rank by
-//! its number, raising and lowering one, and dropping those of heads that are forgotten.
+//! its number, raising and lowering one, halving all, and dropping those of heads that are forgotten.
 
 ghost use Rattle.std.specs.Prelude.{vec_capacity, ◌≡◌, ◌≢◌, ◌<◌, ℕ, length, map, filter, All, AllPairs, IfSome, IfNone, slice_index_or};
 ghost use Rattle.fst_types.specs.Patches.{IsOn};
@@ -7,9 +7,9 @@ ghost use Rattle.fst_heads.specs.Heads.{IsRising, patch_of, patches_of};
 ghost use Rattle.fst_heads.specs.Reaching.{IsHardIn};
 ghost use Rattle.fst_heads.specs.Nodes.{is_live_in};
 ghost use Rattle.fst_heads.specs.Spans.{SpansDisk};
-ghost use Rattle.fst_walks.specs.Leveling.{floor_of, level_of};
+ghost use Rattle.fst_walks.specs.Leveling.{floor_of, halved, halved_rank, level_of};
 
-use crate::levels::Rank;
+use crate::levels::{Rank, TOP};
 use crate::shortcuts::is_hard_in;
 use fst_heads::head::{Head, Kind};
 use fst_heads::places::is_kept;
@@ -38,6 +38,32 @@ pub fn raise_floor(floors: &mut Vec<u32>, head: &Head, to: u32)
         if is_hard_in(head, block as u32) {
             floors[block as usize] = to;
         }
+    }
+}
+
+// Half of a level, or the top.
+fn halved(level: u32) -> u32
+    ensures { result ≡ halved level }
+{
+    if level < TOP { level / 2 } else { level }
+}
+
+/// Each rank has half of its level, but those at the top.
+pub fn halve_ranks(ranks: &mut Vec<Rank>)
+    ensures ranks { ranks.new.items ≡ map halved_rank ranks.old.items }
+    ensures capacity { vec_capacity ranks.new ≡ vec_capacity ranks.old }
+{
+    for rank in ranks.iter_mut() {
+        rank.level = halved(rank.level);
+    }
+}
+
+/// Each floor is half as high, but those at the top.
+pub fn halve_floors(floors: &mut Vec<u32>)
+    ensures { floors.new.items ≡ map halved floors.old.items }
+{
+    for floor in floors.iter_mut() {
+        *floor = halved(*floor);
     }
 }
 

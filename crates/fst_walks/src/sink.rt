@@ -1,14 +1,18 @@
 //! What was put behind an open gate stands at the top, where levels tell nothing of it. Once the gate is sealed it comes down,
-//! as far as no other gate is open below it: each patch once all that it depends on has come down, and each once.
+//! as far as no other gate is open below it: each patch once all that it depends on has come down, and each once. And the
+//! floor of a block comes down as the last of its changes lands.
 
-ghost use Rattle.std.specs.Prelude.{◌≡◌, ◌<◌, length};
+ghost use Rattle.std.specs.Prelude.{◌≡◌, ◌<◌, ℕ, List, length, map};
+ghost use Rattle.fst_types.specs.Patches.{IsRising as PatchesRise, Patch};
 ghost use Rattle.fst_heads.specs.Heads.{IsRising, patches_of};
+ghost use Rattle.fst_heads.specs.Lists.{entries_of, AreListed};
 ghost use Rattle.fst_walks.specs.Leveling.{IsLeveled};
 
 use crate::levels::{Levels, TOP};
 use crate::shortcuts::newest;
 use crate::walk::Walk;
 use fst_heads::head::Head;
+use fst_heads::lists::Listed;
 
 // How long a row is looked through each time that one of it has come down. A longer one is only as the newest of it does.
 const LONGEST: usize = 64;
@@ -92,5 +96,17 @@ pub fn sink_over(levels: &mut Levels, heads: &[Head], walk: &mut Walk, number: u
         let slot = walk.slot(at);
         sink_dependants(levels, heads, walk, slot);
         at += 1;
+    }
+}
+
+/// Where all changes of the block are on disk, as its list says, its floor goes to the bottom.
+pub fn sink_floor(levels: &mut Levels, lists: &[Vec<Listed>], block: u32)
+    ensures leveled { (patches : List Patch) → PatchesRise patches → AreListed patches (length lists.now) (map (λ l. entries_of l.items) lists.now) → (blocks : ℕ) → IsLeveled patches blocks levels.old → IsLeveled patches blocks levels.new }
+    ensures room { (length levels.new.ranks ≡ length levels.old.ranks) × (levels.new.room ≡ levels.old.room) }
+{
+    if let Some(list) = lists.get(block as usize) {
+        if list.is_empty() {
+            levels.drop_floor(block);
+        }
     }
 }

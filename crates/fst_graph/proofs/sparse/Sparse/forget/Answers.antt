@@ -43,7 +43,7 @@ invariant_of-self-2 c =
       tallies = rw c.forget.ensures.heads (tallies_dropped (nodes_of heads) n c.self.inside.blocks _ _ _ _ (lawful_nodes heads n c.self.invariant.keeps.lawful) lawful c.self.invariant.tallies);
       covered = rw (left at) (covered_left (patches_of heads) c.self.invariant.keeps.lawful.on_disk_with_all c.self.inside.blocks c.self.inside.covers.items c.self.invariant.covered);
       along = record { marks = c.shrink.ensures.marks.1 ∙ sym c.shrink.ensures.marks.0; places = rw (c.shrink.ensures.crossed.0, c.shrink.ensures.crossed.1) c.self.invariant.along.places };
-      leveled = rw (left at) (leveled_as c.forget.ensures.ranks c.forget.ensures.rest.0 (left_is_leveled (patches_of heads) c.self.invariant.keeps.lawful.one_place_each.rising c.self.invariant.keeps.lawful.on_disk_with_all c.self.inside.blocks c.self.inside.levels c.self.invariant.leveled));
+      leveled = c.ease.ensures.leveled _ _ (rw (left at) (leveled_as c.forget.ensures.ranks c.forget.ensures.rest.0 (left_is_leveled (patches_of heads) c.self.invariant.keeps.lawful.one_place_each.rising c.self.invariant.keeps.lawful.on_disk_with_all c.self.inside.blocks c.self.inside.levels c.self.invariant.leveled)));
       needing = rw (left at) (needing_left (patches_of heads) c.self.invariant.keeps.lawful.one_place_each.rising c.self.invariant.keeps.lawful.on_disk_with_all kept.lawful.one_place_each.rising kept.lawful.on_disk_with_all c.self.invariant.needing);
       given = c.self.invariant.given;
       none_below = c.self.invariant.none_below;

@@ -1,6 +1,6 @@
-use Rattle.std.proofs.{Common.{rules, ◌≡◌, ◌∙◌, inl, inr, count_by, get_or, map, sym, ap, subst, length, arith, refl}, lemmas.Bool.cases_lt, lemmas.List.length-map}
+use Rattle.std.proofs.{Common.{vec_capacity, [], rules, ◌≡◌, ◌∙◌, inl, inr, count_by, get_or, map, sym, ap, subst, length, arith, refl}, lemmas.Bool.cases_lt, lemmas.List.length-map}
 use Rattle.fst_types.specs.{Cascade.IsCascadeOf, Writing.landed}
-use Rattle.fst_heads.specs.{Heads.patches_of, Keeps.IsInside, Lists.AreListed, Nodes.{node_of, nodes_of, patches_in, AreSettled}, Spreading.{IsSpreadOf, lands}, Standings.{AllStand, is_flying_on}}
+use Rattle.fst_heads.specs.{Heads.patches_of, Keeps.{IsInside, Tallies}, Lists.{entries_of, AreListed}, Nodes.{node_of, nodes_of, patches_in, AreSettled}, Spreading.{IsSpreadOf, lands}, Standings.{AllStand, is_flying_on}}
 use Rattle.fst_types.proofs.Landing.{alike_landed}
 use Rattle.fst_heads.proofs.{AtNumber.patches_in_nodes, Beside.{beside_landed, landed_few}, Carried.{linked_landed, distinct_landed}}
 use Rattle.fst_heads.proofs.{Counts.flying_counted, Listing.{nothing_flies, is_off}, Starting.{starts_landed, patches_landed}}
@@ -98,14 +98,21 @@ invariant_of-self c =
     let kept = keeps_landed old (patches_of new) n blocks b c.self.inside.ends.up.walk.marks c.self.inside.ends.up.walk.marks c.self.invariant.keeps (cascade at) refl in
     let listed : AreListed (patches_in (map (lands b) nodes)) blocks (shelved c.land_block.new.lists.items) =
     subst (λ k. AreListed (patches_in (map (lands b) nodes)) k (shelved c.land_block.new.lists.items)) long
-    (subst (λ ps. AreListed ps (length lists) (shelved c.land_block.new.lists.items)) (seen mid _ c.land_block.ensures.nodes) c.land_block.ensures.listed) in record {
+    (subst (λ ps. AreListed ps (length lists) (shelved c.land_block.new.lists.items)) (seen mid _ c.land_block.ensures.nodes) c.land_block.ensures.listed) in
+    let tallied : Tallies (nodes_of new) n blocks (shelved c.land_block.new.lists.items) c.cascade-landed.new.standings.items [] (vec_capacity c.self.inside.queue) =
+    tallies_landed nodes (nodes_of new) n blocks b _ _ _ _ _ _ (lawful_nodes new n kept.lawful) T listed spread (settled at) standing in
+    let shelves = c.land_block.new.lists.items in
+    let as_many : length shelves ≡ blocks = sym (length-map shelves (λ l. entries_of l.items)) ∙ tallied.listed.long in
+    let listed_now : AreListed (patches_of new) (length shelves) (shelved shelves) =
+    subst (λ ps. AreListed ps (length shelves) (shelved shelves)) (patches_in_nodes new) (subst (λ k. AreListed (patches_in (nodes_of new)) k (shelved shelves)) (sym as_many) tallied.listed) in record {
       keeps = kept;
       beside = beside_landed heads mid new (lands b) blocks c.self.inside.live c.cascade-landed.result c.self.inside.ends.up.crossed.items c.land_block.ensures.nodes (λ x. refl) T.settled (settled at) c.cascade-landed.ensures.landed c.self.invariant.beside;
-      tallies = rw (c.cascade-landed.ensures.empty, c.cascade-landed.ensures.capacity, c.land_block.ensures.capacity)
-          (tallies_landed nodes (nodes_of new) n blocks b _ _ _ _ _ _ (lawful_nodes new n kept.lawful) T listed spread (settled at) standing);
+      tallies = rw (c.cascade-landed.ensures.empty, c.cascade-landed.ensures.capacity, c.land_block.ensures.capacity) tallied;
       covered = covered_moved (alike_landed old (patches_of new) n b c.self.invariant.keeps.lawful (cascade at)) kept c.self.invariant.covered;
       along = c.self.invariant.along;
-      leveled = leveled_moved (alike_landed old (patches_of new) n b c.self.invariant.keeps.lawful (cascade at)) c.self.invariant.leveled;
+      leveled =
+          let after = leveled_moved (alike_landed old (patches_of new) n b c.self.invariant.keeps.lawful (cascade at)) c.self.invariant.leveled in
+          c.sink_floor.ensures.leveled (patches_of new) kept.lawful.one_place_each.rising (rw c.deref-2.ensures.value listed_now) blocks after;
       needing = needing_landed {kept = c.land.new.self} old (patches_of new) n b c.self.invariant.keeps.lawful kept.lawful (cascade at) c.land.ensures.lists c.land.ensures.ways c.self.invariant.needing;
       given = λ w k. c.self.invariant.given w (let l = c.land.ensures.ways w k in l.0);
       none_below = λ b d lt. absurd (omega (arith, lt));
