@@ -1,3 +1,5 @@
 pub mod CommandLemmas
+pub mod GivesLemmas
+pub mod NumbersLemmas
 pub mod SendingLemmas
 pub mod ShortLemmas

@@ -13,9 +13,7 @@ use Rattle.fst_lines.specs.Members.{number_in, numbers_of, if_ok}
 use Rattle.fst_lines.specs.Commands.{Command, patch, empty, depend, group_after, group_patch, max_line, command_in, or_field, command_of_value, command_of}
 use Rattle.fst_lines.specs.Parsing.{command}
 use Rattle.fst_lines.specs.declared.command.Command.{Command as Parsed}
-use Rattle.fst_lines.specs.declared.short.Short.{Short}
-use Rattle.fst_lines.specs.declared.short.Short.TheVariants.{Alone, Numbered}
-use Rattle.fst_lines.specs.Short.{short_data, data_of, IsShort, small_number, list_of, NamesAtEnd, IsPatch, IsEmpty, IsDepend, IsGroupPatch, IsGroupAfter, AsksShort, AsksNamed, Asks}
+use Rattle.fst_lines.specs.Short.{short_data, small_number, list_of, NamesAtEnd, IsPatch, IsEmpty, IsDepend, IsGroupPatch, IsGroupAfter, AsksAlone, AsksNumbered, AsksShort, AsksNamed, Asks}
 use Rattle.fst_lines.proofs.CommandLemmas.{value_of-text, command_of-short}
 
 abbrev document : Option (json.Json × List Token) → Option Data
@@ -36,17 +34,20 @@ short_number : (name key : List ℕ) (o : Option Num) (n : ℕ) → o ≡ Some (
     → option_map object (option_and_then (λ d. Some (put key d (put (codes "do") (string name) no_members))) (option_map number o)) ≡ Some (short_data name key n)
 short_number name key o n h = ap (λ (m : Option Num). option_map object (option_and_then (λ d. Some (put key d (put (codes "do") (string name) no_members))) (option_map number m))) h
 
-read_is : (line : List ℕ) (s : Short) → IsShort (tokens line) s → read line ≡ Some (data_of s)
-read_is line (Alone name) e = ap (λ ts. document (value 127 ts)) e ∙ ap document (alone_value name.now)
-read_is line (Numbered name key n) e =
-    ap (λ ts. document (value 127 ts)) e.1 ∙ (ap document (short_value name.now key.now e.0) ∙ short_number name.now key.now (number_of e.0) n e.2)
+alone_asks : (line : List ℕ) (c : Command) → AsksAlone (tokens line) c → command_of_value (read line) ≡ Ok c
+alone_asks line c h = ap command_of_value (ap (λ ts. document (value 127 ts)) h.1 ∙ ap document (alone_value h.0)) ∙ ap or_field h.2
 
-asks : (s : Short) (c : Command) → command_in (data_of s) ≡ Some c → command_of_value (Some (data_of s)) ≡ Ok c
-asks (Alone name) c e = ap or_field e
-asks (Numbered name key n) c e = ap or_field e
+numbered_asks : (line : List ℕ) (c : Command) → AsksNumbered (tokens line) c → command_of_value (read line) ≡ Ok c
+numbered_asks line c (name, key, text, n, is, reads, h) =
+    ap command_of_value (ap (λ ts. document (value 127 ts)) is ∙ (ap document (short_value name key text) ∙ short_number name key (number_of text) n reads)) ∙ ap or_field h
 
 short_asks : (line : List ℕ) (c : Command) → AsksShort (tokens line) c → command_of_value (read line) ≡ Ok c
-short_asks line c h = ap command_of_value (read_is line h.0 h.1) ∙ asks h.0 c h.2
+short_asks line c (inl h) = alone_asks line c h
+short_asks line c (inr h) = numbered_asks line c h
+
+pub Asks-short : (before ts : List Token) (r : Option Parsed) → before ≡ ts → IfSome r (λ c. AsksShort ts (command c)) → IfSome r (λ c. Asks before (command c))
+Asks-short before ts None e h = tt
+Asks-short before ts (Some c) e h = inl (rw e h)
 
 -- ---- names of patches
 

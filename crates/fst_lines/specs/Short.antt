@@ -6,8 +6,6 @@ use Rattle.serde_json.specs.Read.{number_of}
 use Rattle.hex.specs.Hex.{decode_of}
 use Rattle.fst_lines.specs.Members.{number_in}
 use Rattle.fst_lines.specs.Commands.{Command, patch, empty, depend, group_after, group_patch, command_in}
-use Rattle.fst_lines.specs.declared.short.Short.{Short}
-use Rattle.fst_lines.specs.declared.short.Short.TheVariants.{Alone, Numbered}
 
 -- what it does
 abbrev pub alone_data : List ℕ → Data
@@ -16,17 +14,6 @@ alone_data name = object (put (codes "do") (string name) no_members)
 -- what it does, and a number under a key
 abbrev pub short_data : (name key : List ℕ) → ℕ → Data
 short_data name key n = object (put key (number (unsigned n)) (put (codes "do") (string name) no_members))
-
-abbrev pub data_of : Short → Data
-data_of (Alone name) = alone_data name.now
-data_of (Numbered name key n) = short_data name.now key.now n
-
--- the tokens are those of the line
-abbrev pub IsShort : List Token → Short → Type 0
-IsShort tokens (Alone name) = tokens ≡ Token.begin_object ∷ Token.key (codes "do") ∷ Token.string name.now ∷ Token.end_object ∷ []
-IsShort tokens (Numbered name key n) =
-    (text : List ℕ) × (tokens ≡ Token.begin_object ∷ Token.key (codes "do") ∷ Token.string name.now ∷ Token.key key.now ∷ Token.number text ∷ Token.end_object ∷ [])
-    × (number_of text ≡ Some (unsigned n))
 
 -- a number of 32 bits
 abbrev pub small_number : List ℕ → Option ℕ
@@ -98,9 +85,20 @@ IsGroupAfter tokens c =
     (group on : ℕ) × (past_group : List Token) × (c ≡ group_after group on) × NumberUnder (codes "group") group tokens past_group
     × NumberUnder (codes "on") on past_group (Token.end_object ∷ [])
 
--- the tokens of a line that asks for the command
+-- the line says what it does, and nothing else
+abbrev pub AsksAlone : List Token → Command → Type 0
+AsksAlone tokens c =
+    (name : List ℕ) × (tokens ≡ Token.begin_object ∷ Token.key (codes "do") ∷ Token.string name ∷ Token.end_object ∷ [])
+    × (command_in (alone_data name) ≡ Some c)
+
+-- the line says what it does, and a number under a key
+abbrev pub AsksNumbered : List Token → Command → Type 0
+AsksNumbered tokens c =
+    (name key text : List ℕ) × (n : ℕ) × (tokens ≡ Token.begin_object ∷ Token.key (codes "do") ∷ Token.string name ∷ Token.key key ∷ Token.number text ∷ Token.end_object ∷ [])
+    × (number_of text ≡ Some (unsigned n)) × (command_in (short_data name key n) ≡ Some c)
+
 abbrev pub AsksShort : List Token → Command → Type 0
-AsksShort tokens c = (short : Short) × IsShort tokens short × (command_in (data_of short) ≡ Some c)
+AsksShort tokens c = AsksAlone tokens c ⊎ AsksNumbered tokens c
 
 -- the line says what it does, and what follows says the command
 abbrev pub AsksNamed : List ℕ → (List Token → Command → Type 0) → List Token → Command → Type 0

@@ -4,7 +4,7 @@
 ghost use Rattle.std.specs.Prelude.{◌≡◌, map, option_map};
 ghost use Rattle.serde_json.specs.View.{view, items_view, members_view};
 ghost use Rattle.fst_lines.specs.Parsing.{block_numbers, patch_numbers, Gives};
-ghost use Rattle.fst_lines.specs.Members.{is_one_of, only, number_in, numbers_of, numbers_in, bytes_in, failure_in, number_at, long_at, bytes_at, numbers_at, numbers_if_any, failure_if_any};
+ghost use Rattle.fst_lines.specs.Members.{is_one_of, only, number_in, numbers_of, numbers_in, failure_in, number_at, long_at, bytes_at, numbers_at, numbers_if_any, failure_if_any};
 
 use crate::failure::Failure;
 use fst_types::{BlockNo, Fault, PatchNo};
@@ -63,26 +63,17 @@ pub fn long_at(value: &Value, name: &str) -> Result<u64, Fault>
     }
 }
 
-fn bytes(alloc: Global, value: &Value) -> Result<Vec<u8>, Fault>
-    ensures { Gives (λ v. v.items) result (bytes_in (view value.now)) }
+/// The bytes in hex that have to be there.
+pub fn bytes_at(alloc: Global, value: &Value, name: &str) -> Result<Vec<u8>, Fault>
+    ensures { Gives (λ v. v.items) result (bytes_at name.now (view value.now)) }
 {
-    let Some(text) = value.as_str() else {
+    let Some(text) = value.get(name).and_then(Value::as_str) else {
         return Err(Fault::BadField);
     };
     match hex::decode(alloc, text) {
         Ok(bytes) => Ok(bytes),
         Err(hex::FromHexError::OutOfMemory) => Err(Fault::Memory),
         Err(_) => Err(Fault::BadField),
-    }
-}
-
-/// The bytes in hex that have to be there.
-pub fn bytes_at(alloc: Global, value: &Value, name: &str) -> Result<Vec<u8>, Fault>
-    ensures { Gives (λ v. v.items) result (bytes_at name.now (view value.now)) }
-{
-    match value.get(name) {
-        Some(found) => bytes(alloc, found),
-        None => Err(Fault::BadField),
     }
 }
 

@@ -109,26 +109,19 @@ pub fn send_patch<W: Write>(
     ensures { Sends (W.contents writer.old) (W.contents writer.new) result
         (patch_text patch.0 grade ++ 10 ∷ []) }
 {
-    match grade {
-        Grade::Hard => send_all(
-            writer,
-            calls,
-            &[
-                Piece::Text("patch "),
-                Piece::Number(u64::from(patch.0)),
-                Piece::Text(" hard\n"),
-            ],
-        ),
-        Grade::Soft => send_all(
-            writer,
-            calls,
-            &[
-                Piece::Text("patch "),
-                Piece::Number(u64::from(patch.0)),
-                Piece::Text(" soft\n"),
-            ],
-        ),
-    }
+    let end = match grade {
+        Grade::Hard => " hard\n",
+        Grade::Soft => " soft\n",
+    };
+    send_all(
+        writer,
+        calls,
+        &[
+            Piece::Text("patch "),
+            Piece::Number(u64::from(patch.0)),
+            Piece::Text(end),
+        ],
+    )
 }
 
 /// `chosen B patches L`, or `chosen B none`.

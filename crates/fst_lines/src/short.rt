@@ -9,7 +9,7 @@ ghost use Rattle.std.specs.Prelude.{◌≡◌, ◌∷◌, Some, Ok, IfSome, code
 ghost use Rattle.json.specs.Token.{begin_object, key, string, number};
 ghost use Rattle.fst_lines.specs.Commands.{command_in, command_of};
 ghost use Rattle.fst_lines.specs.Parsing.{command};
-ghost use Rattle.fst_lines.specs.Short.{alone_data, short_data, data_of, IsShort, AsksShort, Asks};
+ghost use Rattle.fst_lines.specs.Short.{alone_data, short_data, AsksShort, Asks};
 
 use crate::command::Command;
 use crate::order_line::{take_depend, take_empty, take_group_after};
@@ -21,33 +21,6 @@ use std::alloc::Global;
 
 // Enough for a change of 64 bytes and its names.
 const LONGEST: usize = 256;
-
-/// What a line does, and its number under a name where it has one.
-#[derive(Drop)]
-enum Short<'a> {
-    Alone(&'a str),
-    Numbered(&'a str, &'a str, u64),
-}
-
-// What follows the name of a command, to the end of the line.
-fn take_rest<'a>(reader: &mut Reader<'a>, name: &'a str) -> Option<Short<'a>>
-    ensures { IfSome result (λ s. IsShort (begin_object ∷ key (codes "do") ∷ string name.now ∷ reader.old) s) }
-{
-    match reader.next() {
-        Some(Token::EndObject) => match reader.next() {
-            None => Some(Short::Alone(name)),
-            Some(_) => None,
-        },
-        Some(Token::Key(key)) => {
-            let number = take_number(reader)?;
-            if !takes_end(reader) {
-                return None;
-            }
-            Some(Short::Numbered(name, key, number))
-        }
-        _ => None,
-    }
-}
 
 // The name of a command, which the line begins with.
 fn take_name<'a>(reader: &mut Reader<'a>) -> Option<&'a str>
@@ -142,20 +115,21 @@ fn numbered(name: &str, key: &str, number: u64) -> Option<Command>
     on_number(name, key, number as u32)
 }
 
-fn asked(short: Short<'_>) -> Option<Command>
-    ensures { IfSome result (λ c. command_in (data_of short.entry) ≡ Some (command c)) }
-{
-    match short {
-        Short::Alone(name) => alone(name),
-        Short::Numbered(name, key, number) => numbered(name, key, number),
-    }
-}
-
-fn take_short<'a>(reader: &mut Reader<'a>, name: &'a str) -> Option<Command>
+// What follows the name of a command that has one number or no member, to the end of the line.
+fn take_short(reader: &mut Reader<'_>, name: &str) -> Option<Command>
     ensures { IfSome result (λ c. AsksShort (begin_object ∷ key (codes "do") ∷ string name.now ∷ reader.old) (command c)) }
 {
-    let short = take_rest(reader, name)?;
-    asked(short)
+    match reader.next() {
+        Some(Token::EndObject) if reader.next().is_none() => alone(name),
+        Some(Token::Key(key)) => {
+            let number = take_number(reader)?;
+            if !takes_end(reader) {
+                return None;
+            }
+            numbered(name, key, number)
+        }
+        _ => None,
+    }
 }
 
 fn take_command(alloc: Global, reader: &mut Reader<'_>) -> Option<Command>

@@ -45,9 +45,9 @@ impl<'a, S: BlockSlot> Shop<'a, S> {
     }
 }
 
-// A worker's thread: it steps, and yields where it had nothing to do or no place, until it is stopped.
-fn work<S: BlockSlot, R: Wait>(rt: &R, worker: Worker<S>, stop: &AtomicBool) {
-    let mut worker = worker;
+// A worker's thread: it steps, and yields where it had nothing to do or no place, until it is stopped. The worker stays
+// with the caller: what holds it drops its rings at each way out.
+fn work<S: BlockSlot, R: Wait>(rt: &R, worker: &mut Worker<S>, stop: &AtomicBool) {
     for _ in rt.forever() {
         match worker.step() {
             Step::Wrote(_) => {}
@@ -102,7 +102,10 @@ fn start_workers<'s, S: BlockSlot + Send + 's, E: 's, R: Threads + Wait + Sync>(
         let started = stack.spawn_scoped_with(
             scope,
             Anything,
-            move || work(rt, worker, &shop.stop),
+            move || {
+                let mut worker = worker;
+                work(rt, &mut worker, &shop.stop);
+            },
         );
         if started.is_err() {
             return Err(CrewFault::Thread);

@@ -1,4 +1,4 @@
-use Rattle.std.proofs.Common.{Result, Ok, Err, List, ℕ, ◌≡◌, ◌*◌, map, length, refl, subst}
+use Rattle.std.proofs.Common.{Result, Ok, Err, List, ℕ, ◌≡◌, map, length, refl, subst}
 use Rattle.std.specs.Prelude.{OnOk, Option}
 use Rattle.std.specs.Io.KnownBytes.{Appends}
 use Rattle.std.specs.List.{range_with_len}
