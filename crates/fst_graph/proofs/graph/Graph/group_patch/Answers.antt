@@ -5,4 +5,4 @@ pub put_down-requires : goal.put_down-requires
 put_down-requires c = let x = c.is_member_prepared.ensures.0 c.if-is_member_prepared.true in rw (← c.self.view_is) (_, x.2, refl)
 
 pub put_down-requires-2 : goal.put_down-requires-2
-put_down-requires-2 c = (_, ap (λ k. k.prepared) c.in_ok-group_room.ensures.prepared, refl)
+put_down-requires-2 c = (_, ap (λ k. k.prepared) c.in_default.ensures.prepared, refl)
