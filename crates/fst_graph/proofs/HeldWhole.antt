@@ -3,14 +3,16 @@ use Rattle.std.proofs.Common.{◌≡◌, ◌+◌, ◌≤◌, ◌<◌, ◌∷◌,
 use Rattle.std.proofs.lemmas.{List.length-map, Option.same_Some}
 use Rattle.std.specs.Prelude.{IfSome}
 use Rattle.fst_types.specs.Grouping.{with_new, put_after, with_member, with_closed}
-use Rattle.fst_types.specs.{Groups.{Group, IsGroupGate, IsGroupNumber}, Limits.max_groups, Order.{room_order, make_order, depend_order, group_after_order, group_close_order, group_patch_order}}
-use Rattle.fst_types.specs.{Refusals.NoneHolds, declared.fault.Fault.Fault, declared.grade.Grade.Grade}
-use Rattle.fst_graph.specs.Grouping.{unstarted_order, AddsGroup, AddsMember, AddsPair, ClosesGroup, ForeseesMember, PutsAfter, SealsIfOpen}
+use Rattle.fst_types.specs.{Groups.{Group, IsGroupGate, IsGroupNumber}, Limits.max_groups, Order.{room_order, group_new_order, make_order, depend_order, group_after_order, group_close_order, group_patch_order}}
+use Rattle.fst_types.specs.{Refusals.{◌when◌, NoneHolds}, declared.fault.Fault.Fault, declared.grade.Grade.Grade}
+use Rattle.fst_graph.specs.Grouping.{pair_order, unstarted_order, AddsGroup, AddsMember, AddsPair, ClosesGroup, ForeseesMember, PutsAfter, SealsIfOpen}
 use Rattle.fst_graph.specs.Known.{Known, Prepared, unprepared, with_groups, Foresees, Refuses, AddsGate, AddsEmpty, AddsChange, SealsGate, DependsGate, Launches, LandsBlock, MayLaunch, Forgets}
 use Rattle.fst_graph.specs.{Membering.{ArePaired, GainsMember, member_order}, Rows.{AreWhole, whole, whole_known, with_row}, Sparse.{AddsSparse, ForeseesSparse, ForetellsSparse, GainsSparse}, Whole.{IsHeldWhole, IsUnclosed}}
 use Rattle.fst_graph.proofs.GroupCalls.{new_group, past_tails, puts_after, after_refused, pairs, tail_after, member_clear, member_refused, foretold, put_adds, put_grouped, closes_group}
-use Rattle.fst_graph.proofs.Grouped.{grouped_unprepared, grouped_prepared, grouped_gate, grouped_empty, grouped_seal, grouped_depend, grouped_change, grouped_forget, grouped_launch, grouped_land, beside_empty, beside_depend, beside_change, beside_foreseen}
+use Rattle.fst_graph.proofs.Grouped.{past_rule, grouped_unprepared, grouped_prepared, grouped_gate, grouped_empty, grouped_seal, grouped_depend, grouped_change, grouped_forget, grouped_launch, grouped_land, beside_empty, beside_depend, beside_change, beside_foreseen}
 use Rattle.fst_graph.proofs.WholeCalls.{same_over, gate_known, empty_known, seal_known, begun_known, gains_known, depend_refuses, launch_over, launch_made, land_known, forget_known, pair_known, change_known, foresees_is, member_known, foretells_is, member_clear_is, member_refuses, paired_was}
+use Rattle.fst_types.specs.declared.fault.What.TheVariants as what
+use Rattle.fst_types.specs.declared.fault.Fault.TheVariants as fault
 
 module _ (rows : List (ℕ × List ℕ)) (p : Known) (gs : List Group) (G : IsHeldWhole rows p gs) where
   abbrev P : Known
@@ -30,6 +32,13 @@ module _ (rows : List (ℕ × List ℕ)) (p : Known) (gs : List Group) (G : IsHe
   module _ (q : Known) where
     abbrev Q : Known
     Q = whole_known rows q
+
+    -- the rest is as it is among the patches
+    pub held_as : {k : Known} → q ≡ k → with_groups Q gs ≡ with_groups (whole_known rows k) gs
+    held_as same = ap (λ k. with_groups (whole_known rows k) gs) same
+
+    pub held_same : q ≡ unprepared p → with_groups Q gs ≡ unprepared (with_groups P gs)
+    held_same same = held_as same
 
     pub held_unprepared : q ≡ unprepared p → IsHeldWhole rows q gs
     held_unprepared same = record { whole = same_over rows p G.whole q same; grouped = grouped_unprepared P Q gs G.grouped (ap (whole_known rows) same) }
@@ -104,6 +113,9 @@ module _ (rows : List (ℕ × List ℕ)) (p : Known) (gs : List Group) (G : IsHe
     pub held_after_refused : (n m : ℕ) → NoneHolds (unstarted_order gs n m) → IsGroupNumber gs n → IsGroupNumber gs m → (f : Fault)
         → Refuses (depend_order p.heads p.numbers n ((m + 1) ∷ [])) f → Refuses (group_after_order P.heads gs n m) f
     held_after_refused n m clear found other f r = after_refused P Q gs G.grouped n m clear found other f (depend_refuses rows p G.whole n ((m + 1) ∷ []) f r)
+
+  pub held_new_refused : (max_groups ≤ length gs → ⊥) → (f : Fault) → Refuses (pair_order p.heads p.numbers) f → Refuses (group_new_order P.heads p.numbers gs) f
+  held_new_refused few f r = past_rule (fault.Full what.Groups when (max_groups ≤ length gs)) (pair_order P.heads p.numbers) f few (rw (length-map p.heads (whole rows)) r)
 
   -- a change of a group
   module _ (n : ℕ) (u : IsUnclosed gs n) where

@@ -1,7 +1,7 @@
 use Rattle.std.proofs.Common.{sym, subst}
 use Rattle.fst_heads.specs.Names.{numbers_of}
 use Rattle.fst_graph.specs.{Known.{unprepared, with_groups, AddsChange}, Rows.whole_known, Whole.IsHeldWhole}
-use Rattle.fst_graph.proofs.HeldWhole.{held_change, held_unprepared, make_refuses}
+use Rattle.fst_graph.proofs.HeldWhole.{held_change, held_unprepared, make_refuses, held_same}
 use Rattle.fst_graph.proofs.graph.Graph.add_data.Goals as goal
 
 pub invariant_of-self : goal.invariant_of-self
@@ -21,3 +21,6 @@ returns-clause-ok c =
     let gs = c.self.inside.groups.items in
     rw (← c.self.view_is)
     (subst (λ more. AddsChange (unprepared (with_groups (whole_known c.self.inside.rows.items p) gs)) c.args.block.0 c.args.span.at c.args.span.len (numbers_of c.args.after.now) c.in-Ok.made.0.0 c.in-Ok.made.1 (with_groups (whole_known more q) gs)) (sym c.with-self-inside.ensures) (held_change c.self.inside.rows.items p gs c.self.invariant q c.args.block.0 c.args.span.at c.args.span.len c.in-Ok.made.0.0 (numbers_of c.args.after.now) c.in-Ok.made.1 c.in-Ok.ensures.ok).0)
+
+pub returns-in-Err-clause-same : goal.returns-in-Err-clause-same
+returns-in-Err-clause-same c = rw (← c.self.view_is) (held_same c.self.inside.rows.items c.self.inside.sparse c.self.inside.groups.items c.self.invariant c.add_data.new.self c.in-Err.ensures.same)

@@ -1,5 +1,6 @@
+use Rattle.std.proofs.lemmas.Result.{on_err_weaker}
 use Rattle.fst_graph.proofs.Grouped.{answered, fine, failed}
-use Rattle.fst_graph.proofs.HeldWhole.{held_gate, held_unprepared, room_refuses}
+use Rattle.fst_graph.proofs.HeldWhole.{held_gate, held_unprepared, room_refuses, held_same}
 use Rattle.fst_graph.proofs.graph.Graph.add_gate.Goals as goal
 
 pub invariant_of-self : goal.invariant_of-self
@@ -10,3 +11,9 @@ returns-clause-ok c = rw (← c.self.view_is) (fine c.add_gate.result (λ no a. 
 
 pub returns-clause-refused : goal.returns-clause-refused
 returns-clause-refused c = rw (← c.self.view_is) (failed c.add_gate.result (λ f r. room_refuses c.self.inside.rows.items c.self.inside.sparse c.self.inside.groups.items c.self.invariant f r) c.add_gate.ensures.refused)
+
+pub returns-clause-same : goal.returns-clause-same
+returns-clause-same c = rw (← c.self.view_is) (on_err_weaker c.add_gate.result (held_same c.self.inside.rows.items c.self.inside.sparse c.self.inside.groups.items c.self.invariant c.add_gate.new.self) c.add_gate.ensures.same)
+
+pub returns-clause-blocks : goal.returns-clause-blocks
+returns-clause-blocks c = rw (← c.self.view_is) c.add_gate.ensures.blocks

@@ -1,4 +1,5 @@
-use Rattle.fst_graph.proofs.HeldWhole.{held_closed}
+use Rattle.std.proofs.Common.{◌∙◌}
+use Rattle.fst_graph.proofs.HeldWhole.{held_closed, held_unprepared, held_same}
 use Rattle.fst_graph.proofs.graph.Graph.group_close.Goals as goal
 
 pub invariant_of-self-2 : goal.invariant_of-self-2
@@ -9,3 +10,12 @@ returns-clause-ok c = rw (← c.self.view_is, c.close.ensures) (held_closed c.se
 
 pub returns-in-Some-clause-refused : goal.returns-in-Some-clause-refused
 returns-in-Some-clause-refused c = rw (← c.self.view_is) c.in-Some.ensures.first
+
+pub invariant_of-self : goal.invariant_of-self
+invariant_of-self c = held_unprepared c.self.inside.rows.items c.self.inside.sparse c.self.inside.groups.items c.self.invariant c.unprepare.new.self c.unprepare.ensures
+
+pub returns-in-Some-clause-same : goal.returns-in-Some-clause-same
+returns-in-Some-clause-same c = rw (← c.self.view_is) (held_same c.self.inside.rows.items c.self.inside.sparse c.self.inside.groups.items c.self.invariant c.unprepare.new.self c.unprepare.ensures)
+
+pub returns-clause-blocks : goal.returns-clause-blocks
+returns-clause-blocks c = rw (← c.self.view_is) (c.seal_if_open-2.ensures.blocks ∙ c.seal_if_open.ensures.blocks)

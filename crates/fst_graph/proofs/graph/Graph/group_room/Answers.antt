@@ -1,7 +1,8 @@
+use Rattle.std.proofs.lemmas.Result.{on_err_weaker}
 use Rattle.std.proofs.Common.{inl, map}
 use Rattle.fst_graph.specs.{Known.member_for, Rows.whole, Whole.IsUnclosed}
 use Rattle.fst_graph.proofs.{GroupCalls.first_closed, Grouped.{answered, fine, failed}, graph.Graph.group_room.Goals.In_default}
-use Rattle.fst_graph.proofs.HeldWhole.{held_foretold, held_member_clear, held_member_refused, held_pairs, held_prepared, held_unprepared}
+use Rattle.fst_graph.proofs.HeldWhole.{held_foretold, held_member_clear, held_member_refused, held_pairs, held_prepared, held_unprepared, held_same, held_as}
 use Rattle.fst_graph.proofs.graph.Graph.group_room.Goals as goal
 
 -- the group can get changes
@@ -30,3 +31,21 @@ returns-clause-refused c = rw (← c.self.view_is) (failed c.member_room.result 
 pub returns-in-Some-clause-refused : goal.returns-in-Some-clause-refused
 returns-in-Some-clause-refused c =
     rw (← c.self.view_is) (inl (first_closed (map (whole c.self.inside.rows.items) c.self.inside.sparse.heads) c.self.inside.sparse.numbers c.self.inside.groups.items c.args.group.0 c.args.block.0 c.args.span.at c.args.span.len c.in-Some.fault c.in-Some.ensures.first))
+
+pub invariant_of-self : goal.invariant_of-self
+invariant_of-self c = held_unprepared c.self.inside.rows.items c.self.inside.sparse c.self.inside.groups.items c.self.invariant c.unprepare.new.self c.unprepare.ensures
+
+pub returns-in-Some-clause-same : goal.returns-in-Some-clause-same
+returns-in-Some-clause-same c = rw (← c.self.view_is) (held_same c.self.inside.rows.items c.self.inside.sparse c.self.inside.groups.items c.self.invariant c.unprepare.new.self c.unprepare.ensures)
+
+pub returns-clause-same : goal.returns-clause-same
+returns-clause-same c = rw (← c.self.view_is) (on_err_weaker c.member_room.result (held_same c.self.inside.rows.items c.self.inside.sparse c.self.inside.groups.items c.self.invariant c.member_room.new.self) c.member_room.ensures.same)
+
+pub returns-clause-blocks : goal.returns-clause-blocks
+returns-clause-blocks c = rw (← c.self.view_is) c.member_room.ensures.blocks
+
+pub returns-clause-next : goal.returns-clause-next
+returns-clause-next c = rw (← c.self.view_is) c.member_room.ensures.next
+
+pub returns-clause-prepared : goal.returns-clause-prepared
+returns-clause-prepared c = rw (← c.self.view_is) (fine c.member_room.result (λ made is. held_as c.self.inside.rows.items c.self.inside.sparse c.self.inside.groups.items c.self.invariant c.member_room.new.self is) c.member_room.ensures.prepared)

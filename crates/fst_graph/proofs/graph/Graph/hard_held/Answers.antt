@@ -1,3 +1,4 @@
+use Rattle.fst_graph.proofs.HeldWhole.{held_same}
 use Rattle.std.proofs.lemmas.Option.{IfSome_then}
 use Rattle.fst_graph.proofs.{HeldWhole.held_unprepared, PlaceOf.none_then, WholeCalls.{held_was, least_held_is}}
 use Rattle.fst_graph.proofs.graph.Graph.hard_held.Goals as goal
@@ -10,3 +11,6 @@ returns-clause-none c = rw (← c.self.view_is) (none_then c.hard_held.result (�
 
 pub returns-clause-least : goal.returns-clause-least
 returns-clause-least c = rw (← c.self.view_is) (IfSome_then c.hard_held.result c.hard_held.ensures.least (λ no l. least_held_is c.self.inside.rows.items c.self.inside.sparse c.self.invariant.whole c.args.block.0 no.0 l))
+
+pub returns-clause-same : goal.returns-clause-same
+returns-clause-same c = rw (← c.self.view_is) (held_same c.self.inside.rows.items c.self.inside.sparse c.self.inside.groups.items c.self.invariant c.hard_held.new.self c.hard_held.ensures.same)

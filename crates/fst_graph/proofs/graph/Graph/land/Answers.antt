@@ -6,3 +6,6 @@ invariant_of-self c = (held_land c.self.inside.rows.items c.self.inside.sparse c
 
 pub returns-clause-landed : goal.returns-clause-landed
 returns-clause-landed c = rw (← c.self.view_is) (held_land c.self.inside.rows.items c.self.inside.sparse c.self.inside.groups.items c.self.invariant c.land.new.self c.args.block.0 c.land.ensures.landed).0
+
+pub returns-clause-blocks : goal.returns-clause-blocks
+returns-clause-blocks c = rw (← c.self.view_is) c.land.ensures.blocks

@@ -15,3 +15,6 @@ invariant_of-self c = (held_launch c.self.inside.rows.items c.self.inside.sparse
 
 pub returns-clause-launched : goal.returns-clause-launched
 returns-clause-launched c = rw (← c.self.view_is) (held_launch c.self.inside.rows.items c.self.inside.sparse c.self.inside.groups.items c.self.invariant c.launch.new.self (numbers_of c.args.chosen.now) (may (goal.at.returns-clause-launched c).After-self) c.launch.ensures.launched).0
+
+pub returns-clause-blocks : goal.returns-clause-blocks
+returns-clause-blocks c = rw (← c.self.view_is) c.launch.ensures.blocks

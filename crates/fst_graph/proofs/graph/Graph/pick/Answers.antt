@@ -1,3 +1,4 @@
+use Rattle.fst_graph.proofs.HeldWhole.{held_same}
 use Rattle.fst_graph.proofs.{HeldWhole.held_unprepared, PlaceOf.none_then, WholeCalls.{pick_is, stuck_is}}
 use Rattle.fst_graph.proofs.graph.Graph.pick.Goals as goal
 
@@ -9,3 +10,6 @@ returns-clause-never_stuck c = rw (← c.self.view_is) (none_then c.pick.result 
 
 pub invariant_of-self : goal.invariant_of-self
 invariant_of-self c = held_unprepared c.self.inside.rows.items c.self.inside.sparse c.self.inside.groups.items c.self.invariant c.pick.new.self c.pick.ensures.same
+
+pub returns-clause-same : goal.returns-clause-same
+returns-clause-same c = rw (← c.self.view_is) (held_same c.self.inside.rows.items c.self.inside.sparse c.self.inside.groups.items c.self.invariant c.pick.new.self c.pick.ensures.same)

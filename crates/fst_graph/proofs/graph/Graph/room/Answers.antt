@@ -1,7 +1,8 @@
+use Rattle.std.proofs.lemmas.Result.{on_err_weaker}
 use Rattle.fst_heads.specs.Names.{numbers_of}
 use Rattle.fst_graph.specs.Known.{prepared_for}
 use Rattle.fst_graph.proofs.Grouped.{answered, fine, failed}
-use Rattle.fst_graph.proofs.HeldWhole.{held_foreseen, held_prepared, held_unprepared, make_refuses}
+use Rattle.fst_graph.proofs.HeldWhole.{held_foreseen, held_prepared, held_unprepared, make_refuses, held_same, held_as}
 use Rattle.fst_graph.proofs.graph.Graph.room.Goals as goal
 
 pub returns-clause-ok : goal.returns-clause-ok
@@ -15,3 +16,12 @@ invariant_of-self c =
     answered c.room.result c.room.ensures.prepared c.room.ensures.same
     (λ made same. held_prepared c.self.inside.rows.items c.self.inside.sparse c.self.inside.groups.items c.self.invariant c.room.new.self (prepared_for c.args.block.0 c.args.span.at c.args.span.len (numbers_of c.args.after.now) made.0.0 made.1) tt same)
     (λ same. held_unprepared c.self.inside.rows.items c.self.inside.sparse c.self.inside.groups.items c.self.invariant c.room.new.self same)
+
+pub returns-clause-same : goal.returns-clause-same
+returns-clause-same c = rw (← c.self.view_is) (on_err_weaker c.room.result (held_same c.self.inside.rows.items c.self.inside.sparse c.self.inside.groups.items c.self.invariant c.room.new.self) c.room.ensures.same)
+
+pub returns-clause-blocks : goal.returns-clause-blocks
+returns-clause-blocks c = rw (← c.self.view_is) c.room.ensures.blocks
+
+pub returns-clause-prepared : goal.returns-clause-prepared
+returns-clause-prepared c = rw (← c.self.view_is) (fine c.room.result (λ made is. held_as c.self.inside.rows.items c.self.inside.sparse c.self.inside.groups.items c.self.invariant c.room.new.self is) c.room.ensures.prepared)
