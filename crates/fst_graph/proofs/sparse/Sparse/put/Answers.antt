@@ -1,38 +1,13 @@
-use Rattle.std.proofs.{Common.{◌≡◌, ◌<◌, ◌≤◌, ◌+◌, ◌++◌, ◌∷◌, ◌∙◌, [], ℕ, List, Fits, w32, w64, length, min, count_by, Option, None, Some, IfSome, IfNone, option_map, Contains, arith, sym, subst, refl, ap, map}}
-use Rattle.std.specs.{Global.Vec, Vec.with_item}
+use Rattle.std.proofs.{Common.{◌≡◌, ◌+◌, ◌++◌, ◌∷◌, ◌∙◌, [], ℕ, Option, None, Some, IfSome, IfNone, option_map, Contains, arith, sym, subst, refl, ap, map}}
+use Rattle.std.specs.Vec.{with_item}
 use Rattle.std.proofs.lemmas.{List.length-map, List.Sums.count_by-le-length}
-use Rattle.fst_types.specs.{Dependencies.{DirectlyOn, IsLiveNumber}, Gating.gains, Limits.max_heads, Lists.Lists, Patches.Patch, Tests.is_live}
-use Rattle.fst_heads.specs.{Covers.Covering, Frames.HasRoomBelow, Heads.{patch_of, patches_of}, Names.numbers_of, declared.{head.Head.Head, lists.Listed.Listed}}
+use Rattle.fst_types.specs.{Dependencies.{DirectlyOn, IsLiveNumber}, Gating.gains, Lists.Lists, Tests.is_live}
+use Rattle.fst_heads.specs.{Frames.HasRoomBelow, Heads.{patch_of, patches_of}, Names.numbers_of}
 use Rattle.fst_graph.specs.{Known.{Known, DependsGate}, Ready.change_of, Sound.AreSound, Sparse.AddsSparse, declared.prepared.Gates.Gates}
 use Rattle.fst_graph.proofs.{Borne.gain_room, Made.{change_sound, gained_sound, may_enlist, may_go_on, may_lift, may_need, may_put, may_rise, named_patches, put_patches}, PutNow.{number_free, put_now, IsPutDown, IsPutNow}}
 use Rattle.fst_graph.proofs.{Readied.ready_adds, Sound.rising_sound, TailGains.{member_kept, tail_may, tail_small}}
 use Rattle.fst_graph.proofs.sparse.Sparse.put.Goals.{After-as_slice-row, After-put_down-pending, After-put-2}
 use Rattle.fst_graph.proofs.sparse.Sparse.put.Goals as goal
-
--- of plain numbers, so that a tactic reads nothing else
-in_place : (covers : Vec Covering) (b blocks : ℕ) → b < blocks → length covers.items ≡ blocks → b < covers.len
-in_place covers b blocks lt long = omega (arith, covers.ok.0)
-
-fits_in : (lists : Vec (Vec Listed)) (b : ℕ) → b < length lists.items → Fits w64 b
-fits_in lists b lt = omega (arith, lists.ok)
-
-next_fits : (n : ℕ) → n < 4294967295 → Fits w32 (n + 1)
-next_fits n lt = omega arith
-
-live_fits : (heads : List Patch) (live : ℕ) → live ≡ count_by is_live heads → length heads ≤ max_heads → Fits w64 (live + 1)
-live_fits heads live counted few = omega (arith, count_by-le-length is_live heads)
-
-few_heads : (heads : List Head) → length (patches_of heads) ≤ max_heads → length heads ≤ max_heads
-few_heads heads few = omega (arith, length-map heads patch_of)
-
-not_next : (m n : ℕ) → m ≡ n + 1 → m ≤ n → ⊥
-not_next m n e le = omega arith
-
-least_left : (m a b : ℕ) → m ≡ min a b → m ≤ a
-least_left m a b e = omega arith
-
-least_right : (m a b : ℕ) → m ≡ min a b → m ≤ b
-least_right m a b e = omega arith
 
 -- what is prepared may be put down
 now : (c : After-as_slice-row)
@@ -40,7 +15,7 @@ now : (c : After-as_slice-row)
 now c = put_now c.self.invariant c.in-Some.prepared c.args.self.now c.self.view_is c.requires (sym c.take.ensures.value ∙ c.in-Some.is)
 
 pub index_mut-requires : goal.index_mut-requires
-index_mut-requires c = in_place c.self.inside.covers c.in-Some.prepared.block c.self.inside.blocks (now (goal.at.index_mut-requires c).After-as_slice-row).down.ready.inside c.self.invariant.covered.long
+index_mut-requires c = omega (arith, (now (goal.at.index_mut-requires c).After-as_slice-row).down.ready.inside, c.self.invariant.covered.long, c.self.inside.covers.ok.0)
 
 pub rise_of-rise-requires : goal.rise_of-rise-requires
 rise_of-rise-requires c =
@@ -63,7 +38,7 @@ put_down-pending-requires c =
       rising = rising_sound c.self.invariant;
       once = D.ready.depends.rising;
       above = D.prepared.around.0;
-      few = few_heads c.self.inside.heads.items c.self.invariant.keeps.few;
+      few = omega (arith, c.self.invariant.keeps.few, length-map c.self.inside.heads.items patch_of);
       places = may_put c.self.invariant D c.rise_of-rise.new.walk c.rise_of-rise.new.crossed c.rise_of-rise.ensures.long c.deref.ensures.value c.rise_of-rise.ensures.room c.lift.ensures.room;
     }
 
@@ -89,7 +64,7 @@ sound c D =
     c.enlist.ensures.listed
     c.index_mut.ensures.value c.put-2.ensures refl
     c.enlist.ensures.entered
-    (least_left _ c.self.inside.unmarked _ least) (least_right _ c.self.inside.unmarked _ least)
+    (omega (arith, least)) (omega (arith, least))
 
 pub invariant_of-self-in-None : goal.invariant_of-self-in-None
 invariant_of-self-in-None c =
@@ -113,8 +88,8 @@ tie-requires c =
     record {
       rising = rising_sound S;
       counted = gain_room heads s.blocks tail ((s.numbers + 1) ∷ []) (omega (arith, c.self.ranges)) S.tallies.settled S.tallies.distinct S.keeps.few gains.rising (λ n h. (gains.only n h).2);
-      below = c.put_down-pending.ensures.below tail (λ e. not_next tail s.numbers e (tail_small (patches_of s.heads.items) s.numbers K R)) below_tail;
-      above = c.put_down-pending.ensures.above (λ q there e. not_next q.number s.numbers e (K.one_place_each.numbered q there).1);
+      below = c.put_down-pending.ensures.below tail (λ e. let k = tail_small (patches_of s.heads.items) s.numbers K R in omega (arith, e, k)) below_tail;
+      above = c.put_down-pending.ensures.above (λ q there e. let k = (K.one_place_each.numbered q there).1 in omega (arith, k, e));
     }
 
 pub invariant_of-self : goal.invariant_of-self
@@ -190,13 +165,15 @@ pub returns-in-Some-gates-clause-alone : goal.returns-in-Some-gates-clause-alone
 returns-in-Some-gates-clause-alone c = rw (← c.self.view_is, sym c.take.ensures.value ∙ c.in-Some.is) (for_group c.in-Some.prepared.gates _ _ c.in-Some-gates.is)
 
 pub overflow_add-number : goal.overflow_add-number
-overflow_add-number c = next_fits c.self.inside.numbers (number_free c.self.invariant c.in-Some.prepared (sym c.take.ensures.value ∙ c.in-Some.is))
+overflow_add-number c = let free = number_free c.self.invariant c.in-Some.prepared (sym c.take.ensures.value ∙ c.in-Some.is) in omega (arith, free)
 
 pub overflow_add-self : goal.overflow_add-self
-overflow_add-self c = live_fits (patches_of c.self.inside.heads.items) c.self.inside.live c.self.invariant.beside.counted c.self.invariant.keeps.few
+overflow_add-self c =
+    let S = c.self.invariant in
+    omega (arith, S.beside.counted, count_by-le-length is_live (patches_of c.self.inside.heads.items), S.keeps.few)
 
 pub overflow_cast-block : goal.overflow_cast-block
-overflow_cast-block c = fits_in c.self.inside.lists c.in-Some.prepared.block (now (goal.at.overflow_cast-block c).After-as_slice-row).down.shelf
+overflow_cast-block c = omega (arith, (now (goal.at.overflow_cast-block c).After-as_slice-row).down.ready.inside, c.self.ranges)
 
 pub overflow_cast-block-2 : goal.overflow_cast-block-2
-overflow_cast-block-2 c = fits_in c.self.inside.lists c.in-Some.prepared.block (now (goal.at.overflow_cast-block-2 c).After-as_slice-row).down.shelf
+overflow_cast-block-2 c = omega (arith, (now (goal.at.overflow_cast-block-2 c).After-as_slice-row).down.ready.inside, c.self.ranges)
