@@ -1,5 +1,5 @@
 -- What `choose`, `pick` and `issue` answer before anything goes out.
-use Rattle.std.proofs.Common.{◌≡◌, ◌≤◌, ℕ, false, List, [], ◌∷◌, map, length, Option, Some, None, IsSome, is_some, refl, ap, subst, inl, inr, arith, slice_get, MatchResult, IfNone, IfOk, IfErr, OnOk, OnErr, option_map, Result, Ok, Err}
+use Rattle.std.proofs.Common.{◌≡◌, ◌≤◌, ℕ, true, false, List, [], ◌∷◌, map, length, Option, Some, None, IsSome, is_some, refl, ap, subst, ◌∙◌, inl, inr, arith, slice_get, MatchResult, IfNone, IfOk, IfErr, OnOk, OnErr, option_map, Result, Ok, Err}
 use Rattle.std.proofs.lemmas.List.{length-map}
 use Rattle.fst_types.specs.declared.number.PatchNo.{PatchNo}
 use Rattle.fst_types.specs.declared.fault.Fault.{Fault}
@@ -67,6 +67,12 @@ not_busy s seats b seat same at_b idle busy = home (flight_of s b) seat.block.fl
   where
     home : (o p : Option Flight) → o ≡ p → is_some p ≡ false → IsSome o → ⊥
     home o p e f h = cc
+
+-- a block with this seat that is busy
+pub busy_refused : (size resident tickets made : ℕ) (graph : Known) (contents : List (ℕ × List ℕ)) (seats : List SeatView) (b : ℕ) (seat : SeatView) → slice_get seats b ≡ Some seat → is_some seat.block.flight ≡ true
+    → IsRefusal (state_of size resident tickets made graph contents seats) (Issue b) fault.Busy
+busy_refused size resident tickets made graph contents seats b seat at_b busy =
+    inl (inr (not_there seats b seat at_b, inl (ap (λ (v : BlockState). is_some v.flight) (block_here seats b seat at_b) ∙ busy, refl)))
 
 -- no memory for what may be written
 pub refused_memory : {V : Type 0} (s : State) (b : ℕ) (r : Result V Fault) → NoneHolds (order s (Issue b)) → IfErr r (λ f. HasReady s.heads b × (f ≡ fault.Memory)) → IfErr r (λ f. IsRefusal s (Issue b) f)

@@ -1,6 +1,6 @@
 -- What each call leaves of what holds of the patches and their groups.
 use Rattle.std.proofs.{Common.{◌≡◌, ℕ, List, [], ◌∷◌, map, replicate, false, Result, Ok, Err, Some, None, refl, sym, subst, inl, inr, arith}, lemmas.List.length-replicate}
-use Rattle.std.specs.Prelude.{IfOk, IfErr, IfSome, OnErr}
+use Rattle.std.specs.Prelude.{IfOk, IfErr, IfSome, OnErr, OnOk}
 use Rattle.fst_types.specs.{Events.{Event, Reply, MakeChange, MakeEmpty, MakeGate, Depend, Seal, Forget}, Facts.HeadsAreLawful}
 use Rattle.fst_types.specs.{Groups.{Group, IsGroupGate}, Making.{ChangeIsMade}, Refusals.{Rule, ◌when◌}}
 use Rattle.fst_types.specs.{State.State, Step.{Row, change, empty, gate, depend, seal, forget}, Writing.landed, declared.fault.Fault.Fault, declared.grade.Grade.Grade}
@@ -83,6 +83,10 @@ fine (Err e) f ok = ok
 pub failed : {T E : Type 0} {P Q : E → Type 0} (r : Result T E) → ((e : E) → P e → Q e) → IfErr r P → IfErr r Q
 failed (Ok x) f err = err
 failed (Err e) f err = f e err
+
+pub on_ok : {T E P : Type 0} (r : Result T E) → P → OnOk r P
+on_ok (Ok x) p = p
+on_ok (Err e) p = tt
 
 -- the groups stand beside what a call of the patches makes
 module _ (p q : Known) (gs : List Group) where

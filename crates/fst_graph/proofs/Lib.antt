@@ -28,3 +28,4 @@ pub mod WholeMember
 pub mod WholeCalls
 pub mod WholeRows
 pub mod Wholes
+pub mod HeldWhole

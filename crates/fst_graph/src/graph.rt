@@ -1,5 +1,7 @@
-//! The patches that are not forgotten, and the groups. A call of a patch alone is the call of the patches; it leaves the
-//! groups as they were, and what holds of them.
+//! The patches that are not forgotten, and the groups, as the definitions have them: each change names all that it depends
+//! on. What is kept of the patches (`sparse`) names less, and `rows` carries the whole rows for contracts alone; what depends
+//! on what is the same by either, as far as it is live. A call of a patch alone is that of the patches with sparse rows; it
+//! leaves the groups as they were, and what holds of them.
 
 ghost use Rattle.std.specs.Prelude.{◌≡◌, ◌<◌, ◌+◌, [], ℕ, Some, None, IfOk, IfErr, OnErr, IfSome, IfNone, OnOk, option_map, MatchResult, count_by};
 ghost use Rattle.fst_types.specs.Patches.{Patch};
@@ -16,33 +18,37 @@ ghost use Rattle.fst_heads.specs.Names.{numbers_of};
 mod grouping;
 
 use crate::groups::Groups;
-use crate::patches::Patches;
+use crate::rows::Rows;
+use crate::sparse::Sparse;
 use fst_types::{BlockNo, Fault, Grade, PatchNo, Place, Shape, Span};
 use std::alloc::Global;
 use std::marker::Model;
 
-/// The patches, and their groups.
+/// The patches as they are kept, the whole rows of their changes, and their groups.
 pub struct Graph {
-    patches: Patches,
+    sparse: Sparse,
+    rows: Rows,
     groups: Groups,
 }
 
 impl Model for Graph {
     ghost use Rattle.fst_graph.specs.Known.{Known, with_groups};
-    ghost use Rattle.fst_graph.specs.Whole.{IsGrouped};
+    ghost use Rattle.fst_graph.specs.Rows.{whole_known};
+    ghost use Rattle.fst_graph.specs.Whole.{IsHeldWhole};
 
     ghost Value = { Known };
 
-    ghost view = { λ g. with_groups g.patches g.groups.items };
+    ghost view = { λ g. with_groups (whole_known g.rows.items g.sparse) g.groups.items };
 
-    ghost invariant = { λ g. IsGrouped g.patches g.groups.items };
+    ghost invariant = { λ g. IsHeldWhole g.rows.items g.sparse g.groups.items };
 }
 
 // Written by hand, so that where a graph is dropped this one function is called, and not a drop of each part.
 impl Drop for Graph {
     fn drop(self) {
         let Graph {
-            patches: _,
+            sparse: _,
+            rows: _,
             groups: _,
         } = self;
     }
@@ -54,9 +60,13 @@ impl Graph {
     pub fn new(alloc: Global, shape: Shape, numbers: u32) -> Result<Graph, Fault>
         ensures { MatchResult result (λ g. g ≡ record { heads = []; numbers = numbers; blocks = shape.blocks; groups = []; prepared = None }) (λ f. f ≡ Fault.Memory) }
     {
-        let patches = Patches::new(alloc, shape, numbers)?;
+        let sparse = match Sparse::new(alloc, shape, numbers) {
+            Ok(sparse) => sparse,
+            Err(fault) => return Err(fault),
+        };
         Ok(Graph {
-            patches,
+            sparse,
+            rows: Rows::none(),
             groups: Groups::new(alloc),
         })
     }
@@ -65,14 +75,14 @@ impl Graph {
     pub fn live(&self) -> u32
         ensures { result ≡ count_by is_live self.now.heads }
     {
-        self.patches.live()
+        self.sparse.live()
     }
 
     /// Where a patch is: none for a number that was not given, the disk for one that was forgotten. It takes no memory.
     pub fn place(&self, no: PatchNo) -> Option<Place>
         ensures { result ≡ place_of self.now.heads self.now.numbers no.0 }
     {
-        self.patches.place(no)
+        self.sparse.place(no)
     }
 
     /// A new gate, open, without dependencies. It is refused as `Full(Heads)` where 65,535 patches are not forgotten, as
@@ -83,7 +93,7 @@ impl Graph {
         ensures same { OnErr result (self.new ≡ unprepared self.old) }
         ensures blocks { self.new.blocks ≡ self.old.blocks }
     {
-        self.patches.add_gate()
+        self.sparse.add_gate()
     }
 
     /// A new empty patch, which depends on the named patches that are not on disk. It is on disk at once where none is.
@@ -95,7 +105,7 @@ impl Graph {
         ensures same { OnErr result (self.new ≡ unprepared self.old) }
         ensures blocks { self.new.blocks ≡ self.old.blocks }
     {
-        self.patches.add_empty(after)
+        self.sparse.add_empty(after)
     }
 
     /// The writable set of the block, in order of number. `Memory` is answered only where it is not empty.
@@ -104,7 +114,7 @@ impl Graph {
         ensures refused { IfErr result (λ f. HasReady self.old.heads block.0 × (f ≡ Fault.Memory)) }
         ensures same { self.new ≡ unprepared self.old }
     {
-        self.patches.chosen(block)
+        self.sparse.chosen(block)
     }
 
     /// Seals an open gate, and puts on disk what now rests there. It is refused as `NoPatch` where the number was not
@@ -117,10 +127,10 @@ impl Graph {
         ensures blocks { self.new.blocks ≡ self.old.blocks }
     {
         if self.groups.has_gate(gate.0) {
-            self.patches.unprepare();
+            self.sparse.unprepare();
             return Err(Fault::NotGate);
         }
-        self.patches.seal(gate)
+        self.sparse.seal(gate)
     }
 
     /// The open gate gains the named patches that are not on disk and that it does not have yet. It is refused as
@@ -135,10 +145,10 @@ impl Graph {
         ensures blocks { self.new.blocks ≡ self.old.blocks }
     {
         if self.groups.has_gate(gate.0) {
-            self.patches.unprepare();
+            self.sparse.unprepare();
             return Err(Fault::NotGate);
         }
-        self.patches.depend(gate, on)
+        self.sparse.depend(gate, on)
     }
 
     /// Puts the chosen in flight, which are the writable set of a writable block. It takes no memory.
@@ -147,7 +157,7 @@ impl Graph {
         ensures launched { Launches self.old (numbers_of chosen.now) self.new }
         ensures blocks { self.new.blocks ≡ self.old.blocks }
     {
-        self.patches.launch(chosen);
+        self.sparse.launch(chosen);
     }
 
     /// Puts on disk what is in flight of the block, and what now rests there. It takes no memory.
@@ -155,7 +165,7 @@ impl Graph {
         ensures landed { LandsBlock self.old block.0 self.new }
         ensures blocks { self.new.blocks ≡ self.old.blocks }
     {
-        self.patches.land(block);
+        self.sparse.land(block);
     }
 
     /// Makes room for a new change, and answers the number and the grade that `add_data` with these arguments will answer.
@@ -175,7 +185,7 @@ impl Graph {
         ensures same { OnErr result (self.new ≡ unprepared self.old) }
         ensures blocks { self.new.blocks ≡ self.old.blocks }
     {
-        self.patches.room(block, span, after)
+        self.sparse.room(block, span, after)
     }
 
     /// A new change of the block, which depends on the named patches that are not on disk and on the changes not on disk
@@ -194,14 +204,19 @@ impl Graph {
         ensures same { OnErr result (self.new ≡ unprepared self.old) }
         ensures blocks { self.new.blocks ≡ self.old.blocks }
     {
-        self.patches.add_data(block, span, after)
+        let made = match self.sparse.add_data(block, span, after) {
+            Ok(made) => made,
+            Err(fault) => return Err(fault),
+        };
+        self.rows = self.rows.with(&self.sparse, made.0, block, span, after);
+        Ok(made)
     }
 
     /// Forgets the patches on disk, and answers how many they were. It takes no memory.
     pub fn forget(&mut self) -> u32
         ensures { Forgets self.old result self.new }
     {
-        self.patches.forget()
+        self.sparse.forget()
     }
 
     /// The least hard patch of the block in memory outside its writable set. It takes no memory.
@@ -210,7 +225,7 @@ impl Graph {
         ensures least { IfSome result (λ no. IsLeastHeld self.old.heads block.0 no.0) }
         ensures same { self.new ≡ unprepared self.old }
     {
-        self.patches.hard_held(block)
+        self.sparse.hard_held(block)
     }
 
     /// The least writable block, or none where no block is writable. Where nothing is in flight either, each change in
@@ -221,6 +236,6 @@ impl Graph {
         ensures never_stuck { IfNone result (IsStuckByGates self.old.heads) }
         ensures same { self.new ≡ unprepared self.old }
     {
-        self.patches.pick()
+        self.sparse.pick()
     }
 }

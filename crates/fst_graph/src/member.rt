@@ -80,6 +80,10 @@ pub fn prepare_member(
 {
     let heads = sight.heads;
     let names = [PatchNo(gates.head)];
+    let kept = match copy_of(alloc, &names) {
+        Ok(kept) => kept,
+        Err(error) => return Err(error),
+    };
     let opened = if_open(heads, gates.head);
     // A head that is open and rests on disk once it is sealed is then none of the dependencies.
     let after: &[PatchNo] = if opened.is_some() && rests(heads, gates.head) {
@@ -94,14 +98,16 @@ pub fn prepare_member(
         span,
         names: after,
     };
-    let dependencies = sparse_row(alloc, heads, list, cover, &wanted)?;
-    let names = copy_of(alloc, &names)?;
+    let dependencies = match sparse_row(alloc, heads, list, cover, &wanted) {
+        Ok(dependencies) => dependencies,
+        Err(error) => return Err(error),
+    };
     let row = dependencies.as_slice();
     let told = grade_of(sight, ends, block, row, opened);
     Ok(Prepared {
         block,
         span,
-        names,
+        names: kept,
         dependencies,
         told,
         gates: Some(gates),

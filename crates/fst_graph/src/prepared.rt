@@ -118,17 +118,23 @@ pub fn prepare(
     ensures up { IsOver sight.now.heads.now (length sight.now.lists.now) ends.new.up }
     ensures down { IsOver sight.now.heads.now (length sight.now.lists.now) ends.new.down }
 {
+    let kept = match copy_of(alloc, names) {
+        Ok(kept) => kept,
+        Err(error) => return Err(error),
+    };
     let list = &sight.lists[block as usize];
     let cover = &sight.covers[block as usize];
     let wanted = Wanted { block, span, names };
-    let dependencies = sparse_row(alloc, sight.heads, list, cover, &wanted)?;
-    let names = copy_of(alloc, names)?;
+    let dependencies = match sparse_row(alloc, sight.heads, list, cover, &wanted) {
+        Ok(dependencies) => dependencies,
+        Err(error) => return Err(error),
+    };
     let row = dependencies.as_slice();
     let told = grade_of(sight, ends, block, row, None);
     Ok(Prepared {
         block,
         span,
-        names,
+        names: kept,
         dependencies,
         told,
         gates: None,

@@ -86,13 +86,8 @@ impl Sparse {
     pub fn new(alloc: Global, shape: Shape, numbers: u32) -> Result<Sparse, Fault>
         ensures { MatchResult result (λ g. g ≡ record { heads = []; numbers = numbers; blocks = shape.blocks; groups = []; prepared = None }) (λ f. f ≡ Fault.Memory) }
     {
-        let Ok(ends) = Ends::new(alloc, shape.blocks) else {
-            return Err(Fault::Memory);
-        };
-        let Ok(levels) = Levels::new(alloc, shape.blocks) else {
-            return Err(Fault::Memory);
-        };
-        let Ok(needs) = Needs::new(alloc, shape.blocks) else {
+        // What is let go of in one piece comes first, since each refusal lets go of what is there.
+        let Ok(standings) = empty_standings(alloc, shape.blocks) else {
             return Err(Fault::Memory);
         };
         let Ok(lists) = empty_lists(alloc, shape.blocks) else {
@@ -101,7 +96,13 @@ impl Sparse {
         let Ok(covers) = empty_covers(alloc, shape.blocks) else {
             return Err(Fault::Memory);
         };
-        let Ok(standings) = empty_standings(alloc, shape.blocks) else {
+        let Ok(levels) = Levels::new(alloc, shape.blocks) else {
+            return Err(Fault::Memory);
+        };
+        let Ok(needs) = Needs::new(alloc, shape.blocks) else {
+            return Err(Fault::Memory);
+        };
+        let Ok(ends) = Ends::new(alloc, shape.blocks) else {
             return Err(Fault::Memory);
         };
         Ok(Sparse {

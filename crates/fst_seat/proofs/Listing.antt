@@ -1,6 +1,6 @@
 -- The blocks in memory are the first of all in their places: as one more comes and one goes, and as the hand finds a clean one.
 use Rattle.std.proofs.Common.{◌≡◌, ◌<◌, ◌≤◌, ◌+◌, ◌-◌, ℕ, Bool, true, false, List, [], ◌∷◌, map, Option, Some, None, nat_lt, is_some, refl, sym, ap, subst, ◌∙◌, inl, inr, arith, length, replicate, slice_get, slice_set, count_by}
-use Rattle.std.specs.Prelude.{MatchOption, Result, Ok, Err, IsErr, IsSome, OnOk, is_ok}
+use Rattle.std.specs.Prelude.{MatchOption, IfSome, Result, Ok, Err, IsErr, IsSome, OnOk, is_ok}
 use Rattle.std.proofs.lemmas.Bool.{cases_Bool, cases_lt, lt-ltb, ltb-true, ltb-false}
 use Rattle.std.proofs.lemmas.List.{set-get_or, length-map}
 use Rattle.std.proofs.lemmas.Option.{same_Some, get_or_from_slice_get}
@@ -82,6 +82,10 @@ either_answer None none some said = none said
 either_answer (Some x) none some said = some x said
 
 -- what the hand passed, and what stands where it is
+pub if_found : {X : Type 0} (o : Option X) (P : Type 0) {Q R : X → Type 0} → ((x : X) → Q x → R x) → MatchOption o P Q → IfSome o R
+if_found None P f m = tt
+if_found (Some x) P f m = f x m
+
 pub one_passed : (places : List ℕ) (seats : List SeatView) (start place block : ℕ) (seat : SeatView) → slice_get seats block ≡ Some seat
     → ((o : ℕ) → slice_get places o ≡ Some place → o ≡ block) → (is_dirty_seat seat ≡ false → ⊥)
     → ((k b : ℕ) (t : SeatView) → start ≤ k → k < place → slice_get places b ≡ Some k → slice_get seats b ≡ Some t → is_dirty_seat t ≡ false → ⊥)

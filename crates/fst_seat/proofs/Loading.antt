@@ -73,6 +73,9 @@ length_placed resident old placed (inr h) = ap length h.1.3 ∙ length-set old h
 pub seat_read : (xs : List SeatView) (b : ℕ) (d : SeatView) → b < length xs → slice_get xs b ≡ Some (get_or xs b d)
 seat_read xs b d lt = slice_get-get_or xs b d lt
 
+pub loaded_read : (xs : List SeatView) (b : ℕ) (d : SeatView) → b < length xs → is_some (get_or xs b d).loaded ≡ true → IsLoadedAt xs b
+loaded_read xs b d lt there = record { seat = get_or xs b d; at = seat_read xs b d lt; there = there }
+
 -- a seat is read into the place
 module _ (resident : ℕ) (old placed : List SeatView) (made : MakesPlace resident old placed) (b : ℕ) (was : SeatView) (at_old : slice_get old b ≡ Some was) (away : is_some was.loaded ≡ false)
     (seat : SeatView) (at_b : slice_get placed b ≡ Some seat) (new : SeatView) where

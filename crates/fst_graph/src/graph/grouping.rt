@@ -20,7 +20,7 @@ impl Graph {
         if self.groups.len() >= MAX_GROUPS {
             return Some(Fault::Full(What::Groups));
         }
-        self.patches.pair_fault()
+        self.sparse.pair_fault()
     }
 
     /// A new group: a head gate, which has the group's number, and a tail gate with the next number, which depends on the
@@ -33,14 +33,14 @@ impl Graph {
         ensures blocks { self.new.blocks ≡ self.old.blocks }
     {
         if let Some(fault) = self.new_fault() {
-            self.patches.unprepare();
+            self.sparse.unprepare();
             return Err(fault);
         }
         if self.groups.reserve().is_err() {
-            self.patches.unprepare();
+            self.sparse.unprepare();
             return Err(Fault::Memory);
         }
-        match self.patches.add_pair() {
+        match self.sparse.add_pair() {
             Ok(head) => {
                 self.groups.add(head.0);
                 Ok(GroupNo(head.0))
@@ -60,11 +60,11 @@ impl Graph {
         ensures blocks { self.new.blocks ≡ self.old.blocks }
     {
         if let Some(fault) = self.groups.after_fault(group.0, on.0) {
-            self.patches.unprepare();
+            self.sparse.unprepare();
             return Err(fault);
         }
         let tail = PatchNo(on.0 + 1);
-        match self.patches.depend(PatchNo(group.0), &[tail]) {
+        match self.sparse.depend(PatchNo(group.0), &[tail]) {
             Ok(()) => {
                 self.groups.note_after(group.0, on.0);
                 Ok(())
@@ -92,14 +92,14 @@ impl Graph {
         ensures blocks { self.new.blocks ≡ self.old.blocks }
     {
         if let Some(fault) = self.groups.close_fault(group.0) {
-            self.patches.unprepare();
+            self.sparse.unprepare();
             return Err(fault);
         }
         let gates = Gates {
             head: group.0,
             tail: group.0 + 1,
         };
-        self.patches.member_room(gates, block, span)
+        self.sparse.member_room(gates, block, span)
     }
 
     // Puts down the change that is prepared for the group.
@@ -109,7 +109,13 @@ impl Graph {
         ensures foreseen { IfSome self.old.prepared (λ p. (result.0.0 ≡ p.number) × (result.1 ≡ p.grade)) }
         ensures blocks { self.new.blocks ≡ self.old.blocks }
     {
-        let made = self.patches.add_member(group.0);
+        let Some((block, span)) = self.sparse.prepared_span() else {
+            unreachable!();
+        };
+        let made = self.sparse.add_member(group.0);
+        self.rows = self
+            .rows
+            .with(&self.sparse, made.0, block, span, &[PatchNo(group.0)]);
         self.groups.note_member(group.0, made.0.0);
         made
     }
@@ -133,12 +139,14 @@ impl Graph {
         ensures blocks { self.new.blocks ≡ self.old.blocks }
     {
         if self
-            .patches
+            .sparse
             .is_member_prepared(PatchNo(group.0), block, span)
         {
             return Ok(self.put_down(group));
         }
-        self.group_room(group, block, span)?;
+        if let Err(fault) = self.group_room(group, block, span) {
+            return Err(fault);
+        }
         Ok(self.put_down(group))
     }
 
@@ -151,11 +159,11 @@ impl Graph {
         ensures blocks { self.new.blocks ≡ self.old.blocks }
     {
         if let Some(fault) = self.groups.close_fault(group.0) {
-            self.patches.unprepare();
+            self.sparse.unprepare();
             return Err(fault);
         }
-        self.patches.seal_if_open(group.0);
-        self.patches.seal_if_open(group.0 + 1);
+        self.sparse.seal_if_open(group.0);
+        self.sparse.seal_if_open(group.0 + 1);
         self.groups.close(group.0);
         Ok(())
     }

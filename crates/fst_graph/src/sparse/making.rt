@@ -214,7 +214,9 @@ impl Sparse {
         if self.is_prepared(block, span, after) {
             return Ok(self.put());
         }
-        self.room(block, span, after)?;
+        if let Err(fault) = self.room(block, span, after) {
+            return Err(fault);
+        }
         Ok(self.put())
     }
 }

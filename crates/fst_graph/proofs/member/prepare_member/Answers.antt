@@ -1,5 +1,4 @@
-use Rattle.std.proofs.Common.{Bor, List, sym, ap, subst, arith}
-use Rattle.std.proofs.lemmas.Grind.{common_steps}
+use Rattle.std.proofs.Common.{refl, Bor, List, sym, ap, subst}
 use Rattle.fst_types.specs.{declared.number.PatchNo.PatchNo}
 use Rattle.fst_heads.specs.{Grading.MayBeHard, Heads.patches_of, Lists.entries_of, Names.numbers_of}
 use Rattle.fst_heads.proofs.Listing.{listed_at}
@@ -29,13 +28,13 @@ returns-clause-depends c =
         | else-is_some-via-else-is_some v ↦ absurd (opened.1 v.if-is_some.false gate)
       ]))
     ] in
-    member_row patches c.requires.lawful.0 c.requires.lawful.1 head c.args.block c.in_ok-dependencies.dependencies.items c.args.span.at c.args.span.len after is c.in_ok-dependencies.ensures
+    member_row patches c.requires.lawful.0 c.requires.lawful.1 head c.args.block c.in-Ok-sparse_row.dependencies.items c.args.span.at c.args.span.len after is c.in-Ok-sparse_row.ensures
 
 pub returns-clause-told : goal.returns-clause-told
 returns-clause-told c =
     let patches = patches_of c.args.sight.now.heads.now in
-    member_told patches c.requires.lawful.0 c.requires.lawful.1 c.args.gates.head c.args.block c.in_ok-dependencies.dependencies.items c.grade_of-told.result c.if_open-opened.result c.if_open-opened.ensures.some c.if_open-opened.ensures.none
+    member_told patches c.requires.lawful.0 c.requires.lawful.1 c.args.gates.head c.args.block c.in-Ok-sparse_row.dependencies.items c.grade_of-told.result c.if_open-opened.result c.if_open-opened.ensures.some c.if_open-opened.ensures.none
     (subst (λ r. IsTold patches c.args.block r (MayBeHard patches c.if_open-opened.result c.args.block r) c.grade_of-told.result) c.as_slice-row.ensures c.grade_of-told.ensures.told)
 
 pub returns-clause-names : goal.returns-clause-names
-returns-clause-names c = grind (arith, common_steps)
+returns-clause-names c = rw c.in-Ok.ensures refl

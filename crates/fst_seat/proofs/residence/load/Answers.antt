@@ -1,11 +1,11 @@
 use Rattle.std.proofs.lemmas.Grind.{common_steps}
-use Rattle.std.proofs.Common.{◌<◌, ◌∙◌, Option, Some, is_some, length, get_or, slice_set, sym, ap, inr, arith}
+use Rattle.std.proofs.Common.{◌<◌, ◌∙◌, Option, Some, is_some, length, get_or, slice_set, refl, sym, ap, inl, inr, arith}
 use Rattle.fst_block.specs.BlockView.{BlockView}
 use Rattle.fst_seat.specs.Places.{ResidentsView}
 use Rattle.fst_seat.proofs.Listing.{listed_at, read_noted}
 use Rattle.fst_seat.proofs.Dirty.{read_clean, residents_moved}
 use Rattle.std.proofs.lemmas.Result.{on_ok_weaker}
-use Rattle.fst_seat.proofs.Loading.{none_of, away_placed, rest_placed, length_placed, seat_read, loads_by, there_by, rose_by, quiet_by, counted_by}
+use Rattle.fst_seat.proofs.Loading.{none_of, loaded_read, away_placed, rest_placed, length_placed, seat_read, loads_by, there_by, rose_by, quiet_by, counted_by}
 use Rattle.fst_seat.proofs.residence.load.Goals as goal
 
 pub load-read-requires : goal.load-read-requires
@@ -109,3 +109,9 @@ returns-then-is_loaded-clause-listed g c = grind (arith, common_steps)
 
 pub returns-clause-kinds : goal.returns-clause-kinds
 returns-clause-kinds g c = c.load-read.ensures.kinds
+
+pub returns-then-is_loaded-clause-seats : goal.returns-then-is_loaded-clause-seats
+returns-then-is_loaded-clause-seats g c = inl (loaded_read c.args.seats.now c.args.block.0 c.index-seats-at.result c.requires.within (sym c.is_loaded.ensures ∙ c.if-is_loaded.true), refl)
+
+pub returns-then-is_loaded-clause-there : goal.returns-then-is_loaded-clause-there
+returns-then-is_loaded-clause-there g c = loaded_read c.args.seats.now c.args.block.0 c.index-seats-at.result c.requires.within (sym c.is_loaded.ensures ∙ c.if-is_loaded.true)

@@ -1,3 +1,4 @@
+use Rattle.std.proofs.lemmas.List.{length-map}
 use Rattle.std.proofs.lemmas.Grind.{common_steps}
 use Rattle.std.proofs.Common.{◌≡◌, ◌≤◌, ◌∙◌, false, None, is_some, sym, ap, arith, slice_set}
 use Rattle.std.proofs.lemmas.Bool.{ltb-false}
@@ -45,3 +46,6 @@ returns-then-has_place-clause-place g c = grind (arith, common_steps)
 
 pub returns-then-has_place-clause-listed : goal.returns-then-has_place-clause-listed
 returns-then-has_place-clause-listed g c = grind (arith, common_steps)
+
+pub remove-requires : goal.remove-requires
+remove-requires g c = rw (ap (λ (v : ResidentsView). v.loaded) c.requires.listed, length-map) c.in-Some.ensures.within

@@ -85,3 +85,18 @@ returns-in_err-load-clause-refused g c = grind (arith, common_steps)
 
 pub returns-clause-device : goal.returns-clause-device
 returns-clause-device g c = grind (arith, common_steps)
+
+pub load-requires-clause-listed : goal.load-requires-clause-listed
+load-requires-clause-listed g c = c.requires.listed
+
+pub load-requires-clause-rest : goal.load-requires-clause-rest
+load-requires-clause-rest g c = c.requires.rest
+
+pub load-requires-clause-room : goal.load-requires-clause-room
+load-requires-clause-room g c = c.requires.room
+
+pub returns-in_err-load-clause-one_fault : goal.returns-in_err-load-clause-one_fault
+returns-in_err-load-clause-one_fault g c = c.load.ensures.one_fault
+
+pub apply-put-requires-clause-same_length : goal.apply-put-requires-clause-same_length
+apply-put-requires-clause-same_length g c = c.requires.same_length

@@ -28,3 +28,6 @@ bounds-seats-block g c = let lt = slice_get_within c.args.places.now _ _ c.block
 
 pub loop-place-init : goal.loop-place-init
 loop-place-init g c = grind (arith, common_steps)
+
+pub loop-place-smaller : goal.loop-place-smaller
+loop-place-smaller g c = omega (arith, c.loop-place-test.true)

@@ -3,7 +3,7 @@ use Rattle.std.proofs.Common.{◌≡◌, ◌∙◌, Some, slice_get, is_some, Bo
 use Rattle.std.proofs.lemmas.Option.{slice_get_read}
 use Rattle.fst_types.specs.Writable.{HasReady}
 use Rattle.fst_cache.specs.Kept.{state_of}
-use Rattle.fst_cache.proofs.SendRefused.{kept_still, has_ready, none_ready, nothing_ready, sending_refused, sending_clear, on_ok, refused_memory}
+use Rattle.fst_cache.proofs.SendRefused.{busy_refused, kept_still, has_ready, none_ready, nothing_ready, sending_refused, sending_clear, on_ok, refused_memory}
 use Rattle.fst_cache.proofs.cache.Cache.choice.Goals.{After-is_none}
 use Rattle.fst_cache.proofs.cache.Cache.choice.Goals as goal
 
@@ -106,3 +106,9 @@ returns-in-Some-clause-same g c = rw (c.hard_held-held.ensures.same, c.chosen-ch
 
 pub returns-clause-same : goal.returns-clause-same
 returns-clause-same g c = rw (c.hard_held-held.ensures.same, c.chosen-chosen.ensures.same) c.self.view_is
+
+pub returns-then-is_busy-clause-refused : goal.returns-then-is_busy-clause-refused
+returns-then-is_busy-clause-refused g c =
+    let i = c.self.inside in
+    let seated : slice_get i.seats.items c.args.block.0 ≡ Some c.index.result.now = slice_get_read i.seats.items _ _ _ i.seats.ok.0 (omega (arith, c.if-block-len.false, c.len.ensures)) c.index.ensures in
+    rw (← c.self.view_is) (busy_refused i.size i.residents.most i.tickets i.made i.graph i.contents.items i.seats.items c.args.block.0 c.index.result.now seated (sym c.is_busy.ensures ∙ c.if-is_busy.true))

@@ -59,3 +59,9 @@ index_mut-requires g c =
     let there : length c.args.self.now.state.blocks ≤ c.args.block.0 → ⊥ = c.in_default.ensures.0 in
     let seated : length c.self.inside.seats.items ≤ c.args.block.0 → ⊥ = rw (← c.self.view_is, length-map) at there in
     omega (arith, c.self.inside.seats.ok.0, seated)
+
+pub remove-requires : goal.remove-requires
+remove-requires g c =
+    let i = c.self.inside in
+    let there : length c.args.self.now.state.blocks ≤ c.args.block.0 → ⊥ = c.in_default.ensures.0 in
+    rw (ap (λ (v : ResidentsView). v.loaded) c.self.invariant.listed, length-map) (within_of (length i.seats.items) c.args.block.0 (rw (← c.self.view_is, length-map) at there))

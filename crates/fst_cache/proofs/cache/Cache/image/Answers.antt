@@ -1,4 +1,4 @@
-use Rattle.std.proofs.lemmas.List.{length-map}
+use Rattle.std.proofs.lemmas.List.{length-map, set-get_or}
 use Rattle.std.proofs.Common.{refl, ◌≤◌, arith, length}
 use Rattle.fst_cache.specs.Kept.{state_of}
 use Rattle.fst_cache.proofs.SendBytes.{may_send, loaded_is, chosen_here, image_is}
@@ -32,3 +32,9 @@ index_mut-seat-requires g c =
 
 pub returns-clause-only_memory : goal.returns-clause-only_memory
 returns-clause-only_memory g c = c.image.ensures.only_memory
+
+pub invariant_of-self : goal.invariant_of-self
+invariant_of-self g c = rw (c.image.ensures.unchanged, c.index_mut-seat.ensures.value, set-get_or) c.self.invariant
+
+pub returns-clause-same : goal.returns-clause-same
+returns-clause-same g c = rw (c.image.ensures.unchanged, c.index_mut-seat.ensures.value, set-get_or) c.self.view_is

@@ -1,3 +1,4 @@
+use Rattle.fst_graph.proofs.Sound.{with_prepared}
 use Rattle.std.proofs.Common.{◌≡◌, ◌+◌, ◌∙◌, [], ap, arith, subst}
 use Rattle.fst_types.specs.{Making.fresh, Order.room_order, Patches.OpenGate, Refusals.NoneHolds}
 use Rattle.fst_heads.specs.Heads.{patches_of}
@@ -23,3 +24,9 @@ pub returns-clause-ok : goal.returns-clause-ok
 returns-clause-ok c =
     let at = (goal.at.returns-clause-ok c).After-gate-fresh in
     rw (← c.self.view_is) (fine c.add_fresh.result (λ no made. gate_adds _ c.add_fresh.new.self no.0 _ (gate at) (clear at) made) c.add_fresh.ensures.ok)
+
+pub invariant_of-self : goal.invariant_of-self
+invariant_of-self c = rw c.let_go.ensures (with_prepared c.self.invariant tt)
+
+pub invariant_of-self-2 : goal.invariant_of-self-2
+invariant_of-self-2 c = rw c.let_go.ensures (with_prepared c.self.invariant tt)

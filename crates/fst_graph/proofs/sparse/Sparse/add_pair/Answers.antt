@@ -3,7 +3,7 @@ use Rattle.fst_types.specs.{Making.fresh, Patches.OpenGate}
 use Rattle.fst_heads.specs.Heads.{patch_of, patches_of}
 use Rattle.fst_walks.proofs.Seen.{same_patches}
 use Rattle.fst_graph.specs.Fresh.{MayAdd}
-use Rattle.fst_graph.proofs.{Adding.gate_may, Made.{added_sound, put_patches}, Paired.{adds_pair, pair_may, paired, with_head}, Sound.roomier_sound}
+use Rattle.fst_graph.proofs.{Adding.gate_may, Made.{added_sound, put_patches}, Paired.{adds_pair, pair_may, paired, with_head}, Sound.{roomier_sound, with_prepared}}
 use Rattle.fst_graph.proofs.sparse.Sparse.add_pair.Goals as goal
 
 pub add_two-requires-clause-lawful : goal.add_two-requires-clause-lawful
@@ -42,3 +42,9 @@ returns-clause-ok c =
     let both : patches_of c.add_two.new.heads.items ≡ paired (patches_of old) n =
     put_patches A.between.items c.add_two.new.heads.items tail A.tail.head.nodes ∙ ap (λ ps. ps ++ tail ∷ []) (put_patches old A.between.items (fresh (n + 1) OpenGate []) A.head.head.nodes) in
     rw (← c.self.view_is, c.let_go.ensures, both) (adds_pair (patches_of old) n c.self.invariant.keeps.lawful c.self.inside.blocks _ refl refl refl c.in_default.ensures.clear)
+
+pub invariant_of-self : goal.invariant_of-self
+invariant_of-self c = rw c.let_go.ensures (with_prepared c.self.invariant tt)
+
+pub invariant_of-self-in-Some : goal.invariant_of-self-in-Some
+invariant_of-self-in-Some c = rw c.let_go.ensures (with_prepared c.self.invariant tt)

@@ -1,7 +1,4 @@
-use Rattle.std.proofs.Common.{◌∙◌, ap, arith, length, sym, refl, subst}
-use Rattle.fst_heads.specs.Heads.{patches_of}
-use Rattle.fst_walks.specs.Leveling.{IsLeveled}
-use Rattle.fst_graph.specs.Sound.{IsPrepared}
+use Rattle.std.proofs.Common.{◌∙◌, ap, arith, length, sym}
 use Rattle.fst_graph.proofs.{Ranks.leveled_then, Sound.{as_many_marks, as_many_places, if_prepared, over_down, rising_sound, settled_sound, with_prepared}}
 use Rattle.fst_graph.proofs.sparse.Sparse.come_down.Goals as goal
 

@@ -5,7 +5,7 @@ use Rattle.fst_graph.proofs.sparse.Sparse.new.Goals as goal
 
 pub invariant_of-result : goal.invariant_of-result
 invariant_of-result c =
-    let ends = c.in-Ok.ensures in
+    let ends = c.in-Ok-new-3.ensures in
     let K = keeps_none c.args.numbers c.args.shape.blocks (omega (arith, c.ranges.numbers.fits)) in
     record {
       keeps = rw c.new-4.ensures.items (keeps_walked ends.0.long K);
@@ -16,7 +16,7 @@ invariant_of-result c =
           (λ x h. absurd (omega (arith, h.1)))
           (record { summed = λ x h. absurd (omega (arith, h.1)); settled = λ x h. absurd (omega (arith, h.1)); placed = λ x h. absurd (omega (arith, h.1)); inside = λ x b h. absurd (omega (arith, h.1)) })
           c.in-Ok-empty_lists.ensures
-          c.in-Ok-empty_standings.ensures
+          c.in-Ok.ensures
           refl
           (omega arith));
       covered = rw c.new-4.ensures.items c.in-Ok-empty_covers.ensures;

@@ -1,9 +1,9 @@
 use Rattle.std.proofs.lemmas.Grind.{common_steps}
-use Rattle.std.proofs.Common.{◌≡◌, ◌<◌, ℕ, true, false, List, Option, Some, None, MatchOption, length, get_or, option_map, subst, arith}
+use Rattle.std.proofs.Common.{◌≡◌, ◌<◌, ℕ, true, false, List, Option, Some, None, MatchOption, length, get_or, option_map, refl, subst, arith}
 use Rattle.fst_types.specs.{Looks.IsPick, Patches.Patch, declared.number.BlockNo.BlockNo}
 use Rattle.fst_heads.specs.{Heads.patches_of, Keeps.IsInside, Standings.{AreMarked, may_be_written}, declared.standing.Standing.Standing}
 use Rattle.fst_heads.proofs.AtNumber.{patches_in_nodes}
-use Rattle.fst_graph.proofs.Marking.{picked_none, picked_some, stuck_by_gates}
+use Rattle.fst_graph.proofs.{Marking.{picked_none, picked_some, stuck_by_gates}, Sound.marked_sound}
 use Rattle.fst_graph.proofs.sparse.Sparse.pick.Goals as goal
 
 -- the least block whose mark is true is the pick
@@ -41,17 +41,17 @@ returns-in_default-clause-never_stuck c =
 pub invariant_of-self : goal.invariant_of-self
 invariant_of-self c = grind (arith, common_steps)
 
-pub invariant_of-self-2 : goal.invariant_of-self-2
-invariant_of-self-2 c = grind (arith, common_steps)
-
-pub returns-clause-never_stuck : goal.returns-clause-never_stuck
-returns-clause-never_stuck c = grind (arith, common_steps)
-
-pub returns-clause-same : goal.returns-clause-same
-returns-clause-same c = grind (arith, common_steps)
-
-pub returns-in_default-clause-same : goal.returns-in_default-clause-same
-returns-in_default-clause-same c = grind (arith, common_steps)
-
 pub overflow_cast-self : goal.overflow_cast-self
 overflow_cast-self c = grind (arith, common_steps)
+
+pub invariant_of-self-2 : goal.invariant_of-self-2
+invariant_of-self-2 c = rw c.let_go.ensures (let some = rw c.deref.ensures.value at c.in-Some.ensures in marked_sound c.self.invariant some.2)
+
+pub returns-clause-never_stuck : goal.returns-clause-never_stuck
+returns-clause-never_stuck c = tt
+
+pub returns-clause-same : goal.returns-clause-same
+returns-clause-same c = rw (← c.self.view_is, c.let_go.ensures) refl
+
+pub returns-in_default-clause-same : goal.returns-in_default-clause-same
+returns-in_default-clause-same c = rw (← c.self.view_is, c.let_go.ensures) refl

@@ -1,7 +1,7 @@
 use Rattle.std.proofs.Common.{rules, ◌∙◌, length, sym, subst, ap, arith, refl}
 use Rattle.fst_types.specs.{Gates.IsOpenNumber, Order.seal_order, Refusals.NoneHolds}
 use Rattle.fst_heads.specs.{Heads.patches_of, Marks.HasSlot, Nodes.nodes_of}
-use Rattle.fst_graph.proofs.{Borne.settled_fits, Ranks.leveled_then, Shutting.{shut_ready, shut_few, shut_cascade, shut_settles, shut_sound}, Sound.{open_given, rising_sound}, sparse.Sparse.seal_alone.Goals.After-seal_slot}
+use Rattle.fst_graph.proofs.{Borne.settled_fits, Ranks.leveled_then, Shutting.{shut_ready, shut_few, shut_cascade, shut_settles, shut_sound}, Sound.{open_given, rising_sound, with_prepared}, sparse.Sparse.seal_alone.Goals.After-seal_slot}
 use Rattle.fst_graph.proofs.sparse.Sparse.seal_alone.Goals as goal
 
 pub gate_slot-requires : goal.gate_slot-requires
@@ -62,3 +62,6 @@ renew-requires-clause-leveled c = leveled_then (c.deref-2.ensures.value ∙ sym 
 
 pub renew-requires-clause-given : goal.renew-requires-clause-given
 renew-requires-clause-given c = open_given c.self.invariant (gate (goal.at.renew-requires-clause-given c).After-seal_slot)
+
+pub invariant_of-self : goal.invariant_of-self
+invariant_of-self c = rw c.let_go.ensures (with_prepared c.self.invariant tt)

@@ -2,7 +2,7 @@ use Rattle.std.proofs.lemmas.{Grind.common_steps, Option.slice_get_within}
 use Rattle.std.proofs.Common.{◌≡◌, ◌∙◌, ◌<◌, ap, arith}
 use Rattle.fst_seat.specs.Places.{ResidentsView, are_first}
 use Rattle.fst_seat.specs.Residing.{are_loaded}
-use Rattle.fst_seat.proofs.Listing.{found_clean, none_found, either_answer}
+use Rattle.fst_seat.proofs.Listing.{found_clean, none_found, either_answer, if_found}
 use Rattle.fst_seat.proofs.residents.Residents.clean.Goals as goal
 
 pub returns-in-Some-clause-clean : goal.returns-in-Some-clause-clean
@@ -33,3 +33,6 @@ clean_in-requires-2-clause-within g c = grind (arith, common_steps)
 
 pub returns-in-Some-clause-within : goal.returns-in-Some-clause-within
 returns-in-Some-clause-within g c = let f = c.in-Some.ensures in slice_get_within c.args.seats.now _ _ f.3.1
+
+pub returns-clause-within : goal.returns-clause-within
+returns-clause-within g c = if_found c.clean_in-2.result _ (λ b f. slice_get_within c.args.seats.now b _ f.3.1) c.clean_in-2.ensures
