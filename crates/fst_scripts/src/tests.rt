@@ -90,11 +90,6 @@ fn plays_to(rt: &impl Abort, alloc: Global, resident: u32, script: &[u8], replie
     plays_over(rt, alloc, shape_of(rt, resident), script, replies);
 }
 
-// The same of texts. A test that took the bytes of a long text itself would be proved with what each of them is.
-fn plays_text(rt: &impl Abort, alloc: Global, resident: u32, script: &str, replies: &str) {
-    plays_to(rt, alloc, resident, script.as_bytes(), replies.as_bytes());
-}
-
 // Puts bytes behind a text. Nothing here answers with a `Result`: after each `?` a test's proof has one more path, on
 // which all that the test holds is dropped.
 fn put(rt: &impl Abort, text: &mut Vec<u8>, more: &[u8]) {
@@ -112,18 +107,35 @@ fn put_made(rt: &impl Abort, text: &mut Vec<u8>, line: Result<String, AllocError
     put_line(rt, text, &line.expect(rt, "there is memory"));
 }
 
-// Puts lines behind a script, and the reply of each behind the replies.
-fn put_rows(rt: &impl Abort, script: &mut Vec<u8>, replies: &mut Vec<u8>, rows: &[(&str, &str)]) {
-    for (line, reply) in rows {
-        put_line(rt, script, line);
-        put_line(rt, replies, reply);
+// A line and its reply: a row has them on both sides of its first arrow.
+fn row_of<'a>(rt: &impl Abort, row: &'a str) -> (&'a str, &'a str) {
+    row.split_once(" -> ").expect(rt, "an arrow")
+}
+
+// Puts the line of a row behind a script, and its reply behind the replies.
+fn put_row(rt: &impl Abort, script: &mut Vec<u8>, replies: &mut Vec<u8>, row: &str) {
+    let (line, reply) = row_of(rt, row);
+    put_line(rt, script, line);
+    put_line(rt, replies, reply);
+}
+
+// Puts the lines of these rows behind a script, and their replies behind the replies.
+fn put_rows(rt: &impl Abort, script: &mut Vec<u8>, replies: &mut Vec<u8>, rows: &str) {
+    for row in rows.lines() {
+        put_row(rt, script, replies, row);
     }
 }
 
-// Plays lines, each with its reply.
-fn plays_rows(rt: &impl Abort, alloc: Global, resident: u32, rows: &[(&str, &str)]) {
-    let mut script = Vec::new(alloc);
-    let mut replies = Vec::new(alloc);
-    put_rows(rt, &mut script, &mut replies, rows);
-    plays_to(rt, alloc, resident, &script, &replies);
+// A script by its name, how many of its four blocks may be in memory, and its rows.
+type Script = (&'static str, u32, &'static str);
+
+// Plays each of these scripts, and compares all the replies.
+fn plays_each(rt: &impl Abort, alloc: Global, scripts: &[Script]) {
+    for (name, resident, rows) in scripts {
+        let mut script = Vec::new(alloc);
+        let mut replies = Vec::new(alloc);
+        put_rows(rt, &mut script, &mut replies, rows);
+        let told = replies_to(rt, alloc, *resident, &script);
+        assert_eq!(rt; told.as_slice(), replies.as_slice(), "{name}");
+    }
 }

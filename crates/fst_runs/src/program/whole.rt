@@ -1,6 +1,7 @@
 //! Whole runs of the program: its words, what it prints, and its status.
 
 use crate::program::words_of;
+use crate::same::same_text;
 use fst_program::status::carry_out;
 use std::alloc::Global;
 use std::process::Abort;
@@ -32,11 +33,6 @@ fn ran<R: Threads + Wait + Sync + Abort>(
 
 fn has_status(rt: &impl Abort, printed: &Printed, expected: u8) {
     assert_eq!(rt; printed.status, expected);
-}
-
-// A test that took the bytes of a long text itself would be proved with what each of them is.
-fn same_text(rt: &impl Abort, bytes: &[u8], expected: &str) {
-    assert_eq!(rt; bytes, expected.as_bytes());
 }
 
 fn starts_with(rt: &impl Abort, bytes: &[u8], expected: &str) {

@@ -1,56 +1,35 @@
 //! Lines that are refused before any call, and lines at their limits.
 
-use crate::tests::{plays_rows, plays_to, put};
+use crate::tests::{Script, plays_each, plays_to, put};
 
 // Lines that are no command, or name what is not there.
-const HOSTILE_TABLE: &[(&str, &str)] = &[
-    ("", "refused 1"),
-    ("[]", "refused 1"),
-    ("{}", "refused 2"),
-    (r#"{"do":"pick","block":0}"#, "refused 2"),
-    (r#"{"do":"place","patch":0}"#, "refused 5"),
-    (r#"{"do":"place","patch":4294967295}"#, "refused 5"),
-    (r#"{"do":"place","patch":4294967296}"#, "refused 2"),
-    (r#"{"do":"place","patch":-1}"#, "refused 2"),
-    (
-        r#"{"do":"patch","block":0,"at":4294967295,"data":"41"}"#,
-        "refused 4",
-    ),
-    (
-        r#"{"do":"patch","block":0,"at":0,"data":"zz"}"#,
-        "refused 2",
-    ),
-    (
-        r#"{"do":"done","ticket":18446744073709551615}"#,
-        "refused 14",
-    ),
-];
-
-#[test]
-fn hostile_table(rt: HostRuntime) {
-    plays_rows(&rt, rt.alloc(), 4, HOSTILE_TABLE);
-}
+const HOSTILE_TABLE: &str = r#" -> refused 1
+[] -> refused 1
+{} -> refused 2
+{"do":"pick","block":0} -> refused 2
+{"do":"place","patch":0} -> refused 5
+{"do":"place","patch":4294967295} -> refused 5
+{"do":"place","patch":4294967296} -> refused 2
+{"do":"place","patch":-1} -> refused 2
+{"do":"patch","block":0,"at":4294967295,"data":"41"} -> refused 4
+{"do":"patch","block":0,"at":0,"data":"zz"} -> refused 2
+{"do":"done","ticket":18446744073709551615} -> refused 14
+"#;
 
 // Members that are missing, not given for the line, or of the wrong kind; their order does not matter.
-const MEMBERS_OF_THE_LINES: &[(&str, &str)] = &[
-    (r#"{"do":"gate","after":[]}"#, "refused 2"),
-    (r#"{"do":"empty","after":1}"#, "refused 2"),
-    (r#"{"do":"empty","after":[1.5]}"#, "refused 2"),
-    (r#"{"do":"depend","gate":1}"#, "refused 2"),
-    (r#"{"do":"depend","on":[]}"#, "refused 2"),
-    (r#"{"do":"seal"}"#, "refused 2"),
-    (r#"{"do":"seal","patch":1}"#, "refused 2"),
-    (r#"{"do":"evict","block":"0"}"#, "refused 2"),
-    (r#"{"do":"forget","block":0}"#, "refused 2"),
-    (r#"{"do":"stat","gate":null}"#, "refused 2"),
-    (r#"{"do":"place","patch":true}"#, "refused 2"),
-    (r#"{"on":[],"gate":1,"do":"depend"}"#, "refused 5"),
-];
-
-#[test]
-fn members_of_the_lines(rt: HostRuntime) {
-    plays_rows(&rt, rt.alloc(), 4, MEMBERS_OF_THE_LINES);
-}
+const MEMBERS_OF_THE_LINES: &str = r#"{"do":"gate","after":[]} -> refused 2
+{"do":"empty","after":1} -> refused 2
+{"do":"empty","after":[1.5]} -> refused 2
+{"do":"depend","gate":1} -> refused 2
+{"do":"depend","on":[]} -> refused 2
+{"do":"seal"} -> refused 2
+{"do":"seal","patch":1} -> refused 2
+{"do":"evict","block":"0"} -> refused 2
+{"do":"forget","block":0} -> refused 2
+{"do":"stat","gate":null} -> refused 2
+{"do":"place","patch":true} -> refused 2
+{"on":[],"gate":1,"do":"depend"} -> refused 5
+"#;
 
 // The last line has no end.
 #[test]
@@ -102,4 +81,14 @@ fn long_lines(rt: HostRuntime) {
         &script,
         b"pick none\nrefused 1\npick none\n",
     );
+}
+
+const SCRIPTS: &[Script] = &[
+    ("hostile table", 4, HOSTILE_TABLE),
+    ("members of the lines", 4, MEMBERS_OF_THE_LINES),
+];
+
+#[test]
+fn hostile_tables(rt: HostRuntime) {
+    plays_each(&rt, rt.alloc(), SCRIPTS);
 }

@@ -4,7 +4,8 @@ ghost use Rattle.std.specs.Prelude.{◌≡◌, Some};
 
 use crate::tests::rows::order::CYCLE_OF_BLOCKS;
 use crate::tests::{
-    is_done, is_unread, is_unwritten, played, plays_to, put, put_line, put_rows, same_replies,
+    is_done, is_unread, is_unwritten, played, plays_to, put, put_line, put_rows, row_of,
+    same_replies,
 };
 use std::alloc::Global;
 use std::io;
@@ -184,7 +185,8 @@ fn plays_part(rt: &impl Abort, alloc: Global, script: &[u8], replies: &[u8], par
 fn cut_at_each_byte(rt: HostRuntime) {
     let mut script = Vec::new(rt.alloc());
     let mut replies = Vec::new(rt.alloc());
-    for (line, reply) in CYCLE_OF_BLOCKS {
+    for row in CYCLE_OF_BLOCKS.lines() {
+        let (line, reply) = row_of(&rt, row);
         for end in 1..line.len() {
             plays_part(&rt, rt.alloc(), &script, &replies, &line.as_bytes()[..end]);
         }
@@ -193,14 +195,6 @@ fn cut_at_each_byte(rt: HostRuntime) {
         plays_to(&rt, rt.alloc(), 4, &script, &replies);
         put(&rt, &mut script, b"\n");
     }
-}
-
-// What the script that makes a cycle of two blocks has, and its replies.
-fn cycle_of_blocks(rt: &impl Abort, alloc: Global) -> (Vec<u8>, Vec<u8>) {
-    let mut script = Vec::new(alloc);
-    let mut replies = Vec::new(alloc);
-    put_rows(rt, &mut script, &mut replies, CYCLE_OF_BLOCKS);
-    (script, replies)
 }
 
 // A writer that stops after so many bytes has these, and nothing more.
@@ -214,7 +208,9 @@ fn stops(rt: &impl Abort, alloc: Global, script: &[u8], then: NoRoom, written: &
 // After one error of the writer, or a write of no byte, nothing more is written.
 #[test]
 fn writer_that_stops_once(rt: HostRuntime) {
-    let (script, replies) = cycle_of_blocks(&rt, rt.alloc());
+    let mut script = Vec::new(rt.alloc());
+    let mut replies = Vec::new(rt.alloc());
+    put_rows(&rt, &mut script, &mut replies, CYCLE_OF_BLOCKS);
     for then in [NoRoom::TakesNothing, NoRoom::FailsOnce] {
         for room in 0..replies.len() {
             stops(&rt, rt.alloc(), &script, then, &replies[..room]);

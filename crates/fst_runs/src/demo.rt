@@ -1,7 +1,9 @@
-//! The tests. The helpers' contracts say nothing, and nothing here answers with a `Result`: after each `?` a test's proof
+//! What no clause says of the demo: what the guides tell, records, a transaction refused half way, and what a file has after
+//! a transfer. The helpers' contracts say nothing, and nothing here answers with a `Result`: after each `?` a test's proof
 //! has one more path, on which all that the test holds is dropped. Of what a test holds for long, contracts see nothing,
 //! and it is let go of in one place.
 
+use crate::same::same_text;
 use fst_cache::{Cache, Share};
 use fst_device::MemorySlot;
 use fst_types::{BlockNo, Fault, PatchNo, Place, Shape, What};
@@ -34,11 +36,6 @@ each after the other: the gate or group would come after itself; make another on
 after another once it has a change: the group has a change already; put a group after others before its first change
 a change for it once it is closed: the gate is sealed, or the group closed; it gains nothing more
 ";
-
-// The text is this.
-fn same_text(rt: &impl Abort, bytes: &[u8], expected: &str) {
-    assert_eq!(rt; str::from_utf8(bytes), Ok(expected));
-}
 
 // A guide came to its end, and told this.
 fn has_told(rt: &impl Abort, played: Result<(), StoreFault>, told: &[u8], expected: &str) {
