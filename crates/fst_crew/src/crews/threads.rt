@@ -99,14 +99,10 @@ fn start_workers<'s, S: BlockSlot + Send + 's, E: 's, R: Threads + Wait + Sync>(
 ) -> Result<(), CrewFault> {
     for (at, worker) in workers.into_iter().enumerate() {
         let stack = stack(shop.stacks.workers, at);
-        let started = stack.spawn_scoped_with(
-            scope,
-            Anything,
-            move || {
-                let mut worker = worker;
-                work(rt, &mut worker, &shop.stop);
-            },
-        );
+        let started = stack.spawn_scoped_with(scope, Anything, move || {
+            let mut worker = worker;
+            work(rt, &mut worker, &shop.stop);
+        });
         if started.is_err() {
             return Err(CrewFault::Thread);
         }
