@@ -2,7 +2,6 @@
 
 mod choice;
 mod random;
-mod speed;
 mod twin;
 
 use crate::block::twin::Twin;

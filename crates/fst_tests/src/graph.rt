@@ -5,7 +5,6 @@ mod checked;
 mod groups;
 mod members;
 mod random;
-mod speed;
 mod step;
 mod twin;
 

@@ -2,7 +2,6 @@
 //! here say nothing.
 
 ghost use Rattle.std.specs.Prelude.{◌≡◌, ◌≤◌, ◌+◌, length};
-ghost use Rattle.fst_block.specs.Choices.{IsChoice};
 
 use crate::block::choice::{Change, is_choice, is_newest, leave_out};
 use crate::same::{same_bytes, same_sum};
@@ -11,19 +10,6 @@ use fst_types::{Grade, Noted, PatchNo, Span};
 use std::alloc::Global;
 use std::marker::Model;
 use std::process::Abort;
-use std::rt::Clock;
-use std::time::Instant;
-
-// Makes the image so many times.
-fn make_images(rt: &impl Abort, block: &mut Block, chosen: &[PatchNo], times: u32)
-    requires { IsChoice block.old.patches chosen.now }
-    ensures { block.new ≡ block.old }
-{
-    for _ in 0..times {
-        let image = block.image(chosen).expect(rt, "there is memory");
-        drop(image);
-    }
-}
 
 // The bytes from this place on, which the block has.
 fn span_of(rt: &impl Abort, at: u32, bytes: &[u8], block: &[u8]) -> Span
@@ -95,19 +81,6 @@ impl Twin {
     pub fn image(&mut self, rt: &impl Abort, chosen: &[PatchNo]) -> Vec<u8> {
         assert!(rt; is_choice(&self.changes, chosen));
         self.block.image(chosen).expect(rt, "there is memory")
-    }
-
-    /// How many microseconds so many images of these patches take.
-    pub fn time_of_images(
-        &mut self,
-        rt: &(impl Abort + Clock),
-        chosen: &[PatchNo],
-        times: u32,
-    ) -> u128 {
-        assert!(rt; is_choice(&self.changes, chosen));
-        let start = Instant::now(rt).expect(rt, "a clock");
-        make_images(rt, &mut self.block, chosen, times);
-        start.elapsed(rt).expect(rt, "a clock").as_micros()
     }
 
     /// Takes these patches out.
