@@ -14,7 +14,7 @@ Refuses-then f fault.Memory o h = tt
 Refuses-then f fault.BadField o h = ap (option_and_then f) h
 Refuses-then f _ o h = absurd h
 
--- the answer of a `?`
+-- where what is read is refused, so is what comes of it
 pub Gives-refused : {X Y : Type 0} (v : X → Y) (r : Result X Fault) (e : Fault) (read : Option Y) → IsErrAnd r (λ y. y ≡ e) → Refuses e read → Gives v r read
 Gives-refused v (Ok x) e read is h = absurd is
 Gives-refused v (Err y) e read is h = rw is h
