@@ -4,9 +4,9 @@
     benchmarks/growth.py [--beside PROGRAM] [--only NAME[,NAME]] [--best N] [PROGRAM]
 
 `depend` over blocks of two sizes, a chain on one block, one that also comes after many hard changes, and a gate between two
-halves of the blocks. For each a line says the processor seconds of all of it, the best of N runs (3), and the exponent by
-which they grow from a quarter to all, those of an empty script being taken off first: 1 where a line costs the same however
-long the script is. With --beside a second program plays the same scripts, by turns: it is to
+halves of the blocks. For each a line says the processor seconds and the peak memory of all of it, the best of N runs (3),
+and the exponent by which the seconds grow from a quarter to all, those of an empty script being taken off first: 1 where a
+line costs the same however long the script is. With --beside a second program plays the same scripts, by turns: it is to
 give the same replies, and the line ends in `slow` where PROGRAM takes three times as long. PROGRAM is the program as `rt
 build` or `./feather` leaves it; without it `./feather` is used, which builds it once.
 """
@@ -74,12 +74,12 @@ SHAPES = {depend_wide: 60_000, depend_narrow: 60_000, one_block: 60_000, soft_ch
 
 
 def best_of(times, programs, made):
-    """For each program the best seconds of so many runs by turns, and a sum of the replies."""
+    """For each program the best seconds of so many runs by turns, the peak, and a sum of the replies."""
     with tempfile.NamedTemporaryFile("w", suffix=".jsonl") as script:
         script.write("\n".join([*made.lines, '{"do":"stat"}']) + "\n")
         script.flush()
         runs = [[played(program, made.words, script.name) for program in programs] for _ in range(times)]
-    return [(min(run[0] for run in of), of[0][2]) for of in zip(*runs)]
+    return [(min(run[0] for run in of), max(run[1] for run in of), of[0][2]) for of in zip(*runs)]
 
 
 def grown(quarter, whole, start):
@@ -93,10 +93,10 @@ def row(shape, patches, programs, times):
     start = best_of(times, programs, Script(*map(int, shape(40).words[1::2])))
     few, some, whole = (best_of(times, programs, shape(patches // part)) for part in (4, 2, 1))
     says = "; beside ".join(
-        f"{all_of[0]:.3f} s, n^{grown(part[0], all_of[0], none[0]):.2f}"
+        f"{all_of[0]:.3f} s, {all_of[1]:.0f} MB, n^{grown(part[0], all_of[0], none[0]):.2f}"
         for none, part, all_of in zip(start, few, whole)
     )
-    well = all(of[0][1] and all(other[1] == of[0][1] for other in of) for of in (few, some, whole))
+    well = all(of[0][2] and all(other[2] == of[0][2] for other in of) for of in (few, some, whole))
     slow = len(programs) > 1 and whole[0][0] > 3 * whole[1][0]
     print(f"{shape.__name__}: {says}{'' if well else '; REPLIES DIFFER'}{'; slow' if slow else ''}", flush=True)
     return well

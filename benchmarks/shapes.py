@@ -19,7 +19,6 @@ import argparse
 import hashlib
 import os
 import random
-import resource
 import subprocess
 import sys
 import tempfile
@@ -239,16 +238,33 @@ class Shape:
         return self.lines
 
 
+# Runs a program and tells what it used. It is small, since the peak of a process counts what it was split from.
+WATCH = """
+import os, resource, sys
+report, seconds, *words = sys.argv[1:]
+child = os.fork()
+if not child:
+    resource.setrlimit(resource.RLIMIT_CPU, (int(seconds), int(seconds)))
+    os.execvp(words[0], words)
+_, status, used = os.wait4(child, 0)
+os.write(int(report), f"{used.ru_utime + used.ru_stime} {used.ru_maxrss / 1024} {status}".encode())
+"""
+
+
 def played(program, words, path):
-    """Processor seconds, peak in MB, and a sum of the replies; None for the sum where the program did not end well."""
-    limit = lambda: resource.setrlimit(resource.RLIMIT_CPU, (SECONDS, SECONDS))
+    """Processor seconds, peak in MB (6 at least), and a sum of the replies; None for the sum where the program did not end well."""
+    told, report = os.pipe()
+    watch = [sys.executable, "-S", "-c", WATCH, str(report), str(SECONDS), program, "play", *words]
     with open(path, "rb") as script:
-        child = subprocess.Popen([program, "play", *words], stdin=script, stdout=subprocess.PIPE, preexec_fn=limit)
+        child = subprocess.Popen(watch, stdin=script, stdout=subprocess.PIPE, pass_fds=[report])
+        os.close(report)
         replies = hashlib.sha256()
         for part in iter(lambda: child.stdout.read(1 << 20), b""):
             replies.update(part)
-        _, status, used = os.wait4(child.pid, 0)
-    return used.ru_utime + used.ru_stime, used.ru_maxrss / 1024, None if status else replies.hexdigest()
+        child.wait()
+    with os.fdopen(told) as said:
+        used, peak, status = said.read().split()
+    return float(used), float(peak), None if int(status) else replies.hexdigest()
 
 
 def compared(name, program, beside, words, lines, says=""):
