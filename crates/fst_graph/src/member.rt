@@ -29,12 +29,12 @@ use fst_walks::sight::Sight;
 use std::alloc::{AllocError, Global};
 
 // The number, if it is that of an open gate.
-fn if_open(heads: &[Head], number: u32) -> Option<u32>
-    requires { IsRising heads.now }
-    ensures some { IfSome result (λ n. (n ≡ number) × IsOpenNumber (patches_of heads.now) number) }
-    ensures none { IfNone result (IsOpenNumber (patches_of heads.now) number → ⊥) }
+fn if_open(sight: &Sight<'_>, number: u32) -> Option<u32>
+    requires { Sees sight.now }
+    ensures some { IfSome result (λ n. (n ≡ number) × IsOpenNumber (patches_of sight.now.heads.now) number) }
+    ensures none { IfNone result (IsOpenNumber (patches_of sight.now.heads.now) number → ⊥) }
 {
-    if passes_at(heads, Test::Open, number) {
+    if passes_at(sight, Test::Open, number) {
         Some(number)
     } else {
         None
@@ -84,7 +84,7 @@ pub fn prepare_member(
         Ok(kept) => kept,
         Err(error) => return Err(error),
     };
-    let opened = if_open(heads, gates.head);
+    let opened = if_open(sight, gates.head);
     // A head that is open and rests on disk once it is sealed is then none of the dependencies.
     let after: &[PatchNo] = if opened.is_some() && rests(heads, gates.head) {
         &[]

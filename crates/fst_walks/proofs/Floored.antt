@@ -1,5 +1,5 @@
 -- Levels stay right where what was met is lifted, and with it the floor of a block.
-use Rattle.std.proofs.Common.{◌≡◌, ◌≢◌, ◌<◌, ◌⊎◌, ◌∷◌, ◌∙◌, [], ℕ, List, set, Contains, refl, sym, ap, subst, inl, inr, arith, get_or-set_same, get_or-set_other, length-set}
+use Rattle.std.proofs.Common.{◌≡◌, ◌≢◌, ◌<◌, ◌≤◌, ◌⊎◌, ◌∷◌, ◌∙◌, [], ℕ, List, set, Contains, refl, sym, ap, subst, inl, inr, arith, get_or-set_same, get_or-set_other, length-set}
 use Rattle.std.proofs.lemmas.Bool.{cases_eq}
 use Rattle.fst_types.specs.{Facts.IsOnDiskWithAll, Patches.Patch}
 use Rattle.fst_types.proofs.Finite.{In, In-from_Contains, Contains-from_In}
@@ -13,6 +13,13 @@ in_or_not [] n = inr (λ h. absurd h)
 in_or_not (m ∷ ms) n = elim (cases_eq m n) [
   | inl e ↦ inl (inl e)
   | inr other ↦ elim (in_or_not ms n) [ inl h ↦ inl (inr h) | inr none ↦ inr (λ h. elim h [ inl e ↦ other e | inr k ↦ none k ]) ]
+]
+
+-- what was no higher than where what was met goes up to is no higher afterwards
+pub lifted_within : (heads : List Patch) (met : List ℕ) (to : ℕ) (old new : Leveling) → IsLifted heads met to old new → (n : ℕ) → level_of old.ranks n ≤ to → level_of new.ranks n ≤ to
+lifted_within heads met to old new L n low = elim (in_or_not met n) [
+  | inl h ↦ omega (arith, L.raised n (Contains-from_In met n h))
+  | inr none ↦ omega (arith, L.rest n (λ c. none (In-from_Contains met n c)), low)
 ]
 
 -- whether one of them is a hard change of c in memory

@@ -13,7 +13,7 @@ ghost use Rattle.fst_heads.specs.declared.test.Test.TheVariants as test;
 ghost use Rattle.fst_heads.specs.Heads.{IsRising, patches_of};
 ghost use Rattle.fst_heads.specs.Marks.{PassesAt};
 ghost use Rattle.fst_walks.specs.Ancestors.{AreOver, GoesUnder, LeadsTo};
-ghost use Rattle.fst_walks.specs.Leveling.{IsLeveled, jump_of};
+ghost use Rattle.fst_walks.specs.Leveling.{IsLeveled, jump_of, parent_of};
 ghost use Rattle.fst_walks.specs.Sights.{Sees};
 ghost use Rattle.fst_walks.specs.WayBack.{LeadsBack};
 
@@ -108,15 +108,17 @@ pub fn renew(levels: &mut Levels, heads: &[Head], number: u32)
 }
 
 // The next ancestor on the way to one at that depth: the jump, unless that goes past it.
-fn toward(sight: &Sight<'_>, own: Ancestry, depth: u32) -> u32
+fn toward(sight: &Sight<'_>, own: Ancestry, depth: u32) -> Rank
     requires sees { Sees sight.now }
-    ensures { (result ≡ own.parent) ⊎ (result ≡ own.jump) }
+    ensures next { (result.number ≡ own.parent) ⊎ (result.number ≡ own.jump) }
+    ensures parent { result.ancestry.parent ≡ parent_of sight.now.levels.now.ranks result.number }
+    ensures jump { result.ancestry.jump ≡ jump_of sight.now.levels.now.ranks result.number }
 {
-    let further = sight.levels.rank_of(sight.heads, own.jump).ancestry;
-    if further.depth >= depth {
-        own.jump
+    let further = sight.levels.rank_of(sight.heads, own.jump);
+    if further.ancestry.depth >= depth {
+        further
     } else {
-        own.parent
+        sight.levels.rank_of(sight.heads, own.parent)
     }
 }
 
@@ -125,16 +127,15 @@ fn comes_to(sight: &Sight<'_>, from: u32, to: u32, depth: u32) -> bool
     requires sees { Sees sight.now }
     ensures { IsTrue result → LeadsTo (patches_of sight.now.heads.now) from to }
 {
-    let mut at = from;
+    let mut at = sight.levels.rank_of(sight.heads, from);
     for _ in 0..MOST_STEPS {
-        if at == to {
+        if at.number == to {
             return true;
         }
-        let own = sight.levels.rank_of(sight.heads, at).ancestry;
-        if own.depth <= depth {
+        if at.ancestry.depth <= depth {
             return false;
         }
-        at = toward(sight, own, depth);
+        at = toward(sight, at.ancestry, depth);
     }
     false
 }
@@ -146,11 +147,11 @@ fn off_at(sight: &Sight<'_>, block: u32, number: u32) -> Option<u32>
     ensures off { IfSome result (PassesAt (test.LiveOff block) (patches_of sight.now.heads.now)) }
     ensures under { IfSome result (LeadsTo (patches_of sight.now.heads.now) number) }
 {
-    if passes_at(sight.heads, Test::LiveOff(block), number) {
+    if passes_at(sight, Test::LiveOff(block), number) {
         return Some(number);
     }
-    for below in newest_few(row_below(sight.heads, number), WIDTH) {
-        if passes_at(sight.heads, Test::LiveOff(block), *below) {
+    for below in newest_few(row_below(sight, number), WIDTH) {
+        if passes_at(sight, Test::LiveOff(block), *below) {
             return Some(*below);
         }
     }

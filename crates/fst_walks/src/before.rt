@@ -5,15 +5,14 @@
 
 ghost use Rattle.std.specs.Prelude.{◌≡◌, ◌⊎◌, ◌<◌, ℕ, length, Contains, IsTrue, IfSome};
 ghost use Rattle.fst_heads.specs.Grading.{IsHardNumber, LeadsNowhere};
-ghost use Rattle.fst_heads.specs.Heads.{IsRising, patches_of};
+ghost use Rattle.fst_heads.specs.Heads.{patches_of};
 ghost use Rattle.fst_walks.specs.Sights.{Sees};
 ghost use Rattle.fst_walks.specs.Telling.{IsTold};
 
 use crate::graded::{Graded, hard, soft};
 use crate::known::known_end;
-use crate::shortcuts::{is_found, is_hard_in, is_hard_number};
+use crate::shortcuts::{is_found, is_hard_at, is_hard_in};
 use crate::sight::Sight;
-use fst_heads::head::Head;
 
 // How many of the newest changes are looked at.
 const NEWEST: usize = 8;
@@ -22,15 +21,15 @@ const NEWEST: usize = 8;
 const LONGEST: usize = 64;
 
 // Whether each of the row is in the other row or a hard change of the block in memory, over which no way leads back.
-fn is_within(heads: &[Head], block: u32, row: &[u32], other: &[u32]) -> bool
-    requires { IsRising heads.now }
-    ensures { IsTrue result → (n : ℕ) → Contains row.now n → Contains other.now n ⊎ IsHardNumber (patches_of heads.now) block n }
+fn is_within(sight: &Sight<'_>, block: u32, row: &[u32], other: &[u32]) -> bool
+    requires { Sees sight.now }
+    ensures { IsTrue result → (n : ℕ) → Contains row.now n → Contains other.now n ⊎ IsHardNumber (patches_of sight.now.heads.now) block n }
 {
     if row.len() > LONGEST {
         return false;
     }
     for number in row {
-        if !is_found(other, *number) && !is_hard_number(heads, block, *number) {
+        if !is_found(other, *number) && !is_hard_at(sight, block, *number) {
             return false;
         }
     }
@@ -46,13 +45,13 @@ fn told_by(sight: &Sight<'_>, slot: usize, block: u32, row: &[u32]) -> Option<Gr
     let head = &sight.heads[slot];
     let other = head.dependencies.as_slice();
     if is_hard_in(head, block) {
-        if is_within(sight.heads, block, row, other) {
+        if is_within(sight, block, row, other) {
             return Some(hard());
         }
         return None;
     }
     let end = known_end(sight, slot, block)?;
-    if is_within(sight.heads, block, other, row) {
+    if is_within(sight, block, other, row) {
         Some(soft(Some(end)))
     } else {
         None

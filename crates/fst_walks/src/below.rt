@@ -122,7 +122,7 @@ pub fn grade_below(
     down.cross_only(block);
     let most = sight.lists[block as usize].len().saturating_mul(LOOKS);
     let few = most.min(FEW);
-    let looked = visit_first_away(sight.heads, &mut down.walk, block, row, few);
+    let looked = visit_first_away(sight, &mut down.walk, block, row, few);
     let least = sight.levels.floor(block);
     let met = descend(sight, down, block, least, most)?;
     if met.is_some() {

@@ -197,7 +197,7 @@ fn grade_within(
     ensures down { IsOver sight.now.heads.now (length sight.now.lists.now) ends.new.down }
 {
     ends.down.cross_only(block);
-    let looked = visit_first_away(sight.heads, &mut ends.down.walk, block, row, limit);
+    let looked = visit_first_away(sight, &mut ends.down.walk, block, row, limit);
     if looked <= limit && ends.down.walk.len() == 0 {
         return Some(hard_after(looked));
     }

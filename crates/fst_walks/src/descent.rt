@@ -28,18 +28,6 @@ pub fn visit(heads: &[Head], walk: &mut Walk, number: u32)
     }
 }
 
-/// Visits what is not on disk of the row.
-pub fn visit_row(heads: &[Head], walk: &mut Walk, row: &[u32])
-    requires rising { IsRising heads.now }
-    requires visited { Visited heads.now walk.old }
-    ensures visited { Visited heads.now walk.new }
-    ensures visits { Visits (λ n. Contains row.now n × IsLiveNumber (patches_of heads.now) n) (numbers_met heads.now walk.old) (numbers_met heads.now walk.new) }
-{
-    for number in row {
-        visit(heads, walk, *number);
-    }
-}
-
 /// Only the block is shown as crossed.
 pub fn show_only(reached: &mut [bool], block: u32)
     requires { block < length reached.old }

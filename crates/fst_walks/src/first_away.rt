@@ -7,11 +7,14 @@ ghost use Rattle.fst_heads.specs.Heads.{IsRising, patches_of};
 ghost use Rattle.fst_heads.specs.Marks.{HasSlot};
 ghost use Rattle.fst_walks.specs.BothEnds.{GoesThrough, IsFirstAway, StepsAway};
 ghost use Rattle.fst_walks.specs.Descending.{IsLedFrom, Visited, Visits};
+ghost use Rattle.fst_walks.specs.Sights.{Sees};
 ghost use Rattle.fst_walks.specs.Walks.{numbers_met};
 
-use crate::descent::{keep_away, visit_row};
+use crate::descent::keep_away;
 use crate::shortcuts::{is_hard_in, newest_few};
+use crate::sight::Sight;
 use crate::walk::Walk;
+use crate::way_down::visit_high_row;
 use fst_heads::head::Head;
 use fst_heads::test::{Test, passes};
 
@@ -30,36 +33,36 @@ fn goes_through(heads: &[Head], slot: usize, block: u32) -> bool
 
 // Visits what the patch that was met there in turn directly depends on, if the way goes through it, and answers how many that
 // is. Of more than `most` it visits only so many: a gate may come after thousands, and the walk stops there.
-fn step_away(heads: &[Head], walk: &mut Walk, at: usize, block: u32, most: usize) -> usize
-    requires rising { IsRising heads.now }
-    requires visited { Visited heads.now walk.old }
+fn step_away(sight: &Sight<'_>, walk: &mut Walk, at: usize, block: u32, most: usize) -> usize
+    requires sees { Sees sight.now }
+    requires visited { Visited sight.now.heads.now walk.old }
     requires at { at < length walk.old.met }
-    ensures visited { Visited heads.now walk.new }
-    ensures only { (n : ℕ) → Contains (numbers_met heads.now walk.new) n → Contains (numbers_met heads.now walk.old) n ⊎ StepsAway (patches_of heads.now) block (slice_index_or (numbers_met heads.now walk.old) at 0) n }
-    ensures visits { result ≤ most → Visits (StepsAway (patches_of heads.now) block (slice_index_or (numbers_met heads.now walk.old) at 0)) (numbers_met heads.now walk.old) (numbers_met heads.now walk.new) }
+    ensures visited { Visited sight.now.heads.now walk.new }
+    ensures only { (n : ℕ) → Contains (numbers_met sight.now.heads.now walk.new) n → Contains (numbers_met sight.now.heads.now walk.old) n ⊎ StepsAway (patches_of sight.now.heads.now) block (slice_index_or (numbers_met sight.now.heads.now walk.old) at 0) n }
+    ensures visits { result ≤ most → Visits (StepsAway (patches_of sight.now.heads.now) block (slice_index_or (numbers_met sight.now.heads.now walk.old) at 0)) (numbers_met sight.now.heads.now walk.old) (numbers_met sight.now.heads.now walk.new) }
 {
     let slot = walk.slot(at);
-    if !goes_through(heads, slot, block) {
+    if !goes_through(sight.heads, slot, block) {
         return 0;
     }
-    let below = heads[slot].dependencies.as_slice();
-    visit_row(heads, walk, newest_few(below, most));
+    let below = sight.heads[slot].dependencies.as_slice();
+    visit_high_row(sight, walk, newest_few(below, most), 0);
     below.len()
 }
 
 // Visits all that the way down leads to from what was visited, or stops once it has looked at more patches than `most`.
 // Answers at how many it looked.
-fn walk_away(heads: &[Head], walk: &mut Walk, block: u32, most: usize) -> usize
-    requires rising { IsRising heads.now }
-    requires visited { Visited heads.now walk.old }
-    ensures visited { Visited heads.now walk.new }
-    ensures only { (n : ℕ) → Contains (numbers_met heads.now walk.new) n → IsLedFrom (StepsAway (patches_of heads.now) block) (numbers_met heads.now walk.old) n }
-    ensures led { result ≤ most → (n : ℕ) → Contains (numbers_met heads.now walk.new) n ↔ IsLedFrom (StepsAway (patches_of heads.now) block) (numbers_met heads.now walk.old) n }
+fn walk_away(sight: &Sight<'_>, walk: &mut Walk, block: u32, most: usize) -> usize
+    requires sees { Sees sight.now }
+    requires visited { Visited sight.now.heads.now walk.old }
+    ensures visited { Visited sight.now.heads.now walk.new }
+    ensures only { (n : ℕ) → Contains (numbers_met sight.now.heads.now walk.new) n → IsLedFrom (StepsAway (patches_of sight.now.heads.now) block) (numbers_met sight.now.heads.now walk.old) n }
+    ensures led { result ≤ most → (n : ℕ) → Contains (numbers_met sight.now.heads.now walk.new) n ↔ IsLedFrom (StepsAway (patches_of sight.now.heads.now) block) (numbers_met sight.now.heads.now walk.old) n }
 {
     let mut at = 0;
     let mut looked: usize = 0;
     while at < walk.len() {
-        looked = looked.saturating_add(step_away(heads, walk, at, block, most));
+        looked = looked.saturating_add(step_away(sight, walk, at, block, most));
         if looked > most {
             return looked;
         }
@@ -71,21 +74,21 @@ fn walk_away(heads: &[Head], walk: &mut Walk, block: u32, most: usize) -> usize
 /// Visits the first changes of other blocks at or below the row, and nothing else: all of them, unless it stops since it has
 /// looked at more patches below the row than `most`. Answers at how many it looked. What was met before does not matter.
 pub fn visit_first_away(
-    heads: &[Head],
+    sight: &Sight<'_>,
     walk: &mut Walk,
     block: u32,
     row: &[u32],
     most: usize,
 ) -> usize
-    requires rising { IsRising heads.now }
-    requires long { length walk.old.marks ≡ length heads.now }
-    ensures visited { Visited heads.now walk.new }
-    ensures only { (n : ℕ) → Contains (numbers_met heads.now walk.new) n → IsFirstAway (patches_of heads.now) block row.now n }
-    ensures all { result ≤ most → (n : ℕ) → IsFirstAway (patches_of heads.now) block row.now n → Contains (numbers_met heads.now walk.new) n }
+    requires sees { Sees sight.now }
+    requires long { length walk.old.marks ≡ length sight.now.heads.now }
+    ensures visited { Visited sight.now.heads.now walk.new }
+    ensures only { (n : ℕ) → Contains (numbers_met sight.now.heads.now walk.new) n → IsFirstAway (patches_of sight.now.heads.now) block row.now n }
+    ensures all { result ≤ most → (n : ℕ) → IsFirstAway (patches_of sight.now.heads.now) block row.now n → Contains (numbers_met sight.now.heads.now walk.new) n }
 {
     walk.clear();
-    visit_row(heads, walk, row);
-    let looked = walk_away(heads, walk, block, most);
-    keep_away(heads, walk, block);
+    visit_high_row(sight, walk, row, 0);
+    let looked = walk_away(sight, walk, block, most);
+    keep_away(sight.heads, walk, block);
     looked
 }

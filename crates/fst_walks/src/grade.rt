@@ -39,7 +39,7 @@ fn grade_by_ways(sight: &Sight<'_>, ends: &mut Ends, block: u32, row: &[u32]) ->
     if is_clean(sight, block) {
         return hard();
     }
-    if waits_for_own_block(sight.heads, block, row) {
+    if waits_for_own_block(sight, block, row) {
         return hard();
     }
     if stays_below(sight, block, row) {

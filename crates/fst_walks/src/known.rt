@@ -24,7 +24,7 @@ pub fn known_end(sight: &Sight<'_>, slot: usize, block: u32) -> Option<u32>
         return None;
     }
     let end = sight.needs.way_back(head.number)?;
-    if passes_at(sight.heads, Test::LiveOn(block), end) {
+    if passes_at(sight, Test::LiveOn(block), end) {
         Some(end)
     } else {
         None

@@ -18,6 +18,7 @@ ghost use Rattle.fst_walks.specs.Leveling.{IsLeveled, floor_of, jump_of, level_o
 ghost use Rattle.fst_walks.specs.Lifting.{IsLifted, MayLift};
 ghost use Rattle.fst_walks.specs.Walks.{number_at, numbers_met};
 
+use crate::index::Index;
 use crate::ranks::{halve_floors, halve_ranks, keep_live, raise, raise_floor, rank_slot};
 use crate::walk::Walk;
 use fst_heads::head::{Head, Kind};
@@ -27,6 +28,9 @@ use std::marker::Model;
 
 /// The greatest level, at which each open gate stands.
 pub const TOP: u32 = 4_294_967_295;
+
+// How many patches may be made between two calls of `forget`.
+const MOST_MADE: u32 = 65_535;
 
 // From where on all levels are halved. Between two calls of `forget` no more than 65,535 changes are made, each of which lifts
 // by some thousands at most, so that nothing comes to the top before.
@@ -62,11 +66,12 @@ pub struct Rise {
 
 /// The levels and ancestries of the heads, in their order, and the floors of the blocks. For each block is kept what searches
 /// for a way back to it have looked at since its floor went up last, so that it goes up once that is worth it (`lift`), and of all
-/// how high up one stands that is not at the top (`ease`). It takes
-/// 20 bytes for each head and 12 for each block.
+/// how high up one stands that is not at the top (`ease`). Where a head's rank stands is told by an index of their numbers. It
+/// takes 20 bytes for each head and 12 for each block, and the index.
 #[derive(Drop)]
 pub struct Levels {
     ranks: Vec<Rank>,
+    index: Index,
     floors: Vec<u32>,
     owed: Vec<usize>,
     highest: u32,
@@ -111,6 +116,7 @@ impl Levels {
         let owed = vec![in alloc; 0; blocks as usize]?;
         Ok(Levels {
             ranks: Vec::new(alloc),
+            index: Index::new(alloc),
             floors,
             owed,
             highest: 0,
@@ -126,6 +132,9 @@ impl Levels {
     {
         let room = self.ranks.len() + more as usize;
         self.ranks.reserve(more as usize)?;
+        if let Some(last) = self.ranks.last() {
+            self.index.reserve(last.number.saturating_add(MOST_MADE))?;
+        }
         self.room = room;
         Ok(())
     }
@@ -137,6 +146,7 @@ impl Levels {
         ensures floors { self.new.floors ≡ self.old.floors }
         ensures room { self.new.room ≡ self.old.room }
     {
+        self.index.grow(rank.number, self.ranks.len());
         self.ranks.push_reserved(rank);
     }
 
@@ -148,7 +158,7 @@ impl Levels {
         ensures none { IfNone result (HasNone heads.now number) }
     {
         let _ = heads;
-        rank_slot(self.ranks.as_slice(), number)
+        rank_slot(self.ranks.as_slice(), &self.index, number)
     }
 
     /// The level of the head in the slot.
@@ -199,6 +209,7 @@ impl Levels {
     pub fn rank_of(&self, heads: &[Head], number: u32) -> Rank
         requires rising { IsRising heads.now }
         requires aligned { map (λ r. r.number) self.now.ranks ≡ map (λ p. p.number) (patches_of heads.now) }
+        ensures number { result.number ≡ number }
         ensures level { result.level ≡ level_of self.now.ranks number }
         ensures parent { result.ancestry.parent ≡ parent_of self.now.ranks number }
         ensures jump { result.ancestry.jump ≡ jump_of self.now.ranks number }
@@ -253,7 +264,8 @@ impl Levels {
     {
         let first = first_on_disk(heads, live);
         let end = end_on_disk(heads, first, live);
-        keep_live(&mut self.ranks, heads, first, end);
+        keep_live(&mut self.ranks, &mut self.index, heads, first, end);
+        self.index.follow(&self.ranks);
         drop_on_disk(heads, first, end);
     }
 

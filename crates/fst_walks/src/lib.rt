@@ -37,6 +37,7 @@ pub mod ends;
 pub mod first_away;
 pub mod grade;
 pub mod graded;
+pub mod index;
 pub mod known;
 pub mod levels;
 pub mod lift;

@@ -1,7 +1,7 @@
 //! What is done with the ranks of the heads and the floors of the blocks, which the levels keep (`levels`): finding a rank by
 //! its number, raising and lowering one, halving all, and dropping those of heads that are forgotten.
 
-ghost use Rattle.std.specs.Prelude.{vec_capacity, ◌≡◌, ◌≢◌, ◌<◌, ℕ, length, map, filter, All, AllPairs, IfSome, IfNone, slice_index_or};
+ghost use Rattle.std.specs.Prelude.{vec_capacity, ◌≡◌, ◌≢◌, ◌<◌, ℕ, length, map, filter, All, AllPairs, IsTrue, IfSome, IfNone, slice_index_or};
 ghost use Rattle.fst_types.specs.Patches.{IsOn};
 ghost use Rattle.fst_heads.specs.Heads.{IsRising, patch_of, patches_of};
 ghost use Rattle.fst_heads.specs.Reaching.{IsHardIn};
@@ -9,6 +9,7 @@ ghost use Rattle.fst_heads.specs.Nodes.{is_live_in};
 ghost use Rattle.fst_heads.specs.Spans.{SpansDisk};
 ghost use Rattle.fst_walks.specs.Leveling.{floor_of, halved, halved_rank, level_of};
 
+use crate::index::Index;
 use crate::levels::{Rank, TOP};
 use crate::shortcuts::is_hard_in;
 use fst_heads::head::{Head, Kind};
@@ -88,8 +89,32 @@ fn rank_from_end(ranks: &[Rank], number: u32) -> Option<usize>
     }
 }
 
+// Whether the rank with the number stands there.
+fn is_there(ranks: &[Rank], place: usize, number: u32) -> bool
+    ensures { IsTrue result → (place < length ranks.now) × ((d : Rank) → (slice_index_or ranks.now place d).number ≡ number) }
+{
+    match ranks.get(place) {
+        Some(rank) => rank.number == number,
+        None => false,
+    }
+}
+
+// Whether the number is that of no rank, since it lies between that of the rank there and the one before.
+fn is_missing(ranks: &[Rank], place: usize, number: u32) -> bool
+    requires { AllPairs (λ r q. r.number < q.number) ranks.now }
+    ensures { IsTrue result → All (λ r. r.number ≢ number) ranks.now }
+{
+    if ranks.len() < place {
+        return false;
+    }
+    if 0 < place && ranks[place - 1].number >= number {
+        return false;
+    }
+    place == ranks.len() || number < ranks[place].number
+}
+
 /// The slot of the rank with the number.
-pub fn rank_slot(ranks: &[Rank], number: u32) -> Option<usize>
+pub fn rank_slot(ranks: &[Rank], index: &Index, number: u32) -> Option<usize>
     requires { AllPairs (λ r q. r.number < q.number) ranks.now }
     ensures found { IfSome result (λ slot. (slot < length ranks.now) × ((d : Rank) → (slice_index_or ranks.now slot d).number ≡ number)) }
     ensures none { IfNone result (All (λ r. r.number ≢ number) ranks.now) }
@@ -97,15 +122,23 @@ pub fn rank_slot(ranks: &[Rank], number: u32) -> Option<usize>
     if let Some(slot) = rank_from_end(ranks, number) {
         return Some(slot);
     }
+    if let Some(place) = index.place(number) {
+        if is_there(ranks, place, number) {
+            return Some(place);
+        }
+        if is_missing(ranks, place, number) {
+            return None;
+        }
+    }
     match ranks.binary_search_by_key(&number, |rank| rank.number) {
         Ok(slot) => Some(slot),
         Err(_) => None,
     }
 }
 
-/// The ranks of heads that are not on disk stay; those on disk stand from `first` up to `end`. Heads stand in the order of
-/// their ranks.
-pub fn keep_live(ranks: &mut Vec<Rank>, heads: &[Head], first: usize, end: usize)
+/// The ranks of heads that are not on disk stay; those on disk stand from `first` up to `end`, and are left out of the index.
+/// Heads stand in the order of their ranks.
+pub fn keep_live(ranks: &mut Vec<Rank>, index: &mut Index, heads: &[Head], first: usize, end: usize)
     requires rising { IsRising heads.now }
     requires aligned { map (λ r. r.number) ranks.old.items ≡ map (λ p. p.number) (patches_of heads.now) }
     requires disk { SpansDisk (patches_of heads.now) first end }
@@ -117,6 +150,8 @@ pub fn keep_live(ranks: &mut Vec<Rank>, heads: &[Head], first: usize, end: usize
         if is_kept(&heads[slot]) {
             ranks[kept] = ranks[slot];
             kept += 1;
+        } else {
+            index.leave_out(ranks[slot].number);
         }
     }
     ranks.drain(kept..end);

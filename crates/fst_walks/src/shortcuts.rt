@@ -15,7 +15,7 @@ ghost use Rattle.fst_heads.specs.Marks.{PassesAt};
 ghost use Rattle.fst_heads.specs.Tests.{is_hard_kind};
 ghost use Rattle.fst_heads.specs.Grading.{HasUnder, IsHardNumber, LeadsNowhere};
 ghost use Rattle.fst_walks.specs.Sights.{Sees};
-ghost use Rattle.fst_heads.specs.Nodes.{nodes_of, AreSettled};
+ghost use Rattle.fst_heads.specs.Nodes.{nodes_of, pending_in, AreSettled};
 
 use crate::sight::Sight;
 use fst_heads::choice::is_hard;
@@ -23,17 +23,17 @@ use fst_heads::head::{Head, Kind};
 use fst_heads::marks::slot_of;
 use fst_heads::pending::{Pending, is_pending};
 use fst_heads::places::is_change_at;
-use fst_heads::row::{pending_at, row_pending};
+use fst_heads::row::row_pending;
 use fst_heads::test::{Test, passes};
 use fst_types::Place;
 
 /// Whether the patch with the number passes.
-pub fn passes_at(heads: &[Head], test: Test, number: u32) -> bool
-    requires { IsRising heads.now }
-    ensures { IsTrue result ↔ PassesAt test (patches_of heads.now) number }
+pub fn passes_at(sight: &Sight<'_>, test: Test, number: u32) -> bool
+    requires { Sees sight.now }
+    ensures { IsTrue result ↔ PassesAt test (patches_of sight.now.heads.now) number }
 {
-    match slot_of(heads, number) {
-        Some(slot) => passes(test, &heads[slot]),
+    match sight.levels.find(sight.heads, number) {
+        Some(slot) => passes(test, &sight.heads[slot]),
         None => false,
     }
 }
@@ -60,24 +60,33 @@ fn is_own(told: Pending, block: u32) -> bool
     }
 }
 
+// What is pending of the patch with the number.
+fn pending_of(sight: &Sight<'_>, number: u32) -> Pending
+    requires { Sees sight.now }
+    ensures { result ≡ pending_in (nodes_of sight.now.heads.now) number }
+{
+    match sight.levels.find(sight.heads, number) {
+        Some(slot) => sight.heads[slot].pending,
+        None => Pending::Nothing,
+    }
+}
+
 // Whether nothing but changes of the block is pending of the patch with the number, or, where it is an open gate, of what it
 // depends on: a group's first change comes after such a one.
-fn waits_for_own(heads: &[Head], block: u32, number: u32) -> bool
-    requires rising { IsRising heads.now }
-    requires disk { IsOnDiskWithAll (patches_of heads.now) }
-    requires settled { (blocks : ℕ) × AreSettled (nodes_of heads.now) blocks }
-    ensures { IsTrue result → LeadsNowhere (patches_of heads.now) block (number ∷ []) }
+fn waits_for_own(sight: &Sight<'_>, block: u32, number: u32) -> bool
+    requires { Sees sight.now }
+    ensures { IsTrue result → LeadsNowhere (patches_of sight.now.heads.now) block (number ∷ []) }
 {
-    if is_own(pending_at(heads, number), block) {
+    if is_own(pending_of(sight, number), block) {
         return true;
     }
-    let Some(slot) = slot_of(heads, number) else {
+    let Some(slot) = sight.levels.find(sight.heads, number) else {
         return false;
     };
-    let head = &heads[slot];
+    let head = &sight.heads[slot];
     match head.kind {
         Kind::OpenGate => {
-            let below = row_pending(heads, head.dependencies.as_slice());
+            let below = row_pending(sight.heads, head.dependencies.as_slice());
             is_own(below, block)
         }
         Kind::Change(_, _, _) | Kind::Empty | Kind::SealedGate => false,
@@ -86,14 +95,12 @@ fn waits_for_own(heads: &[Head], block: u32, number: u32) -> bool
 
 /// Whether nothing but changes of the block is pending of the row, where open gates count as sealed. Then no change of
 /// another block that is not on disk lies below it, and no way leads from it back to the block.
-pub fn waits_for_own_block(heads: &[Head], block: u32, row: &[u32]) -> bool
-    requires rising { IsRising heads.now }
-    requires disk { IsOnDiskWithAll (patches_of heads.now) }
-    requires settled { (blocks : ℕ) × AreSettled (nodes_of heads.now) blocks }
-    ensures { IsTrue result → LeadsNowhere (patches_of heads.now) block row.now }
+pub fn waits_for_own_block(sight: &Sight<'_>, block: u32, row: &[u32]) -> bool
+    requires { Sees sight.now }
+    ensures { IsTrue result → LeadsNowhere (patches_of sight.now.heads.now) block row.now }
 {
     for number in row {
-        if !waits_for_own(heads, block, *number) {
+        if !waits_for_own(sight, block, *number) {
             return false;
         }
     }
@@ -114,6 +121,17 @@ pub fn is_hard_number(heads: &[Head], block: u32, number: u32) -> bool
 {
     match slot_of(heads, number) {
         Some(slot) => is_hard_in(&heads[slot], block),
+        None => false,
+    }
+}
+
+/// The same, where the number is looked for as in a search.
+pub fn is_hard_at(sight: &Sight<'_>, block: u32, number: u32) -> bool
+    requires { Sees sight.now }
+    ensures { IsTrue result ↔ IsHardNumber (patches_of sight.now.heads.now) block number }
+{
+    match sight.levels.find(sight.heads, number) {
+        Some(slot) => is_hard_in(&sight.heads[slot], block),
         None => false,
     }
 }
@@ -149,12 +167,12 @@ pub fn is_found(row: &[u32], number: u32) -> bool
 }
 
 /// What the patch with the number directly depends on, or nothing where it is forgotten.
-pub fn row_below(heads: &[Head], number: u32) -> &[u32]
-    requires { IsRising heads.now }
-    ensures { (q : ℕ) → Contains result.now q → DirectlyOn (patches_of heads.now) number q }
+pub fn row_below<'a>(sight: &Sight<'a>, number: u32) -> &'a [u32]
+    requires { Sees sight.now }
+    ensures { (q : ℕ) → Contains result.now q → DirectlyOn (patches_of sight.now.heads.now) number q }
 {
-    match slot_of(heads, number) {
-        Some(slot) => heads[slot].dependencies.as_slice(),
+    match sight.levels.find(sight.heads, number) {
+        Some(slot) => sight.heads[slot].dependencies.as_slice(),
         None => &[],
     }
 }
@@ -187,9 +205,7 @@ pub fn stays_below(sight: &Sight<'_>, block: u32, row: &[u32]) -> bool
 {
     let floor = sight.levels.floor(block);
     for number in row {
-        if sight.levels.of(sight.heads, *number) >= floor
-            && !is_hard_number(sight.heads, block, *number)
-        {
+        if sight.levels.of(sight.heads, *number) >= floor && !is_hard_at(sight, block, *number) {
             return false;
         }
     }

@@ -35,8 +35,8 @@ fn visit_high(sight: &Sight<'_>, walk: &mut Walk, number: u32, least: u32)
     }
 }
 
-// Visits what is not on disk of the row, as far as it is no lower than `least`.
-fn visit_high_row(sight: &Sight<'_>, walk: &mut Walk, row: &[u32], least: u32)
+/// Visits what is not on disk of the row, as far as it is no lower than `least`.
+pub fn visit_high_row(sight: &Sight<'_>, walk: &mut Walk, row: &[u32], least: u32)
     requires sees { Sees sight.now }
     requires visited { Visited sight.now.heads.now walk.old }
     ensures visited { Visited sight.now.heads.now walk.new }

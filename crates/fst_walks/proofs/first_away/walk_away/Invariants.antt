@@ -6,9 +6,9 @@ use Rattle.fst_walks.proofs.first_away.walk_away.Given as goal
 
 abbrev pub invariant-loop-at : goal.invariant-loop-at
 invariant-loop-at l = record {
-  visited : Visited l.heads l.walk;
-  climbing : Climbing (StepsAway (patches_of l.heads) l.block) (numbers_met l.heads l.initial.walk) l.at (numbers_met l.heads l.walk);
+  visited : Visited l.sight.heads.now l.walk;
+  climbing : Climbing (StepsAway (patches_of l.sight.heads.now) l.block) (numbers_met l.sight.heads.now l.initial.walk) l.at (numbers_met l.sight.heads.now l.walk);
 }
 
 abbrev pub decreases-loop-at : goal.decreases-loop-at
-decreases-loop-at l = length l.heads - l.at
+decreases-loop-at l = length l.sight.heads.now - l.at

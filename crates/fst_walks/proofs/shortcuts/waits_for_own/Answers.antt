@@ -1,26 +1,26 @@
-use Rattle.std.proofs.Common.{◌∙◌, ap, refl, sym, subst, inl, inr, Contains}
-use Rattle.fst_heads.specs.{Grading.LeadsNowhere, Heads.{kind_of, patch_of, patches_of}}
+use Rattle.std.proofs.Common.{◌∙◌, ap, refl, sym, subst, inl, inr, length, Contains}
+use Rattle.fst_heads.specs.{Grading.LeadsNowhere, Heads.{kind_of, patch_of, patches_of}, declared.head.Head.Head}
 use Rattle.fst_heads.proofs.{Slots.patch_at, Slotted.number_in}
 use Rattle.fst_walks.proofs.OwnBlock.{block_nowhere, gate_nowhere, nothing_nowhere, own_number_nowhere}
 use Rattle.fst_walks.proofs.shortcuts.waits_for_own.Goals as goal
 
 pub returns-then-is_own : goal.returns-then-is_own
 returns-then-is_own c yes_it =
-    own_number_nowhere c.args.heads.now c.requires.settled.0 c.requires.rising c.requires.disk c.requires.settled.1 c.args.block _ c.args.number refl
-    (elim (c.is_own.ensures c.if-is_own.true) [ inl e ↦ inl (sym c.pending_at.ensures ∙ e) | inr e ↦ inr (sym c.pending_at.ensures ∙ e) ])
+    own_number_nowhere c.args.sight.now.heads.now (length c.args.sight.now.lists.now) c.requires.rising c.requires.disk c.requires.settled c.args.block _ c.args.number refl
+    (elim (c.is_own.ensures c.if-is_own.true) [ inl e ↦ inl (sym c.pending_of.ensures ∙ e) | inr e ↦ inr (sym c.pending_of.ensures ∙ e) ])
 
 pub returns-in-OpenGate : goal.returns-in-OpenGate
 returns-in-OpenGate c own =
-    let heads = c.args.heads.now in
-    let h = c.index-heads-slot.result in
+    let heads = c.args.sight.now.heads.now in
+    let h = c.index-sight-slot.result in
     let slot = c.in-Some.ensures.found in
-    let here : Contains (patches_of heads) (patch_of h) = subst (λ x. Contains (patches_of heads) (patch_of x)) (sym c.index-heads-slot.is) (patch_at heads c.in-Some.slot h slot.0) in
+    let here : Contains (patches_of heads) (patch_of h) = subst (λ x. Contains (patches_of heads) (patch_of x)) (sym c.index-sight-slot.is) (patch_at heads c.in-Some.slot h slot.0) in
     let below = h.dependencies.items in
     let row = c.as_slice.result.now in
     let said = sym c.row_pending-below.ensures in
     let leads : LeadsNowhere (patches_of heads) c.args.block row = elim (c.is_own-in-OpenGate.ensures own) [
-      | inl e ↦ nothing_nowhere heads c.requires.settled.0 c.requires.rising c.requires.disk c.requires.settled.1 c.args.block row (said ∙ e)
-      | inr e ↦ block_nowhere heads c.requires.settled.0 c.requires.rising c.requires.disk c.requires.settled.1 c.args.block row (said ∙ e)
+      | inl e ↦ nothing_nowhere heads (length c.args.sight.now.lists.now) c.requires.rising c.requires.disk c.requires.settled c.args.block row (said ∙ e)
+      | inr e ↦ block_nowhere heads (length c.args.sight.now.lists.now) c.requires.rising c.requires.disk c.requires.settled c.args.block row (said ∙ e)
     ] in
-    gate_nowhere heads c.requires.rising c.args.block c.args.number (patch_of h) here (number_in heads c.args.number c.in-Some.slot h slot c.index-heads-slot.is) (ap kind_of c.in-OpenGate.is)
-    (subst (LeadsNowhere (patches_of heads) c.args.block) c.as_slice.ensures leads)
+    gate_nowhere heads c.requires.rising c.args.block c.args.number (patch_of h) here (number_in heads c.args.number c.in-Some.slot h slot c.index-sight-slot.is) (ap (λ (x : Head). kind_of x.kind) c.index-sight-slot.is ∙ ap kind_of c.in-OpenGate.is)
+    (subst (LeadsNowhere (patches_of heads) c.args.block) (c.as_slice.ensures ∙ sym (ap (λ (x : Head). x.dependencies.items) c.index-sight-slot.is)) leads)

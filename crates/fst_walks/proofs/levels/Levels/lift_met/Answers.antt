@@ -3,7 +3,7 @@ use Rattle.std.proofs.Common.{ap, length, subst, arith}
 use Rattle.fst_heads.specs.{Heads.patches_of, Marks.HasSlot}
 use Rattle.fst_heads.proofs.Slots.{patch_slot, slot_in}
 use Rattle.fst_walks.specs.{Walks.numbers_met}
-use Rattle.fst_walks.proofs.{Floored.floored, Raising.hard_told}
+use Rattle.fst_walks.proofs.{Floored.{floored, lifted_within}, Raising.hard_told}
 use Rattle.fst_walks.proofs.levels.Levels.lift_met.Goals as goal
 
 pub returns-then-rise-clause-leveled : goal.returns-then-rise-clause-leveled
@@ -34,7 +34,8 @@ pub returns-else-rise-clause-still : goal.returns-else-rise-clause-still
 returns-else-rise-clause-still c = grind (arith, common_steps)
 
 pub returns-then-rise-clause-below : goal.returns-then-rise-clause-below
-returns-then-rise-clause-below c = grind (arith, common_steps)
+returns-then-rise-clause-below c n low =
+    rw (ap (λ v. v.ranks) c.self.view_is) (lifted_within (patches_of c.args.heads.now) (numbers_met c.args.heads.now c.args.walk.now) c.args.rise.level c.args.self.now c.lift_all.new.self c.lift_all.ensures n low)
 
 pub returns-then-rise-clause-lifted : goal.returns-then-rise-clause-lifted
 returns-then-rise-clause-lifted c = grind (arith, common_steps)

@@ -1,10 +1,15 @@
 use Rattle.std.proofs.Common.{◌∙◌, ap, sym}
 use Rattle.fst_walks.specs.declared.levels.{Ancestry.Ancestry, Rank.Rank}
-use Rattle.fst_walks.proofs.{Raised.none_kept, Ranked.{no_rank, rank_kept, slot_ranked}}
+use Rattle.fst_walks.proofs.{Raised.none_kept, Ranked.{no_rank, rank_kept, rank_number, slot_ranked}}
 use Rattle.fst_walks.proofs.levels.Levels.rank_of.Goals as goal
 
 pub rank-requires : goal.rank-requires
 rank-requires c = slot_ranked c.args.heads.now c.args.self.now.ranks c.requires.rising c.requires.aligned c.args.number c.in-Some.slot c.in-Some.ensures.found
+
+pub returns-in-Some-clause-number : goal.returns-in-Some-clause-number
+returns-in-Some-clause-number c =
+    ap (λ (r : Rank). r.number) (c.rank.ensures no_rank)
+    ∙ rank_number c.args.heads.now c.args.self.now.ranks c.requires.rising c.requires.aligned c.args.number c.in-Some.slot c.in-Some.ensures.found no_rank
 
 pub returns-in-Some-clause-level : goal.returns-in-Some-clause-level
 returns-in-Some-clause-level c =
