@@ -1,10 +1,8 @@
 -- What `choose`, `pick` and `issue` answer before anything goes out.
-use Rattle.std.proofs.Common.{◌≡◌, ◌≤◌, ℕ, true, false, List, [], ◌∷◌, map, length, Option, Some, None, IsSome, is_some, refl, ap, subst, ◌∙◌, inl, inr, arith, slice_get, MatchResult, IfNone, IfOk, IfErr, OnOk, OnErr, option_map, Result, Ok, Err}
+use Rattle.std.proofs.Common.{◌≡◌, ◌≤◌, ℕ, true, false, List, length, Option, Some, None, IsSome, is_some, refl, sym, ap, subst, ◌∙◌, inl, inr, arith, slice_get, MatchResult, IfNone, IfOk, IfErr, OnOk, option_map, Result, Ok, Err}
 use Rattle.std.proofs.lemmas.List.{length-map}
-use Rattle.fst_types.specs.declared.number.PatchNo.{PatchNo}
 use Rattle.fst_types.specs.declared.fault.Fault.{Fault}
 use Rattle.fst_types.specs.declared.fault.Fault.TheVariants as fault
-use Rattle.fst_types.specs.Patches.{Patch}
 use Rattle.fst_types.specs.Writable.{HasReady, IsWritableSet}
 use Rattle.fst_types.specs.State.{State, Flight, BlockState, flight_of}
 use Rattle.fst_types.specs.Facts.{IsLawful}
@@ -12,10 +10,9 @@ use Rattle.fst_types.specs.Events.{Choose, Chosen, Issue, Refused}
 use Rattle.fst_types.specs.Order.{order, IsRefusal}
 use Rattle.fst_types.specs.Refusals.{IsFirst, NoneHolds}
 use Rattle.fst_types.specs.Step.{Step, accepted, refused, choose}
-use Rattle.fst_types.proofs.Finite.{In, In-from_Contains}
 use Rattle.fst_types.specs.Looks.{IsPick}
 use Rattle.fst_types.proofs.Stuck.{never_stuck_state}
-use Rattle.fst_graph.specs.Known.{Known, unprepared}
+use Rattle.fst_graph.specs.Known.{Known, NoneFlies, unprepared}
 use Rattle.fst_seat.specs.Seats.{SeatView, blocks}
 use Rattle.fst_cache.specs.Kept.{IsKept, state_of}
 use Rattle.fst_cache.specs.Sending.{sending_order}
@@ -38,25 +35,6 @@ step_choose names s b (Err f) there ok err = refused (inr ((there, tt), err))
 pub never_stuck : {X : Type 0} (number : X → ℕ) (s : State) (r : Option X) → IsLawful s → IsPick s.heads (option_map number r) → IfNone r (IsStuck s)
 never_stuck number s None law none = never_stuck_state s law none
 never_stuck number s (Some b) law least = tt
-
--- a choice that is not known to be empty
-module _ {V : Type 0} (items : V → List PatchNo) (heads : List Patch) (b : ℕ) where
-  abbrev numbers : V → List ℕ
-  numbers v = map (λ (n : PatchNo). n.0) (items v)
-
-  some_of : (ns : List PatchNo) → (ns ≡ [] → ⊥) → IsWritableSet heads b (map (λ (n : PatchNo). n.0) ns) → HasReady heads b
-  some_of [] more set = absurd (more refl)
-  some_of (n ∷ ns) more set = let r = set.only n.0 (0, omega arith, refl) in (r.0, r.2)
-
-  pub has_ready : (r : Result V Fault) → IfOk r (λ v. IsWritableSet heads b (numbers v)) → IfErr r (λ f. HasReady heads b × (f ≡ fault.Memory))
-      → (IfOk r (λ v. items v ≡ []) × OnErr r ⊥ → ⊥) → HasReady heads b
-  has_ready (Ok v) ok err more = some_of (items v) (λ e. more (e, tt)) ok
-  has_ready (Err f) ok err more = err.0
-
-  pub none_ready : (r : Result V Fault) → IfOk r (λ v. IsWritableSet heads b (numbers v)) → IfOk r (λ v. items v ≡ []) × OnErr r ⊥ → HasReady heads b → ⊥
-  none_ready (Ok v) ok none ready =
-      subst (λ (ns : List PatchNo). In (map (λ (n : PatchNo). n.0) ns) ready.0.number) none.0 (In-from_Contains (numbers v) ready.0.number (ok.each ready.0.number (ready.0, refl, ready.1)))
-  none_ready (Err f) ok none ready = none.1
 
 pub not_there : (seats : List SeatView) (b : ℕ) (seat : SeatView) → slice_get seats b ≡ Some seat → length (blocks seats) ≤ b → ⊥
 not_there seats b seat at_b past = let lt = within seats b seat at_b in let few : length seats ≤ b = rw length-map at past in omega (arith, few, lt)
@@ -92,17 +70,20 @@ module _ (size resident tickets made : ℕ) (graph : Known) (contents : List (�
   busy : IsSome (flight_of s b) → ⊥
   busy = not_busy s seats b seat refl at_b idle
 
+  pub at_rest : IsLawful s → NoneFlies graph.heads b
+  at_rest law p h on flies = let f = law.flights_have_changes.kept b p (record { head = h; change = on; flight = flies }) in busy (subst IsSome (sym f.1) refl)
+
   pub nothing_ready : (HasReady graph.heads b → ⊥) → IsRefusal s (Issue b) fault.NothingReady
   nothing_ready none = inl (inr (not_there seats b seat at_b, inr (busy, inl (none, refl))))
 
-  -- the graph was asked twice, and has nothing prepared any more
-  module _ (ready : HasReady graph.heads b) (asked again : Known) (same : asked ≡ unprepared graph) (same_again : again ≡ unprepared asked) where
-    pub sending_refused : (f : Fault) → IsFirst (sending_order (state_of size resident tickets made again contents seats) b) f → IsRefusal s (Issue b) f
+  -- the graph was asked, and has nothing prepared any more
+  module _ (ready : HasReady graph.heads b) (asked : Known) (same : asked ≡ unprepared graph) where
+    pub sending_refused : (f : Fault) → IsFirst (sending_order (state_of size resident tickets made asked contents seats) b) f → IsRefusal s (Issue b) f
     sending_refused f first =
-        let decides : IsFirst (sending_order s b) f = rw (same_again, same) at first in
+        let decides : IsFirst (sending_order s b) f = rw same at first in
         inl (inr (not_there seats b seat at_b, inr (busy, inr ((λ none. none ready), decides))))
 
-    pub sending_clear : NoneHolds (sending_order (state_of size resident tickets made again contents seats) b) → NoneHolds (order s (Issue b))
+    pub sending_clear : NoneHolds (sending_order (state_of size resident tickets made asked contents seats) b) → NoneHolds (order s (Issue b))
     sending_clear clear =
-        let free : NoneHolds (sending_order s b) = rw (same_again, same) at clear in
+        let free : NoneHolds (sending_order s b) = rw same at clear in
         (not_there seats b seat at_b, (busy, ((λ none. none ready), free)))

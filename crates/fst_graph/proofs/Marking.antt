@@ -3,7 +3,7 @@ use Rattle.std.proofs.Common.{◌≡◌, ◌<◌, ◌↔◌, ◌⊎◌, ◌==◌
 use Rattle.std.proofs.lemmas.Bool.{cases_Bool, cases_lt, and_parts, and_from, not_from_true, not_from_false, not-true, false≢true, eqb-true, eqb-false, eq-eqb, ne_eqb}
 use Rattle.std.proofs.lemmas.{List.Elements.filter_agree, List.Folds.{Any-from_list_any, list_any-from_Any}, List.Sums.length-filter}
 use Rattle.fst_types.specs.{Closure.IsAcyclic, Dependencies.DirectlyOn, Facts.{SparseAreLawful, HardNeverHold}, Looks.IsPick, Patches.{Patch, IsRising, IsOn, IsHard}}
-use Rattle.fst_types.specs.{Tests.{is_change_at, is_live}, Writable.{IsInMemoryOn, InWritableSet, IsWritable, IsWritableSet, IsHeld}, declared.number.BlockNo.BlockNo}
+use Rattle.fst_types.specs.{Tests.{is_change_at, is_live}, Writable.{IsInMemoryOn, InWritableSet, HasReady, IsWritable, IsWritableSet, IsHeld}, declared.number.BlockNo.BlockNo}
 use Rattle.fst_heads.specs.{Keeps.IsInside, Nodes.{Node, patches_in, pending_in, AreSettled, AreCounted, is_live_in}, Pendings.is_pending}
 use Rattle.fst_heads.specs.{Standings.{AllStand, AreMarked, may_be_written, standing_of, is_ready_on, is_held_on, is_flying_on, ready_on}, Tests.is_hard_kind, declared.standing.Standing.Standing}
 use Rattle.fst_graph.specs.Known.{IsStuckByGates}
@@ -109,6 +109,16 @@ module _ (nodes : List Node) (numbers blocks : ℕ) (H : SparseAreLawful (patche
         subst (Contains (ready_on b nodes)) (ap (λ r. r.number) y.2 ∙ w.1)
         (number_of (is_ready_on b) nodes y.0 y.1 (in_ready b (rests standings b d A lt rest) y.0 y.1 (subst (InWritableSet (patches_in nodes) b) (sym y.2) w.2)));
   }
+
+  -- of a block at rest something is counted as ready where something may be written
+  pub ready_counted : (b : ℕ) → Rests b → (0 < (standing_of nodes b).ready) ↔ HasReady (patches_in nodes) b
+  ready_counted b rest = (
+    λ some. let x = counted_some (is_ready_on b) nodes (λ z. omega (arith, z, some)) in (x.0.patch, ready_in b rest x.0 x.1 x.2),
+    λ r.
+        let y = node_of_patch nodes r.0 r.1.in_memory.head in
+        let here = in_ready b rest y.0 y.1 (subst (InWritableSet (patches_in nodes) b) (sym y.2) r.1) in
+        elim (cases_lt 0 (standing_of nodes b).ready) [ inl some ↦ some | inr none ↦ absurd (none_counted (is_ready_on b) nodes (omega (arith, none)) y.0 y.1 here) ],
+  )
 
   marked_writable : (b : ℕ) → may_be_written (standing_of nodes b) ≡ true → IsWritable (patches_in nodes) b
   marked_writable b e =

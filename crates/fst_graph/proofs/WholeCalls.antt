@@ -5,7 +5,7 @@ use Rattle.fst_types.specs.{Dependencies.{IsBlocked}, Facts.IsOnDiskWithAll, Gat
 use Rattle.fst_types.specs.{Making.fresh, Order.{depend_order, seal_order, NamesAbove}, Overlaps.{IsOverlapped, Overlaps}, Patches.{Patch, Change, IsHard, IsLive, IsOn, IsOpenGate}}
 use Rattle.fst_types.specs.{Refusals.{IsFirst, NoneHolds}, Writable.{InWritableSet, IsWritableSet, HasReady, IsHeld, IsLeastHeld, IsWritable}, declared.fault.Fault.Fault, declared.grade.Grade.Grade}
 use Rattle.fst_graph.specs.Grouping.{AddsPair, SealsIfOpen}
-use Rattle.fst_graph.specs.Known.{Known, unprepared, AddsChange, AddsEmpty, AddsGate, DependsGate, Foresees, Forgets, IsStuckByGates, LandsBlock, Launches, MayLaunch, Refuses, SealsGate}
+use Rattle.fst_graph.specs.Known.{Known, unprepared, AddsChange, AddsEmpty, AddsGate, DependsGate, Foresees, Forgets, IsStuckByGates, LandsBlock, Launches, MayLaunch, NoneFlies, Refuses, SealsGate}
 use Rattle.fst_graph.specs.{Membering.{ArePaired, Foretells, GainsMember, OverlapReaches, member_order}, Rows.{AreWhole, whole, whole_known, with_row}}
 use Rattle.fst_graph.specs.Sparse.{AddsSparse, ForeseesSparse, ForetellsSparse, GainsSparse}
 use Rattle.fst_types.proofs.{Alike.{back_alike, open_back}, Loosened.loosened, Sealing.alike_sealed}
@@ -56,6 +56,12 @@ module _ (rows : List (ℕ × List ℕ)) (p : Known) (W : AreWhole rows p.heads 
 
   pub ready_is : (b : ℕ) → HasReady T b → HasReady F b
   ready_is b r = (whole rows r.0, set_is rows T n W.sparse D b r.0 r.1)
+
+  pub ready_was : (b : ℕ) → HasReady F b → HasReady T b
+  ready_was b r = let k = set_was rows T n W.sparse D b r.0 r.1 in (k.0, k.1)
+
+  pub none_fly : (b : ℕ) → NoneFlies F b → NoneFlies T b
+  none_fly b none p h on = none (whole rows p) (is rows T p h) on
 
   held_is : (b : ℕ) (q : Patch) → IsHeld T b q → IsHeld F b (whole rows q)
   held_is b q h = record { in_memory = memory_is rows T b q h.in_memory; hard = h.hard; left_out = λ w. h.left_out (set_back rows T n W.sparse D b q h.in_memory.head w) }

@@ -1,7 +1,7 @@
 -- What a graph knows, and what its calls make of it: a row of the definitions among the heads, where no rule refuses, and of the rest what is said here.
 use Rattle.std.specs.Prelude.{◌≡◌, ◌≢◌, ◌⊎◌, ℕ, List, [], ◌∷◌, Option, Some, None, Contains}
 use Rattle.fst_types.specs.{Dependencies.IsBlocked, Forgetting.DiskIsForgotten, Gating.{GateGains, GateIsSealed}, Groups.{Group, IsGroupGate}, Making.{ChangeIsMade, EmptyIsMade, GateIsMade}}
-use Rattle.fst_types.specs.{Order.{room_order, make_order, seal_order, depend_order}, Patches.Patch, Refusals.{Rule, ◌when◌, IsFirst, NoneHolds}, Writable.{IsInMemoryOn, IsWritable, IsWritableSet}}
+use Rattle.fst_types.specs.{Order.{room_order, make_order, seal_order, depend_order}, Patches.{Patch, IsOn}, Refusals.{Rule, ◌when◌, IsFirst, NoneHolds}, Writable.{IsInMemoryOn, IsWritable, IsWritableSet}}
 use Rattle.fst_types.specs.{Writing.{WriteIsLaunched, WriteIsLanded}, declared.fault.Fault.Fault, declared.grade.Grade.Grade, declared.place.Place.Place}
 use Rattle.fst_types.specs.declared.fault.Fault.TheVariants as fault
 use Rattle.fst_types.specs.declared.place.Place.TheVariants as place
@@ -133,6 +133,10 @@ pub record Forgets (old : Known) (dropped : ℕ) (new : Known) : Type 0 where
   pub blocks : new.blocks ≡ old.blocks
   pub groups : new.groups ≡ old.groups
   pub prepared : new.prepared ≡ None
+
+-- nothing of block b is in flight
+abbrev pub NoneFlies : List Patch → ℕ → Type 0
+NoneFlies heads b = (p : Patch) → Contains heads p → IsOn p b → p.place ≢ place.Flight
 
 -- if nothing is in flight, each change in memory waits for an open gate
 abbrev pub IsStuckByGates : List Patch → Type 0

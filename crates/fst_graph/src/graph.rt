@@ -3,7 +3,7 @@
 //! on what is the same by either, as far as it is live. A call of a patch alone is that of the patches with sparse rows; it
 //! leaves the groups as they were, and what holds of them.
 
-ghost use Rattle.std.specs.Prelude.{◌≡◌, ◌<◌, ◌+◌, [], ℕ, Some, None, IfOk, IfErr, OnErr, IfSome, IfNone, OnOk, option_map, MatchResult, count_by};
+ghost use Rattle.std.specs.Prelude.{◌≡◌, ◌↔◌, ◌<◌, ◌+◌, [], ℕ, IsTrue, Some, None, IfOk, IfErr, OnErr, IfSome, IfNone, OnOk, option_map, MatchResult, count_by};
 ghost use Rattle.fst_types.specs.Patches.{Patch};
 ghost use Rattle.fst_types.specs.Groups.{IsGroupGate};
 ghost use Rattle.fst_types.specs.Looks.{place_of, IsPick};
@@ -12,7 +12,7 @@ ghost use Rattle.fst_types.specs.Refusals.{IsFirst};
 ghost use Rattle.fst_types.specs.Writable.{IsWritableSet, HasReady, IsHeld, IsLeastHeld};
 ghost use Rattle.fst_types.specs.Tests.{is_live};
 ghost use Rattle.fst_types.specs.declared.grade.Grade.{Grade};
-ghost use Rattle.fst_graph.specs.Known.{unprepared, prepared_for, outside_groups, Foresees, Refuses, AddsGate, AddsEmpty, AddsChange, SealsGate, DependsGate, Launches, IsStuckByGates, LandsBlock, MayLaunch, Forgets};
+ghost use Rattle.fst_graph.specs.Known.{unprepared, prepared_for, outside_groups, Foresees, Refuses, AddsGate, AddsEmpty, AddsChange, SealsGate, DependsGate, Launches, IsStuckByGates, LandsBlock, MayLaunch, NoneFlies, Forgets};
 ghost use Rattle.fst_heads.specs.Names.{numbers_of};
 
 mod grouping;
@@ -226,6 +226,14 @@ impl Graph {
         ensures same { self.new ≡ unprepared self.old }
     {
         self.sparse.hard_held(block)
+    }
+
+    /// Whether the writable set of the block has a change, where nothing of the block is in flight. It takes no memory, and looks
+    /// at a count.
+    pub fn has_ready(&self, block: BlockNo) -> bool
+        ensures { NoneFlies self.now.heads block.0 → IsTrue result ↔ HasReady self.now.heads block.0 }
+    {
+        self.sparse.has_ready(block)
     }
 
     /// The least writable block, or none where no block is writable. Where nothing is in flight either, each change in

@@ -2,14 +2,14 @@
 //! calls look at the patches that they touch, and at those that depend on these. Between two calls of its own a call of a
 //! group has no group as it should be, so that the groups and what holds of them stand a layer above, in the graph.
 
-ghost use Rattle.std.specs.Prelude.{◌≡◌, [], None, IfOk, IfErr, OnErr, IfSome, IfNone, OnOk, option_map, MatchResult, count_by};
+ghost use Rattle.std.specs.Prelude.{◌≡◌, ◌↔◌, [], None, IsTrue, IfOk, IfErr, OnErr, IfSome, IfNone, OnOk, option_map, MatchResult, count_by};
 ghost use Rattle.fst_types.specs.Patches.{Patch};
 ghost use Rattle.fst_types.specs.Looks.{place_of, IsPick};
 ghost use Rattle.fst_types.specs.Order.{seal_order, depend_order};
 ghost use Rattle.fst_types.specs.Refusals.{IsFirst};
 ghost use Rattle.fst_types.specs.Writable.{IsWritableSet, HasReady, IsHeld, IsLeastHeld};
 ghost use Rattle.fst_types.specs.Tests.{is_live};
-ghost use Rattle.fst_graph.specs.Known.{unprepared, Refuses, SealsGate, DependsGate, Launches, IsStuckByGates, LandsBlock, MayLaunch, Forgets};
+ghost use Rattle.fst_graph.specs.Known.{unprepared, Refuses, SealsGate, DependsGate, Launches, NoneFlies, IsStuckByGates, LandsBlock, MayLaunch, Forgets};
 ghost use Rattle.fst_heads.specs.Names.{numbers_of};
 
 mod adding;
@@ -302,6 +302,16 @@ impl Sparse {
         let marks = marks_if(flying, self.ends.up.walk.marks());
         let held = held_count(&self.standings, block.0);
         first_held(&self.heads, list, marks, held, block.0)
+    }
+
+    /// Whether the writable set of the block has a change, where nothing of the block is in flight. It takes no memory.
+    pub fn has_ready(&self, block: BlockNo) -> bool
+        ensures { NoneFlies self.now.heads block.0 → IsTrue result ↔ HasReady self.now.heads block.0 }
+    {
+        if self.standings.len() <= block.0 as usize {
+            return false;
+        }
+        ready_count(&self.standings, block.0) > 0
     }
 
     /// The least writable block, or none where no block is writable. Where nothing is in flight either, each change in

@@ -1,85 +1,93 @@
 use Rattle.std.proofs.lemmas.List.{length-map}
-use Rattle.std.proofs.Common.{◌≡◌, ◌∙◌, Some, slice_get, is_some, Bool, true, false, sym, arith, ◌≤◌, length, inl, refl}
-use Rattle.std.proofs.lemmas.Option.{slice_get_read}
+use Rattle.std.proofs.Common.{◌≡◌, ◌∙◌, ◌↔◌, Some, IsTrue, slice_get, is_some, false, sym, arith, ◌≤◌, length, inl, refl}
+use Rattle.std.proofs.lemmas.{Bool.false≢true, Option.slice_get_read}
 use Rattle.fst_types.specs.Writable.{HasReady}
 use Rattle.fst_cache.specs.Kept.{state_of}
-use Rattle.fst_cache.proofs.SendRefused.{busy_refused, kept_still, has_ready, none_ready, nothing_ready, sending_refused, sending_clear, on_ok, refused_memory}
-use Rattle.fst_cache.proofs.cache.Cache.choice.Goals.{After-is_none}
+use Rattle.fst_cache.proofs.SendRefused.{at_rest, busy_refused, kept_still, nothing_ready, sending_refused, sending_clear, on_ok, refused_memory}
+use Rattle.fst_cache.proofs.cache.Cache.choice.Goals.{After-has_ready}
 use Rattle.fst_cache.proofs.cache.Cache.choice.Goals as goal
 
-true_false : (x : Bool) → x ≡ true → x ≡ false → ⊥
-true_false x a b = cc
-
 -- the block's seat
-seated : (g : _) (c : After-is_none g) → slice_get c.self.inside.seats.items c.args.block.0 ≡ Some c.index.result.now
+seated : (g : _) (c : After-has_ready g) → slice_get c.self.inside.seats.items c.args.block.0 ≡ Some c.index.result.now
 seated g c = let i = c.self.inside in slice_get_read i.seats.items _ _ _ i.seats.ok.0 (omega (arith, c.if-block-len.false, c.len.ensures)) c.index.ensures
 
 -- nothing of the block is in flight
-idle : (g : _) (c : After-is_none g) → is_some c.index.result.now.block.flight ≡ false
+idle : (g : _) (c : After-has_ready g) → is_some c.index.result.now.block.flight ≡ false
 idle g c = sym c.is_busy.ensures ∙ c.if-is_busy.false
 
--- something may be written
-ready : (g : _) (c : After-is_none g) → c.is_none.result ≡ false → HasReady c.self.inside.graph.heads c.args.block.0
-ready g c some =
-    has_ready (λ v. v.items) c.self.inside.graph.heads c.args.block.0 c.chosen-chosen.result c.chosen-chosen.ensures.ok c.chosen-chosen.ensures.refused (λ none. true_false c.is_none.result (c.is_none.ensures.1 none) some)
+-- whether something may be written is told
+told : (g : _) (c : After-has_ready g) → IsTrue c.has_ready.result ↔ HasReady c.self.inside.graph.heads c.args.block.0
+told g c =
+    let i = c.self.inside in
+    c.has_ready.ensures (at_rest i.size i.residents.most i.tickets i.made i.graph i.contents.items i.seats.items c.args.block.0 c.index.result.now (seated g c) (idle g c) c.self.invariant.kept.lawful)
 
 pub invariant_of-self : goal.invariant_of-self
 invariant_of-self g c =
     let i = c.self.inside in
     record {
-      kept = kept_still i.size i.residents.most i.tickets i.made i.graph c.chosen-chosen.new.self i.contents.items i.seats.items c.chosen-chosen.ensures.same c.self.invariant.kept;
+      kept = kept_still i.size i.residents.most i.tickets i.made i.graph c.hard_held-held.new.self i.contents.items i.seats.items c.hard_held-held.ensures.same c.self.invariant.kept;
       flying = c.self.invariant.flying;
       undoing = c.self.invariant.undoing;
       listed = c.self.invariant.listed;
     }
 
-pub invariant_of-self-2 : goal.invariant_of-self-2
-invariant_of-self-2 g c =
+pub invariant_of-self-in-Some : goal.invariant_of-self-in-Some
+invariant_of-self-in-Some g c =
     let i = c.self.inside in
     record {
-      kept = kept_still i.size i.residents.most i.tickets i.made c.chosen-chosen.new.self c.hard_held-held.new.self i.contents.items i.seats.items c.hard_held-held.ensures.same
-          (kept_still i.size i.residents.most i.tickets i.made i.graph c.chosen-chosen.new.self i.contents.items i.seats.items c.chosen-chosen.ensures.same c.self.invariant.kept);
+      kept = kept_still i.size i.residents.most i.tickets i.made i.graph c.hard_held-held.new.self i.contents.items i.seats.items c.hard_held-held.ensures.same c.self.invariant.kept;
       flying = c.self.invariant.flying;
       undoing = c.self.invariant.undoing;
       listed = c.self.invariant.listed;
     }
 
-pub returns-then-is_none-clause-refused : goal.returns-then-is_none-clause-refused
-returns-then-is_none-clause-refused g c =
+pub invariant_of-self-in-None : goal.invariant_of-self-in-None
+invariant_of-self-in-None g c =
     let i = c.self.inside in
-    let before = (goal.at.returns-then-is_none-clause-refused g c).After-is_none in
+    record {
+      kept = kept_still i.size i.residents.most i.tickets i.made c.hard_held-held.new.self c.chosen.new.self i.contents.items i.seats.items c.chosen.ensures.same
+          (kept_still i.size i.residents.most i.tickets i.made i.graph c.hard_held-held.new.self i.contents.items i.seats.items c.hard_held-held.ensures.same c.self.invariant.kept);
+      flying = c.self.invariant.flying;
+      undoing = c.self.invariant.undoing;
+      listed = c.self.invariant.listed;
+    }
+
+pub returns-then-not-has_ready-clause-refused : goal.returns-then-not-has_ready-clause-refused
+returns-then-not-has_ready-clause-refused g c =
+    let i = c.self.inside in
+    let before = (goal.at.returns-then-not-has_ready-clause-refused g c).After-has_ready in
     rw (← c.self.view_is) (nothing_ready i.size i.residents.most i.tickets i.made i.graph i.contents.items i.seats.items c.args.block.0 c.index.result.now (seated g before) (idle g before)
-    (none_ready (λ v. v.items) i.graph.heads c.args.block.0 c.chosen-chosen.result c.chosen-chosen.ensures.ok (c.is_none.ensures.0 c.if-is_none.true)))
+    (λ ready. false≢true (sym c.if-not-has_ready.true ∙ (told g before).1 ready)))
 
 pub returns-in-Some-clause-refused : goal.returns-in-Some-clause-refused
 returns-in-Some-clause-refused g c =
     let i = c.self.inside in
-    let before = (goal.at.returns-in-Some-clause-refused g c).After-is_none in
+    let before = (goal.at.returns-in-Some-clause-refused g c).After-has_ready in
     rw (← c.self.view_is)
-    (sending_refused i.size i.residents.most i.tickets i.made i.graph i.contents.items i.seats.items c.args.block.0 c.index.result.now (seated g before) (idle g before) (ready g before c.if-is_none.false)
-    c.chosen-chosen.new.self c.hard_held-held.new.self c.chosen-chosen.ensures.same c.hard_held-held.ensures.same c.in-Some.fault c.in-Some.ensures)
+    (sending_refused i.size i.residents.most i.tickets i.made i.graph i.contents.items i.seats.items c.args.block.0 c.index.result.now (seated g before) (idle g before) ((told g before).0 c.if-not-has_ready.false)
+    c.hard_held-held.new.self c.hard_held-held.ensures.same c.in-Some.fault c.in-Some.ensures)
 
-pub returns-clause-clear : goal.returns-clause-clear
-returns-clause-clear g c =
+pub returns-in-None-clause-clear : goal.returns-in-None-clause-clear
+returns-in-None-clause-clear g c =
     let i = c.self.inside in
-    let before = (goal.at.returns-clause-clear g c).After-is_none in
+    let before = (goal.at.returns-in-None-clause-clear g c).After-has_ready in
     rw (← c.self.view_is)
-    (on_ok c.chosen-chosen.result _
-    (sending_clear i.size i.residents.most i.tickets i.made i.graph i.contents.items i.seats.items c.args.block.0 c.index.result.now (seated g before) (idle g before) (ready g before c.if-is_none.false)
-    c.chosen-chosen.new.self c.hard_held-held.new.self c.chosen-chosen.ensures.same c.hard_held-held.ensures.same c.in_default.ensures))
+    (on_ok c.chosen.result _
+    (sending_clear i.size i.residents.most i.tickets i.made i.graph i.contents.items i.seats.items c.args.block.0 c.index.result.now (seated g before) (idle g before) ((told g before).0 c.if-not-has_ready.false)
+    c.hard_held-held.new.self c.hard_held-held.ensures.same c.in-None.ensures))
 
-pub returns-clause-chosen : goal.returns-clause-chosen
-returns-clause-chosen g c = rw (← c.self.view_is) c.chosen-chosen.ensures.ok
+pub returns-in-None-clause-chosen : goal.returns-in-None-clause-chosen
+returns-in-None-clause-chosen g c = rw (← c.self.view_is) (rw c.hard_held-held.ensures.same at c.chosen.ensures.ok)
 
-pub returns-clause-refused : goal.returns-clause-refused
-returns-clause-refused g c =
+pub returns-in-None-clause-refused : goal.returns-in-None-clause-refused
+returns-in-None-clause-refused g c =
     let i = c.self.inside in
-    let before = (goal.at.returns-clause-refused g c).After-is_none in
+    let before = (goal.at.returns-in-None-clause-refused g c).After-has_ready in
     rw (← c.self.view_is)
-    (refused_memory (state_of i.size i.residents.most i.tickets i.made i.graph i.contents.items i.seats.items) c.args.block.0 c.chosen-chosen.result
-    (sending_clear i.size i.residents.most i.tickets i.made i.graph i.contents.items i.seats.items c.args.block.0 c.index.result.now (seated g before) (idle g before) (ready g before c.if-is_none.false)
-    c.chosen-chosen.new.self c.hard_held-held.new.self c.chosen-chosen.ensures.same c.hard_held-held.ensures.same c.in_default.ensures)
-    c.chosen-chosen.ensures.refused)
+    (refused_memory (state_of i.size i.residents.most i.tickets i.made i.graph i.contents.items i.seats.items) c.args.block.0 c.chosen.result
+    (sending_clear i.size i.residents.most i.tickets i.made i.graph i.contents.items i.seats.items c.args.block.0 c.index.result.now (seated g before) (idle g before) ((told g before).0 c.if-not-has_ready.false)
+    c.hard_held-held.new.self c.hard_held-held.ensures.same c.in-None.ensures)
+    (rw c.hard_held-held.ensures.same at c.chosen.ensures.refused))
 
 pub index-requires : goal.index-requires
 index-requires g c = omega (arith, c.if-block-len.false, c.len.ensures)
@@ -98,14 +106,14 @@ returns-then-block-len-clause-same g c = refl
 pub returns-then-is_busy-clause-same : goal.returns-then-is_busy-clause-same
 returns-then-is_busy-clause-same g c = refl
 
-pub returns-then-is_none-clause-same : goal.returns-then-is_none-clause-same
-returns-then-is_none-clause-same g c = rw c.chosen-chosen.ensures.same c.self.view_is
+pub returns-then-not-has_ready-clause-same : goal.returns-then-not-has_ready-clause-same
+returns-then-not-has_ready-clause-same g c = refl
 
 pub returns-in-Some-clause-same : goal.returns-in-Some-clause-same
-returns-in-Some-clause-same g c = rw (c.hard_held-held.ensures.same, c.chosen-chosen.ensures.same) c.self.view_is
+returns-in-Some-clause-same g c = rw c.hard_held-held.ensures.same c.self.view_is
 
-pub returns-clause-same : goal.returns-clause-same
-returns-clause-same g c = rw (c.hard_held-held.ensures.same, c.chosen-chosen.ensures.same) c.self.view_is
+pub returns-in-None-clause-same : goal.returns-in-None-clause-same
+returns-in-None-clause-same g c = rw (c.chosen.ensures.same, c.hard_held-held.ensures.same) c.self.view_is
 
 pub returns-then-is_busy-clause-refused : goal.returns-then-is_busy-clause-refused
 returns-then-is_busy-clause-refused g c =
