@@ -3,3 +3,4 @@ pub mod GivesLemmas
 pub mod NumbersLemmas
 pub mod SendingLemmas
 pub mod ShortLemmas
+pub mod SmallLemmas

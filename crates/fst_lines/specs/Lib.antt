@@ -5,3 +5,4 @@ pub mod Sending
 pub mod Pieces
 pub mod Replies
 pub mod Short
+pub mod Small

@@ -1,10 +1,11 @@
 //! What a script line asks: one JSON object with a member `do` and the members that its command has.
 
-ghost use Rattle.std.specs.Prelude.{◌≡◌, codes, Option, option_map, Some};
+ghost use Rattle.std.specs.Prelude.{◌≡◌, Option, option_map, Some};
 ghost use Rattle.serde_json.specs.Find.{as_object};
 ghost use Rattle.serde_json.specs.View.{view, members_view};
-ghost use Rattle.fst_lines.specs.Commands.{patch_in, empty_in, depend_in, done_in, crash_in, only_number_in, alone_in, group_after_in, group_patch_in, group_command_named, block_command_named, command_named, command_in, command_of};
+ghost use Rattle.fst_lines.specs.Commands.{patch_in, empty_in, depend_in, done_in, crash_in, only_number_in, alone_in, group_after_in, group_patch_in, command_named, command_in, command_of};
 ghost use Rattle.fst_lines.specs.Parsing.{command, Gives, Parses};
+ghost use Rattle.fst_lines.specs.Small.{one_number_in};
 
 use crate::failure::Failure;
 use crate::members::{
@@ -12,6 +13,7 @@ use crate::members::{
     patches_if_any,
 };
 use crate::short::read_short;
+use crate::small::{alone, number_key, on_number};
 use fst_types::{BlockNo, Fault, GroupNo, PatchNo, Ticket};
 use json::Scratch;
 use serde_json::{Map, Value};
@@ -180,6 +182,21 @@ fn group_patch(alloc: Global, value: &Value, members: &Map<String, Value>) -> Re
     })
 }
 
+// A command that has no member.
+fn with_no_member(
+    asked: Command,
+    value: &Value,
+    members: &Map<String, Value>,
+) -> Result<Command, Fault>
+    requires { as_object (view value.now) ≡ Some (members_view members.now.entries) }
+    ensures { Gives command result (alone_in (command asked) (view value.now)) }
+{
+    if !has_only(&["do"], members) {
+        return Err(Fault::BadField);
+    }
+    Ok(asked)
+}
+
 // The number of a command that has no other member.
 fn only_number(value: &Value, members: &Map<String, Value>, name: &str) -> Result<u32, Fault>
     requires { as_object (view value.now) ≡ Some (members_view members.now.entries) }
@@ -191,88 +208,16 @@ fn only_number(value: &Value, members: &Map<String, Value>, name: &str) -> Resul
     number_at(value, name)
 }
 
-// The block of a command that has no other member.
-fn only_block(value: &Value, members: &Map<String, Value>) -> Result<BlockNo, Fault>
+// A command that has one number and no other member.
+fn with_number(name: &str, value: &Value, members: &Map<String, Value>) -> Result<Command, Fault>
     requires { as_object (view value.now) ≡ Some (members_view members.now.entries) }
-    ensures { Gives (λ b. b.0) result (only_number_in (codes "block") (view value.now)) }
+    ensures { Gives command result (one_number_in name.now (view value.now)) }
 {
-    Ok(BlockNo(only_number(value, members, "block")?))
+    let number = only_number(value, members, number_key(name))?;
+    on_number(name, number).ok_or(Fault::BadField)
 }
 
-// The patch of a command that has no other member.
-fn only_patch(value: &Value, members: &Map<String, Value>, name: &str) -> Result<PatchNo, Fault>
-    requires { as_object (view value.now) ≡ Some (members_view members.now.entries) }
-    ensures { Gives (λ p. p.0) result (only_number_in name.now (view value.now)) }
-{
-    Ok(PatchNo(only_number(value, members, name)?))
-}
-
-// A command that has no member.
-fn alone(asked: Command, value: &Value, members: &Map<String, Value>) -> Result<Command, Fault>
-    requires { as_object (view value.now) ≡ Some (members_view members.now.entries) }
-    ensures { Gives command result (alone_in (command asked) (view value.now)) }
-{
-    if !has_only(&["do"], members) {
-        return Err(Fault::BadField);
-    }
-    Ok(asked)
-}
-
-// A command on groups.
-fn group_command_named(
-    alloc: Global,
-    name: &str,
-    value: &Value,
-    members: &Map<String, Value>,
-) -> Result<Command, Fault>
-    requires { as_object (view value.now) ≡ Some (members_view members.now.entries) }
-    ensures { Gives command result (group_command_named name.now (view value.now)) }
-{
-    match name {
-        "group" => alone(Command::GroupNew, value, members),
-        "group_after" => group_after(value, members),
-        "group_patch" => group_patch(alloc, value, members),
-        "group_close" => Ok(Command::GroupClose {
-            group: GroupNo(only_number(value, members, "group")?),
-        }),
-        _ => Err(Fault::BadField),
-    }
-}
-
-// A command on blocks, or one on groups.
-fn block_command_named(
-    alloc: Global,
-    name: &str,
-    value: &Value,
-    members: &Map<String, Value>,
-) -> Result<Command, Fault>
-    requires { as_object (view value.now) ≡ Some (members_view members.now.entries) }
-    ensures { Gives command result (block_command_named name.now (view value.now)) }
-{
-    match name {
-        "choose" => Ok(Command::Choose {
-            block: only_block(value, members)?,
-        }),
-        "pick" => alone(Command::Pick, value, members),
-        "write" => Ok(Command::Write {
-            block: only_block(value, members)?,
-        }),
-        "done" => done(value, members),
-        "retry" => Ok(Command::Retry {
-            block: only_block(value, members)?,
-        }),
-        "evict" => Ok(Command::Evict {
-            block: only_block(value, members)?,
-        }),
-        "show" => Ok(Command::Show {
-            block: only_block(value, members)?,
-        }),
-        "crash" => crash(alloc, value, members),
-        _ => group_command_named(alloc, name, value, members),
-    }
-}
-
-// A command on patches, or one on blocks.
+// A command by its name.
 fn command_named(
     alloc: Global,
     name: &str,
@@ -285,17 +230,15 @@ fn command_named(
     match name {
         "patch" => patch(alloc, value, members),
         "empty" => empty(alloc, value, members),
-        "gate" => alone(Command::Gate, value, members),
         "depend" => depend(alloc, value, members),
-        "seal" => Ok(Command::Seal {
-            gate: only_patch(value, members, "gate")?,
-        }),
-        "place" => Ok(Command::Place {
-            patch: only_patch(value, members, "patch")?,
-        }),
-        "forget" => alone(Command::Forget, value, members),
-        "stat" => alone(Command::Stat, value, members),
-        _ => block_command_named(alloc, name, value, members),
+        "done" => done(value, members),
+        "crash" => crash(alloc, value, members),
+        "group_after" => group_after(value, members),
+        "group_patch" => group_patch(alloc, value, members),
+        _ => match alone(name) {
+            Some(asked) => with_no_member(asked, value, members),
+            None => with_number(name, value, members),
+        },
     }
 }
 

@@ -5,7 +5,7 @@
 //! `command_of` in `specs/Commands.antt`; `parse` gives that command, that refusal, or want of memory.
 //! A line of a change, in a group or in none, of an empty patch, of what a gate gains or of the group that a group comes after,
 //! or with one number or no other member, is read from its tokens first (`short`, `patch_line`, `order_line`; `names` are the
-//! patches that a line names), which says the same.
+//! patches that a line names), which says the same. `small` has the names of commands with one number or no other member.
 //!
 //! A reply is a line of words, decimal numbers and bytes in hex, whose text is a definition too (`specs/Replies.antt`). It
 //! goes out in pieces, through a loop over `write` (`output`, `reply`): so no reply takes memory or has a greatest length,
@@ -23,6 +23,7 @@ pub mod output;
 mod patch_line;
 pub mod reply;
 mod short;
+mod small;
 mod taking;
 
 pub use json::Scratch;

@@ -3,7 +3,8 @@
 ghost use Rattle.std.specs.Prelude.{◌≡◌, ◌++◌, ◌∷◌, [], option_map, codes, decimal};
 ghost use Rattle.fst_lines.specs.Sending.{Sends};
 ghost use Rattle.fst_lines.specs.Parsing.{patch_numbers};
-ghost use Rattle.fst_lines.specs.Replies.{refusal, patch_text, chosen_text, pick_text, flight_text, done_text, stalled_text, lost_text, show_text, place_name, place_text, crash_part};
+ghost use Rattle.fst_lines.specs.Pieces.{text_of_piece};
+ghost use Rattle.fst_lines.specs.Replies.{refusal, refusal_detail, patch_text, chosen_text, pick_text, flight_text, done_text, stalled_text, lost_text, show_text, place_name, place_text, crash_part};
 
 use crate::output::{Piece, Stopped, send_all};
 use fst_types::{BlockNo, Fault, Grade, PatchNo, Place, Ticket, What};
@@ -24,27 +25,15 @@ fn what_name<'a>(what: What) -> &'a str
 
 ghost use Rattle.fst_lines.specs.Replies.{what_name};
 
-// `refused N` and the thing that is full.
-fn send_full<W: Write>(
-    writer: &mut W,
-    calls: &mut u64,
-    number: u8,
-    name: &str,
-) -> Result<(), Stopped>
-    ensures { Sends (W.contents writer.old) (W.contents writer.new) result
-        (codes "refused " ++ decimal number ++ codes " " ++ name.now ++ 10 ∷ []) }
+// What follows the number of a refusal: the patch that is held, or the thing that is full.
+fn detail<'a>(fault: Fault) -> (&'a str, Piece<'a>)
+    ensures { result.0.now ++ text_of_piece result.1 ≡ refusal_detail fault }
 {
-    send_all(
-        writer,
-        calls,
-        &[
-            Piece::Text("refused "),
-            Piece::Number(u64::from(number)),
-            Piece::Text(" "),
-            Piece::Text(name),
-            Piece::Text("\n"),
-        ],
-    )
+    match fault {
+        Fault::HardHeld(patch) => (" held ", Piece::Number(u64::from(patch.0))),
+        Fault::Full(what) => (" ", Piece::Text(what_name(what))),
+        _ => ("", Piece::Text("")),
+    }
 }
 
 /// `refused N`, with the patch that is held or the thing that is full.
@@ -52,29 +41,18 @@ pub fn send_refusal<W: Write>(writer: &mut W, calls: &mut u64, fault: Fault) -> 
     ensures { Sends (W.contents writer.old) (W.contents writer.new) result
         (refusal fault ++ 10 ∷ []) }
 {
-    match fault {
-        Fault::HardHeld(patch) => send_all(
-            writer,
-            calls,
-            &[
-                Piece::Text("refused "),
-                Piece::Number(u64::from(fault.number())),
-                Piece::Text(" held "),
-                Piece::Number(u64::from(patch.0)),
-                Piece::Text("\n"),
-            ],
-        ),
-        Fault::Full(what) => send_full(writer, calls, fault.number(), what_name(what)),
-        _ => send_all(
-            writer,
-            calls,
-            &[
-                Piece::Text("refused "),
-                Piece::Number(u64::from(fault.number())),
-                Piece::Text("\n"),
-            ],
-        ),
-    }
+    let (word, rest) = detail(fault);
+    send_all(
+        writer,
+        calls,
+        &[
+            Piece::Text("refused "),
+            Piece::Number(u64::from(fault.number())),
+            Piece::Text(word),
+            rest,
+            Piece::Text("\n"),
+        ],
+    )
 }
 
 /// A reply that is a word and a number, as `gate N`.
@@ -134,29 +112,22 @@ pub fn send_chosen<W: Write>(
     ensures { Sends (W.contents writer.old) (W.contents writer.new) result
         (chosen_text block.0 (patch_numbers patches.now) ++ 10 ∷ []) }
 {
-    if patches.is_empty() {
-        send_all(
-            writer,
-            calls,
-            &[
-                Piece::Text("chosen "),
-                Piece::Number(u64::from(block.0)),
-                Piece::Text(" none\n"),
-            ],
-        )
+    let word = if patches.is_empty() {
+        " none"
     } else {
-        send_all(
-            writer,
-            calls,
-            &[
-                Piece::Text("chosen "),
-                Piece::Number(u64::from(block.0)),
-                Piece::Text(" patches "),
-                Piece::Patches(patches),
-                Piece::Text("\n"),
-            ],
-        )
-    }
+        " patches "
+    };
+    send_all(
+        writer,
+        calls,
+        &[
+            Piece::Text("chosen "),
+            Piece::Number(u64::from(block.0)),
+            Piece::Text(word),
+            Piece::Patches(patches),
+            Piece::Text("\n"),
+        ],
+    )
 }
 
 /// `pick B`, or `pick none`.

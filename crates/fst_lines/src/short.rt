@@ -9,13 +9,14 @@ ghost use Rattle.std.specs.Prelude.{◌≡◌, ◌∷◌, Some, Ok, IfSome, code
 ghost use Rattle.json.specs.Token.{begin_object, key, string, number};
 ghost use Rattle.fst_lines.specs.Commands.{command_in, command_of};
 ghost use Rattle.fst_lines.specs.Parsing.{command};
-ghost use Rattle.fst_lines.specs.Short.{alone_data, short_data, AsksShort, Asks};
+ghost use Rattle.fst_lines.specs.Short.{short_data, AsksShort, Asks};
 
 use crate::command::Command;
 use crate::order_line::{take_depend, take_empty, take_group_after};
 use crate::patch_line::{take_group_patch, take_patch};
-use crate::taking::{is, take_key, take_number, take_text, takes_begin, takes_end};
-use fst_types::{BlockNo, GroupNo, PatchNo, Ticket};
+use crate::small::{alone, number_key, on_number};
+use crate::taking::{is, take_number, take_text, takes_begin, takes_end, takes_key};
+use fst_types::Ticket;
 use json::{Reader, Scratch, Token};
 use std::alloc::Global;
 
@@ -26,79 +27,10 @@ const LONGEST: usize = 256;
 fn take_name<'a>(reader: &mut Reader<'a>) -> Option<&'a str>
     ensures { IfSome result (λ name. reader.old ≡ begin_object ∷ key (codes "do") ∷ string name.now ∷ reader.new) }
 {
-    if !takes_begin(reader) {
-        return None;
-    }
-    if !is(take_key(reader)?, "do") {
+    if !takes_begin(reader) || !takes_key(reader, "do") {
         return None;
     }
     take_text(reader)
-}
-
-// A command that has no member.
-fn alone(name: &str) -> Option<Command>
-    ensures { IfSome result (λ c. command_in (alone_data name.now) ≡ Some (command c)) }
-{
-    if is(name, "pick") {
-        return Some(Command::Pick);
-    }
-    if is(name, "stat") {
-        return Some(Command::Stat);
-    }
-    if is(name, "gate") {
-        return Some(Command::Gate);
-    }
-    if is(name, "group") {
-        return Some(Command::GroupNew);
-    }
-    if is(name, "forget") {
-        return Some(Command::Forget);
-    }
-    None
-}
-
-// A command on a block.
-fn on_block(name: &str, block: BlockNo) -> Option<Command>
-    ensures { IfSome result (λ c. command_in (short_data name.now (codes "block") block.0) ≡ Some (command c)) }
-{
-    if is(name, "write") {
-        return Some(Command::Write { block });
-    }
-    if is(name, "choose") {
-        return Some(Command::Choose { block });
-    }
-    if is(name, "show") {
-        return Some(Command::Show { block });
-    }
-    if is(name, "evict") {
-        return Some(Command::Evict { block });
-    }
-    if is(name, "retry") {
-        return Some(Command::Retry { block });
-    }
-    None
-}
-
-// A command on something else.
-fn on_number(name: &str, key: &str, number: u32) -> Option<Command>
-    ensures { IfSome result (λ c. command_in (short_data name.now key.now number) ≡ Some (command c)) }
-{
-    if is(key, "block") {
-        return on_block(name, BlockNo(number));
-    }
-    if is(name, "place") && is(key, "patch") {
-        let patch = PatchNo(number);
-        return Some(Command::Place { patch });
-    }
-    if is(name, "seal") && is(key, "gate") {
-        let gate = PatchNo(number);
-        return Some(Command::Seal { gate });
-    }
-    if is(name, "group_close") && is(key, "group") {
-        let group = GroupNo(number);
-        return Some(Command::GroupClose { group });
-    }
-    None
 }
 
 // A command with one number.
@@ -109,10 +41,10 @@ fn numbered(name: &str, key: &str, number: u64) -> Option<Command>
         let ticket = Ticket(number);
         return Some(Command::Done { ticket, fail: None });
     }
-    if number > 4_294_967_295 {
+    if number > 4_294_967_295 || !is(key, number_key(name)) {
         return None;
     }
-    on_number(name, key, number as u32)
+    on_number(name, number as u32)
 }
 
 // What follows the name of a command that has one number or no member, to the end of the line.
@@ -136,22 +68,14 @@ fn take_command(alloc: Global, reader: &mut Reader<'_>) -> Option<Command>
     ensures { IfSome result (λ c. Asks reader.old (command c)) }
 {
     let name = take_name(reader)?;
-    if is(name, "patch") {
-        return take_patch(alloc, reader);
+    match name {
+        "patch" => take_patch(alloc, reader),
+        "empty" => take_empty(alloc, reader),
+        "depend" => take_depend(alloc, reader),
+        "group_patch" => take_group_patch(alloc, reader),
+        "group_after" => take_group_after(reader),
+        _ => take_short(reader, name),
     }
-    if is(name, "empty") {
-        return take_empty(alloc, reader);
-    }
-    if is(name, "depend") {
-        return take_depend(alloc, reader);
-    }
-    if is(name, "group_patch") {
-        return take_group_patch(alloc, reader);
-    }
-    if is(name, "group_after") {
-        return take_group_after(reader);
-    }
-    take_short(reader, name)
 }
 
 /// The command of a line, where it is a short one. It takes what memory the scratch lacks, and answers nothing where that

@@ -1,11 +1,12 @@
 use Rattle.std.proofs.lemmas.Grind.{common_steps}
-use Rattle.std.proofs.Common.{◌<◌, ◌∙◌, Option, Some, is_some, length, get_or, slice_set, refl, sym, ap, inl, inr, arith}
+use Rattle.std.proofs.Common.{◌<◌, ◌∙◌, Option, Some, is_some, length, get_or, slice_set, refl, sym, ap, inl, inr, arith, rules}
 use Rattle.fst_block.specs.BlockView.{BlockView}
 use Rattle.fst_seat.specs.Places.{ResidentsView}
 use Rattle.fst_seat.proofs.Listing.{listed_at, read_noted}
 use Rattle.fst_seat.proofs.Dirty.{read_clean, residents_moved}
 use Rattle.std.proofs.lemmas.Result.{on_ok_weaker}
 use Rattle.fst_seat.proofs.Loading.{none_of, loaded_read, away_placed, rest_placed, length_placed, seat_read, loads_by, there_by, rose_by, quiet_by, counted_by}
+use borrow.Author.Rules.{scaled_Fits}
 use Rattle.fst_seat.proofs.residence.load.Goals as goal
 
 pub load-read-requires : goal.load-read-requires
@@ -93,10 +94,10 @@ returns-clause-listed g c =
     ∙ residents_moved placed c.args.block.0 (get_or placed c.args.block.0 c.index-seats-at-2.result) at_b c.args.residents.now.most c.load-read.new.self c.is_ok.result there still)
 
 pub bounds-seats-at : goal.bounds-seats-at
-bounds-seats-at g c = grind (arith, common_steps)
+bounds-seats-at g c = omega (arith, c.requires.within)
 
 pub bounds-seats-at-2 : goal.bounds-seats-at-2
-bounds-seats-at-2 g c = grind (arith, common_steps)
+bounds-seats-at-2 g c = omega (arith, length_placed _ _ _ c.make_place.ensures.place, c.requires.within)
 
 pub returns-then-is_loaded-clause-away : goal.returns-then-is_loaded-clause-away
 returns-then-is_loaded-clause-away g c = grind (arith, common_steps)
@@ -115,3 +116,20 @@ returns-then-is_loaded-clause-seats g c = inl (loaded_read c.args.seats.now c.ar
 
 pub returns-then-is_loaded-clause-there : goal.returns-then-is_loaded-clause-there
 returns-then-is_loaded-clause-there g c = loaded_read c.args.seats.now c.args.block.0 c.index-seats-at.result c.requires.within (sym c.is_loaded.ensures ∙ c.if-is_loaded.true)
+
+pub offset_bounds-seats-at : goal.offset_bounds-seats-at
+offset_bounds-seats-at g c = scaled_Fits _ _ _ c.requires.within (search rules)
+
+pub offset_bounds-seats-at-2 : goal.offset_bounds-seats-at-2
+offset_bounds-seats-at-2 g c =
+    let lt : c.args.block.0 < length c.make_place.new.seats = omega (arith, length_placed _ _ _ c.make_place.ensures.place, c.requires.within) in
+    scaled_Fits _ _ _ lt (search rules)
+
+pub make_place-requires-clause-listed : goal.make_place-requires-clause-listed
+make_place-requires-clause-listed g c = c.requires.listed
+
+pub returns-then-is_loaded-clause-one_fault : goal.returns-then-is_loaded-clause-one_fault
+returns-then-is_loaded-clause-one_fault g c = inl refl
+
+pub returns-then-is_loaded-clause-no_fault : goal.returns-then-is_loaded-clause-no_fault
+returns-then-is_loaded-clause-no_fault g c = λ _. refl

@@ -1,6 +1,6 @@
 use Rattle.std.proofs.lemmas.List.{length-map}
 use Rattle.std.proofs.lemmas.Grind.{common_steps}
-use Rattle.std.proofs.Common.{◌≡◌, ◌≤◌, ◌∙◌, false, None, is_some, sym, ap, arith, slice_set}
+use Rattle.std.proofs.Common.{◌≡◌, ◌≤◌, ◌∙◌, false, None, is_some, sym, ap, arith, slice_set, rules}
 use Rattle.std.proofs.lemmas.Bool.{ltb-false}
 use Rattle.std.proofs.lemmas.Option.{get_or_from_slice_get}
 use Rattle.fst_seat.specs.Seats.{SeatView, is_dirty_seat}
@@ -9,6 +9,7 @@ use Rattle.fst_seat.specs.Residing.{count_loaded, IsCleanAt}
 use Rattle.fst_seat.proofs.Loading.{none_clean, leaves_by}
 use Rattle.fst_seat.proofs.Listing.{loaded_counted}
 use Rattle.fst_seat.proofs.Dirty.{left_clean, residents_moved}
+use borrow.Author.Rules.{scaled_Fits}
 use Rattle.fst_seat.proofs.residence.make_place.Goals as goal
 
 pub unreachable-requires : goal.unreachable-requires
@@ -39,7 +40,7 @@ pub clean-requires : goal.clean-requires
 clean-requires g c = grind (arith, common_steps)
 
 pub bounds-seats-block : goal.bounds-seats-block
-bounds-seats-block g c = grind (arith, common_steps)
+bounds-seats-block g c = c.in-Some.ensures.within
 
 pub returns-then-has_place-clause-place : goal.returns-then-has_place-clause-place
 returns-then-has_place-clause-place g c = grind (arith, common_steps)
@@ -49,3 +50,6 @@ returns-then-has_place-clause-listed g c = grind (arith, common_steps)
 
 pub remove-requires : goal.remove-requires
 remove-requires g c = rw (ap (λ (v : ResidentsView). v.loaded) c.requires.listed, length-map) c.in-Some.ensures.within
+
+pub offset_bounds-seats-block : goal.offset_bounds-seats-block
+offset_bounds-seats-block g c = scaled_Fits _ _ _ c.in-Some.ensures.within (search rules)

@@ -1,10 +1,12 @@
 use Rattle.std.proofs.lemmas.Grind.{common_steps}
-use Rattle.std.proofs.Common.{◌+◌, ◌-◌, ◌∙◌, cond, refl, sym, ap, arith}
+use Rattle.std.proofs.Common.{◌+◌, ◌-◌, ◌∙◌, cond, refl, sym, ap, arith, rules}
+use Rattle.std.proofs.lemmas.Option.{slice_get_within}
 use Rattle.std.proofs.lemmas.Result.{on_ok_weaker, err_from_is_err_and}
 use Rattle.fst_seat.proofs.Putting.{same_loaded, on_refusal, memory_kind, inside_of, newest_of, puts_of, same_load, read_at, same_counts, counts_after}
 use Rattle.fst_seat.proofs.Putting.{not_failed}
 use Rattle.fst_seat.specs.Places.{ResidentsView}
 use Rattle.fst_seat.proofs.Dirty.{some_dirty, recounted_few, residents_recounted}
+use borrow.Author.Rules.{scaled_Fits}
 use Rattle.fst_seat.proofs.residence.put.Goals as goal
 
 pub returns-in_err-load-clause-kinds : goal.returns-in_err-load-clause-kinds
@@ -69,7 +71,7 @@ returns-clause-listed g c =
     ∙ residents_recounted c.load.new.seats c.args.block.0 _ r.0 c.args.residents.now.most c.apply-put.new.self c.is_dirty-was_dirty.result c.is_dirty.result c.is_dirty-was_dirty.ensures c.is_dirty.ensures there)
 
 pub bounds-seats-block : goal.bounds-seats-block
-bounds-seats-block g c = grind (arith, common_steps)
+bounds-seats-block g c = slice_get_within c.load.new.seats _ _ c.in_ok-load.ensures.there.at
 
 pub returns-in_err-load-clause-put : goal.returns-in_err-load-clause-put
 returns-in_err-load-clause-put g c = let p = err_from_is_err_and c.from_residual.result c.from_residual.ensures.1 in rw p.1 tt
@@ -100,3 +102,9 @@ returns-in_err-load-clause-one_fault g c = c.load.ensures.one_fault
 
 pub apply-put-requires-clause-same_length : goal.apply-put-requires-clause-same_length
 apply-put-requires-clause-same_length g c = c.requires.same_length
+
+pub offset_bounds-seats-block : goal.offset_bounds-seats-block
+offset_bounds-seats-block g c = scaled_Fits _ _ _ (slice_get_within c.load.new.seats _ _ c.in_ok-load.ensures.there.at) (search rules)
+
+pub load-requires-clause-within : goal.load-requires-clause-within
+load-requires-clause-within g c = c.requires.within

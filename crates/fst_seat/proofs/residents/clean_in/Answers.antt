@@ -31,3 +31,6 @@ loop-place-init g c = grind (arith, common_steps)
 
 pub loop-place-smaller : goal.loop-place-smaller
 loop-place-smaller g c = omega (arith, c.loop-place-test.true)
+
+pub offset_bounds-seats-block : goal.offset_bounds-seats-block
+offset_bounds-seats-block g c = let lt = slice_get_within c.args.places.now _ _ c.block_at-block.ensures.block in omega (arith, lt, c.requires.long)
