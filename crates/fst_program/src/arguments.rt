@@ -99,9 +99,9 @@ fn crew_command<'a>(alloc: Global) -> Result<Command<'a>, AllocError>
 fn program_command<'a>(alloc: Global) -> Result<Command<'a>, AllocError>
     ensures { IfOk result (λ c. app_of c ≡ program) }
 {
-    command_about(alloc, "feather", PROGRAM_HELP)
-        .subcommand(play_command(alloc)?)?
-        .subcommand(crew_command(alloc)?)
+    let play = play_command(alloc)?;
+    let program = command_about(alloc, "feather", PROGRAM_HELP).subcommand(play)?;
+    program.subcommand(crew_command(alloc)?)
 }
 
 fn read(matches: &ArgMatches<'_>, id: &str) -> Option<u32>

@@ -40,7 +40,7 @@ pub fn new_block(block: u32) -> [u8; 16] {
     bytes
 }
 
-/// Accounts on a device.
+/// Accounts on a device. What was not synced may be lost when they are let go of.
 #[derive(Drop)]
 pub struct Accounts<S: BlockSlot> {
     cache: Cache<S>,
@@ -61,35 +61,20 @@ impl<S: BlockSlot> Accounts<S> {
     /// The accounts on these slots. Where the newest transfer was committed, it is made good first.
     pub fn open(alloc: Global, slots: Vec<S>) -> Result<Accounts<S>, StoreFault> {
         let shape = Shape::new(BLOCKS, SIZE, BLOCKS)?;
-        let cache = Cache::open(alloc, shape, slots)?;
-        Accounts::over(cache).replayed()
-    }
-
-    // The accounts that a cache has.
-    fn over(cache: Cache<S>) -> Accounts<S> {
-        let mut cache = cache;
-        let share = cache.share();
-        Accounts {
+        let mut cache = Cache::open(alloc, shape, slots)?;
+        let mut accounts = Accounts {
+            share: cache.share(),
             cache,
-            share,
             transfers: 0,
             last: None,
+        };
+        match accounts.replay() {
+            Ok(()) => Ok(accounts),
+            Err(fault) => {
+                drop(accounts);
+                Err(fault)
+            }
         }
-    }
-
-    // The same, the committed transfer made good.
-    fn replayed(self) -> Result<Accounts<S>, StoreFault> {
-        let mut accounts = self;
-        if let Err(fault) = accounts.replay() {
-            drop(accounts);
-            return Err(fault);
-        }
-        Ok(accounts)
-    }
-
-    /// Lets go of the accounts. What was not synced may be lost.
-    pub fn close(self) {
-        drop(self);
     }
 
     // Makes the committed transfer good.
@@ -106,19 +91,15 @@ impl<S: BlockSlot> Accounts<S> {
     }
 
     // Changes both accounts of a transfer, after these patches. The answer is a patch that stands for both changes.
-    fn settle_accounts(
-        &mut self,
-        record: &Record,
-        after: &[PatchNo],
-    ) -> Result<PatchNo, StoreFault> {
+    fn settle_accounts(&mut self, record: &Record, after: &[PatchNo]) -> Result<PatchNo, Fault> {
         let from = self.set(record.from, after)?;
         let to = self.set(record.to, after)?;
-        Ok(self.cache.empty(&mut self.share, &[from, to])?)
+        self.cache.empty(&mut self.share, &[from, to])
     }
 
-    fn set(&mut self, balance: Balance, after: &[PatchNo]) -> Result<PatchNo, StoreFault> {
+    fn set(&mut self, balance: Balance, after: &[PatchNo]) -> Result<PatchNo, Fault> {
         let block = BlockNo(u32::from(balance.block));
-        Ok(self.patch(block, &balance.amount.to_le_bytes(), after)?)
+        self.patch(block, &balance.amount.to_le_bytes(), after)
     }
 
     fn patch(&mut self, block: BlockNo, bytes: &[u8], after: &[PatchNo]) -> Result<PatchNo, Fault> {

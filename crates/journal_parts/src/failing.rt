@@ -31,6 +31,6 @@ pub fn transfers<W: Write>(alloc: Global, out: &mut W) -> Result<(), StoreFault>
     let slots = flaky_slots(alloc)?;
     let mut accounts = Accounts::open(alloc, slots)?;
     let made = make(&mut accounts, out);
-    accounts.close();
+    drop(accounts);
     made
 }

@@ -6,10 +6,11 @@
 use crate::fault::StoreFault;
 use crate::guide::zero_cache;
 use fst_cache::{Cache, Share};
-use fst_device::{BlockSlot, MemorySlot, carry};
-use fst_types::{BlockNo, Fault, GroupNo, PatchNo, Place};
-use journal_calls::two_groups;
+use fst_device::MemorySlot;
+use fst_types::{BlockNo, Fault, PatchNo, Place};
+use journal_calls::{two_groups, write_next};
 use std::alloc::Global;
+use std::io;
 use std::io::Write;
 
 // The journal has the last blocks: whoever wrote the blocks in order would write the homes first.
@@ -28,49 +29,51 @@ const NEW_DIRECTORY: BlockNo = BlockNo(1);
 
 const NODE: BlockNo = BlockNo(2);
 
-/// Makes these changes for a group, each from the start of its block on, and closes the group.
-fn fill<S: BlockSlot>(
-    cache: &mut Cache<S>,
-    share: &mut Share,
-    group: GroupNo,
-    changes: &[(BlockNo, &[u8])],
-) -> Result<(), Fault> {
-    for (block, bytes) in changes {
-        cache.group_patch(share, group, *block, 0, bytes)?;
-    }
-    cache.group_close(group)
-}
-
 /// A transaction: both blocks of its journal record are on disk before either home block is written. The answer is the
 /// gate behind all of it.
 fn transaction(cache: &mut Cache<MemorySlot>, share: &mut Share) -> Result<PatchNo, Fault> {
     let pair = two_groups(cache, share)?;
-    fill(
-        cache,
-        share,
-        pair.first,
-        &[(JOURNAL, b"ab"), (JOURNAL_END, b"cd")],
-    )?;
-    fill(
-        cache,
-        share,
-        pair.second,
-        &[(FIRST_HOME, b"ab"), (SECOND_HOME, b"cd")],
-    )?;
+    cache.group_patch(share, pair.first, JOURNAL, 0, b"ab")?;
+    cache.group_patch(share, pair.first, JOURNAL_END, 0, b"cd")?;
+    cache.group_close(pair.first)?;
+    cache.group_patch(share, pair.second, FIRST_HOME, 0, b"ab")?;
+    cache.group_patch(share, pair.second, SECOND_HOME, 0, b"cd")?;
+    cache.group_close(pair.second)?;
     Ok(pair.tail)
 }
 
 /// A rename into another directory: the new name, and what the node says of it, are on disk before the old name goes.
 fn rename(cache: &mut Cache<MemorySlot>, share: &mut Share) -> Result<PatchNo, Fault> {
     let pair = two_groups(cache, share)?;
-    fill(
-        cache,
-        share,
-        pair.first,
-        &[(NEW_DIRECTORY, b"name"), (NODE, b"moved")],
-    )?;
-    fill(cache, share, pair.second, &[(OLD_DIRECTORY, &[0; 4])])?;
+    cache.group_patch(share, pair.first, NEW_DIRECTORY, 0, b"name")?;
+    cache.group_patch(share, pair.first, NODE, 0, b"moved")?;
+    cache.group_close(pair.first)?;
+    cache.group_patch(share, pair.second, OLD_DIRECTORY, 0, &[0; 4])?;
+    cache.group_close(pair.second)?;
     Ok(pair.tail)
+}
+
+/// What is refused of groups: each after the other, one after another once it has a change, and a change of one that is
+/// closed.
+fn refusals(cache: &mut Cache<MemorySlot>, share: &mut Share) -> Result<[Option<Fault>; 3], Fault> {
+    let pair = two_groups(cache, share)?;
+    let cycle = cache.group_after(pair.first, pair.second).err();
+    cache.group_patch(share, pair.first, JOURNAL, 0, b"ef")?;
+    let third = cache.group_new(share)?;
+    let late = cache.group_after(pair.first, third).err();
+    cache.group_close(pair.first)?;
+    let closed = cache
+        .group_patch(share, pair.first, JOURNAL_END, 0, b"gh")
+        .err();
+    Ok([cycle, late, closed])
+}
+
+/// Tells how a call was refused.
+fn tell<W: Write>(out: &mut W, what: &str, refused: Option<Fault>) -> io::Result<()> {
+    if let Some(fault) = refused {
+        writeln!(out, "{what}: {fault}")?;
+    }
+    Ok(())
 }
 
 /// Writes what may be written, one block at a time, and tells which.
@@ -80,50 +83,9 @@ fn write_all<W: Write>(cache: &mut Cache<MemorySlot>, out: &mut W) -> Result<(),
             break;
         };
         write!(out, " {}", block.0)?;
-        let job = cache.issue(block)?;
-        cache.settle(carry(job))?;
+        write_next(cache)?;
     }
     Ok(())
-}
-
-/// Tells how a call was refused.
-fn tell<T: Drop, W: Write>(
-    out: &mut W,
-    what: &str,
-    answer: Result<T, Fault>,
-) -> Result<(), StoreFault> {
-    if let Err(fault) = answer {
-        writeln!(out, "{what}: {fault}")?;
-    }
-    Ok(())
-}
-
-/// What is refused of the order of groups. The answer is the first of two, which has a change.
-fn refused_orders<W: Write>(
-    cache: &mut Cache<MemorySlot>,
-    share: &mut Share,
-    out: &mut W,
-) -> Result<GroupNo, StoreFault> {
-    let pair = two_groups(cache, share)?;
-    let answer = cache.group_after(pair.first, pair.second);
-    tell(out, "each after the other", answer)?;
-    cache.group_patch(share, pair.first, JOURNAL, 0, b"ef")?;
-    let third = cache.group_new(share)?;
-    let answer = cache.group_after(pair.first, third);
-    tell(out, "after another once it has a change", answer)?;
-    Ok(pair.first)
-}
-
-/// What is refused of groups.
-fn refusals<W: Write>(
-    cache: &mut Cache<MemorySlot>,
-    share: &mut Share,
-    out: &mut W,
-) -> Result<(), StoreFault> {
-    let group = refused_orders(cache, share, out)?;
-    cache.group_close(group)?;
-    let late = cache.group_patch(share, group, JOURNAL_END, 0, b"gh");
-    tell(out, "a change for it once it is closed", late)
 }
 
 /// Writes what may be written, and tells which blocks that were, and where the gate behind them is then.
@@ -140,40 +102,25 @@ fn write_out<W: Write>(
     Ok(())
 }
 
-/// Plays a transaction in two groups, and tells what comes of it.
-fn play_transaction<W: Write>(
-    cache: &mut Cache<MemorySlot>,
-    share: &mut Share,
-    out: &mut W,
-) -> Result<(), StoreFault> {
-    let done = transaction(cache, share)?;
-    let early = cache.issue(FIRST_HOME).map(drop);
-    tell(out, "a home block", early)?;
-    write_out(cache, out, "transaction", done)
-}
-
-/// Plays a rename in two groups, and tells what comes of it.
-fn play_rename<W: Write>(
-    cache: &mut Cache<MemorySlot>,
-    share: &mut Share,
-    out: &mut W,
-) -> Result<(), StoreFault> {
-    let renamed = rename(cache, share)?;
-    write_out(cache, out, "rename", renamed)
-}
-
-/// Plays what there is of groups, and tells what is refused of them.
-fn play_all<W: Write>(cache: &mut Cache<MemorySlot>, out: &mut W) -> Result<(), StoreFault> {
+/// Plays a transaction and a rename, each in two groups, and tells what comes of it, and what is refused of groups.
+fn play<W: Write>(cache: &mut Cache<MemorySlot>, out: &mut W) -> Result<(), StoreFault> {
     let mut share = cache.share();
-    play_transaction(cache, &mut share, out)?;
-    play_rename(cache, &mut share, out)?;
-    refusals(cache, &mut share, out)
+    let done = transaction(cache, &mut share)?;
+    tell(out, "a home block", cache.issue(FIRST_HOME).err())?;
+    write_out(cache, out, "transaction", done)?;
+    let renamed = rename(cache, &mut share)?;
+    write_out(cache, out, "rename", renamed)?;
+    let [cycle, late, closed] = refusals(cache, &mut share)?;
+    tell(out, "each after the other", cycle)?;
+    tell(out, "after another once it has a change", late)?;
+    tell(out, "a change for it once it is closed", closed)?;
+    Ok(())
 }
 
 /// Plays what there is of groups over a cache of four blocks of eight bytes, and tells what is refused of them.
 pub fn groups<W: Write>(alloc: Global, out: &mut W) -> Result<(), StoreFault> {
     let mut cache = zero_cache(alloc, 4, 8)?;
-    let played = play_all(&mut cache, out);
+    let played = play(&mut cache, out);
     drop(cache);
     played
 }

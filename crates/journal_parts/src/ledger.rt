@@ -63,44 +63,24 @@ pub fn slots<R: Files<File = File> + AllocGlobal>(
     Ok(slots)
 }
 
-// What an account has.
-fn tell_balance<R: Print>(
-    rt: &R,
-    accounts: &mut Accounts<FileSlot>,
-    account: u16,
-) -> Result<(), StoreFault> {
-    let balance = accounts.balance(account)?;
-    print!(rt; " {balance}")?;
-    Ok(())
-}
-
 // What all accounts have.
 fn tell<R: Print>(rt: &R, accounts: &mut Accounts<FileSlot>) -> Result<(), StoreFault> {
     let transfers = accounts.transfers();
     print!(rt; "after transfer {transfers}:")?;
     for account in 0..ACCOUNTS as u16 {
-        tell_balance(rt, accounts, account)?;
+        let balance = accounts.balance(account)?;
+        print!(rt; " {balance}")?;
     }
     println!(rt;)?;
     Ok(())
 }
 
-// The account that a word names.
-fn account_of(word: Option<&str>) -> Option<u16> {
-    word?.parse().ok()
-}
-
-// The amount that a word tells.
-fn amount_of(word: Option<&str>) -> Option<u32> {
-    word?.parse().ok()
-}
-
 // The three numbers of a line.
 fn transfer_of(line: &str) -> Option<(u16, u16, u32)> {
     let mut words = line.split_whitespace();
-    let from = account_of(words.next())?;
-    let to = account_of(words.next())?;
-    let amount = amount_of(words.next())?;
+    let from = words.next()?.parse().ok()?;
+    let to = words.next()?.parse().ok()?;
+    let amount = words.next()?.parse().ok()?;
     Some((from, to, amount))
 }
 
@@ -146,6 +126,6 @@ pub fn keep<R: Files<File = File> + Input + Print + AllocGlobal>(
     let slots = slots(rt, name)?;
     let mut accounts = Accounts::open(rt.alloc(), slots)?;
     let played = play(rt, &mut accounts);
-    accounts.close();
+    drop(accounts);
     played
 }
