@@ -4,12 +4,13 @@
 //! and it is let go of in one place.
 
 use crate::same::same_text;
-use fst_cache::{Cache, Share};
+use crate::slots::zero_slots;
+use crate::store::Store;
 use fst_device::MemorySlot;
 use fst_types::{BlockNo, Fault, PatchNo, Place, Shape, What};
 use journal_calls::patch_or_write;
 use journal_parts::groups::groups;
-use journal_parts::guide::{guide, zeros};
+use journal_parts::guide::guide;
 use journal_parts::{Accounts, Balance, FileSlot, Record, StoreFault, slots};
 use std::alloc::Global;
 use std::fs::{self, File};
@@ -86,87 +87,64 @@ fn a_record_is_read_as_it_was_written(rt: HostRuntime) {
     reads(&rt, &[1; 15], None);
 }
 
-// A cache, and the share of the one thread that makes its patches.
-#[derive(Drop)]
-struct Made {
-    cache: Cache<MemorySlot>,
-    share: Share,
+// A change at the start of a block.
+fn patch(
+    rt: &impl Abort,
+    store: &mut Store<MemorySlot>,
+    block: u32,
+    byte: u8,
+    after: &[PatchNo],
+) -> PatchNo {
+    let (made, _) = store
+        .cache
+        .patch(&mut store.share, BlockNo(block), 0, &[byte], after)
+        .expect(rt, "the block has a change");
+    made
 }
 
-impl Model for Made {
-    ghost Value = { Unit {0} };
-
-    ghost view = { λ _. tt };
+// There is no room for the home block.
+fn has_no_room(rt: &impl Abort, store: &mut Store<MemorySlot>, commit: PatchNo) {
+    let refused = store
+        .cache
+        .patch(&mut store.share, BlockNo(0), 0, b"h", &[commit]);
+    assert_eq!(rt; refused, Err(Fault::Full(What::Resident)));
 }
 
-impl Made {
-    fn new(rt: &impl Abort, opened: Option<Cache<MemorySlot>>) -> Made {
-        let mut cache = opened.expect(rt, "the cache opens");
-        let share = cache.share();
-        Made { cache, share }
-    }
-
-    // Of so many blocks of so many zero bytes, of which so many may be in memory.
-    fn of(rt: &impl Abort, alloc: Global, blocks: u32, size: u32, resident: u32) -> Made {
-        let shape = Shape::new(blocks, size, resident).expect(rt, "the shape is within its limits");
-        let slots = zeros(alloc, blocks, size).expect(rt, "there is memory");
-        Made::new(rt, Cache::open(alloc, shape, slots).ok())
-    }
-
-    // Lets go of it. What that takes is proved here, and not in each test.
-    fn end(self) {}
-
-    // A change at the start of a block.
-    fn patch(&mut self, rt: &impl Abort, block: u32, byte: u8, after: &[PatchNo]) -> PatchNo {
-        let (made, _) = self
-            .cache
-            .patch(&mut self.share, BlockNo(block), 0, &[byte], after)
-            .expect(rt, "the block has a change");
-        made
-    }
-
-    // There is no room for the home block.
-    fn has_no_room(&mut self, rt: &impl Abort, commit: PatchNo) {
-        let refused = self
-            .cache
-            .patch(&mut self.share, BlockNo(0), 0, b"h", &[commit]);
-        assert_eq!(rt; refused, Err(Fault::Full(What::Resident)));
-    }
-
-    // Where something is written there is. The answer is its change.
-    fn finds_room(&mut self, rt: &impl Abort, commit: PatchNo) -> PatchNo {
-        patch_or_write(
-            &mut self.cache,
-            &mut self.share,
-            BlockNo(0),
-            0,
-            b"h",
-            &[commit],
-        )
-        .expect(rt, "room is made")
-    }
-
-    // Where a patch is.
-    fn is_at(&self, rt: &impl Abort, patch: PatchNo, expected: Place) {
-        assert_eq!(rt; self.cache.place(patch), Some(expected));
-    }
+// Where something is written there is. The answer is its change.
+fn finds_room(rt: &impl Abort, store: &mut Store<MemorySlot>, commit: PatchNo) -> PatchNo {
+    patch_or_write(
+        &mut store.cache,
+        &mut store.share,
+        BlockNo(0),
+        0,
+        b"h",
+        &[commit],
+    )
+    .expect(rt, "room is made")
 }
 
-fn goes_on(rt: &impl Abort, cache: &mut Made) {
-    let record = cache.patch(rt, 2, b'r', &[]);
-    let commit = cache.patch(rt, 1, b'c', &[record]);
-    cache.has_no_room(rt, commit);
-    let home = cache.finds_room(rt, commit);
-    cache.is_at(rt, record, Place::Disk);
-    cache.is_at(rt, commit, Place::Memory);
-    cache.is_at(rt, home, Place::Memory);
+// Where a patch is.
+fn is_at(rt: &impl Abort, store: &Store<MemorySlot>, patch: PatchNo, expected: Place) {
+    assert_eq!(rt; store.cache.place(patch), Some(expected));
 }
 
+fn goes_on(rt: &impl Abort, store: &mut Store<MemorySlot>) {
+    let record = patch(rt, store, 2, b'r', &[]);
+    let commit = patch(rt, store, 1, b'c', &[record]);
+    has_no_room(rt, store, commit);
+    let home = finds_room(rt, store, commit);
+    is_at(rt, store, record, Place::Disk);
+    is_at(rt, store, commit, Place::Memory);
+    is_at(rt, store, home, Place::Memory);
+}
+
+// Of three blocks two may be in memory.
 #[test]
 fn a_transaction_refused_half_way_goes_on(rt: HostRuntime) {
-    let mut cache = Made::of(&rt, rt.alloc(), 3, 4, 2);
-    goes_on(&rt, &mut cache);
-    cache.end();
+    let slots = zero_slots(&rt, rt.alloc(), 3, 4);
+    let mut store = Store::over(&rt, rt.alloc(), slots, Shape::new(3, 4, 2).ok());
+    goes_on(&rt, &mut store);
+    store.end();
 }
 
 // The accounts of a file.

@@ -8,384 +8,305 @@ mod random;
 mod step;
 mod twin;
 
-use crate::graph::checked::Checked;
-use crate::graph::step::Step::{
-    self, AllAt, At, Byte, Change, Choice, Depend, Empty, Forget, Gate, Land, Launch, Live, Pick,
-    Room, Seal, Write,
-};
-use crate::graph::step::{walk, walk_from};
-use fst_types::{BlockNo, Fault, Grade, PatchNo, Place, Span, What};
-
-const FIRST: PatchNo = PatchNo(1);
-
-const SECOND: PatchNo = PatchNo(2);
-
-const THIRD: PatchNo = PatchNo(3);
-
-const FOURTH: PatchNo = PatchNo(4);
-
-const FIFTH: PatchNo = PatchNo(5);
-
-const HARD: Grade = Grade::Hard;
-
-const SOFT: Grade = Grade::Soft;
-
-const PAIR: Span = Span { at: 0, len: 2 };
+use crate::graph::step::walk_each;
 
 // A block with a hard change, another that needs it, and again the first, which needs that.
-const CYCLE_OF_BLOCKS: &[Step] = &[
-    Byte(0, 0, &[], Ok((FIRST, HARD))),
-    Byte(1, 0, &[FIRST], Ok((SECOND, HARD))),
-    Byte(0, 1, &[SECOND], Ok((THIRD, SOFT))),
-    Choice(0, &[FIRST], None),
-    Choice(1, &[], Some(SECOND)),
-    Launch(0),
-    Live(3),
-    Choice(0, &[], None),
-    Pick(None),
-    Land(0),
-    Write(1, &[SECOND]),
-    Write(0, &[THIRD]),
-];
-
-#[test]
-fn cycle_of_blocks(rt: HostRuntime) {
-    walk(&rt, rt.alloc(), CYCLE_OF_BLOCKS);
-}
+const CYCLE_OF_BLOCKS: &str = "\
+byte 0 0 -> Ok((PatchNo(1), Hard))
+byte 1 0 after 1 -> Ok((PatchNo(2), Hard))
+byte 0 1 after 2 -> Ok((PatchNo(3), Soft))
+chosen 0 -> [PatchNo(1)]
+held 0 -> None
+chosen 1 -> []
+held 1 -> Some(PatchNo(2))
+launch -> Some((BlockNo(0), [PatchNo(1)]))
+live -> 3
+chosen 0 -> []
+held 0 -> None
+pick -> None
+land 0 -> ()
+write 1 -> [PatchNo(2)]
+write 0 -> [PatchNo(3)]
+";
 
 // A change in flight, and behind it, by an empty patch, a change of the same block, and another behind that. One change
 // waits for neither. Past the last block there is nothing to write.
-const BEHIND_A_FLIGHT: &[Step] = &[
-    Byte(0, 0, &[], Ok((FIRST, HARD))),
-    Launch(0),
-    Empty(&[FIRST], Ok(SECOND)),
-    Byte(0, 1, &[SECOND], Ok((THIRD, HARD))),
-    Byte(0, 2, &[], Ok((FOURTH, HARD))),
-    Byte(0, 3, &[THIRD], Ok((FIFTH, HARD))),
-    Choice(0, &[FOURTH], Some(THIRD)),
-    Choice(4, &[], None),
-    Pick(None),
-    Land(0),
-    Choice(0, &[THIRD, FOURTH, FIFTH], None),
-    Write(0, &[THIRD, FOURTH, FIFTH]),
-];
-
-#[test]
-fn behind_a_flight(rt: HostRuntime) {
-    walk(&rt, rt.alloc(), BEHIND_A_FLIGHT);
-}
+const BEHIND_A_FLIGHT: &str = "\
+byte 0 0 -> Ok((PatchNo(1), Hard))
+launch -> Some((BlockNo(0), [PatchNo(1)]))
+empty after 1 -> Ok(PatchNo(2))
+byte 0 1 after 2 -> Ok((PatchNo(3), Hard))
+byte 0 2 -> Ok((PatchNo(4), Hard))
+byte 0 3 after 3 -> Ok((PatchNo(5), Hard))
+chosen 0 -> [PatchNo(4)]
+held 0 -> Some(PatchNo(3))
+chosen 4 -> []
+held 4 -> None
+pick -> None
+land 0 -> ()
+chosen 0 -> [PatchNo(3), PatchNo(4), PatchNo(5)]
+held 0 -> None
+write 0 -> [PatchNo(3), PatchNo(4), PatchNo(5)]
+";
 
 // Two blocks with a hard change each, and then one each that needs the other's first.
-const CROSSWISE_HOLD: &[Step] = &[
-    Byte(0, 0, &[], Ok((FIRST, HARD))),
-    Byte(1, 0, &[], Ok((SECOND, HARD))),
-    Byte(0, 1, &[SECOND], Ok((THIRD, HARD))),
-    Byte(1, 1, &[FIRST], Ok((FOURTH, SOFT))),
-    Choice(0, &[FIRST], Some(THIRD)),
-    Choice(1, &[SECOND], None),
-    Write(1, &[SECOND]),
-    Choice(0, &[FIRST, THIRD], None),
-    Write(0, &[FIRST, THIRD]),
-    Write(1, &[FOURTH]),
-];
-
-#[test]
-fn crosswise_hold(rt: HostRuntime) {
-    walk(&rt, rt.alloc(), CROSSWISE_HOLD);
-}
+const CROSSWISE_HOLD: &str = "\
+byte 0 0 -> Ok((PatchNo(1), Hard))
+byte 1 0 -> Ok((PatchNo(2), Hard))
+byte 0 1 after 2 -> Ok((PatchNo(3), Hard))
+byte 1 1 after 1 -> Ok((PatchNo(4), Soft))
+chosen 0 -> [PatchNo(1)]
+held 0 -> Some(PatchNo(3))
+chosen 1 -> [PatchNo(2)]
+held 1 -> None
+write 1 -> [PatchNo(2)]
+chosen 0 -> [PatchNo(1), PatchNo(3)]
+held 0 -> None
+write 0 -> [PatchNo(1), PatchNo(3)]
+write 1 -> [PatchNo(4)]
+";
 
 // Three blocks with a change each, and edges from the third to the second and from the second to the first. So two edges
 // lead from block 2 to block 0, and none to block 3.
-const PATH_OF_BLOCKS: &[Step] = &[
-    Byte(0, 0, &[], Ok((FIRST, HARD))),
-    Byte(1, 0, &[], Ok((SECOND, HARD))),
-    Byte(2, 0, &[], Ok((THIRD, HARD))),
-    Byte(1, 1, &[FIRST], Ok((FOURTH, HARD))),
-    Byte(2, 1, &[SECOND], Ok((FIFTH, HARD))),
-    Byte(0, 1, &[THIRD], Ok((PatchNo(6), SOFT))),
-    Byte(3, 0, &[THIRD], Ok((PatchNo(7), HARD))),
-];
-
-#[test]
-fn path_of_blocks(rt: HostRuntime) {
-    walk(&rt, rt.alloc(), PATH_OF_BLOCKS);
-}
+const PATH_OF_BLOCKS: &str = "\
+byte 0 0 -> Ok((PatchNo(1), Hard))
+byte 1 0 -> Ok((PatchNo(2), Hard))
+byte 2 0 -> Ok((PatchNo(3), Hard))
+byte 1 1 after 1 -> Ok((PatchNo(4), Hard))
+byte 2 1 after 2 -> Ok((PatchNo(5), Hard))
+byte 0 1 after 3 -> Ok((PatchNo(6), Soft))
+byte 3 0 after 3 -> Ok((PatchNo(7), Hard))
+";
 
 // The third is soft, since it waited for a gate: it makes no edge, and yet what needs it returns to block 0.
-const SOFT_CHANGE_BETWEEN: &[Step] = &[
-    Gate(Ok(FIRST)),
-    Byte(0, 0, &[], Ok((SECOND, HARD))),
-    Byte(1, 0, &[FIRST, SECOND], Ok((THIRD, SOFT))),
-    Seal(FIRST, Ok(())),
-    Byte(1, 1, &[], Ok((FOURTH, HARD))),
-    Byte(0, 1, &[FOURTH], Ok((FIFTH, HARD))),
-    Byte(0, 2, &[THIRD], Ok((PatchNo(6), SOFT))),
-];
+const SOFT_CHANGE_BETWEEN: &str = "\
+gate -> Ok(PatchNo(1))
+byte 0 0 -> Ok((PatchNo(2), Hard))
+byte 1 0 after 1 2 -> Ok((PatchNo(3), Soft))
+seal 1 -> Ok(())
+byte 1 1 -> Ok((PatchNo(4), Hard))
+byte 0 1 after 4 -> Ok((PatchNo(5), Hard))
+byte 0 2 after 3 -> Ok((PatchNo(6), Soft))
+";
 
-#[test]
-fn soft_change_between(rt: HostRuntime) {
-    walk(&rt, rt.alloc(), SOFT_CHANGE_BETWEEN);
-}
-
-const OPEN_GATE_BLOCKS: &[Step] = &[
-    Gate(Ok(FIRST)),
-    Byte(0, 0, &[FIRST], Ok((SECOND, SOFT))),
-    Choice(0, &[], None),
-    Pick(None),
-    At(FIRST, Some(Place::Memory)),
-    Seal(FIRST, Ok(())),
-    At(FIRST, Some(Place::Disk)),
-    Write(0, &[SECOND]),
-];
-
-#[test]
-fn open_gate_blocks(rt: HostRuntime) {
-    walk(&rt, rt.alloc(), OPEN_GATE_BLOCKS);
-}
+const OPEN_GATE_BLOCKS: &str = "\
+gate -> Ok(PatchNo(1))
+byte 0 0 after 1 -> Ok((PatchNo(2), Soft))
+chosen 0 -> []
+held 0 -> None
+pick -> None
+place 1 -> Some(Memory)
+seal 1 -> Ok(())
+place 1 -> Some(Disk)
+write 0 -> [PatchNo(2)]
+";
 
 // The later of two patches lands first.
-const LANDING_ORDER_AGAINST_NUMBER_ORDER: &[Step] = &[
-    Gate(Ok(FIRST)),
-    Byte(0, 0, &[FIRST], Ok((SECOND, SOFT))),
-    Byte(0, 1, &[], Ok((THIRD, HARD))),
-    Write(0, &[THIRD]),
-    At(SECOND, Some(Place::Memory)),
-    Seal(FIRST, Ok(())),
-    Write(0, &[SECOND]),
-    Live(0),
-];
-
-#[test]
-fn landing_order_against_number_order(rt: HostRuntime) {
-    walk(&rt, rt.alloc(), LANDING_ORDER_AGAINST_NUMBER_ORDER);
-}
+const LANDING_ORDER_AGAINST_NUMBER_ORDER: &str = "\
+gate -> Ok(PatchNo(1))
+byte 0 0 after 1 -> Ok((PatchNo(2), Soft))
+byte 0 1 -> Ok((PatchNo(3), Hard))
+write 0 -> [PatchNo(3)]
+place 2 -> Some(Memory)
+seal 1 -> Ok(())
+write 0 -> [PatchNo(2)]
+live -> 0
+";
 
 // A change over the bytes of one in flight waits for it.
-const BUSY_BLOCK: &[Step] = &[
-    Byte(0, 0, &[], Ok((FIRST, HARD))),
-    Launch(0),
-    Byte(0, 0, &[], Ok((SECOND, HARD))),
-    Choice(0, &[], Some(SECOND)),
-    Pick(None),
-    Land(0),
-    Write(0, &[SECOND]),
-];
+const BUSY_BLOCK: &str = "\
+byte 0 0 -> Ok((PatchNo(1), Hard))
+launch -> Some((BlockNo(0), [PatchNo(1)]))
+byte 0 0 -> Ok((PatchNo(2), Hard))
+chosen 0 -> []
+held 0 -> Some(PatchNo(2))
+pick -> None
+land 0 -> ()
+write 0 -> [PatchNo(2)]
+";
 
-#[test]
-fn busy_block(rt: HostRuntime) {
-    walk(&rt, rt.alloc(), BUSY_BLOCK);
-}
-
-const CYCLES_AND_REPEATS: &[Step] = &[
-    Gate(Ok(FIRST)),
-    Byte(0, 0, &[FIRST], Ok((SECOND, SOFT))),
-    Depend(FIRST, &[SECOND], Err(Fault::Cycle)),
-    Depend(FIRST, &[FIRST], Err(Fault::Cycle)),
-    Depend(SECOND, &[FIRST], Err(Fault::NotGate)),
-    Byte(1, 0, &[], Ok((THIRD, HARD))),
-    Depend(FIRST, &[THIRD], Ok(())),
-    Seal(FIRST, Ok(())),
-    Seal(FIRST, Err(Fault::Sealed)),
-    Depend(FIRST, &[], Err(Fault::Sealed)),
-    At(FIRST, Some(Place::Memory)),
-    Write(1, &[THIRD]),
-    At(FIRST, Some(Place::Disk)),
-    Write(0, &[SECOND]),
-];
-
-#[test]
-fn cycles_and_repeats(rt: HostRuntime) {
-    walk(&rt, rt.alloc(), CYCLES_AND_REPEATS);
-}
+const CYCLES_AND_REPEATS: &str = "\
+gate -> Ok(PatchNo(1))
+byte 0 0 after 1 -> Ok((PatchNo(2), Soft))
+depend 1 after 2 -> Err(Cycle)
+depend 1 after 1 -> Err(Cycle)
+depend 2 after 1 -> Err(NotGate)
+byte 1 0 -> Ok((PatchNo(3), Hard))
+depend 1 after 3 -> Ok(())
+seal 1 -> Ok(())
+seal 1 -> Err(Sealed)
+depend 1 -> Err(Sealed)
+place 1 -> Some(Memory)
+write 1 -> [PatchNo(3)]
+place 1 -> Some(Disk)
+write 0 -> [PatchNo(2)]
+";
 
 // A cycle through the change of another block, and the order in which `depend` refuses.
-const REFUSALS_OF_DEPEND: &[Step] = &[
-    Gate(Ok(FIRST)),
-    Byte(0, 0, &[FIRST], Ok((SECOND, SOFT))),
-    Byte(1, 0, &[SECOND], Ok((THIRD, SOFT))),
-    Depend(PatchNo(0), &[FIRST; 65], Err(Fault::NoPatch)),
-    Depend(PatchNo(9), &[FIRST; 65], Err(Fault::NoPatch)),
-    Depend(SECOND, &[FIRST; 65], Err(Fault::NotGate)),
-    Depend(FIRST, &[PatchNo(9); 65], Err(Fault::BadField)),
-    Depend(FIRST, &[THIRD, PatchNo(9)], Err(Fault::NoPatch)),
-    Depend(FIRST, &[THIRD], Err(Fault::Cycle)),
-    Depend(FIRST, &[], Ok(())),
-];
-
-#[test]
-fn refusals_of_depend(rt: HostRuntime) {
-    walk(&rt, rt.alloc(), REFUSALS_OF_DEPEND);
-}
+const REFUSALS_OF_DEPEND: &str = "\
+gate -> Ok(PatchNo(1))
+byte 0 0 after 1 -> Ok((PatchNo(2), Soft))
+byte 1 0 after 2 -> Ok((PatchNo(3), Soft))
+depend 0 after 1*65 -> Err(NoPatch)
+depend 9 after 1*65 -> Err(NoPatch)
+depend 2 after 1*65 -> Err(NotGate)
+depend 1 after 9*65 -> Err(BadField)
+depend 1 after 3 9 -> Err(NoPatch)
+depend 1 after 3 -> Err(Cycle)
+depend 1 -> Ok(())
+";
 
 // A cycle through a sealed gate and an empty patch. What no longer waits for the gate closes none.
-const CYCLE_THROUGH_A_SEALED_GATE: &[Step] = &[
-    Gate(Ok(FIRST)),
-    Gate(Ok(SECOND)),
-    Depend(SECOND, &[FIRST], Ok(())),
-    Seal(SECOND, Ok(())),
-    Empty(&[SECOND], Ok(THIRD)),
-    Byte(0, 0, &[THIRD], Ok((FOURTH, SOFT))),
-    Depend(FIRST, &[FOURTH], Err(Fault::Cycle)),
-    Depend(FIRST, &[SECOND], Err(Fault::Cycle)),
-    Byte(1, 0, &[], Ok((PatchNo(5), HARD))),
-    Depend(FIRST, &[PatchNo(5)], Ok(())),
-];
-
-#[test]
-fn cycle_through_a_sealed_gate(rt: HostRuntime) {
-    walk(&rt, rt.alloc(), CYCLE_THROUGH_A_SEALED_GATE);
-}
+const CYCLE_THROUGH_A_SEALED_GATE: &str = "\
+gate -> Ok(PatchNo(1))
+gate -> Ok(PatchNo(2))
+depend 2 after 1 -> Ok(())
+seal 2 -> Ok(())
+empty after 2 -> Ok(PatchNo(3))
+byte 0 0 after 3 -> Ok((PatchNo(4), Soft))
+depend 1 after 4 -> Err(Cycle)
+depend 1 after 2 -> Err(Cycle)
+byte 1 0 -> Ok((PatchNo(5), Hard))
+depend 1 after 5 -> Ok(())
+";
 
 // A name that is given again counts once.
-const REPEATED_NAMES: &[Step] = &[
-    Gate(Ok(FIRST)),
-    Byte(2, 0, &[], Ok((SECOND, HARD))),
-    Depend(FIRST, &[SECOND; 64], Ok(())),
-    Depend(FIRST, &[SECOND], Ok(())),
-    Seal(FIRST, Ok(())),
-    Byte(0, 0, &[FIRST; 3], Ok((THIRD, HARD))),
-    Empty(&[THIRD, FIRST, THIRD], Ok(FOURTH)),
-    AllAt(&[FIRST, FOURTH], Place::Memory),
-    Write(2, &[SECOND]),
-    At(FIRST, Some(Place::Disk)),
-    Write(0, &[THIRD]),
-    At(FOURTH, Some(Place::Disk)),
-];
+const REPEATED_NAMES: &str = "\
+gate -> Ok(PatchNo(1))
+byte 2 0 -> Ok((PatchNo(2), Hard))
+depend 1 after 2*64 -> Ok(())
+depend 1 after 2 -> Ok(())
+seal 1 -> Ok(())
+byte 0 0 after 1 1 1 -> Ok((PatchNo(3), Hard))
+empty after 3 1 3 -> Ok(PatchNo(4))
+place 1 -> Some(Memory)
+place 4 -> Some(Memory)
+write 2 -> [PatchNo(2)]
+place 1 -> Some(Disk)
+write 0 -> [PatchNo(3)]
+place 4 -> Some(Disk)
+";
 
-#[test]
-fn repeated_names(rt: HostRuntime) {
-    walk(&rt, rt.alloc(), REPEATED_NAMES);
-}
+const CASCADE_THROUGH_AN_EMPTY_PATCH: &str = "\
+byte 0 0 -> Ok((PatchNo(1), Hard))
+byte 1 0 -> Ok((PatchNo(2), Hard))
+empty after 1 2 -> Ok(PatchNo(3))
+byte 2 0 after 3 -> Ok((PatchNo(4), Hard))
+chosen 2 -> []
+held 2 -> Some(PatchNo(4))
+write 0 -> [PatchNo(1)]
+place 3 -> Some(Memory)
+write 1 -> [PatchNo(2)]
+place 3 -> Some(Disk)
+write 2 -> [PatchNo(4)]
+";
 
-const CASCADE_THROUGH_AN_EMPTY_PATCH: &[Step] = &[
-    Byte(0, 0, &[], Ok((FIRST, HARD))),
-    Byte(1, 0, &[], Ok((SECOND, HARD))),
-    Empty(&[FIRST, SECOND], Ok(THIRD)),
-    Byte(2, 0, &[THIRD], Ok((FOURTH, HARD))),
-    Choice(2, &[], Some(FOURTH)),
-    Write(0, &[FIRST]),
-    At(THIRD, Some(Place::Memory)),
-    Write(1, &[SECOND]),
-    At(THIRD, Some(Place::Disk)),
-    Write(2, &[FOURTH]),
-];
+const FORGETTING: &str = "\
+byte 0 0 -> Ok((PatchNo(1), Hard))
+forget -> 0
+write 0 -> [PatchNo(1)]
+forget -> 1
+place 1 -> Some(Disk)
+seal 1 -> Err(NotGate)
+depend 1 -> Err(NotGate)
+place 2 -> None
+live -> 0
+byte 0 0 after 1 -> Ok((PatchNo(2), Hard))
+write 0 -> [PatchNo(2)]
+";
 
-#[test]
-fn cascade_through_an_empty_patch(rt: HostRuntime) {
-    walk(&rt, rt.alloc(), CASCADE_THROUGH_AN_EMPTY_PATCH);
-}
-
-const FORGETTING: &[Step] = &[
-    Byte(0, 0, &[], Ok((FIRST, HARD))),
-    Forget(0),
-    Write(0, &[FIRST]),
-    Forget(1),
-    At(FIRST, Some(Place::Disk)),
-    Seal(FIRST, Err(Fault::NotGate)),
-    Depend(FIRST, &[], Err(Fault::NotGate)),
-    At(SECOND, None),
-    Live(0),
-    Byte(0, 0, &[FIRST], Ok((SECOND, HARD))),
-    Write(0, &[SECOND]),
-];
-
-#[test]
-fn forgetting(rt: HostRuntime) {
-    walk(&rt, rt.alloc(), FORGETTING);
-}
-
-const ROOM_ANSWERS_WHAT_ADD_DATA_WILL: &[Step] = &[
-    Byte(0, 0, &[], Ok((FIRST, HARD))),
-    Room(0, PAIR, &[FIRST], Ok((SECOND, HARD))),
-    At(SECOND, None),
-    Change(0, PAIR, &[FIRST], Ok((SECOND, HARD))),
-    At(SECOND, Some(Place::Memory)),
-];
-
-#[test]
-fn room_answers_what_add_data_will(rt: HostRuntime) {
-    walk(&rt, rt.alloc(), ROOM_ANSWERS_WHAT_ADD_DATA_WILL);
-}
+const ROOM_ANSWERS_WHAT_ADD_DATA_WILL: &str = "\
+byte 0 0 -> Ok((PatchNo(1), Hard))
+room 0 after 1 -> Ok((PatchNo(2), Hard))
+place 2 -> None
+pair 0 after 1 -> Ok((PatchNo(2), Hard))
+place 2 -> Some(Memory)
+";
 
 // Another call between `room` and `add_data`, a refused `room`, and another change than the one prepared.
-const ROOM_AND_ANOTHER_CALL: &[Step] = &[
-    Byte(0, 0, &[], Ok((FIRST, HARD))),
-    Room(1, PAIR, &[FIRST], Ok((SECOND, HARD))),
-    Pick(Some(BlockNo(0))),
-    Change(1, PAIR, &[FIRST], Ok((SECOND, HARD))),
-    Room(2, PAIR, &[FIRST], Ok((THIRD, HARD))),
-    Room(2, PAIR, &[PatchNo(9)], Err(Fault::NoPatch)),
-    Change(2, PAIR, &[FIRST], Ok((THIRD, HARD))),
-    Room(3, PAIR, &[FIRST], Ok((FOURTH, HARD))),
-    Byte(3, 0, &[], Ok((FOURTH, HARD))),
-    Change(3, PAIR, &[FIRST], Ok((FIFTH, HARD))),
+const ROOM_AND_ANOTHER_CALL: &str = "\
+byte 0 0 -> Ok((PatchNo(1), Hard))
+room 1 after 1 -> Ok((PatchNo(2), Hard))
+pick -> Some(BlockNo(0))
+pair 1 after 1 -> Ok((PatchNo(2), Hard))
+room 2 after 1 -> Ok((PatchNo(3), Hard))
+room 2 after 9 -> Err(NoPatch)
+pair 2 after 1 -> Ok((PatchNo(3), Hard))
+room 3 after 1 -> Ok((PatchNo(4), Hard))
+byte 3 0 -> Ok((PatchNo(4), Hard))
+pair 3 after 1 -> Ok((PatchNo(5), Hard))
+";
+
+const LIVE_PATCHES: &str = "\
+live -> 0
+byte 0 0 -> Ok((PatchNo(1), Hard))
+empty after 1 -> Ok(PatchNo(2))
+empty -> Ok(PatchNo(3))
+live -> 2
+launch -> Some((BlockNo(0), [PatchNo(1)]))
+live -> 2
+land 0 -> ()
+live -> 0
+";
+
+const LIMIT_OF_NAMES: &str = "\
+gate -> Ok(PatchNo(1))
+empty after 1*64 -> Ok(PatchNo(2))
+empty after 1*65 -> Err(BadField)
+empty after 9*65 -> Err(BadField)
+empty after 3 -> Err(NoPatch)
+empty after 0 -> Err(NoPatch)
+byte 0 0 after 1*64 -> Ok((PatchNo(3), Soft))
+byte 0 0 after 1*65 -> Err(BadField)
+";
+
+const LIMIT_OF_HEADS: &str = "\
+empties 65535
+empty -> Err(Full(Heads))
+gate -> Err(Full(Heads))
+empty after 65536 -> Err(NoPatch)
+forget -> 65535
+empty -> Ok(PatchNo(65536))
+";
+
+const ONE_NUMBER_LEFT: &str = "\
+gate -> Ok(PatchNo(4294967295))
+gate -> Err(Full(Numbers))
+";
+
+const NO_NUMBER_LEFT: &str = "\
+gate -> Err(Full(Numbers))
+empty after 1 -> Err(Full(Numbers))
+byte 0 0 -> Err(Full(Numbers))
+place 4294967295 -> Some(Disk)
+place 0 -> None
+";
+
+const ROWS: &[(u32, &str)] = &[
+    (0, CYCLE_OF_BLOCKS),
+    (0, BEHIND_A_FLIGHT),
+    (0, CROSSWISE_HOLD),
+    (0, PATH_OF_BLOCKS),
+    (0, SOFT_CHANGE_BETWEEN),
+    (0, OPEN_GATE_BLOCKS),
+    (0, LANDING_ORDER_AGAINST_NUMBER_ORDER),
+    (0, BUSY_BLOCK),
+    (0, CYCLES_AND_REPEATS),
+    (0, REFUSALS_OF_DEPEND),
+    (0, CYCLE_THROUGH_A_SEALED_GATE),
+    (0, REPEATED_NAMES),
+    (0, CASCADE_THROUGH_AN_EMPTY_PATCH),
+    (0, FORGETTING),
+    (0, ROOM_ANSWERS_WHAT_ADD_DATA_WILL),
+    (0, ROOM_AND_ANOTHER_CALL),
+    (0, LIVE_PATCHES),
+    (0, LIMIT_OF_NAMES),
+    (0, LIMIT_OF_HEADS),
+    (4_294_967_294, ONE_NUMBER_LEFT),
+    (4_294_967_295, NO_NUMBER_LEFT),
 ];
 
 #[test]
-fn room_and_another_call(rt: HostRuntime) {
-    walk(&rt, rt.alloc(), ROOM_AND_ANOTHER_CALL);
-}
-
-const LIVE_PATCHES: &[Step] = &[
-    Live(0),
-    Byte(0, 0, &[], Ok((FIRST, HARD))),
-    Empty(&[FIRST], Ok(SECOND)),
-    Empty(&[], Ok(THIRD)),
-    Live(2),
-    Launch(0),
-    Live(2),
-    Land(0),
-    Live(0),
-];
-
-#[test]
-fn live_patches(rt: HostRuntime) {
-    walk(&rt, rt.alloc(), LIVE_PATCHES);
-}
-
-const LIMIT_OF_NAMES: &[Step] = &[
-    Gate(Ok(FIRST)),
-    Empty(&[FIRST; 64], Ok(SECOND)),
-    Empty(&[FIRST; 65], Err(Fault::BadField)),
-    Empty(&[PatchNo(9); 65], Err(Fault::BadField)),
-    Empty(&[THIRD], Err(Fault::NoPatch)),
-    Empty(&[PatchNo(0)], Err(Fault::NoPatch)),
-    Byte(0, 0, &[FIRST; 64], Ok((THIRD, SOFT))),
-    Byte(0, 0, &[FIRST; 65], Err(Fault::BadField)),
-];
-
-#[test]
-fn limit_of_names(rt: HostRuntime) {
-    walk(&rt, rt.alloc(), LIMIT_OF_NAMES);
-}
-
-#[test]
-fn limit_of_heads(rt: HostRuntime) {
-    let mut graph = Checked::new(&rt, rt.alloc(), 0);
-    graph.empties(&rt, 65_535);
-    let full = Fault::Full(What::Heads);
-    graph.empty(&rt, &[], Err(full));
-    graph.gate(&rt, Err(full));
-    graph.empty(&rt, &[PatchNo(65_536)], Err(Fault::NoPatch));
-    graph.forget(&rt, 65_535);
-    graph.empty(&rt, &[], Ok(PatchNo(65_536)));
-    graph.end();
-}
-
-const NUMBERS: Fault = Fault::Full(What::Numbers);
-
-const ONE_NUMBER_LEFT: &[Step] = &[Gate(Ok(PatchNo(4_294_967_295))), Gate(Err(NUMBERS))];
-
-const NO_NUMBER_LEFT: &[Step] = &[
-    Gate(Err(NUMBERS)),
-    Empty(&[FIRST], Err(NUMBERS)),
-    Byte(0, 0, &[], Err(NUMBERS)),
-    At(PatchNo(4_294_967_295), Some(Place::Disk)),
-    At(PatchNo(0), None),
-];
-
-#[test]
-fn limit_of_numbers(rt: HostRuntime) {
-    walk_from(&rt, rt.alloc(), 4_294_967_294, ONE_NUMBER_LEFT);
-    walk_from(&rt, rt.alloc(), 4_294_967_295, NO_NUMBER_LEFT);
+fn rows_of_patches(rt: HostRuntime) {
+    walk_each(&rt, rt.alloc(), ROWS);
 }

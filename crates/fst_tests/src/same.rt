@@ -11,20 +11,6 @@ pub fn same<T: PartialEq + Debug>(rt: &impl Abort, answer: &T, expected: &T) {
     assert_eq!(rt; answer, expected);
 }
 
-/// The number of a new patch.
-pub fn same_number(
-    rt: &impl Abort,
-    made: Result<PatchNo, Fault>,
-    expected: Result<PatchNo, Fault>,
-) {
-    same(rt, &made, &expected);
-}
-
-/// The number of a new group.
-pub fn same_group(rt: &impl Abort, made: Result<GroupNo, Fault>, expected: Result<GroupNo, Fault>) {
-    same(rt, &made, &expected);
-}
-
 /// The number and the grade of a new change.
 pub fn same_change(
     rt: &impl Abort,
@@ -44,24 +30,9 @@ pub fn same_patches(rt: &impl Abort, block: BlockNo, chosen: &[PatchNo], expecte
     same(rt, &(block, chosen), &(block, expected));
 }
 
-/// The least hard patch that a block holds.
-pub fn same_held(
-    rt: &impl Abort,
-    block: BlockNo,
-    held: Option<PatchNo>,
-    expected: Option<PatchNo>,
-) {
-    same(rt, &(block, held), &(block, expected));
-}
-
 /// A block, or none.
 pub fn same_block(rt: &impl Abort, block: Option<BlockNo>, expected: Option<BlockNo>) {
     same(rt, &block, &expected);
-}
-
-/// Where a patch is.
-pub fn same_place(rt: &impl Abort, no: PatchNo, place: Option<Place>, expected: Option<Place>) {
-    same(rt, &(no, place), &(no, expected));
 }
 
 /// How many there are.
@@ -79,19 +50,9 @@ pub fn same_bytes(rt: &impl Abort, bytes: &[u8], expected: &[u8]) {
     same(rt, &bytes, &expected);
 }
 
-/// A text.
-pub fn same_text(rt: &impl Abort, text: &str, expected: &str) {
-    same(rt, &text, &expected);
-}
-
 /// A ticket.
 pub fn same_ticket(rt: &impl Abort, ticket: Ticket, expected: u64) {
     same(rt, &ticket.0, &expected);
-}
-
-/// What came of a write.
-pub fn same_settled(rt: &impl Abort, settled: Option<Settled>, expected: Settled) {
-    same(rt, &settled, &Some(expected));
 }
 
 /// What a cache counts.
@@ -102,9 +63,4 @@ pub fn same_stat(rt: &impl Abort, stat: Stat, expected: Stat) {
 /// A number, or none.
 pub fn same_record(rt: &impl Abort, record: Option<u32>, expected: Option<u32>) {
     same(rt, &record, &expected);
-}
-
-/// A sum.
-pub fn same_sum(rt: &impl Abort, sum: u64, expected: u64) {
-    same(rt, &sum, &expected);
 }

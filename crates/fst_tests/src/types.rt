@@ -1,6 +1,6 @@
 //! Each plain function of the types once, on its happy path.
 
-use crate::same::{same_answer, same_bytes, same_count, same_fault, same_text};
+use crate::same::{same, same_answer, same_bytes, same_count, same_fault};
 use fst_types::{Fault, Items, Noted, PatchNo, Shape, What, Write, fold_over, write_over};
 use std::alloc::{AllocError, Global};
 use std::process::Abort;
@@ -36,7 +36,7 @@ fn numbers_of_faults(rt: HostRuntime) {
 // What a fault says.
 fn says(rt: &impl Abort, alloc: Global, fault: Fault, expected: &str) {
     let text = format!(in alloc; "{fault}").expect(rt, "there is memory");
-    same_text(rt, &text, expected);
+    same(rt, &text.as_str(), &expected);
 }
 
 // A text says what is held or full, and what to do.

@@ -4,7 +4,7 @@
 ghost use Rattle.std.specs.Prelude.{◌≡◌, ◌≤◌, ◌+◌, length};
 
 use crate::block::choice::{Change, is_choice, is_newest, leave_out};
-use crate::same::{same_bytes, same_sum};
+use crate::same::{same, same_bytes};
 use fst_block::Block;
 use fst_types::{Grade, Noted, PatchNo, Span};
 use std::alloc::Global;
@@ -97,7 +97,7 @@ impl Twin {
 
     /// How many undo bytes there are.
     pub fn keeps(&self, rt: &impl Abort, expected: u64) {
-        same_sum(rt, self.block.undo_bytes(), expected);
+        same(rt, &self.block.undo_bytes(), &expected);
     }
 
     /// Whether there is no patch.

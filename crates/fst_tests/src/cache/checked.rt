@@ -3,8 +3,8 @@
 //! each `?` a test's proof has one more path, on which all that the test holds is dropped.
 
 use crate::same::{
-    same_answer, same_block, same_bytes, same_change, same_count, same_fault, same_number,
-    same_patches, same_place, same_settled, same_stat, same_ticket,
+    same, same_answer, same_block, same_bytes, same_change, same_count, same_fault, same_patches,
+    same_stat, same_ticket,
 };
 use fst_cache::{Cache, Flight, Share, Stat};
 use fst_device::{Done, Job, MemorySlot, carry};
@@ -101,12 +101,12 @@ impl Checked {
 
     /// A new gate.
     pub fn gate(&mut self, rt: &impl Abort, expected: Result<PatchNo, Fault>) {
-        same_number(rt, self.cache.gate(&mut self.share), expected);
+        same(rt, &self.cache.gate(&mut self.share), &expected);
     }
 
     /// A new empty patch.
     pub fn empty(&mut self, rt: &impl Abort, after: &[PatchNo], expected: Result<PatchNo, Fault>) {
-        same_number(rt, self.cache.empty(&mut self.share, after), expected);
+        same(rt, &self.cache.empty(&mut self.share, after), &expected);
     }
 
     /// A gate gains names.
@@ -137,7 +137,7 @@ impl Checked {
 
     /// Where a patch is.
     pub fn place(&self, rt: &impl Abort, no: u32, expected: Option<Place>) {
-        same_place(rt, PatchNo(no), self.cache.place(PatchNo(no)), expected);
+        same(rt, &(no, self.cache.place(PatchNo(no))), &(no, expected));
     }
 
     /// The block that waits for a retry.
@@ -225,7 +225,7 @@ impl Checked {
 
     /// Carries a job, and the cache settles it.
     pub fn settle(&mut self, rt: &impl Abort, job: Job<MemorySlot>, expected: Settled) {
-        same_settled(rt, self.cache.settle(carry(job)).ok(), expected);
+        same(rt, &self.cache.settle(carry(job)).ok(), &Some(expected));
     }
 
     /// The cache hands a completion back as a stranger, as it came: of this ticket, block and image.

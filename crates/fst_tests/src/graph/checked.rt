@@ -1,13 +1,10 @@
-//! A graph over blocks of four bytes, each call of which is compared with the answer that the test names. The contracts
-//! here say nothing, so that a long test carries no facts from call to call, and nothing here answers with a `Result`:
-//! after each `?` a test's proof has one more path, on which all that the test holds is dropped.
+//! A graph over blocks of four bytes. The contracts here say nothing, so that a long test carries no facts from call to call,
+//! and nothing here answers with an error of its own: after each `?` a test's proof has one more path, on which all that the
+//! test holds is dropped.
 
 ghost use Rattle.std.specs.Prelude.{◌≡◌, ◌<◌};
 
-use crate::same::{
-    same_answer, same_block, same_change, same_count, same_group, same_held, same_number,
-    same_patches, same_place,
-};
+use crate::same::same;
 use fst_graph::Graph;
 use fst_types::{BlockNo, Fault, Grade, GroupNo, PatchNo, Place, Shape, Span};
 use std::alloc::Global;
@@ -40,14 +37,9 @@ impl Model for Checked {
 }
 
 impl Checked {
-    /// No patch, over four blocks, the numbers up to the given one counting as on disk and forgotten.
-    pub fn new(rt: &impl Abort, alloc: Global, numbers: u32) -> Checked {
-        Checked::made(alloc, 4, numbers).expect(rt, "there is memory")
-    }
-
-    /// No patch, over so many blocks.
-    pub fn over(rt: &impl Abort, alloc: Global, blocks: u32) -> Checked {
-        Checked::made(alloc, blocks, 0).expect(rt, "there is memory")
+    /// No patch, over so many blocks, the numbers up to the given one counting as on disk and forgotten.
+    pub fn new(rt: &impl Abort, alloc: Global, blocks: u32, numbers: u32) -> Checked {
+        Checked::made(alloc, blocks, numbers).expect(rt, "there is memory")
     }
 
     fn made(alloc: Global, blocks: u32, numbers: u32) -> Result<Checked, Fault> {
@@ -62,19 +54,19 @@ impl Checked {
     }
 
     /// A new gate.
-    pub fn gate(&mut self, rt: &impl Abort, expected: Result<PatchNo, Fault>) {
-        same_number(rt, self.graph.add_gate(), expected);
+    pub fn gate(&mut self) -> Result<PatchNo, Fault> {
+        self.graph.add_gate()
     }
 
     /// A new empty patch.
-    pub fn empty(&mut self, rt: &impl Abort, after: &[PatchNo], expected: Result<PatchNo, Fault>) {
-        same_number(rt, self.graph.add_empty(after), expected);
+    pub fn empty(&mut self, after: &[PatchNo]) -> Result<PatchNo, Fault> {
+        self.graph.add_empty(after)
     }
 
     /// So many empty patches, the first of all.
     pub fn empties(&mut self, rt: &impl Abort, count: u32) {
         for before in 0..count {
-            self.empty(rt, &[], Ok(PatchNo(before.saturating_add(1))));
+            same(rt, &self.empty(&[]), &Ok(PatchNo(before.saturating_add(1))));
         }
     }
 
@@ -85,10 +77,9 @@ impl Checked {
         block: u32,
         span: Span,
         after: &[PatchNo],
-        expected: Result<(PatchNo, Grade), Fault>,
-    ) {
+    ) -> Result<(PatchNo, Grade), Fault> {
         let block = one_of(rt, self.blocks, block);
-        same_change(rt, self.graph.add_data(block, span, after), expected);
+        self.graph.add_data(block, span, after)
     }
 
     /// What `room` foresees.
@@ -98,50 +89,37 @@ impl Checked {
         block: u32,
         span: Span,
         after: &[PatchNo],
-        expected: Result<(PatchNo, Grade), Fault>,
-    ) {
+    ) -> Result<(PatchNo, Grade), Fault> {
         let block = one_of(rt, self.blocks, block);
-        same_change(rt, self.graph.room(block, span, after), expected);
+        self.graph.room(block, span, after)
     }
 
     /// Seals a gate.
-    pub fn seal(&mut self, rt: &impl Abort, gate: PatchNo, expected: Result<(), Fault>) {
-        same_answer(rt, self.graph.seal(gate), expected);
+    pub fn seal(&mut self, gate: PatchNo) -> Result<(), Fault> {
+        self.graph.seal(gate)
     }
 
     /// A gate gains names.
-    pub fn depend(
-        &mut self,
-        rt: &impl Abort,
-        gate: PatchNo,
-        on: &[PatchNo],
-        expected: Result<(), Fault>,
-    ) {
-        same_answer(rt, self.graph.depend(gate, on), expected);
+    pub fn depend(&mut self, gate: PatchNo, on: &[PatchNo]) -> Result<(), Fault> {
+        self.graph.depend(gate, on)
     }
 
     /// A new group.
-    pub fn group(&mut self, rt: &impl Abort, expected: Result<GroupNo, Fault>) {
-        same_group(rt, self.graph.group_new(), expected);
+    pub fn group(&mut self) -> Result<GroupNo, Fault> {
+        self.graph.group_new()
     }
 
     /// So many groups, the first of all.
     pub fn groups(&mut self, rt: &impl Abort, count: u32) {
         for before in 0..count {
             let head = before.saturating_mul(2).saturating_add(1);
-            self.group(rt, Ok(GroupNo(head)));
+            same(rt, &self.group(), &Ok(GroupNo(head)));
         }
     }
 
     /// A group comes after another.
-    pub fn group_after(
-        &mut self,
-        rt: &impl Abort,
-        group: GroupNo,
-        on: GroupNo,
-        expected: Result<(), Fault>,
-    ) {
-        same_answer(rt, self.graph.group_after(group, on), expected);
+    pub fn group_after(&mut self, group: GroupNo, on: GroupNo) -> Result<(), Fault> {
+        self.graph.group_after(group, on)
     }
 
     /// A change of some bytes for a group.
@@ -151,10 +129,9 @@ impl Checked {
         group: GroupNo,
         block: u32,
         span: Span,
-        expected: Result<(PatchNo, Grade), Fault>,
-    ) {
+    ) -> Result<(PatchNo, Grade), Fault> {
         let block = one_of(rt, self.blocks, block);
-        same_change(rt, self.graph.group_patch(group, block, span), expected);
+        self.graph.group_patch(group, block, span)
     }
 
     /// What `group_room` foresees of a change for a group.
@@ -164,69 +141,53 @@ impl Checked {
         group: GroupNo,
         block: u32,
         span: Span,
-        expected: Result<(PatchNo, Grade), Fault>,
-    ) {
+    ) -> Result<(PatchNo, Grade), Fault> {
         let block = one_of(rt, self.blocks, block);
-        same_change(rt, self.graph.group_room(group, block, span), expected);
+        self.graph.group_room(group, block, span)
     }
 
     /// Closes a group.
-    pub fn group_close(&mut self, rt: &impl Abort, group: GroupNo, expected: Result<(), Fault>) {
-        same_answer(rt, self.graph.group_close(group), expected);
+    pub fn group_close(&mut self, group: GroupNo) -> Result<(), Fault> {
+        self.graph.group_close(group)
     }
 
     /// Where a patch is.
-    pub fn place(&self, rt: &impl Abort, no: PatchNo, expected: Option<Place>) {
-        same_place(rt, no, self.graph.place(no), expected);
+    pub fn place(&self, no: PatchNo) -> Option<Place> {
+        self.graph.place(no)
     }
 
-    /// Where some patches are, all at one place.
-    pub fn places(&self, rt: &impl Abort, patches: &[PatchNo], expected: Place) {
+    // Some patches are all at one place.
+    fn are_at(&self, rt: &impl Abort, patches: &[PatchNo], place: Place) {
         for no in patches {
-            self.place(rt, *no, Some(expected));
+            same(rt, &(*no, self.place(*no)), &(*no, Some(place)));
         }
     }
 
     /// How many patches are not on disk.
-    pub fn live(&self, rt: &impl Abort, expected: usize) {
-        same_count(rt, self.graph.live() as usize, expected);
+    pub fn live(&self) -> u32 {
+        self.graph.live()
     }
 
-    /// Forgets so many patches.
-    pub fn forget(&mut self, rt: &impl Abort, expected: usize) {
-        same_count(rt, self.graph.forget() as usize, expected);
+    /// Forgets the patches on disk, and answers how many they were.
+    pub fn forget(&mut self) -> u32 {
+        self.graph.forget()
     }
 
     /// The least writable block.
-    pub fn pick(&mut self, rt: &impl Abort, expected: Option<BlockNo>) {
-        same_block(rt, self.graph.pick(), expected);
+    pub fn pick(&mut self) -> Option<BlockNo> {
+        self.graph.pick()
     }
 
     /// The block's writable set.
-    pub fn chosen(&mut self, rt: &impl Abort, block: u32, expected: &[PatchNo]) {
-        let chosen = self
-            .graph
+    pub fn chosen(&mut self, rt: &impl Abort, block: u32) -> Vec<PatchNo> {
+        self.graph
             .chosen(BlockNo(block))
-            .expect(rt, "there is memory");
-        same_patches(rt, BlockNo(block), &chosen, expected);
+            .expect(rt, "there is memory")
     }
 
     /// The least hard patch that the block holds.
-    pub fn held(&mut self, rt: &impl Abort, block: u32, expected: Option<PatchNo>) {
-        let block = BlockNo(block);
-        same_held(rt, block, self.graph.hard_held(block), expected);
-    }
-
-    /// The block's writable set, and the least hard patch that it holds.
-    pub fn choice(
-        &mut self,
-        rt: &impl Abort,
-        block: u32,
-        expected: &[PatchNo],
-        held: Option<PatchNo>,
-    ) {
-        self.chosen(rt, block, expected);
-        self.held(rt, block, held);
+    pub fn held(&mut self, block: u32) -> Option<PatchNo> {
+        self.graph.hard_held(BlockNo(block))
     }
 
     /// Puts the least writable block in flight, and answers which it is, and with which patches.
@@ -239,26 +200,25 @@ impl Checked {
         Some((block, chosen))
     }
 
-    /// Puts the least writable block in flight, which is this one.
-    pub fn launch(&mut self, rt: &impl Abort, expected: u32) {
-        let Some((block, chosen)) = self.launch_next(rt) else {
-            rt.panic("a block may be written")
-        };
-        same_block(rt, Some(block), Some(BlockNo(expected)));
-        drop(chosen);
-    }
-
     /// Lands what is in flight of the block.
     pub fn land(&mut self, block: u32) {
         self.graph.land(BlockNo(block));
     }
 
-    /// Puts the least writable block in flight, which is this one with these patches, and lands it.
-    pub fn write(&mut self, rt: &impl Abort, block: u32, patches: &[PatchNo]) {
-        self.chosen(rt, block, patches);
-        self.launch(rt, block);
-        self.places(rt, patches, Place::Flight);
+    /// Puts the least writable block in flight, which is this one, with its writable set, and lands it. The set comes back.
+    pub fn write(&mut self, rt: &impl Abort, block: u32) -> Vec<PatchNo> {
+        let patches = self.chosen(rt, block);
+        let Some((launched, chosen)) = self.launch_next(rt) else {
+            rt.panic("a block may be written")
+        };
+        same(
+            rt,
+            &(launched, chosen.as_slice()),
+            &(BlockNo(block), patches.as_slice()),
+        );
+        self.are_at(rt, &patches, Place::Flight);
         self.land(block);
-        self.places(rt, patches, Place::Disk);
+        self.are_at(rt, &patches, Place::Disk);
+        patches
     }
 }

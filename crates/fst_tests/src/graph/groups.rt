@@ -1,214 +1,175 @@
 //! Groups: what their calls answer, and what becomes of their gates.
 
-use crate::graph::checked::Checked;
-use crate::graph::step::Step::{
-    self, AllAt, At, Choice, Depend, Empty, Forget, Gate, Group, GroupAfter, GroupClose, GroupRoom,
-    Live, Member, Pick, Seal, Write,
-};
-use crate::graph::step::{walk, walk_from};
-use fst_types::{BlockNo, Fault, Grade, GroupNo, PatchNo, Place, What};
-
-const FIRST: GroupNo = GroupNo(1);
-
-const SECOND: GroupNo = GroupNo(3);
-
-const THIRD: GroupNo = GroupNo(5);
-
-const HARD: Grade = Grade::Hard;
-
-const SOFT: Grade = Grade::Soft;
+use crate::graph::step::walk_each;
 
 // Two groups, the second after the first: its change waits until the first is closed and on disk.
-const GROUPS_IN_ORDER: &[Step] = &[
-    Group(Ok(FIRST)),
-    Group(Ok(SECOND)),
-    GroupAfter(SECOND, FIRST, Ok(())),
-    Member(SECOND, 1, 0, Ok((PatchNo(5), SOFT))),
-    Member(FIRST, 0, 0, Ok((PatchNo(6), HARD))),
-    GroupAfter(FIRST, SECOND, Err(Fault::GroupBegun)),
-    Write(0, &[PatchNo(6)]),
-    Choice(1, &[], None),
-    Member(FIRST, 2, 0, Ok((PatchNo(7), HARD))),
-    GroupClose(FIRST, Ok(())),
-    Choice(1, &[], None),
-    Write(2, &[PatchNo(7)]),
-    Write(1, &[PatchNo(5)]),
-];
-
-#[test]
-fn groups_in_order(rt: HostRuntime) {
-    walk(&rt, rt.alloc(), GROUPS_IN_ORDER);
-}
+const GROUPS_IN_ORDER: &str = "\
+group -> Ok(GroupNo(1))
+group -> Ok(GroupNo(3))
+group_after 3 1 -> Ok(())
+member 3 1 0 -> Ok((PatchNo(5), Soft))
+member 1 0 0 -> Ok((PatchNo(6), Hard))
+group_after 1 3 -> Err(GroupBegun)
+write 0 -> [PatchNo(6)]
+chosen 1 -> []
+held 1 -> None
+member 1 2 0 -> Ok((PatchNo(7), Hard))
+group_close 1 -> Ok(())
+chosen 1 -> []
+held 1 -> None
+write 2 -> [PatchNo(7)]
+write 1 -> [PatchNo(5)]
+";
 
 // A change that would depend on the tail of its own group is refused, and leaves the head open.
-const MEMBER_THAT_REACHES_ITS_OWN_TAIL: &[Step] = &[
-    Group(Ok(FIRST)),
-    Group(Ok(SECOND)),
-    GroupAfter(SECOND, FIRST, Ok(())),
-    Member(SECOND, 1, 0, Ok((PatchNo(5), SOFT))),
-    GroupRoom(FIRST, 1, 0, Err(Fault::Cycle)),
-    Member(FIRST, 1, 0, Err(Fault::Cycle)),
-    At(PatchNo(1), Some(Place::Memory)),
-    GroupRoom(FIRST, 1, 1, Ok((PatchNo(6), HARD))),
-    At(PatchNo(1), Some(Place::Memory)),
-    Member(FIRST, 1, 1, Ok((PatchNo(6), HARD))),
-    At(PatchNo(1), Some(Place::Disk)),
-    GroupClose(FIRST, Ok(())),
-    Write(1, &[PatchNo(5), PatchNo(6)]),
-];
-
-#[test]
-fn member_that_reaches_its_own_tail(rt: HostRuntime) {
-    walk(&rt, rt.alloc(), MEMBER_THAT_REACHES_ITS_OWN_TAIL);
-}
+const MEMBER_THAT_REACHES_ITS_OWN_TAIL: &str = "\
+group -> Ok(GroupNo(1))
+group -> Ok(GroupNo(3))
+group_after 3 1 -> Ok(())
+member 3 1 0 -> Ok((PatchNo(5), Soft))
+group_room 1 1 0 -> Err(Cycle)
+member 1 1 0 -> Err(Cycle)
+place 1 -> Some(Memory)
+group_room 1 1 1 -> Ok((PatchNo(6), Hard))
+place 1 -> Some(Memory)
+member 1 1 1 -> Ok((PatchNo(6), Hard))
+place 1 -> Some(Disk)
+group_close 1 -> Ok(())
+write 1 -> [PatchNo(5), PatchNo(6)]
+";
 
 // A group whose changes were forgotten gets more, and its tail comes after them. Closed, it gets none.
-const GROUP_WHOSE_CHANGES_WERE_FORGOTTEN: &[Step] = &[
-    Group(Ok(FIRST)),
-    Member(FIRST, 0, 0, Ok((PatchNo(3), HARD))),
-    Write(0, &[PatchNo(3)]),
-    Forget(2),
-    Member(FIRST, 0, 0, Ok((PatchNo(4), HARD))),
-    Group(Ok(THIRD)),
-    GroupAfter(THIRD, FIRST, Ok(())),
-    Member(THIRD, 1, 0, Ok((PatchNo(7), SOFT))),
-    GroupClose(FIRST, Ok(())),
-    Member(FIRST, 2, 0, Err(Fault::Sealed)),
-    Member(SECOND, 2, 0, Err(Fault::NoPatch)),
-    Choice(1, &[], None),
-    Write(0, &[PatchNo(4)]),
-    At(PatchNo(2), Some(Place::Disk)),
-    Pick(Some(BlockNo(1))),
-    Write(1, &[PatchNo(7)]),
-];
-
-#[test]
-fn group_whose_changes_were_forgotten(rt: HostRuntime) {
-    walk(&rt, rt.alloc(), GROUP_WHOSE_CHANGES_WERE_FORGOTTEN);
-}
+const GROUP_WHOSE_CHANGES_WERE_FORGOTTEN: &str = "\
+group -> Ok(GroupNo(1))
+member 1 0 0 -> Ok((PatchNo(3), Hard))
+write 0 -> [PatchNo(3)]
+forget -> 2
+member 1 0 0 -> Ok((PatchNo(4), Hard))
+group -> Ok(GroupNo(5))
+group_after 5 1 -> Ok(())
+member 5 1 0 -> Ok((PatchNo(7), Soft))
+group_close 1 -> Ok(())
+member 1 2 0 -> Err(Sealed)
+member 3 2 0 -> Err(NoPatch)
+chosen 1 -> []
+held 1 -> None
+write 0 -> [PatchNo(4)]
+place 2 -> Some(Disk)
+pick -> Some(BlockNo(1))
+write 1 -> [PatchNo(7)]
+";
 
 // Three groups without changes, each after the one before it: none can come after the last, nor after itself.
-const GROUPS_WITHOUT_CHANGES: &[Step] = &[
-    Group(Ok(FIRST)),
-    Group(Ok(SECOND)),
-    Group(Ok(THIRD)),
-    GroupAfter(SECOND, FIRST, Ok(())),
-    GroupAfter(THIRD, SECOND, Ok(())),
-    GroupAfter(FIRST, THIRD, Err(Fault::Cycle)),
-    GroupAfter(FIRST, FIRST, Err(Fault::Cycle)),
-    GroupAfter(THIRD, FIRST, Ok(())),
-    GroupClose(THIRD, Ok(())),
-    GroupClose(SECOND, Ok(())),
-    Live(6),
-    GroupClose(FIRST, Ok(())),
-    Live(0),
-    Forget(6),
-];
-
-#[test]
-fn groups_without_changes(rt: HostRuntime) {
-    walk(&rt, rt.alloc(), GROUPS_WITHOUT_CHANGES);
-}
+const GROUPS_WITHOUT_CHANGES: &str = "\
+group -> Ok(GroupNo(1))
+group -> Ok(GroupNo(3))
+group -> Ok(GroupNo(5))
+group_after 3 1 -> Ok(())
+group_after 5 3 -> Ok(())
+group_after 1 5 -> Err(Cycle)
+group_after 1 1 -> Err(Cycle)
+group_after 5 1 -> Ok(())
+group_close 5 -> Ok(())
+group_close 3 -> Ok(())
+live -> 6
+group_close 1 -> Ok(())
+live -> 0
+forget -> 6
+";
 
 // A tail waits for its head, and a head for the tails of the groups before it, as changes do that name them.
-const GATES_OF_GROUPS_WAIT: &[Step] = &[
-    Group(Ok(FIRST)),
-    Group(Ok(SECOND)),
-    GroupAfter(SECOND, FIRST, Ok(())),
-    GroupClose(SECOND, Ok(())),
-    Empty(&[PatchNo(4)], Ok(PatchNo(5))),
-    Empty(&[PatchNo(3)], Ok(PatchNo(6))),
-    AllAt(
-        &[
-            PatchNo(1),
-            PatchNo(2),
-            PatchNo(3),
-            PatchNo(4),
-            PatchNo(5),
-            PatchNo(6),
-        ],
-        Place::Memory,
-    ),
-    GroupClose(FIRST, Ok(())),
-    Live(0),
-];
-
-#[test]
-fn gates_of_groups_wait(rt: HostRuntime) {
-    walk(&rt, rt.alloc(), GATES_OF_GROUPS_WAIT);
-}
+const GATES_OF_GROUPS_WAIT: &str = "\
+group -> Ok(GroupNo(1))
+group -> Ok(GroupNo(3))
+group_after 3 1 -> Ok(())
+group_close 3 -> Ok(())
+empty after 4 -> Ok(PatchNo(5))
+empty after 3 -> Ok(PatchNo(6))
+place 1 -> Some(Memory)
+place 2 -> Some(Memory)
+place 3 -> Some(Memory)
+place 4 -> Some(Memory)
+place 5 -> Some(Memory)
+place 6 -> Some(Memory)
+group_close 1 -> Ok(())
+live -> 0
+";
 
 // The gates of a group are none to the calls of gates, also where they are on disk or forgotten.
-const GATES_OF_GROUPS_ARE_NOT_NAMED: &[Step] = &[
-    Group(Ok(FIRST)),
-    Gate(Ok(PatchNo(3))),
-    Seal(PatchNo(1), Err(Fault::NotGate)),
-    Depend(PatchNo(1), &[PatchNo(3); 65], Err(Fault::NotGate)),
-    Seal(PatchNo(2), Err(Fault::NotGate)),
-    Depend(PatchNo(2), &[PatchNo(3); 65], Err(Fault::NotGate)),
-    Depend(PatchNo(3), &[PatchNo(2)], Ok(())),
-    Seal(PatchNo(0), Err(Fault::NoPatch)),
-    Seal(PatchNo(3), Ok(())),
-    GroupClose(FIRST, Ok(())),
-    Seal(PatchNo(1), Err(Fault::NotGate)),
-    Forget(3),
-    Seal(PatchNo(2), Err(Fault::NotGate)),
-    Depend(PatchNo(1), &[], Err(Fault::NotGate)),
-];
-
-#[test]
-fn gates_of_groups_are_not_named(rt: HostRuntime) {
-    walk(&rt, rt.alloc(), GATES_OF_GROUPS_ARE_NOT_NAMED);
-}
+const GATES_OF_GROUPS_ARE_NOT_NAMED: &str = "\
+group -> Ok(GroupNo(1))
+gate -> Ok(PatchNo(3))
+seal 1 -> Err(NotGate)
+depend 1 after 3*65 -> Err(NotGate)
+seal 2 -> Err(NotGate)
+depend 2 after 3*65 -> Err(NotGate)
+depend 3 after 2 -> Ok(())
+seal 0 -> Err(NoPatch)
+seal 3 -> Ok(())
+group_close 1 -> Ok(())
+seal 1 -> Err(NotGate)
+forget -> 3
+seal 2 -> Err(NotGate)
+depend 1 -> Err(NotGate)
+";
 
 // Of two reasons the first decides. A group that is closed, and forgotten, may be named as the one before.
-const REFUSALS_OF_GROUPS: &[Step] = &[
-    Group(Ok(FIRST)),
-    GroupAfter(FIRST, SECOND, Err(Fault::NoPatch)),
-    GroupAfter(SECOND, FIRST, Err(Fault::NoPatch)),
-    GroupAfter(GroupNo(2), FIRST, Err(Fault::NoPatch)),
-    GroupClose(GroupNo(0), Err(Fault::NoPatch)),
-    GroupClose(GroupNo(2), Err(Fault::NoPatch)),
-    GroupClose(FIRST, Ok(())),
-    GroupClose(FIRST, Err(Fault::Sealed)),
-    GroupAfter(FIRST, FIRST, Err(Fault::Sealed)),
-    GroupAfter(FIRST, SECOND, Err(Fault::NoPatch)),
-    Forget(2),
-    Group(Ok(SECOND)),
-    GroupAfter(SECOND, FIRST, Ok(())),
-    GroupClose(SECOND, Ok(())),
-    Live(0),
+const REFUSALS_OF_GROUPS: &str = "\
+group -> Ok(GroupNo(1))
+group_after 1 3 -> Err(NoPatch)
+group_after 3 1 -> Err(NoPatch)
+group_after 2 1 -> Err(NoPatch)
+group_close 0 -> Err(NoPatch)
+group_close 2 -> Err(NoPatch)
+group_close 1 -> Ok(())
+group_close 1 -> Err(Sealed)
+group_after 1 1 -> Err(Sealed)
+group_after 1 3 -> Err(NoPatch)
+forget -> 2
+group -> Ok(GroupNo(3))
+group_after 3 1 -> Ok(())
+group_close 3 -> Ok(())
+live -> 0
+";
+
+const TWO_NUMBERS_LEFT: &str = "\
+group -> Ok(GroupNo(4294967294))
+group -> Err(Full(Numbers))
+";
+
+const ONE_NUMBER_LEFT: &str = "\
+group -> Err(Full(Numbers))
+";
+
+const LIMIT_OF_GROUPS: &str = "\
+groups 4096
+group -> Err(Full(Groups))
+gate -> Ok(PatchNo(8193))
+";
+
+// A group takes two patches.
+const TWO_HEADS_ARE_NOT_LEFT: &str = "\
+empties 65534
+group -> Err(Full(Heads))
+forget -> 65534
+group -> Ok(GroupNo(65535))
+";
+
+const ROWS: &[(u32, &str)] = &[
+    (0, GROUPS_IN_ORDER),
+    (0, MEMBER_THAT_REACHES_ITS_OWN_TAIL),
+    (0, GROUP_WHOSE_CHANGES_WERE_FORGOTTEN),
+    (0, GROUPS_WITHOUT_CHANGES),
+    (0, GATES_OF_GROUPS_WAIT),
+    (0, GATES_OF_GROUPS_ARE_NOT_NAMED),
+    (0, REFUSALS_OF_GROUPS),
+    (4_294_967_293, TWO_NUMBERS_LEFT),
+    (4_294_967_294, ONE_NUMBER_LEFT),
+    (0, LIMIT_OF_GROUPS),
+    (0, TWO_HEADS_ARE_NOT_LEFT),
 ];
 
 #[test]
-fn refusals_of_groups(rt: HostRuntime) {
-    walk(&rt, rt.alloc(), REFUSALS_OF_GROUPS);
-}
-
-#[test]
-fn limit_of_groups(rt: HostRuntime) {
-    let mut graph = Checked::new(&rt, rt.alloc(), 0);
-    graph.groups(&rt, 4_096);
-    graph.group(&rt, Err(Fault::Full(What::Groups)));
-    graph.gate(&rt, Ok(PatchNo(8_193)));
-    graph.end();
-}
-
-const NUMBERS: Fault = Fault::Full(What::Numbers);
-
-const TWO_NUMBERS_LEFT: &[Step] = &[Group(Ok(GroupNo(4_294_967_294))), Group(Err(NUMBERS))];
-
-const ONE_NUMBER_LEFT: &[Step] = &[Group(Err(NUMBERS))];
-
-// A group takes two patches and two numbers.
-#[test]
-fn limits_of_what_a_group_takes(rt: HostRuntime) {
-    walk_from(&rt, rt.alloc(), 4_294_967_293, TWO_NUMBERS_LEFT);
-    walk_from(&rt, rt.alloc(), 4_294_967_294, ONE_NUMBER_LEFT);
-    let mut graph = Checked::new(&rt, rt.alloc(), 0);
-    graph.empties(&rt, 65_534);
-    graph.group(&rt, Err(Fault::Full(What::Heads)));
-    graph.forget(&rt, 65_534);
-    graph.group(&rt, Ok(GroupNo(65_535)));
-    graph.end();
+fn rows_of_groups(rt: HostRuntime) {
+    walk_each(&rt, rt.alloc(), ROWS);
 }

@@ -1,93 +1,76 @@
 //! Changes of groups: what they depend on, how they are graded, and when there is none.
 
-use crate::graph::step::Step::{
-    self, At, Byte, Choice, Group, GroupAfter, GroupClose, GroupRoom, Live, Member, Write,
-};
-use crate::graph::step::walk;
-use fst_types::{Fault, Grade, GroupNo, PatchNo, Place};
-
-const FIRST: GroupNo = GroupNo(1);
-
-const SECOND: GroupNo = GroupNo(3);
-
-const HARD: Grade = Grade::Hard;
-
-const SOFT: Grade = Grade::Soft;
+use crate::graph::step::walk_each;
 
 // The first change seals the head, and room for it does not.
-const FIRST_CHANGE_SEALS_THE_HEAD: &[Step] = &[
-    Group(Ok(FIRST)),
-    GroupRoom(FIRST, 0, 0, Ok((PatchNo(3), HARD))),
-    At(PatchNo(1), Some(Place::Memory)),
-    Member(FIRST, 0, 0, Ok((PatchNo(3), HARD))),
-    At(PatchNo(1), Some(Place::Disk)),
-    Member(FIRST, 1, 0, Ok((PatchNo(4), HARD))),
-    GroupClose(FIRST, Ok(())),
-    Write(0, &[PatchNo(3)]),
-    At(PatchNo(2), Some(Place::Memory)),
-    Write(1, &[PatchNo(4)]),
-    At(PatchNo(2), Some(Place::Disk)),
-    Live(0),
-];
-
-#[test]
-fn first_change_seals_the_head(rt: HostRuntime) {
-    walk(&rt, rt.alloc(), FIRST_CHANGE_SEALS_THE_HEAD);
-}
+const FIRST_CHANGE_SEALS_THE_HEAD: &str = "\
+group -> Ok(GroupNo(1))
+group_room 1 0 0 -> Ok((PatchNo(3), Hard))
+place 1 -> Some(Memory)
+member 1 0 0 -> Ok((PatchNo(3), Hard))
+place 1 -> Some(Disk)
+member 1 1 0 -> Ok((PatchNo(4), Hard))
+group_close 1 -> Ok(())
+write 0 -> [PatchNo(3)]
+place 2 -> Some(Memory)
+write 1 -> [PatchNo(4)]
+place 2 -> Some(Disk)
+live -> 0
+";
 
 // Its own head alone makes no change soft, also where the change waits for it by way of what it overlaps, or where the
 // head waits for a change of another block.
-const HEAD_IS_GRADED_AS_SEALED: &[Step] = &[
-    Group(Ok(FIRST)),
-    Group(Ok(SECOND)),
-    Byte(0, 0, &[PatchNo(1)], Ok((PatchNo(5), SOFT))),
-    Member(FIRST, 0, 0, Ok((PatchNo(6), HARD))),
-    GroupClose(FIRST, Ok(())),
-    GroupAfter(SECOND, FIRST, Ok(())),
-    Member(SECOND, 1, 0, Ok((PatchNo(7), HARD))),
-    Choice(1, &[], Some(PatchNo(7))),
-    Write(0, &[PatchNo(5), PatchNo(6)]),
-    Write(1, &[PatchNo(7)]),
-];
-
-#[test]
-fn head_is_graded_as_sealed(rt: HostRuntime) {
-    walk(&rt, rt.alloc(), HEAD_IS_GRADED_AS_SEALED);
-}
+const HEAD_IS_GRADED_AS_SEALED: &str = "\
+group -> Ok(GroupNo(1))
+group -> Ok(GroupNo(3))
+byte 0 0 after 1 -> Ok((PatchNo(5), Soft))
+member 1 0 0 -> Ok((PatchNo(6), Hard))
+group_close 1 -> Ok(())
+group_after 3 1 -> Ok(())
+member 3 1 0 -> Ok((PatchNo(7), Hard))
+chosen 1 -> []
+held 1 -> Some(PatchNo(7))
+write 0 -> [PatchNo(5), PatchNo(6)]
+write 1 -> [PatchNo(7)]
+";
 
 // Another open gate below makes it soft, as the tail of the group before it is.
-const OTHER_GATES_COUNT: &[Step] = &[
-    Group(Ok(FIRST)),
-    Group(Ok(SECOND)),
-    GroupAfter(SECOND, FIRST, Ok(())),
-    Member(SECOND, 0, 0, Ok((PatchNo(5), SOFT))),
-    Choice(0, &[], None),
-    GroupAfter(SECOND, FIRST, Err(Fault::GroupBegun)),
-    GroupClose(FIRST, Ok(())),
-    Choice(0, &[PatchNo(5)], None),
-];
-
-#[test]
-fn other_gates_count(rt: HostRuntime) {
-    walk(&rt, rt.alloc(), OTHER_GATES_COUNT);
-}
+const OTHER_GATES_COUNT: &str = "\
+group -> Ok(GroupNo(1))
+group -> Ok(GroupNo(3))
+group_after 3 1 -> Ok(())
+member 3 0 0 -> Ok((PatchNo(5), Soft))
+chosen 0 -> []
+held 0 -> None
+group_after 3 1 -> Err(GroupBegun)
+group_close 1 -> Ok(())
+chosen 0 -> [PatchNo(5)]
+held 0 -> None
+";
 
 // A change that overlaps one that waits for the tail would wait for itself. The head stays open.
-const OVERLAP_THAT_WAITS_FOR_THE_TAIL: &[Step] = &[
-    Group(Ok(FIRST)),
-    Byte(0, 1, &[PatchNo(2)], Ok((PatchNo(3), SOFT))),
-    Member(FIRST, 0, 1, Err(Fault::Cycle)),
-    At(PatchNo(1), Some(Place::Memory)),
-    Live(3),
-    Member(FIRST, 0, 2, Ok((PatchNo(4), HARD))),
-    At(PatchNo(1), Some(Place::Disk)),
-    GroupClose(FIRST, Ok(())),
-    Member(FIRST, 0, 1, Err(Fault::Sealed)),
-    Member(SECOND, 0, 1, Err(Fault::NoPatch)),
-    Write(0, &[PatchNo(3), PatchNo(4)]),
+const OVERLAP_THAT_WAITS_FOR_THE_TAIL: &str = "\
+group -> Ok(GroupNo(1))
+byte 0 1 after 2 -> Ok((PatchNo(3), Soft))
+member 1 0 1 -> Err(Cycle)
+place 1 -> Some(Memory)
+live -> 3
+member 1 0 2 -> Ok((PatchNo(4), Hard))
+place 1 -> Some(Disk)
+group_close 1 -> Ok(())
+member 1 0 1 -> Err(Sealed)
+member 3 0 1 -> Err(NoPatch)
+write 0 -> [PatchNo(3), PatchNo(4)]
+";
+
+const ROWS: &[(u32, &str)] = &[
+    (0, FIRST_CHANGE_SEALS_THE_HEAD),
+    (0, HEAD_IS_GRADED_AS_SEALED),
+    (0, OTHER_GATES_COUNT),
+    (0, OVERLAP_THAT_WAITS_FOR_THE_TAIL),
 ];
 
 #[test]
-fn overlap_that_waits_for_the_tail(rt: HostRuntime) {
-    walk(&rt, rt.alloc(), OVERLAP_THAT_WAITS_FOR_THE_TAIL);
+fn rows_of_members(rt: HostRuntime) {
+    walk_each(&rt, rt.alloc(), ROWS);
 }

@@ -73,11 +73,11 @@ fn is_before_end(first: Span, second: Span) -> bool {
 /// The patches that are not forgotten, in order of number, and the groups.
 #[derive(Drop)]
 pub struct Twin {
-    alloc: Global,
+    pub alloc: Global,
     patches: Vec<Patch>,
     groups: Vec<Group>,
     numbers: u32,
-    blocks: u32,
+    pub blocks: u32,
 }
 
 impl Model for Twin {
@@ -95,6 +95,11 @@ impl Twin {
             numbers: 0,
             blocks,
         }
+    }
+
+    /// Lets go of it, by a call: where it is let go of in place, that is proved field by field.
+    pub fn end(self) {
+        drop(self);
     }
 
     /// The greatest number given.
