@@ -21,10 +21,18 @@ pub struct Index {
     words: Vec<Word>,
 }
 
+// How many patches may be made until some are forgotten.
+const MOST_MADE: u32 = 65_535;
+
 // How many words are kept: with more, it begins anew with the newest numbers, four times as many as there may be heads.
 const MOST: usize = 8192;
 
 const NEWEST: u32 = 262_144;
+
+// The number with which it begins, the first and the last of the heads having these.
+fn begins_at(first: u32, last: u32) -> u32 {
+    first.max(last.saturating_sub(NEWEST))
+}
 
 impl Index {
     /// Of no number. It takes no memory.
@@ -43,9 +51,18 @@ impl Index {
         Some(word.before.saturating_add(below.count_ones() as usize))
     }
 
-    /// Room to tell of the numbers up to that one.
-    pub fn reserve(&mut self, last: u32) -> Result<(), AllocError> {
-        let words = (last.saturating_sub(self.base) / 64) as usize + 1;
+    /// Room to tell of all numbers that may be given until heads are forgotten, behind those of these.
+    pub fn reserve(&mut self, ranks: &[Rank]) -> Result<(), AllocError> {
+        let (Some(first), Some(last)) = (ranks.first(), ranks.last()) else {
+            return Ok(());
+        };
+        let base = if self.words.is_empty() {
+            begins_at(first.number, last.number)
+        } else {
+            self.base
+        };
+        let end = last.number.saturating_add(MOST_MADE);
+        let words = (end.saturating_sub(base) / 64) as usize + 1;
         self.words.reserve(words.saturating_sub(self.words.len()))
     }
 
@@ -83,7 +100,7 @@ impl Index {
     // Tells of the newest of these heads, of which the first and the last have these numbers.
     fn begin(&mut self, ranks: &[Rank], first: u32, last: u32) {
         self.words.clear();
-        self.base = first.max(last.saturating_sub(NEWEST));
+        self.base = begins_at(first, last);
         for rank in ranks {
             self.note(rank.number, 0);
         }

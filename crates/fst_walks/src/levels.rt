@@ -29,9 +29,6 @@ use std::marker::Model;
 /// The greatest level, at which each open gate stands.
 pub const TOP: u32 = 4_294_967_295;
 
-// How many patches may be made between two calls of `forget`.
-const MOST_MADE: u32 = 65_535;
-
 // From where on all levels are halved. Between two calls of `forget` no more than 65,535 changes are made, each of which lifts
 // by some thousands at most, so that nothing comes to the top before.
 const HIGH: u32 = 2_147_483_648;
@@ -132,9 +129,7 @@ impl Levels {
     {
         let room = self.ranks.len() + more as usize;
         self.ranks.reserve(more as usize)?;
-        if let Some(last) = self.ranks.last() {
-            self.index.reserve(last.number.saturating_add(MOST_MADE))?;
-        }
+        self.index.reserve(&self.ranks)?;
         self.room = room;
         Ok(())
     }
