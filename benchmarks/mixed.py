@@ -85,7 +85,9 @@ class Mix:
             return '{"do":"group_close","group":%d}' % self.member(self.groups, 5)
         if call == "done":
             self.ticket += dice.choice([0, 1, 1])
-            fails = ',"fail":"%s"' % dice.choice(["before", "after", "read"]) if dice.random() < 0.2 else ""
+            # (which clean block makes room is no promise, and a read that fails would show it)
+            ways = ["before", "after"] + (["read"] if self.resident == self.blocks else [])
+            fails = ',"fail":"%s"' % dice.choice(ways) if dice.random() < 0.2 else ""
             return '{"do":"done","ticket":%d%s}' % (max(1, self.ticket - dice.choice([0, 0, 0, 1, 2])), fails)
         if call == "place":
             return '{"do":"place","patch":%d}' % self.name()
