@@ -188,6 +188,15 @@ def full():
     return made
 
 
+def one_clean():
+    """A block that is read in the place of the one clean block, 4,000 others being dirty."""
+    made = Script(4096, 64, 4001)
+    made.held(4000, 0, 4000)
+    for i in range(20_000):
+        made.ask("show", block=4000 + i % 96)
+    return made
+
+
 def groups_ahead():
     """2,000 groups put after one another first, then ten changes into each."""
     made = Script(64)
@@ -239,7 +248,7 @@ def hot():
 
 SHAPES = [
     forget_each, forget_few, forget_nothing, after_old_ones, places, write_beside, refused,
-    picks, full, groups_ahead, groups_of_one_block, cycles, hot,
+    picks, full, one_clean, groups_ahead, groups_of_one_block, cycles, hot,
 ]
 
 

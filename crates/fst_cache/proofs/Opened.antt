@@ -13,7 +13,7 @@ use Rattle.fst_types.proofs.Opened.{opening_is_lawful}
 use Rattle.fst_graph.specs.Known.{Known}
 use Rattle.fst_seat.specs.Seats.{SeatView, seat_of, seats_of, blocks}
 use Rattle.fst_seat.specs.Residing.{are_loaded, residents_of}
-use Rattle.fst_seat.proofs.Dirty.{none_dirty}
+use Rattle.fst_seat.proofs.Dirty.{none_dirty, residents_are}
 use Rattle.fst_cache.specs.Kept.{IsKeptSeat, IsKept, state_of, view_of}
 use Rattle.fst_cache.proofs.OpenPlaced.{map-twice, placed_each, sized_each, found}
 
@@ -26,8 +26,10 @@ none_loaded held index faults (x ∷ xs) = none_loaded held index faults xs
 
 -- and so it is listed, and none is dirty
 pub none_listed : {X : Type 0} (held : X → List ℕ) (index faults : X → ℕ) (slots : List X) (most n : ℕ) → n ≡ length slots
-    → record { most = most; loaded = replicate n false; dirty = 0 } ≡ residents_of most (seats_of held index faults slots)
-none_listed held index faults slots most n many = rw (ap (λ (m : ℕ). replicate m false) many ∙ each slots, ← none_dirty held index faults slots) refl
+    → record { most = most; loaded = replicate n false; dirty = replicate n false } ≡ residents_of most (seats_of held index faults slots)
+none_listed held index faults slots most n many =
+    let long : replicate n false ≡ replicate (length slots) false = ap (λ (m : ℕ). replicate m false) many in
+    residents_are most (seats_of held index faults slots) (replicate n false) (replicate n false) (long ∙ each slots) (long ∙ none_dirty held index faults slots)
   where
     each : (xs : List _) → replicate (length xs) false ≡ are_loaded (seats_of held index faults xs)
     each [] = refl

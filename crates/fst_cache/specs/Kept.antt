@@ -81,7 +81,7 @@ pub record IsKept (s : State) (graph : Known) (seats : List SeatView) : Type 0 w
   pub loaded : count_by (λ seat. is_some seat.loaded) seats ≤ s.resident
   pub seat : (b : ℕ) (seat : SeatView) → slice_get seats b ≡ Some seat → IsKeptSeat s b seat
 
--- that, and what is kept beside it is right: the counts of the blocks in flight and of the undo bytes of all blocks, which blocks are in memory, and how many are dirty
+-- that, and what is kept beside it is right: the counts of the blocks in flight and of the undo bytes of all blocks, which blocks are in memory, and which are dirty
 pub record IsCounted (count undo : ℕ) (residents : ResidentsView) (s : State) (graph : Known) (seats : List SeatView) : Type 0 where
   pub kept : IsKept s graph seats
   pub flying : count ≡ flights s

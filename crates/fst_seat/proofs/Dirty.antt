@@ -1,14 +1,16 @@
--- How many blocks are dirty, and what is kept beside the seats, as seats change.
-use Rattle.std.proofs.Common.{◌≡◌, ◌⊎◌, ◌<◌, ◌≤◌, ◌+◌, ◌-◌, ℕ, Bool, true, false, cond, List, [], ◌∷◌, Option, Some, None, is_some, refl, sym, ap, ◌∙◌, inl, inr, arith, length, slice_get, slice_set, length-set, count_by}
+-- Which blocks are dirty, and what is kept beside the seats, as seats change.
+use Rattle.std.proofs.Common.{◌≡◌, ◌⊎◌, ℕ, Bool, true, false, List, [], ◌∷◌, Option, Some, None, is_some, refl, sym, ap, ◌∙◌, inl, inr, length, replicate, slice_get, slice_set, count_by}
 use Rattle.std.proofs.lemmas.Bool.{true≢false}
-use Rattle.std.proofs.lemmas.List.{length-map}
-use Rattle.std.proofs.lemmas.List.Sums.{sum_by-set, count_by-le-length}
-use Rattle.std.proofs.lemmas.Option.{get_or_from_slice_get, slice_get_within}
+use Rattle.std.proofs.lemmas.List.{map-set}
+use Rattle.std.proofs.lemmas.Option.{same_Some}
 use Rattle.fst_types.specs.State.{Flight}
 use Rattle.fst_block.specs.BlockView.{BlockView}
+use Rattle.fst_seat.specs.Places.{IsCleanResident}
 use Rattle.fst_seat.specs.Seats.{SeatView, is_dirty_with, is_dirty_seat, seats_of}
-use Rattle.fst_seat.specs.Residing.{are_loaded, residents_of}
-use Rattle.fst_seat.proofs.Seated.{count_set, listed_set, same_listed}
+use Rattle.fst_seat.specs.Residing.{are_loaded, are_dirty, residents_of, IsCleanLoaded, IsCleanAt}
+use Rattle.fst_seat.proofs.Counts.{count_mapped}
+use Rattle.fst_seat.proofs.Exchanging.{get_map, map_get}
+use Rattle.fst_seat.proofs.Seated.{same_listed}
 
 -- a block with a flight is dirty
 pub flown_dirty : (seat : SeatView) (f : Flight) → seat.block.flight ≡ Some f → is_dirty_seat seat ≡ true
@@ -33,60 +35,57 @@ read_clean seat new home same (inr read) =
     ∙ (ap (is_dirty_with None) read.1
     ∙ sym (ap (λ (f : Option Flight). is_dirty_with f seat.loaded) home ∙ ap (is_dirty_with None) read.0)))
 
-module _ (seats : List SeatView) (b : ℕ) (seat : SeatView) (at_b : slice_get seats b ≡ Some seat) where
-  dirty_put : (new : SeatView) → count_by is_dirty_seat (slice_set seats b new) + cond (is_dirty_seat seat) 1 0 ≡ count_by is_dirty_seat seats + cond (is_dirty_seat new) 1 0
-  dirty_put new = rw (get_or_from_slice_get seats b seat seat at_b) at (sum_by-set (λ (t : SeatView). cond (is_dirty_seat t) 1 0) seats b new seat (slice_get_within seats b seat at_b))
+module _ (most : ℕ) (seats : List SeatView) where
+  -- what is kept is right where either list is
+  pub residents_are : (loaded dirty : List Bool) → loaded ≡ are_loaded seats → dirty ≡ are_dirty seats → record { most = most; loaded = loaded; dirty = dirty } ≡ residents_of most seats
+  residents_are loaded dirty there is = rw (there, is) refl
 
-  -- where this one is dirty, some are
-  pub some_dirty : is_dirty_seat seat ≡ true → 0 < count_by is_dirty_seat seats
-  some_dirty is =
-      let clean = record seat { block = record seat.block { flight = None }; loaded = None } in
-      let r = dirty_put clean in
-      let one : ◌≡◌ {A = ℕ} (cond (is_dirty_seat seat) 1 0) 1 = ap (λ (t : Bool). cond t 1 0) is in
-      omega (arith, r, one)
+  -- as many are listed as are dirty
+  pub dirty_counted : count_by (λ (t : Bool). t) (are_dirty seats) ≡ count_by is_dirty_seat seats
+  dirty_counted = count_mapped (λ (t : Bool). t) is_dirty_seat seats
 
-  module _ (most : ℕ) (new : SeatView) where
-    both : (flags : List Bool) (count : ℕ) → flags ≡ are_loaded (slice_set seats b new) → count ≡ count_by is_dirty_seat (slice_set seats b new)
-        → record { most = most; loaded = flags; dirty = count } ≡ residents_of most (slice_set seats b new)
-    both flags count there dirty = rw (there, dirty) refl
+  -- a block that is listed as clean and in memory has such a seat
+  pub clean_at : (c : ℕ) → IsCleanResident (residents_of most seats) c → (seat : SeatView) × IsCleanAt seats c seat
+  clean_at c clean =
+      let m = map_get (λ (t : SeatView). is_some t.loaded) seats c true clean.there in
+      let still : is_dirty_seat m.0 ≡ false = same_Some _ _ (sym (get_map is_dirty_seat seats c m.0 m.1) ∙ clean.clean) in
+      (m.0, record { at = m.1; block = record { there = m.2; clean = still } })
 
-    -- what is counted anew
-    recounted : (was is : Bool) → was ≡ is_dirty_seat seat → is ≡ is_dirty_seat new → count_by is_dirty_seat seats + cond is 1 0 - cond was 1 0 ≡ count_by is_dirty_seat (slice_set seats b new)
-    recounted was is before after =
-        let r = dirty_put new in
-        let one : ◌≡◌ {A = ℕ} (cond was 1 0) (cond (is_dirty_seat seat) 1 0) = ap (λ (t : Bool). cond t 1 0) before in
-        let other : ◌≡◌ {A = ℕ} (cond is 1 0) (cond (is_dirty_seat new) 1 0) = ap (λ (t : Bool). cond t 1 0) after in
-        omega (arith, r, one, other)
+  -- and such a seat is listed so
+  pub clean_listed : (c : ℕ) (seat : SeatView) → slice_get seats c ≡ Some seat → IsCleanLoaded seat → IsCleanResident (residents_of most seats) c
+  clean_listed c seat at_c clean = record {
+    there = get_map (λ (t : SeatView). is_some t.loaded) seats c seat at_c ∙ ap Some clean.there;
+    clean = get_map is_dirty_seat seats c seat at_c ∙ ap Some clean.clean;
+  }
 
-    pub recounted_few : (was is : Bool) → was ≡ is_dirty_seat seat → is ≡ is_dirty_seat new → (flags : List Bool) → flags ≡ are_loaded seats
-        → count_by is_dirty_seat seats + cond is 1 0 - cond was 1 0 ≤ length flags
-    recounted_few was is before after flags listed =
-        let r = recounted was is before after in
-        let few = count_by-le-length is_dirty_seat (slice_set seats b new) in
-        let same = length-set seats b new in
-        let long : length flags ≡ length seats = ap length listed ∙ length-map seats (λ (t : SeatView). is_some t.loaded) in
-        omega (arith, r, few, same, long)
+-- what is kept follows one seat that changes
+module _ (seats : List SeatView) (b : ℕ) (seat : SeatView) (at_b : slice_get seats b ≡ Some seat) (most : ℕ) (new : SeatView) where
+  same_loaded : is_some new.loaded ≡ is_some seat.loaded → are_loaded seats ≡ are_loaded (slice_set seats b new)
+  same_loaded there = sym (same_listed seats b seat at_b (λ (t : SeatView). is_some t.loaded) new there)
 
-    -- the seat changes, and is in memory and dirty exactly where it was
-    pub residents_same : is_some new.loaded ≡ is_some seat.loaded → is_dirty_seat new ≡ is_dirty_seat seat → residents_of most seats ≡ residents_of most (slice_set seats b new)
-    residents_same there dirty = both (are_loaded seats) (count_by is_dirty_seat seats) (sym (same_listed seats b seat at_b (λ (t : SeatView). is_some t.loaded) new there)) (sym (count_set is_dirty_seat seats b seat new at_b dirty))
+  same_dirty : is_dirty_seat new ≡ is_dirty_seat seat → are_dirty seats ≡ are_dirty (slice_set seats b new)
+  same_dirty dirty = sym (same_listed seats b seat at_b is_dirty_seat new dirty)
 
-    -- it comes into memory, or leaves it, and is dirty where it was
-    pub residents_moved : (t : Bool) → is_some new.loaded ≡ t → is_dirty_seat new ≡ is_dirty_seat seat
-        → record (residents_of most seats) { loaded = slice_set (are_loaded seats) b t } ≡ residents_of most (slice_set seats b new)
-    residents_moved t there dirty =
-        both (slice_set (are_loaded seats) b t) (count_by is_dirty_seat seats)
-        (sym (listed_set seats b seat at_b (λ (x : SeatView). is_some x.loaded) new ∙ ap (slice_set (are_loaded seats) b) there))
-        (sym (count_set is_dirty_seat seats b seat new at_b dirty))
+  -- it is in memory and dirty exactly where it was
+  pub residents_same : is_some new.loaded ≡ is_some seat.loaded → is_dirty_seat new ≡ is_dirty_seat seat → residents_of most seats ≡ residents_of most (slice_set seats b new)
+  residents_same there dirty = residents_are most (slice_set seats b new) (are_loaded seats) (are_dirty seats) (same_loaded there) (same_dirty dirty)
 
-    -- it is in memory where it was, and counted anew
-    pub residents_recounted : (was is : Bool) → was ≡ is_dirty_seat seat → is ≡ is_dirty_seat new → is_some new.loaded ≡ is_some seat.loaded
-        → record (residents_of most seats) { dirty = count_by is_dirty_seat seats + cond is 1 0 - cond was 1 0 } ≡ residents_of most (slice_set seats b new)
-    residents_recounted was is before after there =
-        both (are_loaded seats) (count_by is_dirty_seat seats + cond is 1 0 - cond was 1 0)
-        (sym (same_listed seats b seat at_b (λ (t : SeatView). is_some t.loaded) new there))
-        (recounted was is before after)
+  -- it comes into memory, or leaves it, and is dirty where it was
+  pub residents_moved : (t : Bool) → is_some new.loaded ≡ t → is_dirty_seat new ≡ is_dirty_seat seat
+      → record (residents_of most seats) { loaded = slice_set (are_loaded seats) b t } ≡ residents_of most (slice_set seats b new)
+  residents_moved t there dirty =
+      residents_are most (slice_set seats b new) (slice_set (are_loaded seats) b t) (are_dirty seats)
+      (sym (map-set (λ (x : SeatView). is_some x.loaded) seats b new ∙ ap (slice_set (are_loaded seats) b) there))
+      (same_dirty dirty)
 
-pub none_dirty : {X : Type 0} (held : X → List ℕ) (index faults : X → ℕ) (slots : List X) → 0 ≡ count_by is_dirty_seat (seats_of held index faults slots)
+  -- it is in memory where it was, and becomes dirty or clean
+  pub residents_marked : (t : Bool) → t ≡ is_dirty_seat new → is_some new.loaded ≡ is_some seat.loaded
+      → record (residents_of most seats) { dirty = slice_set (are_dirty seats) b t } ≡ residents_of most (slice_set seats b new)
+  residents_marked t dirty there =
+      residents_are most (slice_set seats b new) (are_loaded seats) (slice_set (are_dirty seats) b t)
+      (same_loaded there)
+      (ap (slice_set (are_dirty seats) b) dirty ∙ sym (map-set is_dirty_seat seats b new))
+
+pub none_dirty : {X : Type 0} (held : X → List ℕ) (index faults : X → ℕ) (slots : List X) → replicate (length slots) false ≡ are_dirty (seats_of held index faults slots)
 none_dirty held index faults [] = refl
-none_dirty held index faults (x ∷ xs) = none_dirty held index faults xs
+none_dirty held index faults (x ∷ xs) = ap (λ (ts : List Bool). false ∷ ts) (none_dirty held index faults xs)

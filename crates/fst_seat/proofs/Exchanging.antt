@@ -169,18 +169,18 @@ own_inverse order at n long_order long_at own_order own_at = record {
         let same : b ≡ k = same_Some b k (sym e ∙ own_x k lt) in
         ap (slice_get ys) same ∙ own_y k lt
 
--- two that are both among the first n, as they were
-pub first_stay : (n i j : ℕ) (at : List ℕ) → i < n → j < n → are_first n (map (exchanged i j) at) ≡ are_first n at
-first_stay n i j [] i_lt j_lt = refl
-first_stay n i j (k ∷ ks) i_lt j_lt =
-    ap (λ t. t ∷ are_first n (map (exchanged i j) ks)) (one k) ∙ ap (λ (ts : List Bool). nat_lt k n ∷ ts) (first_stay n i j ks i_lt j_lt)
+-- two that are both among the first n, or both after them: the first are the same as they were
+pub first_stay : (n i j : ℕ) (at : List ℕ) → nat_lt i n ≡ nat_lt j n → are_first n (map (exchanged i j) at) ≡ are_first n at
+first_stay n i j [] same = refl
+first_stay n i j (k ∷ ks) same =
+    ap (λ t. t ∷ are_first n (map (exchanged i j) ks)) (one k) ∙ ap (λ (ts : List Bool). nat_lt k n ∷ ts) (first_stay n i j ks same)
   where
     one : (k : ℕ) → nat_lt (exchanged i j k) n ≡ nat_lt k n
     one k =
         elim (cases_eq k i) [
-          | inl is_i ↦ ap (λ m. nat_lt m n) (ap (exchanged i j) is_i ∙ first_moves i j) ∙ (lt-ltb j n j_lt ∙ (sym (lt-ltb i n i_lt) ∙ ap (λ m. nat_lt m n) (sym is_i)))
+          | inl is_i ↦ ap (λ m. nat_lt m n) (ap (exchanged i j) is_i ∙ first_moves i j) ∙ (sym same ∙ ap (λ m. nat_lt m n) (sym is_i))
           | inr not_i ↦ elim (cases_eq k j) [
-            | inl is_j ↦ ap (λ m. nat_lt m n) (ap (exchanged i j) is_j ∙ second_moves i j) ∙ (lt-ltb i n i_lt ∙ (sym (lt-ltb j n j_lt) ∙ ap (λ m. nat_lt m n) (sym is_j)))
+            | inl is_j ↦ ap (λ m. nat_lt m n) (ap (exchanged i j) is_j ∙ second_moves i j) ∙ (same ∙ ap (λ m. nat_lt m n) (sym is_j))
             | inr not_j ↦ ap (λ m. nat_lt m n) (others_stay i j k not_i not_j)
           ]
         ]
@@ -213,6 +213,27 @@ same_test m n k l forth back =
       | inr more ↦ elim (cases_Bool (nat_lt k l)) [
         | inl wrong ↦ absurd (let le = ltb-false m n more in let lt = back (ltb-true k l wrong) in omega (arith, le, lt))
         | inr right ↦ more ∙ sym right
+      ]
+    ]
+
+pub both_first : (n i j : ℕ) → i < n → j < n → nat_lt i n ≡ nat_lt j n
+both_first n i j one other = same_test i n j n (λ lt. other) (λ lt. one)
+
+pub both_after : (n i j : ℕ) → n ≤ i → n ≤ j → nat_lt i n ≡ nat_lt j n
+both_after n i j one other = same_test i n j n (λ lt. absurd (omega (arith, lt, one))) (λ lt. absurd (omega (arith, lt, other)))
+
+-- where a block stands that was put into another's place, and that nothing else does
+pub moved_stands : (at : List ℕ) (block i j : ℕ) → slice_get at block ≡ Some i → slice_get (map (exchanged i j) at) block ≡ Some j
+moved_stands at block i j stands = get_map (exchanged i j) at block i stands ∙ ap Some (first_moves i j)
+
+pub moved_alone : (at : List ℕ) (block i j : ℕ) → ((o : ℕ) → slice_get at o ≡ Some i → o ≡ block) → (o : ℕ) → slice_get (map (exchanged i j) at) o ≡ Some j → o ≡ block
+moved_alone at block i j alone o there =
+    let m = map_get (exchanged i j) at o j there in
+    elim (cases_eq m.0 i) [
+      | inl is_i ↦ alone o (m.1 ∙ ap Some is_i)
+      | inr not_i ↦ elim (cases_eq m.0 j) [
+        | inl is_j ↦ alone o (m.1 ∙ ap Some (is_j ∙ sym (sym (second_moves i j) ∙ (ap (exchanged i j) (sym is_j) ∙ m.2))))
+        | inr not_j ↦ absurd (not_j (sym (others_stay i j m.0 not_i not_j) ∙ m.2))
       ]
     ]
 

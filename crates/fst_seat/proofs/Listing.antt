@@ -1,18 +1,24 @@
--- The blocks in memory are the first of all in their places: as one more comes and one goes, and as the hand finds a clean one.
-use Rattle.std.proofs.Common.{◌≡◌, ◌<◌, ◌≤◌, ◌+◌, ◌-◌, ℕ, Bool, true, false, List, [], ◌∷◌, map, Option, Some, None, nat_lt, is_some, refl, sym, ap, subst, ◌∙◌, inl, inr, arith, length, replicate, slice_get, slice_set, count_by}
-use Rattle.std.specs.Prelude.{MatchOption, IfSome, Result, Ok, Err, IsErr, IsSome, OnOk, is_ok}
-use Rattle.std.proofs.lemmas.Bool.{cases_Bool, cases_lt, lt-ltb, ltb-true, ltb-false}
+-- The blocks in memory, and the dirty ones among them, are the first of all in their places: as one comes and one goes, and as one becomes dirty and one clean.
+use Rattle.std.proofs.Common.{◌≡◌, ◌<◌, ◌≤◌, ◌+◌, ◌-◌, ℕ, Bool, true, false, List, [], ◌∷◌, map, Some, None, nat_lt, is_some, refl, sym, ap, subst, ◌∙◌, inl, inr, arith, length, replicate, slice_get, slice_set, count_by}
+use Rattle.std.specs.Prelude.{Result, Ok, Err, IsErr, IsSome, OnOk, is_ok}
+use Rattle.std.proofs.lemmas.Bool.{cases_Bool, lt-ltb, ltb-true, ltb-false}
 use Rattle.std.proofs.lemmas.List.{set-get_or, length-map}
 use Rattle.std.proofs.lemmas.Option.{same_Some, get_or_from_slice_get}
-use Rattle.fst_seat.specs.Places.{exchanged, are_first}
-use Rattle.fst_seat.specs.Seats.{SeatView, is_dirty_seat}
-use Rattle.fst_seat.specs.Residing.{are_loaded, count_loaded, IsCleanLoaded, IsCleanAt}
+use Rattle.fst_seat.specs.Places.{exchanged, are_first, StandInRuns}
+use Rattle.fst_seat.specs.Seats.{SeatView}
+use Rattle.fst_seat.specs.Residing.{are_loaded, count_loaded}
 use Rattle.fst_seat.proofs.Counts.{count_mapped}
-use Rattle.fst_seat.proofs.Exchanging.{get_map, map_get, first_stay, first_added, first_removed, count_noted}
+use Rattle.fst_seat.proofs.Exchanging.{get_map, first_stay, both_first, both_after, moved_stands, moved_alone, first_added, first_removed, count_noted}
 
 -- what a list says of a block, and of its place
-pub past_of : (count : ℕ) (at : List ℕ) (block i : ℕ) (t : Bool) → slice_get at block ≡ Some i → slice_get (are_first count at) block ≡ Some t → nat_lt i count ≡ t
+past_of : (count : ℕ) (at : List ℕ) (block i : ℕ) (t : Bool) → slice_get at block ≡ Some i → slice_get (are_first count at) block ≡ Some t → nat_lt i count ≡ t
 past_of count at block i t stands listed = same_Some (nat_lt i count) t (sym (get_map (λ k. nat_lt k count) at block i stands) ∙ listed)
+
+pub among : (count : ℕ) (at : List ℕ) (block i : ℕ) → slice_get at block ≡ Some i → slice_get (are_first count at) block ≡ Some true → i < count
+among count at block i stands there = ltb-true i count (past_of count at block i true stands there)
+
+pub after : (count : ℕ) (at : List ℕ) (block i : ℕ) → slice_get at block ≡ Some i → slice_get (are_first count at) block ≡ Some false → count ≤ i
+after count at block i stands away = ltb-false i count (past_of count at block i false stands away)
 
 pub there_at : (count : ℕ) (at : List ℕ) (block i : ℕ) → slice_get at block ≡ Some i → i < count → slice_get (are_first count at) block ≡ Some true
 there_at count at block i stands lt = get_map (λ k. nat_lt k count) at block i stands ∙ ap Some (lt-ltb i count lt)
@@ -46,87 +52,114 @@ pub none_counted : (at : List ℕ) → 0 ≡ count_by (λ (t : Bool). t) (are_fi
 none_counted [] = refl
 none_counted (k ∷ ks) = none_counted ks ∙ ap (λ (t : Bool). count_by (λ (u : Bool). u) (t ∷ are_first 0 ks)) (sym (none_before k))
 
-module _ (count : ℕ) (at : List ℕ) (block i : ℕ) (stands : slice_get at block ≡ Some i) (alone : (o : ℕ) → slice_get at o ≡ Some i → o ≡ block)
-    (counted : count ≡ count_by (λ (t : Bool). t) (are_first count at)) where
-  -- one more comes, and is put where the hand was
-  pub added : (hand : ℕ) → hand ≤ count → slice_get (are_first count at) block ≡ Some false
-      → are_first (count + 1) (map (exchanged count hand) (map (exchanged i count) at)) ≡ slice_set (are_first count at) block true
-  added hand behind away =
-      let past = ltb-false i count (past_of count at block i false stands away) in
-      first_stay (count + 1) count hand (map (exchanged i count) at) (omega arith) (omega (arith, behind)) ∙ first_added count at block i stands alone past
+abbrev IsRun : ℕ → List ℕ → Type 0
+IsRun n at = n ≡ count_by (λ (t : Bool). t) (are_first n at)
 
-  pub added_counted : (hand : ℕ) → hand ≤ count → slice_get (are_first count at) block ≡ Some false
-      → count + 1 ≡ count_by (λ (t : Bool). t) (are_first (count + 1) (map (exchanged count hand) (map (exchanged i count) at)))
-  added_counted hand behind away =
-      let r = count_noted (are_first count at) block false true away in
-      rw (added hand behind away) (omega (arith, r, counted))
+module _ (at : List ℕ) (block i : ℕ) (stands : slice_get at block ≡ Some i) (alone : (o : ℕ) → slice_get at o ≡ Some i → o ≡ block) where
+  -- a run is one longer, or one shorter, by this block
+  longer : (n : ℕ) (now : List ℕ) → n ≤ i → IsRun n at → are_first (n + 1) now ≡ slice_set (are_first n at) block true → IsRun (n + 1) now
+  longer n now past run is = let r = count_noted (are_first n at) block false true (away_at n at block i stands past) in rw is (omega (arith, r, run))
 
-  -- one goes
-  among : slice_get (are_first count at) block ≡ Some true → i < count
-  among there = ltb-true i count (past_of count at block i true stands there)
+  shorter : (n : ℕ) (now : List ℕ) → i < n → IsRun n at → are_first (n - 1) now ≡ slice_set (are_first n at) block false → IsRun (n - 1) now
+  shorter n now lt run is = let r = count_noted (are_first n at) block true false (there_at n at block i stands lt) in rw is (omega (arith, r, run, lt))
 
-  pub removed : slice_get (are_first count at) block ≡ Some true → are_first (count - 1) (map (exchanged i (count - 1)) at) ≡ slice_set (are_first count at) block false
-  removed there =
-      let lt = among there in
-      let one : count - 1 + 1 ≡ count = omega (arith, lt) in
-      first_removed (count - 1) at block i stands alone (omega (arith, lt)) ∙ ap (λ (n : ℕ). slice_set (are_first n at) block false) one
+  -- the last of a run takes the block's place, and the block the place after it
+  left : (n : ℕ) → i < n → are_first (n - 1) (map (exchanged i (n - 1)) at) ≡ slice_set (are_first n at) block false
+  left n lt =
+      let one : n - 1 + 1 ≡ n = omega (arith, lt) in
+      first_removed (n - 1) at block i stands alone (omega (arith, lt)) ∙ ap (λ (m : ℕ). slice_set (are_first m at) block false) one
 
-  pub removed_counted : slice_get (are_first count at) block ≡ Some true → count - 1 ≡ count_by (λ (t : Bool). t) (are_first (count - 1) (map (exchanged i (count - 1)) at))
-  removed_counted there =
-      let r = count_noted (are_first count at) block true false there in
-      rw (removed there) (omega (arith, r, counted))
+  module _ (dirty hand count : ℕ) (R : StandInRuns at dirty hand count) where
+    -- the block comes into memory, and is put where the hand was
+    module _ (past : count ≤ i) where
+      abbrev pub once_added : List ℕ
+      once_added = map (exchanged count hand) (map (exchanged i count) at)
 
--- what follows from what is said of either answer
-pub either_answer : {X : Type 0} (o : Option X) {P P' : Type 0} {Q Q' : X → Type 0} → (P → P') → ((x : X) → Q x → Q' x) → MatchOption o P Q → MatchOption o P' Q'
-either_answer None none some said = none said
-either_answer (Some x) none some said = some x said
+      pub added : are_first (count + 1) once_added ≡ slice_set (are_first count at) block true
+      added =
+          let lt : hand < count + 1 = omega (arith, R.hand_within) in
+          first_stay (count + 1) count hand (map (exchanged i count) at) (both_first (count + 1) count hand (omega arith) lt) ∙ first_added count at block i stands alone past
 
--- what the hand passed, and what stands where it is
-pub if_found : {X : Type 0} (o : Option X) (P : Type 0) {Q R : X → Type 0} → ((x : X) → Q x → R x) → MatchOption o P Q → IfSome o R
-if_found None P f m = tt
-if_found (Some x) P f m = f x m
+      pub added_dirty : are_first dirty once_added ≡ are_first dirty at
+      added_dirty =
+          let behind : dirty ≤ count = omega (arith, R.before_hand, R.hand_within) in
+          first_stay dirty count hand (map (exchanged i count) at) (both_after dirty count hand behind R.before_hand) ∙ first_stay dirty i count at (both_after dirty i count (omega (arith, behind, past)) behind)
 
-pub one_passed : (places : List ℕ) (seats : List SeatView) (start place block : ℕ) (seat : SeatView) → slice_get seats block ≡ Some seat
-    → ((o : ℕ) → slice_get places o ≡ Some place → o ≡ block) → (is_dirty_seat seat ≡ false → ⊥)
-    → ((k b : ℕ) (t : SeatView) → start ≤ k → k < place → slice_get places b ≡ Some k → slice_get seats b ≡ Some t → is_dirty_seat t ≡ false → ⊥)
-    → (k b : ℕ) (t : SeatView) → start ≤ k → k < place + 1 → slice_get places b ≡ Some k → slice_get seats b ≡ Some t → is_dirty_seat t ≡ false → ⊥
-one_passed places seats start place block seat seated alone dirty before k b t from lt stands at_b still =
-    elim (cases_lt k place) [
-      | inl less ↦ before k b t from less stands at_b still
-      | inr last ↦
-          let is : k ≡ place = omega (arith, lt, last) in
-          let same : b ≡ block = alone b (stands ∙ ap Some is) in
-          dirty (ap is_dirty_seat (same_Some seat t (sym seated ∙ (ap (slice_get seats) (sym same) ∙ at_b))) ∙ still)
-    ]
+      pub added_runs : StandInRuns once_added dirty (hand + 1) (count + 1)
+      added_runs = record {
+        before_hand = omega (arith, R.before_hand);
+        hand_within = omega (arith, R.hand_within);
+        all_dirty = rw added_dirty R.all_dirty;
+        all_there = longer count once_added past R.all_there added;
+        few = rw (length-map, length-map) R.few;
+      }
 
-module _ (count : ℕ) (places : List ℕ) (seats : List SeatView) (listed : are_first count places ≡ are_loaded seats) where
-  -- each block has a place
-  pub same_long : length places ≡ length seats
-  same_long =
-      let a = length-map places (λ k. nat_lt k count) in
-      let b = length-map seats (λ (t : SeatView). is_some t.loaded) in
-      sym a ∙ (ap length listed ∙ b)
+    -- the block, which is clean, leaves the memory
+    module _ (clean : dirty ≤ i) (there : i < count) where
+      abbrev pub once_removed : List ℕ
+      once_removed = map (exchanged i (count - 1)) at
 
-  -- what stands before the count is in memory
-  pub found_clean : (c k : ℕ) (seat : SeatView) → k < count → slice_get places c ≡ Some k → slice_get seats c ≡ Some seat → is_dirty_seat seat ≡ false → IsCleanAt seats c seat
-  found_clean c k seat lt stands at_c still =
-      let here : slice_get (are_loaded seats) c ≡ Some (nat_lt k count) = ap (λ (ts : List Bool). slice_get ts c) (sym listed) ∙ get_map (λ n. nat_lt n count) places c k stands in
-      let there : is_some seat.loaded ≡ nat_lt k count = same_Some _ _ (sym (get_map (λ (t : SeatView). is_some t.loaded) seats c seat at_c) ∙ here) in
-      record { at = at_c; block = record { there = there ∙ lt-ltb k count lt; clean = still } }
+      pub removed : are_first (count - 1) once_removed ≡ slice_set (are_first count at) block false
+      removed = left count there
 
-  -- and what is in memory stands before it
-  pub none_found : (hand : ℕ)
-      → ((k b : ℕ) (t : SeatView) → hand ≤ k → k < count → slice_get places b ≡ Some k → slice_get seats b ≡ Some t → is_dirty_seat t ≡ false → ⊥)
-      → ((k b : ℕ) (t : SeatView) → 0 ≤ k → k < hand → slice_get places b ≡ Some k → slice_get seats b ≡ Some t → is_dirty_seat t ≡ false → ⊥)
-      → (d : ℕ) (other : SeatView) → slice_get seats d ≡ Some other → IsCleanLoaded other → ⊥
-  none_found hand after before d other at_d clean =
-      let here : slice_get (are_first count places) d ≡ Some (is_some other.loaded) = ap (λ (ts : List Bool). slice_get ts d) listed ∙ get_map (λ (t : SeatView). is_some t.loaded) seats d other at_d in
-      let m = map_get (λ k. nat_lt k count) places d (is_some other.loaded) here in
-      let lt = ltb-true m.0 count (m.2 ∙ clean.there) in
-      elim (cases_lt m.0 hand) [
-        | inl less ↦ before m.0 d other (omega arith) less m.1 at_d clean.clean
-        | inr past ↦ after m.0 d other past lt m.1 at_d clean.clean
-      ]
+      pub removed_dirty : are_first dirty once_removed ≡ are_first dirty at
+      removed_dirty = first_stay dirty i (count - 1) at (both_after dirty i (count - 1) clean (omega (arith, clean, there)))
+
+      pub removed_runs : StandInRuns once_removed dirty i (count - 1)
+      removed_runs = record {
+        before_hand = clean;
+        hand_within = omega (arith, there);
+        all_dirty = rw removed_dirty R.all_dirty;
+        all_there = shorter count once_removed there R.all_there removed;
+        few = rw length-map R.few;
+      }
+
+      -- the block becomes dirty, through a place that the hand has passed
+      module _ (through : ℕ) (first : dirty ≤ through) (last : through ≤ i) where
+        abbrev pub once_dirty : List ℕ
+        once_dirty = map (exchanged through dirty) (map (exchanged i through) at)
+
+        pub marked : are_first (dirty + 1) once_dirty ≡ slice_set (are_first dirty at) block true
+        marked =
+            first_added dirty (map (exchanged i through) at) block through (moved_stands at block i through stands) (moved_alone at block i through alone) first
+            ∙ ap (λ (ts : List Bool). slice_set ts block true) (first_stay dirty i through at (both_after dirty i through clean first))
+
+        pub marked_there : are_first count once_dirty ≡ are_first count at
+        marked_there =
+            let within : through < count = omega (arith, last, there) in
+            first_stay count through dirty (map (exchanged i through) at) (both_first count through dirty within (omega (arith, first, within)))
+            ∙ first_stay count i through at (both_first count i through there within)
+
+        pub marked_runs : (next : ℕ) → dirty + 1 ≤ next → next ≤ count → StandInRuns once_dirty (dirty + 1) next count
+        marked_runs next more within = record {
+          before_hand = more;
+          hand_within = within;
+          all_dirty = longer dirty once_dirty clean R.all_dirty marked;
+          all_there = rw marked_there R.all_there;
+          few = rw (length-map, length-map) R.few;
+        }
+
+    -- the block becomes clean
+    module _ (was : i < dirty) where
+      abbrev pub once_clean : List ℕ
+      once_clean = map (exchanged i (dirty - 1)) at
+
+      pub cleaned : are_first (dirty - 1) once_clean ≡ slice_set (are_first dirty at) block false
+      cleaned = left dirty was
+
+      pub cleaned_there : are_first count once_clean ≡ are_first count at
+      cleaned_there =
+          let few : dirty ≤ count = omega (arith, R.before_hand, R.hand_within) in
+          first_stay count i (dirty - 1) at (both_first count i (dirty - 1) (omega (arith, was, few)) (omega (arith, was, few)))
+
+      pub cleaned_runs : StandInRuns once_clean (dirty - 1) hand count
+      cleaned_runs = record {
+        before_hand = omega (arith, R.before_hand);
+        hand_within = R.hand_within;
+        all_dirty = shorter dirty once_clean was R.all_dirty cleaned;
+        all_there = rw cleaned_there R.all_there;
+        few = rw length-map R.few;
+      }
 
 -- as many are listed as are in memory
 pub loaded_counted : (flags : List Bool) (seats : List SeatView) → flags ≡ are_loaded seats → count_by (λ (t : Bool). t) flags ≡ count_loaded seats

@@ -8,9 +8,13 @@ use Rattle.fst_seat.specs.Places.{ResidentsView}
 abbrev pub are_loaded : List SeatView → List Bool
 are_loaded seats = map (λ seat. is_some seat.loaded) seats
 
--- what is kept beside these seats: how many blocks may be in memory, which are, and how many are dirty
+-- of each block, whether it is dirty
+abbrev pub are_dirty : List SeatView → List Bool
+are_dirty seats = map is_dirty_seat seats
+
+-- what is kept beside these seats: how many blocks may be in memory, which are, and which are dirty
 abbrev pub residents_of : ℕ → List SeatView → ResidentsView
-residents_of most seats = record { most = most; loaded = are_loaded seats; dirty = count_by is_dirty_seat seats }
+residents_of most seats = record { most = most; loaded = are_loaded seats; dirty = are_dirty seats }
 
 -- how many blocks are in memory
 abbrev pub count_loaded : List SeatView → ℕ

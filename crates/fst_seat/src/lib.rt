@@ -13,8 +13,8 @@
 //! *Residence* says which blocks are in memory: at most as many as the shape says, and those with a change that is not on
 //! disk always. A block that comes into memory takes a free place, or that of one without such a change, and its slot is
 //! read once; a read that fails raises the slot's count of faults by one, and leaves the block away. Which blocks are in
-//! memory is listed, so that a load looks at few seats for the one that gives up its place, and how many are dirty is
-//! counted, so that it looks at none where there is no such one.
+//! memory is listed, the dirty ones first and the clean ones after them, so that a load finds the one that gives up its
+//! place, or that there is none, without a look at any seat.
 //!
 //! Nothing here knows which patch depends on which, what may be written, a rule of the definitions' steps or a refusal
 //! but those of the device and of memory: the calls over all seats, and what they keep in step with the graph, are

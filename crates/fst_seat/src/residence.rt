@@ -24,7 +24,7 @@ fn make_place<S: BlockSlot>(seats: &mut [Seat<S>], residents: &mut Residents)
     if residents.has_place() {
         return;
     }
-    let Some(block) = residents.clean(seats) else {
+    let Some(block) = residents.clean() else {
         unreachable!()
     };
     seats[block].unload();
@@ -88,9 +88,9 @@ pub fn put<S: BlockSlot>(
     ensures kinds { IsErr result → IsErrOf result Fault.Device ⊎ IsErrOf result Fault.Memory }
 {
     load(seats, residents, alloc, block)?;
-    let seat = &mut seats[block.0 as usize];
-    let was_dirty = seat.is_dirty();
+    let at = block.0 as usize;
+    let seat = &mut seats[at];
     let put = seat.apply(no, span, bytes, grade);
-    residents.recount(was_dirty, seat.is_dirty());
+    residents.note_dirty(at, seat.is_dirty());
     put
 }

@@ -1,21 +1,21 @@
-//! Which blocks are in memory, so that a place for one more is found without a look at those that are not, and how many
-//! are dirty, so that without a look at any it is known whether there is one.
+//! Which blocks are in memory and which of those are dirty, so that a place for one more is found without a look at any
+//! block.
 //!
-//! Of the blocks in their places those in memory are the first, as many as are counted, so each of them is listed once. A
-//! hand goes around them (the clock algorithm): it stops at the first that is not dirty, and the block that comes into
-//! memory stands in the place of the one that left, which the hand has passed. Whether a block is in memory changes by a
-//! load or an eviction alone, and how many are dirty where a change is put into a block or a write of it lands; all else
-//! changes seat by seat, in many ways: so this stands beside the seats, which it does not own, and its value says of each
-//! block whether it is in memory, and how many are dirty.
+//! The blocks stand in their places in three runs: the dirty ones first, then the clean ones in memory, then those that are
+//! not in memory. Two counts tell where each run ends. A hand goes around the clean ones (the clock algorithm): the one at
+//! the hand is evicted next, and the block that comes into memory stands in the place of the one that left, which the hand
+//! has passed. A block that becomes dirty goes from the clean ones to the dirty ones, and the others stay on their side of
+//! the hand; one that becomes clean again comes to the clean ones where they begin, before the hand.
+//!
+//! Whether a block is in memory changes by a load or an eviction alone, and whether it is dirty where a change is put into
+//! it or a write of it lands; all else changes seat by seat, in many ways: so this stands beside the seats, which it does
+//! not own, and its value says of each block whether it is in memory and whether it is dirty.
 
-ghost use Rattle.std.specs.Prelude.{◌≡◌, ◌<◌, ◌≤◌, ◌+◌, ◌-◌, ℕ, IsTrue, true, false, cond, Some, IfOk, IfSome, IfErr, MatchOption, nat_lt, length, replicate, count_by, slice_get, slice_set};
+ghost use Rattle.std.specs.Prelude.{◌≡◌, ℕ, true, false, Some, IfOk, IfErr, MatchOption, nat_lt, replicate, count_by, slice_get, slice_set};
 ghost use Rattle.fst_types.specs.declared.fault.Fault.{Fault};
-ghost use Rattle.fst_seat.specs.Seats.{SeatView, is_dirty_seat};
-ghost use Rattle.fst_seat.specs.Residing.{are_loaded, IsCleanLoaded, IsCleanAt};
+ghost use Rattle.fst_seat.specs.Places.{IsCleanResident};
 
 use crate::places::Places;
-use crate::seat::Seat;
-use fst_device::BlockSlot;
 use fst_types::Fault;
 use std::alloc::Global;
 use std::marker::Model;
@@ -25,49 +25,25 @@ use std::marker::Model;
 pub struct Residents {
     most: u32,
     places: Places,
+    dirty: usize,
     count: usize,
     hand: usize,
-    dirty: usize,
 }
 
 impl Model for Residents {
-    ghost use Rattle.std.specs.Prelude.{◌≡◌, ◌≤◌, length, count_by};
-    ghost use Rattle.fst_seat.specs.Places.{ResidentsView, are_first};
+    ghost use Rattle.fst_seat.specs.Places.{ResidentsView, are_first, StandInRuns};
 
     ghost Value = { ResidentsView };
 
-    ghost view = { λ a. record { most = a.most; loaded = are_first a.count a.places; dirty = a.dirty } };
+    ghost view = { λ a. record { most = a.most; loaded = are_first a.count a.places; dirty = are_first a.dirty a.places } };
 
-    // The last fact says that a count of some of the blocks is a `usize`.
-    ghost invariant = { λ a. (a.count ≡ count_by (λ there. there) (are_first a.count a.places)) × (a.hand ≤ a.count) × (length a.places ≤ 18446744073709551615) };
-}
-
-/// The first block from one place to another that is not dirty.
-fn clean_in<S: BlockSlot>(
-    places: &Places,
-    seats: &[Seat<S>],
-    start: usize,
-    end: usize,
-) -> Option<usize>
-    requires long { length places.now ≡ length seats.now }
-    requires within { end ≤ length places.now }
-    ensures { MatchOption result
-        ((k b : ℕ) (seat : SeatView) → start ≤ k → k < end → slice_get places.now b ≡ Some k → slice_get seats.now b ≡ Some seat → is_dirty_seat seat ≡ false → ⊥)
-        (λ b. (k : ℕ) × (k < end) × (slice_get places.now b ≡ Some k) × ((seat : SeatView) × (slice_get seats.now b ≡ Some seat) × (is_dirty_seat seat ≡ false))) }
-{
-    for place in start..end {
-        let block = places.block_at(place);
-        if !seats[block].is_dirty() {
-            return Some(block);
-        }
-    }
-    None
+    ghost invariant = { λ a. StandInRuns a.places a.dirty a.hand a.count };
 }
 
 impl Residents {
     /// None of so many blocks is in memory. All memory is taken here.
     pub fn new(alloc: Global, most: u32, blocks: usize) -> Result<Residents, Fault>
-        ensures none { IfOk result (λ residents. residents ≡ record { most = most; loaded = replicate blocks false; dirty = 0 }) }
+        ensures none { IfOk result (λ residents. residents ≡ record { most = most; loaded = replicate blocks false; dirty = replicate blocks false }) }
         ensures only_memory { IfErr result (λ fault. fault ≡ Fault.Memory) }
     {
         let Ok(places) = Places::new(alloc, blocks) else {
@@ -76,15 +52,15 @@ impl Residents {
         Ok(Residents {
             most,
             places,
+            dirty: 0,
             count: 0,
             hand: 0,
-            dirty: 0,
         })
     }
 
     /// Whether fewer blocks are dirty than may be in memory.
     pub fn has_room(&self) -> bool
-        ensures { result ≡ nat_lt self.now.dirty self.now.most }
+        ensures { result ≡ nat_lt (count_by (λ dirty. dirty) self.now.dirty) self.now.most }
     {
         self.dirty < self.most as usize
     }
@@ -96,22 +72,25 @@ impl Residents {
         self.count < self.most as usize
     }
 
-    /// The next block in memory that is not dirty, as the hand goes around.
-    pub fn clean<S: BlockSlot>(&self, seats: &[Seat<S>]) -> Option<usize>
-        requires { self.now.loaded ≡ are_loaded seats.now }
-        ensures within { IfSome result (λ c. c < length seats.now) }
-        ensures clean { MatchOption result
-            ((d : ℕ) (other : SeatView) → slice_get seats.now d ≡ Some other → IsCleanLoaded other → ⊥)
-            (λ c. (seat : SeatView) × IsCleanAt seats.now c seat) }
+    /// The next clean block in memory, as the hand goes around. No block is looked at.
+    pub fn clean(&self) -> Option<usize>
+        ensures { MatchOption result
+            ((block : ℕ) → IsCleanResident self.now block → ⊥)
+            (λ block. IsCleanResident self.now block) }
     {
-        if let Some(block) = clean_in(&self.places, seats, self.hand, self.count) {
-            return Some(block);
+        if self.dirty >= self.count {
+            return None;
         }
-        clean_in(&self.places, seats, 0, self.hand)
+        let place = if self.hand < self.count {
+            self.hand
+        } else {
+            self.dirty
+        };
+        Some(self.places.block_at(place))
     }
 
-    /// The block comes into memory, in the place that the hand is at, and the hand goes on to the next: it comes to all
-    /// others before this one.
+    /// The block comes into memory, clean, in the place that the hand is at, and the hand goes on to the next: it comes to
+    /// all others before this one.
     fn add(&mut self, block: usize)
         requires { slice_get self.old.loaded block ≡ Some false }
         ensures { self.new ≡ record self.old { loaded = slice_set self.old.loaded block true } }
@@ -123,9 +102,9 @@ impl Residents {
         self.hand += 1;
     }
 
-    /// The block leaves the memory, where it is there. The hand stops at its place.
+    /// The block, which is not dirty, leaves the memory, where it is there. The hand stops at its place.
     pub fn remove(&mut self, block: usize)
-        requires { block < length self.old.loaded }
+        requires { slice_get self.old.dirty block ≡ Some false }
         ensures { self.new ≡ record self.old { loaded = slice_set self.old.loaded block false } }
     {
         let from = self.places.place_of(block);
@@ -147,12 +126,46 @@ impl Residents {
         }
     }
 
-    /// A block that was dirty, or was not, is dirty now, or is not.
-    pub fn recount(&mut self, was_dirty: bool, is_dirty: bool)
-        requires counted { IsTrue was_dirty → 0 < self.old.dirty }
-        requires few { self.old.dirty + cond is_dirty 1 0 - cond was_dirty 1 0 ≤ length self.old.loaded }
-        ensures { self.new ≡ record self.old { dirty = self.old.dirty + cond is_dirty 1 0 - cond was_dirty 1 0 } }
+    /// The block, which is in memory, is dirty now. Of the other clean ones those that the hand has passed stay before it,
+    /// and those that it has not stay after it.
+    fn mark_dirty(&mut self, block: usize)
+        requires { slice_get self.old.loaded block ≡ Some true }
+        ensures { self.new ≡ record self.old { dirty = slice_set self.old.dirty block true } }
     {
-        self.dirty = self.dirty - usize::from(was_dirty) + usize::from(is_dirty);
+        let from = self.places.place_of(block);
+        if from < self.dirty {
+            return;
+        }
+        let passed = from.min(self.hand);
+        self.places.exchange(from, passed);
+        self.places.exchange(passed, self.dirty);
+        self.dirty += 1;
+        self.hand = self.hand.max(passed + 1);
+    }
+
+    /// The block, which is in memory, is clean now. Where it was dirty, the hand has passed it: it comes to all others that
+    /// it has not passed before this one.
+    fn mark_clean(&mut self, block: usize)
+        requires { slice_get self.old.loaded block ≡ Some true }
+        ensures { self.new ≡ record self.old { dirty = slice_set self.old.dirty block false } }
+    {
+        let from = self.places.place_of(block);
+        if from >= self.dirty {
+            return;
+        }
+        self.dirty -= 1;
+        self.places.exchange(from, self.dirty);
+    }
+
+    /// Whether the block, which is in memory, is dirty now.
+    pub fn note_dirty(&mut self, block: usize, is_dirty: bool)
+        requires { slice_get self.old.loaded block ≡ Some true }
+        ensures { self.new ≡ record self.old { dirty = slice_set self.old.dirty block is_dirty } }
+    {
+        if is_dirty {
+            self.mark_dirty(block);
+        } else {
+            self.mark_clean(block);
+        }
     }
 }

@@ -13,6 +13,7 @@ use Rattle.fst_seat.proofs.Seated.{same_listed}
 use Rattle.fst_cache.proofs.ResideSeats.{dirty_is}
 use Rattle.fst_cache.proofs.ResideLoading.{unloaded, view_unloaded, within_of}
 use Rattle.fst_seat.proofs.Dirty.{left_clean, residents_moved}
+use Rattle.fst_seat.proofs.Exchanging.{get_map}
 use Rattle.fst_seat.proofs.Flying.{flying_same}
 use Rattle.fst_seat.proofs.Undo.{undo_same, undo_clean}
 use Rattle.fst_cache.proofs.cache.Cache.evict.Goals as goal
@@ -63,5 +64,9 @@ index_mut-requires g c =
 pub remove-requires : goal.remove-requires
 remove-requires g c =
     let i = c.self.inside in
-    let there : length c.args.self.now.state.blocks ≤ c.args.block.0 → ⊥ = c.in_default.ensures.0 in
-    rw (ap (λ (v : ResidentsView). v.loaded) c.self.invariant.listed, length-map) (within_of (length i.seats.items) c.args.block.0 (rw (← c.self.view_is, length-map) at there))
+    let s = state_of i.size i.residents.most i.tickets i.made i.graph i.contents.items i.seats.items in
+    let clear : NoneHolds (order c.args.self.now.state (Evict c.args.block.0)) = c.in_default.ensures in
+    let lt : c.args.block.0 < length i.seats.items = within_of (length i.seats.items) c.args.block.0 (rw (← c.self.view_is, length-map) at clear.0) in
+    let seated : slice_get i.seats.items c.args.block.0 ≡ Some c.index_mut.result.now = slice_get_read i.seats.items _ _ _ refl lt c.index_mut.ensures.value in
+    let clean = dirty_is s i.graph i.seats.items c.self.invariant.kept refl _ _ seated ∙ false_from_ne_true _ (rw (← c.self.view_is) at clear.1.0) in
+    rw (ap (λ (v : ResidentsView). v.dirty) c.self.invariant.listed) (get_map is_dirty_seat i.seats.items c.args.block.0 c.index_mut.result.now seated ∙ ap Some clean)
