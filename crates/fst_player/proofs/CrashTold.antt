@@ -18,6 +18,7 @@ use Rattle.fst_types.proofs.Finite.{In, Contains-from_In}
 use Rattle.fst_types.proofs.Opened.{opening_is_committed}
 use Rattle.fst_types.proofs.LandingOrder.{crash_is_fold, places_tell}
 use Rattle.fst_player.specs.Script.{JobKept, opened, is_left_at, is_left, left_of}
+use Rattle.fst_player.specs.Kept.{Came}
 use Rattle.fst_player.specs.Law.{CrashIsTold}
 use Rattle.fst_player.proofs.ScriptRuns.{script_is_run}
 use Rattle.fst_types.proofs.Parts.{made_by, parts_row, grown_parts}
@@ -99,7 +100,10 @@ told_over shape calls s jobs run finish b lt =
     ∙ ap (fold zero) (ap (map (λ (c : ChangeMade). c.write)) same ∙ left_writes s b made finished told)
     ∙ sym (law ∙ ap (λ x. fold x left) base)
 
+-- so of a cache that came from its opening
+pub told_after : (shape : Shape) (s : State) (jobs : List JobKept) (made : List ChangeMade) → Came (opened shape).cache s made
+    → (finish : List ℕ) (b : ℕ) → b < shape.blocks → left_of (record { cache = s; jobs = jobs; made = made }) finish b ≡ crash s (is_among finish) b
+told_after shape s jobs made (calls, run, same) finish b lt = ap (λ m. left_of (record { cache = s; jobs = jobs; made = m }) finish b) same ∙ told_over shape calls s jobs run finish b lt
+
 pub crash_is_told : CrashIsTold
-crash_is_told shape lines sent p h finish b lt =
-    let r = script_is_run shape lines sent p h in
-    ap (λ m. left_of (record p { made = m }) finish b) r.2 ∙ told_over shape r.0 p.cache p.jobs r.1 finish b lt
+crash_is_told shape lines sent p h = told_after shape p.cache p.jobs p.made (script_is_run shape lines sent p h)

@@ -7,14 +7,13 @@ use Rattle.fst_types.specs.State.{State}
 use Rattle.fst_types.specs.Flights.{IsOut}
 use Rattle.fst_types.specs.Events.{Event, Issue, Retry, Job, Refused}
 use Rattle.fst_types.specs.Step.{Step}
+use Rattle.fst_types.specs.Run.{ChangeMade}
 use Rattle.fst_device.specs.JobView.{JobView}
 use Rattle.fst_device.specs.MemoryView.{MemoryView}
 use Rattle.fst_lines.specs.Commands.{Command}
 use Rattle.fst_lines.specs.Sending.{Sends}
 use Rattle.fst_lines.specs.Replies.{refusal, flight_text}
-use Rattle.fst_player.specs.declared.accepted.Accepted.{Accepted}
 use Rattle.fst_player.specs.Script.{call_of, in_flight, after_call}
-use Rattle.fst_player.specs.Listing.{Listing}
 use Rattle.fst_player.specs.Kept.{IsKept, job_kept, jobs_kept}
 use Rattle.fst_player.specs.Answering.{Obeyed}
 use Rattle.fst_player.proofs.KeptLemmas.{refused_same, issue_out, issue_kept, retry_out, retry_kept}
@@ -40,17 +39,17 @@ pub retried_out : (given : Result (JobView MemoryView) Fault) (old new : State) 
 retried_out (Ok job) old new b step = retry_out old new b job step
 retried_out (Err f) old new b step = tt
 
-pub issued_kept : (given : Result (JobView MemoryView) Fault) (shape : Shape) (share : ℕ) (old new : State) (jobs after : List (JobView MemoryView)) (made : Listing) (b : ℕ)
-    → IsKept shape share old jobs made → Gives given old (Issue b) new → IsKeptAfter given jobs after → IsKept shape share new after made
-issued_kept (Ok job) shape share old new jobs after made b K step kept = rw kept (issue_kept shape share old new jobs made b job K step)
-issued_kept (Err f) shape share old new jobs after made b K step kept = rw (kept, refused_same old new (Issue b) f step) K
+pub issued_kept : (given : Result (JobView MemoryView) Fault) (shape : Shape) (share : ℕ) (old new : State) (jobs after : List (JobView MemoryView)) (made : List ChangeMade) (kept : List (List ℕ)) (b : ℕ)
+    → IsKept shape share old jobs made kept → Gives given old (Issue b) new → IsKeptAfter given jobs after → IsKept shape share new after made kept
+issued_kept (Ok job) shape share old new jobs after made kept b K step held = rw held (issue_kept shape share old new jobs made kept b job K step)
+issued_kept (Err f) shape share old new jobs after made kept b K step held = rw (held, refused_same old new (Issue b) f step) K
 
-pub retried_kept : (given : Result (JobView MemoryView) Fault) (shape : Shape) (share : ℕ) (old new : State) (jobs after : List (JobView MemoryView)) (made : Listing) (b : ℕ)
-    → IsKept shape share old jobs made → Gives given old (Retry b) new → IsKeptAfter given jobs after → IsKept shape share new after made
-retried_kept (Ok job) shape share old new jobs after made b K step kept = rw kept (retry_kept shape share old new jobs made b job K step)
-retried_kept (Err f) shape share old new jobs after made b K step kept = rw (kept, refused_same old new (Retry b) f step) K
+pub retried_kept : (given : Result (JobView MemoryView) Fault) (shape : Shape) (share : ℕ) (old new : State) (jobs after : List (JobView MemoryView)) (made : List ChangeMade) (kept : List (List ℕ)) (b : ℕ)
+    → IsKept shape share old jobs made kept → Gives given old (Retry b) new → IsKeptAfter given jobs after → IsKept shape share new after made kept
+retried_kept (Ok job) shape share old new jobs after made kept b K step held = rw held (retry_kept shape share old new jobs made kept b job K step)
+retried_kept (Err f) shape share old new jobs after made kept b K step held = rw (held, refused_same old new (Retry b) f step) K
 
-pub Obeyed-given : {T E : Type 0} (given : Result (JobView MemoryView) Fault) (old new : State) (c : Command) (e : Event) (jobs after : List (JobView MemoryView)) (made : List Accepted) (a b : Option (List ℕ)) (told : Result T E)
+pub Obeyed-given : {T E : Type 0} (given : Result (JobView MemoryView) Fault) (old new : State) (c : Command) (e : Event) (jobs after : List (JobView MemoryView)) (made : List ChangeMade) (a b : Option (List ℕ)) (told : Result T E)
     → call_of (player_at old jobs made) false c ≡ Some e → Gives given old e new → IsKeptAfter given jobs after → IsTold given new a b told
     → ((job : JobView MemoryView) → after_call (player_at old jobs made) e (Job job.ticket job.block job.image) new ≡ record (player_at new jobs made) { jobs = jobs_kept jobs ++ job_kept job ∷ [] })
     → ((fault : Fault) → after_call (player_at old jobs made) e (Refused fault) new ≡ player_at new jobs made)

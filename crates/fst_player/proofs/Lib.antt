@@ -2,7 +2,8 @@ pub mod StreamLemmas
 pub mod RunLemmas
 pub mod SessionLemmas
 pub mod AnswerLemmas
-pub mod ListingLemmas
+pub mod CommittedLemmas
+pub mod MarkLemmas
 pub mod KeptLemmas
 mod GroupLemmas
 pub mod TellLemmas

@@ -8,22 +8,22 @@ use Rattle.fst_types.specs.declared.settled.Settled.TheVariants as settled
 use Rattle.fst_types.specs.State.{State}
 use Rattle.fst_types.specs.Events.{Stat, Event, Settle, AskPlace, AskStat, Reply, Landed, Stalled, Lost, PlaceIs, StatIs}
 use Rattle.fst_types.specs.Looks.{place_of, stat_of}
+use Rattle.fst_types.specs.Run.{ChangeMade}
 use Rattle.fst_types.specs.Step.{Step, accepted, ask_place, ask_stat}
 use Rattle.fst_cache.specs.Replies.{settled_reply}
 use Rattle.fst_device.specs.JobView.{JobView}
 use Rattle.fst_device.specs.MemoryView.{MemoryView}
 use Rattle.fst_lines.specs.declared.failure.Failure.{Failure}
-use Rattle.fst_player.specs.declared.accepted.Accepted.{Accepted}
 use Rattle.fst_lines.specs.Commands.{Command, done, place, stat}
 use Rattle.fst_lines.specs.Sending.{Sends}
 use Rattle.fst_lines.specs.Replies.{refusal, place_text, stat_text}
 use Rattle.fst_player.specs.Script.{PlayerState, JobKept, Obeys, call_of, text_of, after_call, job_of, without, is_made, called, stranger}
-use Rattle.fst_player.specs.Kept.{job_kept, jobs_kept, change_made, changes_made, settled_text}
+use Rattle.fst_player.specs.Kept.{job_kept, jobs_kept, settled_text}
 use Rattle.fst_player.specs.Answering.{Obeyed}
 
 -- what contracts see of a player
-abbrev pub player_at : State → List (JobView MemoryView) → List Accepted → PlayerState
-player_at s jobs made = record { cache = s; jobs = jobs_kept jobs; made = changes_made made }
+abbrev pub player_at : State → List (JobView MemoryView) → List ChangeMade → PlayerState
+player_at s jobs made = record { cache = s; jobs = jobs_kept jobs; made = made }
 
 -- the command makes a call, which was answered so
 pub Obeyed-called : {T E : Type 0} (p q : PlayerState) (c : Command) (faulted : Bool) (e : Event) (r : Reply) (s : State) (a b : Option (List ℕ)) (told : Result T E)
@@ -59,11 +59,6 @@ Obeyed-settled p q ticket fail job s settled.Lost a b told found step same sent 
     Obeyed-called p q (done ticket fail) false (Settle ticket job.block job.image (is_made fail)) Lost s a b told (ap (option_map (λ (j : JobKept). Settle ticket j.block j.image (is_made fail))) found) step same sent
 
 -- one job more is kept
-pub one_job_more : (s : State) (jobs : List (JobView MemoryView)) (made : List Accepted) (job : JobView MemoryView)
-    → (let x : PlayerState = record { cache = s; jobs = jobs_kept (jobs ++ job ∷ []); made = changes_made made } in x) ≡ record { cache = s; jobs = jobs_kept jobs ++ job_kept job ∷ []; made = changes_made made }
-one_job_more s jobs made job = ap (λ (l : List JobKept). let x : PlayerState = record { cache = s; jobs = l; made = changes_made made } in x) (map-append job_kept jobs (job ∷ []))
-
--- one change more is kept
-pub one_change_more : (s : State) (jobs : List (JobView MemoryView)) (made : List Accepted) (a : Accepted)
-    → (let x : PlayerState = record { cache = s; jobs = jobs_kept jobs; made = changes_made (made ++ a ∷ []) } in x) ≡ record { cache = s; jobs = jobs_kept jobs; made = changes_made made ++ change_made a ∷ [] }
-one_change_more s jobs made a = ap (λ l. let x : PlayerState = record { cache = s; jobs = jobs_kept jobs; made = l } in x) (map-append change_made made (a ∷ []))
+pub one_job_more : (s : State) (jobs : List (JobView MemoryView)) (made : List ChangeMade) (job : JobView MemoryView)
+    → (let x : PlayerState = record { cache = s; jobs = jobs_kept (jobs ++ job ∷ []); made = made } in x) ≡ record { cache = s; jobs = jobs_kept jobs ++ job_kept job ∷ []; made = made }
+one_job_more s jobs made job = ap (λ (l : List JobKept). let x : PlayerState = record { cache = s; jobs = l; made = made } in x) (map-append job_kept jobs (job ∷ []))

@@ -1,6 +1,6 @@
 -- Slots of zero bytes are those that a cache is opened over.
-use Rattle.std.proofs.Common.{◌≡◌, ◌⊎◌, ℕ, zero, suc, ◌+◌, List, [], ◌∷◌, length, map, get_or, refl, sym, ap, subst, ◌∙◌, inl, inr, arith, zero-add}
-use Rattle.std.specs.Prelude.{None, All, replicate}
+use Rattle.std.proofs.Common.{◌≡◌, ◌⊎◌, ℕ, zero, suc, ◌+◌, List, [], ◌∷◌, length, map, get_or, refl, sym, ap, ◌∙◌, inl, inr, arith, zero-add}
+use Rattle.std.specs.Prelude.{None, replicate}
 use Rattle.std.specs.List.{range_with_len}
 use Rattle.std.proofs.lemmas.List.{length-map, length-replicate, get_or-replicate}
 use Rattle.std.proofs.lemmas.List.Elements.{All-nil}
@@ -10,14 +10,15 @@ use Rattle.fst_types.specs.declared.fault.Fault.{Fault}
 use Rattle.fst_types.specs.declared.fault.Fault.TheVariants as fault
 use Rattle.fst_types.specs.State.{State, BlockState}
 use Rattle.fst_types.specs.Flights.{IsOut}
-use Rattle.fst_types.specs.Opening.{opening}
+use Rattle.fst_types.specs.Run.{ChangeMade, start}
 use Rattle.fst_types.specs.Order.{open_order}
 use Rattle.fst_types.specs.Refusals.{IsFirst, NoneHolds}
 use Rattle.fst_device.specs.JobView.{JobView}
 use Rattle.fst_device.specs.MemoryView.{MemoryView}
-use Rattle.fst_player.specs.Listing.{Listing}
-use Rattle.fst_player.specs.Kept.{IsKept, IsInside}
+use Rattle.fst_player.specs.Script.{opened}
+use Rattle.fst_player.specs.Kept.{IsKept}
 use Rattle.fst_player.specs.Zeros.{zero_slot}
+use Rattle.fst_player.proofs.CommittedLemmas.{opened_committed}
 
 pub indices_are : (size a n : ℕ) → map (λ (s : MemoryView). s.index) (map (zero_slot size) (range_with_len a n)) ≡ range_with_len a n
 indices_are size a zero = refl
@@ -50,20 +51,20 @@ open_fault n size indices sizes f at of (inl first) =
       ]
     ]
 
--- what is kept at the start: no job, and no change
-none_kept : (shape : Shape) (bytes : List (List ℕ)) (made : Listing) → length bytes ≡ shape.blocks → made.made ≡ [] → length made.rooms ≡ shape.blocks → IsKept shape 0 (opening shape.size shape.resident 0 0 bytes) [] made
-none_kept shape bytes made long none lists =
-    let s = opening shape.size shape.resident 0 0 bytes in
+-- what is kept at the start: no job, no change, and zero bytes
+none_kept : (shape : Shape) → IsKept shape 0 (opened shape).cache [] [] (replicate shape.blocks (replicate shape.size 0))
+none_kept shape =
+    let s = (opened shape).cache in
+    let bytes : List (List ℕ) = replicate shape.blocks (replicate shape.size 0) in
     record {
       counted = refl;
-      blocks = sym (length-map bytes (λ (b : List ℕ). let x : BlockState = record { committed = b; flight = None } in x) ∙ long);
-      size = refl;
+      blocks = sym (length-map bytes (λ (b : List ℕ). let x : BlockState = record { committed = b; flight = None } in x) ∙ length-replicate shape.blocks (replicate shape.size 0));
       out = All-nil (λ j. IsOut s j.ticket j.block j.image);
       apart = λ i j d below inside. absurd (omega (arith, inside));
-      inside = subst (All (IsInside s.size)) (sym none) (All-nil (IsInside s.size));
-      listed = lists;
+      came = ([], start, refl);
+      committed = opened_committed bytes;
     }
 
-pub opened_kept : (shape : Shape) (share : ℕ) (s : State) (bytes : List (List ℕ)) (jobs : List (JobView MemoryView)) (made : Listing)
-    → share ≡ 0 → s ≡ opening shape.size shape.resident 0 0 bytes → length bytes ≡ shape.blocks → jobs ≡ [] → made.made ≡ [] → length made.rooms ≡ shape.blocks → IsKept shape share s jobs made
-opened_kept shape share s bytes jobs made none same long no_jobs no_changes lists = rw (none, same, no_jobs) (none_kept shape bytes made long no_changes lists)
+pub opened_kept : (shape : Shape) (share : ℕ) (s : State) (jobs : List (JobView MemoryView)) (made : List ChangeMade) (kept : List (List ℕ))
+    → share ≡ 0 → s ≡ (opened shape).cache → jobs ≡ [] → made ≡ [] → kept ≡ replicate shape.blocks (replicate shape.size 0) → IsKept shape share s jobs made kept
+opened_kept shape share s jobs made kept none same no_jobs no_changes zeros = rw (none, same, no_jobs, no_changes, zeros) (none_kept shape)

@@ -2,7 +2,8 @@ pub mod Script
 pub mod Stream
 pub mod Lines
 pub mod Answering
-pub mod Listing
+pub mod Asked
+pub mod Marks
 pub mod Kept
 pub mod Zeros
 pub mod Session

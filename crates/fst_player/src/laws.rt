@@ -2,8 +2,8 @@
 
 ghost use Rattle.fst_player.specs.Law.{CrashIsTold, ScriptIsRun};
 
-/// What a script's lines come to is a run of the cache from its opening, and the changes that the player keeps are those
-/// that the run made.
+/// What a script's lines come to is a run of the cache from its opening, and the changes that contracts see of the player
+/// are those that the run made.
 pub fn script_is_run()
     ensures { ScriptIsRun }
 {}

@@ -6,8 +6,9 @@
 //! beginning of such a run.
 //!
 //! From the bottom: `player` has a file for each group of commands, over a cache, the jobs that wait for their `done`, and
-//! the changes that were accepted (`accepted`; `changes` lists those of each block), from which `crash` tells what the
-//! disk would hold without a look at the cache's blocks. `line` is the line that is read, as far as it is kept, and
+//! what is committed of each block (`committed`), from which `crash` tells what the disk would hold without a look at
+//! the cache's blocks. The changes that were accepted are kept for contracts alone (`made`): no line takes memory for
+//! longer than it is answered, whatever was said before it. `line` is the line that is read, as far as it is kept, and
 //! `session` answers each line where it ends. `play` is the loop over the stream, and `zeros` the slots that a play
 //! begins with. `laws` says, over the definitions alone, that a script's run is a run of the cache, and that what is told
 //! of a crash is what the crash leaves.
@@ -16,10 +17,10 @@
 //! program's.
 #![tactic(auto)]
 
-mod accepted;
-mod changes;
+mod committed;
 pub mod laws;
 mod line;
+mod made;
 pub mod play;
 mod player;
 mod session;

@@ -1,46 +1,35 @@
-//! What a crash would leave: zero blocks with the accepted changes over them that are on disk, and those in flight whose
-//! write is taken to finish. Nothing is read from the cache's blocks: each
-//! block is folded anew, from its own changes alone.
+//! What a crash would leave: of each block what is committed, or the image in flight where its write is taken to finish.
+//! No change is looked at, so that a crash takes as long as its reply, whatever came before it.
 
-ghost use Rattle.std.specs.Prelude.{◌≡◌, length};
+ghost use Rattle.std.specs.Prelude.{◌≡◌, ◌<◌, length};
 ghost use Rattle.std.specs.List.{flat_map};
-ghost use Rattle.fst_types.specs.Tests.{is_among};
-ghost use Rattle.fst_types.specs.Looks.{place_of};
+ghost use Rattle.fst_types.specs.Crash.{crash};
 ghost use Rattle.fst_lines.specs.Commands as script;
 ghost use Rattle.fst_lines.specs.Parsing.{block_numbers};
 ghost use Rattle.fst_lines.specs.Replies.{crash_part};
-ghost use Rattle.fst_player.specs.Script.{finish_fault, first_finish_fault, is_left_at, left_of, left_of_each};
+ghost use Rattle.fst_player.specs.Script.{finish_fault, first_finish_fault, left_of_each};
 ghost use Rattle.fst_lines.specs.Sending.{Sends};
 ghost use Rattle.fst_player.specs.Answering.{Obeyed};
+ghost use Rattle.fst_player.specs.Marks.{AreMarks};
 
-use crate::accepted::Accepted;
 use crate::player::Player;
 use fst_lines::output::{Stopped, send};
 use fst_lines::reply::{send_crash_part, send_refusal};
-use fst_types::{BlockNo, Fault, Place, write_over};
+use fst_types::{BlockNo, Fault, MAX_BLOCKS};
 use std::io::Write;
 
-// Whether a block is in a list.
-fn is_in(blocks: &[BlockNo], block: u32) -> bool
-    ensures { result ≡ is_among (block_numbers blocks.now) block }
+// Marks those of all blocks that are in a list.
+fn marks_of(blocks: &[BlockNo]) -> [bool; MAX_BLOCKS as usize]
+    ensures { AreMarks result (block_numbers blocks.now) }
 {
-    for b in blocks {
-        if b.0 == block {
-            return true;
+    let mut marks = [false; MAX_BLOCKS as usize];
+    for block in blocks {
+        let at = block.0 as usize;
+        if at < marks.len() {
+            marks[at] = true;
         }
     }
-    false
-}
-
-// Whether a crash leaves what is at a place, its write being finished or not.
-fn is_left(finished: bool, place: Option<Place>) -> bool
-    ensures { result ≡ is_left_at finished place }
-{
-    match place {
-        Some(Place::Disk) => true,
-        Some(Place::Flight) => finished,
-        _ => false,
-    }
+    marks
 }
 
 impl Player {
@@ -69,43 +58,17 @@ impl Player {
         None
     }
 
-    // Whether a crash leaves a change, the write of its block being finished or not.
-    fn leaves(&self, change: &Accepted, finished: bool) -> bool
-        ensures { result ≡ is_left_at finished (place_of self.now.cache.heads self.now.cache.numbers change.now.number.0) }
+    // The bytes that a crash leaves of a block, its write being finished or not.
+    fn left(&self, block: u32, is_finished: bool) -> &[u8]
+        requires { block < length self.now.cache.blocks }
+        ensures { result.now ≡ crash self.now.cache (λ b. is_finished) block }
     {
-        is_left(finished, self.cache.place(change.number))
-    }
-
-    // Puts the bytes that a crash leaves of a block. It looks at the changes of that block alone.
-    fn leave(&self, finish: &[BlockNo], block: u32, bytes: &mut [u8])
-        requires { length bytes.old ≡ self.now.cache.size }
-        ensures { bytes.new ≡ left_of self.now (block_numbers finish.now) block }
-    {
-        let finished = is_in(finish, block);
-        bytes.fill(0);
-        for position in self.made.of(block) {
-            let change = self.made.at(*position);
-            if self.leaves(change, finished) {
-                write_over(bytes, change.at, &change.bytes);
+        if is_finished {
+            if let Some(flight) = self.cache.flight(BlockNo(block)) {
+                return flight.image;
             }
         }
-    }
-
-    // Tells the bytes that a crash leaves of a block.
-    fn send_left<W: Write>(
-        &self,
-        writer: &mut W,
-        calls: &mut u64,
-        finish: &[BlockNo],
-        block: u32,
-    ) -> Result<(), Stopped>
-        ensures { Sends (W.contents writer.old) (W.contents writer.new) result
-            (crash_part (left_of self.now (block_numbers finish.now) block)) }
-    {
-        let mut bytes = [0u8; 4096];
-        let left = &mut bytes[..self.shape.size as usize];
-        self.leave(finish, block, left);
-        send_crash_part(writer, calls, left)
+        self.committed.of(block)
     }
 
     // Tells the bytes that a crash leaves of each block.
@@ -118,8 +81,10 @@ impl Player {
         ensures { Sends (W.contents writer.old) (W.contents writer.new) result
             (flat_map crash_part (left_of_each self.now (block_numbers finish.now))) }
     {
+        let marks = marks_of(finish);
         for block in 0..self.shape.blocks {
-            self.send_left(writer, calls, finish, block)?;
+            let left = self.left(block, marks[block as usize]);
+            send_crash_part(writer, calls, left)?;
         }
         Ok(())
     }

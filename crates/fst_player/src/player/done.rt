@@ -80,7 +80,9 @@ impl Player {
         };
         let job = self.jobs.remove(at);
         let block = job.block();
-        match self.cache.settle(carry_told(job, fail)) {
+        let done = carry_told(job, fail);
+        self.committed.take_in(&done);
+        match self.cache.settle(done) {
             Ok(settled) => send_settled(writer, calls, ticket, block, settled),
             Err(_) => unreachable!(),
         }

@@ -8,7 +8,7 @@ use crate::player::Player;
 use crate::player::told::{send_accepted, send_made};
 use fst_lines::output::Stopped;
 use fst_lines::reply::{send_numbered, send_refusal};
-use fst_types::{BlockNo, Fault, GroupNo};
+use fst_types::{BlockNo, GroupNo};
 use std::io::Write;
 
 impl Player {
@@ -42,7 +42,7 @@ impl Player {
         send_accepted(writer, calls, "group_after", group.0, answer)
     }
 
-    // Makes a change for a group, and keeps it where it is accepted.
+    // Makes a change for a group.
     pub(super) fn group_patch<W: Write>(
         &mut self,
         writer: &mut W,
@@ -50,18 +50,15 @@ impl Player {
         group: GroupNo,
         block: BlockNo,
         at: u32,
-        bytes: Vec<u8>,
+        bytes: &[u8],
     ) -> Result<(), Stopped>
-        ensures { Obeyed self.old (script.group_patch group.0 block.0 at bytes.items)
+        ensures { Obeyed self.old (script.group_patch group.0 block.0 at bytes.now)
             (W.contents writer.old) (W.contents writer.new) result self.new }
     {
-        if self.made.reserve(block).is_err() {
-            return send_refusal(writer, calls, Fault::Memory);
-        }
         let answer = self
             .cache
-            .group_patch(&mut self.share, group, block, at, &bytes);
-        self.made.keep(&answer, block, at, bytes);
+            .group_patch(&mut self.share, group, block, at, bytes);
+        self.made = self.made.with(&answer, block, at, bytes);
         send_made(writer, calls, answer)
     }
 

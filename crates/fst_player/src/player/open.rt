@@ -4,7 +4,8 @@ ghost use Rattle.std.specs.Prelude.{◌≡◌, MatchResult};
 ghost use Rattle.fst_types.specs.declared.fault.Fault.{Fault};
 ghost use Rattle.fst_player.specs.Script.{opened};
 
-use crate::changes::Changes;
+use crate::committed::Committed;
+use crate::made::Made;
 use crate::player::Player;
 use crate::zeros::zero_slots;
 use fst_cache::Cache;
@@ -19,7 +20,7 @@ impl Player {
         let Ok(slots) = zero_slots(alloc, shape.blocks, shape.size) else {
             return Err(Fault::Memory);
         };
-        let Ok(made) = Changes::new(alloc, shape.blocks) else {
+        let Ok(committed) = Committed::zeros(alloc, shape.blocks, shape.size) else {
             return Err(Fault::Memory);
         };
         match Cache::open(alloc, shape, slots) {
@@ -30,7 +31,8 @@ impl Player {
                     cache,
                     share,
                     jobs: Vec::new(alloc),
-                    made,
+                    committed,
+                    made: Made::none(),
                 })
             }
             Err((_, fault)) => Err(fault),

@@ -9,28 +9,25 @@ use crate::player::Player;
 use crate::player::told::send_made;
 use fst_lines::output::Stopped;
 use fst_lines::reply::{send_numbered, send_refusal};
-use fst_types::{BlockNo, Fault, PatchNo};
+use fst_types::{BlockNo, PatchNo};
 use std::io::Write;
 
 impl Player {
-    // Makes a change, and keeps it where it is accepted.
+    // Makes a change.
     pub(super) fn patch<W: Write>(
         &mut self,
         writer: &mut W,
         calls: &mut u64,
         block: BlockNo,
         at: u32,
-        bytes: Vec<u8>,
+        bytes: &[u8],
         after: &[PatchNo],
     ) -> Result<(), Stopped>
-        ensures { Obeyed self.old (script.patch block.0 at bytes.items (patch_numbers after.now))
+        ensures { Obeyed self.old (script.patch block.0 at bytes.now (patch_numbers after.now))
             (W.contents writer.old) (W.contents writer.new) result self.new }
     {
-        if self.made.reserve(block).is_err() {
-            return send_refusal(writer, calls, Fault::Memory);
-        }
-        let answer = self.cache.patch(&mut self.share, block, at, &bytes, after);
-        self.made.keep(&answer, block, at, bytes);
+        let answer = self.cache.patch(&mut self.share, block, at, bytes, after);
+        self.made = self.made.with(&answer, block, at, bytes);
         send_made(writer, calls, answer)
     }
 

@@ -7,7 +7,7 @@ use Rattle.fst_player.proofs.player.Player.empty.Goals.{in-Ok, in-Err}
 pub invariant_of-self : goal.invariant_of-self
 invariant_of-self g c =
     elim c.match-empty.branch [
-      | in-Ok w ↦ rw w.in-Ok.ensures.share (empty_kept _ _ _ _ _ _ _ _ c.self.invariant w.in-Ok.ensures.step)
+      | in-Ok w ↦ rw w.in-Ok.ensures.share (empty_kept _ _ _ _ _ _ _ _ _ c.self.invariant w.in-Ok.ensures.step)
       | in-Err w ↦ rw (w.in-Err.ensures.share, refused_same _ _ _ _ w.in-Err.ensures.step) c.self.invariant
     ]
 

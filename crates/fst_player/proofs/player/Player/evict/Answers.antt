@@ -4,9 +4,9 @@ use Rattle.fst_player.proofs.KeptLemmas.{evict_kept}
 use Rattle.fst_player.proofs.player.Player.evict.Goals as goal
 
 pub invariant_of-self : goal.invariant_of-self
-invariant_of-self g c = accepted_kept c.evict-answer.result _ _ _ _ _ _ _ c.evict-answer.ensures.step c.self.invariant (λ step. evict_kept _ _ _ _ _ _ _ c.self.invariant step)
+invariant_of-self g c = accepted_kept c.evict-answer.result _ _ _ _ _ _ _ _ c.evict-answer.ensures.step c.self.invariant (λ step. evict_kept _ _ _ _ _ _ _ _ c.self.invariant step)
 
 pub returns : goal.returns
 returns g c =
     let i = c.self.inside in
-    rw (← c.self.view_is) (Obeyed-accepted c.evict-answer.result i.cache.state _ _ _ i.jobs.items i.made.made _ _ _ refl c.evict-answer.ensures.step c.send_accepted.ensures refl (λ fault. refl))
+    rw (← c.self.view_is) (Obeyed-accepted c.evict-answer.result i.cache.state _ _ _ i.jobs.items i.made.items _ _ _ refl c.evict-answer.ensures.step c.send_accepted.ensures refl (λ fault. refl))

@@ -1,7 +1,7 @@
 use Rattle.fst_player.proofs.player.Player.obey.Goals as goal
 
 pub returns-in-Patch : goal.returns-in-Patch
-returns-in-Patch g c = rw c.in-Patch.is (rw c.deref.ensures.value at c.patch.ensures)
+returns-in-Patch g c = rw c.in-Patch.is (rw (c.deref.ensures.value, c.deref-in-Patch.ensures.value) at c.patch.ensures)
 
 pub returns-in-Empty : goal.returns-in-Empty
 returns-in-Empty g c = rw c.in-Empty.is (rw c.deref-in-Empty.ensures.value at c.empty.ensures)
@@ -55,7 +55,7 @@ pub returns-in-GroupAfter : goal.returns-in-GroupAfter
 returns-in-GroupAfter g c = rw c.in-GroupAfter.is c.group_after.ensures
 
 pub returns-in-GroupPatch : goal.returns-in-GroupPatch
-returns-in-GroupPatch g c = rw c.in-GroupPatch.is c.group_patch.ensures
+returns-in-GroupPatch g c = rw c.in-GroupPatch.is (rw c.deref-in-GroupPatch.ensures.value at c.group_patch.ensures)
 
 pub returns-in-GroupClose : goal.returns-in-GroupClose
 returns-in-GroupClose g c = rw c.in-GroupClose.is c.group_close.ensures

@@ -13,11 +13,11 @@ pub keep_job-requires-clause-out : goal.keep_job-requires-clause-out
 keep_job-requires-clause-out g c = issued_out c.issue-given.result _ _ _ c.issue-given.ensures.step
 
 pub invariant_of-self-2 : goal.invariant_of-self-2
-invariant_of-self-2 g c = issued_kept c.issue-given.result _ _ _ _ _ _ _ _ c.self.invariant c.issue-given.ensures.step (rw c.try_reserve.ensures.items at c.keep_job.ensures.kept)
+invariant_of-self-2 g c = issued_kept c.issue-given.result _ _ _ _ _ _ _ _ _ c.self.invariant c.issue-given.ensures.step (rw c.try_reserve.ensures.items at c.keep_job.ensures.kept)
 
 pub returns : goal.returns
 returns g c =
     let i = c.self.inside in
     rw (← c.self.view_is)
-    (Obeyed-given c.issue-given.result i.cache.state _ _ _ i.jobs.items _ i.made.made _ _ _ refl c.issue-given.ensures.step (rw c.try_reserve.ensures.items at c.keep_job.ensures.kept) c.keep_job.ensures.told
+    (Obeyed-given c.issue-given.result i.cache.state _ _ _ i.jobs.items _ i.made.items _ _ _ refl c.issue-given.ensures.step (rw c.try_reserve.ensures.items at c.keep_job.ensures.kept) c.keep_job.ensures.told
     (λ job. refl) (λ fault. refl))
