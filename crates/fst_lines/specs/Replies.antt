@@ -6,6 +6,8 @@ use Rattle.fst_types.specs.declared.grade.Grade.{Grade}
 use Rattle.fst_types.specs.declared.grade.Grade.TheVariants as grade
 use Rattle.fst_types.specs.declared.place.Place.{Place}
 use Rattle.fst_types.specs.declared.place.Place.TheVariants as at_place
+use Rattle.fst_types.specs.declared.settled.Settled.{Settled}
+use Rattle.fst_types.specs.declared.settled.Settled.TheVariants as settled
 use Rattle.fst_types.specs.declared.fault.What.{What}
 use Rattle.fst_types.specs.declared.fault.What.TheVariants as what
 use Rattle.fst_types.specs.declared.fault.Fault.{Fault}
@@ -80,6 +82,12 @@ stalled_text ticket block = codes "stalled " ++ decimal ticket ++ codes " block 
 
 abbrev pub lost_text : (ticket block : ℕ) → List ℕ
 lost_text ticket block = codes "lost " ++ decimal ticket ++ codes " block " ++ decimal block
+
+-- what is told of a settled write
+abbrev pub settled_text : (ticket block : ℕ) → Settled → List ℕ
+settled_text ticket block settled.Landed = done_text ticket block
+settled_text ticket block settled.Stalled = stalled_text ticket block
+settled_text ticket block settled.Lost = lost_text ticket block
 
 abbrev pub evict_text : ℕ → List ℕ
 evict_text block = codes "evict " ++ decimal block

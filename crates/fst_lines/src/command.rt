@@ -1,11 +1,10 @@
 //! What a script line asks: one JSON object with a member `do` and the members that its command has.
 
 ghost use Rattle.std.specs.Prelude.{◌≡◌, Option, option_map, Some};
-ghost use Rattle.serde_json.specs.Find.{as_object};
-ghost use Rattle.serde_json.specs.View.{view, members_view};
-ghost use Rattle.fst_lines.specs.Commands.{patch_in, empty_in, depend_in, done_in, crash_in, only_number_in, alone_in, group_after_in, group_patch_in, command_named, command_in, command_of};
+ghost use Rattle.serde_json.specs.View.{view};
+ghost use Rattle.fst_lines.specs.Commands.{patch_in, empty_in, depend_in, done_in, crash_in, only_number_in, group_after_in, group_patch_in, command_named, command_of_value, command_of};
 ghost use Rattle.fst_lines.specs.Parsing.{command, Gives, Parses};
-ghost use Rattle.fst_lines.specs.Small.{one_number_in};
+ghost use Rattle.fst_lines.specs.Small.{alone_named, either_in};
 
 use crate::failure::Failure;
 use crate::members::{
@@ -86,168 +85,156 @@ pub enum Command {
     },
 }
 
-fn patch(alloc: Global, value: &Value, members: &Map<String, Value>) -> Result<Command, Fault>
-    requires { as_object (view value.now) ≡ Some (members_view members.now.entries) }
+fn patch(alloc: Global, value: &Value) -> Result<Command, Fault>
     ensures { Gives command result (patch_in (view value.now)) }
 {
-    if !has_only(&["do", "block", "at", "data", "after"], members) {
+    if !has_only(&["do", "block", "at", "data", "after"], value) {
         return Err(Fault::BadField);
     }
-    let block = BlockNo(number_at(value, "block")?);
-    let at = number_at(value, "at")?;
+    let (Some(block), Some(at)) = (number_at(value, "block"), number_at(value, "at")) else {
+        return Err(Fault::BadField);
+    };
     let data = bytes_at(alloc, value, "data")?;
     let after = patches_if_any(alloc, value.get("after"))?;
     Ok(Command::Patch {
-        block,
+        block: BlockNo(block),
         at,
         data,
         after,
     })
 }
 
-fn empty(alloc: Global, value: &Value, members: &Map<String, Value>) -> Result<Command, Fault>
-    requires { as_object (view value.now) ≡ Some (members_view members.now.entries) }
+fn empty(alloc: Global, value: &Value) -> Result<Command, Fault>
     ensures { Gives command result (empty_in (view value.now)) }
 {
-    if !has_only(&["do", "after"], members) {
+    if !has_only(&["do", "after"], value) {
         return Err(Fault::BadField);
     }
-    let after = patches_if_any(alloc, value.get("after"))?;
-    Ok(Command::Empty { after })
+    match patches_if_any(alloc, value.get("after")) {
+        Ok(after) => Ok(Command::Empty { after }),
+        Err(fault) => Err(fault),
+    }
 }
 
-fn depend(alloc: Global, value: &Value, members: &Map<String, Value>) -> Result<Command, Fault>
-    requires { as_object (view value.now) ≡ Some (members_view members.now.entries) }
+fn depend(alloc: Global, value: &Value) -> Result<Command, Fault>
     ensures { Gives command result (depend_in (view value.now)) }
 {
-    if !has_only(&["do", "gate", "on"], members) {
-        return Err(Fault::BadField);
+    match number_at(value, "gate") {
+        Some(gate) if has_only(&["do", "gate", "on"], value) => Ok(Command::Depend {
+            gate: PatchNo(gate),
+            on: patches_at(alloc, value, "on")?,
+        }),
+        _ => Err(Fault::BadField),
     }
-    let gate = PatchNo(number_at(value, "gate")?);
-    let on = patches_at(alloc, value, "on")?;
-    Ok(Command::Depend { gate, on })
 }
 
-fn done(value: &Value, members: &Map<String, Value>) -> Result<Command, Fault>
-    requires { as_object (view value.now) ≡ Some (members_view members.now.entries) }
-    ensures { Gives command result (done_in (view value.now)) }
+fn done(value: &Value) -> Option<Command>
+    ensures { option_map command result ≡ done_in (view value.now) }
 {
-    if !has_only(&["do", "ticket", "fail"], members) {
-        return Err(Fault::BadField);
+    match (long_at(value, "ticket"), failure_if_any(value.get("fail"))) {
+        (Some(ticket), Some(fail)) if has_only(&["do", "ticket", "fail"], value) => {
+            Some(Command::Done {
+                ticket: Ticket(ticket),
+                fail,
+            })
+        }
+        _ => None,
     }
-    let ticket = Ticket(long_at(value, "ticket")?);
-    let fail = failure_if_any(value.get("fail"))?;
-    Ok(Command::Done { ticket, fail })
 }
 
-fn crash(alloc: Global, value: &Value, members: &Map<String, Value>) -> Result<Command, Fault>
-    requires { as_object (view value.now) ≡ Some (members_view members.now.entries) }
+fn crash(alloc: Global, value: &Value) -> Result<Command, Fault>
     ensures { Gives command result (crash_in (view value.now)) }
 {
-    if !has_only(&["do", "finish"], members) {
+    if !has_only(&["do", "finish"], value) {
         return Err(Fault::BadField);
     }
-    let finish = blocks_if_any(alloc, value.get("finish"))?;
-    Ok(Command::Crash { finish })
+    match blocks_if_any(alloc, value.get("finish")) {
+        Ok(finish) => Ok(Command::Crash { finish }),
+        Err(fault) => Err(fault),
+    }
 }
 
-fn group_after(value: &Value, members: &Map<String, Value>) -> Result<Command, Fault>
-    requires { as_object (view value.now) ≡ Some (members_view members.now.entries) }
-    ensures { Gives command result (group_after_in (view value.now)) }
+fn group_after(value: &Value) -> Option<Command>
+    ensures { option_map command result ≡ group_after_in (view value.now) }
 {
-    if !has_only(&["do", "group", "on"], members) {
-        return Err(Fault::BadField);
+    match (number_at(value, "group"), number_at(value, "on")) {
+        (Some(group), Some(on)) if has_only(&["do", "group", "on"], value) => {
+            Some(Command::GroupAfter {
+                group: GroupNo(group),
+                on: GroupNo(on),
+            })
+        }
+        _ => None,
     }
-    let group = GroupNo(number_at(value, "group")?);
-    let on = GroupNo(number_at(value, "on")?);
-    Ok(Command::GroupAfter { group, on })
 }
 
-fn group_patch(alloc: Global, value: &Value, members: &Map<String, Value>) -> Result<Command, Fault>
-    requires { as_object (view value.now) ≡ Some (members_view members.now.entries) }
+fn group_patch(alloc: Global, value: &Value) -> Result<Command, Fault>
     ensures { Gives command result (group_patch_in (view value.now)) }
 {
-    if !has_only(&["do", "group", "block", "at", "data"], members) {
+    if !has_only(&["do", "group", "block", "at", "data"], value) {
         return Err(Fault::BadField);
     }
-    let group = GroupNo(number_at(value, "group")?);
-    let block = BlockNo(number_at(value, "block")?);
-    let at = number_at(value, "at")?;
+    let (Some(group), Some(block), Some(at)) = (
+        number_at(value, "group"),
+        number_at(value, "block"),
+        number_at(value, "at"),
+    ) else {
+        return Err(Fault::BadField);
+    };
     let data = bytes_at(alloc, value, "data")?;
     Ok(Command::GroupPatch {
-        group,
-        block,
+        group: GroupNo(group),
+        block: BlockNo(block),
         at,
         data,
     })
 }
 
-// A command that has no member.
-fn with_no_member(
-    asked: Command,
-    value: &Value,
-    members: &Map<String, Value>,
-) -> Result<Command, Fault>
-    requires { as_object (view value.now) ≡ Some (members_view members.now.entries) }
-    ensures { Gives command result (alone_in (command asked) (view value.now)) }
-{
-    if !has_only(&["do"], members) {
-        return Err(Fault::BadField);
-    }
-    Ok(asked)
-}
-
 // The number of a command that has no other member.
-fn only_number(value: &Value, members: &Map<String, Value>, name: &str) -> Result<u32, Fault>
-    requires { as_object (view value.now) ≡ Some (members_view members.now.entries) }
-    ensures { Gives (λ n. n) result (only_number_in name.now (view value.now)) }
+fn only_number(value: &Value, name: &str) -> Option<u32>
+    ensures { result ≡ only_number_in name.now (view value.now) }
 {
-    if !has_only(&["do", name], members) {
-        return Err(Fault::BadField);
+    if !has_only(&["do", name], value) {
+        return None;
     }
     number_at(value, name)
 }
 
-// A command that has one number and no other member.
-fn with_number(name: &str, value: &Value, members: &Map<String, Value>) -> Result<Command, Fault>
-    requires { as_object (view value.now) ≡ Some (members_view members.now.entries) }
-    ensures { Gives command result (one_number_in name.now (view value.now)) }
+// A command that has no member, or one number and no other.
+fn small(name: &str, value: &Value) -> Option<Command>
+    ensures { option_map command result ≡ either_in (alone_named name.now) name.now (view value.now) }
 {
-    let number = only_number(value, members, number_key(name))?;
-    on_number(name, number).ok_or(Fault::BadField)
+    if has_only(&["do"], value) {
+        return alone(name);
+    }
+    on_number(name, only_number(value, number_key(name))?)
 }
 
 // A command by its name.
-fn command_named(
-    alloc: Global,
-    name: &str,
-    value: &Value,
-    members: &Map<String, Value>,
-) -> Result<Command, Fault>
-    requires { as_object (view value.now) ≡ Some (members_view members.now.entries) }
+fn command_named(alloc: Global, name: &str, value: &Value) -> Result<Command, Fault>
     ensures { Gives command result (command_named name.now (view value.now)) }
 {
     match name {
-        "patch" => patch(alloc, value, members),
-        "empty" => empty(alloc, value, members),
-        "depend" => depend(alloc, value, members),
-        "done" => done(value, members),
-        "crash" => crash(alloc, value, members),
-        "group_after" => group_after(value, members),
-        "group_patch" => group_patch(alloc, value, members),
-        _ => match alone(name) {
-            Some(asked) => with_no_member(asked, value, members),
-            None => with_number(name, value, members),
-        },
+        "patch" => patch(alloc, value),
+        "empty" => empty(alloc, value),
+        "depend" => depend(alloc, value),
+        "done" => done(value).ok_or(Fault::BadField),
+        "crash" => crash(alloc, value),
+        "group_after" => group_after(value).ok_or(Fault::BadField),
+        "group_patch" => group_patch(alloc, value),
+        _ => small(name, value).ok_or(Fault::BadField),
     }
 }
 
-fn command_in(alloc: Global, value: &Value, members: &Map<String, Value>) -> Result<Command, Fault>
-    requires { as_object (view value.now) ≡ Some (members_view members.now.entries) }
-    ensures { Gives command result (command_in (view value.now)) }
+// The command of a line's value.
+fn command_of_value(alloc: Global, value: &Value) -> Result<Command, Fault>
+    ensures { Parses result (command_of_value (Some (view value.now))) }
 {
+    if !value.is_object() {
+        return Err(Fault::BadLine);
+    }
     match value.get("do").and_then(Value::as_str) {
-        Some(name) => command_named(alloc, name, value, members),
+        Some(name) => command_named(alloc, name, value),
         None => Err(Fault::BadField),
     }
 }
@@ -259,18 +246,10 @@ fn read(alloc: Global, line: &[u8]) -> Result<Command, Fault>
     if line.len() > MAX_LINE {
         return Err(Fault::BadLine);
     }
-    let value = match Value::from_slice(alloc, line) {
-        Ok(value) => value,
-        Err(error) => {
-            if error.is_memory() {
-                return Err(Fault::Memory);
-            }
-            return Err(Fault::BadLine);
-        }
-    };
-    match value.as_object() {
-        Some(members) => command_in(alloc, &value, members),
-        None => Err(Fault::BadLine),
+    match Value::from_slice(alloc, line) {
+        Ok(value) => command_of_value(alloc, &value),
+        Err(error) if error.is_memory() => Err(Fault::Memory),
+        Err(_) => Err(Fault::BadLine),
     }
 }
 

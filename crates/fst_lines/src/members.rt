@@ -2,13 +2,13 @@
 //! hex, or a failure's name. What is not so is `BadField`, and want of memory is `Memory`.
 
 ghost use Rattle.std.specs.Prelude.{◌≡◌, map, option_map};
-ghost use Rattle.serde_json.specs.View.{view, items_view, members_view};
+ghost use Rattle.serde_json.specs.View.{view, items_view};
 ghost use Rattle.fst_lines.specs.Parsing.{block_numbers, patch_numbers, Gives};
-ghost use Rattle.fst_lines.specs.Members.{is_one_of, only, number_in, numbers_of, numbers_in, failure_in, number_at, long_at, bytes_at, numbers_at, numbers_if_any, failure_if_any};
+ghost use Rattle.fst_lines.specs.Members.{is_one_of, has_only, number_in, numbers_of, numbers_in, failure_in, number_at, long_at, bytes_at, numbers_at, numbers_if_any, failure_if_any};
 
 use crate::failure::Failure;
 use fst_types::{BlockNo, Fault, PatchNo};
-use serde_json::{Map, Value};
+use serde_json::Value;
 use std::alloc::Global;
 
 fn is_one_of(names: &[&str], key: &str) -> bool
@@ -22,10 +22,13 @@ fn is_one_of(names: &[&str], key: &str) -> bool
     false
 }
 
-/// Whether an object has no member but these.
-pub fn has_only(names: &[&str], members: &Map<String, Value>) -> bool
-    ensures { result ≡ only (map (λ n. n.now) names.now) (members_view members.now.entries) }
+/// Whether this is an object that has no member but these.
+pub fn has_only(names: &[&str], value: &Value) -> bool
+    ensures { result ≡ has_only (map (λ n. n.now) names.now) (view value.now) }
 {
+    let Some(members) = value.as_object() else {
+        return false;
+    };
     for (key, _) in members {
         if !is_one_of(names, key.as_str()) {
             return false;
@@ -34,33 +37,27 @@ pub fn has_only(names: &[&str], members: &Map<String, Value>) -> bool
     true
 }
 
-fn number(value: &Value) -> Result<u32, Fault>
-    ensures { Gives (λ n. n) result (number_in (view value.now)) }
+fn number(value: &Value) -> Option<u32>
+    ensures { result ≡ number_in (view value.now) }
 {
     match value.as_u64() {
-        Some(n) if n <= 4_294_967_295 => Ok(n as u32),
-        _ => Err(Fault::BadField),
+        Some(n) if n <= 4_294_967_295 => Some(n as u32),
+        _ => None,
     }
 }
 
-/// The number that has to be there.
-pub fn number_at(value: &Value, name: &str) -> Result<u32, Fault>
-    ensures { Gives (λ n. n) result (number_at name.now (view value.now)) }
+/// The number of a member, if it is there and is one.
+pub fn number_at(value: &Value, name: &str) -> Option<u32>
+    ensures { result ≡ number_at name.now (view value.now) }
 {
-    match value.get(name) {
-        Some(found) => number(found),
-        None => Err(Fault::BadField),
-    }
+    number(value.get(name)?)
 }
 
-/// The number of 64 bits that has to be there.
-pub fn long_at(value: &Value, name: &str) -> Result<u64, Fault>
-    ensures { Gives (λ n. n) result (long_at name.now (view value.now)) }
+/// The number of 64 bits of a member, if it is there and is one.
+pub fn long_at(value: &Value, name: &str) -> Option<u64>
+    ensures { result ≡ long_at name.now (view value.now) }
 {
-    match value.get(name).and_then(Value::as_u64) {
-        Some(n) => Ok(n),
-        None => Err(Fault::BadField),
-    }
+    value.get(name)?.as_u64()
 }
 
 /// The bytes in hex that have to be there.
@@ -82,7 +79,9 @@ fn patches(alloc: Global, values: &[Value]) -> Result<Vec<PatchNo>, Fault>
 {
     let mut patches = Vec::new(alloc);
     for value in values {
-        let n = number(value)?;
+        let Some(n) = number(value) else {
+            return Err(Fault::BadField);
+        };
         if patches.push(PatchNo(n)).is_err() {
             return Err(Fault::Memory);
         }
@@ -125,7 +124,9 @@ fn blocks(alloc: Global, values: &[Value]) -> Result<Vec<BlockNo>, Fault>
 {
     let mut blocks = Vec::new(alloc);
     for value in values {
-        let n = number(value)?;
+        let Some(n) = number(value) else {
+            return Err(Fault::BadField);
+        };
         if blocks.push(BlockNo(n)).is_err() {
             return Err(Fault::Memory);
         }
@@ -147,23 +148,23 @@ pub fn blocks_if_any(alloc: Global, value: Option<&Value>) -> Result<Vec<BlockNo
     }
 }
 
-fn failure(value: &Value) -> Result<Failure, Fault>
-    ensures { Gives (λ f. f) result (failure_in (view value.now)) }
+fn failure(value: &Value) -> Option<Failure>
+    ensures { result ≡ failure_in (view value.now) }
 {
-    match value.as_str() {
-        Some("before") => Ok(Failure::Before),
-        Some("after") => Ok(Failure::After),
-        Some("read") => Ok(Failure::Read),
-        _ => Err(Fault::BadField),
+    match value.as_str()? {
+        "before" => Some(Failure::Before),
+        "after" => Some(Failure::After),
+        "read" => Some(Failure::Read),
+        _ => None,
     }
 }
 
-/// A failure that may be left out.
-pub fn failure_if_any(value: Option<&Value>) -> Result<Option<Failure>, Fault>
-    ensures { Gives (λ f. f) result (failure_if_any (option_map (λ v. view v.now) value.entry)) }
+/// A failure that may be left out, in which case it is none.
+pub fn failure_if_any(value: Option<&Value>) -> Option<Option<Failure>>
+    ensures { result ≡ failure_if_any (option_map (λ v. view v.now) value.entry) }
 {
     match value {
-        Some(value) => Ok(Some(failure(value)?)),
-        None => Ok(None),
+        Some(value) => Some(Some(failure(value)?)),
+        None => Some(None),
     }
 }

@@ -1,6 +1,6 @@
 //! The patches that a line names at its end.
 
-ghost use Rattle.std.specs.Prelude.{◌≡◌, ◌∷◌, List, ℕ, Some, IfSome, codes};
+ghost use Rattle.std.specs.Prelude.{◌≡◌, ◌∷◌, [], List, ℕ, Some, IsTrue, IfSome, codes};
 ghost use Rattle.json.specs.Token.{begin_array, key};
 ghost use Rattle.fst_lines.specs.Parsing.{patch_numbers};
 ghost use Rattle.fst_lines.specs.Short.{NamesAtEnd, NamesUnder, NamesListed, list_of};
@@ -13,23 +13,22 @@ use std::alloc::Global;
 // No call takes more names; one turn more is for the bracket after them.
 const TURNS: u32 = 65;
 
-// The patches of a list, after the bracket that opens it.
-fn take_list(alloc: Global, reader: &mut Reader<'_>) -> Option<Vec<PatchNo>>
-    ensures { IfSome result (λ patches. list_of reader.old ≡ Some (patch_numbers patches.items, reader.new)) }
+// Puts the patches of a list into an empty one, after the bracket that opens it. Answers whether the list has an end.
+fn take_list(reader: &mut Reader<'_>, patches: &mut Vec<PatchNo>) -> bool
+    requires { patches.old.items ≡ [] }
+    ensures { IsTrue result → list_of reader.old ≡ Some (patch_numbers patches.new.items, reader.new) }
 {
-    let mut patches = Vec::new(alloc);
     for _ in 0..TURNS {
         match reader.next() {
-            Some(Token::EndArray) => return Some(patches),
-            Some(Token::Number(text)) => {
-                if patches.push(PatchNo(small(text)?)).is_err() {
-                    return None;
-                }
-            }
-            _ => return None,
+            Some(Token::EndArray) => return true,
+            Some(Token::Number(text)) => match small(text) {
+                Some(number) if patches.push(PatchNo(number)).is_ok() => {}
+                _ => return false,
+            },
+            _ => return false,
         }
     }
-    None
+    false
 }
 
 // The patches of a list that ends the line.
@@ -38,11 +37,11 @@ fn take_listed(alloc: Global, reader: &mut Reader<'_>) -> Option<Vec<PatchNo>>
 {
     match reader.next() {
         Some(Token::BeginArray) => {
-            let patches = take_list(alloc, reader)?;
-            if !takes_end(reader) {
-                return None;
+            let mut patches = Vec::new(alloc);
+            if take_list(reader, &mut patches) && takes_end(reader) {
+                return Some(patches);
             }
-            Some(patches)
+            None
         }
         _ => None,
     }

@@ -25,19 +25,30 @@ pub(crate) fn take_empty(alloc: Global, reader: &mut Reader<'_>) -> Option<Comma
 pub(crate) fn take_depend(alloc: Global, reader: &mut Reader<'_>) -> Option<Command>
     ensures { IfSome result (λ c. IsDepend reader.old (command c)) }
 {
-    let gate = PatchNo(take_number_under(reader, "gate")?);
-    let on = take_names_under(alloc, reader, "on")?;
-    Some(Command::Depend { gate, on })
+    match (
+        take_number_under(reader, "gate"),
+        take_names_under(alloc, reader, "on"),
+    ) {
+        (Some(gate), Some(on)) => Some(Command::Depend {
+            gate: PatchNo(gate),
+            on,
+        }),
+        _ => None,
+    }
 }
 
 /// The group that a line puts a group after, after `{"do":"group_after"`.
 pub(crate) fn take_group_after(reader: &mut Reader<'_>) -> Option<Command>
     ensures { IfSome result (λ c. IsGroupAfter reader.old (command c)) }
 {
-    let group = GroupNo(take_number_under(reader, "group")?);
-    let on = GroupNo(take_number_under(reader, "on")?);
-    if !takes_end(reader) {
-        return None;
+    match (
+        take_number_under(reader, "group"),
+        take_number_under(reader, "on"),
+    ) {
+        (Some(group), Some(on)) if takes_end(reader) => Some(Command::GroupAfter {
+            group: GroupNo(group),
+            on: GroupNo(on),
+        }),
+        _ => None,
     }
-    Some(Command::GroupAfter { group, on })
 }

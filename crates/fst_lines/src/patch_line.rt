@@ -41,39 +41,48 @@ fn take_bytes_under(alloc: Global, reader: &mut Reader<'_>, name: &str) -> Optio
 fn take_change(alloc: Global, reader: &mut Reader<'_>) -> Option<Change>
     ensures { IfSome result (λ c. ChangeNext c.block.0 c.at c.bytes.items reader.old reader.new) }
 {
-    let block = BlockNo(take_number_under(reader, "block")?);
-    let at = take_number_under(reader, "at")?;
-    let bytes = take_bytes_under(alloc, reader, "data")?;
-    Some(Change { block, at, bytes })
+    match (
+        take_number_under(reader, "block"),
+        take_number_under(reader, "at"),
+    ) {
+        (Some(block), Some(at)) => Some(Change {
+            block: BlockNo(block),
+            at,
+            bytes: take_bytes_under(alloc, reader, "data")?,
+        }),
+        _ => None,
+    }
 }
 
 /// The change that a line asks for, after `{"do":"patch"`.
 pub(crate) fn take_patch(alloc: Global, reader: &mut Reader<'_>) -> Option<Command>
     ensures { IfSome result (λ c. IsPatch reader.old (command c)) }
 {
-    let Change { block, at, bytes } = take_change(alloc, reader)?;
-    let after = take_names(alloc, reader)?;
-    Some(Command::Patch {
-        block,
-        at,
-        data: bytes,
-        after,
-    })
+    match (take_change(alloc, reader), take_names(alloc, reader)) {
+        (Some(change), Some(after)) => Some(Command::Patch {
+            block: change.block,
+            at: change.at,
+            data: change.bytes,
+            after,
+        }),
+        _ => None,
+    }
 }
 
 /// The change of a group that a line asks for, after `{"do":"group_patch"`.
 pub(crate) fn take_group_patch(alloc: Global, reader: &mut Reader<'_>) -> Option<Command>
     ensures { IfSome result (λ c. IsGroupPatch reader.old (command c)) }
 {
-    let group = GroupNo(take_number_under(reader, "group")?);
-    let Change { block, at, bytes } = take_change(alloc, reader)?;
-    if !takes_end(reader) {
-        return None;
+    match (
+        take_number_under(reader, "group"),
+        take_change(alloc, reader),
+    ) {
+        (Some(group), Some(change)) if takes_end(reader) => Some(Command::GroupPatch {
+            group: GroupNo(group),
+            block: change.block,
+            at: change.at,
+            data: change.bytes,
+        }),
+        _ => None,
     }
-    Some(Command::GroupPatch {
-        group,
-        block,
-        at,
-        data: bytes,
-    })
 }

@@ -4,10 +4,10 @@ ghost use Rattle.std.specs.Prelude.{◌≡◌, ◌++◌, ◌∷◌, [], option_m
 ghost use Rattle.fst_lines.specs.Sending.{Sends};
 ghost use Rattle.fst_lines.specs.Parsing.{patch_numbers};
 ghost use Rattle.fst_lines.specs.Pieces.{text_of_piece};
-ghost use Rattle.fst_lines.specs.Replies.{refusal, refusal_detail, patch_text, chosen_text, pick_text, flight_text, done_text, stalled_text, lost_text, show_text, place_name, place_text, crash_part};
+ghost use Rattle.fst_lines.specs.Replies.{refusal, refusal_detail, patch_text, chosen_text, pick_text, flight_text, settled_text, show_text, place_text, crash_part};
 
-use crate::output::{Piece, Stopped, send_all};
-use fst_types::{BlockNo, Fault, Grade, PatchNo, Place, Ticket, What};
+use crate::output::{Piece, Stopped, send, send_all};
+use fst_types::{BlockNo, Fault, Grade, PatchNo, Place, Settled, Ticket, What};
 use std::io::Write;
 
 fn what_name<'a>(what: What) -> &'a str
@@ -141,7 +141,7 @@ pub fn send_pick<W: Write>(
 {
     match block {
         Some(block) => send_numbered(writer, calls, "pick", block.0),
-        None => send_all(writer, calls, &[Piece::Text("pick none\n")]),
+        None => send(writer, calls, b"pick none\n"),
     }
 }
 
@@ -174,67 +174,27 @@ pub fn send_flight<'a, W: Write>(
     )
 }
 
-/// `done T block B`.
-pub fn send_done<W: Write>(
+/// `done T block B`; where the write stalled `stalled T block B`, and where the block is lost `lost T block B`.
+pub fn send_settled<W: Write>(
     writer: &mut W,
     calls: &mut u64,
     ticket: Ticket,
     block: BlockNo,
+    settled: Settled,
 ) -> Result<(), Stopped>
     ensures { Sends (W.contents writer.old) (W.contents writer.new) result
-        (done_text ticket.0 block.0 ++ 10 ∷ []) }
+        (settled_text ticket.0 block.0 settled ++ 10 ∷ []) }
 {
+    let word = match settled {
+        Settled::Landed => "done ",
+        Settled::Stalled => "stalled ",
+        Settled::Lost => "lost ",
+    };
     send_all(
         writer,
         calls,
         &[
-            Piece::Text("done "),
-            Piece::Number(ticket.0),
-            Piece::Text(" block "),
-            Piece::Number(u64::from(block.0)),
-            Piece::Text("\n"),
-        ],
-    )
-}
-
-/// `stalled T block B`.
-pub fn send_stalled<W: Write>(
-    writer: &mut W,
-    calls: &mut u64,
-    ticket: Ticket,
-    block: BlockNo,
-) -> Result<(), Stopped>
-    ensures { Sends (W.contents writer.old) (W.contents writer.new) result
-        (stalled_text ticket.0 block.0 ++ 10 ∷ []) }
-{
-    send_all(
-        writer,
-        calls,
-        &[
-            Piece::Text("stalled "),
-            Piece::Number(ticket.0),
-            Piece::Text(" block "),
-            Piece::Number(u64::from(block.0)),
-            Piece::Text("\n"),
-        ],
-    )
-}
-
-/// `lost T block B`.
-pub fn send_lost<W: Write>(
-    writer: &mut W,
-    calls: &mut u64,
-    ticket: Ticket,
-    block: BlockNo,
-) -> Result<(), Stopped>
-    ensures { Sends (W.contents writer.old) (W.contents writer.new) result
-        (lost_text ticket.0 block.0 ++ 10 ∷ []) }
-{
-    send_all(
-        writer,
-        calls,
-        &[
-            Piece::Text("lost "),
+            Piece::Text(word),
             Piece::Number(ticket.0),
             Piece::Text(" block "),
             Piece::Number(u64::from(block.0)),
@@ -266,26 +226,24 @@ pub fn send_show<W: Write>(
     )
 }
 
-fn place_name<'a>(place: Place) -> &'a str
-    ensures { result.now ≡ place_name place }
-{
-    match place {
-        Place::Memory => "memory",
-        Place::Flight => "flight",
-        Place::Disk => "disk",
-    }
-}
-
-// `place N` and the name of the place.
-fn send_placed<W: Write>(
+/// `place N memory`, `place N flight` or `place N disk`; a number that was not given is refused.
+pub fn send_place<W: Write>(
     writer: &mut W,
     calls: &mut u64,
     patch: PatchNo,
-    name: &str,
+    place: Option<Place>,
 ) -> Result<(), Stopped>
     ensures { Sends (W.contents writer.old) (W.contents writer.new) result
-        (codes "place " ++ decimal patch.0 ++ codes " " ++ name.now ++ 10 ∷ []) }
+        (place_text patch.0 place ++ 10 ∷ []) }
 {
+    let Some(found) = place else {
+        return send_refusal(writer, calls, Fault::NoPatch);
+    };
+    let name = match found {
+        Place::Memory => "memory",
+        Place::Flight => "flight",
+        Place::Disk => "disk",
+    };
     send_all(
         writer,
         calls,
@@ -297,22 +255,6 @@ fn send_placed<W: Write>(
             Piece::Text("\n"),
         ],
     )
-}
-
-/// `place N memory`, `place N flight` or `place N disk`; a number that was not given is refused.
-pub fn send_place<W: Write>(
-    writer: &mut W,
-    calls: &mut u64,
-    patch: PatchNo,
-    place: Option<Place>,
-) -> Result<(), Stopped>
-    ensures { Sends (W.contents writer.old) (W.contents writer.new) result
-        (place_text patch.0 place ++ 10 ∷ []) }
-{
-    match place {
-        Some(place) => send_placed(writer, calls, patch, place_name(place)),
-        None => send_refusal(writer, calls, Fault::NoPatch),
-    }
 }
 
 /// The bytes of one block within the reply to `crash`.

@@ -33,15 +33,6 @@ pub(crate) fn takes_end(reader: &mut Reader<'_>) -> bool
     }
 }
 
-pub(crate) fn take_key<'a>(reader: &mut Reader<'a>) -> Option<&'a str>
-    ensures { IfSome result (λ name. reader.old ≡ key name.now ∷ reader.new) }
-{
-    match reader.next() {
-        Some(Token::Key(name)) => Some(name),
-        _ => None,
-    }
-}
-
 pub(crate) fn take_text<'a>(reader: &mut Reader<'a>) -> Option<&'a str>
     ensures { IfSome result (λ text. reader.old ≡ string text.now ∷ reader.new) }
 {
@@ -96,9 +87,9 @@ pub(crate) fn small(text: &str) -> Option<u32>
 pub(crate) fn takes_key(reader: &mut Reader<'_>, name: &str) -> bool
     ensures { IsTrue result → reader.old ≡ key name.now ∷ reader.new }
 {
-    match take_key(reader) {
-        Some(found) => is(found, name),
-        None => false,
+    match reader.next() {
+        Some(Token::Key(found)) => is(found, name),
+        _ => false,
     }
 }
 

@@ -16,9 +16,9 @@ use Rattle.fst_device.specs.MemoryView.{MemoryView}
 use Rattle.fst_lines.specs.declared.failure.Failure.{Failure}
 use Rattle.fst_lines.specs.Commands.{Command, done, place, stat}
 use Rattle.fst_lines.specs.Sending.{Sends}
-use Rattle.fst_lines.specs.Replies.{refusal, place_text, stat_text}
+use Rattle.fst_lines.specs.Replies.{refusal, place_text, stat_text, settled_text}
 use Rattle.fst_player.specs.Script.{PlayerState, JobKept, Obeys, call_of, text_of, after_call, job_of, without, is_made, called, stranger}
-use Rattle.fst_player.specs.Kept.{job_kept, jobs_kept, settled_text}
+use Rattle.fst_player.specs.Kept.{job_kept, jobs_kept}
 use Rattle.fst_player.specs.Answering.{Obeyed}
 
 -- what contracts see of a player

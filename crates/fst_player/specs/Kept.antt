@@ -7,9 +7,6 @@ use Rattle.fst_types.specs.Flights.{IsOut}
 use Rattle.fst_types.specs.Run.{ChangeMade, Call, Run, changes_in}
 use Rattle.fst_device.specs.JobView.{JobView}
 use Rattle.fst_device.specs.MemoryView.{MemoryView}
-use Rattle.fst_types.specs.declared.settled.Settled.{Settled}
-use Rattle.fst_types.specs.declared.settled.Settled.TheVariants as settled
-use Rattle.fst_lines.specs.Replies.{done_text, stalled_text, lost_text}
 use Rattle.fst_player.specs.Script.{JobKept, opened, job_of, without}
 
 abbrev pub job_kept : JobView MemoryView → JobKept
@@ -41,9 +38,3 @@ pub record IsJobAt (jobs : List (JobView MemoryView)) (ticket i : ℕ) : Type 0 
   pub ticketed : (d : JobView MemoryView) → (slice_index_or jobs i d).ticket ≡ ticket
   pub found : (d : JobView MemoryView) → job_of (jobs_kept jobs) ticket ≡ Some (job_kept (slice_index_or jobs i d))
   pub others : without ticket (jobs_kept jobs) ≡ jobs_kept (remove jobs i)
-
--- what is told of a settled write
-abbrev pub settled_text : (ticket block : ℕ) → Settled → List ℕ
-settled_text ticket block settled.Landed = done_text ticket block
-settled_text ticket block settled.Stalled = stalled_text ticket block
-settled_text ticket block settled.Lost = lost_text ticket block

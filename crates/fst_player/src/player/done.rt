@@ -1,18 +1,17 @@
 //! Completions: a kept job's one write is made, or told to fail, and the cache takes it in.
 
-ghost use Rattle.std.specs.Prelude.{◌≡◌, ◌++◌, ◌∷◌, [], MatchOption, None};
+ghost use Rattle.std.specs.Prelude.{◌≡◌, MatchOption, None};
 ghost use Rattle.fst_lines.specs.Commands as script;
 ghost use Rattle.fst_player.specs.Script.{job_of, is_made};
-ghost use Rattle.fst_player.specs.Kept.{jobs_kept, settled_text, IsJobAt};
-ghost use Rattle.fst_lines.specs.Sending.{Sends};
+ghost use Rattle.fst_player.specs.Kept.{jobs_kept, IsJobAt};
 ghost use Rattle.fst_player.specs.Answering.{Obeyed};
 
 use crate::player::Player;
 use fst_device::{Arm, Done, Job, MemorySlot, carry};
 use fst_lines::failure::Failure;
 use fst_lines::output::Stopped;
-use fst_lines::reply::{send_done, send_lost, send_refusal, send_stalled};
-use fst_types::{BlockNo, Fault, Settled, Ticket};
+use fst_lines::reply::{send_refusal, send_settled};
+use fst_types::{Fault, Ticket};
 use std::io::Write;
 
 // Where the job of a ticket is.
@@ -43,24 +42,6 @@ fn carry_told(job: Job<MemorySlot>, fail: Option<Failure>) -> Done<MemorySlot>
         Some(Failure::Read) => job.arm(Arm::ReadFails),
     }
     carry(job)
-}
-
-// Tells whether a write has landed.
-fn send_settled<W: Write>(
-    writer: &mut W,
-    calls: &mut u64,
-    ticket: Ticket,
-    block: BlockNo,
-    settled: Settled,
-) -> Result<(), Stopped>
-    ensures { Sends (W.contents writer.old) (W.contents writer.new) result
-        (settled_text ticket.0 block.0 settled ++ 10 ∷ []) }
-{
-    match settled {
-        Settled::Landed => send_done(writer, calls, ticket, block),
-        Settled::Stalled => send_stalled(writer, calls, ticket, block),
-        Settled::Lost => send_lost(writer, calls, ticket, block),
-    }
 }
 
 impl Player {

@@ -2,8 +2,8 @@ use Rattle.std.proofs.Common.{arith}
 use Rattle.std.proofs.lemmas.Grind.{common_steps}
 use Rattle.fst_lines.proofs.reply.send_place.Goals as goal
 
-pub returns-in-Some : goal.returns-in-Some
-returns-in-Some g c = grind (arith, common_steps)
+pub returns-in_default : goal.returns-in_default
+returns-in_default g c = grind (arith, common_steps)
 
-pub returns-in-None : goal.returns-in-None
-returns-in-None g c = grind (arith, common_steps)
+pub returns : goal.returns
+returns g c = grind (arith, common_steps)
