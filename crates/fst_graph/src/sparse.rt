@@ -33,10 +33,11 @@ use fst_heads::standing::{
 };
 use fst_types::{BlockNo, Fault, PatchNo, Place, Shape};
 use fst_walks::ancestors::renew;
-use fst_walks::ascent::mark_flight;
 use fst_walks::ends::Ends;
+use fst_walks::free::mark_behind;
 use fst_walks::levels::Levels;
 use fst_walks::needs::Needs;
+use fst_walks::sight::Sight;
 use fst_walks::sink::{sink_floor, sink_over};
 use std::alloc::{AllocError, Global};
 use std::marker::Model;
@@ -45,7 +46,8 @@ use std::marker::Model;
 /// for each block, for the walks that find grades and cycles; `levels` has a level for each, and a floor for each block, and
 /// `needs` what each block needs.
 /// `lists` has for each block its changes that are not on disk, and
-/// `standings` has the mark of each. `queue` has a place for each head, for those of which their dependants are to be told.
+/// `standings` has the mark of each. `queue` has a place for each head, for those of which their dependants are to be told,
+/// and for where a way down goes on.
 /// Where a change is prepared, there is a free place for it in each. `live` is how many of the patches are not on disk, and
 /// no block below `unmarked` may be written.
 #[derive(Drop)]
@@ -160,9 +162,21 @@ impl Sparse {
         let Some(list) = self.lists.get(block.0 as usize) else {
             return Ok(Vec::new(self.alloc));
         };
-        let walk = &mut self.ends.up.walk;
-        let flying = mark_flight(&self.heads, list, &self.standings, walk, block.0);
-        let marks = marks_if(flying, self.ends.up.walk.marks());
+        let sight = Sight {
+            heads: &self.heads,
+            lists: &self.lists,
+            covers: &self.covers,
+            levels: &self.levels,
+            needs: &self.needs,
+        };
+        let flying = mark_behind(
+            &sight,
+            &self.standings,
+            &mut self.ends,
+            &mut self.queue,
+            block.0,
+        );
+        let marks = marks_if(flying, self.ends.down.walk.marks());
         let most = ready_count(&self.standings, block.0);
         ready_set(self.alloc, &self.heads, list, marks, most, block.0)
     }
@@ -297,9 +311,21 @@ impl Sparse {
         let Some(list) = self.lists.get(block.0 as usize) else {
             return None;
         };
-        let walk = &mut self.ends.up.walk;
-        let flying = mark_flight(&self.heads, list, &self.standings, walk, block.0);
-        let marks = marks_if(flying, self.ends.up.walk.marks());
+        let sight = Sight {
+            heads: &self.heads,
+            lists: &self.lists,
+            covers: &self.covers,
+            levels: &self.levels,
+            needs: &self.needs,
+        };
+        let flying = mark_behind(
+            &sight,
+            &self.standings,
+            &mut self.ends,
+            &mut self.queue,
+            block.0,
+        );
+        let marks = marks_if(flying, self.ends.down.walk.marks());
         let held = held_count(&self.standings, block.0);
         first_held(&self.heads, list, marks, held, block.0)
     }

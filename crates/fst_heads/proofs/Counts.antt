@@ -1,14 +1,6 @@
 -- What the counts of a block say of its patches.
-use Rattle.fst_heads.proofs.Basics.{Option, None, Some, is_some, option_map, false≢true, sym, ◌≡◌, ℕ, ◌≤◌, Bool, false, List, [], ◌∷◌, filter, length, count_by, arith, refl, or-false, cases_Bool, length-map, length-filter, common_steps}
-use Rattle.fst_heads.proofs.Words.{mark_in, free_on, bound_on, Head, patches_of, flying_on, Node, nodes_of, is_ready_on, is_held_on, is_flying_on, held_on}
-
--- what is free is ready
-fewer_free : (behind : ℕ → Bool) (b : ℕ) (nodes : List Node) → length (free_on behind b nodes) ≤ length (filter (is_ready_on b) nodes)
-fewer_free behind b [] = omega arith
-fewer_free behind b (x ∷ xs) = grind (arith, cases_Bool, fewer_free behind b xs)
-
-pub free_few : (behind : ℕ → Bool) (b : ℕ) (nodes : List Node) → length (free_on behind b nodes) ≤ count_by (is_ready_on b) nodes
-free_few behind b nodes = grind (arith, fewer_free, length-filter)
+use Rattle.fst_heads.proofs.Basics.{Option, None, Some, is_some, option_map, false≢true, sym, ◌≡◌, ℕ, Bool, false, List, [], ◌∷◌, length, count_by, arith, refl, or-false, cases_Bool, length-map, length-filter, common_steps}
+use Rattle.fst_heads.proofs.Words.{mark_in, bound_on, Head, patches_of, flying_on, Node, nodes_of, is_ready_on, is_held_on, is_flying_on, held_on, ready_on}
 
 -- where nothing is behind a flight, what is bound is what is held
 pub bound_held : (behind : ℕ → Bool) (b : ℕ) (nodes : List Node) → ((n : ℕ) → behind n ≡ false) → bound_on behind b nodes ≡ held_on b nodes
@@ -23,6 +15,10 @@ unmarked heads f (Some m) n e = absurd (false≢true (sym e))
 -- as many are held as are counted
 pub held_counted : (b : ℕ) (nodes : List Node) → length (held_on b nodes) ≡ count_by (is_held_on b) nodes
 held_counted b nodes = grind (arith, length-map, length-filter)
+
+-- and as many are ready
+pub ready_counted : (b : ℕ) (nodes : List Node) → length (ready_on b nodes) ≡ count_by (is_ready_on b) nodes
+ready_counted b nodes = grind (arith, length-map, length-filter)
 
 -- as many fly as are counted
 pub flying_counted : (b : ℕ) (heads : List Head) → length (flying_on b (patches_of heads)) ≡ count_by (is_flying_on b) (nodes_of heads)

@@ -1,5 +1,5 @@
 -- The walk along the list of a block for those of its patches that pass a test.
-use Rattle.fst_heads.proofs.Basics.{length-filter, count_by-le-length, length-map, common_steps, cond, IfNone, IfSome, Option, None, Some, ◌≤◌, ◌++◌, reverse, reverse_onto, map-append, nil_from_length, ◌≡◌, ◌==◌, ◌&&◌, ◌||◌, ℕ, Bool, true, not, List, [], ◌∷◌, map, filter, length, refl, sym, ap, ◌∙◌, inr, list_any, cases_Bool, false≢true, and_parts, arith}
+use Rattle.fst_heads.proofs.Basics.{length-filter, count_by-le-length, length-map, common_steps, cond, IfNone, IfSome, Option, None, Some, ◌≤◌, ◌++◌, reverse, reverse_onto, map-append, nil_from_length, ◌≡◌, ◌==◌, ◌&&◌, ◌||◌, ℕ, Bool, true, not, List, [], ◌∷◌, map, filter, length, refl, sym, ap, ◌∙◌, inr, list_any, cases_Bool, false≢true, and_parts, arith, inl, suc, ◌<◌, false, append-nil, append_assoc, length-append, map_push, cases_eq, eq-eqb, ne_eqb}
 use Rattle.fst_heads.proofs.Patches.{PatchNo, In, Contains-from_In, Place, is_at, is_change_at}
 use Rattle.fst_heads.proofs.Words.{numbers_of, is_free_on, is_bound_on, Head, Listed, IsRising, kind_of, patch_of, patches_of, entries_of, entries_on, is_live_on, Node, node_of, nodes_of, is_pending, is_ready_on, is_hard_kind}
 use Rattle.fst_heads.proofs.{Listing.{any_slot, numbers_on}, Slots.any_default}
@@ -31,17 +31,25 @@ module _ (b : ℕ) (t : Node → Bool) (inside : (x : Node) → t x ≡ true →
       let c = Contains-from_In heads h i in
       any_slot heads h.number c.0 t h rising (c.1, λ d. ap (λ k. k.number) (any_default heads c.0 d h c.1 ∙ c.2)) ∙ ap (λ k. t (node_of k)) c.2)
 
+pub ready_listed : (b : ℕ) (x : Node) → is_ready_on b x ≡ true → is_live_on b x.patch ≡ true
+ready_listed b x e = grind (arith, and_parts)
+
 pub free_listed : (behind : ℕ → Bool) (b : ℕ) (x : Node) → is_free_on behind b x ≡ true → is_live_on b x.patch ≡ true
 free_listed behind b x e = grind (arith, and_parts)
 
 pub bound_listed : (behind : ℕ → Bool) (b : ℕ) (x : Node) → is_bound_on behind b x ≡ true → is_live_on b x.patch ≡ true
 bound_listed behind b x e = grind (arith, and_parts)
 
+-- what is free is ready and not behind a flight
+pub free_passes : (behind : ℕ → Bool) (b : ℕ) (nodes : List Node) (n : ℕ) → passes_at (is_free_on behind b) nodes n ≡ (passes_at (is_ready_on b) nodes n && not (behind n))
+free_passes behind b [] n = refl
+free_passes behind b (x ∷ xs) n = elim (cases_eq x.patch.number n) [
+  | inl e ↦ grind (arith, e, eq-eqb, cases_Bool, free_passes behind b xs n)
+  | inr ne ↦ rw (ne_eqb x.patch.number n ne) (free_passes behind b xs n)
+]
+
 -- the test of the code says whether the node of the head passes
 module _ (behind : ℕ → Bool) (b : ℕ) (h d : Head) (n : ℕ) (back r : Bool) (at : h ≡ d) (number : d.number ≡ n) (told : back ≡ behind n) where
-  pub free_at : r ≡ (is_ready_on b (node_of h) && not back) → is_free_on behind b (node_of d) ≡ r
-  free_at e = sym (e ∙ (ap (λ k. is_ready_on b (node_of h) && not k) (told ∙ ap behind (sym number)) ∙ ap (λ k. is_ready_on b (node_of k) && not (behind d.number)) at))
-
   abbrev hard : Head → Bool
   hard k = is_change_at place.Memory b (patch_of k) && is_hard_kind (kind_of k.kind)
 
@@ -58,6 +66,55 @@ module _ (t : Node → Bool) (heads : List Head) (rest others : List Listed) (l 
 
   pub passing_back : rest ≡ others ++ l ∷ [] → passing t heads rest ≡ passing t heads others ++ cond (passes_at t (nodes_of heads) l.number) (l.number ∷ []) []
   passing_back e = grind (arith, common_steps, e)
+
+-- by whichever end it was taken
+module _ (t : Node → Bool) (heads : List Head) (rest others : List Listed) (l : Listed) (from_back : Bool) (front : from_back ≡ false → rest ≡ l ∷ others) (back : from_back ≡ true → rest ≡ others ++ l ∷ []) where
+  abbrev here : Bool
+  here = passes_at t (nodes_of heads) l.number
+
+  pub passing_skipped : here ≡ false → passing t heads rest ≡ passing t heads others
+  passing_skipped off = elim (cases_Bool from_back) [
+    | inl b ↦ passing_back t heads rest others l (back b) ∙ (ap (λ k. passing t heads others ++ cond k (l.number ∷ []) []) off ∙ append-nil (passing t heads others))
+    | inr f ↦ passing_front t heads rest others l (front f) ∙ ap (λ k. cond k (l.number ∷ passing t heads others) (passing t heads others)) off
+  ]
+
+  pub passing_shorter : here ≡ true → length (passing t heads rest) ≡ suc (length (passing t heads others))
+  passing_shorter on = elim (cases_Bool from_back) [
+    | inl b ↦
+        let e = ap length (passing_back t heads rest others l (back b) ∙ ap (λ k. passing t heads others ++ cond k (l.number ∷ []) []) on) in
+        omega (arith, e, length-append (passing t heads others) (l.number ∷ []))
+    | inr f ↦ ap length (passing_front t heads rest others l (front f) ∙ ap (λ k. cond k (l.number ∷ passing t heads others) (passing t heads others)) on)
+  ]
+
+-- what is found besides, at the front or at the back
+pub found_front : (front middle back whole : List ℕ) (n : ℕ) → front ++ ((n ∷ middle) ++ back) ≡ whole → (front ++ n ∷ []) ++ (middle ++ back) ≡ whole
+found_front front middle back whole n e = append_assoc front (n ∷ []) (middle ++ back) ∙ e
+
+pub found_back : (front middle back whole : List ℕ) (n : ℕ) → front ++ ((middle ++ n ∷ []) ++ back) ≡ whole → front ++ (middle ++ (n ∷ back)) ≡ whole
+found_back front middle back whole n e = ap (λ k. front ++ k) (sym (append_assoc middle (n ∷ []) back)) ∙ e
+
+pub numbers_push : (front : List PatchNo) (p : PatchNo) → numbers_of (front ++ p ∷ []) ≡ numbers_of front ++ p.0 ∷ []
+numbers_push front p = map_push (λ (n : PatchNo). n.0) front p
+
+pub numbers_turned : (back : List PatchNo) (p : PatchNo) → reverse (numbers_of (back ++ p ∷ [])) ≡ p.0 ∷ reverse (numbers_of back)
+numbers_turned back p = grind (arith, common_steps, reverse_onto, numbers_push back p)
+
+fewer : (f g : ℕ → Bool) → ((n : ℕ) → f n ≡ true → g n ≡ true) → (ns : List ℕ) → length (filter f ns) ≤ length (filter g ns)
+fewer f g less [] = omega arith
+fewer f g less (n ∷ ns) = let rest = fewer f g less ns in elim (cases_Bool (f n)) [
+  | inl e ↦ rw (e, less n e) omega (arith, rest)
+  | inr e ↦ elim (cases_Bool (g n)) [ inl h ↦ rw (e, h) omega (arith, rest) | inr h ↦ rw (e, h) rest ]
+]
+
+-- no more are free than are ready
+pub passing_fewer : (behind : ℕ → Bool) (b : ℕ) (heads : List Head) (list : List Listed) → length (passing (is_free_on behind b) heads list) ≤ length (passing (is_ready_on b) heads list)
+passing_fewer behind b heads list =
+    fewer (passes_at (is_free_on behind b) (nodes_of heads)) (passes_at (is_ready_on b) (nodes_of heads))
+    (λ n e. (and_parts (passes_at (is_ready_on b) (nodes_of heads) n) (not (behind n)) (sym (free_passes behind b (nodes_of heads) n) ∙ e)).0) (map (λ e. e.number) (entries_of list))
+
+-- where one of those that are left passes, there is one
+pub found_some : (front back : List ℕ) (middle whole : List ℕ) (k : ℕ) → front ++ (middle ++ back) ≡ whole → length middle ≡ suc k → 0 < length whole
+found_some front back middle whole k e some = omega (arith, ap length e, length-append front (middle ++ back), length-append middle back, some)
 
 pub passing_few : (t : Node → Bool) (heads : List Head) (list : List Listed) → length (passing t heads list) ≤ length list
 passing_few t heads list = grind (arith, length-filter, count_by-le-length, length-map)

@@ -1,5 +1,5 @@
 -- The words that the contracts of this crate are in, for its proofs, from one place. It declares nothing.
-pub use Rattle.fst_heads.specs.Ascending.{is_bound_on, free_on, bound_on, is_free_on}
+pub use Rattle.fst_heads.specs.Flights.{is_bound_on, free_on, bound_on, is_free_on}
 pub use Rattle.fst_heads.specs.Covers.{Covering, IsOver, IsCovered, AreCovered, AreParted, AreRising, Covers, HasRoomForRuns, IsPut, SaysTheSame, last_in, newest_in, newest_over, max_from, GainsTouched}
 pub use Rattle.fst_heads.specs.declared.cover.Run.{Run}
 pub use Rattle.fst_heads.specs.Frames.{frame_of, frames_of, HasRoomBelow}

@@ -13,5 +13,5 @@ pub mod Lists
 pub mod Standings
 pub mod Spans
 pub mod Spreading
-pub mod Ascending
+pub mod Flights
 pub mod Names

@@ -1,65 +1,69 @@
 //! Which changes of a block may be written, by the list of the block.
 
-ghost use Rattle.std.specs.Prelude.{◌<◌, ◌≤◌, ◌==◌, ◌∷◌, [], ℕ, List, ◌≡◌, ◌&&◌, ◌||◌, not, length, IfOk, IfErr, IfSome, IfNone, option_map};
+ghost use Rattle.std.specs.Prelude.{◌<◌, ◌≤◌, ◌==◌, ◌∷◌, [], ℕ, List, ◌≡◌, ◌&&◌, ◌||◌, not, true, false, length, IfOk, IfErr, IfSome, IfNone, option_map};
 ghost use Rattle.std.specs.List.{list_any};
 ghost use Rattle.fst_types.specs.declared.fault.Fault.TheVariants as fault;
 ghost use Rattle.fst_types.specs.declared.place.Place.TheVariants as place;
 ghost use Rattle.fst_types.specs.Tests.{is_change_at};
 ghost use Rattle.fst_heads.specs.declared.pending.Pending.TheVariants as pending;
-ghost use Rattle.fst_heads.specs.Ascending.{free_on, is_free_on, bound_on, is_bound_on};
+ghost use Rattle.fst_heads.specs.Flights.{free_on, bound_on, is_bound_on};
 ghost use Rattle.fst_heads.specs.Heads.{IsRising, kind_of, patch_of, patches_of};
 ghost use Rattle.fst_heads.specs.Names.{numbers_of};
 ghost use Rattle.fst_heads.specs.Lists.{entries_of, entries_on};
-ghost use Rattle.fst_heads.specs.Marks.{mark_in};
+ghost use Rattle.fst_heads.specs.Marks.{HasSlot, mark_in};
 ghost use Rattle.fst_heads.specs.Nodes.{node_of, nodes_of};
 ghost use Rattle.fst_heads.specs.Pendings.{is_pending};
-ghost use Rattle.fst_heads.specs.Standings.{is_ready_on, held_on};
+ghost use Rattle.fst_heads.specs.Standings.{is_ready_on, held_on, ready_on};
 ghost use Rattle.fst_heads.specs.Tests.{is_hard_kind};
 
 use crate::head::{Head, Kind};
 use crate::lists::Listed;
-use crate::marks::{is_marked, slot_of};
+use crate::marks::slot_of;
 use crate::pending::is_of_block;
 use crate::places::is_change_at;
 use crate::turns::next_in_turn;
 use fst_types::{Fault, Grade, PatchNo, Place};
 use std::alloc::Global;
 
-// Whether the number is that of a marked patch, where marks are given.
-fn is_behind(heads: &[Head], marks: Option<&[bool]>, number: u32) -> bool
+// Whether the patch in the slot is marked, where marks are given.
+fn is_behind(heads: &[Head], marks: Option<&[bool]>, slot: usize) -> bool
     requires rising { IsRising heads.now }
     requires long { IfSome marks (λ m. length m.now ≡ length heads.now) }
-    ensures { result ≡ mark_in heads.now (option_map (λ m. m.now) marks.entry) number }
+    requires inside { slot < length heads.now }
+    ensures { (n : ℕ) → HasSlot heads.now n slot → result ≡ mark_in heads.now (option_map (λ m. m.now) marks.entry) n }
 {
     match marks {
-        Some(marks) => is_marked(heads, marks, number),
+        Some(marks) => marks[slot],
         None => false,
     }
 }
 
-// Whether the patch is a change of the block in memory that waits for changes of the block alone, and is not behind a
-// flight.
-fn is_free(head: &Head, behind: bool, block: u32) -> bool
-    ensures { result ≡ (is_ready_on block (node_of head.now) && not behind) }
+/// Whether the patch is a change of the block in memory that waits for changes of the block alone.
+pub fn is_ready(head: &Head, block: u32) -> bool
+    ensures { result ≡ is_ready_on block (node_of head.now) }
 {
-    is_change_at(head, Place::Memory, block) && is_of_block(head.pending, block) && !behind
+    is_change_at(head, Place::Memory, block) && is_of_block(head.pending, block)
 }
 
-// Whether a patch with the number is free in that way.
-fn is_free_at(heads: &[Head], marks: Option<&[bool]>, number: u32, block: u32) -> bool
+// The slot of the patch with the number, where it is ready in that way.
+fn ready_slot(heads: &[Head], number: u32, block: u32) -> Option<usize>
     requires rising { IsRising heads.now }
-    requires long { IfSome marks (λ m. length m.now ≡ length heads.now) }
-    ensures { result ≡ list_any (λ x. (x.patch.number == number) && is_free_on (mark_in heads.now (option_map (λ m. m.now) marks.entry)) block x) (nodes_of heads.now) }
+    ensures some { IfSome result (λ slot. HasSlot heads.now number slot × (list_any (λ x. (x.patch.number == number) && is_ready_on block x) (nodes_of heads.now) ≡ true)) }
+    ensures none { IfNone result (list_any (λ x. (x.patch.number == number) && is_ready_on block x) (nodes_of heads.now) ≡ false) }
 {
-    match slot_of(heads, number) {
-        Some(slot) => is_free(&heads[slot], is_behind(heads, marks, number), block),
-        None => false,
+    let Some(slot) = slot_of(heads, number) else {
+        return None;
+    };
+    if is_ready(&heads[slot], block) {
+        Some(slot)
+    } else {
+        None
     }
 }
 
 /// The writable set of a block. The list has the changes of the block that are not on disk; where some are in flight,
-/// there are marks of what is behind them. The set has at most so many changes: they are looked for from both ends of the
-/// list, and where they are found, no others are looked at.
+/// there are marks of which of the others are behind them. At most so many changes wait for changes of the block alone: they
+/// are looked for from both ends of the list, and where they are found, no others are looked at.
 pub fn ready_set(
     alloc: Global,
     heads: &[Head],
@@ -71,7 +75,7 @@ pub fn ready_set(
     requires rising { IsRising heads.now }
     requires long { IfSome marks (λ m. length m.now ≡ length heads.now) }
     requires listed { entries_of list.now ≡ entries_on block (patches_of heads.now) }
-    requires most { length (free_on (mark_in heads.now (option_map (λ m. m.now) marks)) block (nodes_of heads.now)) ≤ most }
+    requires most { length (ready_on block (nodes_of heads.now)) ≤ most }
     ensures ok { IfOk result (λ numbers. numbers_of numbers.items ≡ free_on (mark_in heads.now (option_map (λ m. m.now) marks.entry)) block (nodes_of heads.now)) }
     ensures refused { IfErr result (λ f. (0 < length (free_on (mark_in heads.now (option_map (λ m. m.now) marks.entry)) block (nodes_of heads.now))) × (f ≡ fault.Memory)) }
 {
@@ -85,15 +89,17 @@ pub fn ready_set(
         let Some((listed, others)) = next_in_turn(rest, from_back) else {
             break;
         };
-        if is_free_at(heads, marks, listed.number, block) {
-            let no = PatchNo(listed.number);
-            let kept = if from_back {
-                back.push(no)
-            } else {
-                front.push(no)
-            };
-            if kept.is_err() {
-                return Err(Fault::Memory);
+        if let Some(slot) = ready_slot(heads, listed.number, block) {
+            if !is_behind(heads, marks, slot) {
+                let no = PatchNo(listed.number);
+                let kept = if from_back {
+                    back.push(no)
+                } else {
+                    front.push(no)
+                };
+                if kept.is_err() {
+                    return Err(Fault::Memory);
+                }
             }
             left -= 1;
         }
@@ -123,7 +129,7 @@ fn is_bound_at(heads: &[Head], marks: Option<&[bool]>, number: u32, block: u32) 
     ensures { result ≡ list_any (λ x. (x.patch.number == number) && is_bound_on (mark_in heads.now (option_map (λ m. m.now) marks.entry)) block x) (nodes_of heads.now) }
 {
     match slot_of(heads, number) {
-        Some(slot) => is_bound(&heads[slot], is_behind(heads, marks, number), block),
+        Some(slot) => is_bound(&heads[slot], is_behind(heads, marks, slot), block),
         None => false,
     }
 }

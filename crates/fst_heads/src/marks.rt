@@ -1,9 +1,9 @@
 //! Marks on heads.
 
-ghost use Rattle.std.specs.Prelude.{◌≡◌, ◌↔◌, ◌&&◌, ℕ, List, length, IsTrue, IfSome, IfNone, option_map};
+ghost use Rattle.std.specs.Prelude.{◌≡◌, ◌&&◌, ℕ, List, length, IfSome, IfNone, option_map};
 ghost use Rattle.fst_heads.specs.declared.head.Head.{Head};
 ghost use Rattle.fst_heads.specs.Heads.{IsRising};
-ghost use Rattle.fst_heads.specs.Marks.{HasSlot, HasNone, Has, mark_in, mark_of};
+ghost use Rattle.fst_heads.specs.Marks.{HasSlot, HasNone, mark_in, mark_of};
 
 use crate::head::Head;
 
@@ -40,18 +40,6 @@ pub fn slot_of(heads: &[Head], number: u32) -> Option<usize>
     match heads.binary_search_by_key(&number, |head| head.number) {
         Ok(slot) => Some(slot),
         Err(_) => None,
-    }
-}
-
-/// Whether the head with this number is marked.
-pub fn is_marked(heads: &[Head], marks: &[bool], number: u32) -> bool
-    requires rising { IsRising heads.now }
-    requires long { length marks.now ≡ length heads.now }
-    ensures { IsTrue result ↔ Has heads.now marks.now number }
-{
-    match slot_of(heads, number) {
-        Some(slot) => marks[slot],
-        None => false,
     }
 }
 

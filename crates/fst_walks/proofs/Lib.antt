@@ -56,3 +56,4 @@ pub mod CrossingDown
 pub mod MetLow
 pub mod Highest
 pub mod Traced
+pub mod Ways

@@ -1,11 +1,11 @@
 -- What the list of a block tells of the patches of the heads, where it is known what is behind a flight.
-use Rattle.std.proofs.Common.{◌≡◌, ◌<◌, ◌↔◌, ◌∙◌, ℕ, Bool, true, List, [], ◌∷◌, Option, Some, None, IfOk, IfErr, IfSome, IfNone, Ok, Err, Result, Vec, Global, length, get_or, sym, ap, subst, arith}
+use Rattle.std.proofs.Common.{◌≡◌, ◌<◌, ◌↔◌, ◌∙◌, ℕ, Bool, Contains, true, List, [], ◌∷◌, Option, Some, None, IfOk, IfErr, IfSome, IfNone, Ok, Err, Result, Vec, Global, length, get_or, sym, ap, subst, arith}
 use Rattle.std.proofs.lemmas.List.{length-map, get_or-map}
 use Rattle.fst_types.specs.{Patches.Patch, Writable.{IsInMemoryOn, IsWritableSet, HasReady, IsHeld, IsLeastHeld}, declared.fault.Fault.Fault}
 use Rattle.fst_types.specs.declared.number.PatchNo.{PatchNo}
-use Rattle.fst_heads.specs.{Ascending.{IsBehind, free_on, bound_on}, Heads.patches_of, Keeps.{IsInside, Keeps, Tallies}}
+use Rattle.fst_heads.specs.{Flights.{IsBehind, free_on, bound_on}, Heads.patches_of, Keeps.{IsInside, Keeps, Tallies}}
 use Rattle.fst_heads.specs.{Lists.{Entry, entries_of, entries_on, AreListed}, Names.numbers_of, Nodes.{Node, nodes_of, patches_in}, declared.head.Head.Head}
-use Rattle.fst_heads.specs.{declared.lists.Listed.Listed, declared.standing.Standing.Standing}
+use Rattle.fst_heads.specs.{declared.lists.Listed.Listed, declared.standing.Standing.Standing, Standings.is_ready_on}
 use Rattle.fst_heads.proofs.AtNumber.{patches_in_nodes}
 use Rattle.fst_walks.proofs.{Behind.{free_exact, free_some, bound_none, bound_first}, Seen.lawful_nodes, Shelves.shelved}
 use Rattle.fst_types.specs.declared.fault.Fault.TheVariants as fault
@@ -27,7 +27,7 @@ none_yet = record { ready = 0; held = 0; flying = 0 }
 
 module _ (heads : List Head) (numbers blocks : ℕ) (marks : List _) (lists : List (List Entry)) (standings : List Standing) (queue : List ℕ) (cap b : ℕ)
     (K : Keeps (patches_of heads) numbers blocks marks) (T : Tallies (nodes_of heads) numbers blocks lists standings queue cap) (behind : ℕ → Bool)
-    (exact : (n : ℕ) → (behind n ≡ true) ↔ IsBehind (nodes_of heads) b n) where
+    (exact : (x : Node) → Contains (nodes_of heads) x → is_ready_on b x ≡ true → (behind x.patch.number ≡ true) ↔ IsBehind (patches_in (nodes_of heads)) b x.patch.number) where
   abbrev nodes : List Node
   nodes = nodes_of heads
 

@@ -10,3 +10,4 @@ pub mod Leveling
 pub mod Lifting
 pub mod BothEnds
 pub mod Needing
+pub mod Behind

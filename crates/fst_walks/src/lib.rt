@@ -13,7 +13,8 @@
 //! over the block (`lift`). *May a gate gain these names, and may a group have this change?* A walk goes down from them
 //! (`starts`) through what waits for an open gate, and one up from the gate to what depends on it, until they meet or one of
 //! them is at its end (`cycle`, `overlap_cycle`). Which gates a row waits for is looked for down alone (`other_gates`). *What
-//! waits behind a write that is out?* A walk goes up from what flies (`ascent`).
+//! waits behind a write that is out?* A way goes down from each change that waits for the block
+//! alone, until it comes to what is in flight or known (`free`).
 //!
 //! A walk is a value of its own (`walk`), which keeps what it has met, so that each patch is looked at once; it can be
 //! used for walk after walk, each of which begins where nothing was met. What walks look at is one value too (`sight`):
@@ -26,7 +27,6 @@
 #![tactic(auto)]
 
 pub mod ancestors;
-pub mod ascent;
 pub mod before;
 pub mod below;
 pub mod block_walk;
@@ -35,6 +35,7 @@ pub mod cycle;
 pub mod descent;
 pub mod ends;
 pub mod first_away;
+pub mod free;
 pub mod grade;
 pub mod graded;
 pub mod index;

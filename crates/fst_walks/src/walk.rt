@@ -161,6 +161,18 @@ impl Walk {
         }
     }
 
+    /// Takes back what was met last.
+    pub fn cut(&mut self)
+        requires { 0 < length self.old.met }
+        ensures long { length self.new.marks ≡ length self.old.marks }
+        ensures room { self.new.room ≡ self.old.room }
+        ensures met { (last : ℕ) × (self.old.met ≡ self.new.met ++ last ∷ []) }
+    {
+        if let Some(slot) = self.met.pop() {
+            self.marks[slot] = false;
+        }
+    }
+
     /// Of what was met, those stay that pass the test.
     pub fn keep(&mut self, heads: &[Head], test: Test)
         ensures long { length self.new.marks ≡ length self.old.marks }

@@ -1,9 +1,9 @@
--- The walk up from what is in flight of a block to what waits behind it.
-use Rattle.std.specs.Prelude.{◌≡◌, ◌⊎◌, ◌&&◌, ◌||◌, ℕ, Bool, not, List, map, filter, Contains}
+-- What of a block may be written while some of it is in flight.
+use Rattle.std.specs.Prelude.{◌≡◌, ◌&&◌, ◌||◌, ℕ, Bool, not, List, map, filter, Contains}
 use Rattle.fst_types.specs.declared.place.Place.TheVariants as place
-use Rattle.fst_types.specs.{Closure.Closure, Dependencies.DirectlyOn, Patches.{Patch, IsOn}, Tests.is_change_at}
+use Rattle.fst_types.specs.{Dependencies.DependsOn, Patches.{Patch, IsOn}, Tests.is_change_at}
 use Rattle.fst_heads.specs.declared.pending.Pending.TheVariants as pending
-use Rattle.fst_heads.specs.{Nodes.{Node, patches_in, pending_in}, Pendings.is_pending, Standings.is_ready_on, Tests.is_hard_kind}
+use Rattle.fst_heads.specs.{Nodes.Node, Pendings.is_pending, Standings.is_ready_on, Tests.is_hard_kind}
 
 -- n is the number of a change of block b in flight
 pub record IsFlyingNumber (patches : List Patch) (b n : ℕ) : Type 0 where
@@ -13,13 +13,9 @@ pub record IsFlyingNumber (patches : List Patch) (b n : ℕ) : Type 0 where
   pub change : IsOn patch b
   pub flying : patch.place ≡ place.Flight
 
--- a step of the walk: n directly depends on m, and waits for changes of b alone
-abbrev pub IsNextBehind : List Node → ℕ → ℕ → ℕ → Type 0
-IsNextBehind nodes b m n = DirectlyOn (patches_in nodes) n m × (pending_in nodes n ≡ pending.Block b)
-
--- n is in flight of b, or steps lead to it from what is
-abbrev pub IsBehind : List Node → ℕ → ℕ → Type 0
-IsBehind nodes b n = IsFlyingNumber (patches_in nodes) b n ⊎ ((f : ℕ) × IsFlyingNumber (patches_in nodes) b f × Closure (IsNextBehind nodes b) f n)
+-- n is behind the flight of b: it depends on a change of b in flight
+abbrev pub IsBehind : List Patch → ℕ → ℕ → Type 0
+IsBehind patches b n = (f : ℕ) × IsFlyingNumber patches b f × DependsOn patches n f
 
 -- a change of b in memory that waits for changes of b alone, and is not behind a flight
 abbrev pub is_free_on : (ℕ → Bool) → ℕ → Node → Bool
