@@ -1,11 +1,12 @@
 -- What holds of the patches of heads, said of the patches of their nodes; and sums and counts that fit.
-use Rattle.std.proofs.Common.{◌≡◌, ◌<◌, ◌≤◌, ◌+◌, ◌∙◌, ℕ, false, List, [], ◌∷◌, ◌++◌, Result, Ok, Err, OnOk, is_err, map, set, get_or, Contains, sym, subst, inl, inr, arith, Bool, length, count_by}
+use Rattle.std.proofs.Common.{◌≡◌, ◌<◌, ◌≤◌, ◌+◌, ◌∙◌, ℕ, false, List, [], ◌∷◌, ◌++◌, Result, Ok, Err, OnOk, is_err, map, set, get_or, Contains, sym, ap, subst, inl, inr, arith, Bool, count_by}
 use Rattle.std.proofs.lemmas.{Bool.cases_lt, List.length-map, List.Sums.count_by-le-length}
+use Rattle.std.specs.Global.{Vec}
 use Rattle.std.specs.List.Sorted.{IsStrictlyIncreasing}
-use Rattle.fst_types.specs.{Dependencies.DirectlyOn, Facts.SparseAreLawful, Gates.IsOpenNumber, Limits.max_heads, Patches.Patch}
-use Rattle.fst_heads.specs.{Heads.{patches_of, patch_of}, Keeps.IsInside, Nodes.{Node, nodes_of, patches_in, pending_in, AreDistinct, AreSettled, node_of}}
-use Rattle.fst_heads.specs.{Pendings.{Fits, max_block, sums_of}, Spreading.lands, Standings.AllStand, declared.head.Head.Head, declared.standing.Standing.Standing}
-use Rattle.fst_heads.proofs.{AtNumber.patches_in_nodes, Few.gain_few, PendingIn.found, Stands.{stand_landed, stand_landed_outside}, Sums.sums_fit}
+use Rattle.fst_types.specs.{Dependencies.DirectlyOn, Facts.SparseAreLawful, Gates.IsOpenNumber, Limits.max_heads, Patches.Patch, Tests.is_live}
+use Rattle.fst_heads.specs.{Heads.{patches_of}, Keeps.{Beside, IsInside}, Nodes.{Node, nodes_of, patches_in, pending_in, AreDistinct, AreSettled, node_of}}
+use Rattle.fst_heads.specs.{Pendings.{Fits, max_block, sums_of}, Spreading.{is_waiting, lands}, Standings.AllStand, declared.head.Head.Head, declared.standing.Standing.Standing}
+use Rattle.fst_heads.proofs.{AtNumber.patches_in_nodes, Beside.waiting_live, Few.gain_few, PendingIn.found, Stands.{stand_landed, stand_landed_outside}, Sums.sums_fit}
 use Rattle.fst_heads.specs.declared.pending.Pending.TheVariants as pending
 
 -- the patches with a new one
@@ -45,13 +46,17 @@ stand_land nodes blocks b old new inside S within outside = elim (cases_lt b blo
 ]
 
 -- a gate has room for names that it does not have: together they are no more than there may be patches
-pub gain_room : (heads : List Head) (blocks g : ℕ) (names : List ℕ) → blocks ≤ max_block → AreSettled (nodes_of heads) blocks → AreDistinct (nodes_of heads) → length (patches_of heads) ≤ max_heads
+pub gain_room : (heads : List Head) (blocks g : ℕ) (names : List ℕ) → blocks ≤ max_block → AreSettled (nodes_of heads) blocks → AreDistinct (nodes_of heads) → count_by is_waiting (nodes_of heads) ≤ max_heads
     → IsStrictlyIncreasing names → ((n : ℕ) → Contains names n → DirectlyOn (patches_of heads) g n → ⊥)
     → (x : Node) → Contains (nodes_of heads) x → x.patch.number ≡ g → (x.sums.count + (sums_of (pending_in (nodes_of heads)) names).count < 65536) × Fits x.sums
 gain_room heads blocks g names narrow S distinct few rising missing x c same =
     let most = gain_few (nodes_of heads) g names distinct rising (λ n k on. missing n k (subst (λ ps. DirectlyOn ps g n) (patches_in_nodes heads) on)) x c same (S.summed x c) in
-    (omega (arith, most, few, length-map heads node_of, length-map heads patch_of), settled_fits (nodes_of heads) blocks narrow S x c)
+    (omega (arith, most, few), settled_fits (nodes_of heads) blocks narrow S x c)
 
--- a count of heads is no more than there may be heads
-pub few_counted : (heads : List Head) (t : Node → Bool) (n : ℕ) → length (patches_of heads) ≤ max_heads → n ≡ count_by t (nodes_of heads) → n < 18446744073709551615
-few_counted heads t n few same = omega (arith, same, few, count_by-le-length t (nodes_of heads), length-map heads node_of, length-map heads patch_of)
+-- no more wait for the disk than may be kept
+pub few_waiting : (heads : List Head) {blocks live : ℕ} {reached : List Bool} → AreSettled (nodes_of heads) blocks → Beside (patches_of heads) blocks live reached → count_by is_waiting (nodes_of heads) ≤ max_heads
+few_waiting heads {blocks} S B = omega (arith, waiting_live (nodes_of heads) blocks S, ap (count_by is_live) (patches_in_nodes heads), B.counted, B.few)
+
+-- a count of heads fits
+pub few_counted : (heads : Vec Head) (t : Node → Bool) (n : ℕ) → n ≡ count_by t (nodes_of heads.items) → n < 18446744073709551615
+few_counted heads t n same = omega (arith, same, count_by-le-length t (nodes_of heads.items), length-map heads.items node_of, heads.ok.0, heads.ok.1)

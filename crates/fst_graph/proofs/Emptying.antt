@@ -1,9 +1,8 @@
 -- A new empty patch.
-use Rattle.std.proofs.Common.{◌≡◌, ◌⊎◌, ℕ, ◌+◌, ◌≤◌, Bool, List, [], ◌∷◌, ◌++◌, Contains, refl, sym, ap, subst, ◌∙◌, inl, inr, arith}
+use Rattle.std.proofs.Common.{◌≡◌, ◌⊎◌, ℕ, ◌+◌, ◌≤◌, List, [], ◌∷◌, ◌++◌, Contains, refl, sym, ap, subst, ◌∙◌, inl, inr, arith}
 use Rattle.std.proofs.lemmas.{List.{map_push}, List.Elements.{Contains-push_cases, Contains-append_left}}
 use Rattle.fst_types.specs.{Cascade.{Follows, RestsOnDisk, IsCascadeOf, unsettled}, Dependencies.{IsLiveNumber, IsOnDisk}, Facts.SparseAreLawful}
 use Rattle.fst_types.specs.{Lists.Lists, Making.fresh, Patches.{Patch, Empty}, declared.place.Place.Place}
-use Rattle.fst_heads.specs.Keeps.{Keeps}
 use Rattle.fst_graph.specs.Known.{rest_place}
 use Rattle.fst_types.proofs.{Cascades.no_follower_on, Heads.sparse_emptied}
 use Rattle.fst_types.specs.declared.place.Place.TheVariants as place
@@ -28,7 +27,7 @@ disk_rest : (deps : List ℕ) → ((q : ℕ) → Contains deps q → ⊥) → re
 disk_rest [] none = refl
 disk_rest (x ∷ xs) none = absurd (none x (0, omega arith, refl))
 
-module _ (heads : List Patch) (numbers blocks : ℕ) (marks : List Bool) (K : Keeps heads numbers blocks marks)
+module _ (heads : List Patch) (numbers : ℕ) (H : SparseAreLawful heads numbers)
     (after deps : List ℕ) (depends : Lists (λ n. IsLiveNumber heads n × Contains after n) deps) where
   abbrev p : Patch
   p = new_empty numbers deps
@@ -40,7 +39,7 @@ module _ (heads : List Patch) (numbers blocks : ℕ) (marks : List Bool) (K : Ke
   newest x h = Contains-push_cases heads p x h
 
   named : (q : ℕ) → Contains deps q → q ≤ numbers
-  named q c = let l = (depends.only q c).0 in let k = (K.lawful.one_place_each.numbered l.patch l.head).1 in omega (arith, k, l.numbered)
+  named q c = let l = (depends.only q c).0 in let k = (H.one_place_each.numbered l.patch l.head).1 in omega (arith, k, l.numbered)
 
   disk_back : (q : ℕ) → IsOnDisk new q → IsOnDisk heads q
   disk_back q d x h e = d x (Contains-append_left heads (p ∷ []) x h) e
@@ -50,7 +49,7 @@ module _ (heads : List Patch) (numbers blocks : ℕ) (marks : List Bool) (K : Ke
 
   follows_on_disk : (x : Patch) → Contains new x → Follows x.kind → x.place ≡ place.Disk → RestsOnDisk new x
   follows_on_disk x h f d q c = elim (newest x h) [
-    | inl o ↦ disk_forth q (K.lawful.one_place_each.named x q o c) (K.lawful.on_disk_with_all.disk x o d q c)
+    | inl o ↦ disk_forth q (H.one_place_each.named x q o c) (H.on_disk_with_all.disk x o d q c)
     | inr s ↦
         let none = rest_disk deps (ap (λ y. y.place) s ∙ d) in
         let there : Contains [] q = subst (λ ds. Contains ds q) (sym (ap (λ y. y.dependencies) s) ∙ none) c in absurd (omega (arith, there.1))
@@ -58,7 +57,7 @@ module _ (heads : List Patch) (numbers blocks : ℕ) (marks : List Bool) (K : Ke
 
   on_disk_follows : (x : Patch) → Contains new x → Follows x.kind → RestsOnDisk new x → x.place ≡ place.Disk
   on_disk_follows x h f rests = elim (newest x h) [
-    | inl o ↦ K.lawful.on_disk_with_all.follows x o f (λ q c. disk_back q (rests q c))
+    | inl o ↦ H.on_disk_with_all.follows x o f (λ q c. disk_back q (rests q c))
     | inr s ↦ sym (ap (λ y. y.place) s) ∙ disk_rest deps (λ q c.
         let l = (depends.only q c).0 in
         l.live (disk_back q (rests q (subst (λ y. Contains y.dependencies q) s c)) l.patch l.head l.numbered))
@@ -68,11 +67,11 @@ module _ (heads : List Patch) (numbers blocks : ℕ) (marks : List Bool) (K : Ke
   empty_cascade = record {
     same = map_push unsettled heads p ∙ sym (map_push unsettled heads (fresh (numbers + 1) Empty deps));
     places = λ x h f. elim (newest x h) [
-      | inl o ↦ not_flight x.place (λ e. let c = K.lawful.on_disk_with_all.only_changes_fly x o e in no_follower_on x.kind c.0 c.1 f)
+      | inl o ↦ not_flight x.place (λ e. let c = H.on_disk_with_all.only_changes_fly x o e in no_follower_on x.kind c.0 c.1 f)
       | inr s ↦ subst (λ y. (y.place ≡ place.Memory) ⊎ (y.place ≡ place.Disk)) s (rest_cases deps)
     ];
     settled = λ x h f. (follows_on_disk x h f, on_disk_follows x h f);
   }
 
   pub empty_lawful : SparseAreLawful new (numbers + 1)
-  empty_lawful = sparse_emptied heads new numbers after (numbers + 1) (record { next = refl; dependencies = deps; depends = depends; cascade = empty_cascade }) K.lawful
+  empty_lawful = sparse_emptied heads new numbers after (numbers + 1) (record { next = refl; dependencies = deps; depends = depends; cascade = empty_cascade }) H

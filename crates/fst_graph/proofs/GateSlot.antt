@@ -1,12 +1,14 @@
 -- What the head with the number of a gate tells, and what a seal that is refused says of it.
-use Rattle.std.proofs.Common.{◌≡◌, ℕ, List, get_or, Contains, sym, ap, subst, ◌∙◌, inl, inr, Result, Ok, Err, None, refl, arith}
+use Rattle.std.proofs.Common.{◌≡◌, ℕ, Bool, true, false, List, get_or, Contains, sym, ap, subst, ◌∙◌, inl, inr, Result, Ok, Err, None, refl, arith}
 use Rattle.std.specs.Prelude.{OnOk, OnErr, IfErr}
-use Rattle.fst_types.specs.{Facts.SparseAreLawful, Gates.{IsOpenNumber, IsSealedNumber, IsGateNumber}, Groups.Group, Order.seal_order}
+use Rattle.fst_types.specs.{Facts.SparseAreLawful, Gates.{IsGiven, IsOpenNumber, IsSealedNumber, IsGateNumber}, Groups.Group, Order.seal_order}
 use Rattle.fst_types.specs.{Patches.{Kind, Change, Empty, Patch, OpenGate, SealedGate}, Refusals.IsFirst, declared.fault.Fault.Fault, declared.grade.Grade.Grade}
-use Rattle.fst_heads.specs.{Heads.{IsRising, patch_of, patches_of}, Marks.{HasSlot, HasNone}, declared.head.Head.Head}
-use Rattle.fst_graph.specs.{Grouping.SealsIfOpen, Known.{Known, unprepared, SealsGate}}
+use Rattle.fst_heads.specs.{Heads.{IsRising, patch_of, patches_of}, Marks.{HasSlot, HasNone}, Nodes.{is_forgotten_in, node_of, nodes_of}, declared.head.Head.Head}
+use Rattle.fst_graph.specs.{Grouping.SealsIfOpen, Known.{Known, unprepared, SealsGate}, Remembered.remembered}
 use Rattle.fst_types.proofs.Crash.{same_number}
-use Rattle.fst_heads.proofs.Slots.{patch_at, patch_is, slot_in, patch_slot, none_slot}
+use Rattle.fst_heads.proofs.{Flagged.forgotten_here, PendingAt.node_in, Slots.{any_default, none_slot, patch_at, patch_is, patch_slot, rising_map, slot_in}}
+use Rattle.fst_graph.proofs.{Remembered.{is, sealed_is, sealed_was, was}, RememberedRules.seal_gone}
+use Rattle.fst_types.specs.declared.fault.Fault.TheVariants as fault
 
 pub not_both : (k : Kind) → k ≡ OpenGate → k ≡ SealedGate → ⊥
 not_both k a b = cc
@@ -56,6 +58,53 @@ no_gate heads g none gate = elim gate [
   | inl o ↦ let t = slot_in heads o.patch o.head in none_slot heads g t.0 none (subst (λ n. HasSlot heads n t.0) o.numbered (patch_slot heads o.patch t.0 t.1 t.2))
   | inr o ↦ let t = slot_in heads o.patch o.head in none_slot heads g t.0 none (subst (λ n. HasSlot heads n t.0) o.numbered (patch_slot heads o.patch t.0 t.1 t.2))
 ]
+
+-- the gates that are not forgotten, of whose heads some are marked
+module _ (heads : List Head) (rising : IsRising heads) (numbers g : ℕ) where
+  abbrev gone : ℕ → Bool
+  gone = is_forgotten_in (nodes_of heads)
+
+  abbrev S : List Patch
+  S = remembered gone (patches_of heads)
+
+  -- what its head tells
+  mark_told : (s : ℕ) (d : Head) → HasSlot heads g s → gone g ≡ (get_or heads s d).forgotten
+  mark_told s d slot =
+      let h = get_or heads s d in
+      let there = node_in heads s h slot.0 (any_default heads s d h slot.0) in
+      let rise = rising_map node_of heads (λ h. h.number) (λ x. x.patch.number) (λ h. refl) rising in
+      ap gone (sym (slot.1 d)) ∙ forgotten_here (nodes_of heads) (node_of h) rise there
+
+  gate_was : IsGateNumber S g → IsGateNumber (patches_of heads) g
+  gate_was k = elim k [
+    | inl o ↦ inl (record { patch = o.patch; head = (was gone (patches_of heads) o.patch o.head).0; numbered = o.numbered; is_open = o.is_open })
+    | inr s ↦ inr (sealed_was gone (patches_of heads) g s)
+  ]
+
+  -- where no head has the number
+  pub none_kept : HasNone heads g → IsGateNumber S g → ⊥
+  none_kept none k = no_gate heads g none (gate_was k)
+
+  -- its head is marked
+  pub marked_kept : (s : ℕ) (d : Head) → HasSlot heads g s → (get_or heads s d).forgotten ≡ true → IsGiven numbers g → IsFirst (seal_order S numbers g) fault.NotGate
+  marked_kept s d slot t given = seal_gone gone (patches_of heads) numbers g (mark_told s d slot ∙ t) given
+
+  -- its head is not
+  module _ (s : ℕ) (d : Head) (slot : HasSlot heads g s) (f : (get_or heads s d).forgotten ≡ false) where
+    known : gone g ≡ false
+    known = mark_told s d slot ∙ f
+
+    gate_is : IsGateNumber (patches_of heads) g → IsGateNumber S g
+    gate_is k = elim k [
+      | inl o ↦ inl (record { patch = o.patch; head = is gone (patches_of heads) o.patch o.head (subst (λ m. gone m ≡ false) (sym o.numbered) known); numbered = o.numbered; is_open = o.is_open })
+      | inr s ↦ inr (sealed_is gone (patches_of heads) g known s)
+    ]
+
+    pub sealed_kept : IsGiven numbers g → IsSealedNumber (patches_of heads) g → IsFirst (seal_order S numbers g) fault.Sealed
+    sealed_kept given k = inr ((λ n. n given), inr ((λ n. n (gate_is (inr k))), inl (sealed_is gone (patches_of heads) g known k, refl)))
+
+    pub other_kept : IsGiven numbers g → (IsGateNumber (patches_of heads) g → ⊥) → IsFirst (seal_order S numbers g) fault.NotGate
+    other_kept given none = inr ((λ n. n given), inl ((λ k. none (gate_was k)), refl))
 
 -- an open gate is not sealed
 pub open_not_sealed : (heads : List Patch) (numbers g : ℕ) → SparseAreLawful heads numbers → IsOpenNumber heads g → IsSealedNumber heads g → ⊥

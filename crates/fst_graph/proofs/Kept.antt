@@ -13,14 +13,13 @@ module _ (old new : List Patch) (A : Alike old new) where
   pub keeps_alike : (numbers blocks : ℕ) (marks marks' : List Bool) → Keeps old numbers blocks marks → SparseAreLawful new numbers → length marks' ≡ length marks → Keeps new numbers blocks marks'
   keeps_alike numbers blocks marks marks' K lawful long = record {
     lawful = lawful;
-    few = let e = length_alike old new A in omega (arith, e, K.few);
     inside = λ p b c on. let o = back_alike old new A p c in K.inside o.0 b o.1 (on_back o.0 p o.2 b on);
     marked = long ∙ (K.marked ∙ sym (length_alike old new A));
   }
 
 -- the walks may have other marks, as many of them
 pub keeps_walked : {heads : List Patch} {numbers blocks : ℕ} {marks marks' : List Bool} → length marks' ≡ length marks → Keeps heads numbers blocks marks → Keeps heads numbers blocks marks'
-keeps_walked long K = record { lawful = K.lawful; few = K.few; inside = K.inside; marked = long ∙ K.marked }
+keeps_walked long K = record { lawful = K.lawful; inside = K.inside; marked = long ∙ K.marked }
 
 pub keeps_sealed : (old new : List Patch) (numbers blocks g : ℕ) (marks marks' : List Bool) → Keeps old numbers blocks marks → IsOpenNumber old g → IsCascadeOf (map (sealed g) old) new → length marks' ≡ length marks → Keeps new numbers blocks marks'
 keeps_sealed old new numbers blocks g marks marks' K gate cascade long =
@@ -59,7 +58,6 @@ module _ (old : List Patch) (numbers blocks g : ℕ) (marks : List Bool) (K : Ke
   pub keeps_gained : (marks' : List Bool) → length marks' ≡ length marks → Keeps new numbers blocks marks'
   keeps_gained marks' long = record {
     lawful = sparse_gained old numbers g names K.lawful gate small acyclic;
-    few = let e = length_mapped (gains g names) old in omega (arith, e, K.few);
     inside = λ p b c on. let o = was_gained old g names p c in K.inside o.0 b o.1 (sym (ap block_of_kind o.2.kind) ∙ on);
     marked = long ∙ (K.marked ∙ sym (length_mapped (gains g names) old));
   }

@@ -5,6 +5,7 @@ pub mod Grouped
 pub mod PlaceOf
 pub mod Emptying
 pub mod Adding
+pub mod Reserved
 pub mod Kept
 pub mod GateSlot
 pub mod Readied
@@ -28,4 +29,14 @@ pub mod WholeMember
 pub mod WholeCalls
 pub mod WholeRows
 pub mod Wholes
+pub mod Remembered
+pub mod RememberedLooks
+pub mod RememberedRules
+pub mod RememberedRows
+pub mod RememberedCalls
+pub mod RememberedSparse
+pub mod RememberedSealing
 pub mod HeldWhole
+pub mod Flagged
+pub mod Forgets
+pub mod Shelf

@@ -9,7 +9,7 @@ use Rattle.fst_heads.specs.{Pendings.{is_pending, sums_of}, Standings.{entered, 
 use Rattle.fst_heads.specs.{declared.lists.Listed.Listed, declared.pending.{Pending.Pending, Sums.Sums}, declared.standing.Standing.Standing}
 use Rattle.fst_walks.specs.{Ancestors.{AreOver, GoesUnder}, Leveling.{IsLeveled, Leveling, jump_of, level_of, no_ancestry, floor_of, top_level}, Lifting.{IsRise, MayLift}, Needing.{IsNoted, IsPut, Needing}, Sights.Sees, Walks.{Trail, numbers_met}, declared.{ends.Ends.Ends, levels.{Ancestry.Ancestry, Rank.Rank, Rise.Rise}, sight.Sight.Sight}}
 use Rattle.fst_graph.specs.{Fresh.{HasOneMore, HasPlaces, IsAdded, IsRoomier, MayAdd}, Ready.change_of, Sound.AreSound, declared.prepared.Prepared.Prepared as Stored}
-use Rattle.fst_heads.proofs.{Added.{new_node, with_node, with_names}, AtNumber.patches_in_nodes, Beside.{beside_made, beside_depends, one_live}, Covering.{covered_gained, covered_push}, Making.keeps_added, Slots.rising_heads, Stands.stand_made}
+use Rattle.fst_heads.proofs.{Added.{new_node, with_node, with_names}, AtNumber.patches_in_nodes, Beside.{beside_made, beside_depends, one_at_most, one_live}, Covering.{covered_gained, covered_push}, Making.keeps_added, Slots.rising_heads, Stands.stand_made}
 use Rattle.fst_walks.proofs.{Linked.{patches_made, patches_named}, Releveled.gained_is_leveled, Seen.{seen, lawful_nodes, tallies_wider}, Shelves.shelved}
 use Rattle.fst_graph.proofs.{Borne.{few_counted, lawful_with, open_nodes}, Kept.{covered_made, keeps_depends, keeps_walked, none_below_set}, Listed.listed_made, NeedsNow.{given_more, needing_change, needing_gained, needing_put}}
 use Rattle.fst_graph.proofs.{PutNow.IsPutDown, Ranks.{along_grown, leveled_change, leveled_put}, Sound.{as_many_lists, as_many_marks, as_many_places, over_down, rising_sound, sees_all, walked_sound}, Tallied.{tallies_depends, tallies_made}}
@@ -94,9 +94,9 @@ module _ {heads : Vec Head} {ends : Ends} {levels : Leveling} {needs : Needing} 
       record {
         keeps = rw (patches, P.marks.0) (
             keeps_added old numbers blocks ends.up.walk.marks S.keeps (old ++ p ∷ []) M.lawful (length_push old p)
-            (λ x b h on. elim (Contains-push_cases old p x h) [ inl o ↦ S.keeps.inside x b o on | inr e ↦ absurd (M.off b (subst (λ y. IsOn y b) (sym e) on)) ]) M.few
+            (λ x b h on. elim (Contains-push_cases old p x h) [ inl o ↦ S.keeps.inside x b o on | inr e ↦ absurd (M.off b (subst (λ y. IsOn y b) (sym e) on)) ])
             );
-        beside = rw (patches, P.crossed.0, weighs) (beside_made old blocks live (one_live p) ends.up.crossed.items p refl S.beside);
+        beside = rw (patches, P.crossed.0, weighs) (beside_made old blocks live (one_live p) ends.up.crossed.items p refl (let most = one_at_most p in omega (arith, most, M.few, S.beside.counted)) S.beside);
         tallies = rw P.nodes (tallies_wider _ (numbers + 1) blocks _ _ _ _ _ _ (
             tallies_made (nodes_of heads.items) numbers blocks _ _ _ _ _ _ wider.cap p (lawful_nodes heads.items numbers S.keeps.lawful) (lawful_with heads.items p (numbers + 1) M.lawful) S.tallies M.next M.rising
             (λ m h. subst (λ ps. IsLiveNumber ps m) (sym (patches_in_nodes heads.items)) (M.live m h)) (λ b on. absurd (M.off b on))
@@ -172,8 +172,8 @@ module _ {heads : Vec Head} {ends : Ends} {levels : Leveling} {needs : Needing} 
       standing = omega (arith, D.ready.inside, S.tallies.standing.long);
       room = D.prepared.in_list;
       few = λ own there. (
-        few_counted heads.items (is_ready_on p.block) _ S.keeps.few (ap (λ s. s.ready) (D.counted own there)),
-        few_counted heads.items (is_held_on p.block) _ S.keeps.few (ap (λ s. s.held) (D.counted own there)),
+        few_counted heads (is_ready_on p.block) _ (ap (λ s. s.ready) (D.counted own there)),
+        few_counted heads (is_held_on p.block) _ (ap (λ s. s.held) (D.counted own there)),
       );
     }
 
@@ -210,7 +210,7 @@ module _ {heads : Vec Head} {ends : Ends} {levels : Leveling} {needs : Needing} 
         let as_long : length walk.marks ≡ length ends.up.walk.marks = omega (arith, long, ap length same, as_many_marks S) in
         record {
           keeps = rw (patches, P.marks.0) (keeps_walked (omega (arith, as_long, length_push walk.marks false, length_push ends.up.walk.marks false)) D.keeps);
-          beside = rw (patches, P.crossed.0) (beside_made old blocks live 1 (with_items ends.up.crossed places).items made refl W.beside);
+          beside = rw (patches, P.crossed.0) (beside_made old blocks live 1 (with_items ends.up.crossed places).items made refl (omega (arith, D.few, S.beside.counted)) W.beside);
           tallies = rw (nodes, listed, enters none, pends) (D.tallies none);
           covered = rw (patches, covers_are) (covered_made numbers p.told.grade D.ready.depends S.covered D.ready.inside cover_is covered);
           along = along_grown {old = walked walk places} P.marks P.crossed W.along;

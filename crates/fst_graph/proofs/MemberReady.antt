@@ -6,8 +6,8 @@ use Rattle.fst_types.specs.{Cascade.IsCascadeOf, Dependencies.{DirectlyOn, IsLiv
 use Rattle.fst_types.specs.{Grades.FollowsRule, Order.{make_order, room_order, NamesUnknown}, Patches.Patch, Refusals.NoneHolds, declared.{span.Span.Span}}
 use Rattle.fst_heads.specs.{Frames.{frames_of, HasRoomBelow}, Grading.MayBeHard, Heads.{IsRising, patches_of}, Keeps.Keeps, Marks.HasSlot}
 use Rattle.fst_heads.specs.{Names.numbers_of, Nodes.{node_of, nodes_of, is_live_in, AreCounted}, Rows.IsSparseRow, declared.head.Head.Head}
-use Rattle.fst_graph.specs.{Fresh.HasPlaces, Known.Known, Membering.{ArePaired, BeginsAs, OverlapReaches, member_order}, Ready.{change_of, IsReady, IsMemberReady, MayBePut, HasRoomAround}}
-use Rattle.fst_graph.specs.{Sparse.{ForetellsSparse, SparseChangeIsMade}, declared.prepared.Gates.Gates, declared.prepared.Prepared.Prepared as Stored}
+use Rattle.fst_graph.specs.{Fresh.HasPlaces, Membering.{ArePaired, BeginsAs, OverlapReaches}, Ready.{change_of, IsReady, IsMemberReady, MayBePut, HasRoomAround}}
+use Rattle.fst_graph.specs.{Sparse.{SparseChangeIsMade}, declared.prepared.Gates.Gates, declared.prepared.Prepared.Prepared as Stored}
 use Rattle.fst_types.proofs.{Cascades.place_decided, Finite.{In, In-from_Contains, Contains-from_In}, SmallStates.only_in}
 use Rattle.fst_heads.proofs.{AtNumber.patches_in_nodes, Beside.one_if, CountsAs.{count_cons, count_none}, Forgetting.{live_in, in_live}, Framed.{room_above, room_below}, Leading.some_injective}
 use Rattle.fst_heads.proofs.{PendingAt.node_in, Slots.{any_default, direct_at, named_at}, Touching.{graded_change, touched_overlaps, overlaps_touched}}
@@ -21,62 +21,58 @@ module _ (old : List Patch) (n blocks : ℕ) (marks : List Bool) (K : Keeps old 
   keeps_begun begun (inl s) = keeps_sealed old begun n blocks gates.head marks marks K s.gate s.cascade refl
   keeps_begun begun (inr s) = subst (λ hs. Keeps hs n blocks marks) (sym s.1) K
 
-  clear_begun : (begun : List Patch) → BeginsAs old gates.head begun → NoneHolds (room_order old n) → NoneHolds (make_order begun n (gates.head ∷ []))
-  clear_begun begun s room =
-      let long : length begun ≡ length old = sym (keeps_begun begun s).marked ∙ K.marked in (
-        λ many. omega (arith, many),
-        (
-          λ (u : NamesUnknown n (gates.head ∷ [])). u.2 (subst (λ x. (1 ≤ x) × (x ≤ n)) (only_in gates.head u.0 u.1) paired.given),
-          (λ full. room.0 (omega (arith, full, long)), room.1),
-        ),
-      )
+  clear_begun : (kept : List Patch) → NoneHolds (room_order kept n) → NoneHolds (make_order kept n (gates.head ∷ []))
+  clear_begun kept room = (
+    λ many. omega (arith, many),
+    (λ (u : NamesUnknown n (gates.head ∷ [])). u.2 (subst (λ x. (1 ≤ x) × (x ≤ n)) (only_in gates.head u.0 u.1) paired.given), room),
+  )
 
-  pub member_ready : (p : Stored) → numbers_of p.names.items ≡ gates.head ∷ [] → p.block < blocks → NoneHolds (member_order old n gates.tail p.block p.span.at p.span.len)
+  pub member_ready : (kept : List Patch) (p : Stored) → numbers_of p.names.items ≡ gates.head ∷ [] → p.block < blocks → (OverlapReaches old gates.tail p.block p.span.at p.span.len → ⊥) → NoneHolds (room_order kept n)
       → ((begun : List Patch) → BeginsAs old gates.head begun → IsSparseRow begun (gates.head ∷ []) p.block p.span.at p.span.len p.dependencies.items)
       → ((begun : List Patch) → BeginsAs old gates.head begun → IsTold begun p.block p.dependencies.items (MayBeHard begun None p.block p.dependencies.items) p.told)
-      → IsMemberReady old n blocks gates p
-  member_ready p names inside clear depends told = record {
+      → IsMemberReady old kept n blocks gates p
+  member_ready kept p names inside apart room depends told = record {
     made = λ begun s. record {
-      clear = rw names (clear_begun begun s clear.1);
+      clear = rw names (clear_begun kept room);
       inside = inside;
       depends = rw names (depends begun s);
       graded = graded_change begun n blocks marks (keeps_begun begun s) p.block p.span.at p.span.len (gates.head ∷ []) p.told.grade p.dependencies.items (depends begun s) (let known = told begun s in known.graded);
       back = let known = told begun s in known.back;
     };
     names = names;
-    clear = clear;
+    apart = apart;
+    room = room;
     paired = paired;
   }
 
 -- what was found for it, as the heads were read
-pub member_found : {heads read : List Head} {numbers blocks b : ℕ} {marks : List Bool} {span : Span} → Keeps (patches_of heads) numbers blocks marks → (gates : Gates) → ArePaired (patches_of heads) numbers gates.head gates.tail → (p : Stored) → numbers_of p.names.items ≡ gates.head ∷ [] → p.block ≡ b → p.span ≡ span → b < blocks
-    → read ≡ heads → NoneHolds (member_order (patches_of read) numbers gates.tail b span.at span.len)
+pub member_found : {heads read : List Head} {kept : List Patch} {numbers blocks b : ℕ} {marks : List Bool} {span : Span} → Keeps (patches_of heads) numbers blocks marks → (gates : Gates) → ArePaired (patches_of heads) numbers gates.head gates.tail → (p : Stored) → numbers_of p.names.items ≡ gates.head ∷ [] → p.block ≡ b → p.span ≡ span → b < blocks
+    → read ≡ heads → (OverlapReaches (patches_of heads) gates.tail b span.at span.len → ⊥) → NoneHolds (room_order kept numbers)
     → ((begun : List Patch) → BeginsAs (patches_of read) gates.head begun → IsSparseRow begun (gates.head ∷ []) b span.at span.len p.dependencies.items)
     → ((begun : List Patch) → BeginsAs (patches_of read) gates.head begun → IsTold begun b p.dependencies.items (MayBeHard begun None b p.dependencies.items) p.told)
-    → IsMemberReady (patches_of heads) numbers blocks gates p
-member_found {heads} {numbers = n} {blocks = blocks} {b = b} {marks = marks} {span = span} K gates paired p named on at inside read clear depends told =
+    → IsMemberReady (patches_of heads) kept numbers blocks gates p
+member_found {heads} {kept = kept} {numbers = n} {blocks = blocks} {b = b} {marks = marks} {span = span} K gates paired p named on at inside read apart room depends told =
     let old = patches_of heads in
     let row = p.dependencies.items in
     let sparse : (begun : List Patch) → BeginsAs old gates.head begun → IsSparseRow begun (gates.head ∷ []) p.block p.span.at p.span.len row =
     rw (on, at) (subst (λ hs. (begun : List Patch) → BeginsAs (patches_of hs) gates.head begun → IsSparseRow begun (gates.head ∷ []) b span.at span.len row) read depends) in
     let known : (begun : List Patch) → BeginsAs old gates.head begun → IsTold begun p.block row (MayBeHard begun None p.block row) p.told =
     rw on (subst (λ hs. (begun : List Patch) → BeginsAs (patches_of hs) gates.head begun → IsTold begun b row (MayBeHard begun None b row) p.told) read told) in
-    let free : NoneHolds (member_order old n gates.tail p.block p.span.at p.span.len) = rw (on, at) (subst (λ hs. NoneHolds (member_order (patches_of hs) n gates.tail b span.at span.len)) read clear) in
+    let free : OverlapReaches old gates.tail p.block p.span.at p.span.len → ⊥ = rw (on, at) apart in
     let there : p.block < blocks = rw on inside in
-    member_ready old n blocks marks K gates paired p named there free sparse known
+    member_ready old n blocks marks K gates paired kept p named there free room sparse known
 
 -- and which number and grade it would have
-module _ (old : Known) (blocks : ℕ) (marks : List Bool) (K : Keeps old.heads old.numbers blocks marks) (gates : Gates) (p : Stored) (R : IsMemberReady old.heads old.numbers blocks gates p) where
-  pub foretold : ForetellsSparse old gates.head p.block p.span.at p.span.len (old.numbers + 1) p.told.grade
-  foretold begun begin =
-      (begun ++ change_of old.numbers p ∷ [], subst (λ ns. SparseChangeIsMade begun old.numbers p.block p.span.at p.span.len ns (old.numbers + 1) p.told.grade (begun ++ change_of old.numbers p ∷ [])) R.names (ready_made (R.made begun begin)))
+pub foretold : {old kept : List Patch} {numbers blocks : ℕ} (gates : Gates) (p : Stored) → IsMemberReady old kept numbers blocks gates p → (begun : List Patch) → BeginsAs old gates.head begun
+    → SparseChangeIsMade begun numbers p.block p.span.at p.span.len (gates.head ∷ []) (numbers + 1) p.told.grade (begun ++ change_of numbers p ∷ [])
+foretold {numbers = n} gates p R begun begin = subst (λ ns. SparseChangeIsMade begun n p.block p.span.at p.span.len ns (n + 1) p.told.grade (begun ++ change_of n p ∷ [])) R.names (ready_made (R.made begun begin))
 
 -- a gate that was sealed is not open
 pub shut_begun : (old : List Patch) (n : ℕ) → SparseAreLawful old n → (g : ℕ) (begun : List Patch) → IsOpenNumber old g → IsCascadeOf (map (sealed g) old) begun → IsOpenNumber begun g → ⊥
 shut_begun old n H g begun gate cascade o = (open_was old begun n g H gate cascade g o).1 refl
 
 -- once the head is sealed it is as ready as before
-module _ (old : List Patch) (n blocks : ℕ) (marks : List Bool) (K : Keeps old n blocks marks) (gates : Gates) (p : Stored) (R : IsMemberReady old n blocks gates p) (begun : List Patch) (is_open : IsOpenNumber old gates.head) (cascade : IsCascadeOf (map (sealed gates.head) old) begun) where
+module _ (old kept later : List Patch) (n blocks : ℕ) (marks : List Bool) (K : Keeps old n blocks marks) (gates : Gates) (p : Stored) (R : IsMemberReady old kept n blocks gates p) (long : length later ≡ length kept) (begun : List Patch) (is_open : IsOpenNumber old gates.head) (cascade : IsCascadeOf (map (sealed gates.head) old) begun) where
   L : SparseAreLawful old n
   L = K.lawful
 
@@ -97,13 +93,17 @@ module _ (old : List Patch) (n blocks : ℕ) (marks : List Bool) (K : Keeps old 
         (depends old begun n gates.head L is_open cascade o.0 gates.tail).0 o.2,
       )
 
-  pub ready_begun : IsMemberReady begun n blocks gates p
+  -- as many patches are not forgotten
+  room_later : IsReady begun kept n blocks p → IsReady begun later n blocks p
+  room_later r = record { clear = rw long r.clear; inside = r.inside; depends = r.depends; graded = r.graded; back = r.back }
+
+  pub ready_begun : IsMemberReady begun later n blocks gates p
   ready_begun =
-      let long : length begun ≡ length old = sym (keeps_begun old n blocks marks K gates R.paired begun (inl (record { gate = is_open; cascade = cascade }))).marked ∙ K.marked in
       record {
-        made = λ hs s. elim s [ inl again ↦ absurd (shut again.gate) | inr same ↦ subst (λ ps. IsReady ps n blocks p) (sym same.1) (R.made begun (inl (record { gate = is_open; cascade = cascade }))) ];
+        made = λ hs s. elim s [ inl again ↦ absurd (shut again.gate) | inr same ↦ subst (λ ps. IsReady ps later n blocks p) (sym same.1) (room_later (R.made begun (inl (record { gate = is_open; cascade = cascade })))) ];
         names = R.names;
-        clear = (λ o. R.clear.0 (overlap_was o), (λ full. R.clear.1.0 (omega (arith, full, long)), R.clear.1.1));
+        apart = λ o. R.apart (overlap_was o);
+        room = rw long R.room;
         paired = record {
           given = R.paired.given;
           tail_open = open_is old begun n gates.head L is_open cascade gates.tail (R.paired.tail_open, λ e. let f = R.paired.follows in omega (arith, e, f));
@@ -114,11 +114,11 @@ module _ (old : List Patch) (n blocks : ℕ) (marks : List Bool) (K : Keeps old 
 
 -- what is prepared for the group with that head
 module _ (old : List Patch) (n blocks : ℕ) (marks : List Bool) (K : Keeps old n blocks marks) (head : ℕ) (begun : List Patch) (is_open : IsOpenNumber old head) (cascade : IsCascadeOf (map (sealed head) old) begun) where
-  pub put_begun : (p : Stored) → option_map (λ (g : Gates). g.head) p.gates ≡ Some head → MayBePut old n blocks p → MayBePut begun n blocks p
-  put_begun p told ready =
-      let r = ready_member n p head old n blocks told ready in
+  pub put_begun : (kept later : List Patch) (p : Stored) → length later ≡ length kept → option_map (λ (g : Gates). g.head) p.gates ≡ Some head → MayBePut old kept n blocks p → MayBePut begun later n blocks p
+  put_begun kept later p long told ready =
+      let r = ready_member n p head old kept n blocks told ready in
       let own : r.0.head ≡ head = some_injective r.0.head head (sym (ap (option_map (λ (g : Gates). g.head)) r.1) ∙ told) in
-      member_put p r.0 begun n blocks r.1 (ready_begun old n blocks marks K r.0 p r.2 begun (subst (IsOpenNumber old) (sym own) is_open) (subst (λ g. IsCascadeOf (map (sealed g) old) begun) (sym own) cascade))
+      member_put p r.0 begun n blocks r.1 (ready_begun old kept later n blocks marks K r.0 p r.2 long begun (subst (IsOpenNumber old) (sym own) is_open) (subst (λ g. IsCascadeOf (map (sealed g) old) begun) (sym own) cascade))
 
 -- and the room for it
 pub around_kept : (new old : List Head) → frames_of new ≡ frames_of old → (p : Stored) → HasRoomAround old p → HasRoomAround new p

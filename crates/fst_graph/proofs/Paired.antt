@@ -1,12 +1,11 @@
 -- Two new gates, the second of which depends on the first, and what is kept of them and beside them.
-use Rattle.std.proofs.Common.{◌≡◌, ◌≢◌, ◌<◌, length, ◌+◌, ℕ, List, [], ◌∷◌, ◌++◌, map, Contains, None, refl, sym, subst, inl, inr, arith}
-use Rattle.std.proofs.lemmas.List.{length_push}
+use Rattle.std.proofs.Common.{◌≡◌, ◌≢◌, ◌<◌, count_by, ◌+◌, ℕ, List, [], ◌∷◌, ◌++◌, map, Contains, None, refl, sym, subst, inl, inr, arith}
 use Rattle.std.proofs.lemmas.{Bool.{ne_eqb, eq-eqb}, List.Elements.{Contains-push, Contains-append_left}}
 use Rattle.fst_types.specs.{Dependencies.{DirectlyOn, DependsOn, IsLiveNumber}, Facts.SparseAreLawful, Gates.IsOpenNumber, Gating.{GateGains, gains}, Limits.max_heads}
-use Rattle.fst_types.specs.{Lists.Lists, Making.fresh, Order.NamesAbove, Patches.{Patch, OpenGate}, Refusals.NoneHolds}
+use Rattle.fst_types.specs.{Lists.Lists, Making.fresh, Order.NamesAbove, Patches.{Patch, OpenGate}, Refusals.NoneHolds, Tests.is_live}
 use Rattle.fst_graph.specs.{Fresh.MayAdd, Grouping.{pair_order, AddsPair}, Known.Known}
 use Rattle.fst_types.proofs.{Crash.same_number, Finite.{In, Contains-from_In, first_step}, Heads.sparse_depended, SmallStates.only_in}
-use Rattle.fst_heads.proofs.{Making.{gate_lawful}}
+use Rattle.fst_heads.proofs.{CountsAs.{count_append, count_cons}, Making.gate_lawful}
 use Rattle.fst_walks.proofs.Trails.{none_in}
 use Rattle.fst_graph.proofs.{Wholes.memory_live}
 use Rattle.fst_types.specs.declared.place.Place.TheVariants as place
@@ -116,12 +115,12 @@ module _ (heads : List Patch) (n : ℕ) (H : SparseAreLawful heads n) where
   tie_live m c = subst (IsLiveNumber one) (only_in (n + 1) m c) (record { patch = head_gate; head = Contains-push heads head_gate; numbered = refl; live = λ d. memory_live place.Memory refl d })
 
   -- it may be added over the first
-  pub pair_may : length heads + 1 < max_heads → MayAdd one (n + 1) tied_tail
+  pub pair_may : count_by is_live heads + 1 < max_heads → MayAdd one (n + 1) tied_tail
   pair_may few = record {
     next = refl;
     plain = λ b. refl;
     off = λ b on. cc;
-    few = omega (arith, few, length_push heads head_gate);
+    few = omega (arith, few, count_append is_live heads (head_gate ∷ []), count_cons is_live head_gate []);
     rising = λ k lt. absurd (omega (arith, lt));
     live = tie_live;
     lawful = paired_lawful;

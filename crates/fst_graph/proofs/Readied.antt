@@ -61,15 +61,15 @@ module _ (numbers : ℕ) (p : Stored) (b : ℕ) (span : Span) (after : List Patc
       (ap (λ q. q.block) same, same_span p.span span at len, same_names p.names.items after (ap (λ q. q.after) same), no_gates p.gates (ap (λ q. q.group) same))
 
 -- what was found for a change, as the heads were read
-pub ready_found : {heads seen read : List Head} {numbers blocks b : ℕ} {marks : List Bool} {names : List PatchNo} {span : Span} → Keeps (patches_of heads) numbers blocks marks → (p : Stored) → p.names.items ≡ names → p.block ≡ b → p.span ≡ span → b < blocks → seen ≡ heads → NoneHolds (make_order (patches_of seen) numbers (numbers_of names)) → read ≡ heads → IsSparseRow (patches_of read) (numbers_of names) b span.at span.len p.dependencies.items
-    → IsTold (patches_of read) b p.dependencies.items (MayBeHard (patches_of read) None b p.dependencies.items) p.told → IsReady (patches_of heads) numbers blocks p
-ready_found {heads} {numbers = n} {blocks = blocks} {b = b} {marks = marks} {names = names} {span = span} K p named on at inside seen clear read depends told =
+pub ready_found : {heads read : List Head} {kept : List Patch} {numbers blocks b : ℕ} {marks : List Bool} {names : List PatchNo} {span : Span} → Keeps (patches_of heads) numbers blocks marks → (p : Stored) → p.names.items ≡ names → p.block ≡ b → p.span ≡ span → b < blocks → NoneHolds (make_order kept numbers (numbers_of names)) → read ≡ heads → IsSparseRow (patches_of read) (numbers_of names) b span.at span.len p.dependencies.items
+    → IsTold (patches_of read) b p.dependencies.items (MayBeHard (patches_of read) None b p.dependencies.items) p.told → IsReady (patches_of heads) kept numbers blocks p
+ready_found {heads} {kept = kept} {numbers = n} {blocks = blocks} {b = b} {marks = marks} {names = names} {span = span} K p named on at inside clear read depends told =
     let old = patches_of heads in
     let row = p.dependencies.items in
     let sparse : IsSparseRow old (numbers_of p.names.items) p.block p.span.at p.span.len row = rw (named, on, at) (subst (λ hs. IsSparseRow (patches_of hs) (numbers_of names) b span.at span.len row) read depends) in
     let known : IsTold old p.block row (MayBeHard old None p.block row) p.told = rw on (subst (λ hs. IsTold (patches_of hs) b row (MayBeHard (patches_of hs) None b row) p.told) read told) in
     record {
-      clear = rw named (subst (λ hs. NoneHolds (make_order (patches_of hs) n (numbers_of names))) seen clear);
+      clear = rw named clear;
       inside = rw on inside;
       depends = sparse;
       graded = graded_change old n blocks marks K p.block p.span.at p.span.len (numbers_of p.names.items) p.told.grade row sparse known.graded;
@@ -84,15 +84,17 @@ pub member_found_as : (p : Stored) (numbers : ℕ) (gates : Gates) {b : ℕ} {sp
 member_found_as p numbers gates on at named grouped = rw (← on, ← at, named, grouped) refl
 
 -- put down, it is the change that was foreseen
-pub ready_made : {heads : List Patch} {numbers blocks : ℕ} {p : Stored} → IsReady heads numbers blocks p → SparseChangeIsMade heads numbers p.block p.span.at p.span.len (numbers_of p.names.items) (numbers + 1) p.told.grade (heads ++ change_of numbers p ∷ [])
+pub ready_made : {heads kept : List Patch} {numbers blocks : ℕ} {p : Stored} → IsReady heads kept numbers blocks p → SparseChangeIsMade heads numbers p.block p.span.at p.span.len (numbers_of p.names.items) (numbers + 1) p.told.grade (heads ++ change_of numbers p ∷ [])
 ready_made {p = p} R = record { next = refl; dependencies = p.dependencies.items; sparse = R.depends; added = refl; graded = R.graded }
 
-pub ready_adds : {heads : List Patch} {numbers blocks : ℕ} {p : Stored} → IsReady heads numbers blocks p → AddsSparse (record { heads = heads; numbers = numbers; blocks = blocks; groups = []; prepared = None })
-    p.block p.span.at p.span.len (numbers_of p.names.items) (numbers + 1) p.told.grade (record { heads = heads ++ change_of numbers p ∷ []; numbers = numbers + 1; blocks = blocks; groups = []; prepared = None })
-ready_adds R = record { clear = R.clear; row = ready_made R; numbers = refl; blocks = refl; groups = refl; prepared = refl }
+-- also among the patches that are not forgotten, where it is that change among them
+pub ready_adds : {heads kept : List Patch} {numbers blocks : ℕ} {p : Stored} → IsReady heads kept numbers blocks p → SparseChangeIsMade kept numbers p.block p.span.at p.span.len (numbers_of p.names.items) (numbers + 1) p.told.grade (kept ++ change_of numbers p ∷ [])
+    → AddsSparse (record { heads = kept; numbers = numbers; blocks = blocks; groups = []; prepared = None })
+    p.block p.span.at p.span.len (numbers_of p.names.items) (numbers + 1) p.told.grade (record { heads = kept ++ change_of numbers p ∷ []; numbers = numbers + 1; blocks = blocks; groups = []; prepared = None })
+ready_adds R row = record { clear = R.clear; row = row; numbers = refl; blocks = refl; groups = refl; prepared = refl }
 
 -- what is kept is seen as what is prepared for a group
-module _ (numbers : ℕ) (p : Stored) (gates : Gates) (heads : List Patch) (n blocks : ℕ) (ready : IsMemberReady heads n blocks gates p) (kept : p.gates ≡ Some gates) (head b : ℕ) (span : Span) where
+module _ (numbers : ℕ) (p : Stored) (gates : Gates) (heads : List Patch) {standing : List Patch} (n blocks : ℕ) (ready : IsMemberReady heads standing n blocks gates p) (kept : p.gates ≡ Some gates) (head b : ℕ) (span : Span) where
   pub seen_member : (p.block ≡ b) × (p.span ≡ span) × (option_map (λ (g : Gates). g.head) p.gates ≡ Some head) → Some (prepared_of numbers p) ≡ Some (member_for head b span.at span.len (numbers + 1) p.told.grade)
   seen_member h =
       let own : gates.head ≡ head = some_injective gates.head head (sym (ap (option_map (λ (g : Gates). g.head)) kept) ∙ h.2) in
@@ -112,12 +114,12 @@ head_told (Some r) n q head p seen named kept =
     ap (λ (x : Stored). option_map (λ (g : Gates). g.head) x.gates) same ∙ (ap (λ x. x.group) shown ∙ named)
 
 -- of a group
-pub ready_member : (numbers : ℕ) (p : Stored) (head : ℕ) (heads : List Patch) (n blocks : ℕ) → option_map (λ (g : Gates). g.head) p.gates ≡ Some head → MayBePut heads n blocks p → (gates : Gates) × (p.gates ≡ Some gates) × IsMemberReady heads n blocks gates p
-ready_member numbers p head heads n blocks named ready = by_gates p.gates named ready
+pub ready_member : (numbers : ℕ) (p : Stored) (head : ℕ) (heads kept : List Patch) (n blocks : ℕ) → option_map (λ (g : Gates). g.head) p.gates ≡ Some head → MayBePut heads kept n blocks p → (gates : Gates) × (p.gates ≡ Some gates) × IsMemberReady heads kept n blocks gates p
+ready_member numbers p head heads kept n blocks named ready = by_gates p.gates named ready
   where
-    by_gates : (g : Option Gates) → option_map (λ (x : Gates). x.head) g ≡ Some head → IsReadyFor g heads n blocks p → (gates : Gates) × (g ≡ Some gates) × IsMemberReady heads n blocks gates p
+    by_gates : (g : Option Gates) → option_map (λ (x : Gates). x.head) g ≡ Some head → IsReadyFor g heads kept n blocks p → (gates : Gates) × (g ≡ Some gates) × IsMemberReady heads kept n blocks gates p
     by_gates None e r = absurd (cc)
     by_gates (Some gates) e r = (gates, refl, r)
 
-pub member_put : (p : Stored) (gates : Gates) (heads : List Patch) (n blocks : ℕ) → p.gates ≡ Some gates → IsMemberReady heads n blocks gates p → MayBePut heads n blocks p
-member_put p gates heads n blocks kept ready = subst (λ g. IsReadyFor g heads n blocks p) (sym kept) ready
+pub member_put : (p : Stored) (gates : Gates) (heads : List Patch) {standing : List Patch} (n blocks : ℕ) → p.gates ≡ Some gates → IsMemberReady heads standing n blocks gates p → MayBePut heads standing n blocks p
+member_put p gates heads {standing} n blocks kept ready = subst (λ g. IsReadyFor g heads standing n blocks p) (sym kept) ready

@@ -1,14 +1,14 @@
 -- What holds of the fields that are sound: for a walk over them, of a block, for what is prepared, and after a call that leaves the patches as they are.
-use Rattle.std.proofs.{Common.{◌≡◌, ◌∙◌, ℕ, List, [], vec_capacity, Option, Some, None, IfSome, length, map, Contains, refl, sym, subst, arith, ◌<◌, ◌↔◌, ◌&&◌, Bool, true, get_or, ap}, lemmas.List.length-map}
+use Rattle.std.proofs.{Common.{◌≡◌, ◌∙◌, ℕ, List, [], vec_capacity, Option, Some, None, IfSome, length, map, Contains, refl, sym, subst, arith, ◌<◌, ◌+◌, ◌↔◌, ◌&&◌, Bool, true, get_or, ap}, lemmas.List.length-map}
 use Rattle.std.specs.Global.{Vec}
-use Rattle.fst_types.specs.{Gates.IsOpenNumber, Patches.Patch}
+use Rattle.fst_types.specs.{Facts.SparseAreLawful, Gates.IsOpenNumber, Patches.Patch}
 use Rattle.fst_heads.specs.{Flights.IsBehind, Covers.{AreCovered, Covering}, Heads.{patch_of, patches_of, IsRising}, Keeps.IsInside, Lists.{entries_of, AreListed, entries_on}, Marks.{mark_in, mark_of}}
-use Rattle.fst_heads.specs.{Nodes.{Node, nodes_of, patches_in, AreSettled}, Standings.{AllStand, NoneBelow, is_ready_on, ready_on, standing_of}, declared.head.Head.Head, declared.lists.Listed.Listed, declared.standing.Standing.Standing}
+use Rattle.fst_heads.specs.{Nodes.{Node, is_forgotten_in, nodes_of, patches_in, AreSettled}, Standings.{AllStand, NoneBelow, is_ready_on, ready_on, standing_of}, declared.head.Head.Head, declared.lists.Listed.Listed, declared.standing.Standing.Standing}
 use Rattle.fst_walks.specs.{BothEnds.IsOver, Leveling.{IsLeveled, Leveling}, Needing.{IsNeeding, Needing}, Searching.{AreOver, TellsGates}, Sights.Sees, declared.block_walk.BlockWalk.BlockWalk, declared.ends.Ends.Ends, declared.needs.Way.Way, declared.sight.Sight.Sight}
-use Rattle.fst_graph.specs.{Fresh.IsRoomier, Sound.{AreSound, IsPrepared}, declared.prepared.Prepared.Prepared as Stored}
+use Rattle.fst_graph.specs.{Fresh.IsRoomier, Remembered.AreGone, Sound.{AreRemembered, AreSound, IsPrepared, remembered_of}, declared.prepared.Prepared.Prepared as Stored}
 use Rattle.fst_heads.proofs.{AtNumber.patches_in_nodes, Slots.rising_heads}
 use Rattle.fst_walks.proofs.{Held.{heads_held, heads_live}, Numbered.number_of, Resting.{listed_at, shelves}, Seen.{same_patches, tallies_wider}}
-use Rattle.fst_graph.proofs.{NeedsNow.needing_as, Ranks.{along_as, leveled_as}}
+use Rattle.fst_graph.proofs.{Flagged.{gone_from, rising_nodes, standing}, Remembered.remembered_lawful, NeedsNow.needing_as, Ranks.{along_as, leveled_as}}
 
 -- a walk over the heads and lists that are kept is one over those that are handed on
 pub over_then : {heads seen : List Head} {lists shelves : List (Vec Listed)} {walk : BlockWalk} → seen ≡ heads → shelves ≡ lists → IsOver heads (length lists) walk → IsOver seen (length shelves) walk
@@ -77,8 +77,8 @@ module _ {heads : Vec Head} {ends : Ends} {levels : Leveling} {needs : Needing} 
   -- after walks over the heads there are marks for each still
   pub walked_sound : {walked : Ends} → IsOver heads.items (length lists.items) walked.up → IsOver heads.items (length lists.items) walked.down → AreSound heads walked levels needs lists covers standings queue live unmarked numbers blocks None
   walked_sound up down = record {
-    keeps = record { lawful = S.keeps.lawful; few = S.keeps.few; inside = S.keeps.inside; marked = up.long ∙ sym (length-map heads.items patch_of) };
-    beside = record { places = up.crossed ∙ as_many_lists; counted = S.beside.counted };
+    keeps = record { lawful = S.keeps.lawful; inside = S.keeps.inside; marked = up.long ∙ sym (length-map heads.items patch_of) };
+    beside = record { places = up.crossed ∙ as_many_lists; counted = S.beside.counted; few = S.beside.few };
     tallies = S.tallies;
     covered = S.covered;
     along = record { marks = down.long ∙ sym up.long; places = down.crossed ∙ sym up.crossed };
@@ -203,6 +203,18 @@ module _ {heads : Vec Head} {ends : Ends} {levels : Leveling} {needs : Needing} 
     standing = rw (h, s) (subst (λ n. AllStand (nodes_of heads.items) n standings.items) (sym S.tallies.standing.long) S.tallies.standing);
     long = ap length s ∙ (S.tallies.standing.long ∙ (sym as_many_lists ∙ ap length (sym l)));
   }
+
+-- what is forgotten is on disk, and the patches that are not forgotten are as many as heads are not marked
+module _ {heads : Vec Head} {ends : Ends} {levels : Leveling} {needs : Needing} {lists : Vec (Vec Listed)} {covers : Vec Covering} {standings : Vec Standing} {queue landed : Vec ℕ} {live forgotten unmarked numbers blocks : ℕ} {o p : Option Stored}
+    (I : AreSound heads ends levels needs lists covers standings queue live unmarked numbers blocks o × AreRemembered heads.items landed forgotten p) where
+  pub view_gone : AreGone (is_forgotten_in (nodes_of heads.items)) (patches_of heads.items)
+  view_gone = gone_from heads.items blocks landed.items I.0.tallies.settled I.1.told (rising_nodes heads.items (rising_sound I.0))
+
+  pub view_lawful : SparseAreLawful (remembered_of heads.items) numbers
+  view_lawful = remembered_lawful (is_forgotten_in (nodes_of heads.items)) (patches_of heads.items) numbers view_gone I.0.keeps.lawful
+
+  pub view_long : length (remembered_of heads.items) + forgotten ≡ length heads.items
+  view_long = ap (λ k. length (remembered_of heads.items) + k) I.1.counted ∙ standing heads.items (rising_nodes heads.items (rising_sound I.0))
 
 -- what follows from that holds of whatever is prepared
 pub if_prepared : {heads : Vec Head} {ends : Ends} {levels : Leveling} {needs : Needing} {lists : Vec (Vec Listed)} {covers : Vec Covering} {standings : Vec Standing} {queue : Vec ℕ} {live unmarked numbers blocks : ℕ} {o : Option Stored}

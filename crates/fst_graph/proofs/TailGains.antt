@@ -2,9 +2,9 @@
 use Rattle.std.proofs.Common.{◌≡◌, ◌⊎◌, ◌+◌, ◌≤◌, ◌++◌, ℕ, Bool, List, [], ◌∷◌, Option, Some, None, IfSome, option_map, Contains, refl, sym, ap, subst, ◌∙◌, inl, inr, arith}
 use Rattle.std.proofs.lemmas.List.Elements.{Contains-append_left, Contains-push, Contains-push_cases}
 use Rattle.fst_types.specs.{Closure.{one, join}, Dependencies.{DirectlyOn, DependsOn, IsLiveNumber}, Facts.SparseAreLawful, Gates.IsOpenNumber}
-use Rattle.fst_types.specs.{Lists.Lists, Order.{depend_order, NamesUnknown, NamesAbove}, Patches.Patch, Refusals.NoneHolds}
+use Rattle.fst_types.specs.{Lists.Lists, Order.{depend_order, room_order, NamesUnknown, NamesAbove}, Patches.Patch, Refusals.NoneHolds}
 use Rattle.fst_heads.specs.{Keeps.Keeps, Names.numbers_of}
-use Rattle.fst_graph.specs.{Known.Prepared, Membering.member_order, Ready.{prepared_of, change_of, IsReady, IsMemberReady, IsReadyFor, MayBePut}}
+use Rattle.fst_graph.specs.{Known.Prepared, Membering.OverlapReaches, Ready.{prepared_of, change_of, IsReady, IsMemberReady, IsReadyFor, MayBePut}}
 use Rattle.fst_graph.specs.{declared.prepared.Gates.Gates, declared.prepared.Prepared.Prepared as Stored}
 use Rattle.fst_types.proofs.{NewChange.IsWithin, SmallStates.only_in}
 use Rattle.fst_heads.proofs.{Graded.depends_under, Leading.some_injective, Touching.touched_overlaps}
@@ -16,11 +16,11 @@ use Rattle.fst_types.specs.declared.grade.Grade.TheVariants as grade
 pub head_same : (o : Option Stored) (n : ℕ) (q : Prepared) (head : ℕ) (p : Stored) (gates : Gates) → option_map (prepared_of n) o ≡ Some q → q.group ≡ Some head → o ≡ Some p → p.gates ≡ Some gates → gates.head ≡ head
 head_same o n q head p gates seen named kept there = some_injective gates.head head (sym (ap (option_map (λ (g : Gates). g.head)) there) ∙ head_told o n q head p seen named kept)
 
-pub member_kept : (p : Stored) (gates : Gates) (old : List Patch) (n blocks : ℕ) → p.gates ≡ Some gates → MayBePut old n blocks p → IsMemberReady old n blocks gates p
-member_kept p gates old n blocks there ready = subst (λ g. IsReadyFor g old n blocks p) there ready
+pub member_kept : (p : Stored) (gates : Gates) (old kept : List Patch) (n blocks : ℕ) → p.gates ≡ Some gates → MayBePut old kept n blocks p → IsMemberReady old kept n blocks gates p
+member_kept p gates old kept n blocks there ready = subst (λ g. IsReadyFor g old kept n blocks p) there ready
 
 -- the tail is one of the patches that there are
-pub tail_small : (old : List Patch) (n : ℕ) {blocks : ℕ} {gates : Gates} {p : Stored} → SparseAreLawful old n → IsMemberReady old n blocks gates p → gates.tail ≤ n
+pub tail_small : (old : List Patch) {kept : List Patch} (n : ℕ) {blocks : ℕ} {gates : Gates} {p : Stored} → SparseAreLawful old n → IsMemberReady old kept n blocks gates p → gates.tail ≤ n
 tail_small old n H R = let t = R.paired.tail_open in let k = (H.one_place_each.numbered t.patch t.head).1 in let e = t.numbered in omega (arith, k, e)
 
 -- the tail may gain the change
@@ -31,11 +31,11 @@ pub record MayGain (old : List Patch) (n : ℕ) (gates : Gates) (p : Stored) : T
   pub follows : gates.tail ≡ gates.head + 1
   pub names : numbers_of p.names.items ≡ gates.head ∷ []
 
-module _ (old : List Patch) (n blocks : ℕ) (marks : List Bool) (K : Keeps old n blocks marks) (gates : Gates) (p : Stored) (R : IsMemberReady old n blocks gates p) (closed : IsOpenNumber old gates.head → ⊥) where
+module _ (old kept : List Patch) (n blocks : ℕ) (marks : List Bool) (K : Keeps old n blocks marks) (gates : Gates) (p : Stored) (R : IsMemberReady old kept n blocks gates p) (closed : IsOpenNumber old gates.head → ⊥) where
   H : SparseAreLawful old n
   H = K.lawful
 
-  ready_now : IsReady old n blocks p
+  ready_now : IsReady old kept n blocks p
   ready_now = R.made old (inr (closed, refl))
 
   abbrev made : Patch
@@ -80,7 +80,7 @@ module _ (old : List Patch) (n blocks : ℕ) (marks : List Bool) (K : Keeps old 
         ]
     | inr t ↦ elim reach [
       | inl same ↦ touched_no_gate old p.block p.span.at p.span.len gates.tail y H.one_place_each.rising R.paired.tail_open t same
-      | inr d ↦ R.clear.0 (y, touched_overlaps old p.block p.span.at p.span.len 0 grade.Soft [] y t, d)
+      | inr d ↦ R.apart (y, touched_overlaps old p.block p.span.at p.span.len 0 grade.Soft [] y t, d)
     ]
   ]
 
@@ -133,16 +133,17 @@ module _ (old : List Patch) (n blocks : ℕ) (marks : List Bool) (K : Keeps old 
   tail_gain : SparseAreLawful with_made (n + 1) → MayGain old n gates p
   tail_gain L = record { there = tail_there; clear = tail_clear L; gains = tail_gains; follows = R.paired.follows; names = R.names }
 
-pub tail_may : (old : List Patch) (n blocks : ℕ) (marks : List Bool) → Keeps old n blocks marks → (gates : Gates) (p : Stored) → p.gates ≡ Some gates → MayBePut old n blocks p → IfSome p.gates (λ g. IsOpenNumber old g.head → ⊥) → SparseAreLawful (old ++ change_of n p ∷ []) (n + 1) → MayGain old n gates p
-tail_may old n blocks marks K gates p there ready shut = tail_gain old n blocks marks K gates p (member_kept p gates old n blocks there ready) (subst (λ g. IfSome g (λ x. IsOpenNumber old x.head → ⊥)) there shut)
+pub tail_may : (old kept : List Patch) (n blocks : ℕ) (marks : List Bool) → Keeps old n blocks marks → (gates : Gates) (p : Stored) → p.gates ≡ Some gates → MayBePut old kept n blocks p → IfSome p.gates (λ g. IsOpenNumber old g.head → ⊥) → SparseAreLawful (old ++ change_of n p ∷ []) (n + 1) → MayGain old n gates p
+tail_may old kept n blocks marks K gates p there ready shut = tail_gain old kept n blocks marks K gates p (member_kept p gates old kept n blocks there ready) (subst (λ g. IfSome g (λ x. IsOpenNumber old x.head → ⊥)) there shut)
 
 -- nothing refuses it
-pub member_clear : (o : Option Stored) (n : ℕ) (q : Prepared) (head : ℕ) (old : List Patch) (blocks : ℕ) → option_map (prepared_of n) o ≡ Some q → q.group ≡ Some head → IfSome o (MayBePut old n blocks) → NoneHolds (member_order old n (head + 1) q.block q.at q.len)
-member_clear None n q head old blocks seen named ready = absurd (cc)
-member_clear (Some p) n q head old blocks seen named ready =
+pub member_clear : (o : Option Stored) (n : ℕ) (q : Prepared) (head : ℕ) (old kept : List Patch) (blocks : ℕ) → option_map (prepared_of n) o ≡ Some q → q.group ≡ Some head → IfSome o (MayBePut old kept n blocks)
+    → (OverlapReaches old (head + 1) q.block q.at q.len → ⊥) × NoneHolds (room_order kept n)
+member_clear None n q head old kept blocks seen named ready = absurd (cc)
+member_clear (Some p) n q head old kept blocks seen named ready =
     let shown : prepared_of n p ≡ q = cc in
     let group : option_map (λ (g : Gates). g.head) p.gates ≡ Some head = subst (λ (x : Prepared). x.group ≡ Some head) (sym shown) named in
-    let r = ready_member n p head old n blocks group ready in
+    let r = ready_member n p head old kept n blocks group ready in
     let own = head_same (Some p) n q head p r.0 seen named refl r.1 in
     let tail : r.0.tail ≡ head + 1 = r.2.paired.follows ∙ ap (λ x. x + 1) own in
-    rw (← shown, ← tail) r.2.clear
+    (rw (← shown, ← tail) r.2.apart, r.2.room)

@@ -12,7 +12,7 @@ use Rattle.fst_heads.proofs.{Placed.map_alike, Listing.numbers_rise, Forgetting.
 use Rattle.fst_graph.proofs.{WholeRows.named, Wholes.{swap_pushed, is, was, live_number, blocked, need_is, need_was, reaches, returns}}
 use Rattle.fst_types.specs.declared.grade.Grade.TheVariants as grades
 
-rule_same : (g : Grade) (P Q : Type 0) → (P ↔ Q) → FollowsRule g P → FollowsRule g Q
+pub rule_same : (g : Grade) (P Q : Type 0) → (P ↔ Q) → FollowsRule g P → FollowsRule g Q
 rule_same grades.Hard P Q k r = k.0 r
 rule_same grades.Soft P Q k r = λ q. r (k.1 q)
 

@@ -1,8 +1,8 @@
 -- Room for new heads, and what a new head makes of the others and of what has a place for each head.
-use Rattle.std.specs.Prelude.{◌≡◌, ◌≤◌, ◌<◌, ◌+◌, ◌++◌, ◌∷◌, [], ℕ, false, List, length, map, vec_len, vec_capacity, Contains}
+use Rattle.std.specs.Prelude.{◌≡◌, ◌≤◌, ◌<◌, ◌+◌, ◌++◌, ◌∷◌, [], ℕ, false, List, length, count_by, map, vec_len, vec_capacity, Contains}
 use Rattle.std.specs.Global.{Vec}
 use Rattle.std.specs.List.Sorted.{IsStrictlyIncreasing}
-use Rattle.fst_types.specs.{Dependencies.IsLiveNumber, Facts.SparseAreLawful, Limits.max_heads, Making.fresh, Patches.{Patch, IsOn, IsOpenGate, OpenGate}, Tests.is_on}
+use Rattle.fst_types.specs.{Dependencies.IsLiveNumber, Facts.SparseAreLawful, Limits.max_heads, Making.fresh, Patches.{Patch, IsOn, IsOpenGate, OpenGate}, Tests.{is_live, is_on}}
 use Rattle.fst_heads.specs.{Heads.{kind_of, patches_of}, Nodes.{Node, nodes_of, linked_to, pending_in}, Pendings.{joined, of_kind, sums_of}, declared.head.Head.Head}
 use Rattle.fst_walks.specs.{Ancestors.GoesUnder, Leveling.{Leveling, level_of, top_level}, declared.{ends.Ends.Ends, levels.{Ancestry.Ancestry, Rank.Rank}}}
 use Rattle.fst_graph.specs.declared.fresh.Fresh.{Fresh}
@@ -15,14 +15,14 @@ patch_from f = record { number = f.number; kind = kind_of f.kind; place = f.plac
 abbrev pub nodes_with : List Node → Patch → List Node
 nodes_with nodes p =
     map (linked_to p.dependencies p.number) nodes
-    ++ record { patch = p; sums = sums_of (pending_in nodes) p.dependencies; pending = of_kind p.kind p.place (joined (pending_in nodes) p.dependencies); dependants = [] } ∷ []
+    ++ record { patch = p; sums = sums_of (pending_in nodes) p.dependencies; pending = of_kind p.kind p.place (joined (pending_in nodes) p.dependencies); dependants = []; forgotten = false } ∷ []
 
 -- patch p, which is no change, may be the next
 pub record MayAdd (heads : List Patch) (numbers : ℕ) (p : Patch) : Type 0 where
   pub next : p.number ≡ numbers + 1
   pub plain : (b : ℕ) → is_on b p.kind ≡ false
   pub off : (b : ℕ) → IsOn p b → ⊥
-  pub few : length heads < max_heads
+  pub few : count_by is_live heads < max_heads
   pub rising : IsStrictlyIncreasing p.dependencies
   pub live : (m : ℕ) → Contains p.dependencies m → IsLiveNumber heads m
   pub lawful : SparseAreLawful (heads ++ p ∷ []) (numbers + 1)

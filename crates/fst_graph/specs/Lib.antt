@@ -8,3 +8,4 @@ pub mod Rows
 pub mod Fresh
 pub mod Sound
 pub mod Sparse
+pub mod Remembered

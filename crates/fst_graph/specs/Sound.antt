@@ -1,14 +1,27 @@
 -- What the patches keep of their fields between two calls.
-use Rattle.std.specs.Prelude.{◌≡◌, ◌≤◌, ◌<◌, ℕ, slice_index_or, Option, IfSome, length, map, vec_len, vec_capacity}
+use Rattle.std.specs.Prelude.{◌≡◌, ◌≤◌, ◌<◌, ◌+◌, ℕ, List, slice_index_or, Option, IfSome, length, map, count_by, vec_len, vec_capacity}
 use Rattle.std.specs.Global.{Vec}
-use Rattle.fst_heads.specs.{Covers.{AreCovered, Covering, HasRoomForRuns}, Heads.patches_of, Keeps.{Beside, Keeps, Tallies}, Lists.{entries_of, HasRoomInList}}
-use Rattle.fst_heads.specs.{Nodes.nodes_of, declared.head.Head.Head, declared.lists.Listed.Listed, Standings.NoneBelow, declared.standing.Standing.Standing}
+use Rattle.fst_types.specs.{Limits.max_heads, Patches.Patch}
+use Rattle.fst_heads.specs.{Covers.{AreCovered, Covering, HasRoomForRuns}, Heads.patches_of, Keeps.{Beside, Keeps, Tallies}, Landed.AreLanded, Lists.{entries_of, HasRoomInList}}
+use Rattle.fst_heads.specs.{Nodes.{is_forgotten_in, nodes_of}, declared.head.Head.Head, declared.lists.Listed.Listed, Standings.NoneBelow, declared.standing.Standing.Standing}
 use Rattle.fst_walks.specs.{Leveling.{IsLeveled, Leveling}, Needing.{HaveGivenEnds, IsNeeding, Needing}, declared.ends.Ends.Ends}
-use Rattle.fst_graph.specs.{Fresh.HasPlaces, Ready.{MayBePut, HasRoomAround}, declared.prepared.Prepared.Prepared as Stored}
+use Rattle.fst_graph.specs.{Fresh.HasPlaces, Ready.{MayBePut, HasRoomAround}, Remembered.remembered, declared.prepared.Prepared.Prepared as Stored}
+
+-- the patches that are not forgotten, out of those whose heads are kept
+abbrev pub remembered_of : List Head → List Patch
+remembered_of heads = remembered (is_forgotten_in (nodes_of heads)) (patches_of heads)
+
+-- so many are forgotten, of the others there are no more than there may be heads, and those that landed are told, with a place for each head and for what is prepared
+pub record AreRemembered (heads : List Head) (landed : Vec ℕ) (forgotten : ℕ) (stored : Option Stored) : Type 0 where
+  pub counted : forgotten ≡ count_by (λ x. x.forgotten) (nodes_of heads)
+  pub few : length heads ≤ forgotten + max_heads
+  pub told : AreLanded (nodes_of heads) landed.items
+  pub shelf : length heads ≤ vec_capacity landed
+  pub spare : IfSome stored (λ p. length heads < vec_capacity landed)
 
 -- a change that is prepared is not refused, and whatever it is put into has a free place for it
 pub record IsPrepared (heads : Vec Head) (ends : Ends) (levels : Leveling) (needs : Needing) (lists : Vec (Vec Listed)) (covers : Vec Covering) (queue : Vec ℕ) (numbers blocks : ℕ) (p : Stored) : Type 0 where
-  pub ready : MayBePut (patches_of heads.items) numbers blocks p
+  pub ready : MayBePut (patches_of heads.items) (remembered_of heads.items) numbers blocks p
   pub places : HasPlaces 1 heads ends levels
   pub waits : vec_len heads < vec_capacity queue
   pub around : HasRoomAround heads.items p

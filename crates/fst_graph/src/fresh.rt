@@ -1,7 +1,7 @@
 //! New heads: room for them, and putting them down. This is over the heads alone, and what has a place for each head: the
 //! marks of both walks, the levels and the queue. It knows no block and no refusal.
 
-ghost use Rattle.std.specs.Prelude.{◌≡◌, ◌≢◌, ◌≤◌, ◌<◌, ◌+◌, ◌∷◌, [], ℕ, Contains, OnOk, OnErr, length, map, vec_len, vec_capacity};
+ghost use Rattle.std.specs.Prelude.{◌≡◌, ◌≢◌, ◌≤◌, ◌<◌, ◌+◌, ◌∷◌, [], ℕ, Contains, OnOk, OnErr, count_by, length, map, vec_len, vec_capacity};
 ghost use Rattle.std.specs.List.Sorted.{IsStrictlyIncreasing};
 ghost use Rattle.fst_types.specs.Facts.{SparseAreLawful};
 ghost use Rattle.fst_types.specs.Limits.{max_heads, max_number};
@@ -11,6 +11,7 @@ ghost use Rattle.fst_heads.specs.Frames.{HasRoomBelow};
 ghost use Rattle.fst_heads.specs.Heads.{IsRising, kind_of, patches_of};
 ghost use Rattle.fst_heads.specs.Nodes.{HasRoomAbove, nodes_of, pending_in};
 ghost use Rattle.fst_heads.specs.Pendings.{joined, of_kind};
+ghost use Rattle.fst_heads.specs.Spreading.{is_waiting};
 ghost use Rattle.fst_graph.specs.Fresh.{patch_from, HasPlaces, AddsTwo, HasOneMore, IsAdded, IsRoomier};
 ghost use Rattle.fst_walks.specs.Leveling.{IsLeveled, level_of, no_ancestry, top_level};
 
@@ -74,6 +75,15 @@ pub fn reserve_heads(
     queue.reserve(heads.len() + more as usize)
 }
 
+/// A place for each of so many heads among those that landed.
+pub fn reserve_landed(landed: &mut Vec<u32>, heads: usize) -> Result<(), AllocError>
+    ensures same { landed.new.items ≡ landed.old.items }
+    ensures wide { vec_capacity landed.old ≤ vec_capacity landed.new }
+    ensures shelf { OnOk result (heads ≤ vec_capacity landed.new) }
+{
+    landed.reserve(heads.saturating_sub(landed.len()))
+}
+
 // What is pending of a patch over that.
 fn pending_over(fresh: &Fresh, below: Pending) -> Pending
     ensures { result ≡ of_kind (kind_of fresh.now.kind) fresh.now.place below }
@@ -101,7 +111,7 @@ pub fn put_down(
     requires once { IsStrictlyIncreasing fresh.dependencies.items }
     requires above { HasRoomAbove heads.old.items fresh.dependencies.items }
     requires places { HasPlaces 1 heads.old ends.old levels.old }
-    requires few { length heads.old.items ≤ max_heads }
+    requires few { count_by is_waiting (nodes_of heads.old.items) ≤ max_heads }
     ensures put { HasOneMore (patch_from fresh) rank heads.old ends.old levels.old heads.new ends.new levels.new }
     ensures pending { result ≡ of_kind (kind_of fresh.kind) fresh.place (joined (pending_in (nodes_of heads.old.items)) fresh.dependencies.items) }
     ensures len { vec_len heads.new ≡ vec_len heads.old + 1 }
@@ -117,6 +127,7 @@ pub fn put_down(
         number: fresh.number,
         kind: fresh.kind,
         place: fresh.place,
+        forgotten: false,
         dependencies: fresh.dependencies,
         sums,
         pending,
@@ -166,7 +177,7 @@ pub fn add_one(
     requires once { IsStrictlyIncreasing fresh.dependencies.items }
     requires leveled { IsLeveled (patches_of heads.old.items) (length levels.old.floors) levels.old }
     requires given { 0 < fresh.number }
-    requires few { length heads.old.items ≤ max_heads }
+    requires few { count_by is_waiting (nodes_of heads.old.items) ≤ max_heads }
     ensures added { OnOk result (IsAdded (patch_from fresh) heads.old ends.old levels.old queue.old heads.new ends.new levels.new queue.new) }
     ensures roomier { OnErr result (IsRoomier heads.old ends.old levels.old queue.old heads.new ends.new levels.new queue.new) }
 {
@@ -193,7 +204,7 @@ pub fn add_two(
 ) -> Result<(), AllocError>
     requires lawful { SparseAreLawful (patches_of heads.old.items) numbers }
     requires given { numbers + 2 ≤ max_number }
-    requires few { length heads.old.items < max_heads }
+    requires few { count_by is_waiting (nodes_of heads.old.items) < max_heads }
     ensures added { OnOk result (AddsTwo numbers heads.old ends.old levels.old queue.old heads.new ends.new levels.new queue.new) }
     ensures roomier { OnErr result (IsRoomier heads.old ends.old levels.old queue.old heads.new ends.new levels.new queue.new) }
 {

@@ -1,17 +1,21 @@
 //! Gates, as calls name them.
 
-ghost use Rattle.std.specs.Prelude.{◌≡◌, ◌≤◌, ℕ, List, length, map, Contains, IfOk, IfErr, IfSome, IfNone, OnOk, OnErr};
+ghost use Rattle.std.specs.Prelude.{◌≡◌, ◌≤◌, ℕ, List, count_by, map, Contains, IfOk, IfErr, IfSome, IfNone, OnOk, OnErr};
 ghost use Rattle.fst_types.specs.Dependencies.{DirectlyOn, IsLiveNumber};
 ghost use Rattle.fst_types.specs.Limits.{max_heads};
 ghost use Rattle.fst_types.specs.Lists.{Lists};
 ghost use Rattle.fst_types.specs.Order.{seal_order, depend_order};
 ghost use Rattle.fst_types.specs.Refusals.{IsFirst, NoneHolds};
+ghost use Rattle.fst_types.specs.Facts.{IsOnDiskWithAll};
 ghost use Rattle.fst_types.specs.Gates.{IsOpenNumber};
 ghost use Rattle.fst_heads.specs.Heads.{IsRising, patches_of};
 ghost use Rattle.fst_heads.specs.Names.{numbers_of};
 ghost use Rattle.fst_heads.specs.Marks.{HasSlot};
-ghost use Rattle.fst_heads.specs.Nodes.{Node, AreDistinct, AreLinked, nodes_of, pending_in, at_number, gains_names, linked_to};
+ghost use Rattle.fst_heads.specs.Nodes.{Node, AreDistinct, AreLinked, is_forgotten_in, nodes_of, pending_in, at_number, gains_names, linked_to};
 ghost use Rattle.fst_heads.specs.Pendings.{Fits, sums_of};
+ghost use Rattle.fst_heads.specs.Spreading.{is_waiting};
+ghost use Rattle.fst_graph.specs.Remembered.{AreGone};
+ghost use Rattle.fst_graph.specs.Sound.{remembered_of};
 ghost use Rattle.fst_walks.specs.Searching.{AreOver, TellsGates};
 
 use fst_heads::growth::{gain, missing_names};
@@ -24,10 +28,10 @@ use fst_walks::cycle::closes_cycle;
 use fst_walks::ends::Ends;
 use std::alloc::{AllocError, Global};
 
-/// The slot of an open gate, or why it is none: the number was not given, it is no gate's, or the gate is sealed.
+/// The slot of an open gate, or why it is none: the number was not given, it is no gate's or forgotten, or the gate is sealed.
 pub fn gate_slot(heads: &[Head], numbers: u32, gate: u32) -> Result<usize, Fault>
     requires { IsRising heads.now }
-    ensures refused { IfErr result (IsFirst (seal_order (patches_of heads.now) numbers gate)) }
+    ensures refused { IfErr result (IsFirst (seal_order (remembered_of heads.now) numbers gate)) }
     ensures slot { IfOk result (HasSlot heads.now gate) }
     ensures clear { IfOk result (λ _. NoneHolds (seal_order (patches_of heads.now) numbers gate)) }
     ensures is_open { IfOk result (λ _. IsOpenNumber (patches_of heads.now) gate) }
@@ -38,6 +42,9 @@ pub fn gate_slot(heads: &[Head], numbers: u32, gate: u32) -> Result<usize, Fault
     let Some(slot) = slot_of(heads, gate) else {
         return Err(Fault::NotGate);
     };
+    if heads[slot].forgotten {
+        return Err(Fault::NotGate);
+    }
     match heads[slot].kind {
         Kind::OpenGate => Ok(slot),
         Kind::SealedGate => Err(Fault::Sealed),
@@ -55,10 +62,12 @@ pub fn depend_fault(
     on: &[PatchNo],
 ) -> Option<Fault>
     requires rising { IsRising heads.now }
+    requires disk { IsOnDiskWithAll (patches_of heads.now) }
+    requires gone { AreGone (is_forgotten_in (nodes_of heads.now)) (patches_of heads.now) }
     requires over { AreOver heads.now ends.old }
     requires linked { AreLinked (nodes_of heads.now) }
     requires gates { TellsGates heads.now }
-    ensures first { IfSome result (IsFirst (depend_order (patches_of heads.now) numbers gate (numbers_of on.now))) }
+    ensures first { IfSome result (IsFirst (depend_order (remembered_of heads.now) numbers gate (numbers_of on.now))) }
     ensures clear { IfNone result (NoneHolds (depend_order (patches_of heads.now) numbers gate (numbers_of on.now))) }
     ensures is_open { IfNone result (IsOpenNumber (patches_of heads.now) gate) }
     ensures over { AreOver heads.now ends.new }
@@ -91,7 +100,7 @@ pub fn gain_names(
     requires linked { AreLinked (nodes_of heads.old.items) }
     requires summed { (x : Node) → Contains (nodes_of heads.old.items) x → (x.sums ≡ sums_of (pending_in (nodes_of heads.old.items)) x.patch.dependencies) × Fits x.sums }
     requires distinct { AreDistinct (nodes_of heads.old.items) }
-    requires few { length heads.old.items ≤ max_heads }
+    requires few { count_by is_waiting (nodes_of heads.old.items) ≤ max_heads }
     ensures gained { OnOk result ((names : List ℕ) × Lists (λ n. IsLiveNumber (patches_of heads.old.items) n × Contains (numbers_of on.now) n × (DirectlyOn (patches_of heads.old.items) gate n → ⊥)) names × (nodes_of heads.new.items ≡ map (linked_to names gate) (map (at_number gate (gains_names names (sums_of (pending_in (nodes_of heads.old.items)) names))) (nodes_of heads.old.items)))) }
     ensures same { OnErr result (nodes_of heads.new.items ≡ nodes_of heads.old.items) }
 {

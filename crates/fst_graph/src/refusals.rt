@@ -1,28 +1,29 @@
-//! Why a patch cannot be made now. The first rule that holds decides.
+//! Why a patch cannot be made now. The first rule that holds decides. Of the patches most rules ask no more than how many are
+//! not forgotten.
 
-ghost use Rattle.std.specs.Prelude.{◌≡◌, ◌<◌, length, IfSome, IfNone};
+ghost use Rattle.std.specs.Prelude.{◌≡◌, ◌↔◌, ◌<◌, List, length, IfSome, IfNone, IsTrue};
 ghost use Rattle.fst_types.specs.Gates.{IsOpenNumber};
 ghost use Rattle.fst_types.specs.Order.{room_order, make_order};
+ghost use Rattle.fst_types.specs.Patches.{Patch};
 ghost use Rattle.fst_types.specs.Refusals.{IsFirst, NoneHolds};
 ghost use Rattle.fst_heads.specs.Heads.{patches_of};
 ghost use Rattle.fst_heads.specs.Names.{numbers_of};
-ghost use Rattle.fst_graph.specs.Membering.{member_order};
+ghost use Rattle.fst_graph.specs.Membering.{OverlapReaches};
 ghost use Rattle.fst_walks.specs.Sights.{Sees};
 ghost use Rattle.fst_walks.specs.Searching.{AreOver, TellsGates};
 
-use fst_heads::head::Head;
 use fst_heads::row::names_unknown;
 use fst_types::{Fault, MAX_HEADS, MAX_NAMES, MAX_NUMBER, PatchNo, Span, What};
 use fst_walks::ends::Ends;
 use fst_walks::overlap_cycle::overlap_reaches;
 use fst_walks::sight::Sight;
 
-/// Why no patch can be made now.
-pub fn room_fault(heads: &[Head], numbers: u32) -> Option<Fault>
-    ensures first { IfSome result (λ f. IsFirst (room_order (patches_of heads.now) numbers) f) }
-    ensures clear { IfNone result (NoneHolds (room_order (patches_of heads.now) numbers)) }
+/// Why no patch can be made now, so many not being forgotten.
+pub fn room_fault(standing: usize, numbers: u32) -> Option<Fault>
+    ensures first { IfSome result (λ f. (heads : List Patch) → length heads ≡ standing → IsFirst (room_order heads numbers) f) }
+    ensures clear { IfNone result ((heads : List Patch) → length heads ≡ standing → NoneHolds (room_order heads numbers)) }
 {
-    if heads.len() >= MAX_HEADS {
+    if standing >= MAX_HEADS {
         return Some(Fault::Full(What::Heads));
     }
     if numbers == MAX_NUMBER {
@@ -32,9 +33,9 @@ pub fn room_fault(heads: &[Head], numbers: u32) -> Option<Fault>
 }
 
 /// Why no patch that names these can be made now.
-pub fn make_fault(heads: &[Head], numbers: u32, after: &[PatchNo]) -> Option<Fault>
-    ensures first { IfSome result (λ f. IsFirst (make_order (patches_of heads.now) numbers (numbers_of after.now)) f) }
-    ensures clear { IfNone result (NoneHolds (make_order (patches_of heads.now) numbers (numbers_of after.now))) }
+pub fn make_fault(standing: usize, numbers: u32, after: &[PatchNo]) -> Option<Fault>
+    ensures first { IfSome result (λ f. (heads : List Patch) → length heads ≡ standing → IsFirst (make_order heads numbers (numbers_of after.now)) f) }
+    ensures clear { IfNone result ((heads : List Patch) → length heads ≡ standing → NoneHolds (make_order heads numbers (numbers_of after.now))) }
 {
     if after.len() > MAX_NAMES {
         return Some(Fault::BadField);
@@ -42,31 +43,20 @@ pub fn make_fault(heads: &[Head], numbers: u32, after: &[PatchNo]) -> Option<Fau
     if names_unknown(numbers, after) {
         return Some(Fault::NoPatch);
     }
-    room_fault(heads, numbers)
+    room_fault(standing, numbers)
 }
 
-/// Why no change of a group with that tail can be made now.
-pub fn member_fault(
-    sight: &Sight<'_>,
-    ends: &mut Ends,
-    numbers: u32,
-    tail: u32,
-    block: u32,
-    span: Span,
-) -> Option<Fault>
+/// Whether a change that one with this span overlaps depends on the tail of a group, so that the group cannot have it.
+pub fn reaches_tail(sight: &Sight<'_>, ends: &mut Ends, tail: u32, block: u32, span: Span) -> bool
     requires sees { Sees sight.now }
     requires gates { TellsGates sight.now.heads.now }
     requires over { AreOver sight.now.heads.now ends.old }
     requires block { block < length sight.now.lists.now }
     requires is_open { IsOpenNumber (patches_of sight.now.heads.now) tail }
-    ensures first { IfSome result (IsFirst (member_order (patches_of sight.now.heads.now) numbers tail block span.at span.len)) }
-    ensures clear { IfNone result (NoneHolds (member_order (patches_of sight.now.heads.now) numbers tail block span.at span.len)) }
+    ensures reaches { IsTrue result ↔ OverlapReaches (patches_of sight.now.heads.now) tail block span.at span.len }
     ensures over { AreOver sight.now.heads.now ends.new }
     ensures crossed { (ends.new.up.crossed ≡ ends.old.up.crossed) × (ends.new.down.crossed ≡ ends.old.down.crossed) }
 {
     let list = sight.lists[block as usize].as_slice();
-    if overlap_reaches(sight.heads, list, ends, tail, block, span) {
-        return Some(Fault::Cycle);
-    }
-    room_fault(sight.heads, numbers)
+    overlap_reaches(sight.heads, list, ends, tail, block, span)
 }

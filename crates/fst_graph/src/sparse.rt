@@ -2,17 +2,18 @@
 //! calls look at the patches that they touch, and at those that depend on these. Between two calls of its own a call of a
 //! group has no group as it should be, so that the groups and what holds of them stand a layer above, in the graph.
 
-ghost use Rattle.std.specs.Prelude.{◌≡◌, ◌↔◌, [], None, IsTrue, IfOk, IfErr, OnErr, IfSome, IfNone, OnOk, option_map, MatchResult, count_by};
+ghost use Rattle.std.specs.Prelude.{◌≡◌, ◌↔◌, [], None, length, IsTrue, IfOk, IfErr, OnErr, IfSome, IfNone, OnOk, option_map, MatchResult, count_by};
 ghost use Rattle.fst_types.specs.Patches.{Patch};
 ghost use Rattle.fst_types.specs.Looks.{place_of, IsPick};
 ghost use Rattle.fst_types.specs.Order.{seal_order, depend_order};
 ghost use Rattle.fst_types.specs.Refusals.{IsFirst};
 ghost use Rattle.fst_types.specs.Writable.{IsWritableSet, HasReady, IsHeld, IsLeastHeld};
 ghost use Rattle.fst_types.specs.Tests.{is_live};
-ghost use Rattle.fst_graph.specs.Known.{unprepared, Refuses, SealsGate, DependsGate, Launches, NoneFlies, IsStuckByGates, LandsBlock, MayLaunch, Forgets};
+ghost use Rattle.fst_graph.specs.Known.{unprepared, Refuses, SealsGate, DependsGate, Launches, NoneFlies, IsStuckByGates, LandsBlock, MayLaunch};
 ghost use Rattle.fst_heads.specs.Names.{numbers_of};
 
 mod adding;
+mod forgetting;
 mod grouping;
 mod making;
 mod pairs;
@@ -42,12 +43,12 @@ use fst_walks::sink::{sink_floor, sink_over};
 use std::alloc::{AllocError, Global};
 use std::marker::Model;
 
-/// The heads, which are the patches not forgotten, in order of number. `ends` has two marks for each, and two places
-/// for each block, for the walks that find grades and cycles; `levels` has a level for each, and a floor for each block, and
-/// `needs` what each block needs.
+/// The heads, in order of number: those of the patches that are not forgotten, and so many as `forgotten` says of patches that
+/// are, each marked so. `ends` has two marks for each, and two places for each block, for the walks that find grades and
+/// cycles; `levels` has a level for each, and a floor for each block, and `needs` what each block needs.
 /// `lists` has for each block its changes that are not on disk, and
-/// `standings` has the mark of each. `queue` has a place for each head, for those of which their dependants are to be told,
-/// and for where a way down goes on.
+/// `standings` has the mark of each. `queue` has a place for each head, for those of which their dependants are to be told and
+/// for where a way down goes on, and `landed` for the patches on disk that are not forgotten, whose numbers it has.
 /// Where a change is prepared, there is a free place for it in each. `live` is how many of the patches are not on disk, and
 /// no block below `unmarked` may be written.
 #[derive(Drop)]
@@ -61,7 +62,9 @@ pub struct Sparse {
     covers: Vec<Cover>,
     standings: Vec<Standing>,
     queue: Vec<u32>,
+    landed: Vec<u32>,
     live: usize,
+    forgotten: usize,
     unmarked: usize,
     numbers: u32,
     blocks: u16,
@@ -69,17 +72,16 @@ pub struct Sparse {
 }
 
 impl Model for Sparse {
-    ghost use Rattle.fst_heads.specs.Heads.{patches_of};
     ghost use Rattle.std.specs.Prelude.{[], option_map};
     ghost use Rattle.fst_graph.specs.Known.{Known};
     ghost use Rattle.fst_graph.specs.Ready.{prepared_of};
-    ghost use Rattle.fst_graph.specs.Sound.{AreSound};
+    ghost use Rattle.fst_graph.specs.Sound.{AreRemembered, AreSound, remembered_of};
 
     ghost Value = { Known };
 
-    ghost view = { λ g. record { heads = patches_of g.heads.items; numbers = g.numbers; blocks = g.blocks; groups = []; prepared = option_map (prepared_of g.numbers) g.prepared } };
+    ghost view = { λ g. record { heads = remembered_of g.heads.items; numbers = g.numbers; blocks = g.blocks; groups = []; prepared = option_map (prepared_of g.numbers) g.prepared } };
 
-    ghost invariant = { λ g. AreSound g.heads g.ends g.levels g.needs g.lists g.covers g.standings g.queue g.live g.unmarked g.numbers g.blocks g.prepared };
+    ghost invariant = { λ g. AreSound g.heads g.ends g.levels g.needs g.lists g.covers g.standings g.queue g.live g.unmarked g.numbers g.blocks g.prepared × AreRemembered g.heads.items g.landed g.forgotten g.prepared };
 }
 
 impl Sparse {
@@ -117,7 +119,9 @@ impl Sparse {
             covers,
             standings,
             queue: Vec::new(alloc),
+            landed: Vec::new(alloc),
             live: 0,
+            forgotten: 0,
             unmarked: 0,
             numbers,
             blocks: shape.blocks as u16,
@@ -130,6 +134,13 @@ impl Sparse {
         ensures { self.new ≡ unprepared self.old }
     {
         let_go(&mut self.prepared);
+    }
+
+    // How many patches are not forgotten.
+    pub(crate) fn standing(&self) -> usize
+        ensures { result ≡ length self.now.heads }
+    {
+        self.heads.len() - self.forgotten
     }
 
     /// How many patches are not on disk. It takes no memory.
@@ -194,7 +205,12 @@ impl Sparse {
             Err(fault) => return Err(fault),
         };
         seal_slot(&mut self.heads, &mut self.queue, gate.0, slot);
-        let landed = cascade(&mut self.heads, &mut self.queue, &mut self.standings);
+        let landed = cascade(
+            &mut self.heads,
+            &mut self.queue,
+            &mut self.standings,
+            &mut self.landed,
+        );
         self.levels.settle(&self.heads, slot);
         // The tail gate of a group gained its changes without a look at its ancestors, and gains no more.
         renew(&mut self.levels, &self.heads, gate.0);
@@ -280,25 +296,15 @@ impl Sparse {
         );
         land_at(&mut self.standings, block.0);
         self.needs.land(block.0);
-        let landed = cascade(&mut self.heads, &mut self.queue, &mut self.standings);
+        let landed = cascade(
+            &mut self.heads,
+            &mut self.queue,
+            &mut self.standings,
+            &mut self.landed,
+        );
         self.live -= landed;
         self.unmarked = 0;
         sink_floor(&mut self.levels, &self.lists, block.0);
-    }
-
-    /// Forgets the patches on disk, and answers how many they were. It takes no memory.
-    pub fn forget(&mut self) -> u32
-        ensures { Forgets self.old result self.new }
-    {
-        let_go(&mut self.prepared);
-        if self.live == self.heads.len() {
-            return 0;
-        }
-        let before = self.heads.len();
-        self.levels.forget(&mut self.heads, self.live);
-        self.levels.ease();
-        self.ends.shrink(self.heads.len());
-        (before - self.heads.len()) as u32
     }
 
     /// The least hard patch of the block in memory outside its writable set. It takes no memory.

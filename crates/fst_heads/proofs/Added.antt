@@ -1,5 +1,5 @@
 -- The nodes where a patch is made, and where a gate gains names.
-use Rattle.fst_heads.proofs.{Basics.{ℕ, List, [], ◌∷◌, ◌++◌, map}, Patches.Patch}
+use Rattle.fst_heads.proofs.{Basics.{ℕ, List, false, [], ◌∷◌, ◌++◌, map}, Patches.Patch}
 use Rattle.fst_heads.proofs.Words.{Sums, Node, at_number, linked_to, gains_names, pending_in, joined, of_kind, sums_of}
 
 -- the node of a new patch
@@ -9,6 +9,7 @@ new_node nodes p = record {
   sums = sums_of (pending_in nodes) p.dependencies;
   pending = of_kind p.kind p.place (joined (pending_in nodes) p.dependencies);
   dependants = [];
+  forgotten = false;
 }
 
 -- the nodes with a new one, which is a dependant of those that it depends on

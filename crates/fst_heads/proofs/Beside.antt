@@ -1,8 +1,8 @@
 -- What calls leave of the count of patches that are not on disk.
 use Rattle.fst_heads.proofs.Basics.{cond_both, ◌≡◌, ℕ, ◌+◌, ◌-◌, ◌≤◌, ◌==◌, Bool, true, false, cond, List, [], ◌∷◌, ◌++◌, map, filter, length, count_by, refl, sym, ap, subst, ◌∙◌, inl, inr, arith, cases_Bool, length-map, count_by-le-length, rules, suc, ◌<◌, not, AllPairs, cases_eq, false≢true, common_steps}
-use Rattle.fst_heads.proofs.Patches.{Place, gains, Patch, is_at, is_live, In, In-from_Contains, Contains-from_In}
-use Rattle.fst_heads.proofs.Words.{Head, patch_of, patches_of, Beside, Node, node_of, nodes_of, at_number, AreSettled, is_waiting, seals, Pending, patches_in, is_pending, Sinks, is_told, now, settles, heard}
-use Rattle.fst_heads.proofs.{AtNumber.{patches_in_nodes, at_same, at_other}, CountsAs.{count_append, count_cons, count_kept, count_map}}
+use Rattle.fst_heads.proofs.Patches.{max_heads, Place, gains, Patch, is_among, is_at, is_live, In, In-from_Contains, Contains-from_In}
+use Rattle.fst_heads.proofs.Words.{Head, patch_of, patches_of, Beside, Node, node_of, nodes_of, at_number, linked_to, AreSettled, is_waiting, seals, Pending, patches_in, is_pending, Sinks, is_told, now, settles, heard}
+use Rattle.fst_heads.proofs.{Added.{new_node, with_node}, AtNumber.{patches_in_nodes, at_same, at_other}, CountsAs.{count_append, count_cons, count_kept, count_map}}
 use Rattle.fst_heads.proofs.Forgetting.{live_place_of}
 use Rattle.fst_heads.proofs.Patches.place
 use Rattle.fst_heads.proofs.Words.pending
@@ -17,6 +17,10 @@ waiting_heard row old new nodes = grind (arith, count_map, cases_Bool)
 
 abbrev pub one_if : Bool → ℕ
 one_if t = cond t 1 0
+
+at_most_one : (t : Bool) → one_if t ≤ 1
+at_most_one true = omega arith
+at_most_one false = omega arith
 
 one_of : (t : Bool) → one_if (not t) + one_if t ≡ 1
 one_of true = refl
@@ -40,7 +44,14 @@ waiting_settles (x ∷ xs) q here rising i e waits =
           omega (arith, count_cons is_waiting (at_number q settles x) (map (at_number q settles) xs), b, first, waiting_settles xs q here rest j e waits)
     ]
 
-is_nothing : (p : Pending) → is_pending p pending.Nothing ≡ true → p ≡ pending.Nothing
+-- with a new node no more than one waits besides
+pub waiting_with : (nodes : List Node) (p : Patch) → count_by is_waiting (with_node nodes p) ≤ count_by is_waiting nodes + 1
+waiting_with nodes p =
+    let linked = count_map is_waiting is_waiting (linked_to p.dependencies p.number) nodes (λ x i. cond_both (is_among p.dependencies x.patch.number) _ _ (λ (y : Node). is_waiting y ≡ is_waiting x) (λ t. refl) (λ f. refl)) in
+    let last = new_node nodes p in
+    omega (arith, count_append is_waiting (map (linked_to p.dependencies p.number) nodes) (last ∷ []), count_cons is_waiting last [], at_most_one (is_waiting last), linked)
+
+pub is_nothing : (p : Pending) → is_pending p pending.Nothing ≡ true → p ≡ pending.Nothing
 is_nothing pending.Nothing e = refl
 is_nothing p e = absurd (false≢true e)
 
@@ -49,21 +60,21 @@ pub waits_untold : (x : Node) → Sinks x.pending (now x) → is_told x ≡ fals
 waits_untold x sinks untold = grind (arith, cases_Bool, is_nothing, false≢true)
 
 -- between calls those wait that are not on disk
+pub waiting_is : (nodes : List Node) (blocks : ℕ) → AreSettled nodes blocks → (x : Node) → In nodes x → is_waiting x ≡ is_live x.patch
+waiting_is nodes blocks S x i =
+    let placed = S.placed x (Contains-from_In nodes x i) in
+    elim (cases_Bool (is_pending x.pending pending.Nothing)) [
+      | inl e ↦ let disk = placed.0 (is_nothing x.pending e) in rw e (sym (ap (λ p. not (is_at p place.Disk)) disk))
+      | inr e ↦ rw e (sym (live_place_of x.patch.place (λ disk. false≢true (sym e ∙ ap (λ p. is_pending p pending.Nothing) (placed.1 disk)))))
+    ]
+
 pub waiting_live : (nodes : List Node) (blocks : ℕ) → AreSettled nodes blocks → count_by is_waiting nodes ≡ count_by is_live (patches_in nodes)
 waiting_live nodes blocks S = go nodes (λ x i. i)
   where
-    one : (x : Node) → In nodes x → is_waiting x ≡ is_live x.patch
-    one x i =
-        let placed = S.placed x (Contains-from_In nodes x i) in
-        elim (cases_Bool (is_pending x.pending pending.Nothing)) [
-          | inl e ↦ let disk = placed.0 (is_nothing x.pending e) in rw e (sym (ap (λ p. not (is_at p place.Disk)) disk))
-          | inr e ↦ rw e (sym (live_place_of x.patch.place (λ disk. false≢true (sym e ∙ ap (λ p. is_pending p pending.Nothing) (placed.1 disk)))))
-        ]
-
     go : (xs : List Node) → ((x : Node) → In xs x → In nodes x) → count_by is_waiting xs ≡ count_by is_live (patches_in xs)
     go [] among = refl
     go (x ∷ xs) among =
-        omega (arith, count_cons is_waiting x xs, count_cons is_live x.patch (patches_in xs), ap one_if (one x (among x (inl refl))), go xs (λ y i. among y (inr i)))
+        omega (arith, count_cons is_waiting x xs, count_cons is_live x.patch (patches_in xs), ap one_if (waiting_is nodes blocks S x (among x (inl refl))), go xs (λ y i. among y (inr i)))
 
 abbrev pub one_live : Patch → ℕ
 one_live p = cond (is_live p) 1 0
@@ -75,9 +86,12 @@ weight_of at = cond (is_at at place.Disk) 0 1
 pub weighs : (p : Patch) → weight_of p.place ≡ one_live p
 weighs p = elim (cases_Bool (is_at p.place place.Disk)) [ inl e ↦ rw e refl | inr e ↦ rw e refl ]
 
+pub one_at_most : (p : Patch) → one_live p ≤ 1
+one_at_most p = at_most_one (is_live p)
+
 -- a new patch
-pub beside_made : (heads : List Patch) (blocks live more : ℕ) (reached : List Bool) (p : Patch) → more ≡ one_live p → Beside heads blocks live reached → Beside (heads ++ p ∷ []) blocks (live + more) reached
-beside_made heads blocks live more reached p one B = search (rules, count_append, count_cons)
+pub beside_made : (heads : List Patch) (blocks live more : ℕ) (reached : List Bool) (p : Patch) → more ≡ one_live p → live + more ≤ max_heads → Beside heads blocks live reached → Beside (heads ++ p ∷ []) blocks (live + more) reached
+beside_made heads blocks live more reached p one few B = search (rules, count_append, count_cons)
 
 -- an open gate with more names
 pub beside_depends : (heads : List Patch) (blocks live : ℕ) (reached : List Bool) (g : ℕ) (names : List ℕ) → Beside heads blocks live reached → Beside (map (gains g names) heads) blocks live reached
@@ -85,7 +99,7 @@ beside_depends heads blocks live reached g names B = search (rules, count_map)
 
 -- those on disk are forgotten
 pub beside_dropped : (heads : List Patch) (blocks live : ℕ) (reached : List Bool) → Beside heads blocks live reached → Beside (filter is_live heads) blocks live reached
-beside_dropped heads blocks live reached B = record { places = B.places; counted = B.counted ∙ sym (count_kept is_live is_live heads (λ p e. e)) }
+beside_dropped heads blocks live reached B = record { places = B.places; counted = B.counted ∙ sym (count_kept is_live is_live heads (λ p e. e)); few = B.few }
 
 -- where as many are not on disk as there are patches, none is forgotten
 pub all_live : (heads : List Head) → count_by is_live (patches_of heads) ≡ length heads → nodes_of heads ≡ filter (λ x. is_live x.patch) (nodes_of heads)
@@ -113,7 +127,7 @@ module _ (heads mid new : List Head) (f : Node → Node) (blocks live landed : �
   landed_few counted B = let all = landed_live counted in omega (arith, all, B.counted)
 
   pub beside_landed : count_by is_waiting (nodes_of new) + landed ≡ count_by is_waiting (nodes_of mid) → Beside (patches_of heads) blocks live reached → Beside (patches_of new) blocks (live - landed) reached
-  beside_landed counted B = record { places = B.places; counted = let all = landed_live counted in omega (arith, all, B.counted) }
+  beside_landed counted B = record { places = B.places; counted = let all = landed_live counted in omega (arith, all, B.counted); few = omega (arith, B.few) }
 
 -- what tells nobody anything, and leaves all settled, leaves the count
 pub beside_kept : (heads new : List Head) (f : Node → Node) (blocks live : ℕ) (reached : List Bool) → nodes_of new ≡ map f (nodes_of heads) → ((x : Node) → (f x).pending ≡ x.pending)

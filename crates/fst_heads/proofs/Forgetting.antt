@@ -48,7 +48,6 @@ module _ (heads : List Patch) (numbers blocks : ℕ) (marks : List Bool) (K : Ke
   pub keeps_dropped : (marks' : List Bool) → length marks' ≡ length new → Keeps new numbers blocks marks'
   keeps_dropped marks' long = record {
     lawful = sparse_dropped heads numbers K.lawful;
-    few = let c = counted heads in omega (arith, c, K.few);
     inside = λ p b c on. K.inside p b (was p c).0 on;
     marked = long;
   }

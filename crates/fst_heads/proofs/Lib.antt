@@ -41,3 +41,5 @@ pub mod Framed
 pub mod FirstOnDisk
 pub mod LastOnDisk
 pub mod Few
+pub mod Landed
+pub mod Flagged

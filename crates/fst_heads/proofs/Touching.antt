@@ -1,6 +1,6 @@
 -- What a new change depends on.
-use Rattle.fst_heads.proofs.Basics.{◌≡◌, ◌⊎◌, ℕ, ◌+◌, ◌<◌, ◌≤◌, ◌==◌, ◌&&◌, nat_lt, Bool, true, false, not, List, [], ◌∷◌, ◌++◌, length, Contains, Some, refl, sym, ap, subst, inl, inr, arith, None, cases_Bool, eqb-true, eq-eqb, false≢true, nat_tests, length_push, Contains-push_cases, rules, IsStrictlyIncreasing}
-use Rattle.fst_heads.proofs.Patches.{Place, Grade, max_heads, Lists, Kind, Change, Empty, Patch, IsOn, IsHard, block_of_kind, at_of, len_of, IsLiveNumber, IsGradedHard, FollowsRule, SparseAreLawful, fresh, is_at, is_on, In, In-from_Contains, Contains-from_In, IsWithin, hard_kept}
+use Rattle.fst_heads.proofs.Basics.{◌≡◌, ◌⊎◌, ℕ, ◌+◌, ◌<◌, ◌≤◌, ◌==◌, ◌&&◌, nat_lt, Bool, true, false, not, List, [], ◌∷◌, ◌++◌, Contains, Some, refl, sym, ap, subst, inl, inr, arith, None, cases_Bool, eqb-true, eq-eqb, false≢true, nat_tests, length_push, Contains-push_cases, rules, IsStrictlyIncreasing}
+use Rattle.fst_heads.proofs.Patches.{Place, Grade, Lists, Kind, Change, Empty, Patch, IsOn, IsHard, block_of_kind, at_of, len_of, IsLiveNumber, IsGradedHard, FollowsRule, SparseAreLawful, fresh, is_at, is_on, In, In-from_Contains, Contains-from_In, IsWithin, hard_kept}
 use Rattle.fst_heads.proofs.Words.{Entry, entry, is_live_on, entries_on, Gains, kind_touches, touches, shares, IsTouched, IsDependency, IsSparseRow, MayBeHard, Keeps}
 use Rattle.fst_heads.proofs.{Graded.{graded_rule, may_graded}, Making.keeps_added, Slots.{place_live, live_place}, Leading.some_injective}
 use Rattle.fst_types.specs.Overlaps.{IsOverlapped}
@@ -143,8 +143,7 @@ module _ (heads : List Patch) (numbers blocks : ℕ) (marks : List Bool) (K : Ke
   pub may_change : MayBeHard heads None b deps → IsGradedHard heads (heads ++ new_change ∷ []) b (numbers + 1)
   may_change may = may_graded heads numbers within b at len grade deps named may
 
-  pub keeps_change : b < blocks → length heads < max_heads → (IsHard new_change → IsGradedHard heads (heads ++ new_change ∷ []) b (numbers + 1)) → Keeps (heads ++ new_change ∷ []) (numbers + 1) blocks (marks ++ false ∷ [])
-  keeps_change inside few graded =
+  pub keeps_change : b < blocks → (IsHard new_change → IsGradedHard heads (heads ++ new_change ∷ []) b (numbers + 1)) → Keeps (heads ++ new_change ∷ []) (numbers + 1) blocks (marks ++ false ∷ [])
+  keeps_change inside graded =
       keeps_added heads numbers blocks marks K (heads ++ new_change ∷ []) (change_lawful graded) (length_push heads new_change)
       (λ x c h on. elim (Contains-push_cases heads new_change x h) [ inl o ↦ K.inside x c o on | inr e ↦ subst (λ m. m < blocks) (some_injective b c (subst (λ y. IsOn y c) (sym e) on)) inside ])
-      few

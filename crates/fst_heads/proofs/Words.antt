@@ -6,10 +6,11 @@ pub use Rattle.fst_heads.specs.Frames.{frame_of, frames_of, HasRoomBelow}
 pub use Rattle.fst_heads.specs.Grading.{HasUnder, IsReturning, IsLeading, MayBeHard}
 pub use Rattle.fst_heads.specs.Heads.{IsRising, patches_of, patch_of, kind_of}
 pub use Rattle.fst_heads.specs.Keeps.{IsInside, Beside, Keeps}
+pub use Rattle.fst_heads.specs.Landed.{AreLanded, flags, is_landed}
 pub use Rattle.fst_heads.specs.Lists.{Entry, AreListed, flying_on, is_live_on, entries_on, entries_of, entry, entry_of}
 pub use Rattle.fst_heads.specs.Marks.{HasSlot, HasNone, PassesAt, Has, mark_of, mark_in}
 pub use Rattle.fst_heads.specs.Names.{numbers_of}
-pub use Rattle.fst_heads.specs.Nodes.{Node, at_number, linked_to, gains_names, pending_in, node_of, nodes_of, patches_in, AreSettled, AreLinked, AreGiven, AreDistinct, is_live_in, HasRoomAbove, times}
+pub use Rattle.fst_heads.specs.Nodes.{Node, at_number, linked_to, gains_names, pending_in, node_of, nodes_of, patches_in, AreSettled, AreLinked, AreGiven, AreDistinct, is_forgotten_in, is_live_in, HasRoomAbove, times}
 pub use Rattle.fst_heads.specs.Pendings.{joined, of_kind, sums_of, Sinks, is_pending, join, Fits, plus, minus, together, nothing, max_block, height, joined_sums, over_block, is_even, HasIn}
 pub use Rattle.fst_heads.specs.Rows.{IsSparseRow, IsMissing, Gains, touches, IsTouched, IsDependency, kind_touches, shares}
 pub use Rattle.fst_heads.specs.Spreading.{Spreading, now, is_told, is_waiting, seals, IsSpreadOf, unspread, lands, follows, rested, launches, settles, heard, CanHear, woken, heights, hears, wakes, wakes_sealed}

@@ -11,14 +11,14 @@ IsInside heads blocks = (p : Patch) (b : ℕ) → Contains heads p → IsOn p b 
 
 pub record Keeps (heads : List Patch) (numbers blocks : ℕ) (marks : List Bool) : Type 0 where
   pub lawful : SparseAreLawful heads numbers
-  pub few : length heads ≤ max_heads
   pub inside : IsInside heads blocks
   pub marked : length marks ≡ length heads
 
--- how many patches are not on disk, and a place for each block for the walks
+-- how many patches are not on disk, which are no more than may be kept, and a place for each block for the walks
 pub record Beside (heads : List Patch) (blocks live : ℕ) (reached : List Bool) : Type 0 where
   pub places : length reached ≡ blocks
   pub counted : live ≡ count_by is_live heads
+  pub few : live ≤ max_heads
 
 -- what stands beside the patches tells of them, and nothing waits in the queue, which has a place for each
 pub record Tallies (nodes : List Node) (numbers blocks : ℕ) (lists : List (List Entry)) (standings : List Standing) (queue : List ℕ) (queue_capacity : ℕ) : Type 0 where

@@ -15,3 +15,4 @@ pub mod Spans
 pub mod Spreading
 pub mod Flights
 pub mod Names
+pub mod Landed

@@ -1,4 +1,4 @@
--- Patches with what is kept beside them: how their direct dependencies add up, what is pending of them, and which patches directly depend on them.
+-- Patches with what is kept beside them: how their direct dependencies add up, what is pending of them, which patches directly depend on them, and whether they are forgotten.
 use Rattle.std.specs.Prelude.{◌≡◌, ◌≢◌, ◌≤◌, ◌<◌, ◌==◌, ◌&&◌, ◌++◌, ◌∷◌, [], ◌↔◌, ℕ, Bool, List, map, count_by, Contains, AllPairs, if◌then◌else◌}
 use Rattle.std.specs.List.{list_any}
 use Rattle.smallvec.specs.SmallVec.{HasRoomFor}
@@ -15,9 +15,10 @@ pub record Node : Type 0 where
   pub sums : Sums
   pub pending : Pending
   pub dependants : List ℕ
+  pub forgotten : Bool
 
 abbrev pub node_of : Head → Node
-node_of h = record { patch = patch_of h; sums = h.sums; pending = h.pending; dependants = h.dependants.items }
+node_of h = record { patch = patch_of h; sums = h.sums; pending = h.pending; dependants = h.dependants.items; forgotten = h.forgotten }
 
 abbrev pub nodes_of : List Head → List Node
 nodes_of heads = map node_of heads
@@ -46,6 +47,10 @@ AreDistinct nodes = (x : Node) → Contains nodes x → AllPairs (λ m n. m ≢ 
 abbrev pub is_live_in : List Patch → ℕ → Bool
 is_live_in patches n = list_any (λ p. is_live p && (p.number == n)) patches
 
+-- the patch with number n is forgotten, but its head still kept, as a test
+abbrev pub is_forgotten_in : List Node → ℕ → Bool
+is_forgotten_in nodes n = list_any (λ x. x.forgotten && (x.patch.number == n)) nodes
+
 -- each count is that of the direct dependencies that are not on disk
 abbrev pub AreCounted : List Node → Type 0
 AreCounted nodes = (x : Node) → Contains nodes x → x.sums.count ≡ count_by (is_live_in (patches_in nodes)) x.patch.dependencies
@@ -73,7 +78,7 @@ linked_to row n x = if is_among row x.patch.number then record x { dependants = 
 -- the names are among the direct dependencies besides, with their sums
 abbrev pub gains_names : List ℕ → Sums → Node → Node
 gains_names names sums x =
-    record { patch = record x.patch { dependencies = x.patch.dependencies ++ names }; sums = together x.sums sums; pending = x.pending; dependants = x.dependants }
+    record { patch = record x.patch { dependencies = x.patch.dependencies ++ names }; sums = together x.sums sums; pending = x.pending; dependants = x.dependants; forgotten = x.forgotten }
 
 -- each patch of the row has room for one more dependant
 abbrev pub HasRoomAbove : List Head → List ℕ → Type 0

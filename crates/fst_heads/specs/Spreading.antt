@@ -95,7 +95,7 @@ heights nodes = sum_by (λ x. height x.pending) nodes
 
 -- a node without what is pending of it and below it, and without the place of an empty patch or a sealed gate
 abbrev pub unspread : Node → Node
-unspread x = record { patch = unsettled x.patch; sums = nothing; pending = pending.Nothing; dependants = x.dependants }
+unspread x = record { patch = unsettled x.patch; sums = nothing; pending = pending.Nothing; dependants = x.dependants; forgotten = x.forgotten }
 
 -- only sums, what is pending, and the places of empty patches and sealed gates differ
 abbrev pub IsSpreadOf : List Node → List Node → Type 0

@@ -7,6 +7,7 @@ ghost use Rattle.fst_types.specs.Cascade.{IsCascadeOf};
 ghost use Rattle.fst_heads.specs.declared.pending.Pending.TheVariants as pending;
 ghost use Rattle.fst_heads.specs.Frames.{frame_of, frames_of};
 ghost use Rattle.fst_heads.specs.Heads.{IsRising, kind_of, patches_of};
+ghost use Rattle.fst_heads.specs.Landed.{AreLanded};
 ghost use Rattle.fst_heads.specs.Marks.{HasSlot};
 ghost use Rattle.fst_heads.specs.Nodes.{Node, node_of, nodes_of, at_number, AreLinked, AreDistinct, AreSettled};
 ghost use Rattle.fst_heads.specs.Pendings.{Fits, is_pending};
@@ -117,24 +118,34 @@ fn tell(heads: &mut Vec<Head>, queue: &mut Vec<u32>, slot: usize, old: Pending, 
     }
 }
 
-// One where nothing is pending, so that the patch is on disk.
-fn landings(left: Pending) -> usize
-    ensures { result ≡ if is_pending left pending.Nothing then 1 else 0 }
+// Where nothing is pending any more of the patch with the number it is on disk, and so among those that landed.
+fn note_landing(landed: &mut Vec<u32>, number: u32, left: Pending)
+    requires { left ≡ pending.Nothing → vec_len landed.old < vec_capacity landed.old }
+    ensures listed { landed.new.items ≡ landed.old.items ++ (if is_pending left pending.Nothing then number ∷ [] else []) }
+    ensures shelf { vec_capacity landed.new ≡ vec_capacity landed.old }
 {
     match left {
-        Pending::Nothing => 1,
-        Pending::Block(_) | Pending::Apart | Pending::Held => 0,
+        Pending::Nothing => landed.push_reserved(number),
+        Pending::Block(_) | Pending::Apart | Pending::Held => {}
     }
 }
 
-/// Tells of all that waits in the queue, and of what wakes by that. Answers how many patches are on disk besides.
-pub fn cascade(heads: &mut Vec<Head>, queue: &mut Vec<u32>, standings: &mut Vec<Standing>) -> usize
+/// Tells of all that waits in the queue, and of what wakes by that. What comes to disk so is among those that landed
+/// besides, of which there is a place for each head. Answers how many they are.
+pub fn cascade(
+    heads: &mut Vec<Head>,
+    queue: &mut Vec<u32>,
+    standings: &mut Vec<Standing>,
+    landed: &mut Vec<u32>,
+) -> usize
     requires start { Spreading (nodes_of heads.old.items) (vec_len standings.old) queue.old.items }
     requires linked { AreLinked (nodes_of heads.old.items) }
     requires distinct { AreDistinct (nodes_of heads.old.items) }
     requires standing { AllStand (nodes_of heads.old.items) (vec_len standings.old) standings.old.items }
     requires narrow { vec_len standings.old ≤ 65535 }
     requires room { length heads.old.items ≤ vec_capacity queue.old }
+    requires listed { AreLanded (nodes_of heads.old.items) landed.old.items }
+    requires shelf { length heads.old.items ≤ vec_capacity landed.old }
     ensures settled { AreSettled (nodes_of heads.new.items) (vec_len standings.old) }
     ensures placed { IsCascadeOf (patches_of heads.old.items) (patches_of heads.new.items) }
     ensures spread { IsSpreadOf (nodes_of heads.old.items) (nodes_of heads.new.items) }
@@ -144,16 +155,18 @@ pub fn cascade(heads: &mut Vec<Head>, queue: &mut Vec<u32>, standings: &mut Vec<
     ensures landed { count_by is_waiting (nodes_of heads.new.items) + result ≡ count_by is_waiting (nodes_of heads.old.items) }
     ensures empty { queue.new.items ≡ [] }
     ensures capacity { vec_capacity queue.new ≡ vec_capacity queue.old }
+    ensures listed { AreLanded (nodes_of heads.new.items) landed.new.items }
+    ensures shelf { vec_capacity landed.new ≡ vec_capacity landed.old }
 {
-    let mut landed = 0;
+    let before = landed.len();
     while let Some(number) = queue.pop() {
         if let Some(slot) = slot_of(heads, number) {
             let (old, new) = settle_slot(heads, standings, slot);
-            landed += landings(new);
+            note_landing(landed, number, new);
             tell(heads, queue, slot, old, new);
         }
     }
-    landed
+    landed.len() - before
 }
 
 /// Seals the gate in the slot. It waits in the queue where its dependants have to be told.

@@ -1,4 +1,4 @@
-//! What is kept of a patch that is not forgotten.
+//! What is kept of a patch.
 
 use crate::pending::{Pending, Sums};
 use fst_types::{Grade, Place, Span};
@@ -15,14 +15,16 @@ pub enum Kind {
     SealedGate,
 }
 
-/// A patch that is not forgotten, with what is pending of it as its dependants know it, the numbers that it directly
-/// depends on, the numbers of the patches that directly depend on it, and how what it depends on adds up. What is read of
-/// each change of a block to find what may be written, and of each patch on a way down, stands first, and so lies together.
+/// A patch, with what is pending of it as its dependants know it, the numbers that it directly depends on, the numbers of
+/// the patches that directly depend on it, and how what it depends on adds up. The head of a patch that is forgotten stays
+/// until heads are dropped, and is marked so. What is read of each change of a block to find what may be written, and of
+/// each patch on a way down, stands first, and so lies together.
 #[derive(Drop)]
 pub struct Head {
     pub number: u32,
     pub kind: Kind,
     pub place: Place,
+    pub forgotten: bool,
     pub pending: Pending,
     pub dependencies: SmallVec<u32, 4>,
     pub dependants: SmallVec<u32, 4>,

@@ -1,7 +1,8 @@
-//! What is kept of each patch that is not forgotten, and what follows when one changes.
+//! What is kept of each patch, and what follows when one changes.
 //!
-//! A patch that is not forgotten has a `Head`: its number, what it is, where it is, the numbers that it directly depends
-//! on and the numbers of those that directly depend on it. Heads stand in order of number.
+//! A patch has a `Head`: its number, what it is, where it is, the numbers that it directly depends on and the numbers of
+//! those that directly depend on it. Heads stand in order of number. That of a patch which is forgotten stays for a while,
+//! marked so: dropping heads moves those behind them, so that many are dropped at once.
 //!
 //! So that nobody has to walk from patch to patch to learn what may be written, each head also has what is *pending* of it,
 //! which says what has still to reach the disk before it may: nothing; changes of one block alone; or more, which is an
@@ -23,6 +24,7 @@
 pub mod cascade;
 pub mod choice;
 pub mod cover;
+pub mod forgotten;
 pub mod growth;
 pub mod head;
 pub mod links;

@@ -21,10 +21,10 @@ pub struct Index {
     words: Vec<Word>,
 }
 
-// How many patches may be made until some are forgotten.
-const MOST_MADE: u32 = 65_535;
+// How many patches may be made until heads are dropped.
+const MOST_MADE: u32 = 87_380;
 
-// How many words are kept: with more, it begins anew with the newest numbers, four times as many as there may be heads.
+// How many words are kept: with more, it begins anew with the newest numbers, three times as many as there may be heads.
 const MOST: usize = 8192;
 
 const NEWEST: u32 = 262_144;
@@ -51,7 +51,7 @@ impl Index {
         Some(word.before.saturating_add(below.count_ones() as usize))
     }
 
-    /// Room to tell of all numbers that may be given until heads are forgotten, behind those of these.
+    /// Room to tell of all numbers that may be given until heads are dropped, behind those of these.
     pub fn reserve(&mut self, ranks: &[Rank]) -> Result<(), AllocError> {
         let (Some(first), Some(last)) = (ranks.first(), ranks.last()) else {
             return Ok(());

@@ -35,6 +35,7 @@ pub mod cycle;
 pub mod descent;
 pub mod ends;
 pub mod first_away;
+pub mod flags;
 pub mod free;
 pub mod grade;
 pub mod graded;

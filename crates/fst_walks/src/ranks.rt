@@ -1,5 +1,5 @@
 //! What is done with the ranks of the heads and the floors of the blocks, which the levels keep (`levels`): finding a rank by
-//! its number, raising and lowering one, halving all, and dropping those of heads that are forgotten.
+//! its number, raising and lowering one, halving all, and dropping those of heads that are dropped.
 
 ghost use Rattle.std.specs.Prelude.{vec_capacity, ◌≡◌, ◌≢◌, ◌<◌, ℕ, length, map, filter, All, AllPairs, IsTrue, IfSome, IfNone, slice_index_or};
 ghost use Rattle.fst_types.specs.Patches.{IsOn};

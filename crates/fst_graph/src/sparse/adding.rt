@@ -1,17 +1,19 @@
 //! New gates and empty patches.
 
-ghost use Rattle.std.specs.Prelude.{◌≡◌, ◌+◌, ◌++◌, ◌∷◌, [], None, IfOk, IfErr, OnErr, OnOk, Contains};
+ghost use Rattle.std.specs.Prelude.{◌≡◌, ◌≤◌, ◌<◌, ◌+◌, ◌++◌, ◌∷◌, [], List, length, IfOk, IfErr, OnErr, OnOk, Contains, vec_len, vec_capacity, if◌then◌else◌};
+ghost use Rattle.fst_types.specs.Tests.{is_at};
+ghost use Rattle.fst_types.specs.declared.place.Place.TheVariants as place_at;
 ghost use Rattle.fst_types.specs.Dependencies.{IsLiveNumber};
 ghost use Rattle.fst_types.specs.Lists.{Lists};
 ghost use Rattle.fst_types.specs.Order.{room_order, make_order};
-ghost use Rattle.fst_types.specs.Patches.{Empty};
+ghost use Rattle.fst_types.specs.Patches.{Empty, Patch};
 ghost use Rattle.fst_types.specs.Refusals.{NoneHolds};
-ghost use Rattle.fst_graph.specs.Fresh.{patch_from, MayAdd};
+ghost use Rattle.fst_graph.specs.Fresh.{patch_from};
 ghost use Rattle.fst_graph.specs.Known.{unprepared, rest_place, Refuses, AddsGate, AddsEmpty};
 ghost use Rattle.fst_heads.specs.Heads.{IsRising, patches_of};
 ghost use Rattle.fst_heads.specs.Names.{numbers_of};
 
-use crate::fresh::{Fresh, add_one, gate};
+use crate::fresh::{Fresh, add_one, gate, reserve_landed};
 use crate::prepared::let_go;
 use crate::refusals::{make_fault, room_fault};
 use crate::sparse::Sparse;
@@ -32,16 +34,42 @@ fn resting_place(row: &[u32]) -> Place
     }
 }
 
-// A new empty patch, which depends on the named patches that are not on disk.
-fn new_empty(alloc: Global, heads: &[Head], numbers: u32, after: &[PatchNo]) -> Result<Fresh, Fault>
+// A new patch is among those that landed where it is on disk.
+fn note_rest(landed: &mut Vec<u32>, number: u32, place: Place)
+    requires { vec_len landed.old < vec_capacity landed.old }
+    ensures noted { landed.new.items ≡ if is_at place place_at.Disk then landed.old.items ++ number ∷ [] else landed.old.items }
+    ensures shelf { vec_capacity landed.new ≡ vec_capacity landed.old }
+{
+    match place {
+        Place::Disk => landed.push_reserved(number),
+        Place::Memory | Place::Flight => {}
+    }
+}
+
+// A new empty patch, which depends on the named patches that are not on disk, where so many are not forgotten; and room for it
+// among those that landed.
+fn new_empty(
+    alloc: Global,
+    heads: &[Head],
+    landed: &mut Vec<u32>,
+    standing: usize,
+    numbers: u32,
+    after: &[PatchNo],
+) -> Result<Fresh, Fault>
     requires { IsRising heads.now }
-    ensures clear { OnOk result (NoneHolds (make_order (patches_of heads.now) numbers (numbers_of after.now))) }
+    ensures clear { OnOk result ((kept : List Patch) → length kept ≡ standing → NoneHolds (make_order kept numbers (numbers_of after.now))) }
     ensures depends { IfOk result (λ f. Lists (λ n. IsLiveNumber (patches_of heads.now) n × Contains (numbers_of after.now) n) f.dependencies.items) }
     ensures empty { IfOk result (λ f. patch_from f ≡ record { number = numbers + 1; kind = Empty; place = rest_place f.dependencies.items; dependencies = f.dependencies.items }) }
-    ensures refused { IfErr result (Refuses (make_order (patches_of heads.now) numbers (numbers_of after.now))) }
+    ensures same { landed.new.items ≡ landed.old.items }
+    ensures wide { vec_capacity landed.old ≤ vec_capacity landed.new }
+    ensures shelf { OnOk result (length heads.now < vec_capacity landed.new) }
+    ensures refused { IfErr result (λ f. (kept : List Patch) → length kept ≡ standing → Refuses (make_order kept numbers (numbers_of after.now)) f) }
 {
-    if let Some(fault) = make_fault(heads, numbers, after) {
+    if let Some(fault) = make_fault(standing, numbers, after) {
         return Err(fault);
+    }
+    if reserve_landed(landed, heads.len() + 1).is_err() {
+        return Err(Fault::Memory);
     }
     let Ok(dependencies) = live_named(alloc, heads, after) else {
         return Err(Fault::Memory);
@@ -55,31 +83,6 @@ fn new_empty(alloc: Global, heads: &[Head], numbers: u32, after: &[PatchNo]) -> 
 }
 
 impl Sparse {
-    // Adds a new patch that is no change. It is refused as `Memory`.
-    fn add_fresh(&mut self, fresh: Fresh) -> Result<PatchNo, Fault>
-        requires { MayAdd self.old.heads self.old.numbers (patch_from fresh) }
-        ensures ok { IfOk result (λ no. (no.0 ≡ fresh.number) × (self.new ≡ record self.old { heads = self.old.heads ++ patch_from fresh ∷ []; numbers = fresh.number; prepared = None })) }
-        ensures refused { IfErr result (λ f. f ≡ Fault.Memory) }
-        ensures same { OnErr result (self.new ≡ unprepared self.old) }
-    {
-        let_go(&mut self.prepared);
-        let number = fresh.number;
-        let live = weight(fresh.place);
-        let Ok(()) = add_one(
-            self.alloc,
-            &mut self.heads,
-            &mut self.ends,
-            &mut self.levels,
-            &mut self.queue,
-            fresh,
-        ) else {
-            return Err(Fault::Memory);
-        };
-        self.live += live;
-        self.numbers = number;
-        Ok(PatchNo(number))
-    }
-
     /// A new gate, open, without dependencies. It is refused as `Full(Heads)` where 65,535 patches are not forgotten, as
     /// `Full(Numbers)` where the last number was given, and as `Memory`.
     pub fn add_gate(&mut self) -> Result<PatchNo, Fault>
@@ -88,12 +91,28 @@ impl Sparse {
         ensures same { OnErr result (self.new ≡ unprepared self.old) }
         ensures blocks { self.new.blocks ≡ self.old.blocks }
     {
+        let standing = self.standing();
         let_go(&mut self.prepared);
-        if let Some(fault) = room_fault(&self.heads, self.numbers) {
+        if let Some(fault) = room_fault(standing, self.numbers) {
             return Err(fault);
         }
-        let fresh = gate(self.numbers + 1, SmallVec::new(self.alloc));
-        self.add_fresh(fresh)
+        if reserve_landed(&mut self.landed, self.heads.len() + 1).is_err() {
+            return Err(Fault::Memory);
+        }
+        let number = self.numbers + 1;
+        let Ok(()) = add_one(
+            self.alloc,
+            &mut self.heads,
+            &mut self.ends,
+            &mut self.levels,
+            &mut self.queue,
+            gate(number, SmallVec::new(self.alloc)),
+        ) else {
+            return Err(Fault::Memory);
+        };
+        self.live += 1;
+        self.numbers = number;
+        Ok(PatchNo(number))
     }
 
     /// A new empty patch, which depends on the named patches that are not on disk. It is on disk at once where none is.
@@ -105,11 +124,34 @@ impl Sparse {
         ensures same { OnErr result (self.new ≡ unprepared self.old) }
         ensures blocks { self.new.blocks ≡ self.old.blocks }
     {
+        let standing = self.standing();
         let_go(&mut self.prepared);
-        let fresh = match new_empty(self.alloc, &self.heads, self.numbers, after) {
+        let fresh = match new_empty(
+            self.alloc,
+            &self.heads,
+            &mut self.landed,
+            standing,
+            self.numbers,
+            after,
+        ) {
             Ok(fresh) => fresh,
             Err(fault) => return Err(fault),
         };
-        self.add_fresh(fresh)
+        let place = fresh.place;
+        let number = fresh.number;
+        let Ok(()) = add_one(
+            self.alloc,
+            &mut self.heads,
+            &mut self.ends,
+            &mut self.levels,
+            &mut self.queue,
+            fresh,
+        ) else {
+            return Err(Fault::Memory);
+        };
+        self.live += weight(place);
+        note_rest(&mut self.landed, number, place);
+        self.numbers = number;
+        Ok(PatchNo(number))
     }
 }

@@ -11,9 +11,10 @@ ghost use Rattle.fst_graph.specs.Sparse.{ForetellsSparse, GainsSparse};
 
 use crate::gates::gate_slot;
 use crate::member::prepare_member;
-use crate::prepared::{Gates, let_go};
-use crate::refusals::member_fault;
+use crate::prepared::{Gates, given_up, keep, let_go};
+use crate::refusals::{reaches_tail, room_fault};
 use crate::sparse::Sparse;
+use crate::sparse::reserving::{reserve_around, reserve_in};
 use fst_heads::cascade::{cascade, seal_slot};
 use fst_types::{BlockNo, Fault, Grade, PatchNo, Span};
 use fst_walks::ancestors::renew;
@@ -39,6 +40,7 @@ impl Sparse {
         ensures same { OnErr result (self.new ≡ unprepared self.old) }
         ensures blocks { self.new.blocks ≡ self.old.blocks }
     {
+        let standing = self.standing();
         let_go(&mut self.prepared);
         let sight = Sight {
             heads: &self.heads,
@@ -47,8 +49,10 @@ impl Sparse {
             levels: &self.levels,
             needs: &self.needs,
         };
-        let ends = &mut self.ends;
-        if let Some(fault) = member_fault(&sight, ends, self.numbers, gates.tail, block.0, span) {
+        if reaches_tail(&sight, &mut self.ends, gates.tail, block.0, span) {
+            return Err(Fault::Cycle);
+        }
+        if let Some(fault) = room_fault(standing, self.numbers) {
             return Err(fault);
         }
         let Ok(prepared) = prepare_member(self.alloc, &sight, &mut self.ends, block.0, span, gates)
@@ -56,9 +60,28 @@ impl Sparse {
             return Err(Fault::Memory);
         };
         let made = (PatchNo(self.numbers + 1), prepared.told.grade);
-        let Ok(()) = self.make_room(prepared) else {
-            return Err(Fault::Memory);
-        };
+        let around = reserve_around(
+            &mut self.heads,
+            &mut self.ends,
+            &mut self.levels,
+            &mut self.queue,
+            &mut self.landed,
+            &prepared,
+        );
+        if around.is_err() {
+            return Err(given_up(prepared));
+        }
+        let inside = reserve_in(
+            &mut self.lists,
+            &mut self.covers,
+            &mut self.needs,
+            &self.heads,
+            &prepared,
+        );
+        if inside.is_err() {
+            return Err(given_up(prepared));
+        }
+        keep(&mut self.prepared, prepared);
         Ok(made)
     }
 
@@ -93,7 +116,12 @@ impl Sparse {
         match gate_slot(&self.heads, self.numbers, head) {
             Ok(slot) => {
                 seal_slot(&mut self.heads, &mut self.queue, head, slot);
-                let landed = cascade(&mut self.heads, &mut self.queue, &mut self.standings);
+                let landed = cascade(
+                    &mut self.heads,
+                    &mut self.queue,
+                    &mut self.standings,
+                    &mut self.landed,
+                );
                 self.levels.settle(&self.heads, slot);
                 // The gates below the head may have had other ancestors when it was put after them.
                 renew(&mut self.levels, &self.heads, head);

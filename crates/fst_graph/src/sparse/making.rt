@@ -18,9 +18,10 @@ ghost use Rattle.fst_heads.specs.declared.standing.Standing.{Standing as Counts}
 ghost use Rattle.fst_heads.specs.declared.pending.Pending.TheVariants as pending_as;
 
 use crate::fresh::{Fresh, put_down, row_of};
-use crate::prepared::{let_go, prepare};
+use crate::prepared::{given_up, keep, let_go, prepare};
 use crate::refusals::make_fault;
 use crate::sparse::Sparse;
+use crate::sparse::reserving::{reserve_around, reserve_in};
 use fst_heads::growth::gain_one;
 use fst_heads::head::{Head, Kind};
 use fst_heads::links::link;
@@ -87,8 +88,9 @@ impl Sparse {
         ensures same { OnErr result (self.new ≡ unprepared self.old) }
         ensures blocks { self.new.blocks ≡ self.old.blocks }
     {
+        let standing = self.standing();
         let_go(&mut self.prepared);
-        if let Some(fault) = make_fault(&self.heads, self.numbers, after) {
+        if let Some(fault) = make_fault(standing, self.numbers, after) {
             return Err(fault);
         }
         let sight = Sight {
@@ -102,9 +104,28 @@ impl Sparse {
             return Err(Fault::Memory);
         };
         let made = (PatchNo(self.numbers + 1), prepared.told.grade);
-        let Ok(()) = self.make_room(prepared) else {
-            return Err(Fault::Memory);
-        };
+        let around = reserve_around(
+            &mut self.heads,
+            &mut self.ends,
+            &mut self.levels,
+            &mut self.queue,
+            &mut self.landed,
+            &prepared,
+        );
+        if around.is_err() {
+            return Err(given_up(prepared));
+        }
+        let inside = reserve_in(
+            &mut self.lists,
+            &mut self.covers,
+            &mut self.needs,
+            &self.heads,
+            &prepared,
+        );
+        if inside.is_err() {
+            return Err(given_up(prepared));
+        }
+        keep(&mut self.prepared, prepared);
         Ok(made)
     }
 

@@ -5,7 +5,7 @@ ghost use Rattle.fst_types.specs.Refusals.{IsFirst, NoneHolds};
 ghost use Rattle.fst_graph.specs.Grouping.{pair_order, AddsPair, SealsIfOpen};
 ghost use Rattle.fst_graph.specs.Known.{unprepared, Refuses};
 
-use crate::fresh::add_two;
+use crate::fresh::{add_two, reserve_landed};
 use crate::prepared::let_go;
 use crate::sparse::Sparse;
 use fst_types::{Fault, MAX_HEADS, MAX_NUMBER, PatchNo, What};
@@ -16,7 +16,7 @@ impl Sparse {
         ensures first { IfSome result (IsFirst (pair_order self.now.heads self.now.numbers)) }
         ensures clear { IfNone result (NoneHolds (pair_order self.now.heads self.now.numbers)) }
     {
-        if self.heads.len() >= MAX_HEADS - 1 {
+        if self.standing() >= MAX_HEADS - 1 {
             return Some(Fault::Full(What::Heads));
         }
         if self.numbers >= MAX_NUMBER - 1 {
@@ -35,6 +35,9 @@ impl Sparse {
         let_go(&mut self.prepared);
         if let Some(fault) = self.pair_fault() {
             return Err(fault);
+        }
+        if reserve_landed(&mut self.landed, self.heads.len() + 2).is_err() {
+            return Err(Fault::Memory);
         }
         let Ok(()) = add_two(
             self.alloc,

@@ -1,5 +1,5 @@
-use Rattle.std.proofs.{Common.{◌≡◌, ◌∙◌, arith, ap, length, subst}, lemmas.List.length-map}
-use Rattle.fst_heads.specs.{Heads.{IsRising, patches_of}, Nodes.{node_of, nodes_of}}
+use Rattle.std.proofs.Common.{◌≡◌, ◌∙◌, arith, ap, length, subst}
+use Rattle.fst_heads.specs.{Heads.{IsRising, patches_of}, Nodes.nodes_of}
 use Rattle.fst_walks.specs.{Ancestors.GoesUnder, Leveling.IsLeveled}
 use Rattle.fst_graph.specs.Fresh.{IsRoomier}
 use Rattle.fst_heads.proofs.Linking.{rising_same}
@@ -42,8 +42,7 @@ put_down-requires-clause-rising c = rising (goal.at.put_down-requires-clause-ris
 pub put_down-requires-clause-few : goal.put_down-requires-clause-few
 put_down-requires-clause-few c =
     let at = (goal.at.put_down-requires-clause-few c).After-reserve_above in
-    let same = ap length (still at) in
-    omega (arith, same, length-map c.reserve_above.new.heads.items node_of, length-map c.args.heads.now.items node_of, c.requires.few)
+    rw (still at) c.requires.few
 
 pub returns-clause-added : goal.returns-clause-added
 returns-clause-added c =

@@ -1,8 +1,8 @@
-use Rattle.std.proofs.Common.{◌≡◌, ◌+◌, ◌∷◌, [], ◌∙◌, arith, subst, sym, refl, ap, length}
+use Rattle.std.proofs.Common.{◌≡◌, ◌+◌, ◌∷◌, [], ◌∙◌, arith, subst, sym, refl, ap, length, count_by}
 use Rattle.fst_types.specs.{Facts.SparseAreLawful, Making.fresh, Patches.{Patch, OpenGate}}
-use Rattle.fst_heads.specs.{Heads.patches_of, Nodes.{nodes_of, HasRoomAbove}}
+use Rattle.fst_heads.specs.{Heads.patches_of, Nodes.{nodes_of, HasRoomAbove}, Spreading.is_waiting}
 use Rattle.fst_graph.specs.Fresh.{patch_from}
-use Rattle.fst_heads.proofs.{Added.with_node, Making.gate_lawful, Slots.rising_heads}
+use Rattle.fst_heads.proofs.{Added.with_node, Beside.waiting_with, Making.gate_lawful, Slots.rising_heads}
 use Rattle.fst_walks.proofs.Ancestral.{none_goes_under}
 use Rattle.fst_graph.proofs.{Made.{gate_added, more_after, more_as, put_patches, put_rising}}
 use Rattle.fst_graph.proofs.fresh.add_two.Goals.{After-reserve_heads, After-put_down}
@@ -38,11 +38,13 @@ pub put_down-requires-2-clause-places : goal.put_down-requires-2-clause-places
 put_down-requires-2-clause-places c = c.put_down.ensures.places 1 c.in_ok-reserve_heads.ensures.places
 
 pub put_down-requires-clause-few : goal.put_down-requires-clause-few
-put_down-requires-clause-few c = omega (arith, ap length c.reserve_heads.ensures.same, c.requires.few)
+put_down-requires-clause-few c = rw c.reserve_heads.ensures.same (omega (arith, c.requires.few))
 
 pub put_down-requires-2-clause-few : goal.put_down-requires-2-clause-few
 put_down-requires-2-clause-few c =
-    omega (arith, ap length c.reserve_heads.ensures.same, c.requires.few, c.put_down.ensures.len, c.reserve_heads.new.heads.ok.0, c.put_down.new.heads.ok.0)
+    let at = (goal.at.put_down-requires-2-clause-few c).After-put_down in
+    let nodes = nodes_of c.reserve_heads.new.heads.items in
+    rw (first at) (omega (arith, waiting_with nodes (fresh (c.args.numbers + 1) OpenGate []), ap (λ hs. count_by is_waiting (nodes_of hs)) c.reserve_heads.ensures.same, c.requires.few))
 
 pub returns-clause-added : goal.returns-clause-added
 returns-clause-added c =

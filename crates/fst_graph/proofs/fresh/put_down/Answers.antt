@@ -1,6 +1,6 @@
 use Rattle.std.proofs.Common.{◌≡◌, ◌∙◌, Contains, arith, false, length, sym, refl, ap, subst}
-use Rattle.std.proofs.lemmas.List.{length-map, length_push}
-use Rattle.fst_heads.specs.{Heads.{kind_of, patch_of, patches_of}, Nodes.{node_of, nodes_of, pending_in}, Pendings.{joined, joined_sums, of_kind, sums_of}}
+use Rattle.std.proofs.lemmas.List.{length_push}
+use Rattle.fst_heads.specs.{Heads.{kind_of, patch_of, patches_of}, Nodes.{nodes_of, pending_in}, Pendings.{joined, joined_sums, of_kind, sums_of}}
 use Rattle.fst_graph.specs.Fresh.{patch_from}
 use Rattle.fst_types.proofs.Finite.{In-from_Contains, Contains-from_In, In-map}
 use Rattle.fst_heads.proofs.{Few.{apart_rising, row_few}, Framed.{pushed_above, pushed_below}, Sums.joined_exact}
@@ -22,7 +22,7 @@ pub row_sums-sums-requires-clause-room : goal.row_sums-sums-requires-clause-room
 row_sums-sums-requires-clause-room c =
     let heads = c.args.heads.now.items in
     let few = row_few (nodes_of heads) c.args.fresh.dependencies.items (apart_rising c.args.fresh.dependencies.items c.requires.once) in
-    rw (c.deref.ensures.value, c.as_slice-row.ensures) (omega (arith, few, c.requires.few, length-map heads node_of))
+    rw (c.deref.ensures.value, c.as_slice-row.ensures) (omega (arith, few, c.requires.few))
 
 pub returns-clause-put : goal.returns-clause-put
 returns-clause-put c =

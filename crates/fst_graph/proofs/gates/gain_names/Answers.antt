@@ -1,7 +1,6 @@
 use Rattle.std.proofs.Common.{◌∙◌, Contains, map, ap, subst, arith}
 use Rattle.fst_types.specs.{Dependencies.{DirectlyOn, IsLiveNumber}, Lists.Lists}
-use Rattle.fst_heads.specs.{Heads.patches_of, Names.numbers_of, Nodes.{node_of, nodes_of, at_number, gains_names}}
-use Rattle.std.proofs.lemmas.List.{length-map}
+use Rattle.fst_heads.specs.{Heads.patches_of, Names.numbers_of, Nodes.{nodes_of, at_number, gains_names}}
 use Rattle.fst_heads.proofs.{AtNumber.patches_in_nodes, Few.{apart_rising, gain_few, row_few}, Linking.{rising_as, rising_same}}
 use Rattle.fst_walks.proofs.Seen.{gained_number}
 use Rattle.fst_graph.proofs.Made.{named_nodes, summed}
@@ -21,7 +20,7 @@ row_sums-sums-requires-clause-room c =
     let row = c.in_ok-names.names.items in
     let L = names (goal.at.row_sums-sums-requires-clause-room c).After-reserve_above in
     let few = row_few (nodes_of heads) row (apart_rising row L.rising) in
-    rw (c.deref-2.ensures.value, c.reserve_above.ensures.nodes, c.as_slice-2.ensures) (omega (arith, few, c.requires.few, length-map heads node_of))
+    rw (c.deref-2.ensures.value, c.reserve_above.ensures.nodes, c.as_slice-2.ensures) (omega (arith, few, c.requires.few))
 
 pub row_sums-sums-requires-clause-rising : goal.row_sums-sums-requires-clause-rising
 row_sums-sums-requires-clause-rising c = rw c.deref-2.ensures.value (rising_same _ _ c.reserve_above.ensures.nodes c.requires.rising)
@@ -39,7 +38,7 @@ gain-requires-clause-counted c =
     rw (c.reserve_above.ensures.nodes, sums) (λ x k same.
     let own = c.requires.summed x k in
     let most = gain_few nodes c.args.gate row c.requires.distinct L.rising (λ n h on. (L.only n h).2 (subst (λ ps. DirectlyOn ps c.args.gate n) (patches_in_nodes heads) on)) x k same own.0 in
-    (omega (arith, most, c.requires.few, length-map heads node_of), own.1))
+    (omega (arith, most, c.requires.few), own.1))
 
 pub link-requires-clause-rising : goal.link-requires-clause-rising
 link-requires-clause-rising c =

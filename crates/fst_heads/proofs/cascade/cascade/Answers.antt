@@ -1,6 +1,6 @@
-use Rattle.fst_heads.proofs.Basics.{◌≡◌, ◌∙◌, [], get_or, cond, count_by, ap, vec_len, subst, sym, arith, length-map, nil_from_length, rules}
+use Rattle.fst_heads.proofs.Basics.{◌≡◌, ◌∙◌, ◌++◌, ◌∷◌, [], get_or, if◌then◌else◌, length, count_by, ap, vec_len, subst, sym, arith, length-map, nil_from_length, rules}
 use Rattle.fst_heads.proofs.{Patches.In-from_Contains, Words.{IsRising, HasSlot, HasNone, node_of, nodes_of, is_pending, Spreading, is_waiting, now, AllStand}}
-use Rattle.fst_heads.proofs.Beside.{waits_untold, waiting_settles, waiting_heard}
+use Rattle.fst_heads.proofs.{Beside.{waits_untold, waiting_settles, waiting_heard}, Landed.{length_if, place_noted, told_noted}}
 use Rattle.fst_heads.proofs.Popping.{fits_there, untold_there, rising_settled, after_is, once_after, live_after, hears_after, room_after, turned, cascaded_heads}
 use Rattle.fst_heads.proofs.{Telling.last_waits, Slotted.{rising_slots, none_of_number, node_in_slot, node_is}, Stands.stand_heard, Starting.settled_spread}
 use Rattle.fst_heads.proofs.Carried.{spread_trans, length_spread}
@@ -95,11 +95,19 @@ loop-number-preserved-in-Some-slot_of c =
     let waits = waits_untold here.0 (S.sinks here.0 here.1) here.3 in
     let is = node_is heads q s here.0 d (rising_slots heads S.rising) found here.1 here.2 in
     let less = waiting_settles nodes q here.0 S.rising (In-from_Contains nodes here.0 here.1) here.2 waits in
-    let first = ap (count_by is_waiting) (after_is heads blocks queue q s c.requires.narrow S c.loop-number.invariant.linked c.loop-number.invariant.distinct found c.settle_slot-old.result.0 c.settle_slot-old.result.1 after settled.old settled.new settled.nodes) in
-    let own : c.landings-landed.result ≡ cond (is_pending (now here.0) pending.Nothing) 1 0 =
-    c.landings-landed.ensures ∙ ap (λ p. cond (is_pending p pending.Nothing) 1 0) (settled.new d ∙ ap now is) in
+    let first_is = after_is heads blocks queue q s c.requires.narrow S c.loop-number.invariant.linked c.loop-number.invariant.distinct found c.settle_slot-old.result.0 c.settle_slot-old.result.1 after settled.old settled.new settled.nodes in
+    let first = ap (count_by is_waiting) first_is in
+    let left = c.settle_slot-old.result.1 in
+    let landed = c.loop-number.landed.items in
+    let own : c.note_landing.new.landed.items ≡ landed ++ (if is_pending (now here.0) pending.Nothing then q ∷ [] else []) =
+    c.note_landing.ensures.listed ∙ ap (λ p. landed ++ (if is_pending p pending.Nothing then q ∷ [] else [])) (settled.new d ∙ ap now is) in
+    let one = ap length own ∙ length_if landed (is_pending (now here.0) pending.Nothing) q in
+    let noted = told_noted nodes landed q here.0 S.rising c.loop-number.invariant.listed here.1 here.2 waits in
     record {
-      landed = omega (arith, c.loop-number.invariant.landed, ap (count_by is_waiting) (c.tell.ensures.nodes d) ∙ waiting_heard _ _ _ after, first, less, own);
+      listed = rw (c.tell.ensures.nodes d, own, first_is) (noted _ _ _);
+      counted = omega (arith, c.loop-number.invariant.counted, ap (count_by is_waiting) (c.tell.ensures.nodes d) ∙ waiting_heard _ _ _ after, first, less, one);
+      more = omega (arith, c.loop-number.invariant.more, one);
+      shelf = c.note_landing.ensures.shelf ∙ c.loop-number.invariant.shelf;
       spreading = turn.spreading;
       linked = turn.are_linked;
       distinct = turn.are_distinct;
@@ -109,6 +117,22 @@ loop-number-preserved-in-Some-slot_of c =
       frames = c.tell.ensures.frames ∙ (settled.frames ∙ c.loop-number.invariant.frames);
       places = c.tell.ensures.places ∙ (settled.places ∙ c.loop-number.invariant.places);
     }
+
+pub note_landing-requires : goal.note_landing-requires
+note_landing-requires c none =
+    let heads = c.loop-number.heads.items in
+    let nodes = nodes_of heads in
+    let q = c.in-Some.number in
+    let s = c.in-Some-slot_of.slot in
+    let S = subst (Spreading nodes (vec_len c.args.standings.now)) c.in-Some.ensures.items c.loop-number.invariant.spreading in
+    let found = subst (λ hs. HasSlot hs q s) c.deref.ensures.value c.in-Some-slot_of.ensures.found in
+    let here = last_waits nodes (vec_len c.args.standings.now) c.pop.new.self.items q S in
+    let d = here.0 in
+    let is = node_is heads q s here.0 d (rising_slots heads S.rising) found here.1 here.2 in
+    let told = ap (λ p. is_pending p pending.Nothing) (sym (ap now is) ∙ (sym (c.settle_slot-old.ensures.new d) ∙ none)) in
+    let place = place_noted nodes c.loop-number.landed.items q here.0 S.rising c.loop-number.invariant.listed here.1 here.2 (waits_untold here.0 (S.sinks here.0 here.1) here.3) told in
+    let long = length_spread (nodes_of c.args.heads.now.items) nodes c.loop-number.invariant.spread in
+    omega (arith, place, long, length-map heads node_of, length-map c.args.heads.now.items node_of, c.requires.shelf, c.loop-number.invariant.shelf, c.loop-number.landed.ok.0)
 
 -- the number is that of a head
 absent : (c : goal.In_default-slot_of) → ⊥
@@ -124,12 +148,13 @@ loop-number-smaller c = absurd (absent c)
 pub loop-number-preserved : goal.loop-number-preserved
 loop-number-preserved c = absurd (absent c)
 
--- nothing waits where nothing was popped
-left : (c : goal.In_default) → Spreading (nodes_of c.loop-number.heads.items) (vec_len c.args.standings.now) []
-left c = grind (arith, nil_from_length)
-
 pub returns-clause-settled : goal.returns-clause-settled
-returns-clause-settled c = settled_spread (nodes_of c.loop-number.heads.items) (vec_len c.args.standings.now) (left c)
+returns-clause-settled c =
+    -- nothing waits where nothing was popped
+    let left : Spreading (nodes_of c.loop-number.heads.items) (vec_len c.args.standings.now) [] = grind (arith, nil_from_length) in
+    settled_spread (nodes_of c.loop-number.heads.items) (vec_len c.args.standings.now) left
 
 pub returns-clause-placed : goal.returns-clause-placed
-returns-clause-placed c = cascaded_heads c.args.heads.now.items c.loop-number.heads.items (vec_len c.args.standings.now) (left c) c.loop-number.invariant.spread
+returns-clause-placed c =
+    let left : Spreading (nodes_of c.loop-number.heads.items) (vec_len c.args.standings.now) [] = grind (arith, nil_from_length) in
+    cascaded_heads c.args.heads.now.items c.loop-number.heads.items (vec_len c.args.standings.now) left c.loop-number.invariant.spread

@@ -1,5 +1,5 @@
-use Rattle.fst_heads.proofs.Basics.{◌≡◌, ◌+◌, count_by, vec_len, vec_capacity}
-use Rattle.fst_heads.proofs.Words.{frames_of, nodes_of, AreLinked, AreDistinct, Spreading, IsSpreadOf, heights, is_waiting, AllStand}
+use Rattle.fst_heads.proofs.Basics.{◌≡◌, ◌≤◌, ◌+◌, count_by, length, vec_len, vec_capacity}
+use Rattle.fst_heads.proofs.Words.{AreLanded, frames_of, nodes_of, AreLinked, AreDistinct, Spreading, IsSpreadOf, heights, is_waiting, AllStand}
 use Rattle.fst_heads.proofs.cascade.cascade.Given as goal
 
 abbrev pub invariant-loop-number : goal.invariant-loop-number
@@ -9,7 +9,10 @@ invariant-loop-number l = record {
   distinct : AreDistinct (nodes_of l.heads.items);
   standing : AllStand (nodes_of l.heads.items) (vec_len l.fn.standings) l.standings.items;
   spread : IsSpreadOf (nodes_of l.fn.heads.items) (nodes_of l.heads.items);
-  landed : count_by is_waiting (nodes_of l.heads.items) + l.landed ≡ count_by is_waiting (nodes_of l.fn.heads.items);
+  listed : AreLanded (nodes_of l.heads.items) l.landed.items;
+  counted : count_by is_waiting (nodes_of l.heads.items) + length l.landed.items ≡ count_by is_waiting (nodes_of l.fn.heads.items) + length l.fn.landed.items;
+  more : length l.fn.landed.items ≤ length l.landed.items;
+  shelf : vec_capacity l.landed ≡ vec_capacity l.fn.landed;
   capacity : vec_capacity l.queue ≡ vec_capacity l.fn.queue;
   frames : frames_of l.heads.items ≡ frames_of l.fn.heads.items;
   places : vec_capacity l.heads ≡ vec_capacity l.fn.heads;

@@ -24,7 +24,7 @@ loop-other-preserved c =
           let slot = subst (λ hs. HasSlot hs (get_or row i 0) s) c.deref.ensures.value w.in-Some.ensures.found in
           let head = w.index_mut.result.now in
           let linked : Head = record head { dependants = w.push_reserved.new.self } in
-          let node : node_of linked ≡ adds n (node_of (get_or heads s head)) = ap (λ ns. record { patch = patch_of head; sums = head.sums; pending = head.pending; dependants = ns }) w.push_reserved.ensures.items ∙ ap (λ h. adds n (node_of h)) w.index_mut.ensures.value in
+          let node : node_of linked ≡ adds n (node_of (get_or heads s head)) = ap (λ ns. record { patch = patch_of head; sums = head.sums; pending = head.pending; dependants = ns; forgotten = head.forgotten }) w.push_reserved.ensures.items ∙ ap (λ h. adds n (node_of h)) w.index_mut.ensures.value in
           let rising = rising_linked heads c.args.heads.now.items (take i row) n before.nodes c.requires.rising in
           rw w.heads-is
           (record {

@@ -18,7 +18,7 @@ loop-number-preserved c =
           let slot = subst (λ hs. HasSlot hs (get_or row i 0) s) c.deref.ensures.value w.in-Some.ensures.found in
           let head = w.index_mut.result.now in
           let room : Head = record head { dependants = w.reserve.new.self } in
-          let node : node_of room ≡ node_of (get_or heads s head) = ap (λ ns. record { patch = patch_of head; sums = head.sums; pending = head.pending; dependants = ns }) w.in_ok-reserve.ensures.items ∙ ap node_of w.index_mut.ensures.value in
+          let node : node_of room ≡ node_of (get_or heads s head) = ap (λ ns. record { patch = patch_of head; sums = head.sums; pending = head.pending; dependants = ns; forgotten = head.forgotten }) w.in_ok-reserve.ensures.items ∙ ap node_of w.index_mut.ensures.value in
           rw w.heads-is
           (record {
             nodes = nodes_set heads s room head slot.0 node ∙ before.nodes;

@@ -1,34 +1,88 @@
-use Rattle.std.proofs.Common.{Contains, refl, subst}
-use Rattle.fst_types.specs.{Dependencies.IsLiveNumber, Lists.Lists, Order.make_order, Refusals.NoneHolds}
-use Rattle.fst_heads.specs.{Heads.patches_of, Names.numbers_of}
-use Rattle.fst_graph.proofs.{Adding.{empty_adds, empty_may}, Grouped.fine, Sound.{rising_sound, with_prepared}}
+use Rattle.std.proofs.{Common.{◌<◌, ◌+◌, ◌++◌, ◌∷◌, ◌∙◌, [], Contains, length, if◌then◌else◌, refl, sym, ap, subst, arith}, lemmas.List.length-map}
+use Rattle.fst_types.specs.{Dependencies.IsLiveNumber, Limits.max_heads, Lists.Lists, Making.EmptyIsMade, Order.make_order, Refusals.NoneHolds, Tests.is_at}
+use Rattle.fst_heads.specs.{Heads.patches_of, Names.numbers_of, Nodes.{is_forgotten_in, node_of, nodes_of}}
+use Rattle.fst_heads.proofs.{Added.with_node, Beside.weighs, Landed.landed_few}
+use Rattle.fst_graph.specs.{Fresh.{patch_from, MayAdd}, Known.Known, Sound.remembered_of}
+use Rattle.fst_graph.proofs.{Adding.{empty_made, empty_may}, Borne.few_waiting, Emptying.new_empty, Flagged.{gone_past, remembered_made, roomier_shelf}, Made.{added_sound, put_patches}, Remembered.remembered_pushed}
+use Rattle.fst_graph.proofs.{RememberedLooks.live_few, RememberedRows.emptied_remembered, Shelf.{put_remembered, same_view}, Sound.{rising_sound, roomier_sound, view_gone, view_long}}
+use Rattle.fst_types.specs.declared.place.Place.TheVariants as place
+use Rattle.fst_graph.proofs.sparse.Sparse.add_empty.Goals.{After-add_one}
 use Rattle.fst_graph.proofs.sparse.Sparse.add_empty.Goals as goal
 
 pub new_empty-requires : goal.new_empty-requires
-new_empty-requires c = rw c.deref.ensures.value (rising_sound c.self.invariant)
+new_empty-requires c = rw c.deref.ensures.value (rising_sound c.self.invariant.0)
 
-pub add_fresh-requires : goal.add_fresh-requires
-add_fresh-requires c =
-    let s = c.self.inside in
-    let E = c.in-Ok.ensures in
-    let row = c.in-Ok.fresh.dependencies.items in
-    let names = numbers_of c.args.after.now in
-    empty_may (patches_of s.heads.items) s.numbers s.blocks s.ends.up.walk.marks c.self.invariant.keeps names row
-    (subst (λ hs. Lists (λ n. IsLiveNumber (patches_of hs) n × Contains names n) row) c.deref.ensures.value E.depends) (subst (λ hs. NoneHolds (make_order (patches_of hs) s.numbers names)) c.deref.ensures.value E.clear) _ E.empty
+pub add_one-requires-clause-rising : goal.add_one-requires-clause-rising
+add_one-requires-clause-rising c = rising_sound c.self.invariant.0
+
+pub add_one-requires-clause-few : goal.add_one-requires-clause-few
+add_one-requires-clause-few c = few_waiting c.self.inside.heads.items c.self.invariant.0.tallies.settled c.self.invariant.0.beside
+
+pub invariant_of-self-in_default : goal.invariant_of-self-in_default
+invariant_of-self-in_default c =
+    let R = c.in_default.ensures.roomier in
+    rw c.let_go.ensures (roomier_sound c.self.invariant.0 R, roomier_shelf R.nodes c.in-Ok.ensures.same c.in-Ok.ensures.wide c.self.invariant.1)
+
+pub returns-in_default-clause-same : goal.returns-in_default-clause-same
+returns-in_default-clause-same c = rw (← c.self.view_is, c.let_go.ensures, same_view c.self.inside.heads.items c.add_one.new.heads.items c.in_default.ensures.roomier.nodes) refl
+
+-- the row has the named patches that are live, and nothing refuses the patch
+row : (c : After-add_one) → Lists (λ n. IsLiveNumber (patches_of c.self.inside.heads.items) n × Contains (numbers_of c.args.after.now) n) c.in-Ok.fresh.dependencies.items
+row c = subst (λ hs. Lists (λ n. IsLiveNumber (patches_of hs) n × Contains (numbers_of c.args.after.now) n) c.in-Ok.fresh.dependencies.items) c.deref.ensures.value c.in-Ok.ensures.depends
+
+clear : (c : After-add_one) → NoneHolds (make_order (remembered_of c.self.inside.heads.items) c.self.inside.numbers (numbers_of c.args.after.now))
+clear c = c.in-Ok.ensures.clear (remembered_of c.self.inside.heads.items) (ap (λ (v : Known). length v.heads) c.self.view_is ∙ sym c.standing-standing.ensures)
+
+may : (c : After-add_one) → MayAdd (patches_of c.self.inside.heads.items) c.self.inside.numbers (patch_from c.in-Ok.fresh)
+may c =
+    let heads = c.self.inside.heads.items in
+    let full = (clear c).1.1.0 in
+    empty_may (patches_of heads) c.self.inside.numbers c.self.invariant.0.keeps.lawful (numbers_of c.args.after.now) c.in-Ok.fresh.dependencies.items (row c) (patch_from c.in-Ok.fresh) c.in-Ok.ensures.empty
+    (omega (arith, full, live_few (is_forgotten_in (nodes_of heads)) (patches_of heads) (view_gone c.self.invariant)))
+
+-- there is a place for it among those that landed
+spare : (c : After-add_one) → length c.self.inside.heads.items < c.new_empty.new.landed.cap
+spare c = let wide = c.in-Ok.ensures.shelf in let long = ap length c.deref.ensures.value in omega (arith, wide, long)
+
+pub note_rest-requires : goal.note_rest-requires
+note_rest-requires c =
+    let free = spare (goal.at.note_rest-requires c).After-add_one in
+    let heads = c.self.inside.heads.items in
+    let same = ap length c.in-Ok.ensures.same in
+    omega (arith, free, same, landed_few (nodes_of heads) c.self.inside.landed.items c.self.invariant.1.told, length-map heads node_of, c.new_empty.new.landed.ok.0)
+
+pub invariant_of-self-2 : goal.invariant_of-self-2
+invariant_of-self-2 c =
+    let at = (goal.at.invariant_of-self-2 c).After-add_one in
+    let heads = c.self.inside.heads.items in
+    let n = c.self.inside.numbers in
+    let M = may at in
+    let p = patch_from c.in-Ok.fresh in
+    let A = c.in-Ok-add_one.ensures.added in
+    let sound = added_sound c.self.invariant.0 M A {all = c.self.inside.live + c.weight.result} (ap (λ w. c.self.inside.live + w) (c.weight.ensures ∙ weighs p)) in
+    let full = (clear at).1.1.0 in
+    let room : length heads < c.self.inside.forgotten + max_heads = omega (arith, full, view_long c.self.invariant) in
+    let items = c.note_rest.ensures.noted ∙ ap (λ ns. if is_at p.place place.Disk then ns ++ p.number ∷ [] else ns) c.in-Ok.ensures.same in
+    rw c.let_go.ensures (rw M.next (
+      sound,
+      put_remembered heads c.add_one.new.heads.items p n c.self.inside.blocks A.head.nodes c.self.invariant.0.keeps.lawful.one_place_each M.next sound.tallies.settled {landed = c.self.inside.landed} {now = c.note_rest.new.landed}
+          items room (omega (arith, spare at, c.note_rest.ensures.shelf)) c.self.invariant.1,
+    ))
 
 pub returns-clause-ok : goal.returns-clause-ok
 returns-clause-ok c =
-    let s = c.self.inside in
-    let E = c.in-Ok.ensures in
-    let row = c.in-Ok.fresh.dependencies.items in
-    let names = numbers_of c.args.after.now in
-    rw (← c.self.view_is) (
-    fine c.add_fresh.result (λ no made. empty_adds (patches_of s.heads.items) s.numbers s.blocks s.ends.up.walk.marks c.self.invariant.keeps names row
-    (subst (λ hs. Lists (λ n. IsLiveNumber (patches_of hs) n × Contains names n) row) c.deref.ensures.value E.depends) (subst (λ hs. NoneHolds (make_order (patches_of hs) s.numbers names)) c.deref.ensures.value E.clear) _ E.empty _ c.add_fresh.new.self no.0 refl refl made) c.add_fresh.ensures.ok
-    )
-
-pub invariant_of-self : goal.invariant_of-self
-invariant_of-self c = rw c.let_go.ensures (with_prepared c.self.invariant tt)
-
-pub invariant_of-self-2 : goal.invariant_of-self-2
-invariant_of-self-2 c = rw c.let_go.ensures (with_prepared c.self.invariant tt)
+    let at = (goal.at.returns-clause-ok c).After-add_one in
+    let heads = c.self.inside.heads.items in
+    let new = c.add_one.new.heads.items in
+    let n = c.self.inside.numbers in
+    let after = numbers_of c.args.after.now in
+    let deps = c.in-Ok.fresh.dependencies.items in
+    let H = c.self.invariant.0.keeps.lawful in
+    let gone = is_forgotten_in (nodes_of heads) in
+    let e = gone_past heads n (n + 1) H.one_place_each (omega arith) in
+    let made = empty_made (patches_of heads) n H after deps (row at) in
+    let row = emptied_remembered gone (patches_of heads) n (view_gone c.self.invariant) H after (n + 1) (patches_of heads ++ new_empty n deps ∷ []) e made in
+    let nodes = c.in-Ok-add_one.ensures.added.head.nodes ∙ ap (with_node (nodes_of heads)) c.in-Ok.ensures.empty in
+    let added = remembered_made heads new (new_empty n deps) nodes H.one_place_each refl (put_patches heads new (new_empty n deps) nodes) in
+    rw (← c.self.view_is, c.let_go.ensures, (may at).next, added)
+    (record { clear = clear at; row = subst (EmptyIsMade (remembered_of heads) n after (n + 1)) (remembered_pushed gone (patches_of heads) (new_empty n deps) e) row; numbers = refl; blocks = refl; groups = refl; prepared = refl })

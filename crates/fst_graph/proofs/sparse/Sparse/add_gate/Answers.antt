@@ -1,32 +1,69 @@
-use Rattle.fst_graph.proofs.Sound.{with_prepared}
-use Rattle.std.proofs.Common.{◌≡◌, ◌+◌, ◌∙◌, [], ap, arith, subst}
-use Rattle.fst_types.specs.{Making.fresh, Order.room_order, Patches.OpenGate, Refusals.NoneHolds}
-use Rattle.fst_heads.specs.Heads.{patches_of}
-use Rattle.fst_graph.specs.Fresh.{patch_from}
-use Rattle.fst_graph.proofs.{Adding.{gate_adds, gate_may}, Grouped.fine}
-use Rattle.fst_graph.proofs.sparse.Sparse.add_gate.Goals.{After-gate-fresh}
+use Rattle.std.proofs.{Common.{◌≡◌, ◌<◌, ◌+◌, ◌∙◌, [], List, count_by, length, refl, sym, ap, arith}}
+use Rattle.fst_types.specs.{Limits.max_heads, Making.fresh, Order.room_order, Patches.OpenGate, Refusals.NoneHolds, Tests.is_live}
+use Rattle.fst_heads.specs.{Heads.patches_of, Nodes.{is_forgotten_in, nodes_of}, declared.head.Head.Head}
+use Rattle.fst_heads.proofs.{Added.with_node, Beside.one_live}
+use Rattle.fst_graph.specs.{Fresh.{patch_from, MayAdd}, Known.Known, Sound.remembered_of}
+use Rattle.fst_graph.proofs.{Adding.gate_may, Borne.{few_waiting, ok_of}, Flagged.{remembered_made, roomier_shelf}, Made.{added_sound, put_patches}, RememberedLooks.live_few, Shelf.{put_remembered, same_view}, Sound.{rising_sound, roomier_sound, view_gone, view_long}}
+use Rattle.fst_graph.proofs.sparse.Sparse.add_gate.Goals.{After-gate}
 use Rattle.fst_graph.proofs.sparse.Sparse.add_gate.Goals as goal
 
 -- nothing refuses the gate
-clear : (c : After-gate-fresh) → NoneHolds (room_order (patches_of c.self.inside.heads.items) c.self.inside.numbers)
-clear c = subst (λ hs. NoneHolds (room_order (patches_of hs) c.self.inside.numbers)) c.deref.ensures.value c.in_default.ensures.clear
+clear : (c : After-gate) → NoneHolds (room_order (remembered_of c.self.inside.heads.items) c.self.inside.numbers)
+clear c = c.in_default.ensures.clear (remembered_of c.self.inside.heads.items) (ap (λ (v : Known). length v.heads) c.self.view_is ∙ sym c.standing-standing.ensures)
 
-gate : (c : After-gate-fresh) → patch_from c.gate-fresh.result ≡ fresh (c.self.inside.numbers + 1) OpenGate []
-gate c = c.gate-fresh.ensures ∙ ap (fresh (c.self.inside.numbers + 1) OpenGate) c.new.ensures.items
+gate : (c : After-gate) → patch_from c.gate.result ≡ fresh (c.self.inside.numbers + 1) OpenGate []
+gate c = c.gate.ensures ∙ ap (fresh (c.self.inside.numbers + 1) OpenGate) c.new.ensures.items
 
-pub add_fresh-requires : goal.add_fresh-requires
-add_fresh-requires c =
-    let at = (goal.at.add_fresh-requires c).After-gate-fresh in
+few : (c : After-gate) → count_by is_live (patches_of c.self.inside.heads.items) < max_heads
+few c =
+    let heads = c.self.inside.heads.items in
+    let full = (clear c).0 in
+    omega (arith, full, live_few (is_forgotten_in (nodes_of heads)) (patches_of heads) (view_gone c.self.invariant))
+
+may : (c : After-gate) → MayAdd (patches_of c.self.inside.heads.items) c.self.inside.numbers (patch_from c.gate.result)
+may c = gate_may (patches_of c.self.inside.heads.items) c.self.inside.numbers _ (gate c) c.self.invariant.0.keeps.lawful (few c)
+
+pub add_one-requires-clause-rising : goal.add_one-requires-clause-rising
+add_one-requires-clause-rising c = rising_sound c.self.invariant.0
+
+pub add_one-requires-clause-few : goal.add_one-requires-clause-few
+add_one-requires-clause-few c = few_waiting c.self.inside.heads.items c.self.invariant.0.tallies.settled c.self.invariant.0.beside
+
+pub invariant_of-self-in_default-add_one : goal.invariant_of-self-in_default-add_one
+invariant_of-self-in_default-add_one c =
+    let R = c.in_default-add_one.ensures.roomier in
+    rw c.let_go.ensures (roomier_sound c.self.invariant.0 R, roomier_shelf R.nodes c.reserve_landed.ensures.same c.reserve_landed.ensures.wide c.self.invariant.1)
+
+pub returns-in_default-add_one-clause-same : goal.returns-in_default-add_one-clause-same
+returns-in_default-add_one-clause-same c = rw (← c.self.view_is, c.let_go.ensures, same_view c.self.inside.heads.items c.add_one.new.heads.items c.in_default-add_one.ensures.roomier.nodes) refl
+
+-- the heads with the gate, the last of them
+put : (c : After-gate) (new : List Head) → nodes_of new ≡ with_node (nodes_of c.self.inside.heads.items) (patch_from c.gate.result) → nodes_of new ≡ with_node (nodes_of c.self.inside.heads.items) (fresh (c.self.inside.numbers + 1) OpenGate [])
+put c new made = made ∙ ap (with_node (nodes_of c.self.inside.heads.items)) (gate c)
+
+pub invariant_of-self-2 : goal.invariant_of-self-2
+invariant_of-self-2 c =
+    let at = (goal.at.invariant_of-self-2 c).After-gate in
+    let heads = c.self.inside.heads.items in
+    let n = c.self.inside.numbers in
+    let S = c.self.invariant.0 in
+    let A = c.in-Ok.ensures.added in
+    let sound = added_sound S (may at) A {all = c.self.inside.live + 1} (ap (λ p. c.self.inside.live + one_live p) (sym (gate at))) in
+    let place = ok_of c.reserve_landed.result _ c.reserve_landed.ensures.shelf (sym c.is_err.ensures.value ∙ c.if-is_err.false) in
     let full = (clear at).0 in
-    gate_may (patches_of c.self.inside.heads.items) c.self.inside.numbers _ (gate at) c.self.invariant.keeps.lawful (omega (arith, full))
+    let room : length heads < c.self.inside.forgotten + max_heads = omega (arith, full, view_long c.self.invariant) in
+    rw c.let_go.ensures (
+      sound,
+      put_remembered heads c.add_one.new.heads.items (fresh (n + 1) OpenGate []) n c.self.inside.blocks (put at c.add_one.new.heads.items A.head.nodes) S.keeps.lawful.one_place_each refl sound.tallies.settled
+          c.reserve_landed.ensures.same room (omega (arith, place, c.len.ensures, c.self.inside.heads.ok.0)) c.self.invariant.1,
+    )
 
 pub returns-clause-ok : goal.returns-clause-ok
 returns-clause-ok c =
-    let at = (goal.at.returns-clause-ok c).After-gate-fresh in
-    rw (← c.self.view_is) (fine c.add_fresh.result (λ no made. gate_adds _ c.add_fresh.new.self no.0 _ (gate at) (clear at) made) c.add_fresh.ensures.ok)
-
-pub invariant_of-self : goal.invariant_of-self
-invariant_of-self c = rw c.let_go.ensures (with_prepared c.self.invariant tt)
-
-pub invariant_of-self-2 : goal.invariant_of-self-2
-invariant_of-self-2 c = rw c.let_go.ensures (with_prepared c.self.invariant tt)
+    let at = (goal.at.returns-clause-ok c).After-gate in
+    let heads = c.self.inside.heads.items in
+    let new = c.add_one.new.heads.items in
+    let gate = fresh (c.self.inside.numbers + 1) OpenGate [] in
+    let made = put at new c.in-Ok.ensures.added.head.nodes in
+    let added = remembered_made heads new gate made c.self.invariant.0.keeps.lawful.one_place_each refl (put_patches heads new gate made) in
+    rw (← c.self.view_is, c.let_go.ensures) (record { clear = clear at; row = record { next = refl; added = added }; numbers = refl; blocks = refl; groups = refl; prepared = refl })

@@ -3,32 +3,34 @@ use Rattle.fst_graph.proofs.{Ranks.leveled_then, Sound.{as_many_marks, as_many_p
 use Rattle.fst_graph.proofs.sparse.Sparse.come_down.Goals as goal
 
 pub sink_over-requires-clause-rising : goal.sink_over-requires-clause-rising
-sink_over-requires-clause-rising c = rw c.deref.ensures.value (rising_sound c.self.invariant)
+sink_over-requires-clause-rising c = rw c.deref.ensures.value (rising_sound c.self.invariant.0)
 
 pub sink_over-requires-clause-leveled : goal.sink_over-requires-clause-leveled
-sink_over-requires-clause-leveled c = leveled_then (sym c.deref.ensures.value) (sym c.self.invariant.leveled.long) c.self.invariant.leveled
+sink_over-requires-clause-leveled c = leveled_then (sym c.deref.ensures.value) (sym c.self.invariant.0.leveled.long) c.self.invariant.0.leveled
 
 pub sink_over-requires-clause-long : goal.sink_over-requires-clause-long
-sink_over-requires-clause-long c = as_many_marks c.self.invariant ∙ ap length (sym c.deref.ensures.value)
+sink_over-requires-clause-long c = as_many_marks c.self.invariant.0 ∙ ap length (sym c.deref.ensures.value)
 
 pub invariant_of-self : goal.invariant_of-self
 invariant_of-self c =
-    let S = c.self.invariant in
+    let S = c.self.invariant.0 in
     let s = c.self.inside in
     let leveled = leveled_then c.deref.ensures.value S.leveled.long c.sink_over.ensures.leveled in
-    let long = c.sink_over.ensures.long ∙ ap length c.deref.ensures.value in
-    with_prepared (settled_sound S (record { long = long; crossed = as_many_places S }) (over_down S) leveled)
-    (if_prepared S _ (λ p is k. record {
-      ready = k.ready;
-      places = record {
-        heads_free = k.places.heads_free;
-        marks_free = (let free = k.places.marks_free in omega (arith, free, long, as_many_marks S, c.sink_over.ensures.room));
-        below_free = k.places.below_free;
-        ranks_free = (let free = k.places.ranks_free in omega (arith, free, c.sink_over.ensures.levels.0, c.sink_over.ensures.levels.1));
-      };
-      waits = k.waits;
-      around = k.around;
-      runs = k.runs;
-      in_list = k.in_list;
-      needed = k.needed;
-    }))
+    let long = c.sink_over.ensures.long ∙ ap length c.deref.ensures.value in (
+      with_prepared (settled_sound S (record { long = long; crossed = as_many_places S }) (over_down S) leveled)
+          (if_prepared S _ (λ p is k. record {
+            ready = k.ready;
+            places = record {
+              heads_free = k.places.heads_free;
+              marks_free = (let free = k.places.marks_free in omega (arith, free, long, as_many_marks S, c.sink_over.ensures.room));
+              below_free = k.places.below_free;
+              ranks_free = (let free = k.places.ranks_free in omega (arith, free, c.sink_over.ensures.levels.0, c.sink_over.ensures.levels.1));
+            };
+            waits = k.waits;
+            around = k.around;
+            runs = k.runs;
+            in_list = k.in_list;
+            needed = k.needed;
+          })),
+      c.self.invariant.1,
+    )

@@ -1,21 +1,28 @@
-use Rattle.std.proofs.{Common.{◌∙◌, length, refl, sym, ap, subst, None, inl, inr, arith}, lemmas.List.length-map}
+use Rattle.std.proofs.Common.{◌∙◌, [], length, option_map, refl, sym, ap, subst, None, inl, inr, arith}
 use Rattle.fst_types.specs.{Gates.IsOpenNumber, Order.depend_order, Refusals.NoneHolds}
-use Rattle.fst_heads.specs.{Heads.{patch_of, patches_of}, Names.numbers_of, Nodes.nodes_of}
+use Rattle.fst_heads.specs.{Heads.patches_of, Names.numbers_of, Nodes.{is_forgotten_in, nodes_of}}
 use Rattle.fst_walks.proofs.Seen.{same_patches}
 use Rattle.fst_walks.specs.{Searching.AreOver}
-use Rattle.fst_graph.specs.Sound.{AreSound}
-use Rattle.fst_graph.proofs.{Borne.settled_fits, Made.{gained_sound, named_patches}, Ranks.leveled_then, Sound.{gates_told, leveled_sound, open_given, over_both, rising_sound, roomier_sound, searched_sound}}
+use Rattle.fst_graph.specs.{Known.Known, Ready.prepared_of, Sound.AreSound}
+use Rattle.fst_graph.proofs.{Flagged.{flags_of, gained_flags, gained_landed, remembered_as, remembered_still, roomier_shelf, unspared}, Remembered.open_known, RememberedCalls.depend_known, RememberedRules.depend_clear}
+use Rattle.fst_graph.proofs.{Borne.{few_waiting, settled_fits}, Made.{gained_sound, named_patches}, Ranks.leveled_then, Sound.{gates_told, leveled_sound, open_given, over_both, rising_sound, roomier_sound, searched_sound, view_gone}}
 use Rattle.fst_graph.proofs.sparse.Sparse.depend.Goals.{After-depend_fault, After-gain_names}
 use Rattle.fst_graph.proofs.sparse.Sparse.depend.Goals as goal
 
 pub depend_fault-requires-clause-rising : goal.depend_fault-requires-clause-rising
-depend_fault-requires-clause-rising c = rw c.deref.ensures.value (rising_sound c.self.invariant)
+depend_fault-requires-clause-rising c = rw c.deref.ensures.value (rising_sound c.self.invariant.0)
 
 pub depend_fault-requires-clause-linked : goal.depend_fault-requires-clause-linked
-depend_fault-requires-clause-linked c = rw c.deref.ensures.value c.self.invariant.tallies.linked
+depend_fault-requires-clause-linked c = rw c.deref.ensures.value c.self.invariant.0.tallies.linked
 
 pub depend_fault-requires-clause-gates : goal.depend_fault-requires-clause-gates
-depend_fault-requires-clause-gates c = rw c.deref.ensures.value (gates_told c.self.invariant)
+depend_fault-requires-clause-gates c = rw c.deref.ensures.value (gates_told c.self.invariant.0)
+
+pub depend_fault-requires-clause-gone : goal.depend_fault-requires-clause-gone
+depend_fault-requires-clause-gone c = rw c.deref.ensures.value (view_gone c.self.invariant)
+
+pub depend_fault-requires-clause-disk : goal.depend_fault-requires-clause-disk
+depend_fault-requires-clause-disk c = rw c.deref.ensures.value c.self.invariant.0.keeps.lawful.on_disk_with_all
 
 pub returns-in-Some-clause-refused : goal.returns-in-Some-clause-refused
 returns-in-Some-clause-refused c = rw (← c.self.view_is, ← c.deref.ensures.value) (inl c.in-Some.ensures.first)
@@ -23,20 +30,20 @@ returns-in-Some-clause-refused c = rw (← c.self.view_is, ← c.deref.ensures.v
 pub gain_names-requires : goal.gain_names-requires
 gain_names-requires c =
     let heads = c.self.inside.heads.items in
-    let T = c.self.invariant.tallies in
+    let T = c.self.invariant.0.tallies in
     record {
-      rising = rising_sound c.self.invariant;
-      linked = c.self.invariant.tallies.linked;
+      rising = rising_sound c.self.invariant.0;
+      linked = c.self.invariant.0.tallies.linked;
       summed = λ x k. (T.settled.summed x k, settled_fits (nodes_of heads) c.self.inside.blocks (omega (arith, c.self.ranges)) T.settled x k);
       distinct = T.distinct;
-      few = omega (arith, c.self.invariant.keeps.few, length-map heads patch_of);
+      few = few_waiting heads T.settled c.self.invariant.0.beside;
     }
 
 -- the fields after the walks, and that nothing refuses it
 walked : (c : After-depend_fault)
     → AreSound c.self.inside.heads c.depend_fault.new.ends c.self.inside.levels c.self.inside.needs c.self.inside.lists c.self.inside.covers c.self.inside.standings c.self.inside.queue
     c.self.inside.live c.self.inside.unmarked c.self.inside.numbers c.self.inside.blocks None
-walked c = searched_sound c.self.invariant (subst (λ hs. AreOver hs c.depend_fault.new.ends) c.deref.ensures.value c.depend_fault.ensures.over) c.depend_fault.ensures.crossed
+walked c = searched_sound c.self.invariant.0 (subst (λ hs. AreOver hs c.depend_fault.new.ends) c.deref.ensures.value c.depend_fault.ensures.over) c.depend_fault.ensures.crossed
 
 gate : (c : After-gain_names) → IsOpenNumber (patches_of c.self.inside.heads.items) c.args.gate.0
 gate c = subst (λ hs. IsOpenNumber (patches_of hs) c.args.gate.0) c.deref.ensures.value c.in_default.ensures.is_open
@@ -45,13 +52,28 @@ clear : (c : After-gain_names) → NoneHolds (depend_order (patches_of c.self.in
 clear c = subst (λ hs. NoneHolds (depend_order (patches_of hs) c.self.inside.numbers c.args.gate.0 (numbers_of c.args.on.now))) c.deref.ensures.value c.in_default.ensures.clear
 
 pub invariant_of-self-in_default-gain_names : goal.invariant_of-self-in_default-gain_names
-invariant_of-self-in_default-gain_names c = rw c.let_go.ensures (roomier_sound (walked (goal.at.invariant_of-self-in_default-gain_names c).After-depend_fault) (record { nodes = c.in_default-gain_names.ensures.same; marks = (refl, refl); crossed = (refl, refl); ranks = refl; floors = refl; waiting = refl; wide = omega arith }))
+invariant_of-self-in_default-gain_names c =
+    let same = c.in_default-gain_names.ensures.same in
+    rw c.let_go.ensures (
+      roomier_sound (walked (goal.at.invariant_of-self-in_default-gain_names c).After-depend_fault) (record { nodes = same; marks = (refl, refl); crossed = (refl, refl); ranks = refl; floors = refl; waiting = refl; wide = omega arith }),
+      roomier_shelf {landed = c.self.inside.landed} same refl (omega arith) c.self.invariant.1,
+    )
 
 pub returns-in_default-gain_names-clause-refused : goal.returns-in_default-gain_names-clause-refused
-returns-in_default-gain_names-clause-refused c = rw (← c.self.view_is, ← c.deref.ensures.value) (inr (c.in_default.ensures.clear, refl))
+returns-in_default-gain_names-clause-refused c =
+    let at = (goal.at.returns-in_default-gain_names-clause-refused c).After-gain_names in
+    let heads = c.self.inside.heads.items in
+    let gone = is_forgotten_in (nodes_of heads) in
+    let G = view_gone c.self.invariant in
+    let D = c.self.invariant.0.keeps.lawful.on_disk_with_all in
+    rw (← c.self.view_is) (inr (depend_clear gone (patches_of heads) c.self.inside.numbers G D c.args.gate.0 (numbers_of c.args.on.now) (open_known gone (patches_of heads) G D c.args.gate.0 (gate at)) (clear at), refl))
 
 pub returns-in_default-gain_names-clause-same : goal.returns-in_default-gain_names-clause-same
-returns-in_default-gain_names-clause-same c = rw (← c.self.view_is, c.let_go.ensures, same_patches c.gain_names.new.heads.items c.self.inside.heads.items c.in_default-gain_names.ensures.same) refl
+returns-in_default-gain_names-clause-same c =
+    let old = c.self.inside.heads.items in
+    let new = c.gain_names.new.heads.items in
+    let same = c.in_default-gain_names.ensures.same in
+    rw (← c.self.view_is, c.let_go.ensures, remembered_as old new (ap flags_of same) (same_patches new old same)) refl
 
 pub renew-requires-clause-rising : goal.renew-requires-clause-rising
 renew-requires-clause-rising c =
@@ -67,32 +89,42 @@ renew-requires-clause-leveled c =
     leveled_then (sym c.deref-2.ensures.value) (sym L.long) L
 
 pub renew-requires-clause-given : goal.renew-requires-clause-given
-renew-requires-clause-given c = open_given c.self.invariant (gate (goal.at.renew-requires-clause-given c).After-gain_names)
+renew-requires-clause-given c = open_given c.self.invariant.0 (gate (goal.at.renew-requires-clause-given c).After-gain_names)
 
 pub invariant_of-self-2 : goal.invariant_of-self-2
 invariant_of-self-2 c =
     let at = goal.at.invariant_of-self-2 c in
     let G = c.in-Ok.ensures.gained in
     let S = gained_sound (walked at.After-depend_fault) {new = c.gain_names.new.heads} c.args.gate.0 G.0 (numbers_of c.args.on.now) (gate at.After-gain_names) (clear at.After-gain_names) G.1 G.2 in
-    rw c.let_go.ensures (leveled_sound S (leveled_then c.deref-2.ensures.value (ap length c.renew.ensures.floors ∙ S.leveled.long) c.renew.ensures.leveled))
+    let old = c.self.inside.heads.items in
+    let new = c.gain_names.new.heads.items in
+    rw c.let_go.ensures (
+      leveled_sound S (leveled_then c.deref-2.ensures.value (ap length c.renew.ensures.floors ∙ S.leveled.long) c.renew.ensures.leveled),
+      remembered_still old new (gained_flags old new c.args.gate.0 G.0 _ G.2) {landed = c.self.inside.landed} (gained_landed old new c.args.gate.0 G.0 _ G.2 c.self.invariant.1.told) refl c.self.invariant.1,
+    )
 
 pub returns-clause-ok : goal.returns-clause-ok
 returns-clause-ok c =
     let at = goal.at.returns-clause-ok c in
     let none = clear at.After-gain_names in
     let G = c.in-Ok.ensures.gained in
-    rw (← c.self.view_is, c.let_go.ensures)
-    (record {
+    let s = c.self.inside in
+    let old = s.heads.items in
+    let new = c.gain_names.new.heads.items in
+    let before : Known = record { heads = patches_of old; numbers = s.numbers; blocks = s.blocks; groups = []; prepared = option_map (prepared_of s.numbers) s.prepared } in
+    let after : Known = record { heads = patches_of new; numbers = s.numbers; blocks = s.blocks; groups = []; prepared = None } in
+    rw (← c.self.view_is, c.let_go.ensures, remembered_as old new (gained_flags old new c.args.gate.0 G.0 _ G.2) refl)
+    (depend_known (is_forgotten_in (nodes_of old)) before after (view_gone c.self.invariant) c.self.invariant.0.keeps.lawful c.args.gate.0 (numbers_of c.args.on.now) (record {
       clear = none;
-      row = record { gate = gate at.After-gain_names; clear = none.1.1.1.1.1.0; names = G.0; live = G.1; gained = named_patches c.self.inside.heads.items c.gain_names.new.heads.items c.args.gate.0 G.0 G.2 };
+      row = record { gate = gate at.After-gain_names; clear = none.1.1.1.1.1.0; names = G.0; live = G.1; gained = named_patches old new c.args.gate.0 G.0 G.2 };
       numbers = refl;
       blocks = refl;
       groups = refl;
       prepared = refl;
-    })
+    }))
 
 pub depend_fault-requires-clause-over : goal.depend_fault-requires-clause-over
-depend_fault-requires-clause-over c = rw c.deref.ensures.value (over_both c.self.invariant)
+depend_fault-requires-clause-over c = rw c.deref.ensures.value (over_both c.self.invariant.0)
 
 pub invariant_of-self : goal.invariant_of-self
-invariant_of-self c = rw c.let_go.ensures (walked (goal.at.invariant_of-self c).After-depend_fault)
+invariant_of-self c = rw c.let_go.ensures (walked (goal.at.invariant_of-self c).After-depend_fault, unspared c.self.invariant.1)

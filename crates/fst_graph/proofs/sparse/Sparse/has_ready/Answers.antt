@@ -1,25 +1,41 @@
 use Rattle.std.proofs.Common.{◌≡◌, ◌<◌, ◌∙◌, length, slice_index_or, sym, ap, subst, arith}
-use Rattle.std.proofs.lemmas.Bool.{ltb-true, lt-ltb}
+use Rattle.std.proofs.lemmas.Bool.{false≢true, ltb-true, lt-ltb}
 use Rattle.fst_types.specs.Writable.{HasReady}
-use Rattle.fst_heads.specs.{Nodes.nodes_of, Standings.standing_of}
+use Rattle.fst_heads.specs.{Heads.patches_of, Nodes.nodes_of, Standings.standing_of}
 use Rattle.fst_heads.proofs.AtNumber.{patches_in_nodes}
 use Rattle.fst_walks.proofs.{Resting.none_yet, Seen.lawful_nodes}
 use Rattle.fst_graph.specs.Known.{NoneFlies}
-use Rattle.fst_graph.proofs.Marking.{ready_counted}
+use Rattle.fst_graph.proofs.{Marking.ready_counted, RememberedLooks.{none_flies, ready}, Sound.{as_many_standings, view_gone}}
 use Rattle.fst_graph.proofs.sparse.Sparse.has_ready.Goals as goal
 
 pub returns : goal.returns
 returns c =
     let s = c.self.inside in
-    let S = c.self.invariant in
+    let S = c.self.invariant.0 in
     let heads = s.heads.items in
     let b = c.args.block.0 in
     let inside : b < length c.deref.result.now = omega (arith, c.if-len-block.false, c.len.ensures, ap length c.deref.ensures.value) in
     let there : b < s.blocks = omega (arith, inside, ap length c.deref.ensures.value, S.tallies.standing.long) in
     let count : c.ready_count.result ≡ (standing_of (nodes_of heads) b).ready =
     c.ready_count.ensures none_yet inside ∙ (ap (λ xs. (slice_index_or xs b none_yet).ready) c.deref.ensures.value ∙ ap (λ t. t.ready) (S.tallies.standing.each b none_yet there)) in
-    rw (← c.self.view_is) (λ rest.
+    let G = view_gone c.self.invariant in
+    let D = S.keeps.lawful.on_disk_with_all in
+    rw (← c.self.view_is) (λ still.
+    let rest = (none_flies _ (patches_of heads) G b).0 still in
     let k = ready_counted (nodes_of heads) s.numbers s.blocks (lawful_nodes heads s.numbers S.keeps.lawful) S.tallies.settled b (subst (λ ps. NoneFlies ps b) (sym (patches_in_nodes heads)) rest) in (
-      λ told. subst (λ ps. HasReady ps b) (patches_in_nodes heads) (k.0 (omega (arith, ltb-true _ _ told, count))),
-      λ ready. lt-ltb _ _ (omega (arith, k.1 (subst (λ ps. HasReady ps b) (sym (patches_in_nodes heads)) ready), count)),
+      λ told. (ready _ (patches_of heads) G D b).1 (subst (λ ps. HasReady ps b) (patches_in_nodes heads) (k.0 (omega (arith, ltb-true _ _ told, count)))),
+      λ some. lt-ltb _ _ (omega (arith, k.1 (subst (λ ps. HasReady ps b) (sym (patches_in_nodes heads)) ((ready _ (patches_of heads) G D b).0 some)), count)),
+    ))
+
+pub returns-then-len-block : goal.returns-then-len-block
+returns-then-len-block c =
+    let s = c.self.inside in
+    let S = c.self.invariant.0 in
+    let b = c.args.block.0 in
+    rw (← c.self.view_is) (λ still. (
+      λ told. absurd (false≢true told),
+      λ some.
+          let r = (ready _ (patches_of s.heads.items) (view_gone c.self.invariant) S.keeps.lawful.on_disk_with_all b).0 some in
+          let lt = S.keeps.inside r.0 b r.1.in_memory.head r.1.in_memory.change in
+          absurd (omega (arith, lt, c.if-len-block.true, c.len.ensures, as_many_standings S)),
     ))

@@ -1,38 +1,40 @@
 use Rattle.std.proofs.{Common.{vec_capacity, [], rules, ◌≡◌, ◌∙◌, inl, inr, count_by, get_or, map, sym, ap, subst, length, arith, refl}, lemmas.Bool.cases_lt, lemmas.List.length-map}
 use Rattle.fst_types.specs.{Cascade.IsCascadeOf, Writing.landed}
-use Rattle.fst_heads.specs.{Heads.patches_of, Keeps.{IsInside, Tallies}, Lists.{entries_of, AreListed}, Nodes.{node_of, nodes_of, patches_in, AreSettled}, Spreading.{IsSpreadOf, lands}, Standings.{AllStand, is_flying_on}}
+use Rattle.fst_heads.specs.{Heads.patches_of, Keeps.{IsInside, Tallies}, Lists.{entries_of, AreListed}, Nodes.{is_forgotten_in, node_of, nodes_of, patches_in, AreSettled}, Spreading.{IsSpreadOf, lands}, Standings.{AllStand, is_flying_on}}
 use Rattle.fst_types.proofs.Landing.{alike_landed}
 use Rattle.fst_heads.proofs.{AtNumber.patches_in_nodes, Beside.{beside_landed, landed_few}, Carried.{linked_landed, distinct_landed}}
-use Rattle.fst_heads.proofs.{Counts.flying_counted, Listing.{nothing_flies, is_off}, Starting.{starts_landed, patches_landed}}
+use Rattle.fst_heads.proofs.{Counts.flying_counted, Landed.landed_map, Listing.{nothing_flies, is_off}, Starting.{starts_landed, patches_landed}}
 use Rattle.fst_walks.proofs.{Resting.none_yet, Seen.{seen, lawful_nodes}, Shelves.shelved}
-use Rattle.fst_graph.proofs.{Borne.{inside_nodes, stand_land}, Kept.{covered_moved, keeps_landed}, NeedsNow.needing_landed, Ranks.leveled_moved, Sound.{rising_sound, as_many_lists, as_many_standings}}
+use Rattle.fst_graph.specs.Sound.{remembered_of}
+use Rattle.fst_graph.proofs.{Borne.{inside_nodes, stand_land}, Flagged.{flags_map, flags_of, flags_spread, remembered_as, remembered_still}, Kept.{covered_moved, keeps_landed}, NeedsNow.needing_landed}
+use Rattle.fst_graph.proofs.{Ranks.leveled_moved, RememberedRows.{landed_number, landed_remembered}, Sound.{rising_sound, as_many_lists, as_many_standings, view_gone}}
 use Rattle.fst_graph.proofs.{Tallied.tallies_landed, sparse.Sparse.land.Goals.After-cascade-landed}
 use Rattle.fst_graph.proofs.sparse.Sparse.land.Goals as goal
 
 pub land_block-requires : goal.land_block-requires
 land_block-requires c = record {
-  rising = rising_sound c.self.invariant;
-  inside = subst (IsInside (patches_of c.self.inside.heads.items)) (sym (as_many_lists c.self.invariant)) c.self.invariant.keeps.inside;
+  rising = rising_sound c.self.invariant.0;
+  inside = subst (IsInside (patches_of c.self.inside.heads.items)) (sym (as_many_lists c.self.invariant.0)) c.self.invariant.0.keeps.inside;
   listed =
       let lists = c.self.inside.lists.items in
-      let long = sym (as_many_lists c.self.invariant) in
-      subst (λ ps. AreListed ps (length lists) (shelved lists)) (patches_in_nodes c.self.inside.heads.items) (subst (λ n. AreListed (patches_in (nodes_of c.self.inside.heads.items)) n (shelved lists)) long c.self.invariant.tallies.listed);
+      let long = sym (as_many_lists c.self.invariant.0) in
+      subst (λ ps. AreListed ps (length lists) (shelved lists)) (patches_in_nodes c.self.inside.heads.items) (subst (λ n. AreListed (patches_in (nodes_of c.self.inside.heads.items)) n (shelved lists)) long c.self.invariant.0.tallies.listed);
   flying =
       let s = c.self.inside in
       let heads = s.heads.items in
       let b = c.args.block.0 in
-      let T = c.self.invariant.tallies in
+      let T = c.self.invariant.0.tallies in
       elim (cases_lt b s.blocks) [
         | inl inside ↦
             let told = c.flying_count-flying.ensures.inside none_yet (rw c.deref.ensures.value (omega (arith, inside, T.standing.long))) in
             let most : c.flying_count-flying.result ≡ count_by (is_flying_on b) (nodes_of heads) = told ∙ (ap (λ xs. (get_or xs b none_yet).flying) c.deref.ensures.value ∙ ap (λ t. t.flying) (T.standing.each b none_yet inside)) in
             omega (arith, flying_counted b heads, most)
         | inr past ↦
-            let none = nothing_flies b heads (λ p h. is_off b p.kind (λ on. let lt = c.self.invariant.keeps.inside p b h on in omega (arith, lt, past))) in
+            let none = nothing_flies b heads (λ p h. is_off b p.kind (λ on. let lt = c.self.invariant.0.keeps.inside p b h on in omega (arith, lt, past))) in
             ap length none ∙ sym (c.flying_count-flying.ensures.outside (rw c.deref.ensures.value (omega (arith, past, T.standing.long))))
       ];
-  idle = c.self.invariant.tallies.idle;
-  room = omega (arith, c.self.invariant.tallies.room, length-map c.self.inside.heads.items node_of);
+  idle = c.self.invariant.0.tallies.idle;
+  room = omega (arith, c.self.invariant.0.tallies.room, length-map c.self.inside.heads.items node_of);
 }
 
 pub cascade-landed-requires : goal.cascade-landed-requires
@@ -41,23 +43,27 @@ cascade-landed-requires c = record {
       let heads = c.self.inside.heads.items in
       let n = c.self.inside.numbers in
       let blocks = c.self.inside.blocks in
-      let K = c.self.invariant.keeps in
-      let T = c.self.invariant.tallies in
-      rw (c.land_block.ensures.nodes, c.land_block.ensures.queued, ← patches_in_nodes heads, c.land_at.ensures.len, as_many_standings c.self.invariant)
+      let K = c.self.invariant.0.keeps in
+      let T = c.self.invariant.0.tallies in
+      rw (c.land_block.ensures.nodes, c.land_block.ensures.queued, ← patches_in_nodes heads, c.land_at.ensures.len, as_many_standings c.self.invariant.0)
       (starts_landed (nodes_of heads) n blocks c.args.block.0 (lawful_nodes heads n K.lawful) (inside_nodes heads blocks K.inside) T.settled);
-  linked = rw c.land_block.ensures.nodes (linked_landed (nodes_of c.self.inside.heads.items) c.args.block.0 c.self.invariant.tallies.linked);
-  distinct = rw c.land_block.ensures.nodes (distinct_landed (nodes_of c.self.inside.heads.items) c.args.block.0 c.self.invariant.tallies.distinct);
+  linked = rw c.land_block.ensures.nodes (linked_landed (nodes_of c.self.inside.heads.items) c.args.block.0 c.self.invariant.0.tallies.linked);
+  distinct = rw c.land_block.ensures.nodes (distinct_landed (nodes_of c.self.inside.heads.items) c.args.block.0 c.self.invariant.0.tallies.distinct);
   standing =
       let heads = c.self.inside.heads.items in
       let blocks = c.self.inside.blocks in
-      let T = c.self.invariant.tallies in
-      rw (c.land_block.ensures.nodes, c.land_at.ensures.len, as_many_standings c.self.invariant)
-      (stand_land (nodes_of heads) blocks c.args.block.0 c.self.inside.standings.items c.land_at.new.standings.items (inside_nodes heads blocks c.self.invariant.keeps.inside) T.standing
-      (λ d lt. c.land_at.ensures.inside d (omega (arith, lt, as_many_standings c.self.invariant))) (λ le. c.land_at.ensures.outside (omega (arith, le, as_many_standings c.self.invariant))));
+      let T = c.self.invariant.0.tallies in
+      rw (c.land_block.ensures.nodes, c.land_at.ensures.len, as_many_standings c.self.invariant.0)
+      (stand_land (nodes_of heads) blocks c.args.block.0 c.self.inside.standings.items c.land_at.new.standings.items (inside_nodes heads blocks c.self.invariant.0.keeps.inside) T.standing
+      (λ d lt. c.land_at.ensures.inside d (omega (arith, lt, as_many_standings c.self.invariant.0))) (λ le. c.land_at.ensures.outside (omega (arith, le, as_many_standings c.self.invariant.0))));
   narrow = search rules;
+  listed = rw c.land_block.ensures.nodes (landed_map (lands c.args.block.0) (nodes_of c.self.inside.heads.items) c.self.inside.landed.items (λ x. record { number = landed_number c.args.block.0 x.patch; pending = refl; forgotten = refl }) c.self.invariant.1.told);
+  shelf =
+      let same = ap length c.land_block.ensures.nodes in
+      omega (arith, same, length-map c.land_block.new.heads.items node_of, length-map (nodes_of c.self.inside.heads.items) (lands c.args.block.0), length-map c.self.inside.heads.items node_of, c.self.invariant.1.shelf);
   room =
       let same = ap length c.land_block.ensures.nodes in
-      omega (arith, same, length-map c.land_block.new.heads.items node_of, length-map (nodes_of c.self.inside.heads.items) (lands c.args.block.0), c.self.invariant.tallies.room, c.land_block.ensures.capacity);
+      omega (arith, same, length-map c.land_block.new.heads.items node_of, length-map (nodes_of c.self.inside.heads.items) (lands c.args.block.0), c.self.invariant.0.tallies.room, c.land_block.ensures.capacity);
 }
 
 -- the patches whose write landed, and what came to rest by that
@@ -70,14 +76,24 @@ cascade c =
     subst (λ ps. IsCascadeOf ps (patches_of c.cascade-landed.new.heads.items)) was c.cascade-landed.ensures.placed
 
 settled : (c : After-cascade-landed) → AreSettled (nodes_of c.cascade-landed.new.heads.items) c.self.inside.blocks
-settled c = subst (AreSettled (nodes_of c.cascade-landed.new.heads.items)) (c.land_at.ensures.len ∙ as_many_standings c.self.invariant) c.cascade-landed.ensures.settled
+settled c = subst (AreSettled (nodes_of c.cascade-landed.new.heads.items)) (c.land_at.ensures.len ∙ as_many_standings c.self.invariant.0) c.cascade-landed.ensures.settled
+
+spread : (c : After-cascade-landed) → IsSpreadOf (map (lands c.args.block.0) (nodes_of c.self.inside.heads.items)) (nodes_of c.cascade-landed.new.heads.items)
+spread c = subst (λ ns. IsSpreadOf ns (nodes_of c.cascade-landed.new.heads.items)) c.land_block.ensures.nodes c.cascade-landed.ensures.spread
+
+-- none is marked by it
+same_flags : (c : After-cascade-landed) → flags_of (nodes_of c.cascade-landed.new.heads.items) ≡ flags_of (nodes_of c.self.inside.heads.items)
+same_flags c =
+    let nodes = nodes_of c.self.inside.heads.items in
+    let b = c.args.block.0 in
+    flags_spread (map (lands b) nodes) (nodes_of c.cascade-landed.new.heads.items) (spread c) ∙ flags_map (lands b) (λ x. ap (λ n. (n, x.forgotten)) (landed_number b x.patch)) nodes
 
 pub overflow_sub-self : goal.overflow_sub-self
 overflow_sub-self c =
     let new = c.cascade-landed.new.heads.items in
-    let T = c.self.invariant.tallies in
+    let T = c.self.invariant.0.tallies in
     landed_few c.self.inside.heads.items c.land_block.new.heads.items new (lands c.args.block.0) c.self.inside.blocks c.self.inside.live c.cascade-landed.result c.self.inside.ends.up.crossed.items c.land_block.ensures.nodes (λ x. refl) T.settled (settled c)
-    c.cascade-landed.ensures.landed c.self.invariant.beside
+    c.cascade-landed.ensures.landed c.self.invariant.0.beside
 
 pub invariant_of-self : goal.invariant_of-self
 invariant_of-self c =
@@ -90,34 +106,43 @@ invariant_of-self c =
     let blocks = c.self.inside.blocks in
     let b = c.args.block.0 in
     let lists = c.self.inside.lists.items in
-    let T = c.self.invariant.tallies in
-    let long = as_many_lists c.self.invariant in
+    let T = c.self.invariant.0.tallies in
+    let long = as_many_lists c.self.invariant.0 in
     let at = (goal.at.invariant_of-self c).After-cascade-landed in
-    let spread : IsSpreadOf (map (lands b) nodes) (nodes_of new) = subst (λ ns. IsSpreadOf ns (nodes_of new)) c.land_block.ensures.nodes c.cascade-landed.ensures.spread in
-    let standing = subst (λ k. AllStand (nodes_of new) k c.cascade-landed.new.standings.items) (c.land_at.ensures.len ∙ as_many_standings c.self.invariant) c.cascade-landed.ensures.standing in
-    let kept = keeps_landed old (patches_of new) n blocks b c.self.inside.ends.up.walk.marks c.self.inside.ends.up.walk.marks c.self.invariant.keeps (cascade at) refl in
+    let standing = subst (λ k. AllStand (nodes_of new) k c.cascade-landed.new.standings.items) (c.land_at.ensures.len ∙ as_many_standings c.self.invariant.0) c.cascade-landed.ensures.standing in
+    let kept = keeps_landed old (patches_of new) n blocks b c.self.inside.ends.up.walk.marks c.self.inside.ends.up.walk.marks c.self.invariant.0.keeps (cascade at) refl in
     let listed : AreListed (patches_in (map (lands b) nodes)) blocks (shelved c.land_block.new.lists.items) =
     subst (λ k. AreListed (patches_in (map (lands b) nodes)) k (shelved c.land_block.new.lists.items)) long
     (subst (λ ps. AreListed ps (length lists) (shelved c.land_block.new.lists.items)) (seen mid _ c.land_block.ensures.nodes) c.land_block.ensures.listed) in
     let tallied : Tallies (nodes_of new) n blocks (shelved c.land_block.new.lists.items) c.cascade-landed.new.standings.items [] (vec_capacity c.self.inside.queue) =
-    tallies_landed nodes (nodes_of new) n blocks b _ _ _ _ _ _ (lawful_nodes new n kept.lawful) T listed spread (settled at) standing in
+    tallies_landed nodes (nodes_of new) n blocks b _ _ _ _ _ _ (lawful_nodes new n kept.lawful) T listed (spread at) (settled at) standing in
     let shelves = c.land_block.new.lists.items in
     let as_many : length shelves ≡ blocks = sym (length-map shelves (λ l. entries_of l.items)) ∙ tallied.listed.long in
     let listed_now : AreListed (patches_of new) (length shelves) (shelved shelves) =
-    subst (λ ps. AreListed ps (length shelves) (shelved shelves)) (patches_in_nodes new) (subst (λ k. AreListed (patches_in (nodes_of new)) k (shelved shelves)) (sym as_many) tallied.listed) in record {
-      keeps = kept;
-      beside = beside_landed heads mid new (lands b) blocks c.self.inside.live c.cascade-landed.result c.self.inside.ends.up.crossed.items c.land_block.ensures.nodes (λ x. refl) T.settled (settled at) c.cascade-landed.ensures.landed c.self.invariant.beside;
-      tallies = rw (c.cascade-landed.ensures.empty, c.cascade-landed.ensures.capacity, c.land_block.ensures.capacity) tallied;
-      covered = covered_moved (alike_landed old (patches_of new) n b c.self.invariant.keeps.lawful (cascade at)) kept c.self.invariant.covered;
-      along = c.self.invariant.along;
-      leveled =
-          let after = leveled_moved (alike_landed old (patches_of new) n b c.self.invariant.keeps.lawful (cascade at)) c.self.invariant.leveled in
-          c.sink_floor.ensures.leveled (patches_of new) kept.lawful.one_place_each.rising (rw c.deref-2.ensures.value listed_now) blocks after;
-      needing = needing_landed {kept = c.land.new.self} old (patches_of new) n b c.self.invariant.keeps.lawful kept.lawful (cascade at) c.land.ensures.lists c.land.ensures.ways c.self.invariant.needing;
-      given = λ w k. c.self.invariant.given w (let l = c.land.ensures.ways w k in l.0);
-      none_below = λ b d lt. absurd (omega (arith, lt));
-      prepared = rw c.let_go.ensures tt;
-    }
+    subst (λ ps. AreListed ps (length shelves) (shelved shelves)) (patches_in_nodes new) (subst (λ k. AreListed (patches_in (nodes_of new)) k (shelved shelves)) (sym as_many) tallied.listed) in (
+      record {
+        keeps = kept;
+        beside = beside_landed heads mid new (lands b) blocks c.self.inside.live c.cascade-landed.result c.self.inside.ends.up.crossed.items c.land_block.ensures.nodes (λ x. refl) T.settled (settled at) c.cascade-landed.ensures.landed c.self.invariant.0.beside;
+        tallies = rw (c.cascade-landed.ensures.empty, c.cascade-landed.ensures.capacity, c.land_block.ensures.capacity) tallied;
+        covered = covered_moved (alike_landed old (patches_of new) n b c.self.invariant.0.keeps.lawful (cascade at)) kept c.self.invariant.0.covered;
+        along = c.self.invariant.0.along;
+        leveled =
+            let after = leveled_moved (alike_landed old (patches_of new) n b c.self.invariant.0.keeps.lawful (cascade at)) c.self.invariant.0.leveled in
+            c.sink_floor.ensures.leveled (patches_of new) kept.lawful.one_place_each.rising (rw c.deref-2.ensures.value listed_now) blocks after;
+        needing = needing_landed {kept = c.land.new.self} old (patches_of new) n b c.self.invariant.0.keeps.lawful kept.lawful (cascade at) c.land.ensures.lists c.land.ensures.ways c.self.invariant.0.needing;
+        given = λ w k. c.self.invariant.0.given w (let l = c.land.ensures.ways w k in l.0);
+        none_below = λ b d lt. absurd (omega (arith, lt));
+        prepared = rw c.let_go.ensures tt;
+      },
+      rw c.let_go.ensures (remembered_still heads new (same_flags at) c.cascade-landed.ensures.listed c.cascade-landed.ensures.shelf c.self.invariant.1),
+    )
 
 pub returns-clause-landed : goal.returns-clause-landed
-returns-clause-landed c = rw (← c.self.view_is, c.let_go.ensures) (record { row = cascade (goal.at.returns-clause-landed c).After-cascade-landed; numbers = refl; blocks = refl; groups = refl; prepared = refl })
+returns-clause-landed c =
+    let at = (goal.at.returns-clause-landed c).After-cascade-landed in
+    let heads = c.self.inside.heads.items in
+    let new = c.cascade-landed.new.heads.items in
+    let b = c.args.block.0 in
+    let row = landed_remembered (is_forgotten_in (nodes_of heads)) (patches_of heads) c.self.inside.numbers (view_gone c.self.invariant) c.self.invariant.0.keeps.lawful b (patches_of new) (cascade at) in
+    rw (← c.self.view_is, c.let_go.ensures)
+    (record { row = subst (IsCascadeOf (map (landed b) (remembered_of heads))) (sym (remembered_as heads new (same_flags at) refl)) row; numbers = refl; blocks = refl; groups = refl; prepared = refl })

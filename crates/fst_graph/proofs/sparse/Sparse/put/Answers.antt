@@ -1,49 +1,52 @@
-use Rattle.std.proofs.{Common.{◌≡◌, ◌+◌, ◌++◌, ◌∷◌, ◌∙◌, [], ℕ, Option, None, Some, IfSome, IfNone, option_map, Contains, arith, sym, subst, refl, ap, map}}
+use Rattle.std.proofs.Common.{◌≡◌, ◌<◌, ◌+◌, ◌++◌, ◌∷◌, ◌∙◌, [], ℕ, Option, None, Some, IfSome, IfNone, option_map, Contains, length, arith, sym, subst, refl, ap, map}
 use Rattle.std.specs.Vec.{with_item}
-use Rattle.std.proofs.lemmas.{List.length-map, List.Sums.count_by-le-length}
-use Rattle.fst_types.specs.{Dependencies.{DirectlyOn, IsLiveNumber}, Gating.gains, Lists.Lists, Tests.is_live}
-use Rattle.fst_heads.specs.{Frames.HasRoomBelow, Heads.{patch_of, patches_of}, Names.numbers_of}
-use Rattle.fst_graph.specs.{Known.{Known, DependsGate}, Ready.change_of, Sound.AreSound, Sparse.AddsSparse, declared.prepared.Gates.Gates}
-use Rattle.fst_graph.proofs.{Borne.gain_room, Made.{change_sound, gained_sound, may_enlist, may_go_on, may_lift, may_need, may_put, may_rise, named_patches, put_patches}, PutNow.{number_free, put_now, IsPutDown, IsPutNow}}
-use Rattle.fst_graph.proofs.{Readied.ready_adds, Sound.rising_sound, TailGains.{member_kept, tail_may, tail_small}}
+use Rattle.fst_types.specs.{Dependencies.{DirectlyOn, IsLiveNumber}, Gating.gains, Limits.max_heads, Lists.Lists}
+use Rattle.fst_heads.specs.{Frames.HasRoomBelow, Heads.patches_of, Names.numbers_of, Nodes.{is_forgotten_in, nodes_of, pending_in}, Pendings.sums_of}
+use Rattle.fst_graph.specs.{Known.{Known, DependsGate}, Ready.change_of, Remembered.remembered_known, Sound.{AreRemembered, AreSound, remembered_of}, Sparse.AddsSparse, declared.prepared.Gates.Gates}
+use Rattle.fst_graph.proofs.{Borne.{few_waiting, gain_room}, Made.{change_sound, gained_sound, may_enlist, may_go_on, may_lift, may_need, may_put, may_rise, named_patches, put_patches}, PutNow.{number_free, put_now, IsPutDown, IsPutNow}}
+use Rattle.fst_graph.proofs.{Flagged.{gained_flags, gained_landed, gone_past, remembered_as, remembered_made, remembered_still}, Remembered.open_number, RememberedCalls.depend_known, RememberedLooks.live_few, RememberedSparse.pushed_remembered}
+use Rattle.fst_graph.proofs.{Readied.{ready_adds, ready_made}, Sound.{rising_sound, view_gone, view_long}, Shelf.put_remembered, TailGains.{member_kept, tail_may, tail_small}}
 use Rattle.fst_graph.proofs.sparse.Sparse.put.Goals.{After-as_slice-row, After-put_down-pending, After-put-2}
 use Rattle.fst_graph.proofs.sparse.Sparse.put.Goals as goal
 
 -- what is prepared may be put down
 now : (c : After-as_slice-row)
     → IsPutNow c.self.inside.heads c.self.inside.ends c.self.inside.levels c.self.inside.needs c.self.inside.lists c.self.inside.covers c.self.inside.standings c.self.inside.queue c.self.inside.numbers c.self.inside.blocks c.in-Some.prepared
-now c = put_now c.self.invariant c.in-Some.prepared c.args.self.now c.self.view_is c.requires (sym c.take.ensures.value ∙ c.in-Some.is)
+now c =
+    let old = patches_of c.self.inside.heads.items in
+    let G = view_gone c.self.invariant in
+    put_now c.self.invariant.0 c.in-Some.prepared c.args.self.now (live_few _ old G) (λ n o. (open_number _ old G c.self.invariant.0.keeps.lawful.on_disk_with_all n).1 o) c.self.view_is c.requires (sym c.take.ensures.value ∙ c.in-Some.is)
 
 pub index_mut-requires : goal.index_mut-requires
-index_mut-requires c = omega (arith, (now (goal.at.index_mut-requires c).After-as_slice-row).down.ready.inside, c.self.invariant.covered.long, c.self.inside.covers.ok.0)
+index_mut-requires c = omega (arith, (now (goal.at.index_mut-requires c).After-as_slice-row).down.ready.inside, c.self.invariant.0.covered.long, c.self.inside.covers.ok.0)
 
 pub rise_of-rise-requires : goal.rise_of-rise-requires
 rise_of-rise-requires c =
-    may_rise c.self.invariant (now (goal.at.rise_of-rise-requires c).After-as_slice-row).down _ c.deref.ensures.value c.deref-2.ensures.value c.deref-3.ensures.value refl refl c.deref_mut.ensures.value
+    may_rise c.self.invariant.0 (now (goal.at.rise_of-rise-requires c).After-as_slice-row).down _ c.deref.ensures.value c.deref-2.ensures.value c.deref-3.ensures.value refl refl c.deref_mut.ensures.value
 
 pub lift-requires : goal.lift-requires
 lift-requires c =
-    may_lift c.self.invariant (now (goal.at.lift-requires c).After-as_slice-row).down c.rise_of-rise.new.walk c.deref.ensures.value c.as_slice-row.ensures c.rise_of-rise.ensures.rise c.rise_of-rise.ensures.long c.deref-4.ensures.value
+    may_lift c.self.invariant.0 (now (goal.at.lift-requires c).After-as_slice-row).down c.rise_of-rise.new.walk c.deref.ensures.value c.as_slice-row.ensures c.rise_of-rise.ensures.rise c.rise_of-rise.ensures.long c.deref-4.ensures.value
 
 pub put-requires : goal.put-requires
-put-requires c = may_need c.self.invariant (now (goal.at.put-requires c).After-as_slice-row).down c.deref-5.ensures.value c.as_slice-row.ensures
+put-requires c = may_need c.self.invariant.0 (now (goal.at.put-requires c).After-as_slice-row).down c.deref-5.ensures.value c.as_slice-row.ensures
 
 pub ancestry_over-requires : goal.ancestry_over-requires
-ancestry_over-requires c = may_go_on c.self.invariant (now (goal.at.ancestry_over-requires c).After-as_slice-row).down c.deref-4.ensures.value c.lift.ensures.leveled c.deref-6.ensures.value
+ancestry_over-requires c = may_go_on c.self.invariant.0 (now (goal.at.ancestry_over-requires c).After-as_slice-row).down c.deref-4.ensures.value c.lift.ensures.leveled c.deref-6.ensures.value
 
 pub put_down-pending-requires : goal.put_down-pending-requires
 put_down-pending-requires c =
     let D = (now (goal.at.put_down-pending-requires c).After-as_slice-row).down in
     record {
-      rising = rising_sound c.self.invariant;
+      rising = rising_sound c.self.invariant.0;
       once = D.ready.depends.rising;
       above = D.prepared.around.0;
-      few = omega (arith, c.self.invariant.keeps.few, length-map c.self.inside.heads.items patch_of);
-      places = may_put c.self.invariant D c.rise_of-rise.new.walk c.rise_of-rise.new.crossed c.rise_of-rise.ensures.long c.deref.ensures.value c.rise_of-rise.ensures.room c.lift.ensures.room;
+      few = few_waiting c.self.inside.heads.items c.self.invariant.0.tallies.settled c.self.invariant.0.beside;
+      places = may_put c.self.invariant.0 D c.rise_of-rise.new.walk c.rise_of-rise.new.crossed c.rise_of-rise.ensures.long c.deref.ensures.value c.rise_of-rise.ensures.room c.lift.ensures.room;
     }
 
 pub enlist-requires : goal.enlist-requires
-enlist-requires c = may_enlist c.self.invariant (now (goal.at.enlist-requires c).After-as_slice-row).down
+enlist-requires c = may_enlist c.self.invariant.0 (now (goal.at.enlist-requires c).After-as_slice-row).down
 
 added : (c : After-put_down-pending) → patches_of c.put_down-pending.new.heads.items ≡ patches_of c.self.inside.heads.items ++ change_of c.self.inside.numbers c.in-Some.prepared ∷ []
 added c = put_patches c.self.inside.heads.items c.put_down-pending.new.heads.items (change_of c.self.inside.numbers c.in-Some.prepared) c.put_down-pending.ensures.put.nodes
@@ -55,7 +58,7 @@ sound : (c : After-put-2)
     c.enlist.new.standings c.self.inside.queue (c.self.inside.live + 1) c.min-self-inside.result (c.self.inside.numbers + 1) c.self.inside.blocks None
 sound c D =
     let least = c.min-self-inside.ensures in
-    change_sound c.self.invariant D
+    change_sound c.self.invariant.0 D
     c.rise_of-rise.new.walk c.rise_of-rise.new.crossed c.put_down-pending.ensures.put c.put_down-pending.ensures.pending c.deref.ensures.value c.as_slice-row.ensures c.rise_of-rise.ensures.rise c.rise_of-rise.ensures.long
     c.deref-4.ensures.value c.lift.ensures.leveled c.lift.ensures.below c.lift.ensures.lifted c.lift.ensures.still
     c.deref-6.ensures.value c.as_slice-row.ensures c.ancestry_over.ensures
@@ -66,10 +69,43 @@ sound c D =
     c.enlist.ensures.entered
     (omega (arith, least)) (omega (arith, least))
 
+-- what is forgotten stays so, and of what landed nothing else
+still : (c : After-put-2)
+    → IsPutDown c.self.inside.heads c.self.inside.ends c.self.inside.levels c.self.inside.needs c.self.inside.lists c.self.inside.covers c.self.inside.standings c.self.inside.queue c.self.inside.numbers c.self.inside.blocks c.in-Some.prepared
+    → AreRemembered c.put_down-pending.new.heads.items c.self.inside.landed c.self.inside.forgotten None
+still c D =
+    let s = c.self.inside in
+    let new = c.put_down-pending.new.heads in
+    let made = change_of s.numbers c.in-Some.prepared in
+    let I = c.self.invariant.1 in
+    let room : length s.heads.items < s.forgotten + max_heads = let full = D.ready.clear.1.1.0 in let kept = view_long c.self.invariant in omega (arith, full, kept) in
+    let shelf = subst (λ o. IfSome o (λ p. length s.heads.items < s.landed.cap)) (sym c.take.ensures.value ∙ c.in-Some.is) I.spare in
+    put_remembered s.heads.items new.items made s.numbers s.blocks c.put_down-pending.ensures.put.nodes c.self.invariant.0.keeps.lawful.one_place_each refl (sound c D).tallies.settled {landed = s.landed} {now = s.landed} refl room shelf I
+
+-- and the patches that are not forgotten are those with the change
+seen : (c : After-put_down-pending) → remembered_of c.put_down-pending.new.heads.items ≡ remembered_of c.self.inside.heads.items ++ change_of c.self.inside.numbers c.in-Some.prepared ∷ []
+seen c = remembered_made c.self.inside.heads.items c.put_down-pending.new.heads.items (change_of c.self.inside.numbers c.in-Some.prepared) c.put_down-pending.ensures.put.nodes c.self.invariant.0.keeps.lawful.one_place_each refl (added c)
+
+-- it is the change that was foreseen among these too
+adds : (c : After-put_down-pending)
+    → IsPutDown c.self.inside.heads c.self.inside.ends c.self.inside.levels c.self.inside.needs c.self.inside.lists c.self.inside.covers c.self.inside.standings c.self.inside.queue c.self.inside.numbers c.self.inside.blocks c.in-Some.prepared
+    → AddsSparse (record { heads = remembered_of c.self.inside.heads.items; numbers = c.self.inside.numbers; blocks = c.self.inside.blocks; groups = []; prepared = None })
+    c.in-Some.prepared.block c.in-Some.prepared.span.at c.in-Some.prepared.span.len (numbers_of c.in-Some.prepared.names.items) (c.self.inside.numbers + 1) c.in-Some.prepared.told.grade
+    (record { heads = remembered_of c.self.inside.heads.items ++ change_of c.self.inside.numbers c.in-Some.prepared ∷ []; numbers = c.self.inside.numbers + 1; blocks = c.self.inside.blocks; groups = []; prepared = None })
+adds c D =
+    let s = c.self.inside in
+    let p = c.in-Some.prepared in
+    let old = patches_of s.heads.items in
+    let gone = is_forgotten_in (nodes_of s.heads.items) in
+    let H = c.self.invariant.0.keeps.lawful in
+    let free = gone_past s.heads.items s.numbers (s.numbers + 1) H.one_place_each (omega arith) in
+    ready_adds D.ready (pushed_remembered gone old s.numbers (view_gone c.self.invariant) H p.block p.span.at p.span.len (numbers_of p.names.items) (s.numbers + 1) p.told.grade (change_of s.numbers p) free refl (ready_made D.ready))
+
 pub invariant_of-self-in-None : goal.invariant_of-self-in-None
 invariant_of-self-in-None c =
     let at = goal.at.invariant_of-self-in-None c in
-    rw c.take.ensures.after (sound at.After-put-2 (now at.After-as_slice-row).down)
+    let D = (now at.After-as_slice-row).down in
+    rw c.take.ensures.after (sound at.After-put-2 D, still at.After-put-2 D)
 
 pub tie-requires : goal.tie-requires
 tie-requires c =
@@ -78,16 +114,16 @@ tie-requires c =
     let p = c.in-Some.prepared in
     let tail = c.in-Some-gates.gates.tail in
     let P = now at.After-as_slice-row in
-    let K = c.self.invariant.keeps.lawful in
-    let R = member_kept p c.in-Some-gates.gates (patches_of s.heads.items) s.numbers s.blocks c.in-Some-gates.is P.down.prepared.ready in
+    let K = c.self.invariant.0.keeps.lawful in
+    let R = member_kept p c.in-Some-gates.gates (patches_of s.heads.items) (remembered_of s.heads.items) s.numbers s.blocks c.in-Some-gates.is P.down.prepared.ready in
     let S = sound at.After-put-2 P.down in
     let heads = c.put_down-pending.new.heads.items in
-    let T = tail_may (patches_of s.heads.items) s.numbers s.blocks s.ends.up.walk.marks c.self.invariant.keeps c.in-Some-gates.gates p c.in-Some-gates.is P.down.prepared.ready P.closed P.down.keeps.lawful in
+    let T = tail_may (patches_of s.heads.items) (remembered_of s.heads.items) s.numbers s.blocks s.ends.up.walk.marks c.self.invariant.0.keeps c.in-Some-gates.gates p c.in-Some-gates.is P.down.prepared.ready P.closed P.down.keeps.lawful in
     let gains : Lists (λ n. IsLiveNumber (patches_of heads) n × Contains ((s.numbers + 1) ∷ []) n × (DirectlyOn (patches_of heads) tail n → ⊥)) ((s.numbers + 1) ∷ []) = rw (added at.After-put_down-pending) T.gains in
     let below_tail : HasRoomBelow s.heads.items tail = subst (λ g. IfSome g (λ x. HasRoomBelow s.heads.items x.tail)) c.in-Some-gates.is P.down.prepared.around.1 in
     record {
       rising = rising_sound S;
-      counted = gain_room heads s.blocks tail ((s.numbers + 1) ∷ []) (omega (arith, c.self.ranges)) S.tallies.settled S.tallies.distinct S.keeps.few gains.rising (λ n h. (gains.only n h).2);
+      counted = gain_room heads s.blocks tail ((s.numbers + 1) ∷ []) (omega (arith, c.self.ranges)) S.tallies.settled S.tallies.distinct (few_waiting heads S.tallies.settled S.beside) gains.rising (λ n h. (gains.only n h).2);
       below = c.put_down-pending.ensures.below tail (λ e. let k = tail_small (patches_of s.heads.items) s.numbers K R in omega (arith, e, k)) below_tail;
       above = c.put_down-pending.ensures.above (λ q there e. let k = (K.one_place_each.numbered q there).1 in omega (arith, k, e));
     }
@@ -99,9 +135,18 @@ invariant_of-self c =
     let old = patches_of s.heads.items in
     let p = c.in-Some.prepared in
     let gates = c.in-Some-gates.gates in
+    let n = s.numbers + 1 in
     let P = now at.After-as_slice-row in
-    let T = tail_may old s.numbers s.blocks s.ends.up.walk.marks c.self.invariant.keeps gates p c.in-Some-gates.is P.down.prepared.ready P.closed P.down.keeps.lawful in
-    rw c.take.ensures.after (gained_sound (sound at.After-put-2 P.down) gates.tail ((s.numbers + 1) ∷ []) ((s.numbers + 1) ∷ []) (rw (added at.After-put_down-pending) T.there) (rw (added at.After-put_down-pending) T.clear) (rw (added at.After-put_down-pending) T.gains) c.tie.ensures)
+    let T = tail_may old (remembered_of s.heads.items) s.numbers s.blocks s.ends.up.walk.marks c.self.invariant.0.keeps gates p c.in-Some-gates.is P.down.prepared.ready P.closed P.down.keeps.lawful in
+    let mid = c.put_down-pending.new.heads.items in
+    let names = n ∷ [] in
+    let sums = sums_of (pending_in (nodes_of mid)) names in
+    let R = still at.After-put-2 P.down in
+    let told = gained_landed mid c.tie.new.heads.items gates.tail names sums c.tie.ensures R.told in
+    rw c.take.ensures.after (
+      gained_sound (sound at.After-put-2 P.down) gates.tail ((s.numbers + 1) ∷ []) ((s.numbers + 1) ∷ []) (rw (added at.After-put_down-pending) T.there) (rw (added at.After-put_down-pending) T.clear) (rw (added at.After-put_down-pending) T.gains) c.tie.ensures,
+      remembered_still mid c.tie.new.heads.items (gained_flags mid c.tie.new.heads.items gates.tail names sums c.tie.ensures) {now = s.landed} told refl R,
+    )
 
 pub returns-in-Some-gates-clause-tied : goal.returns-in-Some-gates-clause-tied
 returns-in-Some-gates-clause-tied c =
@@ -112,12 +157,18 @@ returns-in-Some-gates-clause-tied c =
     let n = s.numbers + 1 in
     let gates = c.in-Some-gates.gates in
     let P = now at.After-as_slice-row in
-    let T = tail_may old s.numbers s.blocks s.ends.up.walk.marks c.self.invariant.keeps gates p c.in-Some-gates.is P.down.prepared.ready P.closed P.down.keeps.lawful in
-    let before : Known = record { heads = old; numbers = s.numbers; blocks = s.blocks; groups = []; prepared = None } in
-    let between : Known = record { heads = old ++ change_of s.numbers p ∷ []; numbers = n; blocks = s.blocks; groups = []; prepared = None } in
+    let S = sound at.After-put-2 P.down in
+    let mid = c.put_down-pending.new.heads.items in
+    let sums = sums_of (pending_in (nodes_of mid)) (n ∷ []) in
+    let T = tail_may old (remembered_of s.heads.items) s.numbers s.blocks s.ends.up.walk.marks c.self.invariant.0.keeps gates p c.in-Some-gates.is P.down.prepared.ready P.closed P.down.keeps.lawful in
+    let before : Known = record { heads = remembered_of s.heads.items; numbers = s.numbers; blocks = s.blocks; groups = []; prepared = None } in
+    let between : Known = record { heads = patches_of mid; numbers = n; blocks = s.blocks; groups = []; prepared = None } in
     let after : Known = record { heads = patches_of c.tie.new.heads.items; numbers = n; blocks = s.blocks; groups = []; prepared = None } in
-    let gained = named_patches c.put_down-pending.new.heads.items c.tie.new.heads.items gates.tail (n ∷ []) c.tie.ensures ∙ ap (map (gains gates.tail (n ∷ []))) (added at.After-put_down-pending) in
-    let depends : DependsGate between (gates.head + 1) (n ∷ []) after = rw (← T.follows) record {
+    let gone = is_forgotten_in (nodes_of mid) in
+    let with_change = remembered_known gone between in
+    let later = remembered_known gone after in
+    let gained = named_patches mid c.tie.new.heads.items gates.tail (n ∷ []) c.tie.ensures ∙ ap (map (gains gates.tail (n ∷ []))) (added at.After-put_down-pending) in
+    let depends : DependsGate between (gates.head + 1) (n ∷ []) after = rw (added at.After-put_down-pending, ← T.follows) record {
       clear = T.clear;
       row = record { gate = T.there; clear = T.clear.1.1.1.1.1.0; names = n ∷ []; live = T.gains; gained = gained };
       numbers = refl;
@@ -125,23 +176,23 @@ returns-in-Some-gates-clause-tied c =
       groups = refl;
       prepared = refl;
     } in
-    let adds : AddsSparse before p.block p.span.at p.span.len (gates.head ∷ []) n p.told.grade between = rw (← T.names) (ready_adds P.down.ready) in
-    rw (← c.self.view_is, sym c.take.ensures.value ∙ c.in-Some.is, c.take.ensures.after) (
-    subst (λ g. IfSome (option_map (λ (x : Gates). x.head) g) (λ head. (with_change : Known) × AddsSparse before p.block p.span.at p.span.len (head ∷ []) n p.told.grade with_change × DependsGate with_change (head + 1) (n ∷ []) after))
-    (sym c.in-Some-gates.is) (between, adds, depends)
+    let known = depend_known gone between after (view_gone (S, still at.After-put-2 P.down)) S.keeps.lawful (gates.head + 1) (n ∷ []) depends in
+    let made : AddsSparse before p.block p.span.at p.span.len (gates.head ∷ []) n p.told.grade with_change = rw (seen at.After-put_down-pending, ← T.names) (adds at.After-put_down-pending P.down) in
+    rw (← c.self.view_is, sym c.take.ensures.value ∙ c.in-Some.is, c.take.ensures.after, remembered_as mid c.tie.new.heads.items (gained_flags mid c.tie.new.heads.items gates.tail (n ∷ []) sums c.tie.ensures) refl) (
+    subst (λ g. IfSome (option_map (λ (x : Gates). x.head) g) (λ head. (w : Known) × AddsSparse before p.block p.span.at p.span.len (head ∷ []) n p.told.grade w × DependsGate w (head + 1) (n ∷ []) later))
+    (sym c.in-Some-gates.is) (with_change, made, known)
     )
 
 pub returns-clause-alone : goal.returns-clause-alone
 returns-clause-alone c =
     let at = goal.at.returns-clause-alone c in
     let s = c.self.inside in
-    let old = patches_of s.heads.items in
     let p = c.in-Some.prepared in
     let n = s.numbers + 1 in
-    let before : Known = record { heads = old; numbers = s.numbers; blocks = s.blocks; groups = []; prepared = None } in
-    let after : Known = record { heads = old ++ change_of s.numbers p ∷ []; numbers = n; blocks = s.blocks; groups = []; prepared = None } in
-    rw (← c.self.view_is, sym c.take.ensures.value ∙ c.in-Some.is, c.take.ensures.after, added at.After-put_down-pending) (
-    subst (λ g. IfNone (option_map (λ (x : Gates). x.head) g) (AddsSparse before p.block p.span.at p.span.len (numbers_of p.names.items) n p.told.grade after)) (sym c.in-None.is) (ready_adds (now at.After-as_slice-row).down.ready)
+    let before : Known = record { heads = remembered_of s.heads.items; numbers = s.numbers; blocks = s.blocks; groups = []; prepared = None } in
+    let after : Known = record { heads = remembered_of s.heads.items ++ change_of s.numbers p ∷ []; numbers = n; blocks = s.blocks; groups = []; prepared = None } in
+    rw (← c.self.view_is, sym c.take.ensures.value ∙ c.in-Some.is, c.take.ensures.after, seen at.After-put_down-pending) (
+    subst (λ g. IfNone (option_map (λ (x : Gates). x.head) g) (AddsSparse before p.block p.span.at p.span.len (numbers_of p.names.items) n p.told.grade after)) (sym c.in-None.is) (adds at.After-put_down-pending (now at.After-as_slice-row).down)
     )
 
 -- what was prepared had that number and grade
@@ -165,12 +216,12 @@ pub returns-in-Some-gates-clause-alone : goal.returns-in-Some-gates-clause-alone
 returns-in-Some-gates-clause-alone c = rw (← c.self.view_is, sym c.take.ensures.value ∙ c.in-Some.is) (for_group c.in-Some.prepared.gates _ _ c.in-Some-gates.is)
 
 pub overflow_add-number : goal.overflow_add-number
-overflow_add-number c = let free = number_free c.self.invariant c.in-Some.prepared (sym c.take.ensures.value ∙ c.in-Some.is) in omega (arith, free)
+overflow_add-number c = let free = number_free c.self.invariant.0 c.in-Some.prepared (sym c.take.ensures.value ∙ c.in-Some.is) in omega (arith, free)
 
 pub overflow_add-self : goal.overflow_add-self
 overflow_add-self c =
-    let S = c.self.invariant in
-    omega (arith, S.beside.counted, count_by-le-length is_live (patches_of c.self.inside.heads.items), S.keeps.few)
+    let S = c.self.invariant.0 in
+    omega (arith, S.beside.few)
 
 pub overflow_cast-block : goal.overflow_cast-block
 overflow_cast-block c = omega (arith, (now (goal.at.overflow_cast-block c).After-as_slice-row).down.ready.inside, c.self.ranges)

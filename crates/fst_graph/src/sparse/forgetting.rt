@@ -1,0 +1,49 @@
+//! Forgetting: heads are marked while few would go, and dropped once they are many.
+
+ghost use Rattle.fst_graph.specs.Known.{Forgets};
+
+use crate::prepared::let_go;
+use crate::sparse::Sparse;
+use fst_walks::flags::flag_all;
+
+impl Sparse {
+    // Forgets those that landed, whose heads stay, each marked so.
+    fn mark_landed(&mut self) -> u32
+        ensures { Forgets self.old result self.new }
+    {
+        let_go(&mut self.prepared);
+        flag_all(&self.levels, &mut self.heads, &self.landed);
+        self.levels.ease();
+        let many = self.landed.len();
+        self.forgotten += many;
+        self.landed.clear();
+        many as u32
+    }
+
+    // Forgets those that landed, and drops all heads of patches on disk.
+    fn drop_landed(&mut self) -> u32
+        ensures { Forgets self.old result self.new }
+    {
+        let_go(&mut self.prepared);
+        self.levels.forget(&mut self.heads, self.live);
+        self.levels.ease();
+        self.ends.shrink(self.heads.len());
+        self.forgotten = 0;
+        let many = self.landed.len();
+        self.landed.clear();
+        many as u32
+    }
+
+    /// Forgets the patches on disk, and answers how many they were. It takes no memory. What is dropped moves the heads behind
+    /// it, so that the heads are only marked until a quarter of all are of patches on disk: then these are dropped.
+    pub fn forget(&mut self) -> u32
+        ensures { Forgets self.old result self.new }
+    {
+        let dropped = self.heads.len() - self.live;
+        if dropped < self.heads.len() / 4 {
+            self.mark_landed()
+        } else {
+            self.drop_landed()
+        }
+    }
+}
