@@ -20,8 +20,8 @@ use fst_types::Ticket;
 use json::{Reader, Scratch, Token};
 use std::alloc::Global;
 
-// Enough for a change of 64 bytes and its names.
-const LONGEST: usize = 256;
+// Enough for a change of a whole block, with its names.
+const LONGEST: usize = 9_216;
 
 // The name of a command, which the line begins with.
 fn take_name<'a>(reader: &mut Reader<'a>) -> Option<&'a str>
