@@ -188,6 +188,31 @@ def full():
     return made
 
 
+def forget_one():
+    """`forget` after each write of a block or two, over 60,000 changes: what stays is far more than what goes."""
+    made = Script(4096, 64)
+    for i in range(60_000):
+        made.patch(i % 4096, i // 4096 % 64)
+    for i in range(4_000):
+        made.write(i * 1237 % 4096)
+        made.ask("forget")
+        made.patch(i * 1237 % 4096, 0)
+    return made
+
+
+def choose_in_flight():
+    """`choose` of a block whose write is out, over 1,000 changes that may follow it and as many behind it."""
+    made = Script(4)
+    first = made.patch(0, 0)
+    made.ask("write", block=0)
+    for i in range(1_000):
+        made.patch(0, 1 + i)
+        made.patch(0, 2_048 + i, [first])
+    for i in range(2_000):
+        made.ask("choose", block=0)
+    return made
+
+
 def one_clean():
     """A block that is read in the place of the one clean block, 4,000 others being dirty."""
     made = Script(4096, 64, 4001)
@@ -248,7 +273,7 @@ def hot():
 
 SHAPES = [
     forget_each, forget_few, forget_nothing, after_old_ones, places, write_beside, refused,
-    picks, full, one_clean, groups_ahead, groups_of_one_block, cycles, hot,
+    forget_one, choose_in_flight, picks, full, one_clean, groups_ahead, groups_of_one_block, cycles, hot,
 ]
 
 
