@@ -142,10 +142,8 @@ pub fn cascade(
     requires linked { AreLinked (nodes_of heads.old.items) }
     requires distinct { AreDistinct (nodes_of heads.old.items) }
     requires standing { AllStand (nodes_of heads.old.items) (vec_len standings.old) standings.old.items }
-    requires narrow { vec_len standings.old ≤ 65535 }
-    requires room { length heads.old.items ≤ vec_capacity queue.old }
+    requires room { (vec_len standings.old ≤ 65535) × (length heads.old.items ≤ vec_capacity queue.old) × (length heads.old.items ≤ vec_capacity landed.old) }
     requires listed { AreLanded (nodes_of heads.old.items) landed.old.items }
-    requires shelf { length heads.old.items ≤ vec_capacity landed.old }
     ensures settled { AreSettled (nodes_of heads.new.items) (vec_len standings.old) }
     ensures placed { IsCascadeOf (patches_of heads.old.items) (patches_of heads.new.items) }
     ensures spread { IsSpreadOf (nodes_of heads.old.items) (nodes_of heads.new.items) }

@@ -23,9 +23,9 @@ settle_slot-old-requires c =
       rising = rising_slots heads S.rising;
       slot = omega (arith, found.0, c.loop-number.heads.ok.0);
       untold = λ d. record {
-        fits = fits_there heads blocks queue q s c.requires.narrow S c.loop-number.invariant.linked c.loop-number.invariant.distinct found d;
+        fits = fits_there heads blocks queue q s c.requires.room.0 S c.loop-number.invariant.linked c.loop-number.invariant.distinct found d;
         sinks = S.sinks (get_or (nodes_of heads) s d) (node_in_slot heads q s d found).0;
-        untold = untold_there heads blocks queue q s c.requires.narrow S c.loop-number.invariant.linked c.loop-number.invariant.distinct found d;
+        untold = untold_there heads blocks queue q s c.requires.room.0 S c.loop-number.invariant.linked c.loop-number.invariant.distinct found d;
       };
       inside = λ x b at len grade contained kind.
           omega (arith, S.changes x b at len grade contained kind, c.loop-number.standings.ok.0, c.loop-number.invariant.standing.long);
@@ -49,14 +49,14 @@ tell-requires c =
     let after = nodes_of c.settle_slot-old.new.heads.items in
     let long = length_spread (nodes_of c.args.heads.now.items) (nodes_of heads) c.loop-number.invariant.spread in
     record {
-      rising = rising_settled q heads c.settle_slot-old.new.heads.items (after_is heads blocks queue q s c.requires.narrow S linked distinct found was is after settled.old settled.new settled.nodes) (rising_slots heads S.rising);
+      rising = rising_settled q heads c.settle_slot-old.new.heads.items (after_is heads blocks queue q s c.requires.room.0 S linked distinct found was is after settled.old settled.new settled.nodes) (rising_slots heads S.rising);
       slot = omega (arith, found.0, c.loop-number.heads.ok.0, settled.len);
-      once = once_after heads blocks queue q s c.requires.narrow S linked distinct found was is after settled.old settled.new settled.nodes;
-      hears = hears_after heads blocks queue q s c.requires.narrow S linked distinct found was is after settled.old settled.new settled.nodes;
-      live = live_after heads blocks queue q s c.requires.narrow S linked distinct found was is after settled.old settled.new settled.nodes;
+      once = once_after heads blocks queue q s c.requires.room.0 S linked distinct found was is after settled.old settled.new settled.nodes;
+      hears = hears_after heads blocks queue q s c.requires.room.0 S linked distinct found was is after settled.old settled.new settled.nodes;
+      live = live_after heads blocks queue q s c.requires.room.0 S linked distinct found was is after settled.old settled.new settled.nodes;
       room = λ d.
-          let room = room_after heads blocks queue q s c.requires.narrow S linked distinct found was is after settled.old settled.new settled.nodes d in
-          omega (arith, room, long, length-map heads node_of, length-map c.args.heads.now.items node_of, c.requires.room, c.loop-number.invariant.capacity, c.in-Some.ensures.capacity);
+          let room = room_after heads blocks queue q s c.requires.room.0 S linked distinct found was is after settled.old settled.new settled.nodes d in
+          omega (arith, room, long, length-map heads node_of, length-map c.args.heads.now.items node_of, c.requires.room.1, c.loop-number.invariant.capacity, c.in-Some.ensures.capacity);
     }
 
 pub loop-number-smaller-in-Some-slot_of : goal.loop-number-smaller-in-Some-slot_of
@@ -71,7 +71,7 @@ loop-number-smaller-in-Some-slot_of c =
     let found = subst (λ hs. HasSlot hs q s) c.deref.ensures.value c.in-Some-slot_of.ensures.found in
     let settled = c.settle_slot-old.ensures in
     let after = nodes_of c.settle_slot-old.new.heads.items in
-    let turn = turned heads blocks queue q s c.requires.narrow S c.loop-number.invariant.linked c.loop-number.invariant.distinct found c.settle_slot-old.result.0 c.settle_slot-old.result.1 after settled.old settled.new settled.nodes (nodes_of c.tell.new.heads.items) c.tell.new.queue.items c.tell.ensures.nodes c.tell.ensures.queued in
+    let turn = turned heads blocks queue q s c.requires.room.0 S c.loop-number.invariant.linked c.loop-number.invariant.distinct found c.settle_slot-old.result.0 c.settle_slot-old.result.1 after settled.old settled.new settled.nodes (nodes_of c.tell.new.heads.items) c.tell.new.queue.items c.tell.ensures.nodes c.tell.ensures.queued in
     turn.falls
 
 pub loop-number-preserved-in-Some-slot_of : goal.loop-number-preserved-in-Some-slot_of
@@ -86,7 +86,7 @@ loop-number-preserved-in-Some-slot_of c =
     let found = subst (λ hs. HasSlot hs q s) c.deref.ensures.value c.in-Some-slot_of.ensures.found in
     let settled = c.settle_slot-old.ensures in
     let after = nodes_of c.settle_slot-old.new.heads.items in
-    let turn = turned heads blocks queue q s c.requires.narrow S c.loop-number.invariant.linked c.loop-number.invariant.distinct found c.settle_slot-old.result.0 c.settle_slot-old.result.1 after settled.old settled.new settled.nodes (nodes_of c.tell.new.heads.items) c.tell.new.queue.items c.tell.ensures.nodes c.tell.ensures.queued in
+    let turn = turned heads blocks queue q s c.requires.room.0 S c.loop-number.invariant.linked c.loop-number.invariant.distinct found c.settle_slot-old.result.0 c.settle_slot-old.result.1 after settled.old settled.new settled.nodes (nodes_of c.tell.new.heads.items) c.tell.new.queue.items c.tell.ensures.nodes c.tell.ensures.queued in
     let same : vec_len c.loop-number.standings ≡ vec_len c.args.standings.now = omega (arith, c.loop-number.standings.ok.0, c.loop-number.invariant.standing.long) in
     let start = nodes_of c.args.heads.now.items in
     let next = nodes_of c.tell.new.heads.items in
@@ -95,7 +95,7 @@ loop-number-preserved-in-Some-slot_of c =
     let waits = waits_untold here.0 (S.sinks here.0 here.1) here.3 in
     let is = node_is heads q s here.0 d (rising_slots heads S.rising) found here.1 here.2 in
     let less = waiting_settles nodes q here.0 S.rising (In-from_Contains nodes here.0 here.1) here.2 waits in
-    let first_is = after_is heads blocks queue q s c.requires.narrow S c.loop-number.invariant.linked c.loop-number.invariant.distinct found c.settle_slot-old.result.0 c.settle_slot-old.result.1 after settled.old settled.new settled.nodes in
+    let first_is = after_is heads blocks queue q s c.requires.room.0 S c.loop-number.invariant.linked c.loop-number.invariant.distinct found c.settle_slot-old.result.0 c.settle_slot-old.result.1 after settled.old settled.new settled.nodes in
     let first = ap (count_by is_waiting) first_is in
     let left = c.settle_slot-old.result.1 in
     let landed = c.loop-number.landed.items in
@@ -132,7 +132,7 @@ note_landing-requires c none =
     let told = ap (λ p. is_pending p pending.Nothing) (sym (ap now is) ∙ (sym (c.settle_slot-old.ensures.new d) ∙ none)) in
     let place = place_noted nodes c.loop-number.landed.items q here.0 S.rising c.loop-number.invariant.listed here.1 here.2 (waits_untold here.0 (S.sinks here.0 here.1) here.3) told in
     let long = length_spread (nodes_of c.args.heads.now.items) nodes c.loop-number.invariant.spread in
-    omega (arith, place, long, length-map heads node_of, length-map c.args.heads.now.items node_of, c.requires.shelf, c.loop-number.invariant.shelf, c.loop-number.landed.ok.0)
+    omega (arith, place, long, length-map heads node_of, length-map c.args.heads.now.items node_of, c.requires.room.2, c.loop-number.invariant.shelf, c.loop-number.landed.ok.0)
 
 -- the number is that of a head
 absent : (c : goal.In_default-slot_of) → ⊥

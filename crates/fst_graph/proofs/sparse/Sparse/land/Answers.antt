@@ -56,14 +56,14 @@ cascade-landed-requires c = record {
       rw (c.land_block.ensures.nodes, c.land_at.ensures.len, as_many_standings c.self.invariant.0)
       (stand_land (nodes_of heads) blocks c.args.block.0 c.self.inside.standings.items c.land_at.new.standings.items (inside_nodes heads blocks c.self.invariant.0.keeps.inside) T.standing
       (λ d lt. c.land_at.ensures.inside d (omega (arith, lt, as_many_standings c.self.invariant.0))) (λ le. c.land_at.ensures.outside (omega (arith, le, as_many_standings c.self.invariant.0))));
-  narrow = search rules;
   listed = rw c.land_block.ensures.nodes (landed_map (lands c.args.block.0) (nodes_of c.self.inside.heads.items) c.self.inside.landed.items (λ x. record { number = landed_number c.args.block.0 x.patch; pending = refl; forgotten = refl }) c.self.invariant.1.told);
-  shelf =
-      let same = ap length c.land_block.ensures.nodes in
-      omega (arith, same, length-map c.land_block.new.heads.items node_of, length-map (nodes_of c.self.inside.heads.items) (lands c.args.block.0), length-map c.self.inside.heads.items node_of, c.self.invariant.1.shelf);
   room =
       let same = ap length c.land_block.ensures.nodes in
-      omega (arith, same, length-map c.land_block.new.heads.items node_of, length-map (nodes_of c.self.inside.heads.items) (lands c.args.block.0), c.self.invariant.0.tallies.room, c.land_block.ensures.capacity);
+      (
+        search rules,
+        omega (arith, same, length-map c.land_block.new.heads.items node_of, length-map (nodes_of c.self.inside.heads.items) (lands c.args.block.0), c.self.invariant.0.tallies.room, c.land_block.ensures.capacity),
+        omega (arith, same, length-map c.land_block.new.heads.items node_of, length-map (nodes_of c.self.inside.heads.items) (lands c.args.block.0), length-map c.self.inside.heads.items node_of, c.self.invariant.1.shelf),
+      );
 }
 
 -- the patches whose write landed, and what came to rest by that

@@ -31,10 +31,8 @@ cascade-landed-requires c =
       linked = R.linked;
       distinct = R.distinct;
       standing = R.standing;
-      narrow = R.narrow;
-      room = R.room;
+      room = (R.narrow, R.room, let shelf = I.shelf in omega (arith, shelf, long));
       listed = shut_landed c.self.inside.heads.items c.seal_slot.new.heads.items c.args.head c.seal_slot.ensures.nodes I.told;
-      shelf = let shelf = I.shelf in omega (arith, shelf, long);
     }
 
 -- the same are forgotten
