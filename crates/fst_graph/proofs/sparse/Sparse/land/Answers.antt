@@ -58,8 +58,7 @@ cascade-landed-requires c = record {
       (λ d lt. c.land_at.ensures.inside d (omega (arith, lt, as_many_standings c.self.invariant.0))) (λ le. c.land_at.ensures.outside (omega (arith, le, as_many_standings c.self.invariant.0))));
   listed = rw c.land_block.ensures.nodes (landed_map (lands c.args.block.0) (nodes_of c.self.inside.heads.items) c.self.inside.landed.items (λ x. record { number = landed_number c.args.block.0 x.patch; pending = refl; forgotten = refl }) c.self.invariant.1.told);
   room =
-      let same = ap length c.land_block.ensures.nodes in
-      (
+      let same = ap length c.land_block.ensures.nodes in (
         search rules,
         omega (arith, same, length-map c.land_block.new.heads.items node_of, length-map (nodes_of c.self.inside.heads.items) (lands c.args.block.0), c.self.invariant.0.tallies.room, c.land_block.ensures.capacity),
         omega (arith, same, length-map c.land_block.new.heads.items node_of, length-map (nodes_of c.self.inside.heads.items) (lands c.args.block.0), length-map c.self.inside.heads.items node_of, c.self.invariant.1.shelf),
