@@ -4,7 +4,7 @@ use Rattle.fst_types.specs.Patches.{Patch}
 use Rattle.fst_graph.specs.Known.{Known}
 use Rattle.fst_types.specs.declared.place.Place.TheVariants as place
 
--- The patches that are not forgotten, out of those whose heads are kept.
+-- those of the heads that are not gone
 abbrev pub remembered : (ℕ → Bool) → List Patch → List Patch
 remembered gone heads = filter (λ p. not (gone p.number)) heads
 
