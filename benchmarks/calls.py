@@ -7,7 +7,7 @@ For whoever changes what a call looks at: `forget` after each write, a write tha
 30,000 changes of its block out, groups that are put after one another before they have a change, patches after old ones
 where others between were forgotten. What looks at all that is there once a call is slow here, and nowhere else. With
 --beside a second program plays the same script: it is to give the same replies, and the line ends in `slow` where PROGRAM
-takes three times as long. PROGRAM is the program as `rt build` or `./feather` leaves it; without it `./feather` is used,
+takes three times as long. PROGRAM is the program as `rt run` or `./feather` leaves it; without it `./feather` is used,
 which builds it once.
 """
 

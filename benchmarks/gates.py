@@ -6,7 +6,7 @@
 For whoever changes a search: what looks through a gate's dependencies once for each patch after it takes the square of
 their number. N patches are made on random blocks (50,000); each shape is played over 16, 128 and 1,024 blocks. With
 --beside a second program plays the same script: it is to give the same replies, and the line ends in `slow` where
-PROGRAM takes three times as long. PROGRAM is the program as `rt build` or `./feather` leaves it; without it
+PROGRAM takes three times as long. PROGRAM is the program as `rt run` or `./feather` leaves it; without it
 `./feather` is used, which builds it once.
 """
 

@@ -7,8 +7,8 @@
 halves of the blocks. For each a line says the processor seconds and the peak memory of all of it, the best of N runs (3),
 and the exponent by which the seconds grow from a quarter to all, those of an empty script being taken off first: 1 where a
 line costs the same however long the script is. With --beside a second program plays the same scripts, by turns: it is to
-give the same replies, and the line ends in `slow` where PROGRAM takes three times as long. PROGRAM is the program as `rt
-build` or `./feather` leaves it; without it `./feather` is used, which builds it once.
+give the same replies, and the line ends in `slow` where PROGRAM takes three times as long. PROGRAM is the program as
+`rt run` or `./feather` leaves it; without it `./feather` is used, which builds it once.
 """
 
 import argparse

@@ -3,7 +3,7 @@
 
     benchmarks/lines.py [PROGRAM]
 
-PROGRAM is the program as `rt build` or `./feather` leaves it; without it `./feather` is used, which builds it once.
+PROGRAM is the program as `rt run` or `./feather` leaves it; without it `./feather` is used, which builds it once.
 The last column is the exponent of growth of the time between n and 4n lines: 1 where a line costs the same however long
 the script is.
 """

@@ -7,7 +7,7 @@ For whoever changes what a call looks at or answers: a seed chooses how many blo
 call comes, and how far back a call names patches; then any call comes at any time, so that many are refused, writes stay out
 for long, gates stay open, and what was forgotten is named again. N lines are played (3,000). With --without these calls are
 left out, to see which one takes the time. With --beside a second program plays the same script: it is to give the same
-replies, and the line ends in `slow` where PROGRAM takes three times as long. PROGRAM is the program as `rt build` or
+replies, and the line ends in `slow` where PROGRAM takes three times as long. PROGRAM is the program as `rt run` or
 `./feather` leaves it; without it `./feather` is used, which builds it once.
 """
 

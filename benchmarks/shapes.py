@@ -11,7 +11,7 @@ the seconds and the peak memory, and what the seed chose. With --beside a second
 is to give the same replies, and the line ends in `slow` where PROGRAM takes three times as long. With --script the
 script of one seed is printed, with the words of its shape on standard error.
 
-PROGRAM is the program as `rt build` or `./feather` leaves it; without it `./feather` is used, which builds it once. Each
+PROGRAM is the program as `rt run` or `./feather` leaves it; without it `./feather` is used, which builds it once. Each
 run has 60 processor seconds.
 """
 

@@ -11,7 +11,7 @@ group, or by turns) and after which one it comes, and whether a superblock is ov
 line by line, what may be written; then the script is fixed. N patches are made (12,000). With --flights so many writes are
 out at once (1), and the oldest is done as one more is made. With --beside a second program plays
 the same script: it is to give the same replies, and the line ends in `slow` where PROGRAM takes three times as long. PROGRAM
-is the program as `rt build` or `./feather` leaves it; without it `./feather` is used, which builds it once.
+is the program as `rt run` or `./feather` leaves it; without it `./feather` is used, which builds it once.
 """
 
 import argparse

@@ -6,7 +6,7 @@
 
 For whoever changes the search: without its step a script takes several times as long (docs/grades.md says which, and what
 shows the other steps). With --beside a second program plays the same script: it is to give the same replies, and the line
-ends in `slow` where PROGRAM takes three times as long. PROGRAM is the program as `rt build` or `./feather` leaves it;
+ends in `slow` where PROGRAM takes three times as long. PROGRAM is the program as `rt run` or `./feather` leaves it;
 without it `./feather` is used, which builds it once.
 """
 
