@@ -15,7 +15,7 @@ import os
 import random
 import sys
 
-from shapes import ROOT, compared
+from shapes import ROOT, asked, chosen, compared
 
 
 class Script:
@@ -133,10 +133,9 @@ def main():
     args.add_argument("--patches", type=int, default=50_000, metavar="N", help="how many patches are made")
     args.add_argument("--only", metavar="NAME[,NAME]", help=", ".join(shape.__name__ for shape in SHAPES))
     args.add_argument("program", nargs="?", metavar="PROGRAM", default=os.path.join(ROOT, "feather"))
-    known = args.parse_args()
-    only = known.only.split(",") if known.only else [shape.__name__ for shape in SHAPES]
+    known = asked(args)
     bad = 0
-    for shape in [shape for shape in SHAPES if shape.__name__ in only]:
+    for shape in chosen(args, known.only, SHAPES):
         for blocks in (16, 128, 1024):
             made = Script(blocks)
             shape(made, known.patches)

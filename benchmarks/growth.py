@@ -18,7 +18,7 @@ import sys
 import tempfile
 
 from calls import Script
-from shapes import ROOT, played
+from shapes import ROOT, asked, chosen, played
 
 
 def depend(patches, size):
@@ -96,9 +96,11 @@ def row(shape, patches, programs, times):
         f"{all_of[0]:.3f} s, {all_of[1]:.0f} MB, n^{grown(part[0], all_of[0], none[0]):.2f}"
         for none, part, all_of in zip(start, few, whole)
     )
-    well = all(of[0][2] and all(other[2] == of[0][2] for other in of) for of in (few, some, whole))
+    ended = all(of[0][2] for of in (few, some, whole))
+    well = ended and all(other[2] == of[0][2] for of in (few, some, whole) for other in of)
+    wrong = "" if well else "; REPLIES DIFFER" if ended else "; FAILED"
     slow = len(programs) > 1 and whole[0][0] > 3 * whole[1][0]
-    print(f"{shape.__name__}: {says}{'' if well else '; REPLIES DIFFER'}{'; slow' if slow else ''}", flush=True)
+    print(f"{shape.__name__}: {says}{wrong}{'; slow' if slow else ''}", flush=True)
     return well
 
 
@@ -108,13 +110,11 @@ def main():
     args.add_argument("--only", metavar="NAME[,NAME]", help=", ".join(shape.__name__ for shape in SHAPES))
     args.add_argument("--best", type=int, default=3, metavar="N", help="the best of so many runs")
     args.add_argument("program", nargs="?", metavar="PROGRAM", default=os.path.join(ROOT, "feather"))
-    known = args.parse_args()
-    only = known.only.split(",") if known.only else [shape.__name__ for shape in SHAPES]
+    known = asked(args)
     programs = [known.program, *([known.beside] if known.beside else [])]
     bad = 0
-    for shape, patches in SHAPES.items():
-        if shape.__name__ in only:
-            bad += not row(shape, patches, programs, known.best)
+    for shape in chosen(args, known.only, SHAPES):
+        bad += not row(shape, SHAPES[shape], programs, known.best)
     return 1 if bad else 0
 
 

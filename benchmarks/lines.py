@@ -8,10 +8,12 @@ The last column is the exponent of growth of the time between n and 4n lines: 1 
 the script is.
 """
 
+import argparse
 import json
 import math
 import os
 import random
+import shutil
 import subprocess
 import sys
 import tempfile
@@ -167,7 +169,11 @@ def play(program, script):
 
 
 def main():
-    program = sys.argv[1] if len(sys.argv) > 1 else os.path.join(ROOT, "feather")
+    args = argparse.ArgumentParser(description=__doc__, formatter_class=argparse.RawDescriptionHelpFormatter)
+    args.add_argument("program", nargs="?", metavar="PROGRAM", default=os.path.join(ROOT, "feather"))
+    program = args.parse_args().program
+    if not shutil.which(program):
+        args.error(f"there is no program {program}")
     print(f"{'workload':<12} {'lines':>7} {'us/line':>9} {'peak MB':>8} {'refused':>8} {'exponent':>9}")
     for workload, base in WORKLOADS:
         first = None

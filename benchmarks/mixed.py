@@ -16,7 +16,7 @@ import os
 import random
 import sys
 
-from shapes import ROOT, compared
+from shapes import ROOT, asked, compared
 
 EVERY = ("patch", "patch", "empty", "gate", "depend", "seal", "write", "write", "done", "done", "pick", "choose", "place")
 GROUPS = ("group", "group_patch", "group_patch", "group_after", "group_close")
@@ -106,7 +106,7 @@ def main():
     args.add_argument("first", type=int, metavar="FIRST", help="the first seed")
     args.add_argument("last", type=int, metavar="LAST", help="the last seed")
     args.add_argument("program", nargs="?", metavar="PROGRAM", default=os.path.join(ROOT, "feather"))
-    known = args.parse_args()
+    known = asked(args)
     bad = 0
     for seed in range(known.first, known.last + 1):
         mix = Mix(seed, known.without.split(","))

@@ -19,6 +19,7 @@ import argparse
 import hashlib
 import os
 import random
+import shutil
 import subprocess
 import sys
 import tempfile
@@ -288,6 +289,26 @@ def compared(name, program, beside, words, lines, says=""):
     return well
 
 
+def asked(args):
+    """The words; a program that is not there is refused, and seeds that go down."""
+    known = args.parse_args()
+    for program in (known.program, known.beside):
+        if program and not shutil.which(program):
+            args.error(f"there is no program {program}")
+    if getattr(known, "last", None) is not None and known.last < known.first:
+        args.error("LAST is less than FIRST")
+    return known
+
+
+def chosen(args, only, shapes):
+    """The shapes that --only names, or all; a name of none is refused."""
+    named = {shape.__name__: shape for shape in shapes}
+    for name in only.split(",") if only else ():
+        if name not in named:
+            args.error(f"there is no script {name}")
+    return [shape for name, shape in named.items() if not only or name in only.split(",")]
+
+
 def main():
     args = argparse.ArgumentParser(description=__doc__, formatter_class=argparse.RawDescriptionHelpFormatter)
     args.add_argument("--beside", metavar="PROGRAM", help="a second program, whose replies are to be the same")
@@ -296,7 +317,7 @@ def main():
     args.add_argument("first", type=int, nargs="?", metavar="FIRST", help="the first seed")
     args.add_argument("last", type=int, nargs="?", metavar="LAST", help="the last seed")
     args.add_argument("program", nargs="?", metavar="PROGRAM", default=os.path.join(ROOT, "feather"))
-    known = args.parse_args()
+    known = asked(args)
     if known.script is not None:
         shape = Shape(known.script, known.lines)
         print(" ".join(shape.words()), file=sys.stderr)

@@ -20,7 +20,7 @@ import random
 import subprocess
 import sys
 
-from shapes import ROOT, compared
+from shapes import ROOT, asked, compared
 
 SIZE = 256
 
@@ -169,7 +169,7 @@ def main():
     args.add_argument("first", type=int, metavar="FIRST", help="the first seed")
     args.add_argument("last", type=int, metavar="LAST", help="the last seed")
     args.add_argument("program", nargs="?", metavar="PROGRAM", default=os.path.join(ROOT, "feather"))
-    known = args.parse_args()
+    known = asked(args)
     bad = 0
     for seed in range(known.first, known.last + 1):
         work = Work(seed, known.patches, known.program, known.flights)

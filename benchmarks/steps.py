@@ -15,7 +15,7 @@ import os
 import sys
 
 from calls import Script
-from shapes import ROOT, compared
+from shapes import ROOT, asked, chosen, compared
 
 MANY = 20_000
 
@@ -186,10 +186,9 @@ def main():
     args.add_argument("--beside", metavar="PROGRAM", help="a second program, whose replies are to be the same")
     args.add_argument("--only", metavar="NAME[,NAME]", help=", ".join(shape.__name__ for shape in SHAPES))
     args.add_argument("program", nargs="?", metavar="PROGRAM", default=os.path.join(ROOT, "feather"))
-    known = args.parse_args()
-    only = known.only.split(",") if known.only else [shape.__name__ for shape in SHAPES]
+    known = asked(args)
     bad = 0
-    for shape in [shape for shape in SHAPES if shape.__name__ in only]:
+    for shape in chosen(args, known.only, SHAPES):
         made = shape()
         name = f"{shape.__name__}, {len(made.lines)} lines"
         bad += not compared(name, known.program, known.beside, made.words, [*made.lines, '{"do":"stat"}'])
