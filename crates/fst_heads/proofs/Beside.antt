@@ -1,7 +1,7 @@
 -- What calls leave of the count of patches that are not on disk.
-use Rattle.fst_heads.proofs.Basics.{cond_both, ◌≡◌, ℕ, ◌+◌, ◌-◌, ◌≤◌, ◌==◌, Bool, true, false, cond, List, [], ◌∷◌, ◌++◌, map, filter, length, count_by, refl, sym, ap, subst, ◌∙◌, inl, inr, arith, cases_Bool, length-map, count_by-le-length, rules, suc, ◌<◌, not, AllPairs, cases_eq, false≢true, common_steps}
+use Rattle.fst_heads.proofs.Basics.{cond_both, ◌≡◌, ℕ, ◌+◌, ◌-◌, ◌≤◌, ◌==◌, Bool, true, false, cond, List, [], ◌∷◌, ◌++◌, map, filter, count_by, refl, sym, ap, subst, ◌∙◌, inl, inr, arith, cases_Bool, rules, suc, ◌<◌, not, AllPairs, cases_eq, false≢true, common_steps}
 use Rattle.fst_heads.proofs.Patches.{max_heads, Place, gains, Patch, is_among, is_at, is_live, In, In-from_Contains, Contains-from_In}
-use Rattle.fst_heads.proofs.Words.{Head, patch_of, patches_of, Beside, Node, node_of, nodes_of, at_number, linked_to, AreSettled, is_waiting, seals, Pending, patches_in, is_pending, Sinks, is_told, now, settles, heard}
+use Rattle.fst_heads.proofs.Words.{Head, patches_of, Beside, Node, nodes_of, at_number, linked_to, AreSettled, is_waiting, seals, Pending, patches_in, is_pending, Sinks, is_told, now, settles, heard}
 use Rattle.fst_heads.proofs.{Added.{new_node, with_node}, AtNumber.{patches_in_nodes, at_same, at_other}, CountsAs.{count_append, count_cons, count_kept, count_map}}
 use Rattle.fst_heads.proofs.Forgetting.{live_place_of}
 use Rattle.fst_heads.proofs.Patches.place
@@ -100,18 +100,6 @@ beside_depends heads blocks live reached g names B = search (rules, count_map)
 -- those on disk are forgotten
 pub beside_dropped : (heads : List Patch) (blocks live : ℕ) (reached : List Bool) → Beside heads blocks live reached → Beside (filter is_live heads) blocks live reached
 beside_dropped heads blocks live reached B = record { places = B.places; counted = B.counted ∙ sym (count_kept is_live is_live heads (λ p e. e)); few = B.few }
-
--- where as many are not on disk as there are patches, none is forgotten
-pub all_live : (heads : List Head) → count_by is_live (patches_of heads) ≡ length heads → nodes_of heads ≡ filter (λ x. is_live x.patch) (nodes_of heads)
-all_live [] same = refl
-all_live (h ∷ hs) same =
-    let first = count_cons is_live (patch_of h) (patches_of hs) in
-    elim (cases_Bool (is_live (patch_of h))) [
-      | inl e ↦
-          let rest = all_live hs (omega (arith, same, first, ap (λ t. one_if t) e)) in
-          rw e (ap (λ xs. node_of h ∷ xs) rest)
-      | inr e ↦ let none = ap (λ t. one_if t) e in absurd (omega (arith, same, first, none, count_by-le-length is_live (patches_of hs), length-map hs patch_of))
-    ]
 
 -- a seal tells nobody by itself
 pub sealed_told : (g : ℕ) (x : Node) → (at_number g seals x).pending ≡ x.pending

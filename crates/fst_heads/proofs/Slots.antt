@@ -103,9 +103,6 @@ direct_slot heads q r e = let t = slot_in heads e.patch e.head in (t.0, subst (�
 pub has_at : (heads : List Head) (marks : List Bool) (n s : ℕ) → IsRising heads → HasSlot heads n s → Has heads marks n → get_or marks s false ≡ true
 has_at heads marks n s rising slot h = subst (λ k. get_or marks k false ≡ true) (slot_unique heads n h.slot s rising h.at slot) h.marked
 
-pub has_none : (heads : List Head) (marks : List Bool) (n : ℕ) → HasNone heads n → Has heads marks n → ⊥
-has_none heads marks n none h = none_slot heads n h.slot none h.at
-
 -- heads rise as their patches do
 pub rising_heads : (heads : List Head) → Rising (patches_of heads) → IsRising heads
 rising_heads heads rising = rising_back patch_of heads (λ h. h.number) (λ p. p.number) (λ h. refl) rising
