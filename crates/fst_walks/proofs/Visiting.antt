@@ -122,13 +122,6 @@ visits_next P L done n old mid new to from v w =
     (λ m k. (subst (Contains (done ++ n ∷ [])) (sym k.0) (Contains-push done n), subst P (sym k.0) (from (subst L k.0 k.1))))
     v w
 
-pub visits_skip : (P : ℕ → Type 0) (done : List ℕ) (n : ℕ) (old new : List ℕ) → (P n → ⊥) → Visits (λ m. Contains done m × P m) old new → Visits (λ m. Contains (done ++ n ∷ []) m × P m) old new
-visits_skip P done n old new none v =
-    visits_same (λ m. Contains done m × P m) (λ m. Contains (done ++ n ∷ []) m × P m) old new
-    (λ m k. (Contains-append_left done (n ∷ []) m k.0, k.1))
-    (λ m k. elim (Contains-push_cases done n m k.0) [ inl c ↦ (c, k.1) | inr e ↦ absurd (none (subst P (sym e) k.1)) ])
-    v
-
 -- what is visited besides has no Q, nor had what there was before
 pub still_apart : (P Q : ℕ → Type 0) (old new : List ℕ) (from : ℕ) → Visits P old new → from ≡ length old → ((n : ℕ) → Contains old n → Q n → ⊥)
     → ((at : ℕ) → from ≤ at → at < length new → Q (get_or new at 0) → ⊥) → (n : ℕ) → Contains new n → Q n → ⊥
