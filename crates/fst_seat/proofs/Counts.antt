@@ -1,7 +1,7 @@
 -- Counts and sums over a list, by the places of its items.
 use Rattle.std.proofs.Common.{◌≡◌, ◌<◌, ◌≤◌, ◌+◌, ℕ, zero, suc, Bool, true, false, cond, List, [], ◌∷◌, map, Some, refl, sym, ap, subst, ◌∙◌, inl, inr, arith, length, slice_get, count_by, sum_by}
 use Rattle.std.proofs.lemmas.Bool.{cases_Bool, cases_eq}
-use Rattle.std.proofs.lemmas.List.Sums.{count_by-le-length, sum_by-cons}
+use Rattle.std.proofs.lemmas.List.Sums.{sum_by-cons}
 use Rattle.std.proofs.lemmas.Option.{same_Some}
 use Rattle.fst_types.specs.Counts.{count_below}
 
@@ -111,23 +111,3 @@ one_more P xs n x at_n not_x before k y lt at_k holds =
       | inl here ↦ not_x (subst P (same_Some y x (sym at_k ∙ (ap (slice_get xs) here ∙ at_n))) holds)
       | inr else_where ↦ before k y (omega (arith, lt, else_where)) at_k holds
     ]
-
-one_most : (b : Bool) → cond b 1 0 ≤ 1
-one_most true = omega arith
-one_most false = omega arith
-
-none_then : (b : Bool) → b ≡ false → cond b 1 0 ≤ 0
-none_then true e = cc
-none_then false e = omega arith
-
-count_cons : {X : Type 0} (f : X → Bool) (x : X) (xs : List X) → count_by f (x ∷ xs) ≤ 1 + count_by f xs
-count_cons f x xs = omega (arith, counted f x xs, one_most (f x))
-
--- where one does not pass, fewer pass than there are
-pub count_fewer : {X : Type 0} (f : X → Bool) (xs : List X) (k : ℕ) (x : X) → slice_get xs k ≡ Some x → f x ≡ false → count_by f xs < length xs
-count_fewer f [] k x at fails = cc
-count_fewer f (y ∷ ys) zero x at fails =
-    let same : f y ≡ false = ap f (same_Some y x at) ∙ fails in
-    let c = counted f y ys in
-    omega (arith, c, none_then (f y) same, count_by-le-length f ys)
-count_fewer f (y ∷ ys) (suc k) x at fails = omega (arith, count_cons f y ys, count_fewer f ys k x at fails)

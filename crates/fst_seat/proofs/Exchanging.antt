@@ -154,21 +154,6 @@ module _ (order at : List ℕ) (I : AreInverse order at) (i j a b : ℕ) (at_i :
             ]
           ]
 
--- each number at its own place, both ways
-pub own_inverse : (order at : List ℕ) (n : ℕ) → length order ≡ n → length at ≡ n → ((k : ℕ) → k < n → slice_get order k ≡ Some k) → ((k : ℕ) → k < n → slice_get at k ≡ Some k) → AreInverse order at
-own_inverse order at n long_order long_at own_order own_at = record {
-  long = long_order ∙ sym long_at;
-  forth = λ k b e. own order at long_order own_order own_at k b e;
-  back = λ b k e. own at order long_at own_at own_order b k e;
-}
-  where
-    own : (xs ys : List ℕ) → length xs ≡ n → ((k : ℕ) → k < n → slice_get xs k ≡ Some k) → ((k : ℕ) → k < n → slice_get ys k ≡ Some k)
-        → (k b : ℕ) → slice_get xs k ≡ Some b → slice_get ys b ≡ Some k
-    own xs ys long own_x own_y k b e =
-        let lt : k < n = rw long at (slice_get_within xs k b e) in
-        let same : b ≡ k = same_Some b k (sym e ∙ own_x k lt) in
-        ap (slice_get ys) same ∙ own_y k lt
-
 -- two that are both among the first n, or both after them: the first are the same as they were
 pub first_stay : (n i j : ℕ) (at : List ℕ) → nat_lt i n ≡ nat_lt j n → are_first n (map (exchanged i j) at) ≡ are_first n at
 first_stay n i j [] same = refl

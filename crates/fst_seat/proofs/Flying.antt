@@ -1,7 +1,6 @@
 -- How many blocks are in flight, as seats change.
-use Rattle.std.proofs.Common.{◌≡◌, ◌≤◌, ◌+◌, ℕ, Bool, cond, List, [], ◌∷◌, Option, Some, None, is_some, refl, sym, ap, ◌∙◌, arith, length, slice_get, slice_set, count_by}
-use Rattle.std.proofs.lemmas.List.{length-map}
-use Rattle.std.proofs.lemmas.List.Sums.{sum_by-set, count_by-le-length}
+use Rattle.std.proofs.Common.{◌≡◌, ◌+◌, ℕ, Bool, cond, List, [], ◌∷◌, Option, Some, None, is_some, refl, sym, ap, ◌∙◌, arith, slice_get, slice_set, count_by}
+use Rattle.std.proofs.lemmas.List.Sums.{sum_by-set}
 use Rattle.std.proofs.lemmas.Option.{get_or_from_slice_get, slice_get_within}
 use Rattle.fst_types.specs.State.{Flight, BlockState}
 use Rattle.fst_seat.specs.Seats.{SeatView, blocks, seats_of}
@@ -9,13 +8,6 @@ use Rattle.fst_seat.proofs.Counts.{count_mapped}
 
 abbrev pub flying_in : List SeatView → ℕ
 flying_in seats = count_by (λ (v : BlockState). is_some v.flight) (blocks seats)
-
--- no more than there are
-pub few_flying : (seats : List SeatView) → flying_in seats ≤ length seats
-few_flying seats =
-    let most = count_by-le-length (λ (v : BlockState). is_some v.flight) (blocks seats) in
-    let many = length-map seats (λ (t : SeatView). t.block) in
-    omega (arith, most, many)
 
 module _ (seats : List SeatView) (b : ℕ) (seat new : SeatView) (at_b : slice_get seats b ≡ Some seat) where
   -- the seat of block b changes
