@@ -1,5 +1,5 @@
 -- What is refused of a part is refused of what is made of it.
-use Rattle.std.proofs.Common.{◌≡◌, ℕ, List, Option, None, Some, option_map, option_and_then, Result, Ok, Err, sym, ap, ◌∙◌, subst}
+use Rattle.std.proofs.Common.{◌≡◌, ℕ, List, Option, None, Some, option_map, option_and_then, Result, Ok, Err, sym, ap, subst}
 use Rattle.std.specs.Prelude.{ok_or}
 use Rattle.fst_types.specs.declared.fault.Fault.{Fault}
 use Rattle.fst_types.specs.declared.fault.Fault.TheVariants as fault
@@ -18,9 +18,6 @@ Refuses-then f _ o h = absurd h
 -- what a name reads, where it is a word
 pub Gives-at : {X Y : Type 0} (v : X → Y) (F : List ℕ → Option Y) (r : Result X Fault) {word name : List ℕ} → name ≡ word → Gives v r (F word) → Gives v r (F name)
 Gives-at v F r e h = subst (λ n. Gives v r (F n)) (sym e) h
-
-pub reads-at : {Y : Type 0} (F : List ℕ → Option Y) (y : Y) {word name : List ℕ} → name ≡ word → F word ≡ Some y → F name ≡ Some y
-reads-at F y e h = ap F e ∙ h
 
 -- what is not there is refused as that
 pub Gives-ok_or : {X Y : Type 0} (v : X → Y) (o : Option X) (r : Result X Fault) (read : Option Y) → r ≡ ok_or o fault.BadField → option_map v o ≡ read → Gives v r read
