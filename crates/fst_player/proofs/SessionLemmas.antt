@@ -14,10 +14,6 @@ use Rattle.fst_player.specs.declared.session.Session.{Session}
 use Rattle.fst_player.proofs.StreamLemmas.{IsText, parted-text, parted-end, ended-append, last_line-some}
 use Rattle.fst_player.proofs.RunLemmas.{Run-append, Run-one, Run-total}
 
-pub Leads-nil : (s : Session) (a : Option (List ℕ)) → Leads s [] a a s
-Leads-nil s a origin given sent at =
-    ([], Appends-nil a, subst (λ (x : List ℕ). IsAt origin x (sent ++ []) s) (sym (append-nil given)) (subst (λ (x : List ℕ). IsAt origin given x s) (sym (append-nil sent)) at))
-
 pub Leads-then : (s t u : Session) (p q : List ℕ) (a b c : Option (List ℕ)) → Leads s p a b t → Leads t q b c u → Leads s (p ++ q) a c u
 Leads-then s t u p q a b c f h origin given sent at =
     let first = f origin given sent at in
