@@ -1,10 +1,9 @@
 -- What `clap`'s errors say of the words, and how a play and a crew end well.
-use Rattle.std.proofs.Common.{◌≡◌, ◌≢◌, ◌*◌, ℕ, List, Result, Ok, Err, IsOk, OnOk, refl, sym, subst, inl, inr, ◌∙◌}
+use Rattle.std.proofs.Common.{◌≡◌, ◌≢◌, ◌*◌, ℕ, List, Result, Ok, Err, IsOk, OnOk, refl, subst, inl, inr}
 use Rattle.std.proofs.lemmas.Bool.{false≢true}
 use Rattle.clap.specs.declared.error.Error.{Error}
-use Rattle.clap.specs.declared.error.kind.ErrorKind.{ErrorKind}
 use Rattle.clap.specs.declared.error.kind.ErrorKind.TheVariants.{DisplayHelp, OutOfMemory}
-use Rattle.clap.specs.Words.{HasKind, IsAmong, Text, fault_of, kind_of}
+use Rattle.clap.specs.Words.{HasKind, Text, fault_of, kind_of}
 use Rattle.fst_types.specs.declared.shape.Shape.{Shape}
 use Rattle.fst_crew.specs.Crewing.{told}
 use Rattle.fst_program.specs.Arguments.{Asks}
@@ -14,14 +13,7 @@ use Rattle.fst_player.specs.Script.{PlayerState, opened, IsScriptRun}
 use Rattle.fst_player.specs.Stream.{lines}
 use Rattle.fst_program.specs.declared.arguments.Run.{Run}
 use Rattle.fst_player.specs.declared.play.PlayFault.{PlayFault}
-use Rattle.fst_program.specs.Status.{AreRefused, AsksHelp}
-
-other_kind : OutOfMemory ≡ DisplayHelp → ⊥
-other_kind e = cc
-
-pub help_asked : (words : List Text) (e : Error) → HasKind (fault_of program words) e → kind_of e ≡ DisplayHelp → AsksHelp words
-help_asked words e (inl memory) help = absurd (other_kind (sym memory ∙ help))
-help_asked words e (inr among) help = subst (λ (k : ErrorKind). IsAmong k (fault_of program words)) help among
+use Rattle.fst_program.specs.Status.{AreRefused}
 
 pub fault_found : (words : List Text) (e : Error) → HasKind (fault_of program words) e → kind_of e ≢ DisplayHelp → kind_of e ≢ OutOfMemory → AreRefused words
 fault_found words e (inl memory) no_help no_memory = absurd (no_memory memory)
