@@ -6,7 +6,7 @@ use Rattle.fst_types.proofs.Issuing.{among_in, in_among}
 use Rattle.std.proofs.Common.{Bool, true, false, ◌-◌, ◌++◌, take, drop, drop-cons, length-append, length-take-le, append_assoc, add-one, ◌≡◌, ℕ, suc, ◌+◌, ◌<◌, ◌≤◌, List, [], ◌∷◌, length, map, get_or, All, Contains, refl, sym, ap, subst, ◌∙◌, inl, inr, arith}
 use Rattle.std.specs.List.{Any}
 use Rattle.std.specs.List.Sorted.{IsStrictlyIncreasing}
-use Rattle.std.proofs.lemmas.List.{get_or-map, take_at, drop_at, take_more, append-nil, take_all, drop_all}
+use Rattle.std.proofs.lemmas.List.{get_or-map, take_at, drop_at, take_more}
 use Rattle.std.proofs.lemmas.List.Elements.{All-contains, All-map, All-weaker}
 use Rattle.fst_types.specs.declared.number.PatchNo.{PatchNo}
 use Rattle.fst_types.specs.declared.grade.Grade.TheVariants as grade
@@ -110,7 +110,3 @@ module _ (chosen : List PatchNo) (end ps : List BlockPatch) (k : ℕ) (leaves : 
     where
       rest_stays : is_chosen chosen p ≡ false → others_of chosen (p ∷ drop (suc k) ps) ≡ p ∷ others_of chosen (drop (suc k) ps)
       rest_stays h = rw h refl
-
-pub leaves_all : (chosen : List PatchNo) (end ps : List BlockPatch) (k : ℕ) → Leaves chosen end ps k → length ps ≤ k → ps ≡ end
-leaves_all chosen end ps k leaves past =
-    sym (append-nil ps) ∙ (ap (λ xs. xs ++ []) (sym (take_all k ps past)) ∙ (ap (λ xs. take k ps ++ others_of chosen xs) (sym (drop_all k ps past)) ∙ leaves.leads))
