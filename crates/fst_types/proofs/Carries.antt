@@ -1,7 +1,6 @@
 -- What a step does to the patches that were there: each stays what it is, and only a landing brings changes to the disk.
 use Rattle.std.proofs.Common.{◌≡◌, ◌⊎◌, ℕ, ◌+◌, ◌<◌, ◌≤◌, List, [], ◌∷◌, ◌++◌, length, map, Contains, Some, None, refl, sym, ap, subst, ◌∙◌, inl, inr, arith}
 use Rattle.std.proofs.lemmas.List.Elements.{Contains-push_cases}
-use Rattle.fst_types.specs.declared.place.Place.{Place}
 use Rattle.fst_types.specs.declared.place.Place.TheVariants as place
 use Rattle.fst_types.specs.Patches.{SealedGate, Patch, IsOn, IsLive, block_of_kind, at_of}
 use Rattle.fst_types.specs.State.{State}
@@ -21,6 +20,7 @@ use Rattle.fst_types.proofs.Issuing.{launched_cases}
 use Rattle.fst_types.proofs.Sealing.{sealed_cases}
 use Rattle.fst_types.proofs.Depending.{grown}
 use Rattle.fst_types.proofs.Loosened.{loosened}
+use Rattle.fst_types.proofs.Numbers.{memory_disk, flight_disk}
 
 -- head p of s is the change c as it was made
 pub record IsMadeAs (s : State) (c : ChangeMade) (p : Patch) : Type 0 where
@@ -97,12 +97,6 @@ go_cascade old new cascade = record {
   back = λ p h. let r = settled_back old new cascade p h in (r.0, r.1, goes_settled r.0 p r.2);
   forth = λ o h. let r = settled_on old new cascade o h in (r.0, r.1, goes_settled o r.0 r.2);
 }
-
-memory_disk : (x : Place) → x ≡ place.Memory → x ≡ place.Disk → ⊥
-memory_disk x a b = cc
-
-flight_disk : (x : Place) → x ≡ place.Flight → x ≡ place.Disk → ⊥
-flight_disk x a b = cc
 
 pub goes_launched : (old : List Patch) (numbers b : ℕ) (chosen : List ℕ) → HeadsAreLawful old numbers → IsWritable old b → IsWritableSet old b chosen → (o : Patch) → Contains old o → Goes Never o (launched chosen o)
 goes_launched old numbers b chosen H writable choice o h =

@@ -21,7 +21,8 @@ use Rattle.fst_types.specs.Refusals.{IsFirst}
 use Rattle.fst_types.specs.Order.{order}
 use Rattle.fst_types.specs.Events.{Depend, Seal, Issue, GroupAfter, GroupPatch}
 use Rattle.fst_types.proofs.Finite.{In-from_Contains}
-use Rattle.fst_types.proofs.SmallStates.{AllOf, each_of, only_in, down, true_false, not_direct, none_above, one_name, patch_of, group_of, state_of}
+use Rattle.fst_types.proofs.SmallStates.{AllOf, each_of, only_in, down, not_direct, none_above, one_name, patch_of, group_of, state_of}
+use Rattle.fst_types.proofs.Numbers.{clash}
 
 -- {"do":"group"} -> group 1: a head gate, and a tail gate after it
 abbrev first_gates : List Patch
@@ -36,7 +37,7 @@ first_group = record {
     tail = record { next = refl; added = refl };
     tie = record {
       gate = record { patch = patch_of 2 OpenGate place.Memory []; head = (1, omega arith, refl); numbered = refl; is_open = refl };
-      clear = none_above first_gates 2 1 (λ e. omega (arith, e)) (λ d. true_false (nat_le 2 1) (down (λ x. nat_le x 1) first_gates refl 1 2 d refl) refl);
+      clear = none_above first_gates 2 1 (λ e. omega (arith, e)) (λ d. clash (nat_le 2 1) (down (λ x. nat_le x 1) first_gates refl 1 2 d refl) refl);
       names = 1 ∷ [];
       live = one_name first_gates 2 1 (record { patch = patch_of 1 OpenGate place.Memory []; head = (0, omega arith, refl); numbered = refl; live = λ e. cc }) (not_direct first_gates 2 1 refl);
       gained = refl;
@@ -59,7 +60,7 @@ put_after = record {
     named = ((0, omega arith, refl), refl);
     tie = record {
       gate = record { patch = patch_of 3 OpenGate place.Memory []; head = (2, omega arith, refl); numbered = refl; is_open = refl };
-      clear = none_above two_groups 3 2 (λ e. omega (arith, e)) (λ d. true_false (nat_le 3 2) (down (λ x. nat_le x 2) two_groups refl 2 3 d refl) refl);
+      clear = none_above two_groups 3 2 (λ e. omega (arith, e)) (λ d. clash (nat_le 3 2) (down (λ x. nat_le x 2) two_groups refl 2 3 d refl) refl);
       names = 2 ∷ [];
       live = one_name two_groups 3 2 (record { patch = patch_of 2 OpenGate place.Memory (1 ∷ []); head = (1, omega arith, refl); numbered = refl; live = λ e. cc }) (not_direct two_groups 3 2 refl);
       gained = refl;
@@ -148,7 +149,7 @@ first_member = record {
     change = make_fifth;
     tie = record {
       gate = record { patch = patch_of 4 OpenGate place.Memory (3 ∷ []); head = (3, omega arith, refl); numbered = refl; is_open = refl };
-      clear = none_above with_fifth 4 5 (λ e. omega (arith, e)) (λ d. true_false (not (4 == 4)) (down (λ x. not (x == 4)) with_fifth refl 5 4 d refl) refl);
+      clear = none_above with_fifth 4 5 (λ e. omega (arith, e)) (λ d. clash (not (4 == 4)) (down (λ x. not (x == 4)) with_fifth refl 5 4 d refl) refl);
       names = 5 ∷ [];
       live = one_name with_fifth 4 5 (record { patch = fifth; head = (4, omega arith, refl); numbered = refl; live = λ e. cc }) (not_direct with_fifth 4 5 refl);
       gained = refl;
@@ -263,7 +264,7 @@ with_closed = state_of 6 closed_heads ((5, 66 ∷ []) ∷ (6, 65 ∷ []) ∷ [])
 may_go : (p : Patch) → IsInMemoryOn closed_heads 1 p → not (p.number == 4) ≡ true → InWritableSet closed_heads 1 p
 may_go p i other = record {
   in_memory = i;
-  free = λ b. true_false (not (b.gate.number == 4)) (down (λ x. not (x == 4)) closed_heads refl p.number b.gate.number b.depends other) (ap (λ x. not (x == 4)) (fourth b.gate b.head b.is_open));
+  free = λ b. clash (not (b.gate.number == 4)) (down (λ x. not (x == 4)) closed_heads refl p.number b.gate.number b.depends other) (ap (λ x. not (x == 4)) (fourth b.gate b.head b.is_open));
   needs = λ q c n. inr (all_here q n.head c n.change);
 }
   where

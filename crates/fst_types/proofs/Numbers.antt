@@ -50,10 +50,10 @@ number_cases u heads n =
         passing : (y : Patch) → y.number ≡ n → u y ≡ true → (y.number == n && u y) ≡ true
         passing y e t = grind (arith, e, t)
 
-live_test : (x : Place) → not (is_at x place.Disk) ≡ true → x ≡ place.Disk → ⊥
-live_test place.Memory e d = cc
-live_test place.Flight e d = cc
-live_test place.Disk e d = cc
+pub not_disk : (x : Place) → not (is_at x place.Disk) ≡ true → x ≡ place.Disk → ⊥
+not_disk place.Memory e d = cc
+not_disk place.Flight e d = cc
+not_disk place.Disk e d = cc
 
 test_live : (x : Place) → (not (is_at x place.Disk) ≡ true → ⊥) → x ≡ place.Disk
 test_live place.Memory e = absurd (e refl)
@@ -92,7 +92,7 @@ one_block o b c e f = cc
 pub live_cases : (heads : List Patch) (n : ℕ) → ((p : Patch) × Contains heads p × (p.number ≡ n) × IsLive p × (is_live_number heads n ≡ true)) ⊎ (IsOnDisk heads n × (is_live_number heads n ≡ false))
 live_cases heads n =
     elim (number_cases is_live heads n) [
-      | inl r ↦ inl (r.0, r.1, r.2, live_test r.0.place r.3, r.4)
+      | inl r ↦ inl (r.0, r.1, r.2, not_disk r.0.place r.3, r.4)
       | inr m ↦ inr (λ p h e. test_live p.place (m.0 p h e), m.1)
     ]
 

@@ -12,6 +12,7 @@ use Rattle.fst_types.proofs.Finite.{In-from_Contains, Contains-from_In}
 use Rattle.fst_types.proofs.Ascends.{ascends_from, same_items}
 use Rattle.fst_types.proofs.Crash.{on_disk, same_number}
 use Rattle.fst_types.proofs.Cascades.{Settled, settled_back, settled_on, kept_place, kept_open, no_follower_on, kind_cases, arrived}
+use Rattle.fst_types.proofs.Numbers.{memory_disk}
 
 map_self : {X : Type 0} (xs : List X) → map (λ x. x) xs ≡ xs
 map_self [] = refl
@@ -33,9 +34,6 @@ patch_of n k x ds = record { number = n; kind = k; place = x; dependencies = ds 
 
 patch_same : (n m : ℕ) (k l : Kind) (x y : Place) (ds es : List ℕ) → n ≡ m → k ≡ l → x ≡ y → ds ≡ es → patch_of n k x ds ≡ patch_of m l y es
 patch_same n m k l x y ds es a b c d = ap (λ z. patch_of z k x ds) a ∙ (ap (λ z. patch_of m z x ds) b ∙ (ap (λ z. patch_of m l z ds) c ∙ ap (λ z. patch_of m l y z) d))
-
-memory_disk : (x : Place) → x ≡ place.Memory → x ≡ place.Disk → ⊥
-memory_disk x a b = cc
 
 -- what is on disk after one cascade is after the other
 module _ (mid A B : List Patch) (numbers : ℕ) (ca : IsCascadeOf mid A) (cb : IsCascadeOf mid B) (HA : SparseAreLawful A numbers) (HB : SparseAreLawful B numbers) where

@@ -50,9 +50,6 @@ down t heads passing a b (one d) e =
     (passes (t d.patch.number) (list_all t d.patch.dependencies) (ap t d.numbered ∙ e) (all_in (λ p. not (t p.number) || list_all t p.dependencies) heads d.patch (In-from_Contains heads d.patch d.head) passing))
 down t heads passing a b (join {q = m} d f) e = down t heads passing m b f (down t heads passing a m d e)
 
-pub true_false : (x : Bool) → x ≡ true → x ≡ false → ⊥
-true_false x a b = cc
-
 -- n is not among what g directly depends on
 pub not_direct : (heads : List Patch) (g n : ℕ) → list_all (λ p. not (p.number == g) || not (is_among p.dependencies n)) heads ≡ true → DirectlyOn heads g n → ⊥
 not_direct heads g n none d =
