@@ -1,5 +1,5 @@
 -- A change goes from memory to flight to disk, and no other way.
-use Rattle.std.proofs.Common.{◌≡◌, ◌⊎◌, ℕ, ◌<◌, true, List, [], ◌∷◌, ◌++◌, length, map, filter, Contains, Some, None, refl, sym, ap, subst, ◌∙◌, inl, inr, arith}
+use Rattle.std.proofs.Common.{◌≡◌, ◌⊎◌, ℕ, ◌<◌, true, List, [], ◌∷◌, ◌++◌, length, map, filter, Contains, Some, refl, sym, ap, subst, ◌∙◌, inl, inr, arith}
 use Rattle.std.proofs.lemmas.List.Elements.{Contains-push_cases}
 use Rattle.fst_types.specs.declared.place.Place.TheVariants as place
 use Rattle.fst_types.specs.Patches.{Kind, Empty, Patch, IsOn, IsLive, block_of_kind}
@@ -24,7 +24,7 @@ use Rattle.fst_types.proofs.Landing.{landed_cases}
 use Rattle.fst_types.proofs.Issuing.{launched_cases}
 use Rattle.fst_types.proofs.Dropping.{filter_in}
 use Rattle.fst_types.proofs.Fits.{LieIn, lie_row}
-use Rattle.fst_types.proofs.Heads.{heads_row}
+use Rattle.fst_types.proofs.Heads.{heads_row, no_block}
 use Rattle.fst_types.proofs.Parts.{Part, gates, depends, seals, changes, made_by, parts_row}
 use Rattle.fst_types.proofs.Carries.{Carries, Never, IsFlying}
 use Rattle.fst_types.proofs.Extends.{Extends, extends_part, extends_parts}
@@ -41,9 +41,6 @@ MoveOn e old numbers new = (p : Patch) (b : ℕ) → Contains new p → IsOn p b
 
 one_block : (k : Kind) (b c : ℕ) → block_of_kind k ≡ Some b → block_of_kind k ≡ Some c → b ≡ c
 one_block k b c e f = cc
-
-no_block : (k : Kind) (b : ℕ) → block_of_kind k ≡ None → block_of_kind k ≡ Some b → ⊥
-no_block k b e f = cc
 
 move_self : (e : Event) (heads : List Patch) (numbers : ℕ) → MoveOn e heads numbers heads
 move_self e heads numbers p b h on = inl (record { before = p; head = h; same_number = refl; same_block = on; moved = stays })
