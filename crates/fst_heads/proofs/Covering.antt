@@ -1,8 +1,9 @@
 -- What the covers of the blocks keep from call to call.
+use Rattle.std.proofs.lemmas.Option.{same_Some}
 use Rattle.fst_heads.proofs.Basics.{◌≡◌, ◌⊎◌, ◌<◌, ◌≤◌, ◌+◌, ◌==◌, ◌||◌, ◌++◌, ◌∷◌, ◌∙◌, [], ℕ, true, false, nat_lt, nat_tests, List, map, filter, get_or, set, Contains, refl, sym, ap, subst, inl, inr, arith, cases_lt, cases_eq, length-set, or_parts, rules, get_or-set_other, Contains-push_cases, common_steps, Contains-append_left}
 use Rattle.fst_heads.proofs.Basics.{Contains-append_right}
 use Rattle.fst_heads.proofs.{Words.{Covering, IsOver, IsCovered, AreCovered, Covers, SaysTheSame, IsPut, newest_over, newest_in, max_from, IsSparseRow}, Newest.over_touched}
-use Rattle.fst_heads.proofs.{Leading.some_injective, Forgetting.live_place_of}
+use Rattle.fst_heads.proofs.{Forgetting.live_place_of}
 use Rattle.std.proofs.lemmas.Grind.{get_or-set_at}
 use Rattle.fst_types.specs.Closure.{one, join}
 use Rattle.fst_types.proofs.{Depending.{Grown, grown}, Alike.{Alike, at_same, len_same, on_back, on_forth, back_alike, forth_alike, closure_map}}
@@ -258,6 +259,6 @@ module _ (old : List Patch) (n b at len : ℕ) (grade : Grade) (names row : List
     long = length-set covers b cover ∙ A.long;
     each = λ c e within. elim (cases_eq c b) [
       | inl here ↦ subst (IsCovered new c) (sym (get_or-set_at covers b c cover e here (let l = A.long in omega (arith, inside, l)))) (subst (λ k. IsCovered new k cover) (sym here) own_cover)
-      | inr away ↦ subst (IsCovered new c) (sym (get_or-set_other covers b c cover e away)) (covered_beside old p c (λ on. away (sym (some_injective b c on))) (get_or covers c e) (A.each c e within))
+      | inr away ↦ subst (IsCovered new c) (sym (get_or-set_other covers b c cover e away)) (covered_beside old p c (λ on. away (sym (same_Some b c on))) (get_or covers c e) (A.each c e within))
     ];
   }

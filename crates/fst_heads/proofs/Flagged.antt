@@ -3,7 +3,7 @@ use Rattle.fst_heads.proofs.Basics.{◌≡◌, ◌≢◌, ◌<◌, ◌+◌, ◌=
 use Rattle.fst_heads.proofs.Patches.{is_among, is_live, among_in, in_among, filter_in, in_filter, In, In-map, In-unmap, In-from_Contains, Contains-from_In}
 use Rattle.fst_heads.proofs.Words.{Head, IsRising, HasSlot, HasNone, Node, node_of, nodes_of, patches_in, at_number, is_pending, is_waiting, is_forgotten_in, AreSettled, AreLanded, flags, is_landed}
 use Rattle.fst_heads.proofs.{AtNumber.{at_none, at_other, at_same, at_slot}, Beside.{is_nothing, waiting_is}, CountsAs.{count_cons, count_map, count_nothing}, Slots.rising_map}
-use Rattle.fst_heads.proofs.{Linking.{map_twice, rising_as}, Placed.{map_alike, unmapped}, Waiting.{once_fits, same_node}}
+use Rattle.fst_heads.proofs.{Linking.{map_twice, rising_as}, Placed.{among_append, map_alike, unmapped}, Waiting.{once_fits, same_node}}
 use Rattle.fst_heads.proofs.Words.pending
 
 -- it is forgotten
@@ -26,7 +26,7 @@ pub flagged_start : (nodes : List Node) → nodes ≡ map (flags []) nodes
 flagged_start [] = refl
 flagged_start (x ∷ xs) = ap (λ ys. x ∷ ys) (flagged_start xs)
 
-goes_if : (P : Node → Type 0) (t : Bool) (x : Node) → P x → P (goes x) → P (if t then goes x else x)
+pub goes_if : (P : Node → Type 0) (t : Bool) (x : Node) → P x → P (goes x) → P (if t then goes x else x)
 goes_if P true x a b = b
 goes_if P false x a b = a
 
@@ -40,18 +40,13 @@ flags_pending ns x = goes_if (λ y. y.pending ≡ x.pending) (is_among ns x.patc
 pub flags_number : (ns : List ℕ) (x : Node) → (flags ns x).patch.number ≡ x.patch.number
 flags_number ns x = ap (λ p. p.number) (flags_patch ns x)
 
--- one number more
-among_one : (ns : List ℕ) (n m : ℕ) → is_among (ns ++ n ∷ []) m ≡ (is_among ns m || (n == m))
-among_one [] n m = elim (cases_Bool (n == m)) [ inl t ↦ rw t refl | inr t ↦ rw t refl ]
-among_one (k ∷ ks) n m = elim (cases_Bool (k == m)) [ inl t ↦ rw t refl | inr t ↦ rw (t, among_one ks n m) refl ]
-
 either : (a b : Bool) (x : Node) → (if b || false then goes (if a then goes x else x) else (if a then goes x else x)) ≡ (if a || b then goes x else x)
 either true true x = refl
 either true false x = refl
 either false b x = rw (or-false b) refl
 
 step : (ns : List ℕ) (n : ℕ) (x : Node) → flags (n ∷ []) (flags ns x) ≡ flags (ns ++ n ∷ []) x
-step ns n x = grind (arith, flags_number, either, among_one)
+step ns n x = grind (arith, flags_number, either, among_append)
 
 pub flagged_more : (nodes : List Node) (ns : List ℕ) (n : ℕ) → map (flags (n ∷ [])) (map (flags ns) nodes) ≡ map (flags (ns ++ n ∷ [])) nodes
 flagged_more nodes ns n = map_twice (flags (n ∷ [])) (flags ns) (flags (ns ++ n ∷ [])) (step ns n) nodes

@@ -4,6 +4,7 @@ use Rattle.std.specs.List.Retain.{IsFiltered, ReturnsInTurn}
 use Rattle.fst_heads.proofs.Patches.{Place, Patch, IsLiveNumber, is_at, is_live, In-from_Contains, Contains-from_In, filter_in, sparse_dropped}
 use Rattle.fst_heads.proofs.Patches.place
 use Rattle.fst_heads.proofs.Words.{Head, is_live_in, Keeps, nodes_of, patch_of}
+use Rattle.fst_types.proofs.Numbers.{not_disk}
 pub use Rattle.std.proofs.lemmas.Bool.{and_parts}
 
 -- the live heads stand for the live nodes
@@ -14,10 +15,6 @@ live_heads (h ∷ hs) = grind (arith, cases_Bool, live_heads hs)
 pub live_place_of : (p : Place) → (p ≡ place.Disk → ⊥) → not (is_at p place.Disk) ≡ true
 live_place_of place.Disk n = absurd (n refl)
 live_place_of p n = refl
-
-pub not_disk : (p : Place) → not (is_at p place.Disk) ≡ true → p ≡ place.Disk → ⊥
-not_disk place.Memory e d = cc
-not_disk p e d = cc
 
 pub live_in : (heads : List Patch) (n : ℕ) → is_live_in heads n ≡ true → IsLiveNumber heads n
 live_in [] n e = absurd (false≢true e)

@@ -1,7 +1,8 @@
 -- What the walks over a row show, and the grade that follows.
+use Rattle.std.proofs.lemmas.Option.{same_Some}
 use Rattle.fst_heads.proofs.Basics.{◌≡◌, ◌≢◌, ℕ, ◌+◌, ◌≤◌, eqb, true, List, [], ◌∷◌, ◌++◌, Contains, Some, None, refl, sym, ap, subst, ◌∙◌, inl, inr, arith, eqb-true, eqb-false, eq-eqb, ne_eqb, false≢true, not-true, Contains-append_left, Contains-push, Contains-push_cases, and_parts, rules}
 use Rattle.fst_heads.proofs.Patches.{Place, Grade, Kind, Change, OpenGate, Patch, block_of_kind, DirectlyOn, DependsOn, IsOpenNumber, IsGradedHard, FollowsRule, fresh, first_step, IsWithin, old_head, target_small, depends_old, needs_old}
-use Rattle.fst_heads.proofs.{Words.{PassesAt, kind_passes, HasUnder, IsReturning, IsLeading, MayBeHard}, Slots.{live_place, place_live}, Leading.some_injective}
+use Rattle.fst_heads.proofs.{Words.{PassesAt, kind_passes, HasUnder, IsReturning, IsLeading, MayBeHard}, Slots.{live_place, place_live}}
 use Rattle.fst_types.specs.Closure.{one, join}
 use Rattle.fst_heads.proofs.Patches.place
 use Rattle.fst_heads.specs.declared.test.Test.TheVariants as test
@@ -26,7 +27,7 @@ on_from b n (Change on at len grade) p e = let k = and_parts _ _ e in (live_plac
 on_from b n k p e = absurd (false≢true e)
 
 pub on_to : (b n : ℕ) (k : Kind) (p : Place) → (p ≡ place.Disk → ⊥) → block_of_kind k ≡ Some b → kind_passes (test.LiveOn b) n k p ≡ true
-on_to b n (Change on at len grade) p live e = rw (place_live p live, eq-eqb on b (some_injective on b e)) refl
+on_to b n (Change on at len grade) p live e = rw (place_live p live, eq-eqb on b (same_Some on b e)) refl
 on_to b n k p live e = cc
 
 pub off_from : (b n : ℕ) (k : Kind) (p : Place) → kind_passes (test.LiveOff b) n k p ≡ true → (p ≡ place.Disk → ⊥) × (c : ℕ) × (block_of_kind k ≡ Some c) × (c ≢ b)
@@ -34,7 +35,7 @@ off_from b n (Change on at len grade) p e = let k = and_parts _ _ e in (live_pla
 off_from b n k p e = absurd (false≢true e)
 
 pub off_to : (b n c : ℕ) (k : Kind) (p : Place) → (p ≡ place.Disk → ⊥) → block_of_kind k ≡ Some c → c ≢ b → kind_passes (test.LiveOff b) n k p ≡ true
-off_to b n c (Change on at len grade) p live e other = rw (place_live p live, ne_eqb on b (λ s. other (sym (some_injective on c e) ∙ s))) refl
+off_to b n c (Change on at len grade) p live e other = rw (place_live p live, ne_eqb on b (λ s. other (sym (same_Some on c e) ∙ s))) refl
 off_to b n c k p live e other = cc
 
 -- what a new change depends on is under its row

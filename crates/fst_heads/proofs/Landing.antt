@@ -2,7 +2,7 @@
 use Rattle.fst_heads.proofs.Basics.{map-append, or_parts, take_more_set, take-set-le, drop-set, drop-set-lt, length-take, length-drop, take-append-drop, nil_from_length, ◌≡◌, ◌≢◌, ◌==◌, ◌&&◌, ◌||◌, ◌⊎◌, ℕ, suc, ◌<◌, ◌≤◌, ◌+◌, Bool, true, false, not, cond, List, [], ◌∷◌, ◌++◌, length, map, set, take, drop, filter, refl, sym, ap, ◌∙◌, inl, inr, subst, arith, list_any, cases_Bool, cases_eq, eq-eqb, ne_eqb, false≢true, append_assoc, length-append}
 use Rattle.fst_heads.proofs.Patches.{Place, is_at, is_on, is_change_at, is_among, In, In-map, in_filter, among_in, in_among}
 use Rattle.fst_heads.proofs.Words.{Head, Listed, lands, IsRising, patch_of, patches_of, is_live_on, entry, entries_on, entries_of, flying_on, Node, node_of, nodes_of, at_number}
-use Rattle.fst_heads.proofs.{AtNumber.{at_other, at_same}, Linking.rising_as, Placed.map_alike}
+use Rattle.fst_heads.proofs.{AtNumber.{at_other, at_same}, Linking.{none_among, rising_as}, Placed.map_alike}
 use Rattle.fst_heads.proofs.{Listing.{flies, lands_number, lands_still, still, numbers_on, numbers_above}, Passing.{passing, passes_at, passing_start}}
 use Rattle.fst_heads.proofs.Patches.place
 
@@ -37,9 +37,6 @@ among_last : (ns : List ℕ) (n m : ℕ) → is_among (ns ++ n ∷ []) m ≡ ((n
 among_last [] n m = refl
 among_last (k ∷ ks) n m = ap (λ t. (k == m) || t) (among_last ks n m) ∙ or_move (k == m) (n == m) (is_among ks m)
 
-not_among : (ns : List ℕ) (n : ℕ) → ((m : ℕ) → In ns m → m ≢ n) → is_among ns n ≡ false
-not_among ns n apart = elim (cases_Bool (is_among ns n)) [ inl e ↦ absurd (apart n (among_in ns n e) refl) | inr e ↦ e ]
-
 -- ns are the numbers of left but for n, the first or the last of them
 pub record Taken (left ns : List ℕ) (n : ℕ) : Type 0 where
   pub rises : Rises ns
@@ -49,12 +46,12 @@ pub record Taken (left ns : List ℕ) (n : ℕ) : Type 0 where
 pub taken_front : (left ns : List ℕ) (n : ℕ) → left ≡ n ∷ ns → Rises left → Taken left ns n
 taken_front left ns n e r =
     let rises : Rises (n ∷ ns) = subst Rises e r in
-    record { rises = rises.1; none = not_among ns n (λ m i same. let lt = rises.0 m i in omega (arith, lt, same)); others = λ m. ap (λ ms. is_among ms m) e }
+    record { rises = rises.1; none = none_among ns n (λ m i same. let lt = rises.0 m i in omega (arith, lt, same)); others = λ m. ap (λ ms. is_among ms m) e }
 
 pub taken_back : (left ns : List ℕ) (n : ℕ) → left ≡ ns ++ n ∷ [] → Rises left → Taken left ns n
 taken_back left ns n e r =
     let rises = rises_less ns n (subst Rises e r) in
-    record { rises = rises.0; none = not_among ns n (λ m i same. let lt = rises.1 m i in omega (arith, lt, same)); others = λ m. ap (λ ms. is_among ms m) e ∙ among_last ns n m }
+    record { rises = rises.0; none = none_among ns n (λ m i same. let lt = rises.1 m i in omega (arith, lt, same)); others = λ m. ap (λ ms. is_among ms m) e ∙ among_last ns n m }
 
 -- the numbers of a list, the last apart
 pub numbers_last : (list : List Listed) (l : Listed) → map (λ e. e.number) (entries_of (list ++ l ∷ [])) ≡ map (λ e. e.number) (entries_of list) ++ l.number ∷ []

@@ -1,15 +1,8 @@
 -- Marks by blocks that are reached, and how blocks come to be reached.
-use Rattle.fst_heads.proofs.Basics.{◌≡◌, ◌⊎◌, ℕ, ◌<◌, Bool, true, false, List, length, get_or, set, Contains, Some, MatchBool, sym, subst, ◌∙◌, arith, get_or-set_same, get_or-set_other, cases_Bool, cases_eq, sum_by-set}
-use Rattle.fst_heads.proofs.{Patches.{Patch, IsOn}, Words.{Head, IsRising, patch_of, patches_of, HasSlot, Has}}
+use Rattle.fst_heads.proofs.Basics.{◌≡◌, ◌⊎◌, ℕ, ◌<◌, Bool, true, false, List, length, get_or, set, Contains, MatchBool, sym, subst, ◌∙◌, arith, get_or-set_same, get_or-set_other, cases_Bool, cases_eq, sum_by-set}
+use Rattle.fst_heads.proofs.{Patches.{Patch}, Words.{Head, IsRising, patch_of, patches_of, HasSlot, Has}}
 use Rattle.fst_heads.proofs.Slots.{some_element, slot_in, patch_slot, patch_is}
 use Rattle.fst_heads.specs.Reaching.{IsReached, unreached, IsHardIn}
-
-pub some_injective : (a b : ℕ) → Some a ≡ Some b → a ≡ b
-some_injective a b e = cc
-
--- a patch is a change of one block
-pub one_block : (p : Patch) (b c : ℕ) → IsOn p b → IsOn p c → b ≡ c
-one_block p b c x y = some_injective b c (sym x ∙ y)
 
 -- a number is that of one patch
 pub same_patch : (heads : List Head) (p q : Patch) → IsRising heads → Contains (patches_of heads) p → Contains (patches_of heads) q → p.number ≡ q.number → p ≡ q

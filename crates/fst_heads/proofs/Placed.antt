@@ -174,7 +174,7 @@ pub launched_start : (nodes : List Node) → nodes ≡ map (launches []) nodes
 launched_start [] = refl
 launched_start (x ∷ xs) = ap (λ ys. x ∷ ys) (launched_start xs)
 
-among_append : (ns : List ℕ) (n m : ℕ) → is_among (ns ++ n ∷ []) m ≡ (is_among ns m || (n == m))
+pub among_append : (ns : List ℕ) (n m : ℕ) → is_among (ns ++ n ∷ []) m ≡ (is_among ns m || (n == m))
 among_append [] n m = elim (cases_Bool (n == m)) [ inl t ↦ rw t refl | inr t ↦ rw t refl ]
 among_append (k ∷ ks) n m = elim (cases_Bool (k == m)) [ inl t ↦ rw t refl | inr t ↦ rw (t, among_append ks n m) refl ]
 

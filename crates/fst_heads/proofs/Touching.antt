@@ -1,8 +1,9 @@
 -- What a new change depends on.
+use Rattle.std.proofs.lemmas.Option.{same_Some}
 use Rattle.fst_heads.proofs.Basics.{◌≡◌, ◌⊎◌, ℕ, ◌+◌, ◌<◌, ◌≤◌, ◌==◌, ◌&&◌, nat_lt, Bool, true, false, not, List, [], ◌∷◌, ◌++◌, Contains, Some, refl, sym, ap, subst, inl, inr, arith, None, cases_Bool, eqb-true, eq-eqb, false≢true, nat_tests, length_push, Contains-push_cases, rules, IsStrictlyIncreasing}
 use Rattle.fst_heads.proofs.Patches.{Place, Grade, Lists, Kind, Change, Empty, Patch, IsOn, IsHard, block_of_kind, at_of, len_of, IsLiveNumber, IsGradedHard, FollowsRule, SparseAreLawful, fresh, is_at, is_on, In, In-from_Contains, Contains-from_In, IsWithin, hard_kept}
 use Rattle.fst_heads.proofs.Words.{Entry, entry, is_live_on, entries_on, Gains, kind_touches, touches, shares, IsTouched, IsDependency, IsSparseRow, MayBeHard, Keeps}
-use Rattle.fst_heads.proofs.{Graded.{graded_rule, may_graded}, Making.keeps_added, Slots.{place_live, live_place}, Leading.some_injective}
+use Rattle.fst_heads.proofs.{Graded.{graded_rule, may_graded}, Making.keeps_added, Slots.{place_live, live_place}}
 use Rattle.fst_types.specs.Overlaps.{IsOverlapped}
 use Rattle.fst_types.proofs.Adding.{one_place_added, acyclic_added, on_disk_with_all_added, alone_added}
 use Rattle.fst_heads.proofs.Patches.place
@@ -20,7 +21,7 @@ touch_parts b at len Empty p e = absurd (false≢true e)
 touch_parts b at len k p e = absurd (false≢true e)
 
 pub touch_whole : (b at len : ℕ) (k : Kind) (p : Place) → (p ≡ place.Disk → ⊥) → block_of_kind k ≡ Some b → at_of k < at + len → at < at_of k + len_of k → kind_touches b at len k p ≡ true
-touch_whole b at len (Change on own_at own_len grade) p live on_b lo hi = grind (arith, whole, nat_lt, place_live, eq-eqb, some_injective, nat_tests)
+touch_whole b at len (Change on own_at own_len grade) p live on_b lo hi = grind (arith, whole, nat_lt, place_live, eq-eqb, same_Some, nat_tests)
 touch_whole b at len Empty p live on_b lo hi = cc
 touch_whole b at len k p live on_b lo hi = cc
 
@@ -32,7 +33,7 @@ module _ (heads : List Patch) (b at len number : ℕ) (grade : Grade) (deps : Li
   touched_overlaps t = grind (arith, touch_parts)
 
   pub overlaps_touched : IsOverlapped heads p n → IsTouched heads b at len n
-  overlaps_touched o = grind (arith, some_injective, touch_whole)
+  overlaps_touched o = grind (arith, same_Some, touch_whole)
 
 pub depends_exactly : (heads : List Patch) (names : List ℕ) (b at len number : ℕ) (grade : Grade) (deps row : List ℕ) → Lists (IsDependency heads names b at len) row → Lists (λ n. (IsLiveNumber heads n × Contains names n) ⊎ IsOverlapped heads (fresh number (Change b at len grade) deps) n) row
 depends_exactly heads names b at len number grade deps row l = search (rules, touched_overlaps, overlaps_touched)
@@ -146,4 +147,4 @@ module _ (heads : List Patch) (numbers blocks : ℕ) (marks : List Bool) (K : Ke
   pub keeps_change : b < blocks → (IsHard new_change → IsGradedHard heads (heads ++ new_change ∷ []) b (numbers + 1)) → Keeps (heads ++ new_change ∷ []) (numbers + 1) blocks (marks ++ false ∷ [])
   keeps_change inside graded =
       keeps_added heads numbers blocks marks K (heads ++ new_change ∷ []) (change_lawful graded) (length_push heads new_change)
-      (λ x c h on. elim (Contains-push_cases heads new_change x h) [ inl o ↦ K.inside x c o on | inr e ↦ subst (λ m. m < blocks) (some_injective b c (subst (λ y. IsOn y c) (sym e) on)) inside ])
+      (λ x c h on. elim (Contains-push_cases heads new_change x h) [ inl o ↦ K.inside x c o on | inr e ↦ subst (λ m. m < blocks) (same_Some b c (subst (λ y. IsOn y c) (sym e) on)) inside ])

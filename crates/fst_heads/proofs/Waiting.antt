@@ -69,7 +69,7 @@ heights_lower f nodes x low c less = heights_fall f nodes x (λ y i. low y (Cont
 
 -- how often a number stands in a row
 
-times_cons : (m : ℕ) (ms : List ℕ) (n : ℕ) → times (m ∷ ms) n ≡ cond (m == n) 1 0 + times ms n
+pub times_cons : (m : ℕ) (ms : List ℕ) (n : ℕ) → times (m ∷ ms) n ≡ cond (m == n) 1 0 + times ms n
 times_cons m ms n = sum_by-cons (λ k. cond (k == n) 1 0) m ms
 
 pub times_some : (ms : List ℕ) (n : ℕ) → In ms n → 0 < times ms n
