@@ -1,11 +1,12 @@
 -- A change that waits for its block alone, and for nothing in flight, is in the writable set of the block.
+use Rattle.std.proofs.lemmas.Option.{same_Some}
 use Rattle.std.proofs.Common.{◌≡◌, ◌⊎◌, ℕ, List, Contains, refl, sym, ap, subst, ◌∙◌, inl, inr}
 use Rattle.fst_types.specs.{Closure.{one, join}, Dependencies.{DirectlyOn, DependsOn, Needs}, Facts.SparseAreLawful}
 use Rattle.fst_types.specs.{Patches.{Patch, IsOn, IsOpenGate, block_of_kind}, Writable.{IsInMemoryOn, InWritableSet}, declared.place.Place.Place}
 use Rattle.fst_types.proofs.Finite.{In-from_Contains, decided_not, search_list, lowest}
 use Rattle.fst_heads.specs.{Nodes.{Node, patches_in, pending_in, AreSettled}, Pendings.joined, declared.pending.Pending.Pending}
 use Rattle.fst_heads.proofs.{PendingIn.{found, told_of}, Placed.patch_in, Sums.joined_all_block}
-use Rattle.fst_walks.proofs.Low.{low_node, low_depends, gate_high, IsLow, low_decided, low_above, low_change, some_same}
+use Rattle.fst_walks.proofs.Low.{low_node, low_depends, gate_high, IsLow, low_decided, low_above, low_change}
 use Rattle.fst_types.specs.declared.place.Place.TheVariants as place
 use Rattle.fst_heads.specs.declared.pending.Pending.TheVariants as pending
 
@@ -62,10 +63,10 @@ module _ (nodes : List Node) (numbers blocks : ℕ) (H : SparseAreLawful (patche
 
     own_change : (y : Node) → IsHigh p y → (c : ℕ) → IsOn y.patch c → (y.patch.place ≡ place.Disk) ⊎ (c ≡ b)
     own_change y h c on = elim h.below [
-      | inl same ↦ inr (some_same c b (sym on ∙ (ap (λ r. block_of_kind r.kind) same ∙ w.in_memory.change)))
+      | inl same ↦ inr (same_Some c b (sym on ∙ (ap (λ r. block_of_kind r.kind) same ∙ w.in_memory.change)))
       | inr d ↦ elim (w.needs y.patch c (record { head = patch_in nodes y h.head; change = on; depends = d })) [
         | inl disk ↦ inl disk
-        | inr m ↦ inr (some_same c b (sym on ∙ m.change))
+        | inr m ↦ inr (same_Some c b (sym on ∙ m.change))
       ]
     ]
 

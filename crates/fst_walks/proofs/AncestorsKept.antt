@@ -4,8 +4,9 @@ use Rattle.std.proofs.lemmas.{Bool.cases_eq, List.Elements.{Contains-push, Conta
 use Rattle.fst_types.specs.{Closure.{one, join}, Dependencies.{DependsOn, DirectlyOn}, Facts.{HasOnePlaceEach, IsOnDiskWithAll}, Gating.gains, Patches.{IsLive, Patch}, Tests.is_live}
 use Rattle.fst_types.proofs.{Alike.{Alike, back_alike}, Dropping.filter_in, Finite.{Contains-from_In, In-from_Contains}}
 use Rattle.fst_heads.specs.Grading.{HasUnder}
-use Rattle.fst_heads.proofs.{Covering.{depends_forth, depends_gained, depends_left, depends_with, was_gained}, Forgetting.not_disk}
+use Rattle.fst_heads.proofs.{Covering.{depends_forth, depends_gained, depends_left, depends_with, was_gained}}
 use Rattle.fst_walks.specs.Ancestors.{AreOver, MayStandUnder}
+use Rattle.fst_types.proofs.Numbers.{not_disk}
 
 -- ancestors that are the same of each patch
 pub over_as : (patches : List Patch) (above above' : ℕ → ℕ) → ((n : ℕ) → above' n ≡ above n) → AreOver patches above → AreOver patches above'

@@ -7,6 +7,7 @@ use Rattle.fst_heads.specs.{Grading.{IsHardNumber, IsLeading, IsReturning, Leads
 use Rattle.fst_heads.proofs.Listing.{rising_patches}
 use Rattle.fst_walks.specs.WayBack.{LeadsBack}
 use Rattle.fst_walks.proofs.{BothEnds.back_leads, NearRow.rests_may}
+use Rattle.fst_walks.proofs.OwnBlock.{nowhere_each}
 
 -- from what a patch directly depends on no way leads back where none does from the patch
 below_nowhere : (patches : List Patch) (b n : ℕ) (below : List ℕ) → ((q : ℕ) → Contains below q → DirectlyOn patches n q) → LeadsNowhere patches b (n ∷ []) → LeadsNowhere patches b below
@@ -18,13 +19,6 @@ below_nowhere patches b n below direct L = record {
     up : (P : ℕ → Type 0) (q : ℕ) → DirectlyOn patches n q → IsAbove patches P q → IsAbove patches P n
     up P q d a = elim a [ inl here ↦ inr (q, one d, here) | inr r ↦ inr (r.0, join (one d) r.1, r.2) ]
 
--- where none of the row leads back, it does not
-each_nowhere : (patches : List Patch) (b : ℕ) (row : List ℕ) → ((q : ℕ) → Contains row q → LeadsNowhere patches b (q ∷ [])) → LeadsNowhere patches b row
-each_nowhere patches b row each = record {
-  straight = λ u. let L = each u.0 u.1 in L.straight (u.0, Contains-push [] u.0, u.2);
-  open_ended = λ u. let L = each u.0 u.1 in L.open_ended (u.0, Contains-push [] u.0, u.2);
-}
-
 module _ (heads : List Head) (rising : IsRising heads) (hard : HardNeverHold (patches_of heads)) (b : ℕ) where
   abbrev patches : List Patch
   patches = patches_of heads
@@ -34,7 +28,7 @@ module _ (heads : List Head) (rising : IsRising heads) (hard : HardNeverHold (pa
 
   -- as the hard change h is
   pub hard_as : (h : ℕ) (row other : List ℕ) → IsHardNumber patches b h → ((q : ℕ) → Contains other q → DirectlyOn patches h q) → ((q : ℕ) → Contains row q → Contains other q ⊎ IsHardNumber patches b q) → LeadsNowhere patches b row
-  hard_as h row other is below within = each_nowhere patches b row (λ q c. elim (within q c) [
+  hard_as h row other is below within = nowhere_each patches b row (λ q c. elim (within q c) [
     | inl o ↦ below_nowhere patches b h (q ∷ []) (λ n k. subst (DirectlyOn patches h) (only_in q n k) (below q o)) (hard_nowhere h is)
     | inr own ↦ hard_nowhere q own
   ])

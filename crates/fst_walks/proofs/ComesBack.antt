@@ -5,9 +5,10 @@ use Rattle.fst_types.specs.{Closure.{one, join}, Dependencies.{DependsOn, IsLive
 use Rattle.fst_types.specs.Patches.{Patch, IsRising, IsOn, IsLive}
 use Rattle.fst_types.proofs.Crash.{same_number}
 use Rattle.fst_heads.specs.{Grading.{HasUnder, IsReturning, IsLeading, LeadsNowhere, IsHardNumber}, Marks.PassesAt}
-use Rattle.fst_heads.proofs.{Graded.{on_from, on_to, off_from}, Leading.one_block}
+use Rattle.fst_heads.proofs.{Graded.{on_from, on_to, off_from}}
 use Rattle.fst_walks.specs.{WayBack.{StepsBack, IsLiveOver}}
 use Rattle.fst_heads.specs.declared.test.Test.TheVariants as test
+use Rattle.fst_types.proofs.Numbers.{one_block}
 
 -- p is q, or depends on it
 abbrev pub IsOver : List Patch → ℕ → ℕ → Type 0

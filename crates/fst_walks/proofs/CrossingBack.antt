@@ -1,7 +1,7 @@
 -- Up from a patch to those that directly depend on it, and from a hard change in memory across its block to all changes of it that are not on disk.
 use Rattle.std.proofs.Common.{◌≡◌, ◌<◌, ℕ, Bool, true, false, not, List, length, map, filter, get_or, set, Contains, Some, refl, sym, ap, subst, ◌∙◌, inl, inr, get_or-set_same, get_or-set_other}
-use Rattle.std.proofs.lemmas.Bool.{cases_eq, and_parts, and_from, eqb-true, eq-eqb, false≢true}
-use Rattle.fst_types.specs.{Dependencies.{DirectlyOn, IsLiveNumber}, Patches.{Kind, Change, Empty, OpenGate, SealedGate, Patch, IsLive, IsOn, block_of_kind}}
+use Rattle.std.proofs.lemmas.Bool.{cases_eq, and_parts, and_from}
+use Rattle.fst_types.specs.{Dependencies.{DirectlyOn, IsLiveNumber}, Patches.{Change, Empty, OpenGate, SealedGate, Patch, IsLive, IsOn, block_of_kind}}
 use Rattle.fst_types.specs.Tests.{is_at, is_on}
 use Rattle.fst_types.proofs.{Dropping.{in_filter, filter_in}, Finite.{In, In-from_Contains, Contains-from_In, In-map}, GateGains.In-unmap}
 use Rattle.fst_heads.specs.{Grading.IsHardNumber, Heads.{IsRising, patch_of, patches_of}, Lists.{Entry, entry, entry_of, entries_of, entries_on, is_live_on}}
@@ -9,12 +9,14 @@ use Rattle.fst_heads.specs.{Marks.{HasSlot, PassesAt}, Nodes.{Node, node_of, nod
 use Rattle.fst_heads.specs.{declared.head.Head.Head, declared.head.Kind.{Kind as HeadKind}, declared.lists.Listed.Listed, Heads.kind_of}
 use Rattle.fst_types.specs.declared.grade.Grade.{Grade}
 use Rattle.fst_heads.specs.declared.head.Kind.TheVariants as kinds
-use Rattle.fst_heads.proofs.{AtNumber.patches_in_nodes, Forgetting.{live_place_of, not_disk}, Graded.{on_from, on_to}, Leading.{one_block, reached_more, same_patch}}
+use Rattle.fst_heads.proofs.{AtNumber.patches_in_nodes, Forgetting.{live_place_of}, Graded.{on_from, on_to}, Leading.{reached_more, same_patch}}
 use Rattle.fst_heads.proofs.{Placed.{patch_in, node_of_patch}, Slots.patch_is, Waiting.{map_twice, times_some, some_times}}
 use Rattle.fst_walks.specs.{BothEnds.IsOffDisk, Descending.Visits, WayBack.{Crosses, ShowsBlockOf}}
-use Rattle.fst_walks.proofs.{Low.some_same, Visiting.visits_none}
+use Rattle.fst_walks.proofs.{Visiting.visits_none}
 use Rattle.fst_types.specs.declared.place.Place.TheVariants as place
 use Rattle.fst_heads.specs.declared.test.Test.TheVariants as test
+use Rattle.fst_types.proofs.Numbers.{one_block, not_disk}
+use Rattle.fst_types.proofs.Landing.{kind_on, on_kind}
 
 -- up from a node to those that directly depend on it
 module _ (nodes : List Node) (linked : AreLinked nodes) (x : Node) (c : Contains nodes x) where
@@ -46,18 +48,6 @@ module _ (heads : List Head) (linked : AreLinked (nodes_of heads)) (x : Head) (c
   above_to n d = above_node (nodes_of heads) linked (node_of x) c n (subst (λ ps. DirectlyOn ps n x.number) (sym (patches_in_nodes heads)) d)
 
 -- the list of a block names its changes that are not on disk
-
-kind_on : (b : ℕ) (k : Kind) → block_of_kind k ≡ Some b → is_on b k ≡ true
-kind_on b (Change on at len grade) e = eq-eqb on b (some_same on b e)
-kind_on b Empty e = cc
-kind_on b OpenGate e = cc
-kind_on b SealedGate e = cc
-
-on_kind : (b : ℕ) (k : Kind) → is_on b k ≡ true → block_of_kind k ≡ Some b
-on_kind b (Change on at len grade) e = ap Some (eqb-true on b e)
-on_kind b Empty e = absurd (false≢true e)
-on_kind b OpenGate e = absurd (false≢true e)
-on_kind b SealedGate e = absurd (false≢true e)
 
 pub change_listed : (patches : List Patch) (list : List Listed) (b n : ℕ) → entries_of list ≡ entries_on b patches → PassesAt (test.LiveOn b) patches n → Contains (map (λ (l : Listed). l.number) list) n
 change_listed patches list b n same x =

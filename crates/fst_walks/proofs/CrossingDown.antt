@@ -4,11 +4,12 @@ use Rattle.std.proofs.lemmas.Bool.{cases_eq}
 use Rattle.fst_types.specs.{Dependencies.IsLiveNumber, Patches.{Patch, IsOn, block_of_kind}, declared.grade.Grade.Grade}
 use Rattle.fst_heads.specs.{Heads.{IsRising, kind_of, patch_of, patches_of}, Marks.{HasSlot, PassesAt}}
 use Rattle.fst_heads.specs.{Reaching.IsReached, declared.head.Head.Head, declared.head.Kind.Kind}
-use Rattle.fst_heads.proofs.{Graded.{on_from, on_to}, Leading.{one_block, reached_more}, Slots.{patch_at, patch_is}}
+use Rattle.fst_heads.proofs.{Graded.{on_from, on_to}, Leading.{reached_more}, Slots.{patch_at, patch_is}}
 use Rattle.fst_walks.specs.{Descending.Visits, BothEnds.{CrossesDown, IsNeed, ShowsBlockUnder}}
 use Rattle.fst_walks.proofs.{Visiting.visits_none}
 use Rattle.fst_heads.specs.declared.head.Kind.TheVariants as kinds
 use Rattle.fst_heads.specs.declared.test.Test.TheVariants as test
+use Rattle.fst_types.proofs.Numbers.{one_block}
 
 module _ (heads : List Head) (rising : IsRising heads) (needs : ℕ → List ℕ) (n s : ℕ) (d : Head) (slot : HasSlot heads n s) (live : IsLiveNumber (patches_of heads) n) where
   abbrev patches : List Patch

@@ -4,10 +4,11 @@ use Rattle.fst_types.specs.{Closure.{Closure, one, join}, Dependencies.{DependsO
 use Rattle.fst_types.specs.{Grades.{HasEdge, Reaches}, Patches.{Patch, IsRising, IsOn, IsLive}, Writable.IsInMemoryOn}
 use Rattle.fst_types.proofs.Crash.{same_number}
 use Rattle.fst_heads.specs.{Grading.{HasUnder, IsHardNumber, IsReturning, IsLeading, LeadsNowhere}, Marks.PassesAt}
-use Rattle.fst_heads.proofs.{Graded.{on_from, on_to}, Leading.one_block}
+use Rattle.fst_heads.proofs.{Graded.{on_from, on_to}}
 use Rattle.fst_walks.specs.{Leveling.AreLeveled, WayBack.{StepsUp}}
 use Rattle.fst_walks.proofs.Holding.{live_up}
 use Rattle.fst_heads.specs.declared.test.Test.TheVariants as test
+use Rattle.fst_types.proofs.Numbers.{one_block}
 
 -- a live change of a block passes as such
 pub live_passes : (heads : List Patch) (b : ℕ) (p : Patch) → Contains heads p → IsLive p → IsOn p b → PassesAt (test.LiveOn b) heads p.number

@@ -1,19 +1,17 @@
 -- Levels where patches were lifted: all that come to wait for a block, and were no higher than a level, go to the next one, and the floors of the blocks that they hold go with them. The patches stay leveled.
 use Rattle.std.proofs.Common.{◌≡◌, ◌≢◌, ◌≤◌, ◌+◌, ◌⊎◌, ℕ, List, ap, subst, ◌∙◌, inl, inr, arith}
 use Rattle.std.proofs.lemmas.Bool.{cases_eq, cases_lt}
-use Rattle.fst_types.specs.{Closure.{one}, Dependencies.{DirectlyOn, IsLiveNumber}, Facts.IsOnDiskWithAll, Gates.IsOpenNumber, Patches.Patch, declared.place.Place.Place}
+use Rattle.fst_types.specs.{Closure.{one}, Dependencies.{DirectlyOn, IsLiveNumber}, Facts.IsOnDiskWithAll, Gates.IsOpenNumber, Patches.Patch}
 use Rattle.fst_heads.specs.{Grading.IsHardNumber, Marks.PassesAt}
 use Rattle.fst_walks.specs.Leveling.{AreLeveled, top_level}
 use Rattle.fst_walks.proofs.{Holding.live_up, Leveled.live_passes}
 use Rattle.fst_types.specs.declared.place.Place.TheVariants as place
 use Rattle.fst_heads.specs.declared.test.Test.TheVariants as test
-
-memory_live : (p : Place) → p ≡ place.Memory → p ≡ place.Disk → ⊥
-memory_live p e d = cc
+use Rattle.fst_types.proofs.Numbers.{memory_disk}
 
 -- a hard change in memory is a live change of its block
 pub hard_passes : (heads : List Patch) (c n : ℕ) → IsHardNumber heads c n → PassesAt (test.LiveOn c) heads n
-hard_passes heads c n h = subst (PassesAt (test.LiveOn c) heads) h.numbered (live_passes heads c h.patch h.head (memory_live h.patch.place h.hard.memory) h.hard.change)
+hard_passes heads c n h = subst (PassesAt (test.LiveOn c) heads) h.numbered (live_passes heads c h.patch h.head (memory_disk h.patch.place h.hard.memory) h.hard.change)
 
 -- Met are the live patches of at most level `low` that come to wait for b: the changes of b, what depends on them, and all changes of a block of which a hard one in memory does. They go to `to`, and the floors of b and of those blocks too
 module _ (heads : List Patch) (disk : IsOnDiskWithAll heads) (level floor : ℕ → ℕ) (L : AreLeveled heads level floor) (b low to : ℕ) (Met : ℕ → Type 0)

@@ -3,21 +3,20 @@ use Rattle.std.proofs.Common.{◌≡◌, ◌≢◌, ◌⊎◌, ◌==◌, ℕ, su
 use Rattle.std.specs.List.Sorted.{IsStrictlyIncreasing}
 use Rattle.std.proofs.{lemmas.Bool.{cases_eq, eq-eqb, ne_eqb}, lemmas.List.map-append}
 use Rattle.std.proofs.{lemmas.List.Elements.{Contains-push_cases, Contains-get_or}, lemmas.List.Kept.AllPairs-from_increasing}
-use Rattle.std.proofs.{lemmas.List.Quantifiers.all_pairs_push, lemmas.List.Sums.{sum_by-cons, sum_by-append}}
+use Rattle.std.proofs.{lemmas.List.Quantifiers.all_pairs_push, lemmas.List.Sums.{sum_by-append}}
 use Rattle.fst_types.specs.{Dependencies.{DirectlyOn, IsLiveNumber}, Facts.HasOnePlaceEach, Gates.IsOpenNumber, Gating.gains, Patches.Patch, Tests.is_among}
 use Rattle.fst_types.proofs.{Finite.{In, In-from_Contains, Contains-from_In}, Issuing.among_in}
 use Rattle.fst_heads.specs.{Nodes.{Node, patches_in, times, at_number, linked_to, gains_names, AreLinked, AreGiven, AreDistinct}, declared.pending.Sums.Sums}
 use Rattle.fst_heads.proofs.{Added.{with_node, new_node, with_names}, AtNumber.{at_other, at_same}, Linking.{linked_patch, map_twice}}
 use Rattle.fst_heads.proofs.{Placed.{StandsFor, unmapped, patch_in, node_of_patch}, Waiting.once_append}
+use Rattle.fst_heads.proofs.Waiting.{times_cons}
+use Rattle.fst_heads.proofs.Few.{apart_rising}
 
 pub patches_linked : (nodes : List Node) (row : List ℕ) (n : ℕ) → patches_in (map (linked_to row n) nodes) ≡ patches_in nodes
 patches_linked [] row n = refl
 patches_linked (x ∷ xs) row n = let first = linked_patch row n x in let rest = patches_linked xs row n in cc
 
 -- how often a number stands in a row
-
-times_cons : (x : ℕ) (xs : List ℕ) (m : ℕ) → times (x ∷ xs) m ≡ cond (x == m) 1 0 + times xs m
-times_cons x xs m = sum_by-cons (λ y. cond (y == m) 1 0) x xs
 
 pub times_append : (xs ys : List ℕ) (m : ℕ) → times (xs ++ ys) m ≡ times xs m + times ys m
 times_append xs ys m = sum_by-append (λ y. cond (y == m) 1 0) xs ys
@@ -74,10 +73,6 @@ apart_either : (b : Bool) (n : ℕ) (x : Node) → AllPairs (λ k m. k ≢ m) x.
     → AllPairs (λ k m. k ≢ m) (if b then record x { dependants = x.dependants ++ n ∷ [] } else x).dependants
 apart_either true n x once new = all_pairs_push (λ k m. k ≢ m) x.dependants n once (λ k d lt. new refl (get_or x.dependants k d) (Contains-get_or x.dependants k d lt))
 apart_either false n x once new = once
-
--- no number stands twice in a row that rises
-pub rising_distinct : (row : List ℕ) → IsStrictlyIncreasing row → AllPairs (λ k m. k ≢ m) row
-rising_distinct row once i j d lt inside same = let r = AllPairs-from_increasing row once i j d lt inside in omega (arith, r, same)
 
 -- the number stands among the dependants as often as before, and as often as the row has the node
 pub linked_times : (row : List ℕ) (n : ℕ) (x : Node) → IsStrictlyIncreasing row → times (linked_to row n x).dependants n ≡ times x.dependants n + times row x.patch.number
@@ -178,7 +173,7 @@ module _ (nodes : List Node) (numbers : ℕ) (p : Patch) (H : HasOnePlaceEach (p
   made_distinct given distinct a ca =
       elim (made_was a ca) [
         | inl x ↦ subst Apart x.2 (old_apart x.0 x.1 given (distinct x.0 x.1))
-        | inr d ↦ subst Apart d (rising_distinct p.dependencies rising, λ i j e lt inside. absurd (omega (arith, lt, inside)))
+        | inr d ↦ subst Apart d (apart_rising p.dependencies rising, λ i j e lt inside. absurd (omega (arith, lt, inside)))
       ]
 
 gained_either : (b : Bool) (names : List ℕ) (sums : Sums) (x : Node) → (if b then gains_names names sums x else x).patch ≡ (if b then record x.patch { dependencies = x.patch.dependencies ++ names } else x.patch)
@@ -290,7 +285,7 @@ module _ (g : ℕ) (names : List ℕ) (sums : Sums) where
             elim (cases_eq x.patch.number g) [
               | inl same ↦
                   subst (λ ns. AllPairs (λ m n. m ≢ n) ns) (sym (row_same x same))
-                  (once_append x.patch.dependencies names apart.0 (rising_distinct names once) (λ n c named.
+                  (once_append x.patch.dependencies names apart.0 (apart_rising names once) (λ n c named.
                   new n named (record { patch = x.patch; head = patch_in nodes x cx; numbered = same; named = c })))
               | inr other ↦ subst (λ ns. AllPairs (λ m n. m ≢ n) ns) (sym (row_other x other)) apart.0
             ],

@@ -1,4 +1,5 @@
 -- Nothing is pending, or changes of one block alone.
+use Rattle.std.proofs.lemmas.Option.{same_Some}
 use Rattle.std.proofs.Common.{◌≡◌, ◌⊎◌, ◌==◌, ℕ, true, Some, refl, sym, ap, subst, ◌∙◌, inl, inr, List, Contains}
 use Rattle.std.proofs.lemmas.Bool.{cases_Bool, cases_eq, eqb-true, eq-eqb, false≢true, cond-true, cond-false}
 use Rattle.fst_types.specs.{Closure.{one, join}, Dependencies.{DirectlyOn, DependsOn}, Facts.IsOnDiskWithAll}
@@ -21,9 +22,6 @@ low_decided b (pending.Block c) = elim (cases_eq c b) [
 ]
 low_decided b pending.Apart = inr (λ l. elim l [ inl e ↦ cc | inr e ↦ cc ])
 low_decided b pending.Held = inr (λ l. elim l [ inl e ↦ cc | inr e ↦ cc ])
-
-pub some_same : (b c : ℕ) → Some b ≡ Some c → b ≡ c
-some_same b c e = cc
 
 low_over : (b c : ℕ) (below : Pending) → over_block c below ≡ pending.Block b → IsLow b below
 low_over b c pending.Nothing e = inl refl
@@ -54,8 +52,8 @@ over_own b c pending.Held e = absurd (cc)
 
 -- a change that waits for one block alone is a change of it, and not on disk
 pub low_change : (b c : ℕ) (k : Kind) (p : Place) (below : Pending) → block_of_kind k ≡ Some c → of_kind k p below ≡ pending.Block b → (c ≡ b) × (p ≡ place.Disk → ⊥)
-low_change b c (Change on at len grade) place.Memory below s e = (some_same c on (sym s) ∙ over_own b on below e, λ d. cc)
-low_change b c (Change on at len grade) place.Flight below s e = (some_same c on (sym s) ∙ over_own b on below e, λ d. cc)
+low_change b c (Change on at len grade) place.Memory below s e = (same_Some c on (sym s) ∙ over_own b on below e, λ d. cc)
+low_change b c (Change on at len grade) place.Flight below s e = (same_Some c on (sym s) ∙ over_own b on below e, λ d. cc)
 low_change b c (Change on at len grade) place.Disk below s e = absurd (cc)
 low_change b c Empty p below s e = absurd (cc)
 low_change b c OpenGate p below s e = absurd (cc)
@@ -89,11 +87,6 @@ is_block b pending.Held e = absurd (false≢true e)
 
 pub block_is : (b : ℕ) (p : Pending) → p ≡ pending.Block b → is_pending p (pending.Block b) ≡ true
 block_is b p e = ap (λ q. is_pending q (pending.Block b)) e ∙ eq-eqb b b refl
-
--- the test tells whether nothing is pending
-pub is_nothing : (p : Pending) → is_pending p pending.Nothing ≡ true → p ≡ pending.Nothing
-is_nothing pending.Nothing e = refl
-is_nothing p e = absurd (false≢true e)
 
 -- the test tells whether an open gate is waited for
 pub is_held : (p : Pending) → is_pending p pending.Held ≡ true → p ≡ pending.Held

@@ -6,10 +6,11 @@ use Rattle.fst_types.proofs.{Landing.{change_at, at_change}, Numbers.both}
 use Rattle.fst_heads.specs.Grading.{HasUnder, MayBeHard, IsHardNumber}
 use Rattle.fst_heads.specs.{Heads.{IsRising, patch_of, patches_of}, Marks.{HasSlot, HasNone, PassesAt}, Reaching.IsHardIn, Tests.{passes, is_hard_kind}}
 use Rattle.fst_heads.specs.{declared.head.Head.Head, declared.test.Test.Test}
-use Rattle.fst_heads.proofs.{Leading.{one_block, same_patch}, Slots.{direct_at, patch_at, patch_is, patch_slot, slot_in, none_slot}}
+use Rattle.fst_heads.proofs.{Leading.{same_patch}, Slots.{direct_at, patch_at, patch_is, patch_slot, slot_in, none_slot}}
 use Rattle.fst_walks.proofs.{Obstacles.{hard_from, hard_to}}
 use Rattle.fst_types.specs.declared.place.Place.TheVariants as place
 use Rattle.fst_types.specs.declared.grade.Grade.TheVariants as grade
+use Rattle.fst_types.proofs.Numbers.{one_block}
 
 -- a number that no head has is no patch's
 pub no_patch : (heads : List Head) (n : ℕ) → HasNone heads n → (p : Patch) → Contains (patches_of heads) p → p.number ≡ n → ⊥

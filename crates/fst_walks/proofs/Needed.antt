@@ -5,11 +5,12 @@ use Rattle.fst_types.specs.{Closure.{Closure, one, join}, Dependencies.{Directly
 use Rattle.fst_types.specs.{Patches.{Patch, IsOn, IsRising}, declared.place.Place.Place}
 use Rattle.fst_types.proofs.Crash.{same_number}
 use Rattle.fst_heads.specs.{Grading.IsHardNumber, Marks.PassesAt, Reaching.{IsReached, ShowsBlocks}}
-use Rattle.fst_heads.proofs.{Graded.{on_to}, Leading.one_block}
+use Rattle.fst_heads.proofs.{Graded.{on_to}}
 use Rattle.fst_walks.specs.{BothEnds.{CrossesDown}, Descending.IsLedFrom, Needing.{AreNeeded, IsHardAt, IsStoodFor}}
 use Rattle.fst_walks.proofs.{ComesBack.{live_number, live_on}}
 use Rattle.fst_types.specs.declared.place.Place.TheVariants as place
 use Rattle.fst_heads.specs.declared.test.Test.TheVariants as test
+use Rattle.fst_types.proofs.Numbers.{one_block}
 
 -- from the change p, which is not on disk, to a hard change q in memory of the same block, which is not shown as crossed
 pub record CrossesToHard (patches : List Patch) (crossed : List Bool) (p q : ℕ) : Type 0 where

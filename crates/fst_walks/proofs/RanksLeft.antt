@@ -2,10 +2,12 @@
 use Rattle.std.proofs.Common.{◌≡◌, ◌≤◌, ◌∷◌, [], ℕ, Bool, true, false, List, filter, map, Contains, refl, sym, ap, subst, ◌∙◌, inl, inr, arith, eq-eqb, ne_eqb}
 use Rattle.std.proofs.lemmas.{Bool.{cases_Bool, cases_eq, false≢true}}
 use Rattle.fst_types.specs.{Facts.IsOnDiskWithAll, Patches.{Patch, IsRising}, Tests.{has_number, is_live}}
-use Rattle.fst_types.proofs.{Crash.same_number, Dropping.{filter_in, in_filter}, Finite.{In, In-from_Contains, Contains-from_In}}
+use Rattle.fst_types.proofs.{Crash.same_number, Dropping.{filter_in, in_filter}, Finite.{In-from_Contains, Contains-from_In}}
 use Rattle.fst_heads.specs.{Nodes.is_live_in}
 use Rattle.fst_walks.specs.{Leveling.{IsLeveled, Leveling, jump_of, kept_under, level_of, parent_of, floor_of}, declared.levels.Rank.Rank}
 use Rattle.fst_walks.proofs.{LeveledKept.fewer_leveled, Ranked.number_of, AncestorsKept.left_over}
+use Rattle.fst_types.proofs.Contents.{has_in}
+use Rattle.fst_types.proofs.Ascends.{filter_same}
 
 -- whether some head has the number
 pub has_told : (heads : List Patch) (n : ℕ) → has_number heads n ≡ true → (p : Patch) × Contains heads p × (p.number ≡ n)
@@ -17,17 +19,9 @@ has_told (p ∷ ps) n e = elim (cases_eq p.number n) [
       (r.0, Contains-from_In (p ∷ ps) r.0 (inr (In-from_Contains ps r.0 r.1)), r.2)
 ]
 
-told_in : (heads : List Patch) (p : Patch) → In heads p → has_number heads p.number ≡ true
-told_in [] p h = absurd h
-told_in (x ∷ xs) p (inl e) = rw (eq-eqb x.number p.number (ap (λ (y : Patch). y.number) e)) refl
-told_in (x ∷ xs) p (inr h) = elim (cases_eq x.number p.number) [
-  | inl e ↦ rw (eq-eqb x.number p.number e) refl
-  | inr o ↦ rw (ne_eqb x.number p.number o) (told_in xs p h)
-]
-
 -- each head's number is told
 pub told_has : (heads : List Patch) (p : Patch) → Contains heads p → has_number heads p.number ≡ true
-told_has heads p c = told_in heads p (In-from_Contains heads p c)
+told_has heads p c = has_in heads p (In-from_Contains heads p c)
 
 -- the ranks whose numbers pass a test
 module _ (t : ℕ → Bool) where
@@ -65,13 +59,6 @@ module _ (t : ℕ → Bool) where
     | inl told ↦ rw (told, mapped_passing f xs) refl
     | inr untold ↦ rw (untold, mapped_passing f xs) refl
   ]
-
-passed_same : {X : Type 0} (f g : X → Bool) (xs : List X) → ((x : X) → In xs x → f x ≡ g x) → filter f xs ≡ filter g xs
-passed_same f g [] same = refl
-passed_same f g (x ∷ xs) same = elim (cases_Bool (g x)) [
-  | inl told ↦ rw (same x (inl refl), told, passed_same f g xs (λ y h. same y (inr h))) refl
-  | inr untold ↦ rw (same x (inl refl), untold, passed_same f g xs (λ y h. same y (inr h))) refl
-]
 
 -- a number is left exactly if a live patch has it
 pub left_live : (old : List Patch) (n : ℕ) → has_number (filter is_live old) n ≡ is_live_in old n
@@ -117,7 +104,7 @@ module _ (old : List Patch) (rising : IsRising old) where
       mapped_passing is_left number_of ranks
       ∙ (ap (filter is_left) aligned
       ∙ (sym (mapped_passing is_left number old)
-      ∙ ap (map number) (passed_same (λ p. is_left p.number) is_live old (λ p h. left_number p (Contains-from_In old p h)))))
+      ∙ ap (map number) (filter_same (λ p. is_left p.number) is_live old (λ p h. left_number p (Contains-from_In old p h)))))
 
   -- so the levels stay as they should be
   pub left_is_leveled : IsOnDiskWithAll old → (blocks : ℕ) (levels : Leveling) → IsLeveled old blocks levels

@@ -2,11 +2,12 @@ use Rattle.std.proofs.Common.{◌≡◌, ◌∙◌, sym, ap, subst}
 use Rattle.fst_types.specs.Patches.{IsOn}
 use Rattle.fst_types.proofs.Crash.{same_number}
 use Rattle.fst_heads.specs.{Heads.patches_of, Marks.PassesAt}
-use Rattle.fst_heads.proofs.{Leading.one_block, Listing.rising_patches, Slots.patch_is}
+use Rattle.fst_heads.proofs.{Listing.rising_patches, Slots.patch_is}
 use Rattle.fst_heads.specs.declared.test.Test.TheVariants as test
 use Rattle.fst_walks.specs.WayBack.{LeadsBack}
 use Rattle.fst_walks.proofs.{ComesBack.live_on, NearRow.passes_here}
 use Rattle.fst_walks.proofs.known.known_end.Goals as goal
+use Rattle.fst_types.proofs.Numbers.{one_block}
 
 pub returns-then-passes_at : goal.returns-then-passes_at
 returns-then-passes_at c p h slot =
