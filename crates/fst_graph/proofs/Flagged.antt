@@ -2,12 +2,13 @@
 use Rattle.std.proofs.Common.{◌≡◌, ◌≤◌, ◌<◌, ◌+◌, ◌==◌, ◌&&◌, ◌||◌, ◌++◌, ◌∷◌, [], ◌∙◌, ℕ, Bool, true, false, not, cond, List, AllPairs, Option, None, Some, IfSome, length, map, count_by, inl, inr, refl, sym, ap, subst, arith}
 use Rattle.std.proofs.{Math.Path.fun_ext, lemmas.{Bool.cases_Bool, List.length-map, List.Folds.list_any-append}}
 use Rattle.std.specs.{Global.Vec, List.list_any}
-use Rattle.fst_types.specs.{Cascade.placed_as, Facts.HasOnePlaceEach, Limits.max_heads, Patches.{Kind, Change, Empty, OpenGate, SealedGate, Patch}, Tests.is_among}
+use Rattle.fst_types.specs.{Facts.HasOnePlaceEach, Limits.max_heads, Patches.{SealedGate, Patch}, Tests.is_among}
 use Rattle.fst_types.proofs.Finite.{In, In-from_Contains, Contains-from_In, In-map}
 use Rattle.fst_heads.specs.{Heads.{IsRising, patches_of}, Landed.AreLanded, Nodes.{Node, AreSettled, node_of, nodes_of, patches_in, at_number, is_forgotten_in, gains_names, linked_to}, Spreading.{IsSpreadOf, seals, unspread}, declared.head.Head.Head, declared.pending.Sums.Sums}
 use Rattle.fst_heads.proofs.{Added.{with_names, with_node}, AtNumber.patches_in_nodes, CountsAs.{count_append, count_cons}, Flagged.{forgotten_found, forgotten_here}, Landed.{IsAs, landed_map, rested_as}, Slots.rising_map}
 use Rattle.fst_graph.proofs.{Remembered.remembered_pushed}
 use Rattle.fst_graph.specs.{Remembered.{AreGone, remembered}, Sound.{AreRemembered, remembered_of}, declared.prepared.Prepared.Prepared as Stored}
+use Rattle.fst_types.proofs.Cascades.{unsettled_number}
 
 -- its number, and whether it is forgotten
 abbrev flag_of : Node → ℕ × Bool
@@ -41,14 +42,8 @@ flags_at n f same x = elim (cases_Bool (x.patch.number == n)) [ inl e ↦ rw e (
 flags_linked : (row : List ℕ) (n : ℕ) (x : Node) → flag_of (linked_to row n x) ≡ flag_of x
 flags_linked row n x = elim (cases_Bool (is_among row x.patch.number)) [ inl e ↦ rw e refl | inr e ↦ rw e refl ]
 
-number_unsettled : (k : Kind) (p : Patch) → (placed_as k p).number ≡ p.number
-number_unsettled (Change block at len grade) p = refl
-number_unsettled Empty p = refl
-number_unsettled OpenGate p = refl
-number_unsettled SealedGate p = refl
-
 flag_unspread : (x : Node) → flag_of (unspread x) ≡ flag_of x
-flag_unspread x = ap (λ n. (n, x.forgotten)) (number_unsettled x.patch.kind x.patch)
+flag_unspread x = ap (λ n. (n, x.forgotten)) (unsettled_number x.patch.kind x.patch)
 
 pub flags_spread : (old new : List Node) → IsSpreadOf old new → flags_of new ≡ flags_of old
 flags_spread old new spread = sym (flags_map unspread flag_unspread new) ∙ (ap flags_of spread ∙ flags_map unspread flag_unspread old)

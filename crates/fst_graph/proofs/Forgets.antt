@@ -1,31 +1,26 @@
 -- Forgetting what landed: heads are marked, which leaves all else as it is, or those of patches on disk are dropped.
-use Rattle.std.proofs.Common.{◌≡◌, ◌↔◌, ◌≤◌, ◌<◌, ◌+◌, ◌∙◌, ℕ, Bool, true, false, List, [], ◌∷◌, length, map, count_by, Contains, Option, if◌then◌else◌, refl, sym, ap, subst, arith}
+use Rattle.std.proofs.Common.{◌≡◌, ◌↔◌, ◌≤◌, ◌<◌, ◌+◌, ◌∙◌, ℕ, List, [], ◌∷◌, length, map, count_by, Contains, Option, refl, sym, ap, subst, arith}
 use Rattle.std.proofs.{Math.Path.fun_ext, lemmas.List.length-map}
 use Rattle.std.specs.Global.{Vec}
 use Rattle.fst_types.specs.{Facts.SparseAreLawful, Limits.max_heads, Tests.{is_among, is_at, is_live}}
 use Rattle.fst_heads.specs.{Heads.patches_of, Keeps.Tallies, Landed.flags, Lists.{Entry, AreListed}, Nodes.{Node, AreSettled, is_forgotten_in, node_of, nodes_of, patches_in, pending_in}, Pendings.{joined, of_kind, sums_of}}
 use Rattle.fst_heads.specs.{Covers.Covering, declared.head.Head.Head, declared.lists.Listed.Listed, declared.standing.Standing.Standing}
-use Rattle.fst_heads.proofs.{AtNumber.patches_in_nodes, Beside.waiting_live, CountsAs.{like_as, stand_map}, Flagged.{all_told, flags_number, flags_patch, flags_pending, goes, patches_flagged}, Placed.{SameLinks, distinct_kept, given_kept, linked_kept, links_mapped, unmapped}}
+use Rattle.fst_heads.proofs.{AtNumber.patches_in_nodes, Beside.waiting_live, CountsAs.{like_as, stand_map}, Flagged.{all_told, flags_number, flags_patch, flags_pending, goes, goes_if, patches_flagged}, Placed.{SameLinks, distinct_kept, given_kept, linked_kept, links_mapped, unmapped}}
 use Rattle.fst_walks.specs.{Leveling.Leveling, Needing.Needing, declared.ends.Ends.Ends}
 use Rattle.fst_graph.specs.{Sound.{AreRemembered, AreSound, remembered_of}, declared.prepared.Prepared.Prepared as Stored}
 use Rattle.fst_graph.proofs.{Flagged.rising_nodes, RememberedLooks.disk_count, Sound.{rising_sound, view_gone, view_long}, Tallied.tallies_from}
 use Rattle.fst_types.specs.declared.place.Place.TheVariants as place
 use Rattle.fst_heads.specs.declared.pending.Pending.TheVariants as pending
 
--- what holds of a node holds of it once it is marked
-if_marked : (P : Node → Type 0) (t : Bool) (x : Node) → P x → P (goes x) → P (if t then goes x else x)
-if_marked P true x a b = b
-if_marked P false x a b = a
-
 module _ (row : List ℕ) (nodes : List Node) where
   abbrev pub marked : List Node
   marked = map (flags row) nodes
 
   each_marked : (P : Node → Type 0) → ((x : Node) → P x → P (goes x)) → ((x : Node) → Contains nodes x → P x) → (y : Node) → Contains marked y → P y
-  each_marked P keep f y c = let r = unmapped (flags row) nodes y c in let k = f r.0 r.1 in subst P r.2 (if_marked P (is_among row r.0.patch.number) r.0 k (keep r.0 k))
+  each_marked P keep f y c = let r = unmapped (flags row) nodes y c in let k = f r.0 r.1 in subst P r.2 (goes_if P (is_among row r.0.patch.number) r.0 k (keep r.0 k))
 
   links : (x : Node) → SameLinks x (flags row x)
-  links x = if_marked (SameLinks x) (is_among row x.patch.number) x (record { number = refl; dependencies = refl; dependants = refl }) (record { number = refl; dependencies = refl; dependants = refl })
+  links x = goes_if (SameLinks x) (is_among row x.patch.number) x (record { number = refl; dependencies = refl; dependants = refl }) (record { number = refl; dependencies = refl; dependants = refl })
 
   pending_marked : (xs : List Node) (n : ℕ) → pending_in (map (flags row) xs) n ≡ pending_in xs n
   pending_marked [] n = refl

@@ -8,11 +8,13 @@ use Rattle.fst_heads.specs.{Keeps.IsInside, Nodes.{Node, patches_in, pending_in,
 use Rattle.fst_heads.specs.{Standings.{AllStand, AreMarked, may_be_written, standing_of, is_ready_on, is_held_on, is_flying_on, ready_on}, Tests.is_hard_kind, declared.standing.Standing.Standing}
 use Rattle.fst_graph.specs.Known.{IsStuckByGates}
 use Rattle.fst_types.proofs.{Landing.{change_at, at_change}, Stuck.never_stuck_lem, Writes.same_test}
-use Rattle.fst_heads.proofs.{Forgetting.{live_place_of, not_disk}, PendingIn.{found, told_of}, Placed.{patch_in, node_of_patch}, Sums.sums_count}
-use Rattle.fst_walks.proofs.{Alone.{waits_in, waits_out}, Low.{is_block, block_is, is_nothing}}
+use Rattle.fst_heads.proofs.{Forgetting.{live_place_of}, PendingIn.{found, told_of}, Placed.{patch_in, node_of_patch}, Sums.sums_count}
+use Rattle.fst_walks.proofs.{Alone.{waits_in, waits_out}, Low.{is_block, block_is}}
 use Rattle.fst_walks.proofs.{Numbered.{rising_numbers, number_in, number_of, none_counted, counted_none, counted_some}, Obstacles.{hard_from, hard_to}}
 use Rattle.fst_types.specs.declared.place.Place.TheVariants as place
 use Rattle.fst_heads.specs.declared.pending.Pending.TheVariants as pending
+use Rattle.fst_types.proofs.Numbers.{not_disk}
+use Rattle.fst_heads.proofs.Beside.{is_nothing}
 
 -- tests that agree count the same
 count_agree : (f g : ℕ → Bool) → ((n : ℕ) → f n ≡ g n) → (ns : List ℕ) → count_by f ns ≡ count_by g ns

@@ -1,4 +1,5 @@
 -- What is prepared for a group: its row, by what the head waits for; that it is ready; and which number and grade a change would have.
+use Rattle.std.proofs.lemmas.Option.{same_Some}
 use Rattle.std.proofs.Common.{◌≡◌, ◌+◌, ◌<◌, ◌≤◌, ◌++◌, ℕ, Bool, List, [], ◌∷◌, Option, Some, None, IfSome, option_map, length, map, Contains, refl, sym, ap, subst, ◌∙◌, inl, inr, arith, ◌≢◌, true, false, IfNone, count_by, is_some, get_or, eqb}
 use Rattle.std.proofs.lemmas.{Bool.{cases_Bool, eqb-true, eqb-false, false≢true}, Option.IfSome_then}
 use Rattle.std.specs.Global.{Vec}
@@ -9,7 +10,7 @@ use Rattle.fst_heads.specs.{Names.numbers_of, Nodes.{node_of, nodes_of, is_live_
 use Rattle.fst_graph.specs.{Fresh.HasPlaces, Membering.{ArePaired, BeginsAs, OverlapReaches}, Ready.{change_of, IsReady, IsMemberReady, MayBePut, HasRoomAround}}
 use Rattle.fst_graph.specs.{Sparse.{SparseChangeIsMade}, declared.prepared.Gates.Gates, declared.prepared.Prepared.Prepared as Stored}
 use Rattle.fst_types.proofs.{Cascades.place_decided, Finite.{In, In-from_Contains, Contains-from_In}, SmallStates.only_in}
-use Rattle.fst_heads.proofs.{AtNumber.patches_in_nodes, Beside.one_if, CountsAs.{count_cons, count_none}, Forgetting.{live_in, in_live}, Framed.{room_above, room_below}, Leading.some_injective}
+use Rattle.fst_heads.proofs.{AtNumber.patches_in_nodes, Beside.one_if, CountsAs.{count_cons, count_none}, Forgetting.{live_in, in_live}, Framed.{room_above, room_below}}
 use Rattle.fst_heads.proofs.{PendingAt.node_in, Slots.{any_default, direct_at, named_at}, Touching.{graded_change, touched_overlaps, overlaps_touched}}
 use Rattle.fst_graph.proofs.{Kept.keeps_sealed, Readied.{ready_made, ready_member, member_put}, TakenAsSealed.{is, depends, open_was, open_is, stays, touched_was, back_sealed, rule_sealed, gate_lives, gate_rests, row_named, row_unnamed}}
 use Rattle.fst_walks.specs.{Leveling.Leveling, Telling.IsTold, declared.ends.Ends.Ends, declared.graded.Graded.Graded}
@@ -117,7 +118,7 @@ module _ (old : List Patch) (n blocks : ℕ) (marks : List Bool) (K : Keeps old 
   pub put_begun : (kept later : List Patch) (p : Stored) → length later ≡ length kept → option_map (λ (g : Gates). g.head) p.gates ≡ Some head → MayBePut old kept n blocks p → MayBePut begun later n blocks p
   put_begun kept later p long told ready =
       let r = ready_member n p head old kept n blocks told ready in
-      let own : r.0.head ≡ head = some_injective r.0.head head (sym (ap (option_map (λ (g : Gates). g.head)) r.1) ∙ told) in
+      let own : r.0.head ≡ head = same_Some r.0.head head (sym (ap (option_map (λ (g : Gates). g.head)) r.1) ∙ told) in
       member_put p r.0 begun n blocks r.1 (ready_begun old kept later n blocks marks K r.0 p r.2 long begun (subst (IsOpenNumber old) (sym own) is_open) (subst (λ g. IsCascadeOf (map (sealed g) old) begun) (sym own) cascade))
 
 -- and the room for it

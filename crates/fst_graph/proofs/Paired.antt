@@ -7,8 +7,8 @@ use Rattle.fst_graph.specs.{Fresh.MayAdd, Grouping.{pair_order, AddsPair}, Known
 use Rattle.fst_types.proofs.{Crash.same_number, Finite.{In, Contains-from_In, first_step}, Heads.sparse_depended, SmallStates.only_in}
 use Rattle.fst_heads.proofs.{CountsAs.{count_append, count_cons}, Making.gate_lawful}
 use Rattle.fst_walks.proofs.Trails.{none_in}
-use Rattle.fst_graph.proofs.{Wholes.memory_live}
 use Rattle.fst_types.specs.declared.place.Place.TheVariants as place
+use Rattle.fst_types.proofs.Numbers.{memory_disk}
 
 -- the patches with the first gate, and with both
 abbrev pub with_head : List Patch → ℕ → List Patch
@@ -58,7 +58,7 @@ module _ (heads : List Patch) (n : ℕ) (H : SparseAreLawful heads n) where
   is_open = record { patch = tail_gate; head = tail_there; numbered = refl; is_open = refl }
 
   head_live : IsLiveNumber with_tail (n + 1)
-  head_live = record { patch = head_gate; head = head_there; numbered = refl; live = λ d. memory_live place.Memory refl d }
+  head_live = record { patch = head_gate; head = head_there; numbered = refl; live = λ d. memory_disk place.Memory refl d }
 
   none_direct : (m : ℕ) → DirectlyOn with_tail (n + 1) m → ⊥
   none_direct m d = none_in m (subst (λ (x : Patch). Contains x.dependencies m) (is_head d.patch d.head d.numbered) d.named)
@@ -112,7 +112,7 @@ module _ (heads : List Patch) (n : ℕ) (H : SparseAreLawful heads n) where
 
   -- what the second depends on is live
   pub tie_live : (m : ℕ) → Contains ((n + 1) ∷ []) m → IsLiveNumber one m
-  tie_live m c = subst (IsLiveNumber one) (only_in (n + 1) m c) (record { patch = head_gate; head = Contains-push heads head_gate; numbered = refl; live = λ d. memory_live place.Memory refl d })
+  tie_live m c = subst (IsLiveNumber one) (only_in (n + 1) m c) (record { patch = head_gate; head = Contains-push heads head_gate; numbered = refl; live = λ d. memory_disk place.Memory refl d })
 
   -- it may be added over the first
   pub pair_may : count_by is_live heads + 1 < max_heads → MayAdd one (n + 1) tied_tail

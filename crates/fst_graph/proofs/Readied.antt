@@ -1,4 +1,5 @@
 -- What is prepared.
+use Rattle.std.proofs.lemmas.Option.{same_Some}
 use Rattle.std.proofs.{Common.{◌≡◌, ◌<◌, ℕ, Bool, ◌+◌, ◌++◌, true, false, ◌&&◌, List, [], ◌∷◌, Option, Some, None, option_map, is_some, subst, refl, sym, ap, ◌∙◌, eqb}, lemmas.Bool.false≢true, lemmas.Bool.Decides.Decides-eqb}
 use Rattle.std.specs.Bool.{Decides}
 use Rattle.fst_types.specs.{Grades.FollowsRule, Order.make_order, Patches.Patch, Refusals.NoneHolds, declared.grade.Grade.Grade, declared.number.PatchNo.PatchNo, declared.span.Span.Span}
@@ -7,7 +8,7 @@ use Rattle.fst_walks.specs.Telling.{IsTold}
 use Rattle.fst_graph.specs.{Known.{Prepared, prepared_for, member_for}, Ready.{change_of, prepared_of, IsReady, IsMemberReady, IsReadyFor, MayBePut}, Sparse.{AddsSparse, SparseChangeIsMade}}
 use Rattle.fst_graph.specs.{declared.prepared.Gates.Gates, declared.prepared.Prepared.Prepared as Stored}
 use Rattle.fst_types.proofs.Numbers.{both}
-use Rattle.fst_heads.proofs.{Leading.some_injective, Touching.graded_change}
+use Rattle.fst_heads.proofs.{Touching.graded_change}
 use Rattle.fst_types.specs.declared.grade.Grade.TheVariants as grade
 
 -- what is graded hard may be hard
@@ -97,7 +98,7 @@ ready_adds R row = record { clear = R.clear; row = row; numbers = refl; blocks =
 module _ (numbers : ℕ) (p : Stored) (gates : Gates) (heads : List Patch) {standing : List Patch} (n blocks : ℕ) (ready : IsMemberReady heads standing n blocks gates p) (kept : p.gates ≡ Some gates) (head b : ℕ) (span : Span) where
   pub seen_member : (p.block ≡ b) × (p.span ≡ span) × (option_map (λ (g : Gates). g.head) p.gates ≡ Some head) → Some (prepared_of numbers p) ≡ Some (member_for head b span.at span.len (numbers + 1) p.told.grade)
   seen_member h =
-      let own : gates.head ≡ head = some_injective gates.head head (sym (ap (option_map (λ (g : Gates). g.head)) kept) ∙ h.2) in
+      let own : gates.head ≡ head = same_Some gates.head head (sym (ap (option_map (λ (g : Gates). g.head)) kept) ∙ h.2) in
       rw (ready.names, own, ← h.0, ← h.1, h.2) refl
 
 pub member_seen : (numbers : ℕ) (p : Stored) (head b : ℕ) (span : Span) (number : ℕ) (grade : Grade) → Some (prepared_of numbers p) ≡ Some (member_for head b span.at span.len number grade) → (p.block ≡ b) × (p.span ≡ span) × (option_map (λ (g : Gates). g.head) p.gates ≡ Some head)

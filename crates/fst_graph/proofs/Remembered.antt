@@ -6,7 +6,8 @@ use Rattle.fst_types.specs.{Gates.{IsOpenNumber, IsSealedNumber}, Grades.{HasEdg
 use Rattle.fst_types.proofs.{Alike.{closure_map, acyclic_map}, Cascades.place_decided, Dropping.{filter_in, in_filter}, Finite.{In, In-from_Contains, Contains-from_In}, Numbers.{clash, true_not}}
 use Rattle.fst_walks.proofs.Holding.{live_up}
 use Rattle.fst_graph.specs.Remembered.{remembered, AreGone}
-use Rattle.fst_graph.proofs.Wholes.{memory_live, open_lives}
+use Rattle.fst_graph.proofs.Wholes.{open_lives}
+use Rattle.fst_types.proofs.Numbers.{memory_disk}
 
 -- a list filtered twice, where what the one test drops the other does too
 pub filter_twice : (t u : Patch → Bool) (xs : List Patch) → ((x : Patch) → In xs x → u x ≡ false → t x ≡ false) → filter t (filter u xs) ≡ filter t xs
@@ -96,14 +97,14 @@ module _ (gone : ℕ → Bool) (heads : List Patch) where
     pub memory : (b : ℕ) (p : Patch) → IsInMemoryOn S b p ↔ IsInMemoryOn heads b p
     memory b p = (
       λ m. record { head = (was p m.head).0; change = m.change; memory = m.memory },
-      λ m. record { head = kept p m.head (λ e. memory_live p.place m.memory e); change = m.change; memory = m.memory },
+      λ m. record { head = kept p m.head (λ e. memory_disk p.place m.memory e); change = m.change; memory = m.memory },
     )
 
     module _ (D : IsOnDiskWithAll heads) where
       pub open_number : (n : ℕ) → IsOpenNumber S n ↔ IsOpenNumber heads n
       open_number n = (
         λ o. record { patch = o.patch; head = (was o.patch o.head).0; numbered = o.numbered; is_open = o.is_open },
-        λ o. record { patch = o.patch; head = kept o.patch o.head (λ e. memory_live o.patch.place (D.open_gates o.patch o.head o.is_open) e); numbered = o.numbered; is_open = o.is_open },
+        λ o. record { patch = o.patch; head = kept o.patch o.head (λ e. memory_disk o.patch.place (D.open_gates o.patch o.head o.is_open) e); numbered = o.numbered; is_open = o.is_open },
       )
 
       pub open_known : (n : ℕ) → IsOpenNumber heads n → gone n ≡ false
@@ -117,7 +118,7 @@ module _ (gone : ℕ → Bool) (heads : List Patch) where
       blocked a = (
         λ k. record { gate = k.gate; head = (was k.gate k.head).0; is_open = k.is_open; depends = depends_was a k.gate.number k.depends },
         λ k.
-            let live : IsLive k.gate = λ e. memory_live k.gate.place (D.open_gates k.gate k.head k.is_open) e in
+            let live : IsLive k.gate = λ e. memory_disk k.gate.place (D.open_gates k.gate k.head k.is_open) e in
             record { gate = k.gate; head = kept k.gate k.head live; is_open = k.is_open; depends = depends_is a k.gate.number k.depends (record { patch = k.gate; head = k.head; numbered = refl; live = live }) },
       )
 

@@ -1,22 +1,18 @@
 -- What a call makes of all patches whose heads are kept it makes of those that are not forgotten; and what is forgotten stays on disk.
 use Rattle.std.proofs.Common.{◌≡◌, ◌≤◌, ◌==◌, ℕ, Bool, true, false, List, [], ◌∷◌, ◌++◌, map, Contains, refl, sym, ap, subst, ◌∙◌, inl, inr, arith}
 use Rattle.std.proofs.lemmas.{Bool.cases_Bool, List.Elements.Contains-push_cases}
-use Rattle.fst_types.specs.{Cascade.{placed_as, unsettled, IsCascadeOf, RestsOnDisk}, Closure.IsAcyclic, Dependencies.{DirectlyOn, IsOnDisk}, Facts.{IsOnDiskWithAll, SparseAreLawful}}
+use Rattle.fst_types.specs.{Cascade.{unsettled, IsCascadeOf, RestsOnDisk}, Closure.IsAcyclic, Dependencies.{DirectlyOn, IsOnDisk}, Facts.{IsOnDiskWithAll, SparseAreLawful}}
 use Rattle.fst_types.specs.{Gating.{gains, sealed, GateGains, GateIsSealed}, Grouping.{GateIsSealedIfOpen}, Making.{fresh, EmptyIsMade}}
-use Rattle.fst_types.specs.{Patches.{Kind, Change, Empty, OpenGate, SealedGate, Patch, IsOpenGate}, Tests.{is_among, is_change_at}, Writing.{launched, landed, WriteIsLanded}}
+use Rattle.fst_types.specs.{Patches.{Empty, Patch, IsOpenGate}, Tests.{is_among, is_change_at}, Writing.{launched, landed, WriteIsLanded}}
 use Rattle.fst_types.proofs.{Adding.{disk_added, gates_added}, Alike.{Like, back_alike, open_back}, Cascades.{alike_cascade, arrived, place_decided}, Heads.{sparse_emptied}}
 use Rattle.fst_types.proofs.{Landing.{alike_landed, sparse_landed}, Sealing.{alike_sealed, sparse_sealed}}
 use Rattle.fst_graph.specs.Remembered.{remembered, AreGone}
-use Rattle.fst_graph.proofs.{Remembered.{was, live_number, on_disk, open_number, open_known, direct_was, direct_is, remembered_map, remembered_pushed}, RememberedRules.above_was, Wholes.memory_live}
+use Rattle.fst_graph.proofs.{Remembered.{was, live_number, on_disk, open_number, open_known, direct_was, direct_is, remembered_map, remembered_pushed}, RememberedRules.above_was}
 use Rattle.fst_types.specs.declared.place.Place.TheVariants as place
+use Rattle.fst_types.proofs.Numbers.{memory_disk}
+use Rattle.fst_types.proofs.Cascades.{unsettled_number}
 
--- steps that keep the number of each patch
-pub placed_number : (k : Kind) (p : Patch) → (placed_as k p).number ≡ p.number
-placed_number (Change block at len grade) p = refl
-placed_number Empty p = refl
-placed_number OpenGate p = refl
-placed_number SealedGate p = refl
-
+-- a seal keeps the number of each patch
 pub sealed_number : (g : ℕ) (p : Patch) → (sealed g p).number ≡ p.number
 sealed_number g p = elim (cases_Bool (p.number == g)) [ inl t ↦ rw t refl | inr f ↦ rw f refl ]
 
@@ -35,7 +31,7 @@ sealed_place g p = elim (cases_Bool (p.number == g)) [ inl t ↦ rw t refl | inr
 
 module _ (gone : ℕ → Bool) where
   pub remembered_unsettled : (heads : List Patch) → remembered gone (map unsettled heads) ≡ map unsettled (remembered gone heads)
-  remembered_unsettled = remembered_map gone unsettled (λ p. placed_number p.kind p)
+  remembered_unsettled = remembered_map gone unsettled (λ p. unsettled_number p.kind p)
 
   -- followers settle as they do beside what is forgotten
   pub remembered_cascade : (mid new : List Patch) → AreGone gone new → IsCascadeOf mid new → IsCascadeOf (remembered gone mid) (remembered gone new)
@@ -62,7 +58,7 @@ module _ (old mid new : List Patch) (disk : (p : Patch) → Contains old p → p
       (λ x b i bound on.
       let o = back x i in
       elim (place_decided x.place) [ inl there ↦ there | inr live ↦ absurd (o.2.live b on live (bound o.0 o.1 (sym o.2.number))) ])
-      (λ x i bound shut. let o = back x i in memory_live o.0.place (gates o.0 o.1 (open_back o.0 x o.2 shut)) (bound o.0 o.1 (sym o.2.number)))
+      (λ x i bound shut. let o = back x i in memory_disk o.0.place (gates o.0 o.1 (open_back o.0 x o.2 shut)) (bound o.0 o.1 (sym o.2.number)))
       (λ x y i bound j named. let o = back x i in disk o.0 o.1 (bound o.0 o.1 (sym o.2.number)) y.number (subst (λ ds. Contains ds y.number) o.2.dependencies named))
       p h (subst (IsOnDisk old) (sym e) d)
 

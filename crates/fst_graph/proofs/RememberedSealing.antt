@@ -5,14 +5,15 @@ use Rattle.fst_types.specs.{Cascade.{unsettled, IsCascadeOf}, Dependencies.IsOnD
 use Rattle.fst_types.specs.{Patches.Patch, declared.grade.Grade.Grade}
 use Rattle.fst_types.proofs.{Alike.back_alike, Finite.{In, In-from_Contains, Contains-from_In}, GateGains.In-unmap, Numbers.clash, Sealing.{alike_sealed, sparse_sealed}}
 use Rattle.fst_graph.specs.{Known.Known, Remembered.{remembered, remembered_known, AreGone}, Sparse.{ForetellsSparse, SparseChangeIsMade}}
-use Rattle.fst_graph.proofs.{Remembered.{is, on_disk, open_number, remembered_lawful, remembered_map}, RememberedRows.{begun_lawful, gone_begun, placed_number, sealed_number, sealed_place, stays_on_disk}, RememberedSparse.changed_remembered}
+use Rattle.fst_graph.proofs.{Remembered.{is, on_disk, open_number, remembered_lawful, remembered_map}, RememberedRows.{begun_lawful, gone_begun, sealed_number, sealed_place, stays_on_disk}, RememberedSparse.changed_remembered}
 use Rattle.fst_types.specs.declared.place.Place.TheVariants as place
+use Rattle.fst_types.proofs.Cascades.{unsettled_number}
 
 sealed_dependencies : (g : ℕ) (p : Patch) → (sealed g p).dependencies ≡ p.dependencies
 sealed_dependencies g p = elim (cases_Bool (p.number == g)) [ inl t ↦ rw t refl | inr f ↦ rw f refl ]
 
-unsettled_number : (p q : Patch) → unsettled p ≡ unsettled q → p.number ≡ q.number
-unsettled_number p q e = sym (placed_number p.kind p) ∙ (ap (λ x. x.number) e ∙ placed_number q.kind q)
+number_kept : (p q : Patch) → unsettled p ≡ unsettled q → p.number ≡ q.number
+number_kept p q e = sym (unsettled_number p.kind p) ∙ (ap (λ x. x.number) e ∙ unsettled_number q.kind q)
 
 first_same : (x y : Patch) (xs ys : List Patch) → x ∷ xs ≡ y ∷ ys → x ≡ y
 first_same x y xs ys e = cc
@@ -47,7 +48,7 @@ module _ (gone : ℕ → Bool) where
     | inr f ↦
         let k = e ∙ ap (map unsettled) (stays x xs f) in
         let one = first_same (unsettled n) (unsettled x) (map unsettled ns) (map unsettled (remembered gone xs)) k in
-        let here = subst (λ m. gone m ≡ false) (sym (unsettled_number n x one)) f in
+        let here = subst (λ m. gone m ≡ false) (sym (number_kept n x one)) f in
         let r = merged xs ns (rest_same (unsettled n) (unsettled x) (map unsettled ns) (map unsettled (remembered gone xs)) k) in
         let both : unsettled n ∷ map unsettled r.0 ≡ unsettled x ∷ map unsettled xs = ap (λ z. z ∷ map unsettled r.0) one ∙ ap (λ zs. unsettled x ∷ zs) r.1 in
         (n ∷ r.0, both, stays n r.0 here ∙ ap (λ zs. n ∷ zs) r.2, λ y i u. elim i [ inl h ↦ absurd (clash (gone y.number) u (subst (λ (z : Patch). gone z.number ≡ false) h here)) | inr j ↦ inr (r.3 y j u) ])

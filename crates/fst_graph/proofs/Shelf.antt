@@ -1,5 +1,5 @@
 -- What is told of those that landed once a patch is put down.
-use Rattle.std.proofs.Common.{◌≡◌, ◌≢◌, ◌<◌, ◌+◌, ◌∙◌, ℕ, Bool, true, false, List, [], ◌∷◌, ◌++◌, length, map, Contains, Option, None, if◌then◌else◌, refl, sym, ap, subst, inl, inr, arith}
+use Rattle.std.proofs.Common.{◌≡◌, ◌≢◌, ◌<◌, ◌+◌, ◌∙◌, ℕ, true, false, List, [], ◌∷◌, ◌++◌, length, map, Contains, Option, None, if◌then◌else◌, refl, sym, ap, subst, inl, inr, arith}
 use Rattle.std.proofs.lemmas.{Bool.cases_Bool, List.{length-map, length_push}, List.Elements.Contains-push}
 use Rattle.std.specs.Global.{Vec}
 use Rattle.fst_types.specs.{Facts.HasOnePlaceEach, Limits.max_heads, Patches.Patch, Tests.{is_among, is_at}, declared.place.Place.Place}
@@ -10,6 +10,7 @@ use Rattle.fst_graph.specs.{Sound.{AreRemembered, remembered_of}, declared.prepa
 use Rattle.fst_graph.proofs.Flagged.{flags_of, remembered_as, remembered_more}
 use Rattle.fst_types.specs.declared.place.Place.TheVariants as place
 use Rattle.fst_heads.specs.declared.pending.Pending.TheVariants as pending
+use Rattle.fst_types.proofs.Numbers.{clash}
 
 at_disk : (x : Place) → is_at x place.Disk ≡ true → x ≡ place.Disk
 at_disk place.Disk e = refl
@@ -18,9 +19,6 @@ at_disk place.Flight e = cc
 
 disk_at : (x : Place) → x ≡ place.Disk → is_at x place.Disk ≡ true
 disk_at x e = rw e refl
-
-clash : (v : Bool) → v ≡ true → v ≡ false → ⊥
-clash v a b = cc
 
 -- a patch that no other has the number of
 module _ (nodes : List Node) (p : Patch) (blocks : ℕ) (landed : List ℕ) (free : (x : Node) → Contains nodes x → x.patch.number ≢ p.number) (S : AreSettled (with_node nodes p) blocks) (A : AreLanded nodes landed) where

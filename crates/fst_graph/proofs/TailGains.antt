@@ -1,4 +1,5 @@
 -- The tail of a group gains the change that was made for it.
+use Rattle.std.proofs.lemmas.Option.{same_Some}
 use Rattle.std.proofs.Common.{◌≡◌, ◌⊎◌, ◌+◌, ◌≤◌, ◌++◌, ℕ, Bool, List, [], ◌∷◌, Option, Some, None, IfSome, option_map, Contains, refl, sym, ap, subst, ◌∙◌, inl, inr, arith}
 use Rattle.std.proofs.lemmas.List.Elements.{Contains-append_left, Contains-push, Contains-push_cases}
 use Rattle.fst_types.specs.{Closure.{one, join}, Dependencies.{DirectlyOn, DependsOn, IsLiveNumber}, Facts.SparseAreLawful, Gates.IsOpenNumber}
@@ -7,14 +8,15 @@ use Rattle.fst_heads.specs.{Keeps.Keeps, Names.numbers_of}
 use Rattle.fst_graph.specs.{Known.Prepared, Membering.OverlapReaches, Ready.{prepared_of, change_of, IsReady, IsMemberReady, IsReadyFor, MayBePut}}
 use Rattle.fst_graph.specs.{declared.prepared.Gates.Gates, declared.prepared.Prepared.Prepared as Stored}
 use Rattle.fst_types.proofs.{NewChange.IsWithin, SmallStates.only_in}
-use Rattle.fst_heads.proofs.{Graded.depends_under, Leading.some_injective, Touching.touched_overlaps}
+use Rattle.fst_heads.proofs.{Graded.depends_under, Touching.touched_overlaps}
 use Rattle.fst_walks.proofs.Overlapped.{touched_no_gate}
-use Rattle.fst_graph.proofs.{GateSlot.open_not_sealed, Readied.{head_told, ready_member}, Wholes.memory_live}
+use Rattle.fst_graph.proofs.{GateSlot.open_not_sealed, Readied.{head_told, ready_member}}
 use Rattle.fst_types.specs.declared.grade.Grade.TheVariants as grade
+use Rattle.fst_types.proofs.Numbers.{memory_disk}
 
 -- what is prepared is for the group with those gates
 pub head_same : (o : Option Stored) (n : ℕ) (q : Prepared) (head : ℕ) (p : Stored) (gates : Gates) → option_map (prepared_of n) o ≡ Some q → q.group ≡ Some head → o ≡ Some p → p.gates ≡ Some gates → gates.head ≡ head
-head_same o n q head p gates seen named kept there = some_injective gates.head head (sym (ap (option_map (λ (g : Gates). g.head)) there) ∙ head_told o n q head p seen named kept)
+head_same o n q head p gates seen named kept there = same_Some gates.head head (sym (ap (option_map (λ (g : Gates). g.head)) there) ∙ head_told o n q head p seen named kept)
 
 pub member_kept : (p : Stored) (gates : Gates) (old kept : List Patch) (n blocks : ℕ) → p.gates ≡ Some gates → MayBePut old kept n blocks p → IsMemberReady old kept n blocks gates p
 member_kept p gates old kept n blocks there ready = subst (λ g. IsReadyFor g old kept n blocks p) there ready
@@ -120,7 +122,7 @@ module _ (old kept : List Patch) (n blocks : ℕ) (marks : List Bool) (K : Keeps
     rising = λ k lt. absurd (omega (arith, lt));
     only = λ m c.
         let e = only_in (n + 1) m c in (
-          record { patch = made; head = Contains-push old made; numbered = e; live = λ d. memory_live made.place refl d },
+          record { patch = made; head = Contains-push old made; numbered = e; live = λ d. memory_disk made.place refl d },
           c,
           λ d. elim (Contains-push_cases old made d.patch d.head) [
             | inl o ↦ let k = H.one_place_each.named d.patch m o d.named in omega (arith, k, e)

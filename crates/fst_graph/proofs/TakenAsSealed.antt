@@ -9,8 +9,9 @@ use Rattle.fst_types.proofs.{SealedSame.{Twin, back, forth, depends_same, need_w
 use Rattle.fst_heads.proofs.Touching.{touch_parts, touch_whole}
 use Rattle.fst_walks.specs.WayBack.{LeadsBack}
 use Rattle.fst_walks.proofs.{Backed.{Any, leads_stays, stays_sealed}, ComesBack.live_on, Holding.live_up, NearRow.under_weaker}
-use Rattle.fst_graph.proofs.{WholeRows.live_or_disk, Wholes.{memory_live, open_lives}}
+use Rattle.fst_graph.proofs.{WholeRows.live_or_disk, Wholes.{open_lives}}
 use Rattle.fst_types.specs.declared.grade.Grade.TheVariants as grade
+use Rattle.fst_types.proofs.Numbers.{memory_disk}
 
 module _ (old new : List Patch) (numbers g : ℕ) (H : SparseAreLawful old numbers) (gate : IsOpenNumber old g) (cascade : IsCascadeOf (map (sealed g) old) new) where
   K : SparseAreLawful new numbers
@@ -140,7 +141,7 @@ module _ (old new : List Patch) (numbers g : ℕ) (H : SparseAreLawful old numbe
   stays q d y i e =
       arrived (map (sealed g) old) new cascade K.no_cycle (λ p. IsOnDisk old p.number)
       (λ p b h bound on. let o = was p h in o.2.place b (sym o.2.block ∙ on) ∙ bound o.0 o.1 (sym o.2.number))
-      (λ p h bound open_gate. let o = was p h in memory_live o.0.place (H.on_disk_with_all.open_gates o.0 o.1 (o.2.was_open open_gate).0) (bound o.0 o.1 (sym o.2.number)))
+      (λ p h bound open_gate. let o = was p h in memory_disk o.0.place (H.on_disk_with_all.open_gates o.0 o.1 (o.2.was_open open_gate).0) (bound o.0 o.1 (sym o.2.number)))
       (λ p q h bound i c. let o = was p h in H.on_disk_with_all.disk o.0 o.1 (bound o.0 o.1 (sym o.2.number)) q.number (subst (λ ds. Contains ds q.number) o.2.dependencies c))
       y i (subst (IsOnDisk old) (sym e) d)
 

@@ -11,9 +11,10 @@ use Rattle.fst_graph.specs.Sparse.{AddsSparse, ForeseesSparse, ForetellsSparse, 
 use Rattle.fst_types.proofs.{Alike.{back_alike, open_back}, Loosened.loosened, Sealing.alike_sealed}
 use Rattle.fst_graph.proofs.WholeMember.{changed_is, member_is, foretold_is}
 use Rattle.fst_graph.proofs.WholeRows.{gate_live, live_or_disk, direct_gate, gated_whole, emptied_whole, sealed_whole, begun_whole, gains_whole, launched_is, launched_over, landed_whole, forgotten_is, forgotten_over, grouped_is}
-use Rattle.fst_graph.proofs.Wholes.{memory_live, is, was, each_whole, on_disk, open_number, sealed_number, memory_is, memory_was, depends_up, depends_down, blocked, set_is, set_back, set_was}
+use Rattle.fst_graph.proofs.Wholes.{is, was, each_whole, on_disk, open_number, sealed_number, memory_is, memory_was, depends_up, depends_down, blocked, set_is, set_back, set_was}
 use Rattle.fst_types.specs.declared.grade.Grade.TheVariants as grade
 use Rattle.fst_types.specs.declared.place.Place.TheVariants as place
+use Rattle.fst_types.proofs.Numbers.{memory_disk}
 
 -- each number has its place
 place_same : (rows : List (ℕ × List ℕ)) (n : ℕ) (xs : List Patch) → place_among (map (whole rows) xs) n ≡ place_among xs n
@@ -130,7 +131,7 @@ module _ (rows : List (ℕ × List ℕ)) (p : Known) (W : AreWhole rows p.heads 
   above_down g on gate shut (a, c, inr d) = elim (live_or_disk T g) [
     | inl l ↦ (a, c, inr (depends_down rows T n W.sparse D a g d l))
     | inr disk ↦ absurd (gate (λ k. elim k [
-      | inl o ↦ let u = (open_number rows T g).0 o in memory_live u.patch.place (D.open_gates u.patch u.head u.is_open) ((on_disk rows T g).0 disk u.patch u.head u.numbered)
+      | inl o ↦ let u = (open_number rows T g).0 o in memory_disk u.patch.place (D.open_gates u.patch u.head u.is_open) ((on_disk rows T g).0 disk u.patch u.head u.numbered)
       | inr s ↦ shut s
     ]))
   ]

@@ -8,9 +8,10 @@ use Rattle.fst_heads.specs.Rows.{touches, IsTouched, IsDependency}
 use Rattle.fst_graph.specs.{Rows.{row_of_kind, whole, IsSparseOf, AreWhole, whole_row}, Sparse.SparseChangeIsMade}
 use Rattle.fst_types.proofs.{Adding.on_disk_with_all_added, Alike.closure_map, Dropping.{filter_in, in_filter}, Finite.{In-from_Contains, Contains-from_In, In-append_left, In-append_right, In-map}}
 use Rattle.fst_types.proofs.{Contents.content_more, Fits.content_end, GateGains.In-unmap, Heads.heads_changed, Issuing.{among_in, in_among}, Loosened.loosened}
-use Rattle.fst_heads.proofs.{Placed.map_alike, Listing.numbers_rise, Forgetting.{live_place_of, not_disk}, Touching.depends_exactly}
+use Rattle.fst_heads.proofs.{Placed.map_alike, Listing.numbers_rise, Forgetting.{live_place_of}, Touching.depends_exactly}
 use Rattle.fst_graph.proofs.{WholeRows.named, Wholes.{swap_pushed, is, was, live_number, blocked, need_is, need_was, reaches, returns}}
 use Rattle.fst_types.specs.declared.grade.Grade.TheVariants as grades
+use Rattle.fst_types.proofs.Numbers.{not_disk}
 
 pub rule_same : (g : Grade) (P Q : Type 0) → (P ↔ Q) → FollowsRule g P → FollowsRule g Q
 rule_same grades.Hard P Q k r = k.0 r

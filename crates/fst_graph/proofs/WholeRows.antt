@@ -10,10 +10,11 @@ use Rattle.fst_types.proofs.{Crash.same_number, Dropping.{filter_in, in_filter, 
 use Rattle.fst_types.proofs.Heads.{heads_gated, heads_emptied, heads_depended}
 use Rattle.fst_types.proofs.{Heirs.{NoneShut, Heirs, heirs_pushed, heirs_cascade, heirs_gained, heirs_sealed, heirs_launched, heirs_landed, passes}, Issuing.heads_launched, Landing.heads_landed}
 use Rattle.fst_types.proofs.{Numbers.live_cases, Sealing.heads_sealed}
-use Rattle.fst_heads.proofs.{CountsAs.count_map, Forgetting.{live_place_of, not_disk}}
+use Rattle.fst_heads.proofs.{CountsAs.count_map, Forgetting.{live_place_of}}
 use Rattle.fst_walks.proofs.Holding.{live_up}
 use Rattle.fst_graph.proofs.Wholes.{whole_open, open_other, IsKept, kept_self, AreKept, kept_then, kept_map, kept_cascade, kept_pushed, sparse_kept, cascade_whole, swap_landed, swap_launched, swap_sealed, swap_gains, swap_filter, swap_pushed, open_lives, is, was, live_number, open_number, depends_up, depends_down}
 use Rattle.fst_types.specs.declared.place.Place.TheVariants as place
+use Rattle.fst_types.proofs.Numbers.{not_disk}
 
 -- where no patch with the number is live, it is on disk
 pub live_or_disk : (heads : List Patch) (n : ℕ) → IsLiveNumber heads n ⊎ IsOnDisk heads n

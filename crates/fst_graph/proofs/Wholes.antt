@@ -10,12 +10,10 @@ use Rattle.fst_types.proofs.{Alike.closure_map, Cascades.{place_decided, Settled
 use Rattle.fst_types.proofs.{Finite.{In-from_Contains, Contains-from_In, In-map, In, In-append_left}, GateGains.In-unmap}
 use Rattle.fst_walks.proofs.Holding.{live_up}
 use Rattle.fst_types.specs.declared.place.Place.TheVariants as place
-
-pub memory_live : (x : Place) → x ≡ place.Memory → x ≡ place.Disk → ⊥
-memory_live x a b = cc
+use Rattle.fst_types.proofs.Numbers.{memory_disk}
 
 pub open_lives : (heads : List Patch) → IsOnDiskWithAll heads → (g : ℕ) → IsOpenNumber heads g → IsLiveNumber heads g
-open_lives heads D g o = record { patch = o.patch; head = o.head; numbered = o.numbered; live = λ e. memory_live o.patch.place (D.open_gates o.patch o.head o.is_open) e }
+open_lives heads D g o = record { patch = o.patch; head = o.head; numbered = o.numbered; live = λ e. memory_disk o.patch.place (D.open_gates o.patch o.head o.is_open) e }
 
 -- a patch and the same with its whole row
 module _ (rows : List (ℕ × List ℕ)) (T : List Patch) where
@@ -79,7 +77,7 @@ module _ (rows : List (ℕ × List ℕ)) (T : List Patch) (numbers : ℕ) (S : I
   depends_down a b (join {q = r} d e) live = join (depends_down a r d (live_above r b e live)) (depends_down r b e live)
 
   open_live : (g : Patch) → Contains F g → IsOpenGate g → IsLiveNumber T g.number
-  open_live g h o = (live_number rows T g.number).1 (record { patch = g; head = h; numbered = refl; live = λ e. memory_live g.place (D.open_gates g h o) e })
+  open_live g h o = (live_number rows T g.number).1 (record { patch = g; head = h; numbered = refl; live = λ e. memory_disk g.place (D.open_gates g h o) e })
 
   pub blocked : (a : ℕ) → IsBlocked T a ↔ IsBlocked F a
   blocked a = (
