@@ -24,7 +24,7 @@ not_missized f size xs each h =
     let d = there xs h.0 lt in
     h.2 (get_or-map f xs h.0 d 0 lt ∙ each h.0 d lt)
 
-stable : (m n : ℕ) → ((m ≢ n) → ⊥) → m ≡ n
+pub stable : (m n : ℕ) → ((m ≢ n) → ⊥) → m ≡ n
 stable m n h = grind (arith, h)
 
 -- the other way

@@ -1,5 +1,5 @@
 -- What the type of a cache keeps, and what it shows, where it was opened over these slots.
-use Rattle.std.proofs.Common.{◌≡◌, ◌≢◌, ◌≤◌, ℕ, false, List, [], ◌∷◌, None, is_some, length, replicate, map, count_by, get_or, Some, refl, sym, ap, subst, ◌∙◌, inl, inr, arith}
+use Rattle.std.proofs.Common.{◌≡◌, ◌≤◌, ℕ, false, List, [], ◌∷◌, None, is_some, length, replicate, map, count_by, get_or, Some, refl, sym, ap, subst, ◌∙◌, inl, inr, arith}
 use Rattle.std.proofs.lemmas.List.{length-map}
 use Rattle.std.proofs.lemmas.List.Elements.{All-map}
 use Rattle.std.proofs.lemmas.Option.{slice_get_within, get_or_from_slice_get}
@@ -15,10 +15,7 @@ use Rattle.fst_seat.specs.Seats.{SeatView, seat_of, seats_of, blocks}
 use Rattle.fst_seat.specs.Residing.{are_loaded, residents_of}
 use Rattle.fst_seat.proofs.Dirty.{none_dirty, residents_are}
 use Rattle.fst_cache.specs.Kept.{IsKeptSeat, IsKept, state_of, view_of}
-use Rattle.fst_cache.proofs.OpenPlaced.{map-twice, placed_each, sized_each, found}
-
-agree : (m n : ℕ) → ((m ≢ n) → ⊥) → m ≡ n
-agree m n h = grind (arith, h)
+use Rattle.fst_cache.proofs.OpenPlaced.{map-twice, placed_each, sized_each, found, stable}
 
 none_loaded : {X : Type 0} (held : X → List ℕ) (index faults : X → ℕ) (slots : List X) → count_by (λ (s : SeatView). is_some s.loaded) (seats_of held index faults slots) ≡ 0
 none_loaded held index faults [] = refl
@@ -48,7 +45,7 @@ module _ {X : Type 0} (held : X → List ℕ) (index size_of faults : X → ℕ)
   first = state_of size resident tickets 0 (new_graph numbers many) [] (seats_of held index faults slots)
 
   one_each : length slots ≡ many
-  one_each = sym (length-map slots index) ∙ agree (length (map index slots)) many (λ other. free.0 (inl other))
+  one_each = sym (length-map slots index) ∙ stable (length (map index slots)) many (λ other. free.0 (inl other))
 
   pub state_opened : first ≡ opening size resident numbers tickets (map held slots)
   state_opened =

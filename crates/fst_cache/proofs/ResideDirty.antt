@@ -57,12 +57,6 @@ dirty_patch heads b e =
     let h = and_parts (is_live r.0) (is_on b r.0.kind) r.2 in
     (r.0, r.1, test_on b r.0 h.1, live_cases r.0.place h.0)
 
-pub flight_disk : (q : Place) → q ≡ place.Flight → q ≡ place.Disk → ⊥
-flight_disk q a b = cc
-
-pub memory_disk : (q : Place) → q ≡ place.Memory → q ≡ place.Disk → ⊥
-memory_disk q a b = cc
-
 head_same : {X : Type 0} {x y : X} {xs ys : List X} → x ∷ xs ≡ y ∷ ys → x ≡ y
 head_same e = cc
 

@@ -21,11 +21,9 @@ use Rattle.fst_seat.specs.Residing.{IsAtRestWhereAway}
 use Rattle.fst_cache.specs.Kept.{IsKept, block_patch, block_view}
 use Rattle.fst_seat.proofs.Seated.{block_here}
 use Rattle.fst_seat.proofs.Counts.{count_by_places, count_lt}
-use Rattle.fst_cache.proofs.ResideDirty.{dirty_from, dirty_patch, flight_disk, memory_disk, some_in, none_in, in_filter}
-
-map-twice : {X Y Z : Type 0} (f : Y → Z) (h : X → Y) (xs : List X) → map f (map h xs) ≡ map (λ (x : X). f (h x)) xs
-map-twice f h [] = refl
-map-twice f h (x ∷ xs) = ap (λ (r : List _). f (h x) ∷ r) (map-twice f h xs)
+use Rattle.fst_cache.proofs.ResideDirty.{dirty_from, dirty_patch, some_in, none_in, in_filter}
+use Rattle.fst_types.proofs.Numbers.{flight_disk, memory_disk}
+use Rattle.fst_cache.proofs.OpenPlaced.{map-twice}
 
 -- the bytes that a block makes of the state's changes are the state's
 pub view_bytes : (s : State) (b : ℕ) → block.fold_of (block_view s b).base (block_view s b).patches ≡ bytes_of s b

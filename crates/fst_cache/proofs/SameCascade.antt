@@ -11,6 +11,7 @@ use Rattle.fst_types.specs.Cascade.{placed_as, unsettled}
 use Rattle.fst_types.specs.State.{State, block_of}
 use Rattle.fst_types.proofs.Finite.{In}
 use Rattle.fst_cache.specs.Kept.{IsSameAt, block_patch}
+use Rattle.fst_types.proofs.Cascades.{unsettled_kind}
 
 never : (x : Bool) → (x && false) ≡ false
 never true = refl
@@ -21,12 +22,6 @@ right_true true y e = e
 right_true false y e = cc
 
 -- a cascade asks nothing of a change, and what it asks of others is no change
-kind_kept : (k : Kind) (p : Patch) → (placed_as k p).kind ≡ p.kind
-kind_kept (Change block at len grade) p = refl
-kind_kept Empty p = refl
-kind_kept OpenGate p = refl
-kind_kept SealedGate p = refl
-
 change_kept : (b : ℕ) (k : Kind) (p : Patch) → is_on b k ≡ true → placed_as k p ≡ p
 change_kept b (Change block at len grade) p e = refl
 change_kept b Empty p e = cc
@@ -40,7 +35,7 @@ test_kept mark b OpenGate p = refl
 test_kept mark b SealedGate p = never (mark place.Memory) ∙ sym (never (mark p.place))
 
 same_mark : (mark : Place → Bool) (b : ℕ) (p : Patch) → (mark (unsettled p).place && is_on b (unsettled p).kind) ≡ (mark p.place && is_on b p.kind)
-same_mark mark b p = ap (λ (k : Kind). mark (unsettled p).place && is_on b k) (kind_kept p.kind p) ∙ test_kept mark b p.kind p
+same_mark mark b p = ap (λ (k : Kind). mark (unsettled p).place && is_on b k) (unsettled_kind p.kind p) ∙ test_kept mark b p.kind p
 
 changes_unsettled : (at : Place) (b : ℕ) (xs : List Patch) → filter (is_change_at at b) (map unsettled xs) ≡ filter (is_change_at at b) xs
 changes_unsettled at b [] = refl

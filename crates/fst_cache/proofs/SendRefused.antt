@@ -14,15 +14,10 @@ use Rattle.fst_types.specs.Looks.{IsPick}
 use Rattle.fst_types.proofs.Stuck.{never_stuck_state}
 use Rattle.fst_graph.specs.Known.{Known, NoneFlies, unprepared}
 use Rattle.fst_seat.specs.Seats.{SeatView, blocks}
-use Rattle.fst_cache.specs.Kept.{IsKept, state_of}
+use Rattle.fst_cache.specs.Kept.{state_of}
 use Rattle.fst_cache.specs.Sending.{sending_order}
 use Rattle.fst_cache.specs.Replies.{IsStuck}
 use Rattle.fst_seat.proofs.Seated.{block_here, within}
-
--- the graph has nothing prepared any more: the rest is as it was
-module _ (size resident tickets made : ℕ) (graph graph' : Known) (contents : List (ℕ × List ℕ)) (seats : List SeatView) (same : graph' ≡ unprepared graph) where
-  pub kept_still : IsKept (state_of size resident tickets made graph contents seats) graph seats → IsKept (state_of size resident tickets made graph' contents seats) graph' seats
-  kept_still K = rw same (record { lawful = K.lawful; few = K.few; small = K.small; graph_blocks = K.graph_blocks; loaded = K.loaded; seat = K.seat })
 
 -- what may be written, or no memory for it
 pub step_choose : {V : Type 0} (names : V → List ℕ) (s : State) (b : ℕ) (r : Result V Fault) → (length s.blocks ≤ b → ⊥)

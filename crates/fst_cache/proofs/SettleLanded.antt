@@ -1,5 +1,6 @@
 -- What landing leaves of the changes of each block: on the others all, and on its own those in memory.
-use Rattle.std.proofs.Common.{◌≡◌, ◌≢◌, ℕ, Bool, true, false, List, map, filter, Some, refl, sym, subst, ◌∙◌, inl, inr, arith}
+use Rattle.std.proofs.lemmas.Option.{same_Some}
+use Rattle.std.proofs.Common.{◌≡◌, ◌≢◌, ℕ, Bool, true, false, List, map, filter, refl, sym, subst, ◌∙◌, inl, inr, arith}
 use Rattle.std.specs.Prelude.{◌&&◌}
 use Rattle.fst_types.specs.declared.place.Place.{Place}
 use Rattle.fst_types.specs.declared.place.Place.TheVariants as place
@@ -12,6 +13,7 @@ use Rattle.fst_types.proofs.Writes.{same_test}
 use Rattle.fst_types.proofs.Landing.{change_at, landed_cases}
 use Rattle.fst_cache.specs.Kept.{block_patch}
 use Rattle.fst_cache.proofs.SameCascade.{IsStill, still_self, lives_on, filter_mapped, changes_unmoved, dirty_unmoved, dirty_mapped}
+use Rattle.fst_types.proofs.Numbers.{flight_disk, memory_flight}
 
 left_true : (x y : Bool) → (x && y) ≡ true → x ≡ true
 left_true true y e = refl
@@ -20,17 +22,8 @@ left_true false y e = cc
 disk_dead : (p : Patch) → p.place ≡ place.Disk → is_live p ≡ true → ⊥
 disk_dead p d l = grind (arith, d, l)
 
-disk_flight : (p : Place) → p ≡ place.Disk → p ≡ place.Flight → ⊥
-disk_flight p a b = cc
-
 disk_memory : (p : Place) → p ≡ place.Disk → p ≡ place.Memory → ⊥
 disk_memory p a b = cc
-
-flight_memory : (p : Place) → p ≡ place.Flight → p ≡ place.Memory → ⊥
-flight_memory p a b = cc
-
-same_Some : (x y : ℕ) → Some x ≡ Some y → x ≡ y
-same_Some x y e = cc
 
 -- a patch of block b that lands
 module _ (b : ℕ) (o : Patch) (on : IsOn o b) (fly : o.place ≡ place.Flight) where
@@ -41,12 +34,12 @@ module _ (b : ℕ) (o : Patch) (on : IsOn o b) (fly : o.place ≡ place.Flight) 
   memory_down j =
       same_test (is_change_at place.Memory j down) (is_change_at place.Memory j o)
       (λ e. absurd (disk_memory down.place refl (change_at place.Memory j down e).1))
-      (λ e. absurd (flight_memory o.place fly (change_at place.Memory j o e).1))
+      (λ e. absurd (memory_flight o.place (change_at place.Memory j o e).1 fly))
 
   flight_down : (j : ℕ) → j ≢ b → is_change_at place.Flight j down ≡ is_change_at place.Flight j o
   flight_down j other =
       same_test (is_change_at place.Flight j down) (is_change_at place.Flight j o)
-      (λ e. absurd (disk_flight down.place refl (change_at place.Flight j down e).1))
+      (λ e. absurd (flight_disk down.place (change_at place.Flight j down e).1 refl))
       (λ e. absurd (other (same_Some j b (sym (change_at place.Flight j o e).0 ∙ on))))
 
   live_down : (j : ℕ) → lives_on j down ≡ true → lives_on j o ≡ true

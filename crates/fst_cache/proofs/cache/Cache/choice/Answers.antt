@@ -3,9 +3,10 @@ use Rattle.std.proofs.Common.{◌≡◌, ◌∙◌, ◌↔◌, Some, IsTrue, sli
 use Rattle.std.proofs.lemmas.{Bool.false≢true, Option.slice_get_read}
 use Rattle.fst_types.specs.Writable.{HasReady}
 use Rattle.fst_cache.specs.Kept.{state_of}
-use Rattle.fst_cache.proofs.SendRefused.{at_rest, busy_refused, kept_still, nothing_ready, sending_refused, sending_clear, on_ok, refused_memory}
+use Rattle.fst_cache.proofs.SendRefused.{at_rest, busy_refused, nothing_ready, sending_refused, sending_clear, on_ok, refused_memory}
 use Rattle.fst_cache.proofs.cache.Cache.choice.Goals.{After-has_ready}
 use Rattle.fst_cache.proofs.cache.Cache.choice.Goals as goal
+use Rattle.fst_cache.proofs.SameRefused.{kept_unprepared}
 
 -- the block's seat
 seated : (g : _) (c : After-has_ready g) → slice_get c.self.inside.seats.items c.args.block.0 ≡ Some c.index.result.now
@@ -25,7 +26,7 @@ pub invariant_of-self : goal.invariant_of-self
 invariant_of-self g c =
     let i = c.self.inside in
     record {
-      kept = kept_still i.size i.residents.most i.tickets i.made i.graph c.hard_held-held.new.self i.contents.items i.seats.items c.hard_held-held.ensures.same c.self.invariant.kept;
+      kept = kept_unprepared i.size i.residents.most i.tickets i.made i.graph c.hard_held-held.new.self i.contents.items i.seats.items c.hard_held-held.ensures.same c.self.invariant.kept;
       flying = c.self.invariant.flying;
       undoing = c.self.invariant.undoing;
       listed = c.self.invariant.listed;
@@ -35,7 +36,7 @@ pub invariant_of-self-in-Some : goal.invariant_of-self-in-Some
 invariant_of-self-in-Some g c =
     let i = c.self.inside in
     record {
-      kept = kept_still i.size i.residents.most i.tickets i.made i.graph c.hard_held-held.new.self i.contents.items i.seats.items c.hard_held-held.ensures.same c.self.invariant.kept;
+      kept = kept_unprepared i.size i.residents.most i.tickets i.made i.graph c.hard_held-held.new.self i.contents.items i.seats.items c.hard_held-held.ensures.same c.self.invariant.kept;
       flying = c.self.invariant.flying;
       undoing = c.self.invariant.undoing;
       listed = c.self.invariant.listed;
@@ -45,8 +46,8 @@ pub invariant_of-self-in-None : goal.invariant_of-self-in-None
 invariant_of-self-in-None g c =
     let i = c.self.inside in
     record {
-      kept = kept_still i.size i.residents.most i.tickets i.made c.hard_held-held.new.self c.chosen.new.self i.contents.items i.seats.items c.chosen.ensures.same
-          (kept_still i.size i.residents.most i.tickets i.made i.graph c.hard_held-held.new.self i.contents.items i.seats.items c.hard_held-held.ensures.same c.self.invariant.kept);
+      kept = kept_unprepared i.size i.residents.most i.tickets i.made c.hard_held-held.new.self c.chosen.new.self i.contents.items i.seats.items c.chosen.ensures.same
+          (kept_unprepared i.size i.residents.most i.tickets i.made i.graph c.hard_held-held.new.self i.contents.items i.seats.items c.hard_held-held.ensures.same c.self.invariant.kept);
       flying = c.self.invariant.flying;
       undoing = c.self.invariant.undoing;
       listed = c.self.invariant.listed;

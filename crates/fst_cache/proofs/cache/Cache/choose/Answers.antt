@@ -2,8 +2,9 @@ use Rattle.std.proofs.Common.{◌≤◌, length, refl, inl, arith}
 use Rattle.std.proofs.lemmas.List.{length-map}
 use Rattle.fst_types.specs.Step.{refused}
 use Rattle.fst_seat.specs.Names.{numbers_of}
-use Rattle.fst_cache.proofs.SendRefused.{kept_still, step_choose}
+use Rattle.fst_cache.proofs.SendRefused.{step_choose}
 use Rattle.fst_cache.proofs.cache.Cache.choose.Goals as goal
+use Rattle.fst_cache.proofs.SameRefused.{kept_unprepared}
 
 pub returns-then-block-len-clause-step : goal.returns-then-block-len-clause-step
 returns-then-block-len-clause-step g c =
@@ -14,7 +15,7 @@ pub invariant_of-self : goal.invariant_of-self
 invariant_of-self g c =
     let i = c.self.inside in
     record {
-      kept = kept_still i.size i.residents.most i.tickets i.made i.graph c.chosen.new.self i.contents.items i.seats.items c.chosen.ensures.same c.self.invariant.kept;
+      kept = kept_unprepared i.size i.residents.most i.tickets i.made i.graph c.chosen.new.self i.contents.items i.seats.items c.chosen.ensures.same c.self.invariant.kept;
       flying = c.self.invariant.flying;
       undoing = c.self.invariant.undoing;
       listed = c.self.invariant.listed;
