@@ -20,7 +20,7 @@ use Rattle.fst_types.proofs.Heirs.{NoneShut, Passes, passes_then}
 use Rattle.fst_types.proofs.GroupsHeld.{gate_same, IsMemberNow, IsKin, kin_self, gates_same, held, held_same, with_cases, with_kin, with_apart, with_length, tied_by}
 use Rattle.fst_types.proofs.Passing.{passes_gate, passes_change, passes_depend, passes_seal, Begins, begins}
 
-none_in : {X : Type 0} (x : X) → Contains [] x → ⊥
+pub none_in : {X : Type 0} (x : X) → Contains [] x → ⊥
 none_in x c = omega (arith, c.1)
 
 -- a new group
