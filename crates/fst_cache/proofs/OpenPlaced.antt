@@ -1,5 +1,5 @@
 -- Slots, each at its place and of the size.
-use Rattle.std.proofs.Common.{◌≡◌, ◌≢◌, ◌<◌, ℕ, zero, suc, List, [], ◌∷◌, map, Some, refl, sym, ap, ◌∙◌, arith, length, get_or, slice_get}
+use Rattle.std.proofs.Common.{◌≡◌, ◌≢◌, ◌<◌, ℕ, zero, suc, List, [], ◌∷◌, map, refl, sym, ap, ◌∙◌, arith, length, get_or}
 use Rattle.std.proofs.lemmas.List.{length-map, get_or-map}
 use Rattle.fst_types.specs.Order.{IsMisplaced, IsMissized}
 
@@ -33,11 +33,3 @@ placed_each f xs none k d lt = stable (f (get_or xs k d)) k (λ differs. none (k
 
 pub sized_each : {X : Type 0} (f : X → ℕ) (size : ℕ) (xs : List X) → (IsMissized size (map f xs) → ⊥) → (k : ℕ) (d : X) → k < length xs → f (get_or xs k d) ≡ size
 sized_each f size xs none k d lt = stable (f (get_or xs k d)) size (λ differs. none (k, rw length-map lt, λ e. differs (sym (get_or-map f xs k d 0 lt) ∙ e)))
-
-pub found : {X Y : Type 0} (f : X → Y) (xs : List X) (j : ℕ) (y : Y) → slice_get (map f xs) j ≡ Some y → (x : X) × (slice_get xs j ≡ Some x) × (f x ≡ y)
-found f [] j y e = cc
-found f (x ∷ xs) zero y e = (x, refl, same e)
-  where
-    same : Some (f x) ≡ Some y → f x ≡ y
-    same e = cc
-found f (x ∷ xs) (suc j) y e = found f xs j y e

@@ -15,7 +15,8 @@ use Rattle.fst_seat.specs.Seats.{SeatView, seat_of, seats_of, blocks}
 use Rattle.fst_seat.specs.Residing.{are_loaded, residents_of}
 use Rattle.fst_seat.proofs.Dirty.{none_dirty, residents_are}
 use Rattle.fst_cache.specs.Kept.{IsKeptSeat, IsKept, state_of, view_of}
-use Rattle.fst_cache.proofs.OpenPlaced.{map-twice, placed_each, sized_each, found, stable}
+use Rattle.fst_cache.proofs.OpenPlaced.{map-twice, placed_each, sized_each, stable}
+use Rattle.fst_seat.proofs.Exchanging.{map_get}
 
 none_loaded : {X : Type 0} (held : X → List ℕ) (index faults : X → ℕ) (slots : List X) → count_by (λ (s : SeatView). is_some s.loaded) (seats_of held index faults slots) ≡ 0
 none_loaded held index faults [] = refl
@@ -69,7 +70,7 @@ module _ {X : Type 0} (held : X → List ℕ) (index size_of faults : X → ℕ)
     graph_blocks = rw (length-map, one_each) refl;
     loaded = rw (none_loaded held index faults slots) (omega arith);
     seat = λ b seat e.
-        let r = found seat_at slots b seat e in
+        let r = map_get seat_at slots b seat e in
         let lt = slice_get_within slots b r.0 r.1 in
         subst (IsKeptSeat first b) r.2 (record {
           place = ap index (sym (get_or_from_slice_get slots b r.0 r.0 r.1)) ∙ placed_each index slots (λ m. free.0 (inr m)) b r.0 lt;

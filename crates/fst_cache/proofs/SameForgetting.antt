@@ -11,7 +11,7 @@ use Rattle.fst_types.specs.Counts.{is_dirty}
 use Rattle.fst_types.specs.Events.{Forget, Forgot}
 use Rattle.fst_types.specs.Step.{Step, accepted, forget}
 use Rattle.fst_types.proofs.Bounds.{step_keeps_lawful}
-use Rattle.fst_types.proofs.Dropping.{filter_in}
+use Rattle.fst_types.proofs.Dropping.{filter_in, flight_live}
 use Rattle.fst_types.proofs.Finite.{In}
 use Rattle.fst_types.proofs.Contents.{content_kept, has_in}
 use Rattle.fst_types.proofs.Landing.{change_at}
@@ -38,11 +38,6 @@ memory_lives : (p : Place) → p ≡ place.Memory → not (is_at p place.Disk) �
 memory_lives place.Memory e = refl
 memory_lives place.Flight e = refl
 memory_lives place.Disk e = cc
-
-flight_lives : (p : Place) → p ≡ place.Flight → not (is_at p place.Disk) ≡ true
-flight_lives place.Memory e = refl
-flight_lives place.Flight e = refl
-flight_lives place.Disk e = cc
 
 module _ (size resident tickets made dropped : ℕ) (graph graph' : Known) (contents contents' : List (ℕ × List ℕ)) (seats : List SeatView) (K : IsKept (state_of size resident tickets made graph contents seats) graph seats)
     (f : Forgets graph dropped graph') (left : contents' ≡ filter (λ e. has_number graph'.heads e.0) contents) where
@@ -71,7 +66,7 @@ module _ (size resident tickets made dropped : ℕ) (graph graph' : Known) (cont
       ∙ ap (map (block_patch contents)) (filter_twice (is_change_at place.Memory j) is_live graph.heads (λ p e. memory_lives p.place (change_at place.Memory j p e).1)))
 
   flying_left : (j : ℕ) → map (λ (p : Patch). p.number) (filter (is_change_at place.Flight j) graph'.heads) ≡ map (λ (p : Patch). p.number) (filter (is_change_at place.Flight j) graph.heads)
-  flying_left j = rw f.row.kept (ap (map (λ (p : Patch). p.number)) (filter_twice (is_change_at place.Flight j) is_live graph.heads (λ p e. flight_lives p.place (change_at place.Flight j p e).1)))
+  flying_left j = rw f.row.kept (ap (map (λ (p : Patch). p.number)) (filter_twice (is_change_at place.Flight j) is_live graph.heads (λ p e. flight_live p.place (change_at place.Flight j p e).1)))
 
   same_left : (j : ℕ) → IsSameAt before after_it j
   same_left j = record {
