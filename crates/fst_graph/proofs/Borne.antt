@@ -1,11 +1,11 @@
 -- What holds of the patches of heads, said of the patches of their nodes; and sums and counts that fit.
-use Rattle.std.proofs.Common.{◌≡◌, ◌<◌, ◌≤◌, ◌+◌, ◌∙◌, ℕ, false, List, [], ◌∷◌, ◌++◌, Result, Ok, Err, OnOk, is_err, map, set, get_or, Contains, sym, ap, subst, inl, inr, arith, Bool, count_by}
+use Rattle.std.proofs.Common.{◌≡◌, ◌<◌, ◌≤◌, ◌+◌, ℕ, false, List, [], ◌∷◌, ◌++◌, Result, Ok, Err, OnOk, is_err, map, set, get_or, Contains, sym, ap, subst, inl, inr, arith, Bool, count_by}
 use Rattle.std.proofs.lemmas.{Bool.cases_lt, List.length-map, List.Sums.count_by-le-length}
 use Rattle.std.specs.Global.{Vec}
 use Rattle.std.specs.List.Sorted.{IsStrictlyIncreasing}
 use Rattle.fst_types.specs.{Dependencies.DirectlyOn, Facts.SparseAreLawful, Gates.IsOpenNumber, Limits.max_heads, Patches.Patch, Tests.is_live}
 use Rattle.fst_heads.specs.{Heads.{patches_of}, Keeps.{Beside, IsInside}, Nodes.{Node, nodes_of, patches_in, pending_in, AreDistinct, AreSettled, node_of}}
-use Rattle.fst_heads.specs.{Pendings.{Fits, max_block, sums_of}, Spreading.{is_waiting, lands}, Standings.AllStand, declared.head.Head.Head, declared.standing.Standing.Standing}
+use Rattle.fst_heads.specs.{Pendings.{Fits, IsOf, max_block, sums_of}, Spreading.{is_waiting, lands}, Standings.AllStand, declared.head.Head.Head, declared.standing.Standing.Standing}
 use Rattle.fst_heads.proofs.{AtNumber.patches_in_nodes, Beside.waiting_live, Few.gain_few, PendingIn.found, Stands.{stand_landed, stand_landed_outside}, Sums.sums_fit}
 use Rattle.fst_heads.specs.declared.pending.Pending.TheVariants as pending
 
@@ -19,13 +19,17 @@ inside_nodes heads blocks inside = subst (λ ps. IsInside ps blocks) (sym (patch
 pub open_nodes : (heads : List Head) (g : ℕ) → IsOpenNumber (patches_of heads) g → IsOpenNumber (patches_in (nodes_of heads)) g
 open_nodes heads g gate = subst (λ ps. IsOpenNumber ps g) (sym (patches_in_nodes heads)) gate
 
+none_of : (b : ℕ) → IsOf b pending.Nothing → ⊥
+none_of b (inl e) = absurd (cc)
+none_of b (inr e) = absurd (cc)
+
 -- the sums of patches at rest fit
 pub settled_fits : (nodes : List Node) (blocks : ℕ) → blocks ≤ max_block → AreSettled nodes blocks → (x : Node) → Contains nodes x → Fits x.sums
 settled_fits nodes blocks narrow S x c =
     subst Fits (sym (S.summed x c))
     (sums_fit (pending_in nodes) x.patch.dependencies (λ n b e. elim (found nodes n) [
-      | inl f ↦ let lt = S.inside f.node b f.head (sym f.told ∙ e) in omega (arith, lt, narrow)
-      | inr none ↦ let off : pending.Nothing ≡ pending.Block b = sym none ∙ e in absurd (cc)
+      | inl f ↦ let lt = S.inside f.node b f.head (subst (IsOf b) f.told e) in omega (arith, lt, narrow)
+      | inr none ↦ absurd (none_of b (subst (IsOf b) none e))
     ]))
 
 -- a call that did not fail

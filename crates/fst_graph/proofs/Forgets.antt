@@ -3,7 +3,7 @@ use Rattle.std.proofs.Common.{◌≡◌, ◌↔◌, ◌≤◌, ◌<◌, ◌+◌,
 use Rattle.std.proofs.{Math.Path.fun_ext, lemmas.List.length-map}
 use Rattle.std.specs.Global.{Vec}
 use Rattle.fst_types.specs.{Facts.SparseAreLawful, Limits.max_heads, Tests.{is_among, is_at, is_live}}
-use Rattle.fst_heads.specs.{Heads.patches_of, Keeps.Tallies, Landed.flags, Lists.{Entry, AreListed}, Nodes.{Node, AreSettled, is_forgotten_in, node_of, nodes_of, patches_in, pending_in}, Pendings.{joined, of_kind, sums_of}}
+use Rattle.fst_heads.specs.{Heads.patches_of, Keeps.Tallies, Landed.flags, Lists.{Entry, AreListed}, Nodes.{Node, AreSettled, is_forgotten_in, node_of, nodes_of, patches_in, pending_in}, Pendings.{IsOf, joined, of_kind, sums_of}}
 use Rattle.fst_heads.specs.{Covers.Covering, declared.head.Head.Head, declared.lists.Listed.Listed, declared.standing.Standing.Standing}
 use Rattle.fst_heads.proofs.{AtNumber.patches_in_nodes, Beside.waiting_live, CountsAs.{like_as, stand_map}, Flagged.{all_told, flags_number, flags_patch, flags_pending, goes, goes_if, patches_flagged}, Placed.{SameLinks, distinct_kept, given_kept, linked_kept, links_mapped, unmapped}}
 use Rattle.fst_walks.specs.{Leveling.Leveling, Needing.Needing, declared.ends.Ends.Ends}
@@ -35,7 +35,7 @@ module _ (row : List ℕ) (nodes : List Node) where
     settled = each_marked (λ y. y.pending ≡ of_kind y.patch.kind y.patch.place (joined (pending_in marked) y.patch.dependencies)) (λ x e. e)
         (λ x c. S.settled x c ∙ ap (λ t. of_kind x.patch.kind x.patch.place (joined t x.patch.dependencies)) (sym told));
     placed = each_marked (λ y. (y.pending ≡ pending.Nothing) ↔ (y.patch.place ≡ place.Disk)) (λ x e. e) S.placed;
-    inside = λ y b c. each_marked (λ z. z.pending ≡ pending.Block b → b < blocks) (λ x e. e) (λ x d. S.inside x b d) y c;
+    inside = λ y b c. each_marked (λ z. IsOf b z.pending → b < blocks) (λ x e. e) (λ x d. S.inside x b d) y c;
   }
 
   pub tallies_marked : (numbers blocks : ℕ) (lists : List (List Entry)) (standings : List Standing) (queue : List ℕ) (cap : ℕ)

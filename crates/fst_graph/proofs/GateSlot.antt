@@ -3,7 +3,7 @@ use Rattle.std.proofs.Common.{◌≡◌, ℕ, Bool, true, false, List, get_or, C
 use Rattle.std.specs.Prelude.{OnOk, OnErr, IfErr}
 use Rattle.fst_types.specs.{Facts.SparseAreLawful, Gates.{IsGiven, IsOpenNumber, IsSealedNumber, IsGateNumber}, Groups.Group, Order.seal_order}
 use Rattle.fst_types.specs.{Patches.{Kind, Change, Empty, Patch, OpenGate, SealedGate}, Refusals.IsFirst, declared.fault.Fault.Fault, declared.grade.Grade.Grade}
-use Rattle.fst_heads.specs.{Heads.{IsRising, patch_of, patches_of}, Marks.{HasSlot, HasNone}, Nodes.{is_forgotten_in, node_of, nodes_of}, declared.head.Head.Head}
+use Rattle.fst_heads.specs.{Heads.{IsRising, patch_of, patches_of}, Slots.{HasSlot, HasNone}, Nodes.{is_forgotten_in, node_of, nodes_of}, declared.head.Head.Head}
 use Rattle.fst_graph.specs.{Grouping.SealsIfOpen, Known.{Known, unprepared, SealsGate}, Remembered.remembered}
 use Rattle.fst_types.proofs.Crash.{same_number}
 use Rattle.fst_heads.proofs.{Flagged.forgotten_here, PendingAt.node_in, Slots.{any_default, none_slot, patch_at, patch_is, patch_slot, rising_map, slot_in}}

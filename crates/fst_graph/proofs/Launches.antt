@@ -1,10 +1,10 @@
--- What is launched is what is ready of a block of which nothing is in flight.
-use Rattle.std.proofs.Common.{◌≡◌, ◌<◌, ◌∙◌, ℕ, List, [], ◌∷◌, Some, None, slice_get, length, map, get_or, set, Contains, refl, sym, ap, subst, arith}
-use Rattle.fst_types.specs.{Facts.SparseAreLawful, Patches.{Patch, block_of_kind}, Writable.{IsWritable, IsWritableSet}, Writing.launched, declared.number.PatchNo.PatchNo}
-use Rattle.fst_heads.specs.{Keeps.{IsInside, Tallies}, Lists.Entry, Names.numbers_of, Nodes.{Node, patches_in}, Spreading.launches, Standings.ready_on, declared.standing.Standing.Standing}
+-- What is launched is what is ready of a writable block.
+use Rattle.std.proofs.Common.{◌≡◌, ◌<◌, ◌==◌, ◌∙◌, ℕ, if◌then◌else◌, List, [], ◌∷◌, Some, None, slice_get, length, map, get_or, set, Contains, refl, sym, ap, subst, arith}
+use Rattle.fst_types.specs.{Facts.SparseAreLawful, Patches.{Patch, block_of_kind}, Writable.{IsWritable, IsWritableSet}, declared.number.PatchNo.PatchNo}
+use Rattle.fst_heads.specs.{Keeps.{IsInside, Tallies}, Lists.Entry, Names.numbers_of, Nodes.{Node, patches_in, AreSettled}, Spreading.{IsRisenOf, launches}, Standings.{held_on, ready_on}, declared.standing.Standing.Standing}
 use Rattle.fst_types.proofs.OneList.{lists_same}
-use Rattle.fst_heads.proofs.Placed.{patches_launched}
-use Rattle.fst_graph.proofs.{Marking.{ready_exact, writable_rests}, Tallied.tallies_launched}
+use Rattle.fst_walks.proofs.Ready.{ready_exact}
+use Rattle.fst_graph.proofs.{Marking.writable_rests, Tallied.tallies_launched}
 
 -- of one block there is one writable set
 same_set : (patches : List Patch) (b : ℕ) (xs ys : List ℕ) → IsWritableSet patches b xs → IsWritableSet patches b ys → xs ≡ ys
@@ -23,21 +23,23 @@ chosen_on patches b chosen n choice c =
     let w = choice.only n c in
     (w.0, w.2.in_memory.head, w.1, w.2.in_memory.change)
 
-pub tallies_chosen : (nodes : List Node) (numbers blocks b at : ℕ) (lists : List (List Entry)) (standings : List Standing) (queue : List ℕ) (cap : ℕ) (chosen : List ℕ) (old new : Standing)
-    → SparseAreLawful (patches_in nodes) numbers → SparseAreLawful (map (launched chosen) (patches_in nodes)) numbers
+-- what is chosen is what is ready
+pub chosen_ready : (nodes : List Node) (numbers blocks b : ℕ) (chosen : List ℕ) → SparseAreLawful (patches_in nodes) numbers → AreSettled nodes blocks → IsWritableSet (patches_in nodes) b chosen → chosen ≡ ready_on b nodes
+chosen_ready nodes numbers blocks b chosen H S choice = same_set (patches_in nodes) b chosen (ready_on b nodes) choice (ready_exact nodes numbers blocks H S b)
+
+pub tallies_chosen : (nodes new : List Node) (numbers blocks b : ℕ) (lists : List (List Entry)) (standings : List Standing) (queue : List ℕ) (cap : ℕ) (chosen : List ℕ) (old now : Standing)
+    → SparseAreLawful (patches_in nodes) numbers → SparseAreLawful (patches_in new) numbers
     → IsInside (patches_in nodes) blocks → Tallies nodes numbers blocks lists standings queue cap
-    → IsWritable (patches_in nodes) b → IsWritableSet (patches_in nodes) b chosen
-    → at ≡ b → old ≡ get_or standings at old → new ≡ record { ready = 0; held = old.held; flying = old.ready }
-    → Tallies (map (launches chosen) nodes) numbers blocks lists (set standings at new) queue cap
-tallies_chosen nodes numbers blocks b at lists standings queue cap chosen old new H H' inside T writable choice here was is =
+    → IsWritable (patches_in nodes) b → chosen ≡ ready_on b nodes
+    → old ≡ get_or standings b old → now ≡ record { ready = 0; held = old.held; flying = old.ready }
+    → IsRisenOf (map (launches chosen) nodes) new → AreSettled new blocks
+    → ((c : ℕ) → ready_on c new ≡ (if c == b then [] else ready_on c nodes)) → ((c : ℕ) → held_on c new ≡ held_on c nodes)
+    → Tallies new numbers blocks lists (set standings b now) [] cap
+tallies_chosen nodes new numbers blocks b lists standings queue cap chosen old now H H' inside T writable same was is risen settled ready held =
     let rests = writable_rests nodes blocks b standings old inside T.standing writable in
-    let same = same_set (patches_in nodes) b chosen (ready_on b nodes) choice (ready_exact nodes numbers blocks H T.settled standings b old T.standing rests.0 rests.1) in
-    let lawful = subst (λ ns. SparseAreLawful (patches_in (map (launches ns) nodes)) numbers) same (subst (λ ps. SparseAreLawful ps numbers) (sym (patches_launched nodes chosen)) H') in
-    let value = is ∙ ap (λ (s : Standing). record { ready = 0; held = s.held; flying = s.ready }) (was ∙ ap (λ k. get_or standings k old) here) in
-    let base = tallies_launched nodes numbers blocks b lists standings old queue cap H lawful T rests.0 rests.1 in
-    subst (λ ns. Tallies (map (launches ns) nodes) numbers blocks lists (set standings at new) queue cap) (sym same)
-    (subst (λ k. Tallies (map (launches (ready_on b nodes)) nodes) numbers blocks lists (set standings k new) queue cap) (sym here)
-    (subst (λ s. Tallies (map (launches (ready_on b nodes)) nodes) numbers blocks lists (set standings b s) queue cap) (sym value) base))
+    let value = is ∙ ap (λ (s : Standing). record { ready = 0; held = s.held; flying = s.ready }) was in
+    subst (λ s. Tallies new numbers blocks lists (set standings b s) [] cap) (sym value)
+    (tallies_launched nodes new numbers blocks b lists standings old queue cap H H' T rests.0 rests.1 (subst (λ ns. IsRisenOf (map (launches ns) nodes) new) same risen) settled ready held)
 
 -- the first of the chosen is among them
 pub first_named : (chosen : List PatchNo) (first : PatchNo) → 0 < length chosen → ((d : PatchNo) → first ≡ get_or chosen 0 d) → Contains (numbers_of chosen) first.0

@@ -20,6 +20,7 @@ pub mod PutNow
 pub mod Made
 pub mod Tallied
 pub mod Borne
+pub mod Risen
 pub mod Launches
 pub mod TakenAsSealed
 pub mod MemberReady

@@ -5,7 +5,7 @@ use Rattle.std.proofs.lemmas.{Bool.{cases_Bool, eqb-true, eqb-false, false≢tru
 use Rattle.std.specs.Global.{Vec}
 use Rattle.fst_types.specs.{Cascade.IsCascadeOf, Dependencies.{DirectlyOn, IsLiveNumber, IsOnDisk}, Facts.{SparseAreLawful, IsTied}, Gates.IsOpenNumber, Gating.sealed}
 use Rattle.fst_types.specs.{Grades.FollowsRule, Order.{make_order, room_order, NamesUnknown}, Patches.Patch, Refusals.NoneHolds, declared.{span.Span.Span}}
-use Rattle.fst_heads.specs.{Frames.{frames_of, HasRoomBelow}, Grading.MayBeHard, Heads.{IsRising, patches_of}, Keeps.Keeps, Marks.HasSlot}
+use Rattle.fst_heads.specs.{Frames.{frames_of, HasRoomBelow}, Grading.MayBeHard, Heads.{IsRising, patches_of}, Keeps.Keeps, Slots.HasSlot}
 use Rattle.fst_heads.specs.{Names.numbers_of, Nodes.{node_of, nodes_of, is_live_in, AreCounted}, Rows.IsSparseRow, declared.head.Head.Head}
 use Rattle.fst_graph.specs.{Fresh.HasPlaces, Membering.{ArePaired, BeginsAs, OverlapReaches}, Ready.{change_of, IsReady, IsMemberReady, MayBePut, HasRoomAround}}
 use Rattle.fst_graph.specs.{Sparse.{SparseChangeIsMade}, declared.prepared.Gates.Gates, declared.prepared.Prepared.Prepared as Stored}

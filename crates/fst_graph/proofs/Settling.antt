@@ -1,15 +1,15 @@
 -- What is pending of each patch after a call that tells none of its dependants of anything.
-use Rattle.std.proofs.Common.{◌≡◌, ◌≢◌, ◌↔◌, ◌==◌, ℕ, ◌+◌, ◌<◌, ◌≤◌, Bool, true, false, not, if◌then◌else◌, List, [], ◌∷◌, ◌++◌, map, filter, AllPairs, Contains, refl, sym, ap, subst, ◌∙◌, inl, inr, arith}
+use Rattle.std.proofs.Common.{◌≡◌, ◌≢◌, ◌↔◌, ◌⊎◌, ◌==◌, ℕ, ◌+◌, ◌<◌, ◌≤◌, false, not, List, [], ◌∷◌, ◌++◌, map, filter, AllPairs, Contains, refl, sym, ap, subst, ◌∙◌, inl, inr, arith}
 use Rattle.std.proofs.lemmas.{Bool.{cond_both, cases_Bool, cases_eq, eq-eqb, ne_eqb}, List.Elements.{Contains-append_left, Contains-push}}
 use Rattle.std.specs.List.Sorted.{IsStrictlyIncreasing}
 use Rattle.fst_types.specs.{Cascade.Follows, Dependencies.IsLiveNumber, Facts.SparseAreLawful, Gates.IsOpenNumber}
 use Rattle.fst_types.specs.{Patches.{Kind, Change, Empty, OpenGate, SealedGate, Patch, IsOn, block_of_kind}, Tests.{is_at, is_live, is_among, is_change_at}, declared.place.Place.Place}
-use Rattle.fst_heads.specs.{Nodes.{Node, patches_in, pending_in, at_number, linked_to, gains_names, AreSettled}, Pendings.{joined, of_change, of_kind, over_block, sums_of, together}}
-use Rattle.fst_heads.specs.{Spreading.launches, Standings.{is_ready_on, ready_on}, declared.pending.Pending.Pending, declared.pending.Sums.Sums}
-use Rattle.fst_types.proofs.{Crash.same_number, Dropping.filter_in, Finite.{In, In-from_Contains, Contains-from_In}, GateGains.In-unmap, Issuing.among_in, Landing.change_at}
-use Rattle.fst_heads.proofs.{Added.{with_node, new_node, with_names}, AtNumber.{at_same, at_other}, Forgetting.and_parts, Linking.linked_patch}
+use Rattle.fst_heads.specs.{Nodes.{Node, patches_in, pending_in, at_number, linked_to, gains_names, AreSettled}, Pendings.{IsOf, Sinks, join, joined, of_change, of_kind, sums_of, together}}
+use Rattle.fst_heads.specs.{Standings.{is_ready_on, ready_on}, declared.pending.Pending.Pending, declared.pending.Sums.Sums}
+use Rattle.fst_types.proofs.{Crash.same_number, Dropping.filter_in, Finite.{In, In-from_Contains, Contains-from_In}, GateGains.In-unmap, Landing.change_at}
+use Rattle.fst_heads.proofs.{Added.{with_node, new_node, with_names}, AtNumber.{at_same, at_other}, Forgetting.and_parts, Joining.{behind_sinks, join_right, join_self, join_sinks, sinks_behind, sinks_to_nothing, sinks_trans}, Linking.linked_patch}
 use Rattle.fst_heads.proofs.{PendingIn.{later_number, rising_tail, told_of}, Waiting.pending_mapped}
-use Rattle.fst_heads.proofs.{Placed.{number_if, patch_in, node_of_patch, unmapped}, Sums.{joined_all_nothing, joined_nothing, joined_same, joined_some, sums_append, sums_same}}
+use Rattle.fst_heads.proofs.{Placed.{patch_in, node_of_patch}, Sums.{joined_all_nothing, joined_nothing, joined_same, joined_some, sums_append, sums_same}}
 use Rattle.fst_walks.proofs.Linked.{made_was, both, both_nodes, both_number, named_was}
 use Rattle.fst_types.specs.declared.place.Place.TheVariants as place
 use Rattle.fst_heads.specs.declared.pending.Pending.TheVariants as pending
@@ -46,7 +46,7 @@ pub record SettledAt (told : ℕ → Pending) (blocks : ℕ) (x : Node) : Type 0
   pub summed : x.sums ≡ sums_of told x.patch.dependencies
   pub settled : x.pending ≡ of_kind x.patch.kind x.patch.place (joined told x.patch.dependencies)
   pub placed : (x.pending ≡ pending.Nothing) ↔ (x.patch.place ≡ place.Disk)
-  pub inside : (b : ℕ) → x.pending ≡ pending.Block b → b < blocks
+  pub inside : (b : ℕ) → IsOf b x.pending → b < blocks
 
 pub settled_in : (nodes : List Node) (blocks : ℕ) → AreSettled nodes blocks → (x : Node) → Contains nodes x → SettledAt (pending_in nodes) blocks x
 settled_in nodes blocks S x c = record { summed = S.summed x c; settled = S.settled x c; placed = S.placed x c; inside = λ b. S.inside x b c }
@@ -82,21 +82,18 @@ pending_linked nodes row n m =
 
 -- a new patch
 
-over_same : (c b : ℕ) (below : Pending) → over_block c below ≡ pending.Block b → c ≡ b
-over_same c b pending.Nothing e = cc
-over_same c b (pending.Block o) e = elim (cases_Bool (o == c)) [
-  | inl t ↦ let f : pending.Block c ≡ pending.Block b = rw t at e in cc
-  | inr t ↦ let f : pending.Apart ≡ pending.Block b = rw t at e in cc
-]
-over_same c b below e = cc
+-- what is pending of a change is left of it over whatever is below
+over_first : (p below : Pending) → Sinks (join p below) p
+over_first p below = subst (Sinks (join p below)) (join_right p) (join_sinks p below p pending.Nothing (join_self p) (sinks_to_nothing below))
 
-over_some : (c : ℕ) (below : Pending) → over_block c below ≢ pending.Nothing
-over_some c pending.Nothing e = cc
-over_some c (pending.Block o) e = elim (cases_Bool (o == c)) [
-  | inl t ↦ let f : pending.Block c ≡ pending.Nothing = rw t at e in cc
-  | inr t ↦ let f : pending.Apart ≡ pending.Nothing = rw t at e in cc
-]
-over_some c below e = cc
+over_some : (p below : Pending) → join p below ≡ pending.Nothing → p ≡ pending.Nothing
+over_some p below e = subst (λ q. Sinks q p) e (over_first p below)
+
+over_same : (c b : ℕ) (p below : Pending) → IsOf c p → IsOf b (join p below) → c ≡ b
+over_same c b p below own w = same c b p own (sinks_behind b p (sinks_trans (pending.Behind b) (join p below) p (behind_sinks b (join p below) w) (over_first p below)))
+  where
+    same : (c b : ℕ) (p : Pending) → IsOf c p → (p ≡ pending.Nothing) ⊎ IsOf b p → c ≡ b
+    same c b p own left = grind arith
 
 module _ (nodes : List Node) (numbers blocks : ℕ) (p : Patch) (H : SparseAreLawful (patches_in nodes) numbers) (H' : SparseAreLawful (patches_in nodes ++ p ∷ []) (numbers + 1))
     (S : AreSettled nodes blocks) (next : p.number ≡ numbers + 1) (rising : IsStrictlyIncreasing p.dependencies)
@@ -124,11 +121,11 @@ module _ (nodes : List Node) (numbers blocks : ℕ) (p : Patch) (H : SparseAreLa
       let x = live_node n c in
       x.2 ((S.placed x.0 x.1).0 (sym x.3 ∙ joined_nothing (pending_in nodes) p.dependencies e n c))
 
-  below_inside : (b : ℕ) → below ≡ pending.Block b → b < blocks
+  below_inside : (b : ℕ) → IsOf b below → b < blocks
   below_inside b e =
       let n = joined_some (pending_in nodes) p.dependencies b e in
       let x = live_node n.0 n.1 in
-      S.inside x.0 b x.1 (sym x.3 ∙ n.2)
+      S.inside x.0 b x.1 (subst (IsOf b) x.3 n.2)
 
   new_head : Contains (patches_in nodes ++ p ∷ []) p
   new_head = Contains-push (patches_in nodes) p
@@ -143,8 +140,9 @@ module _ (nodes : List Node) (numbers blocks : ℕ) (p : Patch) (H : SparseAreLa
   )
 
   change_placed : (b : ℕ) (q : Place) → (of_change b q below ≡ pending.Nothing) ↔ (q ≡ place.Disk)
+  change_placed b place.Memory = (λ e. let none = over_some (pending.Block b) below e in absurd (cc), λ d. absurd (cc))
+  change_placed b place.Flight = (λ e. let none = over_some (pending.Behind b) below e in absurd (cc), λ d. absurd (cc))
   change_placed b place.Disk = (λ e. refl, λ d. refl)
-  change_placed b q = (λ e. absurd (over_some b below e), λ d. cc)
 
   kind_placed : (k : Kind) → p.kind ≡ k → (of_kind k p.place below ≡ pending.Nothing) ↔ (p.place ≡ place.Disk)
   kind_placed (Change b at len grade) e = change_placed b p.place
@@ -152,15 +150,18 @@ module _ (nodes : List Node) (numbers blocks : ℕ) (p : Patch) (H : SparseAreLa
   kind_placed OpenGate e = let memory = H'.on_disk_with_all.open_gates p new_head e in (λ none. cc, λ d. cc)
   kind_placed SealedGate e = follower_placed (subst Follows (sym e) tt)
 
-  change_inside : (c b : ℕ) (q : Place) → c < blocks → of_change c q below ≡ pending.Block b → b < blocks
-  change_inside c b place.Disk lt e = cc
-  change_inside c b q lt e = subst (λ k. k < blocks) (over_same c b below e) lt
+  change_same : (c b : ℕ) (q : Place) → IsOf b (of_change c q below) → c ≡ b
+  change_same c b place.Memory w = over_same c b (pending.Block c) below (inl refl) w
+  change_same c b place.Flight w = over_same c b (pending.Behind c) below (inr refl) w
+  change_same c b place.Disk (inl e) = absurd (cc)
+  change_same c b place.Disk (inr e) = absurd (cc)
 
-  kind_inside : (k : Kind) (b : ℕ) → p.kind ≡ k → of_kind k p.place below ≡ pending.Block b → b < blocks
-  kind_inside (Change c at len grade) b e same = change_inside c b p.place (on c (ap block_of_kind e)) same
-  kind_inside Empty b e same = below_inside b same
-  kind_inside OpenGate b e same = cc
-  kind_inside SealedGate b e same = below_inside b same
+  kind_inside : (k : Kind) (b : ℕ) → p.kind ≡ k → IsOf b (of_kind k p.place below) → b < blocks
+  kind_inside (Change c at len grade) b e w = subst (λ k. k < blocks) (change_same c b p.place w) (on c (ap block_of_kind e))
+  kind_inside Empty b e w = below_inside b w
+  kind_inside OpenGate b e (inl w) = absurd (cc)
+  kind_inside OpenGate b e (inr w) = absurd (cc)
+  kind_inside SealedGate b e w = below_inside b w
 
   new_settled : SettledAt (pending_in nodes) blocks (new_node nodes p)
   new_settled = record { summed = refl; settled = refl; placed = kind_placed p.kind refl; inside = λ b. kind_inside p.kind b refl }
@@ -219,47 +220,12 @@ module _ (nodes : List Node) (numbers blocks g : ℕ) (names : List ℕ) (H : Sp
       settled_told (pending_in nodes) (pending_in (with_names nodes g names sums)) blocks a (λ n c. names_told n)
       (subst (SettledAt (pending_in nodes) blocks) x.2 (settled_linked (pending_in nodes) blocks names g (at_number g (gains_names names sums) x.0) (gained_settled x.0 x.1))))
 
--- changes that are launched
-
--- in flight as much is pending as in memory
-flight_same : (k : Kind) (q : Pending) → of_kind k place.Memory q ≡ of_kind k place.Flight q
-flight_same (Change b at len grade) q = refl
-flight_same k q = refl
-
-flight_settled : (told : ℕ → Pending) (blocks : ℕ) (x : Node) → x.patch.place ≡ place.Memory → SettledAt told blocks x → SettledAt told blocks (record x { patch = record x.patch { place = place.Flight } })
-flight_settled told blocks x memory s = record {
-  summed = s.summed;
-  settled = s.settled ∙ (ap (λ q. of_kind x.patch.kind q (joined told x.patch.dependencies)) memory ∙ flight_same x.patch.kind (joined told x.patch.dependencies));
-  placed = (λ e. let d = s.placed.0 e in cc, λ d. cc);
-  inside = s.inside;
-}
-
-launched_either : (told : ℕ → Pending) (blocks : ℕ) (t : Bool) (x : Node) → (t ≡ true → x.patch.place ≡ place.Memory) → SettledAt told blocks x
-    → SettledAt told blocks (record x { patch = if t then record x.patch { place = place.Flight } else x.patch })
-launched_either told blocks true x memory s = flight_settled told blocks x (memory refl) s
-launched_either told blocks false x memory s = record { summed = s.summed; settled = s.settled; placed = s.placed; inside = s.inside }
-
 -- what is ready is in memory
 pub ready_memory : (b : ℕ) (nodes : List Node) (n : ℕ) → Contains (ready_on b nodes) n → (x : Node) × Contains nodes x × (x.patch.number ≡ n) × (x.patch.place ≡ place.Memory)
 ready_memory b nodes n c =
     let r = In-unmap (λ (x : Node). x.patch.number) (filter (is_ready_on b) nodes) n (In-from_Contains _ n c) in
     let k = filter_in (is_ready_on b) nodes r.0 r.1 in
     (r.0, Contains-from_In nodes r.0 k.0, r.2, (change_at place.Memory b r.0.patch (and_parts (is_change_at place.Memory b r.0.patch) _ k.1).0).1)
-
-pub launched_settled : (nodes : List Node) (numbers blocks b : ℕ) → SparseAreLawful (patches_in nodes) numbers → AreSettled nodes blocks → AreSettled (map (launches (ready_on b nodes)) nodes) blocks
-launched_settled nodes numbers blocks b H S =
-    let f = launches (ready_on b nodes) in
-    settled_all (map f nodes) blocks (λ a ca.
-    let x = unmapped f nodes a ca in
-    settled_told (pending_in nodes) (pending_in (map f nodes)) blocks a
-    (λ n c. pending_mapped f nodes n (λ y. number_if (is_among (ready_on b nodes) y.patch.number) y.patch _ refl) (λ y _. refl))
-    (subst (SettledAt (pending_in nodes) blocks) x.2
-    (launched_either (pending_in nodes) blocks (is_among (ready_on b nodes) x.0.patch.number) x.0
-    (λ t.
-    let y = ready_memory b nodes x.0.patch.number (Contains-from_In _ x.0.patch.number (among_in (ready_on b nodes) x.0.patch.number t)) in
-    let same = same_number (patches_in nodes) y.0.patch x.0.patch H.one_place_each.rising (patch_in nodes y.0 y.1) (patch_in nodes x.0 x.1) y.2 in
-    ap (λ q. q.place) (sym same) ∙ y.3)
-    (settled_in nodes blocks S x.0 x.1))))
 
 -- patches that are forgotten
 

@@ -3,7 +3,7 @@ use Rattle.std.proofs.Common.{length, ◌≡◌, ◌≤◌, ◌<◌, ◌+◌, �
 use Rattle.std.proofs.lemmas.List.{length-map}
 use Rattle.std.specs.Global.{Vec}
 use Rattle.fst_types.specs.{Cascade.{IsCascadeOf, unsettled}, Gates.IsOpenNumber, Gating.sealed}
-use Rattle.fst_heads.specs.{Covers.Covering, Heads.{IsRising, patch_of, patches_of}, Keeps.Keeps, Marks.HasSlot, Nodes.{node_of, nodes_of, at_number, AreDistinct, AreLinked, AreSettled}, Spreading.{is_waiting, seals, wakes_sealed, IsSpreadOf, Spreading}}
+use Rattle.fst_heads.specs.{Covers.Covering, Heads.{IsRising, patch_of, patches_of}, Keeps.Keeps, Slots.HasSlot, Nodes.{node_of, nodes_of, at_number, AreDistinct, AreLinked, AreSettled}, Pendings.Sinks, Spreading.{is_waiting, seals, wakes_sealed, IsSpreadOf, Spreading}}
 use Rattle.fst_heads.specs.{Standings.AllStand, declared.head.Head.Head, declared.lists.Listed.Listed, declared.standing.Standing.Standing}
 use Rattle.fst_walks.specs.{Leveling.{IsLeveled, Leveling}, Needing.Needing, declared.ends.Ends.Ends}
 use Rattle.fst_graph.specs.{Sound.AreSound, declared.prepared.Prepared.Prepared as Stored}
@@ -18,7 +18,7 @@ module _ {heads : Vec Head} {ends : Ends} {levels : Leveling} {needs : Needing} 
   -- what comes to rest may be told from there
   pub shut_ready : {waits : List ℕ} {cap : ℕ} → waits ≡ queue.items ++ wakes_sealed g (nodes_of heads.items) → cap ≡ queue.cap → standings.len ≤ 65535
       → record {
-        start : Spreading (nodes_of mid.items) standings.len waits;
+        start : Spreading Sinks (nodes_of mid.items) standings.len waits;
         linked : AreLinked (nodes_of mid.items);
         distinct : AreDistinct (nodes_of mid.items);
         standing : AllStand (nodes_of mid.items) standings.len standings.items;

@@ -1,13 +1,13 @@
 -- What holds of the fields that are sound: for a walk over them, of a block, for what is prepared, and after a call that leaves the patches as they are.
-use Rattle.std.proofs.{Common.{◌≡◌, ◌∙◌, ℕ, List, [], vec_capacity, Option, Some, None, IfSome, length, map, Contains, refl, sym, subst, arith, ◌<◌, ◌+◌, ◌↔◌, ◌&&◌, Bool, true, get_or, ap}, lemmas.List.length-map}
+use Rattle.std.proofs.{Common.{◌≡◌, ◌∙◌, ℕ, List, Option, Some, None, IfSome, length, map, Contains, refl, sym, subst, arith, ◌<◌, ◌+◌, get_or, ap}, lemmas.List.length-map}
 use Rattle.std.specs.Global.{Vec}
 use Rattle.fst_types.specs.{Facts.SparseAreLawful, Gates.IsOpenNumber, Patches.Patch}
-use Rattle.fst_heads.specs.{Flights.IsBehind, Covers.{AreCovered, Covering}, Heads.{patch_of, patches_of, IsRising}, Keeps.IsInside, Lists.{entries_of, AreListed, entries_on}, Marks.{mark_in, mark_of}}
-use Rattle.fst_heads.specs.{Nodes.{Node, is_forgotten_in, nodes_of, patches_in, AreSettled}, Standings.{AllStand, NoneBelow, is_ready_on, ready_on, standing_of}, declared.head.Head.Head, declared.lists.Listed.Listed, declared.standing.Standing.Standing}
+use Rattle.fst_heads.specs.{Covers.{AreCovered, Covering}, Heads.{patch_of, patches_of, IsRising}, Keeps.IsInside, Lists.{entries_of, AreListed, entries_on}}
+use Rattle.fst_heads.specs.{Nodes.{is_forgotten_in, nodes_of, AreSettled}, Standings.{NoneBelow, standing_of}, declared.head.Head.Head, declared.lists.Listed.Listed, declared.standing.Standing.Standing}
 use Rattle.fst_walks.specs.{BothEnds.IsOver, Leveling.{IsLeveled, Leveling}, Needing.{IsNeeding, Needing}, Searching.{AreOver, TellsGates}, Sights.Sees, declared.block_walk.BlockWalk.BlockWalk, declared.ends.Ends.Ends, declared.needs.Way.Way, declared.sight.Sight.Sight}
 use Rattle.fst_graph.specs.{Fresh.IsRoomier, Remembered.AreGone, Sound.{AreRemembered, AreSound, IsPrepared, remembered_of}, declared.prepared.Prepared.Prepared as Stored}
 use Rattle.fst_heads.proofs.{AtNumber.patches_in_nodes, Slots.rising_heads}
-use Rattle.fst_walks.proofs.{Held.{heads_held, heads_live}, Numbered.number_of, Resting.{listed_at, shelves}, Seen.{same_patches, tallies_wider}}
+use Rattle.fst_walks.proofs.{Held.{heads_held, heads_live}, Resting.{listed_at, shelves}, Seen.{same_patches, tallies_wider}}
 use Rattle.fst_graph.proofs.{Flagged.{gone_from, rising_nodes, standing}, Remembered.remembered_lawful, NeedsNow.needing_as, Ranks.{along_as, leveled_as}}
 
 -- a walk over the heads and lists that are kept is one over those that are handed on
@@ -114,13 +114,6 @@ module _ {heads : Vec Head} {ends : Ends} {levels : Leveling} {needs : Needing} 
   pub searched_sound : {walked : Ends} → AreOver heads.items walked → (walked.up.crossed ≡ ends.up.crossed) × (walked.down.crossed ≡ ends.down.crossed) → AreSound heads walked levels needs lists covers standings queue live unmarked numbers blocks None
   searched_sound over crossed = walked_sound (searched_up over crossed.0) (searched_down over crossed.1)
 
-  -- and where the queue was lent for them
-  pub looked_sound : {walked : Ends} {lent : Vec ℕ} → AreOver heads.items walked → (walked.up.crossed ≡ ends.up.crossed) × (walked.down.crossed ≡ ends.down.crossed) → lent.items ≡ [] → vec_capacity lent ≡ vec_capacity queue
-      → AreSound heads walked levels needs lists covers standings lent live unmarked numbers blocks None
-  looked_sound {walked = walked} over crossed empty room =
-      let W = searched_sound {walked = walked} over crossed in
-      record { keeps = W.keeps; beside = W.beside; tallies = tallies_wider _ numbers blocks _ _ _ _ _ _ S.tallies (empty ∙ sym S.tallies.idle) (omega (arith, room)); covered = W.covered; along = W.along; leveled = W.leveled; needing = W.needing; given = W.given; none_below = W.none_below; prepared = tt }
-
   -- there may be more room for heads, marks and what waits in the queue
   pub roomier_sound : {heads' : Vec Head} {ends' : Ends} {levels' : Leveling} {queue' : Vec ℕ} → IsRoomier heads ends levels queue heads' ends' levels' queue' → AreSound heads' ends' levels' needs lists covers standings queue' live unmarked numbers blocks None
   roomier_sound {heads'} {queue' = queue'} R =
@@ -191,19 +184,6 @@ module _ {heads : Vec Head} {ends : Ends} {levels : Leveling} {needs : Needing} 
       let inside : b < blocks = omega (arith, lt, many_lists slice e) in
       (omega (arith, inside, ap length same, S.tallies.standing.long), λ d. ap (λ xs. get_or xs b d) same ∙ S.tallies.standing.each b d inside)
 
-  -- what is behind a flight of a block may be looked for
-  pub may_look : (sight : Sight) → sight.heads.now ≡ heads.items → sight.lists.now ≡ lists.items → sight.covers.now ≡ covers.items → sight.levels.now ≡ levels → sight.needs.now ≡ needs
-      → (b : ℕ) → b < length lists.items → {told : List Standing} → told ≡ standings.items
-      → record { sees : Sees sight; idle : queue.items ≡ []; over : AreOver sight.heads.now ends; block : b < length sight.lists.now; standing : AllStand (nodes_of sight.heads.now) (length told) told; long : length told ≡ length sight.lists.now }
-  may_look sight h l v r d b lt s = record {
-    sees = sees_all sight h l v r d;
-    idle = S.tallies.idle;
-    over = rw h over_both;
-    block = rw l lt;
-    standing = rw (h, s) (subst (λ n. AllStand (nodes_of heads.items) n standings.items) (sym S.tallies.standing.long) S.tallies.standing);
-    long = ap length s ∙ (S.tallies.standing.long ∙ (sym as_many_lists ∙ ap length (sym l)));
-  }
-
 -- what is forgotten is on disk, and the patches that are not forgotten are as many as heads are not marked
 module _ {heads : Vec Head} {ends : Ends} {levels : Leveling} {needs : Needing} {lists : Vec (Vec Listed)} {covers : Vec Covering} {standings : Vec Standing} {queue landed : Vec ℕ} {live forgotten unmarked numbers blocks : ℕ} {o p : Option Stored}
     (I : AreSound heads ends levels needs lists covers standings queue live unmarked numbers blocks o × AreRemembered heads.items landed forgotten p) where
@@ -221,19 +201,3 @@ pub if_prepared : {heads : Vec Head} {ends : Ends} {levels : Leveling} {needs : 
     → AreSound heads ends levels needs lists covers standings queue live unmarked numbers blocks o → (P : Stored → Type 0) → ((p : Stored) → o ≡ Some p → IsPrepared heads ends levels needs lists covers queue numbers blocks p → P p) → IfSome o P
 if_prepared {o = None} sound P follows = tt
 if_prepared {o = Some p} sound P follows = follows p refl sound.prepared
-
--- the marks that are handed on tell which of the ready changes are behind a flight
-pub behind_marked : (heads seen : List Head) (b : ℕ) (flying : Bool) (marks walked : List Bool) (given : Option (List Bool)) → seen ≡ heads → marks ≡ walked
-    → ((n : ℕ) → (flying && mark_of seen walked n) ≡ true → IsBehind (patches_of seen) b n)
-    → ((n : ℕ) → Contains (ready_on b (nodes_of seen)) n → IsBehind (patches_of seen) b n → (flying && mark_of seen walked n) ≡ true)
-    → ((hs : List Head) (n : ℕ) → mark_in hs given n ≡ (flying && mark_of hs marks n))
-    → (x : Node) → Contains (nodes_of heads) x → is_ready_on b x ≡ true → (mark_in heads given x.patch.number ≡ true) ↔ IsBehind (patches_in (nodes_of heads)) b x.patch.number
-behind_marked heads seen b flying marks walked given same back only each told x c ready =
-    let n = x.patch.number in
-    let says : mark_in heads given n ≡ (flying && mark_of heads walked n) = told heads n ∙ ap (λ k. flying && mark_of heads k n) back in
-    let patches = patches_in_nodes heads in (
-      λ e. subst (λ ps. IsBehind ps b n) (sym patches) (subst (λ hs. (flying && mark_of hs walked n) ≡ true → IsBehind (patches_of hs) b n) same (only n) (sym says ∙ e)),
-      λ h. says
-          ∙ subst (λ hs. Contains (ready_on b (nodes_of hs)) n → IsBehind (patches_of hs) b n → (flying && mark_of hs walked n) ≡ true) same (each n)
-          (number_of (is_ready_on b) (nodes_of heads) x c ready) (subst (λ ps. IsBehind ps b n) patches h),
-    )

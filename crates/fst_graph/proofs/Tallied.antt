@@ -1,19 +1,19 @@
 -- What stands beside the patches after each call.
-use Rattle.std.proofs.Common.{◌≡◌, ◌<◌, ◌≤◌, ◌==◌, ◌&&◌, ℕ, ◌+◌, false, List, [], ◌∷◌, ◌++◌, length, map, filter, get_or, set, Contains, refl, sym, ap, subst, ◌∙◌, inl, inr, arith}
+use Rattle.std.proofs.Common.{◌≡◌, ◌<◌, ◌≤◌, ◌==◌, ◌&&◌, ℕ, ◌+◌, false, if◌then◌else◌, List, [], ◌∷◌, ◌++◌, length, map, filter, get_or, set, Contains, refl, sym, ap, subst, ◌∙◌, inl, inr, arith}
 use Rattle.std.proofs.Math.Bool.{and-false}
 use Rattle.std.proofs.lemmas.{Bool.{cond_both, cases_Bool, cases_eq}, List.{length-map, length_push}, List.Sums.{length-filter, count_by-le-length}}
 use Rattle.std.specs.List.Sorted.{IsStrictlyIncreasing}
 use Rattle.fst_types.specs.{Dependencies.{DirectlyOn, IsLiveNumber}, Facts.SparseAreLawful, Gates.IsOpenNumber, Gating.gains, Lists.Lists}
 use Rattle.fst_types.specs.{Patches.{Patch, IsOn, OpenGate}, Tests.{is_live, is_on, is_change_at}, Writing.launched}
 use Rattle.fst_heads.specs.{Keeps.Tallies, Lists.{Entry, entries_on, is_live_on, AreListed}, Nodes.{Node, patches_in, at_number, linked_to, pending_in, AreLinked, AreGiven, AreDistinct, AreSettled}}
-use Rattle.fst_heads.specs.{Pendings.sums_of, Spreading.{IsSpreadOf, launches, lands, seals}, Standings.{AllStand, ready_on}, declared.standing.Standing.Standing}
+use Rattle.fst_heads.specs.{Pendings.sums_of, Spreading.{IsRisenOf, IsSpreadOf, launches, lands, seals}, Standings.{AllStand, held_on, ready_on}, declared.standing.Standing.Standing}
 use Rattle.fst_types.proofs.{Crash.same_number, Dropping.filter_in, Finite.{In, In-from_Contains, Contains-from_In}}
 use Rattle.fst_heads.proofs.{Added.{with_node, new_node, with_names}, AtNumber.{at_same, at_other}}
-use Rattle.fst_heads.proofs.Carried.{length_spread, linked_spread, given_spread, distinct_spread, listed_spread, linked_sealed, distinct_sealed, linked_landed, distinct_landed}
-use Rattle.fst_heads.proofs.Placed.{KeepLinks, SameLinks, patch_in, linked_kept, given_kept, distinct_kept, links_mapped, entries_mapped, launched_stands, launched_links, patches_launched, patches_dropped, entries_dropped, number_if, dependencies_if}
-use Rattle.fst_heads.proofs.Stands.{stand_gained, stand_launched, stand_dropped}
+use Rattle.fst_heads.proofs.Carried.{risen_spread, length_spread, linked_spread, given_spread, distinct_spread, listed_spread, linked_sealed, distinct_sealed, linked_landed, distinct_landed}
+use Rattle.fst_heads.proofs.Placed.{KeepLinks, SameLinks, patch_in, linked_kept, given_kept, distinct_kept, links_mapped, entries_mapped, launched_stands, launched_links, patches_dropped, entries_dropped, number_if, dependencies_if}
+use Rattle.fst_heads.proofs.Stands.{stand_gained, stand_dropped}
 use Rattle.fst_walks.proofs.Linked.{patches_made, made_linked, made_given, made_distinct, named_linked, named_given, named_distinct, patches_named, both, both_nodes, gain_stands}
-use Rattle.fst_graph.proofs.{Marking.{counted_settled, marked_settled}, Settling.{made_settled, depends_settled, launched_settled, dropped_settled, ready_memory}}
+use Rattle.fst_graph.proofs.{Marking.{counted_settled, marked_settled}, Risen.{patches_risen, ready_live, stand_risen}, Settling.{made_settled, depends_settled, dropped_settled}}
 use Rattle.fst_types.specs.declared.place.Place.TheVariants as place
 
 pub tallies_from : (nodes : List Node) (numbers given blocks : ℕ) (lists : List (List Entry)) (standings : List Standing) (queue : List ℕ) (cap : ℕ)
@@ -75,28 +75,31 @@ tallies_depends nodes numbers blocks lists standings queue cap g on names H H' T
     (subst (λ k. k ≤ cap) (sym (ap length (both_nodes g names sums nodes) ∙ length-map nodes (both g names sums))) T.room)
 
 -- the ready changes of a block of which nothing flies are in flight
-pub tallies_launched : (nodes : List Node) (numbers blocks b : ℕ) (lists : List (List Entry)) (standings : List Standing) (d : Standing) (queue : List ℕ) (cap : ℕ)
-    → SparseAreLawful (patches_in nodes) numbers → SparseAreLawful (patches_in (map (launches (ready_on b nodes)) nodes)) numbers
+pub tallies_launched : (nodes new : List Node) (numbers blocks b : ℕ) (lists : List (List Entry)) (standings : List Standing) (d : Standing) (queue : List ℕ) (cap : ℕ)
+    → SparseAreLawful (patches_in nodes) numbers → SparseAreLawful (patches_in new) numbers
     → Tallies nodes numbers blocks lists standings queue cap → b < blocks → (get_or standings b d).flying ≡ 0
-    → Tallies (map (launches (ready_on b nodes)) nodes) numbers blocks lists (set standings b (record { ready = 0; held = (get_or standings b d).held; flying = (get_or standings b d).ready })) queue cap
-tallies_launched nodes numbers blocks b lists standings d queue cap H H' T lt rest =
+    → IsRisenOf (map (launches (ready_on b nodes)) nodes) new → AreSettled new blocks
+    → ((c : ℕ) → ready_on c new ≡ (if c == b then [] else ready_on c nodes)) → ((c : ℕ) → held_on c new ≡ held_on c nodes)
+    → Tallies new numbers blocks lists (set standings b (record { ready = 0; held = (get_or standings b d).held; flying = (get_or standings b d).ready })) [] cap
+tallies_launched nodes new numbers blocks b lists standings d queue cap H H' T lt rest risen settled ready held =
     let chosen = ready_on b nodes in
+    let mid = map (launches chosen) nodes in
     let links = links_mapped (launches chosen) nodes (launched_links chosen) in
-    let live : (n : ℕ) → Contains chosen n → IsLiveNumber (patches_in nodes) n = λ n c.
-    let x = ready_memory b nodes n c in record { patch = x.0.patch; head = patch_in nodes x.0 x.1; numbered = x.2; live = λ disk. let memory = x.3 in cc } in
-    let long = length-map nodes (launches chosen) in
-    tallies_from (map (launches chosen) nodes) numbers numbers blocks lists _ queue cap H'
-    (linked_kept nodes _ links T.linked)
-    (given_kept nodes _ numbers links T.given)
-    (distinct_kept nodes _ links T.distinct)
-    (launched_settled nodes numbers blocks b H T.settled)
+    let spread = risen_spread mid new risen in
+    let long = length_spread mid new spread in
+    let same = length-map nodes (launches chosen) in
+    tallies_from new numbers numbers blocks lists _ [] cap H'
+    (linked_spread mid new spread (linked_kept nodes mid links T.linked))
+    (given_spread mid new numbers spread (given_kept nodes mid numbers links T.given))
+    (distinct_spread mid new spread (distinct_kept nodes mid links T.distinct))
+    settled
     (record {
       long = T.listed.long;
       each = λ c e inside. T.listed.each c e inside
-          ∙ sym (ap (entries_on c) (patches_launched nodes chosen) ∙ entries_mapped (launched chosen) c (patches_in nodes) (launched_stands nodes numbers chosen H.one_place_each live));
+          ∙ sym (ap (entries_on c) (patches_risen nodes new numbers blocks b H.one_place_each T.settled settled risen) ∙ entries_mapped (launched chosen) c (patches_in nodes) (launched_stands nodes numbers chosen H.one_place_each (ready_live b nodes)));
     })
-    (stand_launched nodes numbers blocks b standings d H.one_place_each lt rest T.standing) T.idle
-    (omega (arith, long, T.room))
+    (stand_risen nodes new numbers blocks b H.one_place_each T.settled settled risen standings d lt rest ready held T.standing) refl
+    (omega (arith, long, same, T.room))
 
 -- those on disk are forgotten
 pub tallies_dropped : (nodes : List Node) (numbers blocks : ℕ) (lists : List (List Entry)) (standings : List Standing) (queue : List ℕ) (cap : ℕ)

@@ -17,7 +17,7 @@ ghost use Rattle.fst_walks.specs.Leveling.{IsLeveled, level_of, no_ancestry, top
 
 use fst_heads::head::{Head, Kind};
 use fst_heads::links::{link, reserve_above};
-use fst_heads::pending::{Pending, over_block};
+use fst_heads::pending::{Pending, of_change};
 use fst_heads::row::{Row, row_sums};
 use fst_types::Place;
 use fst_walks::ancestors::ancestry_over;
@@ -89,10 +89,7 @@ fn pending_over(fresh: &Fresh, below: Pending) -> Pending
     ensures { result ≡ of_kind (kind_of fresh.now.kind) fresh.now.place below }
 {
     match fresh.kind {
-        Kind::Change(_, block, _) => match fresh.place {
-            Place::Memory | Place::Flight => over_block(block, below),
-            Place::Disk => Pending::Nothing,
-        },
+        Kind::Change(_, block, _) => of_change(block, fresh.place, below),
         Kind::OpenGate => Pending::Held,
         Kind::Empty | Kind::SealedGate => below,
     }

@@ -18,7 +18,7 @@ ghost use Rattle.fst_walks.specs.Telling.{IsTold};
 
 use crate::prepared::{Gates, Prepared, copy_of};
 use fst_heads::head::Head;
-use fst_heads::marks::slot_of;
+use fst_heads::slot::slot_of;
 use fst_heads::sparse::{Wanted, sparse_row};
 use fst_heads::test::Test;
 use fst_types::{PatchNo, Span};

@@ -25,9 +25,9 @@ use fst_heads::cascade::{cascade, seal_slot};
 use fst_heads::choice::{first_held, ready_set};
 use fst_heads::cover::{Cover, empty_covers};
 use fst_heads::head::Head;
+use fst_heads::launch::launch;
 use fst_heads::lists::{Listed, empty_lists, land_block};
-use fst_heads::marks::marks_if;
-use fst_heads::places::{block_of, launch_all};
+use fst_heads::places::block_of;
 use fst_heads::row::is_given;
 use fst_heads::standing::{
     Standing, empty_standings, flying_count, held_count, land_at, least_marked, ready_count,
@@ -35,10 +35,8 @@ use fst_heads::standing::{
 use fst_types::{BlockNo, Fault, PatchNo, Place, Shape};
 use fst_walks::ancestors::renew;
 use fst_walks::ends::Ends;
-use fst_walks::free::mark_behind;
 use fst_walks::levels::Levels;
 use fst_walks::needs::Needs;
-use fst_walks::sight::Sight;
 use fst_walks::sink::{sink_floor, sink_over};
 use std::alloc::{AllocError, Global};
 use std::marker::Model;
@@ -47,8 +45,8 @@ use std::marker::Model;
 /// are, each marked so. `ends` has two marks for each, and two places for each block, for the walks that find grades and
 /// cycles; `levels` has a level for each, and a floor for each block, and `needs` what each block needs.
 /// `lists` has for each block its changes that are not on disk, and
-/// `standings` has the mark of each. `queue` has a place for each head, for those of which their dependants are to be told and
-/// for where a way down goes on, and `landed` for the patches on disk that are not forgotten, whose numbers it has.
+/// `standings` has the mark of each. `queue` has a place for each head, for those of which their dependants are to be told,
+/// and `landed` for the patches on disk that are not forgotten, whose numbers it has.
 /// Where a change is prepared, there is a free place for it in each. `live` is how many of the patches are not on disk, and
 /// no block below `unmarked` may be written.
 #[derive(Drop)]
@@ -173,23 +171,8 @@ impl Sparse {
         let Some(list) = self.lists.get(block.0 as usize) else {
             return Ok(Vec::new(self.alloc));
         };
-        let sight = Sight {
-            heads: &self.heads,
-            lists: &self.lists,
-            covers: &self.covers,
-            levels: &self.levels,
-            needs: &self.needs,
-        };
-        let flying = mark_behind(
-            &sight,
-            &self.standings,
-            &mut self.ends,
-            &mut self.queue,
-            block.0,
-        );
-        let marks = marks_if(flying, self.ends.down.walk.marks());
         let most = ready_count(&self.standings, block.0);
-        ready_set(self.alloc, &self.heads, list, marks, most, block.0)
+        ready_set(self.alloc, &self.heads, list, most, block.0)
     }
 
     // As `seal`, but what was put behind the gate stays at the top.
@@ -275,7 +258,7 @@ impl Sparse {
         let Some(block) = block_of(&self.heads, first.0) else {
             return;
         };
-        launch_all(&mut self.heads, chosen);
+        launch(&mut self.heads, &mut self.queue, chosen, block);
         self.standings[block as usize].launch();
         self.needs.clear(block);
     }
@@ -317,23 +300,8 @@ impl Sparse {
         let Some(list) = self.lists.get(block.0 as usize) else {
             return None;
         };
-        let sight = Sight {
-            heads: &self.heads,
-            lists: &self.lists,
-            covers: &self.covers,
-            levels: &self.levels,
-            needs: &self.needs,
-        };
-        let flying = mark_behind(
-            &sight,
-            &self.standings,
-            &mut self.ends,
-            &mut self.queue,
-            block.0,
-        );
-        let marks = marks_if(flying, self.ends.down.walk.marks());
         let held = held_count(&self.standings, block.0);
-        first_held(&self.heads, list, marks, held, block.0)
+        first_held(&self.heads, list, held, block.0)
     }
 
     /// Whether the writable set of the block has a change, where nothing of the block is in flight. It takes no memory.

@@ -116,9 +116,3 @@ module _ (heads mid new : List Head) (f : Node → Node) (blocks live landed : �
 
   pub beside_landed : count_by is_waiting (nodes_of new) + landed ≡ count_by is_waiting (nodes_of mid) → Beside (patches_of heads) blocks live reached → Beside (patches_of new) blocks (live - landed) reached
   beside_landed counted B = record { places = B.places; counted = let all = landed_live counted in omega (arith, all, B.counted); few = omega (arith, B.few) }
-
--- what tells nobody anything, and leaves all settled, leaves the count
-pub beside_kept : (heads new : List Head) (f : Node → Node) (blocks live : ℕ) (reached : List Bool) → nodes_of new ≡ map f (nodes_of heads) → ((x : Node) → (f x).pending ≡ x.pending)
-    → AreSettled (nodes_of heads) blocks → AreSettled (nodes_of new) blocks → Beside (patches_of heads) blocks live reached → Beside (patches_of new) blocks live reached
-beside_kept heads new f blocks live reached made told old_settled new_settled B =
-    subst (λ n. Beside (patches_of new) blocks n reached) (omega arith) (beside_landed heads new new f blocks live 0 reached made told old_settled new_settled (omega arith) B)

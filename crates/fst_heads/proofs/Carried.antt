@@ -1,12 +1,19 @@
 -- What a spread, a seal and a landing keep: links, what was given, and the lists.
 use Rattle.fst_heads.proofs.{Basics.{◌≡◌, ℕ, List, length, map, sym, ap, ◌∙◌, length-map, rules}, Patches.all_settled}
-use Rattle.fst_heads.proofs.Words.{Entry, AreListed, Node, patches_in, at_number, AreLinked, AreGiven, AreDistinct, IsSpreadOf, unspread, seals, lands}
+use Rattle.fst_heads.proofs.Words.{Entry, AreListed, Node, patches_in, at_number, AreLinked, AreGiven, AreDistinct, IsSpreadOf, unspread, IsRisenOf, unrisen, seals, lands}
 use Rattle.fst_heads.proofs.Placed.{links_mapped, linked_kept, given_kept, distinct_kept, links_spread, unsettled_spread, entries_settled}
-use Rattle.fst_heads.proofs.Starting.{seal_same, land_same}
+use Rattle.fst_heads.proofs.{Starting.{seal_same, land_same}, Waiting.map_twice}
 
 -- a spread keeps links, what was given, and the lists
 pub spread_trans : (old mid new : List Node) → IsSpreadOf old mid → IsSpreadOf mid new → IsSpreadOf old new
 spread_trans old mid new a b = b ∙ a
+
+-- what rises only is spread
+pub risen_spread : (old new : List Node) → IsRisenOf old new → IsSpreadOf old new
+risen_spread old new risen = sym (bare new) ∙ (ap (map unspread) risen ∙ bare old)
+  where
+    bare : (nodes : List Node) → map unspread (map unrisen nodes) ≡ map unspread nodes
+    bare nodes = map_twice unspread unrisen nodes
 
 pub length_spread : (old new : List Node) → IsSpreadOf old new → length new ≡ length old
 length_spread old new spread = sym (length-map new unspread) ∙ (ap length spread ∙ length-map old unspread)

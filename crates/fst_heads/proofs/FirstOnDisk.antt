@@ -52,9 +52,6 @@ module _ {X : Type 0} (p : X → Bool) where
         }
 
     module _ (low high below : ℕ) (h : IsBetween xs low high below) where
-      pub between_end : high ≤ below → high ≡ prefix_len p xs
-      between_end le = sym (h.met (omega (arith, le, h.counted, taken_few xs high)))
-
       module _ (more : below < high) where
         pub between_inside : prefix_len p xs < high
         between_inside = elim (cases_lt (prefix_len p xs) high) [

@@ -1,5 +1,5 @@
 -- The walk along the list of a block, from both ends by turns, that lands what is in flight.
-use Rattle.fst_heads.proofs.Basics.{map-append, or_parts, take_more_set, take-set-le, drop-set, drop-set-lt, length-take, length-drop, take-append-drop, nil_from_length, ◌≡◌, ◌≢◌, ◌==◌, ◌&&◌, ◌||◌, ◌⊎◌, ℕ, suc, ◌<◌, ◌≤◌, ◌+◌, Bool, true, false, not, cond, List, [], ◌∷◌, ◌++◌, length, map, set, take, drop, filter, refl, sym, ap, ◌∙◌, inl, inr, subst, arith, list_any, cases_Bool, cases_eq, eq-eqb, ne_eqb, false≢true, append_assoc, length-append}
+use Rattle.fst_heads.proofs.Basics.{map-append, or_parts, take_more_set, take-set-le, drop-set, drop-set-lt, length-take, length-drop, take-append-drop, nil_from_length, ◌≡◌, ◌==◌, ◌&&◌, ◌||◌, ◌⊎◌, ℕ, suc, ◌<◌, ◌≤◌, ◌+◌, Bool, true, false, not, cond, List, [], ◌∷◌, ◌++◌, length, map, set, take, drop, filter, refl, sym, ap, ◌∙◌, inl, inr, subst, arith, list_any, cases_Bool, cases_eq, eq-eqb, ne_eqb, false≢true, append_assoc, length-append}
 use Rattle.fst_heads.proofs.Patches.{Place, is_at, is_on, is_change_at, is_among, In, In-map, in_filter, among_in, in_among}
 use Rattle.fst_heads.proofs.Words.{Head, Listed, lands, IsRising, patch_of, patches_of, is_live_on, entry, entries_on, entries_of, flying_on, Node, node_of, nodes_of, at_number}
 use Rattle.fst_heads.proofs.{AtNumber.{at_other, at_same}, Linking.{none_among, rising_as}, Placed.map_alike}

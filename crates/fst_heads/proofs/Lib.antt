@@ -9,7 +9,6 @@ pub mod Newest
 pub mod Covering
 pub mod Touching
 pub mod Forgetting
-pub mod Marked
 pub mod Leading
 pub mod Graded
 pub mod AtNumber
@@ -27,11 +26,14 @@ pub mod CountsAs
 pub mod Releasing
 pub mod Stands
 pub mod Turning
+pub mod Going
 pub mod Waiting
 pub mod Telling
 pub mod Popping
 pub mod Pended
 pub mod Starting
+pub mod Launching
+pub mod Rising
 pub mod Carried
 pub mod Passing
 pub mod Landing

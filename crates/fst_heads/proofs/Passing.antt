@@ -1,10 +1,8 @@
 -- The walk along the list of a block for those of its patches that pass a test.
-use Rattle.fst_heads.proofs.Basics.{length-filter, count_by-le-length, length-map, common_steps, cond, IfNone, IfSome, Option, None, Some, ◌≤◌, ◌++◌, reverse, reverse_onto, map-append, nil_from_length, ◌≡◌, ◌==◌, ◌&&◌, ◌||◌, ℕ, Bool, true, not, List, [], ◌∷◌, map, filter, length, refl, sym, ap, ◌∙◌, inr, list_any, cases_Bool, false≢true, and_parts, arith, inl, suc, ◌<◌, false, append-nil, append_assoc, length-append, map_push, cases_eq, eq-eqb, ne_eqb}
-use Rattle.fst_heads.proofs.Patches.{PatchNo, In, Contains-from_In, Place, is_at, is_change_at}
-use Rattle.fst_heads.proofs.Words.{numbers_of, is_free_on, is_bound_on, Head, Listed, IsRising, kind_of, patch_of, patches_of, entries_of, entries_on, is_live_on, Node, node_of, nodes_of, is_pending, is_ready_on, is_hard_kind}
+use Rattle.fst_heads.proofs.Basics.{common_steps, cond, IfNone, IfSome, Option, None, Some, ◌≤◌, ◌++◌, reverse, reverse_onto, map-append, nil_from_length, ◌≡◌, ◌==◌, ◌&&◌, ℕ, Bool, true, List, [], ◌∷◌, map, filter, length, refl, sym, ap, ◌∙◌, inr, list_any, cases_Bool, and_parts, arith, inl, suc, ◌<◌, false, append-nil, append_assoc, length-append, map_push}
+use Rattle.fst_heads.proofs.Patches.{PatchNo, In, Contains-from_In}
+use Rattle.fst_heads.proofs.Words.{numbers_of, is_held_on, Head, Listed, IsRising, patches_of, entries_of, entries_on, is_live_on, Node, node_of, nodes_of, is_ready_on}
 use Rattle.fst_heads.proofs.{Listing.{any_slot, numbers_on}, Slots.any_default}
-use Rattle.fst_heads.proofs.Patches.place
-use Rattle.fst_heads.proofs.Words.pending
 
 -- the node with number n passes
 abbrev pub passes_at : (Node → Bool) → List Node → ℕ → Bool
@@ -13,10 +11,6 @@ passes_at t nodes n = list_any (λ x. (x.patch.number == n) && t x) nodes
 -- the numbers of the list whose nodes pass
 abbrev pub passing : (Node → Bool) → List Head → List Listed → List ℕ
 passing t heads list = filter (passes_at t (nodes_of heads)) (map (λ e. e.number) (entries_of list))
-
-pub memory_live : (p : Place) (t : Bool) → (is_at p place.Memory && t) ≡ true → (not (is_at p place.Disk) && t) ≡ true
-memory_live place.Memory t e = e
-memory_live p t e = absurd (false≢true e)
 
 module _ (b : ℕ) (t : Node → Bool) (inside : (x : Node) → t x ≡ true → is_live_on b x.patch ≡ true) where
   passing_each : (f : ℕ → Bool) (heads : List Head) → ((h : Head) → In heads h → f h.number ≡ t (node_of h)) → filter f (numbers_on b heads) ≡ map (λ x. x.patch.number) (filter t (nodes_of heads))
@@ -34,30 +28,8 @@ module _ (b : ℕ) (t : Node → Bool) (inside : (x : Node) → t x ≡ true →
 pub ready_listed : (b : ℕ) (x : Node) → is_ready_on b x ≡ true → is_live_on b x.patch ≡ true
 ready_listed b x e = grind (arith, and_parts)
 
-pub free_listed : (behind : ℕ → Bool) (b : ℕ) (x : Node) → is_free_on behind b x ≡ true → is_live_on b x.patch ≡ true
-free_listed behind b x e = grind (arith, and_parts)
-
-pub bound_listed : (behind : ℕ → Bool) (b : ℕ) (x : Node) → is_bound_on behind b x ≡ true → is_live_on b x.patch ≡ true
-bound_listed behind b x e = grind (arith, and_parts)
-
--- what is free is ready and not behind a flight
-pub free_passes : (behind : ℕ → Bool) (b : ℕ) (nodes : List Node) (n : ℕ) → passes_at (is_free_on behind b) nodes n ≡ (passes_at (is_ready_on b) nodes n && not (behind n))
-free_passes behind b [] n = refl
-free_passes behind b (x ∷ xs) n = elim (cases_eq x.patch.number n) [
-  | inl e ↦ grind (arith, e, eq-eqb, cases_Bool, free_passes behind b xs n)
-  | inr ne ↦ rw (ne_eqb x.patch.number n ne) (free_passes behind b xs n)
-]
-
--- the test of the code says whether the node of the head passes
-module _ (behind : ℕ → Bool) (b : ℕ) (h d : Head) (n : ℕ) (back r : Bool) (at : h ≡ d) (number : d.number ≡ n) (told : back ≡ behind n) where
-  abbrev hard : Head → Bool
-  hard k = is_change_at place.Memory b (patch_of k) && is_hard_kind (kind_of k.kind)
-
-  abbrev more : Head → Bool
-  more k = not (is_pending k.pending (pending.Block b))
-
-  pub bound_at : r ≡ (hard h && (more h || back)) → is_bound_on behind b (node_of d) ≡ r
-  bound_at e = sym (e ∙ (ap (λ k. hard h && (more h || k)) (told ∙ ap behind (sym number)) ∙ ap (λ k. hard k && (more k || behind d.number)) at))
+pub held_listed : (b : ℕ) (x : Node) → is_held_on b x ≡ true → is_live_on b x.patch ≡ true
+held_listed b x e = grind (arith, and_parts)
 
 -- what passes of the list, by its first and by its last
 module _ (t : Node → Bool) (heads : List Head) (rest others : List Listed) (l : Listed) where
@@ -99,25 +71,9 @@ numbers_push front p = map_push (λ (n : PatchNo). n.0) front p
 pub numbers_turned : (back : List PatchNo) (p : PatchNo) → reverse (numbers_of (back ++ p ∷ [])) ≡ p.0 ∷ reverse (numbers_of back)
 numbers_turned back p = grind (arith, common_steps, reverse_onto, numbers_push back p)
 
-fewer : (f g : ℕ → Bool) → ((n : ℕ) → f n ≡ true → g n ≡ true) → (ns : List ℕ) → length (filter f ns) ≤ length (filter g ns)
-fewer f g less [] = omega arith
-fewer f g less (n ∷ ns) = let rest = fewer f g less ns in elim (cases_Bool (f n)) [
-  | inl e ↦ rw (e, less n e) omega (arith, rest)
-  | inr e ↦ elim (cases_Bool (g n)) [ inl h ↦ rw (e, h) omega (arith, rest) | inr h ↦ rw (e, h) rest ]
-]
-
--- no more are free than are ready
-pub passing_fewer : (behind : ℕ → Bool) (b : ℕ) (heads : List Head) (list : List Listed) → length (passing (is_free_on behind b) heads list) ≤ length (passing (is_ready_on b) heads list)
-passing_fewer behind b heads list =
-    fewer (passes_at (is_free_on behind b) (nodes_of heads)) (passes_at (is_ready_on b) (nodes_of heads))
-    (λ n e. (and_parts (passes_at (is_ready_on b) (nodes_of heads) n) (not (behind n)) (sym (free_passes behind b (nodes_of heads) n) ∙ e)).0) (map (λ e. e.number) (entries_of list))
-
 -- where one of those that are left passes, there is one
 pub found_some : (front back : List ℕ) (middle whole : List ℕ) (k : ℕ) → front ++ (middle ++ back) ≡ whole → length middle ≡ suc k → 0 < length whole
 found_some front back middle whole k e some = omega (arith, ap length e, length-append front (middle ++ back), length-append middle back, some)
-
-pub passing_few : (t : Node → Bool) (heads : List Head) (list : List Listed) → length (passing t heads list) ≤ length list
-passing_few t heads list = grind (arith, length-filter, count_by-le-length, length-map)
 
 numbers_reversed : (back : List PatchNo) → numbers_of (reverse back) ≡ reverse (numbers_of back)
 numbers_reversed [] = refl

@@ -1,18 +1,19 @@
 -- A number is taken from the queue of a cascade: its head is settled, and its dependants are told.
 use Rattle.fst_heads.proofs.Basics.{cond_both, ◌≡◌, ◌≢◌, ◌+◌, ◌<◌, ◌≤◌, ◌==◌, ℕ, false, List, [], ◌∷◌, ◌++◌, length, map, get_or, Contains, AllPairs, length-append, refl, sym, ap, subst, ◌∙◌, arith, length-map, get_or-map}
 use Rattle.fst_heads.proofs.Patches.{IsCascadeOf}
-use Rattle.fst_heads.proofs.Words.{Head, Pending, IsRising, patches_of, HasSlot, Node, node_of, nodes_of, patches_in, at_number, AreLinked, AreDistinct, Fits, max_block, Spreading, IsSpreadOf, CanHear, now, is_told, settles, heard, woken, heights}
+use Rattle.fst_heads.proofs.Words.{Head, Pending, IsRising, patches_of, HasSlot, Node, node_of, nodes_of, patches_in, at_number, AreLinked, AreDistinct, Fits, max_block, Spreading, IsSpreadOf, CanHear, now, is_told, settles, heard, woken, pending_in, IsRisenOf}
 use Rattle.fst_heads.proofs.{AtNumber.{at_same, patches_in_nodes}, Linking.rising_as, Slots.some_element, Slotted.{node_in_slot, node_is, rising_slots}}
 use Rattle.fst_heads.proofs.{Starting.cascaded_spread, Carried.{linked_spread, distinct_spread}}
-use Rattle.fst_heads.proofs.Telling.{spreading_fits, queue_fits, last_waits, live, can_hear, spreads_on, spread_of, lower}
+use Rattle.fst_heads.proofs.Telling.{spreading_fits, queue_fits, last_waits, live, can_hear, spreads_on, spread_of, each_goes, risen, nearer}
+use Rattle.fst_heads.proofs.{Going.OneWay, Waiting.distance}
 use Rattle.fst_heads.proofs.Words.pending
 
 -- the heads rise where one was settled
 pub rising_settled : (q : ℕ) (old new : List Head) → nodes_of new ≡ map (at_number q settles) (nodes_of old) → IsRising old → IsRising new
 rising_settled q old new e rising = rising_as (at_number q settles) (λ x. cond_both (x.patch.number == q) _ _ (λ (y : Node). y.patch.number ≡ x.patch.number) (λ t. refl) (λ f. refl)) new old e rising
 
-module _ (heads : List Head) (blocks : ℕ) (queue : List ℕ) (q s : ℕ) (narrow : blocks ≤ max_block)
-    (S : Spreading (nodes_of heads) blocks (queue ++ q ∷ [])) (linked : AreLinked (nodes_of heads)) (distinct : AreDistinct (nodes_of heads)) (found : HasSlot heads q s) where
+module _ {goes : Pending → Pending → Type 0} {far : Pending → ℕ} (way : OneWay goes far) (heads : List Head) (blocks : ℕ) (queue : List ℕ) (q s : ℕ) (narrow : blocks ≤ max_block)
+    (S : Spreading goes (nodes_of heads) blocks (queue ++ q ∷ [])) (linked : AreLinked (nodes_of heads)) (distinct : AreDistinct (nodes_of heads)) (found : HasSlot heads q s) where
   abbrev nodes : List Node
   nodes = nodes_of heads
 
@@ -65,12 +66,12 @@ module _ (heads : List Head) (blocks : ℕ) (queue : List ℕ) (q s : ℕ) (narr
     once_after d = subst (λ ms. AllPairs (λ m n. m ≢ n) ms) (sym (row_after d)) (distinct here here_in).1
 
     pub live_after : was ≢ pending.Nothing
-    live_after e = live nodes blocks queue q here narrow S linked distinct here_in here_number (sym was_is ∙ e)
+    live_after e = live way nodes blocks queue q here narrow S linked distinct here_in here_number (sym was_is ∙ e)
 
     pub hears_after : (y d : Node) → Contains after y → Contains (get_or after s d).dependants y.patch.number → CanHear was y
     hears_after y d c named =
         subst (λ p. CanHear p y) (sym was_is)
-        (can_hear nodes blocks queue q here narrow S linked distinct here_in here_number y (subst (λ ns. Contains ns y) after_is c) (subst (λ ms. Contains ms y.patch.number) (row_after d) named))
+        (can_hear way nodes blocks queue q here narrow S linked distinct here_in here_number y (subst (λ ns. Contains ns y) after_is c) (subst (λ ms. Contains ms y.patch.number) (row_after d) named))
 
     abbrev told : List Node
     told = map (heard here.dependants here.pending (now here)) (map (at_number q settles) nodes)
@@ -81,8 +82,8 @@ module _ (heads : List Head) (blocks : ℕ) (queue : List ℕ) (q s : ℕ) (narr
     woken_after : (d : Node) → woken (get_or after s d).dependants was is after ≡ woken here.dependants here.pending (now here) (map (at_number q settles) nodes)
     woken_after d = grind (arith, row_after, was_is, is_now, after_is)
 
-    spreads : Spreading told blocks (queue ++ woken here.dependants here.pending (now here) (map (at_number q settles) nodes))
-    spreads = spreads_on nodes blocks queue q here narrow S linked distinct here_in here_number
+    spreads : Spreading goes told blocks (queue ++ woken here.dependants here.pending (now here) (map (at_number q settles) nodes))
+    spreads = spreads_on way nodes blocks queue q here narrow S linked distinct here_in here_number
 
     pub room_after : (d : Node) → length queue + length (woken (get_or after s d).dependants was is after) ≤ length heads
     room_after d =
@@ -92,26 +93,30 @@ module _ (heads : List Head) (blocks : ℕ) (queue : List ℕ) (q s : ℕ) (narr
 
     -- what stands after it
     pub record Turn (next : List Node) (longer : List ℕ) : Type 0 where
-      pub spreading : Spreading next blocks longer
+      pub spreading : Spreading goes next blocks longer
       pub spread : IsSpreadOf nodes next
+      pub each_goes : (n : ℕ) → goes (pending_in nodes n) (pending_in next n)
+      pub risen : ((p : Pending) → goes p pending.Nothing → p ≡ pending.Nothing) → IsRisenOf nodes next
       pub are_linked : AreLinked next
       pub are_distinct : AreDistinct next
-      pub falls : heights next < heights nodes
+      pub falls : distance far next < distance far nodes
 
     pub turned : (next : List Node) (longer : List ℕ) → ((d : Node) → next ≡ map (heard (get_or after s d).dependants was is) after) → ((d : Node) → longer ≡ queue ++ woken (get_or after s d).dependants was is after) → Turn next longer
     turned next longer ns qs =
         let same : next ≡ told = ns here ∙ told_after here in
         let more : longer ≡ queue ++ woken here.dependants here.pending (now here) (map (at_number q settles) nodes) = qs here ∙ ap (λ ms. queue ++ ms) (woken_after here) in
-        let spread = spread_of nodes blocks queue q here narrow S linked distinct here_in here_number in
+        let spread = spread_of way nodes blocks queue q here narrow S linked distinct here_in here_number in
         rw (same, more) (record {
           spreading = spreads;
           spread = spread;
+          each_goes = each_goes way nodes blocks queue q here narrow S linked distinct here_in here_number;
+          risen = risen way nodes blocks queue q here narrow S linked distinct here_in here_number;
           are_linked = linked_spread nodes told spread linked;
           are_distinct = distinct_spread nodes told spread distinct;
-          falls = lower nodes blocks queue q here narrow S linked distinct here_in here_number;
+          falls = nearer way nodes blocks queue q here narrow S linked distinct here_in here_number;
         })
 
-pub cascaded_heads : (old new : List Head) (blocks : ℕ) → Spreading (nodes_of new) blocks [] → IsSpreadOf (nodes_of old) (nodes_of new) → IsCascadeOf (patches_of old) (patches_of new)
+pub cascaded_heads : {goes : Pending → Pending → Type 0} (old new : List Head) (blocks : ℕ) → Spreading goes (nodes_of new) blocks [] → IsSpreadOf (nodes_of old) (nodes_of new) → IsCascadeOf (patches_of old) (patches_of new)
 cascaded_heads old new blocks S spread =
     subst (λ ps. IsCascadeOf ps (patches_of new)) (patches_in_nodes old)
     (subst (λ ps. IsCascadeOf (patches_in (nodes_of old)) ps) (patches_in_nodes new) (cascaded_spread (nodes_of old) (nodes_of new) blocks S spread))

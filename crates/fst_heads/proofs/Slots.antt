@@ -1,10 +1,10 @@
 -- Slots, numbers and marks.
-use Rattle.fst_heads.proofs.Basics.{◌==◌, cond, find, All, AllPairs, ◌≡◌, ◌≢◌, ℕ, zero, suc, ◌<◌, Bool, true, false, List, [], ◌∷◌, length, get_or, Contains, Some, None, Result, Ok, Err, refl, sym, ap, subst, ◌∙◌, inl, inr, arith, IsSearchInRange, IsBinarySearchResult, IsNonDecreasingBy, map, nat_cmp}
+use Rattle.fst_heads.proofs.Basics.{◌==◌, cond, find, All, AllPairs, ◌≡◌, ◌≢◌, ℕ, zero, suc, ◌<◌, true, List, [], ◌∷◌, length, get_or, Contains, Some, None, Result, Ok, Err, refl, sym, ap, subst, ◌∙◌, inl, inr, arith, IsSearchInRange, IsBinarySearchResult, IsNonDecreasingBy, map, nat_cmp}
 use Rattle.fst_heads.proofs.Basics.{common_steps, ordering_index, cases_order, cases_lt, eq-eqb, ne_eqb, nat_tests, length-map, get_or-map}
 use Rattle.std.proofs.lemmas.Cmp.{ranked}
 use Rattle.fst_heads.proofs.Patches.{Patch, Rising, DirectlyOn, IsLiveNumber, Place, In, In-from_Contains, Contains-from_In, In-map}
 use Rattle.fst_heads.proofs.Patches.place
-use Rattle.fst_heads.proofs.Words.{is_live_place, Head, IsRising, patch_of, patches_of, HasSlot, HasNone, Has}
+use Rattle.fst_heads.proofs.Words.{is_live_place, Head, IsRising, patch_of, patches_of, HasSlot, HasNone}
 pub use Rattle.std.proofs.lemmas.List.{get_or_default as any_default}
 
 -- an element to stand for the default
@@ -98,10 +98,6 @@ named_at heads q r s d rising slot e =
 -- a number of a direct dependency belongs to a head
 pub direct_slot : (heads : List Head) (q r : ℕ) → DirectlyOn (patches_of heads) q r → (s : ℕ) × HasSlot heads q s
 direct_slot heads q r e = let t = slot_in heads e.patch e.head in (t.0, subst (λ n. HasSlot heads n t.0) e.numbered (patch_slot heads e.patch t.0 t.1 t.2))
-
--- the mark of a number is that of its slot
-pub has_at : (heads : List Head) (marks : List Bool) (n s : ℕ) → IsRising heads → HasSlot heads n s → Has heads marks n → get_or marks s false ≡ true
-has_at heads marks n s rising slot h = subst (λ k. get_or marks k false ≡ true) (slot_unique heads n h.slot s rising h.at slot) h.marked
 
 -- heads rise as their patches do
 pub rising_heads : (heads : List Head) → Rising (patches_of heads) → IsRising heads

@@ -75,7 +75,7 @@ rising_in nodes rising = rising_back (λ (x : Node). x.patch) nodes (λ x. x.pat
 -- where one block launches what is ready of it
 module _ (nodes : List Node) (rising : AllPairs (λ x y. x.patch.number < y.patch.number) nodes) (b : ℕ) where
   -- a number is one of those that are ready exactly if its node is
-  among_ready : (x : Node) → In nodes x → is_among (ready_on b nodes) x.patch.number ≡ is_ready_on b x
+  pub among_ready : (x : Node) → In nodes x → is_among (ready_on b nodes) x.patch.number ≡ is_ready_on b x
   among_ready x i = elim (cases_Bool (is_ready_on b x)) [
     | inl e ↦ in_among (ready_on b nodes) x.patch.number (In-map (λ (y : Node). y.patch.number) (filter (is_ready_on b) nodes) x x.patch.number (in_filter (is_ready_on b) nodes x i e) refl) ∙ sym e
     | inr e ↦ elim (cases_Bool (is_among (ready_on b nodes) x.patch.number)) [
@@ -88,22 +88,22 @@ module _ (nodes : List Node) (rising : AllPairs (λ x y. x.patch.number < y.patc
     ]
   ]
 
-  goes : (x : Node) → In nodes x → is_ready_on b x ≡ true → launches (ready_on b nodes) x ≡ record x { patch = record x.patch { place = place.Flight } }
+  pub goes : (x : Node) → In nodes x → is_ready_on b x ≡ true → launches (ready_on b nodes) x ≡ record x { patch = record x.patch { place = place.Flight } }
   goes x i e = ap (λ t. record x { patch = cond t (record x.patch { place = place.Flight }) x.patch }) (among_ready x i ∙ e)
 
-  stays : (x : Node) → In nodes x → is_ready_on b x ≡ false → launches (ready_on b nodes) x ≡ x
+  pub stays : (x : Node) → In nodes x → is_ready_on b x ≡ false → launches (ready_on b nodes) x ≡ x
   stays x i e = ap (λ t. record x { patch = cond t (record x.patch { place = place.Flight }) x.patch }) (among_ready x i ∙ e)
 
-  none_ready : (x : Node) → In nodes x → is_ready_on b (launches (ready_on b nodes) x) ≡ false
+  pub none_ready : (x : Node) → In nodes x → is_ready_on b (launches (ready_on b nodes) x) ≡ false
   none_ready x i = elim (cases_Bool (is_ready_on b x)) [ inl e ↦ ap (is_ready_on b) (goes x i e) | inr e ↦ ap (is_ready_on b) (stays x i e) ∙ e ]
 
-  held_as : (x : Node) → In nodes x → is_held_on b (launches (ready_on b nodes) x) ≡ is_held_on b x
+  pub held_as : (x : Node) → In nodes x → is_held_on b (launches (ready_on b nodes) x) ≡ is_held_on b x
   held_as x i = grind (arith, cases_Bool, and_parts, goes, stays)
 
   flies_as : (x : Node) → In nodes x → is_flying_on b x ≡ false → is_flying_on b (launches (ready_on b nodes) x) ≡ is_ready_on b x
   flies_as x i none = grind (arith, cases_Bool, and_parts, goes, stays)
 
-  launched_other : (c : ℕ) (x : Node) → In nodes x → c ≢ b → CountsAs c (launches (ready_on b nodes) x) x
+  pub launched_other : (c : ℕ) (x : Node) → In nodes x → c ≢ b → CountsAs c (launches (ready_on b nodes) x) x
   launched_other c x i ne = grind (arith, cases_Bool, and_parts, on_one, goes, off_as, stays, self_as)
 
 -- all that is ready of the block goes, and nothing else

@@ -2,7 +2,8 @@
 use Rattle.fst_heads.proofs.Basics.{◌≡◌, ◌≢◌, ◌⊎◌, ◌↔◌, ◌==◌, ◌&&◌, ◌<◌, ℕ, Bool, true, false, not, cond, List, [], ◌∷◌, Some, length, map, filter, AllPairs, Contains, refl, sym, ap, subst, ◌∙◌, inl, inr, arith, list_any, cases_Bool, cases_eq, eq-eqb, ne_eqb, eqb-true, both_ways, not-true, and_parts, rules}
 use Rattle.fst_heads.proofs.Basics.{Any-from_list_any, list_any-from_Any, length-map, get_or-map, AllPairs-filter}
 use Rattle.fst_heads.proofs.Patches.{Place, IsCascadeOf, Follows, RestsOnDisk, unsettled, IsOnDisk, SparseAreLawful, IsOpenNumber, sealed, Kind, Change, Empty, OpenGate, SealedGate, Patch, block_of_kind, is_change_at, landed, no_follower_on, same_number, filter_in, in_filter, In, In-from_Contains}
-use Rattle.fst_heads.proofs.Words.{Pending, IsInside, flying_on, Node, patches_in, pending_in, at_number, AreSettled, is_pending, joined, joined_sums, of_kind, Spreading, IsSpreadOf, now, is_told, seals, lands, wakes_sealed, Sinks, sums_of}
+use Rattle.fst_heads.proofs.Words.{Pending, IsInside, flying_on, Node, patches_in, pending_in, at_number, AreSettled, is_pending, joined, joined_sums, of_kind, Spreading, IsSpreadOf, now, is_told, seals, lands, wakes_sealed, Sinks, IsOf, sums_of}
+use Rattle.fst_heads.proofs.Going.{OneWay, sinks_way}
 use Rattle.fst_heads.proofs.{AtNumber.{at_same, at_other}, Joining.{held_sinks, sinks_to_nothing}, Pended.{now_row, told_now, now_at_rest}, PendingIn.found}
 use Rattle.fst_heads.proofs.Waiting.{pending_of, pending_mapped}
 use Rattle.fst_heads.proofs.{Placed.{SameLinks, patch_in, node_of_patch, number_if, dependencies_if, unsettled_spread, unmapped}, Slots.{rising_back, rising_map, some_element}}
@@ -16,8 +17,8 @@ use Rattle.fst_heads.proofs.Words.pending
 -- how a spread begins: f changes some of the nodes at rest, and the queue has those of which other is pending by that
 
 -- what a spread knows of each node, but for the sums and the queue
-pub record Sound (x : Node) (blocks : ℕ) : Type 0 where
-  pub sinks : Sinks x.pending (now x)
+pub record Sound (goes : Pending → Pending → Type 0) (x : Node) (blocks : ℕ) : Type 0 where
+  pub moves : goes x.pending (now x)
   pub placed : (now x ≡ pending.Nothing) ↔ (x.patch.place ≡ place.Disk)
   pub follow : Follows x.patch.kind → (x.patch.place ≡ place.Memory) ⊎ (x.patch.place ≡ place.Disk)
   pub changes : (b at len : ℕ) (grade : Grade) → x.patch.kind ≡ Change b at len grade → b < blocks
@@ -28,23 +29,23 @@ place_cases place.Flight = inr (inl refl)
 place_cases place.Disk = inr (inr refl)
 
 -- f leaves numbers, rows, dependants, sums, and what dependants were told
-pub record Begins (nodes : List Node) (blocks : ℕ) (f : Node → Node) (queue : List ℕ) : Type 0 where
+pub record Begins (goes : Pending → Pending → Type 0) (nodes : List Node) (blocks : ℕ) (f : Node → Node) (queue : List ℕ) : Type 0 where
   pub links : (x : Node) → SameLinks x (f x)
   pub sums : (x : Node) → (f x).sums ≡ x.sums
   pub pending : (x : Node) → (f x).pending ≡ x.pending
-  pub sound : (x : Node) → Contains nodes x → Sound (f x) blocks
+  pub sound : (x : Node) → Contains nodes x → Sound goes (f x) blocks
   pub queued : (n : ℕ) → Contains queue n → (x : Node) × Contains nodes x × (x.patch.number ≡ n) × (is_told (f x) ≡ false)
   pub waits : (x : Node) → Contains nodes x → is_told (f x) ≡ false → Contains queue x.patch.number
   pub once : AllPairs (λ m n. m ≢ n) queue
 
-module _ (nodes : List Node) (numbers blocks : ℕ) (H : SparseAreLawful (patches_in nodes) numbers) (inside : IsInside (patches_in nodes) blocks) (S : AreSettled nodes blocks) where
+module _ {goes : Pending → Pending → Type 0} {far : Pending → ℕ} (way : OneWay goes far) (nodes : List Node) (numbers blocks : ℕ) (H : SparseAreLawful (patches_in nodes) numbers) (inside : IsInside (patches_in nodes) blocks) (S : AreSettled nodes blocks) where
   -- each node at rest
-  pub sound_at_rest : (x : Node) → Contains nodes x → Sound x blocks
+  pub sound_at_rest : (x : Node) → Contains nodes x → Sound goes x blocks
   sound_at_rest x c =
       let same = now_at_rest nodes blocks S x c in
       let h = patch_in nodes x c in
       record {
-        sinks = inl same;
+        moves = subst (goes x.pending) (sym same) (way.stays x.pending);
         placed = (λ e. (S.placed x c).0 (sym same ∙ e), λ d. same ∙ (S.placed x c).1 d);
         follow = λ f. elim (place_cases x.patch.place) [
           | inl m ↦ inl m
@@ -56,12 +57,12 @@ module _ (nodes : List Node) (numbers blocks : ℕ) (H : SparseAreLawful (patche
         changes = λ b at len grade e. inside x.patch b h (ap block_of_kind e);
       }
 
-module _ (nodes : List Node) (blocks : ℕ) (f : Node → Node) (queue : List ℕ) (B : Begins nodes blocks f queue) where
+module _ {goes : Pending → Pending → Type 0} (nodes : List Node) (blocks : ℕ) (f : Node → Node) (queue : List ℕ) (B : Begins goes nodes blocks f queue) where
   was : (y : Node) → Contains (map f nodes) y → (x : Node) × Contains nodes x × (f x ≡ y)
   was = unmapped f nodes
 
-  sound : (y : Node) → Contains (map f nodes) y → Sound y blocks
-  sound y c = let x = was y c in subst (λ z. Sound z blocks) x.2 (B.sound x.0 x.1)
+  sound : (y : Node) → Contains (map f nodes) y → Sound goes y blocks
+  sound y c = let x = was y c in subst (λ z. Sound goes z blocks) x.2 (B.sound x.0 x.1)
 
   rising_nodes : IsRising (patches_in nodes) → AllPairs (λ x y. x.patch.number < y.patch.number) (map f nodes)
   rising_nodes rising =
@@ -75,14 +76,14 @@ module _ (nodes : List Node) (blocks : ℕ) (f : Node → Node) (queue : List �
       ∙ ap (sums_of (pending_in (map f nodes))) (sym (B.links x).dependencies)))
 
   -- then it goes on
-  pub begun : IsRising (patches_in nodes) → AreSettled nodes blocks → Spreading (map f nodes) blocks queue
+  pub begun : IsRising (patches_in nodes) → AreSettled nodes blocks → Spreading goes (map f nodes) blocks queue
   begun rising S = record {
     rising = rising_nodes rising;
     summed = λ y c. let x = was y c in subst (λ (z : Node). z.sums ≡ sums_of (pending_in (map f nodes)) z.patch.dependencies) x.2 (summed S x.0 x.1);
-    sinks = λ y c. (sound y c).sinks;
+    moves = λ y c. (sound y c).moves;
     placed = λ y c. (sound y c).placed;
     follow = λ y c g. (sound y c).follow g;
-    inside = λ y b c e. let x = was y c in S.inside x.0 b x.1 (sym (B.pending x.0) ∙ (ap (λ (z : Node). z.pending) x.2 ∙ e));
+    inside = λ y b c o. let x = was y c in S.inside x.0 b x.1 (subst (IsOf b) (ap (λ (z : Node). z.pending) (sym x.2) ∙ B.pending x.0) o);
     changes = λ y b at len grade c e. (sound y c).changes b at len grade e;
     queued = λ n c. let x = B.queued n c in (f x.0, Contains-from_In (map f nodes) (f x.0) (In-map f nodes x.0 (f x.0) (In-from_Contains nodes x.0 x.1) refl), (B.links x.0).number ∙ x.2, x.3);
     waits = λ y c e.
@@ -98,6 +99,15 @@ stays_told nodes blocks S x c = told_from x (now_at_rest nodes blocks S x c)
 -- what passes a test among the elements
 any_fails : {X : Type 0} (t : X → Bool) (xs : List X) (x : X) → In xs x → t x ≡ true → list_any t xs ≡ true
 any_fails t xs x h e = let c = Contains-from_In xs x h in list_any-from_Any t xs (c.0, x, c.1, c.2, e)
+
+-- no number stands twice among those of elements that rise
+pub numbers_once : {X : Type 0} (number : X → ℕ) (t : X → Bool) (xs : List X) → AllPairs (λ x y. number x < number y) xs → AllPairs (λ m n. m ≢ n) (map number (filter t xs))
+numbers_once number t xs rising i j d lt within same =
+    let fs = filter t xs in
+    let up : j < length fs = omega (arith, within, length-map fs number) in
+    let e = some_element fs j up in
+    let at = λ (k : ℕ) (up : k < length fs). get_or-map number fs k e d up in
+    omega (arith, same, AllPairs-filter (λ x y. number x < number y) t xs rising i j e lt up, at i (omega (arith, lt, up)), at j up)
 
 -- a sealed gate is on disk where its row has none that is not there
 pub sealed_cases : (x : Node) → ((x.sums.count ≡ 0) × (seals x ≡ record x { patch = record x.patch { kind = SealedGate; place = place.Disk } })) ⊎ ((x.sums.count ≢ 0) × (seals x ≡ record x { patch = record x.patch { kind = SealedGate } }))
@@ -130,11 +140,11 @@ module _ (nodes : List Node) (numbers blocks g : ℕ) (H : SparseAreLawful (patc
   open_held : (x : Node) → Contains nodes x → x.patch.kind ≡ OpenGate → x.pending ≡ pending.Held
   open_held x c is_open = S.settled x c ∙ ap (λ k. of_kind k x.patch.place (joined (pending_in nodes) x.patch.dependencies)) is_open
 
-  seals_sound : (x : Node) → Contains nodes x → x.patch.kind ≡ OpenGate → x.patch.place ≡ place.Memory → Sound (seals x) blocks
+  seals_sound : (x : Node) → Contains nodes x → x.patch.kind ≡ OpenGate → x.patch.place ≡ place.Memory → Sound Sinks (seals x) blocks
   seals_sound x c is_open memory = elim (sealed_cases x) [
     | inl e ↦ grind (arith, open_held, held_sinks, counted_nothing)
-    | inr e ↦ subst (λ y. Sound y blocks) (sym e.1) (record {
-      sinks = rw (open_held x c is_open) (held_sinks (now (record x { patch = record x.patch { kind = SealedGate } })));
+    | inr e ↦ subst (λ y. Sound Sinks y blocks) (sym e.1) (record {
+      moves = rw (open_held x c is_open) (held_sinks (now (record x { patch = record x.patch { kind = SealedGate } })));
       placed = (λ n. absurd (e.0 (nothing_counted x.sums n)), λ d. absurd (cc));
       follow = λ f. inl memory;
       changes = λ b at len grade k. absurd (cc);
@@ -157,14 +167,14 @@ module _ (nodes : List Node) (numbers blocks g : ℕ) (H : SparseAreLawful (patc
         )
       ]
 
-  seal_begins : Begins nodes blocks (at_number g seals) (wakes_sealed g nodes)
+  seal_begins : Begins Sinks nodes blocks (at_number g seals) (wakes_sealed g nodes)
   seal_begins = record {
     links = λ x. (seal_same g x).links;
     sums = λ x. (seal_same g x).sums;
     pending = λ x. (seal_same g x).pending;
     sound = λ x c. elim (seal_cases x c) [
-      | inl s ↦ subst (λ y. Sound y blocks) (sym s.3) (seals_sound x c s.1 s.2)
-      | inr s ↦ subst (λ y. Sound y blocks) (sym s.1) (sound_at_rest nodes numbers blocks H inside S x c)
+      | inl s ↦ subst (λ y. Sound Sinks y blocks) (sym s.3) (seals_sound x c s.1 s.2)
+      | inr s ↦ subst (λ y. Sound Sinks y blocks) (sym s.1) (sound_at_rest sinks_way nodes numbers blocks H inside S x c)
     ];
     queued = λ n c. elim wake_cases [
       | inl r ↦ elim (In-from_Contains (g ∷ []) n (subst (λ q. Contains q n) r.4 c)) [
@@ -185,7 +195,7 @@ module _ (nodes : List Node) (numbers blocks g : ℕ) (H : SparseAreLawful (patc
 
 -- where a gate is sealed
 pub starts_sealed : (nodes : List Node) (numbers blocks g : ℕ) → SparseAreLawful (patches_in nodes) numbers → IsInside (patches_in nodes) blocks → AreSettled nodes blocks → IsOpenNumber (patches_in nodes) g
-    → Spreading (map (at_number g seals) nodes) blocks (wakes_sealed g nodes)
+    → Spreading Sinks (map (at_number g seals) nodes) blocks (wakes_sealed g nodes)
 starts_sealed nodes numbers blocks g H inside S gate = begun nodes blocks (at_number g seals) (wakes_sealed g nodes) (seal_begins nodes numbers blocks g H inside S gate) H.one_place_each.rising S
 
 -- a change on disk has nothing pending
@@ -215,22 +225,16 @@ module _ (nodes : List Node) (numbers blocks b : ℕ) (H : SparseAreLawful (patc
       Contains-from_In _ x.patch.number (In-map (λ (p : Patch). p.number) (filter (is_change_at place.Flight b) (patches_in nodes)) x.patch x.patch.number k refl)
 
   flying_once : AllPairs (λ m n. m ≢ n) (flying_on b (patches_in nodes))
-  flying_once i j d lt within same =
-      let fs = filter (is_change_at place.Flight b) (patches_in nodes) in
-      let rising = AllPairs-filter (λ (p : Patch) (q : Patch). p.number < q.number) (is_change_at place.Flight b) (patches_in nodes) H.one_place_each.rising in
-      let up : j < length fs = omega (arith, within, length-map fs (λ (p : Patch). p.number)) in
-      let e = some_element fs j up in
-      let at = λ (k : ℕ) (up : k < length fs). get_or-map (λ (p : Patch). p.number) fs k e d up in
-      omega (arith, same, rising i j e lt up, at i (omega (arith, lt, up)), at j up)
+  flying_once = numbers_once (λ (p : Patch). p.number) (is_change_at place.Flight b) (patches_in nodes) H.one_place_each.rising
 
   -- what lands was in flight; the others stay
   land_cases : (x : Node) → ((is_change_at place.Flight b x.patch ≡ true) × (lands b x ≡ record x { patch = record x.patch { place = place.Disk } })) ⊎ (lands b x ≡ x)
   land_cases x = grind (arith, landed_cases, at_change)
 
-  lands_sound : (x : Node) → Contains nodes x → Sound (lands b x) blocks
+  lands_sound : (x : Node) → Contains nodes x → Sound Sinks (lands b x) blocks
   lands_sound x c = elim (land_cases x) [
     | inl m ↦ grind (arith, change_at, nothing_on_disk, sinks_to_nothing, no_follower_on, patch_in)
-    | inr s ↦ subst (λ y. Sound y blocks) (sym s) (sound_at_rest nodes numbers blocks H inside S x c)
+    | inr s ↦ subst (λ y. Sound Sinks y blocks) (sym s) (sound_at_rest sinks_way nodes numbers blocks H inside S x c)
   ]
 
   -- its dependants were told of a change in flight that it is not on disk
@@ -244,7 +248,7 @@ module _ (nodes : List Node) (numbers blocks b : ℕ) (H : SparseAreLawful (patc
     | inr s ↦ let flies = change_at place.Flight b x.patch here in absurd (s.1 flies.0 flies.1)
   ]
 
-  land_begins : Begins nodes blocks (lands b) (flying_on b (patches_in nodes))
+  land_begins : Begins Sinks nodes blocks (lands b) (flying_on b (patches_in nodes))
   land_begins = record {
     links = λ x. (land_same b x).links;
     sums = λ x. refl;
@@ -260,7 +264,7 @@ module _ (nodes : List Node) (numbers blocks b : ℕ) (H : SparseAreLawful (patc
 
 -- where a block landed
 pub starts_landed : (nodes : List Node) (numbers blocks b : ℕ) → SparseAreLawful (patches_in nodes) numbers → IsInside (patches_in nodes) blocks → AreSettled nodes blocks
-    → Spreading (map (lands b) nodes) blocks (flying_on b (patches_in nodes))
+    → Spreading Sinks (map (lands b) nodes) blocks (flying_on b (patches_in nodes))
 starts_landed nodes numbers blocks b H inside S = begun nodes blocks (lands b) (flying_on b (patches_in nodes)) (land_begins nodes numbers blocks b H inside S) H.one_place_each.rising S
 
 -- a patch that follows has nothing pending besides its row
@@ -269,7 +273,7 @@ follows_row Empty f at below = refl
 follows_row SealedGate f at below = refl
 follows_row k f at below = absurd f
 
-module _ (nodes : List Node) (blocks : ℕ) (S : Spreading nodes blocks []) where
+module _ {goes : Pending → Pending → Type 0} (nodes : List Node) (blocks : ℕ) (S : Spreading goes nodes blocks []) where
   -- all are told
   all_told : (x : Node) → Contains nodes x → now x ≡ x.pending
   all_told x c = grind (arith, cases_Bool, told_now)
@@ -299,7 +303,7 @@ module _ (nodes : List Node) (blocks : ℕ) (S : Spreading nodes blocks []) wher
       (S.placed x c).0 (row_now x c f ∙ joined_all_nothing (pending_in nodes) x.patch.dependencies (λ n named. disk_nothing n (rests n named)))
 
 -- where nothing waits
-pub settled_spread : (nodes : List Node) (blocks : ℕ) → Spreading nodes blocks [] → AreSettled nodes blocks
+pub settled_spread : {goes : Pending → Pending → Type 0} (nodes : List Node) (blocks : ℕ) → Spreading goes nodes blocks [] → AreSettled nodes blocks
 settled_spread nodes blocks S = record {
   summed = S.summed;
   settled = λ x c. sym (all_told nodes blocks S x c) ∙ now_row (pending_in nodes) x (S.summed x c);
@@ -307,7 +311,7 @@ settled_spread nodes blocks S = record {
   inside = S.inside;
 }
 
-pub cascaded_spread : (old new : List Node) (blocks : ℕ) → Spreading new blocks [] → IsSpreadOf old new → IsCascadeOf (patches_in old) (patches_in new)
+pub cascaded_spread : {goes : Pending → Pending → Type 0} (old new : List Node) (blocks : ℕ) → Spreading goes new blocks [] → IsSpreadOf old new → IsCascadeOf (patches_in old) (patches_in new)
 cascaded_spread old new blocks S spread = record {
   same = unsettled_spread old new spread;
   places = λ p c f. let x = node_of_patch new p c in subst (λ (q : Patch). (q.place ≡ place.Memory) ⊎ (q.place ≡ place.Disk)) x.2 (S.follow x.0 x.1 (subst (λ (q : Patch). Follows q.kind) (sym x.2) f));

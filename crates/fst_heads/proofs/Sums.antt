@@ -1,16 +1,15 @@
 -- What a row adds up to, and what is pending of it.
-use Rattle.fst_heads.proofs.Basics.{◌≡◌, ◌≢◌, ◌⊎◌, ◌≤◌, ◌==◌, ℕ, suc, ◌+◌, ◌*◌, ◌/◌, true, not, cond, List, [], ◌∷◌, ◌++◌, length, count_by, Contains, AllPairs, refl, sym, ap, subst, ◌∙◌, inl, inr, arith, and_from, and_parts, eqb-true, eq-eqb, ne_eqb, false_from_ne_true, sum_by-cons, mul-div_cancel}
+use Rattle.fst_heads.proofs.Basics.{◌≡◌, ◌≢◌, ◌≤◌, ◌==◌, ℕ, suc, ◌+◌, ◌*◌, ◌/◌, true, not, cond, List, [], ◌∷◌, ◌++◌, length, count_by, Contains, AllPairs, refl, sym, ap, subst, ◌∙◌, inl, inr, arith, and_from, and_parts, eqb-true, eq-eqb, ne_eqb, false_from_ne_true, sum_by-cons, mul-div_cancel}
 use Rattle.fst_heads.proofs.Patches.{In, In-from_Contains, Contains-from_In}
-use Rattle.fst_heads.proofs.Words.{Pending, Sums, join, joined, joined_sums, is_even, is_pending, Sinks, Fits, HasIn, plus, minus, sums_of, together, max_block}
+use Rattle.fst_heads.proofs.Words.{Pending, Sums, join, joined, joined_sums, is_even, of_mean, is_pending, Sinks, IsOf, Fits, HasIn, plus, minus, sums_of, together, max_block}
 use Rattle.fst_heads.proofs.Words.pending
-use Rattle.fst_heads.proofs.Joining.{gap_none, Within, Even, Tells, tells_nothing, tells_plus, join_nothing, join_block, join_parts, join_from, join_sinks, fits_plus, few_plus, nothing_together, plus_together, plus_swap, minus_plus}
-use Rattle.fst_heads.proofs.Turning.{counted_nothing}
+use Rattle.fst_heads.proofs.Joining.{gap_none, Even, Tells, tells_nothing, tells_plus, join_right, join_self, sinks_both, sinks_parts, sinks_behind, behind_sinks, fits_plus, few_plus, nothing_together, plus_together, plus_swap, minus_plus}
 
 tells : (told : ℕ → Pending) (row : List ℕ) → Tells (sums_of told row) (joined told row)
 tells told [] = tells_nothing
 tells told (n ∷ ns) = tells_plus (told n) (sums_of told ns) (joined told ns) (tells told ns)
 
-joined_even : (s : Sums) → s.count ≢ 0 → s.held ≡ 0 → is_even s ≡ true → joined_sums s ≡ pending.Block (s.total / s.count)
+joined_even : (s : Sums) → s.count ≢ 0 → s.held ≡ 0 → is_even s ≡ true → joined_sums s ≡ of_mean s
 joined_even s ne free e = rw (ne_eqb s.count 0 ne, eq-eqb s.held 0 free, e) refl
 
 -- the mean of patches of one block is that block
@@ -27,14 +26,26 @@ uneven_test s told e =
     let two = and_parts ((s.total / s.count) * s.count == s.total) _ one.1 in
     let off = told.off (s.total / s.count) (told.free (λ f. cc)) (eqb-true _ _ one.0) in
     let none = gap_none s.count s.total s.squares (s.total / s.count) off.gap off.squares (eqb-true _ _ two.0) (eqb-true _ _ two.1) in
-    elim (off.same none) [ inl f ↦ cc | inr f ↦ cc ]
+    let within = off.same none in
+    cc
+
+-- for every row of one block, of which some is in flight or not
+mean_exact : (s : Sums) (b : ℕ) (p : Pending) → Tells s p → p ≢ pending.Nothing → Sinks (pending.Behind b) p → joined_sums s ≡ of_mean s × (s.total / s.count ≡ b)
+mean_exact s b p told ne within =
+    let some : s.count ≢ 0 = λ e. ne (told.none e) in
+    let even = told.even b within in (joined_even s some even.none_held (even_test s b some even), mean_block s b some even)
+
+pub counted_nothing : (s : Sums) → s.count ≡ 0 → joined_sums s ≡ pending.Nothing
+counted_nothing s e = rw (eq-eqb s.count 0 e) refl
 
 exact : (s : Sums) (p : Pending) → Tells s p → joined_sums s ≡ p
 exact s pending.Nothing told = counted_nothing s (told.nothing refl)
 exact s (pending.Block b) told =
-    let some : s.count ≢ 0 = λ e. let n = told.none e in cc in
-    let even = told.even b (inr refl) in
-    joined_even s some even.none_held (even_test s b some even) ∙ ap (λ n. pending.Block n) (mean_block s b some even)
+    let mean = mean_exact s b (pending.Block b) told (λ e. cc) (behind_sinks b (pending.Block b) (inl refl)) in
+    mean.0 ∙ (rw (eq-eqb s.behind 0 (told.memory b (join_self (pending.Block b)))) (ap (λ n. pending.Block n) mean.1))
+exact s (pending.Behind b) told =
+    let mean = mean_exact s b (pending.Behind b) told (λ e. cc) (join_self (pending.Behind b)) in
+    mean.0 ∙ (rw (ne_eqb s.behind 0 (let some = told.behind b refl in omega (arith, some))) (ap (λ n. pending.Behind n) mean.1))
 exact s pending.Apart told = grind (arith, false_from_ne_true, uneven_test)
 exact s pending.Held told = grind arith
 
@@ -42,8 +53,8 @@ exact s pending.Held told = grind arith
 pub joined_exact : (told : ℕ → Pending) (row : List ℕ) → joined_sums (sums_of told row) ≡ joined told row
 joined_exact told row = exact (sums_of told row) (joined told row) (tells told row)
 
-pub sums_fit : (told : ℕ → Pending) (row : List ℕ) → ((n b : ℕ) → told n ≡ pending.Block b → b ≤ max_block) → Fits (sums_of told row)
-sums_fit told [] narrow = record { held = omega arith; apart = omega arith; total = omega arith; squares = omega arith }
+pub sums_fit : (told : ℕ → Pending) (row : List ℕ) → ((n b : ℕ) → IsOf b (told n) → b ≤ max_block) → Fits (sums_of told row)
+sums_fit told [] narrow = record { held = omega arith; apart = omega arith; behind = omega arith; total = omega arith; squares = omega arith }
 sums_fit told (n ∷ ns) narrow = fits_plus (told n) (sums_of told ns) (narrow n) (sums_fit told ns narrow)
 
 pub sums_few : (told : ℕ → Pending) (row : List ℕ) → (sums_of told row).count ≤ length row
@@ -72,15 +83,15 @@ sums_same told other row same = sums_same_in told other row (λ n i. same n (Con
 pub joined_same : (told other : ℕ → Pending) (row : List ℕ) → ((n : ℕ) → Contains row n → other n ≡ told n) → joined other row ≡ joined told row
 joined_same told other row same = sym (joined_exact other row) ∙ (ap joined_sums (sums_same told other row same) ∙ joined_exact told row)
 
-has_plus : (p q : Pending) (s : Sums) → ((b : ℕ) → p ≡ pending.Block b → b ≤ max_block) → HasIn q s → HasIn q (plus p s)
+has_plus : (p q : Pending) (s : Sums) → ((b : ℕ) → IsOf b p → b ≤ max_block) → HasIn q s → HasIn q (plus p s)
 has_plus p q s narrow has = (plus p has.0, fits_plus p has.0 narrow has.1, ap (plus p) has.2 ∙ plus_swap p q has.0)
 
-has_in : (told : ℕ → Pending) (row : List ℕ) (q : ℕ) → ((n b : ℕ) → told n ≡ pending.Block b → b ≤ max_block) → In row q → HasIn (told q) (sums_of told row)
+has_in : (told : ℕ → Pending) (row : List ℕ) (q : ℕ) → ((n b : ℕ) → IsOf b (told n) → b ≤ max_block) → In row q → HasIn (told q) (sums_of told row)
 has_in told [] q narrow i = absurd i
 has_in told (n ∷ ns) q narrow (inl e) = (sums_of told ns, sums_fit told ns narrow, ap (λ m. plus (told m) (sums_of told ns)) e)
 has_in told (n ∷ ns) q narrow (inr i) = has_plus (told n) (told q) (sums_of told ns) (narrow n) (has_in told ns q narrow i)
 
-pub sums_has : (told : ℕ → Pending) (row : List ℕ) (q : ℕ) → ((n b : ℕ) → told n ≡ pending.Block b → b ≤ max_block) → Contains row q → HasIn (told q) (sums_of told row)
+pub sums_has : (told : ℕ → Pending) (row : List ℕ) (q : ℕ) → ((n b : ℕ) → IsOf b (told n) → b ≤ max_block) → Contains row q → HasIn (told q) (sums_of told row)
 sums_has told row q narrow c = has_in told row q narrow (In-from_Contains row q c)
 
 -- in a row in which no number stands twice the first is not below
@@ -128,54 +139,37 @@ pub sums_count : (told : ℕ → Pending) (row : List ℕ) → (sums_of told row
 sums_count told [] = refl
 sums_count told (n ∷ ns) = count_plus (told n) (sums_of told ns) ∙ (ap (λ k. cond (not (is_pending (told n) pending.Nothing)) 1 0 + k) (sums_count told ns) ∙ sym (sum_by-cons _ n ns))
 
-nothing_in : (told : ℕ → Pending) (row : List ℕ) → joined told row ≡ pending.Nothing → (n : ℕ) → In row n → told n ≡ pending.Nothing
-nothing_in told [] e n i = absurd i
-nothing_in told (m ∷ ms) e n (inl same) = rw (← same) ((join_nothing (told m) (joined told ms) e).0)
-nothing_in told (m ∷ ms) e n (inr i) = nothing_in told ms ((join_nothing (told m) (joined told ms) e).1) n i
+-- what is pending of the row has sunk below a exactly where that of each has
+
+below_in : (told : ℕ → Pending) (row : List ℕ) (a : Pending) → Sinks a (joined told row) → (n : ℕ) → In row n → Sinks a (told n)
+below_in told [] a w n i = absurd i
+below_in told (m ∷ ms) a w n (inl same) = subst (λ y. Sinks a (told y)) same ((sinks_parts a (told m) (joined told ms) w).0)
+below_in told (m ∷ ms) a w n (inr i) = below_in told ms a ((sinks_parts a (told m) (joined told ms) w).1) n i
+
+pub joined_below : (told : ℕ → Pending) (row : List ℕ) (a : Pending) → Sinks a (joined told row) → (n : ℕ) → Contains row n → Sinks a (told n)
+joined_below told row a w n c = below_in told row a w n (In-from_Contains row n c)
+
+all_below_in : (told : ℕ → Pending) (row : List ℕ) (a : Pending) → ((n : ℕ) → In row n → Sinks a (told n)) → Sinks a (joined told row)
+all_below_in told [] a all = join_right a
+all_below_in told (n ∷ ns) a all = sinks_both a (told n) (joined told ns) (all n (inl refl)) (all_below_in told ns a (λ m i. all m (inr i)))
+
+pub joined_all_below : (told : ℕ → Pending) (row : List ℕ) (a : Pending) → ((n : ℕ) → Contains row n → Sinks a (told n)) → Sinks a (joined told row)
+joined_all_below told row a all = all_below_in told row a (λ n i. all n (Contains-from_In row n i))
 
 pub joined_nothing : (told : ℕ → Pending) (row : List ℕ) → joined told row ≡ pending.Nothing → (n : ℕ) → Contains row n → told n ≡ pending.Nothing
-joined_nothing told row e n c = nothing_in told row e n (In-from_Contains row n c)
-
-all_nothing_in : (told : ℕ → Pending) (row : List ℕ) → ((n : ℕ) → In row n → told n ≡ pending.Nothing) → joined told row ≡ pending.Nothing
-all_nothing_in told [] all = refl
-all_nothing_in told (n ∷ ns) all = rw (all n (inl refl)) (all_nothing_in told ns (λ m i. all m (inr i)))
+joined_nothing told row e n c = joined_below told row pending.Nothing e n c
 
 pub joined_all_nothing : (told : ℕ → Pending) (row : List ℕ) → ((n : ℕ) → Contains row n → told n ≡ pending.Nothing) → joined told row ≡ pending.Nothing
-joined_all_nothing told row all = all_nothing_in told row (λ n i. all n (Contains-from_In row n i))
+joined_all_nothing told row all = joined_all_below told row pending.Nothing all
 
-within_in : (told : ℕ → Pending) (row : List ℕ) (b : ℕ) → Within b (joined told row) → (n : ℕ) → In row n → Within b (told n)
-within_in told [] b w n i = absurd i
-within_in told (m ∷ ms) b w n (inl same) = subst (λ y. Within b (told y)) same ((join_parts (told m) (joined told ms) b w).0)
-within_in told (m ∷ ms) b w n (inr i) = within_in told ms b ((join_parts (told m) (joined told ms) b w).1) n i
-
-pub joined_block : (told : ℕ → Pending) (row : List ℕ) (b : ℕ) → joined told row ≡ pending.Block b → (n : ℕ) → Contains row n → (told n ≡ pending.Nothing) ⊎ (told n ≡ pending.Block b)
-joined_block told row b e n c = within_in told row b (inr e) n (In-from_Contains row n c)
-
-some_in : (told : ℕ → Pending) (row : List ℕ) (b : ℕ) → joined told row ≡ pending.Block b → (n : ℕ) × In row n × (told n ≡ pending.Block b)
-some_in told [] b e = absurd (cc)
-some_in told (n ∷ ns) b e =
-    elim ((join_block (told n) (joined told ns) b e).0) [
-      | inl none ↦
-          let below : joined told ns ≡ pending.Block b = sym (ap (λ p. join p (joined told ns)) none) ∙ e in
-          let some = some_in told ns b below in
-          (some.0, inr some.1, some.2)
+-- where one block is pending of the row, it is pending of one of it
+some_in : (told : ℕ → Pending) (row : List ℕ) (b : ℕ) → IsOf b (joined told row) → (n : ℕ) × In row n × IsOf b (told n)
+some_in told [] b of_b = absurd (elim of_b [ inl e ↦ cc | inr e ↦ cc ])
+some_in told (n ∷ ns) b of_b =
+    elim (sinks_behind b (told n) ((sinks_parts (pending.Behind b) (told n) (joined told ns) (behind_sinks b (joined told (n ∷ ns)) of_b)).0)) [
+      | inl none ↦ let some = some_in told ns b (subst (λ p. IsOf b (join p (joined told ns))) none of_b) in (some.0, inr some.1, some.2)
       | inr here ↦ (n, inl refl, here)
     ]
 
-pub joined_some : (told : ℕ → Pending) (row : List ℕ) (b : ℕ) → joined told row ≡ pending.Block b → (n : ℕ) × Contains row n × (told n ≡ pending.Block b)
-joined_some told row b e = let some = some_in told row b e in (some.0, Contains-from_In row some.0 some.1, some.2)
-
-all_block_in : (told : ℕ → Pending) (row : List ℕ) (b : ℕ) → ((n : ℕ) → In row n → Within b (told n)) → Within b (joined told row)
-all_block_in told [] b all = inl refl
-all_block_in told (n ∷ ns) b all = join_from (told n) (joined told ns) b (all n (inl refl)) (all_block_in told ns b (λ m i. all m (inr i)))
-
-pub joined_all_block : (told : ℕ → Pending) (row : List ℕ) (b : ℕ) → ((n : ℕ) → Contains row n → (told n ≡ pending.Nothing) ⊎ (told n ≡ pending.Block b)) → (joined told row ≡ pending.Nothing) ⊎ (joined told row ≡ pending.Block b)
-joined_all_block told row b all = all_block_in told row b (λ n i. all n (Contains-from_In row n i))
-
-sinks_in : (told other : ℕ → Pending) (row : List ℕ) → ((n : ℕ) → In row n → Sinks (told n) (other n)) → Sinks (joined told row) (joined other row)
-sinks_in told other [] each = inl refl
-sinks_in told other (n ∷ ns) each = join_sinks (told n) (joined told ns) (other n) (joined other ns) (each n (inl refl)) (sinks_in told other ns (λ m i. each m (inr i)))
-
--- where each sinks, or stays, so does what is pending of the row, and of what has the row
-pub joined_sinks : (told other : ℕ → Pending) (row : List ℕ) → ((n : ℕ) → Contains row n → Sinks (told n) (other n)) → Sinks (joined told row) (joined other row)
-joined_sinks told other row each = sinks_in told other row (λ n i. each n (Contains-from_In row n i))
+pub joined_some : (told : ℕ → Pending) (row : List ℕ) (b : ℕ) → IsOf b (joined told row) → (n : ℕ) × Contains row n × IsOf b (told n)
+joined_some told row b of_b = let some = some_in told row b of_b in (some.0, Contains-from_In row some.0 some.1, some.2)

@@ -1,43 +1,43 @@
 -- One step of a spread: what is pending of one patch now is told to its dependants.
 use Rattle.fst_heads.proofs.Basics.{◌≡◌, ◌≢◌, ◌⊎◌, ◌↔◌, ◌<◌, ◌≤◌, ℕ, true, false, List, [], ◌∷◌, ◌++◌, length, map, Contains, AllPairs, refl, sym, ap, subst, ◌∙◌, inl, inr, arith, cases_Bool, cases_eq, both_ways, length-map, Contains-push, Contains-push_cases, Contains-append_left, Contains-append_right}
 use Rattle.fst_heads.proofs.{Basics.{Contains-append_cases, AllPairs-filter}, Patches.{Follows, In, In-map, In_decided, In-from_Contains, Contains-from_In}}
-use Rattle.fst_heads.proofs.Words.{Pending, Node, pending_in, at_number, AreLinked, AreDistinct, Fits, HasIn, Sinks, joined, joined_sums, of_kind, plus, minus, sums_of, height, max_block, Spreading, IsSpreadOf, CanHear, now, is_told, settles, heard, woken, heights, unspread}
-use Rattle.fst_heads.proofs.{AtNumber.{at_same, at_other}, Placed.unmapped}
-use Rattle.fst_heads.proofs.Sums.{joined_exact, joined_some, joined_sinks, sums_fit, sums_has, sums_moved, sums_same}
-use Rattle.fst_heads.proofs.Turning.{Turns, turned, turns, untold, not_told, told_now, sinks_nothing, never_back, lower_sinks, block_of}
-use Rattle.fst_heads.proofs.Waiting.{mapped, map_twice, same_node, pending_of, pending_node, pending_mapped, rising_mapped, heights_lower, times_some, some_times, once_fits, once_append, once_front, once_last, set_number, set_sums, woken_from, woken_to}
-use Rattle.fst_heads.proofs.Joining.{sinks_of_kind, sinks_trans}
+use Rattle.fst_heads.proofs.Words.{Pending, Node, pending_in, at_number, AreLinked, AreDistinct, Fits, HasIn, IsOf, joined, joined_sums, of_kind, plus, minus, sums_of, max_block, Spreading, IsSpreadOf, CanHear, now, is_told, settles, heard, woken, unspread, unrisen, IsRisenOf}
+use Rattle.fst_heads.proofs.{AtNumber.{at_same, at_other}, Placed.{unmapped, map_alike}}
+use Rattle.fst_heads.proofs.Sums.{joined_exact, joined_some, sums_fit, sums_has, sums_moved, sums_same}
+use Rattle.fst_heads.proofs.Going.{OneWay, goes_nothing, never_back, kind_goes, row_goes}
+use Rattle.fst_heads.proofs.Turning.{Turns, turned, turns, untold, not_told, told_now, block_of, unrisen_stays}
+use Rattle.fst_heads.proofs.Waiting.{mapped, map_twice, same_node, pending_of, pending_node, pending_mapped, rising_mapped, distance, distance_lower, times_some, some_times, once_fits, once_append, once_front, once_last, set_number, set_sums, woken_from, woken_to}
 use Rattle.fst_heads.proofs.Patches.place
 use Rattle.fst_heads.proofs.Words.pending
 
--- blocks that are pending fit
-narrow_in : (nodes : List Node) (blocks : ℕ) (queue : List ℕ) → blocks ≤ max_block → Spreading nodes blocks queue → (n b : ℕ) → pending_in nodes n ≡ pending.Block b → b ≤ max_block
-narrow_in nodes blocks queue narrow S n b e =
-    let r = pending_node nodes n b e in
-    omega (arith, S.inside r.0 b r.1 r.2, narrow)
+module _ {goes : Pending → Pending → Type 0} (nodes : List Node) (blocks : ℕ) (queue : List ℕ) where
+  -- blocks that are pending fit
+  narrow_in : blocks ≤ max_block → Spreading goes nodes blocks queue → (n b : ℕ) → IsOf b (pending_in nodes n) → b ≤ max_block
+  narrow_in narrow S n b e =
+      let r = pending_node nodes n b e in
+      omega (arith, S.inside r.0 b r.1 r.2, narrow)
 
--- the sums of all fit
-pub spreading_fits : (nodes : List Node) (blocks : ℕ) (queue : List ℕ) → blocks ≤ max_block → Spreading nodes blocks queue → (x : Node) → Contains nodes x → Fits x.sums
-spreading_fits nodes blocks queue narrow S x c =
-    subst Fits (sym (S.summed x c)) (sums_fit (pending_in nodes) x.patch.dependencies (narrow_in nodes blocks queue narrow S))
+  -- the sums of all fit
+  pub spreading_fits : blocks ≤ max_block → Spreading goes nodes blocks queue → (x : Node) → Contains nodes x → Fits x.sums
+  spreading_fits narrow S x c = subst Fits (sym (S.summed x c)) (sums_fit (pending_in nodes) x.patch.dependencies (narrow_in narrow S))
 
--- the queue names no more than there are
-pub queue_fits : (nodes : List Node) (blocks : ℕ) (queue : List ℕ) → Spreading nodes blocks queue → length queue ≤ length nodes
-queue_fits nodes blocks queue S =
-    let number = λ (y : Node). y.patch.number in
-    let few = once_fits queue (map number nodes) S.once (λ n h. let s = S.queued n (Contains-from_In queue n h) in In-map number nodes s.0 n (In-from_Contains nodes s.0 s.1) s.2) in
-    omega (arith, few, length-map nodes number)
+  -- the queue names no more than there are
+  pub queue_fits : Spreading goes nodes blocks queue → length queue ≤ length nodes
+  queue_fits S =
+      let number = λ (y : Node). y.patch.number in
+      let few = once_fits queue (map number nodes) S.once (λ n h. let s = S.queued n (Contains-from_In queue n h) in In-map number nodes s.0 n (In-from_Contains nodes s.0 s.1) s.2) in
+      omega (arith, few, length-map nodes number)
 
 -- the last that waits is a patch of which other is pending than its dependants know
-pub last_waits : (nodes : List Node) (blocks : ℕ) (queue : List ℕ) (q : ℕ) → Spreading nodes blocks (queue ++ q ∷ []) → (x : Node) × Contains nodes x × (x.patch.number ≡ q) × (is_told x ≡ false)
+pub last_waits : {goes : Pending → Pending → Type 0} (nodes : List Node) (blocks : ℕ) (queue : List ℕ) (q : ℕ) → Spreading goes nodes blocks (queue ++ q ∷ []) → (x : Node) × Contains nodes x × (x.patch.number ≡ q) × (is_told x ≡ false)
 last_waits nodes blocks queue q S = S.queued q (Contains-push queue q)
 
 same_spread : (f : Node → Node) (nodes : List Node) → ((y : Node) → unspread (f y) ≡ unspread y) → map unspread (map f nodes) ≡ map unspread nodes
 same_spread f [] same = refl
 same_spread f (y ∷ ys) same = let first = same y in let rest = same_spread f ys same in cc
 
-module _ (nodes : List Node) (blocks : ℕ) (queue : List ℕ) (q : ℕ) (x : Node) (narrow : blocks ≤ max_block)
-    (S : Spreading nodes blocks (queue ++ q ∷ [])) (linked : AreLinked nodes) (distinct : AreDistinct nodes) (c : Contains nodes x) (e : x.patch.number ≡ q) where
+module _ {goes : Pending → Pending → Type 0} {far : Pending → ℕ} (way : OneWay goes far) (nodes : List Node) (blocks : ℕ) (queue : List ℕ) (q : ℕ) (x : Node) (narrow : blocks ≤ max_block)
+    (S : Spreading goes nodes blocks (queue ++ q ∷ [])) (linked : AreLinked nodes) (distinct : AreDistinct nodes) (c : Contains nodes x) (e : x.patch.number ≡ q) where
   -- it is told, and then its dependants
   abbrev pub settled : List Node
   settled = map (at_number q settles) nodes
@@ -65,7 +65,7 @@ module _ (nodes : List Node) (blocks : ℕ) (queue : List ℕ) (q : ℕ) (x : No
       untold x (subst (λ z. is_told z ≡ false) (same_node nodes s.0 x S.rising s.1 c (s.2 ∙ sym e)) s.3)
 
   pub live : x.pending ≢ pending.Nothing
-  live none = other (sinks_nothing x.pending (now x) (S.sinks x c) none ∙ sym none)
+  live none = other (goes_nothing way x.pending (now x) (S.moves x c) none ∙ sym none)
 
   in_one : told ≡ map after nodes
   in_one = map_twice (heard x.dependants x.pending (now x)) (at_number q settles) nodes
@@ -94,10 +94,10 @@ module _ (nodes : List Node) (blocks : ℕ) (queue : List ℕ) (q : ℕ) (x : No
   is_elsewhere : (n : ℕ) → n ≢ q → is n ≡ was n
   is_elsewhere n ne = ap (λ ns. pending_in ns n) in_one ∙ pending_mapped after nodes n keeps_number (λ y m. (turn y).as_it_was (λ s. ne (sym m ∙ s)))
 
-  each_sinks : (n : ℕ) → Sinks (was n) (is n)
-  each_sinks n = elim (cases_eq n q) [
-    | inl s ↦ subst (λ k. Sinks (was k) (is k)) (sym s) (subst (λ a. Sinks a (is q)) (sym was_here) (subst (Sinks x.pending) (sym is_here) (S.sinks x c)))
-    | inr ne ↦ inl (is_elsewhere n ne)
+  pub each_goes : (n : ℕ) → goes (was n) (is n)
+  each_goes n = elim (cases_eq n q) [
+    | inl s ↦ subst (λ k. goes (was k) (is k)) (sym s) (subst (λ a. goes a (is q)) (sym was_here) (subst (goes x.pending) (sym is_here) (S.moves x c)))
+    | inr ne ↦ subst (goes (was n)) (sym (is_elsewhere n ne)) (way.stays (was n))
   ]
 
   -- its dependants are those that name it
@@ -129,25 +129,25 @@ module _ (nodes : List Node) (blocks : ℕ) (queue : List ℕ) (q : ℕ) (x : No
   now_is : (y : Node) → Contains nodes y → now (after y) ≡ of_kind y.patch.kind y.patch.place (joined is y.patch.dependencies)
   now_is y cy = (turn y).pends ∙ ap (of_kind y.patch.kind y.patch.place) (ap joined_sums (sums_are y cy) ∙ joined_exact is y.patch.dependencies)
 
-  now_sinks : (y : Node) → Contains nodes y → Sinks (now y) (now (after y))
-  now_sinks y cy =
+  pub now_goes : (y : Node) → Contains nodes y → goes (now y) (now (after y))
+  now_goes y cy =
       let row = y.patch.dependencies in
-      let s = sinks_of_kind y.patch.kind y.patch.place (joined was row) (joined is row) (joined_sinks was is row (λ n cn. each_sinks n)) in
-      subst (λ a. Sinks a (now (after y))) (sym (now_was y cy)) (subst (Sinks (of_kind y.patch.kind y.patch.place (joined was row))) (sym (now_is y cy)) s)
+      let s = kind_goes way y.patch.kind y.patch.place (joined was row) (joined is row) (row_goes way was is row (λ n cn. each_goes n)) in
+      subst (λ a. goes a (now (after y))) (sym (now_was y cy)) (subst (goes (of_kind y.patch.kind y.patch.place (joined was row))) (sym (now_is y cy)) s)
 
   -- where it hears nothing
   now_same : (y : Node) → (In x.dependants y.patch.number → ⊥) → now (after y) ≡ now y
   now_same y out = (turn y).pends ∙ ap (λ s. of_kind y.patch.kind y.patch.place (joined_sums s)) ((turn y).same out).0
 
-  sinks_at : (y : Node) → Contains nodes y → Sinks (after y).pending (now (after y))
-  sinks_at y cy = elim (cases_eq y.patch.number q) [
-    | inl n ↦ subst (λ a. Sinks a (now (after y))) (sym ((turn y).as_it_is n)) (now_sinks y cy)
-    | inr ne ↦ subst (λ a. Sinks a (now (after y))) (sym ((turn y).as_it_was ne)) (sinks_trans y.pending (now y) (now (after y)) (S.sinks y cy) (now_sinks y cy))
+  moves_at : (y : Node) → Contains nodes y → goes (after y).pending (now (after y))
+  moves_at y cy = elim (cases_eq y.patch.number q) [
+    | inl n ↦ subst (λ a. goes a (now (after y))) (sym ((turn y).as_it_is n)) (now_goes y cy)
+    | inr ne ↦ subst (λ a. goes a (now (after y))) (sym ((turn y).as_it_was ne)) (way.trans y.pending (now y) (now (after y)) (S.moves y cy) (now_goes y cy))
   ]
 
   placed_at : (y : Node) → Contains nodes y → (now (after y) ≡ pending.Nothing) ↔ ((after y).patch.place ≡ place.Disk)
   placed_at y cy = elim (In_decided x.dependants y.patch.number) [
-    | inl h ↦ (turn y).placed h (λ d. sinks_nothing (now y) (now (after y)) (now_sinks y cy) ((S.placed y cy).1 d))
+    | inl h ↦ (turn y).placed h (λ d. goes_nothing way (now y) (now (after y)) (now_goes y cy) ((S.placed y cy).1 d))
     | inr out ↦
         let same = now_same y out in
         let there = ((turn y).same out).1 in
@@ -160,8 +160,8 @@ module _ (nodes : List Node) (blocks : ℕ) (queue : List ℕ) (q : ℕ) (x : No
     | inr disk ↦ inr disk
   ]
 
-  now_inside : (y : Node) (b : ℕ) → Contains nodes y → now y ≡ pending.Block b → b < blocks
-  now_inside y b cy p = elim (block_of y.patch.kind y.patch.place (joined was y.patch.dependencies) b (sym (now_was y cy) ∙ p)) [
+  now_inside : (y : Node) (b : ℕ) → Contains nodes y → IsOf b (now y) → b < blocks
+  now_inside y b cy p = elim (block_of y.patch.kind y.patch.place (joined was y.patch.dependencies) b (subst (IsOf b) (now_was y cy) p)) [
     | inl k ↦ S.changes y b k.0 k.1 k.2 cy k.3
     | inr j ↦
         let some = joined_some was y.patch.dependencies b j in
@@ -169,10 +169,10 @@ module _ (nodes : List Node) (blocks : ℕ) (queue : List ℕ) (q : ℕ) (x : No
         S.inside r.0 b r.1 r.2
   ]
 
-  inside_at : (y : Node) (b : ℕ) → Contains nodes y → (after y).pending ≡ pending.Block b → b < blocks
+  inside_at : (y : Node) (b : ℕ) → Contains nodes y → IsOf b (after y).pending → b < blocks
   inside_at y b cy p = elim (cases_eq y.patch.number q) [
-    | inl n ↦ now_inside y b cy (sym ((turn y).as_it_is n) ∙ p)
-    | inr ne ↦ S.inside y b cy (sym ((turn y).as_it_was ne) ∙ p)
+    | inl n ↦ now_inside y b cy (subst (IsOf b) ((turn y).as_it_is n) p)
+    | inr ne ↦ S.inside y b cy (subst (IsOf b) ((turn y).as_it_was ne) p)
   ]
 
   abbrev waking : List ℕ
@@ -187,7 +187,7 @@ module _ (nodes : List Node) (blocks : ℕ) (queue : List ℕ) (q : ℕ) (x : No
           after s.0,
           goes_on s.0 s.1,
           keeps_number s.0 ∙ s.2,
-          not_told (after s.0) (λ t. never_back s.0.pending (now s.0) (now (after s.0)) (S.sinks s.0 s.1) (untold s.0 s.3) (now_sinks s.0 s.1) (t ∙ kept)),
+          not_told (after s.0) (λ t. never_back way s.0.pending (now s.0) (now (after s.0)) (S.moves s.0 s.1) (untold s.0 s.3) (now_goes s.0 s.1) (t ∙ kept)),
         )
     | inr new ↦
         let w = woken_from nodes x.dependants x.pending (now x) q m new in
@@ -238,14 +238,14 @@ module _ (nodes : List Node) (blocks : ℕ) (queue : List ℕ) (q : ℕ) (x : No
         subst (HasIn x.pending) (sym (same ∙ S.summed u.0 u.1)) (subst (λ a. HasIn a (sums_of was row)) was_here has),
       )
 
-  pub spreads_on : Spreading told blocks (queue ++ woken x.dependants x.pending (now x) settled)
+  pub spreads_on : Spreading goes told blocks (queue ++ woken x.dependants x.pending (now x) settled)
   spreads_on = record {
     rising = rising_on;
     summed = λ z cz. let r = came_from z cz in subst (λ (w : Node). w.sums ≡ sums_of is w.patch.dependencies) r.2 (sums_are r.0 r.1 ∙ ap (sums_of is) (sym (turn r.0).stays.dependencies));
-    sinks = λ z cz. let r = came_from z cz in subst (λ w. Sinks w.pending (now w)) r.2 (sinks_at r.0 r.1);
+    moves = λ z cz. let r = came_from z cz in subst (λ w. goes w.pending (now w)) r.2 (moves_at r.0 r.1);
     placed = λ z cz. let r = came_from z cz in subst (λ w. (now w ≡ pending.Nothing) ↔ (w.patch.place ≡ place.Disk)) r.2 (placed_at r.0 r.1);
     follow = λ z cz. let r = came_from z cz in subst (λ w. Follows w.patch.kind → (w.patch.place ≡ place.Memory) ⊎ (w.patch.place ≡ place.Disk)) r.2 (follow_at r.0 r.1);
-    inside = λ z b cz p. let r = came_from z cz in inside_at r.0 b r.1 (ap (λ (w : Node). w.pending) r.2 ∙ p);
+    inside = λ z b cz p. let r = came_from z cz in inside_at r.0 b r.1 (subst (λ (w : Node). IsOf b w.pending) (sym r.2) p);
     changes = λ z b at len grade cz k. let r = came_from z cz in S.changes r.0 b at len grade r.1 (sym (turn r.0).stays.kind ∙ (ap (λ (w : Node). w.patch.kind) r.2 ∙ k));
     queued = queued_at;
     waits = λ z cz u.
@@ -257,15 +257,25 @@ module _ (nodes : List Node) (blocks : ℕ) (queue : List ℕ) (q : ℕ) (x : No
   pub spread_of : IsSpreadOf nodes told
   spread_of = ap (map unspread) in_one ∙ same_spread after nodes (λ y. (turn y).stays.spread)
 
-  pub lower : heights told < heights nodes
-  lower =
-      let less = λ (y : Node) (cy : Contains nodes y) (n : y.patch.number ≡ q). subst (λ a. height a < height y.pending) (sym ((turn y).as_it_is n))
-      (subst (λ (z : Node). height (now z) < height z.pending) (same_node nodes x y S.rising c cy (e ∙ sym n)) (lower_sinks x.pending (now x) (S.sinks x c) other)) in
-      let low = λ (y : Node) (cy : Contains nodes y). low_at y (less y cy) in
-      subst (λ ns. heights ns < heights nodes) (sym in_one) (heights_lower after nodes x low c (less x c e))
+  -- where nothing comes to disk, places stay
+  pub risen : ((p : Pending) → goes p pending.Nothing → p ≡ pending.Nothing) → IsRisenOf nodes told
+  risen back = ap (map unrisen) in_one ∙ (map_twice unrisen after nodes ∙ map_alike (λ y. unrisen (after y)) unrisen nodes (λ y i. stays_at y (Contains-from_In nodes y i)))
     where
-      low_at : (y : Node) → (y.patch.number ≡ q → height (after y).pending < height y.pending) → height (after y).pending ≤ height y.pending
+      stays_at : (y : Node) → Contains nodes y → unrisen (after y) ≡ unrisen y
+      stays_at y cy = unrisen_stays y (after y) (turn y).stays (elim (turn y).places [
+        | inl same ↦ same
+        | inr disk ↦ disk ∙ sym ((S.placed y cy).0 (back (now y) (subst (goes (now y)) ((placed_at y cy).1 disk) (now_goes y cy))))
+      ])
+
+  pub nearer : distance far told < distance far nodes
+  nearer =
+      let less = λ (y : Node) (cy : Contains nodes y) (n : y.patch.number ≡ q). subst (λ a. far a < far y.pending) (sym ((turn y).as_it_is n))
+      (subst (λ (z : Node). far (now z) < far z.pending) (same_node nodes x y S.rising c cy (e ∙ sym n)) (way.nearer x.pending (now x) (S.moves x c) other)) in
+      let low = λ (y : Node) (cy : Contains nodes y). low_at y (less y cy) in
+      subst (λ ns. distance far ns < distance far nodes) (sym in_one) (distance_lower far after nodes x low c (less x c e))
+    where
+      low_at : (y : Node) → (y.patch.number ≡ q → far (after y).pending < far y.pending) → far (after y).pending ≤ far y.pending
       low_at y less = elim (cases_eq y.patch.number q) [
         | inl n ↦ omega (arith, less n)
-        | inr ne ↦ subst (λ a. height a ≤ height y.pending) (sym ((turn y).as_it_was ne)) (omega arith)
+        | inr ne ↦ subst (λ a. far a ≤ far y.pending) (sym ((turn y).as_it_was ne)) (omega arith)
       ]

@@ -1,22 +1,24 @@
 -- What a node keeps, and what it gets, where it is told what is pending of another.
-use Rattle.fst_heads.proofs.Basics.{◌≡◌, ◌≢◌, ◌⊎◌, ◌↔◌, ◌<◌, ◌==◌, ◌&&◌, ℕ, Bool, true, false, cond, List, refl, sym, ap, subst, ◌∙◌, inl, inr, arith, cases_Bool, cases_eq, and_parts, eqb-true, eq-eqb, false≢true, both_ways, false_from_ne_true, rules}
-use Rattle.fst_heads.proofs.Patches.{Place, Kind, Change, Empty, OpenGate, SealedGate, Follows, In, In_decided, among_in, in_among}
+use Rattle.fst_heads.proofs.Basics.{◌≡◌, ◌≢◌, ◌⊎◌, ◌↔◌, ◌==◌, ◌&&◌, ℕ, Bool, true, false, cond, List, refl, sym, ap, subst, inl, inr, arith, cases_Bool, cases_eq, and_parts, eqb-true, eq-eqb, false≢true, both_ways, false_from_ne_true, rules}
+use Rattle.fst_heads.proofs.Patches.{Patch, Place, Kind, Change, Empty, OpenGate, SealedGate, Follows, In, In_decided, among_in, in_among}
 use Rattle.fst_heads.proofs.Patches.place
-use Rattle.fst_heads.proofs.Words.{Pending, Sums, join, joined_sums, is_pending, of_kind, Sinks, height, plus, minus, Node, at_number, now, is_told, follows, rested, hears, heard, settles, unspread}
+use Rattle.fst_heads.proofs.Words.{Pending, Sums, join, joined_sums, is_pending, of_kind, IsOf, plus, minus, Node, at_number, now, is_told, follows, rested, hears, heard, settles, unspread, unrisen, nothing}
 use Rattle.fst_heads.proofs.Words.pending
-use Rattle.fst_heads.proofs.AtNumber.{at_same, at_other}
+use Rattle.fst_heads.proofs.{AtNumber.{at_same, at_other}, Joining.{meet_same, meet_other}}
 
 -- what is pending
 
 pub same_pending : (p n : Pending) → is_pending p n ≡ true → p ≡ n
 same_pending pending.Nothing pending.Nothing e = refl
 same_pending (pending.Block b) (pending.Block c) e = ap (λ k. pending.Block k) (eqb-true b c e)
+same_pending (pending.Behind b) (pending.Behind c) e = ap (λ k. pending.Behind k) (eqb-true b c e)
 same_pending pending.Apart pending.Apart e = refl
 same_pending pending.Held pending.Held e = refl
 same_pending p n e = absurd (false≢true e)
 
 pub is_itself : (p : Pending) → is_pending p p ≡ true
 is_itself (pending.Block b) = eq-eqb b b refl
+is_itself (pending.Behind b) = eq-eqb b b refl
 is_itself p = refl
 
 -- what is told is what is pending now
@@ -29,20 +31,6 @@ not_told x ne = false_from_ne_true (is_told x) (λ e. ne (same_pending (now x) x
 pub told_now : (x : Node) → now x ≡ x.pending → is_told x ≡ true
 told_now x e = subst (λ p. is_pending p x.pending ≡ true) (sym e) (is_itself x.pending)
 
-pub sinks_nothing : (p n : Pending) → Sinks p n → p ≡ pending.Nothing → n ≡ pending.Nothing
-sinks_nothing p n (inl same) e = same ∙ e
-sinks_nothing p n (inr lower) e = absurd (omega (arith, lower, ap height e))
-
--- what sinks to something else is lower
-pub lower_sinks : (p n : Pending) → Sinks p n → n ≢ p → height n < height p
-lower_sinks p n (inl same) ne = absurd (ne same)
-lower_sinks p n (inr lower) ne = lower
-
--- what has sunk does not come back
-pub never_back : (p n m : Pending) → Sinks p n → n ≢ p → Sinks n m → m ≢ p
-never_back p n m s ne (inl same) e = ne (sym same ∙ e)
-never_back p n m s ne (inr lower) e = omega (arith, lower_sinks p n s ne, lower, ap height e)
-
 -- what is pending by a kind
 
 pub follows_is : (k : Kind) → follows k ≡ true → Follows k
@@ -50,13 +38,16 @@ follows_is Empty e = tt
 follows_is SealedGate e = tt
 follows_is k e = absurd (false≢true e)
 
-join_one : (b c : ℕ) (p : Pending) → join (pending.Block b) p ≡ pending.Block c → b ≡ c
-join_one b c (pending.Block d) e = grind arith
-join_one b c p e = cc
+block_own : (b c : ℕ) (p : Pending) → IsOf c (join (pending.Block b) p) → b ≡ c
+block_own b c p o = grind (arith, cases_eq, meet_same, meet_other)
 
-some_left : (t u : Bool) (b : ℕ) → cond t (cond u (pending.Block b) pending.Apart) pending.Held ≡ pending.Nothing → ⊥
-some_left true true b e = cc
-some_left t u b e = cc
+behind_own : (b c : ℕ) (p : Pending) → IsOf c (join (pending.Behind b) p) → b ≡ c
+behind_own b c p o = grind (arith, cases_eq, meet_same, meet_other)
+
+some_left : (t u v : Bool) (b : ℕ) → cond t (cond u (cond v (pending.Block b) (pending.Behind b)) pending.Apart) pending.Held ≡ pending.Nothing → ⊥
+some_left true true true b e = cc
+some_left true true false b e = cc
+some_left t u v b e = cc
 
 pub nothing_counted : (s : Sums) → joined_sums s ≡ pending.Nothing → s.count ≡ 0
 nothing_counted s e = grind (arith, cases_Bool, eqb-true, some_left)
@@ -64,14 +55,14 @@ nothing_counted s e = grind (arith, cases_Bool, eqb-true, some_left)
 pub counted_nothing : (s : Sums) → s.count ≡ 0 → joined_sums s ≡ pending.Nothing
 counted_nothing s e = rw (eq-eqb s.count 0 e) refl
 
--- one block is pending of a change of it, or of what is below an empty patch or a sealed gate
-pub block_of : (k : Kind) (p : Place) (below : Pending) (b : ℕ) → of_kind k p below ≡ pending.Block b
-    → ((at len : ℕ) × (grade : _) × (k ≡ Change b at len grade)) ⊎ (below ≡ pending.Block b)
-block_of (Change block at len grade) place.Disk below b e = cc
-block_of Empty p below b e = inr e
-block_of OpenGate p below b e = cc
-block_of SealedGate p below b e = inr e
-block_of (Change block at len grade) p below b e = inl (at, len, grade, ap (λ c. Change c at len grade) (join_one block b below e))
+-- changes of one block are pending of a change of it, or of what is below an empty patch or a sealed gate
+pub block_of : (k : Kind) (p : Place) (below : Pending) (b : ℕ) → IsOf b (of_kind k p below) → ((at len : ℕ) × (grade : _) × (k ≡ Change b at len grade)) ⊎ IsOf b below
+block_of (Change block at len grade) place.Memory below b o = inl (at, len, grade, ap (λ c. Change c at len grade) (block_own block b below o))
+block_of (Change block at len grade) place.Flight below b o = inl (at, len, grade, ap (λ c. Change c at len grade) (behind_own block b below o))
+block_of (Change block at len grade) place.Disk below b o = absurd (elim o [ inl e ↦ cc | inr e ↦ cc ])
+block_of Empty p below b o = inr o
+block_of OpenGate p below b o = absurd (elim o [ inl e ↦ cc | inr e ↦ cc ])
+block_of SealedGate p below b o = inr o
 
 -- y is x but for its sums, what is pending of it, and the place of an empty patch or a sealed gate
 pub record Stays (x y : Node) : Type 0 where
@@ -79,6 +70,25 @@ pub record Stays (x y : Node) : Type 0 where
   pub kind : y.patch.kind ≡ x.patch.kind
   pub dependencies : y.patch.dependencies ≡ x.patch.dependencies
   pub spread : unspread y ≡ unspread x
+
+abbrev patch_with : ℕ → Kind → Place → List ℕ → Patch
+patch_with n k at row = record { number = n; kind = k; place = at; dependencies = row }
+
+patch_same : (n m : ℕ) (k l : Kind) (at to : Place) (row other : List ℕ) → n ≡ m → k ≡ l → at ≡ to → row ≡ other → patch_with n k at row ≡ patch_with m l to other
+patch_same n m k l at to row other e f g h = rw (e, f, g, h) refl
+
+abbrev bare : Patch → List ℕ → Bool → Node
+bare p ms gone = record { patch = p; sums = nothing; pending = pending.Nothing; dependants = ms; forgotten = gone }
+
+bare_same : (p q : Patch) (ms ns : List ℕ) (gone lost : Bool) → p ≡ q → ms ≡ ns → gone ≡ lost → bare p ms gone ≡ bare q ns lost
+bare_same p q ms ns gone lost e f g = rw (e, f, g) refl
+
+-- where the place is the same too
+pub unrisen_stays : (x y : Node) → Stays x y → y.patch.place ≡ x.patch.place → unrisen y ≡ unrisen x
+unrisen_stays x y s place =
+    bare_same y.patch x.patch y.dependants x.dependants y.forgotten x.forgotten
+    (patch_same y.patch.number x.patch.number y.patch.kind x.patch.kind y.patch.place x.patch.place y.patch.dependencies x.patch.dependencies s.number s.kind place s.dependencies)
+    (ap (λ (z : Node). z.dependants) s.spread) (ap (λ (z : Node). z.forgotten) s.spread)
 
 abbrev rest_if : Bool → Node → Node
 rest_if t x = cond t (record x { patch = record x.patch { place = place.Disk } }) x

@@ -1,11 +1,11 @@
 -- The nodes of a spread, found by their numbers, and the numbers that wait in its queue.
 use Rattle.fst_heads.proofs.Basics.{◌≡◌, ◌≢◌, ◌<◌, ◌≤◌, ◌==◌, ◌&&◌, ◌+◌, ℕ, suc, Bool, true, false, not, cond, List, [], ◌∷◌, ◌++◌, length, map, get_or, Contains, AllPairs, length-append, refl, sym, ap, subst, ◌∙◌, inl, inr, arith, list_any, cases_eq, cases_order, and_parts, and_from, eqb-true, eq-eqb}
 use Rattle.fst_heads.proofs.Basics.{common_steps, ne_eqb, not-true, not_from_false, get_or_append_left, Contains-get_or, Contains-append_cases, Any-from_list_any, list_any-from_Any, AllPairs-cons, sum_by-cons}
+use Rattle.std.specs.Prelude.{sum_by}
 use Rattle.fst_heads.proofs.Patches.{filter_in, in_filter, In, In-map, In-from_Contains, Contains-from_In, pull}
-use Rattle.fst_heads.proofs.Words.{Pending, height, Node, pending_in, times, at_number, is_told, settles, hears, heard, wakes, woken, heights}
+use Rattle.fst_heads.proofs.Words.{Pending, IsOf, Node, pending_in, times, at_number, is_told, settles, hears, heard, wakes, woken}
 use Rattle.fst_heads.proofs.{AtNumber.{at_same, at_other}, PendingIn.{found, told_of}, Placed.unmapped, Slots.{any_default, rising_map}, Turning.{turned, is_heard}}
 use Rattle.std.proofs.Math.Seq.{get_or-append_seam}
-use Rattle.fst_heads.proofs.Words.pending
 
 pub mapped : {X Y : Type 0} (f : X → Y) (xs : List X) (x : X) → Contains xs x → Contains (map f xs) (f x)
 mapped f xs x c = Contains-from_In (map f xs) (f x) (In-map f xs x (f x) (In-from_Contains xs x c) refl)
@@ -33,9 +33,12 @@ same_node nodes x y rising a b e =
 pub pending_of : (nodes : List Node) (x : Node) → AllPairs (λ a b. a.patch.number < b.patch.number) nodes → Contains nodes x → pending_in nodes x.patch.number ≡ x.pending
 pending_of nodes x rising c = told_of nodes x (rising_map (λ (y : Node). y.patch) nodes (λ y. y.patch.number) (λ p. p.number) (λ y. refl) rising) c
 
--- where one block is pending at a number, it is pending of a node
-pub pending_node : (nodes : List Node) (n b : ℕ) → pending_in nodes n ≡ pending.Block b → (y : Node) × Contains nodes y × (y.pending ≡ pending.Block b)
-pending_node nodes n b e = elim (found nodes n) [ inl f ↦ (f.node, f.head, sym f.told ∙ e) | inr none ↦ absurd (let off = sym none ∙ e in cc) ]
+-- where changes of one block are pending at a number, they are pending of a node
+pub pending_node : (nodes : List Node) (n b : ℕ) → IsOf b (pending_in nodes n) → (y : Node) × Contains nodes y × IsOf b y.pending
+pending_node nodes n b o = elim (found nodes n) [
+  | inl f ↦ (f.node, f.head, subst (IsOf b) f.told o)
+  | inr none ↦ absurd (elim (subst (IsOf b) none o) [ inl e ↦ cc | inr e ↦ cc ])
+]
 
 pub pending_mapped : (f : Node → Node) (nodes : List Node) (n : ℕ) → ((y : Node) → (f y).patch.number ≡ y.patch.number)
     → ((y : Node) → y.patch.number ≡ n → (f y).pending ≡ y.pending) → pending_in (map f nodes) n ≡ pending_in nodes n
@@ -46,26 +49,30 @@ pub rising_mapped : (f : Node → Node) (nodes : List Node) → ((y : Node) → 
     → AllPairs (λ a b. a.patch.number < b.patch.number) nodes → AllPairs (λ a b. a.patch.number < b.patch.number) (map f nodes)
 rising_mapped f nodes number rising = rising_map f nodes (λ y. y.patch.number) (λ y. y.patch.number) number rising
 
--- heights
+-- how far all have still to go
 
-abbrev tall : Node → ℕ
-tall x = height x.pending
+abbrev pub distance : (Pending → ℕ) → List Node → ℕ
+distance far nodes = sum_by (λ (x : Node). far x.pending) nodes
 
-heights_stay : (f : Node → Node) (nodes : List Node) → ((y : Node) → In nodes y → tall (f y) ≤ tall y) → heights (map f nodes) ≤ heights nodes
-heights_stay f [] low = omega arith
-heights_stay f (y ∷ ys) low =
-    omega (arith, sum_by-cons tall (f y) (map f ys), sum_by-cons tall y ys, heights_stay f ys (λ z i. low z (inr i)), low y (inl refl))
+module _ (far : Pending → ℕ) (f : Node → Node) where
+  abbrev left : Node → ℕ
+  left x = far x.pending
 
-heights_fall : (f : Node → Node) (nodes : List Node) (x : Node) → ((y : Node) → In nodes y → tall (f y) ≤ tall y) → In nodes x → tall (f x) < tall x → heights (map f nodes) < heights nodes
-heights_fall f [] x low h less = absurd h
-heights_fall f (y ∷ ys) x low (inl e) less = grind (arith, common_steps, sum_by-cons, heights_stay)
-heights_fall f (y ∷ ys) x low (inr h) less =
-    omega (arith, sum_by-cons tall (f y) (map f ys), sum_by-cons tall y ys, heights_fall f ys x (λ z i. low z (inr i)) h less, low y (inl refl))
+  distance_stays : (nodes : List Node) → ((y : Node) → In nodes y → left (f y) ≤ left y) → distance far (map f nodes) ≤ distance far nodes
+  distance_stays [] low = omega arith
+  distance_stays (y ∷ ys) low =
+      omega (arith, sum_by-cons left (f y) (map f ys), sum_by-cons left y ys, distance_stays ys (λ z i. low z (inr i)), low y (inl refl))
 
--- where no node is higher and one is lower
-pub heights_lower : (f : Node → Node) (nodes : List Node) (x : Node) → ((y : Node) → Contains nodes y → height (f y).pending ≤ height y.pending) → Contains nodes x
-    → height (f x).pending < height x.pending → heights (map f nodes) < heights nodes
-heights_lower f nodes x low c less = heights_fall f nodes x (λ y i. low y (Contains-from_In nodes y i)) (In-from_Contains nodes x c) less
+  distance_falls : (nodes : List Node) (x : Node) → ((y : Node) → In nodes y → left (f y) ≤ left y) → In nodes x → left (f x) < left x → distance far (map f nodes) < distance far nodes
+  distance_falls [] x low h less = absurd h
+  distance_falls (y ∷ ys) x low (inl e) less =
+      omega (arith, sum_by-cons left (f y) (map f ys), sum_by-cons left y ys, distance_stays ys (λ z i. low z (inr i)), subst (λ z. left (f z) < left z) (sym e) less)
+  distance_falls (y ∷ ys) x low (inr h) less =
+      omega (arith, sum_by-cons left (f y) (map f ys), sum_by-cons left y ys, distance_falls ys x (λ z i. low z (inr i)) h less, low y (inl refl))
+
+  -- where no node is farther and one is nearer
+  pub distance_lower : (nodes : List Node) (x : Node) → ((y : Node) → Contains nodes y → left (f y) ≤ left y) → Contains nodes x → left (f x) < left x → distance far (map f nodes) < distance far nodes
+  distance_lower nodes x low c less = distance_falls nodes x (λ y i. low y (Contains-from_In nodes y i)) (In-from_Contains nodes x c) less
 
 -- how often a number stands in a row
 

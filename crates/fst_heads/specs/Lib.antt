@@ -1,6 +1,6 @@
 pub mod Heads
 pub mod Tests
-pub mod Marks
+pub mod Slots
 pub mod Keeps
 pub mod Rows
 pub mod Covers
@@ -13,6 +13,5 @@ pub mod Lists
 pub mod Standings
 pub mod Spans
 pub mod Spreading
-pub mod Flights
 pub mod Names
 pub mod Landed

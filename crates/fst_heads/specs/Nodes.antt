@@ -8,7 +8,7 @@ use Rattle.fst_heads.specs.declared.head.Head.{Head}
 use Rattle.fst_heads.specs.declared.pending.Pending.{Pending}
 use Rattle.fst_heads.specs.declared.pending.Pending.TheVariants as pending
 use Rattle.fst_heads.specs.declared.pending.Sums.{Sums}
-use Rattle.fst_heads.specs.{Heads.patch_of, Pendings.{joined, of_kind, sums_of, together}}
+use Rattle.fst_heads.specs.{Heads.patch_of, Pendings.{IsOf, joined, of_kind, sums_of, together}}
 
 pub record Node : Type 0 where
   pub patch : Patch
@@ -65,7 +65,7 @@ pub record AreSettled (nodes : List Node) (blocks : ℕ) : Type 0 where
   pub summed : (x : Node) → Contains nodes x → x.sums ≡ sums_of (pending_in nodes) x.patch.dependencies
   pub settled : (x : Node) → Contains nodes x → x.pending ≡ of_kind x.patch.kind x.patch.place (joined (pending_in nodes) x.patch.dependencies)
   pub placed : (x : Node) → Contains nodes x → (x.pending ≡ pending.Nothing) ↔ (x.patch.place ≡ place.Disk)
-  pub inside : (x : Node) (b : ℕ) → Contains nodes x → x.pending ≡ pending.Block b → b < blocks
+  pub inside : (x : Node) (b : ℕ) → Contains nodes x → IsOf b x.pending → b < blocks
 
 -- what f makes of the node with number n, and the others as they are
 abbrev pub at_number : ℕ → (Node → Node) → Node → Node
@@ -78,7 +78,7 @@ linked_to row n x = if is_among row x.patch.number then record x { dependants = 
 -- the names are among the direct dependencies besides, with their sums
 abbrev pub gains_names : List ℕ → Sums → Node → Node
 gains_names names sums x =
-    record { patch = record x.patch { dependencies = x.patch.dependencies ++ names }; sums = together x.sums sums; pending = x.pending; dependants = x.dependants; forgotten = x.forgotten }
+    record x { patch = record x.patch { dependencies = x.patch.dependencies ++ names }; sums = together x.sums sums }
 
 -- each patch of the row has room for one more dependant
 abbrev pub HasRoomAbove : List Head → List ℕ → Type 0

@@ -1,5 +1,5 @@
 -- What has still to reach the disk of a patch and of all that it depends on.
-use Rattle.std.specs.Prelude.{◌≡◌, ◌<◌, ◌≤◌, ◌⊎◌, ◌==◌, ◌&&◌, ◌+◌, ◌-◌, ◌*◌, ◌/◌, ℕ, Bool, true, false, List, [], ◌∷◌, if◌then◌else◌}
+use Rattle.std.specs.Prelude.{◌≡◌, ◌≤◌, ◌⊎◌, ◌==◌, ◌&&◌, ◌+◌, ◌-◌, ◌*◌, ◌/◌, ℕ, Bool, true, false, List, [], ◌∷◌, if◌then◌else◌}
 use Rattle.fst_types.specs.declared.place.Place.{Place}
 use Rattle.fst_types.specs.declared.place.Place.TheVariants as place
 use Rattle.fst_types.specs.Patches.{Kind, Change, Empty, OpenGate, SealedGate}
@@ -7,18 +7,21 @@ use Rattle.fst_heads.specs.declared.pending.Pending.{Pending}
 use Rattle.fst_heads.specs.declared.pending.Pending.TheVariants as pending
 use Rattle.fst_heads.specs.declared.pending.Sums.{Sums}
 
+-- of changes of b, and of those of c: of one block, some of it in flight if some of either is, or of more than one
+abbrev pub meet : ℕ → ℕ → Pending → Pending
+meet b c same = if c == b then same else pending.Apart
+
 -- what is pending of two patches together
 abbrev pub join : Pending → Pending → Pending
 join pending.Nothing q = q
-join (pending.Block b) pending.Nothing = pending.Block b
-join (pending.Block b) (pending.Block c) = if c == b then pending.Block b else pending.Apart
-join (pending.Block b) pending.Apart = pending.Apart
-join (pending.Block b) pending.Held = pending.Held
-join pending.Apart pending.Nothing = pending.Apart
-join pending.Apart (pending.Block c) = pending.Apart
-join pending.Apart pending.Apart = pending.Apart
-join pending.Apart pending.Held = pending.Held
 join pending.Held q = pending.Held
+join p pending.Nothing = p
+join p pending.Held = pending.Held
+join (pending.Block b) (pending.Block c) = meet b c (pending.Block b)
+join (pending.Block b) (pending.Behind c) = meet b c (pending.Behind b)
+join (pending.Behind b) (pending.Block c) = meet b c (pending.Behind b)
+join (pending.Behind b) (pending.Behind c) = meet b c (pending.Behind b)
+join p q = pending.Apart
 
 -- what is pending of a row, of each patch of which it is told
 abbrev pub joined : (ℕ → Pending) → List ℕ → Pending
@@ -26,12 +29,9 @@ joined told [] = pending.Nothing
 joined told (n ∷ ns) = join (told n) (joined told ns)
 
 -- of a change of the block with that pending below it
-abbrev pub over_block : ℕ → Pending → Pending
-over_block b below = join (pending.Block b) below
-
 abbrev pub of_change : ℕ → Place → Pending → Pending
-of_change b place.Memory below = over_block b below
-of_change b place.Flight below = over_block b below
+of_change b place.Memory below = join (pending.Block b) below
+of_change b place.Flight below = join (pending.Behind b) below
 of_change b place.Disk below = pending.Nothing
 
 -- of a patch of that kind at that place, with that pending of its direct dependencies
@@ -44,50 +44,51 @@ of_kind SealedGate p below = below
 -- the two are the same
 abbrev pub is_pending : Pending → Pending → Bool
 is_pending pending.Nothing pending.Nothing = true
-is_pending pending.Nothing (pending.Block c) = false
-is_pending pending.Nothing pending.Apart = false
-is_pending pending.Nothing pending.Held = false
-is_pending (pending.Block b) pending.Nothing = false
 is_pending (pending.Block b) (pending.Block c) = b == c
-is_pending (pending.Block b) pending.Apart = false
-is_pending (pending.Block b) pending.Held = false
-is_pending pending.Apart pending.Nothing = false
-is_pending pending.Apart (pending.Block c) = false
+is_pending (pending.Behind b) (pending.Behind c) = b == c
 is_pending pending.Apart pending.Apart = true
-is_pending pending.Apart pending.Held = false
-is_pending pending.Held pending.Nothing = false
-is_pending pending.Held (pending.Block c) = false
-is_pending pending.Held pending.Apart = false
 is_pending pending.Held pending.Held = true
+is_pending p q = false
 
--- how far it has to sink
+-- changes of b alone are pending, whether some are in flight or not
+abbrev pub IsOf : ℕ → Pending → Type 0
+IsOf b p = (p ≡ pending.Block b) ⊎ (p ≡ pending.Behind b)
+
+-- how far it has to sink: from an open gate to several blocks, to one of which some is in flight, to one, and to nothing
 abbrev pub height : Pending → ℕ
 height pending.Nothing = 0
 height (pending.Block b) = 1
-height pending.Apart = 2
-height pending.Held = 3
+height (pending.Behind b) = 2
+height pending.Apart = 3
+height pending.Held = 4
 
--- what is pending only sinks: from an open gate to several blocks, to one, and to nothing
+-- by a seal or a landing what is pending only sinks: nothing is pending then that was not before
 abbrev pub Sinks : Pending → Pending → Type 0
-Sinks old new = (new ≡ old) ⊎ (height new < height old)
+Sinks old new = join old new ≡ old
+
+-- by a launch of b it only rises: where changes of b in memory are pending, one of them is in flight now
+abbrev pub Rises : ℕ → Pending → Pending → Type 0
+Rises b old new = (new ≡ old) ⊎ ((old ≡ pending.Block b) × (new ≡ pending.Behind b))
 
 -- the sums of no patch
 abbrev pub nothing : Sums
-nothing = record { count = 0; held = 0; apart = 0; total = 0; squares = 0 }
+nothing = record { count = 0; held = 0; apart = 0; behind = 0; total = 0; squares = 0 }
 
 -- with one patch more
 abbrev pub plus : Pending → Sums → Sums
 plus pending.Nothing s = s
-plus (pending.Block b) s = record { count = s.count + 1; held = s.held; apart = s.apart; total = s.total + b; squares = s.squares + b * b }
-plus pending.Apart s = record { count = s.count + 1; held = s.held; apart = s.apart + 1; total = s.total; squares = s.squares }
-plus pending.Held s = record { count = s.count + 1; held = s.held + 1; apart = s.apart; total = s.total; squares = s.squares }
+plus (pending.Block b) s = record s { count = s.count + 1; total = s.total + b; squares = s.squares + b * b }
+plus (pending.Behind b) s = record s { count = s.count + 1; behind = s.behind + 1; total = s.total + b; squares = s.squares + b * b }
+plus pending.Apart s = record s { count = s.count + 1; apart = s.apart + 1 }
+plus pending.Held s = record s { count = s.count + 1; held = s.held + 1 }
 
 -- with one patch less
 abbrev pub minus : Pending → Sums → Sums
 minus pending.Nothing s = s
-minus (pending.Block b) s = record { count = s.count - 1; held = s.held; apart = s.apart; total = s.total - b; squares = s.squares - b * b }
-minus pending.Apart s = record { count = s.count - 1; held = s.held; apart = s.apart - 1; total = s.total; squares = s.squares }
-minus pending.Held s = record { count = s.count - 1; held = s.held - 1; apart = s.apart; total = s.total; squares = s.squares }
+minus (pending.Block b) s = record s { count = s.count - 1; total = s.total - b; squares = s.squares - b * b }
+minus (pending.Behind b) s = record s { count = s.count - 1; behind = s.behind - 1; total = s.total - b; squares = s.squares - b * b }
+minus pending.Apart s = record s { count = s.count - 1; apart = s.apart - 1 }
+minus pending.Held s = record s { count = s.count - 1; held = s.held - 1 }
 
 -- the sums of a row
 abbrev pub sums_of : (ℕ → Pending) → List ℕ → Sums
@@ -96,17 +97,21 @@ sums_of told (n ∷ ns) = plus (told n) (sums_of told ns)
 
 -- of two rows together
 abbrev pub together : Sums → Sums → Sums
-together s t = record { count = s.count + t.count; held = s.held + t.held; apart = s.apart + t.apart; total = s.total + t.total; squares = s.squares + t.squares }
+together s t = record { count = s.count + t.count; held = s.held + t.held; apart = s.apart + t.apart; behind = s.behind + t.behind; total = s.total + t.total; squares = s.squares + t.squares }
 
 -- the blocks add up as if all were the mean block
 abbrev pub is_even : Sums → Bool
 is_even s = (s.apart == 0) && (((s.total / s.count) * s.count == s.total) && ((s.total / s.count) * s.total == s.squares))
 
+-- then that block is pending, and some of it is in flight where that is so of some
+abbrev pub of_mean : Sums → Pending
+of_mean s = if s.behind == 0 then pending.Block (s.total / s.count) else pending.Behind (s.total / s.count)
+
 -- what is pending of a row with these sums: of one block exactly if all are of the mean block
 abbrev pub joined_sums : Sums → Pending
 joined_sums s =
     if s.count == 0 then pending.Nothing
-    else (if s.held == 0 then (if is_even s then pending.Block (s.total / s.count) else pending.Apart) else pending.Held)
+    else (if s.held == 0 then (if is_even s then of_mean s else pending.Apart) else pending.Held)
 
 -- blocks are numbers of 16 bits
 abbrev pub max_block : ℕ
@@ -115,6 +120,7 @@ max_block = 65535
 pub record Fits (s : Sums) : Type 0 where
   pub held : s.held ≤ s.count
   pub apart : s.apart ≤ s.count
+  pub behind : s.behind ≤ s.count
   pub total : s.total ≤ s.count * max_block
   pub squares : s.squares ≤ s.count * (max_block * max_block)
 

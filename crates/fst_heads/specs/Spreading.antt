@@ -1,11 +1,11 @@
 -- How what is pending of a patch is told to its dependants, and what has nothing pending any more goes to disk.
-use Rattle.std.specs.Prelude.{◌≡◌, ◌≢◌, ◌⊎◌, ◌<◌, ◌==◌, ◌&&◌, ◌↔◌, ℕ, Bool, true, false, not, List, [], ◌∷◌, map, filter, sum_by, Contains, AllPairs, if◌then◌else◌}
+use Rattle.std.specs.Prelude.{◌≡◌, ◌≢◌, ◌⊎◌, ◌<◌, ◌==◌, ◌&&◌, ◌↔◌, ℕ, Bool, true, false, not, List, [], ◌∷◌, map, filter, Contains, AllPairs, if◌then◌else◌}
 use Rattle.std.specs.List.{list_any}
 use Rattle.fst_types.specs.declared.place.Place.TheVariants as place
 use Rattle.fst_types.specs.{Patches.{Kind, Change, Empty, OpenGate, SealedGate}, Cascade.{Follows, unsettled}, Tests.is_among, Writing.{launched, landed}}
 use Rattle.fst_heads.specs.declared.pending.Pending.{Pending}
 use Rattle.fst_heads.specs.declared.pending.Pending.TheVariants as pending
-use Rattle.fst_heads.specs.{Pendings.{Sinks, HasIn, Fits, is_pending, of_kind, joined_sums, nothing, plus, minus, sums_of, height}, Nodes.{Node, pending_in}}
+use Rattle.fst_heads.specs.{Pendings.{Sinks, IsOf, HasIn, Fits, is_pending, of_kind, joined_sums, nothing, plus, minus, sums_of}, Nodes.{Node, pending_in}}
 
 -- an empty patch or a sealed gate
 abbrev pub follows : Kind → Bool
@@ -70,14 +70,14 @@ launches chosen x = record x { patch = launched chosen x.patch }
 abbrev pub lands : ℕ → Node → Node
 lands b x = record x { patch = landed b x.patch }
 
--- between two steps: the queue has those of which other is pending than their dependants were told
-pub record Spreading (nodes : List Node) (blocks : ℕ) (queue : List ℕ) : Type 0 where
+-- between two steps: the queue has those of which other is pending than their dependants were told, and what is pending only goes that way
+pub record Spreading (goes : Pending → Pending → Type 0) (nodes : List Node) (blocks : ℕ) (queue : List ℕ) : Type 0 where
   pub rising : AllPairs (λ x y. x.patch.number < y.patch.number) nodes
   pub summed : (x : Node) → Contains nodes x → x.sums ≡ sums_of (pending_in nodes) x.patch.dependencies
-  pub sinks : (x : Node) → Contains nodes x → Sinks x.pending (now x)
+  pub moves : (x : Node) → Contains nodes x → goes x.pending (now x)
   pub placed : (x : Node) → Contains nodes x → (now x ≡ pending.Nothing) ↔ (x.patch.place ≡ place.Disk)
   pub follow : (x : Node) → Contains nodes x → Follows x.patch.kind → (x.patch.place ≡ place.Memory) ⊎ (x.patch.place ≡ place.Disk)
-  pub inside : (x : Node) (b : ℕ) → Contains nodes x → x.pending ≡ pending.Block b → b < blocks
+  pub inside : (x : Node) (b : ℕ) → Contains nodes x → IsOf b x.pending → b < blocks
   pub changes : (x : Node) (b at len : ℕ) (grade : _) → Contains nodes x → x.patch.kind ≡ Change b at len grade → b < blocks
   pub queued : (n : ℕ) → Contains queue n → (x : Node) × Contains nodes x × (x.patch.number ≡ n) × (is_told x ≡ false)
   pub waits : (x : Node) → Contains nodes x → is_told x ≡ false → Contains queue x.patch.number
@@ -89,14 +89,18 @@ pub record IsUntold (x : Node) : Type 0 where
   pub sinks : Sinks x.pending (now x)
   pub untold : is_told x ≡ false
 
--- how far all have still to sink
-abbrev pub heights : List Node → ℕ
-heights nodes = sum_by (λ x. height x.pending) nodes
-
 -- a node without what is pending of it and below it, and without the place of an empty patch or a sealed gate
 abbrev pub unspread : Node → Node
-unspread x = record { patch = unsettled x.patch; sums = nothing; pending = pending.Nothing; dependants = x.dependants; forgotten = x.forgotten }
+unspread x = record x { patch = unsettled x.patch; sums = nothing; pending = pending.Nothing }
 
 -- only sums, what is pending, and the places of empty patches and sealed gates differ
 abbrev pub IsSpreadOf : List Node → List Node → Type 0
 IsSpreadOf old new = map unspread new ≡ map unspread old
+
+-- a node without what is pending of it and below it
+abbrev pub unrisen : Node → Node
+unrisen x = record { patch = x.patch; sums = nothing; pending = pending.Nothing; dependants = x.dependants; forgotten = x.forgotten }
+
+-- only sums and what is pending differ
+abbrev pub IsRisenOf : List Node → List Node → Type 0
+IsRisenOf old new = map unrisen new ≡ map unrisen old

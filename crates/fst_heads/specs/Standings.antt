@@ -6,7 +6,7 @@ use Rattle.fst_heads.specs.declared.pending.Pending.TheVariants as pending
 use Rattle.fst_heads.specs.declared.standing.Standing.{Standing}
 use Rattle.fst_heads.specs.{Nodes.Node, Pendings.is_pending, Tests.is_hard_kind}
 
--- a change of b in memory that waits for changes of b alone
+-- a change of b in memory that waits for such changes alone
 abbrev pub is_ready_on : ℕ → Node → Bool
 is_ready_on b x = is_change_at place.Memory b x.patch && is_pending x.pending (pending.Block b)
 
@@ -47,11 +47,11 @@ AreMarked patches blocks standings = (b : ℕ) (d : Standing) → b < blocks →
 
 -- with a change more that is ready now, which was held if it is hard
 abbrev pub released : Bool → Standing → Standing
-released true s = record { ready = s.ready + 1; held = s.held - 1; flying = s.flying }
-released false s = record { ready = s.ready + 1; held = s.held; flying = s.flying }
+released true s = record s { ready = s.ready + 1; held = s.held - 1 }
+released false s = record s { ready = s.ready + 1 }
 
 -- with a new change in memory, which is hard or not, and ready or not
 abbrev pub entered : Bool → Bool → Standing → Standing
-entered hard true s = record { ready = s.ready + 1; held = s.held; flying = s.flying }
-entered true false s = record { ready = s.ready; held = s.held + 1; flying = s.flying }
+entered hard true s = record s { ready = s.ready + 1 }
+entered true false s = record s { held = s.held + 1 }
 entered false false s = s

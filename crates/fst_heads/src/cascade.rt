@@ -1,6 +1,6 @@
 //! Where something else is pending of a patch, its dependants are told: what a seal or a landing sets free is found so,
 //! and an empty patch or a sealed gate that has nothing pending any more goes to disk. The queue has those of which
-//! other is pending than their dependants know. What is pending of a patch only sinks, at most twice in its life.
+//! other is pending than their dependants know. Here what is pending of a patch only sinks.
 
 ghost use Rattle.std.specs.Prelude.{◌≡◌, ◌≢◌, ◌<◌, ◌≤◌, ◌+◌, ◌++◌, ◌∷◌, ◌==◌, ℕ, [], true, length, map, Contains, AllPairs, vec_len, vec_capacity, slice_index_or, count_by, if◌then◌else◌};
 ghost use Rattle.fst_types.specs.Cascade.{IsCascadeOf};
@@ -8,15 +8,15 @@ ghost use Rattle.fst_heads.specs.declared.pending.Pending.TheVariants as pending
 ghost use Rattle.fst_heads.specs.Frames.{frame_of, frames_of};
 ghost use Rattle.fst_heads.specs.Heads.{IsRising, kind_of, patches_of};
 ghost use Rattle.fst_heads.specs.Landed.{AreLanded};
-ghost use Rattle.fst_heads.specs.Marks.{HasSlot};
+ghost use Rattle.fst_heads.specs.Slots.{HasSlot};
 ghost use Rattle.fst_heads.specs.Nodes.{Node, node_of, nodes_of, at_number, AreLinked, AreDistinct, AreSettled};
-ghost use Rattle.fst_heads.specs.Pendings.{Fits, is_pending};
+ghost use Rattle.fst_heads.specs.Pendings.{Fits, Sinks, is_pending};
 ghost use Rattle.fst_heads.specs.Spreading.{follows, rested, is_told, now, hears, wakes, heard, woken, is_waiting, CanHear, settles, seals, wakes_sealed, Spreading, IsSpreadOf};
 ghost use Rattle.fst_heads.specs.Standings.{AllStand};
 
 use crate::head::{Head, Kind};
-use crate::marks::slot_of;
-use crate::pending::{Pending, is_pending, over_block};
+use crate::pending::{Pending, is_pending, of_change};
+use crate::slot::slot_of;
 use crate::standing::{Standing, settle_slot};
 use fst_types::Place;
 
@@ -36,10 +36,7 @@ pub fn pending_now(head: &Head) -> Pending
     ensures { result ≡ now (node_of head.now) }
 {
     match head.kind {
-        Kind::Change(_, block, _) => match head.place {
-            Place::Disk => Pending::Nothing,
-            Place::Memory | Place::Flight => over_block(block, head.sums.joined()),
-        },
+        Kind::Change(_, block, _) => of_change(block, head.place, head.sums.joined()),
         Kind::OpenGate => Pending::Held,
         Kind::Empty | Kind::SealedGate => head.sums.joined(),
     }
@@ -97,7 +94,13 @@ fn hear_at(heads: &mut Vec<Head>, queue: &mut Vec<u32>, number: u32, old: Pendin
 }
 
 // All that directly depend on the head in the slot hear.
-fn tell(heads: &mut Vec<Head>, queue: &mut Vec<u32>, slot: usize, old: Pending, new: Pending)
+pub(crate) fn tell(
+    heads: &mut Vec<Head>,
+    queue: &mut Vec<u32>,
+    slot: usize,
+    old: Pending,
+    new: Pending,
+)
     requires rising { IsRising heads.old.items }
     requires slot { slot < vec_len heads.old }
     requires once { (d : Node) → AllPairs (λ m n. m ≢ n) (slice_index_or (nodes_of heads.old.items) slot d).dependants }
@@ -126,7 +129,7 @@ fn note_landing(landed: &mut Vec<u32>, number: u32, left: Pending)
 {
     match left {
         Pending::Nothing => landed.push_reserved(number),
-        Pending::Block(_) | Pending::Apart | Pending::Held => {}
+        Pending::Block(_) | Pending::Behind(_) | Pending::Apart | Pending::Held => {}
     }
 }
 
@@ -138,7 +141,7 @@ pub fn cascade(
     standings: &mut Vec<Standing>,
     landed: &mut Vec<u32>,
 ) -> usize
-    requires start { Spreading (nodes_of heads.old.items) (vec_len standings.old) queue.old.items }
+    requires start { Spreading Sinks (nodes_of heads.old.items) (vec_len standings.old) queue.old.items }
     requires linked { AreLinked (nodes_of heads.old.items) }
     requires distinct { AreDistinct (nodes_of heads.old.items) }
     requires standing { AllStand (nodes_of heads.old.items) (vec_len standings.old) standings.old.items }

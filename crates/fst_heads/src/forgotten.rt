@@ -3,7 +3,7 @@
 ghost use Rattle.std.specs.Prelude.{◌≡◌, ◌∷◌, [], map, vec_capacity};
 ghost use Rattle.fst_heads.specs.Heads.{IsRising};
 ghost use Rattle.fst_heads.specs.Landed.{flags};
-ghost use Rattle.fst_heads.specs.Marks.{HasSlot};
+ghost use Rattle.fst_heads.specs.Slots.{HasSlot};
 ghost use Rattle.fst_heads.specs.Nodes.{nodes_of};
 
 use crate::head::Head;

@@ -11,9 +11,9 @@ ghost use Rattle.fst_heads.specs.Pendings.{Fits};
 ghost use Rattle.fst_heads.specs.Rows.{IsMissing};
 
 use crate::head::Head;
-use crate::marks::slot_of;
 use crate::pending::Sums;
 use crate::row::{Row, is_live_number, put};
+use crate::slot::slot_of;
 use fst_types::PatchNo;
 use smallvec::SmallVec;
 use std::alloc::{AllocError, Global};

@@ -5,17 +5,20 @@
 //! marked so: dropping heads moves those behind them, so that many are dropped at once.
 //!
 //! So that nobody has to walk from patch to patch to learn what may be written, each head also has what is *pending* of it,
-//! which says what has still to reach the disk before it may: nothing; changes of one block alone; or more, which is an
-//! open gate (*held*) or several blocks (*apart*). Beside that stand the sums of its row, from which pending is told at
-//! once, so that one of 60,000 dependencies may land without a look at the others.
+//! which says what has still to reach the disk before it may: nothing; changes of one block alone, all in memory, or some
+//! of them in flight (*behind*); or more, which is an open gate (*held*) or several blocks (*apart*). Beside that stand the
+//! sums of its row, from which pending is told at once, so that one of 60,000 dependencies may land without a look at the
+//! others.
 //!
-//! A seal or a landing changes what is pending of a patch, and the *cascade* tells those that directly depend on it. What
-//! is pending of a patch only sinks, so that all cascades together look at each dependency twice at most. An empty patch
-//! or a sealed gate of which nothing is pending any more goes to disk there.
+//! A seal or a landing changes what is pending of a patch, and the *cascade* tells those that directly depend on it: then
+//! what is pending only sinks. An empty patch or a sealed gate of which nothing is pending any more goes to disk there. A
+//! *launch* tells upward too, that what was pending in memory is in flight. What it takes along lands at once, so that
+//! this befalls a patch once, and each dependency is looked at five times at most.
 //!
 //! For each block there is a list of its changes that are not on disk, and its *standing*: how many of them are ready, hard
-//! and held back, and in flight. Where some are ready, none is held back and none flies, the block may be written, and
-//! that is its mark.
+//! and held back, and in flight. Those that are ready wait for such changes alone: at every moment they are what may be
+//! written of the block. Where some are ready, none is held back and none flies, it may be written now, and that is its
+//! mark.
 //!
 //! Nothing here knows a grade's rule, a refusal or a group: searches over heads are a layer above (`fst_walks`), and what
 //! callers see of it all is `fst_graph`.
@@ -27,12 +30,13 @@ pub mod cover;
 pub mod forgotten;
 pub mod growth;
 pub mod head;
+pub mod launch;
 pub mod links;
 pub mod lists;
-pub mod marks;
 pub mod pending;
 pub mod places;
 pub mod row;
+pub mod slot;
 pub mod sparse;
 pub mod standing;
 pub mod test;

@@ -7,7 +7,7 @@ ghost use Rattle.fst_heads.specs.Heads.{IsRising};
 ghost use Rattle.fst_heads.specs.Nodes.{nodes_of, linked_to, HasRoomAbove};
 
 use crate::head::Head;
-use crate::marks::slot_of;
+use crate::slot::slot_of;
 use std::alloc::AllocError;
 
 /// Makes room for one more dependant at each patch of the row.

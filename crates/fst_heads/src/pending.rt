@@ -2,15 +2,19 @@
 
 ghost use Rattle.std.specs.Prelude.{◌≡◌, ◌<◌, ◌≢◌, ◌+◌};
 ghost use Rattle.fst_heads.specs.declared.pending.Pending.TheVariants as pending_as;
-ghost use Rattle.fst_heads.specs.Pendings.{is_pending, over_block, join, nothing, plus, minus, together, joined_sums, Fits, HasIn};
+ghost use Rattle.fst_heads.specs.Pendings.{is_pending, meet, join, of_change, nothing, plus, minus, together, joined_sums, Fits, HasIn};
+
+use fst_types::Place;
 
 /// What has still to reach the disk of a patch and of all that it depends on.
 #[derive(Clone, Copy)]
 pub enum Pending {
     /// It is on disk.
     Nothing,
-    /// Changes of this block, and empty patches and sealed gates over them.
+    /// Changes of this block in memory, and empty patches and sealed gates over them.
     Block(u16),
+    /// Changes of this block, of which some are in flight, and empty patches and sealed gates over them.
+    Behind(u16),
     /// Changes of more than one block, and empty patches and sealed gates over them.
     Apart,
     /// An open gate, and perhaps changes.
@@ -24,47 +28,42 @@ pub fn is_pending(pending: Pending, other: Pending) -> bool
     match pending {
         Pending::Nothing => match other {
             Pending::Nothing => true,
-            Pending::Block(_) | Pending::Apart | Pending::Held => false,
+            Pending::Block(_) | Pending::Behind(_) | Pending::Apart | Pending::Held => false,
         },
         Pending::Block(block) => match other {
             Pending::Block(second) => block == second,
-            Pending::Nothing | Pending::Apart | Pending::Held => false,
+            Pending::Nothing | Pending::Behind(_) | Pending::Apart | Pending::Held => false,
+        },
+        Pending::Behind(block) => match other {
+            Pending::Behind(second) => block == second,
+            Pending::Nothing | Pending::Block(_) | Pending::Apart | Pending::Held => false,
         },
         Pending::Apart => match other {
             Pending::Apart => true,
-            Pending::Nothing | Pending::Block(_) | Pending::Held => false,
+            Pending::Nothing | Pending::Block(_) | Pending::Behind(_) | Pending::Held => false,
         },
         Pending::Held => match other {
             Pending::Held => true,
-            Pending::Nothing | Pending::Block(_) | Pending::Apart => false,
+            Pending::Nothing | Pending::Block(_) | Pending::Behind(_) | Pending::Apart => false,
         },
     }
 }
 
-/// Whether changes of the block alone are pending.
+/// Whether changes of the block in memory alone are pending.
 pub fn is_of_block(pending: Pending, block: u32) -> bool
     ensures { result ≡ is_pending pending (pending_as.Block block) }
 {
     match pending {
         Pending::Block(own) => u32::from(own) == block,
-        Pending::Nothing | Pending::Apart | Pending::Held => false,
+        Pending::Nothing | Pending::Behind(_) | Pending::Apart | Pending::Held => false,
     }
 }
 
-/// A change of the block over what is pending below it.
-pub fn over_block(block: u16, below: Pending) -> Pending
-    ensures { result ≡ over_block block below }
+// That, where the two blocks are the same, and more than one block else.
+fn meet(block: u16, other: u16, same: Pending) -> Pending
+    ensures { result ≡ meet block other same }
 {
-    match below {
-        Pending::Nothing => Pending::Block(block),
-        Pending::Block(other) => if other == block {
-            Pending::Block(block)
-        } else {
-            Pending::Apart
-        },
-        Pending::Apart => Pending::Apart,
-        Pending::Held => Pending::Held,
-    }
+    if other == block { same } else { Pending::Apart }
 }
 
 /// What is pending of two patches together.
@@ -73,18 +72,46 @@ pub fn join(pending: Pending, other: Pending) -> Pending
 {
     match pending {
         Pending::Nothing => other,
-        Pending::Block(block) => over_block(block, other),
+        Pending::Block(block) => match other {
+            Pending::Nothing => Pending::Block(block),
+            Pending::Block(second) => meet(block, second, Pending::Block(block)),
+            Pending::Behind(second) => meet(block, second, Pending::Behind(block)),
+            Pending::Apart => Pending::Apart,
+            Pending::Held => Pending::Held,
+        },
+        Pending::Behind(block) => match other {
+            Pending::Nothing => Pending::Behind(block),
+            Pending::Block(second) | Pending::Behind(second) => {
+                meet(block, second, Pending::Behind(block))
+            }
+            Pending::Apart => Pending::Apart,
+            Pending::Held => Pending::Held,
+        },
         Pending::Apart => match other {
             Pending::Held => Pending::Held,
-            Pending::Nothing | Pending::Block(_) | Pending::Apart => Pending::Apart,
+            Pending::Nothing | Pending::Block(_) | Pending::Behind(_) | Pending::Apart => {
+                Pending::Apart
+            }
         },
         Pending::Held => Pending::Held,
     }
 }
 
-/// How many patches of a row are not on disk, how many of these wait for an open gate, and how many of the others for
-/// more than one block, and the sums of the blocks of the rest and of the squares of those blocks. The two sums tell
-/// whether all those blocks are the same, and follow where one patch of the row changes, without a look at the others.
+/// What is pending of a change of the block at that place, over what is pending below it.
+pub fn of_change(block: u16, place: Place, below: Pending) -> Pending
+    ensures { result ≡ of_change block place below }
+{
+    match place {
+        Place::Memory => join(Pending::Block(block), below),
+        Place::Flight => join(Pending::Behind(block), below),
+        Place::Disk => Pending::Nothing,
+    }
+}
+
+/// How many patches of a row are not on disk, how many of these wait for an open gate, how many of the others for more than
+/// one block, and how many of the rest for a block of which some is in flight, and the sums of the blocks of the rest and of
+/// the squares of those blocks. The two sums tell whether all those blocks are the same, and follow where one patch of the
+/// row changes, without a look at the others.
 /// Blocks have 16 bits, and so has a count, since no more patches than 65,535 are not forgotten: that is why the sum of
 /// the blocks has 32 bits, and that of their squares 48.
 #[derive(Clone, Copy)]
@@ -92,6 +119,7 @@ pub struct Sums {
     pub count: u16,
     pub held: u16,
     pub apart: u16,
+    pub behind: u16,
     pub total: u32,
     pub squares: u64,
 }
@@ -104,6 +132,7 @@ pub fn no_sums() -> Sums
         count: 0,
         held: 0,
         apart: 0,
+        behind: 0,
         total: 0,
         squares: 0,
     }
@@ -122,6 +151,13 @@ impl Sums {
             Pending::Block(block) => {
                 let wide = u64::from(block);
                 self.count += 1;
+                self.total += u32::from(block);
+                self.squares += wide * wide;
+            }
+            Pending::Behind(block) => {
+                let wide = u64::from(block);
+                self.count += 1;
+                self.behind += 1;
                 self.total += u32::from(block);
                 self.squares += wide * wide;
             }
@@ -147,6 +183,13 @@ impl Sums {
             Pending::Block(block) => {
                 let wide = u64::from(block);
                 self.count -= 1;
+                self.total -= u32::from(block);
+                self.squares -= wide * wide;
+            }
+            Pending::Behind(block) => {
+                let wide = u64::from(block);
+                self.count -= 1;
+                self.behind -= 1;
                 self.total -= u32::from(block);
                 self.squares -= wide * wide;
             }
@@ -183,6 +226,7 @@ impl Sums {
             count: self.count + other.count,
             held: self.held + other.held,
             apart: self.apart + other.apart,
+            behind: self.behind + other.behind,
             total: self.total + other.total,
             squares: self.squares + other.squares,
         }
@@ -204,10 +248,15 @@ impl Sums {
         }
         let count = u32::from(self.count);
         let block = self.total / count;
-        if block * count == self.total && u64::from(block) * u64::from(self.total) == self.squares {
+        let is_even = block * count == self.total
+            && u64::from(block) * u64::from(self.total) == self.squares;
+        if !is_even {
+            return Pending::Apart;
+        }
+        if self.behind == 0 {
             Pending::Block(block as u16)
         } else {
-            Pending::Apart
+            Pending::Behind(block as u16)
         }
     }
 }

@@ -1,20 +1,18 @@
 //! How patches go from place to place.
 
-ghost use Rattle.std.specs.Prelude.{◌≡◌, ◌∷◌, [], map, filter, count_by, Contains, if◌then◌else◌};
+ghost use Rattle.std.specs.Prelude.{◌≡◌, filter, count_by, Contains, if◌then◌else◌};
 ghost use Rattle.std.specs.List.{prefix_len};
 ghost use Rattle.fst_types.specs.declared.place.Place.TheVariants as place;
 ghost use Rattle.fst_types.specs.Patches.{Patch, block_of_kind};
 ghost use Rattle.fst_types.specs.Tests.{is_at, is_on, is_change_at, is_live};
-ghost use Rattle.fst_heads.specs.Names.{numbers_of};
 ghost use Rattle.fst_heads.specs.Heads.{IsRising, kind_of, patch_of, patches_of};
 ghost use Rattle.fst_heads.specs.Spans.{SpansDisk};
-ghost use Rattle.fst_heads.specs.Spreading.{launches};
 ghost use Rattle.fst_heads.specs.Nodes.{node_of, nodes_of};
 
 use crate::head::{Head, Kind};
-use crate::marks::slot_of;
+use crate::slot::slot_of;
 use crate::test::is_live;
-use fst_types::{PatchNo, Place};
+use fst_types::Place;
 
 fn is_at(place: Place, at: Place) -> bool
     ensures { result ≡ is_at place at }
@@ -49,26 +47,6 @@ pub fn is_change_at(head: &Head, at: Place, block: u32) -> bool
     ensures { result ≡ is_change_at at block (patch_of head.now) }
 {
     is_at(head.place, at) && is_on(head.kind, block)
-}
-
-// The patch with the number is in flight.
-fn launch_at(heads: &mut Vec<Head>, number: u32)
-    requires { IsRising heads.old.items }
-    ensures { nodes_of heads.new.items ≡ map (launches (number ∷ [])) (nodes_of heads.old.items) }
-{
-    if let Some(slot) = slot_of(heads, number) {
-        heads[slot].place = Place::Flight;
-    }
-}
-
-/// The chosen are in flight.
-pub fn launch_all(heads: &mut Vec<Head>, chosen: &[PatchNo])
-    requires { IsRising heads.old.items }
-    ensures { nodes_of heads.new.items ≡ map (launches (numbers_of chosen.now)) (nodes_of heads.old.items) }
-{
-    for no in chosen {
-        launch_at(heads, no.0);
-    }
 }
 
 /// The block of the patch with the number, if it is a change.

@@ -16,8 +16,8 @@ ghost use Rattle.fst_heads.specs.Rows.{Gains, shares, IsDependency};
 
 use crate::head::Head;
 use crate::lists::Listed;
-use crate::marks::slot_of;
 use crate::pending::{Pending, Sums, join, no_sums};
+use crate::slot::slot_of;
 use crate::test::is_live;
 use fst_types::{PatchNo, Span};
 use smallvec::SmallVec;

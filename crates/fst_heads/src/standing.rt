@@ -1,6 +1,6 @@
 //! How each block stands: the mark that says whether it may be written, as counts that follow each change.
 
-ghost use Rattle.std.specs.Prelude.{◌≡◌, ◌<◌, ◌≤◌, ◌↔◌, [], ℕ, true, false, length, map, Contains, IfOk, IsTrue, MatchOption, slice_index_or, slice_set, vec_len, vec_capacity};
+ghost use Rattle.std.specs.Prelude.{◌≡◌, ◌<◌, ◌≤◌, [], ℕ, true, false, length, map, Contains, IfOk, MatchOption, slice_index_or, slice_set, vec_len, vec_capacity};
 ghost use Rattle.fst_types.specs.Patches.{Change};
 ghost use Rattle.fst_types.specs.declared.grade.Grade.{Grade};
 ghost use Rattle.fst_heads.specs.Frames.{frames_of};
@@ -17,8 +17,8 @@ use crate::pending::{Pending, is_pending};
 use fst_types::{BlockNo, Place};
 use std::alloc::{AllocError, Global};
 
-/// How many changes of a block in memory have nothing pending but changes of the block, how many hard ones in memory have
-/// more, and how many changes are in flight.
+/// How many changes of a block in memory have nothing pending but changes of the block in memory, how many hard ones in
+/// memory have more, and how many changes are in flight.
 #[derive(Clone, Copy)]
 pub struct Standing {
     pub ready: usize,
@@ -34,7 +34,7 @@ impl Standing {
         self.ready > 0 && self.held == 0 && self.flying == 0
     }
 
-    /// A change in memory that waited for more now waits for the block alone.
+    /// A change in memory that waited for more now waits for changes of the block in memory alone.
     fn release(&mut self, kind: Kind)
         requires ready { self.old.ready < 18446744073709551615 }
         requires held { is_hard_kind (kind_of kind) ≡ true → 0 < self.old.held }
@@ -75,17 +75,7 @@ impl Standing {
     }
 }
 
-/// Whether nothing of the block is in flight.
-pub fn is_resting(standings: &[Standing], block: u32) -> bool
-    ensures { IsTrue result ↔ ((block < length standings.now) × ((d : Standing) → (slice_index_or standings.now block d).flying ≡ 0)) }
-{
-    match standings.get(block as usize) {
-        Some(standing) => standing.flying == 0,
-        None => false,
-    }
-}
-
-/// How many changes of the block in memory wait for changes of the block alone.
+/// How many changes of the block in memory wait for such changes alone: they are the writable set.
 pub fn ready_count(standings: &[Standing], block: u32) -> usize
     ensures { (d : Standing) → block < length standings.now → result ≡ (slice_index_or standings.now block d).ready }
 {
@@ -95,7 +85,7 @@ pub fn ready_count(standings: &[Standing], block: u32) -> usize
     }
 }
 
-/// How many hard changes of the block in memory wait for more than changes of the block.
+/// How many hard changes of the block in memory wait for more.
 pub fn held_count(standings: &[Standing], block: u32) -> usize
     ensures { (d : Standing) → block < length standings.now → result ≡ (slice_index_or standings.now block d).held }
 {
@@ -144,7 +134,7 @@ pub fn empty_standings(alloc: Global, blocks: u32) -> Result<Vec<Standing>, Allo
 }
 
 /// What is pending of the head in the slot from now on its dependants have to be told. Answers what they knew, and what
-/// is pending now. A change in memory that now waits for its block alone is ready.
+/// is pending now. A change in memory that now waits for changes of its block in memory alone is ready.
 pub fn settle_slot(
     heads: &mut Vec<Head>,
     standings: &mut Vec<Standing>,

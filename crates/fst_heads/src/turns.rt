@@ -2,8 +2,12 @@
 //! it: they are the oldest, or the newest. By turns it looks at no more than twice as many as the shorter way has.
 
 ghost use Rattle.std.specs.Prelude.{◌≡◌, ◌∷◌, ◌++◌, [], true, false, IfSome, IfNone};
+ghost use Rattle.fst_heads.specs.Heads.{IsRising};
+ghost use Rattle.fst_heads.specs.Slots.{HasNone, HasSlot};
 
+use crate::head::Head;
 use crate::lists::Listed;
+use crate::slot::slot_near;
 
 /// The first or the last of what is left of the list, and what is left then.
 pub fn next_in_turn(rest: &[Listed], from_back: bool) -> Option<(Listed, &[Listed])>
@@ -17,4 +21,38 @@ pub fn next_in_turn(rest: &[Listed], from_back: bool) -> Option<(Listed, &[Liste
         rest.split_first()?
     };
     Some((*listed, others))
+}
+
+/// The slots where the last one from each end was found: the next one from that end mostly stands near it. Nothing is claimed
+/// of them.
+#[derive(Clone, Copy)]
+pub struct Near {
+    front: usize,
+    back: usize,
+}
+
+impl Near {
+    /// The first slot and the last, where none was found yet.
+    pub fn ends(heads: &[Head]) -> Near {
+        Near {
+            front: 0,
+            back: heads.len().saturating_sub(1),
+        }
+    }
+
+    /// The slot of the head with the number, which is the next one from that end.
+    pub fn find(&mut self, heads: &[Head], from_back: bool, number: u32) -> Option<usize>
+        requires { IsRising heads.now }
+        ensures found { IfSome result (λ slot. HasSlot heads.now number slot) }
+        ensures none { IfNone result (HasNone heads.now number) }
+    {
+        let near = if from_back {
+            &mut self.back
+        } else {
+            &mut self.front
+        };
+        let slot = slot_near(heads, *near, number)?;
+        *near = slot;
+        Some(slot)
+    }
 }

@@ -2,7 +2,7 @@
 use Rattle.std.proofs.Common.{◌≡◌, ◌↔◌, ◌<◌, ℕ, List, false, true, filter, length, get_or, Contains, sym, subst, ◌∙◌}
 use Rattle.std.proofs.lemmas.List.{get_or-map}
 use Rattle.fst_types.proofs.{Dropping.{filter_in, in_filter}, Finite.{In-from_Contains, Contains-from_In}}
-use Rattle.fst_heads.specs.{Heads.{IsRising, patch_of, patches_of}, Marks.{PassesAt, HasSlot}, Tests.passes, declared.head.Head.Head, declared.test.Test.Test}
+use Rattle.fst_heads.specs.{Heads.{IsRising, patch_of, patches_of}, Slots.{PassesAt, HasSlot}, Tests.passes, declared.head.Head.Head, declared.test.Test.Test}
 use Rattle.fst_heads.proofs.{Placed.unmapped, Slots.some_element}
 use Rattle.fst_walks.specs.Walks.{Trail, number_at, numbers_met, passes_in}
 use Rattle.fst_walks.proofs.{NearRow.{passes_here, here_passes}, Visiting.{slot_at, number_of_met}}

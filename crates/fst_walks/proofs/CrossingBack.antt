@@ -1,11 +1,11 @@
 -- Up from a patch to those that directly depend on it, and from a hard change in memory across its block to all changes of it that are not on disk.
 use Rattle.std.proofs.Common.{◌≡◌, ◌<◌, ℕ, Bool, true, false, not, List, length, map, filter, get_or, set, Contains, Some, refl, sym, ap, subst, ◌∙◌, inl, inr, get_or-set_same, get_or-set_other}
 use Rattle.std.proofs.lemmas.Bool.{cases_eq, and_parts, and_from}
-use Rattle.fst_types.specs.{Dependencies.{DirectlyOn, IsLiveNumber}, Patches.{Change, Empty, OpenGate, SealedGate, Patch, IsLive, IsOn, block_of_kind}}
+use Rattle.fst_types.specs.{Dependencies.{DirectlyOn, IsLiveNumber}, Patches.{Patch, IsLive, IsOn, block_of_kind}}
 use Rattle.fst_types.specs.Tests.{is_at, is_on}
 use Rattle.fst_types.proofs.{Dropping.{in_filter, filter_in}, Finite.{In, In-from_Contains, Contains-from_In, In-map}, GateGains.In-unmap}
 use Rattle.fst_heads.specs.{Grading.IsHardNumber, Heads.{IsRising, patch_of, patches_of}, Lists.{Entry, entry, entry_of, entries_of, entries_on, is_live_on}}
-use Rattle.fst_heads.specs.{Marks.{HasSlot, PassesAt}, Nodes.{Node, node_of, nodes_of, patches_in, AreLinked}, Reaching.{IsReached, IsHardIn}}
+use Rattle.fst_heads.specs.{Slots.{HasSlot, PassesAt}, Nodes.{Node, node_of, nodes_of, patches_in, AreLinked}, Reaching.{IsReached, IsHardIn}}
 use Rattle.fst_heads.specs.{declared.head.Head.Head, declared.head.Kind.{Kind as HeadKind}, declared.lists.Listed.Listed, Heads.kind_of}
 use Rattle.fst_types.specs.declared.grade.Grade.{Grade}
 use Rattle.fst_heads.specs.declared.head.Kind.TheVariants as kinds

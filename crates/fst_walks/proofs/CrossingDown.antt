@@ -2,7 +2,7 @@
 use Rattle.std.proofs.Common.{◌≡◌, ◌<◌, ℕ, Bool, true, false, List, Some, length, get_or, set, Contains, refl, sym, ap, subst, ◌∙◌, inl, inr, get_or-set_same, get_or-set_other}
 use Rattle.std.proofs.lemmas.Bool.{cases_eq}
 use Rattle.fst_types.specs.{Dependencies.IsLiveNumber, Patches.{Patch, IsOn, block_of_kind}, declared.grade.Grade.Grade}
-use Rattle.fst_heads.specs.{Heads.{IsRising, kind_of, patch_of, patches_of}, Marks.{HasSlot, PassesAt}}
+use Rattle.fst_heads.specs.{Heads.{IsRising, kind_of, patch_of, patches_of}, Slots.{HasSlot, PassesAt}}
 use Rattle.fst_heads.specs.{Reaching.IsReached, declared.head.Head.Head, declared.head.Kind.Kind}
 use Rattle.fst_heads.proofs.{Graded.{on_from, on_to}, Leading.{reached_more}, Slots.{patch_at, patch_is}}
 use Rattle.fst_walks.specs.{Descending.Visits, BothEnds.{CrossesDown, IsNeed, ShowsBlockUnder}}

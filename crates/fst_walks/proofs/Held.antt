@@ -3,7 +3,7 @@ use Rattle.std.proofs.Common.{◌≡◌, ◌⊎◌, ℕ, List, [], ◌∷◌, Co
 use Rattle.fst_types.specs.{Closure.{IsAcyclic, one, join}, Dependencies.{DirectlyOn, DependsOn, IsLiveNumber}, Facts.IsOnDiskWithAll, Gates.IsOpenNumber}
 use Rattle.fst_types.specs.{Patches.{Kind, Change, Empty, OpenGate, SealedGate, IsRising, IsOpenGate}, declared.place.Place.Place}
 use Rattle.fst_types.proofs.Finite.{In, In-from_Contains, Contains-from_In, lowest}
-use Rattle.fst_heads.specs.{Grading.HasUnder, Heads.{IsRising as HeadsRise, patches_of}, Marks.IsAbove}
+use Rattle.fst_heads.specs.{Grading.HasUnder, Heads.{IsRising as HeadsRise, patches_of}, Slots.IsAbove}
 use Rattle.fst_heads.specs.{Nodes.{Node, nodes_of, patches_in, pending_in, AreSettled}, Pendings.{join as together, joined, of_kind}, declared.head.Head.Head}
 use Rattle.fst_heads.specs.declared.pending.Pending.{Pending}
 use Rattle.fst_heads.proofs.{AtNumber.patches_in_nodes, Joining.{join_held, held_join}, Listing.rising_patches, PendingIn.{found, told_of}}
@@ -28,7 +28,7 @@ held_row told (m ∷ ms) n (inr i) e = held_join (told m) (joined told ms) (held
 -- by its kind: an open gate, or what waits for one below
 kind_held : (k : Kind) (p : Place) (below : Pending) → of_kind k p below ≡ pending.Held → (k ≡ OpenGate) ⊎ (below ≡ pending.Held)
 kind_held (Change b at len grade) place.Memory below e = elim (join_held (pending.Block b) below e) [ inl own ↦ absurd (cc) | inr h ↦ inr h ]
-kind_held (Change b at len grade) place.Flight below e = elim (join_held (pending.Block b) below e) [ inl own ↦ absurd (cc) | inr h ↦ inr h ]
+kind_held (Change b at len grade) place.Flight below e = elim (join_held (pending.Behind b) below e) [ inl own ↦ absurd (cc) | inr h ↦ inr h ]
 kind_held (Change b at len grade) place.Disk below e = absurd (cc)
 kind_held Empty p below e = inr e
 kind_held OpenGate p below e = inl refl
@@ -36,7 +36,7 @@ kind_held SealedGate p below e = inr e
 
 held_kind : (k : Kind) (p : Place) (below : Pending) → (p ≡ place.Disk → ⊥) → below ≡ pending.Held → of_kind k p below ≡ pending.Held
 held_kind (Change b at len grade) place.Memory below live e = held_join (pending.Block b) below e
-held_kind (Change b at len grade) place.Flight below live e = held_join (pending.Block b) below e
+held_kind (Change b at len grade) place.Flight below live e = held_join (pending.Behind b) below e
 held_kind (Change b at len grade) place.Disk below live e = absurd (live refl)
 held_kind Empty p below live e = e
 held_kind OpenGate p below live e = refl

@@ -8,6 +8,7 @@ pub mod Low
 pub mod Searched
 pub mod SearchedAbove
 pub mod Alone
+pub mod Ready
 pub mod Numbered
 pub mod Held
 pub mod Clean
@@ -17,7 +18,6 @@ pub mod Holding
 pub mod Away
 pub mod AsBefore
 pub mod Ascended
-pub mod Behind
 pub mod ComesBack
 pub mod CrossingBack
 pub mod Overlapped
@@ -56,4 +56,3 @@ pub mod CrossingDown
 pub mod MetLow
 pub mod Highest
 pub mod Traced
-pub mod Ways

@@ -2,10 +2,9 @@
 use Rattle.std.proofs.Common.{◌≡◌, ◌≢◌, ◌≤◌, ◌+◌, ◌⊎◌, ℕ, List, ap, subst, ◌∙◌, inl, inr, arith}
 use Rattle.std.proofs.lemmas.Bool.{cases_eq, cases_lt}
 use Rattle.fst_types.specs.{Closure.{one}, Dependencies.{DirectlyOn, IsLiveNumber}, Facts.IsOnDiskWithAll, Gates.IsOpenNumber, Patches.Patch}
-use Rattle.fst_heads.specs.{Grading.IsHardNumber, Marks.PassesAt}
+use Rattle.fst_heads.specs.{Grading.IsHardNumber, Slots.PassesAt}
 use Rattle.fst_walks.specs.Leveling.{AreLeveled, top_level}
 use Rattle.fst_walks.proofs.{Holding.live_up, Leveled.live_passes}
-use Rattle.fst_types.specs.declared.place.Place.TheVariants as place
 use Rattle.fst_heads.specs.declared.test.Test.TheVariants as test
 use Rattle.fst_types.proofs.Numbers.{memory_disk}
 

@@ -2,7 +2,7 @@
 use Rattle.std.proofs.Common.{◌≡◌, ◌≢◌, ◌≤◌, ◌<◌, ◌∙◌, ℕ, List, length, map, get_or, Contains, sym, ap, subst, inl, inr, arith}
 use Rattle.std.proofs.lemmas.Bool.{cases_eq}
 use Rattle.fst_types.specs.{Dependencies.DirectlyOn, Gates.IsOpenNumber, Patches.{IsOn, OpenGate, Patch}}
-use Rattle.fst_heads.specs.{Heads.{IsRising, patch_of, patches_of}, Marks.{HasSlot, PassesAt}, declared.head.Head.Head}
+use Rattle.fst_heads.specs.{Heads.{IsRising, patch_of, patches_of}, Slots.{HasSlot, PassesAt}, declared.head.Head.Head}
 use Rattle.fst_heads.proofs.Slots.{named_at, patch_is}
 use Rattle.fst_walks.specs.{Leveling.{AreLeveled, IsLeveled, Leveling, floor_of, jump_of, level_of, parent_of, top_level}, Walks.number_at, declared.levels.Rank.Rank}
 use Rattle.fst_walks.proofs.{AncestorsKept.over_as, Leveled.passed_on, Raised.kept_as, Ranked.{no_rank, rank_level, rank_number}, Visiting.slot_at}

@@ -4,7 +4,7 @@ use Rattle.fst_types.specs.{Closure.{one, join}, Dependencies.{DirectlyOn, Depen
 use Rattle.fst_types.specs.{Grades.FollowsRule, Patches.{Kind, OpenGate, Patch, IsOn, grade_of_kind}, Tests.is_change_at, declared.grade.Grade.Grade}
 use Rattle.fst_types.proofs.{Landing.{change_at, at_change}, Numbers.both}
 use Rattle.fst_heads.specs.Grading.{HasUnder, MayBeHard, IsHardNumber}
-use Rattle.fst_heads.specs.{Heads.{IsRising, patch_of, patches_of}, Marks.{HasSlot, HasNone, PassesAt}, Reaching.IsHardIn, Tests.{passes, is_hard_kind}}
+use Rattle.fst_heads.specs.{Heads.{IsRising, patch_of, patches_of}, Slots.{HasSlot, HasNone, PassesAt}, Reaching.IsHardIn, Tests.{passes, is_hard_kind}}
 use Rattle.fst_heads.specs.{declared.head.Head.Head, declared.test.Test.Test}
 use Rattle.fst_heads.proofs.{Leading.{same_patch}, Slots.{direct_at, patch_at, patch_is, patch_slot, slot_in, none_slot}}
 use Rattle.fst_walks.proofs.{Obstacles.{hard_from, hard_to}}

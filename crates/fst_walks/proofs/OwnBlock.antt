@@ -3,9 +3,9 @@ use Rattle.std.proofs.Common.{◌≡◌, ℕ, List, [], ◌∷◌, Contains, ref
 use Rattle.fst_types.specs.{Facts.IsOnDiskWithAll, Patches.{Patch, IsRising, IsOn, IsLive, IsOpenGate, block_of_kind}}
 use Rattle.fst_types.proofs.{Crash.same_number, Finite.{Contains-from_In, first_step}, SmallStates.only_in}
 use Rattle.fst_heads.specs.{Grading.{HasUnder, IsReturning, IsLeading, LeadsNowhere}, Heads.{IsRising as HeadsRise, patches_of}}
-use Rattle.fst_heads.specs.{Nodes.{Node, nodes_of, patches_in, pending_in, AreSettled}, Pendings.joined, declared.head.Head.Head, declared.pending.Pending.Pending}
-use Rattle.fst_heads.proofs.{AtNumber.patches_in_nodes, Listing.rising_patches, Sums.{joined_nothing, joined_block}}
-use Rattle.fst_walks.proofs.Low.{low_node, low_depends, IsLow, low_change}
+use Rattle.fst_heads.specs.{Nodes.{Node, nodes_of, patches_in, pending_in, AreSettled}, Pendings.{joined, Sinks}, declared.head.Head.Head, declared.pending.Pending.Pending}
+use Rattle.fst_heads.proofs.{AtNumber.patches_in_nodes, Listing.rising_patches, Sums.joined_below}
+use Rattle.fst_walks.proofs.Low.{low_node, low_depends, low_change, behind_change}
 use Rattle.fst_heads.specs.declared.pending.Pending.TheVariants as pending
 
 module _ (nodes : List Node) (blocks : ℕ) (rising : IsRising (patches_in nodes)) (D : IsOnDiskWithAll (patches_in nodes)) (S : AreSettled nodes blocks) (b : ℕ) where
@@ -15,29 +15,31 @@ module _ (nodes : List Node) (blocks : ℕ) (rising : IsRising (patches_in nodes
   abbrev told : ℕ → Pending
   told = pending_in nodes
 
-  low_under : (row : List ℕ) (P : ℕ → Type 0) → ((n : ℕ) → Contains row n → IsLow b (told n)) → HasUnder patches row P → (q : ℕ) × P q × IsLow b (told q)
+  -- no more is pending than changes of the block, some in flight
+  abbrev IsLow : Pending → Type 0
+  IsLow p = Sinks (pending.Behind b) p
+
+  low_under : (row : List ℕ) (P : ℕ → Type 0) → ((n : ℕ) → Contains row n → IsLow (told n)) → HasUnder patches row P → (q : ℕ) × P q × IsLow (told q)
   low_under row P all u = elim u.2 [
     | inl here ↦ (u.0, here, all u.0 u.1)
-    | inr below ↦ (below.0, below.2, low_depends nodes blocks rising D S b u.0 below.0 below.1 (all u.0 u.1))
+    | inr below ↦ (below.0, below.2, low_depends (pending.Behind b) nodes blocks rising D S u.0 below.0 below.1 (all u.0 u.1))
   ]
 
   -- a live change among what is at issue is of the block
-  low_live : (p : Patch) (d : ℕ) → Contains patches p → IsOn p d → IsLive p → IsLow b (told p.number) → d ≡ b
+  low_live : (p : Patch) (d : ℕ) → Contains patches p → IsOn p d → IsLive p → IsLow (told p.number) → d ≡ b
   low_live p d h on live low =
-      let y = low_node nodes blocks rising D S b p h low in
-      elim y.3 [
-        | inl e ↦ absurd (live (sym (ap (λ r. r.place) y.2) ∙ (S.placed y.0 y.1).0 e))
-        | inr e ↦ (low_change b d y.0.patch.kind y.0.patch.place (joined told y.0.patch.dependencies) (subst (λ r. IsOn r d) (sym y.2) on) (sym (S.settled y.0 y.1) ∙ e)).0
-      ]
+      let y = low_node (pending.Behind b) nodes blocks rising D S p h low in
+      let own = low_change (pending.Behind b) d y.0.patch.kind y.0.patch.place (joined told y.0.patch.dependencies) (subst (λ r. IsOn r d) (sym y.2) on) (subst IsLow (S.settled y.0 y.1) y.3) in
+      elim (behind_change b d y.0.patch.place own) [ inl disk ↦ absurd (live (sym (ap (λ r. r.place) y.2) ∙ disk)) | inr same ↦ same ]
 
-  own_nowhere : (row : List ℕ) → ((n : ℕ) → Contains row n → IsLow b (told n)) → LeadsNowhere patches b row
+  own_nowhere : (row : List ℕ) → ((n : ℕ) → Contains row n → IsLow (told n)) → LeadsNowhere patches b row
   own_nowhere row all = record {
     straight = λ u.
         let q = low_under row (IsReturning patches b) all u in
-        q.1.off (low_live q.1.away q.1.away_on q.1.head q.1.change q.1.away_live (subst (λ n. IsLow b (told n)) (sym q.1.numbered) q.2));
+        q.1.off (low_live q.1.away q.1.away_on q.1.head q.1.change q.1.away_live (subst (λ n. IsLow (told n)) (sym q.1.numbered) q.2));
     open_ended = λ u.
         let q = low_under row (IsLeading patches b) all u in
-        q.1.other (low_live q.1.patch q.1.block q.1.head q.1.change q.1.live (subst (λ n. IsLow b (told n)) (sym q.1.numbered) q.2));
+        q.1.other (low_live q.1.patch q.1.block q.1.head q.1.change q.1.live (subst (λ n. IsLow (told n)) (sym q.1.numbered) q.2));
   }
 
 -- where no way leads back from each of the row, none does from the row
@@ -76,15 +78,12 @@ module _ (heads : List Head) (rising : HeadsRise heads) (b n : ℕ) (gate : Patc
 
 -- the same of heads, by what is pending of the row
 module _ (heads : List Head) (blocks : ℕ) (rising : HeadsRise heads) (D : IsOnDiskWithAll (patches_of heads)) (S : AreSettled (nodes_of heads) blocks) (b : ℕ) (row : List ℕ) where
-  heads_nowhere : ((n : ℕ) → Contains row n → IsLow b (pending_in (nodes_of heads) n)) → LeadsNowhere (patches_of heads) b row
+  heads_nowhere : ((n : ℕ) → Contains row n → Sinks (pending.Behind b) (pending_in (nodes_of heads) n)) → LeadsNowhere (patches_of heads) b row
   heads_nowhere all = rw (← patches_in_nodes heads)
       (own_nowhere (nodes_of heads) blocks (rw (patches_in_nodes heads) (rising_patches heads rising)) (rw (patches_in_nodes heads) D) S b row all)
 
-  pub own_number_nowhere : (n : ℕ) → row ≡ n ∷ [] → IsLow b (pending_in (nodes_of heads) n) → LeadsNowhere (patches_of heads) b row
-  own_number_nowhere n e low = heads_nowhere (λ m h. subst (λ k. IsLow b (pending_in (nodes_of heads) k)) (only_in n m (subst (λ ns. Contains ns m) e h)) low)
+  pub number_nowhere : (n : ℕ) → row ≡ n ∷ [] → Sinks (pending.Behind b) (pending_in (nodes_of heads) n) → LeadsNowhere (patches_of heads) b row
+  number_nowhere n e low = heads_nowhere (λ m h. subst (λ k. Sinks (pending.Behind b) (pending_in (nodes_of heads) k)) (only_in n m (subst (λ ns. Contains ns m) e h)) low)
 
-  pub nothing_nowhere : joined (pending_in (nodes_of heads)) row ≡ pending.Nothing → LeadsNowhere (patches_of heads) b row
-  nothing_nowhere e = heads_nowhere (λ n h. inl (joined_nothing (pending_in (nodes_of heads)) row e n h))
-
-  pub block_nowhere : joined (pending_in (nodes_of heads)) row ≡ pending.Block b → LeadsNowhere (patches_of heads) b row
-  block_nowhere e = heads_nowhere (joined_block (pending_in (nodes_of heads)) row b e)
+  pub row_nowhere : Sinks (pending.Behind b) (joined (pending_in (nodes_of heads)) row) → LeadsNowhere (patches_of heads) b row
+  row_nowhere low = heads_nowhere (joined_below (pending_in (nodes_of heads)) row (pending.Behind b) low)

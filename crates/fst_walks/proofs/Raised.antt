@@ -2,7 +2,7 @@
 use Rattle.std.proofs.Common.{◌≡◌, ◌≢◌, ◌<◌, ℕ, zero, suc, List, [], ◌∷◌, length, map, get_or, set, sym, ◌∙◌, arith, All, AllPairs, refl, eqb, eq-eqb, ne_eqb, inl, inr}
 use Rattle.std.proofs.lemmas.Bool.{cases_Bool}
 use Rattle.std.proofs.lemmas.List.{Elements.All-tail}
-use Rattle.fst_heads.specs.{Heads.{IsRising, patches_of}, Marks.{HasNone}, declared.head.Head.Head}
+use Rattle.fst_heads.specs.{Heads.{IsRising, patches_of}, Slots.{HasNone}, declared.head.Head.Head}
 use Rattle.fst_walks.specs.{Leveling.kept_under, declared.levels.Rank.Rank}
 use Rattle.fst_heads.proofs.Slots.{slot_here, some_element}
 use Rattle.fst_walks.proofs.Ranked.{rank_number, ranks_long}

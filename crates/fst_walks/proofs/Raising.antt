@@ -2,7 +2,7 @@
 use Rattle.std.proofs.Common.{◌≡◌, ◌≢◌, ◌<◌, ◌⊎◌, ◌&&◌, ◌++◌, ◌∷◌, ◌∙◌, [], ℕ, List, length, map, get_or, Contains, sym, ap, subst, inl, inr}
 use Rattle.std.proofs.lemmas.Bool.{cases_Bool, cases_eq, false≢true}
 use Rattle.std.proofs.lemmas.List.{Elements.{Contains-push, Contains-push_cases, Contains-append_left}}
-use Rattle.fst_heads.specs.{Grading.IsHardNumber, Heads.{IsRising, kind_of, patch_of, patches_of}, Marks.HasSlot, Reaching.IsHardIn, Tests.is_hard_kind, declared.head.Head.Head}
+use Rattle.fst_heads.specs.{Grading.IsHardNumber, Heads.{IsRising, kind_of, patch_of, patches_of}, Slots.HasSlot, Reaching.IsHardIn, Tests.is_hard_kind, declared.head.Head.Head}
 use Rattle.fst_heads.proofs.Slots.{patch_at, some_element}
 use Rattle.fst_walks.specs.{Leveling.{Leveling, level_of, floor_of}, Lifting.IsLifted, Walks.number_at, declared.levels.Rank.Rank}
 use Rattle.fst_walks.proofs.{CrossingBack.hard_on_here, NearRow.{hard_here, here_hard}, Ranked.{no_rank, rank_number}, Visiting.slot_at}

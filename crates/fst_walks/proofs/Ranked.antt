@@ -3,7 +3,7 @@ use Rattle.std.proofs.Common.{◌≡◌, ◌≢◌, ◌<◌, ◌≤◌, ◌-◌,
 use Rattle.std.proofs.lemmas.{Bool.{cases_eq, cases_lt}, List.{length-map, get_or-map}}
 use Rattle.fst_types.specs.Patches.{Patch}
 use Rattle.fst_types.proofs.Finite.{In, Contains-from_In}
-use Rattle.fst_heads.specs.{declared.head.Head.Head, Heads.{IsRising, patch_of, patches_of}, Marks.{HasNone, HasSlot}}
+use Rattle.fst_heads.specs.{declared.head.Head.Head, Heads.{IsRising, patch_of, patches_of}, Slots.{HasNone, HasSlot}}
 use Rattle.fst_heads.proofs.Slots.{any_default, some_element, rising_map, rising_back, slot_here}
 use Rattle.fst_walks.specs.{Leveling.{kept_under, level_of, no_ancestry}, declared.levels.Rank.Rank}
 

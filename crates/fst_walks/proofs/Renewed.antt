@@ -1,6 +1,6 @@
 -- Levels stay right where a patch has other ancestors, in its row or below.
 use Rattle.std.proofs.Common.{◌≡◌, ◌≢◌, ◌∙◌, ℕ, List, length, map, get_or, sym, ap, subst, arith}
-use Rattle.fst_heads.specs.{Heads.{IsRising, patch_of, patches_of}, Marks.HasSlot, declared.head.Head.Head}
+use Rattle.fst_heads.specs.{Heads.{IsRising, patch_of, patches_of}, Slots.HasSlot, declared.head.Head.Head}
 use Rattle.fst_heads.proofs.Slots.{patch_at}
 use Rattle.fst_types.specs.Patches.{Patch}
 use Rattle.fst_walks.specs.{Ancestors.{GoesUnder, MayStandUnder}, Leveling.{IsLeveled, Leveling, floor_of, jump_of, level_of, parent_of}, declared.levels.{Ancestry.Ancestry, Rank.Rank}}

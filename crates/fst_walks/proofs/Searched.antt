@@ -2,7 +2,7 @@
 use Rattle.std.proofs.Common.{◌≡◌, ◌⊎◌, ◌↔◌, ◌<◌, ℕ, List, [], ◌∷◌, length, get_or, Contains, refl, sym, ap, subst, inl, inr, arith}
 use Rattle.fst_types.specs.{Closure.{Closure, one, join}, Dependencies.DependsOn, Gates.IsOpenNumber, Patches.Patch}
 use Rattle.fst_types.proofs.Finite.{In-from_Contains, last_step}
-use Rattle.fst_heads.specs.{Heads.patches_of, Marks.{IsAbove, HasSlot}, Nodes.{Node, node_of, nodes_of, patches_in, times, AreLinked}, declared.head.Head.Head}
+use Rattle.fst_heads.specs.{Heads.patches_of, Slots.{IsAbove, HasSlot}, Nodes.{Node, node_of, nodes_of, patches_in, times, AreLinked}, declared.head.Head.Head}
 use Rattle.fst_heads.specs.declared.pending.Pending.{Pending}
 use Rattle.fst_heads.proofs.{AtNumber.patches_in_nodes, PendingAt.node_in, Placed.node_of_patch, Slots.any_default, Waiting.times_some}
 use Rattle.fst_walks.specs.{Descending.{IsLedFrom, Visits}, Searching.{AreHeldByGates, IsNextHeld}}

@@ -1,7 +1,7 @@
 -- The head at the slot of a number is a hard change in memory: so is the number's patch.
 use Rattle.std.proofs.Common.{◌≡◌, ◌∙◌, ◌&&◌, ℕ, true, List, get_or, sym, ap}
 use Rattle.fst_types.specs.{Tests.is_change_at}
-use Rattle.fst_heads.specs.{Heads.{IsRising, kind_of, patch_of, patches_of}, Marks.HasSlot, Tests.is_hard_kind, declared.head.Head.Head}
+use Rattle.fst_heads.specs.{Heads.{IsRising, kind_of, patch_of, patches_of}, Slots.HasSlot, Tests.is_hard_kind, declared.head.Head.Head}
 use Rattle.fst_walks.specs.Needing.{IsHardAt}
 use Rattle.fst_walks.proofs.{NearRow.hard_here, NeedsKept.hard_at}
 use Rattle.fst_types.specs.declared.place.Place.TheVariants as place

@@ -2,7 +2,7 @@
 use Rattle.std.proofs.Common.{◌≡◌, ◌≢◌, ◌⊎◌, ◌<◌, ◌-◌, ℕ, List, Option, Some, None, IfSome, length, take, drop, reverse, get_or, Contains, sym, subst, ◌∙◌, inl, inr, arith}
 use Rattle.std.proofs.lemmas.{List.{get_or-reverse, length-reverse, take-append-drop, take_rest}, List.Elements.Contains-append_right}
 use Rattle.fst_types.specs.{Closure.{Closure, one, join}, Dependencies.IsLiveNumber, Patches.IsOn}
-use Rattle.fst_heads.specs.{Heads.{IsRising, patch_of, patches_of}, Marks.HasSlot, declared.head.Head.Head}
+use Rattle.fst_heads.specs.{Heads.{IsRising, patch_of, patches_of}, Slots.HasSlot, declared.head.Head.Head}
 use Rattle.fst_heads.proofs.{Slots.{direct_at, some_element}}
 use Rattle.fst_walks.specs.BothEnds.{IsNeed, StepsTo}
 use Rattle.fst_walks.proofs.CrossingDown.{here_on}

@@ -1,6 +1,6 @@
 -- What a walk has met and marked.
 use Rattle.std.proofs.Common.{◌≡◌, ◌≢◌, ◌≤◌, ◌<◌, ℕ, zero, suc, Bool, true, false, List, [], ◌∷◌, ◌++◌, length, take, filter, get_or, set, Contains, AllPairs, refl, sym, subst, ◌∙◌, inl, inr, arith, get_or-set_same, get_or-set_other, length-append}
-use Rattle.std.proofs.{lemmas.Bool.{cases_eq, false≢true}, lemmas.List.{get_or_append_left, get_or_push, take-append-le, take_all}}
+use Rattle.std.proofs.{lemmas.Bool.{cases_eq, false≢true}, lemmas.List.{take-append-le, take_all}}
 use Rattle.std.proofs.lemmas.List.Elements.{Contains-append_left, Contains-push, Contains-push_cases}
 use Rattle.fst_types.proofs.{Dropping.filter_in, Finite.{In, In-from_Contains, Contains-from_In}, SmallStates.only_in}
 use Rattle.fst_heads.proofs.{Slots.any_default, Waiting.{once_fits, once_append}}
@@ -77,30 +77,6 @@ module _ (marks : List Bool) (met : List ℕ) (m : AreMarked marks met) where
         where
           inside_of : (t : ℕ) → Contains (met ++ s ∷ []) t → t < length marks
           inside_of t c = elim (Contains-push_cases met s t c) [ inl old ↦ met_inside t old | inr e ↦ subst (λ k. k < length marks) e lt ]
-
--- what was met last is taken back
-module _ (marks : List Bool) (met : List ℕ) (s : ℕ) (m : AreMarked marks (met ++ s ∷ [])) (once : AllPairs (λ s t. s ≢ t) (met ++ s ∷ [])) where
-  -- the last is none of the others
-  last_new : (t : ℕ) → Contains met t → t ≢ s
-  last_new t c =
-      let within = c.1 in
-      let long = length-append met (s ∷ []) in
-      let apart = once c.0 (length met) t within (omega (arith, long)) in
-      λ same. apart (get_or_append_left met (s ∷ []) t c.0 within ∙ (c.2 ∙ (same ∙ sym (get_or_push met s t (length met) refl))))
-
-  pub marked_cut : AreMarked (set marks s false) met
-  marked_cut = record {
-    only = λ t e. elim (cases_eq t s) [
-      | inl same ↦ absurd (false≢true (sym (subst (λ k. get_or (set marks s false) k false ≡ false) (sym same) (get_or-set_same marks s false false (met_inside marks (met ++ s ∷ []) m s (Contains-push met s)))) ∙ e))
-      | inr other ↦ elim (Contains-push_cases met s t (m.only t (sym (get_or-set_other marks s t false false other) ∙ e))) [ inl old ↦ old | inr last ↦ absurd (other (sym last)) ]
-    ];
-    each = λ t c. get_or-set_other marks s t false false (last_new t c) ∙ m.each t (Contains-append_left met (s ∷ []) t c);
-  }
-
-  pub once_cut : AllPairs (λ s t. s ≢ t) met
-  once_cut i j d lt within =
-      let apart = once i j d lt (omega (arith, within, length-append met (s ∷ []))) in
-      λ same. apart (get_or_append_left met (s ∷ []) d i (omega (arith, lt, within)) ∙ (same ∙ sym (get_or_append_left met (s ∷ []) d j within)))
 
 grown_mark : (marks : List Bool) (s : ℕ) → get_or (marks ++ false ∷ []) s false ≡ get_or marks s false
 grown_mark [] zero = refl

@@ -3,10 +3,9 @@ use Rattle.std.proofs.Common.{◌≡◌, ◌⊎◌, ◌<◌, ◌≤◌, ℕ, Lis
 use Rattle.std.proofs.lemmas.{Bool.{cases_lt, false≢true}, List.{append-nil, append_assoc, get_or_append_left, get_or-map, length-append, length-map, map_push}}
 use Rattle.std.proofs.lemmas.List.Elements.{Contains-append_left, Contains-push, Contains-push_cases}
 use Rattle.fst_types.specs.Dependencies.{IsLiveNumber}
-use Rattle.fst_heads.specs.{Heads.{IsRising, patches_of}, Marks.{HasSlot, Shows}, declared.head.Head.Head}
+use Rattle.fst_heads.specs.{Heads.{IsRising, patches_of}, Slots.HasSlot, declared.head.Head.Head}
 use Rattle.fst_heads.proofs.{Placed.unmapped, Slots.{any_default, slot_unique, some_element}, Waiting.mapped}
-use Rattle.fst_walks.specs.{Descending.{Visited, Visits}, Walks.{Trail, AreMarked, Meets, number_at, numbers_met}}
-use Rattle.fst_walks.proofs.Trails.{met_inside}
+use Rattle.fst_walks.specs.{Descending.{Visited, Visits}, Walks.{Trail, Meets, number_at, numbers_met}}
 
 -- the number of a slot
 pub slot_number : (heads : List Head) (n s : ℕ) → HasSlot heads n s → number_at heads s ≡ n
@@ -38,16 +37,6 @@ met_slot heads walk rising long inside n s slot c =
     let lt = inside r.0 r.1 in
     let own : HasSlot heads n r.0 = subst (λ k. HasSlot heads k r.0) r.2 (slot_at heads r.0 (omega (arith, lt, long))) in
     subst (Contains walk.met) (slot_unique heads n r.0 s rising own slot) r.1
-
--- so exactly what was met is marked
-pub shows_met : (heads : List Head) (walk : Trail) → length walk.marks ≡ length heads → AreMarked walk.marks walk.met → Shows heads walk.marks (Contains (numbers_met heads walk))
-shows_met heads walk long m = record {
-  only = λ n h. number_of_met heads walk n h.slot h.at (m.only h.slot h.marked);
-  each = λ n c.
-      let r = unmapped (number_at heads) walk.met n c in
-      let lt = met_inside walk.marks walk.met m r.0 r.1 in
-      record { slot = r.0; at = subst (λ k. HasSlot heads k r.0) r.2 (slot_at heads r.0 (omega (arith, lt, long))); marked = m.each r.0 r.1 };
-}
 
 -- nothing new
 pub visits_none : (P : ℕ → Type 0) (queue : List ℕ) → ((n : ℕ) → P n → Contains queue n) → Visits P queue queue

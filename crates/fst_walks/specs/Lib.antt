@@ -10,4 +10,3 @@ pub mod Leveling
 pub mod Lifting
 pub mod BothEnds
 pub mod Needing
-pub mod Behind

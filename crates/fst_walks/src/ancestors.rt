@@ -11,7 +11,7 @@
 ghost use Rattle.std.specs.Prelude.{◌≡◌, ◌<◌, ◌⊎◌, ℕ, IsTrue, IfSome, Contains, length, map};
 ghost use Rattle.fst_heads.specs.declared.test.Test.TheVariants as test;
 ghost use Rattle.fst_heads.specs.Heads.{IsRising, patches_of};
-ghost use Rattle.fst_heads.specs.Marks.{PassesAt};
+ghost use Rattle.fst_heads.specs.Slots.{PassesAt};
 ghost use Rattle.fst_walks.specs.Ancestors.{AreOver, GoesUnder, LeadsTo};
 ghost use Rattle.fst_walks.specs.Leveling.{IsLeveled, jump_of, parent_of};
 ghost use Rattle.fst_walks.specs.Sights.{Sees};

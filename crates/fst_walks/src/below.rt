@@ -9,7 +9,7 @@ ghost use Rattle.std.specs.Prelude.{◌≡◌, ◌≤◌, ◌<◌, ℕ, length, 
 ghost use Rattle.fst_heads.specs.declared.test.Test.TheVariants as test;
 ghost use Rattle.fst_heads.specs.Grading.{LeadsNowhere};
 ghost use Rattle.fst_heads.specs.Heads.{IsRising, patches_of};
-ghost use Rattle.fst_heads.specs.Marks.{PassesAt};
+ghost use Rattle.fst_heads.specs.Slots.{PassesAt};
 ghost use Rattle.fst_walks.specs.BothEnds.{ComesTo, IsAwayFrom, IsOver, ShowsBlockUnder, StepsHigh};
 ghost use Rattle.fst_walks.specs.Descending.{Visited, Visits};
 ghost use Rattle.fst_walks.specs.Leveling.{level_of};

@@ -12,7 +12,7 @@ ghost use Rattle.fst_heads.specs.declared.pending.Pending.TheVariants as pending
 ghost use Rattle.fst_walks.specs.Descending.{Visited, Visits};
 ghost use Rattle.fst_heads.specs.Heads.{IsRising, patches_of};
 ghost use Rattle.fst_heads.specs.Names.{numbers_of};
-ghost use Rattle.fst_heads.specs.Marks.{HasSlot};
+ghost use Rattle.fst_heads.specs.Slots.{HasSlot};
 ghost use Rattle.fst_heads.specs.Nodes.{AreLinked, nodes_of, pending_in};
 ghost use Rattle.fst_walks.specs.Searching.{AreOver, IsBetween, IsNextAbove, IsNextHeld, StayApart, TellsGates, WalkApart};
 ghost use Rattle.fst_walks.specs.Starting.{StartsAbove};
@@ -22,9 +22,9 @@ use crate::ends::{Ends, Looked, meets};
 use crate::starts::{Starts, visit_starts};
 use crate::walk::Walk;
 use fst_heads::head::Head;
-use fst_heads::marks::slot_of;
 use fst_heads::pending::{Pending, is_pending};
 use fst_heads::row::pending_at;
+use fst_heads::slot::slot_of;
 use fst_types::PatchNo;
 
 /// Visits the patch with the number if it waits for an open gate.

@@ -6,12 +6,12 @@ ghost use Rattle.fst_heads.specs.declared.test.Test.TheVariants as test;
 ghost use Rattle.fst_walks.specs.Descending.{Visited, Visits};
 ghost use Rattle.fst_heads.specs.Heads.{IsRising, patches_of};
 ghost use Rattle.fst_walks.specs.Walks.{numbers_met};
-ghost use Rattle.fst_heads.specs.Marks.{PassesAt};
+ghost use Rattle.fst_heads.specs.Slots.{PassesAt};
 ghost use Rattle.fst_heads.specs.Reaching.{ShowsBlocks};
 
 use crate::walk::Walk;
 use fst_heads::head::Head;
-use fst_heads::marks::slot_of;
+use fst_heads::slot::slot_of;
 use fst_heads::test::{Test, is_live};
 
 /// Visits the patch with the number, unless it is on disk or was visited before.

@@ -2,7 +2,7 @@
 
 ghost use Rattle.std.specs.Prelude.{◌≡◌, ◌≤◌, ◌<◌, ◌+◌, ◌++◌, ◌∷◌, [], ℕ, false, length, Contains, IfNone, IfOk, IfSome, OnOk, slice_index_or};
 ghost use Rattle.fst_heads.specs.Heads.{IsRising};
-ghost use Rattle.fst_heads.specs.Marks.{HasSlot};
+ghost use Rattle.fst_heads.specs.Slots.{HasSlot};
 ghost use Rattle.fst_walks.specs.BothEnds.{IsOver};
 ghost use Rattle.fst_walks.specs.Descending.{Visited};
 ghost use Rattle.fst_walks.specs.Walks.{numbers_met};

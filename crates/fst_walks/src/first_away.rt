@@ -4,7 +4,7 @@
 
 ghost use Rattle.std.specs.Prelude.{◌≡◌, ◌⊎◌, ◌≤◌, ◌<◌, ◌↔◌, ℕ, length, Contains, IsTrue, slice_index_or};
 ghost use Rattle.fst_heads.specs.Heads.{IsRising, patches_of};
-ghost use Rattle.fst_heads.specs.Marks.{HasSlot};
+ghost use Rattle.fst_heads.specs.Slots.{HasSlot};
 ghost use Rattle.fst_walks.specs.BothEnds.{GoesThrough, IsFirstAway, StepsAway};
 ghost use Rattle.fst_walks.specs.Descending.{IsLedFrom, Visited, Visits};
 ghost use Rattle.fst_walks.specs.Sights.{Sees};

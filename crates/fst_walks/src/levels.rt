@@ -8,7 +8,7 @@ ghost use Rattle.fst_types.specs.Tests.{is_live};
 ghost use Rattle.fst_types.specs.Patches.{IsOn, OpenGate, Patch};
 ghost use Rattle.fst_heads.specs.Heads.{IsRising, patch_of, patches_of};
 ghost use Rattle.fst_heads.specs.declared.test.Test.TheVariants as test;
-ghost use Rattle.fst_heads.specs.Marks.{HasNone, HasSlot, PassesAt};
+ghost use Rattle.fst_heads.specs.Slots.{HasNone, HasSlot, PassesAt};
 ghost use Rattle.fst_heads.specs.Reaching.{IsHardIn};
 ghost use Rattle.fst_heads.specs.Keeps.{IsInside};
 ghost use Rattle.fst_heads.specs.Nodes.{is_live_in, nodes_of};

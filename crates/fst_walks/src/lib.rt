@@ -1,6 +1,6 @@
 //! Searches over heads, for what the heads near a patch do not tell.
 //!
-//! Three questions need them. *Is a new change hard?* A block is written only with all its hard changes, so a change may
+//! Two questions need them. *Is a new change hard?* A block is written only with all its hard changes, so a change may
 //! be hard only where nothing that it depends on can come to wait for its block. Mostly the patches near it tell
 //! (`shortcuts`), or their levels do (`levels`): each patch has one and each block a floor, so that no way down rises,
 //! and what lies below the floor of a block leads nowhere. Or their ancestors tell (`ancestors`): each patch keeps two
@@ -12,9 +12,7 @@
 //! need (`needs`). Where a new hard change would stand over the floor of its block, the floor goes up, with all that stands
 //! over the block (`lift`). *May a gate gain these names, and may a group have this change?* A walk goes down from them
 //! (`starts`) through what waits for an open gate, and one up from the gate to what depends on it, until they meet or one of
-//! them is at its end (`cycle`, `overlap_cycle`). Which gates a row waits for is looked for down alone (`other_gates`). *What
-//! waits behind a write that is out?* A way goes down from each change that waits for the block
-//! alone, until it comes to what is in flight or known (`free`).
+//! them is at its end (`cycle`, `overlap_cycle`). Which gates a row waits for is looked for down alone (`other_gates`).
 //!
 //! A walk is a value of its own (`walk`), which keeps what it has met, so that each patch is looked at once; it can be
 //! used for walk after walk, each of which begins where nothing was met. What walks look at is one value too (`sight`):
@@ -36,7 +34,6 @@ pub mod descent;
 pub mod ends;
 pub mod first_away;
 pub mod flags;
-pub mod free;
 pub mod grade;
 pub mod graded;
 pub mod index;

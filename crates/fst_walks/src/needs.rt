@@ -14,8 +14,8 @@ ghost use Rattle.fst_walks.specs.Needing.{IsKnown, IsNeeding, IsNoted, IsPut, Is
 
 use crate::shortcuts::{is_hard_in, is_hard_number};
 use fst_heads::head::{Head, Kind};
-use fst_heads::marks::slot_of;
 use fst_heads::row::is_live_number;
+use fst_heads::slot::slot_of;
 use fst_types::Grade;
 use std::alloc::{AllocError, Global};
 use std::marker::Model;

@@ -15,7 +15,7 @@ use crate::ends::Ends;
 use crate::starts::Starts;
 use fst_heads::head::Head;
 use fst_heads::lists::Listed;
-use fst_heads::marks::slot_of;
+use fst_heads::slot::slot_of;
 use fst_types::Span;
 
 // Whether something may depend on the patch with the number.

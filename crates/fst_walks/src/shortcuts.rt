@@ -11,19 +11,20 @@ ghost use Rattle.fst_types.specs.Tests.{is_change_at};
 ghost use Rattle.fst_heads.specs.declared.pending.Pending.TheVariants as pending;
 ghost use Rattle.fst_heads.specs.declared.test.Test.TheVariants as test;
 ghost use Rattle.fst_heads.specs.Heads.{IsRising, kind_of, patch_of, patches_of};
-ghost use Rattle.fst_heads.specs.Marks.{PassesAt};
+ghost use Rattle.fst_heads.specs.Slots.{PassesAt};
 ghost use Rattle.fst_heads.specs.Tests.{is_hard_kind};
 ghost use Rattle.fst_heads.specs.Grading.{HasUnder, IsHardNumber, LeadsNowhere};
 ghost use Rattle.fst_walks.specs.Sights.{Sees};
 ghost use Rattle.fst_heads.specs.Nodes.{nodes_of, pending_in, AreSettled};
+ghost use Rattle.fst_heads.specs.Pendings.{IsOf};
 
 use crate::sight::Sight;
 use fst_heads::choice::is_hard;
 use fst_heads::head::{Head, Kind};
-use fst_heads::marks::slot_of;
 use fst_heads::pending::{Pending, is_pending};
 use fst_heads::places::is_change_at;
 use fst_heads::row::row_pending;
+use fst_heads::slot::slot_of;
 use fst_heads::test::{Test, passes};
 use fst_types::Place;
 
@@ -51,11 +52,11 @@ pub fn waits_for_gate(heads: &[Head], row: &[u32]) -> bool
 
 // Whether that is nothing, or changes of the block alone.
 fn is_own(told: Pending, block: u32) -> bool
-    ensures { IsTrue result → (told ≡ pending.Nothing) ⊎ (told ≡ pending.Block block) }
+    ensures { IsTrue result → (told ≡ pending.Nothing) ⊎ IsOf block told }
 {
     match told {
         Pending::Nothing => true,
-        Pending::Block(other) => u32::from(other) == block,
+        Pending::Block(other) | Pending::Behind(other) => u32::from(other) == block,
         Pending::Apart | Pending::Held => false,
     }
 }

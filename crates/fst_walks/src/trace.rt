@@ -6,7 +6,7 @@ ghost use Rattle.fst_types.specs.Closure.{Closure};
 ghost use Rattle.fst_types.specs.Dependencies.{IsLiveNumber};
 ghost use Rattle.fst_heads.specs.declared.test.Test.TheVariants as test;
 ghost use Rattle.fst_heads.specs.Heads.{patches_of};
-ghost use Rattle.fst_heads.specs.Marks.{HasSlot, PassesAt};
+ghost use Rattle.fst_heads.specs.Slots.{HasSlot, PassesAt};
 ghost use Rattle.fst_walks.specs.BothEnds.{IsNeed, StepsTo};
 ghost use Rattle.fst_walks.specs.Descending.{Visited};
 ghost use Rattle.fst_walks.specs.Needing.{needs_of};

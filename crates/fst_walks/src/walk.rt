@@ -133,14 +133,6 @@ impl Walk {
         self.met[at]
     }
 
-    /// The marks.
-    pub fn marks(&self) -> &[bool]
-        ensures marks { result.now ≡ self.now.marks }
-        ensures marked { AreMarked result.now self.now.met }
-    {
-        self.marks.as_slice()
-    }
-
     /// Whether the head in the slot was met.
     pub fn has_met(&self, slot: usize) -> bool
         requires { slot < length self.now.marks }
@@ -158,18 +150,6 @@ impl Walk {
         if !self.marks[slot] {
             self.marks[slot] = true;
             self.met.push_reserved(slot);
-        }
-    }
-
-    /// Takes back what was met last.
-    pub fn cut(&mut self)
-        requires { 0 < length self.old.met }
-        ensures long { length self.new.marks ≡ length self.old.marks }
-        ensures room { self.new.room ≡ self.old.room }
-        ensures met { (last : ℕ) × (self.old.met ≡ self.new.met ++ last ∷ []) }
-    {
-        if let Some(slot) = self.met.pop() {
-            self.marks[slot] = false;
         }
     }
 

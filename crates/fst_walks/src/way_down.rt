@@ -5,7 +5,7 @@
 ghost use Rattle.std.specs.Prelude.{◌≡◌, ◌<◌, ◌≤◌, length, slice_index_or, Contains};
 ghost use Rattle.fst_types.specs.Dependencies.{IsLiveNumber};
 ghost use Rattle.fst_heads.specs.Heads.{patches_of};
-ghost use Rattle.fst_heads.specs.Marks.{HasSlot};
+ghost use Rattle.fst_heads.specs.Slots.{HasSlot};
 ghost use Rattle.fst_walks.specs.BothEnds.{CrossesDown, IsHigh, IsHighNeed, ShowsBlockUnder, StepsHigh};
 ghost use Rattle.fst_walks.specs.Descending.{Visited, Visits};
 ghost use Rattle.fst_walks.specs.Leveling.{level_of};

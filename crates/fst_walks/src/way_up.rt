@@ -4,7 +4,7 @@
 
 ghost use Rattle.std.specs.Prelude.{◌≡◌, ◌≤◌, ◌<◌, ℕ, length, Contains, slice_index_or};
 ghost use Rattle.fst_heads.specs.Heads.{patches_of};
-ghost use Rattle.fst_heads.specs.Marks.{HasSlot};
+ghost use Rattle.fst_heads.specs.Slots.{HasSlot};
 ghost use Rattle.fst_walks.specs.BothEnds.{IsLow, IsLowChange, IsOffDisk, StepsLow};
 ghost use Rattle.fst_walks.specs.Descending.{Visited, Visits};
 ghost use Rattle.fst_walks.specs.Leveling.{level_of};

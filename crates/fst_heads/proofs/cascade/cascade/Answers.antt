@@ -1,9 +1,10 @@
 use Rattle.fst_heads.proofs.Basics.{◌≡◌, ◌∙◌, ◌++◌, ◌∷◌, [], get_or, if◌then◌else◌, length, count_by, ap, vec_len, subst, sym, arith, length-map, nil_from_length, rules}
-use Rattle.fst_heads.proofs.{Patches.In-from_Contains, Words.{IsRising, HasSlot, HasNone, node_of, nodes_of, is_pending, Spreading, is_waiting, now, AllStand}}
+use Rattle.fst_heads.proofs.{Patches.In-from_Contains, Words.{IsRising, HasSlot, HasNone, node_of, nodes_of, is_pending, Sinks, Spreading, is_waiting, now, AllStand}}
 use Rattle.fst_heads.proofs.{Beside.{waits_untold, waiting_settles, waiting_heard}, Landed.{length_if, place_noted, told_noted}}
 use Rattle.fst_heads.proofs.Popping.{fits_there, untold_there, rising_settled, after_is, once_after, live_after, hears_after, room_after, turned, cascaded_heads}
 use Rattle.fst_heads.proofs.{Telling.last_waits, Slotted.{rising_slots, none_of_number, node_in_slot, node_is}, Stands.stand_heard, Starting.settled_spread}
 use Rattle.fst_heads.proofs.Carried.{spread_trans, length_spread}
+use Rattle.fst_heads.proofs.Going.{sinks_way}
 use Rattle.fst_heads.proofs.Words.pending
 use Rattle.fst_heads.proofs.cascade.cascade.Goals as goal
 
@@ -17,15 +18,15 @@ settle_slot-old-requires c =
     let queue = c.pop.new.self.items in
     let q = c.in-Some.number in
     let s = c.in-Some-slot_of.slot in
-    let S = subst (Spreading (nodes_of heads) blocks) c.in-Some.ensures.items c.loop-number.invariant.spreading in
+    let S = subst (Spreading Sinks (nodes_of heads) blocks) c.in-Some.ensures.items c.loop-number.invariant.spreading in
     let found = subst (λ hs. HasSlot hs q s) c.deref.ensures.value c.in-Some-slot_of.ensures.found in
     record {
       rising = rising_slots heads S.rising;
       slot = omega (arith, found.0, c.loop-number.heads.ok.0);
       untold = λ d. record {
-        fits = fits_there heads blocks queue q s c.requires.room.0 S c.loop-number.invariant.linked c.loop-number.invariant.distinct found d;
-        sinks = S.sinks (get_or (nodes_of heads) s d) (node_in_slot heads q s d found).0;
-        untold = untold_there heads blocks queue q s c.requires.room.0 S c.loop-number.invariant.linked c.loop-number.invariant.distinct found d;
+        fits = fits_there sinks_way heads blocks queue q s c.requires.room.0 S c.loop-number.invariant.linked c.loop-number.invariant.distinct found d;
+        sinks = S.moves (get_or (nodes_of heads) s d) (node_in_slot heads q s d found).0;
+        untold = untold_there sinks_way heads blocks queue q s c.requires.room.0 S c.loop-number.invariant.linked c.loop-number.invariant.distinct found d;
       };
       inside = λ x b at len grade contained kind.
           omega (arith, S.changes x b at len grade contained kind, c.loop-number.standings.ok.0, c.loop-number.invariant.standing.long);
@@ -39,7 +40,7 @@ tell-requires c =
     let queue = c.pop.new.self.items in
     let q = c.in-Some.number in
     let s = c.in-Some-slot_of.slot in
-    let S = subst (Spreading (nodes_of heads) blocks) c.in-Some.ensures.items c.loop-number.invariant.spreading in
+    let S = subst (Spreading Sinks (nodes_of heads) blocks) c.in-Some.ensures.items c.loop-number.invariant.spreading in
     let found = subst (λ hs. HasSlot hs q s) c.deref.ensures.value c.in-Some-slot_of.ensures.found in
     let settled = c.settle_slot-old.ensures in
     let linked = c.loop-number.invariant.linked in
@@ -49,13 +50,13 @@ tell-requires c =
     let after = nodes_of c.settle_slot-old.new.heads.items in
     let long = length_spread (nodes_of c.args.heads.now.items) (nodes_of heads) c.loop-number.invariant.spread in
     record {
-      rising = rising_settled q heads c.settle_slot-old.new.heads.items (after_is heads blocks queue q s c.requires.room.0 S linked distinct found was is after settled.old settled.new settled.nodes) (rising_slots heads S.rising);
+      rising = rising_settled q heads c.settle_slot-old.new.heads.items (after_is sinks_way heads blocks queue q s c.requires.room.0 S linked distinct found was is after settled.old settled.new settled.nodes) (rising_slots heads S.rising);
       slot = omega (arith, found.0, c.loop-number.heads.ok.0, settled.len);
-      once = once_after heads blocks queue q s c.requires.room.0 S linked distinct found was is after settled.old settled.new settled.nodes;
-      hears = hears_after heads blocks queue q s c.requires.room.0 S linked distinct found was is after settled.old settled.new settled.nodes;
-      live = live_after heads blocks queue q s c.requires.room.0 S linked distinct found was is after settled.old settled.new settled.nodes;
+      once = once_after sinks_way heads blocks queue q s c.requires.room.0 S linked distinct found was is after settled.old settled.new settled.nodes;
+      hears = hears_after sinks_way heads blocks queue q s c.requires.room.0 S linked distinct found was is after settled.old settled.new settled.nodes;
+      live = live_after sinks_way heads blocks queue q s c.requires.room.0 S linked distinct found was is after settled.old settled.new settled.nodes;
       room = λ d.
-          let room = room_after heads blocks queue q s c.requires.room.0 S linked distinct found was is after settled.old settled.new settled.nodes d in
+          let room = room_after sinks_way heads blocks queue q s c.requires.room.0 S linked distinct found was is after settled.old settled.new settled.nodes d in
           omega (arith, room, long, length-map heads node_of, length-map c.args.heads.now.items node_of, c.requires.room.1, c.loop-number.invariant.capacity, c.in-Some.ensures.capacity);
     }
 
@@ -67,11 +68,11 @@ loop-number-smaller-in-Some-slot_of c =
     let queue = c.pop.new.self.items in
     let q = c.in-Some.number in
     let s = c.in-Some-slot_of.slot in
-    let S = subst (Spreading nodes blocks) c.in-Some.ensures.items c.loop-number.invariant.spreading in
+    let S = subst (Spreading Sinks nodes blocks) c.in-Some.ensures.items c.loop-number.invariant.spreading in
     let found = subst (λ hs. HasSlot hs q s) c.deref.ensures.value c.in-Some-slot_of.ensures.found in
     let settled = c.settle_slot-old.ensures in
     let after = nodes_of c.settle_slot-old.new.heads.items in
-    let turn = turned heads blocks queue q s c.requires.room.0 S c.loop-number.invariant.linked c.loop-number.invariant.distinct found c.settle_slot-old.result.0 c.settle_slot-old.result.1 after settled.old settled.new settled.nodes (nodes_of c.tell.new.heads.items) c.tell.new.queue.items c.tell.ensures.nodes c.tell.ensures.queued in
+    let turn = turned sinks_way heads blocks queue q s c.requires.room.0 S c.loop-number.invariant.linked c.loop-number.invariant.distinct found c.settle_slot-old.result.0 c.settle_slot-old.result.1 after settled.old settled.new settled.nodes (nodes_of c.tell.new.heads.items) c.tell.new.queue.items c.tell.ensures.nodes c.tell.ensures.queued in
     turn.falls
 
 pub loop-number-preserved-in-Some-slot_of : goal.loop-number-preserved-in-Some-slot_of
@@ -82,20 +83,20 @@ loop-number-preserved-in-Some-slot_of c =
     let queue = c.pop.new.self.items in
     let q = c.in-Some.number in
     let s = c.in-Some-slot_of.slot in
-    let S = subst (Spreading nodes blocks) c.in-Some.ensures.items c.loop-number.invariant.spreading in
+    let S = subst (Spreading Sinks nodes blocks) c.in-Some.ensures.items c.loop-number.invariant.spreading in
     let found = subst (λ hs. HasSlot hs q s) c.deref.ensures.value c.in-Some-slot_of.ensures.found in
     let settled = c.settle_slot-old.ensures in
     let after = nodes_of c.settle_slot-old.new.heads.items in
-    let turn = turned heads blocks queue q s c.requires.room.0 S c.loop-number.invariant.linked c.loop-number.invariant.distinct found c.settle_slot-old.result.0 c.settle_slot-old.result.1 after settled.old settled.new settled.nodes (nodes_of c.tell.new.heads.items) c.tell.new.queue.items c.tell.ensures.nodes c.tell.ensures.queued in
+    let turn = turned sinks_way heads blocks queue q s c.requires.room.0 S c.loop-number.invariant.linked c.loop-number.invariant.distinct found c.settle_slot-old.result.0 c.settle_slot-old.result.1 after settled.old settled.new settled.nodes (nodes_of c.tell.new.heads.items) c.tell.new.queue.items c.tell.ensures.nodes c.tell.ensures.queued in
     let same : vec_len c.loop-number.standings ≡ vec_len c.args.standings.now = omega (arith, c.loop-number.standings.ok.0, c.loop-number.invariant.standing.long) in
     let start = nodes_of c.args.heads.now.items in
     let next = nodes_of c.tell.new.heads.items in
     let d = (last_waits nodes blocks queue q S).0 in
     let here = last_waits nodes blocks queue q S in
-    let waits = waits_untold here.0 (S.sinks here.0 here.1) here.3 in
+    let waits = waits_untold here.0 (S.moves here.0 here.1) here.3 in
     let is = node_is heads q s here.0 d (rising_slots heads S.rising) found here.1 here.2 in
     let less = waiting_settles nodes q here.0 S.rising (In-from_Contains nodes here.0 here.1) here.2 waits in
-    let first_is = after_is heads blocks queue q s c.requires.room.0 S c.loop-number.invariant.linked c.loop-number.invariant.distinct found c.settle_slot-old.result.0 c.settle_slot-old.result.1 after settled.old settled.new settled.nodes in
+    let first_is = after_is sinks_way heads blocks queue q s c.requires.room.0 S c.loop-number.invariant.linked c.loop-number.invariant.distinct found c.settle_slot-old.result.0 c.settle_slot-old.result.1 after settled.old settled.new settled.nodes in
     let first = ap (count_by is_waiting) first_is in
     let left = c.settle_slot-old.result.1 in
     let landed = c.loop-number.landed.items in
@@ -124,13 +125,13 @@ note_landing-requires c none =
     let nodes = nodes_of heads in
     let q = c.in-Some.number in
     let s = c.in-Some-slot_of.slot in
-    let S = subst (Spreading nodes (vec_len c.args.standings.now)) c.in-Some.ensures.items c.loop-number.invariant.spreading in
+    let S = subst (Spreading Sinks nodes (vec_len c.args.standings.now)) c.in-Some.ensures.items c.loop-number.invariant.spreading in
     let found = subst (λ hs. HasSlot hs q s) c.deref.ensures.value c.in-Some-slot_of.ensures.found in
     let here = last_waits nodes (vec_len c.args.standings.now) c.pop.new.self.items q S in
     let d = here.0 in
     let is = node_is heads q s here.0 d (rising_slots heads S.rising) found here.1 here.2 in
     let told = ap (λ p. is_pending p pending.Nothing) (sym (ap now is) ∙ (sym (c.settle_slot-old.ensures.new d) ∙ none)) in
-    let place = place_noted nodes c.loop-number.landed.items q here.0 S.rising c.loop-number.invariant.listed here.1 here.2 (waits_untold here.0 (S.sinks here.0 here.1) here.3) told in
+    let place = place_noted nodes c.loop-number.landed.items q here.0 S.rising c.loop-number.invariant.listed here.1 here.2 (waits_untold here.0 (S.moves here.0 here.1) here.3) told in
     let long = length_spread (nodes_of c.args.heads.now.items) nodes c.loop-number.invariant.spread in
     omega (arith, place, long, length-map heads node_of, length-map c.args.heads.now.items node_of, c.requires.room.2, c.loop-number.invariant.shelf, c.loop-number.landed.ok.0)
 
@@ -138,7 +139,7 @@ note_landing-requires c none =
 absent : (c : goal.In_default-slot_of) → ⊥
 absent c =
     let nodes = nodes_of c.loop-number.heads.items in
-    let S = subst (Spreading nodes (vec_len c.args.standings.now)) c.in-Some.ensures.items c.loop-number.invariant.spreading in
+    let S = subst (Spreading Sinks nodes (vec_len c.args.standings.now)) c.in-Some.ensures.items c.loop-number.invariant.spreading in
     let x = last_waits nodes (vec_len c.args.standings.now) c.pop.new.self.items c.in-Some.number S in
     none_of_number c.loop-number.heads.items c.in-Some.number x.0 (subst (λ hs. HasNone hs c.in-Some.number) c.deref.ensures.value c.in_default-slot_of.ensures.none) x.1 x.2
 
@@ -151,10 +152,10 @@ loop-number-preserved c = absurd (absent c)
 pub returns-clause-settled : goal.returns-clause-settled
 returns-clause-settled c =
     -- nothing waits where nothing was popped
-    let left : Spreading (nodes_of c.loop-number.heads.items) (vec_len c.args.standings.now) [] = grind (arith, nil_from_length) in
+    let left : Spreading Sinks (nodes_of c.loop-number.heads.items) (vec_len c.args.standings.now) [] = grind (arith, nil_from_length) in
     settled_spread (nodes_of c.loop-number.heads.items) (vec_len c.args.standings.now) left
 
 pub returns-clause-placed : goal.returns-clause-placed
 returns-clause-placed c =
-    let left : Spreading (nodes_of c.loop-number.heads.items) (vec_len c.args.standings.now) [] = grind (arith, nil_from_length) in
+    let left : Spreading Sinks (nodes_of c.loop-number.heads.items) (vec_len c.args.standings.now) [] = grind (arith, nil_from_length) in
     cascaded_heads c.args.heads.now.items c.loop-number.heads.items (vec_len c.args.standings.now) left c.loop-number.invariant.spread

@@ -1,10 +1,11 @@
 use Rattle.fst_heads.proofs.Basics.{◌≡◌, ◌≤◌, ◌+◌, count_by, length, vec_len, vec_capacity}
-use Rattle.fst_heads.proofs.Words.{AreLanded, frames_of, nodes_of, AreLinked, AreDistinct, Spreading, IsSpreadOf, heights, is_waiting, AllStand}
+use Rattle.fst_heads.proofs.Words.{AreLanded, frames_of, nodes_of, AreLinked, AreDistinct, Spreading, IsSpreadOf, Sinks, height, is_waiting, AllStand}
+use Rattle.fst_heads.proofs.Waiting.{distance}
 use Rattle.fst_heads.proofs.cascade.cascade.Given as goal
 
 abbrev pub invariant-loop-number : goal.invariant-loop-number
 invariant-loop-number l = record {
-  spreading : Spreading (nodes_of l.heads.items) (vec_len l.fn.standings) l.queue.items;
+  spreading : Spreading Sinks (nodes_of l.heads.items) (vec_len l.fn.standings) l.queue.items;
   linked : AreLinked (nodes_of l.heads.items);
   distinct : AreDistinct (nodes_of l.heads.items);
   standing : AllStand (nodes_of l.heads.items) (vec_len l.fn.standings) l.standings.items;
@@ -19,4 +20,4 @@ invariant-loop-number l = record {
 }
 
 abbrev pub decreases-loop-number : goal.decreases-loop-number
-decreases-loop-number l = heights (nodes_of l.heads.items)
+decreases-loop-number l = distance height (nodes_of l.heads.items)

@@ -1,5 +1,5 @@
 use Rattle.std.proofs.Common.{◌≡◌, ◌∙◌, Some, get_or, refl, sym, ap, subst}
-use Rattle.fst_heads.specs.{Grading.LeadsNowhere, Heads.{patch_of, patches_of}, Marks.HasSlot}
+use Rattle.fst_heads.specs.{Grading.LeadsNowhere, Heads.{patch_of, patches_of}, Slots.HasSlot}
 use Rattle.fst_heads.proofs.{Listing.rising_patches, Slots.{patch_at, some_element}}
 use Rattle.fst_walks.specs.{Walks.number_at, WayBack.LeadsBack}
 use Rattle.fst_walks.proofs.{AsBefore.{back_as, hard_as}, NearRow.{hard_here, is_it, row_direct}, Told.{told_back, told_hard}, Visiting.slot_at}

@@ -1,7 +1,7 @@
 use Rattle.std.proofs.Common.{◌≡◌, ◌<◌, ◌∙◌, true, length, get_or, Contains, ap, sym, subst, inl, inr, arith}
 use Rattle.std.proofs.lemmas.Bool.{cases_eq, false≢true}
 use Rattle.std.proofs.lemmas.List.Elements.{Contains-get_or}
-use Rattle.fst_heads.specs.{Heads.{patch_of, patches_of}, Marks.PassesAt, Tests.passes, declared.head.Head.Head}
+use Rattle.fst_heads.specs.{Heads.{patch_of, patches_of}, Slots.PassesAt, Tests.passes, declared.head.Head.Head}
 use Rattle.fst_heads.specs.declared.test.Test.TheVariants as test
 use Rattle.fst_walks.specs.Walks.{numbers_met}
 use Rattle.fst_walks.proofs.{NearRow.{here_passes, passes_here}, Visiting.{long_met, slot_met}}

@@ -1,7 +1,7 @@
 use Rattle.std.proofs.Common.{◌≡◌, ◌∙◌, sym, ap, subst}
 use Rattle.fst_types.specs.Patches.{IsOn}
 use Rattle.fst_types.proofs.Crash.{same_number}
-use Rattle.fst_heads.specs.{Heads.patches_of, Marks.PassesAt}
+use Rattle.fst_heads.specs.{Heads.patches_of, Slots.PassesAt}
 use Rattle.fst_heads.proofs.{Listing.rising_patches, Slots.patch_is}
 use Rattle.fst_heads.specs.declared.test.Test.TheVariants as test
 use Rattle.fst_walks.specs.WayBack.{LeadsBack}

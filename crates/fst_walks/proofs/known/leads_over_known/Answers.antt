@@ -1,6 +1,6 @@
 use Rattle.std.proofs.Common.{get_or, refl, sym, subst, inl, arith}
 use Rattle.std.proofs.lemmas.{List.Elements.{Contains-get_or}, Option.IfSome_then}
-use Rattle.fst_heads.specs.{Heads.{patch_of, patches_of}, Marks.HasSlot}
+use Rattle.fst_heads.specs.{Heads.{patch_of, patches_of}, Slots.HasSlot}
 use Rattle.fst_heads.proofs.Slots.{patch_at, some_element}
 use Rattle.fst_walks.proofs.{Backed.back_over, NearRow.row_direct}
 use Rattle.fst_walks.proofs.known.leads_over_known.Goals as goal

@@ -1,6 +1,6 @@
 use Rattle.std.proofs.Common.{◌≡◌, ◌∙◌, ◌<◌, ◌≤◌, ◌==◌, ◌&&◌, ℕ, Bool, true, not, List, Some, length, get_or, Contains, refl, sym, ap, subst, inl, inr, arith, eq-eqb, ne_eqb}
 use Rattle.std.proofs.{lemmas.Bool.{and_parts, cases_eq, false≢true}, lemmas.Grind.common_steps, lemmas.List.get_or_append_left, lemmas.List.Elements.Contains-get_or}
-use Rattle.fst_heads.specs.{Grading.IsOpenBut, Heads.{IsRising, patch_of, patches_of}, Marks.HasSlot, Nodes.{nodes_of, pending_in}, Tests.passes}
+use Rattle.fst_heads.specs.{Grading.IsOpenBut, Heads.{IsRising, patch_of, patches_of}, Slots.HasSlot, Nodes.{nodes_of, pending_in}, Tests.passes}
 use Rattle.fst_heads.specs.{declared.head.Head.Head, declared.pending.Pending.Pending}
 use Rattle.fst_heads.proofs.{Graded.{passes_open, open_passes}, Slots.{any_default, direct_at, named_at}}
 use Rattle.fst_walks.specs.{Descending.Visits, Searching.IsNextHeld, Walks.numbers_met}

@@ -1,13 +1,15 @@
-use Rattle.std.proofs.Common.{◌∙◌, ap, refl, sym, subst, inl, inr, length, Contains}
-use Rattle.fst_heads.specs.{Grading.LeadsNowhere, Heads.{kind_of, patch_of, patches_of}, declared.head.Head.Head}
+use Rattle.std.proofs.Common.{◌≡◌, ◌⊎◌, ◌∙◌, ap, refl, sym, subst, length, Contains}
+use Rattle.fst_heads.specs.{Grading.LeadsNowhere, Heads.{kind_of, patch_of, patches_of}, Nodes.{nodes_of, pending_in}, Pendings.{IsOf, Sinks}, declared.head.Head.Head}
 use Rattle.fst_heads.proofs.{Slots.patch_at, Slotted.number_in}
-use Rattle.fst_walks.proofs.OwnBlock.{block_nowhere, gate_nowhere, nothing_nowhere, own_number_nowhere}
+use Rattle.fst_walks.proofs.{Low.own_low, OwnBlock.{gate_nowhere, number_nowhere, row_nowhere}}
+use Rattle.fst_heads.specs.declared.pending.Pending.TheVariants as pending
 use Rattle.fst_walks.proofs.shortcuts.waits_for_own.Goals as goal
 
 pub returns-then-is_own : goal.returns-then-is_own
 returns-then-is_own c yes_it =
-    own_number_nowhere c.args.sight.now.heads.now (length c.args.sight.now.lists.now) c.requires.rising c.requires.disk c.requires.settled c.args.block _ c.args.number refl
-    (elim (c.is_own.ensures c.if-is_own.true) [ inl e ↦ inl (sym c.pending_of.ensures ∙ e) | inr e ↦ inr (sym c.pending_of.ensures ∙ e) ])
+    let told = pending_in (nodes_of c.args.sight.now.heads.now) c.args.number in
+    number_nowhere c.args.sight.now.heads.now (length c.args.sight.now.lists.now) c.requires.rising c.requires.disk c.requires.settled c.args.block _ c.args.number refl
+    (own_low c.args.block told (subst (λ p. (p ≡ pending.Nothing) ⊎ IsOf c.args.block p) c.pending_of.ensures (c.is_own.ensures c.if-is_own.true)))
 
 pub returns-in-OpenGate : goal.returns-in-OpenGate
 returns-in-OpenGate c own =
@@ -15,12 +17,8 @@ returns-in-OpenGate c own =
     let h = c.index-sight-slot.result in
     let slot = c.in-Some.ensures.found in
     let here : Contains (patches_of heads) (patch_of h) = subst (λ x. Contains (patches_of heads) (patch_of x)) (sym c.index-sight-slot.is) (patch_at heads c.in-Some.slot h slot.0) in
-    let below = h.dependencies.items in
     let row = c.as_slice.result.now in
-    let said = sym c.row_pending-below.ensures in
-    let leads : LeadsNowhere (patches_of heads) c.args.block row = elim (c.is_own-in-OpenGate.ensures own) [
-      | inl e ↦ nothing_nowhere heads (length c.args.sight.now.lists.now) c.requires.rising c.requires.disk c.requires.settled c.args.block row (said ∙ e)
-      | inr e ↦ block_nowhere heads (length c.args.sight.now.lists.now) c.requires.rising c.requires.disk c.requires.settled c.args.block row (said ∙ e)
-    ] in
+    let low = subst (Sinks (pending.Behind c.args.block)) c.row_pending-below.ensures (own_low c.args.block c.row_pending-below.result (c.is_own-in-OpenGate.ensures own)) in
+    let leads = row_nowhere heads (length c.args.sight.now.lists.now) c.requires.rising c.requires.disk c.requires.settled c.args.block row low in
     gate_nowhere heads c.requires.rising c.args.block c.args.number (patch_of h) here (number_in heads c.args.number c.in-Some.slot h slot c.index-sight-slot.is) (ap (λ (x : Head). kind_of x.kind) c.index-sight-slot.is ∙ ap kind_of c.in-OpenGate.is)
     (subst (LeadsNowhere (patches_of heads) c.args.block) (c.as_slice.ensures ∙ sym (ap (λ (x : Head). x.dependencies.items) c.index-sight-slot.is)) leads)

@@ -1,6 +1,6 @@
 use Rattle.std.proofs.Common.{◌≡◌, ◌≤◌, ◌∙◌, get_or, refl, subst, arith}
 use Rattle.fst_types.specs.Dependencies.{IsLiveNumber}
-use Rattle.fst_heads.specs.{Heads.{patch_of, patches_of}, Marks.HasSlot}
+use Rattle.fst_heads.specs.{Heads.{patch_of, patches_of}, Slots.HasSlot}
 use Rattle.fst_heads.proofs.Slots.{not_live_none, patch_at, some_element}
 use Rattle.fst_walks.specs.{BothEnds.IsLow, Leveling.level_of, Walks.numbers_met}
 use Rattle.fst_walks.proofs.{Ranked.{no_rank, rank_level}, Visiting.{visits_none, visits_meet, visited_meet}}

@@ -4,8 +4,7 @@ use Rattle.fst_types.specs.Writable.{HasReady}
 use Rattle.fst_heads.specs.{Heads.patches_of, Nodes.nodes_of, Standings.standing_of}
 use Rattle.fst_heads.proofs.AtNumber.{patches_in_nodes}
 use Rattle.fst_walks.proofs.{Resting.none_yet, Seen.lawful_nodes}
-use Rattle.fst_graph.specs.Known.{NoneFlies}
-use Rattle.fst_graph.proofs.{Marking.ready_counted, RememberedLooks.{none_flies, ready}, Sound.{as_many_standings, view_gone}}
+use Rattle.fst_graph.proofs.{Marking.ready_counted, RememberedLooks.ready, Sound.{as_many_standings, view_gone}}
 use Rattle.fst_graph.proofs.sparse.Sparse.has_ready.Goals as goal
 
 pub returns : goal.returns
@@ -21,8 +20,7 @@ returns c =
     let G = view_gone c.self.invariant in
     let D = S.keeps.lawful.on_disk_with_all in
     rw (← c.self.view_is) (λ still.
-    let rest = (none_flies _ (patches_of heads) G b).0 still in
-    let k = ready_counted (nodes_of heads) s.numbers s.blocks (lawful_nodes heads s.numbers S.keeps.lawful) S.tallies.settled b (subst (λ ps. NoneFlies ps b) (sym (patches_in_nodes heads)) rest) in (
+    let k = ready_counted (nodes_of heads) s.numbers s.blocks (lawful_nodes heads s.numbers S.keeps.lawful) S.tallies.settled b in (
       λ told. (ready _ (patches_of heads) G D b).1 (subst (λ ps. HasReady ps b) (patches_in_nodes heads) (k.0 (omega (arith, ltb-true _ _ told, count)))),
       λ some. lt-ltb _ _ (omega (arith, k.1 (subst (λ ps. HasReady ps b) (sym (patches_in_nodes heads)) ((ready _ (patches_of heads) G D b).0 some)), count)),
     ))

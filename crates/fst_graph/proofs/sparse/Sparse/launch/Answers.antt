@@ -1,21 +1,19 @@
-use Rattle.std.proofs.Common.{◌≡◌, ◌<◌, ◌∙◌, Contains, map, sym, ap, subst, refl, arith}
-use Rattle.fst_types.specs.{Facts.SparseAreLawful, Writable.{IsWritable, IsWritableSet}, Writing.launched}
-use Rattle.fst_heads.specs.{Heads.patches_of, Names.numbers_of, Nodes.{is_forgotten_in, nodes_of}, Spreading.launches}
+use Rattle.std.proofs.Common.{◌≡◌, ◌<◌, ◌∙◌, Contains, map, sym, ap, subst, refl, arith, rules}
+use Rattle.std.proofs.lemmas.List.{length-map}
+use Rattle.fst_types.specs.{Writable.{IsWritable, IsWritableSet}, Writing.launched}
+use Rattle.fst_heads.specs.{Heads.patches_of, Keeps.Beside, Names.numbers_of, Nodes.{is_forgotten_in, node_of, nodes_of, patches_in}, Spreading.{IsRisenOf, launches}, Standings.ready_on}
 use Rattle.fst_graph.specs.Known.{Known}
 use Rattle.fst_types.proofs.Issuing.{alike_launched}
-use Rattle.fst_heads.proofs.{AtNumber.patches_in_nodes, Beside.beside_kept, Landed.landed_map, Placed.patches_launched}
-use Rattle.fst_walks.proofs.{Resting.none_yet, Seen.{seen, lawful_nodes}}
-use Rattle.fst_graph.proofs.{Flagged.{flags_map, flags_of, remembered_as, remembered_still}, Remembered.remembered_map, RememberedRows.launched_number}
-use Rattle.fst_graph.proofs.{Borne.inside_nodes, Kept.{covered_moved, keeps_launched, none_below_launched}, Launches.{some_chosen, first_named, none_first, block_found, block_some, tallies_chosen}}
-use Rattle.fst_graph.proofs.{Marking.writable_rests, NeedsNow.needing_launched, Ranks.leveled_moved, Sound.{as_many_standings, rising_sound, view_gone}, sparse.Sparse.launch.Goals.{After-deref, After-index_mut-arg-1, After-launch_all}}
+use Rattle.fst_heads.proofs.{AtNumber.patches_in_nodes, Carried.risen_spread}
+use Rattle.fst_walks.proofs.{Resting.none_yet, Seen.lawful_nodes}
+use Rattle.fst_graph.proofs.{Flagged.{flags_map, flags_of, flags_spread, remembered_as, remembered_still}, Remembered.remembered_map, RememberedRows.launched_number, Risen.{beside_risen, landed_risen}}
+use Rattle.fst_graph.proofs.{Borne.inside_nodes, Kept.{covered_moved, keeps_launched, none_below_launched}, Launches.{some_chosen, first_named, none_first, block_found, block_some, chosen_ready, tallies_chosen}}
+use Rattle.fst_graph.proofs.{Marking.writable_rests, NeedsNow.needing_launched, Ranks.leveled_moved, Sound.{as_many_standings, rising_sound, view_gone}, sparse.Sparse.launch.Goals.{After-deref, After-launch-arg-2-1, After-launch}}
 use Rattle.fst_graph.proofs.RememberedLooks as looks
 use Rattle.fst_graph.proofs.sparse.Sparse.launch.Goals as goal
 
 pub block_of-requires : goal.block_of-requires
 block_of-requires c = rw c.deref.ensures.value (rising_sound c.self.invariant.0)
-
-pub launch_all-requires : goal.launch_all-requires
-launch_all-requires c = rising_sound c.self.invariant.0
 
 -- what is chosen may be written
 writable : (c : After-deref) → IsWritable (patches_of c.self.inside.heads.items) c.requires.block
@@ -41,69 +39,100 @@ returns-in_default-block_of-clause-launched c =
     absurd (block_some (patches_of c.self.inside.heads.items) c.requires.block (numbers_of c.args.chosen.now) c.in-Some.first.now.0 chosen named (λ p h e. c.in_default-block_of.ensures p (subst (λ hs. Contains (patches_of hs) p) (sym c.deref.ensures.value) h) e))
 
 -- it is of the block of the first
-here : (c : After-index_mut-arg-1) → c.in-Some-block_of.block ≡ c.requires.block
+here : (c : After-launch-arg-2-1) → c.in-Some-block_of.block ≡ c.requires.block
 here c =
     let item = c.in-Some.ensures.item in
     let named = first_named c.args.chosen.now c.in-Some.first.now item.3.0 item.3.1 in
-    block_found (patches_of c.self.inside.heads.items) c.requires.block c.in-Some-block_of.block (numbers_of c.args.chosen.now) c.in-Some.first.now.0 (choice (goal.at.index_mut-requires c).After-deref) named
+    block_found (patches_of c.self.inside.heads.items) c.requires.block c.in-Some-block_of.block (numbers_of c.args.chosen.now) c.in-Some.first.now.0 (choice (goal.at.launch-requires c).After-deref) named
     (λ p h e. c.in-Some-block_of.ensures p (subst (λ hs. Contains (patches_of hs) p) (sym c.deref.ensures.value) h) e)
 
-inside : (c : After-index_mut-arg-1) → c.in-Some-block_of.block < c.self.inside.blocks
+nodes_writable : (c : After-launch-arg-2-1) → IsWritable (patches_in (nodes_of c.self.inside.heads.items)) c.in-Some-block_of.block
+nodes_writable c = rw (patches_in_nodes c.self.inside.heads.items, here c) (writable (goal.at.launch-requires c).After-deref)
+
+-- it is what is ready of that block
+ready : (c : After-launch-arg-2-1) → numbers_of c.args.chosen.now ≡ ready_on c.in-Some-block_of.block (nodes_of c.self.inside.heads.items)
+ready c =
+    let s = c.self.inside in
+    chosen_ready (nodes_of s.heads.items) s.numbers s.blocks c.in-Some-block_of.block (numbers_of c.args.chosen.now) (lawful_nodes s.heads.items s.numbers c.self.invariant.0.keeps.lawful) c.self.invariant.0.tallies.settled
+    (rw (patches_in_nodes s.heads.items, here c) (choice (goal.at.launch-requires c).After-deref))
+
+pub launch-requires : goal.launch-requires
+launch-requires c =
+    let s = c.self.inside in
+    let K = c.self.invariant.0.keeps in
+    let T = c.self.invariant.0.tallies in
+    record {
+      lawful = (s.numbers, K.lawful);
+      settled = (s.blocks, search rules, K.inside, T.settled);
+      linked = T.linked;
+      distinct = T.distinct;
+      chosen = ready c;
+      room = (T.idle, omega (arith, T.room, length-map s.heads.items node_of));
+    }
+
+inside : (c : After-launch-arg-2-1) → c.in-Some-block_of.block < c.self.inside.blocks
 inside c =
     let s = c.self.inside in
-    let there = here c in
-    let chosen = subst (λ ps. IsWritable ps c.requires.block) (sym (patches_in_nodes s.heads.items)) (writable (goal.at.index_mut-requires c).After-deref) in
-    let lt = (writable_rests (nodes_of s.heads.items) s.blocks c.requires.block s.standings.items none_yet (inside_nodes s.heads.items s.blocks c.self.invariant.0.keeps.inside) c.self.invariant.0.tallies.standing chosen).0 in
-    omega (arith, there, lt)
+    (writable_rests (nodes_of s.heads.items) s.blocks c.in-Some-block_of.block s.standings.items none_yet (inside_nodes s.heads.items s.blocks c.self.invariant.0.keeps.inside) c.self.invariant.0.tallies.standing (nodes_writable c)).0
 
 pub index_mut-requires : goal.index_mut-requires
-index_mut-requires c = omega (arith, inside c, as_many_standings c.self.invariant.0)
+index_mut-requires c = omega (arith, inside (goal.at.index_mut-requires c).After-launch-arg-2-1, as_many_standings c.self.invariant.0)
 
 pub clear-requires : goal.clear-requires
-clear-requires c = omega (arith, inside (goal.at.clear-requires c).After-index_mut-arg-1, c.self.invariant.0.needing.long)
+clear-requires c = omega (arith, inside (goal.at.clear-requires c).After-launch-arg-2-1, c.self.invariant.0.needing.long)
 
--- none is marked by it, and what is pending stays
-same_flags : (c : After-launch_all) → flags_of (nodes_of c.launch_all.new.heads.items) ≡ flags_of (nodes_of c.self.inside.heads.items)
-same_flags c = ap flags_of c.launch_all.ensures ∙ flags_map (launches (numbers_of c.args.chosen.now)) (λ x. ap (λ n. (n, x.forgotten)) (launched_number (numbers_of c.args.chosen.now) x.patch)) (nodes_of c.self.inside.heads.items)
+-- none is marked by it
+same_flags : (c : After-launch) → flags_of (nodes_of c.launch.new.heads.items) ≡ flags_of (nodes_of c.self.inside.heads.items)
+same_flags c =
+    let nodes = nodes_of c.self.inside.heads.items in
+    let chosen = numbers_of c.args.chosen.now in
+    let mid = map (launches chosen) nodes in
+    flags_spread mid (nodes_of c.launch.new.heads.items) (risen_spread mid (nodes_of c.launch.new.heads.items) c.launch.ensures.spread)
+    ∙ flags_map (launches chosen) (λ x. ap (λ n. (n, x.forgotten)) (launched_number chosen x.patch)) nodes
 
 pub invariant_of-self-2 : goal.invariant_of-self-2
 invariant_of-self-2 c =
     let heads = c.self.inside.heads.items in
+    let later = c.launch.new.heads.items in
     let n = c.self.inside.numbers in
     let blocks = c.self.inside.blocks in
     let chosen = numbers_of c.args.chosen.now in
-    let b = c.requires.block in
+    let b = c.in-Some-block_of.block in
+    let at = (goal.at.invariant_of-self-2 c).After-launch-arg-2-1 in
     let K = c.self.invariant.0.keeps in
-    let same = patches_in_nodes heads in
-    let W = writable (goal.at.invariant_of-self-2 c).After-deref in
-    let C = choice (goal.at.invariant_of-self-2 c).After-deref in
-    let new : patches_of c.launch_all.new.heads.items ≡ map (launched chosen) (patches_of heads) =
-    seen c.launch_all.new.heads.items _ c.launch_all.ensures ∙ (patches_launched (nodes_of heads) chosen ∙ ap (map (launched chosen)) same) in
+    let T = c.self.invariant.0.tallies in
+    let H = lawful_nodes heads n K.lawful in
+    let W : IsWritable (patches_of heads) b = rw (here at) (writable (goal.at.invariant_of-self-2 c).After-deref) in
+    let C : IsWritableSet (patches_of heads) b chosen = rw (here at) (choice (goal.at.invariant_of-self-2 c).After-deref) in
+    let new = c.launch.ensures.launched in
     let kept = keeps_launched _ n blocks b chosen c.self.inside.ends.up.walk.marks K W C in
-    let lawful = subst (λ ps. SparseAreLawful (map (launched chosen) ps) n) (sym same) kept.lawful in
-    let tallies = tallies_chosen (nodes_of heads) n blocks b c.in-Some-block_of.block _ c.self.inside.standings.items _ _ chosen c.index_mut.result.now c.launch.new.self (lawful_nodes heads n K.lawful) lawful (inside_nodes heads blocks K.inside) c.self.invariant.0.tallies
-    (subst (λ ps. IsWritable ps b) (sym same) W) (subst (λ ps. IsWritableSet ps b chosen) (sym same) C) (here (goal.at.invariant_of-self-2 c).After-index_mut-arg-1) c.index_mut.ensures.value c.launch.ensures in (
+    let settled = c.launch.ensures.settled blocks T.settled in
+    let risen = subst (λ ns. IsRisenOf (map (launches ns) (nodes_of heads)) (nodes_of later)) (ready at) c.launch.ensures.spread in (
       record {
         keeps = rw new kept;
-        beside = beside_kept heads c.launch_all.new.heads.items (launches chosen) blocks c.self.inside.live c.self.inside.ends.up.crossed.items c.launch_all.ensures (λ x. refl) c.self.invariant.0.tallies.settled (rw c.launch_all.ensures tallies.settled) c.self.invariant.0.beside;
-        tallies = rw c.launch_all.ensures tallies;
+        beside = subst (λ ps. Beside ps blocks c.self.inside.live c.self.inside.ends.up.crossed.items) (patches_in_nodes later)
+            (beside_risen (nodes_of heads) (nodes_of later) n blocks b H.one_place_each T.settled settled risen c.self.inside.live c.self.inside.ends.up.crossed.items
+            (subst (λ ps. Beside ps blocks c.self.inside.live c.self.inside.ends.up.crossed.items) (sym (patches_in_nodes heads)) c.self.invariant.0.beside));
+        tallies = rw (c.launch.ensures.empty, c.launch.ensures.capacity)
+            (tallies_chosen (nodes_of heads) (nodes_of later) n blocks b _ c.self.inside.standings.items _ _ chosen c.index_mut.result.now c.launch-2.new.self H
+            (lawful_nodes later n (rw new kept.lawful)) (inside_nodes heads blocks K.inside) T (nodes_writable at) (ready at) c.index_mut.ensures.value c.launch-2.ensures
+            c.launch.ensures.spread settled c.launch.ensures.ready c.launch.ensures.held);
         covered = rw new (covered_moved (alike_launched (patches_of heads) n b chosen K.lawful W C) kept c.self.invariant.0.covered);
         along = c.self.invariant.0.along;
         leveled = rw new (leveled_moved (alike_launched (patches_of heads) n b chosen K.lawful W C) c.self.invariant.0.leveled);
-        needing = rw new (needing_launched {cleared = c.clear.new.self} (patches_of heads) n b c.in-Some-block_of.block chosen K.lawful kept.lawful W C (here (goal.at.invariant_of-self-2 c).After-index_mut-arg-1) c.clear.ensures.long c.clear.ensures.others c.clear.ensures.cleared c.clear.ensures.ways c.self.invariant.0.needing);
+        needing = rw new (needing_launched {cleared = c.clear.new.self} (patches_of heads) n b b chosen K.lawful kept.lawful W C refl c.clear.ensures.long c.clear.ensures.others c.clear.ensures.cleared c.clear.ensures.ways c.self.invariant.0.needing);
         given = rw c.clear.ensures.ways c.self.invariant.0.given;
-        none_below = rw c.launch.ensures (none_below_launched c.self.inside.standings.items c.self.inside.unmarked c.in-Some-block_of.block _ _ c.self.invariant.0.none_below);
+        none_below = rw c.launch-2.ensures (none_below_launched c.self.inside.standings.items c.self.inside.unmarked b _ _ c.self.invariant.0.none_below);
         prepared = rw c.let_go.ensures tt;
       },
       rw c.let_go.ensures
-          (remembered_still heads c.launch_all.new.heads.items (same_flags (goal.at.invariant_of-self-2 c).After-launch_all)
-          (rw c.launch_all.ensures (landed_map (launches chosen) (nodes_of heads) c.self.inside.landed.items (λ x. record { number = launched_number chosen x.patch; pending = refl; forgotten = refl }) c.self.invariant.1.told)) refl c.self.invariant.1),
+          (remembered_still heads later (same_flags (goal.at.invariant_of-self-2 c).After-launch)
+          (landed_risen (nodes_of heads) (nodes_of later) n blocks b H.one_place_each T.settled settled risen c.self.inside.landed.items c.self.invariant.1.told) refl c.self.invariant.1),
     )
 
 pub returns-clause-launched : goal.returns-clause-launched
 returns-clause-launched c =
     let heads = c.self.inside.heads.items in
     let chosen = numbers_of c.args.chosen.now in
-    let new = seen c.launch_all.new.heads.items _ c.launch_all.ensures ∙ (patches_launched (nodes_of heads) chosen ∙ ap (map (launched chosen)) (patches_in_nodes heads)) in
-    let row = remembered_as heads c.launch_all.new.heads.items (same_flags (goal.at.returns-clause-launched c).After-launch_all) new ∙ remembered_map (is_forgotten_in (nodes_of heads)) (launched chosen) (launched_number chosen) (patches_of heads) in
+    let row = remembered_as heads c.launch.new.heads.items (same_flags (goal.at.returns-clause-launched c).After-launch) c.launch.ensures.launched ∙ remembered_map (is_forgotten_in (nodes_of heads)) (launched chosen) (launched_number chosen) (patches_of heads) in
     rw (← c.self.view_is, c.let_go.ensures) (record { row = row; numbers = refl; blocks = refl; groups = refl; prepared = refl })

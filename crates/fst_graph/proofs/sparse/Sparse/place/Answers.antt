@@ -1,5 +1,5 @@
 use Rattle.std.proofs.Common.{subst}
-use Rattle.fst_heads.specs.Marks.{HasSlot, HasNone}
+use Rattle.fst_heads.specs.Slots.{HasSlot, HasNone}
 use Rattle.fst_heads.proofs.Slots.{patch_at, none_slot, slot_in, patch_slot}
 use Rattle.fst_graph.proofs.{PlaceOf.{place_found, place_lost}, RememberedLooks.place_remembered, Sound.{rising_sound, view_gone}}
 use Rattle.fst_graph.proofs.sparse.Sparse.place.Goals as goal

@@ -1,7 +1,7 @@
 use Rattle.std.proofs.lemmas.List.{length-map}
 use Rattle.std.proofs.Common.{rules, ◌≡◌, ◌∙◌, [], None, option_map, length, sym, subst, ap, arith, refl}
 use Rattle.fst_types.specs.{Gates.IsOpenNumber, Order.seal_order, Refusals.NoneHolds}
-use Rattle.fst_heads.specs.{Heads.patches_of, Marks.HasSlot, Nodes.{is_forgotten_in, node_of, nodes_of}}
+use Rattle.fst_heads.specs.{Heads.patches_of, Slots.HasSlot, Nodes.{is_forgotten_in, node_of, nodes_of}}
 use Rattle.fst_graph.specs.{Known.Known, Ready.prepared_of}
 use Rattle.fst_graph.proofs.{Flagged.{flags_of, remembered_as, remembered_still, shut_flags, shut_landed, shut_long, unspared}, RememberedCalls.seal_known}
 use Rattle.fst_graph.proofs.{Borne.settled_fits, Ranks.leveled_then, Shutting.{shut_ready, shut_few, shut_cascade, shut_settles, shut_sound}, Sound.{open_given, rising_sound, view_gone, with_prepared}, sparse.Sparse.seal_alone.Goals.{After-cascade-landed, After-seal_slot}}

@@ -1,6 +1,6 @@
 use Rattle.std.proofs.{Common.{rules, ◌<◌, [], None, ◌≡◌, ◌∙◌, length, sym, ap, subst, arith, refl, inl, inr}, lemmas.List.length-map}
 use Rattle.fst_types.specs.{Gates.IsOpenNumber, Order.seal_order, Refusals.IsFirst}
-use Rattle.fst_heads.specs.{Frames.{frame_of, frames_of}, Heads.patches_of, Marks.HasSlot, Nodes.{is_forgotten_in, node_of, nodes_of}}
+use Rattle.fst_heads.specs.{Frames.{frame_of, frames_of}, Heads.patches_of, Slots.HasSlot, Nodes.{is_forgotten_in, node_of, nodes_of}}
 use Rattle.fst_graph.specs.{Known.Known, Remembered.remembered, Sound.{IsPrepared, remembered_of}}
 use Rattle.fst_graph.proofs.{Flagged.{flags_of, remembered_as, remembered_still, rising_nodes, shut_flags, shut_landed, shut_long, spared, standing_as}, Remembered.was, RememberedCalls.begun_known}
 use Rattle.fst_graph.proofs.{Borne.settled_fits, GateSlot.refused_closed, MemberReady.{put_begun, around_kept, places_kept, shut_begun}, Ranks.leveled_then, Readied.head_told}

@@ -1,5 +1,5 @@
 use Rattle.std.proofs.{Common.{◌≡◌, ◌∙◌, ◌<◌, ◌++◌, ◌∷◌, [], ap, arith, get_or, length, subst, sym, take}, lemmas.List.take_more}
-use Rattle.fst_heads.specs.{Heads.patches_of, Marks.HasSlot}
+use Rattle.fst_heads.specs.{Heads.patches_of, Slots.HasSlot}
 use Rattle.fst_walks.specs.{Lifting.IsLifted, Walks.{number_at, numbers_met}}
 use Rattle.fst_walks.proofs.{Raising.{hard_told, lifted_more}, Visiting.{long_met, met_at, slot_at}}
 use Rattle.fst_walks.proofs.levels.Levels.lift_all.Goals as goal

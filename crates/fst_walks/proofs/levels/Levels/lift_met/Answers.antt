@@ -1,6 +1,6 @@
 use Rattle.std.proofs.lemmas.Grind.{common_steps}
 use Rattle.std.proofs.Common.{ap, length, subst, arith}
-use Rattle.fst_heads.specs.{Heads.patches_of, Marks.HasSlot}
+use Rattle.fst_heads.specs.{Heads.patches_of, Slots.HasSlot}
 use Rattle.fst_heads.proofs.Slots.{patch_slot, slot_in}
 use Rattle.fst_walks.specs.{Walks.numbers_met}
 use Rattle.fst_walks.proofs.{Floored.{floored, lifted_within}, Raising.hard_told}

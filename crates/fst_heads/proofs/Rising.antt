@@ -1,0 +1,58 @@
+-- A number is taken from the queue of a launch: its head is behind a flight, and its dependants are told.
+use Rattle.fst_heads.proofs.Basics.{◌≡◌, ◌≢◌, ◌≤◌, ◌+◌, ℕ, false, List, [], ◌∷◌, ◌++◌, map, length, get_or, set, AllPairs, Contains, sym, ap, subst, ◌∙◌, inl, arith, get_or-map}
+use Rattle.fst_heads.proofs.Words.{Head, IsRising, HasSlot, Node, node_of, nodes_of, at_number, AreLinked, AreDistinct, max_block, Spreading, CanHear, Rises, now, is_told, settles, heard, woken}
+use Rattle.fst_heads.proofs.{AtNumber.at_slot, Going.{rises_way}, Launching.rises_untold, Popping.{number_there, untold_there, rising_settled, after_is, once_after, hears_after, room_after, Turn, turned}, Slotted.{node_in_slot, rising_slots}, Telling.last_waits}
+use Rattle.fst_heads.proofs.Words.pending
+
+-- the number of the block is small
+pub small : (b : ℕ) (nodes : List Node) (blocks : ℕ) (queue : List ℕ) (q : ℕ) → blocks ≤ max_block → Spreading (Rises b) nodes blocks (queue ++ q ∷ []) → b ≤ max_block
+small b nodes blocks queue q narrow S =
+    let x = last_waits nodes blocks queue q S in
+    let lt = S.inside x.0 b x.1 (inl (rises_untold b x.0 (S.moves x.0 x.1) x.3).0) in
+    omega (arith, lt, narrow)
+
+module _ (b : ℕ) (heads : List Head) (blocks : ℕ) (queue : List ℕ) (q s : ℕ) (narrow : blocks ≤ max_block)
+    (S : Spreading (Rises b) (nodes_of heads) blocks (queue ++ q ∷ [])) (linked : AreLinked (nodes_of heads)) (distinct : AreDistinct (nodes_of heads)) (found : HasSlot heads q s)
+    (h : Head) (e : h ≡ get_or heads s h) where
+  abbrev pub behind : List Head
+  behind = set heads s (record h { pending = pending.Behind b })
+
+  in_slot : (d : Node) → get_or (nodes_of heads) s d ≡ node_of h
+  in_slot d = get_or-map node_of heads s h d found.0 ∙ ap node_of (sym e)
+
+  here : (h.pending ≡ pending.Block b) × (now (node_of h) ≡ pending.Behind b)
+  here =
+      rises_untold b (node_of h)
+      (subst (λ x. Rises b x.pending (now x)) (in_slot (node_of h)) (S.moves (get_or (nodes_of heads) s (node_of h)) (node_in_slot heads q s (node_of h) found).0))
+      (subst (λ x. is_told x ≡ false) (in_slot (node_of h)) (untold_there (rises_way b) heads blocks queue q s narrow S linked distinct found (node_of h)))
+
+  pub was : (d : Node) → pending.Block b ≡ (get_or (nodes_of heads) s d).pending
+  was d = sym (ap (λ (x : Node). x.pending) (in_slot d) ∙ here.0)
+
+  pub is : (d : Node) → pending.Behind b ≡ now (get_or (nodes_of heads) s d)
+  is d = sym (ap now (in_slot d) ∙ here.1)
+
+  pub set_behind : (d : Node) → nodes_of behind ≡ map (at_number (get_or (nodes_of heads) s d).patch.number settles) (nodes_of heads)
+  set_behind d =
+      at_slot heads q s settles (record h { pending = pending.Behind b }) h (rising_slots heads S.rising) found (ap (λ p. node_of (record h { pending = p })) (sym here.1) ∙ ap (λ k. settles (node_of k)) e)
+      ∙ ap (λ n. map (at_number n settles) (nodes_of heads)) (sym (number_there (rises_way b) heads blocks queue q s narrow S linked distinct found d))
+
+  -- what `tell` asks for
+  pub rising_behind : IsRising behind
+  rising_behind =
+      rising_settled q heads behind (after_is (rises_way b) heads blocks queue q s narrow S linked distinct found (pending.Block b) (pending.Behind b) (nodes_of behind) was is set_behind)
+      (rising_slots heads S.rising)
+
+  pub once_behind : (d : Node) → AllPairs (λ m n. m ≢ n) (get_or (nodes_of behind) s d).dependants
+  once_behind = once_after (rises_way b) heads blocks queue q s narrow S linked distinct found (pending.Block b) (pending.Behind b) (nodes_of behind) was is set_behind
+
+  pub hears_behind : (y d : Node) → Contains (nodes_of behind) y → Contains (get_or (nodes_of behind) s d).dependants y.patch.number → CanHear (pending.Block b) y
+  hears_behind = hears_after (rises_way b) heads blocks queue q s narrow S linked distinct found (pending.Block b) (pending.Behind b) (nodes_of behind) was is set_behind
+
+  pub room_behind : (d : Node) → length queue + length (woken (get_or (nodes_of behind) s d).dependants (pending.Block b) (pending.Behind b) (nodes_of behind)) ≤ length heads
+  room_behind = room_after (rises_way b) heads blocks queue q s narrow S linked distinct found (pending.Block b) (pending.Behind b) (nodes_of behind) was is set_behind
+
+  pub turned_behind : (next : List Node) (longer : List ℕ) → ((d : Node) → next ≡ map (heard (get_or (nodes_of behind) s d).dependants (pending.Block b) (pending.Behind b)) (nodes_of behind))
+      → ((d : Node) → longer ≡ queue ++ woken (get_or (nodes_of behind) s d).dependants (pending.Block b) (pending.Behind b) (nodes_of behind))
+      → Turn (rises_way b) heads blocks queue q s narrow S linked distinct found (pending.Block b) (pending.Behind b) (nodes_of behind) was is set_behind next longer
+  turned_behind = turned (rises_way b) heads blocks queue q s narrow S linked distinct found (pending.Block b) (pending.Behind b) (nodes_of behind) was is set_behind

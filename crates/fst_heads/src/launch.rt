@@ -1,0 +1,102 @@
+//! A launch: the ready changes of a block are in flight from then on, and what is pending of all that waits for them is
+//! behind a flight. That is told upward, as a cascade tells what sinks; here what is pending of a patch rises, and once at
+//! most.
+
+ghost use Rattle.std.specs.Prelude.{◌≡◌, ◌≤◌, ◌==◌, ◌∷◌, ℕ, [], length, map, vec_capacity, if◌then◌else◌};
+ghost use Rattle.fst_types.specs.Facts.{SparseAreLawful};
+ghost use Rattle.fst_types.specs.Writing.{launched};
+ghost use Rattle.fst_heads.specs.Frames.{frames_of};
+ghost use Rattle.fst_heads.specs.Heads.{IsRising, patches_of};
+ghost use Rattle.fst_heads.specs.Keeps.{IsInside};
+ghost use Rattle.fst_heads.specs.Names.{numbers_of};
+ghost use Rattle.fst_heads.specs.Nodes.{nodes_of, pending_in, AreLinked, AreDistinct, AreSettled};
+ghost use Rattle.fst_heads.specs.Pendings.{Rises};
+ghost use Rattle.fst_heads.specs.Spreading.{launches, IsRisenOf, Spreading};
+ghost use Rattle.fst_heads.specs.Standings.{ready_on, held_on};
+
+use crate::cascade::tell;
+use crate::head::Head;
+use crate::pending::Pending;
+use crate::slot::slot_of;
+use fst_types::{PatchNo, Place};
+
+// The patch with the number is in flight.
+fn launch_at(heads: &mut Vec<Head>, number: u32)
+    requires { IsRising heads.old.items }
+    ensures nodes { nodes_of heads.new.items ≡ map (launches (number ∷ [])) (nodes_of heads.old.items) }
+    ensures frames { frames_of heads.new.items ≡ frames_of heads.old.items }
+    ensures places { vec_capacity heads.new ≡ vec_capacity heads.old }
+{
+    if let Some(slot) = slot_of(heads, number) {
+        heads[slot].place = Place::Flight;
+    }
+}
+
+// The chosen are in flight, and wait in the queue.
+fn launch_all(heads: &mut Vec<Head>, queue: &mut Vec<u32>, chosen: &[PatchNo])
+    requires rising { IsRising heads.old.items }
+    requires idle { queue.old.items ≡ [] }
+    requires room { length chosen.now ≤ vec_capacity queue.old }
+    ensures nodes { nodes_of heads.new.items ≡ map (launches (numbers_of chosen.now)) (nodes_of heads.old.items) }
+    ensures queued { queue.new.items ≡ numbers_of chosen.now }
+    ensures frames { frames_of heads.new.items ≡ frames_of heads.old.items }
+    ensures places { vec_capacity heads.new ≡ vec_capacity heads.old }
+    ensures capacity { vec_capacity queue.new ≡ vec_capacity queue.old }
+{
+    for no in chosen {
+        launch_at(heads, no.0);
+        queue.push_reserved(no.0);
+    }
+}
+
+// Tells of all that waits in the queue that it is behind a flight of the block, and of what waits for it by that.
+fn rise(heads: &mut Vec<Head>, queue: &mut Vec<u32>, block: u32)
+    requires start { (blocks : ℕ) × (blocks ≤ 65535) × Spreading (Rises block) (nodes_of heads.old.items) blocks queue.old.items }
+    requires linked { AreLinked (nodes_of heads.old.items) }
+    requires distinct { AreDistinct (nodes_of heads.old.items) }
+    requires room { length heads.old.items ≤ vec_capacity queue.old }
+    ensures told { (blocks : ℕ) × Spreading (Rises block) (nodes_of heads.new.items) blocks [] }
+    ensures spread { IsRisenOf (nodes_of heads.old.items) (nodes_of heads.new.items) }
+    ensures rises { (n : ℕ) → Rises block (pending_in (nodes_of heads.old.items) n) (pending_in (nodes_of heads.new.items) n) }
+    ensures frames { frames_of heads.new.items ≡ frames_of heads.old.items }
+    ensures places { vec_capacity heads.new ≡ vec_capacity heads.old }
+    ensures empty { queue.new.items ≡ [] }
+    ensures capacity { vec_capacity queue.new ≡ vec_capacity queue.old }
+{
+    while let Some(number) = queue.pop() {
+        if let Some(slot) = slot_of(heads, number) {
+            let own = block as u16;
+            heads[slot].pending = Pending::Behind(own);
+            tell(
+                heads,
+                queue,
+                slot,
+                Pending::Block(own),
+                Pending::Behind(own),
+            );
+        }
+    }
+}
+
+/// Puts the ready changes of the block in flight, which are the chosen. What waits for them, and for changes of the block
+/// alone, waits for a flight from then on.
+pub fn launch(heads: &mut Vec<Head>, queue: &mut Vec<u32>, chosen: &[PatchNo], block: u32)
+    requires lawful { (numbers : ℕ) × SparseAreLawful (patches_of heads.old.items) numbers }
+    requires settled { (blocks : ℕ) × (blocks ≤ 65535) × IsInside (patches_of heads.old.items) blocks × AreSettled (nodes_of heads.old.items) blocks }
+    requires linked { AreLinked (nodes_of heads.old.items) }
+    requires distinct { AreDistinct (nodes_of heads.old.items) }
+    requires chosen { numbers_of chosen.now ≡ ready_on block (nodes_of heads.old.items) }
+    requires room { (queue.old.items ≡ []) × (length heads.old.items ≤ vec_capacity queue.old) }
+    ensures settled { (blocks : ℕ) → AreSettled (nodes_of heads.old.items) blocks → AreSettled (nodes_of heads.new.items) blocks }
+    ensures launched { patches_of heads.new.items ≡ map (launched (numbers_of chosen.now)) (patches_of heads.old.items) }
+    ensures spread { IsRisenOf (map (launches (numbers_of chosen.now)) (nodes_of heads.old.items)) (nodes_of heads.new.items) }
+    ensures ready { (b : ℕ) → ready_on b (nodes_of heads.new.items) ≡ if b == block then [] else ready_on b (nodes_of heads.old.items) }
+    ensures held { (b : ℕ) → held_on b (nodes_of heads.new.items) ≡ held_on b (nodes_of heads.old.items) }
+    ensures frames { frames_of heads.new.items ≡ frames_of heads.old.items }
+    ensures places { vec_capacity heads.new ≡ vec_capacity heads.old }
+    ensures empty { queue.new.items ≡ [] }
+    ensures capacity { vec_capacity queue.new ≡ vec_capacity queue.old }
+{
+    launch_all(heads, queue, chosen);
+    rise(heads, queue, block);
+}
