@@ -7,7 +7,7 @@ use Rattle.fst_heads.specs.declared.pending.Pending.{Pending}
 use Rattle.fst_heads.specs.declared.pending.Pending.TheVariants as pending
 use Rattle.fst_heads.specs.declared.pending.Sums.{Sums}
 
--- of changes of b, and of those of c: of one block, some of it in flight if some of either is, or of more than one
+-- of changes of b and of changes of c together: the given where the two are one block, and else more than one block
 abbrev pub meet : ℕ → ℕ → Pending → Pending
 meet b c same = if c == b then same else pending.Apart
 
