@@ -1,11 +1,11 @@
--- What levels tell of leveled patches: no way down rises and no way back falls, and a row whose live entries are hard changes of b or lie below the floor of b leads nowhere.
+-- What levels tell of leveled patches: no way down rises and no way back falls, and a row whose live entries are at or below hard changes of b, or below the floor of b, leads nowhere.
 use Rattle.std.proofs.Common.{◌≡◌, ◌≤◌, ◌<◌, ◌⊎◌, ℕ, Bool, List, Contains, refl, sym, ap, subst, ◌∙◌, inl, inr, arith}
 use Rattle.fst_types.specs.{Closure.{Closure, one, join}, Dependencies.{DependsOn, IsLiveNumber}, Facts.{IsOnDiskWithAll, HardNeverHold}}
 use Rattle.fst_types.specs.{Grades.{HasEdge, Reaches}, Patches.{Patch, IsRising, IsOn, IsLive}, Writable.IsInMemoryOn}
 use Rattle.fst_types.proofs.Crash.{same_number}
 use Rattle.fst_heads.specs.{Grading.{HasUnder, IsHardNumber, IsReturning, IsLeading, LeadsNowhere}, Slots.PassesAt}
 use Rattle.fst_heads.proofs.{Graded.{on_from, on_to}}
-use Rattle.fst_walks.specs.{Leveling.AreLeveled, WayBack.{StepsUp}}
+use Rattle.fst_walks.specs.{Leveling.AreLeveled, WayBack.{IsUnderHard, StepsUp}}
 use Rattle.fst_walks.proofs.Holding.{live_up}
 use Rattle.fst_heads.specs.declared.test.Test.TheVariants as test
 use Rattle.fst_types.proofs.Numbers.{one_block}
@@ -53,7 +53,7 @@ module _ (heads : List Patch) (level floor : ℕ → ℕ) (L : AreLeveled heads 
 
   -- what lies below the floor of b leads nowhere
   module _ (rising : IsRising heads) (disk : IsOnDiskWithAll heads) (never : HardNeverHold heads) (b : ℕ) (row : List ℕ)
-      (each : (n : ℕ) → Contains row n → IsLiveNumber heads n → IsHardNumber heads b n ⊎ (level n < floor b)) where
+      (each : (n : ℕ) → Contains row n → IsLiveNumber heads n → IsUnderHard heads b n ⊎ (level n < floor b)) where
     in_memory : (n : ℕ) (h : IsHardNumber heads b n) → IsInMemoryOn heads b h.patch
     in_memory n h = record { head = h.head; change = h.hard.change; memory = h.hard.memory }
 
@@ -64,6 +64,12 @@ module _ (heads : List Patch) (level floor : ℕ → ℕ) (L : AreLeveled heads 
     live_over : (n q : ℕ) → (n ≡ q) ⊎ DependsOn heads n q → IsLiveNumber heads q → IsLiveNumber heads n
     live_over n q (inl e) l = subst (IsLiveNumber heads) (sym e) l
     live_over n q (inr d) l = live_up heads disk n q d l
+
+    -- what is at or below a patch is so of what depends on that
+    under_top : (top n q : ℕ) → (top ≡ n) ⊎ DependsOn heads top n → (n ≡ q) ⊎ DependsOn heads n q → (top ≡ q) ⊎ DependsOn heads top q
+    under_top top n q (inl e) down = subst (λ m. (m ≡ q) ⊎ DependsOn heads m q) (sym e) down
+    under_top top n q (inr d) (inl e) = inr (subst (DependsOn heads top) e d)
+    under_top top n q (inr d) (inr f) = inr (join d f)
 
     under : (P : ℕ → Type 0) → HasUnder heads row P → (n q : ℕ) × Contains row n × P q × ((n ≡ q) ⊎ DependsOn heads n q)
     under P u = elim u.2 [ inl here ↦ (u.0, u.0, u.1, here, inl refl) | inr below ↦ (u.0, below.0, u.1, below.2, inr below.1) ]
@@ -121,9 +127,9 @@ module _ (heads : List Patch) (level floor : ℕ → ℕ) (L : AreLeveled heads 
       straight = λ u.
           let x = under (IsReturning heads b) u in
           let live : IsLiveNumber heads x.1 = record { patch = x.3.away; head = x.3.head; numbered = x.3.numbered; live = x.3.away_live } in
-          elim (each x.0 x.2 (live_over x.0 x.1 x.4 live)) [ inl h ↦ hard_straight x.0 x.1 h x.4 x.3 | inr low ↦ low_straight x.0 x.1 low x.4 x.3 ];
+          elim (each x.0 x.2 (live_over x.0 x.1 x.4 live)) [ inl h ↦ hard_straight h.top x.1 h.hard (under_top h.top x.0 x.1 h.over x.4) x.3 | inr low ↦ low_straight x.0 x.1 low x.4 x.3 ];
       open_ended = λ u.
           let x = under (IsLeading heads b) u in
           let live : IsLiveNumber heads x.1 = record { patch = x.3.patch; head = x.3.head; numbered = x.3.numbered; live = x.3.live } in
-          elim (each x.0 x.2 (live_over x.0 x.1 x.4 live)) [ inl h ↦ hard_open x.0 x.1 h x.4 x.3 | inr low ↦ low_open x.0 x.1 low x.4 x.3 ];
+          elim (each x.0 x.2 (live_over x.0 x.1 x.4 live)) [ inl h ↦ hard_open h.top x.1 h.hard (under_top h.top x.0 x.1 h.over x.4) x.3 | inr low ↦ low_open x.0 x.1 low x.4 x.3 ];
     }

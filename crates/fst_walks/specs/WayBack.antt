@@ -21,6 +21,12 @@ pub record ShowsBlockOf (patches : List Patch) (n : ℕ) (old new : List Bool) :
   pub only : (c : ℕ) → IsReached new c → IsReached old c ⊎ IsHardNumber patches c n
   pub each : (c : ℕ) → IsHardNumber patches c n → IsReached new c
 
+-- n is the number of a hard change of b in memory, or such a one depends on it
+pub record IsUnderHard (patches : List Patch) (b n : ℕ) : Type 0 where
+  pub top : ℕ
+  pub hard : IsHardNumber patches b top
+  pub over : (top ≡ n) ⊎ DependsOn patches top n
+
 -- n is not on disk, and is a change of b that is not on disk or depends on one
 pub record IsLiveOver (patches : List Patch) (b n : ℕ) : Type 0 where
   pub live : IsLiveNumber patches n

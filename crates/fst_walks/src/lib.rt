@@ -3,8 +3,9 @@
 //! Two questions need them. *Is a new change hard?* A block is written only with all its hard changes, so a change may
 //! be hard only where nothing that it depends on can come to wait for its block. Mostly the patches near it tell
 //! (`shortcuts`), or their levels do (`levels`): each patch has one and each block a floor, so that no way down rises,
-//! and what lies below the floor of a block leads nowhere. Or their ancestors tell (`ancestors`): each patch keeps two
-//! that it depends on, a near one and a far one. Or it is known already (`known`): of a soft change of the block a way
+//! and what lies below the floor of a block leads nowhere, nor does what lies below a hard change of it (`under_hard`).
+//! Or their ancestors tell (`ancestors`): each patch keeps two that it depends on, a near one and a far one. Or it is
+//! known already (`known`): of a soft change of the block a way
 //! back stays until its end is on disk, so that a change over it is soft too; and one after the same as an earlier change of the
 //! block is graded as that was (`before`). Else a way back is looked for down alone for a while (`below`), then from both
 //! ends at once (`both_ends`): up from the changes of the block (`way_up`), and down (`way_down`) from the first changes of other
@@ -49,6 +50,7 @@ pub mod sight;
 pub mod sink;
 pub mod starts;
 pub mod trace;
+pub mod under_hard;
 pub mod walk;
 pub mod way_down;
 pub mod way_up;

@@ -1,7 +1,7 @@
 use Rattle.std.proofs.Common.{◌≡◌, ◌∙◌, ◌<◌, ◌⊎◌, arith, get_or, subst, rules}
-use Rattle.fst_heads.specs.{Grading.IsHardNumber, Heads.patches_of}
+use Rattle.fst_heads.specs.Heads.{patches_of}
 use Rattle.fst_heads.proofs.{Listing.rising_patches, Slots.any_default}
-use Rattle.fst_walks.specs.Leveling.{floor_of, level_of}
+use Rattle.fst_walks.specs.{Leveling.{floor_of, level_of}, WayBack.IsUnderHard}
 use Rattle.fst_walks.proofs.Leveled.{below_floor}
 use Rattle.fst_walks.proofs.shortcuts.stays_below.Goals as goal
 
@@ -16,7 +16,7 @@ returns c told =
     below_floor patches level floor sees.leveled.leveled (rising_patches c.args.sight.now.heads.now sees.rising) sees.disk sees.hard b row
     (λ n k live.
     let here : get_or row k.0 0 ≡ n = any_default row k.0 0 n k.1 ∙ k.2 in
-    subst (λ m. IsHardNumber patches b m ⊎ (level m < floor b)) here (c.loop-number.invariant k.0 (omega (arith, k.1, c.loop-number-test.false))))
+    subst (λ m. IsUnderHard patches b m ⊎ (level m < floor b)) here (c.loop-number.invariant k.0 (omega (arith, k.1, c.loop-number-test.false))))
 
 pub loop-number-preserved : goal.loop-number-preserved
 loop-number-preserved c = search rules
