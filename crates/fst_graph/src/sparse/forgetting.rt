@@ -6,6 +6,10 @@ use crate::prepared::let_go;
 use crate::sparse::Sparse;
 use fst_walks::flags::flag_all;
 
+// So many heads of patches on disk may stay whatever else there is. They take less than a megabyte; and as long as none between
+// is dropped, the head with a number is found at once.
+const SPARE: usize = 4_096;
+
 impl Sparse {
     // Forgets those that landed, whose heads stay, each marked so.
     fn mark_landed(&mut self) -> u32
@@ -35,12 +39,13 @@ impl Sparse {
     }
 
     /// Forgets the patches on disk, and answers how many they were. It takes no memory. What is dropped moves the heads behind
-    /// it, so that the heads are only marked until a quarter of all are of patches on disk: then these are dropped.
+    /// it, so that the heads are only marked until a quarter of all, and no fewer than 4,096, are of patches on disk: then these
+    /// are dropped.
     pub fn forget(&mut self) -> u32
         ensures { Forgets self.old result self.new }
     {
         let dropped = self.heads.len() - self.live;
-        if dropped < self.heads.len() / 4 {
+        if dropped < SPARE.max(self.heads.len() / 4) {
             self.mark_landed()
         } else {
             self.drop_landed()
