@@ -10,6 +10,7 @@ pub mod SearchedAbove
 pub mod Alone
 pub mod Ready
 pub mod Numbered
+mod GateBelow
 pub mod Held
 pub mod Clean
 pub mod Resting

@@ -77,7 +77,7 @@ pub fn grade_of(
     ensures up { IsOver sight.now.heads.now (length sight.now.lists.now) ends.new.up }
     ensures down { IsOver sight.now.heads.now (length sight.now.lists.now) ends.new.down }
 {
-    if is_blocked(sight.heads, &mut ends.up.walk, row, but) {
+    if is_blocked(sight, &mut ends.up.walk, row, but) {
         return soft(None);
     }
     grade_by_ways(sight, ends, block, row)

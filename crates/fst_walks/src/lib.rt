@@ -1,19 +1,19 @@
 //! Searches over heads, for what the heads near a patch do not tell.
 //!
-//! Two questions need them. *Is a new change hard?* A block is written only with all its hard changes, so a change may
-//! be hard only where nothing that it depends on can come to wait for its block. Mostly the patches near it tell
-//! (`shortcuts`), or their levels do (`levels`): each patch has one and each block a floor, so that no way down rises,
-//! and what lies below the floor of a block leads nowhere, nor does what lies below a hard change of it (`under_hard`).
-//! Or their ancestors tell (`ancestors`): each patch keeps two that it depends on, a near one and a far one. Or it is
-//! known already (`known`): of a soft change of the block a way
-//! back stays until its end is on disk, so that a change over it is soft too; and one after the same as an earlier change of the
-//! block is graded as that was (`before`). Else a way back is looked for down alone for a while (`below`), then from both
-//! ends at once (`both_ends`): up from the changes of the block (`way_up`), and down (`way_down`) from the first changes of other
-//! blocks at or below what the new change depends on (`first_away`), which goes on from a block to what its hard changes
-//! need (`needs`). Where a new hard change would stand over the floor of its block, the floor goes up, with all that stands
-//! over the block (`lift`). *May a gate gain these names, and may a group have this change?* A walk goes down from them
-//! (`starts`) through what waits for an open gate, and one up from the gate to what depends on it, until they meet or one of
-//! them is at its end (`cycle`, `overlap_cycle`). Which gates a row waits for is looked for down alone (`other_gates`).
+//! Two questions need them. *Is a new change hard?* A block is written only with all its hard changes, so a change may be hard
+//! only where nothing that it depends on can come to wait for its block. Mostly the patches near it tell (`shortcuts`), or
+//! their levels do (`levels`): each patch has one and each block a floor, so that no way down rises, and what lies below the
+//! floor of a block leads nowhere, nor does what lies below a hard change of it (`under_hard`). Or their ancestors tell
+//! (`ancestors`): each patch keeps two that it depends on, a near one and a far one. Or it is known already (`known`): of a
+//! soft change of the block a way back stays until its end is on disk, so that a change over it is soft too; and one after the
+//! same as an earlier change of the block is graded as that was (`before`). Else a way back is looked for down alone for a
+//! while (`below`), then from both ends at once (`both_ends`): up from the changes of the block (`way_up`), and down
+//! (`way_down`) from the first changes of other blocks at or below what the new change depends on (`first_away`), which goes on
+//! from a block to what its hard changes need (`needs`). Where a new hard change would stand over the floor of its block, the
+//! floor goes up, with all that stands over the block (`lift`). *May a gate gain these names, and may a group have this
+//! change?* A walk goes down from them (`starts`) through what waits for an open gate, and one up from the gate to what depends
+//! on it, until they meet or one of them is at its end (`cycle`, `overlap_cycle`). Which gates a row waits for is looked for
+//! down alone: by a way to one that is near (`gate_below`), or else over all that waits (`other_gates`).
 //!
 //! A walk is a value of its own (`walk`), which keeps what it has met, so that each patch is looked at once; it can be
 //! used for walk after walk, each of which begins where nothing was met. What walks look at is one value too (`sight`):
@@ -35,6 +35,7 @@ pub mod descent;
 pub mod ends;
 pub mod first_away;
 pub mod flags;
+pub mod gate_below;
 pub mod grade;
 pub mod graded;
 pub mod index;

@@ -1,30 +1,11 @@
-use Rattle.std.proofs.Common.{◌≡◌, ◌∙◌, ◌<◌, ◌≤◌, ◌==◌, ◌&&◌, ℕ, Bool, true, not, List, Some, length, get_or, Contains, refl, sym, ap, subst, inl, inr, arith, eq-eqb, ne_eqb}
-use Rattle.std.proofs.{lemmas.Bool.{and_parts, cases_eq, false≢true}, lemmas.Grind.common_steps, lemmas.List.get_or_append_left, lemmas.List.Elements.Contains-get_or}
-use Rattle.fst_heads.specs.{Grading.IsOpenBut, Heads.{IsRising, patch_of, patches_of}, Slots.HasSlot, Nodes.{nodes_of, pending_in}, Tests.passes}
+use Rattle.std.proofs.Common.{◌≡◌, ◌∙◌, ◌<◌, ◌≤◌, ℕ, Some, length, get_or, Contains, refl, sym, ap, subst, inl, inr, arith}
+use Rattle.std.proofs.{lemmas.Bool.{cases_eq, false≢true}, lemmas.Grind.common_steps, lemmas.List.get_or_append_left, lemmas.List.Elements.Contains-get_or}
+use Rattle.fst_heads.specs.{Grading.IsOpenBut, Heads.{patches_of}, Nodes.{nodes_of, pending_in}}
 use Rattle.fst_heads.specs.{declared.head.Head.Head, declared.pending.Pending.Pending}
-use Rattle.fst_heads.proofs.{Graded.{passes_open, open_passes}, Slots.{any_default, direct_at, named_at}}
+use Rattle.fst_heads.proofs.{Slots.{any_default, direct_at, named_at}}
 use Rattle.fst_walks.specs.{Descending.Visits, Searching.IsNextHeld, Walks.numbers_met}
-use Rattle.fst_walks.proofs.{Ascended.{climbing_more, climbing_all}, NearRow.{passes_here, here_passes}, Visiting.{long_met, slot_met, visits_same}}
-use Rattle.fst_heads.specs.declared.test.Test.TheVariants as test
+use Rattle.fst_walks.proofs.{Ascended.{climbing_more, climbing_all}, GateBelow.{other_gate, gate_other}, Visiting.{long_met, slot_met, visits_same}}
 use Rattle.fst_walks.proofs.other_gates.search_other.Goals as goal
-
--- the head in the slot tells of its number
-module _ (heads : List Head) (rising : IsRising heads) (n s gate : ℕ) (slot : HasSlot heads n s) (d : Head) (is : d ≡ get_or heads s d) (r : Bool) (told : r ≡ (not (d.number == gate) && passes test.Open (patch_of d))) where
-  own : d.number ≡ n
-  own = ap (λ (h : Head). h.number) is ∙ slot.1 d
-
-  said : passes test.Open (patch_of d) ≡ passes test.Open (patch_of (get_or heads s d))
-  said = ap (λ (h : Head). passes test.Open (patch_of h)) is
-
-  other_gate : r ≡ true → IsOpenBut (patches_of heads) (Some gate) n
-  other_gate e =
-      let k = and_parts (not (d.number == gate)) (passes test.Open (patch_of d)) (sym told ∙ e) in (
-        passes_open (patches_of heads) n (passes_here heads rising n s d slot test.Open (sym said ∙ k.1)),
-        λ same. false≢true (sym (ap not (eq-eqb d.number gate (own ∙ same))) ∙ k.0),
-      )
-
-  gate_other : IsOpenBut (patches_of heads) (Some gate) n → r ≡ true
-  gate_other u = told ∙ rw (ne_eqb d.number gate (λ same. u.1 (sym own ∙ same)), said ∙ here_passes heads rising n s d slot test.Open (open_passes (patches_of heads) n u.0)) refl
 
 pub loop-at-smaller : goal.loop-at-smaller
 loop-at-smaller c = omega (arith, c.len.ensures.few, c.loop-at-test.true, c.loop-at.invariant.visited.long)
