@@ -57,6 +57,5 @@ pub fn reaches_tail(sight: &Sight<'_>, ends: &mut Ends, tail: u32, block: u32, s
     ensures over { AreOver sight.now.heads.now ends.new }
     ensures crossed { (ends.new.up.crossed ≡ ends.old.up.crossed) × (ends.new.down.crossed ≡ ends.old.down.crossed) }
 {
-    let list = sight.lists[block as usize].as_slice();
-    overlap_reaches(sight.heads, list, ends, tail, block, span)
+    overlap_reaches(sight, ends, tail, block, span)
 }

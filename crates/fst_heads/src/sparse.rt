@@ -37,8 +37,8 @@ fn touches(head: &Head, block: u32, span: Span) -> bool
     }
 }
 
-// Whether the number is that of such a change.
-fn is_touched(heads: &[Head], number: u32, block: u32, span: Span) -> bool
+/// Whether the number is that of a change of the block that is not on disk and shares a byte with the span.
+pub fn is_touched(heads: &[Head], number: u32, block: u32, span: Span) -> bool
     requires { IsRising heads.now }
     ensures { IsTrue result ↔ IsTouched (patches_of heads.now) block span.at span.len number }
 {

@@ -1,20 +1,22 @@
 //! The search for a cycle that a new change of a group would close: the tail of the group is to depend on the change,
 //! which depends on the changes that it overlaps. So it is looked for as where a gate is to depend on these (`cycle`). Where
-//! nothing depends on the tail, which is so in a group that none comes after, it is left out, and the list with it.
+//! nothing depends on the tail, which is so in a group that none comes after, it is left out.
 
-ghost use Rattle.std.specs.Prelude.{◌≡◌, ◌↔◌, ℕ, IsTrue};
+ghost use Rattle.std.specs.Prelude.{◌≡◌, ◌⊎◌, ◌<◌, ◌↔◌, ℕ, IsTrue, length};
 ghost use Rattle.fst_types.specs.Dependencies.{DependsOn};
 ghost use Rattle.fst_types.specs.Gates.{IsOpenNumber};
 ghost use Rattle.fst_heads.specs.Heads.{IsRising, patches_of};
-ghost use Rattle.fst_heads.specs.Lists.{entries_of, entries_on};
 ghost use Rattle.fst_heads.specs.Nodes.{AreLinked, nodes_of};
+ghost use Rattle.fst_heads.specs.Rows.{IsTouched};
 ghost use Rattle.fst_walks.specs.Searching.{AreOver, TellsGates, TouchedReaches};
+ghost use Rattle.fst_walks.specs.Sights.{Sees};
+ghost use Rattle.fst_walks.specs.Starting.{IsStart};
 
 use crate::cycle::starts_close;
 use crate::ends::Ends;
+use crate::sight::Sight;
 use crate::starts::Starts;
 use fst_heads::head::Head;
-use fst_heads::lists::Listed;
 use fst_heads::slot::slot_of;
 use fst_types::Span;
 
@@ -30,28 +32,42 @@ fn has_dependants(heads: &[Head], number: u32) -> bool
     }
 }
 
-/// Whether a change not on disk that shares a byte with the span depends on the open gate. The list has the changes of
-/// the block that are not on disk. What was met before does not matter.
+// The changes of the block that share a byte with the span, or so many of them that each other one is below one of these: the
+// newest over each byte, or where those are not known all that the list of the block has.
+fn overlapped<'a>(sight: &Sight<'a>, block: u32, span: Span) -> Starts<'a>
+    requires sees { Sees sight.now }
+    requires block { block < length sight.now.lists.now }
+    ensures only { (n : ℕ) → IsStart (patches_of sight.now.heads.now) result n → IsTouched (patches_of sight.now.heads.now) block span.at span.len n }
+    ensures above { (n : ℕ) → IsTouched (patches_of sight.now.heads.now) block span.at span.len n → (m : ℕ) × IsStart (patches_of sight.now.heads.now) result m × ((m ≡ n) ⊎ DependsOn (patches_of sight.now.heads.now) m n) }
+{
+    let cover = &sight.covers[block as usize];
+    if span.len == 0 || cover.has_untold() {
+        let list = sight.lists[block as usize].as_slice();
+        return Starts::Overlapped(list, span);
+    }
+    Starts::Newest(cover.over(span), block, span)
+}
+
+/// Whether a change not on disk that shares a byte with the span depends on the open gate. What was met before does not
+/// matter.
 pub fn overlap_reaches(
-    heads: &[Head],
-    list: &[Listed],
+    sight: &Sight<'_>,
     ends: &mut Ends,
     gate: u32,
     block: u32,
     span: Span,
 ) -> bool
-    requires rising { IsRising heads.now }
-    requires over { AreOver heads.now ends.old }
-    requires linked { AreLinked (nodes_of heads.now) }
-    requires listed { entries_of list.now ≡ entries_on block (patches_of heads.now) }
-    requires gates { TellsGates heads.now }
-    requires is_open { IsOpenNumber (patches_of heads.now) gate }
-    ensures reaches { IsTrue result ↔ TouchedReaches (patches_of heads.now) gate block span.at span.len }
-    ensures over { AreOver heads.now ends.new }
+    requires sees { Sees sight.now }
+    requires over { AreOver sight.now.heads.now ends.old }
+    requires block { block < length sight.now.lists.now }
+    requires gates { TellsGates sight.now.heads.now }
+    requires is_open { IsOpenNumber (patches_of sight.now.heads.now) gate }
+    ensures reaches { IsTrue result ↔ TouchedReaches (patches_of sight.now.heads.now) gate block span.at span.len }
+    ensures over { AreOver sight.now.heads.now ends.new }
     ensures crossed { (ends.new.up.crossed ≡ ends.old.up.crossed) × (ends.new.down.crossed ≡ ends.old.down.crossed) }
 {
-    if !has_dependants(heads, gate) {
+    if !has_dependants(sight.heads, gate) {
         return false;
     }
-    starts_close(heads, ends, gate, Starts::Overlapped(list, span))
+    starts_close(sight.heads, ends, gate, overlapped(sight, block, span))
 }

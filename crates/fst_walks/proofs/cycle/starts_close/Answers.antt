@@ -11,7 +11,7 @@ pub returns-clause-close : goal.returns-clause-close
 returns-clause-close c =
     let heads = c.args.heads.now in
     let told : ℕ → Pending = pending_in (nodes_of heads) in
-    let Start = IsStart c.args.starts in
+    let Start = IsStart (patches_of heads) c.args.starts in
     let bottoms = numbers_met heads c.visit_held.new.walk in
     let tops = numbers_met heads c.visit_starts.new.walk in
     let o = c.requires.is_open in
