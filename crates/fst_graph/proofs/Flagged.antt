@@ -5,7 +5,7 @@ use Rattle.std.specs.{Global.Vec, List.list_any}
 use Rattle.fst_types.specs.{Facts.HasOnePlaceEach, Limits.max_heads, Patches.{SealedGate, Patch}, Tests.is_among}
 use Rattle.fst_types.proofs.Finite.{In, In-from_Contains, Contains-from_In, In-map}
 use Rattle.fst_heads.specs.{Heads.{IsRising, patches_of}, Landed.AreLanded, Nodes.{Node, AreSettled, node_of, nodes_of, patches_in, at_number, is_forgotten_in, gains_names, linked_to}, Spreading.{IsSpreadOf, seals, unspread}, declared.head.Head.Head, declared.pending.Sums.Sums}
-use Rattle.fst_heads.proofs.{Added.{with_names, with_node}, AtNumber.patches_in_nodes, CountsAs.{count_append, count_cons}, Flagged.{forgotten_found, forgotten_here}, Landed.{IsAs, landed_map, rested_as}, Slots.rising_map}
+use Rattle.fst_heads.proofs.{Added.{with_names, with_node}, AtNumber.patches_in_nodes, CountsAs.{count_append, count_cons}, Flagged.{forgotten_found, forgotten_here}, Landed.{IsAs, landed_map, rested_as}, Indices.rising_map}
 use Rattle.fst_graph.proofs.{Remembered.remembered_pushed}
 use Rattle.fst_graph.specs.{Remembered.{AreGone, remembered}, Sound.{AreRemembered, remembered_of}, declared.prepared.Prepared.Prepared as Stored}
 use Rattle.fst_types.proofs.Cascades.{unsettled_number}

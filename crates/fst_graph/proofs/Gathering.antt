@@ -1,11 +1,11 @@
--- The slots of groups, and what is noted of one.
+-- The indices of groups, and what is noted of one.
 use Rattle.std.proofs.Common.{◌≡◌, ◌⊎◌, ◌+◌, ◌<◌, ℕ, zero, suc, cond, eqb, true, false, List, [], ◌∷◌, ◌++◌, set, length, get_or, All, AllPairs, Contains, refl, sym, ap, ◌∙◌, inl, inr, arith}
 use Rattle.std.specs.Prelude.{◌↔◌}
 use Rattle.std.proofs.lemmas.{Bool.{eq-eqb, ne_eqb}, List.{length-map, length-set, get_or-map}, List.Elements.Contains-push, List.Quantifiers.all_pairs_push}
 use Rattle.fst_types.specs.Groups.{Group, IsGroup, IsGroupNumber, IsGroupGate, with_group}
-use Rattle.fst_graph.specs.{Gathered.{group_of, groups_of, HasGroupSlot, HasNoGroup}, declared.group.Group.Group as Kept}
+use Rattle.fst_graph.specs.{Gathered.{group_of, groups_of, HasGroupIndex, HasNoGroup}, declared.group.Group.Group as Kept}
 use Rattle.fst_types.proofs.{Apart.same_group, Finite.{In-from_Contains, Contains-from_In, In-map}, GateGains.In-unmap}
-use Rattle.fst_heads.proofs.Slots.{any_default, some_element}
+use Rattle.fst_heads.proofs.Indices.{any_default, some_element}
 
 pub heads_rise : (gs : List Kept) → AllPairs (λ g h. g.head + 1 < h.head) gs → AllPairs (λ g h. g.head < h.head) gs
 heads_rise gs apart i j d lt inside = let r = apart i j d lt inside in omega (arith, r)
@@ -19,17 +19,17 @@ no_group gs n none x =
     let k = kept_of gs x.0 x.1.0 in
     none k.1.0 k.0 k.1.1 (ap (λ (y : Kept). y.head) k.1.2 ∙ (ap (λ (g : Group). g.head) k.2 ∙ x.1.1))
 
--- a group in a slot is one of them
-pub slot_group : (gs : List Kept) (n s : ℕ) (k : Kept) → HasGroupSlot gs n s → k ≡ get_or gs s k → IsGroup (groups_of gs) n (group_of k)
-slot_group gs n s k slot at = (
-  Contains-from_In (groups_of gs) (group_of k) (In-map group_of gs k (group_of k) (In-from_Contains gs k (s, slot.0, sym at)) refl),
-  ap (λ (y : Kept). y.head) at ∙ slot.1 k,
+-- a group at an index is one of them
+pub index_group : (gs : List Kept) (n s : ℕ) (k : Kept) → HasGroupIndex gs n s → k ≡ get_or gs s k → IsGroup (groups_of gs) n (group_of k)
+index_group gs n s k index at = (
+  Contains-from_In (groups_of gs) (group_of k) (In-map group_of gs k (group_of k) (In-from_Contains gs k (s, index.0, sym at)) refl),
+  ap (λ (y : Kept). y.head) at ∙ index.1 k,
 )
 
-pub slot_number : (gs : List Kept) (n s : ℕ) → HasGroupSlot gs n s → IsGroupNumber (groups_of gs) n
-slot_number gs n s slot =
-    let k = get_or gs s (some_element gs s slot.0) in
-    (group_of k, slot_group gs n s k slot (any_default gs s (some_element gs s slot.0) k slot.0))
+pub index_number : (gs : List Kept) (n s : ℕ) → HasGroupIndex gs n s → IsGroupNumber (groups_of gs) n
+index_number gs n s index =
+    let k = get_or gs s (some_element gs s index.0) in
+    (group_of k, index_group gs n s k index (any_default gs s (some_element gs s index.0) k index.0))
 
 -- a group past the tails of all stands apart from them
 pub apart_push : (gs : List Kept) (k : Kept) → AllPairs (λ g h. g.head + 1 < h.head) gs → All (λ g. g.tail < k.head) (groups_of gs) → AllPairs (λ g h. g.head + 1 < h.head) (gs ++ k ∷ [])
@@ -86,22 +86,22 @@ with_none (g ∷ gs) n change none =
     let rest = with_none gs n change (λ k d lt. none (suc k) d (omega (arith, lt))) in
     cc
 
-pub with_slot : (gs : List Kept) (n s : ℕ) (change : Group → Group) (y d : Kept) → AllPairs (λ g h. g.head < h.head) gs → HasGroupSlot gs n s
+pub with_index : (gs : List Kept) (n s : ℕ) (change : Group → Group) (y d : Kept) → AllPairs (λ g h. g.head < h.head) gs → HasGroupIndex gs n s
     → group_of y ≡ change (group_of (get_or gs s d)) → groups_of (set gs s y) ≡ with_group (groups_of gs) n change
-with_slot [] n s change y d rising slot e = absurd (omega (arith, slot.0))
-with_slot (g ∷ gs) n zero change y d rising slot e =
-    let first : group_of y ≡ one_group n change (group_of g) = e ∙ rw (eq-eqb g.head n (slot.1 d)) refl in
-    let rest = with_none gs n change (λ k c lt same. let r = rising 0 (suc k) c (omega arith) (omega (arith, lt)) in let here = slot.1 d in omega (arith, r, same, here)) in
+with_index [] n s change y d rising index e = absurd (omega (arith, index.0))
+with_index (g ∷ gs) n zero change y d rising index e =
+    let first : group_of y ≡ one_group n change (group_of g) = e ∙ rw (eq-eqb g.head n (index.1 d)) refl in
+    let rest = with_none gs n change (λ k c lt same. let r = rising 0 (suc k) c (omega arith) (omega (arith, lt)) in let here = index.1 d in omega (arith, r, same, here)) in
     cc
-with_slot (g ∷ gs) n (suc s) change y d rising slot e =
-    let inside = slot.0 in
+with_index (g ∷ gs) n (suc s) change y d rising index e =
+    let inside = index.0 in
     let below = rising 0 (suc s) d (omega arith) inside in
-    let there = slot.1 d in
+    let there = index.1 d in
     let first : group_of g ≡ one_group n change (group_of g) = rw (ne_eqb g.head n (λ same. omega (arith, same, below, there))) refl in
-    let rest = with_slot gs n s change y d (λ i j c lt b. rising (suc i) (suc j) c (omega (arith, lt)) (omega (arith, b))) (omega (arith, inside), slot.1) e in
+    let rest = with_index gs n s change y d (λ i j c lt b. rising (suc i) (suc j) c (omega (arith, lt)) (omega (arith, b))) (omega (arith, inside), index.1) e in
     cc
 
--- another with the same number in a slot leaves them apart
+-- another with the same number at an index leaves them apart
 set_head : (gs : List Kept) (s : ℕ) (y : Kept) → ((d : Kept) → s < length gs → y.head ≡ (get_or gs s d).head) → (i : ℕ) (d : Kept) → i < length gs → (get_or (set gs s y) i d).head ≡ (get_or gs i d).head
 set_head [] s y same i d lt = absurd (omega (arith, lt))
 set_head (g ∷ gs) zero y same zero d lt = same d (omega arith)

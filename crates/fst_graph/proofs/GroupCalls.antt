@@ -9,8 +9,8 @@ use Rattle.fst_types.specs.{Refusals.{IsFirst, NoneHolds}, Step.{group, group_ne
 use Rattle.fst_graph.specs.Grouping.{unstarted_order, AddsPair, AddsGroup, PutsAfter, AddsMember, ForeseesMember, ClosesGroup, SealsIfOpen}
 use Rattle.fst_graph.specs.{Known.{Known, Prepared, unprepared, with_groups, Refuses, DependsGate}, Membering.{ArePaired, GainsMember, Foretells, member_order}, Whole.{IsGrouped, IsUnclosed}}
 use Rattle.fst_types.proofs.{Apart.tail_no_head, GroupsClear.close_clear, Loosened.loosened, Parts.{SealsIfOpen as SealsStateIfOpen, seals_if_open}, SmallStates.only_in}
-use Rattle.fst_heads.proofs.Slots.{any_default}
-use Rattle.fst_graph.proofs.{GateSlot.open_not_sealed, Grouped.{by_group, state_at, some_bytes}}
+use Rattle.fst_heads.proofs.Indices.{any_default}
+use Rattle.fst_graph.proofs.{GateIndex.open_not_sealed, Grouped.{by_group, state_at, some_bytes}}
 
 empty_or_not : (xs : List ℕ) → (((m : ℕ) × Contains xs m) → ⊥) → xs ≡ []
 empty_or_not [] none = refl

@@ -7,7 +7,7 @@ pub mod Emptying
 pub mod Adding
 pub mod Reserved
 pub mod Kept
-pub mod GateSlot
+pub mod GateIndex
 pub mod Readied
 pub mod Listed
 pub mod Marking

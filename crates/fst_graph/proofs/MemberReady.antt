@@ -5,13 +5,13 @@ use Rattle.std.proofs.lemmas.{Bool.{cases_Bool, eqb-true, eqb-false, false≢tru
 use Rattle.std.specs.Global.{Vec}
 use Rattle.fst_types.specs.{Cascade.IsCascadeOf, Dependencies.{DirectlyOn, IsLiveNumber, IsOnDisk}, Facts.{SparseAreLawful, IsTied}, Gates.IsOpenNumber, Gating.sealed}
 use Rattle.fst_types.specs.{Grades.FollowsRule, Order.{make_order, room_order, NamesUnknown}, Patches.Patch, Refusals.NoneHolds, declared.{span.Span.Span}}
-use Rattle.fst_heads.specs.{Frames.{frames_of, HasRoomBelow}, Grading.MayBeHard, Heads.{IsRising, patches_of}, Keeps.Keeps, Slots.HasSlot}
+use Rattle.fst_heads.specs.{Frames.{frames_of, HasRoomBelow}, Grading.MayBeHard, Heads.{IsRising, patches_of}, Keeps.Keeps, Indices.HasIndex}
 use Rattle.fst_heads.specs.{Names.numbers_of, Nodes.{node_of, nodes_of, is_live_in, AreCounted}, Rows.IsSparseRow, declared.head.Head.Head}
 use Rattle.fst_graph.specs.{Fresh.HasPlaces, Membering.{ArePaired, BeginsAs, OverlapReaches}, Ready.{change_of, IsReady, IsMemberReady, MayBePut, HasRoomAround}}
 use Rattle.fst_graph.specs.{Sparse.{SparseChangeIsMade}, declared.prepared.Gates.Gates, declared.prepared.Prepared.Prepared as Stored}
 use Rattle.fst_types.proofs.{Cascades.place_decided, Finite.{In, In-from_Contains, Contains-from_In}, SmallStates.only_in}
 use Rattle.fst_heads.proofs.{AtNumber.patches_in_nodes, Beside.one_if, CountsAs.{count_cons, count_none}, Forgetting.{live_in, in_live}, Framed.{room_above, room_below}}
-use Rattle.fst_heads.proofs.{PendingAt.node_in, Slots.{any_default, direct_at, named_at}, Touching.{graded_change, touched_overlaps, overlaps_touched}}
+use Rattle.fst_heads.proofs.{PendingAt.node_in, Indices.{any_default, direct_at, named_at}, Touching.{graded_change, touched_overlaps, overlaps_touched}}
 use Rattle.fst_graph.proofs.{Kept.keeps_sealed, Readied.{ready_made, ready_member, member_put}, TakenAsSealed.{is, depends, open_was, open_is, stays, touched_was, back_sealed, rule_sealed, gate_lives, gate_rests, row_named, row_unnamed}}
 use Rattle.fst_walks.specs.{Leveling.Leveling, Telling.IsTold, declared.ends.Ends.Ends, declared.graded.Graded.Graded}
 use Rattle.fst_types.specs.declared.grade.Grade.TheVariants as grade
@@ -146,26 +146,26 @@ pub told_open : (heads : List Patch) (head : ℕ) (o : Option ℕ) (t : Bool) �
 told_open heads head (Some n) t e some none = (λ f. some.1, λ f. absurd (false≢true (sym f ∙ e)))
 told_open heads head None t e some none = (λ f. absurd (false≢true (sym e ∙ f)), λ f. none)
 
--- the count of the head in a slot tells whether all that it directly depends on is on disk
-module _ (heads : List Head) (n s : ℕ) (d : Head) (rising : IsRising heads) (counted : AreCounted (nodes_of heads)) (slot : HasSlot heads n s) where
+-- the count of the head at an index tells whether all that it directly depends on is on disk
+module _ (heads : List Head) (n s : ℕ) (d : Head) (rising : IsRising heads) (counted : AreCounted (nodes_of heads)) (index : HasIndex heads n s) where
   abbrev h : Head
   h = get_or heads s d
 
   count : h.sums.count ≡ count_by (is_live_in (patches_of heads)) h.dependencies.items
-  count = subst (λ ps. h.sums.count ≡ count_by (is_live_in ps) h.dependencies.items) (patches_in_nodes heads) (counted (node_of h) (node_in heads s h slot.0 (any_default heads s d h slot.0)))
+  count = subst (λ ps. h.sums.count ≡ count_by (is_live_in ps) h.dependencies.items) (patches_in_nodes heads) (counted (node_of h) (node_in heads s h index.0 (any_default heads s d h index.0)))
 
   pub rests_at : eqb h.sums.count 0 ≡ true → (q : ℕ) → DirectlyOn (patches_of heads) n q → IsOnDisk (patches_of heads) q
   rests_at e q direct p c same = elim (place_decided p.place) [
     | inl disk ↦ disk
     | inr live ↦
         let passes = in_live (patches_of heads) q (record { patch = p; head = c; numbered = same; live = live }) in
-        absurd (false≢true (sym (count_none (is_live_in (patches_of heads)) h.dependencies.items (sym count ∙ eqb-true h.sums.count 0 e) q (In-from_Contains h.dependencies.items q (named_at heads n q s d rising slot direct))) ∙ passes))
+        absurd (false≢true (sym (count_none (is_live_in (patches_of heads)) h.dependencies.items (sym count ∙ eqb-true h.sums.count 0 e) q (In-from_Contains h.dependencies.items q (named_at heads n q s d rising index direct))) ∙ passes))
   ]
 
   pub waits_at : eqb h.sums.count 0 ≡ false → (q : ℕ) × DirectlyOn (patches_of heads) n q × IsLiveNumber (patches_of heads) q
   waits_at e =
       let r = one_passes (is_live_in (patches_of heads)) h.dependencies.items (λ zero_count. eqb-false h.sums.count 0 e (count ∙ zero_count)) in
-      (r.0, direct_at heads n r.0 s d slot (Contains-from_In h.dependencies.items r.0 r.1), live_in (patches_of heads) r.0 r.2)
+      (r.0, direct_at heads n r.0 s d index (Contains-from_In h.dependencies.items r.0 r.1), live_in (patches_of heads) r.0 r.2)
 
 -- the names that the row was made of: none where the head is open and rests once sealed, else the head
 pub data IsAfter (heads : List Patch) (head : ℕ) : List ℕ → Type 0 where

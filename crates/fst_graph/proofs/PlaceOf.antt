@@ -1,7 +1,7 @@
 -- The place of a number.
 use Rattle.std.proofs.{Common.{◌≡◌, ℕ, ◌==◌, ◌&&◌, nat_le, true, List, Contains, Some, None, find, Option, IfNone, refl, subst, arith}, lemmas.Bool.Decides.nat_tests}
 use Rattle.fst_types.specs.{Gates.IsGiven, Looks.place_of, Patches.{Patch, IsRising}}
-use Rattle.fst_heads.proofs.Slots.{find_patch, find_none}
+use Rattle.fst_heads.proofs.Indices.{find_patch, find_none}
 use Rattle.fst_types.specs.declared.place.Place.TheVariants as place
 
 given_test : (numbers n : ℕ) → IsGiven numbers n → (nat_le 1 n && nat_le n numbers) ≡ true

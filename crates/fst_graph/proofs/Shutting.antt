@@ -3,12 +3,12 @@ use Rattle.std.proofs.Common.{length, ◌≡◌, ◌≤◌, ◌<◌, ◌+◌, �
 use Rattle.std.proofs.lemmas.List.{length-map}
 use Rattle.std.specs.Global.{Vec}
 use Rattle.fst_types.specs.{Cascade.{IsCascadeOf, unsettled}, Gates.IsOpenNumber, Gating.sealed}
-use Rattle.fst_heads.specs.{Covers.Covering, Heads.{IsRising, patch_of, patches_of}, Keeps.Keeps, Slots.HasSlot, Nodes.{node_of, nodes_of, at_number, AreDistinct, AreLinked, AreSettled}, Pendings.Sinks, Spreading.{is_waiting, seals, wakes_sealed, IsSpreadOf, Spreading}}
+use Rattle.fst_heads.specs.{Covers.Covering, Heads.{IsRising, patch_of, patches_of}, Keeps.Keeps, Indices.HasIndex, Nodes.{node_of, nodes_of, at_number, AreDistinct, AreLinked, AreSettled}, Pendings.Sinks, Spreading.{is_waiting, seals, wakes_sealed, IsSpreadOf, Spreading}}
 use Rattle.fst_heads.specs.{Standings.AllStand, declared.head.Head.Head, declared.lists.Listed.Listed, declared.standing.Standing.Standing}
 use Rattle.fst_walks.specs.{Leveling.{IsLeveled, Leveling}, Needing.Needing, declared.ends.Ends.Ends}
 use Rattle.fst_graph.specs.{Sound.AreSound, declared.prepared.Prepared.Prepared as Stored}
 use Rattle.fst_types.proofs.{Alike.{Alike, length_alike}, Sealing.alike_sealed}
-use Rattle.fst_heads.proofs.{AtNumber.patches_in_nodes, Beside.{beside_landed, landed_few, sealed_told}, Carried.{linked_sealed, distinct_sealed}, Slots.rising_heads, Stands.stand_sealed, Starting.{starts_sealed, unsettled_sealed}}
+use Rattle.fst_heads.proofs.{AtNumber.patches_in_nodes, Beside.{beside_landed, landed_few, sealed_told}, Carried.{linked_sealed, distinct_sealed}, Indices.rising_heads, Stands.stand_sealed, Starting.{starts_sealed, unsettled_sealed}}
 use Rattle.fst_walks.proofs.Seen.{seen, one_each, lawful_nodes, tallies_wider}
 use Rattle.fst_graph.proofs.{Borne.{inside_nodes, open_nodes}, Kept.{covered_moved, keeps_sealed}, NeedsNow.needing_sealed, Ranks.leveled_moved, Sound.as_many_standings, Tallied.tallies_sealed}
 
@@ -52,10 +52,10 @@ module _ {heads : Vec Head} {ends : Ends} {levels : Leveling} {needs : Needing} 
     keeps_shut = keeps_sealed (patches_of heads.items) (patches_of new.items) numbers blocks g ends.up.walk.marks ends.up.walk.marks S.keeps gate shut_cascade refl
 
     -- the gate may come down from the top
-    pub shut_settles : {slot : ℕ} → HasSlot heads.items g slot → record { rising : IsRising new.items; slot : slot < length new.items; leveled : IsLeveled (patches_of new.items) (length levels.floors) levels }
+    pub shut_settles : {index : ℕ} → HasIndex heads.items g index → record { rising : IsRising new.items; index : index < length new.items; leveled : IsLeveled (patches_of new.items) (length levels.floors) levels }
     shut_settles at = record {
       rising = rising_heads new.items keeps_shut.lawful.one_place_each.rising;
-      slot = let lt = at.0 in omega (arith, lt, length_alike (patches_of heads.items) (patches_of new.items) alike_shut, length-map heads.items patch_of, length-map new.items patch_of);
+      index = let lt = at.0 in omega (arith, lt, length_alike (patches_of heads.items) (patches_of new.items) alike_shut, length-map heads.items patch_of, length-map new.items patch_of);
       leveled = subst (λ n. IsLeveled (patches_of new.items) n levels) (sym S.leveled.long) (leveled_moved alike_shut S.leveled);
     }
 

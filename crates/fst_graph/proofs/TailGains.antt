@@ -10,7 +10,7 @@ use Rattle.fst_graph.specs.{declared.prepared.Gates.Gates, declared.prepared.Pre
 use Rattle.fst_types.proofs.{NewChange.IsWithin, SmallStates.only_in}
 use Rattle.fst_heads.proofs.{Graded.depends_under, Touching.touched_overlaps}
 use Rattle.fst_walks.proofs.Overlapped.{touched_no_gate}
-use Rattle.fst_graph.proofs.{GateSlot.open_not_sealed, Readied.{head_told, ready_member}}
+use Rattle.fst_graph.proofs.{GateIndex.open_not_sealed, Readied.{head_told, ready_member}}
 use Rattle.fst_types.specs.declared.grade.Grade.TheVariants as grade
 use Rattle.fst_types.proofs.Numbers.{memory_disk}
 

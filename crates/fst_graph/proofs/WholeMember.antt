@@ -4,7 +4,7 @@ use Rattle.fst_types.specs.{Bytes.content_of, Cascade.IsCascadeOf, Events.MadeCh
 use Rattle.fst_types.specs.{Making.ChangeIsMade, Patches.{Kind, Change, Patch, IsRising}, declared.grade.Grade.Grade}
 use Rattle.fst_graph.specs.{Rows.{row_of_kind, whole, whole_row, AreWhole, with_row}, Sparse.{SparseChangeIsMade, SparseMemberIsMade}}
 use Rattle.fst_types.proofs.{Crash.same_number, Finite.{In, Contains-from_In}, Loosened.loosened, OneChange.changes_fixed, OneList.cascade_same, Sealing.heads_sealed}
-use Rattle.fst_heads.proofs.Slots.{find_patch}
+use Rattle.fst_heads.proofs.Indices.{find_patch}
 use Rattle.fst_graph.proofs.WholeChange.{change_is, change_over, rising_whole, lawful_row, row_pushed, row_gained}
 use Rattle.fst_graph.proofs.{WholeRows.{sealed_whole, begun_whole, gains_whole}, Wholes.{cascade_whole, swap_sealed, open_number}}
 

@@ -25,9 +25,9 @@ pub record AreKept (groups : List Kept) : Type 0 where
   pub begun : All IsToldBegun groups
   pub narrow : All (λ g. g.head < 4294967295) groups
 
--- the group in the slot has this number
-abbrev pub HasGroupSlot : List Kept → ℕ → ℕ → Type 0
-HasGroupSlot groups number slot = (slot < length groups) × ((d : Kept) → (slice_index_or groups slot d).head ≡ number)
+-- the group at the index has this number
+abbrev pub HasGroupIndex : List Kept → ℕ → ℕ → Type 0
+HasGroupIndex groups number index = (index < length groups) × ((d : Kept) → (slice_index_or groups index d).head ≡ number)
 
 -- no group has this number
 abbrev pub HasNoGroup : List Kept → ℕ → Type 0

@@ -10,7 +10,7 @@ ghost use Rattle.fst_types.specs.Facts.{IsOnDiskWithAll};
 ghost use Rattle.fst_types.specs.Gates.{IsOpenNumber};
 ghost use Rattle.fst_heads.specs.Heads.{IsRising, patches_of};
 ghost use Rattle.fst_heads.specs.Names.{numbers_of};
-ghost use Rattle.fst_heads.specs.Slots.{HasSlot};
+ghost use Rattle.fst_heads.specs.Indices.{HasIndex};
 ghost use Rattle.fst_heads.specs.Nodes.{Node, AreDistinct, AreLinked, is_forgotten_in, nodes_of, pending_in, at_number, gains_names, linked_to};
 ghost use Rattle.fst_heads.specs.Pendings.{Fits, sums_of};
 ghost use Rattle.fst_heads.specs.Spreading.{is_waiting};
@@ -20,33 +20,33 @@ ghost use Rattle.fst_walks.specs.Searching.{AreOver, TellsGates};
 
 use fst_heads::growth::{gain, missing_names};
 use fst_heads::head::{Head, Kind};
+use fst_heads::index::index_of;
 use fst_heads::links::{link, reserve_above};
 use fst_heads::row::{is_given, names_unknown, row_sums};
-use fst_heads::slot::slot_of;
 use fst_types::{Fault, MAX_NAMES, PatchNo};
 use fst_walks::cycle::closes_cycle;
 use fst_walks::ends::Ends;
 use std::alloc::{AllocError, Global};
 
-/// The slot of an open gate, or why it is none: the number was not given, it is no gate's or forgotten, or the gate is sealed.
-pub fn gate_slot(heads: &[Head], numbers: u32, gate: u32) -> Result<usize, Fault>
+/// The index of an open gate, or why it is none: the number was not given, it is no gate's or forgotten, or the gate is sealed.
+pub fn gate_index(heads: &[Head], numbers: u32, gate: u32) -> Result<usize, Fault>
     requires { IsRising heads.now }
     ensures refused { IfErr result (IsFirst (seal_order (remembered_of heads.now) numbers gate)) }
-    ensures slot { IfOk result (HasSlot heads.now gate) }
+    ensures index { IfOk result (HasIndex heads.now gate) }
     ensures clear { IfOk result (λ _. NoneHolds (seal_order (patches_of heads.now) numbers gate)) }
     ensures is_open { IfOk result (λ _. IsOpenNumber (patches_of heads.now) gate) }
 {
     if !is_given(numbers, gate) {
         return Err(Fault::NoPatch);
     }
-    let Some(slot) = slot_of(heads, gate) else {
+    let Some(index) = index_of(heads, gate) else {
         return Err(Fault::NotGate);
     };
-    if heads[slot].forgotten {
+    if heads[index].forgotten {
         return Err(Fault::NotGate);
     }
-    match heads[slot].kind {
-        Kind::OpenGate => Ok(slot),
+    match heads[index].kind {
+        Kind::OpenGate => Ok(index),
         Kind::SealedGate => Err(Fault::Sealed),
         Kind::Change(_, _, _) => Err(Fault::NotGate),
         Kind::Empty => Err(Fault::NotGate),
@@ -73,8 +73,8 @@ pub fn depend_fault(
     ensures over { AreOver heads.now ends.new }
     ensures crossed { (ends.new.up.crossed ≡ ends.old.up.crossed) × (ends.new.down.crossed ≡ ends.old.down.crossed) }
 {
-    let slot = match gate_slot(heads, numbers, gate) {
-        Ok(slot) => slot,
+    let index = match gate_index(heads, numbers, gate) {
+        Ok(index) => index,
         Err(fault) => return Some(fault),
     };
     if on.len() > MAX_NAMES {
@@ -83,7 +83,7 @@ pub fn depend_fault(
     if names_unknown(numbers, on) {
         return Some(Fault::NoPatch);
     }
-    if closes_cycle(heads, ends, slot, gate, on) {
+    if closes_cycle(heads, ends, index, gate, on) {
         return Some(Fault::Cycle);
     }
     None

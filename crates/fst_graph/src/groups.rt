@@ -5,7 +5,7 @@ ghost use Rattle.fst_types.specs.Groups.{Group as View, IsGroup, IsGroupNumber, 
 ghost use Rattle.fst_types.specs.Grouping.{new_group};
 ghost use Rattle.fst_types.specs.Order.{group_close_order};
 ghost use Rattle.fst_types.specs.Refusals.{IsFirst, NoneHolds};
-ghost use Rattle.fst_graph.specs.Gathered.{group_of, groups_of, AreKept, HasGroupSlot, HasNoGroup, IsToldBegun};
+ghost use Rattle.fst_graph.specs.Gathered.{group_of, groups_of, AreKept, HasGroupIndex, HasNoGroup, IsToldBegun};
 ghost use Rattle.fst_graph.specs.Grouping.{unstarted_order};
 
 use crate::group::{Group, no_numbers, with_number};
@@ -30,14 +30,14 @@ impl Model for Groups {
     ghost invariant = { λ g. AreKept g.items.items };
 }
 
-// The slot of the group with this number.
-fn slot_of_group(groups: &[Group], number: u32) -> Option<usize>
+// The index of the group with this number.
+fn index_of_group(groups: &[Group], number: u32) -> Option<usize>
     requires { AreKept groups.now }
-    ensures found { IfSome result (λ slot. HasGroupSlot groups.now number slot) }
+    ensures found { IfSome result (λ index. HasGroupIndex groups.now number index) }
     ensures none { IfNone result (HasNoGroup groups.now number) }
 {
     match groups.binary_search_by_key(&number, |group| group.head) {
-        Ok(slot) => Some(slot),
+        Ok(index) => Some(index),
         Err(_) => None,
     }
 }
@@ -47,7 +47,7 @@ fn is_group(groups: &[Group], number: u32) -> bool
     requires { AreKept groups.now }
     ensures { IsTrue result ↔ IsGroupNumber (groups_of groups.now) number }
 {
-    match slot_of_group(groups, number) {
+    match index_of_group(groups, number) {
         Some(_) => true,
         None => false,
     }
@@ -78,8 +78,8 @@ impl Groups {
         ensures narrow { IfSome result (λ g. number < 4294967295) }
         ensures none { IfNone result (IsGroupNumber self.now.items number → ⊥) }
     {
-        match slot_of_group(&self.items, number) {
-            Some(slot) => Some(&self.items[slot]),
+        match index_of_group(&self.items, number) {
+            Some(index) => Some(&self.items[index]),
             None => None,
         }
     }
@@ -158,8 +158,8 @@ impl Groups {
     pub fn note_member(&mut self, group: u32, change: u32)
         ensures { self.new.items ≡ with_group self.old.items group (λ g. record g { members = g.members ++ change ∷ [] }) }
     {
-        if let Some(slot) = slot_of_group(&self.items, group) {
-            let group = &mut self.items[slot];
+        if let Some(index) = index_of_group(&self.items, group) {
+            let group = &mut self.items[index];
             group.begun = true;
             group.members = with_number(&group.members, change);
         }
@@ -169,8 +169,8 @@ impl Groups {
     pub fn note_after(&mut self, group: u32, other: u32)
         ensures { self.new.items ≡ with_group self.old.items group (λ g. record g { after = g.after ++ other ∷ [] }) }
     {
-        if let Some(slot) = slot_of_group(&self.items, group) {
-            let group = &mut self.items[slot];
+        if let Some(index) = index_of_group(&self.items, group) {
+            let group = &mut self.items[index];
             group.after = with_number(&group.after, other);
         }
     }
@@ -179,8 +179,8 @@ impl Groups {
     pub fn close(&mut self, group: u32)
         ensures { self.new.items ≡ with_group self.old.items group (λ g. record g { closed = true }) }
     {
-        if let Some(slot) = slot_of_group(&self.items, group) {
-            self.items[slot].closed = true;
+        if let Some(index) = index_of_group(&self.items, group) {
+            self.items[index].closed = true;
         }
     }
 }

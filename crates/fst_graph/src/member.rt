@@ -18,7 +18,7 @@ ghost use Rattle.fst_walks.specs.Telling.{IsTold};
 
 use crate::prepared::{Gates, Prepared, copy_of};
 use fst_heads::head::Head;
-use fst_heads::slot::slot_of;
+use fst_heads::index::index_of;
 use fst_heads::sparse::{Wanted, sparse_row};
 use fst_heads::test::Test;
 use fst_types::{PatchNo, Span};
@@ -48,8 +48,8 @@ fn rests(heads: &[Head], number: u32) -> bool
     ensures rests { IsTrue result → (q : ℕ) → DirectlyOn (patches_of heads.now) number q → IsOnDisk (patches_of heads.now) q }
     ensures waits { result ≡ false → (q : ℕ) × DirectlyOn (patches_of heads.now) number q × IsLiveNumber (patches_of heads.now) q }
 {
-    match slot_of(heads, number) {
-        Some(slot) => heads[slot].sums.count == 0,
+    match index_of(heads, number) {
+        Some(index) => heads[index].sums.count == 0,
         None => true,
     }
 }

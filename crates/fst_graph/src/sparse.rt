@@ -19,9 +19,9 @@ mod making;
 mod pairs;
 mod reserving;
 
-use crate::gates::{depend_fault, gain_names, gate_slot};
+use crate::gates::{depend_fault, gain_names, gate_index};
 use crate::prepared::{Prepared, let_go};
-use fst_heads::cascade::{cascade, seal_slot};
+use fst_heads::cascade::{cascade, seal_at};
 use fst_heads::choice::{first_held, ready_set};
 use fst_heads::cover::{Cover, empty_covers};
 use fst_heads::head::Head;
@@ -156,7 +156,7 @@ impl Sparse {
             return None;
         }
         match self.levels.find(&self.heads, no.0) {
-            Some(slot) => Some(self.heads[slot].place),
+            Some(index) => Some(self.heads[index].place),
             None => Some(Place::Disk),
         }
     }
@@ -183,18 +183,18 @@ impl Sparse {
         ensures blocks { self.new.blocks ≡ self.old.blocks }
     {
         let_go(&mut self.prepared);
-        let slot = match gate_slot(&self.heads, self.numbers, gate.0) {
-            Ok(slot) => slot,
+        let index = match gate_index(&self.heads, self.numbers, gate.0) {
+            Ok(index) => index,
             Err(fault) => return Err(fault),
         };
-        seal_slot(&mut self.heads, &mut self.queue, gate.0, slot);
+        seal_at(&mut self.heads, &mut self.queue, gate.0, index);
         let landed = cascade(
             &mut self.heads,
             &mut self.queue,
             &mut self.standings,
             &mut self.landed,
         );
-        self.levels.settle(&self.heads, slot);
+        self.levels.settle(&self.heads, index);
         // The tail gate of a group gained its changes without a look at its ancestors, and gains no more.
         renew(&mut self.levels, &self.heads, gate.0);
         self.live -= landed;

@@ -1,6 +1,6 @@
--- A change of the head in one slot, seen as a change of the node with its number.
+-- A change of the head at one index, seen as a change of the node with its number.
 use Rattle.fst_heads.proofs.Basics.{◌≡◌, ◌≢◌, ℕ, zero, suc, List, [], ◌∷◌, map, get_or, set, refl, sym, ◌∙◌, arith, eq-eqb, ne_eqb}
-use Rattle.fst_heads.proofs.Words.{Head, IsRising, patches_of, HasSlot, HasNone, Node, node_of, nodes_of, patches_in, at_number}
+use Rattle.fst_heads.proofs.Words.{Head, IsRising, patches_of, HasIndex, HasNone, Node, node_of, nodes_of, patches_in, at_number}
 
 pub at_other : (n : ℕ) (f : Node → Node) (x : Node) → x.patch.number ≢ n → at_number n f x ≡ x
 at_other n f x ne = rw (ne_eqb x.patch.number n ne) refl
@@ -16,19 +16,19 @@ at_none (h ∷ hs) n f none =
     let rest = at_none hs n f (λ k d lt. none (suc k) d (omega (arith, lt))) in
     cc
 
-pub at_slot : (heads : List Head) (n s : ℕ) (f : Node → Node) (y d : Head) → IsRising heads → HasSlot heads n s
+pub at_index : (heads : List Head) (n s : ℕ) (f : Node → Node) (y d : Head) → IsRising heads → HasIndex heads n s
     → node_of y ≡ f (node_of (get_or heads s d))
     → nodes_of (set heads s y) ≡ map (at_number n f) (nodes_of heads)
-at_slot [] n s f y d rising slot e = absurd (omega (arith, slot.0))
-at_slot (h ∷ hs) n zero f y d rising slot e =
-    let first : node_of y ≡ at_number n f (node_of h) = e ∙ sym (at_same n f (node_of h) (slot.1 d)) in
-    let rest = at_none hs n f (λ k c lt same. let r = rising 0 (suc k) c (omega arith) (omega (arith, lt)) in let here = slot.1 d in omega (arith, r, same, here)) in
+at_index [] n s f y d rising index e = absurd (omega (arith, index.0))
+at_index (h ∷ hs) n zero f y d rising index e =
+    let first : node_of y ≡ at_number n f (node_of h) = e ∙ sym (at_same n f (node_of h) (index.1 d)) in
+    let rest = at_none hs n f (λ k c lt same. let r = rising 0 (suc k) c (omega arith) (omega (arith, lt)) in let here = index.1 d in omega (arith, r, same, here)) in
     cc
-at_slot (h ∷ hs) n (suc s) f y d rising slot e =
-    let inside = slot.0 in
+at_index (h ∷ hs) n (suc s) f y d rising index e =
+    let inside = index.0 in
     let below = rising 0 (suc s) d (omega arith) inside in
-    let first = sym (at_other n f (node_of h) (λ same. omega (arith, same, below, slot.1 d))) in
-    let rest = at_slot hs n s f y d (λ i j c lt b. rising (suc i) (suc j) c (omega (arith, lt)) (omega (arith, b))) (omega (arith, inside), slot.1) e in
+    let first = sym (at_other n f (node_of h) (λ same. omega (arith, same, below, index.1 d))) in
+    let rest = at_index hs n s f y d (λ i j c lt b. rising (suc i) (suc j) c (omega (arith, lt)) (omega (arith, b))) (omega (arith, inside), index.1) e in
     cc
 
 pub patches_in_nodes : (heads : List Head) → patches_in (nodes_of heads) ≡ patches_of heads

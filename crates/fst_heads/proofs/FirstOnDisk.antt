@@ -4,7 +4,7 @@ use Rattle.std.specs.List.{prefix_len}
 use Rattle.std.proofs.lemmas.List.{length-take}
 use Rattle.std.proofs.lemmas.List.Sums.{prefix_len_passes, prefix_len_stops, prefix_len-le-length, count_by_more_yes, count_by_more_no}
 use Rattle.std.proofs.lemmas.List.Filters.{FiltersInPlace, FiltersInPlace-more_here}
-use Rattle.fst_heads.proofs.{CountsAs.count_cons, Slots.{any_default, some_element}}
+use Rattle.fst_heads.proofs.{CountsAs.count_cons, Indices.{any_default, some_element}}
 use Rattle.fst_heads.proofs.Patches.{is_live}
 use Rattle.fst_heads.proofs.Words.{Head, patch_of, patches_of}
 
@@ -34,7 +34,7 @@ module _ {X : Type 0} (p : X → Bool) where
     | inr f ↦ absurd (omega (arith, e, count_cons p x (take k xs), ap {B = ℕ} (λ b. cond b 1 0) f, taken_few xs k))
   ]
 
-  -- each before the low slot passes, and so many below the high slot; where these are all the first that does not pass is met
+  -- each before the low index passes, and so many below the high index; where these are all the first that does not pass is met
   pub record IsBetween (xs : List X) (low high below : ℕ) : Type 0 where
     pub inside : high ≤ length xs
     pub front : low ≤ prefix_len p xs
@@ -120,7 +120,7 @@ module _ (heads : List Head) (low high below : ℕ) (h : IsBetween is_live (patc
   high_inside : high - 1 < length heads
   high_inside = omega (arith, h.inside, more, length-map heads patch_of)
 
-  -- the head in a slot passes as its patch does
+  -- the head at an index passes as its patch does
   read : (s : ℕ) (x : Head) → s < length heads → x ≡ get_or heads s x → is_live (get_or (patches_of heads) s (patch_of x)) ≡ is_live (patch_of x)
   read s x lt is = live_read heads s x lt ∙ sym (ap (λ h. is_live (patch_of h)) is)
 

@@ -1,8 +1,8 @@
 -- Where patches are forgotten whose heads are kept.
 use Rattle.fst_heads.proofs.Basics.{◌≡◌, ◌≢◌, ◌<◌, ◌+◌, ◌==◌, ◌&&◌, ◌||◌, ◌++◌, ◌∷◌, [], ◌∙◌, ℕ, Bool, true, false, not, cond, List, length, map, filter, count_by, get_or, set, Contains, AllPairs, if◌then◌else◌, refl, sym, ap, subst, inl, inr, arith, cases_Bool, cases_eq, and_parts, and_from, or-false, false≢true, eq-eqb, eqb-true, ne_eqb, length-map, length-filter, AllPairs-filter}
 use Rattle.fst_heads.proofs.Patches.{is_among, is_live, among_in, in_among, filter_in, in_filter, In, In-map, In-unmap, In-from_Contains, Contains-from_In}
-use Rattle.fst_heads.proofs.Words.{Head, IsRising, HasSlot, HasNone, Node, node_of, nodes_of, patches_in, at_number, is_pending, is_waiting, is_forgotten_in, AreSettled, AreLanded, flags, is_landed}
-use Rattle.fst_heads.proofs.{AtNumber.{at_none, at_other, at_same, at_slot}, Beside.{is_nothing, waiting_is}, CountsAs.{count_cons, count_map, count_nothing}, Slots.rising_map}
+use Rattle.fst_heads.proofs.Words.{Head, IsRising, HasIndex, HasNone, Node, node_of, nodes_of, patches_in, at_number, is_pending, is_waiting, is_forgotten_in, AreSettled, AreLanded, flags, is_landed}
+use Rattle.fst_heads.proofs.{AtNumber.{at_index, at_none, at_other, at_same}, Beside.{is_nothing, waiting_is}, CountsAs.{count_cons, count_map, count_nothing}, Indices.rising_map}
 use Rattle.fst_heads.proofs.{Linking.{map_twice, rising_as}, Placed.{among_append, map_alike, unmapped}, Waiting.{once_fits, same_node}}
 use Rattle.fst_heads.proofs.Words.pending
 
@@ -14,9 +14,9 @@ goes x = record x { forgotten = true }
 one_flagged : (n : ℕ) (x : Node) → at_number n goes x ≡ flags (n ∷ []) x
 one_flagged n x = grind (arith, cases_eq, at_same, eq-eqb, at_other, ne_eqb)
 
-pub flagged_slot : (heads : List Head) (n s : ℕ) (y d : Head) → IsRising heads → HasSlot heads n s → node_of y ≡ goes (node_of (get_or heads s d))
+pub flagged_index : (heads : List Head) (n s : ℕ) (y d : Head) → IsRising heads → HasIndex heads n s → node_of y ≡ goes (node_of (get_or heads s d))
     → nodes_of (set heads s y) ≡ map (flags (n ∷ [])) (nodes_of heads)
-flagged_slot heads n s y d rising slot e = at_slot heads n s goes y d rising slot e ∙ map_alike (at_number n goes) (flags (n ∷ [])) (nodes_of heads) (λ x _. one_flagged n x)
+flagged_index heads n s y d rising index e = at_index heads n s goes y d rising index e ∙ map_alike (at_number n goes) (flags (n ∷ [])) (nodes_of heads) (λ x _. one_flagged n x)
 
 pub flagged_none : (heads : List Head) (n : ℕ) → HasNone heads n → nodes_of heads ≡ map (flags (n ∷ [])) (nodes_of heads)
 flagged_none heads n none = at_none heads n goes none ∙ map_alike (at_number n goes) (flags (n ∷ [])) (nodes_of heads) (λ x _. one_flagged n x)

@@ -1,7 +1,7 @@
 -- A head that was changed but for its number and its rows.
 use Rattle.fst_heads.proofs.Basics.{◌≡◌, ◌≢◌, ◌++◌, ℕ, zero, suc, ◌<◌, List, [], ◌∷◌, length, get_or, set, Contains, refl, sym, ap, subst, ◌∙◌, inl, inr, arith, Contains-push_cases, HasRoomFor, rules}
-use Rattle.fst_heads.proofs.{Patches.{In, In-from_Contains, Contains-from_In}, Words.{Head, frame_of, frames_of, HasRoomBelow, IsRising, HasSlot, HasRoomAbove}}
-use Rattle.fst_heads.proofs.{Linking.set_cases, Slots.{any_default, slot_unique}}
+use Rattle.fst_heads.proofs.{Patches.{In, In-from_Contains, Contains-from_In}, Words.{Head, frame_of, frames_of, HasRoomBelow, IsRising, HasIndex, HasRoomAbove}}
+use Rattle.fst_heads.proofs.{Linking.set_cases, Indices.{any_default, index_unique}}
 
 pub frames_set : (heads : List Head) (s : ℕ) (y d : Head) → s < length heads → frame_of y ≡ frame_of (get_or heads s d) → frames_of (set heads s y) ≡ frames_of heads
 frames_set [] s y d lt e = absurd (omega (arith, lt))
@@ -28,12 +28,12 @@ room_below new old e n room h c named =
     let k = framed new old e h (In-from_Contains new h c) in
     subst (λ v. HasRoomFor v 1) (sym (ap (λ f. f.1) k.2)) (room k.0 (Contains-from_In old k.0 k.1) (sym (ap (λ f. f.0) k.2) ∙ named))
 
--- with more room for the direct dependencies of the head in one slot
-module _ (heads : List Head) (n s : ℕ) (y : Head) (rising : IsRising heads) (slot : HasSlot heads n s) where
+-- with more room for the direct dependencies of the head at one index
+module _ (heads : List Head) (n s : ℕ) (y : Head) (rising : IsRising heads) (index : HasIndex heads n s) where
   pub below_set : HasRoomFor y.dependencies 1 → HasRoomBelow (set heads s y) n
-  below_set room h c named = elim (set_cases heads s y h slot.0 c) [
+  below_set room h c named = elim (set_cases heads s y h index.0 c) [
     | inl same ↦ subst (λ (k : Head). HasRoomFor k.dependencies 1) same room
-    | inr other ↦ absurd (other.2 (slot_unique heads n other.0 s rising (other.1, λ d. ap (λ k. k.number) (any_default heads other.0 d h other.1 ∙ other.3) ∙ named) slot))
+    | inr other ↦ absurd (other.2 (index_unique heads n other.0 s rising (other.1, λ d. ap (λ k. k.number) (any_default heads other.0 d h other.1 ∙ other.3) ∙ named) index))
   ]
 
 -- the direct dependencies of all heads have the room that they had

@@ -2,7 +2,7 @@
 use Rattle.std.proofs.lemmas.Option.{same_Some}
 use Rattle.fst_heads.proofs.Basics.{◌≡◌, ◌≢◌, ℕ, ◌+◌, ◌≤◌, eqb, true, List, [], ◌∷◌, ◌++◌, Contains, Some, None, refl, sym, ap, subst, ◌∙◌, inl, inr, arith, eqb-true, eqb-false, eq-eqb, ne_eqb, false≢true, not-true, Contains-append_left, Contains-push, Contains-push_cases, and_parts, rules}
 use Rattle.fst_heads.proofs.Patches.{Place, Grade, Kind, Change, OpenGate, Patch, block_of_kind, DirectlyOn, DependsOn, IsOpenNumber, IsGradedHard, FollowsRule, fresh, first_step, IsWithin, old_head, target_small, depends_old, needs_old}
-use Rattle.fst_heads.proofs.{Words.{PassesAt, kind_passes, HasUnder, IsReturning, IsLeading, MayBeHard}, Slots.{live_place, place_live}}
+use Rattle.fst_heads.proofs.{Words.{PassesAt, kind_passes, HasUnder, IsReturning, IsLeading, MayBeHard}, Indices.{live_place, place_live}}
 use Rattle.fst_types.specs.Closure.{one, join}
 use Rattle.fst_heads.proofs.Patches.place
 use Rattle.fst_heads.specs.declared.test.Test.TheVariants as test

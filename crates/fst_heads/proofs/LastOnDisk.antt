@@ -5,7 +5,7 @@ use Rattle.std.proofs.lemmas.List.{get_or-drop}
 use Rattle.std.proofs.lemmas.List.Sums.{prefix_len_passes, prefix_len-le-length, sum_by-drop_more, sum_by-take-drop}
 use Rattle.std.proofs.lemmas.List.Filters.{FiltersInPlace}
 use Rattle.fst_heads.specs.Spans.{SpansDisk}
-use Rattle.fst_heads.proofs.{CountsAs.count_cons, FirstOnDisk.{all_counted, counted_all, live_head, live_read}, Slots.{any_default}}
+use Rattle.fst_heads.proofs.{CountsAs.count_cons, FirstOnDisk.{all_counted, counted_all, live_head, live_read}, Indices.{any_default}}
 use Rattle.fst_heads.proofs.Patches.{is_live}
 use Rattle.fst_heads.proofs.Words.{Head, patch_of, patches_of}
 
@@ -32,7 +32,7 @@ module _ {X : Type 0} (p : X → Bool) where
     behind_read : ((k : ℕ) (d : X) → from ≤ k → k < length xs → p (get_or xs k d) ≡ true) → (k : ℕ) (d : X) → k < length (drop from xs) → p (get_or (drop from xs) k d) ≡ true
     behind_read each k d lt = ap p (get_or-drop from xs k d) ∙ each (from + k) d (omega arith) (omega (arith, lt, length-drop from xs))
 
-    -- of the elements from a slot on
+    -- of the elements from an index on
     behind_counted : ((k : ℕ) (d : X) → from ≤ k → k < length xs → p (get_or xs k d) ≡ true) → count_by p (drop from xs) ≡ length xs - from
     behind_counted each = passing_counted (drop from xs) (behind_read each) ∙ length-drop from xs
 
@@ -50,7 +50,7 @@ module _ {X : Type 0} (p : X → Bool) where
       ∙ (ap (λ l. filter p (take i xs) ++ l) (h.rest ∙ sym (passing_stay (drop i xs) (behind_read xs i each)))
       ∙ (sym (filter-append p (take i xs) (drop i xs)) ∙ ap (filter p) (take-append-drop i xs)))
 
-  -- so many of those from the low slot on do not pass, none of them from the high slot on; where there are no more the last was met
+  -- so many of those from the low index on do not pass, none of them from the high index on; where there are no more the last was met
   pub record IsLastBetween (xs : List X) (first low high left : ℕ) : Type 0 where
     pub begins : first ≤ low
     pub ordered : low ≤ high
@@ -77,7 +77,7 @@ module _ {X : Type 0} (p : X → Bool) where
         | inr le ↦ absurd (omega (arith, more, h.counted, behind_counted xs low (λ k d from lt. h.behind k d (omega (arith, le, from)) lt)))
       ]
 
-      -- the last before the high slot passes
+      -- the last before the high index passes
       pub last_shrunk : (e : X) → p (get_or xs (high - 1) e) ≡ true → IsLastBetween xs first low (high - 1) left
       last_shrunk e live = record {
         begins = h.begins;
@@ -96,7 +96,7 @@ module _ {X : Type 0} (p : X → Bool) where
       low_counted : (d : X) → count_by p (drop low xs) ≡ cond (p (get_or xs low d)) 1 0 + count_by p (drop (low + 1) xs)
       low_counted d = sum_by-drop_more weight xs low d (omega (arith, last_apart, h.inside))
 
-      -- and the low slot is gone past
+      -- and the low index is gone past
       pub last_yes : (d : X) → p (get_or xs low d) ≡ true → IsLastBetween xs first (low + 1) high left
       last_yes d live = record {
         begins = omega (arith, h.begins);
@@ -145,7 +145,7 @@ module _ (heads : List Head) (first : ℕ) (is : first ≡ prefix_len is_live (p
       pub disk_inside : high ≤ length heads
       disk_inside = omega (arith, h.inside, length-map heads patch_of)
 
-      -- the head in a slot passes as its patch does
+      -- the head at an index passes as its patch does
       read : (s : ℕ) (x : Head) (b : Bool) → s < length heads → x ≡ get_or heads s x → is_live (patch_of x) ≡ b → is_live (get_or (patches_of heads) s (patch_of x)) ≡ b
       read s x b lt same e = live_read heads s x lt ∙ (sym (ap (λ h. is_live (patch_of h)) same) ∙ e)
 

@@ -2,7 +2,7 @@
 use Rattle.fst_heads.proofs.Basics.{◌≡◌, ◌⊎◌, ◌<◌, ◌==◌, ℕ, Bool, true, false, List, [], ◌∷◌, Some, map, filter, AllPairs, if◌then◌else◌, refl, sym, ap, subst, ◌∙◌, inl, inr, arith, cases_Bool, cases_eq, and_parts, and_from, both_ways, false_from_ne_true, eq-eqb, ne_eqb}
 use Rattle.fst_heads.proofs.Patches.{SparseAreLawful, Kind, Change, block_of_kind, is_change_at, launched, filter_in, in_filter, In, In-map, In-unmap, In-from_Contains, Contains-from_In, no_follower_on}
 use Rattle.fst_heads.proofs.Words.{Head, patches_of, nodes_of, Pending, IsInside, Node, patches_in, pending_in, AreSettled, IsOf, join, joined_sums, of_kind, Rises, Spreading, IsRisenOf, unrisen, now, is_told, launches, is_ready_on, is_held_on, ready_on, held_on, is_pending}
-use Rattle.fst_heads.proofs.{AtNumber.patches_in_nodes, Going.{rises_way}, Joining.{meet_same, meet_other}, Pended.now_at_rest, Placed.{patches_launched, launches_number, launched_links}, Slots.rising_back}
+use Rattle.fst_heads.proofs.{AtNumber.patches_in_nodes, Going.{rises_way}, Joining.{meet_same, meet_other}, Pended.now_at_rest, Placed.{patches_launched, launches_number, launched_links}, Indices.rising_back}
 use Rattle.fst_heads.proofs.{Stands.{goes, stays, none_ready, held_as, launched_other}, Starting.{Begins, Sound, begun, sound_at_rest, settled_spread, numbers_once, stays_told}, Turning.{same_pending, not_told, untold}, Waiting.{map_twice, pending_of, pending_node, pending_mapped}}
 use Rattle.fst_types.proofs.Landing.{change_at}
 use Rattle.fst_heads.proofs.Patches.place

@@ -1,7 +1,7 @@
 pub mod Basics
 pub mod Patches
 pub mod Words
-pub mod Slots
+pub mod Indices
 pub mod Rows
 pub mod Making
 pub mod Runs
@@ -37,7 +37,7 @@ pub mod Rising
 pub mod Carried
 pub mod Passing
 pub mod Landing
-pub mod Slotted
+pub mod Indexed
 pub mod Beside
 pub mod Framed
 pub mod FirstOnDisk

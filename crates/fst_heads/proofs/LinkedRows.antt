@@ -1,10 +1,10 @@
 -- A direct dependency is told from both sides: by the row of the one patch, and by the dependants of the other.
 use Rattle.fst_heads.proofs.Basics.{◌≡◌, ◌<◌, ℕ, List, get_or, Contains, true, sym, subst}
 use Rattle.fst_heads.proofs.Patches.{is_among, among_in, in_among, In, DirectlyOn}
-use Rattle.fst_heads.proofs.Words.{Head, IsRising, patches_of, HasSlot, AreLinked, node_of, nodes_of}
-use Rattle.fst_heads.proofs.{PendingAt.node_in, Rows.{direct_from, direct_to}, Slots.any_default, Waiting.{times_some, some_times}}
+use Rattle.fst_heads.proofs.Words.{Head, IsRising, patches_of, HasIndex, AreLinked, node_of, nodes_of}
+use Rattle.fst_heads.proofs.{PendingAt.node_in, Rows.{direct_from, direct_to}, Indices.any_default, Waiting.{times_some, some_times}}
 
-module _ (heads : List Head) (rising : IsRising heads) (linked : AreLinked (nodes_of heads)) (p q s t : ℕ) (d e : Head) (over : HasSlot heads p s) (under : HasSlot heads q t) where
+module _ (heads : List Head) (rising : IsRising heads) (linked : AreLinked (nodes_of heads)) (p q s t : ℕ) (d e : Head) (over : HasIndex heads p s) (under : HasIndex heads q t) where
   abbrev one : Head
   one = get_or heads s d
 

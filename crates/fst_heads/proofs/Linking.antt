@@ -1,8 +1,8 @@
 -- Loops along a row that change the head of each of its numbers.
 use Rattle.fst_heads.proofs.Basics.{cond_both, map-id, ◌≡◌, ◌≢◌, ◌⊎◌, ℕ, zero, suc, ◌+◌, ◌<◌, ◌≤◌, true, false, List, [], ◌∷◌, ◌++◌, take, length, map, get_or, set, Contains, refl, sym, ap, subst, ◌∙◌, inl, inr, arith, get_or-set_same, get_or-set_other, IsStrictlyIncreasing, or-true, AllPairs, length-set}
 use Rattle.fst_heads.proofs.{Basics.{cases_eq, eq-eqb, ne_eqb, take_more, AllPairs-from_increasing, HasRoomFor}, Patches.{is_among, In}}
-use Rattle.fst_heads.proofs.Words.{Head, IsRising, HasSlot, HasNone, Node, node_of, nodes_of, at_number, linked_to, HasRoomAbove}
-use Rattle.fst_heads.proofs.{AtNumber.{at_other, at_same}, Slots.{any_default, slot_unique, rising_map, rising_back}}
+use Rattle.fst_heads.proofs.Words.{Head, IsRising, HasIndex, HasNone, Node, node_of, nodes_of, at_number, linked_to, HasRoomAbove}
+use Rattle.fst_heads.proofs.{AtNumber.{at_other, at_same}, Indices.{any_default, index_unique, rising_map, rising_back}}
 
 -- and rise as they did
 pub rising_as : (f : Node → Node) → ((x : Node) → (f x).patch.number ≡ x.patch.number) → (new old : List Head) → nodes_of new ≡ map f (nodes_of old) → IsRising old → IsRising new
@@ -27,7 +27,7 @@ nodes_set [] s y d lt e = absurd (omega (arith, lt))
 nodes_set (h ∷ hs) zero y d lt e = ap (λ x. x ∷ nodes_of hs) e
 nodes_set (h ∷ hs) (suc s) y d lt e = ap (λ xs. node_of h ∷ xs) (nodes_set hs s y d (omega (arith, lt)) e)
 
--- what is in the list after one head was set is that head, or stands in another slot
+-- what is in the list after one head was set is that head, or stands at another index
 pub set_cases : (heads : List Head) (s : ℕ) (y h : Head) → s < length heads → Contains (set heads s y) h → (y ≡ h) ⊎ ((j : ℕ) × (j < length heads) × (j ≢ s) × (get_or heads j h ≡ h))
 set_cases heads s y h lt c = grind (arith, cases_eq, get_or-set_same, length-set, get_or-set_other)
 
@@ -42,15 +42,15 @@ HasRoomFrom heads row i = (h : Head) (k : ℕ) → Contains heads h → i ≤ k 
 pub room_first : (heads : List Head) (row : List ℕ) → HasRoomAbove heads row → HasRoomFrom heads row 0
 room_first heads row room h k c le inside e = room h c (k, inside, any_default row k h.number 0 inside ∙ sym e)
 
-pub room_more : (heads : List Head) (row : List ℕ) (i s : ℕ) (y : Head) → IsRising heads → HasSlot heads (get_or row i 0) s → HasRoomFor y.dependants 1 → HasRoomUpTo heads row i → HasRoomUpTo (set heads s y) row (i + 1)
-room_more heads row i s y rising slot here room h k c lt inside e =
-    elim (set_cases heads s y h slot.0 c) [
+pub room_more : (heads : List Head) (row : List ℕ) (i s : ℕ) (y : Head) → IsRising heads → HasIndex heads (get_or row i 0) s → HasRoomFor y.dependants 1 → HasRoomUpTo heads row i → HasRoomUpTo (set heads s y) row (i + 1)
+room_more heads row i s y rising index here room h k c lt inside e =
+    elim (set_cases heads s y h index.0 c) [
       | inl same ↦ subst (λ (x : Head). HasRoomFor x.dependants 1) same here
       | inr o ↦
           elim (cases_eq k i) [
             | inl last ↦
                 let number = e ∙ ap (λ m. get_or row m 0) last in
-                absurd (o.2 (slot_unique heads (get_or row i 0) o.0 s rising (o.1, λ d. ap (λ x. x.number) (any_default heads o.0 d h o.1 ∙ o.3) ∙ number) slot))
+                absurd (o.2 (index_unique heads (get_or row i 0) o.0 s rising (o.1, λ d. ap (λ x. x.number) (any_default heads o.0 d h o.1 ∙ o.3) ∙ number) index))
             | inr earlier ↦ room h k (o.0, o.1, o.3) (omega (arith, lt, earlier)) inside e
           ]
     ]

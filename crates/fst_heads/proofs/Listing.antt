@@ -2,8 +2,8 @@
 use Rattle.fst_heads.proofs.Basics.{◌≡◌, ◌≢◌, ◌==◌, ◌&&◌, ℕ, zero, suc, ◌<◌, ◌≤◌, Bool, true, false, not, cond, List, [], ◌∷◌, ◌++◌, length, map, set, get_or, Contains, Some, refl, sym, ap, ◌∙◌, inl, inr, arith, list_any, and-false, cases_Bool, eq-eqb, ne_eqb}
 use Rattle.fst_heads.proofs.Basics.{get_or-map, ◌+◌, filter, subst, get_or-set_same, get_or-set_other, length-set, AllPairs, IsStrictlyIncreasing, AllPairs-filter, and_parts, cases_eq, false≢true, length-map}
 use Rattle.fst_heads.proofs.Patches.{Place, Kind, Change, Patch, Rising, block_of_kind, is_at, is_on, is_change_at, landed, In, In-from_Contains, Contains-from_In, is_among, is_live, In-map, same_number, filter_in, in_filter, among_in, in_among}
-use Rattle.fst_heads.proofs.Words.{Head, lands, IsRising, patch_of, patches_of, Entry, is_live_on, entries_on, flying_on, AreListed, HasSlot, HasNone, Node, node_of, nodes_of, patches_in, Listed, entry, entries_of}
-use Rattle.fst_heads.proofs.{Slots.{rising_map}, Starting.patches_landed}
+use Rattle.fst_heads.proofs.Words.{Head, lands, IsRising, patch_of, patches_of, Entry, is_live_on, entries_on, flying_on, AreListed, HasIndex, HasNone, Node, node_of, nodes_of, patches_in, Listed, entry, entries_of}
+use Rattle.fst_heads.proofs.{Indices.{rising_map}, Starting.patches_landed}
 use Rattle.fst_heads.proofs.{AtNumber.{patches_in_nodes}, Placed.unmapped}
 use Rattle.fst_heads.proofs.Patches.place
 
@@ -12,17 +12,17 @@ pub any_none : (heads : List Head) (n : ℕ) (t : Node → Bool) → HasNone hea
 any_none [] n t none = refl
 any_none (h ∷ hs) n t none = rw (ne_eqb h.number n (none 0 h (omega arith))) (any_none hs n t (λ k d lt. none (suc k) d (omega (arith, lt))))
 
-pub any_slot : (heads : List Head) (n s : ℕ) (t : Node → Bool) (d : Head) → IsRising heads → HasSlot heads n s → list_any (λ x. (x.patch.number == n) && t x) (nodes_of heads) ≡ t (node_of (get_or heads s d))
-any_slot [] n s t d rising slot = absurd (omega (arith, slot.0))
-any_slot (h ∷ hs) n zero t d rising slot =
-    let rest = any_none hs n t (λ k c lt same. let r = rising 0 (suc k) c (omega arith) (omega (arith, lt)) in let here = slot.1 d in omega (arith, r, same, here)) in
-    rw (eq-eqb h.number n (slot.1 d))
+pub any_index : (heads : List Head) (n s : ℕ) (t : Node → Bool) (d : Head) → IsRising heads → HasIndex heads n s → list_any (λ x. (x.patch.number == n) && t x) (nodes_of heads) ≡ t (node_of (get_or heads s d))
+any_index [] n s t d rising index = absurd (omega (arith, index.0))
+any_index (h ∷ hs) n zero t d rising index =
+    let rest = any_none hs n t (λ k c lt same. let r = rising 0 (suc k) c (omega arith) (omega (arith, lt)) in let here = index.1 d in omega (arith, r, same, here)) in
+    rw (eq-eqb h.number n (index.1 d))
     (elim (cases_Bool (t (node_of h))) [ inl e ↦ rw e refl | inr e ↦ rw e rest ])
-any_slot (h ∷ hs) n (suc s) t d rising slot =
-    let inside = slot.0 in
+any_index (h ∷ hs) n (suc s) t d rising index =
+    let inside = index.0 in
     let below = rising 0 (suc s) d (omega arith) inside in
-    rw (ne_eqb h.number n (λ same. omega (arith, same, below, slot.1 d)))
-    (any_slot hs n s t d (λ i j c lt b. rising (suc i) (suc j) c (omega (arith, lt)) (omega (arith, b))) (omega (arith, inside), slot.1))
+    rw (ne_eqb h.number n (λ same. omega (arith, same, below, index.1 d)))
+    (any_index hs n s t d (λ i j c lt b. rising (suc i) (suc j) c (omega (arith, lt)) (omega (arith, b))) (omega (arith, inside), index.1))
 
 -- patches rise as their heads do
 pub rising_patches : (heads : List Head) → IsRising heads → Rising (patches_of heads)

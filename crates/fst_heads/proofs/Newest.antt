@@ -1,23 +1,23 @@
 -- The row of a new change, from the newest changes over its bytes.
 use Rattle.fst_heads.proofs.Basics.{◌≡◌, ◌⊎◌, ℕ, ◌+◌, ◌<◌, ◌≤◌, true, false, List, length, get_or, Contains, refl, sym, subst, ◌∙◌, inl, inr, arith, cases_lt, IsStrictlyIncreasing, rules}
 use Rattle.fst_heads.proofs.Patches.{DependsOn, IsLiveNumber, Lists, Patch, at_of, len_of}
-use Rattle.fst_heads.proofs.Words.{Head, Covering, newest_over, IsOver, IsCovered, GainsTouched, IsRising, patch_of, patches_of, HasSlot, HasNone, Gains, touches, IsTouched, IsDependency, IsSparseRow}
-use Rattle.fst_heads.proofs.{Slots.{any_default, none_slot, patch_at, patch_is, patch_slot, slot_in}, Touching.{touch_parts, touch_whole}}
+use Rattle.fst_heads.proofs.Words.{Head, Covering, newest_over, IsOver, IsCovered, GainsTouched, IsRising, patch_of, patches_of, HasIndex, HasNone, Gains, touches, IsTouched, IsDependency, IsSparseRow}
+use Rattle.fst_heads.proofs.{Indices.{any_default, index_in, none_index, patch_at, patch_index, patch_is}, Touching.{touch_parts, touch_whole}}
 
--- a number is touched as the head at its slot is
+-- a number is touched as the head at its index is
 module _ (heads : List Head) (b at len n : ℕ) where
-  pub touched_at : (s : ℕ) (d : Head) → IsRising heads → HasSlot heads n s
+  pub touched_at : (s : ℕ) (d : Head) → IsRising heads → HasIndex heads n s
       → record { 0 : touches b at len (patch_of (get_or heads s d)) ≡ true → IsTouched (patches_of heads) b at len n; 1 : IsTouched (patches_of heads) b at len n → touches b at len (patch_of (get_or heads s d)) ≡ true }
-  touched_at s d rising slot = record {
-    0 = λ e. record { patch = patch_of (get_or heads s d); head = patch_at heads s d slot.0; numbered = slot.1 d; shares = e };
+  touched_at s d rising index = record {
+    0 = λ e. record { patch = patch_of (get_or heads s d); head = patch_at heads s d index.0; numbered = index.1 d; shares = e };
     1 = λ t.
-        let same = patch_is heads t.patch s d rising t.head (subst (λ m. HasSlot heads m s) (sym t.numbered) slot) in
+        let same = patch_is heads t.patch s d rising t.head (subst (λ m. HasIndex heads m s) (sym t.numbered) index) in
         subst (λ p. touches b at len p ≡ true) (sym same) t.shares;
   }
 
   pub touched_none : HasNone heads n → IsTouched (patches_of heads) b at len n → ⊥
   touched_none none t =
-      let s = slot_in heads t.patch t.head in none_slot heads n s.0 none (subst (λ m. HasSlot heads m s.0) t.numbered (patch_slot heads t.patch s.0 s.1 s.2))
+      let s = index_in heads t.patch t.head in none_index heads n s.0 none (subst (λ m. HasIndex heads m s.0) t.numbered (patch_index heads t.patch s.0 s.1 s.2))
 
 -- the row as far as the numbers were looked at, of which `last` was the last
 pub record GainsUpTo (heads : List Patch) (numbers : List ℕ) (b at len i last : ℕ) (old row : List ℕ) : Type 0 where

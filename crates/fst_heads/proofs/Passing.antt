@@ -2,7 +2,7 @@
 use Rattle.fst_heads.proofs.Basics.{common_steps, cond, IfNone, IfSome, Option, None, Some, ◌≤◌, ◌++◌, reverse, reverse_onto, map-append, nil_from_length, ◌≡◌, ◌==◌, ◌&&◌, ℕ, Bool, true, List, [], ◌∷◌, map, filter, length, refl, sym, ap, ◌∙◌, inr, list_any, cases_Bool, and_parts, arith, inl, suc, ◌<◌, false, append-nil, append_assoc, length-append, map_push}
 use Rattle.fst_heads.proofs.Patches.{PatchNo, In, Contains-from_In}
 use Rattle.fst_heads.proofs.Words.{numbers_of, is_held_on, Head, Listed, IsRising, patches_of, entries_of, entries_on, is_live_on, Node, node_of, nodes_of, is_ready_on}
-use Rattle.fst_heads.proofs.{Listing.{any_slot, numbers_on}, Slots.any_default}
+use Rattle.fst_heads.proofs.{Listing.{any_index, numbers_on}, Indices.any_default}
 
 -- the node with number n passes
 abbrev pub passes_at : (Node → Bool) → List Node → ℕ → Bool
@@ -23,7 +23,7 @@ module _ (b : ℕ) (t : Node → Bool) (inside : (x : Node) → t x ≡ true →
       ap (λ es. filter (passes_at t (nodes_of heads)) (map (λ e. e.number) es)) listed
       ∙ passing_each (passes_at t (nodes_of heads)) heads (λ h i.
       let c = Contains-from_In heads h i in
-      any_slot heads h.number c.0 t h rising (c.1, λ d. ap (λ k. k.number) (any_default heads c.0 d h c.1 ∙ c.2)) ∙ ap (λ k. t (node_of k)) c.2)
+      any_index heads h.number c.0 t h rising (c.1, λ d. ap (λ k. k.number) (any_default heads c.0 d h c.1 ∙ c.2)) ∙ ap (λ k. t (node_of k)) c.2)
 
 pub ready_listed : (b : ℕ) (x : Node) → is_ready_on b x ≡ true → is_live_on b x.patch ≡ true
 ready_listed b x e = grind (arith, and_parts)

@@ -1,8 +1,8 @@
--- What is pending of the head in a slot, and the node that it stands for.
+-- What is pending of the head at an index, and the node that it stands for.
 use Rattle.fst_heads.proofs.Basics.{◌≡◌, ◌<◌, ◌+◌, ◌++◌, ◌∷◌, [], ℕ, zero, suc, List, length, get_or, take, Contains, refl, sym, ap, subst, ◌∙◌, arith, eq-eqb, ne_eqb, ◌≤◌, drop, take_more, take-append-drop, SmallVec}
 use Rattle.fst_heads.proofs.Patches.{Contains-from_In, In-map}
-use Rattle.fst_heads.proofs.Words.{Head, Pending, Sums, IsRising, HasSlot, HasNone, Node, node_of, nodes_of, pending_in, gains_names, join, joined, plus, sums_of, together}
-use Rattle.fst_heads.proofs.{Slots.slot_head, Slotted.number_in, Sums.{joined_push, sums_append, sums_push}}
+use Rattle.fst_heads.proofs.Words.{Head, Pending, Sums, IsRising, HasIndex, HasNone, Node, node_of, nodes_of, pending_in, gains_names, join, joined, plus, sums_of, together}
+use Rattle.fst_heads.proofs.{Indices.index_head, Indexed.number_in, Sums.{joined_push, sums_append, sums_push}}
 use Rattle.fst_heads.proofs.Words.pending
 
 -- where no head has the number nothing is pending
@@ -10,25 +10,25 @@ pub pending_none : (heads : List Head) (n : ℕ) → HasNone heads n → pending
 pending_none [] n none = refl
 pending_none (h ∷ hs) n none = rw (ne_eqb h.number n (none 0 h (omega arith))) (pending_none hs n (λ k d lt. none (suc k) d (omega (arith, lt))))
 
-pub pending_slot : (heads : List Head) (n s : ℕ) (d : Head) → IsRising heads → HasSlot heads n s → pending_in (nodes_of heads) n ≡ (get_or heads s d).pending
-pending_slot [] n s d rising slot = absurd (omega (arith, slot.0))
-pending_slot (h ∷ hs) n zero d rising slot = rw (eq-eqb h.number n (slot.1 d)) refl
-pending_slot (h ∷ hs) n (suc s) d rising slot =
-    let inside = slot.0 in
+pub pending_index : (heads : List Head) (n s : ℕ) (d : Head) → IsRising heads → HasIndex heads n s → pending_in (nodes_of heads) n ≡ (get_or heads s d).pending
+pending_index [] n s d rising index = absurd (omega (arith, index.0))
+pending_index (h ∷ hs) n zero d rising index = rw (eq-eqb h.number n (index.1 d)) refl
+pending_index (h ∷ hs) n (suc s) d rising index =
+    let inside = index.0 in
     let below = rising 0 (suc s) d (omega arith) inside in
-    rw (ne_eqb h.number n (λ same. omega (arith, same, below, slot.1 d)))
-    (pending_slot hs n s d (λ i j c lt b. rising (suc i) (suc j) c (omega (arith, lt)) (omega (arith, b))) (omega (arith, inside), slot.1))
+    rw (ne_eqb h.number n (λ same. omega (arith, same, below, index.1 d)))
+    (pending_index hs n s d (λ i j c lt b. rising (suc i) (suc j) c (omega (arith, lt)) (omega (arith, b))) (omega (arith, inside), index.1))
 
--- the node of the head in a slot
+-- the node of the head at an index
 pub node_in : (heads : List Head) (s : ℕ) (h : Head) → s < length heads → h ≡ get_or heads s h → Contains (nodes_of heads) (node_of h)
-node_in heads s h lt e = Contains-from_In (nodes_of heads) _ (In-map node_of heads (get_or heads s h) _ (slot_head heads s h lt) (ap node_of (sym e)))
+node_in heads s h lt e = Contains-from_In (nodes_of heads) _ (In-map node_of heads (get_or heads s h) _ (index_head heads s h lt) (ap node_of (sym e)))
 
--- and what holds of every node with a number holds of that of the head in its slot
-pub holds_at : {P : Node → Type 0} {seen : List Head} (heads : List Head) (n s : ℕ) (h : Head) → seen ≡ heads → HasSlot seen n s → h ≡ get_or heads s h
+-- and what holds of every node with a number holds of that of the head at its index
+pub holds_at : {P : Node → Type 0} {seen : List Head} (heads : List Head) (n s : ℕ) (h : Head) → seen ≡ heads → HasIndex seen n s → h ≡ get_or heads s h
     → ((x : Node) → Contains (nodes_of heads) x → x.patch.number ≡ n → P x) → P (node_of h)
 holds_at heads n s h same found e all =
-    let slot = subst (λ hs. HasSlot hs n s) same found in
-    all (node_of h) (node_in heads s h slot.0 e) (number_in heads n s h slot e)
+    let index = subst (λ hs. HasIndex hs n s) same found in
+    all (node_of h) (node_in heads s h index.0 e) (number_in heads n s h index e)
 
 -- a head with the names besides, and what they add up to
 pub gained_node : (h : Head) (more : SmallVec ℕ) (names : List ℕ) (sums both : Sums) → more.items ≡ h.dependencies.items ++ names → both ≡ together h.sums sums

@@ -1,8 +1,8 @@
 -- What stands beside the patches where some are launched or forgotten.
 use Rattle.fst_heads.proofs.Basics.{or-false, ◌≡◌, ◌≢◌, ℕ, Bool, true, false, cond, List, [], ◌∷◌, map, filter, AllPairs, Contains, refl, sym, ap, subst, ◌∙◌, inl, inr, cases_Bool, rules, arith, ◌==◌, ◌||◌, ◌++◌, if◌then◌else◌, get_or, set, cases_eq, eq-eqb, ne_eqb}
 use Rattle.fst_heads.proofs.Patches.{Patch, IsLiveNumber, HasOnePlaceEach, is_live, is_among, launched, same_number, In, In-from_Contains, Contains-from_In, In-unmap, among_in, unsettled, Settled, AllSettled, more, all_settled, In-map}
-use Rattle.fst_heads.proofs.Words.{launches, entry, entries_on, is_live_on, Node, patches_in, times, AreLinked, AreGiven, AreDistinct, IsSpreadOf, unspread, Head, IsRising, HasSlot, HasNone, node_of, nodes_of, at_number}
-use Rattle.fst_heads.proofs.{Forgetting.live_place_of, AtNumber.{at_none, at_slot, at_same, at_other}, Linking.{map_twice, rising_as}}
+use Rattle.fst_heads.proofs.Words.{launches, entry, entries_on, is_live_on, Node, patches_in, times, AreLinked, AreGiven, AreDistinct, IsSpreadOf, unspread, Head, IsRising, HasIndex, HasNone, node_of, nodes_of, at_number}
+use Rattle.fst_heads.proofs.{Forgetting.live_place_of, AtNumber.{at_none, at_index, at_same, at_other}, Linking.{map_twice, rising_as}}
 use Rattle.fst_heads.proofs.Patches.place
 
 -- y has the number, the direct dependencies and the dependants of x
@@ -165,9 +165,9 @@ map_alike f g (x ∷ xs) same = let first = same x (inl refl) in let rest = map_
 pub launched_none : (heads : List Head) (n : ℕ) → HasNone heads n → nodes_of heads ≡ map (launches (n ∷ [])) (nodes_of heads)
 launched_none heads n none = at_none heads n flies none ∙ map_alike (at_number n flies) (launches (n ∷ [])) (nodes_of heads) (λ x _. one_launched n x)
 
-pub launched_slot : (heads : List Head) (n s : ℕ) (y d : Head) → IsRising heads → HasSlot heads n s → node_of y ≡ flies (node_of (get_or heads s d))
+pub launched_index : (heads : List Head) (n s : ℕ) (y d : Head) → IsRising heads → HasIndex heads n s → node_of y ≡ flies (node_of (get_or heads s d))
     → nodes_of (set heads s y) ≡ map (launches (n ∷ [])) (nodes_of heads)
-launched_slot heads n s y d rising slot e = at_slot heads n s flies y d rising slot e ∙ map_alike (at_number n flies) (launches (n ∷ [])) (nodes_of heads) (λ x _. one_launched n x)
+launched_index heads n s y d rising index e = at_index heads n s flies y d rising index e ∙ map_alike (at_number n flies) (launches (n ∷ [])) (nodes_of heads) (λ x _. one_launched n x)
 
 -- of no number none
 pub launched_start : (nodes : List Node) → nodes ≡ map (launches []) nodes

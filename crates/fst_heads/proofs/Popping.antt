@@ -1,8 +1,8 @@
 -- A number is taken from the queue of a cascade: its head is settled, and its dependants are told.
 use Rattle.fst_heads.proofs.Basics.{cond_both, ◌≡◌, ◌≢◌, ◌+◌, ◌<◌, ◌≤◌, ◌==◌, ℕ, false, List, [], ◌∷◌, ◌++◌, length, map, get_or, Contains, AllPairs, length-append, refl, sym, ap, subst, ◌∙◌, arith, length-map, get_or-map}
 use Rattle.fst_heads.proofs.Patches.{IsCascadeOf}
-use Rattle.fst_heads.proofs.Words.{Head, Pending, IsRising, patches_of, HasSlot, Node, node_of, nodes_of, patches_in, at_number, AreLinked, AreDistinct, Fits, max_block, Spreading, IsSpreadOf, CanHear, now, is_told, settles, heard, woken, pending_in, IsRisenOf}
-use Rattle.fst_heads.proofs.{AtNumber.{at_same, patches_in_nodes}, Linking.rising_as, Slots.some_element, Slotted.{node_in_slot, node_is, rising_slots}}
+use Rattle.fst_heads.proofs.Words.{Head, Pending, IsRising, patches_of, HasIndex, Node, node_of, nodes_of, patches_in, at_number, AreLinked, AreDistinct, Fits, max_block, Spreading, IsSpreadOf, CanHear, now, is_told, settles, heard, woken, pending_in, IsRisenOf}
+use Rattle.fst_heads.proofs.{AtNumber.{at_same, patches_in_nodes}, Linking.rising_as, Indices.some_element, Indexed.{node_at_index, node_is, rising_indices}}
 use Rattle.fst_heads.proofs.{Starting.cascaded_spread, Carried.{linked_spread, distinct_spread}}
 use Rattle.fst_heads.proofs.Telling.{spreading_fits, queue_fits, last_waits, live, can_hear, spreads_on, spread_of, each_goes, risen, nearer}
 use Rattle.fst_heads.proofs.{Going.OneWay, Waiting.distance}
@@ -13,7 +13,7 @@ pub rising_settled : (q : ℕ) (old new : List Head) → nodes_of new ≡ map (a
 rising_settled q old new e rising = rising_as (at_number q settles) (λ x. cond_both (x.patch.number == q) _ _ (λ (y : Node). y.patch.number ≡ x.patch.number) (λ t. refl) (λ f. refl)) new old e rising
 
 module _ {goes : Pending → Pending → Type 0} {far : Pending → ℕ} (way : OneWay goes far) (heads : List Head) (blocks : ℕ) (queue : List ℕ) (q s : ℕ) (narrow : blocks ≤ max_block)
-    (S : Spreading goes (nodes_of heads) blocks (queue ++ q ∷ [])) (linked : AreLinked (nodes_of heads)) (distinct : AreDistinct (nodes_of heads)) (found : HasSlot heads q s) where
+    (S : Spreading goes (nodes_of heads) blocks (queue ++ q ∷ [])) (linked : AreLinked (nodes_of heads)) (distinct : AreDistinct (nodes_of heads)) (found : HasIndex heads q s) where
   abbrev nodes : List Node
   nodes = nodes_of heads
 
@@ -24,42 +24,42 @@ module _ {goes : Pending → Pending → Type 0} {far : Pending → ℕ} (way : 
   abbrev here : Node
   here = node_of (get_or heads s (some_element heads s found.0))
 
-  in_slot : (d : Node) → get_or nodes s d ≡ here
-  in_slot d = get_or-map node_of heads s (some_element heads s found.0) d found.0
+  stands_there : (d : Node) → get_or nodes s d ≡ here
+  stands_there d = get_or-map node_of heads s (some_element heads s found.0) d found.0
 
   here_in : Contains nodes here
-  here_in = subst (Contains nodes) (in_slot here) (node_in_slot heads q s here found).0
+  here_in = subst (Contains nodes) (stands_there here) (node_at_index heads q s here found).0
 
   here_number : here.patch.number ≡ q
   here_number = found.1 (some_element heads s found.0)
 
   pub number_there : (d : Node) → (get_or nodes s d).patch.number ≡ q
-  number_there d = ap (λ (x : Node). x.patch.number) (in_slot d) ∙ here_number
+  number_there d = ap (λ (x : Node). x.patch.number) (stands_there d) ∙ here_number
 
   pub fits_there : (d : Node) → Fits (get_or nodes s d).sums
-  fits_there d = spreading_fits nodes blocks (queue ++ q ∷ []) narrow S (get_or nodes s d) (node_in_slot heads q s d found).0
+  fits_there d = spreading_fits nodes blocks (queue ++ q ∷ []) narrow S (get_or nodes s d) (node_at_index heads q s d found).0
 
   pub untold_there : (d : Node) → is_told (get_or nodes s d) ≡ false
   untold_there d =
       let x = last_waits nodes blocks queue q S in
-      subst (λ y. is_told y ≡ false) (sym (node_is heads q s x.0 d (rising_slots heads S.rising) found x.1 x.2)) x.3
+      subst (λ y. is_told y ≡ false) (sym (node_is heads q s x.0 d (rising_indices heads S.rising) found x.1 x.2)) x.3
 
-  -- settle_slot settles it
+  -- settle_at settles it
   module _ (was is : Pending) (after : List Node) (old : (d : Node) → was ≡ (get_or nodes s d).pending) (new : (d : Node) → is ≡ now (get_or nodes s d))
       (settled : (d : Node) → after ≡ map (at_number (get_or nodes s d).patch.number settles) nodes) where
     pub after_is : after ≡ map (at_number q settles) nodes
     after_is = settled here ∙ ap (λ n. map (at_number n settles) nodes) (number_there here)
 
     was_is : was ≡ here.pending
-    was_is = old here ∙ ap (λ (x : Node). x.pending) (in_slot here)
+    was_is = old here ∙ ap (λ (x : Node). x.pending) (stands_there here)
 
     is_now : is ≡ now here
-    is_now = new here ∙ ap now (in_slot here)
+    is_now = new here ∙ ap now (stands_there here)
 
     row_after : (d : Node) → (get_or after s d).dependants ≡ here.dependants
     row_after d =
         ap (λ ns. (get_or ns s d).dependants) after_is
-        ∙ ap (λ (x : Node). x.dependants) (get_or-map (at_number q settles) nodes s d d (omega (arith, found.0, length-map heads node_of)) ∙ (ap (at_number q settles) (in_slot d) ∙ at_same q settles here here_number))
+        ∙ ap (λ (x : Node). x.dependants) (get_or-map (at_number q settles) nodes s d d (omega (arith, found.0, length-map heads node_of)) ∙ (ap (at_number q settles) (stands_there d) ∙ at_same q settles here here_number))
 
     -- what `tell` asks for
     pub once_after : (d : Node) → AllPairs (λ m n. m ≢ n) (get_or after s d).dependants

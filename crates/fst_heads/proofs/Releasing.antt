@@ -6,7 +6,7 @@ use Rattle.fst_heads.proofs.{CountsAs.{CountsAs, standing_same, stand_set, off_a
 use Rattle.fst_heads.proofs.Patches.place
 use Rattle.fst_heads.proofs.Words.pending
 
--- the node of the head in a slot
+-- the node of the head at an index
 pub node_at : (heads : List Head) (s : ℕ) (h : Head) (d : Node) → s < length heads → h ≡ get_or heads s h → get_or (nodes_of heads) s d ≡ node_of h
 node_at heads s h d lt e = get_or-map node_of heads s h d lt ∙ ap node_of (sym e)
 
@@ -71,7 +71,7 @@ module _ (nodes : List Node) (s : ℕ) (x : Node) (lt : s < length nodes) (e : g
 pub settles_kept : (x : Node) (b : ℕ) → is_change_at place.Memory b x.patch ≡ false → CountsAs b (settles x) x
 settles_kept x b off = record { ready = rw off refl; held = rw off refl; flying = refl }
 
--- the head in the slot takes what is pending now
+-- the head at the index takes what is pending now
 pub nodes_settled : (heads : List Head) (s : ℕ) (y h : Head) → node_of y ≡ settles (node_of h) → nodes_of (set heads s y) ≡ set (nodes_of heads) s (settles (node_of h))
 nodes_settled heads s y h e = map-set node_of heads s y ∙ ap (set (nodes_of heads) s) e
 

@@ -1,7 +1,7 @@
 -- A number is taken from the queue of a launch: its head is behind a flight, and its dependants are told.
 use Rattle.fst_heads.proofs.Basics.{◌≡◌, ◌≢◌, ◌≤◌, ◌+◌, ℕ, false, List, [], ◌∷◌, ◌++◌, map, length, get_or, set, AllPairs, Contains, sym, ap, subst, ◌∙◌, inl, arith, get_or-map}
-use Rattle.fst_heads.proofs.Words.{Head, IsRising, HasSlot, Node, node_of, nodes_of, at_number, AreLinked, AreDistinct, max_block, Spreading, CanHear, Rises, now, is_told, settles, heard, woken}
-use Rattle.fst_heads.proofs.{AtNumber.at_slot, Going.{rises_way}, Launching.rises_untold, Popping.{number_there, untold_there, rising_settled, after_is, once_after, hears_after, room_after, Turn, turned}, Slotted.{node_in_slot, rising_slots}, Telling.last_waits}
+use Rattle.fst_heads.proofs.Words.{Head, IsRising, HasIndex, Node, node_of, nodes_of, at_number, AreLinked, AreDistinct, max_block, Spreading, CanHear, Rises, now, is_told, settles, heard, woken}
+use Rattle.fst_heads.proofs.{AtNumber.at_index, Going.{rises_way}, Launching.rises_untold, Popping.{number_there, untold_there, rising_settled, after_is, once_after, hears_after, room_after, Turn, turned}, Indexed.{node_at_index, rising_indices}, Telling.last_waits}
 use Rattle.fst_heads.proofs.Words.pending
 
 -- the number of the block is small
@@ -12,36 +12,36 @@ small b nodes blocks queue q narrow S =
     omega (arith, lt, narrow)
 
 module _ (b : ℕ) (heads : List Head) (blocks : ℕ) (queue : List ℕ) (q s : ℕ) (narrow : blocks ≤ max_block)
-    (S : Spreading (Rises b) (nodes_of heads) blocks (queue ++ q ∷ [])) (linked : AreLinked (nodes_of heads)) (distinct : AreDistinct (nodes_of heads)) (found : HasSlot heads q s)
+    (S : Spreading (Rises b) (nodes_of heads) blocks (queue ++ q ∷ [])) (linked : AreLinked (nodes_of heads)) (distinct : AreDistinct (nodes_of heads)) (found : HasIndex heads q s)
     (h : Head) (e : h ≡ get_or heads s h) where
   abbrev pub behind : List Head
   behind = set heads s (record h { pending = pending.Behind b })
 
-  in_slot : (d : Node) → get_or (nodes_of heads) s d ≡ node_of h
-  in_slot d = get_or-map node_of heads s h d found.0 ∙ ap node_of (sym e)
+  stands_there : (d : Node) → get_or (nodes_of heads) s d ≡ node_of h
+  stands_there d = get_or-map node_of heads s h d found.0 ∙ ap node_of (sym e)
 
   here : (h.pending ≡ pending.Block b) × (now (node_of h) ≡ pending.Behind b)
   here =
       rises_untold b (node_of h)
-      (subst (λ x. Rises b x.pending (now x)) (in_slot (node_of h)) (S.moves (get_or (nodes_of heads) s (node_of h)) (node_in_slot heads q s (node_of h) found).0))
-      (subst (λ x. is_told x ≡ false) (in_slot (node_of h)) (untold_there (rises_way b) heads blocks queue q s narrow S linked distinct found (node_of h)))
+      (subst (λ x. Rises b x.pending (now x)) (stands_there (node_of h)) (S.moves (get_or (nodes_of heads) s (node_of h)) (node_at_index heads q s (node_of h) found).0))
+      (subst (λ x. is_told x ≡ false) (stands_there (node_of h)) (untold_there (rises_way b) heads blocks queue q s narrow S linked distinct found (node_of h)))
 
   pub was : (d : Node) → pending.Block b ≡ (get_or (nodes_of heads) s d).pending
-  was d = sym (ap (λ (x : Node). x.pending) (in_slot d) ∙ here.0)
+  was d = sym (ap (λ (x : Node). x.pending) (stands_there d) ∙ here.0)
 
   pub is : (d : Node) → pending.Behind b ≡ now (get_or (nodes_of heads) s d)
-  is d = sym (ap now (in_slot d) ∙ here.1)
+  is d = sym (ap now (stands_there d) ∙ here.1)
 
   pub set_behind : (d : Node) → nodes_of behind ≡ map (at_number (get_or (nodes_of heads) s d).patch.number settles) (nodes_of heads)
   set_behind d =
-      at_slot heads q s settles (record h { pending = pending.Behind b }) h (rising_slots heads S.rising) found (ap (λ p. node_of (record h { pending = p })) (sym here.1) ∙ ap (λ k. settles (node_of k)) e)
+      at_index heads q s settles (record h { pending = pending.Behind b }) h (rising_indices heads S.rising) found (ap (λ p. node_of (record h { pending = p })) (sym here.1) ∙ ap (λ k. settles (node_of k)) e)
       ∙ ap (λ n. map (at_number n settles) (nodes_of heads)) (sym (number_there (rises_way b) heads blocks queue q s narrow S linked distinct found d))
 
   -- what `tell` asks for
   pub rising_behind : IsRising behind
   rising_behind =
       rising_settled q heads behind (after_is (rises_way b) heads blocks queue q s narrow S linked distinct found (pending.Block b) (pending.Behind b) (nodes_of behind) was is set_behind)
-      (rising_slots heads S.rising)
+      (rising_indices heads S.rising)
 
   pub once_behind : (d : Node) → AllPairs (λ m n. m ≢ n) (get_or (nodes_of behind) s d).dependants
   once_behind = once_after (rises_way b) heads blocks queue q s narrow S linked distinct found (pending.Block b) (pending.Behind b) (nodes_of behind) was is set_behind

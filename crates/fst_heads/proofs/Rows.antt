@@ -2,18 +2,18 @@
 use Rattle.fst_heads.proofs.Basics.{◌≡◌, ℕ, ◌+◌, ◌-◌, ◌<◌, ◌≤◌, List, ◌∷◌, length, get_or, Contains, Result, Ok, Err, is_ok, refl, sym, subst, ◌∙◌, inl, inr, arith, insert, IsStrictlyIncreasing, IsBinarySearchResult, nat_cmp, rules, common_steps, cases_Bool, cases_lt, cases_eq, AllPairs-from_increasing, searched}
 use Rattle.fst_heads.proofs.Basics.{IsPermutation-insert, IsPermutation-sym, Contains-permutation, length-insert, get_or-insert_below, get_or-insert_at, get_or-insert_above, true}
 use Rattle.fst_heads.proofs.Patches.{is_among, among_in, in_among, PatchNo, Lists, IsGiven, In, In-get_or, In-from_Contains, Contains-from_In, In-map, DirectlyOn, IsLiveNumber, Patch}
-use Rattle.fst_heads.proofs.{Words.{numbers_of, Gains, Head, IsRising, patches_of, HasSlot, IsMissing}, Slots.{any_default, some_element, direct_at, named_at}}
+use Rattle.fst_heads.proofs.{Words.{numbers_of, Gains, Head, IsRising, patches_of, HasIndex, IsMissing}, Indices.{any_default, some_element, direct_at, named_at}}
 use Rattle.fst_types.specs.Order.{NamesUnknown}
 
 -- what a gate does not have yet
 
--- what the row of the head at a slot has is what the patch directly depends on
-module _ (heads : List Head) (rising : IsRising heads) (p s : ℕ) (d : Head) (slot : HasSlot heads p s) (q : ℕ) where
+-- what the row of the head at an index has is what the patch directly depends on
+module _ (heads : List Head) (rising : IsRising heads) (p s : ℕ) (d : Head) (index : HasIndex heads p s) (q : ℕ) where
   pub direct_from : is_among (get_or heads s d).dependencies.items q ≡ true → DirectlyOn (patches_of heads) p q
-  direct_from e = let row = (get_or heads s d).dependencies.items in direct_at heads p q s d slot (Contains-from_In row q (among_in row q e))
+  direct_from e = let row = (get_or heads s d).dependencies.items in direct_at heads p q s d index (Contains-from_In row q (among_in row q e))
 
   pub direct_to : DirectlyOn (patches_of heads) p q → is_among (get_or heads s d).dependencies.items q ≡ true
-  direct_to e = let row = (get_or heads s d).dependencies.items in in_among row q (In-from_Contains row q (named_at heads p q s d rising slot e))
+  direct_to e = let row = (get_or heads s d).dependencies.items in in_among row q (In-from_Contains row q (named_at heads p q s d rising index e))
 
 -- the same, the facts in the order of the definition
 pub missing_list : (heads : List Patch) (gate : ℕ) (names row : List ℕ) → Lists (λ n. IsMissing heads gate n × Contains names n) row → Lists (λ n. IsLiveNumber heads n × Contains names n × (DirectlyOn heads gate n → ⊥)) row

@@ -4,7 +4,7 @@ use Rattle.std.proofs.Common.{get_or-take, get_or-drop, length-take-le, length-d
 use Rattle.std.proofs.lemmas.List.Elements.{All-append, All-cons, All-head, All-tail}
 use Rattle.std.specs.Prelude.{min}
 use Rattle.std.proofs.lemmas.Cmp.{ranked}
-use Rattle.fst_heads.proofs.Slots.{some_element}
+use Rattle.fst_heads.proofs.Indices.{some_element}
 use Rattle.fst_heads.proofs.Words.{Run, AreRising, AreParted}
 use Rattle.fst_heads.specs.Covers.{last_in, newest_in}
 

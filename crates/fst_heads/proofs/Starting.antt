@@ -6,7 +6,7 @@ use Rattle.fst_heads.proofs.Words.{Pending, IsInside, flying_on, Node, patches_i
 use Rattle.fst_heads.proofs.Going.{OneWay, sinks_way}
 use Rattle.fst_heads.proofs.{AtNumber.{at_same, at_other}, Joining.{held_sinks, sinks_to_nothing}, Pended.{now_row, told_now, now_at_rest}, PendingIn.found}
 use Rattle.fst_heads.proofs.Waiting.{pending_of, pending_mapped}
-use Rattle.fst_heads.proofs.{Placed.{SameLinks, patch_in, node_of_patch, number_if, dependencies_if, unsettled_spread, unmapped}, Slots.{rising_back, rising_map, some_element}}
+use Rattle.fst_heads.proofs.{Placed.{SameLinks, patch_in, node_of_patch, number_if, dependencies_if, unsettled_spread, unmapped}, Indices.{rising_back, rising_map, some_element}}
 use Rattle.fst_heads.proofs.Sums.{joined_nothing, joined_all_nothing, sums_same}
 use Rattle.fst_types.proofs.Landing.{landed_cases, change_at, at_change}
 use Rattle.fst_heads.proofs.Patches.{Contains-from_In, In-map, In-unmap, Grade, Rising as IsRising}

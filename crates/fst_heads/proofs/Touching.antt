@@ -3,7 +3,7 @@ use Rattle.std.proofs.lemmas.Option.{same_Some}
 use Rattle.fst_heads.proofs.Basics.{◌≡◌, ◌⊎◌, ℕ, ◌+◌, ◌<◌, ◌≤◌, ◌==◌, ◌&&◌, nat_lt, Bool, true, false, not, List, [], ◌∷◌, ◌++◌, Contains, Some, refl, sym, ap, subst, inl, inr, arith, None, cases_Bool, eqb-true, eq-eqb, false≢true, nat_tests, length_push, Contains-push_cases, rules, IsStrictlyIncreasing}
 use Rattle.fst_heads.proofs.Patches.{Place, Grade, Lists, Kind, Change, Empty, Patch, IsOn, IsHard, block_of_kind, at_of, len_of, IsLiveNumber, IsGradedHard, FollowsRule, SparseAreLawful, fresh, is_at, is_on, In, In-from_Contains, Contains-from_In, IsWithin, hard_kept}
 use Rattle.fst_heads.proofs.Words.{Entry, entry, is_live_on, entries_on, Gains, kind_touches, touches, shares, IsTouched, IsDependency, IsSparseRow, MayBeHard, Keeps}
-use Rattle.fst_heads.proofs.{Graded.{graded_rule}, Making.keeps_added, Slots.{place_live, live_place}}
+use Rattle.fst_heads.proofs.{Graded.{graded_rule}, Making.keeps_added, Indices.{place_live, live_place}}
 use Rattle.fst_types.specs.Overlaps.{IsOverlapped}
 use Rattle.fst_types.proofs.Adding.{one_place_added, acyclic_added, on_disk_with_all_added, alone_added}
 use Rattle.fst_heads.proofs.Patches.place

@@ -4,7 +4,7 @@ use Rattle.fst_heads.proofs.Basics.{common_steps, ne_eqb, not-true, not_from_fal
 use Rattle.std.specs.Prelude.{sum_by}
 use Rattle.fst_heads.proofs.Patches.{filter_in, in_filter, In, In-map, In-from_Contains, Contains-from_In, pull}
 use Rattle.fst_heads.proofs.Words.{Pending, IsOf, Node, pending_in, times, at_number, is_told, settles, hears, heard, wakes, woken}
-use Rattle.fst_heads.proofs.{AtNumber.{at_same, at_other}, PendingIn.{found, told_of}, Placed.unmapped, Slots.{any_default, rising_map}, Turning.{turned, is_heard}}
+use Rattle.fst_heads.proofs.{AtNumber.{at_same, at_other}, PendingIn.{found, told_of}, Placed.unmapped, Indices.{any_default, rising_map}, Turning.{turned, is_heard}}
 use Rattle.std.proofs.Math.Seq.{get_or-append_seam}
 
 pub mapped : {X Y : Type 0} (f : X → Y) (xs : List X) (x : X) → Contains xs x → Contains (map f xs) (f x)

@@ -7,7 +7,7 @@ pub use Rattle.fst_heads.specs.Heads.{IsRising, patches_of, patch_of, kind_of}
 pub use Rattle.fst_heads.specs.Keeps.{IsInside, Beside, Keeps}
 pub use Rattle.fst_heads.specs.Landed.{AreLanded, flags, is_landed}
 pub use Rattle.fst_heads.specs.Lists.{Entry, AreListed, flying_on, is_live_on, entries_on, entries_of, entry, entry_of}
-pub use Rattle.fst_heads.specs.Slots.{HasSlot, HasNone, PassesAt}
+pub use Rattle.fst_heads.specs.Indices.{HasIndex, HasNone, PassesAt}
 pub use Rattle.fst_heads.specs.Names.{numbers_of}
 pub use Rattle.fst_heads.specs.Nodes.{Node, at_number, linked_to, gains_names, pending_in, node_of, nodes_of, patches_in, AreSettled, AreLinked, AreGiven, AreDistinct, is_forgotten_in, is_live_in, HasRoomAbove, times}
 pub use Rattle.fst_heads.specs.Pendings.{joined, of_kind, sums_of, Sinks, Rises, IsOf, is_pending, meet, join, of_change, Fits, plus, minus, together, nothing, max_block, height, joined_sums, of_mean, is_even, HasIn}

@@ -1,7 +1,7 @@
 -- When a new change may be hard, said of what it depends on.
 use Rattle.std.specs.Prelude.{◌≡◌, ◌≢◌, ℕ, List, Option, Some, None, Contains}
 use Rattle.fst_types.specs.{Patches.{Patch, IsOn, IsLive}, Dependencies.Needs, Gates.IsOpenNumber, Grades.Reaches}
-use Rattle.fst_heads.specs.{Slots.IsAbove, Reaching.IsHardIn}
+use Rattle.fst_heads.specs.{Indices.IsAbove, Reaching.IsHardIn}
 
 -- a number with P is in the row, or one in the row depends on it
 abbrev pub HasUnder : List Patch → List ℕ → (ℕ → Type 0) → Type 0

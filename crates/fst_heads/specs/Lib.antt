@@ -1,6 +1,6 @@
 pub mod Heads
 pub mod Tests
-pub mod Slots
+pub mod Indices
 pub mod Keeps
 pub mod Rows
 pub mod Covers

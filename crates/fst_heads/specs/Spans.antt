@@ -3,7 +3,7 @@ use Rattle.std.specs.Prelude.{◌≡◌, ◌≤◌, ◌<◌, ◌-◌, ℕ, List,
 use Rattle.std.specs.List.{AllWithin, HoldsAt, prefix_len}
 use Rattle.fst_types.specs.{Patches.Patch, Tests.is_live}
 
--- those on disk stand from one slot up to another: the first of them in that slot, and the last right before the other
+-- those on disk stand from one index up to another: the first of them at that index, and the last right before the other
 pub record SpansDisk (heads : List Patch) (first end : ℕ) : Type 0 where
   pub begins : first ≡ prefix_len is_live heads
   pub ordered : first ≤ end

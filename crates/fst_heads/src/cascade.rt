@@ -8,16 +8,16 @@ ghost use Rattle.fst_heads.specs.declared.pending.Pending.TheVariants as pending
 ghost use Rattle.fst_heads.specs.Frames.{frame_of, frames_of};
 ghost use Rattle.fst_heads.specs.Heads.{IsRising, kind_of, patches_of};
 ghost use Rattle.fst_heads.specs.Landed.{AreLanded};
-ghost use Rattle.fst_heads.specs.Slots.{HasSlot};
+ghost use Rattle.fst_heads.specs.Indices.{HasIndex};
 ghost use Rattle.fst_heads.specs.Nodes.{Node, node_of, nodes_of, at_number, AreLinked, AreDistinct, AreSettled};
 ghost use Rattle.fst_heads.specs.Pendings.{Fits, Sinks, is_pending};
 ghost use Rattle.fst_heads.specs.Spreading.{follows, rested, is_told, now, hears, wakes, heard, woken, is_waiting, CanHear, settles, seals, wakes_sealed, Spreading, IsSpreadOf};
 ghost use Rattle.fst_heads.specs.Standings.{AllStand};
 
 use crate::head::{Head, Kind};
+use crate::index::index_of;
 use crate::pending::{Pending, is_pending, of_change};
-use crate::slot::slot_of;
-use crate::standing::{Standing, settle_slot};
+use crate::standing::{Standing, settle_at};
 use fst_types::Place;
 
 // Whether it is on disk as soon as all that it depends on is.
@@ -86,36 +86,36 @@ fn hear_at(heads: &mut Vec<Head>, queue: &mut Vec<u32>, number: u32, old: Pendin
     ensures places { vec_capacity heads.new ≡ vec_capacity heads.old }
     ensures capacity { vec_capacity queue.new ≡ vec_capacity queue.old }
 {
-    if let Some(slot) = slot_of(heads, number) {
-        if hear(&mut heads[slot], old, new) {
+    if let Some(index) = index_of(heads, number) {
+        if hear(&mut heads[index], old, new) {
             queue.push_reserved(number);
         }
     }
 }
 
-// All that directly depend on the head in the slot hear.
+// All that directly depend on the head at the index hear.
 pub(crate) fn tell(
     heads: &mut Vec<Head>,
     queue: &mut Vec<u32>,
-    slot: usize,
+    index: usize,
     old: Pending,
     new: Pending,
 )
     requires rising { IsRising heads.old.items }
-    requires slot { slot < vec_len heads.old }
-    requires once { (d : Node) → AllPairs (λ m n. m ≢ n) (slice_index_or (nodes_of heads.old.items) slot d).dependants }
-    requires hears { (x d : Node) → Contains (nodes_of heads.old.items) x → Contains (slice_index_or (nodes_of heads.old.items) slot d).dependants x.patch.number → CanHear old x }
+    requires index { index < vec_len heads.old }
+    requires once { (d : Node) → AllPairs (λ m n. m ≢ n) (slice_index_or (nodes_of heads.old.items) index d).dependants }
+    requires hears { (x d : Node) → Contains (nodes_of heads.old.items) x → Contains (slice_index_or (nodes_of heads.old.items) index d).dependants x.patch.number → CanHear old x }
     requires live { old ≢ pending.Nothing }
-    requires room { (d : Node) → length queue.old.items + length (woken (slice_index_or (nodes_of heads.old.items) slot d).dependants old new (nodes_of heads.old.items)) ≤ vec_capacity queue.old }
-    ensures nodes { (d : Node) → nodes_of heads.new.items ≡ map (heard (slice_index_or (nodes_of heads.old.items) slot d).dependants old new) (nodes_of heads.old.items) }
+    requires room { (d : Node) → length queue.old.items + length (woken (slice_index_or (nodes_of heads.old.items) index d).dependants old new (nodes_of heads.old.items)) ≤ vec_capacity queue.old }
+    ensures nodes { (d : Node) → nodes_of heads.new.items ≡ map (heard (slice_index_or (nodes_of heads.old.items) index d).dependants old new) (nodes_of heads.old.items) }
     ensures frames { frames_of heads.new.items ≡ frames_of heads.old.items }
     ensures places { vec_capacity heads.new ≡ vec_capacity heads.old }
-    ensures queued { (d : Node) → queue.new.items ≡ queue.old.items ++ woken (slice_index_or (nodes_of heads.old.items) slot d).dependants old new (nodes_of heads.old.items) }
+    ensures queued { (d : Node) → queue.new.items ≡ queue.old.items ++ woken (slice_index_or (nodes_of heads.old.items) index d).dependants old new (nodes_of heads.old.items) }
     ensures capacity { vec_capacity queue.new ≡ vec_capacity queue.old }
 {
     let mut at = 0;
-    while at < heads[slot].dependants.len() {
-        let number = heads[slot].dependants.as_slice()[at];
+    while at < heads[index].dependants.len() {
+        let number = heads[index].dependants.as_slice()[at];
         hear_at(heads, queue, number, old, new);
         at += 1;
     }
@@ -161,19 +161,19 @@ pub fn cascade(
 {
     let before = landed.len();
     while let Some(number) = queue.pop() {
-        if let Some(slot) = slot_of(heads, number) {
-            let (old, new) = settle_slot(heads, standings, slot);
+        if let Some(index) = index_of(heads, number) {
+            let (old, new) = settle_at(heads, standings, index);
             note_landing(landed, number, new);
-            tell(heads, queue, slot, old, new);
+            tell(heads, queue, index, old, new);
         }
     }
     landed.len() - before
 }
 
-/// Seals the gate in the slot. It waits in the queue where its dependants have to be told.
-pub fn seal_slot(heads: &mut Vec<Head>, queue: &mut Vec<u32>, gate: u32, slot: usize)
+/// Seals the gate at the index. It waits in the queue where its dependants have to be told.
+pub fn seal_at(heads: &mut Vec<Head>, queue: &mut Vec<u32>, gate: u32, index: usize)
     requires rising { IsRising heads.old.items }
-    requires slot { HasSlot heads.old.items gate slot }
+    requires index { HasIndex heads.old.items gate index }
     requires fits { (x : Node) → Contains (nodes_of heads.old.items) x → Fits x.sums }
     requires room { vec_len queue.old < vec_capacity queue.old }
     ensures nodes { nodes_of heads.new.items ≡ map (at_number gate seals) (nodes_of heads.old.items) }
@@ -182,7 +182,7 @@ pub fn seal_slot(heads: &mut Vec<Head>, queue: &mut Vec<u32>, gate: u32, slot: u
     ensures places { vec_capacity heads.new ≡ vec_capacity heads.old }
     ensures capacity { vec_capacity queue.new ≡ vec_capacity queue.old }
 {
-    let head = &mut heads[slot];
+    let head = &mut heads[index];
     head.kind = Kind::SealedGate;
     rest(head);
     if !is_told(head) {

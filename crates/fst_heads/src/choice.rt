@@ -31,7 +31,7 @@ fn is_ready_at(heads: &[Head], near: &mut Near, from_back: bool, number: u32, bl
     ensures { result ≡ list_any (λ x. (x.patch.number == number) && is_ready_on block x) (nodes_of heads.now) }
 {
     match near.find(heads, from_back, number) {
-        Some(slot) => is_ready(&heads[slot], block),
+        Some(index) => is_ready(&heads[index], block),
         None => false,
     }
 }
@@ -100,7 +100,7 @@ fn is_held_at(heads: &[Head], near: &mut Near, from_back: bool, number: u32, blo
     ensures { result ≡ list_any (λ x. (x.patch.number == number) && is_held_on block x) (nodes_of heads.now) }
 {
     match near.find(heads, from_back, number) {
-        Some(slot) => is_held(&heads[slot], block),
+        Some(index) => is_held(&heads[index], block),
         None => false,
     }
 }

@@ -11,9 +11,9 @@ ghost use Rattle.fst_heads.specs.Pendings.{Fits};
 ghost use Rattle.fst_heads.specs.Rows.{IsMissing};
 
 use crate::head::Head;
+use crate::index::index_of;
 use crate::pending::Sums;
 use crate::row::{Row, is_live_number, put};
-use crate::slot::slot_of;
 use fst_types::PatchNo;
 use smallvec::SmallVec;
 use std::alloc::{AllocError, Global};
@@ -25,11 +25,11 @@ fn is_direct(heads: &[Head], from: u32, to: u32) -> bool
     requires linked { AreLinked (nodes_of heads.now) }
     ensures { IsTrue result ↔ DirectlyOn (patches_of heads.now) from to }
 {
-    let Some(over) = slot_of(heads, from) else {
+    let Some(over) = index_of(heads, from) else {
         return false;
     };
     let row = heads[over].dependencies.as_slice();
-    if let Some(under) = slot_of(heads, to) {
+    if let Some(under) = index_of(heads, to) {
         let dependants = heads[under].dependants.as_slice();
         if dependants.len() < row.len() {
             return dependants.contains(&from);
@@ -76,8 +76,8 @@ pub fn gain(heads: &mut Vec<Head>, gate: u32, names: &[u32], sums: Sums) -> Resu
     ensures same { OnErr result (nodes_of heads.new.items ≡ nodes_of heads.old.items) }
     ensures room { OnOk result (HasRoomAbove heads.old.items names.now → HasRoomAbove heads.new.items names.now) }
 {
-    if let Some(slot) = slot_of(heads, gate) {
-        let head = &mut heads[slot];
+    if let Some(index) = index_of(heads, gate) {
+        let head = &mut heads[index];
         head.dependencies.extend_from_slice(names)?;
         head.sums = head.sums.with(sums);
     }
@@ -93,8 +93,8 @@ pub fn gain_one(heads: &mut Vec<Head>, gate: u32, number: u32, sums: Sums)
     ensures nodes { nodes_of heads.new.items ≡ map (at_number gate (gains_names (number ∷ []) sums)) (nodes_of heads.old.items) }
     ensures above { (row : List ℕ) → HasRoomAbove heads.old.items row → HasRoomAbove heads.new.items row }
 {
-    if let Some(slot) = slot_of(heads, gate) {
-        let head = &mut heads[slot];
+    if let Some(index) = index_of(heads, gate) {
+        let head = &mut heads[index];
         head.dependencies.push_reserved(number);
         head.sums = head.sums.with(sums);
     }

@@ -16,8 +16,8 @@ ghost use Rattle.fst_heads.specs.Standings.{ready_on, held_on};
 
 use crate::cascade::tell;
 use crate::head::Head;
+use crate::index::index_of;
 use crate::pending::Pending;
-use crate::slot::slot_of;
 use fst_types::{PatchNo, Place};
 
 // The patch with the number is in flight.
@@ -27,8 +27,8 @@ fn launch_at(heads: &mut Vec<Head>, number: u32)
     ensures frames { frames_of heads.new.items ≡ frames_of heads.old.items }
     ensures places { vec_capacity heads.new ≡ vec_capacity heads.old }
 {
-    if let Some(slot) = slot_of(heads, number) {
-        heads[slot].place = Place::Flight;
+    if let Some(index) = index_of(heads, number) {
+        heads[index].place = Place::Flight;
     }
 }
 
@@ -64,13 +64,13 @@ fn rise(heads: &mut Vec<Head>, queue: &mut Vec<u32>, block: u32)
     ensures capacity { vec_capacity queue.new ≡ vec_capacity queue.old }
 {
     while let Some(number) = queue.pop() {
-        if let Some(slot) = slot_of(heads, number) {
+        if let Some(index) = index_of(heads, number) {
             let own = block as u16;
-            heads[slot].pending = Pending::Behind(own);
+            heads[index].pending = Pending::Behind(own);
             tell(
                 heads,
                 queue,
-                slot,
+                index,
                 Pending::Block(own),
                 Pending::Behind(own),
             );

@@ -7,7 +7,7 @@ ghost use Rattle.fst_heads.specs.Heads.{IsRising};
 ghost use Rattle.fst_heads.specs.Nodes.{nodes_of, linked_to, HasRoomAbove};
 
 use crate::head::Head;
-use crate::slot::slot_of;
+use crate::index::index_of;
 use std::alloc::AllocError;
 
 /// Makes room for one more dependant at each patch of the row.
@@ -19,8 +19,8 @@ pub fn reserve_above(heads: &mut Vec<Head>, row: &[u32]) -> Result<(), AllocErro
     ensures capacity { vec_capacity heads.new ≡ vec_capacity heads.old }
 {
     for number in row {
-        if let Some(slot) = slot_of(heads, *number) {
-            heads[slot].dependants.reserve(1)?;
+        if let Some(index) = index_of(heads, *number) {
+            heads[index].dependants.reserve(1)?;
         }
     }
     Ok(())
@@ -35,8 +35,8 @@ pub fn reserve_below(heads: &mut Vec<Head>, number: u32) -> Result<(), AllocErro
     ensures len { vec_len heads.new ≡ vec_len heads.old }
     ensures capacity { vec_capacity heads.new ≡ vec_capacity heads.old }
 {
-    if let Some(slot) = slot_of(heads, number) {
-        heads[slot].dependencies.reserve(1)?;
+    if let Some(index) = index_of(heads, number) {
+        heads[index].dependencies.reserve(1)?;
     }
     Ok(())
 }
@@ -52,8 +52,8 @@ pub fn link(heads: &mut Vec<Head>, row: &[u32], number: u32)
     ensures capacity { vec_capacity heads.new ≡ vec_capacity heads.old }
 {
     for other in row {
-        if let Some(slot) = slot_of(heads, *other) {
-            heads[slot].dependants.push_reserved(number);
+        if let Some(index) = index_of(heads, *other) {
+            heads[index].dependants.push_reserved(number);
         }
     }
 }

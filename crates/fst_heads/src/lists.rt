@@ -49,11 +49,11 @@ fn land_number(
     ensures flew { result ≡ list_any (λ x. (x.patch.number == number) && is_change_at place.Flight block x.patch) (nodes_of heads.old.items) }
     ensures nodes { nodes_of heads.new.items ≡ map (at_number number (lands block)) (nodes_of heads.old.items) }
 {
-    let Some(slot) = near.find(heads, from_back, number) else {
+    let Some(index) = near.find(heads, from_back, number) else {
         return false;
     };
-    if is_change_at(&heads[slot], Place::Flight, block) {
-        heads[slot].place = Place::Disk;
+    if is_change_at(&heads[index], Place::Flight, block) {
+        heads[index].place = Place::Disk;
         return true;
     }
     false

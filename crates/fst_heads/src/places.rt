@@ -10,7 +10,7 @@ ghost use Rattle.fst_heads.specs.Spans.{SpansDisk};
 ghost use Rattle.fst_heads.specs.Nodes.{node_of, nodes_of};
 
 use crate::head::{Head, Kind};
-use crate::slot::slot_of;
+use crate::index::index_of;
 use crate::test::is_live;
 use fst_types::Place;
 
@@ -54,8 +54,8 @@ pub fn block_of(heads: &[Head], number: u32) -> Option<u32>
     requires { IsRising heads.now }
     ensures { (p : Patch) → Contains (patches_of heads.now) p → p.number ≡ number → result ≡ block_of_kind p.kind }
 {
-    let slot = slot_of(heads, number)?;
-    match heads[slot].kind {
+    let index = index_of(heads, number)?;
+    match heads[index].kind {
         Kind::Change(_, block, _) => Some(u32::from(block)),
         Kind::Empty | Kind::OpenGate | Kind::SealedGate => None,
     }
@@ -68,7 +68,7 @@ pub fn is_kept(head: &Head) -> bool
     is_live(head.place)
 }
 
-/// The slot of the first patch on disk, so many not being there, and the end where none is. It is looked for from both ends
+/// The index of the first patch on disk, so many not being there, and the end where none is. It is looked for from both ends
 /// by turns, since what landed of late mostly is the oldest or the newest.
 pub fn first_on_disk(heads: &[Head], live: usize) -> usize
     requires { live ≡ count_by is_live (patches_of heads.now) }
@@ -90,15 +90,15 @@ pub fn first_on_disk(heads: &[Head], live: usize) -> usize
     high
 }
 
-/// The slot behind the last patch on disk, so many not being there; `first` is the slot of the first. A file system writes its
-/// oldest patches first, so that those on disk mostly lie together: from the first on they are met until there are no more.
+/// The index behind the last patch on disk, so many not being there; `first` is the index of the first. A file system writes
+/// its oldest patches first, so that those on disk mostly lie together: from the first on they are met until there are no more.
 /// By turns with that the last is looked for from the end back, where the newest may be on disk too.
 pub fn end_on_disk(heads: &[Head], first: usize, live: usize) -> usize
     requires first { first ≡ prefix_len is_live (patches_of heads.now) }
     requires live { live ≡ count_by is_live (patches_of heads.now) }
     ensures { SpansDisk (patches_of heads.now) first result }
 {
-    let mut slot = first;
+    let mut index = first;
     let mut end = heads.len();
     let mut left = heads.len() - live;
     while 0 < left {
@@ -106,12 +106,12 @@ pub fn end_on_disk(heads: &[Head], first: usize, live: usize) -> usize
             return end;
         }
         end -= 1;
-        if !is_kept(&heads[slot]) {
+        if !is_kept(&heads[index]) {
             left -= 1;
         }
-        slot += 1;
+        index += 1;
     }
-    slot
+    index
 }
 
 // The heads on disk are dropped, which stand from `first` up to `end`. There a live head changes places with one that is
@@ -121,9 +121,9 @@ fn swap_on_disk(heads: &mut Vec<Head>, first: usize, end: usize)
     ensures { heads.new.items ≡ filter (λ h. is_live (patch_of h)) heads.old.items }
 {
     let mut kept = first;
-    for slot in first..end {
-        if is_kept(&heads[slot]) {
-            heads.swap(kept, slot);
+    for index in first..end {
+        if is_kept(&heads[index]) {
+            heads.swap(kept, index);
             kept += 1;
         }
     }

@@ -15,9 +15,9 @@ ghost use Rattle.fst_heads.specs.Pendings.{Fits, joined, sums_of};
 ghost use Rattle.fst_heads.specs.Rows.{Gains, shares, IsDependency};
 
 use crate::head::Head;
+use crate::index::index_of;
 use crate::lists::Listed;
 use crate::pending::{Pending, Sums, join, no_sums};
-use crate::slot::slot_of;
 use crate::test::is_live;
 use fst_types::{PatchNo, Span};
 use smallvec::SmallVec;
@@ -50,8 +50,8 @@ pub fn is_live_number(heads: &[Head], number: u32) -> bool
     requires { IsRising heads.now }
     ensures { IsTrue result ↔ IsLiveNumber (patches_of heads.now) number }
 {
-    match slot_of(heads, number) {
-        Some(slot) => is_live(heads[slot].place),
+    match index_of(heads, number) {
+        Some(index) => is_live(heads[index].place),
         None => false,
     }
 }
@@ -134,8 +134,8 @@ pub fn pending_at(heads: &[Head], number: u32) -> Pending
     requires { IsRising heads.now }
     ensures { result ≡ pending_in (nodes_of heads.now) number }
 {
-    match slot_of(heads, number) {
-        Some(slot) => heads[slot].pending,
+    match index_of(heads, number) {
+        Some(index) => heads[index].pending,
         None => Pending::Nothing,
     }
 }

@@ -10,9 +10,9 @@ ghost use Rattle.fst_heads.specs.Rows.{IsSparseRow, IsTouched, touches};
 
 use crate::cover::{Cover, Run};
 use crate::head::{Head, Kind};
+use crate::index::index_of;
 use crate::lists::Listed;
 use crate::row::{Row, dependencies_of, live_named, put, shares};
-use crate::slot::slot_of;
 use crate::test::is_live;
 use fst_types::{PatchNo, Span};
 use std::alloc::{AllocError, Global};
@@ -42,8 +42,8 @@ pub fn is_touched(heads: &[Head], number: u32, block: u32, span: Span) -> bool
     requires { IsRising heads.now }
     ensures { IsTrue result ↔ IsTouched (patches_of heads.now) block span.at span.len number }
 {
-    match slot_of(heads, number) {
-        Some(slot) => touches(&heads[slot], block, span),
+    match index_of(heads, number) {
+        Some(index) => touches(&heads[index], block, span),
         None => false,
     }
 }

@@ -133,27 +133,27 @@ pub fn empty_standings(alloc: Global, blocks: u32) -> Result<Vec<Standing>, Allo
     }; blocks as usize]
 }
 
-/// What is pending of the head in the slot from now on its dependants have to be told. Answers what they knew, and what
+/// What is pending of the head at the index from now on its dependants have to be told. Answers what they knew, and what
 /// is pending now. A change in memory that now waits for changes of its block in memory alone is ready.
-pub fn settle_slot(
+pub fn settle_at(
     heads: &mut Vec<Head>,
     standings: &mut Vec<Standing>,
-    slot: usize,
+    index: usize,
 ) -> (Pending, Pending)
     requires rising { IsRising heads.old.items }
-    requires slot { slot < vec_len heads.old }
-    requires untold { (d : Node) → IsUntold (slice_index_or (nodes_of heads.old.items) slot d) }
+    requires index { index < vec_len heads.old }
+    requires untold { (d : Node) → IsUntold (slice_index_or (nodes_of heads.old.items) index d) }
     requires inside { (x : Node) (b at len : ℕ) (grade : Grade) → Contains (nodes_of heads.old.items) x → x.patch.kind ≡ Change b at len grade → b < vec_len standings.old }
     requires standing { AllStand (nodes_of heads.old.items) (vec_len standings.old) standings.old.items }
-    ensures old { (d : Node) → result.0 ≡ (slice_index_or (nodes_of heads.old.items) slot d).pending }
-    ensures new { (d : Node) → result.1 ≡ now (slice_index_or (nodes_of heads.old.items) slot d) }
-    ensures nodes { (d : Node) → nodes_of heads.new.items ≡ map (at_number (slice_index_or (nodes_of heads.old.items) slot d).patch.number settles) (nodes_of heads.old.items) }
+    ensures old { (d : Node) → result.0 ≡ (slice_index_or (nodes_of heads.old.items) index d).pending }
+    ensures new { (d : Node) → result.1 ≡ now (slice_index_or (nodes_of heads.old.items) index d) }
+    ensures nodes { (d : Node) → nodes_of heads.new.items ≡ map (at_number (slice_index_or (nodes_of heads.old.items) index d).patch.number settles) (nodes_of heads.old.items) }
     ensures standing { AllStand (nodes_of heads.new.items) (vec_len standings.old) standings.new.items }
     ensures frames { frames_of heads.new.items ≡ frames_of heads.old.items }
     ensures places { vec_capacity heads.new ≡ vec_capacity heads.old }
     ensures len { vec_len heads.new ≡ vec_len heads.old }
 {
-    let head = &mut heads[slot];
+    let head = &mut heads[index];
     let old = head.pending;
     let new = pending_now(head);
     if let Kind::Change(_, block, _) = head.kind {

@@ -3,11 +3,11 @@
 
 ghost use Rattle.std.specs.Prelude.{◌≡◌, ◌∷◌, ◌++◌, [], true, false, IfSome, IfNone};
 ghost use Rattle.fst_heads.specs.Heads.{IsRising};
-ghost use Rattle.fst_heads.specs.Slots.{HasNone, HasSlot};
+ghost use Rattle.fst_heads.specs.Indices.{HasIndex, HasNone};
 
 use crate::head::Head;
+use crate::index::index_near;
 use crate::lists::Listed;
-use crate::slot::slot_near;
 
 /// The first or the last of what is left of the list, and what is left then.
 pub fn next_in_turn(rest: &[Listed], from_back: bool) -> Option<(Listed, &[Listed])>
@@ -23,7 +23,7 @@ pub fn next_in_turn(rest: &[Listed], from_back: bool) -> Option<(Listed, &[Liste
     Some((*listed, others))
 }
 
-/// The slots where the last one from each end was found: the next one from that end mostly stands near it. Nothing is claimed
+/// The indices where the last one from each end was found: the next one from that end mostly stands near it. Nothing is claimed
 /// of them.
 #[derive(Clone, Copy)]
 pub struct Near {
@@ -32,7 +32,7 @@ pub struct Near {
 }
 
 impl Near {
-    /// The first slot and the last, where none was found yet.
+    /// The first index and the last, where none was found yet.
     pub fn ends(heads: &[Head]) -> Near {
         Near {
             front: 0,
@@ -40,10 +40,10 @@ impl Near {
         }
     }
 
-    /// The slot of the head with the number, which is the next one from that end.
+    /// The index of the head with the number, which is the next one from that end.
     pub fn find(&mut self, heads: &[Head], from_back: bool, number: u32) -> Option<usize>
         requires { IsRising heads.now }
-        ensures found { IfSome result (λ slot. HasSlot heads.now number slot) }
+        ensures found { IfSome result (λ index. HasIndex heads.now number index) }
         ensures none { IfNone result (HasNone heads.now number) }
     {
         let near = if from_back {
@@ -51,8 +51,8 @@ impl Near {
         } else {
             &mut self.front
         };
-        let slot = slot_near(heads, *near, number)?;
-        *near = slot;
-        Some(slot)
+        let index = index_near(heads, *near, number)?;
+        *near = index;
+        Some(index)
     }
 }

@@ -3,7 +3,7 @@ use Rattle.std.proofs.Common.{◌≡◌, ◌≤◌, ◌<◌, ◌⊎◌, ◌∷�
 use Rattle.std.proofs.lemmas.Bool.{cases_eq}
 use Rattle.fst_types.specs.{Closure.{join}, Dependencies.DependsOn, Facts.IsOnDiskWithAll, Patches.{Patch, IsRising}}
 use Rattle.fst_types.proofs.{Finite.{Contains-from_In, In-from_Contains, first_step}}
-use Rattle.fst_heads.specs.{Slots.PassesAt}
+use Rattle.fst_heads.specs.{Indices.PassesAt}
 use Rattle.fst_walks.specs.{Ancestors.{AreOver, GoesUnder, LeadsTo, MayStandUnder}, Leveling.{jump_of, kept_under, no_ancestry}, WayBack.LeadsBack, declared.levels.{Ancestry.Ancestry, Rank.Rank}}
 use Rattle.fst_walks.proofs.{ComesBack.off_not_on, Straight.straight_back}
 use Rattle.fst_heads.specs.declared.test.Test.TheVariants as test

@@ -3,7 +3,7 @@ use Rattle.std.proofs.Common.{◌⊎◌, ◌∷◌, [], ℕ, List, Contains, sub
 use Rattle.std.proofs.lemmas.List.Elements.{Contains-push}
 use Rattle.fst_types.specs.{Closure.{one, join}, Dependencies.DirectlyOn, Facts.{HardNeverHold, IsOnDiskWithAll}, Patches.Patch}
 use Rattle.fst_types.proofs.SmallStates.{only_in}
-use Rattle.fst_heads.specs.{Grading.{IsHardNumber, IsLeading, IsReturning, LeadsNowhere}, Heads.{IsRising, patches_of}, Slots.IsAbove, declared.head.Head.Head}
+use Rattle.fst_heads.specs.{Grading.{IsHardNumber, IsLeading, IsReturning, LeadsNowhere}, Heads.{IsRising, patches_of}, Indices.IsAbove, declared.head.Head.Head}
 use Rattle.fst_heads.proofs.Listing.{rising_patches}
 use Rattle.fst_walks.specs.WayBack.{LeadsBack}
 use Rattle.fst_walks.proofs.{BothEnds.back_leads, NearRow.rests_may}

@@ -4,7 +4,7 @@ use Rattle.std.proofs.{lemmas.Bool.{cases_lt}, lemmas.List.{append-nil, append_a
 use Rattle.std.proofs.lemmas.List.Elements.{Contains-append_left, Contains-get_or}
 use Rattle.fst_types.specs.Closure.{Closure, one, join}
 use Rattle.fst_heads.specs.Reaching.{IsReached}
-use Rattle.fst_heads.proofs.Slots.{any_default}
+use Rattle.fst_heads.proofs.Indices.{any_default}
 use Rattle.fst_walks.specs.Descending.{IsLedFrom, Visits}
 use Rattle.fst_walks.proofs.Visiting.{visits_old}
 

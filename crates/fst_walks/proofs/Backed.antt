@@ -5,7 +5,7 @@ use Rattle.fst_types.specs.{Cascade.IsCascadeOf, Closure.{Closure, one, join}, D
 use Rattle.fst_types.specs.{Grades.{HasEdge, Reaches}, Patches.{Patch, OpenGate, IsOn, IsHard, IsLive, IsRising, block_of_kind, grade_of_kind}}
 use Rattle.fst_types.specs.{Tests.{is_at, is_live}, Writable.{IsWritable, IsWritableSet}, Writing.{landed, launched}, declared.place.Place.Place}
 use Rattle.fst_types.proofs.{Cascades.{no_follower_on, settled_on}, Crash.same_number, Depending.grown, Dropping.in_filter, Finite.{In-from_Contains, Contains-from_In, In-map}, Issuing.launched_cases, Landing.landed_cases, Sealing.sealed_cases}
-use Rattle.fst_heads.specs.{Grading.{HasUnder, IsHardNumber}, Slots.PassesAt}
+use Rattle.fst_heads.specs.{Grading.{HasUnder, IsHardNumber}, Indices.PassesAt}
 use Rattle.fst_heads.proofs.{Graded.{off_from, off_to, on_to}}
 use Rattle.fst_walks.specs.{Needing.{AreNeeded, HasWayBack, HaveWaysBack, IsHardAt}, WayBack.{IsLiveOver, LeadsBack, StepsBack}, declared.needs.Way.Way}
 use Rattle.fst_walks.proofs.{BothEnds.{off_live, up_over}, ComesBack.{ComesBack, hard_reaches, live_number, live_on, over_back}, Holding.live_up, Trails.none_in}

@@ -5,7 +5,7 @@ use Rattle.std.proofs.lemmas.List.Elements.{Contains-push}
 use Rattle.fst_types.specs.{Closure.{Closure, one, join}, Dependencies.{DependsOn, IsLiveNumber}, Facts.{IsOnDiskWithAll}}
 use Rattle.fst_types.specs.{Grades.{HasEdge, Reaches}, Patches.{Patch, IsLive, IsRising}}
 use Rattle.fst_types.proofs.SmallStates.{only_in}
-use Rattle.fst_heads.specs.{Grading.{HasUnder, IsReturning, IsLeading, LeadsNowhere, IsHardNumber}, Slots.PassesAt}
+use Rattle.fst_heads.specs.{Grading.{HasUnder, IsReturning, IsLeading, LeadsNowhere, IsHardNumber}, Indices.PassesAt}
 use Rattle.fst_heads.specs.{Reaching.{ShowsBlocks}}
 use Rattle.fst_heads.proofs.{Graded.{off_from, off_to}}
 use Rattle.fst_walks.specs.{BothEnds.StepsAway, Descending.IsLedFrom, WayBack.{LeadsBack, StepsBack, StepsUp, IsLiveOver}}

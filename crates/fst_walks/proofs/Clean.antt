@@ -1,7 +1,7 @@
 -- Nothing leads back to a block whose changes are all on disk.
 use Rattle.std.proofs.Common.{◌≡◌, ℕ, List, refl, subst, inl, inr}
 use Rattle.fst_types.specs.{Closure.{one, join}, Grades.Reaches, Patches.{Patch, IsRising}}
-use Rattle.fst_heads.specs.{Grading.{IsReturning, LeadsNowhere}, Slots.PassesAt}
+use Rattle.fst_heads.specs.{Grading.{IsReturning, LeadsNowhere}, Indices.PassesAt}
 use Rattle.fst_walks.proofs.ComesBack.{on_live}
 use Rattle.fst_heads.specs.declared.test.Test.TheVariants as test
 

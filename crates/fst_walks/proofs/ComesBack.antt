@@ -4,7 +4,7 @@ use Rattle.std.proofs.lemmas.Bool.{cases_eq}
 use Rattle.fst_types.specs.{Closure.{one, join}, Dependencies.{DependsOn, IsLiveNumber}, Grades.{HasEdge, Reaches}}
 use Rattle.fst_types.specs.Patches.{Patch, IsRising, IsOn, IsLive}
 use Rattle.fst_types.proofs.Crash.{same_number}
-use Rattle.fst_heads.specs.{Grading.{HasUnder, IsReturning, IsLeading, LeadsNowhere, IsHardNumber}, Slots.PassesAt}
+use Rattle.fst_heads.specs.{Grading.{HasUnder, IsReturning, IsLeading, LeadsNowhere, IsHardNumber}, Indices.PassesAt}
 use Rattle.fst_heads.proofs.{Graded.{on_from, on_to, off_from}}
 use Rattle.fst_walks.specs.{WayBack.{StepsBack, IsLiveOver}}
 use Rattle.fst_heads.specs.declared.test.Test.TheVariants as test

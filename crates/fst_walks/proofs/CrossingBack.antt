@@ -5,12 +5,12 @@ use Rattle.fst_types.specs.{Dependencies.{DirectlyOn, IsLiveNumber}, Patches.{Pa
 use Rattle.fst_types.specs.Tests.{is_at, is_on}
 use Rattle.fst_types.proofs.{Dropping.{in_filter, filter_in}, Finite.{In, In-from_Contains, Contains-from_In, In-map}, GateGains.In-unmap}
 use Rattle.fst_heads.specs.{Grading.IsHardNumber, Heads.{IsRising, patch_of, patches_of}, Lists.{Entry, entry, entry_of, entries_of, entries_on, is_live_on}}
-use Rattle.fst_heads.specs.{Slots.{HasSlot, PassesAt}, Nodes.{Node, node_of, nodes_of, patches_in, AreLinked}, Reaching.{IsReached, IsHardIn}}
+use Rattle.fst_heads.specs.{Indices.{HasIndex, PassesAt}, Nodes.{Node, node_of, nodes_of, patches_in, AreLinked}, Reaching.{IsReached, IsHardIn}}
 use Rattle.fst_heads.specs.{declared.head.Head.Head, declared.head.Kind.{Kind as HeadKind}, declared.lists.Listed.Listed, Heads.kind_of}
 use Rattle.fst_types.specs.declared.grade.Grade.{Grade}
 use Rattle.fst_heads.specs.declared.head.Kind.TheVariants as kinds
 use Rattle.fst_heads.proofs.{AtNumber.patches_in_nodes, Forgetting.{live_place_of}, Graded.{on_from, on_to}, Leading.{reached_more, same_patch}}
-use Rattle.fst_heads.proofs.{Placed.{patch_in, node_of_patch}, Slots.patch_is, Waiting.{map_twice, times_some, some_times}}
+use Rattle.fst_heads.proofs.{Placed.{patch_in, node_of_patch}, Indices.patch_is, Waiting.{map_twice, times_some, some_times}}
 use Rattle.fst_walks.specs.{BothEnds.IsOffDisk, Descending.Visits, WayBack.{Crosses, ShowsBlockOf}}
 use Rattle.fst_walks.proofs.{Visiting.visits_none}
 use Rattle.fst_types.specs.declared.place.Place.TheVariants as place
@@ -75,8 +75,8 @@ listed_change patches list b n same c =
       passed = on_to b p.0.number p.0.kind p.0.place (not_disk p.0.place k.0) (on_kind b p.0.kind k.1);
     }
 
--- the head at a slot tells whether its number is that of a hard change of b in memory
-module _ (heads : List Head) (rising : IsRising heads) (n s : ℕ) (d : Head) (slot : HasSlot heads n s) where
+-- the head at an index tells whether its number is that of a hard change of b in memory
+module _ (heads : List Head) (rising : IsRising heads) (n s : ℕ) (d : Head) (index : HasIndex heads n s) where
   abbrev patches : List Patch
   patches = patches_of heads
 
@@ -85,7 +85,7 @@ module _ (heads : List Head) (rising : IsRising heads) (n s : ℕ) (d : Head) (s
 
   -- the block of what is there, if it is hard
   pub hard_on_here : (c : ℕ) → IsHardNumber patches c n → IsHardIn here c
-  hard_on_here c h = subst (λ p. IsHardIn p c) (sym (patch_is heads h.patch s d rising h.head (subst (λ m. HasSlot heads m s) (sym h.numbered) slot))) h.hard
+  hard_on_here c h = subst (λ p. IsHardIn p c) (sym (patch_is heads h.patch s d rising h.head (subst (λ m. HasIndex heads m s) (sym h.numbered) index))) h.hard
 
   -- where it is a change of b, it is a hard change of no other block
   pub hard_same : (b : ℕ) → IsOn here b → (c : ℕ) → IsHardNumber patches c n → IsHardNumber patches b n

@@ -2,16 +2,16 @@
 use Rattle.std.proofs.Common.{◌≡◌, ◌<◌, ℕ, Bool, true, false, List, Some, length, get_or, set, Contains, refl, sym, ap, subst, ◌∙◌, inl, inr, get_or-set_same, get_or-set_other}
 use Rattle.std.proofs.lemmas.Bool.{cases_eq}
 use Rattle.fst_types.specs.{Dependencies.IsLiveNumber, Patches.{Patch, IsOn, block_of_kind}, declared.grade.Grade.Grade}
-use Rattle.fst_heads.specs.{Heads.{IsRising, kind_of, patch_of, patches_of}, Slots.{HasSlot, PassesAt}}
+use Rattle.fst_heads.specs.{Heads.{IsRising, kind_of, patch_of, patches_of}, Indices.{HasIndex, PassesAt}}
 use Rattle.fst_heads.specs.{Reaching.IsReached, declared.head.Head.Head, declared.head.Kind.Kind}
-use Rattle.fst_heads.proofs.{Graded.{on_from, on_to}, Leading.{reached_more}, Slots.{patch_at, patch_is}}
+use Rattle.fst_heads.proofs.{Graded.{on_from, on_to}, Leading.{reached_more}, Indices.{patch_at, patch_is}}
 use Rattle.fst_walks.specs.{Descending.Visits, BothEnds.{CrossesDown, IsNeed, ShowsBlockUnder}}
 use Rattle.fst_walks.proofs.{Visiting.visits_none}
 use Rattle.fst_heads.specs.declared.head.Kind.TheVariants as kinds
 use Rattle.fst_heads.specs.declared.test.Test.TheVariants as test
 use Rattle.fst_types.proofs.Numbers.{one_block}
 
-module _ (heads : List Head) (rising : IsRising heads) (needs : ℕ → List ℕ) (n s : ℕ) (d : Head) (slot : HasSlot heads n s) (live : IsLiveNumber (patches_of heads) n) where
+module _ (heads : List Head) (rising : IsRising heads) (needs : ℕ → List ℕ) (n s : ℕ) (d : Head) (index : HasIndex heads n s) (live : IsLiveNumber (patches_of heads) n) where
   abbrev patches : List Patch
   patches = patches_of heads
 
@@ -19,7 +19,7 @@ module _ (heads : List Head) (rising : IsRising heads) (needs : ℕ → List ℕ
   here = patch_of (get_or heads s d)
 
   is_here : (p : Patch) → Contains patches p → p.number ≡ n → here ≡ p
-  is_here p h e = patch_is heads p s d rising h (subst (λ m. HasSlot heads m s) (sym e) slot)
+  is_here p h e = patch_is heads p s d rising h (subst (λ m. HasIndex heads m s) (sym e) index)
 
   -- the block of what is there, if it is a change
   pub on_here : (c : ℕ) → PassesAt (test.LiveOn c) patches n → IsOn here c
@@ -28,8 +28,8 @@ module _ (heads : List Head) (rising : IsRising heads) (needs : ℕ → List ℕ
   pub here_on : (c : ℕ) → IsOn here c → PassesAt (test.LiveOn c) patches n
   here_on c on = record {
     patch = here;
-    head = patch_at heads s d slot.0;
-    numbered = slot.1 d;
+    head = patch_at heads s d index.0;
+    numbered = index.1 d;
     passed = on_to c here.number here.kind here.place (λ e. live.live (sym (ap (λ p. p.place) (is_here live.patch live.head live.numbered)) ∙ e)) on;
   }
 

@@ -2,7 +2,7 @@
 use Rattle.std.proofs.Common.{◌≡◌, ◌≢◌, ◌∙◌, ℕ, List, set, subst, inl, inr, length-set, get_or-set_other}
 use Rattle.std.proofs.lemmas.Bool.{cases_eq}
 use Rattle.fst_types.specs.Patches.{Patch}
-use Rattle.fst_heads.specs.Slots.{PassesAt}
+use Rattle.fst_heads.specs.Indices.{PassesAt}
 use Rattle.fst_heads.specs.declared.test.Test.TheVariants as test
 use Rattle.fst_walks.specs.Leveling.{IsLeveled, Leveling, floor_of}
 use Rattle.fst_walks.proofs.Lifted.{hard_passes}

@@ -4,7 +4,7 @@ use Rattle.std.proofs.lemmas.List.Elements.{Contains-push_cases}
 use Rattle.fst_types.specs.{Cascade.IsCascadeOf, Facts.SparseAreLawful, Gates.IsOpenNumber, Gating.{gains, sealed}, Patches.{Patch, IsLive, IsOn, block_of_kind}, Tests.is_live}
 use Rattle.fst_types.specs.{Writable.{IsWritable, IsWritableSet}, Writing.{landed, launched}}
 use Rattle.fst_types.proofs.{Cascades.{kept_place, settled_back}, Dropping.filter_in, Finite.{In-from_Contains, Contains-from_In}, GateGains.In-unmap, Issuing.launched_cases, Landing.landed_cases, Sealing.sealed_cases}
-use Rattle.fst_heads.specs.Slots.{PassesAt}
+use Rattle.fst_heads.specs.Indices.{PassesAt}
 use Rattle.fst_heads.proofs.{Covering.was_gained, Graded.{on_from, on_to}}
 use Rattle.fst_heads.specs.declared.test.Test.TheVariants as test
 

@@ -3,7 +3,7 @@ use Rattle.std.proofs.Common.{◌≡◌, ◌⊎◌, ℕ, List, [], ◌∷◌, Co
 use Rattle.fst_types.specs.{Closure.{IsAcyclic, one, join}, Dependencies.{DirectlyOn, DependsOn, IsLiveNumber}, Facts.IsOnDiskWithAll, Gates.IsOpenNumber}
 use Rattle.fst_types.specs.{Patches.{Kind, Change, Empty, OpenGate, SealedGate, IsRising, IsOpenGate}, declared.place.Place.Place}
 use Rattle.fst_types.proofs.Finite.{In, In-from_Contains, Contains-from_In, lowest}
-use Rattle.fst_heads.specs.{Grading.HasUnder, Heads.{IsRising as HeadsRise, patches_of}, Slots.IsAbove}
+use Rattle.fst_heads.specs.{Grading.HasUnder, Heads.{IsRising as HeadsRise, patches_of}, Indices.IsAbove}
 use Rattle.fst_heads.specs.{Nodes.{Node, nodes_of, patches_in, pending_in, AreSettled}, Pendings.{join as together, joined, of_kind}, declared.head.Head.Head}
 use Rattle.fst_heads.specs.declared.pending.Pending.{Pending}
 use Rattle.fst_heads.proofs.{AtNumber.patches_in_nodes, Joining.{join_held, held_join}, Listing.rising_patches, PendingIn.{found, told_of}}

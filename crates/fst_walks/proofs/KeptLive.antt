@@ -5,7 +5,7 @@ use Rattle.std.proofs.lemmas.List.{get_or-drop, get_or-map, get_or_default as an
 use Rattle.std.proofs.lemmas.List.{Filters.{FiltersInPlace, FiltersInPlace-more_no, FiltersInPlace-more_set}}
 use Rattle.fst_types.specs.Tests.{is_live}
 use Rattle.fst_heads.specs.{Heads.{IsRising, patch_of, patches_of}, Nodes.is_live_in, Spans.SpansDisk, declared.head.Head.Head}
-use Rattle.fst_heads.proofs.{FirstOnDisk.{filters_from, first_inside, live_before, live_head, live_read}, LastOnDisk.{filtered_so_far, live_behind}, Slots.{patch_at, rising_map, slot_here, some_element}}
+use Rattle.fst_heads.proofs.{FirstOnDisk.{filters_from, first_inside, live_before, live_head, live_read}, LastOnDisk.{filtered_so_far, live_behind}, Indices.{index_here, patch_at, rising_map, some_element}}
 use Rattle.fst_walks.specs.{declared.levels.Rank.Rank}
 use Rattle.fst_walks.proofs.{Ranked.{rank_number, ranks_long}, RanksLeft.left_number}
 
@@ -19,10 +19,10 @@ abbrev pub live_rank : List Head → Rank → Bool
 live_rank heads r = is_live_in (patches_of heads) r.number
 
 module _ (heads : List Head) (ranks : List Rank) (rising : IsRising heads) (aligned : map (λ r. r.number) ranks ≡ map (λ p. p.number) (patches_of heads)) where
-  -- a rank stays as the head in its slot does
+  -- a rank stays as the head at its index does
   rank_live : (s : ℕ) (d : Head) (e : Rank) → s < length heads → live_rank heads (get_or ranks s e) ≡ live_head (get_or heads s d)
   rank_live s d e lt =
-      let here = slot_here heads s d lt in
+      let here = index_here heads s d lt in
       let rises = rising_map patch_of heads (λ h. h.number) (λ p. p.number) (λ h. refl) rising in
       ap (is_live_in (patches_of heads)) (rank_number heads ranks rising aligned (get_or heads s d).number s here e)
       ∙ (left_number (patches_of heads) rises (patch_of (get_or heads s d)) (patch_at heads s d lt)
@@ -34,7 +34,7 @@ module _ (heads : List Head) (ranks : List Rank) (rising : IsRising heads) (alig
       let d = some_element heads i inside in
       rank_live i d e inside ∙ live_before heads first is i d lt)
 
-  -- and so on the way: the head in the slot tells what becomes of the rank
+  -- and so on the way: the head at the index tells what becomes of the rank
   module _ (rs : List Rank) (k s : ℕ) (r : FiltersInPlace (live_rank heads) ranks rs k s) (lt : s < length rs) (x : Head) (is : x ≡ get_or heads s x) where
     head_inside : s < length heads
     head_inside = omega (arith, lt, r.long, ranks_long heads ranks rising aligned)

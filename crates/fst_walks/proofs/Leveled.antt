@@ -3,7 +3,7 @@ use Rattle.std.proofs.Common.{◌≡◌, ◌≤◌, ◌<◌, ◌⊎◌, ℕ, Boo
 use Rattle.fst_types.specs.{Closure.{Closure, one, join}, Dependencies.{DependsOn, IsLiveNumber}, Facts.{IsOnDiskWithAll, HardNeverHold}}
 use Rattle.fst_types.specs.{Grades.{HasEdge, Reaches}, Patches.{Patch, IsRising, IsOn, IsLive}, Writable.IsInMemoryOn}
 use Rattle.fst_types.proofs.Crash.{same_number}
-use Rattle.fst_heads.specs.{Grading.{HasUnder, IsHardNumber, IsReturning, IsLeading, LeadsNowhere}, Slots.PassesAt}
+use Rattle.fst_heads.specs.{Grading.{HasUnder, IsHardNumber, IsReturning, IsLeading, LeadsNowhere}, Indices.PassesAt}
 use Rattle.fst_heads.proofs.{Graded.{on_from, on_to}}
 use Rattle.fst_walks.specs.{Leveling.AreLeveled, WayBack.{IsUnderHard, StepsUp}}
 use Rattle.fst_walks.proofs.Holding.{live_up}

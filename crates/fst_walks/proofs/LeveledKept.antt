@@ -3,7 +3,7 @@ use Rattle.std.proofs.Common.{◌≡◌, ◌≢◌, ◌≤◌, ◌+◌, ◌++◌
 use Rattle.std.proofs.lemmas.{Bool.{cases_eq}, List.{map-append}, List.Elements.{Contains-push_cases}}
 use Rattle.fst_types.specs.{Dependencies.DirectlyOn, Facts.HasOnePlaceEach, Gates.IsOpenNumber, Patches.{Patch, IsOn, IsHard, IsOpenGate}}
 use Rattle.fst_types.proofs.{Alike.{Alike, Like, like_self, back_alike, numbers_alike, direct_back, on_back, grade_same, open_back}, Finite.{In-from_Contains, Contains-from_In}, GateGains.In-unmap}
-use Rattle.fst_heads.specs.{Grading.IsHardNumber, Slots.PassesAt}
+use Rattle.fst_heads.specs.{Grading.IsHardNumber, Indices.PassesAt}
 use Rattle.fst_walks.specs.{Leveling.{AreLeveled, IsLeveled, Leveling, jump_of, level_of, parent_of, floor_of, top_level}, Ancestors.{GoesUnder, MayStandUnder}, declared.levels.{Ancestry.Ancestry, Rank.Rank}}
 use Rattle.fst_walks.proofs.{Leveled.{live_passes, passed_on}, Ranked.{kept_other, kept_new, number_of}, AncestorsKept.{fresh_over, over_alike}}
 use Rattle.fst_heads.specs.declared.test.Test.TheVariants as test

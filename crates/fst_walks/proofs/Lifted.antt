@@ -2,7 +2,7 @@
 use Rattle.std.proofs.Common.{◌≡◌, ◌≢◌, ◌≤◌, ◌+◌, ◌⊎◌, ℕ, List, ap, subst, ◌∙◌, inl, inr, arith}
 use Rattle.std.proofs.lemmas.Bool.{cases_eq, cases_lt}
 use Rattle.fst_types.specs.{Closure.{one}, Dependencies.{DirectlyOn, IsLiveNumber}, Facts.IsOnDiskWithAll, Gates.IsOpenNumber, Patches.Patch}
-use Rattle.fst_heads.specs.{Grading.IsHardNumber, Slots.PassesAt}
+use Rattle.fst_heads.specs.{Grading.IsHardNumber, Indices.PassesAt}
 use Rattle.fst_walks.specs.Leveling.{AreLeveled, top_level}
 use Rattle.fst_walks.proofs.{Holding.live_up, Leveled.live_passes}
 use Rattle.fst_heads.specs.declared.test.Test.TheVariants as test

@@ -2,10 +2,10 @@
 use Rattle.std.proofs.Common.{◌≡◌, ◌≢◌, ◌≤◌, ◌<◌, ◌∙◌, ℕ, List, length, map, get_or, Contains, sym, ap, subst, inl, inr, arith}
 use Rattle.std.proofs.lemmas.Bool.{cases_eq}
 use Rattle.fst_types.specs.{Dependencies.DirectlyOn, Gates.IsOpenNumber, Patches.{IsOn, OpenGate, Patch}}
-use Rattle.fst_heads.specs.{Heads.{IsRising, patch_of, patches_of}, Slots.{HasSlot, PassesAt}, declared.head.Head.Head}
-use Rattle.fst_heads.proofs.Slots.{named_at, patch_is}
+use Rattle.fst_heads.specs.{Heads.{IsRising, patch_of, patches_of}, Indices.{HasIndex, PassesAt}, declared.head.Head.Head}
+use Rattle.fst_heads.proofs.Indices.{named_at, patch_is}
 use Rattle.fst_walks.specs.{Leveling.{AreLeveled, IsLeveled, Leveling, floor_of, jump_of, level_of, parent_of, top_level}, Walks.number_at, declared.levels.Rank.Rank}
-use Rattle.fst_walks.proofs.{AncestorsKept.over_as, Leveled.passed_on, Raised.kept_as, Ranked.{no_rank, rank_level, rank_number}, Visiting.slot_at}
+use Rattle.fst_walks.proofs.{AncestorsKept.over_as, Leveled.passed_on, Raised.kept_as, Ranked.{no_rank, rank_level, rank_number}, Visiting.index_at}
 use Rattle.fst_heads.specs.declared.test.Test.TheVariants as test
 
 module _ (heads : List Head) (rising : IsRising heads) (s : ℕ) (lt : s < length heads) (here : Head) (is_here : here ≡ get_or heads s here) where
@@ -14,7 +14,7 @@ module _ (heads : List Head) (rising : IsRising heads) (s : ℕ) (lt : s < lengt
 
   -- the patch with its number is the one there
   same : (x : Patch) → Contains (patches_of heads) x → x.number ≡ n → x ≡ patch_of here
-  same x h e = sym (patch_is heads x s here rising h (subst (λ k. HasSlot heads k s) (sym e) (slot_at heads s lt))) ∙ ap patch_of (sym is_here)
+  same x h e = sym (patch_is heads x s here rising h (subst (λ k. HasIndex heads k s) (sym e) (index_at heads s lt))) ∙ ap patch_of (sym is_here)
 
   module _ (level level' floor : ℕ → ℕ) (L : AreLeveled (patches_of heads) level floor) (to : ℕ) (row : (q : ℕ) → Contains here.dependencies.items q → level q ≤ to) (lower : to < level n)
       (change : (b : ℕ) → IsOn (patch_of here) b → floor b ≤ to) (gate : (patch_of here).kind ≡ OpenGate → top_level ≤ to) (own : level' n ≡ to) (rest : (m : ℕ) → m ≢ n → level' m ≡ level m) where
@@ -40,7 +40,7 @@ module _ (heads : List Head) (rising : IsRising heads) (s : ℕ) (lt : s < lengt
     direct_lowered : (p q : ℕ) → DirectlyOn (patches_of heads) p q → level' q ≤ level' p
     direct_lowered p q d = elim (cases_eq p n) [
       | inl e ↦
-          let named = named_at heads n q s here rising (slot_at heads s lt) (subst (λ m. DirectlyOn (patches_of heads) m q) e d) in
+          let named = named_at heads n q s here rising (index_at heads s lt) (subst (λ m. DirectlyOn (patches_of heads) m q) e d) in
           let under = row q (subst (λ (y : Head). Contains y.dependencies.items q) (sym is_here) named) in
           let k = ap level' e in
           let f = fallen q in
@@ -70,9 +70,9 @@ module _ (heads : List Head) (rising : IsRising heads) (s : ℕ) (lt : s < lengt
       → ((d : Rank) (m : ℕ) → m ≢ (get_or old.ranks s d).number → level_of new.ranks m ≡ level_of old.ranks m) → map (λ r. r.ancestry) new.ranks ≡ map (λ r. r.ancestry) old.ranks
       → new.floors ≡ old.floors → IsLeveled (patches_of heads) blocks old → IsLeveled (patches_of heads) blocks new
   lowered_is_leveled blocks to old new row lower change gate numbers raised rest ancestries floors x =
-      let slot = slot_at heads s lt in
-      let number = rank_number heads old.ranks rising x.aligned n s slot no_rank in
-      let level = rank_level heads old.ranks rising x.aligned n s slot no_rank in
+      let index = index_at heads s lt in
+      let number = rank_number heads old.ranks rising x.aligned n s index no_rank in
+      let level = rank_level heads old.ranks rising x.aligned n s index no_rank in
       let less = lower no_rank in
       record {
         aligned = numbers ∙ x.aligned;

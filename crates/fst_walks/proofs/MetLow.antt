@@ -2,7 +2,7 @@
 use Rattle.std.proofs.Common.{◌≡◌, ◌≤◌, ◌↔◌, [], ℕ, Bool, List, Contains, subst, inl, inr}
 use Rattle.std.proofs.lemmas.Bool.{cases_eq}
 use Rattle.fst_types.specs.{Closure.{Closure, one, join}, Dependencies.IsLiveNumber, Patches.Patch}
-use Rattle.fst_heads.specs.{Slots.PassesAt, Reaching.{ShowsBlocks}}
+use Rattle.fst_heads.specs.{Indices.PassesAt, Reaching.{ShowsBlocks}}
 use Rattle.fst_walks.specs.{BothEnds.{IsLowChange, StepsLow}, Descending.{IsLedFrom, Visits}, Lifting.MeetsLow, WayBack.StepsUp}
 use Rattle.fst_walks.proofs.{Ascended.led_on, CrossingBack.change_live, Trails.none_in}
 use Rattle.fst_heads.specs.declared.test.Test.TheVariants as test

@@ -4,9 +4,9 @@ use Rattle.fst_types.specs.{Closure.{one, join}, Dependencies.{DirectlyOn, Depen
 use Rattle.fst_types.specs.{Grades.FollowsRule, Patches.{Kind, OpenGate, Patch, IsOn, grade_of_kind}, Tests.is_change_at, declared.grade.Grade.Grade}
 use Rattle.fst_types.proofs.{Landing.{change_at, at_change}, Numbers.both}
 use Rattle.fst_heads.specs.Grading.{HasUnder, MayBeHard, IsHardNumber}
-use Rattle.fst_heads.specs.{Heads.{IsRising, patch_of, patches_of}, Slots.{HasSlot, HasNone, PassesAt}, Reaching.IsHardIn, Tests.{passes, is_hard_kind}}
+use Rattle.fst_heads.specs.{Heads.{IsRising, patch_of, patches_of}, Indices.{HasIndex, HasNone, PassesAt}, Reaching.IsHardIn, Tests.{passes, is_hard_kind}}
 use Rattle.fst_heads.specs.{declared.head.Head.Head, declared.test.Test.Test}
-use Rattle.fst_heads.proofs.{Leading.{same_patch}, Slots.{direct_at, patch_at, patch_is, patch_slot, slot_in, none_slot}}
+use Rattle.fst_heads.proofs.{Leading.{same_patch}, Indices.{direct_at, patch_at, patch_is, patch_index, index_in, none_index}}
 use Rattle.fst_walks.proofs.{Obstacles.{hard_from, hard_to}}
 use Rattle.fst_types.specs.declared.place.Place.TheVariants as place
 use Rattle.fst_types.specs.declared.grade.Grade.TheVariants as grade
@@ -14,31 +14,31 @@ use Rattle.fst_types.proofs.Numbers.{one_block}
 
 -- a number that no head has is no patch's
 pub no_patch : (heads : List Head) (n : ℕ) → HasNone heads n → (p : Patch) → Contains (patches_of heads) p → p.number ≡ n → ⊥
-no_patch heads n none p c e = let t = slot_in heads p c in none_slot heads n t.0 none (subst (λ m. HasSlot heads m t.0) e (patch_slot heads p t.0 t.1 t.2))
+no_patch heads n none p c e = let t = index_in heads p c in none_index heads n t.0 none (subst (λ m. HasIndex heads m t.0) e (patch_index heads p t.0 t.1 t.2))
 
--- the head at the slot of a number tells what its patch is
-module _ (heads : List Head) (rising : IsRising heads) (n s : ℕ) (d : Head) (slot : HasSlot heads n s) where
+-- the head at the index of a number tells what its patch is
+module _ (heads : List Head) (rising : IsRising heads) (n s : ℕ) (d : Head) (index : HasIndex heads n s) where
   abbrev p : Patch
   p = patch_of (get_or heads s d)
 
   pub is_it : (x : Patch) → Contains (patches_of heads) x → x.number ≡ n → p ≡ x
-  is_it x c e = patch_is heads x s d rising c (subst (λ m. HasSlot heads m s) (sym e) slot)
+  is_it x c e = patch_is heads x s d rising c (subst (λ m. HasIndex heads m s) (sym e) index)
 
   pub passes_here : (t : Test) → passes t p ≡ true → PassesAt t (patches_of heads) n
-  passes_here t e = record { patch = p; head = patch_at heads s d slot.0; numbered = slot.1 d; passed = e }
+  passes_here t e = record { patch = p; head = patch_at heads s d index.0; numbered = index.1 d; passed = e }
 
   pub here_passes : (t : Test) → PassesAt t (patches_of heads) n → passes t p ≡ true
   here_passes t x = ap (passes t) (is_it x.patch x.head x.numbered) ∙ x.passed
 
   -- what its row names are its direct dependencies
   pub row_direct : (row : List ℕ) → row ≡ (get_or heads s d).dependencies.items → (q : ℕ) → Contains row q → DirectlyOn (patches_of heads) n q
-  row_direct row e q c = direct_at heads n q s d slot (subst (λ qs. Contains qs q) e c)
+  row_direct row e q c = direct_at heads n q s d index (subst (λ qs. Contains qs q) e c)
 
   pub hard_here : (b : ℕ) → (is_change_at place.Memory b p && is_hard_kind p.kind) ≡ true → IsHardNumber (patches_of heads) b n
   hard_here b e =
       let k = both _ _ e in
       let at = change_at place.Memory b p k.0 in
-      record { patch = p; head = patch_at heads s d slot.0; numbered = slot.1 d; hard = record { change = at.0; memory = at.1; hard = hard_from p.kind k.1 } }
+      record { patch = p; head = patch_at heads s d index.0; numbered = index.1 d; hard = record { change = at.0; memory = at.1; hard = hard_from p.kind k.1 } }
 
   pub here_hard : (b : ℕ) → IsHardNumber (patches_of heads) b n → (is_change_at place.Memory b p && is_hard_kind p.kind) ≡ true
   here_hard b x =

@@ -4,7 +4,7 @@ use Rattle.std.proofs.lemmas.Bool.{cases_eq}
 use Rattle.fst_types.specs.{Closure.{Closure, one, join}, Dependencies.{DirectlyOn, DependsOn, IsLiveNumber, Needs}, Facts.{FlightsStandAlone, IsInFlightOn}}
 use Rattle.fst_types.specs.{Patches.{Patch, IsOn, IsRising}, declared.place.Place.Place}
 use Rattle.fst_types.proofs.Crash.{same_number}
-use Rattle.fst_heads.specs.{Grading.IsHardNumber, Slots.PassesAt, Reaching.{IsReached, ShowsBlocks}}
+use Rattle.fst_heads.specs.{Grading.IsHardNumber, Indices.PassesAt, Reaching.{IsReached, ShowsBlocks}}
 use Rattle.fst_heads.proofs.{Graded.{on_to}}
 use Rattle.fst_walks.specs.{BothEnds.{CrossesDown}, Descending.IsLedFrom, Needing.{AreNeeded, IsHardAt, IsStoodFor}}
 use Rattle.fst_walks.proofs.{ComesBack.{live_number, live_on}}

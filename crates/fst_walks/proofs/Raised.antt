@@ -2,9 +2,9 @@
 use Rattle.std.proofs.Common.{◌≡◌, ◌≢◌, ◌<◌, ℕ, zero, suc, List, [], ◌∷◌, length, map, get_or, set, sym, ◌∙◌, arith, All, AllPairs, refl, eqb, eq-eqb, ne_eqb, inl, inr}
 use Rattle.std.proofs.lemmas.Bool.{cases_Bool}
 use Rattle.std.proofs.lemmas.List.{Elements.All-tail}
-use Rattle.fst_heads.specs.{Heads.{IsRising, patches_of}, Slots.{HasNone}, declared.head.Head.Head}
+use Rattle.fst_heads.specs.{Heads.{IsRising, patches_of}, Indices.{HasNone}, declared.head.Head.Head}
 use Rattle.fst_walks.specs.{Leveling.kept_under, declared.levels.Rank.Rank}
-use Rattle.fst_heads.proofs.Slots.{slot_here, some_element}
+use Rattle.fst_heads.proofs.Indices.{index_here, some_element}
 use Rattle.fst_walks.proofs.Ranked.{rank_number, ranks_long}
 
 -- the numbers of ranks rise
@@ -14,7 +14,7 @@ AreRanked ranks = AllPairs (λ r q. r.number < q.number) ranks
 ranked_rest : (r : Rank) (rs : List Rank) → AreRanked (r ∷ rs) → AreRanked rs
 ranked_rest r rs rising i j d lt inside = rising (suc i) (suc j) d (omega (arith, lt)) (omega (arith, inside))
 
--- another rank with the same number in the slot
+-- another rank with the same number at the index
 module _ (kept : Rank → ℕ) (new : Rank) where
   -- under its number is kept what it has
   pub kept_here : (ranks : List Rank) (s : ℕ) (d : Rank) → AreRanked ranks → s < length ranks → (get_or ranks s d).number ≡ new.number → kept_under kept (set ranks s new) (get_or ranks s d).number ≡ kept new
@@ -61,4 +61,4 @@ module _ (heads : List Head) (ranks : List Rank) (rising : IsRising heads) (alig
       kept_none kept ranks n (λ s d lt e.
       let h = some_element heads s (omega (arith, lt, long)) in
       let inside : s < length heads = omega (arith, lt, long) in
-      none s h inside (sym (rank_number heads ranks rising aligned (get_or heads s h).number s (slot_here heads s h inside) d) ∙ e))
+      none s h inside (sym (rank_number heads ranks rising aligned (get_or heads s h).number s (index_here heads s h inside) d) ∙ e))

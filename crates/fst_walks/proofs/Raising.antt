@@ -2,10 +2,10 @@
 use Rattle.std.proofs.Common.{◌≡◌, ◌≢◌, ◌<◌, ◌⊎◌, ◌&&◌, ◌++◌, ◌∷◌, ◌∙◌, [], ℕ, List, length, map, get_or, Contains, sym, ap, subst, inl, inr}
 use Rattle.std.proofs.lemmas.Bool.{cases_Bool, cases_eq, false≢true}
 use Rattle.std.proofs.lemmas.List.{Elements.{Contains-push, Contains-push_cases, Contains-append_left}}
-use Rattle.fst_heads.specs.{Grading.IsHardNumber, Heads.{IsRising, kind_of, patch_of, patches_of}, Slots.HasSlot, Reaching.IsHardIn, Tests.is_hard_kind, declared.head.Head.Head}
-use Rattle.fst_heads.proofs.Slots.{patch_at, some_element}
+use Rattle.fst_heads.specs.{Grading.IsHardNumber, Heads.{IsRising, kind_of, patch_of, patches_of}, Indices.HasIndex, Reaching.IsHardIn, Tests.is_hard_kind, declared.head.Head.Head}
+use Rattle.fst_heads.proofs.Indices.{patch_at, some_element}
 use Rattle.fst_walks.specs.{Leveling.{Leveling, level_of, floor_of}, Lifting.IsLifted, Walks.number_at, declared.levels.Rank.Rank}
-use Rattle.fst_walks.proofs.{CrossingBack.hard_on_here, NearRow.{hard_here, here_hard}, Ranked.{no_rank, rank_number}, Visiting.slot_at}
+use Rattle.fst_walks.proofs.{CrossingBack.hard_on_here, NearRow.{hard_here, here_hard}, Ranked.{no_rank, rank_number}, Visiting.index_at}
 use Rattle.fst_types.specs.{Patches.Patch, Tests.is_change_at}
 use Rattle.fst_types.proofs.SmallStates.{only_in}
 use Rattle.fst_types.specs.declared.place.Place.TheVariants as place
@@ -24,16 +24,16 @@ module _ (heads : List Head) (rising : IsRising heads) (s : ℕ) (lt : s < lengt
   n = number_at heads s
 
   own : (get_or old.ranks s no_rank).number ≡ n
-  own = rank_number heads old.ranks rising aligned n s (slot_at heads s lt) no_rank
+  own = rank_number heads old.ranks rising aligned n s (index_at heads s lt) no_rank
 
   hard_one : (c m : ℕ) → m ≡ n → IsHardNumber (patches_of heads) c m → IsHardIn (patch_of here) c
-  hard_one c m e h = subst (λ (x : Head). IsHardIn (patch_of x) c) (sym is_here) (hard_on_here heads rising n s here (slot_at heads s lt) c (subst (IsHardNumber (patches_of heads) c) e h))
+  hard_one c m e h = subst (λ (x : Head). IsHardIn (patch_of x) c) (sym is_here) (hard_on_here heads rising n s here (index_at heads s lt) c (subst (IsHardNumber (patches_of heads) c) e h))
 
   one_hard : (c : ℕ) → IsHardIn (patch_of here) c → IsHardNumber (patches_of heads) c n
   one_hard c h = record {
     patch = patch_of (get_or heads s here);
     head = patch_at heads s here lt;
-    numbered = (slot_at heads s lt).1 here;
+    numbered = (index_at heads s lt).1 here;
     hard = subst (λ (x : Head). IsHardIn (patch_of x) c) is_here h;
   }
 
@@ -50,12 +50,12 @@ module _ (heads : List Head) (rising : IsRising heads) (s : ℕ) (lt : s < lengt
   }
 
 -- whether a head is a hard change of c in memory
-pub hard_told : (heads : List Head) → IsRising heads → (n s : ℕ) → HasSlot heads n s → (c : ℕ) → IsHardNumber (patches_of heads) c n ⊎ (IsHardNumber (patches_of heads) c n → ⊥)
-hard_told heads rising n s slot c =
-    let d = some_element heads s slot.0 in
+pub hard_told : (heads : List Head) → IsRising heads → (n s : ℕ) → HasIndex heads n s → (c : ℕ) → IsHardNumber (patches_of heads) c n ⊎ (IsHardNumber (patches_of heads) c n → ⊥)
+hard_told heads rising n s index c =
+    let d = some_element heads s index.0 in
     elim (cases_Bool (is_change_at place.Memory c (patch_of (get_or heads s d)) && is_hard_kind (kind_of (get_or heads s d).kind))) [
-      | inl is ↦ inl (hard_here heads rising n s d slot c is)
-      | inr not ↦ inr (λ h. false≢true (sym not ∙ here_hard heads rising n s d slot c h))
+      | inl is ↦ inl (hard_here heads rising n s d index c is)
+      | inr not ↦ inr (λ h. false≢true (sym not ∙ here_hard heads rising n s d index c h))
     ]
 
 -- what was met, and one more

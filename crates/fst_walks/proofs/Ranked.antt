@@ -1,10 +1,10 @@
--- What is kept under a number: at a head's slot, and where a rank is added.
+-- What is kept under a number: at a head's index, and where a rank is added.
 use Rattle.std.proofs.Common.{◌≡◌, ◌≢◌, ◌<◌, ◌≤◌, ◌-◌, ◌++◌, ◌∷◌, [], ℕ, zero, suc, Option, Some, None, IfSome, IfNone, List, map, length, get_or, All, AllPairs, Contains, refl, sym, ap, subst, ◌∙◌, inl, inr, arith, eq-eqb, ne_eqb}
 use Rattle.std.proofs.lemmas.{Bool.{cases_eq, cases_lt}, List.{length-map, get_or-map}}
 use Rattle.fst_types.specs.Patches.{Patch}
 use Rattle.fst_types.proofs.Finite.{In, Contains-from_In}
-use Rattle.fst_heads.specs.{declared.head.Head.Head, Heads.{IsRising, patch_of, patches_of}, Slots.{HasNone, HasSlot}}
-use Rattle.fst_heads.proofs.Slots.{any_default, some_element, rising_map, rising_back, slot_here}
+use Rattle.fst_heads.specs.{declared.head.Head.Head, Heads.{IsRising, patch_of, patches_of}, Indices.{HasIndex, HasNone}}
+use Rattle.fst_heads.proofs.Indices.{any_default, some_element, rising_map, rising_back, index_here}
 use Rattle.fst_walks.specs.{Leveling.{kept_under, level_of, no_ancestry}, declared.levels.Rank.Rank}
 
 -- the number of a rank
@@ -35,12 +35,12 @@ module _ (kept : Rank → ℕ) where
   kept_new ranks r none = kept_pushed ranks r (λ h. none (Contains-from_In (map number_of ranks) r.number h))
 
   -- ranks whose numbers rise
-  kept_rising : (ranks : List Rank) → AllPairs (λ x y. x.number < y.number) ranks → (slot : ℕ) → slot < length ranks → (d : Rank) → kept_under kept ranks (get_or ranks slot d).number ≡ kept (get_or ranks slot d)
-  kept_rising [] rising slot lt d = absurd (omega (arith, lt))
+  kept_rising : (ranks : List Rank) → AllPairs (λ x y. x.number < y.number) ranks → (index : ℕ) → index < length ranks → (d : Rank) → kept_under kept ranks (get_or ranks index d).number ≡ kept (get_or ranks index d)
+  kept_rising [] rising index lt d = absurd (omega (arith, lt))
   kept_rising (x ∷ xs) rising zero lt d = rw (eq-eqb x.number x.number refl) refl
-  kept_rising (x ∷ xs) rising (suc slot) lt d =
-      let apart = rising 0 (suc slot) d (omega arith) lt in
-      rw (ne_eqb x.number (get_or xs slot d).number (λ e. omega (arith, apart, e))) (kept_rising xs (λ i j e l b. rising (suc i) (suc j) e (omega (arith, l)) (omega (arith, b))) slot (omega (arith, lt)) d)
+  kept_rising (x ∷ xs) rising (suc index) lt d =
+      let apart = rising 0 (suc index) d (omega arith) lt in
+      rw (ne_eqb x.number (get_or xs index d).number (λ e. omega (arith, apart, e))) (kept_rising xs (λ i j e l b. rising (suc i) (suc j) e (omega (arith, l)) (omega (arith, b))) index (omega (arith, lt)) d)
 
 -- a number that lies between two that follow one another is of no rank
 pub none_between : (ranks : List Rank) → AllPairs (λ x y. x.number < y.number) ranks → (none : Rank) (k n : ℕ) → k ≤ length ranks → (0 < k → (get_or ranks (k - 1) none).number < n) → (k < length ranks → n < (get_or ranks k none).number) → All (λ r. r.number ≢ n) ranks
@@ -78,44 +78,44 @@ module _ (heads : List Head) (ranks : List Rank) (rising : IsRising heads) (alig
   pub ranks_long : length ranks ≡ length heads
   ranks_long = sym (length-map ranks number_of) ∙ (ap length aligned ∙ (length-map (patches_of heads) (λ p. p.number) ∙ length-map heads patch_of))
 
-  -- there is a rank at a head's slot, with its number
-  module _ (n slot : ℕ) (at : HasSlot heads n slot) where
-    pub slot_ranked : slot < length ranks
-    slot_ranked = omega (arith, ranks_long, at.0)
+  -- there is a rank at a head's index, with its number
+  module _ (n index : ℕ) (at : HasIndex heads n index) where
+    pub index_ranked : index < length ranks
+    index_ranked = omega (arith, ranks_long, at.0)
 
-    pub rank_number : (d : Rank) → (get_or ranks slot d).number ≡ n
+    pub rank_number : (d : Rank) → (get_or ranks index d).number ≡ n
     rank_number d =
-        let h = some_element heads slot at.0 in
-        let within : slot < length (patches_of heads) = omega (arith, at.0, length-map heads patch_of) in
-        sym (get_or-map number_of ranks slot d 0 slot_ranked)
-        ∙ (ap (λ xs. get_or xs slot 0) aligned
-        ∙ (get_or-map (λ (p : Patch). p.number) (patches_of heads) slot (patch_of h) 0 within
-        ∙ (ap (λ (p : Patch). p.number) (get_or-map patch_of heads slot h (patch_of h) at.0) ∙ at.1 h)))
+        let h = some_element heads index at.0 in
+        let within : index < length (patches_of heads) = omega (arith, at.0, length-map heads patch_of) in
+        sym (get_or-map number_of ranks index d 0 index_ranked)
+        ∙ (ap (λ xs. get_or xs index 0) aligned
+        ∙ (get_or-map (λ (p : Patch). p.number) (patches_of heads) index (patch_of h) 0 within
+        ∙ (ap (λ (p : Patch). p.number) (get_or-map patch_of heads index h (patch_of h) at.0) ∙ at.1 h)))
 
-    -- what is kept in the slot is what is under the number
-    pub rank_kept : (kept : Rank → ℕ) (d : Rank) → kept (get_or ranks slot d) ≡ kept_under kept ranks n
-    rank_kept kept d = sym (kept_rising kept ranks ranks_rise slot slot_ranked d) ∙ ap (kept_under kept ranks) (rank_number d)
+    -- what is kept at the index is what is under the number
+    pub rank_kept : (kept : Rank → ℕ) (d : Rank) → kept (get_or ranks index d) ≡ kept_under kept ranks n
+    rank_kept kept d = sym (kept_rising kept ranks ranks_rise index index_ranked d) ∙ ap (kept_under kept ranks) (rank_number d)
 
-    pub rank_level : (d : Rank) → (get_or ranks slot d).level ≡ level_of ranks n
+    pub rank_level : (d : Rank) → (get_or ranks index d).level ≡ level_of ranks n
     rank_level = rank_kept (λ r. r.level)
 
-  -- the head in a rank's slot has its number
-  pub ranked_slot : (n slot : ℕ) → slot < length ranks → ((d : Rank) → (get_or ranks slot d).number ≡ n) → HasSlot heads n slot
-  ranked_slot n slot lt is =
-      let inside : slot < length heads = omega (arith, lt, ranks_long) in
-      (inside, λ d. sym (rank_number (get_or heads slot d).number slot (slot_here heads slot d inside) no_rank) ∙ is no_rank)
+  -- the head at a rank's index has its number
+  pub ranked_index : (n index : ℕ) → index < length ranks → ((d : Rank) → (get_or ranks index d).number ≡ n) → HasIndex heads n index
+  ranked_index n index lt is =
+      let inside : index < length heads = omega (arith, lt, ranks_long) in
+      (inside, λ d. sym (rank_number (get_or heads index d).number index (index_here heads index d inside) no_rank) ∙ is no_rank)
 
   -- no head has a number that no rank has
   pub ranked_none : (n : ℕ) → All (λ r. r.number ≢ n) ranks → HasNone heads n
   ranked_none n none k d lt same =
-      let at : HasSlot heads n k = subst (λ m. HasSlot heads m k) same (slot_here heads k d lt) in
-      none k no_rank (slot_ranked n k at) (rank_number n k at no_rank)
+      let at : HasIndex heads n k = subst (λ m. HasIndex heads m k) same (index_here heads k d lt) in
+      none k no_rank (index_ranked n k at) (rank_number n k at no_rank)
 
   -- what is found among the ranks is found among the heads
-  pub ranked_found : (n : ℕ) (r : Option ℕ) → IfSome r (λ slot. (slot < length ranks) × ((d : Rank) → (get_or ranks slot d).number ≡ n)) → IfSome r (HasSlot heads n)
-  ranked_found n (Some slot) found = ranked_slot n slot found.0 found.1
+  pub ranked_found : (n : ℕ) (r : Option ℕ) → IfSome r (λ index. (index < length ranks) × ((d : Rank) → (get_or ranks index d).number ≡ n)) → IfSome r (HasIndex heads n)
+  ranked_found n (Some index) found = ranked_index n index found.0 found.1
   ranked_found n None found = tt
 
   pub ranked_missing : (n : ℕ) (r : Option ℕ) → IfNone r (All (λ r. r.number ≢ n) ranks) → IfNone r (HasNone heads n)
-  ranked_missing n (Some slot) none = tt
+  ranked_missing n (Some index) none = tt
   ranked_missing n None none = ranked_none n none

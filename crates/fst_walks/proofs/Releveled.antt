@@ -2,7 +2,7 @@
 use Rattle.std.proofs.Common.{◌≡◌, ◌∷◌, [], ℕ, List, map, refl, sym, ap, subst, ◌∙◌, inl, inr, arith}
 use Rattle.fst_types.specs.{Gates.IsOpenNumber, Gating.gains, Patches.{Patch, block_of_kind, grade_of_kind}}
 use Rattle.fst_types.proofs.{GateGains.{direct_cases, gained}}
-use Rattle.fst_heads.specs.{Grading.IsHardNumber, Slots.{PassesAt}}
+use Rattle.fst_heads.specs.{Grading.IsHardNumber, Indices.{PassesAt}}
 use Rattle.fst_heads.proofs.Covering.{was_gained}
 use Rattle.fst_walks.specs.{Leveling.{AreLeveled, IsLeveled, Leveling, jump_of, level_of, parent_of, floor_of}}
 use Rattle.fst_walks.proofs.{Leveled.{live_passes, passed_on}, AncestorsKept.over_gained}

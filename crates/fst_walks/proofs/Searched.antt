@@ -2,9 +2,9 @@
 use Rattle.std.proofs.Common.{◌≡◌, ◌⊎◌, ◌↔◌, ◌<◌, ℕ, List, [], ◌∷◌, length, get_or, Contains, refl, sym, ap, subst, inl, inr, arith}
 use Rattle.fst_types.specs.{Closure.{Closure, one, join}, Dependencies.DependsOn, Gates.IsOpenNumber, Patches.Patch}
 use Rattle.fst_types.proofs.Finite.{In-from_Contains, last_step}
-use Rattle.fst_heads.specs.{Heads.patches_of, Slots.{IsAbove, HasSlot}, Nodes.{Node, node_of, nodes_of, patches_in, times, AreLinked}, declared.head.Head.Head}
+use Rattle.fst_heads.specs.{Heads.patches_of, Indices.{IsAbove, HasIndex}, Nodes.{Node, node_of, nodes_of, patches_in, times, AreLinked}, declared.head.Head.Head}
 use Rattle.fst_heads.specs.declared.pending.Pending.{Pending}
-use Rattle.fst_heads.proofs.{AtNumber.patches_in_nodes, PendingAt.node_in, Placed.node_of_patch, Slots.any_default, Waiting.times_some}
+use Rattle.fst_heads.proofs.{AtNumber.patches_in_nodes, PendingAt.node_in, Placed.node_of_patch, Indices.any_default, Waiting.times_some}
 use Rattle.fst_walks.specs.{Descending.{IsLedFrom, Visits}, Searching.{AreHeldByGates, IsNextHeld}}
 use Rattle.fst_walks.proofs.Trails.{none_in}
 use Rattle.fst_heads.specs.declared.pending.Pending.TheVariants as pending
@@ -67,9 +67,9 @@ no_elements [] e = refl
 no_elements (x ∷ xs) e = absurd (omega (arith, e))
 
 -- the same of heads
-pub none_depend : (heads : List Head) (gate s : ℕ) (d : Head) → AreLinked (nodes_of heads) → HasSlot heads gate s → length (get_or heads s d).dependants.items ≡ 0 → (n : ℕ) → DependsOn (patches_of heads) n gate → ⊥
-none_depend heads gate s d linked slot empty n on =
+pub none_depend : (heads : List Head) (gate s : ℕ) (d : Head) → AreLinked (nodes_of heads) → HasIndex heads gate s → length (get_or heads s d).dependants.items ≡ 0 → (n : ℕ) → DependsOn (patches_of heads) n gate → ⊥
+none_depend heads gate s d linked index empty n on =
     let x : Head = get_or heads s d in
-    let here = node_in heads s x slot.0 (any_default heads s d x slot.0) in
+    let here = node_in heads s x index.0 (any_default heads s d x index.0) in
     none_above (nodes_of heads) (node_of x) here linked (no_elements x.dependants.items empty) n
-    (subst (λ ps. DependsOn ps n x.number) (sym (patches_in_nodes heads)) (subst (DependsOn (patches_of heads) n) (sym (slot.1 d)) on))
+    (subst (λ ps. DependsOn ps n x.number) (sym (patches_in_nodes heads)) (subst (DependsOn (patches_of heads) n) (sym (index.1 d)) on))

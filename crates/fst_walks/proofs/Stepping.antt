@@ -2,7 +2,7 @@
 use Rattle.std.proofs.Common.{◌≡◌, ◌<◌, ◌≤◌, ◌+◌, ◌⊎◌, ℕ, Bool, false, List, length, get_or, Contains, sym, ◌∙◌, inl, inr, arith}
 use Rattle.std.proofs.lemmas.{Bool.{cases_Bool, false≢true}}
 use Rattle.fst_types.specs.{Dependencies.DirectlyOn, Patches.Patch}
-use Rattle.fst_heads.specs.{Grading.IsHardNumber, Slots.PassesAt, Reaching.IsReached}
+use Rattle.fst_heads.specs.{Grading.IsHardNumber, Indices.PassesAt, Reaching.IsReached}
 use Rattle.fst_walks.specs.{BothEnds.{CrossesDown, IsHigh, IsHighNeed, IsLow, IsLowChange, ShowsBlockUnder, StepsHigh, StepsLow}, Descending.Visits, WayBack.{Crosses, ShowsBlockOf}}
 use Rattle.fst_walks.proofs.{Ascended.{Walking, climbing_at, climbing_begun, next_or_done}, Visiting.visits_old}
 use Rattle.fst_heads.specs.declared.test.Test.TheVariants as test

@@ -1,7 +1,7 @@
 -- A way straight down, from a change of another block at or below the row to a change of the block that it depends on, leads back to the block.
 use Rattle.std.proofs.Common.{◌≡◌, ℕ, List}
 use Rattle.fst_types.specs.{Dependencies.DependsOn, Facts.IsOnDiskWithAll, Patches.{Patch, IsRising}}
-use Rattle.fst_heads.specs.{Grading.HasUnder, Slots.PassesAt}
+use Rattle.fst_heads.specs.{Grading.HasUnder, Indices.PassesAt}
 use Rattle.fst_walks.specs.{WayBack.LeadsBack}
 use Rattle.fst_walks.proofs.{BothEnds.goes_up, ComesBack.live_number}
 use Rattle.fst_heads.specs.declared.test.Test.TheVariants as test

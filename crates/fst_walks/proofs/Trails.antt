@@ -3,20 +3,20 @@ use Rattle.std.proofs.Common.{◌≡◌, ◌≢◌, ◌≤◌, ◌<◌, ℕ, zer
 use Rattle.std.proofs.{lemmas.Bool.{cases_eq, false≢true}, lemmas.List.{take-append-le, take_all}}
 use Rattle.std.proofs.lemmas.List.Elements.{Contains-append_left, Contains-push, Contains-push_cases}
 use Rattle.fst_types.proofs.{Dropping.filter_in, Finite.{In, In-from_Contains, Contains-from_In}, SmallStates.only_in}
-use Rattle.fst_heads.proofs.{Slots.any_default, Waiting.{once_fits, once_append}}
+use Rattle.fst_heads.proofs.{Indices.any_default, Waiting.{once_fits, once_append}}
 use Rattle.fst_walks.specs.Walks.{AreMarked}
 
--- a mark stands in one of the slots
+-- a mark stands at one of the indices
 pub marked_inside : (marks : List Bool) (s : ℕ) → get_or marks s false ≡ true → s < length marks
 marked_inside [] s e = absurd (false≢true e)
 marked_inside (m ∷ ms) zero e = omega arith
 marked_inside (m ∷ ms) (suc s) e = let r = marked_inside ms s e in omega (arith, r)
 
--- the mark of a slot, as an index reads it
-pub mark_of_slot : (marks : List Bool) (s : ℕ) (r : Bool) {b : Bool} → s < length marks → r ≡ get_or marks s r → r ≡ b → get_or marks s false ≡ b
-mark_of_slot marks s r lt is e = any_default marks s false r lt ∙ (sym is ∙ e)
+-- the mark at an index, as the code reads it
+pub mark_of_index : (marks : List Bool) (s : ℕ) (r : Bool) {b : Bool} → s < length marks → r ≡ get_or marks s r → r ≡ b → get_or marks s false ≡ b
+mark_of_index marks s r lt is e = any_default marks s false r lt ∙ (sym is ∙ e)
 
--- the slots below n
+-- the indices below n
 abbrev below : ℕ → List ℕ
 below zero = []
 below (suc n) = n ∷ below n

@@ -3,40 +3,40 @@ use Rattle.std.proofs.Common.{◌≡◌, ◌⊎◌, ◌<◌, ◌≤◌, ℕ, Lis
 use Rattle.std.proofs.lemmas.{Bool.{cases_lt, false≢true}, List.{append-nil, append_assoc, get_or_append_left, get_or-map, length-append, length-map, map_push}}
 use Rattle.std.proofs.lemmas.List.Elements.{Contains-append_left, Contains-push, Contains-push_cases}
 use Rattle.fst_types.specs.Dependencies.{IsLiveNumber}
-use Rattle.fst_heads.specs.{Heads.{IsRising, patches_of}, Slots.HasSlot, declared.head.Head.Head}
-use Rattle.fst_heads.proofs.{Placed.unmapped, Slots.{any_default, slot_unique, some_element}, Waiting.mapped}
+use Rattle.fst_heads.specs.{Heads.{IsRising, patches_of}, Indices.HasIndex, declared.head.Head.Head}
+use Rattle.fst_heads.proofs.{Placed.unmapped, Indices.{any_default, index_unique, some_element}, Waiting.mapped}
 use Rattle.fst_walks.specs.{Descending.{Visited, Visits}, Walks.{Trail, Meets, number_at, numbers_met}}
 
--- the number of a slot
-pub slot_number : (heads : List Head) (n s : ℕ) → HasSlot heads n s → number_at heads s ≡ n
-slot_number heads n s slot = let d = some_element heads s slot.0 in get_or-map (λ (h : Head). h.number) heads s d 0 slot.0 ∙ slot.1 d
+-- the number of an index
+pub index_number : (heads : List Head) (n s : ℕ) → HasIndex heads n s → number_at heads s ≡ n
+index_number heads n s index = let d = some_element heads s index.0 in get_or-map (λ (h : Head). h.number) heads s d 0 index.0 ∙ index.1 d
 
-pub slot_at : (heads : List Head) (s : ℕ) → s < length heads → HasSlot heads (number_at heads s) s
-slot_at heads s lt = (lt, λ d. sym (get_or-map (λ (h : Head). h.number) heads s d 0 lt))
+pub index_at : (heads : List Head) (s : ℕ) → s < length heads → HasIndex heads (number_at heads s) s
+index_at heads s lt = (lt, λ d. sym (get_or-map (λ (h : Head). h.number) heads s d 0 lt))
 
 -- what was met in turn
 pub met_at : (heads : List Head) (walk : Trail) (at : ℕ) → at < length walk.met → get_or (numbers_met heads walk) at 0 ≡ number_at heads (get_or walk.met at 0)
 met_at heads walk at lt = get_or-map (number_at heads) walk.met at 0 0 lt
 
-pub slot_met : (heads : List Head) (walk : Trail) (at s : ℕ) → length walk.marks ≡ length heads → at < length walk.met → s ≡ get_or walk.met at 0 → s < length walk.marks → HasSlot heads (get_or (numbers_met heads walk) at 0) s
-slot_met heads walk at s long lt is inside =
-    subst (λ n. HasSlot heads n s) (ap (number_at heads) is ∙ sym (met_at heads walk at lt)) (slot_at heads s (omega (arith, inside, long)))
+pub index_met : (heads : List Head) (walk : Trail) (at s : ℕ) → length walk.marks ≡ length heads → at < length walk.met → s ≡ get_or walk.met at 0 → s < length walk.marks → HasIndex heads (get_or (numbers_met heads walk) at 0) s
+index_met heads walk at s long lt is inside =
+    subst (λ n. HasIndex heads n s) (ap (number_at heads) is ∙ sym (met_at heads walk at lt)) (index_at heads s (omega (arith, inside, long)))
 
--- as many numbers as slots
+-- as many numbers as indices
 pub long_met : (heads : List Head) (walk : Trail) → length (numbers_met heads walk) ≡ length walk.met
 long_met heads walk = length-map walk.met (number_at heads)
 
--- a number was met where its slot was
-pub number_of_met : (heads : List Head) (walk : Trail) (n s : ℕ) → HasSlot heads n s → Contains walk.met s → Contains (numbers_met heads walk) n
-number_of_met heads walk n s slot c = subst (Contains (numbers_met heads walk)) (slot_number heads n s slot) (mapped (number_at heads) walk.met s c)
+-- a number was met where its index was
+pub number_of_met : (heads : List Head) (walk : Trail) (n s : ℕ) → HasIndex heads n s → Contains walk.met s → Contains (numbers_met heads walk) n
+number_of_met heads walk n s index c = subst (Contains (numbers_met heads walk)) (index_number heads n s index) (mapped (number_at heads) walk.met s c)
 
--- and a slot where its number was
-pub met_slot : (heads : List Head) (walk : Trail) → IsRising heads → length walk.marks ≡ length heads → ((s : ℕ) → Contains walk.met s → s < length walk.marks) → (n s : ℕ) → HasSlot heads n s → Contains (numbers_met heads walk) n → Contains walk.met s
-met_slot heads walk rising long inside n s slot c =
+-- and an index where its number was
+pub met_index : (heads : List Head) (walk : Trail) → IsRising heads → length walk.marks ≡ length heads → ((s : ℕ) → Contains walk.met s → s < length walk.marks) → (n s : ℕ) → HasIndex heads n s → Contains (numbers_met heads walk) n → Contains walk.met s
+met_index heads walk rising long inside n s index c =
     let r = unmapped (number_at heads) walk.met n c in
     let lt = inside r.0 r.1 in
-    let own : HasSlot heads n r.0 = subst (λ k. HasSlot heads k r.0) r.2 (slot_at heads r.0 (omega (arith, lt, long))) in
-    subst (Contains walk.met) (slot_unique heads n r.0 s rising own slot) r.1
+    let own : HasIndex heads n r.0 = subst (λ k. HasIndex heads k r.0) r.2 (index_at heads r.0 (omega (arith, lt, long))) in
+    subst (Contains walk.met) (index_unique heads n r.0 s rising own index) r.1
 
 -- nothing new
 pub visits_none : (P : ℕ → Type 0) (queue : List ℕ) → ((n : ℕ) → P n → Contains queue n) → Visits P queue queue
@@ -50,18 +50,18 @@ visits_one P queue n here one = record {
   each = λ m p. subst (Contains (queue ++ n ∷ [])) (sym (one m p)) (Contains-push queue n);
 }
 
--- one slot is met
-module _ (heads : List Head) (n s : ℕ) (slot : HasSlot heads n s) (old new : Trail) (m : Meets s old new) where
+-- one index is met
+module _ (heads : List Head) (n s : ℕ) (index : HasIndex heads n s) (old new : Trail) (m : Meets s old new) where
   pub visits_meet : (P : ℕ → Type 0) → P n → ((q : ℕ) → P q → q ≡ n) → Visits P (numbers_met heads old) (numbers_met heads new)
   visits_meet P here one =
       let before = numbers_met heads old in
       elim m.met [
         | inl k ↦
             subst (λ ms. Visits P before (map (number_at heads) ms)) (sym k.1)
-            (visits_none P before (λ q p. subst (Contains before) (sym (one q p)) (number_of_met heads old n s slot k.0)))
+            (visits_none P before (λ q p. subst (Contains before) (sym (one q p)) (number_of_met heads old n s index k.0)))
         | inr e ↦
             subst (λ ms. Visits P before (map (number_at heads) ms)) (sym e)
-            (subst (Visits P before) (sym (map_push (number_at heads) old.met s ∙ ap (λ k. before ++ k ∷ []) (slot_number heads n s slot))) (visits_one P before n here one))
+            (subst (Visits P before) (sym (map_push (number_at heads) old.met s ∙ ap (λ k. before ++ k ∷ []) (index_number heads n s index))) (visits_one P before n here one))
       ]
 
   pub visited_meet : IsLiveNumber (patches_of heads) n → Visited heads old → Visited heads new

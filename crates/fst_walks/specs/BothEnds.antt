@@ -1,7 +1,7 @@
 -- A way back to a block, looked for from both its ends: down from the first changes of other blocks that are at or below the row, and up from the changes of the block, through what is no higher than those and no lower than the floor of the block.
 use Rattle.std.specs.Prelude.{◌≡◌, ◌≢◌, ◌≤◌, ◌⊎◌, ℕ, Bool, List, length, Contains}
 use Rattle.fst_types.specs.{Closure.Closure, Dependencies.{DirectlyOn, IsLiveNumber}, Patches.{Patch, IsLive}}
-use Rattle.fst_heads.specs.{Grading.IsHardNumber, Slots.PassesAt, Reaching.IsReached, declared.head.Head.Head}
+use Rattle.fst_heads.specs.{Grading.IsHardNumber, Indices.PassesAt, Reaching.IsReached, declared.head.Head.Head}
 use Rattle.fst_walks.specs.{Descending.IsLedFrom, WayBack.Crosses, declared.block_walk.BlockWalk.BlockWalk}
 use Rattle.fst_heads.specs.declared.test.Test.TheVariants as test
 

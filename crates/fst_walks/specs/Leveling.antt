@@ -1,7 +1,7 @@
 -- Levels: a number for each patch, and for each block its floor, so that no way down rises. What is below the floor of a block waits for nothing that may come to wait for that block.
 use Rattle.std.specs.Prelude.{◌≡◌, ◌≤◌, ◌==◌, ◌/◌, nat_lt, ℕ, List, [], ◌∷◌, length, map, slice_index_or, if◌then◌else◌}
 use Rattle.fst_types.specs.{Dependencies.DirectlyOn, Gates.IsOpenNumber, Patches.Patch}
-use Rattle.fst_heads.specs.{Grading.IsHardNumber, Slots.PassesAt}
+use Rattle.fst_heads.specs.{Grading.IsHardNumber, Indices.PassesAt}
 use Rattle.fst_heads.specs.declared.test.Test.TheVariants as test
 use Rattle.fst_walks.specs.{Ancestors.AreOver, declared.levels.{Ancestry.Ancestry, Rank.Rank}}
 

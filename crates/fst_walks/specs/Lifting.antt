@@ -2,7 +2,7 @@
 use Rattle.std.specs.Prelude.{◌≡◌, ◌≤◌, ◌+◌, ℕ, true, false, List, [], Contains, length, map}
 use Rattle.fst_types.specs.{Dependencies.IsLiveNumber, Patches.Patch, declared.grade.Grade.Grade}
 use Rattle.fst_types.specs.declared.grade.Grade.TheVariants as grade
-use Rattle.fst_heads.specs.{Grading.IsHardNumber, Slots.PassesAt}
+use Rattle.fst_heads.specs.{Grading.IsHardNumber, Indices.PassesAt}
 use Rattle.fst_heads.specs.declared.test.Test.TheVariants as test
 use Rattle.fst_walks.specs.{Leveling.{Leveling, level_of, floor_of, top_level}, WayBack.StepsUp, declared.levels.Rise.Rise}
 

@@ -2,7 +2,7 @@
 use Rattle.std.specs.Prelude.{◌≡◌, ◌≢◌, ◌≤◌, ◌⊎◌, ℕ, List, Option, Some, [], length, Contains, slice_index_or}
 use Rattle.fst_types.specs.{Dependencies.DirectlyOn, Patches.{Patch, IsOn, IsHard}, declared.grade.Grade.Grade, declared.place.Place.Place}
 use Rattle.fst_types.specs.declared.grade.Grade.TheVariants as grade
-use Rattle.fst_heads.specs.{Grading.IsHardNumber, Slots.PassesAt}
+use Rattle.fst_heads.specs.{Grading.IsHardNumber, Indices.PassesAt}
 use Rattle.fst_heads.specs.declared.test.Test.TheVariants as test
 use Rattle.fst_walks.specs.{WayBack.LeadsBack, declared.needs.Way.Way}
 

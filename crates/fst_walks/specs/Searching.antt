@@ -1,7 +1,7 @@
 -- The search for a cycle: down from names to an open gate, or up from the gate to names, through what waits for an open gate.
 use Rattle.std.specs.Prelude.{◌≡◌, ◌⊎◌, ◌↔◌, ℕ, List, length, Contains}
 use Rattle.fst_types.specs.{Dependencies.{DirectlyOn, DependsOn, IsLiveNumber}, Gates.IsOpenNumber, Patches.Patch}
-use Rattle.fst_heads.specs.{Heads.patches_of, Slots.IsAbove, Nodes.{nodes_of, pending_in}, Rows.IsTouched, declared.head.Head.Head}
+use Rattle.fst_heads.specs.{Heads.patches_of, Indices.IsAbove, Nodes.{nodes_of, pending_in}, Rows.IsTouched, declared.head.Head.Head}
 use Rattle.fst_walks.specs.{BothEnds.AreApart, Descending.{IsLedFrom, Visited}, Walks.numbers_met, declared.ends.Ends.Ends}
 use Rattle.fst_heads.specs.declared.pending.Pending.{Pending}
 use Rattle.fst_heads.specs.declared.pending.Pending.TheVariants as pending

@@ -1,7 +1,7 @@
 -- The ways back to a block: from a patch up to those that directly depend on it, and from a hard change in memory to all changes of its block that are not on disk, since the block is not written without it.
 use Rattle.std.specs.Prelude.{◌≡◌, ◌≢◌, ◌⊎◌, ℕ, Bool, List}
 use Rattle.fst_types.specs.{Closure.Closure, Dependencies.{DirectlyOn, DependsOn, IsLiveNumber}, Patches.Patch}
-use Rattle.fst_heads.specs.{Grading.{HasUnder, IsHardNumber}, Slots.PassesAt, Reaching.IsReached}
+use Rattle.fst_heads.specs.{Grading.{HasUnder, IsHardNumber}, Indices.PassesAt, Reaching.IsReached}
 use Rattle.fst_heads.specs.declared.test.Test.TheVariants as test
 
 -- from the hard change p in memory to the change q of the same block that is not on disk; the block is not shown as crossed

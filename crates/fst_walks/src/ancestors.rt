@@ -11,7 +11,7 @@
 ghost use Rattle.std.specs.Prelude.{◌≡◌, ◌<◌, ◌⊎◌, ℕ, IsTrue, IfSome, Contains, length, map};
 ghost use Rattle.fst_heads.specs.declared.test.Test.TheVariants as test;
 ghost use Rattle.fst_heads.specs.Heads.{IsRising, patches_of};
-ghost use Rattle.fst_heads.specs.Slots.{PassesAt};
+ghost use Rattle.fst_heads.specs.Indices.{PassesAt};
 ghost use Rattle.fst_walks.specs.Ancestors.{AreOver, GoesUnder, LeadsTo};
 ghost use Rattle.fst_walks.specs.Leveling.{IsLeveled, jump_of, parent_of};
 ghost use Rattle.fst_walks.specs.Sights.{Sees};
@@ -99,12 +99,12 @@ pub fn renew(levels: &mut Levels, heads: &[Head], number: u32)
     ensures floors { levels.new.floors ≡ levels.old.floors }
     ensures room { (length levels.new.ranks ≡ length levels.old.ranks) × (levels.new.room ≡ levels.old.room) }
 {
-    let Some(slot) = levels.find(heads, number) else {
+    let Some(index) = levels.find(heads, number) else {
         return;
     };
-    let row = heads[slot].dependencies.as_slice();
+    let row = heads[index].dependencies.as_slice();
     let ancestry = ancestry_over(levels, heads, row, number);
-    levels.put_ancestry(slot, ancestry);
+    levels.put_ancestry(index, ancestry);
 }
 
 // The next ancestor on the way to one at that depth: the jump, unless that goes past it.
@@ -191,12 +191,12 @@ fn stand_in(sight: &Sight<'_>, own: Rank, change: u32) -> Option<(u32, u32)>
     requires sees { Sees sight.now }
     ensures { IfSome result (λ s. LeadsTo (patches_of sight.now.heads.now) s.0 change) }
 {
-    let slot = sight.levels.find(sight.heads, change)?;
-    let rank = sight.levels.rank(slot);
+    let index = sight.levels.find(sight.heads, change)?;
+    let rank = sight.levels.rank(index);
     if rank.level > own.level || rank.ancestry.depth >= own.ancestry.depth {
         return None;
     }
-    let first = first(sight.heads[slot].dependants.as_slice())?;
+    let first = first(sight.heads[index].dependants.as_slice())?;
     let over = sight.levels.find(sight.heads, first)?;
     if let Kind::Change(_, _, _) = sight.heads[over].kind {
         return Some((change, rank.ancestry.depth));

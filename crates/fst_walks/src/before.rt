@@ -36,13 +36,13 @@ fn is_within(sight: &Sight<'_>, block: u32, row: &[u32], other: &[u32]) -> bool
     true
 }
 
-// What the change in the slot tells of a new change of its block with that row, if anything.
-fn told_by(sight: &Sight<'_>, slot: usize, block: u32, row: &[u32]) -> Option<Graded>
+// What the change at the index tells of a new change of its block with that row, if anything.
+fn told_by(sight: &Sight<'_>, index: usize, block: u32, row: &[u32]) -> Option<Graded>
     requires sees { Sees sight.now }
-    requires inside { slot < length sight.now.heads.now }
+    requires inside { index < length sight.now.heads.now }
     ensures { IfSome result (IsTold (patches_of sight.now.heads.now) block row.now (LeadsNowhere (patches_of sight.now.heads.now) block row.now)) }
 {
-    let head = &sight.heads[slot];
+    let head = &sight.heads[index];
     let other = head.dependencies.as_slice();
     if is_hard_in(head, block) {
         if is_within(sight, block, row, other) {
@@ -50,7 +50,7 @@ fn told_by(sight: &Sight<'_>, slot: usize, block: u32, row: &[u32]) -> Option<Gr
         }
         return None;
     }
-    let end = known_end(sight, slot, block)?;
+    let end = known_end(sight, index, block)?;
     if is_within(sight, block, other, row) {
         Some(soft(Some(end)))
     } else {
@@ -68,8 +68,8 @@ pub fn told_before(sight: &Sight<'_>, block: u32, row: &[u32]) -> Option<Graded>
     let list = sight.lists[block as usize].as_slice();
     let newest = &list[list.len().saturating_sub(NEWEST)..];
     for listed in newest.iter().rev() {
-        if let Some(slot) = sight.levels.find(sight.heads, listed.number) {
-            let told = told_by(sight, slot, block, row);
+        if let Some(index) = sight.levels.find(sight.heads, listed.number) {
+            let told = told_by(sight, index, block, row);
             if told.is_some() {
                 return told;
             }

@@ -9,7 +9,7 @@ ghost use Rattle.std.specs.Prelude.{◌≡◌, ◌≤◌, ◌<◌, ℕ, length, 
 ghost use Rattle.fst_heads.specs.declared.test.Test.TheVariants as test;
 ghost use Rattle.fst_heads.specs.Grading.{LeadsNowhere};
 ghost use Rattle.fst_heads.specs.Heads.{IsRising, patches_of};
-ghost use Rattle.fst_heads.specs.Slots.{PassesAt};
+ghost use Rattle.fst_heads.specs.Indices.{PassesAt};
 ghost use Rattle.fst_walks.specs.BothEnds.{ComesTo, IsAwayFrom, IsOver, ShowsBlockUnder, StepsHigh};
 ghost use Rattle.fst_walks.specs.Descending.{Visited, Visits};
 ghost use Rattle.fst_walks.specs.Leveling.{level_of};
@@ -38,7 +38,7 @@ fn meets_change(heads: &[Head], walk: &Walk, from: usize, block: u32) -> Option<
     ensures none { IfNone result ((at : ℕ) → from ≤ at → at < length walk.now.met → PassesAt (test.LiveOn block) (patches_of heads.now) (slice_index_or (numbers_met heads.now walk.now) at 0) → ⊥) }
 {
     for at in from..walk.len() {
-        let head = &heads[walk.slot(at)];
+        let head = &heads[walk.index_at(at)];
         if passes(Test::LiveOn(block), head) {
             return Some(head.number);
         }

@@ -7,7 +7,7 @@
 ghost use Rattle.std.specs.Prelude.{◌≡◌, ◌≤◌, ◌<◌, ℕ, length, Contains, IfSome, IfNone, slice_index_or};
 ghost use Rattle.fst_heads.specs.Grading.{LeadsNowhere};
 ghost use Rattle.fst_heads.specs.Heads.{IsRising, patches_of};
-ghost use Rattle.fst_heads.specs.Slots.{HasSlot};
+ghost use Rattle.fst_heads.specs.Indices.{HasIndex};
 ghost use Rattle.fst_walks.specs.BothEnds.{AreApart, EndApart, IsOver, LeadTogether, ShowsBlockUnder, StepsHigh, StepsLow};
 ghost use Rattle.fst_walks.specs.Descending.{Visited, Visits};
 ghost use Rattle.fst_walks.specs.Leveling.{level_of};
@@ -35,12 +35,12 @@ fn highest(sight: &Sight<'_>, walk: &Walk) -> u32
 {
     let mut most = 0;
     for at in 0..walk.len() {
-        most = most.max(sight.levels.level(walk.slot(at)));
+        most = most.max(sight.levels.level(walk.index_at(at)));
     }
     most
 }
 
-// A step of the walk up from what it met there in turn. Answers the slot of what it met that the walk down has met too.
+// A step of the walk up from what it met there in turn. Answers the index of what it met that the walk down has met too.
 fn turn_up(
     sight: &Sight<'_>,
     ends: &mut Ends,
@@ -59,7 +59,7 @@ fn turn_up(
     ensures visits { Visits (StepsLow (patches_of sight.now.heads.now) (level_of sight.now.levels.now.ranks) most ends.old.up.crossed.items (slice_index_or (numbers_met sight.now.heads.now ends.old.up.walk) at 0)) (numbers_met sight.now.heads.now ends.old.up.walk) (numbers_met sight.now.heads.now ends.new.up.walk) }
     ensures crossed { ShowsBlockOf (patches_of sight.now.heads.now) (slice_index_or (numbers_met sight.now.heads.now ends.old.up.walk) at 0) ends.old.up.crossed.items ends.new.up.crossed.items }
     ensures down { ends.new.down ≡ ends.old.down }
-    ensures met { IfSome result (λ slot. (n : ℕ) × HasSlot sight.now.heads.now n slot × Contains (numbers_met sight.now.heads.now ends.new.up.walk) n × Contains (numbers_met sight.now.heads.now ends.old.down.walk) n) }
+    ensures met { IfSome result (λ index. (n : ℕ) × HasIndex sight.now.heads.now n index × Contains (numbers_met sight.now.heads.now ends.new.up.walk) n × Contains (numbers_met sight.now.heads.now ends.old.down.walk) n) }
     ensures apart { IfNone result (AreApart (numbers_met sight.now.heads.now ends.new.up.walk) (numbers_met sight.now.heads.now ends.old.down.walk)) }
 {
     let from = ends.up.walk.len();
@@ -68,7 +68,7 @@ fn turn_up(
     meets(sight.heads, &ends.up.walk, &ends.down.walk, from)
 }
 
-// A step of the walk down from what it met there in turn. Answers the slot of what it met that the walk up has met too.
+// A step of the walk down from what it met there in turn. Answers the index of what it met that the walk up has met too.
 fn turn_down(
     sight: &Sight<'_>,
     ends: &mut Ends,
@@ -87,7 +87,7 @@ fn turn_down(
     ensures visits { Visits (StepsHigh (patches_of sight.now.heads.now) (level_of sight.now.levels.now.ranks) least (needs_of sight.now.needs.now.lists) ends.old.down.crossed.items (slice_index_or (numbers_met sight.now.heads.now ends.old.down.walk) at 0)) (numbers_met sight.now.heads.now ends.old.down.walk) (numbers_met sight.now.heads.now ends.new.down.walk) }
     ensures crossed { ShowsBlockUnder (patches_of sight.now.heads.now) (slice_index_or (numbers_met sight.now.heads.now ends.old.down.walk) at 0) ends.old.down.crossed.items ends.new.down.crossed.items }
     ensures up { ends.new.up ≡ ends.old.up }
-    ensures met { IfSome result (λ slot. (n : ℕ) × HasSlot sight.now.heads.now n slot × Contains (numbers_met sight.now.heads.now ends.old.up.walk) n × Contains (numbers_met sight.now.heads.now ends.new.down.walk) n) }
+    ensures met { IfSome result (λ index. (n : ℕ) × HasIndex sight.now.heads.now n index × Contains (numbers_met sight.now.heads.now ends.old.up.walk) n × Contains (numbers_met sight.now.heads.now ends.new.down.walk) n) }
     ensures apart { IfNone result (AreApart (numbers_met sight.now.heads.now ends.old.up.walk) (numbers_met sight.now.heads.now ends.new.down.walk)) }
 {
     let from = ends.down.walk.len();
@@ -113,7 +113,7 @@ fn turn_from_end(deep: usize, first: usize, len: usize) -> usize
 }
 
 // Takes steps by turns, through what is no higher than `most` and no lower than `least`, until one walk has met what the
-// other has, which it answers by its slot, or one is at its end, where it answers that there is none. It gives up once both
+// other has, which it answers by its index, or one is at its end, where it answers that there is none. It gives up once both
 // have looked at more patches than the limit. The walk down steps from what it met first, as it must, and by turns from what
 // it met last: so a long way is found without all that lies about its beginning.
 fn meet_between(
@@ -131,7 +131,7 @@ fn meet_between(
     requires apart { AreApart (numbers_met sight.now.heads.now ends.old.up.walk) (numbers_met sight.now.heads.now ends.old.down.walk) }
     ensures up { IsOver sight.now.heads.now (length sight.now.lists.now) ends.new.up }
     ensures down { IsOver sight.now.heads.now (length sight.now.lists.now) ends.new.down }
-    ensures together { IfSome result (λ met. IfSome met (λ slot. (n : ℕ) × HasSlot sight.now.heads.now n slot × LeadTogether (patches_of sight.now.heads.now) (level_of sight.now.levels.now.ranks) (needs_of sight.now.needs.now.lists) most least ends.old.up.crossed.items ends.old.down.crossed.items (numbers_met sight.now.heads.now ends.old.up.walk) (numbers_met sight.now.heads.now ends.old.down.walk) n)) }
+    ensures together { IfSome result (λ met. IfSome met (λ index. (n : ℕ) × HasIndex sight.now.heads.now n index × LeadTogether (patches_of sight.now.heads.now) (level_of sight.now.levels.now.ranks) (needs_of sight.now.needs.now.lists) most least ends.old.up.crossed.items ends.old.down.crossed.items (numbers_met sight.now.heads.now ends.old.up.walk) (numbers_met sight.now.heads.now ends.old.down.walk) n)) }
     ensures visited { Visited sight.now.heads.now ends.new.up.walk }
     ensures apart { IfSome result (λ met. IfNone met (EndApart (patches_of sight.now.heads.now) (level_of sight.now.levels.now.ranks) (needs_of sight.now.needs.now.lists) most least ends.old.up.crossed.items ends.old.down.crossed.items (numbers_met sight.now.heads.now ends.old.up.walk) (numbers_met sight.now.heads.now ends.old.down.walk) (numbers_met sight.now.heads.now ends.new.up.walk) (numbers_met sight.now.heads.now ends.new.down.walk))) }
     ensures decided { IfNone result (limit < 18446744073709551615) }
@@ -208,8 +208,8 @@ fn grade_within(
     ends.up.walk.clear();
     visit_low_changes(sight, &mut ends.up.walk, block, most);
     let budget = budget(looked, limit);
-    if let Some(slot) = meet_between(sight, ends, most, least, budget)? {
-        return Some(soft(trace(sight, &ends.up.walk, slot, block)));
+    if let Some(index) = meet_between(sight, ends, most, least, budget)? {
+        return Some(soft(trace(sight, &ends.up.walk, index, block)));
     }
     if looked <= limit {
         let met = ends.down.walk.len().saturating_add(ends.up.walk.len());

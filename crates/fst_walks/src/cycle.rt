@@ -12,7 +12,7 @@ ghost use Rattle.fst_heads.specs.declared.pending.Pending.TheVariants as pending
 ghost use Rattle.fst_walks.specs.Descending.{Visited, Visits};
 ghost use Rattle.fst_heads.specs.Heads.{IsRising, patches_of};
 ghost use Rattle.fst_heads.specs.Names.{numbers_of};
-ghost use Rattle.fst_heads.specs.Slots.{HasSlot};
+ghost use Rattle.fst_heads.specs.Indices.{HasIndex};
 ghost use Rattle.fst_heads.specs.Nodes.{AreLinked, nodes_of, pending_in};
 ghost use Rattle.fst_walks.specs.Searching.{AreOver, IsBetween, IsNextAbove, IsNextHeld, StayApart, TellsGates, WalkApart};
 ghost use Rattle.fst_walks.specs.Starting.{StartsAbove};
@@ -22,9 +22,9 @@ use crate::ends::{Ends, Looked, meets};
 use crate::starts::{Starts, visit_starts};
 use crate::walk::Walk;
 use fst_heads::head::Head;
+use fst_heads::index::index_of;
 use fst_heads::pending::{Pending, is_pending};
 use fst_heads::row::pending_at;
-use fst_heads::slot::slot_of;
 use fst_types::PatchNo;
 
 /// Visits the patch with the number if it waits for an open gate.
@@ -35,9 +35,9 @@ pub fn visit_held(heads: &[Head], walk: &mut Walk, number: u32)
     ensures visited { Visited heads.now walk.new }
     ensures visits { Visits (λ n. (n ≡ number) × (pending_in (nodes_of heads.now) n ≡ pending.Held)) (numbers_met heads.now walk.old) (numbers_met heads.now walk.new) }
 {
-    if let Some(slot) = slot_of(heads, number) {
-        if is_pending(heads[slot].pending, Pending::Held) {
-            walk.meet(slot);
+    if let Some(index) = index_of(heads, number) {
+        if is_pending(heads[index].pending, Pending::Held) {
+            walk.meet(index);
         }
     }
 }
@@ -66,8 +66,8 @@ fn step_above(heads: &[Head], walk: &mut Walk, at: usize) -> usize
     ensures visited { Visited heads.now walk.new }
     ensures visits { Visits (IsNextAbove (patches_of heads.now) (pending_in (nodes_of heads.now)) (slice_index_or (numbers_met heads.now walk.old) at 0)) (numbers_met heads.now walk.old) (numbers_met heads.now walk.new) }
 {
-    let slot = walk.slot(at);
-    let row = heads[slot].dependants.as_slice();
+    let index = walk.index_at(at);
+    let row = heads[index].dependants.as_slice();
     visit_row(heads, walk, row);
     row.len()
 }
@@ -81,8 +81,8 @@ fn step_held(heads: &[Head], walk: &mut Walk, at: usize) -> usize
     ensures visited { Visited heads.now walk.new }
     ensures visits { Visits (IsNextHeld (patches_of heads.now) (pending_in (nodes_of heads.now)) (slice_index_or (numbers_met heads.now walk.old) at 0)) (numbers_met heads.now walk.old) (numbers_met heads.now walk.new) }
 {
-    let slot = walk.slot(at);
-    let row = heads[slot].dependencies.as_slice();
+    let index = walk.index_at(at);
+    let row = heads[index].dependencies.as_slice();
     visit_row(heads, walk, row);
     row.len()
 }
@@ -204,11 +204,11 @@ fn names_held(heads: &[Head], names: &[PatchNo]) -> bool
     false
 }
 
-/// Whether one of the names is the open gate in the slot or depends on it. What was met before does not matter.
+/// Whether one of the names is the open gate at the index or depends on it. What was met before does not matter.
 pub fn closes_cycle(
     heads: &[Head],
     ends: &mut Ends,
-    slot: usize,
+    index: usize,
     gate: u32,
     names: &[PatchNo],
 ) -> bool
@@ -216,13 +216,13 @@ pub fn closes_cycle(
     requires over { AreOver heads.now ends.old }
     requires linked { AreLinked (nodes_of heads.now) }
     requires gates { TellsGates heads.now }
-    requires slot { HasSlot heads.now gate slot }
+    requires index { HasIndex heads.now gate index }
     requires is_open { IsOpenNumber (patches_of heads.now) gate }
     ensures closes { IsTrue result ↔ NamesAbove (patches_of heads.now) gate (numbers_of names.now) }
     ensures over { AreOver heads.now ends.new }
     ensures crossed { (ends.new.up.crossed ≡ ends.old.up.crossed) × (ends.new.down.crossed ≡ ends.old.down.crossed) }
 {
-    if heads[slot].dependants.as_slice().is_empty() {
+    if heads[index].dependants.as_slice().is_empty() {
         return is_named(names, gate);
     }
     if !names_held(heads, names) {

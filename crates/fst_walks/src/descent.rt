@@ -6,12 +6,12 @@ ghost use Rattle.fst_heads.specs.declared.test.Test.TheVariants as test;
 ghost use Rattle.fst_walks.specs.Descending.{Visited, Visits};
 ghost use Rattle.fst_heads.specs.Heads.{IsRising, patches_of};
 ghost use Rattle.fst_walks.specs.Walks.{numbers_met};
-ghost use Rattle.fst_heads.specs.Slots.{PassesAt};
+ghost use Rattle.fst_heads.specs.Indices.{PassesAt};
 ghost use Rattle.fst_heads.specs.Reaching.{ShowsBlocks};
 
 use crate::walk::Walk;
 use fst_heads::head::Head;
-use fst_heads::slot::slot_of;
+use fst_heads::index::index_of;
 use fst_heads::test::{Test, is_live};
 
 /// Visits the patch with the number, unless it is on disk or was visited before.
@@ -21,9 +21,9 @@ pub fn visit(heads: &[Head], walk: &mut Walk, number: u32)
     ensures visited { Visited heads.now walk.new }
     ensures visits { Visits (λ n. (n ≡ number) × IsLiveNumber (patches_of heads.now) n) (numbers_met heads.now walk.old) (numbers_met heads.now walk.new) }
 {
-    if let Some(slot) = slot_of(heads, number) {
-        if is_live(heads[slot].place) {
-            walk.meet(slot);
+    if let Some(index) = index_of(heads, number) {
+        if is_live(heads[index].place) {
+            walk.meet(index);
         }
     }
 }

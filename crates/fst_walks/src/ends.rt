@@ -2,7 +2,7 @@
 
 ghost use Rattle.std.specs.Prelude.{◌≡◌, ◌≤◌, ◌<◌, ◌+◌, ◌++◌, ◌∷◌, [], ℕ, false, length, Contains, IfNone, IfOk, IfSome, OnOk, slice_index_or};
 ghost use Rattle.fst_heads.specs.Heads.{IsRising};
-ghost use Rattle.fst_heads.specs.Slots.{HasSlot};
+ghost use Rattle.fst_heads.specs.Indices.{HasIndex};
 ghost use Rattle.fst_walks.specs.BothEnds.{IsOver};
 ghost use Rattle.fst_walks.specs.Descending.{Visited};
 ghost use Rattle.fst_walks.specs.Walks.{numbers_met};
@@ -26,18 +26,18 @@ pub struct Looked {
     pub down: usize,
 }
 
-/// The slot of what the walk met at that turn or later, and the other has met too.
+/// The index of what the walk met at that turn or later, and the other has met too.
 pub fn meets(heads: &[Head], walk: &Walk, other: &Walk, from: usize) -> Option<usize>
     requires walk { length walk.now.marks ≡ length heads.now }
     requires other { Visited heads.now other.now }
     requires rising { IsRising heads.now }
-    ensures met { IfSome result (λ slot. (n : ℕ) × HasSlot heads.now n slot × Contains (numbers_met heads.now walk.now) n × Contains (numbers_met heads.now other.now) n) }
+    ensures met { IfSome result (λ index. (n : ℕ) × HasIndex heads.now n index × Contains (numbers_met heads.now walk.now) n × Contains (numbers_met heads.now other.now) n) }
     ensures apart { IfNone result ((at : ℕ) → from ≤ at → at < length walk.now.met → Contains (numbers_met heads.now other.now) (slice_index_or (numbers_met heads.now walk.now) at 0) → ⊥) }
 {
     for at in from..walk.len() {
-        let slot = walk.slot(at);
-        if other.has_met(slot) {
-            return Some(slot);
+        let index = walk.index_at(at);
+        if other.has_met(index) {
+            return Some(index);
         }
     }
     None

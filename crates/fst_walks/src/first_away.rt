@@ -4,7 +4,7 @@
 
 ghost use Rattle.std.specs.Prelude.{◌≡◌, ◌⊎◌, ◌≤◌, ◌<◌, ◌↔◌, ℕ, length, Contains, IsTrue, slice_index_or};
 ghost use Rattle.fst_heads.specs.Heads.{IsRising, patches_of};
-ghost use Rattle.fst_heads.specs.Slots.{HasSlot};
+ghost use Rattle.fst_heads.specs.Indices.{HasIndex};
 ghost use Rattle.fst_walks.specs.BothEnds.{GoesThrough, IsFirstAway, StepsAway};
 ghost use Rattle.fst_walks.specs.Descending.{IsLedFrom, Visited, Visits};
 ghost use Rattle.fst_walks.specs.Sights.{Sees};
@@ -21,13 +21,13 @@ use fst_heads::test::{Test, passes};
 /// At how many patches below a row a search looks before it begins with those that it has found.
 pub const FEW: usize = 256;
 
-// Whether the way down goes through the patch in the slot.
-fn goes_through(heads: &[Head], slot: usize, block: u32) -> bool
+// Whether the way down goes through the patch at the index.
+fn goes_through(heads: &[Head], index: usize, block: u32) -> bool
     requires rising { IsRising heads.now }
-    requires inside { slot < length heads.now }
-    ensures { (number : ℕ) → HasSlot heads.now number slot → IsTrue result ↔ GoesThrough (patches_of heads.now) block number }
+    requires inside { index < length heads.now }
+    ensures { (number : ℕ) → HasIndex heads.now number index → IsTrue result ↔ GoesThrough (patches_of heads.now) block number }
 {
-    let head = &heads[slot];
+    let head = &heads[index];
     !passes(Test::LiveOff(block), head) && !is_hard_in(head, block)
 }
 
@@ -41,11 +41,11 @@ fn step_away(sight: &Sight<'_>, walk: &mut Walk, at: usize, block: u32, most: us
     ensures only { (n : ℕ) → Contains (numbers_met sight.now.heads.now walk.new) n → Contains (numbers_met sight.now.heads.now walk.old) n ⊎ StepsAway (patches_of sight.now.heads.now) block (slice_index_or (numbers_met sight.now.heads.now walk.old) at 0) n }
     ensures visits { result ≤ most → Visits (StepsAway (patches_of sight.now.heads.now) block (slice_index_or (numbers_met sight.now.heads.now walk.old) at 0)) (numbers_met sight.now.heads.now walk.old) (numbers_met sight.now.heads.now walk.new) }
 {
-    let slot = walk.slot(at);
-    if !goes_through(sight.heads, slot, block) {
+    let index = walk.index_at(at);
+    if !goes_through(sight.heads, index, block) {
         return 0;
     }
-    let below = sight.heads[slot].dependencies.as_slice();
+    let below = sight.heads[index].dependencies.as_slice();
     visit_high_row(sight, walk, newest_few(below, most), 0);
     below.len()
 }

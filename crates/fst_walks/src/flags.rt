@@ -6,7 +6,7 @@ ghost use Rattle.fst_heads.specs.Landed.{flags};
 ghost use Rattle.fst_heads.specs.Nodes.{nodes_of};
 
 use crate::levels::Levels;
-use fst_heads::forgotten::flag_slot;
+use fst_heads::forgotten::flag_at;
 use fst_heads::head::Head;
 
 /// The patches with the numbers are forgotten. It takes as long as they are many.
@@ -17,8 +17,8 @@ pub fn flag_all(levels: &Levels, heads: &mut Vec<Head>, numbers: &[u32])
     ensures places { vec_capacity heads.new ≡ vec_capacity heads.old }
 {
     for number in numbers {
-        if let Some(slot) = levels.find(heads, *number) {
-            flag_slot(heads, *number, slot);
+        if let Some(index) = levels.find(heads, *number) {
+            flag_at(heads, *number, index);
         }
     }
 }

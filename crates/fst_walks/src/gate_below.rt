@@ -8,7 +8,7 @@ ghost use Rattle.fst_types.specs.Dependencies.{DependsOn};
 ghost use Rattle.fst_heads.specs.declared.test.Test.TheVariants as test;
 ghost use Rattle.fst_heads.specs.Grading.{HasUnder, IsOpenBut};
 ghost use Rattle.fst_heads.specs.Heads.{patch_of, patches_of};
-ghost use Rattle.fst_heads.specs.Slots.{HasSlot};
+ghost use Rattle.fst_heads.specs.Indices.{HasIndex};
 ghost use Rattle.fst_heads.specs.Tests.{passes};
 ghost use Rattle.fst_walks.specs.Sights.{Sees};
 
@@ -33,7 +33,7 @@ pub fn is_other_gate(head: &Head, gate: u32) -> bool
 // A patch to which the way may go on, and how far below it the gate is; nothing is claimed of that.
 #[derive(Clone, Copy)]
 struct Step {
-    slot: usize,
+    index: usize,
     far: u32,
 }
 
@@ -41,10 +41,10 @@ struct Step {
 // the one that is about to be sealed the longest.
 fn step_to(sight: &Sight<'_>, number: u32, gate: u32) -> Option<Step>
     requires sees { Sees sight.now }
-    ensures { IfSome result (λ s. HasSlot sight.now.heads.now number s.slot) }
+    ensures { IfSome result (λ s. HasIndex sight.now.heads.now number s.index) }
 {
-    let slot = sight.levels.find(sight.heads, number)?;
-    let head = &sight.heads[slot];
+    let index = sight.levels.find(sight.heads, number)?;
+    let head = &sight.heads[index];
     if !is_pending(head.pending, Pending::Held) {
         return None;
     }
@@ -60,7 +60,7 @@ fn step_to(sight: &Sight<'_>, number: u32, gate: u32) -> Option<Step>
             .depth
             .saturating_add(1)
     };
-    Some(Step { slot, far })
+    Some(Step { index, far })
 }
 
 // The shorter of the two.
@@ -77,7 +77,7 @@ fn shorter(one: Option<Step>, other: Option<Step>) -> Option<Step>
 // The shortest step to one of the newest of the row.
 fn shortest(sight: &Sight<'_>, row: &[u32], gate: u32) -> Option<Step>
     requires sees { Sees sight.now }
-    ensures { IfSome result (λ s. (q : ℕ) × Contains row.now q × HasSlot sight.now.heads.now q s.slot) }
+    ensures { IfSome result (λ s. (q : ℕ) × Contains row.now q × HasIndex sight.now.heads.now q s.index) }
 {
     let mut best = None;
     for number in newest_few(row, WIDTH) {
@@ -86,13 +86,13 @@ fn shortest(sight: &Sight<'_>, row: &[u32], gate: u32) -> Option<Step>
     best
 }
 
-// The step on from the patch in the slot: to what it directly depends on, or to its ancestor further down.
-fn step_on(sight: &Sight<'_>, slot: usize, gate: u32) -> Option<Step>
+// The step on from the patch at the index: to what it directly depends on, or to its ancestor further down.
+fn step_on(sight: &Sight<'_>, index: usize, gate: u32) -> Option<Step>
     requires sees { Sees sight.now }
-    requires slot { slot < length sight.now.heads.now }
-    ensures { IfSome result (λ s. (q : ℕ) × HasSlot sight.now.heads.now q s.slot × ((n : ℕ) → HasSlot sight.now.heads.now n slot → DependsOn (patches_of sight.now.heads.now) n q)) }
+    requires index { index < length sight.now.heads.now }
+    ensures { IfSome result (λ s. (q : ℕ) × HasIndex sight.now.heads.now q s.index × ((n : ℕ) → HasIndex sight.now.heads.now n index → DependsOn (patches_of sight.now.heads.now) n q)) }
 {
-    let head = &sight.heads[slot];
+    let head = &sight.heads[index];
     let down = shortest(sight, head.dependencies.as_slice(), gate);
     let far = sight.levels.rank_of(sight.heads, head.number).ancestry.jump;
     shorter(down, step_to(sight, far, gate))
@@ -109,10 +109,10 @@ pub fn leads_to_gate(sight: &Sight<'_>, row: &[u32], gate: u32) -> bool
         let Some(step) = next else {
             return false;
         };
-        if is_other_gate(&sight.heads[step.slot], gate) {
+        if is_other_gate(&sight.heads[step.index], gate) {
             return true;
         }
-        next = step_on(sight, step.slot, gate);
+        next = step_on(sight, step.index, gate);
     }
     false
 }

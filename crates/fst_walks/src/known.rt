@@ -5,7 +5,7 @@
 ghost use Rattle.std.specs.Prelude.{◌<◌, length, Contains, IfSome};
 ghost use Rattle.fst_types.specs.Patches.{Patch};
 ghost use Rattle.fst_heads.specs.Heads.{patches_of};
-ghost use Rattle.fst_heads.specs.Slots.{HasSlot};
+ghost use Rattle.fst_heads.specs.Indices.{HasIndex};
 ghost use Rattle.fst_walks.specs.Sights.{Sees};
 ghost use Rattle.fst_walks.specs.WayBack.{LeadsBack};
 
@@ -13,13 +13,13 @@ use crate::shortcuts::passes_at;
 use crate::sight::Sight;
 use fst_heads::test::{Test, passes};
 
-/// Where the patch in the slot is a change of the block, not on disk, the end of the way that is known to lead back from it.
-pub fn known_end(sight: &Sight<'_>, slot: usize, block: u32) -> Option<u32>
+/// Where the patch at the index is a change of the block, not on disk, the end of the way that is known to lead back from it.
+pub fn known_end(sight: &Sight<'_>, index: usize, block: u32) -> Option<u32>
     requires sees { Sees sight.now }
-    requires inside { slot < length sight.now.heads.now }
-    ensures { IfSome result (λ end. (p : Patch) → Contains (patches_of sight.now.heads.now) p → HasSlot sight.now.heads.now p.number slot → LeadsBack (patches_of sight.now.heads.now) block p.dependencies end) }
+    requires inside { index < length sight.now.heads.now }
+    ensures { IfSome result (λ end. (p : Patch) → Contains (patches_of sight.now.heads.now) p → HasIndex sight.now.heads.now p.number index → LeadsBack (patches_of sight.now.heads.now) block p.dependencies end) }
 {
-    let head = &sight.heads[slot];
+    let head = &sight.heads[index];
     if !passes(Test::LiveOn(block), head) {
         return None;
     }
@@ -38,8 +38,8 @@ pub fn leads_over_known(sight: &Sight<'_>, block: u32, row: &[u32]) -> Option<u3
     ensures { IfSome result (LeadsBack (patches_of sight.now.heads.now) block row.now) }
 {
     for number in row {
-        if let Some(slot) = sight.levels.find(sight.heads, *number) {
-            let end = known_end(sight, slot, block);
+        if let Some(index) = sight.levels.find(sight.heads, *number) {
+            let end = known_end(sight, index, block);
             if end.is_some() {
                 return end;
             }

@@ -8,7 +8,7 @@ ghost use Rattle.fst_types.specs.Tests.{is_live};
 ghost use Rattle.fst_types.specs.Patches.{IsOn, OpenGate, Patch};
 ghost use Rattle.fst_heads.specs.Heads.{IsRising, patch_of, patches_of};
 ghost use Rattle.fst_heads.specs.declared.test.Test.TheVariants as test;
-ghost use Rattle.fst_heads.specs.Slots.{HasNone, HasSlot, PassesAt};
+ghost use Rattle.fst_heads.specs.Indices.{HasIndex, HasNone, PassesAt};
 ghost use Rattle.fst_heads.specs.Reaching.{IsHardIn};
 ghost use Rattle.fst_heads.specs.Keeps.{IsInside};
 ghost use Rattle.fst_heads.specs.Nodes.{is_live_in, nodes_of};
@@ -18,8 +18,8 @@ ghost use Rattle.fst_walks.specs.Leveling.{IsLeveled, floor_of, jump_of, level_o
 ghost use Rattle.fst_walks.specs.Lifting.{IsLifted, MayLift};
 ghost use Rattle.fst_walks.specs.Walks.{number_at, numbers_met};
 
-use crate::index::Index;
-use crate::ranks::{halve_floors, halve_ranks, keep_live, raise, raise_floor, rank_slot};
+use crate::directory::Directory;
+use crate::ranks::{halve_floors, halve_ranks, keep_live, raise, raise_floor, rank_index};
 use crate::walk::Walk;
 use fst_heads::head::{Head, Kind};
 use fst_heads::places::{drop_on_disk, end_on_disk, first_on_disk};
@@ -63,12 +63,12 @@ pub struct Rise {
 
 /// The levels and ancestries of the heads, in their order, and the floors of the blocks. For each block is kept what searches
 /// for a way back to it have looked at since its floor went up last, so that it goes up once that is worth it (`lift`), and of all
-/// how high up one stands that is not at the top (`ease`). Where a head's rank stands is told by an index of their numbers. It
-/// takes 20 bytes for each head and 12 for each block, and the index.
+/// how high up one stands that is not at the top (`ease`). Where a head's rank stands is told by a directory of their numbers.
+/// It takes 20 bytes for each head and 12 for each block, and the directory.
 #[derive(Drop)]
 pub struct Levels {
     ranks: Vec<Rank>,
-    index: Index,
+    directory: Directory,
     floors: Vec<u32>,
     owed: Vec<usize>,
     highest: u32,
@@ -113,7 +113,7 @@ impl Levels {
         let owed = vec![in alloc; 0; blocks as usize]?;
         Ok(Levels {
             ranks: Vec::new(alloc),
-            index: Index::new(alloc),
+            directory: Directory::new(alloc),
             floors,
             owed,
             highest: 0,
@@ -129,7 +129,7 @@ impl Levels {
     {
         let room = self.ranks.len() + more as usize;
         self.ranks.reserve(more as usize)?;
-        self.index.reserve(&self.ranks)?;
+        self.directory.reserve(&self.ranks)?;
         self.room = room;
         Ok(())
     }
@@ -141,35 +141,35 @@ impl Levels {
         ensures floors { self.new.floors ≡ self.old.floors }
         ensures room { self.new.room ≡ self.old.room }
     {
-        self.index.grow(rank.number, self.ranks.len());
+        self.directory.grow(rank.number, self.ranks.len());
         self.ranks.push_reserved(rank);
     }
 
-    /// The slot of the head with the number. It is looked for among the ranks, which are far smaller than heads.
+    /// The index of the head with the number. It is looked for among the ranks, which are far smaller than heads.
     pub fn find(&self, heads: &[Head], number: u32) -> Option<usize>
         requires rising { IsRising heads.now }
         requires aligned { map (λ r. r.number) self.now.ranks ≡ map (λ p. p.number) (patches_of heads.now) }
-        ensures found { IfSome result (HasSlot heads.now number) }
+        ensures found { IfSome result (HasIndex heads.now number) }
         ensures none { IfNone result (HasNone heads.now number) }
     {
         let _ = heads;
-        rank_slot(self.ranks.as_slice(), &self.index, number)
+        rank_index(self.ranks.as_slice(), &self.directory, number)
     }
 
-    /// The level of the head in the slot.
-    pub fn level(&self, slot: usize) -> u32
-        requires { slot < length self.now.ranks }
-        ensures { (d : Rank) → result ≡ (slice_index_or self.now.ranks slot d).level }
+    /// The level of the head at the index.
+    pub fn level(&self, index: usize) -> u32
+        requires { index < length self.now.ranks }
+        ensures { (d : Rank) → result ≡ (slice_index_or self.now.ranks index d).level }
     {
-        self.ranks[slot].level
+        self.ranks[index].level
     }
 
-    /// The rank of the head in the slot.
-    pub fn rank(&self, slot: usize) -> Rank
-        requires { slot < length self.now.ranks }
-        ensures { (d : Rank) → result ≡ slice_index_or self.now.ranks slot d }
+    /// The rank of the head at the index.
+    pub fn rank(&self, index: usize) -> Rank
+        requires { index < length self.now.ranks }
+        ensures { (d : Rank) → result ≡ slice_index_or self.now.ranks index d }
     {
-        self.ranks[slot]
+        self.ranks[index]
     }
 
     /// The floor of the block.
@@ -195,7 +195,7 @@ impl Levels {
         ensures { result ≡ level_of self.now.ranks number }
     {
         match self.find(heads, number) {
-            Some(slot) => self.level(slot),
+            Some(index) => self.level(index),
             None => 0,
         }
     }
@@ -210,7 +210,7 @@ impl Levels {
         ensures jump { result.ancestry.jump ≡ jump_of self.now.ranks number }
     {
         match self.find(heads, number) {
-            Some(slot) => self.rank(slot),
+            Some(index) => self.rank(index),
             None => Rank {
                 number,
                 level: 0,
@@ -232,19 +232,19 @@ impl Levels {
         most
     }
 
-    /// The head in the slot has this ancestry.
-    pub fn put_ancestry(&mut self, slot: usize, ancestry: Ancestry)
-        requires slot { slot < length self.old.ranks }
+    /// The head at the index has this ancestry.
+    pub fn put_ancestry(&mut self, index: usize, ancestry: Ancestry)
+        requires index { index < length self.old.ranks }
         requires rising { AllPairs (λ r q. r.number < q.number) self.old.ranks }
         ensures numbers { map (λ r. r.number) self.new.ranks ≡ map (λ r. r.number) self.old.ranks }
         ensures levels { map (λ r. r.level) self.new.ranks ≡ map (λ r. r.level) self.old.ranks }
-        ensures parent { (d : Rank) → parent_of self.new.ranks (slice_index_or self.old.ranks slot d).number ≡ ancestry.parent }
-        ensures jump { (d : Rank) → jump_of self.new.ranks (slice_index_or self.old.ranks slot d).number ≡ ancestry.jump }
-        ensures rest { (d : Rank) (n : ℕ) → n ≢ (slice_index_or self.old.ranks slot d).number → (parent_of self.new.ranks n ≡ parent_of self.old.ranks n) × (jump_of self.new.ranks n ≡ jump_of self.old.ranks n) }
+        ensures parent { (d : Rank) → parent_of self.new.ranks (slice_index_or self.old.ranks index d).number ≡ ancestry.parent }
+        ensures jump { (d : Rank) → jump_of self.new.ranks (slice_index_or self.old.ranks index d).number ≡ ancestry.jump }
+        ensures rest { (d : Rank) (n : ℕ) → n ≢ (slice_index_or self.old.ranks index d).number → (parent_of self.new.ranks n ≡ parent_of self.old.ranks n) × (jump_of self.new.ranks n ≡ jump_of self.old.ranks n) }
         ensures floors { self.new.floors ≡ self.old.floors }
         ensures room { self.new.room ≡ self.old.room }
     {
-        self.ranks[slot].ancestry = ancestry;
+        self.ranks[index].ancestry = ancestry;
     }
 
     /// Drops the patches on disk, so many not being there, with their levels. Those before the oldest of them stay where they
@@ -259,8 +259,8 @@ impl Levels {
     {
         let first = first_on_disk(heads, live);
         let end = end_on_disk(heads, first, live);
-        keep_live(&mut self.ranks, &mut self.index, heads, first, end);
-        self.index.follow(&self.ranks);
+        keep_live(&mut self.ranks, &mut self.directory, heads, first, end);
+        self.directory.follow(&self.ranks);
         drop_on_disk(heads, first, end);
     }
 
@@ -279,36 +279,36 @@ impl Levels {
         }
     }
 
-    /// The head in the slot comes down to the greatest level of what it depends on and of its own, and answers whether it did:
+    /// The head at the index comes down to the greatest level of what it depends on and of its own, and answers whether it did:
     /// a gate that is sealed stood at the top while it was open, and so does all that was put after it.
-    pub fn settle(&mut self, heads: &[Head], slot: usize) -> bool
+    pub fn settle(&mut self, heads: &[Head], index: usize) -> bool
         requires rising { IsRising heads.now }
-        requires slot { slot < length heads.now }
+        requires index { index < length heads.now }
         requires leveled { IsLeveled (patches_of heads.now) (length self.old.floors) self.old }
         ensures leveled { IsLeveled (patches_of heads.now) (length self.old.floors) self.new }
         ensures room { (length self.new.ranks ≡ length self.old.ranks) × (self.new.room ≡ self.old.room) }
     {
-        let head = &heads[slot];
+        let head = &heads[index];
         let below = self.greatest(heads, head.dependencies.as_slice());
         let level = below.max(self.own_level(head));
-        if level < self.level(slot) {
-            raise(&mut self.ranks, slot, level);
+        if level < self.level(index) {
+            raise(&mut self.ranks, index, level);
             true
         } else {
             false
         }
     }
 
-    // The head in the slot goes up to that level, and where it is a hard change in memory so does the floor of its block.
-    fn lift_one(&mut self, heads: &[Head], slot: usize, to: u32)
+    // The head at the index goes up to that level, and where it is a hard change in memory so does the floor of its block.
+    fn lift_one(&mut self, heads: &[Head], index: usize, to: u32)
         requires rising { IsRising heads.now }
-        requires slot { slot < length heads.now }
+        requires index { index < length heads.now }
         requires aligned { map (λ r. r.number) self.old.ranks ≡ map (λ p. p.number) (patches_of heads.now) }
         requires inside { IsInside (patches_of heads.now) (length self.old.floors) }
-        ensures { IsLifted (patches_of heads.now) (number_at heads.now slot ∷ []) to self.old self.new }
+        ensures { IsLifted (patches_of heads.now) (number_at heads.now index ∷ []) to self.old self.new }
     {
-        raise(&mut self.ranks, slot, to);
-        raise_floor(&mut self.floors, &heads[slot], to);
+        raise(&mut self.ranks, index, to);
+        raise_floor(&mut self.floors, &heads[index], to);
     }
 
     // What was met goes up to that level.
@@ -320,7 +320,7 @@ impl Levels {
         ensures { IsLifted (patches_of heads.now) (numbers_met heads.now walk.now) to self.old self.new }
     {
         for at in 0..walk.len() {
-            self.lift_one(heads, walk.slot(at), to);
+            self.lift_one(heads, walk.index_at(at), to);
         }
     }
 

@@ -14,8 +14,8 @@ ghost use Rattle.fst_walks.specs.Needing.{IsKnown, IsNeeding, IsNoted, IsPut, Is
 
 use crate::shortcuts::{is_hard_in, is_hard_number};
 use fst_heads::head::{Head, Kind};
+use fst_heads::index::index_of;
 use fst_heads::row::is_live_number;
-use fst_heads::slot::slot_of;
 use fst_types::Grade;
 use std::alloc::{AllocError, Global};
 use std::marker::Model;
@@ -89,7 +89,7 @@ fn has_hard(heads: &[Head], needs: &[Need], block: u32) -> bool
 fn hard_block_of(heads: &[Head], number: u32) -> Option<u32>
     requires { IsRising heads.now }
 {
-    let head = &heads[slot_of(heads, number)?];
+    let head = &heads[index_of(heads, number)?];
     match head.kind {
         Kind::Change(_, block, _) => {
             let block = u32::from(block);
@@ -108,10 +108,10 @@ fn is_stood_for(heads: &[Head], needs: &[Need], block: u32, number: u32) -> bool
     requires { IsRising heads.now }
     ensures { IsTrue result → IsStoodFor (patches_of heads.now) block (map (λ (q : Need). q.number) needs.now) number }
 {
-    let Some(slot) = slot_of(heads, number) else {
+    let Some(index) = index_of(heads, number) else {
         return false;
     };
-    let head = &heads[slot];
+    let head = &heads[index];
     let Kind::Change(_, of, _) = head.kind else {
         return false;
     };

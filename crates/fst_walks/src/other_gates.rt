@@ -28,8 +28,8 @@ fn search_other(heads: &[Head], walk: &mut Walk, gate: u32) -> bool
 {
     let mut at = 0;
     while at < walk.len() {
-        let slot = walk.slot(at);
-        let head = &heads[slot];
+        let index = walk.index_at(at);
+        let head = &heads[index];
         if is_other_gate(head, gate) {
             return true;
         }

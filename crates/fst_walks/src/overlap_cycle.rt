@@ -17,7 +17,7 @@ use crate::ends::Ends;
 use crate::sight::Sight;
 use crate::starts::Starts;
 use fst_heads::head::Head;
-use fst_heads::slot::slot_of;
+use fst_heads::index::index_of;
 use fst_types::Span;
 
 // Whether something may depend on the patch with the number.
@@ -26,8 +26,8 @@ fn has_dependants(heads: &[Head], number: u32) -> bool
     requires linked { AreLinked (nodes_of heads.now) }
     ensures { (n : ℕ) → DependsOn (patches_of heads.now) n number → IsTrue result }
 {
-    match slot_of(heads, number) {
-        Some(slot) => !heads[slot].dependants.as_slice().is_empty(),
+    match index_of(heads, number) {
+        Some(index) => !heads[index].dependants.as_slice().is_empty(),
         None => true,
     }
 }

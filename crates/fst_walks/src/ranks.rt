@@ -9,23 +9,23 @@ ghost use Rattle.fst_heads.specs.Nodes.{is_live_in};
 ghost use Rattle.fst_heads.specs.Spans.{SpansDisk};
 ghost use Rattle.fst_walks.specs.Leveling.{floor_of, halved, halved_rank, level_of};
 
-use crate::index::Index;
+use crate::directory::Directory;
 use crate::levels::{Rank, TOP};
 use crate::shortcuts::is_hard_in;
 use fst_heads::head::{Head, Kind};
 use fst_heads::places::is_kept;
 
-/// The head in the slot is at that level.
-pub fn raise(ranks: &mut Vec<Rank>, slot: usize, to: u32)
-    requires slot { slot < length ranks.old.items }
+/// The head at the index is at that level.
+pub fn raise(ranks: &mut Vec<Rank>, index: usize, to: u32)
+    requires index { index < length ranks.old.items }
     requires rising { AllPairs (λ r q. r.number < q.number) ranks.old.items }
     ensures numbers { map (λ r. r.number) ranks.new.items ≡ map (λ r. r.number) ranks.old.items }
-    ensures raised { (d : Rank) → level_of ranks.new.items (slice_index_or ranks.old.items slot d).number ≡ to }
-    ensures rest { (d : Rank) (n : ℕ) → n ≢ (slice_index_or ranks.old.items slot d).number → level_of ranks.new.items n ≡ level_of ranks.old.items n }
+    ensures raised { (d : Rank) → level_of ranks.new.items (slice_index_or ranks.old.items index d).number ≡ to }
+    ensures rest { (d : Rank) (n : ℕ) → n ≢ (slice_index_or ranks.old.items index d).number → level_of ranks.new.items n ≡ level_of ranks.old.items n }
     ensures ancestries { map (λ r. r.ancestry) ranks.new.items ≡ map (λ r. r.ancestry) ranks.old.items }
     ensures capacity { vec_capacity ranks.new ≡ vec_capacity ranks.old }
 {
-    ranks[slot].level = to;
+    ranks[index].level = to;
 }
 
 /// Where the patch is a hard change in memory, the floor of its block is there.
@@ -68,10 +68,10 @@ pub fn halve_floors(floors: &mut Vec<u32>)
     }
 }
 
-// The slot of the rank with the number, where none of those behind it is missing: then it is as far from the last slot as its
+// The index of the rank with the number, where none of those behind it is missing: then it is as far from the last index as its
 // number is from the last number.
 fn rank_from_end(ranks: &[Rank], number: u32) -> Option<usize>
-    ensures { IfSome result (λ slot. (slot < length ranks.now) × ((d : Rank) → (slice_index_or ranks.now slot d).number ≡ number)) }
+    ensures { IfSome result (λ index. (index < length ranks.now) × ((d : Rank) → (slice_index_or ranks.now index d).number ≡ number)) }
 {
     let last = ranks.last()?.number;
     if last < number {
@@ -81,9 +81,9 @@ fn rank_from_end(ranks: &[Rank], number: u32) -> Option<usize>
     if ranks.len() <= back {
         return None;
     }
-    let slot = ranks.len() - back - 1;
-    if ranks[slot].number == number {
-        Some(slot)
+    let index = ranks.len() - back - 1;
+    if ranks[index].number == number {
+        Some(index)
     } else {
         None
     }
@@ -113,16 +113,16 @@ fn is_missing(ranks: &[Rank], place: usize, number: u32) -> bool
     place == ranks.len() || number < ranks[place].number
 }
 
-/// The slot of the rank with the number.
-pub fn rank_slot(ranks: &[Rank], index: &Index, number: u32) -> Option<usize>
+/// The index of the rank with the number.
+pub fn rank_index(ranks: &[Rank], directory: &Directory, number: u32) -> Option<usize>
     requires { AllPairs (λ r q. r.number < q.number) ranks.now }
-    ensures found { IfSome result (λ slot. (slot < length ranks.now) × ((d : Rank) → (slice_index_or ranks.now slot d).number ≡ number)) }
+    ensures found { IfSome result (λ index. (index < length ranks.now) × ((d : Rank) → (slice_index_or ranks.now index d).number ≡ number)) }
     ensures none { IfNone result (All (λ r. r.number ≢ number) ranks.now) }
 {
-    if let Some(slot) = rank_from_end(ranks, number) {
-        return Some(slot);
+    if let Some(index) = rank_from_end(ranks, number) {
+        return Some(index);
     }
-    if let Some(place) = index.place(number) {
+    if let Some(place) = directory.place(number) {
         if is_there(ranks, place, number) {
             return Some(place);
         }
@@ -131,14 +131,20 @@ pub fn rank_slot(ranks: &[Rank], index: &Index, number: u32) -> Option<usize>
         }
     }
     match ranks.binary_search_by_key(&number, |rank| rank.number) {
-        Ok(slot) => Some(slot),
+        Ok(index) => Some(index),
         Err(_) => None,
     }
 }
 
-/// The ranks of heads that are not on disk stay; those on disk stand from `first` up to `end`, and are left out of the index.
-/// Heads stand in the order of their ranks.
-pub fn keep_live(ranks: &mut Vec<Rank>, index: &mut Index, heads: &[Head], first: usize, end: usize)
+/// The ranks of heads that are not on disk stay; those on disk stand from `first` up to `end`, and are left out of the
+/// directory. Heads stand in the order of their ranks.
+pub fn keep_live(
+    ranks: &mut Vec<Rank>,
+    directory: &mut Directory,
+    heads: &[Head],
+    first: usize,
+    end: usize,
+)
     requires rising { IsRising heads.now }
     requires aligned { map (λ r. r.number) ranks.old.items ≡ map (λ p. p.number) (patches_of heads.now) }
     requires disk { SpansDisk (patches_of heads.now) first end }
@@ -146,12 +152,12 @@ pub fn keep_live(ranks: &mut Vec<Rank>, index: &mut Index, heads: &[Head], first
     ensures capacity { vec_capacity ranks.new ≡ vec_capacity ranks.old }
 {
     let mut kept = first;
-    for slot in first..end {
-        if is_kept(&heads[slot]) {
-            ranks[kept] = ranks[slot];
+    for index in first..end {
+        if is_kept(&heads[index]) {
+            ranks[kept] = ranks[index];
             kept += 1;
         } else {
-            index.leave_out(ranks[slot].number);
+            directory.leave_out(ranks[index].number);
         }
     }
     ranks.drain(kept..end);

@@ -11,7 +11,7 @@ ghost use Rattle.fst_types.specs.Tests.{is_change_at};
 ghost use Rattle.fst_heads.specs.declared.pending.Pending.TheVariants as pending;
 ghost use Rattle.fst_heads.specs.declared.test.Test.TheVariants as test;
 ghost use Rattle.fst_heads.specs.Heads.{IsRising, kind_of, patch_of, patches_of};
-ghost use Rattle.fst_heads.specs.Slots.{PassesAt};
+ghost use Rattle.fst_heads.specs.Indices.{PassesAt};
 ghost use Rattle.fst_heads.specs.Tests.{is_hard_kind};
 ghost use Rattle.fst_heads.specs.Grading.{HasUnder, IsHardNumber, LeadsNowhere};
 ghost use Rattle.fst_walks.specs.Sights.{Sees};
@@ -22,10 +22,10 @@ use crate::sight::Sight;
 use crate::under_hard::climb;
 use fst_heads::choice::is_hard;
 use fst_heads::head::{Head, Kind};
+use fst_heads::index::index_of;
 use fst_heads::pending::{Pending, is_pending};
 use fst_heads::places::is_change_at;
 use fst_heads::row::row_pending;
-use fst_heads::slot::slot_of;
 use fst_heads::test::{Test, passes};
 use fst_types::Place;
 
@@ -35,7 +35,7 @@ pub fn passes_at(sight: &Sight<'_>, test: Test, number: u32) -> bool
     ensures { IsTrue result ↔ PassesAt test (patches_of sight.now.heads.now) number }
 {
     match sight.levels.find(sight.heads, number) {
-        Some(slot) => passes(test, &sight.heads[slot]),
+        Some(index) => passes(test, &sight.heads[index]),
         None => false,
     }
 }
@@ -68,7 +68,7 @@ fn pending_of(sight: &Sight<'_>, number: u32) -> Pending
     ensures { result ≡ pending_in (nodes_of sight.now.heads.now) number }
 {
     match sight.levels.find(sight.heads, number) {
-        Some(slot) => sight.heads[slot].pending,
+        Some(index) => sight.heads[index].pending,
         None => Pending::Nothing,
     }
 }
@@ -82,10 +82,10 @@ fn waits_for_own(sight: &Sight<'_>, block: u32, number: u32) -> bool
     if is_own(pending_of(sight, number), block) {
         return true;
     }
-    let Some(slot) = sight.levels.find(sight.heads, number) else {
+    let Some(index) = sight.levels.find(sight.heads, number) else {
         return false;
     };
-    let head = &sight.heads[slot];
+    let head = &sight.heads[index];
     match head.kind {
         Kind::OpenGate => {
             let below = row_pending(sight.heads, head.dependencies.as_slice());
@@ -121,8 +121,8 @@ pub fn is_hard_number(heads: &[Head], block: u32, number: u32) -> bool
     requires { IsRising heads.now }
     ensures { IsTrue result ↔ IsHardNumber (patches_of heads.now) block number }
 {
-    match slot_of(heads, number) {
-        Some(slot) => is_hard_in(&heads[slot], block),
+    match index_of(heads, number) {
+        Some(index) => is_hard_in(&heads[index], block),
         None => false,
     }
 }
@@ -133,7 +133,7 @@ pub fn is_hard_at(sight: &Sight<'_>, block: u32, number: u32) -> bool
     ensures { IsTrue result ↔ IsHardNumber (patches_of sight.now.heads.now) block number }
 {
     match sight.levels.find(sight.heads, number) {
-        Some(slot) => is_hard_in(&sight.heads[slot], block),
+        Some(index) => is_hard_in(&sight.heads[index], block),
         None => false,
     }
 }
@@ -174,7 +174,7 @@ pub fn row_below<'a>(sight: &Sight<'a>, number: u32) -> &'a [u32]
     ensures { (q : ℕ) → Contains result.now q → DirectlyOn (patches_of sight.now.heads.now) number q }
 {
     match sight.levels.find(sight.heads, number) {
-        Some(slot) => sight.heads[slot].dependencies.as_slice(),
+        Some(index) => sight.heads[index].dependencies.as_slice(),
         None => &[],
     }
 }

@@ -44,22 +44,22 @@ fn sink_one(levels: &mut Levels, heads: &[Head], walk: &mut Walk, number: u32, l
     ensures long { length walk.new.marks ≡ length heads.now }
     ensures room { walk.new.room ≡ walk.old.room }
 {
-    let Some(slot) = levels.find(heads, number) else {
+    let Some(index) = levels.find(heads, number) else {
         return;
     };
-    if levels.level(slot) < TOP {
+    if levels.level(index) < TOP {
         return;
     }
-    let row = heads[slot].dependencies.as_slice();
-    if is_down(levels, heads, row, last) && levels.settle(heads, slot) {
-        walk.meet(slot);
+    let row = heads[index].dependencies.as_slice();
+    if is_down(levels, heads, row, last) && levels.settle(heads, index) {
+        walk.meet(index);
     }
 }
 
-// What directly depends on the patch in the slot, which has come down, comes down where it can.
-fn sink_dependants(levels: &mut Levels, heads: &[Head], walk: &mut Walk, slot: usize)
+// What directly depends on the patch at the index, which has come down, comes down where it can.
+fn sink_dependants(levels: &mut Levels, heads: &[Head], walk: &mut Walk, index: usize)
     requires rising { IsRising heads.now }
-    requires slot { slot < length heads.now }
+    requires index { index < length heads.now }
     requires leveled { IsLeveled (patches_of heads.now) (length levels.old.floors) levels.old }
     requires long { length walk.old.marks ≡ length heads.now }
     ensures leveled { IsLeveled (patches_of heads.now) (length levels.old.floors) levels.new }
@@ -67,7 +67,7 @@ fn sink_dependants(levels: &mut Levels, heads: &[Head], walk: &mut Walk, slot: u
     ensures long { length walk.new.marks ≡ length heads.now }
     ensures room { walk.new.room ≡ walk.old.room }
 {
-    let head = &heads[slot];
+    let head = &heads[index];
     for over in head.dependants.as_slice() {
         sink_one(levels, heads, walk, *over, head.number);
     }
@@ -84,17 +84,17 @@ pub fn sink_over(levels: &mut Levels, heads: &[Head], walk: &mut Walk, number: u
     ensures room { walk.new.room ≡ walk.old.room }
 {
     walk.clear();
-    let Some(slot) = levels.find(heads, number) else {
+    let Some(index) = levels.find(heads, number) else {
         return;
     };
-    if levels.level(slot) == TOP {
+    if levels.level(index) == TOP {
         return;
     }
-    walk.meet(slot);
+    walk.meet(index);
     let mut at = 0;
     while at < walk.len() {
-        let slot = walk.slot(at);
-        sink_dependants(levels, heads, walk, slot);
+        let index = walk.index_at(at);
+        sink_dependants(levels, heads, walk, index);
         at += 1;
     }
 }

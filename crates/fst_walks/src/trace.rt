@@ -6,7 +6,7 @@ ghost use Rattle.fst_types.specs.Closure.{Closure};
 ghost use Rattle.fst_types.specs.Dependencies.{IsLiveNumber};
 ghost use Rattle.fst_heads.specs.declared.test.Test.TheVariants as test;
 ghost use Rattle.fst_heads.specs.Heads.{patches_of};
-ghost use Rattle.fst_heads.specs.Slots.{HasSlot, PassesAt};
+ghost use Rattle.fst_heads.specs.Indices.{HasIndex, PassesAt};
 ghost use Rattle.fst_walks.specs.BothEnds.{IsNeed, StepsTo};
 ghost use Rattle.fst_walks.specs.Descending.{Visited};
 ghost use Rattle.fst_walks.specs.Needing.{needs_of};
@@ -25,46 +25,46 @@ const STEPS: u32 = 256;
 // comes after one alone may lead on.
 const LOOKS: usize = 65_536;
 
-// The slot of the patch with the number, if the walk has met it.
-fn met_slot(sight: &Sight<'_>, up: &Walk, number: u32) -> Option<usize>
+// The index of the patch with the number, if the walk has met it.
+fn met_index(sight: &Sight<'_>, up: &Walk, number: u32) -> Option<usize>
     requires sees { Sees sight.now }
     requires up { Visited sight.now.heads.now up.now }
-    ensures slot { IfSome result (HasSlot sight.now.heads.now number) }
-    ensures live { IfSome result (λ slot. IsLiveNumber (patches_of sight.now.heads.now) number) }
+    ensures index { IfSome result (HasIndex sight.now.heads.now number) }
+    ensures live { IfSome result (λ index. IsLiveNumber (patches_of sight.now.heads.now) number) }
 {
-    let slot = sight.levels.find(sight.heads, number)?;
-    if up.has_met(slot) { Some(slot) } else { None }
+    let index = sight.levels.find(sight.heads, number)?;
+    if up.has_met(index) { Some(index) } else { None }
 }
 
-// The slot of what the walk has met and the block needs, the newest first, of so many at most.
+// The index of what the walk has met and the block needs, the newest first, of so many at most.
 fn met_need(sight: &Sight<'_>, up: &Walk, block: u32, most: usize) -> Option<usize>
     requires sees { Sees sight.now }
     requires up { Visited sight.now.heads.now up.now }
     requires block { block < length sight.now.lists.now }
-    ensures { IfSome result (λ slot. (q : ℕ) × HasSlot sight.now.heads.now q slot × IsNeed (patches_of sight.now.heads.now) (needs_of sight.now.needs.now.lists) block q) }
+    ensures { IfSome result (λ index. (q : ℕ) × HasIndex sight.now.heads.now q index × IsNeed (patches_of sight.now.heads.now) (needs_of sight.now.needs.now.lists) block q) }
 {
     let needs = sight.needs.of(block);
     let few = &needs[needs.len().saturating_sub(most)..];
     for need in few.iter().rev() {
-        let slot = met_slot(sight, up, need.number);
-        if slot.is_some() {
-            return slot;
+        let index = met_index(sight, up, need.number);
+        if index.is_some() {
+            return index;
         }
     }
     None
 }
 
-// The slot of what the walk has met and the patch in the slot waits for: of its row, the newest first, or else of what its
+// The index of what the walk has met and the patch at the index waits for: of its row, the newest first, or else of what its
 // block needs, if that is another than `block`. It looks at so many of either at most.
-fn step(sight: &Sight<'_>, up: &Walk, slot: usize, block: u32, most: usize) -> Option<usize>
+fn step(sight: &Sight<'_>, up: &Walk, index: usize, block: u32, most: usize) -> Option<usize>
     requires sees { Sees sight.now }
     requires up { Visited sight.now.heads.now up.now }
-    requires slot { slot < length sight.now.heads.now }
-    ensures { IfSome result (λ next. (q : ℕ) × HasSlot sight.now.heads.now q next × ((n : ℕ) → HasSlot sight.now.heads.now n slot → IsLiveNumber (patches_of sight.now.heads.now) n → StepsTo (patches_of sight.now.heads.now) (needs_of sight.now.needs.now.lists) block n q)) }
+    requires index { index < length sight.now.heads.now }
+    ensures { IfSome result (λ next. (q : ℕ) × HasIndex sight.now.heads.now q next × ((n : ℕ) → HasIndex sight.now.heads.now n index → IsLiveNumber (patches_of sight.now.heads.now) n → StepsTo (patches_of sight.now.heads.now) (needs_of sight.now.needs.now.lists) block n q)) }
 {
-    let head = &sight.heads[slot];
+    let head = &sight.heads[index];
     for number in newest_few(head.dependencies.as_slice(), most).iter().rev() {
-        let next = met_slot(sight, up, *number);
+        let next = met_index(sight, up, *number);
         if next.is_some() {
             return next;
         }
@@ -82,16 +82,16 @@ fn step(sight: &Sight<'_>, up: &Walk, slot: usize, block: u32, most: usize) -> O
     }
 }
 
-/// The change of the block to which steps lead down from the patch in the slot, over what the walk up from the changes of the
+/// The change of the block to which steps lead down from the patch at the index, over what the walk up from the changes of the
 /// block has met. None where that is far, or what leads there is old.
-pub fn trace(sight: &Sight<'_>, up: &Walk, slot: usize, block: u32) -> Option<u32>
+pub fn trace(sight: &Sight<'_>, up: &Walk, index: usize, block: u32) -> Option<u32>
     requires sees { Sees sight.now }
     requires up { Visited sight.now.heads.now up.now }
-    requires slot { (n : ℕ) × HasSlot sight.now.heads.now n slot × IsLiveNumber (patches_of sight.now.heads.now) n }
+    requires index { (n : ℕ) × HasIndex sight.now.heads.now n index × IsLiveNumber (patches_of sight.now.heads.now) n }
     ensures change { IfSome result (PassesAt (test.LiveOn block) (patches_of sight.now.heads.now)) }
-    ensures path { IfSome result (λ end. (n : ℕ) → HasSlot sight.now.heads.now n slot → (n ≡ end) ⊎ Closure (StepsTo (patches_of sight.now.heads.now) (needs_of sight.now.needs.now.lists) block) n end) }
+    ensures path { IfSome result (λ end. (n : ℕ) → HasIndex sight.now.heads.now n index → (n ≡ end) ⊎ Closure (StepsTo (patches_of sight.now.heads.now) (needs_of sight.now.needs.now.lists) block) n end) }
 {
-    let mut at = slot;
+    let mut at = index;
     let mut left = LOOKS;
     for _ in 0..STEPS {
         let head = &sight.heads[at];

@@ -5,7 +5,7 @@
 ghost use Rattle.std.specs.Prelude.{◌≡◌, ℕ, IfSome};
 ghost use Rattle.fst_types.specs.Dependencies.{DirectlyOn};
 ghost use Rattle.fst_heads.specs.Heads.{patches_of};
-ghost use Rattle.fst_heads.specs.Slots.{HasSlot};
+ghost use Rattle.fst_heads.specs.Indices.{HasIndex};
 ghost use Rattle.fst_walks.specs.Sights.{Sees};
 ghost use Rattle.fst_walks.specs.WayBack.{IsUnderHard};
 
@@ -17,13 +17,13 @@ use fst_types::Place;
 // How many of the newest that depend on a patch are looked at.
 const NEWEST: usize = 8;
 
-// The slot of the newest change of the block in memory that directly depends on the patch in the slot, of so many.
-fn next_over(sight: &Sight<'_>, block: u32, slot: usize) -> Option<usize>
+// The index of the newest change of the block in memory that directly depends on the patch at the index, of so many.
+fn next_over(sight: &Sight<'_>, block: u32, index: usize) -> Option<usize>
     requires sees { Sees sight.now }
-    requires slot { (n : ℕ) × HasSlot sight.now.heads.now n slot }
-    ensures { IfSome result (λ next. (q : ℕ) × HasSlot sight.now.heads.now q next × ((n : ℕ) → HasSlot sight.now.heads.now n slot → DirectlyOn (patches_of sight.now.heads.now) q n)) }
+    requires index { (n : ℕ) × HasIndex sight.now.heads.now n index }
+    ensures { IfSome result (λ next. (q : ℕ) × HasIndex sight.now.heads.now q next × ((n : ℕ) → HasIndex sight.now.heads.now n index → DirectlyOn (patches_of sight.now.heads.now) q n)) }
 {
-    let newest = newest_few(sight.heads[slot].dependants.as_slice(), NEWEST);
+    let newest = newest_few(sight.heads[index].dependants.as_slice(), NEWEST);
     for number in newest.iter().rev() {
         if let Some(next) = sight.levels.find(sight.heads, *number) {
             if is_change_at(&sight.heads[next], Place::Memory, block) {
@@ -40,15 +40,15 @@ pub fn climb(sight: &Sight<'_>, block: u32, number: u32, steps: usize) -> Option
     requires { Sees sight.now }
     ensures { IfSome result (λ left. IsUnderHard (patches_of sight.now.heads.now) block number) }
 {
-    let mut slot = sight.levels.find(sight.heads, number)?;
-    if !is_change_at(&sight.heads[slot], Place::Memory, block) {
+    let mut index = sight.levels.find(sight.heads, number)?;
+    if !is_change_at(&sight.heads[index], Place::Memory, block) {
         return None;
     }
     for taken in 0..steps {
-        if is_hard_in(&sight.heads[slot], block) {
+        if is_hard_in(&sight.heads[index], block) {
             return Some(steps - taken);
         }
-        slot = next_over(sight, block, slot)?;
+        index = next_over(sight, block, index)?;
     }
     None
 }

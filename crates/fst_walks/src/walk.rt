@@ -1,4 +1,4 @@
-//! What a walk keeps beside the heads: a mark for each head, and the slots of what it has met, in the order in which it met
+//! What a walk keeps beside the heads: a mark for each head, and the indices of what it has met, in the order in which it met
 //! it. What is marked is what was met, so that each patch is looked at once, and a walk begins by taking back the marks of
 //! what the one before it met, which takes no longer than that walk did.
 
@@ -10,7 +10,7 @@ use fst_heads::test::{Test, passes};
 use std::alloc::{AllocError, Global};
 use std::marker::Model;
 
-/// A walk over heads. It takes a byte and the room for a slot for each head.
+/// A walk over heads. It takes a byte and the room for an index for each head.
 #[derive(Drop)]
 pub struct Walk {
     marks: Vec<bool>,
@@ -35,28 +35,28 @@ fn unmark(marks: &mut [bool], met: &[usize])
     ensures long { length marks.new ≡ length marks.old }
     ensures clear { AreMarked marks.new [] }
 {
-    for slot in met {
-        marks[*slot] = false;
+    for index in met {
+        marks[*index] = false;
     }
 }
 
 // Marks what was met.
 fn mark(marks: &mut [bool], met: &[usize])
     requires clear { AreMarked marks.old [] }
-    requires inside { (slot : ℕ) → Contains met.now slot → slot < length marks.old }
+    requires inside { (index : ℕ) → Contains met.now index → index < length marks.old }
     ensures long { length marks.new ≡ length marks.old }
     ensures marked { AreMarked marks.new met.now }
 {
-    for slot in met {
-        marks[*slot] = true;
+    for index in met {
+        marks[*index] = true;
     }
 }
 
-// Whether the patch in the slot passes.
-fn passes_at(heads: &[Head], test: Test, slot: usize) -> bool
-    ensures { result ≡ passes_in test heads.now slot }
+// Whether the patch at the index passes.
+fn passes_at(heads: &[Head], test: Test, index: usize) -> bool
+    ensures { result ≡ passes_in test heads.now index }
 {
-    match heads.get(slot) {
+    match heads.get(index) {
         Some(head) => passes(test, head),
         None => false,
     }
@@ -124,43 +124,43 @@ impl Walk {
         self.met.len()
     }
 
-    /// The slot that was met there in turn.
-    pub fn slot(&self, at: usize) -> usize
+    /// The index that was met there in turn.
+    pub fn index_at(&self, at: usize) -> usize
         requires { at < length self.now.met }
-        ensures slot { result ≡ slice_index_or self.now.met at 0 }
+        ensures index { result ≡ slice_index_or self.now.met at 0 }
         ensures inside { result < length self.now.marks }
     {
         self.met[at]
     }
 
-    /// Whether the head in the slot was met.
-    pub fn has_met(&self, slot: usize) -> bool
-        requires { slot < length self.now.marks }
-        ensures met { IsTrue result ↔ Contains self.now.met slot }
+    /// Whether the head at the index was met.
+    pub fn has_met(&self, index: usize) -> bool
+        requires { index < length self.now.marks }
+        ensures met { IsTrue result ↔ Contains self.now.met index }
         ensures inside { (s : ℕ) → Contains self.now.met s → s < length self.now.marks }
     {
-        self.marks[slot]
+        self.marks[index]
     }
 
-    /// Meets the head in the slot, unless it was met before.
-    pub fn meet(&mut self, slot: usize)
-        requires { slot < length self.old.marks }
-        ensures { Meets slot self.old self.new }
+    /// Meets the head at the index, unless it was met before.
+    pub fn meet(&mut self, index: usize)
+        requires { index < length self.old.marks }
+        ensures { Meets index self.old self.new }
     {
-        if !self.marks[slot] {
-            self.marks[slot] = true;
-            self.met.push_reserved(slot);
+        if !self.marks[index] {
+            self.marks[index] = true;
+            self.met.push_reserved(index);
         }
     }
 
     /// Of what was met, those stay that pass the test.
     pub fn keep(&mut self, heads: &[Head], test: Test)
         ensures long { length self.new.marks ≡ length self.old.marks }
-        ensures inside { (slot : ℕ) → Contains self.old.met slot → slot < length self.old.marks }
+        ensures inside { (index : ℕ) → Contains self.old.met index → index < length self.old.marks }
         ensures kept { self.new.met ≡ filter (passes_in test heads.now) self.old.met }
     {
         unmark(&mut self.marks, &self.met);
-        self.met.retain(|slot| passes_at(heads, test, *slot));
+        self.met.retain(|index| passes_at(heads, test, *index));
         mark(&mut self.marks, &self.met);
     }
 }

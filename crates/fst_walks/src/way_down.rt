@@ -5,7 +5,7 @@
 ghost use Rattle.std.specs.Prelude.{◌≡◌, ◌<◌, ◌≤◌, length, slice_index_or, Contains};
 ghost use Rattle.fst_types.specs.Dependencies.{IsLiveNumber};
 ghost use Rattle.fst_heads.specs.Heads.{patches_of};
-ghost use Rattle.fst_heads.specs.Slots.{HasSlot};
+ghost use Rattle.fst_heads.specs.Indices.{HasIndex};
 ghost use Rattle.fst_walks.specs.BothEnds.{CrossesDown, IsHigh, IsHighNeed, ShowsBlockUnder, StepsHigh};
 ghost use Rattle.fst_walks.specs.Descending.{Visited, Visits};
 ghost use Rattle.fst_walks.specs.Leveling.{level_of};
@@ -26,10 +26,10 @@ fn visit_high(sight: &Sight<'_>, walk: &mut Walk, number: u32, least: u32)
     ensures visited { Visited sight.now.heads.now walk.new }
     ensures visits { Visits (λ n. (n ≡ number) × IsHigh (patches_of sight.now.heads.now) (level_of sight.now.levels.now.ranks) least n) (numbers_met sight.now.heads.now walk.old) (numbers_met sight.now.heads.now walk.new) }
 {
-    if let Some(slot) = sight.levels.find(sight.heads, number) {
-        if sight.levels.level(slot) >= least {
-            if is_live(sight.heads[slot].place) {
-                walk.meet(slot);
+    if let Some(index) = sight.levels.find(sight.heads, number) {
+        if sight.levels.level(index) >= least {
+            if is_live(sight.heads[index].place) {
+                walk.meet(index);
             }
         }
     }
@@ -72,20 +72,20 @@ fn cross(
     sight: &Sight<'_>,
     walk: &mut Walk,
     crossed: &mut [bool],
-    slot: usize,
+    index: usize,
     number: u32,
     least: u32,
 ) -> usize
     requires sees { Sees sight.now }
     requires crossed { length crossed.old ≡ length sight.now.lists.now }
     requires visited { Visited sight.now.heads.now walk.old }
-    requires slot { HasSlot sight.now.heads.now number slot }
+    requires index { HasIndex sight.now.heads.now number index }
     requires live { IsLiveNumber (patches_of sight.now.heads.now) number }
     ensures visited { Visited sight.now.heads.now walk.new }
     ensures visits { Visits (λ q. CrossesDown (patches_of sight.now.heads.now) (needs_of sight.now.needs.now.lists) crossed.old number q × (least ≤ level_of sight.now.levels.now.ranks q)) (numbers_met sight.now.heads.now walk.old) (numbers_met sight.now.heads.now walk.new) }
     ensures crossed { ShowsBlockUnder (patches_of sight.now.heads.now) number crossed.old crossed.new }
 {
-    if let Kind::Change(_, block, _) = sight.heads[slot].kind {
+    if let Kind::Change(_, block, _) = sight.heads[index].kind {
         let block = block as u32;
         if !crossed[block as usize] {
             crossed[block as usize] = true;
@@ -112,10 +112,10 @@ pub fn step_down(
     ensures visits { Visits (StepsHigh (patches_of sight.now.heads.now) (level_of sight.now.levels.now.ranks) least (needs_of sight.now.needs.now.lists) crossed.old (slice_index_or (numbers_met sight.now.heads.now walk.old) at 0)) (numbers_met sight.now.heads.now walk.old) (numbers_met sight.now.heads.now walk.new) }
     ensures crossed { ShowsBlockUnder (patches_of sight.now.heads.now) (slice_index_or (numbers_met sight.now.heads.now walk.old) at 0) crossed.old crossed.new }
 {
-    let slot = walk.slot(at);
-    let head = &sight.heads[slot];
+    let index = walk.index_at(at);
+    let head = &sight.heads[index];
     let below = head.dependencies.as_slice();
     visit_high_row(sight, walk, below, least);
-    let across = cross(sight, walk, crossed, slot, head.number, least);
+    let across = cross(sight, walk, crossed, index, head.number, least);
     below.len().saturating_add(across)
 }

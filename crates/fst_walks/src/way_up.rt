@@ -4,7 +4,7 @@
 
 ghost use Rattle.std.specs.Prelude.{◌≡◌, ◌≤◌, ◌<◌, ℕ, length, Contains, slice_index_or};
 ghost use Rattle.fst_heads.specs.Heads.{patches_of};
-ghost use Rattle.fst_heads.specs.Slots.{HasSlot};
+ghost use Rattle.fst_heads.specs.Indices.{HasIndex};
 ghost use Rattle.fst_walks.specs.BothEnds.{IsLow, IsLowChange, IsOffDisk, StepsLow};
 ghost use Rattle.fst_walks.specs.Descending.{Visited, Visits};
 ghost use Rattle.fst_walks.specs.Leveling.{level_of};
@@ -27,9 +27,9 @@ fn visit_low(sight: &Sight<'_>, walk: &mut Walk, number: u32, most: u32)
     ensures room { walk.new.room ≡ walk.old.room }
     ensures visits { Visits (λ n. (n ≡ number) × IsLow (patches_of sight.now.heads.now) (level_of sight.now.levels.now.ranks) most n) (numbers_met sight.now.heads.now walk.old) (numbers_met sight.now.heads.now walk.new) }
 {
-    if let Some(slot) = sight.levels.find(sight.heads, number) {
-        if sight.levels.level(slot) <= most {
-            walk.meet(slot);
+    if let Some(index) = sight.levels.find(sight.heads, number) {
+        if sight.levels.level(index) <= most {
+            walk.meet(index);
         }
     }
 }
@@ -75,22 +75,22 @@ fn cross(
     sight: &Sight<'_>,
     walk: &mut Walk,
     crossed: &mut [bool],
-    slot: usize,
+    index: usize,
     number: u32,
     most: u32,
 ) -> usize
     requires sees { Sees sight.now }
     requires crossed { length crossed.old ≡ length sight.now.lists.now }
     requires visited { Visited sight.now.heads.now walk.old }
-    requires slot { HasSlot sight.now.heads.now number slot }
+    requires index { HasIndex sight.now.heads.now number index }
     ensures visited { Visited sight.now.heads.now walk.new }
     ensures room { walk.new.room ≡ walk.old.room }
     ensures visits { Visits (λ q. Crosses (patches_of sight.now.heads.now) crossed.old number q × (level_of sight.now.levels.now.ranks q ≤ most)) (numbers_met sight.now.heads.now walk.old) (numbers_met sight.now.heads.now walk.new) }
     ensures crossed { ShowsBlockOf (patches_of sight.now.heads.now) number crossed.old crossed.new }
 {
-    if let Kind::Change(_, block, _) = sight.heads[slot].kind {
+    if let Kind::Change(_, block, _) = sight.heads[index].kind {
         let block = block as u32;
-        if is_hard_in(&sight.heads[slot], block) {
+        if is_hard_in(&sight.heads[index], block) {
             if !crossed[block as usize] {
                 crossed[block as usize] = true;
                 return visit_low_changes(sight, walk, block, most);
@@ -118,10 +118,10 @@ pub fn step_up(
     ensures visits { Visits (StepsLow (patches_of sight.now.heads.now) (level_of sight.now.levels.now.ranks) most crossed.old (slice_index_or (numbers_met sight.now.heads.now walk.old) at 0)) (numbers_met sight.now.heads.now walk.old) (numbers_met sight.now.heads.now walk.new) }
     ensures crossed { ShowsBlockOf (patches_of sight.now.heads.now) (slice_index_or (numbers_met sight.now.heads.now walk.old) at 0) crossed.old crossed.new }
 {
-    let slot = walk.slot(at);
-    let head = &sight.heads[slot];
+    let index = walk.index_at(at);
+    let head = &sight.heads[index];
     let above = head.dependants.as_slice();
     visit_low_row(sight, walk, above, most);
-    let across = cross(sight, walk, crossed, slot, head.number, most);
+    let across = cross(sight, walk, crossed, index, head.number, most);
     above.len().saturating_add(across)
 }

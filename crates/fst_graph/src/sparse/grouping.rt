@@ -9,13 +9,13 @@ ghost use Rattle.fst_graph.specs.Known.{Prepared, unprepared, member_for, Refuse
 ghost use Rattle.fst_graph.specs.Membering.{ArePaired, member_order};
 ghost use Rattle.fst_graph.specs.Sparse.{ForetellsSparse, GainsSparse};
 
-use crate::gates::gate_slot;
+use crate::gates::gate_index;
 use crate::member::prepare_member;
 use crate::prepared::{Gates, given_up, keep, let_go};
 use crate::refusals::{reaches_tail, room_fault};
 use crate::sparse::Sparse;
 use crate::sparse::reserving::{reserve_around, reserve_in};
-use fst_heads::cascade::{cascade, seal_slot};
+use fst_heads::cascade::{cascade, seal_at};
 use fst_types::{BlockNo, Fault, Grade, PatchNo, Span};
 use fst_walks::ancestors::renew;
 use fst_walks::sight::Sight;
@@ -113,16 +113,16 @@ impl Sparse {
         ensures prepared { self.new.prepared ≡ self.old.prepared }
         ensures closed { IsOpenNumber self.new.heads head → ⊥ }
     {
-        match gate_slot(&self.heads, self.numbers, head) {
-            Ok(slot) => {
-                seal_slot(&mut self.heads, &mut self.queue, head, slot);
+        match gate_index(&self.heads, self.numbers, head) {
+            Ok(index) => {
+                seal_at(&mut self.heads, &mut self.queue, head, index);
                 let landed = cascade(
                     &mut self.heads,
                     &mut self.queue,
                     &mut self.standings,
                     &mut self.landed,
                 );
-                self.levels.settle(&self.heads, slot);
+                self.levels.settle(&self.heads, index);
                 // The gates below the head may have had other ancestors when it was put after them.
                 renew(&mut self.levels, &self.heads, head);
                 self.live -= landed;

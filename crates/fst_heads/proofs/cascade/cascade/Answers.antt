@@ -1,31 +1,31 @@
 use Rattle.fst_heads.proofs.Basics.{◌≡◌, ◌∙◌, ◌++◌, ◌∷◌, [], get_or, if◌then◌else◌, length, count_by, ap, vec_len, subst, sym, arith, length-map, nil_from_length, rules}
-use Rattle.fst_heads.proofs.{Patches.In-from_Contains, Words.{IsRising, HasSlot, HasNone, node_of, nodes_of, is_pending, Sinks, Spreading, is_waiting, now, AllStand}}
+use Rattle.fst_heads.proofs.{Patches.In-from_Contains, Words.{IsRising, HasIndex, HasNone, node_of, nodes_of, is_pending, Sinks, Spreading, is_waiting, now, AllStand}}
 use Rattle.fst_heads.proofs.{Beside.{waits_untold, waiting_settles, waiting_heard}, Landed.{length_if, place_noted, told_noted}}
 use Rattle.fst_heads.proofs.Popping.{fits_there, untold_there, rising_settled, after_is, once_after, live_after, hears_after, room_after, turned, cascaded_heads}
-use Rattle.fst_heads.proofs.{Telling.last_waits, Slotted.{rising_slots, none_of_number, node_in_slot, node_is}, Stands.stand_heard, Starting.settled_spread}
+use Rattle.fst_heads.proofs.{Telling.last_waits, Indexed.{rising_indices, none_of_number, node_at_index, node_is}, Stands.stand_heard, Starting.settled_spread}
 use Rattle.fst_heads.proofs.Carried.{spread_trans, length_spread}
 use Rattle.fst_heads.proofs.Going.{sinks_way}
 use Rattle.fst_heads.proofs.Words.pending
 use Rattle.fst_heads.proofs.cascade.cascade.Goals as goal
 
-pub slot_of-requires : goal.slot_of-requires
-slot_of-requires c = subst IsRising (sym c.deref.ensures.value) (rising_slots c.loop-number.heads.items c.loop-number.invariant.spreading.rising)
+pub index_of-requires : goal.index_of-requires
+index_of-requires c = subst IsRising (sym c.deref.ensures.value) (rising_indices c.loop-number.heads.items c.loop-number.invariant.spreading.rising)
 
-pub settle_slot-old-requires : goal.settle_slot-old-requires
-settle_slot-old-requires c =
+pub settle_at-old-requires : goal.settle_at-old-requires
+settle_at-old-requires c =
     let heads = c.loop-number.heads.items in
     let blocks = vec_len c.args.standings.now in
     let queue = c.pop.new.self.items in
     let q = c.in-Some.number in
-    let s = c.in-Some-slot_of.slot in
+    let s = c.in-Some-index_of.index in
     let S = subst (Spreading Sinks (nodes_of heads) blocks) c.in-Some.ensures.items c.loop-number.invariant.spreading in
-    let found = subst (λ hs. HasSlot hs q s) c.deref.ensures.value c.in-Some-slot_of.ensures.found in
+    let found = subst (λ hs. HasIndex hs q s) c.deref.ensures.value c.in-Some-index_of.ensures.found in
     record {
-      rising = rising_slots heads S.rising;
-      slot = omega (arith, found.0, c.loop-number.heads.ok.0);
+      rising = rising_indices heads S.rising;
+      index = omega (arith, found.0, c.loop-number.heads.ok.0);
       untold = λ d. record {
         fits = fits_there sinks_way heads blocks queue q s c.requires.room.0 S c.loop-number.invariant.linked c.loop-number.invariant.distinct found d;
-        sinks = S.moves (get_or (nodes_of heads) s d) (node_in_slot heads q s d found).0;
+        sinks = S.moves (get_or (nodes_of heads) s d) (node_at_index heads q s d found).0;
         untold = untold_there sinks_way heads blocks queue q s c.requires.room.0 S c.loop-number.invariant.linked c.loop-number.invariant.distinct found d;
       };
       inside = λ x b at len grade contained kind.
@@ -39,19 +39,19 @@ tell-requires c =
     let blocks = vec_len c.args.standings.now in
     let queue = c.pop.new.self.items in
     let q = c.in-Some.number in
-    let s = c.in-Some-slot_of.slot in
+    let s = c.in-Some-index_of.index in
     let S = subst (Spreading Sinks (nodes_of heads) blocks) c.in-Some.ensures.items c.loop-number.invariant.spreading in
-    let found = subst (λ hs. HasSlot hs q s) c.deref.ensures.value c.in-Some-slot_of.ensures.found in
-    let settled = c.settle_slot-old.ensures in
+    let found = subst (λ hs. HasIndex hs q s) c.deref.ensures.value c.in-Some-index_of.ensures.found in
+    let settled = c.settle_at-old.ensures in
     let linked = c.loop-number.invariant.linked in
     let distinct = c.loop-number.invariant.distinct in
-    let was = c.settle_slot-old.result.0 in
-    let is = c.settle_slot-old.result.1 in
-    let after = nodes_of c.settle_slot-old.new.heads.items in
+    let was = c.settle_at-old.result.0 in
+    let is = c.settle_at-old.result.1 in
+    let after = nodes_of c.settle_at-old.new.heads.items in
     let long = length_spread (nodes_of c.args.heads.now.items) (nodes_of heads) c.loop-number.invariant.spread in
     record {
-      rising = rising_settled q heads c.settle_slot-old.new.heads.items (after_is sinks_way heads blocks queue q s c.requires.room.0 S linked distinct found was is after settled.old settled.new settled.nodes) (rising_slots heads S.rising);
-      slot = omega (arith, found.0, c.loop-number.heads.ok.0, settled.len);
+      rising = rising_settled q heads c.settle_at-old.new.heads.items (after_is sinks_way heads blocks queue q s c.requires.room.0 S linked distinct found was is after settled.old settled.new settled.nodes) (rising_indices heads S.rising);
+      index = omega (arith, found.0, c.loop-number.heads.ok.0, settled.len);
       once = once_after sinks_way heads blocks queue q s c.requires.room.0 S linked distinct found was is after settled.old settled.new settled.nodes;
       hears = hears_after sinks_way heads blocks queue q s c.requires.room.0 S linked distinct found was is after settled.old settled.new settled.nodes;
       live = live_after sinks_way heads blocks queue q s c.requires.room.0 S linked distinct found was is after settled.old settled.new settled.nodes;
@@ -60,45 +60,45 @@ tell-requires c =
           omega (arith, room, long, length-map heads node_of, length-map c.args.heads.now.items node_of, c.requires.room.1, c.loop-number.invariant.capacity, c.in-Some.ensures.capacity);
     }
 
-pub loop-number-smaller-in-Some-slot_of : goal.loop-number-smaller-in-Some-slot_of
-loop-number-smaller-in-Some-slot_of c =
+pub loop-number-smaller-in-Some-index_of : goal.loop-number-smaller-in-Some-index_of
+loop-number-smaller-in-Some-index_of c =
     let heads = c.loop-number.heads.items in
     let nodes = nodes_of heads in
     let blocks = vec_len c.args.standings.now in
     let queue = c.pop.new.self.items in
     let q = c.in-Some.number in
-    let s = c.in-Some-slot_of.slot in
+    let s = c.in-Some-index_of.index in
     let S = subst (Spreading Sinks nodes blocks) c.in-Some.ensures.items c.loop-number.invariant.spreading in
-    let found = subst (λ hs. HasSlot hs q s) c.deref.ensures.value c.in-Some-slot_of.ensures.found in
-    let settled = c.settle_slot-old.ensures in
-    let after = nodes_of c.settle_slot-old.new.heads.items in
-    let turn = turned sinks_way heads blocks queue q s c.requires.room.0 S c.loop-number.invariant.linked c.loop-number.invariant.distinct found c.settle_slot-old.result.0 c.settle_slot-old.result.1 after settled.old settled.new settled.nodes (nodes_of c.tell.new.heads.items) c.tell.new.queue.items c.tell.ensures.nodes c.tell.ensures.queued in
+    let found = subst (λ hs. HasIndex hs q s) c.deref.ensures.value c.in-Some-index_of.ensures.found in
+    let settled = c.settle_at-old.ensures in
+    let after = nodes_of c.settle_at-old.new.heads.items in
+    let turn = turned sinks_way heads blocks queue q s c.requires.room.0 S c.loop-number.invariant.linked c.loop-number.invariant.distinct found c.settle_at-old.result.0 c.settle_at-old.result.1 after settled.old settled.new settled.nodes (nodes_of c.tell.new.heads.items) c.tell.new.queue.items c.tell.ensures.nodes c.tell.ensures.queued in
     turn.falls
 
-pub loop-number-preserved-in-Some-slot_of : goal.loop-number-preserved-in-Some-slot_of
-loop-number-preserved-in-Some-slot_of c =
+pub loop-number-preserved-in-Some-index_of : goal.loop-number-preserved-in-Some-index_of
+loop-number-preserved-in-Some-index_of c =
     let heads = c.loop-number.heads.items in
     let nodes = nodes_of heads in
     let blocks = vec_len c.args.standings.now in
     let queue = c.pop.new.self.items in
     let q = c.in-Some.number in
-    let s = c.in-Some-slot_of.slot in
+    let s = c.in-Some-index_of.index in
     let S = subst (Spreading Sinks nodes blocks) c.in-Some.ensures.items c.loop-number.invariant.spreading in
-    let found = subst (λ hs. HasSlot hs q s) c.deref.ensures.value c.in-Some-slot_of.ensures.found in
-    let settled = c.settle_slot-old.ensures in
-    let after = nodes_of c.settle_slot-old.new.heads.items in
-    let turn = turned sinks_way heads blocks queue q s c.requires.room.0 S c.loop-number.invariant.linked c.loop-number.invariant.distinct found c.settle_slot-old.result.0 c.settle_slot-old.result.1 after settled.old settled.new settled.nodes (nodes_of c.tell.new.heads.items) c.tell.new.queue.items c.tell.ensures.nodes c.tell.ensures.queued in
+    let found = subst (λ hs. HasIndex hs q s) c.deref.ensures.value c.in-Some-index_of.ensures.found in
+    let settled = c.settle_at-old.ensures in
+    let after = nodes_of c.settle_at-old.new.heads.items in
+    let turn = turned sinks_way heads blocks queue q s c.requires.room.0 S c.loop-number.invariant.linked c.loop-number.invariant.distinct found c.settle_at-old.result.0 c.settle_at-old.result.1 after settled.old settled.new settled.nodes (nodes_of c.tell.new.heads.items) c.tell.new.queue.items c.tell.ensures.nodes c.tell.ensures.queued in
     let same : vec_len c.loop-number.standings ≡ vec_len c.args.standings.now = omega (arith, c.loop-number.standings.ok.0, c.loop-number.invariant.standing.long) in
     let start = nodes_of c.args.heads.now.items in
     let next = nodes_of c.tell.new.heads.items in
     let d = (last_waits nodes blocks queue q S).0 in
     let here = last_waits nodes blocks queue q S in
     let waits = waits_untold here.0 (S.moves here.0 here.1) here.3 in
-    let is = node_is heads q s here.0 d (rising_slots heads S.rising) found here.1 here.2 in
+    let is = node_is heads q s here.0 d (rising_indices heads S.rising) found here.1 here.2 in
     let less = waiting_settles nodes q here.0 S.rising (In-from_Contains nodes here.0 here.1) here.2 waits in
-    let first_is = after_is sinks_way heads blocks queue q s c.requires.room.0 S c.loop-number.invariant.linked c.loop-number.invariant.distinct found c.settle_slot-old.result.0 c.settle_slot-old.result.1 after settled.old settled.new settled.nodes in
+    let first_is = after_is sinks_way heads blocks queue q s c.requires.room.0 S c.loop-number.invariant.linked c.loop-number.invariant.distinct found c.settle_at-old.result.0 c.settle_at-old.result.1 after settled.old settled.new settled.nodes in
     let first = ap (count_by is_waiting) first_is in
-    let left = c.settle_slot-old.result.1 in
+    let left = c.settle_at-old.result.1 in
     let landed = c.loop-number.landed.items in
     let own : c.note_landing.new.landed.items ≡ landed ++ (if is_pending (now here.0) pending.Nothing then q ∷ [] else []) =
     c.note_landing.ensures.listed ∙ ap (λ p. landed ++ (if is_pending p pending.Nothing then q ∷ [] else [])) (settled.new d ∙ ap now is) in
@@ -112,7 +112,7 @@ loop-number-preserved-in-Some-slot_of c =
       spreading = turn.spreading;
       linked = turn.are_linked;
       distinct = turn.are_distinct;
-      standing = subst (λ k. AllStand next k c.settle_slot-old.new.standings.items) same (rw (c.tell.ensures.nodes d) (stand_heard after (vec_len c.loop-number.standings) c.settle_slot-old.new.standings.items _ _ _ settled.standing));
+      standing = subst (λ k. AllStand next k c.settle_at-old.new.standings.items) same (rw (c.tell.ensures.nodes d) (stand_heard after (vec_len c.loop-number.standings) c.settle_at-old.new.standings.items _ _ _ settled.standing));
       spread = spread_trans start nodes next c.loop-number.invariant.spread turn.spread;
       capacity = c.tell.ensures.capacity ∙ (c.in-Some.ensures.capacity ∙ c.loop-number.invariant.capacity);
       frames = c.tell.ensures.frames ∙ (settled.frames ∙ c.loop-number.invariant.frames);
@@ -124,24 +124,24 @@ note_landing-requires c none =
     let heads = c.loop-number.heads.items in
     let nodes = nodes_of heads in
     let q = c.in-Some.number in
-    let s = c.in-Some-slot_of.slot in
+    let s = c.in-Some-index_of.index in
     let S = subst (Spreading Sinks nodes (vec_len c.args.standings.now)) c.in-Some.ensures.items c.loop-number.invariant.spreading in
-    let found = subst (λ hs. HasSlot hs q s) c.deref.ensures.value c.in-Some-slot_of.ensures.found in
+    let found = subst (λ hs. HasIndex hs q s) c.deref.ensures.value c.in-Some-index_of.ensures.found in
     let here = last_waits nodes (vec_len c.args.standings.now) c.pop.new.self.items q S in
     let d = here.0 in
-    let is = node_is heads q s here.0 d (rising_slots heads S.rising) found here.1 here.2 in
-    let told = ap (λ p. is_pending p pending.Nothing) (sym (ap now is) ∙ (sym (c.settle_slot-old.ensures.new d) ∙ none)) in
+    let is = node_is heads q s here.0 d (rising_indices heads S.rising) found here.1 here.2 in
+    let told = ap (λ p. is_pending p pending.Nothing) (sym (ap now is) ∙ (sym (c.settle_at-old.ensures.new d) ∙ none)) in
     let place = place_noted nodes c.loop-number.landed.items q here.0 S.rising c.loop-number.invariant.listed here.1 here.2 (waits_untold here.0 (S.moves here.0 here.1) here.3) told in
     let long = length_spread (nodes_of c.args.heads.now.items) nodes c.loop-number.invariant.spread in
     omega (arith, place, long, length-map heads node_of, length-map c.args.heads.now.items node_of, c.requires.room.2, c.loop-number.invariant.shelf, c.loop-number.landed.ok.0)
 
 -- the number is that of a head
-absent : (c : goal.In_default-slot_of) → ⊥
+absent : (c : goal.In_default-index_of) → ⊥
 absent c =
     let nodes = nodes_of c.loop-number.heads.items in
     let S = subst (Spreading Sinks nodes (vec_len c.args.standings.now)) c.in-Some.ensures.items c.loop-number.invariant.spreading in
     let x = last_waits nodes (vec_len c.args.standings.now) c.pop.new.self.items c.in-Some.number S in
-    none_of_number c.loop-number.heads.items c.in-Some.number x.0 (subst (λ hs. HasNone hs c.in-Some.number) c.deref.ensures.value c.in_default-slot_of.ensures.none) x.1 x.2
+    none_of_number c.loop-number.heads.items c.in-Some.number x.0 (subst (λ hs. HasNone hs c.in-Some.number) c.deref.ensures.value c.in_default-index_of.ensures.none) x.1 x.2
 
 pub loop-number-smaller : goal.loop-number-smaller
 loop-number-smaller c = absurd (absent c)

@@ -1,4 +1,4 @@
-use Rattle.fst_heads.proofs.{Basics.{◌∙◌, sym, ap, subst}, Words.{Node, Fits}, Slotted.rested_sums}
+use Rattle.fst_heads.proofs.{Basics.{◌∙◌, sym, ap, subst}, Words.{Node, Fits}, Indexed.rested_sums}
 use Rattle.fst_heads.proofs.cascade.hear.Goals as goal
 
 pub is_told-requires : goal.is_told-requires

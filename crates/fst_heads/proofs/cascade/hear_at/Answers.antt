@@ -1,23 +1,23 @@
-use Rattle.fst_heads.proofs.{Basics.{◌∙◌, sym, ap, subst, rules, arith}, Words.{HasSlot, HasNone, node_of, wakes}, AtNumber.{at_slot, at_none}}
-use Rattle.fst_heads.proofs.{Framed.frames_set, PendingAt.holds_at, Slotted.{waits_none, stays_slot, waits_slot}}
+use Rattle.fst_heads.proofs.{Basics.{◌∙◌, sym, ap, subst, rules, arith}, Words.{HasIndex, HasNone, node_of, wakes}, AtNumber.{at_index, at_none}}
+use Rattle.fst_heads.proofs.{Framed.frames_set, PendingAt.holds_at, Indexed.{waits_none, stays_index, waits_index}}
 use Rattle.fst_heads.proofs.cascade.hear_at.Goals as goal
 
 pub hear-requires-clause-hears : goal.hear-requires-clause-hears
-hear-requires-clause-hears c = holds_at c.args.heads.now.items c.args.number c.in-Some.slot c.index_mut.result.now c.deref.ensures.value c.in-Some.ensures.found c.index_mut.ensures.value c.requires.hears
+hear-requires-clause-hears c = holds_at c.args.heads.now.items c.args.number c.in-Some.index c.index_mut.result.now c.deref.ensures.value c.in-Some.ensures.found c.index_mut.ensures.value c.requires.hears
 
 pub push_reserved-requires : goal.push_reserved-requires
 push_reserved-requires c =
-    holds_at c.args.heads.now.items c.args.number c.in-Some.slot c.index_mut.result.now c.deref.ensures.value c.in-Some.ensures.found c.index_mut.ensures.value c.requires.room (sym c.hear.ensures.woke ∙ c.if-hear.true)
+    holds_at c.args.heads.now.items c.args.number c.in-Some.index c.index_mut.result.now c.deref.ensures.value c.in-Some.ensures.found c.index_mut.ensures.value c.requires.room (sym c.hear.ensures.woke ∙ c.if-hear.true)
 
 pub returns-then-hear : goal.returns-then-hear
 returns-then-hear c =
     let heads = c.args.heads.now.items in
-    let s = c.in-Some.slot in
-    let slot = subst (λ hs. HasSlot hs c.args.number s) c.deref.ensures.value c.in-Some.ensures.found in
+    let s = c.in-Some.index in
+    let index = subst (λ hs. HasIndex hs c.args.number s) c.deref.ensures.value c.in-Some.ensures.found in
     record {
-      nodes = grind (arith, at_slot);
+      nodes = grind (arith, at_index);
       queued = c.push_reserved.ensures.items
-          ∙ waits_slot heads c.args.number s (wakes c.args.old c.args.new) c.index_mut.result.now c.args.queue.now.items c.requires.rising slot
+          ∙ waits_index heads c.args.number s (wakes c.args.old c.args.new) c.index_mut.result.now c.args.queue.now.items c.requires.rising index
           (sym (ap (λ h. wakes c.args.old c.args.new (node_of h)) c.index_mut.ensures.value) ∙ (sym c.hear.ensures.woke ∙ c.if-hear.true));
       frames = grind (arith, frames_set);
       places = search rules;
@@ -27,11 +27,11 @@ returns-then-hear c =
 pub returns-else-hear : goal.returns-else-hear
 returns-else-hear c =
     let heads = c.args.heads.now.items in
-    let s = c.in-Some.slot in
-    let slot = subst (λ hs. HasSlot hs c.args.number s) c.deref.ensures.value c.in-Some.ensures.found in
+    let s = c.in-Some.index in
+    let index = subst (λ hs. HasIndex hs c.args.number s) c.deref.ensures.value c.in-Some.ensures.found in
     record {
-      nodes = grind (arith, at_slot);
-      queued = stays_slot heads c.args.number s (wakes c.args.old c.args.new) c.index_mut.result.now c.args.queue.now.items c.requires.rising slot
+      nodes = grind (arith, at_index);
+      queued = stays_index heads c.args.number s (wakes c.args.old c.args.new) c.index_mut.result.now c.args.queue.now.items c.requires.rising index
           (sym (ap (λ h. wakes c.args.old c.args.new (node_of h)) c.index_mut.ensures.value) ∙ (sym c.hear.ensures.woke ∙ c.if-hear.false));
       frames = grind (arith, frames_set);
       places = search rules;

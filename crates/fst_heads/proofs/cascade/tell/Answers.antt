@@ -1,7 +1,7 @@
 use Rattle.fst_heads.proofs.Basics.{◌≡◌, ◌≢◌, ◌∙◌, ◌+◌, ◌<◌, ◌≤◌, ◌∷◌, [], AllPairs, Contains, length, map, take, get_or, vec_capacity, append-nil, append_assoc, length-append, arith, ap, sym, subst, length-map, take_all, rules}
 use Rattle.fst_heads.proofs.Words.{node_of, nodes_of, at_number, CanHear, hears, heard, woken}
-use Rattle.fst_heads.proofs.Slotted.{row_at, row_is, at_row, row_of, row_now, length_heard, rising_heard, heard_none, heard_before, heard_more, woken_more, woken_room}
-use Rattle.fst_heads.proofs.Slots.{any_default}
+use Rattle.fst_heads.proofs.Indexed.{row_at, row_is, at_row, row_of, row_now, length_heard, rising_heard, heard_none, heard_before, heard_more, woken_more, woken_room}
+use Rattle.fst_heads.proofs.Indices.{any_default}
 use Rattle.fst_heads.proofs.cascade.tell.Goals as goal
 
 pub loop-at-init : goal.loop-at-init
@@ -11,24 +11,24 @@ pub hear_at-requires : goal.hear_at-requires
 hear_at-requires c =
     let heads = c.args.heads.now.items in
     let start = nodes_of heads in
-    let row = row_at start c.args.slot in
+    let row = row_at start c.args.index in
     let i = c.loop-at.at in
-    let inside : c.args.slot < length start = omega (arith, c.requires.slot, length-map heads node_of) in
-    let here = row_of heads c.loop-at.heads.items (take i row) c.args.old c.args.new c.args.slot c.index.result.now (omega (arith, c.requires.slot)) c.loop-at.invariant.nodes c.index.ensures in
+    let inside : c.args.index < length start = omega (arith, c.requires.index, length-map heads node_of) in
+    let here = row_of heads c.loop-at.heads.items (take i row) c.args.old c.args.new c.args.index c.index.result.now (omega (arith, c.requires.index)) c.loop-at.invariant.nodes c.index.ensures in
     let lt : i < length row = omega (arith, c.len.ensures.value, ap length here, c.loop-at-test.true) in
-    let once = at_row (λ ms. AllPairs (λ m n. m ≢ n) ms) start c.args.slot inside c.requires.once in
-    let named = c.as_slice.ensures ∙ row_of heads c.loop-at.heads.items (take i row) c.args.old c.args.new c.args.slot c.index-in-loop-at.result.now (omega (arith, c.requires.slot)) c.loop-at.invariant.nodes c.index-in-loop-at.ensures in
+    let once = at_row (λ ms. AllPairs (λ m n. m ≢ n) ms) start c.args.index inside c.requires.once in
+    let named = c.as_slice.ensures ∙ row_of heads c.loop-at.heads.items (take i row) c.args.old c.args.new c.args.index c.index-in-loop-at.result.now (omega (arith, c.requires.index)) c.loop-at.invariant.nodes c.index-in-loop-at.ensures in
     let number = ap (λ ns. get_or ns i 0) named in
     record {
       rising = rising_heard heads c.loop-at.heads.items (take i row) c.args.old c.args.new c.loop-at.invariant.nodes c.requires.rising;
       hears = λ x contained numbered.
           let was = heard_before row once i lt c.args.old c.args.new start x (subst (λ ns. Contains ns x) c.loop-at.invariant.nodes contained) (numbered ∙ number) in
           let among : Contains row x.patch.number = (i, lt, any_default row i x.patch.number 0 lt ∙ sym (numbered ∙ number)) in
-          at_row (λ ms. Contains ms x.patch.number → CanHear c.args.old x) start c.args.slot inside (λ d. c.requires.hears x d was) among;
+          at_row (λ ms. Contains ms x.patch.number → CanHear c.args.old x) start c.args.index inside (λ d. c.requires.hears x d was) among;
       live = c.requires.live;
       room = λ x contained numbered wakes.
           let fewer = woken_room row once i lt c.args.old c.args.new start x (subst (λ ns. Contains ns x) c.loop-at.invariant.nodes contained) (numbered ∙ number) wakes in
-          let room = at_row (λ ms. length c.args.queue.now.items + length (woken ms c.args.old c.args.new start) ≤ vec_capacity c.args.queue.now) start c.args.slot inside c.requires.room in
+          let room = at_row (λ ms. length c.args.queue.now.items + length (woken ms c.args.old c.args.new start) ≤ vec_capacity c.args.queue.now) start c.args.index inside c.requires.room in
           let long = ap length c.loop-at.invariant.queued ∙ length-append c.args.queue.now.items (woken (take i row) c.args.old c.args.new start) in
           omega (arith, fewer, room, long, c.loop-at.invariant.capacity, c.loop-at.queue.ok.0);
     }
@@ -40,13 +40,13 @@ pub loop-at-preserved : goal.loop-at-preserved
 loop-at-preserved c =
     let heads = c.args.heads.now.items in
     let start = nodes_of heads in
-    let row = row_at start c.args.slot in
+    let row = row_at start c.args.index in
     let i = c.loop-at.at in
-    let inside : c.args.slot < length start = omega (arith, c.requires.slot, length-map heads node_of) in
-    let here = row_of heads c.loop-at.heads.items (take i row) c.args.old c.args.new c.args.slot c.index.result.now (omega (arith, c.requires.slot)) c.loop-at.invariant.nodes c.index.ensures in
+    let inside : c.args.index < length start = omega (arith, c.requires.index, length-map heads node_of) in
+    let here = row_of heads c.loop-at.heads.items (take i row) c.args.old c.args.new c.args.index c.index.result.now (omega (arith, c.requires.index)) c.loop-at.invariant.nodes c.index.ensures in
     let lt : i < length row = omega (arith, c.len.ensures.value, ap length here, c.loop-at-test.true) in
-    let once = at_row (λ ms. AllPairs (λ m n. m ≢ n) ms) start c.args.slot inside c.requires.once in
-    let named = c.as_slice.ensures ∙ row_of heads c.loop-at.heads.items (take i row) c.args.old c.args.new c.args.slot c.index-in-loop-at.result.now (omega (arith, c.requires.slot)) c.loop-at.invariant.nodes c.index-in-loop-at.ensures in
+    let once = at_row (λ ms. AllPairs (λ m n. m ≢ n) ms) start c.args.index inside c.requires.once in
+    let named = c.as_slice.ensures ∙ row_of heads c.loop-at.heads.items (take i row) c.args.old c.args.new c.args.index c.index-in-loop-at.result.now (omega (arith, c.requires.index)) c.loop-at.invariant.nodes c.index-in-loop-at.ensures in
     let number = ap (λ ns. get_or ns i 0) named in
     let before = c.loop-at.invariant in
     let nodes : nodes_of c.hear_at.new.heads.items ≡ map (heard (take (i + 1) row) c.args.old c.args.new) start =

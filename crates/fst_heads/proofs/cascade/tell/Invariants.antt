@@ -1,10 +1,10 @@
-use Rattle.fst_heads.proofs.{Basics.{◌≡◌, ◌-◌, ◌++◌, length, map, take, vec_len, vec_capacity}, Words.{frames_of, nodes_of, heard, woken}, Slotted.row_at}
+use Rattle.fst_heads.proofs.{Basics.{◌≡◌, ◌-◌, ◌++◌, length, map, take, vec_len, vec_capacity}, Words.{frames_of, nodes_of, heard, woken}, Indexed.row_at}
 use Rattle.fst_heads.proofs.cascade.tell.Given as goal
 
 abbrev pub invariant-loop-at : goal.invariant-loop-at
 invariant-loop-at l = record {
-  nodes : nodes_of l.heads.items ≡ map (heard (take l.at (row_at (nodes_of l.fn.heads.items) l.slot)) l.old l.new) (nodes_of l.fn.heads.items);
-  queued : l.queue.items ≡ l.fn.queue.items ++ woken (take l.at (row_at (nodes_of l.fn.heads.items) l.slot)) l.old l.new (nodes_of l.fn.heads.items);
+  nodes : nodes_of l.heads.items ≡ map (heard (take l.at (row_at (nodes_of l.fn.heads.items) l.index)) l.old l.new) (nodes_of l.fn.heads.items);
+  queued : l.queue.items ≡ l.fn.queue.items ++ woken (take l.at (row_at (nodes_of l.fn.heads.items) l.index)) l.old l.new (nodes_of l.fn.heads.items);
   len : vec_len l.heads ≡ vec_len l.fn.heads;
   capacity : vec_capacity l.queue ≡ vec_capacity l.fn.queue;
   frames : frames_of l.heads.items ≡ frames_of l.fn.heads.items;
@@ -12,4 +12,4 @@ invariant-loop-at l = record {
 }
 
 abbrev pub decreases-loop-at : goal.decreases-loop-at
-decreases-loop-at l = length (row_at (nodes_of l.fn.heads.items) l.slot) - l.at
+decreases-loop-at l = length (row_at (nodes_of l.fn.heads.items) l.index) - l.at

@@ -1,11 +1,11 @@
-use Rattle.fst_heads.proofs.{Basics.{◌∙◌, ap, sym}, Listing.{any_none, any_slot}, Words.{is_held_on, node_of}}
+use Rattle.fst_heads.proofs.{Basics.{◌∙◌, ap, sym}, Listing.{any_index, any_none}, Words.{is_held_on, node_of}}
 use Rattle.fst_heads.proofs.choice.is_held_at.Goals as goal
 
 pub returns-in-Some : goal.returns-in-Some
 returns-in-Some c =
     let t = is_held_on c.args.block in
-    let here = c.index-heads-slot.result in
-    c.is_held.ensures ∙ (ap (λ h. t (node_of h)) c.index-heads-slot.is ∙ sym (any_slot c.args.heads.now c.args.number c.in-Some.slot t here c.requires c.in-Some.ensures.found))
+    let here = c.index-heads-index.result in
+    c.is_held.ensures ∙ (ap (λ h. t (node_of h)) c.index-heads-index.is ∙ sym (any_index c.args.heads.now c.args.number c.in-Some.index t here c.requires c.in-Some.ensures.found))
 
 pub returns-in-None : goal.returns-in-None
 returns-in-None c = sym (any_none c.args.heads.now c.args.number (is_held_on c.args.block) c.in-None.ensures.none)

@@ -1,9 +1,9 @@
-use Rattle.fst_heads.proofs.{Basics.{◌≡◌, ◌∙◌, get_or, sym, ap}, Patches.is_among, Slots.{direct_slot, none_slot}, LinkedRows.{told_over, over_told}, Rows.{direct_from, direct_to}}
+use Rattle.fst_heads.proofs.{Basics.{◌≡◌, ◌∙◌, get_or, sym, ap}, Patches.is_among, Indices.{direct_index, none_index}, LinkedRows.{told_over, over_told}, Rows.{direct_from, direct_to}}
 use Rattle.fst_heads.proofs.growth.is_direct.Goals as goal
 
 pub returns-in_default : goal.returns-in_default
 returns-in_default c =
-    ((λ e. cc), λ d. let s = direct_slot c.args.heads.now c.args.from c.args.to d in absurd (none_slot c.args.heads.now c.args.from s.0 c.in_default.ensures.none s.1))
+    ((λ e. cc), λ d. let s = direct_index c.args.heads.now c.args.from c.args.to d in absurd (none_index c.args.heads.now c.args.from s.0 c.in_default.ensures.none s.1))
 
 pub returns-then-dependants-row : goal.returns-then-dependants-row
 returns-then-dependants-row c =
@@ -11,10 +11,10 @@ returns-then-dependants-row c =
     let d = c.index-heads-over.result in
     let e = c.index-heads-under.result in
     let over = c.in-Some.ensures.found in
-    let under = c.in-Some-slot_of.ensures.found in
-    let said : c.contains.result ≡ is_among (get_or heads c.in-Some-slot_of.under e).dependants.items c.args.from = c.contains.ensures.value ∙ ap (λ row. is_among row c.args.from) c.as_slice-dependants.ensures in (
-      λ t. told_over heads c.requires.rising c.requires.linked c.args.from c.args.to c.in-Some.over c.in-Some-slot_of.under d e over under (sym said ∙ t),
-      λ on. said ∙ over_told heads c.requires.rising c.requires.linked c.args.from c.args.to c.in-Some.over c.in-Some-slot_of.under d e over under on,
+    let under = c.in-Some-index_of.ensures.found in
+    let said : c.contains.result ≡ is_among (get_or heads c.in-Some-index_of.under e).dependants.items c.args.from = c.contains.ensures.value ∙ ap (λ row. is_among row c.args.from) c.as_slice-dependants.ensures in (
+      λ t. told_over heads c.requires.rising c.requires.linked c.args.from c.args.to c.in-Some.over c.in-Some-index_of.under d e over under (sym said ∙ t),
+      λ on. said ∙ over_told heads c.requires.rising c.requires.linked c.args.from c.args.to c.in-Some.over c.in-Some-index_of.under d e over under on,
     )
 
 pub returns : goal.returns

@@ -1,6 +1,6 @@
 use Rattle.fst_heads.proofs.Basics.{◌∙◌, length, filter, ap, subst, arith, length-map, length-filter, count_by-le-length}
 use Rattle.fst_heads.proofs.Words.{IsRisenOf, Node, frame_of, launches, node_of, nodes_of, numbers_of, is_ready_on}
-use Rattle.fst_heads.proofs.{Launching.{launch_starts, launch_leaves}, Placed.{links_mapped, launched_links, linked_kept, distinct_kept}, Slots.rising_heads}
+use Rattle.fst_heads.proofs.{Launching.{launch_starts, launch_leaves}, Placed.{links_mapped, launched_links, linked_kept, distinct_kept}, Indices.rising_heads}
 use Rattle.fst_heads.proofs.launch.launch.Goals as goal
 
 pub launch_all-requires-clause-rising : goal.launch_all-requires-clause-rising

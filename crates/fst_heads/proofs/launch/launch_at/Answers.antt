@@ -1,10 +1,10 @@
-use Rattle.fst_heads.proofs.{Basics.{ap, subst, arith}, Words.{HasSlot, HasNone, node_of}, Framed.frames_set, Placed.{flies, launched_none, launched_slot}}
+use Rattle.fst_heads.proofs.{Basics.{ap, subst, arith}, Words.{HasIndex, HasNone, node_of}, Framed.frames_set, Placed.{flies, launched_index, launched_none}}
 use Rattle.fst_heads.proofs.launch.launch_at.Goals as goal
 
 pub returns-in-Some-clause-nodes : goal.returns-in-Some-clause-nodes
 returns-in-Some-clause-nodes c =
-    let slot = subst (λ hs. HasSlot hs c.args.number c.in-Some.slot) c.deref.ensures.value c.in-Some.ensures.found in
-    launched_slot c.args.heads.now.items c.args.number c.in-Some.slot _ c.index_mut.result.now c.requires slot (ap (λ h. flies (node_of h)) c.index_mut.ensures.value)
+    let index = subst (λ hs. HasIndex hs c.args.number c.in-Some.index) c.deref.ensures.value c.in-Some.ensures.found in
+    launched_index c.args.heads.now.items c.args.number c.in-Some.index _ c.index_mut.result.now c.requires index (ap (λ h. flies (node_of h)) c.index_mut.ensures.value)
 
 pub returns-in-Some-clause-frames : goal.returns-in-Some-clause-frames
 returns-in-Some-clause-frames c = grind (arith, frames_set)

@@ -1,10 +1,10 @@
 use Rattle.fst_heads.proofs.Basics.{◌∙◌, length, ap, subst, sym, arith, length-map}
-use Rattle.fst_heads.proofs.{Words.{frame_of, IsRising, HasSlot, HasNone, Rises, nodes_of, Spreading}, Framed.frames_set, Going.{rises_way, rises_back}}
-use Rattle.fst_heads.proofs.{Rising.{small, rising_behind, once_behind, hears_behind, room_behind, turned_behind}, Slotted.{rising_slots, none_of_number}, Telling.last_waits}
+use Rattle.fst_heads.proofs.{Words.{frame_of, IsRising, HasIndex, HasNone, Rises, nodes_of, Spreading}, Framed.frames_set, Going.{rises_way, rises_back}}
+use Rattle.fst_heads.proofs.{Rising.{small, rising_behind, once_behind, hears_behind, room_behind, turned_behind}, Indexed.{rising_indices, none_of_number}, Telling.last_waits}
 use Rattle.fst_heads.proofs.launch.rise.Goals as goal
 
-pub slot_of-requires : goal.slot_of-requires
-slot_of-requires c = subst IsRising (sym c.deref.ensures.value) (rising_slots c.loop-number.heads.items c.loop-number.invariant.spreading.2.rising)
+pub index_of-requires : goal.index_of-requires
+index_of-requires c = subst IsRising (sym c.deref.ensures.value) (rising_indices c.loop-number.heads.items c.loop-number.invariant.spreading.2.rising)
 
 pub overflow_cast-own : goal.overflow_cast-own
 overflow_cast-own c =
@@ -18,18 +18,18 @@ tell-requires c =
     let heads = c.loop-number.heads.items in
     let queue = c.pop.new.self.items in
     let q = c.in-Some.number in
-    let s = c.in-Some-slot_of.slot in
+    let s = c.in-Some-index_of.index in
     let blocks = c.loop-number.invariant.spreading.0 in
     let narrow = c.loop-number.invariant.spreading.1 in
     let S = subst (Spreading (Rises c.args.block) (nodes_of heads) blocks) c.in-Some.ensures.items c.loop-number.invariant.spreading.2 in
-    let found = subst (λ hs. HasSlot hs q s) c.deref.ensures.value c.in-Some-slot_of.ensures.found in
+    let found = subst (λ hs. HasIndex hs q s) c.deref.ensures.value c.in-Some-index_of.ensures.found in
     let linked = c.loop-number.invariant.linked in
     let distinct = c.loop-number.invariant.distinct in
     let h = c.index_mut.result.now in
     let e = c.index_mut.ensures.value in
     record {
       rising = rising_behind c.args.block heads blocks queue q s narrow S linked distinct found h e;
-      slot = omega (arith, found.0, c.loop-number.heads.ok.0);
+      index = omega (arith, found.0, c.loop-number.heads.ok.0);
       once = once_behind c.args.block heads blocks queue q s narrow S linked distinct found h e;
       hears = hears_behind c.args.block heads blocks queue q s narrow S linked distinct found h e;
       live = λ none. cc;
@@ -38,16 +38,16 @@ tell-requires c =
           omega (arith, room, ap length c.loop-number.invariant.frames, length-map heads frame_of, length-map c.args.heads.now.items frame_of, c.requires.room, c.loop-number.invariant.capacity, c.in-Some.ensures.capacity, c.pop.new.self.ok.0);
     }
 
-pub loop-number-smaller-in-Some-slot_of : goal.loop-number-smaller-in-Some-slot_of
-loop-number-smaller-in-Some-slot_of c =
+pub loop-number-smaller-in-Some-index_of : goal.loop-number-smaller-in-Some-index_of
+loop-number-smaller-in-Some-index_of c =
     let heads = c.loop-number.heads.items in
     let queue = c.pop.new.self.items in
     let q = c.in-Some.number in
-    let s = c.in-Some-slot_of.slot in
+    let s = c.in-Some-index_of.index in
     let blocks = c.loop-number.invariant.spreading.0 in
     let narrow = c.loop-number.invariant.spreading.1 in
     let S = subst (Spreading (Rises c.args.block) (nodes_of heads) blocks) c.in-Some.ensures.items c.loop-number.invariant.spreading.2 in
-    let found = subst (λ hs. HasSlot hs q s) c.deref.ensures.value c.in-Some-slot_of.ensures.found in
+    let found = subst (λ hs. HasIndex hs q s) c.deref.ensures.value c.in-Some-index_of.ensures.found in
     let linked = c.loop-number.invariant.linked in
     let distinct = c.loop-number.invariant.distinct in
     let h = c.index_mut.result.now in
@@ -55,16 +55,16 @@ loop-number-smaller-in-Some-slot_of c =
     let turn = turned_behind c.args.block heads blocks queue q s narrow S linked distinct found h e (nodes_of c.tell.new.heads.items) c.tell.new.queue.items c.tell.ensures.nodes c.tell.ensures.queued in
     turn.falls
 
-pub loop-number-preserved-in-Some-slot_of : goal.loop-number-preserved-in-Some-slot_of
-loop-number-preserved-in-Some-slot_of c =
+pub loop-number-preserved-in-Some-index_of : goal.loop-number-preserved-in-Some-index_of
+loop-number-preserved-in-Some-index_of c =
     let heads = c.loop-number.heads.items in
     let queue = c.pop.new.self.items in
     let q = c.in-Some.number in
-    let s = c.in-Some-slot_of.slot in
+    let s = c.in-Some-index_of.index in
     let blocks = c.loop-number.invariant.spreading.0 in
     let narrow = c.loop-number.invariant.spreading.1 in
     let S = subst (Spreading (Rises c.args.block) (nodes_of heads) blocks) c.in-Some.ensures.items c.loop-number.invariant.spreading.2 in
-    let found = subst (λ hs. HasSlot hs q s) c.deref.ensures.value c.in-Some-slot_of.ensures.found in
+    let found = subst (λ hs. HasIndex hs q s) c.deref.ensures.value c.in-Some-index_of.ensures.found in
     let linked = c.loop-number.invariant.linked in
     let distinct = c.loop-number.invariant.distinct in
     let h = c.index_mut.result.now in
@@ -82,13 +82,13 @@ loop-number-preserved-in-Some-slot_of c =
       capacity = c.tell.ensures.capacity ∙ (c.in-Some.ensures.capacity ∙ before.capacity);
     }
 
-absent : (c : goal.In_default-slot_of) → ⊥
+absent : (c : goal.In_default-index_of) → ⊥
 absent c =
     let nodes = nodes_of c.loop-number.heads.items in
     let blocks = c.loop-number.invariant.spreading.0 in
     let S = subst (Spreading (Rises c.args.block) nodes blocks) c.in-Some.ensures.items c.loop-number.invariant.spreading.2 in
     let x = last_waits nodes blocks c.pop.new.self.items c.in-Some.number S in
-    none_of_number c.loop-number.heads.items c.in-Some.number x.0 (subst (λ hs. HasNone hs c.in-Some.number) c.deref.ensures.value c.in_default-slot_of.ensures.none) x.1 x.2
+    none_of_number c.loop-number.heads.items c.in-Some.number x.0 (subst (λ hs. HasNone hs c.in-Some.number) c.deref.ensures.value c.in_default-index_of.ensures.none) x.1 x.2
 
 pub loop-number-smaller : goal.loop-number-smaller
 loop-number-smaller c = absurd (absent c)

@@ -1,4 +1,4 @@
-use Rattle.fst_heads.proofs.{Basics.{◌∙◌, [], length-map, map, arith, common_steps}, Slots.any_default, Words.entries_of}
+use Rattle.fst_heads.proofs.{Basics.{◌∙◌, [], length-map, map, arith, common_steps}, Indices.any_default, Words.entries_of}
 use Rattle.fst_heads.proofs.lists.empty_lists.Goals as goal
 
 pub loop-preserved : goal.loop-preserved

@@ -1,5 +1,5 @@
-use Rattle.fst_heads.proofs.{Basics.{set-get_or, ◌≡◌, ◌∙◌, get_or, true, false, sym, ap, subst}, Patches.is_change_at, Words.{patch_of, lands, node_of, nodes_of, HasSlot, HasNone}}
-use Rattle.fst_heads.proofs.{AtNumber.{at_none, at_slot}, Landing.landed_node, Listing.{flies, any_none, any_slot, lands_still}, Slots.any_default}
+use Rattle.fst_heads.proofs.{Basics.{set-get_or, ◌≡◌, ◌∙◌, get_or, true, false, sym, ap, subst}, Patches.is_change_at, Words.{patch_of, lands, node_of, nodes_of, HasIndex, HasNone}}
+use Rattle.fst_heads.proofs.{AtNumber.{at_index, at_none}, Landing.landed_node, Listing.{flies, any_none, any_index, lands_still}, Indices.any_default}
 use Rattle.fst_heads.proofs.Patches.place
 use Rattle.fst_heads.proofs.lists.land_number.Goals as goal
 
@@ -14,14 +14,14 @@ returns-then-is_change_at c =
     let heads = c.args.heads.now.items in
     let n = c.args.number in
     let b = c.args.block in
-    let s = c.in-Some.slot in
+    let s = c.in-Some.index in
     let m = c.index_mut.result.now in
-    let slot = subst (λ hs. HasSlot hs n s) c.deref.ensures.value c.in-Some.ensures.found in
+    let index = subst (λ hs. HasIndex hs n s) c.deref.ensures.value c.in-Some.ensures.found in
     let flying : is_change_at place.Flight b (patch_of (get_or heads s m)) ≡ true =
-    sym (ap (λ h. is_change_at place.Flight b (patch_of h)) (c.index.ensures ∙ any_default heads s c.index.result.now m slot.0)) ∙ sym c.if-is_change_at.ensures in
+    sym (ap (λ h. is_change_at place.Flight b (patch_of h)) (c.index.ensures ∙ any_default heads s c.index.result.now m index.0)) ∙ sym c.if-is_change_at.ensures in
     record {
-      flew = sym (any_slot heads n s (flies b) m c.requires slot ∙ flying);
-      nodes = at_slot heads n s (lands b) (record m { place = place.Disk }) m c.requires slot (landed_node b m (get_or heads s m) c.index_mut.ensures.value flying);
+      flew = sym (any_index heads n s (flies b) m c.requires index ∙ flying);
+      nodes = at_index heads n s (lands b) (record m { place = place.Disk }) m c.requires index (landed_node b m (get_or heads s m) c.index_mut.ensures.value flying);
     }
 
 pub returns : goal.returns
@@ -29,11 +29,11 @@ returns c =
     let heads = c.args.heads.now.items in
     let n = c.args.number in
     let b = c.args.block in
-    let s = c.in-Some.slot in
+    let s = c.in-Some.index in
     let d = c.index.result.now in
-    let slot = subst (λ hs. HasSlot hs n s) c.deref.ensures.value c.in-Some.ensures.found in
+    let index = subst (λ hs. HasIndex hs n s) c.deref.ensures.value c.in-Some.ensures.found in
     let still : is_change_at place.Flight b (patch_of (get_or heads s d)) ≡ false = sym (ap (λ h. is_change_at place.Flight b (patch_of h)) c.index.ensures) ∙ sym c.if-is_change_at.ensures in
     record {
-      flew = sym (any_slot heads n s (flies b) d c.requires slot ∙ still);
-      nodes = sym (ap nodes_of (set-get_or heads s d)) ∙ at_slot heads n s (lands b) (get_or heads s d) d c.requires slot (sym (lands_still b (node_of (get_or heads s d)) still));
+      flew = sym (any_index heads n s (flies b) d c.requires index ∙ still);
+      nodes = sym (ap nodes_of (set-get_or heads s d)) ∙ at_index heads n s (lands b) (get_or heads s d) d c.requires index (sym (lands_still b (node_of (get_or heads s d)) still));
     }

@@ -1,27 +1,27 @@
 use Rattle.fst_heads.proofs.{Basics.{◌≡◌, ◌∙◌, ℕ, List, Some, Contains, get_or, ap, sym, subst, inl, inr}, Patches.{Patch, block_of_kind}}
-use Rattle.fst_heads.proofs.{Words.{Head, IsRising, kind_of, patches_of, HasSlot}, Slots.{patch_is, slot_in, patch_slot, none_slot}}
+use Rattle.fst_heads.proofs.{Words.{Head, IsRising, kind_of, patches_of, HasIndex}, Indices.{patch_is, index_in, patch_index, none_index}}
 use Rattle.fst_heads.proofs.places.block_of.Goals as goal
 
--- the block of the patch at the slot
-block_at : (heads : List Head) (p : Patch) (n s : ℕ) (d : Head) → IsRising heads → HasSlot heads n s → Contains (patches_of heads) p → p.number ≡ n → block_of_kind (kind_of (get_or heads s d).kind) ≡ block_of_kind p.kind
-block_at heads p n s d rising slot there numbered =
-    ap (λ q. block_of_kind q.kind) (patch_is heads p s d rising there (subst (λ m. HasSlot heads m s) (sym numbered) slot))
+-- the block of the patch at the index
+block_at : (heads : List Head) (p : Patch) (n s : ℕ) (d : Head) → IsRising heads → HasIndex heads n s → Contains (patches_of heads) p → p.number ≡ n → block_of_kind (kind_of (get_or heads s d).kind) ≡ block_of_kind p.kind
+block_at heads p n s d rising index there numbered =
+    ap (λ q. block_of_kind q.kind) (patch_is heads p s d rising there (subst (λ m. HasIndex heads m s) (sym numbered) index))
 
-pub returns-in_err-slot : goal.returns-in_err-slot
-returns-in_err-slot c p there numbered =
-    let t = slot_in c.args.heads.now p there in
-    absurd (none_slot c.args.heads.now c.args.number t.0 c.in_err-slot.ensures.none (subst (λ n. HasSlot c.args.heads.now n t.0) numbered (patch_slot c.args.heads.now p t.0 t.1 t.2)))
+pub returns-in_err-index : goal.returns-in_err-index
+returns-in_err-index c p there numbered =
+    let t = index_in c.args.heads.now p there in
+    absurd (none_index c.args.heads.now c.args.number t.0 c.in_err-index.ensures.none (subst (λ n. HasIndex c.args.heads.now n t.0) numbered (patch_index c.args.heads.now p t.0 t.1 t.2)))
 
 pub returns-in-Change : goal.returns-in-Change
 returns-in-Change c p there numbered =
-    ap Some c.from.ensures ∙ (sym (ap (λ k. block_of_kind (kind_of k)) c.in-Change.is) ∙ block_at c.args.heads.now p c.args.number c.in_ok-slot.slot _ c.requires c.in_ok-slot.ensures.found there numbered)
+    ap Some c.from.ensures ∙ (sym (ap (λ k. block_of_kind (kind_of k)) c.in-Change.is) ∙ block_at c.args.heads.now p c.args.number c.in_ok-index.index _ c.requires c.in_ok-index.ensures.found there numbered)
 
 pub returns-in-Empty : goal.returns-in-Empty
 returns-in-Empty c p there numbered =
     elim c.in-Empty.is [
-      | inl e ↦ sym (ap (λ k. block_of_kind (kind_of k)) e) ∙ block_at c.args.heads.now p c.args.number c.in_ok-slot.slot _ c.requires c.in_ok-slot.ensures.found there numbered
+      | inl e ↦ sym (ap (λ k. block_of_kind (kind_of k)) e) ∙ block_at c.args.heads.now p c.args.number c.in_ok-index.index _ c.requires c.in_ok-index.ensures.found there numbered
       | inr o ↦ elim o [
-        | inl e ↦ sym (ap (λ k. block_of_kind (kind_of k)) e) ∙ block_at c.args.heads.now p c.args.number c.in_ok-slot.slot _ c.requires c.in_ok-slot.ensures.found there numbered
-        | inr e ↦ sym (ap (λ k. block_of_kind (kind_of k)) e) ∙ block_at c.args.heads.now p c.args.number c.in_ok-slot.slot _ c.requires c.in_ok-slot.ensures.found there numbered
+        | inl e ↦ sym (ap (λ k. block_of_kind (kind_of k)) e) ∙ block_at c.args.heads.now p c.args.number c.in_ok-index.index _ c.requires c.in_ok-index.ensures.found there numbered
+        | inr e ↦ sym (ap (λ k. block_of_kind (kind_of k)) e) ∙ block_at c.args.heads.now p c.args.number c.in_ok-index.index _ c.requires c.in_ok-index.ensures.found there numbered
       ]
     ]

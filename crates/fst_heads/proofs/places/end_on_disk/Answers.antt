@@ -25,9 +25,9 @@ loop-left-preserved c =
     let last = sym c.is_kept.ensures ∙ c.if-not-is_kept.false in
     elim c.if-not-is_kept-2.branch [
       | then-not-is_kept-2 w ↦ rw w.left-is (disk_no c.args.heads.now c.args.first c.requires.first _ _ _ c.loop-left.invariant some
-          c.index-heads-end.result c.index-heads-end.is last c.index-heads-slot.result c.index-heads-slot.is (sym c.is_kept-in-loop-left.ensures ∙ w.if-not-is_kept-2.true))
+          c.index-heads-end.result c.index-heads-end.is last c.index-heads-index.result c.index-heads-index.is (sym c.is_kept-in-loop-left.ensures ∙ w.if-not-is_kept-2.true))
       | else-not-is_kept-2 w ↦ rw w.left-is (disk_yes c.args.heads.now c.args.first c.requires.first _ _ _ c.loop-left.invariant some
-          c.index-heads-end.result c.index-heads-end.is last c.index-heads-slot.result c.index-heads-slot.is (sym c.is_kept-in-loop-left.ensures ∙ w.if-not-is_kept-2.false))
+          c.index-heads-end.result c.index-heads-end.is last c.index-heads-index.result c.index-heads-index.is (sym c.is_kept-in-loop-left.ensures ∙ w.if-not-is_kept-2.false))
     ]
 
 pub returns : goal.returns

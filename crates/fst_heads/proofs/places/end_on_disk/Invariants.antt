@@ -4,7 +4,7 @@ use Rattle.fst_heads.proofs.LastOnDisk.{IsLastBetween}
 use Rattle.fst_heads.proofs.places.end_on_disk.Given as goal
 
 abbrev pub invariant-loop-left : goal.invariant-loop-left
-invariant-loop-left l = IsLastBetween is_live (patches_of l.heads) l.first l.slot l.end l.left
+invariant-loop-left l = IsLastBetween is_live (patches_of l.heads) l.first l.index l.end l.left
 
 abbrev pub decreases-loop-left : goal.decreases-loop-left
 decreases-loop-left l = l.end

@@ -11,7 +11,7 @@ loop-live_below-init c =
     let heads = c.args.heads.now in
     subst (λ n. IsBetween is_live (patches_of heads) 0 n c.args.live) (length-map heads patch_of) (between_start is_live (patches_of heads) c.args.live c.requires)
 
--- the low slot is that of a head
+-- the low index is that of a head
 low : (c : In-loop-live_below) → c.loop-live_below.low < length c.args.heads.now
 low c = low_inside c.args.heads.now _ _ _ c.loop-live_below.invariant c.loop-live_below-test.true
 

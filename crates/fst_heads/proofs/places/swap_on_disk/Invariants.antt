@@ -2,6 +2,6 @@ use Rattle.std.proofs.lemmas.List.Filters.{FiltersInPlace}
 use Rattle.fst_heads.proofs.FirstOnDisk.{live_head}
 use Rattle.fst_heads.proofs.places.swap_on_disk.Given as goal
 
--- of those before the slot the live heads stand in front
-abbrev pub invariant-loop-slot : goal.invariant-loop-slot
-invariant-loop-slot l = FiltersInPlace live_head l.initial.heads.items l.heads.items l.kept l.slot
+-- of those before the index the live heads stand in front
+abbrev pub invariant-loop-index : goal.invariant-loop-index
+invariant-loop-index l = FiltersInPlace live_head l.initial.heads.items l.heads.items l.kept l.index

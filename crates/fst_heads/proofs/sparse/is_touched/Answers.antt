@@ -7,9 +7,9 @@ returns-in-Some c =
     let b = c.args.block in
     let at = c.args.span.at in
     let len = c.args.span.len in
-    let h = c.index-heads-slot.result in
-    let same : c.touches.result ≡ touches b at len (patch_of (get_or heads c.in-Some.slot h)) = c.touches.ensures ∙ ap (λ k. touches b at len (patch_of k)) c.index-heads-slot.is in
-    let p = touched_at heads b at len c.args.number c.in-Some.slot h c.requires c.in-Some.ensures.found in
+    let h = c.index-heads-index.result in
+    let same : c.touches.result ≡ touches b at len (patch_of (get_or heads c.in-Some.index h)) = c.touches.ensures ∙ ap (λ k. touches b at len (patch_of k)) c.index-heads-index.is in
+    let p = touched_at heads b at len c.args.number c.in-Some.index h c.requires c.in-Some.ensures.found in
     (λ e. p.0 (sym same ∙ e), λ t. same ∙ p.1 t)
 
 pub returns-in-None : goal.returns-in-None

@@ -15,8 +15,8 @@ returns-clause-leveled c =
     let new = c.put_ancestry.new.self in
     let put = c.put_ancestry.ensures in
     subst (λ n. IsLeveled (patches_of heads) n new) (sym (ap length put.floors))
-    (renewed_is_leveled heads c.requires.rising (length old.floors) old new c.requires.leveled c.args.number c.in-Some.slot c.in-Some.ensures.found c.ancestry_over-ancestry.result
-    c.as_slice-row.result.now c.index-heads-slot.result c.as_slice-row.ensures c.ancestry_over-ancestry.ensures put.numbers put.levels put.parent put.jump put.rest put.floors)
+    (renewed_is_leveled heads c.requires.rising (length old.floors) old new c.requires.leveled c.args.number c.in-Some.index c.in-Some.ensures.found c.ancestry_over-ancestry.result
+    c.as_slice-row.result.now c.index-heads-index.result c.as_slice-row.ensures c.ancestry_over-ancestry.ensures put.numbers put.levels put.parent put.jump put.rest put.floors)
 
 pub returns-clause-floors : goal.returns-clause-floors
 returns-clause-floors c = grind (arith, common_steps)

@@ -1,6 +1,6 @@
 use Rattle.std.proofs.Common.{◌≡◌, ◌∙◌, ◌⊎◌, arith, get_or, Contains, subst, rules}
 use Rattle.fst_heads.specs.{Grading.IsHardNumber, Heads.patches_of}
-use Rattle.fst_heads.proofs.Slots.{any_default}
+use Rattle.fst_heads.proofs.Indices.{any_default}
 use Rattle.fst_walks.proofs.before.is_within.Goals as goal
 
 pub returns : goal.returns

@@ -1,5 +1,5 @@
 use Rattle.std.proofs.Common.{◌≤◌, ◌<◌, ℕ, get_or}
-use Rattle.fst_heads.specs.{Heads.patches_of, Slots.PassesAt}
+use Rattle.fst_heads.specs.{Heads.patches_of, Indices.PassesAt}
 use Rattle.fst_heads.specs.declared.test.Test.TheVariants as test
 use Rattle.fst_walks.specs.Walks.{numbers_met}
 use Rattle.fst_walks.proofs.below.meets_change.Given as goal

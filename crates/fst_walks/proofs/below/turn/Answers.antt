@@ -1,6 +1,6 @@
 use Rattle.std.proofs.lemmas.Grind.{common_steps}
 use Rattle.std.proofs.Common.{get_or, subst, arith}
-use Rattle.fst_heads.specs.{Heads.patches_of, Slots.PassesAt}
+use Rattle.fst_heads.specs.{Heads.patches_of, Indices.PassesAt}
 use Rattle.fst_heads.specs.declared.test.Test.TheVariants as test
 use Rattle.fst_walks.specs.{BothEnds.StepsHigh, Descending.Visits, Leveling.level_of, Needing.needs_of, Walks.numbers_met}
 use Rattle.fst_walks.proofs.Visiting.{long_met, none_then, still_apart}

@@ -31,15 +31,15 @@ meet_between-requires-clause-apart c =
     c.highest-most.result c.floor-least.result c.args.block (omega (arith, c.floor-least.ensures)) c.args.row.now _ _ _ _ (starts (goal.at.meet_between-requires-clause-apart c).After-visit_low_changes)
 
 -- the two walks meet at what is not on disk
-pub trace-requires-clause-slot : goal.trace-requires-clause-slot
-trace-requires-clause-slot c =
+pub trace-requires-clause-index : goal.trace-requires-clause-index
+trace-requires-clause-index c =
     let sight = c.args.sight.now in
     let sees = c.requires.sees in
-    let met = MatchOption-at_some _ _ c.in-Some.slot c.in-Some.is c.in_ok-slot.ensures.together in (
+    let met = MatchOption-at_some _ _ c.in-Some.index c.in-Some.is c.in_ok-index.ensures.together in (
       met.0,
       met.1,
       together_live sight.heads.now sees.rising sees.disk sees.hard sees.flights (level_of sight.levels.now.ranks) (floor_of sight.levels.now.floors) sees.leveled.leveled (needs_of sight.needs.now.lists) sees.needing.needed
-          c.highest-most.result c.floor-least.result c.args.block (omega (arith, c.floor-least.ensures)) c.args.row.now _ _ _ _ (starts (goal.at.trace-requires-clause-slot c).After-visit_low_changes) met.0 met.2,
+          c.highest-most.result c.floor-least.result c.args.block (omega (arith, c.floor-least.ensures)) c.args.row.now _ _ _ _ (starts (goal.at.trace-requires-clause-index c).After-visit_low_changes) met.0 met.2,
     )
 
 pub returns-in-Some-clause-told : goal.returns-in-Some-clause-told
@@ -49,7 +49,7 @@ returns-in-Some-clause-told c =
     let sees = c.requires.sees in
     let low : c.floor-least.result ≤ floor_of sight.levels.now.floors c.args.block = omega (arith, c.floor-least.ensures) in
     let begun = starts (goal.at.returns-in-Some-clause-told c).After-visit_low_changes in
-    let met = MatchOption-at_some _ _ c.in-Some.slot c.in-Some.is c.in_ok-slot.ensures.together in
+    let met = MatchOption-at_some _ _ c.in-Some.index c.in-Some.is c.in_ok-index.ensures.together in
     told_soft (patches_of heads) c.args.block c.args.row.now (LeadsNowhere (patches_of heads) c.args.block c.args.row.now) c.soft.result c.trace.result c.soft.ensures.grade c.soft.ensures.end
     (together_soft heads sees.rising sees.disk sees.hard sees.flights (level_of sight.levels.now.ranks) (floor_of sight.levels.now.floors) sees.leveled.leveled (needs_of sight.needs.now.lists) sees.needing.needed
     c.highest-most.result c.floor-least.result c.args.block low c.args.row.now _ _ _ _ begun met.0 met.2)
@@ -64,7 +64,7 @@ returns-then-looked-limit-2-clause-told c =
     told_hard (patches_of heads) c.args.block c.args.row.now (LeadsNowhere (patches_of heads) c.args.block c.args.row.now) c.hard_after-then-looked-limit-2.result c.hard_after-then-looked-limit-2.ensures.grade c.hard_after-then-looked-limit-2.ensures.end
     (apart_hard heads sees.rising sees.disk sees.hard sees.flights (level_of sight.levels.now.ranks) (floor_of sight.levels.now.floors) sees.leveled.leveled (needs_of sight.needs.now.lists) sees.needing.needed
     c.highest-most.result c.floor-least.result c.args.block (omega (arith, c.floor-least.ensures)) c.args.row.now _ _ _ _ (starts (goal.at.returns-then-looked-limit-2-clause-told c).After-visit_low_changes)
-    (c.visit_first_away-looked.ensures.all (omega (arith, c.if-looked-limit-2.true))) (numbers_met heads c.meet_between.new.ends.up.walk) (numbers_met heads c.meet_between.new.ends.down.walk) (MatchOption-at_none _ _ c.in_default.is c.in_ok-slot.ensures.apart))
+    (c.visit_first_away-looked.ensures.all (omega (arith, c.if-looked-limit-2.true))) (numbers_met heads c.meet_between.new.ends.up.walk) (numbers_met heads c.meet_between.new.ends.down.walk) (MatchOption-at_none _ _ c.in_default.is c.in_ok-index.ensures.apart))
 
 -- there is nothing that could lead back
 pub returns-then-len-eq0-clause-told : goal.returns-then-len-eq0-clause-told

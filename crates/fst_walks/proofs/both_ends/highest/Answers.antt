@@ -1,8 +1,8 @@
 use Rattle.std.proofs.Common.{◌≤◌, ◌<◌, length, get_or, subst, ap, ◌∙◌, inl, inr, arith}
 use Rattle.std.proofs.lemmas.Bool.{cases_eq}
-use Rattle.fst_heads.proofs.Slots.{any_default}
+use Rattle.fst_heads.proofs.Indices.{any_default}
 use Rattle.fst_walks.specs.{Leveling.level_of, Walks.numbers_met}
-use Rattle.fst_walks.proofs.{Highest.{max_first, max_second}, Ranked.{no_rank, rank_level}, Visiting.{long_met, slot_met}}
+use Rattle.fst_walks.proofs.{Highest.{max_first, max_second}, Ranked.{no_rank, rank_level}, Visiting.{index_met, long_met}}
 use Rattle.fst_walks.proofs.both_ends.highest.Goals as goal
 
 pub loop-at-preserved : goal.loop-at-preserved
@@ -18,8 +18,8 @@ loop-at-preserved c j up =
     elim (cases_eq j at) [
       | inl same ↦
           let lt : at < length walk.met = omega (arith, c.loop-at-test.true, c.len-at-end.ensures.long) in
-          let slot = slot_met heads walk at c.slot.result c.requires.visited.long lt c.slot.ensures.slot c.slot.ensures.inside in
-          let here = c.level.ensures no_rank ∙ rank_level heads ranks c.requires.sees.rising c.requires.sees.leveled.aligned (get_or met at 0) c.slot.result slot no_rank in
+          let index = index_met heads walk at c.index_at.result c.requires.visited.long lt c.index_at.ensures.index c.index_at.ensures.inside in
+          let here = c.level.ensures no_rank ∙ rank_level heads ranks c.requires.sees.rising c.requires.sees.leveled.aligned (get_or met at 0) c.index_at.result index no_rank in
           let told = ap (λ k. level_of ranks (get_or met k 0)) same in
           omega (arith, told, here, other, c.max-most.ensures)
       | inr before ↦ let low = c.loop-at.invariant j (omega (arith, up, before)) in omega (arith, low, first, c.max-most.ensures)

@@ -15,7 +15,7 @@ returns-then-is_some-clause-together c =
     let ends = c.loop-up_at.ends in
     let inside : c.loop-up_at.up_at < length (numbers_met heads ends.up.walk) = omega (arith, c.loop-up_at-test.true, c.len.ensures.long, long_met heads ends.up.walk) in
     let climbs = low_step (patches_of heads) (level_of sight.levels.now.ranks) c.args.most begun.up.crossed.items (numbers_met heads begun.up.walk) c.loop-up_at.up_at ends.up.crossed.items c.turn_up-met.new.ends.up.crossed.items (numbers_met heads ends.up.walk) (numbers_met heads c.turn_up-met.new.ends.up.walk) inside c.loop-up_at.invariant.climbs c.turn_up-met.ensures.visits c.turn_up-met.ensures.crossed in
-    IfSome_then c.turn_up-met.result c.turn_up-met.ensures.met (λ slot met. (met.0, met.1, record { over = climbs.climbing.only met.0 met.2; under = c.loop-up_at.invariant.descends.climbing.only met.0 met.3 }))
+    IfSome_then c.turn_up-met.result c.turn_up-met.ensures.met (λ index met. (met.0, met.1, record { over = climbs.climbing.only met.0 met.2; under = c.loop-up_at.invariant.descends.climbing.only met.0 met.3 }))
 
 pub loop-up_at-preserved-then-looked : goal.loop-up_at-preserved-then-looked
 loop-up_at-preserved-then-looked c =
@@ -66,7 +66,7 @@ descended c lt before =
 pub returns-then-is_some-2-clause-together : goal.returns-then-is_some-2-clause-together
 returns-then-is_some-2-clause-together c =
     let under = beside (goal.at.returns-then-is_some-2-clause-together c).After-turn_down-met in
-    IfSome_then c.turn_down-met.result c.turn_down-met.ensures.met (λ slot met. (met.0, met.1, record { over = c.loop-up_at.invariant.climbs.climbing.only met.0 met.2; under = under.climbing.only met.0 met.3 }))
+    IfSome_then c.turn_down-met.result c.turn_down-met.ensures.met (λ index met. (met.0, met.1, record { over = c.loop-up_at.invariant.climbs.climbing.only met.0 met.2; under = under.climbing.only met.0 met.3 }))
 
 pub turn_down-met-requires-else-looked-clause-apart : goal.turn_down-met-requires-else-looked-clause-apart
 turn_down-met-requires-else-looked-clause-apart c = rw c.turn_down-met.ensures.up (none_told c.turn_down-met.result c.turn_down-met.ensures.apart (sym c.is_some-else-looked.ensures ∙ c.if-is_some-2.false))
@@ -81,7 +81,7 @@ pub returns-then-is_some-3-clause-together : goal.returns-then-is_some-3-clause-
 returns-then-is_some-3-clause-together c =
     let before = (goal.at.returns-then-is_some-3-clause-together c).After-turn_down-met in
     let under = descended (goal.at.returns-then-is_some-3-clause-together c).After-turn_down-met-else-looked (inside before) (beside before) in
-    IfSome_then c.turn_down-met-else-looked.result c.turn_down-met-else-looked.ensures.met (λ slot met. (
+    IfSome_then c.turn_down-met-else-looked.result c.turn_down-met-else-looked.ensures.met (λ index met. (
       met.0,
       met.1,
       record {

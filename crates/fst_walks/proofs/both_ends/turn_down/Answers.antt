@@ -27,7 +27,7 @@ pub returns-clause-up : goal.returns-clause-up
 returns-clause-up c = grind (arith, common_steps)
 
 pub returns-clause-met : goal.returns-clause-met
-returns-clause-met c = IfSome_then c.meets.result c.meets.ensures.met (λ slot met. (met.0, met.1, met.3, met.2))
+returns-clause-met c = IfSome_then c.meets.result c.meets.ensures.met (λ index met. (met.0, met.1, met.3, met.2))
 
 pub returns-clause-visited : goal.returns-clause-visited
 returns-clause-visited c = grind (arith, common_steps)

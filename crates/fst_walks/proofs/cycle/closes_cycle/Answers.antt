@@ -7,7 +7,7 @@ use Rattle.fst_walks.proofs.cycle.closes_cycle.Goals as goal
 
 pub returns-then-is_empty-clause-closes : goal.returns-then-is_empty-clause-closes
 returns-then-is_empty-clause-closes c =
-    let alone = none_depend c.args.heads.now c.args.gate c.args.slot c.index-heads-slot.result c.requires.linked c.requires.slot (ap length (sym c.as_slice.ensures) ∙ eqb-true _ 0 (sym c.is_empty.ensures ∙ c.if-is_empty.true)) in (
+    let alone = none_depend c.args.heads.now c.args.gate c.args.index c.index-heads-index.result c.requires.linked c.requires.index (ap length (sym c.as_slice.ensures) ∙ eqb-true _ 0 (sym c.is_empty.ensures ∙ c.if-is_empty.true)) in (
       λ e. (c.args.gate, c.is_named.ensures.0 e, inl refl),
       λ a. c.is_named.ensures.1 (elim a.2 [ inl same ↦ subst (Contains (numbers_of c.args.names.now)) same a.1 | inr on ↦ absurd (alone a.0 on) ]),
     )

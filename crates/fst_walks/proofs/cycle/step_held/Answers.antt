@@ -1,8 +1,8 @@
 use Rattle.std.proofs.Common.{ℕ, get_or, Contains, sym, subst}
 use Rattle.fst_heads.specs.{Heads.patches_of, Nodes.{nodes_of, pending_in}, declared.head.Head.Head, declared.pending.Pending.Pending}
-use Rattle.fst_heads.proofs.Slots.{direct_at, named_at}
+use Rattle.fst_heads.proofs.Indices.{direct_at, named_at}
 use Rattle.fst_walks.specs.{Searching.IsNextHeld, Walks.numbers_met}
-use Rattle.fst_walks.proofs.Visiting.{slot_met, visits_same}
+use Rattle.fst_walks.proofs.Visiting.{index_met, visits_same}
 use Rattle.fst_walks.proofs.cycle.step_held.Goals as goal
 
 pub returns-clause-visits : goal.returns-clause-visits
@@ -13,10 +13,10 @@ returns-clause-visits c =
     let Step = IsNextHeld (patches_of heads) told in
     let met = numbers_met heads walk in
     let n = get_or met c.args.at 0 in
-    let s = c.slot-slot.result in
-    let slot = slot_met heads walk c.args.at s c.requires.visited.long c.requires.at c.slot-slot.ensures.slot c.slot-slot.ensures.inside in
-    let d : Head = c.index-heads-slot.result in
+    let s = c.index_at-index.result in
+    let index = index_met heads walk c.args.at s c.requires.visited.long c.requires.at c.index_at-index.ensures.index c.index_at-index.ensures.inside in
+    let d : Head = c.index-heads-index.result in
     visits_same _ (Step n) met (numbers_met heads c.visit_row.new.walk)
-    (λ q k. (direct_at heads n q s d slot (subst (λ row. Contains row q) c.as_slice-row.ensures k.0), k.1))
-    (λ q k. (subst (λ row. Contains row q) (sym c.as_slice-row.ensures) (named_at heads n q s d c.requires.rising slot k.0), k.1))
+    (λ q k. (direct_at heads n q s d index (subst (λ row. Contains row q) c.as_slice-row.ensures k.0), k.1))
+    (λ q k. (subst (λ row. Contains row q) (sym c.as_slice-row.ensures) (named_at heads n q s d c.requires.rising index k.0), k.1))
     c.visit_row.ensures.visits

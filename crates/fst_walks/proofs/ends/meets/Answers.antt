@@ -2,7 +2,7 @@ use Rattle.std.proofs.Common.{◌<◌, length, get_or, Contains, sym, subst, ◌
 use Rattle.std.proofs.lemmas.Bool.{cases_eq, false≢true}
 use Rattle.std.proofs.lemmas.List.Elements.{Contains-get_or}
 use Rattle.fst_walks.specs.Walks.{numbers_met}
-use Rattle.fst_walks.proofs.Visiting.{long_met, slot_met, number_of_met, met_slot}
+use Rattle.fst_walks.proofs.Visiting.{long_met, index_met, number_of_met, met_index}
 use Rattle.fst_walks.proofs.ends.meets.Goals as goal
 
 pub returns-then-has_met-clause-met : goal.returns-then-has_met-clause-met
@@ -12,11 +12,11 @@ returns-then-has_met-clause-met c =
     let met = numbers_met heads walk in
     let at = c.loop-at.at in
     let lt : at < length walk.met = omega (arith, c.loop-at-test.true, c.len-at-end.ensures.long) in
-    let slot = slot_met heads walk at c.slot-slot.result c.requires.walk lt c.slot-slot.ensures.slot c.slot-slot.ensures.inside in (
+    let index = index_met heads walk at c.index_at-index.result c.requires.walk lt c.index_at-index.ensures.index c.index_at-index.ensures.inside in (
       get_or met at 0,
-      slot,
+      index,
       Contains-get_or met at 0 (omega (arith, lt, long_met heads walk)),
-      number_of_met heads c.args.other.now (get_or met at 0) c.slot-slot.result slot (c.has_met.ensures.met.0 c.if-has_met.true),
+      number_of_met heads c.args.other.now (get_or met at 0) c.index_at-index.result index (c.has_met.ensures.met.0 c.if-has_met.true),
     )
 
 pub loop-at-preserved : goal.loop-at-preserved
@@ -27,11 +27,11 @@ loop-at-preserved c k past up here =
     let met = numbers_met heads walk in
     let at = c.loop-at.at in
     let lt : at < length walk.met = omega (arith, c.loop-at-test.true, c.len-at-end.ensures.long) in
-    let slot = slot_met heads walk at c.slot-slot.result c.requires.walk lt c.slot-slot.ensures.slot c.slot-slot.ensures.inside in
+    let index = index_met heads walk at c.index_at-index.result c.requires.walk lt c.index_at-index.ensures.index c.index_at-index.ensures.inside in
     elim (cases_eq k at) [
       | inl same ↦
           let there = subst (λ j. Contains (numbers_met heads other) (get_or met j 0)) same here in
-          false≢true (sym c.if-has_met.false ∙ c.has_met.ensures.met.1 (met_slot heads other c.requires.rising c.requires.other.long c.has_met.ensures.inside (get_or met at 0) c.slot-slot.result slot there))
+          false≢true (sym c.if-has_met.false ∙ c.has_met.ensures.met.1 (met_index heads other c.requires.rising c.requires.other.long c.has_met.ensures.inside (get_or met at 0) c.index_at-index.result index there))
       | inr before ↦ c.loop-at.invariant k past (omega (arith, up, before)) here
     ]
 

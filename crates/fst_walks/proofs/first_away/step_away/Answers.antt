@@ -1,9 +1,9 @@
 use Rattle.std.proofs.lemmas.Grind.{common_steps}
 use Rattle.std.proofs.Common.{get_or, Contains, sym, subst, inl, inr, arith}
 use Rattle.fst_heads.specs.{Heads.patches_of, declared.head.Head.Head}
-use Rattle.fst_heads.proofs.Slots.{direct_at, named_at}
+use Rattle.fst_heads.proofs.Indices.{direct_at, named_at}
 use Rattle.fst_walks.specs.{BothEnds.StepsAway, Walks.numbers_met}
-use Rattle.fst_walks.proofs.Visiting.{slot_met, visits_same}
+use Rattle.fst_walks.proofs.Visiting.{index_met, visits_same}
 use Rattle.fst_walks.proofs.first_away.step_away.Goals as goal
 
 pub returns-clause-only : goal.returns-clause-only
@@ -11,12 +11,12 @@ returns-clause-only c q met =
     let heads = c.args.sight.now.heads.now in
     let walk = c.args.walk.now in
     let n = get_or (numbers_met heads walk) c.args.at 0 in
-    let s = c.slot-slot.result in
-    let d : Head = c.index-sight-slot.result in
-    let slot = slot_met heads walk c.args.at s c.requires.visited.long c.requires.at c.slot-slot.ensures.slot c.slot-slot.ensures.inside in
+    let s = c.index_at-index.result in
+    let d : Head = c.index-sight-index.result in
+    let index = index_met heads walk c.args.at s c.requires.visited.long c.requires.at c.index_at-index.ensures.index c.index_at-index.ensures.inside in
     elim (c.visit_high_row.ensures.visits.only q met) [
       | inl old ↦ inl old
-      | inr k ↦ inr ((c.goes_through.ensures n slot).0 c.if-not-goes_through.false, direct_at heads n q s d slot (subst (λ row. Contains row q) c.as_slice-below.ensures (c.newest_few.ensures.only q k.0)), k.1.0)
+      | inr k ↦ inr ((c.goes_through.ensures n index).0 c.if-not-goes_through.false, direct_at heads n q s d index (subst (λ row. Contains row q) c.as_slice-below.ensures (c.newest_few.ensures.only q k.0)), k.1.0)
     ]
 
 pub returns-clause-visits : goal.returns-clause-visits
@@ -24,14 +24,14 @@ returns-clause-visits c few =
     let heads = c.args.sight.now.heads.now in
     let walk = c.args.walk.now in
     let n = get_or (numbers_met heads walk) c.args.at 0 in
-    let s = c.slot-slot.result in
-    let d : Head = c.index-sight-slot.result in
-    let slot = slot_met heads walk c.args.at s c.requires.visited.long c.requires.at c.slot-slot.ensures.slot c.slot-slot.ensures.inside in
-    let through = (c.goes_through.ensures n slot).0 c.if-not-goes_through.false in
+    let s = c.index_at-index.result in
+    let d : Head = c.index-sight-index.result in
+    let index = index_met heads walk c.args.at s c.requires.visited.long c.requires.at c.index_at-index.ensures.index c.index_at-index.ensures.inside in
+    let through = (c.goes_through.ensures n index).0 c.if-not-goes_through.false in
     let all = c.newest_few.ensures.all few in
     visits_same _ (StepsAway (patches_of heads) c.args.block n) (numbers_met heads walk) (numbers_met heads c.visit_high_row.new.walk)
-    (λ q k. (through, direct_at heads n q s d slot (subst (λ row. Contains row q) c.as_slice-below.ensures (c.newest_few.ensures.only q k.0)), k.1.0))
-    (λ q k. (subst (λ row. Contains row q) (sym all) (subst (λ row. Contains row q) (sym c.as_slice-below.ensures) (named_at heads n q s d c.requires.sees.rising slot k.1)), (k.2, omega arith)))
+    (λ q k. (through, direct_at heads n q s d index (subst (λ row. Contains row q) c.as_slice-below.ensures (c.newest_few.ensures.only q k.0)), k.1.0))
+    (λ q k. (subst (λ row. Contains row q) (sym all) (subst (λ row. Contains row q) (sym c.as_slice-below.ensures) (named_at heads n q s d c.requires.sees.rising index k.1)), (k.2, omega arith)))
     c.visit_high_row.ensures.visits
 
 pub returns-clause-visited : goal.returns-clause-visited

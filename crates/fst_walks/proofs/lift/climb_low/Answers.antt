@@ -1,5 +1,5 @@
 use Rattle.std.proofs.Common.{◌∙◌, ◌≤◌, length, arith}
-use Rattle.fst_heads.specs.{Grading.IsHardNumber, Heads.patches_of, Slots.PassesAt}
+use Rattle.fst_heads.specs.{Grading.IsHardNumber, Heads.patches_of, Indices.PassesAt}
 use Rattle.fst_walks.specs.{BothEnds.{IsLow, StepsLow}, Leveling.level_of, Walks.numbers_met, WayBack.Crosses}
 use Rattle.fst_types.specs.Dependencies.{DirectlyOn}
 use Rattle.fst_walks.proofs.{Ascended.climbing_all, Stepping.walking_step, Visiting.long_met}

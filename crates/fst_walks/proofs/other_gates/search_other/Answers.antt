@@ -2,9 +2,9 @@ use Rattle.std.proofs.Common.{◌≡◌, ◌∙◌, ◌<◌, ◌≤◌, ℕ, Som
 use Rattle.std.proofs.{lemmas.Bool.{cases_eq, false≢true}, lemmas.Grind.common_steps, lemmas.List.get_or_append_left, lemmas.List.Elements.Contains-get_or}
 use Rattle.fst_heads.specs.{Grading.IsOpenBut, Heads.{patches_of}, Nodes.{nodes_of, pending_in}}
 use Rattle.fst_heads.specs.{declared.head.Head.Head, declared.pending.Pending.Pending}
-use Rattle.fst_heads.proofs.{Slots.{any_default, direct_at, named_at}}
+use Rattle.fst_heads.proofs.{Indices.{any_default, direct_at, named_at}}
 use Rattle.fst_walks.specs.{Descending.Visits, Searching.IsNextHeld, Walks.numbers_met}
-use Rattle.fst_walks.proofs.{Ascended.{climbing_more, climbing_all}, GateBelow.{other_gate, gate_other}, Visiting.{long_met, slot_met, visits_same}}
+use Rattle.fst_walks.proofs.{Ascended.{climbing_more, climbing_all}, GateBelow.{other_gate, gate_other}, Visiting.{index_met, long_met, visits_same}}
 use Rattle.fst_walks.proofs.other_gates.search_other.Goals as goal
 
 pub loop-at-smaller : goal.loop-at-smaller
@@ -24,22 +24,22 @@ loop-at-preserved c =
     let lt : at < length walk.met = omega (arith, c.loop-at-test.true, c.len.ensures.long) in
     let inside : at < length met = omega (arith, lt, long_met heads walk) in
     let n = get_or met at 0 in
-    let s = c.slot-slot.result in
-    let slot = slot_met heads walk at s c.loop-at.invariant.visited.long lt c.slot-slot.ensures.slot c.slot-slot.ensures.inside in
-    let d : Head = c.index-heads-slot.result in
+    let s = c.index_at-index.result in
+    let index = index_met heads walk at s c.loop-at.invariant.visited.long lt c.index_at-index.ensures.index c.index_at-index.ensures.inside in
+    let d : Head = c.index-heads-index.result in
     let new = numbers_met heads c.visit_row.new.walk in
-    let below = c.as_slice.ensures ∙ ap (λ (h : Head). h.dependencies.items) c.index-heads-slot.is in
+    let below = c.as_slice.ensures ∙ ap (λ (h : Head). h.dependencies.items) c.index-heads-index.is in
     let next : Visits (Step n) met new =
     visits_same _ (Step n) met new
-    (λ q k. (direct_at heads n q s d slot (subst (λ row. Contains row q) below k.0), k.1))
-    (λ q k. (subst (λ row. Contains row q) (sym below) (named_at heads n q s d c.requires.rising slot k.0), k.1))
+    (λ q k. (direct_at heads n q s d index (subst (λ row. Contains row q) below k.0), k.1))
+    (λ q k. (subst (λ row. Contains row q) (sym below) (named_at heads n q s d c.requires.rising index k.0), k.1))
     c.visit_row.ensures.visits in
     let same : (j : ℕ) → j < length met → get_or new j 0 ≡ get_or met j 0 = λ j in_met. ap (λ q. get_or q j 0) next.kept.1 ∙ get_or_append_left met next.kept.0 0 j in_met in
     record {
       visited = c.visit_row.ensures.visited;
       climbing = climbing_more Step (numbers_met heads c.args.walk.now) at met new inside c.loop-at.invariant.climbing next;
       none = λ j up in_new u. elim (cases_eq j at) [
-        | inl here ↦ false≢true (sym c.if-is_other_gate.false ∙ gate_other heads c.requires.rising n s c.args.gate slot d c.index-heads-slot.is _ c.is_other_gate.ensures (subst (IsOpenBut (patches_of heads) (Some c.args.gate)) (ap (λ k. get_or new k 0) here ∙ same at inside) u))
+        | inl here ↦ false≢true (sym c.if-is_other_gate.false ∙ gate_other heads c.requires.rising n s c.args.gate index d c.index-heads-index.is _ c.is_other_gate.ensures (subst (IsOpenBut (patches_of heads) (Some c.args.gate)) (ap (λ k. get_or new k 0) here ∙ same at inside) u))
         | inr before ↦
             let low : j < at = omega (arith, up, before) in
             c.loop-at.invariant.none j low (omega (arith, low, inside)) (subst (IsOpenBut (patches_of heads) (Some c.args.gate)) (same j (omega (arith, low, inside))) u)
@@ -54,9 +54,9 @@ returns-then-is_other_gate-clause-met c =
     let at = c.loop-at.at in
     let lt : at < length walk.met = omega (arith, c.loop-at-test.true, c.len.ensures.long) in
     let n = get_or met at 0 in
-    let s = c.slot-slot.result in
-    let slot = slot_met heads walk at s c.loop-at.invariant.visited.long lt c.slot-slot.ensures.slot c.slot-slot.ensures.inside in
-    (λ e. (n, c.loop-at.invariant.climbing.only n (Contains-get_or met at 0 (omega (arith, lt, long_met heads walk))), other_gate heads c.requires.rising n s c.args.gate slot c.index-heads-slot.result c.index-heads-slot.is _ c.is_other_gate.ensures c.if-is_other_gate.true), λ u. refl)
+    let s = c.index_at-index.result in
+    let index = index_met heads walk at s c.loop-at.invariant.visited.long lt c.index_at-index.ensures.index c.index_at-index.ensures.inside in
+    (λ e. (n, c.loop-at.invariant.climbing.only n (Contains-get_or met at 0 (omega (arith, lt, long_met heads walk))), other_gate heads c.requires.rising n s c.args.gate index c.index-heads-index.result c.index-heads-index.is _ c.is_other_gate.ensures c.if-is_other_gate.true), λ u. refl)
 
 pub returns-clause-met : goal.returns-clause-met
 returns-clause-met c =

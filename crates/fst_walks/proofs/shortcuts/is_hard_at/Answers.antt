@@ -8,8 +8,8 @@ use Rattle.fst_walks.proofs.shortcuts.is_hard_at.Goals as goal
 pub returns-in-Some : goal.returns-in-Some
 returns-in-Some c =
     let heads = c.args.sight.now.heads.now in
-    let s = c.in-Some.slot in
-    let d = c.index-sight-slot.result in
+    let s = c.in-Some.index in
+    let d = c.index-sight-index.result in
     let b = c.args.block in
     let found = c.in-Some.ensures.found in
     let said : c.is_hard_in.result ≡ (is_change_at place.Memory b (patch_of (get_or heads s d)) && is_hard_kind (kind_of (get_or heads s d).kind)) = c.is_hard_in.ensures in

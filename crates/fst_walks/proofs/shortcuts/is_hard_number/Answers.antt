@@ -8,12 +8,12 @@ use Rattle.fst_walks.proofs.shortcuts.is_hard_number.Goals as goal
 pub returns-in-Some : goal.returns-in-Some
 returns-in-Some c =
     let heads = c.args.heads.now in
-    let s = c.in-Some.slot in
-    let d = c.index-heads-slot.result in
+    let s = c.in-Some.index in
+    let d = c.index-heads-index.result in
     let b = c.args.block in
     let found = c.in-Some.ensures.found in
     let said : c.is_hard_in.result ≡ (is_change_at place.Memory b (patch_of (get_or heads s d)) && is_hard_kind (kind_of (get_or heads s d).kind)) =
-    c.is_hard_in.ensures ∙ ap (λ (h : Head). is_change_at place.Memory b (patch_of h) && is_hard_kind (kind_of h.kind)) c.index-heads-slot.is in
+    c.is_hard_in.ensures ∙ ap (λ (h : Head). is_change_at place.Memory b (patch_of h) && is_hard_kind (kind_of h.kind)) c.index-heads-index.is in
     (λ e. hard_here heads c.requires c.args.number s d found b (sym said ∙ e), λ h. said ∙ here_hard heads c.requires c.args.number s d found b h)
 
 pub returns-in-None : goal.returns-in-None

@@ -6,8 +6,8 @@ use Rattle.fst_walks.proofs.shortcuts.passes_at.Goals as goal
 pub returns-in-Some : goal.returns-in-Some
 returns-in-Some c =
     let heads = c.args.sight.now.heads.now in
-    let s = c.in-Some.slot in
-    let d = c.index-sight-slot.result in
+    let s = c.in-Some.index in
+    let d = c.index-sight-index.result in
     let found = c.in-Some.ensures.found in
     let said : c.passes.result ≡ passes c.args.test (patch_of (get_or heads s d)) = c.passes.ensures in
     (λ e. passes_here heads c.requires.rising c.args.number s d found c.args.test (sym said ∙ e), λ p. said ∙ here_passes heads c.requires.rising c.args.number s d found c.args.test p)

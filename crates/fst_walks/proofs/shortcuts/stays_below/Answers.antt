@@ -1,6 +1,6 @@
 use Rattle.std.proofs.Common.{◌≡◌, ◌∙◌, ◌<◌, ◌⊎◌, arith, get_or, subst, rules}
 use Rattle.fst_heads.specs.Heads.{patches_of}
-use Rattle.fst_heads.proofs.{Listing.rising_patches, Slots.any_default}
+use Rattle.fst_heads.proofs.{Listing.rising_patches, Indices.any_default}
 use Rattle.fst_walks.specs.{Leveling.{floor_of, level_of}, WayBack.IsUnderHard}
 use Rattle.fst_walks.proofs.Leveled.{below_floor}
 use Rattle.fst_walks.proofs.shortcuts.stays_below.Goals as goal

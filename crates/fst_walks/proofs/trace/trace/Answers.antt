@@ -1,24 +1,24 @@
 use Rattle.std.proofs.Common.{sym, ◌∙◌}
-use Rattle.fst_heads.proofs.Slots.{slot_here}
+use Rattle.fst_heads.proofs.Indices.{index_here}
 use Rattle.fst_heads.specs.declared.test.Test.TheVariants as test
 use Rattle.fst_walks.specs.Needing.{needs_of}
 use Rattle.fst_walks.proofs.{NearRow.passes_here, Traced.{traced_end, traced_next, traced_start}}
 use Rattle.fst_walks.proofs.trace.trace.Goals as goal
 
 pub loop-init : goal.loop-init
-loop-init c = traced_start c.args.sight.now.heads.now (needs_of c.args.sight.now.needs.now.lists) c.args.block c.args.slot c.requires.slot
+loop-init c = traced_start c.args.sight.now.heads.now (needs_of c.args.sight.now.needs.now.lists) c.args.block c.args.index c.requires.index
 
 pub returns-then-passes-clause-change : goal.returns-then-passes-clause-change
 returns-then-passes-clause-change c =
     let heads = c.args.sight.now.heads.now in
     let at = c.loop.at in
     let d = c.index-sight-at.result in
-    passes_here heads c.requires.sees.rising _ at d (slot_here heads at d c.loop.invariant.here.0) (test.LiveOn c.args.block) (sym c.passes.ensures ∙ c.if-passes.true)
+    passes_here heads c.requires.sees.rising _ at d (index_here heads at d c.loop.invariant.here.0) (test.LiveOn c.args.block) (sym c.passes.ensures ∙ c.if-passes.true)
 
 pub returns-then-passes-clause-path : goal.returns-then-passes-clause-path
 returns-then-passes-clause-path c =
     let heads = c.args.sight.now.heads.now in
-    traced_end heads (needs_of c.args.sight.now.needs.now.lists) c.args.block c.args.slot c.loop.at _ c.loop.invariant (slot_here heads c.loop.at c.index-sight-at.result c.loop.invariant.here.0)
+    traced_end heads (needs_of c.args.sight.now.needs.now.lists) c.args.block c.args.index c.loop.at _ c.loop.invariant (index_here heads c.loop.at c.index-sight-at.result c.loop.invariant.here.0)
 
 pub loop-preserved : goal.loop-preserved
-loop-preserved c = traced_next c.args.sight.now.heads.now (needs_of c.args.sight.now.needs.now.lists) c.args.block c.args.slot c.loop.at c.in_ok-at.at c.loop.invariant c.in_ok-at.ensures
+loop-preserved c = traced_next c.args.sight.now.heads.now (needs_of c.args.sight.now.needs.now.lists) c.args.block c.args.index c.loop.at c.in_ok-at.at c.loop.invariant c.in_ok-at.ensures

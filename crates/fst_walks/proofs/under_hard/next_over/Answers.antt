@@ -2,19 +2,19 @@ use Rattle.std.proofs.Common.{get_or, Contains, subst}
 use Rattle.std.proofs.lemmas.{Iterator.Adapters.YieldsList-from_rev_slice, Iterator.Consumers.YieldsList-turn}
 use Rattle.fst_types.specs.Dependencies.{DirectlyOn}
 use Rattle.fst_heads.specs.{Heads.{patch_of, patches_of}, declared.head.Head.Head}
-use Rattle.fst_heads.proofs.{PendingAt.node_in, Slots.{any_default, patch_at}}
+use Rattle.fst_heads.proofs.{PendingAt.node_in, Indices.{any_default, patch_at}}
 use Rattle.fst_walks.proofs.{CrossingBack.above_there, Traced.in_reversed}
 use Rattle.fst_walks.proofs.under_hard.next_over.Goals as goal
 
 pub returns-then-is_change_at : goal.returns-then-is_change_at
 returns-then-is_change_at c =
     let heads = c.args.sight.now.heads.now in
-    let s = c.args.slot in
+    let s = c.args.index in
     let t = c.in-Some-find.next in
     let q = c.in-Some.number.now in
-    let d : Head = c.index-sight-slot.result in
+    let d : Head = c.index-sight-index.result in
     let x : Head = get_or heads s d in
-    let at = c.requires.slot.1 in
+    let at = c.requires.index.1 in
     let here = node_in heads s x at.0 (any_default heads s d x at.0) in
     let found = c.in-Some-find.ensures.found in
     let newest = c.newest_few-newest.result.now in

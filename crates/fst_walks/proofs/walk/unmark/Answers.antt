@@ -3,20 +3,20 @@ use Rattle.std.proofs.{lemmas.List.{take_all, take_more}, lemmas.List.Elements.C
 use Rattle.fst_walks.proofs.Trails.{Unmarking, met_inside, unmarking_more, unmarking_all}
 use Rattle.fst_walks.proofs.walk.unmark.Goals as goal
 
-pub bounds-marks-slot : goal.bounds-marks-slot
-bounds-marks-slot c =
-    let lt = met_inside c.args.marks.now c.args.met.now c.requires (get_or c.args.met.now c.loop-slot.slot-index 0) (Contains-get_or c.args.met.now c.loop-slot.slot-index 0 c.loop-slot-test.true) in
-    omega (arith, lt, c.loop-slot.auto.marks)
+pub bounds-marks-index : goal.bounds-marks-index
+bounds-marks-index c =
+    let lt = met_inside c.args.marks.now c.args.met.now c.requires (get_or c.args.met.now c.loop-index.index-index 0) (Contains-get_or c.args.met.now c.loop-index.index-index 0 c.loop-index-test.true) in
+    omega (arith, lt, c.loop-index.auto.marks)
 
-pub loop-slot-preserved : goal.loop-slot-preserved
-loop-slot-preserved c =
+pub loop-index-preserved : goal.loop-index-preserved
+loop-index-preserved c =
     let met = c.args.met.now in
-    let i = c.loop-slot.slot-index in
+    let i = c.loop-index.index-index in
     let n = get_or met i 0 in
-    let lt = met_inside c.args.marks.now met c.requires n (Contains-get_or met i 0 c.loop-slot-test.true) in
-    rw (take_more met i 0 c.loop-slot-test.true) (unmarking_more c.args.marks.now c.loop-slot.marks (take i met) n (omega (arith, lt, c.loop-slot.auto.marks)) c.loop-slot.invariant)
+    let lt = met_inside c.args.marks.now met c.requires n (Contains-get_or met i 0 c.loop-index-test.true) in
+    rw (take_more met i 0 c.loop-index-test.true) (unmarking_more c.args.marks.now c.loop-index.marks (take i met) n (omega (arith, lt, c.loop-index.auto.marks)) c.loop-index.invariant)
 
 pub returns-clause-clear : goal.returns-clause-clear
 returns-clause-clear c =
-    let all = subst (Unmarking c.args.marks.now c.loop-slot.marks) (take_all c.loop-slot.slot-index c.args.met.now (omega (arith, c.loop-slot-test.false))) c.loop-slot.invariant in
-    unmarking_all c.args.marks.now c.loop-slot.marks c.args.met.now c.requires all
+    let all = subst (Unmarking c.args.marks.now c.loop-index.marks) (take_all c.loop-index.index-index c.args.met.now (omega (arith, c.loop-index-test.false))) c.loop-index.invariant in
+    unmarking_all c.args.marks.now c.loop-index.marks c.args.met.now c.requires all

@@ -2,7 +2,7 @@ use Rattle.std.proofs.lemmas.Grind.{common_steps}
 use Rattle.std.proofs.Common.{◌≡◌, ◌≤◌, ◌∙◌, refl, sym, subst, arith}
 use Rattle.std.proofs.lemmas.Bool.{false≢true}
 use Rattle.fst_heads.specs.Heads.{patches_of}
-use Rattle.fst_heads.proofs.Slots.{live_at, not_live_none}
+use Rattle.fst_heads.proofs.Indices.{live_at, not_live_none}
 use Rattle.fst_walks.specs.{BothEnds.IsHigh, Leveling.level_of, Walks.numbers_met}
 use Rattle.fst_walks.proofs.{Ranked.{no_rank, rank_level}, Visiting.{visits_none, visits_meet, visited_meet}}
 use Rattle.fst_walks.proofs.way_down.visit_high.Goals.{After-is_live}
@@ -11,9 +11,9 @@ use Rattle.fst_walks.proofs.way_down.visit_high.Goals as goal
 pub returns-then-is_live-clause-visited : goal.returns-then-is_live-clause-visited
 returns-then-is_live-clause-visited c =
     let heads = c.args.sight.now.heads.now in
-    let slot = c.in-Some.ensures.found in
-    let live = (live_at heads c.args.number c.in-Some.slot c.index-sight-slot.result c.requires.sees.rising slot).0 (sym c.is_live.ensures ∙ c.if-is_live.true) in
-    visited_meet heads c.args.number c.in-Some.slot slot c.args.walk.now c.meet.new.self c.meet.ensures live c.requires.visited
+    let index = c.in-Some.ensures.found in
+    let live = (live_at heads c.args.number c.in-Some.index c.index-sight-index.result c.requires.sees.rising index).0 (sym c.is_live.ensures ∙ c.if-is_live.true) in
+    visited_meet heads c.args.number c.in-Some.index index c.args.walk.now c.meet.new.self c.meet.ensures live c.requires.visited
 
 pub returns-then-is_live-clause-visits : goal.returns-then-is_live-clause-visits
 returns-then-is_live-clause-visits c =
@@ -21,10 +21,10 @@ returns-then-is_live-clause-visits c =
     let heads = sight.heads.now in
     let ranks = sight.levels.now.ranks in
     let n = c.args.number in
-    let slot = c.in-Some.ensures.found in
-    let live = (live_at heads n c.in-Some.slot c.index-sight-slot.result c.requires.sees.rising slot).0 (sym c.is_live.ensures ∙ c.if-is_live.true) in
-    let high : c.args.least ≤ level_of ranks n = subst (λ l. c.args.least ≤ l) (c.level.ensures no_rank ∙ rank_level heads ranks c.requires.sees.rising c.requires.sees.leveled.aligned n c.in-Some.slot slot no_rank) c.if-level-least.true in
-    visits_meet heads n c.in-Some.slot slot c.args.walk.now c.meet.new.self c.meet.ensures (λ m. (m ≡ n) × IsHigh (patches_of heads) (level_of ranks) c.args.least m) (refl, (live, high)) (λ m k. k.0)
+    let index = c.in-Some.ensures.found in
+    let live = (live_at heads n c.in-Some.index c.index-sight-index.result c.requires.sees.rising index).0 (sym c.is_live.ensures ∙ c.if-is_live.true) in
+    let high : c.args.least ≤ level_of ranks n = subst (λ l. c.args.least ≤ l) (c.level.ensures no_rank ∙ rank_level heads ranks c.requires.sees.rising c.requires.sees.leveled.aligned n c.in-Some.index index no_rank) c.if-level-least.true in
+    visits_meet heads n c.in-Some.index index c.args.walk.now c.meet.new.self c.meet.ensures (λ m. (m ≡ n) × IsHigh (patches_of heads) (level_of ranks) c.args.least m) (refl, (live, high)) (λ m k. k.0)
 
 pub returns-else-is_live-clause-visits : goal.returns-else-is_live-clause-visits
 returns-else-is_live-clause-visits c =
@@ -33,7 +33,7 @@ returns-else-is_live-clause-visits c =
     let n = c.args.number in
     let high = IsHigh (patches_of heads) (level_of sight.levels.now.ranks) c.args.least in
     visits_none (λ m. (m ≡ n) × high m) (numbers_met heads c.args.walk.now) (λ m k.
-    let alive = (live_at heads n c.in-Some.slot c.index-sight-slot.result c.requires.sees.rising c.in-Some.ensures.found).1 (subst high k.0 k.1).0 in
+    let alive = (live_at heads n c.in-Some.index c.index-sight-index.result c.requires.sees.rising c.in-Some.ensures.found).1 (subst high k.0 k.1).0 in
     absurd (false≢true (sym c.if-is_live.false ∙ (c.is_live.ensures ∙ alive))))
 
 pub returns-else-level-least-clause-visits : goal.returns-else-level-least-clause-visits
@@ -44,7 +44,7 @@ returns-else-level-least-clause-visits c =
     let n = c.args.number in
     visits_none (λ m. (m ≡ n) × IsHigh (patches_of heads) (level_of ranks) c.args.least m) (numbers_met heads c.args.walk.now) (λ m k.
     let high = subst (IsHigh (patches_of heads) (level_of ranks) c.args.least) k.0 k.1 in
-    let same = c.level.ensures no_rank ∙ rank_level heads ranks c.requires.sees.rising c.requires.sees.leveled.aligned n c.in-Some.slot c.in-Some.ensures.found no_rank in
+    let same = c.level.ensures no_rank ∙ rank_level heads ranks c.requires.sees.rising c.requires.sees.leveled.aligned n c.in-Some.index c.in-Some.ensures.found no_rank in
     absurd (omega (arith, same, high.1, c.if-level-least.false)))
 
 pub returns-in_default-clause-visits : goal.returns-in_default-clause-visits

@@ -3,9 +3,9 @@ use Rattle.std.proofs.Common.{◌≡◌, ◌≤◌, get_or, Contains, sym, subst
 use Rattle.std.proofs.lemmas.List.Elements.{Contains-get_or}
 use Rattle.fst_types.specs.{Closure.one, Dependencies.{DirectlyOn, IsLiveNumber}}
 use Rattle.fst_heads.specs.{Heads.patches_of, declared.head.Head.Head}
-use Rattle.fst_heads.proofs.{PendingAt.node_in, Slots.{any_default}}
+use Rattle.fst_heads.proofs.{PendingAt.node_in, Indices.{any_default}}
 use Rattle.fst_walks.specs.{BothEnds.{IsLow, StepsLow}, Descending.Visits, Leveling.level_of, Walks.numbers_met, WayBack.{Crosses}}
-use Rattle.fst_walks.proofs.{CrossingBack.{above_from, above_there, above_to, off_disk}, Holding.live_up, Visiting.{long_met, slot_met, visits_both, visits_same}}
+use Rattle.fst_walks.proofs.{CrossingBack.{above_from, above_there, above_to, off_disk}, Holding.live_up, Visiting.{index_met, long_met, visits_both, visits_same}}
 use Rattle.fst_walks.proofs.way_up.step_up.Goals as goal
 
 pub visit_low_row-requires-clause-live : goal.visit_low_row-requires-clause-live
@@ -15,12 +15,12 @@ visit_low_row-requires-clause-live c n named p h e =
     let patches = patches_of heads in
     let walk = c.args.walk.now in
     let met = numbers_met heads walk in
-    let s = c.slot-slot.result in
-    let d : Head = c.index-sight-slot.result in
-    let slot = slot_met heads walk c.args.at s c.requires.visited.long c.requires.at c.slot-slot.ensures.slot c.slot-slot.ensures.inside in
+    let s = c.index_at-index.result in
+    let d : Head = c.index-sight-index.result in
+    let index = index_met heads walk c.args.at s c.requires.visited.long c.requires.at c.index_at-index.ensures.index c.index_at-index.ensures.inside in
     let x : Head = get_or heads s d in
-    let here = node_in heads s x slot.0 (any_default heads s d x slot.0) in
-    let below = subst (IsLiveNumber patches) (sym (slot.1 d)) (c.requires.visited.live (get_or met c.args.at 0) (Contains-get_or met c.args.at 0 (omega (arith, c.requires.at, long_met heads walk)))) in
+    let here = node_in heads s x index.0 (any_default heads s d x index.0) in
+    let below = subst (IsLiveNumber patches) (sym (index.1 d)) (c.requires.visited.live (get_or met c.args.at 0) (Contains-get_or met c.args.at 0 (omega (arith, c.requires.at, long_met heads walk)))) in
     let over = above_there heads c.requires.sees.linked x here p n h e (subst (λ row. Contains row n) c.as_slice-above.ensures named) in
     off_disk heads c.requires.sees.rising n (live_up patches c.requires.sees.disk n x.number (one over) below) p h e
 
@@ -35,14 +35,14 @@ returns-clause-visits c =
     let met = numbers_met heads walk in
     let now = c.args.crossed.now in
     let n = get_or met c.args.at 0 in
-    let s = c.slot-slot.result in
-    let d : Head = c.index-sight-slot.result in
-    let slot = slot_met heads walk c.args.at s c.requires.visited.long c.requires.at c.slot-slot.ensures.slot c.slot-slot.ensures.inside in
+    let s = c.index_at-index.result in
+    let d : Head = c.index-sight-index.result in
+    let index = index_met heads walk c.args.at s c.requires.visited.long c.requires.at c.index_at-index.ensures.index c.index_at-index.ensures.inside in
     let x : Head = get_or heads s d in
     let mid = numbers_met heads c.visit_low_row.new.walk in
     let new = numbers_met heads c.cross-across.new.walk in
-    let here = node_in heads s x slot.0 (any_default heads s d x slot.0) in
-    let number : x.number ≡ n = slot.1 d in
+    let here = node_in heads s x index.0 (any_default heads s d x index.0) in
+    let number : x.number ≡ n = index.1 d in
     let above : Visits (λ q. DirectlyOn patches q n × IsLow patches level most q) met mid =
     visits_same _ (λ q. DirectlyOn patches q n × IsLow patches level most q) met mid
     (λ q k. (subst (DirectlyOn patches q) number (above_from heads c.requires.sees.linked x here q (subst (λ row. Contains row q) c.as_slice-above.ensures k.0) k.1.0), k.1))

@@ -1,23 +1,23 @@
 use Rattle.std.proofs.{Common.{◌++◌, ◌∷◌, [], ◌∙◌, ◌<◌, ap, subst, refl}, lemmas.List.Elements.All-set}
-use Rattle.fst_graph.specs.{Gathered.{group_of, HasGroupSlot, HasNoGroup, IsToldBegun}, declared.group.Group.Group as Kept}
-use Rattle.fst_graph.proofs.Gathering.{heads_rise, with_none, with_slot, apart_set, told_member}
+use Rattle.fst_graph.specs.{Gathered.{group_of, HasGroupIndex, HasNoGroup, IsToldBegun}, declared.group.Group.Group as Kept}
+use Rattle.fst_graph.proofs.Gathering.{heads_rise, with_none, with_index, apart_set, told_member}
 use Rattle.fst_graph.proofs.groups.Groups.note_member.Goals as goal
 
 pub invariant_of-self : goal.invariant_of-self
 invariant_of-self c =
     let gs = c.self.inside.items.items in
-    let slot = subst (λ hs. HasGroupSlot hs c.args.group c.in-Some.slot) c.deref.ensures.value c.in-Some.ensures.found in
+    let index = subst (λ hs. HasGroupIndex hs c.args.group c.in-Some.index) c.deref.ensures.value c.in-Some.ensures.found in
     record {
-      apart = apart_set gs c.in-Some.slot _ c.index_mut-group.result.now c.index_mut-group.ensures.value refl c.self.invariant.apart;
-      begun = All-set IsToldBegun gs c.in-Some.slot _ (rw c.with_number-group.ensures (told_member c.index_mut-group.result.now.members.items c.args.change)) c.self.invariant.begun;
-      narrow = All-set (λ (g : Kept). g.head < 4294967295) gs c.in-Some.slot _ (rw c.index_mut-group.ensures.value (c.self.invariant.narrow c.in-Some.slot c.index_mut-group.result.now slot.0)) c.self.invariant.narrow;
+      apart = apart_set gs c.in-Some.index _ c.index_mut-group.result.now c.index_mut-group.ensures.value refl c.self.invariant.apart;
+      begun = All-set IsToldBegun gs c.in-Some.index _ (rw c.with_number-group.ensures (told_member c.index_mut-group.result.now.members.items c.args.change)) c.self.invariant.begun;
+      narrow = All-set (λ (g : Kept). g.head < 4294967295) gs c.in-Some.index _ (rw c.index_mut-group.ensures.value (c.self.invariant.narrow c.in-Some.index c.index_mut-group.result.now index.0)) c.self.invariant.narrow;
     }
 
 pub returns-in-Some : goal.returns-in-Some
 returns-in-Some c =
     let gs = c.self.inside.items.items in
-    let slot = subst (λ hs. HasGroupSlot hs c.args.group c.in-Some.slot) c.deref.ensures.value c.in-Some.ensures.found in
-    rw (← c.self.view_is) (with_slot gs c.args.group c.in-Some.slot (λ g. record g { members = g.members ++ c.args.change ∷ [] }) _ c.index_mut-group.result.now (heads_rise gs c.self.invariant.apart) slot
+    let index = subst (λ hs. HasGroupIndex hs c.args.group c.in-Some.index) c.deref.ensures.value c.in-Some.ensures.found in
+    rw (← c.self.view_is) (with_index gs c.args.group c.in-Some.index (λ g. record g { members = g.members ++ c.args.change ∷ [] }) _ c.index_mut-group.result.now (heads_rise gs c.self.invariant.apart) index
     (ap (λ ns. record (group_of c.index_mut-group.result.now) { members = ns }) c.with_number-group.ensures
     ∙ ap (λ (h : Kept). record (group_of h) { members = h.members.items ++ c.args.change ∷ [] }) c.index_mut-group.ensures.value))
 

@@ -3,7 +3,7 @@ use Rattle.fst_types.specs.Refusals.{NoneHolds}
 use Rattle.fst_heads.specs.Heads.{patches_of}
 use Rattle.fst_heads.specs.Nodes.{is_forgotten_in, nodes_of}
 use Rattle.fst_graph.specs.{Known.{Known, unprepared, DependsGate}, Membering.member_order, Ready.MayBePut, Sound.remembered_of, Sparse.{AddsSparse, SparseChangeIsMade}}
-use Rattle.fst_graph.proofs.{GateSlot.known_is, Remembered.depends_was, RememberedRules.overlapped, Sound.{if_prepared, view_gone}, TailGains.member_clear}
+use Rattle.fst_graph.proofs.{GateIndex.known_is, Remembered.depends_was, RememberedRules.overlapped, Sound.{if_prepared, view_gone}, TailGains.member_clear}
 use Rattle.fst_graph.proofs.sparse.Sparse.add_member.Goals as goal
 
 pub returns-clause-added : goal.returns-clause-added

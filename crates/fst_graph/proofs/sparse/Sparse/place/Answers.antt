@@ -1,6 +1,6 @@
 use Rattle.std.proofs.Common.{subst}
-use Rattle.fst_heads.specs.Slots.{HasSlot, HasNone}
-use Rattle.fst_heads.proofs.Slots.{patch_at, none_slot, slot_in, patch_slot}
+use Rattle.fst_heads.specs.Indices.{HasIndex, HasNone}
+use Rattle.fst_heads.proofs.Indices.{patch_at, none_index, index_in, patch_index}
 use Rattle.fst_graph.proofs.{PlaceOf.{place_found, place_lost}, RememberedLooks.place_remembered, Sound.{rising_sound, view_gone}}
 use Rattle.fst_graph.proofs.sparse.Sparse.place.Goals as goal
 
@@ -14,14 +14,14 @@ pub returns-in-Some : goal.returns-in-Some
 returns-in-Some c =
     let heads = c.self.inside.heads.items in
     let d = c.index.result.now in
-    let slot = subst (λ hs. HasSlot hs c.args.no.0 c.in-Some.slot) c.deref.ensures.value c.in-Some.ensures.found in
+    let index = subst (λ hs. HasIndex hs c.args.no.0 c.in-Some.index) c.deref.ensures.value c.in-Some.ensures.found in
     rw (← c.self.view_is, c.index.ensures, place_remembered _ _ (view_gone c.self.invariant) c.self.inside.numbers c.args.no.0)
-    (place_found _ c.self.inside.numbers c.args.no.0 _ c.self.invariant.0.keeps.lawful.one_place_each.rising (patch_at heads c.in-Some.slot d slot.0) (slot.1 d) (c.is_given.ensures.0 c.if-not-is_given.false))
+    (place_found _ c.self.inside.numbers c.args.no.0 _ c.self.invariant.0.keeps.lawful.one_place_each.rising (patch_at heads c.in-Some.index d index.0) (index.1 d) (c.is_given.ensures.0 c.if-not-is_given.false))
 
 pub returns-in-None : goal.returns-in-None
 returns-in-None c =
     let heads = c.self.inside.heads.items in
     let none = subst (λ hs. HasNone hs c.args.no.0) c.deref.ensures.value c.in-None.ensures.none in
     rw (← c.self.view_is, place_remembered _ _ (view_gone c.self.invariant) c.self.inside.numbers c.args.no.0)
-    (place_lost _ c.self.inside.numbers c.args.no.0 (λ p h e. let t = slot_in heads p h in none_slot heads c.args.no.0 t.0 none (subst (λ m. HasSlot heads m t.0) e (patch_slot heads p t.0 t.1 t.2)))
+    (place_lost _ c.self.inside.numbers c.args.no.0 (λ p h e. let t = index_in heads p h in none_index heads c.args.no.0 t.0 none (subst (λ m. HasIndex heads m t.0) e (patch_index heads p t.0 t.1 t.2)))
     (c.is_given.ensures.0 c.if-not-is_given.false))

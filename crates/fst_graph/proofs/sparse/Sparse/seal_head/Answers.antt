@@ -1,95 +1,95 @@
 use Rattle.std.proofs.{Common.{rules, ◌<◌, [], None, ◌≡◌, ◌∙◌, length, sym, ap, subst, arith, refl, inl, inr}, lemmas.List.length-map}
 use Rattle.fst_types.specs.{Gates.IsOpenNumber, Order.seal_order, Refusals.IsFirst}
-use Rattle.fst_heads.specs.{Frames.{frame_of, frames_of}, Heads.patches_of, Slots.HasSlot, Nodes.{is_forgotten_in, node_of, nodes_of}}
+use Rattle.fst_heads.specs.{Frames.{frame_of, frames_of}, Heads.patches_of, Indices.HasIndex, Nodes.{is_forgotten_in, node_of, nodes_of}}
 use Rattle.fst_graph.specs.{Known.Known, Remembered.remembered, Sound.{IsPrepared, remembered_of}}
 use Rattle.fst_graph.proofs.{Flagged.{flags_of, remembered_as, remembered_still, rising_nodes, shut_flags, shut_landed, shut_long, spared, standing_as}, Remembered.was, RememberedCalls.begun_known}
-use Rattle.fst_graph.proofs.{Borne.settled_fits, GateSlot.refused_closed, MemberReady.{put_begun, around_kept, places_kept, shut_begun}, Ranks.leveled_then, Readied.head_told}
+use Rattle.fst_graph.proofs.{Borne.settled_fits, GateIndex.refused_closed, MemberReady.{put_begun, around_kept, places_kept, shut_begun}, Ranks.leveled_then, Readied.head_told}
 use Rattle.fst_graph.proofs.{Shutting.{shut_ready, shut_few, shut_cascade, shut_settles, shut_sound}, Sound.{if_prepared, open_given, rising_sound, view_gone, view_lawful, with_prepared}}
-use Rattle.fst_graph.proofs.sparse.Sparse.seal_head.Goals.{After-cascade-landed, After-seal_slot, In-Err}
+use Rattle.fst_graph.proofs.sparse.Sparse.seal_head.Goals.{After-cascade-landed, After-seal_at, In-Err}
 use Rattle.fst_graph.proofs.sparse.Sparse.seal_head.Goals as goal
 
-pub gate_slot-requires : goal.gate_slot-requires
-gate_slot-requires c = rw c.deref.ensures.value (rising_sound c.self.invariant.0)
+pub gate_index-requires : goal.gate_index-requires
+gate_index-requires c = rw c.deref.ensures.value (rising_sound c.self.invariant.0)
 
-pub seal_slot-requires-clause-rising : goal.seal_slot-requires-clause-rising
-seal_slot-requires-clause-rising c = rising_sound c.self.invariant.0
+pub seal_at-requires-clause-rising : goal.seal_at-requires-clause-rising
+seal_at-requires-clause-rising c = rising_sound c.self.invariant.0
 
-pub seal_slot-requires-clause-fits : goal.seal_slot-requires-clause-fits
-seal_slot-requires-clause-fits c = settled_fits (nodes_of c.self.inside.heads.items) c.self.inside.blocks (omega (arith, c.self.ranges)) c.self.invariant.0.tallies.settled
+pub seal_at-requires-clause-fits : goal.seal_at-requires-clause-fits
+seal_at-requires-clause-fits c = settled_fits (nodes_of c.self.inside.heads.items) c.self.inside.blocks (omega (arith, c.self.ranges)) c.self.invariant.0.tallies.settled
 
 -- the gate is open among the patches
-gate : (c : After-seal_slot) → IsOpenNumber (patches_of c.self.inside.heads.items) c.args.head
+gate : (c : After-seal_at) → IsOpenNumber (patches_of c.self.inside.heads.items) c.args.head
 gate c = subst (λ hs. IsOpenNumber (patches_of hs) c.args.head) c.deref.ensures.value c.in-Ok.ensures.is_open
 
 pub cascade-landed-requires : goal.cascade-landed-requires
 cascade-landed-requires c =
-    let R = shut_ready c.self.invariant.0 (gate (goal.at.cascade-landed-requires c).After-seal_slot) c.seal_slot.new.heads c.seal_slot.ensures.nodes c.seal_slot.ensures.queued c.seal_slot.ensures.capacity (search rules) in
+    let R = shut_ready c.self.invariant.0 (gate (goal.at.cascade-landed-requires c).After-seal_at) c.seal_at.new.heads c.seal_at.ensures.nodes c.seal_at.ensures.queued c.seal_at.ensures.capacity (search rules) in
     let I = c.self.invariant.1 in
-    let long = shut_long c.self.inside.heads.items c.seal_slot.new.heads.items c.args.head c.seal_slot.ensures.nodes in
+    let long = shut_long c.self.inside.heads.items c.seal_at.new.heads.items c.args.head c.seal_at.ensures.nodes in
     record {
       start = R.start;
       linked = R.linked;
       distinct = R.distinct;
       standing = R.standing;
       room = (R.narrow, R.room, let shelf = I.shelf in omega (arith, shelf, long));
-      listed = shut_landed c.self.inside.heads.items c.seal_slot.new.heads.items c.args.head c.seal_slot.ensures.nodes I.told;
+      listed = shut_landed c.self.inside.heads.items c.seal_at.new.heads.items c.args.head c.seal_at.ensures.nodes I.told;
     }
 
 -- the same are forgotten
 marks : (c : After-cascade-landed) → flags_of (nodes_of c.cascade-landed.new.heads.items) ≡ flags_of (nodes_of c.self.inside.heads.items)
-marks c = shut_flags c.self.inside.heads.items c.seal_slot.new.heads.items c.args.head c.seal_slot.ensures.nodes c.cascade-landed.new.heads.items c.cascade-landed.ensures.spread
+marks c = shut_flags c.self.inside.heads.items c.seal_at.new.heads.items c.args.head c.seal_at.ensures.nodes c.cascade-landed.new.heads.items c.cascade-landed.ensures.spread
 
 seen : (c : After-cascade-landed) → remembered_of c.cascade-landed.new.heads.items ≡ remembered (is_forgotten_in (nodes_of c.self.inside.heads.items)) (patches_of c.cascade-landed.new.heads.items)
 seen c = remembered_as c.self.inside.heads.items c.cascade-landed.new.heads.items (marks c) refl
 
-pub seal_slot-requires-clause-room : goal.seal_slot-requires-clause-room
-seal_slot-requires-clause-room c =
+pub seal_at-requires-clause-room : goal.seal_at-requires-clause-room
+seal_at-requires-clause-room c =
     let T = c.self.invariant.0.tallies in
     let s = c.self.inside in
-    omega (arith, ap length T.idle, T.room, length-map s.heads.items node_of, c.in-Ok.ensures.slot.0, ap length c.deref.ensures.value, s.queue.ok.0)
+    omega (arith, ap length T.idle, T.room, length-map s.heads.items node_of, c.in-Ok.ensures.index.0, ap length c.deref.ensures.value, s.queue.ok.0)
 
 pub settle-requires : goal.settle-requires
 settle-requires c =
-    let at = (goal.at.settle-requires c).After-seal_slot in
-    rw c.deref-in-Ok.ensures.value (shut_settles c.self.invariant.0 (gate at) c.seal_slot.new.heads c.seal_slot.ensures.nodes c.cascade-landed.new.heads c.cascade-landed.ensures.placed (subst (λ hs. HasSlot hs c.args.head c.in-Ok.slot) c.deref.ensures.value c.in-Ok.ensures.slot))
+    let at = (goal.at.settle-requires c).After-seal_at in
+    rw c.deref-in-Ok.ensures.value (shut_settles c.self.invariant.0 (gate at) c.seal_at.new.heads c.seal_at.ensures.nodes c.cascade-landed.new.heads c.cascade-landed.ensures.placed (subst (λ hs. HasIndex hs c.args.head c.in-Ok.index) c.deref.ensures.value c.in-Ok.ensures.index))
 
 pub renew-requires-clause-rising : goal.renew-requires-clause-rising
 renew-requires-clause-rising c =
-    let at = (goal.at.renew-requires-clause-rising c).After-seal_slot in
-    rw c.deref-in-Ok-2.ensures.value (shut_settles c.self.invariant.0 (gate at) c.seal_slot.new.heads c.seal_slot.ensures.nodes c.cascade-landed.new.heads c.cascade-landed.ensures.placed (subst (λ hs. HasSlot hs c.args.head c.in-Ok.slot) c.deref.ensures.value c.in-Ok.ensures.slot)).rising
+    let at = (goal.at.renew-requires-clause-rising c).After-seal_at in
+    rw c.deref-in-Ok-2.ensures.value (shut_settles c.self.invariant.0 (gate at) c.seal_at.new.heads c.seal_at.ensures.nodes c.cascade-landed.new.heads c.cascade-landed.ensures.placed (subst (λ hs. HasIndex hs c.args.head c.in-Ok.index) c.deref.ensures.value c.in-Ok.ensures.index)).rising
 
 pub renew-requires-clause-leveled : goal.renew-requires-clause-leveled
 renew-requires-clause-leveled c = leveled_then (c.deref-in-Ok.ensures.value ∙ sym c.deref-in-Ok-2.ensures.value) (sym c.settle.ensures.leveled.long) c.settle.ensures.leveled
 
 pub renew-requires-clause-given : goal.renew-requires-clause-given
-renew-requires-clause-given c = open_given c.self.invariant.0 (gate (goal.at.renew-requires-clause-given c).After-seal_slot)
+renew-requires-clause-given c = open_given c.self.invariant.0 (gate (goal.at.renew-requires-clause-given c).After-seal_at)
 
 pub overflow_sub-self : goal.overflow_sub-self
 overflow_sub-self c =
     let C = c.cascade-landed.ensures in
-    shut_few c.self.invariant.0 (gate (goal.at.overflow_sub-self c).After-seal_slot) c.seal_slot.new.heads c.seal_slot.ensures.nodes c.cascade-landed.new.heads C.placed c.cascade-landed.result C.settled C.landed
+    shut_few c.self.invariant.0 (gate (goal.at.overflow_sub-self c).After-seal_at) c.seal_at.new.heads c.seal_at.ensures.nodes c.cascade-landed.new.heads C.placed c.cascade-landed.result C.settled C.landed
 
 pub invariant_of-self : goal.invariant_of-self
 invariant_of-self c =
     let s = c.self.inside in
     let g = c.args.head in
-    let open_gate = gate (goal.at.invariant_of-self c).After-seal_slot in
+    let open_gate = gate (goal.at.invariant_of-self c).After-seal_at in
     let new = c.cascade-landed.new.heads in
     let C = c.cascade-landed.ensures in
-    let cascade = shut_cascade c.self.invariant.0 open_gate c.seal_slot.new.heads c.seal_slot.ensures.nodes new C.placed in
-    let frames : frames_of new.items ≡ frames_of s.heads.items = C.frames ∙ c.seal_slot.ensures.frames in
+    let cascade = shut_cascade c.self.invariant.0 open_gate c.seal_at.new.heads c.seal_at.ensures.nodes new C.placed in
+    let frames : frames_of new.items ≡ frames_of s.heads.items = C.frames ∙ c.seal_at.ensures.frames in
     let heads_long : new.len ≡ s.heads.len = omega (arith, ap length frames, length-map new.items frame_of, length-map s.heads.items frame_of, new.ok.0, s.heads.ok.0) in
     let leveled = leveled_then c.deref-in-Ok-2.ensures.value (ap length c.renew.ensures.floors ∙ c.settle.ensures.leveled.long) c.renew.ensures.leveled in
     let at = (goal.at.invariant_of-self c).After-cascade-landed in
-    let sound = shut_sound c.self.invariant.0 open_gate c.seal_slot.new.heads c.seal_slot.ensures.nodes new C.placed c.cascade-landed.result C.settled C.landed {told = c.cascade-landed.new.standings} {emptied = c.cascade-landed.new.queue} leveled C.spread C.standing C.empty (C.capacity ∙ c.seal_slot.ensures.capacity) in
+    let sound = shut_sound c.self.invariant.0 open_gate c.seal_at.new.heads c.seal_at.ensures.nodes new C.placed c.cascade-landed.result C.settled C.landed {told = c.cascade-landed.new.standings} {emptied = c.cascade-landed.new.queue} leveled C.spread C.standing C.empty (C.capacity ∙ c.seal_at.ensures.capacity) in
     let R = remembered_still s.heads.items new.items (marks at) {now = c.cascade-landed.new.landed} C.listed C.shelf c.self.invariant.1 in
     let as_many : length (remembered_of new.items) ≡ length (remembered_of s.heads.items) = standing_as s.heads.items new.items (marks at) (rising_nodes s.heads.items (rising_sound c.self.invariant.0)) (rising_nodes new.items (rising_sound sound)) in (
       with_prepared
           sound
           (if_prepared c.self.invariant.0 (IsPrepared new s.ends c.renew.new.levels s.needs s.lists s.covers c.cascade-landed.new.queue s.numbers s.blocks) (λ p is k. record {
             ready = put_begun (patches_of s.heads.items) s.numbers s.blocks s.ends.up.walk.marks c.self.invariant.0.keeps g (patches_of new.items) open_gate cascade (remembered_of s.heads.items) (remembered_of new.items) p as_many (head_told s.prepared s.numbers c.requires.0 g p (ap (λ k. k.prepared) c.self.view_is ∙ c.requires.1) c.requires.2 is) k.ready;
-            places = places_kept heads_long (C.places ∙ c.seal_slot.ensures.places) (c.renew.ensures.room.0 ∙ c.settle.ensures.room.0, c.renew.ensures.room.1 ∙ c.settle.ensures.room.1) k.places;
-            waits = omega (arith, heads_long, C.capacity, c.seal_slot.ensures.capacity, k.waits);
+            places = places_kept heads_long (C.places ∙ c.seal_at.ensures.places) (c.renew.ensures.room.0 ∙ c.settle.ensures.room.0, c.renew.ensures.room.1 ∙ c.settle.ensures.room.1) k.places;
+            waits = omega (arith, heads_long, C.capacity, c.seal_at.ensures.capacity, k.waits);
             around = around_kept new.items s.heads.items frames p k.around;
             runs = k.runs;
             in_list = k.in_list;
@@ -100,23 +100,23 @@ invariant_of-self c =
 
 pub returns-in-Ok-clause-begun : goal.returns-in-Ok-clause-begun
 returns-in-Ok-clause-begun c =
-    let open_gate = gate (goal.at.returns-in-Ok-clause-begun c).After-seal_slot in
+    let open_gate = gate (goal.at.returns-in-Ok-clause-begun c).After-seal_at in
     let s = c.self.inside in
     let before : Known = record { heads = patches_of s.heads.items; numbers = s.numbers; blocks = s.blocks; groups = []; prepared = None } in
     let after : Known = record { heads = patches_of c.cascade-landed.new.heads.items; numbers = s.numbers; blocks = s.blocks; groups = []; prepared = None } in
     rw (← c.self.view_is, seen (goal.at.returns-in-Ok-clause-begun c).After-cascade-landed)
     (begun_known (is_forgotten_in (nodes_of s.heads.items)) before after (view_gone c.self.invariant) c.self.invariant.0.keeps.lawful c.args.head (record {
-      row = inl (record { gate = open_gate; cascade = shut_cascade c.self.invariant.0 open_gate c.seal_slot.new.heads c.seal_slot.ensures.nodes c.cascade-landed.new.heads c.cascade-landed.ensures.placed });
+      row = inl (record { gate = open_gate; cascade = shut_cascade c.self.invariant.0 open_gate c.seal_at.new.heads c.seal_at.ensures.nodes c.cascade-landed.new.heads c.cascade-landed.ensures.placed });
       state = refl;
     }))
 
 pub returns-in-Ok-clause-closed : goal.returns-in-Ok-clause-closed
 returns-in-Ok-clause-closed c = λ is_open.
     let s = c.self.inside in
-    let open_gate = gate (goal.at.returns-in-Ok-clause-closed c).After-seal_slot in
+    let open_gate = gate (goal.at.returns-in-Ok-clause-closed c).After-seal_at in
     let o = subst (λ ps. IsOpenNumber ps c.args.head) (seen (goal.at.returns-in-Ok-clause-closed c).After-cascade-landed) is_open in
     shut_begun (patches_of s.heads.items) s.numbers c.self.invariant.0.keeps.lawful c.args.head (patches_of c.cascade-landed.new.heads.items) open_gate
-    (shut_cascade c.self.invariant.0 open_gate c.seal_slot.new.heads c.seal_slot.ensures.nodes c.cascade-landed.new.heads c.cascade-landed.ensures.placed)
+    (shut_cascade c.self.invariant.0 open_gate c.seal_at.new.heads c.seal_at.ensures.nodes c.cascade-landed.new.heads c.cascade-landed.ensures.placed)
     (record { patch = o.patch; head = (was _ (patches_of c.cascade-landed.new.heads.items) o.patch o.head).0; numbered = o.numbered; is_open = o.is_open })
 
 -- the gate is not open, if it can't be sealed

@@ -2,7 +2,7 @@ use Rattle.std.proofs.Common.{subst}
 use Rattle.fst_types.specs.Facts.{SparseAreLawful}
 use Rattle.fst_heads.specs.{Heads.patches_of, Nodes.{is_forgotten_in, nodes_of}}
 use Rattle.fst_graph.specs.Known.{Known}
-use Rattle.fst_graph.proofs.{GateSlot.seals_if_open, Remembered.remembered_lawful, Sound.view_gone}
+use Rattle.fst_graph.proofs.{GateIndex.seals_if_open, Remembered.remembered_lawful, Sound.view_gone}
 use Rattle.fst_graph.proofs.sparse.Sparse.seal_if_open.Goals as goal
 
 pub returns-clause-sealed : goal.returns-clause-sealed

@@ -1,7 +1,7 @@
 use Rattle.std.proofs.{Common.{◌≡◌, ◌∙◌, ◌<◌, ◌++◌, ◌∷◌, [], ap, arith, get_or, length, subst, sym, take}, lemmas.List.take_more}
-use Rattle.fst_heads.specs.{Heads.patches_of, Slots.HasSlot}
+use Rattle.fst_heads.specs.{Heads.patches_of, Indices.HasIndex}
 use Rattle.fst_walks.specs.{Lifting.IsLifted, Walks.{number_at, numbers_met}}
-use Rattle.fst_walks.proofs.{Raising.{hard_told, lifted_more}, Visiting.{long_met, met_at, slot_at}}
+use Rattle.fst_walks.proofs.{Raising.{hard_told, lifted_more}, Visiting.{index_at, long_met, met_at}}
 use Rattle.fst_walks.proofs.levels.Levels.lift_all.Goals as goal
 
 pub lift_one-requires-clause-aligned : goal.lift_one-requires-clause-aligned
@@ -15,11 +15,11 @@ loop-at-preserved c =
     let heads = c.args.heads.now in
     let walk = c.args.walk.now in
     let at = c.loop-at.at in
-    let n = number_at heads c.slot.result in
+    let n = number_at heads c.index_at.result in
     let met = numbers_met heads walk in
     let lt = c.loop-at-test.true in
     let inside : at < length walk.met = omega (arith, lt, c.len-at-end.ensures.long) in
-    let slot : HasSlot heads n c.slot.result = slot_at heads c.slot.result (omega (arith, c.slot.ensures.inside, c.requires.long)) in
-    let here : get_or met at 0 ≡ n = met_at heads walk at inside ∙ ap (number_at heads) (sym c.slot.ensures.slot) in
+    let index : HasIndex heads n c.index_at.result = index_at heads c.index_at.result (omega (arith, c.index_at.ensures.inside, c.requires.long)) in
+    let here : get_or met at 0 ≡ n = met_at heads walk at inside ∙ ap (number_at heads) (sym c.index_at.ensures.index) in
     subst (λ ms. IsLifted (patches_of heads) ms c.args.to c.args.self.now c.lift_one.new.self) (sym (take_more met at 0 (omega (arith, inside, long_met heads walk)) ∙ ap (λ m. take at met ++ m ∷ []) here))
-    (lifted_more (patches_of heads) (take at met) n c.args.to c.args.self.now c.loop-at.self c.lift_one.new.self (hard_told heads c.requires.rising n c.slot.result slot) c.loop-at.invariant c.lift_one.ensures)
+    (lifted_more (patches_of heads) (take at met) n c.args.to c.args.self.now c.loop-at.self c.lift_one.new.self (hard_told heads c.requires.rising n c.index_at.result index) c.loop-at.invariant c.lift_one.ensures)

@@ -1,7 +1,7 @@
 use Rattle.std.proofs.lemmas.Grind.{common_steps}
 use Rattle.std.proofs.Common.{ap, length, subst, arith}
-use Rattle.fst_heads.specs.{Heads.patches_of, Slots.HasSlot}
-use Rattle.fst_heads.proofs.Slots.{patch_slot, slot_in}
+use Rattle.fst_heads.specs.{Heads.patches_of, Indices.HasIndex}
+use Rattle.fst_heads.proofs.Indices.{index_in, patch_index}
 use Rattle.fst_walks.specs.{Walks.numbers_met}
 use Rattle.fst_walks.proofs.{Floored.{floored, lifted_within}, Raising.hard_told}
 use Rattle.fst_walks.proofs.levels.Levels.lift_met.Goals as goal
@@ -14,8 +14,8 @@ returns-then-rise-clause-leveled c =
     (floored (patches_of heads) c.requires.disk (length c.args.self.now.floors) c.args.block c.args.rise.level (numbers_met heads c.args.walk.now) c.args.self.now c.lift_all.new.self c.requires.leveled may c.requires.inside.0
     (λ n k.
     let live = may.meets.live n k in
-    let at = slot_in heads live.patch live.head in
-    hard_told heads c.requires.rising n at.0 (subst (λ m. HasSlot heads m at.0) live.numbered (patch_slot heads live.patch at.0 at.1 at.2)))
+    let at = index_in heads live.patch live.head in
+    hard_told heads c.requires.rising n at.0 (subst (λ m. HasIndex heads m at.0) live.numbered (patch_index heads live.patch at.0 at.1 at.2)))
     c.lift_all.ensures)
 
 pub returns-else-rise-clause-below : goal.returns-else-rise-clause-below

@@ -11,13 +11,13 @@ raise-requires-clause-rising c = ranks_rise c.args.heads.now c.self.inside.ranks
 pub returns-then-level-clause-leveled : goal.returns-then-level-clause-leveled
 returns-then-level-clause-leveled c =
     let heads = c.args.heads.now in
-    let s = c.args.slot in
+    let s = c.args.index in
     let old : Leveling = record { ranks = c.self.inside.ranks.items; floors = c.self.inside.floors.items; room = c.self.inside.room } in
     let new : Leveling = record { ranks = c.raise.new.ranks.items; floors = c.self.inside.floors.items; room = c.self.inside.room } in
     let first = max_first c.greatest-below.result c.own_level.result in
     let second = max_second c.greatest-below.result c.own_level.result in
     rw (← c.self.view_is)
-    (lowered_is_leveled heads c.requires.rising s c.requires.slot c.index-heads-slot.result c.index-heads-slot.is (length old.floors) c.max-level.result old new
+    (lowered_is_leveled heads c.requires.rising s c.requires.index c.index-heads-index.result c.index-heads-index.is (length old.floors) c.max-level.result old new
     (λ q named.
     let under = c.greatest-below.ensures q (subst (λ row. Contains row q) (sym c.as_slice.ensures) named) in
     subst (λ (v : Leveling). level_of v.ranks q ≤ c.max-level.result) (sym c.self.view_is) (omega (arith, under, first, c.max-level.ensures)))

@@ -1,15 +1,15 @@
 use Rattle.std.proofs.Common.{◌<◌, ◌∙◌, false, length, Contains, sym, subst}
-use Rattle.fst_heads.proofs.Slots.{any_default}
+use Rattle.fst_heads.proofs.Indices.{any_default}
 use Rattle.fst_walks.specs.Walks.{Trail}
-use Rattle.fst_walks.proofs.Trails.{mark_of_slot, met_inside}
+use Rattle.fst_walks.proofs.Trails.{mark_of_index, met_inside}
 use Rattle.fst_walks.proofs.walk.Walk.has_met.Goals as goal
 
 pub returns-clause-met : goal.returns-clause-met
 returns-clause-met c =
     let marks = c.self.inside.marks.items in
-    let s = c.args.slot in
+    let s = c.args.index in
     let lt = subst (λ (t : Trail). s < length t.marks) (sym c.self.view_is) c.requires in (
-      λ e. subst (λ (t : Trail). Contains t.met s) c.self.view_is (c.self.invariant.marked.only s (mark_of_slot marks s c.index.result.now lt c.index.ensures e)),
+      λ e. subst (λ (t : Trail). Contains t.met s) c.self.view_is (c.self.invariant.marked.only s (mark_of_index marks s c.index.result.now lt c.index.ensures e)),
       λ m. c.index.ensures ∙ (any_default marks s c.index.result.now false lt ∙ c.self.invariant.marked.each s (subst (λ (t : Trail). Contains t.met s) (sym c.self.view_is) m)),
     )
 

@@ -3,10 +3,10 @@ use Rattle.std.proofs.Common.{◌≡◌, ℕ, Bool, true, false, List, get_or, C
 use Rattle.std.specs.Prelude.{OnOk, OnErr, IfErr}
 use Rattle.fst_types.specs.{Facts.SparseAreLawful, Gates.{IsGiven, IsOpenNumber, IsSealedNumber, IsGateNumber}, Groups.Group, Order.seal_order}
 use Rattle.fst_types.specs.{Patches.{Kind, Change, Empty, Patch, OpenGate, SealedGate}, Refusals.IsFirst, declared.fault.Fault.Fault, declared.grade.Grade.Grade}
-use Rattle.fst_heads.specs.{Heads.{IsRising, patch_of, patches_of}, Slots.{HasSlot, HasNone}, Nodes.{is_forgotten_in, node_of, nodes_of}, declared.head.Head.Head}
+use Rattle.fst_heads.specs.{Heads.{IsRising, patch_of, patches_of}, Indices.{HasIndex, HasNone}, Nodes.{is_forgotten_in, node_of, nodes_of}, declared.head.Head.Head}
 use Rattle.fst_graph.specs.{Grouping.SealsIfOpen, Known.{Known, unprepared, SealsGate}, Remembered.remembered}
 use Rattle.fst_types.proofs.Crash.{same_number}
-use Rattle.fst_heads.proofs.{Flagged.forgotten_here, PendingAt.node_in, Slots.{any_default, none_slot, patch_at, patch_is, patch_slot, rising_map, slot_in}}
+use Rattle.fst_heads.proofs.{Flagged.forgotten_here, PendingAt.node_in, Indices.{any_default, index_in, none_index, patch_at, patch_index, patch_is, rising_map}}
 use Rattle.fst_graph.proofs.{Remembered.{is, sealed_is, sealed_was, was}, RememberedRules.seal_gone}
 use Rattle.fst_types.specs.declared.fault.Fault.TheVariants as fault
 
@@ -25,18 +25,18 @@ empty_open k e f = cc
 empty_seal : (k : Kind) → k ≡ Empty → k ≡ SealedGate → ⊥
 empty_seal k e f = cc
 
-module _ (heads : List Head) (rising : IsRising heads) (g s : ℕ) (d : Head) (slot : HasSlot heads g s) where
+module _ (heads : List Head) (rising : IsRising heads) (g s : ℕ) (d : Head) (index : HasIndex heads g s) where
   abbrev p : Patch
   p = patch_of (get_or heads s d)
 
   is_it : (x : Patch) → Contains (patches_of heads) x → x.number ≡ g → p ≡ x
-  is_it x c e = patch_is heads x s d rising c (subst (λ n. HasSlot heads n s) (sym e) slot)
+  is_it x c e = patch_is heads x s d rising c (subst (λ n. HasIndex heads n s) (sym e) index)
 
   pub open_number : p.kind ≡ OpenGate → IsOpenNumber (patches_of heads) g
-  open_number e = record { patch = p; head = patch_at heads s d slot.0; numbered = slot.1 d; is_open = e }
+  open_number e = record { patch = p; head = patch_at heads s d index.0; numbered = index.1 d; is_open = e }
 
   pub sealed_number : p.kind ≡ SealedGate → IsSealedNumber (patches_of heads) g
-  sealed_number e = record { patch = p; head = patch_at heads s d slot.0; numbered = slot.1 d; is_sealed = e }
+  sealed_number e = record { patch = p; head = patch_at heads s d index.0; numbered = index.1 d; is_sealed = e }
 
   pub open_kind : IsOpenNumber (patches_of heads) g → p.kind ≡ OpenGate
   open_kind o = ap (λ x. x.kind) (is_it o.patch o.head o.numbered) ∙ o.is_open
@@ -55,8 +55,8 @@ module _ (heads : List Head) (rising : IsRising heads) (g s : ℕ) (d : Head) (s
 
 pub no_gate : (heads : List Head) (g : ℕ) → HasNone heads g → IsGateNumber (patches_of heads) g → ⊥
 no_gate heads g none gate = elim gate [
-  | inl o ↦ let t = slot_in heads o.patch o.head in none_slot heads g t.0 none (subst (λ n. HasSlot heads n t.0) o.numbered (patch_slot heads o.patch t.0 t.1 t.2))
-  | inr o ↦ let t = slot_in heads o.patch o.head in none_slot heads g t.0 none (subst (λ n. HasSlot heads n t.0) o.numbered (patch_slot heads o.patch t.0 t.1 t.2))
+  | inl o ↦ let t = index_in heads o.patch o.head in none_index heads g t.0 none (subst (λ n. HasIndex heads n t.0) o.numbered (patch_index heads o.patch t.0 t.1 t.2))
+  | inr o ↦ let t = index_in heads o.patch o.head in none_index heads g t.0 none (subst (λ n. HasIndex heads n t.0) o.numbered (patch_index heads o.patch t.0 t.1 t.2))
 ]
 
 -- the gates that are not forgotten, of whose heads some are marked
@@ -68,12 +68,12 @@ module _ (heads : List Head) (rising : IsRising heads) (numbers g : ℕ) where
   S = remembered gone (patches_of heads)
 
   -- what its head tells
-  mark_told : (s : ℕ) (d : Head) → HasSlot heads g s → gone g ≡ (get_or heads s d).forgotten
-  mark_told s d slot =
+  mark_told : (s : ℕ) (d : Head) → HasIndex heads g s → gone g ≡ (get_or heads s d).forgotten
+  mark_told s d index =
       let h = get_or heads s d in
-      let there = node_in heads s h slot.0 (any_default heads s d h slot.0) in
+      let there = node_in heads s h index.0 (any_default heads s d h index.0) in
       let rise = rising_map node_of heads (λ h. h.number) (λ x. x.patch.number) (λ h. refl) rising in
-      ap gone (sym (slot.1 d)) ∙ forgotten_here (nodes_of heads) (node_of h) rise there
+      ap gone (sym (index.1 d)) ∙ forgotten_here (nodes_of heads) (node_of h) rise there
 
   gate_was : IsGateNumber S g → IsGateNumber (patches_of heads) g
   gate_was k = elim k [
@@ -86,13 +86,13 @@ module _ (heads : List Head) (rising : IsRising heads) (numbers g : ℕ) where
   none_kept none k = no_gate heads g none (gate_was k)
 
   -- its head is marked
-  pub marked_kept : (s : ℕ) (d : Head) → HasSlot heads g s → (get_or heads s d).forgotten ≡ true → IsGiven numbers g → IsFirst (seal_order S numbers g) fault.NotGate
-  marked_kept s d slot t given = seal_gone gone (patches_of heads) numbers g (mark_told s d slot ∙ t) given
+  pub marked_kept : (s : ℕ) (d : Head) → HasIndex heads g s → (get_or heads s d).forgotten ≡ true → IsGiven numbers g → IsFirst (seal_order S numbers g) fault.NotGate
+  marked_kept s d index t given = seal_gone gone (patches_of heads) numbers g (mark_told s d index ∙ t) given
 
   -- its head is not
-  module _ (s : ℕ) (d : Head) (slot : HasSlot heads g s) (f : (get_or heads s d).forgotten ≡ false) where
+  module _ (s : ℕ) (d : Head) (index : HasIndex heads g s) (f : (get_or heads s d).forgotten ≡ false) where
     known : gone g ≡ false
-    known = mark_told s d slot ∙ f
+    known = mark_told s d index ∙ f
 
     gate_is : IsGateNumber (patches_of heads) g → IsGateNumber S g
     gate_is k = elim k [

@@ -5,9 +5,9 @@ use Rattle.fst_heads.specs.declared.head.Head.{Head}
 use Rattle.fst_heads.specs.declared.test.Test.{Test}
 use Rattle.fst_heads.specs.Tests.{passes}
 
--- the head at the slot has this number
-abbrev pub HasSlot : List Head → ℕ → ℕ → Type 0
-HasSlot heads number slot = (slot < length heads) × ((d : Head) → (slice_index_or heads slot d).number ≡ number)
+-- the head at the index has this number
+abbrev pub HasIndex : List Head → ℕ → ℕ → Type 0
+HasIndex heads number index = (index < length heads) × ((d : Head) → (slice_index_or heads index d).number ≡ number)
 
 -- no head has this number
 abbrev pub HasNone : List Head → ℕ → Type 0

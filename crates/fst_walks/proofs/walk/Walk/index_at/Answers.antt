@@ -2,7 +2,7 @@ use Rattle.std.proofs.Common.{◌<◌, length, Contains, sym, subst}
 use Rattle.std.proofs.lemmas.List.Elements.{Contains-get_or}
 use Rattle.fst_walks.specs.Walks.{Trail}
 use Rattle.fst_walks.proofs.Trails.{met_inside}
-use Rattle.fst_walks.proofs.walk.Walk.slot.Goals as goal
+use Rattle.fst_walks.proofs.walk.Walk.index_at.Goals as goal
 
 pub returns-clause-inside : goal.returns-clause-inside
 returns-clause-inside c =

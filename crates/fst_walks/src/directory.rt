@@ -16,7 +16,7 @@ struct Word {
 /// Which numbers have a head. It has no word as long as none between is missing, since then it need not be asked. It takes 16
 /// bytes for each 64 numbers, some 150,000 at most.
 #[derive(Drop)]
-pub struct Index {
+pub struct Directory {
     base: u32,
     words: Vec<Word>,
 }
@@ -34,10 +34,10 @@ fn begins_at(first: u32, last: u32) -> u32 {
     first.max(last.saturating_sub(NEWEST))
 }
 
-impl Index {
+impl Directory {
     /// Of no number. It takes no memory.
-    pub fn new(alloc: Global) -> Index {
-        Index {
+    pub fn new(alloc: Global) -> Directory {
+        Directory {
             base: 0,
             words: Vec::new(alloc),
         }

@@ -1,11 +1,11 @@
--- The head in one slot hears of another patch, and all that have a number of a row do.
+-- The head at one index hears of another patch, and all that have a number of a row do.
 use Rattle.fst_heads.proofs.Basics.{◌≡◌, ◌≢◌, ℕ, zero, suc, ◌+◌, ◌<◌, ◌==◌, ◌&&◌, Bool, true, false, if◌then◌else◌, List, [], ◌∷◌, ◌++◌, length, map, take, drop, get_or, Contains, AllPairs, append-nil, length-append, refl, sym, ap, subst, ◌∙◌, inl, inr, arith, list_any, cases_eq, and_from, eq-eqb, ne_eqb}
 use Rattle.fst_heads.proofs.Basics.{common_steps, length-map, get_or-map, take_more, take-append-drop, filter-append, list_any-from_Any}
 use Rattle.fst_heads.proofs.Patches.{is_among, In, In-from_Contains, Contains-from_In, In-map, In-unmap}
-use Rattle.fst_heads.proofs.Words.{Head, Pending, IsRising, HasSlot, HasNone, Node, node_of, nodes_of, at_number, plus, minus, follows, rested, hears, wakes, heard, woken}
-use Rattle.fst_heads.proofs.{AtNumber.{at_same, at_other}, Listing.{any_none, any_slot}}
+use Rattle.fst_heads.proofs.Words.{Head, Pending, IsRising, HasIndex, HasNone, Node, node_of, nodes_of, at_number, plus, minus, follows, rested, hears, wakes, heard, woken}
+use Rattle.fst_heads.proofs.{AtNumber.{at_same, at_other}, Listing.{any_index, any_none}}
 use Rattle.fst_heads.proofs.Linking.{map_twice, rising_as, none_among, among_push_other, among_push_same}
-use Rattle.fst_heads.proofs.Slots.{any_default, some_element, slot_head, slot_unique, rising_back}
+use Rattle.fst_heads.proofs.Indices.{any_default, some_element, index_head, index_unique, rising_back}
 use Rattle.fst_heads.proofs.Patches.place
 
 -- what rests keeps all but its place
@@ -47,36 +47,36 @@ pub waits_none : (heads : List Head) (n : ℕ) (p : Node → Bool) (queue : List
     → queue ≡ queue ++ (if list_any (λ x. (x.patch.number == n) && p x) (nodes_of heads) then n ∷ [] else [])
 waits_none heads n p queue none = rw (any_none heads n p none) (sym (append-nil queue))
 
-pub stays_slot : (heads : List Head) (n s : ℕ) (p : Node → Bool) (d : Head) (queue : List ℕ) → IsRising heads → HasSlot heads n s
+pub stays_index : (heads : List Head) (n s : ℕ) (p : Node → Bool) (d : Head) (queue : List ℕ) → IsRising heads → HasIndex heads n s
     → p (node_of (get_or heads s d)) ≡ false
     → queue ≡ queue ++ (if list_any (λ x. (x.patch.number == n) && p x) (nodes_of heads) then n ∷ [] else [])
-stays_slot heads n s p d queue rising slot e = rw (any_slot heads n s p d rising slot, e) (sym (append-nil queue))
+stays_index heads n s p d queue rising index e = rw (any_index heads n s p d rising index, e) (sym (append-nil queue))
 
-pub waits_slot : (heads : List Head) (n s : ℕ) (p : Node → Bool) (d : Head) (queue : List ℕ) → IsRising heads → HasSlot heads n s
+pub waits_index : (heads : List Head) (n s : ℕ) (p : Node → Bool) (d : Head) (queue : List ℕ) → IsRising heads → HasIndex heads n s
     → p (node_of (get_or heads s d)) ≡ true
     → queue ++ n ∷ [] ≡ queue ++ (if list_any (λ x. (x.patch.number == n) && p x) (nodes_of heads) then n ∷ [] else [])
-waits_slot heads n s p d queue rising slot e = rw (any_slot heads n s p d rising slot, e) refl
+waits_index heads n s p d queue rising index e = rw (any_index heads n s p d rising index, e) refl
 
-pub number_in : (heads : List Head) (n s : ℕ) (h : Head) → HasSlot heads n s → h ≡ get_or heads s h → h.number ≡ n
-number_in heads n s h slot e = ap (λ (x : Head). x.number) e ∙ slot.1 h
+pub number_in : (heads : List Head) (n s : ℕ) (h : Head) → HasIndex heads n s → h ≡ get_or heads s h → h.number ≡ n
+number_in heads n s h index e = ap (λ (x : Head). x.number) e ∙ index.1 h
 
--- the node in the slot of a number
-pub node_in_slot : (heads : List Head) (n s : ℕ) (d : Node) → HasSlot heads n s → Contains (nodes_of heads) (get_or (nodes_of heads) s d) × ((get_or (nodes_of heads) s d).patch.number ≡ n)
-node_in_slot heads n s d slot =
-    let e = some_element heads s slot.0 in
-    let is = get_or-map node_of heads s e d slot.0 in (
-      subst (Contains (nodes_of heads)) (sym is) (Contains-from_In (nodes_of heads) (node_of (get_or heads s e)) (In-map node_of heads (get_or heads s e) (node_of (get_or heads s e)) (slot_head heads s e slot.0) refl)),
-      ap (λ (x : Node). x.patch.number) is ∙ slot.1 e,
+-- the node at the index of a number
+pub node_at_index : (heads : List Head) (n s : ℕ) (d : Node) → HasIndex heads n s → Contains (nodes_of heads) (get_or (nodes_of heads) s d) × ((get_or (nodes_of heads) s d).patch.number ≡ n)
+node_at_index heads n s d index =
+    let e = some_element heads s index.0 in
+    let is = get_or-map node_of heads s e d index.0 in (
+      subst (Contains (nodes_of heads)) (sym is) (Contains-from_In (nodes_of heads) (node_of (get_or heads s e)) (In-map node_of heads (get_or heads s e) (node_of (get_or heads s e)) (index_head heads s e index.0) refl)),
+      ap (λ (x : Node). x.patch.number) is ∙ index.1 e,
     )
 
 -- it is the one node with that number
-pub node_is : (heads : List Head) (n s : ℕ) (x d : Node) → IsRising heads → HasSlot heads n s → Contains (nodes_of heads) x → x.patch.number ≡ n → get_or (nodes_of heads) s d ≡ x
-node_is heads n s x d rising slot c e =
+pub node_is : (heads : List Head) (n s : ℕ) (x d : Node) → IsRising heads → HasIndex heads n s → Contains (nodes_of heads) x → x.patch.number ≡ n → get_or (nodes_of heads) s d ≡ x
+node_is heads n s x d rising index c e =
     let r = In-unmap node_of heads x (In-from_Contains (nodes_of heads) x c) in
     let h = Contains-from_In heads r.0 r.1 in
     let number = ap (λ (y : Node). y.patch.number) r.2 ∙ e in
-    let there = slot_unique heads n s h.0 rising slot (h.1, λ b. ap (λ (y : Head). y.number) (any_default heads h.0 b r.0 h.1 ∙ h.2) ∙ number) in
-    get_or-map node_of heads s r.0 d slot.0 ∙ (ap node_of (ap (λ k. get_or heads k r.0) there ∙ h.2) ∙ r.2)
+    let there = index_unique heads n s h.0 rising index (h.1, λ b. ap (λ (y : Head). y.number) (any_default heads h.0 b r.0 h.1 ∙ h.2) ∙ number) in
+    get_or-map node_of heads s r.0 d index.0 ∙ (ap node_of (ap (λ k. get_or heads k r.0) there ∙ h.2) ∙ r.2)
 
 -- where no head has the number no node has it
 pub none_of_number : (heads : List Head) (n : ℕ) (x : Node) → HasNone heads n → Contains (nodes_of heads) x → x.patch.number ≡ n → ⊥
@@ -86,10 +86,10 @@ none_of_number heads n x none c e =
     none h.0 r.0 h.1 (ap (λ (y : Head). y.number) h.2 ∙ (ap (λ (y : Node). y.patch.number) r.2 ∙ e))
 
 -- heads rise where their nodes do
-pub rising_slots : (heads : List Head) → AllPairs (λ x y. x.patch.number < y.patch.number) (nodes_of heads) → IsRising heads
-rising_slots heads rising = rising_back node_of heads (λ h. h.number) (λ x. x.patch.number) (λ h. refl) rising
+pub rising_indices : (heads : List Head) → AllPairs (λ x y. x.patch.number < y.patch.number) (nodes_of heads) → IsRising heads
+rising_indices heads rising = rising_back node_of heads (λ h. h.number) (λ x. x.patch.number) (λ h. refl) rising
 
--- the dependants of the node in a slot
+-- the dependants of the node at an index
 abbrev pub row_at : List Node → ℕ → List ℕ
 row_at nodes s = get_or (map (λ (x : Node). x.dependants) nodes) s []
 
@@ -108,7 +108,7 @@ rows_heard row old new (x ∷ xs) = let first = heard_dependants row old new x i
 pub length_heard : (start : List Node) (heads : List Head) (row : List ℕ) (old new : Pending) → nodes_of heads ≡ map (heard row old new) start → length heads ≡ length start
 length_heard start heads row old new e = sym (length-map heads node_of) ∙ (ap length e ∙ length-map start (heard row old new))
 
--- and the head in a slot keeps the dependants that it had
+-- and the head at an index keeps the dependants that it had
 pub row_now : (start : List Node) (heads : List Head) (row : List ℕ) (old new : Pending) (s : ℕ) (h : Head) → s < length heads → nodes_of heads ≡ map (heard row old new) start
     → h ≡ get_or heads s h → h.dependants.items ≡ row_at start s
 row_now start heads row old new s h lt e at =

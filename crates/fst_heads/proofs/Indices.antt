@@ -1,10 +1,10 @@
--- Slots, numbers and marks.
+-- Indices, numbers and marks.
 use Rattle.fst_heads.proofs.Basics.{◌==◌, cond, find, All, AllPairs, ◌≡◌, ◌≢◌, ℕ, zero, suc, ◌<◌, true, List, [], ◌∷◌, length, get_or, Contains, Some, None, Result, Ok, Err, refl, sym, ap, subst, ◌∙◌, inl, inr, arith, IsSearchInRange, IsBinarySearchResult, IsNonDecreasingBy, map, nat_cmp}
 use Rattle.fst_heads.proofs.Basics.{common_steps, ordering_index, cases_order, cases_lt, eq-eqb, ne_eqb, nat_tests, length-map, get_or-map}
 use Rattle.std.proofs.lemmas.Cmp.{ranked}
 use Rattle.fst_heads.proofs.Patches.{Patch, Rising, DirectlyOn, IsLiveNumber, Place, In, In-from_Contains, Contains-from_In, In-map}
 use Rattle.fst_heads.proofs.Patches.place
-use Rattle.fst_heads.proofs.Words.{is_live_place, Head, IsRising, patch_of, patches_of, HasSlot, HasNone}
+use Rattle.fst_heads.proofs.Words.{is_live_place, Head, IsRising, patch_of, patches_of, HasIndex, HasNone}
 pub use Rattle.std.proofs.lemmas.List.{get_or_default as any_default}
 
 -- an element to stand for the default
@@ -33,23 +33,23 @@ module _ {X : Type 0} (key : X → ℕ) (xs : List X) (rising : AllPairs (λ x y
   compared e = grind (arith, nat_tests)
 
   pub searched_by : (r : Result ℕ ℕ) → IsSearchInRange r (length xs) → IsBinarySearchResult (λ h. nat_cmp (key h) n) xs r
-      → record { found : (slot : ℕ) → r ≡ Ok slot → (slot < length xs) × ((d : X) → key (get_or xs slot d) ≡ n); none : (slot : ℕ) → r ≡ Err slot → All (λ h. key h ≢ n) xs }
-  searched_by (Ok at) in_range equal = record { found = λ slot e. let same : at ≡ slot = cc in subst (λ k. (k < length xs) × ((d : X) → key (get_or xs k d) ≡ n)) same (in_range, λ d. ranked _ n _ (sym (equal d))); none = λ slot e. cc }
+      → record { found : (index : ℕ) → r ≡ Ok index → (index < length xs) × ((d : X) → key (get_or xs index d) ≡ n); none : (index : ℕ) → r ≡ Err index → All (λ h. key h ≢ n) xs }
+  searched_by (Ok at) in_range equal = record { found = λ index e. let same : at ≡ index = cc in subst (λ k. (k < length xs) × ((d : X) → key (get_or xs k d) ≡ n)) same (in_range, λ d. ranked _ n _ (sym (equal d))); none = λ index e. cc }
   searched_by (Err at) in_range parted = record {
-    found = λ slot e. cc;
-    none = λ slot e k d lt same. elim (cases_lt k at) [
+    found = λ index e. cc;
+    none = λ index e k d lt same. elim (cases_lt k at) [
       | inl before ↦ let r = ranked _ n _ (sym ((parted (compared d)).0 k d (omega arith) before)) in omega (arith, r, same)
       | inr after ↦ let r = ranked _ n _ (sym ((parted (compared d)).1 k d after lt)) in omega (arith, r, same)
     ];
   }
 
 pub searched : (heads : List Head) (rising : IsRising heads) (n : ℕ) (r : Result ℕ ℕ) → IsSearchInRange r (length heads) → IsBinarySearchResult (λ h. nat_cmp h.number n) heads r
-    → record { found : (slot : ℕ) → r ≡ Ok slot → HasSlot heads n slot; none : (slot : ℕ) → r ≡ Err slot → HasNone heads n }
+    → record { found : (index : ℕ) → r ≡ Ok index → HasIndex heads n index; none : (index : ℕ) → r ≡ Err index → HasNone heads n }
 searched heads rising n r in_range result = let s = searched_by (λ (h : Head). h.number) heads rising n r in_range result in record { found = s.found; none = s.none }
 
-pub slot_unique : (heads : List Head) (q s t : ℕ) → IsRising heads → HasSlot heads q s → HasSlot heads q t → s ≡ t
-slot_unique [] q s t rising a b = absurd (omega (arith, a.0))
-slot_unique (h ∷ hs) q s t rising a b =
+pub index_unique : (heads : List Head) (q s t : ℕ) → IsRising heads → HasIndex heads q s → HasIndex heads q t → s ≡ t
+index_unique [] q s t rising a b = absurd (omega (arith, a.0))
+index_unique (h ∷ hs) q s t rising a b =
     elim (cases_order s t) [
       | inl e ↦ e
       | inr o ↦ elim o [
@@ -58,46 +58,46 @@ slot_unique (h ∷ hs) q s t rising a b =
       ]
     ]
 
-pub none_slot : (heads : List Head) (q s : ℕ) → HasNone heads q → HasSlot heads q s → ⊥
-none_slot heads q s none h = let d = some_element heads s h.0 in none s d h.0 (h.1 d)
+pub none_index : (heads : List Head) (q s : ℕ) → HasNone heads q → HasIndex heads q s → ⊥
+none_index heads q s none h = let d = some_element heads s h.0 in none s d h.0 (h.1 d)
 
-pub slot_here : (heads : List Head) (s : ℕ) (d : Head) → s < length heads → HasSlot heads (get_or heads s d).number s
-slot_here heads s d lt = (lt, λ e. ap (λ y. y.number) (any_default heads s e d lt))
+pub index_here : (heads : List Head) (s : ℕ) (d : Head) → s < length heads → HasIndex heads (get_or heads s d).number s
+index_here heads s d lt = (lt, λ e. ap (λ y. y.number) (any_default heads s e d lt))
 
--- the slot of a patch
-pub slot_in : (heads : List Head) (x : Patch) → Contains (patches_of heads) x → (s : ℕ) × (s < length heads) × ((d : Head) → patch_of (get_or heads s d) ≡ x)
-slot_in heads x c = grind (arith, common_steps)
+-- the index of a patch
+pub index_in : (heads : List Head) (x : Patch) → Contains (patches_of heads) x → (s : ℕ) × (s < length heads) × ((d : Head) → patch_of (get_or heads s d) ≡ x)
+index_in heads x c = grind (arith, common_steps)
 
-pub patch_slot : (heads : List Head) (x : Patch) (s : ℕ) → s < length heads → ((d : Head) → patch_of (get_or heads s d) ≡ x) → HasSlot heads x.number s
-patch_slot heads x s lt same = (lt, λ d. ap (λ p. p.number) (same d))
+pub patch_index : (heads : List Head) (x : Patch) (s : ℕ) → s < length heads → ((d : Head) → patch_of (get_or heads s d) ≡ x) → HasIndex heads x.number s
+patch_index heads x s lt same = (lt, λ d. ap (λ p. p.number) (same d))
 
-pub slot_head : (heads : List Head) (s : ℕ) (d : Head) → s < length heads → In heads (get_or heads s d)
-slot_head [] s d h = absurd (omega (arith, h))
-slot_head (y ∷ ys) zero d h = inl refl
-slot_head (y ∷ ys) (suc s) d h = inr (slot_head ys s d (omega (arith, h)))
+pub index_head : (heads : List Head) (s : ℕ) (d : Head) → s < length heads → In heads (get_or heads s d)
+index_head [] s d h = absurd (omega (arith, h))
+index_head (y ∷ ys) zero d h = inl refl
+index_head (y ∷ ys) (suc s) d h = inr (index_head ys s d (omega (arith, h)))
 
--- the patch at a slot
+-- the patch at an index
 pub patch_at : (heads : List Head) (s : ℕ) (d : Head) → s < length heads → Contains (patches_of heads) (patch_of (get_or heads s d))
-patch_at heads s d lt = Contains-from_In (patches_of heads) _ (In-map patch_of heads (get_or heads s d) _ (slot_head heads s d lt) refl)
+patch_at heads s d lt = Contains-from_In (patches_of heads) _ (In-map patch_of heads (get_or heads s d) _ (index_head heads s d lt) refl)
 
--- the patch with the number of a slot stands there
-pub patch_is : (heads : List Head) (x : Patch) (s : ℕ) (d : Head) → IsRising heads → Contains (patches_of heads) x → HasSlot heads x.number s → patch_of (get_or heads s d) ≡ x
-patch_is heads x s d rising c slot =
-    let t = slot_in heads x c in
-    subst (λ k. patch_of (get_or heads k d) ≡ x) (slot_unique heads x.number t.0 s rising (patch_slot heads x t.0 t.1 t.2) slot) (t.2 d)
+-- the patch with the number of an index stands there
+pub patch_is : (heads : List Head) (x : Patch) (s : ℕ) (d : Head) → IsRising heads → Contains (patches_of heads) x → HasIndex heads x.number s → patch_of (get_or heads s d) ≡ x
+patch_is heads x s d rising c index =
+    let t = index_in heads x c in
+    subst (λ k. patch_of (get_or heads k d) ≡ x) (index_unique heads x.number t.0 s rising (patch_index heads x t.0 t.1 t.2) index) (t.2 d)
 
--- what the head at a slot names is a direct dependency
-pub direct_at : (heads : List Head) (q r s : ℕ) (d : Head) → HasSlot heads q s → Contains (get_or heads s d).dependencies.items r → DirectlyOn (patches_of heads) q r
-direct_at heads q r s d slot named = record { patch = patch_of (get_or heads s d); head = patch_at heads s d slot.0; numbered = slot.1 d; named = named }
+-- what the head at an index names is a direct dependency
+pub direct_at : (heads : List Head) (q r s : ℕ) (d : Head) → HasIndex heads q s → Contains (get_or heads s d).dependencies.items r → DirectlyOn (patches_of heads) q r
+direct_at heads q r s d index named = record { patch = patch_of (get_or heads s d); head = patch_at heads s d index.0; numbered = index.1 d; named = named }
 
 -- and the head names each direct dependency
-pub named_at : (heads : List Head) (q r s : ℕ) (d : Head) → IsRising heads → HasSlot heads q s → DirectlyOn (patches_of heads) q r → Contains (get_or heads s d).dependencies.items r
-named_at heads q r s d rising slot e =
-    subst (λ p. Contains p.dependencies r) (sym (patch_is heads e.patch s d rising e.head (subst (λ n. HasSlot heads n s) (sym e.numbered) slot))) e.named
+pub named_at : (heads : List Head) (q r s : ℕ) (d : Head) → IsRising heads → HasIndex heads q s → DirectlyOn (patches_of heads) q r → Contains (get_or heads s d).dependencies.items r
+named_at heads q r s d rising index e =
+    subst (λ p. Contains p.dependencies r) (sym (patch_is heads e.patch s d rising e.head (subst (λ n. HasIndex heads n s) (sym e.numbered) index))) e.named
 
 -- a number of a direct dependency belongs to a head
-pub direct_slot : (heads : List Head) (q r : ℕ) → DirectlyOn (patches_of heads) q r → (s : ℕ) × HasSlot heads q s
-direct_slot heads q r e = let t = slot_in heads e.patch e.head in (t.0, subst (λ n. HasSlot heads n t.0) e.numbered (patch_slot heads e.patch t.0 t.1 t.2))
+pub direct_index : (heads : List Head) (q r : ℕ) → DirectlyOn (patches_of heads) q r → (s : ℕ) × HasIndex heads q s
+direct_index heads q r e = let t = index_in heads e.patch e.head in (t.0, subst (λ n. HasIndex heads n t.0) e.numbered (patch_index heads e.patch t.0 t.1 t.2))
 
 -- heads rise as their patches do
 pub rising_heads : (heads : List Head) → Rising (patches_of heads) → IsRising heads
@@ -111,18 +111,18 @@ pub place_live : (p : Place) → (p ≡ place.Disk → ⊥) → is_live_place p 
 place_live place.Disk n = absurd (n refl)
 place_live p n = refl
 
--- a number is live as the head at its slot is
-pub live_at : (heads : List Head) (n s : ℕ) (d : Head) → IsRising heads → HasSlot heads n s → record { 0 : is_live_place (get_or heads s d).place ≡ true → IsLiveNumber (patches_of heads) n; 1 : IsLiveNumber (patches_of heads) n → is_live_place (get_or heads s d).place ≡ true }
-live_at heads n s d rising slot = record {
-  0 = λ e. record { patch = patch_of (get_or heads s d); head = patch_at heads s d slot.0; numbered = slot.1 d; live = live_place (get_or heads s d).place e };
+-- a number is live as the head at its index is
+pub live_at : (heads : List Head) (n s : ℕ) (d : Head) → IsRising heads → HasIndex heads n s → record { 0 : is_live_place (get_or heads s d).place ≡ true → IsLiveNumber (patches_of heads) n; 1 : IsLiveNumber (patches_of heads) n → is_live_place (get_or heads s d).place ≡ true }
+live_at heads n s d rising index = record {
+  0 = λ e. record { patch = patch_of (get_or heads s d); head = patch_at heads s d index.0; numbered = index.1 d; live = live_place (get_or heads s d).place e };
   1 = λ l.
-      let same = patch_is heads l.patch s d rising l.head (subst (λ m. HasSlot heads m s) (sym l.numbered) slot) in
+      let same = patch_is heads l.patch s d rising l.head (subst (λ m. HasIndex heads m s) (sym l.numbered) index) in
       place_live (get_or heads s d).place (λ e. l.live (sym (ap (λ p. p.place) same) ∙ e));
 }
 
 pub not_live_none : (heads : List Head) (n : ℕ) → HasNone heads n → IsLiveNumber (patches_of heads) n → ⊥
 not_live_none heads n none l =
-    let t = slot_in heads l.patch l.head in none_slot heads n t.0 none (subst (λ m. HasSlot heads m t.0) l.numbered (patch_slot heads l.patch t.0 t.1 t.2))
+    let t = index_in heads l.patch l.head in none_index heads n t.0 none (subst (λ m. HasIndex heads m t.0) l.numbered (patch_index heads l.patch t.0 t.1 t.2))
 
 -- the one patch with a number is found
 pub find_patch : (heads : List Patch) (p : Patch) → Rising heads → Contains heads p → find (λ x. x.number == p.number) heads ≡ Some p

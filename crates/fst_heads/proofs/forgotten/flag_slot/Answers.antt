@@ -1,5 +1,0 @@
-use Rattle.fst_heads.proofs.{Basics.ap, Words.node_of, Flagged.{flagged_slot, goes}}
-use Rattle.fst_heads.proofs.forgotten.flag_slot.Goals as goal
-
-pub returns-clause-nodes : goal.returns-clause-nodes
-returns-clause-nodes c = flagged_slot c.args.heads.now.items c.args.number c.args.slot _ c.index_mut.result.now c.requires.rising c.requires.slot (ap (λ h. goes (node_of h)) c.index_mut.ensures.value)
