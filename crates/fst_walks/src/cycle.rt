@@ -126,8 +126,25 @@ fn turn_down(heads: &[Head], ends: &mut Ends, at: usize, looked: &mut Looked) ->
     meets(heads, &ends.down.walk, &ends.up.walk, from).is_some()
 }
 
+// How many the step up from what the walk met there in turn looks at.
+fn row_above(heads: &[Head], walk: &Walk, at: usize) -> usize
+    requires walk { length walk.now.marks ≡ length heads.now }
+    requires at { at < length walk.now.met }
+{
+    heads[walk.index_at(at)].dependants.as_slice().len()
+}
+
+// How many the step down does.
+fn row_below(heads: &[Head], walk: &Walk, at: usize) -> usize
+    requires walk { length walk.now.marks ≡ length heads.now }
+    requires at { at < length walk.now.met }
+{
+    heads[walk.index_at(at)].dependencies.as_slice().len()
+}
+
 // Takes steps up and down, until one walk has met what the other has, or one is at its end. Answers whether they met. The
-// one that has looked at less takes the next step, so that neither goes far where the other has little before it.
+// one that will have looked at less takes the next step, so that neither goes far where the other has little before it, and
+// none begins with the thousands that come after a gate.
 fn walks_meet(heads: &[Head], ends: &mut Ends) -> bool
     requires rising { IsRising heads.now }
     requires linked { AreLinked (nodes_of heads.now) }
@@ -146,7 +163,13 @@ fn walks_meet(heads: &[Head], ends: &mut Ends) -> bool
     let mut up_at = 0;
     let mut down_at = 0;
     while up_at < ends.up.walk.len() && down_at < ends.down.walk.len() {
-        if looked.up <= looked.down {
+        let up = looked
+            .up
+            .saturating_add(row_above(heads, &ends.up.walk, up_at));
+        let down = looked
+            .down
+            .saturating_add(row_below(heads, &ends.down.walk, down_at));
+        if up <= down {
             if turn_up(heads, ends, up_at, &mut looked) {
                 return true;
             }
