@@ -4,8 +4,8 @@
     benchmarks/calls.py [--beside PROGRAM] [--only NAME[,NAME]] [PROGRAM]
 
 For whoever changes what a call looks at: `forget` after each write, a write that is refused each time, a write that leaves
-30,000 changes of its block out, groups that are put after one another before they have a change, patches after old ones
-where others between were forgotten. What looks at all that is there once a call is slow here, and nowhere else. With
+30,000 changes of its block out, groups that are put after one another before they have a change or over thousands that wait
+for a gate, patches after old ones where others between were forgotten. What looks at all that is there once a call is slow here, and nowhere else. With
 --beside a second program plays the same script: it is to give the same replies, and the line ends in `slow` where PROGRAM
 takes three times as long. PROGRAM is the program as `rt run` or `./feather` leaves it; without it `./feather` is used,
 which builds it once.
@@ -247,6 +247,41 @@ def groups_of_one_block():
     return made
 
 
+def groups_behind_a_chain():
+    """A thousand groups of one change, over the end of a chain of 10,000 behind an open gate."""
+    made = Script(2)
+    last = made.gate()
+    for i in range(10_000):
+        last = made.patch(0, i % 4096, [last])
+    for _ in range(1000):
+        group = made.group()
+        made.member(group, 0, (10_000 - 1) % 4096)
+        made.ask("group_close", group=group)
+    return made
+
+
+def group_before_another():
+    """10,000 changes of a group that another comes after, over a block with 20,000 others."""
+    made = Script(1)
+    for i in range(20_000):
+        made.patch(0, i % 4096)
+    first = made.group()
+    made.group(first)
+    for i in range(10_000):
+        made.member(first, 0, 7 * i % 4096)
+    return made
+
+
+def depend_below_many():
+    """A gate that 10,000 patches directly come after gains 2,000 others, behind another gate."""
+    made = Script(2)
+    gates = [made.gate(), made.gate()]
+    behind = [made.patch(i % 2, i // 2 % 4096, [gates[i % 2]]) for i in range(20_000)]
+    for _ in range(2000):
+        made.depend(gates[0], made.dice.choice(behind[1::2]))
+    return made
+
+
 def cycles():
     """A cycle refused again and again, in a chain of 3,000 open gates."""
     made = Script(1)
@@ -273,7 +308,8 @@ def hot():
 
 SHAPES = [
     forget_each, forget_few, forget_nothing, after_old_ones, places, write_beside, refused,
-    forget_one, choose_in_flight, picks, full, one_clean, groups_ahead, groups_of_one_block, cycles, hot,
+    forget_one, choose_in_flight, picks, full, one_clean, groups_ahead, groups_of_one_block, groups_behind_a_chain,
+    group_before_another, depend_below_many, cycles, hot,
 ]
 
 
