@@ -32,9 +32,15 @@ class Guide:
         self.child = subprocess.Popen([program, "play", *words], stdin=subprocess.PIPE, stdout=subprocess.PIPE)
 
     def ask(self, lines):
-        self.child.stdin.write("".join(line + "\n" for line in lines).encode())
-        self.child.stdin.flush()
-        return [self.child.stdout.readline().decode().split() for _ in lines]
+        try:
+            self.child.stdin.write("".join(line + "\n" for line in lines).encode())
+            self.child.stdin.flush()
+        except BrokenPipeError:
+            sys.exit(f"{self.child.args[0]} stopped while it was asked what may be written")
+        replies = [self.child.stdout.readline().decode().split() for _ in lines]
+        if not all(replies):
+            sys.exit(f"{self.child.args[0]} gave no reply when it was asked what may be written")
+        return replies
 
     def close(self):
         self.child.stdin.close()
