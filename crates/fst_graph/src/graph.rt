@@ -55,8 +55,8 @@ impl Drop for Graph {
 }
 
 impl Graph {
-    /// No patch and no group, the numbers up to the given one counting as on disk and forgotten. It takes a byte and a list for each
-    /// block, and is refused as `Memory`.
+    /// No patch and no group, the numbers up to the given one counting as on disk and forgotten. It takes a byte and a list
+    /// for each block, and is refused as `Memory`.
     pub fn new(alloc: Global, shape: Shape, numbers: u32) -> Result<Graph, Fault>
         ensures { MatchResult result (λ g. g ≡ record { heads = []; numbers = numbers; blocks = shape.blocks; groups = []; prepared = None }) (λ f. f ≡ Fault.Memory) }
     {
@@ -133,9 +133,9 @@ impl Graph {
         self.sparse.seal(gate)
     }
 
-    /// The open gate gains the named patches that are not on disk and that it does not have yet. It is refused as
-    /// `NoPatch` where the gate's number was not given, as `NotGate` where it is a group's gate, no gate's or forgotten, as `Sealed`, as
-    /// `BadField` where more than 64 are named, as `NoPatch` where one was never given, as `Cycle` exactly where one is
+    /// The open gate gains the named patches that are not on disk and that it does not have yet. It is refused as `NoPatch`
+    /// where the gate's number was not given, as `NotGate` where it is a group's gate, no gate's or forgotten, as `Sealed`,
+    /// as `BadField` where more than 64 are named, as `NoPatch` where one was never given, as `Cycle` exactly where one is
     /// the gate or depends on it, and as `Memory`.
     pub fn depend(&mut self, gate: PatchNo, on: &[PatchNo]) -> Result<(), Fault>
         ensures ok { OnOk result (DependsGate self.old gate.0 (numbers_of on.now) self.new) }
@@ -228,8 +228,8 @@ impl Graph {
         self.sparse.hard_held(block)
     }
 
-    /// Whether the writable set of the block has a change, where nothing of the block is in flight. It takes no memory, and looks
-    /// at a count.
+    /// Whether the writable set of the block has a change, where nothing of the block is in flight. It takes no memory, and
+    /// looks at a count.
     pub fn has_ready(&self, block: BlockNo) -> bool
         ensures { NoneFlies self.now.heads block.0 → IsTrue result ↔ HasReady self.now.heads block.0 }
     {

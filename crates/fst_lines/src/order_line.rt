@@ -1,6 +1,6 @@
 //! Lines that order patches and change no block: of an empty patch, of what a gate gains, and of the group that a group comes
-//! after. Their members stand in the order `do`, `after`, in the order `do`, `gate`, `on`, and in the order `do`, `group`, `on`;
-//! whatever else such a line may be is left to `serde_json`.
+//! after. Their members stand in the order `do`, `after`, in the order `do`, `gate`, `on`, and in the order `do`, `group`,
+//! `on`; whatever else such a line may be is left to `serde_json`.
 
 ghost use Rattle.std.specs.Prelude.{◌≡◌, List, ℕ, IfSome, codes};
 ghost use Rattle.fst_lines.specs.Parsing.{command};

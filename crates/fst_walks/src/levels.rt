@@ -62,9 +62,9 @@ pub struct Rise {
 }
 
 /// The levels and ancestries of the heads, in their order, and the floors of the blocks. For each block is kept what searches
-/// for a way back to it have looked at since its floor went up last, so that it goes up once that is worth it (`lift`), and of all
-/// how high up one stands that is not at the top (`ease`). Where a head's rank stands is told by a directory of their numbers.
-/// It takes 20 bytes for each head and 12 for each block, and the directory.
+/// for a way back to it have looked at since its floor went up last, so that it goes up once that is worth it (`lift`), and
+/// of all how high up one stands that is not at the top (`ease`). Where a head's rank stands is told by a directory of their
+/// numbers. It takes 20 bytes for each head and 12 for each block, and the directory.
 #[derive(Drop)]
 pub struct Levels {
     ranks: Vec<Rank>,

@@ -21,8 +21,8 @@
 //! kept of the block graph. A walk that crosses blocks keeps besides which it has crossed (`block_walk`), and a search
 //! from both ends has two such (`ends`).
 //!
-//! All of it only reads the heads, and the levels but for lifting and for what comes down with a gate. Each answer is that of the definition, exactly: a
-//! walk that gives up says so.
+//! All of it only reads the heads, and the levels but for lifting and for what comes down with a gate. Each answer is that of
+//! the definition, exactly: a walk that gives up says so.
 #![tactic(auto)]
 
 pub mod ancestors;

@@ -79,8 +79,8 @@ fn meet_low(
     climb_low(sight, walk, crossed, most, limit)
 }
 
-// Whether a new change of the block that stands as high as its floor lifts it, searches having looked at so many patches since it
-// was lifted last: it is tried as often as that doubles. Over a clean block nothing goes up.
+// Whether a new change of the block that stands as high as its floor lifts it, searches having looked at so many patches
+// since it was lifted last: it is tried as often as that doubles. Over a clean block nothing goes up.
 fn is_due(sight: &Sight<'_>, block: u32, row: &[u32], owed: usize) -> bool
     requires sees { Sees sight.now }
     requires block { block < length sight.now.lists.now }

@@ -35,8 +35,8 @@ pub struct Way {
     pub end: u32,
 }
 
-/// What each block needs. Of one block there is room for so many more. `ways` has the known ways, as the numbers of their changes
-/// rise. It takes a list for each block, 12 bytes for each need and 8 for each way.
+/// What each block needs. Of one block there is room for so many more. `ways` has the known ways, as the numbers of their
+/// changes rise. It takes a list for each block, 12 bytes for each need and 8 for each way.
 #[derive(Drop)]
 pub struct Needs {
     lists: Vec<Vec<Need>>,
@@ -148,8 +148,8 @@ impl Needs {
         self.lists[block as usize].as_slice()
     }
 
-    // Room for one way more, if there is memory. Where none is left, ways whose end is on disk are dropped, and room is made for
-    // as many again as then are kept, so that these are looked at seldom.
+    // Room for one way more, if there is memory. Where none is left, ways whose end is on disk are dropped, and room is made
+    // for as many again as then are kept, so that these are looked at seldom.
     fn reserve_way(&mut self, heads: &[Head])
         requires { IsRising heads.now }
         ensures lists { self.new.lists ≡ self.old.lists }

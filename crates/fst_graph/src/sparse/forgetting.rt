@@ -38,9 +38,9 @@ impl Sparse {
         many as u32
     }
 
-    /// Forgets the patches on disk, and answers how many they were. It takes no memory. What is dropped moves the heads behind
-    /// it, so that the heads are only marked until a quarter of all, and no fewer than 4,096, are of patches on disk: then these
-    /// are dropped.
+    /// Forgets the patches on disk, and answers how many they were. It takes no memory. What is dropped moves the heads
+    /// behind it, so that the heads are only marked until a quarter of all, and no fewer than 4,096, are of patches on disk:
+    /// then these are dropped.
     pub fn forget(&mut self) -> u32
         ensures { Forgets self.old result self.new }
     {
