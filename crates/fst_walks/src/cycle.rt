@@ -142,9 +142,37 @@ fn row_below(heads: &[Head], walk: &Walk, at: usize) -> usize
     heads[walk.index_at(at)].dependencies.as_slice().len()
 }
 
-// Takes steps up and down, until one walk has met what the other has, or one is at its end. Answers whether they met. The
-// one that will have looked at less takes the next step, so that neither goes far where the other has little before it, and
-// none begins with the thousands that come after a gate.
+// Up to how many a step looks at in its turn, whatever the other walk has before it.
+const FEW: usize = 64;
+
+// Whether the next step is one up: it is the turn of the walk that has looked at less, but where that is to look at many, of the
+// one that will have looked at less.
+fn goes_up(heads: &[Head], ends: &Ends, up_at: usize, down_at: usize, looked: Looked) -> bool
+    requires over { AreOver heads.now ends.now }
+    requires up { up_at < length ends.now.up.walk.met }
+    requires down { down_at < length ends.now.down.walk.met }
+{
+    let is_turn = looked.up <= looked.down;
+    let row = if is_turn {
+        row_above(heads, &ends.up.walk, up_at)
+    } else {
+        row_below(heads, &ends.down.walk, down_at)
+    };
+    if row <= FEW {
+        return is_turn;
+    }
+    let up = looked
+        .up
+        .saturating_add(row_above(heads, &ends.up.walk, up_at));
+    let down = looked
+        .down
+        .saturating_add(row_below(heads, &ends.down.walk, down_at));
+    up <= down
+}
+
+// Takes steps up and down, until one walk has met what the other has, or one is at its end. Answers whether they met. They
+// take turns so that neither goes far where the other has little before it, and none begins with the thousands that come after
+// a gate.
 fn walks_meet(heads: &[Head], ends: &mut Ends) -> bool
     requires rising { IsRising heads.now }
     requires linked { AreLinked (nodes_of heads.now) }
@@ -163,13 +191,7 @@ fn walks_meet(heads: &[Head], ends: &mut Ends) -> bool
     let mut up_at = 0;
     let mut down_at = 0;
     while up_at < ends.up.walk.len() && down_at < ends.down.walk.len() {
-        let up = looked
-            .up
-            .saturating_add(row_above(heads, &ends.up.walk, up_at));
-        let down = looked
-            .down
-            .saturating_add(row_below(heads, &ends.down.walk, down_at));
-        if up <= down {
+        if goes_up(heads, ends, up_at, down_at, looked) {
             if turn_up(heads, ends, up_at, &mut looked) {
                 return true;
             }

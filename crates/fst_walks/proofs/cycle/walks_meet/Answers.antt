@@ -44,13 +44,13 @@ returns-then-turn_down-clause-meet c _ =
     let met = c.turn_down.ensures.met c.if-turn_down.true in
     (met.0, record { over = c.loop-up_at.invariant.climbs.only met.0 met.1; under = (descended (goal.at.returns-then-turn_down-clause-meet c).After-turn_down).only met.0 met.2 })
 
-pub loop-up_at-preserved-then-up-down : goal.loop-up_at-preserved-then-up-down
-loop-up_at-preserved-then-up-down c =
+pub loop-up_at-preserved-then-goes_up : goal.loop-up_at-preserved-then-goes_up
+loop-up_at-preserved-then-goes_up c =
     let heads = c.args.heads.now in
     let known = c.loop-up_at.invariant in
     record {
       apart = c.turn_up.ensures.apart c.if-turn_up.false;
-      climbs = climbed (goal.at.loop-up_at-preserved-then-up-down c).After-turn_up;
+      climbs = climbed (goal.at.loop-up_at-preserved-then-goes_up c).After-turn_up;
       descends = rw c.turn_up.ensures.down known.descends;
       crossed = (c.turn_up.ensures.crossed ∙ known.crossed.0, rw c.turn_up.ensures.down known.crossed.1);
       few_up = omega (arith, c.loop-up_at-test.true, c.len.ensures.few, known.apart.up.long);
