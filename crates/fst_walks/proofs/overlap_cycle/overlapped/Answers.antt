@@ -3,27 +3,25 @@ use Rattle.fst_types.specs.Dependencies.{DependsOn}
 use Rattle.fst_heads.specs.{Covers.{IsCovered, newest_over}, Heads.patches_of, Lists.{entries_of, entries_on}}
 use Rattle.fst_heads.proofs.{Listing.listed_at, Newest.{over_touched, touched_over}, Touching.touch_parts}
 use Rattle.fst_walks.proofs.Overlapped.{sharing_touched, touched_sharing}
+use Rattle.fst_walks.proofs.overlap_cycle.overlapped.Goals.{After-as_slice-list}
 use Rattle.fst_walks.proofs.overlap_cycle.overlapped.Goals as goal
 
-pub returns-then-span-eq0-clause-only : goal.returns-then-span-eq0-clause-only
-returns-then-span-eq0-clause-only c =
+-- the list has the changes of the block that are not on disk
+listed : (c : After-as_slice-list) → entries_of c.as_slice-list.result.now ≡ entries_on c.args.block (patches_of c.args.sight.now.heads.now)
+listed c =
     let sight = c.args.sight.now in
     let patches = patches_of sight.heads.now in
-    let b = c.args.block in
-    let list = c.as_slice-list.result.now in
-    let listed = subst (λ ls. entries_of ls ≡ entries_on b patches) (sym c.as_slice-list.ensures.value)
-    (ap (λ l. entries_of l.items) (sym c.index-sight-block-then-span-eq0.is) ∙ listed_at (λ l. entries_of l.items) patches sight.lists.now b c.index-sight-block-then-span-eq0.result c.requires.block c.index-sight-block-then-span-eq0.is c.requires.sees.listed) in
-    λ n s. sharing_touched patches b c.args.span.at c.args.span.len (entries_of list) listed n s
+    let list = c.index-sight-block-then-span-eq0 in
+    subst (λ ls. entries_of ls ≡ entries_on c.args.block patches) (sym c.as_slice-list.ensures.value)
+    (ap (λ l. entries_of l.items) (sym list.is) ∙ listed_at (λ l. entries_of l.items) patches sight.lists.now c.args.block list.result c.requires.block list.is c.requires.sees.listed)
+
+pub returns-then-span-eq0-clause-only : goal.returns-then-span-eq0-clause-only
+returns-then-span-eq0-clause-only c n s =
+    sharing_touched (patches_of c.args.sight.now.heads.now) c.args.block c.args.span.at c.args.span.len (entries_of c.as_slice-list.result.now) (listed (goal.at.returns-then-span-eq0-clause-only c).After-as_slice-list) n s
 
 pub returns-then-span-eq0-clause-above : goal.returns-then-span-eq0-clause-above
-returns-then-span-eq0-clause-above c =
-    let sight = c.args.sight.now in
-    let patches = patches_of sight.heads.now in
-    let b = c.args.block in
-    let list = c.as_slice-list.result.now in
-    let listed = subst (λ ls. entries_of ls ≡ entries_on b patches) (sym c.as_slice-list.ensures.value)
-    (ap (λ l. entries_of l.items) (sym c.index-sight-block-then-span-eq0.is) ∙ listed_at (λ l. entries_of l.items) patches sight.lists.now b c.index-sight-block-then-span-eq0.result c.requires.block c.index-sight-block-then-span-eq0.is c.requires.sees.listed) in
-    λ n t. (n, touched_sharing patches b c.args.span.at c.args.span.len (entries_of list) listed n t, inl refl)
+returns-then-span-eq0-clause-above c n t =
+    (n, touched_sharing (patches_of c.args.sight.now.heads.now) c.args.block c.args.span.at c.args.span.len (entries_of c.as_slice-list.result.now) (listed (goal.at.returns-then-span-eq0-clause-above c).After-as_slice-list) n t, inl refl)
 
 pub returns-clause-above : goal.returns-clause-above
 returns-clause-above c n t =
