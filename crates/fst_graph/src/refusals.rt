@@ -10,7 +10,7 @@ ghost use Rattle.fst_heads.specs.Heads.{patches_of};
 ghost use Rattle.fst_heads.specs.Names.{numbers_of};
 ghost use Rattle.fst_graph.specs.Membering.{OverlapReaches};
 ghost use Rattle.fst_walks.specs.Sights.{Sees};
-ghost use Rattle.fst_walks.specs.Searching.{AreOver, TellsGates};
+ghost use Rattle.fst_walks.specs.Searching.{AreOver};
 
 use fst_heads::row::names_unknown;
 use fst_types::{Fault, MAX_HEADS, MAX_NAMES, MAX_NUMBER, PatchNo, Span, What};
@@ -49,7 +49,6 @@ pub fn make_fault(standing: usize, numbers: u32, after: &[PatchNo]) -> Option<Fa
 /// Whether a change that one with this span overlaps depends on the tail of a group, so that the group cannot have it.
 pub fn reaches_tail(sight: &Sight<'_>, ends: &mut Ends, tail: u32, block: u32, span: Span) -> bool
     requires sees { Sees sight.now }
-    requires gates { TellsGates sight.now.heads.now }
     requires over { AreOver sight.now.heads.now ends.old }
     requires block { block < length sight.now.lists.now }
     requires is_open { IsOpenNumber (patches_of sight.now.heads.now) tail }

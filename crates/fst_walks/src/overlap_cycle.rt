@@ -8,7 +8,7 @@ ghost use Rattle.fst_types.specs.Gates.{IsOpenNumber};
 ghost use Rattle.fst_heads.specs.Heads.{IsRising, patches_of};
 ghost use Rattle.fst_heads.specs.Nodes.{AreLinked, nodes_of};
 ghost use Rattle.fst_heads.specs.Rows.{IsTouched};
-ghost use Rattle.fst_walks.specs.Searching.{AreOver, TellsGates, TouchedReaches};
+ghost use Rattle.fst_walks.specs.Searching.{AreOver, TouchedReaches};
 ghost use Rattle.fst_walks.specs.Sights.{Sees};
 ghost use Rattle.fst_walks.specs.Starting.{IsStart};
 
@@ -60,7 +60,6 @@ pub fn overlap_reaches(
     requires sees { Sees sight.now }
     requires over { AreOver sight.now.heads.now ends.old }
     requires block { block < length sight.now.lists.now }
-    requires gates { TellsGates sight.now.heads.now }
     requires is_open { IsOpenNumber (patches_of sight.now.heads.now) gate }
     ensures reaches { IsTrue result ↔ TouchedReaches (patches_of sight.now.heads.now) gate block span.at span.len }
     ensures over { AreOver sight.now.heads.now ends.new }

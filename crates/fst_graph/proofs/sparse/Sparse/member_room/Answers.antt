@@ -6,7 +6,7 @@ use Rattle.fst_heads.proofs.Linking.{rising_same}
 use Rattle.fst_walks.proofs.Seen.{same_patches}
 use Rattle.fst_graph.specs.{Known.{Known, Refuses}, Membering.{ArePaired, OverlapReaches, member_order}, Ready.{change_of, IsMemberReady, MayBePut}, Sound.{AreSound, remembered_of}}
 use Rattle.fst_graph.proofs.{Borne.ok_of, Flagged.gone_past, MemberReady.{foretold, member_found}, Readied.{member_found_as, member_put}, RememberedRules.{overlap_reaches, paired_was}, RememberedSealing.foretells_known, Reserved.{around_sound, inside_sound, ready_sound}, Shelf.same_view}
-use Rattle.fst_graph.proofs.Sound.{as_many_lists, gates_told, over_both, rising_sound, sees_all, view_gone, walked_then}
+use Rattle.fst_graph.proofs.Sound.{as_many_lists, over_both, rising_sound, sees_all, view_gone, walked_then}
 use Rattle.fst_graph.proofs.sparse.Sparse.member_room.Goals.{After-deref, After-reserve_around-around}
 use Rattle.fst_graph.proofs.sparse.Sparse.member_room.Goals as goal
 
@@ -24,7 +24,6 @@ paired c =
 pub reaches_tail-requires : goal.reaches_tail-requires
 reaches_tail-requires c = record {
   sees = sees_all c.self.invariant.0 _ c.deref.ensures.value c.deref-2.ensures.value c.deref-3.ensures.value refl refl;
-  gates = rw c.deref.ensures.value (gates_told c.self.invariant.0);
   over = rw c.deref.ensures.value (over_both c.self.invariant.0);
   block = omega (arith, inside (goal.at.reaches_tail-requires c).After-deref, as_many_lists c.self.invariant.0, ap length c.deref-2.ensures.value);
   is_open = rw c.deref.ensures.value (paired (goal.at.reaches_tail-requires c).After-deref).tail_open;
