@@ -60,8 +60,8 @@ settled_all nodes blocks each = record {
 }
 
 -- where its direct dependencies have the same pending
-pub settled_told : (told other : ℕ → Pending) (blocks : ℕ) (x : Node) → ((n : ℕ) → Contains x.patch.dependencies n → other n ≡ told n) → SettledAt told blocks x → SettledAt other blocks x
-settled_told told other blocks x same s = record {
+pub settled_recorded : (told other : ℕ → Pending) (blocks : ℕ) (x : Node) → ((n : ℕ) → Contains x.patch.dependencies n → other n ≡ told n) → SettledAt told blocks x → SettledAt other blocks x
+settled_recorded told other blocks x same s = record {
   summed = s.summed ∙ sym (sums_same told other x.patch.dependencies same);
   settled = s.settled ∙ ap (λ j. of_kind x.patch.kind x.patch.place j) (sym (joined_same told other x.patch.dependencies same));
   placed = s.placed;
@@ -176,11 +176,11 @@ module _ (nodes : List Node) (numbers blocks : ℕ) (p : Patch) (H : SparseAreLa
       elim (made_was nodes numbers p H.one_place_each next rising live a ca) [
         | inl x ↦
             subst (SettledAt (pending_in (with_node nodes p)) blocks) x.2
-            (settled_told (pending_in nodes) (pending_in (with_node nodes p)) blocks (linked_to p.dependencies p.number x.0) (old_told x.0 x.1)
+            (settled_recorded (pending_in nodes) (pending_in (with_node nodes p)) blocks (linked_to p.dependencies p.number x.0) (old_told x.0 x.1)
             (settled_linked (pending_in nodes) blocks p.dependencies p.number x.0 (settled_in nodes blocks S x.0 x.1)))
         | inr d ↦
             subst (SettledAt (pending_in (with_node nodes p)) blocks) d
-            (settled_told (pending_in nodes) (pending_in (with_node nodes p)) blocks (new_node nodes p) (λ n c. same_told n (named_small n c)) new_settled)
+            (settled_recorded (pending_in nodes) (pending_in (with_node nodes p)) blocks (new_node nodes p) (λ n c. same_told n (named_small n c)) new_settled)
       ])
 
 -- an open gate that gains names
@@ -217,7 +217,7 @@ module _ (nodes : List Node) (numbers blocks g : ℕ) (names : List ℕ) (H : Sp
   depends_settled =
       settled_all (with_names nodes g names sums) blocks (λ a ca.
       let x = named_was g names sums nodes a ca in
-      settled_told (pending_in nodes) (pending_in (with_names nodes g names sums)) blocks a (λ n c. names_told n)
+      settled_recorded (pending_in nodes) (pending_in (with_names nodes g names sums)) blocks a (λ n c. names_told n)
       (subst (SettledAt (pending_in nodes) blocks) x.2 (settled_linked (pending_in nodes) blocks names g (at_number g (gains_names names sums) x.0) (gained_settled x.0 x.1))))
 
 -- what is ready is in memory
@@ -238,6 +238,6 @@ dropped_settled nodes numbers blocks H S =
     let new = filter (λ (x : Node). is_live x.patch) nodes in
     settled_all new blocks (λ a ca.
     let was = filter_in (λ (x : Node). is_live x.patch) nodes a (In-from_Contains new a ca) in
-    settled_told (pending_in nodes) (pending_in new) blocks a
+    settled_recorded (pending_in nodes) (pending_in new) blocks a
     (λ n c. pending_dropped nodes H.one_place_each.rising (λ x h dead. (S.placed x (Contains-from_In nodes x h)).1 (on_disk x.patch.place dead)) n)
     (settled_in nodes blocks S a (Contains-from_In nodes a was.0)))

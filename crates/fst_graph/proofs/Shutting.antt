@@ -3,7 +3,7 @@ use Rattle.std.proofs.Common.{length, ◌≡◌, ◌≤◌, ◌<◌, ◌+◌, �
 use Rattle.std.proofs.lemmas.List.{length-map}
 use Rattle.std.specs.Global.{Vec}
 use Rattle.fst_types.specs.{Cascade.{IsCascadeOf, unsettled}, Gates.IsOpenNumber, Gating.sealed}
-use Rattle.fst_heads.specs.{Covers.Covering, Heads.{IsRising, patch_of, patches_of}, Keeps.Keeps, Indices.HasIndex, Nodes.{node_of, nodes_of, at_number, AreDistinct, AreLinked, AreSettled}, Pendings.Sinks, Spreading.{is_waiting, seals, wakes_sealed, IsSpreadOf, Spreading}}
+use Rattle.fst_heads.specs.{Covers.Covering, Heads.{IsRising, patch_of, patches_of}, Keeps.Keeps, Indices.HasIndex, Nodes.{node_of, nodes_of, at_number, AreDistinct, AreLinked, AreSettled}, Pendings.Sinks, Spreading.{is_waiting, seals, enqueued_sealed, IsSpreadOf, Spreading}}
 use Rattle.fst_heads.specs.{Standings.AllStand, declared.head.Head.Head, declared.lists.Listed.Listed, declared.standing.Standing.Standing}
 use Rattle.fst_walks.specs.{Leveling.{IsLeveled, Leveling}, Needing.Needing, declared.ends.Ends.Ends}
 use Rattle.fst_graph.specs.{Sound.AreSound, declared.prepared.Prepared.Prepared as Stored}
@@ -16,7 +16,7 @@ module _ {heads : Vec Head} {ends : Ends} {levels : Leveling} {needs : Needing} 
     (S : AreSound heads ends levels needs lists covers standings queue live unmarked numbers blocks o) {g : ℕ} (gate : IsOpenNumber (patches_of heads.items) g)
     (mid : Vec Head) (shut : nodes_of mid.items ≡ map (at_number g seals) (nodes_of heads.items)) where
   -- what comes to rest may be told from there
-  pub shut_ready : {waits : List ℕ} {cap : ℕ} → waits ≡ queue.items ++ wakes_sealed g (nodes_of heads.items) → cap ≡ queue.cap → standings.len ≤ 65535
+  pub shut_ready : {waits : List ℕ} {cap : ℕ} → waits ≡ queue.items ++ enqueued_sealed g (nodes_of heads.items) → cap ≡ queue.cap → standings.len ≤ 65535
       → record {
         start : Spreading Sinks (nodes_of mid.items) standings.len waits;
         linked : AreLinked (nodes_of mid.items);
@@ -52,8 +52,8 @@ module _ {heads : Vec Head} {ends : Ends} {levels : Leveling} {needs : Needing} 
     keeps_shut = keeps_sealed (patches_of heads.items) (patches_of new.items) numbers blocks g ends.up.walk.marks ends.up.walk.marks S.keeps gate shut_cascade refl
 
     -- the gate may come down from the top
-    pub shut_settles : {index : ℕ} → HasIndex heads.items g index → record { rising : IsRising new.items; index : index < length new.items; leveled : IsLeveled (patches_of new.items) (length levels.floors) levels }
-    shut_settles at = record {
+    pub shut_lowers : {index : ℕ} → HasIndex heads.items g index → record { rising : IsRising new.items; index : index < length new.items; leveled : IsLeveled (patches_of new.items) (length levels.floors) levels }
+    shut_lowers at = record {
       rising = rising_heads new.items keeps_shut.lawful.one_place_each.rising;
       index = let lt = at.0 in omega (arith, lt, length_alike (patches_of heads.items) (patches_of new.items) alike_shut, length-map heads.items patch_of, length-map new.items patch_of);
       leveled = subst (λ n. IsLeveled (patches_of new.items) n levels) (sym S.leveled.long) (leveled_moved alike_shut S.leveled);

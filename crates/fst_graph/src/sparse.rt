@@ -194,7 +194,7 @@ impl Sparse {
             &mut self.standings,
             &mut self.landed,
         );
-        self.levels.settle(&self.heads, index);
+        self.levels.lower(&self.heads, index);
         // The tail gate of a group gained its changes without a look at its ancestors, and gains no more.
         renew(&mut self.levels, &self.heads, gate.0);
         self.live -= landed;

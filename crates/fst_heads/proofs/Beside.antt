@@ -1,7 +1,7 @@
 -- What calls leave of the count of patches that are not on disk.
 use Rattle.fst_heads.proofs.Basics.{cond_both, ◌≡◌, ℕ, ◌+◌, ◌-◌, ◌≤◌, ◌==◌, Bool, true, false, cond, List, [], ◌∷◌, ◌++◌, map, filter, count_by, refl, sym, ap, subst, ◌∙◌, inl, inr, arith, cases_Bool, rules, suc, ◌<◌, not, AllPairs, cases_eq, false≢true, common_steps}
 use Rattle.fst_heads.proofs.Patches.{max_heads, Place, gains, Patch, is_among, is_at, is_live, In, In-from_Contains, Contains-from_In}
-use Rattle.fst_heads.proofs.Words.{Head, patches_of, Beside, Node, nodes_of, at_number, linked_to, AreSettled, is_waiting, seals, Pending, patches_in, is_pending, Sinks, is_told, now, settles, heard}
+use Rattle.fst_heads.proofs.Words.{Head, patches_of, Beside, Node, nodes_of, at_number, linked_to, AreSettled, is_waiting, seals, Pending, patches_in, is_pending, Sinks, is_recorded, now, recorded, notified}
 use Rattle.fst_heads.proofs.{Added.{new_node, with_node}, AtNumber.{patches_in_nodes, at_same, at_other}, CountsAs.{count_append, count_cons, count_kept, count_map}}
 use Rattle.fst_heads.proofs.Forgetting.{live_place_of}
 use Rattle.fst_heads.proofs.Patches.place
@@ -12,8 +12,8 @@ use Rattle.fst_heads.proofs.Words.pending
 pub at_number_told : (n : ℕ) (f : Node → Node) (x : Node) → (f x).pending ≡ x.pending → (at_number n f x).pending ≡ x.pending
 at_number_told n f x same = grind (arith, cases_eq, at_same, at_other)
 
-pub waiting_heard : (row : List ℕ) (old new : Pending) (nodes : List Node) → count_by is_waiting (map (heard row old new) nodes) ≡ count_by is_waiting nodes
-waiting_heard row old new nodes = grind (arith, count_map, cases_Bool)
+pub waiting_notified : (row : List ℕ) (old new : Pending) (nodes : List Node) → count_by is_waiting (map (notified row old new) nodes) ≡ count_by is_waiting nodes
+waiting_notified row old new nodes = grind (arith, count_map, cases_Bool)
 
 abbrev pub one_if : Bool → ℕ
 one_if t = cond t 1 0
@@ -27,10 +27,10 @@ one_of true = refl
 one_of false = refl
 
 -- where nothing is pending now of one that waited, one less waits
-pub waiting_settles : (nodes : List Node) (q : ℕ) (here : Node) → AllPairs (λ x y. x.patch.number < y.patch.number) nodes → In nodes here → here.patch.number ≡ q → is_waiting here ≡ true
-    → count_by is_waiting (map (at_number q settles) nodes) + cond (is_pending (now here) pending.Nothing) 1 0 ≡ count_by is_waiting nodes
-waiting_settles [] q here rising i e waits = absurd i
-waiting_settles (x ∷ xs) q here rising i e waits =
+pub waiting_recorded : (nodes : List Node) (q : ℕ) (here : Node) → AllPairs (λ x y. x.patch.number < y.patch.number) nodes → In nodes here → here.patch.number ≡ q → is_waiting here ≡ true
+    → count_by is_waiting (map (at_number q recorded) nodes) + cond (is_pending (now here) pending.Nothing) 1 0 ≡ count_by is_waiting nodes
+waiting_recorded [] q here rising i e waits = absurd i
+waiting_recorded (x ∷ xs) q here rising i e waits =
     let behind : (y : Node) → In xs y → x.patch.number < y.patch.number = λ y j.
     let k = In-from_Contains xs y (Contains-from_In xs y j) in
     let c = Contains-from_In xs y j in
@@ -39,9 +39,9 @@ waiting_settles (x ∷ xs) q here rising i e waits =
     elim i [
       | inl same ↦ grind (arith, common_steps, count_map, at_other, at_same, one_of, count_cons)
       | inr j ↦
-          let first = ap one_if (ap is_waiting (at_other q settles x (λ n. omega (arith, n, behind here j, e)))) in
+          let first = ap one_if (ap is_waiting (at_other q recorded x (λ n. omega (arith, n, behind here j, e)))) in
           let b = count_cons is_waiting x xs in
-          omega (arith, count_cons is_waiting (at_number q settles x) (map (at_number q settles) xs), b, first, waiting_settles xs q here rest j e waits)
+          omega (arith, count_cons is_waiting (at_number q recorded x) (map (at_number q recorded) xs), b, first, waiting_recorded xs q here rest j e waits)
     ]
 
 -- with a new node no more than one waits besides
@@ -56,8 +56,8 @@ is_nothing pending.Nothing e = refl
 is_nothing p e = absurd (false≢true e)
 
 -- where its dependants know other than is pending now it waits
-pub waits_untold : (x : Node) → Sinks x.pending (now x) → is_told x ≡ false → is_waiting x ≡ true
-waits_untold x sinks untold = grind (arith, cases_Bool, is_nothing, false≢true)
+pub waits_stale : (x : Node) → Sinks x.pending (now x) → is_recorded x ≡ false → is_waiting x ≡ true
+waits_stale x sinks stale = grind (arith, cases_Bool, is_nothing, false≢true)
 
 -- between calls those wait that are not on disk
 pub waiting_is : (nodes : List Node) (blocks : ℕ) → AreSettled nodes blocks → (x : Node) → In nodes x → is_waiting x ≡ is_live x.patch

@@ -2,7 +2,7 @@
 use Rattle.fst_heads.proofs.Basics.{◌≡◌, ◌≢◌, ℕ, zero, suc, ◌+◌, ◌<◌, ◌==◌, ◌&&◌, Bool, true, false, if◌then◌else◌, List, [], ◌∷◌, ◌++◌, length, map, take, drop, get_or, Contains, AllPairs, append-nil, length-append, refl, sym, ap, subst, ◌∙◌, inl, inr, arith, list_any, cases_eq, and_from, eq-eqb, ne_eqb}
 use Rattle.fst_heads.proofs.Basics.{common_steps, length-map, get_or-map, take_more, take-append-drop, filter-append, list_any-from_Any}
 use Rattle.fst_heads.proofs.Patches.{is_among, In, In-from_Contains, Contains-from_In, In-map, In-unmap}
-use Rattle.fst_heads.proofs.Words.{Head, Pending, IsRising, HasIndex, HasNone, Node, node_of, nodes_of, at_number, plus, minus, follows, rested, hears, wakes, heard, woken}
+use Rattle.fst_heads.proofs.Words.{Head, Pending, IsRising, HasIndex, HasNone, Node, node_of, nodes_of, at_number, plus, minus, follows, rested, updated, enqueues, notified, enqueued}
 use Rattle.fst_heads.proofs.{AtNumber.{at_same, at_other}, Listing.{any_index, any_none}}
 use Rattle.fst_heads.proofs.Linking.{map_twice, rising_as, none_among, among_push_other, among_push_same}
 use Rattle.fst_heads.proofs.Indices.{any_default, some_element, index_head, index_unique, rising_back}
@@ -29,18 +29,18 @@ module _ (x : Node) where
   rested_sums = rested_keeps.sums
 
 -- those that hear keep their numbers and their dependants
-heard_keeps : (b : Bool) (old new : Pending) (x : Node) → record { number : (if b then hears old new x else x).patch.number ≡ x.patch.number; dependants : (if b then hears old new x else x).dependants ≡ x.dependants }
-heard_keeps true old new x = let k = rested_keeps (record x { sums = plus new (minus old x.sums) }) in record { number = k.number; dependants = k.dependants }
-heard_keeps false old new x = record { number = refl; dependants = refl }
+notified_keeps : (b : Bool) (old new : Pending) (x : Node) → record { number : (if b then updated old new x else x).patch.number ≡ x.patch.number; dependants : (if b then updated old new x else x).dependants ≡ x.dependants }
+notified_keeps true old new x = let k = rested_keeps (record x { sums = plus new (minus old x.sums) }) in record { number = k.number; dependants = k.dependants }
+notified_keeps false old new x = record { number = refl; dependants = refl }
 
-heard_number : (row : List ℕ) (old new : Pending) (x : Node) → (heard row old new x).patch.number ≡ x.patch.number
-heard_number row old new x = (heard_keeps (is_among row x.patch.number) old new x).number
+notified_number : (row : List ℕ) (old new : Pending) (x : Node) → (notified row old new x).patch.number ≡ x.patch.number
+notified_number row old new x = (notified_keeps (is_among row x.patch.number) old new x).number
 
-heard_dependants : (row : List ℕ) (old new : Pending) (x : Node) → (heard row old new x).dependants ≡ x.dependants
-heard_dependants row old new x = (heard_keeps (is_among row x.patch.number) old new x).dependants
+notified_dependants : (row : List ℕ) (old new : Pending) (x : Node) → (notified row old new x).dependants ≡ x.dependants
+notified_dependants row old new x = (notified_keeps (is_among row x.patch.number) old new x).dependants
 
-heard_other : (row : List ℕ) (old new : Pending) (x : Node) → is_among row x.patch.number ≡ false → heard row old new x ≡ x
-heard_other row old new x e = rw e refl
+notified_other : (row : List ℕ) (old new : Pending) (x : Node) → is_among row x.patch.number ≡ false → notified row old new x ≡ x
+notified_other row old new x e = rw e refl
 
 -- the queue gets no number that passes nowhere
 pub waits_none : (heads : List Head) (n : ℕ) (p : Node → Bool) (queue : List ℕ) → HasNone heads n
@@ -100,35 +100,35 @@ row_is nodes s d lt = sym (get_or-map (λ (x : Node). x.dependants) nodes s d []
 pub at_row : (P : List ℕ → Type 0) (nodes : List Node) (s : ℕ) → s < length nodes → ((d : Node) → P (get_or nodes s d).dependants) → P (row_at nodes s)
 at_row P nodes s lt h = let d = some_element nodes s lt in subst P (row_is nodes s d lt) (h d)
 
-rows_heard : (row : List ℕ) (old new : Pending) (nodes : List Node) → map (λ (x : Node). x.dependants) (map (heard row old new) nodes) ≡ map (λ (x : Node). x.dependants) nodes
-rows_heard row old new [] = refl
-rows_heard row old new (x ∷ xs) = let first = heard_dependants row old new x in let rest = rows_heard row old new xs in cc
+rows_notified : (row : List ℕ) (old new : Pending) (nodes : List Node) → map (λ (x : Node). x.dependants) (map (notified row old new) nodes) ≡ map (λ (x : Node). x.dependants) nodes
+rows_notified row old new [] = refl
+rows_notified row old new (x ∷ xs) = let first = notified_dependants row old new x in let rest = rows_notified row old new xs in cc
 
 -- as many heads as nodes, also where some heard
-pub length_heard : (start : List Node) (heads : List Head) (row : List ℕ) (old new : Pending) → nodes_of heads ≡ map (heard row old new) start → length heads ≡ length start
-length_heard start heads row old new e = sym (length-map heads node_of) ∙ (ap length e ∙ length-map start (heard row old new))
+pub length_notified : (start : List Node) (heads : List Head) (row : List ℕ) (old new : Pending) → nodes_of heads ≡ map (notified row old new) start → length heads ≡ length start
+length_notified start heads row old new e = sym (length-map heads node_of) ∙ (ap length e ∙ length-map start (notified row old new))
 
 -- and the head at an index keeps the dependants that it had
-pub row_now : (start : List Node) (heads : List Head) (row : List ℕ) (old new : Pending) (s : ℕ) (h : Head) → s < length heads → nodes_of heads ≡ map (heard row old new) start
+pub row_now : (start : List Node) (heads : List Head) (row : List ℕ) (old new : Pending) (s : ℕ) (h : Head) → s < length heads → nodes_of heads ≡ map (notified row old new) start
     → h ≡ get_or heads s h → h.dependants.items ≡ row_at start s
 row_now start heads row old new s h lt e at =
     ap (λ (x : Head). x.dependants.items) at
     ∙ (sym (ap (λ (x : Node). x.dependants) (get_or-map node_of heads s h (node_of h) lt))
     ∙ (row_is (nodes_of heads) s (node_of h) (omega (arith, lt, length-map heads node_of))
-    ∙ (ap (λ ns. row_at ns s) e ∙ ap (λ rows. get_or rows s []) (rows_heard row old new start))))
+    ∙ (ap (λ ns. row_at ns s) e ∙ ap (λ rows. get_or rows s []) (rows_notified row old new start))))
 
 -- told of the heads as they stood at the start
-pub row_of : (start now : List Head) (row : List ℕ) (old new : Pending) (s : ℕ) (h : Head) → s < length start → nodes_of now ≡ map (heard row old new) (nodes_of start)
+pub row_of : (start now : List Head) (row : List ℕ) (old new : Pending) (s : ℕ) (h : Head) → s < length start → nodes_of now ≡ map (notified row old new) (nodes_of start)
     → h ≡ get_or now s h → h.dependants.items ≡ row_at (nodes_of start) s
-row_of start now row old new s h lt e at = row_now (nodes_of start) now row old new s h (omega (arith, lt, length_heard (nodes_of start) now row old new e, length-map start node_of)) e at
+row_of start now row old new s h lt e at = row_now (nodes_of start) now row old new s h (omega (arith, lt, length_notified (nodes_of start) now row old new e, length-map start node_of)) e at
 
-pub rising_heard : (start heads : List Head) (row : List ℕ) (old new : Pending) → nodes_of heads ≡ map (heard row old new) (nodes_of start) → IsRising start → IsRising heads
-rising_heard start heads row old new e rising = rising_as (heard row old new) (heard_number row old new) heads start e rising
+pub rising_notified : (start heads : List Head) (row : List ℕ) (old new : Pending) → nodes_of heads ≡ map (notified row old new) (nodes_of start) → IsRising start → IsRising heads
+rising_notified start heads row old new e rising = rising_as (notified row old new) (notified_number row old new) heads start e rising
 
 -- of no row none hears
-pub heard_none : (old new : Pending) (nodes : List Node) → map (heard [] old new) nodes ≡ nodes
-heard_none old new [] = refl
-heard_none old new (x ∷ xs) = ap (λ ys. x ∷ ys) (heard_none old new xs)
+pub notified_none : (old new : Pending) (nodes : List Node) → map (notified [] old new) nodes ≡ nodes
+notified_none old new [] = refl
+notified_none old new (x ∷ xs) = ap (λ ys. x ∷ ys) (notified_none old new xs)
 
 -- a number that stands once in a row is not among those before it
 before_at : (row : List ℕ) → AllPairs (λ m n. m ≢ n) row → (i : ℕ) → i < length row → (m : ℕ) → In (take i row) m → m ≢ get_or row i 0
@@ -147,49 +147,49 @@ module _ (row : List ℕ) (once : AllPairs (λ m n. m ≢ n) row) (i : ℕ) (lt 
   fresh : is_among done next ≡ false
   fresh = none_among done next (before_at row once i lt)
 
-  heard_next : (x : Node) → x.patch.number ≡ next → heard done old new x ≡ x
-  heard_next x e = heard_other done old new x (ap (is_among done) e ∙ fresh)
+  notified_next : (x : Node) → x.patch.number ≡ next → notified done old new x ≡ x
+  notified_next x e = notified_other done old new x (ap (is_among done) e ∙ fresh)
 
   -- a node with the next number did not hear yet
-  pub heard_before : (nodes : List Node) (x : Node) → Contains (map (heard done old new) nodes) x → x.patch.number ≡ next → Contains nodes x
-  heard_before nodes x c e = grind (arith, common_steps, heard_number, heard_next)
+  pub notified_before : (nodes : List Node) (x : Node) → Contains (map (notified done old new) nodes) x → x.patch.number ≡ next → Contains nodes x
+  notified_before nodes x c e = grind (arith, common_steps, notified_number, notified_next)
 
-  heard_push : (x : Node) → at_number next (hears old new) (heard done old new x) ≡ heard (done ++ next ∷ []) old new x
-  heard_push x = elim (cases_eq x.patch.number next) [
+  notified_push : (x : Node) → at_number next (updated old new) (notified done old new x) ≡ notified (done ++ next ∷ []) old new x
+  notified_push x = elim (cases_eq x.patch.number next) [
     | inl same ↦
-        ap (at_number next (hears old new)) (heard_next x same)
-        ∙ (at_same next (hears old new) x same ∙ sym (ap (λ t. if t then hears old new x else x) (ap (is_among (done ++ next ∷ [])) same ∙ among_push_same done next)))
+        ap (at_number next (updated old new)) (notified_next x same)
+        ∙ (at_same next (updated old new) x same ∙ sym (ap (λ t. if t then updated old new x else x) (ap (is_among (done ++ next ∷ [])) same ∙ among_push_same done next)))
     | inr other ↦
-        at_other next (hears old new) (heard done old new x) (λ e. other (sym (heard_number done old new x) ∙ e))
-        ∙ sym (ap (λ t. if t then hears old new x else x) (among_push_other done next x.patch.number (λ e. other (sym e))))
+        at_other next (updated old new) (notified done old new x) (λ e. other (sym (notified_number done old new x) ∙ e))
+        ∙ sym (ap (λ t. if t then updated old new x else x) (among_push_other done next x.patch.number (λ e. other (sym e))))
   ]
 
   -- one more of the row hears
-  pub heard_more : (nodes : List Node) → map (at_number next (hears old new)) (map (heard done old new) nodes) ≡ map (heard (take (i + 1) row) old new) nodes
-  heard_more nodes = rw (take_more row i 0 lt) (map_twice (at_number next (hears old new)) (heard done old new) (heard (done ++ next ∷ []) old new) heard_push nodes)
+  pub notified_more : (nodes : List Node) → map (at_number next (updated old new)) (map (notified done old new) nodes) ≡ map (notified (take (i + 1) row) old new) nodes
+  notified_more nodes = rw (take_more row i 0 lt) (map_twice (at_number next (updated old new)) (notified done old new) (notified (done ++ next ∷ []) old new) notified_push nodes)
 
-  any_next : (nodes : List Node) → list_any (λ x. (x.patch.number == next) && wakes old new x) (map (heard done old new) nodes) ≡ list_any (λ x. (x.patch.number == next) && wakes old new x) nodes
+  any_next : (nodes : List Node) → list_any (λ x. (x.patch.number == next) && enqueues old new x) (map (notified done old new) nodes) ≡ list_any (λ x. (x.patch.number == next) && enqueues old new x) nodes
   any_next [] = refl
   any_next (x ∷ xs) = elim (cases_eq x.patch.number next) [
-    | inl same ↦ rw (heard_next x same, any_next xs) refl
-    | inr other ↦ rw (ne_eqb (heard done old new x).patch.number next (λ e. other (sym (heard_number done old new x) ∙ e)), ne_eqb x.patch.number next other) (any_next xs)
+    | inl same ↦ rw (notified_next x same, any_next xs) refl
+    | inr other ↦ rw (ne_eqb (notified done old new x).patch.number next (λ e. other (sym (notified_number done old new x) ∙ e)), ne_eqb x.patch.number next other) (any_next xs)
   ]
 
-  woken_next : (nodes : List Node) → woken (next ∷ []) old new (map (heard done old new) nodes) ≡ woken (next ∷ []) old new nodes
-  woken_next nodes = ap (λ t. if t then next ∷ [] else []) (any_next nodes)
+  enqueued_next : (nodes : List Node) → enqueued (next ∷ []) old new (map (notified done old new) nodes) ≡ enqueued (next ∷ []) old new nodes
+  enqueued_next nodes = ap (λ t. if t then next ∷ [] else []) (any_next nodes)
 
-  pub woken_more : (nodes : List Node) → woken done old new nodes ++ woken (next ∷ []) old new (map (heard done old new) nodes) ≡ woken (take (i + 1) row) old new nodes
-  woken_more nodes = grind (arith, common_steps, woken_next, filter-append, take_more)
+  pub enqueued_more : (nodes : List Node) → enqueued done old new nodes ++ enqueued (next ∷ []) old new (map (notified done old new) nodes) ≡ enqueued (take (i + 1) row) old new nodes
+  enqueued_more nodes = grind (arith, common_steps, enqueued_next, filter-append, take_more)
 
   -- there is room for what wakes
-  pub woken_room : (nodes : List Node) (x : Node) → Contains (map (heard done old new) nodes) x → x.patch.number ≡ next → wakes old new x ≡ true
-      → length (woken done old new nodes) < length (woken row old new nodes)
-  woken_room nodes x c e w =
-      let now = map (heard done old new) nodes in
-      let hit = list_any-from_Any (λ x. (x.patch.number == next) && wakes old new x) now (c.0, x, c.1, c.2, and_from (x.patch.number == next) (wakes old new x) (eq-eqb x.patch.number next e) w) in
-      let one : woken (next ∷ []) old new now ≡ next ∷ [] = ap (λ t. if t then next ∷ [] else []) hit in
-      let all = ap length (ap (λ ms. woken ms old new nodes) (sym (take-append-drop (i + 1) row)) ∙ filter-append (λ n. list_any (λ x. (x.patch.number == n) && wakes old new x) nodes) (take (i + 1) row) (drop (i + 1) row)) in
-      let before = length-append (woken done old new nodes) (next ∷ []) in
-      let parts = length-append (woken (take (i + 1) row) old new nodes) (woken (drop (i + 1) row) old new nodes) in
+  pub enqueued_room : (nodes : List Node) (x : Node) → Contains (map (notified done old new) nodes) x → x.patch.number ≡ next → enqueues old new x ≡ true
+      → length (enqueued done old new nodes) < length (enqueued row old new nodes)
+  enqueued_room nodes x c e w =
+      let now = map (notified done old new) nodes in
+      let hit = list_any-from_Any (λ x. (x.patch.number == next) && enqueues old new x) now (c.0, x, c.1, c.2, and_from (x.patch.number == next) (enqueues old new x) (eq-eqb x.patch.number next e) w) in
+      let one : enqueued (next ∷ []) old new now ≡ next ∷ [] = ap (λ t. if t then next ∷ [] else []) hit in
+      let all = ap length (ap (λ ms. enqueued ms old new nodes) (sym (take-append-drop (i + 1) row)) ∙ filter-append (λ n. list_any (λ x. (x.patch.number == n) && enqueues old new x) nodes) (take (i + 1) row) (drop (i + 1) row)) in
+      let before = length-append (enqueued done old new nodes) (next ∷ []) in
+      let parts = length-append (enqueued (take (i + 1) row) old new nodes) (enqueued (drop (i + 1) row) old new nodes) in
       let single : length (next ∷ []) ≡ 1 = refl in
-      omega (arith, ap length (sym (ap (λ ms. woken done old new nodes ++ ms) one) ∙ woken_more nodes), all, before, parts, single)
+      omega (arith, ap length (sym (ap (λ ms. enqueued done old new nodes ++ ms) one) ∙ enqueued_more nodes), all, before, parts, single)

@@ -1,7 +1,7 @@
 -- What a cascade leaves of the list of those that landed.
 use Rattle.fst_heads.proofs.Basics.{◌≡◌, ◌≢◌, ◌⊎◌, ◌<◌, ◌≤◌, ◌+◌, ◌==◌, ◌&&◌, ◌++◌, ◌∷◌, [], ◌∙◌, ℕ, Bool, true, false, not, List, length, map, Contains, AllPairs, cond, if◌then◌else◌, refl, sym, ap, subst, inl, inr, arith, cases_Bool, cases_eq, and_parts, and_from, false≢true, length-map, length-append, append-nil, Contains-append_left, Contains-push, Contains-push_cases}
 use Rattle.fst_heads.proofs.Patches.{is_among, In-map, In-from_Contains, Contains-from_In}
-use Rattle.fst_heads.proofs.Words.{Node, Pending, at_number, is_pending, is_waiting, now, follows, rested, plus, minus, settles, hears, heard, AreLanded, is_landed}
+use Rattle.fst_heads.proofs.Words.{Node, Pending, at_number, is_pending, is_waiting, now, follows, rested, plus, minus, recorded, updated, notified, AreLanded, is_landed}
 use Rattle.fst_heads.proofs.{AtNumber.{at_other, at_same}, Beside.is_nothing, Placed.unmapped, Waiting.{once_append, once_fits, same_node}}
 use Rattle.fst_heads.proofs.Patches.place
 use Rattle.fst_heads.proofs.Words.pending
@@ -88,12 +88,12 @@ to_disk false x = record { number = refl; pending = refl; forgotten = refl }
 pub rested_as : (x : Node) → IsAs x (rested x)
 rested_as x = to_disk (follows x.patch.kind && (x.sums.count == 0)) x
 
-heard_if : (t : Bool) (old new : Pending) (x : Node) → IsAs x (if t then hears old new x else x)
-heard_if true old new x = let k = rested_as (record x { sums = plus new (minus old x.sums) }) in record { number = k.number; pending = k.pending; forgotten = k.forgotten }
-heard_if false old new x = record { number = refl; pending = refl; forgotten = refl }
+notified_if : (t : Bool) (old new : Pending) (x : Node) → IsAs x (if t then updated old new x else x)
+notified_if true old new x = let k = rested_as (record x { sums = plus new (minus old x.sums) }) in record { number = k.number; pending = k.pending; forgotten = k.forgotten }
+notified_if false old new x = record { number = refl; pending = refl; forgotten = refl }
 
-heard_as : (row : List ℕ) (old new : Pending) (x : Node) → IsAs x (heard row old new x)
-heard_as row old new x = heard_if (is_among row x.patch.number) old new x
+notified_as : (row : List ℕ) (old new : Pending) (x : Node) → IsAs x (notified row old new x)
+notified_as row old new x = notified_if (is_among row x.patch.number) old new x
 
 pub length_if : (ns : List ℕ) (t : Bool) (n : ℕ) → length (ns ++ (if t then n ∷ [] else [])) ≡ length ns + cond t 1 0
 length_if ns true n = omega (arith, length-append ns (n ∷ []))
@@ -103,7 +103,7 @@ length_if ns false n = omega (arith, length-append ns [])
 module _ (nodes : List Node) (landed : List ℕ) (q : ℕ) (here : Node) (rising : AllPairs (λ a b. a.patch.number < b.patch.number) nodes)
     (A : AreLanded nodes landed) (c : Contains nodes here) (e : here.patch.number ≡ q) (waits : is_waiting here ≡ true) where
   abbrev next : List Node
-  next = map (at_number q settles) nodes
+  next = map (at_number q recorded) nodes
 
   waits_not : here.pending ≡ pending.Nothing → ⊥
   waits_not none = false≢true (sym (ap (λ p. not (is_pending p pending.Nothing)) none) ∙ waits)
@@ -115,19 +115,19 @@ module _ (nodes : List Node) (landed : List ℕ) (q : ℕ) (here : Node) (rising
   landed_not = elim (cases_Bool (is_landed here)) [ inl t ↦ absurd (waits_not (is_nothing here.pending (and_parts (not here.forgotten) _ t).1)) | inr f ↦ f ]
 
   -- a node was the one that is settled, or is as it was
-  was : (y : Node) → Contains next y → (y ≡ settles here) ⊎ (Contains nodes y × (y.patch.number ≢ q))
+  was : (y : Node) → Contains next y → (y ≡ recorded here) ⊎ (Contains nodes y × (y.patch.number ≢ q))
   was y k =
-      let r = unmapped (at_number q settles) nodes y k in
+      let r = unmapped (at_number q recorded) nodes y k in
       elim (cases_eq r.0.patch.number q) [
-        | inl same ↦ inl (sym r.2 ∙ (at_same q settles r.0 same ∙ ap settles (same_node nodes r.0 here rising r.1 c (same ∙ sym e))))
-        | inr other ↦ let is = sym r.2 ∙ at_other q settles r.0 other in inr (subst (Contains nodes) (sym is) r.1, λ n. other (sym (ap (λ (z : Node). z.patch.number) is) ∙ n))
+        | inl same ↦ inl (sym r.2 ∙ (at_same q recorded r.0 same ∙ ap recorded (same_node nodes r.0 here rising r.1 c (same ∙ sym e))))
+        | inr other ↦ let is = sym r.2 ∙ at_other q recorded r.0 other in inr (subst (Contains nodes) (sym is) r.1, λ n. other (sym (ap (λ (z : Node). z.patch.number) is) ∙ n))
       ]
 
   there : (x : Node) → Contains nodes x → x.patch.number ≢ q → Contains next x
-  there x k other = Contains-from_In next x (In-map (at_number q settles) nodes x x (In-from_Contains nodes x k) (at_other q settles x other))
+  there x k other = Contains-from_In next x (In-map (at_number q recorded) nodes x x (In-from_Contains nodes x k) (at_other q recorded x other))
 
-  there_now : Contains next (settles here)
-  there_now = Contains-from_In next (settles here) (In-map (at_number q settles) nodes here (settles here) (In-from_Contains nodes here c) (at_same q settles here e))
+  there_now : Contains next (recorded here)
+  there_now = Contains-from_In next (recorded here) (In-map (at_number q recorded) nodes here (recorded here) (In-from_Contains nodes here c) (at_same q recorded here e))
 
   -- it was none of those that landed
   off : Contains landed q → ⊥
@@ -146,12 +146,12 @@ module _ (nodes : List Node) (landed : List ℕ) (q : ℕ) (here : Node) (rising
   only_next n h = let o = A.only n h in (o.0, there o.0 o.1 (λ same. off (subst (Contains landed) (sym o.2 ∙ same) h)), o.2, o.3)
 
   -- where nothing is pending of it now, it landed
-  settles_landed : is_pending (now here) pending.Nothing ≡ true → AreLanded next (landed ++ q ∷ [])
-  settles_landed none = record {
+  recorded_landed : is_pending (now here) pending.Nothing ≡ true → AreLanded next (landed ++ q ∷ [])
+  recorded_landed none = record {
     gone = gone_next;
     only = λ n h. elim (Contains-push_cases landed q n h) [
       | inl o ↦ only_next n o
-      | inr same ↦ (settles here, there_now, e ∙ same, and_from _ _ (ap not kept) none)
+      | inr same ↦ (recorded here, there_now, e ∙ same, and_from _ _ (ap not kept) none)
     ];
     each = λ y k t. elim (was y k) [
       | inl same ↦ subst (Contains (landed ++ q ∷ [])) (sym (ap (λ (z : Node). z.patch.number) same ∙ e)) (Contains-push landed q)
@@ -160,8 +160,8 @@ module _ (nodes : List Node) (landed : List ℕ) (q : ℕ) (here : Node) (rising
     once = once_append landed (q ∷ []) A.once (λ i j d lt inside. absurd (omega (arith, lt, inside))) (λ n h one. off (subst (Contains landed) (alone q n one) h));
   }
 
-  settles_waiting : is_pending (now here) pending.Nothing ≡ false → AreLanded next landed
-  settles_waiting some = record {
+  recorded_waiting : is_pending (now here) pending.Nothing ≡ false → AreLanded next landed
+  recorded_waiting some = record {
     gone = gone_next;
     only = only_next;
     each = λ y k t. elim (was y k) [
@@ -171,13 +171,13 @@ module _ (nodes : List Node) (landed : List ℕ) (q : ℕ) (here : Node) (rising
     once = A.once;
   }
 
-  settles_noted : AreLanded next (landed ++ (if is_pending (now here) pending.Nothing then q ∷ [] else []))
-  settles_noted = elim (cases_Bool (is_pending (now here) pending.Nothing)) [ inl t ↦ rw t (settles_landed t) | inr f ↦ rw (f, append-nil landed) (settles_waiting f) ]
+  recorded_noted : AreLanded next (landed ++ (if is_pending (now here) pending.Nothing then q ∷ [] else []))
+  recorded_noted = elim (cases_Bool (is_pending (now here) pending.Nothing)) [ inl t ↦ rw t (recorded_landed t) | inr f ↦ rw (f, append-nil landed) (recorded_waiting f) ]
 
   -- and those that hear of it stay so
-  pub told_noted : (row : List ℕ) (old new : Pending) → AreLanded (map (heard row old new) next) (landed ++ (if is_pending (now here) pending.Nothing then q ∷ [] else []))
-  told_noted row old new = landed_map (heard row old new) next _ (heard_as row old new) settles_noted
+  pub notified_noted : (row : List ℕ) (old new : Pending) → AreLanded (map (notified row old new) next) (landed ++ (if is_pending (now here) pending.Nothing then q ∷ [] else []))
+  notified_noted row old new = landed_map (notified row old new) next _ (notified_as row old new) recorded_noted
 
   -- it has a place among them
   pub place_noted : is_pending (now here) pending.Nothing ≡ true → length landed < length nodes
-  place_noted none = omega (arith, landed_few next (landed ++ q ∷ []) (settles_landed none), length-append landed (q ∷ []), length-map nodes (at_number q settles))
+  place_noted none = omega (arith, landed_few next (landed ++ q ∷ []) (recorded_landed none), length-append landed (q ∷ []), length-map nodes (at_number q recorded))

@@ -1,9 +1,9 @@
 -- How a launch begins to spread, and what it leaves.
 use Rattle.fst_heads.proofs.Basics.{◌≡◌, ◌⊎◌, ◌<◌, ◌==◌, ℕ, Bool, true, false, List, [], ◌∷◌, Some, map, filter, AllPairs, if◌then◌else◌, refl, sym, ap, subst, ◌∙◌, inl, inr, arith, cases_Bool, cases_eq, and_parts, and_from, both_ways, false_from_ne_true, eq-eqb, ne_eqb}
 use Rattle.fst_heads.proofs.Patches.{SparseAreLawful, Kind, Change, block_of_kind, is_change_at, launched, filter_in, in_filter, In, In-map, In-unmap, In-from_Contains, Contains-from_In, no_follower_on}
-use Rattle.fst_heads.proofs.Words.{Head, patches_of, nodes_of, Pending, IsInside, Node, patches_in, pending_in, AreSettled, IsOf, join, joined_sums, of_kind, Rises, Spreading, IsRisenOf, unrisen, now, is_told, launches, is_ready_on, is_held_on, ready_on, held_on, is_pending}
+use Rattle.fst_heads.proofs.Words.{Head, patches_of, nodes_of, Pending, IsInside, Node, patches_in, pending_in, AreSettled, IsOf, join, joined_sums, of_kind, Rises, Spreading, IsRisenOf, unrisen, now, is_recorded, launches, is_ready_on, is_held_on, ready_on, held_on, is_pending}
 use Rattle.fst_heads.proofs.{AtNumber.patches_in_nodes, Going.{rises_way}, Joining.{meet_same, meet_other}, Pended.now_at_rest, Placed.{patches_launched, launches_number, launched_links}, Indices.rising_back}
-use Rattle.fst_heads.proofs.{Stands.{goes, stays, none_ready, held_as, launched_other}, Starting.{Begins, Sound, begun, sound_at_rest, settled_spread, numbers_once, stays_told}, Turning.{same_pending, not_told, untold}, Waiting.{map_twice, pending_of, pending_node, pending_mapped}}
+use Rattle.fst_heads.proofs.{Stands.{goes, stays, none_ready, held_as, launched_other}, Starting.{Begins, Sound, begun, sound_at_rest, settled_spread, numbers_once, stays_recorded}, Turning.{same_pending, not_recorded, stale}, Waiting.{map_twice, pending_of, pending_node, pending_mapped}}
 use Rattle.fst_types.proofs.Landing.{change_at}
 use Rattle.fst_heads.proofs.Patches.place
 use Rattle.fst_heads.proofs.Words.pending
@@ -33,9 +33,9 @@ tested c y z p (inl e) = rw (p, e) (refl, refl)
 tested c y z p (inr off) = rw (p, off) (refl, refl)
 
 -- other is pending by a launch only where a flight is pending then
-pub rises_untold : (b : ℕ) (x : Node) → Rises b x.pending (now x) → is_told x ≡ false → (x.pending ≡ pending.Block b) × (now x ≡ pending.Behind b)
-rises_untold b x (inl e) u = absurd (untold x u e)
-rises_untold b x (inr s) u = s
+pub rises_stale : (b : ℕ) (x : Node) → Rises b x.pending (now x) → is_recorded x ≡ false → (x.pending ≡ pending.Block b) × (now x ≡ pending.Behind b)
+rises_stale b x (inl e) u = absurd (stale x u e)
+rises_stale b x (inr s) u = s
 
 -- over nothing but changes of b in memory a flight of b is all that is pending
 below_flies : (b : ℕ) (below : Pending) → join (pending.Block b) below ≡ pending.Block b → join (pending.Behind b) below ≡ pending.Behind b
@@ -91,11 +91,11 @@ module _ (nodes : List Node) (numbers blocks b : ℕ) (H : SparseAreLawful (patc
     | inr e ↦ subst (λ y. Sound (Rises b) y blocks) (sym (stays nodes rising b x (In-from_Contains nodes x c) e)) (sound_at_rest (rises_way b) nodes numbers blocks H inside S x c)
   ]
 
-  launches_untold : (x : Node) → Contains nodes x → is_ready_on b x ≡ true → is_told (launches chosen x) ≡ false
-  launches_untold x c e =
+  launches_stale : (x : Node) → Contains nodes x → is_ready_on b x ≡ true → is_recorded (launches chosen x) ≡ false
+  launches_stale x c e =
       let r = is_ready x c e in
-      subst (λ y. is_told y ≡ false) (sym (goes nodes rising b x (In-from_Contains nodes x c) e))
-      (not_told (record x { patch = record x.patch { place = place.Flight } }) (λ same. let off = sym r.flies ∙ (same ∙ r.waits) in cc))
+      subst (λ y. is_recorded y ≡ false) (sym (goes nodes rising b x (In-from_Contains nodes x c) e))
+      (not_recorded (record x { patch = record x.patch { place = place.Flight } }) (λ same. let off = sym r.flies ∙ (same ∙ r.waits) in cc))
 
   launch_begins : Begins (Rises b) nodes blocks (launches chosen) chosen
   launch_begins = record {
@@ -107,10 +107,10 @@ module _ (nodes : List Node) (numbers blocks b : ℕ) (H : SparseAreLawful (patc
         let r = In-unmap (λ (x : Node). x.patch.number) (filter (is_ready_on b) nodes) n (In-from_Contains chosen n c) in
         let k = filter_in (is_ready_on b) nodes r.0 r.1 in
         let there = Contains-from_In nodes r.0 k.0 in
-        (r.0, there, r.2, launches_untold r.0 there k.1);
+        (r.0, there, r.2, launches_stale r.0 there k.1);
     waits = λ x c u. elim (cases_Bool (is_ready_on b x)) [
       | inl e ↦ Contains-from_In chosen x.patch.number (In-map (λ (y : Node). y.patch.number) (filter (is_ready_on b) nodes) x x.patch.number (in_filter (is_ready_on b) nodes x (In-from_Contains nodes x c) e) refl)
-      | inr e ↦ absurd (both_ways (is_told x) (subst (λ y. is_told y ≡ false) (stays nodes rising b x (In-from_Contains nodes x c) e) u) (stays_told nodes blocks S x c))
+      | inr e ↦ absurd (both_ways (is_recorded x) (subst (λ y. is_recorded y ≡ false) (stays nodes rising b x (In-from_Contains nodes x c) e) u) (stays_recorded nodes blocks S x c))
     ];
     once = numbers_once (λ (x : Node). x.patch.number) (is_ready_on b) nodes rising;
   }

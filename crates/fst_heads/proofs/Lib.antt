@@ -28,7 +28,7 @@ pub mod Stands
 pub mod Turning
 pub mod Going
 pub mod Waiting
-pub mod Telling
+pub mod Notifying
 pub mod Popping
 pub mod Pended
 pub mod Starting

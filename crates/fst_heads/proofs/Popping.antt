@@ -1,16 +1,16 @@
 -- A number is taken from the queue of a cascade: its head is settled, and its dependants are told.
 use Rattle.fst_heads.proofs.Basics.{cond_both, ◌≡◌, ◌≢◌, ◌+◌, ◌<◌, ◌≤◌, ◌==◌, ℕ, false, List, [], ◌∷◌, ◌++◌, length, map, get_or, Contains, AllPairs, length-append, refl, sym, ap, subst, ◌∙◌, arith, length-map, get_or-map}
 use Rattle.fst_heads.proofs.Patches.{IsCascadeOf}
-use Rattle.fst_heads.proofs.Words.{Head, Pending, IsRising, patches_of, HasIndex, Node, node_of, nodes_of, patches_in, at_number, AreLinked, AreDistinct, Fits, max_block, Spreading, IsSpreadOf, CanHear, now, is_told, settles, heard, woken, pending_in, IsRisenOf}
+use Rattle.fst_heads.proofs.Words.{Head, Pending, IsRising, patches_of, HasIndex, Node, node_of, nodes_of, patches_in, at_number, AreLinked, AreDistinct, Fits, max_block, Spreading, IsSpreadOf, CanUpdate, now, is_recorded, recorded, notified, enqueued, pending_in, IsRisenOf}
 use Rattle.fst_heads.proofs.{AtNumber.{at_same, patches_in_nodes}, Linking.rising_as, Indices.some_element, Indexed.{node_at_index, node_is, rising_indices}}
 use Rattle.fst_heads.proofs.{Starting.cascaded_spread, Carried.{linked_spread, distinct_spread}}
-use Rattle.fst_heads.proofs.Telling.{spreading_fits, queue_fits, last_waits, live, can_hear, spreads_on, spread_of, each_goes, risen, nearer}
+use Rattle.fst_heads.proofs.Notifying.{spreading_fits, queue_fits, last_waits, live, can_update, spreads_on, spread_of, each_goes, risen, nearer}
 use Rattle.fst_heads.proofs.{Going.OneWay, Waiting.distance}
 use Rattle.fst_heads.proofs.Words.pending
 
 -- the heads rise where one was settled
-pub rising_settled : (q : ℕ) (old new : List Head) → nodes_of new ≡ map (at_number q settles) (nodes_of old) → IsRising old → IsRising new
-rising_settled q old new e rising = rising_as (at_number q settles) (λ x. cond_both (x.patch.number == q) _ _ (λ (y : Node). y.patch.number ≡ x.patch.number) (λ t. refl) (λ f. refl)) new old e rising
+pub rising_settled : (q : ℕ) (old new : List Head) → nodes_of new ≡ map (at_number q recorded) (nodes_of old) → IsRising old → IsRising new
+rising_settled q old new e rising = rising_as (at_number q recorded) (λ x. cond_both (x.patch.number == q) _ _ (λ (y : Node). y.patch.number ≡ x.patch.number) (λ t. refl) (λ f. refl)) new old e rising
 
 module _ {goes : Pending → Pending → Type 0} {far : Pending → ℕ} (way : OneWay goes far) (heads : List Head) (blocks : ℕ) (queue : List ℕ) (q s : ℕ) (narrow : blocks ≤ max_block)
     (S : Spreading goes (nodes_of heads) blocks (queue ++ q ∷ [])) (linked : AreLinked (nodes_of heads)) (distinct : AreDistinct (nodes_of heads)) (found : HasIndex heads q s) where
@@ -18,7 +18,7 @@ module _ {goes : Pending → Pending → Type 0} {far : Pending → ℕ} (way : 
   nodes = nodes_of heads
 
   abbrev settled : List Node
-  settled = map (at_number q settles) nodes
+  settled = map (at_number q recorded) nodes
 
   -- the node that is settled
   abbrev here : Node
@@ -39,16 +39,16 @@ module _ {goes : Pending → Pending → Type 0} {far : Pending → ℕ} (way : 
   pub fits_there : (d : Node) → Fits (get_or nodes s d).sums
   fits_there d = spreading_fits nodes blocks (queue ++ q ∷ []) narrow S (get_or nodes s d) (node_at_index heads q s d found).0
 
-  pub untold_there : (d : Node) → is_told (get_or nodes s d) ≡ false
-  untold_there d =
+  pub stale_there : (d : Node) → is_recorded (get_or nodes s d) ≡ false
+  stale_there d =
       let x = last_waits nodes blocks queue q S in
-      subst (λ y. is_told y ≡ false) (sym (node_is heads q s x.0 d (rising_indices heads S.rising) found x.1 x.2)) x.3
+      subst (λ y. is_recorded y ≡ false) (sym (node_is heads q s x.0 d (rising_indices heads S.rising) found x.1 x.2)) x.3
 
   -- settle_at settles it
   module _ (was is : Pending) (after : List Node) (old : (d : Node) → was ≡ (get_or nodes s d).pending) (new : (d : Node) → is ≡ now (get_or nodes s d))
-      (settled : (d : Node) → after ≡ map (at_number (get_or nodes s d).patch.number settles) nodes) where
-    pub after_is : after ≡ map (at_number q settles) nodes
-    after_is = settled here ∙ ap (λ n. map (at_number n settles) nodes) (number_there here)
+      (settled : (d : Node) → after ≡ map (at_number (get_or nodes s d).patch.number recorded) nodes) where
+    pub after_is : after ≡ map (at_number q recorded) nodes
+    after_is = settled here ∙ ap (λ n. map (at_number n recorded) nodes) (number_there here)
 
     was_is : was ≡ here.pending
     was_is = old here ∙ ap (λ (x : Node). x.pending) (stands_there here)
@@ -59,7 +59,7 @@ module _ {goes : Pending → Pending → Type 0} {far : Pending → ℕ} (way : 
     row_after : (d : Node) → (get_or after s d).dependants ≡ here.dependants
     row_after d =
         ap (λ ns. (get_or ns s d).dependants) after_is
-        ∙ ap (λ (x : Node). x.dependants) (get_or-map (at_number q settles) nodes s d d (omega (arith, found.0, length-map heads node_of)) ∙ (ap (at_number q settles) (stands_there d) ∙ at_same q settles here here_number))
+        ∙ ap (λ (x : Node). x.dependants) (get_or-map (at_number q recorded) nodes s d d (omega (arith, found.0, length-map heads node_of)) ∙ (ap (at_number q recorded) (stands_there d) ∙ at_same q recorded here here_number))
 
     -- what `tell` asks for
     pub once_after : (d : Node) → AllPairs (λ m n. m ≢ n) (get_or after s d).dependants
@@ -68,28 +68,28 @@ module _ {goes : Pending → Pending → Type 0} {far : Pending → ℕ} (way : 
     pub live_after : was ≢ pending.Nothing
     live_after e = live way nodes blocks queue q here narrow S linked distinct here_in here_number (sym was_is ∙ e)
 
-    pub hears_after : (y d : Node) → Contains after y → Contains (get_or after s d).dependants y.patch.number → CanHear was y
-    hears_after y d c named =
-        subst (λ p. CanHear p y) (sym was_is)
-        (can_hear way nodes blocks queue q here narrow S linked distinct here_in here_number y (subst (λ ns. Contains ns y) after_is c) (subst (λ ms. Contains ms y.patch.number) (row_after d) named))
+    pub updated_after : (y d : Node) → Contains after y → Contains (get_or after s d).dependants y.patch.number → CanUpdate was y
+    updated_after y d c named =
+        subst (λ p. CanUpdate p y) (sym was_is)
+        (can_update way nodes blocks queue q here narrow S linked distinct here_in here_number y (subst (λ ns. Contains ns y) after_is c) (subst (λ ms. Contains ms y.patch.number) (row_after d) named))
 
     abbrev told : List Node
-    told = map (heard here.dependants here.pending (now here)) (map (at_number q settles) nodes)
+    told = map (notified here.dependants here.pending (now here)) (map (at_number q recorded) nodes)
 
-    told_after : (d : Node) → map (heard (get_or after s d).dependants was is) after ≡ told
+    told_after : (d : Node) → map (notified (get_or after s d).dependants was is) after ≡ told
     told_after d = grind (arith, row_after, was_is, is_now, after_is)
 
-    woken_after : (d : Node) → woken (get_or after s d).dependants was is after ≡ woken here.dependants here.pending (now here) (map (at_number q settles) nodes)
-    woken_after d = grind (arith, row_after, was_is, is_now, after_is)
+    enqueued_after : (d : Node) → enqueued (get_or after s d).dependants was is after ≡ enqueued here.dependants here.pending (now here) (map (at_number q recorded) nodes)
+    enqueued_after d = grind (arith, row_after, was_is, is_now, after_is)
 
-    spreads : Spreading goes told blocks (queue ++ woken here.dependants here.pending (now here) (map (at_number q settles) nodes))
+    spreads : Spreading goes told blocks (queue ++ enqueued here.dependants here.pending (now here) (map (at_number q recorded) nodes))
     spreads = spreads_on way nodes blocks queue q here narrow S linked distinct here_in here_number
 
-    pub room_after : (d : Node) → length queue + length (woken (get_or after s d).dependants was is after) ≤ length heads
+    pub room_after : (d : Node) → length queue + length (enqueued (get_or after s d).dependants was is after) ≤ length heads
     room_after d =
-        let fits = queue_fits told blocks (queue ++ woken here.dependants here.pending (now here) (map (at_number q settles) nodes)) spreads in
-        let long = length-map (map (at_number q settles) nodes) (heard here.dependants here.pending (now here)) ∙ (length-map nodes (at_number q settles) ∙ length-map heads node_of) in
-        omega (arith, fits, length-append queue (woken here.dependants here.pending (now here) (map (at_number q settles) nodes)), long, ap length (woken_after d))
+        let fits = queue_fits told blocks (queue ++ enqueued here.dependants here.pending (now here) (map (at_number q recorded) nodes)) spreads in
+        let long = length-map (map (at_number q recorded) nodes) (notified here.dependants here.pending (now here)) ∙ (length-map nodes (at_number q recorded) ∙ length-map heads node_of) in
+        omega (arith, fits, length-append queue (enqueued here.dependants here.pending (now here) (map (at_number q recorded) nodes)), long, ap length (enqueued_after d))
 
     -- what stands after it
     pub record Turn (next : List Node) (longer : List ℕ) : Type 0 where
@@ -101,10 +101,10 @@ module _ {goes : Pending → Pending → Type 0} {far : Pending → ℕ} (way : 
       pub are_distinct : AreDistinct next
       pub falls : distance far next < distance far nodes
 
-    pub turned : (next : List Node) (longer : List ℕ) → ((d : Node) → next ≡ map (heard (get_or after s d).dependants was is) after) → ((d : Node) → longer ≡ queue ++ woken (get_or after s d).dependants was is after) → Turn next longer
+    pub turned : (next : List Node) (longer : List ℕ) → ((d : Node) → next ≡ map (notified (get_or after s d).dependants was is) after) → ((d : Node) → longer ≡ queue ++ enqueued (get_or after s d).dependants was is after) → Turn next longer
     turned next longer ns qs =
         let same : next ≡ told = ns here ∙ told_after here in
-        let more : longer ≡ queue ++ woken here.dependants here.pending (now here) (map (at_number q settles) nodes) = qs here ∙ ap (λ ms. queue ++ ms) (woken_after here) in
+        let more : longer ≡ queue ++ enqueued here.dependants here.pending (now here) (map (at_number q recorded) nodes) = qs here ∙ ap (λ ms. queue ++ ms) (enqueued_after here) in
         let spread = spread_of way nodes blocks queue q here narrow S linked distinct here_in here_number in
         rw (same, more) (record {
           spreading = spreads;

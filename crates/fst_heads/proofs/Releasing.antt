@@ -1,7 +1,7 @@
 -- What becomes of the counts of each block where what is pending of one patch is settled.
 use Rattle.fst_heads.proofs.Basics.{◌≡◌, ◌≢◌, ℕ, ◌+◌, ◌<◌, ◌&&◌, Bool, true, false, cond, List, length, count_by, set, get_or, refl, sym, ap, subst, ◌∙◌, arith, length-set, cases_eq, eq-eqb, ne_eqb, false≢true, length-map, get_or-map, rules, map-set, common_steps}
 use Rattle.fst_heads.proofs.{Basics.{sum_by-set, get_or-le-sum_by, count_by-le-length}, Patches.{Grade, Change, is_at, is_on, is_change_at}}
-use Rattle.fst_heads.proofs.Words.{Head, kind_of, patch_of, Standing, Node, node_of, nodes_of, is_pending, Sinks, now, is_told, settles, AllStand, is_ready_on, is_held_on, is_flying_on, standing_of, released, is_hard_kind}
+use Rattle.fst_heads.proofs.Words.{Head, kind_of, patch_of, Standing, Node, node_of, nodes_of, is_pending, Sinks, now, is_recorded, recorded, AllStand, is_ready_on, is_held_on, is_flying_on, standing_of, released, is_hard_kind}
 use Rattle.fst_heads.proofs.{CountsAs.{CountsAs, standing_same, stand_set, off_as}, Turning.is_itself, Beside.one_if}
 use Rattle.fst_heads.proofs.Patches.place
 use Rattle.fst_heads.proofs.Words.pending
@@ -11,9 +11,9 @@ pub node_at : (heads : List Head) (s : ℕ) (h : Head) (d : Node) → s < length
 node_at heads s h d lt e = get_or-map node_of heads s h d lt ∙ ap node_of (sym e)
 
 -- where the dependants of a change in memory know other than is pending of it, it waited for more than its block
-pub waited_for_more : (x : Node) (b at len : ℕ) (grade : Grade) → x.patch.kind ≡ Change b at len grade → x.patch.place ≡ place.Memory → Sinks x.pending (now x) → is_told x ≡ false
+pub waited_for_more : (x : Node) (b at len : ℕ) (grade : Grade) → x.patch.kind ≡ Change b at len grade → x.patch.place ≡ place.Memory → Sinks x.pending (now x) → is_recorded x ≡ false
     → is_pending x.pending (pending.Block b) ≡ false
-waited_for_more x b at len grade kind memory sinks untold = grind (arith, false≢true, is_itself)
+waited_for_more x b at len grade kind memory sinks stale = grind (arith, false≢true, is_itself)
 
 module _ (nodes : List Node) (s : ℕ) (x : Node) (lt : s < length nodes) (e : get_or nodes s x ≡ x) where
   -- a count where the node is another
@@ -34,45 +34,45 @@ module _ (nodes : List Node) (s : ℕ) (x : Node) (lt : s < length nodes) (e : g
   pub counted_some : (t : Node → Bool) → t x ≡ true → 0 < count_by t nodes
   counted_some t passes = grind (arith, get_or-le-sum_by, one_if)
 
-  module _ (b at len : ℕ) (grade : Grade) (kind : x.patch.kind ≡ Change b at len grade) (memory : x.patch.place ≡ place.Memory) (sinks : Sinks x.pending (now x)) (untold : is_told x ≡ false) where
+  module _ (b at len : ℕ) (grade : Grade) (kind : x.patch.kind ≡ Change b at len grade) (memory : x.patch.place ≡ place.Memory) (sinks : Sinks x.pending (now x)) (stale : is_recorded x ≡ false) where
     here : is_change_at place.Memory b x.patch ≡ true
     here = ap (λ q. is_at q place.Memory && is_on b x.patch.kind) memory ∙ (ap (is_on b) kind ∙ eq-eqb b b refl)
 
     -- it was held if it is hard, and is ready from then on
     not_ready : is_ready_on b x ≡ false
-    not_ready = ap (λ t. t && is_pending x.pending (pending.Block b)) here ∙ waited_for_more x b at len grade kind memory sinks untold
+    not_ready = ap (λ t. t && is_pending x.pending (pending.Block b)) here ∙ waited_for_more x b at len grade kind memory sinks stale
 
     off : (c : ℕ) → c ≢ b → is_on c x.patch.kind ≡ false
     off c ne = ap (is_on c) kind ∙ ne_eqb b c (λ same. ne (sym same))
 
     -- where it waits for more than its block from then on too, no count changes
-    pub stand_waiting : (blocks : ℕ) (standings : List Standing) → is_pending (now x) (pending.Block b) ≡ false → AllStand nodes blocks standings → AllStand (set nodes s (settles x)) blocks standings
+    pub stand_waiting : (blocks : ℕ) (standings : List Standing) → is_pending (now x) (pending.Block b) ≡ false → AllStand nodes blocks standings → AllStand (set nodes s (recorded x)) blocks standings
     stand_waiting blocks standings more S = grind (arith, common_steps, stand_kept, cases_eq, waited_for_more, off_as, off)
 
     -- where it waits for its block alone from then on, it is ready
     module _ (block_again : is_pending (now x) (pending.Block b) ≡ true) where
-      ready_then : is_ready_on b (settles x) ≡ true
+      ready_then : is_ready_on b (recorded x) ≡ true
       ready_then = ap (λ t. t && is_pending (now x) (pending.Block b)) here ∙ block_again
 
       -- one more can be ready
       pub ready_few : count_by (is_ready_on b) nodes < length nodes
       ready_few =
-          let most = count_by-le-length (is_ready_on b) (set nodes s (settles x)) in
-          omega (arith, count_set (is_ready_on b) (settles x), most, ap one_if not_ready, ap one_if ready_then, length-set nodes s (settles x))
+          let most = count_by-le-length (is_ready_on b) (set nodes s (recorded x)) in
+          omega (arith, count_set (is_ready_on b) (recorded x), most, ap one_if not_ready, ap one_if ready_then, length-set nodes s (recorded x))
 
       pub stand_released : (blocks : ℕ) (standings : List Standing) (d : Standing) → b < blocks → AllStand nodes blocks standings
-          → AllStand (set nodes s (settles x)) blocks (set standings b (released (is_hard_kind x.patch.kind) (get_or standings b d)))
-      stand_released blocks standings d inside S = stand_set (set nodes s (settles x)) nodes blocks b standings _ inside S own (λ c within ne. standing_kept c (settles x) (off_as c (settles x) x (off c ne) (off c ne)))
+          → AllStand (set nodes s (recorded x)) blocks (set standings b (released (is_hard_kind x.patch.kind) (get_or standings b d)))
+      stand_released blocks standings d inside S = stand_set (set nodes s (recorded x)) nodes blocks b standings _ inside S own (λ c within ne. standing_kept c (recorded x) (off_as c (recorded x) x (off c ne) (off c ne)))
         where
-          own : released (is_hard_kind x.patch.kind) (get_or standings b d) ≡ standing_of (set nodes s (settles x)) b
+          own : released (is_hard_kind x.patch.kind) (get_or standings b d) ≡ standing_of (set nodes s (recorded x)) b
           own = grind (arith, common_steps, count_same)
 
 -- what is told of anything else changes no count
-pub settles_kept : (x : Node) (b : ℕ) → is_change_at place.Memory b x.patch ≡ false → CountsAs b (settles x) x
-settles_kept x b off = record { ready = rw off refl; held = rw off refl; flying = refl }
+pub recorded_kept : (x : Node) (b : ℕ) → is_change_at place.Memory b x.patch ≡ false → CountsAs b (recorded x) x
+recorded_kept x b off = record { ready = rw off refl; held = rw off refl; flying = refl }
 
 -- the head at the index takes what is pending now
-pub nodes_settled : (heads : List Head) (s : ℕ) (y h : Head) → node_of y ≡ settles (node_of h) → nodes_of (set heads s y) ≡ set (nodes_of heads) s (settles (node_of h))
+pub nodes_settled : (heads : List Head) (s : ℕ) (y h : Head) → node_of y ≡ recorded (node_of h) → nodes_of (set heads s y) ≡ set (nodes_of heads) s (recorded (node_of h))
 nodes_settled heads s y h e = map-set node_of heads s y ∙ ap (set (nodes_of heads) s) e
 
 module _ (heads : List Head) (s : ℕ) (h : Head) (lt : s < length heads) (e : h ≡ get_or heads s h) (blocks : ℕ) (standings : List Standing) (S : AllStand (nodes_of heads) blocks standings) where
@@ -83,20 +83,20 @@ module _ (heads : List Head) (s : ℕ) (h : Head) (lt : s < length heads) (e : h
   there = node_at heads s h (node_of h) lt e
 
   -- what is told of anything but a change in memory
-  pub stand_told : (y : Head) → node_of y ≡ settles (node_of h) → ((b : ℕ) → is_change_at place.Memory b (patch_of h) ≡ false) → AllStand (nodes_of (set heads s y)) blocks standings
+  pub stand_told : (y : Head) → node_of y ≡ recorded (node_of h) → ((b : ℕ) → is_change_at place.Memory b (patch_of h) ≡ false) → AllStand (nodes_of (set heads s y)) blocks standings
   stand_told y same off =
-      subst (λ xs. AllStand xs blocks standings) (sym (nodes_settled heads s y h same)) (stand_kept (nodes_of heads) s (node_of h) long there blocks standings (settles (node_of h)) (λ b. settles_kept (node_of h) b (off b)) S)
+      subst (λ xs. AllStand xs blocks standings) (sym (nodes_settled heads s y h same)) (stand_kept (nodes_of heads) s (node_of h) long there blocks standings (recorded (node_of h)) (λ b. recorded_kept (node_of h) b (off b)) S)
 
   -- of a change of b in memory that waits for more than its block from then on too
-  pub stand_held : (b at len : ℕ) (grade : Grade) → kind_of h.kind ≡ Change b at len grade → h.place ≡ place.Memory → Sinks h.pending (now (node_of h)) → is_told (node_of h) ≡ false
-      → (y : Head) → node_of y ≡ settles (node_of h) → is_pending (now (node_of h)) (pending.Block b) ≡ false → AllStand (nodes_of (set heads s y)) blocks standings
-  stand_held b at len grade kind memory sinks untold y same more =
+  pub stand_held : (b at len : ℕ) (grade : Grade) → kind_of h.kind ≡ Change b at len grade → h.place ≡ place.Memory → Sinks h.pending (now (node_of h)) → is_recorded (node_of h) ≡ false
+      → (y : Head) → node_of y ≡ recorded (node_of h) → is_pending (now (node_of h)) (pending.Block b) ≡ false → AllStand (nodes_of (set heads s y)) blocks standings
+  stand_held b at len grade kind memory sinks stale y same more =
       subst (λ xs. AllStand xs blocks standings) (sym (nodes_settled heads s y h same))
-      (stand_waiting (nodes_of heads) s (node_of h) long there b at len grade kind memory sinks untold blocks standings more S)
+      (stand_waiting (nodes_of heads) s (node_of h) long there b at len grade kind memory sinks stale blocks standings more S)
 
   -- of a change of b in memory
   module _ (b at len : ℕ) (grade : Grade) (kind : kind_of h.kind ≡ Change b at len grade) (memory : h.place ≡ place.Memory)
-      (sinks : Sinks h.pending (now (node_of h))) (untold : is_told (node_of h) ≡ false) (inside : b < blocks) (st : Standing) (own : st ≡ get_or standings b st) where
+      (sinks : Sinks h.pending (now (node_of h))) (stale : is_recorded (node_of h) ≡ false) (inside : b < blocks) (st : Standing) (own : st ≡ get_or standings b st) where
     counted : st ≡ standing_of (nodes_of heads) b
     counted = own ∙ S.each b st inside
 
@@ -106,8 +106,8 @@ module _ (heads : List Head) (s : ℕ) (h : Head) (lt : s < length heads) (e : h
     pub some_held : is_hard_kind (kind_of h.kind) ≡ true → 0 < st.held
     some_held hard = grind (arith, counted_some, long, there, counted)
 
-    pub stand_freed : is_pending (now (node_of h)) (pending.Block b) ≡ true → (y : Head) → node_of y ≡ settles (node_of h) → (after : Standing) → after ≡ released (is_hard_kind (kind_of h.kind)) st → AllStand (nodes_of (set heads s y)) blocks (set standings b after)
+    pub stand_freed : is_pending (now (node_of h)) (pending.Block b) ≡ true → (y : Head) → node_of y ≡ recorded (node_of h) → (after : Standing) → after ≡ released (is_hard_kind (kind_of h.kind)) st → AllStand (nodes_of (set heads s y)) blocks (set standings b after)
     stand_freed again y same after is =
-        let all = stand_released (nodes_of heads) s (node_of h) long there b at len grade kind memory sinks untold again blocks standings st inside S in
+        let all = stand_released (nodes_of heads) s (node_of h) long there b at len grade kind memory sinks stale again blocks standings st inside S in
         let value = is ∙ ap (released (is_hard_kind (kind_of h.kind))) own in
-        subst (λ xs. AllStand xs blocks (set standings b after)) (sym (nodes_settled heads s y h same)) (subst (λ z. AllStand (set (nodes_of heads) s (settles (node_of h))) blocks (set standings b z)) (sym value) all)
+        subst (λ xs. AllStand xs blocks (set standings b after)) (sym (nodes_settled heads s y h same)) (subst (λ z. AllStand (set (nodes_of heads) s (recorded (node_of h))) blocks (set standings b z)) (sym value) all)

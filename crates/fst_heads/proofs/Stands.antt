@@ -1,7 +1,7 @@
 -- How the counts of each block follow what becomes of patches.
 use Rattle.fst_heads.proofs.Basics.{◌≡◌, ◌≢◌, ◌&&◌, ◌+◌, ◌<◌, ◌≤◌, ℕ, Bool, true, false, cond, List, map, filter, count_by, set, get_or, AllPairs, refl, sym, ap, subst, ◌∙◌, inl, inr, arith, cases_Bool, cases_eq, and_parts, ne_eqb, false≢true, rules, common_steps}
 use Rattle.fst_heads.proofs.Patches.{Grade, Place, HasOnePlaceEach, IsOpenNumber, Kind, Patch, Change, OpenGate, SealedGate, is_among, is_at, is_live, is_on, same_number, filter_in, in_filter, In, Contains-from_In, In-map, In-unmap, among_in, in_among}
-use Rattle.fst_heads.proofs.Words.{Pending, Sums, Standing, IsInside, Node, patches_in, at_number, linked_to, gains_names, is_pending, heard, seals, lands, launches, AllStand, is_ready_on, is_held_on, is_flying_on, ready_on, standing_of, entered, is_hard_kind}
+use Rattle.fst_heads.proofs.Words.{Pending, Sums, Standing, IsInside, Node, patches_in, at_number, linked_to, gains_names, is_pending, notified, seals, lands, launches, AllStand, is_ready_on, is_held_on, is_flying_on, ready_on, standing_of, entered, is_hard_kind}
 use Rattle.fst_heads.proofs.{Added.{with_node, new_node, with_names}, AtNumber.{at_same, at_other}}
 use Rattle.fst_heads.proofs.CountsAs.{CountsAs, counts, count_cons, count_append, count_map, count_nothing, count_none, count_kept, standing_same, stands_as, stand_map, stand_set, off_place, off_as, like_as, self_as, rested_as, on_one}
 use Rattle.fst_heads.proofs.{Waiting.same_node, Indices.rising_back}
@@ -9,10 +9,10 @@ use Rattle.fst_heads.proofs.Patches.place
 use Rattle.fst_heads.proofs.Words.pending
 
 -- those that hear of another keep their places in the counts
-pub stand_heard : (nodes : List Node) (blocks : ℕ) (standings : List Standing) (row : List ℕ) (old new : Pending) → AllStand nodes blocks standings → AllStand (map (heard row old new) nodes) blocks standings
-stand_heard nodes blocks standings row old new S = stand_map (heard row old new) nodes blocks standings (λ x b i lt. one b x) S
+pub stand_notified : (nodes : List Node) (blocks : ℕ) (standings : List Standing) (row : List ℕ) (old new : Pending) → AllStand nodes blocks standings → AllStand (map (notified row old new) nodes) blocks standings
+stand_notified nodes blocks standings row old new S = stand_map (notified row old new) nodes blocks standings (λ x b i lt. one b x) S
   where
-    one : (b : ℕ) (x : Node) → CountsAs b (heard row old new x) x
+    one : (b : ℕ) (x : Node) → CountsAs b (notified row old new x) x
     one b x = grind (arith, cases_Bool, rested_as, self_as)
 
 pub stand_sealed : (nodes : List Node) (numbers blocks g : ℕ) (standings : List Standing) → HasOnePlaceEach (patches_in nodes) numbers → IsOpenNumber (patches_in nodes) g

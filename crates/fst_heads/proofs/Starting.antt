@@ -2,15 +2,15 @@
 use Rattle.fst_heads.proofs.Basics.{◌≡◌, ◌≢◌, ◌⊎◌, ◌↔◌, ◌==◌, ◌&&◌, ◌<◌, ℕ, Bool, true, false, not, cond, List, [], ◌∷◌, Some, length, map, filter, AllPairs, Contains, refl, sym, ap, subst, ◌∙◌, inl, inr, arith, list_any, cases_Bool, cases_eq, eq-eqb, ne_eqb, eqb-true, both_ways, not-true, and_parts, rules}
 use Rattle.fst_heads.proofs.Basics.{Any-from_list_any, list_any-from_Any, length-map, get_or-map, AllPairs-filter}
 use Rattle.fst_heads.proofs.Patches.{Place, IsCascadeOf, Follows, RestsOnDisk, unsettled, IsOnDisk, SparseAreLawful, IsOpenNumber, sealed, Kind, Change, Empty, OpenGate, SealedGate, Patch, block_of_kind, is_change_at, landed, no_follower_on, same_number, filter_in, in_filter, In, In-from_Contains}
-use Rattle.fst_heads.proofs.Words.{Pending, IsInside, flying_on, Node, patches_in, pending_in, at_number, AreSettled, is_pending, joined, joined_sums, of_kind, Spreading, IsSpreadOf, now, is_told, seals, lands, wakes_sealed, Sinks, IsOf, sums_of}
+use Rattle.fst_heads.proofs.Words.{Pending, IsInside, flying_on, Node, patches_in, pending_in, at_number, AreSettled, is_pending, joined, joined_sums, of_kind, Spreading, IsSpreadOf, now, is_recorded, seals, lands, enqueued_sealed, Sinks, IsOf, sums_of}
 use Rattle.fst_heads.proofs.Going.{OneWay, sinks_way}
-use Rattle.fst_heads.proofs.{AtNumber.{at_same, at_other}, Joining.{held_sinks, sinks_to_nothing}, Pended.{now_row, told_now, now_at_rest}, PendingIn.found}
+use Rattle.fst_heads.proofs.{AtNumber.{at_same, at_other}, Joining.{held_sinks, sinks_to_nothing}, Pended.{now_row, recorded_now, now_at_rest}, PendingIn.found}
 use Rattle.fst_heads.proofs.Waiting.{pending_of, pending_mapped}
 use Rattle.fst_heads.proofs.{Placed.{SameLinks, patch_in, node_of_patch, number_if, dependencies_if, unsettled_spread, unmapped}, Indices.{rising_back, rising_map, some_element}}
 use Rattle.fst_heads.proofs.Sums.{joined_nothing, joined_all_nothing, sums_same}
 use Rattle.fst_types.proofs.Landing.{landed_cases, change_at, at_change}
 use Rattle.fst_heads.proofs.Patches.{Contains-from_In, In-map, In-unmap, Grade, Rising as IsRising}
-use Rattle.fst_heads.proofs.Turning.{counted_nothing, nothing_counted, told_now as told_from}
+use Rattle.fst_heads.proofs.Turning.{counted_nothing, nothing_counted, recorded_now as told_from}
 use Rattle.fst_heads.proofs.Patches.place
 use Rattle.fst_heads.proofs.Words.pending
 
@@ -34,8 +34,8 @@ pub record Begins (goes : Pending → Pending → Type 0) (nodes : List Node) (b
   pub sums : (x : Node) → (f x).sums ≡ x.sums
   pub pending : (x : Node) → (f x).pending ≡ x.pending
   pub sound : (x : Node) → Contains nodes x → Sound goes (f x) blocks
-  pub queued : (n : ℕ) → Contains queue n → (x : Node) × Contains nodes x × (x.patch.number ≡ n) × (is_told (f x) ≡ false)
-  pub waits : (x : Node) → Contains nodes x → is_told (f x) ≡ false → Contains queue x.patch.number
+  pub queued : (n : ℕ) → Contains queue n → (x : Node) × Contains nodes x × (x.patch.number ≡ n) × (is_recorded (f x) ≡ false)
+  pub waits : (x : Node) → Contains nodes x → is_recorded (f x) ≡ false → Contains queue x.patch.number
   pub once : AllPairs (λ m n. m ≢ n) queue
 
 module _ {goes : Pending → Pending → Type 0} {far : Pending → ℕ} (way : OneWay goes far) (nodes : List Node) (numbers blocks : ℕ) (H : SparseAreLawful (patches_in nodes) numbers) (inside : IsInside (patches_in nodes) blocks) (S : AreSettled nodes blocks) where
@@ -88,13 +88,13 @@ module _ {goes : Pending → Pending → Type 0} (nodes : List Node) (blocks : �
     queued = λ n c. let x = B.queued n c in (f x.0, Contains-from_In (map f nodes) (f x.0) (In-map f nodes x.0 (f x.0) (In-from_Contains nodes x.0 x.1) refl), (B.links x.0).number ∙ x.2, x.3);
     waits = λ y c e.
         let x = was y c in
-        subst (λ (z : Node). Contains queue z.patch.number) x.2 (subst (Contains queue) (sym (B.links x.0).number) (B.waits x.0 x.1 (subst (λ (z : Node). is_told z ≡ false) (sym x.2) e)));
+        subst (λ (z : Node). Contains queue z.patch.number) x.2 (subst (Contains queue) (sym (B.links x.0).number) (B.waits x.0 x.1 (subst (λ (z : Node). is_recorded z ≡ false) (sym x.2) e)));
     once = B.once;
   }
 
 -- what stays is told
-pub stays_told : (nodes : List Node) (blocks : ℕ) → AreSettled nodes blocks → (x : Node) → Contains nodes x → is_told x ≡ true
-stays_told nodes blocks S x c = told_from x (now_at_rest nodes blocks S x c)
+pub stays_recorded : (nodes : List Node) (blocks : ℕ) → AreSettled nodes blocks → (x : Node) → Contains nodes x → is_recorded x ≡ true
+stays_recorded nodes blocks S x c = told_from x (now_at_rest nodes blocks S x c)
 
 -- what passes a test among the elements
 any_fails : {X : Type 0} (t : X → Bool) (xs : List X) (x : X) → In xs x → t x ≡ true → list_any t xs ≡ true
@@ -152,22 +152,22 @@ module _ (nodes : List Node) (numbers blocks g : ℕ) (H : SparseAreLawful (patc
   ]
 
   -- whether the sealed gate waits
-  wake_cases : ((x : Node) × Contains nodes x × (x.patch.number ≡ g) × (is_told (seals x) ≡ false) × (wakes_sealed g nodes ≡ g ∷ []))
-      ⊎ (((x : Node) → Contains nodes x → x.patch.number ≡ g → is_told (seals x) ≡ false → ⊥) × (wakes_sealed g nodes ≡ []))
-  wake_cases =
-      let t = λ (x : Node). (x.patch.number == g) && not (is_told (seals x)) in
+  enqueue_cases : ((x : Node) × Contains nodes x × (x.patch.number ≡ g) × (is_recorded (seals x) ≡ false) × (enqueued_sealed g nodes ≡ g ∷ []))
+      ⊎ (((x : Node) → Contains nodes x → x.patch.number ≡ g → is_recorded (seals x) ≡ false → ⊥) × (enqueued_sealed g nodes ≡ []))
+  enqueue_cases =
+      let t = λ (x : Node). (x.patch.number == g) && not (is_recorded (seals x)) in
       elim (cases_Bool (list_any t nodes)) [
         | inl e ↦
             let r = Any-from_list_any t nodes e in
-            let both = and_parts (r.1.patch.number == g) (not (is_told (seals r.1))) r.4 in
-            inl (r.1, (r.0, r.2, r.3), eqb-true r.1.patch.number g both.0, not-true (is_told (seals r.1)) both.1, ap (λ b. cond b (g ∷ []) []) e)
+            let both = and_parts (r.1.patch.number == g) (not (is_recorded (seals r.1))) r.4 in
+            inl (r.1, (r.0, r.2, r.3), eqb-true r.1.patch.number g both.0, not-true (is_recorded (seals r.1)) both.1, ap (λ b. cond b (g ∷ []) []) e)
         | inr e ↦ inr (
           λ x c n u. absurd (both_ways (list_any t nodes) e (any_fails t nodes x (In-from_Contains nodes x c) (rw (eq-eqb x.patch.number g n, u) refl))),
           ap (λ b. cond b (g ∷ []) []) e,
         )
       ]
 
-  seal_begins : Begins Sinks nodes blocks (at_number g seals) (wakes_sealed g nodes)
+  seal_begins : Begins Sinks nodes blocks (at_number g seals) (enqueued_sealed g nodes)
   seal_begins = record {
     links = λ x. (seal_same g x).links;
     sums = λ x. (seal_same g x).sums;
@@ -176,27 +176,27 @@ module _ (nodes : List Node) (numbers blocks g : ℕ) (H : SparseAreLawful (patc
       | inl s ↦ subst (λ y. Sound Sinks y blocks) (sym s.3) (seals_sound x c s.1 s.2)
       | inr s ↦ subst (λ y. Sound Sinks y blocks) (sym s.1) (sound_at_rest sinks_way nodes numbers blocks H inside S x c)
     ];
-    queued = λ n c. elim wake_cases [
+    queued = λ n c. elim enqueue_cases [
       | inl r ↦ elim (In-from_Contains (g ∷ []) n (subst (λ q. Contains q n) r.4 c)) [
-        | inl here ↦ (r.0, r.1, r.2 ∙ here, subst (λ (y : Node). is_told y ≡ false) (sym (at_same g seals r.0 r.2)) r.3)
+        | inl here ↦ (r.0, r.1, r.2 ∙ here, subst (λ (y : Node). is_recorded y ≡ false) (sym (at_same g seals r.0 r.2)) r.3)
         | inr none ↦ absurd none
       ]
       | inr none ↦ absurd (In-from_Contains [] n (subst (λ q. Contains q n) none.1 c))
     ];
     waits = λ x c u. elim (seal_cases x c) [
-      | inl s ↦ elim wake_cases [
+      | inl s ↦ elim enqueue_cases [
         | inl r ↦ subst (λ q. Contains q x.patch.number) (sym r.4) (Contains-from_In (g ∷ []) x.patch.number (inl (sym s.0)))
-        | inr none ↦ absurd (none.0 x c s.0 (subst (λ (y : Node). is_told y ≡ false) s.3 u))
+        | inr none ↦ absurd (none.0 x c s.0 (subst (λ (y : Node). is_recorded y ≡ false) s.3 u))
       ]
-      | inr s ↦ absurd (both_ways (is_told x) (subst (λ (y : Node). is_told y ≡ false) s.1 u) (stays_told nodes blocks S x c))
+      | inr s ↦ absurd (both_ways (is_recorded x) (subst (λ (y : Node). is_recorded y ≡ false) s.1 u) (stays_recorded nodes blocks S x c))
     ];
-    once = grind (arith, wake_cases);
+    once = grind (arith, enqueue_cases);
   }
 
 -- where a gate is sealed
 pub starts_sealed : (nodes : List Node) (numbers blocks g : ℕ) → SparseAreLawful (patches_in nodes) numbers → IsInside (patches_in nodes) blocks → AreSettled nodes blocks → IsOpenNumber (patches_in nodes) g
-    → Spreading Sinks (map (at_number g seals) nodes) blocks (wakes_sealed g nodes)
-starts_sealed nodes numbers blocks g H inside S gate = begun nodes blocks (at_number g seals) (wakes_sealed g nodes) (seal_begins nodes numbers blocks g H inside S gate) H.one_place_each.rising S
+    → Spreading Sinks (map (at_number g seals) nodes) blocks (enqueued_sealed g nodes)
+starts_sealed nodes numbers blocks g H inside S gate = begun nodes blocks (at_number g seals) (enqueued_sealed g nodes) (seal_begins nodes numbers blocks g H inside S gate) H.one_place_each.rising S
 
 -- a change on disk has nothing pending
 nothing_on_disk : (k : Kind) (b : ℕ) (below : Pending) → block_of_kind k ≡ Some b → of_kind k place.Disk below ≡ pending.Nothing
@@ -238,12 +238,12 @@ module _ (nodes : List Node) (numbers blocks b : ℕ) (H : SparseAreLawful (patc
   ]
 
   -- its dependants were told of a change in flight that it is not on disk
-  lands_untold : (x : Node) → Contains nodes x → is_change_at place.Flight b x.patch ≡ true → is_told (lands b x) ≡ false
-  lands_untold x c here = elim (landed_cases b x.patch) [
+  lands_stale : (x : Node) → Contains nodes x → is_change_at place.Flight b x.patch ≡ true → is_recorded (lands b x) ≡ false
+  lands_stale x c here = elim (landed_cases b x.patch) [
     | inl m ↦
         let nothing = nothing_on_disk x.patch.kind b (joined_sums x.sums) m.0 in
         let flies = m.1 in
-        ap (λ p. is_told (record x { patch = p })) m.2
+        ap (λ p. is_recorded (record x { patch = p })) m.2
         ∙ (ap (λ p. is_pending p x.pending) nothing ∙ not_nothing x.pending (λ e. let d = (S.placed x c).0 e in cc))
     | inr s ↦ let flies = change_at place.Flight b x.patch here in absurd (s.1 flies.0 flies.1)
   ]
@@ -254,10 +254,10 @@ module _ (nodes : List Node) (numbers blocks b : ℕ) (H : SparseAreLawful (patc
     sums = λ x. refl;
     pending = λ x. refl;
     sound = lands_sound;
-    queued = λ n c. let x = flying_in n c in (x.0, x.1, x.2, lands_untold x.0 x.1 x.3);
+    queued = λ n c. let x = flying_in n c in (x.0, x.1, x.2, lands_stale x.0 x.1 x.3);
     waits = λ x c u. elim (land_cases x) [
       | inl m ↦ in_flying x c m.0
-      | inr s ↦ absurd (both_ways (is_told x) (subst (λ (y : Node). is_told y ≡ false) s u) (stays_told nodes blocks S x c))
+      | inr s ↦ absurd (both_ways (is_recorded x) (subst (λ (y : Node). is_recorded y ≡ false) s u) (stays_recorded nodes blocks S x c))
     ];
     once = flying_once;
   }
@@ -276,7 +276,7 @@ follows_row k f at below = absurd f
 module _ {goes : Pending → Pending → Type 0} (nodes : List Node) (blocks : ℕ) (S : Spreading goes nodes blocks []) where
   -- all are told
   all_told : (x : Node) → Contains nodes x → now x ≡ x.pending
-  all_told x c = grind (arith, cases_Bool, told_now)
+  all_told x c = grind (arith, cases_Bool, recorded_now)
 
   -- nothing is pending of a number exactly where it is on disk
   nothing_disk : (n : ℕ) → pending_in nodes n ≡ pending.Nothing → IsOnDisk (patches_in nodes) n

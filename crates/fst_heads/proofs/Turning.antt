@@ -2,7 +2,7 @@
 use Rattle.fst_heads.proofs.Basics.{◌≡◌, ◌≢◌, ◌⊎◌, ◌↔◌, ◌==◌, ◌&&◌, ℕ, Bool, true, false, cond, List, refl, sym, ap, subst, inl, inr, arith, cases_Bool, cases_eq, and_parts, eqb-true, eq-eqb, false≢true, both_ways, false_from_ne_true, rules}
 use Rattle.fst_heads.proofs.Patches.{Patch, Place, Kind, Change, Empty, OpenGate, SealedGate, Follows, In, In_decided, among_in, in_among}
 use Rattle.fst_heads.proofs.Patches.place
-use Rattle.fst_heads.proofs.Words.{Pending, Sums, join, joined_sums, is_pending, of_kind, IsOf, plus, minus, Node, at_number, now, is_told, follows, rested, hears, heard, settles, unspread, unrisen, nothing}
+use Rattle.fst_heads.proofs.Words.{Pending, Sums, join, joined_sums, is_pending, of_kind, IsOf, plus, minus, Node, at_number, now, is_recorded, follows, rested, updated, notified, recorded, unspread, unrisen, nothing}
 use Rattle.fst_heads.proofs.Words.pending
 use Rattle.fst_heads.proofs.{AtNumber.{at_same, at_other}, Joining.{meet_same, meet_other}}
 
@@ -22,14 +22,14 @@ is_itself (pending.Behind b) = eq-eqb b b refl
 is_itself p = refl
 
 -- what is told is what is pending now
-pub untold : (x : Node) → is_told x ≡ false → now x ≢ x.pending
-untold x e same = both_ways (is_told x) e (subst (λ p. is_pending p x.pending ≡ true) (sym same) (is_itself x.pending))
+pub stale : (x : Node) → is_recorded x ≡ false → now x ≢ x.pending
+stale x e same = both_ways (is_recorded x) e (subst (λ p. is_pending p x.pending ≡ true) (sym same) (is_itself x.pending))
 
-pub not_told : (x : Node) → now x ≢ x.pending → is_told x ≡ false
-not_told x ne = false_from_ne_true (is_told x) (λ e. ne (same_pending (now x) x.pending e))
+pub not_recorded : (x : Node) → now x ≢ x.pending → is_recorded x ≡ false
+not_recorded x ne = false_from_ne_true (is_recorded x) (λ e. ne (same_pending (now x) x.pending e))
 
-pub told_now : (x : Node) → now x ≡ x.pending → is_told x ≡ true
-told_now x e = subst (λ p. is_pending p x.pending ≡ true) (sym e) (is_itself x.pending)
+pub recorded_now : (x : Node) → now x ≡ x.pending → is_recorded x ≡ true
+recorded_now x e = subst (λ p. is_pending p x.pending ≡ true) (sym e) (is_itself x.pending)
 
 -- what is pending by a kind
 
@@ -115,7 +115,7 @@ pub rests : (x : Node) → Rests x (rested x)
 rests x = rests_if (goes x) x (λ e. (goes_parts x e).0)
 
 -- what becomes of a node where old of a patch with this row of dependants becomes new
-pub record Hears (row : List ℕ) (old new : Pending) (x y : Node) : Type 0 where
+pub record Updated (row : List ℕ) (old new : Pending) (x y : Node) : Type 0 where
   pub stays : Stays x y
   pub told : y.pending ≡ x.pending
   pub pends : now y ≡ of_kind x.patch.kind x.patch.place (joined_sums y.sums)
@@ -125,12 +125,12 @@ pub record Hears (row : List ℕ) (old new : Pending) (x y : Node) : Type 0 wher
   pub placed : In row x.patch.number → (x.patch.place ≡ place.Disk → now y ≡ pending.Nothing) → (now y ≡ pending.Nothing) ↔ (y.patch.place ≡ place.Disk)
 
 module _ (row : List ℕ) (old new : Pending) (x : Node) where
-  pub is_heard : In row x.patch.number → heard row old new x ≡ hears old new x
-  is_heard h = let e = in_among row x.patch.number h in rw e refl
+  pub is_notified : In row x.patch.number → notified row old new x ≡ updated old new x
+  is_notified h = let e = in_among row x.patch.number h in rw e refl
 
-  pub hears_heard : Hears row old new x (heard row old new x)
-  hears_heard = elim (In_decided row x.patch.number) [
-    | inl h ↦ grind (arith, rests, is_heard)
+  pub updated_notified : Updated row old new x (notified row old new x)
+  updated_notified = elim (In_decided row x.patch.number) [
+    | inl h ↦ grind (arith, rests, is_notified)
     | inr out ↦ grind (arith, false_from_ne_true, among_in)
   ]
 
@@ -146,16 +146,16 @@ pub record Turns (row : List ℕ) (old new : Pending) (q : ℕ) (x y : Node) : T
   pub placed : In row x.patch.number → (x.patch.place ≡ place.Disk → now y ≡ pending.Nothing) → (now y ≡ pending.Nothing) ↔ (y.patch.place ≡ place.Disk)
 
 abbrev pub turned : List ℕ → Pending → Pending → ℕ → Node → Node
-turned row old new q x = heard row old new (at_number q settles x)
+turned row old new q x = notified row old new (at_number q recorded x)
 
 pub turns : (row : List ℕ) (old new : Pending) (q : ℕ) (x : Node) → Turns row old new q x (turned row old new q x)
 turns row old new q x = elim (cases_eq x.patch.number q) [
   | inl e ↦
-      let h = hears_heard row old new (settles x) in
-      let was : x.patch.number ≢ q → (heard row old new (settles x)).pending ≡ x.pending = λ ne. absurd (ne e) in
-      subst (λ z. Turns row old new q x (heard row old new z)) (sym (at_same q settles x e)) (search rules)
+      let h = updated_notified row old new (recorded x) in
+      let was : x.patch.number ≢ q → (notified row old new (recorded x)).pending ≡ x.pending = λ ne. absurd (ne e) in
+      subst (λ z. Turns row old new q x (notified row old new z)) (sym (at_same q recorded x e)) (search rules)
   | inr ne ↦
-      let h = hears_heard row old new x in
-      let is : x.patch.number ≡ q → (heard row old new x).pending ≡ now x = λ e. absurd (ne e) in
-      subst (λ z. Turns row old new q x (heard row old new z)) (sym (at_other q settles x ne)) (search rules)
+      let h = updated_notified row old new x in
+      let is : x.patch.number ≡ q → (notified row old new x).pending ≡ now x = λ e. absurd (ne e) in
+      subst (λ z. Turns row old new q x (notified row old new z)) (sym (at_other q recorded x ne)) (search rules)
 ]

@@ -3,8 +3,8 @@ use Rattle.fst_heads.proofs.Basics.{◌≡◌, ◌≢◌, ◌<◌, ◌≤◌, �
 use Rattle.fst_heads.proofs.Basics.{common_steps, ne_eqb, not-true, not_from_false, get_or_append_left, Contains-get_or, Contains-append_cases, Any-from_list_any, list_any-from_Any, AllPairs-cons, sum_by-cons}
 use Rattle.std.specs.Prelude.{sum_by}
 use Rattle.fst_heads.proofs.Patches.{filter_in, in_filter, In, In-map, In-from_Contains, Contains-from_In, pull}
-use Rattle.fst_heads.proofs.Words.{Pending, IsOf, Node, pending_in, times, at_number, is_told, settles, hears, heard, wakes, woken}
-use Rattle.fst_heads.proofs.{AtNumber.{at_same, at_other}, PendingIn.{found, told_of}, Placed.unmapped, Indices.{any_default, rising_map}, Turning.{turned, is_heard}}
+use Rattle.fst_heads.proofs.Words.{Pending, IsOf, Node, pending_in, times, at_number, is_recorded, recorded, updated, notified, enqueues, enqueued}
+use Rattle.fst_heads.proofs.{AtNumber.{at_same, at_other}, PendingIn.{found, told_of}, Placed.unmapped, Indices.{any_default, rising_map}, Turning.{turned, is_notified}}
 use Rattle.std.proofs.Math.Seq.{get_or-append_seam}
 
 pub mapped : {X Y : Type 0} (f : X → Y) (xs : List X) (x : X) → Contains xs x → Contains (map f xs) (f x)
@@ -131,43 +131,43 @@ once_last queue q n once c e =
 
 -- those that wake
 
-pub set_number : (q : ℕ) (y : Node) → (at_number q settles y).patch.number ≡ y.patch.number
+pub set_number : (q : ℕ) (y : Node) → (at_number q recorded y).patch.number ≡ y.patch.number
 set_number q y = grind (arith, cases_eq, at_same, at_other)
 
-pub set_sums : (q : ℕ) (y : Node) → (at_number q settles y).sums ≡ y.sums
+pub set_sums : (q : ℕ) (y : Node) → (at_number q recorded y).sums ≡ y.sums
 set_sums q y = grind (arith, cases_eq, at_same, at_other)
 
 module _ (nodes : List Node) (row : List ℕ) (old new : Pending) (q : ℕ) where
   abbrev set : List Node
-  set = map (at_number q settles) nodes
+  set = map (at_number q recorded) nodes
 
-  abbrev wakes_at : ℕ → Node → Bool
-  wakes_at n z = (z.patch.number == n) && wakes old new z
+  abbrev enqueues_at : ℕ → Node → Bool
+  enqueues_at n z = (z.patch.number == n) && enqueues old new z
 
-  pub woken_from : (n : ℕ) → Contains (woken row old new set) n
-      → (y : Node) × Contains nodes y × (y.patch.number ≡ n) × (is_told (at_number q settles y) ≡ true) × (is_told (turned row old new q y) ≡ false)
-  woken_from n c =
-      let f = filter_in (λ m. list_any (wakes_at m) set) row n (In-from_Contains (woken row old new set) n c) in
-      let a = Any-from_list_any (wakes_at n) set f.1 in
-      let u = unmapped (at_number q settles) nodes a.1 (a.0, a.2, a.3) in
-      let k = and_parts (a.1.patch.number == n) (wakes old new a.1) a.4 in
-      let w = and_parts (is_told a.1) (not (is_told (hears old new a.1))) k.1 in
+  pub enqueued_from : (n : ℕ) → Contains (enqueued row old new set) n
+      → (y : Node) × Contains nodes y × (y.patch.number ≡ n) × (is_recorded (at_number q recorded y) ≡ true) × (is_recorded (turned row old new q y) ≡ false)
+  enqueued_from n c =
+      let f = filter_in (λ m. list_any (enqueues_at m) set) row n (In-from_Contains (enqueued row old new set) n c) in
+      let a = Any-from_list_any (enqueues_at n) set f.1 in
+      let u = unmapped (at_number q recorded) nodes a.1 (a.0, a.2, a.3) in
+      let k = and_parts (a.1.patch.number == n) (enqueues old new a.1) a.4 in
+      let w = and_parts (is_recorded a.1) (not (is_recorded (updated old new a.1))) k.1 in
       let number = eqb-true a.1.patch.number n k.0 in
-      let same = is_heard row old new a.1 (subst (In row) (sym number) f.0) in (
+      let same = is_notified row old new a.1 (subst (In row) (sym number) f.0) in (
         u.0,
         u.1,
         sym (set_number q u.0) ∙ (ap (λ (z : Node). z.patch.number) u.2 ∙ number),
-        subst (λ z. is_told z ≡ true) (sym u.2) w.0,
-        subst (λ z. is_told (heard row old new z) ≡ false) (sym u.2) (subst (λ z. is_told z ≡ false) (sym same) (not-true (is_told (hears old new a.1)) w.1)),
+        subst (λ z. is_recorded z ≡ true) (sym u.2) w.0,
+        subst (λ z. is_recorded (notified row old new z) ≡ false) (sym u.2) (subst (λ z. is_recorded z ≡ false) (sym same) (not-true (is_recorded (updated old new a.1)) w.1)),
       )
 
-  pub woken_to : (y : Node) → Contains nodes y → In row y.patch.number → is_told (at_number q settles y) ≡ true → is_told (turned row old new q y) ≡ false
-      → Contains (woken row old new set) y.patch.number
-  woken_to y c named before after =
-      let z = at_number q settles y in
+  pub enqueued_to : (y : Node) → Contains nodes y → In row y.patch.number → is_recorded (at_number q recorded y) ≡ true → is_recorded (turned row old new q y) ≡ false
+      → Contains (enqueued row old new set) y.patch.number
+  enqueued_to y c named before after =
+      let z = at_number q recorded y in
       let number = set_number q y in
-      let there = mapped (at_number q settles) nodes y c in
-      let same = is_heard row old new z (subst (In row) (sym number) named) in
-      let wakens = and_from (is_told z) (not (is_told (hears old new z))) before (not_from_false (is_told (hears old new z)) (subst (λ v. is_told v ≡ false) same after)) in
-      let hit = list_any-from_Any (wakes_at y.patch.number) set (there.0, z, there.1, there.2, and_from (z.patch.number == y.patch.number) (wakes old new z) (eq-eqb z.patch.number y.patch.number number) wakens) in
-      Contains-from_In (woken row old new set) y.patch.number (in_filter (λ m. list_any (wakes_at m) set) row y.patch.number named hit)
+      let there = mapped (at_number q recorded) nodes y c in
+      let same = is_notified row old new z (subst (In row) (sym number) named) in
+      let both = and_from (is_recorded z) (not (is_recorded (updated old new z))) before (not_from_false (is_recorded (updated old new z)) (subst (λ v. is_recorded v ≡ false) same after)) in
+      let hit = list_any-from_Any (enqueues_at y.patch.number) set (there.0, z, there.1, there.2, and_from (z.patch.number == y.patch.number) (enqueues old new z) (eq-eqb z.patch.number y.patch.number number) both) in
+      Contains-from_In (enqueued row old new set) y.patch.number (in_filter (λ m. list_any (enqueues_at m) set) row y.patch.number named hit)

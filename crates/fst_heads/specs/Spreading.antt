@@ -1,4 +1,4 @@
--- How what is pending of a patch is told to its dependants, and what has nothing pending any more goes to disk.
+-- How dependants are notified of what is pending of a patch, and what has nothing pending any more goes to disk.
 use Rattle.std.specs.Prelude.{◌≡◌, ◌≢◌, ◌⊎◌, ◌<◌, ◌==◌, ◌&&◌, ◌↔◌, ℕ, Bool, true, false, not, List, [], ◌∷◌, map, filter, Contains, AllPairs, if◌then◌else◌}
 use Rattle.std.specs.List.{list_any}
 use Rattle.fst_types.specs.declared.place.Place.TheVariants as place
@@ -18,11 +18,11 @@ follows SealedGate = true
 abbrev pub now : Node → Pending
 now x = of_kind x.patch.kind x.patch.place (joined_sums x.sums)
 
--- it is what its dependants were told
-abbrev pub is_told : Node → Bool
-is_told x = is_pending (now x) x.pending
+-- that is what is recorded of it: what its dependants were notified of
+abbrev pub is_recorded : Node → Bool
+is_recorded x = is_pending (now x) x.pending
 
--- something was pending of it when its dependants were told
+-- something was pending of it when its dependants were notified last
 abbrev pub is_waiting : Node → Bool
 is_waiting x = not (is_pending x.pending pending.Nothing)
 
@@ -30,37 +30,37 @@ is_waiting x = not (is_pending x.pending pending.Nothing)
 abbrev pub rested : Node → Node
 rested x = if follows x.patch.kind && (x.sums.count == 0) then record x { patch = record x.patch { place = place.Disk } } else x
 
--- one of its direct dependencies has something else pending
-abbrev pub hears : Pending → Pending → Node → Node
-hears old new x = rested (record x { sums = plus new (minus old x.sums) })
+-- its sums are updated: one of its direct dependencies has something else pending
+abbrev pub updated : Pending → Pending → Node → Node
+updated old new x = rested (record x { sums = plus new (minus old x.sums) })
 
--- from then on it is not what its dependants were told
-abbrev pub wakes : Pending → Pending → Node → Bool
-wakes old new x = is_told x && not (is_told (hears old new x))
+-- that enqueues it: from then on its dependants are to be notified
+abbrev pub enqueues : Pending → Pending → Node → Bool
+enqueues old new x = is_recorded x && not (is_recorded (updated old new x))
 
--- those of the row that hear of it
-abbrev pub heard : List ℕ → Pending → Pending → Node → Node
-heard row old new x = if is_among row x.patch.number then hears old new x else x
+-- those of the row are notified
+abbrev pub notified : List ℕ → Pending → Pending → Node → Node
+notified row old new x = if is_among row x.patch.number then updated old new x else x
 
--- those of the row that wake
-abbrev pub woken : List ℕ → Pending → Pending → List Node → List ℕ
-woken row old new nodes = filter (λ n. list_any (λ x. (x.patch.number == n) && wakes old new x) nodes) row
+-- those of the row that are enqueued by that
+abbrev pub enqueued : List ℕ → Pending → Pending → List Node → List ℕ
+enqueued row old new nodes = filter (λ n. list_any (λ x. (x.patch.number == n) && enqueues old new x) nodes) row
 
 -- a node of which old can be taken
-abbrev pub CanHear : Pending → Node → Type 0
-CanHear old x = Fits x.sums × HasIn old x.sums
+abbrev pub CanUpdate : Pending → Node → Type 0
+CanUpdate old x = Fits x.sums × HasIn old x.sums
 
--- what is pending of it now is told
-abbrev pub settles : Node → Node
-settles x = record x { pending = now x }
+-- what is pending of it now is recorded
+abbrev pub recorded : Node → Node
+recorded x = record x { pending = now x }
 
 -- a gate is sealed
 abbrev pub seals : Node → Node
 seals x = rested (record x { patch = record x.patch { kind = SealedGate } })
 
--- n, if that wakes it
-abbrev pub wakes_sealed : ℕ → List Node → List ℕ
-wakes_sealed n nodes = if list_any (λ x. (x.patch.number == n) && not (is_told (seals x))) nodes then n ∷ [] else []
+-- n, if that enqueues it
+abbrev pub enqueued_sealed : ℕ → List Node → List ℕ
+enqueued_sealed n nodes = if list_any (λ x. (x.patch.number == n) && not (is_recorded (seals x))) nodes then n ∷ [] else []
 
 -- the chosen are in flight
 abbrev pub launches : List ℕ → Node → Node
@@ -70,7 +70,7 @@ launches chosen x = record x { patch = launched chosen x.patch }
 abbrev pub lands : ℕ → Node → Node
 lands b x = record x { patch = landed b x.patch }
 
--- between two steps: the queue has those of which other is pending than their dependants were told, and what is pending only goes that way
+-- between two steps: the queue has those of which other is pending than is recorded, and what is pending only goes that way
 pub record Spreading (goes : Pending → Pending → Type 0) (nodes : List Node) (blocks : ℕ) (queue : List ℕ) : Type 0 where
   pub rising : AllPairs (λ x y. x.patch.number < y.patch.number) nodes
   pub summed : (x : Node) → Contains nodes x → x.sums ≡ sums_of (pending_in nodes) x.patch.dependencies
@@ -79,15 +79,15 @@ pub record Spreading (goes : Pending → Pending → Type 0) (nodes : List Node)
   pub follow : (x : Node) → Contains nodes x → Follows x.patch.kind → (x.patch.place ≡ place.Memory) ⊎ (x.patch.place ≡ place.Disk)
   pub inside : (x : Node) (b : ℕ) → Contains nodes x → IsOf b x.pending → b < blocks
   pub changes : (x : Node) (b at len : ℕ) (grade : _) → Contains nodes x → x.patch.kind ≡ Change b at len grade → b < blocks
-  pub queued : (n : ℕ) → Contains queue n → (x : Node) × Contains nodes x × (x.patch.number ≡ n) × (is_told x ≡ false)
-  pub waits : (x : Node) → Contains nodes x → is_told x ≡ false → Contains queue x.patch.number
+  pub queued : (n : ℕ) → Contains queue n → (x : Node) × Contains nodes x × (x.patch.number ≡ n) × (is_recorded x ≡ false)
+  pub waits : (x : Node) → Contains nodes x → is_recorded x ≡ false → Contains queue x.patch.number
   pub once : AllPairs (λ m n. m ≢ n) queue
 
--- other is pending of x than its dependants were told, which only sinks, and its sums fit
-pub record IsUntold (x : Node) : Type 0 where
+-- other is pending of x than is recorded, which only sinks, and its sums fit
+pub record IsStale (x : Node) : Type 0 where
   pub fits : Fits x.sums
   pub sinks : Sinks x.pending (now x)
-  pub untold : is_told x ≡ false
+  pub stale : is_recorded x ≡ false
 
 -- a node without what is pending of it and below it, and without the place of an empty patch or a sealed gate
 abbrev pub unspread : Node → Node

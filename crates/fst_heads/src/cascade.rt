@@ -1,6 +1,6 @@
-//! Where something else is pending of a patch, its dependants are told: what a seal or a landing sets free is found so,
+//! Where something else is pending of a patch, its dependants are notified: what a seal or a landing sets free is found so,
 //! and an empty patch or a sealed gate that has nothing pending any more goes to disk. The queue has those of which
-//! other is pending than their dependants know. Here what is pending of a patch only sinks.
+//! other is pending than is recorded, of which their dependants were notified. Here what is pending of a patch only sinks.
 
 ghost use Rattle.std.specs.Prelude.{◌≡◌, ◌≢◌, ◌<◌, ◌≤◌, ◌+◌, ◌++◌, ◌∷◌, ◌==◌, ℕ, [], true, length, map, Contains, AllPairs, vec_len, vec_capacity, slice_index_or, count_by, if◌then◌else◌};
 ghost use Rattle.fst_types.specs.Cascade.{IsCascadeOf};
@@ -11,13 +11,13 @@ ghost use Rattle.fst_heads.specs.Landed.{AreLanded};
 ghost use Rattle.fst_heads.specs.Indices.{HasIndex};
 ghost use Rattle.fst_heads.specs.Nodes.{Node, node_of, nodes_of, at_number, AreLinked, AreDistinct, AreSettled};
 ghost use Rattle.fst_heads.specs.Pendings.{Fits, Sinks, is_pending};
-ghost use Rattle.fst_heads.specs.Spreading.{follows, rested, is_told, now, hears, wakes, heard, woken, is_waiting, CanHear, settles, seals, wakes_sealed, Spreading, IsSpreadOf};
+ghost use Rattle.fst_heads.specs.Spreading.{follows, rested, is_recorded, now, updated, enqueues, notified, enqueued, is_waiting, CanUpdate, recorded, seals, enqueued_sealed, Spreading, IsSpreadOf};
 ghost use Rattle.fst_heads.specs.Standings.{AllStand};
 
 use crate::head::{Head, Kind};
 use crate::index::index_of;
 use crate::pending::{Pending, is_pending, of_change};
-use crate::standing::{Standing, settle_at};
+use crate::standing::{Standing, record_at};
 use fst_types::Place;
 
 // Whether it is on disk as soon as all that it depends on is.
@@ -42,10 +42,10 @@ pub fn pending_now(head: &Head) -> Pending
     }
 }
 
-// Whether that is what its dependants know.
-fn is_told(head: &Head) -> bool
+// Whether that is what is recorded of it, of which its dependants were notified.
+fn is_recorded(head: &Head) -> bool
     requires { Fits head.now.sums }
-    ensures { result ≡ is_told (node_of head.now) }
+    ensures { result ≡ is_recorded (node_of head.now) }
 {
     is_pending(pending_now(head), head.pending)
 }
@@ -60,41 +60,42 @@ fn rest(head: &mut Head)
     }
 }
 
-// One of its direct dependencies has something else pending. Whether its own dependants have to be told of it.
-fn hear(head: &mut Head, old: Pending, new: Pending) -> bool
-    requires hears { CanHear old (node_of head.old) }
+// One of its direct dependencies has something else pending. Answers whether that enqueues it, since its own dependants have to
+// be notified now.
+fn update(head: &mut Head, old: Pending, new: Pending) -> bool
+    requires summed { CanUpdate old (node_of head.old) }
     requires live { old ≢ pending.Nothing }
-    ensures node { node_of head.new ≡ hears old new (node_of head.old) }
-    ensures woke { result ≡ wakes old new (node_of head.old) }
+    ensures node { node_of head.new ≡ updated old new (node_of head.old) }
+    ensures enqueues { result ≡ enqueues old new (node_of head.old) }
     ensures frame { frame_of head.new ≡ frame_of head.old }
 {
-    let told = is_told(head);
+    let was_recorded = is_recorded(head);
     head.sums.change(old, new);
     rest(head);
-    told && !is_told(head)
+    was_recorded && !is_recorded(head)
 }
 
-// The head with this number hears, and waits in the queue where it wakes.
-fn hear_at(heads: &mut Vec<Head>, queue: &mut Vec<u32>, number: u32, old: Pending, new: Pending)
+// The head with this number is updated, and enqueued where its dependants have to be notified.
+fn update_at(heads: &mut Vec<Head>, queue: &mut Vec<u32>, number: u32, old: Pending, new: Pending)
     requires rising { IsRising heads.old.items }
-    requires hears { (x : Node) → Contains (nodes_of heads.old.items) x → x.patch.number ≡ number → CanHear old x }
+    requires summed { (x : Node) → Contains (nodes_of heads.old.items) x → x.patch.number ≡ number → CanUpdate old x }
     requires live { old ≢ pending.Nothing }
-    requires room { (x : Node) → Contains (nodes_of heads.old.items) x → x.patch.number ≡ number → wakes old new x ≡ true → vec_len queue.old < vec_capacity queue.old }
-    ensures nodes { nodes_of heads.new.items ≡ map (at_number number (hears old new)) (nodes_of heads.old.items) }
-    ensures queued { queue.new.items ≡ queue.old.items ++ woken (number ∷ []) old new (nodes_of heads.old.items) }
+    requires room { (x : Node) → Contains (nodes_of heads.old.items) x → x.patch.number ≡ number → enqueues old new x ≡ true → vec_len queue.old < vec_capacity queue.old }
+    ensures nodes { nodes_of heads.new.items ≡ map (at_number number (updated old new)) (nodes_of heads.old.items) }
+    ensures queued { queue.new.items ≡ queue.old.items ++ enqueued (number ∷ []) old new (nodes_of heads.old.items) }
     ensures frames { frames_of heads.new.items ≡ frames_of heads.old.items }
     ensures places { vec_capacity heads.new ≡ vec_capacity heads.old }
     ensures capacity { vec_capacity queue.new ≡ vec_capacity queue.old }
 {
     if let Some(index) = index_of(heads, number) {
-        if hear(&mut heads[index], old, new) {
+        if update(&mut heads[index], old, new) {
             queue.push_reserved(number);
         }
     }
 }
 
-// All that directly depend on the head at the index hear.
-pub(crate) fn tell(
+// All that directly depend on the head at the index are updated.
+pub(crate) fn notify(
     heads: &mut Vec<Head>,
     queue: &mut Vec<u32>,
     index: usize,
@@ -104,19 +105,19 @@ pub(crate) fn tell(
     requires rising { IsRising heads.old.items }
     requires index { index < vec_len heads.old }
     requires once { (d : Node) → AllPairs (λ m n. m ≢ n) (slice_index_or (nodes_of heads.old.items) index d).dependants }
-    requires hears { (x d : Node) → Contains (nodes_of heads.old.items) x → Contains (slice_index_or (nodes_of heads.old.items) index d).dependants x.patch.number → CanHear old x }
+    requires summed { (x d : Node) → Contains (nodes_of heads.old.items) x → Contains (slice_index_or (nodes_of heads.old.items) index d).dependants x.patch.number → CanUpdate old x }
     requires live { old ≢ pending.Nothing }
-    requires room { (d : Node) → length queue.old.items + length (woken (slice_index_or (nodes_of heads.old.items) index d).dependants old new (nodes_of heads.old.items)) ≤ vec_capacity queue.old }
-    ensures nodes { (d : Node) → nodes_of heads.new.items ≡ map (heard (slice_index_or (nodes_of heads.old.items) index d).dependants old new) (nodes_of heads.old.items) }
+    requires room { (d : Node) → length queue.old.items + length (enqueued (slice_index_or (nodes_of heads.old.items) index d).dependants old new (nodes_of heads.old.items)) ≤ vec_capacity queue.old }
+    ensures nodes { (d : Node) → nodes_of heads.new.items ≡ map (notified (slice_index_or (nodes_of heads.old.items) index d).dependants old new) (nodes_of heads.old.items) }
     ensures frames { frames_of heads.new.items ≡ frames_of heads.old.items }
     ensures places { vec_capacity heads.new ≡ vec_capacity heads.old }
-    ensures queued { (d : Node) → queue.new.items ≡ queue.old.items ++ woken (slice_index_or (nodes_of heads.old.items) index d).dependants old new (nodes_of heads.old.items) }
+    ensures queued { (d : Node) → queue.new.items ≡ queue.old.items ++ enqueued (slice_index_or (nodes_of heads.old.items) index d).dependants old new (nodes_of heads.old.items) }
     ensures capacity { vec_capacity queue.new ≡ vec_capacity queue.old }
 {
     let mut at = 0;
     while at < heads[index].dependants.len() {
         let number = heads[index].dependants.as_slice()[at];
-        hear_at(heads, queue, number, old, new);
+        update_at(heads, queue, number, old, new);
         at += 1;
     }
 }
@@ -133,8 +134,8 @@ fn note_landing(landed: &mut Vec<u32>, number: u32, left: Pending)
     }
 }
 
-/// Tells of all that waits in the queue, and of what wakes by that. What comes to disk so is among those that landed
-/// besides, of which there is a place for each head. Answers how many they are.
+/// Notifies the dependants of all that is in the queue, and of what is enqueued by that. What comes to disk so is among
+/// those that landed besides, of which there is a place for each head. Answers how many they are.
 pub fn cascade(
     heads: &mut Vec<Head>,
     queue: &mut Vec<u32>,
@@ -162,22 +163,22 @@ pub fn cascade(
     let before = landed.len();
     while let Some(number) = queue.pop() {
         if let Some(index) = index_of(heads, number) {
-            let (old, new) = settle_at(heads, standings, index);
+            let (old, new) = record_at(heads, standings, index);
             note_landing(landed, number, new);
-            tell(heads, queue, index, old, new);
+            notify(heads, queue, index, old, new);
         }
     }
     landed.len() - before
 }
 
-/// Seals the gate at the index. It waits in the queue where its dependants have to be told.
+/// Seals the gate at the index. It is enqueued where its dependants have to be notified.
 pub fn seal_at(heads: &mut Vec<Head>, queue: &mut Vec<u32>, gate: u32, index: usize)
     requires rising { IsRising heads.old.items }
     requires index { HasIndex heads.old.items gate index }
     requires fits { (x : Node) → Contains (nodes_of heads.old.items) x → Fits x.sums }
     requires room { vec_len queue.old < vec_capacity queue.old }
     ensures nodes { nodes_of heads.new.items ≡ map (at_number gate seals) (nodes_of heads.old.items) }
-    ensures queued { queue.new.items ≡ queue.old.items ++ wakes_sealed gate (nodes_of heads.old.items) }
+    ensures queued { queue.new.items ≡ queue.old.items ++ enqueued_sealed gate (nodes_of heads.old.items) }
     ensures frames { frames_of heads.new.items ≡ frames_of heads.old.items }
     ensures places { vec_capacity heads.new ≡ vec_capacity heads.old }
     ensures capacity { vec_capacity queue.new ≡ vec_capacity queue.old }
@@ -185,7 +186,7 @@ pub fn seal_at(heads: &mut Vec<Head>, queue: &mut Vec<u32>, gate: u32, index: us
     let head = &mut heads[index];
     head.kind = Kind::SealedGate;
     rest(head);
-    if !is_told(head) {
+    if !is_recorded(head) {
         queue.push_reserved(gate);
     }
 }

@@ -1,6 +1,6 @@
 //! A launch: the ready changes of a block are in flight from then on, and what is pending of all that waits for them is
-//! behind a flight. That is told upward, as a cascade tells what sinks; here what is pending of a patch rises, and once at
-//! most.
+//! behind a flight. Dependants are notified of that, as a cascade notifies them of what sinks; here what is pending of a
+//! patch rises, and once at most.
 
 ghost use Rattle.std.specs.Prelude.{◌≡◌, ◌≤◌, ◌==◌, ◌∷◌, ℕ, [], length, map, vec_capacity, if◌then◌else◌};
 ghost use Rattle.fst_types.specs.Facts.{SparseAreLawful};
@@ -14,7 +14,7 @@ ghost use Rattle.fst_heads.specs.Pendings.{Rises};
 ghost use Rattle.fst_heads.specs.Spreading.{launches, IsRisenOf, Spreading};
 ghost use Rattle.fst_heads.specs.Standings.{ready_on, held_on};
 
-use crate::cascade::tell;
+use crate::cascade::notify;
 use crate::head::Head;
 use crate::index::index_of;
 use crate::pending::Pending;
@@ -49,13 +49,13 @@ fn launch_all(heads: &mut Vec<Head>, queue: &mut Vec<u32>, chosen: &[PatchNo])
     }
 }
 
-// Tells of all that waits in the queue that it is behind a flight of the block, and of what waits for it by that.
+// What is in the queue is behind a flight of the block, of which its dependants are notified, and theirs by that.
 fn rise(heads: &mut Vec<Head>, queue: &mut Vec<u32>, block: u32)
     requires start { (blocks : ℕ) × (blocks ≤ 65535) × Spreading (Rises block) (nodes_of heads.old.items) blocks queue.old.items }
     requires linked { AreLinked (nodes_of heads.old.items) }
     requires distinct { AreDistinct (nodes_of heads.old.items) }
     requires room { length heads.old.items ≤ vec_capacity queue.old }
-    ensures told { (blocks : ℕ) × Spreading (Rises block) (nodes_of heads.new.items) blocks [] }
+    ensures notified { (blocks : ℕ) × Spreading (Rises block) (nodes_of heads.new.items) blocks [] }
     ensures spread { IsRisenOf (nodes_of heads.old.items) (nodes_of heads.new.items) }
     ensures rises { (n : ℕ) → Rises block (pending_in (nodes_of heads.old.items) n) (pending_in (nodes_of heads.new.items) n) }
     ensures frames { frames_of heads.new.items ≡ frames_of heads.old.items }
@@ -67,7 +67,7 @@ fn rise(heads: &mut Vec<Head>, queue: &mut Vec<u32>, block: u32)
         if let Some(index) = index_of(heads, number) {
             let own = block as u16;
             heads[index].pending = Pending::Behind(own);
-            tell(
+            notify(
                 heads,
                 queue,
                 index,

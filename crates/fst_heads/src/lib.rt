@@ -10,9 +10,9 @@
 //! sums of its row, from which pending is told at once, so that one of 60,000 dependencies may land without a look at the
 //! others.
 //!
-//! A seal or a landing changes what is pending of a patch, and the *cascade* tells those that directly depend on it: then
-//! what is pending only sinks. An empty patch or a sealed gate of which nothing is pending any more goes to disk there. A
-//! *launch* tells upward too, that what was pending in memory is in flight. What it takes along lands at once, so that
+//! A seal or a landing changes what is pending of a patch, and the *cascade* notifies those that directly depend on it:
+//! then what is pending only sinks. An empty patch or a sealed gate of which nothing is pending any more goes to disk there. A
+//! *launch* notifies them too, that what was pending in memory is in flight. What it takes along lands at once, so that
 //! this befalls a patch once, and each dependency is looked at five times at most.
 //!
 //! For each block there is a list of its changes that are not on disk, and its *standing*: how many of them are ready, hard

@@ -6,7 +6,7 @@ ghost use Rattle.fst_types.specs.declared.grade.Grade.{Grade};
 ghost use Rattle.fst_heads.specs.Frames.{frames_of};
 ghost use Rattle.fst_heads.specs.Heads.{IsRising, kind_of};
 ghost use Rattle.fst_heads.specs.Nodes.{Node, nodes_of, at_number};
-ghost use Rattle.fst_heads.specs.Spreading.{now, IsUntold, settles};
+ghost use Rattle.fst_heads.specs.Spreading.{now, IsStale, recorded};
 ghost use Rattle.fst_heads.specs.Standings.{AllStand, NoneBelow, may_be_written, released, entered};
 ghost use Rattle.fst_heads.specs.Tests.{is_hard_kind};
 
@@ -133,21 +133,21 @@ pub fn empty_standings(alloc: Global, blocks: u32) -> Result<Vec<Standing>, Allo
     }; blocks as usize]
 }
 
-/// What is pending of the head at the index from now on its dependants have to be told. Answers what they knew, and what
-/// is pending now. A change in memory that now waits for changes of its block in memory alone is ready.
-pub fn settle_at(
+/// Records what is pending of the head at the index, of which its dependants have to be notified. Answers what was recorded
+/// and what is now. A change in memory that now waits for changes of its block in memory alone is ready.
+pub fn record_at(
     heads: &mut Vec<Head>,
     standings: &mut Vec<Standing>,
     index: usize,
 ) -> (Pending, Pending)
     requires rising { IsRising heads.old.items }
     requires index { index < vec_len heads.old }
-    requires untold { (d : Node) → IsUntold (slice_index_or (nodes_of heads.old.items) index d) }
+    requires stale { (d : Node) → IsStale (slice_index_or (nodes_of heads.old.items) index d) }
     requires inside { (x : Node) (b at len : ℕ) (grade : Grade) → Contains (nodes_of heads.old.items) x → x.patch.kind ≡ Change b at len grade → b < vec_len standings.old }
     requires standing { AllStand (nodes_of heads.old.items) (vec_len standings.old) standings.old.items }
     ensures old { (d : Node) → result.0 ≡ (slice_index_or (nodes_of heads.old.items) index d).pending }
     ensures new { (d : Node) → result.1 ≡ now (slice_index_or (nodes_of heads.old.items) index d) }
-    ensures nodes { (d : Node) → nodes_of heads.new.items ≡ map (at_number (slice_index_or (nodes_of heads.old.items) index d).patch.number settles) (nodes_of heads.old.items) }
+    ensures nodes { (d : Node) → nodes_of heads.new.items ≡ map (at_number (slice_index_or (nodes_of heads.old.items) index d).patch.number recorded) (nodes_of heads.old.items) }
     ensures standing { AllStand (nodes_of heads.new.items) (vec_len standings.old) standings.new.items }
     ensures frames { frames_of heads.new.items ≡ frames_of heads.old.items }
     ensures places { vec_capacity heads.new ≡ vec_capacity heads.old }

@@ -281,7 +281,7 @@ impl Levels {
 
     /// The head at the index comes down to the greatest level of what it depends on and of its own, and answers whether it did:
     /// a gate that is sealed stood at the top while it was open, and so does all that was put after it.
-    pub fn settle(&mut self, heads: &[Head], index: usize) -> bool
+    pub fn lower(&mut self, heads: &[Head], index: usize) -> bool
         requires rising { IsRising heads.now }
         requires index { index < length heads.now }
         requires leveled { IsLeveled (patches_of heads.now) (length self.old.floors) self.old }

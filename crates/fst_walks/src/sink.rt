@@ -51,7 +51,7 @@ fn sink_one(levels: &mut Levels, heads: &[Head], walk: &mut Walk, number: u32, l
         return;
     }
     let row = heads[index].dependencies.as_slice();
-    if is_down(levels, heads, row, last) && levels.settle(heads, index) {
+    if is_down(levels, heads, row, last) && levels.lower(heads, index) {
         walk.meet(index);
     }
 }

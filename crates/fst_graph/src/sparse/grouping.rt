@@ -122,7 +122,7 @@ impl Sparse {
                     &mut self.standings,
                     &mut self.landed,
                 );
-                self.levels.settle(&self.heads, index);
+                self.levels.lower(&self.heads, index);
                 // The gates below the head may have had other ancestors when it was put after them.
                 renew(&mut self.levels, &self.heads, head);
                 self.live -= landed;

@@ -1,8 +1,8 @@
 use Rattle.fst_heads.proofs.Basics.{◌≡◌, ◌∙◌, ◌++◌, ◌∷◌, [], get_or, if◌then◌else◌, length, count_by, ap, vec_len, subst, sym, arith, length-map, nil_from_length, rules}
 use Rattle.fst_heads.proofs.{Patches.In-from_Contains, Words.{IsRising, HasIndex, HasNone, node_of, nodes_of, is_pending, Sinks, Spreading, is_waiting, now, AllStand}}
-use Rattle.fst_heads.proofs.{Beside.{waits_untold, waiting_settles, waiting_heard}, Landed.{length_if, place_noted, told_noted}}
-use Rattle.fst_heads.proofs.Popping.{fits_there, untold_there, rising_settled, after_is, once_after, live_after, hears_after, room_after, turned, cascaded_heads}
-use Rattle.fst_heads.proofs.{Telling.last_waits, Indexed.{rising_indices, none_of_number, node_at_index, node_is}, Stands.stand_heard, Starting.settled_spread}
+use Rattle.fst_heads.proofs.{Beside.{waits_stale, waiting_recorded, waiting_notified}, Landed.{length_if, place_noted, notified_noted}}
+use Rattle.fst_heads.proofs.Popping.{fits_there, stale_there, rising_settled, after_is, once_after, live_after, updated_after, room_after, turned, cascaded_heads}
+use Rattle.fst_heads.proofs.{Notifying.last_waits, Indexed.{rising_indices, none_of_number, node_at_index, node_is}, Stands.stand_notified, Starting.settled_spread}
 use Rattle.fst_heads.proofs.Carried.{spread_trans, length_spread}
 use Rattle.fst_heads.proofs.Going.{sinks_way}
 use Rattle.fst_heads.proofs.Words.pending
@@ -11,8 +11,8 @@ use Rattle.fst_heads.proofs.cascade.cascade.Goals as goal
 pub index_of-requires : goal.index_of-requires
 index_of-requires c = subst IsRising (sym c.deref.ensures.value) (rising_indices c.loop-number.heads.items c.loop-number.invariant.spreading.rising)
 
-pub settle_at-old-requires : goal.settle_at-old-requires
-settle_at-old-requires c =
+pub record_at-old-requires : goal.record_at-old-requires
+record_at-old-requires c =
     let heads = c.loop-number.heads.items in
     let blocks = vec_len c.args.standings.now in
     let queue = c.pop.new.self.items in
@@ -23,18 +23,18 @@ settle_at-old-requires c =
     record {
       rising = rising_indices heads S.rising;
       index = omega (arith, found.0, c.loop-number.heads.ok.0);
-      untold = λ d. record {
+      stale = λ d. record {
         fits = fits_there sinks_way heads blocks queue q s c.requires.room.0 S c.loop-number.invariant.linked c.loop-number.invariant.distinct found d;
         sinks = S.moves (get_or (nodes_of heads) s d) (node_at_index heads q s d found).0;
-        untold = untold_there sinks_way heads blocks queue q s c.requires.room.0 S c.loop-number.invariant.linked c.loop-number.invariant.distinct found d;
+        stale = stale_there sinks_way heads blocks queue q s c.requires.room.0 S c.loop-number.invariant.linked c.loop-number.invariant.distinct found d;
       };
       inside = λ x b at len grade contained kind.
           omega (arith, S.changes x b at len grade contained kind, c.loop-number.standings.ok.0, c.loop-number.invariant.standing.long);
       standing = search rules;
     }
 
-pub tell-requires : goal.tell-requires
-tell-requires c =
+pub notify-requires : goal.notify-requires
+notify-requires c =
     let heads = c.loop-number.heads.items in
     let blocks = vec_len c.args.standings.now in
     let queue = c.pop.new.self.items in
@@ -42,18 +42,18 @@ tell-requires c =
     let s = c.in-Some-index_of.index in
     let S = subst (Spreading Sinks (nodes_of heads) blocks) c.in-Some.ensures.items c.loop-number.invariant.spreading in
     let found = subst (λ hs. HasIndex hs q s) c.deref.ensures.value c.in-Some-index_of.ensures.found in
-    let settled = c.settle_at-old.ensures in
+    let settled = c.record_at-old.ensures in
     let linked = c.loop-number.invariant.linked in
     let distinct = c.loop-number.invariant.distinct in
-    let was = c.settle_at-old.result.0 in
-    let is = c.settle_at-old.result.1 in
-    let after = nodes_of c.settle_at-old.new.heads.items in
+    let was = c.record_at-old.result.0 in
+    let is = c.record_at-old.result.1 in
+    let after = nodes_of c.record_at-old.new.heads.items in
     let long = length_spread (nodes_of c.args.heads.now.items) (nodes_of heads) c.loop-number.invariant.spread in
     record {
-      rising = rising_settled q heads c.settle_at-old.new.heads.items (after_is sinks_way heads blocks queue q s c.requires.room.0 S linked distinct found was is after settled.old settled.new settled.nodes) (rising_indices heads S.rising);
+      rising = rising_settled q heads c.record_at-old.new.heads.items (after_is sinks_way heads blocks queue q s c.requires.room.0 S linked distinct found was is after settled.old settled.new settled.nodes) (rising_indices heads S.rising);
       index = omega (arith, found.0, c.loop-number.heads.ok.0, settled.len);
       once = once_after sinks_way heads blocks queue q s c.requires.room.0 S linked distinct found was is after settled.old settled.new settled.nodes;
-      hears = hears_after sinks_way heads blocks queue q s c.requires.room.0 S linked distinct found was is after settled.old settled.new settled.nodes;
+      summed = updated_after sinks_way heads blocks queue q s c.requires.room.0 S linked distinct found was is after settled.old settled.new settled.nodes;
       live = live_after sinks_way heads blocks queue q s c.requires.room.0 S linked distinct found was is after settled.old settled.new settled.nodes;
       room = λ d.
           let room = room_after sinks_way heads blocks queue q s c.requires.room.0 S linked distinct found was is after settled.old settled.new settled.nodes d in
@@ -70,9 +70,9 @@ loop-number-smaller-in-Some-index_of c =
     let s = c.in-Some-index_of.index in
     let S = subst (Spreading Sinks nodes blocks) c.in-Some.ensures.items c.loop-number.invariant.spreading in
     let found = subst (λ hs. HasIndex hs q s) c.deref.ensures.value c.in-Some-index_of.ensures.found in
-    let settled = c.settle_at-old.ensures in
-    let after = nodes_of c.settle_at-old.new.heads.items in
-    let turn = turned sinks_way heads blocks queue q s c.requires.room.0 S c.loop-number.invariant.linked c.loop-number.invariant.distinct found c.settle_at-old.result.0 c.settle_at-old.result.1 after settled.old settled.new settled.nodes (nodes_of c.tell.new.heads.items) c.tell.new.queue.items c.tell.ensures.nodes c.tell.ensures.queued in
+    let settled = c.record_at-old.ensures in
+    let after = nodes_of c.record_at-old.new.heads.items in
+    let turn = turned sinks_way heads blocks queue q s c.requires.room.0 S c.loop-number.invariant.linked c.loop-number.invariant.distinct found c.record_at-old.result.0 c.record_at-old.result.1 after settled.old settled.new settled.nodes (nodes_of c.notify.new.heads.items) c.notify.new.queue.items c.notify.ensures.nodes c.notify.ensures.queued in
     turn.falls
 
 pub loop-number-preserved-in-Some-index_of : goal.loop-number-preserved-in-Some-index_of
@@ -85,38 +85,38 @@ loop-number-preserved-in-Some-index_of c =
     let s = c.in-Some-index_of.index in
     let S = subst (Spreading Sinks nodes blocks) c.in-Some.ensures.items c.loop-number.invariant.spreading in
     let found = subst (λ hs. HasIndex hs q s) c.deref.ensures.value c.in-Some-index_of.ensures.found in
-    let settled = c.settle_at-old.ensures in
-    let after = nodes_of c.settle_at-old.new.heads.items in
-    let turn = turned sinks_way heads blocks queue q s c.requires.room.0 S c.loop-number.invariant.linked c.loop-number.invariant.distinct found c.settle_at-old.result.0 c.settle_at-old.result.1 after settled.old settled.new settled.nodes (nodes_of c.tell.new.heads.items) c.tell.new.queue.items c.tell.ensures.nodes c.tell.ensures.queued in
+    let settled = c.record_at-old.ensures in
+    let after = nodes_of c.record_at-old.new.heads.items in
+    let turn = turned sinks_way heads blocks queue q s c.requires.room.0 S c.loop-number.invariant.linked c.loop-number.invariant.distinct found c.record_at-old.result.0 c.record_at-old.result.1 after settled.old settled.new settled.nodes (nodes_of c.notify.new.heads.items) c.notify.new.queue.items c.notify.ensures.nodes c.notify.ensures.queued in
     let same : vec_len c.loop-number.standings ≡ vec_len c.args.standings.now = omega (arith, c.loop-number.standings.ok.0, c.loop-number.invariant.standing.long) in
     let start = nodes_of c.args.heads.now.items in
-    let next = nodes_of c.tell.new.heads.items in
+    let next = nodes_of c.notify.new.heads.items in
     let d = (last_waits nodes blocks queue q S).0 in
     let here = last_waits nodes blocks queue q S in
-    let waits = waits_untold here.0 (S.moves here.0 here.1) here.3 in
+    let waits = waits_stale here.0 (S.moves here.0 here.1) here.3 in
     let is = node_is heads q s here.0 d (rising_indices heads S.rising) found here.1 here.2 in
-    let less = waiting_settles nodes q here.0 S.rising (In-from_Contains nodes here.0 here.1) here.2 waits in
-    let first_is = after_is sinks_way heads blocks queue q s c.requires.room.0 S c.loop-number.invariant.linked c.loop-number.invariant.distinct found c.settle_at-old.result.0 c.settle_at-old.result.1 after settled.old settled.new settled.nodes in
+    let less = waiting_recorded nodes q here.0 S.rising (In-from_Contains nodes here.0 here.1) here.2 waits in
+    let first_is = after_is sinks_way heads blocks queue q s c.requires.room.0 S c.loop-number.invariant.linked c.loop-number.invariant.distinct found c.record_at-old.result.0 c.record_at-old.result.1 after settled.old settled.new settled.nodes in
     let first = ap (count_by is_waiting) first_is in
-    let left = c.settle_at-old.result.1 in
+    let left = c.record_at-old.result.1 in
     let landed = c.loop-number.landed.items in
     let own : c.note_landing.new.landed.items ≡ landed ++ (if is_pending (now here.0) pending.Nothing then q ∷ [] else []) =
     c.note_landing.ensures.listed ∙ ap (λ p. landed ++ (if is_pending p pending.Nothing then q ∷ [] else [])) (settled.new d ∙ ap now is) in
     let one = ap length own ∙ length_if landed (is_pending (now here.0) pending.Nothing) q in
-    let noted = told_noted nodes landed q here.0 S.rising c.loop-number.invariant.listed here.1 here.2 waits in
+    let noted = notified_noted nodes landed q here.0 S.rising c.loop-number.invariant.listed here.1 here.2 waits in
     record {
-      listed = rw (c.tell.ensures.nodes d, own, first_is) (noted _ _ _);
-      counted = omega (arith, c.loop-number.invariant.counted, ap (count_by is_waiting) (c.tell.ensures.nodes d) ∙ waiting_heard _ _ _ after, first, less, one);
+      listed = rw (c.notify.ensures.nodes d, own, first_is) (noted _ _ _);
+      counted = omega (arith, c.loop-number.invariant.counted, ap (count_by is_waiting) (c.notify.ensures.nodes d) ∙ waiting_notified _ _ _ after, first, less, one);
       more = omega (arith, c.loop-number.invariant.more, one);
       shelf = c.note_landing.ensures.shelf ∙ c.loop-number.invariant.shelf;
       spreading = turn.spreading;
       linked = turn.are_linked;
       distinct = turn.are_distinct;
-      standing = subst (λ k. AllStand next k c.settle_at-old.new.standings.items) same (rw (c.tell.ensures.nodes d) (stand_heard after (vec_len c.loop-number.standings) c.settle_at-old.new.standings.items _ _ _ settled.standing));
+      standing = subst (λ k. AllStand next k c.record_at-old.new.standings.items) same (rw (c.notify.ensures.nodes d) (stand_notified after (vec_len c.loop-number.standings) c.record_at-old.new.standings.items _ _ _ settled.standing));
       spread = spread_trans start nodes next c.loop-number.invariant.spread turn.spread;
-      capacity = c.tell.ensures.capacity ∙ (c.in-Some.ensures.capacity ∙ c.loop-number.invariant.capacity);
-      frames = c.tell.ensures.frames ∙ (settled.frames ∙ c.loop-number.invariant.frames);
-      places = c.tell.ensures.places ∙ (settled.places ∙ c.loop-number.invariant.places);
+      capacity = c.notify.ensures.capacity ∙ (c.in-Some.ensures.capacity ∙ c.loop-number.invariant.capacity);
+      frames = c.notify.ensures.frames ∙ (settled.frames ∙ c.loop-number.invariant.frames);
+      places = c.notify.ensures.places ∙ (settled.places ∙ c.loop-number.invariant.places);
     }
 
 pub note_landing-requires : goal.note_landing-requires
@@ -130,8 +130,8 @@ note_landing-requires c none =
     let here = last_waits nodes (vec_len c.args.standings.now) c.pop.new.self.items q S in
     let d = here.0 in
     let is = node_is heads q s here.0 d (rising_indices heads S.rising) found here.1 here.2 in
-    let told = ap (λ p. is_pending p pending.Nothing) (sym (ap now is) ∙ (sym (c.settle_at-old.ensures.new d) ∙ none)) in
-    let place = place_noted nodes c.loop-number.landed.items q here.0 S.rising c.loop-number.invariant.listed here.1 here.2 (waits_untold here.0 (S.moves here.0 here.1) here.3) told in
+    let told = ap (λ p. is_pending p pending.Nothing) (sym (ap now is) ∙ (sym (c.record_at-old.ensures.new d) ∙ none)) in
+    let place = place_noted nodes c.loop-number.landed.items q here.0 S.rising c.loop-number.invariant.listed here.1 here.2 (waits_stale here.0 (S.moves here.0 here.1) here.3) told in
     let long = length_spread (nodes_of c.args.heads.now.items) nodes c.loop-number.invariant.spread in
     omega (arith, place, long, length-map heads node_of, length-map c.args.heads.now.items node_of, c.requires.room.2, c.loop-number.invariant.shelf, c.loop-number.landed.ok.0)
 

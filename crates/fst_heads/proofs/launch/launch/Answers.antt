@@ -34,17 +34,17 @@ pub returns : goal.returns
 returns c =
     let S = c.requires.settled in
     let flying = c.launch_all.ensures in
-    let told = c.rise.ensures in
+    let risen = c.rise.ensures in
     let left = launch_leaves c.args.heads.now.items c.requires.lawful.0 S.0 c.args.block c.requires.lawful.1 S.2 S.3 (numbers_of c.args.chosen.now) c.requires.chosen c.launch_all.new.heads.items flying.nodes
-    c.rise.new.heads.items told.told.0 told.told.1 told.spread told.rises in
+    c.rise.new.heads.items risen.notified.0 risen.notified.1 risen.spread risen.rises in
     record {
       settled = left.settled;
       launched = left.patches;
-      spread = subst (λ ns. IsRisenOf ns (nodes_of c.rise.new.heads.items)) flying.nodes told.spread;
+      spread = subst (λ ns. IsRisenOf ns (nodes_of c.rise.new.heads.items)) flying.nodes risen.spread;
       ready = left.ready;
       held = left.held;
-      frames = told.frames ∙ flying.frames;
-      places = told.places ∙ flying.places;
-      empty = told.empty;
-      capacity = told.capacity ∙ flying.capacity;
+      frames = risen.frames ∙ flying.frames;
+      places = risen.places ∙ flying.places;
+      empty = risen.empty;
+      capacity = risen.capacity ∙ flying.capacity;
     }

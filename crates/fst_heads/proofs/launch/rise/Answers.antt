@@ -1,6 +1,6 @@
 use Rattle.fst_heads.proofs.Basics.{◌∙◌, length, ap, subst, sym, arith, length-map}
 use Rattle.fst_heads.proofs.{Words.{frame_of, IsRising, HasIndex, HasNone, Rises, nodes_of, Spreading}, Framed.frames_set, Going.{rises_way, rises_back}}
-use Rattle.fst_heads.proofs.{Rising.{small, rising_behind, once_behind, hears_behind, room_behind, turned_behind}, Indexed.{rising_indices, none_of_number}, Telling.last_waits}
+use Rattle.fst_heads.proofs.{Rising.{small, rising_behind, once_behind, updated_behind, room_behind, turned_behind}, Indexed.{rising_indices, none_of_number}, Notifying.last_waits}
 use Rattle.fst_heads.proofs.launch.rise.Goals as goal
 
 pub index_of-requires : goal.index_of-requires
@@ -13,8 +13,8 @@ overflow_cast-own c =
     let few = small c.args.block (nodes_of c.loop-number.heads.items) start.0 c.pop.new.self.items c.in-Some.number start.1 S in
     omega (arith, few)
 
-pub tell-requires : goal.tell-requires
-tell-requires c =
+pub notify-requires : goal.notify-requires
+notify-requires c =
     let heads = c.loop-number.heads.items in
     let queue = c.pop.new.self.items in
     let q = c.in-Some.number in
@@ -31,7 +31,7 @@ tell-requires c =
       rising = rising_behind c.args.block heads blocks queue q s narrow S linked distinct found h e;
       index = omega (arith, found.0, c.loop-number.heads.ok.0);
       once = once_behind c.args.block heads blocks queue q s narrow S linked distinct found h e;
-      hears = hears_behind c.args.block heads blocks queue q s narrow S linked distinct found h e;
+      summed = updated_behind c.args.block heads blocks queue q s narrow S linked distinct found h e;
       live = λ none. cc;
       room = λ d.
           let room = room_behind c.args.block heads blocks queue q s narrow S linked distinct found h e d in
@@ -52,7 +52,7 @@ loop-number-smaller-in-Some-index_of c =
     let distinct = c.loop-number.invariant.distinct in
     let h = c.index_mut.result.now in
     let e = c.index_mut.ensures.value in
-    let turn = turned_behind c.args.block heads blocks queue q s narrow S linked distinct found h e (nodes_of c.tell.new.heads.items) c.tell.new.queue.items c.tell.ensures.nodes c.tell.ensures.queued in
+    let turn = turned_behind c.args.block heads blocks queue q s narrow S linked distinct found h e (nodes_of c.notify.new.heads.items) c.notify.new.queue.items c.notify.ensures.nodes c.notify.ensures.queued in
     turn.falls
 
 pub loop-number-preserved-in-Some-index_of : goal.loop-number-preserved-in-Some-index_of
@@ -69,7 +69,7 @@ loop-number-preserved-in-Some-index_of c =
     let distinct = c.loop-number.invariant.distinct in
     let h = c.index_mut.result.now in
     let e = c.index_mut.ensures.value in
-    let turn = turned_behind c.args.block heads blocks queue q s narrow S linked distinct found h e (nodes_of c.tell.new.heads.items) c.tell.new.queue.items c.tell.ensures.nodes c.tell.ensures.queued in
+    let turn = turned_behind c.args.block heads blocks queue q s narrow S linked distinct found h e (nodes_of c.notify.new.heads.items) c.notify.new.queue.items c.notify.ensures.nodes c.notify.ensures.queued in
     let before = c.loop-number.invariant in
     record {
       spreading = (blocks, narrow, turn.spreading);
@@ -77,9 +77,9 @@ loop-number-preserved-in-Some-index_of c =
       distinct = turn.are_distinct;
       risen = turn.risen (rises_back c.args.block) ∙ before.risen;
       rises = λ n. (rises_way c.args.block).trans _ _ _ (before.rises n) (turn.each_goes n);
-      frames = c.tell.ensures.frames ∙ (frames_set heads s _ h found.0 (ap frame_of e) ∙ before.frames);
-      places = c.tell.ensures.places ∙ before.places;
-      capacity = c.tell.ensures.capacity ∙ (c.in-Some.ensures.capacity ∙ before.capacity);
+      frames = c.notify.ensures.frames ∙ (frames_set heads s _ h found.0 (ap frame_of e) ∙ before.frames);
+      places = c.notify.ensures.places ∙ before.places;
+      capacity = c.notify.ensures.capacity ∙ (c.in-Some.ensures.capacity ∙ before.capacity);
     }
 
 absent : (c : goal.In_default-index_of) → ⊥

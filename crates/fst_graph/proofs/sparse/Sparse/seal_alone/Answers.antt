@@ -4,7 +4,7 @@ use Rattle.fst_types.specs.{Gates.IsOpenNumber, Order.seal_order, Refusals.NoneH
 use Rattle.fst_heads.specs.{Heads.patches_of, Indices.HasIndex, Nodes.{is_forgotten_in, node_of, nodes_of}}
 use Rattle.fst_graph.specs.{Known.Known, Ready.prepared_of}
 use Rattle.fst_graph.proofs.{Flagged.{flags_of, remembered_as, remembered_still, shut_flags, shut_landed, shut_long, unspared}, RememberedCalls.seal_known}
-use Rattle.fst_graph.proofs.{Borne.settled_fits, Ranks.leveled_then, Shutting.{shut_ready, shut_few, shut_cascade, shut_settles, shut_sound}, Sound.{open_given, rising_sound, view_gone, with_prepared}, sparse.Sparse.seal_alone.Goals.{After-cascade-landed, After-seal_at}}
+use Rattle.fst_graph.proofs.{Borne.settled_fits, Ranks.leveled_then, Shutting.{shut_ready, shut_few, shut_cascade, shut_lowers, shut_sound}, Sound.{open_given, rising_sound, view_gone, with_prepared}, sparse.Sparse.seal_alone.Goals.{After-cascade-landed, After-seal_at}}
 use Rattle.fst_graph.proofs.sparse.Sparse.seal_alone.Goals as goal
 
 pub gate_index-requires : goal.gate_index-requires
@@ -41,10 +41,10 @@ cascade-landed-requires c =
 marks : (c : After-cascade-landed) → flags_of (nodes_of c.cascade-landed.new.heads.items) ≡ flags_of (nodes_of c.self.inside.heads.items)
 marks c = shut_flags c.self.inside.heads.items c.seal_at.new.heads.items c.args.gate.0 c.seal_at.ensures.nodes c.cascade-landed.new.heads.items c.cascade-landed.ensures.spread
 
-pub settle-requires : goal.settle-requires
-settle-requires c =
-    let at = (goal.at.settle-requires c).After-seal_at in
-    rw c.deref-2.ensures.value (shut_settles c.self.invariant.0 (gate at) c.seal_at.new.heads c.seal_at.ensures.nodes c.cascade-landed.new.heads c.cascade-landed.ensures.placed (subst (λ hs. HasIndex hs c.args.gate.0 c.in-Ok.index) c.deref.ensures.value c.in-Ok.ensures.index))
+pub lower-requires : goal.lower-requires
+lower-requires c =
+    let at = (goal.at.lower-requires c).After-seal_at in
+    rw c.deref-2.ensures.value (shut_lowers c.self.invariant.0 (gate at) c.seal_at.new.heads c.seal_at.ensures.nodes c.cascade-landed.new.heads c.cascade-landed.ensures.placed (subst (λ hs. HasIndex hs c.args.gate.0 c.in-Ok.index) c.deref.ensures.value c.in-Ok.ensures.index))
 
 pub overflow_sub-self : goal.overflow_sub-self
 overflow_sub-self c =
@@ -54,7 +54,7 @@ overflow_sub-self c =
 pub invariant_of-self-2 : goal.invariant_of-self-2
 invariant_of-self-2 c =
     let C = c.cascade-landed.ensures in
-    let leveled = leveled_then c.deref-3.ensures.value (ap length c.renew.ensures.floors ∙ c.settle.ensures.leveled.long) c.renew.ensures.leveled in
+    let leveled = leveled_then c.deref-3.ensures.value (ap length c.renew.ensures.floors ∙ c.lower.ensures.leveled.long) c.renew.ensures.leveled in
     rw c.let_go.ensures (
       shut_sound c.self.invariant.0 (gate (goal.at.invariant_of-self-2 c).After-seal_at) c.seal_at.new.heads c.seal_at.ensures.nodes c.cascade-landed.new.heads C.placed c.cascade-landed.result C.settled C.landed leveled C.spread C.standing C.empty (C.capacity ∙ c.seal_at.ensures.capacity),
       remembered_still c.self.inside.heads.items c.cascade-landed.new.heads.items (marks (goal.at.invariant_of-self-2 c).After-cascade-landed) {now = c.cascade-landed.new.landed} C.listed C.shelf c.self.invariant.1,
@@ -81,10 +81,10 @@ returns-clause-ok c =
 pub renew-requires-clause-rising : goal.renew-requires-clause-rising
 renew-requires-clause-rising c =
     let at = (goal.at.renew-requires-clause-rising c).After-seal_at in
-    rw c.deref-3.ensures.value (shut_settles c.self.invariant.0 (gate at) c.seal_at.new.heads c.seal_at.ensures.nodes c.cascade-landed.new.heads c.cascade-landed.ensures.placed (subst (λ hs. HasIndex hs c.args.gate.0 c.in-Ok.index) c.deref.ensures.value c.in-Ok.ensures.index)).rising
+    rw c.deref-3.ensures.value (shut_lowers c.self.invariant.0 (gate at) c.seal_at.new.heads c.seal_at.ensures.nodes c.cascade-landed.new.heads c.cascade-landed.ensures.placed (subst (λ hs. HasIndex hs c.args.gate.0 c.in-Ok.index) c.deref.ensures.value c.in-Ok.ensures.index)).rising
 
 pub renew-requires-clause-leveled : goal.renew-requires-clause-leveled
-renew-requires-clause-leveled c = leveled_then (c.deref-2.ensures.value ∙ sym c.deref-3.ensures.value) (sym c.settle.ensures.leveled.long) c.settle.ensures.leveled
+renew-requires-clause-leveled c = leveled_then (c.deref-2.ensures.value ∙ sym c.deref-3.ensures.value) (sym c.lower.ensures.leveled.long) c.lower.ensures.leveled
 
 pub renew-requires-clause-given : goal.renew-requires-clause-given
 renew-requires-clause-given c = open_given c.self.invariant.0 (gate (goal.at.renew-requires-clause-given c).After-seal_at)

@@ -4,7 +4,7 @@ use Rattle.fst_heads.specs.{Frames.{frame_of, frames_of}, Heads.patches_of, Indi
 use Rattle.fst_graph.specs.{Known.Known, Remembered.remembered, Sound.{IsPrepared, remembered_of}}
 use Rattle.fst_graph.proofs.{Flagged.{flags_of, remembered_as, remembered_still, rising_nodes, shut_flags, shut_landed, shut_long, spared, standing_as}, Remembered.was, RememberedCalls.begun_known}
 use Rattle.fst_graph.proofs.{Borne.settled_fits, GateIndex.refused_closed, MemberReady.{put_begun, around_kept, places_kept, shut_begun}, Ranks.leveled_then, Readied.head_told}
-use Rattle.fst_graph.proofs.{Shutting.{shut_ready, shut_few, shut_cascade, shut_settles, shut_sound}, Sound.{if_prepared, open_given, rising_sound, view_gone, view_lawful, with_prepared}}
+use Rattle.fst_graph.proofs.{Shutting.{shut_ready, shut_few, shut_cascade, shut_lowers, shut_sound}, Sound.{if_prepared, open_given, rising_sound, view_gone, view_lawful, with_prepared}}
 use Rattle.fst_graph.proofs.sparse.Sparse.seal_head.Goals.{After-cascade-landed, After-seal_at, In-Err}
 use Rattle.fst_graph.proofs.sparse.Sparse.seal_head.Goals as goal
 
@@ -48,18 +48,18 @@ seal_at-requires-clause-room c =
     let s = c.self.inside in
     omega (arith, ap length T.idle, T.room, length-map s.heads.items node_of, c.in-Ok.ensures.index.0, ap length c.deref.ensures.value, s.queue.ok.0)
 
-pub settle-requires : goal.settle-requires
-settle-requires c =
-    let at = (goal.at.settle-requires c).After-seal_at in
-    rw c.deref-in-Ok.ensures.value (shut_settles c.self.invariant.0 (gate at) c.seal_at.new.heads c.seal_at.ensures.nodes c.cascade-landed.new.heads c.cascade-landed.ensures.placed (subst (λ hs. HasIndex hs c.args.head c.in-Ok.index) c.deref.ensures.value c.in-Ok.ensures.index))
+pub lower-requires : goal.lower-requires
+lower-requires c =
+    let at = (goal.at.lower-requires c).After-seal_at in
+    rw c.deref-in-Ok.ensures.value (shut_lowers c.self.invariant.0 (gate at) c.seal_at.new.heads c.seal_at.ensures.nodes c.cascade-landed.new.heads c.cascade-landed.ensures.placed (subst (λ hs. HasIndex hs c.args.head c.in-Ok.index) c.deref.ensures.value c.in-Ok.ensures.index))
 
 pub renew-requires-clause-rising : goal.renew-requires-clause-rising
 renew-requires-clause-rising c =
     let at = (goal.at.renew-requires-clause-rising c).After-seal_at in
-    rw c.deref-in-Ok-2.ensures.value (shut_settles c.self.invariant.0 (gate at) c.seal_at.new.heads c.seal_at.ensures.nodes c.cascade-landed.new.heads c.cascade-landed.ensures.placed (subst (λ hs. HasIndex hs c.args.head c.in-Ok.index) c.deref.ensures.value c.in-Ok.ensures.index)).rising
+    rw c.deref-in-Ok-2.ensures.value (shut_lowers c.self.invariant.0 (gate at) c.seal_at.new.heads c.seal_at.ensures.nodes c.cascade-landed.new.heads c.cascade-landed.ensures.placed (subst (λ hs. HasIndex hs c.args.head c.in-Ok.index) c.deref.ensures.value c.in-Ok.ensures.index)).rising
 
 pub renew-requires-clause-leveled : goal.renew-requires-clause-leveled
-renew-requires-clause-leveled c = leveled_then (c.deref-in-Ok.ensures.value ∙ sym c.deref-in-Ok-2.ensures.value) (sym c.settle.ensures.leveled.long) c.settle.ensures.leveled
+renew-requires-clause-leveled c = leveled_then (c.deref-in-Ok.ensures.value ∙ sym c.deref-in-Ok-2.ensures.value) (sym c.lower.ensures.leveled.long) c.lower.ensures.leveled
 
 pub renew-requires-clause-given : goal.renew-requires-clause-given
 renew-requires-clause-given c = open_given c.self.invariant.0 (gate (goal.at.renew-requires-clause-given c).After-seal_at)
@@ -79,7 +79,7 @@ invariant_of-self c =
     let cascade = shut_cascade c.self.invariant.0 open_gate c.seal_at.new.heads c.seal_at.ensures.nodes new C.placed in
     let frames : frames_of new.items ≡ frames_of s.heads.items = C.frames ∙ c.seal_at.ensures.frames in
     let heads_long : new.len ≡ s.heads.len = omega (arith, ap length frames, length-map new.items frame_of, length-map s.heads.items frame_of, new.ok.0, s.heads.ok.0) in
-    let leveled = leveled_then c.deref-in-Ok-2.ensures.value (ap length c.renew.ensures.floors ∙ c.settle.ensures.leveled.long) c.renew.ensures.leveled in
+    let leveled = leveled_then c.deref-in-Ok-2.ensures.value (ap length c.renew.ensures.floors ∙ c.lower.ensures.leveled.long) c.renew.ensures.leveled in
     let at = (goal.at.invariant_of-self c).After-cascade-landed in
     let sound = shut_sound c.self.invariant.0 open_gate c.seal_at.new.heads c.seal_at.ensures.nodes new C.placed c.cascade-landed.result C.settled C.landed {told = c.cascade-landed.new.standings} {emptied = c.cascade-landed.new.queue} leveled C.spread C.standing C.empty (C.capacity ∙ c.seal_at.ensures.capacity) in
     let R = remembered_still s.heads.items new.items (marks at) {now = c.cascade-landed.new.landed} C.listed C.shelf c.self.invariant.1 in
@@ -88,7 +88,7 @@ invariant_of-self c =
           sound
           (if_prepared c.self.invariant.0 (IsPrepared new s.ends c.renew.new.levels s.needs s.lists s.covers c.cascade-landed.new.queue s.numbers s.blocks) (λ p is k. record {
             ready = put_begun (patches_of s.heads.items) s.numbers s.blocks s.ends.up.walk.marks c.self.invariant.0.keeps g (patches_of new.items) open_gate cascade (remembered_of s.heads.items) (remembered_of new.items) p as_many (head_told s.prepared s.numbers c.requires.0 g p (ap (λ k. k.prepared) c.self.view_is ∙ c.requires.1) c.requires.2 is) k.ready;
-            places = places_kept heads_long (C.places ∙ c.seal_at.ensures.places) (c.renew.ensures.room.0 ∙ c.settle.ensures.room.0, c.renew.ensures.room.1 ∙ c.settle.ensures.room.1) k.places;
+            places = places_kept heads_long (C.places ∙ c.seal_at.ensures.places) (c.renew.ensures.room.0 ∙ c.lower.ensures.room.0, c.renew.ensures.room.1 ∙ c.lower.ensures.room.1) k.places;
             waits = omega (arith, heads_long, C.capacity, c.seal_at.ensures.capacity, k.waits);
             around = around_kept new.items s.heads.items frames p k.around;
             runs = k.runs;

@@ -3,7 +3,7 @@ use Rattle.std.proofs.Common.{◌∙◌, ◌≤◌, ap, arith, get_or, length, m
 use Rattle.fst_heads.specs.{Heads.patches_of}
 use Rattle.fst_walks.specs.Leveling.{IsLeveled, Leveling, floor_of, level_of}
 use Rattle.fst_walks.proofs.{Highest.{max_first, max_second}, Lowered.lowered_is_leveled, Ranked.ranks_rise}
-use Rattle.fst_walks.proofs.levels.Levels.settle.Goals as goal
+use Rattle.fst_walks.proofs.levels.Levels.lower.Goals as goal
 
 pub raise-requires-clause-rising : goal.raise-requires-clause-rising
 raise-requires-clause-rising c = ranks_rise c.args.heads.now c.self.inside.ranks.items c.requires.rising (ap (λ v. map (λ r. r.number) v.ranks) c.self.view_is ∙ c.requires.leveled.aligned)

@@ -1,12 +1,12 @@
 -- One step of a spread: what is pending of one patch now is told to its dependants.
 use Rattle.fst_heads.proofs.Basics.{◌≡◌, ◌≢◌, ◌⊎◌, ◌↔◌, ◌<◌, ◌≤◌, ℕ, true, false, List, [], ◌∷◌, ◌++◌, length, map, Contains, AllPairs, refl, sym, ap, subst, ◌∙◌, inl, inr, arith, cases_Bool, cases_eq, both_ways, length-map, Contains-push, Contains-push_cases, Contains-append_left, Contains-append_right}
 use Rattle.fst_heads.proofs.{Basics.{Contains-append_cases, AllPairs-filter}, Patches.{Follows, In, In-map, In_decided, In-from_Contains, Contains-from_In}}
-use Rattle.fst_heads.proofs.Words.{Pending, Node, pending_in, at_number, AreLinked, AreDistinct, Fits, HasIn, IsOf, joined, joined_sums, of_kind, plus, minus, sums_of, max_block, Spreading, IsSpreadOf, CanHear, now, is_told, settles, heard, woken, unspread, unrisen, IsRisenOf}
+use Rattle.fst_heads.proofs.Words.{Pending, Node, pending_in, at_number, AreLinked, AreDistinct, Fits, HasIn, IsOf, joined, joined_sums, of_kind, plus, minus, sums_of, max_block, Spreading, IsSpreadOf, CanUpdate, now, is_recorded, recorded, notified, enqueued, unspread, unrisen, IsRisenOf}
 use Rattle.fst_heads.proofs.{AtNumber.{at_same, at_other}, Placed.{unmapped, map_alike}}
 use Rattle.fst_heads.proofs.Sums.{joined_exact, joined_some, sums_fit, sums_has, sums_moved, sums_same}
 use Rattle.fst_heads.proofs.Going.{OneWay, goes_nothing, never_back, kind_goes, row_goes}
-use Rattle.fst_heads.proofs.Turning.{Turns, turned, turns, untold, not_told, told_now, block_of, unrisen_stays}
-use Rattle.fst_heads.proofs.Waiting.{mapped, map_twice, same_node, pending_of, pending_node, pending_mapped, rising_mapped, distance, distance_lower, times_some, some_times, once_fits, once_append, once_front, once_last, set_number, set_sums, woken_from, woken_to}
+use Rattle.fst_heads.proofs.Turning.{Turns, turned, turns, stale, not_recorded, recorded_now, block_of, unrisen_stays}
+use Rattle.fst_heads.proofs.Waiting.{mapped, map_twice, same_node, pending_of, pending_node, pending_mapped, rising_mapped, distance, distance_lower, times_some, some_times, once_fits, once_append, once_front, once_last, set_number, set_sums, enqueued_from, enqueued_to}
 use Rattle.fst_heads.proofs.Patches.place
 use Rattle.fst_heads.proofs.Words.pending
 
@@ -29,7 +29,7 @@ module _ {goes : Pending → Pending → Type 0} (nodes : List Node) (blocks : �
       omega (arith, few, length-map nodes number)
 
 -- the last that waits is a patch of which other is pending than its dependants know
-pub last_waits : {goes : Pending → Pending → Type 0} (nodes : List Node) (blocks : ℕ) (queue : List ℕ) (q : ℕ) → Spreading goes nodes blocks (queue ++ q ∷ []) → (x : Node) × Contains nodes x × (x.patch.number ≡ q) × (is_told x ≡ false)
+pub last_waits : {goes : Pending → Pending → Type 0} (nodes : List Node) (blocks : ℕ) (queue : List ℕ) (q : ℕ) → Spreading goes nodes blocks (queue ++ q ∷ []) → (x : Node) × Contains nodes x × (x.patch.number ≡ q) × (is_recorded x ≡ false)
 last_waits nodes blocks queue q S = S.queued q (Contains-push queue q)
 
 same_spread : (f : Node → Node) (nodes : List Node) → ((y : Node) → unspread (f y) ≡ unspread y) → map unspread (map f nodes) ≡ map unspread nodes
@@ -40,10 +40,10 @@ module _ {goes : Pending → Pending → Type 0} {far : Pending → ℕ} (way : 
     (S : Spreading goes nodes blocks (queue ++ q ∷ [])) (linked : AreLinked nodes) (distinct : AreDistinct nodes) (c : Contains nodes x) (e : x.patch.number ≡ q) where
   -- it is told, and then its dependants
   abbrev pub settled : List Node
-  settled = map (at_number q settles) nodes
+  settled = map (at_number q recorded) nodes
 
   abbrev pub told : List Node
-  told = map (heard x.dependants x.pending (now x)) settled
+  told = map (notified x.dependants x.pending (now x)) settled
 
   -- what is pending at each number, before and after
   abbrev was : ℕ → Pending
@@ -62,22 +62,22 @@ module _ {goes : Pending → Pending → Type 0} {far : Pending → ℕ} (way : 
   other : now x ≢ x.pending
   other =
       let s = last_waits nodes blocks queue q S in
-      untold x (subst (λ z. is_told z ≡ false) (same_node nodes s.0 x S.rising s.1 c (s.2 ∙ sym e)) s.3)
+      stale x (subst (λ z. is_recorded z ≡ false) (same_node nodes s.0 x S.rising s.1 c (s.2 ∙ sym e)) s.3)
 
   pub live : x.pending ≢ pending.Nothing
   live none = other (goes_nothing way x.pending (now x) (S.moves x c) none ∙ sym none)
 
   in_one : told ≡ map after nodes
-  in_one = map_twice (heard x.dependants x.pending (now x)) (at_number q settles) nodes
+  in_one = map_twice (notified x.dependants x.pending (now x)) (at_number q recorded) nodes
 
   goes_on : (y : Node) → Contains nodes y → Contains told (after y)
-  goes_on y cy = mapped (heard x.dependants x.pending (now x)) settled (at_number q settles y) (mapped (at_number q settles) nodes y cy)
+  goes_on y cy = mapped (notified x.dependants x.pending (now x)) settled (at_number q recorded y) (mapped (at_number q recorded) nodes y cy)
 
   came_from : (z : Node) → Contains told z → (y : Node) × Contains nodes y × (after y ≡ z)
   came_from z cz =
-      let a = unmapped (heard x.dependants x.pending (now x)) settled z cz in
-      let b = unmapped (at_number q settles) nodes a.0 a.1 in
-      (b.0, b.1, ap (heard x.dependants x.pending (now x)) b.2 ∙ a.2)
+      let a = unmapped (notified x.dependants x.pending (now x)) settled z cz in
+      let b = unmapped (at_number q recorded) nodes a.0 a.1 in
+      (b.0, b.1, ap (notified x.dependants x.pending (now x)) b.2 ∙ a.2)
 
   keeps_number : (y : Node) → (after y).patch.number ≡ y.patch.number
   keeps_number y = (turn y).stays.number
@@ -175,11 +175,11 @@ module _ {goes : Pending → Pending → Type 0} {far : Pending → ℕ} (way : 
     | inr ne ↦ S.inside y b cy (subst (IsOf b) ((turn y).as_it_was ne) p)
   ]
 
-  abbrev waking : List ℕ
-  waking = woken x.dependants x.pending (now x) settled
+  abbrev enqueuing : List ℕ
+  enqueuing = enqueued x.dependants x.pending (now x) settled
 
-  queued_at : (m : ℕ) → Contains (queue ++ waking) m → (z : Node) × Contains told z × (z.patch.number ≡ m) × (is_told z ≡ false)
-  queued_at m cm = elim (Contains-append_cases queue waking m cm) [
+  queued_at : (m : ℕ) → Contains (queue ++ enqueuing) m → (z : Node) × Contains told z × (z.patch.number ≡ m) × (is_recorded z ≡ false)
+  queued_at m cm = elim (Contains-append_cases queue enqueuing m cm) [
     | inl old ↦
         let s = S.queued m (Contains-append_left queue (q ∷ []) m old) in
         let ne = once_last queue q m S.once old in
@@ -187,48 +187,48 @@ module _ {goes : Pending → Pending → Type 0} {far : Pending → ℕ} (way : 
           after s.0,
           goes_on s.0 s.1,
           keeps_number s.0 ∙ s.2,
-          not_told (after s.0) (λ t. never_back way s.0.pending (now s.0) (now (after s.0)) (S.moves s.0 s.1) (untold s.0 s.3) (now_goes s.0 s.1) (t ∙ kept)),
+          not_recorded (after s.0) (λ t. never_back way s.0.pending (now s.0) (now (after s.0)) (S.moves s.0 s.1) (stale s.0 s.3) (now_goes s.0 s.1) (t ∙ kept)),
         )
     | inr new ↦
-        let w = woken_from nodes x.dependants x.pending (now x) q m new in
+        let w = enqueued_from nodes x.dependants x.pending (now x) q m new in
         (after w.0, goes_on w.0 w.1, keeps_number w.0 ∙ w.2, w.4)
   ]
 
-  in_front : (y : Node) → Contains nodes y → y.patch.number ≢ q → is_told y ≡ false → Contains (queue ++ waking) y.patch.number
+  in_front : (y : Node) → Contains nodes y → y.patch.number ≢ q → is_recorded y ≡ false → Contains (queue ++ enqueuing) y.patch.number
   in_front y cy ne u = elim (Contains-push_cases queue q y.patch.number (S.waits y cy u)) [
-    | inl old ↦ Contains-append_left queue waking y.patch.number old
+    | inl old ↦ Contains-append_left queue enqueuing y.patch.number old
     | inr here ↦ absurd (ne (sym here))
   ]
 
-  wakes_at : (y : Node) → Contains nodes y → In x.dependants y.patch.number → is_told (at_number q settles y) ≡ true → is_told (after y) ≡ false → Contains (queue ++ waking) y.patch.number
-  wakes_at y cy h t u = Contains-append_right queue waking y.patch.number (woken_to nodes x.dependants x.pending (now x) q y cy h t u)
+  enqueues_at : (y : Node) → Contains nodes y → In x.dependants y.patch.number → is_recorded (at_number q recorded y) ≡ true → is_recorded (after y) ≡ false → Contains (queue ++ enqueuing) y.patch.number
+  enqueues_at y cy h t u = Contains-append_right queue enqueuing y.patch.number (enqueued_to nodes x.dependants x.pending (now x) q y cy h t u)
 
-  waits_at : (y : Node) → Contains nodes y → is_told (after y) ≡ false → Contains (queue ++ waking) y.patch.number
+  waits_at : (y : Node) → Contains nodes y → is_recorded (after y) ≡ false → Contains (queue ++ enqueuing) y.patch.number
   waits_at y cy u = elim (In_decided x.dependants y.patch.number) [
     | inl h ↦ elim (cases_eq y.patch.number q) [
-      | inl n ↦ wakes_at y cy h (subst (λ z. is_told z ≡ true) (sym (at_same q settles y n)) (told_now (settles y) refl)) u
-      | inr ne ↦ elim (cases_Bool (is_told y)) [
-        | inl t ↦ wakes_at y cy h (subst (λ z. is_told z ≡ true) (sym (at_other q settles y ne)) t) u
+      | inl n ↦ enqueues_at y cy h (subst (λ z. is_recorded z ≡ true) (sym (at_same q recorded y n)) (recorded_now (recorded y) refl)) u
+      | inr ne ↦ elim (cases_Bool (is_recorded y)) [
+        | inl t ↦ enqueues_at y cy h (subst (λ z. is_recorded z ≡ true) (sym (at_other q recorded y ne)) t) u
         | inr f ↦ in_front y cy ne f
       ]
     ]
     | inr out ↦ elim (cases_eq y.patch.number q) [
-      | inl n ↦ absurd (untold (after y) u (now_same y out ∙ sym ((turn y).as_it_is n)))
-      | inr ne ↦ in_front y cy ne (not_told y (λ t. untold (after y) u (now_same y out ∙ (t ∙ sym ((turn y).as_it_was ne)))))
+      | inl n ↦ absurd (stale (after y) u (now_same y out ∙ sym ((turn y).as_it_is n)))
+      | inr ne ↦ in_front y cy ne (not_recorded y (λ t. stale (after y) u (now_same y out ∙ (t ∙ sym ((turn y).as_it_was ne)))))
     ]
   ]
 
-  once_at : AllPairs (λ m n. m ≢ n) (queue ++ waking)
-  once_at = once_append queue waking (once_front queue q S.once) (AllPairs-filter (λ m n. m ≢ n) _ x.dependants (distinct x c).1) (λ n old new.
+  once_at : AllPairs (λ m n. m ≢ n) (queue ++ enqueuing)
+  once_at = once_append queue enqueuing (once_front queue q S.once) (AllPairs-filter (λ m n. m ≢ n) _ x.dependants (distinct x c).1) (λ n old new.
       let s = S.queued n (Contains-append_left queue (q ∷ []) n old) in
       let ne = once_last queue q n S.once old in
-      let w = woken_from nodes x.dependants x.pending (now x) q n new in
-      let t = subst (λ z. is_told z ≡ true) (at_other q settles w.0 (λ m. ne (sym w.2 ∙ m))) w.3 in
-      both_ways (is_told s.0) s.3 (subst (λ z. is_told z ≡ true) (same_node nodes w.0 s.0 S.rising w.1 s.1 (w.2 ∙ sym s.2)) t))
+      let w = enqueued_from nodes x.dependants x.pending (now x) q n new in
+      let t = subst (λ z. is_recorded z ≡ true) (at_other q recorded w.0 (λ m. ne (sym w.2 ∙ m))) w.3 in
+      both_ways (is_recorded s.0) s.3 (subst (λ z. is_recorded z ≡ true) (same_node nodes w.0 s.0 S.rising w.1 s.1 (w.2 ∙ sym s.2)) t))
 
-  pub can_hear : (y : Node) → Contains settled y → Contains x.dependants y.patch.number → CanHear x.pending y
-  can_hear y cy hit =
-      let u = unmapped (at_number q settles) nodes y cy in
+  pub can_update : (y : Node) → Contains settled y → Contains x.dependants y.patch.number → CanUpdate x.pending y
+  can_update y cy hit =
+      let u = unmapped (at_number q recorded) nodes y cy in
       let same : y.sums ≡ u.0.sums = ap (λ (z : Node). z.sums) (sym u.2) ∙ set_sums q u.0 in
       let number : y.patch.number ≡ u.0.patch.number = ap (λ (z : Node). z.patch.number) (sym u.2) ∙ set_number q u.0 in
       let row = u.0.patch.dependencies in
@@ -238,7 +238,7 @@ module _ {goes : Pending → Pending → Type 0} {far : Pending → ℕ} (way : 
         subst (HasIn x.pending) (sym (same ∙ S.summed u.0 u.1)) (subst (λ a. HasIn a (sums_of was row)) was_here has),
       )
 
-  pub spreads_on : Spreading goes told blocks (queue ++ woken x.dependants x.pending (now x) settled)
+  pub spreads_on : Spreading goes told blocks (queue ++ enqueued x.dependants x.pending (now x) settled)
   spreads_on = record {
     rising = rising_on;
     summed = λ z cz. let r = came_from z cz in subst (λ (w : Node). w.sums ≡ sums_of is w.patch.dependencies) r.2 (sums_are r.0 r.1 ∙ ap (sums_of is) (sym (turn r.0).stays.dependencies));
@@ -250,7 +250,7 @@ module _ {goes : Pending → Pending → Type 0} {far : Pending → ℕ} (way : 
     queued = queued_at;
     waits = λ z cz u.
         let r = came_from z cz in
-        subst (Contains (queue ++ waking)) (sym (keeps_number r.0) ∙ ap (λ (w : Node). w.patch.number) r.2) (waits_at r.0 r.1 (subst (λ w. is_told w ≡ false) (sym r.2) u));
+        subst (Contains (queue ++ enqueuing)) (sym (keeps_number r.0) ∙ ap (λ (w : Node). w.patch.number) r.2) (waits_at r.0 r.1 (subst (λ w. is_recorded w ≡ false) (sym r.2) u));
     once = once_at;
   }
 

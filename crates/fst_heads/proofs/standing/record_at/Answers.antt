@@ -1,6 +1,6 @@
 use Rattle.fst_heads.proofs.Basics.{◌≡◌, ◌<◌, ◌∙◌, ◌&&◌, ℕ, Bool, List, length, set, get_or, vec_len, Vec, Global, true, false, refl, sym, ap, subst, arith, and_right, rules, common_steps}
 use Rattle.fst_heads.proofs.Patches.{Grade, Place, is_at, is_on}
-use Rattle.fst_heads.proofs.Words.{Head, Standing, kind_of, Node, node_of, nodes_of, Pending, Fits, Sinks, is_pending, now, is_told, settles, AllStand}
+use Rattle.fst_heads.proofs.Words.{Head, Standing, kind_of, Node, node_of, nodes_of, Pending, Fits, Sinks, is_pending, now, is_recorded, recorded, AllStand}
 use Rattle.fst_heads.proofs.{Framed.frames_set, AtNumber.at_index, Releasing.{node_at, few_ready, some_held, stand_freed, stand_held, stand_told}}
 use Rattle.fst_heads.proofs.{Indices.index_here, PendingAt.node_in}
 use Rattle.fst_types.specs.declared.span.Span.{Span}
@@ -8,13 +8,13 @@ use Rattle.fst_heads.proofs.Patches.place
 use Rattle.fst_heads.proofs.Words.pending
 use Rattle.fst_heads.specs.declared.head.Kind.{Kind}
 use Rattle.fst_heads.specs.declared.head.Kind.TheVariants as kinds
-use Rattle.fst_heads.proofs.standing.settle_at.Goals as goal
-use Rattle.fst_heads.proofs.standing.settle_at.Goals.{in-Change+in-Memory+then-is_pending, in-Change+in-Memory+else-is_pending, in-Change+in_default-place, in_default}
+use Rattle.fst_heads.proofs.standing.record_at.Goals as goal
+use Rattle.fst_heads.proofs.standing.record_at.Goals.{in-Change+in-Memory+then-is_pending, in-Change+in-Memory+else-is_pending, in-Change+in_default-place, in_default}
 
 pub pending_now-new-requires : goal.pending_now-new-requires
 pending_now-new-requires c =
     let h = c.index_mut-head.result.now in
-    subst (λ (x : Node). Fits x.sums) (node_at c.args.heads.now.items c.args.index h (node_of h) (omega (arith, c.requires.index, c.args.heads.now.ok.0)) c.index_mut-head.ensures.value) (c.requires.untold (node_of h)).fits
+    subst (λ (x : Node). Fits x.sums) (node_at c.args.heads.now.items c.args.index h (node_of h) (omega (arith, c.requires.index, c.args.heads.now.ok.0)) c.index_mut-head.ensures.value) (c.requires.stale (node_of h)).fits
 
 pub index_mut-requires : goal.index_mut-requires
 index_mut-requires c =
@@ -26,8 +26,8 @@ index_mut-requires c =
 index_sinks : (heads : List Head) (s : ℕ) (h : Head) → get_or (nodes_of heads) s (node_of h) ≡ node_of h → ((d : Node) → Sinks (get_or (nodes_of heads) s d).pending (now (get_or (nodes_of heads) s d))) → Sinks h.pending (now (node_of h))
 index_sinks heads s h at all = subst (λ (x : Node). Sinks x.pending (now x)) at (all (node_of h))
 
-index_untold : (heads : List Head) (s : ℕ) (h : Head) → get_or (nodes_of heads) s (node_of h) ≡ node_of h → ((d : Node) → is_told (get_or (nodes_of heads) s d) ≡ false) → is_told (node_of h) ≡ false
-index_untold heads s h at all = subst (λ (x : Node). is_told x ≡ false) at (all (node_of h))
+index_stale : (heads : List Head) (s : ℕ) (h : Head) → get_or (nodes_of heads) s (node_of h) ≡ node_of h → ((d : Node) → is_recorded (get_or (nodes_of heads) s d) ≡ false) → is_recorded (node_of h) ≡ false
+index_stale heads s h at all = subst (λ (x : Node). is_recorded x ≡ false) at (all (node_of h))
 
 -- what is not in memory, or no change, is no change in memory
 off_memory : (p : Place) (on : Bool) → (p ≡ place.Memory → ⊥) → (is_at p place.Memory && on) ≡ false
@@ -56,11 +56,11 @@ release-requires c =
     let inside = c.requires.inside (node_of h) c.in-Change.block c.in-Change.field-2.at c.in-Change.field-2.len c.in-Change.field-0 (node_in heads s h lt e) (ap kind_of c.in-Change.is) in
     let few = few_ready heads s h lt e (vec_len c.args.standings.now) c.args.standings.now.items c.requires.standing
     c.in-Change.block c.in-Change.field-2.at c.in-Change.field-2.len c.in-Change.field-0 (ap kind_of c.in-Change.is) c.in-Memory.is
-    (index_sinks heads s h at (λ d. (c.requires.untold d).sinks)) (index_untold heads s h at (λ d. (c.requires.untold d).untold)) inside c.index_mut.result.now c.index_mut.ensures.value
+    (index_sinks heads s h at (λ d. (c.requires.stale d).sinks)) (index_stale heads s h at (λ d. (c.requires.stale d).stale)) inside c.index_mut.result.now c.index_mut.ensures.value
     (is_block_now h c.pending_now-new.result c.in-Change.block c.pending_now-new.ensures (sym c.is_pending.ensures ∙ c.if-is_pending.true)) in
     record {
       ready = omega (arith, few, c.args.heads.now.ok.0, c.args.heads.now.ok.1, c.args.heads.now.small);
-      held = grind (arith, common_steps, some_held, index_sinks, index_untold);
+      held = grind (arith, common_steps, some_held, index_sinks, index_stale);
     }
 
 pub returns-clause-nodes : goal.returns-clause-nodes
@@ -75,20 +75,20 @@ returns-clause-standing c =
     let e = c.index_mut-head.ensures.value in
     let at = node_at heads s h (node_of h) lt e in
     let after : Head = record h { pending = c.pending_now-new.result } in
-    let same : node_of after ≡ settles (node_of h) = ap (λ p. node_of (record h { pending = p })) c.pending_now-new.ensures in
+    let same : node_of after ≡ recorded (node_of h) = ap (λ p. node_of (record h { pending = p })) c.pending_now-new.ensures in
     elim c.match-head.branch [
       | in-Change+in-Memory+else-is_pending w ↦
           subst (λ (v : Vec Standing Global). AllStand (nodes_of (set heads s after)) (vec_len c.args.standings.now) v.items) (sym w.standings-is)
           (stand_held heads s h lt e (vec_len c.args.standings.now) c.args.standings.now.items c.requires.standing
           w.in-Change.block w.in-Change.field-2.at w.in-Change.field-2.len w.in-Change.field-0 (ap kind_of w.in-Change.is) w.in-Memory.is
-          (index_sinks heads s h at (λ d. (c.requires.untold d).sinks)) (index_untold heads s h at (λ d. (c.requires.untold d).untold))
+          (index_sinks heads s h at (λ d. (c.requires.stale d).sinks)) (index_stale heads s h at (λ d. (c.requires.stale d).stale))
           after same (not_block_now h c.pending_now-new.result w.in-Change.block c.pending_now-new.ensures (sym w.is_pending.ensures ∙ w.if-is_pending.false)))
       | in-Change+in-Memory+then-is_pending w ↦
           let inside = c.requires.inside (node_of h) w.in-Change.block w.in-Change.field-2.at w.in-Change.field-2.len w.in-Change.field-0 (node_in heads s h lt e) (ap kind_of w.in-Change.is) in
           subst (λ (v : Vec Standing Global). AllStand (nodes_of (set heads s after)) (vec_len c.args.standings.now) v.items) (sym w.standings-is)
           (stand_freed heads s h lt e (vec_len c.args.standings.now) c.args.standings.now.items c.requires.standing
           w.in-Change.block w.in-Change.field-2.at w.in-Change.field-2.len w.in-Change.field-0 (ap kind_of w.in-Change.is) w.in-Memory.is
-          (index_sinks heads s h at (λ d. (c.requires.untold d).sinks)) (index_untold heads s h at (λ d. (c.requires.untold d).untold)) inside w.index_mut.result.now w.index_mut.ensures.value
+          (index_sinks heads s h at (λ d. (c.requires.stale d).sinks)) (index_stale heads s h at (λ d. (c.requires.stale d).stale)) inside w.index_mut.result.now w.index_mut.ensures.value
           (is_block_now h c.pending_now-new.result w.in-Change.block c.pending_now-new.ensures (sym w.is_pending.ensures ∙ w.if-is_pending.true)) after same w.release.new.self w.release.ensures)
       | in-Change+in_default-place w ↦
           subst (λ (v : Vec Standing Global). AllStand (nodes_of (set heads s after)) (vec_len c.args.standings.now) v.items) (sym w.standings-is)
