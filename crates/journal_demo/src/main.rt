@@ -8,17 +8,29 @@
 #![tactic(auto)]
 
 use journal_parts::{StoreFault, groups, guide, keep, transfers};
+use std::process::ExitCode;
 use std::{env, io};
 
-fn main(rt: HostRuntime) -> Result<(), StoreFault> {
-    let words: Vec<String> = env::args(&rt)?.collect(rt.alloc())?;
+fn carry_out(rt: &HostRuntime) -> Result<(), StoreFault> {
+    let words: Vec<String> = env::args(rt)?.collect(rt.alloc())?;
     match words.get(1) {
         None => {
-            let mut out = io::writer(&rt);
+            let mut out = io::writer(rt);
             guide::guide(rt.alloc(), &mut out)?;
             groups::groups(rt.alloc(), &mut out)?;
             transfers(rt.alloc(), &mut out)
         }
-        Some(name) => keep(&rt, name.as_str()),
+        Some(name) => keep(rt, name.as_str()),
+    }
+}
+
+fn main(rt: HostRuntime) -> ExitCode {
+    match carry_out(&rt) {
+        Ok(()) => ExitCode::SUCCESS,
+        Err(fault) => {
+            // Where even this cannot be written, the status tells.
+            let _ = eprintln!(rt; "journal_demo: {fault}");
+            ExitCode::FAILURE
+        }
     }
 }
