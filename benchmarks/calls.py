@@ -293,6 +293,18 @@ def cycles():
     return made
 
 
+def cycle_over_a_chain():
+    """A cycle refused again and again, at or near the end of a chain of 20,000 patches over the gate."""
+    made = Script(64)
+    gate = made.gate()
+    chain = [gate]
+    for i in range(20_000):
+        chain.append(made.patch(i % 64, i // 64 % 4096, [chain[-1]]))
+    for i in range(5000):
+        made.depend(gate, made.dice.choice(chain[-100:]) if i % 2 else chain[-1])
+    return made
+
+
 def hot():
     """Half of the changes on one block, each after one of the last 3,000 others."""
     made = Script(17)
@@ -309,7 +321,7 @@ def hot():
 SHAPES = [
     forget_each, forget_few, forget_nothing, after_old_ones, places, write_beside, refused,
     forget_one, choose_in_flight, picks, full, one_clean, groups_ahead, groups_of_one_block, groups_behind_a_chain,
-    group_before_another, depend_below_many, cycles, hot,
+    group_before_another, depend_below_many, cycles, cycle_over_a_chain, hot,
 ]
 
 

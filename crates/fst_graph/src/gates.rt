@@ -6,7 +6,6 @@ ghost use Rattle.fst_types.specs.Limits.{max_heads};
 ghost use Rattle.fst_types.specs.Lists.{Lists};
 ghost use Rattle.fst_types.specs.Order.{seal_order, depend_order};
 ghost use Rattle.fst_types.specs.Refusals.{IsFirst, NoneHolds};
-ghost use Rattle.fst_types.specs.Facts.{IsOnDiskWithAll};
 ghost use Rattle.fst_types.specs.Gates.{IsOpenNumber};
 ghost use Rattle.fst_heads.specs.Heads.{IsRising, patches_of};
 ghost use Rattle.fst_heads.specs.Names.{numbers_of};
@@ -16,7 +15,8 @@ ghost use Rattle.fst_heads.specs.Pendings.{Fits, sums_of};
 ghost use Rattle.fst_heads.specs.Spreading.{is_waiting};
 ghost use Rattle.fst_graph.specs.Remembered.{AreGone};
 ghost use Rattle.fst_graph.specs.Sound.{remembered_of};
-ghost use Rattle.fst_walks.specs.Searching.{AreOver, TellsGates};
+ghost use Rattle.fst_walks.specs.Searching.{AreOver};
+ghost use Rattle.fst_walks.specs.Sights.{Sees};
 
 use fst_heads::growth::{gain, missing_names};
 use fst_heads::head::{Head, Kind};
@@ -26,6 +26,7 @@ use fst_heads::row::{is_given, names_unknown, row_sums};
 use fst_types::{Fault, MAX_NAMES, PatchNo};
 use fst_walks::cycle::closes_cycle;
 use fst_walks::ends::Ends;
+use fst_walks::sight::Sight;
 use std::alloc::{AllocError, Global};
 
 /// The index of an open gate, or why it is none: the number was not given, it is no gate's or forgotten, or the gate is sealed.
@@ -55,25 +56,22 @@ pub fn gate_index(heads: &[Head], numbers: u32, gate: u32) -> Result<usize, Faul
 
 /// Why the gate cannot gain these names. What was met before does not matter.
 pub fn depend_fault(
-    heads: &[Head],
+    sight: &Sight<'_>,
     ends: &mut Ends,
     numbers: u32,
     gate: u32,
     on: &[PatchNo],
 ) -> Option<Fault>
-    requires rising { IsRising heads.now }
-    requires disk { IsOnDiskWithAll (patches_of heads.now) }
-    requires gone { AreGone (is_forgotten_in (nodes_of heads.now)) (patches_of heads.now) }
-    requires over { AreOver heads.now ends.old }
-    requires linked { AreLinked (nodes_of heads.now) }
-    requires gates { TellsGates heads.now }
-    ensures first { IfSome result (IsFirst (depend_order (remembered_of heads.now) numbers gate (numbers_of on.now))) }
-    ensures clear { IfNone result (NoneHolds (depend_order (patches_of heads.now) numbers gate (numbers_of on.now))) }
-    ensures is_open { IfNone result (IsOpenNumber (patches_of heads.now) gate) }
-    ensures over { AreOver heads.now ends.new }
+    requires sees { Sees sight.now }
+    requires gone { AreGone (is_forgotten_in (nodes_of sight.now.heads.now)) (patches_of sight.now.heads.now) }
+    requires over { AreOver sight.now.heads.now ends.old }
+    ensures first { IfSome result (IsFirst (depend_order (remembered_of sight.now.heads.now) numbers gate (numbers_of on.now))) }
+    ensures clear { IfNone result (NoneHolds (depend_order (patches_of sight.now.heads.now) numbers gate (numbers_of on.now))) }
+    ensures is_open { IfNone result (IsOpenNumber (patches_of sight.now.heads.now) gate) }
+    ensures over { AreOver sight.now.heads.now ends.new }
     ensures crossed { (ends.new.up.crossed ≡ ends.old.up.crossed) × (ends.new.down.crossed ≡ ends.old.down.crossed) }
 {
-    let index = match gate_index(heads, numbers, gate) {
+    let index = match gate_index(sight.heads, numbers, gate) {
         Ok(index) => index,
         Err(fault) => return Some(fault),
     };
@@ -83,7 +81,7 @@ pub fn depend_fault(
     if names_unknown(numbers, on) {
         return Some(Fault::NoPatch);
     }
-    if closes_cycle(heads, ends, index, gate, on) {
+    if closes_cycle(sight, ends, index, gate, on) {
         return Some(Fault::Cycle);
     }
     None

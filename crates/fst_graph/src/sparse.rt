@@ -37,6 +37,7 @@ use fst_walks::ancestors::renew;
 use fst_walks::ends::Ends;
 use fst_walks::levels::Levels;
 use fst_walks::needs::Needs;
+use fst_walks::sight::Sight;
 use fst_walks::sink::{sink_floor, sink_over};
 use std::alloc::{AllocError, Global};
 use std::marker::Model;
@@ -235,7 +236,14 @@ impl Sparse {
         ensures blocks { self.new.blocks ≡ self.old.blocks }
     {
         let_go(&mut self.prepared);
-        if let Some(fault) = depend_fault(&self.heads, &mut self.ends, self.numbers, gate.0, on) {
+        let sight = Sight {
+            heads: &self.heads,
+            lists: &self.lists,
+            covers: &self.covers,
+            levels: &self.levels,
+            needs: &self.needs,
+        };
+        if let Some(fault) = depend_fault(&sight, &mut self.ends, self.numbers, gate.0, on) {
             return Err(fault);
         }
         let Ok(()) = gain_names(self.alloc, &mut self.heads, gate.0, on) else {

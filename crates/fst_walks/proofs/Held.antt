@@ -8,7 +8,7 @@ use Rattle.fst_heads.specs.{Nodes.{Node, nodes_of, patches_in, pending_in, AreSe
 use Rattle.fst_heads.specs.declared.pending.Pending.{Pending}
 use Rattle.fst_heads.proofs.{AtNumber.patches_in_nodes, Joining.{join_held, held_join}, Listing.rising_patches, PendingIn.{found, told_of}}
 use Rattle.fst_heads.proofs.Placed.{patch_in, node_of_patch}
-use Rattle.fst_walks.specs.Searching.{AreHeldByGates}
+use Rattle.fst_walks.specs.{Searching.{AreHeldByGates, TellsGates}, Sights.Sees, declared.sight.Sight.Sight}
 use Rattle.fst_types.specs.declared.place.Place.TheVariants as place
 use Rattle.fst_heads.specs.declared.pending.Pending.TheVariants as pending
 
@@ -144,3 +144,9 @@ module _ (heads : List Head) (blocks : ℕ) (rising : HeadsRise heads) (acyclic 
   pub under_gate : (row : List ℕ) → HasUnder (patches_of heads) row (IsOpenNumber (patches_of heads)) → joined (pending_in (nodes_of heads)) row ≡ pending.Held
   under_gate row u =
       under_held (nodes_of heads) blocks (rw (patches_in_nodes heads) (rising_patches heads rising)) (rw (patches_in_nodes heads) acyclic) (rw (patches_in_nodes heads) D) S row (rw (patches_in_nodes heads) u)
+
+-- what a search sees tells of the open gates
+pub gates_seen : (sight : Sight) → Sees sight → TellsGates sight.heads.now
+gates_seen sight s =
+    let heads = sight.heads.now in
+    record { live = heads_live heads _ s.rising s.acyclic s.disk s.settled; held = heads_held heads _ s.rising s.acyclic s.disk s.settled }

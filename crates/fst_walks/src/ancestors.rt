@@ -9,9 +9,12 @@
 //! comes after it, and the first change of another block beside the ancestors too.
 
 ghost use Rattle.std.specs.Prelude.{◌≡◌, ◌<◌, ◌⊎◌, ℕ, IsTrue, IfSome, Contains, length, map};
+ghost use Rattle.fst_types.specs.Gates.{IsOpenNumber};
+ghost use Rattle.fst_types.specs.Order.{NamesAbove};
 ghost use Rattle.fst_heads.specs.declared.test.Test.TheVariants as test;
 ghost use Rattle.fst_heads.specs.Heads.{IsRising, patches_of};
 ghost use Rattle.fst_heads.specs.Indices.{PassesAt};
+ghost use Rattle.fst_heads.specs.Names.{numbers_of};
 ghost use Rattle.fst_walks.specs.Ancestors.{AreOver, GoesUnder, LeadsTo};
 ghost use Rattle.fst_walks.specs.Leveling.{IsLeveled, jump_of, parent_of};
 ghost use Rattle.fst_walks.specs.Sights.{Sees};
@@ -23,6 +26,7 @@ use crate::sight::Sight;
 use fst_heads::head::{Head, Kind};
 use fst_heads::lists::Listed;
 use fst_heads::test::Test;
+use fst_types::PatchNo;
 
 // How many of the newest changes of a block are looked at, and how many of these, at most, are looked for among the
 // ancestors. Behind a gate one patch of many goes on to the next gate, and may be far from the newest of its block.
@@ -30,7 +34,7 @@ const NEWEST: usize = 64;
 
 const TRIED: u32 = 8;
 
-// From how many of a row they are looked for.
+// From how many of a row, or of names, they are looked for.
 const WIDTH: usize = 4;
 
 // How far above one of the row the first change of another block may be: gates and empty patches stand between.
@@ -107,23 +111,23 @@ pub fn renew(levels: &mut Levels, heads: &[Head], number: u32)
     levels.put_ancestry(index, ancestry);
 }
 
-// The next ancestor on the way to one at that depth: the jump, unless that goes past it.
-fn toward(sight: &Sight<'_>, own: Ancestry, depth: u32) -> Rank
+// The next ancestor on the way to that one: the jump, unless that goes past it. Each is older than the one before, so that
+// numbers tell; depths do not where a gate has gained names since the patches over it were made.
+fn toward(sight: &Sight<'_>, own: Ancestry, to: u32) -> Rank
     requires sees { Sees sight.now }
     ensures next { (result.number ≡ own.parent) ⊎ (result.number ≡ own.jump) }
     ensures parent { result.ancestry.parent ≡ parent_of sight.now.levels.now.ranks result.number }
     ensures jump { result.ancestry.jump ≡ jump_of sight.now.levels.now.ranks result.number }
 {
-    let further = sight.levels.rank_of(sight.heads, own.jump);
-    if further.ancestry.depth >= depth {
-        further
+    if own.jump >= to {
+        sight.levels.rank_of(sight.heads, own.jump)
     } else {
         sight.levels.rank_of(sight.heads, own.parent)
     }
 }
 
-// Whether a patch is the other one, which is at that depth, or has it among its ancestors.
-fn comes_to(sight: &Sight<'_>, from: u32, to: u32, depth: u32) -> bool
+// Whether a patch is the other one, or has it among its ancestors.
+fn comes_to(sight: &Sight<'_>, from: u32, to: u32) -> bool
     requires sees { Sees sight.now }
     ensures { IsTrue result → LeadsTo (patches_of sight.now.heads.now) from to }
 {
@@ -132,10 +136,10 @@ fn comes_to(sight: &Sight<'_>, from: u32, to: u32, depth: u32) -> bool
         if at.number == to {
             return true;
         }
-        if at.ancestry.depth <= depth {
+        if at.number < to {
             return false;
         }
-        at = toward(sight, at.ancestry, depth);
+        at = toward(sight, at.ancestry, to);
     }
     false
 }
@@ -184,12 +188,12 @@ fn newest_changes<'a>(sight: &Sight<'a>, block: u32) -> &'a [Listed]
     &list[list.len().saturating_sub(NEWEST)..]
 }
 
-// Who is looked for among the ancestors of a patch with that rank in the place of a change, and how deep that is: the first
-// that directly depends on the change, where that is a gate or an empty patch, else the change itself. None where the change
-// is higher or as deep, or nothing depends on it.
-fn stand_in(sight: &Sight<'_>, own: Rank, change: u32) -> Option<(u32, u32)>
+// Who is looked for among the ancestors of a patch with that rank in the place of a change: the first that directly depends on
+// the change, where that is a gate or an empty patch, else the change itself. None where the change is higher or as deep, or
+// nothing depends on it.
+fn stand_in(sight: &Sight<'_>, own: Rank, change: u32) -> Option<u32>
     requires sees { Sees sight.now }
-    ensures { IfSome result (λ s. LeadsTo (patches_of sight.now.heads.now) s.0 change) }
+    ensures { IfSome result (λ s. LeadsTo (patches_of sight.now.heads.now) s change) }
 {
     let index = sight.levels.find(sight.heads, change)?;
     let rank = sight.levels.rank(index);
@@ -199,9 +203,9 @@ fn stand_in(sight: &Sight<'_>, own: Rank, change: u32) -> Option<(u32, u32)>
     let first = first(sight.heads[index].dependants.as_slice())?;
     let over = sight.levels.find(sight.heads, first)?;
     if let Kind::Change(_, _, _) = sight.heads[over].kind {
-        return Some((change, rank.ancestry.depth));
+        return Some(change);
     }
-    Some((first, sight.levels.rank(over).ancestry.depth))
+    Some(first)
 }
 
 // The first of these changes to which the ancestors of the patch with the number lead, of as many as are tried.
@@ -212,12 +216,12 @@ fn leads_to_one(sight: &Sight<'_>, number: u32, changes: &[Listed]) -> Option<u3
     let own = sight.levels.rank_of(sight.heads, number);
     let mut left = TRIED;
     for change in changes {
-        if let Some((to, depth)) = stand_in(sight, own, change.number) {
+        if let Some(to) = stand_in(sight, own, change.number) {
             if left == 0 {
                 return None;
             }
             left -= 1;
-            if comes_to(sight, number, to, depth) {
+            if comes_to(sight, number, to) {
                 return Some(change.number);
             }
         }
@@ -242,4 +246,21 @@ pub fn leads_to_block(sight: &Sight<'_>, block: u32, row: &[u32]) -> Option<u32>
         }
     }
     None
+}
+
+/// Whether one of the last names is the open gate, or its ancestors lead down to it. Where none do, another way may. More than
+/// a few are not looked at, so that a gate which gains names in no cycle pays little; the last, since names mostly come in the
+/// order in which they were made, and the newest are the furthest from the gate.
+pub fn names_lead_to(sight: &Sight<'_>, gate: u32, names: &[PatchNo]) -> bool
+    requires sees { Sees sight.now }
+    requires is_open { IsOpenNumber (patches_of sight.now.heads.now) gate }
+    ensures { IsTrue result → NamesAbove (patches_of sight.now.heads.now) gate (numbers_of names.now) }
+{
+    let last = &names[names.len().saturating_sub(WIDTH)..];
+    for name in last {
+        if comes_to(sight, name.0, gate) {
+            return true;
+        }
+    }
+    false
 }

@@ -1,6 +1,7 @@
 //! The search for a cycle: whether an open gate, or what depends on it, is among the patches that the gate is to depend on
 //! (`starts`). All on a way down to an open gate waits for one, so that the search looks at nothing else, at each such patch
-//! once, and is left out where nothing depends on the gate, or no name waits for an open gate. Mostly one end has far less
+//! once, and is left out where nothing depends on the gate, no name waits for an open gate, or the ancestors of a name lead to
+//! the gate: over a long chain they tell at once, where both walks would go through half of it. Mostly one end has far less
 //! around it than the other: so one walk goes up from the gate, to what depends on it, and one down from the starts, and the
 //! one that has looked at less takes the next step. They meet where there is a cycle; there is none where one of them comes
 //! to its end and they have not met.
@@ -15,10 +16,13 @@ ghost use Rattle.fst_heads.specs.Names.{numbers_of};
 ghost use Rattle.fst_heads.specs.Indices.{HasIndex};
 ghost use Rattle.fst_heads.specs.Nodes.{AreLinked, nodes_of, pending_in};
 ghost use Rattle.fst_walks.specs.Searching.{AreOver, IsBetween, IsNextAbove, IsNextHeld, StayApart, TellsGates, WalkApart};
+ghost use Rattle.fst_walks.specs.Sights.{Sees};
 ghost use Rattle.fst_walks.specs.Starting.{StartsAbove};
 ghost use Rattle.fst_walks.specs.Walks.{numbers_met};
 
+use crate::ancestors::names_lead_to;
 use crate::ends::{Ends, Looked, meets};
+use crate::sight::Sight;
 use crate::starts::{Starts, visit_starts};
 use crate::walk::Walk;
 use fst_heads::head::Head;
@@ -251,27 +255,28 @@ fn names_held(heads: &[Head], names: &[PatchNo]) -> bool
 
 /// Whether one of the names is the open gate at the index or depends on it. What was met before does not matter.
 pub fn closes_cycle(
-    heads: &[Head],
+    sight: &Sight<'_>,
     ends: &mut Ends,
     index: usize,
     gate: u32,
     names: &[PatchNo],
 ) -> bool
-    requires rising { IsRising heads.now }
-    requires over { AreOver heads.now ends.old }
-    requires linked { AreLinked (nodes_of heads.now) }
-    requires gates { TellsGates heads.now }
-    requires index { HasIndex heads.now gate index }
-    requires is_open { IsOpenNumber (patches_of heads.now) gate }
-    ensures closes { IsTrue result ↔ NamesAbove (patches_of heads.now) gate (numbers_of names.now) }
-    ensures over { AreOver heads.now ends.new }
+    requires sees { Sees sight.now }
+    requires over { AreOver sight.now.heads.now ends.old }
+    requires index { HasIndex sight.now.heads.now gate index }
+    requires is_open { IsOpenNumber (patches_of sight.now.heads.now) gate }
+    ensures closes { IsTrue result ↔ NamesAbove (patches_of sight.now.heads.now) gate (numbers_of names.now) }
+    ensures over { AreOver sight.now.heads.now ends.new }
     ensures crossed { (ends.new.up.crossed ≡ ends.old.up.crossed) × (ends.new.down.crossed ≡ ends.old.down.crossed) }
 {
-    if heads[index].dependants.as_slice().is_empty() {
+    if sight.heads[index].dependants.as_slice().is_empty() {
         return is_named(names, gate);
     }
-    if !names_held(heads, names) {
+    if !names_held(sight.heads, names) {
         return false;
     }
-    starts_close(heads, ends, gate, Starts::Names(names))
+    if names_lead_to(sight, gate, names) {
+        return true;
+    }
+    starts_close(sight.heads, ends, gate, Starts::Names(names))
 }

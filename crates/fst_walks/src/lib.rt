@@ -11,9 +11,10 @@
 //! (`way_down`) from the first changes of other blocks at or below what the new change depends on (`first_away`), which goes on
 //! from a block to what its hard changes need (`needs`). Where a new hard change would stand over the floor of its block, the
 //! floor goes up, with all that stands over the block (`lift`). *May a gate gain these names, and may a group have this
-//! change?* A walk goes down from them (`starts`) through what waits for an open gate, and one up from the gate to what depends
-//! on it, until they meet or one of them is at its end (`cycle`, `overlap_cycle`). Which gates a row waits for is looked for
-//! down alone: by a way to one that is near (`gate_below`), or else over all that waits (`other_gates`).
+//! change?* Where the ancestors of a name do not lead to the gate, a walk goes down from them (`starts`) through what waits for
+//! an open gate, and one up from the gate to what depends on it, until they meet or one of them is at its end (`cycle`,
+//! `overlap_cycle`). Which gates a row waits for is looked for down alone: by a way to one that is near (`gate_below`), or else
+//! over all that waits (`other_gates`).
 //!
 //! A walk is a value of its own (`walk`), which keeps what it has met, so that each patch is looked at once; it can be
 //! used for walk after walk, each of which begins where nothing was met. What walks look at is one value too (`sight`):

@@ -2,21 +2,24 @@ use Rattle.std.proofs.Common.{◌∙◌, length, Contains, refl, sym, ap, subst,
 use Rattle.std.proofs.lemmas.Bool.{eqb-true, false≢true}
 use Rattle.fst_types.specs.Gates.{IsOpenNumber}
 use Rattle.fst_heads.specs.{Heads.patches_of, Names.numbers_of}
-use Rattle.fst_walks.proofs.Searched.{none_depend, named_held}
+use Rattle.fst_walks.proofs.{Held.gates_seen, Searched.{none_depend, named_held}}
 use Rattle.fst_walks.proofs.cycle.closes_cycle.Goals as goal
 
 pub returns-then-is_empty-clause-closes : goal.returns-then-is_empty-clause-closes
 returns-then-is_empty-clause-closes c =
-    let alone = none_depend c.args.heads.now c.args.gate c.args.index c.index-heads-index.result c.requires.linked c.requires.index (ap length (sym c.as_slice.ensures) ∙ eqb-true _ 0 (sym c.is_empty.ensures ∙ c.if-is_empty.true)) in (
+    let alone = none_depend c.args.sight.now.heads.now c.args.gate c.args.index c.index-sight-index.result c.requires.sees.linked c.requires.index (ap length (sym c.as_slice.ensures) ∙ eqb-true _ 0 (sym c.is_empty.ensures ∙ c.if-is_empty.true)) in (
       λ e. (c.args.gate, c.is_named.ensures.0 e, inl refl),
       λ a. c.is_named.ensures.1 (elim a.2 [ inl same ↦ subst (Contains (numbers_of c.args.names.now)) same a.1 | inr on ↦ absurd (alone a.0 on) ]),
     )
 
 pub returns-then-not-names_held-clause-closes : goal.returns-then-not-names_held-clause-closes
 returns-then-not-names_held-clause-closes c =
-    let heads = c.args.heads.now in
+    let sight = c.args.sight.now in
     let o = c.requires.is_open in
-    let gate : IsOpenNumber (patches_of heads) c.args.gate = record { patch = o.patch; head = o.head; numbered = o.numbered; is_open = o.is_open } in (
+    let gate : IsOpenNumber (patches_of sight.heads.now) c.args.gate = record { patch = o.patch; head = o.head; numbered = o.numbered; is_open = o.is_open } in (
       λ e. absurd (cc),
-      λ a. absurd (false≢true (sym c.if-not-names_held.true ∙ c.names_held.ensures.1 (a.0, a.1, (c.requires.gates.held a.0).1 (named_held (patches_of heads) c.args.gate a.0 gate a.2)))),
+      λ a. absurd (false≢true (sym c.if-not-names_held.true ∙ c.names_held.ensures.1 (a.0, a.1, ((gates_seen sight c.requires.sees).held a.0).1 (named_held (patches_of sight.heads.now) c.args.gate a.0 gate a.2)))),
     )
+
+pub starts_close-requires-clause-gates : goal.starts_close-requires-clause-gates
+starts_close-requires-clause-gates c = gates_seen c.args.sight.now c.requires.sees

@@ -3,14 +3,11 @@ use Rattle.std.proofs.lemmas.Bool.{false≢true}
 use Rattle.fst_types.specs.{Closure.join, Dependencies.DependsOn, Gates.IsOpenNumber}
 use Rattle.fst_heads.specs.Heads.{patches_of}
 use Rattle.fst_heads.proofs.Listing.{rising_patches}
-use Rattle.fst_walks.proofs.{Held.{heads_held, heads_live}, Overlapped.touched_no_gate}
+use Rattle.fst_walks.proofs.{Held.gates_seen, Overlapped.touched_no_gate}
 use Rattle.fst_walks.proofs.overlap_cycle.overlap_reaches.Goals as goal
 
 pub starts_close-requires-clause-gates : goal.starts_close-requires-clause-gates
-starts_close-requires-clause-gates c =
-    let heads = c.args.sight.now.heads.now in
-    let r = c.requires.sees in
-    record { live = heads_live heads _ r.rising r.acyclic r.disk r.settled; held = heads_held heads _ r.rising r.acyclic r.disk r.settled }
+starts_close-requires-clause-gates c = gates_seen c.args.sight.now c.requires.sees
 
 pub returns-then-not-has_dependants-clause-reaches : goal.returns-then-not-has_dependants-clause-reaches
 returns-then-not-has_dependants-clause-reaches c = (

@@ -5,24 +5,15 @@ use Rattle.fst_walks.proofs.Seen.{same_patches}
 use Rattle.fst_walks.specs.{Searching.AreOver}
 use Rattle.fst_graph.specs.{Known.Known, Ready.prepared_of, Sound.AreSound}
 use Rattle.fst_graph.proofs.{Flagged.{flags_of, gained_flags, gained_landed, remembered_as, remembered_still, roomier_shelf, unspared}, Remembered.open_known, RememberedCalls.depend_known, RememberedRules.depend_clear}
-use Rattle.fst_graph.proofs.{Borne.{few_waiting, settled_fits}, Made.{gained_sound, named_patches}, Ranks.leveled_then, Sound.{gates_told, leveled_sound, open_given, over_both, rising_sound, roomier_sound, searched_sound, view_gone}}
+use Rattle.fst_graph.proofs.{Borne.{few_waiting, settled_fits}, Made.{gained_sound, named_patches}, Ranks.leveled_then, Sound.{leveled_sound, open_given, over_both, rising_sound, roomier_sound, searched_sound, sees_all, view_gone}}
 use Rattle.fst_graph.proofs.sparse.Sparse.depend.Goals.{After-depend_fault, After-gain_names}
 use Rattle.fst_graph.proofs.sparse.Sparse.depend.Goals as goal
 
-pub depend_fault-requires-clause-rising : goal.depend_fault-requires-clause-rising
-depend_fault-requires-clause-rising c = rw c.deref.ensures.value (rising_sound c.self.invariant.0)
-
-pub depend_fault-requires-clause-linked : goal.depend_fault-requires-clause-linked
-depend_fault-requires-clause-linked c = rw c.deref.ensures.value c.self.invariant.0.tallies.linked
-
-pub depend_fault-requires-clause-gates : goal.depend_fault-requires-clause-gates
-depend_fault-requires-clause-gates c = rw c.deref.ensures.value (gates_told c.self.invariant.0)
+pub depend_fault-requires-clause-sees : goal.depend_fault-requires-clause-sees
+depend_fault-requires-clause-sees c = sees_all c.self.invariant.0 _ c.deref.ensures.value c.deref-2.ensures.value c.deref-3.ensures.value refl refl
 
 pub depend_fault-requires-clause-gone : goal.depend_fault-requires-clause-gone
 depend_fault-requires-clause-gone c = rw c.deref.ensures.value (view_gone c.self.invariant)
-
-pub depend_fault-requires-clause-disk : goal.depend_fault-requires-clause-disk
-depend_fault-requires-clause-disk c = rw c.deref.ensures.value c.self.invariant.0.keeps.lawful.on_disk_with_all
 
 pub returns-in-Some-clause-refused : goal.returns-in-Some-clause-refused
 returns-in-Some-clause-refused c = rw (← c.self.view_is, ← c.deref.ensures.value) (inl c.in-Some.ensures.first)
@@ -79,14 +70,14 @@ pub renew-requires-clause-rising : goal.renew-requires-clause-rising
 renew-requires-clause-rising c =
     let at = goal.at.renew-requires-clause-rising c in
     let G = c.in-Ok.ensures.gained in
-    rw c.deref-2.ensures.value (rising_sound (gained_sound (walked at.After-depend_fault) {new = c.gain_names.new.heads} c.args.gate.0 G.0 (numbers_of c.args.on.now) (gate at.After-gain_names) (clear at.After-gain_names) G.1 G.2))
+    rw c.deref-4.ensures.value (rising_sound (gained_sound (walked at.After-depend_fault) {new = c.gain_names.new.heads} c.args.gate.0 G.0 (numbers_of c.args.on.now) (gate at.After-gain_names) (clear at.After-gain_names) G.1 G.2))
 
 pub renew-requires-clause-leveled : goal.renew-requires-clause-leveled
 renew-requires-clause-leveled c =
     let at = goal.at.renew-requires-clause-leveled c in
     let G = c.in-Ok.ensures.gained in
     let L = (gained_sound (walked at.After-depend_fault) {new = c.gain_names.new.heads} c.args.gate.0 G.0 (numbers_of c.args.on.now) (gate at.After-gain_names) (clear at.After-gain_names) G.1 G.2).leveled in
-    leveled_then (sym c.deref-2.ensures.value) (sym L.long) L
+    leveled_then (sym c.deref-4.ensures.value) (sym L.long) L
 
 pub renew-requires-clause-given : goal.renew-requires-clause-given
 renew-requires-clause-given c = open_given c.self.invariant.0 (gate (goal.at.renew-requires-clause-given c).After-gain_names)
@@ -99,7 +90,7 @@ invariant_of-self-2 c =
     let old = c.self.inside.heads.items in
     let new = c.gain_names.new.heads.items in
     rw c.let_go.ensures (
-      leveled_sound S (leveled_then c.deref-2.ensures.value (ap length c.renew.ensures.floors ∙ S.leveled.long) c.renew.ensures.leveled),
+      leveled_sound S (leveled_then c.deref-4.ensures.value (ap length c.renew.ensures.floors ∙ S.leveled.long) c.renew.ensures.leveled),
       remembered_still old new (gained_flags old new c.args.gate.0 G.0 _ G.2) {landed = c.self.inside.landed} (gained_landed old new c.args.gate.0 G.0 _ G.2 c.self.invariant.1.told) refl c.self.invariant.1,
     )
 
