@@ -140,7 +140,7 @@ module _ (patches : List Patch) (level floor : ℕ → ℕ) (leveled : AreLevele
 module _ (patches : List Patch) (level floor : ℕ → ℕ) (leveled : AreLeveled patches level floor) (needs : ℕ → List ℕ) (needed : AreNeeded patches needs) (crossed : List Bool) (least : ℕ) where
   down_falls : (p q : ℕ) → StepsDown patches needs crossed p q → level q ≤ level p
   down_falls p q s = elim s [
-    | inl d ↦ leveled.direct p q d.0
+    | inl d ↦ leveled.direct p q d.1
     | inr k ↦
         let n = needed.named k.block q k.need.0 in
         let first = leveled.change k.block p k.change in
@@ -151,7 +151,7 @@ module _ (patches : List Patch) (level floor : ℕ → ℕ) (leveled : AreLevele
 
   -- so all on the way to what is high is high
   high_downs : (p q : ℕ) → Closure (StepsDown patches needs crossed) p q → least ≤ level q → (least ≤ level p) × Closure (StepsHigh patches level least needs crossed) p q
-  high_downs p q (one s) high = let f = down_falls p q s in (omega (arith, f, high), one (elim s [ inl d ↦ inl (d.0, (d.1, high)) | inr k ↦ inr (k, high) ]))
+  high_downs p q (one s) high = let f = down_falls p q s in (omega (arith, f, high), one (elim s [ inl d ↦ inl (d.0, d.1, (d.2, high)) | inr k ↦ inr (k, high) ]))
   high_downs p q (join {q = k} c d) high = let e = high_downs k q d high in let f = high_downs p k c e.0 in (f.0, join f.1 e.1)
 
   pub high_led : (start : List ℕ) (n : ℕ) → IsLedFrom (StepsDown patches needs crossed) start n → least ≤ level n → IsLedFrom (StepsHigh patches level least needs crossed) start n
@@ -159,25 +159,28 @@ module _ (patches : List Patch) (level floor : ℕ → ℕ) (leveled : AreLevele
   high_led start n (inr r) high = inr (r.0, r.1, (high_downs r.0 n r.2 high).1)
 
   high_down : (p q : ℕ) → Closure (StepsHigh patches level least needs crossed) p q → Closure (StepsDown patches needs crossed) p q
-  high_down p q (one s) = one (elim s [ inl d ↦ inl (d.0, d.1.0) | inr k ↦ inr k.0 ])
+  high_down p q (one s) = one (elim s [ inl d ↦ inl (d.0, d.1, d.2.0) | inr k ↦ inr k.0 ])
   high_down p q (join {q = k} c d) = join (high_down p k c) (high_down k q d)
 
   pub leads_down : (p q : ℕ) → Leads (StepsHigh patches level least needs crossed) p q → Leads (StepsDown patches needs crossed) p q
   leads_down p q (inl e) = inl e
   leads_down p q (inr path) = inr (high_down p q path)
 
--- where b alone is shown as crossed, steps that cross no change of b are steps down
-module _ (patches : List Patch) (needs : ℕ → List ℕ) (b : ℕ) (crossed : List Bool) (shown : ShowsBlocks crossed (λ c. c ≡ b)) where
-  to_down : (p q : ℕ) → StepsTo patches needs b p q → StepsDown patches needs crossed p q
-  to_down p q s = elim s [ inl d ↦ inl d | inr k ↦ inr (record { block = k.block; change = k.change; fresh = λ r. k.other (shown.only k.block r); need = k.need }) ]
+-- where b alone is shown as crossed, steps that cross no change of b to what a block needs are steps across to hard changes
+module _ (patches : List Patch) (needs : ℕ → List ℕ) (needed : AreNeeded patches needs) (b : ℕ) (crossed : List Bool) (shown : ShowsBlocks crossed (λ c. c ≡ b)) where
+  to_whole : (p q : ℕ) → StepsTo patches needs b p q → Closure (StepsWhole patches crossed) p q
+  to_whole p q (inl d) = one (inl d)
+  to_whole p q (inr k) =
+      let n = needed.named k.block q k.need.0 in
+      join (one (inr (record { block = k.block; change = k.change; fresh = λ r. k.other (shown.only k.block r); hard = n.1 }))) (one (inl (n.2, k.need.1)))
 
-  all_down : (p q : ℕ) → Closure (StepsTo patches needs b) p q → Closure (StepsDown patches needs crossed) p q
-  all_down p q (one s) = one (to_down p q s)
-  all_down p q (join {q = k} c d) = join (all_down p k c) (all_down k q d)
+  all_whole : (p q : ℕ) → Closure (StepsTo patches needs b) p q → Closure (StepsWhole patches crossed) p q
+  all_whole p q (one s) = to_whole p q s
+  all_whole p q (join {q = k} c d) = join (all_whole p k c) (all_whole k q d)
 
-  pub to_downs : (p q : ℕ) → Leads (StepsTo patches needs b) p q → Leads (StepsDown patches needs crossed) p q
-  to_downs p q (inl e) = inl e
-  to_downs p q (inr path) = inr (all_down p q path)
+  pub to_wholes : (p q : ℕ) → Leads (StepsTo patches needs b) p q → Leads (StepsWhole patches crossed) p q
+  to_wholes p q (inl e) = inl e
+  to_wholes p q (inr path) = inr (all_whole p q path)
 
 -- the steps up and down are the same, the other way about
 module _ (patches : List Patch) (b : ℕ) (up down : List Bool) (shows_up : ShowsBlocks up (λ c. c ≡ b)) (shows_down : ShowsBlocks down (λ c. c ≡ b)) where
@@ -239,14 +242,16 @@ module _ (heads : List Head) (rising : AreRising heads) (disk : IsOnDiskWithAll 
   abbrev in_order : IsRising now
   in_order = rising_patches heads rising
 
-  -- it leads to what a way leads up from
-  pub under_up : (top n : ℕ) → Contains tops top → Leads (StepsDown now needs down) top n → Leads (StepsUp now up) n top
-  under_up top n c path =
-      let whole : Leads (StepsWhole now down) top n = elim path [ inl e ↦ inl e | inr steps ↦ inr (steps_whole now in_order flights needs needed b down shows_down top n steps) ] in
-      leads_ups now b up down shows_up shows_down in_order top n whole (off_live now in_order disk b top (first top c).away)
+  -- its steps lead where steps across to hard changes do
+  pub wholly : (top n : ℕ) → Leads (StepsHigh now level least needs down) top n → Leads (StepsWhole now down) top n
+  wholly top n path = elim (leads_down now level floor leveled needs needed down least top n path) [ inl e ↦ inl e | inr steps ↦ inr (steps_whole now in_order flights needs needed b down shows_down top n steps) ]
 
-  -- where it leads to what steps lead up to from a change of b, a way leads back to that
-  pub back_from : (end top n : ℕ) → Contains tops top → PassesAt (test.LiveOn b) now end → Leads (StepsDown now needs down) top n → Leads (StepsUp now up) end n → LeadsBack now b row end
+  -- they lead to what a way leads up from
+  pub under_up : (top n : ℕ) → Contains tops top → Leads (StepsWhole now down) top n → Leads (StepsUp now up) n top
+  under_up top n c whole = leads_ups now b up down shows_up shows_down in_order top n whole (off_live now in_order disk b top (first top c).away)
+
+  -- where they lead to what steps lead up to from a change of b, a way leads back to that
+  pub back_from : (end top n : ℕ) → Contains tops top → PassesAt (test.LiveOn b) now end → Leads (StepsWhole now down) top n → Leads (StepsUp now up) end n → LeadsBack now b row end
   back_from end top n c change below above =
       let away = first top c in
       record {
@@ -261,7 +266,7 @@ module _ (heads : List Head) (rising : AreRising heads) (disk : IsOnDiskWithAll 
   pub comes_back : (at : ℕ) → ComesTo now level least needs down b tops at → LeadsBack now b row at
   comes_back at met =
       let a = led_leads (StepsHigh now level least needs down) tops at met.under in
-      back_from at a.0 at a.1 met.change (leads_down now level floor leveled needs needed down least a.0 at a.2) (inl refl)
+      back_from at a.0 at a.1 met.change (wholly a.0 at a.2) (inl refl)
 
   -- where it starts from all of them and comes to none, none does
   pub comes_hard : ((n : ℕ) → IsFirstAway now b row n → Contains tops n) → ((at : ℕ) → ComesTo now level least needs down b tops at → ⊥) → LeadsNowhere now b row
@@ -293,8 +298,11 @@ module _ (heads : List Head) (rising : AreRising heads) (disk : IsOnDiskWithAll 
   pub begin_apart : AreApart bottoms tops
   begin_apart n above below = off_not_on all ordered b n (ends.first n below).away ((ends.changes n).0 above).0
 
+  whole : (top n : ℕ) → Leads (StepsHigh all level least needs down) top n → Leads (StepsWhole all down) top n
+  whole = wholly heads rising disk hard flights level floor leveled needs needed b least floored row up down ends.shows_up ends.shows_down tops ends.first
+
   down_to : (top n : ℕ) → Contains tops top → Leads (StepsHigh all level least needs down) top n → Leads (StepsUp all up) n top
-  down_to top n c path = under_up heads rising disk hard flights level floor leveled needs needed b least floored row up down ends.shows_up ends.shows_down tops ends.first top n c (leads_down all level floor leveled needs needed down least top n path)
+  down_to top n c path = under_up heads rising disk hard flights level floor leveled needs needed b least floored row up down ends.shows_up ends.shows_down tops ends.first top n c (whole top n path)
 
   -- where the walks lead to the same, a way leads back to one from which the walk up starts
   pub together_soft : (n : ℕ) → LeadTogether all level needs most least up down bottoms tops n → LeadsNowhere all b row → ⊥
@@ -302,7 +310,7 @@ module _ (heads : List Head) (rising : AreRising heads) (disk : IsOnDiskWithAll 
       let x = led_leads (StepsLow all level most up) bottoms n met.over in
       let a = led_leads (StepsHigh all level least needs down) tops n met.under in
       let back = back_from heads rising disk hard flights level floor leveled needs needed b least floored row up down ends.shows_up ends.shows_down tops ends.first x.0 a.0 n a.1 ((ends.changes x.0).0 x.1).0
-      (leads_down all level floor leveled needs needed down least a.0 n a.2) (leads_up all level floor leveled up most x.0 n x.2) in
+      (whole a.0 n a.2) (leads_up all level floor leveled up most x.0 n x.2) in
       back_leads all ordered disk b row x.0 back
 
   -- and it is not on disk
@@ -316,7 +324,7 @@ module _ (heads : List Head) (rising : AreRising heads) (disk : IsOnDiskWithAll 
   pub traced_back : (n end : ℕ) → LeadTogether all level needs most least up down bottoms tops n → PassesAt (test.LiveOn b) all end → Leads (StepsTo all needs b) n end → LeadsBack all b row end
   traced_back n end met change path =
       let a = led_leads (StepsHigh all level least needs down) tops n met.under in
-      let below = leads_on (StepsDown all needs down) a.0 n end (leads_down all level floor leveled needs needed down least a.0 n a.2) (to_downs all needs b down ends.shows_down n end path) in
+      let below = leads_on (StepsWhole all down) a.0 n end (whole a.0 n a.2) (to_wholes all needs needed b down ends.shows_down n end path) in
       back_from heads rising disk hard flights level floor leveled needs needed b least floored row up down ends.shows_up ends.shows_down tops ends.first end a.0 end a.1 change below (inl refl)
 
   -- a change of b that the walk down leads to is one that the walk up starts from
@@ -327,13 +335,13 @@ module _ (heads : List Head) (rising : AreRising heads) (disk : IsOnDiskWithAll 
 
   -- where they start from all of the first changes, one has met all and nothing was met by both, none does
   pub apart_hard : ((n : ℕ) → IsFirstAway all b row n → Contains tops n) → (over under : List ℕ) → EndApart all level needs most least up down bottoms tops over under → LeadsNowhere all b row
-  apart_hard whole over under met = elim met.ended [
+  apart_hard from_all over under met = elim met.ended [
     | inl each ↦ none_leads all ordered disk b row (λ end l.
         let f = first_back heads rising disk hard b up ends.shows_up row end l in
         let n = f.0 in
-        let top = whole n f.1 in
+        let top = from_all n f.1 in
         let path = low_leads all level floor leveled up most end n (inr f.2) (ends.low n top) in
         met.apart n (each n (leads_led (StepsLow all level most up) bottoms end n ((ends.changes end).1 (l.change, path.0)) path.1)) (met.under_begun n top))
     | inr each ↦
-        comes_hard heads rising disk hard flights level floor leveled needs needed b least floored row up down ends.shows_up ends.shows_down tops ends.first whole (λ at x. met.apart at (met.over_begun at (under_bottom at x.under x.change)) (each at x.under))
+        comes_hard heads rising disk hard flights level floor leveled needs needed b least floored row up down ends.shows_up ends.shows_down tops ends.first from_all (λ at x. met.apart at (met.over_begun at (under_bottom at x.under x.change)) (each at x.under))
   ]

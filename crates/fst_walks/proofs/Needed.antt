@@ -1,12 +1,13 @@
 -- A walk down that crosses a block to what this needs meets a change of a block wherever one that crosses to all hard changes of it would.
-use Rattle.std.proofs.Common.{◌≡◌, ◌≢◌, ◌⊎◌, ℕ, Bool, List, Contains, refl, sym, ap, subst, ◌∙◌, inl, inr}
+use Rattle.std.proofs.Common.{◌≡◌, ◌≢◌, ◌⊎◌, ℕ, Bool, List, Some, Contains, refl, sym, ap, subst, ◌∙◌, inl, inr}
 use Rattle.std.proofs.lemmas.Bool.{cases_eq}
 use Rattle.fst_types.specs.{Closure.{Closure, one, join}, Dependencies.{DirectlyOn, DependsOn, IsLiveNumber, Needs}, Facts.{FlightsStandAlone, IsInFlightOn}}
-use Rattle.fst_types.specs.{Patches.{Patch, IsOn, IsRising}, declared.place.Place.Place}
+use Rattle.fst_types.specs.{Patches.{Patch, Kind, Change, Empty, OpenGate, SealedGate, IsOn, IsRising, block_of_kind, grade_of_kind}, declared.place.Place.Place}
+use Rattle.fst_types.specs.declared.grade.Grade.TheVariants as grade
 use Rattle.fst_types.proofs.Crash.{same_number}
-use Rattle.fst_heads.specs.{Grading.IsHardNumber, Indices.PassesAt, Reaching.{IsReached, ShowsBlocks}}
+use Rattle.fst_heads.specs.{Grading.IsHardNumber, Indices.PassesAt, Reaching.{IsHardIn, IsReached, ShowsBlocks}}
 use Rattle.fst_heads.proofs.{Graded.{on_to}}
-use Rattle.fst_walks.specs.{BothEnds.{CrossesDown}, Descending.IsLedFrom, Needing.{AreNeeded, IsHardAt, IsStoodFor}}
+use Rattle.fst_walks.specs.{BothEnds.{CrossesDown, GoesBelow}, Descending.IsLedFrom, Needing.{AreNeeded, IsHardAt, IsStoodFor}}
 use Rattle.fst_walks.proofs.{ComesBack.{live_number, live_on}}
 use Rattle.fst_types.specs.declared.place.Place.TheVariants as place
 use Rattle.fst_heads.specs.declared.test.Test.TheVariants as test
@@ -25,7 +26,27 @@ StepsWhole patches crossed p q = (DirectlyOn patches p q × IsLiveNumber patches
 
 -- a step down, however low it leads: to a direct dependency that is not on disk, or across a block to what this needs
 abbrev pub StepsDown : List Patch → (ℕ → List ℕ) → List Bool → ℕ → ℕ → Type 0
-StepsDown patches needs crossed p q = (DirectlyOn patches p q × IsLiveNumber patches q) ⊎ CrossesDown patches needs crossed p q
+StepsDown patches needs crossed p q = (GoesBelow patches p × DirectlyOn patches p q × IsLiveNumber patches q) ⊎ CrossesDown patches needs crossed p q
+
+-- whether what is of that kind and at that place is a hard change in memory is known
+hard_kind_or : (k : Kind) (at : Place) → ((c : ℕ) × (block_of_kind k ≡ Some c) × (at ≡ place.Memory) × (grade_of_kind k ≡ Some grade.Hard)) ⊎ ((c : ℕ) → block_of_kind k ≡ Some c → at ≡ place.Memory → grade_of_kind k ≡ Some grade.Hard → ⊥)
+hard_kind_or (Change b from len grade.Hard) place.Memory = inl (b, refl, refl, refl)
+hard_kind_or (Change b from len grade.Hard) place.Flight = inr (λ c on memory hard. cc)
+hard_kind_or (Change b from len grade.Hard) place.Disk = inr (λ c on memory hard. cc)
+hard_kind_or (Change b from len grade.Soft) at = inr (λ c on memory hard. cc)
+hard_kind_or Empty at = inr (λ c on memory hard. cc)
+hard_kind_or OpenGate at = inr (λ c on memory hard. cc)
+hard_kind_or SealedGate at = inr (λ c on memory hard. cc)
+
+-- and so of a patch
+hard_or : (patches : List Patch) → IsRising patches → (p : Patch) (n : ℕ) → Contains patches p → p.number ≡ n → ((c : ℕ) × IsHardNumber patches c n) ⊎ GoesBelow patches n
+hard_or patches rising p n head numbered = elim (hard_kind_or p.kind p.place) [
+  | inl k ↦ inl (k.0, record { patch = p; head = head; numbered = numbered; hard = record { change = k.1; memory = k.2; hard = k.3 } })
+  | inr none ↦ inr (λ c h.
+      let same = same_number patches h.patch p rising h.head head (h.numbered ∙ sym numbered) in
+      let hard = subst (λ x. IsHardIn x c) same h.hard in
+      none c hard.change hard.memory hard.hard)
+]
 
 module _ (patches : List Patch) (rising : IsRising patches) (flights : FlightsStandAlone patches) (needs : ℕ → List ℕ) (needed : AreNeeded patches needs)
     (b : ℕ) (crossed : List Bool) (shown : ShowsBlocks crossed (λ c. c ≡ b)) where
@@ -37,7 +58,7 @@ module _ (patches : List Patch) (rising : IsRising patches) (flights : FlightsSt
 
   -- each step is one of these, or two
   pub step_whole : (p q : ℕ) → Down p q → Closure Whole p q
-  step_whole p q (inl d) = one (inl d)
+  step_whole p q (inl d) = one (inl (d.1, d.2))
   step_whole p q (inr k) =
       let n = needed.named k.block q k.need.0 in
       let over : CrossesToHard patches crossed p n.0 = record { block = k.block; change = k.change; fresh = k.fresh; hard = n.1 } in
@@ -106,10 +127,9 @@ module _ (patches : List Patch) (rising : IsRising patches) (flights : FlightsSt
     crossed_on : (d n : ℕ) → d ≢ b → IsCrossed d → Contains (needs d) n → IsLiveNumber patches n → IsMet n
     crossed_on d n other x kept live = met_on x.0 n x.1 (inr (record { block = d; change = x.2; fresh = λ r. other (shown.only d r); need = (kept, live) }))
 
-    direct_told : (p q : ℕ) → DirectlyOn patches p q → IsLiveNumber patches q → IsTold p → IsCrossed b ⊎ IsTold q
-    direct_told p q d live (met m) = inr (met (met_on p q m (inl (d, live))))
-    direct_told p q d live (stays e x on) = inr (stays e x (λ c r way pass. on c r (inr (elim way [ inl same ↦ subst (DependsOn patches p) same (one d) | inr low ↦ join (one d) low ])) pass))
-    direct_told p q d live (hard e x h) = elim (cases_eq e b) [
+    -- below a hard change in memory of a block of which a change was met
+    below_hard : (p q : ℕ) → DirectlyOn patches p q → IsLiveNumber patches q → (e : ℕ) → IsCrossed e → IsHardNumber patches e p → IsCrossed b ⊎ IsTold q
+    below_hard p q d live e x h = elim (cases_eq e b) [
       | inl own ↦ inl (subst IsCrossed own x)
       | inr other ↦ elim (subst (λ k. Contains (needs e) k ⊎ IsStoodFor patches e (needs e) k) live.numbered (needed.whole e p live.patch h live.head (subst (DirectlyOn patches p) (sym live.numbered) d))) [
         | inl kept ↦ inr (met (crossed_on e q other x kept live))
@@ -121,6 +141,23 @@ module _ (patches : List Patch) (rising : IsRising patches) (flights : FlightsSt
         ]
       ]
     ]
+
+    -- a hard change in memory is not on disk
+    hard_live : (c n : ℕ) → IsHardNumber patches c n → PassesAt (test.LiveOn c) patches n
+    hard_live c n h = record {
+      patch = h.patch;
+      head = h.head;
+      numbered = h.numbered;
+      passed = on_to c h.patch.number h.patch.kind h.patch.place (λ e. let memory = h.hard.memory in cc) h.hard.change;
+    }
+
+    direct_told : (p q : ℕ) → DirectlyOn patches p q → IsLiveNumber patches q → IsTold p → IsCrossed b ⊎ IsTold q
+    direct_told p q d live (met m) = elim (hard_or patches rising d.patch p d.head d.numbered) [
+      | inl h ↦ below_hard p q d live h.0 (p, m, hard_live h.0 p h.1) h.1
+      | inr soft ↦ inr (met (met_on p q m (inl (soft, d, live))))
+    ]
+    direct_told p q d live (stays e x on) = inr (stays e x (λ c r way pass. on c r (inr (elim way [ inl same ↦ subst (DependsOn patches p) same (one d) | inr low ↦ join (one d) low ])) pass))
+    direct_told p q d live (hard e x h) = below_hard p q d live e x h
 
     across_told : (p q : ℕ) → CrossesToHard patches crossed p q → IsTold p → IsTold q
     across_told p q k (met m) = hard k.block (p, m, k.change) k.hard

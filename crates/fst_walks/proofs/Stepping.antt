@@ -3,7 +3,7 @@ use Rattle.std.proofs.Common.{◌≡◌, ◌<◌, ◌≤◌, ◌+◌, ◌⊎◌,
 use Rattle.std.proofs.lemmas.{Bool.{cases_Bool, false≢true}}
 use Rattle.fst_types.specs.{Dependencies.DirectlyOn, Patches.Patch}
 use Rattle.fst_heads.specs.{Grading.IsHardNumber, Indices.PassesAt, Reaching.IsReached}
-use Rattle.fst_walks.specs.{BothEnds.{CrossesDown, IsHigh, IsHighNeed, IsLow, IsLowChange, ShowsBlockUnder, StepsHigh, StepsLow}, Descending.Visits, WayBack.{Crosses, ShowsBlockOf}}
+use Rattle.fst_walks.specs.{BothEnds.{CrossesDown, IsHighNeed, IsLow, IsLowChange, ShowsBlockUnder, StepsBelow, StepsHigh, StepsLow}, Descending.Visits, WayBack.{Crosses, ShowsBlockOf}}
 use Rattle.fst_walks.proofs.{Ascended.{Walking, climbing_at, climbing_begun, next_or_done}, Visiting.visits_old}
 use Rattle.fst_heads.specs.declared.test.Test.TheVariants as test
 
@@ -80,7 +80,7 @@ module _ (patches : List Patch) (level : ℕ → ℕ) (least : ℕ) (needs : ℕ
   high_at : Walking (StepsHigh patches level least needs crossed) (IsHighNeed patches level least needs) crossed start at now queue → Visits (StepsHigh patches level least needs now (get_or queue turn 0)) queue new → ShowsBlockUnder patches (get_or queue turn 0) now after
       → Walking (StepsHigh patches level least needs crossed) (IsHighNeed patches level least needs) crossed start next after new
   high_at x v shown =
-      walking_at (λ p q. DirectlyOn patches p q × IsHigh patches level least q) (λ b p. PassesAt (test.LiveOn b) patches p) (IsHighNeed patches level least needs) (λ old p q. CrossesDown patches needs old p q × (least ≤ level q))
+      walking_at (StepsBelow patches level least) (λ b p. PassesAt (test.LiveOn b) patches p) (IsHighNeed patches level least needs) (λ old p q. CrossesDown patches needs old p q × (least ≤ level q))
       (λ old p q c change fresh need. (record { block = c; change = change; fresh = fresh; need = need.0 }, need.1))
       (λ old p q k. (k.0.block, k.0.change, k.0.fresh, (k.0.need, k.1)))
       crossed start at turn next now after queue new past inside few x v shown.kept shown.only

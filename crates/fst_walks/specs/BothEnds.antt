@@ -41,9 +41,17 @@ IsHigh patches level least n = IsLiveNumber patches n × (least ≤ level n)
 abbrev pub IsHighNeed : List Patch → (ℕ → ℕ) → ℕ → (ℕ → List ℕ) → ℕ → ℕ → Type 0
 IsHighNeed patches level least needs c n = IsNeed patches needs c n × (least ≤ level n)
 
+-- p is no hard change in memory: what such a one directly depends on, its block needs
+abbrev pub GoesBelow : List Patch → ℕ → Type 0
+GoesBelow patches p = (c : ℕ) → IsHardNumber patches c p → ⊥
+
+-- from p, which is no hard change in memory, to a direct dependency that is no lower than `least`
+abbrev pub StepsBelow : List Patch → (ℕ → ℕ) → ℕ → ℕ → ℕ → Type 0
+StepsBelow patches level least p q = GoesBelow patches p × DirectlyOn patches p q × IsHigh patches level least q
+
 -- a step of the walk down, to what is no lower than `least`: to a direct dependency, or across a block to what this needs
 abbrev pub StepsHigh : List Patch → (ℕ → ℕ) → ℕ → (ℕ → List ℕ) → List Bool → ℕ → ℕ → Type 0
-StepsHigh patches level least needs crossed p q = (DirectlyOn patches p q × IsHigh patches level least q) ⊎ (CrossesDown patches needs crossed p q × (least ≤ level q))
+StepsHigh patches level least needs crossed p q = StepsBelow patches level least p q ⊎ (CrossesDown patches needs crossed p q × (least ≤ level q))
 
 -- none of them is a change of b that is not on disk
 abbrev pub IsAwayFrom : List Patch → ℕ → List ℕ → Type 0

@@ -1,21 +1,25 @@
 //! A step of the walk down, from what may keep a new change where it is, to all that this may wait for: from a patch to
 //! what it directly depends on, and from a change to what its block needs, without which the block is not written. Each
-//! block is crossed once. No way down rises, so what is lower than what the walk looks for is left out.
+//! block is crossed once, and what a hard change in memory directly depends on is among what its block needs, so that a long
+//! chain of such on one block is not gone through. No way down rises, so what is lower than what the walk looks for is left
+//! out.
 
-ghost use Rattle.std.specs.Prelude.{◌≡◌, ◌<◌, ◌≤◌, length, slice_index_or, Contains};
+ghost use Rattle.std.specs.Prelude.{◌≡◌, ◌<◌, ◌≤◌, ◌↔◌, ℕ, IsTrue, length, slice_index_or, Contains};
 ghost use Rattle.fst_types.specs.Dependencies.{IsLiveNumber};
-ghost use Rattle.fst_heads.specs.Heads.{patches_of};
+ghost use Rattle.fst_heads.specs.Grading.{IsHardNumber};
+ghost use Rattle.fst_heads.specs.Heads.{IsRising, patches_of};
 ghost use Rattle.fst_heads.specs.Indices.{HasIndex};
-ghost use Rattle.fst_walks.specs.BothEnds.{CrossesDown, IsHigh, IsHighNeed, ShowsBlockUnder, StepsHigh};
+ghost use Rattle.fst_walks.specs.BothEnds.{CrossesDown, IsHigh, IsHighNeed, ShowsBlockUnder, StepsBelow, StepsHigh};
 ghost use Rattle.fst_walks.specs.Descending.{Visited, Visits};
 ghost use Rattle.fst_walks.specs.Leveling.{level_of};
 ghost use Rattle.fst_walks.specs.Needing.{needs_of};
 ghost use Rattle.fst_walks.specs.Sights.{Sees};
 ghost use Rattle.fst_walks.specs.Walks.{numbers_met};
 
+use crate::shortcuts::is_hard_in;
 use crate::sight::Sight;
 use crate::walk::Walk;
-use fst_heads::head::Kind;
+use fst_heads::head::{Head, Kind};
 use fst_heads::test::is_live;
 
 // Visits the patch with the number, unless it is on disk, lower than `least` or was visited before. It looks at the head
@@ -45,6 +49,43 @@ pub fn visit_high_row(sight: &Sight<'_>, walk: &mut Walk, row: &[u32], least: u3
     for number in row {
         visit_high(sight, walk, *number, least);
     }
+}
+
+// Whether the patch with the number, which stands at the index, is a hard change in memory.
+fn is_any_hard(heads: &[Head], index: usize, number: u32) -> bool
+    requires rising { IsRising heads.now }
+    requires index { HasIndex heads.now number index }
+    ensures { IsTrue result ↔ ((c : ℕ) × IsHardNumber (patches_of heads.now) c number) }
+{
+    let _ = number;
+    let head = &heads[index];
+    if let Kind::Change(_, block, _) = head.kind {
+        return is_hard_in(head, block as u32);
+    }
+    false
+}
+
+// Visits what the patch with the number directly depends on, as far as it is no lower than `least`; of a hard change in memory
+// nothing. Answers how many patches it looked at.
+fn visit_high_below(
+    sight: &Sight<'_>,
+    walk: &mut Walk,
+    index: usize,
+    number: u32,
+    least: u32,
+) -> usize
+    requires sees { Sees sight.now }
+    requires visited { Visited sight.now.heads.now walk.old }
+    requires index { HasIndex sight.now.heads.now number index }
+    ensures visited { Visited sight.now.heads.now walk.new }
+    ensures visits { Visits (StepsBelow (patches_of sight.now.heads.now) (level_of sight.now.levels.now.ranks) least number) (numbers_met sight.now.heads.now walk.old) (numbers_met sight.now.heads.now walk.new) }
+{
+    if is_any_hard(sight.heads, index, number) {
+        return 0;
+    }
+    let below = sight.heads[index].dependencies.as_slice();
+    visit_high_row(sight, walk, below, least);
+    below.len()
 }
 
 // Visits what the block needs, as far as it is no lower than `least`. Answers how many patches it looked at.
@@ -113,9 +154,8 @@ pub fn step_down(
     ensures crossed { ShowsBlockUnder (patches_of sight.now.heads.now) (slice_index_or (numbers_met sight.now.heads.now walk.old) at 0) crossed.old crossed.new }
 {
     let index = walk.index_at(at);
-    let head = &sight.heads[index];
-    let below = head.dependencies.as_slice();
-    visit_high_row(sight, walk, below, least);
-    let across = cross(sight, walk, crossed, index, head.number, least);
-    below.len().saturating_add(across)
+    let number = sight.heads[index].number;
+    let below = visit_high_below(sight, walk, index, number, least);
+    let across = cross(sight, walk, crossed, index, number, least);
+    below.saturating_add(across)
 }
