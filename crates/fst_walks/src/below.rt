@@ -1,9 +1,10 @@
 //! The way back to a block, looked for from its upper end alone: by a walk down that ends where it meets a change of the
-//! block, and leaves out what is lower than the floor of the block. It gives up once it has looked at four times as many
+//! block, and leaves out what is lower than the floor of the block. It gives up once it has looked at some times as many
 //! patches as the list of the block has, which a search from both ends looks at first: where a block has many changes and
-//! little lies between them and the new one, it tells the grade at less than that. Where more than a few patches lie below the
-//! row before the first changes of other blocks, as where a superblock was overwritten thousands of times, it begins with
-//! some of these: a way that is found from them is one, and none tells nothing.
+//! little lies between them and the new one, it tells the grade at less than that. Steps down cross a block once for all of
+//! its hard changes, so that they come to an end sooner than steps up, and the walk goes on longer while it has looked at few.
+//! Where more than a few patches lie below the row before the first changes of other blocks, as where a superblock was
+//! overwritten thousands of times, it begins with some of these: a way that is found from them is one, and none tells nothing.
 
 ghost use Rattle.std.specs.Prelude.{◌≡◌, ◌≤◌, ◌<◌, ℕ, length, Contains, IfSome, IfNone, slice_index_or};
 ghost use Rattle.fst_heads.specs.declared.test.Test.TheVariants as test;
@@ -27,8 +28,18 @@ use crate::way_down::step_down;
 use fst_heads::head::Head;
 use fst_heads::test::{Test, passes};
 
-// How many patches may be looked at for each change of the block.
+// How many patches may be looked at for each change of the block: more as long as they are few.
 const LOOKS: usize = 4;
+
+const MORE_LOOKS: usize = 16;
+
+const FEW_LOOKS: usize = 4096;
+
+// How many patches may be looked at for a block that has so many changes.
+fn most_looks(changes: usize) -> usize {
+    let more = changes.saturating_mul(MORE_LOOKS).min(FEW_LOOKS);
+    changes.saturating_mul(LOOKS).max(more)
+}
 
 // The first change of the block that the walk met at that turn or later.
 fn meets_change(heads: &[Head], walk: &Walk, from: usize, block: u32) -> Option<u32>
@@ -120,7 +131,7 @@ pub fn grade_below(
     ensures down { IsOver sight.now.heads.now (length sight.now.lists.now) down.new }
 {
     down.cross_only(block);
-    let most = sight.lists[block as usize].len().saturating_mul(LOOKS);
+    let most = most_looks(sight.lists[block as usize].len());
     let few = most.min(FEW);
     let looked = visit_first_away(sight, &mut down.walk, block, row, few);
     let least = sight.levels.floor(block);
