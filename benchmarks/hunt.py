@@ -1,18 +1,18 @@
 #!/usr/bin/env python3
 """A hunt for scripts on which `feather play` is slow beside another program: it changes those that are slowest so far.
 
-    benchmarks/hunt.py --beside PROGRAM [--seed S] [--changes N] [--rounds R] [--keep FOLDER] [PROGRAM]
+    benchmarks/hunt.py --beside PROGRAM [--seed S] [--turns N] [--rounds R] [--keep FOLDER] [PROGRAM]
 
 For whoever changes a search. The other benchmarks make scripts of one kind each, and what is slow is where nobody looked. A
 *plan* here is a few stages, each of a few calls that are made again and again: on which block a change is, how many bytes it
 has and which patches it comes after; gates and groups that are opened, gain and end; writes that go out and come back,
 `forget`, and calls that only ask. The hunt begins with plans at random and goes on from the twenty on which PROGRAM took
-longest beside the other: in a copy of one a stage, a call or a part of a call is changed, put in or left out. A plan is
-played until it has made N changes (12,000). A line says of each round (R of them, 200) the greatest ratio so far, the
-seconds, and the plan. With --keep the scripts of the ten slowest are written to FOLDER at the end, NAME.jsonl, each with
-the words of its shape in NAME.words. PROGRAM and the other are to give the same replies; where they do not the hunt ends.
-The other is asked, line by line, what may be written. PROGRAM is the program as `rt run` or `./feather` leaves it; without
-it `./feather` is used, which builds it once.
+longest beside the other: in a copy of one a stage, a call or a part of a call is changed, put in or left out. R plans are
+played (200), each for N turns (12,000), which its stages share. A line says each time that a greater ratio was found, and
+after each 50 plans, the ratio, the seconds and the plan. With --keep the scripts of the ten slowest are written to FOLDER
+at the end, 1.jsonl to 10.jsonl, each with the words of its shape beside it. PROGRAM and the other are to give the same
+replies; where they do not the hunt ends. The other is asked, line by line, what may be written. PROGRAM is the program as
+`rt run` or `./feather` leaves it; without it `./feather` is used, which builds it once.
 """
 
 import argparse
@@ -21,6 +21,7 @@ import os
 import random
 import sys
 import tempfile
+import typing
 
 from shapes import ROOT, asked, played
 from steady import Guide
@@ -31,9 +32,12 @@ LEAST = 0.006
 # How many of a script's lines are asked at once at most: the replies have to fit into a pipe.
 TOGETHER = 500
 
+# How many plans are made at random before any is changed, and from how many the hunt goes on.
+BEGINS, KEPT = 60, 20
+
 PLACES = ["one", "turn", "random", "hot", "last", "next"]
 NAMED = ["last", "near", "any", "own", "own near", "first", "middle", "mark", "gate", "old gate", "some gate", "group", "tail"]
-KINDS = ["change"] * 6 + ["empty", "gate", "gate", "gain", "seal", "seal", "group", "member", "member", "close", "write", "write", "done", "forget", "ask"]
+KINDS = ["change"] * 6 + ["gate", "seal", "member", "write"] * 2 + ["empty", "gain", "group", "close", "done", "forget", "ask"]
 ASKED = ["choose", "pick", "place", "stat", "held"]
 
 
@@ -100,11 +104,11 @@ def changed(dice, old):
 class Player:
     """Makes the script of a plan, asking a program what may be written and which number a patch has."""
 
-    def __init__(self, plan, changes, seed, program):
+    def __init__(self, plan, turns, seed, program):
         self.plan, self.dice = plan, random.Random(seed)
         self.words = ["--blocks", str(plan["blocks"]), "--size", str(plan["size"])]
         self.guide, self.lines, self.some = Guide(program, self.words), [], []
-        self.most, self.made, self.given = changes, 0, 0
+        self.most, self.given = turns, 0
         self.all, self.of_block, self.mark = [], [[] for _ in range(plan["blocks"])], 1
         self.open, self.groups, self.out, self.turns, self.block = [], [], [], {}, 0
 
@@ -186,7 +190,6 @@ class Player:
 
     def note(self, block):
         self.given += 1
-        self.made += 1
         self.all.append(self.given)
         self.of_block[block].append(self.given)
 
@@ -300,7 +303,7 @@ class Player:
 
 
 def says(plan):
-    told = []
+    parts = []
     for stage in plan["stages"]:
         calls = []
         for call in stage["calls"]:
@@ -312,8 +315,23 @@ def says(plan):
             for name in call["names"]:
                 text += f", {name['count']} {name['way']} {name['near']}"
             calls.append(text + (f", every {call['every']}" if call["every"] > 1 else "") + ("!" if call["fails"] else ""))
-        told.append(f"share {stage['share']}: " + "; ".join(calls))
-    return f"{plan['blocks']} of {plan['size']}, again {plan['again']} | " + " | ".join(told)
+        parts.append(f"share {stage['share']}: " + "; ".join(calls))
+    return f"{plan['blocks']} of {plan['size']}, again {plan['again']} | " + " | ".join(parts)
+
+
+class Tried(typing.NamedTuple):
+    """A plan that was played: how many times the other's time it took, the seconds of both, and its script."""
+
+    ratio: float
+    ours: float
+    other: float
+    plan: dict
+    words: list
+    lines: list
+
+
+def told(tried):
+    return f"{tried.ratio:.2f} times, {tried.ours:.3f} s, beside {tried.other:.3f} s; {says(tried.plan)}"
 
 
 class Hunt:
@@ -322,6 +340,7 @@ class Hunt:
         self.start = [min(self.seconds(program, [], []) for _ in range(5)) for program in (known.program, known.beside)]
 
     def seconds(self, program, words, lines):
+        """The processor seconds of a script; a sum of the replies is kept in `sum`."""
         with tempfile.NamedTemporaryFile("w", suffix=".jsonl") as script:
             script.write("".join(line + "\n" for line in lines))
             script.flush()
@@ -329,9 +348,8 @@ class Hunt:
         self.sum = sum
         return used
 
-    def ratio(self, plan, seed):
-        """How many times the other's time a plan takes, its seconds, and its script."""
-        player = Player(plan, self.known.changes, seed, self.known.beside)
+    def tried(self, plan, seed):
+        player = Player(plan, self.known.turns, seed, self.known.beside)
         lines = player.script()
         ours = self.seconds(self.known.program, player.words, lines) - self.start[0]
         mine = self.sum
@@ -341,42 +359,38 @@ class Hunt:
         if ours > 3 * max(other, LEAST):
             ours = min(ours, self.seconds(self.known.program, player.words, lines) - self.start[0])
             other = max(other, self.seconds(self.known.beside, player.words, lines) - self.start[1])
-        return ours / max(other, LEAST), ours, other, player.words, lines
+        return Tried(ours / max(other, LEAST), ours, other, plan, player.words, lines)
 
-    def tried(self, plan):
-        seed = self.dice.randrange(1 << 30)
-        ratio, ours, other, words, lines = self.ratio(plan, seed)
-        self.kept.append((ratio, len(self.kept), ours, other, plan, words, lines))
-        self.kept.sort(reverse=True, key=lambda it: it[0])
-        del self.kept[20:]
+    def keep_slowest(self, tried):
+        self.kept = sorted([*self.kept, tried], key=lambda it: it.ratio, reverse=True)[:KEPT]
 
     def run(self):
         for number in range(self.known.rounds):
-            if number < 60 or self.dice.random() < 0.2:
+            if number < BEGINS or self.dice.random() < 0.2:
                 new = plan(self.dice)
             else:
-                new = changed(self.dice, self.dice.choice(self.kept)[4])
-            before = self.kept[0][0] if self.kept else 0
-            self.tried(new)
+                new = changed(self.dice, self.dice.choice(self.kept).plan)
+            before = self.kept[0].ratio if self.kept else 0
+            self.keep_slowest(self.tried(new, self.dice.randrange(1 << 30)))
             best = self.kept[0]
-            if best[0] > before or number % 50 == 49:
-                print(f"{number + 1}: {best[0]:.2f} times, {best[2]:.3f} s, beside {best[3]:.3f} s; {says(best[4])}", flush=True)
+            if best.ratio > before or number % 50 == 49:
+                print(f"{number + 1}: {told(best)}", flush=True)
 
     def keep(self, folder):
         os.makedirs(folder, exist_ok=True)
-        for number, (ratio, _, ours, other, plan, words, lines) in enumerate(self.kept[:10], 1):
+        for number, kept in enumerate(self.kept[:10], 1):
             with open(f"{folder}/{number}.jsonl", "w") as script:
-                script.write("".join(line + "\n" for line in lines))
-            with open(f"{folder}/{number}.words", "w") as told:
-                told.write(" ".join(words) + "\n")
-            print(f"{number}: {ratio:.2f} times, {ours:.3f} s, beside {other:.3f} s; {says(plan)}")
+                script.write("".join(line + "\n" for line in kept.lines))
+            with open(f"{folder}/{number}.words", "w") as words:
+                words.write(" ".join(kept.words) + "\n")
+            print(f"{number}: {told(kept)}")
 
 
 def main():
     args = argparse.ArgumentParser(description=__doc__, formatter_class=argparse.RawDescriptionHelpFormatter)
     args.add_argument("--beside", metavar="PROGRAM", required=True, help="a second program, whose replies are to be the same")
     args.add_argument("--seed", type=int, default=1, metavar="S", help="where the dice begin")
-    args.add_argument("--changes", type=int, default=12_000, metavar="N", help="how many turns a plan has")
+    args.add_argument("--turns", type=int, default=12_000, metavar="N", help="how many turns a plan has")
     args.add_argument("--rounds", type=int, default=200, metavar="R", help="how many plans are played")
     args.add_argument("--keep", metavar="FOLDER", help="where the scripts of the ten slowest are left")
     args.add_argument("program", nargs="?", metavar="PROGRAM", default=os.path.join(ROOT, "feather"))
