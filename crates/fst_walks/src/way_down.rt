@@ -23,7 +23,7 @@ use fst_heads::head::{Head, Kind};
 use fst_heads::test::is_live;
 
 // Visits the patch with the number, unless it is on disk, lower than `least` or was visited before. It looks at the head
-// only where that is high enough.
+// only where that is high enough and was not visited: most are one or the other, and heads are far larger than ranks.
 fn visit_high(sight: &Sight<'_>, walk: &mut Walk, number: u32, least: u32)
     requires sees { Sees sight.now }
     requires visited { Visited sight.now.heads.now walk.old }
@@ -32,8 +32,10 @@ fn visit_high(sight: &Sight<'_>, walk: &mut Walk, number: u32, least: u32)
 {
     if let Some(index) = sight.levels.find(sight.heads, number) {
         if sight.levels.level(index) >= least {
-            if is_live(sight.heads[index].place) {
-                walk.meet(index);
+            if !walk.has_met(index) {
+                if is_live(sight.heads[index].place) {
+                    walk.meet(index);
+                }
             }
         }
     }

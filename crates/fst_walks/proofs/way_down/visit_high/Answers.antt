@@ -1,10 +1,10 @@
 use Rattle.std.proofs.lemmas.Grind.{common_steps}
-use Rattle.std.proofs.Common.{◌≡◌, ◌≤◌, ◌∙◌, refl, sym, subst, arith}
+use Rattle.std.proofs.Common.{◌≡◌, ◌≤◌, ◌∙◌, Contains, refl, sym, subst, arith}
 use Rattle.std.proofs.lemmas.Bool.{false≢true}
 use Rattle.fst_heads.specs.Heads.{patches_of}
 use Rattle.fst_heads.proofs.Indices.{live_at, not_live_none}
 use Rattle.fst_walks.specs.{BothEnds.IsHigh, Leveling.level_of, Walks.numbers_met}
-use Rattle.fst_walks.proofs.{Ranked.{no_rank, rank_level}, Visiting.{visits_none, visits_meet, visited_meet}}
+use Rattle.fst_walks.proofs.{Ranked.{no_rank, rank_level}, Visiting.{number_of_met, visits_none, visits_meet, visited_meet}}
 use Rattle.fst_walks.proofs.way_down.visit_high.Goals.{After-is_live}
 use Rattle.fst_walks.proofs.way_down.visit_high.Goals as goal
 
@@ -35,6 +35,16 @@ returns-else-is_live-clause-visits c =
     visits_none (λ m. (m ≡ n) × high m) (numbers_met heads c.args.walk.now) (λ m k.
     let alive = (live_at heads n c.in-Some.index c.index-sight-index.result c.requires.sees.rising c.in-Some.ensures.found).1 (subst high k.0 k.1).0 in
     absurd (false≢true (sym c.if-is_live.false ∙ (c.is_live.ensures ∙ alive))))
+
+-- what was met is met
+pub returns-else-not-has_met-clause-visits : goal.returns-else-not-has_met-clause-visits
+returns-else-not-has_met-clause-visits c =
+    let sight = c.args.sight.now in
+    let heads = sight.heads.now in
+    let n = c.args.number in
+    let met = numbers_met heads c.args.walk.now in
+    let there = number_of_met heads c.args.walk.now n c.in-Some.index c.in-Some.ensures.found (c.has_met.ensures.met.0 c.if-not-has_met.false) in
+    visits_none (λ m. (m ≡ n) × IsHigh (patches_of heads) (level_of sight.levels.now.ranks) c.args.least m) met (λ m k. subst (Contains met) (sym k.0) there)
 
 pub returns-else-level-least-clause-visits : goal.returns-else-level-least-clause-visits
 returns-else-level-least-clause-visits c =
