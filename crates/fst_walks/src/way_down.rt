@@ -23,7 +23,7 @@ use fst_heads::head::{Head, Kind};
 use fst_heads::test::is_live;
 
 // Visits the patch with the number, unless it is on disk, lower than `least` or was visited before. It looks at the head
-// only where that is high enough and was not visited: most are one or the other, and heads are far larger than ranks.
+// only where that is high enough and was not visited: most are too low or were, and heads are far larger than ranks.
 fn visit_high(sight: &Sight<'_>, walk: &mut Walk, number: u32, least: u32)
     requires sees { Sees sight.now }
     requires visited { Visited sight.now.heads.now walk.old }
