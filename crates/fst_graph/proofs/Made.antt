@@ -4,7 +4,7 @@ use Rattle.std.proofs.lemmas.{List.{length-map, length_push, map_push}, List.Ele
 use Rattle.std.specs.{Global.Vec, Vec.with_items}
 use Rattle.fst_types.specs.{Dependencies.{DirectlyOn, IsLiveNumber}, Facts.{IsOnDiskWithAll, SparseAreLawful}, Gates.IsOpenNumber, Gating.gains, Lists.Lists, Making.fresh, Order.depend_order}
 use Rattle.fst_types.specs.{Patches.{Patch, IsOn, OpenGate}, Refusals.NoneHolds}
-use Rattle.fst_heads.specs.{Covers.{Covering, IsPut as IsCovered}, Heads.{patches_of, IsRising}, Keeps.IsInside, Lists.{entry_of, HasRoomInList}, Nodes.{node_of, nodes_of, at_number, gains_names, linked_to, pending_in}}
+use Rattle.fst_heads.specs.{Covers.{Covering, IsPut as IsCovered}, Heads.{patches_of, IsRising}, Keeps.IsInside, Lists.{entry_of, HasRoomInList}, Nodes.{node_of, nodes_of, at_number, gains_names, linked_to, pending_in, AreSettled}}
 use Rattle.fst_heads.specs.{Pendings.{is_pending, sums_of}, Standings.{entered, is_held_on, is_ready_on}, Tests.is_hard_kind, declared.head.Head.Head}
 use Rattle.fst_heads.specs.{declared.lists.Listed.Listed, declared.pending.{Pending.Pending, Sums.Sums}, declared.standing.Standing.Standing}
 use Rattle.fst_walks.specs.{Ancestors.{AreOver, GoesUnder}, Leveling.{IsLeveled, Leveling, jump_of, level_of, no_ancestry, floor_of, top_level}, Lifting.{IsRise, MayLift}, Needing.{IsNoted, IsPut, Needing}, Sights.Sees, Walks.{Trail, numbers_met}, declared.{ends.Ends.Ends, levels.{Ancestry.Ancestry, Rank.Rank, Rise.Rise}, sight.Sight.Sight}}
@@ -155,10 +155,10 @@ module _ {heads : Vec Head} {ends : Ends} {levels : Leveling} {needs : Needing} 
         → record { rising : IsRising gs; aligned : map (λ r. r.number) lifted.ranks ≡ map (λ p. p.number) (patches_of gs); jumps : AreOver (patches_of gs) (jump_of lifted.ranks); given : 0 < numbers + 1 }
     may_go_on at leveled same = rw same record { rising = rising_sound S; aligned = rw (← at) leveled.aligned; jumps = rw (← at) leveled.jumps; given = omega arith }
 
-    pub may_need : {hs : List Head} {row : List ℕ} → hs ≡ heads.items → row ≡ p.dependencies.items → record { rising : IsRising hs; block : needs.block < length needs.lists; room : length row ≤ needs.room }
+    pub may_need : {hs : List Head} {row : List ℕ} → hs ≡ heads.items → row ≡ p.dependencies.items → record { rising : IsRising hs; disk : IsOnDiskWithAll (patches_of hs); settled : (blocks : ℕ) × AreSettled (nodes_of hs) blocks; block : needs.block < length needs.lists; room : length row ≤ needs.room }
     may_need same named =
         let needed = D.prepared.needed in
-        rw same record { rising = rising_sound S; block = omega (arith, D.ready.inside, needed.0, S.needing.long); room = omega (arith, needed.1, ap length named) }
+        rw same record { rising = rising_sound S; disk = S.keeps.lawful.on_disk_with_all; settled = (_, S.tallies.settled); block = omega (arith, D.ready.inside, needed.0, S.needing.long); room = omega (arith, needed.1, ap length named) }
 
     -- there is room for it in the list of its block, among the counts, and in the walks
     pub may_enlist : record {

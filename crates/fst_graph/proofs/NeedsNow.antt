@@ -1,8 +1,8 @@
 -- What calls leave of what the blocks need: more room, patches that moved on, and a patch more.
-use Rattle.std.proofs.Common.{◌≡◌, ◌≢◌, ◌+◌, ◌++◌, ◌∷◌, ◌∙◌, [], ℕ, List, Contains, length, map, filter, refl, sym, subst, inl, inr, arith}
+use Rattle.std.proofs.Common.{◌≡◌, ◌≢◌, ◌≤◌, ◌+◌, ◌++◌, ◌∷◌, ◌∙◌, [], ℕ, List, Contains, length, map, filter, refl, sym, subst, inl, inr, arith}
 use Rattle.std.specs.Option.{IfSome}
-use Rattle.std.proofs.lemmas.List.Elements.{Contains-push}
-use Rattle.fst_types.specs.{Cascade.IsCascadeOf, Facts.{HasOnePlaceEach, IsOnDiskWithAll, SparseAreLawful}, Gates.IsOpenNumber, Gating.{gains, sealed}, Patches.{Patch, IsOn, IsRising}, Tests.is_live}
+use Rattle.std.proofs.lemmas.{Bool.cases_eq, List.Elements.{Contains-push}}
+use Rattle.fst_types.specs.{Cascade.IsCascadeOf, Closure.one, Facts.{HasOnePlaceEach, IsOnDiskWithAll, SparseAreLawful}, Gates.IsOpenNumber, Gating.{gains, sealed}, Patches.{Patch, IsOn, IsRising}, Tests.is_live}
 use Rattle.fst_types.specs.{Writable.{IsWritable, IsWritableSet}, Writing.{landed, launched}}
 use Rattle.fst_walks.specs.{Needing.{HaveGivenEnds, HaveWaysBack, IsNeeding, IsNoted, IsPut, Needing, needs_of}, WayBack.LeadsBack, declared.needs.Way.Way}
 use Rattle.fst_walks.proofs.{Backed.{Any, all_stay, edges_landed, edges_launched, leads_stays, stays_gained, stays_landed, stays_launched, stays_left, stays_put, stays_sealed}, ComesBack.live_number}
@@ -70,7 +70,7 @@ pub needing_change : {old : List Patch} {numbers blocks : ℕ} {needs grown : Ne
     → IsPut old p.block p.dependencies.items p.told.grade needs.lists grown.lists → IsNoted (numbers + 1) p.told.end needs.ways grown.ways → IfSome p.told.end (LeadsBack old p.block p.dependencies.items) → IsNeeding (old ++ change_of numbers p ∷ []) blocks grown
 needing_change {old} {numbers} {needs = needs} {grown} p H K given N put noted told = record {
   long = let long = put.long in long ∙ N.long;
-  needed = change_needed old numbers H.one_place_each (change_of numbers p) refl refl p.block p.told.grade (λ c on. same c on) (λ hard. cc) refl (λ hard. cc) needs.lists grown.lists put N.needed;
+  needed = change_needed old numbers H.one_place_each (change_of numbers p) refl refl p.block p.told.grade (λ c on. same c on) (λ hard. cc) refl (λ hard. cc) older needs.lists grown.lists put N.needed;
   back = λ w c b now. elim (noted w c) [
     | inl was ↦ back_put made needs.ways H K refl given N.back w was b now
     | inr is ↦
@@ -92,6 +92,13 @@ needing_change {old} {numbers} {needs = needs} {grown} p H K given N put noted t
 
     same : (c : ℕ) → IsOn (change_of numbers p) c → c ≡ p.block
     same c on = cc
+
+    -- it does not depend on itself, so on older ones alone
+    older : (q : ℕ) → Contains p.dependencies.items q → q ≤ numbers
+    older q named = elim (cases_eq q (numbers + 1)) [
+      | inl own ↦ absurd (K.no_cycle (numbers + 1) (one (record { patch = made; head = Contains-push old made; numbered = refl; named = subst (Contains p.dependencies.items) own named })))
+      | inr other ↦ let given = K.one_place_each.named made q (Contains-push old made) named in omega (arith, given, other)
+    ]
 
 -- its end was given
 pub given_more : (old : List Patch) (numbers : ℕ) (ways grown : List Way) (p : Stored) → HasOnePlaceEach old numbers → HaveGivenEnds numbers ways → IsNoted (numbers + 1) p.told.end ways grown → IfSome p.told.end (LeadsBack old p.block p.dependencies.items) → HaveGivenEnds (numbers + 1) grown

@@ -7,8 +7,8 @@ use Rattle.fst_types.specs.{Tests.{is_at, is_live}, Writable.{IsWritable, IsWrit
 use Rattle.fst_types.proofs.{Cascades.{no_follower_on, settled_on}, Crash.same_number, Depending.grown, Dropping.in_filter, Finite.{In-from_Contains, Contains-from_In, In-map}, Issuing.launched_cases, Landing.landed_cases, Sealing.sealed_cases}
 use Rattle.fst_heads.specs.{Grading.{HasUnder, IsHardNumber}, Indices.PassesAt}
 use Rattle.fst_heads.proofs.{Graded.{off_from, off_to, on_to}}
-use Rattle.fst_walks.specs.{Needing.{AreNeeded, HasWayBack, HaveWaysBack, IsHardAt}, WayBack.{IsLiveOver, LeadsBack, StepsBack}, declared.needs.Way.Way}
-use Rattle.fst_walks.proofs.{BothEnds.{off_live, up_over}, ComesBack.{ComesBack, hard_reaches, live_number, live_on, over_back}, Holding.live_up, Trails.none_in}
+use Rattle.fst_walks.specs.{Needing.{AreNeeded, HasWayBack, HaveWaysBack, IsHardAt, StaysOn}, WayBack.{IsLiveOver, LeadsBack, StepsBack}, declared.needs.Way.Way}
+use Rattle.fst_walks.proofs.{BothEnds.{off_live, up_over}, ComesBack.{ComesBack, hard_reaches, live_number, live_on, over_back}, Holding.live_up, Staying.above_on, Trails.none_in}
 use Rattle.fst_types.specs.declared.place.Place.TheVariants as place
 use Rattle.fst_heads.specs.declared.test.Test.TheVariants as test
 use Rattle.fst_types.proofs.Numbers.{one_block}
@@ -264,27 +264,29 @@ module _ (old : List Patch) (rising : IsRising old) (disk : IsOnDiskWithAll old)
     over : (patch.number ≡ n) ⊎ DependsOn old patch.number n
 
   -- what a hard change in memory directly depends on is one of the block
-  own_direct : (h n : ℕ) → IsHardNumber old b h → DirectlyOn old h n → IsLiveNumber old n → IsHardNumber old b n ⊎ IsOverFlight n
+  own_direct : (h n : ℕ) → IsHardNumber old b h → DirectlyOn old h n → IsLiveNumber old n → IsHardNumber old b n ⊎ (IsOverFlight n ⊎ StaysOn old b n)
   own_direct h n hard d l = elim (needed.whole b h l.patch hard l.head (subst (DirectlyOn old h) (sym l.numbered) d)) [
     | inl kept ↦ absurd (none_in l.patch.number (subst (λ ns. Contains ns l.patch.number) none kept))
-    | inr s ↦
+    | inr (inl s) ↦
         let own : s.block ≡ b = elim s.by [ inl e ↦ e | inr k ↦ absurd (none_in k.0 (subst (λ ns. Contains ns k.0) none k.1)) ] in
         let x = s.hard in
         let change = subst (IsOn x.patch) own x.change in
         let same = same_number old x.patch l.patch rising x.head l.head x.numbered in
         at_place x change (subst IsLive (sym same) l.live) s.at refl (x.numbered ∙ l.numbered)
+    | inr (inr on) ↦ inr (inr (subst (StaysOn old b) l.numbered on))
   ]
     where
-      at_place : {at : Place} {d m : ℕ} (x : IsHardAt old at d m) → IsOn x.patch b → IsLive x.patch → (p : Place) → at ≡ p → x.patch.number ≡ n → IsHardNumber old b n ⊎ IsOverFlight n
+      at_place : {at : Place} {d m : ℕ} (x : IsHardAt old at d m) → IsOn x.patch b → IsLive x.patch → (p : Place) → at ≡ p → x.patch.number ≡ n → IsHardNumber old b n ⊎ (IsOverFlight n ⊎ StaysOn old b n)
       at_place x on live place.Memory e numbered = inl (record { patch = x.patch; head = x.head; numbered = numbered; hard = record { change = on; memory = x.place ∙ e; hard = x.hard } })
-      at_place x on live place.Flight e numbered = inr (record { patch = x.patch; flies = record { head = x.head; change = on; flight = x.place ∙ e }; over = inl numbered })
+      at_place x on live place.Flight e numbered = inr (inl (record { patch = x.patch; flies = record { head = x.head; change = on; flight = x.place ∙ e }; over = inl numbered }))
       at_place x on live place.Disk e numbered = absurd (live (x.place ∙ e))
 
-  own_below : (h n : ℕ) → IsHardNumber old b h → DependsOn old h n → IsLiveNumber old n → IsHardNumber old b n ⊎ IsOverFlight n
+  own_below : (h n : ℕ) → IsHardNumber old b h → DependsOn old h n → IsLiveNumber old n → IsHardNumber old b n ⊎ (IsOverFlight n ⊎ StaysOn old b n)
   own_below h n hard (one d) l = own_direct h n hard d l
   own_below h n hard (join {q = k} c d) l = elim (own_below h k hard c (live_up old disk k n d l)) [
     | inl mid ↦ own_below k n mid d l
-    | inr f ↦ inr (record { patch = f.patch; flies = f.flies; over = inr (elim f.over [ inl e ↦ subst (λ m. DependsOn old m n) (sym e) d | inr low ↦ join low d ]) })
+    | inr (inl f) ↦ inr (inl (record { patch = f.patch; flies = f.flies; over = inr (elim f.over [ inl e ↦ subst (λ m. DependsOn old m n) (sym e) d | inr low ↦ join low d ]) }))
+    | inr (inr on) ↦ inr (inr (record { closed = λ a. on.closed (above_on old (IsOpenNumber old) k n d a); own = λ a. on.own (above_on old (PassesAt (test.LiveOff b) old) k n d a) }))
   ]
 
   pub edges_landed : (c d : ℕ) → HasEdge old c d → c ≢ b
@@ -295,7 +297,8 @@ module _ (old : List Patch) (rising : IsRising old) (disk : IsOnDiskWithAll old)
       let other : IsOn need b → ⊥ = λ on. e.other (same ∙ one_block need b d on e.needs.change) in
       elim (own_below e.hard.number need.number hard e.needs.depends (record { patch = need; head = e.needs.head; numbered = refl; live = e.live })) [
         | inl own ↦ other (subst (λ p. IsOn p b) (same_number old own.patch need rising own.head e.needs.head own.numbered) own.hard.change)
-        | inr f ↦ elim f.over [
+        | inr (inr on) ↦ on.own (inl (record { patch = need; head = e.needs.head; numbered = refl; passed = off_to b need.number d need.kind need.place e.live e.needs.change (λ own. other (subst (IsOn need) own e.needs.change)) }))
+        | inr (inl f) ↦ elim f.over [
           | inl here ↦ other (subst (λ p. IsOn p b) (same_number old f.patch need rising f.flies.head e.needs.head here) f.flies.change)
           | inr low ↦ elim (flights.needs b f.patch f.flies need d (record { head = e.needs.head; change = e.needs.change; depends = low })) [ inl gone ↦ e.live gone | inr own ↦ other own.change ]
         ]

@@ -5,6 +5,7 @@ pub mod Seen
 pub mod Shelves
 pub mod Linked
 pub mod Low
+mod Staying
 pub mod Searched
 pub mod SearchedAbove
 pub mod Alone

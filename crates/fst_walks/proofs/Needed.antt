@@ -6,8 +6,8 @@ use Rattle.fst_types.specs.{Patches.{Patch, Kind, Change, Empty, OpenGate, Seale
 use Rattle.fst_types.specs.declared.grade.Grade.TheVariants as grade
 use Rattle.fst_types.proofs.Crash.{same_number}
 use Rattle.fst_heads.specs.{Grading.IsHardNumber, Indices.PassesAt, Reaching.{IsHardIn, IsReached, ShowsBlocks}}
-use Rattle.fst_heads.proofs.{Graded.{on_to}}
-use Rattle.fst_walks.specs.{BothEnds.{CrossesDown, GoesBelow}, Descending.IsLedFrom, Needing.{AreNeeded, IsHardAt, IsStoodFor}}
+use Rattle.fst_heads.proofs.{Graded.{off_to, on_to}}
+use Rattle.fst_walks.specs.{BothEnds.{CrossesDown, GoesBelow}, Descending.IsLedFrom, Needing.{AreNeeded, IsHardAt, IsSpared, StaysOn}}
 use Rattle.fst_walks.proofs.{ComesBack.{live_number, live_on}}
 use Rattle.fst_types.specs.declared.place.Place.TheVariants as place
 use Rattle.fst_heads.specs.declared.test.Test.TheVariants as test
@@ -81,17 +81,17 @@ module _ (patches : List Patch) (rising : IsRising patches) (flights : FlightsSt
     IsCrossed d = (y : ℕ) × IsMet y × PassesAt (test.LiveOn d) patches y
 
     -- all changes at or below p that are not on disk are of block d
-    abbrev StaysOn : ℕ → ℕ → Type 0
-    StaysOn d p = (c q : ℕ) → (p ≡ q) ⊎ DependsOn patches p q → PassesAt (test.LiveOn c) patches q → c ≡ d
+    abbrev LeavesNot : ℕ → ℕ → Type 0
+    LeavesNot d p = (c q : ℕ) → (p ≡ q) ⊎ DependsOn patches p q → PassesAt (test.LiveOn c) patches q → c ≡ d
 
     -- p was met, or what leads on from it leads on from what was
     data IsTold (p : ℕ) : Type 0 where
       met : IsMet p → IsTold p
       hard : (d : ℕ) → IsCrossed d → IsHardNumber patches d p → IsTold p
-      stays : (d : ℕ) → IsCrossed d → StaysOn d p → IsTold p
+      stays : (d : ℕ) → IsCrossed d → LeavesNot d p → IsTold p
 
     -- what flies of a block stays there
-    flying_stays : (d p : ℕ) → IsHardAt patches place.Flight d p → StaysOn d p
+    flying_stays : (d p : ℕ) → IsHardAt patches place.Flight d p → LeavesNot d p
     flying_stays d p h c q way x =
         let k = live_on patches rising b c q x in
         let f : IsInFlightOn patches d h.patch = record { head = h.head; change = h.change; flight = h.place } in
@@ -106,6 +106,16 @@ module _ (patches : List Patch) (rising : IsRising patches) (flights : FlightsSt
                 | inr fly ↦ one_block x.patch c d k.1 fly.change
               ]
         ]
+
+    -- and so does what is spared for that
+    spared_stays : (d p : ℕ) → StaysOn patches d p → LeavesNot d p
+    spared_stays d p s c q way x = elim (cases_eq c d) [
+      | inl same ↦ same
+      | inr other ↦
+          let k = live_on patches rising b c q x in
+          let off : PassesAt (test.LiveOff d) patches q = record { patch = x.patch; head = x.head; numbered = x.numbered; passed = off_to d x.patch.number c x.patch.kind x.patch.place k.0 k.1 other } in
+          absurd (s.own (elim way [ inl e ↦ inl (subst (PassesAt (test.LiveOff d) patches) (sym e) off) | inr low ↦ inr (q, low, off) ]))
+    ]
 
     told_hard : (at : Place) (d q : ℕ) → IsHardAt patches at d q → IsLiveNumber patches q → IsCrossed d → IsTold q
     told_hard place.Memory d q h live x = hard d x (record { patch = h.patch; head = h.head; numbered = h.numbered; hard = record { change = h.change; memory = h.place; hard = h.hard } })
@@ -131,14 +141,17 @@ module _ (patches : List Patch) (rising : IsRising patches) (flights : FlightsSt
     below_hard : (p q : ℕ) → DirectlyOn patches p q → IsLiveNumber patches q → (e : ℕ) → IsCrossed e → IsHardNumber patches e p → IsCrossed b ⊎ IsTold q
     below_hard p q d live e x h = elim (cases_eq e b) [
       | inl own ↦ inl (subst IsCrossed own x)
-      | inr other ↦ elim (subst (λ k. Contains (needs e) k ⊎ IsStoodFor patches e (needs e) k) live.numbered (needed.whole e p live.patch h live.head (subst (DirectlyOn patches p) (sym live.numbered) d))) [
+      | inr other ↦ elim (subst (λ k. Contains (needs e) k ⊎ IsSpared patches e (needs e) k) live.numbered (needed.whole e p live.patch h live.head (subst (DirectlyOn patches p) (sym live.numbered) d))) [
         | inl kept ↦ inr (met (crossed_on e q other x kept live))
-        | inr s ↦ elim s.by [
-          | inl own ↦ inr (told_hard s.at e q (subst (λ k. IsHardAt patches s.at k q) own s.hard) live x)
-          | inr n ↦
-              let one_live = live_at s.at s.block q n.0 s.hard live n.2 in
-              inr (told_hard s.at s.block q s.hard live (n.0, crossed_on e n.0 other x n.1 (live_number patches rising b s.block n.0 one_live), one_live))
-        ]
+        | inr spared ↦ inr (elim spared [
+          | inl s ↦ elim s.by [
+            | inl own ↦ told_hard s.at e q (subst (λ k. IsHardAt patches s.at k q) own s.hard) live x
+            | inr n ↦
+                let one_live = live_at s.at s.block q n.0 s.hard live n.2 in
+                told_hard s.at s.block q s.hard live (n.0, crossed_on e n.0 other x n.1 (live_number patches rising b s.block n.0 one_live), one_live)
+          ]
+          | inr on ↦ stays e x (spared_stays e q on)
+        ])
       ]
     ]
 

@@ -1,13 +1,13 @@
 -- What blocks need when a gate gains names, when patches are forgotten, and with one patch more.
-use Rattle.std.proofs.Common.{◌≡◌, true, not, ◌+◌, ◌++◌, ◌∷◌, ◌⊎◌, [], ℕ, List, map, filter, Contains, refl, sym, ap, subst, ◌∙◌, inl, inr, arith}
+use Rattle.std.proofs.Common.{◌≡◌, ◌≤◌, true, not, ◌+◌, ◌++◌, ◌∷◌, ◌⊎◌, [], ℕ, List, map, filter, Contains, refl, sym, ap, subst, ◌∙◌, inl, inr, arith}
 use Rattle.std.proofs.lemmas.{Bool.cases_eq, List.Elements.{Contains-push, Contains-push_cases, Contains-append_left}}
 use Rattle.fst_types.specs.{Dependencies.DirectlyOn, Facts.HasOnePlaceEach, Gates.{IsOpenNumber}, Gating.gains, Patches.{Patch, IsOn, IsHard, IsOpenGate, IsRising, block_of_kind, grade_of_kind}, Tests.{is_at, is_live}}
 use Rattle.fst_types.specs.{declared.grade.Grade.Grade, declared.place.Place.Place}
 use Rattle.fst_types.proofs.{Crash.same_number, Dropping.{filter_in, in_filter}, Depending.{grown}, Finite.{In-from_Contains, Contains-from_In, In-map}, GateGains.{direct_cases}}
 use Rattle.fst_heads.specs.{Grading.IsHardNumber}
 use Rattle.fst_heads.proofs.Covering.{was_gained}
-use Rattle.fst_walks.specs.Needing.{AreNeeded, IsHardAt, IsPut, IsStoodFor, needs_of}
-use Rattle.fst_walks.proofs.{NeedsKept.{at_hard, goes_on, hard_at}, Releveled.{hard_was}}
+use Rattle.fst_walks.specs.Needing.{AreNeeded, IsHardAt, IsPut, IsSpared, IsStoodFor, needs_of}
+use Rattle.fst_walks.proofs.{NeedsKept.{at_hard, goes_on, hard_at}, Releveled.{hard_was, off_was}, Staying.{gained_stays, one_stays, still_stays}}
 use Rattle.fst_types.specs.declared.grade.Grade.TheVariants as grade
 use Rattle.fst_types.specs.declared.place.Place.TheVariants as place
 
@@ -52,6 +52,7 @@ module _ (old : List Patch) (rising : IsRising old) (g : ℕ) (names : List ℕ)
     );
     all = λ c h n hard k. k;
     together = λ q at d head h. (at, at_gained at d q.number h, λ n o. at_gained at d n o);
+    staying = gained_stays old g names gate (off_was old g names gate);
   })
 
 -- what is on disk is forgotten
@@ -86,6 +87,9 @@ module _ (old : List Patch) (rising : IsRising old) where
         let same = same_number old q h.patch rising was.0 h.head (sym h.numbered) in
         let live : not (is_at at place.Disk) ≡ true = ap (λ a. not (is_at a place.Disk)) (sym h.place) ∙ subst (λ p. is_live p ≡ true) same was.1 in
         (at, at_left at d q.number live h, λ n o. at_left at d n live o);
+    staying = still_stays old left (λ p q d. record { patch = d.patch; head = (left_in d.patch d.head).0; numbered = d.numbered; named = d.named })
+        (λ n x. record { patch = x.patch; head = (left_in x.patch x.head).0; numbered = x.numbered; is_open = x.is_open })
+        (λ c n x. record { patch = x.patch; head = (left_in x.patch x.head).0; numbered = x.numbered; passed = x.passed });
   })
 
 -- one patch more, which no old one names
@@ -99,12 +103,16 @@ module _ (old : List Patch) (numbers : ℕ) (H : HasOnePlaceEach old numbers) (p
   stood_one : (c : ℕ) (row more : List ℕ) (q : ℕ) → ((n : ℕ) → Contains row n → Contains more n) → IsStoodFor old c row q → IsStoodFor with_one c more q
   stood_one c row more q longer s = record { at = s.at; block = s.block; hard = at_one s.at s.block q s.hard; by = elim s.by [ inl own ↦ inl own | inr n ↦ inr (n.0, longer n.0 n.1, at_one s.at s.block n.0 n.2) ] }
 
+  spared_one : (c : ℕ) (row more : List ℕ) (q : ℕ) → q ≤ numbers → ((n : ℕ) → Contains row n → Contains more n) → IsSpared old c row q → IsSpared with_one c more q
+  spared_one c row more q few longer (inl s) = inl (stood_one c row more q longer s)
+  spared_one c row more q few longer (inr on) = inr (one_stays old numbers H p next c q few on)
+
   here : Contains with_one p
   here = Contains-push old p
 
   module _ (needs kept : ℕ → List ℕ) (longer : (c n : ℕ) → Contains (needs c) n → Contains (kept c) n)
       (only : (c n : ℕ) → Contains (kept c) n → Contains (needs c) n ⊎ (IsHardNumber with_one c p.number × Contains p.dependencies n))
-      (told : (c q : ℕ) → IsOn p c → IsHard p → Contains p.dependencies q → Contains (kept c) q ⊎ IsStoodFor old c (kept c) q) (N : AreNeeded old needs) where
+      (told : (c q : ℕ) → IsOn p c → IsHard p → Contains p.dependencies q → (q ≤ numbers) × (Contains (kept c) q ⊎ IsSpared old c (kept c) q)) (N : AreNeeded old needs) where
     named_one : (c n : ℕ) → Contains (kept c) n → (h : ℕ) × IsHardNumber with_one c h × DirectlyOn with_one h n
     named_one c n k = elim (only c n k) [
       | inl before ↦
@@ -125,14 +133,14 @@ module _ (old : List Patch) (numbers : ℕ) (H : HasOnePlaceEach old numbers) (p
     other : (x y : Patch) → Contains old x → p ≡ y → x.number ≡ y.number → ⊥
     other x y h e same = let k = (H.numbered x h).1 in omega (arith, k, same, next, ap (λ (v : Patch). v.number) e)
 
-    whole_one : (c h : ℕ) (q : Patch) → IsHardNumber with_one c h → Contains with_one q → DirectlyOn with_one h q.number → Contains (kept c) q.number ⊎ IsStoodFor with_one c (kept c) q.number
+    whole_one : (c h : ℕ) (q : Patch) → IsHardNumber with_one c h → Contains with_one q → DirectlyOn with_one h q.number → Contains (kept c) q.number ⊎ IsSpared with_one c (kept c) q.number
     whole_one c h q hard head d = elim (Contains-push_cases old p hard.patch hard.head) [
       | inl before ↦ elim (Contains-push_cases old p d.patch d.head) [
         | inl still ↦ elim (Contains-push_cases old p q head) [
           | inl there ↦
               let was : IsHardNumber old c h = record { patch = hard.patch; head = before; numbered = hard.numbered; hard = hard.hard } in
               let named : DirectlyOn old h q.number = record { patch = d.patch; head = still; numbered = d.numbered; named = d.named } in
-              elim (N.whole c h q was there named) [ inl k ↦ inl (longer c q.number k) | inr s ↦ inr (stood_one c (needs c) (kept c) q.number (longer c) s) ]
+              elim (N.whole c h q was there named) [ inl k ↦ inl (longer c q.number k) | inr s ↦ inr (spared_one c (needs c) (kept c) q.number (H.numbered q there).1 (longer c) s) ]
           | inr e ↦ let k = H.named d.patch q.number still d.named in absurd (omega (arith, k, next, ap (λ (v : Patch). v.number) e))
         ]
         | inr e ↦ absurd (other hard.patch d.patch before e (hard.numbered ∙ sym d.numbered))
@@ -141,7 +149,8 @@ module _ (old : List Patch) (numbers : ℕ) (H : HasOnePlaceEach old numbers) (p
         | inl still ↦ absurd (other d.patch hard.patch still e (d.numbered ∙ sym hard.numbered))
         | inr f ↦
             let named : Contains p.dependencies q.number = subst (λ (v : Patch). Contains v.dependencies q.number) (sym f) d.named in
-            elim (told c q.number (subst (λ (v : Patch). IsOn v c) (sym e) hard.hard.change) (subst IsHard (sym e) hard.hard.hard) named) [ inl k ↦ inl k | inr s ↦ inr (stood_one c (kept c) (kept c) q.number (λ n k. k) s) ]
+            let here = told c q.number (subst (λ (v : Patch). IsOn v c) (sym e) hard.hard.change) (subst IsHard (sym e) hard.hard.hard) named in
+            elim here.1 [ inl k ↦ inl k | inr s ↦ inr (spared_one c (kept c) (kept c) q.number here.0 (λ n k. k) s) ]
       ]
     ]
 
@@ -153,9 +162,9 @@ module _ (old : List Patch) (numbers : ℕ) (H : HasOnePlaceEach old numbers) (p
   other_needed soft needs N = one_needed needs needs (λ c n k. k) (λ c n k. inl k) (λ c q on hard k. absurd (soft c on hard)) N
 
   -- it is a change of block b
-  pub change_needed : p.place ≡ place.Memory → (b : ℕ) (g : Grade) → ((c : ℕ) → IsOn p c → c ≡ b) → (IsHard p → g ≡ grade.Hard) → IsOn p b → (g ≡ grade.Hard → IsHard p) → (lists grown : List (List ℕ)) → IsPut old b p.dependencies g lists grown
+  pub change_needed : p.place ≡ place.Memory → (b : ℕ) (g : Grade) → ((c : ℕ) → IsOn p c → c ≡ b) → (IsHard p → g ≡ grade.Hard) → IsOn p b → (g ≡ grade.Hard → IsHard p) → ((q : ℕ) → Contains p.dependencies q → q ≤ numbers) → (lists grown : List (List ℕ)) → IsPut old b p.dependencies g lists grown
       → AreNeeded old (needs_of lists) → AreNeeded (old ++ p ∷ []) (needs_of grown)
-  change_needed memory b g same graded on hard lists grown put N = one_needed (needs_of lists) (needs_of grown) longer only (λ c q at is k. subst (λ x. Contains (needs_of grown x) q ⊎ IsStoodFor old x (needs_of grown x) q) (sym (same c at)) (put.told (graded is) q k)) N
+  change_needed memory b g same graded on hard own lists grown put N = one_needed (needs_of lists) (needs_of grown) longer only (λ c q at is k. (own q k, subst (λ x. Contains (needs_of grown x) q ⊎ IsSpared old x (needs_of grown x) q) (sym (same c at)) (put.told (graded is) q k))) N
     where
       longer : (c n : ℕ) → Contains (needs_of lists c) n → Contains (needs_of grown c) n
       longer c n k = elim (cases_eq c b) [

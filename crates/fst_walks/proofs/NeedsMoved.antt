@@ -17,6 +17,8 @@ module _ (old new : List Patch) (go : Place → ℕ → Place) (f : Patch → Pa
     block = ap block_of_kind s.kind ∙ g.block;
     grade = ap grade_of_kind s.kind ∙ g.grade;
     place = λ d on hard. s.place (no_follower_on m.kind d (g.block ∙ on)) ∙ g.place d on hard;
+    opened = λ e. g.opened (sym s.kind ∙ e);
+    live = λ d on l. g.live d on (λ e. l (s.place (no_follower_on m.kind d (g.block ∙ on)) ∙ e));
   }
 
   pub goes_back : (p : Patch) → Contains new p → (o : Patch) × Contains old o × GoesAs go o p
@@ -36,8 +38,8 @@ module _ (old new : List Patch) (go : Place → ℕ → Place) (f : Patch → Pa
 module _ (old new : List Patch) (numbers g : ℕ) (H : SparseAreLawful old numbers) (gate : IsOpenNumber old g) (cascade : IsCascadeOf (map (sealed g) old) new) where
   seal_moves : (o : Patch) → Contains old o → GoesAs (λ at d. at) o (sealed g o)
   seal_moves o h = elim (sealed_cases old new numbers g H gate cascade o h) [
-    | inl m ↦ rw m.1 record { number = refl; dependencies = refl; block = sym (ap block_of_kind m.0); grade = sym (ap grade_of_kind m.0); place = λ d on hard. refl }
-    | inr s ↦ rw s record { number = refl; dependencies = refl; block = refl; grade = refl; place = λ d on hard. refl }
+    | inl m ↦ rw m.1 record { number = refl; dependencies = refl; block = sym (ap block_of_kind m.0); grade = sym (ap grade_of_kind m.0); place = λ d on hard. refl; opened = λ e. m.0; live = λ d on l. l }
+    | inr s ↦ rw s record { number = refl; dependencies = refl; block = refl; grade = refl; place = λ d on hard. refl; opened = λ e. e; live = λ d on l. l }
   ]
 
   pub sealed_needed : (needs : ℕ → List ℕ) → AreNeeded old needs → AreNeeded new needs
@@ -52,8 +54,8 @@ lands_at b place.Disk d = place.Disk
 module _ (old new : List Patch) (b : ℕ) (cascade : IsCascadeOf (map (landed b) old) new) where
   land_moves : (o : Patch) → Contains old o → GoesAs (lands_at b) o (landed b o)
   land_moves o h = elim (landed_cases b o) [
-    | inl m ↦ rw m.2 record { number = refl; dependencies = refl; block = refl; grade = refl; place = λ d on hard. sym (ap (λ a. lands_at b a d) m.1 ∙ ap (λ t. cond t place.Disk place.Flight) (eq-eqb d b (same d on m.0))) }
-    | inr s ↦ rw s.0 record { number = refl; dependencies = refl; block = refl; grade = refl; place = λ d on hard. rests o.place d on s.1 refl }
+    | inl m ↦ rw m.2 record { number = refl; dependencies = refl; block = refl; grade = refl; place = λ d on hard. sym (ap (λ a. lands_at b a d) m.1 ∙ ap (λ t. cond t place.Disk place.Flight) (eq-eqb d b (same d on m.0))); opened = λ e. e; live = λ d on l. absurd (l refl) }
+    | inr s ↦ rw s.0 record { number = refl; dependencies = refl; block = refl; grade = refl; place = λ d on hard. rests o.place d on s.1 refl; opened = λ e. e; live = λ d on l. l }
   ]
     where
       same : (d : ℕ) → IsOn o d → IsOn o b → d ≡ b
@@ -90,10 +92,13 @@ module _ (old : List Patch) (numbers b : ℕ) (chosen : List ℕ) (H : SparseAre
   launch_moves o h = elim (launched_cases old numbers b chosen H writable choice o h) [
     | inl m ↦
         let i = m.0.in_memory in
-        rw m.1 record { number = refl; dependencies = refl; block = refl; grade = refl; place = λ d on hard. sym (ap (λ a. launches_at b a d) i.memory ∙ ap (λ t. cond t place.Flight place.Memory) (eq-eqb d b (same d on i.change))) }
-    | inr s ↦ rw s.0 record { number = refl; dependencies = refl; block = refl; grade = refl; place = λ d on hard. rests o.place d on hard (λ i e. s.1 (writable.hard o (record { head = h; change = i; memory = e }) hard)) refl }
+        rw m.1 record { number = refl; dependencies = refl; block = refl; grade = refl; place = λ d on hard. sym (ap (λ a. launches_at b a d) i.memory ∙ ap (λ t. cond t place.Flight place.Memory) (eq-eqb d b (same d on i.change))); opened = λ e. e; live = λ d on l e. in_memory i.memory e }
+    | inr s ↦ rw s.0 record { number = refl; dependencies = refl; block = refl; grade = refl; place = λ d on hard. rests o.place d on hard (λ i e. s.1 (writable.hard o (record { head = h; change = i; memory = e }) hard)) refl; opened = λ e. e; live = λ d on l. l }
   ]
     where
+      in_memory : o.place ≡ place.Memory → o.place ≡ place.Disk → ⊥
+      in_memory m e = cc
+
       same : (d : ℕ) → IsOn o d → IsOn o b → d ≡ b
       same d x y = cc
 

@@ -1,11 +1,13 @@
--- Where nothing but changes of one block is pending of a row, no way leads from it back to that block.
+-- Where nothing but changes of one block is pending of a row, no way leads from it back to that block, and what is at or below it stays on that block.
 use Rattle.std.proofs.Common.{◌≡◌, ℕ, List, [], ◌∷◌, Contains, refl, sym, ap, subst, ◌∙◌, inl, inr}
-use Rattle.fst_types.specs.{Facts.IsOnDiskWithAll, Patches.{Patch, IsRising, IsOn, IsLive, IsOpenGate, block_of_kind}}
+use Rattle.fst_types.specs.{Facts.IsOnDiskWithAll, Gates.IsOpenNumber, Patches.{Patch, IsRising, IsOn, IsLive, IsOpenGate, block_of_kind}}
 use Rattle.fst_types.proofs.{Crash.same_number, Finite.{Contains-from_In, first_step}, SmallStates.only_in}
-use Rattle.fst_heads.specs.{Grading.{HasUnder, IsReturning, IsLeading, LeadsNowhere}, Heads.{IsRising as HeadsRise, patches_of}}
+use Rattle.fst_heads.specs.{Grading.{HasUnder, IsReturning, IsLeading, LeadsNowhere}, Heads.{IsRising as HeadsRise, patches_of}, Indices.PassesAt}
 use Rattle.fst_heads.specs.{Nodes.{Node, nodes_of, patches_in, pending_in, AreSettled}, Pendings.{joined, Sinks}, declared.head.Head.Head, declared.pending.Pending.Pending}
-use Rattle.fst_heads.proofs.{AtNumber.patches_in_nodes, Listing.rising_patches, Sums.joined_below}
-use Rattle.fst_walks.proofs.Low.{low_node, low_depends, low_change, behind_change}
+use Rattle.fst_heads.proofs.{AtNumber.patches_in_nodes, Graded.off_from, Listing.rising_patches, Sums.joined_below}
+use Rattle.fst_walks.specs.Needing.{StaysOn}
+use Rattle.fst_walks.proofs.Low.{low_node, low_depends, low_change, behind_change, gate_low}
+use Rattle.fst_heads.specs.declared.test.Test.TheVariants as test
 use Rattle.fst_heads.specs.declared.pending.Pending.TheVariants as pending
 
 module _ (nodes : List Node) (blocks : ℕ) (rising : IsRising (patches_in nodes)) (D : IsOnDiskWithAll (patches_in nodes)) (S : AreSettled nodes blocks) (b : ℕ) where
@@ -41,6 +43,31 @@ module _ (nodes : List Node) (blocks : ℕ) (rising : IsRising (patches_in nodes
         let q = low_under row (IsLeading patches b) all u in
         q.1.other (low_live q.1.patch q.1.block q.1.head q.1.change q.1.live (subst (λ n. IsLow (told n)) (sym q.1.numbered) q.2));
   }
+
+  -- no open gate is among it
+  low_closed : (q : ℕ) → IsOpenNumber patches q → IsLow (told q) → ⊥
+  low_closed q gate low =
+      let y = low_node (pending.Behind b) nodes blocks rising D S gate.patch gate.head (subst (λ n. IsLow (told n)) (sym gate.numbered) low) in
+      behind_held (gate_low (pending.Behind b) nodes blocks rising D S y.0 y.1 (subst IsOpenGate (sym y.2) gate.is_open) y.3)
+    where
+      behind_held : pending.Behind b ≡ pending.Held → ⊥
+      behind_held e = cc
+
+  own_stays : (n : ℕ) → IsLow (told n) → StaysOn patches b n
+  own_stays n low = record {
+    closed = λ above. let q = low_under (n ∷ []) (IsOpenNumber patches) alone (n, here, above) in low_closed q.0 q.1 q.2;
+    own = λ above.
+        let q = low_under (n ∷ []) (PassesAt (test.LiveOff b) patches) alone (n, here, above) in
+        let p = q.1.patch in
+        let off = off_from b p.number p.kind p.place q.1.passed in
+        off.3 (low_live p off.1 q.1.head off.2 off.0 (subst (λ m. IsLow (told m)) (sym q.1.numbered) q.2));
+  }
+    where
+      here : Contains (n ∷ []) n
+      here = Contains-from_In (n ∷ []) n (inl refl)
+
+      alone : (m : ℕ) → Contains (n ∷ []) m → IsLow (told m)
+      alone m k = subst (λ x. IsLow (told x)) (only_in n m k) low
 
 -- where no way leads back from each of the row, none does from the row
 pub nowhere_each : (now : List Patch) (b : ℕ) (row : List ℕ) → ((n : ℕ) → Contains row n → LeadsNowhere now b (n ∷ [])) → LeadsNowhere now b row
@@ -87,3 +114,8 @@ module _ (heads : List Head) (blocks : ℕ) (rising : HeadsRise heads) (D : IsOn
 
   pub row_nowhere : Sinks (pending.Behind b) (joined (pending_in (nodes_of heads)) row) → LeadsNowhere (patches_of heads) b row
   row_nowhere low = heads_nowhere (joined_below (pending_in (nodes_of heads)) row (pending.Behind b) low)
+
+-- nor does what is at or below a patch leave the block, by what is pending of it
+pub number_stays : (heads : List Head) (blocks : ℕ) → HeadsRise heads → IsOnDiskWithAll (patches_of heads) → AreSettled (nodes_of heads) blocks → (b n : ℕ) → Sinks (pending.Behind b) (pending_in (nodes_of heads) n) → StaysOn (patches_of heads) b n
+number_stays heads blocks rising D S b n low = rw (← patches_in_nodes heads)
+    (own_stays (nodes_of heads) blocks (rw (patches_in_nodes heads) (rising_patches heads rising)) (rw (patches_in_nodes heads) D) S b n low)

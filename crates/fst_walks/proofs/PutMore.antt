@@ -4,26 +4,27 @@ use Rattle.std.proofs.lemmas.List.Elements.{Contains-push_cases, Contains-push, 
 use Rattle.fst_types.specs.{Patches.Patch}
 use Rattle.fst_types.specs.declared.grade.Grade.TheVariants as grade
 use Rattle.std.specs.Global.{Vec}
-use Rattle.fst_walks.specs.{Needing.{IsPut, IsStoodFor, needs_of}, declared.needs.Need.Need}
+use Rattle.fst_walks.specs.{Needing.{IsPut, IsSpared, needs_of}, declared.needs.Need.Need}
 use Rattle.fst_types.proofs.SmallStates.{only_in}
 
 -- the numbers of what a block needs
 abbrev pub numbers_in : Vec Need → List ℕ
 numbers_in needs = map (λ (q : Need). q.number) needs.items
 
--- what stands for a number in a row does so in a longer one
-pub stood_longer : {patches : List Patch} {b q : ℕ} {row longer : List ℕ} → ((n : ℕ) → Contains row n → Contains longer n) → IsStoodFor patches b row q → IsStoodFor patches b longer q
-stood_longer more s = record { at = s.at; block = s.block; hard = s.hard; by = elim s.by [ inl own ↦ inl own | inr n ↦ inr (n.0, more n.0 n.1, n.2) ] }
+-- what is spared beside a row is so beside a longer one
+pub spared_longer : {patches : List Patch} {b q : ℕ} {row longer : List ℕ} → ((n : ℕ) → Contains row n → Contains longer n) → IsSpared patches b row q → IsSpared patches b longer q
+spared_longer more (inl s) = inl (record { at = s.at; block = s.block; hard = s.hard; by = elim s.by [ inl own ↦ inl own | inr n ↦ inr (n.0, more n.0 n.1, n.2) ] })
+spared_longer more (inr on) = inr on
 
 module _ (patches : List Patch) (b : ℕ) where
-  -- one number that is stood for
-  pub put_stood : (n : ℕ) (lists : List (List ℕ)) → IsStoodFor patches b (needs_of lists b) n → IsPut patches b (n ∷ []) grade.Hard lists lists
-  put_stood n lists stood = record {
+  -- one number that is spared
+  pub put_spared : (n : ℕ) (lists : List (List ℕ)) → IsSpared patches b (needs_of lists b) n → IsPut patches b (n ∷ []) grade.Hard lists lists
+  put_spared n lists spared = record {
     long = refl;
     others = λ c other. refl;
     kept = λ m k. k;
     only = λ m k. inl k;
-    told = λ hard q k. inr (subst (IsStoodFor patches b (needs_of lists b)) (only_in n q k) stood);
+    told = λ hard q k. inr (subst (IsSpared patches b (needs_of lists b)) (only_in n q k) spared);
   }
 
   -- one number that joins the list
@@ -50,7 +51,7 @@ module _ (patches : List Patch) (b : ℕ) where
       | inr here ↦ inr (refl, subst (Contains (row ++ n ∷ [])) (only_in n m here.1) (Contains-push row n))
     ];
     told = λ hard q k. elim (Contains-push_cases row n q k) [
-      | inl was ↦ elim (A.told refl q was) [ inl c ↦ inl (B.kept q c) | inr s ↦ inr (stood_longer B.kept s) ]
+      | inl was ↦ elim (A.told refl q was) [ inl c ↦ inl (B.kept q c) | inr s ↦ inr (spared_longer B.kept s) ]
       | inr e ↦ B.told refl q (subst (Contains (n ∷ [])) e (Contains-push [] n))
     ];
   }

@@ -3,7 +3,7 @@ use Rattle.std.proofs.Common.{◌≡◌, ◌∷◌, [], ℕ, List, map, refl, sy
 use Rattle.fst_types.specs.{Gates.IsOpenNumber, Gating.gains, Patches.{Patch, block_of_kind, grade_of_kind}}
 use Rattle.fst_types.proofs.{GateGains.{direct_cases, gained}}
 use Rattle.fst_heads.specs.{Grading.IsHardNumber, Indices.{PassesAt}}
-use Rattle.fst_heads.proofs.Covering.{was_gained}
+use Rattle.fst_heads.proofs.{Covering.was_gained, Graded.{off_from, off_to}}
 use Rattle.fst_walks.specs.{Leveling.{AreLeveled, IsLeveled, Leveling, jump_of, level_of, parent_of, floor_of}}
 use Rattle.fst_walks.proofs.{Leveled.{live_passes, passed_on}, AncestorsKept.over_gained}
 use Rattle.fst_heads.specs.declared.test.Test.TheVariants as test
@@ -31,6 +31,17 @@ module _ (old : List Patch) (g : ℕ) (names : List ℕ) (gate : IsOpenNumber ol
         head = o.1;
         numbered = sym o.2.number ∙ h.numbered;
         hard = record { change = sym (ap block_of_kind o.2.kind) ∙ h.hard.change; memory = sym o.2.place ∙ h.hard.memory; hard = sym (ap grade_of_kind o.2.kind) ∙ h.hard.hard };
+      }
+
+  pub off_was : (b n : ℕ) → PassesAt (test.LiveOff b) new n → PassesAt (test.LiveOff b) old n
+  off_was b n x =
+      let k = off_from b x.patch.number x.patch.kind x.patch.place x.passed in
+      let o = was_gained old g names x.patch x.head in
+      record {
+        patch = o.0;
+        head = o.1;
+        numbered = sym o.2.number ∙ x.numbered;
+        passed = off_to b o.0.number k.1 o.0.kind o.0.place (λ e. k.0 (o.2.place ∙ e)) (sym (ap block_of_kind o.2.kind) ∙ k.2) k.3;
       }
 
   open_was : (n : ℕ) → IsOpenNumber new n → IsOpenNumber old n

@@ -2,7 +2,8 @@
 use Rattle.std.specs.Prelude.{◌≡◌, ◌≢◌, ◌≤◌, ◌⊎◌, ℕ, List, Option, Some, [], length, Contains, slice_index_or}
 use Rattle.fst_types.specs.{Dependencies.DirectlyOn, Patches.{Patch, IsOn, IsHard}, declared.grade.Grade.Grade, declared.place.Place.Place}
 use Rattle.fst_types.specs.declared.grade.Grade.TheVariants as grade
-use Rattle.fst_heads.specs.{Grading.IsHardNumber, Indices.PassesAt}
+use Rattle.fst_types.specs.Gates.{IsOpenNumber}
+use Rattle.fst_heads.specs.{Grading.IsHardNumber, Indices.{IsAbove, PassesAt}}
 use Rattle.fst_heads.specs.declared.test.Test.TheVariants as test
 use Rattle.fst_walks.specs.{WayBack.LeadsBack, declared.needs.Way.Way}
 
@@ -22,10 +23,19 @@ pub record IsStoodFor (patches : List Patch) (c : ℕ) (row : List ℕ) (q : ℕ
   pub hard : IsHardAt patches at block q
   pub by : (block ≡ c) ⊎ ((n : ℕ) × Contains row n × IsHardAt patches at block n)
 
--- each number that is kept for a block is what a hard change of it in memory directly depends on, and whatever such a change directly depends on, if it is not forgotten, is kept or stood for
+-- at or below q there is no open gate, and no change of another block than c that is not on disk: a walk goes on from there over block c alone
+pub record StaysOn (patches : List Patch) (c q : ℕ) : Type 0 where
+  pub closed : IsAbove patches (IsOpenNumber patches) q → ⊥
+  pub own : IsAbove patches (PassesAt (test.LiveOff c) patches) q → ⊥
+
+-- a walk that crosses block c to what is kept of the row need not go on to q besides
+abbrev pub IsSpared : List Patch → ℕ → List ℕ → ℕ → Type 0
+IsSpared patches c row q = IsStoodFor patches c row q ⊎ StaysOn patches c q
+
+-- each number that is kept for a block is what a hard change of it in memory directly depends on, and whatever such a change directly depends on, if it is not forgotten, is kept or spared
 pub record AreNeeded (patches : List Patch) (needs : ℕ → List ℕ) : Type 0 where
   pub named : (c n : ℕ) → Contains (needs c) n → (h : ℕ) × IsHardNumber patches c h × DirectlyOn patches h n
-  pub whole : (c h : ℕ) (q : Patch) → IsHardNumber patches c h → Contains patches q → DirectlyOn patches h q.number → Contains (needs c) q.number ⊎ IsStoodFor patches c (needs c) q.number
+  pub whole : (c h : ℕ) (q : Patch) → IsHardNumber patches c h → Contains patches q → DirectlyOn patches h q.number → Contains (needs c) q.number ⊎ IsSpared patches c (needs c) q.number
 
 -- the numbers that are kept for block c
 abbrev pub needs_of : List (List ℕ) → ℕ → List ℕ
@@ -63,13 +73,13 @@ IsNoted number end old new = (w : Way) → Contains new w → Contains old w ⊎
 abbrev pub IsKnown : List Way → ℕ → ℕ → Type 0
 IsKnown ways n end = (w : Way) × Contains ways w × (w.number ≡ n) × (w.end ≡ end)
 
--- what is kept for block b grew by a new change of it with that row and grade: where it is hard, by what of the row is not stood for
+-- what is kept for block b grew by a new change of it with that row and grade: where it is hard, by what of the row is not spared
 pub record IsPut (patches : List Patch) (b : ℕ) (row : List ℕ) (g : Grade) (old new : List (List ℕ)) : Type 0 where
   pub long : length new ≡ length old
   pub others : (c : ℕ) → c ≢ b → needs_of new c ≡ needs_of old c
   pub kept : (n : ℕ) → Contains (needs_of old b) n → Contains (needs_of new b) n
   pub only : (n : ℕ) → Contains (needs_of new b) n → Contains (needs_of old b) n ⊎ ((g ≡ grade.Hard) × Contains row n)
-  pub told : g ≡ grade.Hard → (q : ℕ) → Contains row q → Contains (needs_of new b) q ⊎ IsStoodFor patches b (needs_of new b) q
+  pub told : g ≡ grade.Hard → (q : ℕ) → Contains row q → Contains (needs_of new b) q ⊎ IsSpared patches b (needs_of new b) q
 
 -- each block has its numbers, and all is as it should be
 pub record IsNeeding (patches : List Patch) (blocks : ℕ) (needs : Needing) : Type 0 where

@@ -1,21 +1,24 @@
 //! What blocks need: where a walk down goes on when it crosses a block. Of each block the numbers are kept of what its hard
-//! changes in memory directly depend on, but of the hard changes of one block one for all, since they are written together.
-//! So a walk looks at each block that the block needs once, and not at each of its changes. Beside that the ways are kept that
+//! changes in memory directly depend on, but of the hard changes of one block one for all, since they are written together,
+//! and none that waits for changes of the block alone, since a walk would only come back to the block that it crosses. So a
+//! walk looks at each block that the block needs once, and not at each of its changes. Beside that the ways are kept that
 //! were seen to lead from a soft change back to its block, each with its end. What is on a way waits for its end, so that it
 //! stays there until that is on disk, and a new change over such a change of its block is soft too.
 
 ghost use Rattle.std.specs.Prelude.{◌≡◌, ◌≢◌, ◌≤◌, ◌<◌, ◌+◌, ◌∷◌, [], ℕ, IsTrue, length, map, Contains, IfOk, IfSome, OnOk};
 ghost use Rattle.fst_types.specs.declared.grade.Grade.TheVariants as grade;
+ghost use Rattle.fst_types.specs.Facts.{IsOnDiskWithAll};
 ghost use Rattle.fst_heads.specs.Grading.{IsHardNumber};
 ghost use Rattle.fst_heads.specs.Heads.{IsRising, patches_of};
+ghost use Rattle.fst_heads.specs.Nodes.{nodes_of, AreSettled};
 ghost use Rattle.fst_walks.specs.declared.needs.Need.{Need};
 ghost use Rattle.fst_walks.specs.declared.needs.Way.{Way};
-ghost use Rattle.fst_walks.specs.Needing.{IsKnown, IsNeeding, IsNoted, IsPut, IsStoodFor, needs_of};
+ghost use Rattle.fst_walks.specs.Needing.{IsKnown, IsNeeding, IsNoted, IsPut, IsSpared, IsStoodFor, StaysOn, needs_of};
 
-use crate::shortcuts::{is_hard_in, is_hard_number};
+use crate::shortcuts::{is_hard_in, is_hard_number, is_own};
 use fst_heads::head::{Head, Kind};
 use fst_heads::index::index_of;
-use fst_heads::row::is_live_number;
+use fst_heads::row::{is_live_number, pending_at};
 use fst_types::Grade;
 use std::alloc::{AllocError, Global};
 use std::marker::Model;
@@ -122,6 +125,27 @@ fn is_stood_for(heads: &[Head], needs: &[Need], block: u32, number: u32) -> bool
     of == block || has_hard(heads, needs, of)
 }
 
+// Whether the patch with the number is on disk, or nothing but changes of the block is pending of it. Once that is so it stays
+// so.
+fn stays_on(heads: &[Head], block: u32, number: u32) -> bool
+    requires rising { IsRising heads.now }
+    requires disk { IsOnDiskWithAll (patches_of heads.now) }
+    requires settled { (blocks : ℕ) × AreSettled (nodes_of heads.now) blocks }
+    ensures { IsTrue result → StaysOn (patches_of heads.now) block number }
+{
+    is_own(pending_at(heads, number), block)
+}
+
+// Whether a walk that crosses the block to these needs need not go on to the patch with the number besides.
+fn is_spared(heads: &[Head], needs: &[Need], block: u32, number: u32) -> bool
+    requires rising { IsRising heads.now }
+    requires disk { IsOnDiskWithAll (patches_of heads.now) }
+    requires settled { (blocks : ℕ) × AreSettled (nodes_of heads.now) blocks }
+    ensures { IsTrue result → IsSpared (patches_of heads.now) block (map (λ (q : Need). q.number) needs.now) number }
+{
+    stays_on(heads, block, number) || is_stood_for(heads, needs, block, number)
+}
+
 impl Needs {
     /// Of no head no block needs anything.
     pub fn new(alloc: Global, blocks: u32) -> Result<Needs, AllocError>
@@ -180,9 +204,11 @@ impl Needs {
         Ok(())
     }
 
-    // The block needs the patch with the number besides, unless one stands for it.
+    // The block needs the patch with the number besides, unless a walk need not go on to it.
     fn put_one(&mut self, heads: &[Head], number: u32)
         requires rising { IsRising heads.now }
+        requires disk { IsOnDiskWithAll (patches_of heads.now) }
+        requires settled { (blocks : ℕ) × AreSettled (nodes_of heads.now) blocks }
         requires block { self.old.block < length self.old.lists }
         requires room { 1 ≤ self.old.room }
         ensures room { self.old.room ≤ self.new.room + 1 }
@@ -191,7 +217,7 @@ impl Needs {
         ensures ways { self.new.ways ≡ self.old.ways }
     {
         let list = &mut self.lists[self.block as usize];
-        if !is_stood_for(heads, list, self.block, number) {
+        if !is_spared(heads, list, self.block, number) {
             let of = hard_block_of(heads, number);
             list.push_reserved(Need { number, of });
             self.room -= 1;
@@ -201,6 +227,8 @@ impl Needs {
     /// A new change of the block for which there is room directly depends on the row.
     pub fn put(&mut self, heads: &[Head], row: &[u32], grade: Grade)
         requires rising { IsRising heads.now }
+        requires disk { IsOnDiskWithAll (patches_of heads.now) }
+        requires settled { (blocks : ℕ) × AreSettled (nodes_of heads.now) blocks }
         requires block { self.old.block < length self.old.lists }
         requires room { length row.now ≤ self.old.room }
         ensures put { IsPut (patches_of heads.now) self.old.block row.now grade self.old.lists self.new.lists }

@@ -51,8 +51,8 @@ pub fn waits_for_gate(heads: &[Head], row: &[u32]) -> bool
     is_pending(row_pending(heads, row), Pending::Held)
 }
 
-// Whether that is nothing, or changes of the block alone.
-fn is_own(told: Pending, block: u32) -> bool
+/// Whether that is nothing, or changes of the block alone.
+pub fn is_own(told: Pending, block: u32) -> bool
     ensures { IsTrue result → (told ≡ pending.Nothing) ⊎ IsOf block told }
 {
     match told {
