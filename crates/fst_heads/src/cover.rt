@@ -25,8 +25,10 @@ fn lay(runs: &mut Vec<Run>, first: usize, past: usize, own: Run, end: Run)
 {
     match past - first {
         0 => {
-            runs.insert(first, end).unwrap();
-            runs.insert(first, own).unwrap();
+            runs.push_reserved(own);
+            runs.push_reserved(end);
+            // What follows moves once.
+            runs[first..].rotate_right(2);
         }
         1 => {
             runs[first] = end;
