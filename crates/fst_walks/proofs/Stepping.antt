@@ -1,10 +1,10 @@
 -- One step more of a walk that crosses blocks: what is near the one that is next and what is across its block, told at once.
 use Rattle.std.proofs.Common.{◌≡◌, ◌<◌, ◌≤◌, ◌+◌, ◌⊎◌, ℕ, Bool, false, List, length, get_or, Contains, sym, ◌∙◌, inl, inr, arith}
-use Rattle.std.proofs.lemmas.{Bool.{cases_Bool, false≢true}}
+use Rattle.std.proofs.lemmas.{Bool.{cases_Bool, false≢true}, List.Elements.{Contains-get_or}}
 use Rattle.fst_types.specs.{Dependencies.DirectlyOn, Patches.Patch}
 use Rattle.fst_heads.specs.{Grading.IsHardNumber, Indices.PassesAt, Reaching.IsReached}
-use Rattle.fst_walks.specs.{BothEnds.{CrossesDown, IsHighNeed, IsLow, IsLowChange, ShowsBlockUnder, StepsBelow, StepsHigh, StepsLow}, Descending.Visits, WayBack.{Crosses, ShowsBlockOf}}
-use Rattle.fst_walks.proofs.{Ascended.{Walking, climbing_at, climbing_begun, next_or_done}, Visiting.visits_old}
+use Rattle.fst_walks.specs.{BothEnds.{CrossesDown, IsHighNeed, IsLow, IsLowChange, ShowsBlockUnder, StepsBelow, StepsHigh, StepsLow}, Descending.{IsLedFrom, Visits}, WayBack.{Crosses, ShowsBlockOf}}
+use Rattle.fst_walks.proofs.{Ascended.{Walking, climbing_at, climbing_begun, led_on, next_or_done}, Visiting.visits_old}
 use Rattle.fst_heads.specs.declared.test.Test.TheVariants as test
 
 module _ (Near From To : ℕ → ℕ → Type 0) (Across : List Bool → ℕ → ℕ → Type 0)
@@ -73,6 +73,15 @@ module _ (patches : List Patch) (level : ℕ → ℕ) (most : ℕ) (crossed : Li
       (λ old p q c hard fresh to. (record { block = c; hard = hard; fresh = fresh; change = to.0 }, to.1))
       (λ old p q k. (k.0.block, k.0.hard, k.0.fresh, (k.0.change, k.1)))
       crossed start at now after queue new inside x v shown.kept shown.only
+
+-- what a step down leads to from any in the queue, the walk leads to
+pub high_led : (patches : List Patch) (level : ℕ → ℕ) (least : ℕ) (needs : ℕ → List ℕ) (crossed : List Bool) (start : List ℕ) (at turn : ℕ) (now : List Bool) (queue : List ℕ) → turn < length queue → Walking (StepsHigh patches level least needs crossed) (IsHighNeed patches level least needs) crossed start at now queue
+    → (q : ℕ) → StepsHigh patches level least needs now (get_or queue turn 0) q → IsLedFrom (StepsHigh patches level least needs crossed) start q
+high_led patches level least needs crossed start at turn now queue inside x q s =
+    led_on (StepsHigh patches level least needs crossed) start (get_or queue turn 0) q (x.climbing.only (get_or queue turn 0) (Contains-get_or queue turn 0 inside)) (elim s [
+      | inl below ↦ inl below
+      | inr k ↦ inr (record { block = k.0.block; change = k.0.change; fresh = λ r. k.0.fresh (x.kept k.0.block r); need = k.0.need }, k.1)
+    ])
 
 -- a step down through what is high, at any turn
 module _ (patches : List Patch) (level : ℕ → ℕ) (least : ℕ) (needs : ℕ → List ℕ) (crossed : List Bool) (start : List ℕ) (at turn next : ℕ) (now after : List Bool) (queue new : List ℕ) (past : at ≤ length queue) (inside : turn < length queue)

@@ -24,7 +24,7 @@ use crate::first_away::{FEW, visit_first_away};
 use crate::graded::{Graded, hard_after, soft};
 use crate::sight::Sight;
 use crate::walk::Walk;
-use crate::way_down::step_down;
+use crate::way_down::{change_across, step_down};
 use fst_heads::head::Head;
 use fst_heads::test::{Test, passes};
 
@@ -103,6 +103,10 @@ fn descend(
     let mut left = most;
     let mut at = 0;
     while at < down.walk.len() {
+        let next = change_across(sight, &down.walk, &down.crossed, at, least, block);
+        if next.is_some() {
+            return Some(next);
+        }
         let (met, looked) = turn(sight, down, block, at, least);
         if met.is_some() {
             return Some(met);

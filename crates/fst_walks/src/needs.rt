@@ -172,6 +172,16 @@ impl Needs {
         self.lists[block as usize].as_slice()
     }
 
+    /// What the block was last found to need as a hard change of the other block, among its newest 1,024 needs.
+    pub fn newest_on(&self, block: u32, on: u32) -> Option<u32>
+        requires { block < length self.now.lists }
+        ensures { IfSome result (Contains (needs_of self.now.lists block)) }
+    {
+        let needs = self.of(block);
+        let at = newest_of(needs, on)?;
+        Some(needs[at].number)
+    }
+
     // Room for one way more, if there is memory. Where none is left, ways whose end is on disk are dropped, and room is made
     // for as many again as then are kept, so that these are looked at seldom.
     fn reserve_way(&mut self, heads: &[Head])

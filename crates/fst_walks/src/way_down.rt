@@ -4,11 +4,12 @@
 //! chain of such on one block is not gone through. No way down rises, so what is lower than what the walk looks for is left
 //! out.
 
-ghost use Rattle.std.specs.Prelude.{◌≡◌, ◌<◌, ◌≤◌, ◌↔◌, ℕ, IsTrue, length, slice_index_or, Contains};
+ghost use Rattle.std.specs.Prelude.{◌≡◌, ◌<◌, ◌≤◌, ◌↔◌, ℕ, IfSome, IsTrue, length, slice_index_or, Contains};
 ghost use Rattle.fst_types.specs.Dependencies.{IsLiveNumber};
 ghost use Rattle.fst_heads.specs.Grading.{IsHardNumber};
 ghost use Rattle.fst_heads.specs.Heads.{IsRising, patches_of};
-ghost use Rattle.fst_heads.specs.Indices.{HasIndex};
+ghost use Rattle.fst_heads.specs.declared.test.Test.TheVariants as test;
+ghost use Rattle.fst_heads.specs.Indices.{HasIndex, PassesAt};
 ghost use Rattle.fst_walks.specs.BothEnds.{CrossesDown, IsHigh, IsHighNeed, ShowsBlockUnder, StepsBelow, StepsHigh};
 ghost use Rattle.fst_walks.specs.Descending.{Visited, Visits};
 ghost use Rattle.fst_walks.specs.Leveling.{level_of};
@@ -16,11 +17,11 @@ ghost use Rattle.fst_walks.specs.Needing.{needs_of};
 ghost use Rattle.fst_walks.specs.Sights.{Sees};
 ghost use Rattle.fst_walks.specs.Walks.{numbers_met};
 
-use crate::shortcuts::is_hard_in;
+use crate::shortcuts::{is_hard_in, passes_at};
 use crate::sight::Sight;
 use crate::walk::Walk;
 use fst_heads::head::{Head, Kind};
-use fst_heads::test::is_live;
+use fst_heads::test::{Test, is_live};
 
 // Visits the patch with the number, unless it is on disk, lower than `least` or was visited before. It looks at the head
 // only where that is high enough and was not visited: most are too low or were, and heads are far larger than ranks.
@@ -136,6 +137,45 @@ fn cross(
         }
     }
     0
+}
+
+// Whether the patch with the number is a change of the block that is not on disk, and no lower than `least`.
+fn is_high_change(sight: &Sight<'_>, number: u32, least: u32, on: u32) -> bool
+    requires sees { Sees sight.now }
+    ensures { IsTrue result → PassesAt (test.LiveOn on) (patches_of sight.now.heads.now) number × (least ≤ level_of sight.now.levels.now.ranks number) }
+{
+    passes_at(sight, Test::LiveOn(on), number) && sight.levels.of(sight.heads, number) >= least
+}
+
+/// A change of the block `on` to which a step leads down from the patch that was met there in turn, across its block, as far as
+/// that is told by what this was last found to need of `on`. So it is found without a visit to all that the block needs.
+pub fn change_across(
+    sight: &Sight<'_>,
+    walk: &Walk,
+    crossed: &[bool],
+    at: usize,
+    least: u32,
+    on: u32,
+) -> Option<u32>
+    requires sees { Sees sight.now }
+    requires crossed { length crossed.now ≡ length sight.now.lists.now }
+    requires visited { Visited sight.now.heads.now walk.now }
+    requires at { at < length walk.now.met }
+    ensures { IfSome result (λ n. PassesAt (test.LiveOn on) (patches_of sight.now.heads.now) n × StepsHigh (patches_of sight.now.heads.now) (level_of sight.now.levels.now.ranks) least (needs_of sight.now.needs.now.lists) crossed.now (slice_index_or (numbers_met sight.now.heads.now walk.now) at 0) n) }
+{
+    let Kind::Change(_, block, _) = sight.heads[walk.index_at(at)].kind else {
+        return None;
+    };
+    let block = u32::from(block);
+    if crossed[block as usize] {
+        return None;
+    }
+    let number = sight.needs.newest_on(block, on)?;
+    if is_high_change(sight, number, least, on) {
+        Some(number)
+    } else {
+        None
+    }
 }
 
 /// Visits what a step leads down to from the patch that was met there in turn, as far as it is no lower than `least`. Answers
