@@ -11,10 +11,11 @@ ghost use Rattle.fst_heads.specs.Standings.{is_ready_on, is_held_on, held_on, re
 ghost use Rattle.fst_heads.specs.Tests.{is_hard_kind};
 
 use crate::head::{Head, Kind};
+use crate::index::index_of;
 use crate::lists::Listed;
 use crate::pending::is_of_block;
 use crate::places::is_change_at;
-use crate::turns::{Near, next_in_turn};
+use crate::turns::next_in_turn;
 use fst_types::{Fault, Grade, PatchNo, Place};
 use std::alloc::Global;
 
@@ -25,12 +26,12 @@ fn is_ready(head: &Head, block: u32) -> bool
     is_change_at(head, Place::Memory, block) && is_of_block(head.pending, block)
 }
 
-// Whether a patch with the number is one. It is the next one from that end.
-fn is_ready_at(heads: &[Head], near: &mut Near, from_back: bool, number: u32, block: u32) -> bool
+// Whether a patch with the number is one.
+fn is_ready_at(heads: &[Head], number: u32, block: u32) -> bool
     requires { IsRising heads.now }
     ensures { result ≡ list_any (λ x. (x.patch.number == number) && is_ready_on block x) (nodes_of heads.now) }
 {
-    match near.find(heads, from_back, number) {
+    match index_of(heads, number) {
         Some(index) => is_ready(&heads[index], block),
         None => false,
     }
@@ -55,7 +56,6 @@ pub fn ready_set(
     let mut front = Vec::new(alloc);
     // What was found from the end of the list, the newest first.
     let mut back = Vec::new(alloc);
-    let mut near = Near::ends(heads);
     let mut rest = list;
     let mut left = most;
     let mut from_back = false;
@@ -63,7 +63,7 @@ pub fn ready_set(
         let Some((listed, others)) = next_in_turn(rest, from_back) else {
             break;
         };
-        if is_ready_at(heads, &mut near, from_back, listed.number, block) {
+        if is_ready_at(heads, listed.number, block) {
             let no = PatchNo(listed.number);
             let kept = if from_back {
                 back.push(no)
@@ -94,12 +94,12 @@ fn is_held(head: &Head, block: u32) -> bool
         && !is_of_block(head.pending, block)
 }
 
-// Whether a patch with the number is one. It is the next one from that end.
-fn is_held_at(heads: &[Head], near: &mut Near, from_back: bool, number: u32, block: u32) -> bool
+// Whether a patch with the number is one.
+fn is_held_at(heads: &[Head], number: u32, block: u32) -> bool
     requires { IsRising heads.now }
     ensures { result ≡ list_any (λ x. (x.patch.number == number) && is_held_on block x) (nodes_of heads.now) }
 {
-    match near.find(heads, from_back, number) {
+    match index_of(heads, number) {
         Some(index) => is_held(&heads[index], block),
         None => false,
     }
@@ -115,7 +115,6 @@ pub fn first_held(heads: &[Head], list: &[Listed], held: usize, block: u32) -> O
     ensures none { IfNone result (held_on block (nodes_of heads.now) ≡ []) }
     ensures least { IfSome result (λ no. (rest : List ℕ) × (held_on block (nodes_of heads.now) ≡ no.0 ∷ rest)) }
 {
-    let mut near = Near::ends(heads);
     let mut left = held;
     let mut least = None;
     let mut rest = list;
@@ -124,7 +123,7 @@ pub fn first_held(heads: &[Head], list: &[Listed], held: usize, block: u32) -> O
         let Some((listed, others)) = next_in_turn(rest, from_back) else {
             break;
         };
-        if is_held_at(heads, &mut near, from_back, listed.number, block) {
+        if is_held_at(heads, listed.number, block) {
             least = Some(PatchNo(listed.number));
             if !from_back {
                 return least;

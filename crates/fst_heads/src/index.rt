@@ -27,39 +27,43 @@ fn index_from_end(heads: &[Head], number: u32) -> Option<usize>
     }
 }
 
-// The index of the head with this number, where it stands no further from the index `near` than their numbers are apart.
-fn index_around(heads: &[Head], near: usize, number: u32) -> Option<usize>
-    requires { IsRising heads.now }
-    ensures { IfSome result (λ index. HasIndex heads.now number index) }
-{
-    let other = heads.get(near)?.number;
-    let low = near.saturating_sub(other.saturating_sub(number) as usize);
-    let high = near.saturating_add(number.saturating_sub(other) as usize);
-    let part = &heads[low..high.min(heads.len() - 1) + 1];
-    let Ok(at) = part.binary_search_by_key(&number, |head| head.number) else {
-        return None;
-    };
-    let index = low + at;
-    if heads[index].number == number {
-        Some(index)
-    } else {
-        None
-    }
+// How many places an interpolation search looks at.
+const GUESSES: usize = 6;
+
+// How far the number is behind the first of so many heads, where none between it and the last is missing more than elsewhere.
+fn expected(first: u32, last: u32, heads: usize, number: u32) -> usize {
+    let before = u64::from(number.saturating_sub(first));
+    let numbers = u64::from(last.saturating_sub(first)).max(1);
+    (before.saturating_mul(heads as u64) / numbers) as usize
 }
 
-/// The index of the head with this number, which is looked for near another index first: nothing is claimed of that one.
-pub fn index_near(heads: &[Head], near: usize, number: u32) -> Option<usize>
-    requires { IsRising heads.now }
-    ensures found { IfSome result (λ index. HasIndex heads.now number index) }
-    ensures none { IfNone result (HasNone heads.now number) }
+// The index of the head with this number, by interpolation search: each look is where the number would stand if it were the
+// same share of the numbers between two heads that are missing everywhere. It gives up after a few.
+fn index_by_guess(heads: &[Head], number: u32) -> Option<usize>
+    ensures { IfSome result (λ index. HasIndex heads.now number index) }
 {
-    if let Some(index) = index_from_end(heads, number) {
-        return Some(index);
+    let mut low = 0;
+    let mut high = heads.len();
+    let mut first = heads.first()?.number;
+    let mut last = heads.last()?.number;
+    for _ in 0..GUESSES {
+        if high <= low || number < first || last < number {
+            return None;
+        }
+        let guess = expected(first, last, high - 1 - low, number).min(high - 1 - low) + low;
+        let there = heads[guess].number;
+        if there == number {
+            return Some(guess);
+        }
+        if there < number {
+            low = guess + 1;
+            first = there;
+        } else {
+            high = guess;
+            last = there;
+        }
     }
-    if let Some(index) = index_around(heads, near, number) {
-        return Some(index);
-    }
-    index_of(heads, number)
+    None
 }
 
 /// The index of the head with this number.
@@ -69,6 +73,9 @@ pub fn index_of(heads: &[Head], number: u32) -> Option<usize>
     ensures none { IfNone result (HasNone heads.now number) }
 {
     if let Some(index) = index_from_end(heads, number) {
+        return Some(index);
+    }
+    if let Some(index) = index_by_guess(heads, number) {
         return Some(index);
     }
     match heads.binary_search_by_key(&number, |head| head.number) {

@@ -12,9 +12,10 @@ ghost use Rattle.fst_types.specs.Tests.{is_among, is_change_at};
 ghost use Rattle.fst_types.specs.declared.place.Place.TheVariants as place;
 
 use crate::head::Head;
+use crate::index::index_of;
 use crate::places::is_change_at;
 use crate::row::has_number;
-use crate::turns::{Near, next_in_turn};
+use crate::turns::next_in_turn;
 use fst_types::{Place, Span};
 use std::alloc::{AllocError, Global};
 
@@ -36,20 +37,13 @@ pub fn empty_lists(alloc: Global, blocks: u32) -> Result<Vec<Vec<Listed>>, Alloc
     Ok(lists)
 }
 
-// The change with the number is on disk, if it is one of the block in flight; whether it is one. It is the next one from that
-// end.
-fn land_number(
-    heads: &mut Vec<Head>,
-    near: &mut Near,
-    from_back: bool,
-    number: u32,
-    block: u32,
-) -> bool
+// The change with the number is on disk, if it is one of the block in flight; whether it is one.
+fn land_number(heads: &mut Vec<Head>, number: u32, block: u32) -> bool
     requires { IsRising heads.old.items }
     ensures flew { result ≡ list_any (λ x. (x.patch.number == number) && is_change_at place.Flight block x.patch) (nodes_of heads.old.items) }
     ensures nodes { nodes_of heads.new.items ≡ map (at_number number (lands block)) (nodes_of heads.old.items) }
 {
-    let Some(index) = near.find(heads, from_back, number) else {
+    let Some(index) = index_of(heads, number) else {
         return false;
     };
     if is_change_at(&heads[index], Place::Flight, block) {
@@ -94,12 +88,11 @@ fn land_listed(
     let mut high = flying;
     let mut rest = list;
     let mut from_back = false;
-    let mut near = Near::ends(heads);
     while low < high {
         let Some((listed, others)) = next_in_turn(rest, from_back) else {
             break;
         };
-        if land_number(heads, &mut near, from_back, listed.number, block) {
+        if land_number(heads, listed.number, block) {
             if from_back {
                 high -= 1;
                 queue[high] = listed.number;
