@@ -1,10 +1,11 @@
 //! The way back to a block, looked for from its upper end alone: by a walk down that ends where it meets a change of the
-//! block, and leaves out what is lower than the floor of the block. It gives up once it has looked at some times as many
-//! patches as the list of the block has, which a search from both ends looks at first: where a block has many changes and
-//! little lies between them and the new one, it tells the grade at less than that. Steps down cross a block once for all of
-//! its hard changes, so that they come to an end sooner than steps up, and the walk goes on longer while it has looked at few.
-//! Where more than a few patches lie below the row before the first changes of other blocks, as where a superblock was
-//! overwritten thousands of times, it begins with some of these: a way that is found from them is one, and none tells nothing.
+//! block, or comes to a block that needs one, and leaves out what is lower than the floor of the block. It gives up once it
+//! has looked at some times as many patches as the list of the block has, which a search from both ends looks at first: where
+//! a block has many changes and little lies between them and the new one, it tells the grade at less than that. Steps down
+//! cross a block once for all of its hard changes, so that they come to an end sooner than steps up, and the walk goes on
+//! longer while it has looked at few. Where more than a few patches lie below the row before the first changes of other
+//! blocks, as where a superblock was overwritten thousands of times, it begins with some of these: a way that is found from
+//! them is one, and none tells nothing.
 
 ghost use Rattle.std.specs.Prelude.{◌≡◌, ◌≤◌, ◌<◌, ℕ, length, Contains, IfSome, IfNone, slice_index_or};
 ghost use Rattle.fst_heads.specs.declared.test.Test.TheVariants as test;
