@@ -7,7 +7,7 @@ use Rattle.fst_types.proofs.{Crash.same_number, Dropping.{filter_in, in_filter},
 use Rattle.fst_heads.specs.{Grading.IsHardNumber}
 use Rattle.fst_heads.proofs.Covering.{was_gained}
 use Rattle.fst_walks.specs.Needing.{AreNeeded, IsHardAt, IsPut, IsSpared, IsStoodFor, needs_of}
-use Rattle.fst_walks.proofs.{NeedsKept.{at_hard, goes_on, hard_at}, Releveled.{hard_was, off_was}, Staying.{gained_stays, one_stays, still_stays}}
+use Rattle.fst_walks.proofs.{NeedsKept.{at_hard, goes_on, hard_at}, Releveled.hard_was, Staying.{gained_stays, one_stays, still_stays}}
 use Rattle.fst_types.specs.declared.grade.Grade.TheVariants as grade
 use Rattle.fst_types.specs.declared.place.Place.TheVariants as place
 
@@ -52,7 +52,7 @@ module _ (old : List Patch) (rising : IsRising old) (g : ℕ) (names : List ℕ)
     );
     all = λ c h n hard k. k;
     together = λ q at d head h. (at, at_gained at d q.number h, λ n o. at_gained at d n o);
-    staying = gained_stays old g names gate (off_was old g names gate);
+    staying = gained_stays old g names gate;
   })
 
 -- what is on disk is forgotten

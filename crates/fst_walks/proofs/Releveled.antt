@@ -44,7 +44,7 @@ module _ (old : List Patch) (g : ℕ) (names : List ℕ) (gate : IsOpenNumber ol
         passed = off_to b o.0.number k.1 o.0.kind o.0.place (λ e. k.0 (o.2.place ∙ e)) (sym (ap block_of_kind o.2.kind) ∙ k.2) k.3;
       }
 
-  open_was : (n : ℕ) → IsOpenNumber new n → IsOpenNumber old n
+  pub open_was : (n : ℕ) → IsOpenNumber new n → IsOpenNumber old n
   open_was n x = let o = was_gained old g names x.patch x.head in record { patch = o.0; head = o.1; numbered = sym o.2.number ∙ x.numbered; is_open = sym o.2.kind ∙ x.is_open }
 
   -- it is at the top, so nothing that it gains is higher

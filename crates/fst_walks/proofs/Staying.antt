@@ -4,8 +4,8 @@ use Rattle.std.proofs.lemmas.List.Elements.{Contains-push_cases}
 use Rattle.fst_types.specs.{Closure.{one, join}, Dependencies.{DirectlyOn, DependsOn}, Facts.HasOnePlaceEach, Gates.IsOpenNumber, Gating.gains, Patches.Patch}
 use Rattle.fst_types.proofs.{Alike.closure_map, GateGains.direct_cases}
 use Rattle.fst_heads.specs.Indices.{IsAbove, PassesAt}
-use Rattle.fst_heads.proofs.Covering.{was_gained}
 use Rattle.fst_walks.specs.Needing.{StaysOn}
+use Rattle.fst_walks.proofs.Releveled.{off_was, open_was}
 use Rattle.fst_heads.specs.declared.test.Test.TheVariants as test
 
 -- what is above something is so further up
@@ -43,13 +43,10 @@ module _ (old : List Patch) (g : ℕ) (names : List ℕ) (gate : IsOpenNumber ol
   above_gained P Q was n (inl here) = inl (inl (was n here))
   above_gained P Q was n (inr below) = elim (way_gained n below.0 below.1) [ inl way ↦ inl (inr (below.0, way, was below.0 below.2)) | inr over ↦ inr over ]
 
-  open_was : (n : ℕ) → IsOpenNumber gained n → IsOpenNumber old n
-  open_was n x = let o = was_gained old g names x.patch x.head in record { patch = o.0; head = o.1; numbered = sym o.2.number ∙ x.numbered; is_open = sym o.2.kind ∙ x.is_open }
-
-  pub gained_stays : (off_was : (c n : ℕ) → PassesAt (test.LiveOff c) gained n → PassesAt (test.LiveOff c) old n) → (c n : ℕ) → StaysOn old c n → StaysOn gained c n
-  gained_stays off_was c n s = record {
-    closed = λ a. elim (above_gained (IsOpenNumber gained) (IsOpenNumber old) open_was n a) [ inl was ↦ s.closed was | inr over ↦ s.closed over ];
-    own = λ a. elim (above_gained (PassesAt (test.LiveOff c) gained) (PassesAt (test.LiveOff c) old) (off_was c) n a) [ inl was ↦ s.own was | inr over ↦ s.closed over ];
+  pub gained_stays : (c n : ℕ) → StaysOn old c n → StaysOn gained c n
+  gained_stays c n s = record {
+    closed = λ a. elim (above_gained (IsOpenNumber gained) (IsOpenNumber old) (open_was old g names gate) n a) [ inl was ↦ s.closed was | inr over ↦ s.closed over ];
+    own = λ a. elim (above_gained (PassesAt (test.LiveOff c) gained) (PassesAt (test.LiveOff c) old) (off_was old g names gate c) n a) [ inl was ↦ s.own was | inr over ↦ s.closed over ];
   }
 
 -- one patch more, which no old one names

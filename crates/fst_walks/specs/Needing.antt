@@ -1,8 +1,7 @@
 -- What is kept of the block graph. What blocks need: for each block, of what its hard changes in memory directly depend on, as much as a walk down has to go on from where it crosses the block. Hard changes of a block are written together, so one of them stands for all that are at the same place.
 use Rattle.std.specs.Prelude.{◌≡◌, ◌≢◌, ◌≤◌, ◌⊎◌, ℕ, List, Option, Some, [], length, Contains, slice_index_or}
-use Rattle.fst_types.specs.{Dependencies.DirectlyOn, Patches.{Patch, IsOn, IsHard}, declared.grade.Grade.Grade, declared.place.Place.Place}
+use Rattle.fst_types.specs.{Dependencies.DirectlyOn, Gates.IsOpenNumber, Patches.{Patch, IsOn, IsHard}, declared.grade.Grade.Grade, declared.place.Place.Place}
 use Rattle.fst_types.specs.declared.grade.Grade.TheVariants as grade
-use Rattle.fst_types.specs.Gates.{IsOpenNumber}
 use Rattle.fst_heads.specs.{Grading.IsHardNumber, Indices.{IsAbove, PassesAt}}
 use Rattle.fst_heads.specs.declared.test.Test.TheVariants as test
 use Rattle.fst_walks.specs.{WayBack.LeadsBack, declared.needs.Way.Way}
