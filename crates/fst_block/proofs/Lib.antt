@@ -1,8 +1,8 @@
-pub mod Places
-pub mod Meeting
-pub mod Walks
-pub mod Takes
-pub mod Apart
-pub mod Undo
-pub mod Choosing
-pub mod Blocks
+mod Places
+mod Meeting
+mod Walks
+mod Takes
+mod Apart
+mod Undo
+mod Choosing
+mod Blocks

@@ -1,34 +1,34 @@
-pub mod GroupJoining
-pub mod GroupMember
-pub mod GroupSame
-pub mod GroupStep
-pub mod GroupWhole
-pub mod Kept
-pub mod MakeBeside
-pub mod MakeChanged
-pub mod MakeCounted
-pub mod MakeReady
-pub mod MakeRefused
-pub mod MakeStep
-pub mod MakeWhole
-pub mod OpenPlaced
-pub mod Opened
-pub mod ResideDirty
-pub mod ResideLoading
-pub mod ResideLooking
-pub mod ResideSeats
-pub mod ResideShowing
-pub mod ResideUndo
-pub mod SameAdding
-pub mod SameCascade
-pub mod SameForgetting
-pub mod SameGating
-pub mod SameMaking
-pub mod SameRefused
-pub mod SendBytes
-pub mod SendRefused
-pub mod SendSet
-pub mod SendState
-pub mod SettleFound
-pub mod SettleLanded
-pub mod SettleSeat
+mod GroupJoining
+mod GroupMember
+mod GroupSame
+mod GroupStep
+mod GroupWhole
+mod Kept
+mod MakeBeside
+mod MakeChanged
+mod MakeCounted
+mod MakeReady
+mod MakeRefused
+mod MakeStep
+mod MakeWhole
+mod OpenPlaced
+mod Opened
+mod ResideDirty
+mod ResideLoading
+mod ResideLooking
+mod ResideSeats
+mod ResideShowing
+mod ResideUndo
+mod SameAdding
+mod SameCascade
+mod SameForgetting
+mod SameGating
+mod SameMaking
+mod SameRefused
+mod SendBytes
+mod SendRefused
+mod SendSet
+mod SendState
+mod SettleFound
+mod SettleLanded
+mod SettleSeat

@@ -1,43 +1,43 @@
-pub mod Gathering
-pub mod Paired
-pub mod GroupCalls
-pub mod Grouped
-pub mod PlaceOf
-pub mod Emptying
-pub mod Adding
-pub mod Reserved
-pub mod Kept
-pub mod GateIndex
-pub mod Readied
-pub mod Listed
-pub mod Marking
-pub mod Settling
-pub mod Ranks
-pub mod NeedsNow
-pub mod Sound
-pub mod Shutting
-pub mod PutNow
-pub mod Made
-pub mod Tallied
-pub mod Borne
-pub mod Risen
-pub mod Launches
-pub mod TakenAsSealed
-pub mod MemberReady
-pub mod TailGains
-pub mod WholeChange
-pub mod WholeMember
-pub mod WholeCalls
-pub mod WholeRows
-pub mod Wholes
-pub mod Remembered
-pub mod RememberedLooks
-pub mod RememberedRules
-pub mod RememberedRows
-pub mod RememberedCalls
-pub mod RememberedSparse
-pub mod RememberedSealing
-pub mod HeldWhole
-pub mod Flagged
-pub mod Forgets
-pub mod Shelf
+mod Gathering
+mod Paired
+mod GroupCalls
+mod Grouped
+mod PlaceOf
+mod Emptying
+mod Adding
+mod Reserved
+mod Kept
+mod GateIndex
+mod Readied
+mod Listed
+mod Marking
+mod Settling
+mod Ranks
+mod NeedsNow
+mod Sound
+mod Shutting
+mod PutNow
+mod Made
+mod Tallied
+mod Borne
+mod Risen
+mod Launches
+mod TakenAsSealed
+mod MemberReady
+mod TailGains
+mod WholeChange
+mod WholeMember
+mod WholeCalls
+mod WholeRows
+mod Wholes
+mod Remembered
+mod RememberedLooks
+mod RememberedRules
+mod RememberedRows
+mod RememberedCalls
+mod RememberedSparse
+mod RememberedSealing
+mod HeldWhole
+mod Flagged
+mod Forgets
+mod Shelf

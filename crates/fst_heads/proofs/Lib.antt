@@ -1,10 +1,10 @@
 pub mod Basics
-pub mod Patches
+mod Patches
 pub mod Words
 pub mod Indices
 pub mod Rows
 pub mod Making
-pub mod Runs
+mod Runs
 pub mod Newest
 pub mod Covering
 pub mod Touching
@@ -18,25 +18,25 @@ pub mod Listing
 pub mod Joining
 pub mod Sums
 pub mod PendingAt
-pub mod LinkedRows
+mod LinkedRows
 pub mod Added
 pub mod PendingIn
 pub mod Counts
 pub mod CountsAs
-pub mod Releasing
+mod Releasing
 pub mod Stands
 pub mod Turning
-pub mod Going
+mod Going
 pub mod Waiting
-pub mod Notifying
-pub mod Popping
+mod Notifying
+mod Popping
 pub mod Pended
 pub mod Starting
-pub mod Launching
-pub mod Rising
+mod Launching
+mod Rising
 pub mod Carried
-pub mod Passing
-pub mod Landing
+mod Passing
+mod Landing
 pub mod Indexed
 pub mod Beside
 pub mod Framed

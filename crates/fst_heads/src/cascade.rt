@@ -31,7 +31,7 @@ fn follows(kind: Kind) -> bool
 }
 
 /// What is pending of the patch, by its sums.
-pub fn pending_now(head: &Head) -> Pending
+pub(crate) fn pending_now(head: &Head) -> Pending
     requires { Fits head.now.sums }
     ensures { result ≡ now (node_of head.now) }
 {

@@ -40,4 +40,4 @@ pub mod row;
 pub mod sparse;
 pub mod standing;
 pub mod test;
-pub mod turns;
+mod turns;

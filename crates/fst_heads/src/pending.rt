@@ -125,7 +125,7 @@ pub struct Sums {
 }
 
 /// The sums of no patch.
-pub fn no_sums() -> Sums
+pub(crate) fn no_sums() -> Sums
     ensures { result ≡ nothing }
 {
     Sums {

@@ -108,7 +108,7 @@ pub fn shares(own: Span, span: Span) -> bool
 
 /// What a new change of the span depends on: the names that are not on disk, and the changes not on disk that share a
 /// byte with it. The list has the changes of the block that are not on disk.
-pub fn dependencies_of(
+pub(crate) fn dependencies_of(
     alloc: Global,
     heads: &[Head],
     list: &[Listed],

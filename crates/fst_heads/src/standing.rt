@@ -135,7 +135,7 @@ pub fn empty_standings(alloc: Global, blocks: u32) -> Result<Vec<Standing>, Allo
 
 /// Records what is pending of the head at the index, of which its dependants have to be notified. Answers what was recorded
 /// and what is now. A change in memory that now waits for changes of its block in memory alone is ready.
-pub fn record_at(
+pub(crate) fn record_at(
     heads: &mut Vec<Head>,
     standings: &mut Vec<Standing>,
     index: usize,

@@ -1,6 +1,6 @@
 pub mod CommandLemmas
-pub mod GivesLemmas
-pub mod NumbersLemmas
+mod GivesLemmas
+mod NumbersLemmas
 pub mod SendingLemmas
-pub mod ShortLemmas
-pub mod SmallLemmas
+mod ShortLemmas
+mod SmallLemmas

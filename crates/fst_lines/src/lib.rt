@@ -16,7 +16,7 @@
 
 pub mod command;
 pub mod failure;
-pub mod members;
+mod members;
 mod names;
 mod order_line;
 pub mod output;

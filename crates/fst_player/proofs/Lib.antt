@@ -1,17 +1,17 @@
-pub mod StreamLemmas
-pub mod RunLemmas
-pub mod SessionLemmas
-pub mod AnswerLemmas
-pub mod CommittedLemmas
-pub mod MarkLemmas
-pub mod KeptLemmas
+mod StreamLemmas
+mod RunLemmas
+mod SessionLemmas
+mod AnswerLemmas
+mod CommittedLemmas
+mod MarkLemmas
+mod KeptLemmas
 mod GroupLemmas
-pub mod TellLemmas
-pub mod JobLemmas
-pub mod LeftLemmas
-pub mod ZeroLemmas
-pub mod ScriptRuns
-pub mod CrashTold
-pub mod ChangeLemmas
-pub mod GivenLemmas
-pub mod AcceptedLemmas
+mod TellLemmas
+mod JobLemmas
+mod LeftLemmas
+mod ZeroLemmas
+mod ScriptRuns
+mod CrashTold
+mod ChangeLemmas
+mod GivenLemmas
+mod AcceptedLemmas

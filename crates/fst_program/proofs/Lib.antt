@@ -1,4 +1,4 @@
-pub mod ReadLemmas
-pub mod ProgramLemmas
-pub mod StatusLemmas
-pub mod CommandLemmas
+mod ReadLemmas
+mod ProgramLemmas
+mod StatusLemmas
+mod CommandLemmas

@@ -1,6 +1,6 @@
 pub mod Counts
 pub mod Seated
-pub mod Loading
+mod Loading
 pub mod Putting
 pub mod Flying
 pub mod Undo

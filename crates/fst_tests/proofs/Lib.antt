@@ -1,1 +1,1 @@
-pub mod Tested
+mod Tested

@@ -1,60 +1,60 @@
-pub mod Obstacles
+mod Obstacles
 pub mod NearRow
-pub mod Ranked
+mod Ranked
 pub mod Seen
 pub mod Shelves
 pub mod Linked
-pub mod Low
+mod Low
 mod Staying
-pub mod Searched
-pub mod SearchedAbove
-pub mod Alone
+mod Searched
+mod SearchedAbove
+mod Alone
 pub mod Ready
 pub mod Numbered
 mod GateBelow
-pub mod Held
-pub mod Clean
+mod Held
+mod Clean
 pub mod Resting
-pub mod Visiting
+mod Visiting
 pub mod Holding
-pub mod Away
-pub mod AsBefore
-pub mod Ascended
+mod Away
+mod AsBefore
+mod Ascended
 pub mod ComesBack
-pub mod CrossingBack
+mod CrossingBack
 pub mod Overlapped
-pub mod OwnBlock
+mod OwnBlock
 pub mod Backed
 pub mod EndsWere
-pub mod Told
+mod Told
 pub mod Trails
-pub mod Leveled
-pub mod Lifted
-pub mod Lowered
-pub mod Eased
-pub mod Dropped
-pub mod AncestorsKept
+mod Leveled
+mod Lifted
+mod Lowered
+mod Eased
+mod Dropped
+mod AncestorsKept
 pub mod LeveledKept
-pub mod Raised
-pub mod Raising
-pub mod OneOfMany
-pub mod StoodFor
-pub mod PutMore
+mod Raised
+mod Raising
+mod OneOfMany
+mod StoodFor
+mod PutMore
 pub mod RanksLeft
-pub mod KeptLive
-pub mod Renewed
+mod KeptLive
+mod Renewed
 pub mod Ancestral
 pub mod Releveled
-pub mod Floored
-pub mod BothEnds
-pub mod Straight
-pub mod NeedsKept
+mod Floored
+mod BothEnds
+mod Straight
+mod NeedsKept
 pub mod NeedsMoved
 pub mod NeedsGrown
-pub mod Needed
-pub mod Meeting
-pub mod Stepping
-pub mod CrossingDown
-pub mod MetLow
-pub mod Highest
-pub mod Traced
+mod Needed
+mod Meeting
+mod Stepping
+mod CrossingDown
+mod MetLow
+mod Highest
+mod Traced

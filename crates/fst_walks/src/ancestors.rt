@@ -231,7 +231,7 @@ fn leads_to_one(sight: &Sight<'_>, number: u32, changes: &[Listed]) -> Option<u3
 
 /// One of the newest changes of the block to which the ancestors of one of the row lead over a change of another block. A
 /// change of the block with that row is soft. Where none do, another way may.
-pub fn leads_to_block(sight: &Sight<'_>, block: u32, row: &[u32]) -> Option<u32>
+pub(crate) fn leads_to_block(sight: &Sight<'_>, block: u32, row: &[u32]) -> Option<u32>
     requires sees { Sees sight.now }
     requires block { block < length sight.now.lists.now }
     ensures { IfSome result (LeadsBack (patches_of sight.now.heads.now) block row.now) }
@@ -251,7 +251,7 @@ pub fn leads_to_block(sight: &Sight<'_>, block: u32, row: &[u32]) -> Option<u32>
 /// Whether one of the last names is the open gate, or its ancestors lead down to it. Where none do, another way may. More than
 /// a few are not looked at, so that a gate which gains names in no cycle pays little; the last, since names mostly come in the
 /// order in which they were made, and the newest are the furthest from the gate.
-pub fn names_lead_to(sight: &Sight<'_>, gate: u32, names: &[PatchNo]) -> bool
+pub(crate) fn names_lead_to(sight: &Sight<'_>, gate: u32, names: &[PatchNo]) -> bool
     requires sees { Sees sight.now }
     requires is_open { IsOpenNumber (patches_of sight.now.heads.now) gate }
     ensures { IsTrue result → NamesAbove (patches_of sight.now.heads.now) gate (numbers_of names.now) }

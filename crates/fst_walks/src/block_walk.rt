@@ -15,7 +15,7 @@ pub struct BlockWalk {
 
 impl BlockWalk {
     /// Only the block is shown as crossed.
-    pub fn cross_only(&mut self, block: u32)
+    pub(crate) fn cross_only(&mut self, block: u32)
         requires { block < length self.old.crossed.items }
         ensures shown { ShowsBlocks self.new.crossed.items (λ c. c ≡ block) }
         ensures long { length self.new.crossed.items ≡ length self.old.crossed.items }

@@ -32,7 +32,7 @@ use fst_heads::row::pending_at;
 use fst_types::PatchNo;
 
 /// Visits the patch with the number if it waits for an open gate.
-pub fn visit_held(heads: &[Head], walk: &mut Walk, number: u32)
+pub(crate) fn visit_held(heads: &[Head], walk: &mut Walk, number: u32)
     requires rising { IsRising heads.now }
     requires visited { Visited heads.now walk.old }
     requires gates { TellsGates heads.now }
@@ -47,7 +47,7 @@ pub fn visit_held(heads: &[Head], walk: &mut Walk, number: u32)
 }
 
 /// Visits those of the row that wait for an open gate.
-pub fn visit_row(heads: &[Head], walk: &mut Walk, row: &[u32])
+pub(crate) fn visit_row(heads: &[Head], walk: &mut Walk, row: &[u32])
     requires rising { IsRising heads.now }
     requires visited { Visited heads.now walk.old }
     requires gates { TellsGates heads.now }
@@ -211,7 +211,7 @@ fn walks_meet(heads: &[Head], ends: &mut Ends) -> bool
 }
 
 /// Whether one of the starts is the open gate or depends on it. What was met before does not matter.
-pub fn starts_close(heads: &[Head], ends: &mut Ends, gate: u32, starts: Starts<'_>) -> bool
+pub(crate) fn starts_close(heads: &[Head], ends: &mut Ends, gate: u32, starts: Starts<'_>) -> bool
     requires rising { IsRising heads.now }
     requires over { AreOver heads.now ends.old }
     requires linked { AreLinked (nodes_of heads.now) }

@@ -27,7 +27,7 @@ pub struct Looked {
 }
 
 /// The index of what the walk met at that turn or later, and the other has met too.
-pub fn meets(heads: &[Head], walk: &Walk, other: &Walk, from: usize) -> Option<usize>
+pub(crate) fn meets(heads: &[Head], walk: &Walk, other: &Walk, from: usize) -> Option<usize>
     requires walk { length walk.now.marks ≡ length heads.now }
     requires other { Visited heads.now other.now }
     requires rising { IsRising heads.now }

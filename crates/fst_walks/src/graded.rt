@@ -16,7 +16,7 @@ pub struct Graded {
 }
 
 /// Hard, which a search tells that looked at so many patches.
-pub fn hard_after(looked: usize) -> Graded
+pub(crate) fn hard_after(looked: usize) -> Graded
     ensures grade { result.grade ≡ grade.Hard }
     ensures end { result.end ≡ None }
 {
@@ -28,7 +28,7 @@ pub fn hard_after(looked: usize) -> Graded
 }
 
 /// Hard, which is told at once.
-pub fn hard() -> Graded
+pub(crate) fn hard() -> Graded
     ensures grade { result.grade ≡ grade.Hard }
     ensures end { result.end ≡ None }
 {
@@ -36,7 +36,7 @@ pub fn hard() -> Graded
 }
 
 /// Soft, a way leading back to that change, if it is known.
-pub fn soft(end: Option<u32>) -> Graded
+pub(crate) fn soft(end: Option<u32>) -> Graded
     ensures grade { result.grade ≡ grade.Soft }
     ensures end { result.end ≡ end }
 {

@@ -181,7 +181,7 @@ impl Levels {
     }
 
     /// What searches for a way back to the block have looked at since its floor went up last.
-    pub fn owed(&self, block: u32) -> usize {
+    pub(crate) fn owed(&self, block: u32) -> usize {
         match self.owed.get(block as usize) {
             Some(owed) => *owed,
             None => 0,
@@ -201,7 +201,7 @@ impl Levels {
     }
 
     /// The rank of the patch with the number. Where it is forgotten its level is 0, and it has no ancestor.
-    pub fn rank_of(&self, heads: &[Head], number: u32) -> Rank
+    pub(crate) fn rank_of(&self, heads: &[Head], number: u32) -> Rank
         requires rising { IsRising heads.now }
         requires aligned { map (λ r. r.number) self.now.ranks ≡ map (λ p. p.number) (patches_of heads.now) }
         ensures number { result.number ≡ number }
@@ -233,7 +233,7 @@ impl Levels {
     }
 
     /// The head at the index has this ancestry.
-    pub fn put_ancestry(&mut self, index: usize, ancestry: Ancestry)
+    pub(crate) fn put_ancestry(&mut self, index: usize, ancestry: Ancestry)
         requires index { index < length self.old.ranks }
         requires rising { AllPairs (λ r q. r.number < q.number) self.old.ranks }
         ensures numbers { map (λ r. r.number) self.new.ranks ≡ map (λ r. r.number) self.old.ranks }
@@ -376,7 +376,7 @@ impl Levels {
     }
 
     /// The floor of the block goes to the bottom, where none of its changes is not on disk: what comes next stands on none.
-    pub fn drop_floor(&mut self, block: u32)
+    pub(crate) fn drop_floor(&mut self, block: u32)
         ensures leveled { (patches : List Patch) (blocks : ℕ) → ((n : ℕ) → PassesAt (test.LiveOn block) patches n → ⊥) → IsLeveled patches blocks self.old → IsLeveled patches blocks self.new }
         ensures room { (length self.new.ranks ≡ length self.old.ranks) × (self.new.room ≡ self.old.room) }
     {

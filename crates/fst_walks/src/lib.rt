@@ -23,36 +23,36 @@
 //! from both ends has two such (`ends`).
 //!
 //! All of it only reads the heads, and the levels but for lifting and for what comes down with a gate. Each answer is that of
-//! the definition, exactly: a walk that gives up says so.
+//! the definition, exactly: a walk that gives up says so. Public is what `fst_graph` calls: the steps of a search are not.
 #![tactic(auto)]
 
 pub mod ancestors;
-pub mod before;
-pub mod below;
+mod before;
+mod below;
 pub mod block_walk;
-pub mod both_ends;
+mod both_ends;
 pub mod cycle;
-pub mod descent;
-pub mod directory;
+mod descent;
+mod directory;
 pub mod ends;
-pub mod first_away;
+mod first_away;
 pub mod flags;
-pub mod gate_below;
+mod gate_below;
 pub mod grade;
 pub mod graded;
-pub mod known;
+mod known;
 pub mod levels;
 pub mod lift;
 pub mod needs;
-pub mod other_gates;
+mod other_gates;
 pub mod overlap_cycle;
-pub mod ranks;
+mod ranks;
 pub mod shortcuts;
 pub mod sight;
 pub mod sink;
-pub mod starts;
-pub mod trace;
-pub mod under_hard;
+mod starts;
+mod trace;
+mod under_hard;
 pub mod walk;
-pub mod way_down;
-pub mod way_up;
+mod way_down;
+mod way_up;

@@ -173,7 +173,7 @@ impl Needs {
     }
 
     /// What the block was last found to need as a hard change of the other block, among its newest 1,024 needs.
-    pub fn newest_on(&self, block: u32, on: u32) -> Option<u32>
+    pub(crate) fn newest_on(&self, block: u32, on: u32) -> Option<u32>
         requires { block < length self.now.lists }
         ensures { IfSome result (Contains (needs_of self.now.lists block)) }
     {

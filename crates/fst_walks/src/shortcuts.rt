@@ -41,7 +41,7 @@ pub fn passes_at(sight: &Sight<'_>, test: Test, number: u32) -> bool
 }
 
 /// Whether an open gate is in the row or below it.
-pub fn waits_for_gate(heads: &[Head], row: &[u32]) -> bool
+pub(crate) fn waits_for_gate(heads: &[Head], row: &[u32]) -> bool
     requires rising { IsRising heads.now }
     requires acyclic { IsAcyclic (DirectlyOn (patches_of heads.now)) }
     requires disk { IsOnDiskWithAll (patches_of heads.now) }
@@ -52,7 +52,7 @@ pub fn waits_for_gate(heads: &[Head], row: &[u32]) -> bool
 }
 
 /// Whether that is nothing, or changes of the block alone.
-pub fn is_own(told: Pending, block: u32) -> bool
+pub(crate) fn is_own(told: Pending, block: u32) -> bool
     ensures { IsTrue result → (told ≡ pending.Nothing) ⊎ IsOf block told }
 {
     match told {
@@ -97,7 +97,7 @@ fn waits_for_own(sight: &Sight<'_>, block: u32, number: u32) -> bool
 
 /// Whether nothing but changes of the block is pending of the row, where open gates count as sealed. Then no change of
 /// another block that is not on disk lies below it, and no way leads from it back to the block.
-pub fn waits_for_own_block(sight: &Sight<'_>, block: u32, row: &[u32]) -> bool
+pub(crate) fn waits_for_own_block(sight: &Sight<'_>, block: u32, row: &[u32]) -> bool
     requires { Sees sight.now }
     ensures { IsTrue result → LeadsNowhere (patches_of sight.now.heads.now) block row.now }
 {
@@ -110,14 +110,14 @@ pub fn waits_for_own_block(sight: &Sight<'_>, block: u32, row: &[u32]) -> bool
 }
 
 // Whether the patch is a hard change of the block in memory.
-pub fn is_hard_in(head: &Head, block: u32) -> bool
+pub(crate) fn is_hard_in(head: &Head, block: u32) -> bool
     ensures { result ≡ (is_change_at place.Memory block (patch_of head.now) && is_hard_kind (kind_of head.now.kind)) }
 {
     is_change_at(head, Place::Memory, block) && is_hard(head.kind)
 }
 
 // Whether the number is that of such a change.
-pub fn is_hard_number(heads: &[Head], block: u32, number: u32) -> bool
+pub(crate) fn is_hard_number(heads: &[Head], block: u32, number: u32) -> bool
     requires { IsRising heads.now }
     ensures { IsTrue result ↔ IsHardNumber (patches_of heads.now) block number }
 {
@@ -128,7 +128,7 @@ pub fn is_hard_number(heads: &[Head], block: u32, number: u32) -> bool
 }
 
 /// The same, where the number is looked for as in a search.
-pub fn is_hard_at(sight: &Sight<'_>, block: u32, number: u32) -> bool
+pub(crate) fn is_hard_at(sight: &Sight<'_>, block: u32, number: u32) -> bool
     requires { Sees sight.now }
     ensures { IsTrue result ↔ IsHardNumber (patches_of sight.now.heads.now) block number }
 {
@@ -139,7 +139,7 @@ pub fn is_hard_at(sight: &Sight<'_>, block: u32, number: u32) -> bool
 }
 
 /// The last of the row.
-pub fn newest(row: &[u32]) -> Option<u32>
+pub(crate) fn newest(row: &[u32]) -> Option<u32>
     ensures { IfSome result (Contains row.now) }
 {
     match row {
@@ -149,7 +149,7 @@ pub fn newest(row: &[u32]) -> Option<u32>
 }
 
 /// The first of the row.
-pub fn first(row: &[u32]) -> Option<u32>
+pub(crate) fn first(row: &[u32]) -> Option<u32>
     ensures { IfSome result (Contains row.now) }
 {
     match row {
@@ -159,7 +159,7 @@ pub fn first(row: &[u32]) -> Option<u32>
 }
 
 /// Whether the number is found in the row, by halves: it is where the row has it and rises.
-pub fn is_found(row: &[u32], number: u32) -> bool
+pub(crate) fn is_found(row: &[u32], number: u32) -> bool
     ensures { IsTrue result → Contains row.now number }
 {
     match row.binary_search(&number) {
@@ -169,7 +169,7 @@ pub fn is_found(row: &[u32], number: u32) -> bool
 }
 
 /// What the patch with the number directly depends on, or nothing where it is forgotten.
-pub fn row_below<'a>(sight: &Sight<'a>, number: u32) -> &'a [u32]
+pub(crate) fn row_below<'a>(sight: &Sight<'a>, number: u32) -> &'a [u32]
     requires { Sees sight.now }
     ensures { (q : ℕ) → Contains result.now q → DirectlyOn (patches_of sight.now.heads.now) number q }
 {
@@ -180,7 +180,7 @@ pub fn row_below<'a>(sight: &Sight<'a>, number: u32) -> &'a [u32]
 }
 
 /// The newest of the row, no more than `most`.
-pub fn newest_few(row: &[u32], most: usize) -> &[u32]
+pub(crate) fn newest_few(row: &[u32], most: usize) -> &[u32]
     ensures only { (q : ℕ) → Contains result.now q → Contains row.now q }
     ensures all { length row.now ≤ most → result.now ≡ row.now }
 {
@@ -189,7 +189,7 @@ pub fn newest_few(row: &[u32], most: usize) -> &[u32]
 
 /// Whether all changes of the block are on disk. Nothing leads back to the block then, so a change of it is hard but for
 /// open gates.
-pub fn is_clean(sight: &Sight<'_>, block: u32) -> bool
+pub(crate) fn is_clean(sight: &Sight<'_>, block: u32) -> bool
     requires sees { Sees sight.now }
     requires block { block < length sight.now.lists.now }
     ensures { IsTrue result → (row : List ℕ) → LeadsNowhere (patches_of sight.now.heads.now) block row }
@@ -203,7 +203,7 @@ const STEPS: usize = 512;
 
 /// Whether each of the row is lower than the floor of the block, or is a hard change of the block in memory, or such a one is
 /// found over it. A change of the block with that row is hard but for open gates.
-pub fn stays_below(sight: &Sight<'_>, block: u32, row: &[u32]) -> bool
+pub(crate) fn stays_below(sight: &Sight<'_>, block: u32, row: &[u32]) -> bool
     requires sees { Sees sight.now }
     requires block { block < length sight.now.lists.now }
     ensures { IsTrue result → LeadsNowhere (patches_of sight.now.heads.now) block row.now }

@@ -125,7 +125,7 @@ impl Walk {
     }
 
     /// The index that was met there in turn.
-    pub fn index_at(&self, at: usize) -> usize
+    pub(crate) fn index_at(&self, at: usize) -> usize
         requires { at < length self.now.met }
         ensures index { result ≡ slice_index_or self.now.met at 0 }
         ensures inside { result < length self.now.marks }
@@ -134,7 +134,7 @@ impl Walk {
     }
 
     /// Whether the head at the index was met.
-    pub fn has_met(&self, index: usize) -> bool
+    pub(crate) fn has_met(&self, index: usize) -> bool
         requires { index < length self.now.marks }
         ensures met { IsTrue result ↔ Contains self.now.met index }
         ensures inside { (s : ℕ) → Contains self.now.met s → s < length self.now.marks }

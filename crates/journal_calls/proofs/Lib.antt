@@ -1,2 +1,2 @@
-pub mod Pairs
-pub mod Sends
+mod Pairs
+mod Sends
