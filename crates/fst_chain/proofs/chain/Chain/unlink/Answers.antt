@@ -1,18 +1,13 @@
-use Rattle.std.proofs.Common.{◌≡◌, ℕ, suc, ◌+◌, ◌-◌, ◌<◌, List, [], length, slice_index_or, Option, Some, sym, ap, ◌∙◌, arith}
+use Rattle.std.proofs.Common.{◌≡◌, ℕ, suc, ◌+◌, ◌-◌, List, [], length, slice_index_or, sym, ap, ◌∙◌, arith}
 use denote.RawPtr.{Ptr}
-use Rattle.fst_chain.specs.declared.heap.Place.{Place}
-use Rattle.fst_chain.specs.declared.node.Node.{Node}
 use Rattle.fst_chain.specs.Held.{tail_at}
 use Rattle.fst_chain.specs.Records.{without}
-use Rattle.fst_chain.specs.Chained.{IsChain, record_of}
+use Rattle.fst_chain.specs.Chained.{record_of}
 use Rattle.fst_chain.specs.Linked.{nth}
 use Rattle.fst_chain.proofs.Tails.{tail_is, tails_without}
 use Rattle.fst_chain.proofs.Cursors.{item_is}
-use Rattle.fst_chain.proofs.Removed.{len-map, nth_at, nth_within, its_next, found_prev, found_next, on_some, Halfway, halfway, half_length, removed}
+use Rattle.fst_chain.proofs.Removed.{at_node, len-map, nth_at, its_next, found_prev, found_next, on_some, Halfway, halfway, half_length, removed}
 use Rattle.fst_chain.proofs.chain.Chain.unlink.Goals as goal
-
-at_node : {X : Type 0} {h t : Option Place} {n : ℕ} (ps : List Ptr) (xs : List (Node X)) → IsChain h t n ps xs → (i : ℕ) (at : Place) → nth ps i ≡ Some at → i < length xs
-at_node ps xs k i at e = omega (arith, nth_within ps i at e, k.placed)
 
 pub take-node-requires : goal.take-node-requires
 take-node-requires g c =
