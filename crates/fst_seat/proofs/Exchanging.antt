@@ -4,7 +4,8 @@ use Rattle.std.specs.Prelude.{◌==◌}
 use Rattle.std.proofs.lemmas.Bool.{cases_Bool, cases_eq, lt-ltb, ltb-true, ltb-false}
 use Rattle.std.proofs.lemmas.List.{length-map}
 use Rattle.std.proofs.lemmas.List.Sums.{sum_by-set}
-use Rattle.std.proofs.lemmas.Option.{slice_get_within, same_Some, none-some, get_or_from_slice_get}
+use Rattle.std.proofs.lemmas.Option.{slice_get_within, slice_get-map, same_Some, none-some, get_or_from_slice_get}
+use Rattle.std.specs.Option.{option_map}
 use Rattle.fst_seat.specs.Places.{AreInverse, exchanged, are_first}
 use Rattle.fst_seat.proofs.Seated.{get-set}
 
@@ -22,9 +23,7 @@ put_other (x ∷ xs) (suc i) zero y differs = refl
 put_other (x ∷ xs) (suc i) (suc j) y differs = put_other xs i j y (λ e. differs (ap suc e))
 
 pub get_map : {X Y : Type 0} (f : X → Y) (xs : List X) (k : ℕ) (x : X) → slice_get xs k ≡ Some x → slice_get (map f xs) k ≡ Some (f x)
-get_map f [] k x e = absurd (none-some x e)
-get_map f (y ∷ ys) zero x e = ap (λ z. Some (f z)) (same_Some y x e)
-get_map f (y ∷ ys) (suc k) x e = get_map f ys k x e
+get_map f xs k x e = slice_get-map f xs k ∙ ap (option_map f) e
 
 pub map_get : {X Y : Type 0} (f : X → Y) (xs : List X) (k : ℕ) (y : Y) → slice_get (map f xs) k ≡ Some y → (x : X) × (slice_get xs k ≡ Some x) × (f x ≡ y)
 map_get f [] k y e = absurd (none-some y e)
