@@ -23,7 +23,7 @@
 //! from both ends has two such (`ends`).
 //!
 //! All of it only reads the heads, and the levels but for lifting and for what comes down with a gate. Each answer is that of
-//! the definition, exactly: a walk that gives up says so. Public is what `fst_graph` calls: the steps of a search are not.
+//! the definition, exactly: a walk that gives up says so. The modules of a search's steps are private.
 #![tactic(auto)]
 
 pub mod ancestors;
