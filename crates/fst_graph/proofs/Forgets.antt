@@ -6,7 +6,8 @@ use Rattle.fst_types.specs.{Facts.SparseAreLawful, Limits.max_heads, Tests.{is_a
 use Rattle.fst_heads.specs.{Heads.patches_of, Keeps.Tallies, Landed.flags, Lists.{Entry, AreListed}, Nodes.{Node, AreSettled, is_forgotten_in, node_of, nodes_of, patches_in, pending_in}, Pendings.{IsOf, joined, of_kind, sums_of}}
 use Rattle.fst_heads.specs.{Covers.Covering, declared.head.Head.Head, declared.lists.Listed.Listed, declared.standing.Standing.Standing}
 use Rattle.fst_heads.proofs.{AtNumber.patches_in_nodes, Beside.waiting_live, CountsAs.{like_as, stand_map}, Flagged.{all_told, flags_number, flags_patch, flags_pending, goes, goes_if, patches_flagged}, Placed.{SameLinks, distinct_kept, given_kept, linked_kept, links_mapped, unmapped}}
-use Rattle.fst_walks.specs.{Leveling.Leveling, Needing.Needing, declared.ends.Ends.Ends}
+use Rattle.fst_levels.specs.{Leveling.Leveling, Needing.Needing}
+use Rattle.fst_walks.specs.declared.ends.Ends.{Ends}
 use Rattle.fst_graph.specs.{Sound.{AreRemembered, AreSound, remembered_of}, declared.prepared.Prepared.Prepared as Stored}
 use Rattle.fst_graph.proofs.{Flagged.rising_nodes, RememberedLooks.disk_count, Sound.{rising_sound, view_gone, view_long}, Tallied.tallies_from}
 use Rattle.fst_types.specs.declared.place.Place.TheVariants as place

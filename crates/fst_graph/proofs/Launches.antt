@@ -3,7 +3,7 @@ use Rattle.std.proofs.Common.{◌≡◌, ◌<◌, ◌==◌, ◌∙◌, ℕ, if�
 use Rattle.fst_types.specs.{Facts.SparseAreLawful, Patches.{Patch, block_of_kind}, Writable.{IsWritable, IsWritableSet}, declared.number.PatchNo.PatchNo}
 use Rattle.fst_heads.specs.{Keeps.{IsInside, Tallies}, Lists.Entry, Names.numbers_of, Nodes.{Node, patches_in, AreSettled}, Spreading.{IsRisenOf, launches}, Standings.{held_on, ready_on}, declared.standing.Standing.Standing}
 use Rattle.fst_types.proofs.OneList.{lists_same}
-use Rattle.fst_walks.proofs.Ready.{ready_exact}
+use Rattle.fst_levels.proofs.Ready.{ready_exact}
 use Rattle.fst_graph.proofs.{Marking.writable_rests, Tallied.tallies_launched}
 
 -- of one block there is one writable set

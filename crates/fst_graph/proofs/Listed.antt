@@ -6,7 +6,7 @@ use Rattle.std.proofs.lemmas.{Bool.{cases_Bool, cases_eq, eq-eqb, ne_eqb}, List.
 use Rattle.fst_types.specs.{Dependencies.IsLiveNumber, Patches.{Change, Patch}, Tests.{is_on, is_live}, declared.grade.Grade.Grade}
 use Rattle.fst_heads.specs.{Lists.{Entry, entry, entries_on, AreListed, is_live_on}, Nodes.{Node, patches_in}, Rows.IsDependency}
 use Rattle.fst_heads.proofs.{Added.with_node, Touching.touch_parts}
-use Rattle.fst_walks.proofs.Linked.{patches_made}
+use Rattle.fst_levels.proofs.Linked.{patches_made}
 use Rattle.fst_types.specs.declared.place.Place.TheVariants as place
 
 -- the list of a block with one patch more

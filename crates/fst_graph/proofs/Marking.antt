@@ -9,8 +9,8 @@ use Rattle.fst_heads.specs.{Standings.{AllStand, AreMarked, may_be_written, stan
 use Rattle.fst_graph.specs.Known.{IsStuckByGates}
 use Rattle.fst_types.proofs.{Landing.{change_at, at_change}, Stuck.never_stuck_lem, Writes.same_test}
 use Rattle.fst_heads.proofs.{Forgetting.live_place_of, PendingIn.{found, told_of}, Placed.{patch_in, node_of_patch}, Sums.sums_count}
-use Rattle.fst_walks.proofs.Ready.{ready_in, held_in, node_ready, ready_or_held}
-use Rattle.fst_walks.proofs.Numbered.{none_counted, counted_none, counted_some}
+use Rattle.fst_levels.proofs.Ready.{ready_in, held_in, node_ready, ready_or_held}
+use Rattle.fst_levels.proofs.Numbered.{none_counted, counted_none, counted_some}
 use Rattle.fst_types.specs.declared.place.Place.TheVariants as place
 use Rattle.fst_heads.specs.declared.pending.Pending.TheVariants as pending
 use Rattle.fst_types.proofs.Numbers.{not_disk}

@@ -13,7 +13,8 @@ use Rattle.fst_types.proofs.{Cascades.place_decided, Finite.{In, In-from_Contain
 use Rattle.fst_heads.proofs.{AtNumber.patches_in_nodes, Beside.one_if, CountsAs.{count_cons, count_none}, Forgetting.{live_in, in_live}, Framed.{room_above, room_below}}
 use Rattle.fst_heads.proofs.{PendingAt.node_in, Indices.{any_default, direct_at, named_at}, Touching.{graded_change, touched_overlaps, overlaps_touched}}
 use Rattle.fst_graph.proofs.{Kept.keeps_sealed, Readied.{ready_made, ready_member, member_put}, TakenAsSealed.{is, depends, open_was, open_is, stays, touched_was, back_sealed, rule_sealed, gate_lives, gate_rests, row_named, row_unnamed}}
-use Rattle.fst_walks.specs.{Leveling.Leveling, Telling.IsTold, declared.ends.Ends.Ends, declared.graded.Graded.Graded}
+use Rattle.fst_levels.specs.Leveling.{Leveling}
+use Rattle.fst_walks.specs.{Telling.IsTold, declared.ends.Ends.Ends, declared.graded.Graded.Graded}
 use Rattle.fst_types.specs.declared.grade.Grade.TheVariants as grade
 
 module _ (old : List Patch) (n blocks : ℕ) (marks : List Bool) (K : Keeps old n blocks marks) (gates : Gates) (paired : ArePaired old n gates.head gates.tail) where

@@ -4,9 +4,9 @@ use Rattle.std.specs.Option.{IfSome}
 use Rattle.std.proofs.lemmas.{Bool.cases_eq, List.Elements.{Contains-push}}
 use Rattle.fst_types.specs.{Cascade.IsCascadeOf, Closure.one, Facts.{HasOnePlaceEach, IsOnDiskWithAll, SparseAreLawful}, Gates.IsOpenNumber, Gating.{gains, sealed}, Patches.{Patch, IsOn, IsRising}, Tests.is_live}
 use Rattle.fst_types.specs.{Writable.{IsWritable, IsWritableSet}, Writing.{landed, launched}}
-use Rattle.fst_walks.specs.{Needing.{HaveGivenEnds, HaveWaysBack, IsNeeding, IsNoted, IsPut, Needing, needs_of}, WayBack.LeadsBack, declared.needs.Way.Way}
-use Rattle.fst_walks.proofs.{Backed.{Any, all_stay, edges_landed, edges_launched, leads_stays, stays_gained, stays_landed, stays_launched, stays_left, stays_put, stays_sealed}, ComesBack.live_number}
-use Rattle.fst_walks.proofs.{EndsWere.{end_gained, end_landed, end_launched, end_left, end_put, end_sealed}, NeedsGrown.{change_needed, gained_needed, left_needed, other_needed}, NeedsMoved.{landed_needed, launched_needed, sealed_needed}}
+use Rattle.fst_levels.specs.{Needing.{HaveGivenEnds, HaveWaysBack, IsNeeding, IsNoted, IsPut, Needing, needs_of}, WayBack.LeadsBack, declared.needs.Way.Way}
+use Rattle.fst_levels.proofs.{Backed.{Any, all_stay, edges_landed, edges_launched, leads_stays, stays_gained, stays_landed, stays_launched, stays_left, stays_put, stays_sealed}, ComesBack.live_number}
+use Rattle.fst_levels.proofs.{EndsWere.{end_gained, end_landed, end_launched, end_left, end_put, end_sealed}, NeedsGrown.{change_needed, gained_needed, left_needed, other_needed}, NeedsMoved.{landed_needed, launched_needed, sealed_needed}}
 use Rattle.fst_graph.specs.{Ready.change_of, declared.prepared.Prepared.Prepared as Stored}
 
 -- the same numbers, perhaps with room for others, and no way more

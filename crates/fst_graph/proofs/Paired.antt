@@ -6,7 +6,7 @@ use Rattle.fst_types.specs.{Lists.Lists, Making.fresh, Order.NamesAbove, Patches
 use Rattle.fst_graph.specs.{Fresh.MayAdd, Grouping.{pair_order, AddsPair}, Known.Known}
 use Rattle.fst_types.proofs.{Crash.same_number, Finite.{In, Contains-from_In, first_step}, Heads.sparse_depended, SmallStates.only_in}
 use Rattle.fst_heads.proofs.{CountsAs.{count_append, count_cons}, Making.gate_lawful}
-use Rattle.fst_walks.proofs.Trails.{none_in}
+use Rattle.fst_levels.proofs.Trails.{none_in}
 use Rattle.fst_types.specs.declared.place.Place.TheVariants as place
 use Rattle.fst_types.proofs.Numbers.{memory_disk}
 

@@ -4,11 +4,12 @@ use Rattle.std.specs.Global.{Vec}
 use Rattle.fst_types.specs.{Dependencies.IsLiveNumber, Facts.SparseAreLawful, Gates.IsOpenNumber, Limits.max_heads, Patches.Patch, Tests.is_live}
 use Rattle.fst_heads.specs.{Covers.Covering, Heads.patches_of, Keeps.{Keeps, Tallies}, Lists.entry, Names.numbers_of, Nodes.{node_of, nodes_of, patches_in}, Pendings.is_pending}
 use Rattle.fst_heads.specs.{Standings.{entered, standing_of}, Tests.is_hard_kind, declared.head.Head.Head, declared.lists.Listed.Listed, declared.standing.Standing.Standing}
-use Rattle.fst_walks.specs.{Leveling.Leveling, Needing.Needing, declared.ends.Ends.Ends}
+use Rattle.fst_levels.specs.{Leveling.Leveling, Needing.Needing}
+use Rattle.fst_walks.specs.declared.ends.Ends.{Ends}
 use Rattle.fst_graph.specs.{Known.{Known, Prepared}, Ready.{change_of, prepared_of, IsReady, IsReadyFor, MayBePut}}
 use Rattle.fst_graph.specs.{Sound.{AreSound, IsPrepared, remembered_of}, declared.prepared.Gates.Gates, declared.prepared.Prepared.Prepared as Stored}
 use Rattle.fst_heads.proofs.{Added.{new_node, with_node}, AtNumber.patches_in_nodes, Stands.stand_change, Touching.keeps_change}
-use Rattle.fst_walks.proofs.{Seen.lawful_nodes, Shelves.shelved}
+use Rattle.fst_levels.proofs.{Seen.lawful_nodes, Shelves.shelved}
 use Rattle.fst_graph.proofs.{Listed.{listed_change, live_dependency}, Readied.hard_may, Sound.{as_many_lists, prepared_is}, Tallied.tallies_made}
 use Rattle.fst_heads.specs.declared.pending.Pending.TheVariants as pending
 

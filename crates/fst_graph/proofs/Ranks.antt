@@ -7,8 +7,9 @@ use Rattle.fst_types.proofs.Alike.{Alike}
 use Rattle.fst_heads.specs.{Heads.patches_of, declared.head.Head.Head}
 use Rattle.std.proofs.lemmas.List.{length_push}
 use Rattle.fst_graph.specs.{Ready.change_of, Sound.AreAlong, declared.prepared.Prepared.Prepared as Stored}
-use Rattle.fst_walks.specs.{Ancestors.GoesUnder, Leveling.{IsLeveled, Leveling, level_of, floor_of, top_level}, Lifting.IsRise, declared.ends.Ends.Ends, declared.levels.{Ancestry.Ancestry, Rise.Rise}}
-use Rattle.fst_walks.proofs.LeveledKept.{alike_is_leveled, fresh_is_leveled}
+use Rattle.fst_levels.specs.{Ancestors.GoesUnder, Leveling.{IsLeveled, Leveling, level_of, floor_of, top_level}, Lifting.IsRise, declared.levels.{Ancestry.Ancestry, Rise.Rise}}
+use Rattle.fst_walks.specs.declared.ends.Ends.{Ends}
+use Rattle.fst_levels.proofs.LeveledKept.{alike_is_leveled, fresh_is_leveled}
 
 -- the same levels, perhaps with more room
 pub leveled_as : {patches : List Patch} {blocks : ℕ} {levels ranked : Leveling} → ranked.ranks ≡ levels.ranks → ranked.floors ≡ levels.floors → IsLeveled patches blocks levels → IsLeveled patches blocks ranked

@@ -4,7 +4,7 @@ use Rattle.std.proofs.lemmas.{Bool.cases_Bool, List.Kept.AllPairs-filter}
 use Rattle.fst_types.specs.{Closure.{one, join}, Dependencies.{DirectlyOn, DependsOn, Needs, IsBlocked, IsLiveNumber, IsOnDisk}, Facts.{IsInFlightOn, IsOnDiskWithAll, SparseAreLawful}}
 use Rattle.fst_types.specs.{Gates.{IsOpenNumber, IsSealedNumber}, Grades.{HasEdge, Reaches, Returns}, Patches.{Patch, IsLive}, Writable.{IsInMemoryOn, InWritableSet}}
 use Rattle.fst_types.proofs.{Alike.{closure_map, acyclic_map}, Cascades.place_decided, Dropping.{filter_in, in_filter}, Finite.{In, In-from_Contains, Contains-from_In}, Numbers.{clash, true_not}}
-use Rattle.fst_walks.proofs.Holding.{live_up}
+use Rattle.fst_levels.proofs.Holding.{live_up}
 use Rattle.fst_graph.specs.Remembered.{remembered, AreGone}
 use Rattle.fst_graph.proofs.Wholes.{open_lives}
 use Rattle.fst_types.proofs.Numbers.{memory_disk}

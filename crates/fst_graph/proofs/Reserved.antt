@@ -3,7 +3,8 @@ use Rattle.std.proofs.Common.{◌≡◌, ◌≤◌, ◌<◌, ℕ, List, Option, 
 use Rattle.std.specs.Global.{Vec}
 use Rattle.fst_types.specs.Patches.{Patch}
 use Rattle.fst_heads.specs.{Covers.{AreCovered, Covering}, Lists.entries_of, declared.head.Head.Head, declared.lists.Listed.Listed, declared.standing.Standing.Standing}
-use Rattle.fst_walks.specs.{Leveling.Leveling, Needing.Needing, declared.ends.Ends.Ends, declared.needs.Way.Way}
+use Rattle.fst_levels.specs.{Leveling.Leveling, Needing.Needing, declared.needs.Way.Way}
+use Rattle.fst_walks.specs.declared.ends.Ends.{Ends}
 use Rattle.fst_graph.specs.{Fresh.IsRoomier, Sound.{AreRemembered, AreSound, IsPrepared}, declared.prepared.Prepared.Prepared as Stored}
 use Rattle.fst_graph.proofs.{Flagged.roomier_shelf, Sound.{listed_sound, reserved_sound, roomier_sound, with_prepared}}
 

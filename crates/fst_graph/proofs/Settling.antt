@@ -10,7 +10,7 @@ use Rattle.fst_types.proofs.{Crash.same_number, Dropping.filter_in, Finite.{In, 
 use Rattle.fst_heads.proofs.{Added.{with_node, new_node, with_names}, AtNumber.{at_same, at_other}, Forgetting.and_parts, Joining.{behind_sinks, join_right, join_self, join_sinks, sinks_behind, sinks_to_nothing, sinks_trans}, Linking.linked_patch}
 use Rattle.fst_heads.proofs.{PendingIn.{later_number, rising_tail, told_of}, Waiting.pending_mapped}
 use Rattle.fst_heads.proofs.{Placed.{patch_in, node_of_patch}, Sums.{joined_all_nothing, joined_nothing, joined_same, joined_some, sums_append, sums_same}}
-use Rattle.fst_walks.proofs.Linked.{made_was, both, both_nodes, both_number, named_was}
+use Rattle.fst_levels.proofs.Linked.{made_was, both, both_nodes, both_number, named_was}
 use Rattle.fst_types.specs.declared.place.Place.TheVariants as place
 use Rattle.fst_heads.specs.declared.pending.Pending.TheVariants as pending
 

@@ -5,7 +5,7 @@ use Rattle.std.specs.Global.{Vec}
 use Rattle.fst_types.specs.{Facts.HasOnePlaceEach, Limits.max_heads, Patches.Patch, Tests.{is_among, is_at}, declared.place.Place.Place}
 use Rattle.fst_heads.specs.{Heads.patches_of, Landed.AreLanded, Nodes.{Node, AreSettled, linked_to, node_of, nodes_of}, Pendings.is_pending, declared.head.Head.Head}
 use Rattle.fst_heads.proofs.{Added.{new_node, with_node}, Landed.{IsAs, landed_map, landed_push, landed_push_waiting}, Placed.{patch_in, unmapped}, Turning.same_pending}
-use Rattle.fst_walks.proofs.Seen.{one_each, same_patches}
+use Rattle.fst_levels.proofs.Seen.{one_each, same_patches}
 use Rattle.fst_graph.specs.{Sound.{AreRemembered, remembered_of}, declared.prepared.Prepared.Prepared as Stored}
 use Rattle.fst_graph.proofs.Flagged.{flags_of, remembered_as, remembered_more}
 use Rattle.fst_types.specs.declared.place.Place.TheVariants as place

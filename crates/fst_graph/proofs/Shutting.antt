@@ -5,11 +5,12 @@ use Rattle.std.specs.Global.{Vec}
 use Rattle.fst_types.specs.{Cascade.{IsCascadeOf, unsettled}, Gates.IsOpenNumber, Gating.sealed}
 use Rattle.fst_heads.specs.{Covers.Covering, Heads.{IsRising, patch_of, patches_of}, Keeps.Keeps, Indices.HasIndex, Nodes.{node_of, nodes_of, at_number, AreDistinct, AreLinked, AreSettled}, Pendings.Sinks, Spreading.{is_waiting, seals, enqueued_sealed, IsSpreadOf, Spreading}}
 use Rattle.fst_heads.specs.{Standings.AllStand, declared.head.Head.Head, declared.lists.Listed.Listed, declared.standing.Standing.Standing}
-use Rattle.fst_walks.specs.{Leveling.{IsLeveled, Leveling}, Needing.Needing, declared.ends.Ends.Ends}
+use Rattle.fst_levels.specs.{Leveling.{IsLeveled, Leveling}, Needing.Needing}
+use Rattle.fst_walks.specs.declared.ends.Ends.{Ends}
 use Rattle.fst_graph.specs.{Sound.AreSound, declared.prepared.Prepared.Prepared as Stored}
 use Rattle.fst_types.proofs.{Alike.{Alike, length_alike}, Sealing.alike_sealed}
 use Rattle.fst_heads.proofs.{AtNumber.patches_in_nodes, Beside.{beside_landed, landed_few, sealed_told}, Carried.{linked_sealed, distinct_sealed}, Indices.rising_heads, Stands.stand_sealed, Starting.{starts_sealed, unsettled_sealed}}
-use Rattle.fst_walks.proofs.Seen.{seen, one_each, lawful_nodes, tallies_wider}
+use Rattle.fst_levels.proofs.Seen.{seen, one_each, lawful_nodes, tallies_wider}
 use Rattle.fst_graph.proofs.{Borne.{inside_nodes, open_nodes}, Kept.{covered_moved, keeps_sealed}, NeedsNow.needing_sealed, Ranks.leveled_moved, Sound.as_many_standings, Tallied.tallies_sealed}
 
 module _ {heads : Vec Head} {ends : Ends} {levels : Leveling} {needs : Needing} {lists : Vec (Vec Listed)} {covers : Vec Covering} {standings : Vec Standing} {queue : Vec ℕ} {live unmarked numbers blocks : ℕ} {o : Option Stored}

@@ -4,10 +4,11 @@ use Rattle.std.specs.Global.{Vec}
 use Rattle.fst_types.specs.{Facts.SparseAreLawful, Gates.IsOpenNumber, Patches.Patch}
 use Rattle.fst_heads.specs.{Covers.{AreCovered, Covering}, Heads.{patch_of, patches_of, IsRising}, Keeps.IsInside, Lists.{entries_of, AreListed, entries_on}}
 use Rattle.fst_heads.specs.{Nodes.{is_forgotten_in, nodes_of, AreSettled}, Standings.{NoneBelow, standing_of}, declared.head.Head.Head, declared.lists.Listed.Listed, declared.standing.Standing.Standing}
-use Rattle.fst_walks.specs.{BothEnds.IsOver, Leveling.{IsLeveled, Leveling}, Needing.{IsNeeding, Needing}, Searching.AreOver, Sights.Sees, declared.block_walk.BlockWalk.BlockWalk, declared.ends.Ends.Ends, declared.needs.Way.Way, declared.sight.Sight.Sight}
+use Rattle.fst_walks.specs.{BothEnds.IsOver, Searching.AreOver, declared.block_walk.BlockWalk.BlockWalk, declared.ends.Ends.Ends}
+use Rattle.fst_levels.specs.{Leveling.{IsLeveled, Leveling}, Needing.{IsNeeding, Needing}, Sights.Sees, declared.needs.Way.Way, declared.sight.Sight.Sight}
 use Rattle.fst_graph.specs.{Fresh.IsRoomier, Remembered.AreGone, Sound.{AreRemembered, AreSound, IsPrepared, remembered_of}, declared.prepared.Prepared.Prepared as Stored}
 use Rattle.fst_heads.proofs.{AtNumber.patches_in_nodes, Indices.rising_heads}
-use Rattle.fst_walks.proofs.{Resting.{listed_at, shelves}, Seen.{same_patches, tallies_wider}}
+use Rattle.fst_levels.proofs.{Resting.{listed_at, shelves}, Seen.{same_patches, tallies_wider}}
 use Rattle.fst_graph.proofs.{Flagged.{gone_from, rising_nodes, standing}, Remembered.remembered_lawful, NeedsNow.needing_as, Ranks.{along_as, leveled_as}}
 
 -- a walk over the heads and lists that are kept is one over those that are handed on

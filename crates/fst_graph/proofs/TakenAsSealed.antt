@@ -7,8 +7,8 @@ use Rattle.fst_types.proofs.{Alike.back_alike, Cascades.{kind_cases, arrived}, C
 use Rattle.fst_types.proofs.Finite.{In-from_Contains, Contains-from_In, search_in, lowest}
 use Rattle.fst_types.proofs.{SealedSame.{Twin, back, forth, depends_same, need_was, need_is, reaches_same}, Sealing.{alike_sealed, sparse_sealed}, SmallStates.only_in}
 use Rattle.fst_heads.proofs.Touching.{touch_parts, touch_whole}
-use Rattle.fst_walks.specs.WayBack.{LeadsBack}
-use Rattle.fst_walks.proofs.{Backed.{Any, leads_stays, stays_sealed}, ComesBack.live_on, Holding.live_up, NearRow.under_weaker}
+use Rattle.fst_levels.specs.WayBack.{LeadsBack}
+use Rattle.fst_levels.proofs.{Backed.{Any, leads_stays, stays_sealed}, ComesBack.live_on, Holding.live_up, NearRow.under_weaker}
 use Rattle.fst_graph.proofs.{WholeRows.live_or_disk, Wholes.{open_lives}}
 use Rattle.fst_types.specs.declared.grade.Grade.TheVariants as grade
 use Rattle.fst_types.proofs.Numbers.{memory_disk}

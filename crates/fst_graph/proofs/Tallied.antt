@@ -12,7 +12,7 @@ use Rattle.fst_heads.proofs.{Added.{with_node, new_node, with_names}, AtNumber.{
 use Rattle.fst_heads.proofs.Carried.{risen_spread, length_spread, linked_spread, given_spread, distinct_spread, listed_spread, linked_sealed, distinct_sealed, linked_landed, distinct_landed}
 use Rattle.fst_heads.proofs.Placed.{KeepLinks, SameLinks, patch_in, linked_kept, given_kept, distinct_kept, links_mapped, entries_mapped, launched_stands, launched_links, patches_dropped, entries_dropped, number_if, dependencies_if}
 use Rattle.fst_heads.proofs.Stands.{stand_gained, stand_dropped}
-use Rattle.fst_walks.proofs.Linked.{patches_made, made_linked, made_given, made_distinct, named_linked, named_given, named_distinct, patches_named, both, both_nodes, gain_stands}
+use Rattle.fst_levels.proofs.Linked.{patches_made, made_linked, made_given, made_distinct, named_linked, named_given, named_distinct, patches_named, both, both_nodes, gain_stands}
 use Rattle.fst_graph.proofs.{Marking.{counted_settled, marked_settled}, Risen.{patches_risen, ready_live, stand_risen}, Settling.{made_settled, depends_settled, dropped_settled}}
 use Rattle.fst_types.specs.declared.place.Place.TheVariants as place
 

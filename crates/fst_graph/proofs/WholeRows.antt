@@ -11,7 +11,7 @@ use Rattle.fst_types.proofs.Heads.{heads_gated, heads_emptied, heads_depended}
 use Rattle.fst_types.proofs.{Heirs.{NoneShut, Heirs, heirs_pushed, heirs_cascade, heirs_gained, heirs_sealed, heirs_launched, heirs_landed, passes}, Issuing.heads_launched, Landing.heads_landed}
 use Rattle.fst_types.proofs.{Numbers.live_cases, Sealing.heads_sealed}
 use Rattle.fst_heads.proofs.{CountsAs.count_map, Forgetting.{live_place_of}}
-use Rattle.fst_walks.proofs.Holding.{live_up}
+use Rattle.fst_levels.proofs.Holding.{live_up}
 use Rattle.fst_graph.proofs.Wholes.{whole_open, open_other, IsKept, kept_self, AreKept, kept_then, kept_map, kept_cascade, kept_pushed, sparse_kept, cascade_whole, swap_landed, swap_launched, swap_sealed, swap_gains, swap_filter, swap_pushed, open_lives, is, was, live_number, open_number, depends_up, depends_down}
 use Rattle.fst_types.specs.declared.place.Place.TheVariants as place
 use Rattle.fst_types.proofs.Numbers.{not_disk}

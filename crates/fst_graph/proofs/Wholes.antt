@@ -8,7 +8,7 @@ use Rattle.fst_types.specs.{Writable.{IsInMemoryOn, InWritableSet}, Writing.{lau
 use Rattle.fst_graph.specs.Rows.{whole, IsSparseOf, row_of_kind}
 use Rattle.fst_types.proofs.{Alike.closure_map, Cascades.{place_decided, Settled, settled_back, settled_on, no_follower_on}}
 use Rattle.fst_types.proofs.{Finite.{In-from_Contains, Contains-from_In, In-map, In, In-append_left}, GateGains.In-unmap}
-use Rattle.fst_walks.proofs.Holding.{live_up}
+use Rattle.fst_levels.proofs.Holding.{live_up}
 use Rattle.fst_types.specs.declared.place.Place.TheVariants as place
 use Rattle.fst_types.proofs.Numbers.{memory_disk}
 

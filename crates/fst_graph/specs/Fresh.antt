@@ -4,7 +4,8 @@ use Rattle.std.specs.Global.{Vec}
 use Rattle.std.specs.List.Sorted.{IsStrictlyIncreasing}
 use Rattle.fst_types.specs.{Dependencies.IsLiveNumber, Facts.SparseAreLawful, Limits.max_heads, Making.fresh, Patches.{Patch, IsOn, IsOpenGate, OpenGate}, Tests.{is_live, is_on}}
 use Rattle.fst_heads.specs.{Heads.{kind_of, patches_of}, Nodes.{Node, nodes_of, linked_to, pending_in}, Pendings.{joined, of_kind, sums_of}, declared.head.Head.Head}
-use Rattle.fst_walks.specs.{Ancestors.GoesUnder, Leveling.{Leveling, level_of, top_level}, declared.{ends.Ends.Ends, levels.{Ancestry.Ancestry, Rank.Rank}}}
+use Rattle.fst_levels.specs.{Ancestors.GoesUnder, Leveling.{Leveling, level_of, top_level}, declared.levels.{Ancestry.Ancestry, Rank.Rank}}
+use Rattle.fst_walks.specs.declared.ends.Ends.{Ends}
 use Rattle.fst_graph.specs.declared.fresh.Fresh.{Fresh}
 
 -- the patch that it becomes

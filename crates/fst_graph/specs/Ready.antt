@@ -2,7 +2,7 @@
 use Rattle.std.specs.Prelude.{◌≡◌, ◌<◌, ◌+◌, ◌++◌, ◌∷◌, [], ℕ, List, Option, Some, None, IfSome, option_map}
 use Rattle.fst_types.specs.{Grades.IsGraded, Making.fresh, Order.{make_order, room_order}, Patches.{Change, Patch}, Refusals.NoneHolds}
 use Rattle.fst_heads.specs.{Frames.HasRoomBelow, Names.numbers_of, Nodes.HasRoomAbove, Rows.IsSparseRow, declared.head.Head.Head}
-use Rattle.fst_walks.specs.WayBack.{LeadsBack}
+use Rattle.fst_levels.specs.WayBack.{LeadsBack}
 use Rattle.fst_graph.specs.{Known.Prepared, Membering.{ArePaired, BeginsAs, OverlapReaches}, declared.prepared.Gates.Gates, declared.prepared.Prepared.Prepared as Stored}
 
 -- as contracts see it, its number being the next one

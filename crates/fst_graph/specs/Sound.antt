@@ -4,7 +4,8 @@ use Rattle.std.specs.Global.{Vec}
 use Rattle.fst_types.specs.{Limits.max_heads, Patches.Patch}
 use Rattle.fst_heads.specs.{Covers.{AreCovered, Covering, HasRoomForRuns}, Heads.patches_of, Keeps.{Beside, Keeps, Tallies}, Landed.AreLanded, Lists.{entries_of, HasRoomInList}}
 use Rattle.fst_heads.specs.{Nodes.{is_forgotten_in, nodes_of}, declared.head.Head.Head, declared.lists.Listed.Listed, Standings.NoneBelow, declared.standing.Standing.Standing}
-use Rattle.fst_walks.specs.{Leveling.{IsLeveled, Leveling}, Needing.{HaveGivenEnds, IsNeeding, Needing}, declared.ends.Ends.Ends}
+use Rattle.fst_levels.specs.{Leveling.{IsLeveled, Leveling}, Needing.{HaveGivenEnds, IsNeeding, Needing}}
+use Rattle.fst_walks.specs.declared.ends.Ends.{Ends}
 use Rattle.fst_graph.specs.{Fresh.HasPlaces, Ready.{MayBePut, HasRoomAround}, Remembered.remembered, declared.prepared.Prepared.Prepared as Stored}
 
 -- the patches that are not forgotten, out of those whose heads are kept

@@ -13,16 +13,16 @@ ghost use Rattle.fst_heads.specs.Nodes.{HasRoomAbove, nodes_of, pending_in};
 ghost use Rattle.fst_heads.specs.Pendings.{joined, of_kind};
 ghost use Rattle.fst_heads.specs.Spreading.{is_waiting};
 ghost use Rattle.fst_graph.specs.Fresh.{patch_from, HasPlaces, AddsTwo, HasOneMore, IsAdded, IsRoomier};
-ghost use Rattle.fst_walks.specs.Leveling.{IsLeveled, level_of, no_ancestry, top_level};
+ghost use Rattle.fst_levels.specs.Leveling.{IsLeveled, level_of, no_ancestry, top_level};
 
 use fst_heads::head::{Head, Kind};
 use fst_heads::links::{link, reserve_above};
 use fst_heads::pending::{Pending, of_change};
 use fst_heads::row::{Row, row_sums};
+use fst_levels::ancestors::ancestry_over;
+use fst_levels::levels::{Levels, Rank, TOP, no_ancestry};
 use fst_types::Place;
-use fst_walks::ancestors::ancestry_over;
 use fst_walks::ends::Ends;
-use fst_walks::levels::{Levels, Rank, TOP, no_ancestry};
 use smallvec::SmallVec;
 use std::alloc::{AllocError, Global};
 

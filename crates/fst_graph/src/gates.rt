@@ -16,17 +16,17 @@ ghost use Rattle.fst_heads.specs.Spreading.{is_waiting};
 ghost use Rattle.fst_graph.specs.Remembered.{AreGone};
 ghost use Rattle.fst_graph.specs.Sound.{remembered_of};
 ghost use Rattle.fst_walks.specs.Searching.{AreOver};
-ghost use Rattle.fst_walks.specs.Sights.{Sees};
+ghost use Rattle.fst_levels.specs.Sights.{Sees};
 
 use fst_heads::growth::{gain, missing_names};
 use fst_heads::head::{Head, Kind};
 use fst_heads::index::index_of;
 use fst_heads::links::{link, reserve_above};
 use fst_heads::row::{is_given, names_unknown, row_sums};
+use fst_levels::sight::Sight;
 use fst_types::{Fault, MAX_NAMES, PatchNo};
 use fst_walks::cycle::closes_cycle;
 use fst_walks::ends::Ends;
-use fst_walks::sight::Sight;
 use std::alloc::{AllocError, Global};
 
 /// The index of an open gate, or why it is none: the number was not given, it is no gate's or forgotten, or the gate is sealed.

@@ -13,7 +13,7 @@ ghost use Rattle.fst_graph.specs.Membering.{BeginsAs};
 ghost use Rattle.fst_heads.specs.Nodes.{nodes_of, AreCounted};
 ghost use Rattle.fst_heads.specs.Rows.{IsSparseRow};
 ghost use Rattle.fst_walks.specs.BothEnds.{IsOver};
-ghost use Rattle.fst_walks.specs.Sights.{Sees};
+ghost use Rattle.fst_levels.specs.Sights.{Sees};
 ghost use Rattle.fst_walks.specs.Telling.{IsTold};
 
 use crate::prepared::{Gates, Prepared, copy_of};
@@ -21,11 +21,11 @@ use fst_heads::head::Head;
 use fst_heads::index::index_of;
 use fst_heads::sparse::{Wanted, sparse_row};
 use fst_heads::test::Test;
+use fst_levels::shortcuts::passes_at;
+use fst_levels::sight::Sight;
 use fst_types::{PatchNo, Span};
 use fst_walks::ends::Ends;
 use fst_walks::grade::grade_of;
-use fst_walks::shortcuts::passes_at;
-use fst_walks::sight::Sight;
 use std::alloc::{AllocError, Global};
 
 // The number, if it is that of an open gate.

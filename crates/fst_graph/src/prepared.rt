@@ -10,18 +10,18 @@ ghost use Rattle.fst_heads.specs.Lists.{entries_of, HasRoomInList};
 ghost use Rattle.fst_heads.specs.Names.{numbers_of};
 ghost use Rattle.fst_heads.specs.Rows.{IsSparseRow};
 ghost use Rattle.fst_walks.specs.BothEnds.{IsOver};
-ghost use Rattle.fst_walks.specs.Sights.{Sees};
+ghost use Rattle.fst_levels.specs.Sights.{Sees};
 ghost use Rattle.fst_walks.specs.Telling.{IsTold};
 
 use fst_heads::cover::Cover;
 use fst_heads::lists::Listed;
 use fst_heads::row::Row;
 use fst_heads::sparse::{Wanted, sparse_row};
+use fst_levels::sight::Sight;
 use fst_types::{Fault, PatchNo, Span};
 use fst_walks::ends::Ends;
 use fst_walks::grade::grade_of;
 use fst_walks::graded::Graded;
-use fst_walks::sight::Sight;
 use std::alloc::{AllocError, Global};
 
 /// The gates of a group.

@@ -9,14 +9,14 @@ ghost use Rattle.fst_types.specs.Refusals.{IsFirst, NoneHolds};
 ghost use Rattle.fst_heads.specs.Heads.{patches_of};
 ghost use Rattle.fst_heads.specs.Names.{numbers_of};
 ghost use Rattle.fst_graph.specs.Membering.{OverlapReaches};
-ghost use Rattle.fst_walks.specs.Sights.{Sees};
+ghost use Rattle.fst_levels.specs.Sights.{Sees};
 ghost use Rattle.fst_walks.specs.Searching.{AreOver};
 
 use fst_heads::row::names_unknown;
+use fst_levels::sight::Sight;
 use fst_types::{Fault, MAX_HEADS, MAX_NAMES, MAX_NUMBER, PatchNo, Span, What};
 use fst_walks::ends::Ends;
 use fst_walks::overlap_cycle::overlap_reaches;
-use fst_walks::sight::Sight;
 
 /// Why no patch can be made now, so many not being forgotten.
 pub fn room_fault(standing: usize, numbers: u32) -> Option<Fault>

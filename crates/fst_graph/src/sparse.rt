@@ -32,13 +32,13 @@ use fst_heads::row::is_given;
 use fst_heads::standing::{
     Standing, empty_standings, flying_count, held_count, land_at, least_marked, ready_count,
 };
+use fst_levels::ancestors::renew;
+use fst_levels::levels::Levels;
+use fst_levels::needs::Needs;
+use fst_levels::sight::Sight;
+use fst_levels::sink::{sink_floor, sink_over};
 use fst_types::{BlockNo, Fault, PatchNo, Place, Shape};
-use fst_walks::ancestors::renew;
 use fst_walks::ends::Ends;
-use fst_walks::levels::Levels;
-use fst_walks::needs::Needs;
-use fst_walks::sight::Sight;
-use fst_walks::sink::{sink_floor, sink_over};
 use std::alloc::{AllocError, Global};
 use std::marker::Model;
 

@@ -20,8 +20,8 @@
 //! written of the block. Where some are ready, none is held back and none flies, it may be written now, and that is its
 //! mark.
 //!
-//! Nothing here knows a grade's rule, a refusal or a group: searches over heads are a layer above (`fst_walks`), and what
-//! callers see of it all is `fst_graph`.
+//! Nothing here knows a grade's rule, a refusal or a group: what is kept for searches over heads (`fst_levels`) and the
+//! searches (`fst_walks`) are layers above, and what callers see of it all is `fst_graph`.
 #![tactic(auto)]
 
 pub mod cascade;

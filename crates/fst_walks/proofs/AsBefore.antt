@@ -5,9 +5,9 @@ use Rattle.fst_types.specs.{Closure.{one, join}, Dependencies.DirectlyOn, Facts.
 use Rattle.fst_types.proofs.SmallStates.{only_in}
 use Rattle.fst_heads.specs.{Grading.{IsHardNumber, IsLeading, IsReturning, LeadsNowhere}, Heads.{IsRising, patches_of}, Indices.IsAbove, declared.head.Head.Head}
 use Rattle.fst_heads.proofs.Listing.{rising_patches}
-use Rattle.fst_walks.specs.WayBack.{LeadsBack}
-use Rattle.fst_walks.proofs.{BothEnds.back_leads, NearRow.rests_may}
-use Rattle.fst_walks.proofs.OwnBlock.{nowhere_each}
+use Rattle.fst_levels.specs.WayBack.{LeadsBack}
+use Rattle.fst_levels.proofs.{NoWayBack.back_leads, NearRow.rests_may}
+use Rattle.fst_levels.proofs.OwnBlock.{nowhere_each}
 
 -- from what a patch directly depends on no way leads back where none does from the patch
 below_nowhere : (patches : List Patch) (b n : ℕ) (below : List ℕ) → ((q : ℕ) → Contains below q → DirectlyOn patches n q) → LeadsNowhere patches b (n ∷ []) → LeadsNowhere patches b below

@@ -4,8 +4,8 @@ use Rattle.std.proofs.lemmas.List.{get_or-map}
 use Rattle.fst_types.proofs.{Dropping.{filter_in, in_filter}, Finite.{In-from_Contains, Contains-from_In}}
 use Rattle.fst_heads.specs.{Heads.{IsRising, patch_of, patches_of}, Indices.{PassesAt, HasIndex}, Tests.passes, declared.head.Head.Head, declared.test.Test.Test}
 use Rattle.fst_heads.proofs.{Placed.unmapped, Indices.some_element}
-use Rattle.fst_walks.specs.Walks.{Trail, number_at, numbers_met, passes_in}
-use Rattle.fst_walks.proofs.{NearRow.{passes_here, here_passes}, Visiting.{index_at, number_of_met}}
+use Rattle.fst_levels.specs.Walks.{Trail, number_at, numbers_met, passes_in}
+use Rattle.fst_levels.proofs.{NearRow.{passes_here, here_passes}, MetNumbers.{index_at, number_of_met}}
 
 module _ (t : Test) (heads : List Head) (rising : IsRising heads) (n s : ℕ) (index : HasIndex heads n s) where
   passes_there : passes_in t heads s ≡ passes t (patch_of (get_or heads s (some_element heads s index.0)))

@@ -6,7 +6,7 @@ use Rattle.fst_heads.specs.{Heads.{IsRising, kind_of, patch_of, patches_of}, Ind
 use Rattle.fst_heads.specs.{Reaching.IsReached, declared.head.Head.Head, declared.head.Kind.Kind}
 use Rattle.fst_heads.proofs.{Graded.{on_from, on_to}, Leading.{reached_more}, Indices.{patch_at, patch_is}}
 use Rattle.fst_walks.specs.{Descending.Visits, BothEnds.{CrossesDown, IsNeed, ShowsBlockUnder}}
-use Rattle.fst_walks.proofs.{Visiting.visits_none}
+use Rattle.fst_walks.proofs.Visiting.{visits_none}
 use Rattle.fst_heads.specs.declared.head.Kind.TheVariants as kinds
 use Rattle.fst_heads.specs.declared.test.Test.TheVariants as test
 use Rattle.fst_types.proofs.Numbers.{one_block}

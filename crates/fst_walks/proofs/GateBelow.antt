@@ -4,7 +4,7 @@ use Rattle.std.proofs.lemmas.Bool.{and_parts, false≢true}
 use Rattle.fst_types.specs.{Closure.join, Dependencies.DependsOn, Patches.Patch}
 use Rattle.fst_heads.specs.{Grading.{HasUnder, IsOpenBut}, Heads.{IsRising, patch_of, patches_of}, Indices.HasIndex, Tests.passes, declared.head.Head.Head}
 use Rattle.fst_heads.proofs.Graded.{passes_open, open_passes}
-use Rattle.fst_walks.proofs.NearRow.{passes_here, here_passes}
+use Rattle.fst_levels.proofs.NearRow.{passes_here, here_passes}
 use Rattle.fst_heads.specs.declared.test.Test.TheVariants as test
 
 -- what holds of each of two holds of either

@@ -8,8 +8,10 @@ use Rattle.fst_types.proofs.{Crash.same_number, SmallStates.only_in}
 use Rattle.fst_heads.specs.{Grading.{HasUnder, LeadsNowhere, IsHardNumber}, Heads.{IsRising as AreRising, patches_of}, Indices.PassesAt}
 use Rattle.fst_heads.specs.{Reaching.{ShowsBlocks}, Tests.passes, declared.head.Head.Head}
 use Rattle.fst_heads.proofs.{Listing.rising_patches}
-use Rattle.fst_walks.specs.{BothEnds.{AreApart, ComesTo, EndApart, IsFirstAway, IsLowChange, LeadTogether, StepsAway, StepsHigh, StepsLow, StepsTo}, Descending.{IsLedFrom, Visits}, Leveling.AreLeveled, Needing.AreNeeded, WayBack.{LeadsBack, StepsUp}}
-use Rattle.fst_walks.proofs.{BothEnds.{Leads, away_depends, leads_on, led_leads, leads_led, goes_up, back_leads, backs_up, none_leads, off_live, ups_back}, ComesBack.{live_number, off_not_on}, Holding.live_up, NearRow.rests_may, Needed.{StepsDown, StepsWhole, steps_whole, whole_met}, Trails.none_in}
+use Rattle.fst_walks.specs.{BothEnds.{AreApart, ComesTo, EndApart, IsFirstAway, IsLowChange, LeadTogether, StepsAway, StepsHigh, StepsLow, StepsTo}, Descending.{IsLedFrom, Visits}}
+use Rattle.fst_levels.specs.{Leveling.AreLeveled, Needing.AreNeeded, WayBack.{LeadsBack, StepsUp}}
+use Rattle.fst_levels.proofs.{NoWayBack.{Leads, leads_on, goes_up, back_leads, none_leads, off_live}, ComesBack.{live_number, off_not_on}, Holding.live_up, NearRow.rests_may, Trails.none_in}
+use Rattle.fst_walks.proofs.{BothEnds.{away_depends, led_leads, leads_led, backs_up, ups_back}, Needed.{StepsDown, StepsWhole, steps_whole, whole_met}}
 use Rattle.fst_heads.specs.declared.test.Test.TheVariants as test
 
 -- whether the patch passes is known

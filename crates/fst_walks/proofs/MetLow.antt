@@ -3,8 +3,10 @@ use Rattle.std.proofs.Common.{◌≡◌, ◌≤◌, ◌↔◌, [], ℕ, Bool, Li
 use Rattle.std.proofs.lemmas.Bool.{cases_eq}
 use Rattle.fst_types.specs.{Closure.{Closure, one, join}, Dependencies.IsLiveNumber, Patches.Patch}
 use Rattle.fst_heads.specs.{Indices.PassesAt, Reaching.{ShowsBlocks}}
-use Rattle.fst_walks.specs.{BothEnds.{IsLowChange, StepsLow}, Descending.{IsLedFrom, Visits}, Lifting.MeetsLow, WayBack.StepsUp}
-use Rattle.fst_walks.proofs.{Ascended.led_on, CrossingBack.change_live, Trails.none_in}
+use Rattle.fst_walks.specs.{BothEnds.{IsLowChange, StepsLow}, Descending.{IsLedFrom, Visits}}
+use Rattle.fst_levels.specs.{Lifting.MeetsLow, WayBack.StepsUp}
+use Rattle.fst_walks.proofs.Ascended.{led_on}
+use Rattle.fst_levels.proofs.{Above.change_live, Trails.none_in}
 use Rattle.fst_heads.specs.declared.test.Test.TheVariants as test
 
 module _ (patches : List Patch) (level : ℕ → ℕ) (b most : ℕ) (crossed : List Bool) (shown : ShowsBlocks crossed (λ c. c ≡ b)) (start met : List ℕ)

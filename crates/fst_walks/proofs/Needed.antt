@@ -7,8 +7,9 @@ use Rattle.fst_types.specs.declared.grade.Grade.TheVariants as grade
 use Rattle.fst_types.proofs.Crash.{same_number}
 use Rattle.fst_heads.specs.{Grading.IsHardNumber, Indices.PassesAt, Reaching.{IsHardIn, IsReached, ShowsBlocks}}
 use Rattle.fst_heads.proofs.{Graded.{off_to, on_to}}
-use Rattle.fst_walks.specs.{BothEnds.{CrossesDown, GoesBelow}, Descending.IsLedFrom, Needing.{AreNeeded, IsHardAt, IsSpared, StaysOn}}
-use Rattle.fst_walks.proofs.{ComesBack.{live_number, live_on}}
+use Rattle.fst_walks.specs.{BothEnds.{CrossesDown, GoesBelow}, Descending.IsLedFrom}
+use Rattle.fst_levels.specs.Needing.{AreNeeded, IsHardAt, IsSpared, StaysOn}
+use Rattle.fst_levels.proofs.ComesBack.{live_number, live_on}
 use Rattle.fst_types.specs.declared.place.Place.TheVariants as place
 use Rattle.fst_heads.specs.declared.test.Test.TheVariants as test
 use Rattle.fst_types.proofs.Numbers.{one_block}

@@ -6,7 +6,7 @@ use Rattle.fst_heads.specs.{Heads.patches_of, Indices.{IsAbove, HasIndex}, Nodes
 use Rattle.fst_heads.specs.declared.pending.Pending.{Pending}
 use Rattle.fst_heads.proofs.{AtNumber.patches_in_nodes, PendingAt.node_in, Placed.node_of_patch, Indices.any_default, Waiting.times_some}
 use Rattle.fst_walks.specs.{Descending.{IsLedFrom, Visits}, Searching.{AreHeldByGates, IsNextHeld}}
-use Rattle.fst_walks.proofs.Trails.{none_in}
+use Rattle.fst_levels.proofs.Trails.{none_in}
 use Rattle.fst_heads.specs.declared.pending.Pending.TheVariants as pending
 
 module _ (patches : List Patch) (told : ℕ → Pending) (held : AreHeldByGates patches told) (gate : ℕ) (is_open : IsOpenNumber patches gate) where

@@ -6,7 +6,8 @@ use Rattle.fst_heads.specs.Nodes.{Node, patches_in, pending_in, AreLinked}
 use Rattle.fst_heads.specs.declared.pending.Pending.{Pending}
 use Rattle.fst_heads.proofs.{PendingIn.found, Placed.{patch_in, node_of_patch}, Waiting.{times_some, some_times}}
 use Rattle.fst_walks.specs.{Descending.{IsLedFrom, Visits}, Searching.{AreHeldByGates, IsBetween, IsNextAbove, StayApart}}
-use Rattle.fst_walks.proofs.{Searched.{above_held, searched_led, steps_down}, Trails.none_in}
+use Rattle.fst_walks.proofs.Searched.{above_held, searched_led, steps_down}
+use Rattle.fst_levels.proofs.Trails.{none_in}
 use Rattle.fst_heads.specs.declared.pending.Pending.TheVariants as pending
 
 -- the steps up from a node are to those of its dependants that wait for an open gate

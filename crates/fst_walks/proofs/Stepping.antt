@@ -3,7 +3,8 @@ use Rattle.std.proofs.Common.{◌≡◌, ◌<◌, ◌≤◌, ◌+◌, ◌⊎◌,
 use Rattle.std.proofs.lemmas.{Bool.{cases_Bool, false≢true}, List.Elements.{Contains-get_or}}
 use Rattle.fst_types.specs.{Dependencies.DirectlyOn, Patches.Patch}
 use Rattle.fst_heads.specs.{Grading.IsHardNumber, Indices.PassesAt, Reaching.IsReached}
-use Rattle.fst_walks.specs.{BothEnds.{CrossesDown, IsHighNeed, IsLow, IsLowChange, ShowsBlockUnder, StepsBelow, StepsHigh, StepsLow}, Descending.{IsLedFrom, Visits}, WayBack.{Crosses, ShowsBlockOf}}
+use Rattle.fst_walks.specs.{BothEnds.{CrossesDown, IsHighNeed, IsLow, IsLowChange, ShowsBlockUnder, StepsBelow, StepsHigh, StepsLow}, Descending.{IsLedFrom, Visits}}
+use Rattle.fst_levels.specs.WayBack.{Crosses, ShowsBlockOf}
 use Rattle.fst_walks.proofs.{Ascended.{Walking, climbing_at, climbing_begun, led_on, next_or_done}, Visiting.visits_old}
 use Rattle.fst_heads.specs.declared.test.Test.TheVariants as test
 

@@ -4,8 +4,9 @@ use Rattle.std.proofs.lemmas.Bool.{false≢true}
 use Rattle.fst_types.specs.{Facts.IsOnDiskWithAll, Grades.FollowsRule, Patches.{Patch, IsRising}}
 use Rattle.fst_types.specs.declared.grade.Grade.TheVariants as grade
 use Rattle.fst_heads.specs.Grading.{LeadsNowhere}
-use Rattle.fst_walks.specs.{Telling.IsTold, WayBack.LeadsBack, declared.graded.Graded.Graded}
-use Rattle.fst_walks.proofs.BothEnds.{back_leads}
+use Rattle.fst_walks.specs.{Telling.IsTold, declared.graded.Graded.Graded}
+use Rattle.fst_levels.specs.WayBack.{LeadsBack}
+use Rattle.fst_levels.proofs.NoWayBack.{back_leads}
 
 pub told_soft : (patches : List Patch) (b : ℕ) (row : List ℕ) (may : Type 0) (told : Graded) (end : Option ℕ) → told.grade ≡ grade.Soft → told.end ≡ end → (may → ⊥) → IfSome end (LeadsBack patches b row) → IsTold patches b row may told
 told_soft patches b row may told end soft same never back = record {

@@ -1,18 +1,11 @@
 -- What a walk traces down over what another has met.
-use Rattle.std.proofs.Common.{◌≡◌, ◌≢◌, ◌⊎◌, ◌<◌, ◌-◌, ℕ, List, Option, Some, None, IfSome, length, take, drop, reverse, get_or, Contains, sym, subst, ◌∙◌, inl, inr, arith}
-use Rattle.std.proofs.lemmas.{List.{get_or-reverse, length-reverse, take-append-drop, take_rest}, List.Elements.Contains-append_right}
+use Rattle.std.proofs.Common.{◌≡◌, ◌≢◌, ◌⊎◌, ◌-◌, ℕ, List, Option, Some, None, IfSome, length, take, drop, get_or, Contains, sym, subst, ◌∙◌, inl, inr}
+use Rattle.std.proofs.lemmas.{List.{take-append-drop, take_rest}, List.Elements.Contains-append_right}
 use Rattle.fst_types.specs.{Closure.{Closure, one, join}, Dependencies.IsLiveNumber, Patches.IsOn}
 use Rattle.fst_heads.specs.{Heads.{IsRising, patch_of, patches_of}, Indices.HasIndex, declared.head.Head.Head}
 use Rattle.fst_heads.proofs.{Indices.{direct_at, some_element}}
 use Rattle.fst_walks.specs.BothEnds.{IsNeed, StepsTo}
 use Rattle.fst_walks.proofs.CrossingDown.{here_on}
-
--- what stands somewhere in a list read backwards is in it
-pub in_reversed : {X : Type 0} (xs : List X) (k : ℕ) (x : X) → k < length (reverse xs) → x ≡ get_or (reverse xs) k x → Contains xs x
-in_reversed xs k x lt e =
-    let long = length-reverse xs in
-    let inside : k < length xs = omega (arith, lt, long) in
-    (length xs - 1 - k, omega (arith, inside), sym (get_or-reverse xs k x inside) ∙ sym e)
 
 -- what is in the rest of a list is in it
 pub in_rest : {X : Type 0} (xs : List X) (from : ℕ) (x : X) → Contains (take (length xs - from) (drop from xs)) x → Contains xs x

@@ -2,7 +2,8 @@
 use Rattle.std.specs.Prelude.{◌≡◌, ◌≢◌, ◌≤◌, ◌⊎◌, ℕ, Bool, List, length, Contains}
 use Rattle.fst_types.specs.{Closure.Closure, Dependencies.{DirectlyOn, IsLiveNumber}, Patches.{Patch, IsLive}}
 use Rattle.fst_heads.specs.{Grading.IsHardNumber, Indices.PassesAt, Reaching.IsReached, declared.head.Head.Head}
-use Rattle.fst_walks.specs.{Descending.IsLedFrom, WayBack.Crosses, declared.block_walk.BlockWalk.BlockWalk}
+use Rattle.fst_walks.specs.{Descending.IsLedFrom, declared.block_walk.BlockWalk.BlockWalk}
+use Rattle.fst_levels.specs.WayBack.{Crosses}
 use Rattle.fst_heads.specs.declared.test.Test.TheVariants as test
 
 -- the way down to the first changes of other blocks goes through p: it is none, nor a hard change of b in memory, below which nothing leads back to b

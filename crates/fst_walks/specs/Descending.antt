@@ -2,7 +2,7 @@
 use Rattle.std.specs.Prelude.{◌≡◌, ◌⊎◌, ◌++◌, ℕ, List, length, Contains}
 use Rattle.fst_types.specs.{Closure.Closure, Dependencies.IsLiveNumber}
 use Rattle.fst_heads.specs.{Heads.patches_of, declared.head.Head.Head}
-use Rattle.fst_walks.specs.Walks.{Trail, numbers_met}
+use Rattle.fst_levels.specs.Walks.{Trail, numbers_met}
 
 -- n is one of those from which a walk with these steps starts, or steps lead from one of them to it
 abbrev pub IsLedFrom : (ℕ → ℕ → Type 0) → List ℕ → ℕ → Type 0

@@ -2,11 +2,4 @@ pub mod Searching
 pub mod Starting
 pub mod Telling
 pub mod Descending
-pub mod WayBack
-pub mod Walks
-pub mod Sights
-pub mod Ancestors
-pub mod Leveling
-pub mod Lifting
 pub mod BothEnds
-pub mod Needing

@@ -2,7 +2,8 @@
 use Rattle.std.specs.Prelude.{◌≡◌, ◌⊎◌, ◌↔◌, ℕ, List, length, Contains}
 use Rattle.fst_types.specs.{Dependencies.{DirectlyOn, DependsOn, IsLiveNumber}, Gates.IsOpenNumber, Patches.Patch}
 use Rattle.fst_heads.specs.{Heads.patches_of, Indices.IsAbove, Nodes.{nodes_of, pending_in}, Rows.IsTouched, declared.head.Head.Head}
-use Rattle.fst_walks.specs.{BothEnds.AreApart, Descending.{IsLedFrom, Visited}, Walks.numbers_met, declared.ends.Ends.Ends}
+use Rattle.fst_walks.specs.{BothEnds.AreApart, Descending.{IsLedFrom, Visited}, declared.ends.Ends.Ends}
+use Rattle.fst_levels.specs.Walks.{numbers_met}
 use Rattle.fst_heads.specs.declared.pending.Pending.{Pending}
 use Rattle.fst_heads.specs.declared.pending.Pending.TheVariants as pending
 

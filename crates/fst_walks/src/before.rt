@@ -6,13 +6,13 @@
 ghost use Rattle.std.specs.Prelude.{◌≡◌, ◌⊎◌, ◌<◌, ℕ, length, Contains, IsTrue, IfSome};
 ghost use Rattle.fst_heads.specs.Grading.{IsHardNumber, LeadsNowhere};
 ghost use Rattle.fst_heads.specs.Heads.{patches_of};
-ghost use Rattle.fst_walks.specs.Sights.{Sees};
+ghost use Rattle.fst_levels.specs.Sights.{Sees};
 ghost use Rattle.fst_walks.specs.Telling.{IsTold};
 
 use crate::graded::{Graded, hard, soft};
-use crate::known::known_end;
-use crate::shortcuts::{is_found, is_hard_at, is_hard_in};
-use crate::sight::Sight;
+use fst_levels::known::known_end;
+use fst_levels::shortcuts::{is_found, is_hard_at, is_hard_in};
+use fst_levels::sight::Sight;
 
 // How many of the newest changes are looked at.
 const NEWEST: usize = 8;

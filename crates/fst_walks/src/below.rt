@@ -14,20 +14,20 @@ ghost use Rattle.fst_heads.specs.Heads.{IsRising, patches_of};
 ghost use Rattle.fst_heads.specs.Indices.{PassesAt};
 ghost use Rattle.fst_walks.specs.BothEnds.{ComesTo, IsAwayFrom, IsOver, ShowsBlockUnder, StepsHigh};
 ghost use Rattle.fst_walks.specs.Descending.{Visited, Visits};
-ghost use Rattle.fst_walks.specs.Leveling.{level_of};
-ghost use Rattle.fst_walks.specs.Needing.{needs_of};
-ghost use Rattle.fst_walks.specs.Sights.{Sees};
+ghost use Rattle.fst_levels.specs.Leveling.{level_of};
+ghost use Rattle.fst_levels.specs.Needing.{needs_of};
+ghost use Rattle.fst_levels.specs.Sights.{Sees};
 ghost use Rattle.fst_walks.specs.Telling.{IsTold};
-ghost use Rattle.fst_walks.specs.Walks.{numbers_met};
+ghost use Rattle.fst_levels.specs.Walks.{numbers_met};
 
 use crate::block_walk::BlockWalk;
 use crate::first_away::{FEW, visit_first_away};
 use crate::graded::{Graded, hard_after, soft};
-use crate::sight::Sight;
-use crate::walk::Walk;
 use crate::way_down::{change_across, step_down};
 use fst_heads::head::Head;
 use fst_heads::test::{Test, passes};
+use fst_levels::sight::Sight;
+use fst_levels::walk::Walk;
 
 // How many patches may be looked at for each change of the block: more as long as they are few.
 const LOOKS: usize = 4;

@@ -4,7 +4,7 @@ ghost use Rattle.std.specs.Prelude.{◌≡◌, ◌<◌, length};
 ghost use Rattle.fst_heads.specs.Reaching.{ShowsBlocks};
 
 use crate::descent::show_only;
-use crate::walk::Walk;
+use fst_levels::walk::Walk;
 
 /// A walk, and for each block whether it is shown as crossed.
 #[derive(Drop)]

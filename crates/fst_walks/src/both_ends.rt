@@ -10,22 +10,22 @@ ghost use Rattle.fst_heads.specs.Heads.{IsRising, patches_of};
 ghost use Rattle.fst_heads.specs.Indices.{HasIndex};
 ghost use Rattle.fst_walks.specs.BothEnds.{AreApart, EndApart, IsOver, LeadTogether, ShowsBlockUnder, StepsHigh, StepsLow};
 ghost use Rattle.fst_walks.specs.Descending.{Visited, Visits};
-ghost use Rattle.fst_walks.specs.Leveling.{level_of};
-ghost use Rattle.fst_walks.specs.Needing.{needs_of};
-ghost use Rattle.fst_walks.specs.Sights.{Sees};
+ghost use Rattle.fst_levels.specs.Leveling.{level_of};
+ghost use Rattle.fst_levels.specs.Needing.{needs_of};
+ghost use Rattle.fst_levels.specs.Sights.{Sees};
 ghost use Rattle.fst_walks.specs.Telling.{IsTold};
-ghost use Rattle.fst_walks.specs.Walks.{numbers_met};
-ghost use Rattle.fst_walks.specs.WayBack.{ShowsBlockOf};
+ghost use Rattle.fst_levels.specs.Walks.{numbers_met};
+ghost use Rattle.fst_levels.specs.WayBack.{ShowsBlockOf};
 
 use crate::ends::{Ends, Looked, meets};
 use crate::first_away::{FEW, visit_first_away};
 use crate::graded::{Graded, hard_after, soft};
-use crate::sight::Sight;
 use crate::trace::trace;
-use crate::walk::Walk;
 use crate::way_down::step_down;
 use crate::way_up::{step_up, visit_low_changes};
 use fst_heads::head::Head;
+use fst_levels::sight::Sight;
+use fst_levels::walk::Walk;
 
 // The greatest level of what the walk has met.
 fn highest(sight: &Sight<'_>, walk: &Walk) -> u32

@@ -16,19 +16,19 @@ ghost use Rattle.fst_heads.specs.Names.{numbers_of};
 ghost use Rattle.fst_heads.specs.Indices.{HasIndex};
 ghost use Rattle.fst_heads.specs.Nodes.{AreLinked, nodes_of, pending_in};
 ghost use Rattle.fst_walks.specs.Searching.{AreOver, IsBetween, IsNextAbove, IsNextHeld, StayApart, TellsGates, WalkApart};
-ghost use Rattle.fst_walks.specs.Sights.{Sees};
+ghost use Rattle.fst_levels.specs.Sights.{Sees};
 ghost use Rattle.fst_walks.specs.Starting.{StartsAbove};
-ghost use Rattle.fst_walks.specs.Walks.{numbers_met};
+ghost use Rattle.fst_levels.specs.Walks.{numbers_met};
 
-use crate::ancestors::names_lead_to;
 use crate::ends::{Ends, Looked, meets};
-use crate::sight::Sight;
 use crate::starts::{Starts, visit_starts};
-use crate::walk::Walk;
 use fst_heads::head::Head;
 use fst_heads::index::index_of;
 use fst_heads::pending::{Pending, is_pending};
 use fst_heads::row::pending_at;
+use fst_levels::ancestors::names_lead_to;
+use fst_levels::sight::Sight;
+use fst_levels::walk::Walk;
 use fst_types::PatchNo;
 
 /// Visits the patch with the number if it waits for an open gate.

@@ -5,14 +5,14 @@ ghost use Rattle.fst_types.specs.Dependencies.{IsLiveNumber};
 ghost use Rattle.fst_heads.specs.declared.test.Test.TheVariants as test;
 ghost use Rattle.fst_walks.specs.Descending.{Visited, Visits};
 ghost use Rattle.fst_heads.specs.Heads.{IsRising, patches_of};
-ghost use Rattle.fst_walks.specs.Walks.{numbers_met};
+ghost use Rattle.fst_levels.specs.Walks.{numbers_met};
 ghost use Rattle.fst_heads.specs.Indices.{PassesAt};
 ghost use Rattle.fst_heads.specs.Reaching.{ShowsBlocks};
 
-use crate::walk::Walk;
 use fst_heads::head::Head;
 use fst_heads::index::index_of;
 use fst_heads::test::{Test, is_live};
+use fst_levels::walk::Walk;
 
 /// Visits the patch with the number, unless it is on disk or was visited before.
 pub fn visit(heads: &[Head], walk: &mut Walk, number: u32)

@@ -5,11 +5,11 @@ ghost use Rattle.fst_heads.specs.Heads.{IsRising};
 ghost use Rattle.fst_heads.specs.Indices.{HasIndex};
 ghost use Rattle.fst_walks.specs.BothEnds.{IsOver};
 ghost use Rattle.fst_walks.specs.Descending.{Visited};
-ghost use Rattle.fst_walks.specs.Walks.{numbers_met};
+ghost use Rattle.fst_levels.specs.Walks.{numbers_met};
 
 use crate::block_walk::BlockWalk;
-use crate::walk::Walk;
 use fst_heads::head::Head;
+use fst_levels::walk::Walk;
 use std::alloc::{AllocError, Global};
 
 /// The walk up and the walk down.

@@ -7,16 +7,16 @@ ghost use Rattle.fst_heads.specs.Heads.{IsRising, patches_of};
 ghost use Rattle.fst_heads.specs.Indices.{HasIndex};
 ghost use Rattle.fst_walks.specs.BothEnds.{GoesThrough, IsFirstAway, StepsAway};
 ghost use Rattle.fst_walks.specs.Descending.{IsLedFrom, Visited, Visits};
-ghost use Rattle.fst_walks.specs.Sights.{Sees};
-ghost use Rattle.fst_walks.specs.Walks.{numbers_met};
+ghost use Rattle.fst_levels.specs.Sights.{Sees};
+ghost use Rattle.fst_levels.specs.Walks.{numbers_met};
 
 use crate::descent::keep_away;
-use crate::shortcuts::{is_hard_in, newest_few};
-use crate::sight::Sight;
-use crate::walk::Walk;
 use crate::way_down::visit_high_row;
 use fst_heads::head::Head;
 use fst_heads::test::{Test, passes};
+use fst_levels::shortcuts::{is_hard_in, newest_few};
+use fst_levels::sight::Sight;
+use fst_levels::walk::Walk;
 
 /// At how many patches below a row a search looks before it begins with those that it has found.
 pub const FEW: usize = 256;

@@ -10,13 +10,13 @@ ghost use Rattle.fst_heads.specs.Grading.{HasUnder, IsOpenBut};
 ghost use Rattle.fst_heads.specs.Heads.{patch_of, patches_of};
 ghost use Rattle.fst_heads.specs.Indices.{HasIndex};
 ghost use Rattle.fst_heads.specs.Tests.{passes};
-ghost use Rattle.fst_walks.specs.Sights.{Sees};
+ghost use Rattle.fst_levels.specs.Sights.{Sees};
 
-use crate::shortcuts::newest_few;
-use crate::sight::Sight;
 use fst_heads::head::Head;
 use fst_heads::pending::{Pending, is_pending};
 use fst_heads::test::{Test, passes};
+use fst_levels::shortcuts::newest_few;
+use fst_levels::sight::Sight;
 
 // How many steps are taken, and how many of what a patch directly depends on are looked at.
 const STEPS: usize = 4_096;

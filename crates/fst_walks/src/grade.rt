@@ -2,7 +2,7 @@
 //! that it depends on can come to wait for its block: no open gate, no change of another block that needs one of its
 //! block, and no block from which the block graph leads to its block. The first step that tells is the last that is taken:
 //! docs/grades.md has them in their order, and for most a script that takes several times as long without it. A step that
-//! finds a way back tells where it ends too, so that the way is known from then on (`needs`).
+//! finds a way back tells where it ends too, so that the way is known from then on (`fst_levels::needs`).
 //!
 //! A gate that is sealed with the change is taken as sealed already: that sets free what it alone blocks, and moves no
 //! change and no dependency.
@@ -11,19 +11,19 @@ ghost use Rattle.std.specs.Prelude.{◌<◌, length};
 ghost use Rattle.fst_heads.specs.Grading.{LeadsNowhere, MayBeHard};
 ghost use Rattle.fst_heads.specs.Heads.{patches_of};
 ghost use Rattle.fst_walks.specs.BothEnds.{IsOver};
-ghost use Rattle.fst_walks.specs.Sights.{Sees};
+ghost use Rattle.fst_levels.specs.Sights.{Sees};
 ghost use Rattle.fst_walks.specs.Telling.{IsTold};
 
-use crate::ancestors::leads_to_block;
 use crate::before::told_before;
 use crate::below::grade_below;
 use crate::both_ends::grade_between;
 use crate::ends::Ends;
 use crate::graded::{Graded, hard, soft};
-use crate::known::leads_over_known;
 use crate::other_gates::is_blocked;
-use crate::shortcuts::{is_clean, stays_below, waits_for_own_block};
-use crate::sight::Sight;
+use fst_levels::ancestors::leads_to_block;
+use fst_levels::known::leads_over_known;
+use fst_levels::shortcuts::{is_clean, stays_below, waits_for_own_block};
+use fst_levels::sight::Sight;
 
 // What is told of a new change of the block with that row but for open gates. What was met and crossed before does not
 // matter.

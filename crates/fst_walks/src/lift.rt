@@ -6,17 +6,17 @@ ghost use Rattle.std.specs.Prelude.{◌≡◌, ◌<◌, ◌↔◌, ℕ, true, le
 ghost use Rattle.fst_heads.specs.Heads.{patches_of};
 ghost use Rattle.fst_walks.specs.BothEnds.{StepsLow};
 ghost use Rattle.fst_walks.specs.Descending.{IsLedFrom, Visited};
-ghost use Rattle.fst_walks.specs.Leveling.{level_of};
-ghost use Rattle.fst_walks.specs.Lifting.{IsRise, MeetsLow};
-ghost use Rattle.fst_walks.specs.Sights.{Sees};
-ghost use Rattle.fst_walks.specs.Walks.{numbers_met};
+ghost use Rattle.fst_levels.specs.Leveling.{level_of};
+ghost use Rattle.fst_levels.specs.Lifting.{IsRise, MeetsLow};
+ghost use Rattle.fst_levels.specs.Sights.{Sees};
+ghost use Rattle.fst_levels.specs.Walks.{numbers_met};
 
 use crate::descent::show_only;
 use crate::graded::Graded;
-use crate::levels::{Rise, TOP};
-use crate::sight::Sight;
-use crate::walk::Walk;
 use crate::way_up::{step_up, visit_low_changes};
+use fst_levels::levels::{Rise, TOP};
+use fst_levels::sight::Sight;
+use fst_levels::walk::Walk;
 use fst_types::Grade;
 
 // A lift that meets many patches goes further up than it has to, by a level for each so many: so what costs much is done

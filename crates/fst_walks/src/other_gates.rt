@@ -8,15 +8,15 @@ ghost use Rattle.fst_heads.specs.Heads.{IsRising, patches_of};
 ghost use Rattle.fst_heads.specs.Nodes.{nodes_of, pending_in};
 ghost use Rattle.fst_walks.specs.Descending.{IsLedFrom, Visited};
 ghost use Rattle.fst_walks.specs.Searching.{IsNextHeld, TellsGates};
-ghost use Rattle.fst_walks.specs.Sights.{Sees};
-ghost use Rattle.fst_walks.specs.Walks.{numbers_met};
+ghost use Rattle.fst_levels.specs.Sights.{Sees};
+ghost use Rattle.fst_levels.specs.Walks.{numbers_met};
 
 use crate::cycle::visit_row;
 use crate::gate_below::{is_other_gate, leads_to_gate};
-use crate::shortcuts::waits_for_gate;
-use crate::sight::Sight;
-use crate::walk::Walk;
 use fst_heads::head::Head;
+use fst_levels::shortcuts::waits_for_gate;
+use fst_levels::sight::Sight;
+use fst_levels::walk::Walk;
 
 // Whether an open gate besides this one is met on the way down from what was visited. It ends at the first.
 fn search_other(heads: &[Head], walk: &mut Walk, gate: u32) -> bool

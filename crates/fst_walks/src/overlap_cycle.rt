@@ -9,15 +9,15 @@ ghost use Rattle.fst_heads.specs.Heads.{IsRising, patches_of};
 ghost use Rattle.fst_heads.specs.Nodes.{AreLinked, nodes_of};
 ghost use Rattle.fst_heads.specs.Rows.{IsTouched};
 ghost use Rattle.fst_walks.specs.Searching.{AreOver, TouchedReaches};
-ghost use Rattle.fst_walks.specs.Sights.{Sees};
+ghost use Rattle.fst_levels.specs.Sights.{Sees};
 ghost use Rattle.fst_walks.specs.Starting.{IsStart};
 
 use crate::cycle::starts_close;
 use crate::ends::Ends;
-use crate::sight::Sight;
 use crate::starts::Starts;
 use fst_heads::head::Head;
 use fst_heads::index::index_of;
+use fst_levels::sight::Sight;
 use fst_types::Span;
 
 // Whether something may depend on the patch with the number.

@@ -11,15 +11,15 @@ ghost use Rattle.fst_heads.specs.Rows.{IsTouched};
 ghost use Rattle.fst_walks.specs.Descending.{Visited, Visits};
 ghost use Rattle.fst_walks.specs.Searching.{TellsGates};
 ghost use Rattle.fst_walks.specs.Starting.{IsSharing, IsStart, numbers_told};
-ghost use Rattle.fst_walks.specs.Walks.{numbers_met};
+ghost use Rattle.fst_levels.specs.Walks.{numbers_met};
 
 use crate::cycle::visit_held;
-use crate::walk::Walk;
 use fst_heads::cover::Run;
 use fst_heads::head::Head;
 use fst_heads::lists::Listed;
 use fst_heads::row::shares;
 use fst_heads::sparse::is_touched;
+use fst_levels::walk::Walk;
 use fst_types::{PatchNo, Span};
 
 /// The patches where a search for a cycle starts.

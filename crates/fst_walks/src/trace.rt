@@ -9,14 +9,14 @@ ghost use Rattle.fst_heads.specs.Heads.{patches_of};
 ghost use Rattle.fst_heads.specs.Indices.{HasIndex, PassesAt};
 ghost use Rattle.fst_walks.specs.BothEnds.{IsNeed, StepsTo};
 ghost use Rattle.fst_walks.specs.Descending.{Visited};
-ghost use Rattle.fst_walks.specs.Needing.{needs_of};
-ghost use Rattle.fst_walks.specs.Sights.{Sees};
+ghost use Rattle.fst_levels.specs.Needing.{needs_of};
+ghost use Rattle.fst_levels.specs.Sights.{Sees};
 
-use crate::shortcuts::newest_few;
-use crate::sight::Sight;
-use crate::walk::Walk;
 use fst_heads::head::Kind;
 use fst_heads::test::{Test, passes};
+use fst_levels::shortcuts::newest_few;
+use fst_levels::sight::Sight;
+use fst_levels::walk::Walk;
 
 // How far it is traced.
 const STEPS: u32 = 256;

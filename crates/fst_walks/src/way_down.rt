@@ -12,16 +12,16 @@ ghost use Rattle.fst_heads.specs.declared.test.Test.TheVariants as test;
 ghost use Rattle.fst_heads.specs.Indices.{HasIndex, PassesAt};
 ghost use Rattle.fst_walks.specs.BothEnds.{CrossesDown, IsHigh, IsHighNeed, ShowsBlockUnder, StepsBelow, StepsHigh};
 ghost use Rattle.fst_walks.specs.Descending.{Visited, Visits};
-ghost use Rattle.fst_walks.specs.Leveling.{level_of};
-ghost use Rattle.fst_walks.specs.Needing.{needs_of};
-ghost use Rattle.fst_walks.specs.Sights.{Sees};
-ghost use Rattle.fst_walks.specs.Walks.{numbers_met};
+ghost use Rattle.fst_levels.specs.Leveling.{level_of};
+ghost use Rattle.fst_levels.specs.Needing.{needs_of};
+ghost use Rattle.fst_levels.specs.Sights.{Sees};
+ghost use Rattle.fst_levels.specs.Walks.{numbers_met};
 
-use crate::shortcuts::{is_hard_in, passes_at};
-use crate::sight::Sight;
-use crate::walk::Walk;
 use fst_heads::head::{Head, Kind};
 use fst_heads::test::{Test, is_live};
+use fst_levels::shortcuts::{is_hard_in, passes_at};
+use fst_levels::sight::Sight;
+use fst_levels::walk::Walk;
 
 // Visits the patch with the number, unless it is on disk, lower than `least` or was visited before. It looks at the head
 // only where that is high enough and was not visited: most are too low or were, and heads are far larger than ranks.

@@ -7,15 +7,15 @@ ghost use Rattle.fst_heads.specs.Heads.{patches_of};
 ghost use Rattle.fst_heads.specs.Indices.{HasIndex};
 ghost use Rattle.fst_walks.specs.BothEnds.{IsLow, IsLowChange, IsOffDisk, StepsLow};
 ghost use Rattle.fst_walks.specs.Descending.{Visited, Visits};
-ghost use Rattle.fst_walks.specs.Leveling.{level_of};
-ghost use Rattle.fst_walks.specs.Sights.{Sees};
-ghost use Rattle.fst_walks.specs.Walks.{numbers_met};
-ghost use Rattle.fst_walks.specs.WayBack.{Crosses, ShowsBlockOf};
+ghost use Rattle.fst_levels.specs.Leveling.{level_of};
+ghost use Rattle.fst_levels.specs.Sights.{Sees};
+ghost use Rattle.fst_levels.specs.Walks.{numbers_met};
+ghost use Rattle.fst_levels.specs.WayBack.{Crosses, ShowsBlockOf};
 
-use crate::shortcuts::is_hard_in;
-use crate::sight::Sight;
-use crate::walk::Walk;
 use fst_heads::head::Kind;
+use fst_levels::shortcuts::is_hard_in;
+use fst_levels::sight::Sight;
+use fst_levels::walk::Walk;
 
 // Visits the patch with the number, which is not on disk, unless it is higher than `most` or was visited before. It looks
 // at heads only where numbers are missing among the newest ranks.

@@ -4,7 +4,7 @@ ghost use Rattle.fst_graph.specs.Known.{Forgets};
 
 use crate::prepared::let_go;
 use crate::sparse::Sparse;
-use fst_walks::flags::flag_all;
+use fst_levels::flags::flag_all;
 
 // So many heads of patches on disk may stay whatever else there is. They take less than a megabyte; and as long as none between
 // is dropped, the head with a number is found at once.

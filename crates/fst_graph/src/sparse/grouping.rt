@@ -16,9 +16,9 @@ use crate::refusals::{reaches_tail, room_fault};
 use crate::sparse::Sparse;
 use crate::sparse::reserving::{reserve_around, reserve_in};
 use fst_heads::cascade::{cascade, seal_at};
+use fst_levels::ancestors::renew;
+use fst_levels::sight::Sight;
 use fst_types::{BlockNo, Fault, Grade, PatchNo, Span};
-use fst_walks::ancestors::renew;
-use fst_walks::sight::Sight;
 
 impl Sparse {
     /// Makes room for a new change of the group with these gates, and answers the number and the grade that it will have.

@@ -29,11 +29,11 @@ use fst_heads::lists::Listed;
 use fst_heads::pending::{Pending, is_of_block};
 use fst_heads::row::row_sums;
 use fst_heads::standing::Standing;
+use fst_levels::ancestors::ancestry_over;
+use fst_levels::levels::Rank;
+use fst_levels::sight::Sight;
 use fst_types::{BlockNo, Fault, Grade, PatchNo, Place, Span};
-use fst_walks::ancestors::ancestry_over;
-use fst_walks::levels::Rank;
 use fst_walks::lift::rise_of;
-use fst_walks::sight::Sight;
 use std::alloc::Global;
 
 // The gate gains the number, which is that of the newest patch.

@@ -7,7 +7,7 @@ ghost use Rattle.fst_heads.specs.Covers.{AreCovered, Covering, HasRoomForRuns};
 ghost use Rattle.fst_heads.specs.Heads.{IsRising};
 ghost use Rattle.fst_heads.specs.Lists.{entries_of, HasRoomInList};
 ghost use Rattle.fst_types.specs.Patches.{Patch};
-ghost use Rattle.fst_walks.specs.declared.needs.Way.{Way};
+ghost use Rattle.fst_levels.specs.declared.needs.Way.{Way};
 
 use crate::fresh::{reserve_heads, reserve_landed};
 use crate::prepared::{Prepared, reserve_on};
@@ -15,9 +15,9 @@ use fst_heads::cover::Cover;
 use fst_heads::head::Head;
 use fst_heads::links::{reserve_above, reserve_below};
 use fst_heads::lists::Listed;
+use fst_levels::levels::Levels;
+use fst_levels::needs::Needs;
 use fst_walks::ends::Ends;
-use fst_walks::levels::Levels;
-use fst_walks::needs::Needs;
 use std::alloc::AllocError;
 
 /// Room for the head of the change, and around it: for one more dependant of each patch of its row, and for one more name of

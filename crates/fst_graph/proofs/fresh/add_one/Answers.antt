@@ -1,9 +1,9 @@
 use Rattle.std.proofs.Common.{◌≡◌, ◌∙◌, arith, ap, length, subst}
 use Rattle.fst_heads.specs.{Heads.{IsRising, patches_of}, Nodes.nodes_of}
-use Rattle.fst_walks.specs.{Ancestors.GoesUnder, Leveling.IsLeveled}
+use Rattle.fst_levels.specs.{Ancestors.GoesUnder, Leveling.IsLeveled}
 use Rattle.fst_graph.specs.Fresh.{IsRoomier}
 use Rattle.fst_heads.proofs.Linking.{rising_same}
-use Rattle.fst_walks.proofs.Seen.{same_patches}
+use Rattle.fst_levels.proofs.Seen.{same_patches}
 use Rattle.fst_graph.proofs.{Made.more_after, Ranks.leveled_as}
 use Rattle.fst_graph.proofs.fresh.add_one.Goals.{After-reserve_above}
 use Rattle.fst_graph.proofs.fresh.add_one.Goals as goal

@@ -3,7 +3,7 @@ use Rattle.fst_types.specs.{Facts.SparseAreLawful, Making.fresh, Patches.{Patch,
 use Rattle.fst_heads.specs.{Heads.patches_of, Nodes.{nodes_of, HasRoomAbove}, Spreading.is_waiting}
 use Rattle.fst_graph.specs.Fresh.{patch_from}
 use Rattle.fst_heads.proofs.{Added.with_node, Beside.waiting_with, Making.gate_lawful, Indices.rising_heads}
-use Rattle.fst_walks.proofs.Ancestral.{none_goes_under}
+use Rattle.fst_levels.proofs.Ancestral.{none_goes_under}
 use Rattle.fst_graph.proofs.{Made.{gate_added, more_after, more_as, put_patches, put_rising}}
 use Rattle.fst_graph.proofs.fresh.add_two.Goals.{After-reserve_heads, After-put_down}
 use Rattle.fst_graph.proofs.fresh.add_two.Goals as goal

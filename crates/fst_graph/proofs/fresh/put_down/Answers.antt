@@ -4,7 +4,7 @@ use Rattle.fst_heads.specs.{Heads.{kind_of, patch_of, patches_of}, Nodes.{nodes_
 use Rattle.fst_graph.specs.Fresh.{patch_from}
 use Rattle.fst_types.proofs.Finite.{In-from_Contains, Contains-from_In, In-map}
 use Rattle.fst_heads.proofs.{Few.{apart_rising, row_few}, Framed.{pushed_above, pushed_below}, Sums.joined_exact}
-use Rattle.fst_walks.proofs.Seen.{linked_patches}
+use Rattle.fst_levels.proofs.Seen.{linked_patches}
 use Rattle.fst_graph.proofs.Made.{put_nodes, summed}
 use Rattle.fst_graph.proofs.fresh.put_down.Goals as goal
 

@@ -2,7 +2,7 @@ use Rattle.std.proofs.Common.{◌∙◌, Contains, map, ap, subst, arith}
 use Rattle.fst_types.specs.{Dependencies.{DirectlyOn, IsLiveNumber}, Lists.Lists}
 use Rattle.fst_heads.specs.{Heads.patches_of, Names.numbers_of, Nodes.{nodes_of, at_number, gains_names}}
 use Rattle.fst_heads.proofs.{AtNumber.patches_in_nodes, Few.{apart_rising, gain_few, row_few}, Linking.{rising_as, rising_same}}
-use Rattle.fst_walks.proofs.Seen.{gained_number}
+use Rattle.fst_levels.proofs.Seen.{gained_number}
 use Rattle.fst_graph.proofs.Made.{named_nodes, summed}
 use Rattle.fst_graph.proofs.gates.gain_names.Goals.{After-reserve_above}
 use Rattle.fst_graph.proofs.gates.gain_names.Goals as goal

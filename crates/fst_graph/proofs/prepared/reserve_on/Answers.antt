@@ -1,7 +1,7 @@
 use Rattle.std.proofs.Common.{◌+◌, ◌≤◌, rules, arith, OnOk, Result, Ok, Err, subst}
 use Rattle.fst_heads.specs.Covers.{SaysTheSame}
 use Rattle.fst_heads.proofs.Covering.{covered_same}
-use Rattle.fst_walks.proofs.Shelves.{shelved_same, room_in_list}
+use Rattle.fst_levels.proofs.Shelves.{shelved_same, room_in_list}
 use Rattle.fst_graph.proofs.prepared.reserve_on.Goals as goal
 
 pub returns-in_err-reserve-clause-entries : goal.returns-in_err-reserve-clause-entries

@@ -1,8 +1,9 @@
 use Rattle.std.proofs.Common.{◌≡◌, ◌∙◌, Some, get_or, refl, sym, ap, subst}
 use Rattle.fst_heads.specs.{Grading.LeadsNowhere, Heads.{patch_of, patches_of}, Indices.HasIndex}
 use Rattle.fst_heads.proofs.{Listing.rising_patches, Indices.{patch_at, some_element}}
-use Rattle.fst_walks.specs.{Walks.number_at, WayBack.LeadsBack}
-use Rattle.fst_walks.proofs.{AsBefore.{back_as, hard_as}, NearRow.{hard_here, is_it, row_direct}, Told.{told_back, told_hard}, Visiting.index_at}
+use Rattle.fst_levels.specs.{Walks.number_at, WayBack.LeadsBack}
+use Rattle.fst_walks.proofs.{AsBefore.{back_as, hard_as}, Told.{told_back, told_hard}}
+use Rattle.fst_levels.proofs.{NearRow.{hard_here, is_it, row_direct}, MetNumbers.index_at}
 use Rattle.fst_walks.proofs.before.told_by.Goals as goal
 
 pub returns-then-is_within : goal.returns-then-is_within

@@ -2,8 +2,10 @@ use Rattle.std.proofs.Common.{◌<◌, ◌+◌, ◌∙◌, get_or, length, subst
 use Rattle.std.proofs.lemmas.Grind.{common_steps}
 use Rattle.std.proofs.lemmas.Option.{IfSome_then}
 use Rattle.fst_heads.specs.Heads.{patches_of}
-use Rattle.fst_walks.specs.{BothEnds.{IsHighNeed, StepsHigh}, Leveling.level_of, Needing.needs_of, Walks.numbers_met}
-use Rattle.fst_walks.proofs.{Ascended.{Walking, climbing_all}, Stepping.{high_led, high_step}, Visiting.{long_met, none_told}}
+use Rattle.fst_walks.specs.BothEnds.{IsHighNeed, StepsHigh}
+use Rattle.fst_levels.specs.{Leveling.level_of, Needing.needs_of, Walks.numbers_met}
+use Rattle.fst_walks.proofs.{Ascended.{Walking, climbing_all}, Stepping.{high_led, high_step}, Visiting.{none_told}}
+use Rattle.fst_levels.proofs.MetNumbers.{long_met}
 use Rattle.fst_walks.proofs.below.descend.Goals.{After-turn-met}
 use Rattle.fst_walks.proofs.below.descend.Goals as goal
 

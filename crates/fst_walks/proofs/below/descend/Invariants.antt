@@ -1,6 +1,7 @@
 use Rattle.std.proofs.Common.{◌≤◌, ◌-◌, length}
 use Rattle.fst_heads.specs.{Heads.patches_of}
-use Rattle.fst_walks.specs.{BothEnds.{IsAwayFrom, IsHighNeed, IsOver, StepsHigh}, Descending.Visited, Leveling.level_of, Needing.needs_of, Walks.numbers_met}
+use Rattle.fst_walks.specs.{BothEnds.{IsAwayFrom, IsHighNeed, IsOver, StepsHigh}, Descending.Visited}
+use Rattle.fst_levels.specs.{Leveling.level_of, Needing.needs_of, Walks.numbers_met}
 use Rattle.fst_walks.proofs.Ascended.{Walking}
 use Rattle.fst_walks.proofs.below.descend.Given as goal
 

@@ -2,8 +2,9 @@ use Rattle.std.proofs.Common.{◌∙◌, sym, arith}
 use Rattle.std.proofs.lemmas.Option.{IfSome_then}
 use Rattle.fst_heads.specs.{Grading.LeadsNowhere, Heads.patches_of}
 use Rattle.fst_heads.proofs.Listing.{rising_patches}
-use Rattle.fst_walks.specs.{Leveling.{floor_of, level_of}, Needing.needs_of, Walks.numbers_met}
-use Rattle.fst_walks.proofs.{ComesBack.off_not_on, Meeting.{comes_back, comes_hard}, Told.{told_back, told_hard}, Visiting.none_told}
+use Rattle.fst_levels.specs.{Leveling.{floor_of, level_of}, Needing.needs_of, Walks.numbers_met}
+use Rattle.fst_levels.proofs.ComesBack.{off_not_on}
+use Rattle.fst_walks.proofs.{Meeting.{comes_back, comes_hard}, Told.{told_back, told_hard}, Visiting.none_told}
 use Rattle.fst_walks.proofs.below.grade_below.Goals as goal
 
 pub descend-requires-clause-away : goal.descend-requires-clause-away

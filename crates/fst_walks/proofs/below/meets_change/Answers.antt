@@ -3,8 +3,8 @@ use Rattle.std.proofs.lemmas.Bool.{cases_eq, false≢true}
 use Rattle.std.proofs.lemmas.List.Elements.{Contains-get_or}
 use Rattle.fst_heads.specs.{Heads.{patch_of, patches_of}, Indices.PassesAt, Tests.passes, declared.head.Head.Head}
 use Rattle.fst_heads.specs.declared.test.Test.TheVariants as test
-use Rattle.fst_walks.specs.Walks.{numbers_met}
-use Rattle.fst_walks.proofs.{NearRow.{here_passes, passes_here}, Visiting.{index_met, long_met}}
+use Rattle.fst_levels.specs.Walks.{numbers_met}
+use Rattle.fst_levels.proofs.{NearRow.{here_passes, passes_here}, MetNumbers.{index_met, long_met}}
 use Rattle.fst_walks.proofs.below.meets_change.Goals as goal
 
 pub returns-then-passes-clause-met : goal.returns-then-passes-clause-met

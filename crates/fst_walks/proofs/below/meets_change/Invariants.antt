@@ -1,7 +1,7 @@
 use Rattle.std.proofs.Common.{◌≤◌, ◌<◌, ℕ, get_or}
 use Rattle.fst_heads.specs.{Heads.patches_of, Indices.PassesAt}
 use Rattle.fst_heads.specs.declared.test.Test.TheVariants as test
-use Rattle.fst_walks.specs.Walks.{numbers_met}
+use Rattle.fst_levels.specs.Walks.{numbers_met}
 use Rattle.fst_walks.proofs.below.meets_change.Given as goal
 
 abbrev pub invariant-loop-at : goal.invariant-loop-at

@@ -2,8 +2,10 @@ use Rattle.std.proofs.lemmas.Grind.{common_steps}
 use Rattle.std.proofs.Common.{get_or, subst, arith}
 use Rattle.fst_heads.specs.{Heads.patches_of, Indices.PassesAt}
 use Rattle.fst_heads.specs.declared.test.Test.TheVariants as test
-use Rattle.fst_walks.specs.{BothEnds.StepsHigh, Descending.Visits, Leveling.level_of, Needing.needs_of, Walks.numbers_met}
-use Rattle.fst_walks.proofs.Visiting.{long_met, none_then, still_apart}
+use Rattle.fst_walks.specs.{BothEnds.StepsHigh, Descending.Visits}
+use Rattle.fst_levels.specs.{Leveling.level_of, Needing.needs_of, Walks.numbers_met}
+use Rattle.fst_levels.proofs.MetNumbers.{long_met}
+use Rattle.fst_walks.proofs.Visiting.{none_then, still_apart}
 use Rattle.fst_walks.proofs.below.turn.Goals as goal
 
 pub returns-clause-away : goal.returns-clause-away

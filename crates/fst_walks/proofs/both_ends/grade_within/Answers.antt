@@ -1,8 +1,10 @@
 use Rattle.std.proofs.Common.{◌≤◌, ℕ, Contains, subst, arith}
 use Rattle.std.proofs.lemmas.Option.{MatchOption-at_none, MatchOption-at_some}
 use Rattle.fst_heads.specs.{Grading.LeadsNowhere, Heads.patches_of}
-use Rattle.fst_walks.specs.{BothEnds.IsLowChange, Descending.Visits, Leveling.{floor_of, level_of}, Needing.needs_of, Walks.numbers_met}
-use Rattle.fst_walks.proofs.{Meeting.{AreEnds, apart_hard, begin_apart, none_first, together_live, together_soft, traced_back, visited_all}, Told.{told_hard, told_soft}, Visiting.{long_met, none_met, some_both}}
+use Rattle.fst_walks.specs.{BothEnds.IsLowChange, Descending.Visits}
+use Rattle.fst_levels.specs.{Leveling.{floor_of, level_of}, Needing.needs_of, Walks.numbers_met}
+use Rattle.fst_walks.proofs.{Meeting.{AreEnds, apart_hard, begin_apart, none_first, together_live, together_soft, traced_back, visited_all}, Told.{told_hard, told_soft}, Visiting.{some_both}}
+use Rattle.fst_levels.proofs.MetNumbers.{long_met, none_met}
 use Rattle.fst_walks.proofs.both_ends.grade_within.Goals.{After-visit_low_changes}
 use Rattle.fst_walks.proofs.both_ends.grade_within.Goals as goal
 

@@ -1,8 +1,8 @@
 use Rattle.std.proofs.Common.{◌≤◌, ◌<◌, length, get_or, subst, ap, ◌∙◌, inl, inr, arith}
 use Rattle.std.proofs.lemmas.Bool.{cases_eq}
 use Rattle.fst_heads.proofs.Indices.{any_default}
-use Rattle.fst_walks.specs.{Leveling.level_of, Walks.numbers_met}
-use Rattle.fst_walks.proofs.{Highest.{max_first, max_second}, Ranked.{no_rank, rank_level}, Visiting.{index_met, long_met}}
+use Rattle.fst_levels.specs.{Leveling.level_of, Walks.numbers_met}
+use Rattle.fst_levels.proofs.{Highest.{max_first, max_second}, Ranked.{no_rank, rank_level}, MetNumbers.{index_met, long_met}}
 use Rattle.fst_walks.proofs.both_ends.highest.Goals as goal
 
 pub loop-at-preserved : goal.loop-at-preserved

@@ -1,5 +1,5 @@
 use Rattle.std.proofs.Common.{◌≤◌, ◌<◌, ℕ, get_or}
-use Rattle.fst_walks.specs.{Leveling.level_of, Walks.numbers_met}
+use Rattle.fst_levels.specs.{Leveling.level_of, Walks.numbers_met}
 use Rattle.fst_walks.proofs.both_ends.highest.Given as goal
 
 abbrev pub invariant-loop-at : goal.invariant-loop-at

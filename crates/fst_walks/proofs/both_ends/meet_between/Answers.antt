@@ -2,8 +2,10 @@ use Rattle.std.proofs.Common.{◌+◌, ◌<◌, ◌≤◌, ◌∙◌, length, Co
 use Rattle.std.proofs.lemmas.Option.{IfSome_then}
 use Rattle.std.proofs.lemmas.Grind.{common_steps}
 use Rattle.fst_heads.specs.{Heads.patches_of}
-use Rattle.fst_walks.specs.{BothEnds.{AreApart, IsHighNeed, IsLowChange, StepsHigh, StepsLow}, Leveling.level_of, Needing.needs_of, Walks.numbers_met, declared.block_walk.BlockWalk.BlockWalk}
-use Rattle.fst_walks.proofs.{Ascended.{Walking, climbing_all}, Stepping.{high_beside, high_step, low_step, walking_kept}, Visiting.{long_met, none_told, visits_longer}}
+use Rattle.fst_walks.specs.{BothEnds.{AreApart, IsHighNeed, IsLowChange, StepsHigh, StepsLow}, declared.block_walk.BlockWalk.BlockWalk}
+use Rattle.fst_levels.specs.{Leveling.level_of, Needing.needs_of, Walks.numbers_met}
+use Rattle.fst_walks.proofs.{Ascended.{Walking, climbing_all}, Stepping.{high_beside, high_step, low_step, walking_kept}, Visiting.{none_told, visits_longer}}
+use Rattle.fst_levels.proofs.MetNumbers.{long_met}
 use Rattle.fst_walks.proofs.both_ends.meet_between.Goals.{After-turn_down-met, After-turn_down-met-else-looked, then-before-now, else-before-now}
 use Rattle.fst_walks.proofs.both_ends.meet_between.Goals as goal
 

@@ -1,8 +1,10 @@
 use Rattle.std.proofs.Common.{Contains, get_or, subst, arith}
 use Rattle.std.proofs.lemmas.Grind.{common_steps}
 use Rattle.fst_heads.specs.Heads.{patches_of}
-use Rattle.fst_walks.specs.{BothEnds.StepsLow, Descending.Visits, Leveling.level_of, Walks.numbers_met}
-use Rattle.fst_walks.proofs.Visiting.{long_met, none_then, still_apart}
+use Rattle.fst_walks.specs.{BothEnds.StepsLow, Descending.Visits}
+use Rattle.fst_levels.specs.{Leveling.level_of, Walks.numbers_met}
+use Rattle.fst_levels.proofs.MetNumbers.{long_met}
+use Rattle.fst_walks.proofs.Visiting.{none_then, still_apart}
 use Rattle.fst_walks.proofs.both_ends.turn_up.Goals as goal
 
 pub returns-clause-apart : goal.returns-clause-apart

@@ -2,7 +2,7 @@ use Rattle.std.proofs.Common.{◌∙◌, length, Contains, refl, sym, ap, subst,
 use Rattle.std.proofs.lemmas.Bool.{eqb-true, false≢true}
 use Rattle.fst_types.specs.Gates.{IsOpenNumber}
 use Rattle.fst_heads.specs.{Heads.patches_of, Names.numbers_of}
-use Rattle.fst_walks.proofs.{Held.gates_seen, Searched.{none_depend, named_held}}
+use Rattle.fst_walks.proofs.{GatesSeen.gates_seen, Searched.{none_depend, named_held}}
 use Rattle.fst_walks.proofs.cycle.closes_cycle.Goals as goal
 
 pub returns-then-is_empty-clause-closes : goal.returns-then-is_empty-clause-closes

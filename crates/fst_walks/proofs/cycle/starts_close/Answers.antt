@@ -2,8 +2,10 @@ use Rattle.std.proofs.Common.{◌≡◌, ℕ, subst, inl, inr}
 use Rattle.std.proofs.lemmas.Bool.{cases_Bool}
 use Rattle.fst_types.specs.Gates.{IsOpenNumber}
 use Rattle.fst_heads.specs.{Heads.patches_of, Nodes.{nodes_of, pending_in}, declared.pending.Pending.Pending}
-use Rattle.fst_walks.specs.{Descending.Visits, Starting.IsStart, Walks.numbers_met}
-use Rattle.fst_walks.proofs.{SearchedAbove.{apart_none, between_above}, Visiting.none_met}
+use Rattle.fst_walks.specs.{Descending.Visits, Starting.IsStart}
+use Rattle.fst_levels.specs.Walks.{numbers_met}
+use Rattle.fst_walks.proofs.SearchedAbove.{apart_none, between_above}
+use Rattle.fst_levels.proofs.MetNumbers.{none_met}
 use Rattle.fst_heads.specs.declared.pending.Pending.TheVariants as pending
 use Rattle.fst_walks.proofs.cycle.starts_close.Goals as goal
 

@@ -1,8 +1,10 @@
 use Rattle.std.proofs.Common.{ℕ, get_or, Contains, sym, subst}
 use Rattle.fst_heads.specs.{Heads.patches_of, Nodes.{node_of, nodes_of, pending_in}, declared.head.Head.Head, declared.pending.Pending.Pending}
 use Rattle.fst_heads.proofs.{AtNumber.patches_in_nodes, PendingAt.node_in, Indices.any_default}
-use Rattle.fst_walks.specs.{Searching.IsNextAbove, Walks.numbers_met}
-use Rattle.fst_walks.proofs.{SearchedAbove.{above_from, above_to}, Visiting.{index_met, visits_same}}
+use Rattle.fst_walks.specs.Searching.{IsNextAbove}
+use Rattle.fst_levels.specs.Walks.{numbers_met}
+use Rattle.fst_walks.proofs.{SearchedAbove.{above_from, above_to}, Visiting.{visits_same}}
+use Rattle.fst_levels.proofs.MetNumbers.{index_met}
 use Rattle.fst_walks.proofs.cycle.step_above.Goals as goal
 
 pub returns-clause-visits : goal.returns-clause-visits

@@ -1,8 +1,10 @@
 use Rattle.std.proofs.Common.{ℕ, get_or, Contains, sym, subst}
 use Rattle.fst_heads.specs.{Heads.patches_of, Nodes.{nodes_of, pending_in}, declared.head.Head.Head, declared.pending.Pending.Pending}
 use Rattle.fst_heads.proofs.Indices.{direct_at, named_at}
-use Rattle.fst_walks.specs.{Searching.IsNextHeld, Walks.numbers_met}
-use Rattle.fst_walks.proofs.Visiting.{index_met, visits_same}
+use Rattle.fst_walks.specs.Searching.{IsNextHeld}
+use Rattle.fst_levels.specs.Walks.{numbers_met}
+use Rattle.fst_levels.proofs.MetNumbers.{index_met}
+use Rattle.fst_walks.proofs.Visiting.{visits_same}
 use Rattle.fst_walks.proofs.cycle.step_held.Goals as goal
 
 pub returns-clause-visits : goal.returns-clause-visits

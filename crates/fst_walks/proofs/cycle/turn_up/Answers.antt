@@ -1,7 +1,9 @@
 use Rattle.std.proofs.Common.{◌∙◌, Contains, get_or, sym, arith}
 use Rattle.fst_heads.specs.{Heads.patches_of, Nodes.{nodes_of, pending_in}}
-use Rattle.fst_walks.specs.{Searching.IsNextAbove, Walks.numbers_met}
-use Rattle.fst_walks.proofs.Visiting.{long_met, none_told, still_apart}
+use Rattle.fst_walks.specs.Searching.{IsNextAbove}
+use Rattle.fst_levels.specs.Walks.{numbers_met}
+use Rattle.fst_levels.proofs.MetNumbers.{long_met}
+use Rattle.fst_walks.proofs.Visiting.{none_told, still_apart}
 use Rattle.fst_walks.proofs.cycle.turn_up.Goals as goal
 
 pub returns-clause-apart : goal.returns-clause-apart

@@ -2,8 +2,9 @@ use Rattle.std.proofs.Common.{◌≡◌, ◌∙◌, ℕ, ap, refl, sym}
 use Rattle.std.proofs.lemmas.Bool.{false≢true}
 use Rattle.fst_heads.specs.{Nodes.{nodes_of, pending_in}, declared.pending.Pending.Pending}
 use Rattle.fst_heads.proofs.PendingAt.{pending_index, pending_none}
-use Rattle.fst_walks.specs.Walks.{numbers_met}
-use Rattle.fst_walks.proofs.{Low.{held_is, is_held}, Visiting.{visits_none, visits_meet, visited_meet}}
+use Rattle.fst_levels.specs.Walks.{numbers_met}
+use Rattle.fst_levels.proofs.Low.{held_is, is_held}
+use Rattle.fst_walks.proofs.Visiting.{visits_none, visits_meet, visited_meet}
 use Rattle.fst_walks.proofs.cycle.visit_held.Goals.{Then-is_pending}
 use Rattle.fst_heads.specs.declared.pending.Pending.TheVariants as pending
 use Rattle.fst_walks.proofs.cycle.visit_held.Goals as goal

@@ -1,7 +1,8 @@
 use Rattle.std.proofs.Common.{◌≡◌, ℕ, take, get_or, Contains, subst, arith}
 use Rattle.std.proofs.lemmas.List.{take_all, take_more}
 use Rattle.fst_heads.specs.Nodes.{nodes_of, pending_in}
-use Rattle.fst_walks.specs.{Descending.Visits, Walks.numbers_met}
+use Rattle.fst_walks.specs.Descending.{Visits}
+use Rattle.fst_levels.specs.Walks.{numbers_met}
 use Rattle.fst_walks.proofs.Visiting.{visits_next}
 use Rattle.fst_heads.specs.declared.pending.Pending.TheVariants as pending
 use Rattle.fst_walks.proofs.cycle.visit_row.Goals as goal

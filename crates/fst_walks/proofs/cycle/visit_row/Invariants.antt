@@ -1,6 +1,7 @@
 use Rattle.std.proofs.Common.{◌≡◌, take, Contains}
 use Rattle.fst_heads.specs.Nodes.{nodes_of, pending_in}
-use Rattle.fst_walks.specs.{Descending.{Visited, Visits}, Walks.numbers_met}
+use Rattle.fst_walks.specs.Descending.{Visited, Visits}
+use Rattle.fst_levels.specs.Walks.{numbers_met}
 use Rattle.fst_heads.specs.declared.pending.Pending.TheVariants as pending
 use Rattle.fst_walks.proofs.cycle.visit_row.Given as goal
 

@@ -1,8 +1,10 @@
 use Rattle.std.proofs.Common.{◌∙◌, ◌+◌, Contains, refl, sym, subst, inl, inr, arith}
 use Rattle.fst_heads.specs.{Heads.patches_of, Nodes.{nodes_of, pending_in}}
 use Rattle.fst_heads.proofs.Indices.{any_default}
-use Rattle.fst_walks.specs.{Searching.{IsNextAbove, IsNextHeld}, Walks.numbers_met}
-use Rattle.fst_walks.proofs.{Ascended.{Climbing, climbing_all, climbing_begun, climbing_first, climbing_more}, Visiting.{long_met, none_told}}
+use Rattle.fst_walks.specs.Searching.{IsNextAbove, IsNextHeld}
+use Rattle.fst_levels.specs.Walks.{numbers_met}
+use Rattle.fst_walks.proofs.{Ascended.{Climbing, climbing_all, climbing_begun, climbing_first, climbing_more}, Visiting.{none_told}}
+use Rattle.fst_levels.proofs.MetNumbers.{long_met}
 use Rattle.fst_walks.proofs.cycle.walks_meet.Goals.{After-turn_down, After-turn_up}
 use Rattle.fst_walks.proofs.cycle.walks_meet.Goals as goal
 

@@ -1,6 +1,7 @@
 use Rattle.std.proofs.Common.{◌≡◌, ◌≤◌, ◌+◌, ◌-◌, length}
 use Rattle.fst_heads.specs.{Heads.patches_of, Nodes.{nodes_of, pending_in}}
-use Rattle.fst_walks.specs.{Searching.{IsNextAbove, IsNextHeld, WalkApart}, Walks.numbers_met}
+use Rattle.fst_walks.specs.Searching.{IsNextAbove, IsNextHeld, WalkApart}
+use Rattle.fst_levels.specs.Walks.{numbers_met}
 use Rattle.fst_walks.proofs.Ascended.{Climbing}
 use Rattle.fst_walks.proofs.cycle.walks_meet.Given as goal
 

@@ -4,7 +4,7 @@ use Rattle.std.proofs.lemmas.Bool.{false≢true}
 use Rattle.fst_types.specs.Dependencies.{IsLiveNumber}
 use Rattle.fst_heads.specs.Heads.{patches_of}
 use Rattle.fst_heads.proofs.Indices.{live_at, not_live_none}
-use Rattle.fst_walks.specs.Walks.{numbers_met}
+use Rattle.fst_levels.specs.Walks.{numbers_met}
 use Rattle.fst_walks.proofs.Visiting.{visits_none, visits_meet, visited_meet}
 use Rattle.fst_walks.proofs.descent.visit.Goals as goal
 

@@ -1,8 +1,8 @@
 use Rattle.std.proofs.Common.{◌<◌, length, get_or, Contains, sym, subst, ◌∙◌, inl, inr, arith}
 use Rattle.std.proofs.lemmas.Bool.{cases_eq, false≢true}
 use Rattle.std.proofs.lemmas.List.Elements.{Contains-get_or}
-use Rattle.fst_walks.specs.Walks.{numbers_met}
-use Rattle.fst_walks.proofs.Visiting.{long_met, index_met, number_of_met, met_index}
+use Rattle.fst_levels.specs.Walks.{numbers_met}
+use Rattle.fst_levels.proofs.MetNumbers.{long_met, index_met, number_of_met, met_index}
 use Rattle.fst_walks.proofs.ends.meets.Goals as goal
 
 pub returns-then-has_met-clause-met : goal.returns-then-has_met-clause-met

@@ -1,5 +1,5 @@
 use Rattle.std.proofs.Common.{◌≤◌, ◌<◌, ℕ, get_or, Contains}
-use Rattle.fst_walks.specs.Walks.{numbers_met}
+use Rattle.fst_levels.specs.Walks.{numbers_met}
 use Rattle.fst_walks.proofs.ends.meets.Given as goal
 
 abbrev pub invariant-loop-at : goal.invariant-loop-at

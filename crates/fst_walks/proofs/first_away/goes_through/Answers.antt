@@ -2,7 +2,7 @@ use Rattle.std.proofs.Common.{◌≡◌, ◌∙◌, ◌&&◌, not, get_or, sym, 
 use Rattle.std.proofs.lemmas.Bool.{cases_Bool, false≢true, not-true}
 use Rattle.fst_types.specs.Tests.{is_change_at}
 use Rattle.fst_heads.specs.{Heads.{kind_of, patch_of}, Tests.{is_hard_kind, passes}, declared.head.Head.Head}
-use Rattle.fst_walks.proofs.NearRow.{passes_here, here_passes, hard_here, here_hard}
+use Rattle.fst_levels.proofs.NearRow.{passes_here, here_passes, hard_here, here_hard}
 use Rattle.fst_types.specs.declared.place.Place.TheVariants as place
 use Rattle.fst_heads.specs.declared.test.Test.TheVariants as test
 use Rattle.fst_walks.proofs.first_away.goes_through.Goals as goal

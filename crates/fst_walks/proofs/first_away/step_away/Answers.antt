@@ -2,8 +2,10 @@ use Rattle.std.proofs.lemmas.Grind.{common_steps}
 use Rattle.std.proofs.Common.{get_or, Contains, sym, subst, inl, inr, arith}
 use Rattle.fst_heads.specs.{Heads.patches_of, declared.head.Head.Head}
 use Rattle.fst_heads.proofs.Indices.{direct_at, named_at}
-use Rattle.fst_walks.specs.{BothEnds.StepsAway, Walks.numbers_met}
-use Rattle.fst_walks.proofs.Visiting.{index_met, visits_same}
+use Rattle.fst_walks.specs.BothEnds.{StepsAway}
+use Rattle.fst_levels.specs.Walks.{numbers_met}
+use Rattle.fst_levels.proofs.MetNumbers.{index_met}
+use Rattle.fst_walks.proofs.Visiting.{visits_same}
 use Rattle.fst_walks.proofs.first_away.step_away.Goals as goal
 
 pub returns-clause-only : goal.returns-clause-only

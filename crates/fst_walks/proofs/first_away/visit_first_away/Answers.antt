@@ -1,8 +1,10 @@
 use Rattle.std.proofs.Common.{[], Contains, subst, arith}
 use Rattle.fst_types.specs.Dependencies.{IsLiveNumber}
 use Rattle.fst_heads.specs.Heads.{patches_of}
-use Rattle.fst_walks.specs.{Descending.Visits, Walks.numbers_met}
-use Rattle.fst_walks.proofs.{Meeting.{first_only, first_all}, Visiting.{none_met, visits_same}}
+use Rattle.fst_walks.specs.Descending.{Visits}
+use Rattle.fst_levels.specs.Walks.{numbers_met}
+use Rattle.fst_walks.proofs.{Meeting.{first_only, first_all}, Visiting.{visits_same}}
+use Rattle.fst_levels.proofs.MetNumbers.{none_met}
 use Rattle.fst_walks.proofs.first_away.visit_first_away.Goals.{After-visit_high_row}
 use Rattle.fst_walks.proofs.first_away.visit_first_away.Goals as goal
 

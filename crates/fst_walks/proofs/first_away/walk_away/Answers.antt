@@ -1,8 +1,10 @@
 use Rattle.std.proofs.Common.{◌<◌, length, get_or, inl, inr, arith}
 use Rattle.std.proofs.lemmas.List.Elements.{Contains-get_or}
 use Rattle.fst_heads.specs.Heads.{patches_of}
-use Rattle.fst_walks.specs.{BothEnds.StepsAway, Walks.numbers_met}
-use Rattle.fst_walks.proofs.{Ascended.{climbing_more, climbing_all, led_on}, Visiting.long_met}
+use Rattle.fst_walks.specs.BothEnds.{StepsAway}
+use Rattle.fst_levels.specs.Walks.{numbers_met}
+use Rattle.fst_walks.proofs.Ascended.{climbing_more, climbing_all, led_on}
+use Rattle.fst_levels.proofs.MetNumbers.{long_met}
 use Rattle.fst_walks.proofs.first_away.walk_away.Goals as goal
 
 pub loop-at-smaller : goal.loop-at-smaller

@@ -1,6 +1,7 @@
 use Rattle.std.proofs.Common.{◌-◌, length}
 use Rattle.fst_heads.specs.Heads.{patches_of}
-use Rattle.fst_walks.specs.{BothEnds.StepsAway, Descending.Visited, Walks.numbers_met}
+use Rattle.fst_walks.specs.{BothEnds.StepsAway, Descending.Visited}
+use Rattle.fst_levels.specs.Walks.{numbers_met}
 use Rattle.fst_walks.proofs.Ascended.{Climbing}
 use Rattle.fst_walks.proofs.first_away.walk_away.Given as goal
 

@@ -2,7 +2,7 @@ use Rattle.std.proofs.Common.{◌≡◌, ◌∙◌, ℕ, Contains, get_or, sym, 
 use Rattle.fst_types.specs.{Closure.one, Dependencies.DependsOn}
 use Rattle.fst_heads.specs.{Heads.{patch_of, patches_of}, Indices.HasIndex, declared.head.Head.Head}
 use Rattle.fst_heads.proofs.Indices.{direct_at, patch_at}
-use Rattle.fst_walks.specs.Leveling.{jump_of}
+use Rattle.fst_levels.specs.Leveling.{jump_of}
 use Rattle.fst_walks.proofs.GateBelow.{of_either, of_some}
 use Rattle.fst_walks.proofs.gate_below.step_on.Goals as goal
 

@@ -3,7 +3,8 @@ use Rattle.std.proofs.lemmas.Bool.{false≢true}
 use Rattle.fst_types.specs.{Patches.Patch}
 use Rattle.fst_heads.specs.{Grading.{HasUnder, IsOpenBut, LeadsNowhere, MayBeHard}, Heads.patches_of}
 use Rattle.fst_walks.specs.{Telling.IsTold, declared.graded.Graded.Graded}
-use Rattle.fst_walks.proofs.{NearRow.follows_same, Told.told_soft}
+use Rattle.fst_levels.proofs.NearRow.{follows_same}
+use Rattle.fst_walks.proofs.Told.{told_soft}
 use Rattle.fst_walks.proofs.grade.grade_of.Goals as goal
 
 pub returns-then-is_blocked-clause-told : goal.returns-then-is_blocked-clause-told

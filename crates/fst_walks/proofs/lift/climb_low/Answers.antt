@@ -1,8 +1,10 @@
 use Rattle.std.proofs.Common.{◌∙◌, ◌≤◌, length, arith}
 use Rattle.fst_heads.specs.{Grading.IsHardNumber, Heads.patches_of, Indices.PassesAt}
-use Rattle.fst_walks.specs.{BothEnds.{IsLow, StepsLow}, Leveling.level_of, Walks.numbers_met, WayBack.Crosses}
+use Rattle.fst_walks.specs.BothEnds.{IsLow, StepsLow}
+use Rattle.fst_levels.specs.{Leveling.level_of, Walks.numbers_met, WayBack.Crosses}
 use Rattle.fst_types.specs.Dependencies.{DirectlyOn}
-use Rattle.fst_walks.proofs.{Ascended.climbing_all, Stepping.walking_step, Visiting.long_met}
+use Rattle.fst_walks.proofs.{Ascended.climbing_all, Stepping.walking_step}
+use Rattle.fst_levels.proofs.MetNumbers.{long_met}
 use Rattle.fst_heads.specs.declared.test.Test.TheVariants as test
 use Rattle.fst_walks.proofs.lift.climb_low.Goals as goal
 

@@ -1,6 +1,7 @@
 use Rattle.std.proofs.Common.{◌≡◌, ◌-◌, ◌≤◌, length}
 use Rattle.fst_heads.specs.{Heads.patches_of, Indices.PassesAt}
-use Rattle.fst_walks.specs.{BothEnds.StepsLow, Descending.Visited, Leveling.level_of, Walks.numbers_met}
+use Rattle.fst_walks.specs.{BothEnds.StepsLow, Descending.Visited}
+use Rattle.fst_levels.specs.{Leveling.level_of, Walks.numbers_met}
 use Rattle.fst_walks.proofs.Ascended.{Walking}
 use Rattle.fst_heads.specs.declared.test.Test.TheVariants as test
 use Rattle.fst_walks.proofs.lift.climb_low.Given as goal

@@ -1,7 +1,9 @@
 use Rattle.std.proofs.Common.{[], subst}
 use Rattle.fst_heads.specs.Heads.{patches_of}
-use Rattle.fst_walks.specs.{BothEnds.IsLowChange, Descending.Visits, Leveling.level_of, Walks.numbers_met}
-use Rattle.fst_walks.proofs.{MetLow.meets_low, Visiting.none_met}
+use Rattle.fst_walks.specs.{BothEnds.IsLowChange, Descending.Visits}
+use Rattle.fst_levels.specs.{Leveling.level_of, Walks.numbers_met}
+use Rattle.fst_walks.proofs.MetLow.{meets_low}
+use Rattle.fst_levels.proofs.MetNumbers.{none_met}
 use Rattle.fst_walks.proofs.lift.meet_low.Goals as goal
 
 pub returns-clause-meets : goal.returns-clause-meets

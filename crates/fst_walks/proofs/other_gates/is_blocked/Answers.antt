@@ -1,4 +1,4 @@
-use Rattle.fst_walks.proofs.Held.{gates_seen}
+use Rattle.fst_walks.proofs.GatesSeen.{gates_seen}
 use Rattle.fst_walks.proofs.other_gates.is_blocked.Goals as goal
 
 pub waits_for_another-requires-clause-gates : goal.waits_for_another-requires-clause-gates

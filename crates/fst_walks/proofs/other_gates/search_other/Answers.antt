@@ -3,8 +3,10 @@ use Rattle.std.proofs.{lemmas.Bool.{cases_eq, false≢true}, lemmas.Grind.common
 use Rattle.fst_heads.specs.{Grading.IsOpenBut, Heads.{patches_of}, Nodes.{nodes_of, pending_in}}
 use Rattle.fst_heads.specs.{declared.head.Head.Head, declared.pending.Pending.Pending}
 use Rattle.fst_heads.proofs.{Indices.{any_default, direct_at, named_at}}
-use Rattle.fst_walks.specs.{Descending.Visits, Searching.IsNextHeld, Walks.numbers_met}
-use Rattle.fst_walks.proofs.{Ascended.{climbing_more, climbing_all}, GateBelow.{other_gate, gate_other}, Visiting.{index_met, long_met, visits_same}}
+use Rattle.fst_walks.specs.{Descending.Visits, Searching.IsNextHeld}
+use Rattle.fst_levels.specs.Walks.{numbers_met}
+use Rattle.fst_walks.proofs.{Ascended.{climbing_more, climbing_all}, GateBelow.{other_gate, gate_other}, Visiting.{visits_same}}
+use Rattle.fst_levels.proofs.MetNumbers.{index_met, long_met}
 use Rattle.fst_walks.proofs.other_gates.search_other.Goals as goal
 
 pub loop-at-smaller : goal.loop-at-smaller

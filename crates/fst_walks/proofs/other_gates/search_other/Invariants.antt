@@ -1,6 +1,7 @@
 use Rattle.std.proofs.Common.{◌-◌, ◌<◌, ℕ, Some, get_or, length}
 use Rattle.fst_heads.specs.{Grading.IsOpenBut, Heads.patches_of, Nodes.{nodes_of, pending_in}}
-use Rattle.fst_walks.specs.{Descending.Visited, Searching.IsNextHeld, Walks.numbers_met}
+use Rattle.fst_walks.specs.{Descending.Visited, Searching.IsNextHeld}
+use Rattle.fst_levels.specs.Walks.{numbers_met}
 use Rattle.fst_walks.proofs.Ascended.{Climbing}
 use Rattle.fst_walks.proofs.other_gates.search_other.Given as goal
 

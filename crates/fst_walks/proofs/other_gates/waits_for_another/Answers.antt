@@ -1,8 +1,10 @@
 use Rattle.std.proofs.Common.{◌≡◌, ◌↔◌, ℕ, Contains, Some, refl, sym, subst, inl, inr}
 use Rattle.fst_types.specs.{Gates.IsOpenNumber, Order.NamesAbove}
 use Rattle.fst_heads.specs.{Grading.IsOpenBut, Heads.patches_of, Nodes.{nodes_of, pending_in}, declared.pending.Pending.Pending}
-use Rattle.fst_walks.specs.{Descending.{IsLedFrom, Visits}, Searching.IsNextHeld, Walks.numbers_met}
-use Rattle.fst_walks.proofs.{Searched.searched_led, Visiting.none_met}
+use Rattle.fst_walks.specs.{Descending.{IsLedFrom, Visits}, Searching.IsNextHeld}
+use Rattle.fst_levels.specs.Walks.{numbers_met}
+use Rattle.fst_walks.proofs.Searched.{searched_led}
+use Rattle.fst_levels.proofs.MetNumbers.{none_met}
 use Rattle.fst_heads.specs.declared.pending.Pending.TheVariants as pending
 use Rattle.fst_walks.proofs.other_gates.waits_for_another.Goals as goal
 

@@ -1,7 +1,8 @@
 use Rattle.std.proofs.Common.{◌≡◌, ◌<◌, ◌∙◌, ◌∷◌, [], ◌++◌, ℕ, get_or, length, take, Contains, subst, sym, arith, inl, inr}
 use Rattle.std.proofs.lemmas.{Bool.false≢true, List.{get_or-map, length-map, take_all, take_more}, List.Elements.{Contains-append_left, Contains-push_cases}}
 use Rattle.fst_heads.specs.{Heads.patches_of, Nodes.{nodes_of, pending_in}, Rows.IsTouched, declared.cover.Run.Run}
-use Rattle.fst_walks.specs.{Descending.Visits, Starting.numbers_told, Walks.numbers_met}
+use Rattle.fst_walks.specs.{Descending.Visits, Starting.numbers_told}
+use Rattle.fst_levels.specs.Walks.{numbers_met}
 use Rattle.fst_walks.proofs.Visiting.{visits_next, visits_same}
 use Rattle.fst_walks.proofs.starts.visit_newest.Goals.{then-is_touched, else-is_touched}
 use Rattle.fst_heads.specs.declared.pending.Pending.TheVariants as pending

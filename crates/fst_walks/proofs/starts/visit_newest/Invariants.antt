@@ -1,6 +1,7 @@
 use Rattle.std.proofs.Common.{◌≡◌, take, Contains}
 use Rattle.fst_heads.specs.{Heads.patches_of, Nodes.{nodes_of, pending_in}, Rows.IsTouched}
-use Rattle.fst_walks.specs.{Descending.{Visited, Visits}, Starting.numbers_told, Walks.numbers_met}
+use Rattle.fst_walks.specs.{Descending.{Visited, Visits}, Starting.numbers_told}
+use Rattle.fst_levels.specs.Walks.{numbers_met}
 use Rattle.fst_heads.specs.declared.pending.Pending.TheVariants as pending
 use Rattle.fst_walks.proofs.starts.visit_newest.Given as goal
 

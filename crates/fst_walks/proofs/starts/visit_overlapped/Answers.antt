@@ -1,7 +1,8 @@
 use Rattle.std.proofs.Common.{◌≡◌, ◌∙◌, ℕ, get_or, take, ap, subst, sym, arith}
 use Rattle.std.proofs.lemmas.List.{take_all, take_more, map_push}
 use Rattle.fst_heads.specs.{Lists.{entry_of, entries_of}, Nodes.{nodes_of, pending_in}, declared.lists.Listed.Listed}
-use Rattle.fst_walks.specs.{Descending.Visits, Starting.IsSharing, Walks.numbers_met}
+use Rattle.fst_walks.specs.{Descending.Visits, Starting.IsSharing}
+use Rattle.fst_levels.specs.Walks.{numbers_met}
 use Rattle.fst_walks.proofs.Overlapped.{sharing_none, sharing_more, sharing_skip}
 use Rattle.fst_walks.proofs.starts.visit_overlapped.Goals.{then-shares, else-shares}
 use Rattle.fst_heads.specs.declared.pending.Pending.TheVariants as pending

@@ -1,6 +1,7 @@
 use Rattle.std.proofs.Common.{◌≡◌, take}
 use Rattle.fst_heads.specs.{Lists.entries_of, Nodes.{nodes_of, pending_in}}
-use Rattle.fst_walks.specs.{Descending.{Visited, Visits}, Starting.IsSharing, Walks.numbers_met}
+use Rattle.fst_walks.specs.{Descending.{Visited, Visits}, Starting.IsSharing}
+use Rattle.fst_levels.specs.Walks.{numbers_met}
 use Rattle.fst_heads.specs.declared.pending.Pending.TheVariants as pending
 use Rattle.fst_walks.proofs.starts.visit_overlapped.Given as goal
 

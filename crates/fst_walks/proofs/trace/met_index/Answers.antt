@@ -1,4 +1,4 @@
-use Rattle.fst_walks.proofs.Visiting.{number_of_met}
+use Rattle.fst_levels.proofs.MetNumbers.{number_of_met}
 use Rattle.fst_walks.proofs.trace.met_index.Goals as goal
 
 pub returns-then-has_met-clause-live : goal.returns-then-has_met-clause-live

@@ -1,8 +1,9 @@
 use Rattle.std.proofs.Common.{◌-◌, length, take, drop, Contains, subst}
 use Rattle.std.proofs.lemmas.{Iterator.Adapters.YieldsList-from_rev_slice, Iterator.Consumers.YieldsList-turn}
 use Rattle.fst_heads.proofs.Waiting.{mapped}
-use Rattle.fst_walks.specs.{declared.needs.Need.Need, Needing.needs_of}
-use Rattle.fst_walks.proofs.Traced.{in_rest, in_reversed, need_found}
+use Rattle.fst_levels.specs.{declared.needs.Need.Need, Needing.needs_of}
+use Rattle.fst_walks.proofs.Traced.{in_rest, need_found}
+use Rattle.fst_levels.proofs.Reversed.{in_reversed}
 use Rattle.fst_walks.proofs.trace.met_need.Goals as goal
 
 pub returns-then-is_some : goal.returns-then-is_some

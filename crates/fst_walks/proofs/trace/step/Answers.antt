@@ -3,8 +3,9 @@ use Rattle.std.proofs.lemmas.{Iterator.Adapters.YieldsList-from_rev_slice, Itera
 use Rattle.fst_types.specs.Patches.{block_of_kind}
 use Rattle.fst_heads.specs.Heads.{kind_of}
 use Rattle.fst_heads.proofs.Indices.{patch_at}
-use Rattle.fst_walks.specs.Needing.{needs_of}
-use Rattle.fst_walks.proofs.Traced.{in_reversed, next_across, next_in_row}
+use Rattle.fst_levels.specs.Needing.{needs_of}
+use Rattle.fst_levels.proofs.Reversed.{in_reversed}
+use Rattle.fst_walks.proofs.Traced.{next_across, next_in_row}
 use Rattle.fst_walks.proofs.trace.step.Goals as goal
 
 pub returns-then-is_some : goal.returns-then-is_some

@@ -1,8 +1,9 @@
 use Rattle.std.proofs.Common.{sym, ◌∙◌}
 use Rattle.fst_heads.proofs.Indices.{index_here}
 use Rattle.fst_heads.specs.declared.test.Test.TheVariants as test
-use Rattle.fst_walks.specs.Needing.{needs_of}
-use Rattle.fst_walks.proofs.{NearRow.passes_here, Traced.{traced_end, traced_next, traced_start}}
+use Rattle.fst_levels.specs.Needing.{needs_of}
+use Rattle.fst_levels.proofs.NearRow.{passes_here}
+use Rattle.fst_walks.proofs.Traced.{traced_end, traced_next, traced_start}
 use Rattle.fst_walks.proofs.trace.trace.Goals as goal
 
 pub loop-init : goal.loop-init

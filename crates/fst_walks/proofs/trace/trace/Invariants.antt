@@ -1,4 +1,4 @@
-use Rattle.fst_walks.specs.Needing.{needs_of}
+use Rattle.fst_levels.specs.Needing.{needs_of}
 use Rattle.fst_walks.proofs.Traced.{IsTraced}
 use Rattle.fst_walks.proofs.trace.trace.Given as goal
 

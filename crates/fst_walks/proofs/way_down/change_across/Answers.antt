@@ -3,8 +3,9 @@ use Rattle.std.proofs.lemmas.{Bool.false≢true, List.Elements.{Contains-get_or}
 use Rattle.fst_types.specs.{Patches.block_of_kind}
 use Rattle.fst_heads.specs.{Heads.{kind_of, patches_of}, Reaching.IsReached}
 use Rattle.fst_heads.proofs.{Indices.patch_at, Listing.rising_patches}
-use Rattle.fst_walks.specs.{Needing.needs_of, Walks.numbers_met}
-use Rattle.fst_walks.proofs.{ComesBack.live_number, CrossingDown.crosses_from, Visiting.{index_met, long_met}}
+use Rattle.fst_levels.specs.{Needing.needs_of, Walks.numbers_met}
+use Rattle.fst_levels.proofs.{ComesBack.live_number, MetNumbers.{index_met, long_met}}
+use Rattle.fst_walks.proofs.CrossingDown.{crosses_from}
 use Rattle.fst_walks.proofs.way_down.change_across.Goals.{After-from-block}
 use Rattle.fst_walks.proofs.way_down.change_across.Goals as goal
 

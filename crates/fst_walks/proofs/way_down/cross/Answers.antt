@@ -3,7 +3,8 @@ use Rattle.std.proofs.lemmas.Bool.{false≢true}
 use Rattle.fst_types.specs.Patches.{block_of_kind}
 use Rattle.fst_heads.specs.{Heads.{kind_of, patches_of}, Reaching.IsReached}
 use Rattle.fst_heads.proofs.{Indices.patch_at}
-use Rattle.fst_walks.specs.{BothEnds.{CrossesDown}, Leveling.level_of, Needing.needs_of, Walks.numbers_met}
+use Rattle.fst_walks.specs.BothEnds.{CrossesDown}
+use Rattle.fst_levels.specs.{Leveling.level_of, Needing.needs_of, Walks.numbers_met}
 use Rattle.fst_walks.proofs.CrossingDown.{no_change, crosses_from, crosses_to, shows_more, shows_same, crosses_none, shows_none}
 use Rattle.fst_walks.proofs.Visiting.{visits_none, visits_same}
 use Rattle.fst_walks.proofs.way_down.cross.Goals as goal

@@ -1,7 +1,8 @@
 use Rattle.std.proofs.Common.{◌≡◌, ◌∙◌, ◌&&◌, ℕ, Option, get_or, sym, ap}
 use Rattle.fst_types.specs.{Patches.block_of_kind, Tests.is_change_at}
 use Rattle.fst_heads.specs.{Heads.{kind_of, patch_of}, Tests.is_hard_kind, declared.head.Head.Head}
-use Rattle.fst_walks.proofs.{CrossingBack.{no_change, hard_on_here, hard_same}, NearRow.{hard_here, here_hard}}
+use Rattle.fst_walks.proofs.CrossingBack.{no_change}
+use Rattle.fst_levels.proofs.{Above.{hard_on_here, hard_same}, NearRow.{hard_here, here_hard}}
 use Rattle.fst_types.specs.declared.place.Place.TheVariants as place
 use Rattle.fst_walks.proofs.way_down.is_any_hard.Goals as goal
 

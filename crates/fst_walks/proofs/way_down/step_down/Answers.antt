@@ -3,8 +3,10 @@ use Rattle.std.proofs.lemmas.List.Elements.{Contains-get_or}
 use Rattle.fst_types.specs.Dependencies.{IsLiveNumber}
 use Rattle.fst_heads.specs.Heads.{patches_of}
 use Rattle.fst_heads.proofs.Indices.{index_here}
-use Rattle.fst_walks.specs.{BothEnds.{CrossesDown, ShowsBlockUnder, StepsBelow, StepsHigh}, Descending.Visits, Leveling.level_of, Needing.needs_of, Walks.numbers_met}
-use Rattle.fst_walks.proofs.Visiting.{index_met, long_met, visits_both}
+use Rattle.fst_walks.specs.{BothEnds.{CrossesDown, ShowsBlockUnder, StepsBelow, StepsHigh}, Descending.Visits}
+use Rattle.fst_levels.specs.{Leveling.level_of, Needing.needs_of, Walks.numbers_met}
+use Rattle.fst_levels.proofs.MetNumbers.{index_met, long_met}
+use Rattle.fst_walks.proofs.Visiting.{visits_both}
 use Rattle.fst_walks.proofs.way_down.step_down.Goals as goal
 
 pub visit_high_below-below-requires-clause-index : goal.visit_high_below-below-requires-clause-index

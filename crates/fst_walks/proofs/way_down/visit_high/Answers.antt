@@ -3,8 +3,10 @@ use Rattle.std.proofs.Common.{◌≡◌, ◌≤◌, ◌∙◌, Contains, refl, s
 use Rattle.std.proofs.lemmas.Bool.{false≢true}
 use Rattle.fst_heads.specs.Heads.{patches_of}
 use Rattle.fst_heads.proofs.Indices.{live_at, not_live_none}
-use Rattle.fst_walks.specs.{BothEnds.IsHigh, Leveling.level_of, Walks.numbers_met}
-use Rattle.fst_walks.proofs.{Ranked.{no_rank, rank_level}, Visiting.{number_of_met, visits_none, visits_meet, visited_meet}}
+use Rattle.fst_walks.specs.BothEnds.{IsHigh}
+use Rattle.fst_levels.specs.{Leveling.level_of, Walks.numbers_met}
+use Rattle.fst_levels.proofs.{Ranked.{no_rank, rank_level}, MetNumbers.{number_of_met}}
+use Rattle.fst_walks.proofs.Visiting.{visits_none, visits_meet, visited_meet}
 use Rattle.fst_walks.proofs.way_down.visit_high.Goals.{After-is_live}
 use Rattle.fst_walks.proofs.way_down.visit_high.Goals as goal
 

@@ -2,7 +2,8 @@ use Rattle.std.proofs.Common.{◌∙◌, Contains, sym, subst}
 use Rattle.std.proofs.lemmas.Bool.{false≢true}
 use Rattle.fst_heads.specs.{Heads.patches_of, declared.head.Head.Head}
 use Rattle.fst_heads.proofs.Indices.{direct_at, named_at}
-use Rattle.fst_walks.specs.{BothEnds.{GoesBelow, StepsBelow}, Leveling.level_of, Walks.numbers_met}
+use Rattle.fst_walks.specs.BothEnds.{GoesBelow, StepsBelow}
+use Rattle.fst_levels.specs.{Leveling.level_of, Walks.numbers_met}
 use Rattle.fst_walks.proofs.Visiting.{visits_none, visits_same}
 use Rattle.fst_walks.proofs.way_down.visit_high_below.Goals as goal
 

@@ -1,7 +1,8 @@
 use Rattle.std.proofs.Common.{◌<◌, None, map, length, take, get_or, Contains, sym, subst, arith}
 use Rattle.std.proofs.lemmas.List.{get_or-map, length-map, take_all, take_more}
 use Rattle.fst_heads.specs.Heads.{patches_of}
-use Rattle.fst_walks.specs.{BothEnds.{IsHigh, IsHighNeed}, Descending.Visits, declared.needs.Need.Need, Leveling.level_of, Needing.needs_of, Walks.numbers_met}
+use Rattle.fst_walks.specs.{BothEnds.{IsHigh, IsHighNeed}, Descending.Visits}
+use Rattle.fst_levels.specs.{declared.needs.Need.Need, Leveling.level_of, Needing.needs_of, Walks.numbers_met}
 use Rattle.fst_walks.proofs.Visiting.{visits_next, visits_none, visits_same}
 use Rattle.fst_walks.proofs.way_down.visit_high_needs.Goals as goal
 

@@ -1,6 +1,7 @@
 use Rattle.std.proofs.Common.{map, take, Contains}
 use Rattle.fst_heads.specs.Heads.{patches_of}
-use Rattle.fst_walks.specs.{BothEnds.IsHigh, Descending.{Visited, Visits}, Leveling.level_of, Walks.numbers_met, declared.needs.Need.Need}
+use Rattle.fst_walks.specs.{BothEnds.IsHigh, Descending.{Visited, Visits}}
+use Rattle.fst_levels.specs.{Leveling.level_of, Walks.numbers_met, declared.needs.Need.Need}
 use Rattle.fst_walks.proofs.way_down.visit_high_needs.Given as goal
 
 -- the first of the needs are visited

@@ -1,7 +1,8 @@
 use Rattle.std.proofs.Common.{take, get_or, Contains, subst, arith}
 use Rattle.std.proofs.lemmas.List.{take_all, take_more}
 use Rattle.fst_heads.specs.Heads.{patches_of}
-use Rattle.fst_walks.specs.{BothEnds.IsHigh, Descending.Visits, Leveling.level_of, Walks.numbers_met}
+use Rattle.fst_walks.specs.{BothEnds.IsHigh, Descending.Visits}
+use Rattle.fst_levels.specs.{Leveling.level_of, Walks.numbers_met}
 use Rattle.fst_walks.proofs.Visiting.{visits_next}
 use Rattle.fst_walks.proofs.way_down.visit_high_row.Goals as goal
 

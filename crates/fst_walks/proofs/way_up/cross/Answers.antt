@@ -3,9 +3,12 @@ use Rattle.std.proofs.lemmas.Bool.{false≢true}
 use Rattle.fst_types.specs.{Patches.block_of_kind, Tests.is_change_at}
 use Rattle.fst_heads.specs.{Grading.IsHardNumber, Heads.{kind_of, patch_of, patches_of}, Reaching.IsReached, Tests.is_hard_kind}
 use Rattle.fst_heads.proofs.Indices.{patch_at}
-use Rattle.fst_walks.specs.{BothEnds.IsLowChange, Leveling.level_of, Walks.numbers_met, WayBack.Crosses}
-use Rattle.fst_walks.proofs.CrossingBack.{no_change, hard_on_here, hard_same, crosses_from, crosses_to, shows_more, shows_same, shows_none}
-use Rattle.fst_walks.proofs.{NearRow.{hard_here, here_hard}, Visiting.{visits_none, visits_same}}
+use Rattle.fst_walks.specs.BothEnds.{IsLowChange}
+use Rattle.fst_levels.specs.{Leveling.level_of, Walks.numbers_met, WayBack.Crosses}
+use Rattle.fst_walks.proofs.CrossingBack.{no_change, crosses_from, crosses_to, shows_more, shows_same, shows_none}
+use Rattle.fst_levels.proofs.Above.{hard_on_here, hard_same}
+use Rattle.fst_levels.proofs.NearRow.{hard_here, here_hard}
+use Rattle.fst_walks.proofs.Visiting.{visits_none, visits_same}
 use Rattle.fst_types.specs.declared.place.Place.TheVariants as place
 use Rattle.fst_walks.proofs.way_up.cross.Goals as goal
 

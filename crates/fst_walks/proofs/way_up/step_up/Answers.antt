@@ -4,8 +4,10 @@ use Rattle.std.proofs.lemmas.List.Elements.{Contains-get_or}
 use Rattle.fst_types.specs.{Closure.one, Dependencies.{DirectlyOn, IsLiveNumber}}
 use Rattle.fst_heads.specs.{Heads.patches_of, declared.head.Head.Head}
 use Rattle.fst_heads.proofs.{PendingAt.node_in, Indices.{any_default}}
-use Rattle.fst_walks.specs.{BothEnds.{IsLow, StepsLow}, Descending.Visits, Leveling.level_of, Walks.numbers_met, WayBack.{Crosses}}
-use Rattle.fst_walks.proofs.{CrossingBack.{above_from, above_there, above_to, off_disk}, Holding.live_up, Visiting.{index_met, long_met, visits_both, visits_same}}
+use Rattle.fst_walks.specs.{BothEnds.{IsLow, StepsLow}, Descending.Visits}
+use Rattle.fst_levels.specs.{Leveling.level_of, Walks.numbers_met, WayBack.{Crosses}}
+use Rattle.fst_levels.proofs.{Above.{above_from, above_there, above_to}, Holding.live_up, MetNumbers.{index_met, long_met}}
+use Rattle.fst_walks.proofs.{CrossingBack.{off_disk}, Visiting.{visits_both, visits_same}}
 use Rattle.fst_walks.proofs.way_up.step_up.Goals as goal
 
 pub visit_low_row-requires-clause-live : goal.visit_low_row-requires-clause-live

@@ -2,8 +2,10 @@ use Rattle.std.proofs.Common.{◌≡◌, ◌≤◌, ◌∙◌, get_or, refl, sub
 use Rattle.fst_types.specs.Dependencies.{IsLiveNumber}
 use Rattle.fst_heads.specs.{Heads.{patch_of, patches_of}, Indices.HasIndex}
 use Rattle.fst_heads.proofs.Indices.{not_live_none, patch_at, some_element}
-use Rattle.fst_walks.specs.{BothEnds.IsLow, Leveling.level_of, Walks.numbers_met}
-use Rattle.fst_walks.proofs.{Ranked.{no_rank, rank_level}, Visiting.{visits_none, visits_meet, visited_meet}}
+use Rattle.fst_walks.specs.BothEnds.{IsLow}
+use Rattle.fst_levels.specs.{Leveling.level_of, Walks.numbers_met}
+use Rattle.fst_levels.proofs.Ranked.{no_rank, rank_level}
+use Rattle.fst_walks.proofs.Visiting.{visits_none, visits_meet, visited_meet}
 use Rattle.fst_walks.proofs.way_up.visit_low.Goals.{In-Some}
 use Rattle.fst_walks.proofs.way_up.visit_low.Goals as goal
 

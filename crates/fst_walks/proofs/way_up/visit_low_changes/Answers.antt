@@ -2,8 +2,10 @@ use Rattle.std.proofs.Common.{◌≡◌, ◌∙◌, map, take, get_or, Contains,
 use Rattle.std.proofs.lemmas.List.{Elements.Contains-get_or, get_or-map, length-map, take_all, take_more, map_push}
 use Rattle.fst_heads.specs.{Heads.patches_of, Lists.{entries_of, entries_on}, declared.lists.Listed.Listed}
 use Rattle.fst_heads.proofs.Listing.{listed_at}
-use Rattle.fst_walks.specs.{BothEnds.{IsLow, IsLowChange}, Descending.Visits, Leveling.level_of, Walks.numbers_met}
-use Rattle.fst_walks.proofs.{CrossingBack.{change_listed, listed_change, change_live, off_disk}, Visiting.{visits_next, visits_none, visits_same}}
+use Rattle.fst_walks.specs.{BothEnds.{IsLow, IsLowChange}, Descending.Visits}
+use Rattle.fst_levels.specs.{Leveling.level_of, Walks.numbers_met}
+use Rattle.fst_levels.proofs.Above.{change_listed, listed_change, change_live}
+use Rattle.fst_walks.proofs.{CrossingBack.{off_disk}, Visiting.{visits_next, visits_none, visits_same}}
 use Rattle.fst_walks.proofs.way_up.visit_low_changes.Goals.{After-as_slice-list}
 use Rattle.fst_walks.proofs.way_up.visit_low_changes.Goals as goal
 

@@ -1,6 +1,7 @@
 use Rattle.std.proofs.Common.{◌≡◌, take, Contains}
 use Rattle.fst_heads.specs.Heads.{patches_of}
-use Rattle.fst_walks.specs.{BothEnds.IsLow, Descending.{Visited, Visits}, Leveling.level_of, Walks.numbers_met}
+use Rattle.fst_walks.specs.{BothEnds.IsLow, Descending.{Visited, Visits}}
+use Rattle.fst_levels.specs.{Leveling.level_of, Walks.numbers_met}
 use Rattle.fst_walks.proofs.way_up.visit_low_row.Given as goal
 
 abbrev pub invariant-loop-number : goal.invariant-loop-number

@@ -1,7 +1,7 @@
 use Rattle.std.proofs.Common.{[], refl, ◌≡◌, ◌∙◌, count_by, sym, ap, arith}
 use Rattle.fst_heads.specs.{Heads.patches_of, Names.numbers_of, Nodes.nodes_of, Standings.is_ready_on}
 use Rattle.fst_heads.proofs.Counts.{ready_counted}
-use Rattle.fst_walks.proofs.Resting.{empty_set, none_yet, chosen_ready, chosen_refused}
+use Rattle.fst_levels.proofs.Resting.{empty_set, none_yet, chosen_ready, chosen_refused}
 use Rattle.fst_graph.proofs.{Flagged.unspared, Grouped.{failed, fine}, RememberedLooks.{choice, ready}}
 use Rattle.fst_graph.proofs.Sound.{its_list, its_standing, many_lists, rising_sound, view_gone, with_prepared}
 use Rattle.fst_graph.proofs.sparse.Sparse.chosen.Goals as goal

@@ -1,8 +1,8 @@
 use Rattle.std.proofs.Common.{◌∙◌, [], length, option_map, refl, sym, ap, subst, None, inl, inr, arith}
 use Rattle.fst_types.specs.{Gates.IsOpenNumber, Order.depend_order, Refusals.NoneHolds}
 use Rattle.fst_heads.specs.{Heads.patches_of, Names.numbers_of, Nodes.{is_forgotten_in, nodes_of}}
-use Rattle.fst_walks.proofs.Seen.{same_patches}
-use Rattle.fst_walks.specs.{Searching.AreOver}
+use Rattle.fst_levels.proofs.Seen.{same_patches}
+use Rattle.fst_walks.specs.Searching.{AreOver}
 use Rattle.fst_graph.specs.{Known.Known, Ready.prepared_of, Sound.AreSound}
 use Rattle.fst_graph.proofs.{Flagged.{flags_of, gained_flags, gained_landed, remembered_as, remembered_still, roomier_shelf, unspared}, Remembered.open_known, RememberedCalls.depend_known, RememberedRules.depend_clear}
 use Rattle.fst_graph.proofs.{Borne.{few_waiting, settled_fits}, Made.{gained_sound, named_patches}, Ranks.leveled_then, Sound.{leveled_sound, open_given, over_both, rising_sound, roomier_sound, searched_sound, sees_all, view_gone}}

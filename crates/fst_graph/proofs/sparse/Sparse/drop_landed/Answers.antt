@@ -2,7 +2,7 @@ use Rattle.std.proofs.{Common.{◌≡◌, ◌≤◌, ◌∙◌, filter, count_by
 use Rattle.fst_types.specs.{Facts.SparseAreLawful, Tests.{is_at, is_live}}
 use Rattle.fst_heads.specs.{Heads.{patch_of, patches_of}, Nodes.{is_forgotten_in, nodes_of}}
 use Rattle.fst_heads.proofs.{AtNumber.patches_in_nodes, Beside.beside_dropped, Covering.covered_left, Flagged.{forgotten_dropped, landed_dropped, none_dropped}, Forgetting.{counted, keeps_dropped}, Placed.patches_dropped, Indices.rising_heads}
-use Rattle.fst_walks.proofs.{RanksLeft.left_is_leveled, Seen.{seen, lawful_nodes}}
+use Rattle.fst_levels.proofs.{RanksLeft.left_is_leveled, Seen.{seen, lawful_nodes}}
 use Rattle.fst_graph.specs.Sound.{remembered_of}
 use Rattle.fst_graph.proofs.{Forgets.{landed_bound, landed_long}, NeedsNow.needing_left, Ranks.leveled_as, Remembered.remembered_all, RememberedLooks.live_remembered, Sound.view_gone, Tallied.tallies_dropped, sparse.Sparse.drop_landed.Goals.After-forget}
 use Rattle.fst_types.specs.declared.place.Place.TheVariants as place

@@ -1,7 +1,7 @@
 use Rattle.std.proofs.Common.{refl, ◌≡◌, ◌∙◌, count_by, sym, ap, arith}
 use Rattle.fst_heads.specs.{Heads.patches_of, Nodes.nodes_of, Standings.is_held_on}
 use Rattle.fst_heads.proofs.Counts.{held_counted}
-use Rattle.fst_walks.proofs.Resting.{none_yet, none_there, none_held, least_held}
+use Rattle.fst_levels.proofs.Resting.{none_yet, none_there, none_held, least_held}
 use Rattle.std.proofs.lemmas.Option.{IfSome_then}
 use Rattle.fst_graph.proofs.{Flagged.unspared, PlaceOf.none_then, RememberedLooks.{held as was_held, least_held as least_known}}
 use Rattle.fst_graph.proofs.Sound.{its_list, its_standing, many_lists, rising_sound, view_gone, with_prepared}

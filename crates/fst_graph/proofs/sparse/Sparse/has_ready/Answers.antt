@@ -3,7 +3,7 @@ use Rattle.std.proofs.lemmas.Bool.{false≢true, ltb-true, lt-ltb}
 use Rattle.fst_types.specs.Writable.{HasReady}
 use Rattle.fst_heads.specs.{Heads.patches_of, Nodes.nodes_of, Standings.standing_of}
 use Rattle.fst_heads.proofs.AtNumber.{patches_in_nodes}
-use Rattle.fst_walks.proofs.{Resting.none_yet, Seen.lawful_nodes}
+use Rattle.fst_levels.proofs.{Resting.none_yet, Seen.lawful_nodes}
 use Rattle.fst_graph.proofs.{Marking.ready_counted, RememberedLooks.ready, Sound.{as_many_standings, view_gone}}
 use Rattle.fst_graph.proofs.sparse.Sparse.has_ready.Goals as goal
 

@@ -4,7 +4,7 @@ use Rattle.fst_heads.specs.{Heads.patches_of, Keeps.{IsInside, Tallies}, Lists.{
 use Rattle.fst_types.proofs.Landing.{alike_landed}
 use Rattle.fst_heads.proofs.{AtNumber.patches_in_nodes, Beside.{beside_landed, landed_few}, Carried.{linked_landed, distinct_landed}}
 use Rattle.fst_heads.proofs.{Counts.flying_counted, Landed.landed_map, Listing.{nothing_flies, is_off}, Starting.{starts_landed, patches_landed}}
-use Rattle.fst_walks.proofs.{Resting.none_yet, Seen.{seen, lawful_nodes}, Shelves.shelved}
+use Rattle.fst_levels.proofs.{Resting.none_yet, Seen.{seen, lawful_nodes}, Shelves.shelved}
 use Rattle.fst_graph.specs.Sound.{remembered_of}
 use Rattle.fst_graph.proofs.{Borne.{inside_nodes, stand_land}, Flagged.{flags_map, flags_of, flags_spread, remembered_as, remembered_still}, Kept.{covered_moved, keeps_landed}, NeedsNow.needing_landed}
 use Rattle.fst_graph.proofs.{Ranks.leveled_moved, RememberedRows.{landed_number, landed_remembered}, Sound.{rising_sound, as_many_lists, as_many_standings, view_gone}}

@@ -5,7 +5,7 @@ use Rattle.fst_heads.specs.{Heads.patches_of, Keeps.Beside, Names.numbers_of, No
 use Rattle.fst_graph.specs.Known.{Known}
 use Rattle.fst_types.proofs.Issuing.{alike_launched}
 use Rattle.fst_heads.proofs.{AtNumber.patches_in_nodes, Carried.risen_spread}
-use Rattle.fst_walks.proofs.{Resting.none_yet, Seen.lawful_nodes}
+use Rattle.fst_levels.proofs.{Resting.none_yet, Seen.lawful_nodes}
 use Rattle.fst_graph.proofs.{Flagged.{flags_map, flags_of, flags_spread, remembered_as, remembered_still}, Remembered.remembered_map, RememberedRows.launched_number, Risen.{beside_risen, landed_risen}}
 use Rattle.fst_graph.proofs.{Borne.inside_nodes, Kept.{covered_moved, keeps_launched, none_below_launched}, Launches.{some_chosen, first_named, none_first, block_found, block_some, chosen_ready, tallies_chosen}}
 use Rattle.fst_graph.proofs.{Marking.writable_rests, NeedsNow.needing_launched, Ranks.leveled_moved, Sound.{as_many_standings, rising_sound, view_gone}, sparse.Sparse.launch.Goals.{After-deref, After-launch-arg-2-1, After-launch}}

@@ -2,7 +2,7 @@ use Rattle.std.proofs.{Common.{◌≡◌, ◌∙◌, map, filter, count_by, leng
 use Rattle.fst_types.specs.Tests.{is_at, is_live}
 use Rattle.fst_heads.specs.{Heads.{patch_of, patches_of}, Landed.flags, Nodes.{is_forgotten_in, nodes_of}}
 use Rattle.fst_heads.proofs.{AtNumber.patches_in_nodes, Flagged.{flagged_left, forgotten_next, landed_flagged, patches_flagged}}
-use Rattle.fst_walks.proofs.Seen.{seen, lawful_nodes}
+use Rattle.fst_levels.proofs.Seen.{seen, lawful_nodes}
 use Rattle.fst_graph.specs.{Remembered.remembered, Sound.remembered_of}
 use Rattle.fst_graph.proofs.{Flagged.rising_nodes, Forgets.{landed_bound, landed_long, tallies_marked}, RememberedLooks.live_remembered, Sound.{rising_sound, view_gone}}
 use Rattle.fst_graph.proofs.sparse.Sparse.mark_landed.Goals.{After-flag_all}

@@ -3,7 +3,7 @@ use Rattle.fst_types.specs.{Order.room_order, Refusals.NoneHolds}
 use Rattle.fst_heads.specs.{Heads.patches_of, Nodes.{is_forgotten_in, nodes_of}}
 use Rattle.fst_types.specs.declared.fault.Fault.TheVariants as fault
 use Rattle.fst_heads.proofs.Linking.{rising_same}
-use Rattle.fst_walks.proofs.Seen.{same_patches}
+use Rattle.fst_levels.proofs.Seen.{same_patches}
 use Rattle.fst_graph.specs.{Known.{Known, Refuses}, Membering.{ArePaired, OverlapReaches, member_order}, Ready.{change_of, IsMemberReady, MayBePut}, Sound.{AreSound, remembered_of}}
 use Rattle.fst_graph.proofs.{Borne.ok_of, Flagged.gone_past, MemberReady.{foretold, member_found}, Readied.{member_found_as, member_put}, RememberedRules.{overlap_reaches, paired_was}, RememberedSealing.foretells_known, Reserved.{around_sound, inside_sound, ready_sound}, Shelf.same_view}
 use Rattle.fst_graph.proofs.Sound.{as_many_lists, over_both, rising_sound, sees_all, view_gone, walked_then}

@@ -4,7 +4,7 @@ use Rattle.fst_heads.specs.{Heads.patches_of, Names.numbers_of, Nodes.{is_forgot
 use Rattle.fst_types.specs.declared.fault.Fault.TheVariants as fault
 use Rattle.fst_graph.specs.{Known.{Known, Refuses}, Ready.{change_of, IsReady, IsReadyFor, MayBePut}, Sound.{AreSound, remembered_of}}
 use Rattle.fst_heads.proofs.Linking.{rising_same}
-use Rattle.fst_walks.proofs.Seen.{same_patches}
+use Rattle.fst_levels.proofs.Seen.{same_patches}
 use Rattle.fst_graph.proofs.{Borne.ok_of, Flagged.{gone_past, unspared}, Readied.{found_as, ready_adds, ready_found, ready_made}, RememberedSparse.pushed_remembered, Reserved.{around_sound, inside_sound, ready_sound}, Shelf.same_view}
 use Rattle.fst_graph.proofs.Sound.{as_many_lists, over_down, over_then, over_up, rising_sound, sees_all, view_gone, walked_then, with_prepared}
 use Rattle.fst_graph.proofs.sparse.Sparse.room.Goals.{After-deref, After-reserve_around-around}

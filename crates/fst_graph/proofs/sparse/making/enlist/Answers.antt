@@ -1,7 +1,7 @@
 use Rattle.std.proofs.Common.{◌≡◌, ◌∙◌, ap, arith, get_or, refl, vec_capacity, vec_len}
 use Rattle.std.proofs.lemmas.List.{get_or-map}
 use Rattle.fst_heads.proofs.Indices.{any_default}
-use Rattle.fst_walks.proofs.Shelves.{shelved_push}
+use Rattle.fst_levels.proofs.Shelves.{shelved_push}
 use Rattle.fst_graph.proofs.sparse.making.enlist.Goals as goal
 
 pub push_reserved-requires : goal.push_reserved-requires

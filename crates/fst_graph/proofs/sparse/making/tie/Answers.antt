@@ -1,7 +1,7 @@
 use Rattle.std.proofs.Common.{◌∷◌, ◌∙◌, [], ap, arith, length}
 use Rattle.fst_heads.specs.Nodes.{at_number, gains_names, nodes_of, pending_in}
 use Rattle.fst_heads.proofs.{Linking.rising_as, Sums.sums_few}
-use Rattle.fst_walks.proofs.Seen.{gained_number}
+use Rattle.fst_levels.proofs.Seen.{gained_number}
 use Rattle.fst_graph.proofs.Made.{summed}
 use Rattle.fst_graph.proofs.sparse.making.tie.Goals as goal
 

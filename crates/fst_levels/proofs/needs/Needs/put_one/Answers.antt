@@ -1,0 +1,45 @@
+use Rattle.std.proofs.{Common.{◌∙◌, ◌<◌, ◌++◌, ◌∷◌, [], map, set, length, ap, arith, sym, subst}, lemmas.List.{length-map, length-set, map_push}, Math.Seq.map-set_same}
+use Rattle.fst_heads.specs.Heads.{patches_of}
+use Rattle.fst_levels.specs.Needing.{IsSpared, Needing}
+use Rattle.fst_levels.proofs.{OneOfMany.{told_here, told_beside, told_was}, PutMore.{numbers_in, put_spared, put_joins}}
+use Rattle.fst_levels.specs.declared.needs.Need.{Need}
+use Rattle.fst_levels.proofs.needs.Needs.put_one.Goals as goal
+
+pub invariant_of-self : goal.invariant_of-self
+invariant_of-self c =
+    let s = c.self.inside in
+    let ls = s.lists.items in
+    let was = c.index_mut-list.result.now in
+    let new = c.push_reserved.new.self in
+    let lt : s.block < length ls = omega (arith, c.requires.block, ap (λ (v : Needing). v.block) c.self.view_is, ap (λ (v : Needing). length v.lists) c.self.view_is, length-map ls numbers_in) in
+    let len = told_here (λ l. l.len) ls s.block new 0 lt in
+    let cap = told_here (λ l. l.cap) ls s.block new 0 lt in
+    let was_len = told_was (λ l. l.len) ls s.block was 0 lt c.index_mut-list.ensures.value in
+    let was_cap = told_was (λ l. l.cap) ls s.block was 0 lt c.index_mut-list.ensures.value in
+    let one = ap (λ (v : Needing). v.room) c.self.view_is in
+    omega (arith, len, cap, was_len, was_cap, one, c.requires.room, c.self.invariant, c.push_reserved.ensures.len, c.push_reserved.ensures.capacity)
+
+pub returns-then-not-is_spared-clause-put : goal.returns-then-not-is_spared-clause-put
+returns-then-not-is_spared-clause-put c =
+    let s = c.self.inside in
+    let ls = s.lists.items in
+    let was = c.index_mut-list.result.now in
+    let new = c.push_reserved.new.self in
+    let lt : s.block < length ls = omega (arith, c.requires.block, ap (λ (v : Needing). v.block) c.self.view_is, ap (λ (v : Needing). length v.lists) c.self.view_is, length-map ls numbers_in) in
+    rw (← c.self.view_is)
+    (put_joins (patches_of c.args.heads.now) s.block c.args.number (map numbers_in ls) (map numbers_in (set ls s.block new))
+    (length-map (set ls s.block new) numbers_in ∙ (length-set ls s.block new ∙ sym (length-map ls numbers_in)))
+    (λ k other. told_beside numbers_in ls s.block new k [] other)
+    (told_here numbers_in ls s.block new [] lt ∙ (ap (map (λ (q : Need). q.number)) c.push_reserved.ensures.items ∙ (map_push (λ (q : Need). q.number) was.items _ ∙ ap (λ ns. ns ++ c.args.number ∷ []) (sym (told_was numbers_in ls s.block was [] lt c.index_mut-list.ensures.value))))))
+
+pub returns-else-not-is_spared-clause-put : goal.returns-else-not-is_spared-clause-put
+returns-else-not-is_spared-clause-put c =
+    let s = c.self.inside in
+    let ls = s.lists.items in
+    let was = c.index_mut-list.result.now in
+    let lt : s.block < length ls = omega (arith, c.requires.block, ap (λ (v : Needing). v.block) c.self.view_is, ap (λ (v : Needing). length v.lists) c.self.view_is, length-map ls numbers_in) in
+    let same = map-set_same numbers_in ls s.block was was (ap numbers_in c.index_mut-list.ensures.value) in
+    let row = ap (map (λ (q : Need). q.number)) c.deref.ensures.value ∙ sym (told_was numbers_in ls s.block was [] lt c.index_mut-list.ensures.value) in
+    rw (← c.self.view_is, same)
+    (put_spared (patches_of c.args.heads.now) s.block c.args.number (map numbers_in ls)
+    (subst (λ ns. IsSpared (patches_of c.args.heads.now) s.block ns c.args.number) row (c.is_spared.ensures c.if-not-is_spared.false)))

@@ -1,0 +1,20 @@
+use Rattle.std.proofs.Common.{◌≡◌, ◌∙◌, ◌&&◌, get_or, sym, ap}
+use Rattle.fst_types.specs.Tests.{is_change_at}
+use Rattle.fst_heads.specs.{Heads.{kind_of, patch_of}, Tests.is_hard_kind, declared.head.Head.Head}
+use Rattle.fst_levels.proofs.NearRow.{no_patch, hard_here, here_hard}
+use Rattle.fst_types.specs.declared.place.Place.TheVariants as place
+use Rattle.fst_levels.proofs.shortcuts.is_hard_number.Goals as goal
+
+pub returns-in-Some : goal.returns-in-Some
+returns-in-Some c =
+    let heads = c.args.heads.now in
+    let s = c.in-Some.index in
+    let d = c.index-heads-index.result in
+    let b = c.args.block in
+    let found = c.in-Some.ensures.found in
+    let said : c.is_hard_in.result ≡ (is_change_at place.Memory b (patch_of (get_or heads s d)) && is_hard_kind (kind_of (get_or heads s d).kind)) =
+    c.is_hard_in.ensures ∙ ap (λ (h : Head). is_change_at place.Memory b (patch_of h) && is_hard_kind (kind_of h.kind)) c.index-heads-index.is in
+    (λ e. hard_here heads c.requires c.args.number s d found b (sym said ∙ e), λ h. said ∙ here_hard heads c.requires c.args.number s d found b h)
+
+pub returns-in-None : goal.returns-in-None
+returns-in-None c = ((λ e. cc), λ h. absurd (no_patch c.args.heads.now c.args.number c.in-None.ensures.none h.patch h.head h.numbered))

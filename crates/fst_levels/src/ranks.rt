@@ -1,0 +1,164 @@
+//! What is done with the ranks of the heads and the floors of the blocks, which the levels keep (`levels`): finding a rank by
+//! its number, raising and lowering one, halving all, and dropping those of heads that are dropped.
+
+ghost use Rattle.std.specs.Prelude.{vec_capacity, ◌≡◌, ◌≢◌, ◌<◌, ℕ, length, map, filter, All, AllPairs, IsTrue, IfSome, IfNone, slice_index_or};
+ghost use Rattle.fst_types.specs.Patches.{IsOn};
+ghost use Rattle.fst_heads.specs.Heads.{IsRising, patch_of, patches_of};
+ghost use Rattle.fst_heads.specs.Reaching.{IsHardIn};
+ghost use Rattle.fst_heads.specs.Nodes.{is_live_in};
+ghost use Rattle.fst_heads.specs.Spans.{SpansDisk};
+ghost use Rattle.fst_levels.specs.Leveling.{floor_of, halved, halved_rank, level_of};
+
+use crate::directory::Directory;
+use crate::levels::{Rank, TOP};
+use crate::shortcuts::is_hard_in;
+use fst_heads::head::{Head, Kind};
+use fst_heads::places::is_kept;
+
+/// The head at the index is at that level.
+pub fn raise(ranks: &mut Vec<Rank>, index: usize, to: u32)
+    requires index { index < length ranks.old.items }
+    requires rising { AllPairs (λ r q. r.number < q.number) ranks.old.items }
+    ensures numbers { map (λ r. r.number) ranks.new.items ≡ map (λ r. r.number) ranks.old.items }
+    ensures raised { (d : Rank) → level_of ranks.new.items (slice_index_or ranks.old.items index d).number ≡ to }
+    ensures rest { (d : Rank) (n : ℕ) → n ≢ (slice_index_or ranks.old.items index d).number → level_of ranks.new.items n ≡ level_of ranks.old.items n }
+    ensures ancestries { map (λ r. r.ancestry) ranks.new.items ≡ map (λ r. r.ancestry) ranks.old.items }
+    ensures capacity { vec_capacity ranks.new ≡ vec_capacity ranks.old }
+{
+    ranks[index].level = to;
+}
+
+/// Where the patch is a hard change in memory, the floor of its block is there.
+pub fn raise_floor(floors: &mut Vec<u32>, head: &Head, to: u32)
+    requires { (c : ℕ) → IsOn (patch_of head.now) c → c < length floors.old.items }
+    ensures long { length floors.new.items ≡ length floors.old.items }
+    ensures raised { (c : ℕ) → IsHardIn (patch_of head.now) c → floor_of floors.new.items c ≡ to }
+    ensures rest { (c : ℕ) → (IsHardIn (patch_of head.now) c → ⊥) → floor_of floors.new.items c ≡ floor_of floors.old.items c }
+{
+    if let Kind::Change(_, block, _) = head.kind {
+        if is_hard_in(head, block as u32) {
+            floors[block as usize] = to;
+        }
+    }
+}
+
+// Half of a level, or the top.
+fn halved(level: u32) -> u32
+    ensures { result ≡ halved level }
+{
+    if level < TOP { level / 2 } else { level }
+}
+
+/// Each rank has half of its level, but those at the top.
+pub fn halve_ranks(ranks: &mut Vec<Rank>)
+    ensures ranks { ranks.new.items ≡ map halved_rank ranks.old.items }
+    ensures capacity { vec_capacity ranks.new ≡ vec_capacity ranks.old }
+{
+    for rank in ranks.iter_mut() {
+        rank.level = halved(rank.level);
+    }
+}
+
+/// Each floor is half as high, but those at the top.
+pub fn halve_floors(floors: &mut Vec<u32>)
+    ensures { floors.new.items ≡ map halved floors.old.items }
+{
+    for floor in floors.iter_mut() {
+        *floor = halved(*floor);
+    }
+}
+
+// The index of the rank with the number, where none of those behind it is missing: then it is as far from the last index as its
+// number is from the last number.
+fn rank_from_end(ranks: &[Rank], number: u32) -> Option<usize>
+    ensures { IfSome result (λ index. (index < length ranks.now) × ((d : Rank) → (slice_index_or ranks.now index d).number ≡ number)) }
+{
+    let last = ranks.last()?.number;
+    if last < number {
+        return None;
+    }
+    let back = (last - number) as usize;
+    if ranks.len() <= back {
+        return None;
+    }
+    let index = ranks.len() - back - 1;
+    if ranks[index].number == number {
+        Some(index)
+    } else {
+        None
+    }
+}
+
+// Whether the rank with the number stands there.
+fn is_there(ranks: &[Rank], place: usize, number: u32) -> bool
+    ensures { IsTrue result → (place < length ranks.now) × ((d : Rank) → (slice_index_or ranks.now place d).number ≡ number) }
+{
+    match ranks.get(place) {
+        Some(rank) => rank.number == number,
+        None => false,
+    }
+}
+
+// Whether the number is that of no rank, since it lies between that of the rank there and the one before.
+fn is_missing(ranks: &[Rank], place: usize, number: u32) -> bool
+    requires { AllPairs (λ r q. r.number < q.number) ranks.now }
+    ensures { IsTrue result → All (λ r. r.number ≢ number) ranks.now }
+{
+    if ranks.len() < place {
+        return false;
+    }
+    if 0 < place && ranks[place - 1].number >= number {
+        return false;
+    }
+    place == ranks.len() || number < ranks[place].number
+}
+
+/// The index of the rank with the number.
+pub fn rank_index(ranks: &[Rank], directory: &Directory, number: u32) -> Option<usize>
+    requires { AllPairs (λ r q. r.number < q.number) ranks.now }
+    ensures found { IfSome result (λ index. (index < length ranks.now) × ((d : Rank) → (slice_index_or ranks.now index d).number ≡ number)) }
+    ensures none { IfNone result (All (λ r. r.number ≢ number) ranks.now) }
+{
+    if let Some(index) = rank_from_end(ranks, number) {
+        return Some(index);
+    }
+    if let Some(place) = directory.place(number) {
+        if is_there(ranks, place, number) {
+            return Some(place);
+        }
+        if is_missing(ranks, place, number) {
+            return None;
+        }
+    }
+    match ranks.binary_search_by_key(&number, |rank| rank.number) {
+        Ok(index) => Some(index),
+        Err(_) => None,
+    }
+}
+
+/// The ranks of heads that are not on disk stay; those on disk stand from `first` up to `end`, and are left out of the
+/// directory. Heads stand in the order of their ranks.
+pub fn keep_live(
+    ranks: &mut Vec<Rank>,
+    directory: &mut Directory,
+    heads: &[Head],
+    first: usize,
+    end: usize,
+)
+    requires rising { IsRising heads.now }
+    requires aligned { map (λ r. r.number) ranks.old.items ≡ map (λ p. p.number) (patches_of heads.now) }
+    requires disk { SpansDisk (patches_of heads.now) first end }
+    ensures ranks { ranks.new.items ≡ filter (λ r. is_live_in (patches_of heads.now) r.number) ranks.old.items }
+    ensures capacity { vec_capacity ranks.new ≡ vec_capacity ranks.old }
+{
+    let mut kept = first;
+    for index in first..end {
+        if is_kept(&heads[index]) {
+            ranks[kept] = ranks[index];
+            kept += 1;
+        } else {
+            directory.leave_out(ranks[index].number);
+        }
+    }
+    ranks.drain(kept..end);
+}

@@ -1,6 +1,0 @@
-use Rattle.fst_heads.specs.Heads.{patches_of}
-use Rattle.fst_walks.specs.Ancestors.{LeadsTo}
-use Rattle.fst_walks.proofs.ancestors.first_off.Given as goal
-
-abbrev pub invariant-loop : goal.invariant-loop
-invariant-loop l = LeadsTo (patches_of l.sight.heads.now) l.number l.at

@@ -1,8 +1,0 @@
-use Rattle.std.proofs.Common.{take}
-use Rattle.fst_heads.specs.Heads.{patches_of}
-use Rattle.fst_walks.specs.{Lifting.IsLifted, Walks.numbers_met}
-use Rattle.fst_walks.proofs.levels.Levels.lift_all.Given as goal
-
--- those met first are lifted
-abbrev pub invariant-loop-at : goal.invariant-loop-at
-invariant-loop-at l = IsLifted (patches_of l.heads) (take l.at (numbers_met l.heads l.walk)) l.to l.fn.self l.self
