@@ -12,7 +12,6 @@ use Rattle.fst_cache.specs.Kept.{IsKeptSeat, IsKept, IsSameAt, block_view, block
 -- a seat agrees with another state in which its block is the same
 pub moved : (s t : State) (j : ℕ) (seat : SeatView) → IsSameAt s t j → IsKeptSeat s j seat → IsKeptSeat t j seat
 moved s t j seat same k = record {
-  place = k.place;
   loaded = λ l e. k.loaded l e ∙ sym (view_same s t j same);
   dirty = λ d. k.dirty (same.dirty d);
   home = k.home;

@@ -6,7 +6,6 @@ mod GroupWhole
 mod Kept
 mod MakeBeside
 mod MakeChanged
-mod MakeCounted
 mod MakeReady
 mod MakeRefused
 mod MakeStep

@@ -4,7 +4,7 @@ use Rattle.std.proofs.Common.{◌≡◌, ℕ, List, map, Option, refl, sym, ap, 
 use Rattle.std.specs.Prelude.{slice_index}
 use Rattle.fst_block.specs.BlockView.{BlockPatch}
 use Rattle.fst_graph.specs.Known.{Known, Prepared}
-use Rattle.fst_seat.specs.Seats.{SeatView, blocks}
+use Rattle.fst_seat.specs.Seats.{SeatView}
 use Rattle.fst_cache.specs.Kept.{IsKept, state_of}
 use Rattle.fst_seat.specs.Residing.{Puts}
 use Rattle.fst_seat.proofs.Seated.{same_listed}
@@ -24,9 +24,6 @@ module _ (size resident tickets made : ℕ) (graph graph' : Known) (prepared : O
   faults_made =
       let still : map (λ (t : SeatView). t.faults) seats' ≡ map (λ (t : SeatView). t.faults) puts.read = put_listed (λ (t : SeatView). t.faults) (λ t o. refl) in
       still ∙ (load.faults ∙ ap (λ (xs : List ℕ). slice_set (map (λ (t : SeatView). t.faults) seats) b (slice_index xs b)) (sym still))
-
-  pub blocks_made : blocks seats' ≡ blocks seats
-  blocks_made = put_listed (λ (t : SeatView). t.block) (λ t o. refl) ∙ load.blocks
 
   pub homes_made : map (λ (t : SeatView). t.home) seats' ≡ map (λ (t : SeatView). t.home) seats
   homes_made = put_listed (λ (t : SeatView). t.home) (λ t o. refl) ∙ load.homes

@@ -104,7 +104,6 @@ module _ (s t : State) (given : IsNumbered s) (b at number : ℕ) (bytes depende
   -- the seat of the changed block, with the patch
   pub seat_put : (seat : SeatView) → IsKeptSeat s b seat → (view : BlockView) → seat.loaded ≡ Some view → IsKeptSeat t b (record seat { loaded = Some (record view { patches = view.patches ++ put ∷ [] }) })
   seat_put seat k view there = record {
-    place = k.place;
     loaded = λ l e. some_same (sym e) ∙ view_is;
     dirty = λ d. refl;
     home = k.home;

@@ -1,10 +1,9 @@
 -- Making a change from end to end: room in the graph, the block in memory, its patch, the change in the graph.
-use Rattle.std.proofs.Common.{◌≡◌, ◌+◌, ℕ, Bool, true, List, [], ◌∷◌, ◌++◌, map, Option, refl, sym, ap, subst, ◌∙◌, inl, inr, length, take, arith}
+use Rattle.std.proofs.Common.{◌≡◌, ◌+◌, ℕ, Bool, true, List, [], ◌∷◌, ◌++◌, map, Option, refl, sym, subst, inl, inr, length, arith}
 use Rattle.std.proofs.lemmas.Bool.{both_ways}
-use Rattle.std.specs.Prelude.{nat_lt, slice_index, IsErrOf, Err, Ok, Result, IfOk, MatchResult, ◌⊎◌}
+use Rattle.std.specs.Prelude.{nat_lt, slice_index, Err, Ok, Result, IfOk, MatchResult}
 use Rattle.fst_types.specs.declared.number.PatchNo.{PatchNo}
 use Rattle.fst_types.specs.declared.fault.Fault.{Fault}
-use Rattle.fst_types.specs.declared.fault.Fault.TheVariants as fault
 use Rattle.fst_types.specs.declared.grade.Grade.{Grade}
 use Rattle.fst_types.specs.State.{State}
 use Rattle.fst_types.specs.Counts.{is_dirty, IsDirty}
@@ -13,7 +12,6 @@ use Rattle.fst_types.specs.Events.{MakeChange, MadeChange, Refused}
 use Rattle.fst_types.specs.Order.{make_order, IsLoadFault}
 use Rattle.fst_types.specs.Refusals.{NoneHolds}
 use Rattle.fst_types.specs.Step.{Step, refused}
-use Rattle.fst_block.specs.BlockView.{BlockPatch}
 use Rattle.fst_graph.specs.Known.{Known, unprepared, Prepared, AddsChange}
 use Rattle.fst_seat.specs.Seats.{SeatView}
 use Rattle.fst_cache.specs.Kept.{IsKept, state_of, span_of}
@@ -78,38 +76,6 @@ module _ (size resident tickets made : ℕ) (graph graph' : Known) (prepared : O
     kept_made =
         subst (λ (xs : List SeatView). IsKept (state_of size resident tickets (made + 1) graph'' (contents ++ (number, bytes) ∷ []) xs) graph'' xs) (sym puts.seats)
         (kept_change size resident tickets made graph' graph'' contents read kept_read b puts.seat puts.at puts.view puts.there share at number bytes names grade may_read adds)
-
--- the front of a list as long as it
-pub taken : {X : Type 0} (n : ℕ) (xs ys : List X) → n ≡ length xs → take n (xs ++ ys) ≡ xs
-taken n xs ys e = ap (λ k. take k (xs ++ ys)) e ∙ whole xs ys
-  where
-    whole : {X : Type 0} (xs ys : List X) → take (length xs) (xs ++ ys) ≡ xs
-    whole [] ys = refl
-    whole (x ∷ xs) ys = ap (λ (r : List _). x ∷ r) (whole xs ys)
-
-same_fault : (r : Result (Unit {0}) Fault) (x y : Fault) → r ≡ Err x → r ≡ Err y → x ≡ y
-same_fault r x y a b = cc
-
--- why a load was refused
-pub load_fault : (r : Result (Unit {0}) Fault) (f : Fault) (faulted : Bool) → r ≡ Err f → (IsErrOf r fault.Device ⊎ IsErrOf r fault.Memory) → (IsErrOf r fault.Device → faulted ≡ true) → IsLoadFault faulted f
-load_fault r f faulted is (inl device) rose = inr (same_fault r f fault.Device is device, rose device)
-load_fault r f faulted is (inr memory) rose = inl (same_fault r f fault.Memory is memory)
-
--- what a call did with the slice of a list is done with the list
-module _ (resident : ℕ) (old slice new : List SeatView) (b n : ℕ) (rest : List SeatView) (of : slice ≡ old) (long : n ≡ length new) where
-  abbrev now : List SeatView
-  now = take n (new ++ rest)
-
-  pub load_here : MayLoad resident slice b new → MayLoad resident old b now
-  load_here load = subst (λ (xs : List SeatView). MayLoad resident old b xs) (sym (taken n new rest long)) (subst (λ (xs : List SeatView). MayLoad resident xs b new) of load)
-
-  pub puts_here : (patch : BlockPatch) → Puts resident slice b patch new → Puts resident old b patch now
-  puts_here patch puts = subst (λ (xs : List SeatView). Puts resident old b patch xs) (sym (taken n new rest long)) (subst (λ (xs : List SeatView). Puts resident xs b patch new) of puts)
-
-  pub rose_here : faults_rose (map (λ (t : SeatView). t.faults) slice) (map (λ (t : SeatView). t.faults) new) b ≡ true → faults_rose (map (λ (t : SeatView). t.faults) old) (map (λ (t : SeatView). t.faults) now) b ≡ true
-  rose_here rose =
-      subst (λ (xs : List SeatView). faults_rose (map (λ (t : SeatView). t.faults) old) (map (λ (t : SeatView). t.faults) xs) b ≡ true) (sym (taken n new rest long))
-      (subst (λ (xs : List SeatView). faults_rose (map (λ (t : SeatView). t.faults) xs) (map (λ (t : SeatView). t.faults) new) b ≡ true) of rose)
 
 -- what is prepared does not matter to what a change adds
 of_unprepared : (old : Known) (b at len : ℕ) (names : List ℕ) (number : ℕ) (grade : Grade) (new : Known) → AddsChange (unprepared old) b at len names number grade new → AddsChange old b at len names number grade new

@@ -28,8 +28,5 @@ pub stable : (m n : ℕ) → ((m ≢ n) → ⊥) → m ≡ n
 stable m n h = grind (arith, h)
 
 -- the other way
-pub placed_each : {X : Type 0} (f : X → ℕ) (xs : List X) → (IsMisplaced (map f xs) → ⊥) → (k : ℕ) (d : X) → k < length xs → f (get_or xs k d) ≡ k
-placed_each f xs none k d lt = stable (f (get_or xs k d)) k (λ differs. none (k, rw length-map lt, λ e. differs (sym (get_or-map f xs k d 0 lt) ∙ e)))
-
 pub sized_each : {X : Type 0} (f : X → ℕ) (size : ℕ) (xs : List X) → (IsMissized size (map f xs) → ⊥) → (k : ℕ) (d : X) → k < length xs → f (get_or xs k d) ≡ size
 sized_each f size xs none k d lt = stable (f (get_or xs k d)) size (λ differs. none (k, rw length-map lt, λ e. differs (sym (get_or-map f xs k d 0 lt) ∙ e)))

@@ -1,8 +1,7 @@
 -- What the type of a cache keeps, and what it shows, where it was opened over these slots.
-use Rattle.std.proofs.Common.{◌≡◌, ◌≤◌, ℕ, false, List, [], ◌∷◌, None, is_some, length, replicate, map, count_by, get_or, Some, refl, sym, ap, subst, ◌∙◌, inl, inr, arith}
+use Rattle.std.proofs.Common.{◌≡◌, ◌≤◌, ℕ, false, List, [], ◌∷◌, None, is_some, length, map, count_by, get_or, Some, refl, sym, subst, ◌∙◌, inl, arith}
 use Rattle.std.proofs.lemmas.List.{length-map}
 use Rattle.std.proofs.lemmas.List.Elements.{All-map}
-use Rattle.std.proofs.lemmas.Option.{slice_get_within, get_or_from_slice_get}
 use Rattle.fst_types.specs.Opening.{opening}
 use Rattle.fst_types.specs.State.{State, BlockState}
 use Rattle.fst_types.specs.Limits.{max_number, max_ticket}
@@ -12,26 +11,13 @@ use Rattle.fst_types.specs.Facts.{IsLawful}
 use Rattle.fst_types.proofs.Opened.{opening_is_lawful}
 use Rattle.fst_graph.specs.Known.{Known}
 use Rattle.fst_seat.specs.Seats.{SeatView, seat_of, seats_of, blocks}
-use Rattle.fst_seat.specs.Residing.{are_loaded, residents_of}
-use Rattle.fst_seat.proofs.Dirty.{none_dirty, residents_are}
 use Rattle.fst_cache.specs.Kept.{IsKeptSeat, IsKept, state_of, view_of}
-use Rattle.fst_cache.proofs.OpenPlaced.{map-twice, placed_each, sized_each, stable}
+use Rattle.fst_cache.proofs.OpenPlaced.{map-twice, sized_each, stable}
 use Rattle.fst_seat.proofs.Exchanging.{map_get}
 
 none_loaded : {X : Type 0} (held : X → List ℕ) (index faults : X → ℕ) (slots : List X) → count_by (λ (s : SeatView). is_some s.loaded) (seats_of held index faults slots) ≡ 0
 none_loaded held index faults [] = refl
 none_loaded held index faults (x ∷ xs) = none_loaded held index faults xs
-
--- and so it is listed, and none is dirty
-pub none_listed : {X : Type 0} (held : X → List ℕ) (index faults : X → ℕ) (slots : List X) (most n : ℕ) → n ≡ length slots
-    → record { most = most; loaded = replicate n false; dirty = replicate n false } ≡ residents_of most (seats_of held index faults slots)
-none_listed held index faults slots most n many =
-    let long : replicate n false ≡ replicate (length slots) false = ap (λ (m : ℕ). replicate m false) many in
-    residents_are most (seats_of held index faults slots) (replicate n false) (replicate n false) (long ∙ each slots) (long ∙ none_dirty held index faults slots)
-  where
-    each : (xs : List _) → replicate (length xs) false ≡ are_loaded (seats_of held index faults xs)
-    each [] = refl
-    each (x ∷ xs) = ap (λ ts. false ∷ ts) (each xs)
 
 abbrev pub new_graph : (numbers blocks : ℕ) → Known
 new_graph numbers blocks = record { heads = []; numbers = numbers; blocks = blocks; groups = []; prepared = None }
@@ -71,9 +57,7 @@ module _ {X : Type 0} (held : X → List ℕ) (index size_of faults : X → ℕ)
     loaded = rw (none_loaded held index faults slots) (omega arith);
     seat = λ b seat e.
         let r = map_get seat_at slots b seat e in
-        let lt = slice_get_within slots b r.0 r.1 in
         subst (IsKeptSeat first b) r.2 (record {
-          place = ap index (sym (get_or_from_slice_get slots b r.0 r.0 r.1)) ∙ placed_each index slots (λ m. free.0 (inr m)) b r.0 lt;
           loaded = λ l h. cc;
           dirty = λ d. cc;
           home = refl;

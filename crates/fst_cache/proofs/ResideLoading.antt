@@ -1,5 +1,5 @@
 -- What the cache's type keeps, as blocks come into memory and leave it.
-use Rattle.std.proofs.Common.{◌≡◌, ◌⊎◌, ◌<◌, ◌≤◌, ◌+◌, ℕ, Bool, true, false, cond, List, [], ◌∷◌, map, Option, Some, None, is_some, refl, sym, ap, subst, ◌∙◌, inl, inr, arith, length, slice_get, slice_set, length-set, take, drop, ◌++◌}
+use Rattle.std.proofs.Common.{◌≡◌, ◌⊎◌, ◌<◌, ◌≤◌, ◌+◌, ℕ, Bool, true, false, cond, List, map, Option, Some, None, is_some, refl, sym, ap, subst, ◌∙◌, inl, inr, arith, slice_get, slice_set, length-set}
 use Rattle.std.specs.Prelude.{slice_index}
 use Rattle.std.proofs.lemmas.Bool.{false≢true, cases_lt}
 use Rattle.std.proofs.lemmas.List.{set-get_or}
@@ -52,7 +52,6 @@ module _ (s : State) (graph : Known) (seats : List SeatView) (K : IsKept s graph
 
       here : IsKeptSeat s b (record seat { loaded = None })
       here = record {
-        place = (K.seat b seat at_b).place;
         loaded = λ l e. absurd (none e);
         dirty = λ d. absurd (false≢true (sym still ∙ (dirty_is s graph seats K same b seat at_b ∙ d)));
         home = (K.seat b seat at_b).home;
@@ -90,7 +89,6 @@ module _ (s : State) (graph : Known) (seats : List SeatView) (K : IsKept s graph
 
       here : IsKeptSeat s b (record seat { loaded = loaded; faults = faults })
       here = record {
-        place = (K.seat b seat at_b).place;
         loaded = λ l e.
             elim read [
               | inl none ↦ absurd (none_some (sym none ∙ e))
@@ -190,11 +188,3 @@ pub loads_clean : (s : State) (graph : Known) (seats : List SeatView) → IsKept
 loads_clean s graph seats K same b new L =
     let P = placed_by s graph seats K same L.placed L.place in
     clean s graph L.placed P.kept (same ∙ sym P.blocks) b L.seat L.at L.away
-
-take_front : {X : Type 0} (xs ys : List X) → take (length xs) (xs ++ ys) ≡ xs
-take_front [] ys = refl
-take_front (x ∷ xs) ys = ap (λ r. x ∷ r) (take_front xs ys)
-
--- a vector whose items were all written has them
-pub written_back : {X : Type 0} (n : ℕ) (new old : List X) → length new ≡ n → take n (new ++ drop (length new) old) ≡ new
-written_back n new old long = ap (λ m. take m (new ++ drop (length new) old)) (sym long) ∙ take_front new (drop (length new) old)

@@ -17,7 +17,6 @@ use Rattle.fst_block.specs.BlockView.{BlockView}
 use Rattle.fst_block.specs.BlockView as block
 use Rattle.fst_graph.specs.Known.{Known}
 use Rattle.fst_seat.specs.Seats.{SeatView, blocks, has_patches, is_dirty_with, is_dirty_seat}
-use Rattle.fst_seat.specs.Residing.{IsAtRestWhereAway}
 use Rattle.fst_cache.specs.Kept.{IsKept, block_patch, block_view}
 use Rattle.fst_seat.proofs.Seated.{block_here}
 use Rattle.fst_seat.proofs.Counts.{count_by_places, count_lt}
@@ -148,7 +147,3 @@ module _ (s : State) (graph : Known) (seats : List SeatView) (K : IsKept s graph
     -- a block that has room has it
     pub room_for : (HasNoRoom s b → ⊥) → seat.loaded ≡ None → count_by is_dirty_seat seats < s.resident
     room_for room away = ltb-true (count_by is_dirty_seat seats) s.resident ((room_else (ap is_some away)).1 room)
-
-  -- a block that is not in memory has no flight
-  pub at_rest : IsAtRestWhereAway seats
-  at_rest b seat at_b away = no_flight b seat at_b (clean b seat at_b away)

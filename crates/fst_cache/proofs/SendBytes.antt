@@ -1,9 +1,7 @@
 -- The image of a write: what is committed, with the chosen changes of the block over it.
 use Rattle.std.specs.Prelude.{◌&&◌, not}
-use Rattle.std.proofs.Common.{◌≡◌, ◌≤◌, ℕ, Bool, true, false, List, [], ◌∷◌, map, Option, Some, IsSome, None, refl, sym, ap, subst, ◌∙◌, arith, length, get_or, slice_get, IfSome}
-use Rattle.std.proofs.lemmas.List.{length-map}
+use Rattle.std.proofs.Common.{◌≡◌, ℕ, Bool, true, false, List, [], ◌∷◌, map, Option, Some, IsSome, None, refl, sym, ap, subst, ◌∙◌, arith, length, slice_get, IfSome}
 use Rattle.std.proofs.lemmas.List.Folds.{list_any_at}
-use Rattle.std.proofs.lemmas.Option.{slice_get_read}
 use Rattle.fst_types.specs.declared.number.PatchNo.{PatchNo}
 use Rattle.fst_types.specs.declared.place.Place.{Place}
 use Rattle.fst_types.specs.declared.place.Place.TheVariants as place
@@ -28,6 +26,7 @@ use Rattle.fst_graph.specs.Known.{Known}
 use Rattle.fst_seat.specs.Names.{numbers_of}
 use Rattle.fst_cache.specs.Views.{CacheView}
 use Rattle.fst_seat.specs.Seats.{SeatView, blocks, is_dirty_seat}
+use Rattle.fst_seat.specs.Writing.{MayGoOut}
 use Rattle.fst_cache.specs.Kept.{IsKept, state_of, view_of, block_patch, block_patches, block_view}
 use Rattle.fst_seat.proofs.Seated.{block_here}
 use Rattle.fst_cache.proofs.ResideSeats.{dirty_is}
@@ -59,18 +58,16 @@ pub record MaySend (s : State) (graph : Known) (seats : List SeatView) (b : ℕ)
 
 pub may_send : (size resident tickets made : ℕ) (graph : Known) (contents : List (ℕ × List ℕ)) (seats : List SeatView) (now : CacheView)
     → view_of (state_of size resident tickets made graph contents seats) seats ≡ now → IsKept (state_of size resident tickets made graph contents seats) graph seats
-    → (b : ℕ) (seat : SeatView) (names : List PatchNo) → NoneHolds (order now.state (Issue b)) → IsWritableSet now.state.heads b (numbers_of names) → seat ≡ get_or seats b seat
+    → (b : ℕ) (seat : SeatView) (names : List PatchNo) → NoneHolds (order now.state (Issue b)) → IsWritableSet now.state.heads b (numbers_of names) → slice_get seats b ≡ Some seat
     → MaySend (state_of size resident tickets made graph contents seats) graph seats b seat names
-may_send size resident tickets made graph contents seats now view K b seat names clear choice value =
+may_send size resident tickets made graph contents seats now view K b seat names clear choice at_b =
     let s = state_of size resident tickets made graph contents seats in
-    let free : NoneHolds (order s (Issue b)) = rw (← view) at clear in
-    let past : length seats ≤ b → ⊥ = rw length-map at free.0 in
     record {
       kept = K;
-      at_b = slice_get_read seats (length seats) b seat refl (omega (arith, past)) value;
+      at_b = at_b;
       same = refl;
       choice = rw (← view) at choice;
-      clear = free;
+      clear = rw (← view) at clear;
     }
 
 module _ (s : State) (graph : Known) (seats : List SeatView) (b : ℕ) (seat : SeatView) (names : List PatchNo) (S : MaySend s graph seats b seat names) where
@@ -94,7 +91,7 @@ module _ (s : State) (graph : Known) (seats : List SeatView) (b : ℕ) (seat : S
   pub block_is : block_of s b ≡ seat.block
   block_is = rw S.same (block_here seats b seat S.at_b)
 
-  pub idle : seat.block.flight ≡ None
+  idle : seat.block.flight ≡ None
   idle = ap (λ (v : BlockState). v.flight) (sym block_is) ∙ at_home s law b names S.choice S.clear
 
   pub chosen_here : IfSome seat.loaded (λ l. IsChoice l.patches names)
@@ -106,17 +103,14 @@ module _ (s : State) (graph : Known) (seats : List SeatView) (b : ℕ) (seat : S
       ap (λ (f : Option Flight). fold_of (base_under (committed s b) f) (chosen_of names (block_patches s b))) (at_home s law b names S.choice S.clear)
       ∙ (ap (fold_of (committed s b)) (chosen_part s law b names S.choice) ∙ ap (fold (committed s b)) (same_writes s (patches_of s (numbers_of names))))
 
-  pub folded_here : (image : List ℕ) → image ≡ image_of s b (numbers_of names) → IfSome seat.loaded (λ l. image ≡ fold_of l.base (chosen_of names l.patches))
-  folded_here image e = rw loaded_is (e ∙ sym image_is)
-
   -- it was dirty
-  pub was_dirty : is_dirty_seat seat ≡ true
+  was_dirty : is_dirty_seat seat ≡ true
   was_dirty =
       let r = ready s law b names S.choice S.clear in
       dirty_is s graph seats S.kept S.same b seat S.at_b ∙ dirty_with s b r.0 r.1.in_memory
 
   -- and has the block's size
-  pub image_sized : length (image_of s b (numbers_of names)) ≡ length seat.block.committed
+  image_sized : length (image_of s b (numbers_of names)) ≡ length seat.block.committed
   image_sized =
       let sized = law.changes_fit.sized b (there s law b names S.choice S.clear) in
       fold_length (committed s b) (map (write_of s) (patches_of s (numbers_of names)))
@@ -127,3 +121,15 @@ module _ (s : State) (graph : Known) (seats : List SeatView) (b : ℕ) (seat : S
       let w = law.changes_fit.whole p b head on in
       omega (arith, i.2, w, sized)))
       ∙ ap (λ (v : BlockState). length v.committed) block_is
+
+  -- so it may go out
+  pub may_go_out : (image : List ℕ) → image ≡ image_of s b (numbers_of names) → MayGoOut seat names image
+  may_go_out image is = record {
+    home = idle;
+    view = block_view s b;
+    there = loaded_is;
+    dirty = was_dirty;
+    choice = is_choice s law b names S.choice S.clear;
+    folded = is ∙ sym image_is;
+    sized = ap length is ∙ image_sized;
+  }

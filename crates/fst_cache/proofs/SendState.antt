@@ -1,5 +1,5 @@
 -- What a write that goes out leaves: the chosen changes are in flight, and all else stands.
-use Rattle.std.proofs.Common.{◌≡◌, ◌≢◌, ◌+◌, ℕ, Bool, true, false, not, cond, List, [], map, filter, Some, None, is_some, IfSome, refl, sym, ap, subst, ◌∙◌, inl, inr, slice_set}
+use Rattle.std.proofs.Common.{◌≡◌, ◌≢◌, ◌+◌, ℕ, Bool, true, false, not, cond, List, [], map, filter, Some, None, is_some, refl, sym, ap, subst, ◌∙◌, inl, inr, slice_set}
 use Rattle.std.specs.Prelude.{◌==◌, ◌&&◌}
 use Rattle.std.proofs.lemmas.Bool.{cases_Bool, eqb-true}
 use Rattle.std.proofs.lemmas.List.{map-id, map-set, get_or-set_same, get_or-set_other}
@@ -27,6 +27,7 @@ use Rattle.fst_block.specs.Choices.{chosen_of, others_of}
 use Rattle.fst_graph.specs.Known.{Known, Launches}
 use Rattle.fst_seat.specs.Names.{numbers_of}
 use Rattle.fst_seat.specs.Seats.{SeatView, flight_view}
+use Rattle.fst_seat.specs.Writing.{sent as seat_sent_out}
 use Rattle.fst_cache.specs.Kept.{IsKept, IsKeptSeat, IsSameAt, state_of, block_patch, block_patches, block_view, in_flight}
 use Rattle.fst_cache.proofs.Kept.{one_moved}
 use Rattle.fst_cache.proofs.SameCascade.{filter_mapped, IsStill, still_self, same_moved}
@@ -162,23 +163,7 @@ module _ (s : State) (graph : Known) (seats : List SeatView) (b : ℕ) (seat : S
       ∙ map-id (numbers_of names))
 
   abbrev pub sent : SeatView
-  sent = record seat {
-    block = record seat.block { flight = Some flight };
-    loaded = Some (record { base = fold_of (block_view s b).base (chosen_of names (block_patches s b)); patches = others_of names (block_patches s b) });
-    patches = numbers_of names;
-    home = None;
-    faults = 0;
-  }
-
-  -- what the seat's own launch makes of it
-  pub seat_is : (new : SeatView) → IfSome seat.loaded (λ l. new ≡ record seat {
-    block = record seat.block { flight = Some flight };
-    loaded = Some (record { base = fold_of l.base (chosen_of names l.patches); patches = others_of names l.patches });
-    patches = numbers_of names;
-    home = None;
-    faults = 0;
-  }) → new ≡ sent
-  seat_is new e = rw (loaded_is s graph seats b seat names S) at e
+  sent = seat_sent_out seat (block_view s b) (s.tickets + 1) names image
 
   pub sent_loaded : is_some sent.loaded ≡ is_some seat.loaded
   sent_loaded = sym (ap (λ o. is_some o) (loaded_is s graph seats b seat names S))
@@ -196,7 +181,6 @@ module _ (s : State) (graph : Known) (seats : List SeatView) (b : ℕ) (seat : S
 
   seat_sent : IsKeptSeat after b sent
   seat_sent = record {
-    place = (S.kept.seat b seat S.at_b).place;
     loaded = view_sent;
     dirty = λ d. refl;
     home = refl;

@@ -7,14 +7,12 @@ use Rattle.fst_types.specs.declared.grade.Grade.TheVariants as grade
 use Rattle.fst_types.specs.Patches.{Kind, Change, Patch, at_of, len_of}
 use Rattle.fst_types.specs.State.{Flight, State, block_of, committed, flight_of}
 use Rattle.fst_types.specs.Bytes.{content_of, changes_at, base_under}
-use Rattle.fst_types.specs.Counts.{is_dirty, IsDirty, flights}
+use Rattle.fst_types.specs.Counts.{is_dirty, IsDirty}
 use Rattle.fst_types.specs.Facts.{IsLawful}
 use Rattle.fst_block.specs.BlockView.{BlockPatch, BlockView}
 use Rattle.fst_graph.specs.Known.{Known}
 use Rattle.fst_cache.specs.Views.{CacheView, home_of}
 use Rattle.fst_seat.specs.Seats.{SeatView, blocks, undo_of}
-use Rattle.fst_seat.specs.Places.{ResidentsView}
-use Rattle.fst_seat.specs.Residing.{residents_of}
 
 -- the grade of a change, and soft for other kinds
 abbrev pub grade_in : Kind → Grade
@@ -66,7 +64,6 @@ view_of s seats = record {
 
 -- the seat of block b agrees with the state
 pub record IsKeptSeat (s : State) (b : ℕ) (seat : SeatView) : Type 0 where
-  pub place : seat.place ≡ b
   pub loaded : (l : BlockView) → seat.loaded ≡ Some l → l ≡ block_view s b
   pub dirty : IsDirty s b → IsSome seat.loaded
   pub home : seat.home ≡ home_of seat.block
@@ -81,12 +78,10 @@ pub record IsKept (s : State) (graph : Known) (seats : List SeatView) : Type 0 w
   pub loaded : count_by (λ seat. is_some seat.loaded) seats ≤ s.resident
   pub seat : (b : ℕ) (seat : SeatView) → slice_get seats b ≡ Some seat → IsKeptSeat s b seat
 
--- that, and what is kept beside it is right: the counts of the blocks in flight and of the undo bytes of all blocks, which blocks are in memory, and which are dirty
-pub record IsCounted (count undo : ℕ) (residents : ResidentsView) (s : State) (graph : Known) (seats : List SeatView) : Type 0 where
+-- that, and the undo bytes of all blocks are as many as are counted
+pub record IsCounted (undo : ℕ) (s : State) (graph : Known) (seats : List SeatView) : Type 0 where
   pub kept : IsKept s graph seats
-  pub flying : count ≡ flights s
   pub undoing : undo ≡ sum_by undo_of seats
-  pub listed : residents ≡ residents_of s.resident seats
 
 -- block b, its changes and whether it is dirty are in both states the same
 pub record IsSameAt (s t : State) (b : ℕ) : Type 0 where

@@ -4,8 +4,8 @@
 //! The cache keeps neither bytes nor dependencies of its own: it asks both, and keeps them in step.
 //!
 //! All that every call needs and keeps is in the type's invariant: the state is lawful, a block in memory is as the state
-//! says, a block with a change that is not on disk is in memory, no more blocks are in memory than may be, those are the ones
-//! that are listed, and the dirty blocks, the blocks in flight and the undo bytes are as many as are counted.
+//! says, a block with a change that is not on disk is in memory, no more blocks are in memory than may be, and the undo bytes
+//! are as many as are counted.
 
 mod gates;
 mod groups;
@@ -18,23 +18,18 @@ mod write;
 use crate::contents::Contents;
 use fst_device::BlockSlot;
 use fst_graph::Graph;
-use fst_seat::residents::Residents;
-use fst_seat::seat::Seat;
-use std::alloc::Global;
+use fst_seat::seats::Seats;
 use std::marker::Model;
 
 /// A cache of the blocks of a device, whose patches wait for one another.
 pub struct Cache<S: BlockSlot> {
-    alloc: Global,
     size: u32,
     tickets: u64,
     made: u64,
-    flights: usize,
     undo: u64,
     graph: Graph,
     contents: Contents,
-    seats: Vec<Seat<S>>,
-    residents: Residents,
+    seats: Seats<S>,
 }
 
 impl<S: BlockSlot> Model for Cache<S> {
@@ -43,9 +38,9 @@ impl<S: BlockSlot> Model for Cache<S> {
 
     ghost Value = { CacheView };
 
-    ghost view = { λ a. view_of (state_of a.size a.residents.most a.tickets a.made a.graph a.contents.items a.seats.items) a.seats.items };
+    ghost view = { λ a. view_of (state_of a.size a.seats.most a.tickets a.made a.graph a.contents.items a.seats.seats) a.seats.seats };
 
-    ghost invariant = { λ a. IsCounted a.flights a.undo a.residents (state_of a.size a.residents.most a.tickets a.made a.graph a.contents.items a.seats.items) a.graph a.seats.items };
+    ghost invariant = { λ a. IsCounted a.undo (state_of a.size a.seats.most a.tickets a.made a.graph a.contents.items a.seats.seats) a.graph a.seats.seats };
 }
 
 // Written by hand, so that where a cache is dropped this one function is called: what is derived is a drop of each field
@@ -53,16 +48,13 @@ impl<S: BlockSlot> Model for Cache<S> {
 impl<S: BlockSlot> Drop for Cache<S> {
     fn drop(self) {
         let Cache {
-            alloc: _,
             size: _,
             tickets: _,
             made: _,
-            flights: _,
             undo: _,
             graph: _,
             contents: _,
             seats: _,
-            residents: _,
         } = self;
     }
 }

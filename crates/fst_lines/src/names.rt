@@ -1,7 +1,6 @@
 //! The patches that a line names at its end.
 
-ghost use Rattle.std.specs.Prelude.{◌≡◌, ◌∷◌, [], List, ℕ, Some, IsTrue, IfSome, codes};
-ghost use Rattle.json.specs.Token.{begin_array, key};
+ghost use Rattle.std.specs.Prelude.{◌≡◌, [], Some, IsTrue, IfSome};
 ghost use Rattle.fst_lines.specs.Parsing.{patch_numbers};
 ghost use Rattle.fst_lines.specs.Short.{NamesAtEnd, NamesUnder, NamesListed, list_of};
 

@@ -2,7 +2,7 @@
 //! after. Their members stand in the order `do`, `after`, in the order `do`, `gate`, `on`, and in the order `do`, `group`,
 //! `on`; whatever else such a line may be is left to `serde_json`.
 
-ghost use Rattle.std.specs.Prelude.{◌≡◌, List, ℕ, IfSome, codes};
+ghost use Rattle.std.specs.Prelude.{IfSome};
 ghost use Rattle.fst_lines.specs.Parsing.{command};
 ghost use Rattle.fst_lines.specs.Short.{IsEmpty, IsDepend, IsGroupAfter};
 

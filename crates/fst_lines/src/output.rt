@@ -1,7 +1,7 @@
 //! Replies go out in pieces, through a loop over `write`, so that no reply takes memory or has a greatest length. A writer
 //! that gathers pieces is told where to pass them on.
 
-ghost use Rattle.std.specs.Prelude.{◌≡◌, ◌≤◌, ◌<◌, ◌++◌, ◌∷◌, [], length, take, drop, map, decimal};
+ghost use Rattle.std.specs.Prelude.{◌<◌, decimal};
 ghost use Rattle.std.specs.List.{flat_map};
 ghost use Rattle.std.specs.Io.KnownBytes.{Keeps};
 ghost use Rattle.hex.specs.Hex.{encode_lower};

@@ -4,9 +4,7 @@
 //! Most lines of a long script are such ones. They are read from their tokens, as short lines are (`short`); whatever
 //! else a line of a change may be is left to `serde_json`.
 
-ghost use Rattle.std.specs.Prelude.{◌≡◌, ◌∷◌, List, Ok, IfSome};
-ghost use Rattle.json.specs.Token.{string};
-ghost use Rattle.hex.specs.Hex.{decode_of};
+ghost use Rattle.std.specs.Prelude.{Ok, IfSome};
 ghost use Rattle.fst_lines.specs.Parsing.{command};
 ghost use Rattle.fst_lines.specs.Short.{BytesUnder, ChangeNext, IsPatch, IsGroupPatch};
 

@@ -12,7 +12,6 @@ mod patch;
 mod told;
 mod write;
 
-ghost use Rattle.std.specs.Prelude.{◌≡◌, List, ℕ, ◌++◌, ◌∷◌, []};
 ghost use Rattle.fst_lines.specs.Parsing.{command};
 ghost use Rattle.fst_player.specs.Answering.{Answered, Obeyed};
 

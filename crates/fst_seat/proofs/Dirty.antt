@@ -1,5 +1,5 @@
 -- Which blocks are dirty, and what is kept beside the seats, as seats change.
-use Rattle.std.proofs.Common.{◌≡◌, ◌⊎◌, ℕ, Bool, true, false, List, [], ◌∷◌, Option, Some, None, is_some, refl, sym, ap, ◌∙◌, inl, inr, length, replicate, slice_get, slice_set, count_by}
+use Rattle.std.proofs.Common.{◌≡◌, ◌⊎◌, ℕ, Bool, true, false, List, [], ◌∷◌, Option, Some, None, is_some, refl, sym, ap, ◌∙◌, inl, inr, length, replicate, slice_get, slice_set}
 use Rattle.std.proofs.lemmas.Bool.{true≢false}
 use Rattle.std.proofs.lemmas.List.{map-set}
 use Rattle.std.proofs.lemmas.Option.{same_Some}
@@ -8,7 +8,6 @@ use Rattle.fst_block.specs.BlockView.{BlockView}
 use Rattle.fst_seat.specs.Places.{IsCleanResident}
 use Rattle.fst_seat.specs.Seats.{SeatView, is_dirty_with, is_dirty_seat, seats_of}
 use Rattle.fst_seat.specs.Residing.{are_loaded, are_dirty, residents_of, IsCleanLoaded, IsCleanAt}
-use Rattle.fst_seat.proofs.Counts.{count_mapped}
 use Rattle.fst_seat.proofs.Exchanging.{get_map, map_get}
 use Rattle.fst_seat.proofs.Seated.{same_listed}
 
@@ -39,10 +38,6 @@ module _ (most : ℕ) (seats : List SeatView) where
   -- what is kept is right where either list is
   pub residents_are : (loaded dirty : List Bool) → loaded ≡ are_loaded seats → dirty ≡ are_dirty seats → record { most = most; loaded = loaded; dirty = dirty } ≡ residents_of most seats
   residents_are loaded dirty there is = rw (there, is) refl
-
-  -- as many are listed as are dirty
-  pub dirty_counted : count_by (λ (t : Bool). t) (are_dirty seats) ≡ count_by is_dirty_seat seats
-  dirty_counted = count_mapped (λ (t : Bool). t) is_dirty_seat seats
 
   -- a block that is listed as clean and in memory has such a seat
   pub clean_at : (c : ℕ) → IsCleanResident (residents_of most seats) c → (seat : SeatView) × IsCleanAt seats c seat

@@ -1,9 +1,10 @@
 pub mod Counts
-pub mod Seated
-mod Loading
-pub mod Putting
-pub mod Flying
-pub mod Undo
-pub mod Dirty
 pub mod Exchanging
-pub mod Listing
+pub mod Putting
+pub mod Seated
+pub mod Undo
+mod Dirty
+mod Flying
+mod InStep
+mod Listing
+mod Loading

@@ -2,15 +2,14 @@
 use Rattle.std.proofs.Common.{◌≡◌, ◌⊎◌, ◌<◌, ◌≤◌, ◌+◌, ℕ, true, false, List, [], map, Option, Some, None, is_some, refl, sym, ap, ◌∙◌, inl, inr, length, get_or, slice_get, slice_set, length-set, count_by}
 use Rattle.std.specs.Prelude.{slice_index}
 use Rattle.std.proofs.lemmas.Bool.{cases_Bool, false≢true, lt-ltb}
-use Rattle.std.proofs.lemmas.Option.{get_or_from_slice_get, slice_get-get_or, slice_get_within, same_Some}
-use Rattle.std.proofs.lemmas.List.{get_or-set_same}
+use Rattle.std.proofs.lemmas.Option.{get_or_from_slice_get, same_Some}
 use Rattle.fst_types.specs.State.{Flight}
 use Rattle.fst_types.specs.Residence.{faults_rose}
 use Rattle.fst_block.specs.BlockView.{BlockView}
 use Rattle.fst_seat.specs.Seats.{SeatView, is_dirty_with, is_dirty_seat}
 use Rattle.fst_seat.specs.Faults.{IsOneFaultMore}
-use Rattle.fst_seat.specs.Residing.{count_loaded, IsCleanLoaded, IsCleanAt, MakesPlace, Loads, IsLoadedAt, IsAtRestWhereAway}
-use Rattle.fst_seat.proofs.Seated.{get-set, listed, listed_new, listed_set, same_listed}
+use Rattle.fst_seat.specs.Residing.{count_loaded, IsCleanLoaded, IsCleanAt, MakesPlace, Loads, IsLoadedAt}
+use Rattle.fst_seat.proofs.Seated.{get-set, set_here, listed, listed_new, listed_set, same_listed}
 use Rattle.fst_seat.proofs.Counts.{count_le}
 
 -- where no clean block is in memory, all that are there are dirty
@@ -29,36 +28,33 @@ leaves_by resident seats c seat read new full found is =
     inr (full, (c, seat, found, ap (slice_set seats c) (is ∙ ap (λ (t : SeatView). record t { loaded = None }) (get_or_from_slice_get seats c seat read found.at))))
 
 -- what is not dirty has no flight
-still_home : (seat : SeatView) → is_dirty_seat seat ≡ false → seat.block.flight ≡ None
+pub still_home : (seat : SeatView) → is_dirty_seat seat ≡ false → seat.block.flight ≡ None
 still_home seat still = by_flight seat.block.flight seat.loaded still
   where
     by_flight : (o : Option Flight) (l : Option BlockView) → is_dirty_with o l ≡ false → o ≡ None
     by_flight None l e = refl
     by_flight (Some f) l e = absurd (false≢true (sym e))
 
-pub none_of : (o : Option BlockView) → is_some o ≡ false → o ≡ None
+none_of : (o : Option BlockView) → is_some o ≡ false → o ≡ None
 none_of None e = refl
 none_of (Some l) e = absurd (false≢true (sym e))
 
--- what a place that is made leaves of each seat: it stays, or gives up its block, which had no flight
+-- what a place that is made leaves of each seat: it stays, or gives up its block
 module _ (resident : ℕ) (old placed : List SeatView) (b : ℕ) (seat : SeatView) (at_b : slice_get placed b ≡ Some seat) where
-  pub stays_or_leaves : MakesPlace resident old placed → (slice_get old b ≡ Some seat) ⊎ ((seat.loaded ≡ None) × (seat.block.flight ≡ None))
+  stays_or_leaves : MakesPlace resident old placed → (slice_get old b ≡ Some seat) ⊎ (seat.loaded ≡ None)
   stays_or_leaves (inl h) = inl (ap (λ xs. slice_get xs b) (sym h.1) ∙ at_b)
   stays_or_leaves (inr h) =
       let left = record h.1.1 { loaded = None } in
       let here : slice_get (slice_set old h.1.0 left) b ≡ Some seat = ap (λ xs. slice_get xs b) (sym h.1.3) ∙ at_b in
       elim (get-set old h.1.0 b left seat here) [
-        | inl it ↦ inr (ap (λ (t : SeatView). t.loaded) (sym it.1), ap (λ (t : SeatView). t.block.flight) (sym it.1) ∙ still_home h.1.1 h.1.2.block.clean)
+        | inl it ↦ inr (ap (λ (t : SeatView). t.loaded) (sym it.1))
         | inr other ↦ inl other.1
       ]
-
-  pub rest_placed : MakesPlace resident old placed → IsAtRestWhereAway old → seat.loaded ≡ None → seat.block.flight ≡ None
-  rest_placed made rest away = elim (stays_or_leaves made) [ inl stays ↦ rest b seat stays away | inr leaves ↦ leaves.1 ]
 
   pub away_placed : MakesPlace resident old placed → (was : SeatView) → slice_get old b ≡ Some was → is_some was.loaded ≡ false → seat.loaded ≡ None
   away_placed made was at_old away = elim (stays_or_leaves made) [
     | inl stays ↦ none_of seat.loaded (ap (λ (t : SeatView). is_some t.loaded) (same_Some seat was (sym stays ∙ at_old)) ∙ away)
-    | inr leaves ↦ leaves.0
+    | inr leaves ↦ leaves
   ]
 
 pub faults_placed : (resident : ℕ) (old placed : List SeatView) → MakesPlace resident old placed → map (λ (t : SeatView). t.faults) placed ≡ map (λ (t : SeatView). t.faults) old
@@ -69,12 +65,6 @@ faults_placed resident old placed (inr h) =
 pub length_placed : (resident : ℕ) (old placed : List SeatView) → MakesPlace resident old placed → length placed ≡ length old
 length_placed resident old placed (inl h) = ap length h.1
 length_placed resident old placed (inr h) = ap length h.1.3 ∙ length-set old h.1.0 (record h.1.1 { loaded = None })
-
-pub seat_read : (xs : List SeatView) (b : ℕ) (d : SeatView) → b < length xs → slice_get xs b ≡ Some (get_or xs b d)
-seat_read xs b d lt = slice_get-get_or xs b d lt
-
-pub loaded_read : (xs : List SeatView) (b : ℕ) (d : SeatView) → b < length xs → is_some (get_or xs b d).loaded ≡ true → IsLoadedAt xs b
-loaded_read xs b d lt there = record { seat = get_or xs b d; at = seat_read xs b d lt; there = there }
 
 -- a seat is read into the place
 module _ (resident : ℕ) (old placed : List SeatView) (made : MakesPlace resident old placed) (b : ℕ) (was : SeatView) (at_old : slice_get old b ≡ Some was) (away : is_some was.loaded ≡ false)
@@ -101,7 +91,7 @@ module _ (resident : ℕ) (old placed : List SeatView) (made : MakesPlace reside
   pub there_by : is_some new.loaded ≡ true → IsLoadedAt (slice_set placed b new) b
   there_by there = record {
     seat = new;
-    at = slice_get-get_or (slice_set placed b new) b new (rw length-set (slice_get_within placed b seat at_b)) ∙ ap Some (get_or-set_same placed b new new (slice_get_within placed b seat at_b));
+    at = set_here placed b seat at_b new;
     there = there;
   }
 

@@ -1,18 +1,17 @@
 -- The seat of a block that was read where it was not in memory, and that then has one patch more.
-use Rattle.std.proofs.Common.{◌≡◌, ◌⊎◌, ◌<◌, ◌≤◌, ℕ, List, [], ◌∷◌, ◌++◌, map, Option, Some, None, IsSome, is_some, true, All, refl, sym, ap, subst, ◌∙◌, inl, inr, length, get_or, slice_get, slice_set}
+use Rattle.std.proofs.Common.{◌≡◌, ◌⊎◌, ◌<◌, ◌≤◌, ℕ, List, [], ◌∷◌, ◌++◌, Option, Some, None, IsSome, All, refl, sym, ap, subst, ◌∙◌, inl, inr, length, slice_get, slice_set}
 use Rattle.std.specs.Prelude.{IfSome, Result, IsErr, IsErrOf, IfErr, OnOk, OnErr, Ok, Err}
 use Rattle.std.proofs.lemmas.Bool.{false≢true}
 use Rattle.std.proofs.lemmas.List.Elements.{All-nil}
-use Rattle.std.proofs.lemmas.Option.{get_or_from_slice_get}
 use Rattle.fst_types.specs.declared.fault.Fault.{Fault}
 use Rattle.fst_types.specs.declared.fault.Fault.TheVariants as fault
 use Rattle.fst_types.specs.State.{BlockState}
 use Rattle.fst_block.specs.BlockView.{BlockPatch, BlockView}
 use Rattle.fst_seat.specs.Seats.{SeatView}
-use Rattle.fst_seat.specs.Residing.{IsReadOf, MakesPlace, IsLoadedAt}
+use Rattle.fst_seat.specs.Residing.{IsReadOf, MakesPlace}
 use Rattle.fst_seat.specs.Residing.{MayLoad, Puts}
 use Rattle.fst_seat.specs.Faults.{IsOneFaultMore}
-use Rattle.fst_seat.proofs.Seated.{get-set, same_seat, same_listed}
+use Rattle.fst_seat.proofs.Seated.{get-set, same_seat}
 
 -- what a call did that refused
 pub on_refusal : {T E P : Type 0} (r : Result T E) → IsErr r → OnErr r P → P
@@ -110,39 +109,20 @@ module _ (resident : ℕ) (old new : List SeatView) (b : ℕ) (seat : SeatView) 
   pub same_load : (put : SeatView) → MayLoad resident old b new → put ≡ seat → MayLoad resident old b (slice_set new b put)
   same_load put load same = subst (λ (xs : List SeatView). MayLoad resident old b xs) (sym (ap (slice_set new b) same ∙ same_seat new b seat at_b)) load
 
-  -- the counts of faults are as the load left them, whether the patch was put or refused
-  pub same_counts : {T E : Type 0} (r : Result T E) (patch : BlockPatch) (put : SeatView) → IsSome seat.loaded
-      → OnOk r (IfSome seat.loaded (λ l. put ≡ record seat { loaded = Some (record l { patches = l.patches ++ patch ∷ [] }) }))
-      → OnErr r (put ≡ seat)
-      → map (λ (t : SeatView). t.faults) (slice_set new b put) ≡ map (λ (t : SeatView). t.faults) new
-  same_counts r patch put there applied unchanged = same_listed new b seat at_b (λ (t : SeatView). t.faults) put (same r seat.loaded there applied unchanged)
-    where
-      same : {T E : Type 0} (r : Result T E) (o : Option BlockView) → IsSome o
-          → OnOk r (IfSome o (λ l. put ≡ record seat { loaded = Some (record l { patches = l.patches ++ patch ∷ [] }) })) → OnErr r (put ≡ seat) → put.faults ≡ seat.faults
-      same (Err x) o there applied unchanged = ap (λ (t : SeatView). t.faults) unchanged
-      same (Ok x) None there applied unchanged = absurd (false≢true there)
-      same (Ok x) (Some l) there applied unchanged = ap (λ (t : SeatView). t.faults) applied
-
-  -- and the block is in memory as before
-  pub same_loaded : {T E : Type 0} (r : Result T E) (patch : BlockPatch) (put : SeatView) → IsSome seat.loaded
-      → OnOk r (IfSome seat.loaded (λ l. put ≡ record seat { loaded = Some (record l { patches = l.patches ++ patch ∷ [] }) }))
-      → OnErr r (put ≡ seat)
-      → is_some put.loaded ≡ is_some seat.loaded
-  same_loaded r patch put there applied unchanged = same r seat.loaded there applied unchanged ∙ sym there
-    where
-      same : {T E : Type 0} (r : Result T E) (o : Option BlockView) → is_some o ≡ true
-          → OnOk r (IfSome o (λ l. put ≡ record seat { loaded = Some (record l { patches = l.patches ++ patch ∷ [] }) })) → OnErr r (put ≡ seat) → is_some put.loaded ≡ true
-      same (Err x) o is applied unchanged = ap (λ (t : SeatView). is_some t.loaded) unchanged ∙ there
-      same (Ok x) None is applied unchanged = absurd (false≢true is)
-      same (Ok x) (Some l) is applied unchanged = ap (λ (t : SeatView). is_some t.loaded) applied
+-- whether the patch was put or refused, the block is in memory and nothing else of the seat changes
+pub seat_after : (seat : SeatView) {T E : Type 0} (r : Result T E) (patch : BlockPatch) (put : SeatView) → IsSome seat.loaded
+    → OnOk r (IfSome seat.loaded (λ l. put ≡ record seat { loaded = Some (record l { patches = l.patches ++ patch ∷ [] }) }))
+    → OnErr r (put ≡ seat)
+    → (view : BlockView) × (put ≡ record seat { loaded = Some view })
+seat_after seat r patch put there applied unchanged = by_loaded r seat.loaded refl there applied unchanged
+  where
+    by_loaded : {T E : Type 0} (r : Result T E) (o : Option BlockView) → seat.loaded ≡ o → IsSome o
+        → OnOk r (IfSome o (λ l. put ≡ record seat { loaded = Some (record l { patches = l.patches ++ patch ∷ [] }) })) → OnErr r (put ≡ seat) → (view : BlockView) × (put ≡ record seat { loaded = Some view })
+    by_loaded r None e there applied unchanged = absurd (false≢true there)
+    by_loaded (Ok x) (Some l) e there applied unchanged = (record l { patches = l.patches ++ patch ∷ [] }, applied)
+    by_loaded (Err x) (Some l) e there applied unchanged = (l, unchanged ∙ ap (λ (o : Option BlockView). record seat { loaded = o }) e)
 
 -- what was said of the counts after the load is said of them after the patch
 pub counts_after : (old new now : List ℕ) (b : ℕ) → now ≡ new → IsOneFaultMore old b new → IsOneFaultMore old b now
 counts_after old new now b same (inl e) = inl (same ∙ e)
 counts_after old new now b same (inr e) = inr (same ∙ e)
-
--- what stands where a block is in memory
-pub read_at : (seats : List SeatView) (b : ℕ) (d : SeatView) → IsLoadedAt seats b → (slice_get seats b ≡ Some (get_or seats b d)) × IsSome (get_or seats b d).loaded
-read_at seats b d L =
-    let e = get_or_from_slice_get seats b L.seat d L.at in
-    (L.at ∙ ap (λ (t : SeatView). Some t) (sym e), subst (λ (t : SeatView). IsSome t.loaded) (sym e) L.there)

@@ -1,8 +1,8 @@
 -- One seat among the seats: what stands where, and what is listed of it, before it changes and after.
-use Rattle.std.proofs.Common.{◌≡◌, ◌≢◌, ◌⊎◌, ◌<◌, ℕ, zero, suc, Bool, cond, List, [], ◌∷◌, map, Some, None, sym, ap, ◌∙◌, arith, length, get_or, slice_get, slice_set, count_by}
+use Rattle.std.proofs.Common.{◌≡◌, ◌≢◌, ◌⊎◌, ◌<◌, ℕ, zero, suc, Bool, cond, List, [], ◌∷◌, map, Some, None, refl, sym, ap, ◌∙◌, arith, length, length-set, get_or, slice_get, slice_set, count_by}
 use Rattle.std.proofs.lemmas.List.{map-set, set-get_or, length-map, get_or-map, get_or-set_same}
 use Rattle.std.proofs.lemmas.List.Sums.{sum_by-set}
-use Rattle.std.proofs.lemmas.Option.{get_or_from_slice_get, slice_get_within}
+use Rattle.std.proofs.lemmas.Option.{get_or_from_slice_get, slice_get-get_or, slice_get_within}
 use Rattle.fst_seat.specs.Seats.{SeatView, blocks}
 
 -- what stands at j after y was put at i
@@ -12,6 +12,12 @@ get-set (x ∷ xs) zero zero y z e = grind (arith, e)
 get-set (x ∷ xs) zero (suc j) y z e = grind (arith, e)
 get-set (x ∷ xs) (suc i) zero y z e = grind (arith, e)
 get-set (x ∷ xs) (suc i) (suc j) y z e = grind (arith, get-set xs i j y z e)
+
+-- what stands at a place that there is
+pub there_is : {X : Type 0} (xs : List X) (i : ℕ) → i < length xs → (x : X) × (slice_get xs i ≡ Some x)
+there_is [] i lt = absurd (omega (arith, lt))
+there_is (x ∷ xs) zero lt = (x, refl)
+there_is (x ∷ xs) (suc i) lt = there_is xs i (omega (arith, lt))
 
 -- what the state says of a block is what its seat says
 pub block_here : (seats : List SeatView) (b : ℕ) (seat : SeatView) → slice_get seats b ≡ Some seat → get_or (blocks seats) b (record { committed = []; flight = None }) ≡ seat.block
@@ -37,6 +43,10 @@ module _ (seats : List SeatView) (b : ℕ) (seat : SeatView) (at_b : slice_get s
   -- a seat that is as it was leaves the list as it was
   pub same_seat : slice_set seats b seat ≡ seats
   same_seat = ap (slice_set seats b) (sym (get_or_from_slice_get seats b seat seat at_b)) ∙ set-get_or seats b seat
+
+  -- and one that is put there stands there
+  pub set_here : (new : SeatView) → slice_get (slice_set seats b new) b ≡ Some new
+  set_here new = slice_get-get_or (slice_set seats b new) b new (rw length-set within) ∙ ap (λ (t : SeatView). Some t) (get_or-set_same seats b new new within)
 
   -- what the lists beside the state say of one seat, before and after
   pub listed : {Y : Type 0} (f : SeatView → Y) (d : Y) → get_or (map f seats) b d ≡ f seat

@@ -4,3 +4,4 @@ pub mod Seats
 pub mod Faults
 pub mod Places
 pub mod Residing
+pub mod Writing

@@ -1,7 +1,7 @@
 -- Which blocks are in memory.
 use Rattle.std.specs.Prelude.{◌≡◌, ◌<◌, ◌≤◌, ◌⊎◌, ◌++◌, ◌∷◌, ℕ, Bool, false, List, [], Option, Some, None, IsSome, is_some, slice_get, slice_set, map, count_by}
 use Rattle.fst_block.specs.BlockView.{BlockPatch, BlockView}
-use Rattle.fst_seat.specs.Seats.{SeatView, is_dirty_seat}
+use Rattle.fst_seat.specs.Seats.{SeatView, is_dirty_seat, count_flying}
 use Rattle.fst_seat.specs.Places.{ResidentsView}
 
 -- of each block, whether it is in memory
@@ -75,3 +75,10 @@ pub record Puts (resident : ℕ) (old : List SeatView) (b : ℕ) (patch : BlockP
   pub view : BlockView
   pub there : seat.loaded ≡ Some view
   pub seats : new ≡ slice_set read b (record seat { loaded = Some (record view { patches = view.patches ++ patch ∷ [] }) })
+
+-- what is kept beside the seats is right: which blocks are in memory and which are dirty, and how many are in flight; a block with a flight is in memory, and each block's seat stands at its place
+pub record AreInStep (flights : ℕ) (residents : ResidentsView) (seats : List SeatView) : Type 0 where
+  pub listed : residents ≡ residents_of residents.most seats
+  pub flying : flights ≡ count_flying seats
+  pub rest : IsAtRestWhereAway seats
+  pub placed : (b : ℕ) (seat : SeatView) → slice_get seats b ≡ Some seat → seat.place ≡ b

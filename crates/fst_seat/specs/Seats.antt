@@ -1,5 +1,5 @@
 -- What is kept of one block.
-use Rattle.std.specs.Prelude.{◌&&◌, nat_lt, ℕ, Bool, true, false, List, [], ◌∷◌, Option, Some, None, map}
+use Rattle.std.specs.Prelude.{◌&&◌, nat_lt, ℕ, Bool, true, false, List, [], ◌∷◌, Option, Some, None, is_some, map, count_by}
 use Rattle.std.specs.Option.{option_map_or}
 use Rattle.fst_types.specs.Limits.{max_tries}
 use Rattle.fst_types.specs.State.{Flight, BlockState}
@@ -62,3 +62,12 @@ is_dirty_seat seat = is_dirty_with seat.block.flight seat.loaded
 -- how many undo bytes the block keeps: none where it is not in memory
 abbrev pub undo_of : SeatView → ℕ
 undo_of seat = option_map_or (λ (l : BlockView). soft_lengths l.patches) seat.loaded 0
+
+-- how many blocks have a write that is out, stalled or lost
+abbrev pub count_flying : List SeatView → ℕ
+count_flying seats = count_by (λ (v : BlockState). is_some v.flight) (blocks seats)
+
+-- all blocks: how many of them may be in memory, and the seat of each
+pub record SeatsView : Type 0 where
+  pub most : ℕ
+  pub seats : List SeatView

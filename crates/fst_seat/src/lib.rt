@@ -1,4 +1,4 @@
-//! What is kept of one block, and which blocks are in memory.
+//! The blocks of a device: what is kept of each, and which of them are in memory.
 //!
 //! Each block has a *seat*. It has the block's slot where that is at home, the block's bytes and patches where they are in
 //! memory (`fst_block`), what is committed of the block, noted for contracts alone, and its *flight* where a write of it
@@ -16,14 +16,16 @@
 //! memory is listed, the dirty ones first and the clean ones after them, so that a load finds the one that gives up its
 //! place, or that there is none, without a look at any seat.
 //!
+//! All seats are one value (`seats`). Callers read a seat, and change it by the calls of that value alone, which keep the
+//! list of the blocks in memory and the count of those in flight in step with the seats.
+//!
 //! Nothing here knows which patch depends on which, what may be written, a rule of the definitions' steps or a refusal
-//! but those of the device and of memory: the calls over all seats, and what they keep in step with the graph, are
-//! `fst_cache`.
+//! but those of the device and of memory: what keeps the seats in step with the graph is `fst_cache`.
 #![tactic(auto)]
 
 pub mod flight;
 mod places;
 mod reading;
-pub mod residence;
-pub mod residents;
+mod residents;
 pub mod seat;
+pub mod seats;

@@ -3,7 +3,7 @@
 //! The cache says what may be written, and leaves it to its user when that is done and by whom. This is the plainest way:
 //! one write at a time, here and now, with each failed write tried again before the next.
 
-ghost use Rattle.std.specs.Prelude.{◌≡◌, ◌+◌, ◌≤◌, ◌↔◌, IsTrue, IfOk, IfErr, IfSome, IfNone, OnOk, OnErr};
+ghost use Rattle.std.specs.Prelude.{◌≡◌, ◌+◌, ◌≤◌, ◌↔◌, IsTrue, IfOk, IfErr, IfSome, IfNone, OnErr};
 ghost use Rattle.fst_types.specs.Flights.{IsOut};
 ghost use Rattle.journal_calls.specs.Exhausted.{IsDurable, IsExhausted, IsWriteRefused};
 

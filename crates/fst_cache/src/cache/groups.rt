@@ -1,6 +1,6 @@
 //! Groups: changes that are on disk only after those of the groups that theirs was put after.
 
-ghost use Rattle.std.specs.Prelude.{◌≡◌, ◌⊎◌, ◌<◌, ◌+◌, ℕ, length, map, IsErrOf, OnErr, MatchResult, slice_index, slice_set};
+ghost use Rattle.std.specs.Prelude.{◌≡◌, ◌<◌, ◌+◌, IsErrOf, OnErr, MatchResult, slice_index, slice_set};
 ghost use Rattle.fst_types.specs.declared.fault.Fault.{Fault};
 ghost use Rattle.fst_types.specs.Residence.{faults_rose};
 ghost use Rattle.fst_types.specs.Events.{GroupNew, GroupAfter, GroupPatch, GroupClose, Made, MadeChange, Accepted, Refused};
@@ -12,7 +12,6 @@ use crate::cache::Cache;
 use crate::cache::making::undo_bytes;
 use crate::share::Share;
 use fst_device::BlockSlot;
-use fst_seat::residence::put;
 use fst_types::{BlockNo, Fault, Grade, GroupNo, PatchNo, Span, What};
 
 impl<S: BlockSlot> Cache<S> {
@@ -98,16 +97,7 @@ impl<S: BlockSlot> Cache<S> {
             Ok(made) => made,
             Err(fault) => return Err(fault),
         };
-        if let Err(fault) = put(
-            &mut self.seats,
-            &mut self.residents,
-            self.alloc,
-            block,
-            no,
-            span,
-            bytes,
-            grade,
-        ) {
+        if let Err(fault) = self.seats.put(block, no, span, bytes, grade) {
             return Err(fault);
         }
         let Ok(_) = self.graph.group_patch(group, block, span) else {

@@ -1,20 +1,18 @@
 //! Opening a cache over its slots.
 
-ghost use Rattle.std.specs.Prelude.{◌≡◌, ◌≢◌, ◌⊎◌, ◌≤◌, ◌↔◌, IsTrue, IfOk, IfErr, MatchOption, Some, None, false, [], length, map, vec_len, vec_capacity};
+ghost use Rattle.std.specs.Prelude.{◌≡◌, ◌≢◌, ◌⊎◌, ◌↔◌, IsTrue, IfOk, IfErr, MatchOption, Some, None, false, length, map};
 ghost use Rattle.fst_types.specs.declared.fault.Fault.{Fault};
 ghost use Rattle.fst_types.specs.Order.{IsMisplaced, IsMissized, open_order};
 ghost use Rattle.fst_types.specs.Refusals.{IsFirst, NoneHolds};
 ghost use Rattle.fst_types.specs.Opening.{opening};
-ghost use Rattle.fst_seat.specs.Seats.{seat_of, seats_of};
 
 use crate::cache::Cache;
 use crate::contents::Contents;
 use crate::share::Share;
 use fst_device::BlockSlot;
 use fst_graph::Graph;
-use fst_seat::residents::Residents;
-use fst_seat::seat::Seat;
-use fst_types::{BlockNo, Fault, Shape};
+use fst_seat::seats::Seats;
+use fst_types::{Fault, Shape};
 use std::alloc::Global;
 
 /// Whether the slots are not one for each block, or one does not stand at its place.
@@ -57,20 +55,6 @@ fn open_fault<S: BlockSlot>(shape: Shape, slots: &[S]) -> Option<Fault>
         return Some(Fault::BadSpan);
     }
     None
-}
-
-/// The seats of these slots.
-fn seated<S: BlockSlot>(slots: Vec<S>, mut seats: Vec<Seat<S>>) -> Vec<Seat<S>>
-    requires empty { seats.items ≡ [] }
-    requires none { vec_len seats ≡ 0 }
-    requires room { vec_len slots ≤ vec_capacity seats }
-    ensures { result.items ≡ seats_of S.held S.index S.faults slots.items }
-{
-    for slot in slots {
-        let block = slot.index();
-        seats.push_reserved(Seat::new(block, slot));
-    }
-    seats
 }
 
 impl<S: BlockSlot> Cache<S> {
@@ -120,27 +104,21 @@ impl<S: BlockSlot> Cache<S> {
         if let Some(fault) = open_fault(shape, &slots) {
             return Err((slots, fault));
         }
-        let Ok(residents) = Residents::new(alloc, shape.resident, slots.len()) else {
-            return Err((slots, Fault::Memory));
-        };
         let Ok(graph) = Graph::new(alloc, shape, numbers) else {
             return Err((slots, Fault::Memory));
         };
-        let Ok(seats) = Vec::with_capacity(alloc, slots.len()) else {
-            return Err((slots, Fault::Memory));
-        };
-        Ok(Cache {
-            alloc,
-            size: shape.size,
-            tickets,
-            made: 0,
-            flights: 0,
-            undo: 0,
-            graph,
-            contents: Contents::none(),
-            seats: seated(slots, seats),
-            residents,
-        })
+        match Seats::new(alloc, shape.resident, slots) {
+            Err(slots) => Err((slots, Fault::Memory)),
+            Ok(seats) => Ok(Cache {
+                size: shape.size,
+                tickets,
+                made: 0,
+                undo: 0,
+                graph,
+                contents: Contents::none(),
+                seats,
+            }),
+        }
     }
 
     /// A count of one thread's patches, from 0. It takes no memory.

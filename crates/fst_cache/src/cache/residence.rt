@@ -17,7 +17,7 @@ impl<S: BlockSlot> Cache<S> {
         requires { block.0 < length self.now.state.blocks }
         ensures { IsTrue result ↔ (HasNoRoom self.now.state block.0 → ⊥) }
     {
-        self.seats[block.0 as usize].is_loaded() || self.residents.has_room()
+        self.seats.seat(block).is_loaded() || self.seats.has_room()
     }
 
     /// Why a block cannot be given up.
@@ -29,7 +29,7 @@ impl<S: BlockSlot> Cache<S> {
         if block.0 as usize >= self.seats.len() {
             return Some(Fault::NoBlock);
         }
-        if self.seats[block.0 as usize].is_dirty() {
+        if self.seats.seat(block).is_dirty() {
             return Some(Fault::Dirty);
         }
         None
@@ -49,9 +49,7 @@ impl<S: BlockSlot> Cache<S> {
         if let Some(fault) = self.evict_fault(block) {
             return Err(fault);
         }
-        let at = block.0 as usize;
-        self.seats[at].unload();
-        self.residents.remove(at);
+        self.seats.evict(block);
         Ok(())
     }
 }

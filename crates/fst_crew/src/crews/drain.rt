@@ -1,6 +1,5 @@
 //! What the main thread does when the file threads have ended.
 
-ghost use Rattle.std.specs.Prelude.{◌≡◌, IfOk, IfErr};
 
 use crate::crews::taking::take_in;
 use crate::plan::CREW_BLOCKS;

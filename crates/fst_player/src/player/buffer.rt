@@ -1,6 +1,5 @@
 //! Blocks in memory: the bytes of one as its changes leave them, and making room.
 
-ghost use Rattle.std.specs.Prelude.{◌≡◌};
 ghost use Rattle.fst_lines.specs.Commands as script;
 ghost use Rattle.fst_player.specs.Answering.{Obeyed};
 

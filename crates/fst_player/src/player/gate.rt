@@ -1,6 +1,5 @@
 //! Gates: made open, then given dependencies, then sealed.
 
-ghost use Rattle.std.specs.Prelude.{◌≡◌};
 ghost use Rattle.fst_lines.specs.Commands as script;
 ghost use Rattle.fst_lines.specs.Parsing.{patch_numbers};
 ghost use Rattle.fst_player.specs.Answering.{Obeyed};

@@ -1,6 +1,5 @@
 //! Groups: made, put after one another, given changes, then closed.
 
-ghost use Rattle.std.specs.Prelude.{◌≡◌};
 ghost use Rattle.fst_lines.specs.Commands as script;
 ghost use Rattle.fst_player.specs.Answering.{Obeyed};
 

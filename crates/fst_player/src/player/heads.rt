@@ -1,6 +1,6 @@
 //! The patches that the cache keeps: where one is, forgetting those on disk, and counts.
 
-ghost use Rattle.std.specs.Prelude.{◌≡◌, ◌++◌, ◌∷◌, []};
+ghost use Rattle.std.specs.Prelude.{◌++◌, ◌∷◌, []};
 ghost use Rattle.fst_cache.specs.Replies.{stat_view};
 ghost use Rattle.fst_lines.specs.Replies.{stat_text};
 ghost use Rattle.fst_lines.specs.Sending.{Sends};

@@ -1,6 +1,5 @@
 //! New patches: changes and empty patches.
 
-ghost use Rattle.std.specs.Prelude.{◌≡◌};
 ghost use Rattle.fst_lines.specs.Commands as script;
 ghost use Rattle.fst_lines.specs.Parsing.{patch_numbers};
 ghost use Rattle.fst_player.specs.Answering.{Obeyed};

@@ -1,6 +1,6 @@
 use Rattle.std.proofs.lemmas.List.{length-map}
 use Rattle.std.proofs.Common.{◌≡◌, ◌∙◌, ◌↔◌, Some, IsTrue, slice_get, is_some, false, sym, arith, ◌≤◌, length, inl, refl}
-use Rattle.std.proofs.lemmas.{Bool.false≢true, Option.slice_get_read}
+use Rattle.std.proofs.lemmas.{Bool.false≢true}
 use Rattle.fst_types.specs.Writable.{HasReady}
 use Rattle.fst_cache.specs.Kept.{state_of}
 use Rattle.fst_cache.proofs.SendRefused.{at_rest, busy_refused, nothing_ready, sending_refused, sending_clear, on_ok, refused_memory}
@@ -9,55 +9,49 @@ use Rattle.fst_cache.proofs.cache.Cache.choice.Goals as goal
 use Rattle.fst_cache.proofs.SameRefused.{kept_unprepared}
 
 -- the block's seat
-seated : (g : _) (c : After-has_ready g) → slice_get c.self.inside.seats.items c.args.block.0 ≡ Some c.index.result.now
-seated g c = let i = c.self.inside in slice_get_read i.seats.items _ _ _ i.seats.ok.0 (omega (arith, c.if-block-len.false, c.len.ensures)) c.index.ensures
+seated : (g : _) (c : After-has_ready g) → slice_get c.self.inside.seats.seats c.args.block.0 ≡ Some c.seat.result.now
+seated g c = let i = c.self.inside in c.seat.ensures.at
 
 -- nothing of the block is in flight
-idle : (g : _) (c : After-has_ready g) → is_some c.index.result.now.block.flight ≡ false
+idle : (g : _) (c : After-has_ready g) → is_some c.seat.result.now.block.flight ≡ false
 idle g c = sym c.is_busy.ensures ∙ c.if-is_busy.false
 
 -- whether something may be written is told
 told : (g : _) (c : After-has_ready g) → IsTrue c.has_ready.result ↔ HasReady c.self.inside.graph.heads c.args.block.0
 told g c =
     let i = c.self.inside in
-    c.has_ready.ensures (at_rest i.size i.residents.most i.tickets i.made i.graph i.contents.items i.seats.items c.args.block.0 c.index.result.now (seated g c) (idle g c) c.self.invariant.kept.lawful)
+    c.has_ready.ensures (at_rest i.size i.seats.most i.tickets i.made i.graph i.contents.items i.seats.seats c.args.block.0 c.seat.result.now (seated g c) (idle g c) c.self.invariant.kept.lawful)
 
 pub invariant_of-self : goal.invariant_of-self
 invariant_of-self g c =
     let i = c.self.inside in
     record {
-      kept = kept_unprepared i.size i.residents.most i.tickets i.made i.graph c.hard_held-held.new.self i.contents.items i.seats.items c.hard_held-held.ensures.same c.self.invariant.kept;
-      flying = c.self.invariant.flying;
+      kept = kept_unprepared i.size i.seats.most i.tickets i.made i.graph c.hard_held-held.new.self i.contents.items i.seats.seats c.hard_held-held.ensures.same c.self.invariant.kept;
       undoing = c.self.invariant.undoing;
-      listed = c.self.invariant.listed;
     }
 
 pub invariant_of-self-in-Some : goal.invariant_of-self-in-Some
 invariant_of-self-in-Some g c =
     let i = c.self.inside in
     record {
-      kept = kept_unprepared i.size i.residents.most i.tickets i.made i.graph c.hard_held-held.new.self i.contents.items i.seats.items c.hard_held-held.ensures.same c.self.invariant.kept;
-      flying = c.self.invariant.flying;
+      kept = kept_unprepared i.size i.seats.most i.tickets i.made i.graph c.hard_held-held.new.self i.contents.items i.seats.seats c.hard_held-held.ensures.same c.self.invariant.kept;
       undoing = c.self.invariant.undoing;
-      listed = c.self.invariant.listed;
     }
 
 pub invariant_of-self-in-None : goal.invariant_of-self-in-None
 invariant_of-self-in-None g c =
     let i = c.self.inside in
     record {
-      kept = kept_unprepared i.size i.residents.most i.tickets i.made c.hard_held-held.new.self c.chosen.new.self i.contents.items i.seats.items c.chosen.ensures.same
-          (kept_unprepared i.size i.residents.most i.tickets i.made i.graph c.hard_held-held.new.self i.contents.items i.seats.items c.hard_held-held.ensures.same c.self.invariant.kept);
-      flying = c.self.invariant.flying;
+      kept = kept_unprepared i.size i.seats.most i.tickets i.made c.hard_held-held.new.self c.chosen.new.self i.contents.items i.seats.seats c.chosen.ensures.same
+          (kept_unprepared i.size i.seats.most i.tickets i.made i.graph c.hard_held-held.new.self i.contents.items i.seats.seats c.hard_held-held.ensures.same c.self.invariant.kept);
       undoing = c.self.invariant.undoing;
-      listed = c.self.invariant.listed;
     }
 
 pub returns-then-not-has_ready-clause-refused : goal.returns-then-not-has_ready-clause-refused
 returns-then-not-has_ready-clause-refused g c =
     let i = c.self.inside in
     let before = (goal.at.returns-then-not-has_ready-clause-refused g c).After-has_ready in
-    rw (← c.self.view_is) (nothing_ready i.size i.residents.most i.tickets i.made i.graph i.contents.items i.seats.items c.args.block.0 c.index.result.now (seated g before) (idle g before)
+    rw (← c.self.view_is) (nothing_ready i.size i.seats.most i.tickets i.made i.graph i.contents.items i.seats.seats c.args.block.0 c.seat.result.now (seated g before) (idle g before)
     (λ ready. false≢true (sym c.if-not-has_ready.true ∙ (told g before).1 ready)))
 
 pub returns-in-Some-clause-refused : goal.returns-in-Some-clause-refused
@@ -65,7 +59,7 @@ returns-in-Some-clause-refused g c =
     let i = c.self.inside in
     let before = (goal.at.returns-in-Some-clause-refused g c).After-has_ready in
     rw (← c.self.view_is)
-    (sending_refused i.size i.residents.most i.tickets i.made i.graph i.contents.items i.seats.items c.args.block.0 c.index.result.now (seated g before) (idle g before) ((told g before).0 c.if-not-has_ready.false)
+    (sending_refused i.size i.seats.most i.tickets i.made i.graph i.contents.items i.seats.seats c.args.block.0 c.seat.result.now (seated g before) (idle g before) ((told g before).0 c.if-not-has_ready.false)
     c.hard_held-held.new.self c.hard_held-held.ensures.same c.in-Some.fault c.in-Some.ensures)
 
 pub returns-in-None-clause-clear : goal.returns-in-None-clause-clear
@@ -74,7 +68,7 @@ returns-in-None-clause-clear g c =
     let before = (goal.at.returns-in-None-clause-clear g c).After-has_ready in
     rw (← c.self.view_is)
     (on_ok c.chosen.result _
-    (sending_clear i.size i.residents.most i.tickets i.made i.graph i.contents.items i.seats.items c.args.block.0 c.index.result.now (seated g before) (idle g before) ((told g before).0 c.if-not-has_ready.false)
+    (sending_clear i.size i.seats.most i.tickets i.made i.graph i.contents.items i.seats.seats c.args.block.0 c.seat.result.now (seated g before) (idle g before) ((told g before).0 c.if-not-has_ready.false)
     c.hard_held-held.new.self c.hard_held-held.ensures.same c.in-None.ensures))
 
 pub returns-in-None-clause-chosen : goal.returns-in-None-clause-chosen
@@ -85,17 +79,17 @@ returns-in-None-clause-refused g c =
     let i = c.self.inside in
     let before = (goal.at.returns-in-None-clause-refused g c).After-has_ready in
     rw (← c.self.view_is)
-    (refused_memory (state_of i.size i.residents.most i.tickets i.made i.graph i.contents.items i.seats.items) c.args.block.0 c.chosen.result
-    (sending_clear i.size i.residents.most i.tickets i.made i.graph i.contents.items i.seats.items c.args.block.0 c.index.result.now (seated g before) (idle g before) ((told g before).0 c.if-not-has_ready.false)
+    (refused_memory (state_of i.size i.seats.most i.tickets i.made i.graph i.contents.items i.seats.seats) c.args.block.0 c.chosen.result
+    (sending_clear i.size i.seats.most i.tickets i.made i.graph i.contents.items i.seats.seats c.args.block.0 c.seat.result.now (seated g before) (idle g before) ((told g before).0 c.if-not-has_ready.false)
     c.hard_held-held.new.self c.hard_held-held.ensures.same c.in-None.ensures)
     (rw c.hard_held-held.ensures.same at c.chosen.ensures.refused))
 
-pub index-requires : goal.index-requires
-index-requires g c = omega (arith, c.if-block-len.false, c.len.ensures)
+pub seat-requires : goal.seat-requires
+seat-requires g c = omega (arith, c.if-block-len.false, c.len.ensures)
 
 pub returns-then-block-len-clause-refused : goal.returns-then-block-len-clause-refused
 returns-then-block-len-clause-refused g c =
-    let past : length c.args.self.now.state.blocks ≤ c.args.block.0 = rw (← c.self.view_is, length-map) (omega (arith, c.self.inside.seats.ok.0, c.if-block-len.true, c.len.ensures)) in
+    let past : length c.args.self.now.state.blocks ≤ c.args.block.0 = rw (← c.self.view_is, length-map) (omega (arith, c.if-block-len.true, c.len.ensures)) in
     inl (inl (past, refl))
 
 pub sending_fault-requires-clause-least : goal.sending_fault-requires-clause-least
@@ -119,5 +113,5 @@ returns-in-None-clause-same g c = rw (c.chosen.ensures.same, c.hard_held-held.en
 pub returns-then-is_busy-clause-refused : goal.returns-then-is_busy-clause-refused
 returns-then-is_busy-clause-refused g c =
     let i = c.self.inside in
-    let seated : slice_get i.seats.items c.args.block.0 ≡ Some c.index.result.now = slice_get_read i.seats.items _ _ _ i.seats.ok.0 (omega (arith, c.if-block-len.false, c.len.ensures)) c.index.ensures in
-    rw (← c.self.view_is) (busy_refused i.size i.residents.most i.tickets i.made i.graph i.contents.items i.seats.items c.args.block.0 c.index.result.now seated (sym c.is_busy.ensures ∙ c.if-is_busy.true))
+    let seated : slice_get i.seats.seats c.args.block.0 ≡ Some c.seat.result.now = c.seat.ensures.at in
+    rw (← c.self.view_is) (busy_refused i.size i.seats.most i.tickets i.made i.graph i.contents.items i.seats.seats c.args.block.0 c.seat.result.now seated (sym c.is_busy.ensures ∙ c.if-is_busy.true))

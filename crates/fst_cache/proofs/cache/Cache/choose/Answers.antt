@@ -15,10 +15,8 @@ pub invariant_of-self : goal.invariant_of-self
 invariant_of-self g c =
     let i = c.self.inside in
     record {
-      kept = kept_unprepared i.size i.residents.most i.tickets i.made i.graph c.chosen.new.self i.contents.items i.seats.items c.chosen.ensures.same c.self.invariant.kept;
-      flying = c.self.invariant.flying;
+      kept = kept_unprepared i.size i.seats.most i.tickets i.made i.graph c.chosen.new.self i.contents.items i.seats.seats c.chosen.ensures.same c.self.invariant.kept;
       undoing = c.self.invariant.undoing;
-      listed = c.self.invariant.listed;
     }
 
 pub returns-clause-step : goal.returns-clause-step

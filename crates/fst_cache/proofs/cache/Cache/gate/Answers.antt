@@ -16,10 +16,8 @@ pub invariant_of-self : goal.invariant_of-self
 invariant_of-self g c =
     let i = c.self.inside in
     record {
-      kept = kept_unprepared i.size i.residents.most i.tickets i.made i.graph c.add_gate.new.self i.contents.items i.seats.items c.in_err-no.ensures.same c.self.invariant.kept;
-      flying = c.self.invariant.flying;
+      kept = kept_unprepared i.size i.seats.most i.tickets i.made i.graph c.add_gate.new.self i.contents.items i.seats.seats c.in_err-no.ensures.same c.self.invariant.kept;
       undoing = c.self.invariant.undoing;
-      listed = c.self.invariant.listed;
     }
 
 pub returns-in_err-no-clause-step : goal.returns-in_err-no-clause-step
@@ -27,20 +25,18 @@ returns-in_err-no-clause-step g c =
     let i = c.self.inside in
     let p = err_from_is_err_and c.from_residual.result c.from_residual.ensures.1 in
     let free : max_share ≤ c.args.share.now → ⊥ = λ h. omega arith in
-    rw (p.1, ← c.self.view_is) (step_unprepared i.size i.residents.most i.tickets i.made i.graph c.add_gate.new.self i.contents.items i.seats.items c.in_err-no.ensures.same
+    rw (p.1, ← c.self.view_is) (step_unprepared i.size i.seats.most i.tickets i.made i.graph c.add_gate.new.self i.contents.items i.seats.seats c.in_err-no.ensures.same
     (MakeGate c.args.share.now) p.0 (rw p.2 (refuses_past _ _ _ (room_order i.graph.heads i.graph.numbers) free c.in_err-no.ensures.refused)))
 
 pub invariant_of-self-2 : goal.invariant_of-self-2
 invariant_of-self-2 g c =
     let i = c.self.inside in
     record {
-      kept = kept_gate i.size i.residents.most i.tickets i.made i.graph c.add_gate.new.self i.contents.items i.seats.items c.self.invariant.kept c.args.share.now _ (λ h. omega arith) c.in_ok-no.ensures.ok;
-      flying = c.self.invariant.flying;
+      kept = kept_gate i.size i.seats.most i.tickets i.made i.graph c.add_gate.new.self i.contents.items i.seats.seats c.self.invariant.kept c.args.share.now _ (λ h. omega arith) c.in_ok-no.ensures.ok;
       undoing = c.self.invariant.undoing;
-      listed = c.self.invariant.listed;
     }
 
 pub returns-clause-step : goal.returns-clause-step
 returns-clause-step g c =
     let i = c.self.inside in
-    rw (← c.self.view_is) (step_gate i.size i.residents.most i.tickets i.made i.graph c.add_gate.new.self i.contents.items i.seats.items c.self.invariant.kept c.args.share.now _ (λ h. omega arith) c.in_ok-no.ensures.ok)
+    rw (← c.self.view_is) (step_gate i.size i.seats.most i.tickets i.made i.graph c.add_gate.new.self i.contents.items i.seats.seats c.self.invariant.kept c.args.share.now _ (λ h. omega arith) c.in_ok-no.ensures.ok)

@@ -12,11 +12,9 @@ invariant_of-self g c =
     let i = c.self.inside in
     record {
       kept = on_either c.group_after.result c.group_after.ensures.ok c.group_after.ensures.same
-          (kept_after i.size i.residents.most i.tickets i.made i.graph c.group_after.new.self i.contents.items i.seats.items c.self.invariant.kept c.args.group.0 c.args.on.0)
-          (λ same. kept_unprepared i.size i.residents.most i.tickets i.made i.graph c.group_after.new.self i.contents.items i.seats.items same c.self.invariant.kept);
-      flying = c.self.invariant.flying;
+          (kept_after i.size i.seats.most i.tickets i.made i.graph c.group_after.new.self i.contents.items i.seats.seats c.self.invariant.kept c.args.group.0 c.args.on.0)
+          (λ same. kept_unprepared i.size i.seats.most i.tickets i.made i.graph c.group_after.new.self i.contents.items i.seats.seats same c.self.invariant.kept);
       undoing = c.self.invariant.undoing;
-      listed = c.self.invariant.listed;
     }
 
 pub returns-clause-step : goal.returns-clause-step
@@ -24,12 +22,12 @@ returns-clause-step g c =
     let i = c.self.inside in
     rw (← c.self.view_is)
     (match_either c.group_after.result c.group_after.ensures.ok c.group_after.ensures.same c.group_after.ensures.refused
-    (step_after i.size i.residents.most i.tickets i.made i.graph c.group_after.new.self i.contents.items i.seats.items c.self.invariant.kept c.args.group.0 c.args.on.0)
-    (λ fault same why. step_unprepared i.size i.residents.most i.tickets i.made i.graph c.group_after.new.self i.contents.items i.seats.items same (GroupAfter c.args.group.0 c.args.on.0) fault why))
+    (step_after i.size i.seats.most i.tickets i.made i.graph c.group_after.new.self i.contents.items i.seats.seats c.self.invariant.kept c.args.group.0 c.args.on.0)
+    (λ fault same why. step_unprepared i.size i.seats.most i.tickets i.made i.graph c.group_after.new.self i.contents.items i.seats.seats same (GroupAfter c.args.group.0 c.args.on.0) fault why))
 
 pub returns-clause-refused : goal.returns-clause-refused
 returns-clause-refused g c =
     let i = c.self.inside in
     on_err_weaker c.group_after.result
-    (λ same. ap (λ (s : State). view_of s i.seats.items) (state_unprepared i.size i.residents.most i.tickets i.made i.graph c.group_after.new.self i.contents.items i.seats.items same) ∙ c.self.view_is)
+    (λ same. ap (λ (s : State). view_of s i.seats.seats) (state_unprepared i.size i.seats.most i.tickets i.made i.graph c.group_after.new.self i.contents.items i.seats.seats same) ∙ c.self.view_is)
     c.group_after.ensures.same

@@ -1,4 +1,4 @@
-use Rattle.std.proofs.Common.{◌≡◌, ◌≤◌, ◌<◌, ◌+◌, ◌++◌, ℕ, List, length, map, refl, ap, inl, inr, arith, drop, take, ◌∙◌, sym}
+use Rattle.std.proofs.Common.{◌≡◌, ◌≤◌, ◌<◌, ◌+◌, ℕ, List, length, map, refl, ap, inl, inr, arith, ◌∙◌, sym}
 use Rattle.std.proofs.lemmas.List.{length-map, set-get_or}
 use Rattle.fst_types.specs.Order.{make_order}
 use Rattle.fst_types.specs.State.{State}
@@ -7,68 +7,56 @@ use Rattle.fst_graph.specs.Known.{Known, AddsChange}
 use Rattle.fst_seat.specs.Names.{numbers_of}
 use Rattle.fst_block.specs.BlockView.{BlockPatch}
 use Rattle.fst_seat.specs.Seats.{SeatView}
-use Rattle.fst_seat.specs.Residing.{residents_of, MayLoad, Puts}
-use Rattle.fst_seat.proofs.Flying.{flying_still}
+use Rattle.fst_seat.specs.Residing.{MayLoad, Puts}
 use Rattle.fst_seat.proofs.Undo.{undo_load, undo_puts}
 use Rattle.fst_seat.proofs.Putting.{not_failed}
 use Rattle.fst_cache.specs.Kept.{state_of, span_of}
 use Rattle.fst_cache.specs.Making.{span_order, MayHold}
 use Rattle.fst_cache.proofs.SameRefused.{kept_unprepared, step_unprepared}
-use Rattle.fst_cache.proofs.ResideSeats.{room_for, at_rest}
-use Rattle.fst_cache.proofs.ResideLoading.{written_back, Loaded, within_of}
+use Rattle.fst_cache.proofs.ResideSeats.{room_for}
+use Rattle.fst_cache.proofs.ResideLoading.{Loaded, within_of}
 use Rattle.fst_cache.proofs.MakeRefused.{first_append, refused_by_graph}
 use Rattle.fst_cache.proofs.MakeReady.{as_long, newest, kept_ready, loaded}
-use Rattle.fst_cache.proofs.MakeWhole.{step_refused, step_made, kept_made, adds_prepared, load_fault, load_here, puts_here, rose_here}
-use Rattle.fst_cache.proofs.MakeBeside.{blocks_made, faults_made, homes_made, back_made}
-use Rattle.fst_cache.proofs.MakeCounted.{counted_here, quiet_here}
+use Rattle.fst_cache.proofs.MakeWhole.{step_refused, step_made, kept_made, adds_prepared}
+use Rattle.fst_cache.proofs.MakeBeside.{faults_made, homes_made, back_made}
 use Rattle.fst_cache.proofs.ResideUndo.{undo_is, undo_short}
-use Rattle.fst_cache.proofs.ResideShowing.{told}
+use Rattle.fst_cache.proofs.ResideShowing.{load_fault, told}
 use Rattle.fst_cache.proofs.cache.Cache.patch.Goals.{In_default, In-Err-put, After-undo_bytes}
 use Rattle.fst_cache.proofs.cache.Cache.patch.Goals as goal
 
 -- the state before the call
 abbrev before : (g : _) → In_default g → State
-before g c = state_of c.self.inside.size c.self.inside.residents.most c.self.inside.tickets c.self.inside.made c.self.inside.graph c.self.inside.contents.items c.self.inside.seats.items
+before g c = state_of c.self.inside.size c.self.inside.seats.most c.self.inside.tickets c.self.inside.made c.self.inside.graph c.self.inside.contents.items c.self.inside.seats.seats
 
 -- no rule that looks at the block alone refuses
 may_hold : (g : _) (c : In_default g) → MayHold (before g c) c.args.share.now c.args.block.0 c.args.at c.args.bytes.now
 may_hold g c = rw (← c.self.view_is) at c.in_default.ensures
 
-within : (g : _) (c : In_default g) → c.args.block.0 < length c.self.inside.seats.items
-within g c = within_of (length c.self.inside.seats.items) c.args.block.0 (λ past. (may_hold g c).there (rw length-map past))
+within : (g : _) (c : In_default g) → c.args.block.0 < length c.self.inside.seats.seats
+within g c = within_of (length c.self.inside.seats.seats) c.args.block.0 (λ past. (may_hold g c).there (rw length-map past))
 
 fits : (g : _) (c : In_default g) → c.self.inside.size < c.args.at + length c.args.bytes.now → ⊥
 fits g c past = (may_hold g c).fits (inr past)
-
--- the seats as a call left the slice of them
-abbrev left : ℕ → List SeatView → List SeatView → List SeatView
-left n new old = take n (new ++ drop (length new) old)
 
 abbrev faults_of : List SeatView → List ℕ
 faults_of seats = map (λ (t : SeatView). t.faults) seats
 
 -- where the patch was refused: the block was in memory, or may have been read
-many_left : (g : _) (c : In-Err-put g) → c.self.inside.seats.len ≡ length c.put.new.seats
-many_left g c = omega (arith, c.self.inside.seats.ok.0, c.put.auto.seats, c.deref_mut.ensures.len)
+loads : (g : _) (c : In-Err-put g) → MayLoad c.self.inside.seats.most c.self.inside.seats.seats c.args.block.0 c.put.new.self.seats
+loads g c = c.in-Err-put.ensures.refused refl
 
-loads : (g : _) (c : In-Err-put g) → MayLoad c.self.inside.residents.most c.self.inside.seats.items c.args.block.0 (left c.self.inside.seats.len c.put.new.seats c.self.inside.seats.items)
-loads g c = load_here c.self.inside.residents.most c.self.inside.seats.items c.deref_mut.result.now c.put.new.seats c.args.block.0 c.self.inside.seats.len (drop (length c.put.new.seats) c.self.inside.seats.items) c.deref_mut.ensures.value (many_left g c) (c.in-Err-put.ensures.refused refl)
-
-still : (g : _) (c : In-Err-put g) → Loaded (state_of c.self.inside.size c.self.inside.residents.most c.self.inside.tickets c.self.inside.made c.self.inside.graph c.self.inside.contents.items c.self.inside.seats.items) c.self.inside.graph c.self.inside.seats.items c.args.block.0 (left c.self.inside.seats.len c.put.new.seats c.self.inside.seats.items)
-still g c = loaded c.self.inside.size c.self.inside.residents.most c.self.inside.tickets c.self.inside.made c.self.inside.graph c.room.new.self _ c.in-Ok.ensures.prepared c.self.inside.contents.items c.self.inside.seats.items _ c.self.invariant.kept c.args.block.0 (loads g c)
+still : (g : _) (c : In-Err-put g) → Loaded (state_of c.self.inside.size c.self.inside.seats.most c.self.inside.tickets c.self.inside.made c.self.inside.graph c.self.inside.contents.items c.self.inside.seats.seats) c.self.inside.graph c.self.inside.seats.seats c.args.block.0 c.put.new.self.seats
+still g c = loaded c.self.inside.size c.self.inside.seats.most c.self.inside.tickets c.self.inside.made c.self.inside.graph c.room.new.self _ c.in-Ok.ensures.prepared c.self.inside.contents.items c.self.inside.seats.seats _ c.self.invariant.kept c.args.block.0 (loads g c)
 
 -- where it was put
 abbrev patch : (g : _) → After-undo_bytes g → BlockPatch
 patch g c = record { number = c.in-Ok.made.0.0; span = span_of c.args.at (length c.args.bytes.now); grade = c.in-Ok.made.1; bytes = c.args.bytes.now }
 
-many_put : (g : _) (c : After-undo_bytes g) → c.self.inside.seats.len ≡ length c.put.new.seats
-many_put g c = omega (arith, c.self.inside.seats.ok.0, c.put.auto.seats, c.deref_mut.ensures.len)
+puts : (g : _) (c : After-undo_bytes g) → Puts c.self.inside.seats.most c.self.inside.seats.seats c.args.block.0 (patch g c) c.put.new.self.seats
+puts g c = c.in_default-put.ensures.put
 
-puts : (g : _) (c : After-undo_bytes g) → Puts c.self.inside.residents.most c.self.inside.seats.items c.args.block.0 (patch g c) (left c.self.inside.seats.len c.put.new.seats c.self.inside.seats.items)
-puts g c = puts_here c.self.inside.residents.most c.self.inside.seats.items c.deref_mut.result.now c.put.new.seats c.args.block.0 c.self.inside.seats.len (drop (length c.put.new.seats) c.self.inside.seats.items) c.deref_mut.ensures.value (many_put g c) (patch g c) c.in_default-put.ensures.put
-
-quiet : (g : _) (c : After-undo_bytes g) → faults_of (left c.self.inside.seats.len c.put.new.seats c.self.inside.seats.items) ≡ faults_of c.self.inside.seats.items
-quiet g c = quiet_here c.self.inside.seats.items c.deref_mut.result.now c.put.new.seats c.args.block.0 c.self.inside.seats.len (drop (length c.put.new.seats) c.self.inside.seats.items) c.deref_mut.ensures.value (many_put g c) (c.in_default-put.ensures.no_fault (λ e. not_failed e))
+quiet : (g : _) (c : After-undo_bytes g) → faults_of c.put.new.self.seats ≡ faults_of c.self.inside.seats.seats
+quiet g c = c.in_default-put.ensures.no_fault (λ e. not_failed e)
 
 -- the graph adds what it prepared
 adds : (g : _) (c : After-undo_bytes g) → AddsChange c.room.new.self c.args.block.0 c.args.at (length c.args.bytes.now) (numbers_of c.args.after.now) c.in-Ok.made.0.0 c.in-Ok.made.1 c.add_data.new.self
@@ -102,7 +90,7 @@ pub returns-in-Err-clause-share : goal.returns-in-Err-clause-share
 returns-in-Err-clause-share g c = refl
 
 pub returns-in-Err-clause-faults : goal.returns-in-Err-clause-faults
-returns-in-Err-clause-faults g c = rw (← c.self.view_is) (sym (set-get_or (faults_of c.self.inside.seats.items) c.args.block.0 0))
+returns-in-Err-clause-faults g c = rw (← c.self.view_is) (sym (set-get_or (faults_of c.self.inside.seats.seats) c.args.block.0 0))
 
 pub returns-in-Err-clause-one_fault : goal.returns-in-Err-clause-one_fault
 returns-in-Err-clause-one_fault g c = rw (← c.self.view_is) (inl refl)
@@ -126,7 +114,7 @@ pub room-requires : goal.room-requires
 room-requires g c = rw c.self.invariant.kept.graph_blocks (within g (goal.at.room-requires g c).In_default)
 
 pub put-requires-clause-within : goal.put-requires-clause-within
-put-requires-clause-within g c = rw c.deref_mut.ensures.value (within g (goal.at.put-requires-clause-within g c).In_default)
+put-requires-clause-within g c = within g (goal.at.put-requires-clause-within g c).In_default
 
 pub put-requires-clause-same_length : goal.put-requires-clause-same_length
 put-requires-clause-same_length g c = refl
@@ -155,62 +143,48 @@ overflow_cast-span g c =
 
 pub invariant_of-self : goal.invariant_of-self
 invariant_of-self g c = record {
-  kept = kept_unprepared c.self.inside.size c.self.inside.residents.most c.self.inside.tickets c.self.inside.made c.self.inside.graph c.room.new.self c.self.inside.contents.items c.self.inside.seats.items c.in-Err.ensures.same c.self.invariant.kept;
-  flying = c.self.invariant.flying;
+  kept = kept_unprepared c.self.inside.size c.self.inside.seats.most c.self.inside.tickets c.self.inside.made c.self.inside.graph c.room.new.self c.self.inside.contents.items c.self.inside.seats.seats c.in-Err.ensures.same c.self.invariant.kept;
   undoing = c.self.invariant.undoing;
-  listed = c.self.invariant.listed;
 }
 
 pub returns-in-Err-clause-step : goal.returns-in-Err-clause-step
 returns-in-Err-clause-step g c =
     let at = (goal.at.returns-in-Err-clause-step g c).In_default in
     rw (← c.self.view_is)
-    (step_unprepared c.self.inside.size c.self.inside.residents.most c.self.inside.tickets c.self.inside.made c.self.inside.graph c.room.new.self c.self.inside.contents.items c.self.inside.seats.items c.in-Err.ensures.same _ c.in-Err.fault
+    (step_unprepared c.self.inside.size c.self.inside.seats.most c.self.inside.tickets c.self.inside.made c.self.inside.graph c.room.new.self c.self.inside.contents.items c.self.inside.seats.seats c.in-Err.ensures.same _ c.in-Err.fault
     (refused_by_graph (before g at) c.args.share.now c.args.block.0 c.args.at c.args.bytes.now (may_hold g at) (numbers_of c.args.after.now) _ c.in-Err.fault c.in-Err.ensures.refused))
-
-pub put-requires-clause-listed : goal.put-requires-clause-listed
-put-requires-clause-listed g c = rw c.deref_mut.ensures.value c.self.invariant.listed
-
-pub put-requires-clause-rest : goal.put-requires-clause-rest
-put-requires-clause-rest g c =
-    let at = (goal.at.put-requires-clause-rest g c).In_default in
-    rw c.deref_mut.ensures.value (at_rest (before g at) c.self.inside.graph c.self.inside.seats.items c.self.invariant.kept refl)
 
 pub put-requires-clause-room : goal.put-requires-clause-room
 put-requires-clause-room g c =
     let at = (goal.at.put-requires-clause-room g c).In_default in
-    rw c.deref_mut.ensures.value (λ seat at_b away. room_for (before g at) c.self.inside.graph c.self.inside.seats.items c.self.invariant.kept refl c.args.block.0 seat at_b (may_hold g at).room away)
+    λ seat at_b away. room_for (before g at) c.self.inside.graph c.self.inside.seats.seats c.self.invariant.kept refl c.args.block.0 seat at_b (may_hold g at).room away
 
 pub put-requires-clause-inside : goal.put-requires-clause-inside
 put-requires-clause-inside g c =
     let at = (goal.at.put-requires-clause-inside g c).In_default in
     let past = fits g at in
-    rw c.deref_mut.ensures.value
-    (λ seat at_b. let long : length seat.block.committed ≡ c.self.inside.size = as_long (before g at) c.self.inside.graph c.self.inside.seats.items c.self.invariant.kept refl c.args.block.0 seat at_b in omega (arith, past, long))
+    λ seat at_b. let long : length seat.block.committed ≡ c.self.inside.size = as_long (before g at) c.self.inside.graph c.self.inside.seats.seats c.self.invariant.kept refl c.args.block.0 seat at_b in omega (arith, past, long)
 
 pub put-requires-clause-newest : goal.put-requires-clause-newest
 put-requires-clause-newest g c =
     let at = (goal.at.put-requires-clause-newest g c).In_default in
-    rw c.deref_mut.ensures.value (λ seat at_b. newest (before g at) c.self.inside.graph c.self.inside.seats.items c.self.invariant.kept refl c.args.block.0 seat at_b c.in-Ok.made.0.0 c.in-Ok.ensures.ok.1.row.next)
+    λ seat at_b. newest (before g at) c.self.inside.graph c.self.inside.seats.seats c.self.invariant.kept refl c.args.block.0 seat at_b c.in-Ok.made.0.0 c.in-Ok.ensures.ok.1.row.next
 
 pub invariant_of-self-in-Err-put : goal.invariant_of-self-in-Err-put
 invariant_of-self-in-Err-put g c =
     let at = (goal.at.invariant_of-self-in-Err-put g c).In-Err-put in
-    rw c.put.ensures.listed (record {
-      kept = kept_ready c.self.inside.size c.self.inside.residents.most c.self.inside.tickets c.self.inside.made c.self.inside.graph c.room.new.self _ c.in-Ok.ensures.prepared c.self.inside.contents.items c.self.inside.seats.items _ c.self.invariant.kept c.args.block.0 (loads g at);
-      flying = flying_still c.self.inside.flights c.self.inside.seats.items _ (still g at).blocks c.self.invariant.flying;
-      undoing = c.self.invariant.undoing ∙ sym (undo_load c.self.inside.residents.most c.self.inside.seats.items c.args.block.0 _ (loads g at));
-      listed = sym (ap (residents_of c.self.inside.residents.most) (written_back c.self.inside.seats.len c.put.new.seats c.self.inside.seats.items (sym (many_left g at))));
+    rw c.put.ensures.most (record {
+      kept = kept_ready c.self.inside.size c.self.inside.seats.most c.self.inside.tickets c.self.inside.made c.self.inside.graph c.room.new.self _ c.in-Ok.ensures.prepared c.self.inside.contents.items c.self.inside.seats.seats _ c.self.invariant.kept c.args.block.0 (loads g at);
+      undoing = c.self.invariant.undoing ∙ sym (undo_load c.self.inside.seats.most c.self.inside.seats.seats c.args.block.0 _ (loads g at));
     })
 
 pub returns-in-Err-put-clause-step : goal.returns-in-Err-put-clause-step
 returns-in-Err-put-clause-step g c =
     let at = (goal.at.returns-in-Err-put-clause-step g c).In-Err-put in
     let may = may_hold g (goal.at.returns-in-Err-put-clause-step g c).In_default in
-    rw (← c.self.view_is, c.put.ensures.listed)
-    (step_refused c.self.inside.size c.self.inside.residents.most c.self.inside.tickets c.self.inside.made c.self.inside.graph c.room.new.self _ c.in-Ok.ensures.prepared c.self.inside.contents.items c.self.inside.seats.items _ c.self.invariant.kept c.args.share.now c.args.block.0 c.args.at c.args.bytes.now (numbers_of c.args.after.now) (loads g at) may c.in-Ok.ensures.ok.1.clear c.in-Err-put.fault
-    (load_fault _ c.in-Err-put.fault _ refl (c.in-Err-put.ensures.kinds refl)
-    (λ d. rose_here c.self.inside.residents.most c.self.inside.seats.items c.deref_mut.result.now c.put.new.seats c.args.block.0 c.self.inside.seats.len (drop (length c.put.new.seats) c.self.inside.seats.items) c.deref_mut.ensures.value (many_left g at) (c.in-Err-put.ensures.device d))))
+    rw (← c.self.view_is, c.put.ensures.most)
+    (step_refused c.self.inside.size c.self.inside.seats.most c.self.inside.tickets c.self.inside.made c.self.inside.graph c.room.new.self _ c.in-Ok.ensures.prepared c.self.inside.contents.items c.self.inside.seats.seats _ c.self.invariant.kept c.args.share.now c.args.block.0 c.args.at c.args.bytes.now (numbers_of c.args.after.now) (loads g at) may c.in-Ok.ensures.ok.1.clear c.in-Err-put.fault
+    (load_fault _ c.in-Err-put.fault _ refl c.in-Err-put.ensures.kinds c.in-Err-put.ensures.device))
 
 pub returns-in-Err-put-clause-faults : goal.returns-in-Err-put-clause-faults
 returns-in-Err-put-clause-faults g c = rw (← c.self.view_is) (still g (goal.at.returns-in-Err-put-clause-faults g c).In-Err-put).faults
@@ -222,54 +196,48 @@ pub returns-in-Err-put-clause-back : goal.returns-in-Err-put-clause-back
 returns-in-Err-put-clause-back g c = rw (← c.self.view_is) (still g (goal.at.returns-in-Err-put-clause-back g c).In-Err-put).back
 
 pub returns-in-Err-put-clause-one_fault : goal.returns-in-Err-put-clause-one_fault
-returns-in-Err-put-clause-one_fault g c =
-    let many = many_left g (goal.at.returns-in-Err-put-clause-one_fault g c).In-Err-put in
-    rw (← c.self.view_is) (counted_here c.self.inside.seats.items c.deref_mut.result.now c.put.new.seats c.args.block.0 c.self.inside.seats.len (drop (length c.put.new.seats) c.self.inside.seats.items) c.deref_mut.ensures.value many c.put.ensures.one_fault)
+returns-in-Err-put-clause-one_fault g c = rw (← c.self.view_is) c.put.ensures.one_fault
 
 pub returns-in-Err-put-clause-no_fault : goal.returns-in-Err-put-clause-no_fault
-returns-in-Err-put-clause-no_fault g c =
-    let many = many_left g (goal.at.returns-in-Err-put-clause-no_fault g c).In-Err-put in
-    rw (← c.self.view_is) (λ fine. quiet_here c.self.inside.seats.items c.deref_mut.result.now c.put.new.seats c.args.block.0 c.self.inside.seats.len (drop (length c.put.new.seats) c.self.inside.seats.items) c.deref_mut.ensures.value many (c.in-Err-put.ensures.no_fault (λ d. fine (told c.in-Err-put.fault c.in-Err-put.fault refl d))))
+returns-in-Err-put-clause-no_fault g c = rw (← c.self.view_is) (λ fine. c.in-Err-put.ensures.no_fault (λ d. fine (told c.in-Err-put.fault c.in-Err-put.fault refl d)))
 
 pub overflow_add-self : goal.overflow_add-self
 overflow_add-self g c =
     let s = before g (goal.at.overflow_add-self g c).In_default in
-    let same = undo_is s c.self.inside.graph c.self.inside.seats.items c.self.invariant.kept refl in
-    let short = undo_short s c.self.inside.graph c.self.inside.seats.items c.self.invariant.kept refl in
+    let same = undo_is s c.self.inside.graph c.self.inside.seats.seats c.self.invariant.kept refl in
+    let short = undo_short s c.self.inside.graph c.self.inside.seats.seats c.self.invariant.kept refl in
     omega (arith, same, short, c.undo_bytes.ensures.within, c.self.invariant.undoing)
 
 pub invariant_of-self-2 : goal.invariant_of-self-2
 invariant_of-self-2 g c =
     let at = (goal.at.invariant_of-self-2 g c).After-undo_bytes in
     let may = may_hold g (goal.at.invariant_of-self-2 g c).In_default in
-    rw c.put.ensures.listed (record {
-      kept = rw c.with-self-inside.ensures (kept_made c.self.inside.size c.self.inside.residents.most c.self.inside.tickets c.self.inside.made c.self.inside.graph c.room.new.self _ c.in-Ok.ensures.prepared c.self.inside.contents.items c.self.inside.seats.items _ c.self.invariant.kept c.args.share.now c.args.block.0 c.args.at c.args.bytes.now (numbers_of c.args.after.now) c.in-Ok.made.0.0 c.in-Ok.made.1 may (puts g at) c.add_data.new.self (adds g at));
-      flying = flying_still c.self.inside.flights c.self.inside.seats.items _ (blocks_made c.self.inside.size c.self.inside.residents.most c.self.inside.tickets c.self.inside.made c.self.inside.graph c.room.new.self _ c.in-Ok.ensures.prepared c.self.inside.contents.items c.self.inside.seats.items _ c.self.invariant.kept c.args.block.0 _ (puts g at)) c.self.invariant.flying;
-      undoing = let r = undo_puts c.self.inside.residents.most c.self.inside.seats.items c.args.block.0 _ _ (puts g at) in omega (arith, r, c.undo_bytes.ensures.value, c.self.invariant.undoing);
-      listed = sym (ap (residents_of c.self.inside.residents.most) (written_back c.self.inside.seats.len c.put.new.seats c.self.inside.seats.items (sym (many_put g at))));
+    rw c.put.ensures.most (record {
+      kept = rw c.with-self-inside.ensures (kept_made c.self.inside.size c.self.inside.seats.most c.self.inside.tickets c.self.inside.made c.self.inside.graph c.room.new.self _ c.in-Ok.ensures.prepared c.self.inside.contents.items c.self.inside.seats.seats _ c.self.invariant.kept c.args.share.now c.args.block.0 c.args.at c.args.bytes.now (numbers_of c.args.after.now) c.in-Ok.made.0.0 c.in-Ok.made.1 may (puts g at) c.add_data.new.self (adds g at));
+      undoing = let r = undo_puts c.self.inside.seats.most c.self.inside.seats.seats c.args.block.0 _ _ (puts g at) in omega (arith, r, c.undo_bytes.ensures.value, c.self.invariant.undoing);
     })
 
 pub returns-clause-step : goal.returns-clause-step
 returns-clause-step g c =
     let at = (goal.at.returns-clause-step g c).After-undo_bytes in
     let may = may_hold g (goal.at.returns-clause-step g c).In_default in
-    rw (← c.self.view_is, c.put.ensures.listed, c.with-self-inside.ensures)
-    (step_made c.self.inside.size c.self.inside.residents.most c.self.inside.tickets c.self.inside.made c.self.inside.graph c.room.new.self _ c.in-Ok.ensures.prepared c.self.inside.contents.items c.self.inside.seats.items _ c.self.invariant.kept c.args.share.now c.args.block.0 c.args.at c.args.bytes.now (numbers_of c.args.after.now) c.in-Ok.made.0.0 c.in-Ok.made.1 may (puts g at) c.add_data.new.self (adds g at) _)
+    rw (← c.self.view_is, c.put.ensures.most, c.with-self-inside.ensures)
+    (step_made c.self.inside.size c.self.inside.seats.most c.self.inside.tickets c.self.inside.made c.self.inside.graph c.room.new.self _ c.in-Ok.ensures.prepared c.self.inside.contents.items c.self.inside.seats.seats _ c.self.invariant.kept c.args.share.now c.args.block.0 c.args.at c.args.bytes.now (numbers_of c.args.after.now) c.in-Ok.made.0.0 c.in-Ok.made.1 may (puts g at) c.add_data.new.self (adds g at) _)
 
 pub returns-clause-faults : goal.returns-clause-faults
 returns-clause-faults g c =
     let at = (goal.at.returns-clause-faults g c).After-undo_bytes in
-    rw (← c.self.view_is) (faults_made c.self.inside.size c.self.inside.residents.most c.self.inside.tickets c.self.inside.made c.self.inside.graph c.room.new.self _ c.in-Ok.ensures.prepared c.self.inside.contents.items c.self.inside.seats.items _ c.self.invariant.kept c.args.block.0 _ (puts g at))
+    rw (← c.self.view_is) (faults_made c.self.inside.size c.self.inside.seats.most c.self.inside.tickets c.self.inside.made c.self.inside.graph c.room.new.self _ c.in-Ok.ensures.prepared c.self.inside.contents.items c.self.inside.seats.seats _ c.self.invariant.kept c.args.block.0 _ (puts g at))
 
 pub returns-clause-homes : goal.returns-clause-homes
 returns-clause-homes g c =
     let at = (goal.at.returns-clause-homes g c).After-undo_bytes in
-    rw (← c.self.view_is) (homes_made c.self.inside.size c.self.inside.residents.most c.self.inside.tickets c.self.inside.made c.self.inside.graph c.room.new.self _ c.in-Ok.ensures.prepared c.self.inside.contents.items c.self.inside.seats.items _ c.self.invariant.kept c.args.block.0 _ (puts g at))
+    rw (← c.self.view_is) (homes_made c.self.inside.size c.self.inside.seats.most c.self.inside.tickets c.self.inside.made c.self.inside.graph c.room.new.self _ c.in-Ok.ensures.prepared c.self.inside.contents.items c.self.inside.seats.seats _ c.self.invariant.kept c.args.block.0 _ (puts g at))
 
 pub returns-clause-back : goal.returns-clause-back
 returns-clause-back g c =
     let at = (goal.at.returns-clause-back g c).After-undo_bytes in
-    rw (← c.self.view_is) (back_made c.self.inside.size c.self.inside.residents.most c.self.inside.tickets c.self.inside.made c.self.inside.graph c.room.new.self _ c.in-Ok.ensures.prepared c.self.inside.contents.items c.self.inside.seats.items _ c.self.invariant.kept c.args.block.0 _ (puts g at))
+    rw (← c.self.view_is) (back_made c.self.inside.size c.self.inside.seats.most c.self.inside.tickets c.self.inside.made c.self.inside.graph c.room.new.self _ c.in-Ok.ensures.prepared c.self.inside.contents.items c.self.inside.seats.seats _ c.self.invariant.kept c.args.block.0 _ (puts g at))
 
 pub returns-clause-one_fault : goal.returns-clause-one_fault
 returns-clause-one_fault g c = rw (← c.self.view_is) (inl (quiet g (goal.at.returns-clause-one_fault g c).After-undo_bytes))

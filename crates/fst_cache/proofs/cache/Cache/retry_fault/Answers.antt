@@ -1,5 +1,4 @@
 use Rattle.std.proofs.Common.{arith, ◌≡◌, ◌∙◌, ◌<◌, true, false, Some, None, length, slice_get, refl, sym, inl, inr}
-use Rattle.std.proofs.lemmas.Option.{slice_get_read}
 use Rattle.std.proofs.lemmas.List.{length-map}
 use Rattle.fst_types.specs.Flights.{IsStalled, IsLost}
 use Rattle.fst_seat.specs.Seats.{SeatView}
@@ -10,32 +9,32 @@ use Rattle.fst_cache.proofs.cache.Cache.retry_fault.Goals.{After-is_stalled}
 use Rattle.fst_cache.proofs.cache.Cache.retry_fault.Goals as goal
 
 -- the seat that was read is the block's
-seated : (g : _) (c : After-is_stalled g) → slice_get c.self.inside.seats.items c.args.block.0 ≡ Some c.index-seat.result.now
-seated g c = let i = c.self.inside in slice_get_read i.seats.items _ _ _ i.seats.ok.0 (omega arith) c.index-seat.ensures
+seated : (g : _) (c : After-is_stalled g) → slice_get c.self.inside.seats.seats c.args.block.0 ≡ Some c.seat-seat.result.now
+seated g c = let i = c.self.inside in c.seat-seat.ensures.at
 
-stalled : (g : _) (c : After-is_stalled g) → c.is_stalled.result ≡ true → IsStalled (state_of c.self.inside.size c.self.inside.residents.most c.self.inside.tickets c.self.inside.made c.self.inside.graph c.self.inside.contents.items c.self.inside.seats.items) c.args.block.0
+stalled : (g : _) (c : After-is_stalled g) → c.is_stalled.result ≡ true → IsStalled (state_of c.self.inside.size c.self.inside.seats.most c.self.inside.tickets c.self.inside.made c.self.inside.graph c.self.inside.contents.items c.self.inside.seats.seats) c.args.block.0
 stalled g c e =
     let i = c.self.inside in
-    stalled_at i.size i.residents.most i.tickets i.made i.graph i.contents.items i.seats.items _ _ (seated g c) (sym c.is_stalled.ensures.flight ∙ e)
+    stalled_at i.size i.seats.most i.tickets i.made i.graph i.contents.items i.seats.seats _ _ (seated g c) (sym c.is_stalled.ensures.flight ∙ e)
 
 -- and it is lost or not
-kept : (g : _) (c : After-is_stalled g) → c.is_lost.result ≡ false → IsLost (state_of c.self.inside.size c.self.inside.residents.most c.self.inside.tickets c.self.inside.made c.self.inside.graph c.self.inside.contents.items c.self.inside.seats.items) c.args.block.0 → ⊥
+kept : (g : _) (c : After-is_stalled g) → c.is_lost.result ≡ false → IsLost (state_of c.self.inside.size c.self.inside.seats.most c.self.inside.tickets c.self.inside.made c.self.inside.graph c.self.inside.contents.items c.self.inside.seats.seats) c.args.block.0 → ⊥
 kept g c e =
     let i = c.self.inside in
-    not_lost_at i.size i.residents.most i.tickets i.made i.graph i.contents.items i.seats.items _ _ (seated g c) (sym c.is_lost.ensures ∙ e)
+    not_lost_at i.size i.seats.most i.tickets i.made i.graph i.contents.items i.seats.seats _ _ (seated g c) (sym c.is_lost.ensures ∙ e)
 
 pub returns-then-is_lost-clause-fault : goal.returns-then-is_lost-clause-fault
 returns-then-is_lost-clause-fault g c =
     let i = c.self.inside in
-    let lt : c.args.block.0 < length i.seats.items = omega (arith, i.seats.ok.0) in
-    let seated : slice_get i.seats.items c.args.block.0 ≡ Some c.index-seat.result.now = slice_get_read i.seats.items _ _ _ i.seats.ok.0 (omega arith) c.index-seat.ensures in
-    let lost = lost_at i.size i.residents.most i.tickets i.made i.graph i.contents.items i.seats.items _ _ seated (sym c.is_lost.ensures ∙ c.if-is_lost.true) in
+    let lt : c.args.block.0 < length i.seats.seats = omega (arith) in
+    let seated : slice_get i.seats.seats c.args.block.0 ≡ Some c.seat-seat.result.now = c.seat-seat.ensures.at in
+    let lost = lost_at i.size i.seats.most i.tickets i.made i.graph i.contents.items i.seats.seats _ _ seated (sym c.is_lost.ensures ∙ c.if-is_lost.true) in
     rw (← c.self.view_is, length-map) (inr ((λ h. omega arith), inl (lost, refl)))
 
 pub returns-then-self-clause-fault : goal.returns-then-self-clause-fault
 returns-then-self-clause-fault g c =
     let i = c.self.inside in
-    let lt : c.args.block.0 < length i.seats.items = omega (arith, i.seats.ok.0) in
+    let lt : c.args.block.0 < length i.seats.seats = omega (arith) in
     let st = stalled g (goal.at.returns-then-self-clause-fault g c).After-is_stalled c.if-not-is_stalled.false in
     let no = kept g (goal.at.returns-then-self-clause-fault g c).After-is_stalled c.if-is_lost.false in
     rw (← c.self.view_is, length-map) (inr ((λ h. omega arith), inr (no, inr ((λ h. h st), inl (omega arith, refl)))))
@@ -43,7 +42,7 @@ returns-then-self-clause-fault g c =
 pub returns-clause-fault : goal.returns-clause-fault
 returns-clause-fault g c =
     let i = c.self.inside in
-    let lt : c.args.block.0 < length i.seats.items = omega (arith, i.seats.ok.0) in
+    let lt : c.args.block.0 < length i.seats.seats = omega (arith) in
     let st = stalled g (goal.at.returns-clause-fault g c).After-is_stalled c.if-not-is_stalled.false in
     let few : i.tickets < 18446744073709551615 = let top = c.self.invariant.kept.lawful.limits.tickets in grind (arith, c.if-self.false, top) in
     let no = kept g (goal.at.returns-clause-fault g c).After-is_stalled c.if-is_lost.false in
@@ -57,7 +56,7 @@ returns-clause-stalled g c =
 pub returns-clause-back : goal.returns-clause-back
 returns-clause-back g c =
     let at_b = seated g (goal.at.returns-clause-back g c).After-is_stalled in
-    rw (← c.self.view_is) (λ none. rw (listed c.self.inside.seats.items _ _ at_b (λ (s : SeatView). s.back) None) (c.is_stalled.ensures.back c.if-not-is_stalled.false))
+    rw (← c.self.view_is) (λ none. rw (listed c.self.inside.seats.seats _ _ at_b (λ (s : SeatView). s.back) None) (c.is_stalled.ensures.back c.if-not-is_stalled.false))
 
-pub index-seat-requires : goal.index-seat-requires
-index-seat-requires g c = omega (arith, c.if-block-len.false, c.len.ensures)
+pub seat-seat-requires : goal.seat-seat-requires
+seat-seat-requires g c = omega (arith, c.if-block-len.false, c.len.ensures)

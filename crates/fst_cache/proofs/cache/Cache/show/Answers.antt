@@ -1,4 +1,4 @@
-use Rattle.std.proofs.Common.{◌≡◌, ◌<◌, ◌++◌, ◌∙◌, length, is_some, false, Err, IsErr, drop, take, subst, refl, sym, inl, arith}
+use Rattle.std.proofs.Common.{◌≡◌, ◌<◌, ◌∙◌, length, is_some, false, Err, IsErr, subst, refl, sym, inl}
 use Rattle.std.proofs.lemmas.Result.{err_from_is_err_and}
 use Rattle.std.proofs.lemmas.List.{length-map, set-get_or}
 use Rattle.fst_types.specs.State.{State}
@@ -8,111 +8,91 @@ use Rattle.fst_types.specs.Refusals.{NoneHolds}
 use Rattle.fst_types.specs.Step.{accepted, refused, show}
 use Rattle.fst_seat.specs.Seats.{SeatView}
 use Rattle.fst_seat.proofs.Seated.{listed}
-use Rattle.fst_seat.proofs.Flying.{flying_still}
 use Rattle.fst_seat.proofs.Putting.{not_failed}
 use Rattle.fst_seat.proofs.Undo.{undo_load}
 use Rattle.fst_cache.specs.Kept.{state_of}
-use Rattle.fst_cache.proofs.ResideSeats.{at_rest, room_for}
-use Rattle.fst_cache.proofs.ResideLoading.{Loaded, load_keeps, written_back, within_of}
+use Rattle.fst_cache.proofs.ResideSeats.{room_for}
+use Rattle.fst_cache.proofs.ResideLoading.{Loaded, load_keeps, within_of}
 use Rattle.fst_cache.proofs.ResideShowing.{load_fault, step_not_loaded, told}
 use Rattle.fst_cache.proofs.cache.Cache.show.Goals.{In_default, After-load}
 use Rattle.fst_cache.proofs.cache.Cache.show.Goals as goal
 
 -- the state before the call
 abbrev before : (g : _) → In_default g → State
-before g c = state_of c.self.inside.size c.self.inside.residents.most c.self.inside.tickets c.self.inside.made c.self.inside.graph c.self.inside.contents.items c.self.inside.seats.items
+before g c = state_of c.self.inside.size c.self.inside.seats.most c.self.inside.tickets c.self.inside.made c.self.inside.graph c.self.inside.contents.items c.self.inside.seats.seats
 
 clear : (g : _) (c : In_default g) → NoneHolds (order (before g c) (Show c.args.block.0 false))
 clear g c = rw (← c.self.view_is) at c.in_default.ensures
 
-within : (g : _) (c : In_default g) → c.args.block.0 < length c.self.inside.seats.items
-within g c = within_of (length c.self.inside.seats.items) c.args.block.0 (rw length-map at (clear g c).0)
+within : (g : _) (c : In_default g) → c.args.block.0 < length c.self.inside.seats.seats
+within g c = within_of (length c.self.inside.seats.seats) c.args.block.0 (rw length-map at (clear g c).0)
 
--- the seats are those that the load left
-as_left : (g : _) (c : After-load g) → take c.self.inside.seats.len (c.load.new.seats ++ drop (length c.load.new.seats) c.self.inside.seats.items) ≡ c.load.new.seats
-as_left g c = written_back c.self.inside.seats.len c.load.new.seats c.self.inside.seats.items (omega (arith, c.load.auto.seats, c.deref_mut.ensures.len))
-
-loaded : (g : _) (c : After-load g) → Loaded (state_of c.self.inside.size c.self.inside.residents.most c.self.inside.tickets c.self.inside.made c.self.inside.graph c.self.inside.contents.items c.self.inside.seats.items) c.self.inside.graph c.self.inside.seats.items c.args.block.0 c.load.new.seats
-loaded g c = load_keeps _ c.self.inside.graph c.self.inside.seats.items c.self.invariant.kept refl c.args.block.0 c.load.new.seats (rw c.deref_mut.ensures.value at c.load.ensures.seats)
+-- what the load left
+loaded : (g : _) (c : After-load g) → Loaded (state_of c.self.inside.size c.self.inside.seats.most c.self.inside.tickets c.self.inside.made c.self.inside.graph c.self.inside.contents.items c.self.inside.seats.seats) c.self.inside.graph c.self.inside.seats.seats c.args.block.0 c.load.new.self.seats
+loaded g c = load_keeps _ c.self.inside.graph c.self.inside.seats.seats c.self.invariant.kept refl c.args.block.0 c.load.new.self.seats c.load.ensures.seats
 
 pub returns-in-Some : goal.returns-in-Some
 returns-in-Some g c = ((refl, (λ _. tt), (refl, refl, refl, sym (set-get_or c.args.self.now.faults c.args.block.0 0), refused (inl c.in-Some.ensures), inl refl, (λ _. refl))), record { after = tt })
 
 pub load-requires-clause-within : goal.load-requires-clause-within
-load-requires-clause-within g c = rw c.deref_mut.ensures.value (within g (goal.at.load-requires-clause-within g c).In_default)
-
-pub load-requires-clause-listed : goal.load-requires-clause-listed
-load-requires-clause-listed g c = rw c.deref_mut.ensures.value c.self.invariant.listed
-
-pub load-requires-clause-rest : goal.load-requires-clause-rest
-load-requires-clause-rest g c =
-    let at = (goal.at.load-requires-clause-rest g c).In_default in
-    rw c.deref_mut.ensures.value (at_rest (before g at) c.self.inside.graph c.self.inside.seats.items c.self.invariant.kept refl)
+load-requires-clause-within g c = within g (goal.at.load-requires-clause-within g c).In_default
 
 pub load-requires-clause-room : goal.load-requires-clause-room
 load-requires-clause-room g c =
     let at = (goal.at.load-requires-clause-room g c).In_default in
-    rw c.deref_mut.ensures.value (λ seat at_b away. room_for (before g at) c.self.inside.graph c.self.inside.seats.items c.self.invariant.kept refl c.args.block.0 seat at_b (clear g at).1.0 away)
+    λ seat at_b away. room_for (before g at) c.self.inside.graph c.self.inside.seats.seats c.self.invariant.kept refl c.args.block.0 seat at_b (clear g at).1.0 away
 
 pub invariant_of-self : goal.invariant_of-self
 invariant_of-self g c =
     let at = (goal.at.invariant_of-self g c).After-load in
-    let back = as_left g at in
     let L = loaded g at in
-    rw c.load.ensures.listed (record {
-      kept = rw (back, L.blocks) L.kept;
-      flying = rw back (flying_still c.self.inside.flights c.self.inside.seats.items c.load.new.seats L.blocks c.self.invariant.flying);
-      undoing = rw back (c.self.invariant.undoing ∙ sym (undo_load c.self.inside.residents.most c.self.inside.seats.items c.args.block.0 c.load.new.seats (rw c.deref_mut.ensures.value at c.load.ensures.seats)));
-      listed = rw back refl;
+    rw c.load.ensures.most (record {
+      kept = rw L.blocks L.kept;
+      undoing = (c.self.invariant.undoing ∙ sym (undo_load c.self.inside.seats.most c.self.inside.seats.seats c.args.block.0 c.load.new.self.seats c.load.ensures.seats));
     })
 
 pub invariant_of-self-2 : goal.invariant_of-self-2
 invariant_of-self-2 g c =
     let at = (goal.at.invariant_of-self-2 g c).After-load in
-    let back = as_left g at in
     let L = loaded g at in
-    rw c.load.ensures.listed (record {
-      kept = rw (back, L.blocks) L.kept;
-      flying = rw back (flying_still c.self.inside.flights c.self.inside.seats.items c.load.new.seats L.blocks c.self.invariant.flying);
-      undoing = rw back (c.self.invariant.undoing ∙ sym (undo_load c.self.inside.residents.most c.self.inside.seats.items c.args.block.0 c.load.new.seats (rw c.deref_mut.ensures.value at c.load.ensures.seats)));
-      listed = rw back refl;
+    rw c.load.ensures.most (record {
+      kept = rw L.blocks L.kept;
+      undoing = (c.self.invariant.undoing ∙ sym (undo_load c.self.inside.seats.most c.self.inside.seats.seats c.args.block.0 c.load.new.self.seats c.load.ensures.seats));
     })
 
 pub bytes-requires-clause-within : goal.bytes-requires-clause-within
 bytes-requires-clause-within g c =
     let at = goal.at.bytes-requires-clause-within g c in
-    rw (as_left g at.After-load, (loaded g at.After-load).blocks, length-map) (within g at.In_default)
+    rw ((loaded g at.After-load).blocks, length-map) (within g at.In_default)
 
 pub bytes-requires-clause-resident : goal.bytes-requires-clause-resident
 bytes-requires-clause-resident g c =
     let there = c.in_ok-load.ensures.there in
-    rw (as_left g (goal.at.bytes-requires-clause-resident g c).After-load) (listed c.load.new.seats c.args.block.0 there.seat there.at (λ (t : SeatView). is_some t.loaded) false ∙ there.there)
+    (listed c.load.new.self.seats c.args.block.0 there.seat there.at (λ (t : SeatView). is_some t.loaded) false ∙ there.there)
 
 pub returns : goal.returns
 returns g c =
     let at = goal.at.returns g c in
-    let back = as_left g at.After-load in
     let L = loaded g at.After-load in
-    let quiet = rw c.deref_mut.ensures.value at (c.in_ok-load.ensures.no_fault (λ e. not_failed e)) in
-    rw (c.bytes.ensures, c.load.ensures.listed, ← c.self.view_is, back, L.blocks) ((refl, (λ _. tt), (refl {a = before g at.In_default}, L.homes, L.back, L.faults, accepted (clear g at.In_default) show, inl quiet, (λ _. quiet))), record { after = tt })
+    let quiet = c.in_ok-load.ensures.no_fault (λ e. not_failed e) in
+    rw (c.bytes.ensures, c.load.ensures.most, ← c.self.view_is, L.blocks) ((refl, (λ _. tt), (refl {a = before g at.In_default}, L.homes, L.back, L.faults, accepted (clear g at.In_default) show, inl quiet, (λ _. quiet))), record { after = tt })
 
 pub returns-in_err-load : goal.returns-in_err-load
 returns-in_err-load g c =
     let at = goal.at.returns-in_err-load g c in
-    let back = as_left g at.After-load in
     let L = loaded g at.After-load in
     let p = err_from_is_err_and c.from_residual.result c.from_residual.ensures.1 in
-    let loads = rw c.deref_mut.ensures.value at c.load.ensures.away in
-    let rose = rw c.deref_mut.ensures.value at c.load.ensures.device in
-    let counted = rw c.deref_mut.ensures.value at c.load.ensures.one_fault in
-    let quiet = rw c.deref_mut.ensures.value at c.load.ensures.no_fault in
+    let loads = c.load.ensures.away in
+    let rose = c.load.ensures.device in
+    let counted = c.load.ensures.one_fault in
+    let quiet = c.load.ensures.no_fault in
     let was : c.load.result ≡ Err c.in_err-load.field-0.0 = c.in_err-load.was in
     let refused_by = load_fault c.load.result c.in_err-load.field-0.0 _ was c.load.ensures.kinds rose in
-    rw (p.1, c.load.ensures.listed, ← c.self.view_is, back, L.blocks) (
+    rw (p.1, c.load.ensures.most, ← c.self.view_is, L.blocks) (
       (
         refl,
         (λ _. tt),
-        (refl {a = before g at.In_default}, L.homes, L.back, L.faults, step_not_loaded (before g at.In_default) c.self.inside.graph c.self.inside.seats.items c.self.invariant.kept refl c.args.block.0 c.load.new.seats p.0 (clear g at.In_default) (loads (subst IsErr (sym was) refl)) (rw p.2 refused_by), counted, (λ fine. quiet (λ d. fine (told p.0 _ p.2 (sym was ∙ d))))),
+        (refl {a = before g at.In_default}, L.homes, L.back, L.faults, step_not_loaded (before g at.In_default) c.self.inside.graph c.self.inside.seats.seats c.self.invariant.kept refl c.args.block.0 c.load.new.self.seats p.0 (clear g at.In_default) (loads (subst IsErr (sym was) refl)) (rw p.2 refused_by), counted, (λ fine. quiet (λ d. fine (told p.0 _ p.2 (sym was ∙ d))))),
       ),
       record { after = tt },
     )

@@ -6,5 +6,5 @@ use Rattle.fst_cache.proofs.cache.Cache.stat.Goals as goal
 pub returns : goal.returns
 returns g c =
     let i = c.self.inside in
-    let s = state_of i.size i.residents.most i.tickets i.made i.graph i.contents.items i.seats.items in
-    rw (← c.self.view_is, c.live.ensures, c.self.invariant.undoing, undo_is s i.graph i.seats.items c.self.invariant.kept refl, c.self.invariant.flying) refl
+    let s = state_of i.size i.seats.most i.tickets i.made i.graph i.contents.items i.seats.seats in
+    rw (← c.self.view_is, c.live.ensures, c.self.invariant.undoing, undo_is s i.graph i.seats.seats c.self.invariant.kept refl, c.flights.ensures) refl

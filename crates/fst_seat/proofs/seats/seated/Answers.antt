@@ -1,6 +1,6 @@
 use Rattle.std.proofs.Common.{◌≡◌, List, [], ◌∷◌, ◌++◌, length, sym, ap, ◌∙◌, append-nil, arith}
 use Rattle.fst_seat.specs.Seats.{seats_of}
-use Rattle.fst_cache.proofs.cache.open.seated.Goals as goal
+use Rattle.fst_seat.proofs.seats.seated.Goals as goal
 
 -- nothing is left
 all_yielded : {X : Type 0} (yielded rest slots : List X) → yielded ++ rest ≡ slots → length rest ≡ 0 → yielded ≡ slots

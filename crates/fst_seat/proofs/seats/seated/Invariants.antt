@@ -1,6 +1,6 @@
 use Rattle.std.proofs.Common.{◌≡◌, ◌++◌, ◌+◌, ◌≤◌, vec_len, vec_capacity}
 use Rattle.fst_seat.specs.Seats.{seats_of}
-use Rattle.fst_cache.proofs.cache.open.seated.Given as goal
+use Rattle.fst_seat.proofs.seats.seated.Given as goal
 
 abbrev pub invariant-loop-slot : goal.invariant-loop-slot
 invariant-loop-slot g l = record {
