@@ -1,12 +1,10 @@
 //! A block for one node, with a header and bytes behind it. It is empty, and a `Room` is what it becomes in use.
 //!
 //! It holds a raw pointer, since it asks the allocator for the block and gives it back.
-ghost use Rattle.std.specs.Prelude.{◌≡◌, ℕ, ◌^◌, ◌<◌, [], IfSome};
-ghost use Rattle.std.specs.Borrow.{sem};
+ghost use Rattle.std.specs.Prelude.{◌≡◌, ◌^◌, ◌<◌, [], IfSome};
 ghost use Rattle.core.specs.Allocator.{HasLayout, owned_block};
 ghost use Rattle.core.specs.Mem.{type_size};
 ghost use Rattle.std_alloc.specs.Vec.{vec_len, vec_capacity, vec_ptr};
-ghost use denote.RawPtr.{Ptr};
 ghost use Rattle.fst_chain.specs.Blocks.{node_type};
 
 use crate::room::Room;

@@ -2,7 +2,7 @@
 //!
 //! It keeps that its nodes are linked both ways, from the first to the last: a fact about the list of the nodes and the
 //! list of their places. It follows no pointer, and asks its heap for the node at a place.
-ghost use Rattle.std.specs.Prelude.{◌≡◌, ℕ, ◌+◌, ◌^◌, ◌<◌, List, [], ◌∷◌, ◌++◌, length, drop, slice_index_or, is_ok, if◌then◌else◌, IfErr, OnErr, IfSome, MatchOption, Some, None, ◌-◌, ◌≤◌};
+ghost use Rattle.std.specs.Prelude.{◌≡◌, ℕ, ◌+◌, ◌^◌, ◌<◌, List, [], ◌∷◌, ◌++◌, length, drop, slice_index_or, is_ok, if◌then◌else◌, IfErr, OnErr, MatchOption, Some, None, ◌-◌, ◌≤◌};
 ghost use Rattle.core.specs.Mem.{type_size};
 ghost use Rattle.fst_chain.specs.Linked.{nth, before};
 ghost use Rattle.fst_chain.specs.Chained.{record_of};

@@ -1,7 +1,7 @@
 //! A place in a chain, and what is read, changed and taken out there.
 //!
 //! A cursor keeps the place as a number, for contracts, and as the node's place, so that no call walks.
-ghost use Rattle.std.specs.Prelude.{◌≡◌, ℕ, ◌+◌, ◌<◌, ◌≤◌, List, ◌++◌, length, IsSome, IfSome, ◌↔◌, min, ◌-◌, take, drop, nat_eq, if◌then◌else◌};
+ghost use Rattle.std.specs.Prelude.{◌≡◌, ◌+◌, ◌<◌, ◌≤◌, ◌++◌, length, IsSome, IfSome, ◌↔◌, min, ◌-◌, take, drop, nat_eq, if◌then◌else◌};
 ghost use Rattle.std.specs.Borrow.{sem};
 ghost use Rattle.fst_chain.specs.Records.{without, item_at, payload_at, set_payload, chain_list};
 ghost use Rattle.fst_chain.specs.Linked.{nth};

@@ -1,7 +1,7 @@
 //! A node: its links, its record and its payload. Its bytes lie in its own block, so a node takes one allocation.
 //!
 //! It holds no pointer of its own: a link is a `Place`, which owns nothing, and the payload is a `Vec` that lies in the block.
-ghost use Rattle.std.specs.Prelude.{◌≡◌, ℕ, ◌^◌, ◌<◌, ◌≤◌, [], length, IfSome};
+ghost use Rattle.std.specs.Prelude.{◌≡◌, ◌^◌, ◌<◌, ◌≤◌, [], length, IfSome};
 ghost use Rattle.core.specs.Mem.{type_size};
 ghost use Rattle.std_alloc.specs.Vec.{vec_len, vec_ptr, vec_capacity};
 

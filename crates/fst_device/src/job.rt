@@ -3,7 +3,7 @@
 //! A job owns the slot that it writes to, so nobody else writes there meanwhile. For contracts it carries what the slot
 //! held when the job was first made: until the write is known to have worked, the slot holds that or the image.
 
-ghost use Rattle.std.specs.Prelude.{◌≡◌, ℕ, ◌+◌, length, is_ok, OnOk, OnErr, ◌⊎◌, vec_len};
+ghost use Rattle.std.specs.Prelude.{◌≡◌, ◌+◌, length, is_ok, OnOk, OnErr, ◌⊎◌, vec_len};
 ghost use Rattle.fst_device.specs.declared.arm.NextWrite.{NextWrite};
 ghost use Rattle.fst_device.specs.Armed.{armed};
 

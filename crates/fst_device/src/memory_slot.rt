@@ -1,6 +1,6 @@
 //! A slot whose block is in memory, and whose next read or write can be told to fail.
 
-ghost use Rattle.std.specs.Prelude.{◌≡◌, ℕ, ◌+◌, ◌<◌, ◌^◌, false, length, is_ok, OnOk, OnErr, not, IsOkUnless, ◌⊎◌, ◌↔◌, vec_len};
+ghost use Rattle.std.specs.Prelude.{◌≡◌, ◌+◌, ◌<◌, ◌^◌, false, length, is_ok, OnOk, OnErr, not, IsOkUnless, ◌⊎◌, vec_len};
 ghost use Rattle.fst_device.specs.declared.arm.NextWrite.{NextWrite};
 ghost use Rattle.fst_device.specs.Armed.{armed};
 ghost use Rattle.fst_device.specs.MemoryCalls.{works, after_read, after_write};

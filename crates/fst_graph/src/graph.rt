@@ -3,7 +3,7 @@
 //! on what is the same by either, as far as it is live. A call of a patch alone is that of the patches with sparse rows; it
 //! leaves the groups as they were, and what holds of them.
 
-ghost use Rattle.std.specs.Prelude.{◌≡◌, ◌↔◌, ◌<◌, ◌+◌, [], ℕ, IsTrue, Some, None, IfOk, IfErr, OnErr, IfSome, IfNone, OnOk, option_map, MatchResult, count_by};
+ghost use Rattle.std.specs.Prelude.{◌≡◌, ◌↔◌, ◌<◌, [], ℕ, IsTrue, Some, None, IfOk, IfErr, OnErr, IfSome, IfNone, OnOk, option_map, MatchResult, count_by};
 ghost use Rattle.fst_types.specs.Patches.{Patch};
 ghost use Rattle.fst_types.specs.Groups.{IsGroupGate};
 ghost use Rattle.fst_types.specs.Looks.{place_of, IsPick};

@@ -2,7 +2,7 @@
 //! and an empty patch or a sealed gate that has nothing pending any more goes to disk. The queue has those of which
 //! other is pending than is recorded, of which their dependants were notified. Here what is pending of a patch only sinks.
 
-ghost use Rattle.std.specs.Prelude.{◌≡◌, ◌≢◌, ◌<◌, ◌≤◌, ◌+◌, ◌++◌, ◌∷◌, ◌==◌, ℕ, [], true, length, map, Contains, AllPairs, vec_len, vec_capacity, slice_index_or, count_by, if◌then◌else◌};
+ghost use Rattle.std.specs.Prelude.{◌≡◌, ◌≢◌, ◌<◌, ◌≤◌, ◌+◌, ◌++◌, ◌∷◌, ◌==◌, [], true, length, map, Contains, AllPairs, vec_len, vec_capacity, slice_index_or, count_by, if◌then◌else◌};
 ghost use Rattle.fst_types.specs.Cascade.{IsCascadeOf};
 ghost use Rattle.fst_heads.specs.declared.pending.Pending.TheVariants as pending;
 ghost use Rattle.fst_heads.specs.Frames.{frame_of, frames_of};
@@ -11,7 +11,7 @@ ghost use Rattle.fst_heads.specs.Landed.{AreLanded};
 ghost use Rattle.fst_heads.specs.Indices.{HasIndex};
 ghost use Rattle.fst_heads.specs.Nodes.{Node, node_of, nodes_of, at_number, AreLinked, AreDistinct, AreSettled};
 ghost use Rattle.fst_heads.specs.Pendings.{Fits, Sinks, is_pending};
-ghost use Rattle.fst_heads.specs.Spreading.{follows, rested, is_recorded, now, updated, enqueues, notified, enqueued, is_waiting, CanUpdate, recorded, seals, enqueued_sealed, Spreading, IsSpreadOf};
+ghost use Rattle.fst_heads.specs.Spreading.{follows, rested, is_recorded, now, updated, enqueues, notified, enqueued, is_waiting, CanUpdate, seals, enqueued_sealed, Spreading, IsSpreadOf};
 ghost use Rattle.fst_heads.specs.Standings.{AllStand};
 
 use crate::head::{Head, Kind};

@@ -1,6 +1,6 @@
 //! What an open gate gains.
 
-ghost use Rattle.std.specs.Prelude.{◌≡◌, ◌↔◌, ◌<◌, ◌+◌, ◌∷◌, [], ℕ, List, length, map, IsTrue, IfOk, OnOk, OnErr, Contains};
+ghost use Rattle.std.specs.Prelude.{◌≡◌, ◌↔◌, ◌<◌, ◌+◌, ◌∷◌, [], ℕ, List, map, IsTrue, IfOk, OnOk, OnErr, Contains};
 ghost use Rattle.fst_types.specs.Dependencies.{DirectlyOn, IsLiveNumber};
 ghost use Rattle.fst_types.specs.Lists.{Lists};
 ghost use Rattle.fst_heads.specs.Frames.{HasRoomBelow};

@@ -1,6 +1,6 @@
 //! Each patch knows which patches directly depend on it.
 
-ghost use Rattle.std.specs.Prelude.{◌≡◌, ℕ, List, length, map, OnOk, vec_len, vec_capacity};
+ghost use Rattle.std.specs.Prelude.{◌≡◌, ℕ, List, map, OnOk, vec_len, vec_capacity};
 ghost use Rattle.std.specs.List.Sorted.{IsStrictlyIncreasing};
 ghost use Rattle.fst_heads.specs.Frames.{HasRoomBelow};
 ghost use Rattle.fst_heads.specs.Heads.{IsRising};

@@ -1,6 +1,6 @@
 //! Each block lists its changes that are not on disk, so that a call that asks for those of one block looks at no others.
 
-ghost use Rattle.std.specs.Prelude.{◌==◌, ◌&&◌, ◌≡◌, ◌≤◌, ◌++◌, ◌<◌, [], not, length, map, filter, IfOk, vec_len, vec_capacity};
+ghost use Rattle.std.specs.Prelude.{◌==◌, ◌&&◌, ◌≡◌, ◌≤◌, ◌<◌, [], not, length, map, filter, IfOk, vec_capacity};
 ghost use Rattle.std.specs.List.{list_any};
 ghost use Rattle.std.specs.List.Sorted.{IsStrictlyIncreasing};
 ghost use Rattle.fst_heads.specs.Spreading.{lands};

@@ -7,7 +7,7 @@ ghost use Rattle.fst_types.specs.Patches.{Patch, block_of_kind};
 ghost use Rattle.fst_types.specs.Tests.{is_at, is_on, is_change_at, is_live};
 ghost use Rattle.fst_heads.specs.Heads.{IsRising, kind_of, patch_of, patches_of};
 ghost use Rattle.fst_heads.specs.Spans.{SpansDisk};
-ghost use Rattle.fst_heads.specs.Nodes.{node_of, nodes_of};
+ghost use Rattle.fst_heads.specs.Nodes.{nodes_of};
 
 use crate::head::{Head, Kind};
 use crate::index::index_of;

@@ -2,7 +2,7 @@
 //! below a hard change leads nowhere, and that stays so for as long as it is in memory. So a new change over soft ones of its
 //! own block, which were made behind gates that are sealed by now, need not go through all of them.
 
-ghost use Rattle.std.specs.Prelude.{◌≡◌, ℕ, IfSome};
+ghost use Rattle.std.specs.Prelude.{ℕ, IfSome};
 ghost use Rattle.fst_types.specs.Dependencies.{DirectlyOn};
 ghost use Rattle.fst_heads.specs.Heads.{patches_of};
 ghost use Rattle.fst_heads.specs.Indices.{HasIndex};

@@ -3,7 +3,7 @@
 //! lead back is soft as that is. So what many changes of a block come after, like a gate over thousands of patches, is
 //! looked through once, and not for each of them.
 
-ghost use Rattle.std.specs.Prelude.{◌≡◌, ◌⊎◌, ◌<◌, ℕ, length, Contains, IsTrue, IfSome};
+ghost use Rattle.std.specs.Prelude.{◌⊎◌, ◌<◌, ℕ, length, Contains, IsTrue, IfSome};
 ghost use Rattle.fst_heads.specs.Grading.{IsHardNumber, LeadsNowhere};
 ghost use Rattle.fst_heads.specs.Heads.{patches_of};
 ghost use Rattle.fst_levels.specs.Sights.{Sees};

@@ -6,7 +6,7 @@
 
 ghost use Rattle.std.specs.Prelude.{◌≡◌, ◌≤◌, ◌<◌, ℕ, length, Contains, IfSome, IfNone, slice_index_or};
 ghost use Rattle.fst_heads.specs.Grading.{LeadsNowhere};
-ghost use Rattle.fst_heads.specs.Heads.{IsRising, patches_of};
+ghost use Rattle.fst_heads.specs.Heads.{patches_of};
 ghost use Rattle.fst_heads.specs.Indices.{HasIndex};
 ghost use Rattle.fst_walks.specs.BothEnds.{AreApart, EndApart, IsOver, LeadTogether, ShowsBlockUnder, StepsHigh, StepsLow};
 ghost use Rattle.fst_walks.specs.Descending.{Visited, Visits};

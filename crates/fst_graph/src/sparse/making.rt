@@ -1,6 +1,6 @@
 //! Making a change: first room for it, then the change itself.
 
-ghost use Rattle.std.specs.Prelude.{◌≡◌, ◌↔◌, ◌<◌, ◌≤◌, ◌+◌, ◌∷◌, [], ℕ, Some, IfOk, IfErr, OnErr, IfSome, IfNone, MatchResult, IsTrue, Contains, length, map, slice_index_or, slice_set, vec_len, vec_capacity, ◌++◌};
+ghost use Rattle.std.specs.Prelude.{◌≡◌, ◌↔◌, ◌<◌, ◌+◌, ◌∷◌, [], ℕ, Some, IfOk, IfErr, OnErr, IfSome, IfNone, MatchResult, IsTrue, Contains, length, map, slice_index_or, slice_set, vec_len, vec_capacity, ◌++◌};
 ghost use Rattle.fst_types.specs.Gates.{IsOpenNumber};
 ghost use Rattle.fst_types.specs.Order.{make_order};
 ghost use Rattle.fst_types.specs.declared.grade.Grade.{Grade};

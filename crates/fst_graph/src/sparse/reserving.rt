@@ -1,6 +1,6 @@
 //! Room for a change: every growth that putting it down takes.
 
-ghost use Rattle.std.specs.Prelude.{◌≡◌, ◌≤◌, ◌<◌, ℕ, List, Contains, OnOk, length, map, slice_index_or, vec_len, vec_capacity};
+ghost use Rattle.std.specs.Prelude.{◌≡◌, ◌≤◌, ◌<◌, List, Contains, OnOk, length, map, slice_index_or, vec_len, vec_capacity};
 ghost use Rattle.fst_graph.specs.Fresh.{HasPlaces, IsRoomier};
 ghost use Rattle.fst_graph.specs.Ready.{HasRoomAround};
 ghost use Rattle.fst_heads.specs.Covers.{AreCovered, Covering, HasRoomForRuns};
