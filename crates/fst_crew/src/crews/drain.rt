@@ -1,6 +1,5 @@
 //! What the main thread does when the file threads have ended.
 
-
 use crate::crews::taking::take_in;
 use crate::plan::CREW_BLOCKS;
 use fst_device::BlockSlot;
