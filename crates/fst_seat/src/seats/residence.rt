@@ -29,7 +29,10 @@ impl<S: BlockSlot> Seats<S> {
         self.residents.remove(block);
     }
 
-    /// Reads a block from its slot, where it is not in memory.
+    /// Reads a block from its slot, where it is not in memory. It takes a free place, or that of a clean block, which leaves.
+    ///
+    /// Refused as `Device` where the read failed, which raises the slot's count of faults by one, or as `Memory`, for the
+    /// block's bytes. The block stays away then, and the clean one may have left.
     pub fn load(&mut self, block: BlockNo) -> Result<(), Fault>
         requires within { block.0 < length self.old.seats }
         requires room { (seat : SeatView) → slice_get self.old.seats block.0 ≡ Some seat → seat.loaded ≡ None → count_by is_dirty_seat self.old.seats < self.old.most }
@@ -53,6 +56,9 @@ impl<S: BlockSlot> Seats<S> {
     }
 
     /// Puts the bytes at the span of a block, as its newest patch. The block is read first where it is not in memory.
+    ///
+    /// Refused as a load is, or as `Memory`, for the patch's record and for the bytes that it covers where it is soft. The
+    /// block may have come into memory then, without the patch.
     pub fn put(
         &mut self,
         block: BlockNo,
@@ -82,7 +88,7 @@ impl<S: BlockSlot> Seats<S> {
         put
     }
 
-    /// Gives up the bytes of a block that is not dirty. A block that is not in memory stays so.
+    /// Gives up the bytes of a block that is not dirty. A block that is not in memory stays so. It takes no memory.
     pub fn evict(&mut self, block: BlockNo)
         requires within { block.0 < length self.old.seats }
         requires clean { (seat : SeatView) → slice_get self.old.seats block.0 ≡ Some seat → is_dirty_seat seat ≡ false }

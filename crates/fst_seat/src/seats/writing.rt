@@ -14,7 +14,7 @@ use fst_device::{BlockSlot, Done, Job};
 use fst_types::{BlockNo, Fault, PatchNo, Settled, Ticket};
 
 impl<S: BlockSlot> Seats<S> {
-    /// What a write of the chosen patches puts on the block.
+    /// What a write of the chosen patches puts on the block. Nothing changes. Refused as `Memory`, for the image.
     pub fn image(&mut self, block: BlockNo, chosen: &[PatchNo]) -> Result<Vec<u8>, Fault>
         requires within { block.0 < length self.old.seats }
         requires loaded { (seat : SeatView) → slice_get self.old.seats block.0 ≡ Some seat → IsSome seat.loaded }
@@ -27,7 +27,7 @@ impl<S: BlockSlot> Seats<S> {
         seat.image(chosen)
     }
 
-    /// Sends a write of the image out, of which `kept` is a copy.
+    /// Sends a write of the image out, of which `kept` is a copy. The job has the block's slot. It takes no memory.
     pub fn launch(
         &mut self,
         block: BlockNo,
@@ -50,7 +50,8 @@ impl<S: BlockSlot> Seats<S> {
         seat.launch(ticket, chosen, image, kept)
     }
 
-    /// Takes in the completion of a write that is out.
+    /// Takes in the completion of a write that is out. Where the write worked, the slot is at home and its image committed;
+    /// where it failed, it is stalled, or the block is lost at the third try. It takes no memory.
     pub fn settle(&mut self, done: Done<S>) -> Settled
         requires within { done.block < length self.old.seats }
         requires out { (seat : SeatView) → slice_get self.old.seats done.block ≡ Some seat → IsOutOf seat done.ticket done.image }
@@ -72,7 +73,7 @@ impl<S: BlockSlot> Seats<S> {
         }
     }
 
-    /// Sends the image of a stalled write again, from the completion that came back.
+    /// Sends the image of a stalled write again, from the completion that came back. It takes no memory.
     pub fn retry(&mut self, block: BlockNo, ticket: Ticket) -> Job<S>
         requires within { block.0 < length self.old.seats }
         requires stalled { (seat : SeatView) → slice_get self.old.seats block.0 ≡ Some seat → MayGoAgain seat }
