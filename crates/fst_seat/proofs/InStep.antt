@@ -2,7 +2,7 @@
 use Rattle.std.proofs.Common.{◌≡◌, ◌+◌, ◌-◌, ◌<◌, ℕ, Bool, true, false, List, [], ◌∷◌, Option, Some, None, is_some, refl, sym, ap, subst, ◌∙◌, inl, inr, arith, length, map, replicate, slice_get, slice_set}
 use Rattle.std.proofs.lemmas.Bool.{cases_eq}
 use Rattle.std.proofs.lemmas.List.{length-map, get_or-map}
-use Rattle.std.proofs.lemmas.Option.{slice_get_within, get_or_from_slice_get}
+use Rattle.std.proofs.lemmas.Option.{none-some, slice_get_within, get_or_from_slice_get}
 use Rattle.fst_types.specs.Order.{IsMisplaced}
 use Rattle.fst_types.specs.State.{Flight}
 use Rattle.fst_block.specs.BlockView.{BlockView}
@@ -13,13 +13,6 @@ use Rattle.fst_seat.proofs.Seated.{get-set}
 use Rattle.fst_seat.proofs.Exchanging.{map_get}
 use Rattle.fst_seat.proofs.Dirty.{none_dirty, residents_are, residents_same, residents_moved, residents_marked}
 use Rattle.fst_seat.proofs.Flying.{flying_same, flying_more, flying_fewer, none_flying}
-
--- what is in memory is not away
-pub not_away : {X : Type 0} {x : X} {P : Type 0} → ◌≡◌ {A = Option X} (Some x) None → P
-not_away e = absurd (wrong e)
-  where
-    wrong : {X : Type 0} {x : X} → ◌≡◌ {A = Option X} (Some x) None → ⊥
-    wrong e = cc
 
 module _ (flights : ℕ) (residents : ResidentsView) (seats : List SeatView) (I : AreInStep flights residents seats) (b : ℕ) (seat new : SeatView) (at_b : slice_get seats b ≡ Some seat)
     (place : new.place ≡ seat.place) (rest : new.loaded ≡ None → new.block.flight ≡ None) where
@@ -82,14 +75,11 @@ some_flying flights residents seats I b seat f at_b out =
     omega (arith, fewer)
 
 -- a block whose write is out is in memory
-pub not_idle : {f : Flight} → ◌≡◌ {A = Option Flight} (Some f) None → ⊥
-not_idle e = cc
-
 pub loaded_out : (flights : ℕ) (residents : ResidentsView) (seats : List SeatView) → AreInStep flights residents seats → (b : ℕ) (seat : SeatView) → slice_get seats b ≡ Some seat → (f : Flight) → seat.block.flight ≡ Some f → is_some seat.loaded ≡ true
 loaded_out flights residents seats I b seat at_b f out = by_loaded seat.loaded refl
   where
     by_loaded : (o : Option BlockView) → seat.loaded ≡ o → is_some o ≡ true
-    by_loaded None none = absurd (not_idle (sym out ∙ I.rest b seat at_b none))
+    by_loaded None none = absurd (none-some f (sym (I.rest b seat at_b none) ∙ out))
     by_loaded (Some l) there = refl
 
 -- where no slot was read, nothing is in memory

@@ -1,9 +1,9 @@
 use Rattle.std.proofs.Common.{◌≡◌, ◌∙◌, ◌<◌, Some, false, is_some, length, slice_get, slice_set, refl, sym, ap, subst}
-use Rattle.std.proofs.lemmas.Option.{slice_get_read, same_Some}
+use Rattle.std.proofs.lemmas.Option.{none-some, slice_get_read, same_Some}
 use Rattle.fst_block.specs.BlockView.{BlockView}
 use Rattle.fst_seat.specs.Seats.{SeatView, flight_view}
 use Rattle.fst_seat.specs.Writing.{MayGoOut, sent}
-use Rattle.fst_seat.proofs.InStep.{in_step_sent, not_away}
+use Rattle.fst_seat.proofs.InStep.{in_step_sent}
 use Rattle.fst_seat.proofs.seats.Seats.launch.Goals.{After-index_mut-seat, After-launch}
 use Rattle.fst_seat.proofs.seats.Seats.launch.Goals as goal
 
@@ -28,7 +28,7 @@ invariant_of-self g c =
     let at = (goal.at.invariant_of-self g c).After-index_mut-seat in
     let r = ready g at in
     rw (left g (goal.at.invariant_of-self g c).After-launch r)
-    (in_step_sent c.self.inside.flights c.self.inside.residents c.self.inside.seats.items c.self.invariant c.args.block.0 _ _ (seated g at) refl not_away
+    (in_step_sent c.self.inside.flights c.self.inside.residents c.self.inside.seats.items c.self.invariant c.args.block.0 _ _ (seated g at) refl (λ none. absurd (none-some _ (sym none)))
     (sym (ap is_some r.there)) (sym r.dirty) (flight_view c.args.ticket.0 c.args.image.items false 0) r.home refl)
 
 pub returns-clause-block : goal.returns-clause-block

@@ -1,5 +1,5 @@
 use Rattle.std.proofs.Common.{◌≡◌, ◌∙◌, Some, IsSome, is_some, slice_get, refl, sym, ap, subst, arith}
-use Rattle.std.proofs.lemmas.Option.{slice_get_within, slice_get_read, same_Some}
+use Rattle.std.proofs.lemmas.Option.{none-some, slice_get_within, slice_get_read, same_Some}
 use Rattle.std.proofs.lemmas.Result.{on_ok_weaker}
 use Rattle.fst_block.specs.BlockView.{BlockView}
 use Rattle.fst_seat.specs.Places.{ResidentsView}
@@ -8,7 +8,7 @@ use Rattle.fst_seat.specs.Residing.{IsLoadedAt, MayLoad}
 use Rattle.fst_seat.proofs.Seated.{same_listed}
 use Rattle.fst_seat.proofs.Listing.{listed_at}
 use Rattle.fst_seat.proofs.Putting.{on_refusal, memory_kind, not_failed, inside_of, newest_of, puts_of, same_load, seat_after, counts_after}
-use Rattle.fst_seat.proofs.InStep.{in_step_marked, not_away}
+use Rattle.fst_seat.proofs.InStep.{in_step_marked}
 use Rattle.fst_seat.proofs.seats.Seats.put.Goals.{After-index_mut-seat, After-apply-put}
 use Rattle.fst_seat.proofs.seats.Seats.put.Goals as goal
 
@@ -66,7 +66,7 @@ invariant_of-self g c =
     let l = (left g all.After-apply-put (loaded g at)).1 in
     rw c.note_dirty.ensures
     (in_step_marked c.self.inside.flights c.self.inside.residents c.self.inside.seats.items c.self.invariant c.args.block.0 _ c.apply-put.new.self (seated g at) (ap (λ (t : SeatView). t.place) l)
-    (λ none. not_away (sym (ap (λ (t : SeatView). t.loaded) l) ∙ none)) (ap (λ (t : SeatView). is_some t.loaded) l ∙ sym (loaded g at)) c.is_dirty.result c.is_dirty.ensures (ap (λ (t : SeatView). is_some t.block.flight) l))
+    (λ none. absurd (none-some _ (sym none ∙ ap (λ (t : SeatView). t.loaded) l))) (ap (λ (t : SeatView). is_some t.loaded) l ∙ sym (loaded g at)) c.is_dirty.result c.is_dirty.ensures (ap (λ (t : SeatView). is_some t.block.flight) l))
 
 pub returns-clause-put : goal.returns-clause-put
 returns-clause-put g c =

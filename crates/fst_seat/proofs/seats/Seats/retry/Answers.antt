@@ -1,10 +1,10 @@
 use Rattle.std.proofs.Common.{◌≡◌, ◌∙◌, ◌<◌, Option, Some, is_some, length, slice_get, slice_set, refl, sym, ap}
-use Rattle.std.proofs.lemmas.Option.{slice_get_read, same_Some}
+use Rattle.std.proofs.lemmas.Option.{none-some, slice_get_read, same_Some}
 use Rattle.fst_types.specs.State.{Flight}
 use Rattle.fst_seat.specs.Seats.{SeatView}
 use Rattle.fst_seat.specs.Writing.{MayGoAgain, tried_again}
 use Rattle.fst_seat.proofs.Dirty.{flown_dirty}
-use Rattle.fst_seat.proofs.InStep.{in_step_same, not_idle}
+use Rattle.fst_seat.proofs.InStep.{in_step_same}
 use Rattle.fst_seat.proofs.seats.Seats.retry.Goals.{After-index_mut-seat, After-retry}
 use Rattle.fst_seat.proofs.seats.Seats.retry.Goals as goal
 
@@ -31,7 +31,7 @@ invariant_of-self g c =
     let s = stalled g at.After-index_mut-seat in
     let is = seated g at.After-index_mut-seat in
     rw (left g at.After-retry s.flight s.out).1
-    (in_step_same c.self.inside.flights c.self.inside.residents c.self.inside.seats.items c.self.invariant c.args.block.0 _ _ is refl (λ away. absurd (not_idle (sym s.out ∙ c.self.invariant.rest _ _ is away)))
+    (in_step_same c.self.inside.flights c.self.inside.residents c.self.inside.seats.items c.self.invariant c.args.block.0 _ _ is refl (λ away. absurd (none-some _ (sym (c.self.invariant.rest _ _ is away) ∙ s.out)))
     refl (sym (flown_dirty c.index_mut-seat.result.now s.flight s.out)) (sym (ap (λ (o : Option Flight). is_some o) s.out)))
 
 pub returns-clause-block : goal.returns-clause-block

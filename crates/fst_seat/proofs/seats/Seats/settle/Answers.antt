@@ -1,6 +1,6 @@
 use Rattle.std.proofs.Common.{◌≡◌, ◌∙◌, ◌<◌, ◌≤◌, ◌↔◌, ◌+◌, Option, Some, None, false, is_some, length, slice_get, slice_set, refl, sym, ap, subst, arith}
 use Rattle.std.proofs.lemmas.Bool.{true≢false}
-use Rattle.std.proofs.lemmas.Option.{slice_get_read, same_Some}
+use Rattle.std.proofs.lemmas.Option.{none-some, slice_get_read, same_Some}
 use Rattle.fst_types.specs.Limits.{max_tries}
 use Rattle.fst_types.specs.declared.settled.Settled.TheVariants as how
 use Rattle.fst_types.specs.State.{Flight}
@@ -9,7 +9,7 @@ use Rattle.fst_seat.specs.Seats.{SeatView, back_view, tries_of}
 use Rattle.fst_seat.specs.Writing.{IsOutOf, come_home, waits}
 use Rattle.fst_seat.proofs.Dirty.{flown_dirty}
 use Rattle.fst_seat.proofs.Listing.{listed_at}
-use Rattle.fst_seat.proofs.InStep.{in_step_same, in_step_landed, loaded_out, some_flying, not_idle}
+use Rattle.fst_seat.proofs.InStep.{in_step_same, in_step_landed, loaded_out, some_flying}
 use Rattle.fst_seat.proofs.seats.Seats.settle.Goals.{After-index_mut-seat, In-Landed, In_default}
 use Rattle.fst_seat.proofs.seats.Seats.settle.Goals as goal
 
@@ -24,7 +24,7 @@ out g c = c.requires.out c.index_mut-seat.result.now (rw (← c.self.view_is) (s
 
 -- it is in memory, since its write is out
 away : (g : _) (c : After-index_mut-seat g) {P : Type 0} → c.index_mut-seat.result.now.loaded ≡ None → P
-away g c none = absurd (not_idle (sym (out g c).out ∙ c.self.invariant.rest _ _ (seated g c) none))
+away g c none = absurd (none-some _ (sym (c.self.invariant.rest _ _ (seated g c) none) ∙ (out g c).out))
 
 pub settle-requires-clause-out : goal.settle-requires-clause-out
 settle-requires-clause-out g c = out g (goal.at.settle-requires-clause-out g c).After-index_mut-seat
