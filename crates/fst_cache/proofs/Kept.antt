@@ -1,13 +1,19 @@
 -- What the cache's type keeps, as calls change one seat or the state under all of them.
-use Rattle.std.proofs.Common.{◌≡◌, ◌≢◌, ℕ, List, Some, is_some, sym, ap, subst, ◌∙◌, inl, inr, slice_get, slice_set, length-set, count_by}
+use Rattle.std.proofs.Common.{◌≡◌, ◌≢◌, ℕ, List, Option, Some, is_some, sym, ap, subst, ◌∙◌, inl, inr, slice_get, slice_set, length-set, sum_by}
 use Rattle.fst_types.specs.State.{State, BlockState, committed, flight_of}
 use Rattle.fst_types.specs.Bytes.{base_under}
 use Rattle.fst_types.specs.Facts.{IsLawful}
 use Rattle.fst_block.specs.BlockView.{BlockPatch}
-use Rattle.fst_graph.specs.Known.{Known}
-use Rattle.fst_seat.specs.Seats.{SeatView}
+use Rattle.fst_graph.specs.Known.{Known, Prepared}
+use Rattle.fst_seat.specs.Seats.{SeatView, SeatsView, undo_of}
 use Rattle.fst_seat.proofs.Seated.{get-set, count_set}
-use Rattle.fst_cache.specs.Kept.{IsKeptSeat, IsKept, IsSameAt, block_view, block_patches}
+use Rattle.fst_cache.specs.declared.cache.Cache.TheInside.{Inside}
+use Rattle.fst_cache.specs.declared.contents.Contents.{Contents}
+use Rattle.fst_cache.specs.Kept.{IsKeptSeat, IsKept, IsSameAt, state_of, block_view, block_patches}
+
+-- the cache with another graph
+abbrev pub with_graph : {Slot : Type 0} → Inside Slot → Known → Inside Slot
+with_graph i graph = record i { graph = graph }
 
 -- a seat agrees with another state in which its block is the same
 pub moved : (s t : State) (j : ℕ) (seat : SeatView) → IsSameAt s t j → IsKeptSeat s j seat → IsKeptSeat t j seat
@@ -24,36 +30,43 @@ moved s t j seat same k = record {
         ∙ ap (λ (v : BlockState). record { base = base_under v.committed v.flight; patches = block_patches s j }) same.block
 
 -- where each block is the same, the seats stay
-pub all_moved : (s t : State) (graph graph' : Known) (seats : List SeatView) → IsKept s graph seats → IsLawful t → t.size ≡ s.size → t.resident ≡ s.resident → graph'.blocks ≡ graph.blocks → ((j : ℕ) → IsSameAt s t j) → IsKept t graph' seats
-all_moved s t graph graph' seats K lawful size resident many same = record {
+pub all_moved : {Slot : Type 0} (i : Inside Slot) (made : ℕ) (graph : Known) (contents : Contents) → IsKept i
+    → IsLawful (state_of (record i { made = made; graph = graph; contents = contents })) → graph.blocks ≡ i.graph.blocks
+    → ((b : ℕ) → IsSameAt (state_of i) (state_of (record i { made = made; graph = graph; contents = contents })) b)
+    → IsKept (record i { made = made; graph = graph; contents = contents })
+all_moved i made graph contents K lawful many same = record {
   lawful = lawful;
   few = K.few;
-  small = rw size K.small;
+  small = K.small;
   graph_blocks = many ∙ K.graph_blocks;
-  loaded = rw resident K.loaded;
-  seat = λ j seat e. moved s t j seat (same j) (K.seat j seat e);
+  loaded = K.loaded;
+  seat = λ b seat e. moved (state_of i) (state_of (record i { made = made; graph = graph; contents = contents })) b seat (same b) (K.seat b seat e);
+  undoing = K.undoing;
 }
 
-module _ (seats : List SeatView) (b : ℕ) (seat : SeatView) (at_b : slice_get seats b ≡ Some seat) where
-  -- a seat is put in the place of this one: the others agree with the new state where their blocks are the same
-  module _ (s t : State) (graph graph' : Known) (K : IsKept s graph seats) (new : SeatView) where
-    pub one_moved : IsLawful t → t.size ≡ s.size → t.resident ≡ s.resident → graph'.blocks ≡ graph.blocks
-        → is_some new.loaded ≡ is_some seat.loaded
-        → ((j : ℕ) → j ≢ b → IsSameAt s t j)
-        → IsKeptSeat t b new
-        → IsKept t graph' (slice_set seats b new)
-    one_moved lawful size resident many there same here = record {
-      lawful = lawful;
-      few = rw length-set K.few;
-      small = rw size K.small;
-      graph_blocks = rw length-set (many ∙ K.graph_blocks);
-      loaded = rw (resident, count_listed there) K.loaded;
-      seat = λ j other e.
-          elim (get-set seats b j new other e) [
-            | inl h ↦ subst (λ (i : ℕ). IsKeptSeat t i other) (sym h.0) (subst (λ (u : SeatView). IsKeptSeat t b u) h.1 here)
-            | inr h ↦ moved s t j other (same j h.0) (K.seat j other h.1)
-          ];
-    }
-      where
-        count_listed : is_some new.loaded ≡ is_some seat.loaded → count_by (λ (s : SeatView). is_some s.loaded) (slice_set seats b new) ≡ count_by (λ (s : SeatView). is_some s.loaded) seats
-        count_listed e = count_set (λ (s : SeatView). is_some s.loaded) seats b seat new at_b e
+-- a seat is put in the place of this one: the others agree with the new state where their blocks are the same
+pub one_moved : {Slot : Type 0} (i j : Inside Slot) → IsKept i → (b : ℕ) (seat : SeatView) → slice_get i.seats.seats b ≡ Some seat → (new : SeatView)
+    → j.seats.seats ≡ slice_set i.seats.seats b new → j.seats.most ≡ i.seats.most → j.size ≡ i.size → j.graph.blocks ≡ i.graph.blocks
+    → IsLawful (state_of j) → j.undo ≡ sum_by undo_of j.seats.seats → is_some new.loaded ≡ is_some seat.loaded
+    → ((k : ℕ) → k ≢ b → IsSameAt (state_of i) (state_of j) k) → IsKeptSeat (state_of j) b new → IsKept j
+one_moved i j K b seat at_b new seats most size many lawful undoing there same here = record {
+  lawful = lawful;
+  few = rw (seats, length-set) K.few;
+  small = rw size K.small;
+  graph_blocks = rw (seats, length-set) (many ∙ K.graph_blocks);
+  loaded = rw (seats, most, count_set (λ (s : SeatView). is_some s.loaded) i.seats.seats b seat new at_b there) K.loaded;
+  seat = λ k other e.
+      elim (get-set i.seats.seats b k new other (rw seats at e)) [
+        | inl h ↦ subst (λ (n : ℕ). IsKeptSeat (state_of j) n other) (sym h.0) (subst (λ (u : SeatView). IsKeptSeat (state_of j) b u) h.1 here)
+        | inr h ↦ moved (state_of i) (state_of j) k other (same k h.0) (K.seat k other h.1)
+      ];
+  undoing = undoing;
+}
+
+-- what the graph has prepared is no part of the state
+pub kept_prepared : {Slot : Type 0} (i : Inside Slot) → IsKept i → (graph : Known) (prepared : Option Prepared) → graph ≡ record i.graph { prepared = prepared } → IsKept (with_graph i graph)
+kept_prepared i K graph prepared same = subst (λ (k : Known). IsKept (with_graph i k)) (sym same) (record { lawful = K.lawful; few = K.few; small = K.small; graph_blocks = K.graph_blocks; loaded = K.loaded; seat = K.seat; undoing = K.undoing })
+
+-- other seats, of which as many may be in memory
+pub kept_seats : {Slot : Type 0} (i : Inside Slot) (seats : SeatsView) → seats.most ≡ i.seats.most → IsKept (record i { seats = record i.seats { seats = seats.seats } }) → IsKept (record i { seats = seats })
+kept_seats i seats most = subst (λ (n : ℕ). IsKept (record i { seats = record seats { most = n } })) (sym most)

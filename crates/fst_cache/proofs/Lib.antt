@@ -1,4 +1,3 @@
-mod GroupJoining
 mod GroupMember
 mod GroupSame
 mod GroupStep

@@ -1,59 +1,57 @@
--- A new change of a block in memory is one step, and the cache keeps what it keeps.
-use Rattle.std.proofs.Common.{◌≡◌, ◌+◌, ℕ, Bool, true, List, [], ◌∷◌, ◌++◌, Some, is_some, refl, sym, ap, length, slice_get, slice_set}
+-- A change that was put into its block: the cache with the block in memory, and with the change.
+use Rattle.std.proofs.Common.{◌≡◌, ◌≢◌, ◌+◌, ℕ, List, [], ◌∷◌, ◌++◌, Option, Some, is_some, refl, sym, ap, ◌∙◌, length, arith, sum_by}
 use Rattle.fst_types.specs.declared.grade.Grade.{Grade}
-use Rattle.fst_types.specs.Making.{MakesChange}
-use Rattle.fst_types.specs.State.{State}
-use Rattle.fst_types.specs.Events.{MakeChange, MadeChange}
-use Rattle.fst_types.specs.Step.{Step, accepted, change}
-use Rattle.fst_types.proofs.Bounds.{step_keeps_lawful}
-use Rattle.fst_block.specs.BlockView.{BlockPatch, BlockView}
-use Rattle.fst_graph.specs.Known.{Known, AddsChange}
-use Rattle.fst_seat.specs.Seats.{SeatView, blocks}
-use Rattle.fst_cache.specs.Kept.{IsKept, IsKeptSeat, state_of, span_of}
-use Rattle.fst_cache.specs.Making.{MayHold}
+use Rattle.fst_types.specs.Facts.{IsLawful}
+use Rattle.fst_block.specs.BlockView.{len_if_soft}
+use Rattle.fst_graph.specs.Known.{Known, Prepared}
+use Rattle.fst_seat.specs.Seats.{SeatView, SeatsView, blocks, undo_of}
+use Rattle.fst_seat.specs.Residing.{Puts}
 use Rattle.fst_seat.proofs.Seated.{same_listed}
+use Rattle.fst_seat.proofs.Undo.{undo_puts}
+use Rattle.fst_cache.specs.declared.cache.Cache.TheInside.{Inside}
+use Rattle.fst_cache.specs.declared.contents.Contents.{Contents}
+use Rattle.fst_cache.specs.Kept.{IsKept, IsKeptSeat, IsSameAt, state_of, span_of}
 use Rattle.fst_cache.proofs.Kept.{one_moved}
-use Rattle.fst_cache.proofs.MakeChanged.{numbered, seat_put, same_else}
-use Rattle.fst_cache.proofs.MakeRefused.{none_refuses}
+use Rattle.fst_cache.proofs.MakeReady.{ready, same_state, kept_ready}
 
--- a change that the graph adds, over the same blocks
-pub change_row : (size resident tickets made : ℕ) (graph graph' : Known) (contents : List (ℕ × List ℕ)) (seats seats' : List SeatView) → blocks seats' ≡ blocks seats
-    → (b at number : ℕ) (bytes names : List ℕ) (grade : Grade) → AddsChange graph b at (length bytes) names number grade graph'
-    → MakesChange (state_of size resident tickets made graph contents seats) b at bytes names number grade (state_of size resident tickets (made + 1) graph' (contents ++ (number, bytes) ∷ []) seats')
-change_row size resident tickets made graph graph' contents seats seats' same_blocks b at number bytes names grade adds = record { row = adds.row; state = rw (adds.numbers, adds.groups, same_blocks) refl }
+-- what is kept of the change beside the graph: its undo bytes are counted, its bytes stand under its number, and its block has it
+pub record IsPut {Slot : Type 0} (i : Inside Slot) (b at number : ℕ) (bytes : List ℕ) (grade : Grade) (undo : ℕ) (contents : Contents) (seats : SeatsView) : Type 0 where
+  pub undone : undo ≡ i.undo + len_if_soft grade (length bytes)
+  pub added : contents.items ≡ i.contents.items ++ (number, bytes) ∷ []
+  pub most : seats.most ≡ i.seats.most
+  pub puts : Puts i.seats.most i.seats.seats b (record { number = number; span = span_of at (length bytes); grade = grade; bytes = bytes }) seats.seats
 
-module _ (size resident tickets made : ℕ) (graph graph' : Known) (contents : List (ℕ × List ℕ)) (seats : List SeatView) (K : IsKept (state_of size resident tickets made graph contents seats) graph seats)
-    (b : ℕ) (seat : SeatView) (at_b : slice_get seats b ≡ Some seat) (view : BlockView) (there : seat.loaded ≡ Some view)
-    (share at number : ℕ) (bytes names : List ℕ) (grade : Grade) (may : MayHold (state_of size resident tickets made graph contents seats) share b at bytes)
-    (adds : AddsChange graph b at (length bytes) names number grade graph') where
-  abbrev before : State
-  before = state_of size resident tickets made graph contents seats
+module _ {Slot : Type 0} (i : Inside Slot) (K : IsKept i) {graph : Known} {prepared : Option Prepared} (same : graph ≡ record i.graph { prepared = prepared })
+    {b at number : ℕ} {bytes : List ℕ} {grade : Grade} {undo : ℕ} {contents : Contents} {seats : SeatsView} (P : IsPut i b at number bytes grade undo contents seats) where
+  -- the cache with room in the graph, and the block in memory
+  abbrev pub read : Inside Slot
+  read = ready i K same (record i.seats { seats = P.puts.read }) refl P.puts.load
 
-  abbrev put : BlockPatch
-  put = record { number = number; span = span_of at (length bytes); grade = grade; bytes = bytes }
+  pub same_read : state_of read ≡ state_of i
+  same_read = same_state i K same (record i.seats { seats = P.puts.read }) refl P.puts.load
 
-  abbrev pub changed : SeatView
-  changed = record seat { loaded = Some (record view { patches = view.patches ++ put ∷ [] }) }
+  pub kept_read : IsKept read
+  kept_read = kept_ready i K same (record i.seats { seats = P.puts.read }) refl P.puts.load
 
-  abbrev pub after_it : State
-  after_it = state_of size resident tickets (made + 1) graph' (contents ++ (number, bytes) ∷ []) (slice_set seats b changed)
+  -- the block's seat with the change
+  abbrev pub with_change : SeatView
+  with_change = record P.puts.seat { loaded = Some (record P.puts.view { patches = P.puts.view.patches ++ record { number = number; span = span_of at (length bytes); grade = grade; bytes = bytes } ∷ [] }) }
 
-  same_blocks : blocks (slice_set seats b changed) ≡ blocks seats
-  same_blocks = same_listed seats b seat at_b (λ (t : SeatView). t.block) changed refl
+  pub same_blocks : blocks seats.seats ≡ blocks P.puts.read
+  same_blocks = ap blocks P.puts.seats ∙ same_listed P.puts.read b P.puts.seat P.puts.at (λ (t : SeatView). t.block) with_change refl
 
-  made_change : MakesChange before b at bytes names number grade after_it
-  made_change = change_row size resident tickets made graph graph' contents seats (slice_set seats b changed) same_blocks b at number bytes names grade adds
+  -- and the cache with it
+  module _ (new : Known) where
+    abbrev pub made : Inside Slot
+    made = record i { made = i.made + 1; undo = undo; graph = new; contents = contents; seats = seats }
 
-  pub step_change : (faulted : Bool) → Step before (MakeChange share b at bytes names faulted) (MadeChange number grade) after_it
-  step_change faulted = accepted (none_refuses before share b at bytes may names faulted adds.clear) (change made_change)
-
-  seat_changed : IsKeptSeat after_it b changed
-  seat_changed = seat_put before after_it (numbered before K.lawful) b at number bytes adds.row.dependencies grade adds.row.next adds.row.added refl same_blocks seat (K.seat b seat at_b) view there
-
-  pub kept_change : IsKept after_it graph' (slice_set seats b changed)
-  kept_change =
-      one_moved seats b seat at_b before after_it graph graph' K changed
-      (step_keeps_lawful before after_it (MakeChange share b at bytes names true) (MadeChange number grade) K.lawful (step_change true)) refl refl adds.blocks
-      (sym (ap (λ o. is_some o) there))
-      (λ j other. same_else before after_it (numbered before K.lawful) b at number bytes adds.row.dependencies grade adds.row.next adds.row.added refl same_blocks j other)
-      seat_changed
+    pub kept_put : new.blocks ≡ graph.blocks → IsLawful (state_of made) → ((k : ℕ) → k ≢ b → IsSameAt (state_of read) (state_of made) k) → IsKeptSeat (state_of made) b with_change → IsKept made
+    kept_put many lawful others here =
+        one_moved read made kept_read b P.puts.seat P.puts.at with_change P.puts.seats P.most refl many lawful undoing (sym (ap (λ o. is_some o) P.puts.there)) others here
+      where
+        undoing : undo ≡ sum_by undo_of seats.seats
+        undoing =
+            let more = undo_puts i.seats.most i.seats.seats b _ seats.seats P.puts in
+            let known = K.undoing in
+            let undone = P.undone in
+            omega (arith, more, known, undone)

@@ -1,5 +1,5 @@
 -- What a kept seat says of its block: whether it is dirty, its bytes, and the room that it has.
-use Rattle.std.proofs.Common.{◌≡◌, ◌<◌, ◌≤◌, ◌↔◌, ℕ, true, false, List, [], ◌∷◌, map, Option, Some, None, IsSome, IfSome, is_some, nat_lt, refl, sym, ap, subst, ◌∙◌, inl, inr, arith, length, get_or, slice_get, count_by}
+use Rattle.std.proofs.Common.{◌≡◌, ◌<◌, ◌≤◌, ◌↔◌, ℕ, true, false, List, [], ◌∷◌, map, Option, Some, None, IsSome, IfSome, is_some, nat_lt, refl, sym, ap, subst, ◌∙◌, inl, inr, arith, slice_get, count_by}
 use Rattle.std.proofs.lemmas.Bool.{cases_Bool, both_ways, false≢true, false_from_ne_true, ltb-true, ltb-false}
 use Rattle.std.proofs.lemmas.List.{length-map}
 use Rattle.std.proofs.lemmas.Option.{none-some}
@@ -15,9 +15,9 @@ use Rattle.fst_types.proofs.Finite.{Contains-from_In}
 use Rattle.fst_types.proofs.Landing.{change_at, at_change}
 use Rattle.fst_block.specs.BlockView.{BlockView}
 use Rattle.fst_block.specs.BlockView as block
-use Rattle.fst_graph.specs.Known.{Known}
-use Rattle.fst_seat.specs.Seats.{SeatView, blocks, has_patches, is_dirty_with, is_dirty_seat}
-use Rattle.fst_cache.specs.Kept.{IsKept, block_patch, block_view}
+use Rattle.fst_seat.specs.Seats.{SeatView, has_patches, is_dirty_with, is_dirty_seat}
+use Rattle.fst_cache.specs.declared.cache.Cache.TheInside.{Inside}
+use Rattle.fst_cache.specs.Kept.{IsKept, state_of, block_patch, block_view}
 use Rattle.fst_seat.proofs.Seated.{block_here}
 use Rattle.fst_seat.proofs.Counts.{count_by_places, count_lt}
 use Rattle.fst_cache.proofs.ResideDirty.{dirty_from, dirty_patch, some_in, none_in, in_filter}
@@ -28,10 +28,16 @@ use Rattle.fst_cache.proofs.OpenPlaced.{map-twice}
 pub view_bytes : (s : State) (b : ℕ) → block.fold_of (block_view s b).base (block_view s b).patches ≡ bytes_of s b
 view_bytes s b = ap (fold (base_under (committed s b) (flight_of s b))) (map-twice block.write_of (block_patch s.contents) (changes_at s place.Memory b))
 
-module _ (s : State) (graph : Known) (seats : List SeatView) (K : IsKept s graph seats) (same : s.blocks ≡ blocks seats) where
+module _ {Slot : Type 0} (i : Inside Slot) (K : IsKept i) where
+  abbrev s : State
+  s = state_of i
+
+  abbrev seats : List SeatView
+  seats = i.seats.seats
+
   module _ (b : ℕ) (seat : SeatView) (at_b : slice_get seats b ≡ Some seat) where
     pub block_is : block_of s b ≡ seat.block
-    block_is = ap (λ (bs : List BlockState). get_or bs b (record { committed = []; flight = None })) same ∙ block_here seats b seat at_b
+    block_is = block_here seats b seat at_b
 
     pub flight_is : flight_of s b ≡ seat.block.flight
     flight_is = ap (λ (v : BlockState). v.flight) block_is
@@ -105,7 +111,7 @@ module _ (s : State) (graph : Known) (seats : List SeatView) (K : IsKept s graph
 
   -- the dirty seats are the dirty blocks
   pub dirty_count : count_by is_dirty_seat seats ≡ dirty_blocks s
-  dirty_count = count_by_places is_dirty_seat (is_dirty s.heads) seats dirty_is ∙ ap (count_below (is_dirty s.heads)) (sym (ap length same ∙ length-map seats (λ (t : SeatView). t.block)))
+  dirty_count = count_by_places is_dirty_seat (is_dirty s.heads) seats dirty_is ∙ ap (count_below (is_dirty s.heads)) (sym (length-map seats (λ (t : SeatView). t.block)))
 
   -- where a clean block is in memory, not all places are for dirty ones
   pub room_beside : (b : ℕ) (seat : SeatView) → slice_get seats b ≡ Some seat → is_some seat.loaded ≡ true → is_dirty_seat seat ≡ false → count_by is_dirty_seat seats < s.resident

@@ -4,17 +4,16 @@ use Rattle.std.specs.Prelude.{IsErrOf}
 use Rattle.std.proofs.lemmas.Bool.{both_ways}
 use Rattle.fst_types.specs.declared.fault.Fault.{Fault}
 use Rattle.fst_types.specs.declared.fault.Fault.TheVariants as fault
-use Rattle.fst_types.specs.State.{State}
 use Rattle.fst_types.specs.Counts.{is_dirty}
 use Rattle.fst_types.specs.Residence.{faults_rose}
 use Rattle.fst_types.specs.Events.{Show, Refused}
 use Rattle.fst_types.specs.Order.{order, IsLoadFault}
 use Rattle.fst_types.specs.Refusals.{NoneHolds}
 use Rattle.fst_types.specs.Step.{Step, refused}
-use Rattle.fst_graph.specs.Known.{Known}
-use Rattle.fst_seat.specs.Seats.{SeatView, blocks}
+use Rattle.fst_seat.specs.Seats.{SeatView}
 use Rattle.fst_seat.specs.Residing.{Loads}
-use Rattle.fst_cache.specs.Kept.{IsKept}
+use Rattle.fst_cache.specs.declared.cache.Cache.TheInside.{Inside}
+use Rattle.fst_cache.specs.Kept.{IsKept, state_of}
 use Rattle.fst_cache.proofs.ResideLoading.{loads_clean}
 
 same_fault : {T : Type 0} {f g : Fault} → ◌≡◌ {A = Result T Fault} (Err f) (Err g) → f ≡ g
@@ -32,12 +31,12 @@ load_fault r f rose is kinds device =
 pub told : {T U : Type 0} (f g : Fault) → f ≡ g → ◌≡◌ {A = Result T Fault} (Err g) (Err fault.Device) → ◌≡◌ {A = Result U Fault} (Err f) (Err fault.Device)
 told f g same e = ap (λ (x : Fault). Err x) (same ∙ same_fault e)
 
-abbrev faults_of : List SeatView → List ℕ
+abbrev pub faults_of : List SeatView → List ℕ
 faults_of seats = map (λ (t : SeatView). t.faults) seats
 
-pub step_not_loaded : (s : State) (graph : Known) (seats : List SeatView) → IsKept s graph seats → s.blocks ≡ blocks seats → (b : ℕ) (new : List SeatView) (f : Fault)
-    → NoneHolds (order s (Show b false)) → Loads s.resident seats b new → IsLoadFault (faults_rose (map (λ (t : SeatView). t.faults) seats) (map (λ (t : SeatView). t.faults) new) b) f
-    → Step s (Show b (faults_rose (map (λ (t : SeatView). t.faults) seats) (map (λ (t : SeatView). t.faults) new) b)) (Refused f) s
-step_not_loaded s graph seats K same b new f clear L load =
-    refused {event = Show b (faults_rose (faults_of seats) (faults_of new) b)} {fault = f}
-    (inr (clear, ((λ d. both_ways (is_dirty s.heads b) (loads_clean s graph seats K same b new L) d), load)))
+pub step_not_loaded : {Slot : Type 0} (i : Inside Slot) → IsKept i → (b : ℕ) (new : List SeatView) (f : Fault)
+    → NoneHolds (order (state_of i) (Show b false)) → Loads i.seats.most i.seats.seats b new → IsLoadFault (faults_rose (faults_of i.seats.seats) (faults_of new) b) f
+    → Step (state_of i) (Show b (faults_rose (faults_of i.seats.seats) (faults_of new) b)) (Refused f) (state_of i)
+step_not_loaded i K b new f clear L load =
+    refused {event = Show b (faults_rose (faults_of i.seats.seats) (faults_of new) b)} {fault = f}
+    (inr (clear, ((λ d. both_ways (is_dirty i.graph.heads b) (loads_clean i K b new L) d), load)))

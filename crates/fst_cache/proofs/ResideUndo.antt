@@ -15,9 +15,9 @@ use Rattle.fst_types.specs.Bytes.{changes_at}
 use Rattle.fst_types.specs.Counts.{undo_bytes}
 use Rattle.fst_types.proofs.Finite.{In, Contains-from_In}
 use Rattle.fst_block.specs.BlockView.{BlockPatch, BlockView, len_if_soft, soft_lengths}
-use Rattle.fst_graph.specs.Known.{Known}
-use Rattle.fst_seat.specs.Seats.{SeatView, blocks, undo_of}
-use Rattle.fst_cache.specs.Kept.{IsKept, grade_in, block_patch, block_patches}
+use Rattle.fst_seat.specs.Seats.{SeatView, undo_of}
+use Rattle.fst_cache.specs.declared.cache.Cache.TheInside.{Inside}
+use Rattle.fst_cache.specs.Kept.{IsKept, state_of, grade_in, block_patch, block_patches}
 use Rattle.fst_seat.proofs.Counts.{sum_below, sum_by_places, below_add, below_none, below_same, below_one}
 use Rattle.fst_cache.proofs.ResideSeats.{clean, no_changes}
 
@@ -95,7 +95,13 @@ short_kind Empty short = omega arith
 short_kind OpenGate short = omega arith
 short_kind SealedGate short = omega arith
 
-module _ (s : State) (graph : Known) (seats : List SeatView) (K : IsKept s graph seats) (same : s.blocks ≡ blocks seats) where
+module _ {Slot : Type 0} (i : Inside Slot) (K : IsKept i) where
+  abbrev s : State
+  s = state_of i
+
+  abbrev seats : List SeatView
+  seats = i.seats.seats
+
   view_undo : (b : ℕ) → soft_lengths (block_patches s b) ≡ counts_on s.heads b
   view_undo b = sum_mapped (λ (q : BlockPatch). len_if_soft q.grade q.span.len) (block_patch s.contents) (changes_at s place.Memory b)
 
@@ -103,14 +109,14 @@ module _ (s : State) (graph : Known) (seats : List SeatView) (K : IsKept s graph
   at_seat b seat at_b = by_loaded seat.loaded refl
     where
       by_loaded : (o : Option BlockView) → seat.loaded ≡ o → option_map_or (λ (l : BlockView). soft_lengths l.patches) o 0 ≡ counts_on s.heads b
-      by_loaded None away = sym (ap (sum_by (λ (p : Patch). worth p.kind)) (no_changes s graph seats K same b seat at_b (clean s graph seats K same b seat at_b away)))
+      by_loaded None away = sym (ap (sum_by (λ (p : Patch). worth p.kind)) (no_changes i K b seat at_b (clean i K b seat at_b away)))
       by_loaded (Some l) is = ap (λ (v : BlockView). soft_lengths v.patches) ((K.seat b seat at_b).loaded l is) ∙ view_undo b
 
   -- the seats' undo bytes are the state's
   pub undo_is : sum_by undo_of seats ≡ undo_bytes s
   undo_is =
       sum_by_places undo_of (counts_on s.heads) seats at_seat
-      ∙ (ap (sum_below (counts_on s.heads)) (sym (ap length same ∙ length-map seats (λ (t : SeatView). t.block)))
+      ∙ (ap (sum_below (counts_on s.heads)) (sym (length-map seats (λ (t : SeatView). t.block)))
       ∙ all_blocks (length s.blocks) s.heads (λ p b h on. (K.lawful.changes_fit.inside p b (Contains-from_In s.heads p h) on).0))
 
   -- no head has more bytes than a block, and the heads are few

@@ -6,7 +6,6 @@ use Rattle.fst_types.specs.declared.place.Place.{Place}
 use Rattle.fst_types.specs.declared.place.Place.TheVariants as place
 use Rattle.fst_types.specs.Patches.{Patch}
 use Rattle.fst_types.specs.Tests.{is_at, is_live, is_change_at, has_number}
-use Rattle.fst_types.specs.State.{State}
 use Rattle.fst_types.specs.Counts.{is_dirty}
 use Rattle.fst_types.specs.Events.{Forget, Forgot}
 use Rattle.fst_types.specs.Step.{Step, accepted, forget}
@@ -17,7 +16,8 @@ use Rattle.fst_types.proofs.Contents.{content_kept, has_in}
 use Rattle.fst_types.proofs.Landing.{change_at}
 use Rattle.fst_types.proofs.Writes.{filter_twice}
 use Rattle.fst_graph.specs.Known.{Known, Forgets}
-use Rattle.fst_seat.specs.Seats.{SeatView}
+use Rattle.fst_cache.specs.declared.cache.Cache.TheInside.{Inside}
+use Rattle.fst_cache.specs.declared.contents.Contents.{Contents}
 use Rattle.fst_cache.specs.Kept.{IsSameAt, IsKept, block_patch, state_of}
 use Rattle.fst_cache.proofs.Kept.{all_moved}
 use Rattle.fst_cache.proofs.SameCascade.{lives_on}
@@ -39,45 +39,42 @@ memory_lives place.Memory e = refl
 memory_lives place.Flight e = refl
 memory_lives place.Disk e = cc
 
-module _ (size resident tickets made dropped : ℕ) (graph graph' : Known) (contents contents' : List (ℕ × List ℕ)) (seats : List SeatView) (K : IsKept (state_of size resident tickets made graph contents seats) graph seats)
-    (f : Forgets graph dropped graph') (left : contents' ≡ filter (λ e. has_number graph'.heads e.0) contents) where
-  abbrev before : State
-  before = state_of size resident tickets made graph contents seats
-
-  abbrev after_it : State
-  after_it = state_of size resident tickets made graph' contents' seats
+module _ {Slot : Type 0} (i : Inside Slot) (K : IsKept i) {dropped : ℕ} {graph : Known} (contents : Contents)
+    (f : Forgets i.graph dropped graph) (left : contents.items ≡ filter (λ e. has_number graph.heads e.0) i.contents.items) where
+  abbrev less : Inside Slot
+  less = record i { graph = graph; contents = contents }
 
   abbrev kept_heads : List Patch
-  kept_heads = filter is_live graph.heads
+  kept_heads = filter is_live i.graph.heads
 
   abbrev kept_contents : List (ℕ × List ℕ)
-  kept_contents = filter (λ e. has_number kept_heads e.0) contents
+  kept_contents = filter (λ e. has_number kept_heads e.0) i.contents.items
 
-  contents_are : contents' ≡ kept_contents
-  contents_are = left ∙ ap (λ (hs : List Patch). filter (λ (e : ℕ × List ℕ). has_number hs e.0) contents) f.row.kept
+  contents_are : contents.items ≡ kept_contents
+  contents_are = left ∙ ap (λ (hs : List Patch). filter (λ (e : ℕ × List ℕ). has_number hs e.0) i.contents.items) f.row.kept
 
-  same_block_patch : (p : Patch) → In kept_heads p → block_patch kept_contents p ≡ block_patch contents p
-  same_block_patch p h = rw (content_kept (has_number kept_heads) contents p.number (has_in kept_heads p h)) refl
+  same_block_patch : (p : Patch) → In kept_heads p → block_patch kept_contents p ≡ block_patch i.contents.items p
+  same_block_patch p h = rw (content_kept (has_number kept_heads) i.contents.items p.number (has_in kept_heads p h)) refl
 
-  patches_left : (j : ℕ) → map (block_patch contents') (filter (is_change_at place.Memory j) graph'.heads) ≡ map (block_patch contents) (filter (is_change_at place.Memory j) graph.heads)
-  patches_left j =
+  patches_left : (b : ℕ) → map (block_patch contents.items) (filter (is_change_at place.Memory b) graph.heads) ≡ map (block_patch i.contents.items) (filter (is_change_at place.Memory b) i.graph.heads)
+  patches_left b =
       rw (contents_are, f.row.kept) (
-      map_same (block_patch kept_contents) (block_patch contents) (filter (is_change_at place.Memory j) kept_heads) (λ p h. same_block_patch p (filter_in (is_change_at place.Memory j) kept_heads p h).0)
-      ∙ ap (map (block_patch contents)) (filter_twice (is_change_at place.Memory j) is_live graph.heads (λ p e. memory_lives p.place (change_at place.Memory j p e).1)))
+      map_same (block_patch kept_contents) (block_patch i.contents.items) (filter (is_change_at place.Memory b) kept_heads) (λ p h. same_block_patch p (filter_in (is_change_at place.Memory b) kept_heads p h).0)
+      ∙ ap (map (block_patch i.contents.items)) (filter_twice (is_change_at place.Memory b) is_live i.graph.heads (λ p e. memory_lives p.place (change_at place.Memory b p e).1)))
 
-  flying_left : (j : ℕ) → map (λ (p : Patch). p.number) (filter (is_change_at place.Flight j) graph'.heads) ≡ map (λ (p : Patch). p.number) (filter (is_change_at place.Flight j) graph.heads)
-  flying_left j = rw f.row.kept (ap (map (λ (p : Patch). p.number)) (filter_twice (is_change_at place.Flight j) is_live graph.heads (λ p e. flight_live p.place (change_at place.Flight j p e).1)))
+  flying_left : (b : ℕ) → map (λ (p : Patch). p.number) (filter (is_change_at place.Flight b) graph.heads) ≡ map (λ (p : Patch). p.number) (filter (is_change_at place.Flight b) i.graph.heads)
+  flying_left b = rw f.row.kept (ap (map (λ (p : Patch). p.number)) (filter_twice (is_change_at place.Flight b) is_live i.graph.heads (λ p e. flight_live p.place (change_at place.Flight b p e).1)))
 
-  same_left : (j : ℕ) → IsSameAt before after_it j
-  same_left j = record {
+  same_left : (b : ℕ) → IsSameAt (state_of i) (state_of less) b
+  same_left b = record {
     block = refl;
-    patches = patches_left j;
-    flying = flying_left j;
-    dirty = λ e. any_kept (lives_on j) is_live graph.heads (ap (λ (hs : List Patch). is_dirty hs j) (sym f.row.kept) ∙ e);
+    patches = patches_left b;
+    flying = flying_left b;
+    dirty = λ e. any_kept (lives_on b) is_live i.graph.heads (ap (λ (hs : List Patch). is_dirty hs b) (sym f.row.kept) ∙ e);
   }
 
-  pub step_forget : Step before Forget (Forgot dropped) after_it
+  pub step_forget : Step (state_of i) Forget (Forgot dropped) (state_of less)
   step_forget = accepted tt (forget (record { row = f.row; state = rw (left, f.numbers, f.groups) refl }))
 
-  pub kept_forget : IsKept after_it graph' seats
-  kept_forget = all_moved before after_it graph graph' seats K (step_keeps_lawful before after_it Forget (Forgot dropped) K.lawful step_forget) refl refl f.blocks same_left
+  pub kept_forget : IsKept less
+  kept_forget = all_moved i i.made graph contents K (step_keeps_lawful (state_of i) (state_of less) Forget (Forgot dropped) K.lawful step_forget) f.blocks same_left

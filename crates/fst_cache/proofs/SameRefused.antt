@@ -1,5 +1,5 @@
 -- Where a call of the graph is refused, the state is as it was: only what was prepared is gone.
-use Rattle.std.proofs.Common.{◌≡◌, ℕ, List, ◌∷◌, ap, inl, inr}
+use Rattle.std.proofs.Common.{◌≡◌, List, ◌∷◌, None, ap, inl, inr}
 use Rattle.std.specs.Prelude.{Result, Ok, Err, OnOk, OnErr, IfErr, MatchResult}
 use Rattle.fst_types.specs.declared.fault.Fault.{Fault}
 use Rattle.fst_types.specs.Refusals.{Rule, ◌when◌}
@@ -7,23 +7,26 @@ use Rattle.fst_types.specs.Events.{Event, Refused}
 use Rattle.fst_types.specs.Order.{IsRefusal}
 use Rattle.fst_types.specs.Step.{Step, refused}
 use Rattle.fst_graph.specs.Known.{Known, Refuses, unprepared}
-use Rattle.fst_seat.specs.Seats.{SeatView}
-use Rattle.fst_cache.specs.Kept.{IsKept, state_of}
+use Rattle.fst_cache.specs.declared.cache.Cache.TheInside.{Inside}
+use Rattle.fst_cache.specs.Kept.{IsKept, state_of, view_of}
+use Rattle.fst_cache.proofs.Kept.{with_graph, kept_prepared}
 
 -- a rule before the others does not hold
 pub refuses_past : (f x : Fault) (P : Type 0) (rules : List Rule) → (P → ⊥) → Refuses rules f → Refuses (x when P ∷ rules) f
 refuses_past f x P rules free (inl first) = inl (inr (free, first))
 refuses_past f x P rules free (inr none) = inr ((free, none.0), none.1)
 
-module _ (size resident tickets made : ℕ) (graph graph' : Known) (contents : List (ℕ × List ℕ)) (seats : List SeatView) (same : graph' ≡ unprepared graph) where
-  pub state_unprepared : state_of size resident tickets made graph' contents seats ≡ state_of size resident tickets made graph contents seats
-  state_unprepared = ap (λ (k : Known). state_of size resident tickets made k contents seats) same
+module _ {Slot : Type 0} (i : Inside Slot) {graph : Known} (same : graph ≡ unprepared i.graph) where
+  state_unprepared : state_of (with_graph i graph) ≡ state_of i
+  state_unprepared = ap (λ (k : Known). state_of (with_graph i k)) same
 
-  pub kept_unprepared : IsKept (state_of size resident tickets made graph contents seats) graph seats → IsKept (state_of size resident tickets made graph' contents seats) graph' seats
-  kept_unprepared K = rw same (record { lawful = K.lawful; few = K.few; small = K.small; graph_blocks = K.graph_blocks; loaded = K.loaded; seat = K.seat })
+  pub view_unprepared : view_of (with_graph i graph) ≡ view_of i
+  view_unprepared = ap (λ (k : Known). view_of (with_graph i k)) same
 
-  pub step_unprepared : (event : Event) (fault : Fault) → IsRefusal (state_of size resident tickets made graph contents seats) event fault
-      → Step (state_of size resident tickets made graph contents seats) event (Refused fault) (state_of size resident tickets made graph' contents seats)
+  pub kept_unprepared : IsKept i → IsKept (with_graph i graph)
+  kept_unprepared K = kept_prepared i K graph None same
+
+  pub step_unprepared : (event : Event) (fault : Fault) → IsRefusal (state_of i) event fault → Step (state_of i) event (Refused fault) (state_of (with_graph i graph))
   step_unprepared event fault r = rw state_unprepared (refused r)
 
 -- two facts of the Ok end are one

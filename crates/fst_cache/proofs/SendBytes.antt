@@ -22,11 +22,11 @@ use Rattle.fst_types.proofs.Landing.{at_change}
 use Rattle.fst_types.proofs.Numbers.{both}
 use Rattle.fst_block.specs.BlockView.{BlockView, fold_of, write_of as block_write}
 use Rattle.fst_block.specs.Choices.{IsChoice, chosen_of}
-use Rattle.fst_graph.specs.Known.{Known}
 use Rattle.fst_seat.specs.Names.{numbers_of}
 use Rattle.fst_cache.specs.Views.{CacheView}
-use Rattle.fst_seat.specs.Seats.{SeatView, blocks, is_dirty_seat}
+use Rattle.fst_seat.specs.Seats.{SeatView, is_dirty_seat}
 use Rattle.fst_seat.specs.Writing.{MayGoOut}
+use Rattle.fst_cache.specs.declared.cache.Cache.TheInside.{Inside}
 use Rattle.fst_cache.specs.Kept.{IsKept, state_of, view_of, block_patch, block_patches, block_view}
 use Rattle.fst_seat.proofs.Seated.{block_here}
 use Rattle.fst_cache.proofs.ResideSeats.{dirty_is}
@@ -49,28 +49,26 @@ dirty_with s b p m =
     live place.Disk x e f = cc
 
 -- a write of the chosen may go out of the block with this seat
-pub record MaySend (s : State) (graph : Known) (seats : List SeatView) (b : ℕ) (seat : SeatView) (names : List PatchNo) : Type 0 where
-  pub kept : IsKept s graph seats
-  pub at_b : slice_get seats b ≡ Some seat
-  pub same : s.blocks ≡ blocks seats
-  pub choice : IsWritableSet s.heads b (numbers_of names)
-  pub clear : NoneHolds (order s (Issue b))
+pub record MaySend {Slot : Type 0} (i : Inside Slot) (b : ℕ) (seat : SeatView) (names : List PatchNo) : Type 0 where
+  pub kept : IsKept i
+  pub at_b : slice_get i.seats.seats b ≡ Some seat
+  pub choice : IsWritableSet i.graph.heads b (numbers_of names)
+  pub clear : NoneHolds (order (state_of i) (Issue b))
 
-pub may_send : (size resident tickets made : ℕ) (graph : Known) (contents : List (ℕ × List ℕ)) (seats : List SeatView) (now : CacheView)
-    → view_of (state_of size resident tickets made graph contents seats) seats ≡ now → IsKept (state_of size resident tickets made graph contents seats) graph seats
-    → (b : ℕ) (seat : SeatView) (names : List PatchNo) → NoneHolds (order now.state (Issue b)) → IsWritableSet now.state.heads b (numbers_of names) → slice_get seats b ≡ Some seat
-    → MaySend (state_of size resident tickets made graph contents seats) graph seats b seat names
-may_send size resident tickets made graph contents seats now view K b seat names clear choice at_b =
-    let s = state_of size resident tickets made graph contents seats in
-    record {
-      kept = K;
-      at_b = at_b;
-      same = refl;
-      choice = rw (← view) at choice;
-      clear = rw (← view) at clear;
-    }
+pub may_send : {Slot : Type 0} (i : Inside Slot) (now : CacheView) → view_of i ≡ now → IsKept i
+    → {b : ℕ} {seat : SeatView} {names : List PatchNo} → NoneHolds (order now.state (Issue b)) → IsWritableSet now.state.heads b (numbers_of names) → slice_get i.seats.seats b ≡ Some seat
+    → MaySend i b seat names
+may_send i now view K clear choice at_b = record {
+  kept = K;
+  at_b = at_b;
+  choice = rw (← view) at choice;
+  clear = rw (← view) at clear;
+}
 
-module _ (s : State) (graph : Known) (seats : List SeatView) (b : ℕ) (seat : SeatView) (names : List PatchNo) (S : MaySend s graph seats b seat names) where
+module _ {Slot : Type 0} (i : Inside Slot) {b : ℕ} {seat : SeatView} {names : List PatchNo} (S : MaySend i b seat names) where
+  abbrev s : State
+  s = state_of i
+
   abbrev law : IsLawful s
   law = S.kept.lawful
 
@@ -89,7 +87,7 @@ module _ (s : State) (graph : Known) (seats : List SeatView) (b : ℕ) (seat : S
       of_some (Some l) some is = ap Some (is l refl)
 
   pub block_is : block_of s b ≡ seat.block
-  block_is = rw S.same (block_here seats b seat S.at_b)
+  block_is = block_here i.seats.seats b seat S.at_b
 
   idle : seat.block.flight ≡ None
   idle = ap (λ (v : BlockState). v.flight) (sym block_is) ∙ at_home s law b names S.choice S.clear
@@ -107,7 +105,7 @@ module _ (s : State) (graph : Known) (seats : List SeatView) (b : ℕ) (seat : S
   was_dirty : is_dirty_seat seat ≡ true
   was_dirty =
       let r = ready s law b names S.choice S.clear in
-      dirty_is s graph seats S.kept S.same b seat S.at_b ∙ dirty_with s b r.0 r.1.in_memory
+      dirty_is i S.kept b seat S.at_b ∙ dirty_with s b r.0 r.1.in_memory
 
   -- and has the block's size
   image_sized : length (image_of s b (numbers_of names)) ≡ length seat.block.committed
@@ -123,8 +121,8 @@ module _ (s : State) (graph : Known) (seats : List SeatView) (b : ℕ) (seat : S
       ∙ ap (λ (v : BlockState). length v.committed) block_is
 
   -- so it may go out
-  pub may_go_out : (image : List ℕ) → image ≡ image_of s b (numbers_of names) → MayGoOut seat names image
-  may_go_out image is = record {
+  pub may_go_out : {image : List ℕ} → image ≡ image_of s b (numbers_of names) → MayGoOut seat names image
+  may_go_out is = record {
     home = idle;
     view = block_view s b;
     there = loaded_is;

@@ -14,7 +14,9 @@ use Rattle.fst_types.specs.Looks.{IsPick}
 use Rattle.fst_types.proofs.Stuck.{never_stuck_state}
 use Rattle.fst_graph.specs.Known.{Known, NoneFlies, unprepared}
 use Rattle.fst_seat.specs.Seats.{SeatView, blocks}
+use Rattle.fst_cache.specs.declared.cache.Cache.TheInside.{Inside}
 use Rattle.fst_cache.specs.Kept.{state_of}
+use Rattle.fst_cache.proofs.Kept.{with_graph}
 use Rattle.fst_cache.specs.Sending.{sending_order}
 use Rattle.fst_cache.specs.Replies.{IsStuck}
 use Rattle.fst_seat.proofs.Seated.{block_here, within}
@@ -34,18 +36,10 @@ never_stuck number s (Some b) law least = tt
 pub not_there : (seats : List SeatView) (b : ℕ) (seat : SeatView) → slice_get seats b ≡ Some seat → length (blocks seats) ≤ b → ⊥
 not_there seats b seat at_b past = let lt = within seats b seat at_b in let few : length seats ≤ b = rw length-map at past in omega (arith, few, lt)
 
--- a block with this seat that is not busy
-pub not_busy : (s : State) (seats : List SeatView) (b : ℕ) (seat : SeatView) → s.blocks ≡ blocks seats → slice_get seats b ≡ Some seat → is_some seat.block.flight ≡ false → IsSome (flight_of s b) → ⊥
-not_busy s seats b seat same at_b idle busy = home (flight_of s b) seat.block.flight (rw same (ap (λ (v : BlockState). v.flight) (block_here seats b seat at_b))) idle busy
-  where
-    home : (o p : Option Flight) → o ≡ p → is_some p ≡ false → IsSome o → ⊥
-    home o p e f h = cc
-
 -- a block with this seat that is busy
-pub busy_refused : (size resident tickets made : ℕ) (graph : Known) (contents : List (ℕ × List ℕ)) (seats : List SeatView) (b : ℕ) (seat : SeatView) → slice_get seats b ≡ Some seat → is_some seat.block.flight ≡ true
-    → IsRefusal (state_of size resident tickets made graph contents seats) (Issue b) fault.Busy
-busy_refused size resident tickets made graph contents seats b seat at_b busy =
-    inl (inr (not_there seats b seat at_b, inl (ap (λ (v : BlockState). is_some v.flight) (block_here seats b seat at_b) ∙ busy, refl)))
+pub busy_refused : {Slot : Type 0} (i : Inside Slot) (b : ℕ) (seat : SeatView) → slice_get i.seats.seats b ≡ Some seat → is_some seat.block.flight ≡ true → IsRefusal (state_of i) (Issue b) fault.Busy
+busy_refused i b seat at_b busy =
+    inl (inr (not_there i.seats.seats b seat at_b, inl (ap (λ (v : BlockState). is_some v.flight) (block_here i.seats.seats b seat at_b) ∙ busy, refl)))
 
 -- no memory for what may be written
 pub refused_memory : {V : Type 0} (s : State) (b : ℕ) (r : Result V Fault) → NoneHolds (order s (Issue b)) → IfErr r (λ f. HasReady s.heads b × (f ≡ fault.Memory)) → IfErr r (λ f. IsRefusal s (Issue b) f)
@@ -57,28 +51,30 @@ on_ok (Ok v) P p = p
 on_ok (Err e) P p = tt
 
 -- why a write of a block that is not busy cannot go out
-module _ (size resident tickets made : ℕ) (graph : Known) (contents : List (ℕ × List ℕ)) (seats : List SeatView) (b : ℕ) (seat : SeatView)
-    (at_b : slice_get seats b ≡ Some seat) (idle : is_some seat.block.flight ≡ false) where
+module _ {Slot : Type 0} (i : Inside Slot) (b : ℕ) (seat : SeatView) (at_b : slice_get i.seats.seats b ≡ Some seat) (idle : is_some seat.block.flight ≡ false) where
   abbrev s : State
-  s = state_of size resident tickets made graph contents seats
+  s = state_of i
 
   busy : IsSome (flight_of s b) → ⊥
-  busy = not_busy s seats b seat refl at_b idle
+  busy flies = none_flies (flight_of s b) seat.block.flight (ap (λ (v : BlockState). v.flight) (block_here i.seats.seats b seat at_b)) idle flies
+    where
+      none_flies : (o p : Option Flight) → o ≡ p → is_some p ≡ false → IsSome o → ⊥
+      none_flies o p e f h = cc
 
-  pub at_rest : IsLawful s → NoneFlies graph.heads b
+  pub at_rest : IsLawful s → NoneFlies i.graph.heads b
   at_rest law p h on flies = let f = law.flights_have_changes.kept b p (record { head = h; change = on; flight = flies }) in busy (subst IsSome (sym f.1) refl)
 
-  pub nothing_ready : (HasReady graph.heads b → ⊥) → IsRefusal s (Issue b) fault.NothingReady
-  nothing_ready none = inl (inr (not_there seats b seat at_b, inr (busy, inl (none, refl))))
+  pub nothing_ready : (HasReady i.graph.heads b → ⊥) → IsRefusal s (Issue b) fault.NothingReady
+  nothing_ready none = inl (inr (not_there i.seats.seats b seat at_b, inr (busy, inl (none, refl))))
 
   -- the graph was asked, and has nothing prepared any more
-  module _ (ready : HasReady graph.heads b) (asked : Known) (same : asked ≡ unprepared graph) where
-    pub sending_refused : (f : Fault) → IsFirst (sending_order (state_of size resident tickets made asked contents seats) b) f → IsRefusal s (Issue b) f
+  module _ (ready : HasReady i.graph.heads b) (asked : Known) (same : asked ≡ unprepared i.graph) where
+    pub sending_refused : (f : Fault) → IsFirst (sending_order (state_of (with_graph i asked)) b) f → IsRefusal s (Issue b) f
     sending_refused f first =
         let decides : IsFirst (sending_order s b) f = rw same at first in
-        inl (inr (not_there seats b seat at_b, inr (busy, inr ((λ none. none ready), decides))))
+        inl (inr (not_there i.seats.seats b seat at_b, inr (busy, inr ((λ none. none ready), decides))))
 
-    pub sending_clear : NoneHolds (sending_order (state_of size resident tickets made asked contents seats) b) → NoneHolds (order s (Issue b))
+    pub sending_clear : NoneHolds (sending_order (state_of (with_graph i asked)) b) → NoneHolds (order s (Issue b))
     sending_clear clear =
         let free : NoneHolds (sending_order s b) = rw same at clear in
-        (not_there seats b seat at_b, (busy, ((λ none. none ready), free)))
+        (not_there i.seats.seats b seat at_b, (busy, ((λ none. none ready), free)))

@@ -1,5 +1,5 @@
 -- What a write that goes out leaves: the chosen changes are in flight, and all else stands.
-use Rattle.std.proofs.Common.{◌≡◌, ◌≢◌, ◌+◌, ℕ, Bool, true, false, not, cond, List, [], map, filter, Some, None, is_some, refl, sym, ap, subst, ◌∙◌, inl, inr, slice_set}
+use Rattle.std.proofs.Common.{◌≡◌, ◌≢◌, ◌+◌, ℕ, Bool, true, false, not, cond, List, [], map, filter, Some, None, is_some, refl, sym, ap, subst, ◌∙◌, inl, inr, slice_set, sum_by}
 use Rattle.std.specs.Prelude.{◌==◌, ◌&&◌}
 use Rattle.std.proofs.lemmas.Bool.{cases_Bool, eqb-true}
 use Rattle.std.proofs.lemmas.List.{map-id, map-set, get_or-set_same, get_or-set_other}
@@ -26,8 +26,9 @@ use Rattle.fst_block.specs.BlockView.{BlockView, fold_of}
 use Rattle.fst_block.specs.Choices.{chosen_of, others_of}
 use Rattle.fst_graph.specs.Known.{Known, Launches}
 use Rattle.fst_seat.specs.Names.{numbers_of}
-use Rattle.fst_seat.specs.Seats.{SeatView, flight_view}
+use Rattle.fst_seat.specs.Seats.{SeatView, flight_view, undo_of}
 use Rattle.fst_seat.specs.Writing.{sent as seat_sent_out}
+use Rattle.fst_cache.specs.declared.cache.Cache.TheInside.{Inside}
 use Rattle.fst_cache.specs.Kept.{IsKept, IsKeptSeat, IsSameAt, state_of, block_patch, block_patches, block_view, in_flight}
 use Rattle.fst_cache.proofs.Kept.{one_moved}
 use Rattle.fst_cache.proofs.SameCascade.{filter_mapped, IsStill, still_self, same_moved}
@@ -69,8 +70,11 @@ still_away j p away = record {
   patch = λ contents. refl;
 }
 
-module _ (s : State) (graph : Known) (seats : List SeatView) (b : ℕ) (seat : SeatView) (names : List PatchNo) (S : MaySend s graph seats b seat names)
-    (image : List ℕ) (folded : image ≡ image_of s b (numbers_of names)) where
+module _ {Slot : Type 0} (i : Inside Slot) {b : ℕ} {seat : SeatView} {names : List PatchNo} (S : MaySend i b seat names)
+    {image : List ℕ} (folded : image ≡ image_of (state_of i) b (numbers_of names)) where
+  abbrev s : State
+  s = state_of i
+
   abbrev law : IsLawful s
   law = S.kept.lawful
 
@@ -166,7 +170,7 @@ module _ (s : State) (graph : Known) (seats : List SeatView) (b : ℕ) (seat : S
   sent = seat_sent_out seat (block_view s b) (s.tickets + 1) names image
 
   pub sent_loaded : is_some sent.loaded ≡ is_some seat.loaded
-  sent_loaded = sym (ap (λ o. is_some o) (loaded_is s graph seats b seat names S))
+  sent_loaded = sym (ap (λ o. is_some o) (loaded_is i S))
 
   view_sent : (l : BlockView) → sent.loaded ≡ Some l → l ≡ block_view after b
   view_sent l e = sym (same_some e) ∙ (ap (λ (x : List ℕ). record { base = x; patches = others_of names (block_patches s b) }) base_sent ∙ ap (λ ps. record { base = base_under (committed after b) (flight_of after b); patches = ps }) (sym patches_sent))
@@ -176,7 +180,7 @@ module _ (s : State) (graph : Known) (seats : List SeatView) (b : ℕ) (seat : S
 
       base_sent : fold_of (block_view s b).base (chosen_of names (block_patches s b)) ≡ base_under (committed after b) (flight_of after b)
       base_sent =
-          image_is s graph seats b seat names S
+          image_is i S
           ∙ (sym folded ∙ ap (λ (v : BlockState). base_under v.committed v.flight) (sym block_sent))
 
   seat_sent : IsKeptSeat after b sent
@@ -187,17 +191,17 @@ module _ (s : State) (graph : Known) (seats : List SeatView) (b : ℕ) (seat : S
     patches = λ f e. sym flying_chosen;
   }
 
-  pub kept_sent : (graph' : Known) → graph'.blocks ≡ graph.blocks → IsKept after graph' (slice_set seats b sent)
-  kept_sent graph' many =
-      one_moved seats b seat S.at_b s after graph graph' S.kept sent
-      (step_keeps_lawful s after (Issue b) (Job (s.tickets + 1) b image) law step_sent) refl refl many
-      sent_loaded others_same seat_sent
+  -- the cache after it, with its graph and the undo bytes that are left
+  module _ {graph : Known} (L : Launches i.graph (numbers_of names) graph) (undo : ℕ) where
+    abbrev gone : Inside Slot
+    gone = record i { tickets = i.tickets + 1; undo = undo; graph = graph; seats = record i.seats { seats = slice_set i.seats.seats b sent } }
 
--- the state of the cache's fields after it
-pub state_sent : (size resident tickets made : ℕ) (graph : Known) (contents : List (ℕ × List ℕ)) (seats : List SeatView) (b : ℕ) (seat : SeatView) (names : List PatchNo)
-    (S : MaySend (state_of size resident tickets made graph contents seats) graph seats b seat names)
-    (image : List ℕ) (folded : image ≡ image_of (state_of size resident tickets made graph contents seats) b (numbers_of names)) (graph' : Known) → Launches graph (numbers_of names) graph'
-    → let s = state_of size resident tickets made graph contents seats in
-    state_of size resident (tickets + 1) made graph' contents (slice_set seats b (sent s graph seats b seat names S image folded)) ≡ after s graph seats b seat names S image folded
-state_sent size resident tickets made graph contents seats b seat names S image folded graph' L =
-    rw (L.row, L.numbers, L.groups, map-set, block_is (state_of size resident tickets made graph contents seats) graph seats b seat names S) refl
+    pub state_sent : state_of gone ≡ after
+    state_sent = rw (L.row, L.numbers, L.groups, map-set, block_is i S) refl
+
+    pub kept_sent : undo ≡ sum_by undo_of (slice_set i.seats.seats b sent) → IsKept gone
+    kept_sent undoing =
+        one_moved i gone S.kept b seat S.at_b sent refl refl refl L.blocks
+        (subst IsLawful (sym state_sent) (step_keeps_lawful s after (Issue b) (Job (s.tickets + 1) b image) law step_sent)) undoing sent_loaded
+        (λ j other. subst (λ (t : State). IsSameAt s t j) (sym state_sent) (others_same j other))
+        (subst (λ (t : State). IsKeptSeat t b sent) (sym state_sent) seat_sent)

@@ -10,9 +10,9 @@ use Rattle.fst_types.specs.Bytes.{content_of, changes_at, base_under}
 use Rattle.fst_types.specs.Counts.{is_dirty, IsDirty}
 use Rattle.fst_types.specs.Facts.{IsLawful}
 use Rattle.fst_block.specs.BlockView.{BlockPatch, BlockView}
-use Rattle.fst_graph.specs.Known.{Known}
 use Rattle.fst_cache.specs.Views.{CacheView, home_of}
 use Rattle.fst_seat.specs.Seats.{SeatView, blocks, undo_of}
+use Rattle.fst_cache.specs.declared.cache.Cache.TheInside.{Inside}
 
 -- the grade of a change, and soft for other kinds
 abbrev pub grade_in : Kind → Grade
@@ -38,28 +38,28 @@ block_view s b = record { base = base_under (committed s b) (flight_of s b); pat
 abbrev pub in_flight : State → ℕ → List ℕ
 in_flight s b = map (λ p. p.number) (changes_at s place.Flight b)
 
--- the state of a cache with this graph, these bytes of its changes, and these blocks
-abbrev pub state_of : (size resident tickets made : ℕ) → Known → List (ℕ × List ℕ) → List SeatView → State
-state_of size resident tickets made graph contents seats = record {
-  size = size;
-  resident = resident;
-  numbers = graph.numbers;
-  tickets = tickets;
-  made = made;
-  heads = graph.heads;
-  contents = contents;
-  blocks = blocks seats;
-  groups = graph.groups;
+-- the state of a cache
+abbrev pub state_of : {Slot : Type 0} → Inside Slot → State
+state_of i = record {
+  size = i.size;
+  resident = i.seats.most;
+  numbers = i.graph.numbers;
+  tickets = i.tickets;
+  made = i.made;
+  heads = i.graph.heads;
+  contents = i.contents.items;
+  blocks = blocks i.seats.seats;
+  groups = i.graph.groups;
 }
 
--- what stands beside the state
-abbrev pub view_of : State → List SeatView → CacheView
-view_of s seats = record {
-  state = s;
-  homes = map (λ seat. seat.home) seats;
-  faults = map (λ seat. seat.faults) seats;
-  resident = map (λ seat. is_some seat.loaded) seats;
-  back = map (λ seat. seat.back) seats;
+-- and what stands beside it
+abbrev pub view_of : {Slot : Type 0} → Inside Slot → CacheView
+view_of i = record {
+  state = state_of i;
+  homes = map (λ seat. seat.home) i.seats.seats;
+  faults = map (λ seat. seat.faults) i.seats.seats;
+  resident = map (λ seat. is_some seat.loaded) i.seats.seats;
+  back = map (λ seat. seat.back) i.seats.seats;
 }
 
 -- the seat of block b agrees with the state
@@ -69,19 +69,15 @@ pub record IsKeptSeat (s : State) (b : ℕ) (seat : SeatView) : Type 0 where
   pub home : seat.home ≡ home_of seat.block
   pub patches : (f : Flight) → seat.block.flight ≡ Some f → seat.patches ≡ in_flight s b
 
--- each seat does, the state is lawful, and no more blocks are in memory than may be
-pub record IsKept (s : State) (graph : Known) (seats : List SeatView) : Type 0 where
-  pub lawful : IsLawful s
-  pub few : length seats ≤ 4096
-  pub small : s.size ≤ 4096
-  pub graph_blocks : graph.blocks ≡ length seats
-  pub loaded : count_by (λ seat. is_some seat.loaded) seats ≤ s.resident
-  pub seat : (b : ℕ) (seat : SeatView) → slice_get seats b ≡ Some seat → IsKeptSeat s b seat
-
--- that, and the undo bytes of all blocks are as many as are counted
-pub record IsCounted (undo : ℕ) (s : State) (graph : Known) (seats : List SeatView) : Type 0 where
-  pub kept : IsKept s graph seats
-  pub undoing : undo ≡ sum_by undo_of seats
+-- each seat does, the state is lawful, no more blocks are in memory than may be, and the undo bytes of all blocks are as many as are counted
+pub record IsKept {Slot : Type 0} (i : Inside Slot) : Type 0 where
+  pub lawful : IsLawful (state_of i)
+  pub few : length i.seats.seats ≤ 4096
+  pub small : i.size ≤ 4096
+  pub graph_blocks : i.graph.blocks ≡ length i.seats.seats
+  pub loaded : count_by (λ seat. is_some seat.loaded) i.seats.seats ≤ i.seats.most
+  pub seat : (b : ℕ) (seat : SeatView) → slice_get i.seats.seats b ≡ Some seat → IsKeptSeat (state_of i) b seat
+  pub undoing : i.undo ≡ sum_by undo_of i.seats.seats
 
 -- block b, its changes and whether it is dirty are in both states the same
 pub record IsSameAt (s t : State) (b : ℕ) : Type 0 where

@@ -34,13 +34,14 @@ pub struct Cache<S: BlockSlot> {
 
 impl<S: BlockSlot> Model for Cache<S> {
     ghost use Rattle.fst_cache.specs.Views.{CacheView};
-    ghost use Rattle.fst_cache.specs.Kept.{IsCounted, state_of, view_of};
 
     ghost Value = { CacheView };
 
-    ghost view = { λ a. view_of (state_of a.size a.seats.most a.tickets a.made a.graph a.contents.items a.seats.seats) a.seats.seats };
+    ghost use Rattle.fst_cache.specs.Kept.{IsKept, view_of};
 
-    ghost invariant = { λ a. IsCounted a.undo (state_of a.size a.seats.most a.tickets a.made a.graph a.contents.items a.seats.seats) a.graph a.seats.seats };
+    ghost view = { view_of };
+
+    ghost invariant = { IsKept };
 }
 
 // Written by hand, so that where a cache is dropped this one function is called: what is derived is a drop of each field

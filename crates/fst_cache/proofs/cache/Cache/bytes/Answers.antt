@@ -1,6 +1,5 @@
-use Rattle.std.proofs.Common.{◌≡◌, Some, is_some, false, refl, sym, ◌∙◌, slice_get, ◌<◌, arith, length}
+use Rattle.std.proofs.Common.{◌≡◌, Some, is_some, false, sym, ◌∙◌, slice_get, ◌<◌, arith, length}
 use Rattle.std.proofs.lemmas.List.{length-map}
-use Rattle.fst_cache.specs.Kept.{state_of}
 use Rattle.fst_seat.specs.Seats.{SeatView}
 use Rattle.fst_seat.proofs.Seated.{listed}
 use Rattle.fst_cache.proofs.ResideSeats.{bytes_there}
@@ -8,11 +7,10 @@ use Rattle.fst_cache.proofs.cache.Cache.bytes.Goals as goal
 
 pub returns : goal.returns
 returns g c =
-    let i = c.self.inside in
-    let seated : slice_get i.seats.seats c.args.block.0 ≡ Some c.seat.result.now =
+    let seated : slice_get c.self.inside.seats.seats c.args.block.0 ≡ Some c.seat.result.now =
     c.seat.ensures.at in
-    let there = sym (listed i.seats.seats c.args.block.0 _ seated (λ (t : SeatView). is_some t.loaded) false) ∙ (rw (← c.self.view_is) at c.requires.resident) in
-    rw (← c.self.view_is) (bytes_there (state_of i.size i.seats.most i.tickets i.made i.graph i.contents.items i.seats.seats) i.graph i.seats.seats c.self.invariant.kept refl _ _ seated c.bytes.result.now there c.bytes.ensures)
+    let there = sym (listed c.self.inside.seats.seats c.args.block.0 _ seated (λ (t : SeatView). is_some t.loaded) false) ∙ (rw (← c.self.view_is) at c.requires.resident) in
+    rw (← c.self.view_is) (bytes_there c.self.inside c.self.invariant _ _ seated c.bytes.result.now there c.bytes.ensures)
 
 pub seat-requires : goal.seat-requires
 seat-requires g c =

@@ -3,6 +3,7 @@ use Rattle.std.proofs.Common.{◌≡◌, ◌∙◌, ◌↔◌, Some, IsTrue, sli
 use Rattle.std.proofs.lemmas.{Bool.false≢true}
 use Rattle.fst_types.specs.Writable.{HasReady}
 use Rattle.fst_cache.specs.Kept.{state_of}
+use Rattle.fst_cache.proofs.Kept.{with_graph}
 use Rattle.fst_cache.proofs.SendRefused.{at_rest, busy_refused, nothing_ready, sending_refused, sending_clear, on_ok, refused_memory}
 use Rattle.fst_cache.proofs.cache.Cache.choice.Goals.{After-has_ready}
 use Rattle.fst_cache.proofs.cache.Cache.choice.Goals as goal
@@ -10,7 +11,7 @@ use Rattle.fst_cache.proofs.SameRefused.{kept_unprepared}
 
 -- the block's seat
 seated : (g : _) (c : After-has_ready g) → slice_get c.self.inside.seats.seats c.args.block.0 ≡ Some c.seat.result.now
-seated g c = let i = c.self.inside in c.seat.ensures.at
+seated g c = c.seat.ensures.at
 
 -- nothing of the block is in flight
 idle : (g : _) (c : After-has_ready g) → is_some c.seat.result.now.block.flight ≡ false
@@ -18,40 +19,23 @@ idle g c = sym c.is_busy.ensures ∙ c.if-is_busy.false
 
 -- whether something may be written is told
 told : (g : _) (c : After-has_ready g) → IsTrue c.has_ready.result ↔ HasReady c.self.inside.graph.heads c.args.block.0
-told g c =
-    let i = c.self.inside in
-    c.has_ready.ensures (at_rest i.size i.seats.most i.tickets i.made i.graph i.contents.items i.seats.seats c.args.block.0 c.seat.result.now (seated g c) (idle g c) c.self.invariant.kept.lawful)
+told g c = c.has_ready.ensures (at_rest c.self.inside c.args.block.0 c.seat.result.now (seated g c) (idle g c) c.self.invariant.lawful)
 
 pub invariant_of-self : goal.invariant_of-self
-invariant_of-self g c =
-    let i = c.self.inside in
-    record {
-      kept = kept_unprepared i.size i.seats.most i.tickets i.made i.graph c.hard_held-held.new.self i.contents.items i.seats.seats c.hard_held-held.ensures.same c.self.invariant.kept;
-      undoing = c.self.invariant.undoing;
-    }
+invariant_of-self g c = kept_unprepared c.self.inside c.hard_held-held.ensures.same c.self.invariant
 
 pub invariant_of-self-in-Some : goal.invariant_of-self-in-Some
-invariant_of-self-in-Some g c =
-    let i = c.self.inside in
-    record {
-      kept = kept_unprepared i.size i.seats.most i.tickets i.made i.graph c.hard_held-held.new.self i.contents.items i.seats.seats c.hard_held-held.ensures.same c.self.invariant.kept;
-      undoing = c.self.invariant.undoing;
-    }
+invariant_of-self-in-Some g c = kept_unprepared c.self.inside c.hard_held-held.ensures.same c.self.invariant
 
 pub invariant_of-self-in-None : goal.invariant_of-self-in-None
 invariant_of-self-in-None g c =
-    let i = c.self.inside in
-    record {
-      kept = kept_unprepared i.size i.seats.most i.tickets i.made c.hard_held-held.new.self c.chosen.new.self i.contents.items i.seats.seats c.chosen.ensures.same
-          (kept_unprepared i.size i.seats.most i.tickets i.made i.graph c.hard_held-held.new.self i.contents.items i.seats.seats c.hard_held-held.ensures.same c.self.invariant.kept);
-      undoing = c.self.invariant.undoing;
-    }
+    kept_unprepared (with_graph c.self.inside c.hard_held-held.new.self) c.chosen.ensures.same (kept_unprepared c.self.inside c.hard_held-held.ensures.same c.self.invariant)
 
 pub returns-then-not-has_ready-clause-refused : goal.returns-then-not-has_ready-clause-refused
 returns-then-not-has_ready-clause-refused g c =
     let i = c.self.inside in
     let before = (goal.at.returns-then-not-has_ready-clause-refused g c).After-has_ready in
-    rw (← c.self.view_is) (nothing_ready i.size i.seats.most i.tickets i.made i.graph i.contents.items i.seats.seats c.args.block.0 c.seat.result.now (seated g before) (idle g before)
+    rw (← c.self.view_is) (nothing_ready i c.args.block.0 c.seat.result.now (seated g before) (idle g before)
     (λ ready. false≢true (sym c.if-not-has_ready.true ∙ (told g before).1 ready)))
 
 pub returns-in-Some-clause-refused : goal.returns-in-Some-clause-refused
@@ -59,7 +43,7 @@ returns-in-Some-clause-refused g c =
     let i = c.self.inside in
     let before = (goal.at.returns-in-Some-clause-refused g c).After-has_ready in
     rw (← c.self.view_is)
-    (sending_refused i.size i.seats.most i.tickets i.made i.graph i.contents.items i.seats.seats c.args.block.0 c.seat.result.now (seated g before) (idle g before) ((told g before).0 c.if-not-has_ready.false)
+    (sending_refused i c.args.block.0 c.seat.result.now (seated g before) (idle g before) ((told g before).0 c.if-not-has_ready.false)
     c.hard_held-held.new.self c.hard_held-held.ensures.same c.in-Some.fault c.in-Some.ensures)
 
 pub returns-in-None-clause-clear : goal.returns-in-None-clause-clear
@@ -68,7 +52,7 @@ returns-in-None-clause-clear g c =
     let before = (goal.at.returns-in-None-clause-clear g c).After-has_ready in
     rw (← c.self.view_is)
     (on_ok c.chosen.result _
-    (sending_clear i.size i.seats.most i.tickets i.made i.graph i.contents.items i.seats.seats c.args.block.0 c.seat.result.now (seated g before) (idle g before) ((told g before).0 c.if-not-has_ready.false)
+    (sending_clear i c.args.block.0 c.seat.result.now (seated g before) (idle g before) ((told g before).0 c.if-not-has_ready.false)
     c.hard_held-held.new.self c.hard_held-held.ensures.same c.in-None.ensures))
 
 pub returns-in-None-clause-chosen : goal.returns-in-None-clause-chosen
@@ -79,8 +63,8 @@ returns-in-None-clause-refused g c =
     let i = c.self.inside in
     let before = (goal.at.returns-in-None-clause-refused g c).After-has_ready in
     rw (← c.self.view_is)
-    (refused_memory (state_of i.size i.seats.most i.tickets i.made i.graph i.contents.items i.seats.seats) c.args.block.0 c.chosen.result
-    (sending_clear i.size i.seats.most i.tickets i.made i.graph i.contents.items i.seats.seats c.args.block.0 c.seat.result.now (seated g before) (idle g before) ((told g before).0 c.if-not-has_ready.false)
+    (refused_memory (state_of i) c.args.block.0 c.chosen.result
+    (sending_clear i c.args.block.0 c.seat.result.now (seated g before) (idle g before) ((told g before).0 c.if-not-has_ready.false)
     c.hard_held-held.new.self c.hard_held-held.ensures.same c.in-None.ensures)
     (rw c.hard_held-held.ensures.same at c.chosen.ensures.refused))
 
@@ -114,4 +98,4 @@ pub returns-then-is_busy-clause-refused : goal.returns-then-is_busy-clause-refus
 returns-then-is_busy-clause-refused g c =
     let i = c.self.inside in
     let seated : slice_get i.seats.seats c.args.block.0 ≡ Some c.seat.result.now = c.seat.ensures.at in
-    rw (← c.self.view_is) (busy_refused i.size i.seats.most i.tickets i.made i.graph i.contents.items i.seats.seats c.args.block.0 c.seat.result.now seated (sym c.is_busy.ensures ∙ c.if-is_busy.true))
+    rw (← c.self.view_is) (busy_refused i c.args.block.0 c.seat.result.now seated (sym c.is_busy.ensures ∙ c.if-is_busy.true))

@@ -12,12 +12,7 @@ returns-then-block-len-clause-step g c =
     refused (inl (inl (past, refl)))
 
 pub invariant_of-self : goal.invariant_of-self
-invariant_of-self g c =
-    let i = c.self.inside in
-    record {
-      kept = kept_unprepared i.size i.seats.most i.tickets i.made i.graph c.chosen.new.self i.contents.items i.seats.seats c.chosen.ensures.same c.self.invariant.kept;
-      undoing = c.self.invariant.undoing;
-    }
+invariant_of-self g c = kept_unprepared c.self.inside c.chosen.ensures.same c.self.invariant
 
 pub returns-clause-step : goal.returns-clause-step
 returns-clause-step g c =

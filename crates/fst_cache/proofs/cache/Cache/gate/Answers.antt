@@ -13,30 +13,17 @@ pub returns-then-made-eq18446744073709551615-clause-step :
 returns-then-made-eq18446744073709551615-clause-step g c = refused (inl (inl (omega arith, refl)))
 
 pub invariant_of-self : goal.invariant_of-self
-invariant_of-self g c =
-    let i = c.self.inside in
-    record {
-      kept = kept_unprepared i.size i.seats.most i.tickets i.made i.graph c.add_gate.new.self i.contents.items i.seats.seats c.in_err-no.ensures.same c.self.invariant.kept;
-      undoing = c.self.invariant.undoing;
-    }
+invariant_of-self g c = kept_unprepared c.self.inside c.in_err-no.ensures.same c.self.invariant
 
 pub returns-in_err-no-clause-step : goal.returns-in_err-no-clause-step
 returns-in_err-no-clause-step g c =
-    let i = c.self.inside in
     let p = err_from_is_err_and c.from_residual.result c.from_residual.ensures.1 in
     let free : max_share ≤ c.args.share.now → ⊥ = λ h. omega arith in
-    rw (p.1, ← c.self.view_is) (step_unprepared i.size i.seats.most i.tickets i.made i.graph c.add_gate.new.self i.contents.items i.seats.seats c.in_err-no.ensures.same
-    (MakeGate c.args.share.now) p.0 (rw p.2 (refuses_past _ _ _ (room_order i.graph.heads i.graph.numbers) free c.in_err-no.ensures.refused)))
+    rw (p.1, ← c.self.view_is) (step_unprepared c.self.inside c.in_err-no.ensures.same
+    (MakeGate c.args.share.now) p.0 (rw p.2 (refuses_past _ _ _ (room_order c.self.inside.graph.heads c.self.inside.graph.numbers) free c.in_err-no.ensures.refused)))
 
 pub invariant_of-self-2 : goal.invariant_of-self-2
-invariant_of-self-2 g c =
-    let i = c.self.inside in
-    record {
-      kept = kept_gate i.size i.seats.most i.tickets i.made i.graph c.add_gate.new.self i.contents.items i.seats.seats c.self.invariant.kept c.args.share.now _ (λ h. omega arith) c.in_ok-no.ensures.ok;
-      undoing = c.self.invariant.undoing;
-    }
+invariant_of-self-2 g c = kept_gate c.self.inside c.self.invariant c.args.share.now (λ h. omega arith) c.in_ok-no.ensures.ok
 
 pub returns-clause-step : goal.returns-clause-step
-returns-clause-step g c =
-    let i = c.self.inside in
-    rw (← c.self.view_is) (step_gate i.size i.seats.most i.tickets i.made i.graph c.add_gate.new.self i.contents.items i.seats.seats c.self.invariant.kept c.args.share.now _ (λ h. omega arith) c.in_ok-no.ensures.ok)
+returns-clause-step g c = rw (← c.self.view_is) (step_gate c.self.inside c.self.invariant c.args.share.now (λ h. omega arith) c.in_ok-no.ensures.ok)

@@ -1,36 +1,28 @@
-use Rattle.std.proofs.Common.{◌≡◌, ◌≤◌, ◌<◌, ◌+◌, ℕ, List, length, map, refl, ap, inl, inr, arith, ◌∙◌, sym}
+use Rattle.std.proofs.Common.{◌≡◌, ◌≤◌, ◌<◌, ◌+◌, length, refl, ap, inl, inr, arith, sym}
 use Rattle.std.proofs.lemmas.List.{length-map, set-get_or}
 use Rattle.fst_types.specs.Order.{group_patch_order}
-use Rattle.fst_types.specs.State.{State}
 use Rattle.fst_types.specs.Step.{refused}
 use Rattle.fst_graph.specs.Known.{Known}
 use Rattle.fst_graph.specs.Grouping.{AddsMember}
-use Rattle.fst_block.specs.BlockView.{BlockPatch}
-use Rattle.fst_seat.specs.Seats.{SeatView}
-use Rattle.fst_seat.specs.Residing.{MayLoad, Puts}
-use Rattle.fst_seat.proofs.Undo.{undo_load, undo_puts}
+use Rattle.fst_seat.specs.Residing.{MayLoad}
 use Rattle.fst_seat.proofs.Putting.{not_failed}
-use Rattle.fst_cache.specs.Kept.{state_of, span_of}
+use Rattle.fst_cache.specs.Kept.{state_of}
 use Rattle.fst_cache.specs.Making.{span_order, MayHold}
 use Rattle.fst_cache.proofs.SameRefused.{kept_unprepared, step_unprepared}
 use Rattle.fst_cache.proofs.ResideSeats.{room_for}
-use Rattle.fst_cache.proofs.ResideLoading.{Loaded, within_of}
+use Rattle.fst_cache.proofs.ResideLoading.{Loaded, load_keeps, within_of}
 use Rattle.fst_cache.proofs.MakeRefused.{first_append, member_refused_by_graph}
-use Rattle.fst_cache.proofs.MakeReady.{as_long, newest, kept_ready, loaded}
+use Rattle.fst_cache.proofs.MakeReady.{as_long, newest, kept_ready}
+use Rattle.fst_cache.proofs.MakeStep.{IsPut}
 use Rattle.fst_cache.proofs.MakeBeside.{faults_made, homes_made, back_made}
-use Rattle.fst_cache.proofs.GroupJoining.{member_prepared}
-use Rattle.fst_cache.proofs.GroupWhole.{step_not_joined, step_joined, kept_joined}
+use Rattle.fst_cache.proofs.GroupWhole.{step_not_joined, step_joined, kept_joined, member_prepared}
 use Rattle.fst_cache.proofs.ResideUndo.{undo_is, undo_short}
-use Rattle.fst_cache.proofs.ResideShowing.{load_fault, told}
+use Rattle.fst_cache.proofs.ResideShowing.{faults_of, load_fault, told}
 use Rattle.fst_cache.proofs.cache.Cache.group_patch.Goals.{In_default, In-Err-put, After-undo_bytes}
 use Rattle.fst_cache.proofs.cache.Cache.group_patch.Goals as goal
 
--- the state before the call
-abbrev before : (g : _) → In_default g → State
-before g c = state_of c.self.inside.size c.self.inside.seats.most c.self.inside.tickets c.self.inside.made c.self.inside.graph c.self.inside.contents.items c.self.inside.seats.seats
-
 -- no rule that looks at the block alone refuses
-may_hold : (g : _) (c : In_default g) → MayHold (before g c) c.args.share.now c.args.block.0 c.args.at c.args.bytes.now
+may_hold : (g : _) (c : In_default g) → MayHold (state_of c.self.inside) c.args.share.now c.args.block.0 c.args.at c.args.bytes.now
 may_hold g c = rw (← c.self.view_is) at c.in_default.ensures
 
 within : (g : _) (c : In_default g) → c.args.block.0 < length c.self.inside.seats.seats
@@ -39,31 +31,23 @@ within g c = within_of (length c.self.inside.seats.seats) c.args.block.0 (λ pas
 fits : (g : _) (c : In_default g) → c.self.inside.size < c.args.at + length c.args.bytes.now → ⊥
 fits g c past = (may_hold g c).fits (inr past)
 
-abbrev faults_of : List SeatView → List ℕ
-faults_of seats = map (λ (t : SeatView). t.faults) seats
-
 -- where the patch was refused: the block was in memory, or may have been read
 loads : (g : _) (c : In-Err-put g) → MayLoad c.self.inside.seats.most c.self.inside.seats.seats c.args.block.0 c.put.new.self.seats
 loads g c = c.in-Err-put.ensures.refused refl
 
-still : (g : _) (c : In-Err-put g) → Loaded (state_of c.self.inside.size c.self.inside.seats.most c.self.inside.tickets c.self.inside.made c.self.inside.graph c.self.inside.contents.items c.self.inside.seats.seats) c.self.inside.graph c.self.inside.seats.seats c.args.block.0 c.put.new.self.seats
-still g c = loaded c.self.inside.size c.self.inside.seats.most c.self.inside.tickets c.self.inside.made c.self.inside.graph c.group_room.new.self _ c.in-Ok.ensures.prepared c.self.inside.contents.items c.self.inside.seats.seats _ c.self.invariant.kept c.args.block.0 (loads g c)
+still : (g : _) (c : In-Err-put g) → Loaded c.self.inside c.args.block.0 c.put.new.self.seats
+still g c = load_keeps c.self.inside c.self.invariant c.args.block.0 c.put.new.self.seats (loads g c)
 
 -- where it was put
-abbrev patch : (g : _) → After-undo_bytes g → BlockPatch
-patch g c = record { number = c.in-Ok.made.0.0; span = span_of c.args.at (length c.args.bytes.now); grade = c.in-Ok.made.1; bytes = c.args.bytes.now }
-
-puts : (g : _) (c : After-undo_bytes g) → Puts c.self.inside.seats.most c.self.inside.seats.seats c.args.block.0 (patch g c) c.put.new.self.seats
-puts g c = c.in_default-put.ensures.put
+put : (g : _) (c : After-undo_bytes g) → IsPut c.self.inside c.args.block.0 c.args.at c.in-Ok.made.0.0 c.args.bytes.now c.in-Ok.made.1 (c.self.inside.undo + c.undo_bytes.result) c.with-self-inside.result c.put.new.self
+put g c = record { undone = ap (λ n. c.self.inside.undo + n) c.undo_bytes.ensures.value; added = c.with-self-inside.ensures; most = c.put.ensures.most; puts = c.in_default-put.ensures.put }
 
 quiet : (g : _) (c : After-undo_bytes g) → faults_of c.put.new.self.seats ≡ faults_of c.self.inside.seats.seats
 quiet g c = c.in_default-put.ensures.no_fault (λ e. not_failed e)
 
 -- the graph adds what it prepared
 adds : (g : _) (c : After-undo_bytes g) → AddsMember c.group_room.new.self c.args.group.0 c.args.block.0 c.args.at (length c.args.bytes.now) c.in-Ok.made.0.0 c.in-Ok.made.1 c.group_patch.new.self
-adds g c =
-    member_prepared c.group_room.new.self c.args.group.0 c.args.block.0 c.args.at (length c.args.bytes.now) c.in-Ok.made.0.0 c.in-Ok.made.1 c.group_patch.new.self c.group_patch.result
-    (c.group_patch.ensures.prepared c.in-Ok.made.0.0 c.in-Ok.made.1 (ap (λ (k : Known). k.prepared) c.in-Ok.ensures.prepared)) c.group_patch.ensures.ok
+adds g c = member_prepared c.group_patch.result (c.group_patch.ensures.prepared c.in-Ok.made.0.0 c.in-Ok.made.1 (ap (λ (k : Known). k.prepared) c.in-Ok.ensures.prepared)) c.group_patch.ensures.ok
 
 pub returns-in-Some-clause-step : goal.returns-in-Some-clause-step
 returns-in-Some-clause-step g c = refused (inl (first_append (span_order c.args.self.now.state c.args.share.now c.args.block.0 c.args.at c.args.bytes.now) (group_patch_order c.args.self.now.state.heads c.args.self.now.state.numbers c.args.self.now.state.groups c.args.group.0 c.args.block.0 c.args.at (length c.args.bytes.now)) c.in-Some.fault c.in-Some.ensures))
@@ -112,7 +96,7 @@ pub returns-clause-share : goal.returns-clause-share
 returns-clause-share g c = c.rise.ensures
 
 pub group_room-requires : goal.group_room-requires
-group_room-requires g c = rw c.self.invariant.kept.graph_blocks (within g (goal.at.group_room-requires g c).In_default)
+group_room-requires g c = rw c.self.invariant.graph_blocks (within g (goal.at.group_room-requires g c).In_default)
 
 pub put-requires-clause-within : goal.put-requires-clause-within
 put-requires-clause-within g c = within g (goal.at.put-requires-clause-within g c).In_default
@@ -121,14 +105,14 @@ pub put-requires-clause-same_length : goal.put-requires-clause-same_length
 put-requires-clause-same_length g c = refl
 
 pub group_patch-requires : goal.group_patch-requires
-group_patch-requires g c = rw (c.group_room.ensures.blocks, c.self.invariant.kept.graph_blocks) (within g (goal.at.group_patch-requires g c).In_default)
+group_patch-requires g c = rw (c.group_room.ensures.blocks, c.self.invariant.graph_blocks) (within g (goal.at.group_patch-requires g c).In_default)
 
 pub unreachable-requires : goal.unreachable-requires
 unreachable-requires g c = c.in_default-group_patch.ensures.prepared c.in-Ok.made.0.0 c.in-Ok.made.1 (ap (λ (k : Known). k.prepared) c.in-Ok.ensures.prepared)
 
 pub overflow_add-self-2 : goal.overflow_add-self-2
 overflow_add-self-2 g c =
-    let limits = c.self.invariant.kept.lawful.limits in
+    let limits = c.self.invariant.lawful.limits in
     let made = limits.made in
     let numbers = limits.numbers in
     omega (arith, made, numbers)
@@ -139,52 +123,46 @@ rise-requires g c = within_of _ _ (may_hold g (goal.at.rise-requires g c).In_def
 pub overflow_cast-span : goal.overflow_cast-span
 overflow_cast-span g c =
     let past = fits g (goal.at.overflow_cast-span g c).In_default in
-    let small : c.self.inside.size ≤ 4096 = c.self.invariant.kept.small in
+    let small : c.self.inside.size ≤ 4096 = c.self.invariant.small in
     omega (arith, past, small)
 
 pub invariant_of-self : goal.invariant_of-self
-invariant_of-self g c = record {
-  kept = kept_unprepared c.self.inside.size c.self.inside.seats.most c.self.inside.tickets c.self.inside.made c.self.inside.graph c.group_room.new.self c.self.inside.contents.items c.self.inside.seats.seats c.in-Err.ensures.same c.self.invariant.kept;
-  undoing = c.self.invariant.undoing;
-}
+invariant_of-self g c = kept_unprepared c.self.inside c.in-Err.ensures.same c.self.invariant
 
 pub returns-in-Err-clause-step : goal.returns-in-Err-clause-step
 returns-in-Err-clause-step g c =
     let at = (goal.at.returns-in-Err-clause-step g c).In_default in
     rw (← c.self.view_is)
-    (step_unprepared c.self.inside.size c.self.inside.seats.most c.self.inside.tickets c.self.inside.made c.self.inside.graph c.group_room.new.self c.self.inside.contents.items c.self.inside.seats.seats c.in-Err.ensures.same _ c.in-Err.fault
-    (member_refused_by_graph (before g at) c.args.share.now c.args.block.0 c.args.at c.args.bytes.now (may_hold g at) c.args.group.0 _ c.in-Err.fault c.in-Err.ensures.refused))
+    (step_unprepared c.self.inside c.in-Err.ensures.same _ c.in-Err.fault
+    (member_refused_by_graph (state_of c.self.inside) c.args.share.now c.args.block.0 c.args.at c.args.bytes.now (may_hold g at) c.args.group.0 _ c.in-Err.fault c.in-Err.ensures.refused))
 
 pub put-requires-clause-room : goal.put-requires-clause-room
 put-requires-clause-room g c =
     let at = (goal.at.put-requires-clause-room g c).In_default in
-    λ seat at_b away. room_for (before g at) c.self.inside.graph c.self.inside.seats.seats c.self.invariant.kept refl c.args.block.0 seat at_b (may_hold g at).room away
+    λ seat at_b away. room_for c.self.inside c.self.invariant c.args.block.0 seat at_b (may_hold g at).room away
 
 pub put-requires-clause-inside : goal.put-requires-clause-inside
 put-requires-clause-inside g c =
     let at = (goal.at.put-requires-clause-inside g c).In_default in
     let past = fits g at in
-    λ seat at_b. let long : length seat.block.committed ≡ c.self.inside.size = as_long (before g at) c.self.inside.graph c.self.inside.seats.seats c.self.invariant.kept refl c.args.block.0 seat at_b in omega (arith, past, long)
+    λ seat at_b. let long : length seat.block.committed ≡ c.self.inside.size = as_long c.self.inside c.self.invariant c.args.block.0 seat at_b in omega (arith, past, long)
 
 pub put-requires-clause-newest : goal.put-requires-clause-newest
 put-requires-clause-newest g c =
     let at = (goal.at.put-requires-clause-newest g c).In_default in
-    λ seat at_b. newest (before g at) c.self.inside.graph c.self.inside.seats.seats c.self.invariant.kept refl c.args.block.0 seat at_b c.in-Ok.made.0.0 c.in-Ok.ensures.next
+    λ seat at_b. newest c.self.inside c.self.invariant c.args.block.0 seat at_b c.in-Ok.made.0.0 c.in-Ok.ensures.next
 
 pub invariant_of-self-in-Err-put : goal.invariant_of-self-in-Err-put
 invariant_of-self-in-Err-put g c =
     let at = (goal.at.invariant_of-self-in-Err-put g c).In-Err-put in
-    rw c.put.ensures.most (record {
-      kept = kept_ready c.self.inside.size c.self.inside.seats.most c.self.inside.tickets c.self.inside.made c.self.inside.graph c.group_room.new.self _ c.in-Ok.ensures.prepared c.self.inside.contents.items c.self.inside.seats.seats _ c.self.invariant.kept c.args.block.0 (loads g at);
-      undoing = c.self.invariant.undoing ∙ sym (undo_load c.self.inside.seats.most c.self.inside.seats.seats c.args.block.0 _ (loads g at));
-    })
+    kept_ready c.self.inside c.self.invariant c.in-Ok.ensures.prepared c.put.new.self c.put.ensures.most (loads g at)
 
 pub returns-in-Err-put-clause-step : goal.returns-in-Err-put-clause-step
 returns-in-Err-put-clause-step g c =
     let at = (goal.at.returns-in-Err-put-clause-step g c).In-Err-put in
     let may = may_hold g (goal.at.returns-in-Err-put-clause-step g c).In_default in
-    rw (← c.self.view_is, c.put.ensures.most)
-    (step_not_joined c.self.inside.size c.self.inside.seats.most c.self.inside.tickets c.self.inside.made c.self.inside.graph c.group_room.new.self _ c.in-Ok.ensures.prepared c.self.inside.contents.items c.self.inside.seats.seats _ c.self.invariant.kept c.args.share.now c.args.group.0 c.args.block.0 c.args.at c.args.bytes.now (loads g at) may c.in-Ok.ensures.clear c.in-Err-put.fault
+    rw (← c.self.view_is)
+    (step_not_joined c.self.inside c.self.invariant c.in-Ok.ensures.prepared c.args.share.now c.args.group.0 c.args.block.0 c.args.at c.args.bytes.now may c.put.new.self c.put.ensures.most (loads g at) c.in-Ok.ensures.clear c.in-Err-put.fault
     (load_fault _ c.in-Err-put.fault _ refl c.in-Err-put.ensures.kinds c.in-Err-put.ensures.device))
 
 pub returns-in-Err-put-clause-faults : goal.returns-in-Err-put-clause-faults
@@ -204,41 +182,30 @@ returns-in-Err-put-clause-no_fault g c = rw (← c.self.view_is) (λ fine. c.in-
 
 pub overflow_add-self : goal.overflow_add-self
 overflow_add-self g c =
-    let s = before g (goal.at.overflow_add-self g c).In_default in
-    let same = undo_is s c.self.inside.graph c.self.inside.seats.seats c.self.invariant.kept refl in
-    let short = undo_short s c.self.inside.graph c.self.inside.seats.seats c.self.invariant.kept refl in
+    let same = undo_is c.self.inside c.self.invariant in
+    let short = undo_short c.self.inside c.self.invariant in
     omega (arith, same, short, c.undo_bytes.ensures.within, c.self.invariant.undoing)
 
 pub invariant_of-self-2 : goal.invariant_of-self-2
 invariant_of-self-2 g c =
     let at = (goal.at.invariant_of-self-2 g c).After-undo_bytes in
     let may = may_hold g (goal.at.invariant_of-self-2 g c).In_default in
-    rw c.put.ensures.most (record {
-      kept = rw c.with-self-inside.ensures (kept_joined c.self.inside.size c.self.inside.seats.most c.self.inside.tickets c.self.inside.made c.self.inside.graph c.group_room.new.self _ c.in-Ok.ensures.prepared c.self.inside.contents.items c.self.inside.seats.seats _ c.self.invariant.kept c.args.share.now c.args.group.0 c.args.block.0 c.args.at c.args.bytes.now c.in-Ok.made.0.0 c.in-Ok.made.1 may (puts g at) c.group_patch.new.self (adds g at));
-      undoing = let r = undo_puts c.self.inside.seats.most c.self.inside.seats.seats c.args.block.0 _ _ (puts g at) in omega (arith, r, c.undo_bytes.ensures.value, c.self.invariant.undoing);
-    })
+    kept_joined c.self.inside c.self.invariant c.in-Ok.ensures.prepared c.args.share.now c.args.group.0 c.args.block.0 c.args.at c.args.bytes.now may (put g at) (adds g at)
 
 pub returns-clause-step : goal.returns-clause-step
 returns-clause-step g c =
     let at = (goal.at.returns-clause-step g c).After-undo_bytes in
     let may = may_hold g (goal.at.returns-clause-step g c).In_default in
-    rw (← c.self.view_is, c.put.ensures.most, c.with-self-inside.ensures)
-    (step_joined c.self.inside.size c.self.inside.seats.most c.self.inside.tickets c.self.inside.made c.self.inside.graph c.group_room.new.self _ c.in-Ok.ensures.prepared c.self.inside.contents.items c.self.inside.seats.seats _ c.self.invariant.kept c.args.share.now c.args.group.0 c.args.block.0 c.args.at c.args.bytes.now c.in-Ok.made.0.0 c.in-Ok.made.1 may (puts g at) c.group_patch.new.self (adds g at) _)
+    rw (← c.self.view_is) (step_joined c.self.inside c.self.invariant c.in-Ok.ensures.prepared c.args.share.now c.args.group.0 c.args.block.0 c.args.at c.args.bytes.now may (put g at) (adds g at) _)
 
 pub returns-clause-faults : goal.returns-clause-faults
-returns-clause-faults g c =
-    let at = (goal.at.returns-clause-faults g c).After-undo_bytes in
-    rw (← c.self.view_is) (faults_made c.self.inside.size c.self.inside.seats.most c.self.inside.tickets c.self.inside.made c.self.inside.graph c.group_room.new.self _ c.in-Ok.ensures.prepared c.self.inside.contents.items c.self.inside.seats.seats _ c.self.invariant.kept c.args.block.0 _ (puts g at))
+returns-clause-faults g c = rw (← c.self.view_is) (faults_made c.self.inside c.self.invariant (put g (goal.at.returns-clause-faults g c).After-undo_bytes).puts)
 
 pub returns-clause-homes : goal.returns-clause-homes
-returns-clause-homes g c =
-    let at = (goal.at.returns-clause-homes g c).After-undo_bytes in
-    rw (← c.self.view_is) (homes_made c.self.inside.size c.self.inside.seats.most c.self.inside.tickets c.self.inside.made c.self.inside.graph c.group_room.new.self _ c.in-Ok.ensures.prepared c.self.inside.contents.items c.self.inside.seats.seats _ c.self.invariant.kept c.args.block.0 _ (puts g at))
+returns-clause-homes g c = rw (← c.self.view_is) (homes_made c.self.inside c.self.invariant (put g (goal.at.returns-clause-homes g c).After-undo_bytes).puts)
 
 pub returns-clause-back : goal.returns-clause-back
-returns-clause-back g c =
-    let at = (goal.at.returns-clause-back g c).After-undo_bytes in
-    rw (← c.self.view_is) (back_made c.self.inside.size c.self.inside.seats.most c.self.inside.tickets c.self.inside.made c.self.inside.graph c.group_room.new.self _ c.in-Ok.ensures.prepared c.self.inside.contents.items c.self.inside.seats.seats _ c.self.invariant.kept c.args.block.0 _ (puts g at))
+returns-clause-back g c = rw (← c.self.view_is) (back_made c.self.inside c.self.invariant (put g (goal.at.returns-clause-back g c).After-undo_bytes).puts)
 
 pub returns-clause-one_fault : goal.returns-clause-one_fault
 returns-clause-one_fault g c = rw (← c.self.view_is) (inl (quiet g (goal.at.returns-clause-one_fault g c).After-undo_bytes))

@@ -12,39 +12,33 @@ use Rattle.fst_cache.proofs.cache.Cache.retry_fault.Goals as goal
 seated : (g : _) (c : After-is_stalled g) → slice_get c.self.inside.seats.seats c.args.block.0 ≡ Some c.seat-seat.result.now
 seated g c = let i = c.self.inside in c.seat-seat.ensures.at
 
-stalled : (g : _) (c : After-is_stalled g) → c.is_stalled.result ≡ true → IsStalled (state_of c.self.inside.size c.self.inside.seats.most c.self.inside.tickets c.self.inside.made c.self.inside.graph c.self.inside.contents.items c.self.inside.seats.seats) c.args.block.0
+stalled : (g : _) (c : After-is_stalled g) → c.is_stalled.result ≡ true → IsStalled (state_of c.self.inside) c.args.block.0
 stalled g c e =
-    let i = c.self.inside in
-    stalled_at i.size i.seats.most i.tickets i.made i.graph i.contents.items i.seats.seats _ _ (seated g c) (sym c.is_stalled.ensures.flight ∙ e)
+    stalled_at c.self.inside _ _ (seated g c) (sym c.is_stalled.ensures.flight ∙ e)
 
 -- and it is lost or not
-kept : (g : _) (c : After-is_stalled g) → c.is_lost.result ≡ false → IsLost (state_of c.self.inside.size c.self.inside.seats.most c.self.inside.tickets c.self.inside.made c.self.inside.graph c.self.inside.contents.items c.self.inside.seats.seats) c.args.block.0 → ⊥
-kept g c e =
-    let i = c.self.inside in
-    not_lost_at i.size i.seats.most i.tickets i.made i.graph i.contents.items i.seats.seats _ _ (seated g c) (sym c.is_lost.ensures ∙ e)
+kept : (g : _) (c : After-is_stalled g) → c.is_lost.result ≡ false → IsLost (state_of c.self.inside) c.args.block.0 → ⊥
+kept g c e = not_lost_at c.self.inside _ _ (seated g c) (sym c.is_lost.ensures ∙ e)
 
 pub returns-then-is_lost-clause-fault : goal.returns-then-is_lost-clause-fault
 returns-then-is_lost-clause-fault g c =
-    let i = c.self.inside in
-    let lt : c.args.block.0 < length i.seats.seats = omega (arith) in
-    let seated : slice_get i.seats.seats c.args.block.0 ≡ Some c.seat-seat.result.now = c.seat-seat.ensures.at in
-    let lost = lost_at i.size i.seats.most i.tickets i.made i.graph i.contents.items i.seats.seats _ _ seated (sym c.is_lost.ensures ∙ c.if-is_lost.true) in
+    let lt : c.args.block.0 < length c.self.inside.seats.seats = omega (arith) in
+    let seated : slice_get c.self.inside.seats.seats c.args.block.0 ≡ Some c.seat-seat.result.now = c.seat-seat.ensures.at in
+    let lost = lost_at c.self.inside _ _ seated (sym c.is_lost.ensures ∙ c.if-is_lost.true) in
     rw (← c.self.view_is, length-map) (inr ((λ h. omega arith), inl (lost, refl)))
 
 pub returns-then-self-clause-fault : goal.returns-then-self-clause-fault
 returns-then-self-clause-fault g c =
-    let i = c.self.inside in
-    let lt : c.args.block.0 < length i.seats.seats = omega (arith) in
+    let lt : c.args.block.0 < length c.self.inside.seats.seats = omega (arith) in
     let st = stalled g (goal.at.returns-then-self-clause-fault g c).After-is_stalled c.if-not-is_stalled.false in
     let no = kept g (goal.at.returns-then-self-clause-fault g c).After-is_stalled c.if-is_lost.false in
     rw (← c.self.view_is, length-map) (inr ((λ h. omega arith), inr (no, inr ((λ h. h st), inl (omega arith, refl)))))
 
 pub returns-clause-fault : goal.returns-clause-fault
 returns-clause-fault g c =
-    let i = c.self.inside in
-    let lt : c.args.block.0 < length i.seats.seats = omega (arith) in
+    let lt : c.args.block.0 < length c.self.inside.seats.seats = omega (arith) in
     let st = stalled g (goal.at.returns-clause-fault g c).After-is_stalled c.if-not-is_stalled.false in
-    let few : i.tickets < 18446744073709551615 = let top = c.self.invariant.kept.lawful.limits.tickets in grind (arith, c.if-self.false, top) in
+    let few : c.self.inside.tickets < 18446744073709551615 = let top = c.self.invariant.lawful.limits.tickets in grind (arith, c.if-self.false, top) in
     let no = kept g (goal.at.returns-clause-fault g c).After-is_stalled c.if-is_lost.false in
     rw (← c.self.view_is, length-map) ((λ h. omega arith), (no, ((λ h. h st), ((λ h. omega arith), tt))))
 

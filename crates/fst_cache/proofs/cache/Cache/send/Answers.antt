@@ -2,7 +2,7 @@ use Rattle.std.proofs.Common.{◌≡◌, ◌∙◌, ◌≤◌, ◌+◌, arith, i
 use Rattle.std.proofs.lemmas.List.{map-set, length-map}
 use Rattle.std.proofs.lemmas.Option.{same_Some, slice_get_within}
 use Rattle.fst_types.specs.Limits.{max_ticket}
-use Rattle.fst_types.specs.State.{State, BlockState}
+use Rattle.fst_types.specs.State.{BlockState}
 use Rattle.fst_types.specs.Bytes.{image_of}
 use Rattle.fst_types.specs.Writable.{IsWritableSet}
 use Rattle.fst_types.specs.Events.{Issue}
@@ -21,34 +21,31 @@ use Rattle.fst_cache.proofs.SendState.{sent_loaded, step_sent, kept_sent, state_
 use Rattle.fst_cache.proofs.cache.Cache.send.Goals.{After-seat}
 use Rattle.fst_cache.proofs.cache.Cache.send.Goals as goal
 
--- the state before the call
-abbrev before : (g : _) → After-seat g → State
-before g c = state_of c.self.inside.size c.self.inside.seats.most c.self.inside.tickets c.self.inside.made c.self.inside.graph c.self.inside.contents.items c.self.inside.seats.seats
-
-clear : (g : _) (c : After-seat g) → NoneHolds (order (before g c) (Issue c.args.block.0))
+clear : (g : _) (c : After-seat g) → NoneHolds (order (state_of c.self.inside) (Issue c.args.block.0))
 clear g c = rw (← c.self.view_is) at c.requires.clear
 
-image : (g : _) (c : After-seat g) → c.args.image.items ≡ image_of (before g c) c.args.block.0 (numbers_of c.args.chosen.items)
+image : (g : _) (c : After-seat g) → c.args.image.items ≡ image_of (state_of c.self.inside) c.args.block.0 (numbers_of c.args.chosen.items)
 image g c = rw (← c.self.view_is) at c.requires.image
 
 -- what the state says of the block with this seat
-may : (g : _) (c : After-seat g) (seat : SeatView) → slice_get c.self.inside.seats.seats c.args.block.0 ≡ Some seat → MaySend (before g c) c.self.inside.graph c.self.inside.seats.seats c.args.block.0 seat c.args.chosen.items
-may g c seat at_b =
-    let i = c.self.inside in
-    may_send i.size i.seats.most i.tickets i.made i.graph i.contents.items i.seats.seats c.args.self.now c.self.view_is c.self.invariant.kept c.args.block.0 seat c.args.chosen.items c.requires.clear c.requires.chosen at_b
+may : (g : _) (c : After-seat g) (seat : SeatView) → slice_get c.self.inside.seats.seats c.args.block.0 ≡ Some seat → MaySend c.self.inside c.args.block.0 seat c.args.chosen.items
+may g c seat at_b = may_send c.self.inside c.args.self.now c.self.view_is c.self.invariant c.requires.clear c.requires.chosen at_b
+
+-- with the seat that was read
+abbrev sends : (g : _) (c : After-seat g) → MaySend c.self.inside c.args.block.0 c.seat.result.now c.args.chosen.items
+sends g c = may g c c.seat.result.now c.seat.ensures.at
 
 abbrev after : (g : _) (c : After-seat g) → SeatView
-after g c = sent c.seat.result.now (block_view (before g c) c.args.block.0) (c.self.inside.tickets + 1) c.args.chosen.items c.args.image.items
+after g c = sent c.seat.result.now (block_view (state_of c.self.inside) c.args.block.0) (c.self.inside.tickets + 1) c.args.chosen.items c.args.image.items
 
-loaded : (g : _) (c : After-seat g) → c.seat.result.now.loaded ≡ Some (block_view (before g c) c.args.block.0)
-loaded g c = loaded_is (before g c) c.self.inside.graph c.self.inside.seats.seats c.args.block.0 c.seat.result.now c.args.chosen.items (may g c c.seat.result.now c.seat.ensures.at)
+loaded : (g : _) (c : After-seat g) → c.seat.result.now.loaded ≡ Some (block_view (state_of c.self.inside) c.args.block.0)
+loaded g c = loaded_is c.self.inside (sends g c)
 
 pub launch-requires : goal.launch-requires
 launch-requires g c =
-    let i = c.self.inside in
-    let clear : NoneHolds (order (state_of i.size i.seats.most i.tickets i.made i.graph i.contents.items i.seats.seats) (Issue c.args.block.0)) = rw (← c.self.view_is) at c.requires.clear in
-    let choice : IsWritableSet i.graph.heads c.args.block.0 (numbers_of c.args.chosen.items) = rw (← c.self.view_is) at c.requires.chosen in
-    rw c.deref.ensures.value (record { block = c.args.block.0; writable = writable (state_of i.size i.seats.most i.tickets i.made i.graph i.contents.items i.seats.seats) c.self.invariant.kept.lawful c.args.block.0 c.args.chosen.items choice clear; choice = choice })
+    let clear : NoneHolds (order (state_of c.self.inside) (Issue c.args.block.0)) = rw (← c.self.view_is) at c.requires.clear in
+    let choice : IsWritableSet c.self.inside.graph.heads c.args.block.0 (numbers_of c.args.chosen.items) = rw (← c.self.view_is) at c.requires.chosen in
+    rw c.deref.ensures.value (record { block = c.args.block.0; writable = writable (state_of c.self.inside) c.self.invariant.lawful c.args.block.0 c.args.chosen.items choice clear; choice = choice })
 
 pub seat-requires : goal.seat-requires
 seat-requires g c =
@@ -58,7 +55,7 @@ seat-requires g c =
 
 pub overflow_add-self : goal.overflow_add-self
 overflow_add-self g c =
-    let clear : NoneHolds (order (state_of c.self.inside.size c.self.inside.seats.most c.self.inside.tickets c.self.inside.made c.self.inside.graph c.self.inside.contents.items c.self.inside.seats.seats) (Issue c.args.block.0)) = rw (← c.self.view_is) at c.requires.clear in
+    let clear : NoneHolds (order (state_of c.self.inside) (Issue c.args.block.0)) = rw (← c.self.view_is) at c.requires.clear in
     let full : max_ticket ≤ c.self.inside.tickets → ⊥ = clear.1.1.1.1.1.0 in
     omega (arith, full)
 
@@ -70,7 +67,7 @@ launch-job-requires-clause-within g c =
 pub launch-job-requires-clause-ready : goal.launch-job-requires-clause-ready
 launch-job-requires-clause-ready g c =
     let s = (goal.at.launch-job-requires-clause-ready g c).After-seat in
-    λ seat at_b. may_go_out (before g s) c.self.inside.graph c.self.inside.seats.seats c.args.block.0 seat c.args.chosen.items (may g s seat at_b) c.args.image.items (image g s)
+    λ seat at_b. may_go_out c.self.inside (may g s seat at_b) (image g s)
 
 pub seat-requires-2 : goal.seat-requires-2
 seat-requires-2 g c =
@@ -108,21 +105,17 @@ invariant_of-self g c =
     let new : c.undo_bytes.result ≡ undo_of (after g s) = c.undo_bytes.ensures ∙ ap undo_of here in
     let fewer = undo_left c.args.chosen.items c.seat.result.now (after g s) _ _ (loaded g s) refl in
     let launched : Launches c.self.inside.graph (numbers_of c.args.chosen.items) c.launch.new.self = rw c.deref.ensures.value at c.launch.ensures.launched in
-    let state = state_sent c.self.inside.size c.self.inside.seats.most c.self.inside.tickets c.self.inside.made c.self.inside.graph c.self.inside.contents.items c.self.inside.seats.seats c.args.block.0 c.seat.result.now c.args.chosen.items (may g s c.seat.result.now c.seat.ensures.at) c.args.image.items (image g s) c.launch.new.self launched in
     let r = undo_put c.self.inside.seats.seats c.args.block.0 c.seat.result.now (after g s) c.seat.ensures.at in
-    rw left (record {
-      kept = rw state (kept_sent (before g s) c.self.inside.graph c.self.inside.seats.seats c.args.block.0 c.seat.result.now c.args.chosen.items (may g s c.seat.result.now c.seat.ensures.at) c.args.image.items (image g s) c.launch.new.self c.launch.ensures.blocks);
-      undoing = omega (arith, fewer, old, new, r, c.self.invariant.undoing);
-    })
+    rw left (kept_sent c.self.inside (sends g s) (image g s) launched _ (omega (arith, fewer, old, new, r, c.self.invariant.undoing)))
 
 pub returns-clause-step : goal.returns-clause-step
 returns-clause-step g c =
     let s = (goal.at.returns-clause-step g c).After-seat in
     let left = c.launch-job.ensures.sent c.seat.result.now _ c.seat.ensures.at (loaded g s) in
     let launched : Launches c.self.inside.graph (numbers_of c.args.chosen.items) c.launch.new.self = rw c.deref.ensures.value at c.launch.ensures.launched in
-    let state = state_sent c.self.inside.size c.self.inside.seats.most c.self.inside.tickets c.self.inside.made c.self.inside.graph c.self.inside.contents.items c.self.inside.seats.seats c.args.block.0 c.seat.result.now c.args.chosen.items (may g s c.seat.result.now c.seat.ensures.at) c.args.image.items (image g s) c.launch.new.self launched in
+    let state = state_sent c.self.inside (sends g s) (image g s) launched c.self.inside.undo in
     rw (← c.self.view_is, c.launch-job.ensures.ticket, c.launch-job.ensures.block, c.launch-job.ensures.image, left, state)
-    (step_sent (before g s) c.self.inside.graph c.self.inside.seats.seats c.args.block.0 c.seat.result.now c.args.chosen.items (may g s c.seat.result.now c.seat.ensures.at) c.args.image.items (image g s))
+    (step_sent c.self.inside (sends g s) (image g s))
 
 pub returns-clause-faults : goal.returns-clause-faults
 returns-clause-faults g c =
@@ -134,7 +127,7 @@ pub returns-clause-resident : goal.returns-clause-resident
 returns-clause-resident g c =
     let s = (goal.at.returns-clause-resident g c).After-seat in
     let left = c.launch-job.ensures.sent c.seat.result.now _ c.seat.ensures.at (loaded g s) in
-    rw (← c.self.view_is, left) (same_listed c.self.inside.seats.seats c.args.block.0 c.seat.result.now c.seat.ensures.at (λ (x : SeatView). is_some x.loaded) _ (sent_loaded (before g s) c.self.inside.graph c.self.inside.seats.seats c.args.block.0 c.seat.result.now c.args.chosen.items (may g s c.seat.result.now c.seat.ensures.at) c.args.image.items (image g s)))
+    rw (← c.self.view_is, left) (same_listed c.self.inside.seats.seats c.args.block.0 c.seat.result.now c.seat.ensures.at (λ (x : SeatView). is_some x.loaded) _ (sent_loaded c.self.inside (sends g s) (image g s)))
 
 pub returns-clause-back : goal.returns-clause-back
 returns-clause-back g c =
@@ -146,14 +139,14 @@ pub returns-clause-held : goal.returns-clause-held
 returns-clause-held g c =
     let s = (goal.at.returns-clause-held g c).After-seat in
     let slot = c.launch-job.ensures.slot c.seat.result.now c.seat.ensures.at in
-    let committed = ap (λ (v : BlockState). v.committed) (block_is (before g s) c.self.inside.graph c.self.inside.seats.seats c.args.block.0 c.seat.result.now c.args.chosen.items (may g s c.seat.result.now c.seat.ensures.at)) in
+    let committed = ap (λ (v : BlockState). v.committed) (block_is c.self.inside (sends g s)) in
     rw (← c.self.view_is) (slot.1 ∙ sym committed)
 
 pub returns-clause-before : goal.returns-clause-before
 returns-clause-before g c =
     let s = (goal.at.returns-clause-before g c).After-seat in
     let slot = c.launch-job.ensures.slot c.seat.result.now c.seat.ensures.at in
-    let committed = ap (λ (v : BlockState). v.committed) (block_is (before g s) c.self.inside.graph c.self.inside.seats.seats c.args.block.0 c.seat.result.now c.args.chosen.items (may g s c.seat.result.now c.seat.ensures.at)) in
+    let committed = ap (λ (v : BlockState). v.committed) (block_is c.self.inside (sends g s)) in
     rw (← c.self.view_is) (slot.0 ∙ sym committed)
 
 pub returns-clause-slot_faults : goal.returns-clause-slot_faults

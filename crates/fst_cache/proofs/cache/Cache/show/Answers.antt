@@ -1,7 +1,6 @@
 use Rattle.std.proofs.Common.{◌≡◌, ◌<◌, ◌∙◌, length, is_some, false, Err, IsErr, subst, refl, sym, inl}
 use Rattle.std.proofs.lemmas.Result.{err_from_is_err_and}
 use Rattle.std.proofs.lemmas.List.{length-map, set-get_or}
-use Rattle.fst_types.specs.State.{State}
 use Rattle.fst_types.specs.Events.{Show}
 use Rattle.fst_types.specs.Order.{order}
 use Rattle.fst_types.specs.Refusals.{NoneHolds}
@@ -9,27 +8,23 @@ use Rattle.fst_types.specs.Step.{accepted, refused, show}
 use Rattle.fst_seat.specs.Seats.{SeatView}
 use Rattle.fst_seat.proofs.Seated.{listed}
 use Rattle.fst_seat.proofs.Putting.{not_failed}
-use Rattle.fst_seat.proofs.Undo.{undo_load}
 use Rattle.fst_cache.specs.Kept.{state_of}
+use Rattle.fst_cache.proofs.Kept.{kept_seats}
 use Rattle.fst_cache.proofs.ResideSeats.{room_for}
 use Rattle.fst_cache.proofs.ResideLoading.{Loaded, load_keeps, within_of}
 use Rattle.fst_cache.proofs.ResideShowing.{load_fault, step_not_loaded, told}
 use Rattle.fst_cache.proofs.cache.Cache.show.Goals.{In_default, After-load}
 use Rattle.fst_cache.proofs.cache.Cache.show.Goals as goal
 
--- the state before the call
-abbrev before : (g : _) → In_default g → State
-before g c = state_of c.self.inside.size c.self.inside.seats.most c.self.inside.tickets c.self.inside.made c.self.inside.graph c.self.inside.contents.items c.self.inside.seats.seats
-
-clear : (g : _) (c : In_default g) → NoneHolds (order (before g c) (Show c.args.block.0 false))
+clear : (g : _) (c : In_default g) → NoneHolds (order (state_of c.self.inside) (Show c.args.block.0 false))
 clear g c = rw (← c.self.view_is) at c.in_default.ensures
 
 within : (g : _) (c : In_default g) → c.args.block.0 < length c.self.inside.seats.seats
 within g c = within_of (length c.self.inside.seats.seats) c.args.block.0 (rw length-map at (clear g c).0)
 
 -- what the load left
-loaded : (g : _) (c : After-load g) → Loaded (state_of c.self.inside.size c.self.inside.seats.most c.self.inside.tickets c.self.inside.made c.self.inside.graph c.self.inside.contents.items c.self.inside.seats.seats) c.self.inside.graph c.self.inside.seats.seats c.args.block.0 c.load.new.self.seats
-loaded g c = load_keeps _ c.self.inside.graph c.self.inside.seats.seats c.self.invariant.kept refl c.args.block.0 c.load.new.self.seats c.load.ensures.seats
+loaded : (g : _) (c : After-load g) → Loaded c.self.inside c.args.block.0 c.load.new.self.seats
+loaded g c = load_keeps c.self.inside c.self.invariant c.args.block.0 c.load.new.self.seats c.load.ensures.seats
 
 pub returns-in-Some : goal.returns-in-Some
 returns-in-Some g c = ((refl, (λ _. tt), (refl, refl, refl, sym (set-get_or c.args.self.now.faults c.args.block.0 0), refused (inl c.in-Some.ensures), inl refl, (λ _. refl))), record { after = tt })
@@ -40,25 +35,13 @@ load-requires-clause-within g c = within g (goal.at.load-requires-clause-within 
 pub load-requires-clause-room : goal.load-requires-clause-room
 load-requires-clause-room g c =
     let at = (goal.at.load-requires-clause-room g c).In_default in
-    λ seat at_b away. room_for (before g at) c.self.inside.graph c.self.inside.seats.seats c.self.invariant.kept refl c.args.block.0 seat at_b (clear g at).1.0 away
+    λ seat at_b away. room_for c.self.inside c.self.invariant c.args.block.0 seat at_b (clear g at).1.0 away
 
 pub invariant_of-self : goal.invariant_of-self
-invariant_of-self g c =
-    let at = (goal.at.invariant_of-self g c).After-load in
-    let L = loaded g at in
-    rw c.load.ensures.most (record {
-      kept = rw L.blocks L.kept;
-      undoing = (c.self.invariant.undoing ∙ sym (undo_load c.self.inside.seats.most c.self.inside.seats.seats c.args.block.0 c.load.new.self.seats c.load.ensures.seats));
-    })
+invariant_of-self g c = kept_seats c.self.inside c.load.new.self c.load.ensures.most (loaded g (goal.at.invariant_of-self g c).After-load).kept
 
 pub invariant_of-self-2 : goal.invariant_of-self-2
-invariant_of-self-2 g c =
-    let at = (goal.at.invariant_of-self-2 g c).After-load in
-    let L = loaded g at in
-    rw c.load.ensures.most (record {
-      kept = rw L.blocks L.kept;
-      undoing = (c.self.invariant.undoing ∙ sym (undo_load c.self.inside.seats.most c.self.inside.seats.seats c.args.block.0 c.load.new.self.seats c.load.ensures.seats));
-    })
+invariant_of-self-2 g c = kept_seats c.self.inside c.load.new.self c.load.ensures.most (loaded g (goal.at.invariant_of-self-2 g c).After-load).kept
 
 pub bytes-requires-clause-within : goal.bytes-requires-clause-within
 bytes-requires-clause-within g c =
@@ -75,7 +58,7 @@ returns g c =
     let at = goal.at.returns g c in
     let L = loaded g at.After-load in
     let quiet = c.in_ok-load.ensures.no_fault (λ e. not_failed e) in
-    rw (c.bytes.ensures, c.load.ensures.most, ← c.self.view_is, L.blocks) ((refl, (λ _. tt), (refl {a = before g at.In_default}, L.homes, L.back, L.faults, accepted (clear g at.In_default) show, inl quiet, (λ _. quiet))), record { after = tt })
+    rw (c.bytes.ensures, c.load.ensures.most, ← c.self.view_is, L.blocks) ((refl, (λ _. tt), (refl {a = state_of c.self.inside}, L.homes, L.back, L.faults, accepted (clear g at.In_default) show, inl quiet, (λ _. quiet))), record { after = tt })
 
 pub returns-in_err-load : goal.returns-in_err-load
 returns-in_err-load g c =
@@ -92,7 +75,7 @@ returns-in_err-load g c =
       (
         refl,
         (λ _. tt),
-        (refl {a = before g at.In_default}, L.homes, L.back, L.faults, step_not_loaded (before g at.In_default) c.self.inside.graph c.self.inside.seats.seats c.self.invariant.kept refl c.args.block.0 c.load.new.self.seats p.0 (clear g at.In_default) (loads (subst IsErr (sym was) refl)) (rw p.2 refused_by), counted, (λ fine. quiet (λ d. fine (told p.0 _ p.2 (sym was ∙ d))))),
+        (refl {a = state_of c.self.inside}, L.homes, L.back, L.faults, step_not_loaded c.self.inside c.self.invariant c.args.block.0 c.load.new.self.seats p.0 (clear g at.In_default) (loads (subst IsErr (sym was) refl)) (rw p.2 refused_by), counted, (λ fine. quiet (λ d. fine (told p.0 _ p.2 (sym was ∙ d))))),
       ),
       record { after = tt },
     )

@@ -16,18 +16,16 @@ room_of s b h = record {
 
 pub returns-then-is_lost : goal.returns-then-is_lost
 returns-then-is_lost g c =
-    let i = c.self.inside in
-    let seated : slice_get i.seats.seats c.args.block.0 ≡ Some c.seat.result.now = c.seat.ensures.at in
-    let lost = lost_at i.size i.seats.most i.tickets i.made i.graph i.contents.items i.seats.seats _ _ seated (sym c.is_lost.ensures ∙ c.if-is_lost.true) in
+    let seated : slice_get c.self.inside.seats.seats c.args.block.0 ≡ Some c.seat.result.now = c.seat.ensures.at in
+    let lost = lost_at c.self.inside _ _ seated (sym c.is_lost.ensures ∙ c.if-is_lost.true) in
     rw (← c.self.view_is, length-map) (inr ((λ h. omega arith), inr ((λ h. omega arith), inl (lost, refl))))
 
 pub returns-then-not-has_room : goal.returns-then-not-has_room
 returns-then-not-has_room g c =
-    let i = c.self.inside in
-    let seated : slice_get i.seats.seats c.args.block.0 ≡ Some c.seat.result.now = c.seat.ensures.at in
-    let kept = not_lost_at i.size i.seats.most i.tickets i.made i.graph i.contents.items i.seats.seats _ _ seated (sym c.is_lost.ensures ∙ c.if-is_lost.false) in
+    let seated : slice_get c.self.inside.seats.seats c.args.block.0 ≡ Some c.seat.result.now = c.seat.ensures.at in
+    let kept = not_lost_at c.self.inside _ _ seated (sym c.is_lost.ensures ∙ c.if-is_lost.false) in
     let no_room = room_of c.args.self.now.state c.args.block.0 (λ free. true≢false (sym (c.has_room.ensures.1 free) ∙ c.if-not-has_room.true)) in
-    let fits : (length c.args.bytes.now ≡ 0) ⊎ (i.size < c.args.at + length c.args.bytes.now) → ⊥ = λ h. elim h [ inl e ↦ grind (arith, e, c.is_empty.ensures, c.if-is_empty.false) | inr l ↦ omega (arith, l) ] in
+    let fits : (length c.args.bytes.now ≡ 0) ⊎ (c.self.inside.size < c.args.at + length c.args.bytes.now) → ⊥ = λ h. elim h [ inl e ↦ grind (arith, e, c.is_empty.ensures, c.if-is_empty.false) | inr l ↦ omega (arith, l) ] in
     rw (← c.self.view_is, length-map) (inr ((λ h. omega arith), inr ((λ h. omega arith), inr (kept, inr (fits, inl (rw (← c.self.view_is) at no_room, refl))))))
 
 pub seat-requires : goal.seat-requires
@@ -41,14 +39,13 @@ overflow_sub-size g c = c.if-bytes-size.false
 
 pub returns : goal.returns
 returns g c =
-    let i = c.self.inside in
-    let seated : slice_get i.seats.seats c.args.block.0 ≡ Some c.seat.result.now = c.seat.ensures.at in
+    let seated : slice_get c.self.inside.seats.seats c.args.block.0 ≡ Some c.seat.result.now = c.seat.ensures.at in
     let room = rw (← c.self.view_is) at (c.has_room.ensures.0 c.if-not-has_room.false) in
     rw (← c.self.view_is)
     (record {
       counts = λ h. omega (arith, h, c.made.ensures, c.if-made-eq18446744073709551615.false);
-      there = λ h. let past : length i.seats.seats ≤ c.args.block.0 = rw length-map at h in omega (arith, past, c.if-block-len.false, c.len.ensures);
-      kept = not_lost_at i.size i.seats.most i.tickets i.made i.graph i.contents.items i.seats.seats _ _ seated (sym c.is_lost.ensures ∙ c.if-is_lost.false);
+      there = λ h. let past : length c.self.inside.seats.seats ≤ c.args.block.0 = rw length-map at h in omega (arith, past, c.if-block-len.false, c.len.ensures);
+      kept = not_lost_at c.self.inside _ _ seated (sym c.is_lost.ensures ∙ c.if-is_lost.false);
       fits = λ h. elim h [ inl e ↦ grind (arith, e, c.is_empty.ensures, c.if-is_empty.false) | inr l ↦ omega (arith, l) ];
       room = room;
     })

@@ -3,21 +3,18 @@ use Rattle.std.specs.Option.{option_map_or}
 use Rattle.std.proofs.lemmas.Bool.{both_ways}
 use Rattle.std.proofs.lemmas.Option.{slice_get_read}
 use Rattle.fst_seat.specs.Seats.{SeatView}
-use Rattle.fst_cache.specs.Kept.{state_of}
 use Rattle.fst_seat.proofs.Counts.{one_more}
 use Rattle.fst_cache.proofs.ResideLooking.{none_below, stalled_at, stalled_within}
 use Rattle.fst_cache.proofs.cache.Cache.stalled.Goals as goal
 
 pub returns-then-is_stalled : goal.returns-then-is_stalled
 returns-then-is_stalled g c =
-    let i = c.self.inside in
-    let s = state_of i.size i.seats.most i.tickets i.made i.graph i.contents.items i.seats.seats in
     let seated : slice_get c.as_slice-seat-items.result.now c.loop-at.at ≡ Some c.seat-item.result = slice_get_read c.as_slice-seat-items.result.now _ _ _ refl c.loop-at-test.true c.seat-item.is in
-    let at_b : slice_get i.seats.seats c.loop-at.at ≡ Some c.seat-item.result = rw c.as_slice-seat-items.ensures at seated in
+    let at_b : slice_get c.self.inside.seats.seats c.loop-at.at ≡ Some c.seat-item.result = rw c.as_slice-seat-items.ensures at seated in
     rw (← c.self.view_is)
     record {
-      stalled = stalled_at s i.graph i.seats.seats c.self.invariant.kept refl _ _ at_b (sym c.is_stalled.ensures.flight ∙ c.if-is_stalled.true);
-      least = none_below s i.graph i.seats.seats c.self.invariant.kept refl c.loop-at.at (rw c.as_slice-seat-items.ensures at c.loop-at.invariant);
+      stalled = stalled_at c.self.inside c.self.invariant _ _ at_b (sym c.is_stalled.ensures.flight ∙ c.if-is_stalled.true);
+      least = none_below c.self.inside c.self.invariant c.loop-at.at (rw c.as_slice-seat-items.ensures at c.loop-at.invariant);
     }
 
 pub loop-at-preserved : goal.loop-at-preserved
@@ -28,8 +25,6 @@ loop-at-preserved g c =
 
 pub returns : goal.returns
 returns g c =
-    let i = c.self.inside in
-    let s = state_of i.size i.seats.most i.tickets i.made i.graph i.contents.items i.seats.seats in
-    let all = none_below s i.graph i.seats.seats c.self.invariant.kept refl c.loop-at.at (rw c.as_slice-seat-items.ensures at c.loop-at.invariant) in
-    let len : length c.as_slice-seat-items.result.now ≡ length i.seats.seats = ap length c.as_slice-seat-items.ensures in
-    rw (← c.self.view_is) (λ b h. let lt = stalled_within s i.graph i.seats.seats c.self.invariant.kept refl b h in let le = all b h in omega (arith, lt, le, len, c.loop-at-test.false))
+    let all = none_below c.self.inside c.self.invariant c.loop-at.at (rw c.as_slice-seat-items.ensures at c.loop-at.invariant) in
+    let len : length c.as_slice-seat-items.result.now ≡ length c.self.inside.seats.seats = ap length c.as_slice-seat-items.ensures in
+    rw (← c.self.view_is) (λ b h. let lt = stalled_within c.self.inside c.self.invariant b h in let le = all b h in omega (arith, lt, le, len, c.loop-at-test.false))
