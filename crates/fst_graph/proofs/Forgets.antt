@@ -1,14 +1,12 @@
 -- Forgetting what landed: heads are marked, which leaves all else as it is, or those of patches on disk are dropped.
-use Rattle.std.proofs.Common.{◌≡◌, ◌↔◌, ◌≤◌, ◌<◌, ◌+◌, ◌∙◌, ℕ, List, [], ◌∷◌, length, map, count_by, Contains, Option, refl, sym, ap, subst, arith}
+use Rattle.std.proofs.Common.{◌≡◌, ◌↔◌, ◌≤◌, ◌<◌, ◌+◌, ◌∙◌, ℕ, List, [], ◌∷◌, length, map, count_by, Contains, refl, sym, ap, subst, arith}
 use Rattle.std.proofs.{Math.Path.fun_ext, lemmas.List.length-map}
-use Rattle.std.specs.Global.{Vec}
 use Rattle.fst_types.specs.{Facts.SparseAreLawful, Limits.max_heads, Tests.{is_among, is_at, is_live}}
 use Rattle.fst_heads.specs.{Heads.patches_of, Keeps.Tallies, Landed.flags, Lists.{Entry, AreListed}, Nodes.{Node, AreSettled, is_forgotten_in, node_of, nodes_of, patches_in, pending_in}, Pendings.{IsOf, joined, of_kind, sums_of}}
-use Rattle.fst_heads.specs.{Covers.Covering, declared.head.Head.Head, declared.lists.Listed.Listed, declared.standing.Standing.Standing}
+use Rattle.fst_heads.specs.{declared.standing.Standing.Standing}
 use Rattle.fst_heads.proofs.{AtNumber.patches_in_nodes, Beside.waiting_live, CountsAs.{like_as, stand_map}, Flagged.{all_told, flags_number, flags_patch, flags_pending, goes, goes_if, patches_flagged}, Placed.{SameLinks, distinct_kept, given_kept, linked_kept, links_mapped, unmapped}}
-use Rattle.fst_levels.specs.{Leveling.Leveling, Needing.Needing}
-use Rattle.fst_walks.specs.declared.ends.Ends.{Ends}
-use Rattle.fst_graph.specs.{Sound.{AreRemembered, AreSound, remembered_of}, declared.prepared.Prepared.Prepared as Stored}
+use Rattle.fst_graph.specs.declared.sparse.Sparse.TheInside.{Inside}
+use Rattle.fst_graph.specs.{Sound.{AreRemembered, AreSound, remembered_of}}
 use Rattle.fst_graph.proofs.{Flagged.rising_nodes, RememberedLooks.disk_count, Sound.{rising_sound, view_gone, view_long}, Tallied.tallies_from}
 use Rattle.fst_types.specs.declared.place.Place.TheVariants as place
 use Rattle.fst_heads.specs.declared.pending.Pending.TheVariants as pending
@@ -56,24 +54,23 @@ module _ (row : List ℕ) (nodes : List Node) where
       (omega (arith, T.room, length-map nodes (flags row)))
 
 -- those that landed are the patches on disk that are not forgotten
-module _ {heads : Vec Head} {ends : Ends} {levels : Leveling} {needs : Needing} {lists : Vec (Vec Listed)} {covers : Vec Covering} {standings : Vec Standing} {queue landed : Vec ℕ} {live forgotten unmarked numbers blocks : ℕ} {o p : Option Stored}
-    (I : AreSound heads ends levels needs lists covers standings queue live unmarked numbers blocks o × AreRemembered heads.items landed forgotten p) where
-  all : live + forgotten + length landed.items ≡ length heads.items
+module _ {s : Inside} (I : AreSound s × AreRemembered s.heads.items s.landed s.forgotten s.prepared) where
+  all : s.live + s.forgotten + length s.landed.items ≡ length s.heads.items
   all = omega (
     arith,
-    all_told (nodes_of heads.items) landed.items (rising_nodes heads.items (rising_sound I.0)) I.1.told,
-    waiting_live (nodes_of heads.items) blocks I.0.tallies.settled,
-    ap (count_by is_live) (patches_in_nodes heads.items),
+    all_told (nodes_of s.heads.items) s.landed.items (rising_nodes s.heads.items (rising_sound I.0)) I.1.told,
+    waiting_live (nodes_of s.heads.items) s.blocks I.0.tallies.settled,
+    ap (count_by is_live) (patches_in_nodes s.heads.items),
     I.0.beside.counted,
     I.1.counted,
-    length-map heads.items node_of,
+    length-map s.heads.items node_of,
   )
 
-  pub landed_long : length landed.items ≡ count_by (λ p. is_at p.place place.Disk) (remembered_of heads.items)
-  landed_long = omega (arith, all, view_long I, disk_count (is_forgotten_in (nodes_of heads.items)) (patches_of heads.items) (view_gone I), I.0.beside.counted)
+  pub landed_long : length s.landed.items ≡ count_by (λ p. is_at p.place place.Disk) (remembered_of s.heads.items)
+  landed_long = omega (arith, all, view_long I, disk_count (is_forgotten_in (nodes_of s.heads.items)) (patches_of s.heads.items) (view_gone I), I.0.beside.counted)
 
-  pub landed_bound : length landed.items ≤ max_heads
+  pub landed_bound : length s.landed.items ≤ max_heads
   landed_bound = omega (arith, all, I.1.few)
 
-  pub live_inside : live ≤ length heads.items
+  pub live_inside : s.live ≤ length s.heads.items
   live_inside = omega (arith, all)

@@ -6,6 +6,7 @@ use Rattle.fst_heads.specs.{Covers.{AreCovered, Covering}, Heads.{patch_of, patc
 use Rattle.fst_heads.specs.{Nodes.{is_forgotten_in, nodes_of, AreSettled}, Standings.{NoneBelow, standing_of}, declared.head.Head.Head, declared.lists.Listed.Listed, declared.standing.Standing.Standing}
 use Rattle.fst_walks.specs.{BothEnds.IsOver, Searching.AreOver, declared.block_walk.BlockWalk.BlockWalk, declared.ends.Ends.Ends}
 use Rattle.fst_levels.specs.{Leveling.{IsLeveled, Leveling}, Needing.{IsNeeding, Needing}, Sights.Sees, declared.needs.Way.Way, declared.sight.Sight.Sight}
+use Rattle.fst_graph.specs.declared.sparse.Sparse.TheInside.{Inside}
 use Rattle.fst_graph.specs.{Fresh.IsRoomier, Remembered.AreGone, Sound.{AreRemembered, AreSound, IsPrepared, remembered_of}, declared.prepared.Prepared.Prepared as Stored}
 use Rattle.fst_heads.proofs.{AtNumber.patches_in_nodes, Indices.rising_heads}
 use Rattle.fst_levels.proofs.{Resting.{listed_at, shelves}, Seen.{same_patches, tallies_wider}}
@@ -15,64 +16,63 @@ use Rattle.fst_graph.proofs.{Flagged.{gone_from, rising_nodes, standing}, Rememb
 pub over_then : {heads seen : List Head} {lists shelves : List (Vec Listed)} {walk : BlockWalk} → seen ≡ heads → shelves ≡ lists → IsOver heads (length lists) walk → IsOver seen (length shelves) walk
 over_then h l x = record { long = x.long ∙ sym (ap length h); crossed = x.crossed ∙ sym (ap length l) }
 
-module _ {heads : Vec Head} {ends : Ends} {levels : Leveling} {needs : Needing} {lists : Vec (Vec Listed)} {covers : Vec Covering} {standings : Vec Standing} {queue : Vec ℕ} {live unmarked numbers blocks : ℕ} {o : Option Stored}
-    (S : AreSound heads ends levels needs lists covers standings queue live unmarked numbers blocks o) where
-  pub rising_sound : IsRising heads.items
-  rising_sound = rising_heads heads.items S.keeps.lawful.one_place_each.rising
+module _ {s : Inside} (S : AreSound s) where
+  pub rising_sound : IsRising s.heads.items
+  rising_sound = rising_heads s.heads.items S.keeps.lawful.one_place_each.rising
 
   -- no gate that is open has the number 0
-  pub open_given : {n : ℕ} → IsOpenNumber (patches_of heads.items) n → 0 < n
+  pub open_given : {n : ℕ} → IsOpenNumber (patches_of s.heads.items) n → 0 < n
   open_given g = let k = (S.keeps.lawful.one_place_each.numbered g.patch g.head).0 in omega (arith, k, g.numbered)
 
   -- as many marks as heads, as many lists as blocks, and a place for each list
-  pub as_many_marks : length ends.up.walk.marks ≡ length heads.items
-  as_many_marks = S.keeps.marked ∙ length-map heads.items patch_of
+  pub as_many_marks : length s.ends.up.walk.marks ≡ length s.heads.items
+  as_many_marks = S.keeps.marked ∙ length-map s.heads.items patch_of
 
-  pub as_many_lists : length lists.items ≡ blocks
-  as_many_lists = sym (length-map lists.items (λ l. entries_of l.items)) ∙ S.tallies.listed.long
+  pub as_many_lists : length s.lists.items ≡ s.blocks
+  as_many_lists = sym (length-map s.lists.items (λ l. entries_of l.items)) ∙ S.tallies.listed.long
 
-  pub as_many_standings : standings.len ≡ blocks
-  as_many_standings = omega (arith, S.tallies.standing.long, standings.ok.0)
+  pub as_many_standings : s.standings.len ≡ s.blocks
+  as_many_standings = omega (arith, S.tallies.standing.long, s.standings.ok.0)
 
-  pub as_many_places : length ends.up.crossed.items ≡ length lists.items
+  pub as_many_places : length s.ends.up.crossed.items ≡ length s.lists.items
   as_many_places = S.beside.places ∙ sym as_many_lists
 
   -- what stands beside the patches is as walks want it
-  pub sees_all : (sight : Sight) → sight.heads.now ≡ heads.items → sight.lists.now ≡ lists.items → sight.covers.now ≡ covers.items → sight.levels.now ≡ levels → sight.needs.now ≡ needs → Sees sight
+  pub sees_all : (sight : Sight) → sight.heads.now ≡ s.heads.items → sight.lists.now ≡ s.lists.items → sight.covers.now ≡ s.covers.items → sight.levels.now ≡ s.levels → sight.needs.now ≡ s.needs → Sees sight
   sees_all sight h l v r d =
       let K = S.keeps in
       let T = S.tallies in
-      let entries = map (λ (x : Vec Listed). entries_of x.items) lists.items in
+      let entries = map (λ (x : Vec Listed). entries_of x.items) s.lists.items in
       rw (h, l, v, r, d) (record {
         rising = rising_sound;
-        inside = subst (IsInside (patches_of heads.items)) (sym as_many_lists) K.inside;
+        inside = subst (IsInside (patches_of s.heads.items)) (sym as_many_lists) K.inside;
         disk = K.lawful.on_disk_with_all;
         flights = K.lawful.flights_stand_alone;
         hard = K.lawful.hard_never_hold;
         acyclic = K.lawful.no_cycle;
         linked = T.linked;
-        settled = subst (AreSettled (nodes_of heads.items)) (sym as_many_lists) T.settled;
-        listed = subst (λ n. AreListed (patches_of heads.items) n entries) (sym as_many_lists) (subst (λ ps. AreListed ps blocks entries) (patches_in_nodes heads.items) T.listed);
-        covered = subst (λ n. AreCovered (patches_of heads.items) n covers.items) (sym as_many_lists) S.covered;
-        leveled = subst (λ n. IsLeveled (patches_of heads.items) n levels) (sym as_many_lists) S.leveled;
-        needing = subst (λ n. IsNeeding (patches_of heads.items) n needs) (sym as_many_lists) S.needing;
+        settled = subst (AreSettled (nodes_of s.heads.items)) (sym as_many_lists) T.settled;
+        listed = subst (λ n. AreListed (patches_of s.heads.items) n entries) (sym as_many_lists) (subst (λ ps. AreListed ps s.blocks entries) (patches_in_nodes s.heads.items) T.listed);
+        covered = subst (λ n. AreCovered (patches_of s.heads.items) n s.covers.items) (sym as_many_lists) S.covered;
+        leveled = subst (λ n. IsLeveled (patches_of s.heads.items) n s.levels) (sym as_many_lists) S.leveled;
+        needing = subst (λ n. IsNeeding (patches_of s.heads.items) n s.needs) (sym as_many_lists) S.needing;
       })
 
   -- there is room for what is prepared, and nothing refuses it
-  pub prepared_is : (p : Stored) → o ≡ Some p → IsPrepared heads ends levels needs lists covers queue numbers blocks p
-  prepared_is p is = subst (λ x. IfSome x (IsPrepared heads ends levels needs lists covers queue numbers blocks)) is S.prepared
+  pub prepared_is : (p : Stored) → s.prepared ≡ Some p → IsPrepared s p
+  prepared_is p is = subst (λ x. IfSome x (IsPrepared s)) is S.prepared
 
   -- both walks are over the heads and the blocks
-  pub over_up : IsOver heads.items (length lists.items) ends.up
+  pub over_up : IsOver s.heads.items (length s.lists.items) s.ends.up
   over_up = record { long = as_many_marks; crossed = as_many_places }
 
-  pub over_down : IsOver heads.items (length lists.items) ends.down
+  pub over_down : IsOver s.heads.items (length s.lists.items) s.ends.down
   over_down = record { long = S.along.marks ∙ as_many_marks; crossed = S.along.places ∙ as_many_places }
 
   -- after walks over the heads there are marks for each still
-  pub walked_sound : {walked : Ends} → IsOver heads.items (length lists.items) walked.up → IsOver heads.items (length lists.items) walked.down → AreSound heads walked levels needs lists covers standings queue live unmarked numbers blocks None
+  pub walked_sound : {walked : Ends} → IsOver s.heads.items (length s.lists.items) walked.up → IsOver s.heads.items (length s.lists.items) walked.down → AreSound (record s { ends = walked; prepared = None })
   walked_sound up down = record {
-    keeps = record { lawful = S.keeps.lawful; inside = S.keeps.inside; marked = up.long ∙ sym (length-map heads.items patch_of) };
+    keeps = record { lawful = S.keeps.lawful; inside = S.keeps.inside; marked = up.long ∙ sym (length-map s.heads.items patch_of) };
     beside = record { places = up.crossed ∙ as_many_lists; counted = S.beside.counted; few = S.beside.few };
     tallies = S.tallies;
     covered = S.covered;
@@ -85,37 +85,37 @@ module _ {heads : Vec Head} {ends : Ends} {levels : Leveling} {needs : Needing} 
   }
 
   -- and so where patches came down on them
-  pub settled_sound : {walked : Ends} {settled : Leveling} → IsOver heads.items (length lists.items) walked.up → IsOver heads.items (length lists.items) walked.down → IsLeveled (patches_of heads.items) blocks settled
-      → AreSound heads walked settled needs lists covers standings queue live unmarked numbers blocks None
+  pub settled_sound : {walked : Ends} {settled : Leveling} → IsOver s.heads.items (length s.lists.items) walked.up → IsOver s.heads.items (length s.lists.items) walked.down → IsLeveled (patches_of s.heads.items) s.blocks settled
+      → AreSound (record s { ends = walked; levels = settled; prepared = None })
   settled_sound {walked = walked} up down leveled =
       let W = walked_sound {walked = walked} up down in
       record { keeps = W.keeps; beside = W.beside; tallies = W.tallies; covered = W.covered; along = W.along; leveled = leveled; needing = W.needing; given = W.given; none_below = W.none_below; prepared = tt }
 
   -- also where they began over the heads and the lists that were handed on
-  pub walked_then : {walked : Ends} {seen : List Head} {shelves : List (Vec Listed)} → seen ≡ heads.items → shelves ≡ lists.items → IsOver seen (length shelves) walked.up → IsOver seen (length shelves) walked.down
-      → AreSound heads walked levels needs lists covers standings queue live unmarked numbers blocks None
+  pub walked_then : {walked : Ends} {seen : List Head} {shelves : List (Vec Listed)} → seen ≡ s.heads.items → shelves ≡ s.lists.items → IsOver seen (length shelves) walked.up → IsOver seen (length shelves) walked.down
+      → AreSound (record s { ends = walked; prepared = None })
   walked_then {walked = walked} h l up down = walked_sound {walked = walked} (over_then (sym h) (sym l) up) (over_then (sym h) (sym l) down)
 
   -- a search for a cycle crosses no block
-  pub over_both : AreOver heads.items ends
+  pub over_both : AreOver s.heads.items s.ends
   over_both = record { up = over_up.long; down = over_down.long }
 
-  pub searched_up : {walked : Ends} → AreOver heads.items walked → walked.up.crossed ≡ ends.up.crossed → IsOver heads.items (length lists.items) walked.up
+  pub searched_up : {walked : Ends} → AreOver s.heads.items walked → walked.up.crossed ≡ s.ends.up.crossed → IsOver s.heads.items (length s.lists.items) walked.up
   searched_up over crossed = record { long = over.up; crossed = rw crossed as_many_places }
 
-  pub searched_down : {walked : Ends} → AreOver heads.items walked → walked.down.crossed ≡ ends.down.crossed → IsOver heads.items (length lists.items) walked.down
+  pub searched_down : {walked : Ends} → AreOver s.heads.items walked → walked.down.crossed ≡ s.ends.down.crossed → IsOver s.heads.items (length s.lists.items) walked.down
   searched_down over crossed = record { long = over.down; crossed = rw crossed over_down.crossed }
 
-  pub searched_sound : {walked : Ends} → AreOver heads.items walked → (walked.up.crossed ≡ ends.up.crossed) × (walked.down.crossed ≡ ends.down.crossed) → AreSound heads walked levels needs lists covers standings queue live unmarked numbers blocks None
+  pub searched_sound : {walked : Ends} → AreOver s.heads.items walked → (walked.up.crossed ≡ s.ends.up.crossed) × (walked.down.crossed ≡ s.ends.down.crossed) → AreSound (record s { ends = walked; prepared = None })
   searched_sound over crossed = walked_sound (searched_up over crossed.0) (searched_down over crossed.1)
 
   -- there may be more room for heads, marks and what waits in the queue
-  pub roomier_sound : {heads' : Vec Head} {ends' : Ends} {levels' : Leveling} {queue' : Vec ℕ} → IsRoomier heads ends levels queue heads' ends' levels' queue' → AreSound heads' ends' levels' needs lists covers standings queue' live unmarked numbers blocks None
+  pub roomier_sound : {heads' : Vec Head} {ends' : Ends} {levels' : Leveling} {queue' landed : Vec ℕ} → IsRoomier s.heads s.ends s.levels s.queue heads' ends' levels' queue' → AreSound (record s { heads = heads'; ends = ends'; levels = levels'; queue = queue'; landed = landed; prepared = None })
   roomier_sound {heads'} {queue' = queue'} R =
-      let patches = same_patches heads'.items heads.items R.nodes in record {
+      let patches = same_patches heads'.items s.heads.items R.nodes in record {
         keeps = rw (patches, R.marks.0) S.keeps;
         beside = rw (patches, R.crossed.0) S.beside;
-        tallies = rw R.nodes (tallies_wider _ numbers blocks _ _ _ _ _ _ S.tallies R.waiting R.wide);
+        tallies = rw R.nodes (tallies_wider _ s.numbers s.blocks _ _ _ _ _ _ S.tallies R.waiting R.wide);
         covered = rw patches S.covered;
         along = along_as R.marks R.crossed S.along;
         leveled = rw patches (leveled_as R.ranks R.floors S.leveled);
@@ -126,13 +126,13 @@ module _ {heads : Vec Head} {ends : Ends} {levels : Leveling} {needs : Needing} 
       }
 
   -- and for a change of a block
-  pub listed_sound : {longer : Vec (Vec Listed)} {wider : Vec Covering} → map (λ l. entries_of l.items) longer.items ≡ map (λ l. entries_of l.items) lists.items
-      → ((hs : List Patch) → AreCovered hs (length covers.items) covers.items → AreCovered hs (length covers.items) wider.items) → AreSound heads ends levels needs longer wider standings queue live unmarked numbers blocks None
+  pub listed_sound : {longer : Vec (Vec Listed)} {wider : Vec Covering} → map (λ l. entries_of l.items) longer.items ≡ map (λ l. entries_of l.items) s.lists.items
+      → ((hs : List Patch) → AreCovered hs (length s.covers.items) s.covers.items → AreCovered hs (length s.covers.items) wider.items) → AreSound (record s { lists = longer; covers = wider; prepared = None })
   listed_sound {wider = wider} entries covered = record {
     keeps = S.keeps;
     beside = S.beside;
     tallies = rw entries S.tallies;
-    covered = let long = S.covered.long in subst (λ k. AreCovered (patches_of heads.items) k wider.items) long (covered (patches_of heads.items) (subst (λ k. AreCovered (patches_of heads.items) k covers.items) (sym long) S.covered));
+    covered = let long = S.covered.long in subst (λ k. AreCovered (patches_of s.heads.items) k wider.items) long (covered (patches_of s.heads.items) (subst (λ k. AreCovered (patches_of s.heads.items) k s.covers.items) (sym long) S.covered));
     along = S.along;
     leveled = S.leveled;
     needing = S.needing;
@@ -142,7 +142,7 @@ module _ {heads : Vec Head} {ends : Ends} {levels : Leveling} {needs : Needing} 
   }
 
   -- and for what the block of the change needs
-  pub reserved_sound : {kept : Needing} → kept.lists ≡ needs.lists → ((w : Way) → Contains kept.ways w → Contains needs.ways w) → AreSound heads ends levels kept lists covers standings queue live unmarked numbers blocks None
+  pub reserved_sound : {kept : Needing} → kept.lists ≡ s.needs.lists → ((w : Way) → Contains kept.ways w → Contains s.needs.ways w) → AreSound (record s { needs = kept; prepared = None })
   reserved_sound same ways = record {
     keeps = S.keeps;
     beside = S.beside;
@@ -157,42 +157,43 @@ module _ {heads : Vec Head} {ends : Ends} {levels : Leveling} {needs : Needing} 
   }
 
   -- with other levels that are as they should be
-  pub leveled_sound : {levels' : Leveling} → IsLeveled (patches_of heads.items) blocks levels' → AreSound heads ends levels' needs lists covers standings queue live unmarked numbers blocks None
+  pub leveled_sound : {levels' : Leveling} → IsLeveled (patches_of s.heads.items) s.blocks levels' → AreSound (record s { levels = levels'; prepared = None })
   leveled_sound L = record { keeps = S.keeps; beside = S.beside; tallies = S.tallies; covered = S.covered; along = S.along; leveled = L; needing = S.needing; given = S.given; none_below = S.none_below; prepared = tt }
 
-  pub marked_sound : {least : ℕ} → NoneBelow standings.items least → AreSound heads ends levels needs lists covers standings queue live least numbers blocks None
+  pub marked_sound : {least : ℕ} → NoneBelow s.standings.items least → AreSound (record s { unmarked = least; prepared = None })
   marked_sound none = record { keeps = S.keeps; beside = S.beside; tallies = S.tallies; covered = S.covered; along = S.along; leveled = S.leveled; needing = S.needing; given = S.given; none_below = none; prepared = tt }
 
-  pub with_prepared : {o' : Option Stored} → IfSome o' (IsPrepared heads ends levels needs lists covers queue numbers blocks) → AreSound heads ends levels needs lists covers standings queue live unmarked numbers blocks o'
+  pub with_prepared : {o' : Option Stored} → IfSome o' (IsPrepared (record s { prepared = o' })) → AreSound (record s { prepared = o' })
   with_prepared P = record { keeps = S.keeps; beside = S.beside; tallies = S.tallies; covered = S.covered; along = S.along; leveled = S.leveled; needing = S.needing; given = S.given; none_below = S.none_below; prepared = P }
 
   -- there are as many lists as blocks
-  pub many_lists : (slice : List (Vec Listed)) → slice ≡ lists.items → length slice ≡ blocks
-  many_lists slice e = shelves (nodes_of heads.items) blocks lists.items slice S.tallies.listed e
+  pub many_lists : (slice : List (Vec Listed)) → slice ≡ s.lists.items → length slice ≡ s.blocks
+  many_lists slice e = shelves (nodes_of s.heads.items) s.blocks s.lists.items slice S.tallies.listed e
 
-  pub its_list : (slice : List (Vec Listed)) → slice ≡ lists.items → (b : ℕ) → b < length slice → (list : Vec Listed) → list ≡ get_or slice b list → entries_of list.items ≡ entries_on b (patches_of heads.items)
-  its_list slice e b lt list there = listed_at heads.items blocks b lists.items list S.tallies.listed (omega (arith, lt, many_lists slice e)) (subst (λ ls. list ≡ get_or ls b list) e there)
+  pub its_list : (slice : List (Vec Listed)) → slice ≡ s.lists.items → (b : ℕ) → b < length slice → (list : Vec Listed) → list ≡ get_or slice b list → entries_of list.items ≡ entries_on b (patches_of s.heads.items)
+  its_list slice e b lt list there = listed_at s.heads.items s.blocks b s.lists.items list S.tallies.listed (omega (arith, lt, many_lists slice e)) (subst (λ ls. list ≡ get_or ls b list) e there)
 
-  pub its_standing : (slice : List (Vec Listed)) → slice ≡ lists.items → (b : ℕ) → b < length slice → (told : List Standing) → told ≡ standings.items
-      → (b < length told) × ((d : Standing) → get_or told b d ≡ standing_of (nodes_of heads.items) b)
+  pub its_standing : (slice : List (Vec Listed)) → slice ≡ s.lists.items → (b : ℕ) → b < length slice → (told : List Standing) → told ≡ s.standings.items
+      → (b < length told) × ((d : Standing) → get_or told b d ≡ standing_of (nodes_of s.heads.items) b)
   its_standing slice e b lt told same =
-      let inside : b < blocks = omega (arith, lt, many_lists slice e) in
+      let inside : b < s.blocks = omega (arith, lt, many_lists slice e) in
       (omega (arith, inside, ap length same, S.tallies.standing.long), λ d. ap (λ xs. get_or xs b d) same ∙ S.tallies.standing.each b d inside)
 
 -- what is forgotten is on disk, and the patches that are not forgotten are as many as heads are not marked
-module _ {heads : Vec Head} {ends : Ends} {levels : Leveling} {needs : Needing} {lists : Vec (Vec Listed)} {covers : Vec Covering} {standings : Vec Standing} {queue landed : Vec ℕ} {live forgotten unmarked numbers blocks : ℕ} {o p : Option Stored}
-    (I : AreSound heads ends levels needs lists covers standings queue live unmarked numbers blocks o × AreRemembered heads.items landed forgotten p) where
-  pub view_gone : AreGone (is_forgotten_in (nodes_of heads.items)) (patches_of heads.items)
-  view_gone = gone_from heads.items blocks landed.items I.0.tallies.settled I.1.told (rising_nodes heads.items (rising_sound I.0))
+module _ {s : Inside} (I : AreSound s × AreRemembered s.heads.items s.landed s.forgotten s.prepared) where
+  pub view_gone : AreGone (is_forgotten_in (nodes_of s.heads.items)) (patches_of s.heads.items)
+  view_gone = gone_from s.heads.items s.blocks s.landed.items I.0.tallies.settled I.1.told (rising_nodes s.heads.items (rising_sound I.0))
 
-  pub view_lawful : SparseAreLawful (remembered_of heads.items) numbers
-  view_lawful = remembered_lawful (is_forgotten_in (nodes_of heads.items)) (patches_of heads.items) numbers view_gone I.0.keeps.lawful
+  pub view_lawful : SparseAreLawful (remembered_of s.heads.items) s.numbers
+  view_lawful = remembered_lawful (is_forgotten_in (nodes_of s.heads.items)) (patches_of s.heads.items) s.numbers view_gone I.0.keeps.lawful
 
-  pub view_long : length (remembered_of heads.items) + forgotten ≡ length heads.items
-  view_long = ap (λ k. length (remembered_of heads.items) + k) I.1.counted ∙ standing heads.items (rising_nodes heads.items (rising_sound I.0))
+  pub view_long : length (remembered_of s.heads.items) + s.forgotten ≡ length s.heads.items
+  view_long = ap (λ k. length (remembered_of s.heads.items) + k) I.1.counted ∙ standing s.heads.items (rising_nodes s.heads.items (rising_sound I.0))
 
 -- what follows from that holds of whatever is prepared
-pub if_prepared : {heads : Vec Head} {ends : Ends} {levels : Leveling} {needs : Needing} {lists : Vec (Vec Listed)} {covers : Vec Covering} {standings : Vec Standing} {queue : Vec ℕ} {live unmarked numbers blocks : ℕ} {o : Option Stored}
-    → AreSound heads ends levels needs lists covers standings queue live unmarked numbers blocks o → (P : Stored → Type 0) → ((p : Stored) → o ≡ Some p → IsPrepared heads ends levels needs lists covers queue numbers blocks p → P p) → IfSome o P
-if_prepared {o = None} sound P follows = tt
-if_prepared {o = Some p} sound P follows = follows p refl sound.prepared
+pub if_prepared : {s : Inside} → AreSound s → (P : Stored → Type 0) → ((p : Stored) → s.prepared ≡ Some p → IsPrepared s p → P p) → IfSome s.prepared P
+if_prepared {s} sound P follows = by_stored s.prepared refl sound.prepared
+  where
+    by_stored : (o : Option Stored) → s.prepared ≡ o → IfSome o (IsPrepared s) → IfSome o P
+    by_stored None is prepared = tt
+    by_stored (Some p) is prepared = follows p is prepared

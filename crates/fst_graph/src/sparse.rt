@@ -71,16 +71,15 @@ pub struct Sparse {
 }
 
 impl Model for Sparse {
-    ghost use Rattle.std.specs.Prelude.{[], option_map};
     ghost use Rattle.fst_graph.specs.Known.{Known};
-    ghost use Rattle.fst_graph.specs.Ready.{prepared_of};
-    ghost use Rattle.fst_graph.specs.Sound.{AreRemembered, AreSound, remembered_of};
 
     ghost Value = { Known };
 
-    ghost view = { λ g. record { heads = remembered_of g.heads.items; numbers = g.numbers; blocks = g.blocks; groups = []; prepared = option_map (prepared_of g.numbers) g.prepared } };
+    ghost use Rattle.fst_graph.specs.Sound.{AreRemembered, AreSound, view_of};
 
-    ghost invariant = { λ g. AreSound g.heads g.ends g.levels g.needs g.lists g.covers g.standings g.queue g.live g.unmarked g.numbers g.blocks g.prepared × AreRemembered g.heads.items g.landed g.forgotten g.prepared };
+    ghost view = { view_of };
+
+    ghost invariant = { λ s. AreSound s × AreRemembered s.heads.items s.landed s.forgotten s.prepared };
 }
 
 impl Sparse {

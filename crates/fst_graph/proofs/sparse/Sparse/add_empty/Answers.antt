@@ -59,7 +59,7 @@ invariant_of-self-2 c =
     let M = may at in
     let p = patch_from c.in-Ok.fresh in
     let A = c.in-Ok-add_one.ensures.added in
-    let sound = added_sound c.self.invariant.0 M A {all = c.self.inside.live + c.weight.result} (ap (λ w. c.self.inside.live + w) (c.weight.ensures ∙ weighs p)) in
+    let sound = added_sound c.self.invariant.0 M {shelf = c.note_rest.new.landed} A {all = c.self.inside.live + c.weight.result} (ap (λ w. c.self.inside.live + w) (c.weight.ensures ∙ weighs p)) in
     let full = (clear at).1.1.0 in
     let room : length heads < c.self.inside.forgotten + max_heads = omega (arith, full, view_long c.self.invariant) in
     let items = c.note_rest.ensures.noted ∙ ap (λ ns. if is_at p.place place.Disk then ns ++ p.number ∷ [] else ns) c.in-Ok.ensures.same in

@@ -48,7 +48,7 @@ invariant_of-self-2 c =
     let n = c.self.inside.numbers in
     let S = c.self.invariant.0 in
     let A = c.in-Ok.ensures.added in
-    let sound = added_sound S (may at) A {all = c.self.inside.live + 1} (ap (λ p. c.self.inside.live + one_live p) (sym (gate at))) in
+    let sound = added_sound S (may at) {shelf = c.reserve_landed.new.landed} A {all = c.self.inside.live + 1} (ap (λ p. c.self.inside.live + one_live p) (sym (gate at))) in
     let place = ok_of c.reserve_landed.result _ c.reserve_landed.ensures.shelf (sym c.is_err.ensures.value ∙ c.if-is_err.false) in
     let full = (clear at).0 in
     let room : length heads < c.self.inside.forgotten + max_heads = omega (arith, full, view_long c.self.invariant) in

@@ -41,8 +41,8 @@ invariant_of-self-2 c =
     let head = fresh (n + 1) OpenGate [] in
     let tail = fresh (n + 1 + 1) OpenGate ((n + 1) ∷ []) in
     let patches : patches_of A.between.items ≡ with_head old n = put_patches heads A.between.items head A.head.head.nodes in
-    let one = added_sound S (gate_may old n head refl S.keeps.lawful (omega (arith, most))) A.head {all = c.self.inside.live + 1} refl in
-    let two = added_sound one (subst (λ ps. MayAdd ps (n + 1) tail) (sym patches) (pair_may old n S.keeps.lawful most)) A.tail {all = c.self.inside.live + 2} (omega arith) in
+    let one = added_sound S (gate_may old n head refl S.keeps.lawful (omega (arith, most))) {shelf = c.self.inside.landed} A.head {all = c.self.inside.live + 1} refl in
+    let two = added_sound one (subst (λ ps. MayAdd ps (n + 1) tail) (sym patches) (pair_may old n S.keeps.lawful most)) {shelf = c.reserve_landed.new.landed} A.tail {all = c.self.inside.live + 2} (omega arith) in
     let place = ok_of c.reserve_landed.result _ c.reserve_landed.ensures.shelf (sym c.is_err.ensures.value ∙ c.if-is_err.false) in
     let full = c.in_default.ensures.clear.0 in
     let room : length heads + 1 < c.self.inside.forgotten + max_heads = omega (arith, full, view_long c.self.invariant) in

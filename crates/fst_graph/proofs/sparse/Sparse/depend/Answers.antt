@@ -32,8 +32,7 @@ gain_names-requires c =
 
 -- the fields after the walks, and that nothing refuses it
 walked : (c : After-depend_fault)
-    → AreSound c.self.inside.heads c.depend_fault.new.ends c.self.inside.levels c.self.inside.needs c.self.inside.lists c.self.inside.covers c.self.inside.standings c.self.inside.queue
-    c.self.inside.live c.self.inside.unmarked c.self.inside.numbers c.self.inside.blocks None
+    → AreSound (record c.self.inside { ends = c.depend_fault.new.ends; prepared = None })
 walked c = searched_sound c.self.invariant.0 (subst (λ hs. AreOver hs c.depend_fault.new.ends) c.deref.ensures.value c.depend_fault.ensures.over) c.depend_fault.ensures.crossed
 
 gate : (c : After-gain_names) → IsOpenNumber (patches_of c.self.inside.heads.items) c.args.gate.0

@@ -11,7 +11,7 @@ use Rattle.fst_graph.proofs.sparse.Sparse.put.Goals as goal
 
 -- what is prepared may be put down
 now : (c : After-as_slice-row)
-    → IsPutNow c.self.inside.heads c.self.inside.ends c.self.inside.levels c.self.inside.needs c.self.inside.lists c.self.inside.covers c.self.inside.standings c.self.inside.queue c.self.inside.numbers c.self.inside.blocks c.in-Some.prepared
+    → IsPutNow c.self.inside c.in-Some.prepared
 now c =
     let old = patches_of c.self.inside.heads.items in
     let G = view_gone c.self.invariant in
@@ -53,9 +53,20 @@ added c = put_patches c.self.inside.heads.items c.put_down-pending.new.heads.ite
 
 -- the fields with the change, of which no tail has the name yet
 sound : (c : After-put-2)
-    → IsPutDown c.self.inside.heads c.self.inside.ends c.self.inside.levels c.self.inside.needs c.self.inside.lists c.self.inside.covers c.self.inside.standings c.self.inside.queue c.self.inside.numbers c.self.inside.blocks c.in-Some.prepared
-    → AreSound c.put_down-pending.new.heads c.put_down-pending.new.ends c.put_down-pending.new.levels c.note.new.self c.enlist.new.lists (with_item c.self.inside.covers c.in-Some.prepared.block c.put-2.new.self)
-    c.enlist.new.standings c.self.inside.queue (c.self.inside.live + 1) c.min-self-inside.result (c.self.inside.numbers + 1) c.self.inside.blocks None
+    → IsPutDown c.self.inside c.in-Some.prepared
+    → AreSound (record c.self.inside {
+      heads = c.put_down-pending.new.heads;
+      ends = c.put_down-pending.new.ends;
+      levels = c.put_down-pending.new.levels;
+      needs = c.note.new.self;
+      lists = c.enlist.new.lists;
+      covers = with_item c.self.inside.covers c.in-Some.prepared.block c.put-2.new.self;
+      standings = c.enlist.new.standings;
+      live = c.self.inside.live + 1;
+      unmarked = c.min-self-inside.result;
+      numbers = c.self.inside.numbers + 1;
+      prepared = None;
+    })
 sound c D =
     let least = c.min-self-inside.ensures in
     change_sound c.self.invariant.0 D
@@ -71,7 +82,7 @@ sound c D =
 
 -- what is forgotten stays so, and of what landed nothing else
 still : (c : After-put-2)
-    → IsPutDown c.self.inside.heads c.self.inside.ends c.self.inside.levels c.self.inside.needs c.self.inside.lists c.self.inside.covers c.self.inside.standings c.self.inside.queue c.self.inside.numbers c.self.inside.blocks c.in-Some.prepared
+    → IsPutDown c.self.inside c.in-Some.prepared
     → AreRemembered c.put_down-pending.new.heads.items c.self.inside.landed c.self.inside.forgotten None
 still c D =
     let s = c.self.inside in
@@ -88,7 +99,7 @@ seen c = remembered_made c.self.inside.heads.items c.put_down-pending.new.heads.
 
 -- it is the change that was foreseen among these too
 adds : (c : After-put_down-pending)
-    → IsPutDown c.self.inside.heads c.self.inside.ends c.self.inside.levels c.self.inside.needs c.self.inside.lists c.self.inside.covers c.self.inside.standings c.self.inside.queue c.self.inside.numbers c.self.inside.blocks c.in-Some.prepared
+    → IsPutDown c.self.inside c.in-Some.prepared
     → AddsSparse (record { heads = remembered_of c.self.inside.heads.items; numbers = c.self.inside.numbers; blocks = c.self.inside.blocks; groups = []; prepared = None })
     c.in-Some.prepared.block c.in-Some.prepared.span.at c.in-Some.prepared.span.len (numbers_of c.in-Some.prepared.names.items) (c.self.inside.numbers + 1) c.in-Some.prepared.told.grade
     (record { heads = remembered_of c.self.inside.heads.items ++ change_of c.self.inside.numbers c.in-Some.prepared ∷ []; numbers = c.self.inside.numbers + 1; blocks = c.self.inside.blocks; groups = []; prepared = None })

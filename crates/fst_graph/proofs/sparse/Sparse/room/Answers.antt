@@ -31,7 +31,7 @@ clear c = c.in_default.ensures.clear (remembered_of c.self.inside.heads.items) (
 
 -- the fields after the walks, and with room around the change
 walked : (c : After-reserve_around-around)
-    → AreSound c.self.inside.heads c.prepare.new.ends c.self.inside.levels c.self.inside.needs c.self.inside.lists c.self.inside.covers c.self.inside.standings c.self.inside.queue c.self.inside.live c.self.inside.unmarked c.self.inside.numbers c.self.inside.blocks None
+    → AreSound (record c.self.inside { ends = c.prepare.new.ends; prepared = None })
 walked c = walked_then c.self.invariant.0 {walked = c.prepare.new.ends} c.deref.ensures.value c.deref-2.ensures.value c.prepare.ensures.up c.prepare.ensures.down
 
 same : (c : After-reserve_around-around) → remembered_of c.reserve_around-around.new.heads.items ≡ remembered_of c.self.inside.heads.items

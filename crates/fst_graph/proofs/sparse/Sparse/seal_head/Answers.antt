@@ -1,4 +1,4 @@
-use Rattle.std.proofs.{Common.{rules, ◌<◌, [], None, ◌≡◌, ◌∙◌, length, sym, ap, subst, arith, refl, inl, inr}, lemmas.List.length-map}
+use Rattle.std.proofs.{Common.{◌-◌, rules, ◌<◌, [], None, ◌≡◌, ◌∙◌, length, sym, ap, subst, arith, refl, inl, inr}, lemmas.List.length-map}
 use Rattle.fst_types.specs.{Gates.IsOpenNumber, Order.seal_order, Refusals.IsFirst}
 use Rattle.fst_heads.specs.{Frames.{frame_of, frames_of}, Heads.patches_of, Indices.HasIndex, Nodes.{is_forgotten_in, node_of, nodes_of}}
 use Rattle.fst_graph.specs.{Known.Known, Remembered.remembered, Sound.{IsPrepared, remembered_of}}
@@ -86,7 +86,7 @@ invariant_of-self c =
     let as_many : length (remembered_of new.items) ≡ length (remembered_of s.heads.items) = standing_as s.heads.items new.items (marks at) (rising_nodes s.heads.items (rising_sound c.self.invariant.0)) (rising_nodes new.items (rising_sound sound)) in (
       with_prepared
           sound
-          (if_prepared c.self.invariant.0 (IsPrepared new s.ends c.renew.new.levels s.needs s.lists s.covers c.cascade-landed.new.queue s.numbers s.blocks) (λ p is k. record {
+          (if_prepared c.self.invariant.0 (IsPrepared (record s { heads = new; levels = c.renew.new.levels; standings = c.cascade-landed.new.standings; queue = c.cascade-landed.new.queue; landed = c.cascade-landed.new.landed; live = s.live - c.cascade-landed.result; unmarked = 0 })) (λ p is k. record {
             ready = put_begun (patches_of s.heads.items) s.numbers s.blocks s.ends.up.walk.marks c.self.invariant.0.keeps g (patches_of new.items) open_gate cascade (remembered_of s.heads.items) (remembered_of new.items) p as_many (head_told s.prepared s.numbers c.requires.0 g p (ap (λ k. k.prepared) c.self.view_is ∙ c.requires.1) c.requires.2 is) k.ready;
             places = places_kept heads_long (C.places ∙ c.seal_at.ensures.places) (c.renew.ensures.room.0 ∙ c.lower.ensures.room.0, c.renew.ensures.room.1 ∙ c.lower.ensures.room.1) k.places;
             waits = omega (arith, heads_long, C.capacity, c.seal_at.ensures.capacity, k.waits);
