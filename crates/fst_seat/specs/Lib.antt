@@ -1,6 +1,7 @@
 pub mod Names
 pub mod Seen
 pub mod Seats
+pub mod Kept
 pub mod Faults
 pub mod Places
 pub mod Residing
