@@ -2,19 +2,18 @@
 use Rattle.std.proofs.lemmas.Option.{same_Some}
 use Rattle.std.proofs.Common.{◌≡◌, ◌+◌, ◌<◌, ◌≤◌, ◌++◌, ℕ, Bool, List, [], ◌∷◌, Option, Some, None, IfSome, option_map, length, map, Contains, refl, sym, ap, subst, ◌∙◌, inl, inr, arith, ◌≢◌, true, false, IfNone, count_by, is_some, get_or, eqb}
 use Rattle.std.proofs.lemmas.{Bool.{cases_Bool, eqb-true, eqb-false, false≢true}, Option.IfSome_then}
-use Rattle.std.specs.Global.{Vec}
 use Rattle.fst_types.specs.{Cascade.IsCascadeOf, Dependencies.{DirectlyOn, IsLiveNumber, IsOnDisk}, Facts.{SparseAreLawful, IsTied}, Gates.IsOpenNumber, Gating.sealed}
 use Rattle.fst_types.specs.{Grades.FollowsRule, Order.{make_order, room_order, NamesUnknown}, Patches.Patch, Refusals.NoneHolds, declared.{span.Span.Span}}
 use Rattle.fst_heads.specs.{Frames.{frames_of, HasRoomBelow}, Grading.MayBeHard, Heads.{IsRising, patches_of}, Keeps.Keeps, Indices.HasIndex}
 use Rattle.fst_heads.specs.{Names.numbers_of, Nodes.{node_of, nodes_of, is_live_in, AreCounted}, Rows.IsSparseRow, declared.head.Head.Head}
 use Rattle.fst_graph.specs.{Fresh.HasPlaces, Membering.{ArePaired, BeginsAs, OverlapReaches}, Ready.{change_of, IsReady, IsMemberReady, MayBePut, HasRoomAround}}
 use Rattle.fst_graph.specs.{Sparse.{SparseChangeIsMade}, declared.prepared.Gates.Gates, declared.prepared.Prepared.Prepared as Stored}
+use Rattle.fst_graph.specs.declared.columns.Columns.{Columns}
 use Rattle.fst_types.proofs.{Cascades.place_decided, Finite.{In, In-from_Contains, Contains-from_In}, SmallStates.only_in}
 use Rattle.fst_heads.proofs.{AtNumber.patches_in_nodes, Beside.one_if, CountsAs.{count_cons, count_none}, Forgetting.{live_in, in_live}, Framed.{room_above, room_below}}
 use Rattle.fst_heads.proofs.{PendingAt.node_in, Indices.{any_default, direct_at, named_at}, Touching.{graded_change, touched_overlaps, overlaps_touched}}
 use Rattle.fst_graph.proofs.{Kept.keeps_sealed, Readied.{ready_made, ready_member, member_put}, TakenAsSealed.{is, depends, open_was, open_is, stays, touched_was, back_sealed, rule_sealed, gate_lives, gate_rests, row_named, row_unnamed}}
-use Rattle.fst_levels.specs.Leveling.{Leveling}
-use Rattle.fst_walks.specs.{Telling.IsTold, declared.ends.Ends.Ends, declared.graded.Graded.Graded}
+use Rattle.fst_walks.specs.{Telling.IsTold, declared.graded.Graded.Graded}
 use Rattle.fst_types.specs.declared.grade.Grade.TheVariants as grade
 
 module _ (old : List Patch) (n blocks : ℕ) (marks : List Bool) (K : Keeps old n blocks marks) (gates : Gates) (paired : ArePaired old n gates.head gates.tail) where
@@ -130,8 +129,13 @@ around_kept new old e p room = (room_above new old e p.dependencies.items room.0
     below None r = tt
     below (Some x) r = room_below new old e x.tail r
 
-pub places_kept : {new old : Vec Head} {ends : Ends} {levels lowered : Leveling} → new.len ≡ old.len → new.cap ≡ old.cap → (length lowered.ranks ≡ length levels.ranks) × (lowered.room ≡ levels.room) → HasPlaces 1 old ends levels → HasPlaces 1 new ends lowered
-places_kept len cap ranks room = record { heads_free = omega (arith, len, cap, room.heads_free); marks_free = room.marks_free; below_free = room.below_free; ranks_free = omega (arith, ranks.0, ranks.1, room.ranks_free) }
+pub places_kept : {old new : Columns} → new.heads.len ≡ old.heads.len → new.heads.cap ≡ old.heads.cap → new.ends ≡ old.ends → (length new.levels.ranks ≡ length old.levels.ranks) × (new.levels.room ≡ old.levels.room) → HasPlaces 1 old → HasPlaces 1 new
+places_kept len cap ends ranks room = record {
+  heads_free = omega (arith, len, cap, room.heads_free);
+  marks_free = rw ends room.marks_free;
+  below_free = rw ends room.below_free;
+  ranks_free = omega (arith, ranks.0, ranks.1, room.ranks_free);
+}
 
 -- a count that is not 0 has one that passes
 one_passes : (t : ℕ → Bool) (xs : List ℕ) → count_by t xs ≢ 0 → (x : ℕ) × In xs x × (t x ≡ true)

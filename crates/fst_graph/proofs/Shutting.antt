@@ -13,10 +13,10 @@ use Rattle.fst_heads.proofs.{AtNumber.patches_in_nodes, Beside.{beside_landed, l
 use Rattle.fst_levels.proofs.Seen.{seen, one_each, lawful_nodes, tallies_wider}
 use Rattle.fst_graph.proofs.{Borne.{inside_nodes, open_nodes}, Kept.{covered_moved, keeps_sealed}, NeedsNow.needing_sealed, Ranks.leveled_moved, Sound.as_many_standings, Tallied.tallies_sealed}
 
-module _ {s : Inside} (S : AreSound s) {g : ℕ} (gate : IsOpenNumber (patches_of s.heads.items) g)
-    (mid : Vec Head) (shut : nodes_of mid.items ≡ map (at_number g seals) (nodes_of s.heads.items)) where
+module _ {s : Inside} (S : AreSound s) {g : ℕ} (gate : IsOpenNumber (patches_of s.columns.heads.items) g)
+    (mid : Vec Head) (shut : nodes_of mid.items ≡ map (at_number g seals) (nodes_of s.columns.heads.items)) where
   -- what comes to rest may be told from there
-  pub shut_ready : {waits : List ℕ} {cap : ℕ} → waits ≡ s.queue.items ++ enqueued_sealed g (nodes_of s.heads.items) → cap ≡ s.queue.cap → s.standings.len ≤ 65535
+  pub shut_ready : {waits : List ℕ} {cap : ℕ} → waits ≡ s.columns.queue.items ++ enqueued_sealed g (nodes_of s.columns.heads.items) → cap ≡ s.columns.queue.cap → s.standings.len ≤ 65535
       → record {
         start : Spreading Sinks (nodes_of mid.items) s.standings.len waits;
         linked : AreLinked (nodes_of mid.items);
@@ -26,37 +26,37 @@ module _ {s : Inside} (S : AreSound s) {g : ℕ} (gate : IsOpenNumber (patches_o
         room : length mid.items ≤ cap;
       }
   shut_ready queued capacity narrow =
-      let nodes = nodes_of s.heads.items in
+      let nodes = nodes_of s.columns.heads.items in
       let T = S.tallies in
-      let there = open_nodes s.heads.items g gate in
+      let there = open_nodes s.columns.heads.items g gate in
       record {
-        start = rw (shut, queued, T.idle, as_many_standings S) (starts_sealed nodes s.numbers s.blocks g (lawful_nodes s.heads.items s.numbers S.keeps.lawful) (inside_nodes s.heads.items s.blocks S.keeps.inside) T.settled there);
+        start = rw (shut, queued, T.idle, as_many_standings S) (starts_sealed nodes s.numbers s.blocks g (lawful_nodes s.columns.heads.items s.numbers S.keeps.lawful) (inside_nodes s.columns.heads.items s.blocks S.keeps.inside) T.settled there);
         linked = rw shut (linked_sealed nodes g T.linked);
         distinct = rw shut (distinct_sealed nodes g T.distinct);
-        standing = rw (shut, as_many_standings S) (stand_sealed nodes s.numbers s.blocks g s.standings.items (one_each s.heads.items s.numbers S.keeps.lawful.one_place_each) there T.standing);
+        standing = rw (shut, as_many_standings S) (stand_sealed nodes s.numbers s.blocks g s.standings.items (one_each s.columns.heads.items s.numbers S.keeps.lawful.one_place_each) there T.standing);
         narrow = narrow;
         room = omega (arith, ap length shut, length-map mid.items node_of, length-map nodes (at_number g seals), T.room, capacity);
       }
 
   module _ (new : Vec Head) (placed : IsCascadeOf (patches_of mid.items) (patches_of new.items)) where
-    pub shut_cascade : IsCascadeOf (map (sealed g) (patches_of s.heads.items)) (patches_of new.items)
+    pub shut_cascade : IsCascadeOf (map (sealed g) (patches_of s.columns.heads.items)) (patches_of new.items)
     shut_cascade =
-        let was : map unsettled (patches_of mid.items) ≡ map unsettled (map (sealed g) (patches_of s.heads.items)) =
-        ap (map unsettled) (seen mid.items _ shut) ∙ (unsettled_sealed (nodes_of s.heads.items) g ∙ ap (λ ps. map unsettled (map (sealed g) ps)) (patches_in_nodes s.heads.items)) in
+        let was : map unsettled (patches_of mid.items) ≡ map unsettled (map (sealed g) (patches_of s.columns.heads.items)) =
+        ap (map unsettled) (seen mid.items _ shut) ∙ (unsettled_sealed (nodes_of s.columns.heads.items) g ∙ ap (λ ps. map unsettled (map (sealed g) ps)) (patches_in_nodes s.columns.heads.items)) in
         record { same = placed.same ∙ was; places = placed.places; settled = placed.settled }
 
-    alike_shut : Alike (patches_of s.heads.items) (patches_of new.items)
-    alike_shut = alike_sealed (patches_of s.heads.items) (patches_of new.items) s.numbers g S.keeps.lawful gate shut_cascade
+    alike_shut : Alike (patches_of s.columns.heads.items) (patches_of new.items)
+    alike_shut = alike_sealed (patches_of s.columns.heads.items) (patches_of new.items) s.numbers g S.keeps.lawful gate shut_cascade
 
-    keeps_shut : Keeps (patches_of new.items) s.numbers s.blocks s.ends.up.walk.marks
-    keeps_shut = keeps_sealed (patches_of s.heads.items) (patches_of new.items) s.numbers s.blocks g s.ends.up.walk.marks s.ends.up.walk.marks S.keeps gate shut_cascade refl
+    keeps_shut : Keeps (patches_of new.items) s.numbers s.blocks s.columns.ends.up.walk.marks
+    keeps_shut = keeps_sealed (patches_of s.columns.heads.items) (patches_of new.items) s.numbers s.blocks g s.columns.ends.up.walk.marks s.columns.ends.up.walk.marks S.keeps gate shut_cascade refl
 
     -- the gate may come down from the top
-    pub shut_lowers : {index : ℕ} → HasIndex s.heads.items g index → record { rising : IsRising new.items; index : index < length new.items; leveled : IsLeveled (patches_of new.items) (length s.levels.floors) s.levels }
+    pub shut_lowers : {index : ℕ} → HasIndex s.columns.heads.items g index → record { rising : IsRising new.items; index : index < length new.items; leveled : IsLeveled (patches_of new.items) (length s.columns.levels.floors) s.columns.levels }
     shut_lowers at = record {
       rising = rising_heads new.items keeps_shut.lawful.one_place_each.rising;
-      index = let lt = at.0 in omega (arith, lt, length_alike (patches_of s.heads.items) (patches_of new.items) alike_shut, length-map s.heads.items patch_of, length-map new.items patch_of);
-      leveled = subst (λ n. IsLeveled (patches_of new.items) n s.levels) (sym S.leveled.long) (leveled_moved alike_shut S.leveled);
+      index = let lt = at.0 in omega (arith, lt, length_alike (patches_of s.columns.heads.items) (patches_of new.items) alike_shut, length-map s.columns.heads.items patch_of, length-map new.items patch_of);
+      leveled = subst (λ n. IsLeveled (patches_of new.items) n s.columns.levels) (sym S.leveled.long) (leveled_moved alike_shut S.leveled);
     }
 
     module _ (landed : ℕ) (settled : AreSettled (nodes_of new.items) s.standings.len) (counted : count_by is_waiting (nodes_of new.items) + landed ≡ count_by is_waiting (nodes_of mid.items)) where
@@ -65,24 +65,24 @@ module _ {s : Inside} (S : AreSound s) {g : ℕ} (gate : IsOpenNumber (patches_o
 
       -- no more came to rest than are not on disk
       pub shut_few : landed ≤ s.live
-      shut_few = landed_few s.heads.items mid.items new.items (at_number g seals) s.blocks s.live landed s.ends.up.crossed.items shut (sealed_told g) S.tallies.settled still_settled counted S.beside
+      shut_few = landed_few s.columns.heads.items mid.items new.items (at_number g seals) s.blocks s.live landed s.columns.ends.up.crossed.items shut (sealed_told g) S.tallies.settled still_settled counted S.beside
 
-      pub shut_sound : {told : Vec Standing} {emptied shelf : Vec ℕ} {lowered : Leveling} → IsLeveled (patches_of new.items) (length s.levels.floors) lowered → IsSpreadOf (nodes_of mid.items) (nodes_of new.items) → AllStand (nodes_of new.items) s.standings.len told.items → emptied.items ≡ [] → emptied.cap ≡ s.queue.cap
-          → AreSound (record s { heads = new; levels = lowered; standings = told; queue = emptied; landed = shelf; live = s.live - landed; unmarked = 0; prepared = None })
+      pub shut_sound : {told : Vec Standing} {emptied shelf : Vec ℕ} {lowered : Leveling} → IsLeveled (patches_of new.items) (length s.columns.levels.floors) lowered → IsSpreadOf (nodes_of mid.items) (nodes_of new.items) → AllStand (nodes_of new.items) s.standings.len told.items → emptied.items ≡ [] → emptied.cap ≡ s.columns.queue.cap
+          → AreSound (record s { columns = record s.columns { heads = new; levels = lowered; queue = emptied }; standings = told; landed = shelf; live = s.live - landed; unmarked = 0; prepared = None })
       shut_sound {told} {emptied} {lowered} leveled spread stand empty capacity =
           let kept = keeps_shut in
           let spread_from = subst (λ ns. IsSpreadOf ns (nodes_of new.items)) shut spread in
           let standing = subst (λ k. AllStand (nodes_of new.items) k told.items) (as_many_standings S) stand in
           record {
             keeps = kept;
-            beside = beside_landed s.heads.items mid.items new.items (at_number g seals) s.blocks s.live landed s.ends.up.crossed.items shut (sealed_told g) S.tallies.settled still_settled counted S.beside;
+            beside = beside_landed s.columns.heads.items mid.items new.items (at_number g seals) s.blocks s.live landed s.columns.ends.up.crossed.items shut (sealed_told g) S.tallies.settled still_settled counted S.beside;
             tallies = tallies_wider _ s.numbers s.blocks _ _ _ _ _ _
-                (tallies_sealed (nodes_of s.heads.items) (nodes_of new.items) s.numbers s.blocks _ _ _ _ _ g (lawful_nodes s.heads.items s.numbers S.keeps.lawful) (lawful_nodes new.items s.numbers kept.lawful) S.tallies
-                (open_nodes s.heads.items g gate) spread_from still_settled standing) empty (omega (arith, capacity));
+                (tallies_sealed (nodes_of s.columns.heads.items) (nodes_of new.items) s.numbers s.blocks _ _ _ _ _ g (lawful_nodes s.columns.heads.items s.numbers S.keeps.lawful) (lawful_nodes new.items s.numbers kept.lawful) S.tallies
+                (open_nodes s.columns.heads.items g gate) spread_from still_settled standing) empty (omega (arith, capacity));
             covered = covered_moved alike_shut kept S.covered;
             along = S.along;
             leveled = subst (λ n. IsLeveled (patches_of new.items) n lowered) S.leveled.long leveled;
-            needing = needing_sealed (patches_of s.heads.items) (patches_of new.items) s.numbers g S.keeps.lawful kept.lawful gate shut_cascade S.needing;
+            needing = needing_sealed (patches_of s.columns.heads.items) (patches_of new.items) s.numbers g S.keeps.lawful kept.lawful gate shut_cascade S.needing;
             given = S.given;
             none_below = λ b d lt. absurd (omega (arith, lt));
             prepared = tt;

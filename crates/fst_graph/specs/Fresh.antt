@@ -1,11 +1,10 @@
 -- Room for new heads, and what a new head makes of the others and of what has a place for each head.
 use Rattle.std.specs.Prelude.{◌≡◌, ◌≤◌, ◌<◌, ◌+◌, ◌++◌, ◌∷◌, [], ℕ, false, List, length, count_by, map, vec_len, vec_capacity, Contains}
-use Rattle.std.specs.Global.{Vec}
 use Rattle.std.specs.List.Sorted.{IsStrictlyIncreasing}
 use Rattle.fst_types.specs.{Dependencies.IsLiveNumber, Facts.SparseAreLawful, Limits.max_heads, Making.fresh, Patches.{Patch, IsOn, IsOpenGate, OpenGate}, Tests.{is_live, is_on}}
-use Rattle.fst_heads.specs.{Heads.{kind_of, patches_of}, Nodes.{Node, nodes_of, linked_to, pending_in}, Pendings.{joined, of_kind, sums_of}, declared.head.Head.Head}
-use Rattle.fst_levels.specs.{Ancestors.GoesUnder, Leveling.{Leveling, level_of, top_level}, declared.levels.{Ancestry.Ancestry, Rank.Rank}}
-use Rattle.fst_walks.specs.declared.ends.Ends.{Ends}
+use Rattle.fst_heads.specs.{Heads.{kind_of, patches_of}, Nodes.{Node, nodes_of, linked_to, pending_in}, Pendings.{joined, of_kind, sums_of}}
+use Rattle.fst_levels.specs.{Ancestors.GoesUnder, Leveling.{level_of, top_level}, declared.levels.{Ancestry.Ancestry, Rank.Rank}}
+use Rattle.fst_graph.specs.declared.columns.Columns.{Columns}
 use Rattle.fst_graph.specs.declared.fresh.Fresh.{Fresh}
 
 -- the patch that it becomes
@@ -29,46 +28,45 @@ pub record MayAdd (heads : List Patch) (numbers : ℕ) (p : Patch) : Type 0 wher
   pub lawful : SparseAreLawful (heads ++ p ∷ []) (numbers + 1)
 
 -- so many more heads have a place, but in the queue
-pub record HasPlaces (more : ℕ) (heads : Vec Head) (ends : Ends) (levels : Leveling) : Type 0 where
-  pub heads_free : vec_len heads + more ≤ vec_capacity heads
-  pub marks_free : length ends.up.walk.marks + more ≤ ends.up.walk.room
-  pub below_free : length ends.down.walk.marks + more ≤ ends.down.walk.room
-  pub ranks_free : length levels.ranks + more ≤ levels.room
+pub record HasPlaces (more : ℕ) (c : Columns) : Type 0 where
+  pub heads_free : vec_len c.heads + more ≤ vec_capacity c.heads
+  pub marks_free : length c.ends.up.walk.marks + more ≤ c.ends.up.walk.room
+  pub below_free : length c.ends.down.walk.marks + more ≤ c.ends.down.walk.room
+  pub ranks_free : length c.levels.ranks + more ≤ c.levels.room
 
 -- nothing but room changes, and the queue gets no less
-pub record IsRoomier (heads : Vec Head) (ends : Ends) (levels : Leveling) (queue : Vec ℕ) (heads' : Vec Head) (ends' : Ends) (levels' : Leveling) (queue' : Vec ℕ) : Type 0 where
-  pub nodes : nodes_of heads'.items ≡ nodes_of heads.items
-  pub marks : (ends'.up.walk.marks ≡ ends.up.walk.marks) × (ends'.down.walk.marks ≡ ends.down.walk.marks)
-  pub crossed : (ends'.up.crossed ≡ ends.up.crossed) × (ends'.down.crossed ≡ ends.down.crossed)
-  pub ranks : levels'.ranks ≡ levels.ranks
-  pub floors : levels'.floors ≡ levels.floors
-  pub waiting : queue'.items ≡ queue.items
-  pub wide : vec_capacity queue ≤ vec_capacity queue'
+pub record IsRoomier (old new : Columns) : Type 0 where
+  pub nodes : nodes_of new.heads.items ≡ nodes_of old.heads.items
+  pub marks : (new.ends.up.walk.marks ≡ old.ends.up.walk.marks) × (new.ends.down.walk.marks ≡ old.ends.down.walk.marks)
+  pub crossed : (new.ends.up.crossed ≡ old.ends.up.crossed) × (new.ends.down.crossed ≡ old.ends.down.crossed)
+  pub ranks : new.levels.ranks ≡ old.levels.ranks
+  pub floors : new.levels.floors ≡ old.levels.floors
+  pub waiting : new.queue.items ≡ old.queue.items
+  pub wide : vec_capacity old.queue ≤ vec_capacity new.queue
 
 -- patch p comes last, with that rank
-pub record HasOneMore (p : Patch) (rank : Rank) (heads : Vec Head) (ends : Ends) (levels : Leveling) (heads' : Vec Head) (ends' : Ends) (levels' : Leveling) : Type 0 where
-  pub nodes : nodes_of heads'.items ≡ nodes_with (nodes_of heads.items) p
-  pub marks : (ends'.up.walk.marks ≡ ends.up.walk.marks ++ false ∷ []) × (ends'.down.walk.marks ≡ ends.down.walk.marks ++ false ∷ [])
-  pub crossed : (ends'.up.crossed ≡ ends.up.crossed) × (ends'.down.crossed ≡ ends.down.crossed)
-  pub ranks : levels'.ranks ≡ levels.ranks ++ rank ∷ []
-  pub floors : levels'.floors ≡ levels.floors
+pub record HasOneMore (p : Patch) (rank : Rank) (old new : Columns) : Type 0 where
+  pub nodes : nodes_of new.heads.items ≡ nodes_with (nodes_of old.heads.items) p
+  pub marks : (new.ends.up.walk.marks ≡ old.ends.up.walk.marks ++ false ∷ []) × (new.ends.down.walk.marks ≡ old.ends.down.walk.marks ++ false ∷ [])
+  pub crossed : (new.ends.up.crossed ≡ old.ends.up.crossed) × (new.ends.down.crossed ≡ old.ends.down.crossed)
+  pub ranks : new.levels.ranks ≡ old.levels.ranks ++ rank ∷ []
+  pub floors : new.levels.floors ≡ old.levels.floors
+  pub waiting : new.queue.items ≡ old.queue.items
+  pub wide : vec_capacity old.queue ≤ vec_capacity new.queue
 
 -- patch p, which is no change, is put down: an open gate at the top, and another no lower than what it depends on. Its ancestors are among that or below. The queue has a place for it
-pub record IsAdded (p : Patch) (heads : Vec Head) (ends : Ends) (levels : Leveling) (queue : Vec ℕ) (heads' : Vec Head) (ends' : Ends) (levels' : Leveling) (queue' : Vec ℕ) : Type 0 where
+pub record IsAdded (p : Patch) (old new : Columns) : Type 0 where
   pub level : ℕ
   pub ancestry : Ancestry
-  pub under : GoesUnder (patches_of heads.items) p.number p.dependencies ancestry
-  pub head : HasOneMore p (record { number = p.number; level = level; ancestry = ancestry }) heads ends levels heads' ends' levels'
-  pub over : (q : ℕ) → Contains p.dependencies q → level_of levels.ranks q ≤ top_level → level_of levels.ranks q ≤ level
+  pub under : GoesUnder (patches_of old.heads.items) p.number p.dependencies ancestry
+  pub head : HasOneMore p (record { number = p.number; level = level; ancestry = ancestry }) old new
+  pub over : (q : ℕ) → Contains p.dependencies q → level_of old.levels.ranks q ≤ top_level → level_of old.levels.ranks q ≤ level
   pub most : level ≤ top_level
   pub top : IsOpenGate p → level ≡ top_level
-  pub waiting : queue'.items ≡ queue.items
-  pub free : vec_len heads < vec_capacity queue'
+  pub free : vec_len old.heads < vec_capacity new.queue
 
 -- two gates are added, the second of which depends on the first
-pub record AddsTwo (numbers : ℕ) (heads : Vec Head) (ends : Ends) (levels : Leveling) (queue : Vec ℕ) (heads' : Vec Head) (ends' : Ends) (levels' : Leveling) (queue' : Vec ℕ) : Type 0 where
-  pub between : Vec Head
-  pub grown : Ends
-  pub ranked : Leveling
-  pub head : IsAdded (fresh (numbers + 1) OpenGate []) heads ends levels queue between grown ranked queue'
-  pub tail : IsAdded (fresh (numbers + 1 + 1) OpenGate ((numbers + 1) ∷ [])) between grown ranked queue' heads' ends' levels' queue'
+pub record AddsTwo (numbers : ℕ) (old new : Columns) : Type 0 where
+  pub between : Columns
+  pub head : IsAdded (fresh (numbers + 1) OpenGate []) old between
+  pub tail : IsAdded (fresh (numbers + 1 + 1) OpenGate ((numbers + 1) ∷ [])) between new

@@ -17,6 +17,7 @@
 //! patches are as the definitions want them, and what holds of the groups.
 #![tactic(auto)]
 
+mod columns;
 mod fresh;
 mod gates;
 mod graph;

@@ -19,12 +19,12 @@ mod making;
 mod pairs;
 mod reserving;
 
+use crate::columns::Columns;
 use crate::gates::{depend_fault, gain_names, gate_index};
 use crate::prepared::{Prepared, let_go};
 use fst_heads::cascade::{cascade, seal_at};
 use fst_heads::choice::{first_held, ready_set};
 use fst_heads::cover::{Cover, empty_covers};
-use fst_heads::head::Head;
 use fst_heads::launch::launch;
 use fst_heads::lists::{Listed, empty_lists, land_block};
 use fst_heads::places::block_of;
@@ -42,25 +42,20 @@ use fst_walks::ends::Ends;
 use std::alloc::{AllocError, Global};
 use std::marker::Model;
 
-/// The heads, in order of number: those of the patches that are not forgotten, and so many as `forgotten` says of patches that
-/// are, each marked so. `ends` has two marks for each, and two places for each block, for the walks that find grades and
-/// cycles; `levels` has a level for each, and a floor for each block, and `needs` what each block needs.
-/// `lists` has for each block its changes that are not on disk, and
-/// `standings` has the mark of each. `queue` has a place for each head, for those of which their dependants are to be told,
-/// and `landed` for the patches on disk that are not forgotten, whose numbers it has.
+/// `columns` has the heads: those of the patches that are not forgotten, and so many as `forgotten` says of patches that are, each
+/// marked so; and what has a place for each of them. Its walks' marks have two places for each block, and its levels a floor.
+/// `needs` has what each block needs, `lists` for each block its changes that are not on disk, and `standings` the mark of each.
+/// `landed` has the numbers of the patches on disk that are not forgotten, and a place for each head.
 /// Where a change is prepared, there is a free place for it in each. `live` is how many of the patches are not on disk, and
 /// no block below `unmarked` may be written.
 #[derive(Drop)]
 pub struct Sparse {
     alloc: Global,
-    heads: Vec<Head>,
-    ends: Ends,
-    levels: Levels,
+    columns: Columns,
     needs: Needs,
     lists: Vec<Vec<Listed>>,
     covers: Vec<Cover>,
     standings: Vec<Standing>,
-    queue: Vec<u32>,
     landed: Vec<u32>,
     live: usize,
     forgotten: usize,
@@ -79,7 +74,7 @@ impl Model for Sparse {
 
     ghost view = { view_of };
 
-    ghost invariant = { λ s. AreSound s × AreRemembered s.heads.items s.landed s.forgotten s.prepared };
+    ghost invariant = { λ s. AreSound s × AreRemembered s.columns.heads.items s.landed s.forgotten s.prepared };
 }
 
 impl Sparse {
@@ -109,14 +104,16 @@ impl Sparse {
         };
         Ok(Sparse {
             alloc,
-            heads: Vec::new(alloc),
-            ends,
-            levels,
+            columns: Columns {
+                heads: Vec::new(alloc),
+                ends,
+                levels,
+                queue: Vec::new(alloc),
+            },
             needs,
             lists,
             covers,
             standings,
-            queue: Vec::new(alloc),
             landed: Vec::new(alloc),
             live: 0,
             forgotten: 0,
@@ -138,7 +135,7 @@ impl Sparse {
     pub(crate) fn standing(&self) -> usize
         ensures { result ≡ length self.now.heads }
     {
-        self.heads.len() - self.forgotten
+        self.columns.heads.len() - self.forgotten
     }
 
     /// How many patches are not on disk. It takes no memory.
@@ -155,8 +152,8 @@ impl Sparse {
         if !is_given(self.numbers, no.0) {
             return None;
         }
-        match self.levels.find(&self.heads, no.0) {
-            Some(index) => Some(self.heads[index].place),
+        match self.columns.levels.find(&self.columns.heads, no.0) {
+            Some(index) => Some(self.columns.heads[index].place),
             None => Some(Place::Disk),
         }
     }
@@ -172,7 +169,7 @@ impl Sparse {
             return Ok(Vec::new(self.alloc));
         };
         let most = ready_count(&self.standings, block.0);
-        ready_set(self.alloc, &self.heads, list, most, block.0)
+        ready_set(self.alloc, &self.columns.heads, list, most, block.0)
     }
 
     // As `seal`, but what was put behind the gate stays at the top.
@@ -183,20 +180,25 @@ impl Sparse {
         ensures blocks { self.new.blocks ≡ self.old.blocks }
     {
         let_go(&mut self.prepared);
-        let index = match gate_index(&self.heads, self.numbers, gate.0) {
+        let index = match gate_index(&self.columns.heads, self.numbers, gate.0) {
             Ok(index) => index,
             Err(fault) => return Err(fault),
         };
-        seal_at(&mut self.heads, &mut self.queue, gate.0, index);
+        seal_at(
+            &mut self.columns.heads,
+            &mut self.columns.queue,
+            gate.0,
+            index,
+        );
         let landed = cascade(
-            &mut self.heads,
-            &mut self.queue,
+            &mut self.columns.heads,
+            &mut self.columns.queue,
             &mut self.standings,
             &mut self.landed,
         );
-        self.levels.lower(&self.heads, index);
+        self.columns.levels.lower(&self.columns.heads, index);
         // The tail gate of a group gained its changes without a look at its ancestors, and gains no more.
-        renew(&mut self.levels, &self.heads, gate.0);
+        renew(&mut self.columns.levels, &self.columns.heads, gate.0);
         self.live -= landed;
         self.unmarked = 0;
         Ok(())
@@ -206,7 +208,12 @@ impl Sparse {
     pub(crate) fn come_down(&mut self, gate: u32)
         ensures { self.new ≡ self.old }
     {
-        sink_over(&mut self.levels, &self.heads, &mut self.ends.up.walk, gate);
+        sink_over(
+            &mut self.columns.levels,
+            &self.columns.heads,
+            &mut self.columns.ends.up.walk,
+            gate,
+        );
     }
 
     /// Seals an open gate, and puts on disk what now rests there. It is refused as `NoPatch` where the number was not
@@ -236,19 +243,25 @@ impl Sparse {
     {
         let_go(&mut self.prepared);
         let sight = Sight {
-            heads: &self.heads,
+            heads: &self.columns.heads,
             lists: &self.lists,
             covers: &self.covers,
-            levels: &self.levels,
+            levels: &self.columns.levels,
             needs: &self.needs,
         };
-        if let Some(fault) = depend_fault(&sight, &mut self.ends, self.numbers, gate.0, on) {
+        if let Some(fault) = depend_fault(
+            &sight,
+            &mut self.columns.ends,
+            self.numbers,
+            gate.0,
+            on,
+        ) {
             return Err(fault);
         }
-        let Ok(()) = gain_names(self.alloc, &mut self.heads, gate.0, on) else {
+        let Ok(()) = gain_names(self.alloc, &mut self.columns.heads, gate.0, on) else {
             return Err(Fault::Memory);
         };
-        renew(&mut self.levels, &self.heads, gate.0);
+        renew(&mut self.columns.levels, &self.columns.heads, gate.0);
         Ok(())
     }
 
@@ -262,10 +275,15 @@ impl Sparse {
         let Some(first) = chosen.first() else {
             return;
         };
-        let Some(block) = block_of(&self.heads, first.0) else {
+        let Some(block) = block_of(&self.columns.heads, first.0) else {
             return;
         };
-        launch(&mut self.heads, &mut self.queue, chosen, block);
+        launch(
+            &mut self.columns.heads,
+            &mut self.columns.queue,
+            chosen,
+            block,
+        );
         self.standings[block as usize].launch();
         self.needs.clear(block);
     }
@@ -278,23 +296,23 @@ impl Sparse {
         let_go(&mut self.prepared);
         let flying = flying_count(&self.standings, block.0);
         land_block(
-            &mut self.heads,
+            &mut self.columns.heads,
             &mut self.lists,
-            &mut self.queue,
+            &mut self.columns.queue,
             flying,
             block.0,
         );
         land_at(&mut self.standings, block.0);
         self.needs.land(block.0);
         let landed = cascade(
-            &mut self.heads,
-            &mut self.queue,
+            &mut self.columns.heads,
+            &mut self.columns.queue,
             &mut self.standings,
             &mut self.landed,
         );
         self.live -= landed;
         self.unmarked = 0;
-        sink_floor(&mut self.levels, &self.lists, block.0);
+        sink_floor(&mut self.columns.levels, &self.lists, block.0);
     }
 
     /// The least hard patch of the block in memory outside its writable set. It takes no memory.
@@ -308,7 +326,7 @@ impl Sparse {
             return None;
         };
         let held = held_count(&self.standings, block.0);
-        first_held(&self.heads, list, held, block.0)
+        first_held(&self.columns.heads, list, held, block.0)
     }
 
     /// Whether the writable set of the block has a change, where nothing of the block is in flight. It takes no memory.

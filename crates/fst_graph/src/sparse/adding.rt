@@ -13,7 +13,7 @@ ghost use Rattle.fst_graph.specs.Known.{unprepared, rest_place, Refuses, AddsGat
 ghost use Rattle.fst_heads.specs.Heads.{IsRising, patches_of};
 ghost use Rattle.fst_heads.specs.Names.{numbers_of};
 
-use crate::fresh::{Fresh, add_one, gate, reserve_landed};
+use crate::fresh::{Fresh, gate, reserve_landed};
 use crate::prepared::let_go;
 use crate::refusals::{make_fault, room_fault};
 use crate::sparse::Sparse;
@@ -96,18 +96,14 @@ impl Sparse {
         if let Some(fault) = room_fault(standing, self.numbers) {
             return Err(fault);
         }
-        if reserve_landed(&mut self.landed, self.heads.len() + 1).is_err() {
+        if reserve_landed(&mut self.landed, self.columns.heads.len() + 1).is_err() {
             return Err(Fault::Memory);
         }
         let number = self.numbers + 1;
-        let Ok(()) = add_one(
-            self.alloc,
-            &mut self.heads,
-            &mut self.ends,
-            &mut self.levels,
-            &mut self.queue,
-            gate(number, SmallVec::new(self.alloc)),
-        ) else {
+        let Ok(()) = self
+            .columns
+            .add_one(self.alloc, gate(number, SmallVec::new(self.alloc)))
+        else {
             return Err(Fault::Memory);
         };
         self.live += 1;
@@ -128,7 +124,7 @@ impl Sparse {
         let_go(&mut self.prepared);
         let fresh = match new_empty(
             self.alloc,
-            &self.heads,
+            &self.columns.heads,
             &mut self.landed,
             standing,
             self.numbers,
@@ -139,14 +135,7 @@ impl Sparse {
         };
         let place = fresh.place;
         let number = fresh.number;
-        let Ok(()) = add_one(
-            self.alloc,
-            &mut self.heads,
-            &mut self.ends,
-            &mut self.levels,
-            &mut self.queue,
-            fresh,
-        ) else {
+        let Ok(()) = self.columns.add_one(self.alloc, fresh) else {
             return Err(Fault::Memory);
         };
         self.live += weight(place);

@@ -16,8 +16,8 @@ impl Sparse {
         ensures { Forgets self.old result self.new }
     {
         let_go(&mut self.prepared);
-        flag_all(&self.levels, &mut self.heads, &self.landed);
-        self.levels.ease();
+        flag_all(&self.columns.levels, &mut self.columns.heads, &self.landed);
+        self.columns.levels.ease();
         let many = self.landed.len();
         self.forgotten += many;
         self.landed.clear();
@@ -29,9 +29,11 @@ impl Sparse {
         ensures { Forgets self.old result self.new }
     {
         let_go(&mut self.prepared);
-        self.levels.forget(&mut self.heads, self.live);
-        self.levels.ease();
-        self.ends.shrink(self.heads.len());
+        self.columns
+            .levels
+            .forget(&mut self.columns.heads, self.live);
+        self.columns.levels.ease();
+        self.columns.ends.shrink(self.columns.heads.len());
         self.forgotten = 0;
         let many = self.landed.len();
         self.landed.clear();
@@ -44,8 +46,8 @@ impl Sparse {
     pub fn forget(&mut self) -> u32
         ensures { Forgets self.old result self.new }
     {
-        let dropped = self.heads.len() - self.live;
-        if dropped < SPARE.max(self.heads.len() / 4) {
+        let dropped = self.columns.heads.len() - self.live;
+        if dropped < SPARE.max(self.columns.heads.len() / 4) {
             self.mark_landed()
         } else {
             self.drop_landed()

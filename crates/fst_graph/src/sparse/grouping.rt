@@ -43,31 +43,30 @@ impl Sparse {
         let standing = self.standing();
         let_go(&mut self.prepared);
         let sight = Sight {
-            heads: &self.heads,
+            heads: &self.columns.heads,
             lists: &self.lists,
             covers: &self.covers,
-            levels: &self.levels,
+            levels: &self.columns.levels,
             needs: &self.needs,
         };
-        if reaches_tail(&sight, &mut self.ends, gates.tail, block.0, span) {
+        if reaches_tail(&sight, &mut self.columns.ends, gates.tail, block.0, span) {
             return Err(Fault::Cycle);
         }
         if let Some(fault) = room_fault(standing, self.numbers) {
             return Err(fault);
         }
-        let Ok(prepared) = prepare_member(self.alloc, &sight, &mut self.ends, block.0, span, gates)
-        else {
+        let Ok(prepared) = prepare_member(
+            self.alloc,
+            &sight,
+            &mut self.columns.ends,
+            block.0,
+            span,
+            gates,
+        ) else {
             return Err(Fault::Memory);
         };
         let made = (PatchNo(self.numbers + 1), prepared.told.grade);
-        let around = reserve_around(
-            &mut self.heads,
-            &mut self.ends,
-            &mut self.levels,
-            &mut self.queue,
-            &mut self.landed,
-            &prepared,
-        );
+        let around = reserve_around(&mut self.columns, &mut self.landed, &prepared);
         if around.is_err() {
             return Err(given_up(prepared));
         }
@@ -75,7 +74,7 @@ impl Sparse {
             &mut self.lists,
             &mut self.covers,
             &mut self.needs,
-            &self.heads,
+            &self.columns.heads,
             &prepared,
         );
         if inside.is_err() {
@@ -113,18 +112,23 @@ impl Sparse {
         ensures prepared { self.new.prepared ≡ self.old.prepared }
         ensures closed { IsOpenNumber self.new.heads head → ⊥ }
     {
-        match gate_index(&self.heads, self.numbers, head) {
+        match gate_index(&self.columns.heads, self.numbers, head) {
             Ok(index) => {
-                seal_at(&mut self.heads, &mut self.queue, head, index);
+                seal_at(
+                    &mut self.columns.heads,
+                    &mut self.columns.queue,
+                    head,
+                    index,
+                );
                 let landed = cascade(
-                    &mut self.heads,
-                    &mut self.queue,
+                    &mut self.columns.heads,
+                    &mut self.columns.queue,
                     &mut self.standings,
                     &mut self.landed,
                 );
-                self.levels.lower(&self.heads, index);
+                self.columns.levels.lower(&self.columns.heads, index);
                 // The gates below the head may have had other ancestors when it was put after them.
-                renew(&mut self.levels, &self.heads, head);
+                renew(&mut self.columns.levels, &self.columns.heads, head);
                 self.live -= landed;
                 self.unmarked = 0;
                 true
@@ -154,7 +158,7 @@ impl Sparse {
         ensures foreseen { IfSome self.old.prepared (λ p. (result.0.0 ≡ p.number) × (result.1 ≡ p.grade)) }
         ensures blocks { self.new.blocks ≡ self.old.blocks }
     {
-        let _ = &self.heads;
+        let _ = &self.columns.heads;
         self.begin_member(head);
         self.put()
     }

@@ -17,7 +17,7 @@ ghost use Rattle.fst_heads.specs.Tests.{is_hard_kind};
 ghost use Rattle.fst_heads.specs.declared.standing.Standing.{Standing as Counts};
 ghost use Rattle.fst_heads.specs.declared.pending.Pending.TheVariants as pending_as;
 
-use crate::fresh::{Fresh, put_down, row_of};
+use crate::fresh::{Fresh, row_of};
 use crate::prepared::{given_up, keep, let_go, prepare};
 use crate::refusals::make_fault;
 use crate::sparse::Sparse;
@@ -94,24 +94,24 @@ impl Sparse {
             return Err(fault);
         }
         let sight = Sight {
-            heads: &self.heads,
+            heads: &self.columns.heads,
             lists: &self.lists,
             covers: &self.covers,
-            levels: &self.levels,
+            levels: &self.columns.levels,
             needs: &self.needs,
         };
-        let Ok(prepared) = prepare(self.alloc, &sight, &mut self.ends, block.0, span, after) else {
+        let Ok(prepared) = prepare(
+            self.alloc,
+            &sight,
+            &mut self.columns.ends,
+            block.0,
+            span,
+            after,
+        ) else {
             return Err(Fault::Memory);
         };
         let made = (PatchNo(self.numbers + 1), prepared.told.grade);
-        let around = reserve_around(
-            &mut self.heads,
-            &mut self.ends,
-            &mut self.levels,
-            &mut self.queue,
-            &mut self.landed,
-            &prepared,
-        );
+        let around = reserve_around(&mut self.columns, &mut self.landed, &prepared);
         if around.is_err() {
             return Err(given_up(prepared));
         }
@@ -119,7 +119,7 @@ impl Sparse {
             &mut self.lists,
             &mut self.covers,
             &mut self.needs,
-            &self.heads,
+            &self.columns.heads,
             &prepared,
         );
         if inside.is_err() {
@@ -157,28 +157,27 @@ impl Sparse {
         let kind = Kind::Change(grade, block as u16, span);
         let row = prepared.dependencies.as_slice();
         let sight = Sight {
-            heads: &self.heads,
+            heads: &self.columns.heads,
             lists: &self.lists,
             covers: &self.covers,
-            levels: &self.levels,
+            levels: &self.columns.levels,
             needs: &self.needs,
         };
         let rise = rise_of(
             &sight,
-            &mut self.ends.up.walk,
-            &mut self.ends.up.crossed,
+            &mut self.columns.ends.up.walk,
+            &mut self.columns.ends.up.crossed,
             block,
             row,
             prepared.told,
         );
-        self.levels
-            .lift(&self.heads, &self.ends.up.walk, block, rise);
-        self.needs.put(&self.heads, row, grade);
+        self.columns.levels.lift(&self.columns.heads, &self.columns.ends.up.walk, block, rise);
+        self.needs.put(&self.columns.heads, row, grade);
         self.needs.note(number, prepared.told.end);
         let rank = Rank {
             number,
             level: rise.level,
-            ancestry: ancestry_over(&self.levels, &self.heads, row, number),
+            ancestry: ancestry_over(&self.columns.levels, &self.columns.heads, row, number),
         };
         let fresh = Fresh {
             number,
@@ -186,14 +185,7 @@ impl Sparse {
             place: Place::Memory,
             dependencies: prepared.dependencies,
         };
-        let pending = put_down(
-            self.alloc,
-            &mut self.heads,
-            &mut self.ends,
-            &mut self.levels,
-            fresh,
-            rank,
-        );
+        let pending = self.columns.put_down(self.alloc, fresh, rank);
         let listed = Listed { number, span };
         enlist(
             &mut self.lists,
@@ -209,7 +201,7 @@ impl Sparse {
         self.numbers = number;
         match gates {
             Some(gates) => {
-                tie(self.alloc, &mut self.heads, gates.tail, number);
+                tie(self.alloc, &mut self.columns.heads, gates.tail, number);
                 (PatchNo(number), grade)
             }
             None => (PatchNo(number), grade),

@@ -5,7 +5,7 @@ ghost use Rattle.fst_types.specs.Refusals.{IsFirst, NoneHolds};
 ghost use Rattle.fst_graph.specs.Grouping.{pair_order, AddsPair, SealsIfOpen};
 ghost use Rattle.fst_graph.specs.Known.{unprepared, Refuses};
 
-use crate::fresh::{add_two, reserve_landed};
+use crate::fresh::reserve_landed;
 use crate::prepared::let_go;
 use crate::sparse::Sparse;
 use fst_types::{Fault, MAX_HEADS, MAX_NUMBER, PatchNo, What};
@@ -36,17 +36,10 @@ impl Sparse {
         if let Some(fault) = self.pair_fault() {
             return Err(fault);
         }
-        if reserve_landed(&mut self.landed, self.heads.len() + 2).is_err() {
+        if reserve_landed(&mut self.landed, self.columns.heads.len() + 2).is_err() {
             return Err(Fault::Memory);
         }
-        let Ok(()) = add_two(
-            self.alloc,
-            &mut self.heads,
-            &mut self.ends,
-            &mut self.levels,
-            &mut self.queue,
-            self.numbers,
-        ) else {
+        let Ok(()) = self.columns.add_two(self.alloc, self.numbers) else {
             return Err(Fault::Memory);
         };
         let number = self.numbers + 1;
@@ -60,7 +53,7 @@ impl Sparse {
         ensures sealed { SealsIfOpen self.old gate self.new }
         ensures blocks { self.new.blocks ≡ self.old.blocks }
     {
-        let _ = &self.heads;
+        let _ = &self.columns.heads;
         let _ = self.seal(PatchNo(gate));
     }
 }

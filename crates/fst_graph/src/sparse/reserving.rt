@@ -9,41 +9,37 @@ ghost use Rattle.fst_heads.specs.Lists.{entries_of, HasRoomInList};
 ghost use Rattle.fst_types.specs.Patches.{Patch};
 ghost use Rattle.fst_levels.specs.declared.needs.Way.{Way};
 
-use crate::fresh::{reserve_heads, reserve_landed};
+use crate::columns::Columns;
+use crate::fresh::reserve_landed;
 use crate::prepared::{Prepared, reserve_on};
 use fst_heads::cover::Cover;
 use fst_heads::head::Head;
 use fst_heads::links::{reserve_above, reserve_below};
 use fst_heads::lists::Listed;
-use fst_levels::levels::Levels;
 use fst_levels::needs::Needs;
-use fst_walks::ends::Ends;
 use std::alloc::AllocError;
 
 /// Room for the head of the change, and around it: for one more dependant of each patch of its row, and for one more name of
 /// the tail of its group.
 pub fn reserve_around(
-    heads: &mut Vec<Head>,
-    ends: &mut Ends,
-    levels: &mut Levels,
-    queue: &mut Vec<u32>,
+    columns: &mut Columns,
     landed: &mut Vec<u32>,
     prepared: &Prepared,
 ) -> Result<(), AllocError>
-    requires { IsRising heads.old.items }
-    ensures roomier { IsRoomier heads.old ends.old levels.old queue.old heads.new ends.new levels.new queue.new }
-    ensures places { OnOk result (HasPlaces 1 heads.new ends.new levels.new) }
-    ensures waits { OnOk result (vec_len heads.new < vec_capacity queue.new) }
+    requires { IsRising columns.old.heads.items }
+    ensures roomier { IsRoomier columns.old columns.new }
+    ensures places { OnOk result (HasPlaces 1 columns.new) }
+    ensures waits { OnOk result (vec_len columns.new.heads < vec_capacity columns.new.queue) }
     ensures same { landed.new.items ≡ landed.old.items }
     ensures wide { vec_capacity landed.old ≤ vec_capacity landed.new }
-    ensures shelf { OnOk result (vec_len heads.new < vec_capacity landed.new) }
-    ensures around { OnOk result (HasRoomAround heads.new.items prepared.now) }
+    ensures shelf { OnOk result (vec_len columns.new.heads < vec_capacity landed.new) }
+    ensures around { OnOk result (HasRoomAround columns.new.heads.items prepared.now) }
 {
-    reserve_heads(heads, ends, levels, queue, 1)?;
-    reserve_landed(landed, heads.len() + 1)?;
-    reserve_above(heads, prepared.dependencies.as_slice())?;
+    columns.reserve(1)?;
+    reserve_landed(landed, columns.heads.len() + 1)?;
+    reserve_above(&mut columns.heads, prepared.dependencies.as_slice())?;
     match prepared.gates {
-        Some(gates) => reserve_below(heads, gates.tail),
+        Some(gates) => reserve_below(&mut columns.heads, gates.tail),
         None => Ok(()),
     }
 }

@@ -16,7 +16,7 @@ pub add_one-requires-clause-rising : goal.add_one-requires-clause-rising
 add_one-requires-clause-rising c = rising_sound c.self.invariant.0
 
 pub add_one-requires-clause-few : goal.add_one-requires-clause-few
-add_one-requires-clause-few c = few_waiting c.self.inside.heads.items c.self.invariant.0.tallies.settled c.self.invariant.0.beside
+add_one-requires-clause-few c = few_waiting c.self.inside.columns.heads.items c.self.invariant.0.tallies.settled c.self.invariant.0.beside
 
 pub invariant_of-self-in_default : goal.invariant_of-self-in_default
 invariant_of-self-in_default c =
@@ -24,37 +24,37 @@ invariant_of-self-in_default c =
     rw c.let_go.ensures (roomier_sound c.self.invariant.0 R, roomier_shelf R.nodes c.in-Ok.ensures.same c.in-Ok.ensures.wide c.self.invariant.1)
 
 pub returns-in_default-clause-same : goal.returns-in_default-clause-same
-returns-in_default-clause-same c = rw (← c.self.view_is, c.let_go.ensures, same_view c.self.inside.heads.items c.add_one.new.heads.items c.in_default.ensures.roomier.nodes) refl
+returns-in_default-clause-same c = rw (← c.self.view_is, c.let_go.ensures, same_view c.self.inside.columns.heads.items c.add_one.new.self.heads.items c.in_default.ensures.roomier.nodes) refl
 
 -- the row has the named patches that are live, and nothing refuses the patch
-row : (c : After-add_one) → Lists (λ n. IsLiveNumber (patches_of c.self.inside.heads.items) n × Contains (numbers_of c.args.after.now) n) c.in-Ok.fresh.dependencies.items
+row : (c : After-add_one) → Lists (λ n. IsLiveNumber (patches_of c.self.inside.columns.heads.items) n × Contains (numbers_of c.args.after.now) n) c.in-Ok.fresh.dependencies.items
 row c = subst (λ hs. Lists (λ n. IsLiveNumber (patches_of hs) n × Contains (numbers_of c.args.after.now) n) c.in-Ok.fresh.dependencies.items) c.deref.ensures.value c.in-Ok.ensures.depends
 
-clear : (c : After-add_one) → NoneHolds (make_order (remembered_of c.self.inside.heads.items) c.self.inside.numbers (numbers_of c.args.after.now))
-clear c = c.in-Ok.ensures.clear (remembered_of c.self.inside.heads.items) (ap (λ (v : Known). length v.heads) c.self.view_is ∙ sym c.standing-standing.ensures)
+clear : (c : After-add_one) → NoneHolds (make_order (remembered_of c.self.inside.columns.heads.items) c.self.inside.numbers (numbers_of c.args.after.now))
+clear c = c.in-Ok.ensures.clear (remembered_of c.self.inside.columns.heads.items) (ap (λ (v : Known). length v.heads) c.self.view_is ∙ sym c.standing-standing.ensures)
 
-may : (c : After-add_one) → MayAdd (patches_of c.self.inside.heads.items) c.self.inside.numbers (patch_from c.in-Ok.fresh)
+may : (c : After-add_one) → MayAdd (patches_of c.self.inside.columns.heads.items) c.self.inside.numbers (patch_from c.in-Ok.fresh)
 may c =
-    let heads = c.self.inside.heads.items in
+    let heads = c.self.inside.columns.heads.items in
     let full = (clear c).1.1.0 in
     empty_may (patches_of heads) c.self.inside.numbers c.self.invariant.0.keeps.lawful (numbers_of c.args.after.now) c.in-Ok.fresh.dependencies.items (row c) (patch_from c.in-Ok.fresh) c.in-Ok.ensures.empty
     (omega (arith, full, live_few (is_forgotten_in (nodes_of heads)) (patches_of heads) (view_gone c.self.invariant)))
 
 -- there is a place for it among those that landed
-spare : (c : After-add_one) → length c.self.inside.heads.items < c.new_empty.new.landed.cap
+spare : (c : After-add_one) → length c.self.inside.columns.heads.items < c.new_empty.new.landed.cap
 spare c = let wide = c.in-Ok.ensures.shelf in let long = ap length c.deref.ensures.value in omega (arith, wide, long)
 
 pub note_rest-requires : goal.note_rest-requires
 note_rest-requires c =
     let free = spare (goal.at.note_rest-requires c).After-add_one in
-    let heads = c.self.inside.heads.items in
+    let heads = c.self.inside.columns.heads.items in
     let same = ap length c.in-Ok.ensures.same in
     omega (arith, free, same, landed_few (nodes_of heads) c.self.inside.landed.items c.self.invariant.1.told, length-map heads node_of, c.new_empty.new.landed.ok.0)
 
 pub invariant_of-self-2 : goal.invariant_of-self-2
 invariant_of-self-2 c =
     let at = (goal.at.invariant_of-self-2 c).After-add_one in
-    let heads = c.self.inside.heads.items in
+    let heads = c.self.inside.columns.heads.items in
     let n = c.self.inside.numbers in
     let M = may at in
     let p = patch_from c.in-Ok.fresh in
@@ -65,15 +65,15 @@ invariant_of-self-2 c =
     let items = c.note_rest.ensures.noted ∙ ap (λ ns. if is_at p.place place.Disk then ns ++ p.number ∷ [] else ns) c.in-Ok.ensures.same in
     rw c.let_go.ensures (rw M.next (
       sound,
-      put_remembered heads c.add_one.new.heads.items p n c.self.inside.blocks A.head.nodes c.self.invariant.0.keeps.lawful.one_place_each M.next sound.tallies.settled {landed = c.self.inside.landed} {now = c.note_rest.new.landed}
+      put_remembered heads c.add_one.new.self.heads.items p n c.self.inside.blocks A.head.nodes c.self.invariant.0.keeps.lawful.one_place_each M.next sound.tallies.settled {landed = c.self.inside.landed} {now = c.note_rest.new.landed}
           items room (omega (arith, spare at, c.note_rest.ensures.shelf)) c.self.invariant.1,
     ))
 
 pub returns-clause-ok : goal.returns-clause-ok
 returns-clause-ok c =
     let at = (goal.at.returns-clause-ok c).After-add_one in
-    let heads = c.self.inside.heads.items in
-    let new = c.add_one.new.heads.items in
+    let heads = c.self.inside.columns.heads.items in
+    let new = c.add_one.new.self.heads.items in
     let n = c.self.inside.numbers in
     let after = numbers_of c.args.after.now in
     let deps = c.in-Ok.fresh.dependencies.items in

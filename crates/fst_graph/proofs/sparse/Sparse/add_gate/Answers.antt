@@ -8,26 +8,26 @@ use Rattle.fst_graph.proofs.sparse.Sparse.add_gate.Goals.{After-gate}
 use Rattle.fst_graph.proofs.sparse.Sparse.add_gate.Goals as goal
 
 -- nothing refuses the gate
-clear : (c : After-gate) → NoneHolds (room_order (remembered_of c.self.inside.heads.items) c.self.inside.numbers)
-clear c = c.in_default.ensures.clear (remembered_of c.self.inside.heads.items) (ap (λ (v : Known). length v.heads) c.self.view_is ∙ sym c.standing-standing.ensures)
+clear : (c : After-gate) → NoneHolds (room_order (remembered_of c.self.inside.columns.heads.items) c.self.inside.numbers)
+clear c = c.in_default.ensures.clear (remembered_of c.self.inside.columns.heads.items) (ap (λ (v : Known). length v.heads) c.self.view_is ∙ sym c.standing-standing.ensures)
 
 gate : (c : After-gate) → patch_from c.gate.result ≡ fresh (c.self.inside.numbers + 1) OpenGate []
 gate c = c.gate.ensures ∙ ap (fresh (c.self.inside.numbers + 1) OpenGate) c.new.ensures.items
 
-few : (c : After-gate) → count_by is_live (patches_of c.self.inside.heads.items) < max_heads
+few : (c : After-gate) → count_by is_live (patches_of c.self.inside.columns.heads.items) < max_heads
 few c =
-    let heads = c.self.inside.heads.items in
+    let heads = c.self.inside.columns.heads.items in
     let full = (clear c).0 in
     omega (arith, full, live_few (is_forgotten_in (nodes_of heads)) (patches_of heads) (view_gone c.self.invariant))
 
-may : (c : After-gate) → MayAdd (patches_of c.self.inside.heads.items) c.self.inside.numbers (patch_from c.gate.result)
-may c = gate_may (patches_of c.self.inside.heads.items) c.self.inside.numbers _ (gate c) c.self.invariant.0.keeps.lawful (few c)
+may : (c : After-gate) → MayAdd (patches_of c.self.inside.columns.heads.items) c.self.inside.numbers (patch_from c.gate.result)
+may c = gate_may (patches_of c.self.inside.columns.heads.items) c.self.inside.numbers _ (gate c) c.self.invariant.0.keeps.lawful (few c)
 
 pub add_one-requires-clause-rising : goal.add_one-requires-clause-rising
 add_one-requires-clause-rising c = rising_sound c.self.invariant.0
 
 pub add_one-requires-clause-few : goal.add_one-requires-clause-few
-add_one-requires-clause-few c = few_waiting c.self.inside.heads.items c.self.invariant.0.tallies.settled c.self.invariant.0.beside
+add_one-requires-clause-few c = few_waiting c.self.inside.columns.heads.items c.self.invariant.0.tallies.settled c.self.invariant.0.beside
 
 pub invariant_of-self-in_default-add_one : goal.invariant_of-self-in_default-add_one
 invariant_of-self-in_default-add_one c =
@@ -35,16 +35,16 @@ invariant_of-self-in_default-add_one c =
     rw c.let_go.ensures (roomier_sound c.self.invariant.0 R, roomier_shelf R.nodes c.reserve_landed.ensures.same c.reserve_landed.ensures.wide c.self.invariant.1)
 
 pub returns-in_default-add_one-clause-same : goal.returns-in_default-add_one-clause-same
-returns-in_default-add_one-clause-same c = rw (← c.self.view_is, c.let_go.ensures, same_view c.self.inside.heads.items c.add_one.new.heads.items c.in_default-add_one.ensures.roomier.nodes) refl
+returns-in_default-add_one-clause-same c = rw (← c.self.view_is, c.let_go.ensures, same_view c.self.inside.columns.heads.items c.add_one.new.self.heads.items c.in_default-add_one.ensures.roomier.nodes) refl
 
 -- the heads with the gate, the last of them
-put : (c : After-gate) (new : List Head) → nodes_of new ≡ with_node (nodes_of c.self.inside.heads.items) (patch_from c.gate.result) → nodes_of new ≡ with_node (nodes_of c.self.inside.heads.items) (fresh (c.self.inside.numbers + 1) OpenGate [])
-put c new made = made ∙ ap (with_node (nodes_of c.self.inside.heads.items)) (gate c)
+put : (c : After-gate) (new : List Head) → nodes_of new ≡ with_node (nodes_of c.self.inside.columns.heads.items) (patch_from c.gate.result) → nodes_of new ≡ with_node (nodes_of c.self.inside.columns.heads.items) (fresh (c.self.inside.numbers + 1) OpenGate [])
+put c new made = made ∙ ap (with_node (nodes_of c.self.inside.columns.heads.items)) (gate c)
 
 pub invariant_of-self-2 : goal.invariant_of-self-2
 invariant_of-self-2 c =
     let at = (goal.at.invariant_of-self-2 c).After-gate in
-    let heads = c.self.inside.heads.items in
+    let heads = c.self.inside.columns.heads.items in
     let n = c.self.inside.numbers in
     let S = c.self.invariant.0 in
     let A = c.in-Ok.ensures.added in
@@ -54,15 +54,15 @@ invariant_of-self-2 c =
     let room : length heads < c.self.inside.forgotten + max_heads = omega (arith, full, view_long c.self.invariant) in
     rw c.let_go.ensures (
       sound,
-      put_remembered heads c.add_one.new.heads.items (fresh (n + 1) OpenGate []) n c.self.inside.blocks (put at c.add_one.new.heads.items A.head.nodes) S.keeps.lawful.one_place_each refl sound.tallies.settled
-          c.reserve_landed.ensures.same room (omega (arith, place, c.len.ensures, c.self.inside.heads.ok.0)) c.self.invariant.1,
+      put_remembered heads c.add_one.new.self.heads.items (fresh (n + 1) OpenGate []) n c.self.inside.blocks (put at c.add_one.new.self.heads.items A.head.nodes) S.keeps.lawful.one_place_each refl sound.tallies.settled
+          c.reserve_landed.ensures.same room (omega (arith, place, c.len.ensures, c.self.inside.columns.heads.ok.0)) c.self.invariant.1,
     )
 
 pub returns-clause-ok : goal.returns-clause-ok
 returns-clause-ok c =
     let at = (goal.at.returns-clause-ok c).After-gate in
-    let heads = c.self.inside.heads.items in
-    let new = c.add_one.new.heads.items in
+    let heads = c.self.inside.columns.heads.items in
+    let new = c.add_one.new.self.heads.items in
     let gate = fresh (c.self.inside.numbers + 1) OpenGate [] in
     let made = put at new c.in-Ok.ensures.added.head.nodes in
     let added = remembered_made heads new gate made c.self.invariant.0.keeps.lawful.one_place_each refl (put_patches heads new gate made) in

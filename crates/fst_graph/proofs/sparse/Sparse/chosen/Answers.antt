@@ -26,21 +26,21 @@ returns-in_default-clause-ok c =
     let s = c.self.inside in
     let past = c.in_default.ensures.lookup.3 in
     let many = many_lists c.self.invariant.0 c.deref.result.now c.deref.ensures.value in
-    rw (← c.self.view_is, c.new.ensures.items) ((choice _ (patches_of s.heads.items) (view_gone c.self.invariant) c.self.invariant.0.keeps.lawful.on_disk_with_all c.args.block.0 []).1 (empty_set (patches_of s.heads.items) s.blocks c.args.block.0 c.self.invariant.0.keeps.inside (λ lt. omega (arith, lt, past, many))))
+    rw (← c.self.view_is, c.new.ensures.items) ((choice _ (patches_of s.columns.heads.items) (view_gone c.self.invariant) c.self.invariant.0.keeps.lawful.on_disk_with_all c.args.block.0 []).1 (empty_set (patches_of s.columns.heads.items) s.blocks c.args.block.0 c.self.invariant.0.keeps.inside (λ lt. omega (arith, lt, past, many))))
 
 pub returns : goal.returns
 returns c =
     let s = c.self.inside in
-    let heads = s.heads.items in
+    let heads = s.columns.heads.items in
     let b = c.args.block.0 in
     let G = view_gone c.self.invariant in
     let D = c.self.invariant.0.keeps.lawful.on_disk_with_all in
     record {
       ok =
-          rw (← c.self.view_is) (fine c.ready_set.result (λ numbers set. (choice _ (patches_of heads) G D b (numbers_of numbers.items)).1 set) (chosen_ready heads s.numbers s.blocks s.ends.up.walk.marks _ s.standings.items s.queue.items s.queue.cap b c.self.invariant.0.keeps c.self.invariant.0.tallies c.ready_set.result
+          rw (← c.self.view_is) (fine c.ready_set.result (λ numbers set. (choice _ (patches_of heads) G D b (numbers_of numbers.items)).1 set) (chosen_ready heads s.numbers s.blocks s.columns.ends.up.walk.marks _ s.standings.items s.columns.queue.items s.columns.queue.cap b c.self.invariant.0.keeps c.self.invariant.0.tallies c.ready_set.result
           (rw (← c.deref-3.ensures.value) c.ready_set.ensures.ok)));
       refused =
-          rw (← c.self.view_is) (failed c.ready_set.result (λ f some. ((ready _ (patches_of heads) G D b).1 some.0, some.1)) (chosen_refused heads s.numbers s.blocks s.ends.up.walk.marks _ s.standings.items s.queue.items s.queue.cap b c.self.invariant.0.keeps c.self.invariant.0.tallies c.ready_set.result
+          rw (← c.self.view_is) (failed c.ready_set.result (λ f some. ((ready _ (patches_of heads) G D b).1 some.0, some.1)) (chosen_refused heads s.numbers s.blocks s.columns.ends.up.walk.marks _ s.standings.items s.columns.queue.items s.columns.queue.cap b c.self.invariant.0.keeps c.self.invariant.0.tallies c.ready_set.result
           (rw (← c.deref-3.ensures.value) c.ready_set.ensures.refused)));
       same = rw (← c.self.view_is, c.let_go.ensures) refl;
     }

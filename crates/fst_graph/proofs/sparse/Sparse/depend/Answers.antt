@@ -20,7 +20,7 @@ returns-in-Some-clause-refused c = rw (← c.self.view_is, ← c.deref.ensures.v
 
 pub gain_names-requires : goal.gain_names-requires
 gain_names-requires c =
-    let heads = c.self.inside.heads.items in
+    let heads = c.self.inside.columns.heads.items in
     let T = c.self.invariant.0.tallies in
     record {
       rising = rising_sound c.self.invariant.0;
@@ -32,13 +32,13 @@ gain_names-requires c =
 
 -- the fields after the walks, and that nothing refuses it
 walked : (c : After-depend_fault)
-    → AreSound (record c.self.inside { ends = c.depend_fault.new.ends; prepared = None })
+    → AreSound (record c.self.inside { columns = record c.self.inside.columns { ends = c.depend_fault.new.ends }; prepared = None })
 walked c = searched_sound c.self.invariant.0 (subst (λ hs. AreOver hs c.depend_fault.new.ends) c.deref.ensures.value c.depend_fault.ensures.over) c.depend_fault.ensures.crossed
 
-gate : (c : After-gain_names) → IsOpenNumber (patches_of c.self.inside.heads.items) c.args.gate.0
+gate : (c : After-gain_names) → IsOpenNumber (patches_of c.self.inside.columns.heads.items) c.args.gate.0
 gate c = subst (λ hs. IsOpenNumber (patches_of hs) c.args.gate.0) c.deref.ensures.value c.in_default.ensures.is_open
 
-clear : (c : After-gain_names) → NoneHolds (depend_order (patches_of c.self.inside.heads.items) c.self.inside.numbers c.args.gate.0 (numbers_of c.args.on.now))
+clear : (c : After-gain_names) → NoneHolds (depend_order (patches_of c.self.inside.columns.heads.items) c.self.inside.numbers c.args.gate.0 (numbers_of c.args.on.now))
 clear c = subst (λ hs. NoneHolds (depend_order (patches_of hs) c.self.inside.numbers c.args.gate.0 (numbers_of c.args.on.now))) c.deref.ensures.value c.in_default.ensures.clear
 
 pub invariant_of-self-in_default-gain_names : goal.invariant_of-self-in_default-gain_names
@@ -52,7 +52,7 @@ invariant_of-self-in_default-gain_names c =
 pub returns-in_default-gain_names-clause-refused : goal.returns-in_default-gain_names-clause-refused
 returns-in_default-gain_names-clause-refused c =
     let at = (goal.at.returns-in_default-gain_names-clause-refused c).After-gain_names in
-    let heads = c.self.inside.heads.items in
+    let heads = c.self.inside.columns.heads.items in
     let gone = is_forgotten_in (nodes_of heads) in
     let G = view_gone c.self.invariant in
     let D = c.self.invariant.0.keeps.lawful.on_disk_with_all in
@@ -60,7 +60,7 @@ returns-in_default-gain_names-clause-refused c =
 
 pub returns-in_default-gain_names-clause-same : goal.returns-in_default-gain_names-clause-same
 returns-in_default-gain_names-clause-same c =
-    let old = c.self.inside.heads.items in
+    let old = c.self.inside.columns.heads.items in
     let new = c.gain_names.new.heads.items in
     let same = c.in_default-gain_names.ensures.same in
     rw (← c.self.view_is, c.let_go.ensures, remembered_as old new (ap flags_of same) (same_patches new old same)) refl
@@ -86,7 +86,7 @@ invariant_of-self-2 c =
     let at = goal.at.invariant_of-self-2 c in
     let G = c.in-Ok.ensures.gained in
     let S = gained_sound (walked at.After-depend_fault) {new = c.gain_names.new.heads} c.args.gate.0 G.0 (numbers_of c.args.on.now) (gate at.After-gain_names) (clear at.After-gain_names) G.1 G.2 in
-    let old = c.self.inside.heads.items in
+    let old = c.self.inside.columns.heads.items in
     let new = c.gain_names.new.heads.items in
     rw c.let_go.ensures (
       leveled_sound S (leveled_then c.deref-4.ensures.value (ap length c.renew.ensures.floors ∙ S.leveled.long) c.renew.ensures.leveled),
@@ -99,7 +99,7 @@ returns-clause-ok c =
     let none = clear at.After-gain_names in
     let G = c.in-Ok.ensures.gained in
     let s = c.self.inside in
-    let old = s.heads.items in
+    let old = s.columns.heads.items in
     let new = c.gain_names.new.heads.items in
     let before : Known = record { heads = patches_of old; numbers = s.numbers; blocks = s.blocks; groups = []; prepared = option_map (prepared_of s.numbers) s.prepared } in
     let after : Known = record { heads = patches_of new; numbers = s.numbers; blocks = s.blocks; groups = []; prepared = None } in

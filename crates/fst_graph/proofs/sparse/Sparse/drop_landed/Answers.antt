@@ -9,20 +9,20 @@ use Rattle.fst_types.specs.declared.place.Place.TheVariants as place
 use Rattle.fst_graph.proofs.sparse.Sparse.drop_landed.Goals as goal
 
 -- those that are left, and how many they are
-left : (c : After-forget) → patches_of c.forget.new.heads.items ≡ filter is_live (patches_of c.self.inside.heads.items)
+left : (c : After-forget) → patches_of c.forget.new.heads.items ≡ filter is_live (patches_of c.self.inside.columns.heads.items)
 left c =
-    let heads = c.self.inside.heads.items in
+    let heads = c.self.inside.columns.heads.items in
     seen c.forget.new.heads.items _ c.forget.ensures.heads ∙ (patches_dropped (nodes_of heads) ∙ ap (filter is_live) (patches_in_nodes heads))
 
-left_long : (c : After-forget) → c.forget.new.heads.len ≡ length (filter is_live (patches_of c.self.inside.heads.items))
+left_long : (c : After-forget) → c.forget.new.heads.len ≡ length (filter is_live (patches_of c.self.inside.columns.heads.items))
 left_long c = let live = ap length (left c) in omega (arith, live, length-map c.forget.new.heads.items patch_of, c.forget.new.heads.ok.0)
 
 pub overflow_cast-result : goal.overflow_cast-result
 overflow_cast-result c = omega (arith, landed_bound c.self.invariant, c.len-many.ensures, c.self.inside.landed.ok.0)
 
 -- no more are left than there were
-fewer : (c : After-forget) → c.forget.new.heads.len ≤ length c.self.inside.ends.up.walk.marks
-fewer c = omega (arith, counted (patches_of c.self.inside.heads.items), left_long c, c.self.invariant.0.keeps.marked)
+fewer : (c : After-forget) → c.forget.new.heads.len ≤ length c.self.inside.columns.ends.up.walk.marks
+fewer c = omega (arith, counted (patches_of c.self.inside.columns.heads.items), left_long c, c.self.invariant.0.keeps.marked)
 
 pub shrink-requires : goal.shrink-requires
 shrink-requires c =
@@ -32,7 +32,7 @@ shrink-requires c =
 -- nothing that is left is forgotten
 none_gone : (c : After-forget) → remembered_of c.forget.new.heads.items ≡ patches_of c.forget.new.heads.items
 none_gone c =
-    let heads = c.self.inside.heads.items in
+    let heads = c.self.inside.columns.heads.items in
     let new = c.forget.new.heads.items in
     remembered_all (is_forgotten_in (nodes_of new)) (patches_of new)
     (λ p i. ap (λ ns. is_forgotten_in ns p.number) c.forget.ensures.heads ∙ forgotten_dropped (nodes_of heads) c.self.inside.landed.items c.self.inside.blocks c.self.invariant.0.tallies.settled c.self.invariant.1.told p.number)
@@ -40,21 +40,21 @@ none_gone c =
 pub invariant_of-self : goal.invariant_of-self
 invariant_of-self c =
     let at = (goal.at.invariant_of-self c).After-forget in
-    let long : length c.shrink.new.self.up.walk.marks ≡ length (filter is_live (patches_of c.self.inside.heads.items)) = omega (arith, left_long at, c.len.ensures, c.shrink.ensures.marks.0) in
-    let heads = c.self.inside.heads.items in
+    let long : length c.shrink.new.self.up.walk.marks ≡ length (filter is_live (patches_of c.self.inside.columns.heads.items)) = omega (arith, left_long at, c.len.ensures, c.shrink.ensures.marks.0) in
+    let heads = c.self.inside.columns.heads.items in
     let n = c.self.inside.numbers in
     let blocks = c.self.inside.blocks in
     let S = c.self.invariant.0 in
     let R = c.self.invariant.1 in
-    let kept = keeps_dropped (patches_of heads) n blocks c.self.inside.ends.up.walk.marks S.keeps c.shrink.new.self.up.walk.marks long in
+    let kept = keeps_dropped (patches_of heads) n blocks c.self.inside.columns.ends.up.walk.marks S.keeps c.shrink.new.self.up.walk.marks long in
     let lawful = subst (λ ps. SparseAreLawful ps n) (sym (patches_dropped (nodes_of heads) ∙ ap (filter is_live) (patches_in_nodes heads))) kept.lawful in (
       record {
         keeps = rw (left at) kept;
-        beside = rw (left at, c.shrink.ensures.crossed.0) (beside_dropped (patches_of heads) blocks c.self.inside.live c.self.inside.ends.up.crossed.items S.beside);
+        beside = rw (left at, c.shrink.ensures.crossed.0) (beside_dropped (patches_of heads) blocks c.self.inside.live c.self.inside.columns.ends.up.crossed.items S.beside);
         tallies = rw c.forget.ensures.heads (tallies_dropped (nodes_of heads) n blocks _ _ _ _ (lawful_nodes heads n S.keeps.lawful) lawful S.tallies);
         covered = rw (left at) (covered_left (patches_of heads) S.keeps.lawful.on_disk_with_all blocks c.self.inside.covers.items S.covered);
         along = record { marks = c.shrink.ensures.marks.1 ∙ sym c.shrink.ensures.marks.0; places = rw (c.shrink.ensures.crossed.0, c.shrink.ensures.crossed.1) S.along.places };
-        leveled = c.ease.ensures.leveled _ _ (rw (left at) (leveled_as c.forget.ensures.ranks c.forget.ensures.rest.0 (left_is_leveled (patches_of heads) S.keeps.lawful.one_place_each.rising S.keeps.lawful.on_disk_with_all blocks c.self.inside.levels S.leveled)));
+        leveled = c.ease.ensures.leveled _ _ (rw (left at) (leveled_as c.forget.ensures.ranks c.forget.ensures.rest.0 (left_is_leveled (patches_of heads) S.keeps.lawful.one_place_each.rising S.keeps.lawful.on_disk_with_all blocks c.self.inside.columns.levels S.leveled)));
         needing = rw (left at) (needing_left (patches_of heads) S.keeps.lawful.one_place_each.rising S.keeps.lawful.on_disk_with_all kept.lawful.one_place_each.rising kept.lawful.on_disk_with_all S.needing);
         given = S.given;
         none_below = S.none_below;
@@ -71,7 +71,7 @@ invariant_of-self c =
 
 pub returns : goal.returns
 returns c =
-    let heads = c.self.inside.heads.items in
+    let heads = c.self.inside.columns.heads.items in
     let at = (goal.at.returns c).After-forget in
     let count : c.len-many.result ≡ count_by (λ p. is_at p.place place.Disk) (remembered_of heads) = omega (arith, landed_long c.self.invariant, c.len-many.ensures, c.self.inside.landed.ok.0) in
     rw (← c.self.view_is, c.let_go.ensures)
@@ -85,7 +85,7 @@ returns c =
 
 pub forget-requires : goal.forget-requires
 forget-requires c =
-    let heads = c.self.inside.heads.items in record {
+    let heads = c.self.inside.columns.heads.items in record {
       rising = rising_heads heads c.self.invariant.0.keeps.lawful.one_place_each.rising;
       aligned = c.self.invariant.0.leveled.aligned;
       live = c.self.invariant.0.beside.counted;

@@ -27,21 +27,21 @@ returns-in_default-clause-none c =
     let s = c.self.inside in
     let past = c.in_default.ensures.lookup.3 in
     let many = many_lists c.self.invariant.0 c.deref.result.now c.deref.ensures.value in
-    rw (← c.self.view_is) (λ p k. let h = (was_held _ (patches_of s.heads.items) (view_gone c.self.invariant) c.self.invariant.0.keeps.lawful.on_disk_with_all c.args.block.0 p).0 k in none_there (patches_of s.heads.items) s.blocks c.args.block.0 c.self.invariant.0.keeps.inside (λ lt. omega (arith, lt, past, many)) p h.in_memory)
+    rw (← c.self.view_is) (λ p k. let h = (was_held _ (patches_of s.columns.heads.items) (view_gone c.self.invariant) c.self.invariant.0.keeps.lawful.on_disk_with_all c.args.block.0 p).0 k in none_there (patches_of s.columns.heads.items) s.blocks c.args.block.0 c.self.invariant.0.keeps.inside (λ lt. omega (arith, lt, past, many)) p h.in_memory)
 
 pub returns : goal.returns
 returns c =
     let s = c.self.inside in
-    let heads = s.heads.items in
+    let heads = s.columns.heads.items in
     let b = c.args.block.0 in
     let G = view_gone c.self.invariant in
     let D = c.self.invariant.0.keeps.lawful.on_disk_with_all in
     record {
       none =
-          rw (← c.self.view_is) (none_then c.first_held.result (λ none p k. none p ((was_held _ (patches_of heads) G D b p).0 k)) (none_held heads s.numbers s.blocks s.ends.up.walk.marks _ s.standings.items s.queue.items s.queue.cap b c.self.invariant.0.keeps c.self.invariant.0.tallies c.first_held.result
+          rw (← c.self.view_is) (none_then c.first_held.result (λ none p k. none p ((was_held _ (patches_of heads) G D b p).0 k)) (none_held heads s.numbers s.blocks s.columns.ends.up.walk.marks _ s.standings.items s.columns.queue.items s.columns.queue.cap b c.self.invariant.0.keeps c.self.invariant.0.tallies c.first_held.result
           (rw (← c.deref-3.ensures.value) c.first_held.ensures.none)));
       least =
-          rw (← c.self.view_is) (IfSome_then c.first_held.result (least_held heads s.numbers s.blocks s.ends.up.walk.marks _ s.standings.items s.queue.items s.queue.cap b c.self.invariant.0.keeps c.self.invariant.0.tallies c.first_held.result
+          rw (← c.self.view_is) (IfSome_then c.first_held.result (least_held heads s.numbers s.blocks s.columns.ends.up.walk.marks _ s.standings.items s.columns.queue.items s.columns.queue.cap b c.self.invariant.0.keeps c.self.invariant.0.tallies c.first_held.result
           (rw (← c.deref-3.ensures.value) c.first_held.ensures.least)) (λ no l. least_known _ (patches_of heads) G D b no.0 l));
       same = rw (← c.self.view_is, c.let_go.ensures) refl;
     }

@@ -14,14 +14,14 @@ use Rattle.fst_graph.proofs.sparse.Sparse.land.Goals as goal
 pub land_block-requires : goal.land_block-requires
 land_block-requires c = record {
   rising = rising_sound c.self.invariant.0;
-  inside = subst (IsInside (patches_of c.self.inside.heads.items)) (sym (as_many_lists c.self.invariant.0)) c.self.invariant.0.keeps.inside;
+  inside = subst (IsInside (patches_of c.self.inside.columns.heads.items)) (sym (as_many_lists c.self.invariant.0)) c.self.invariant.0.keeps.inside;
   listed =
       let lists = c.self.inside.lists.items in
       let long = sym (as_many_lists c.self.invariant.0) in
-      subst (λ ps. AreListed ps (length lists) (shelved lists)) (patches_in_nodes c.self.inside.heads.items) (subst (λ n. AreListed (patches_in (nodes_of c.self.inside.heads.items)) n (shelved lists)) long c.self.invariant.0.tallies.listed);
+      subst (λ ps. AreListed ps (length lists) (shelved lists)) (patches_in_nodes c.self.inside.columns.heads.items) (subst (λ n. AreListed (patches_in (nodes_of c.self.inside.columns.heads.items)) n (shelved lists)) long c.self.invariant.0.tallies.listed);
   flying =
       let s = c.self.inside in
-      let heads = s.heads.items in
+      let heads = s.columns.heads.items in
       let b = c.args.block.0 in
       let T = c.self.invariant.0.tallies in
       elim (cases_lt b s.blocks) [
@@ -34,41 +34,41 @@ land_block-requires c = record {
             ap length none ∙ sym (c.flying_count-flying.ensures.outside (rw c.deref.ensures.value (omega (arith, past, T.standing.long))))
       ];
   idle = c.self.invariant.0.tallies.idle;
-  room = omega (arith, c.self.invariant.0.tallies.room, length-map c.self.inside.heads.items node_of);
+  room = omega (arith, c.self.invariant.0.tallies.room, length-map c.self.inside.columns.heads.items node_of);
 }
 
 pub cascade-landed-requires : goal.cascade-landed-requires
 cascade-landed-requires c = record {
   start =
-      let heads = c.self.inside.heads.items in
+      let heads = c.self.inside.columns.heads.items in
       let n = c.self.inside.numbers in
       let blocks = c.self.inside.blocks in
       let K = c.self.invariant.0.keeps in
       let T = c.self.invariant.0.tallies in
       rw (c.land_block.ensures.nodes, c.land_block.ensures.queued, ← patches_in_nodes heads, c.land_at.ensures.len, as_many_standings c.self.invariant.0)
       (starts_landed (nodes_of heads) n blocks c.args.block.0 (lawful_nodes heads n K.lawful) (inside_nodes heads blocks K.inside) T.settled);
-  linked = rw c.land_block.ensures.nodes (linked_landed (nodes_of c.self.inside.heads.items) c.args.block.0 c.self.invariant.0.tallies.linked);
-  distinct = rw c.land_block.ensures.nodes (distinct_landed (nodes_of c.self.inside.heads.items) c.args.block.0 c.self.invariant.0.tallies.distinct);
+  linked = rw c.land_block.ensures.nodes (linked_landed (nodes_of c.self.inside.columns.heads.items) c.args.block.0 c.self.invariant.0.tallies.linked);
+  distinct = rw c.land_block.ensures.nodes (distinct_landed (nodes_of c.self.inside.columns.heads.items) c.args.block.0 c.self.invariant.0.tallies.distinct);
   standing =
-      let heads = c.self.inside.heads.items in
+      let heads = c.self.inside.columns.heads.items in
       let blocks = c.self.inside.blocks in
       let T = c.self.invariant.0.tallies in
       rw (c.land_block.ensures.nodes, c.land_at.ensures.len, as_many_standings c.self.invariant.0)
       (stand_land (nodes_of heads) blocks c.args.block.0 c.self.inside.standings.items c.land_at.new.standings.items (inside_nodes heads blocks c.self.invariant.0.keeps.inside) T.standing
       (λ d lt. c.land_at.ensures.inside d (omega (arith, lt, as_many_standings c.self.invariant.0))) (λ le. c.land_at.ensures.outside (omega (arith, le, as_many_standings c.self.invariant.0))));
-  listed = rw c.land_block.ensures.nodes (landed_map (lands c.args.block.0) (nodes_of c.self.inside.heads.items) c.self.inside.landed.items (λ x. record { number = landed_number c.args.block.0 x.patch; pending = refl; forgotten = refl }) c.self.invariant.1.told);
+  listed = rw c.land_block.ensures.nodes (landed_map (lands c.args.block.0) (nodes_of c.self.inside.columns.heads.items) c.self.inside.landed.items (λ x. record { number = landed_number c.args.block.0 x.patch; pending = refl; forgotten = refl }) c.self.invariant.1.told);
   room =
       let same = ap length c.land_block.ensures.nodes in (
         search rules,
-        omega (arith, same, length-map c.land_block.new.heads.items node_of, length-map (nodes_of c.self.inside.heads.items) (lands c.args.block.0), c.self.invariant.0.tallies.room, c.land_block.ensures.capacity),
-        omega (arith, same, length-map c.land_block.new.heads.items node_of, length-map (nodes_of c.self.inside.heads.items) (lands c.args.block.0), length-map c.self.inside.heads.items node_of, c.self.invariant.1.shelf),
+        omega (arith, same, length-map c.land_block.new.heads.items node_of, length-map (nodes_of c.self.inside.columns.heads.items) (lands c.args.block.0), c.self.invariant.0.tallies.room, c.land_block.ensures.capacity),
+        omega (arith, same, length-map c.land_block.new.heads.items node_of, length-map (nodes_of c.self.inside.columns.heads.items) (lands c.args.block.0), length-map c.self.inside.columns.heads.items node_of, c.self.invariant.1.shelf),
       );
 }
 
 -- the patches whose write landed, and what came to rest by that
-cascade : (c : After-cascade-landed) → IsCascadeOf (map (landed c.args.block.0) (patches_of c.self.inside.heads.items)) (patches_of c.cascade-landed.new.heads.items)
+cascade : (c : After-cascade-landed) → IsCascadeOf (map (landed c.args.block.0) (patches_of c.self.inside.columns.heads.items)) (patches_of c.cascade-landed.new.heads.items)
 cascade c =
-    let heads = c.self.inside.heads.items in
+    let heads = c.self.inside.columns.heads.items in
     let b = c.args.block.0 in
     let was : patches_of c.land_block.new.heads.items ≡ map (landed b) (patches_of heads) =
     seen c.land_block.new.heads.items _ c.land_block.ensures.nodes ∙ (patches_landed (nodes_of heads) b ∙ ap (map (landed b)) (patches_in_nodes heads)) in
@@ -77,13 +77,13 @@ cascade c =
 settled : (c : After-cascade-landed) → AreSettled (nodes_of c.cascade-landed.new.heads.items) c.self.inside.blocks
 settled c = subst (AreSettled (nodes_of c.cascade-landed.new.heads.items)) (c.land_at.ensures.len ∙ as_many_standings c.self.invariant.0) c.cascade-landed.ensures.settled
 
-spread : (c : After-cascade-landed) → IsSpreadOf (map (lands c.args.block.0) (nodes_of c.self.inside.heads.items)) (nodes_of c.cascade-landed.new.heads.items)
+spread : (c : After-cascade-landed) → IsSpreadOf (map (lands c.args.block.0) (nodes_of c.self.inside.columns.heads.items)) (nodes_of c.cascade-landed.new.heads.items)
 spread c = subst (λ ns. IsSpreadOf ns (nodes_of c.cascade-landed.new.heads.items)) c.land_block.ensures.nodes c.cascade-landed.ensures.spread
 
 -- none is marked by it
-same_flags : (c : After-cascade-landed) → flags_of (nodes_of c.cascade-landed.new.heads.items) ≡ flags_of (nodes_of c.self.inside.heads.items)
+same_flags : (c : After-cascade-landed) → flags_of (nodes_of c.cascade-landed.new.heads.items) ≡ flags_of (nodes_of c.self.inside.columns.heads.items)
 same_flags c =
-    let nodes = nodes_of c.self.inside.heads.items in
+    let nodes = nodes_of c.self.inside.columns.heads.items in
     let b = c.args.block.0 in
     flags_spread (map (lands b) nodes) (nodes_of c.cascade-landed.new.heads.items) (spread c) ∙ flags_map (lands b) (λ x. ap (λ n. (n, x.forgotten)) (landed_number b x.patch)) nodes
 
@@ -91,12 +91,12 @@ pub overflow_sub-self : goal.overflow_sub-self
 overflow_sub-self c =
     let new = c.cascade-landed.new.heads.items in
     let T = c.self.invariant.0.tallies in
-    landed_few c.self.inside.heads.items c.land_block.new.heads.items new (lands c.args.block.0) c.self.inside.blocks c.self.inside.live c.cascade-landed.result c.self.inside.ends.up.crossed.items c.land_block.ensures.nodes (λ x. refl) T.settled (settled c)
+    landed_few c.self.inside.columns.heads.items c.land_block.new.heads.items new (lands c.args.block.0) c.self.inside.blocks c.self.inside.live c.cascade-landed.result c.self.inside.columns.ends.up.crossed.items c.land_block.ensures.nodes (λ x. refl) T.settled (settled c)
     c.cascade-landed.ensures.landed c.self.invariant.0.beside
 
 pub invariant_of-self : goal.invariant_of-self
 invariant_of-self c =
-    let heads = c.self.inside.heads.items in
+    let heads = c.self.inside.columns.heads.items in
     let nodes = nodes_of heads in
     let old = patches_of heads in
     let mid = c.land_block.new.heads.items in
@@ -109,11 +109,11 @@ invariant_of-self c =
     let long = as_many_lists c.self.invariant.0 in
     let at = (goal.at.invariant_of-self c).After-cascade-landed in
     let standing = subst (λ k. AllStand (nodes_of new) k c.cascade-landed.new.standings.items) (c.land_at.ensures.len ∙ as_many_standings c.self.invariant.0) c.cascade-landed.ensures.standing in
-    let kept = keeps_landed old (patches_of new) n blocks b c.self.inside.ends.up.walk.marks c.self.inside.ends.up.walk.marks c.self.invariant.0.keeps (cascade at) refl in
+    let kept = keeps_landed old (patches_of new) n blocks b c.self.inside.columns.ends.up.walk.marks c.self.inside.columns.ends.up.walk.marks c.self.invariant.0.keeps (cascade at) refl in
     let listed : AreListed (patches_in (map (lands b) nodes)) blocks (shelved c.land_block.new.lists.items) =
     subst (λ k. AreListed (patches_in (map (lands b) nodes)) k (shelved c.land_block.new.lists.items)) long
     (subst (λ ps. AreListed ps (length lists) (shelved c.land_block.new.lists.items)) (seen mid _ c.land_block.ensures.nodes) c.land_block.ensures.listed) in
-    let tallied : Tallies (nodes_of new) n blocks (shelved c.land_block.new.lists.items) c.cascade-landed.new.standings.items [] (vec_capacity c.self.inside.queue) =
+    let tallied : Tallies (nodes_of new) n blocks (shelved c.land_block.new.lists.items) c.cascade-landed.new.standings.items [] (vec_capacity c.self.inside.columns.queue) =
     tallies_landed nodes (nodes_of new) n blocks b _ _ _ _ _ _ (lawful_nodes new n kept.lawful) T listed (spread at) (settled at) standing in
     let shelves = c.land_block.new.lists.items in
     let as_many : length shelves ≡ blocks = sym (length-map shelves (λ l. entries_of l.items)) ∙ tallied.listed.long in
@@ -121,7 +121,7 @@ invariant_of-self c =
     subst (λ ps. AreListed ps (length shelves) (shelved shelves)) (patches_in_nodes new) (subst (λ k. AreListed (patches_in (nodes_of new)) k (shelved shelves)) (sym as_many) tallied.listed) in (
       record {
         keeps = kept;
-        beside = beside_landed heads mid new (lands b) blocks c.self.inside.live c.cascade-landed.result c.self.inside.ends.up.crossed.items c.land_block.ensures.nodes (λ x. refl) T.settled (settled at) c.cascade-landed.ensures.landed c.self.invariant.0.beside;
+        beside = beside_landed heads mid new (lands b) blocks c.self.inside.live c.cascade-landed.result c.self.inside.columns.ends.up.crossed.items c.land_block.ensures.nodes (λ x. refl) T.settled (settled at) c.cascade-landed.ensures.landed c.self.invariant.0.beside;
         tallies = rw (c.cascade-landed.ensures.empty, c.cascade-landed.ensures.capacity, c.land_block.ensures.capacity) tallied;
         covered = covered_moved (alike_landed old (patches_of new) n b c.self.invariant.0.keeps.lawful (cascade at)) kept c.self.invariant.0.covered;
         along = c.self.invariant.0.along;
@@ -139,7 +139,7 @@ invariant_of-self c =
 pub returns-clause-landed : goal.returns-clause-landed
 returns-clause-landed c =
     let at = (goal.at.returns-clause-landed c).After-cascade-landed in
-    let heads = c.self.inside.heads.items in
+    let heads = c.self.inside.columns.heads.items in
     let new = c.cascade-landed.new.heads.items in
     let b = c.args.block.0 in
     let row = landed_remembered (is_forgotten_in (nodes_of heads)) (patches_of heads) c.self.inside.numbers (view_gone c.self.invariant) c.self.invariant.0.keeps.lawful b (patches_of new) (cascade at) in

@@ -16,14 +16,14 @@ pub block_of-requires : goal.block_of-requires
 block_of-requires c = rw c.deref.ensures.value (rising_sound c.self.invariant.0)
 
 -- what is chosen may be written
-writable : (c : After-deref) → IsWritable (patches_of c.self.inside.heads.items) c.requires.block
+writable : (c : After-deref) → IsWritable (patches_of c.self.inside.columns.heads.items) c.requires.block
 writable c =
-    let heads = c.self.inside.heads.items in
+    let heads = c.self.inside.columns.heads.items in
     (looks.writable (is_forgotten_in (nodes_of heads)) (patches_of heads) (view_gone c.self.invariant) c.self.invariant.0.keeps.lawful.on_disk_with_all c.requires.block).0 (subst (λ (v : Known). IsWritable v.heads c.requires.block) (sym c.self.view_is) c.requires.writable)
 
-choice : (c : After-deref) → IsWritableSet (patches_of c.self.inside.heads.items) c.requires.block (numbers_of c.args.chosen.now)
+choice : (c : After-deref) → IsWritableSet (patches_of c.self.inside.columns.heads.items) c.requires.block (numbers_of c.args.chosen.now)
 choice c =
-    let heads = c.self.inside.heads.items in
+    let heads = c.self.inside.columns.heads.items in
     (looks.choice (is_forgotten_in (nodes_of heads)) (patches_of heads) (view_gone c.self.invariant) c.self.invariant.0.keeps.lawful.on_disk_with_all c.requires.block (numbers_of c.args.chosen.now)).0
     (subst (λ (v : Known). IsWritableSet v.heads c.requires.block (numbers_of c.args.chosen.now)) (sym c.self.view_is) c.requires.choice)
 
@@ -36,25 +36,25 @@ returns-in_default-block_of-clause-launched c =
     let item = c.in-Some.ensures.item in
     let named = first_named c.args.chosen.now c.in-Some.first.now item.3.0 item.3.1 in
     let chosen = choice (goal.at.returns-in_default-block_of-clause-launched c).After-deref in
-    absurd (block_some (patches_of c.self.inside.heads.items) c.requires.block (numbers_of c.args.chosen.now) c.in-Some.first.now.0 chosen named (λ p h e. c.in_default-block_of.ensures p (subst (λ hs. Contains (patches_of hs) p) (sym c.deref.ensures.value) h) e))
+    absurd (block_some (patches_of c.self.inside.columns.heads.items) c.requires.block (numbers_of c.args.chosen.now) c.in-Some.first.now.0 chosen named (λ p h e. c.in_default-block_of.ensures p (subst (λ hs. Contains (patches_of hs) p) (sym c.deref.ensures.value) h) e))
 
 -- it is of the block of the first
 here : (c : After-launch-arg-2-1) → c.in-Some-block_of.block ≡ c.requires.block
 here c =
     let item = c.in-Some.ensures.item in
     let named = first_named c.args.chosen.now c.in-Some.first.now item.3.0 item.3.1 in
-    block_found (patches_of c.self.inside.heads.items) c.requires.block c.in-Some-block_of.block (numbers_of c.args.chosen.now) c.in-Some.first.now.0 (choice (goal.at.launch-requires c).After-deref) named
+    block_found (patches_of c.self.inside.columns.heads.items) c.requires.block c.in-Some-block_of.block (numbers_of c.args.chosen.now) c.in-Some.first.now.0 (choice (goal.at.launch-requires c).After-deref) named
     (λ p h e. c.in-Some-block_of.ensures p (subst (λ hs. Contains (patches_of hs) p) (sym c.deref.ensures.value) h) e)
 
-nodes_writable : (c : After-launch-arg-2-1) → IsWritable (patches_in (nodes_of c.self.inside.heads.items)) c.in-Some-block_of.block
-nodes_writable c = rw (patches_in_nodes c.self.inside.heads.items, here c) (writable (goal.at.launch-requires c).After-deref)
+nodes_writable : (c : After-launch-arg-2-1) → IsWritable (patches_in (nodes_of c.self.inside.columns.heads.items)) c.in-Some-block_of.block
+nodes_writable c = rw (patches_in_nodes c.self.inside.columns.heads.items, here c) (writable (goal.at.launch-requires c).After-deref)
 
 -- it is what is ready of that block
-ready : (c : After-launch-arg-2-1) → numbers_of c.args.chosen.now ≡ ready_on c.in-Some-block_of.block (nodes_of c.self.inside.heads.items)
+ready : (c : After-launch-arg-2-1) → numbers_of c.args.chosen.now ≡ ready_on c.in-Some-block_of.block (nodes_of c.self.inside.columns.heads.items)
 ready c =
     let s = c.self.inside in
-    chosen_ready (nodes_of s.heads.items) s.numbers s.blocks c.in-Some-block_of.block (numbers_of c.args.chosen.now) (lawful_nodes s.heads.items s.numbers c.self.invariant.0.keeps.lawful) c.self.invariant.0.tallies.settled
-    (rw (patches_in_nodes s.heads.items, here c) (choice (goal.at.launch-requires c).After-deref))
+    chosen_ready (nodes_of s.columns.heads.items) s.numbers s.blocks c.in-Some-block_of.block (numbers_of c.args.chosen.now) (lawful_nodes s.columns.heads.items s.numbers c.self.invariant.0.keeps.lawful) c.self.invariant.0.tallies.settled
+    (rw (patches_in_nodes s.columns.heads.items, here c) (choice (goal.at.launch-requires c).After-deref))
 
 pub launch-requires : goal.launch-requires
 launch-requires c =
@@ -67,13 +67,13 @@ launch-requires c =
       linked = T.linked;
       distinct = T.distinct;
       chosen = ready c;
-      room = (T.idle, omega (arith, T.room, length-map s.heads.items node_of));
+      room = (T.idle, omega (arith, T.room, length-map s.columns.heads.items node_of));
     }
 
 inside : (c : After-launch-arg-2-1) → c.in-Some-block_of.block < c.self.inside.blocks
 inside c =
     let s = c.self.inside in
-    (writable_rests (nodes_of s.heads.items) s.blocks c.in-Some-block_of.block s.standings.items none_yet (inside_nodes s.heads.items s.blocks c.self.invariant.0.keeps.inside) c.self.invariant.0.tallies.standing (nodes_writable c)).0
+    (writable_rests (nodes_of s.columns.heads.items) s.blocks c.in-Some-block_of.block s.standings.items none_yet (inside_nodes s.columns.heads.items s.blocks c.self.invariant.0.keeps.inside) c.self.invariant.0.tallies.standing (nodes_writable c)).0
 
 pub index_mut-requires : goal.index_mut-requires
 index_mut-requires c = omega (arith, inside (goal.at.index_mut-requires c).After-launch-arg-2-1, as_many_standings c.self.invariant.0)
@@ -82,9 +82,9 @@ pub clear-requires : goal.clear-requires
 clear-requires c = omega (arith, inside (goal.at.clear-requires c).After-launch-arg-2-1, c.self.invariant.0.needing.long)
 
 -- none is marked by it
-same_flags : (c : After-launch) → flags_of (nodes_of c.launch.new.heads.items) ≡ flags_of (nodes_of c.self.inside.heads.items)
+same_flags : (c : After-launch) → flags_of (nodes_of c.launch.new.heads.items) ≡ flags_of (nodes_of c.self.inside.columns.heads.items)
 same_flags c =
-    let nodes = nodes_of c.self.inside.heads.items in
+    let nodes = nodes_of c.self.inside.columns.heads.items in
     let chosen = numbers_of c.args.chosen.now in
     let mid = map (launches chosen) nodes in
     flags_spread mid (nodes_of c.launch.new.heads.items) (risen_spread mid (nodes_of c.launch.new.heads.items) c.launch.ensures.spread)
@@ -92,7 +92,7 @@ same_flags c =
 
 pub invariant_of-self-2 : goal.invariant_of-self-2
 invariant_of-self-2 c =
-    let heads = c.self.inside.heads.items in
+    let heads = c.self.inside.columns.heads.items in
     let later = c.launch.new.heads.items in
     let n = c.self.inside.numbers in
     let blocks = c.self.inside.blocks in
@@ -105,14 +105,14 @@ invariant_of-self-2 c =
     let W : IsWritable (patches_of heads) b = rw (here at) (writable (goal.at.invariant_of-self-2 c).After-deref) in
     let C : IsWritableSet (patches_of heads) b chosen = rw (here at) (choice (goal.at.invariant_of-self-2 c).After-deref) in
     let new = c.launch.ensures.launched in
-    let kept = keeps_launched _ n blocks b chosen c.self.inside.ends.up.walk.marks K W C in
+    let kept = keeps_launched _ n blocks b chosen c.self.inside.columns.ends.up.walk.marks K W C in
     let settled = c.launch.ensures.settled blocks T.settled in
     let risen = subst (λ ns. IsRisenOf (map (launches ns) (nodes_of heads)) (nodes_of later)) (ready at) c.launch.ensures.spread in (
       record {
         keeps = rw new kept;
-        beside = subst (λ ps. Beside ps blocks c.self.inside.live c.self.inside.ends.up.crossed.items) (patches_in_nodes later)
-            (beside_risen (nodes_of heads) (nodes_of later) n blocks b H.one_place_each T.settled settled risen c.self.inside.live c.self.inside.ends.up.crossed.items
-            (subst (λ ps. Beside ps blocks c.self.inside.live c.self.inside.ends.up.crossed.items) (sym (patches_in_nodes heads)) c.self.invariant.0.beside));
+        beside = subst (λ ps. Beside ps blocks c.self.inside.live c.self.inside.columns.ends.up.crossed.items) (patches_in_nodes later)
+            (beside_risen (nodes_of heads) (nodes_of later) n blocks b H.one_place_each T.settled settled risen c.self.inside.live c.self.inside.columns.ends.up.crossed.items
+            (subst (λ ps. Beside ps blocks c.self.inside.live c.self.inside.columns.ends.up.crossed.items) (sym (patches_in_nodes heads)) c.self.invariant.0.beside));
         tallies = rw (c.launch.ensures.empty, c.launch.ensures.capacity)
             (tallies_chosen (nodes_of heads) (nodes_of later) n blocks b _ c.self.inside.standings.items _ _ chosen c.index_mut.result.now c.launch-2.new.self H
             (lawful_nodes later n (rw new kept.lawful)) (inside_nodes heads blocks K.inside) T (nodes_writable at) (ready at) c.index_mut.ensures.value c.launch-2.ensures
@@ -132,7 +132,7 @@ invariant_of-self-2 c =
 
 pub returns-clause-launched : goal.returns-clause-launched
 returns-clause-launched c =
-    let heads = c.self.inside.heads.items in
+    let heads = c.self.inside.columns.heads.items in
     let chosen = numbers_of c.args.chosen.now in
     let row = remembered_as heads c.launch.new.heads.items (same_flags (goal.at.returns-clause-launched c).After-launch) c.launch.ensures.launched ∙ remembered_map (is_forgotten_in (nodes_of heads)) (launched chosen) (launched_number chosen) (patches_of heads) in
     rw (← c.self.view_is, c.let_go.ensures) (record { row = row; numbers = refl; blocks = refl; groups = refl; prepared = refl })

@@ -12,7 +12,7 @@ find-requires-clause-aligned c = rw c.deref.ensures.value c.self.invariant.0.lev
 
 pub returns-in-Some : goal.returns-in-Some
 returns-in-Some c =
-    let heads = c.self.inside.heads.items in
+    let heads = c.self.inside.columns.heads.items in
     let d = c.index.result.now in
     let index = subst (λ hs. HasIndex hs c.args.no.0 c.in-Some.index) c.deref.ensures.value c.in-Some.ensures.found in
     rw (← c.self.view_is, c.index.ensures, place_remembered _ _ (view_gone c.self.invariant) c.self.inside.numbers c.args.no.0)
@@ -20,7 +20,7 @@ returns-in-Some c =
 
 pub returns-in-None : goal.returns-in-None
 returns-in-None c =
-    let heads = c.self.inside.heads.items in
+    let heads = c.self.inside.columns.heads.items in
     let none = subst (λ hs. HasNone hs c.args.no.0) c.deref.ensures.value c.in-None.ensures.none in
     rw (← c.self.view_is, place_remembered _ _ (view_gone c.self.invariant) c.self.inside.numbers c.args.no.0)
     (place_lost _ c.self.inside.numbers c.args.no.0 (λ p h e. let t = index_in heads p h in none_index heads c.args.no.0 t.0 none (subst (λ m. HasIndex heads m t.0) e (patch_index heads p t.0 t.1 t.2)))

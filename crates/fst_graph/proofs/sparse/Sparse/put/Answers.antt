@@ -13,7 +13,7 @@ use Rattle.fst_graph.proofs.sparse.Sparse.put.Goals as goal
 now : (c : After-as_slice-row)
     → IsPutNow c.self.inside c.in-Some.prepared
 now c =
-    let old = patches_of c.self.inside.heads.items in
+    let old = patches_of c.self.inside.columns.heads.items in
     let G = view_gone c.self.invariant in
     put_now c.self.invariant.0 c.in-Some.prepared c.args.self.now (live_few _ old G) (λ n o. (open_number _ old G c.self.invariant.0.keeps.lawful.on_disk_with_all n).1 o) c.self.view_is c.requires (sym c.take.ensures.value ∙ c.in-Some.is)
 
@@ -41,23 +41,21 @@ put_down-pending-requires c =
       rising = rising_sound c.self.invariant.0;
       once = D.ready.depends.rising;
       above = D.prepared.around.0;
-      few = few_waiting c.self.inside.heads.items c.self.invariant.0.tallies.settled c.self.invariant.0.beside;
+      few = few_waiting c.self.inside.columns.heads.items c.self.invariant.0.tallies.settled c.self.invariant.0.beside;
       places = may_put c.self.invariant.0 D c.rise_of-rise.new.walk c.rise_of-rise.new.crossed c.rise_of-rise.ensures.long c.deref.ensures.value c.rise_of-rise.ensures.room c.lift.ensures.room;
     }
 
 pub enlist-requires : goal.enlist-requires
 enlist-requires c = may_enlist c.self.invariant.0 (now (goal.at.enlist-requires c).After-as_slice-row).down
 
-added : (c : After-put_down-pending) → patches_of c.put_down-pending.new.heads.items ≡ patches_of c.self.inside.heads.items ++ change_of c.self.inside.numbers c.in-Some.prepared ∷ []
-added c = put_patches c.self.inside.heads.items c.put_down-pending.new.heads.items (change_of c.self.inside.numbers c.in-Some.prepared) c.put_down-pending.ensures.put.nodes
+added : (c : After-put_down-pending) → patches_of c.put_down-pending.new.self.heads.items ≡ patches_of c.self.inside.columns.heads.items ++ change_of c.self.inside.numbers c.in-Some.prepared ∷ []
+added c = put_patches c.self.inside.columns.heads.items c.put_down-pending.new.self.heads.items (change_of c.self.inside.numbers c.in-Some.prepared) c.put_down-pending.ensures.put.nodes
 
 -- the fields with the change, of which no tail has the name yet
 sound : (c : After-put-2)
     → IsPutDown c.self.inside c.in-Some.prepared
     → AreSound (record c.self.inside {
-      heads = c.put_down-pending.new.heads;
-      ends = c.put_down-pending.new.ends;
-      levels = c.put_down-pending.new.levels;
+      columns = c.put_down-pending.new.self;
       needs = c.note.new.self;
       lists = c.enlist.new.lists;
       covers = with_item c.self.inside.covers c.in-Some.prepared.block c.put-2.new.self;
@@ -83,33 +81,33 @@ sound c D =
 -- what is forgotten stays so, and of what landed nothing else
 still : (c : After-put-2)
     → IsPutDown c.self.inside c.in-Some.prepared
-    → AreRemembered c.put_down-pending.new.heads.items c.self.inside.landed c.self.inside.forgotten None
+    → AreRemembered c.put_down-pending.new.self.heads.items c.self.inside.landed c.self.inside.forgotten None
 still c D =
     let s = c.self.inside in
-    let new = c.put_down-pending.new.heads in
+    let new = c.put_down-pending.new.self.heads in
     let made = change_of s.numbers c.in-Some.prepared in
     let I = c.self.invariant.1 in
-    let room : length s.heads.items < s.forgotten + max_heads = let full = D.ready.clear.1.1.0 in let kept = view_long c.self.invariant in omega (arith, full, kept) in
-    let shelf = subst (λ o. IfSome o (λ p. length s.heads.items < s.landed.cap)) (sym c.take.ensures.value ∙ c.in-Some.is) I.spare in
-    put_remembered s.heads.items new.items made s.numbers s.blocks c.put_down-pending.ensures.put.nodes c.self.invariant.0.keeps.lawful.one_place_each refl (sound c D).tallies.settled {landed = s.landed} {now = s.landed} refl room shelf I
+    let room : length s.columns.heads.items < s.forgotten + max_heads = let full = D.ready.clear.1.1.0 in let kept = view_long c.self.invariant in omega (arith, full, kept) in
+    let shelf = subst (λ o. IfSome o (λ p. length s.columns.heads.items < s.landed.cap)) (sym c.take.ensures.value ∙ c.in-Some.is) I.spare in
+    put_remembered s.columns.heads.items new.items made s.numbers s.blocks c.put_down-pending.ensures.put.nodes c.self.invariant.0.keeps.lawful.one_place_each refl (sound c D).tallies.settled {landed = s.landed} {now = s.landed} refl room shelf I
 
 -- and the patches that are not forgotten are those with the change
-seen : (c : After-put_down-pending) → remembered_of c.put_down-pending.new.heads.items ≡ remembered_of c.self.inside.heads.items ++ change_of c.self.inside.numbers c.in-Some.prepared ∷ []
-seen c = remembered_made c.self.inside.heads.items c.put_down-pending.new.heads.items (change_of c.self.inside.numbers c.in-Some.prepared) c.put_down-pending.ensures.put.nodes c.self.invariant.0.keeps.lawful.one_place_each refl (added c)
+seen : (c : After-put_down-pending) → remembered_of c.put_down-pending.new.self.heads.items ≡ remembered_of c.self.inside.columns.heads.items ++ change_of c.self.inside.numbers c.in-Some.prepared ∷ []
+seen c = remembered_made c.self.inside.columns.heads.items c.put_down-pending.new.self.heads.items (change_of c.self.inside.numbers c.in-Some.prepared) c.put_down-pending.ensures.put.nodes c.self.invariant.0.keeps.lawful.one_place_each refl (added c)
 
 -- it is the change that was foreseen among these too
 adds : (c : After-put_down-pending)
     → IsPutDown c.self.inside c.in-Some.prepared
-    → AddsSparse (record { heads = remembered_of c.self.inside.heads.items; numbers = c.self.inside.numbers; blocks = c.self.inside.blocks; groups = []; prepared = None })
+    → AddsSparse (record { heads = remembered_of c.self.inside.columns.heads.items; numbers = c.self.inside.numbers; blocks = c.self.inside.blocks; groups = []; prepared = None })
     c.in-Some.prepared.block c.in-Some.prepared.span.at c.in-Some.prepared.span.len (numbers_of c.in-Some.prepared.names.items) (c.self.inside.numbers + 1) c.in-Some.prepared.told.grade
-    (record { heads = remembered_of c.self.inside.heads.items ++ change_of c.self.inside.numbers c.in-Some.prepared ∷ []; numbers = c.self.inside.numbers + 1; blocks = c.self.inside.blocks; groups = []; prepared = None })
+    (record { heads = remembered_of c.self.inside.columns.heads.items ++ change_of c.self.inside.numbers c.in-Some.prepared ∷ []; numbers = c.self.inside.numbers + 1; blocks = c.self.inside.blocks; groups = []; prepared = None })
 adds c D =
     let s = c.self.inside in
     let p = c.in-Some.prepared in
-    let old = patches_of s.heads.items in
-    let gone = is_forgotten_in (nodes_of s.heads.items) in
+    let old = patches_of s.columns.heads.items in
+    let gone = is_forgotten_in (nodes_of s.columns.heads.items) in
     let H = c.self.invariant.0.keeps.lawful in
-    let free = gone_past s.heads.items s.numbers (s.numbers + 1) H.one_place_each (omega arith) in
+    let free = gone_past s.columns.heads.items s.numbers (s.numbers + 1) H.one_place_each (omega arith) in
     ready_adds D.ready (pushed_remembered gone old s.numbers (view_gone c.self.invariant) H p.block p.span.at p.span.len (numbers_of p.names.items) (s.numbers + 1) p.told.grade (change_of s.numbers p) free refl (ready_made D.ready))
 
 pub invariant_of-self-in-None : goal.invariant_of-self-in-None
@@ -126,16 +124,16 @@ tie-requires c =
     let tail = c.in-Some-gates.gates.tail in
     let P = now at.After-as_slice-row in
     let K = c.self.invariant.0.keeps.lawful in
-    let R = member_kept p c.in-Some-gates.gates (patches_of s.heads.items) (remembered_of s.heads.items) s.numbers s.blocks c.in-Some-gates.is P.down.prepared.ready in
+    let R = member_kept p c.in-Some-gates.gates (patches_of s.columns.heads.items) (remembered_of s.columns.heads.items) s.numbers s.blocks c.in-Some-gates.is P.down.prepared.ready in
     let S = sound at.After-put-2 P.down in
-    let heads = c.put_down-pending.new.heads.items in
-    let T = tail_may (patches_of s.heads.items) (remembered_of s.heads.items) s.numbers s.blocks s.ends.up.walk.marks c.self.invariant.0.keeps c.in-Some-gates.gates p c.in-Some-gates.is P.down.prepared.ready P.closed P.down.keeps.lawful in
+    let heads = c.put_down-pending.new.self.heads.items in
+    let T = tail_may (patches_of s.columns.heads.items) (remembered_of s.columns.heads.items) s.numbers s.blocks s.columns.ends.up.walk.marks c.self.invariant.0.keeps c.in-Some-gates.gates p c.in-Some-gates.is P.down.prepared.ready P.closed P.down.keeps.lawful in
     let gains : Lists (λ n. IsLiveNumber (patches_of heads) n × Contains ((s.numbers + 1) ∷ []) n × (DirectlyOn (patches_of heads) tail n → ⊥)) ((s.numbers + 1) ∷ []) = rw (added at.After-put_down-pending) T.gains in
-    let below_tail : HasRoomBelow s.heads.items tail = subst (λ g. IfSome g (λ x. HasRoomBelow s.heads.items x.tail)) c.in-Some-gates.is P.down.prepared.around.1 in
+    let below_tail : HasRoomBelow s.columns.heads.items tail = subst (λ g. IfSome g (λ x. HasRoomBelow s.columns.heads.items x.tail)) c.in-Some-gates.is P.down.prepared.around.1 in
     record {
       rising = rising_sound S;
       counted = gain_room heads s.blocks tail ((s.numbers + 1) ∷ []) (omega (arith, c.self.ranges)) S.tallies.settled S.tallies.distinct (few_waiting heads S.tallies.settled S.beside) gains.rising (λ n h. (gains.only n h).2);
-      below = c.put_down-pending.ensures.below tail (λ e. let k = tail_small (patches_of s.heads.items) s.numbers K R in omega (arith, e, k)) below_tail;
+      below = c.put_down-pending.ensures.below tail (λ e. let k = tail_small (patches_of s.columns.heads.items) s.numbers K R in omega (arith, e, k)) below_tail;
       above = c.put_down-pending.ensures.above (λ q there e. let k = (K.one_place_each.numbered q there).1 in omega (arith, k, e));
     }
 
@@ -143,13 +141,13 @@ pub invariant_of-self : goal.invariant_of-self
 invariant_of-self c =
     let at = goal.at.invariant_of-self c in
     let s = c.self.inside in
-    let old = patches_of s.heads.items in
+    let old = patches_of s.columns.heads.items in
     let p = c.in-Some.prepared in
     let gates = c.in-Some-gates.gates in
     let n = s.numbers + 1 in
     let P = now at.After-as_slice-row in
-    let T = tail_may old (remembered_of s.heads.items) s.numbers s.blocks s.ends.up.walk.marks c.self.invariant.0.keeps gates p c.in-Some-gates.is P.down.prepared.ready P.closed P.down.keeps.lawful in
-    let mid = c.put_down-pending.new.heads.items in
+    let T = tail_may old (remembered_of s.columns.heads.items) s.numbers s.blocks s.columns.ends.up.walk.marks c.self.invariant.0.keeps gates p c.in-Some-gates.is P.down.prepared.ready P.closed P.down.keeps.lawful in
+    let mid = c.put_down-pending.new.self.heads.items in
     let names = n ∷ [] in
     let sums = sums_of (pending_in (nodes_of mid)) names in
     let R = still at.After-put-2 P.down in
@@ -163,16 +161,16 @@ pub returns-in-Some-gates-clause-tied : goal.returns-in-Some-gates-clause-tied
 returns-in-Some-gates-clause-tied c =
     let at = goal.at.returns-in-Some-gates-clause-tied c in
     let s = c.self.inside in
-    let old = patches_of s.heads.items in
+    let old = patches_of s.columns.heads.items in
     let p = c.in-Some.prepared in
     let n = s.numbers + 1 in
     let gates = c.in-Some-gates.gates in
     let P = now at.After-as_slice-row in
     let S = sound at.After-put-2 P.down in
-    let mid = c.put_down-pending.new.heads.items in
+    let mid = c.put_down-pending.new.self.heads.items in
     let sums = sums_of (pending_in (nodes_of mid)) (n ∷ []) in
-    let T = tail_may old (remembered_of s.heads.items) s.numbers s.blocks s.ends.up.walk.marks c.self.invariant.0.keeps gates p c.in-Some-gates.is P.down.prepared.ready P.closed P.down.keeps.lawful in
-    let before : Known = record { heads = remembered_of s.heads.items; numbers = s.numbers; blocks = s.blocks; groups = []; prepared = None } in
+    let T = tail_may old (remembered_of s.columns.heads.items) s.numbers s.blocks s.columns.ends.up.walk.marks c.self.invariant.0.keeps gates p c.in-Some-gates.is P.down.prepared.ready P.closed P.down.keeps.lawful in
+    let before : Known = record { heads = remembered_of s.columns.heads.items; numbers = s.numbers; blocks = s.blocks; groups = []; prepared = None } in
     let between : Known = record { heads = patches_of mid; numbers = n; blocks = s.blocks; groups = []; prepared = None } in
     let after : Known = record { heads = patches_of c.tie.new.heads.items; numbers = n; blocks = s.blocks; groups = []; prepared = None } in
     let gone = is_forgotten_in (nodes_of mid) in
@@ -200,8 +198,8 @@ returns-clause-alone c =
     let s = c.self.inside in
     let p = c.in-Some.prepared in
     let n = s.numbers + 1 in
-    let before : Known = record { heads = remembered_of s.heads.items; numbers = s.numbers; blocks = s.blocks; groups = []; prepared = None } in
-    let after : Known = record { heads = remembered_of s.heads.items ++ change_of s.numbers p ∷ []; numbers = n; blocks = s.blocks; groups = []; prepared = None } in
+    let before : Known = record { heads = remembered_of s.columns.heads.items; numbers = s.numbers; blocks = s.blocks; groups = []; prepared = None } in
+    let after : Known = record { heads = remembered_of s.columns.heads.items ++ change_of s.numbers p ∷ []; numbers = n; blocks = s.blocks; groups = []; prepared = None } in
     rw (← c.self.view_is, sym c.take.ensures.value ∙ c.in-Some.is, c.take.ensures.after, seen at.After-put_down-pending) (
     subst (λ g. IfNone (option_map (λ (x : Gates). x.head) g) (AddsSparse before p.block p.span.at p.span.len (numbers_of p.names.items) n p.told.grade after)) (sym c.in-None.is) (adds at.After-put_down-pending (now at.After-as_slice-row).down)
     )

@@ -17,29 +17,29 @@ pub seal_at-requires-clause-rising : goal.seal_at-requires-clause-rising
 seal_at-requires-clause-rising c = rising_sound c.self.invariant.0
 
 pub seal_at-requires-clause-fits : goal.seal_at-requires-clause-fits
-seal_at-requires-clause-fits c = settled_fits (nodes_of c.self.inside.heads.items) c.self.inside.blocks (omega (arith, c.self.ranges)) c.self.invariant.0.tallies.settled
+seal_at-requires-clause-fits c = settled_fits (nodes_of c.self.inside.columns.heads.items) c.self.inside.blocks (omega (arith, c.self.ranges)) c.self.invariant.0.tallies.settled
 
 -- the gate is open among the patches
-gate : (c : After-seal_at) → IsOpenNumber (patches_of c.self.inside.heads.items) c.args.gate.0
+gate : (c : After-seal_at) → IsOpenNumber (patches_of c.self.inside.columns.heads.items) c.args.gate.0
 gate c = subst (λ hs. IsOpenNumber (patches_of hs) c.args.gate.0) c.deref.ensures.value c.in-Ok.ensures.is_open
 
 pub cascade-landed-requires : goal.cascade-landed-requires
 cascade-landed-requires c =
     let R = shut_ready c.self.invariant.0 (gate (goal.at.cascade-landed-requires c).After-seal_at) c.seal_at.new.heads c.seal_at.ensures.nodes c.seal_at.ensures.queued c.seal_at.ensures.capacity (search rules) in
     let I = c.self.invariant.1 in
-    let long = shut_long c.self.inside.heads.items c.seal_at.new.heads.items c.args.gate.0 c.seal_at.ensures.nodes in
+    let long = shut_long c.self.inside.columns.heads.items c.seal_at.new.heads.items c.args.gate.0 c.seal_at.ensures.nodes in
     record {
       start = R.start;
       linked = R.linked;
       distinct = R.distinct;
       standing = R.standing;
       room = (R.narrow, R.room, let shelf = I.shelf in omega (arith, shelf, long));
-      listed = shut_landed c.self.inside.heads.items c.seal_at.new.heads.items c.args.gate.0 c.seal_at.ensures.nodes I.told;
+      listed = shut_landed c.self.inside.columns.heads.items c.seal_at.new.heads.items c.args.gate.0 c.seal_at.ensures.nodes I.told;
     }
 
 -- the same are forgotten
-marks : (c : After-cascade-landed) → flags_of (nodes_of c.cascade-landed.new.heads.items) ≡ flags_of (nodes_of c.self.inside.heads.items)
-marks c = shut_flags c.self.inside.heads.items c.seal_at.new.heads.items c.args.gate.0 c.seal_at.ensures.nodes c.cascade-landed.new.heads.items c.cascade-landed.ensures.spread
+marks : (c : After-cascade-landed) → flags_of (nodes_of c.cascade-landed.new.heads.items) ≡ flags_of (nodes_of c.self.inside.columns.heads.items)
+marks c = shut_flags c.self.inside.columns.heads.items c.seal_at.new.heads.items c.args.gate.0 c.seal_at.ensures.nodes c.cascade-landed.new.heads.items c.cascade-landed.ensures.spread
 
 pub lower-requires : goal.lower-requires
 lower-requires c =
@@ -57,19 +57,19 @@ invariant_of-self-2 c =
     let leveled = leveled_then c.deref-3.ensures.value (ap length c.renew.ensures.floors ∙ c.lower.ensures.leveled.long) c.renew.ensures.leveled in
     rw c.let_go.ensures (
       shut_sound c.self.invariant.0 (gate (goal.at.invariant_of-self-2 c).After-seal_at) c.seal_at.new.heads c.seal_at.ensures.nodes c.cascade-landed.new.heads C.placed c.cascade-landed.result C.settled C.landed leveled C.spread C.standing C.empty (C.capacity ∙ c.seal_at.ensures.capacity),
-      remembered_still c.self.inside.heads.items c.cascade-landed.new.heads.items (marks (goal.at.invariant_of-self-2 c).After-cascade-landed) {now = c.cascade-landed.new.landed} C.listed C.shelf c.self.invariant.1,
+      remembered_still c.self.inside.columns.heads.items c.cascade-landed.new.heads.items (marks (goal.at.invariant_of-self-2 c).After-cascade-landed) {now = c.cascade-landed.new.landed} C.listed C.shelf c.self.invariant.1,
     )
 
 pub returns-clause-ok : goal.returns-clause-ok
 returns-clause-ok c =
     let open_gate = gate (goal.at.returns-clause-ok c).After-seal_at in
     let s = c.self.inside in
-    let old = patches_of s.heads.items in
+    let old = patches_of s.columns.heads.items in
     let new = patches_of c.cascade-landed.new.heads.items in
     let before : Known = record { heads = old; numbers = s.numbers; blocks = s.blocks; groups = []; prepared = option_map (prepared_of s.numbers) s.prepared } in
     let after : Known = record { heads = new; numbers = s.numbers; blocks = s.blocks; groups = []; prepared = None } in
-    rw (← c.self.view_is, c.let_go.ensures, remembered_as s.heads.items c.cascade-landed.new.heads.items (marks (goal.at.returns-clause-ok c).After-cascade-landed) refl)
-    (seal_known (is_forgotten_in (nodes_of s.heads.items)) before after (view_gone c.self.invariant) c.self.invariant.0.keeps.lawful c.args.gate.0 (record {
+    rw (← c.self.view_is, c.let_go.ensures, remembered_as s.columns.heads.items c.cascade-landed.new.heads.items (marks (goal.at.returns-clause-ok c).After-cascade-landed) refl)
+    (seal_known (is_forgotten_in (nodes_of s.columns.heads.items)) before after (view_gone c.self.invariant) c.self.invariant.0.keeps.lawful c.args.gate.0 (record {
       clear = subst (λ hs. NoneHolds (seal_order (patches_of hs) c.self.inside.numbers c.args.gate.0)) c.deref.ensures.value c.in-Ok.ensures.clear;
       row = record { gate = open_gate; cascade = shut_cascade c.self.invariant.0 open_gate c.seal_at.new.heads c.seal_at.ensures.nodes c.cascade-landed.new.heads c.cascade-landed.ensures.placed };
       numbers = refl;
@@ -96,4 +96,4 @@ pub seal_at-requires-clause-room : goal.seal_at-requires-clause-room
 seal_at-requires-clause-room c =
     let T = c.self.invariant.0.tallies in
     let s = c.self.inside in
-    omega (arith, ap length T.idle, T.room, length-map s.heads.items node_of, c.in-Ok.ensures.index.0, ap length c.deref.ensures.value, s.queue.ok.0)
+    omega (arith, ap length T.idle, T.room, length-map s.columns.heads.items node_of, c.in-Ok.ensures.index.0, ap length c.deref.ensures.value, s.columns.queue.ok.0)

@@ -4,7 +4,7 @@ use Rattle.fst_heads.specs.{Frames.HasRoomBelow, Nodes.HasRoomAbove}
 use Rattle.fst_graph.proofs.sparse.reserving.reserve_around.Goals as goal
 
 pub reserve_below-requires : goal.reserve_below-requires
-reserve_below-requires c = rising_same _ c.args.heads.now.items (c.reserve_above.ensures.nodes ∙ c.reserve_heads.ensures.roomier.nodes) c.requires
+reserve_below-requires c = rising_same _ c.args.columns.now.heads.items (c.reserve_above.ensures.nodes ∙ c.reserve.ensures.roomier.nodes) c.requires
 
 pub returns-in-Some-clause-around : goal.returns-in-Some-clause-around
 returns-in-Some-clause-around c =

@@ -5,15 +5,15 @@ use Rattle.fst_graph.specs.Fresh.{IsRoomier}
 use Rattle.fst_heads.proofs.Linking.{rising_same}
 use Rattle.fst_levels.proofs.Seen.{same_patches}
 use Rattle.fst_graph.proofs.{Made.more_after, Ranks.leveled_as}
-use Rattle.fst_graph.proofs.fresh.add_one.Goals.{After-reserve_above}
-use Rattle.fst_graph.proofs.fresh.add_one.Goals as goal
+use Rattle.fst_graph.proofs.columns.Columns.add_one.Goals.{After-reserve_above}
+use Rattle.fst_graph.proofs.columns.Columns.add_one.Goals as goal
 
 -- the nodes are as they were
-still : (c : After-reserve_above) → nodes_of c.reserve_above.new.heads.items ≡ nodes_of c.args.heads.now.items
-still c = c.reserve_above.ensures.nodes ∙ c.reserve_heads.ensures.roomier.nodes
+still : (c : After-reserve_above) → nodes_of c.reserve_above.new.heads.items ≡ nodes_of c.args.self.now.heads.items
+still c = c.reserve_above.ensures.nodes ∙ c.reserve.ensures.roomier.nodes
 
 rising : (c : After-reserve_above) → IsRising c.reserve_above.new.heads.items
-rising c = rising_same _ c.args.heads.now.items (still c) c.requires.rising
+rising c = rising_same _ c.args.self.now.heads.items (still c) c.requires.rising
 
 pub level_over-requires-clause-rising : goal.level_over-requires-clause-rising
 level_over-requires-clause-rising c = rw c.deref.ensures.value (rising (goal.at.level_over-requires-clause-rising c).After-reserve_above)
@@ -21,11 +21,11 @@ level_over-requires-clause-rising c = rw c.deref.ensures.value (rising (goal.at.
 pub level_over-requires-clause-aligned : goal.level_over-requires-clause-aligned
 level_over-requires-clause-aligned c =
     let at = (goal.at.level_over-requires-clause-aligned c).After-reserve_above in
-    rw (c.deref.ensures.value, same_patches c.reserve_above.new.heads.items c.args.heads.now.items (still at), c.reserve_heads.ensures.roomier.ranks) c.requires.leveled.aligned
+    rw (c.deref.ensures.value, same_patches c.reserve_above.new.heads.items c.args.self.now.heads.items (still at), c.reserve.ensures.roomier.ranks) c.requires.leveled.aligned
 
 -- the levels are over the patches still
-leveled : (c : After-reserve_above) → IsLeveled (patches_of c.reserve_above.new.heads.items) (length c.args.levels.now.floors) c.reserve_heads.new.levels
-leveled c = rw (same_patches c.reserve_above.new.heads.items c.args.heads.now.items (still c)) (leveled_as c.reserve_heads.ensures.roomier.ranks c.reserve_heads.ensures.roomier.floors c.requires.leveled)
+leveled : (c : After-reserve_above) → IsLeveled (patches_of c.reserve_above.new.heads.items) (length c.args.self.now.levels.floors) c.reserve.new.self.levels
+leveled c = rw (same_patches c.reserve_above.new.heads.items c.args.self.now.heads.items (still c)) (leveled_as c.reserve.ensures.roomier.ranks c.reserve.ensures.roomier.floors c.requires.leveled)
 
 pub ancestry_over-requires-clause-rising : goal.ancestry_over-requires-clause-rising
 ancestry_over-requires-clause-rising c = rw c.deref-2.ensures.value (rising (goal.at.ancestry_over-requires-clause-rising c).After-reserve_above)
@@ -46,19 +46,18 @@ put_down-requires-clause-few c =
 
 pub returns-clause-added : goal.returns-clause-added
 returns-clause-added c =
-    let R = c.reserve_heads.ensures.roomier in
+    let R = c.reserve.ensures.roomier in
     let at = (goal.at.returns-clause-added c).After-reserve_above in
-    let wide = c.in_ok-reserve_heads.ensures.queue in
-    let roomier : IsRoomier c.args.heads.now c.args.ends.now c.args.levels.now c.args.queue.now c.reserve_above.new.heads c.reserve_heads.new.ends c.reserve_heads.new.levels c.reserve_heads.new.queue =
+    let wide = c.in_ok-reserve.ensures.queue in
+    let roomier : IsRoomier c.args.self.now (record c.reserve.new.self { heads = c.reserve_above.new.heads }) =
     record { nodes = still at; marks = R.marks; crossed = R.crossed; ranks = R.ranks; floors = R.floors; waiting = R.waiting; wide = R.wide } in
     record {
       level = c.level_over.result;
       ancestry = c.ancestry_over.result;
-      under = subst (λ ps. GoesUnder ps c.args.fresh.number c.args.fresh.dependencies.items c.ancestry_over.result) (ap patches_of c.deref-2.ensures.value ∙ same_patches c.reserve_above.new.heads.items c.args.heads.now.items (still at)) (rw (← c.as_slice-2.ensures) c.ancestry_over.ensures);
+      under = subst (λ ps. GoesUnder ps c.args.fresh.number c.args.fresh.dependencies.items c.ancestry_over.result) (ap patches_of c.deref-2.ensures.value ∙ same_patches c.reserve_above.new.heads.items c.args.self.now.heads.items (still at)) (rw (← c.as_slice-2.ensures) c.ancestry_over.ensures);
       head = more_after roomier c.put_down.ensures.put;
       over = rw (← R.ranks) c.level_over.ensures.over;
       most = omega arith;
       top = c.level_over.ensures.top;
-      waiting = R.waiting;
-      free = omega (arith, wide, ap length c.reserve_heads.ensures.same, c.args.heads.now.ok.0, c.reserve_heads.new.heads.ok.0);
+      free = omega (arith, wide, c.put_down.ensures.put.wide, ap length c.reserve.ensures.same, c.args.self.now.heads.ok.0, c.reserve.new.self.heads.ok.0);
     }
