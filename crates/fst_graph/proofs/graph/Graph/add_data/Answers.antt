@@ -5,14 +5,14 @@ use Rattle.fst_graph.proofs.HeldWhole.{held_change, held_unprepared, make_refuse
 use Rattle.fst_graph.proofs.graph.Graph.add_data.Goals as goal
 
 pub invariant_of-self : goal.invariant_of-self
-invariant_of-self c = held_unprepared c.self.inside.rows.items c.self.inside.sparse c.self.inside.groups.items c.self.invariant c.add_data.new.self c.in-Err.ensures.same
+invariant_of-self c = held_unprepared c.self.invariant c.in-Err.ensures.same
 
 pub returns-in-Err-clause-refused : goal.returns-in-Err-clause-refused
-returns-in-Err-clause-refused c = rw (← c.self.view_is) (make_refuses c.self.inside.rows.items c.self.inside.sparse c.self.inside.groups.items c.self.invariant (numbers_of c.args.after.now) _ c.in-Err.ensures.refused)
+returns-in-Err-clause-refused c = rw (← c.self.view_is) (make_refuses c.self.invariant _ c.in-Err.ensures.refused)
 
 pub invariant_of-self-2 : goal.invariant_of-self-2
 invariant_of-self-2 c =
-    subst (λ rows. IsHeldWhole rows c.add_data.new.self c.self.inside.groups.items) (sym c.with-self-inside.ensures) (held_change c.self.inside.rows.items c.self.inside.sparse c.self.inside.groups.items c.self.invariant c.add_data.new.self c.args.block.0 c.args.span.at c.args.span.len c.in-Ok.made.0.0 (numbers_of c.args.after.now) c.in-Ok.made.1 c.in-Ok.ensures.ok).1
+    subst (λ rows. IsHeldWhole rows c.add_data.new.self c.self.inside.groups.items) (sym c.with-self-inside.ensures) (held_change c.self.invariant c.in-Ok.ensures.ok).1
 
 pub returns-clause-ok : goal.returns-clause-ok
 returns-clause-ok c =
@@ -20,7 +20,7 @@ returns-clause-ok c =
     let q = c.add_data.new.self in
     let gs = c.self.inside.groups.items in
     rw (← c.self.view_is)
-    (subst (λ more. AddsChange (unprepared (with_groups (whole_known c.self.inside.rows.items p) gs)) c.args.block.0 c.args.span.at c.args.span.len (numbers_of c.args.after.now) c.in-Ok.made.0.0 c.in-Ok.made.1 (with_groups (whole_known more q) gs)) (sym c.with-self-inside.ensures) (held_change c.self.inside.rows.items p gs c.self.invariant q c.args.block.0 c.args.span.at c.args.span.len c.in-Ok.made.0.0 (numbers_of c.args.after.now) c.in-Ok.made.1 c.in-Ok.ensures.ok).0)
+    (subst (λ more. AddsChange (unprepared (with_groups (whole_known c.self.inside.rows.items p) gs)) c.args.block.0 c.args.span.at c.args.span.len (numbers_of c.args.after.now) c.in-Ok.made.0.0 c.in-Ok.made.1 (with_groups (whole_known more q) gs)) (sym c.with-self-inside.ensures) (held_change c.self.invariant c.in-Ok.ensures.ok).0)
 
 pub returns-in-Err-clause-same : goal.returns-in-Err-clause-same
-returns-in-Err-clause-same c = rw (← c.self.view_is) (held_same c.self.inside.rows.items c.self.inside.sparse c.self.inside.groups.items c.self.invariant c.add_data.new.self c.in-Err.ensures.same)
+returns-in-Err-clause-same c = rw (← c.self.view_is) (held_same c.self.invariant c.in-Err.ensures.same)

@@ -1,20 +1,19 @@
 use Rattle.std.proofs.lemmas.Result.{on_err_weaker}
-use Rattle.fst_heads.specs.Names.{numbers_of}
 use Rattle.fst_graph.proofs.Grouped.{answered, fine, failed}
 use Rattle.fst_graph.proofs.HeldWhole.{held_empty, held_unprepared, make_refuses, held_same}
 use Rattle.fst_graph.proofs.graph.Graph.add_empty.Goals as goal
 
 pub invariant_of-self : goal.invariant_of-self
-invariant_of-self c = answered c.add_empty.result c.add_empty.ensures.ok c.add_empty.ensures.same (λ no a. (held_empty c.self.inside.rows.items c.self.inside.sparse c.self.inside.groups.items c.self.invariant c.add_empty.new.self (numbers_of c.args.after.now) no.0 a).1) (λ same. held_unprepared c.self.inside.rows.items c.self.inside.sparse c.self.inside.groups.items c.self.invariant c.add_empty.new.self same)
+invariant_of-self c = answered c.add_empty.result c.add_empty.ensures.ok c.add_empty.ensures.same (λ no a. (held_empty c.self.invariant a).1) (λ same. held_unprepared c.self.invariant same)
 
 pub returns-clause-ok : goal.returns-clause-ok
-returns-clause-ok c = rw (← c.self.view_is) (fine c.add_empty.result (λ no a. (held_empty c.self.inside.rows.items c.self.inside.sparse c.self.inside.groups.items c.self.invariant c.add_empty.new.self (numbers_of c.args.after.now) no.0 a).0) c.add_empty.ensures.ok)
+returns-clause-ok c = rw (← c.self.view_is) (fine c.add_empty.result (λ no a. (held_empty c.self.invariant a).0) c.add_empty.ensures.ok)
 
 pub returns-clause-refused : goal.returns-clause-refused
-returns-clause-refused c = rw (← c.self.view_is) (failed c.add_empty.result (λ f r. make_refuses c.self.inside.rows.items c.self.inside.sparse c.self.inside.groups.items c.self.invariant (numbers_of c.args.after.now) f r) c.add_empty.ensures.refused)
+returns-clause-refused c = rw (← c.self.view_is) (failed c.add_empty.result (λ f r. make_refuses c.self.invariant _ r) c.add_empty.ensures.refused)
 
 pub returns-clause-same : goal.returns-clause-same
-returns-clause-same c = rw (← c.self.view_is) (on_err_weaker c.add_empty.result (held_same c.self.inside.rows.items c.self.inside.sparse c.self.inside.groups.items c.self.invariant c.add_empty.new.self) c.add_empty.ensures.same)
+returns-clause-same c = rw (← c.self.view_is) (on_err_weaker c.add_empty.result (held_same c.self.invariant) c.add_empty.ensures.same)
 
 pub returns-clause-blocks : goal.returns-clause-blocks
 returns-clause-blocks c = rw (← c.self.view_is) c.add_empty.ensures.blocks

@@ -11,10 +11,10 @@ pub launch-requires : goal.launch-requires
 launch-requires c = may_launch_was c.self.inside.rows.items c.self.inside.sparse c.self.invariant.whole (numbers_of c.args.chosen.now) (may (goal.at.launch-requires c).After-self)
 
 pub invariant_of-self : goal.invariant_of-self
-invariant_of-self c = (held_launch c.self.inside.rows.items c.self.inside.sparse c.self.inside.groups.items c.self.invariant c.launch.new.self (numbers_of c.args.chosen.now) (may (goal.at.invariant_of-self c).After-self) c.launch.ensures.launched).1
+invariant_of-self c = (held_launch c.self.invariant (may (goal.at.invariant_of-self c).After-self) c.launch.ensures.launched).1
 
 pub returns-clause-launched : goal.returns-clause-launched
-returns-clause-launched c = rw (← c.self.view_is) (held_launch c.self.inside.rows.items c.self.inside.sparse c.self.inside.groups.items c.self.invariant c.launch.new.self (numbers_of c.args.chosen.now) (may (goal.at.returns-clause-launched c).After-self) c.launch.ensures.launched).0
+returns-clause-launched c = rw (← c.self.view_is) (held_launch c.self.invariant (may (goal.at.returns-clause-launched c).After-self) c.launch.ensures.launched).0
 
 pub returns-clause-blocks : goal.returns-clause-blocks
 returns-clause-blocks c = rw (← c.self.view_is) c.launch.ensures.blocks

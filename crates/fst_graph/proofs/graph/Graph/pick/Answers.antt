@@ -9,7 +9,7 @@ pub returns-clause-never_stuck : goal.returns-clause-never_stuck
 returns-clause-never_stuck c = rw (← c.self.view_is) (none_then c.pick.result (stuck_is c.self.inside.rows.items c.self.inside.sparse c.self.invariant.whole) c.pick.ensures.never_stuck)
 
 pub invariant_of-self : goal.invariant_of-self
-invariant_of-self c = held_unprepared c.self.inside.rows.items c.self.inside.sparse c.self.inside.groups.items c.self.invariant c.pick.new.self c.pick.ensures.same
+invariant_of-self c = held_unprepared c.self.invariant c.pick.ensures.same
 
 pub returns-clause-same : goal.returns-clause-same
-returns-clause-same c = rw (← c.self.view_is) (held_same c.self.inside.rows.items c.self.inside.sparse c.self.inside.groups.items c.self.invariant c.pick.new.self c.pick.ensures.same)
+returns-clause-same c = rw (← c.self.view_is) (held_same c.self.invariant c.pick.ensures.same)

@@ -15,13 +15,13 @@ pub invariant_of-self : goal.invariant_of-self
 invariant_of-self c =
     let r = c.add_member-made.result in
     let x = c.in-Some.ensures.some in
-    rw c.note_member.ensures (held_put c.self.inside.rows.items c.self.inside.sparse c.self.inside.groups.items c.self.invariant c.add_member-made.new.self c.args.group.0 r.0.0 r.1 (ready (goal.at.invariant_of-self c).After-self) c.add_member-made.ensures.added c.with-self-inside.result.items x.0 c.in-Some.block.0 c.in-Some.span.at c.in-Some.span.len x.1 c.with-self-inside.ensures x.2 x.3 x.4).1
+    rw c.note_member.ensures (held_put c.self.invariant c.add_member-made.new.self r.0.0 r.1 (ready (goal.at.invariant_of-self c).After-self) c.add_member-made.ensures.added x.1 c.with-self-inside.ensures x.2 x.3 x.4).1
 
 pub returns-clause-added : goal.returns-clause-added
 returns-clause-added c =
     let r = c.add_member-made.result in
     let x = c.in-Some.ensures.some in
-    rw (← c.self.view_is, c.note_member.ensures) (held_put c.self.inside.rows.items c.self.inside.sparse c.self.inside.groups.items c.self.invariant c.add_member-made.new.self c.args.group.0 r.0.0 r.1 (ready (goal.at.returns-clause-added c).After-self) c.add_member-made.ensures.added c.with-self-inside.result.items x.0 c.in-Some.block.0 c.in-Some.span.at c.in-Some.span.len x.1 c.with-self-inside.ensures x.2 x.3 x.4).0
+    rw (← c.self.view_is, c.note_member.ensures) (held_put c.self.invariant c.add_member-made.new.self r.0.0 r.1 (ready (goal.at.returns-clause-added c).After-self) c.add_member-made.ensures.added x.1 c.with-self-inside.ensures x.2 x.3 x.4).0
 
 pub returns-clause-foreseen : goal.returns-clause-foreseen
 returns-clause-foreseen c = rw (← c.self.view_is) c.add_member-made.ensures.foreseen
