@@ -14,7 +14,7 @@ use Rattle.fst_seat.proofs.Exchanging.{map_get}
 use Rattle.fst_seat.proofs.Dirty.{none_dirty, residents_are, residents_same, residents_moved, residents_marked}
 use Rattle.fst_seat.proofs.Flying.{flying_same, flying_more, flying_fewer, none_flying}
 
-module _ (flights : ℕ) (residents : ResidentsView) (seats : List SeatView) (I : AreInStep flights residents seats) (b : ℕ) (seat new : SeatView) (at_b : slice_get seats b ≡ Some seat)
+module _ {flights : ℕ} {residents : ResidentsView} {seats : List SeatView} (I : AreInStep flights residents seats) (b : ℕ) {seat : SeatView} (new : SeatView) (at_b : slice_get seats b ≡ Some seat)
     (place : new.place ≡ seat.place) (rest : new.loaded ≡ None → new.block.flight ≡ None) where
   now : (flights' : ℕ) (residents' : ResidentsView) → residents' ≡ residents_of residents'.most (slice_set seats b new) → flights' ≡ count_flying (slice_set seats b new) → AreInStep flights' residents' (slice_set seats b new)
   now flights' residents' listed flying = record {
@@ -69,14 +69,14 @@ module _ (flights : ℕ) (residents : ResidentsView) (seats : List SeatView) (I 
       in_step_sent f idle sent = now (flights + 1) residents listed (flying_more seats b seat new at_b flights f idle sent I.flying)
 
 -- a block is in flight where a write of it is out
-pub some_flying : (flights : ℕ) (residents : ResidentsView) (seats : List SeatView) → AreInStep flights residents seats → (b : ℕ) (seat : SeatView) (f : Flight) → slice_get seats b ≡ Some seat → seat.block.flight ≡ Some f → 0 < flights
-some_flying flights residents seats I b seat f at_b out =
+pub some_flying : {flights : ℕ} {residents : ResidentsView} {seats : List SeatView} → AreInStep flights residents seats → (b : ℕ) {seat : SeatView} {f : Flight} → slice_get seats b ≡ Some seat → seat.block.flight ≡ Some f → 0 < flights
+some_flying {flights} {seats = seats} I b {seat} {f} at_b out =
     let fewer = flying_fewer seats b seat (record seat { block = record seat.block { flight = None } }) at_b flights f out refl I.flying in
     omega (arith, fewer)
 
 -- a block whose write is out is in memory
-pub loaded_out : (flights : ℕ) (residents : ResidentsView) (seats : List SeatView) → AreInStep flights residents seats → (b : ℕ) (seat : SeatView) → slice_get seats b ≡ Some seat → (f : Flight) → seat.block.flight ≡ Some f → is_some seat.loaded ≡ true
-loaded_out flights residents seats I b seat at_b f out = by_loaded seat.loaded refl
+pub loaded_out : {flights : ℕ} {residents : ResidentsView} {seats : List SeatView} → AreInStep flights residents seats → (b : ℕ) {seat : SeatView} → slice_get seats b ≡ Some seat → {f : Flight} → seat.block.flight ≡ Some f → is_some seat.loaded ≡ true
+loaded_out I b {seat} at_b {f} out = by_loaded seat.loaded refl
   where
     by_loaded : (o : Option BlockView) → seat.loaded ≡ o → is_some o ≡ true
     by_loaded None none = absurd (none-some f (sym (I.rest b seat at_b none) ∙ out))

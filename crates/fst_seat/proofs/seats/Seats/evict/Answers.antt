@@ -18,7 +18,7 @@ invariant_of-self g c =
     let is = seated g (goal.at.invariant_of-self g c).After-index_mut in
     let still : is_dirty_seat c.index_mut.result.now ≡ false = c.requires.clean c.index_mut.result.now (rw (← c.self.view_is) is) in
     rw (c.remove.ensures, c.unload.ensures)
-    (in_step_moved c.self.inside.flights c.self.inside.residents c.self.inside.seats.items c.self.invariant c.args.block.0 _ (record c.index_mut.result.now { loaded = None }) is refl
+    (in_step_moved c.self.invariant c.args.block.0 (record c.index_mut.result.now { loaded = None }) is refl
     (λ away. still_home c.index_mut.result.now still) false refl (left_clean c.index_mut.result.now still ∙ sym still) refl)
 
 pub returns : goal.returns

@@ -28,7 +28,7 @@ invariant_of-self g c =
     let at = (goal.at.invariant_of-self g c).After-index_mut-seat in
     let r = ready g at in
     rw (left g (goal.at.invariant_of-self g c).After-launch r)
-    (in_step_sent c.self.inside.flights c.self.inside.residents c.self.inside.seats.items c.self.invariant c.args.block.0 _ _ (seated g at) refl (λ none. absurd (none-some _ (sym none)))
+    (in_step_sent c.self.invariant c.args.block.0 _ (seated g at) refl (λ none. absurd (none-some _ (sym none)))
     (sym (ap is_some r.there)) (sym r.dirty) (flight_view c.args.ticket.0 c.args.image.items false 0) r.home refl)
 
 pub returns-clause-block : goal.returns-clause-block

@@ -50,7 +50,7 @@ invariant_of-self g c =
     let same = c.load-read.ensures.same in
     let there = read_noted c.load-read.result c.load-read.new.self c.load-read.ensures.there c.load-read.ensures.away ∙ sym c.is_ok.ensures.value in
     rw c.note.ensures
-    (in_step_moved c.self-2.inside.flights c.self-2.inside.residents c.self-2.inside.seats.items c.self-2.invariant c.args.block.0 _ c.load-read.new.self (seated g at) (ap (λ (t : SeatView). t.place) same)
+    (in_step_moved c.self-2.invariant c.args.block.0 c.load-read.new.self (seated g at) (ap (λ (t : SeatView). t.place) same)
     (λ none. ap (λ (t : SeatView). t.block.flight) same ∙ home) c.is_ok.result there (read_clean c.index_mut.result.now c.load-read.new.self home same c.load-read.ensures.loaded) (ap (λ (t : SeatView). is_some t.block.flight) same))
 
 pub returns-clause-seats : goal.returns-clause-seats

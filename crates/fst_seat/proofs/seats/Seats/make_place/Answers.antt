@@ -43,7 +43,7 @@ invariant_of-self g c =
     let f = found g (goal.at.invariant_of-self g c).In-Some in
     let same : c.index_mut.result.now ≡ f.0 = c.index_mut.ensures.value ∙ get_or_from_slice_get c.self.inside.seats.items c.in-Some.block f.0 c.index_mut.result.now f.1.at in
     rw (c.remove.ensures, c.unload.ensures ∙ ap (λ (t : SeatView). record t { loaded = None }) same)
-    (in_step_moved c.self.inside.flights c.self.inside.residents c.self.inside.seats.items c.self.invariant c.in-Some.block f.0 (record f.0 { loaded = None }) f.1.at refl
+    (in_step_moved c.self.invariant c.in-Some.block (record f.0 { loaded = None }) f.1.at refl
     (λ away. still_home f.0 f.1.block.clean) false refl (left_clean f.0 f.1.block.clean ∙ sym f.1.block.clean) refl)
 
 pub returns-clause-place : goal.returns-clause-place

@@ -65,7 +65,7 @@ invariant_of-self g c =
     let at = all.After-index_mut-seat in
     let l = (left g all.After-apply-put (loaded g at)).1 in
     rw c.note_dirty.ensures
-    (in_step_marked c.self.inside.flights c.self.inside.residents c.self.inside.seats.items c.self.invariant c.args.block.0 _ c.apply-put.new.self (seated g at) (ap (λ (t : SeatView). t.place) l)
+    (in_step_marked c.self.invariant c.args.block.0 c.apply-put.new.self (seated g at) (ap (λ (t : SeatView). t.place) l)
     (λ none. absurd (none-some _ (sym none ∙ ap (λ (t : SeatView). t.loaded) l))) (ap (λ (t : SeatView). is_some t.loaded) l ∙ sym (loaded g at)) c.is_dirty.result c.is_dirty.ensures (ap (λ (t : SeatView). is_some t.block.flight) l))
 
 pub returns-clause-put : goal.returns-clause-put

@@ -31,7 +31,7 @@ invariant_of-self g c =
     let s = stalled g at.After-index_mut-seat in
     let is = seated g at.After-index_mut-seat in
     rw (left g at.After-retry s.flight s.out).1
-    (in_step_same c.self.inside.flights c.self.inside.residents c.self.inside.seats.items c.self.invariant c.args.block.0 _ _ is refl (λ away. absurd (none-some _ (sym (c.self.invariant.rest _ _ is away) ∙ s.out)))
+    (in_step_same c.self.invariant c.args.block.0 _ is refl (λ away. absurd (none-some _ (sym (c.self.invariant.rest _ _ is away) ∙ s.out)))
     refl (sym (flown_dirty c.index_mut-seat.result.now s.flight s.out)) (sym (ap (λ (o : Option Flight). is_some o) s.out)))
 
 pub returns-clause-block : goal.returns-clause-block

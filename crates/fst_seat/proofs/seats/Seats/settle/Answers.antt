@@ -35,13 +35,13 @@ settle-requires-clause-block g c = sym (c.self.invariant.placed _ _ (seated g (g
 pub note_dirty-requires : goal.note_dirty-requires
 note_dirty-requires g c =
     let at = (goal.at.note_dirty-requires g c).After-index_mut-seat in
-    let there = loaded_out c.self.inside.flights c.self.inside.residents c.self.inside.seats.items c.self.invariant c.args.done.block _ (seated g at) _ (out g at).out in
+    let there = loaded_out c.self.invariant c.args.done.block (seated g at) (out g at).out in
     rw c.block-at.ensures (listed_at c.self.inside.residents.loaded c.self.inside.seats.items c.args.done.block _ (ap (λ (v : ResidentsView). v.loaded) c.self.invariant.listed) (seated g at) ∙ ap Some there)
 
 pub overflow_sub-self : goal.overflow_sub-self
 overflow_sub-self g c =
     let at = (goal.at.overflow_sub-self g c).After-index_mut-seat in
-    let some = some_flying c.self.inside.flights c.self.inside.residents c.self.inside.seats.items c.self.invariant c.args.done.block _ _ (seated g at) (out g at).out in
+    let some = some_flying c.self.invariant c.args.done.block (seated g at) (out g at).out in
     omega (arith, some)
 
 -- the write was made
@@ -54,7 +54,7 @@ invariant_of-self g c =
     let at = all.After-index_mut-seat in
     let l = landed g all.In-Landed in
     rw (c.note_dirty.ensures, c.block-at.ensures)
-    (in_step_landed c.self.inside.flights c.self.inside.residents c.self.inside.seats.items c.self.invariant c.args.done.block _ c.settle.new.self (seated g at)
+    (in_step_landed c.self.invariant c.args.done.block c.settle.new.self (seated g at)
     (ap (λ (t : SeatView). t.place) l) (λ none. ap (λ (t : SeatView). t.block.flight) l)
     (ap (λ (t : SeatView). is_some t.loaded) l) c.is_dirty.result _ c.is_dirty.ensures (out g at).out (ap (λ (t : SeatView). t.block.flight) l))
 
@@ -79,7 +79,7 @@ invariant_of-self-in_default g c =
     let at = all.After-index_mut-seat in
     let l = failed g all.In_default in
     rw (l.1, c.block-at.ensures)
-    (in_step_same c.self.inside.flights c.self.inside.residents c.self.inside.seats.items c.self.invariant c.args.done.block _ _ (seated g at) refl (away g at)
+    (in_step_same c.self.invariant c.args.done.block _ (seated g at) refl (away g at)
     refl (sym (flown_dirty c.index_mut-seat.result.now _ (out g at).out)) (sym (ap (λ (o : Option Flight). is_some o) (out g at).out)))
 
 pub returns-in_default : goal.returns-in_default
