@@ -1,6 +1,6 @@
 //! A writer that has room for so many bytes, takes one at a time, and then stops.
 
-ghost use Rattle.std.specs.Prelude.{◌≡◌, Some};
+ghost use Rattle.std.specs.Prelude.{Some};
 
 use std::alloc::Global;
 use std::io;

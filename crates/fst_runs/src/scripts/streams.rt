@@ -1,6 +1,6 @@
 //! Streams in pieces, and streams that fail.
 
-ghost use Rattle.std.specs.Prelude.{◌≡◌, Some};
+ghost use Rattle.std.specs.Prelude.{Some};
 
 use crate::scripts::rows::order::CYCLE_OF_BLOCKS;
 use crate::scripts::{

@@ -1,6 +1,5 @@
 //! A slot that fails some of its writes, or waits with them until another is begun.
 
-ghost use Rattle.std.specs.Prelude.{◌≡◌, ◌+◌, ◌⊎◌, OnOk, OnErr, IsOkUnless, IfOk};
 ghost use Rattle.fst_device.specs.declared.slot.SlotFault.{SlotFault};
 
 use fst_device::{Arm, BlockSlot, MemorySlot, SlotFault};
